@@ -1,0 +1,116 @@
+-- What a request means (RFC 8075 sections 5 to 7), with the first reason to refuse it.
+use Rattle.std.specs.Prelude.{◌≡◌, ◌⊎◌, ℕ, ◌<◌, Bool, true, false, ◌&&◌, ◌||◌, nat_lt, List, [], ◌∷◌, length, Option, Some, None, Result, Ok, Err, codes, if◌then◌else◌}
+use Rattle.std.specs.List.{list_any}
+use Rattle.std.specs.Str.{bytes_eq}
+use Rattle.uri_map.specs.declared.fault.UriFault.{UriFault}
+use Rattle.uri_map.specs.declared.fault.UriFault.TheVariants as Fault
+use Rattle.uri_map.specs.declared.peer.Peer.{Peer}
+use Rattle.uri_map.specs.declared.target.Target.{Target}
+use Rattle.uri_map.specs.Splitting.{origin_form}
+use Rattle.uri_map.specs.Naming.{target_at}
+use Rattle.uri_map.specs.Peers.{peer_in}
+use Rattle.code_map.specs.declared.method.Method.{Method}
+use Rattle.code_map.specs.declared.method.Method.TheVariants.{Post, Put}
+use Rattle.code_map.specs.Methods.{method_named, request_code, writes}
+use Rattle.media_map.specs.declared.form.Form.{Form}
+use Rattle.media_map.specs.declared.form.Form.TheVariants.{Format}
+use Rattle.http_edge.specs.Requests.{Content as HttpRequest}
+use Rattle.http_edge.specs.Kinds.{status_of}
+use Rattle.ask_model.specs.declared.cause.Cause.{Cause}
+use Rattle.ask_model.specs.Requests.{Came, Whole, Bad, Sense, Requests, Refuses}
+use Rattle.ask_model.specs.Views.{Rules}
+
+abbrev pub has_field : List ℕ → HttpRequest → Bool
+has_field name r = list_any (λ f. bytes_eq f.0 name) r.fields
+
+-- CoAP's preconditions aren't those of HTTP, so a write that states one is refused (RFC 9110 section 13.1).
+abbrev pub is_conditional : HttpRequest → Bool
+is_conditional r =
+    has_field (codes "if-match") r || (has_field (codes "if-none-match") r || has_field (codes "if-unmodified-since") r)
+
+-- The body of a GET, HEAD or DELETE is dropped (RFC 9110 section 9.3).
+abbrev pub carried : Method → List ℕ → List ℕ
+carried Post body = body
+carried Put body = body
+carried _ body = []
+
+-- the largest body that goes in one message
+abbrev pub piece_limit : ℕ
+piece_limit = 1024
+
+abbrev pub is_refused_write : Method → HttpRequest → Bool
+is_refused_write m r = (writes m && is_conditional r) || nat_lt piece_limit (length (carried m r.body))
+
+-- the HTTP status of a target that names nothing here
+abbrev pub fault_status : UriFault → ℕ
+fault_status Fault.OtherBase = 404
+fault_status Fault.Scheme = 501
+fault_status Fault.TooLong = 414
+fault_status _ = 400
+
+-- What is known of a body's format: none is stated, or one that CoAP has; a media type that is
+-- transformed to a format, or one that has none.
+pub data Typing : Type 0 where
+  Untyped : Typing
+  Typed : (format : ℕ) → Typing
+  Routed : (from : Form) → (format : ℕ) → Typing
+  Untypable : Typing
+
+-- An empty body has no format, and its Content-Type isn't read.
+abbrev pub typing_of : Rules → HttpRequest → List ℕ → Typing
+typing_of s r [] = Untyped
+typing_of s r (b ∷ body) = if has_field (codes "content-type") r then Untypable else Untyped
+
+-- the format that is asked for, if any, or None where none that is accepted can be had
+abbrev pub accept_of : Rules → HttpRequest → Option (Option ℕ)
+accept_of s r = Some None
+
+module _ (holds : Form → Form → List ℕ → List ℕ → Type 0) (takes : Form → Form → List ℕ → Type 0) where
+  -- A body becomes this payload, in this format.
+  abbrev pub Becomes : Typing → List ℕ → Option ℕ → List ℕ → Type 0
+  Becomes Untyped body format payload = (format ≡ None) × (payload ≡ body)
+  Becomes (Typed n) body format payload = (format ≡ Some n) × (payload ≡ body)
+  Becomes (Routed from n) body format payload = (format ≡ Some n) × holds from (Format n) body payload
+  Becomes Untypable body format payload = ⊥
+
+  -- No payload can be made of it: the content isn't taken, or it is too large in the other format.
+  abbrev pub Fails : Typing → List ℕ → Type 0
+  Fails (Routed from n) body =
+      (takes from (Format n) body → ⊥) ⊎ ((payload : List ℕ) × holds from (Format n) body payload × (65536 < length payload))
+  Fails _ body = ⊥
+
+  -- what a request for this method, target and peer means
+  abbrev pub MapsBody : Rules → HttpRequest → Method → Target → Peer → Sense → Type 0
+  MapsBody s r m t p (Requests q) =
+      (q.method ≡ request_code m) × (q.target ≡ t) × (q.peer ≡ p)
+      × Becomes (typing_of s r (carried m r.body)) (carried m r.body) q.format q.body × (accept_of s r ≡ Some q.accept)
+  MapsBody s r m t p (Refuses cause status) =
+      (cause ≡ Cause.Media)
+      × (((status ≡ 415) × (typing_of s r (carried m r.body) ≡ Untypable))
+      ⊎ (((status ≡ 400) × Fails (typing_of s r (carried m r.body)) (carried m r.body))
+      ⊎ ((status ≡ 406) × (accept_of s r ≡ None)
+      × ((format : Option ℕ) × (payload : List ℕ) × Becomes (typing_of s r (carried m r.body)) (carried m r.body) format payload))))
+
+  -- a target that no peer serves
+  abbrev pub MapsPeer : Rules → HttpRequest → Method → Target → Option Peer → Sense → Type 0
+  MapsPeer s r m t None sense = sense ≡ Refuses Cause.NoMap 501
+  MapsPeer s r m t (Some p) sense = MapsBody s r m t p sense
+
+  -- a target that names nothing (RFC 8075 section 5.3)
+  abbrev pub MapsTarget : Rules → HttpRequest → Method → Result Target UriFault → Sense → Type 0
+  MapsTarget s r m (Err f) sense = sense ≡ Refuses Cause.NoMap (fault_status f)
+  MapsTarget s r m (Ok t) sense = MapsPeer s r m t (peer_in s.directory t) sense
+
+  abbrev pub MapsWrite : Rules → HttpRequest → Method → Bool → Sense → Type 0
+  MapsWrite s r m true sense = sense ≡ Refuses Cause.Method 501
+  MapsWrite s r m false sense = MapsTarget s r m (target_at s.base (origin_form r.target)) sense
+
+  -- a method that CoAP doesn't have (RFC 8075 section 5.1)
+  abbrev pub MapsMethod : Rules → HttpRequest → Option Method → Sense → Type 0
+  MapsMethod s r None sense = sense ≡ Refuses Cause.Method 501
+  MapsMethod s r (Some m) sense = MapsWrite s r m (is_refused_write m r) sense
+
+  -- Under these rules, this is what came in means.
+  abbrev pub Maps : Rules → Came → Sense → Type 0
+  Maps s (Bad kind) sense = sense ≡ Refuses Cause.BadHttp (status_of kind)
+  Maps s (Whole r) sense = MapsMethod s r (method_named r.method) sense

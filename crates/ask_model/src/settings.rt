@@ -1,0 +1,17 @@
+//! The rules that requests are mapped by.
+
+use media_map::Routes;
+use uri_map::{Directory, Text, Texts};
+
+/// The rules that requests are mapped by.
+#[derive(Drop)]
+pub struct Settings {
+    /// what a target begins with that names a CoAP resource (RFC 8075 section 5.3)
+    pub base: Text,
+    /// where the servers are
+    pub directory: Directory,
+    /// the names of servers whose resources may be observed (RFC 7641)
+    pub observed: Texts,
+    /// between which forms bodies are transformed
+    pub routes: Routes,
+}

@@ -1,0 +1,15 @@
+pub mod Steps
+pub mod OptionSteps
+pub mod Bytes
+pub mod Takes
+pub mod Again
+pub mod Decoding
+pub mod Appends
+pub mod Encodable
+pub mod Unique
+pub mod Uints
+pub mod OptionValues
+pub mod FaultsFound
+pub mod FaultsOnly
+pub mod FaultsStay
+pub mod Either

@@ -1,0 +1,2 @@
+mod Unrecognised
+mod Named

@@ -1,0 +1,3 @@
+pub mod Methods
+pub mod Statuses
+pub mod Codes

@@ -1,0 +1,3 @@
+pub mod CoreValue
+pub mod Room
+pub mod Tables

@@ -1,0 +1,47 @@
+//! Why a step is refused.
+
+ghost use Rattle.std.specs.Prelude.{◌≡◌};
+
+use std::alloc::{AllocError, AllocFailed};
+use std::fmt::{self, Display, Formatter, Write};
+
+/// Why no connection is opened.
+#[derive(Clone, Copy, Debug, PartialEq, Eq)]
+pub enum OpenFault {
+    /// 256 connections are open.
+    Full = 1,
+    /// The journal takes nothing more.
+    Sealed = 2,
+    /// Memory ran out.
+    Memory = 3,
+}
+
+impl Display for OpenFault {
+    fn fmt<W: Write>(&self, f: &mut Formatter<W>) -> Result<(), fmt::Error> {
+        f.write_str(match self {
+            OpenFault::Full => "as many connections are open as may be",
+            OpenFault::Sealed => "the journal is sealed",
+            OpenFault::Memory => "out of memory",
+        })
+    }
+}
+
+impl From<AllocError> for OpenFault {
+    ghost use Rattle.exchange_core.specs.declared.fault.OpenFault.TheVariants.{Memory};
+
+    ghost from_gives = { λ _ e. e ≡ Memory };
+
+    fn from(_e: AllocError) -> OpenFault {
+        OpenFault::Memory
+    }
+}
+
+impl<T: Drop> From<AllocFailed<T>> for OpenFault {
+    ghost use Rattle.exchange_core.specs.declared.fault.OpenFault.TheVariants.{Memory};
+
+    ghost from_gives = { λ _ e. e ≡ Memory };
+
+    fn from(_e: AllocFailed<T>) -> OpenFault {
+        OpenFault::Memory
+    }
+}

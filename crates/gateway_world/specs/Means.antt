@@ -1,0 +1,130 @@
+-- Which HTTP response tells an answer (RFC 8075, sections 6 and 7).
+use Rattle.std.specs.Prelude.{◌≡◌, ℕ, ◌-◌, ◌*◌, ◌/◌, Bool, true, false, not, ◌&&◌, ◌==◌, nat_le, List, [], ◌∷◌, ◌++◌, length, map, Option, Some, None, unwrap_or, codes, decimal, if◌then◌else◌}
+use Rattle.std.specs.Str.{is_utf8}
+use Rattle.std.specs.Arc.{arc_value}
+use Rattle.hex.specs.Hex.{encode_lower}
+use Rattle.http_edge.specs.Answers.{body_bytes}
+use Rattle.http_edge.specs.declared.answer.Field.{Field}
+use Rattle.http_edge.specs.declared.answer.HttpAnswer.{HttpAnswer}
+use Rattle.http_edge.specs.declared.request.Incoming.{Incoming}
+use Rattle.http_edge.specs.declared.request.Incoming.TheVariants as In
+use Rattle.code_map.specs.declared.method.Method.{Method}
+use Rattle.code_map.specs.declared.method.Method.TheVariants.{Head}
+use Rattle.code_map.specs.declared.status.Status.{Status}
+use Rattle.code_map.specs.Statuses.{number_of, phrase_of}
+use Rattle.code_map.specs.Codes.{status_of}
+use Rattle.gateway_world.specs.declared.meaning.Cause.{Cause}
+use Rattle.gateway_world.specs.declared.meaning.Mapped.{Mapped}
+use Rattle.gateway_world.specs.declared.meaning.Meaning.{Meaning}
+use Rattle.gateway_world.specs.declared.meaning.Meaning.TheVariants.{Ask, Refuse}
+use Rattle.gateway_world.specs.declared.response.Response.{Response}
+use Rattle.gateway_world.specs.declared.answer.Answer.{Answer}
+use Rattle.gateway_world.specs.declared.answer.Outcome.{Outcome}
+use Rattle.gateway_world.specs.declared.answer.Outcome.TheVariants.{Whole, Fault}
+use Rattle.gateway_world.specs.Causes.{cause_text}
+use Rattle.media_map.specs.Formats.{media_text}
+use Rattle.gateway_world.specs.Located.{located}
+
+-- fields as names and values
+abbrev pub Pairs : Type 0
+Pairs = List (List ℕ × List ℕ)
+
+abbrev pub pair_of : Field → List ℕ × List ℕ
+pair_of f = (f.name.now, f.value.items)
+
+abbrev pub only : List ℕ → List ℕ → Pairs
+only name value = (name, value) ∷ []
+
+abbrev pub when : Bool → Pairs → Pairs
+when b pairs = if b then pairs else []
+
+abbrev pub is_empty : List ℕ → Bool
+is_empty bytes = length bytes == 0
+
+-- The type of a format, or of an error's text where it has none (RFC 7252, section 5.5.2).
+abbrev pub typed : Option ℕ → Bool → Pairs
+typed (Some n) text = only (codes "Content-Type") (media_text n)
+typed None text = when text (only (codes "Content-Type") (media_text 0))
+
+-- Content-Type; an empty body has none.
+abbrev pub content_type : Response → Pairs
+content_type w = when (not (is_empty w.body)) (typed w.format (nat_le 128 w.code && is_utf8 w.body))
+
+-- the whole seconds for which a response of that age stays fresh (RFC 7252, section 5.10.5)
+abbrev pub seconds_left : Response → ℕ → ℕ
+seconds_left w age = (1000 * unwrap_or w.max_age 60 - age) / 1000
+
+-- Cache-Control, on a 200 from 2.05
+abbrev pub cache_control : Response → ℕ → Pairs
+cache_control w age =
+    when (w.code == 69) (only (codes "Cache-Control") (codes "max-age=" ++ decimal (seconds_left w age)))
+
+abbrev pub quoted : Option (List ℕ) → Pairs
+quoted None = []
+quoted (Some tag) = only (codes "ETag") (34 ∷ encode_lower tag ++ 34 ∷ [])
+
+-- ETag, on a 200 from 2.05 (RFC 9110, section 8.8.3)
+abbrev pub entity_tag : Response → Pairs
+entity_tag w = when (w.code == 69) (quoted w.etag)
+
+-- Location, where a resource was created that the proxy can be asked for (RFC 9110, section 10.2.2)
+abbrev pub value_if : List ℕ → Option (List ℕ) → Pairs
+value_if name None = []
+value_if name (Some value) = only name value
+
+-- Retry-After, on 5.03 (RFC 8075, section 7)
+abbrev pub seconds_if : List ℕ → Option ℕ → Pairs
+seconds_if name None = []
+seconds_if name (Some n) = only name (decimal n)
+
+abbrev pub retry_after : Response → Pairs
+retry_after w = when (w.code == 163) (seconds_if (codes "Retry-After") w.max_age)
+
+-- Connection, where the connection is closed behind the answer (RFC 9112, section 9.6)
+abbrev pub closes : Incoming → Bool
+closes (In.Request r) = r.close
+closes (In.Bad kind) = true
+
+abbrev pub connection : Incoming → Pairs
+connection http = when (closes http) (only (codes "Connection") (codes "close"))
+
+-- Content-Length, but in a 204 (RFC 9110, section 8.6)
+abbrev pub content_length : Status → ℕ → Pairs
+content_length status n = when (not (number_of status == 204)) (only (codes "Content-Length") (decimal n))
+
+abbrev pub is_head : Meaning → Bool
+is_head (Ask ask) = head ask.method where
+  head : Method → Bool
+  head Head = true
+  head _ = false
+is_head (Refuse cause status) = false
+
+abbrev pub status_for : Response → Status
+status_for w = status_of w.code (not (is_empty w.body))
+
+-- The answer shows the response: its status by its code, each field by its rule, in this order, and its
+-- body, but to a HEAD (RFC 9110, section 9.3.2).
+pub record Shows (mapped : Mapped) (w : Response) (age : ℕ) (a : HttpAnswer) : Type 0 where
+  pub status : a.status ≡ number_of (status_for w)
+  pub phrase : a.phrase.now ≡ phrase_of (status_for w)
+  pub fields : map pair_of a.fields.items
+      ≡ content_type w ++ cache_control w age ++ entity_tag w ++ value_if (codes "Location") (located mapped w)
+      ++ retry_after w ++ connection mapped.http ++ content_length (status_for w) (length w.body)
+  pub body : body_bytes a.body ≡ (if is_head mapped.meaning then [] else w.body)
+
+-- The answer is the proxy's own: it names its cause and an entry, and has no body.
+pub record Tells (mapped : Mapped) (cause : Cause) (told : Status) (number : ℕ) (a : HttpAnswer) : Type 0 where
+  pub status : a.status ≡ number_of told
+  pub phrase : a.phrase.now ≡ phrase_of told
+  pub fields : map pair_of a.fields.items
+      ≡ only (codes "HC-Cause") (cause_text cause ++ codes " " ++ decimal number)
+      ++ connection mapped.http ++ content_length told 0
+  pub body : body_bytes a.body ≡ []
+
+abbrev pub MeansOutcome : Mapped → Outcome → ℕ → HttpAnswer → Type 0
+MeansOutcome mapped (Whole w) age a = Shows mapped w age a
+MeansOutcome mapped (Fault cause status number) age a = Tells mapped cause status number a
+
+-- What an HTTP response says of an answer.
+abbrev pub Means : Answer → HttpAnswer → Type 0
+Means answer a = MeansOutcome (arc_value answer.mapped) answer.outcome (answer.moment - answer.heard) a

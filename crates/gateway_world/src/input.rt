@@ -1,0 +1,48 @@
+//! What goes into a world, and what comes out.
+
+use crate::shared::Bytes;
+use uri_map::Peer;
+
+/// What happens.
+#[derive(Clone, Copy)]
+pub enum Happening<'a> {
+    /// A client wants a connection.
+    Open,
+    /// Bytes of the connection came in.
+    Bytes(u32, &'a [u8]),
+    /// A datagram came in.
+    Datagram(Peer, &'a [u8]),
+    /// Time went on.
+    Tick,
+    /// The client closed the connection.
+    Close(u32),
+}
+
+/// One input: what happens, when, and random bits for it.
+#[derive(Clone, Copy)]
+pub struct Input<'a> {
+    /// Milliseconds.
+    pub moment: u64,
+    pub word: u64,
+    pub happening: Happening<'a>,
+}
+
+/// A datagram to a peer.
+#[derive(Drop)]
+pub struct Datagram {
+    pub peer: Peer,
+    pub bytes: Bytes,
+}
+
+/// What a world gives out.
+#[derive(Drop)]
+pub enum Output {
+    /// Bytes for the connection.
+    Bytes(u32, Vec<u8>),
+    /// A datagram that goes out.
+    Datagram(Datagram),
+    /// The proxy closes the connection.
+    Closed(u32),
+    /// No connection was opened: there is no place for one more.
+    Turned,
+}

@@ -1,0 +1,159 @@
+//! Runs a script through the proxy and prints what comes out.
+
+use crate::lines::{write_entry, write_output};
+use crate::script::{LineFault, line_of};
+use gateway_world::{Settings, World, WorldFault};
+use std::alloc::{AllocError, Global};
+use std::fmt;
+use std::io::{ErrorKind, Read, Write};
+
+/// How often a script is read at most.
+const READS: u64 = 1 << 32;
+
+/// How many bytes are read at a time.
+const CHUNK: usize = 65536;
+
+/// Why a script isn't run to its end.
+#[derive(Clone, Copy, Debug, PartialEq, Eq)]
+pub enum ReplayFault {
+    /// The line of that number, from 1, is no input, or its input is refused.
+    Line(u64),
+    /// A read or a write failed, or the script has no end.
+    Device,
+    /// Memory ran out.
+    Memory,
+}
+
+impl fmt::Display for ReplayFault {
+    fn fmt<W: fmt::Write>(&self, f: &mut fmt::Formatter<W>) -> fmt::Result {
+        match self {
+            ReplayFault::Line(number) => write!(f, "line {number} refused"),
+            ReplayFault::Device => write!(f, "device failed"),
+            ReplayFault::Memory => write!(f, "out of memory"),
+        }
+    }
+}
+
+impl From<AllocError> for ReplayFault {
+    fn from(_e: AllocError) -> ReplayFault {
+        ReplayFault::Memory
+    }
+}
+
+/// A run of a script.
+#[derive(Drop)]
+struct Script {
+    alloc: Global,
+    world: World,
+    /// The line begun.
+    line: Vec<u8>,
+    /// How many lines were begun and ended.
+    lines: u64,
+}
+
+impl Script {
+    /// Runs the lines that end within the bytes, and keeps the one that is begun.
+    fn take<W: Write>(&mut self, bytes: &[u8], writer: &mut W) -> Result<(), ReplayFault> {
+        for part in bytes.split_inclusive(|b| *b == b'\n') {
+            match part {
+                [text @ .., b'\n'] => {
+                    self.line.extend_from_slice(text)?;
+                    self.lines = self.lines.saturating_add(1);
+                    self.run_line(writer)?;
+                    self.line.clear();
+                }
+                text => self.line.extend_from_slice(text)?,
+            }
+        }
+        Ok(())
+    }
+
+    /// Runs the line that was read.
+    fn run_line<W: Write>(&mut self, writer: &mut W) -> Result<(), ReplayFault> {
+        if self.line.is_empty() {
+            return Ok(());
+        }
+        let line = match line_of(self.alloc, &self.line) {
+            Ok(line) => line,
+            Err(LineFault::Form) => return Err(ReplayFault::Line(self.lines)),
+            Err(LineFault::Memory) => return Err(ReplayFault::Memory),
+        };
+        let outputs = match self.world.input(line.input()) {
+            Ok(outputs) => outputs,
+            Err(WorldFault::Backlog) => return Err(ReplayFault::Line(self.lines)),
+            Err(WorldFault::Memory) => return Err(ReplayFault::Memory),
+        };
+        for output in &outputs {
+            write_output(self.alloc, writer, self.world.moment(), output)?;
+        }
+        Ok(())
+    }
+
+    /// Refuses a line that has no end.
+    fn end(&self) -> Result<(), ReplayFault> {
+        if self.line.is_empty() {
+            Ok(())
+        } else {
+            Err(ReplayFault::Line(self.lines.saturating_add(1)))
+        }
+    }
+
+    /// Writes the entries of the journal.
+    fn write_journal<W: Write>(&self, writer: &mut W) -> Result<(), ReplayFault> {
+        let journal = self.world.journal();
+        for number in 0..journal.len() {
+            if let Some(entry) = journal.get(number) {
+                write_entry(self.alloc, writer, number, entry)?;
+            }
+        }
+        Ok(())
+    }
+}
+
+/// Reads the script to its end and runs it line by line.
+fn run_lines<R: Read, W: Write>(
+    run: &mut Script,
+    reader: &mut R,
+    writer: &mut W,
+) -> Result<(), ReplayFault> {
+    let mut chunk = vec![in run.alloc; 0u8; CHUNK]?;
+    for _ in 0..READS {
+        match reader.read(&mut chunk) {
+            Ok(0) => return run.end(),
+            Ok(n) => run.take(&chunk[..n], writer)?,
+            Err(e) if e.kind() == ErrorKind::Interrupted => {}
+            Err(_) => return Err(ReplayFault::Device),
+        }
+    }
+    Err(ReplayFault::Device)
+}
+
+/// Reads a script, runs it under the settings, and writes the outputs and, where asked for, the
+/// entries of the journal behind them. The first fault met in reading order ends it; what the lines
+/// before it gave is written.
+pub fn replay<R: Read, W: Write>(
+    alloc: Global,
+    settings: Settings,
+    reader: &mut R,
+    writer: &mut W,
+    journal: bool,
+) -> Result<(), ReplayFault> {
+    let world = match World::new(alloc, settings) {
+        Ok(world) => world,
+        Err(_) => return Err(ReplayFault::Memory),
+    };
+    let mut run = Script {
+        alloc,
+        world,
+        line: Vec::new(alloc),
+        lines: 0,
+    };
+    let mut outcome = run_lines(&mut run, reader, writer);
+    if journal && outcome.is_ok() {
+        outcome = run.write_journal(writer);
+    }
+    if writer.flush().is_err() && outcome.is_ok() {
+        outcome = Err(ReplayFault::Device);
+    }
+    outcome
+}

@@ -1,0 +1,190 @@
+//! Scripts run over memory.
+
+use crate::replay::{ReplayFault, replay};
+use crate::settings::demonstration;
+use std::alloc::Global;
+use std::io::{self, ErrorKind, Read, Write};
+use std::test::Fail;
+
+/// A GET of the resource `light`, as bytes of a connection.
+const GET_LIGHT: &str =
+    "474554202f68632f636f61703a2f2f732e6578616d706c652e636f6d2f6c6967687420485454502f312e310d0a486f73743a20700d0a0d0a";
+
+/// The datagram that carries it.
+const ASKED: &str =
+    "0 datagram 192.0.2.1:5683 4801000000000000000000003d00732e6578616d706c652e636f6d856c69676874\n";
+
+/// The reply.
+const REPLY: &str = "40 0 datagram 192.0.2.1:5683 684500000000000000000000c0ff6f6e\n";
+
+/// The answer that shows it.
+const TOLD: &str =
+    "40 bytes 0 485454502f312e3120323030204f4b0d0a436f6e74656e742d547970653a20746578742f706c61696e3b636861727365743d7574662d380d0a43616368652d436f6e74726f6c3a206d61782d6167653d36300d0a436f6e74656e742d4c656e6774683a20320d0a0d0a6f6e\n";
+
+/// A reader that gives a text in pieces of one byte and then fails, where it is to.
+#[derive(Drop)]
+struct Trickle<'a> {
+    text: &'a [u8],
+    fails: bool,
+}
+
+impl Read for Trickle<'_> {
+    fn read(&mut self, buf: &mut [u8]) -> io::Result<usize> {
+        match (self.text, buf) {
+            ([first, rest @ ..], [place, ..]) => {
+                *place = *first;
+                self.text = rest;
+                Ok(1)
+            }
+            _ if self.fails => Err(io::Error::from(ErrorKind::Other)),
+            _ => Ok(0),
+        }
+    }
+}
+
+/// A writer that takes no byte.
+#[derive(Drop)]
+struct Full;
+
+impl Write for Full {
+    fn write(&mut self, _buf: &[u8]) -> io::Result<usize> {
+        Err(io::Error::from(ErrorKind::StorageFull))
+    }
+
+    fn flush(&mut self) -> io::Result<()> {
+        Ok(())
+    }
+}
+
+/// Runs a script, and gives what it prints and how it ends.
+fn run(
+    alloc: Global,
+    script: &str,
+    journal: bool,
+) -> Result<(Vec<u8>, Result<(), ReplayFault>), ReplayFault> {
+    let mut out = Vec::new(alloc);
+    let mut reader = Trickle {
+        text: script.as_bytes(),
+        fails: false,
+    };
+    let ended = replay(alloc, demonstration(alloc)?, &mut reader, &mut out, journal);
+    Ok((out, ended))
+}
+
+/// The text of several parts.
+fn joined(alloc: Global, parts: &[&str]) -> Result<String, Fail> {
+    let mut text = String::new(alloc);
+    for part in parts {
+        text.push_str(part)?;
+    }
+    Ok(text)
+}
+
+#[test]
+fn a_request_cut_anywhere_is_one(rt: HostRuntime) -> Result<(), Fail> {
+    let alloc = rt.alloc();
+    let expected = joined(alloc, &[ASKED, TOLD])?;
+    for cut in 0..=GET_LIGHT.len() / 2 {
+        let (front, back) = GET_LIGHT.as_bytes().split_at(2 * cut);
+        let mut script = joined(alloc, &["0 0 open\n0 0 bytes 0 "])?;
+        script.push_str(std::str::from_utf8(front)?)?;
+        script.push_str("\n0 0 bytes 0 ")?;
+        script.push_str(std::str::from_utf8(back)?)?;
+        script.push_str("\n")?;
+        script.push_str(REPLY)?;
+        let (out, ended) = run(alloc, &script, false)?;
+        assert_eq!(rt; ended, Ok(()));
+        assert_eq!(rt; out.as_slice(), expected.as_bytes(), "cut behind {cut}");
+    }
+    Ok(())
+}
+
+#[test]
+fn a_second_connection_is_turned(rt: HostRuntime) -> Result<(), Fail> {
+    let (out, ended) = run(
+        rt.alloc(),
+        "0 0 open\n7 0 open\n9 0 close 0\n9 0 open\n",
+        true,
+    )?;
+    assert_eq!(rt; ended, Ok(()));
+    assert_eq!(rt;
+        out.as_slice(),
+        b"7 turned\n0 0 opened 0\n1 9 shut 0\n2 9 opened 1\n".as_slice()
+    );
+    Ok(())
+}
+
+#[test]
+fn lines_of_another_form_are_refused(rt: HostRuntime) -> Result<(), Fail> {
+    for (script, line) in [
+        ("0 0 opne\n", 1),
+        ("\n\n0 0 open\n0 0  tick\n", 4),
+        ("0 0 open", 1),
+        ("+1 0 tick\n", 1),
+        ("18446744073709551616 0 tick\n", 1),
+        ("0 0 bytes 0 4\n", 1),
+        ("0 0 bytes 0 4A\n", 1),
+        ("0 0 bytes 0\n", 1),
+        ("0 0 bytes 4294967296 00\n", 1),
+        ("0 0 datagram 192.0.2.1 00\n", 1),
+        ("0 0 datagram 192.0.2.1:0 00\n", 1),
+        ("0 0 datagram s.example.com:5683 00\n", 1),
+        ("0 0 close\n", 1),
+        ("tick\n", 1),
+    ] {
+        let (out, ended) = run(rt.alloc(), script, true)?;
+        assert_eq!(rt; ended, Err(ReplayFault::Line(line)), "{script}");
+        assert_eq!(rt; out.len(), 0);
+    }
+    Ok(())
+}
+
+#[test]
+fn lines_that_say_nothing_are_taken(rt: HostRuntime) -> Result<(), Fail> {
+    for script in [
+        "",
+        "\n",
+        "00 007 tick\n",
+        "0 0 bytes 0 00\n",
+        "0 0 datagram 192.0.2.1:5683 \n",
+        "0 0 datagram [2001:db8::1]:05683 00\n",
+        "0 18446744073709551615 close 4294967295\n",
+    ] {
+        let (out, ended) = run(rt.alloc(), script, true)?;
+        assert_eq!(rt; ended, Ok(()), "{script}");
+        assert_eq!(rt; out.len(), 0);
+    }
+    Ok(())
+}
+
+#[test]
+fn what_stands_before_a_refused_line_is_printed(rt: HostRuntime) -> Result<(), Fail> {
+    let alloc = rt.alloc();
+    let script = joined(
+        alloc,
+        &["0 0 open\n0 0 bytes 0 ", GET_LIGHT, "\n40 0 stop\n", REPLY],
+    )?;
+    let (out, ended) = run(alloc, &script, true)?;
+    assert_eq!(rt; ended, Err(ReplayFault::Line(3)));
+    assert_eq!(rt; out.as_slice(), ASKED.as_bytes());
+    Ok(())
+}
+
+#[test]
+fn failed_devices_are_told(rt: HostRuntime) -> Result<(), Fail> {
+    let alloc = rt.alloc();
+    let mut reader = Trickle {
+        text: b"0 0 open\n0 0 op",
+        fails: true,
+    };
+    let mut out = Vec::new(alloc);
+    let ended = replay(alloc, demonstration(alloc)?, &mut reader, &mut out, true);
+    assert_eq!(rt; ended, Err(ReplayFault::Device));
+    let mut reader = Trickle {
+        text: b"0 0 open\n0 0 open\n",
+        fails: false,
+    };
+    let ended = replay(alloc, demonstration(alloc)?, &mut reader, &mut Full, true);
+    assert_eq!(rt; ended, Err(ReplayFault::Device));
+    Ok(())
+}

@@ -1,0 +1,166 @@
+-- A connection that is kept is open, and its pending ask is the one that is answered next.
+use Rattle.std.proofs.Common.{◌≡◌, ℕ, suc, ◌+◌, ◌<◌, ◌≤◌, Bool, true, false, not, ◌||◌, eqb, inl, inr, List, [], ◌∷◌, ◌++◌, length, Option, Some, None, refl, sym, ap, subst, ◌∙◌, arith, length-append}
+use Rattle.std.specs.List.{All, slice_get}
+use Rattle.std.proofs.lemmas.Option.{slice_get_within}
+use Rattle.std.proofs.lemmas.List.Elements.{All-nil, All-push, All-weaker, All-map, All-filter, filter_passes}
+use Rattle.std.proofs.lemmas.Bool.Decides.{eqb_tells}
+use Rattle.std.proofs.lemmas.Bool.{false≢true}
+use Rattle.ask_model.specs.Requests.{Ask}
+use Rattle.journal_book.specs.Entries.{Grounds, Deed, Opens, Asks, Sends, Hears, Passes, Answers, Shuts, Seals}
+use Rattle.history_laws.specs.declared.kept.Conn.{Conn}
+use Rattle.history_laws.specs.Readings.{Noted, Note}
+use Rattle.history_laws.specs.Connections.{asks_of, answers_of, is_open}
+use Rattle.history_laws.specs.Justified.{Follows, Legal}
+use Rattle.history_laws.specs.Kept.{pend, conns_of}
+use Rattle.history_laws.proofs.Facts.{noted}
+
+-- what is known of the ask that a connection waits for
+abbrev pub TurnIn : List Noted → ℕ → Option ℕ → Type 0
+TurnIn l c None = length (asks_of l c) ≡ length (answers_of l c)
+TurnIn l c (Some k) =
+    (slice_get (asks_of l c) (length (answers_of l c)) ≡ Some k) × (length (asks_of l c) ≡ length (answers_of l c) + 1)
+
+pub record ConnIn (l : List Noted) (x : Conn) : Type 0 where
+  pub below : x.id < length l
+  pub open_now : is_open l x.id ≡ true
+  pub turn : TurnIn l x.id x.pending
+
+open-step : (older : List Noted) (c t : ℕ) (d : Deed) (note : Note) → (is_open older c ≡ true → c < length older)
+    → Follows older t d note → is_open (noted t d note ∷ older) c ≡ true → c < suc (length older)
+open-step older c t (Opens e) note ih may h =
+    let here = may.1 in
+    elim (eqb_tells e c) [ inl w ↦ omega arith | inr w ↦ let r = ih (rw (w.0) at h) in omega arith ]
+open-step older c t (Shuts e) note ih may h =
+    elim (eqb_tells e c) [ inl w ↦ absurd (false≢true (rw (w.0) at h)) | inr w ↦ let r = ih (rw (w.0) at h) in omega arith ]
+open-step older c t (Asks e a) note ih may h = let r = ih h in omega arith
+open-step older c t (Sends p b w) note ih may h = let r = ih h in omega arith
+open-step older c t (Hears p b) note ih may h = let r = ih h in omega arith
+open-step older c t Passes note ih may h = let r = ih h in omega arith
+open-step older c t (Answers e k g) note ih may h = let r = ih h in omega arith
+open-step older c t Seals note ih may h = let r = ih h in omega arith
+
+-- a connection is known by a number below
+pub is_open-below : (l : List Noted) → Legal l → (c : ℕ) → is_open l c ≡ true → c < length l
+is_open-below [] legal c e = absurd (false≢true e)
+is_open-below (x ∷ older) legal c e =
+    open-step older c x.written.moment x.written.deed x.note (is_open-below older legal.0 c) legal.2 e
+
+abbrev NothingOf : List Noted → ℕ → Type 0
+NothingOf l c = (asks_of l c ≡ []) × (answers_of l c ≡ [])
+
+asked-step : (older : List Noted) (c t : ℕ) (d : Deed) (note : Note) → Legal older → length older < c
+    → NothingOf older c → Follows older t d note → NothingOf (noted t d note ∷ older) c
+asked-step older c t (Asks e a) note legal lt ih may =
+    let b = is_open-below older legal e may.1 in
+    elim (eqb_tells e c) [ inl w ↦ absurd (omega arith) | inr w ↦ rw (w.0) ih ]
+asked-step older c t (Answers e k g) note legal lt ih may =
+    let b = is_open-below older legal e may.1 in
+    elim (eqb_tells e c) [ inl w ↦ absurd (omega arith) | inr w ↦ rw (w.0) ih ]
+asked-step older c t d note legal lt ih may = ih
+
+pub none-asked : (l : List Noted) → Legal l → (c : ℕ) → length l ≤ c → NothingOf l c
+none-asked [] legal c h = (refl, refl)
+none-asked (x ∷ older) legal c h =
+    asked-step older c x.written.moment x.written.deed x.note legal.0 (omega arith) (none-asked older legal.0 c (omega arith)) legal.2
+
+pub slice_get-push : {X : Type 0} (xs : List X) (y : X) (n : ℕ) → length xs ≡ n → slice_get (xs ++ y ∷ []) n ≡ Some y
+slice_get-push [] y n e = rw (← e) refl
+slice_get-push (x ∷ xs) y n e = rw (← e) (slice_get-push xs y (length xs) refl)
+
+conn-keeps : (x' : Noted) (l : List Noted) (x : Conn)
+    → is_open (x' ∷ l) x.id ≡ is_open l x.id
+    → asks_of (x' ∷ l) x.id ≡ asks_of l x.id
+    → answers_of (x' ∷ l) x.id ≡ answers_of l x.id
+    → ConnIn l x → ConnIn (x' ∷ l) x
+conn-keeps x' l x e f g h =
+    record {
+      below = let b = h.below in omega arith;
+      open_now = e ∙ h.open_now;
+      turn = turn x.pending h.turn;
+    }
+  where
+    turn : (p : Option ℕ) → TurnIn l x.id p → TurnIn (x' ∷ l) x.id p
+    turn None w = ap length f ∙ w ∙ sym (ap length g)
+    turn (Some k) w = rw (f, g) w
+
+or-true : (b : Bool) → (b || true) ≡ true
+or-true true = refl
+or-true false = refl
+
+turned : (a b : ℕ) → eqb a b ≡ false → eqb b a ≡ false
+turned a b e = elim (eqb_tells b a) [ inl u ↦ absurd (elim (eqb_tells a b) [ inl v ↦ false≢true (sym e ∙ v.0) | inr v ↦ v.1 (sym u.1) ]) | inr u ↦ u.0 ]
+
+turned-true : (a b : ℕ) → a ≡ b → eqb b a ≡ true
+turned-true a b e = elim (eqb_tells b a) [ inl u ↦ u.0 | inr u ↦ absurd (u.1 (sym e)) ]
+
+asked-conn : (l : List Noted) (t c : ℕ) (a : Ask) (note : Note) → Follows l t (Asks c a) note → (x : Conn) → ConnIn l x
+    → ConnIn (noted t (Asks c a) note ∷ l) (pend c (Some (length l)) x)
+asked-conn l t c a note may x w =
+    elim (eqb_tells x.id c) [
+      | inl e ↦
+          let same = turned-true x.id c e.1 in
+          rw (e.0) (record {
+            below = let b = w.below in omega arith;
+            open_now = w.open_now;
+            turn =
+                let len : length (asks_of l x.id) ≡ length (answers_of l x.id) = subst (λ (c : ℕ). length (asks_of l c) ≡ length (answers_of l c)) (sym e.1) may.2 in
+                rw same (slice_get-push (asks_of l x.id) (length l) _ len, length-append (asks_of l x.id) (length l ∷ []) ∙ ap (λ n. n + 1) len);
+          })
+      | inr e ↦ let other = turned x.id c e.0 in rw (e.0) (conn-keeps (noted t (Asks c a) note) l x refl (rw other refl) refl w)
+    ]
+
+more-asked : (l : List Noted) (c : ℕ) (p : Option ℕ) → TurnIn l c p → length (answers_of l c) < length (asks_of l c)
+    → length (asks_of l c) ≡ length (answers_of l c) + 1
+more-asked l c None v lt = omega arith
+more-asked l c (Some k) v lt = v.1
+
+answered-conn : (l : List Noted) (t c k : ℕ) (g : Grounds) (note : Note) → Follows l t (Answers c k g) note → (x : Conn) → ConnIn l x
+    → ConnIn (noted t (Answers c k g) note ∷ l) (pend c None x)
+answered-conn l t c k g note may x w =
+    elim (eqb_tells x.id c) [
+      | inl e ↦
+          let same = turned-true x.id c e.1 in
+          rw (e.0) (record {
+            below = let b = w.below in omega arith;
+            open_now = w.open_now;
+            turn =
+                let within = slice_get_within (asks_of l x.id) _ _ (subst (λ (c : ℕ). slice_get (asks_of l c) (length (answers_of l c)) ≡ Some k) (sym e.1) may.2) in
+                let len = more-asked l x.id x.pending w.turn within in
+                rw same (len ∙ sym (length-append (answers_of l x.id) (k ∷ [])));
+          })
+      | inr e ↦ let other = turned x.id c e.0 in rw (e.0) (conn-keeps (noted t (Answers c k g) note) l x refl refl (rw other refl) w)
+    ]
+
+-- the connections behind an entry
+conns-step : (l : List Noted) (t : ℕ) (d : Deed) (note : Note) → Legal l → Follows l t d note
+    → All (ConnIn l) (conns_of l) → All (ConnIn (noted t d note ∷ l)) (conns_of (noted t d note ∷ l))
+conns-step l t (Opens c) note legal may h =
+    let here : c ≡ length l = may.1 in
+    let none = none-asked l legal c (omega arith) in
+    All-push (ConnIn (noted t (Opens c) note ∷ l)) _ _
+    (All-weaker (ConnIn l) (ConnIn (noted t (Opens c) note ∷ l))
+    (λ x w. record { below = let b = w.below in omega arith; open_now = rw (w.open_now) (or-true (eqb c x.id)); turn = w.turn }) _ h)
+    (record {
+      below = omega arith;
+      open_now = elim (eqb_tells c c) [ inl w ↦ rw (w.0) refl | inr w ↦ absurd (w.1 refl) ];
+      turn = ap length none.0 ∙ sym (ap length none.1);
+    })
+conns-step l t (Asks c a) note legal may h =
+    All-map (ConnIn (noted t (Asks c a) note ∷ l)) _ _ (All-weaker (ConnIn l) _ (λ x w. asked-conn l t c a note may x w) _ h)
+conns-step l t (Answers c k g) note legal may h =
+    All-map (ConnIn (noted t (Answers c k g) note ∷ l)) _ _ (All-weaker (ConnIn l) _ (λ x w. answered-conn l t c k g note may x w) _ h)
+conns-step l t (Shuts c) note legal may h =
+    let stays : Conn → Type 0 = λ x. not (eqb x.id c) ≡ true in
+    All-weaker (λ x. ConnIn l x × stays x) (ConnIn (noted t (Shuts c) note ∷ l))
+    (λ x w. let other = turned x.id c (not-is (eqb x.id c) w.1) in conn-keeps (noted t (Shuts c) note) l x (rw other refl) refl refl w.0)
+    _ (λ k d b. (All-filter _ (ConnIn l) _ h k d b, filter_passes (λ (x : Conn). not (eqb x.id c)) (conns_of l) k d b))
+  where
+    not-is : (b : Bool) → not b ≡ true → b ≡ false
+    not-is true e = cc
+    not-is false e = refl
+conns-step l t d note legal may h = All-weaker (ConnIn l) _ (λ x w. conn-keeps (noted t d note) l x refl refl refl w) _ h
+
+pub conns-open : (l : List Noted) → Legal l → All (ConnIn l) (conns_of l)
+conns-open [] legal = All-nil (ConnIn [])
+conns-open (x ∷ older) legal =
+    conns-step older x.written.moment x.written.deed x.note legal.0 legal.2 (conns-open older legal.0)

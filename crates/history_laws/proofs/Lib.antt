@@ -1,0 +1,11 @@
+pub mod Places
+pub mod Facts
+pub mod Openings
+pub mod Sendings
+pub mod Replies
+pub mod Answering
+pub mod Conns
+pub mod Refusals
+pub mod Steps
+pub mod Resting
+pub mod Working

@@ -1,0 +1,10 @@
+pub mod Readings
+pub mod Connections
+pub mod Responses
+pub mod Exchanges
+pub mod Confirming
+pub mod Limits
+pub mod Justified
+pub mod Kept
+pub mod Laws
+pub mod Worked

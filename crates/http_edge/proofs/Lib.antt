@@ -1,0 +1,10 @@
+pub mod Fronts
+pub mod Chunking
+pub mod Readings
+pub mod Framings
+pub mod Cutting
+pub mod Fields
+pub mod Listing
+pub mod Heading
+pub mod Lefts
+pub mod Edging

@@ -1,0 +1,33 @@
+use Rattle.std.proofs.Common.{rules, ◌⊎◌, ℕ, List, inl, refl, sym, ◌∙◌, None, ◌≡◌}
+use Rattle.http_edge.specs.Reading.{IsRefused, HasNone}
+use Rattle.http_edge.specs.Edges.{Stands, IsBegun, IsWholeIn, Waits}
+use Rattle.http_edge.proofs.edge.Edge.next.Goals as goal
+
+pub returns-in-Bad-clause-steps : goal.returns-in-Bad-clause-steps
+returns-in-Bad-clause-steps c =
+    let begun : (text : List ℕ) → Stands c.args.self.now text → Stands c.begin.new.self text × IsBegun c.begin.new.self = search rules in
+    λ text s.
+    let b = begun text s in
+    let filled : IsRefused text c.in-Bad.kind = rw c.in-Bad.is at (c.in_ok-fill.ensures.fills text b.0 b.1) in
+    (text, (filled, refl), inl (refl, refl))
+
+pub returns-in-Whole-clause-steps : goal.returns-in-Whole-clause-steps
+returns-in-Whole-clause-steps c =
+    let begun : (text : List ℕ) → Stands c.args.self.now text → Stands c.begin.new.self text × IsBegun c.begin.new.self = search rules in
+    λ text s.
+    let b = begun text s in
+    let filled : IsBegun c.fill.new.self × IsWholeIn c.fill.new.self.begun c.fill.new.self.unread text = rw c.in-Whole.is at (c.in_ok-fill.ensures.fills text b.0 b.1) in
+    c.whole.ensures.steps text filled.0 filled.1
+
+pub returns-in-Wait-clause-steps : goal.returns-in-Wait-clause-steps
+returns-in-Wait-clause-steps c =
+    let begun : (text : List ℕ) → Stands c.args.self.now text → Stands c.begin.new.self text × IsBegun c.begin.new.self = search rules in
+    λ text s.
+    let b = begun text s in
+    let filled : Stands c.fill.new.self text × (HasNone text ⊎ Waits text) = rw c.in-Wait.is at (c.in_ok-fill.ensures.fills text b.0 b.1) in
+    ((filled.0.0, filled.0.1, λ e. filled.1), filled.1)
+
+pub returns-in-Whole-clause-still_told : goal.returns-in-Whole-clause-still_told
+returns-in-Whole-clause-still_told c = λ e.
+    let none : c.whole.result ≡ None = cc in
+    c.whole.ensures.told ∙ sym (c.whole.ensures.none none) ∙ c.fill.ensures.told ∙ c.begin.ensures.told

@@ -1,0 +1,9 @@
+use Rattle.std.proofs.Common.{◌≡◌, length, reverse}
+use Rattle.httparse.specs.Grammar.{skip_ows}
+use Rattle.http_edge.proofs.lists.trimmed.Given as goal
+
+abbrev pub invariant-each : goal.invariant-each
+invariant-each l = skip_ows (reverse l.rest) ≡ skip_ows (reverse (skip_ows l.bytes))
+
+abbrev pub decreases-each : goal.decreases-each
+decreases-each l = length l.rest

@@ -1,0 +1,10 @@
+pub mod Kinds
+pub mod Lists
+pub mod Requests
+pub mod Framing
+pub mod Chunks
+pub mod Reading
+pub mod Bodies
+pub mod Edges
+pub mod Cuts
+pub mod Answers

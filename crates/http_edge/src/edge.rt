@@ -1,0 +1,189 @@
+//! A connection's bytes, read as requests.
+
+ghost use Rattle.std.specs.Prelude.{◌≡◌, ◌≤◌, ◌+◌, ◌-◌, ◌++◌, ◌⊎◌, ℕ, List, [], take, drop, length, min, IfOk, OnErr, IsTrue, ◌↔◌, ◌||◌, false, true, Ok, None};
+
+use crate::body::{Fill, fill_body};
+use crate::head::{Begun, Start, start_of};
+use crate::memory::Memory;
+use crate::request::Incoming;
+use crate::unread::Unread;
+use std::alloc::Global;
+
+/// What `next` answers without a body, or that one comes in.
+#[derive(Drop)]
+enum Begin {
+    Done(Option<Incoming>),
+    Begun,
+}
+
+/// The unread bytes of a connection, and the request begun.
+#[derive(Drop)]
+pub struct Edge {
+    alloc: Global,
+    unread: Unread,
+    begun: Option<Begun>,
+    /// Nothing can be read before more bytes come.
+    waits: bool,
+    ended: bool,
+}
+
+impl Edge {
+    ghost use Rattle.http_edge.specs.Edges.{Stands, Steps, Begins, Fills, IsBegun, IsWholeIn, IsAsking, Falls, BeginFalls, is_told, unread_len, work_left};
+    ghost use Rattle.http_edge.specs.Edges as spec;
+
+    /// No bytes, and room for 8,192.
+    pub fn new(alloc: Global) -> Result<Edge, Memory>
+        ensures stands { IfOk result (λ e. Stands e []) }
+        ensures empty { IfOk result (λ e. unread_len e ≡ 0) }
+    {
+        Ok(Edge {
+            alloc,
+            unread: Unread::new(alloc)?,
+            begun: None,
+            waits: false,
+            ended: false,
+        })
+    }
+
+    /// An edge that goes on as this one does.
+    pub fn copy(&self) -> Result<Edge, Memory>
+        ensures stands { IfOk result (λ e. (text : List ℕ) → Stands self.now text → Stands e text) }
+        ensures ended { IfOk result (λ e. e.ended ≡ self.now.ended) }
+        ensures told { IfOk result (λ e. is_told e ≡ is_told self.now) }
+        ensures unread { IfOk result (λ e. unread_len e ≡ unread_len self.now) }
+    {
+        let begun = match &self.begun {
+            Some(begun) => Some(begun.copy()?),
+            None => None,
+        };
+        Ok(Edge {
+            alloc: self.alloc,
+            unread: self.unread.copy(self.alloc)?,
+            begun,
+            waits: self.waits,
+            ended: self.ended,
+        })
+    }
+
+    /// Takes as many of the bytes as fit beside those unread, 8,192 in all. It takes no memory.
+    pub fn feed(&mut self, bytes: &[u8]) -> usize
+        ensures count { result ≡ min (length bytes.now) (8192 - unread_len self.old) }
+        ensures more { (text : List ℕ) → Stands self.old text → Stands self.new (text ++ take result bytes.now) }
+        ensures unread { unread_len self.new ≡ unread_len self.old + result }
+        ensures ended { self.new.ended ≡ self.old.ended }
+        ensures told { is_told self.new ≡ is_told self.old }
+    {
+        self.waits = false;
+        self.unread.feed(bytes)
+    }
+
+    /// How many bytes are unread, at most 8,192.
+    pub fn unread(&self) -> usize
+        ensures len { result ≡ unread_len self.now }
+        ensures few { result ≤ 8192 }
+    {
+        self.unread.as_slice().len()
+    }
+
+    /// The next request, or the refusal of what stands in its place. None where more bytes are
+    /// needed, behind a refusal, and behind a request that closes the connection.
+    pub fn next(&mut self) -> Result<Option<Incoming>, Memory>
+        ensures steps { (text : List ℕ) → Stands self.old text → Steps result self.new text }
+        ensures ended { self.old.ended ≡ true → (result ≡ Ok None) × (self.new.ended ≡ true) }
+        ensures told { is_told self.new ≡ true → is_told self.old ≡ true }
+        ensures still_told { result ≡ Ok None → is_told self.new ≡ is_told self.old }
+        ensures told_on_refusal { OnErr result (is_told self.new ≡ is_told self.old) }
+        ensures less { IfOk result (λ item. Falls item (work_left self.old) (work_left self.new)) }
+    {
+        if self.ended || self.waits {
+            return Ok(None);
+        }
+        if let Begin::Done(result) = self.begin()? {
+            return Ok(result);
+        }
+        match self.fill()? {
+            Fill::Whole => Ok(self.whole()),
+            Fill::Wait => {
+                self.waits = true;
+                Ok(None)
+            }
+            Fill::Bad(kind) => {
+                self.ended = true;
+                Ok(Some(Incoming::Bad(kind)))
+            }
+        }
+    }
+
+    /// The request begun waits for `100 Continue`: true once for a request (RFC 9110, section
+    /// 10.1.1). Ask behind a `next` that answered None.
+    pub fn wants_continue(&mut self) -> bool
+        ensures asks { (text : List ℕ) → Stands self.old text → (IsTrue result ↔ IsAsking self.old text) }
+        ensures told { is_told self.new ≡ (result || is_told self.old) }
+        ensures stands { (text : List ℕ) → Stands self.old text → Stands self.new text }
+        ensures ended { self.new.ended ≡ self.old.ended }
+        ensures unread { unread_len self.new ≡ unread_len self.old }
+    {
+        match &mut self.begun {
+            Some(begun) if begun.wants && !begun.told => {
+                begun.told = true;
+                true
+            }
+            _ => false,
+        }
+    }
+
+    /// Begins the request at the front, where none is begun.
+    fn begin(&mut self) -> Result<Begin, Memory>
+        requires { self.old.ended ≡ false }
+        ensures steps { (text : List ℕ) → Stands self.old text → Begins result self.new text }
+        ensures told { is_told self.new ≡ is_told self.old }
+        ensures less { IfOk result (λ begin. BeginFalls begin (work_left self.old) (work_left self.new)) }
+        ensures stays_open { result ≡ Ok Begin.Begun → self.new.ended ≡ false }
+    {
+        if self.begun.is_some() {
+            return Ok(Begin::Begun);
+        }
+        match start_of(self.alloc, self.unread.as_slice())? {
+            Start::Wait => {
+                self.waits = true;
+                Ok(Begin::Done(None))
+            }
+            Start::Bad(kind) => {
+                self.ended = true;
+                Ok(Begin::Done(Some(Incoming::Bad(kind))))
+            }
+            Start::Head(begun, len) => {
+                self.unread.skip(len);
+                self.begun = Some(begun);
+                Ok(Begin::Begun)
+            }
+        }
+    }
+
+    /// Moves unread bytes into the body that comes in.
+    fn fill(&mut self) -> Result<Fill, Memory>
+        ensures fills { (text : List ℕ) → Stands self.old text → IsBegun self.old → Fills result self.new text }
+        ensures told { is_told self.new ≡ is_told self.old }
+        ensures less { work_left self.new ≤ work_left self.old }
+        ensures ended { self.new.ended ≡ self.old.ended }
+    {
+        match &mut self.begun {
+            Some(begun) => fill_body(&mut begun.left, &mut begun.request.body, &mut self.unread),
+            None => Ok(Fill::Wait),
+        }
+    }
+
+    /// The request begun, which is whole.
+    fn whole(&mut self) -> Option<Incoming>
+        requires { self.old.ended ≡ false }
+        ensures steps { (text : List ℕ) → IsBegun self.old → IsWholeIn self.old.begun self.old.unread text → Steps (spec.ok_of result) self.new text }
+        ensures told { is_told self.new ≡ false }
+        ensures none { result ≡ None → is_told self.old ≡ false }
+        ensures less { Falls result (work_left self.old) (work_left self.new) }
+    {
+        let begun = self.begun.take()?;
+        self.waits = false;
+        self.ended = begun.request.close;
+        Some(Incoming::Request(begun.request))
+    }
+}

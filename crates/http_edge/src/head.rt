@@ -1,0 +1,183 @@
+//! The head that unread bytes begin with.
+
+ghost use Rattle.std.specs.Prelude.{◌≡◌, ◌≤◌, ℕ, List, [], length, IfOk, OnOk, MatchResult, All, map};
+ghost use Rattle.httparse.specs.Grammar.{IsToken, AllPass, is_value_byte};
+ghost use Rattle.httparse.specs.Spans.{IsHeaderWithin, IsWithin, header_bytes, span_bytes};
+ghost use Rattle.http_header.specs.HeaderMap.{append};
+ghost use Rattle.http_header.specs.Token.{lowercase};
+ghost use Rattle.http_header.specs.FieldValue.{plain_value};
+ghost use Rattle.http_edge.specs.Requests.{content, fields_from, request_from, expects_of, AreFields};
+ghost use Rattle.http_edge.specs.Bodies.{SoFar};
+ghost use Rattle.http_edge.specs.Reading.{NeverTakes};
+ghost use Rattle.http_edge.specs.Edges.{IsStart};
+
+use crate::body::Left;
+use crate::framing::{Framing, framing_at, lists};
+use crate::memory::Memory;
+use crate::request::{BadKind, Request, Version};
+use http_header::{HeaderMap, HeaderName, HeaderNameError, HeaderValue, HeaderValueError};
+use httparse::Status;
+use httparse::spans::{EMPTY_HEADER_SPAN, HeaderSpan, RequestSpans, parse_request};
+use std::alloc::Global;
+
+/// A request whose body comes in.
+#[derive(Drop)]
+pub struct Begun {
+    pub request: Request,
+    pub left: Left,
+    /// The head asks for `100 Continue`.
+    pub wants: bool,
+    /// The client was told to go on.
+    pub told: bool,
+}
+
+impl Begun {
+    /// An equal one.
+    pub fn copy(&self) -> Result<Begun, Memory>
+        ensures { IfOk result (λ b. (content b.request ≡ content self.now.request) × (b.left ≡ self.now.left) × (b.wants ≡ self.now.wants) × (b.told ≡ self.now.told)) }
+    {
+        Ok(Begun {
+            request: self.request.copy()?,
+            left: self.left,
+            wants: self.wants,
+            told: self.told,
+        })
+    }
+}
+
+/// What unread bytes begin with.
+#[derive(Drop)]
+pub enum Start {
+    Wait,
+    Bad(BadKind),
+    /// A head of that length.
+    Head(Begun, usize),
+}
+
+/// Reads the head at the front.
+pub fn start_of(alloc: Global, unread: &[u8]) -> Result<Start, Memory>
+    requires { length unread.now ≤ 8192 }
+    ensures { IfOk result (IsStart unread.now) }
+{
+    let mut spans = [EMPTY_HEADER_SPAN; 64];
+    let head = match parse_request(unread, &mut spans) {
+        Ok(Status::Complete(head)) => head,
+        Ok(Status::Partial) => {
+            if unread.len() == 8192 {
+                return Ok(Start::Bad(BadKind::Syntax));
+            }
+            return Ok(Start::Wait);
+        }
+        Err(_) => return Ok(Start::Bad(BadKind::Syntax)),
+    };
+    let spans = &spans[..head.headers];
+    let left = match left_of(framing_at(unread, spans, head.version)) {
+        Ok(left) => left,
+        Err(kind) => return Ok(Start::Bad(kind)),
+    };
+    let wants = expects_at(unread, spans, head.version);
+    let request = request_of(alloc, unread, spans, &head, room_of(left))?;
+    let begun = Begun {
+        request,
+        left,
+        wants,
+        told: false,
+    };
+    Ok(Start::Head(begun, head.len))
+}
+
+/// What of a body so framed is read first.
+fn left_of(framing: Framing) -> Result<Left, BadKind>
+    ensures { (text : List ℕ) → MatchResult result (λ left. SoFar framing left [] text text) (λ kind. NeverTakes framing text kind) }
+{
+    match framing {
+        Framing::Sized(n) => Ok(Left::Bytes(n)),
+        Framing::Chunked => Ok(Left::Line),
+        Framing::Refused(kind) => Err(kind),
+    }
+}
+
+/// How many bytes of a body there will be at least.
+fn room_of(left: Left) -> usize {
+    match left {
+        Left::Bytes(n) => n,
+        _ => 0,
+    }
+}
+
+/// The client waits for `100 Continue` before it sends the body.
+fn expects_at(unread: &[u8], spans: &[HeaderSpan], minor: u8) -> bool
+    requires { All (IsHeaderWithin (length unread.now)) spans.now }
+    ensures { result ≡ expects_of minor (map (header_bytes unread.now) spans.now) }
+{
+    minor == 1 && lists(unread, spans, b"expect", b"100-continue")
+}
+
+/// The request without its body.
+fn request_of(
+    alloc: Global,
+    unread: &[u8],
+    spans: &[HeaderSpan],
+    head: &RequestSpans,
+    room: usize,
+) -> Result<Request, Memory>
+    requires within { All (IsHeaderWithin (length unread.now)) spans.now }
+    requires method { IsWithin (length unread.now) head.now.method }
+    requires path { IsWithin (length unread.now) head.now.path }
+    requires fields { AreFields unread.now spans.now }
+    ensures { IfOk result (λ r. content r ≡ request_from (span_bytes unread.now head.now.method) (span_bytes unread.now head.now.path) head.now.version (map (header_bytes unread.now) spans.now)) }
+{
+    Ok(Request {
+        method: Vec::from_slice(alloc, head.method.of(unread))?,
+        target: Vec::from_slice(alloc, head.path.of(unread))?,
+        version: if head.version == 0 {
+            Version::Http10
+        } else {
+            Version::Http11
+        },
+        fields: fields_of(alloc, unread, spans)?,
+        body: Vec::with_capacity(alloc, room)?,
+        close: head.version == 0 || lists(unread, spans, b"connection", b"close"),
+    })
+}
+
+/// The fields, in order.
+fn fields_of(alloc: Global, unread: &[u8], spans: &[HeaderSpan]) -> Result<HeaderMap, Memory>
+    requires within { All (IsHeaderWithin (length unread.now)) spans.now }
+    requires fields { AreFields unread.now spans.now }
+    ensures { IfOk result (λ m. m ≡ fields_from (map (header_bytes unread.now) spans.now)) }
+{
+    let mut fields = HeaderMap::new(alloc);
+    'each: for span in spans {
+        add_field(
+            alloc,
+            &mut fields,
+            span.name.of(unread),
+            span.value.of(unread),
+        )?;
+    }
+    Ok(fields)
+}
+
+/// Adds a field behind the others.
+fn add_field(alloc: Global, fields: &mut HeaderMap, name: &[u8], value: &[u8]) -> Result<(), Memory>
+    requires name { IsToken name.now }
+    requires len { length name.now ≤ 8192 }
+    requires value { AllPass is_value_byte value.now }
+    ensures { OnOk result (fields.new ≡ append fields.old (lowercase name.now) (plain_value value.now)) }
+{
+    let name = match HeaderName::from_bytes(alloc, name) {
+        Ok(name) => name,
+        Err(HeaderNameError::Invalid) => unreachable!(),
+        Err(HeaderNameError::OutOfMemory) => return Err(Memory),
+    };
+    let value = match HeaderValue::from_bytes(alloc, value) {
+        Ok(value) => value,
+        Err(HeaderValueError::Invalid) => unreachable!(),
+        Err(HeaderValueError::OutOfMemory) => return Err(Memory),
+    };
+    match fields.append(name, value) {
+        Ok(_) => Ok(()),
+        Err(_) => Err(Memory),
+    }
+}

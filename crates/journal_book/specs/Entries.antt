@@ -1,0 +1,64 @@
+-- The entries of a journal: plain data.
+use Rattle.std.specs.Prelude.{ℕ, ◌+◌, ◌-◌, ◌*◌, ◌^◌, min, List, length, sum_by, Option}
+use Rattle.ask_model.specs.declared.cause.Cause.{Cause}
+use Rattle.uri_map.specs.declared.peer.Peer.{Peer}
+use Rattle.http_header.specs.FieldValue.{FieldValue}
+use Rattle.http_header.specs.HeaderMap.{pairs}
+use Rattle.ask_model.specs.Requests.{Came, Whole, Bad, Ask}
+
+-- What an answer rests on. The numbers are those of entries: of the replies just heard, of the replies of
+-- a stored response, or of the entry that a cause names.
+pub data Grounds : Type 0 where
+  Live : (replies : List ℕ) → Grounds
+  Kept : (replies : List ℕ) → Grounds
+  Fault : (cause : Cause) → (number : ℕ) → Grounds
+
+-- What an entry says was done. A connection and an ask go by the number of their entry. A first sending
+-- bears its first timeout in milliseconds.
+pub data Deed : Type 0 where
+  Opens : (conn : ℕ) → Deed
+  Asks : (conn : ℕ) → (ask : Ask) → Deed
+  Sends : (peer : Peer) → (bytes : List ℕ) → (timeout : Option ℕ) → Deed
+  Hears : (peer : Peer) → (bytes : List ℕ) → Deed
+  Passes : Deed
+  Answers : (conn : ℕ) → (ask : ℕ) → (grounds : Grounds) → Deed
+  Shuts : (conn : ℕ) → Deed
+  Seals : Deed
+
+-- an entry, with its moment in milliseconds
+pub record Written : Type 0 where
+  pub moment : ℕ
+  pub deed : Deed
+
+-- what a journal is: its entries, oldest first, and how many more it takes without memory
+pub record JournalValue : Type 0 where
+  pub entries : List Written
+  pub room : ℕ
+
+-- the bytes of a field line: its name and its value
+abbrev pub field_size : List ℕ × FieldValue → ℕ
+field_size f = length f.0 + length f.1.bytes
+
+abbrev pub came_size : Came → ℕ
+came_size (Whole r) = length r.method + length r.target + sum_by field_size (pairs r.fields) + length r.body
+came_size (Bad kind) = 0
+
+abbrev pub grounds_size : Grounds → ℕ
+grounds_size (Live js) = 4 * length js
+grounds_size (Kept js) = 4 * length js
+grounds_size (Fault cause n) = 4
+
+abbrev pub deed_size : Deed → ℕ
+deed_size (Asks c a) = came_size a.came
+deed_size (Sends p b t) = length b
+deed_size (Hears p b) = length b
+deed_size (Answers c k g) = grounds_size g
+deed_size _ = 0
+
+-- what an entry counts: 64 bytes, its byte strings, and 4 bytes for each number of its grounds
+abbrev pub entry_size : Written → ℕ
+entry_size e = 64 + deed_size e.deed
+
+-- the largest number that 64 bits count to, in place of any larger one
+abbrev pub capped : ℕ → ℕ
+capped n = min n (2 ^ 64 - 1)

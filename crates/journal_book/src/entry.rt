@@ -1,0 +1,119 @@
+//! The entries of a journal.
+
+ghost use Rattle.std.specs.Prelude.{◌≡◌, IfOk};
+ghost use Rattle.journal_book.specs.Views.{event_of, grounds_of, item_of};
+
+use crate::numbers::Numbers;
+use ask_model::{Bytes, Cause, Mapped};
+use std::alloc::{AllocError, AllocFailed};
+use std::sync::Arc;
+use transformers::Relation;
+use uri_map::Peer;
+
+/// What an answer rests on.
+#[derive(Debug, Drop)]
+pub enum Grounds {
+    /// replies that were just heard, by the numbers of their entries
+    Live(Numbers),
+    /// the replies of a stored response
+    Kept(Numbers),
+    /// why the proxy answers by itself, and the entry that this names
+    Fault(Cause, u32),
+}
+
+impl Grounds {
+    /// Equal grounds.
+    pub fn copy(&self) -> Result<Grounds, AllocError>
+        ensures { IfOk result (λ g. grounds_of g ≡ grounds_of self.now) }
+    {
+        match self {
+            Grounds::Live(numbers) => Ok(Grounds::Live(numbers.copy()?)),
+            Grounds::Kept(numbers) => Ok(Grounds::Kept(numbers.copy()?)),
+            Grounds::Fault(cause, number) => Ok(Grounds::Fault(*cause, *number)),
+        }
+    }
+}
+
+/// What happened. A connection and an ask go by the numbers of their entries.
+#[derive(Drop)]
+pub enum Event<R: Relation> {
+    /// a connection was opened
+    Opened(u32),
+    /// a request came in on a connection
+    Asked(u32, Arc<Mapped<R>>),
+    /// a datagram was sent; a first sending bears its first timeout in milliseconds
+    Sent {
+        peer: Peer,
+        bytes: Bytes,
+        timeout: Option<u32>,
+    },
+    /// a datagram came in
+    Heard {
+        peer: Peer,
+        bytes: Bytes,
+    },
+    /// time passed, and something was due
+    Passed,
+    /// an ask of a connection was answered
+    Answered {
+        conn: u32,
+        ask: u32,
+        grounds: Grounds,
+    },
+    /// a connection was closed
+    Shut(u32),
+    /// the journal takes nothing more but answers and closings
+    Sealed,
+}
+
+impl<R: Relation> Event<R> {
+    /// An equal event; requests are shared.
+    pub fn copy(&self) -> Result<Event<R>, AllocError>
+        ensures { IfOk result (λ e. event_of e ≡ event_of self.now) }
+    {
+        match self {
+            Event::Opened(conn) => Ok(Event::Opened(*conn)),
+            Event::Asked(conn, mapped) => Ok(Event::Asked(*conn, Arc::try_clone(mapped)?)),
+            Event::Sent {
+                peer,
+                bytes,
+                timeout,
+            } => Ok(Event::Sent {
+                peer: *peer,
+                bytes: bytes.copy()?,
+                timeout: *timeout,
+            }),
+            Event::Heard { peer, bytes } => Ok(Event::Heard {
+                peer: *peer,
+                bytes: bytes.copy()?,
+            }),
+            Event::Passed => Ok(Event::Passed),
+            Event::Answered { conn, ask, grounds } => Ok(Event::Answered {
+                conn: *conn,
+                ask: *ask,
+                grounds: grounds.copy()?,
+            }),
+            Event::Shut(conn) => Ok(Event::Shut(*conn)),
+            Event::Sealed => Ok(Event::Sealed),
+        }
+    }
+}
+
+/// An entry: what happened, and at which moment in milliseconds.
+#[derive(Drop)]
+pub struct Entry<R: Relation> {
+    pub moment: u64,
+    pub event: Event<R>,
+}
+
+impl<R: Relation> Entry<R> {
+    /// An equal entry.
+    pub fn copy(&self) -> Result<Entry<R>, AllocError>
+        ensures { IfOk result (λ e. item_of e ≡ item_of self.now) }
+    {
+        Ok(Entry {
+            moment: self.moment,
+            event: self.event.copy()?,
+        })
+    }
+}

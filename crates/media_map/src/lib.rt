@@ -1,0 +1,34 @@
+//! Media types and CoAP content formats: what a Content-Type, an Accept and a Content-Format mean to each
+//! other (RFC 9110 sections 8.3 and 12.5.1, RFC 8075 section 6).
+//!
+//! One contract: each answer is read off a table of formats, off the pieces of the field's text, and off the
+//! routes along which bodies can be transformed; an Accept gives the first of the greatest weight that can be
+//! had. The mapping of requests and the rendering of answers stand on it, and so do the closures that
+//! transform bodies, whose pairs of forms are its routes.
+#![tactic(auto)]
+
+mod accept;
+mod fault;
+mod form;
+mod formats;
+mod laws;
+mod media_type;
+mod pick;
+mod policy;
+mod routes;
+mod text;
+mod wanted;
+mod weight;
+
+pub use accept::accept_of;
+pub use fault::MediaFault;
+pub use form::{Form, Media};
+pub use formats::{format_of, media_of};
+pub use laws::{best_is_wanted, format_returns, pieces_join, table_returns};
+pub use pick::route_of;
+pub use policy::Policy;
+pub use routes::Routes;
+pub use wanted::Wanted;
+
+#[cfg(test)]
+mod tests;

@@ -1,0 +1,9 @@
+pub mod Sound
+pub mod Entries
+pub mod Lists
+pub mod Sendings
+pub mod Effects
+pub mod RunLaws
+pub mod Apart
+pub mod AnswerLaws
+pub mod HandsUp

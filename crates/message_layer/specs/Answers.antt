@@ -1,0 +1,129 @@
+-- What a link answers and tells in a whole run (RFC 7252, sections 4.2, 4.3 and 4.5).
+use Rattle.std.specs.Prelude.{◌≡◌, ◌≢◌, ℕ, ◌+◌, ◌<◌, ◌≤◌, List, [], ◌∷◌, ◌++◌, length, filter, count_by, Option, Some, None, Result, Ok, Err, Bool, true, false, not, ◌⊎◌, if◌then◌else◌}
+use Rattle.std.specs.List.{find}
+use Rattle.coap_codec.specs.Spelling.{Content}
+use Rattle.coap_codec.specs.Reading.{message_at}
+use Rattle.coap_codec.specs.declared.fault.CodecFault.{CodecFault}
+use Rattle.coap_codec.specs.declared.message.MsgType.{MsgType}
+use Rattle.coap_codec.specs.declared.message.MsgType.TheVariants.{Con, Non, Ack, Rst}
+use Rattle.message_layer.specs.Values.{LinkState, Told, no_news, response, was_reset, was_dropped, is_con}
+use Rattle.message_layer.specs.Options.{is_rejected}
+use Rattle.message_layer.specs.Hearing.{is_fresh, is_repeat, replies, reset_for}
+use Rattle.message_layer.specs.Runs.{Call, submit, hear, tick, forget, expect, take_send, refuse, Step, IsRun, transmissions}
+use Rattle.message_layer.specs.declared.state.Heard.{Heard}
+use Rattle.message_layer.specs.declared.state.Reply.{Reply}
+use Rattle.message_layer.specs.declared.state.Reply.TheVariants as reply
+
+-- the datagrams that are no CON: the ACKs and RSTs
+abbrev pub answers : List (List ℕ) → List (List ℕ)
+answers sent = filter (λ d. not (is_con d)) sent
+
+abbrev pub reset : Option ℕ → List (List ℕ)
+reset None = []
+reset (Some mid) = replies mid reply.Rst
+
+-- What a CON or NON is answered the first time: a response that is told is acknowledged, or rejected; an empty NON has no
+-- answer; all else is reset.
+abbrev pub accepts : Bool → Reply
+accepts confirms = if confirms then reply.Ack else reply.Nothing
+
+pub record IsTold (confirms : Bool) (m : Content) (told : Told) (r : Reply) : Type 0 where
+  pub code : 31 < m.code
+  pub says : told ≡ response m
+  pub reply : r ≡ (if is_rejected m then reply.Rst else accepts confirms)
+
+pub record IsUnmatched (m : Content) (told : Told) (r : Reply) : Type 0 where
+  pub code : 0 < m.code
+  pub says : told ≡ no_news
+  pub reply : r ≡ reply.Rst
+
+pub record IsEmpty (confirms : Bool) (m : Content) (told : Told) (r : Reply) : Type 0 where
+  pub code : m.code ≡ 0
+  pub says : told ≡ no_news
+  pub reply : r ≡ (if confirms then reply.Rst else reply.Nothing)
+
+-- a CON or NON that was not heard before is remembered with its answer
+pub record IsTaken (t : ℕ) (confirms : Bool) (m : Content) (told : Told) (sent : List (List ℕ)) (before after : List Heard) : Type 0 where
+  pub reply : Reply
+  pub fits : IsTold confirms m told reply ⊎ (IsUnmatched m told reply ⊎ IsEmpty confirms m told reply)
+  pub answer : answers sent ≡ replies m.mid reply
+  pub memory : after ≡ before ++ record { mid = m.mid; moment = t; reply = reply } ∷ []
+
+-- one more than 1,024 counts as lost
+pub record IsLost (t : ℕ) (told : Told) (sent : List (List ℕ)) (before after : List Heard) : Type 0 where
+  pub full : 1024 ≤ count_by (is_fresh t) before
+  pub says : told ≡ was_dropped
+  pub answer : answers sent ≡ []
+  pub memory : after ≡ before
+
+-- a repeat is not processed, and a CON gets the answer of the first one
+pub record IsRepeated (confirms : Bool) (m : Content) (h : Heard) (told : Told) (sent : List (List ℕ)) (before after : List Heard) : Type 0 where
+  pub says : told ≡ no_news
+  pub answer : answers sent ≡ replies m.mid (if confirms then h.reply else reply.Nothing)
+  pub memory : after ≡ before
+
+abbrev pub IsOwn : ℕ → Bool → Content → Option Heard → Told → List (List ℕ) → List Heard → List Heard → Type 0
+IsOwn t confirms m (Some h) told sent before after = IsRepeated confirms m h told sent before after
+IsOwn t confirms m None told sent before after = IsTaken t confirms m told sent before after ⊎ IsLost t told sent before after
+
+-- what is no CON or NON gets this answer, and is not remembered
+pub record IsNotRemembered (reply : List (List ℕ)) (sent : List (List ℕ)) (before after : List Heard) : Type 0 where
+  pub answer : answers sent ≡ reply
+  pub memory : after ≡ before
+
+abbrev pub ToldByAck : Content → Told → Type 0
+ToldByAck m told = (told ≡ no_news) ⊎ ((told ≡ response m) × (31 < m.code))
+
+abbrev pub ToldByRst : Content → Told → Type 0
+ToldByRst m told = (told ≡ no_news) ⊎ ((token : List ℕ) × (told ≡ was_reset token) × (m.code ≡ 0))
+
+abbrev pub IsMessage : ℕ → MsgType → Content → Told → List (List ℕ) → List Heard → List Heard → Type 0
+IsMessage t Con m told sent before after = IsOwn t true m (find (is_repeat t m.mid) before) told sent before after
+IsMessage t Non m told sent before after = IsOwn t false m (find (is_repeat t m.mid) before) told sent before after
+IsMessage t Ack m told sent before after = ToldByAck m told × IsNotRemembered [] sent before after
+IsMessage t Rst m told sent before after = ToldByRst m told × IsNotRemembered [] sent before after
+
+abbrev pub IsRead : ℕ → List ℕ → Result Content CodecFault → Told → List (List ℕ) → List Heard → List Heard → Type 0
+IsRead t d (Ok m) told sent before after = IsMessage t m.kind m told sent before after
+IsRead t d (Err e) told sent before after = (told ≡ no_news) × IsNotRemembered (reset (reset_for d)) sent before after
+
+-- a datagram that is too long, or that comes before anything was sent
+pub record IsIgnored (d : List ℕ) (older : List Step) (told : Told) (sent : List (List ℕ)) (before after : List Heard) : Type 0 where
+  pub why : (2048 < length d) ⊎ (transmissions older ≡ [])
+  pub says : told ≡ was_dropped
+  pub answer : answers sent ≡ []
+  pub memory : after ≡ before
+
+abbrev pub IsAnswered : Step → List Step → Call → List Heard → List Heard → Type 0
+IsAnswered x older (hear d told) before after = IsIgnored d older told x.sent before after ⊎ IsRead x.moment d (message_at d) told x.sent before after
+IsAnswered x older (submit m word) before after = IsNotRemembered [] x.sent before after
+IsAnswered x older (tick told) before after = IsNotRemembered [] x.sent before after
+IsAnswered x older (forget token) before after = IsNotRemembered [] x.sent before after
+IsAnswered x older (expect token on) before after = IsNotRemembered [] x.sent before after
+IsAnswered x older (take_send d) before after = IsNotRemembered [] x.sent before after
+IsAnswered x older refuse before after = IsNotRemembered [] x.sent before after
+
+-- The CONs and NONs that a run took, the oldest first, each with its answer: each datagram is answered by what was taken
+-- before it, and by nothing else.
+abbrev pub HasTaken : List Step → List Heard → Type 0
+HasTaken [] taken = taken ≡ []
+HasTaken (x ∷ older) taken = (before : List Heard) × HasTaken older before × IsAnswered x older x.call before taken
+
+pub record Answers (run : List Step) : Type 0 where
+  pub taken : List Heard
+  pub all : HasTaken run taken
+
+abbrev pub RunAnswers : Type 0
+RunAnswers = (run : List Step) (s : LinkState) → IsRun run s → Answers run
+
+-- the step hears this CON or NON, and tells this
+pub record HearsOwn (x : Step) (m : Content) (told : Told) : Type 0 where
+  pub datagram : List ℕ
+  pub call : x.call ≡ hear datagram told
+  pub read : message_at datagram ≡ Ok m
+  pub own : (m.kind ≡ Con) ⊎ (m.kind ≡ Non)
+
+-- Once a response in a CON or NON was handed up, none with its message ID is for 247 s.
+abbrev pub HandsUpOnce : Type 0
+HandsUpOnce = (later : Step) (between : List Step) (first : Step) (older : List Step) (s : LinkState) → IsRun (later ∷ between ++ first ∷ older) s
+    → (m n : Content) → HearsOwn first m (response m) → HearsOwn later n (response n) → n.mid ≡ m.mid → first.moment + 247000 ≤ later.moment

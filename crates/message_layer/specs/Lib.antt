@@ -1,0 +1,9 @@
+pub mod Values
+pub mod Sending
+pub mod Options
+pub mod Hearing
+pub mod Calls
+pub mod Runs
+pub mod Transmissions
+pub mod Answers
+pub mod Laws

@@ -1,0 +1,51 @@
+//! What holds of every link: laws over runs, which are lists of calls with their answers, and
+//! over one call of a link in any state.
+
+ghost use Rattle.message_layer.specs.Transmissions.{RunTransmits, MidsApart, RunKeepsTurn};
+ghost use Rattle.message_layer.specs.Answers.{RunAnswers, HandsUpOnce};
+ghost use Rattle.message_layer.specs.Laws.{TickSends, HeardSends, SentSpells};
+
+/// Over any run, the CONs that go out are the sendings of messages one after another: each at
+/// most five times, equal byte for byte, each copy at the first tick at or after the moment when
+/// the timeout, which doubles, is over.
+pub fn run_transmits()
+    ensures { RunTransmits }
+{}
+
+/// Two messages of a run with the same ID lie at least 494,000 ms apart.
+pub fn mids_apart()
+    ensures { MidsApart }
+{}
+
+/// Behind any run nothing waits where nothing is outstanding.
+pub fn run_keeps_turn()
+    ensures { RunKeepsTurn }
+{}
+
+/// Over any run, each datagram gets an ACK, an RST or nothing by what was taken before: a repeat
+/// gets the answer of the first one and is not told again.
+pub fn run_answers()
+    ensures { RunAnswers }
+{}
+
+/// Over any run, no response in a CON or NON is told within 247,000 ms of another one with the
+/// same ID.
+pub fn hands_up_once()
+    ensures { HandsUpOnce }
+{}
+
+/// A tick does nothing before the timeout is over, then sends an equal copy, and behind four of
+/// them gives up.
+pub fn tick_sends()
+    ensures { TickSends }
+{}
+
+/// A datagram lets no copy go.
+pub fn heard_sends()
+    ensures { HeardSends }
+{}
+
+/// What is sent spells the message that was handed in, under the ID that it is given.
+pub fn sent_spells()
+    ensures { SentSpells }
+{}

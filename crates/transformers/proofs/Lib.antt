@@ -1,0 +1,11 @@
+pub mod First
+pub mod Passed
+pub mod Items
+pub mod Members
+pub mod Texts
+pub mod Within
+pub mod Writing
+pub mod Heads
+pub mod Back
+pub mod Shorter
+pub mod Outputs

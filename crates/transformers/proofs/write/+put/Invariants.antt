@@ -1,0 +1,12 @@
+use Rattle.std.proofs.Common.{◌≡◌, List, ◌++◌, take, map}
+use Rattle.serde_json.specs.View.{view, items_of, members_view}
+use Rattle.serde_json.proofs.Views.{Entry}
+use Rattle.transformers.specs.Shortest.{items_bytes, members_bytes}
+use Rattle.transformers.proofs.write.+put.Given as goal
+
+abbrev pub invariant-put_items-each : goal.invariant-put_items-each
+invariant-put_items-each l = l.out.items ≡ l.initial.out.items ++ items_bytes (items_of (map view (take l.item-index l.item-items)))
+
+abbrev pub invariant-put_members-each : goal.invariant-put_members-each
+invariant-put_members-each l =
+    (done : List Entry) × (l.members.entries ≡ done ++ l.key-iterator) × (l.out.items ≡ l.initial.out.items ++ members_bytes (members_view done))

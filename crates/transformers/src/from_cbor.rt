@@ -1,0 +1,18 @@
+ghost use Rattle.transformers.specs.Keeps.{Fits};
+ghost use Rattle.transformers.specs.Kinds.{CborToJson, TakesCbor};
+
+use crate::item::value_of;
+use crate::refused::Refused;
+use std::alloc::Global;
+
+/// JSON (RFC 8259) of the same value as a CBOR item (RFC 8949), compact, with keys in order of their bytes.
+///
+/// The input is one item with nothing behind it: whole numbers of `-2^63` to `2^64 - 1`, text, arrays, maps with
+/// text keys that differ, false, true and null, with at most 32 arrays and maps within each other. Heads may be of
+/// any length. All else is refused.
+pub fn cbor_json(alloc: Global, input: &[u8]) -> Result<Vec<u8>, Refused>
+    ensures fits { Fits (CborToJson input.now) (TakesCbor input.now) result }
+{
+    let value = value_of(alloc, input)?;
+    Ok(value.to_string(alloc)?.into_bytes())
+}

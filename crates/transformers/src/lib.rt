@@ -1,0 +1,32 @@
+//! Transformers: closures that turn bytes of one form into bytes of another, each stored beside the relation
+//! that its answers keep, and three of them as plain functions (CBOR to JSON, JSON to CBOR, bytes to hexadecimal).
+//!
+//! The one contract: a `Bank` answers bytes only where the relation holds of input and output, and refuses content
+//! only where the relation doesn't take the input. Who maps a request or renders an answer stands on it.
+#![tactic(auto)]
+
+mod apply_fault;
+mod bank;
+mod from_cbor;
+mod from_json;
+mod head;
+mod item;
+mod laws;
+mod octets;
+mod profile;
+mod refused;
+mod relation;
+mod stored;
+#[cfg(test)]
+mod tests;
+mod write;
+
+pub use apply_fault::ApplyFault;
+pub use bank::{Bank, store};
+pub use from_cbor::cbor_json;
+pub use from_json::json_cbor;
+pub use laws::{none_shorter, one_output, through_json};
+pub use octets::octets_hex;
+pub use refused::Refused;
+pub use relation::Relation;
+pub use stored::{Call, Stored};

@@ -1,0 +1,250 @@
+// Examples of RFC 8949 Appendix A, and inputs at the limits.
+use crate::{Refused, cbor_json, json_cbor, octets_hex};
+use std::alloc::Global;
+use std::test::Fail;
+
+// A CBOR item in hexadecimal, and the JSON of its value. The items have the shortest heads.
+const INSIDE: [(&str, &str); 37] = [
+    ("00", "0"),
+    ("01", "1"),
+    ("0a", "10"),
+    ("17", "23"),
+    ("1818", "24"),
+    ("1819", "25"),
+    ("1864", "100"),
+    ("1903e8", "1000"),
+    ("1a000f4240", "1000000"),
+    ("1b000000e8d4a51000", "1000000000000"),
+    ("1bffffffffffffffff", "18446744073709551615"),
+    ("20", "-1"),
+    ("29", "-10"),
+    ("3863", "-100"),
+    ("3903e7", "-1000"),
+    ("3b7fffffffffffffff", "-9223372036854775808"),
+    ("f4", "false"),
+    ("f5", "true"),
+    ("f6", "null"),
+    ("60", "\"\""),
+    ("6161", "\"a\""),
+    ("6449455446", "\"IETF\""),
+    ("62225c", "\"\\\"\\\\\""),
+    ("62c3bc", "\"\u{fc}\""),
+    ("63e6b0b4", "\"\u{6c34}\""),
+    ("64f0908591", "\"\u{10151}\""),
+    ("80", "[]"),
+    ("83010203", "[1,2,3]"),
+    ("8301820203820405", "[1,[2,3],[4,5]]"),
+    (
+        "98190102030405060708090a0b0c0d0e0f101112131415161718181819",
+        "[1,2,3,4,5,6,7,8,9,10,11,12,13,14,15,16,17,18,19,20,21,22,23,24,25]",
+    ),
+    ("a0", "{}"),
+    ("a16161f4", "{\"a\":false}"),
+    ("a1616101", "{\"a\":1}"),
+    ("a26161016162820203", "{\"a\":1,\"b\":[2,3]}"),
+    ("826161a161626163", "[\"a\",{\"b\":\"c\"}]"),
+    (
+        "a56161614161626142616361436164614461656145",
+        "{\"a\":\"A\",\"b\":\"B\",\"c\":\"C\",\"d\":\"D\",\"e\":\"E\"}",
+    ),
+    ("82f6a0", "[null,{}]"),
+];
+
+// Items that aren't taken: other kinds, keys that aren't text, items of unknown length, and items that aren't well formed.
+const OUTSIDE: [&str; 62] = [
+    "c249010000000000000000",
+    "3bffffffffffffffff",
+    "3b8000000000000000",
+    "c349010000000000000000",
+    "f90000",
+    "f98000",
+    "f93c00",
+    "fb3ff199999999999a",
+    "f93e00",
+    "f97bff",
+    "fa47c35000",
+    "fa7f7fffff",
+    "fb7e37e43c8800759c",
+    "f90001",
+    "f90400",
+    "f9c400",
+    "fbc010666666666666",
+    "f97c00",
+    "f97e00",
+    "f9fc00",
+    "fa7f800000",
+    "fb7ff0000000000000",
+    "f7",
+    "f0",
+    "f8ff",
+    "f814",
+    "c074323031332d30332d32315432303a30343a30305a",
+    "c11a514b67b0",
+    "c1fb41d452d9e8200000",
+    "d74401020304",
+    "d818456449455446",
+    "d82076687474703a2f2f7777772e6578616d706c652e636f6d",
+    "40",
+    "4401020304",
+    "a201020304",
+    "5f42010243030405ff",
+    "7f657374726561646d696e67ff",
+    "9fff",
+    "9f018202039f0405ffff",
+    "9f01820203820405ff",
+    "83018202039f0405ff",
+    "83019f0203ff820405",
+    "9f0102030405060708090a0b0c0d0e0f101112131415161718181819ff",
+    "bf61610161629f0203ffff",
+    "826161bf61626163ff",
+    "bf6346756ef563416d7421ff",
+    "",
+    "18",
+    "19ff",
+    "1a000000",
+    "1b00000000000000",
+    "1c",
+    "1f",
+    "61",
+    "62c3",
+    "61ff",
+    "81",
+    "a1",
+    "a16161",
+    "0000",
+    "a2616101616102",
+    "9bffffffffffffffff00",
+];
+
+// Items with heads that are longer than they have to be, or with keys out of order.
+const LONG: [(&str, &str); 6] = [
+    ("1817", "17"),
+    ("1900ff", "18ff"),
+    ("1b0000000000000001", "01"),
+    ("79000161", "6161"),
+    ("9a0000000101", "8101"),
+    ("a2616202616101", "a2616101616202"),
+];
+
+// JSON that isn't taken.
+const REFUSED: [&str; 16] = [
+    "",
+    "1.5",
+    "{\"a\":1.5}",
+    "-0",
+    "1e2",
+    "18446744073709551616",
+    "-9223372036854775809",
+    "[1,[2.5]]",
+    "{\"a\":{\"b\":0.1}}",
+    "nul",
+    "1 2",
+    "[1",
+    "{\"a\"}",
+    "\"\\ud800\"",
+    "[1,]",
+    "'a'",
+];
+
+fn json_of(alloc: Global, item: &str) -> Result<String, Fail> {
+    let bytes = hex::decode(alloc, item)?;
+    Ok(String::from_utf8(cbor_json(alloc, &bytes)?)?)
+}
+
+fn item_of(alloc: Global, json: &str) -> Result<String, Fail> {
+    let item = json_cbor(alloc, json.as_bytes())?;
+    Ok(hex::encode(alloc, item.as_slice())?)
+}
+
+#[test]
+fn items_inside(rt: HostRuntime) -> Result<(), Fail> {
+    for (item, json) in INSIDE.iter() {
+        assert_eq!(rt; json_of(rt.alloc(), item)?.as_str(), *json);
+        assert_eq!(rt; item_of(rt.alloc(), json)?.as_str(), *item);
+    }
+    Ok(())
+}
+
+#[test]
+fn items_outside(rt: HostRuntime) -> Result<(), Fail> {
+    for item in OUTSIDE.iter() {
+        let bytes = hex::decode(rt.alloc(), *item)?;
+        assert_eq!(rt;
+            cbor_json(rt.alloc(), &bytes).err(),
+            Some(Refused::Content),
+            "{item}"
+        );
+    }
+    Ok(())
+}
+
+#[test]
+fn long_heads(rt: HostRuntime) -> Result<(), Fail> {
+    for (long, short) in LONG.iter() {
+        let json = json_of(rt.alloc(), long)?;
+        assert_eq!(rt; item_of(rt.alloc(), json.as_str())?.as_str(), *short);
+    }
+    Ok(())
+}
+
+#[test]
+fn json_refused(rt: HostRuntime) -> Result<(), Fail> {
+    for json in REFUSED.iter() {
+        assert_eq!(rt;
+            json_cbor(rt.alloc(), json.as_bytes()).err(),
+            Some(Refused::Content),
+            "{json}"
+        );
+    }
+    assert_eq!(rt;
+        json_cbor(rt.alloc(), &[0x22, 0xff, 0x22]).err(),
+        Some(Refused::Content)
+    );
+    Ok(())
+}
+
+#[test]
+fn equal_keys(rt: HostRuntime) -> Result<(), Fail> {
+    assert_eq!(rt;
+        item_of(rt.alloc(), "{\"a\":1,\"b\":2,\"a\":3}")?.as_str(),
+        "a2616103616202"
+    );
+    Ok(())
+}
+
+// So many arrays within each other, in both forms.
+fn nested(alloc: Global, levels: u8) -> Result<(Vec<u8>, Vec<u8>), Fail> {
+    let mut item = Vec::new(alloc);
+    let mut json = Vec::new(alloc);
+    for _ in 1..levels {
+        item.push(0x81)?;
+        json.push(b'[')?;
+    }
+    item.push(0x80)?;
+    json.extend_from_slice(b"[]")?;
+    for _ in 1..levels {
+        json.push(b']')?;
+    }
+    Ok((item, json))
+}
+
+#[test]
+fn nesting(rt: HostRuntime) -> Result<(), Fail> {
+    let (item, json) = nested(rt.alloc(), 32)?;
+    assert_eq!(rt; cbor_json(rt.alloc(), &item)?.as_slice(), json.as_slice());
+    assert_eq!(rt; json_cbor(rt.alloc(), &json)?.as_slice(), item.as_slice());
+    let (item, json) = nested(rt.alloc(), 33)?;
+    assert_eq!(rt; cbor_json(rt.alloc(), &item).err(), Some(Refused::Content));
+    assert_eq!(rt; json_cbor(rt.alloc(), &json).err(), Some(Refused::Content));
+    Ok(())
+}
+
+#[test]
+fn hexadecimal(rt: HostRuntime) -> Result<(), Fail> {
+    assert_eq!(rt;
+        octets_hex(rt.alloc(), &[0x00, 0xff, 0x1a])?.as_slice(),
+        b"00ff1a".as_slice()
+    );
+    assert_eq!(rt; octets_hex(rt.alloc(), &[])?.len(), 0);
+    Ok(())
+}

@@ -1,0 +1,10 @@
+pub mod Addresses
+pub mod Characters
+pub mod Digits
+pub mod Pieces
+pub mod TextLists
+pub mod Lowering
+pub mod RoomLeft
+pub mod TargetSteps
+pub mod Faults
+pub mod OptionBytes

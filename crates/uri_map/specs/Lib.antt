@@ -1,0 +1,11 @@
+pub mod Marks
+pub mod Steps
+pub mod Splitting
+pub mod Escapes
+pub mod Scanning
+pub mod Authority
+pub mod Limits
+pub mod Rooms
+pub mod Naming
+pub mod Hosting
+pub mod Peers

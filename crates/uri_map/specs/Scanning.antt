@@ -1,0 +1,63 @@
+-- What the functions say that only look at a text.
+use Rattle.std.specs.Prelude.{◌≡◌, ◌<◌, ℕ, suc, Bool, true, false, List, length, Option, Some, None, Result, Ok, Err}
+use Rattle.std.specs.Borrow.{Bor}
+use Rattle.uri_map.specs.declared.fault.UriFault.{UriFault}
+use Rattle.uri_map.specs.declared.fault.UriFault.TheVariants.{Escape}
+use Rattle.uri_map.specs.declared.authority.Named.{Named}
+use Rattle.uri_map.specs.declared.target.Host.{Host}
+use Rattle.uri_map.specs.declared.target.Target.{Target}
+use Rattle.uri_map.specs.declared.reading.Written.{Written}
+use Rattle.uri_map.specs.declared.escapes.Part.TheVariants.{Path, Query}
+use Rattle.uri_map.specs.Steps.{option_view}
+use Rattle.uri_map.specs.Escapes.{well_escaped, part_at}
+use Rattle.uri_map.specs.Authority.{is_name}
+
+-- one more than the bytes that are left, where any text is
+abbrev pub left_len : Option (List ℕ) → ℕ
+left_len None = 0
+left_len (Some text) = suc (length text)
+
+abbrev pub view_next : Result (Option (Bor (List ℕ))) UriFault → Result (Option (List ℕ)) UriFault
+view_next (Ok None) = Ok None
+view_next (Ok (Some text)) = Ok (Some text.now)
+view_next (Err e) = Err e
+
+-- A good byte or escape stands in front of a shorter text, or nothing does, or the text is badly escaped.
+abbrev pub Escapes : Result (Option (List ℕ)) UriFault → List ℕ → Type 0
+Escapes (Ok None) text = well_escaped text ≡ true
+Escapes (Ok (Some rest)) text = (well_escaped text ≡ well_escaped rest) × (length rest < length text)
+Escapes (Err e) text = (e ≡ Escape) × (well_escaped text ≡ false)
+
+-- The result is Ok where the test is true, and else the fault.
+abbrev pub Tells : UriFault → Result (Unit {0}) UriFault → Bool → Type 0
+Tells fault (Ok x) test = test ≡ true
+Tells fault (Err e) test = (e ≡ fault) × (test ≡ false)
+
+-- The result is Ok where reading gives a value, and else its fault.
+abbrev pub Checks : {X : Type 0} → Result (Unit {0}) UriFault → Result X UriFault → Type 0
+Checks {X} (Ok x) read = (y : X) × (read ≡ Ok y)
+Checks (Err e) read = read ≡ Err e
+
+-- the host that stands for a host before memory is taken
+abbrev pub host_view : Named → Host
+host_view (Named.Name name) = Host.Name name
+host_view (Named.V4 address) = Host.V4 address
+host_view (Named.V6 address) = Host.V6 address
+
+-- The result is the name where it is one.
+abbrev pub NameFound : Option (List ℕ) → List ℕ → Type 0
+NameFound None name = is_name name ≡ false
+NameFound (Some found) name = (found ≡ name) × (is_name name ≡ true)
+
+-- The parts that are written stand for the target that reading gives.
+abbrev pub Stands : Written → Result Target UriFault → Type 0
+Stands w read =
+    (path : List (List ℕ)) × (query : List (List ℕ))
+    × (part_at Path (option_view w.path) ≡ Ok path) × (part_at Query (option_view w.query) ≡ Ok query)
+    × (read ≡ Ok (record { host = host_view w.host; port = w.port; path = path; query = query }))
+
+-- The target has the values of the parts that are written.
+abbrev pub IsBuilt : Written → Target → Type 0
+IsBuilt w t =
+    (t.host ≡ host_view w.host) × (t.port ≡ w.port)
+    × (part_at Path (option_view w.path) ≡ Ok t.path) × (part_at Query (option_view w.query) ≡ Ok t.query)
