@@ -1,1 +1,7 @@
+pub mod Codes
 pub mod Endpoints
+pub mod Inserted
+pub mod OptionOrder
+pub mod OptionLengths
+pub mod Payloads
+pub mod Sendable

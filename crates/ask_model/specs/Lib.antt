@@ -1,3 +1,5 @@
 pub mod Requests
+pub mod Sizes
 pub mod Views
 pub mod Maps
+pub mod Datagrams

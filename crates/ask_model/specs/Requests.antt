@@ -55,12 +55,16 @@ abbrev pub optional : ℕ → Option ℕ → List Entry
 optional number None = []
 optional number (Some n) = option_with number (uint_bytes n) ∷ []
 
--- Its options in the order of their numbers (RFC 7252 section 5.10): Uri-Host, each Uri-Path,
--- Content-Format, each Uri-Query, and Accept.
+-- The options of a request for the target, with these formats of the body and of what is wanted, in the
+-- order of their numbers (RFC 7252 section 5.10): Uri-Host, each Uri-Path, Content-Format, each
+-- Uri-Query, and Accept.
+abbrev pub options_asking : Target → Option ℕ → Option ℕ → List Entry
+options_asking t format accept =
+    host_options t.host
+    ++ (options_with 11 t.path ++ (optional 12 format ++ (options_with 15 t.query ++ optional 17 accept)))
+
 abbrev pub request_options : CoapRequest → List Entry
-request_options q =
-    host_options q.target.host
-    ++ (options_with 11 q.target.path ++ (optional 12 q.format ++ (options_with 15 q.target.query ++ optional 17 q.accept)))
+request_options q = options_asking q.target q.format q.accept
 
 -- The message that asks it in one piece: confirmable, with this message ID and token.
 abbrev pub request_message : CoapRequest → ℕ → List ℕ → Content

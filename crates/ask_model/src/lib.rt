@@ -10,14 +10,18 @@ mod cause;
 mod mapped;
 mod meaning;
 mod peers;
+mod request;
 mod settings;
+mod size;
 
 pub use bytes::Bytes;
 pub use cause::Cause;
 pub use mapped::Mapped;
 pub use meaning::{Meaning, Payload};
 pub use peers::is_same_peer;
+pub use request::MAX_REQUEST_LEN;
 pub use settings::Settings;
+pub use size::{REQUEST_LIMIT, incoming_size};
 
 #[cfg(test)]
 mod tests;

@@ -1,19 +1,26 @@
 //! A request with its meaning.
 
-ghost use Rattle.std.specs.Prelude.{◌≡◌};
+ghost use Rattle.std.specs.Prelude.{◌≡◌, ◌≤◌, length, IfOk, IfSome};
 ghost use Rattle.std.specs.Arc.{arc_value};
 ghost use Rattle.ask_model.specs.Views.{came_of, body_of, sense_of, rules_of};
 ghost use Rattle.ask_model.specs.Maps.{Maps};
+ghost use Rattle.ask_model.specs.Sizes.{came_size, request_limit};
+ghost use Rattle.ask_model.specs.Datagrams.{IsSentFor, asked_peer};
 
+use crate::bytes::Bytes;
 use crate::meaning::Meaning;
+use crate::request::{MAX_REQUEST_LEN, body_in, datagram_of};
 use crate::settings::Settings;
+use coap_codec::Token;
 use http_edge::Incoming;
+use std::alloc::{AllocError, Global};
 use std::marker::{Model, PhantomData};
 use std::sync::Arc;
 use transformers::Relation;
+use uri_map::Peer;
 
 /// A request with its meaning. Its type keeps that the meaning is the request's mapping under the
-/// settings.
+/// settings, and that the request counts at most 2 MiB.
 #[derive(Drop)]
 pub struct Mapped<R: Relation> {
     came: Incoming,
@@ -30,16 +37,19 @@ impl<R: Relation> Model for Mapped<R> {
     ghost use Rattle.std.specs.Arc.{arc_value};
     ghost use Rattle.ask_model.specs.Views.{came_of, body_of, sense_of, rules_of};
     ghost use Rattle.ask_model.specs.Maps.{Maps};
+    ghost use Rattle.ask_model.specs.Sizes.{came_size, request_limit};
+    ghost use Rattle.std.specs.Prelude.{◌≤◌};
 
     ghost view = { λ m. record { came = came_of m.came; sense = sense_of m.meaning (body_of (came_of m.came)); rules = rules_of (arc_value m.settings) } };
 
-    ghost invariant = { λ m. Maps R.holds R.takes (rules_of (arc_value m.settings)) (came_of m.came) (sense_of m.meaning (body_of (came_of m.came))) };
+    ghost invariant = { λ m. Maps R.holds R.takes (rules_of (arc_value m.settings)) (came_of m.came) (sense_of m.meaning (body_of (came_of m.came))) × (came_size (came_of m.came) ≤ request_limit) };
 }
 
 impl<R: Relation> Mapped<R> {
     /// The request with this meaning.
     pub fn new(came: Incoming, meaning: Meaning, settings: Arc<Settings>) -> Mapped<R>
-        requires { Maps R.holds R.takes (rules_of (arc_value settings)) (came_of came) (sense_of meaning (body_of (came_of came))) }
+        requires maps { Maps R.holds R.takes (rules_of (arc_value settings)) (came_of came) (sense_of meaning (body_of (came_of came))) }
+        requires small { came_size (came_of came) ≤ request_limit }
         ensures came { result.came ≡ came_of came }
         ensures sense { result.sense ≡ sense_of meaning (body_of (came_of came)) }
         ensures rules { result.rules ≡ rules_of (arc_value settings) }
@@ -54,7 +64,8 @@ impl<R: Relation> Mapped<R> {
 
     /// What came in.
     pub fn came(&self) -> &Incoming
-        ensures { came_of result.now ≡ self.now.came }
+        ensures came { came_of result.now ≡ self.now.came }
+        ensures small { came_size self.now.came ≤ request_limit }
     {
         &self.came
     }
@@ -72,5 +83,29 @@ impl<R: Relation> Mapped<R> {
         ensures { rules_of (arc_value result.now) ≡ self.now.rules }
     {
         &self.settings
+    }
+
+    /// The server that is asked. None where the request is refused.
+    pub fn peer(&self) -> Option<Peer>
+        ensures { result ≡ asked_peer self.now.sense }
+    {
+        match self.meaning() {
+            Meaning::Ask { peer, .. } => Some(*peer),
+            Meaning::Refuse(_, _) => None,
+        }
+    }
+
+    /// The datagram that asks it, under this message ID and token (RFC 7252 section 3). None where the
+    /// request is refused.
+    pub fn request(
+        &self,
+        alloc: Global,
+        mid: u16,
+        token: &Token,
+    ) -> Result<Option<Bytes>, AllocError>
+        ensures sent { IfOk result (λ o. IsSentFor self.now.sense mid token.now o) }
+        ensures len { IfOk result (λ o. IfSome o (λ bytes. length bytes ≤ MAX_REQUEST_LEN)) }
+    {
+        datagram_of(alloc, self.meaning(), body_in(self.came()), mid, token)
     }
 }

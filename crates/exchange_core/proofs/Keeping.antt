@@ -1,19 +1,28 @@
 -- What a core keeps, behind each step.
-use Rattle.std.proofs.Common.{◌≡◌, ℕ, ◌+◌, ◌-◌, ◌*◌, ◌^◌, ◌<◌, ◌≤◌, min, Bool, true, false, ◌⊎◌, inl, inr, List, [], ◌∷◌, ◌++◌, length, None, refl, sym, subst, ◌∙◌, arith, length-append, lit≤}
+use Rattle.std.proofs.Common.{◌≡◌, ℕ, ◌+◌, ◌-◌, ◌*◌, ◌^◌, ◌<◌, ◌≤◌, min, Bool, true, false, ◌⊎◌, inl, inr, List, [], ◌∷◌, ◌++◌, length, None, refl, sym, ap, subst, ◌∙◌, arith, length-append, lit≤}
 use Rattle.std.specs.Prelude.{sum_by, count_by, nat_le}
 use Rattle.std.specs.List.{Contains}
+use Rattle.std.proofs.lemmas.List.Elements.{All-nil}
 use Rattle.std.proofs.lemmas.List.Sums.{sum_by-append, count_by-le-length}
 use Rattle.std.proofs.lemmas.Bool.Decides.{leb_tells}
 use Rattle.std.proofs.lemmas.Bool.{false≢true}
 use Rattle.ask_model.proofs.Endpoints.{and-both}
-use Rattle.journal_book.specs.Entries.{Opens, Shuts, Seals, Written, entry_size}
+use Rattle.ask_model.specs.declared.cause.Cause.{Cause}
+use Rattle.ask_model.specs.Requests.{Ask}
+use Rattle.journal_book.specs.Entries.{Opens, Asks, Answers, Shuts, Seals, Fault, Written, entry_size}
+use Rattle.ask_model.specs.Sizes.{came_size}
 use Rattle.history_laws.specs.declared.kept.Conn.{Conn}
 use Rattle.history_laws.specs.declared.kept.Exchange.{Exchange}
+use Rattle.history_laws.specs.declared.kept.Known.{Known}
+use Rattle.history_laws.specs.declared.kept.Remembered.{Remembered}
 use Rattle.history_laws.specs.Limits.{MaySeal}
-use Rattle.history_laws.proofs.Steps.{Agrees-start, Agrees-opened, Agrees-shut, Agrees-sealed}
-use Rattle.exchange_core.specs.Room.{is_pending, fits, held}
-use Rattle.exchange_core.specs.Tables.{Has}
-use Rattle.exchange_core.specs.CoreValue.{written, CoreKept}
+use Rattle.history_laws.proofs.Steps.{Agrees-start, Agrees-opened, Agrees-at-once, Agrees-shut, Agrees-sealed}
+use Rattle.history_laws.specs.Kept.{Held, Agrees}
+use Rattle.exchange_core.specs.Room.{is_pending, fits, takes, held}
+use Rattle.exchange_core.specs.Tables.{HasIdle}
+use Rattle.exchange_core.specs.Answering.{Given, Waited, IsGiven, IsWaited, IsKept}
+use Rattle.exchange_core.specs.Asking.{IsAtOnce}
+use Rattle.exchange_core.specs.CoreValue.{written, CoreKept, Answerable}
 use Rattle.exchange_core.proofs.Fewer.{others, fewer, no-more-wait, push-waits}
 
 le-true : (a b : ℕ) → nat_le a b ≡ true → a ≤ b
@@ -27,18 +36,18 @@ fits-parts e b c p h =
 le-from : (a b : ℕ) → a ≤ b → nat_le a b ≡ true
 le-from a b h = elim (leb_tells a b) [ inl w ↦ w.0 | inr w ↦ absurd (omega arith) ]
 
-fits-from : (e b c p : ℕ) → e + c + p + 1 ≤ 65536 → b + 64 * c + 90000 * p + 64 ≤ 268435456 → fits e b c p ≡ true
+pub fits-from : (e b c p : ℕ) → e + c + p + 1 ≤ 65536 → b + 64 * c + 90000 * p + 64 ≤ 268435456 → fits e b c p ≡ true
 fits-from e b c p h g = rw (le-from (e + c + p + 1) 65536 h, le-from (b + 64 * c + 90000 * p + 64) 268435456 g) refl
 
-pub kept-start : (room : ℕ) → 1 ≤ room → CoreKept [] room [] [] false 0 0
+pub kept-start : (room : ℕ) → 1 ≤ room → CoreKept [] room [] (record { exchanges = []; opened = 0; issued = 0; known = []; heard = [] }) false 0 0
 kept-start room h =
     record { agrees = Agrees-start; bytes_are = λ s. refl; room_held = omega arith; within = λ s. refl; few = omega arith; early = lit≤ tt }
 
-pub kept-opened : (h : List Written) (room room' : ℕ) (cs : List Conn) (es : List Exchange) (bytes bytes' last t n : ℕ)
-    → CoreKept h room cs es false bytes last → last ≤ t → t ≤ 2 ^ 62 → n ≡ length h → length cs < 256
+pub kept-opened : (h : List Written) (room room' : ℕ) (cs : List Conn) (es : Held) (bytes bytes' last t n : ℕ)
+    → CoreKept h room cs es false bytes last → last ≤ t → t ≤ 2 ^ 62 → n ≡ es.opened → length cs < 256
     → fits (length h + 1) (bytes + 64) (length cs + 1) (count_by is_pending cs) ≡ true
     → length cs + count_by is_pending cs + 2 ≤ room' → bytes' ≡ min (bytes + 64) (2 ^ 64 - 1)
-    → CoreKept (h ++ written t (Opens n) ∷ []) room' (cs ++ record { id = n; pending = None } ∷ []) es false bytes' t
+    → CoreKept (h ++ written t (Opens n) ∷ []) room' (cs ++ record { id = n; pending = None } ∷ []) (record es { opened = es.opened + 1 }) false bytes' t
 kept-opened h room room' cs es bytes bytes' last t n k later early e few room-fits free b =
     let parts = fits-parts (length h + 1) (bytes + 64) (length cs + 1) (count_by is_pending cs) room-fits in
     let sum = sum_by-append entry_size h (written t (Opens n) ∷ []) in
@@ -48,7 +57,7 @@ kept-opened h room room' cs es bytes bytes' last t n k later early e few room-fi
     let entries : length (h ++ written t (Opens n) ∷ []) ≡ length h + 1 = length-append h (written t (Opens n) ∷ []) in
     let wait = push-waits cs n in
     record {
-      agrees = Agrees-opened h cs es last t n k.agrees later e;
+      agrees = rw e (Agrees-opened h cs es last t k.agrees later);
       bytes_are = λ s. omega (arith, sum, was, same);
       room_held = rw (longer, wait) (omega (arith, free));
       within = λ s. rw (longer, wait, entries, same) room-fits;
@@ -73,7 +82,12 @@ may-seal h cs bytes e few refused =
     let some = count_by-le-length is_pending cs in
     elim (fits-not (length h + 1) (bytes + 64) (length cs + 1) (count_by is_pending cs) refused) [ inl w ↦ inl (omega (arith, some)) | inr w ↦ inr (omega (arith, some)) ]
 
-pub kept-sealed : (h : List Written) (room room' : ℕ) (cs : List Conn) (es : List Exchange) (bytes bytes' last t : ℕ)
+-- a journal without the room for an ask and what comes behind it may be sealed
+pub may-seal-more : (h : List Written) (b n p : ℕ) → takes h 2 b n p ≡ false → b ≤ 2101248 → n ≤ 256 → p ≤ 257 → MaySeal h
+may-seal-more h b n p refused small few some =
+    elim (fits-not (length h + 2) (sum_by entry_size h + b) n p refused) [ inl w ↦ inl (omega (arith, w)) | inr w ↦ inr (omega (arith, w)) ]
+
+pub kept-sealed : (h : List Written) (room room' : ℕ) (cs : List Conn) (es : Held) (bytes bytes' last t : ℕ)
     → CoreKept h room cs es false bytes last → last ≤ t → t ≤ 2 ^ 62 → MaySeal h → room' + 1 ≡ room
     → CoreKept (h ++ written t Seals ∷ []) room' cs es true bytes' t
 kept-sealed h room room' cs es bytes bytes' last t k later early may less =
@@ -91,7 +105,7 @@ held-less : (s : Bool) (n n' p p' room room' : ℕ) → held s n p ≤ room → 
 held-less true n n' p p' room room' h a b e = omega arith
 held-less false n n' p p' room room' h a b e = omega arith
 
-pub kept-shut : (h : List Written) (room room' : ℕ) (cs : List Conn) (es : List Exchange) (s : Bool) (bytes bytes' last t : ℕ) (x : Conn)
+pub kept-shut : (h : List Written) (room room' : ℕ) (cs : List Conn) (es : Held) (s : Bool) (bytes bytes' last t : ℕ) (x : Conn)
     → CoreKept h room cs es s bytes last → last ≤ t → t ≤ 2 ^ 62 → Contains cs x → room' + 1 ≡ room → bytes' ≡ min (bytes + 64) (2 ^ 64 - 1)
     → CoreKept (h ++ written t (Shuts x.id) ∷ []) room' (others x.id cs) es s bytes' t
 kept-shut h room room' cs es s bytes bytes' last t x k later early has less b =
@@ -112,36 +126,82 @@ kept-shut h room room' cs es s bytes bytes' last t x k later early has less b =
       early = early;
     }
 
--- the three ways that open and close leave a core
-pub kept-open : (h h1 h2 : List Written) (room room1 room2 : ℕ) (cs cs1 cs2 : List Conn) (es : List Exchange) (s : Bool) (bytes bytes' last t n count pending : ℕ)
-    → CoreKept h room cs es s bytes last → s ≡ false → last ≤ t → t ≤ 2 ^ 62
-    → n ≡ length h → count ≡ length cs → pending ≡ count_by is_pending cs → count < 256
-    → fits (n + 1) (bytes + 64) (count + 1) pending ≡ true
-    → h1 ≡ h → h2 ≡ h1 ++ written t (Opens n) ∷ [] → cs1 ≡ cs → cs2 ≡ cs1 ++ record { id = n; pending = None } ∷ []
-    → count + pending + 3 ≤ room1 → room2 + 1 ≡ room1 → bytes' ≡ min (bytes + 64) (2 ^ 64 - 1)
-    → CoreKept h2 room2 cs2 es s bytes' t
-kept-open h h1 h2 room room1 room2 cs cs1 cs2 es s bytes bytes' last t n count pending k unsealed later early num cnt wait few room-fits e1 e2 f1 f2 made less b =
-    let same : fits (length h + 1) (bytes + 64) (length cs + 1) (count_by is_pending cs) ≡ true = rw (← num, ← cnt, ← wait) room-fits in
-    let before : CoreKept h room cs es false bytes last = subst (λ (s : Bool). CoreKept h room cs es s bytes last) unsealed k in
-    let now : CoreKept (h ++ written t (Opens n) ∷ []) room2 (cs ++ record { id = n; pending = None } ∷ []) es false bytes' t =
-    kept-opened h room room2 cs es bytes bytes' last t n before later early num (omega arith) same (omega arith) b in
-    rw (e2, e1, f2, f1, unsealed) now
+pub takes-fits : (h : List Written) (bytes e b c p : ℕ) → sum_by entry_size h ≡ bytes → takes h e b c p ≡ fits (length h + e) (bytes + b) c p
+takes-fits h bytes e b c p w = rw w refl
 
-pub kept-seal : (h h1 : List Written) (room room1 : ℕ) (cs : List Conn) (es : List Exchange) (s : Bool) (bytes bytes' last t n count pending : ℕ)
+-- the ways that open and close leave a core
+pub kept-open : (h h1 h2 : List Written) (room room1 room2 : ℕ) (cs cs1 cs2 : List Conn) (es : Held) (s : Bool) (bytes bytes' last t n opened1 count pending : ℕ)
     → CoreKept h room cs es s bytes last → s ≡ false → last ≤ t → t ≤ 2 ^ 62
-    → n ≡ length h → count ≡ length cs → pending ≡ count_by is_pending cs → count < 256
-    → fits (n + 1) (bytes + 64) (count + 1) pending ≡ false
+    → count ≡ length cs → pending ≡ count_by is_pending cs → count < 256
+    → takes h 1 64 (count + 1) pending ≡ true
+    → h1 ≡ h → n ≡ es.opened → h2 ≡ h1 ++ written t (Opens n) ∷ [] → cs1 ≡ cs → cs2 ≡ cs1 ++ record { id = n; pending = None } ∷ []
+    → opened1 ≡ es.opened + 1 → count + pending + 3 ≤ room1 → room2 + 1 ≡ room1 → bytes' ≡ min (bytes + 64) (2 ^ 64 - 1)
+    → CoreKept h2 room2 cs2 (record es { opened = opened1 }) s bytes' t
+kept-open h h1 h2 room room1 room2 cs cs1 cs2 es s bytes bytes' last t n opened1 count pending k unsealed later early cnt wait few room-fits e1 num e2 f1 f2 more made less b =
+    let before : CoreKept h room cs es false bytes last = subst (λ (s : Bool). CoreKept h room cs es s bytes last) unsealed k in
+    let same : fits (length h + 1) (bytes + 64) (length cs + 1) (count_by is_pending cs) ≡ true =
+    rw (← cnt, ← wait) (sym (takes-fits h bytes 1 64 (count + 1) pending (before.bytes_are refl)) ∙ room-fits) in
+    let now : CoreKept (h ++ written t (Opens n) ∷ []) room2 (cs ++ record { id = n; pending = None } ∷ []) (record es { opened = es.opened + 1 }) false bytes' t =
+    kept-opened h room room2 cs es bytes bytes' last t n before later early num (omega arith) same (omega arith) b in
+    rw (e2, e1, f2, f1, unsealed, more) now
+
+pub kept-seal : (h h1 : List Written) (room room1 : ℕ) (cs : List Conn) (es : Held) (s : Bool) (bytes bytes' last t : ℕ)
+    → CoreKept h room cs es s bytes last → s ≡ false → last ≤ t → t ≤ 2 ^ 62 → MaySeal h
     → h1 ≡ h ++ written t Seals ∷ [] → room1 + 1 ≡ room
     → CoreKept h1 room1 cs es true bytes' t
-kept-seal h h1 room room1 cs es s bytes bytes' last t n count pending k unsealed later early num cnt wait few refused e1 less =
-    let same : fits (length h + 1) (bytes + 64) (length cs + 1) (count_by is_pending cs) ≡ false = rw (← num, ← cnt, ← wait) refused in
+kept-seal h h1 room room1 cs es s bytes bytes' last t k unsealed later early may e1 less =
     let before : CoreKept h room cs es false bytes last = subst (λ (s : Bool). CoreKept h room cs es s bytes last) unsealed k in
-    rw e1 (kept-sealed h room room1 cs es bytes bytes' last t before later early (may-seal h cs bytes (before.bytes_are refl) (omega arith) same) less)
+    rw e1 (kept-sealed h room room1 cs es bytes bytes' last t before later early may less)
 
-pub kept-close : (h h1 : List Written) (room room1 : ℕ) (cs cs1 : List Conn) (es : List Exchange) (s : Bool) (bytes bytes' last t c : ℕ)
-    → CoreKept h room cs es s bytes last → last ≤ t → t ≤ 2 ^ 62 → Has cs c
+pub kept-close : (h h1 : List Written) (room room1 : ℕ) (cs cs1 : List Conn) (es : Held) (s : Bool) (bytes bytes' last t c : ℕ) (x : Conn)
+    → CoreKept h room cs es s bytes last → last ≤ t → t ≤ 2 ^ 62 → Contains cs x → x.id ≡ c
     → h1 ≡ h ++ written t (Shuts c) ∷ [] → cs1 ≡ others c cs → room1 + 1 ≡ room → bytes' ≡ min (bytes + 64) (2 ^ 64 - 1)
     → CoreKept h1 room1 cs1 es s bytes' t
-kept-close h h1 room room1 cs cs1 es s bytes bytes' last t c k later early has e1 f1 less b =
-    rw (e1, f1) (subst (λ (c : ℕ). CoreKept (h ++ written t (Shuts c) ∷ []) room1 (others c cs) es s bytes' t) has.id
-    (kept-shut h room room1 cs es s bytes bytes' last t has.conn k later early has.stands less b))
+kept-close h h1 room room1 cs cs1 es s bytes bytes' last t c x k later early has id e1 f1 less b =
+    rw (e1, f1) (subst (λ (c : ℕ). CoreKept (h ++ written t (Shuts c) ∷ []) room1 (others c cs) es s bytes' t) id
+    (kept-shut h room room1 cs es s bytes bytes' last t x k later early has less b))
+
+-- an ask with its answer
+pub kept-at-once : (h h1 h2 h3 : List Written) (room room1 room2 room3 : ℕ) (cs : List Conn) (es : Held) (s : Bool) (bytes bytes' last t n size count pending conn : ℕ) (a : Ask) (cause : Cause)
+    → CoreKept h room cs es s bytes last → s ≡ false → last ≤ t → t ≤ 2 ^ 62 → count ≡ length cs → pending ≡ count_by is_pending cs
+    → HasIdle cs conn → IsAtOnce a.sense (length es.exchanges) cause → size ≡ min (came_size a.came) (2 ^ 64 - 1)
+    → takes h 2 (came_size a.came + 132) count pending ≡ true
+    → h1 ≡ h → n ≡ length h1 → h2 ≡ h1 ++ written t (Asks conn a) ∷ [] → h3 ≡ h2 ++ written t (Answers conn n (Fault cause n)) ∷ []
+    → count + pending + 3 ≤ room1 → room2 + 1 ≡ room1 → room3 + 1 ≡ room2 → bytes' ≡ min (bytes + (size + 132)) (2 ^ 64 - 1)
+    → CoreKept h3 room3 cs es s bytes' t
+kept-at-once h h1 h2 h3 room room1 room2 room3 cs es s bytes bytes' last t n size count pending conn a cause k unsealed later early cnt wait has reason size-is room-fits e1 num e2 e3 made less2 less3 b =
+    let before : CoreKept h room cs es false bytes last = subst (λ (s : Bool). CoreKept h room cs es s bytes last) unsealed k in
+    let was = before.bytes_are refl in
+    let real : ℕ = came_size a.came in
+    let fit : fits (length h + 2) (bytes + (real + 132)) count pending ≡ true = sym (takes-fits h bytes 2 (real + 132) count pending was) ∙ room-fits in
+    let parts = fits-parts (length h + 2) (bytes + (real + 132)) count pending fit in
+    let counted : size ≡ real = omega (arith, parts.1, size-is) in
+    let same : bytes' ≡ bytes + (real + 132) = omega (arith, parts.1, b, counted) in
+    let asked : Written = written t (Asks conn a) in
+    let answered : Written = written t (Answers conn n (Fault cause n)) in
+    let sum1 = sum_by-append entry_size h (asked ∷ []) in
+    let sum2 = sum_by-append entry_size (h ++ asked ∷ []) (answered ∷ []) in
+    let size1 = length-append h (asked ∷ []) in
+    let size2 = length-append (h ++ asked ∷ []) (answered ∷ []) in
+    let agrees : Agrees ((h ++ asked ∷ []) ++ answered ∷ []) cs es false t =
+    subst (λ (c : ℕ). Agrees ((h ++ written t (Asks c a) ∷ []) ++ written t (Answers c n (Fault cause n)) ∷ []) cs es false t) has.id
+    (Agrees-at-once h cs es last t n has.conn a cause before.agrees later (num ∙ ap length e1) has.stands has.idle reason) in
+    let now : CoreKept ((h ++ asked ∷ []) ++ answered ∷ []) room3 cs es false bytes' t = record {
+      agrees = agrees;
+      bytes_are = λ e. omega (arith, sum1, sum2, was, same);
+      room_held = omega (arith, made, less2, less3, cnt, wait);
+      within = λ e. rw (size2, size1, same, ← cnt, ← wait) (fits-from (length h + 1 + 1) (bytes + (real + 132)) count pending (omega (arith, parts.0)) (parts.1));
+      few = before.few;
+      early = early;
+    } in
+    rw (e3, e2, e1, unsealed) now
+
+-- a core that is new
+pub kept-new : (h : List Written) (room : ℕ) (cs : List Conn) (es : List Exchange) (ks : List Known) (rs : List Remembered) (ws : List Waited) (gs : List Given)
+    → h ≡ [] → cs ≡ [] → es ≡ [] → ks ≡ [] → rs ≡ [] → ws ≡ [] → gs ≡ [] → 1 ≤ room
+    → CoreKept h room cs (record { exchanges = es; opened = 0; issued = 0; known = ks; heard = rs }) false 0 0 × Answerable h cs ws gs 0
+kept-new h room cs es ks rs ws gs e1 e2 e3 e4 e5 e6 e7 some =
+    rw (e1, e2, e3, e4, e5, e6, e7) (
+      kept-start room some,
+      record { given = All-nil (IsGiven []); asked = All-nil (IsWaited []); kept = All-nil (λ (x : Conn). IsKept [] x.pending); taken_so = omega arith },
+    )

@@ -1,2 +1,9 @@
+pub mod Asking
+pub mod Busy
 pub mod Fewer
+pub mod Giving
 pub mod Keeping
+pub mod Knowing
+pub mod Lists
+pub mod Taking
+pub mod Showing

@@ -1,17 +1,29 @@
 //! The core.
 
-ghost use Rattle.std.specs.Prelude.{◌≡◌, ◌⊎◌, ◌<◌, ◌∷◌, ◌++◌, [], None, true, false, length, IfOk, OnOk, OnErr, Err, IsTrue, IsFalse};
+ghost use Rattle.std.specs.Prelude.{ℕ, ◌≡◌, ◌≢◌, ◌⊎◌, ◌==◌, ◌≤◌, ◌+◌, ◌^◌, ◌∷◌, ◌++◌, [], None, true, false, not, filter, All, length, IfOk, IfSome, IsOk, Err, IsTrue, IsFalse};
+ghost use Rattle.std.specs.List.{Contains};
+ghost use Rattle.std.specs.Arc.{arc_value};
+ghost use Rattle.ask_model.specs.Sizes.{came_size, capped};
 ghost use Rattle.journal_book.specs.Entries.{Opens, Shuts, Seals};
 ghost use Rattle.history_laws.specs.Justified.{Stands};
-ghost use Rattle.exchange_core.specs.CoreValue.{written, now};
+ghost use Rattle.history_laws.specs.Limits.{MaySeal};
+ghost use Rattle.exchange_core.specs.CoreValue.{written, now, connections};
+ghost use Rattle.exchange_core.specs.Room.{takes, takes_conn, takes_ask};
+ghost use Rattle.exchange_core.specs.Tables.{HasIdle, HasWaiting};
+ghost use Rattle.exchange_core.specs.Answering.{IsGiven, given_of};
+ghost use Rattle.exchange_core.specs.Asking.{AnswersAtOnce, IsAtOnce};
 
-use crate::fault::OpenFault;
-use crate::room::has_room;
-use crate::tables::{drop_conn, is_there, pending_count};
-use history_laws::kept::{Conn, Exchange};
-use journal_book::{Entry, Event, Journal};
+use crate::answer::{Answer, Finding, Ticket};
+use crate::fault::{AskFault, OpenFault};
+use crate::outbox::{Outbox, Stamp};
+use crate::room::{BYTES, has_room};
+use crate::tables::{check_idle, drop_conn, find_conn, pending_count};
+use ask_model::{Cause, Mapped, incoming_size};
+use history_laws::kept::{Conn, Exchange, Known, Remembered};
+use journal_book::{Entry, Event, Grounds, Journal};
 use std::alloc::{AllocError, Global};
 use std::marker::Model;
+use std::sync::Arc;
 use transformers::Relation;
 
 /// Connections that may be open.
@@ -21,38 +33,55 @@ const CONNECTIONS: usize = 256;
 /// rest, and that room is held free for what has to come.
 #[derive(Drop)]
 pub struct Core<R: Relation> {
-    journal: Journal<R>,
-    conns: Vec<Conn>,
-    exchanges: Vec<Exchange>,
-    sealed: bool,
-    bytes: u64,
-    last: u64,
+    pub(crate) alloc: Global,
+    pub(crate) journal: Journal<R>,
+    pub(crate) conns: Vec<Conn>,
+    pub(crate) exchanges: Vec<Exchange>,
+    /// how many connections were opened
+    pub(crate) opened: u32,
+    /// how many tokens were issued
+    pub(crate) issued: u32,
+    pub(crate) known: Vec<Known>,
+    pub(crate) heard: Vec<Remembered>,
+    pub(crate) sealed: bool,
+    pub(crate) bytes: u64,
+    pub(crate) last: u64,
+    pub(crate) outbox: Outbox<R>,
+    /// the number of the first entry that was not looked at for a sending
+    pub(crate) taken: u32,
 }
 
 impl<R: Relation> Model for Core<R> {
-    ghost use Rattle.exchange_core.specs.CoreValue.{CoreValue, CoreKept};
+    ghost use Rattle.exchange_core.specs.CoreValue.{CoreValue, CoreKept, Answerable, sends_behind};
 
     ghost Value = { CoreValue };
 
-    ghost view = { λ s. record { entries = s.journal.entries; conns = s.conns.items; sealed = s.sealed; moment = s.last } };
+    ghost view = { λ s. record { entries = s.journal.entries; conns = s.conns.items; exchanges = s.exchanges.items; sealed = s.sealed; moment = s.last; answers = s.outbox.answers; sends = sends_behind s.taken s.journal.entries } };
 
-    ghost invariant = { λ s. CoreKept s.journal.entries s.journal.room s.conns.items s.exchanges.items s.sealed s.bytes s.last };
+    ghost invariant = { λ s. CoreKept s.journal.entries s.journal.room s.conns.items (record { exchanges = s.exchanges.items; opened = s.opened; issued = s.issued; known = s.known.items; heard = s.heard.items }) s.sealed s.bytes s.last × Answerable s.journal.entries s.conns.items s.outbox.waiting s.outbox.answers s.taken };
 }
 
 impl<R: Relation> Core<R> {
     /// A core with no entry, which holds the place of its seal.
     pub fn new(alloc: Global) -> Result<Core<R>, AllocError>
-        ensures { IfOk result (λ c. (c.entries ≡ []) × (c.conns ≡ []) × (c.sealed ≡ false)) }
+        ensures { IfOk result (λ c. (c.entries ≡ []) × (c.conns ≡ []) × (c.exchanges ≡ []) × (c.sealed ≡ false) × (c.answers ≡ []) × (c.sends ≡ [])) }
     {
         let mut journal = Journal::new(alloc);
         journal.make_room(1)?;
         Ok(Core {
+            alloc,
             journal,
             conns: Vec::new(alloc),
             exchanges: Vec::new(alloc),
+            opened: 0,
+            issued: 0,
+            known: Vec::new(alloc),
+            heard: Vec::new(alloc),
             sealed: false,
             bytes: 0,
             last: 0,
+            outbox: Outbox::new(alloc),
+            taken: 0,
         })
     }
 
@@ -64,15 +93,69 @@ impl<R: Relation> Core<R> {
         &self.journal
     }
 
-    /// Opens a connection at this moment.
+    /// Whether entries may come that count so many bytes, and leave so many connections, as many of which
+    /// wait for an answer.
+    fn has_room_for(&self, entries: u64, bytes: u64, conns: usize, pending: usize) -> bool
+        ensures { self.now.sealed ≡ false → result ≡ takes self.now.entries entries bytes conns pending }
+    {
+        has_room(
+            self.journal.len() as u64,
+            entries,
+            self.bytes,
+            bytes,
+            conns as u64,
+            pending as u64,
+        )
+    }
+
+    /// Whether an ask may come that counts so many bytes, with an entry behind it, where both count so many
+    /// more.
+    pub(crate) fn has_room_for_ask(&self, size: u64, more: u64, pending: usize) -> bool
+        requires { more ≤ 2 ^ 32 }
+        ensures { (s : ℕ) → self.now.sealed ≡ false → size ≡ capped s → result ≡ takes self.now.entries 2 (s + more) (length self.now.conns) pending }
+    {
+        size <= BYTES && self.has_room_for(2, size + more, self.conns.len(), pending)
+    }
+
+    /// Writes the seal, whose place was held.
+    pub(crate) fn seal(&mut self, moment: u64)
+        requires unsealed { self.old.sealed ≡ false }
+        requires may { MaySeal self.old.entries }
+        requires later { self.old.moment ≤ moment }
+        requires early { moment ≤ 2 ^ 62 }
+        ensures entries { self.new.entries ≡ self.old.entries ++ written moment Seals ∷ [] }
+        ensures sealed { self.new.sealed ≡ true }
+        ensures conns { self.new.conns ≡ self.old.conns }
+        ensures exchanges { self.new.exchanges ≡ self.old.exchanges }
+        ensures answers { self.new.answers ≡ self.old.answers }
+        ensures sends { self.new.sends ≡ self.old.sends }
+    {
+        self.journal.add(Entry {
+            moment,
+            event: Event::Sealed,
+        });
+        self.sealed = true;
+        self.bytes = self.bytes.saturating_add(64);
+        self.last = moment;
+    }
+
+    /// Opens a connection at this moment. The first call that finds no room for it seals the journal.
     pub fn open(&mut self, moment: u64) -> Result<u32, OpenFault>
-        ensures ok { IfOk result (λ id. (id ≡ length self.old.entries)
+        ensures ok { IfOk result (λ id. (id ≡ connections self.old.entries)
             × (self.new.entries ≡ self.old.entries ++ written (now self.old.moment moment) (Opens id) ∷ [])
-            × (self.new.conns ≡ self.old.conns ++ record { id = id; pending = None } ∷ [])) }
+            × (self.new.conns ≡ self.old.conns ++ record { id = id; pending = None } ∷ [])
+            × (self.new.exchanges ≡ self.old.exchanges) × (self.new.answers ≡ self.old.answers) × (self.new.sends ≡ self.old.sends)) }
         ensures full { result ≡ Err OpenFault.Full → (length self.old.conns ≡ 256) × (self.new ≡ self.old) }
+        ensures full_always { length self.old.conns ≡ 256 → result ≡ Err OpenFault.Full }
         ensures sealed { result ≡ Err OpenFault.Sealed → (self.new.sealed ≡ true)
-            × ((self.new ≡ self.old) ⊎ (self.new.entries ≡ self.old.entries ++ written (now self.old.moment moment) Seals ∷ [])) }
+            × (((self.old.sealed ≡ true) × (self.new ≡ self.old))
+            ⊎ ((self.old.sealed ≡ false) × (takes_conn self.old.entries self.old.conns ≡ false)
+            × (self.new.entries ≡ self.old.entries ++ written (now self.old.moment moment) Seals ∷ [])
+            × (self.new.conns ≡ self.old.conns) × (self.new.exchanges ≡ self.old.exchanges)
+            × (self.new.answers ≡ self.old.answers) × (self.new.sends ≡ self.old.sends))) }
+        ensures room { IsOk result → (self.old.sealed ≡ false) × (takes_conn self.old.entries self.old.conns ≡ true) }
         ensures memory { result ≡ Err OpenFault.Memory → self.new ≡ self.old }
+        ensures memory_last { result ≡ Err OpenFault.Memory → (self.old.sealed ≡ false) × (takes_conn self.old.entries self.old.conns ≡ true) }
     {
         let count = self.conns.len();
         if count >= CONNECTIONS {
@@ -83,50 +166,126 @@ impl<R: Relation> Core<R> {
         }
         let moment = self.last.max(moment.min(1 << 62));
         let pending = pending_count(&self.conns);
-        let number = self.journal.len();
-        if !has_room(
-            number as u64 + 1,
-            self.bytes + 64,
-            count as u64 + 1,
-            pending as u64,
-        ) {
-            self.journal.add(Entry {
-                moment,
-                event: Event::Sealed,
-            });
-            self.sealed = true;
-            self.bytes = self.bytes.saturating_add(64);
-            self.last = moment;
+        if !self.has_room_for(1, 64, count + 1, pending) {
+            self.seal(moment);
             return Err(OpenFault::Sealed);
         }
         self.journal.make_room(count + pending + 3)?;
         self.conns.try_reserve(1)?;
 
-        let id = number as u32;
+        let id = self.opened;
         self.journal.add(Entry {
             moment,
             event: Event::Opened(id),
         });
         self.conns.push_reserved(Conn { id, pending: None });
+        self.opened = id + 1;
         self.bytes = self.bytes.saturating_add(64);
         self.last = moment;
         Ok(id)
     }
 
-    /// Closes a connection at this moment, and tells whether it was open.
-    pub fn close(&mut self, moment: u64, conn: u32) -> bool
-        ensures closed { IsTrue result → self.new.entries ≡ self.old.entries ++ written (now self.old.moment moment) (Shuts conn) ∷ [] }
-        ensures unknown { IsFalse result → self.new ≡ self.old }
+    /// Answers an ask of a connection in its own step. The first call that finds no room for it seals the
+    /// journal.
+    pub(crate) fn answer_at_once(
+        &mut self,
+        moment: u64,
+        conn: u32,
+        mapped: Arc<Mapped<R>>,
+        cause: Cause,
+    ) -> Result<Ticket<R>, AskFault>
+        requires cause { IsAtOnce (arc_value mapped).sense (length self.old.exchanges) cause }
+        requires idle { HasIdle self.old.conns conn }
+        requires unsealed { self.old.sealed ≡ false }
+        ensures ticket { IfOk result (λ t. (t.conn ≡ conn) × (t.number ≡ length self.old.entries) × (arc_value t.mapped ≡ arc_value mapped)) }
+        ensures adds { IfOk result (λ t. AnswersAtOnce (now self.old.moment moment) t.number conn (arc_value mapped) cause self.old self.new) }
+        ensures sealed { result ≡ Err AskFault.Sealed → (self.new.sealed ≡ true)
+            × (takes_ask self.old.entries self.old.conns (came_size (arc_value mapped).came) ≡ false)
+            × (self.new.entries ≡ self.old.entries ++ written (now self.old.moment moment) Seals ∷ [])
+            × (self.new.conns ≡ self.old.conns) × (self.new.exchanges ≡ self.old.exchanges)
+            × (self.new.answers ≡ self.old.answers) × (self.new.sends ≡ self.old.sends) }
+        ensures memory { result ≡ Err AskFault.Memory → self.new ≡ self.old }
+        ensures others { (result ≢ Err AskFault.Unknown) × (result ≢ Err AskFault.Pending) }
     {
-        if !is_there(&self.conns, conn) {
-            return false;
+        let moment = self.last.max(moment.min(1 << 62));
+        let pending = pending_count(&self.conns);
+        let size = incoming_size(mapped.came());
+        if !self.has_room_for_ask(size, 132, pending) {
+            self.seal(moment);
+            return Err(AskFault::Sealed);
         }
+        let held = self.conns.len() + pending + 1;
+        self.journal.make_room(held + 2)?;
+        self.outbox.make_room()?;
+        let asked = Arc::try_clone(&mapped)?;
+        let answered = Arc::try_clone(&mapped)?;
+
+        let number = self.journal.len() as u32;
+        self.journal.add(Entry {
+            moment,
+            event: Event::Asked(conn, asked),
+        });
+        self.journal.add(Entry {
+            moment,
+            event: Event::Answered {
+                conn,
+                ask: number,
+                grounds: Grounds::Fault(cause, number),
+            },
+        });
+        self.outbox.put(Answer {
+            ask: number,
+            number: number + 1,
+            mapped: answered,
+            moment,
+            heard: moment,
+            finding: Finding::fault(cause, number),
+        });
+        self.bytes = self.bytes.saturating_add(size + 132);
+        self.last = moment;
+        Ok(Ticket {
+            conn,
+            number,
+            mapped,
+        })
+    }
+
+    /// Takes the answer to an ask, which is given once.
+    pub fn take_answer(&mut self, ticket: &Ticket<R>) -> Option<Answer<R>>
+        ensures some { IfSome result (λ a. (a.ask ≡ ticket.now.number) × Contains self.old.answers (given_of a) × IsGiven self.old.entries (given_of a)) }
+        ensures none { result ≡ None → All (λ g. g.ask ≢ ticket.now.number) self.old.answers }
+        ensures answers { self.new.answers ≡ filter (λ g. not (g.ask == ticket.now.number)) self.old.answers }
+        ensures entries { self.new.entries ≡ self.old.entries }
+        ensures conns { self.new.conns ≡ self.old.conns }
+        ensures exchanges { self.new.exchanges ≡ self.old.exchanges }
+        ensures sealed { self.new.sealed ≡ self.old.sealed }
+        ensures moment { self.new.moment ≡ self.old.moment }
+        ensures sends { self.new.sends ≡ self.old.sends }
+    {
+        self.outbox.take(ticket.number)
+    }
+
+    /// Closes a connection at this moment, and tells whether it was open. It is answered nothing more; what it
+    /// asked for goes on.
+    pub fn close(&mut self, moment: u64, conn: u32) -> bool
+        ensures closed { IsTrue result → (self.new.entries ≡ self.old.entries ++ written (now self.old.moment moment) (Shuts conn) ∷ [])
+            × (self.new.conns ≡ filter (λ x. not (x.id == conn)) self.old.conns) }
+        ensures unknown { IsFalse result → All (λ x. x.id ≢ conn) self.old.conns × (self.new ≡ self.old) }
+        ensures exchanges { self.new.exchanges ≡ self.old.exchanges }
+        ensures answers { self.new.answers ≡ self.old.answers }
+        ensures sends { self.new.sends ≡ self.old.sends }
+        ensures sealed { self.new.sealed ≡ self.old.sealed }
+    {
+        let Some(x) = find_conn(&self.conns, conn) else {
+            return false;
+        };
         let moment = self.last.max(moment.min(1 << 62));
         self.journal.add(Entry {
             moment,
             event: Event::Shut(conn),
         });
         drop_conn(&mut self.conns, conn);
+        self.outbox.forget(x.pending);
         self.bytes = self.bytes.saturating_add(64);
         self.last = moment;
         true

@@ -45,3 +45,47 @@ impl<T: Drop> From<AllocFailed<T>> for OpenFault {
         OpenFault::Memory
     }
 }
+
+/// Why an ask is refused.
+#[derive(Clone, Copy, Debug, PartialEq, Eq)]
+pub enum AskFault {
+    /// No such connection is open.
+    Unknown = 1,
+    /// The connection waits for an answer.
+    Pending = 2,
+    /// The journal takes nothing more.
+    Sealed = 3,
+    /// Memory ran out.
+    Memory = 4,
+}
+
+impl Display for AskFault {
+    fn fmt<W: Write>(&self, f: &mut Formatter<W>) -> Result<(), fmt::Error> {
+        f.write_str(match self {
+            AskFault::Unknown => "no such connection is open",
+            AskFault::Pending => "the connection waits for an answer",
+            AskFault::Sealed => "the journal is sealed",
+            AskFault::Memory => "out of memory",
+        })
+    }
+}
+
+impl<T: Drop> From<AllocFailed<T>> for AskFault {
+    ghost use Rattle.exchange_core.specs.declared.fault.AskFault.TheVariants.{Memory};
+
+    ghost from_gives = { λ _ e. e ≡ Memory };
+
+    fn from(_e: AllocFailed<T>) -> AskFault {
+        AskFault::Memory
+    }
+}
+
+impl From<AllocError> for AskFault {
+    ghost use Rattle.exchange_core.specs.declared.fault.AskFault.TheVariants.{Memory};
+
+    ghost from_gives = { λ _ e. e ≡ Memory };
+
+    fn from(_e: AllocError) -> AskFault {
+        AskFault::Memory
+    }
+}

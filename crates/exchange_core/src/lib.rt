@@ -5,13 +5,18 @@
 //! its sessions stand on it.
 #![tactic(auto)]
 
+mod answer;
+mod ask;
 mod core_state;
 mod fault;
+mod numbering;
+mod outbox;
 mod room;
 mod tables;
 
+pub use answer::{Answer, Finding, Outcome, Response, Ticket};
 pub use core_state::Core;
-pub use fault::OpenFault;
+pub use fault::{AskFault, OpenFault};
 
 #[cfg(test)]
 mod tests;

@@ -1,6 +1,21 @@
-use crate::{Core, OpenFault};
-use std::alloc::Global;
+ghost use Rattle.std.specs.Prelude.{◌≡◌};
+ghost use Rattle.std.specs.Arc.{arc_value};
+ghost use Rattle.code_map.specs.Methods.{method_named};
+ghost use Rattle.uri_map.specs.Naming.{target_at};
+ghost use Rattle.uri_map.specs.Peers.{peer_in};
+ghost use Rattle.uri_map.specs.Splitting.{origin_form};
+
+use crate::{AskFault, Core, OpenFault, Outcome};
+use ask_model::{Cause, Mapped, Meaning, Payload, REQUEST_LIMIT, Settings, incoming_size};
+use code_map::{Method, Status, method_of};
+use http_edge::{BadKind, Edge, Incoming, Memory, Request};
+use journal_book::Event;
+use media_map::Routes;
+use std::alloc::{AllocError, Global};
+use std::net::{IpAddr, Ipv4Addr};
+use std::sync::Arc;
 use transformers::Relation;
+use uri_map::{Directory, Peer, Target, Text, Texts, path_and_query, peer_of, target_of};
 
 /// A relation that relates nothing.
 struct Nothing;
@@ -9,6 +24,86 @@ impl Relation for Nothing {
     ghost holds = { λ from to input output. ⊥ };
 
     ghost takes = { λ from to input. ⊥ };
+}
+
+fn settings(alloc: Global) -> Result<Settings, AllocError> {
+    Ok(Settings {
+        base: Text::copy_of(alloc, "/hc/")?,
+        directory: Directory::new(alloc, true),
+        observed: Texts::new(alloc),
+        routes: Routes::new(alloc),
+    })
+}
+
+/// A request that is refused for its size.
+fn too_large(alloc: Global) -> Result<Arc<Mapped<Nothing>>, AllocError> {
+    let settings = Arc::new(alloc, settings(alloc)?)?;
+    let meaning = Meaning::Refuse(Cause::BadHttp, Status::ContentTooLarge);
+    let mapped = Mapped::new(Incoming::Bad(BadKind::Large), meaning, settings);
+    Ok(Arc::new(alloc, mapped)?)
+}
+
+/// What these bytes of a connection ask, where they are a GET of a resource that a server has.
+fn asked(alloc: Global, bytes: &[u8]) -> Result<Option<Arc<Mapped<Nothing>>>, Memory> {
+    let mut edge = Edge::new(alloc)?;
+    edge.feed(bytes);
+    let Some(Incoming::Request(request)) = edge.next()? else {
+        return Ok(None);
+    };
+    let mut settings = settings(alloc)?;
+    settings
+        .directory
+        .add("s.example.com", IpAddr::V4(Ipv4Addr::new(192, 0, 2, 1)))?;
+    let Some(mapped) = get(alloc, settings, request)? else {
+        return Ok(None);
+    };
+    Ok(Some(Arc::new(alloc, mapped)?))
+}
+
+/// What a GET means whose target a server has.
+fn get(
+    alloc: Global,
+    settings: Settings,
+    request: Request,
+) -> Result<Option<Mapped<Nothing>>, Memory> {
+    let Some(Method::Get) = method_of(&request.method) else {
+        return Ok(None);
+    };
+    let text = path_and_query(&request.target);
+    let Ok(target) = target_of(alloc, settings.base.as_bytes(), text) else {
+        return Ok(None);
+    };
+    let Some(peer) = peer_of(&settings.directory, &target) else {
+        return Ok(None);
+    };
+    let settings = Arc::new(alloc, settings)?;
+    Ok(mapped_get(settings, request, target, peer))
+}
+
+/// A GET of the target, which this server has, if it isn't too large.
+fn mapped_get(
+    settings: Arc<Settings>,
+    request: Request,
+    target: Target,
+    peer: Peer,
+) -> Option<Mapped<Nothing>>
+    requires method { method_named request.method.items ≡ Some Method.Get }
+    requires target { target_at (arc_value settings).base (origin_form request.target.items) ≡ Ok target }
+    requires peer { peer_in (arc_value settings).directory target ≡ Some peer }
+{
+    let meaning = Meaning::Ask {
+        method: Method::Get,
+        target,
+        peer,
+        accept: None,
+        format: None,
+        payload: Payload::Empty,
+    };
+    let came = Incoming::Request(request);
+    if incoming_size(&came) > REQUEST_LIMIT {
+        return None;
+    }
+    Some(Mapped::new(came, meaning, settings))
 }
 
 #[test]
@@ -37,5 +132,96 @@ fn at_most_256_are_open(rt: HostRuntime) {
     }
     assert_eq!(rt; core.open(0), Err(OpenFault::Full));
     assert!(rt; core.close(0, 17));
-    assert_eq!(rt; core.open(0), Ok(257));
+    assert_eq!(rt; core.open(0), Ok(256));
+}
+
+#[test]
+fn a_full_journal_is_sealed(rt: HostRuntime) {
+    let alloc: Global = rt.alloc();
+    let mut core: Core<Nothing> = Core::new(alloc).expect(&rt, "memory");
+    // an opening leaves a place for its closing and one for the seal
+    for _ in 0..32767 {
+        let conn = core.open(0).expect(&rt, "a connection");
+        assert!(rt; core.close(0, conn));
+    }
+    assert_eq!(rt; core.open(5), Err(OpenFault::Sealed));
+    assert_eq!(rt; core.journal().len(), 65535);
+    assert_eq!(rt; core.open(6), Err(OpenFault::Sealed));
+    assert_eq!(rt; core.journal().len(), 65535);
+}
+
+#[test]
+fn a_refusal_is_answered_once(rt: HostRuntime) {
+    let alloc: Global = rt.alloc();
+    let mut core: Core<Nothing> = Core::new(alloc).expect(&rt, "memory");
+    let conn = core.open(0).expect(&rt, "a connection");
+    let mapped = too_large(alloc).expect(&rt, "memory");
+    let again = too_large(alloc).expect(&rt, "memory");
+    match core.ask(5, 0, 7, again) {
+        Err(fault) => assert_eq!(rt; fault, AskFault::Unknown),
+        Ok(_) => assert!(rt; false),
+    }
+    let Ok(ticket) = core.ask(5, 0, conn, mapped) else {
+        assert!(rt; false);
+        return;
+    };
+    assert_eq!(rt; ticket.number, 1);
+    match core.journal().get(2) {
+        Some(entry) => match &entry.event {
+            Event::Answered { conn, ask, .. } => {
+                assert_eq!(rt; *conn, 0);
+                assert_eq!(rt; *ask, 1);
+            }
+            _ => assert!(rt; false),
+        },
+        None => assert!(rt; false),
+    }
+    match core.take_answer(&ticket) {
+        Some(answer) => {
+            assert_eq!(rt; answer.number, 2);
+            assert_eq!(rt; answer.moment, 5);
+            match answer.finding.outcome() {
+                Outcome::Fault(cause) => assert_eq!(rt; *cause, Cause::BadHttp),
+                Outcome::Whole(_) => assert!(rt; false),
+            }
+        }
+        None => assert!(rt; false),
+    }
+    assert!(rt; core.take_answer(&ticket).is_none());
+}
+
+#[test]
+fn a_request_opens_an_exchange(rt: HostRuntime) {
+    let alloc: Global = rt.alloc();
+    let mut core: Core<Nothing> = Core::new(alloc).expect(&rt, "memory");
+    let conn = core.open(0).expect(&rt, "a connection");
+    let head = b"GET /hc/coap://s.example.com/light HTTP/1.1\r\nHost: p\r\n\r\n";
+    let mapped = asked(alloc, head)
+        .expect(&rt, "memory")
+        .expect(&rt, "a request");
+    let again = asked(alloc, head)
+        .expect(&rt, "memory")
+        .expect(&rt, "a request");
+    let Ok(ticket) = core.ask(0, 0, conn, mapped) else {
+        assert!(rt; false);
+        return;
+    };
+    assert_eq!(rt; ticket.number, 1);
+    // the header and the token, Uri-Host, and Uri-Path
+    let want = b"\x48\x01\0\0\0\0\0\0\0\0\0\0\x3d\0s.example.com\x85light";
+    match core.journal().get(2) {
+        Some(entry) => match &entry.event {
+            Event::Sent { bytes, timeout, .. } => {
+                assert_eq!(rt; bytes.as_slice(), want.as_slice());
+                assert_eq!(rt; *timeout, Some(2000));
+            }
+            _ => assert!(rt; false),
+        },
+        None => assert!(rt; false),
+    }
+    match core.ask(1, 0, conn, again) {
+        Err(fault) => assert_eq!(rt; fault, AskFault::Pending),
+        Ok(_) => assert!(rt; false),
+    }
+    assert!(rt; core.take_answer(&ticket).is_none());
 }

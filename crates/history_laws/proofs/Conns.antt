@@ -1,5 +1,5 @@
 -- A connection that is kept is open, and its pending ask is the one that is answered next.
-use Rattle.std.proofs.Common.{◌≡◌, ℕ, suc, ◌+◌, ◌<◌, ◌≤◌, Bool, true, false, not, ◌||◌, eqb, inl, inr, List, [], ◌∷◌, ◌++◌, length, Option, Some, None, refl, sym, ap, subst, ◌∙◌, arith, length-append}
+use Rattle.std.proofs.Common.{◌≡◌, ℕ, ◌+◌, ◌<◌, ◌≤◌, Bool, true, false, not, ◌||◌, eqb, inl, inr, List, [], ◌∷◌, ◌++◌, length, Option, Some, None, refl, sym, ap, subst, ◌∙◌, arith, length-append}
 use Rattle.std.specs.List.{All, slice_get}
 use Rattle.std.proofs.lemmas.Option.{slice_get_within}
 use Rattle.std.proofs.lemmas.List.Elements.{All-nil, All-push, All-weaker, All-map, All-filter, filter_passes}
@@ -9,7 +9,7 @@ use Rattle.ask_model.specs.Requests.{Ask}
 use Rattle.journal_book.specs.Entries.{Grounds, Deed, Opens, Asks, Sends, Hears, Passes, Answers, Shuts, Seals}
 use Rattle.history_laws.specs.declared.kept.Conn.{Conn}
 use Rattle.history_laws.specs.Readings.{Noted, Note}
-use Rattle.history_laws.specs.Connections.{asks_of, answers_of, is_open}
+use Rattle.history_laws.specs.Connections.{asks_of, answers_of, is_open, opened_by, opened}
 use Rattle.history_laws.specs.Justified.{Follows, Legal}
 use Rattle.history_laws.specs.Kept.{pend, conns_of}
 use Rattle.history_laws.proofs.Facts.{noted}
@@ -21,12 +21,12 @@ TurnIn l c (Some k) =
     (slice_get (asks_of l c) (length (answers_of l c)) ≡ Some k) × (length (asks_of l c) ≡ length (answers_of l c) + 1)
 
 pub record ConnIn (l : List Noted) (x : Conn) : Type 0 where
-  pub below : x.id < length l
+  pub below : x.id < opened l
   pub open_now : is_open l x.id ≡ true
   pub turn : TurnIn l x.id x.pending
 
-open-step : (older : List Noted) (c t : ℕ) (d : Deed) (note : Note) → (is_open older c ≡ true → c < length older)
-    → Follows older t d note → is_open (noted t d note ∷ older) c ≡ true → c < suc (length older)
+open-step : (older : List Noted) (c t : ℕ) (d : Deed) (note : Note) → (is_open older c ≡ true → c < opened older)
+    → Follows older t d note → is_open (noted t d note ∷ older) c ≡ true → c < opened_by d (opened older)
 open-step older c t (Opens e) note ih may h =
     let here = may.1 in
     elim (eqb_tells e c) [ inl w ↦ omega arith | inr w ↦ let r = ih (rw (w.0) at h) in omega arith ]
@@ -40,7 +40,7 @@ open-step older c t (Answers e k g) note ih may h = let r = ih h in omega arith
 open-step older c t Seals note ih may h = let r = ih h in omega arith
 
 -- a connection is known by a number below
-pub is_open-below : (l : List Noted) → Legal l → (c : ℕ) → is_open l c ≡ true → c < length l
+pub is_open-below : (l : List Noted) → Legal l → (c : ℕ) → is_open l c ≡ true → c < opened l
 is_open-below [] legal c e = absurd (false≢true e)
 is_open-below (x ∷ older) legal c e =
     open-step older c x.written.moment x.written.deed x.note (is_open-below older legal.0 c) legal.2 e
@@ -48,7 +48,11 @@ is_open-below (x ∷ older) legal c e =
 abbrev NothingOf : List Noted → ℕ → Type 0
 NothingOf l c = (asks_of l c ≡ []) × (answers_of l c ≡ [])
 
-asked-step : (older : List Noted) (c t : ℕ) (d : Deed) (note : Note) → Legal older → length older < c
+opened-more : (d : Deed) (n : ℕ) → n ≤ opened_by d n
+opened-more (Opens c) n = omega arith
+opened-more d n = omega arith
+
+asked-step : (older : List Noted) (c t : ℕ) (d : Deed) (note : Note) → Legal older → opened_by d (opened older) ≤ c
     → NothingOf older c → Follows older t d note → NothingOf (noted t d note ∷ older) c
 asked-step older c t (Asks e a) note legal lt ih may =
     let b = is_open-below older legal e may.1 in
@@ -58,10 +62,11 @@ asked-step older c t (Answers e k g) note legal lt ih may =
     elim (eqb_tells e c) [ inl w ↦ absurd (omega arith) | inr w ↦ rw (w.0) ih ]
 asked-step older c t d note legal lt ih may = ih
 
-pub none-asked : (l : List Noted) → Legal l → (c : ℕ) → length l ≤ c → NothingOf l c
+pub none-asked : (l : List Noted) → Legal l → (c : ℕ) → opened l ≤ c → NothingOf l c
 none-asked [] legal c h = (refl, refl)
 none-asked (x ∷ older) legal c h =
-    asked-step older c x.written.moment x.written.deed x.note legal.0 (omega arith) (none-asked older legal.0 c (omega arith)) legal.2
+    let more = opened-more x.written.deed (opened older) in
+    asked-step older c x.written.moment x.written.deed x.note legal.0 h (none-asked older legal.0 c (omega arith)) legal.2
 
 pub slice_get-push : {X : Type 0} (xs : List X) (y : X) (n : ℕ) → length xs ≡ n → slice_get (xs ++ y ∷ []) n ≡ Some y
 slice_get-push [] y n e = rw (← e) refl
@@ -74,7 +79,7 @@ conn-keeps : (x' : Noted) (l : List Noted) (x : Conn)
     → ConnIn l x → ConnIn (x' ∷ l) x
 conn-keeps x' l x e f g h =
     record {
-      below = let b = h.below in omega arith;
+      below = let b = h.below in let more = opened-more x'.written.deed (opened l) in omega arith;
       open_now = e ∙ h.open_now;
       turn = turn x.pending h.turn;
     }
@@ -135,7 +140,7 @@ answered-conn l t c k g note may x w =
 conns-step : (l : List Noted) (t : ℕ) (d : Deed) (note : Note) → Legal l → Follows l t d note
     → All (ConnIn l) (conns_of l) → All (ConnIn (noted t d note ∷ l)) (conns_of (noted t d note ∷ l))
 conns-step l t (Opens c) note legal may h =
-    let here : c ≡ length l = may.1 in
+    let here : c ≡ opened l = may.1 in
     let none = none-asked l legal c (omega arith) in
     All-push (ConnIn (noted t (Opens c) note ∷ l)) _ _
     (All-weaker (ConnIn l) (ConnIn (noted t (Opens c) note ∷ l))

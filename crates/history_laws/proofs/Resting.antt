@@ -13,7 +13,7 @@ use Rattle.history_laws.specs.Readings.{Noted}
 use Rattle.history_laws.specs.Connections.{is_open, open_by, asks_of, answers_of}
 use Rattle.history_laws.specs.Exchanges.{waits_for}
 use Rattle.history_laws.specs.Justified.{IsReader, IsGoing, Stands}
-use Rattle.history_laws.specs.Kept.{pend, conns_after, conns_of, sending_of, ExchangeIn, WaitsFor, Agrees}
+use Rattle.history_laws.specs.Kept.{pend, conns_after, conns_of, sending_of, ExchangeIn, WaitsFor, Held, Agrees}
 use Rattle.history_laws.proofs.Openings.{open-exactly}
 use Rattle.history_laws.proofs.Conns.{ConnIn, TurnIn, conns-open}
 
@@ -96,7 +96,7 @@ kept-of P (e ∷ es) o all (suc k, lt, w) = kept-of P es o (All-tail P e es all)
 All-both : {X : Type 0} (P Q : X → Type 0) (xs : List X) → All P xs → All Q xs → All (λ x. P x × Q x) xs
 All-both P Q xs a b k d h = (a k d h, b k d h)
 
-pub Agrees-stands : (h : List Written) (cs : List Conn) (es : List Exchange) (s : Bool) (m : ℕ) → Agrees h cs es s m → Stands h
+pub Agrees-stands : (h : List Written) (cs : List Conn) (es : Held) (s : Bool) (m : ℕ) → Agrees h cs es s m → Stands h
 Agrees-stands h cs es s m a =
     let l = a.reading in
     let r = a.reads in
@@ -113,7 +113,7 @@ Agrees-stands h cs es s m a =
         given = λ sealed. a.given;
         sent = λ sealed o going.
             let has = (open-exactly l o).1 going in
-            let e = kept-of (ExchangeIn l) es o r.exchanges_are (subst (λ (os : List ℕ). Contains os o) (sym r.keys) has) in
+            let e = kept-of (ExchangeIn l) es.exchanges o r.exchanges_are (subst (λ (os : List ℕ). Contains os o) (sym r.keys) has) in
             ap is_some (subst (λ (o : ℕ). waits_for l o ≡ Some (sending_of e.0)) e.2 e.1.waits);
       };
     }

@@ -1,5 +1,5 @@
 -- What the history says of a connection.
-use Rattle.std.specs.Prelude.{ℕ, Bool, true, false, not, ◌&&◌, ◌||◌, List, [], ◌∷◌, ◌++◌, length, ◌==◌, if◌then◌else◌}
+use Rattle.std.specs.Prelude.{ℕ, ◌+◌, Bool, true, false, not, ◌&&◌, ◌||◌, List, [], ◌∷◌, ◌++◌, length, ◌==◌, if◌then◌else◌}
 use Rattle.journal_book.specs.Entries.{Deed, Opens, Asks, Answers, Shuts, Seals}
 use Rattle.history_laws.specs.Readings.{Noted}
 
@@ -39,3 +39,12 @@ sealed_by _ old = old
 abbrev pub is_sealed : List Noted → Bool
 is_sealed [] = false
 is_sealed (x ∷ older) = sealed_by x.written.deed (is_sealed older)
+
+-- how many were opened
+abbrev pub opened_by : Deed → ℕ → ℕ
+opened_by (Opens c) old = old + 1
+opened_by _ old = old
+
+abbrev pub opened : List Noted → ℕ
+opened [] = 0
+opened (x ∷ older) = opened_by x.written.deed (opened older)

@@ -8,7 +8,7 @@ use Rattle.ask_model.specs.declared.cause.Cause.TheVariants.{BadHttp, NoMap, Met
 use Rattle.ask_model.specs.Requests.{Ask}
 use Rattle.journal_book.specs.Entries.{Grounds, Live, Kept, Fault, Deed, Opens, Asks, Sends, Hears, Passes, Answers, Shuts, Seals, Written}
 use Rattle.history_laws.specs.Readings.{Noted, Note, Plain, Begins, First, Copies, Confirms, Says, Garbled, entries, at, before, newest}
-use Rattle.history_laws.specs.Connections.{is_open, asks_of, answers_of, is_sealed}
+use Rattle.history_laws.specs.Connections.{is_open, asks_of, answers_of, is_sealed, opened}
 use Rattle.history_laws.specs.Responses.{Response, Ending, Whole, NotUnderstood, Reset, TimedOut}
 use Rattle.history_laws.specs.Exchanges.{max_transmit_wait, waits_for, Reply, replies, end_of, open_exchanges, sent_last}
 use Rattle.history_laws.specs.Confirming.{empty, Confirmation, owed}
@@ -145,9 +145,9 @@ IsPlain _ = ⊥
 abbrev pub MayCome : List Noted → Type 0
 MayCome l = (is_sealed l ≡ false) × (owed l ≡ None)
 
--- Which entry may follow, at this moment.
+-- Which entry may follow, at this moment. Connections are numbered from 0, in the order in which they are opened.
 abbrev pub Follows : List Noted → ℕ → Deed → Note → Type 0
-Follows l t (Opens c) note = MayCome l × (c ≡ length l) × IsPlain note
+Follows l t (Opens c) note = MayCome l × (c ≡ opened l) × IsPlain note
 Follows l t (Asks c a) note =
     MayCome l × (is_open l c ≡ true) × (length (asks_of l c) ≡ length (answers_of l c)) × AskNote l a.sense note
 Follows l t (Sends p bytes w) note = (is_sealed l ≡ false) × SentNote l p bytes w note

@@ -5,6 +5,9 @@ pub mod Exchanges
 pub mod Confirming
 pub mod Limits
 pub mod Justified
+pub mod Numbering
+pub mod Remembering
 pub mod Kept
+pub mod Amid
 pub mod Laws
 pub mod Worked

@@ -1,5 +1,6 @@
 use super::*;
 use std::alloc::Global;
+use std::ops::Range;
 use std::sync::Arc;
 use std::test::Fail;
 
@@ -121,16 +122,96 @@ fn heads(rt: HostRuntime) -> Result<(), Fail> {
     Ok(())
 }
 
+/// The text is read so at each pair of cuts outside the range.
+fn reads_in_three(
+    alloc: Global,
+    text: &[u8],
+    range: Range<usize>,
+    want: &[u8],
+) -> Result<bool, Fail> {
+    for first in 0..text.len() {
+        for second in first..text.len() {
+            if !range.contains(&first) && !range.contains(&second) {
+                let pieces = [&text[..first], &text[first..second], &text[second..]];
+                if read(alloc, &pieces)?.as_slice() != want {
+                    return Ok(false);
+                }
+            }
+        }
+    }
+    Ok(true)
+}
+
 #[test]
 fn pairs_of_cuts(rt: HostRuntime) -> Result<(), Fail> {
-    let text = b"PUT /a HTTP/1.1\r\nHost: p\r\nContent-Length: 3\r\n\r\noff";
+    let cases: [(&[u8], &[u8]); 6] = [
+        (
+            b"GET /hc/coap://s.example.com/light HTTP/1.1\r\nHost: p\r\n\r\n",
+            b"[GET /hc/coap://s.example.com/light ]",
+        ),
+        (
+            b"GET /light HTTP/1.1\r\nHost: p\r\n\r\nGET /light HTTP/1.1\r\nHost: p\r\n\r\n",
+            b"[GET /light ][GET /light ]",
+        ),
+        (
+            b"HEAD /hc/coap://s.example.com/light HTTP/1.1\r\nHost: p\r\n\r\n",
+            b"[HEAD /hc/coap://s.example.com/light ]",
+        ),
+        (
+            b"PUT /light HTTP/1.1\r\nHost: p\r\nContent-Length: 3\r\n\r\noff",
+            b"[PUT /light off]",
+        ),
+        (
+            b"PUT /light HTTP/1.1\r\nHost: p\r\nTransfer-Encoding: chunked\r\n\r\n3\r\noff\r\n0\r\n\r\n",
+            b"[PUT /light off]",
+        ),
+        (
+            b"PUT /light HTTP/1.1\r\nHost: p\r\nTransfer-Encoding: chunked\r\nContent-Length: 3\r\n\r\noff",
+            b"[400]",
+        ),
+    ];
+    for (text, want) in cases {
+        assert!(rt; reads_in_three(rt.alloc(), text, 0..0, want)?, "{want:?}");
+    }
+    Ok(())
+}
+
+/// The client is told to go on where a piece ends behind the head and before the body's end.
+#[test]
+fn pairs_of_cuts_that_continue(rt: HostRuntime) -> Result<(), Fail> {
+    let head =
+        b"PUT /light HTTP/1.1\r\nHost: p\r\nExpect: 100-continue\r\nContent-Length: 3\r\n\r\n";
+    let mut text = Vec::from_slice(rt.alloc(), head)?;
+    text.extend_from_slice(b"off")?;
     for first in 0..text.len() {
-        let (front, behind) = text.split_at(first);
-        for second in 0..behind.len() {
-            let (middle, back) = behind.split_at(second);
-            let got = read(rt.alloc(), &[front, middle, back])?;
-            assert_eq!(rt; got.as_slice(), &b"[PUT /a off]"[..]);
+        for second in first..text.len() {
+            let pieces = [&text[..first], &text[first..second], &text[second..]];
+            let want: &[u8] = if second >= head.len() {
+                b"[?][PUT /light off]"
+            } else {
+                b"[PUT /light off]"
+            };
+            assert_eq!(rt; read(rt.alloc(), &pieces)?.as_slice(), want);
         }
+    }
+    Ok(())
+}
+
+/// A chunk's line of 256 bytes is read, and one of 257 is refused. The cuts in the midst of its
+/// equal bytes are left out.
+#[test]
+fn pairs_of_cuts_in_a_chunk_line(rt: HostRuntime) -> Result<(), Fail> {
+    let head = b"PUT /light HTTP/1.1\r\nHost: p\r\nTransfer-Encoding: chunked\r\n\r\n3;";
+    for (count, want) in [(252, &b"[PUT /light off]"[..]), (253, &b"[400]"[..])] {
+        let mut text = Vec::from_slice(rt.alloc(), head)?;
+        for _ in 0..count {
+            text.push(b'a')?;
+        }
+        text.extend_from_slice(b"\r\noff\r\n0\r\n\r\n")?;
+        assert!(rt;
+            reads_in_three(rt.alloc(), &text, 80..300, want)?,
+            "{want:?}"
+        );
     }
     Ok(())
 }
@@ -334,7 +415,22 @@ fn answers(rt: HostRuntime) -> Result<(), Fail> {
     Ok(())
 }
 
-/// The lengths of two bodies are read though a call is refused memory, and made again.
+#[test]
+fn refusals_in_words(rt: HostRuntime) -> Result<(), Fail> {
+    let alloc = rt.alloc();
+    let rows = [
+        (BadKind::Syntax, "not an HTTP request"),
+        (BadKind::Large, "a body above 65536 bytes"),
+        (BadKind::Coding, "a transfer coding other than chunked"),
+    ];
+    for (kind, want) in rows {
+        assert_eq!(rt; format!(in alloc; "{kind}")?.as_str(), want);
+    }
+    assert_eq!(rt; format!(in alloc; "{}", Memory)?.as_str(), "out of memory");
+    Ok(())
+}
+
+/// Two requests are read whole though a call is refused memory, and made again.
 #[test]
 fn memory(rt: HostRuntime) -> Result<(), Fail> {
     let mut edge = match Edge::new(rt.alloc()) {
@@ -342,14 +438,29 @@ fn memory(rt: HostRuntime) -> Result<(), Fail> {
         Err(_) => Edge::new(rt.alloc())?,
     };
     edge.feed(
-        b"PUT / HTTP/1.1\r\nHost: p\r\nTransfer-Encoding: chunked\r\n\r\n3\r\noff\r\n0\r\n\r\nPUT / HTTP/1.1\r\nHost: p\r\nContent-Length: 2\r\n\r\non",
+        b"PUT /a HTTP/1.1\r\nHost: p\r\nTransfer-Encoding: chunked\r\n\r\n3\r\noff\r\n0\r\n\r\nPUT /b HTTP/1.1\r\nHost: p\r\nContent-Length: 2\r\n\r\non",
     );
-    let mut total = 0;
-    for _ in 0..6 {
-        if let Ok(Some(Incoming::Request(request))) = edge.next() {
-            total = 10 * (total % 10) + request.body.len() % 10;
+    let wanted: [(&[u8], &[u8]); 2] = [(b"/a", b"off"), (b"/b", b"on")];
+    let mut given = 0;
+    // Two requests, a call that is refused, and one for which nothing is left.
+    for _ in 0..4 {
+        match edge.next() {
+            Ok(Some(Incoming::Request(request))) => {
+                assert!(rt; given < wanted.len());
+                let (target, body) = wanted[given];
+                assert_eq!(rt; request.method.as_slice(), &b"PUT"[..]);
+                assert_eq!(rt; request.target.as_slice(), target);
+                assert_eq!(rt; request.fields.len(), 2);
+                assert!(rt; request.fields.contains_key("host"));
+                assert_eq!(rt; request.body.as_slice(), body);
+                assert!(rt; !request.close);
+                given += 1;
+            }
+            Ok(None) => assert_eq!(rt; given, wanted.len()),
+            Ok(Some(Incoming::Bad(_))) => assert!(rt; false, "refused"),
+            Err(Memory) => {}
         }
     }
-    assert_eq!(rt; total, 32);
+    assert_eq!(rt; given, wanted.len());
     Ok(())
 }

@@ -1,10 +1,9 @@
 -- The entries of a journal: plain data.
-use Rattle.std.specs.Prelude.{ℕ, ◌+◌, ◌-◌, ◌*◌, ◌^◌, min, List, length, sum_by, Option}
+use Rattle.std.specs.Prelude.{ℕ, ◌+◌, ◌*◌, List, length, Option}
 use Rattle.ask_model.specs.declared.cause.Cause.{Cause}
 use Rattle.uri_map.specs.declared.peer.Peer.{Peer}
-use Rattle.http_header.specs.FieldValue.{FieldValue}
-use Rattle.http_header.specs.HeaderMap.{pairs}
-use Rattle.ask_model.specs.Requests.{Came, Whole, Bad, Ask}
+use Rattle.ask_model.specs.Requests.{Ask}
+use Rattle.ask_model.specs.Sizes.{came_size}
 
 -- What an answer rests on. The numbers are those of entries: of the replies just heard, of the replies of
 -- a stored response, or of the entry that a cause names.
@@ -35,14 +34,6 @@ pub record JournalValue : Type 0 where
   pub entries : List Written
   pub room : ℕ
 
--- the bytes of a field line: its name and its value
-abbrev pub field_size : List ℕ × FieldValue → ℕ
-field_size f = length f.0 + length f.1.bytes
-
-abbrev pub came_size : Came → ℕ
-came_size (Whole r) = length r.method + length r.target + sum_by field_size (pairs r.fields) + length r.body
-came_size (Bad kind) = 0
-
 abbrev pub grounds_size : Grounds → ℕ
 grounds_size (Live js) = 4 * length js
 grounds_size (Kept js) = 4 * length js
@@ -58,7 +49,3 @@ deed_size _ = 0
 -- what an entry counts: 64 bytes, its byte strings, and 4 bytes for each number of its grounds
 abbrev pub entry_size : Written → ℕ
 entry_size e = 64 + deed_size e.deed
-
--- the largest number that 64 bits count to, in place of any larger one
-abbrev pub capped : ℕ → ℕ
-capped n = min n (2 ^ 64 - 1)

@@ -20,7 +20,7 @@ grounds_of (G.Fault cause n) = Fault cause n
 abbrev pub event_of : {R : Type 0} → Event R → Deed
 event_of (E.Opened c) = Opens c
 event_of (E.Asked c m) = Asks c (ask_of (arc_value m))
-event_of (E.Sent p b t) = Sends p b t
+event_of (E.Sent p b t) = Sends p (arc_value b) t
 event_of (E.Heard p b) = Hears p b
 event_of E.Passed = Passes
 event_of (E.Answered c k g) = Answers c k (grounds_of g)

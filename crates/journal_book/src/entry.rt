@@ -44,7 +44,7 @@ pub enum Event<R: Relation> {
     /// a datagram was sent; a first sending bears its first timeout in milliseconds
     Sent {
         peer: Peer,
-        bytes: Bytes,
+        bytes: Arc<Bytes>,
         timeout: Option<u32>,
     },
     /// a datagram came in
@@ -67,7 +67,7 @@ pub enum Event<R: Relation> {
 }
 
 impl<R: Relation> Event<R> {
-    /// An equal event; requests are shared.
+    /// An equal event; requests and the bytes of what was sent are shared.
     pub fn copy(&self) -> Result<Event<R>, AllocError>
         ensures { IfOk result (λ e. event_of e ≡ event_of self.now) }
     {
@@ -80,7 +80,7 @@ impl<R: Relation> Event<R> {
                 timeout,
             } => Ok(Event::Sent {
                 peer: *peer,
-                bytes: bytes.copy()?,
+                bytes: Arc::try_clone(bytes)?,
                 timeout: *timeout,
             }),
             Event::Heard { peer, bytes } => Ok(Event::Heard {

@@ -1,7 +1,9 @@
-use crate::{Entry, Event, Grounds, Journal, Numbers};
+use crate::{Entry, Event, Grounds, Journal, Numbers, incoming_size};
 use ask_model::{Bytes, Cause};
+use http_edge::{BadKind, Incoming};
 use std::alloc::{AllocError, Global};
 use std::net::{IpAddr, Ipv4Addr};
+use std::sync::Arc;
 use transformers::Relation;
 use uri_map::Peer;
 
@@ -65,6 +67,35 @@ fn entries_stand_in_order(rt: HostRuntime) {
     assert_eq!(rt; sizes, 198);
 }
 
+/// The entry of a datagram that was sent.
+fn sending(alloc: Global) -> Result<Entry<Nothing>, AllocError> {
+    let bytes = Arc::new(alloc, Bytes::from_slice(alloc, &[0x48, 0x01])?)?;
+    Ok(Entry {
+        moment: 7,
+        event: Event::Sent {
+            peer: server(),
+            bytes,
+            timeout: Some(2000),
+        },
+    })
+}
+
+#[test]
+fn what_was_sent_is_copied_and_counted(rt: HostRuntime) {
+    let alloc: Global = rt.alloc();
+    let entry = sending(alloc).expect(&rt, "memory");
+    let copy = entry.copy().expect(&rt, "memory");
+    // 64 bytes for the entry, two of the datagram
+    assert_eq!(rt; copy.size(), 66);
+    match &copy.event {
+        Event::Sent { bytes, timeout, .. } => {
+            assert_eq!(rt; bytes.as_slice(), [0x48, 0x01].as_slice());
+            assert_eq!(rt; *timeout, Some(2000));
+        }
+        _ => assert!(rt; false),
+    }
+}
+
 #[test]
 fn numbers_count_four_bytes(rt: HostRuntime) {
     let alloc: Global = rt.alloc();
@@ -73,4 +104,9 @@ fn numbers_count_four_bytes(rt: HostRuntime) {
     assert_eq!(rt; grounds.size(), 8);
     let copy = grounds.copy().expect(&rt, "memory");
     assert_eq!(rt; copy.size(), 8);
+}
+
+#[test]
+fn what_is_no_request_counts_nothing(rt: HostRuntime) {
+    assert_eq!(rt; incoming_size(&Incoming::Bad(BadKind::Large)), 0);
 }

@@ -1,6 +1,7 @@
 pub mod First
 pub mod Passed
 pub mod Items
+pub mod Passing
 pub mod Members
 pub mod Texts
 pub mod Within

@@ -1,7 +1,9 @@
 -- Laws of the relations.
 use Rattle.std.proofs.Common.{◌≡◌, List, ℕ, Some, refl, sym, ap, ◌∙◌}
+use Rattle.serde_json.specs.Data.{Data}
 use Rattle.serde_json.specs.Written.{compact_text}
-use Rattle.transformers.specs.Kinds.{CborToJson, JsonToCbor, TakesCbor, TakesJson, IsShortestOf}
+use Rattle.transformers.specs.Kinds.{CborToJson, JsonToCbor, TakesCbor, TakesJson, IsInProfile, IsShortestOf}
+use Rattle.transformers.specs.Item.{denoted}
 use Rattle.transformers.specs.Shortest.{shortest}
 use Rattle.transformers.proofs.Within.{some_is, denoted_within}
 
@@ -26,3 +28,17 @@ pub made_shortest : (x y z : List ℕ) → CborToJson x y → JsonToCbor y z →
 made_shortest x y z a b =
     let same : b.value ≡ a.value = some_is b.value a.value (sym b.from ∙ a.to) in
     record { value = a.value; from = a.from; to = b.to ∙ ap Some same; shortest = b.shortest ∙ ap shortest same }
+
+-- ---- the shortest encoding
+
+pub one_shortest : (x y z : List ℕ) → IsShortestOf x y → IsShortestOf x z → y ≡ z
+one_shortest x y z a b = a.shortest ∙ ap shortest (some_is a.value b.value (sym a.from ∙ b.from)) ∙ sym b.shortest
+
+pub shortest_itself : (x z : List ℕ) → IsShortestOf x z → IsShortestOf z z
+shortest_itself x z a = record { value = a.value; from = a.to; to = a.to; shortest = a.shortest }
+
+pub shortest_tells : (x y z : List ℕ) → IsShortestOf x z → IsShortestOf y z → denoted x ≡ denoted y
+shortest_tells x y z a b = a.from ∙ sym a.to ∙ b.to ∙ sym b.from
+
+pub in_profile : (x : List ℕ) (d : Data) → denoted x ≡ Some d → IsInProfile d
+in_profile x d e = let within = denoted_within x d e in record { whole = within.0; nested = within.1 }

@@ -1,6 +1,7 @@
 pub mod Keeps
 pub mod Suits
 pub mod Item
+pub mod Passing
 pub mod Shortest
 pub mod ReadBack
 pub mod Kinds

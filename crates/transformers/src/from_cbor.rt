@@ -1,5 +1,7 @@
+ghost use Rattle.std.specs.Prelude.{◌≡◌, ◌↔◌, Err};
 ghost use Rattle.transformers.specs.Keeps.{Fits};
 ghost use Rattle.transformers.specs.Kinds.{CborToJson, TakesCbor};
+ghost use Rattle.transformers.specs.declared.refused.Refused.TheVariants.{Content, Memory};
 
 use crate::item::value_of;
 use crate::refused::Refused;
@@ -9,9 +11,11 @@ use std::alloc::Global;
 ///
 /// The input is one item with nothing behind it: whole numbers of `-2^63` to `2^64 - 1`, text, arrays, maps with
 /// text keys that differ, false, true and null, with at most 32 arrays and maps within each other. Heads may be of
-/// any length. All else is refused.
+/// any length. All else is refused, and for its content also where memory is wanted.
 pub fn cbor_json(alloc: Global, input: &[u8]) -> Result<Vec<u8>, Refused>
     ensures fits { Fits (CborToJson input.now) (TakesCbor input.now) result }
+    ensures refused { (result ≡ Err Content) ↔ (¬ TakesCbor input.now) }
+    ensures memory { result ≡ Err Memory → TakesCbor input.now }
 {
     let value = value_of(alloc, input)?;
     Ok(value.to_string(alloc)?.into_bytes())

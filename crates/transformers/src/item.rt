@@ -1,12 +1,13 @@
-ghost use Rattle.std.specs.Prelude.{◌≡◌, List, [], map, Some, None, IfOk, OnOk, IfSome, string_bytes};
+ghost use Rattle.std.specs.Prelude.{◌≡◌, List, [], map, Some, None, IfOk, OnOk, IfSome, IsSome, string_bytes};
 ghost use Rattle.std.specs.Option.{option_map};
 ghost use Rattle.serde_json.specs.Data.{no_members};
 ghost use Rattle.serde_json.specs.View.{view, members_view};
 ghost use Rattle.transformers.specs.Item.{body_at, denoted, inner_of, item_at, key_at, many_at, negative_of, next_item, next_member, put_new, simple_at, text_at};
-ghost use Rattle.transformers.specs.declared.refused.Refused.TheVariants.{Content};
+ghost use Rattle.transformers.specs.declared.refused.Refused.TheVariants.{Content, Memory};
 
 use crate::head::{Major, head};
 use crate::refused::Refused;
+use crate::taken::is_taken;
 use serde_json::{Map, Value};
 use std::alloc::Global;
 use std::str;
@@ -16,7 +17,7 @@ pub(crate) const DEEPEST: u8 = 32;
 
 // A text of so many bytes, and what follows.
 #[tactic(auto, unfolding(crate::specs::Item::text_at))]
-fn text(length: u64, bytes: &[u8]) -> Option<(&str, &[u8])>
+pub(crate) fn text(length: u64, bytes: &[u8]) -> Option<(&str, &[u8])>
     ensures { option_map (λ x. (x.0.now, x.1.now)) result ≡ text_at length bytes.now }
 {
     if length > bytes.len() as u64 {
@@ -31,7 +32,7 @@ fn text(length: u64, bytes: &[u8]) -> Option<(&str, &[u8])>
 
 // A key: an item that is a text.
 #[tactic(auto, unfolding(crate::specs::Item::key_at))]
-fn key(bytes: &[u8]) -> Option<(&str, &[u8])>
+pub(crate) fn key(bytes: &[u8]) -> Option<(&str, &[u8])>
     ensures { option_map (λ x. (x.0.now, x.1.now)) result ≡ key_at bytes.now }
 {
     match head(bytes)? {
@@ -42,7 +43,7 @@ fn key(bytes: &[u8]) -> Option<(&str, &[u8])>
 
 // -1 - n, where it isn't below -2^63.
 #[tactic(auto, unfolding(crate::specs::Item::negative_of))]
-fn negative(n: u64) -> Option<Value>
+pub(crate) fn negative(n: u64) -> Option<Value>
     ensures { option_map view result ≡ negative_of n }
 {
     if n < 1 << 63 {
@@ -54,7 +55,7 @@ fn negative(n: u64) -> Option<Value>
 
 // False, true or null.
 #[tactic(auto, unfolding(crate::specs::Item::simple_at))]
-fn simple(bytes: &[u8]) -> Option<(Value, &[u8])>
+pub(crate) fn simple(bytes: &[u8]) -> Option<(Value, &[u8])>
     ensures { option_map (λ x. (view x.0, x.1.now)) result ≡ simple_at bytes.now }
 {
     match bytes {
@@ -187,9 +188,28 @@ fn member<'b>(
     Ok(rest)
 }
 
+// The value that one item denotes, with nothing behind it. Where memory is wanted, a fault of the input is told first.
+pub(crate) fn value_of(alloc: Global, bytes: &[u8]) -> Result<Value, Refused>
+    ensures ok { IfOk result (λ v. denoted bytes.now ≡ Some (view v)) }
+    ensures content { result ≡ Err Content → denoted bytes.now ≡ None }
+    ensures memory { result ≡ Err Memory → IsSome (denoted bytes.now) }
+{
+    match whole(alloc, bytes) {
+        Ok(value) => Ok(value),
+        Err(Refused::Content) => Err(Refused::Content),
+        Err(Refused::Memory) => {
+            if is_taken(bytes) {
+                Err(Refused::Memory)
+            } else {
+                Err(Refused::Content)
+            }
+        }
+    }
+}
+
 // The value that one item denotes, with nothing behind it.
 #[tactic(auto, unfolding(crate::specs::Item::denoted))]
-pub(crate) fn value_of(alloc: Global, bytes: &[u8]) -> Result<Value, Refused>
+fn whole(alloc: Global, bytes: &[u8]) -> Result<Value, Refused>
     ensures ok { IfOk result (λ v. denoted bytes.now ≡ Some (view v)) }
     ensures content { result ≡ Err Content → denoted bytes.now ≡ None }
 {

@@ -2,7 +2,7 @@
 ghost use Rattle.std.specs.Prelude.{◌≡◌, ◌≤◌, ℕ, List, length, Some};
 ghost use Rattle.serde_json.specs.Data.{Data};
 ghost use Rattle.transformers.specs.Item.{denoted};
-ghost use Rattle.transformers.specs.Kinds.{CborToJson, IsBytes, IsShortestOf, JsonToCbor, TakesCbor, TakesJson};
+ghost use Rattle.transformers.specs.Kinds.{CborToJson, IsBytes, IsInProfile, IsShortestOf, JsonToCbor, TakesCbor, TakesJson};
 ghost use Rattle.transformers.specs.Shortest.{shortest};
 
 /// Each input has at most one output, and is taken where it has one.
@@ -17,6 +17,20 @@ pub fn one_output()
 pub fn through_json()
     ensures taken { (x y : List ℕ) → CborToJson x y → TakesJson y }
     ensures shortest { (x y z : List ℕ) → CborToJson x y → JsonToCbor y z → IsShortestOf x z }
+{}
+
+/// The shortest encoding of what an item denotes is one and the same, is its own shortest encoding, and tells what the
+/// item denotes.
+pub fn shortest_unique()
+    ensures one { (x y z : List ℕ) → IsShortestOf x y → IsShortestOf x z → y ≡ z }
+    ensures itself { (x z : List ℕ) → IsShortestOf x z → IsShortestOf z z }
+    ensures tells { (x y z : List ℕ) → IsShortestOf x z → IsShortestOf y z → denoted x ≡ denoted y }
+{}
+
+/// An item that is taken denotes a value of the profile: no number that isn't whole, at most 32 arrays and maps within
+/// each other.
+pub fn taken_in_profile()
+    ensures { (x : List ℕ) (d : Data) → denoted x ≡ Some d → IsInProfile d }
 {}
 
 /// No item that denotes a value is shorter than the one that is written.

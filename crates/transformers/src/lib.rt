@@ -17,6 +17,7 @@ mod profile;
 mod refused;
 mod relation;
 mod stored;
+mod taken;
 #[cfg(test)]
 mod tests;
 mod write;
@@ -25,7 +26,7 @@ pub use apply_fault::ApplyFault;
 pub use bank::{Bank, store};
 pub use from_cbor::cbor_json;
 pub use from_json::json_cbor;
-pub use laws::{none_shorter, one_output, through_json};
+pub use laws::{none_shorter, one_output, shortest_unique, taken_in_profile, through_json};
 pub use octets::octets_hex;
 pub use refused::Refused;
 pub use relation::Relation;

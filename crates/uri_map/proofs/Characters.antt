@@ -26,7 +26,7 @@ pub record First (b : ℕ) (rest : List ℕ) : Type 0 where
   pub char : IsUtf8 (b ∷ take (continuation_len b) rest)
   pub others : IsUtf8 (drop (continuation_len b) rest)
 
-both : (x y : Bool) → x && y ≡ true → (x ≡ true) × (y ≡ true)
+pub both : (x y : Bool) → x && y ≡ true → (x ≡ true) × (y ≡ true)
 both true true e = (refl, refl)
 both true false e = absurd cc
 both false y e = absurd cc

@@ -8,3 +8,10 @@ pub mod RoomLeft
 pub mod TargetSteps
 pub mod Faults
 pub mod OptionBytes
+pub mod Cuts
+pub mod Escaped
+pub mod HostedParts
+pub mod Groups
+pub mod Placed
+pub mod HostedPlace
+pub mod Hosted

@@ -3,7 +3,8 @@
 //! serves them, and the text under which the proxy hosts them.
 //!
 //! The one contract: `target_of` is the partial function `target_at` of `specs/`, which splits whole
-//! texts, with its faults in their order. Whoever maps requests to CoAP stands on it.
+//! texts, with its faults in their order. Whoever maps requests to CoAP stands on it. What
+//! `hosting_of` writes for a target is read as that target (`hosted_is_read`).
 #![tactic(auto)]
 
 mod address;
@@ -26,7 +27,7 @@ mod utf8;
 pub use directory::{Directory, Listed, peer_of};
 pub use fault::UriFault;
 pub use hosting::hosting_of;
-pub use laws::{addresses_read, options_fit};
+pub use laws::{addresses_read, hosted_is_read, options_fit};
 pub use options::options_of;
 pub use parts::path_and_query;
 pub use peer::{Peer, peer_at};

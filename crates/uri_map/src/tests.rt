@@ -326,3 +326,20 @@ fn absolute_form(rt: HostRuntime) {
         assert_eq!(rt; path_and_query(text), want);
     }
 }
+
+#[test]
+fn faults_in_words(rt: HostRuntime) -> Result<(), Fail> {
+    let alloc = rt.alloc();
+    let rows = [
+        (UriFault::OtherBase, "the target is not below the base"),
+        (UriFault::Scheme, "the scheme is not coap"),
+        (UriFault::Authority, "the host or the port is malformed"),
+        (UriFault::Escape, "the path or the query is malformed"),
+        (UriFault::TooLong, "the path or the query is too long"),
+        (UriFault::Memory, "out of memory"),
+    ];
+    for (fault, want) in rows {
+        assert_eq!(rt; format!(in alloc; "{fault}")?.as_str(), want);
+    }
+    Ok(())
+}

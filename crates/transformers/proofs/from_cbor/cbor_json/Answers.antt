@@ -17,4 +17,6 @@ returns c =
         to = rw bytes (c.in_ok-to_string.ensures.reads_back (omega (arith, within.1)));
         compact = bytes ∙ c.in_ok-to_string.ensures.text within.0;
       };
+      refused = (λ e. absurd cc, λ never. absurd (never (rw c.in_ok-value.ensures.ok refl)));
+      memory = λ e. absurd cc;
     }

@@ -1,14 +1,21 @@
-use Rattle.std.proofs.Common.{List, subst, arith}
-use Rattle.history_laws.specs.declared.kept.Conn.{Conn}
-use Rattle.exchange_core.specs.Tables.{Has}
+use Rattle.std.proofs.Common.{arith, refl}
+use Rattle.exchange_core.proofs.Giving.{answerable-shut}
 use Rattle.exchange_core.proofs.Keeping.{kept-close}
+use Rattle.exchange_core.proofs.Showing.{sends-quiet}
 use Rattle.exchange_core.proofs.core_state.Core.close.Goals as goal
 
 pub invariant_of-self : goal.invariant_of-self
 invariant_of-self g c =
     let s = c.self.inside in
-    kept-close s.journal.entries _ s.journal.room _ s.conns.items _ s.exchanges.items s.sealed s.bytes _ s.last _ c.args.conn
-    c.self.invariant
-    (omega (arith, c.max-moment.ensures)) (omega (arith, c.max-moment.ensures, c.min.ensures, c.self.invariant.early))
-    (subst (λ (cs : List Conn). Has cs c.args.conn) c.deref.ensures.value (c.is_there.ensures.yes c.if-not-is_there.false))
-    c.add.ensures.entries c.drop_conn.ensures c.add.ensures.room c.saturating_add-self-inside.ensures
+    let found = rw (c.deref.ensures.value) at c.in-Some.ensures.some in (
+      kept-close s.journal.entries _ s.journal.room _ s.conns.items _ _ s.sealed s.bytes _ s.last _ c.args.conn c.in-Some.x
+          c.self.invariant.0
+          (omega (arith, c.max-moment.ensures)) (omega (arith, c.max-moment.ensures, c.min.ensures, c.self.invariant.0.early))
+          found.0 found.1
+          c.add.ensures.entries c.drop_conn.ensures c.add.ensures.room c.saturating_add-self-inside.ensures,
+      answerable-shut s.journal.entries _ _ s.conns.items _ _ s.sealed s.last c.in-Some.x c.args.conn s.outbox.waiting _ s.outbox.answers _ s.taken
+          c.self.invariant.0.agrees found.0 found.1 c.add.ensures.entries c.drop_conn.ensures c.forget.ensures.waiting c.forget.ensures.answers c.self.invariant.1,
+    )
+
+pub returns-clause-sends : goal.returns-clause-sends
+returns-clause-sends g c = rw (← c.self.view_is) (rw (c.add.ensures.entries) (sends-quiet c.self.inside.taken c.self.inside.journal.entries _ refl))

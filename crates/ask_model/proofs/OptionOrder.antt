@@ -1,0 +1,90 @@
+-- The options of a request can be written: they are in order, and those of a target within its limits are short.
+use Rattle.std.proofs.Common.{◌≡◌, ℕ, ◌≤◌, true, List, [], ◌∷◌, ◌++◌, length, Option, Some, None, arith, sym, ◌∙◌}
+use Rattle.std.proofs.lemmas.Bool.{and_parts, leb-true}
+use Rattle.std.proofs.lemmas.Bool.Decides.{nat_tests}
+use Rattle.std.specs.List.{AllByRecursion, list_all}
+use Rattle.coap_codec.specs.Spelling.{Entry}
+use Rattle.coap_codec.specs.declared.message.MsgType.TheVariants.{Con}
+use Rattle.coap_codec.specs.Writing.{IsInOrder, IsShort, IsEncodable}
+use Rattle.code_map.specs.declared.method.Method.{Method}
+use Rattle.code_map.specs.Methods.{request_code}
+use Rattle.uri_map.specs.declared.target.Target.{Target}
+use Rattle.uri_map.specs.declared.target.Host.{Host}
+use Rattle.uri_map.specs.declared.target.Host.TheVariants.{Name, V4, V6}
+use Rattle.uri_map.specs.Limits.{options_with, host_options, uri_options, is_short, fits}
+use Rattle.ask_model.specs.Requests.{uint_bytes, optional, options_asking}
+use Rattle.ask_model.proofs.Codes.{code_is_not_zero}
+
+-- options behind one of a lower number
+weaker : (before n : ℕ) (os : List Entry) → before ≤ n → IsInOrder n os → IsInOrder before os
+weaker before n [] le h = tt
+weaker before n (o ∷ os) le h = (omega (arith, le, h.0), h.1)
+
+-- options of one number, and others behind them
+behind_equal : (before n : ℕ) (values : List (List ℕ)) (os : List Entry) → before ≤ n → IsInOrder n os → IsInOrder before (options_with n values ++ os)
+behind_equal before n [] os le h = weaker before n os le h
+behind_equal before n (v ∷ values) os le h = (le, behind_equal n n values os (omega arith) h)
+
+-- an option where there is one, and others behind it
+behind_optional : (before n : ℕ) (v : Option ℕ) (os : List Entry) → before ≤ n → IsInOrder n os → IsInOrder before (optional n v ++ os)
+behind_optional before n None os le h = weaker before n os le h
+behind_optional before n (Some v) os le h = (le, h)
+
+last_optional : (before n : ℕ) (v : Option ℕ) → before ≤ n → IsInOrder before (optional n v)
+last_optional before n None le = tt
+last_optional before n (Some v) le = (le, tt)
+
+behind_host : (host : Host) (os : List Entry) → IsInOrder 11 os → IsInOrder 0 (host_options host ++ os)
+behind_host (Name name) os h = (omega arith, weaker 3 11 os (omega arith) h)
+behind_host (V4 address) os h = weaker 0 11 os (omega arith) h
+behind_host (V6 address) os h = weaker 0 11 os (omega arith) h
+
+pub asking_in_order : (t : Target) (format accept : Option ℕ) → IsInOrder 0 (options_asking t format accept)
+asking_in_order t format accept =
+    behind_host t.host _ (behind_equal 11 11 t.path _ (omega arith)
+    (behind_optional 11 12 format _ (omega arith)
+    (behind_equal 12 15 t.query _ (omega arith) (last_optional 15 17 accept (omega arith)))))
+
+pub short : (os : List Entry) → list_all is_short os ≡ true → AllByRecursion IsShort os
+short [] h = tt
+short (o ∷ os) h =
+    let p = and_parts (is_short o) (list_all is_short os) h in
+    let le : length o.value ≤ 255 = leb-true (length o.value) 255 p.0 in
+    (omega (arith, le), short os p.1)
+
+short_both : (os others : List Entry) → AllByRecursion IsShort os → AllByRecursion IsShort others → AllByRecursion IsShort (os ++ others)
+short_both [] others h k = k
+short_both (o ∷ os) others h k = (h.0, short_both os others h.1 k)
+
+short_first : (os others : List Entry) → AllByRecursion IsShort (os ++ others) → AllByRecursion IsShort os
+short_first [] others h = tt
+short_first (o ∷ os) others h = (h.0, short_first os others h.1)
+
+short_second : (os others : List Entry) → AllByRecursion IsShort (os ++ others) → AllByRecursion IsShort others
+short_second [] others h = h
+short_second (o ∷ os) others h = short_second os others h.1
+
+pub uint_bytes_short : (n : ℕ) → length (uint_bytes n) ≤ 2
+uint_bytes_short n = grind (arith, nat_tests)
+
+short_optional : (number : ℕ) (v : Option ℕ) → AllByRecursion IsShort (optional number v)
+short_optional number None = tt
+short_optional number (Some v) = (omega (arith, uint_bytes_short v), tt)
+
+pub asking_short : (t : Target) (format accept : Option ℕ) → fits (uri_options t) ≡ true → AllByRecursion IsShort (options_asking t format accept)
+asking_short t format accept h =
+    let all = short (uri_options t) (and_parts (list_all is_short (uri_options t)) _ h).0 in
+    let place = short_first (host_options t.host ++ options_with 11 t.path) (options_with 15 t.query) all in
+    let query = short_second (host_options t.host ++ options_with 11 t.path) (options_with 15 t.query) all in
+    short_both (host_options t.host) _ (short_first (host_options t.host) (options_with 11 t.path) place)
+    (short_both (options_with 11 t.path) _ (short_second (host_options t.host) (options_with 11 t.path) place)
+    (short_both (optional 12 format) _ (short_optional 12 format)
+    (short_both (options_with 15 t.query) _ query (short_optional 17 accept))))
+
+-- The message of a request, still without its payload, can be written.
+pub asking_encodable : (m : Method) (t : Target) (format accept : Option ℕ) (code mid : ℕ) (token payload : List ℕ) (os : List Entry) → fits (uri_options t) ≡ true → code ≡ request_code m → os ≡ options_asking t format accept → IsEncodable (record { kind = Con; code = code; mid = mid; token = token; options = os; payload = payload })
+asking_encodable m t format accept code mid token payload os within same e = record {
+  in_order = rw e (asking_in_order t format accept);
+  short = rw e (asking_short t format accept within);
+  nothing_else = λ zero. absurd (code_is_not_zero m (sym same ∙ zero));
+}

@@ -1,0 +1,73 @@
+-- A request that is a mapping goes in one message.
+use Rattle.std.proofs.Common.{◌≡◌, ℕ, ◌≤◌, Bool, true, false, ◌&&◌, nat_lt, List, [], ◌∷◌, length, Option, Some, None, Result, Ok, Err, if◌then◌else◌, refl, sym, ◌∙◌, ap, subst, arith}
+use Rattle.std.proofs.lemmas.Bool.{or_parts, ltb-false}
+use Rattle.media_map.specs.declared.form.Form.{Form}
+use Rattle.code_map.specs.declared.method.Method.{Method}
+use Rattle.code_map.specs.Methods.{method_named, writes}
+use Rattle.uri_map.specs.declared.fault.UriFault.{UriFault}
+use Rattle.uri_map.specs.declared.peer.Peer.{Peer}
+use Rattle.uri_map.specs.declared.target.Target.{Target}
+use Rattle.uri_map.specs.Limits.{fits, uri_options}
+use Rattle.uri_map.specs.Naming.{target_at}
+use Rattle.uri_map.specs.Peers.{peer_in}
+use Rattle.uri_map.specs.Splitting.{origin_form}
+use Rattle.uri_map.proofs.TargetSteps.{reached}
+use Rattle.http_edge.specs.Requests.{Content as HttpRequest}
+use Rattle.ask_model.specs.declared.cause.Cause.{Cause}
+use Rattle.ask_model.specs.declared.meaning.Meaning.{Meaning}
+use Rattle.ask_model.specs.Requests.{Came, Whole, Bad, Sense, Requests, Refuses}
+use Rattle.ask_model.specs.Views.{Rules, body_of, sense_of}
+use Rattle.ask_model.specs.Maps.{Maps, MapsMethod, MapsWrite, MapsTarget, MapsPeer, MapsBody, Becomes, Untyped, Untypable, typing_of, carried, is_conditional, is_refused_write}
+use Rattle.ask_model.specs.Datagrams.{IsSendable}
+use Rattle.ask_model.proofs.Codes.{code_is_not_zero}
+
+-- a refusal sends nothing
+refused : (sense : Sense) (cause : Cause) (status : ℕ) → sense ≡ Refuses cause status → IsSendable sense
+refused sense cause status e = subst IsSendable (sym e) tt
+
+carried_short : (m : Method) (r : HttpRequest) → is_refused_write m r ≡ false → length (carried m r.body) ≤ 1024
+carried_short m r e = ltb-false 1024 (length (carried m r.body)) (or_parts (writes m && is_conditional r) (nat_lt 1024 (length (carried m r.body))) e).1
+
+module _ (holds : Form → Form → List ℕ → List ℕ → Type 0) (takes : Form → Form → List ℕ → Type 0) where
+  untyped_same : (b : Bool) (body : List ℕ) (format : Option ℕ) (payload : List ℕ) → Becomes holds takes (if b then Untypable else Untyped) body format payload → payload ≡ body
+  untyped_same true body format payload h = absurd h
+  untyped_same false body format payload h = h.1
+
+  becomes_same : (s : Rules) (r : HttpRequest) (body : List ℕ) (format : Option ℕ) (payload : List ℕ) → Becomes holds takes (typing_of s r body) body format payload → payload ≡ body
+  becomes_same s r [] format payload h = h.1
+  becomes_same s r (b ∷ body) format payload h = untyped_same _ (b ∷ body) format payload h
+
+  by_body : (s : Rules) (r : HttpRequest) (m : Method) (t : Target) (p : Peer) (sense : Sense) → is_refused_write m r ≡ false → fits (uri_options t) ≡ true → MapsBody holds takes s r m t p sense → IsSendable sense
+  by_body s r m t p (Requests q) short within h =
+      let same = becomes_same s r (carried m r.body) q.format q.body h.3 in
+      let len = carried_short m r short in
+      record {
+        code = λ zero. code_is_not_zero m (sym h.0 ∙ zero);
+        target = ap (λ u. fits (uri_options u)) h.1 ∙ within;
+        body = omega (arith, ap length same, len);
+      }
+  by_body s r m t p (Refuses cause status) short within h = tt
+
+  by_peer : (s : Rules) (r : HttpRequest) (m : Method) (t : Target) (p : Option Peer) (sense : Sense) → is_refused_write m r ≡ false → fits (uri_options t) ≡ true → MapsPeer holds takes s r m t p sense → IsSendable sense
+  by_peer s r m t None sense short within h = refused sense Cause.NoMap 501 h
+  by_peer s r m t (Some p) sense short within h = by_body s r m t p sense short within h
+
+  by_target : (s : Rules) (r : HttpRequest) (m : Method) (base text : List ℕ) (x : Result Target UriFault) (sense : Sense) → is_refused_write m r ≡ false → target_at base text ≡ x → MapsTarget holds takes s r m x sense → IsSendable sense
+  by_target s r m base text (Err f) sense short at_text h = refused sense Cause.NoMap _ h
+  by_target s r m base text (Ok t) sense short at_text h = by_peer s r m t (peer_in s.directory t) sense short (reached base text t at_text).limits h
+
+  by_write : (s : Rules) (r : HttpRequest) (m : Method) (b : Bool) (sense : Sense) → is_refused_write m r ≡ b → MapsWrite holds takes s r m b sense → IsSendable sense
+  by_write s r m true sense e h = refused sense Cause.Method 501 h
+  by_write s r m false sense e h = by_target s r m s.base (origin_form r.target) (target_at s.base (origin_form r.target)) sense e refl h
+
+  by_method : (s : Rules) (r : HttpRequest) (m : Option Method) (sense : Sense) → MapsMethod holds takes s r m sense → IsSendable sense
+  by_method s r None sense h = refused sense Cause.Method 501 h
+  by_method s r (Some m) sense h = by_write s r m (is_refused_write m r) sense refl h
+
+  pub mapped_sendable : (s : Rules) (came : Came) (sense : Sense) → Maps holds takes s came sense → IsSendable sense
+  mapped_sendable s (Bad kind) sense h = refused sense Cause.BadHttp _ h
+  mapped_sendable s (Whole r) sense h = by_method s r (method_named r.method) sense h
+
+  -- the same, of a meaning with the body that it speaks of
+  pub meaning_sendable : (s : Rules) (came : Came) (sense : Sense) (meaning : Meaning) (body : List ℕ) → Maps holds takes s came sense → sense_of meaning (body_of came) ≡ sense → body ≡ body_of came → IsSendable (sense_of meaning body)
+  meaning_sendable s came sense meaning body h is same = rw (same, is) (mapped_sendable s came sense h)

@@ -1,0 +1,84 @@
+use Rattle.std.proofs.Common.{false, rules, ◌≡◌, ◌≤◌, ℕ, ◌+◌, ◌-◌, ◌^◌, min, ◌<◌, length, List, Option, Some, refl, sym, ◌∙◌, ap, subst, arith, bit_and, [], ◌∷◌, ◌++◌}
+use Rattle.std.specs.Prelude.{count_by}
+use Rattle.std.specs.Arc.{arc_value}
+use Rattle.std.proofs.lemmas.List.Sums.{count_by-le-length}
+use Rattle.ask_model.specs.Requests.{Came}
+use Rattle.ask_model.specs.Views.{Mapping}
+use Rattle.ask_model.specs.Sizes.{came_size}
+use Rattle.ask_model.specs.Datagrams.{IsSentFor}
+use Rattle.journal_book.specs.Entries.{Asks, Sends, Written}
+use Rattle.journal_book.specs.Views.{ask_of}
+use Rattle.history_laws.specs.declared.kept.Known.{Known}
+use Rattle.history_laws.specs.Numbering.{known_of, next_id}
+use Rattle.history_laws.specs.declared.kept.Conn.{Conn}
+use Rattle.history_laws.specs.declared.kept.Exchange.{Exchange}
+use Rattle.exchange_core.specs.Room.{is_pending}
+use Rattle.exchange_core.specs.Tables.{HasIdle}
+use Rattle.exchange_core.specs.CoreValue.{CoreValue, written}
+use Rattle.exchange_core.proofs.Asking.{asks-request, sent-spelled, kept-begin, len-most, opens-so}
+use Rattle.exchange_core.proofs.Giving.{answerable-begun}
+use Rattle.exchange_core.proofs.Keeping.{may-seal-more}
+use Rattle.exchange_core.proofs.Showing.{sends-after}
+use Rattle.exchange_core.proofs.core_state.Core.begin.Goals as goal
+
+pub seal-requires-clause-may : goal.seal-requires-clause-may
+seal-requires-clause-may g c =
+    let real : ℕ = came_size (arc_value c.args.mapped).came in
+    let small : real ≤ 2097152 = rw (← c.deref-4.ensures) (c.came.ensures.small) in
+    let counted = c.incoming_size-size.ensures ∙ ap (λ (x : Came). min (came_size x) (2 ^ 64 - 1)) (c.came.ensures.came ∙ ap (λ (m : Mapping). m.came) c.deref-4.ensures) in
+    may-seal-more _ _ _ _ (sym (c.has_room_for_ask.ensures real c.requires.unsealed counted) ∙ c.if-not-has_room_for_ask.true)
+    (let most = len-most c.in_ok-bytes.field-0 c.in-Some.bytes 2016 c.in-Some.is c.in_ok-bytes.ensures.len in omega (arith, small, most, c.len.ensures))
+    (subst (λ (cs : List Conn). length cs ≤ 256) (ap (λ (v : CoreValue). v.conns) c.self.view_is) c.self.invariant.0.few)
+    (let some = count_by-le-length is_pending c.self.inside.conns.items in omega (arith, some, c.self.invariant.0.few, c.pending_count-pending.ensures ∙ ap (count_by is_pending) c.deref-3.ensures.value))
+
+pub invariant_of-self-2 : goal.invariant_of-self-2
+invariant_of-self-2 g c =
+    let s = c.self.inside in
+    let asks = asks-request (arc_value c.args.mapped).sense c.args.peer c.requires.asks in
+    let counted = c.incoming_size-size.ensures ∙ ap (λ (x : Came). min (came_size x) (2 ^ 64 - 1)) (c.came.ensures.came ∙ ap (λ (m : Mapping). m.came) c.deref-4.ensures) in
+    let len : c.len.result ≡ length (arc_value c.in_ok-bytes-2.bytes) = c.len.ensures ∙ ap (λ (b : List ℕ). length b) (sym c.in_ok-bytes-2.ensures.ok) in
+    let sent = subst (λ (m : Mapping). IsSentFor m.sense c.next_mid-mid.result c.token_of-token.result c.in_ok-bytes.field-0) c.deref-2.ensures c.in_ok-bytes.ensures.sent in
+    let unsealed = ap (λ (v : CoreValue). v.sealed) c.self.view_is ∙ c.requires.unsealed in (
+      kept-begin s.journal.entries _ _ _ s.journal.room _ _ _ s.conns.items _ s.exchanges.items _ _ s.opened s.issued s.known.items _ _ s.heard.items
+          s.sealed s.bytes _ s.last _ _ c.incoming_size-size.result (c.pending_count-pending.result + 1) c.args.conn (ask_of (arc_value c.in_ok-asked.asked)) asks.0 c.args.peer
+          (arc_value c.in_ok-bytes-2.bytes) c.first_timeout.result c.next_mid-mid.result _ c.token_of-token.result
+          c.self.invariant.0 unsealed
+          (omega (arith, c.max-moment.ensures)) (omega (arith, c.max-moment.ensures, c.min.ensures, c.self.invariant.0.early))
+          (ap (λ (n : ℕ). n + 1) (c.pending_count-pending.ensures ∙ ap (count_by is_pending) c.deref-3.ensures.value))
+          (subst (λ (cs : List Conn). HasIdle cs c.args.conn) (sym (ap (λ (v : CoreValue). v.conns) c.self.view_is)) c.requires.idle)
+          (subst (λ (es : List Exchange). length es < 256) (sym (ap (λ (v : CoreValue). v.exchanges) c.self.view_is)) c.requires.few) (rw (c.in_ok-asked.ensures) (asks.1)) asks.2
+          (rw (c.in_ok-bytes-2.ensures.ok) (sent-spelled _ _ _ _ _ asks.1 (subst (λ (o : Option (List ℕ)). IsSentFor (arc_value c.args.mapped).sense c.next_mid-mid.result c.token_of-token.result o) c.in-Some.is sent)))
+          c.token_of-token.ensures.size c.token_of-token.ensures.number (search rules) (c.next_mid-mid.ensures ∙ ap (λ (u : Option Known). next_id u (bit_and c.args.word 65535)) (c.find_known.ensures ∙ ap (λ (ks : List Known). known_of ks c.args.peer) c.deref.ensures.value)) c.first_timeout.ensures.least c.first_timeout.ensures.greatest
+          (rw (c.in_ok-asked.ensures) counted) (rw (c.in_ok-asked.ensures, ← len) (search rules))
+          c.in_ok-make_room.ensures.same c.len-number.ensures c.add.ensures.entries c.add-2.ensures.entries
+          c.in_ok-try_reserve.ensures.items c.push_reserved.ensures.items c.in_ok-try_reserve-2.ensures.items c.use_id.ensures c.set_pending.ensures
+          (omega (arith, c.in_ok-make_room.ensures.ok, c.len-2.ensures, s.conns.ok.0)) c.add.ensures.room c.add-2.ensures.room
+          (c.saturating_add-self-inside.ensures ∙ ap (λ (n : ℕ). min (s.bytes + (c.incoming_size-size.result + (n + 128))) (2 ^ 64 - 1)) len),
+      answerable-begun s.journal.entries _ _ _ _ _ c.args.conn c.max-moment.result c.len-number.result s.taken s.conns.items _ (arc_value c.in_ok-waiting.waiting) s.outbox.waiting _ _ s.outbox.answers _
+          c.self.invariant.1 c.in_ok-make_room.ensures.same c.len-number.ensures c.add.ensures.entries c.add-2.ensures.entries
+          (ap (λ (m : Mapping). written c.max-moment.result (Asks c.args.conn (ask_of m))) (c.in_ok-asked.ensures ∙ sym c.in_ok-waiting.ensures))
+          c.set_pending.ensures c.in_ok-make_room-2.ensures.waiting c.expect.ensures.waiting (c.expect.ensures.answers ∙ c.in_ok-make_room-2.ensures.answers),
+    )
+
+pub returns-clause-adds : goal.returns-clause-adds
+returns-clause-adds g c =
+    let s = c.self.inside in
+    let asks = asks-request (arc_value c.args.mapped).sense c.args.peer c.requires.asks in
+    let real : ℕ = came_size (arc_value c.args.mapped).came in
+    let counted = c.incoming_size-size.ensures ∙ ap (λ (x : Came). min (came_size x) (2 ^ 64 - 1)) (c.came.ensures.came ∙ ap (λ (m : Mapping). m.came) c.deref-4.ensures) in
+    let len : c.len.result ≡ length (arc_value c.in_ok-bytes-2.bytes) = c.len.ensures ∙ ap (λ (b : List ℕ). length b) (sym c.in_ok-bytes-2.ensures.ok) in
+    let waiting : c.pending_count-pending.result ≡ count_by is_pending s.conns.items = c.pending_count-pending.ensures ∙ ap (count_by is_pending) c.deref-3.ensures.value in
+    let sent = subst (λ (m : Mapping). IsSentFor m.sense c.next_mid-mid.result c.token_of-token.result c.in_ok-bytes.field-0) c.deref-2.ensures c.in_ok-bytes.ensures.sent in (
+      asks.0,
+      asks.1,
+      opens-so _ c.max-moment.result _ _ _ (arc_value c.in_ok-asked.asked) asks.0 _ _ _ c.args.peer c.next_mid-mid.result c.first_timeout.result c.token_of-token.result (arc_value c.in_ok-bytes-2.bytes)
+          c.self.view_is (search rules) c.in_ok-asked.ensures asks.2
+          (rw (c.in_ok-bytes-2.ensures.ok) (sent-spelled _ _ _ _ _ asks.1 (subst (λ (o : Option (List ℕ)). IsSentFor (arc_value c.args.mapped).sense c.next_mid-mid.result c.token_of-token.result o) c.in-Some.is sent)))
+          (rw (c.in_ok-asked.ensures, ← len, ← waiting) (search rules))
+          (c.add-2.ensures.entries ∙ ap (λ (h : List Written). h ++ written c.max-moment.result (Sends c.args.peer (arc_value c.in_ok-bytes-2.bytes) (Some c.first_timeout.result)) ∷ [])
+          (c.add.ensures.entries ∙ ap (λ (h : List Written). h ++ written c.max-moment.result (Asks c.args.conn (ask_of (arc_value c.in_ok-asked.asked))) ∷ []) c.in_ok-make_room.ensures.same))
+          c.set_pending.ensures
+          (c.push_reserved.ensures.items ∙ ap (λ (es : List Exchange). es ++ record { opening = c.len-number.result; since = c.max-moment.result; number = c.len-number.result + 1; peer = c.args.peer; mid = c.next_mid-mid.result; token = c.token_of-token.result; confirmed = false } ∷ []) c.in_ok-try_reserve.ensures.items)
+          (c.expect.ensures.answers ∙ c.in_ok-make_room-2.ensures.answers)
+          (sends-after s.taken s.journal.entries _ _ _ _ _ c.in_ok-make_room.ensures.same c.add.ensures.entries c.add-2.ensures.entries refl refl c.self.invariant.1.taken_so),
+    )

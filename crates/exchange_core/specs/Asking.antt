@@ -1,0 +1,66 @@
+-- What an ask leaves behind.
+use Rattle.std.specs.Prelude.{◌≡◌, ◌⊎◌, ℕ, ◌+◌, ◌<◌, true, false, List, [], ◌∷◌, ◌++◌, length, map, Some}
+use Rattle.coap_codec.specs.Spelling.{Spells}
+use Rattle.ask_model.specs.declared.cause.Cause.{Cause}
+use Rattle.ask_model.specs.declared.cause.Cause.TheVariants.{Busy}
+use Rattle.ask_model.specs.Requests.{CoapRequest, Sense, Requests, Refuses, request_message}
+use Rattle.ask_model.specs.Sizes.{came_size}
+use Rattle.ask_model.specs.Views.{Mapping}
+use Rattle.journal_book.specs.Entries.{Asks, Sends, Answers, Fault}
+use Rattle.journal_book.specs.Views.{ask_of}
+use Rattle.history_laws.specs.Kept.{pend}
+use Rattle.history_laws.specs.Limits.{exchange_limit}
+use Rattle.exchange_core.specs.Room.{takes_ask, takes_first}
+use Rattle.exchange_core.specs.Answering.{MeansRefusal, refusal}
+use Rattle.exchange_core.specs.CoreValue.{CoreValue, written}
+
+-- It is answered in its own step, by an error of the proxy's own that names it.
+pub record AnswersAtOnce (t n conn : ℕ) (m : Mapping) (cause : Cause) (old new : CoreValue) : Type 0 where
+  pub room : takes_ask old.entries old.conns (came_size m.came) ≡ true
+  pub entries : new.entries ≡ (old.entries ++ written t (Asks conn (ask_of m)) ∷ []) ++ written t (Answers conn n (Fault cause n)) ∷ []
+  pub answers : new.answers ≡ old.answers ++ refusal n t m cause ∷ []
+  pub conns : new.conns ≡ old.conns
+  pub exchanges : new.exchanges ≡ old.exchanges
+  pub sends : new.sends ≡ old.sends
+
+-- It opens an exchange, and the message that asks for it is sent.
+pub record OpensExchange (t n conn : ℕ) (m : Mapping) (q : CoapRequest) (old new : CoreValue) : Type 0 where
+  pub mid : ℕ
+  pub token : List ℕ
+  pub bytes : List ℕ
+  pub wait : ℕ
+  pub spelled : Spells (request_message q mid token) bytes
+  pub room : takes_first old.entries old.conns (came_size m.came) (length bytes) ≡ true
+  pub entries : new.entries ≡ (old.entries ++ written t (Asks conn (ask_of m)) ∷ []) ++ written t (Sends q.peer bytes (Some wait)) ∷ []
+  pub conns : new.conns ≡ map (pend conn (Some n)) old.conns
+  pub exchanges : new.exchanges ≡ old.exchanges
+      ++ record { opening = n; since = t; number = n + 1; peer = q.peer; mid = mid; token = token; confirmed = false } ∷ []
+  pub answers : new.answers ≡ old.answers
+  pub sends : new.sends ≡ old.sends ++ written t (Sends q.peer bytes (Some wait)) ∷ []
+
+-- why an ask is answered in its own step: it means that refusal, or as many exchanges are open as may be
+abbrev pub IsAtOnce : Sense → ℕ → Cause → Type 0
+IsAtOnce s count cause =
+    MeansRefusal s cause ⊎ ((cause ≡ Busy) × (count ≡ exchange_limit) × ((q : CoapRequest) × (s ≡ Requests q)))
+
+-- A refusal is answered at once, and so is a request at which as many exchanges are open as may be.
+abbrev pub AddsBy : Sense → ℕ → ℕ → ℕ → Mapping → CoreValue → CoreValue → Type 0
+AddsBy (Refuses cause status) t n conn m old new = AnswersAtOnce t n conn m cause old new
+AddsBy (Requests q) t n conn m old new =
+    ((length old.exchanges ≡ exchange_limit) × AnswersAtOnce t n conn m Busy old new)
+    ⊎ ((length old.exchanges < exchange_limit) × OpensExchange t n conn m q old new)
+
+-- why there is no room for an ask: its entry and that of its answer, or of its message, would pass a limit
+abbrev pub HasNoRoomBy : Sense → Mapping → CoreValue → Type 0
+HasNoRoomBy (Refuses cause status) m old = takes_ask old.entries old.conns (came_size m.came) ≡ false
+HasNoRoomBy (Requests q) m old =
+    ((length old.exchanges ≡ exchange_limit) × (takes_ask old.entries old.conns (came_size m.came) ≡ false))
+    ⊎ ((length old.exchanges < exchange_limit)
+    × ((mid : ℕ) × (token : List ℕ) × (bytes : List ℕ) × Spells (request_message q mid token) bytes
+    × (takes_first old.entries old.conns (came_size m.came) (length bytes) ≡ false)))
+
+abbrev pub HasNoRoom : Mapping → CoreValue → Type 0
+HasNoRoom m old = HasNoRoomBy m.sense m old
+
+abbrev pub AddsAsk : ℕ → ℕ → ℕ → Mapping → CoreValue → CoreValue → Type 0
+AddsAsk t n conn m old new = AddsBy m.sense t n conn m old new

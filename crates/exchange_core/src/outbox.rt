@@ -1,0 +1,164 @@
+//! The asks that wait for an answer, and the answers that aren't taken yet.
+
+ghost use Rattle.std.specs.Prelude.{◌≡◌, ◌≢◌, ◌<◌, ◌==◌, ◌∷◌, ◌++◌, [], not, filter, All, Some, None, slice_get, option_map, IfSome, OnOk, OnErr};
+ghost use Rattle.std.specs.List.{Contains};
+ghost use Rattle.std.specs.Arc.{arc_value};
+ghost use Rattle.exchange_core.specs.Answering.{given_of, HasWaited, answer_of, without};
+
+use crate::answer::{Answer, Finding};
+use ask_model::Mapped;
+use std::alloc::{AllocError, Global};
+use std::marker::Model;
+use std::sync::Arc;
+use transformers::Relation;
+
+/// An ask that waits for its answer.
+#[derive(Drop)]
+pub struct Waiting<R: Relation> {
+    /// the number of the ask's entry
+    pub ask: u32,
+    pub mapped: Arc<Mapped<R>>,
+}
+
+/// When and where an answer was given.
+#[derive(Clone, Copy)]
+pub struct Stamp {
+    /// the number of the answer's entry
+    pub number: u32,
+    pub moment: u64,
+    /// when the first reply that it rests on was heard, or else when it was given
+    pub heard: u64,
+}
+
+/// The asks that wait, and the answers to others. It has the place of an answer for each that waits.
+#[derive(Drop)]
+pub struct Outbox<R: Relation> {
+    waiting: Vec<Waiting<R>>,
+    answers: Vec<Answer<R>>,
+}
+
+impl<R: Relation> Model for Outbox<R> {
+    ghost use Rattle.std.specs.Prelude.{map, min, vec_len, vec_capacity, ◌-◌, ◌+◌, ◌≤◌};
+    ghost use Rattle.exchange_core.specs.Answering.{OutboxValue, waited_of, given_of};
+
+    ghost Value = { OutboxValue };
+
+    ghost view = { λ o. record { waiting = map waited_of o.waiting.items; answers = map given_of o.answers.items; room = min (vec_capacity o.waiting - vec_len o.waiting) (vec_capacity o.answers - (vec_len o.answers + vec_len o.waiting)) } };
+
+    ghost invariant = { λ o. vec_len o.answers + vec_len o.waiting ≤ vec_capacity o.answers };
+}
+
+impl<R: Relation> Outbox<R> {
+    /// No ask and no answer.
+    pub fn new(alloc: Global) -> Outbox<R>
+        ensures waiting { result.waiting ≡ [] }
+        ensures answers { result.answers ≡ [] }
+    {
+        Outbox {
+            waiting: Vec::new(alloc),
+            answers: Vec::new(alloc),
+        }
+    }
+
+    /// Makes room for one more ask, and for its answer.
+    pub fn make_room(&mut self) -> Result<(), AllocError>
+        ensures waiting { self.new.waiting ≡ self.old.waiting }
+        ensures answers { self.new.answers ≡ self.old.answers }
+        ensures ok { OnOk result (0 < self.new.room) }
+    {
+        self.waiting.try_reserve(1)?;
+        let more = self.waiting.len() + 1;
+        self.answers.try_reserve(more)?;
+        Ok(())
+    }
+
+    /// Adds an ask that waits.
+    pub fn expect(&mut self, ask: u32, mapped: Arc<Mapped<R>>)
+        requires room { 0 < self.old.room }
+        ensures waiting { self.new.waiting ≡ self.old.waiting ++ record { ask = ask; mapping = arc_value mapped } ∷ [] }
+        ensures answers { self.new.answers ≡ self.old.answers }
+    {
+        self.waiting.push_reserved(Waiting { ask, mapped });
+    }
+
+    /// Adds an answer to an ask that doesn't wait.
+    pub fn put(&mut self, answer: Answer<R>)
+        requires room { 0 < self.old.room }
+        ensures waiting { self.new.waiting ≡ self.old.waiting }
+        ensures answers { self.new.answers ≡ self.old.answers ++ given_of answer ∷ [] }
+    {
+        self.answers.push_reserved(answer);
+    }
+
+    /// Answers an ask that waits.
+    pub fn answer(&mut self, ask: u32, stamp: Stamp, finding: Finding)
+        requires waits { HasWaited self.old.waiting ask }
+        ensures waiting { self.new.waiting ≡ filter (λ w. not (w.ask == ask)) self.old.waiting }
+        ensures answers { (w : _) × Contains self.old.waiting w × (w.ask ≡ ask) × (self.new.answers ≡ self.old.answers ++ answer_of w stamp finding ∷ []) }
+    {
+        let Some(place) = place_of(&self.waiting, ask) else {
+            return;
+        };
+        let waiting = self.waiting.remove(place);
+        self.waiting.retain(|w| w.ask != ask);
+        self.answers.push_reserved(Answer {
+            ask: waiting.ask,
+            number: stamp.number,
+            mapped: waiting.mapped,
+            moment: stamp.moment,
+            heard: stamp.heard,
+            finding,
+        });
+    }
+
+    /// Forgets an ask, if there is one and it waits.
+    pub fn forget(&mut self, ask: Option<u32>)
+        ensures waiting { self.new.waiting ≡ without ask self.old.waiting }
+        ensures answers { self.new.answers ≡ self.old.answers }
+    {
+        if let Some(ask) = ask {
+            self.waiting.retain(|w| w.ask != ask);
+        }
+    }
+
+    /// Takes out the answer to the ask, if there is one.
+    pub fn take(&mut self, ask: u32) -> Option<Answer<R>>
+        ensures some { IfSome result (λ a. (a.ask ≡ ask) × Contains self.old.answers (given_of a)) }
+        ensures none { result ≡ None → All (λ g. g.ask ≢ ask) self.old.answers }
+        ensures others { self.new.answers ≡ filter (λ g. not (g.ask == ask)) self.old.answers }
+        ensures waiting { self.new.waiting ≡ self.old.waiting }
+    {
+        let Some(place) = answer_place(&self.answers, ask) else {
+            return None;
+        };
+        let answer = self.answers.remove(place);
+        self.answers.retain(|a| a.ask != ask);
+        Some(answer)
+    }
+}
+
+/// The place of the ask among those that wait.
+fn place_of<R: Relation>(waiting: &[Waiting<R>], ask: u32) -> Option<usize>
+    ensures some { IfSome result (λ i. option_map (λ w. w.ask) (slice_get waiting.now i) ≡ Some ask) }
+    ensures none { result ≡ None → All (λ w. w.ask ≢ ask) waiting.now }
+{
+    'each: for place in 0..waiting.len() {
+        if waiting[place].ask == ask {
+            return Some(place);
+        }
+    }
+    None
+}
+
+/// The place of the answer to the ask.
+fn answer_place<R: Relation>(answers: &[Answer<R>], ask: u32) -> Option<usize>
+    ensures some { IfSome result (λ i. option_map (λ a. a.ask) (slice_get answers.now i) ≡ Some ask) }
+    ensures none { result ≡ None → All (λ a. a.ask ≢ ask) answers.now }
+{
+    'each: for place in 0..answers.len() {
+        if answers[place].ask == ask {
+            return Some(place);
+        }
+    }
+    None
+}
