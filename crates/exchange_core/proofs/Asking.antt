@@ -101,6 +101,7 @@ kept-begun h h1 h2 h3 room room1 room2 room3 cs cs1 es s bytes bytes' last t n s
           (omega (arith, parts.0, cnt, waiting, conns, more)) (omega (arith, parts.1, cnt, waiting, conns, more)));
       few = omega (arith, few, conns);
       early = early;
+      short = omega (arith, parts.0, cnt, waiting, conns, more, size1, size2);
     } in
     rw (e3, e2, e1, f, unsealed) now
 

@@ -33,7 +33,7 @@ heard-keeps h e (j ∷ js) (m ∷ ms) w =
 heard-keeps h e [] (m ∷ ms) w = elim w [ ]
 heard-keeps h e (j ∷ js) [] w = elim w [ ]
 
-found-keeps : (h : List Written) (e : Written) (x : Told) (g : Grounds) (s : Sense) → IsFound h x g s → IsFound (h ++ e ∷ []) x g s
+pub found-keeps : (h : List Written) (e : Written) (x : Told) (g : Grounds) (s : Sense) → IsFound h x g s → IsFound (h ++ e ∷ []) x g s
 found-keeps h e (Tells w) (Live js) (Requests q) f = (f.0, heard-keeps h e js f.0 f.1, f.2)
 found-keeps h e (Tells w) (Live js) (Refuses c n) f = elim f [ ]
 found-keeps h e (Tells w) (Kept js) s f = elim f [ ]

@@ -41,7 +41,7 @@ fits-from e b c p h g = rw (le-from (e + c + p + 1) 65536 h, le-from (b + 64 * c
 
 pub kept-start : (room : ℕ) → 1 ≤ room → CoreKept [] room [] (record { exchanges = []; opened = 0; issued = 0; known = []; heard = [] }) false 0 0
 kept-start room h =
-    record { agrees = Agrees-start; bytes_are = λ s. refl; room_held = omega arith; within = λ s. refl; few = omega arith; early = lit≤ tt }
+    record { agrees = Agrees-start; bytes_are = λ s. refl; room_held = omega arith; within = λ s. refl; few = omega arith; early = lit≤ tt; short = lit≤ tt }
 
 pub kept-opened : (h : List Written) (room room' : ℕ) (cs : List Conn) (es : Held) (bytes bytes' last t n : ℕ)
     → CoreKept h room cs es false bytes last → last ≤ t → t ≤ 2 ^ 62 → n ≡ es.opened → length cs < 256
@@ -63,9 +63,10 @@ kept-opened h room room' cs es bytes bytes' last t n k later early e few room-fi
       within = λ s. rw (longer, wait, entries, same) room-fits;
       few = rw longer (omega arith);
       early = early;
+      short = omega (arith, parts.0, entries, longer, wait);
     }
 
-fits-not : (e b c p : ℕ) → fits e b c p ≡ false → (65536 < e + c + p + 1) ⊎ (268435456 < b + 64 * c + 90000 * p + 64)
+pub fits-not : (e b c p : ℕ) → fits e b c p ≡ false → (65536 < e + c + p + 1) ⊎ (268435456 < b + 64 * c + 90000 * p + 64)
 fits-not e b c p h =
     elim (leb_tells (e + c + p + 1) 65536) [
       | inl v ↦ elim (leb_tells (b + 64 * c + 90000 * p + 64) 268435456) [
@@ -92,6 +93,8 @@ pub kept-sealed : (h : List Written) (room room' : ℕ) (cs : List Conn) (es : H
     → CoreKept (h ++ written t Seals ∷ []) room' cs es true bytes' t
 kept-sealed h room room' cs es bytes bytes' last t k later early may less =
     let held_before = k.room_held in
+    let parts = fits-parts (length h) bytes (length cs) (count_by is_pending cs) (k.within refl) in
+    let longer = length-append h (written t Seals ∷ []) in
     record {
       agrees = Agrees-sealed h cs es last t k.agrees later may;
       bytes_are = λ s. absurd (false≢true (sym s));
@@ -99,6 +102,7 @@ kept-sealed h room room' cs es bytes bytes' last t k later early may less =
       within = λ s. absurd (false≢true (sym s));
       few = k.few;
       early = early;
+      short = omega (arith, parts.0, longer);
     }
 
 held-less : (s : Bool) (n n' p p' room room' : ℕ) → held s n p ≤ room → n' + 1 ≤ n → p' ≤ p → room' + 1 ≡ room → held s n' p' ≤ room'
@@ -114,6 +118,7 @@ kept-shut h room room' cs es s bytes bytes' last t x k later early has less b =
     let sum = sum_by-append entry_size h (written t (Shuts x.id) ∷ []) in
     let entries : length (h ++ written t (Shuts x.id) ∷ []) ≡ length h + 1 = length-append h (written t (Shuts x.id) ∷ []) in
     let few = k.few in
+    let was_short = k.short in
     record {
       agrees = Agrees-shut h cs es s last t x k.agrees later has;
       bytes_are = λ e. let was = k.bytes_are e in let parts = fits-parts (length h) bytes (length cs) (count_by is_pending cs) (k.within e) in omega (arith, sum, was, parts.1, b);
@@ -124,6 +129,7 @@ kept-shut h room room' cs es s bytes bytes' last t x k later early has less b =
           rw (entries, same) (fits-from (length h + 1) (bytes + 64) (length (others x.id cs)) (count_by is_pending (others x.id cs)) (omega (arith, parts.0, fewer_now, wait)) (omega (arith, parts.1, fewer_now, wait)));
       few = omega (arith, fewer_now, few);
       early = early;
+      short = omega (arith, was_short, entries, fewer_now, wait);
     }
 
 pub takes-fits : (h : List Written) (bytes e b c p : ℕ) → sum_by entry_size h ≡ bytes → takes h e b c p ≡ fits (length h + e) (bytes + b) c p
@@ -193,6 +199,7 @@ kept-at-once h h1 h2 h3 room room1 room2 room3 cs es s bytes bytes' last t n siz
       within = λ e. rw (size2, size1, same, ← cnt, ← wait) (fits-from (length h + 1 + 1) (bytes + (real + 132)) count pending (omega (arith, parts.0)) (parts.1));
       few = before.few;
       early = early;
+      short = omega (arith, parts.0, size1, size2, cnt, wait);
     } in
     rw (e3, e2, e1, unsealed) now
 

@@ -7,3 +7,14 @@ pub mod Knowing
 pub mod Lists
 pub mod Taking
 pub mod Showing
+pub mod Lates
+pub mod Timing
+pub mod Dues
+pub mod Ticked
+pub mod Lasts
+pub mod Matching
+pub mod Recognising
+pub mod Deciding
+pub mod Listening
+pub mod Told
+pub mod Stepping

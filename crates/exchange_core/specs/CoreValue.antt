@@ -1,5 +1,5 @@
 -- What contracts see of a core.
-use Rattle.std.specs.Prelude.{◌≡◌, ℕ, ◌≤◌, ◌^◌, min, max, Bool, true, false, List, length, filter, drop, sum_by, count_by}
+use Rattle.std.specs.Prelude.{◌≡◌, ℕ, ◌+◌, ◌≤◌, ◌^◌, min, max, Bool, true, false, List, length, filter, drop, sum_by, count_by}
 use Rattle.std.specs.List.{All}
 use Rattle.journal_book.specs.Entries.{Deed, Opens, Sends, Written, entry_size}
 use Rattle.history_laws.specs.declared.kept.Conn.{Conn}
@@ -54,6 +54,7 @@ pub record CoreKept (h : List Written) (room : ℕ) (conns : List Conn) (tables 
   pub within : sealed ≡ false → fits (length h) bytes (length conns) (count_by is_pending conns) ≡ true
   pub few : length conns ≤ 256
   pub early : last ≤ 2 ^ 62
+  pub short : length h + length conns + count_by is_pending conns ≤ 65536
 
 -- The answers stand in the journal, and what the connections wait for is kept with what was asked.
 pub record Answerable (h : List Written) (conns : List Conn) (waiting : List Waited) (answers : List Given) (taken : ℕ) : Type 0 where

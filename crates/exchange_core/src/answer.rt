@@ -1,12 +1,12 @@
 //! What an ask is given: a ticket, and then its answer.
 
 ghost use Rattle.std.specs.Prelude.{◌≡◌};
-ghost use Rattle.journal_book.specs.Entries.{Fault};
+ghost use Rattle.journal_book.specs.Entries.{Live, Fault};
 ghost use Rattle.journal_book.specs.Views.{grounds_of};
-ghost use Rattle.exchange_core.specs.Findings.{Fails, Fits, told_of};
+ghost use Rattle.exchange_core.specs.Findings.{Tells, Fails, Fits, response_of, told_of};
 
 use ask_model::{Bytes, Cause, Mapped};
-use journal_book::Grounds;
+use journal_book::{Grounds, Numbers};
 use std::marker::Model;
 use std::sync::Arc;
 use transformers::Relation;
@@ -62,6 +62,16 @@ impl Finding {
         Finding {
             outcome: Outcome::Fault(cause),
             grounds: Grounds::Fault(cause, number),
+        }
+    }
+
+    /// A response that rests on the replies in these entries.
+    pub fn whole(response: Response, replies: Numbers) -> Finding
+        ensures { result ≡ record { told = Tells (response_of response); grounds = Live replies } }
+    {
+        Finding {
+            outcome: Outcome::Whole(response),
+            grounds: Grounds::Live(replies),
         }
     }
 

@@ -95,7 +95,13 @@ impl<R: Relation> Core<R> {
 
     /// Whether entries may come that count so many bytes, and leave so many connections, as many of which
     /// wait for an answer.
-    fn has_room_for(&self, entries: u64, bytes: u64, conns: usize, pending: usize) -> bool
+    pub(crate) fn has_room_for(
+        &self,
+        entries: u64,
+        bytes: u64,
+        conns: usize,
+        pending: usize,
+    ) -> bool
         ensures { self.now.sealed ≡ false → result ≡ takes self.now.entries entries bytes conns pending }
     {
         has_room(
@@ -129,6 +135,7 @@ impl<R: Relation> Core<R> {
         ensures exchanges { self.new.exchanges ≡ self.old.exchanges }
         ensures answers { self.new.answers ≡ self.old.answers }
         ensures sends { self.new.sends ≡ self.old.sends }
+        ensures moment { self.new.moment ≡ moment }
     {
         self.journal.add(Entry {
             moment,

@@ -7,16 +7,27 @@
 
 mod answer;
 mod ask;
+mod confirming;
 mod core_state;
 mod fault;
+mod heard;
+mod hearing;
 mod numbering;
 mod outbox;
+mod reading;
+mod remembering;
+mod response;
 mod room;
+mod step;
 mod tables;
+mod tick;
+mod verdict;
 
 pub use answer::{Answer, Finding, Outcome, Response, Ticket};
 pub use core_state::Core;
 pub use fault::{AskFault, OpenFault};
 
+#[cfg(test)]
+mod heard_tests;
 #[cfg(test)]
 mod tests;

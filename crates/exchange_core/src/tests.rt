@@ -5,7 +5,7 @@ ghost use Rattle.uri_map.specs.Naming.{target_at};
 ghost use Rattle.uri_map.specs.Peers.{peer_in};
 ghost use Rattle.uri_map.specs.Splitting.{origin_form};
 
-use crate::{AskFault, Core, OpenFault, Outcome};
+use crate::{AskFault, Core, OpenFault, Outcome, Ticket};
 use ask_model::{Cause, Mapped, Meaning, Payload, REQUEST_LIMIT, Settings, incoming_size};
 use code_map::{Method, Status, method_of};
 use http_edge::{BadKind, Edge, Incoming, Memory, Request};
@@ -224,4 +224,129 @@ fn a_request_opens_an_exchange(rt: HostRuntime) {
         Ok(_) => assert!(rt; false),
     }
     assert!(rt; core.take_answer(&ticket).is_none());
+}
+
+/// A core whose only connection asked for a resource, with the ticket.
+fn core_that_waits(alloc: Global) -> Option<(Core<Nothing>, Ticket<Nothing>)> {
+    let mut core: Core<Nothing> = Core::new(alloc).ok()?;
+    let conn = core.open(0).ok()?;
+    let head = b"GET /hc/coap://s.example.com/light HTTP/1.1\r\nHost: p\r\n\r\n";
+    let mapped = asked(alloc, head).ok()??;
+    let ticket = core.ask(0, 0, conn, mapped).ok()?;
+    Some((core, ticket))
+}
+
+fn server() -> Peer {
+    Peer {
+        address: IpAddr::V4(Ipv4Addr::new(192, 0, 2, 1)),
+        port: 5683,
+    }
+}
+
+#[test]
+fn a_reply_answers_who_waits(rt: HostRuntime) {
+    let alloc: Global = rt.alloc();
+    let (mut core, ticket) = core_that_waits(alloc).expect(&rt, "an ask");
+    // a piggybacked 2.05 (RFC 7252 section 5.2.1)
+    let reply = b"\x68\x45\0\0\0\0\0\0\0\0\0\0\xff22.5";
+    let stranger = Peer {
+        port: 5684,
+        ..server()
+    };
+    core.heard(3, 0, stranger, reply).expect(&rt, "memory");
+    assert_eq!(rt; core.journal().len(), 3);
+    core.heard(7, 0, server(), reply).expect(&rt, "memory");
+    // what was heard, and the answer
+    assert_eq!(rt; core.journal().len(), 5);
+    match core.take_answer(&ticket) {
+        Some(answer) => {
+            assert_eq!(rt; answer.ask, 1);
+            assert_eq!(rt; answer.number, 4);
+            assert_eq!(rt; answer.heard, 7);
+            match answer.finding.outcome() {
+                Outcome::Whole(response) => {
+                    assert_eq!(rt; response.code, 0x45);
+                    assert_eq!(rt; response.body.as_slice(), b"22.5".as_slice());
+                }
+                Outcome::Fault(_) => assert!(rt; false),
+            }
+        }
+        None => assert!(rt; false),
+    }
+}
+
+#[test]
+fn a_repeated_con_is_acknowledged_again(rt: HostRuntime) {
+    let alloc: Global = rt.alloc();
+    let (mut core, ticket) = core_that_waits(alloc).expect(&rt, "an ask");
+    // a separate response (RFC 7252 section 5.2.2)
+    let reply = b"\x48\x45\x12\x34\0\0\0\0\0\0\0\0\xff22.5";
+    core.heard(7, 0, server(), reply).expect(&rt, "memory");
+    core.heard(9, 0, server(), reply).expect(&rt, "memory");
+    // both times what was heard and its ACK, and one answer
+    assert_eq!(rt; core.journal().len(), 8);
+    for number in [4, 7] {
+        match core.journal().get(number) {
+            Some(entry) => match &entry.event {
+                Event::Sent { bytes, timeout, .. } => {
+                    assert_eq!(rt; bytes.as_slice(), b"\x60\0\x12\x34".as_slice());
+                    assert_eq!(rt; *timeout, None);
+                }
+                _ => assert!(rt; false),
+            },
+            None => assert!(rt; false),
+        }
+    }
+    assert!(rt; core.take_answer(&ticket).is_some());
+    assert!(rt; core.take_answer(&ticket).is_none());
+}
+
+#[test]
+fn a_reset_message_ends_a_request(rt: HostRuntime) {
+    let alloc: Global = rt.alloc();
+    let (mut core, ticket) = core_that_waits(alloc).expect(&rt, "an ask");
+    core.heard(7, 0, server(), b"\x70\0\0\0")
+        .expect(&rt, "memory");
+    assert_eq!(rt; core.journal().len(), 5);
+    match core.take_answer(&ticket) {
+        Some(answer) => match answer.finding.outcome() {
+            Outcome::Fault(cause) => assert_eq!(rt; *cause, Cause::Reset),
+            Outcome::Whole(_) => assert!(rt; false),
+        },
+        None => assert!(rt; false),
+    }
+}
+
+#[test]
+fn a_request_without_a_reply_times_out(rt: HostRuntime) {
+    let alloc: Global = rt.alloc();
+    let mut core: Core<Nothing> = Core::new(alloc).expect(&rt, "memory");
+    let conn = core.open(0).expect(&rt, "a connection");
+    let head = b"GET /hc/coap://s.example.com/light HTTP/1.1\r\nHost: p\r\n\r\n";
+    let mapped = asked(alloc, head)
+        .expect(&rt, "memory")
+        .expect(&rt, "a request");
+    assert_eq!(rt; core.next_due(), None);
+    let Ok(ticket) = core.ask(1000, 0, conn, mapped) else {
+        assert!(rt; false);
+        return;
+    };
+    assert_eq!(rt; core.next_due(), Some(94_000));
+    assert!(rt; core.tick(93_999, 0).is_ok());
+    assert_eq!(rt; core.journal().len(), 3);
+    assert!(rt; core.take_answer(&ticket).is_none());
+    assert!(rt; core.tick(94_000, 0).is_ok());
+    assert_eq!(rt; core.journal().len(), 5);
+    assert_eq!(rt; core.next_due(), None);
+    match core.take_answer(&ticket) {
+        Some(answer) => {
+            assert_eq!(rt; answer.number, 4);
+            assert_eq!(rt; answer.moment, 94_000);
+            match answer.finding.outcome() {
+                Outcome::Fault(cause) => assert_eq!(rt; *cause, Cause::Timeout),
+                Outcome::Whole(_) => assert!(rt; false),
+            }
+        }
+        None => assert!(rt; false),
+    }
 }

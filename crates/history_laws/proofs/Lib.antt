@@ -22,3 +22,7 @@ pub mod Amidst
 pub mod Lateness
 pub mod Readers
 pub mod Finding
+pub mod Going
+pub mod HeardReads
+pub mod Hearing
+pub mod HearingQuiet

@@ -1,0 +1,229 @@
+-- What a core keeps behind a datagram that was heard.
+use Rattle.std.proofs.Common.{◌≡◌, ◌≢◌, ℕ, zero, suc, ◌+◌, ◌-◌, ◌*◌, ◌^◌, ◌<◌, ◌≤◌, min, Bool, true, false, cond, eqb, ◌⊎◌, inl, inr, List, [], ◌∷◌, ◌++◌, length, get_or, map, Option, Some, None, refl, sym, ap, subst, ◌∙◌, arith, length-append}
+use Rattle.std.specs.Prelude.{sum_by, count_by, is_some, option_map, IfSome}
+use Rattle.std.specs.List.{All, Contains}
+use Rattle.std.proofs.lemmas.List.{length-map}
+use Rattle.std.proofs.lemmas.List.Elements.{All-contains}
+use Rattle.std.proofs.lemmas.List.Sums.{sum_by-append, sum_by-cons}
+use Rattle.std.proofs.lemmas.Bool.Decides.{eqb_tells}
+use Rattle.uri_map.specs.declared.peer.Peer.{Peer}
+use Rattle.journal_book.specs.Entries.{Grounds, grounds_size, Hears, Sends, Answers, Seals, Written, entry_size}
+use Rattle.journal_book.specs.Views.{grounds_of}
+use Rattle.history_laws.specs.declared.kept.Conn.{Conn}
+use Rattle.history_laws.specs.declared.kept.Exchange.{Exchange}
+use Rattle.history_laws.specs.declared.kept.Known.{Known}
+use Rattle.history_laws.specs.declared.kept.Remembered.{Remembered}
+use Rattle.history_laws.specs.Numbering.{known_of}
+use Rattle.history_laws.specs.Kept.{pend, Held, Agrees}
+use Rattle.history_laws.specs.Amid.{Amid}
+use Rattle.history_laws.proofs.Hearing.{MayHear}
+use Rattle.exchange_core.specs.declared.verdict.Due.{Due}
+use Rattle.exchange_core.specs.declared.verdict.Ending.{Ending}
+use Rattle.exchange_core.specs.declared.verdict.Verdict.{Verdict}
+use Rattle.exchange_core.specs.declared.step.Reader.{Reader}
+use Rattle.exchange_core.specs.Room.{is_some_ask, is_pending, fits, takes, held}
+use Rattle.exchange_core.specs.CoreValue.{CoreValue, written, CoreKept, Answerable}
+use Rattle.exchange_core.specs.Answering.{Given, Waited, HasWaited, IsKept}
+use Rattle.exchange_core.specs.Verdicts.{exchanges_by, heard_by, held_by, ended_by, IsVerdict}
+use Rattle.exchange_core.specs.Hears.{AddsAnswer, ChangesBy, HearsAt, HeardSo}
+use Rattle.exchange_core.specs.Steps.{one_if, IsConfirmation, with_sent, IsReader, with_answer, conns_by, waiting_by, AnswersBy}
+use Rattle.exchange_core.proofs.Keeping.{fits-parts, fits-from, takes-fits}
+use Rattle.exchange_core.proofs.Giving.{answerable-more}
+use Rattle.exchange_core.proofs.Listening.{verdict-amid, verdict-changes, confirmed-amid, answered-agrees}
+use Rattle.exchange_core.proofs.Told.{Tellable, verdict-told, told-sent, stands-sent, answerable-sent, answerable-told}
+
+abbrev one_of : Conn → ℕ
+one_of x = cond (is_pending x) 1 0
+
+-- a connection that is answered waits no more
+no-more : (c : ℕ) (xs : List Conn) → count_by is_pending (map (pend c None) xs) ≤ count_by is_pending xs
+no-more c [] = omega arith
+no-more c (x ∷ xs) =
+    let rest = no-more c xs in
+    let whole = sum_by-cons (λ (x : Conn). cond (is_pending x) 1 0) x xs in
+    let left = sum_by-cons (λ (x : Conn). cond (is_pending x) 1 0) (pend c None x) (map (pend c None) xs) in
+    elim (eqb_tells x.id c) [
+      | inl w ↦ let none : one_of (pend c None x) ≡ 0 = rw (w.0) refl in omega (arith, whole, left, rest, none)
+      | inr w ↦ let same : one_of (pend c None x) ≡ one_of x = rw (w.0) refl in omega (arith, whole, left, rest, same)
+    ]
+
+fewer-at : (c : ℕ) (xs : List Conn) (k : ℕ) (d : Conn) → k < length xs → (get_or xs k d).id ≡ c → is_pending (get_or xs k d) ≡ true
+    → count_by is_pending (map (pend c None) xs) + 1 ≤ count_by is_pending xs
+fewer-at c [] k d lt e waits = absurd (omega arith)
+fewer-at c (x ∷ xs) zero d lt e waits =
+    let rest = no-more c xs in
+    let whole = sum_by-cons (λ (x : Conn). cond (is_pending x) 1 0) x xs in
+    let left = sum_by-cons (λ (x : Conn). cond (is_pending x) 1 0) (pend c None x) (map (pend c None) xs) in
+    let one : one_of x ≡ 1 = ap (λ (b : Bool). cond b 1 0) waits in
+    elim (eqb_tells x.id c) [
+      | inl w ↦ let none : one_of (pend c None x) ≡ 0 = rw (w.0) refl in omega (arith, whole, left, rest, none, one)
+      | inr w ↦ absurd (w.1 e)
+    ]
+fewer-at c (x ∷ xs) (suc k) d lt e waits =
+    let rest = fewer-at c xs k d (omega arith) e waits in
+    let whole = sum_by-cons (λ (x : Conn). cond (is_pending x) 1 0) x xs in
+    let left = sum_by-cons (λ (x : Conn). cond (is_pending x) 1 0) (pend c None x) (map (pend c None) xs) in
+    elim (eqb_tells x.id c) [
+      | inl w ↦ let none : one_of (pend c None x) ≡ 0 = rw (w.0) refl in omega (arith, whole, left, rest, none)
+      | inr w ↦ let same : one_of (pend c None x) ≡ one_of x = rw (w.0) refl in omega (arith, whole, left, rest, same)
+    ]
+
+fewer-wait : (xs : List Conn) (x : Conn) (c k : ℕ) → Contains xs x → x.id ≡ c → x.pending ≡ Some k
+    → count_by is_pending (map (pend c None) xs) + 1 ≤ count_by is_pending xs
+fewer-wait xs x c k has id waits =
+    fewer-at c xs has.0 x has.1 (ap (λ (y : Conn). y.id) has.2 ∙ id) (ap is_pending has.2 ∙ ap is_some_ask waits)
+
+conns-fewer : (cs : List Conn) (d : Option Ending) (r : Option Reader) → IsReader cs d r
+    → (length (conns_by r cs) ≡ length cs) × (count_by is_pending (conns_by r cs) + one_if (is_some r) ≤ count_by is_pending cs)
+conns-fewer cs None None is = (refl, omega arith)
+conns-fewer cs (Some d) None is = (refl, omega arith)
+conns-fewer cs (Some d) (Some r) is =
+    (length-map cs (pend r.conn None), fewer-wait cs is.0.0 r.conn d.opening is.0.1 is.0.2 is.0.3)
+conns-fewer cs None (Some r) is = elim is [ ]
+
+-- how much is added
+sent-size : (t : ℕ) (p : Peer) (due : Option Due) (sent : Option (List ℕ)) (h : List Written) → IsConfirmation due sent
+    → (length (with_sent t p sent h) ≡ length h + one_if (is_some sent))
+    × (sum_by entry_size (with_sent t p sent h) ≡ sum_by entry_size h + 68 * one_if (is_some sent))
+sent-size t p None None h is = (omega arith, omega arith)
+sent-size t p (Some d) (Some b) h is =
+    let sum = sum_by-append entry_size h (written t (Sends p b None) ∷ []) in
+    let more = length-append h (written t (Sends p b None) ∷ []) in
+    let four = is.1 in
+    (omega (arith, more), omega (arith, sum, four))
+sent-size t p None (Some b) h is = elim is [ ]
+sent-size t p (Some d) None h is = elim is [ ]
+
+answer-size : (t : ℕ) (cs : List Conn) (d : Option Ending) (r : Option Reader) (g h : List Written) → IsReader cs d r → Tellable g d
+    → (length (with_answer t r h) ≡ length h + one_if (is_some r))
+    × (sum_by entry_size (with_answer t r h) ≡ sum_by entry_size h + 68 * one_if (is_some r))
+answer-size t cs None None g h is told = (omega arith, omega arith)
+answer-size t cs (Some d) None g h is told = (omega arith, omega arith)
+answer-size t cs (Some d) (Some r) g h is told =
+    let entry : Written = written t (Answers r.conn r.ask (grounds_of r.grounds)) in
+    let sum = sum_by-append entry_size h (entry ∷ []) in
+    let more = length-append h (entry ∷ []) in
+    let four : grounds_size (grounds_of r.grounds) ≡ 4 = ap grounds_size is.2 ∙ told.1 in
+    (omega (arith, more), omega (arith, sum, four))
+answer-size t cs None (Some r) g h is told = elim is [ ]
+
+one-at-most : (b : Bool) → one_if b ≤ 1
+one-at-most true = omega arith
+one-at-most false = omega arith
+
+-- who waits has its ask kept
+pub waits-kept : (cs : List Conn) (d : Option Ending) (r : Option Reader) (ws : List Waited) → IsReader cs d r → All (λ (x : Conn). IsKept ws x.pending) cs
+    → IfSome r (λ (r : Reader). HasWaited ws r.ask)
+waits-kept cs None None ws is kept = tt
+waits-kept cs (Some d) None ws is kept = tt
+waits-kept cs (Some d) (Some r) ws is kept =
+    let here : IsKept ws is.0.0.pending = All-contains (λ (x : Conn). IsKept ws x.pending) cs is.0.0 kept is.0.1 in
+    subst (HasWaited ws) (sym is.1) (subst (IsKept ws) is.0.3 here)
+waits-kept cs None (Some r) ws is kept = elim is [ ]
+
+pub some-map : {X Y : Type 0} (f : X → Y) (x : Option X) → is_some (option_map f x) ≡ is_some x
+some-map f None = refl
+some-map f (Some x) = refl
+
+-- the journal is long enough for one entry more
+pub few-heard : (h h1 h2 h3 : List Written) (t e size count waiting : ℕ) (p : Peer) (b : List ℕ) (due : Option Due) (sent : Option (List ℕ)) (sb rb : Bool)
+    → IsConfirmation due sent → sb ≡ is_some sent → e ≡ 1 + (one_if sb + one_if rb) → takes h e size count waiting ≡ true
+    → h1 ≡ h → h2 ≡ h1 ++ written t (Hears p b) ∷ [] → h3 ≡ with_sent t p sent h2 → length h3 ≤ 65536
+few-heard h h1 h2 h3 t e size count waiting p b due sent sb rb conf sb-is e-is room-fits e1 e2 e3 =
+    let parts = fits-parts (length h + e) (sum_by entry_size h + size) count waiting room-fits in
+    let by3 = sent-size t p due sent h2 conf in
+    let long : length h3 ≡ length (with_sent t p sent h2) = ap length e3 in
+    let two : length h2 ≡ length h1 + 1 = rw e2 (length-append h1 (written t (Hears p b) ∷ [])) in
+    let one : length h1 ≡ length h = ap length e1 in
+    let same : one_if sb ≡ one_if (is_some sent) = ap one_if sb-is in
+    omega (arith, parts.0, by3.0, long, two, one, same, e-is)
+
+pub kept-heard : (h h1 h2 h3 h4 : List Written) (room room1 room2 room3 room4 : ℕ) (cs cs1 : List Conn) (tables : Held) (es1 : List Exchange) (rs1 : List Remembered)
+    (s : Bool) (bytes bytes' last t n e size count pending waiting taken : ℕ) (p : Peer) (b b1 : List ℕ) (sb rb : Bool) (v : Verdict) (sent : Option (List ℕ)) (r : Option Reader) (k : Known)
+    (ws ws1 : List Waited) (gs gs1 : List Given)
+    → CoreKept h room cs tables s bytes last → Answerable h cs ws gs taken → s ≡ false → last ≤ t → t ≤ 2 ^ 62
+    → length b ≤ 2048 → known_of tables.known p ≡ Some k → n ≡ length h → IsVerdict t n p b tables.exchanges tables.heard v
+    → IsConfirmation v.due sent → IsReader cs v.ending r
+    → sb ≡ is_some sent → rb ≡ is_some r → b1 ≡ b
+    → count ≡ length cs → pending ≡ count_by is_pending cs → waiting ≡ pending - one_if rb
+    → e ≡ 1 + (one_if sb + one_if rb) → size ≡ length b + 64 + 68 * (one_if sb + one_if rb)
+    → takes h e size count waiting ≡ true
+    → h1 ≡ h → h2 ≡ h1 ++ written t (Hears p b1) ∷ [] → h3 ≡ with_sent t p sent h2 → h4 ≡ with_answer t r h3
+    → es1 ≡ exchanges_by v.change tables.exchanges → rs1 ≡ heard_by v.memory tables.heard → cs1 ≡ conns_by r cs
+    → ws1 ≡ waiting_by r ws → AnswersBy t (length h3) r ws gs gs1
+    → count + pending + 4 ≤ room1 → room2 + 1 ≡ room1 → room2 ≤ room3 + 1 → room3 ≤ room4 + 1
+    → bytes' ≡ min (bytes + size) (2 ^ 64 - 1)
+    → CoreKept h4 room4 cs1 (record tables { exchanges = es1; heard = rs1 }) s bytes' t × Answerable h4 cs1 ws1 gs1 taken
+kept-heard h h1 h2 h3 h4 room room1 room2 room3 room4 cs cs1 tables es1 rs1 s bytes bytes' last t n e size count pending waiting taken p b b1 sb rb v sent r k ws ws1 gs gs1 kept ans unsealed later early short known num verdict conf reader sb-is rb-is b-is cnt pend-is wait-is e-is size-is room-fits e1 e2 e3 e4 f1 f2 f3 g1 answers made less2 less3 less4 total =
+    let before : CoreKept h room cs tables false bytes last = subst (λ (s : Bool). CoreKept h room cs tables s bytes last) unsealed kept in
+    let may : MayHear h cs tables last t p b = record { agrees = before.agrees; later = later; short = short; peer = k; known = known } in
+    let x2 : List Written = h ++ written t (Hears p b) ∷ [] in
+    let x3 : List Written = with_sent t p sent x2 in
+    let x4 : List Written = with_answer t r x3 in
+    let y : Held = held_by v tables in
+    let cs2 : List Conn = conns_by r cs in
+    let amid2 = verdict-amid h cs tables last t n p b v may num verdict in
+    let amid3 = confirmed-amid v.due sent (ended_by v.ending) t p x2 cs y conf amid2 in
+    let agrees : Agrees x4 cs2 y false t = answered-agrees v.ending r t x3 cs y reader amid3 in
+    let told2 : Tellable x2 v.ending = verdict-told h cs tables last t n p b v before.agrees num verdict in
+    let told3 : Tellable x3 v.ending = told-sent x2 t p sent v.ending told2 in
+    let ans2 : Answerable x2 cs ws gs taken = answerable-more h x2 _ cs ws gs taken refl ans in
+    let ans3 : Answerable x3 cs ws gs taken = answerable-sent x2 t taken p sent cs ws gs ans2 in
+    let three : h3 ≡ x3 = e3 ∙ ap (with_sent t p sent) (e2 ∙ ap (λ (b : List ℕ). h1 ++ written t (Hears p b) ∷ []) b-is ∙ ap (λ (h : List Written). h ++ written t (Hears p b) ∷ []) e1) in
+    let number : length h3 ≡ length x3 = ap length three in
+    let ans4 : Answerable x4 cs2 (waiting_by r ws) gs1 taken =
+    answerable-told h x3 cs tables last t (length h3) taken v.ending r ws gs gs1 before.agrees ans.asked (stands-sent h _ t p sent) told3 number reader answers ans3 in
+    let was = before.bytes_are refl in
+    let fit : fits (length h + e) (bytes + size) count waiting ≡ true = sym (takes-fits h bytes e size count waiting was) ∙ room-fits in
+    let parts = fits-parts (length h + e) (bytes + size) count waiting fit in
+    let sum2 = sum_by-append entry_size h (written t (Hears p b) ∷ []) in
+    let size2 = length-append h (written t (Hears p b) ∷ []) in
+    let by3 = sent-size t p v.due sent x2 conf in
+    let by4 = answer-size t cs v.ending r x3 x3 reader told3 in
+    let fewer = conns-fewer cs v.ending r reader in
+    let a1 : one_if sb ≡ one_if (is_some sent) = ap one_if sb-is in
+    let a2 : one_if rb ≡ one_if (is_some r) = ap one_if rb-is in
+    let one = one-at-most (is_some r) in
+    let same : bytes' ≡ bytes + size = omega (arith, parts.1, total) in
+    let few = before.few in
+    let lengths : length x4 ≡ length h + e = omega (arith, size2, by3.0, by4.0, a1, a2, e-is) in
+    let now : CoreKept x4 room4 cs2 y false bytes' t = record {
+      agrees = agrees;
+      bytes_are = λ u. omega (arith, sum2, was, same, size-is, by3.1, by4.1, a1, a2);
+      room_held = omega (arith, made, less2, less3, less4, cnt, pend-is, fewer.0, fewer.1, a1, a2, one);
+      within = λ u. rw (lengths, same) (fits-from (length h + e) (bytes + size) (length cs2) (count_by is_pending cs2)
+          (omega (arith, parts.0, cnt, pend-is, wait-is, a2, fewer.0, fewer.1)) (omega (arith, parts.1, cnt, pend-is, wait-is, a2, fewer.0, fewer.1)));
+      few = omega (arith, few, fewer.0);
+      early = early;
+    } in
+    let four : h4 ≡ x4 = e4 ∙ ap (with_answer t r) three in
+    rw (four, f1, f2, f3, g1, unsealed) (now, ans4)
+
+-- what the step shows
+answer-shown : (t : ℕ) (r : Option Reader) (h : List Written) → AddsAnswer t h (with_answer t r h)
+answer-shown t None h = inl refl
+answer-shown t (Some r) h = inr (r.conn, r.ask, grounds_of r.grounds, refl)
+
+pub answer-added : (t : ℕ) (p : Peer) (b b1 : List ℕ) (r : Option Reader) (sent : Option (List ℕ)) (h h1 h2 h3 h4 : List Written)
+    → b1 ≡ b → h1 ≡ h → h2 ≡ h1 ++ written t (Hears p b1) ∷ [] → h3 ≡ with_sent t p sent h2 → h4 ≡ with_answer t r h3
+    → AddsAnswer t (with_sent t p sent (h ++ written t (Hears p b) ∷ [])) h4
+answer-added t p b b1 r sent h h1 h2 h3 h4 b-is e1 e2 e3 e4 =
+    let three : h3 ≡ with_sent t p sent (h ++ written t (Hears p b) ∷ []) =
+    e3 ∙ ap (with_sent t p sent) (e2 ∙ ap (λ (b : List ℕ). h1 ++ written t (Hears p b) ∷ []) b-is ∙ ap (λ (h : List Written). h ++ written t (Hears p b) ∷ []) e1) in
+    rw (e4, three) (answer-shown t r (with_sent t p sent (h ++ written t (Hears p b) ∷ [])))
+
+pub changes-shown : (h : List Written) (cs : List Conn) (tables : Held) (room bytes last t n : ℕ) (p : Peer) (b : List ℕ) (v : Verdict) (k : Known) (s : Bool) (es1 : List Exchange)
+    → CoreKept h room cs tables s bytes last → s ≡ false → last ≤ t → length b ≤ 2048 → known_of tables.known p ≡ Some k → n ≡ length h
+    → IsVerdict t n p b tables.exchanges tables.heard v → es1 ≡ exchanges_by v.change tables.exchanges
+    → ChangesBy p b tables.exchanges es1
+changes-shown h cs tables room bytes last t n p b v k s es1 kept unsealed later short known num verdict is =
+    let before : CoreKept h room cs tables false bytes last = subst (λ (s : Bool). CoreKept h room cs tables s bytes last) unsealed kept in
+    let may : MayHear h cs tables last t p b = record { agrees = before.agrees; later = later; short = short; peer = k; known = known } in
+    rw is (verdict-changes h cs tables last t n p b v may num verdict)
+
+pub hears-shown : (t t1 : ℕ) (p : Peer) (b : List ℕ) (old new : CoreValue) (sent : Option (List ℕ)) → t1 ≡ t → new.sealed ≡ false → new.moment ≡ t1
+    → AddsAnswer t1 (with_sent t1 p sent (old.entries ++ written t1 (Hears p b) ∷ [])) new.entries → ChangesBy p b old.exchanges new.exchanges
+    → HeardSo t p b old new
+hears-shown t t1 p b old new sent same unsealed moment entries exchanges =
+    inr (inr (subst (λ (t : ℕ). HearsAt t p b old new) same
+    (record { unsealed = unsealed; moment = moment; sent = sent; entries = entries; exchanges = exchanges })))

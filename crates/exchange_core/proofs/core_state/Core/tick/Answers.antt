@@ -1,0 +1,186 @@
+use Rattle.std.proofs.Common.{rules, ◌≡◌, ◌≤◌, ◌+◌, ◌-◌, ◌*◌, ℕ, true, false, min, max, ◌^◌, List, length, refl, sym, subst, ap, ◌∙◌, arith}
+use Rattle.std.specs.Prelude.{count_by}
+use Rattle.std.proofs.lemmas.Bool.{false≢true}
+use Rattle.journal_book.specs.Entries.{Written}
+use Rattle.history_laws.specs.Kept.{Held}
+use Rattle.exchange_core.specs.Room.{is_pending, takes}
+use Rattle.exchange_core.specs.CoreValue.{CoreValue, now}
+use Rattle.exchange_core.specs.Ticking.{due_count, takes_tick, going}
+use Rattle.exchange_core.proofs.Lates.{prompt-timed}
+use Rattle.exchange_core.proofs.Ticked.{due-fewer, midway-passed, kept-ticked, entries-passed, moment-same, sends-passed, ticked-sealed, room-is, on-err, now-early}
+use Rattle.exchange_core.proofs.core_state.Core.tick.Goals as goal
+
+pub overflow_sub-pending : goal.overflow_sub-pending
+overflow_sub-pending g c =
+    let s = c.self.inside in
+    let less = due-fewer c.max-moment.result s.exchanges.items s.conns.items in
+    let due : c.late_count-answers.result ≡ due_count c.max-moment.result s.exchanges.items s.conns.items =
+    rw (c.deref-3.ensures.value, c.deref-4.ensures.value) at c.late_count-answers.ensures in
+    let wait : c.pending_count-pending.result ≡ count_by is_pending s.conns.items = c.pending_count-pending.ensures ∙ ap (count_by is_pending) c.deref-2.ensures.value in
+    omega (arith, less, due, wait)
+
+pub answer_late-requires-then-not-has_room_for-clause-later : goal.answer_late-requires-then-not-has_room_for-clause-later
+answer_late-requires-then-not-has_room_for-clause-later g c = omega (arith, c.seal.ensures.moment)
+
+pub returns-then-not-has_room_for-clause-ends : goal.returns-then-not-has_room_for-clause-ends
+returns-then-not-has_room_for-clause-ends g c _ past takes_it =
+    let s = c.self.inside in
+    let v = c.args.self.now in
+    let t = c.max-moment.result in
+    let more = c.late_count-answers.result in
+    let count = c.len-count.result in
+    let pending = c.pending_count-pending.result in
+    let cnt : count ≡ length s.conns.items = omega (arith, c.len-count.ensures, s.conns.ok.0) in
+    let wait : pending ≡ count_by is_pending s.conns.items = c.pending_count-pending.ensures ∙ ap (count_by is_pending) c.deref-2.ensures.value in
+    let due : more ≡ due_count t s.exchanges.items s.conns.items = rw (c.deref-3.ensures.value, c.deref-4.ensures.value) at c.late_count-answers.ensures in
+    let unsealed : v.sealed ≡ false = sym (ap (λ (v : CoreValue). v.sealed) c.self.view_is) ∙ c.if-self.false in
+    let at_t : t ≡ now v.moment c.args.moment =
+    c.max-moment.ensures ∙ ap (max s.last) c.min.ensures ∙ ap (λ (n : ℕ). now n c.args.moment) (ap (λ (v : CoreValue). v.moment) c.self.view_is) in
+    let same : takes v.entries (1 + more) (64 + 68 * more) count (pending - more) ≡ takes_tick t v =
+    room-is t v s.exchanges.items s.conns.items count pending more (64 + 68 * more) (ap (λ (v : CoreValue). v.exchanges) c.self.view_is) (ap (λ (v : CoreValue). v.conns) c.self.view_is) cnt wait due refl in
+    let answer : takes v.entries (1 + more) (64 + 68 * more) count (pending - more) ≡ false = sym (c.has_room_for.ensures unsealed) ∙ c.if-not-has_room_for.true in
+    let told : takes_tick (now v.moment c.args.moment) v ≡ false = ap (λ (n : ℕ). takes_tick n v) (sym at_t) ∙ sym same ∙ answer in
+    absurd (false≢true (sym told ∙ takes_it))
+
+pub returns-then-not-has_room_for-clause-seals : goal.returns-then-not-has_room_for-clause-seals
+returns-then-not-has_room_for-clause-seals g c _ past takes_not =
+    let s = c.self.inside in
+    let v = c.args.self.now in
+    let t = c.max-moment.result in
+    let at_t : t ≡ now v.moment c.args.moment =
+    c.max-moment.ensures ∙ ap (max s.last) c.min.ensures ∙ ap (λ (n : ℕ). now n c.args.moment) (ap (λ (v : CoreValue). v.moment) c.self.view_is) in
+    let a = c.seal.ensures in
+    let b = c.answer_late-then-not-has_room_for.ensures in
+    rw (← at_t) (ticked-sealed t v c.seal.new.self c.answer_late-then-not-has_room_for.new.self a.entries a.conns a.exchanges a.sends a.moment a.answers b.answers b.entries b.conns b.sends b.moment b.exchanges b.sealed)
+
+pub returns-in_err-make_room-clause-memory_last : goal.returns-in_err-make_room-clause-memory_last
+returns-in_err-make_room-clause-memory_last g c =
+    let s = c.self.inside in
+    let v = c.args.self.now in
+    let t = c.max-moment.result in
+    let more = c.late_count-answers.result in
+    let count = c.len-count.result in
+    let pending = c.pending_count-pending.result in
+    let cnt : count ≡ length s.conns.items = omega (arith, c.len-count.ensures, s.conns.ok.0) in
+    let wait : pending ≡ count_by is_pending s.conns.items = c.pending_count-pending.ensures ∙ ap (count_by is_pending) c.deref-2.ensures.value in
+    let due : more ≡ due_count t s.exchanges.items s.conns.items = rw (c.deref-3.ensures.value, c.deref-4.ensures.value) at c.late_count-answers.ensures in
+    let unsealed : v.sealed ≡ false = sym (ap (λ (v : CoreValue). v.sealed) c.self.view_is) ∙ c.if-self.false in
+    let at_t : t ≡ now v.moment c.args.moment =
+    c.max-moment.ensures ∙ ap (max s.last) c.min.ensures ∙ ap (λ (n : ℕ). now n c.args.moment) (ap (λ (v : CoreValue). v.moment) c.self.view_is) in
+    let same : takes v.entries (1 + more) (64 + 68 * more) count (pending - more) ≡ takes_tick t v =
+    room-is t v s.exchanges.items s.conns.items count pending more (64 + 68 * more) (ap (λ (v : CoreValue). v.exchanges) c.self.view_is) (ap (λ (v : CoreValue). v.conns) c.self.view_is) cnt wait due refl in
+    let answer : takes v.entries (1 + more) (64 + 68 * more) count (pending - more) ≡ true = sym (c.has_room_for.ensures unsealed) ∙ c.if-not-has_room_for.false in
+    let told : takes_tick (now v.moment c.args.moment) v ≡ true = ap (λ (n : ℕ). takes_tick n v) (sym at_t) ∙ sym same ∙ answer in
+    on-err c.from_residual.result ((v.sealed ≡ false) × (takes_tick (now v.moment c.args.moment) v ≡ true)) (unsealed, told)
+
+pub answer_each-requires : goal.answer_each-requires
+answer_each-requires g c =
+    let s = c.self.inside in
+    let v = c.args.self.now in
+    let t = c.max-moment.result in
+    let more = c.late_count-answers.result in
+    let count = c.len-count.result in
+    let pending = c.pending_count-pending.result in
+    let cnt : count ≡ length s.conns.items = omega (arith, c.len-count.ensures, s.conns.ok.0) in
+    let wait : pending ≡ count_by is_pending s.conns.items = c.pending_count-pending.ensures ∙ ap (count_by is_pending) c.deref-2.ensures.value in
+    let due : more ≡ due_count t s.exchanges.items s.conns.items = rw (c.deref-3.ensures.value, c.deref-4.ensures.value) at c.late_count-answers.ensures in
+    let unsealed : v.sealed ≡ false = sym (ap (λ (v : CoreValue). v.sealed) c.self.view_is) ∙ c.if-self.false in
+    let tables : Held = record { exchanges = s.exchanges.items; opened = s.opened; issued = s.issued; known = s.known.items; heard = s.heard.items } in
+    let answer : takes v.entries (1 + more) (64 + 68 * more) count (pending - more) ≡ true = sym (c.has_room_for.ensures unsealed) ∙ c.if-not-has_room_for.false in
+    let room_fits : takes s.journal.entries (1 + more) (64 + 68 * more) count (pending - more) ≡ true =
+    subst (λ (h : List Written). takes h (1 + more) (64 + 68 * more) count (pending - more) ≡ true) (sym (ap (λ (v : CoreValue). v.entries) c.self.view_is)) answer in
+    let start = midway-passed s.journal.entries _ _ s.journal.room _ _ s.conns.items tables s.sealed s.bytes s.last t s.taken count pending more (64 + 68 * more) s.outbox.waiting s.outbox.answers
+    c.self.invariant.0 c.self.invariant.1 c.if-self.false (omega (arith, c.max-moment.ensures)) cnt wait due room_fits
+    c.in_ok-make_room.ensures.same c.add.ensures.entries c.in_ok-make_room.ensures.ok c.add.ensures.room in
+    rw (c.deref-5.ensures.value) (record tables { exchanges = going t s.exchanges.items }, s.sealed, s.taken, start)
+
+pub invariant_of-self-2 : goal.invariant_of-self-2
+invariant_of-self-2 g c =
+    let s = c.self.inside in
+    let v = c.args.self.now in
+    let t = c.max-moment.result in
+    let more = c.late_count-answers.result in
+    let count = c.len-count.result in
+    let pending = c.pending_count-pending.result in
+    let cnt : count ≡ length s.conns.items = omega (arith, c.len-count.ensures, s.conns.ok.0) in
+    let wait : pending ≡ count_by is_pending s.conns.items = c.pending_count-pending.ensures ∙ ap (count_by is_pending) c.deref-2.ensures.value in
+    let due : more ≡ due_count t s.exchanges.items s.conns.items = rw (c.deref-3.ensures.value, c.deref-4.ensures.value) at c.late_count-answers.ensures in
+    let unsealed : v.sealed ≡ false = sym (ap (λ (v : CoreValue). v.sealed) c.self.view_is) ∙ c.if-self.false in
+    let tables : Held = record { exchanges = s.exchanges.items; opened = s.opened; issued = s.issued; known = s.known.items; heard = s.heard.items } in
+    let answer : takes v.entries (1 + more) (64 + 68 * more) count (pending - more) ≡ true = sym (c.has_room_for.ensures unsealed) ∙ c.if-not-has_room_for.false in
+    let room_fits : takes s.journal.entries (1 + more) (64 + 68 * more) count (pending - more) ≡ true =
+    subst (λ (h : List Written). takes h (1 + more) (64 + 68 * more) count (pending - more) ≡ true) (sym (ap (λ (v : CoreValue). v.entries) c.self.view_is)) answer in
+    let start = midway-passed s.journal.entries _ _ s.journal.room _ _ s.conns.items tables s.sealed s.bytes s.last t s.taken count pending more (64 + 68 * more) s.outbox.waiting s.outbox.answers
+    c.self.invariant.0 c.self.invariant.1 c.if-self.false (omega (arith, c.max-moment.ensures)) cnt wait due room_fits
+    c.in_ok-make_room.ensures.same c.add.ensures.entries c.in_ok-make_room.ensures.ok c.add.ensures.room in
+    let gives = rw (c.deref-5.ensures.value) at c.answer_each.ensures.midway in
+    let entries = rw (c.deref-5.ensures.value) at c.answer_each.ensures.entries in
+    let conns = rw (c.deref-5.ensures.value) at c.answer_each.ensures.conns in
+    let m = gives (record tables { exchanges = going t s.exchanges.items }) s.sealed s.taken start in (
+      kept-ticked s.journal.entries _ _ _ s.journal.room _ s.conns.items _ tables s.sealed s.bytes _ s.last _ t s.taken count pending more (64 + 68 * more) _ _ _
+          c.self.invariant.0 c.if-self.false (now-early t s.last c.min.result c.args.moment c.max-moment.ensures c.min.ensures c.self.invariant.0.early) cnt wait due room_fits refl
+          c.in_ok-make_room.ensures.same c.add.ensures.entries entries conns m c.drop_late.ensures c.saturating_add-self-inside.ensures,
+      m.answerable,
+    )
+
+pub returns-clause-ends : goal.returns-clause-ends
+returns-clause-ends g c _ past takes_it =
+    let s = c.self.inside in
+    let v = c.args.self.now in
+    let t = c.max-moment.result in
+    let at_t : t ≡ now v.moment c.args.moment =
+    c.max-moment.ensures ∙ ap (max s.last) c.min.ensures ∙ ap (λ (n : ℕ). now n c.args.moment) (ap (λ (v : CoreValue). v.moment) c.self.view_is) in
+    let added = rw (c.deref-5.ensures.value) at c.answer_each.ensures.entries in
+    let conns = rw (c.deref-5.ensures.value) at c.answer_each.ensures.conns in
+    let last = rw (c.deref-5.ensures.value) at c.answer_each.ensures.last in
+    let gave = rw (c.deref-5.ensures.value) at c.answer_each.ensures.answers in
+    let given = rw (c.add.ensures.entries, c.in_ok-make_room.ensures.same) at gave in
+    let entries = entries-passed s.journal.entries _ _ _ _ _ c.in_ok-make_room.ensures.same c.add.ensures.entries added in
+    rw (← at_t, ← c.self.view_is) (record {
+      answers = record { entries = entries; conns = conns; answers = given; sends = sends-passed s.taken t s.exchanges.items s.journal.entries _ s.conns.items entries };
+      sealed = c.if-self.false;
+      moment = last ∙ moment-same t _;
+      exchanges = c.drop_late.ensures;
+    })
+
+pub returns-clause-seals : goal.returns-clause-seals
+returns-clause-seals g c _ past takes_not =
+    let s = c.self.inside in
+    let v = c.args.self.now in
+    let t = c.max-moment.result in
+    let more = c.late_count-answers.result in
+    let count = c.len-count.result in
+    let pending = c.pending_count-pending.result in
+    let cnt : count ≡ length s.conns.items = omega (arith, c.len-count.ensures, s.conns.ok.0) in
+    let wait : pending ≡ count_by is_pending s.conns.items = c.pending_count-pending.ensures ∙ ap (count_by is_pending) c.deref-2.ensures.value in
+    let due : more ≡ due_count t s.exchanges.items s.conns.items = rw (c.deref-3.ensures.value, c.deref-4.ensures.value) at c.late_count-answers.ensures in
+    let unsealed : v.sealed ≡ false = sym (ap (λ (v : CoreValue). v.sealed) c.self.view_is) ∙ c.if-self.false in
+    let at_t : t ≡ now v.moment c.args.moment =
+    c.max-moment.ensures ∙ ap (max s.last) c.min.ensures ∙ ap (λ (n : ℕ). now n c.args.moment) (ap (λ (v : CoreValue). v.moment) c.self.view_is) in
+    let same : takes v.entries (1 + more) (64 + 68 * more) count (pending - more) ≡ takes_tick t v =
+    room-is t v s.exchanges.items s.conns.items count pending more (64 + 68 * more) (ap (λ (v : CoreValue). v.exchanges) c.self.view_is) (ap (λ (v : CoreValue). v.conns) c.self.view_is) cnt wait due refl in
+    let answer : takes v.entries (1 + more) (64 + 68 * more) count (pending - more) ≡ true = sym (c.has_room_for.ensures unsealed) ∙ c.if-not-has_room_for.false in
+    let told : takes_tick (now v.moment c.args.moment) v ≡ true = ap (λ (n : ℕ). takes_tick n v) (sym at_t) ∙ sym same ∙ answer in
+    absurd (false≢true (sym takes_not ∙ told))
+
+pub returns-clause-prompt : goal.returns-clause-prompt
+returns-clause-prompt g c =
+    let at_t : c.max-moment.result ≡ now c.args.self.now.moment c.args.moment =
+    c.max-moment.ensures ∙ ap (max c.self.inside.last) c.min.ensures ∙ ap (λ (n : ℕ). now n c.args.moment) (ap (λ (v : CoreValue). v.moment) c.self.view_is) in
+    let conns = rw (c.deref-5.ensures.value) at c.answer_each.ensures.conns in
+    rw (← at_t, ← c.self.view_is) (prompt-timed c.max-moment.result c.self.inside.exchanges.items c.self.inside.conns.items _ conns)
+
+pub returns-then-self-clause-prompt : goal.returns-then-self-clause-prompt
+returns-then-self-clause-prompt g c =
+    let v = c.args.self.now in
+    let at_t : c.max-moment.result ≡ now v.moment c.args.moment =
+    c.max-moment.ensures ∙ ap (max c.self.inside.last) c.min.ensures ∙ ap (λ (n : ℕ). now n c.args.moment) (ap (λ (v : CoreValue). v.moment) c.self.view_is) in
+    rw (← at_t) (prompt-timed c.max-moment.result v.exchanges v.conns c.answer_late.new.self.conns c.answer_late.ensures.conns)
+
+pub returns-then-not-has_room_for-clause-prompt : goal.returns-then-not-has_room_for-clause-prompt
+returns-then-not-has_room_for-clause-prompt g c =
+    let v = c.args.self.now in
+    let at_t : c.max-moment.result ≡ now v.moment c.args.moment =
+    c.max-moment.ensures ∙ ap (max c.self.inside.last) c.min.ensures ∙ ap (λ (n : ℕ). now n c.args.moment) (ap (λ (v : CoreValue). v.moment) c.self.view_is) in
+    let conns = rw (c.seal.ensures.exchanges) at c.answer_late-then-not-has_room_for.ensures.conns in
+    rw (← at_t) (prompt-timed c.max-moment.result v.exchanges c.seal.new.self.conns c.answer_late-then-not-has_room_for.new.self.conns conns)

@@ -1,0 +1,7 @@
+use Rattle.exchange_core.specs.Verdicts.{confirm_at}
+use Rattle.exchange_core.proofs.Lists.{mapped-set}
+use Rattle.exchange_core.proofs.tables.confirm_each.Goals as goal
+
+pub each-preserved : goal.each-preserved
+each-preserved c =
+    mapped-set (confirm_at c.args.opening) c.args.exchanges.now _ _ _ _ c.each-test.true c.each.invariant c.confirmed.ensures

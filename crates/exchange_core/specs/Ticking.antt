@@ -1,0 +1,175 @@
+-- What a tick leaves behind.
+use Rattle.std.specs.Prelude.{◌≡◌, ◌⊎◌, ℕ, ◌+◌, ◌-◌, ◌*◌, ◌<◌, ◌≤◌, ⊤, Bool, true, false, not, ◌==◌, ◌&&◌, nat_le, is_some, List, [], ◌∷◌, ◌++◌, length, map, filter, find, count_by, Option, Some, None}
+use Rattle.std.specs.List.{All, Contains, flat_map, list_any}
+use Rattle.ask_model.specs.declared.cause.Cause.TheVariants.{Timeout}
+use Rattle.journal_book.specs.Entries.{Written, Deed, Passes, Seals, Answers, Fault}
+use Rattle.history_laws.specs.declared.kept.Conn.{Conn}
+use Rattle.history_laws.specs.declared.kept.Exchange.{Exchange}
+use Rattle.history_laws.specs.Kept.{Held}
+use Rattle.history_laws.specs.Amid.{Ended, Amid}
+use Rattle.exchange_core.specs.Room.{is_pending, held, takes}
+use Rattle.exchange_core.specs.Findings.{Fails}
+use Rattle.exchange_core.specs.Answering.{Given, Waited, answer_of}
+use Rattle.exchange_core.specs.CoreValue.{CoreValue, Answerable, written}
+
+-- The exchange has been open for MAX_TRANSMIT_WAIT, which is 93 seconds (RFC 7252 section 4.8.2).
+abbrev pub is_past : ℕ → Exchange → Bool
+is_past t e = nat_le (e.since + 93000) t
+
+-- the exchange that is waited for, where it is past its time
+abbrev pub late_on : ℕ → List Exchange → Option ℕ → Option Exchange
+late_on t es None = None
+late_on t es (Some k) = find (λ (e : Exchange). (e.opening == k) && is_past t e) es
+
+abbrev pub late_for : ℕ → List Exchange → Conn → Option Exchange
+late_for t es x = late_on t es x.pending
+
+abbrev pub is_due : ℕ → List Exchange → Conn → Bool
+is_due t es x = is_some (late_for t es x)
+
+-- A connection that waits for it is answered that it took too long, and waits no more.
+abbrev pub timeout_by : ℕ → Conn → Option Exchange → List Written
+timeout_by t x None = []
+timeout_by t x (Some e) = written t (Answers x.id e.opening (Fault Timeout e.number)) ∷ []
+
+abbrev pub timed_by : Option Exchange → Conn → Conn
+timed_by None x = x
+timed_by (Some e) x = record x { pending = None }
+
+abbrev pub timeout_for : ℕ → List Exchange → Conn → List Written
+timeout_for t es x = timeout_by t x (late_for t es x)
+
+abbrev pub timed : ℕ → List Exchange → Conn → Conn
+timed t es x = timed_by (late_for t es x) x
+
+-- the answers to all that wait for one, in the order of the connections
+abbrev pub timeouts : ℕ → List Exchange → List Conn → List Written
+timeouts t es cs = flat_map (timeout_for t es) cs
+
+-- the moment of the last of these entries, or else the one before
+abbrev pub moment_after : ℕ → ℕ → List Written → ℕ
+moment_after t last [] = last
+moment_after t last (x ∷ xs) = t
+
+-- an exchange of these is past its time
+pub record HasPast (t : ℕ) (es : List Exchange) : Type 0 where
+  pub exchange : Exchange
+  pub stands : Contains es exchange
+  pub past : is_past t exchange ≡ true
+
+-- those that go on
+abbrev pub going : ℕ → List Exchange → List Exchange
+going t es = filter (λ (e : Exchange). not (is_past t e)) es
+
+-- how many are answered
+abbrev pub due_count : ℕ → List Exchange → List Conn → ℕ
+due_count t es cs = count_by (is_due t es) cs
+
+-- there is room for the tick's entry and its answers
+abbrev pub takes_tick : ℕ → CoreValue → Bool
+takes_tick t c =
+    takes c.entries (1 + due_count t c.exchanges c.conns) (64 + 68 * due_count t c.exchanges c.conns)
+    (length c.conns) (count_by is_pending c.conns - due_count t c.exchanges c.conns)
+
+-- The answer is what this entry, with this number, says: it took too long, and nothing was heard before.
+pub record IsTimeout (n : ℕ) (g : Given) (w : Written) : Type 0 where
+  pub conn : ℕ
+  pub entry : w ≡ written g.moment (Answers conn g.ask g.found.grounds)
+  pub number : g.number ≡ n
+  pub heard : g.heard ≡ g.moment
+  pub told : g.found.told ≡ Fails Timeout
+
+abbrev pub AreTimeouts : ℕ → List Given → List Written → Type 0
+AreTimeouts n [] [] = ⊤
+AreTimeouts n (g ∷ gs) (w ∷ ws) = IsTimeout n g w × AreTimeouts (n + 1) gs ws
+AreTimeouts n gs ws = ⊥
+
+-- One answer comes for each of these entries, the first of which has this number.
+abbrev pub AddsAnswers : ℕ → List Given → List Given → List Written → Type 0
+AddsAnswers n old new ws = (gs : List Given) × (new ≡ old ++ gs) × AreTimeouts n gs ws
+
+-- No connection waits for an exchange that is past its time.
+abbrev pub IsPrompt : ℕ → List Exchange → Conn → Type 0
+IsPrompt t es x = (e : Exchange) → Contains es e → x.pending ≡ Some e.opening → t < e.since + 93000
+
+-- Behind these entries come the answers, and nothing else of a core changes but that who was answered waits
+-- no more.
+pub record AnswersLate (t : ℕ) (h : List Written) (old new : CoreValue) : Type 0 where
+  pub entries : new.entries ≡ h ++ timeouts t old.exchanges old.conns
+  pub conns : new.conns ≡ map (timed t old.exchanges) old.conns
+  pub answers : AddsAnswers (length h) old.answers new.answers (timeouts t old.exchanges old.conns)
+  pub sends : new.sends ≡ old.sends
+
+-- A tick ends what is late.
+pub record EndsLate (t : ℕ) (old new : CoreValue) : Type 0 where
+  pub answers : AnswersLate t (old.entries ++ written t Passes ∷ []) old new
+  pub sealed : new.sealed ≡ false
+  pub moment : new.moment ≡ t
+  pub exchanges : new.exchanges ≡ going t old.exchanges
+
+-- It seals the journal, and goes on as in a sealed one.
+pub record SealsLate (t : ℕ) (old new : CoreValue) : Type 0 where
+  pub answers : AnswersLate t (old.entries ++ written t Seals ∷ []) old new
+  pub sealed : new.sealed ≡ true
+  pub moment : new.moment ≡ t
+  pub exchanges : new.exchanges ≡ old.exchanges
+
+-- In a sealed journal no exchange ends.
+pub record KeepsLate (t : ℕ) (old new : CoreValue) : Type 0 where
+  pub answers : AnswersLate t old.entries old new
+  pub sealed : new.sealed ≡ true
+  pub moment : new.moment ≡ moment_after t old.moment (timeouts t old.exchanges old.conns)
+  pub exchanges : new.exchanges ≡ old.exchanges
+
+-- what is answered at a tick, by its exchange
+abbrev pub late_end : Exchange → Ended
+late_end e = record { opening = e.opening; grounds = Fault Timeout e.number }
+
+-- In the midst of a tick: what is kept, and that room is held free.
+pub record Midway (t : ℕ) (es : List Exchange) (tables : Held) (s : Bool) (n : ℕ) (h : List Written) (room : ℕ) (cs : List Conn) (last : ℕ) (ws : List Waited) (gs : List Given) : Type 0 where
+  pub amid : Amid None (map late_end (filter (is_past t) es)) t h cs tables s last
+  pub answerable : Answerable h cs ws gs n
+  pub later : last ≤ t
+  pub room_held : held s (length cs) (count_by is_pending cs) ≤ room
+  pub short : length h + length cs + count_by is_pending cs ≤ 65536
+
+abbrev pub IsMidway : ℕ → List Exchange → List Written → ℕ → List Conn → ℕ → List Waited → List Given → Type 0
+IsMidway t es h room cs last ws gs =
+    (tables : Held) × (s : Bool) × (n : ℕ) × Midway t es tables s n h room cs last ws gs
+
+-- One connection gets its answer.
+pub record Answered (t : ℕ) (e : Exchange) (x y : Conn) (h h1 : List Written) (room room1 last1 : ℕ) (ws ws1 : List Waited) (gs gs1 : List Given) : Type 0 where
+  pub entries : h1 ≡ h ++ written t (Answers x.id e.opening (Fault Timeout e.number)) ∷ []
+  pub conn : y ≡ record x { pending = None }
+  pub room_less : room1 + 1 ≡ room
+  pub moment : last1 ≡ t
+  pub waiting : ws1 ≡ filter (λ (w : Waited). not (w.ask == e.opening)) ws
+  pub answers : (w : Waited) × Contains ws w × (w.ask ≡ e.opening)
+      × (gs1 ≡ gs ++ answer_of w (record { number = length h; moment = t; heard = t }) (record { told = Fails Timeout; grounds = Fault Timeout e.number }) ∷ [])
+
+-- It gets it where what it waits for is past its time.
+abbrev pub Turns : ℕ → Option Exchange → Conn → Conn → List Written → List Written → ℕ → ℕ → ℕ → ℕ → List Waited → List Waited → List Given → List Given → Type 0
+Turns t None x y h h1 room room1 last last1 ws ws1 gs gs1 =
+    (h1 ≡ h) × (y ≡ x) × (room1 ≡ room) × (last1 ≡ last) × (ws1 ≡ ws) × (gs1 ≡ gs)
+Turns t (Some e) x y h h1 room room1 last last1 ws ws1 gs gs1 = Answered t e x y h h1 room room1 last1 ws ws1 gs gs1
+
+-- whether an exchange counts for the next tick: in a sealed journal, where a connection waits for it
+abbrev pub waits_on : ℕ → Option ℕ → Bool
+waits_on k None = false
+waits_on k (Some j) = j == k
+
+abbrev pub counts : Bool → List Conn → Exchange → Bool
+counts false cs e = true
+counts true cs e = list_any (λ (x : Conn). waits_on e.opening x.pending) cs
+
+-- The exchange counts, and this is when its time is over.
+pub record HasDue (d : ℕ) (s : Bool) (cs : List Conn) (es : List Exchange) : Type 0 where
+  pub exchange : Exchange
+  pub stands : Contains es exchange
+  pub counted : counts s cs exchange ≡ true
+  pub due : d ≡ exchange.since + 93000
+
+-- the least moment at which the time of one that counts is over, if any counts
+abbrev pub IsNextDue : Bool → List Conn → List Exchange → Option ℕ → Type 0
+IsNextDue s cs es None = All (λ (e : Exchange). counts s cs e ≡ false) es
+IsNextDue s cs es (Some d) = HasDue d s cs es × All (λ (e : Exchange). counts s cs e ≡ true → d ≤ e.since + 93000) es

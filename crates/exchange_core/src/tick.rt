@@ -1,0 +1,288 @@
+//! Exchanges that have been open for as long as they may.
+
+ghost use Rattle.std.specs.Prelude.{ℕ, Bool, ◌≡◌, ◌⊎◌, ◌<◌, ◌≤◌, ◌+◌, ◌-◌, ◌^◌, ◌==◌, ◌&&◌, ◌∷◌, ◌++◌, [], None, true, false, not, filter, map, min, count_by, find, All, length, OnOk, OnErr, IfSome, IsTrue, IsFalse, IsSome};
+ghost use Rattle.std.specs.List.{Contains, list_any};
+ghost use Rattle.journal_book.specs.Entries.{Passes, Seals};
+ghost use Rattle.history_laws.specs.declared.kept.Exchange.{Exchange};
+ghost use Rattle.history_laws.specs.Kept.{Held};
+ghost use Rattle.exchange_core.specs.CoreValue.{written, now};
+ghost use Rattle.exchange_core.specs.Room.{is_pending};
+ghost use Rattle.exchange_core.specs.Answering.{IsKept};
+ghost use Rattle.exchange_core.specs.Ticking.{is_past, late_on, late_for, is_due, due_count, timeouts, timed, going, moment_after, takes_tick, counts, waits_on, IsNextDue, HasPast, AddsAnswers, IsPrompt, EndsLate, SealsLate, KeepsLate, Midway, IsMidway, Turns};
+
+use crate::answer::Finding;
+use crate::core_state::Core;
+use crate::outbox::{Outbox, Stamp};
+use crate::tables::pending_count;
+use ask_model::Cause;
+use history_laws::kept::{Conn, Exchange};
+use journal_book::{Entry, Event, Grounds, Journal};
+use std::alloc::AllocError;
+use transformers::Relation;
+
+/// MAX_TRANSMIT_WAIT in milliseconds (RFC 7252 section 4.8.2).
+const WAIT: u64 = 93_000;
+
+/// Whether the exchange has been open for as long as it may.
+fn is_late(exchange: &Exchange, moment: u64) -> bool
+    ensures { result ≡ is_past moment exchange.now }
+{
+    moment >= WAIT && exchange.since <= moment - WAIT
+}
+
+/// Whether one of them has.
+fn has_late(exchanges: &[Exchange], moment: u64) -> bool
+    ensures some { IsTrue result → HasPast moment exchanges.now }
+    ensures none { IsFalse result → All (λ e. is_past moment e ≡ false) exchanges.now }
+{
+    'each: for e in exchanges {
+        if is_late(e, moment) {
+            return true;
+        }
+    }
+    false
+}
+
+/// Whether the ask opened the exchange, and it is late.
+fn is_late_of(exchange: &Exchange, ask: u32, moment: u64) -> bool
+    ensures { result ≡ ((exchange.now.opening == ask) && is_past moment exchange.now) }
+{
+    exchange.opening == ask && is_late(exchange, moment)
+}
+
+/// The exchange that the ask waits for, where it is late.
+fn find_late(exchanges: &[Exchange], ask: u32, moment: u64) -> Option<Exchange>
+    ensures { result ≡ find (λ e. (e.opening == ask) && is_past moment e) exchanges.now }
+{
+    'each: for e in exchanges {
+        if is_late_of(e, ask, moment) {
+            return Some(*e);
+        }
+    }
+    None
+}
+
+/// The exchange that is waited for, where it is late.
+fn late_of(exchanges: &[Exchange], pending: Option<u32>, moment: u64) -> Option<Exchange>
+    ensures { result ≡ late_on moment exchanges.now pending }
+{
+    match pending {
+        Some(ask) => find_late(exchanges, ask, moment),
+        None => None,
+    }
+}
+
+/// How many connections wait for one that is late.
+fn late_count(conns: &[Conn], exchanges: &[Exchange], moment: u64) -> usize
+    ensures { result ≡ due_count moment exchanges.now conns.now }
+{
+    conns
+        .iter()
+        .filter(|x| late_of(exchanges, x.pending, moment).is_some())
+        .count()
+}
+
+/// Takes the late ones out.
+fn drop_late(exchanges: &mut Vec<Exchange>, moment: u64)
+    ensures { exchanges.new.items ≡ going moment exchanges.old.items }
+{
+    exchanges.retain(|e| !is_late(e, moment));
+}
+
+/// Answers the connection, where what it waits for is late.
+fn answer_one<R: Relation>(
+    journal: &mut Journal<R>,
+    conn: &mut Conn,
+    outbox: &mut Outbox<R>,
+    last: &mut u64,
+    exchanges: &[Exchange],
+    moment: u64,
+)
+    requires kept { IsKept outbox.old.waiting conn.old.pending }
+    requires room { is_pending conn.old ≡ true → 0 < journal.old.room }
+    requires short { is_pending conn.old ≡ true → length journal.old.entries < 65536 }
+    ensures { Turns moment (late_for moment exchanges.now conn.old) conn.old conn.new journal.old.entries journal.new.entries journal.old.room journal.new.room last.old last.new outbox.old.waiting outbox.new.waiting outbox.old.answers outbox.new.answers }
+{
+    let Some(late) = late_of(exchanges, conn.pending, moment) else {
+        return;
+    };
+    let number = journal.len() as u32;
+    journal.add(Entry {
+        moment,
+        event: Event::Answered {
+            conn: conn.id,
+            ask: late.opening,
+            grounds: Grounds::Fault(Cause::Timeout, late.number),
+        },
+    });
+    outbox.answer(
+        late.opening,
+        Stamp {
+            number,
+            moment,
+            heard: moment,
+        },
+        Finding::fault(Cause::Timeout, late.number),
+    );
+    conn.pending = None;
+    *last = moment;
+}
+
+/// Answers each connection, where what it waits for is late.
+fn answer_each<R: Relation>(
+    journal: &mut Journal<R>,
+    conns: &mut Vec<Conn>,
+    outbox: &mut Outbox<R>,
+    last: &mut u64,
+    exchanges: &[Exchange],
+    moment: u64,
+)
+    requires { IsMidway moment exchanges.now journal.old.entries journal.old.room conns.old.items last.old outbox.old.waiting outbox.old.answers }
+    ensures midway { (tables : Held) → (s : Bool) → (n : ℕ) → Midway moment exchanges.now tables s n journal.old.entries journal.old.room conns.old.items last.old outbox.old.waiting outbox.old.answers
+        → Midway moment exchanges.now tables s n journal.new.entries journal.new.room conns.new.items last.new outbox.new.waiting outbox.new.answers }
+    ensures entries { journal.new.entries ≡ journal.old.entries ++ timeouts moment exchanges.now conns.old.items }
+    ensures conns { conns.new.items ≡ map (timed moment exchanges.now) conns.old.items }
+    ensures last { last.new ≡ moment_after moment last.old (timeouts moment exchanges.now conns.old.items) }
+    ensures answers { AddsAnswers (length journal.old.entries) outbox.old.answers outbox.new.answers (timeouts moment exchanges.now conns.old.items) }
+{
+    'each: for conn in conns.iter_mut() {
+        answer_one(journal, conn, outbox, last, exchanges, moment);
+    }
+}
+
+/// Whether a connection waits for the exchange.
+fn is_awaited(conns: &[Conn], opening: u32) -> bool
+    ensures { result ≡ list_any (λ x. waits_on opening x.pending) conns.now }
+{
+    conns.iter().any(|x| is_waiting_on(opening, x.pending))
+}
+
+/// Whether this is the ask that is waited for.
+fn is_waiting_on(opening: u32, pending: Option<u32>) -> bool
+    ensures { result ≡ waits_on opening pending }
+{
+    match pending {
+        Some(ask) => ask == opening,
+        None => false,
+    }
+}
+
+/// Whether the exchange counts for the next tick.
+fn is_counted(exchange: &Exchange, conns: &[Conn], sealed: bool) -> bool
+    ensures { result ≡ counts sealed conns.now exchange.now }
+{
+    if sealed {
+        is_awaited(conns, exchange.opening)
+    } else {
+        true
+    }
+}
+
+/// The least moment at which the time of one that counts is over.
+fn least_due(exchanges: &[Exchange], conns: &[Conn], sealed: bool) -> Option<u64>
+    requires { All (λ e. e.since ≤ 2 ^ 62) exchanges.now }
+    ensures { IsNextDue sealed conns.now exchanges.now result }
+{
+    let mut least: Option<u64> = None;
+    'each: for e in exchanges {
+        if is_counted(e, conns, sealed) {
+            least = Some(sooner(least, e.since + WAIT));
+        }
+    }
+    least
+}
+
+/// The sooner of two moments.
+fn sooner(least: Option<u64>, due: u64) -> u64
+    ensures first { least ≡ None → result ≡ due }
+    ensures other { IfSome least (λ d. result ≡ min d due) }
+{
+    match least {
+        Some(d) => d.min(due),
+        None => due,
+    }
+}
+
+impl<R: Relation> Core<R> {
+    /// The moment of the next tick that ends an exchange, or answers a connection. In a sealed core, exchanges
+    /// count where a connection waits for them.
+    pub fn next_due(&self) -> Option<u64>
+        ensures { IsNextDue self.now.sealed self.now.conns self.now.exchanges result }
+    {
+        least_due(&self.exchanges, &self.conns, self.sealed)
+    }
+
+    /// Answers each connection that waits for an exchange that is late, in a core that is sealed.
+    fn answer_late(&mut self, moment: u64)
+        requires sealed { self.old.sealed ≡ true }
+        requires later { self.old.moment ≤ moment }
+        requires early { moment ≤ 2 ^ 62 }
+        ensures entries { self.new.entries ≡ self.old.entries ++ timeouts moment self.old.exchanges self.old.conns }
+        ensures conns { self.new.conns ≡ map (timed moment self.old.exchanges) self.old.conns }
+        ensures answers { AddsAnswers (length self.old.entries) self.old.answers self.new.answers (timeouts moment self.old.exchanges self.old.conns) }
+        ensures moment { self.new.moment ≡ moment_after moment self.old.moment (timeouts moment self.old.exchanges self.old.conns) }
+        ensures exchanges { self.new.exchanges ≡ self.old.exchanges }
+        ensures sealed { self.new.sealed ≡ true }
+        ensures sends { self.new.sends ≡ self.old.sends }
+    {
+        answer_each(
+            &mut self.journal,
+            &mut self.conns,
+            &mut self.outbox,
+            &mut self.last,
+            &self.exchanges,
+            moment,
+        );
+    }
+
+    /// Ends the exchanges that have been open for as long as they may at this moment, and answers who waits for
+    /// them. Where the journal has no room for that, it is sealed; in a sealed journal no exchange ends, and who
+    /// waits for one that is late is answered.
+    pub fn tick(&mut self, moment: u64, _word: u64) -> Result<(), AllocError>
+        ensures early { self.old.sealed ≡ false → All (λ e. is_past (now self.old.moment moment) e ≡ false) self.old.exchanges → self.new ≡ self.old }
+        ensures ends { OnOk result (self.old.sealed ≡ false → HasPast (now self.old.moment moment) self.old.exchanges → takes_tick (now self.old.moment moment) self.old ≡ true
+            → EndsLate (now self.old.moment moment) self.old self.new) }
+        ensures seals { OnOk result (self.old.sealed ≡ false → HasPast (now self.old.moment moment) self.old.exchanges → takes_tick (now self.old.moment moment) self.old ≡ false
+            → SealsLate (now self.old.moment moment) self.old self.new) }
+        ensures sealed { OnOk result (self.old.sealed ≡ true → KeepsLate (now self.old.moment moment) self.old self.new) }
+        ensures prompt { OnOk result (All (IsPrompt (now self.old.moment moment) self.old.exchanges) self.new.conns) }
+        ensures memory { OnErr result (self.new ≡ self.old) }
+        ensures memory_last { OnErr result ((self.old.sealed ≡ false) × (takes_tick (now self.old.moment moment) self.old ≡ true)) }
+    {
+        let moment = self.last.max(moment.min(1 << 62));
+        if self.sealed {
+            self.answer_late(moment);
+            return Ok(());
+        }
+        if !has_late(&self.exchanges, moment) {
+            return Ok(());
+        }
+        let count = self.conns.len();
+        let pending = pending_count(&self.conns);
+        let answers = late_count(&self.conns, &self.exchanges, moment);
+        let size = 64 + 68 * answers as u64;
+        if !self.has_room_for(1 + answers as u64, size, count, pending - answers) {
+            self.seal(moment);
+            self.answer_late(moment);
+            return Ok(());
+        }
+        self.journal.make_room(count + pending + 2)?;
+
+        self.journal.add(Entry {
+            moment,
+            event: Event::Passed,
+        });
+        self.last = moment;
+        answer_each(
+            &mut self.journal,
+            &mut self.conns,
+            &mut self.outbox,
+            &mut self.last,
+            &self.exchanges,
+            moment,
+        );
+        drop_late(&mut self.exchanges, moment);
+        self.bytes = self.bytes.saturating_add(size);
+        Ok(())
+    }
+}
