@@ -18,6 +18,7 @@ mod reading;
 mod remembering;
 mod response;
 mod room;
+mod sending;
 mod step;
 mod tables;
 mod tick;
@@ -26,6 +27,7 @@ mod verdict;
 pub use answer::{Answer, Finding, Outcome, Response, Ticket};
 pub use core_state::Core;
 pub use fault::{AskFault, OpenFault};
+pub use sending::Datagram;
 
 #[cfg(test)]
 mod heard_tests;

@@ -1,9 +1,3 @@
-pub mod Causes
-pub mod JournalValue
+pub mod Limits
 pub mod Located
-pub mod Maps
 pub mod Means
-pub mod Replies
-pub mod Requests
-pub mod Sendings
-pub mod Worlds

@@ -2,14 +2,12 @@
 use Rattle.std.specs.Prelude.{ℕ, Bool, not, ◌&&◌, ◌==◌, List, [], ◌∷◌, length, Option, Some, None, is_ok, if◌then◌else◌}
 use Rattle.std.specs.List.{list_all}
 use Rattle.std.specs.Str.{is_utf8}
-use Rattle.std.specs.Arc.{arc_value}
 use Rattle.uri_map.specs.declared.target.Target.{Target}
 use Rattle.uri_map.specs.Hosting.{hosting}
 use Rattle.uri_map.specs.Naming.{target_at}
-use Rattle.gateway_world.specs.declared.meaning.Mapped.{Mapped}
-use Rattle.gateway_world.specs.declared.meaning.Meaning.{Meaning}
-use Rattle.gateway_world.specs.declared.meaning.Meaning.TheVariants.{Ask, Refuse}
-use Rattle.gateway_world.specs.declared.response.Response.{Response}
+use Rattle.ask_model.specs.Requests.{Sense, Requests, Refuses}
+use Rattle.ask_model.specs.Views.{Rules}
+use Rattle.history_laws.specs.Responses.{Response}
 
 -- a single empty segment counts as none
 abbrev pub segments : List (List ℕ) → List (List ℕ)
@@ -32,11 +30,8 @@ with_parts asked path query = record { host = asked.host; port = asked.port; pat
 abbrev pub beside : List ℕ → Target → List (List ℕ) → List (List ℕ) → Option (List ℕ)
 beside base asked path query = if names path query then hosted base (with_parts asked path query) else None
 
-abbrev pub located_for : List ℕ → Meaning → Response → Option (List ℕ)
-located_for base (Ask ask) w =
-    if w.code == 65 then beside base ask.target (segments w.location.path.items) w.location.query.items else None
-located_for base (Refuse cause status) w = None
-
 -- what 2.01 says was created is hosted at the host and port that were asked
-abbrev pub located : Mapped → Response → Option (List ℕ)
-located mapped w = located_for (arc_value mapped.settings).base.items mapped.meaning w
+abbrev pub located : Rules → Sense → Response → Option (List ℕ)
+located rules (Requests q) w =
+    if w.code == 65 then beside rules.base q.target (segments w.location_path) w.location_query else None
+located rules (Refuses cause status) w = None

@@ -1,28 +1,27 @@
 -- Which HTTP response tells an answer (RFC 8075, sections 6 and 7).
-use Rattle.std.specs.Prelude.{◌≡◌, ℕ, ◌-◌, ◌*◌, ◌/◌, Bool, true, false, not, ◌&&◌, ◌==◌, nat_le, List, [], ◌∷◌, ◌++◌, length, map, Option, Some, None, unwrap_or, codes, decimal, if◌then◌else◌}
+use Rattle.std.specs.Prelude.{◌≡◌, ◌≢◌, ℕ, ◌-◌, ◌*◌, ◌/◌, Bool, true, false, not, ◌&&◌, ◌==◌, nat_le, List, [], ◌∷◌, ◌++◌, length, map, Option, Some, None, unwrap_or, codes, decimal, if◌then◌else◌}
 use Rattle.std.specs.Str.{is_utf8}
-use Rattle.std.specs.Arc.{arc_value}
 use Rattle.hex.specs.Hex.{encode_lower}
 use Rattle.http_edge.specs.Answers.{body_bytes}
 use Rattle.http_edge.specs.declared.answer.Field.{Field}
 use Rattle.http_edge.specs.declared.answer.HttpAnswer.{HttpAnswer}
-use Rattle.http_edge.specs.declared.request.Incoming.{Incoming}
-use Rattle.http_edge.specs.declared.request.Incoming.TheVariants as In
 use Rattle.code_map.specs.declared.method.Method.{Method}
 use Rattle.code_map.specs.declared.method.Method.TheVariants.{Head}
+use Rattle.code_map.specs.Methods.{method_named}
 use Rattle.code_map.specs.declared.status.Status.{Status}
+use Rattle.code_map.specs.declared.status.Status.TheVariants.{MethodNotAllowed}
 use Rattle.code_map.specs.Statuses.{number_of, phrase_of}
 use Rattle.code_map.specs.Codes.{status_of}
-use Rattle.gateway_world.specs.declared.meaning.Cause.{Cause}
-use Rattle.gateway_world.specs.declared.meaning.Mapped.{Mapped}
-use Rattle.gateway_world.specs.declared.meaning.Meaning.{Meaning}
-use Rattle.gateway_world.specs.declared.meaning.Meaning.TheVariants.{Ask, Refuse}
-use Rattle.gateway_world.specs.declared.response.Response.{Response}
-use Rattle.gateway_world.specs.declared.answer.Answer.{Answer}
-use Rattle.gateway_world.specs.declared.answer.Outcome.{Outcome}
-use Rattle.gateway_world.specs.declared.answer.Outcome.TheVariants.{Whole, Fault}
-use Rattle.gateway_world.specs.Causes.{cause_text}
 use Rattle.media_map.specs.Formats.{media_text}
+use Rattle.ask_model.specs.declared.cause.Cause.{Cause}
+use Rattle.ask_model.specs.declared.cause.Cause.TheVariants.{Busy, Timeout}
+use Rattle.ask_model.specs.Causes.{cause_text}
+use Rattle.ask_model.specs.Requests.{Came, Whole, Bad, Sense, Requests, Refuses}
+use Rattle.ask_model.specs.Views.{Mapping}
+use Rattle.journal_book.specs.Entries.{Grounds, Fault}
+use Rattle.history_laws.specs.Responses.{Response}
+use Rattle.exchange_core.specs.Answering.{Given}
+use Rattle.exchange_core.specs.Findings.{Told, Tells as TellsOf, Fails}
 use Rattle.gateway_world.specs.Located.{located}
 
 -- fields as names and values
@@ -81,50 +80,71 @@ abbrev pub retry_after : Response → Pairs
 retry_after w = when (w.code == 163) (seconds_if (codes "Retry-After") w.max_age)
 
 -- Connection, where the connection is closed behind the answer (RFC 9112, section 9.6)
-abbrev pub closes : Incoming → Bool
-closes (In.Request r) = r.close
-closes (In.Bad kind) = true
+abbrev pub closes : Came → Bool
+closes (Whole r) = r.close
+closes (Bad kind) = true
 
-abbrev pub connection : Incoming → Pairs
-connection http = when (closes http) (only (codes "Connection") (codes "close"))
+abbrev pub connection : Came → Pairs
+connection came = when (closes came) (only (codes "Connection") (codes "close"))
 
 -- Content-Length, but in a 204 (RFC 9110, section 8.6)
 abbrev pub content_length : Status → ℕ → Pairs
 content_length status n = when (not (number_of status == 204)) (only (codes "Content-Length") (decimal n))
 
-abbrev pub is_head : Meaning → Bool
-is_head (Ask ask) = head ask.method where
-  head : Method → Bool
-  head Head = true
-  head _ = false
-is_head (Refuse cause status) = false
+abbrev pub is_head_method : Option Method → Bool
+is_head_method (Some Head) = true
+is_head_method _ = false
+
+-- A HEAD was asked.
+abbrev pub is_head : Came → Bool
+is_head (Whole r) = is_head_method (method_named r.method)
+is_head (Bad kind) = false
 
 abbrev pub status_for : Response → Status
 status_for w = status_of w.code (not (is_empty w.body))
 
 -- The answer shows the response: its status by its code, each field by its rule, in this order, and its
 -- body, but to a HEAD (RFC 9110, section 9.3.2).
-pub record Shows (mapped : Mapped) (w : Response) (age : ℕ) (a : HttpAnswer) : Type 0 where
+pub record Shows (mapping : Mapping) (w : Response) (age : ℕ) (a : HttpAnswer) : Type 0 where
   pub status : a.status ≡ number_of (status_for w)
   pub phrase : a.phrase.now ≡ phrase_of (status_for w)
   pub fields : map pair_of a.fields.items
-      ≡ content_type w ++ cache_control w age ++ entity_tag w ++ value_if (codes "Location") (located mapped w)
-      ++ retry_after w ++ connection mapped.http ++ content_length (status_for w) (length w.body)
-  pub body : body_bytes a.body ≡ (if is_head mapped.meaning then [] else w.body)
+      ≡ content_type w ++ cache_control w age ++ entity_tag w ++ value_if (codes "Location") (located mapping.rules mapping.sense w)
+      ++ retry_after w ++ connection mapping.came ++ content_length (status_for w) (length w.body)
+  pub body : body_bytes a.body ≡ (if is_head mapping.came then [] else w.body)
+
+-- The status of an error of the proxy's own: of a refusal its own; 503 where the proxy is busy, 504 where
+-- no reply came in time, and else 502 (RFC 9110, section 15.6).
+abbrev pub failure_status : Cause → ℕ
+failure_status Busy = 503
+failure_status Timeout = 504
+failure_status _ = 502
+
+abbrev pub told_status : Sense → Cause → ℕ
+told_status (Requests q) cause = failure_status cause
+told_status (Refuses named status) cause = status
+
+-- a status of the proxy's own: 4.05 of a CoAP server is none, which is told by another phrase than 400
+pub record IsOwn (n : ℕ) (status : Status) : Type 0 where
+  pub number : number_of status ≡ n
+  pub own : status ≢ MethodNotAllowed
 
 -- The answer is the proxy's own: it names its cause and an entry, and has no body.
-pub record Tells (mapped : Mapped) (cause : Cause) (told : Status) (number : ℕ) (a : HttpAnswer) : Type 0 where
+pub record Tells (mapping : Mapping) (cause : Cause) (number : ℕ) (a : HttpAnswer) : Type 0 where
+  pub told : Status
+  pub is_own : IsOwn (told_status mapping.sense cause) told
   pub status : a.status ≡ number_of told
   pub phrase : a.phrase.now ≡ phrase_of told
   pub fields : map pair_of a.fields.items
       ≡ only (codes "HC-Cause") (cause_text cause ++ codes " " ++ decimal number)
-      ++ connection mapped.http ++ content_length told 0
+      ++ connection mapping.came ++ content_length told 0
   pub body : body_bytes a.body ≡ []
 
-abbrev pub MeansOutcome : Mapped → Outcome → ℕ → HttpAnswer → Type 0
-MeansOutcome mapped (Whole w) age a = Shows mapped w age a
-MeansOutcome mapped (Fault cause status number) age a = Tells mapped cause status number a
+abbrev pub MeansTold : Mapping → Told → Grounds → ℕ → HttpAnswer → Type 0
+MeansTold mapping (TellsOf w) grounds age a = Shows mapping w age a
+MeansTold mapping (Fails cause) (Fault named number) age a = Tells mapping cause number a
+MeansTold mapping (Fails cause) grounds age a = ⊥
 
 -- What an HTTP response says of an answer.
-abbrev pub Means : Answer → HttpAnswer → Type 0
-Means answer a = MeansOutcome (arc_value answer.mapped) answer.outcome (answer.moment - answer.heard) a
+abbrev pub Means : Given → HttpAnswer → Type 0
+Means g a = MeansTold g.mapping g.found.told g.found.grounds (g.moment - g.heard) a

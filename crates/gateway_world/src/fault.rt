@@ -3,6 +3,7 @@
 ghost use Rattle.std.specs.Prelude.{◌≡◌};
 
 use http_edge::Memory;
+use std::alloc::AllocError;
 use std::error::Error;
 use std::fmt;
 
@@ -32,6 +33,16 @@ impl From<Memory> for WorldFault {
     ghost from_gives = { λ _ e. e ≡ fault.Memory };
 
     fn from(_e: Memory) -> WorldFault {
+        WorldFault::Memory
+    }
+}
+
+impl From<AllocError> for WorldFault {
+    ghost use Rattle.gateway_world.specs.declared.fault.WorldFault.TheVariants as fault;
+
+    ghost from_gives = { λ _ e. e ≡ fault.Memory };
+
+    fn from(_e: AllocError) -> WorldFault {
         WorldFault::Memory
     }
 }

@@ -3,17 +3,20 @@
 ghost use Rattle.std.specs.Prelude.{◌≡◌, ◌++◌, ◌∷◌, [], map, codes, decimal, string_bytes, OnOk};
 ghost use Rattle.std.specs.Str.{is_utf8};
 ghost use Rattle.gateway_world.specs.Means.{pair_of, only, content_type, cache_control, entity_tag, value_if, retry_after, connection, content_length, closes as closing, seconds_left as left_of};
-ghost use Rattle.gateway_world.specs.Causes.{cause_text};
+ghost use Rattle.ask_model.specs.Causes.{cause_text};
+ghost use Rattle.ask_model.specs.Views.{came_of};
+ghost use Rattle.exchange_core.specs.Findings.{response_of};
 ghost use Rattle.gateway_world.specs.Located.{located};
 
 use crate::location::location_of;
-use crate::meaning::{Cause, Mapped};
-use crate::response::Response;
+use ask_model::{Cause, Mapped};
 use code_map::Status;
+use exchange_core::Response;
 use http_edge::{Field, Incoming, Memory};
 use media_map::media_of;
 use std::alloc::Global;
 use std::str;
+use transformers::Relation;
 
 /// The code 2.05, Content.
 const CONTENT: u8 = 69;
@@ -59,7 +62,7 @@ pub fn add_cause(
     alloc: Global,
     fields: &mut Vec<Field>,
     cause: Cause,
-    number: usize,
+    number: u32,
 ) -> Result<(), Memory>
     ensures { OnOk result (map pair_of fields.new.items ≡ map pair_of fields.old.items ++ only (codes "HC-Cause") (cause_text cause ++ codes " " ++ decimal number)) }
 {
@@ -72,7 +75,7 @@ pub fn add_content_type(
     fields: &mut Vec<Field>,
     response: &Response,
 ) -> Result<(), Memory>
-    ensures { OnOk result (map pair_of fields.new.items ≡ map pair_of fields.old.items ++ content_type response.now) }
+    ensures { OnOk result (map pair_of fields.new.items ≡ map pair_of fields.old.items ++ content_type (response_of response.now)) }
 {
     let body = response.body.as_slice();
     if body.is_empty() {
@@ -108,7 +111,7 @@ pub fn add_freshness(
     response: &Response,
     age: u64,
 ) -> Result<(), Memory>
-    ensures { OnOk result (map pair_of fields.new.items ≡ map pair_of fields.old.items ++ cache_control response.now age) }
+    ensures { OnOk result (map pair_of fields.new.items ≡ map pair_of fields.old.items ++ cache_control (response_of response.now) age) }
 {
     if response.code != CONTENT {
         return Ok(());
@@ -123,7 +126,7 @@ pub fn add_freshness(
 
 /// The whole seconds for which a response of that age, in milliseconds, stays fresh.
 fn seconds_left(response: &Response, age: u64) -> u64
-    ensures { result ≡ left_of response.now age }
+    ensures { result ≡ left_of (response_of response.now) age }
 {
     let fresh = 1000 * u64::from(response.max_age.unwrap_or(DEFAULT_MAX_AGE));
     fresh.saturating_sub(age) / 1000
@@ -135,7 +138,7 @@ pub fn add_entity_tag(
     fields: &mut Vec<Field>,
     response: &Response,
 ) -> Result<(), Memory>
-    ensures { OnOk result (map pair_of fields.new.items ≡ map pair_of fields.old.items ++ entity_tag response.now) }
+    ensures { OnOk result (map pair_of fields.new.items ≡ map pair_of fields.old.items ++ entity_tag (response_of response.now)) }
 {
     match &response.etag {
         Some(tag) if response.code == CONTENT => {
@@ -147,13 +150,13 @@ pub fn add_entity_tag(
 }
 
 /// Where a created resource is hosted.
-pub fn add_location(
+pub fn add_location<R: Relation>(
     alloc: Global,
     fields: &mut Vec<Field>,
-    mapped: &Mapped,
+    mapped: &Mapped<R>,
     response: &Response,
 ) -> Result<(), Memory>
-    ensures { OnOk result (map pair_of fields.new.items ≡ map pair_of fields.old.items ++ value_if (codes "Location") (located mapped.now response.now)) }
+    ensures { OnOk result (map pair_of fields.new.items ≡ map pair_of fields.old.items ++ value_if (codes "Location") (located mapped.now.rules mapped.now.sense (response_of response.now))) }
 {
     if let Some(value) = location_of(alloc, mapped, response)? {
         fields.push(Field {
@@ -170,7 +173,7 @@ pub fn add_retry_after(
     fields: &mut Vec<Field>,
     response: &Response,
 ) -> Result<(), Memory>
-    ensures { OnOk result (map pair_of fields.new.items ≡ map pair_of fields.old.items ++ retry_after response.now) }
+    ensures { OnOk result (map pair_of fields.new.items ≡ map pair_of fields.old.items ++ retry_after (response_of response.now)) }
 {
     match response.max_age {
         Some(seconds) if response.code == UNAVAILABLE => {
@@ -181,10 +184,14 @@ pub fn add_retry_after(
 }
 
 /// Says that the connection is closed behind the answer, where it is (RFC 9112, section 9.6).
-pub fn add_connection(alloc: Global, fields: &mut Vec<Field>, mapped: &Mapped) -> Result<(), Memory>
-    ensures { OnOk result (map pair_of fields.new.items ≡ map pair_of fields.old.items ++ connection mapped.now.http) }
+pub fn add_connection(
+    alloc: Global,
+    fields: &mut Vec<Field>,
+    came: &Incoming,
+) -> Result<(), Memory>
+    ensures { OnOk result (map pair_of fields.new.items ≡ map pair_of fields.old.items ++ connection (came_of came.now)) }
 {
-    if closes(&mapped.http) {
+    if closes(came) {
         add_text(alloc, fields, "Connection", "close")?;
     }
     Ok(())
@@ -192,7 +199,7 @@ pub fn add_connection(alloc: Global, fields: &mut Vec<Field>, mapped: &Mapped) -
 
 /// Whether the connection is closed behind the answer to what was read.
 pub fn closes(incoming: &Incoming) -> bool
-    ensures { result ≡ closing incoming.now }
+    ensures { result ≡ closing (came_of incoming.now) }
 {
     match incoming {
         Incoming::Request(request) => request.close,

@@ -1,6 +1,6 @@
 //! What goes into a world, and what comes out.
 
-use crate::shared::Bytes;
+pub use exchange_core::Datagram;
 use uri_map::Peer;
 
 /// What happens.
@@ -27,13 +27,6 @@ pub struct Input<'a> {
     pub happening: Happening<'a>,
 }
 
-/// A datagram to a peer.
-#[derive(Drop)]
-pub struct Datagram {
-    pub peer: Peer,
-    pub bytes: Bytes,
-}
-
 /// What a world gives out.
 #[derive(Drop)]
 pub enum Output {
@@ -43,6 +36,6 @@ pub enum Output {
     Datagram(Datagram),
     /// The proxy closes the connection.
     Closed(u32),
-    /// No connection was opened: there is no place for one more.
+    /// No connection was opened: 256 are open, or the journal takes nothing more.
     Turned,
 }

@@ -1,36 +1,25 @@
 //! From the bytes of HTTP connections and of CoAP datagrams to the bytes of datagrams and of answers.
 //!
-//! Its one contract: what `World::input` gives out is what the requests read from a connection mean
-//! (RFC 8075, section 5), sent as CoAP messages (RFC 7252), and the replies to those, told in HTTP.
+//! Its one contract: what `World::input` gives out is what the journal of its core says was sent and
+//! answered, told in HTTP (RFC 8075, sections 5 to 7); one reading of that journal is legal and at rest.
 //! The program `hcproxy` stands on it.
 #![tactic(auto)]
 
-mod answer;
-mod entry;
-mod exchange;
+mod connection;
 mod fault;
 mod fields;
 mod input;
-mod journal;
 mod location;
 mod mapping;
-mod meaning;
 mod rendering;
-mod response;
-mod settings;
-mod shared;
+mod run;
+mod table;
 mod world;
 
-pub use answer::{Answer, Outcome};
-pub use entry::{Entry, Event, Grounds};
 pub use fault::WorldFault;
 pub use http_edge::Memory;
 pub use input::{Datagram, Happening, Input, Output};
-pub use journal::Journal;
 pub use mapping::map_request;
-pub use meaning::{Ask, Cause, Mapped, Meaning};
 pub use rendering::render;
-pub use response::{Location, Response, response_of};
-pub use settings::Settings;
-pub use shared::Bytes;
+pub use run::Run;
 pub use world::World;

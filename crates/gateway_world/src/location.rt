@@ -4,15 +4,16 @@ ghost use Rattle.std.specs.Prelude.{◌≡◌, IfOk, option_map, is_ok, true, Li
 ghost use Rattle.std.specs.List.{list_all};
 ghost use Rattle.std.specs.Str.{is_utf8};
 ghost use Rattle.uri_map.specs.Naming.{target_at};
+ghost use Rattle.exchange_core.specs.Findings.{response_of};
 ghost use Rattle.gateway_world.specs.Located as spec;
 
 use crate::fields::is_text;
-use crate::meaning::{Mapped, Meaning};
-use crate::response::Response;
-use crate::shared::Bytes;
+use ask_model::{Bytes, Mapped, Meaning};
+use exchange_core::Response;
 use http_edge::Memory;
 use std::alloc::Global;
 use std::str::from_utf8;
+use transformers::Relation;
 use uri_map::{Target, Text, Texts, UriFault, hosting_of, target_of};
 
 /// The code 2.01, Created.
@@ -20,23 +21,18 @@ const CREATED: u8 = 65;
 
 /// The value of Location: the target under which the proxy hosts what was created, where the
 /// response says where that is and the proxy can be asked for it.
-pub fn location_of(
+pub fn location_of<R: Relation>(
     alloc: Global,
-    mapped: &Mapped,
+    mapped: &Mapped<R>,
     response: &Response,
 ) -> Result<Option<Vec<u8>>, Memory>
-    ensures { IfOk result (λ o. option_map (λ v. v.items) o ≡ spec.located mapped.now response.now) }
+    ensures { IfOk result (λ o. option_map (λ v. v.items) o ≡ spec.located mapped.now.rules mapped.now.sense (response_of response.now)) }
 {
-    match &mapped.meaning {
-        Meaning::Ask(ask) if response.code == CREATED => {
-            let path = segments(&response.location.path);
-            hosted_beside(
-                alloc,
-                &mapped.settings.base,
-                &ask.target,
-                path,
-                &response.location.query,
-            )
+    match mapped.meaning() {
+        Meaning::Ask { target, .. } if response.code == CREATED => {
+            let base = mapped.settings().base.as_bytes();
+            let path = segments(&response.location_path);
+            hosted_beside(alloc, base, target, path, &response.location_query)
         }
         _ => Ok(None),
     }

@@ -1,48 +1,74 @@
 //! From an HTTP request to its meaning (RFC 8075, section 5).
 
-ghost use Rattle.std.specs.Prelude.{◌≡◌, IfOk, is_some, codes, Some, length, ◌==◌, not, ◌&&◌};
+ghost use Rattle.std.specs.Prelude.{◌≡◌, IfOk, codes};
 ghost use Rattle.std.specs.Arc.{arc_value};
-ghost use Rattle.http_header.specs.HeaderMap.{get};
 ghost use Rattle.uri_map.specs.Naming.{target_at};
 ghost use Rattle.uri_map.specs.Splitting.{origin_form};
+ghost use Rattle.uri_map.specs.Peers.{peer_in};
 ghost use Rattle.code_map.specs.Methods.{method_named};
-ghost use Rattle.gateway_world.specs.Maps as spec;
+ghost use Rattle.code_map.specs.Statuses.{number_of};
+ghost use Rattle.http_edge.specs.Kinds.{status_of};
+ghost use Rattle.http_edge.specs.Requests.{content};
+ghost use Rattle.ask_model.specs.Views.{came_of, body_of, sense_of, rules_of};
+ghost use Rattle.ask_model.specs.Maps.{Maps, MapsMethod, MapsTarget, MapsBody, has_field, is_conditional as conditional, is_refused_write as refused_write, carried, fault_status};
+ghost use Rattle.gateway_world.specs.Limits.{limited};
 
-use crate::meaning::{Ask, Cause, Mapped, Meaning};
-use crate::settings::Settings;
-use crate::shared::Bytes;
+use ask_model::{Cause, Mapped, Meaning, Payload, REQUEST_LIMIT, Settings, incoming_size};
 use code_map::{Method, Status, method_of};
 use http_edge::{BadKind, Incoming, Memory, Request};
 use std::alloc::Global;
 use std::sync::Arc;
-use uri_map::{Target, UriFault, path_and_query, peer_of, target_of};
+use transformers::Relation;
+use uri_map::{Peer, Target, UriFault, path_and_query, peer_of, target_of};
 
 /// The most bytes of a body that goes out in one message.
 const ONE_MESSAGE: usize = 1024;
 
-/// The meaning of what was read from a connection. Of a request the refusals are met in this order:
-/// method, conditional write, long body, target, peer, Content-Type.
-pub fn map_request(
+/// The meaning of what was read from a connection. A request of more than 2 MiB counts as too large
+/// (413); no reader of connections gives one. Of others the refusals are met in this order: method,
+/// conditional write, long body, target, peer, Content-Type.
+pub fn map_request<R: Relation>(
     alloc: Global,
     settings: &Arc<Settings>,
-    http: Incoming,
-) -> Result<Mapped, Memory>
-    ensures maps { IfOk result (λ m. spec.Maps (arc_value settings.now) http m.meaning) }
-    ensures http { IfOk result (λ m. m.http ≡ http) }
-    ensures settings { IfOk result (λ m. arc_value m.settings ≡ arc_value settings.now) }
+    came: Incoming,
+) -> Result<Mapped<R>, Memory>
+    ensures came { IfOk result (λ m. m.came ≡ limited (came_of came)) }
+    ensures rules { IfOk result (λ m. m.rules ≡ rules_of (arc_value settings.now)) }
 {
-    let meaning = meaning_of(alloc, settings, &http)?;
+    let came = within_limit(came);
+    let meaning = meaning_of::<R>(alloc, settings, &came)?;
     let settings = Arc::try_clone(settings)?;
-    Ok(Mapped {
-        http,
-        meaning,
-        settings,
-    })
+    Ok(Mapped::new(came, meaning, settings))
+}
+
+/// What came, where it isn't too large.
+fn within_limit(came: Incoming) -> Incoming
+    ensures { came_of result ≡ limited (came_of came) }
+{
+    if incoming_size(&came) > REQUEST_LIMIT {
+        Incoming::Bad(BadKind::Large)
+    } else {
+        came
+    }
+}
+
+/// The meaning of what was read.
+fn meaning_of<R: Relation>(
+    alloc: Global,
+    settings: &Settings,
+    came: &Incoming,
+) -> Result<Meaning, Memory>
+    ensures { IfOk result (λ m. Maps R.holds R.takes (rules_of settings.now) (came_of came.now) (sense_of m (body_of (came_of came.now)))) }
+{
+    match came {
+        Incoming::Bad(kind) => Ok(Meaning::Refuse(Cause::BadHttp, bad_status(*kind))),
+        Incoming::Request(request) => request_meaning::<R>(alloc, settings, request),
+    }
 }
 
 /// The status that tells of bytes which are no request.
 fn bad_status(kind: BadKind) -> Status
-    ensures { result ≡ spec.bad_status kind }
+    ensures { number_of result ≡ status_of kind }
 {
     match kind {
         BadKind::Syntax => Status::BadRequest,
@@ -51,46 +77,34 @@ fn bad_status(kind: BadKind) -> Status
     }
 }
 
-/// The meaning of what was read.
-fn meaning_of(alloc: Global, settings: &Settings, http: &Incoming) -> Result<Meaning, Memory>
-    ensures { IfOk result (spec.Maps settings.now http.now) }
-{
-    match http {
-        Incoming::Bad(kind) => Ok(Meaning::Refuse(Cause::BadHttp, bad_status(*kind))),
-        Incoming::Request(request) => {
-            method_meaning(alloc, settings, request, path_and_query(&request.target))
-        }
-    }
-}
-
-/// The meaning of a request whose target counts by that text.
-fn method_meaning(
+/// The meaning of a request.
+fn request_meaning<R: Relation>(
     alloc: Global,
     settings: &Settings,
     request: &Request,
-    text: &[u8],
 ) -> Result<Meaning, Memory>
-    ensures { IfOk result (λ m. spec.MapsBy settings.now request.now text.now (method_named request.now.method.items) m) }
+    ensures { IfOk result (λ m. MapsMethod R.holds R.takes (rules_of settings.now) (content request.now) (method_named request.now.method.items) (sense_of m request.now.body.items)) }
 {
     match method_of(&request.method) {
-        Some(method) if !is_unmapped(request, method) => target_meaning(
-            alloc, settings, request, method, text,
-        ),
+        Some(method) if !is_refused_write(request, method) => {
+            target_meaning::<R>(alloc, settings, request, method)
+        }
         _ => Ok(Meaning::Refuse(Cause::Method, Status::NotImplemented)),
     }
 }
 
-/// The meaning of a request whose method is mapped.
-fn target_meaning(
+/// The meaning of a request whose method is mapped. A target in absolute form counts by its path and
+/// query.
+fn target_meaning<R: Relation>(
     alloc: Global,
     settings: &Settings,
     request: &Request,
     method: Method,
-    text: &[u8],
 ) -> Result<Meaning, Memory>
-    ensures { IfOk result (λ m. spec.MapsTo settings.now request.now method (target_at settings.now.base.items text.now) m) }
+    ensures { IfOk result (λ m. MapsTarget R.holds R.takes (rules_of settings.now) (content request.now) method (target_at settings.now.base (origin_form request.now.target.items)) (sense_of m request.now.body.items)) }
 {
-    let target = match target_of(alloc, &settings.base, text) {
+    let text = path_and_query(&request.target);
+    let target = match target_of(alloc, settings.base.as_bytes(), text) {
         Ok(target) => target,
         Err(UriFault::Memory) => return Err(Memory),
         Err(fault) => return Ok(Meaning::Refuse(Cause::NoMap, target_status(fault))),
@@ -98,21 +112,12 @@ fn target_meaning(
     let Some(peer) = peer_of(&settings.directory, &target) else {
         return Ok(Meaning::Refuse(Cause::NoMap, Status::NotImplemented));
     };
-    if is_typed(request, method) {
-        return Ok(Meaning::Refuse(Cause::Media, Status::UnsupportedMediaType));
-    }
-    let body = Bytes::from_slice(alloc, body_of(request, method))?;
-    Ok(Meaning::Ask(Ask {
-        method,
-        target,
-        peer,
-        body,
-    }))
+    Ok(body_meaning::<R>(request, method, target, peer))
 }
 
 /// The status that tells of a target that names no resource.
 fn target_status(fault: UriFault) -> Status
-    ensures { result ≡ spec.target_status fault }
+    ensures { number_of result ≡ fault_status fault }
 {
     match fault {
         UriFault::OtherBase => Status::NotFound,
@@ -122,9 +127,39 @@ fn target_status(fault: UriFault) -> Status
     }
 }
 
-/// The body that goes to the device: that of a POST or PUT, and none of other methods.
-fn body_of(request: &Request, method: Method) -> &[u8]
-    ensures { result.now ≡ spec.sent_body method request.now.body.items }
+/// The meaning of a request for a target that a peer serves.
+fn body_meaning<R: Relation>(
+    request: &Request,
+    method: Method,
+    target: Target,
+    peer: Peer,
+) -> Meaning
+    ensures { (s : _) → MapsBody R.holds R.takes s (content request.now) method target peer (sense_of result request.now.body.items) }
+{
+    if is_typed(request, method) {
+        return Meaning::Refuse(Cause::Media, Status::UnsupportedMediaType);
+    }
+    Meaning::Ask {
+        method,
+        target,
+        peer,
+        accept: None,
+        format: None,
+        payload: payload_of(method),
+    }
+}
+
+/// What goes to the server of a request's body: that of a POST or PUT, and none of other methods.
+fn payload_of(method: Method) -> Payload {
+    match method {
+        Method::Post | Method::Put => Payload::Same,
+        Method::Get | Method::Head | Method::Delete => Payload::Empty,
+    }
+}
+
+/// The body that goes to the server.
+fn carried_body(request: &Request, method: Method) -> &[u8]
+    ensures { result.now ≡ carried method request.now.body.items }
 {
     match method {
         Method::Post | Method::Put => &request.body,
@@ -132,25 +167,30 @@ fn body_of(request: &Request, method: Method) -> &[u8]
     }
 }
 
-/// Whether what is asked beside the method isn't mapped.
-fn is_unmapped(request: &Request, method: Method) -> bool
-    ensures { result ≡ spec.is_unmapped request.now method }
+/// Whether what is asked beside the method isn't mapped: a condition of a write, or a body that needs
+/// more than one message.
+fn is_refused_write(request: &Request, method: Method) -> bool
+    ensures { result ≡ refused_write method (content request.now) }
 {
-    (method.is_write() && is_conditional(request)) || body_of(request, method).len() > ONE_MESSAGE
+    (method.is_write() && is_conditional(request))
+        || carried_body(request, method).len() > ONE_MESSAGE
 }
 
 /// Whether the request is to be carried out only under a condition (RFC 9110, section 13.1).
 fn is_conditional(request: &Request) -> bool
-    ensures { result ≡ spec.is_conditional request.now }
+    ensures { result ≡ conditional (content request.now) }
 {
-    request.fields.get("if-match").is_some()
-        || request.fields.get("if-none-match").is_some()
-        || request.fields.get("if-unmodified-since").is_some()
+    has(request, "if-match") || has(request, "if-none-match") || has(request, "if-unmodified-since")
+}
+
+/// Whether the request has a field of that name, which is in lower case.
+fn has(request: &Request, name: &'static str) -> bool
+    ensures { result ≡ has_field name.now (content request.now) }
+{
+    request.fields.get(name).is_some()
 }
 
 /// Whether a body goes out under a media type.
-fn is_typed(request: &Request, method: Method) -> bool
-    ensures { result ≡ spec.is_typed request.now method }
-{
-    !body_of(request, method).is_empty() && request.fields.get("content-type").is_some()
+fn is_typed(request: &Request, method: Method) -> bool {
+    !carried_body(request, method).is_empty() && has(request, "content-type")
 }

@@ -1,52 +1,65 @@
 //! From an answer to the HTTP response that tells it (RFC 8075, sections 6 and 7).
 
-ghost use Rattle.std.specs.Prelude.{◌≡◌, ◌<◌, ◌-◌, [], IfOk, if◌then◌else◌};
-ghost use Rattle.std.specs.Arc.{arc_value};
+ghost use Rattle.std.specs.Prelude.{ℕ, List, ◌≡◌, ◌<◌, ◌-◌, [], IfOk, if◌then◌else◌};
+ghost use Rattle.code_map.specs.Statuses.{number_of};
 ghost use Rattle.http_edge.specs.Answers.{body_bytes};
-ghost use Rattle.gateway_world.specs.Means.{Means, Shows, Tells, is_head as head};
+ghost use Rattle.ask_model.specs.Views.{came_of, sense_of};
+ghost use Rattle.exchange_core.specs.Answering.{given_of};
+ghost use Rattle.exchange_core.specs.Findings.{response_of};
+ghost use Rattle.gateway_world.specs.Means.{Means, Shows, Tells, IsOwn, is_head as head, told_status, failure_status as failed};
 
-use crate::answer::{Answer, Outcome};
 use crate::fields::{
     add_cause, add_connection, add_content_length, add_content_type, add_entity_tag, add_freshness,
     add_location, add_retry_after,
 };
-use crate::meaning::{Cause, Mapped, Meaning};
-use crate::response::Response;
-use code_map::{Method, Status, phrase_of, status_of};
-use http_edge::{Body, HttpAnswer, Memory};
+use ask_model::{Cause, Mapped, Meaning};
+use code_map::{Method, Status, method_of, phrase_of, status_of};
+use exchange_core::{Answer, Finding, Outcome, Response};
+use http_edge::{Body, HttpAnswer, Incoming, Memory};
+use journal_book::Grounds;
 use std::alloc::Global;
+use transformers::Relation;
 
 /// The HTTP response that tells an answer. An answer to HEAD has no body, and the Content-Length of
 /// the one to GET.
-pub fn render(alloc: Global, answer: &Answer) -> Result<HttpAnswer, Memory>
-    ensures means { IfOk result (λ a. Means answer.now a) }
+pub fn render<R: Relation>(alloc: Global, answer: &Answer<R>) -> Result<HttpAnswer, Memory>
+    ensures means { IfOk result (λ a. Means (given_of answer.now) a) }
     ensures digits { IfOk result (λ a. a.status < 1000) }
 {
-    match &answer.outcome {
+    match answer.finding.outcome() {
         Outcome::Whole(response) => {
             let age = answer.moment.saturating_sub(answer.heard);
             show(alloc, &answer.mapped, response, age)
         }
-        Outcome::Fault(cause, status, number) => {
-            tell(alloc, &answer.mapped, *cause, *status, *number)
+        Outcome::Fault(cause) => {
+            let number = number_named(&answer.finding);
+            tell(alloc, &answer.mapped, *cause, number)
         }
     }
 }
 
+/// The number of the entry that an error of the proxy's own names.
+fn number_named(finding: &Finding) -> u32 {
+    match finding.grounds() {
+        Grounds::Fault(_, number) => *number,
+        Grounds::Live(_) | Grounds::Kept(_) => 0,
+    }
+}
+
 /// An answer of the proxy's own: its cause, and the number of the entry that it names.
-fn tell(
+fn tell<R: Relation>(
     alloc: Global,
-    mapped: &Mapped,
+    mapped: &Mapped<R>,
     cause: Cause,
-    status: Status,
-    number: usize,
+    number: u32,
 ) -> Result<HttpAnswer, Memory>
-    ensures tells { IfOk result (λ a. Tells mapped.now cause status number a) }
+    ensures tells { IfOk result (λ a. Tells mapped.now cause number a) }
     ensures digits { IfOk result (λ a. a.status < 1000) }
 {
+    let status = status_told(mapped.meaning(), cause);
     let mut fields = Vec::new(alloc);
     add_cause(alloc, &mut fields, cause, number)?;
-    add_connection(alloc, &mut fields, mapped)?;
+    add_connection(alloc, &mut fields, mapped.came())?;
     add_content_length(alloc, &mut fields, status, 0)?;
     Ok(HttpAnswer {
         status: status.number(),
@@ -56,9 +69,36 @@ fn tell(
     })
 }
 
+/// The status of an error of the proxy's own.
+fn status_told(meaning: &Meaning, cause: Cause) -> Status
+    ensures { (body : List ℕ) → IsOwn (told_status (sense_of meaning.now body) cause) result }
+{
+    match meaning {
+        Meaning::Refuse(_, Status::MethodNotAllowed) => Status::BadRequest,
+        Meaning::Refuse(_, status) => *status,
+        Meaning::Ask { .. } => failure_status(cause),
+    }
+}
+
+/// The status that tells why a request has no response.
+fn failure_status(cause: Cause) -> Status
+    ensures { IsOwn (failed cause) result }
+{
+    match cause {
+        Cause::Busy => Status::ServiceUnavailable,
+        Cause::Timeout => Status::GatewayTimeout,
+        _ => Status::BadGateway,
+    }
+}
+
 /// The answer that shows a response of that age, in milliseconds.
-fn show(alloc: Global, mapped: &Mapped, response: &Response, age: u64) -> Result<HttpAnswer, Memory>
-    ensures shows { IfOk result (λ a. Shows mapped.now response.now age a) }
+fn show<R: Relation>(
+    alloc: Global,
+    mapped: &Mapped<R>,
+    response: &Response,
+    age: u64,
+) -> Result<HttpAnswer, Memory>
+    ensures shows { IfOk result (λ a. Shows mapped.now (response_of response.now) age a) }
     ensures digits { IfOk result (λ a. a.status < 1000) }
 {
     let body = response.body.as_slice();
@@ -69,32 +109,32 @@ fn show(alloc: Global, mapped: &Mapped, response: &Response, age: u64) -> Result
     add_entity_tag(alloc, &mut fields, response)?;
     add_location(alloc, &mut fields, mapped, response)?;
     add_retry_after(alloc, &mut fields, response)?;
-    add_connection(alloc, &mut fields, mapped)?;
+    add_connection(alloc, &mut fields, mapped.came())?;
     add_content_length(alloc, &mut fields, status, body.len())?;
     Ok(HttpAnswer {
         status: status.number(),
         phrase: phrase_of(status),
         fields,
-        body: shown_body(mapped, response)?,
+        body: shown_body(alloc, mapped.came(), body)?,
     })
 }
 
 /// The body of an answer: that of the response, but to a HEAD none (RFC 9110, section 9.3.2).
-fn shown_body(mapped: &Mapped, response: &Response) -> Result<Body, Memory>
-    ensures { IfOk result (λ b. body_bytes b ≡ (if head mapped.now.meaning then [] else response.now.body)) }
+fn shown_body(alloc: Global, came: &Incoming, body: &[u8]) -> Result<Body, Memory>
+    ensures { IfOk result (λ b. body_bytes b ≡ (if head (came_of came.now) then [] else body.now)) }
 {
-    if is_head(mapped) {
+    if is_head(came) {
         return Ok(Body::Empty);
     }
-    Ok(Body::Shared(response.body.shared()?))
+    Ok(Body::Owned(Vec::from_slice(alloc, body)?))
 }
 
 /// Whether a HEAD was asked.
-fn is_head(mapped: &Mapped) -> bool
-    ensures { result ≡ head mapped.now.meaning }
+fn is_head(came: &Incoming) -> bool
+    ensures { result ≡ head (came_of came.now) }
 {
-    match &mapped.meaning {
-        Meaning::Ask(ask) => ask.method == Method::Head,
-        Meaning::Refuse(..) => false,
+    match came {
+        Incoming::Request(request) => method_of(&request.method) == Some(Method::Head),
+        Incoming::Bad(_) => false,
     }
 }

@@ -6,6 +6,7 @@ ghost use Rattle.std.specs.Prelude.{◌≡◌};
 ghost use Rattle.hcproxy.specs.Failures.{exit_status};
 
 mod lines;
+mod relation;
 mod replay;
 mod script;
 mod settings;

@@ -1,9 +1,11 @@
 //! Runs a script through the proxy and prints what comes out.
 
 use crate::lines::{write_entry, write_output};
+use crate::relation::Unchanged;
 use crate::script::{LineFault, line_of};
-use gateway_world::{Settings, World, WorldFault};
-use std::alloc::{AllocError, Global};
+use ask_model::Settings;
+use gateway_world::{World, WorldFault};
+use std::alloc::{AllocError, AllocFailed, Global};
 use std::fmt;
 use std::io::{ErrorKind, Read, Write};
 
@@ -40,11 +42,17 @@ impl From<AllocError> for ReplayFault {
     }
 }
 
+impl<T: Drop> From<AllocFailed<T>> for ReplayFault {
+    fn from(_e: AllocFailed<T>) -> ReplayFault {
+        ReplayFault::Memory
+    }
+}
+
 /// A run of a script.
 #[derive(Drop)]
 struct Script {
     alloc: Global,
-    world: World,
+    world: World<Unchanged>,
     /// The line begun.
     line: Vec<u8>,
     /// How many lines were begun and ended.

@@ -1,18 +1,23 @@
 //! The settings of a demonstration.
 
 use crate::replay::ReplayFault;
-use gateway_world::Settings;
+use ask_model::Settings;
+use media_map::Routes;
 use std::alloc::Global;
 use std::net::{IpAddr, Ipv4Addr};
-use uri_map::Directory;
+use uri_map::{Directory, Text, Texts};
 
-/// The base `/hc/`, two devices by name, and devices by address.
+/// The base `/hc/`, two devices by name, the second of which may be observed, and devices by address.
 pub fn demonstration(alloc: Global) -> Result<Settings, ReplayFault> {
     let mut directory = Directory::new(alloc, true);
     directory.add("s.example.com", IpAddr::V4(Ipv4Addr::new(192, 0, 2, 1)))?;
     directory.add("o.example.com", IpAddr::V4(Ipv4Addr::new(192, 0, 2, 2)))?;
+    let mut observed = Texts::new(alloc);
+    observed.push(Text::copy_of(alloc, "o.example.com")?)?;
     Ok(Settings {
-        base: Vec::from_slice(alloc, b"/hc/")?,
+        base: Text::copy_of(alloc, "/hc/")?,
         directory,
+        observed,
+        routes: Routes::new(alloc),
     })
 }

@@ -1,0 +1,35 @@
+//! A run: all inputs of a proxy, and what they led to.
+
+use crate::fault::WorldFault;
+use crate::input::{Input, Output};
+use crate::world::World;
+use ask_model::Settings;
+use journal_book::Journal;
+use std::alloc::Global;
+use transformers::Relation;
+
+/// What a run gave out, and what happened in it.
+#[derive(Drop)]
+pub struct Run<R: Relation> {
+    /// The outputs of each input, in order.
+    pub outputs: Vec<Output>,
+    pub journal: Journal<R>,
+}
+
+impl<R: Relation> World<R> {
+    /// Takes all inputs, in order, and answers the first refusal of one.
+    pub fn run(
+        alloc: Global,
+        settings: Settings,
+        inputs: &[Input<'_>],
+    ) -> Result<Run<R>, WorldFault> {
+        let mut world = World::new(alloc, settings)?;
+        let mut outputs = Vec::new(alloc);
+        'each: for input in inputs {
+            let mut more = world.input(*input)?;
+            outputs.append(&mut more)?;
+        }
+        let journal = world.journal().copy()?;
+        Ok(Run { outputs, journal })
+    }
+}
