@@ -1,1 +1,5 @@
+pub mod Advancing
+pub mod Bodies
+pub mod Going
+pub mod Names
 pub mod Rules

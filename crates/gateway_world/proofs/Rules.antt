@@ -4,7 +4,7 @@ use Rattle.std.specs.Str.{is_utf8}
 use Rattle.hex.specs.Hex.{encode_lower}
 use Rattle.code_map.specs.declared.status.Status.{Status}
 use Rattle.code_map.specs.Statuses.{number_of}
-use Rattle.gateway_world.specs.declared.response.Response.{Response}
+use Rattle.history_laws.specs.Responses.{Response}
 use Rattle.media_map.specs.Formats.{media_text}
 use Rattle.gateway_world.specs.Means.{only, content_type, cache_control, seconds_left, entity_tag, content_length}
 

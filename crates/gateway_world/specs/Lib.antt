@@ -1,3 +1,4 @@
 pub mod Limits
 pub mod Located
 pub mod Means
+pub mod Worlds

@@ -184,11 +184,7 @@ pub fn add_retry_after(
 }
 
 /// Says that the connection is closed behind the answer, where it is (RFC 9112, section 9.6).
-pub fn add_connection(
-    alloc: Global,
-    fields: &mut Vec<Field>,
-    came: &Incoming,
-) -> Result<(), Memory>
+pub fn add_connection(alloc: Global, fields: &mut Vec<Field>, came: &Incoming) -> Result<(), Memory>
     ensures { OnOk result (map pair_of fields.new.items ≡ map pair_of fields.old.items ++ connection (came_of came.now)) }
 {
     if closes(came) {

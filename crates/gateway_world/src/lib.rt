@@ -5,15 +5,18 @@
 //! The program `hcproxy` stands on it.
 #![tactic(auto)]
 
-mod connection;
+mod engine;
 mod fault;
 mod fields;
+mod inbox;
 mod input;
 mod location;
 mod mapping;
 mod rendering;
 mod run;
+mod stepping;
 mod table;
+mod telling;
 mod world;
 
 pub use fault::WorldFault;

@@ -1,16 +1,17 @@
 //! From an HTTP request to its meaning (RFC 8075, section 5).
 
-ghost use Rattle.std.specs.Prelude.{◌≡◌, IfOk, codes};
+ghost use Rattle.std.specs.Prelude.{ℕ, List, ◌≡◌, IfOk, if◌then◌else◌};
 ghost use Rattle.std.specs.Arc.{arc_value};
 ghost use Rattle.uri_map.specs.Naming.{target_at};
 ghost use Rattle.uri_map.specs.Splitting.{origin_form};
 ghost use Rattle.uri_map.specs.Peers.{peer_in};
 ghost use Rattle.code_map.specs.Methods.{method_named};
 ghost use Rattle.code_map.specs.Statuses.{number_of};
+ghost use Rattle.http_header.specs.Token.{lowercase};
 ghost use Rattle.http_edge.specs.Kinds.{status_of};
 ghost use Rattle.http_edge.specs.Requests.{content};
-ghost use Rattle.ask_model.specs.Views.{came_of, body_of, sense_of, rules_of};
-ghost use Rattle.ask_model.specs.Maps.{Maps, MapsMethod, MapsTarget, MapsBody, has_field, is_conditional as conditional, is_refused_write as refused_write, carried, fault_status};
+ghost use Rattle.ask_model.specs.Views.{Rules, came_of, body_of, sense_of, rules_of, payload_of as payload_in};
+ghost use Rattle.ask_model.specs.Maps.{Maps, MapsMethod, MapsTarget, MapsPeer, MapsBody, has_field, is_conditional as conditional, is_refused_write as refused_write, carried, fault_status, typing_of, Untyped, Untypable};
 ghost use Rattle.gateway_world.specs.Limits.{limited};
 
 use ask_model::{Cause, Mapped, Meaning, Payload, REQUEST_LIMIT, Settings, incoming_size};
@@ -103,16 +104,33 @@ fn target_meaning<R: Relation>(
 ) -> Result<Meaning, Memory>
     ensures { IfOk result (λ m. MapsTarget R.holds R.takes (rules_of settings.now) (content request.now) method (target_at settings.now.base (origin_form request.now.target.items)) (sense_of m request.now.body.items)) }
 {
-    let text = path_and_query(&request.target);
-    let target = match target_of(alloc, settings.base.as_bytes(), text) {
-        Ok(target) => target,
-        Err(UriFault::Memory) => return Err(Memory),
-        Err(fault) => return Ok(Meaning::Refuse(Cause::NoMap, target_status(fault))),
-    };
-    let Some(peer) = peer_of(&settings.directory, &target) else {
-        return Ok(Meaning::Refuse(Cause::NoMap, Status::NotImplemented));
-    };
-    Ok(body_meaning::<R>(request, method, target, peer))
+    match target_of(alloc, settings.base.as_bytes(), named_text(request)) {
+        Ok(target) => Ok(peer_meaning::<R>(settings, request, method, target)),
+        Err(UriFault::Memory) => Err(Memory),
+        Err(fault) => Ok(Meaning::Refuse(Cause::NoMap, target_status(fault))),
+    }
+}
+
+/// The text that names the target of a request.
+fn named_text(request: &Request) -> &[u8]
+    ensures { result.now ≡ origin_form request.now.target.items }
+{
+    path_and_query(&request.target)
+}
+
+/// The meaning of a request for a target.
+fn peer_meaning<R: Relation>(
+    settings: &Settings,
+    request: &Request,
+    method: Method,
+    target: Target,
+) -> Meaning
+    ensures { MapsPeer R.holds R.takes (rules_of settings.now) (content request.now) method target (peer_in settings.now.directory target) (sense_of result request.now.body.items) }
+{
+    match peer_of(&settings.directory, &target) {
+        Some(peer) => body_meaning::<R>(request, method, target, peer),
+        None => Meaning::Refuse(Cause::NoMap, Status::NotImplemented),
+    }
 }
 
 /// The status that tells of a target that names no resource.
@@ -134,7 +152,7 @@ fn body_meaning<R: Relation>(
     target: Target,
     peer: Peer,
 ) -> Meaning
-    ensures { (s : _) → MapsBody R.holds R.takes s (content request.now) method target peer (sense_of result request.now.body.items) }
+    ensures { (s : Rules) → MapsBody R.holds R.takes s (content request.now) method target peer (sense_of result request.now.body.items) }
 {
     if is_typed(request, method) {
         return Meaning::Refuse(Cause::Media, Status::UnsupportedMediaType);
@@ -150,7 +168,9 @@ fn body_meaning<R: Relation>(
 }
 
 /// What goes to the server of a request's body: that of a POST or PUT, and none of other methods.
-fn payload_of(method: Method) -> Payload {
+fn payload_of(method: Method) -> Payload
+    ensures { (body : List ℕ) → payload_in result body ≡ carried method body }
+{
     match method {
         Method::Post | Method::Put => Payload::Same,
         Method::Get | Method::Head | Method::Delete => Payload::Empty,
@@ -183,14 +203,20 @@ fn is_conditional(request: &Request) -> bool
     has(request, "if-match") || has(request, "if-none-match") || has(request, "if-unmodified-since")
 }
 
-/// Whether the request has a field of that name, which is in lower case.
+/// Whether the request has a field of that name.
 fn has(request: &Request, name: &'static str) -> bool
+    requires { lowercase name.now ≡ name.now }
     ensures { result ≡ has_field name.now (content request.now) }
 {
-    request.fields.get(name).is_some()
+    request.fields.contains_key(name)
 }
 
 /// Whether a body goes out under a media type.
-fn is_typed(request: &Request, method: Method) -> bool {
-    !carried_body(request, method).is_empty() && has(request, "content-type")
+fn is_typed(request: &Request, method: Method) -> bool
+    ensures { (s : Rules) → typing_of s (content request.now) (carried method request.now.body.items) ≡ (if result then Untypable else Untyped) }
+{
+    if carried_body(request, method).is_empty() {
+        return false;
+    }
+    has(request, "content-type")
 }

@@ -1,11 +1,22 @@
 //! The open connections.
 
-ghost use Rattle.std.specs.Prelude.{◌≡◌, ◌<◌, ◌≤◌, vec_len, IfSome};
+ghost use Rattle.std.specs.Prelude.{◌≡◌, ◌<◌, ◌≤◌, vec_len, vec_capacity, length, IfSome, OnOk};
 
-use crate::connection::Connection;
+use crate::inbox::{Inbox, Next};
+use exchange_core::Ticket;
 use http_edge::{Edge, Memory};
 use std::alloc::Global;
 use transformers::Relation;
+
+/// A connection.
+#[derive(Drop)]
+pub struct Connection<R: Relation> {
+    /// By which the core knows it.
+    number: u32,
+    inbox: Inbox,
+    /// The ask whose answer is due next.
+    ticket: Option<Ticket<R>>,
+}
 
 /// The open connections, by their numbers.
 #[derive(Drop)]
@@ -24,38 +35,76 @@ impl<R: Relation> Table<R> {
     }
 
     /// Makes the place of one more.
-    pub fn make_room(&mut self) -> Result<(), Memory> {
+    pub fn make_room(&mut self) -> Result<(), Memory>
+        ensures { OnOk result (vec_len self.new.rows < vec_capacity self.new.rows) }
+    {
         self.rows.try_reserve(1)?;
         Ok(())
     }
 
-    /// Puts a connection last.
-    pub fn add(&mut self, number: u32, edge: Edge) -> Result<(), Memory> {
-        self.rows.push(Connection::new(self.alloc, number, edge))?;
-        Ok(())
+    /// Puts a connection without bytes last, where there is a place.
+    pub fn add(&mut self, number: u32, edge: Edge)
+        requires { vec_len self.old.rows < vec_capacity self.old.rows }
+    {
+        self.rows.push_reserved(Connection {
+            number,
+            inbox: Inbox::new(self.alloc, edge),
+            ticket: None,
+        });
     }
 
-    /// The connection of that number.
-    pub fn get(&self, number: u32) -> Option<&Connection<R>> {
-        'each: for row in &self.rows {
-            if row.number == number {
-                return Some(row);
+    /// The place of the connection of that number.
+    fn place_of(&self, number: u32) -> Option<usize>
+        ensures { IfSome result (λ i. i < length self.now.rows.items) }
+    {
+        'each: for place in 0..self.rows.len() {
+            if self.rows[place].number == number {
+                return Some(place);
             }
         }
         None
     }
 
-    /// The connection of that number, to be changed.
-    pub fn get_mut(&mut self, number: u32) -> Option<&mut Connection<R>> {
-        'each: for row in self.rows.iter_mut() {
-            if row.number == number {
-                return Some(row);
-            }
+    /// Whether so many bytes more of the connection would be too many.
+    pub fn passes_limit(&self, number: u32, more: usize) -> bool {
+        match self.place_of(number) {
+            Some(place) => self.rows[place].inbox.passes_limit(more),
+            None => false,
         }
-        None
     }
 
-    /// Takes the connection of that number out.
+    /// Puts bytes behind those of the connection that wait.
+    pub fn append(&mut self, number: u32, bytes: &[u8]) -> Result<(), Memory> {
+        match self.place_of(number) {
+            Some(place) => self.rows[place].inbox.append(bytes),
+            None => Ok(()),
+        }
+    }
+
+    /// What the connection asks next: nothing while it waits for an answer.
+    pub fn next(&mut self, number: u32) -> Result<Next, Memory> {
+        match self.place_of(number) {
+            Some(place) if self.rows[place].ticket.is_none() => self.rows[place].inbox.next(),
+            _ => Ok(Next::Nothing),
+        }
+    }
+
+    /// The ask that the connection waits for.
+    pub fn ticket(&self, number: u32) -> Option<&Ticket<R>> {
+        match self.place_of(number) {
+            Some(place) => self.rows[place].ticket.as_ref(),
+            None => None,
+        }
+    }
+
+    /// Sets what the connection waits for.
+    pub fn set_ticket(&mut self, number: u32, ticket: Option<Ticket<R>>) {
+        if let Some(place) = self.place_of(number) {
+            self.rows[place].ticket = ticket;
+        }
+    }
+
+    /// Takes the connection out.
     pub fn remove(&mut self, number: u32) {
         self.rows.retain(|row| row.number != number);
     }
@@ -77,7 +126,8 @@ impl<R: Relation> Table<R> {
 /// The sooner of an ask found before and this ask of a connection, which counts where it comes from
 /// that number on.
 fn sooner(first: Option<(u32, u32)>, from: u32, ask: u32, conn: u32) -> Option<(u32, u32)>
-    ensures { IfSome first (λ w. from ≤ w.0) → IfSome result (λ w. from ≤ w.0) }
+    requires { IfSome first (λ w. from ≤ w.0) }
+    ensures { IfSome result (λ w. from ≤ w.0) }
 {
     if ask < from {
         return first;

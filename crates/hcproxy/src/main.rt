@@ -8,6 +8,8 @@ ghost use Rattle.hcproxy.specs.Failures.{exit_status};
 mod lines;
 mod relation;
 mod replay;
+#[cfg(test)]
+mod row_tests;
 mod script;
 mod settings;
 #[cfg(test)]

@@ -100,16 +100,16 @@ fn a_request_cut_anywhere_is_one(rt: HostRuntime) -> Result<(), Fail> {
 }
 
 #[test]
-fn a_second_connection_is_turned(rt: HostRuntime) -> Result<(), Fail> {
+fn connections_are_numbered_as_they_come(rt: HostRuntime) -> Result<(), Fail> {
     let (out, ended) = run(
         rt.alloc(),
-        "0 0 open\n7 0 open\n9 0 close 0\n9 0 open\n",
+        "0 0 open\n7 0 open\n9 0 close 0\n9 0 open\n8 0 close 1\n",
         true,
     )?;
     assert_eq!(rt; ended, Ok(()));
     assert_eq!(rt;
         out.as_slice(),
-        b"7 turned\n0 0 opened 0\n1 9 shut 0\n2 9 opened 1\n".as_slice()
+        b"0 0 opened 0\n1 7 opened 1\n2 9 shut 0\n3 9 opened 2\n4 9 shut 1\n".as_slice()
     );
     Ok(())
 }

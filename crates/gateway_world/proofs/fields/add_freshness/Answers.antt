@@ -1,11 +1,12 @@
 use Rattle.std.proofs.Common.{◌≡◌, ◌≢◌, ◌++◌, codes, decimal, string_bytes, arith}
+use Rattle.exchange_core.specs.Findings.{response_of}
 use Rattle.gateway_world.specs.Means.{seconds_left}
 use Rattle.gateway_world.proofs.Rules.{cache_control_of}
 use Rattle.gateway_world.proofs.fields.add_freshness.Goals as goal
 
 pub returns : goal.returns
 returns c =
-    let w = c.args.response.now in
+    let w = response_of c.args.response.now in
     let text = string_bytes c.in_ok-format.field-0 in
     let code : w.code ≡ 69 = c.if-response-ne-CONTENT.false in
     let is : text ≡ codes "max-age=" ++ decimal (seconds_left w c.args.age) = rw (← c.seconds_left-left.ensures) c.in_ok-format.ensures.ok in

@@ -1,12 +1,10 @@
-//! One connection: its bytes, as far as they aren't asked, and the ask that it waits for.
+//! The bytes of one connection, as far as they aren't asked.
 
 ghost use Rattle.std.specs.Prelude.{◌≡◌, ◌≤◌, vec_len};
 
 use crate::fields::closes;
-use exchange_core::Ticket;
 use http_edge::{Edge, Incoming, Memory};
 use std::alloc::Global;
-use transformers::Relation;
 
 /// The most bytes of a connection that wait unread.
 const UNREAD: usize = 1_048_576;
@@ -14,32 +12,35 @@ const UNREAD: usize = 1_048_576;
 /// How many requests wait at most: each has a byte at least.
 pub const REQUESTS: usize = UNREAD + 1;
 
-/// A connection.
+/// What the bytes of a connection ask next.
 #[derive(Drop)]
-pub struct Connection<R: Relation> {
-    /// By which the core knows it.
-    pub number: u32,
+pub enum Next {
+    Request(Incoming),
+    /// Nothing, but the client waits with its body for `100 Continue` (RFC 9110, section 10.1.1).
+    Continue,
+    Nothing,
+}
+
+/// The bytes of a connection that aren't asked yet.
+#[derive(Drop)]
+pub struct Inbox {
     edge: Edge,
     /// The bytes that the edge has no room for, and how many of them it took meanwhile.
     backlog: Vec<u8>,
     taken: usize,
     /// The last request was read.
     closing: bool,
-    /// The ask whose answer is due next.
-    pub ticket: Option<Ticket<R>>,
     ghost within: { taken ≤ vec_len backlog },
 }
 
-impl<R: Relation> Connection<R> {
-    /// The connection with no bytes yet.
-    pub fn new(alloc: Global, number: u32, edge: Edge) -> Connection<R> {
-        Connection {
-            number,
+impl Inbox {
+    /// No bytes yet.
+    pub fn new(alloc: Global, edge: Edge) -> Inbox {
+        Inbox {
             edge,
             backlog: Vec::new(alloc),
             taken: 0,
             closing: false,
-            ticket: None,
         }
     }
 
@@ -72,23 +73,21 @@ impl<R: Relation> Connection<R> {
         n > 0
     }
 
-    /// The next request of the bytes that wait.
-    pub fn next(&mut self) -> Result<Option<Incoming>, Memory> {
+    /// What the bytes that wait ask next.
+    pub fn next(&mut self) -> Result<Next, Memory> {
         'each: for _ in 0..REQUESTS {
             if let Some(incoming) = self.edge.next()? {
                 self.closing = closes(&incoming);
-                return Ok(Some(incoming));
+                return Ok(Next::Request(incoming));
             }
             if !self.refill() {
-                return Ok(None);
+                break;
             }
         }
-        Ok(None)
-    }
-
-    /// Whether the client waits for `100 Continue`: true once for a request (RFC 9110, section
-    /// 10.1.1).
-    pub fn wants_continue(&mut self) -> bool {
-        self.edge.wants_continue()
+        if self.edge.wants_continue() {
+            Ok(Next::Continue)
+        } else {
+            Ok(Next::Nothing)
+        }
     }
 }

@@ -1,0 +1,255 @@
+//! What an input leads to, step by step.
+
+ghost use Rattle.std.specs.Prelude.{◌≡◌};
+ghost use Rattle.exchange_core.specs.Answering.{given_of, IsGiven};
+ghost use Rattle.gateway_world.specs.Worlds.{Advances, Leads};
+
+use crate::fields::closes;
+use crate::inbox::{Next, REQUESTS};
+use crate::input::{Happening, Output};
+use crate::mapping::map_request;
+use crate::stepping::{When, ask_in, close_in, hear_in, open_in, send_from, tick_in};
+use crate::table::Table;
+use crate::telling::{tell_answer, tell_closed, tell_continue, tell_turned};
+use ask_model::Settings;
+use exchange_core::{Answer, AskFault, Core, OpenFault, Ticket};
+use http_edge::{Edge, Incoming, Memory};
+use std::alloc::Global;
+use std::sync::Arc;
+use transformers::Relation;
+use uri_map::Peer;
+
+/// A core with the connections that it serves.
+#[derive(Drop)]
+pub struct Engine<R: Relation> {
+    pub alloc: Global,
+    pub settings: Arc<Settings>,
+    pub core: Core<R>,
+    pub table: Table<R>,
+}
+
+impl<R: Relation> Engine<R> {
+    /// Does what happens leads to.
+    pub fn step(
+        &mut self,
+        when: When,
+        happening: Happening<'_>,
+        outputs: &mut Vec<Output>,
+    ) -> Result<(), Memory>
+        ensures { Leads result self.old.core self.new.core outputs.old.items outputs.new.items }
+    {
+        match happening {
+            Happening::Open => self.open(when, outputs),
+            Happening::Bytes(number, bytes) => self.bytes(when, number, bytes, outputs),
+            Happening::Datagram(peer, bytes) => self.heard(when, peer, bytes, outputs),
+            Happening::Tick => self.tick(when, outputs),
+            Happening::Close(number) => {
+                self.close(when, number);
+                Ok(())
+            }
+        }
+    }
+
+    /// Opens a connection, or turns the client away.
+    fn open(&mut self, when: When, outputs: &mut Vec<Output>) -> Result<(), Memory>
+        ensures { Leads result self.old.core self.new.core outputs.old.items outputs.new.items }
+    {
+        let edge = Edge::new(self.alloc)?;
+        self.table.make_room()?;
+        match open_in(&mut self.core, when) {
+            Ok(number) => {
+                self.table.add(number, edge);
+                Ok(())
+            }
+            Err(OpenFault::Full | OpenFault::Sealed) => tell_turned(outputs),
+            Err(OpenFault::Memory) => Err(Memory),
+        }
+    }
+
+    /// Takes bytes of the connection.
+    fn bytes(
+        &mut self,
+        when: When,
+        number: u32,
+        bytes: &[u8],
+        outputs: &mut Vec<Output>,
+    ) -> Result<(), Memory>
+        ensures { Leads result self.old.core self.new.core outputs.old.items outputs.new.items }
+    {
+        self.table.append(number, bytes)?;
+        self.serve(when, number, outputs)
+    }
+
+    /// Takes a datagram.
+    fn heard(
+        &mut self,
+        when: When,
+        peer: Peer,
+        bytes: &[u8],
+        outputs: &mut Vec<Output>,
+    ) -> Result<(), Memory>
+        ensures { Leads result self.old.core self.new.core outputs.old.items outputs.new.items }
+    {
+        hear_in(&mut self.core, when, peer, bytes)?;
+        self.deliver(when, outputs)
+    }
+
+    /// Lets time go on.
+    fn tick(&mut self, when: When, outputs: &mut Vec<Output>) -> Result<(), Memory>
+        ensures { Leads result self.old.core self.new.core outputs.old.items outputs.new.items }
+    {
+        tick_in(&mut self.core, when)?;
+        self.deliver(when, outputs)
+    }
+
+    /// Closes the connection, where it is open.
+    fn close(&mut self, when: When, number: u32)
+        ensures { Advances self.old.core self.new.core }
+    {
+        if close_in(&mut self.core, when, number) {
+            self.table.remove(number);
+        }
+    }
+
+    /// Gives out the datagrams and the answers of a step, the answers by the numbers of their asks.
+    fn deliver(&mut self, when: When, outputs: &mut Vec<Output>) -> Result<(), Memory>
+        ensures { Leads result self.old.core self.new.core outputs.old.items outputs.new.items }
+    {
+        send_from(&mut self.core, outputs)?;
+        self.answer_all(when, outputs)
+    }
+
+    /// Gives out the answers that are there, by the numbers of their asks.
+    fn answer_all(&mut self, when: When, outputs: &mut Vec<Output>) -> Result<(), Memory>
+        ensures { Leads result self.old.core self.new.core outputs.old.items outputs.new.items }
+    {
+        let mut from = 0;
+        'each: while let Some((ask, number)) = self.table.first_waiting(from) {
+            self.answer(when, number, outputs)?;
+            if ask == u32::MAX {
+                return Ok(());
+            }
+            from = ask + 1;
+        }
+        Ok(())
+    }
+
+    /// Gives out the answer that the connection waits for, if it is there, and what its further
+    /// requests give.
+    fn answer(&mut self, when: When, number: u32, outputs: &mut Vec<Output>) -> Result<(), Memory>
+        ensures { Leads result self.old.core self.new.core outputs.old.items outputs.new.items }
+    {
+        let Some(ticket) = self.table.ticket(number) else {
+            return Ok(());
+        };
+        let Some(answer) = self.core.take_answer(ticket) else {
+            return Ok(());
+        };
+        self.table.set_ticket(number, None);
+        self.give(when, number, &answer, outputs)?;
+        self.serve(when, number, outputs)
+    }
+
+    /// Asks what the connection's bytes ask, until one waits for its answer.
+    fn serve(&mut self, when: When, number: u32, outputs: &mut Vec<Output>) -> Result<(), Memory>
+        ensures { Leads result self.old.core self.new.core outputs.old.items outputs.new.items }
+    {
+        'each: for _ in 0..REQUESTS {
+            if !self.serve_next(when, number, outputs)? {
+                return Ok(());
+            }
+        }
+        Ok(())
+    }
+
+    /// Asks what the connection's bytes ask next. False where that is nothing.
+    fn serve_next(
+        &mut self,
+        when: When,
+        number: u32,
+        outputs: &mut Vec<Output>,
+    ) -> Result<bool, Memory>
+        ensures { Leads result self.old.core self.new.core outputs.old.items outputs.new.items }
+    {
+        match self.table.next(number)? {
+            Next::Request(incoming) => {
+                self.ask(when, number, incoming, outputs)?;
+                Ok(true)
+            }
+            Next::Continue => {
+                tell_continue(self.alloc, number, outputs)?;
+                Ok(false)
+            }
+            Next::Nothing => Ok(false),
+        }
+    }
+
+    /// Asks on the connection, and gives out what that leads to. An ask that the sealed journal
+    /// doesn't take closes it.
+    fn ask(
+        &mut self,
+        when: When,
+        number: u32,
+        incoming: Incoming,
+        outputs: &mut Vec<Output>,
+    ) -> Result<(), Memory>
+        ensures { Leads result self.old.core self.new.core outputs.old.items outputs.new.items }
+    {
+        let mapped = map_request(self.alloc, &self.settings, incoming)?;
+        let mapped = Arc::new(self.alloc, mapped)?;
+        match ask_in(&mut self.core, when, number, mapped) {
+            Ok(ticket) => self.asked(when, number, ticket, outputs),
+            Err(AskFault::Memory) => Err(Memory),
+            Err(AskFault::Unknown | AskFault::Pending | AskFault::Sealed) => {
+                self.shut(when, number, outputs)
+            }
+        }
+    }
+
+    /// Gives out what an ask led to.
+    fn asked(
+        &mut self,
+        when: When,
+        number: u32,
+        ticket: Ticket<R>,
+        outputs: &mut Vec<Output>,
+    ) -> Result<(), Memory>
+        ensures { Leads result self.old.core self.new.core outputs.old.items outputs.new.items }
+    {
+        send_from(&mut self.core, outputs)?;
+        match self.core.take_answer(&ticket) {
+            Some(answer) => self.give(when, number, &answer, outputs),
+            None => {
+                self.table.set_ticket(number, Some(ticket));
+                Ok(())
+            }
+        }
+    }
+
+    /// Gives out an answer, and closes the connection where it is the last.
+    fn give(
+        &mut self,
+        when: When,
+        number: u32,
+        answer: &Answer<R>,
+        outputs: &mut Vec<Output>,
+    ) -> Result<(), Memory>
+        requires { IsGiven self.old.core.entries (given_of answer.now) }
+        ensures { Leads result self.old.core self.new.core outputs.old.items outputs.new.items }
+    {
+        tell_answer(self.alloc, number, answer, outputs)?;
+        if closes(answer.mapped.came()) {
+            self.shut(when, number, outputs)
+        } else {
+            Ok(())
+        }
+    }
+
+    /// Closes the connection by the proxy's own choice.
+    fn shut(&mut self, when: When, number: u32, outputs: &mut Vec<Output>) -> Result<(), Memory>
+        ensures { Leads result self.old.core self.new.core outputs.old.items outputs.new.items }
+    {
+        self.close(when, number);
+        tell_closed(number, outputs)
+    }
+}

@@ -1,0 +1,56 @@
+//! What connections are told.
+
+ghost use Rattle.std.specs.Prelude.{ℕ, List, ◌≡◌, codes, OnOk};
+ghost use Rattle.journal_book.specs.Entries.{Written};
+ghost use Rattle.exchange_core.specs.Answering.{given_of, IsGiven};
+ghost use Rattle.gateway_world.specs.Worlds.{AddsTold};
+
+use crate::input::Output;
+use crate::rendering::render;
+use exchange_core::Answer;
+use http_edge::{Memory, answer_bytes};
+use std::alloc::Global;
+use transformers::Relation;
+
+/// What a client that waits with its body is told (RFC 9110, section 10.1.1).
+const CONTINUE: &str = "HTTP/1.1 100 Continue\r\n\r\n";
+
+/// Tells a client that waits with its body to go on.
+pub fn tell_continue(alloc: Global, number: u32, outputs: &mut Vec<Output>) -> Result<(), Memory>
+    ensures { (h : List Written) → OnOk result (AddsTold h outputs.old.items outputs.new.items) }
+{
+    let bytes = Vec::from_slice(alloc, CONTINUE.as_bytes())?;
+    outputs.push(Output::Bytes(number, bytes))?;
+    Ok(())
+}
+
+/// Tells the connection an answer.
+pub fn tell_answer<R: Relation>(
+    alloc: Global,
+    number: u32,
+    answer: &Answer<R>,
+    outputs: &mut Vec<Output>,
+) -> Result<(), Memory>
+    ensures { (h : List Written) → IsGiven h (given_of answer.now) → OnOk result (AddsTold h outputs.old.items outputs.new.items) }
+{
+    let rendered = render(alloc, answer)?;
+    let bytes = answer_bytes(alloc, &rendered)?;
+    outputs.push(Output::Bytes(number, bytes))?;
+    Ok(())
+}
+
+/// Tells that the proxy closes the connection.
+pub fn tell_closed(number: u32, outputs: &mut Vec<Output>) -> Result<(), Memory>
+    ensures { (h : List Written) → OnOk result (AddsTold h outputs.old.items outputs.new.items) }
+{
+    outputs.push(Output::Closed(number))?;
+    Ok(())
+}
+
+/// Tells that no connection was opened.
+pub fn tell_turned(outputs: &mut Vec<Output>) -> Result<(), Memory>
+    ensures { (h : List Written) → OnOk result (AddsTold h outputs.old.items outputs.new.items) }
+{
+    outputs.push(Output::Turned)?;
+    Ok(())
+}

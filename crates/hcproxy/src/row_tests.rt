@@ -1,0 +1,127 @@
+//! Runs of scripts, each with what it has to print.
+
+use crate::replay::replay;
+use crate::settings::demonstration;
+use std::alloc::Global;
+use std::test::Fail;
+
+/// A script, and what it prints.
+#[derive(Clone, Copy)]
+struct Row {
+    script: &'static str,
+    printed: &'static str,
+}
+
+/// A response in a message of its own: it is acknowledged, and once more where it is repeated (RFC
+/// 7252, section 5.2.2).
+const SEPARATE: Row = Row {
+    script: "0 0 open\n0 0 bytes 0 474554202f68632f636f61703a2f2f732e6578616d706c652e636f6d2f6c6967687420485454502f312e310d0a486f73743a20700d0a0d0a\n100 0 datagram 192.0.2.1:5683 60000000\n5000 0 datagram 192.0.2.1:5683 484512340000000000000000c0ff6f6e\n5100 0 datagram 192.0.2.1:5683 484512340000000000000000c0ff6f6e\n",
+    printed: "0 datagram 192.0.2.1:5683 4801000000000000000000003d00732e6578616d706c652e636f6d856c69676874\n5000 datagram 192.0.2.1:5683 60001234\n5000 bytes 0 485454502f312e3120323030204f4b0d0a436f6e74656e742d547970653a20746578742f706c61696e3b636861727365743d7574662d380d0a43616368652d436f6e74726f6c3a206d61782d6167653d36300d0a436f6e74656e742d4c656e6774683a20320d0a0d0a6f6e\n5100 datagram 192.0.2.1:5683 60001234\n",
+};
+
+/// A reset of the request: 502.
+const RESET: Row = Row {
+    script: "0 0 open\n0 0 bytes 0 474554202f68632f636f61703a2f2f732e6578616d706c652e636f6d2f6c6967687420485454502f312e310d0a486f73743a20700d0a0d0a\n40 0 datagram 192.0.2.1:5683 70000000\n",
+    printed: "0 datagram 192.0.2.1:5683 4801000000000000000000003d00732e6578616d706c652e636f6d856c69676874\n40 bytes 0 485454502f312e31203530322042616420476174657761790d0a48432d43617573653a20726573657420330d0a436f6e74656e742d4c656e6774683a20300d0a0d0a\n",
+};
+
+/// Three targets on one connection that name nothing.
+const TARGETS: Row = Row {
+    script: "0 0 open\n0 0 bytes 0 474554202f68632f636f6170733a2f2f732e6578616d706c652e636f6d2f7820485454502f312e310d0a486f73743a20700d0a0d0a\n0 0 bytes 0 474554202f68632f636f61703a2f7820485454502f312e310d0a486f73743a20700d0a0d0a\n0 0 bytes 0 474554202f6f7468657220485454502f312e310d0a486f73743a20700d0a0d0a\n",
+    printed: "0 bytes 0 485454502f312e3120353031204e6f7420496d706c656d656e7465640d0a48432d43617573653a206e6f2d6d617020310d0a436f6e74656e742d4c656e6774683a20300d0a0d0a\n0 bytes 0 485454502f312e31203430302042616420526571756573740d0a48432d43617573653a206e6f2d6d617020330d0a436f6e74656e742d4c656e6774683a20300d0a0d0a\n0 bytes 0 485454502f312e3120343034204e6f7420466f756e640d0a48432d43617573653a206e6f2d6d617020350d0a436f6e74656e742d4c656e6774683a20300d0a0d0a\n",
+};
+
+/// A HEAD, and the reply to its GET.
+const HEAD: Row = Row {
+    script: "0 0 open\n0 0 bytes 0 48454144202f68632f636f61703a2f2f732e6578616d706c652e636f6d2f6c6967687420485454502f312e310d0a486f73743a20700d0a0d0a\n40 0 datagram 192.0.2.1:5683 684500000000000000000000c0ff6f6e\n",
+    printed: "0 datagram 192.0.2.1:5683 4801000000000000000000003d00732e6578616d706c652e636f6d856c69676874\n40 bytes 0 485454502f312e3120323030204f4b0d0a436f6e74656e742d547970653a20746578742f706c61696e3b636861727365743d7574662d380d0a43616368652d436f6e74726f6c3a206d61782d6167653d36300d0a436f6e74656e742d4c656e6774683a20320d0a0d0a\n",
+};
+
+/// A client that waits with its body (RFC 9110, section 10.1.1).
+const EXPECT: Row = Row {
+    script: "0 0 open\n0 0 bytes 0 505554202f68632f636f61703a2f2f732e6578616d706c652e636f6d2f6c6967687420485454502f312e310d0a486f73743a20700d0a4578706563743a203130302d636f6e74696e75650d0a436f6e74656e742d4c656e6774683a20330d0a0d0a\n5 0 bytes 0 6f6666\n",
+    printed: "0 bytes 0 485454502f312e312031303020436f6e74696e75650d0a0d0a\n5 datagram 192.0.2.1:5683 4803000000000000000000003d00732e6578616d706c652e636f6d856c69676874ff6f6666\n",
+};
+
+/// A request with a length and chunks (RFC 9112, section 6.3).
+const BOTH_LENGTHS: Row = Row {
+    script: "0 0 open\n0 0 bytes 0 505554202f68632f636f61703a2f2f732e6578616d706c652e636f6d2f6c6967687420485454502f312e310d0a486f73743a20700d0a5472616e736665722d456e636f64696e673a206368756e6b65640d0a436f6e74656e742d4c656e6774683a20330d0a0d0a6f6666\n",
+    printed: "0 bytes 0 485454502f312e31203430302042616420526571756573740d0a48432d43617573653a206261642d6874747020310d0a436f6e6e656374696f6e3a20636c6f73650d0a436f6e74656e742d4c656e6774683a20300d0a0d0a\n0 closed 0\n",
+};
+
+/// Runs a script over memory, and compares what it prints.
+fn prints(alloc: Global, script: &str, printed: &str) -> Result<bool, Fail> {
+    let mut out = Vec::new(alloc);
+    let mut reader = script.as_bytes();
+    let ended = replay(alloc, demonstration(alloc)?, &mut reader, &mut out, false);
+    Ok(ended.is_ok() && out.as_slice() == printed.as_bytes())
+}
+
+#[test]
+fn a_separate_response_is_acknowledged(rt: HostRuntime) -> Result<(), Fail> {
+    assert!(rt; prints(rt.alloc(), SEPARATE.script, SEPARATE.printed)?);
+    Ok(())
+}
+
+#[test]
+fn a_reset_is_told(rt: HostRuntime) -> Result<(), Fail> {
+    assert!(rt; prints(rt.alloc(), RESET.script, RESET.printed)?);
+    Ok(())
+}
+
+#[test]
+fn refusals_come_in_their_turn(rt: HostRuntime) -> Result<(), Fail> {
+    assert!(rt; prints(rt.alloc(), TARGETS.script, TARGETS.printed)?);
+    Ok(())
+}
+
+#[test]
+fn head_has_no_body(rt: HostRuntime) -> Result<(), Fail> {
+    assert!(rt; prints(rt.alloc(), HEAD.script, HEAD.printed)?);
+    Ok(())
+}
+
+#[test]
+fn who_waits_with_a_body_is_told_to_go_on(rt: HostRuntime) -> Result<(), Fail> {
+    assert!(rt; prints(rt.alloc(), EXPECT.script, EXPECT.printed)?);
+    Ok(())
+}
+
+#[test]
+fn a_bad_request_closes_its_connection(rt: HostRuntime) -> Result<(), Fail> {
+    assert!(rt; prints(rt.alloc(), BOTH_LENGTHS.script, BOTH_LENGTHS.printed)?);
+    Ok(())
+}
+
+#[test]
+fn the_257th_connection_is_turned(rt: HostRuntime) -> Result<(), Fail> {
+    let mut script = String::new(rt.alloc());
+    for _ in 0..257 {
+        script.push_str("0 0 open\n")?;
+    }
+    script.push_str("5 0 close 7\n9 0 open\n")?;
+    assert!(rt; prints(rt.alloc(), script.as_str(), "0 turned\n")?);
+    Ok(())
+}
+
+/// What is printed where no reply comes within 93 seconds (RFC 7252, section 4.8.2).
+const TIMED_OUT: &str =
+    "93000 bytes 0 485454502f312e312035303420476174657761792054696d656f75740d0a48432d43617573653a2074696d656f757420320d0a436f6e74656e742d4c656e6774683a20300d0a0d0a\n";
+
+#[test]
+fn an_exchange_ends_in_time(rt: HostRuntime) -> Result<(), Fail> {
+    let mut script = String::new(rt.alloc());
+    for line in RESET.script.lines().take(2) {
+        script.push_str(line)?;
+        script.push_str("\n")?;
+    }
+    script.push_str("92999 0 tick\n93000 0 tick\n")?;
+    let mut printed = String::new(rt.alloc());
+    for line in RESET.printed.lines().take(1) {
+        printed.push_str(line)?;
+        printed.push_str("\n")?;
+    }
+    printed.push_str(TIMED_OUT)?;
+    assert!(rt; prints(rt.alloc(), script.as_str(), printed.as_str())?);
+    Ok(())
+}
