@@ -9,11 +9,13 @@ use Rattle.std.proofs.lemmas.List.Elements.{All-nil, All-cons}
 use Rattle.uri_map.specs.declared.peer.Peer.{Peer}
 use Rattle.ask_model.specs.Requests.{Sense, Requests, Refuses}
 use Rattle.ask_model.specs.Views.{Mapping}
-use Rattle.journal_book.specs.Entries.{Written, Hears, Opens, Seals, Passes, Shuts}
+use Rattle.journal_book.specs.Entries.{Written, Sends, Hears, Answers, Seals, Passes}
 use Rattle.history_laws.specs.declared.kept.Conn.{Conn}
 use Rattle.history_laws.specs.declared.kept.Exchange.{Exchange}
+use Rattle.exchange_core.specs.declared.fault.AskFault.{AskFault}
+use Rattle.exchange_core.specs.declared.fault.AskFault.TheVariants as AskFault
 use Rattle.exchange_core.specs.CoreValue.{CoreValue, Outgoing, sent_by, sendings, written}
-use Rattle.exchange_core.specs.Asking.{AnswersAtOnce, OpensExchange, AddsBy}
+use Rattle.exchange_core.specs.Asking.{AnswersAtOnce, OpensExchange, AddsBy, AddsAsk}
 use Rattle.exchange_core.specs.Hears.{AddsAnswer, SealsAt, HearsAt, HeardSo}
 use Rattle.exchange_core.specs.Steps.{with_sent, outgoing_by}
 use Rattle.exchange_core.specs.Ticking.{is_past, late_for, timeout_by, timeout_for, timeouts, HasPast, AnswersLate, takes_tick, EndsLate, SealsLate, KeepsLate}
@@ -46,15 +48,24 @@ asking (Requests q) a b t n conn m (inr w) = opens a b t n conn m q w.1
 hears-one : (a b : CoreValue) (t : ℕ) (p : Peer) (bytes : List ℕ) (sent : Option (List ℕ))
     → AddsAnswer t (with_sent t p sent (a.entries ++ written t (Hears p bytes) ∷ [])) a b
     → b.sends ≡ a.sends ++ option_to_list (outgoing_by p sent) → Advances a b
-hears-one a b t p bytes None (inl w) sends = record { more = _ ∷ []; entries = w.entries; sends = sends }
+hears-one a b t p bytes None (inl w) sends =
+    record { more = written t (Hears p bytes) ∷ []; entries = w.entries; sends = sends }
 hears-one a b t p bytes (Some s) (inl w) sends =
-    record { more = _ ∷ _ ∷ []; entries = w.entries ∙ append_assoc a.entries _ _; sends = sends }
+    let x = written t (Hears p bytes) in
+    let y = written t (Sends p s None) in
+    record { more = x ∷ y ∷ []; entries = w.entries ∙ append_assoc a.entries (x ∷ []) (y ∷ []); sends = sends }
 hears-one a b t p bytes None (inr w) sends =
-    record { more = _ ∷ _ ∷ []; entries = w.entries ∙ append_assoc a.entries _ _; sends = sends }
+    let x = written t (Hears p bytes) in
+    let z = written t (Answers w.conn w.given.ask w.given.found.grounds) in
+    record { more = x ∷ z ∷ []; entries = w.entries ∙ append_assoc a.entries (x ∷ []) (z ∷ []); sends = sends }
 hears-one a b t p bytes (Some s) (inr w) sends =
+    let x = written t (Hears p bytes) in
+    let y = written t (Sends p s None) in
+    let z = written t (Answers w.conn w.given.ask w.given.found.grounds) in
+    let front : (a.entries ++ x ∷ []) ++ y ∷ [] ≡ a.entries ++ x ∷ y ∷ [] = append_assoc a.entries (x ∷ []) (y ∷ []) in
     record {
-      more = _ ∷ _ ∷ _ ∷ [];
-      entries = w.entries ∙ ap (λ (h : List Written). h ++ _ ∷ []) (append_assoc a.entries _ _) ∙ append_assoc a.entries _ _;
+      more = x ∷ y ∷ z ∷ [];
+      entries = w.entries ∙ ap (λ (h : List Written). h ++ z ∷ []) front ∙ append_assoc a.entries (x ∷ y ∷ []) (z ∷ []);
       sends = sends;
     }
 
@@ -96,9 +107,9 @@ past-or-none t (e ∷ es) =
     elim (cases_Bool (is_past t e)) [
       | inl y ↦ inr (record { exchange = e; stands = (0, omega arith, refl); past = y })
       | inr n ↦ elim (past-or-none t es) [
-          | inl all ↦ inl (All-cons (λ (x : Exchange). is_past t x ≡ false) e es n all)
-          | inr w ↦ inr (record { exchange = w.exchange; stands = (suc w.stands.0, (let lt = w.stands.1 in omega (arith, lt)), w.stands.2); past = w.past })
-        ]
+        | inl all ↦ inl (All-cons (λ (x : Exchange). is_past t x ≡ false) e es n all)
+        | inr w ↦ inr (record { exchange = w.exchange; stands = (suc w.stands.0, (let lt = w.stands.1 in omega (arith, lt)), w.stands.2); past = w.past })
+      ]
     ]
 
 pub ticking : (a b : CoreValue) (t : ℕ) → (a.sealed ≡ false → All (λ (e : Exchange). is_past t e ≡ false) a.exchanges → b ≡ a)
@@ -109,10 +120,25 @@ ticking a b t early ends seals keeps =
     elim (cases_Bool a.sealed) [
       | inl y ↦ late-none a b t (keeps y).answers
       | inr n ↦ elim (past-or-none t a.exchanges) [
-          | inl all ↦ same-advances a b (early n all)
-          | inr w ↦ elim (cases_Bool (takes_tick t a)) [
-              | inl y ↦ late-one a b t (written t Passes) refl (ends n w y).answers
-              | inr no ↦ late-one a b t (written t Seals) refl (seals n w no).answers
-            ]
+        | inl all ↦ same-advances a b (early n all)
+        | inr w ↦ elim (cases_Bool (takes_tick t a)) [
+          | inl y ↦ late-one a b t (written t Passes) refl (ends n w y).answers
+          | inr no ↦ late-one a b t (written t Seals) refl (seals n w no).answers
         ]
+      ]
     ]
+
+-- what an ask may come to
+pub asked-advances : {X : Type 0} (r : Result X AskFault) (number : X → ℕ) (a b : CoreValue) (t conn : ℕ) (m : Mapping) (A B C D E F G H I : Type 0)
+    → IfOk r (λ x. AddsAsk t (number x) conn m a b)
+    → (r ≡ Err AskFault.Unknown → A × (b ≡ a))
+    → (r ≡ Err AskFault.Pending → B × (b ≡ a))
+    → (r ≡ Err AskFault.Sealed → C × ((D × (b ≡ a))
+    ⊎ (E × F × (b.entries ≡ a.entries ++ written t Seals ∷ []) × G × H × I × (b.sends ≡ a.sends))))
+    → (r ≡ Err AskFault.Memory → b ≡ a) → Advances a b
+asked-advances (Ok x) number a b t conn m A B C D E F G H I ok unknown pending sealed memory = asking m.sense a b t (number x) conn m ok
+asked-advances (Err AskFault.Unknown) number a b t conn m A B C D E F G H I ok unknown pending sealed memory = same-advances a b (unknown refl).1
+asked-advances (Err AskFault.Pending) number a b t conn m A B C D E F G H I ok unknown pending sealed memory = same-advances a b (pending refl).1
+asked-advances (Err AskFault.Sealed) number a b t conn m A B C D E F G H I ok unknown pending sealed memory =
+    elim (sealed refl).1 [ inl w ↦ same-advances a b w.1 | inr w ↦ one-advances a b (written t Seals) refl w.2 w.6 ]
+asked-advances (Err AskFault.Memory) number a b t conn m A B C D E F G H I ok unknown pending sealed memory = same-advances a b (memory refl)

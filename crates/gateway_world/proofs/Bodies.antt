@@ -1,6 +1,7 @@
 -- What the body of a request means.
-use Rattle.std.proofs.Common.{◌≡◌, ℕ, Bool, true, false, ◌==◌, List, [], ◌∷◌, length, Option, Some, None, codes, if◌then◌else◌, refl, inl, inr}
+use Rattle.std.proofs.Common.{◌≡◌, ℕ, Bool, true, false, ◌==◌, List, [], ◌∷◌, length, Option, Some, None, codes, if◌then◌else◌, refl, sym, ◌∙◌, arith, inl, inr}
 use Rattle.std.proofs.lemmas.Bool.{false≢true, true≢false}
+use Rattle.std.proofs.lemmas.Bool.Decides.{eqb_tells}
 use Rattle.media_map.specs.declared.form.Form.{Form}
 use Rattle.code_map.specs.declared.method.Method.{Method}
 use Rattle.code_map.specs.Methods.{request_code}
@@ -14,7 +15,11 @@ use Rattle.ask_model.specs.Maps.{MapsBody, typing_of, Untyped, Untypable, has_fi
 
 pub empty_untyped : (s : Rules) (r : HttpRequest) (body : List ℕ) → (length body == 0) ≡ true → typing_of s r body ≡ Untyped
 empty_untyped s r [] e = refl
-empty_untyped s r (b ∷ body) e = absurd (false≢true e)
+empty_untyped s r (b ∷ body) e =
+    elim (eqb_tells (length (b ∷ body)) 0) [
+      | inl w ↦ absurd (let z = w.1 in omega (arith, z))
+      | inr w ↦ absurd (false≢true (sym w.0 ∙ e))
+    ]
 
 pub typed_by_field : (s : Rules) (r : HttpRequest) (body : List ℕ) (b : Bool) → (length body == 0) ≡ false
     → b ≡ has_field (codes "content-type") r → typing_of s r body ≡ (if b then Untypable else Untyped)

@@ -1,5 +1,5 @@
 -- Steps follow one another.
-use Rattle.std.proofs.Common.{◌≡◌, ℕ, inl, inr, List, [], ◌∷◌, ◌++◌, length, Option, Some, None, Result, Ok, Err, refl, sym, ap, ◌∙◌}
+use Rattle.std.proofs.Common.{◌≡◌, ℕ, inl, inr, List, [], ◌∷◌, ◌++◌, length, Option, Some, None, Result, Ok, Err, OnOk, refl, sym, ap, ◌∙◌}
 use Rattle.std.specs.List.{All, slice_get}
 use Rattle.std.proofs.lemmas.Grind.{flat_map-append}
 use Rattle.std.proofs.lemmas.List.{append-nil, append_assoc}
@@ -101,7 +101,7 @@ goes-on a b c x y z first second =
     let m2 = second.gives.more in
     let grown : c.entries ≡ b.entries ++ m2 = second.gives.entries in
     let kept : All (IsTold c.entries) first.given =
-        rw grown (All-weaker (IsTold b.entries) (IsTold (b.entries ++ m2)) (told-more b.entries m2) first.given first.gives.told) in
+    rw grown (All-weaker (IsTold b.entries) (IsTold (b.entries ++ m2)) (told-more b.entries m2) first.given first.gives.told) in
     record {
       given = first.given ++ second.given;
       added = second.added ∙ ap (λ s. s ++ second.given) first.added ∙ append_assoc x first.given second.given;
@@ -127,3 +127,9 @@ grows-on h h1 h2 first second =
 pub leads-on : {X E : Type 0} (r : Result X E) (a b c : CoreValue) (x y z : List Output) → Goes a b x y → Leads r b c y z → Leads r a c x z
 leads-on (Ok v) a b c x y z first second = goes-on a b c x y z first second
 leads-on (Err e) a b c x y z first second = grows-on a.entries b.entries c.entries (goes-grow a b x y first) second
+
+-- telling something, which leaves the core as it is
+pub told-leads : {X E : Type 0} (r : Result X E) (c : CoreValue) (before after : List Output)
+    → ((h : List Written) → OnOk r (AddsTold h before after)) → Leads r c c before after
+told-leads (Ok v) c before after t = goes-telling c before after (t c.entries)
+told-leads (Err e) c before after t = ([], sym (append-nil c.entries))

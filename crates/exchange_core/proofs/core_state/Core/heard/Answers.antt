@@ -3,8 +3,6 @@ use Rattle.std.specs.Prelude.{count_by, option_map, is_some}
 use Rattle.std.specs.Arc.{arc_value}
 use Rattle.exchange_core.specs.Room.{is_pending}
 use Rattle.exchange_core.specs.Verdicts.{heard_by}
-use Rattle.exchange_core.specs.Steps.{outgoing_by}
-use Rattle.exchange_core.proofs.Unsent.{out-by}
 use Rattle.exchange_core.proofs.Stepping.{waits-kept, some-map, few-heard, kept-heard, answer-added, changes-shown, hears-shown}
 use Rattle.exchange_core.proofs.core_state.Core.heard.Goals as goal
 
@@ -27,7 +25,7 @@ invariant_of-self-2 g c =
     let s = c.self.inside in
     kept-heard s.journal.entries _ _ _ _ s.journal.room _ _ _ _ s.conns.items _ _ _ _
     s.sealed s.bytes _ s.last _ c.len-number.result (1 + c.added-entries.result.0) (length c.args.bytes.now + 64 + c.added-entries.result.1)
-    c.len-count.result c.pending_count-pending.result c.saturating_sub-waiting.result (map outgoing_of s.sends.items) _
+    c.len-count.result c.pending_count-pending.result c.saturating_sub-waiting.result s.taken
     c.args.peer c.args.bytes.now _ c.is_some-sends.result c.is_some-answers.result c.in_ok-verdict.verdict (option_map arc_value c.in_ok-sent.sent) c.in_ok-reader.reader c.in-Some.field-0
     s.outbox.waiting _ s.outbox.answers _
     c.self.invariant.0 c.self.invariant.1 c.if-self.false
@@ -44,7 +42,6 @@ invariant_of-self-2 g c =
     c.answer_reader.ensures.waiting c.answer_reader.ensures.answers
     c.in_ok-make_room.ensures.ok c.add.ensures.room c.send_confirmation.ensures.room c.answer_reader.ensures.room
     c.saturating_add-self-inside.ensures
-    (out-by s.sends.items _ _ c.in_ok-datagram.datagram (outgoing_by c.args.peer (option_map arc_value c.in_ok-sent.sent)) c.in_ok-reserve.ensures.items c.put_out.ensures c.in_ok-datagram.ensures)
 
 pub returns-clause-heard : goal.returns-clause-heard
 returns-clause-heard g c =
@@ -55,5 +52,4 @@ returns-clause-heard g c =
     (changes-shown s.journal.entries s.conns.items _ s.journal.room s.bytes s.last _ c.len-number.result c.args.peer c.args.bytes.now c.in_ok-verdict.verdict c.in-Some.field-0 s.sealed _
     c.self.invariant.0 c.if-self.false (omega (arith, c.max-moment.ensures)) (omega (arith, c.if-bytes-gt-DATAGRAM.false))
     (sym (rw (c.deref.ensures.value) at c.in-Some.ensures)) c.len-number.ensures
-    (rw (c.deref-2.ensures.value, c.deref-3.ensures.value) at c.in_ok-verdict.ensures) c.change_exchanges.ensures)
-    (out-by s.sends.items _ _ c.in_ok-datagram.datagram (outgoing_by c.args.peer (option_map arc_value c.in_ok-sent.sent)) c.in_ok-reserve.ensures.items c.put_out.ensures c.in_ok-datagram.ensures))
+    (rw (c.deref-2.ensures.value, c.deref-3.ensures.value) at c.in_ok-verdict.ensures) c.change_exchanges.ensures))

@@ -1,0 +1,6 @@
+-- A datagram adds its entry and what it leads to, or the seal.
+use Rattle.gateway_world.proofs.Advancing.{hearing}
+use Rattle.gateway_world.proofs.stepping.hear_in.Goals as goal
+
+pub returns : goal.returns
+returns g c = hearing _ _ _ c.args.peer c.args.bytes.now c.in_ok-heard.ensures.heard
