@@ -25,7 +25,7 @@ use Rattle.history_laws.proofs.Beginning.{IsNext, held_after, Agrees-begun}
 use Rattle.history_laws.proofs.Pending.{Distinct, conns-distinct}
 use Rattle.exchange_core.specs.Room.{is_pending, fits, takes, takes_first}
 use Rattle.exchange_core.specs.Tables.{HasIdle}
-use Rattle.exchange_core.specs.CoreValue.{written, CoreValue, CoreKept}
+use Rattle.exchange_core.specs.CoreValue.{Outgoing, written, CoreValue, CoreKept}
 use Rattle.exchange_core.proofs.Keeping.{fits-parts, fits-from, takes-fits}
 
 pend-others : (c : ℕ) (p : Option ℕ) (xs : List Conn) → All (λ (y : Conn). y.id ≢ c) xs → map (pend c p) xs ≡ xs
@@ -160,7 +160,7 @@ pub opens-exchange : (t n conn : ℕ) (m : Mapping) (q : CoapRequest) (old new :
     → new.entries ≡ (old.entries ++ written t (Asks conn (ask_of m)) ∷ []) ++ written t (Sends p b (Some wait)) ∷ []
     → new.conns ≡ map (pend conn (Some n)) old.conns
     → new.exchanges ≡ old.exchanges ++ record { opening = n; since = t; number = n + 1; peer = p; mid = mid; token = token; confirmed = false } ∷ []
-    → new.answers ≡ old.answers → new.sends ≡ old.sends ++ written t (Sends p b (Some wait)) ∷ []
+    → new.answers ≡ old.answers → new.sends ≡ old.sends ++ record { peer = p; bytes = b } ∷ []
     → OpensExchange t n conn m q old new
 opens-exchange t n conn m q old new p mid wait token b peer spelled room entries conns exchanges answers sends =
     record {
@@ -174,7 +174,7 @@ opens-exchange t n conn m q old new p mid wait token b peer spelled room entries
       conns = conns;
       exchanges = exchanges ∙ ap (λ (p : Peer). old.exchanges ++ record { opening = n; since = t; number = n + 1; peer = p; mid = mid; token = token; confirmed = false } ∷ []) peer;
       answers = answers;
-      sends = sends ∙ ap (λ (p : Peer). old.sends ++ written t (Sends p b (Some wait)) ∷ []) peer;
+      sends = sends ∙ ap (λ (p : Peer). old.sends ++ record { peer = p; bytes = b } ∷ []) peer;
     }
 
 -- the same of what the code has: the value before, the moment, and the request by another name
@@ -183,7 +183,7 @@ pub opens-so : (t tm n conn : ℕ) (m m1 : Mapping) (q : CoapRequest) (old new v
     → new.entries ≡ (v.entries ++ written tm (Asks conn (ask_of m1)) ∷ []) ++ written tm (Sends p b (Some wait)) ∷ []
     → new.conns ≡ map (pend conn (Some n)) v.conns
     → new.exchanges ≡ v.exchanges ++ record { opening = n; since = tm; number = n + 1; peer = p; mid = mid; token = token; confirmed = false } ∷ []
-    → new.answers ≡ v.answers → new.sends ≡ v.sends ++ written tm (Sends p b (Some wait)) ∷ []
+    → new.answers ≡ v.answers → new.sends ≡ v.sends ++ record { peer = p; bytes = b } ∷ []
     → OpensExchange t n conn m q old new
 opens-so t tm n conn m m1 q old new v p mid wait token b view time asked peer spelled room entries conns exchanges answers sends =
     let here = opens-exchange tm n conn m1 q v new p mid wait token b peer spelled room entries conns exchanges answers sends in

@@ -1,6 +1,8 @@
 -- Answers that are given, and asks that wait.
-use Rattle.std.proofs.Common.{◌≡◌, ◌≢◌, ℕ, zero, suc, ◌+◌, not, eqb, Bool, true, false, inl, inr, List, [], ◌∷◌, ◌++◌, length, map, Option, Some, None, refl, sym, ap, ◌∙◌, arith, length-append}
+use Rattle.std.proofs.Common.{◌≡◌, ◌≢◌, ℕ, zero, suc, ◌+◌, not, eqb, Bool, true, false, inl, inr, List, [], ◌∷◌, ◌++◌, length, map, Option, Some, None, refl, sym, ap, subst, ◌∙◌, length-append}
 use Rattle.std.specs.List.{All, Contains, filter, slice_get}
+use Rattle.std.proofs.lemmas.Grind.{flat_map-append}
+use Rattle.std.proofs.lemmas.List.{append-nil, append_assoc}
 use Rattle.std.proofs.lemmas.List.Elements.{All-push, All-weaker, All-filter, All-map, filter_passes}
 use Rattle.std.proofs.lemmas.Bool.{false≢true}
 use Rattle.std.proofs.lemmas.Bool.Decides.{eqb_tells}
@@ -14,7 +16,7 @@ use Rattle.history_laws.specs.declared.kept.Conn.{Conn}
 use Rattle.history_laws.specs.Kept.{pend, Held, Agrees}
 use Rattle.history_laws.proofs.Askers.{waits-apart}
 use Rattle.exchange_core.specs.Findings.{Told, Tells, Fails, Found}
-use Rattle.exchange_core.specs.CoreValue.{written, Answerable}
+use Rattle.exchange_core.specs.CoreValue.{Outgoing, sent_by, sendings, AreUnsent, written, Answerable}
 use Rattle.exchange_core.specs.Answering.{Given, Waited, HasWaited, IsWaited, IsKept, HeardAs, IsFound, IsGiven, refusal, without}
 
 pub slice_get-more : {X : Type 0} (xs : List X) (y : X) (n : ℕ) (x : X) → slice_get xs n ≡ Some x → slice_get (xs ++ y ∷ []) n ≡ Some x
@@ -58,28 +60,44 @@ waited-keeps h e ws all =
     All-weaker (IsWaited h) (IsWaited (h ++ e ∷ []))
     (λ w i. record { conn = i.conn; asked = i.asked; stands = slice_get-more h e _ _ i.stands }) ws all
 
+-- what an entry more sends, comes behind what isn't given out
+pub unsent-more : (h : List Written) (e : Written) (out : List Outgoing) → AreUnsent h out → AreUnsent (h ++ e ∷ []) (out ++ sent_by e.deed)
+unsent-more h e out u =
+    record {
+      given = u.given;
+      so = flat_map-append (λ (e : Written). sent_by e.deed) h (e ∷ [])
+          ∙ ap (λ (xs : List Outgoing). sendings h ++ xs) (append-nil (sent_by e.deed))
+          ∙ ap (λ (xs : List Outgoing). xs ++ sent_by e.deed) u.so
+          ∙ append_assoc u.given out (sent_by e.deed);
+    }
+
 -- one entry more, which is no matter of asks
-pub answerable-more : (h h1 : List Written) (e : Written) (cs : List Conn) (ws : List Waited) (gs : List Given) (n : ℕ)
-    → h1 ≡ h ++ e ∷ [] → Answerable h cs ws gs n → Answerable h1 cs ws gs n
-answerable-more h h1 e cs ws gs n is a =
-    let longer = length-append h (e ∷ []) in
-    let within = a.taken_so in
+pub answerable-sends : (h h1 : List Written) (e : Written) (cs : List Conn) (ws : List Waited) (gs : List Given) (out : List Outgoing)
+    → h1 ≡ h ++ e ∷ [] → Answerable h cs ws gs out → Answerable h1 cs ws gs (out ++ sent_by e.deed)
+answerable-sends h h1 e cs ws gs out is a =
     rw is (record {
       given = given-keeps h e gs a.given;
       asked = waited-keeps h e ws a.asked;
       kept = a.kept;
-      taken_so = omega (arith, longer, within);
+      unsent = unsent-more h e out a.unsent;
     })
 
-pub answerable-opened : (h h1 : List Written) (e : Written) (cs cs1 : List Conn) (c : ℕ) (ws : List Waited) (gs : List Given) (n : ℕ)
-    → h1 ≡ h ++ e ∷ [] → cs1 ≡ cs ++ record { id = c; pending = None } ∷ [] → Answerable h cs ws gs n → Answerable h1 cs1 ws gs n
-answerable-opened h h1 e cs cs1 c ws gs n is conns a =
-    let more = answerable-more h h1 e cs ws gs n is a in
+-- and which sends nothing
+pub answerable-more : (h h1 : List Written) (e : Written) (cs : List Conn) (ws : List Waited) (gs : List Given) (out : List Outgoing)
+    → sent_by e.deed ≡ [] → h1 ≡ h ++ e ∷ [] → Answerable h cs ws gs out → Answerable h1 cs ws gs out
+answerable-more h h1 e cs ws gs out quiet is a =
+    subst (λ (xs : List Outgoing). Answerable h1 cs ws gs xs) (ap (λ (xs : List Outgoing). out ++ xs) quiet ∙ append-nil out)
+    (answerable-sends h h1 e cs ws gs out is a)
+
+pub answerable-opened : (h h1 : List Written) (e : Written) (cs cs1 : List Conn) (c : ℕ) (ws : List Waited) (gs : List Given) (out : List Outgoing)
+    → sent_by e.deed ≡ [] → h1 ≡ h ++ e ∷ [] → cs1 ≡ cs ++ record { id = c; pending = None } ∷ [] → Answerable h cs ws gs out → Answerable h1 cs1 ws gs out
+answerable-opened h h1 e cs cs1 c ws gs out quiet is conns a =
+    let more = answerable-more h h1 e cs ws gs out quiet is a in
     rw conns (record {
       given = more.given;
       asked = more.asked;
       kept = All-push (λ (x : Conn). IsKept ws x.pending) cs (record { id = c; pending = None }) more.kept tt;
-      taken_so = more.taken_so;
+      unsent = more.unsent;
     })
 
 pub has-other : (ws : List Waited) (k n : ℕ) → k ≢ n → HasWaited ws k → HasWaited (filter (λ (w : Waited). not (eqb w.ask n)) ws) k
@@ -107,17 +125,17 @@ kept-more ws w None h = tt
 kept-more ws w (Some k) h = has-more ws w k h
 
 -- an ask that waits for its exchange, and the first sending behind it
-pub answerable-begun : (h h1 h2 h3 : List Written) (e1 e2 : Written) (conn asked n k : ℕ) (cs cs1 : List Conn) (m : Mapping) (ws ws1 ws2 : List Waited) (gs gs1 : List Given)
-    → Answerable h cs ws gs k → h1 ≡ h → n ≡ length h1 → h2 ≡ h1 ++ e1 ∷ [] → h3 ≡ h2 ++ e2 ∷ [] → e1 ≡ written asked (Asks conn (ask_of m))
-    → cs1 ≡ map (pend conn (Some n)) cs → ws1 ≡ ws → ws2 ≡ ws1 ++ record { ask = n; mapping = m } ∷ [] → gs1 ≡ gs
-    → Answerable h3 cs1 ws2 gs1 k
-answerable-begun h h1 h2 h3 e1 e2 conn asked n k cs cs1 m ws ws1 ws2 gs gs1 a is num is2 is3 entry conns w1 w2 g1 =
-    let one = answerable-more h1 h2 e1 cs ws gs k is2 (rw is a) in
-    let two = answerable-more h2 h3 e2 cs ws gs k is3 one in
+pub answerable-begun : (h h1 h2 h3 : List Written) (e1 e2 : Written) (conn asked n : ℕ) (out out1 : List Outgoing) (cs cs1 : List Conn) (m : Mapping) (ws ws1 ws2 : List Waited) (gs gs1 : List Given)
+    → Answerable h cs ws gs out → h1 ≡ h → n ≡ length h1 → h2 ≡ h1 ++ e1 ∷ [] → h3 ≡ h2 ++ e2 ∷ [] → e1 ≡ written asked (Asks conn (ask_of m))
+    → out1 ≡ out ++ sent_by e2.deed → cs1 ≡ map (pend conn (Some n)) cs → ws1 ≡ ws → ws2 ≡ ws1 ++ record { ask = n; mapping = m } ∷ [] → gs1 ≡ gs
+    → Answerable h3 cs1 ws2 gs1 out1
+answerable-begun h h1 h2 h3 e1 e2 conn asked n out out1 cs cs1 m ws ws1 ws2 gs gs1 a is num is2 is3 entry sent conns w1 w2 g1 =
+    let one = answerable-more h1 h2 e1 cs ws gs out (ap (λ (e : Written). sent_by e.deed) entry) is2 (rw is a) in
+    let two = answerable-sends h2 h3 e2 cs ws gs out is3 one in
     let new : Waited = record { ask = n; mapping = m } in
     let at_it : slice_get h2 n ≡ Some (written asked (Asks conn (ask_of m))) = rw (is2, num, ← entry) (slice_get-end h1 e1) in
     let waited : IsWaited h3 new = record { conn = conn; asked = asked; stands = rw is3 (slice_get-more h2 e2 n _ at_it) } in
-    rw (conns, w2, w1, g1) (record {
+    rw (sent, conns, w2, w1, g1) (record {
       given = two.given;
       asked = All-push (IsWaited h3) ws new two.asked waited;
       kept = All-map (λ (x : Conn). IsKept (ws ++ new ∷ []) x.pending) (pend conn (Some n)) cs
@@ -126,20 +144,20 @@ answerable-begun h h1 h2 h3 e1 e2 conn asked n k cs cs1 m ws ws1 ws2 gs gs1 a is
             | inl u ↦ rw (u.0) (has-new ws new)
             | inr u ↦ rw (u.0) (kept-more ws new x.pending w)
           ]) cs two.kept);
-      taken_so = two.taken_so;
+      unsent = two.unsent;
     })
 
 -- an ask that is answered in its own step
-pub answerable-at-once : (h h1 h2 h3 : List Written) (conn t n k : ℕ) (cause : Cause) (cs cs1 : List Conn) (m : Mapping) (ws ws1 ws2 : List Waited) (gs gs1 gs2 : List Given) (g : Given)
-    → Answerable h cs ws gs k → h1 ≡ h → n ≡ length h1
+pub answerable-at-once : (h h1 h2 h3 : List Written) (conn t n : ℕ) (out : List Outgoing) (cause : Cause) (cs cs1 : List Conn) (m : Mapping) (ws ws1 ws2 : List Waited) (gs gs1 gs2 : List Given) (g : Given)
+    → Answerable h cs ws gs out → h1 ≡ h → n ≡ length h1
     → h2 ≡ h1 ++ written t (Asks conn (ask_of m)) ∷ [] → h3 ≡ h2 ++ written t (Answers conn n (Fault cause n)) ∷ []
     → cs1 ≡ cs → ws1 ≡ ws → ws2 ≡ ws1 → gs1 ≡ gs → gs2 ≡ gs1 ++ g ∷ [] → g ≡ refusal n t m cause
-    → Answerable h3 cs1 ws2 gs2 k
-answerable-at-once h h1 h2 h3 conn t n k cause cs cs1 m ws ws1 ws2 gs gs1 gs2 g a is num is2 is3 conns w1 w2 g1 g2 this =
+    → Answerable h3 cs1 ws2 gs2 out
+answerable-at-once h h1 h2 h3 conn t n out cause cs cs1 m ws ws1 ws2 gs gs1 gs2 g a is num is2 is3 conns w1 w2 g1 g2 this =
     let asked : Written = written t (Asks conn (ask_of m)) in
     let answered : Written = written t (Answers conn n (Fault cause n)) in
-    let one = answerable-more h1 h2 asked cs ws gs k is2 (rw is a) in
-    let two = answerable-more h2 h3 answered cs ws gs k is3 one in
+    let one = answerable-more h1 h2 asked cs ws gs out refl is2 (rw is a) in
+    let two = answerable-more h2 h3 answered cs ws gs out refl is3 one in
     let size : length h2 ≡ n + 1 = rw (is2, num) (length-append h1 (asked ∷ [])) in
     let ask_at : slice_get h2 n ≡ Some asked = rw (is2, num) (slice_get-end h1 asked) in
     let here : slice_get h3 (n + 1) ≡ Some answered = rw (← size, is3) (slice_get-end h2 answered) in
@@ -154,7 +172,7 @@ answerable-at-once h h1 h2 h3 conn t n k cause cs cs1 m ws ws1 ws2 gs gs1 gs2 g 
       given = All-push (IsGiven h3) gs (refusal n t m cause) two.given last;
       asked = two.asked;
       kept = two.kept;
-      taken_so = two.taken_so;
+      unsent = two.unsent;
     })
 
 pub given-is : (n t : ℕ) (m m' : Mapping) (cause : Cause) (f : Found) → m' ≡ m → f ≡ record { told = Fails cause; grounds = Fault cause n }
@@ -174,11 +192,11 @@ asked-without : (h : List Written) (ws : List Waited) (q : Option ℕ) → All (
 asked-without h ws None all = all
 asked-without h ws (Some k) all = All-filter (λ (w : Waited). not (eqb w.ask k)) (IsWaited h) ws all
 
-pub answerable-shut : (h h1 : List Written) (e : Written) (cs cs1 : List Conn) (held : Held) (s : Bool) (last : ℕ) (x : Conn) (c : ℕ) (ws ws1 : List Waited) (gs gs1 : List Given) (n : ℕ)
-    → Agrees h cs held s last → Contains cs x → x.id ≡ c → h1 ≡ h ++ e ∷ [] → cs1 ≡ filter (λ (y : Conn). not (eqb y.id c)) cs
-    → ws1 ≡ without x.pending ws → gs1 ≡ gs → Answerable h cs ws gs n → Answerable h1 cs1 ws1 gs1 n
-answerable-shut h h1 e cs cs1 held s last x c ws ws1 gs gs1 n agrees has id is conns w1 g1 a =
-    let more = answerable-more h h1 e cs ws gs n is a in
+pub answerable-shut : (h h1 : List Written) (e : Written) (cs cs1 : List Conn) (held : Held) (s : Bool) (last : ℕ) (x : Conn) (c : ℕ) (ws ws1 : List Waited) (gs gs1 : List Given) (out : List Outgoing)
+    → Agrees h cs held s last → Contains cs x → x.id ≡ c → sent_by e.deed ≡ [] → h1 ≡ h ++ e ∷ [] → cs1 ≡ filter (λ (y : Conn). not (eqb y.id c)) cs
+    → ws1 ≡ without x.pending ws → gs1 ≡ gs → Answerable h cs ws gs out → Answerable h1 cs1 ws1 gs1 out
+answerable-shut h h1 e cs cs1 held s last x c ws ws1 gs gs1 out agrees has id quiet is conns w1 g1 a =
+    let more = answerable-more h h1 e cs ws gs out quiet is a in
     let stays : Conn → Type 0 = λ y. not (eqb y.id c) ≡ true in
     let keeps : Conn → Type 0 = λ y. IsKept ws y.pending in
     let apart : (k : ℕ) → x.pending ≡ Some k → All (λ (y : Conn). y.id ≢ x.id → y.pending ≢ Some k) cs =
@@ -194,5 +212,5 @@ answerable-shut h h1 e cs cs1 held s last x c ws ws1 gs gs1 n agrees has id is c
           (λ (y : Conn). IsKept (without x.pending ws) y.pending)
           (λ y w. kept-without ws y.pending x.pending (λ k waits. w.0.1 k waits (other y w.1)) w.0.0)
           _ (λ i d b. (All-filter _ (λ (y : Conn). keeps y × ((k : ℕ) → x.pending ≡ Some k → y.id ≢ x.id → y.pending ≢ Some k)) cs both i d b, filter_passes (λ (y : Conn). not (eqb y.id c)) cs i d b));
-      taken_so = more.taken_so;
+      unsent = more.unsent;
     })

@@ -22,7 +22,7 @@ use Rattle.exchange_core.specs.Room.{is_pending, fits, takes, held}
 use Rattle.exchange_core.specs.Tables.{HasIdle}
 use Rattle.exchange_core.specs.Answering.{Given, Waited, IsGiven, IsWaited, IsKept}
 use Rattle.exchange_core.specs.Asking.{IsAtOnce}
-use Rattle.exchange_core.specs.CoreValue.{written, CoreKept, Answerable}
+use Rattle.exchange_core.specs.CoreValue.{Outgoing, written, CoreKept, Answerable}
 use Rattle.exchange_core.proofs.Fewer.{others, fewer, no-more-wait, push-waits}
 
 le-true : (a b : ℕ) → nat_le a b ≡ true → a ≤ b
@@ -204,11 +204,11 @@ kept-at-once h h1 h2 h3 room room1 room2 room3 cs es s bytes bytes' last t n siz
     rw (e3, e2, e1, unsealed) now
 
 -- a core that is new
-pub kept-new : (h : List Written) (room : ℕ) (cs : List Conn) (es : List Exchange) (ks : List Known) (rs : List Remembered) (ws : List Waited) (gs : List Given)
-    → h ≡ [] → cs ≡ [] → es ≡ [] → ks ≡ [] → rs ≡ [] → ws ≡ [] → gs ≡ [] → 1 ≤ room
-    → CoreKept h room cs (record { exchanges = es; opened = 0; issued = 0; known = ks; heard = rs }) false 0 0 × Answerable h cs ws gs 0
-kept-new h room cs es ks rs ws gs e1 e2 e3 e4 e5 e6 e7 some =
-    rw (e1, e2, e3, e4, e5, e6, e7) (
+pub kept-new : (h : List Written) (room : ℕ) (cs : List Conn) (es : List Exchange) (ks : List Known) (rs : List Remembered) (ws : List Waited) (gs : List Given) (out : List Outgoing)
+    → h ≡ [] → cs ≡ [] → es ≡ [] → ks ≡ [] → rs ≡ [] → ws ≡ [] → gs ≡ [] → out ≡ [] → 1 ≤ room
+    → CoreKept h room cs (record { exchanges = es; opened = 0; issued = 0; known = ks; heard = rs }) false 0 0 × Answerable h cs ws gs out
+kept-new h room cs es ks rs ws gs out e1 e2 e3 e4 e5 e6 e7 e8 some =
+    rw (e1, e2, e3, e4, e5, e6, e7, e8) (
       kept-start room some,
-      record { given = All-nil (IsGiven []); asked = All-nil (IsWaited []); kept = All-nil (λ (x : Conn). IsKept [] x.pending); taken_so = omega arith },
+      record { given = All-nil (IsGiven []); asked = All-nil (IsWaited []); kept = All-nil (λ (x : Conn). IsKept [] x.pending); unsent = record { given = []; so = refl } },
     )

@@ -17,4 +17,6 @@ pub mod Recognising
 pub mod Deciding
 pub mod Listening
 pub mod Told
+pub mod Dropping
+mod Unsent
 pub mod Stepping

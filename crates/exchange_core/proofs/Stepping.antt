@@ -1,6 +1,6 @@
 -- What a core keeps behind a datagram that was heard.
 use Rattle.std.proofs.Common.{◌≡◌, ◌≢◌, ℕ, zero, suc, ◌+◌, ◌-◌, ◌*◌, ◌^◌, ◌<◌, ◌≤◌, min, Bool, true, false, cond, eqb, ◌⊎◌, inl, inr, List, [], ◌∷◌, ◌++◌, length, get_or, map, Option, Some, None, refl, sym, ap, subst, ◌∙◌, arith, length-append}
-use Rattle.std.specs.Prelude.{sum_by, count_by, is_some, option_map, IfSome}
+use Rattle.std.specs.Prelude.{sum_by, count_by, is_some, option_map, option_to_list, IfSome, Result, Ok, Err, OnErr}
 use Rattle.std.specs.List.{All, Contains}
 use Rattle.std.proofs.lemmas.List.{length-map}
 use Rattle.std.proofs.lemmas.List.Elements.{All-contains}
@@ -22,12 +22,14 @@ use Rattle.exchange_core.specs.declared.verdict.Ending.{Ending}
 use Rattle.exchange_core.specs.declared.verdict.Verdict.{Verdict}
 use Rattle.exchange_core.specs.declared.step.Reader.{Reader}
 use Rattle.exchange_core.specs.Room.{is_some_ask, is_pending, fits, takes, held}
-use Rattle.exchange_core.specs.CoreValue.{CoreValue, written, CoreKept, Answerable}
-use Rattle.exchange_core.specs.Answering.{Given, Waited, HasWaited, IsKept}
+use Rattle.exchange_core.specs.CoreValue.{Outgoing, CoreValue, written, CoreKept, Answerable}
+use Rattle.exchange_core.specs.Findings.{Found}
+use Rattle.exchange_core.specs.Answering.{Given, Waited, HasWaited, IsKept, answer_of}
 use Rattle.exchange_core.specs.Verdicts.{exchanges_by, heard_by, held_by, ended_by, IsVerdict}
-use Rattle.exchange_core.specs.Hears.{AddsAnswer, ChangesBy, HearsAt, HeardSo}
-use Rattle.exchange_core.specs.Steps.{one_if, IsConfirmation, with_sent, IsReader, with_answer, conns_by, waiting_by, AnswersBy}
-use Rattle.exchange_core.proofs.Keeping.{fits-parts, fits-from, takes-fits}
+use Rattle.exchange_core.specs.Hears.{AddsAnswer, ChangesBy, HearsAt, HasNoRoom, HeardSo}
+use Rattle.exchange_core.specs.Steps.{one_if, IsConfirmation, with_sent, outgoing_by, IsReader, with_answer, conns_by, waiting_by, AnswersBy}
+use Rattle.history_laws.specs.Limits.{MaySeal}
+use Rattle.exchange_core.proofs.Keeping.{fits-parts, fits-from, fits-not, takes-fits}
 use Rattle.exchange_core.proofs.Giving.{answerable-more}
 use Rattle.exchange_core.proofs.Listening.{verdict-amid, verdict-changes, confirmed-amid, answered-agrees}
 use Rattle.exchange_core.proofs.Told.{Tellable, verdict-told, told-sent, stands-sent, answerable-sent, answerable-told}
@@ -139,9 +141,9 @@ few-heard h h1 h2 h3 t e size count waiting p b due sent sb rb conf sb-is e-is r
     omega (arith, parts.0, by3.0, long, two, one, same, e-is)
 
 pub kept-heard : (h h1 h2 h3 h4 : List Written) (room room1 room2 room3 room4 : ℕ) (cs cs1 : List Conn) (tables : Held) (es1 : List Exchange) (rs1 : List Remembered)
-    (s : Bool) (bytes bytes' last t n e size count pending waiting taken : ℕ) (p : Peer) (b b1 : List ℕ) (sb rb : Bool) (v : Verdict) (sent : Option (List ℕ)) (r : Option Reader) (k : Known)
+    (s : Bool) (bytes bytes' last t n e size count pending waiting : ℕ) (out out1 : List Outgoing) (p : Peer) (b b1 : List ℕ) (sb rb : Bool) (v : Verdict) (sent : Option (List ℕ)) (r : Option Reader) (k : Known)
     (ws ws1 : List Waited) (gs gs1 : List Given)
-    → CoreKept h room cs tables s bytes last → Answerable h cs ws gs taken → s ≡ false → last ≤ t → t ≤ 2 ^ 62
+    → CoreKept h room cs tables s bytes last → Answerable h cs ws gs out → s ≡ false → last ≤ t → t ≤ 2 ^ 62
     → length b ≤ 2048 → known_of tables.known p ≡ Some k → n ≡ length h → IsVerdict t n p b tables.exchanges tables.heard v
     → IsConfirmation v.due sent → IsReader cs v.ending r
     → sb ≡ is_some sent → rb ≡ is_some r → b1 ≡ b
@@ -152,9 +154,9 @@ pub kept-heard : (h h1 h2 h3 h4 : List Written) (room room1 room2 room3 room4 : 
     → es1 ≡ exchanges_by v.change tables.exchanges → rs1 ≡ heard_by v.memory tables.heard → cs1 ≡ conns_by r cs
     → ws1 ≡ waiting_by r ws → AnswersBy t (length h3) r ws gs gs1
     → count + pending + 4 ≤ room1 → room2 + 1 ≡ room1 → room2 ≤ room3 + 1 → room3 ≤ room4 + 1
-    → bytes' ≡ min (bytes + size) (2 ^ 64 - 1)
-    → CoreKept h4 room4 cs1 (record tables { exchanges = es1; heard = rs1 }) s bytes' t × Answerable h4 cs1 ws1 gs1 taken
-kept-heard h h1 h2 h3 h4 room room1 room2 room3 room4 cs cs1 tables es1 rs1 s bytes bytes' last t n e size count pending waiting taken p b b1 sb rb v sent r k ws ws1 gs gs1 kept ans unsealed later early short known num verdict conf reader sb-is rb-is b-is cnt pend-is wait-is e-is size-is room-fits e1 e2 e3 e4 f1 f2 f3 g1 answers made less2 less3 less4 total =
+    → bytes' ≡ min (bytes + size) (2 ^ 64 - 1) → out1 ≡ out ++ option_to_list (outgoing_by p sent)
+    → CoreKept h4 room4 cs1 (record tables { exchanges = es1; heard = rs1 }) s bytes' t × Answerable h4 cs1 ws1 gs1 out1
+kept-heard h h1 h2 h3 h4 room room1 room2 room3 room4 cs cs1 tables es1 rs1 s bytes bytes' last t n e size count pending waiting out out1 p b b1 sb rb v sent r k ws ws1 gs gs1 kept ans unsealed later early short known num verdict conf reader sb-is rb-is b-is cnt pend-is wait-is e-is size-is room-fits e1 e2 e3 e4 f1 f2 f3 g1 answers made less2 less3 less4 total outs =
     let before : CoreKept h room cs tables false bytes last = subst (λ (s : Bool). CoreKept h room cs tables s bytes last) unsealed kept in
     let may : MayHear h cs tables last t p b = record { agrees = before.agrees; later = later; short = short; peer = k; known = known } in
     let x2 : List Written = h ++ written t (Hears p b) ∷ [] in
@@ -167,12 +169,13 @@ kept-heard h h1 h2 h3 h4 room room1 room2 room3 room4 cs cs1 tables es1 rs1 s by
     let agrees : Agrees x4 cs2 y false t = answered-agrees v.ending r t x3 cs y reader amid3 in
     let told2 : Tellable x2 v.ending = verdict-told h cs tables last t n p b v before.agrees num verdict in
     let told3 : Tellable x3 v.ending = told-sent x2 t p sent v.ending told2 in
-    let ans2 : Answerable x2 cs ws gs taken = answerable-more h x2 _ cs ws gs taken refl ans in
-    let ans3 : Answerable x3 cs ws gs taken = answerable-sent x2 t taken p sent cs ws gs ans2 in
+    let out2 : List Outgoing = out ++ option_to_list (outgoing_by p sent) in
+    let ans2 : Answerable x2 cs ws gs out = answerable-more h x2 _ cs ws gs out refl refl ans in
+    let ans3 : Answerable x3 cs ws gs out2 = answerable-sent x2 t out p sent cs ws gs ans2 in
     let three : h3 ≡ x3 = e3 ∙ ap (with_sent t p sent) (e2 ∙ ap (λ (b : List ℕ). h1 ++ written t (Hears p b) ∷ []) b-is ∙ ap (λ (h : List Written). h ++ written t (Hears p b) ∷ []) e1) in
     let number : length h3 ≡ length x3 = ap length three in
-    let ans4 : Answerable x4 cs2 (waiting_by r ws) gs1 taken =
-    answerable-told h x3 cs tables last t (length h3) taken v.ending r ws gs gs1 before.agrees ans.asked (stands-sent h _ t p sent) told3 number reader answers ans3 in
+    let ans4 : Answerable x4 cs2 (waiting_by r ws) gs1 out2 =
+    answerable-told h x3 cs tables last t (length h3) out2 v.ending r ws gs gs1 before.agrees ans.asked (stands-sent h _ t p sent) told3 number reader answers ans3 in
     let was = before.bytes_are refl in
     let fit : fits (length h + e) (bytes + size) count waiting ≡ true = sym (takes-fits h bytes e size count waiting was) ∙ room-fits in
     let parts = fits-parts (length h + e) (bytes + size) count waiting fit in
@@ -195,22 +198,42 @@ kept-heard h h1 h2 h3 h4 room room1 room2 room3 room4 cs cs1 tables es1 rs1 s by
           (omega (arith, parts.0, cnt, pend-is, wait-is, a2, fewer.0, fewer.1)) (omega (arith, parts.1, cnt, pend-is, wait-is, a2, fewer.0, fewer.1)));
       few = omega (arith, few, fewer.0);
       early = early;
+      short = omega (arith, parts.0, lengths, cnt, pend-is, wait-is, a2, fewer.0, fewer.1);
     } in
     let four : h4 ≡ x4 = e4 ∙ ap (with_answer t r) three in
-    rw (four, f1, f2, f3, g1, unsealed) (now, ans4)
+    rw (four, f1, f2, f3, g1, outs, unsealed) (now, ans4)
 
--- what the step shows
-answer-shown : (t : ℕ) (r : Option Reader) (h : List Written) → AddsAnswer t h (with_answer t r h)
-answer-shown t None h = inl refl
-answer-shown t (Some r) h = inr (r.conn, r.ask, grounds_of r.grounds, refl)
+-- what the step shows: an answer, or none
+reader-grounds : (cs : List Conn) (d : Ending) (r : Reader) → IsReader cs (Some d) (Some r) → grounds_of r.grounds ≡ r.finding.grounds
+reader-grounds cs d r is = is.2 ∙ ap (λ (f : Found). f.grounds) (sym is.3)
 
-pub answer-added : (t : ℕ) (p : Peer) (b b1 : List ℕ) (r : Option Reader) (sent : Option (List ℕ)) (h h1 h2 h3 h4 : List Written)
-    → b1 ≡ b → h1 ≡ h → h2 ≡ h1 ++ written t (Hears p b1) ∷ [] → h3 ≡ with_sent t p sent h2 → h4 ≡ with_answer t r h3
-    → AddsAnswer t (with_sent t p sent (h ++ written t (Hears p b) ∷ [])) h4
-answer-added t p b b1 r sent h h1 h2 h3 h4 b-is e1 e2 e3 e4 =
+answer-shown : (t n : ℕ) (cs : List Conn) (d : Option Ending) (r : Option Reader) (ws : List Waited) (h : List Written) (old new : CoreValue)
+    → IsReader cs d r → n ≡ length h → new.entries ≡ with_answer t r h → new.conns ≡ conns_by r old.conns → AnswersBy t n r ws old.answers new.answers
+    → AddsAnswer t h old new
+answer-shown t n cs d None ws h old new is num entries conns by = inl (record { entries = entries; conns = conns; answers = by })
+answer-shown t n cs None (Some r) ws h old new is num entries conns by = elim is [ ]
+answer-shown t n cs (Some d) (Some r) ws h old new is num entries conns by =
+    let w : Waited = by.0 in
+    inr (record {
+      conn = r.conn;
+      given = answer_of w (record { number = n; moment = t; heard = t }) r.finding;
+      entries = entries ∙ ap (λ (k : ℕ). h ++ written t (Answers r.conn k (grounds_of r.grounds)) ∷ []) (sym by.2)
+          ∙ ap (λ (g : Grounds). h ++ written t (Answers r.conn w.ask g) ∷ []) (reader-grounds cs d r is);
+      conns = conns;
+      answers = by.3;
+      number = num;
+      moment = refl;
+      heard = refl;
+    })
+
+pub answer-added : (t : ℕ) (p : Peer) (b b1 : List ℕ) (cs : List Conn) (d : Option Ending) (r : Option Reader) (ws : List Waited) (sent : Option (List ℕ)) (h h1 h2 h3 : List Written) (old new : CoreValue)
+    → IsReader cs d r → b1 ≡ b → h1 ≡ h → h2 ≡ h1 ++ written t (Hears p b1) ∷ [] → h3 ≡ with_sent t p sent h2
+    → new.entries ≡ with_answer t r h3 → new.conns ≡ conns_by r old.conns → AnswersBy t (length h3) r ws old.answers new.answers
+    → AddsAnswer t (with_sent t p sent (h ++ written t (Hears p b) ∷ [])) old new
+answer-added t p b b1 cs d r ws sent h h1 h2 h3 old new is b-is e1 e2 e3 entries conns by =
     let three : h3 ≡ with_sent t p sent (h ++ written t (Hears p b) ∷ []) =
     e3 ∙ ap (with_sent t p sent) (e2 ∙ ap (λ (b : List ℕ). h1 ++ written t (Hears p b) ∷ []) b-is ∙ ap (λ (h : List Written). h ++ written t (Hears p b) ∷ []) e1) in
-    rw (e4, three) (answer-shown t r (with_sent t p sent (h ++ written t (Hears p b) ∷ [])))
+    subst (λ (h : List Written). AddsAnswer t h old new) three (answer-shown t (length h3) cs d r ws h3 old new is refl entries conns by)
 
 pub changes-shown : (h : List Written) (cs : List Conn) (tables : Held) (room bytes last t n : ℕ) (p : Peer) (b : List ℕ) (v : Verdict) (k : Known) (s : Bool) (es1 : List Exchange)
     → CoreKept h room cs tables s bytes last → s ≡ false → last ≤ t → length b ≤ 2048 → known_of tables.known p ≡ Some k → n ≡ length h
@@ -222,8 +245,51 @@ changes-shown h cs tables room bytes last t n p b v k s es1 kept unsealed later 
     rw is (verdict-changes h cs tables last t n p b v may num verdict)
 
 pub hears-shown : (t t1 : ℕ) (p : Peer) (b : List ℕ) (old new : CoreValue) (sent : Option (List ℕ)) → t1 ≡ t → new.sealed ≡ false → new.moment ≡ t1
-    → AddsAnswer t1 (with_sent t1 p sent (old.entries ++ written t1 (Hears p b) ∷ [])) new.entries → ChangesBy p b old.exchanges new.exchanges
+    → AddsAnswer t1 (with_sent t1 p sent (old.entries ++ written t1 (Hears p b) ∷ [])) old new → ChangesBy p b old.exchanges new.exchanges
+    → new.sends ≡ old.sends ++ option_to_list (outgoing_by p sent)
     → HeardSo t p b old new
-hears-shown t t1 p b old new sent same unsealed moment entries exchanges =
+hears-shown t t1 p b old new sent same unsealed moment answer exchanges sends =
     inr (inr (subst (λ (t : ℕ). HearsAt t p b old new) same
-    (record { unsealed = unsealed; moment = moment; sent = sent; entries = entries; exchanges = exchanges })))
+    (record { unsealed = unsealed; moment = moment; sent = sent; answer = answer; exchanges = exchanges; sends = sends })))
+
+-- there was no room
+pub no-room : (b : List ℕ) (v : CoreValue) (sb rb refused : Bool) (e size count pending waiting : ℕ) → refused ≡ takes v.entries e size count waiting → refused ≡ false
+    → e ≡ 1 + (one_if sb + one_if rb) → size ≡ length b + 64 + 68 * (one_if sb + one_if rb) → count ≡ length v.conns → pending ≡ count_by is_pending v.conns
+    → waiting ≡ pending - one_if rb → HasNoRoom b v
+no-room b v sb rb refused e size count pending waiting is full e-is size-is cnt pend-is wait-is =
+    record {
+      confirmations = one_if sb;
+      answers = one_if rb;
+      one_at_most = one-at-most sb;
+      one_answer_at_most = one-at-most rb;
+      room = rw (← cnt, ← pend-is, ← wait-is, ← e-is, ← size-is) (sym is ∙ full);
+    }
+
+-- and so it may be sealed
+pub heard-seals : (h : List Written) (b count waiting : ℕ) (sb rb : Bool) (e size : ℕ) → takes h e size count waiting ≡ false
+    → e ≡ 1 + (one_if sb + one_if rb) → size ≡ b + 64 + 68 * (one_if sb + one_if rb) → b ≤ 2048 → count ≤ 256 → waiting ≤ count → MaySeal h
+heard-seals h b count waiting sb rb e size refused e-is size-is short few some =
+    let one = one-at-most sb in
+    let two = one-at-most rb in
+    elim (fits-not (length h + e) (sum_by entry_size h + size) count waiting refused) [
+      | inl w ↦ inl (omega (arith, w, e-is, one, two, few, some))
+      | inr w ↦ inr (omega (arith, w, size-is, one, two, short, few, some))
+    ]
+
+pub on-err : {A E : Type 0} (r : Result A E) (P : Type 0) → P → OnErr r P
+on-err (Ok x) P p = tt
+on-err (Err e) P p = p
+
+pub seals-shown : (t t1 : ℕ) (p : Peer) (b : List ℕ) (old new : CoreValue) → t1 ≡ t → HasNoRoom b old → new.sealed ≡ true
+    → new.entries ≡ old.entries ++ written t1 Seals ∷ [] → new.conns ≡ old.conns → new.exchanges ≡ old.exchanges → new.answers ≡ old.answers → new.sends ≡ old.sends
+    → HeardSo t p b old new
+seals-shown t t1 p b old new same room sealed entries conns exchanges answers sends =
+    inr (inl (record {
+      room = room;
+      sealed = sealed;
+      entries = rw (← same) entries;
+      conns = conns;
+      exchanges = exchanges;
+      answers = answers;
+      sends = sends;
+    }))

@@ -15,11 +15,10 @@ use Rattle.history_laws.proofs.Amidst.{Amid-done}
 use Rattle.history_laws.proofs.Lateness.{Amid-passed, Amid-late}
 use Rattle.exchange_core.specs.Room.{is_some_ask, is_pending, fits, takes, held}
 use Rattle.exchange_core.specs.Answering.{Given, Waited}
-use Rattle.exchange_core.specs.CoreValue.{written, CoreValue, CoreKept, Answerable, is_sending, sends_behind}
+use Rattle.exchange_core.specs.CoreValue.{written, CoreValue, CoreKept, Answerable, Outgoing}
 use Rattle.exchange_core.specs.Ticking.{is_past, late_for, is_due, timeout_by, timeout_for, timeouts, timed_by, timed, going, due_count, late_end, moment_after, takes_tick, AddsAnswers, SealsLate, Midway}
 use Rattle.exchange_core.proofs.Giving.{answerable-more}
 use Rattle.exchange_core.proofs.Keeping.{fits-parts, fits-from, fits-not, takes-fits}
-use Rattle.exchange_core.proofs.Showing.{sends-quiet}
 use Rattle.exchange_core.proofs.Lates.{IsLate, late-is, none-waits}
 
 abbrev one_for : Bool → ℕ
@@ -69,32 +68,20 @@ waits-less t es (x ∷ cs) =
     let left = sum_by-cons (λ (x : Conn). cond (is_pending x) 1 0) (timed t es x) (map (timed t es) cs) in
     omega (arith, rest, one, sum, whole, left)
 
--- none of them is a sending
-one-quiet : (n t : ℕ) (h : List Written) (x : Conn) (o : Option Exchange) → sends_behind n (h ++ timeout_by t x o) ≡ sends_behind n h
-one-quiet n t h x None = ap (sends_behind n) (append-nil h)
-one-quiet n t h x (Some e) = sends-quiet n h _ refl
-
-pub timeouts-quiet : (n t : ℕ) (es : List Exchange) (h : List Written) (cs : List Conn) → sends_behind n (h ++ timeouts t es cs) ≡ sends_behind n h
-timeouts-quiet n t es h [] = ap (sends_behind n) (append-nil h)
-timeouts-quiet n t es h (x ∷ cs) =
-    ap (sends_behind n) (sym (append_assoc h (timeout_for t es x) (timeouts t es cs)))
-    ∙ timeouts-quiet n t es (h ++ timeout_for t es x) cs
-    ∙ one-quiet n t h x (late_for t es x)
-
 -- the start of a tick, whose entry is written
-pub midway-passed : (h h1 h2 : List Written) (room room1 room2 : ℕ) (cs : List Conn) (tables : Held) (s : Bool) (bytes last t n count pending more size : ℕ) (ws : List Waited) (gs : List Given)
+pub midway-passed : (h h1 h2 : List Written) (room room1 room2 : ℕ) (cs : List Conn) (tables : Held) (s : Bool) (bytes last t count pending more size : ℕ) (n : List Outgoing) (ws : List Waited) (gs : List Given)
     → CoreKept h room cs tables s bytes last → Answerable h cs ws gs n → s ≡ false → last ≤ t
     → count ≡ length cs → pending ≡ count_by is_pending cs → more ≡ due_count t tables.exchanges cs
     → takes h (1 + more) size count (pending - more) ≡ true
     → h1 ≡ h → h2 ≡ h1 ++ written t Passes ∷ [] → count + pending + 2 ≤ room1 → room2 + 1 ≡ room1
     → Midway t tables.exchanges (record tables { exchanges = going t tables.exchanges }) s n h2 room2 cs t ws gs
-midway-passed h h1 h2 room room1 room2 cs tables s bytes last t n count pending more size ws gs k a unsealed later cnt wait due room-fits e1 e2 made less =
+midway-passed h h1 h2 room room1 room2 cs tables s bytes last t count pending more size n ws gs k a unsealed later cnt wait due room-fits e1 e2 made less =
     let before : CoreKept h room cs tables false bytes last = subst (λ (s : Bool). CoreKept h room cs tables s bytes last) unsealed k in
     let parts = fits-parts (length h + (1 + more)) (sum_by entry_size h + size) count (pending - more) room-fits in
     let longer = length-append h (written t Passes ∷ []) in
     let now : Midway t tables.exchanges (record tables { exchanges = going t tables.exchanges }) false n (h ++ written t Passes ∷ []) room2 cs t ws gs = record {
       amid = Amid-passed t h cs tables last before.agrees later;
-      answerable = answerable-more h (h ++ written t Passes ∷ []) (written t Passes) cs ws gs n refl a;
+      answerable = answerable-more h (h ++ written t Passes ∷ []) (written t Passes) cs ws gs n refl refl a;
       later = omega arith;
       room_held = omega (arith, made, less, cnt, wait);
       short = omega (arith, parts.0, cnt, wait, longer);
@@ -102,7 +89,7 @@ midway-passed h h1 h2 room room1 room2 cs tables s bytes last t n count pending 
     rw (e2, e1, unsealed) now
 
 -- and in a journal that was sealed
-pub midway-sealed : (h : List Written) (room : ℕ) (cs : List Conn) (tables : Held) (s : Bool) (bytes last t n : ℕ) (ws : List Waited) (gs : List Given)
+pub midway-sealed : (h : List Written) (room : ℕ) (cs : List Conn) (tables : Held) (s : Bool) (bytes last t : ℕ) (n : List Outgoing) (ws : List Waited) (gs : List Given)
     → CoreKept h room cs tables s bytes last → Answerable h cs ws gs n → s ≡ true → last ≤ t
     → Midway t tables.exchanges tables s n h room cs last ws gs
 midway-sealed h room cs tables s bytes last t n ws gs k a sealed later =
@@ -117,12 +104,12 @@ midway-sealed h room cs tables s bytes last t n ws gs k a sealed later =
     rw sealed now
 
 -- Behind all answers, nobody waits for one that is late.
-agrees-ticked : (t : ℕ) (es : List Exchange) (tables : Held) (s : Bool) (n : ℕ) (h : List Written) (room : ℕ) (cs0 cs : List Conn) (last : ℕ) (ws : List Waited) (gs : List Given)
+agrees-ticked : (t : ℕ) (es : List Exchange) (tables : Held) (s : Bool) (n : List Outgoing) (h : List Written) (room : ℕ) (cs0 cs : List Conn) (last : ℕ) (ws : List Waited) (gs : List Given)
     → Midway t es tables s n h room cs last ws gs → cs ≡ map (timed t es) cs0 → Agrees h cs tables s last
 agrees-ticked t es tables s n h room cs0 cs last ws gs m is =
     Amid-done (map late_end (filter (is_past t) es)) t h cs tables s last m.amid (rw is (none-waits t es cs0))
 
-pub kept-ticked : (h h1 h2 h3 : List Written) (room room3 : ℕ) (cs cs3 : List Conn) (tables : Held) (s : Bool) (bytes bytes' last last3 t n count pending more size : ℕ) (ws3 : List Waited) (gs3 : List Given) (es3 : List Exchange)
+pub kept-ticked : (h h1 h2 h3 : List Written) (room room3 : ℕ) (cs cs3 : List Conn) (tables : Held) (s : Bool) (bytes bytes' last last3 t count pending more size : ℕ) (n : List Outgoing) (ws3 : List Waited) (gs3 : List Given) (es3 : List Exchange)
     → CoreKept h room cs tables s bytes last → s ≡ false → t ≤ 2 ^ 62
     → count ≡ length cs → pending ≡ count_by is_pending cs → more ≡ due_count t tables.exchanges cs
     → takes h (1 + more) size count (pending - more) ≡ true → size ≡ 64 + 68 * more
@@ -130,7 +117,7 @@ pub kept-ticked : (h h1 h2 h3 : List Written) (room room3 : ℕ) (cs cs3 : List 
     → Midway t tables.exchanges (record tables { exchanges = going t tables.exchanges }) s n h3 room3 cs3 last3 ws3 gs3
     → es3 ≡ going t tables.exchanges → bytes' ≡ min (bytes + size) (2 ^ 64 - 1)
     → CoreKept h3 room3 cs3 (record tables { exchanges = es3 }) s bytes' last3
-kept-ticked h h1 h2 h3 room room3 cs cs3 tables s bytes bytes' last last3 t n count pending more size ws3 gs3 es3 k unsealed early cnt wait due room-fits sized e1 e2 e3 f3 m went b =
+kept-ticked h h1 h2 h3 room room3 cs cs3 tables s bytes bytes' last last3 t count pending more size n ws3 gs3 es3 k unsealed early cnt wait due room-fits sized e1 e2 e3 f3 m went b =
     let es = tables.exchanges in
     let was = k.bytes_are unsealed in
     let fit : fits (length h + (1 + more)) (bytes + size) count (pending - more) ≡ true = sym (takes-fits h bytes (1 + more) size count (pending - more) was) ∙ room-fits in
@@ -163,7 +150,7 @@ kept-ticked h h1 h2 h3 room room3 cs cs3 tables s bytes bytes' last last3 t n co
     } in
     rw went kept
 
-pub kept-late : (h h1 : List Written) (room room1 : ℕ) (cs cs1 : List Conn) (tables : Held) (s : Bool) (bytes last last1 t n : ℕ) (ws1 : List Waited) (gs1 : List Given)
+pub kept-late : (h h1 : List Written) (room room1 : ℕ) (cs cs1 : List Conn) (tables : Held) (s : Bool) (bytes last last1 t : ℕ) (n : List Outgoing) (ws1 : List Waited) (gs1 : List Given)
     → CoreKept h room cs tables s bytes last → s ≡ true → t ≤ 2 ^ 62 → cs1 ≡ map (timed t tables.exchanges) cs
     → Midway t tables.exchanges tables s n h1 room1 cs1 last1 ws1 gs1
     → CoreKept h1 room1 cs1 tables s bytes last1
@@ -194,18 +181,13 @@ tick-seals h cs count pending more size few cnt wait le sized refused =
 pub due-fewer : (t : ℕ) (es : List Exchange) (cs : List Conn) → due_count t es cs ≤ count_by is_pending cs
 due-fewer t es cs = let less = waits-less t es cs in omega (arith, less)
 
--- what a tick shows: its entries, its moment, and what isn't sent
+-- what a tick shows: its entries and its moment
 pub entries-passed : (h h1 h2 h3 xs : List Written) (e : Written) → h1 ≡ h → h2 ≡ h1 ++ e ∷ [] → h3 ≡ h2 ++ xs → h3 ≡ (h ++ e ∷ []) ++ xs
 entries-passed h h1 h2 h3 xs e e1 e2 e3 = e3 ∙ ap (λ (h : List Written). h ++ xs) (e2 ∙ ap (λ (h : List Written). h ++ e ∷ []) e1)
 
 pub moment-same : (t : ℕ) (xs : List Written) → moment_after t t xs ≡ t
 moment-same t [] = refl
 moment-same t (x ∷ xs) = refl
-
-pub sends-passed : (n t : ℕ) (es : List Exchange) (h h3 : List Written) (cs : List Conn) → h3 ≡ (h ++ written t Passes ∷ []) ++ timeouts t es cs
-    → sends_behind n h3 ≡ sends_behind n h
-sends-passed n t es h h3 cs e =
-    ap (sends_behind n) e ∙ timeouts-quiet n t es (h ++ written t Passes ∷ []) cs ∙ sends-quiet n h (written t Passes) refl
 
 -- a tick that seals
 pub ticked-sealed : (t : ℕ) (v v1 v2 : CoreValue) → v1.entries ≡ v.entries ++ written t Seals ∷ [] → v1.conns ≡ v.conns → v1.exchanges ≡ v.exchanges

@@ -25,9 +25,9 @@ use Rattle.history_laws.proofs.Readers.{late-found, pend-at, Amid-distinct, pend
 use Rattle.exchange_core.specs.Room.{is_some_ask, is_pending, held}
 use Rattle.exchange_core.specs.Findings.{Fails}
 use Rattle.exchange_core.specs.Answering.{Given, Waited, IsWaited, IsKept, IsGiven, answer_of}
-use Rattle.exchange_core.specs.CoreValue.{written, Answerable}
+use Rattle.exchange_core.specs.CoreValue.{Outgoing, written, Answerable}
 use Rattle.exchange_core.specs.Ticking.{is_past, late_for, late_end, timeout_by, timeout_for, timeouts, timed_by, timed, moment_after, IsTimeout, AreTimeouts, AddsAnswers, Midway, Answered, Turns}
-use Rattle.exchange_core.proofs.Giving.{slice_get-more, slice_get-end, given-keeps, waited-keeps, kept-other}
+use Rattle.exchange_core.proofs.Giving.{answerable-more, slice_get-more, slice_get-end, given-keeps, waited-keeps, kept-other}
 use Rattle.exchange_core.proofs.Lates.{IsLate, late-is}
 
 as-many : (l : List Noted) → length (entries l) ≡ length l
@@ -87,7 +87,7 @@ kept-answered ds t h cs tables s last x k ws amid has waits all =
       | inr u ↦ rw (u.0) (kept-other ws y.pending k (λ same. u.1 (pending-apart None ds t h cs tables s last y x k amid w.1 has same waits)) w.0)
     ]) cs (λ i d lt. (all i d lt, among i d lt)))
 
-answerable-late : (ds : List Ended) (t : ℕ) (h : List Written) (cs : List Conn) (tables : Held) (s : Bool) (last n : ℕ) (x : Conn) (e : Exchange) (w : Waited) (ws : List Waited) (gs : List Given)
+answerable-late : (ds : List Ended) (t : ℕ) (h : List Written) (cs : List Conn) (tables : Held) (s : Bool) (last : ℕ) (n : List Outgoing) (x : Conn) (e : Exchange) (w : Waited) (ws : List Waited) (gs : List Given)
     → Amid None ds t h cs tables s last → Answerable h cs ws gs n → Contains cs x → x.pending ≡ Some e.opening → Contains ws w → w.ask ≡ e.opening
     → Answerable (h ++ written t (Answers x.id e.opening (Fault Timeout e.number)) ∷ []) (map (pend x.id None) cs)
     (filter (λ (v : Waited). not (eqb v.ask e.opening)) ws)
@@ -95,8 +95,6 @@ answerable-late : (ds : List Ended) (t : ℕ) (h : List Written) (cs : List Conn
 answerable-late ds t h cs tables s last n x e w ws gs amid a has waits there is =
     let entry : Written = written t (Answers x.id e.opening (Fault Timeout e.number)) in
     let h1 : List Written = h ++ entry ∷ [] in
-    let longer : length h1 ≡ length h + 1 = length-append h (entry ∷ []) in
-    let within = a.taken_so in
     let i : IsWaited h w = All-contains (IsWaited h) ws w a.asked there in
     let stood : slice_get h e.opening ≡ Some (written i.asked (Asks i.conn (ask_of w.mapping))) =
     subst (λ (k : ℕ). slice_get h k ≡ Some (written i.asked (Asks i.conn (ask_of w.mapping)))) is i.stands in
@@ -116,7 +114,7 @@ answerable-late ds t h cs tables s last n x e w ws gs amid a has waits there is 
       given = All-push (IsGiven h1) gs g (given-keeps h entry gs a.given) given;
       asked = All-filter (λ (v : Waited). not (eqb v.ask e.opening)) (IsWaited h1) ws (waited-keeps h entry ws a.asked);
       kept = kept-answered ds t h cs tables s last x e.opening ws amid has waits a.kept;
-      taken_so = omega (arith, longer, within);
+      unsent = (answerable-more h h1 entry cs ws gs n refl refl a).unsent;
     }
 
 abbrev one_for : Bool → ℕ
@@ -145,7 +143,7 @@ held-some true c p room a = omega arith
 held-some false c p room a = omega arith
 
 -- there is room for the answer to one that waits
-pub midway-room : (t : ℕ) (es : List Exchange) (tables : Held) (s : Bool) (n : ℕ) (h : List Written) (room : ℕ) (cs : List Conn) (last : ℕ) (ws : List Waited) (gs : List Given) (i : ℕ) (x : Conn)
+pub midway-room : (t : ℕ) (es : List Exchange) (tables : Held) (s : Bool) (n : List Outgoing) (h : List Written) (room : ℕ) (cs : List Conn) (last : ℕ) (ws : List Waited) (gs : List Given) (i : ℕ) (x : Conn)
     → Midway t es tables s n h room cs last ws gs → i < length cs → x ≡ get_or cs i x → is_pending x ≡ true
     → (0 < room) × (length h < 65536)
 midway-room t es tables s n h room cs last ws gs i x m lt is waits =
@@ -155,7 +153,7 @@ midway-room t es tables s n h room cs last ws gs i x m lt is waits =
     let short = m.short in
     (omega (arith, sum, one, some), omega (arith, sum, one, short))
 
-turned-late : (t : ℕ) (es : List Exchange) (tables : Held) (s : Bool) (n : ℕ) (h h1 : List Written) (room room1 : ℕ) (cs cs1 : List Conn) (i : ℕ) (x y : Conn) (e : Exchange) (last last1 : ℕ) (ws ws1 : List Waited) (gs gs1 : List Given)
+turned-late : (t : ℕ) (es : List Exchange) (tables : Held) (s : Bool) (n : List Outgoing) (h h1 : List Written) (room room1 : ℕ) (cs cs1 : List Conn) (i : ℕ) (x y : Conn) (e : Exchange) (last last1 : ℕ) (ws ws1 : List Waited) (gs gs1 : List Given)
     → Midway t es tables s n h room cs last ws gs → i < length cs → x ≡ get_or cs i x → cs1 ≡ set cs i y → late_for t es x ≡ Some e
     → Answered t e x y h h1 room room1 last1 ws ws1 gs gs1
     → Midway t es tables s n h1 room1 cs1 last1 ws1 gs1
@@ -184,7 +182,7 @@ turned-late t es tables s n h h1 room room1 cs cs1 i x y e last last1 ws ws1 gs 
     } in
     rw (w.entries, mapped, w.moment, w.waiting, w.answers.3) made
 
-pub turned : (t : ℕ) (es : List Exchange) (tables : Held) (s : Bool) (n : ℕ) (h h1 : List Written) (room room1 : ℕ) (cs cs1 : List Conn) (i : ℕ) (x y : Conn) (last last1 : ℕ) (ws ws1 : List Waited) (gs gs1 : List Given)
+pub turned : (t : ℕ) (es : List Exchange) (tables : Held) (s : Bool) (n : List Outgoing) (h h1 : List Written) (room room1 : ℕ) (cs cs1 : List Conn) (i : ℕ) (x y : Conn) (last last1 : ℕ) (ws ws1 : List Waited) (gs gs1 : List Given)
     → Midway t es tables s n h room cs last ws gs → i < length cs → x ≡ get_or cs i x → cs1 ≡ set cs i y
     → Turns t (late_for t es x) x y h h1 room room1 last last1 ws ws1 gs gs1
     → Midway t es tables s n h1 room1 cs1 last1 ws1 gs1
@@ -253,7 +251,7 @@ answers-more t n (Some e) x y h h1 room room1 last last1 ws ws1 gs0 gs gs1 es w 
 
 -- what the loop over the connections has come to at one of them
 pub record SoFar (t : ℕ) (es : List Exchange) (i : ℕ) (h0 h : List Written) (r0 room : ℕ) (cs0 cs : List Conn) (last0 last : ℕ) (ws0 ws : List Waited) (gs0 gs : List Given) : Type 0 where
-  pub midway : (tables : Held) (s : Bool) (n : ℕ) → Midway t es tables s n h0 r0 cs0 last0 ws0 gs0 → Midway t es tables s n h room cs last ws gs
+  pub midway : (tables : Held) (s : Bool) (n : List Outgoing) → Midway t es tables s n h0 r0 cs0 last0 ws0 gs0 → Midway t es tables s n h room cs last ws gs
   pub entries_are : h ≡ h0 ++ timeouts t es (take i cs0)
   pub conns_are : cs ≡ map (timed t es) (take i cs0) ++ drop i cs0
   pub moment_is : last ≡ moment_after t last0 (timeouts t es (take i cs0))

@@ -1,7 +1,8 @@
 -- What the readers of an exchange that ends are told.
 use Rattle.std.proofs.Common.{◌≡◌, ◌≢◌, ℕ, zero, suc, ◌+◌, ◌*◌, ◌<◌, ◌≤◌, Bool, true, false, cond, not, eqb, inl, inr, List, [], ◌∷◌, ◌++◌, length, map, Option, Some, None, refl, sym, ap, subst, ◌∙◌, arith, length-append}
-use Rattle.std.specs.Prelude.{⊤}
+use Rattle.std.specs.Prelude.{⊤, option_to_list}
 use Rattle.std.specs.List.{All, Contains, filter, slice_get}
+use Rattle.std.proofs.lemmas.List.{append-nil}
 use Rattle.std.proofs.lemmas.List.Elements.{All-push, All-map, All-weaker, All-filter, All-contains, All-contains_itself}
 use Rattle.std.proofs.lemmas.Bool.Decides.{eqb_tells}
 use Rattle.coap_codec.specs.Spelling.{Content, Spells}
@@ -28,11 +29,11 @@ use Rattle.exchange_core.specs.declared.verdict.Ending.{Ending}
 use Rattle.exchange_core.specs.declared.verdict.Verdict.{Verdict}
 use Rattle.exchange_core.specs.declared.step.Reader.{Reader}
 use Rattle.exchange_core.specs.Findings.{Found, Tells, Fails}
-use Rattle.exchange_core.specs.CoreValue.{written, Answerable}
+use Rattle.exchange_core.specs.CoreValue.{Outgoing, written, Answerable}
 use Rattle.exchange_core.specs.Answering.{Given, Waited, HasWaited, IsWaited, IsKept, HeardAs, IsFound, IsGiven, answer_of}
 use Rattle.exchange_core.specs.Verdicts.{found_by, Turns, IsVerdict}
-use Rattle.exchange_core.specs.Steps.{with_sent, IsReader as IsReaderOf, with_answer, conns_by, waiting_by, AnswersBy}
-use Rattle.exchange_core.proofs.Giving.{slice_get-more, slice_get-end, given-keeps, waited-keeps, found-keeps, kept-other, answerable-more}
+use Rattle.exchange_core.specs.Steps.{with_sent, outgoing_by, IsReader as IsReaderOf, with_answer, conns_by, waiting_by, AnswersBy}
+use Rattle.exchange_core.proofs.Giving.{slice_get-more, slice_get-end, given-keeps, waited-keeps, found-keeps, kept-other, answerable-sends, answerable-more}
 
 -- what an exchange that ends came to: the outcome is what the entries that the grounds name say
 abbrev pub Tellable : List Written → Option Ending → Type 0
@@ -73,7 +74,7 @@ verdict-told h cs held last t n p b v a num (inr (m, spelled, inr (new, g))) =
     turns-told h1 h cs held last t n p b m v.change v.ending a stands spelled g.turns
 
 -- what stands in a reading, stands in its entries
-at-entries : (l : List Noted) (n : ℕ) (x : Noted) → at l n ≡ Some x → slice_get (entries l) n ≡ Some x.written
+pub at-entries : (l : List Noted) (n : ℕ) (x : Noted) → at l n ≡ Some x → slice_get (entries l) n ≡ Some x.written
 at-entries [] n x e = cc
 at-entries (y ∷ older) n x e =
     elim (eqb_tells n (length older)) [
@@ -157,10 +158,10 @@ kept-answered h cs held last x k ws agrees has waits all =
     cs (λ i d lt. (all i d lt, apart i d lt)))
 
 -- the asks that wait and the answers, behind the ACK or RST
-pub answerable-sent : (h : List Written) (t k : ℕ) (p : Peer) (sent : Option (List ℕ)) (cs : List Conn) (ws : List Waited) (gs : List Given)
-    → Answerable h cs ws gs k → Answerable (with_sent t p sent h) cs ws gs k
-answerable-sent h t k p None cs ws gs a = a
-answerable-sent h t k p (Some b) cs ws gs a = answerable-more h _ _ cs ws gs k refl a
+pub answerable-sent : (h : List Written) (t : ℕ) (out : List Outgoing) (p : Peer) (sent : Option (List ℕ)) (cs : List Conn) (ws : List Waited) (gs : List Given)
+    → Answerable h cs ws gs out → Answerable (with_sent t p sent h) cs ws gs (out ++ option_to_list (outgoing_by p sent))
+answerable-sent h t out p None cs ws gs a = rw (append-nil out) a
+answerable-sent h t out p (Some b) cs ws gs a = answerable-sends h _ _ cs ws gs out refl a
 
 pub told-sent : (h : List Written) (t : ℕ) (p : Peer) (sent : Option (List ℕ)) (d : Option Ending) → Tellable h d → Tellable (with_sent t p sent h) d
 told-sent h t p None d w = w
@@ -174,21 +175,19 @@ stands-sent h e t p None n x w = slice_get-more h e n x w
 stands-sent h e t p (Some b) n x w = slice_get-more (h ++ e ∷ []) _ n x (slice_get-more h e n x w)
 
 -- and behind the answer: h is what was written before the step, h2 before the answer
-pub answerable-told : (h h2 : List Written) (cs : List Conn) (held : Held) (last t n k : ℕ) (d : Option Ending) (r : Option Reader) (ws : List Waited) (gs gs1 : List Given)
+pub answerable-told : (h h2 : List Written) (cs : List Conn) (held : Held) (last t n : ℕ) (out : List Outgoing) (d : Option Ending) (r : Option Reader) (ws : List Waited) (gs gs1 : List Given)
     → Agrees h cs held false last → All (IsWaited h) ws → ((n : ℕ) (x : Written) → slice_get h n ≡ Some x → slice_get h2 n ≡ Some x)
     → Tellable h2 d → n ≡ length h2
-    → IsReaderOf cs d r → AnswersBy t n r ws gs gs1 → Answerable h2 cs ws gs k
-    → Answerable (with_answer t r h2) (conns_by r cs) (waiting_by r ws) gs1 k
-answerable-told h h2 cs held last t n k None None ws gs gs1 agrees asked more told num is by a = rw by a
-answerable-told h h2 cs held last t n k (Some d) None ws gs gs1 agrees asked more told num is by a = rw by a
-answerable-told h h2 cs held last t n k None (Some r) ws gs gs1 agrees asked more told num is by a = elim is [ ]
-answerable-told h h2 cs held last t n k (Some d) (Some r) ws gs gs1 agrees asked more told num is by a =
+    → IsReaderOf cs d r → AnswersBy t n r ws gs gs1 → Answerable h2 cs ws gs out
+    → Answerable (with_answer t r h2) (conns_by r cs) (waiting_by r ws) gs1 out
+answerable-told h h2 cs held last t n out None None ws gs gs1 agrees asked more told num is by a = rw by a
+answerable-told h h2 cs held last t n out (Some d) None ws gs gs1 agrees asked more told num is by a = rw by a
+answerable-told h h2 cs held last t n out None (Some r) ws gs gs1 agrees asked more told num is by a = elim is [ ]
+answerable-told h h2 cs held last t n out (Some d) (Some r) ws gs gs1 agrees asked more told num is by a =
     let w : Waited = by.0 in
     let x : Conn = is.0.0 in
     let entry : Written = written t (Answers r.conn r.ask (grounds_of r.grounds)) in
     let h3 : List Written = h2 ++ entry ∷ [] in
-    let longer : length h3 ≡ length h2 + 1 = length-append h2 (entry ∷ []) in
-    let within = a.taken_so in
     let before : IsWaited h w = All-contains (IsWaited h) ws w asked by.1 in
     let asks : w.ask ≡ d.opening = by.2 ∙ is.1 in
     let stood : slice_get h d.opening ≡ Some (written before.asked (Asks before.conn (ask_of w.mapping))) =
@@ -214,5 +213,5 @@ answerable-told h h2 cs held last t n k (Some d) (Some r) ws gs gs1 agrees asked
       asked = All-filter (λ (v : Waited). not (eqb v.ask r.ask)) (IsWaited h3) ws (waited-keeps h2 entry ws a.asked);
       kept = subst (λ (c : ℕ). All (λ (y : Conn). IsKept (filter (λ (w : Waited). not (eqb w.ask r.ask)) ws) y.pending) (map (pend c None) cs)) is.0.2
           (subst (λ (k : ℕ). All (λ (y : Conn). IsKept (filter (λ (w : Waited). not (eqb w.ask k)) ws) y.pending) (map (pend x.id None) cs)) (sym is.1) waits);
-      taken_so = omega (arith, longer, within);
+      unsent = (answerable-more h2 h3 entry cs ws gs out refl refl a).unsent;
     }

@@ -36,7 +36,7 @@ pub record OpensExchange (t n conn : ℕ) (m : Mapping) (q : CoapRequest) (old n
   pub exchanges : new.exchanges ≡ old.exchanges
       ++ record { opening = n; since = t; number = n + 1; peer = q.peer; mid = mid; token = token; confirmed = false } ∷ []
   pub answers : new.answers ≡ old.answers
-  pub sends : new.sends ≡ old.sends ++ written t (Sends q.peer bytes (Some wait)) ∷ []
+  pub sends : new.sends ≡ old.sends ++ record { peer = q.peer; bytes = bytes } ∷ []
 
 -- why an ask is answered in its own step: it means that refusal, or as many exchanges are open as may be
 abbrev pub IsAtOnce : Sense → ℕ → Cause → Type 0

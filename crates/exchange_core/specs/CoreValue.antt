@@ -1,15 +1,26 @@
 -- What contracts see of a core.
-use Rattle.std.specs.Prelude.{◌≡◌, ℕ, ◌+◌, ◌≤◌, ◌^◌, min, max, Bool, true, false, List, length, filter, drop, sum_by, count_by}
-use Rattle.std.specs.List.{All}
+use Rattle.std.specs.Prelude.{◌≡◌, ℕ, ◌+◌, ◌≤◌, ◌^◌, min, max, Bool, true, false, List, [], ◌∷◌, ◌++◌, length, sum_by, count_by}
+use Rattle.std.specs.Arc.{arc_value}
+use Rattle.std.specs.List.{All, flat_map}
+use Rattle.uri_map.specs.declared.peer.Peer.{Peer}
 use Rattle.journal_book.specs.Entries.{Deed, Opens, Sends, Written, entry_size}
 use Rattle.history_laws.specs.declared.kept.Conn.{Conn}
 use Rattle.history_laws.specs.declared.kept.Exchange.{Exchange}
 use Rattle.history_laws.specs.Kept.{Held, Agrees}
+use Rattle.exchange_core.specs.declared.outgoing.Datagram.{Datagram}
 use Rattle.exchange_core.specs.Room.{fits, held, is_pending}
 use Rattle.exchange_core.specs.Answering.{Given, Waited, IsGiven, IsWaited, IsKept}
 
+-- a datagram that goes out
+pub record Outgoing : Type 0 where
+  pub peer : Peer
+  pub bytes : List ℕ
+
+abbrev pub outgoing_of : Datagram → Outgoing
+outgoing_of d = record { peer = d.peer; bytes = arc_value d.bytes }
+
 -- its entries, the connections and the exchanges that are open, whether it is sealed, the last moment, and
--- the answers and the sendings that aren't taken yet
+-- the answers and the datagrams that aren't taken yet
 pub record CoreValue : Type 0 where
   pub entries : List Written
   pub conns : List Conn
@@ -17,7 +28,7 @@ pub record CoreValue : Type 0 where
   pub sealed : Bool
   pub moment : ℕ
   pub answers : List Given
-  pub sends : List Written
+  pub sends : List Outgoing
 
 -- how many connections were opened
 abbrev pub opens_deed : Deed → Bool
@@ -27,17 +38,18 @@ opens_deed _ = false
 abbrev pub connections : List Written → ℕ
 connections h = count_by (λ (e : Written). opens_deed e.deed) h
 
--- an entry that says that a datagram was sent
-abbrev pub sends_deed : Deed → Bool
-sends_deed (Sends p b w) = true
-sends_deed _ = false
+-- the datagrams that entries send
+abbrev pub sent_by : Deed → List Outgoing
+sent_by (Sends p b w) = record { peer = p; bytes = b } ∷ []
+sent_by _ = []
 
-abbrev pub is_sending : Written → Bool
-is_sending e = sends_deed e.deed
+abbrev pub sendings : List Written → List Outgoing
+sendings h = flat_map (λ (e : Written). sent_by e.deed) h
 
--- the sendings among the entries behind so many
-abbrev pub sends_behind : ℕ → List Written → List Written
-sends_behind n h = filter is_sending (drop n h)
+-- These are the last that were sent.
+pub record AreUnsent (h : List Written) (sends : List Outgoing) : Type 0 where
+  pub given : List Outgoing
+  pub so : sendings h ≡ given ++ sends
 
 abbrev pub written : ℕ → Deed → Written
 written t d = record { moment = t; deed = d }
@@ -56,9 +68,10 @@ pub record CoreKept (h : List Written) (room : ℕ) (conns : List Conn) (tables 
   pub early : last ≤ 2 ^ 62
   pub short : length h + length conns + count_by is_pending conns ≤ 65536
 
--- The answers stand in the journal, and what the connections wait for is kept with what was asked.
-pub record Answerable (h : List Written) (conns : List Conn) (waiting : List Waited) (answers : List Given) (taken : ℕ) : Type 0 where
+-- The answers stand in the journal, what the connections wait for is kept with what was asked, and what isn't
+-- given out was sent.
+pub record Answerable (h : List Written) (conns : List Conn) (waiting : List Waited) (answers : List Given) (sends : List Outgoing) : Type 0 where
   pub given : All (IsGiven h) answers
   pub asked : All (IsWaited h) waiting
   pub kept : All (λ (x : Conn). IsKept waiting x.pending) conns
-  pub taken_so : taken ≤ length h
+  pub unsent : AreUnsent h sends

@@ -1,16 +1,37 @@
 -- What a datagram that was heard leaves behind.
-use Rattle.std.specs.Prelude.{◌≡◌, ◌⊎◌, ℕ, true, false, List, [], ◌∷◌, ◌++◌, Option}
+use Rattle.std.specs.Prelude.{◌≡◌, ◌≢◌, ◌⊎◌, ◌<◌, ◌≤◌, ◌+◌, ◌-◌, ◌*◌, ℕ, true, false, List, [], ◌∷◌, ◌++◌, length, map, count_by, Option, None, option_to_list}
+use Rattle.std.specs.List.{All}
 use Rattle.coap_codec.specs.Spelling.{Content, Spells}
 use Rattle.uri_map.specs.declared.peer.Peer.{Peer}
-use Rattle.journal_book.specs.Entries.{Grounds, Hears, Answers, Seals, Written}
+use Rattle.journal_book.specs.Entries.{Hears, Answers, Seals, Written}
 use Rattle.history_laws.specs.declared.kept.Exchange.{Exchange}
+use Rattle.history_laws.specs.Kept.{pend}
+use Rattle.history_laws.specs.Limits.{datagram_limit}
 use Rattle.history_laws.specs.Amid.{exchanges_heard}
-use Rattle.exchange_core.specs.CoreValue.{CoreValue, written}
-use Rattle.exchange_core.specs.Steps.{with_sent}
+use Rattle.exchange_core.specs.Room.{is_pending, takes}
+use Rattle.exchange_core.specs.Answering.{Given}
+use Rattle.exchange_core.specs.CoreValue.{CoreValue, Outgoing, sendings, written}
+use Rattle.exchange_core.specs.Steps.{with_sent, outgoing_by}
 
--- nothing is added, or the answer to an ask
-abbrev pub AddsAnswer : ℕ → List Written → List Written → Type 0
-AddsAnswer t old new = (new ≡ old) ⊎ ((c : ℕ) × (k : ℕ) × (g : Grounds) × (new ≡ old ++ written t (Answers c k g) ∷ []))
+-- No answer is added behind these entries.
+pub record AddsNone (h : List Written) (old new : CoreValue) : Type 0 where
+  pub entries : new.entries ≡ h
+  pub conns : new.conns ≡ old.conns
+  pub answers : new.answers ≡ old.answers
+
+-- The answer to a connection that waited is added behind them; it waits no more.
+pub record AddsOne (t : ℕ) (h : List Written) (old new : CoreValue) : Type 0 where
+  pub conn : ℕ
+  pub given : Given
+  pub entries : new.entries ≡ h ++ written t (Answers conn given.ask given.found.grounds) ∷ []
+  pub conns : new.conns ≡ map (pend conn None) old.conns
+  pub answers : new.answers ≡ old.answers ++ given ∷ []
+  pub number : given.number ≡ length h
+  pub moment : given.moment ≡ t
+  pub heard : given.heard ≡ t
+
+abbrev pub AddsAnswer : ℕ → List Written → CoreValue → CoreValue → Type 0
+AddsAnswer t h old new = AddsNone h old new ⊎ AddsOne t h old new
 
 -- The exchanges stay, or are changed by the message that the datagram spells.
 abbrev pub ChangesBy : Peer → List ℕ → List Exchange → List Exchange → Type 0
@@ -21,11 +42,22 @@ pub record HearsAt (t : ℕ) (p : Peer) (b : List ℕ) (old new : CoreValue) : T
   pub unsealed : new.sealed ≡ false
   pub moment : new.moment ≡ t
   pub sent : Option (List ℕ)
-  pub entries : AddsAnswer t (with_sent t p sent (old.entries ++ written t (Hears p b) ∷ [])) new.entries
+  pub answer : AddsAnswer t (with_sent t p sent (old.entries ++ written t (Hears p b) ∷ [])) old new
   pub exchanges : ChangesBy p b old.exchanges new.exchanges
+  pub sends : new.sends ≡ old.sends ++ option_to_list (outgoing_by p sent)
+
+-- There is no room for its entry, with that of its ACK or RST and that of an answer where they come.
+pub record HasNoRoom (b : List ℕ) (old : CoreValue) : Type 0 where
+  pub confirmations : ℕ
+  pub answers : ℕ
+  pub one_at_most : confirmations ≤ 1
+  pub one_answer_at_most : answers ≤ 1
+  pub room : takes old.entries (1 + (confirmations + answers)) (length b + 64 + 68 * (confirmations + answers))
+      (length old.conns) (count_by is_pending old.conns - answers) ≡ false
 
 -- There is no room for it, and the journal is sealed.
-pub record SealsAt (t : ℕ) (old new : CoreValue) : Type 0 where
+pub record SealsAt (t : ℕ) (b : List ℕ) (old new : CoreValue) : Type 0 where
+  pub room : HasNoRoom b old
   pub sealed : new.sealed ≡ true
   pub entries : new.entries ≡ old.entries ++ written t Seals ∷ []
   pub conns : new.conns ≡ old.conns
@@ -33,6 +65,14 @@ pub record SealsAt (t : ℕ) (old new : CoreValue) : Type 0 where
   pub answers : new.answers ≡ old.answers
   pub sends : new.sends ≡ old.sends
 
+-- nothing was ever sent to the peer
+abbrev pub NeverSentTo : Peer → List Written → Type 0
+NeverSentTo p h = All (λ (o : Outgoing). o.peer ≢ p) (sendings h)
+
+-- why a datagram is dropped
+abbrev pub IsDropped : Peer → List ℕ → CoreValue → Type 0
+IsDropped p b old = (old.sealed ≡ true) ⊎ ((datagram_limit < length b) ⊎ NeverSentTo p old.entries)
+
 -- It is dropped, finds no room, or is heard.
 abbrev pub HeardSo : ℕ → Peer → List ℕ → CoreValue → CoreValue → Type 0
-HeardSo t p b old new = (new ≡ old) ⊎ (SealsAt t old new ⊎ HearsAt t p b old new)
+HeardSo t p b old new = (IsDropped p b old × (new ≡ old)) ⊎ (SealsAt t b old new ⊎ HearsAt t p b old new)

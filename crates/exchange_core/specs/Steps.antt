@@ -12,7 +12,7 @@ use Rattle.exchange_core.specs.declared.verdict.Due.{Due}
 use Rattle.exchange_core.specs.declared.verdict.Ending.{Ending}
 use Rattle.exchange_core.specs.declared.step.Reader.{Reader}
 use Rattle.exchange_core.specs.Answering.{Given, Waited, answer_of}
-use Rattle.exchange_core.specs.CoreValue.{written}
+use Rattle.exchange_core.specs.CoreValue.{Outgoing, written}
 
 -- the bytes of the ACK or RST, where one is owed
 abbrev pub IsConfirmation : Option Due → Option (List ℕ) → Type 0
@@ -29,6 +29,11 @@ one_if false = 0
 abbrev pub with_sent : ℕ → Peer → Option (List ℕ) → List Written → List Written
 with_sent t p None h = h
 with_sent t p (Some b) h = h ++ written t (Sends p b None) ∷ []
+
+-- the datagram that goes out
+abbrev pub outgoing_by : Peer → Option (List ℕ) → Option Outgoing
+outgoing_by p None = None
+outgoing_by p (Some b) = Some (record { peer = p; bytes = b })
 
 -- who waits for the exchange that ends
 abbrev pub IsReader : List Conn → Option Ending → Option Reader → Type 0

@@ -10,7 +10,7 @@ use Rattle.history_laws.specs.Amid.{Ended, Amid}
 use Rattle.exchange_core.specs.Room.{is_pending, held, takes}
 use Rattle.exchange_core.specs.Findings.{Fails}
 use Rattle.exchange_core.specs.Answering.{Given, Waited, answer_of}
-use Rattle.exchange_core.specs.CoreValue.{CoreValue, Answerable, written}
+use Rattle.exchange_core.specs.CoreValue.{Outgoing, CoreValue, Answerable, written}
 
 -- The exchange has been open for MAX_TRANSMIT_WAIT, which is 93 seconds (RFC 7252 section 4.8.2).
 abbrev pub is_past : ℕ → Exchange → Bool
@@ -126,16 +126,16 @@ abbrev pub late_end : Exchange → Ended
 late_end e = record { opening = e.opening; grounds = Fault Timeout e.number }
 
 -- In the midst of a tick: what is kept, and that room is held free.
-pub record Midway (t : ℕ) (es : List Exchange) (tables : Held) (s : Bool) (n : ℕ) (h : List Written) (room : ℕ) (cs : List Conn) (last : ℕ) (ws : List Waited) (gs : List Given) : Type 0 where
+pub record Midway (t : ℕ) (es : List Exchange) (tables : Held) (s : Bool) (out : List Outgoing) (h : List Written) (room : ℕ) (cs : List Conn) (last : ℕ) (ws : List Waited) (gs : List Given) : Type 0 where
   pub amid : Amid None (map late_end (filter (is_past t) es)) t h cs tables s last
-  pub answerable : Answerable h cs ws gs n
+  pub answerable : Answerable h cs ws gs out
   pub later : last ≤ t
   pub room_held : held s (length cs) (count_by is_pending cs) ≤ room
   pub short : length h + length cs + count_by is_pending cs ≤ 65536
 
 abbrev pub IsMidway : ℕ → List Exchange → List Written → ℕ → List Conn → ℕ → List Waited → List Given → Type 0
 IsMidway t es h room cs last ws gs =
-    (tables : Held) × (s : Bool) × (n : ℕ) × Midway t es tables s n h room cs last ws gs
+    (tables : Held) × (s : Bool) × (out : List Outgoing) × Midway t es tables s out h room cs last ws gs
 
 -- One connection gets its answer.
 pub record Answered (t : ℕ) (e : Exchange) (x y : Conn) (h h1 : List Written) (room room1 last1 : ℕ) (ws ws1 : List Waited) (gs gs1 : List Given) : Type 0 where

@@ -1,12 +1,14 @@
 //! What an ask is given: a ticket, and then its answer.
 
-ghost use Rattle.std.specs.Prelude.{◌≡◌};
+ghost use Rattle.std.specs.Prelude.{◌≡◌, IfOk};
 ghost use Rattle.journal_book.specs.Entries.{Live, Fault};
 ghost use Rattle.journal_book.specs.Views.{grounds_of};
 ghost use Rattle.exchange_core.specs.Findings.{Tells, Fails, Fits, response_of, told_of};
 
+use crate::copying::copy_outcome;
 use ask_model::{Bytes, Cause, Mapped};
 use journal_book::{Grounds, Numbers};
+use std::alloc::AllocError;
 use std::marker::Model;
 use std::sync::Arc;
 use transformers::Relation;
@@ -73,6 +75,16 @@ impl Finding {
             outcome: Outcome::Whole(response),
             grounds: Grounds::Live(replies),
         }
+    }
+
+    /// An equal value.
+    pub fn copy(&self) -> Result<Finding, AllocError>
+        ensures { IfOk result (λ f. f ≡ self.now) }
+    {
+        Ok(Finding {
+            outcome: copy_outcome(&self.outcome)?,
+            grounds: self.grounds.copy()?,
+        })
     }
 
     /// What the ask came to.

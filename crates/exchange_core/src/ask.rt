@@ -12,6 +12,7 @@ ghost use Rattle.exchange_core.specs.Asking.{AddsAsk, OpensExchange, HasNoRoom};
 use crate::answer::Ticket;
 use crate::core_state::Core;
 use crate::fault::AskFault;
+use crate::outgoing::Datagram;
 use crate::numbering::{find_known, first_timeout, next_mid, token_of, use_id};
 use crate::tables::{check_idle, pending_count, set_pending};
 use ask_model::{Cause, Mapped, Meaning, incoming_size};
@@ -110,6 +111,8 @@ impl<R: Relation> Core<R> {
         let asked = Arc::try_clone(&mapped)?;
         let waiting = Arc::try_clone(&mapped)?;
         let bytes = Arc::new(self.alloc, bytes)?;
+        self.sends.reserve(1)?;
+        let shared = Arc::try_clone(&bytes)?;
 
         let number = self.journal.len() as u32;
         self.journal.add(Entry {
@@ -137,6 +140,10 @@ impl<R: Relation> Core<R> {
         use_id(&mut self.known, &peer, first);
         set_pending(&mut self.conns, conn, Some(number));
         self.outbox.expect(number, waiting);
+        self.sends.push_back_reserved(Datagram {
+            peer,
+            bytes: shared,
+        });
         self.bytes = self.bytes.saturating_add(size + more);
         self.last = moment;
         Ok(Ticket {

@@ -7,7 +7,7 @@ ghost use Rattle.ask_model.specs.Sizes.{came_size, capped};
 ghost use Rattle.journal_book.specs.Entries.{Opens, Shuts, Seals};
 ghost use Rattle.history_laws.specs.Justified.{Stands};
 ghost use Rattle.history_laws.specs.Limits.{MaySeal};
-ghost use Rattle.exchange_core.specs.CoreValue.{written, now, connections};
+ghost use Rattle.exchange_core.specs.CoreValue.{written, now, connections, outgoing_of, AreUnsent};
 ghost use Rattle.exchange_core.specs.Room.{takes, takes_conn, takes_ask};
 ghost use Rattle.exchange_core.specs.Tables.{HasIdle, HasWaiting};
 ghost use Rattle.exchange_core.specs.Answering.{IsGiven, given_of};
@@ -16,12 +16,14 @@ ghost use Rattle.exchange_core.specs.Asking.{AnswersAtOnce, IsAtOnce};
 use crate::answer::{Answer, Finding, Ticket};
 use crate::fault::{AskFault, OpenFault};
 use crate::outbox::{Outbox, Stamp};
+use crate::outgoing::Datagram;
 use crate::room::{BYTES, has_room};
 use crate::tables::{check_idle, drop_conn, find_conn, pending_count};
 use ask_model::{Cause, Mapped, incoming_size};
 use history_laws::kept::{Conn, Exchange, Known, Remembered};
 use journal_book::{Entry, Event, Grounds, Journal};
 use std::alloc::{AllocError, Global};
+use std::collections::VecDeque;
 use std::marker::Model;
 use std::sync::Arc;
 use transformers::Relation;
@@ -47,18 +49,19 @@ pub struct Core<R: Relation> {
     pub(crate) bytes: u64,
     pub(crate) last: u64,
     pub(crate) outbox: Outbox<R>,
-    /// the number of the first entry that was not looked at for a sending
-    pub(crate) taken: u32,
+    /// what isn't sent yet
+    pub(crate) sends: VecDeque<Datagram>,
 }
 
 impl<R: Relation> Model for Core<R> {
-    ghost use Rattle.exchange_core.specs.CoreValue.{CoreValue, CoreKept, Answerable, sends_behind};
+    ghost use Rattle.std.specs.Prelude.{map};
+    ghost use Rattle.exchange_core.specs.CoreValue.{CoreValue, CoreKept, Answerable, outgoing_of};
 
     ghost Value = { CoreValue };
 
-    ghost view = { λ s. record { entries = s.journal.entries; conns = s.conns.items; exchanges = s.exchanges.items; sealed = s.sealed; moment = s.last; answers = s.outbox.answers; sends = sends_behind s.taken s.journal.entries } };
+    ghost view = { λ s. record { entries = s.journal.entries; conns = s.conns.items; exchanges = s.exchanges.items; sealed = s.sealed; moment = s.last; answers = s.outbox.answers; sends = map outgoing_of s.sends.items } };
 
-    ghost invariant = { λ s. CoreKept s.journal.entries s.journal.room s.conns.items (record { exchanges = s.exchanges.items; opened = s.opened; issued = s.issued; known = s.known.items; heard = s.heard.items }) s.sealed s.bytes s.last × Answerable s.journal.entries s.conns.items s.outbox.waiting s.outbox.answers s.taken };
+    ghost invariant = { λ s. CoreKept s.journal.entries s.journal.room s.conns.items (record { exchanges = s.exchanges.items; opened = s.opened; issued = s.issued; known = s.known.items; heard = s.heard.items }) s.sealed s.bytes s.last × Answerable s.journal.entries s.conns.items s.outbox.waiting s.outbox.answers (map outgoing_of s.sends.items) };
 }
 
 impl<R: Relation> Core<R> {
@@ -81,7 +84,7 @@ impl<R: Relation> Core<R> {
             bytes: 0,
             last: 0,
             outbox: Outbox::new(alloc),
-            taken: 0,
+            sends: VecDeque::new(alloc),
         })
     }
 
@@ -270,6 +273,21 @@ impl<R: Relation> Core<R> {
         ensures sends { self.new.sends ≡ self.old.sends }
     {
         self.outbox.take(ticket.number)
+    }
+
+    /// Takes the first datagram that isn't sent yet.
+    pub fn take_send(&mut self) -> Option<Datagram>
+        ensures some { IfSome result (λ d. self.old.sends ≡ outgoing_of d ∷ self.new.sends) }
+        ensures none { result ≡ None → (self.old.sends ≡ []) × (self.new ≡ self.old) }
+        ensures sent { AreUnsent self.old.entries self.old.sends }
+        ensures entries { self.new.entries ≡ self.old.entries }
+        ensures conns { self.new.conns ≡ self.old.conns }
+        ensures exchanges { self.new.exchanges ≡ self.old.exchanges }
+        ensures answers { self.new.answers ≡ self.old.answers }
+        ensures sealed { self.new.sealed ≡ self.old.sealed }
+        ensures moment { self.new.moment ≡ self.old.moment }
+    {
+        self.sends.pop_front()
     }
 
     /// Closes a connection at this moment, and tells whether it was open. It is answered nothing more; what it

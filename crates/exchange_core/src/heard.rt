@@ -2,11 +2,14 @@
 
 ghost use Rattle.std.specs.Prelude.{◌≡◌, ◌<◌, true, length, OnOk, OnErr};
 ghost use Rattle.exchange_core.specs.CoreValue.{now};
-ghost use Rattle.exchange_core.specs.Hears.{HeardSo};
+ghost use Rattle.exchange_core.specs.Hears.{HeardSo, IsDropped};
 
 use crate::core_state::Core;
 use crate::numbering::find_known;
-use crate::step::{added, answer_reader, confirmation_of, one_if, reader_of, send_confirmation};
+use crate::outgoing::{datagram_of, put_out};
+use crate::step::{
+    added, answer_reader, confirmation_of, make_places, one_if, reader_of, send_confirmation,
+};
 use crate::tables::{change_exchanges, pending_count, remember};
 use crate::verdict::verdict_of;
 use ask_model::Bytes;
@@ -30,8 +33,7 @@ impl<R: Relation> Core<R> {
         bytes: &[u8],
     ) -> Result<(), AllocError>
         ensures heard { OnOk result (HeardSo (now self.old.moment moment) peer bytes.now self.old self.new) }
-        ensures sealed { self.old.sealed ≡ true → self.new ≡ self.old }
-        ensures long { 2048 < length bytes.now → self.new ≡ self.old }
+        ensures dropped { IsDropped peer bytes.now self.old → self.new ≡ self.old }
         ensures memory { OnErr result (self.new ≡ self.old) }
     {
         if self.sealed || bytes.len() > DATAGRAM {
@@ -52,6 +54,7 @@ impl<R: Relation> Core<R> {
             bytes,
         )?;
         let sent = confirmation_of(self.alloc, verdict.due)?;
+        let datagram = datagram_of(peer, &sent)?;
         let reader = reader_of(&self.conns, verdict.ending)?;
         let count = self.conns.len();
         let pending = pending_count(&self.conns);
@@ -65,8 +68,12 @@ impl<R: Relation> Core<R> {
             return Ok(());
         }
         let taken = Bytes::from_slice(self.alloc, bytes)?;
-        self.journal.make_room(count + pending + 4)?;
-        self.heard.try_reserve(1)?;
+        make_places(
+            &mut self.journal,
+            &mut self.heard,
+            &mut self.sends,
+            count + pending + 4,
+        )?;
 
         self.journal.add(Entry {
             moment,
@@ -75,6 +82,7 @@ impl<R: Relation> Core<R> {
         remember(&mut self.heard, verdict.memory);
         change_exchanges(&mut self.exchanges, verdict.change);
         send_confirmation(&mut self.journal, moment, peer, sent);
+        put_out(&mut self.sends, datagram);
         answer_reader(
             &mut self.journal,
             &mut self.conns,

@@ -8,12 +8,14 @@
 mod answer;
 mod ask;
 mod confirming;
+mod copying;
 mod core_state;
 mod fault;
 mod heard;
 mod hearing;
 mod numbering;
 mod outbox;
+mod outgoing;
 mod reading;
 mod remembering;
 mod response;
@@ -26,7 +28,10 @@ mod verdict;
 pub use answer::{Answer, Finding, Outcome, Response, Ticket};
 pub use core_state::Core;
 pub use fault::{AskFault, OpenFault};
+pub use outgoing::Datagram;
 
+#[cfg(test)]
+mod flow_tests;
 #[cfg(test)]
 mod heard_tests;
 #[cfg(test)]

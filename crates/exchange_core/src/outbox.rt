@@ -1,11 +1,12 @@
 //! The asks that wait for an answer, and the answers that aren't taken yet.
 
-ghost use Rattle.std.specs.Prelude.{◌≡◌, ◌≢◌, ◌<◌, ◌==◌, ◌∷◌, ◌++◌, [], not, filter, All, Some, None, slice_get, option_map, IfSome, OnOk, OnErr};
+ghost use Rattle.std.specs.Prelude.{◌≡◌, ◌≢◌, ◌<◌, ◌==◌, ◌∷◌, ◌++◌, [], not, filter, All, Some, None, slice_get, option_map, IfSome, IfOk, OnOk, OnErr};
 ghost use Rattle.std.specs.List.{Contains};
 ghost use Rattle.std.specs.Arc.{arc_value};
 ghost use Rattle.exchange_core.specs.Answering.{given_of, HasWaited, answer_of, without};
 
 use crate::answer::{Answer, Finding};
+use crate::copying::{copy_answers, copy_waiting};
 use ask_model::Mapped;
 use std::alloc::{AllocError, Global};
 use std::marker::Model;
@@ -58,6 +59,17 @@ impl<R: Relation> Outbox<R> {
             waiting: Vec::new(alloc),
             answers: Vec::new(alloc),
         }
+    }
+
+    /// An equal outbox, with the place of an answer for each ask that waits.
+    pub fn copy(&self, alloc: Global) -> Result<Outbox<R>, AllocError>
+        ensures waiting { IfOk result (λ o. o.waiting ≡ self.now.waiting) }
+        ensures answers { IfOk result (λ o. o.answers ≡ self.now.answers) }
+    {
+        let waiting = copy_waiting(alloc, &self.waiting)?;
+        let mut answers = copy_answers(alloc, &self.answers)?;
+        answers.try_reserve(waiting.len())?;
+        Ok(Outbox { waiting, answers })
     }
 
     /// Makes room for one more ask, and for its answer.

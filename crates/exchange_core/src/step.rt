@@ -1,6 +1,7 @@
 //! What is done when a datagram was heard.
 
-ghost use Rattle.std.specs.Prelude.{◌≡◌, ◌<◌, ◌≤◌, ◌+◌, ◌*◌, ◌++◌, ◌∷◌, [], length, option_map, IfOk, IfSome};
+ghost use Rattle.std.specs.Prelude.{◌≡◌, ◌<◌, ◌≤◌, ◌+◌, ◌*◌, ◌++◌, ◌∷◌, [], length, option_map, IfOk, IfSome, OnOk, vec_len, vec_capacity};
+ghost use Rattle.std.specs.VecDeque.{deque_len, deque_capacity};
 ghost use Rattle.std.specs.Arc.{arc_value};
 ghost use Rattle.journal_book.specs.Entries.{Answers};
 ghost use Rattle.exchange_core.specs.Answering.{HasWaited};
@@ -9,12 +10,14 @@ ghost use Rattle.exchange_core.specs.Steps.{one_if, with_sent, with_answer, conn
 use crate::answer::Finding;
 use crate::confirming::confirmation;
 use crate::outbox::{Outbox, Stamp};
+use crate::outgoing::Datagram;
 use crate::tables::{find_reader, set_pending};
 use crate::verdict::{Due, Ending};
 use ask_model::Bytes;
-use history_laws::kept::Conn;
+use history_laws::kept::{Conn, Remembered};
 use journal_book::{Entry, Event, Grounds, Journal};
 use std::alloc::{AllocError, Global};
+use std::collections::VecDeque;
 use std::sync::Arc;
 use transformers::Relation;
 use uri_map::Peer;
@@ -75,6 +78,27 @@ pub fn added(sends: bool, answers: bool) -> (u64, u64)
         (true, true) => (2, 136),
         _ => (1, 68),
     }
+}
+
+/// Makes places for so many entries, and for one message to remember and one datagram to send.
+pub fn make_places<R: Relation>(
+    journal: &mut Journal<R>,
+    heard: &mut Vec<Remembered>,
+    sends: &mut VecDeque<Datagram>,
+    entries: usize,
+) -> Result<(), AllocError>
+    ensures entries { journal.new.entries ≡ journal.old.entries }
+    ensures kept { journal.old.room ≤ journal.new.room }
+    ensures room { OnOk result (entries ≤ journal.new.room) }
+    ensures heard { heard.new.items ≡ heard.old.items }
+    ensures heard_room { OnOk result (vec_len heard.new < vec_capacity heard.new) }
+    ensures sends { sends.new.items ≡ sends.old.items }
+    ensures sends_room { OnOk result (deque_len sends.new < deque_capacity sends.new) }
+{
+    journal.make_room(entries)?;
+    heard.try_reserve(1)?;
+    sends.reserve(1)?;
+    Ok(())
 }
 
 /// Adds the sending of the ACK or RST, if one is owed.

@@ -18,7 +18,7 @@ use transformers::Relation;
 use uri_map::{Directory, Peer, Target, Text, Texts, path_and_query, peer_of, target_of};
 
 /// A relation that relates nothing.
-struct Nothing;
+pub struct Nothing;
 
 impl Relation for Nothing {
     ghost holds = { λ from to input output. ⊥ };
@@ -44,7 +44,7 @@ fn too_large(alloc: Global) -> Result<Arc<Mapped<Nothing>>, AllocError> {
 }
 
 /// What these bytes of a connection ask, where they are a GET of a resource that a server has.
-fn asked(alloc: Global, bytes: &[u8]) -> Result<Option<Arc<Mapped<Nothing>>>, Memory> {
+pub fn asked(alloc: Global, bytes: &[u8]) -> Result<Option<Arc<Mapped<Nothing>>>, Memory> {
     let mut edge = Edge::new(alloc)?;
     edge.feed(bytes);
     let Some(Incoming::Request(request)) = edge.next()? else {
@@ -236,7 +236,7 @@ fn core_that_waits(alloc: Global) -> Option<(Core<Nothing>, Ticket<Nothing>)> {
     Some((core, ticket))
 }
 
-fn server() -> Peer {
+pub fn server() -> Peer {
     Peer {
         address: IpAddr::V4(Ipv4Addr::new(192, 0, 2, 1)),
         port: 5683,

@@ -5,7 +5,7 @@ ghost use Rattle.std.specs.List.{Contains, list_any};
 ghost use Rattle.journal_book.specs.Entries.{Passes, Seals};
 ghost use Rattle.history_laws.specs.declared.kept.Exchange.{Exchange};
 ghost use Rattle.history_laws.specs.Kept.{Held};
-ghost use Rattle.exchange_core.specs.CoreValue.{written, now};
+ghost use Rattle.exchange_core.specs.CoreValue.{Outgoing, written, now};
 ghost use Rattle.exchange_core.specs.Room.{is_pending};
 ghost use Rattle.exchange_core.specs.Answering.{IsKept};
 ghost use Rattle.exchange_core.specs.Ticking.{is_past, late_on, late_for, is_due, due_count, timeouts, timed, going, moment_after, takes_tick, counts, waits_on, IsNextDue, HasPast, AddsAnswers, IsPrompt, EndsLate, SealsLate, KeepsLate, Midway, IsMidway, Turns};
@@ -138,8 +138,8 @@ fn answer_each<R: Relation>(
     moment: u64,
 )
     requires { IsMidway moment exchanges.now journal.old.entries journal.old.room conns.old.items last.old outbox.old.waiting outbox.old.answers }
-    ensures midway { (tables : Held) → (s : Bool) → (n : ℕ) → Midway moment exchanges.now tables s n journal.old.entries journal.old.room conns.old.items last.old outbox.old.waiting outbox.old.answers
-        → Midway moment exchanges.now tables s n journal.new.entries journal.new.room conns.new.items last.new outbox.new.waiting outbox.new.answers }
+    ensures midway { (tables : Held) → (s : Bool) → (out : List Outgoing) → Midway moment exchanges.now tables s out journal.old.entries journal.old.room conns.old.items last.old outbox.old.waiting outbox.old.answers
+        → Midway moment exchanges.now tables s out journal.new.entries journal.new.room conns.new.items last.new outbox.new.waiting outbox.new.answers }
     ensures entries { journal.new.entries ≡ journal.old.entries ++ timeouts moment exchanges.now conns.old.items }
     ensures conns { conns.new.items ≡ map (timed moment exchanges.now) conns.old.items }
     ensures last { last.new ≡ moment_after moment last.old (timeouts moment exchanges.now conns.old.items) }

@@ -27,7 +27,7 @@ invariant_of-self-2 g c =
           (rw (c.in_ok-asked.ensures) (search rules))
           c.in_ok-make_room.ensures.same c.len-number.ensures c.add.ensures.entries c.add-2.ensures.entries
           (omega (arith, c.in_ok-make_room.ensures.ok, c.len.ensures, s.conns.ok.0)) c.add.ensures.room c.add-2.ensures.room c.saturating_add-self-inside.ensures,
-      answerable-at-once s.journal.entries _ _ _ c.args.conn _ _ s.taken c.args.cause s.conns.items _ (arc_value c.in_ok-asked.asked) s.outbox.waiting _ _ s.outbox.answers _ _ _
+      answerable-at-once s.journal.entries _ _ _ c.args.conn _ _ _ c.args.cause s.conns.items _ (arc_value c.in_ok-asked.asked) s.outbox.waiting _ _ s.outbox.answers _ _ _
           c.self.invariant.1 c.in_ok-make_room.ensures.same c.len-number.ensures c.add.ensures.entries c.add-2.ensures.entries
           refl c.in_ok-make_room-2.ensures.waiting c.put.ensures.waiting c.in_ok-make_room-2.ensures.answers c.put.ensures.answers
           (given-is _ _ _ _ _ _ (c.in_ok-answered.ensures ∙ sym c.in_ok-asked.ensures) c.fault.ensures),

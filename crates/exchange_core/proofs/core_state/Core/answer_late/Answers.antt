@@ -1,7 +1,7 @@
-use Rattle.std.proofs.Common.{◌≤◌, ℕ, sym, subst, ap, ◌∙◌}
+use Rattle.std.proofs.Common.{◌≤◌, ℕ, map, sym, subst, ap, ◌∙◌}
 use Rattle.history_laws.specs.Kept.{Held}
-use Rattle.exchange_core.specs.CoreValue.{CoreValue, sends_behind}
-use Rattle.exchange_core.proofs.Ticked.{midway-sealed, kept-late, timeouts-quiet}
+use Rattle.exchange_core.specs.CoreValue.{CoreValue, outgoing_of}
+use Rattle.exchange_core.proofs.Ticked.{midway-sealed, kept-late}
 use Rattle.exchange_core.proofs.core_state.Core.answer_late.Goals as goal
 
 pub answer_each-requires : goal.answer_each-requires
@@ -9,29 +9,23 @@ answer_each-requires g c =
     let s = c.self.inside in
     let is = c.self.view_is in
     let tables : Held = record { exchanges = s.exchanges.items; opened = s.opened; issued = s.issued; known = s.known.items; heard = s.heard.items } in
-    let start = midway-sealed s.journal.entries s.journal.room s.conns.items tables s.sealed s.bytes s.last c.args.moment s.taken s.outbox.waiting s.outbox.answers
+    let start = midway-sealed s.journal.entries s.journal.room s.conns.items tables s.sealed s.bytes s.last c.args.moment (map outgoing_of s.sends.items) s.outbox.waiting s.outbox.answers
     c.self.invariant.0 c.self.invariant.1 (ap (λ (v : CoreValue). v.sealed) is ∙ c.requires.sealed)
     (subst (λ (n : ℕ). n ≤ c.args.moment) (sym (ap (λ (v : CoreValue). v.moment) is)) c.requires.later) in
-    rw (c.deref.ensures.value) (tables, s.sealed, s.taken, start)
+    rw (c.deref.ensures.value) (tables, s.sealed, map outgoing_of s.sends.items, start)
 
 pub invariant_of-self : goal.invariant_of-self
 invariant_of-self g c =
     let s = c.self.inside in
     let is = c.self.view_is in
     let tables : Held = record { exchanges = s.exchanges.items; opened = s.opened; issued = s.issued; known = s.known.items; heard = s.heard.items } in
-    let start = midway-sealed s.journal.entries s.journal.room s.conns.items tables s.sealed s.bytes s.last c.args.moment s.taken s.outbox.waiting s.outbox.answers
+    let start = midway-sealed s.journal.entries s.journal.room s.conns.items tables s.sealed s.bytes s.last c.args.moment (map outgoing_of s.sends.items) s.outbox.waiting s.outbox.answers
     c.self.invariant.0 c.self.invariant.1 (ap (λ (v : CoreValue). v.sealed) is ∙ c.requires.sealed)
     (subst (λ (n : ℕ). n ≤ c.args.moment) (sym (ap (λ (v : CoreValue). v.moment) is)) c.requires.later) in
     let gives = rw (c.deref.ensures.value) at c.answer_each.ensures.midway in
     let conns = rw (c.deref.ensures.value) at c.answer_each.ensures.conns in
-    let m = gives tables s.sealed s.taken start in (
-      kept-late s.journal.entries _ s.journal.room _ s.conns.items _ tables s.sealed s.bytes s.last _ c.args.moment s.taken _ _
+    let m = gives tables s.sealed (map outgoing_of s.sends.items) start in (
+      kept-late s.journal.entries _ s.journal.room _ s.conns.items _ tables s.sealed s.bytes s.last _ c.args.moment _ _ _
           c.self.invariant.0 (ap (λ (v : CoreValue). v.sealed) is ∙ c.requires.sealed) c.requires.early conns m,
       m.answerable,
     )
-
-pub returns-clause-sends : goal.returns-clause-sends
-returns-clause-sends g c =
-    let s = c.self.inside in
-    let entries = rw (c.deref.ensures.value) at c.answer_each.ensures.entries in
-    rw (← c.self.view_is) (ap (sends_behind s.taken) entries ∙ timeouts-quiet s.taken c.args.moment s.exchanges.items s.journal.entries s.conns.items)

@@ -1,4 +1,4 @@
-use Rattle.std.proofs.Common.{false, rules, ◌≡◌, ◌≤◌, ℕ, ◌+◌, ◌-◌, ◌^◌, min, ◌<◌, length, List, Option, Some, refl, sym, ◌∙◌, ap, subst, arith, bit_and, [], ◌∷◌, ◌++◌}
+use Rattle.std.proofs.Common.{false, rules, ◌≡◌, ◌≤◌, ℕ, ◌+◌, ◌-◌, ◌^◌, min, ◌<◌, length, map, List, Option, Some, refl, sym, ◌∙◌, ap, subst, arith, bit_and, [], ◌∷◌, ◌++◌}
 use Rattle.std.specs.Prelude.{count_by}
 use Rattle.std.specs.Arc.{arc_value}
 use Rattle.std.proofs.lemmas.List.Sums.{count_by-le-length}
@@ -14,11 +14,11 @@ use Rattle.history_laws.specs.declared.kept.Conn.{Conn}
 use Rattle.history_laws.specs.declared.kept.Exchange.{Exchange}
 use Rattle.exchange_core.specs.Room.{is_pending}
 use Rattle.exchange_core.specs.Tables.{HasIdle}
-use Rattle.exchange_core.specs.CoreValue.{CoreValue, written}
+use Rattle.exchange_core.specs.CoreValue.{Outgoing, CoreValue, outgoing_of, written}
 use Rattle.exchange_core.proofs.Asking.{asks-request, sent-spelled, kept-begin, len-most, opens-so}
 use Rattle.exchange_core.proofs.Giving.{answerable-begun}
 use Rattle.exchange_core.proofs.Keeping.{may-seal-more}
-use Rattle.exchange_core.proofs.Showing.{sends-after}
+use Rattle.exchange_core.proofs.Unsent.{out-more}
 use Rattle.exchange_core.proofs.core_state.Core.begin.Goals as goal
 
 pub seal-requires-clause-may : goal.seal-requires-clause-may
@@ -54,9 +54,11 @@ invariant_of-self-2 g c =
           c.in_ok-try_reserve.ensures.items c.push_reserved.ensures.items c.in_ok-try_reserve-2.ensures.items c.use_id.ensures c.set_pending.ensures
           (omega (arith, c.in_ok-make_room.ensures.ok, c.len-2.ensures, s.conns.ok.0)) c.add.ensures.room c.add-2.ensures.room
           (c.saturating_add-self-inside.ensures ∙ ap (λ (n : ℕ). min (s.bytes + (c.incoming_size-size.result + (n + 128))) (2 ^ 64 - 1)) len),
-      answerable-begun s.journal.entries _ _ _ _ _ c.args.conn c.max-moment.result c.len-number.result s.taken s.conns.items _ (arc_value c.in_ok-waiting.waiting) s.outbox.waiting _ _ s.outbox.answers _
+      answerable-begun s.journal.entries _ _ _ _ _ c.args.conn c.max-moment.result c.len-number.result (map outgoing_of s.sends.items) _ s.conns.items _ (arc_value c.in_ok-waiting.waiting) s.outbox.waiting _ _ s.outbox.answers _
           c.self.invariant.1 c.in_ok-make_room.ensures.same c.len-number.ensures c.add.ensures.entries c.add-2.ensures.entries
           (ap (λ (m : Mapping). written c.max-moment.result (Asks c.args.conn (ask_of m))) (c.in_ok-asked.ensures ∙ sym c.in_ok-waiting.ensures))
+          (out-more s.sends.items _ _ _ (record { peer = c.args.peer; bytes = arc_value c.in_ok-bytes-2.bytes }) c.in_ok-reserve.ensures.items c.push_back_reserved.ensures.items
+          (ap (λ (b : List ℕ). record { peer = c.args.peer; bytes = b }) c.in_ok-shared.ensures))
           c.set_pending.ensures c.in_ok-make_room-2.ensures.waiting c.expect.ensures.waiting (c.expect.ensures.answers ∙ c.in_ok-make_room-2.ensures.answers),
     )
 
@@ -80,5 +82,6 @@ returns-clause-adds g c =
           c.set_pending.ensures
           (c.push_reserved.ensures.items ∙ ap (λ (es : List Exchange). es ++ record { opening = c.len-number.result; since = c.max-moment.result; number = c.len-number.result + 1; peer = c.args.peer; mid = c.next_mid-mid.result; token = c.token_of-token.result; confirmed = false } ∷ []) c.in_ok-try_reserve.ensures.items)
           (c.expect.ensures.answers ∙ c.in_ok-make_room-2.ensures.answers)
-          (sends-after s.taken s.journal.entries _ _ _ _ _ c.in_ok-make_room.ensures.same c.add.ensures.entries c.add-2.ensures.entries refl refl c.self.invariant.1.taken_so),
+          (out-more s.sends.items _ _ _ (record { peer = c.args.peer; bytes = arc_value c.in_ok-bytes-2.bytes }) c.in_ok-reserve.ensures.items c.push_back_reserved.ensures.items
+          (ap (λ (b : List ℕ). record { peer = c.args.peer; bytes = b }) c.in_ok-shared.ensures)),
     )

@@ -1,7 +1,6 @@
 use Rattle.std.proofs.Common.{arith, refl}
 use Rattle.exchange_core.proofs.Giving.{answerable-shut}
 use Rattle.exchange_core.proofs.Keeping.{kept-close}
-use Rattle.exchange_core.proofs.Showing.{sends-quiet}
 use Rattle.exchange_core.proofs.core_state.Core.close.Goals as goal
 
 pub invariant_of-self : goal.invariant_of-self
@@ -13,9 +12,6 @@ invariant_of-self g c =
           (omega (arith, c.max-moment.ensures)) (omega (arith, c.max-moment.ensures, c.min.ensures, c.self.invariant.0.early))
           found.0 found.1
           c.add.ensures.entries c.drop_conn.ensures c.add.ensures.room c.saturating_add-self-inside.ensures,
-      answerable-shut s.journal.entries _ _ s.conns.items _ _ s.sealed s.last c.in-Some.x c.args.conn s.outbox.waiting _ s.outbox.answers _ s.taken
-          c.self.invariant.0.agrees found.0 found.1 c.add.ensures.entries c.drop_conn.ensures c.forget.ensures.waiting c.forget.ensures.answers c.self.invariant.1,
+      answerable-shut s.journal.entries _ _ s.conns.items _ _ s.sealed s.last c.in-Some.x c.args.conn s.outbox.waiting _ s.outbox.answers _ _
+          c.self.invariant.0.agrees found.0 found.1 refl c.add.ensures.entries c.drop_conn.ensures c.forget.ensures.waiting c.forget.ensures.answers c.self.invariant.1,
     )
-
-pub returns-clause-sends : goal.returns-clause-sends
-returns-clause-sends g c = rw (← c.self.view_is) (rw (c.add.ensures.entries) (sends-quiet c.self.inside.taken c.self.inside.journal.entries _ refl))

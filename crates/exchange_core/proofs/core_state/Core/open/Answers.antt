@@ -3,7 +3,7 @@ use Rattle.std.specs.Prelude.{count_by}
 use Rattle.exchange_core.specs.Room.{is_pending}
 use Rattle.exchange_core.proofs.Giving.{answerable-opened}
 use Rattle.exchange_core.proofs.Keeping.{kept-open}
-use Rattle.exchange_core.proofs.Showing.{connections-are, sends-quiet}
+use Rattle.exchange_core.proofs.Showing.{connections-are}
 use Rattle.exchange_core.proofs.core_state.Core.open.Goals as goal
 
 pub invariant_of-self-2 : goal.invariant_of-self-2
@@ -16,7 +16,7 @@ invariant_of-self-2 g c =
           (omega (arith, c.if-count-ge-CONNECTIONS.false)) (search rules)
           c.in_ok-make_room.ensures.same refl c.add.ensures.entries c.in_ok-try_reserve.ensures.items c.push_reserved.ensures.items
           refl c.in_ok-make_room.ensures.ok c.add.ensures.room c.saturating_add-self-inside.ensures,
-      answerable-opened _ _ _ _ _ _ _ _ _ c.add.ensures.entries c.push_reserved.ensures.items (rw (c.in_ok-make_room.ensures.same, c.in_ok-try_reserve.ensures.items) (c.self.invariant.1)),
+      answerable-opened _ _ _ _ _ _ _ _ _ refl c.add.ensures.entries c.push_reserved.ensures.items (rw (c.in_ok-make_room.ensures.same, c.in_ok-try_reserve.ensures.items) (c.self.invariant.1)),
     )
 
 pub returns-clause-ok : goal.returns-clause-ok
@@ -26,5 +26,5 @@ returns-clause-ok g c = (
   search rules,
   search rules,
   search rules,
-  rw (← c.self.view_is) (rw (c.add.ensures.entries, c.in_ok-make_room.ensures.same) (sends-quiet c.self.inside.taken c.self.inside.journal.entries _ refl)),
+  search rules,
 )

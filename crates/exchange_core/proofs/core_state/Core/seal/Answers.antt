@@ -1,4 +1,4 @@
-use Rattle.std.proofs.Common.{◌≤◌, ℕ, sym, subst, ap, ◌∙◌}
+use Rattle.std.proofs.Common.{◌≤◌, ℕ, refl, sym, subst, ap, ◌∙◌}
 use Rattle.history_laws.specs.Limits.{MaySeal}
 use Rattle.exchange_core.specs.CoreValue.{CoreValue}
 use Rattle.exchange_core.proofs.Giving.{answerable-more}
@@ -13,5 +13,5 @@ invariant_of-self g c =
           c.self.invariant.0 (ap (λ (v : CoreValue). v.sealed) is ∙ c.requires.unsealed)
           (subst (λ (n : ℕ). n ≤ c.args.moment) (sym (ap (λ (v : CoreValue). v.moment) is)) c.requires.later) c.requires.early
           (subst MaySeal (sym (ap (λ (v : CoreValue). v.entries) is)) c.requires.may) c.add.ensures.entries c.add.ensures.room,
-      answerable-more s.journal.entries _ _ s.conns.items s.outbox.waiting s.outbox.answers s.taken c.add.ensures.entries c.self.invariant.1,
+      answerable-more s.journal.entries _ _ s.conns.items s.outbox.waiting s.outbox.answers _ refl c.add.ensures.entries c.self.invariant.1,
     )

@@ -12,7 +12,7 @@ invariant_of-self g c =
         given = All-filter (λ (x : Given). not (eqb x.ask c.args.ticket.now.number)) (IsGiven c.self.inside.journal.entries) _ a.given;
         asked = a.asked;
         kept = a.kept;
-        taken_so = a.taken_so;
+        unsent = a.unsent;
       }),
     )
 

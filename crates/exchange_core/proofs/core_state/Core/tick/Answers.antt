@@ -1,13 +1,13 @@
-use Rattle.std.proofs.Common.{rules, ◌≡◌, ◌≤◌, ◌+◌, ◌-◌, ◌*◌, ℕ, true, false, min, max, ◌^◌, List, length, refl, sym, subst, ap, ◌∙◌, arith}
+use Rattle.std.proofs.Common.{rules, ◌≡◌, ◌≤◌, ◌+◌, ◌-◌, ◌*◌, ℕ, true, false, min, max, ◌^◌, List, length, map, refl, sym, subst, ap, ◌∙◌, arith}
 use Rattle.std.specs.Prelude.{count_by}
 use Rattle.std.proofs.lemmas.Bool.{false≢true}
 use Rattle.journal_book.specs.Entries.{Written}
 use Rattle.history_laws.specs.Kept.{Held}
 use Rattle.exchange_core.specs.Room.{is_pending, takes}
-use Rattle.exchange_core.specs.CoreValue.{CoreValue, now}
+use Rattle.exchange_core.specs.CoreValue.{CoreValue, now, outgoing_of}
 use Rattle.exchange_core.specs.Ticking.{due_count, takes_tick, going}
 use Rattle.exchange_core.proofs.Lates.{prompt-timed}
-use Rattle.exchange_core.proofs.Ticked.{due-fewer, midway-passed, kept-ticked, entries-passed, moment-same, sends-passed, ticked-sealed, room-is, on-err, now-early}
+use Rattle.exchange_core.proofs.Ticked.{due-fewer, midway-passed, kept-ticked, entries-passed, moment-same, ticked-sealed, room-is, on-err, now-early}
 use Rattle.exchange_core.proofs.core_state.Core.tick.Goals as goal
 
 pub overflow_sub-pending : goal.overflow_sub-pending
@@ -89,10 +89,10 @@ answer_each-requires g c =
     let answer : takes v.entries (1 + more) (64 + 68 * more) count (pending - more) ≡ true = sym (c.has_room_for.ensures unsealed) ∙ c.if-not-has_room_for.false in
     let room_fits : takes s.journal.entries (1 + more) (64 + 68 * more) count (pending - more) ≡ true =
     subst (λ (h : List Written). takes h (1 + more) (64 + 68 * more) count (pending - more) ≡ true) (sym (ap (λ (v : CoreValue). v.entries) c.self.view_is)) answer in
-    let start = midway-passed s.journal.entries _ _ s.journal.room _ _ s.conns.items tables s.sealed s.bytes s.last t s.taken count pending more (64 + 68 * more) s.outbox.waiting s.outbox.answers
+    let start = midway-passed s.journal.entries _ _ s.journal.room _ _ s.conns.items tables s.sealed s.bytes s.last t count pending more (64 + 68 * more) (map outgoing_of s.sends.items) s.outbox.waiting s.outbox.answers
     c.self.invariant.0 c.self.invariant.1 c.if-self.false (omega (arith, c.max-moment.ensures)) cnt wait due room_fits
     c.in_ok-make_room.ensures.same c.add.ensures.entries c.in_ok-make_room.ensures.ok c.add.ensures.room in
-    rw (c.deref-5.ensures.value) (record tables { exchanges = going t s.exchanges.items }, s.sealed, s.taken, start)
+    rw (c.deref-5.ensures.value) (record tables { exchanges = going t s.exchanges.items }, s.sealed, map outgoing_of s.sends.items, start)
 
 pub invariant_of-self-2 : goal.invariant_of-self-2
 invariant_of-self-2 g c =
@@ -110,14 +110,14 @@ invariant_of-self-2 g c =
     let answer : takes v.entries (1 + more) (64 + 68 * more) count (pending - more) ≡ true = sym (c.has_room_for.ensures unsealed) ∙ c.if-not-has_room_for.false in
     let room_fits : takes s.journal.entries (1 + more) (64 + 68 * more) count (pending - more) ≡ true =
     subst (λ (h : List Written). takes h (1 + more) (64 + 68 * more) count (pending - more) ≡ true) (sym (ap (λ (v : CoreValue). v.entries) c.self.view_is)) answer in
-    let start = midway-passed s.journal.entries _ _ s.journal.room _ _ s.conns.items tables s.sealed s.bytes s.last t s.taken count pending more (64 + 68 * more) s.outbox.waiting s.outbox.answers
+    let start = midway-passed s.journal.entries _ _ s.journal.room _ _ s.conns.items tables s.sealed s.bytes s.last t count pending more (64 + 68 * more) (map outgoing_of s.sends.items) s.outbox.waiting s.outbox.answers
     c.self.invariant.0 c.self.invariant.1 c.if-self.false (omega (arith, c.max-moment.ensures)) cnt wait due room_fits
     c.in_ok-make_room.ensures.same c.add.ensures.entries c.in_ok-make_room.ensures.ok c.add.ensures.room in
     let gives = rw (c.deref-5.ensures.value) at c.answer_each.ensures.midway in
     let entries = rw (c.deref-5.ensures.value) at c.answer_each.ensures.entries in
     let conns = rw (c.deref-5.ensures.value) at c.answer_each.ensures.conns in
-    let m = gives (record tables { exchanges = going t s.exchanges.items }) s.sealed s.taken start in (
-      kept-ticked s.journal.entries _ _ _ s.journal.room _ s.conns.items _ tables s.sealed s.bytes _ s.last _ t s.taken count pending more (64 + 68 * more) _ _ _
+    let m = gives (record tables { exchanges = going t s.exchanges.items }) s.sealed (map outgoing_of s.sends.items) start in (
+      kept-ticked s.journal.entries _ _ _ s.journal.room _ s.conns.items _ tables s.sealed s.bytes _ s.last _ t count pending more (64 + 68 * more) _ _ _ _
           c.self.invariant.0 c.if-self.false (now-early t s.last c.min.result c.args.moment c.max-moment.ensures c.min.ensures c.self.invariant.0.early) cnt wait due room_fits refl
           c.in_ok-make_room.ensures.same c.add.ensures.entries entries conns m c.drop_late.ensures c.saturating_add-self-inside.ensures,
       m.answerable,
@@ -137,7 +137,7 @@ returns-clause-ends g c _ past takes_it =
     let given = rw (c.add.ensures.entries, c.in_ok-make_room.ensures.same) at gave in
     let entries = entries-passed s.journal.entries _ _ _ _ _ c.in_ok-make_room.ensures.same c.add.ensures.entries added in
     rw (← at_t, ← c.self.view_is) (record {
-      answers = record { entries = entries; conns = conns; answers = given; sends = sends-passed s.taken t s.exchanges.items s.journal.entries _ s.conns.items entries };
+      answers = record { entries = entries; conns = conns; answers = given; sends = refl };
       sealed = c.if-self.false;
       moment = last ∙ moment-same t _;
       exchanges = c.drop_late.ensures;

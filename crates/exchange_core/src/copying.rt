@@ -1,0 +1,158 @@
+//! Copies, which share requests and the bytes of datagrams.
+
+ghost use Rattle.std.specs.Prelude.{◌≡◌, ◌+◌, ◌≤◌, map, length, IfOk, vec_len, vec_capacity};
+ghost use Rattle.std.specs.Arc.{arc_value};
+ghost use Rattle.exchange_core.specs.Answering.{given_of, waited_of};
+ghost use Rattle.exchange_core.specs.CoreValue.{outgoing_of};
+ghost use Rattle.exchange_core.specs.Findings.{response_of, told_of};
+
+use crate::answer::{Answer, Outcome, Response};
+use crate::core_state::Core;
+use crate::outbox::Waiting;
+use crate::outgoing::Datagram;
+use ask_model::Bytes;
+use std::alloc::{AllocError, Global};
+use std::collections::VecDeque;
+use std::sync::Arc;
+use transformers::Relation;
+
+/// Equal values of options.
+fn copy_values(alloc: Global, values: &[Bytes]) -> Result<Vec<Bytes>, AllocError>
+    ensures { IfOk result (λ copy. copy.items ≡ values.now) }
+{
+    let mut copy = Vec::new(alloc);
+    'each: for value in values {
+        copy.push(value.copy()?)?;
+    }
+    Ok(copy)
+}
+
+/// An equal value of an option, if there is one.
+fn copy_value(value: &Option<Bytes>) -> Result<Option<Bytes>, AllocError>
+    ensures { IfOk result (λ copy. copy ≡ value.now) }
+{
+    match value {
+        Some(value) => Ok(Some(value.copy()?)),
+        None => Ok(None),
+    }
+}
+
+impl Response {
+    /// An equal response.
+    pub fn copy(&self) -> Result<Response, AllocError>
+        ensures { IfOk result (λ r. response_of r ≡ response_of self.now) }
+    {
+        let alloc = *self.location_path.allocator();
+        Ok(Response {
+            code: self.code,
+            format: self.format,
+            etag: copy_value(&self.etag)?,
+            max_age: self.max_age,
+            location_path: copy_values(alloc, &self.location_path)?,
+            location_query: copy_values(alloc, &self.location_query)?,
+            body: self.body.copy()?,
+        })
+    }
+}
+
+/// An equal outcome.
+pub fn copy_outcome(outcome: &Outcome) -> Result<Outcome, AllocError>
+    ensures { IfOk result (λ o. told_of o ≡ told_of outcome.now) }
+{
+    match outcome {
+        Outcome::Whole(response) => Ok(Outcome::Whole(response.copy()?)),
+        Outcome::Fault(cause) => Ok(Outcome::Fault(*cause)),
+    }
+}
+
+/// Equal answers.
+pub fn copy_answers<R: Relation>(
+    alloc: Global,
+    answers: &[Answer<R>],
+) -> Result<Vec<Answer<R>>, AllocError>
+    ensures { IfOk result (λ copy. map given_of copy.items ≡ map given_of answers.now) }
+{
+    let mut copy = Vec::new(alloc);
+    'each: for answer in answers {
+        copy.push(answer.copy()?)?;
+    }
+    Ok(copy)
+}
+
+impl<R: Relation> Answer<R> {
+    /// An equal answer.
+    pub fn copy(&self) -> Result<Answer<R>, AllocError>
+        ensures { IfOk result (λ a. given_of a ≡ given_of self.now) }
+    {
+        Ok(Answer {
+            ask: self.ask,
+            number: self.number,
+            mapped: Arc::try_clone(&self.mapped)?,
+            moment: self.moment,
+            heard: self.heard,
+            finding: self.finding.copy()?,
+        })
+    }
+}
+
+/// Equal asks that wait.
+pub fn copy_waiting<R: Relation>(
+    alloc: Global,
+    waiting: &[Waiting<R>],
+) -> Result<Vec<Waiting<R>>, AllocError>
+    ensures { IfOk result (λ copy. map waited_of copy.items ≡ map waited_of waiting.now) }
+{
+    let mut copy = Vec::new(alloc);
+    'each: for ask in waiting {
+        let mapped = Arc::try_clone(&ask.mapped)?;
+        copy.push(Waiting {
+            ask: ask.ask,
+            mapped,
+        })?;
+    }
+    Ok(copy)
+}
+
+/// Equal datagrams.
+fn copy_sends(
+    alloc: Global,
+    sends: &VecDeque<Datagram>,
+) -> Result<VecDeque<Datagram>, AllocError>
+    ensures { IfOk result (λ copy. map outgoing_of copy.items ≡ map outgoing_of sends.now.items) }
+{
+    let mut copy = VecDeque::new(alloc);
+    'each: for i in 0..sends.len() {
+        let bytes = Arc::try_clone(&sends[i].bytes)?;
+        copy.push_back(Datagram {
+            peer: sends[i].peer,
+            bytes,
+        })?;
+    }
+    Ok(copy)
+}
+
+impl<R: Relation> Core<R> {
+    /// An equal core, which shares what was asked and the bytes that were sent.
+    pub fn copy(&self) -> Result<Core<R>, AllocError>
+        ensures { IfOk result (λ c. c ≡ self.now) }
+    {
+        let held = self.conns.len() * 2 + 1;
+        let mut journal = self.journal.copy()?;
+        journal.make_room(held)?;
+        Ok(Core {
+            alloc: self.alloc,
+            journal,
+            conns: Vec::from_slice(self.alloc, &self.conns)?,
+            exchanges: Vec::from_slice(self.alloc, &self.exchanges)?,
+            opened: self.opened,
+            issued: self.issued,
+            known: Vec::from_slice(self.alloc, &self.known)?,
+            heard: Vec::from_slice(self.alloc, &self.heard)?,
+            sealed: self.sealed,
+            bytes: self.bytes,
+            last: self.last,
+            outbox: self.outbox.copy(self.alloc)?,
+            sends: copy_sends(self.alloc, &self.sends)?,
+        })
+    }
+}
