@@ -1,5 +1,5 @@
 -- Steps follow one another.
-use Rattle.std.proofs.Common.{◌≡◌, ℕ, inl, inr, List, [], ◌∷◌, ◌++◌, length, Option, Some, None, Result, Ok, Err, OnOk, refl, sym, ap, ◌∙◌}
+use Rattle.std.proofs.Common.{◌≡◌, ◌<◌, ℕ, zero, suc, inl, inr, arith, List, [], ◌∷◌, ◌++◌, length, Option, Some, None, Result, Ok, Err, OnOk, refl, sym, ap, ◌∙◌}
 use Rattle.std.specs.List.{All, slice_get}
 use Rattle.std.proofs.lemmas.Grind.{flat_map-append}
 use Rattle.std.proofs.lemmas.List.{append-nil, append_assoc}
@@ -9,7 +9,8 @@ use Rattle.ask_model.specs.declared.cause.Cause.{Cause}
 use Rattle.ask_model.specs.Requests.{Sense, Requests, Refuses}
 use Rattle.journal_book.specs.Entries.{Grounds, Live, Kept, Fault, Written}
 use Rattle.exchange_core.specs.Findings.{Told, Tells, Fails}
-use Rattle.exchange_core.specs.CoreValue.{CoreValue, Outgoing, sent_by, sendings}
+use Rattle.exchange_core.specs.declared.outgoing.Datagram.{Datagram}
+use Rattle.exchange_core.specs.CoreValue.{CoreValue, Outgoing, outgoing_of, sent_by, sendings}
 use Rattle.exchange_core.specs.Answering.{Given, HeardAs, IsFound, IsGiven}
 use Rattle.gateway_world.specs.declared.input.Output.{Output}
 use Rattle.gateway_world.specs.declared.input.Output.TheVariants as Out
@@ -133,3 +134,41 @@ pub told-leads : {X E : Type 0} (r : Result X E) (c : CoreValue) (before after :
     → ((h : List Written) → OnOk r (AddsTold h before after)) → Leads r c c before after
 told-leads (Ok v) c before after t = goes-telling c before after (t c.entries)
 told-leads (Err e) c before after t = ([], sym (append-nil c.entries))
+
+-- the first datagram that waits is given out
+pub sent-one : (a b c : CoreValue) (x y z : List Output) (d : Datagram) → Goes a b x y → b.sends ≡ outgoing_of d ∷ c.sends
+    → c.entries ≡ b.entries → z ≡ y ++ Out.Datagram d ∷ [] → Goes a c x z
+sent-one a b c x y z d first sends entries added =
+    goes-on a b c x y z first (record {
+      given = Out.Datagram d ∷ [];
+      added = added;
+      gives = record {
+        more = [];
+        entries = entries ∙ sym (append-nil b.entries);
+        sent = append-nil b.sends ∙ sends;
+        told = All-push (IsTold c.entries) [] (Out.Datagram d) (All-nil (IsTold c.entries)) tt;
+      };
+    })
+
+pub sent-grow : (a b c : CoreValue) (x y : List Output) → Goes a b x y → c.entries ≡ b.entries → Grows a.entries c.entries
+sent-grow a b c x y first entries = (first.gives.more, entries ∙ first.gives.entries)
+
+pub shorter : {X : Type 0} (x : X) (xs ys : List X) → ys ≡ x ∷ xs → length xs < length ys
+shorter x xs ys e = let n = ap length e in omega (arith, n)
+
+-- an answer is taken
+pub goes-taking : (a b : CoreValue) (outputs : List Output) → b.entries ≡ a.entries → b.sends ≡ a.sends → Goes a b outputs outputs
+goes-taking a b outputs entries sends = record {
+  given = [];
+  added = sym (append-nil outputs);
+  gives = record {
+    more = [];
+    entries = entries ∙ sym (append-nil a.entries);
+    sent = append-nil a.sends ∙ sym sends;
+    told = All-nil (IsTold b.entries);
+  };
+}
+
+-- all that is given out, where nothing was before
+pub gives-all : (a b : CoreValue) (outputs : List Output) → Goes a b [] outputs → Gives a.entries a.sends b.entries b.sends outputs
+gives-all a b outputs w = rw (w.added) w.gives

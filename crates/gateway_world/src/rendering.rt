@@ -5,7 +5,9 @@ ghost use Rattle.code_map.specs.Statuses.{number_of};
 ghost use Rattle.http_edge.specs.Answers.{body_bytes};
 ghost use Rattle.ask_model.specs.Views.{came_of, sense_of};
 ghost use Rattle.exchange_core.specs.Answering.{given_of};
-ghost use Rattle.exchange_core.specs.Findings.{response_of};
+ghost use Rattle.journal_book.specs.Entries.{Fault};
+ghost use Rattle.ask_model.specs.declared.cause.Cause.{Cause as Causes};
+ghost use Rattle.exchange_core.specs.Findings.{response_of, Fits, Fails};
 ghost use Rattle.gateway_world.specs.Means.{Means, Shows, Tells, IsOwn, is_head as head, told_status, failure_status as failed};
 
 use crate::fields::{
@@ -39,7 +41,9 @@ pub fn render<R: Relation>(alloc: Global, answer: &Answer<R>) -> Result<HttpAnsw
 }
 
 /// The number of the entry that an error of the proxy's own names.
-fn number_named(finding: &Finding) -> u32 {
+fn number_named(finding: &Finding) -> u32
+    ensures { (cause : Causes) → Fits (Fails cause) finding.now.grounds → finding.now.grounds ≡ Fault cause result }
+{
     match finding.grounds() {
         Grounds::Fault(_, number) => *number,
         Grounds::Live(_) | Grounds::Kept(_) => 0,

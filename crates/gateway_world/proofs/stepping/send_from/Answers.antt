@@ -1,0 +1,16 @@
+-- Each datagram that is taken is given out.
+use Rattle.gateway_world.proofs.Going.{goes-none, sent-one, shorter, sent-grow}
+use Rattle.gateway_world.proofs.stepping.send_from.Goals as goal
+
+pub each-init : goal.each-init
+each-init g c = goes-none _ _
+
+pub each-smaller : goal.each-smaller
+each-smaller g c = shorter _ _ _ (rw c.in-Some.is at c.take_send.ensures.some)
+
+pub each-preserved : goal.each-preserved
+each-preserved g c =
+    sent-one _ _ _ _ _ _ c.in-Some.datagram c.each.invariant (rw c.in-Some.is at c.take_send.ensures.some) c.take_send.ensures.entries c.in_ok-push.ensures.items
+
+pub returns-in_err-push : goal.returns-in_err-push
+returns-in_err-push g c = sent-grow _ _ _ _ _ c.each.invariant c.take_send.ensures.entries
