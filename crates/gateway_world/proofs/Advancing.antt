@@ -1,7 +1,7 @@
 -- Each step of a core adds entries, and what they send waits.
 use Rattle.std.proofs.Common.{◌≡◌, ◌≢◌, ◌⊎◌, ℕ, suc, ◌<◌, Bool, true, false, inl, inr, List, [], ◌∷◌, ◌++◌, length, Option, Some, None, Result, Ok, Err, IfOk, OnOk, OnErr, IsTrue, IsFalse, refl, sym, ap, ◌∙◌, arith}
 use Rattle.std.specs.List.{All, Contains}
-use Rattle.std.specs.Prelude.{Unit, option_to_list}
+use Rattle.std.specs.Prelude.{option_to_list}
 use Rattle.std.proofs.lemmas.Bool.{cases_Bool, false≢true}
 use Rattle.std.proofs.lemmas.Grind.{flat_map-append}
 use Rattle.std.proofs.lemmas.List.{append-nil, append_assoc}
@@ -123,7 +123,7 @@ ticking a b t early ends seals keeps =
         | inl all ↦ same-advances a b (early n all)
         | inr w ↦ elim (cases_Bool (takes_tick t a)) [
           | inl y ↦ late-one a b t (written t Passes) refl (ends n w y).answers
-          | inr no ↦ late-one a b t (written t Seals) refl (seals n w no).answers
+          | inr late ↦ late-one a b t (written t Seals) refl (seals n w late).answers
         ]
       ]
     ]

@@ -105,11 +105,7 @@ fn write_grounds<W: Write>(writer: &mut W, grounds: &Grounds) -> Result<(), Repl
 }
 
 /// Writes `WORD N,N..`.
-fn write_numbers<W: Write>(
-    writer: &mut W,
-    word: &str,
-    numbers: &[u32],
-) -> Result<(), ReplayFault> {
+fn write_numbers<W: Write>(writer: &mut W, word: &str, numbers: &[u32]) -> Result<(), ReplayFault> {
     written(write!(writer, "{word} "))?;
     for (i, number) in numbers.iter().enumerate() {
         if i > 0 {

@@ -4,9 +4,9 @@ use Rattle.gateway_world.proofs.Bodies.{typed_refused, untyped_asked}
 use Rattle.gateway_world.proofs.mapping.body_meaning.Goals as goal
 
 pub returns-then-is_typed : goal.returns-then-is_typed
-returns-then-is_typed g c = λ s. typed_refused _ _ s (content c.args.request.now) c.args.method c.args.target c.args.peer (rw c.if-is_typed.true at (c.is_typed.ensures s))
+returns-then-is_typed g c = λ s. typed_refused g.R.Relation.holds g.R.Relation.takes s (content c.args.request.now) c.args.method c.args.target c.args.peer (rw c.if-is_typed.true at (c.is_typed.ensures s))
 
 pub returns : goal.returns
 returns g c = λ s.
-    untyped_asked _ _ s (content c.args.request.now) c.args.method c.args.target c.args.peer _
+    untyped_asked g.R.Relation.holds g.R.Relation.takes s (content c.args.request.now) c.args.method c.args.target c.args.peer _
     (rw c.if-is_typed.false at (c.is_typed.ensures s)) (c.payload_of.ensures c.args.request.now.body.items)

@@ -9,5 +9,5 @@ pub returns-in-Fault-clause-means : goal.returns-in-Fault-clause-means
 returns-in-Fault-clause-means g c =
     let x = given_of c.args.answer.now in
     let told : x.found.told ≡ Fails c.in-Fault.cause = rw c.in-Fault.is at (sym c.outcome.ensures.told) in
-    let grounds = c.number_named.ensures c.in-Fault.cause (rw told at c.outcome.ensures.fits) in
-    tells_means x c.in-Fault.cause c.number_named.result c.tell.result told grounds c.tell.ensures.tells
+    let grounds = c.number_named-number.ensures c.in-Fault.cause (rw told at c.outcome.ensures.fits) in
+    tells_means x c.in-Fault.cause c.number_named-number.result c.tell.result told grounds c.tell.ensures.tells

@@ -13,4 +13,4 @@ each-preserved g c =
     sent-one _ _ _ _ _ _ c.in-Some.datagram c.each.invariant (rw c.in-Some.is at c.take_send.ensures.some) c.take_send.ensures.entries c.in_ok-push.ensures.items
 
 pub returns-in_err-push : goal.returns-in_err-push
-returns-in_err-push g c = sent-grow _ _ _ _ _ c.each.invariant c.take_send.ensures.entries
+returns-in_err-push g c = record { leads = sent-grow _ _ _ _ _ c.each.invariant c.take_send.ensures.entries; sent = tt }

@@ -4,7 +4,7 @@ use Rattle.gateway_world.proofs.engine.Engine.answer.Goals as goal
 
 pub give-requires : goal.give-requires
 give-requires g c =
-    let w = rw c.in-Some-2.is at c.take_answer.ensures.some in
+    let w = rw c.in-Some-take_answer.is at c.take_answer.ensures.some in
     rw c.take_answer.ensures.entries w.2
 
 pub returns : goal.returns

@@ -7,3 +7,6 @@ each-init g c = goes-none _ _
 
 pub each-preserved : goal.each-preserved
 each-preserved g c = goes-on _ _ _ _ _ _ c.each.invariant c.in_ok-answer.ensures
+
+pub returns-then-ask : goal.returns-then-ask
+returns-then-ask g c = goes-on _ _ _ _ _ _ c.each.invariant c.in_ok-answer.ensures

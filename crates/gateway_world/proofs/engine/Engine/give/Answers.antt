@@ -6,5 +6,5 @@ pub returns-then-closes : goal.returns-then-closes
 returns-then-closes g c =
     leads-on c.shut.result _ _ _ _ _ _ (goes-telling _ _ _ (c.in_ok-tell_answer.ensures c.args.self.now.core.entries c.requires)) c.shut.ensures
 
-pub returns : goal.returns
-returns g c = goes-telling _ _ _ (c.in_ok-tell_answer.ensures c.args.self.now.core.entries c.requires)
+pub returns-else-closes : goal.returns-else-closes
+returns-else-closes g c = goes-telling _ _ _ (c.in_ok-tell_answer.ensures c.args.self.now.core.entries c.requires)
