@@ -1,4 +1,5 @@
 -- Each datagram that is taken is given out.
+use Rattle.std.proofs.lemmas.Result.{err_from_is_err_and}
 use Rattle.gateway_world.proofs.Going.{goes-none, sent-one, shorter, sent-grow}
 use Rattle.gateway_world.proofs.stepping.send_from.Goals as goal
 
@@ -13,4 +14,6 @@ each-preserved g c =
     sent-one _ _ _ _ _ _ c.in-Some.datagram c.each.invariant (rw c.in-Some.is at c.take_send.ensures.some) c.take_send.ensures.entries c.in_ok-push.ensures.items
 
 pub returns-in_err-push : goal.returns-in_err-push
-returns-in_err-push g c = record { leads = sent-grow _ _ _ _ _ c.each.invariant c.take_send.ensures.entries; sent = tt }
+returns-in_err-push g c =
+    let failed = err_from_is_err_and c.from_residual.result c.from_residual.ensures.1 in
+    record { leads = rw (failed.1) (sent-grow _ _ _ _ _ c.each.invariant c.take_send.ensures.entries); sent = rw (failed.1) tt }
