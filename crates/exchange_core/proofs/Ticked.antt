@@ -1,9 +1,9 @@
 -- What a core keeps, behind a tick.
 use Rattle.std.proofs.Common.{◌≡◌, ℕ, zero, suc, ◌+◌, ◌-◌, ◌*◌, ◌^◌, ◌<◌, ◌≤◌, min, max, Bool, true, false, cond, inl, inr, List, [], ◌∷◌, ◌++◌, length, map, Option, Some, None, refl, sym, ap, subst, ◌∙◌, arith, length-append}
-use Rattle.std.specs.Prelude.{sum_by, count_by, is_some, Result, Ok, Err, OnErr}
+use Rattle.std.specs.Prelude.{sum_by, count_by, Result, Ok, Err, OnErr}
 use Rattle.std.specs.List.{filter}
 use Rattle.std.proofs.lemmas.List.{length-map, append-nil, append_assoc}
-use Rattle.std.proofs.lemmas.List.Sums.{sum_by-append, sum_by-cons, count_by-le-length}
+use Rattle.std.proofs.lemmas.List.Sums.{sum_by-append, count_by-le-length}
 use Rattle.std.proofs.lemmas.Bool.{false≢true}
 use Rattle.journal_book.specs.Entries.{Written, Passes, Seals, entry_size}
 use Rattle.history_laws.specs.declared.kept.Conn.{Conn}
@@ -13,73 +13,29 @@ use Rattle.history_laws.specs.Kept.{Held, Agrees}
 use Rattle.history_laws.specs.Amid.{Ended}
 use Rattle.history_laws.proofs.Amidst.{Amid-done}
 use Rattle.history_laws.proofs.Lateness.{Amid-passed, Amid-late}
-use Rattle.exchange_core.specs.Room.{is_some_ask, is_pending, fits, takes, held}
+use Rattle.exchange_core.specs.Room.{is_pending, fits, takes, held}
 use Rattle.exchange_core.specs.Answering.{Given, Waited}
 use Rattle.exchange_core.specs.CoreValue.{written, CoreValue, CoreKept, Answerable, is_sending, sends_behind}
-use Rattle.exchange_core.specs.Ticking.{is_past, late_for, is_due, timeout_by, timeout_for, timeouts, timed_by, timed, going, due_count, late_end, moment_after, takes_tick, AddsAnswers, SealsLate, Midway}
+use Rattle.exchange_core.specs.Ticking.{is_past, late_reader, timeout_by, timeout_for, timeouts, timed, going, due_count, late_end, moment_after, takes_tick, AddsAnswers, SealsLate, Midway}
 use Rattle.exchange_core.proofs.Giving.{answerable-more}
 use Rattle.exchange_core.proofs.Keeping.{fits-parts, fits-from, fits-not, takes-fits}
 use Rattle.exchange_core.proofs.Showing.{sends-quiet}
-use Rattle.exchange_core.proofs.Lates.{IsLate, late-is, none-waits}
-
-abbrev one_for : Bool → ℕ
-one_for b = cond b 1 0
-
-one-timeout : (t : ℕ) (x : Conn) (o : Option Exchange) → length (timeout_by t x o) ≡ one_for (is_some o)
-one-timeout t x None = refl
-one-timeout t x (Some e) = refl
-
-one-size : (t : ℕ) (x : Conn) (o : Option Exchange) → sum_by entry_size (timeout_by t x o) ≡ 68 * one_for (is_some o)
-one-size t x None = refl
-one-size t x (Some e) = refl
-
-one-waits : (t : ℕ) (es : List Exchange) (x : Conn) (o : Option Exchange) → late_for t es x ≡ o
-    → one_for (is_pending (timed_by o x)) + one_for (is_some o) ≡ one_for (is_pending x)
-one-waits t es x None late = omega arith
-one-waits t es x (Some e) late =
-    let waits : is_pending x ≡ true = ap is_some_ask (late-is t es x.pending e late).waited in
-    rw waits refl
-
--- as many answers as connections that wait for one that is late, of 68 bytes each
-pub timeouts-many : (t : ℕ) (es : List Exchange) (cs : List Conn) → length (timeouts t es cs) ≡ due_count t es cs
-timeouts-many t es [] = refl
-timeouts-many t es (x ∷ cs) =
-    let rest = timeouts-many t es cs in
-    let one = one-timeout t x (late_for t es x) in
-    let both = length-append (timeout_for t es x) (timeouts t es cs) in
-    let sum = sum_by-cons (λ (x : Conn). cond (is_due t es x) 1 0) x cs in
-    omega (arith, rest, one, both, sum)
-
-pub timeouts-size : (t : ℕ) (es : List Exchange) (cs : List Conn) → sum_by entry_size (timeouts t es cs) ≡ 68 * due_count t es cs
-timeouts-size t es [] = refl
-timeouts-size t es (x ∷ cs) =
-    let rest = timeouts-size t es cs in
-    let one = one-size t x (late_for t es x) in
-    let both = sum_by-append entry_size (timeout_for t es x) (timeouts t es cs) in
-    let sum = sum_by-cons (λ (x : Conn). cond (is_due t es x) 1 0) x cs in
-    omega (arith, rest, one, both, sum)
-
-pub waits-less : (t : ℕ) (es : List Exchange) (cs : List Conn) → count_by is_pending (map (timed t es) cs) + due_count t es cs ≡ count_by is_pending cs
-waits-less t es [] = refl
-waits-less t es (x ∷ cs) =
-    let rest = waits-less t es cs in
-    let one = one-waits t es x (late_for t es x) refl in
-    let sum = sum_by-cons (λ (x : Conn). cond (is_due t es x) 1 0) x cs in
-    let whole = sum_by-cons (λ (x : Conn). cond (is_pending x) 1 0) x cs in
-    let left = sum_by-cons (λ (x : Conn). cond (is_pending x) 1 0) (timed t es x) (map (timed t es) cs) in
-    omega (arith, rest, one, sum, whole, left)
+use Rattle.exchange_core.proofs.Lates.{none-waits}
+use Rattle.exchange_core.proofs.Rising.{table-rising}
+use Rattle.exchange_core.proofs.Waiters.{apart-agrees}
+use Rattle.exchange_core.proofs.Timed.{waits-less, timeouts-many, timeouts-size}
 
 -- none of them is a sending
-one-quiet : (n t : ℕ) (h : List Written) (x : Conn) (o : Option Exchange) → sends_behind n (h ++ timeout_by t x o) ≡ sends_behind n h
-one-quiet n t h x None = ap (sends_behind n) (append-nil h)
-one-quiet n t h x (Some e) = sends-quiet n h _ refl
+one-quiet : (n t : ℕ) (h : List Written) (e : Exchange) (o : Option Conn) → sends_behind n (h ++ timeout_by t e o) ≡ sends_behind n h
+one-quiet n t h e None = ap (sends_behind n) (append-nil h)
+one-quiet n t h e (Some x) = sends-quiet n h _ refl
 
 pub timeouts-quiet : (n t : ℕ) (es : List Exchange) (h : List Written) (cs : List Conn) → sends_behind n (h ++ timeouts t es cs) ≡ sends_behind n h
-timeouts-quiet n t es h [] = ap (sends_behind n) (append-nil h)
-timeouts-quiet n t es h (x ∷ cs) =
-    ap (sends_behind n) (sym (append_assoc h (timeout_for t es x) (timeouts t es cs)))
-    ∙ timeouts-quiet n t es (h ++ timeout_for t es x) cs
-    ∙ one-quiet n t h x (late_for t es x)
+timeouts-quiet n t [] h cs = ap (sends_behind n) (append-nil h)
+timeouts-quiet n t (e ∷ es) h cs =
+    ap (sends_behind n) (sym (append_assoc h (timeout_for t cs e) (timeouts t es cs)))
+    ∙ timeouts-quiet n t es (h ++ timeout_for t cs e) cs
+    ∙ one-quiet n t h e (late_reader t cs e)
 
 -- the start of a tick, whose entry is written
 pub midway-passed : (h h1 h2 : List Written) (room room1 room2 : ℕ) (cs : List Conn) (tables : Held) (s : Bool) (bytes last t n count pending more size : ℕ) (ws : List Waited) (gs : List Given)
@@ -96,6 +52,7 @@ midway-passed h h1 h2 room room1 room2 cs tables s bytes last t n count pending 
       amid = Amid-passed t h cs tables last before.agrees later;
       answerable = answerable-more h (h ++ written t Passes ∷ []) (written t Passes) cs ws gs n refl a;
       later = omega arith;
+      rising = table-rising h cs tables false last before.agrees;
       room_held = omega (arith, made, less, cnt, wait);
       short = omega (arith, parts.0, cnt, wait, longer);
     } in
@@ -111,6 +68,7 @@ midway-sealed h room cs tables s bytes last t n ws gs k a sealed later =
       amid = Amid-late t h cs tables last before.agrees;
       answerable = a;
       later = later;
+      rising = table-rising h cs tables true last before.agrees;
       room_held = before.room_held;
       short = before.short;
     } in
@@ -135,7 +93,7 @@ kept-ticked h h1 h2 h3 room room3 cs cs3 tables s bytes bytes' last last3 t n co
     let was = k.bytes_are unsealed in
     let fit : fits (length h + (1 + more)) (bytes + size) count (pending - more) ≡ true = sym (takes-fits h bytes (1 + more) size count (pending - more) was) ∙ room-fits in
     let parts = fits-parts (length h + (1 + more)) (bytes + size) count (pending - more) fit in
-    let many = timeouts-many t es cs in
+    let many = timeouts-many t es cs (table-rising h cs tables s last k.agrees) (apart-agrees h cs tables s last k.agrees) in
     let sizes = timeouts-size t es cs in
     let fewer = waits-less t es cs in
     let same : bytes' ≡ bytes + size = omega (arith, parts.1, b) in
@@ -152,7 +110,7 @@ kept-ticked h h1 h2 h3 room room3 cs cs3 tables s bytes bytes' last last3 t n co
     let by_then = m.later in
     let kept : CoreKept h3 room3 cs3 (record tables { exchanges = going t es }) s bytes' last3 = record {
       agrees = agrees-ticked t es _ s n h3 room3 cs cs3 last3 ws3 gs3 m f3;
-      bytes_are = λ u. omega (arith, sum1, sum2, was, same, sizes, due, sized, summed);
+      bytes_are = λ u. omega (arith, sum1, sum2, was, same, sizes, many, due, sized, summed);
       room_held = m.room_held;
       within = λ u. fits-from (length h3) bytes' (length cs3) (count_by is_pending cs3)
           (omega (arith, parts.0, size1, size2, longer, many, due, cnt, wait, conns, waiting, fewer))
