@@ -26,11 +26,11 @@ rising-push n (k ∷ ns) r below = (
 
 rising-filter : (p : ℕ → Bool) (ns : List ℕ) → Rising ns → Rising (filter p ns)
 rising-filter p [] r = tt
-rising-filter p (n ∷ ns) r = go (p n)
+rising-filter p (n ∷ ns) r = go (p n) (rising-filter p ns r.1)
   where
-    go : (b : Bool) → Rising (cond b (n ∷ filter p ns) (filter p ns))
-    go true = (All-filter p (λ (m : ℕ). n < m) ns r.0, rising-filter p ns r.1)
-    go false = rising-filter p ns r.1
+    go : (b : Bool) → Rising (filter p ns) → Rising (cond b (n ∷ filter p ns) (filter p ns))
+    go true rest = (All-filter p (λ (m : ℕ). n < m) ns r.0, rest)
+    go false rest = rest
 
 -- openings rise, and are below the number of entries
 opened-rise : (n : ℕ) (note : Note) (ns : List ℕ) → Rising ns → All (λ (m : ℕ). m < n) ns

@@ -16,11 +16,10 @@ use Rattle.history_laws.proofs.Elements.{contains-none, first-or-later}
 use Rattle.history_laws.proofs.Pending.{Distinct}
 use Rattle.history_laws.proofs.Askers.{waits-apart}
 use Rattle.history_laws.proofs.Readers.{Agrees-distinct, Amid-distinct, pending-apart}
-use Rattle.exchange_core.specs.declared.verdict.Ending.{Ending}
 use Rattle.exchange_core.specs.declared.step.Reader.{Reader}
 use Rattle.exchange_core.specs.Findings.{Fails}
 use Rattle.exchange_core.specs.Steps.{IsReader}
-use Rattle.exchange_core.specs.Ticking.{is_past, late_on, late_for, timed_by, timed, waits_on, reader_in, late_reader, late_ending}
+use Rattle.exchange_core.specs.Ticking.{is_past, late_on, late_for, timed_by, timed, waits_on, reader_in, late_reader, timed_out, late_ending}
 use Rattle.exchange_core.proofs.Lates.{IsLate, late-is, find-none, find-is, find-not}
 
 -- no two connections have the same number, or wait for the same
@@ -63,7 +62,7 @@ same-number (z ∷ zs) x y d has_x has_y e =
 
 -- who waits for an ask
 waits-for : (k : ℕ) (p : Option ℕ) → waits_on k p ≡ true → p ≡ Some k
-waits-for k None e = cc
+waits-for k None e = absurd (false≢true e)
 waits-for k (Some j) e =
     elim (eqb_tells j k) [ inl w ↦ ap (λ (n : ℕ). Some n) w.1 | inr w ↦ absurd (false≢true (sym w.0 ∙ e)) ]
 
@@ -84,12 +83,9 @@ reader-none cs k none =
 reader-some : (cs : List Conn) (x : Conn) (k : ℕ) → AreApart cs → Contains cs x → x.pending ≡ Some k → reader_in cs k ≡ Some x
 reader-some cs x k a has waits = go (reader_in cs k) refl
   where
-    test : Conn → Bool
-    test y = waits_on k y.pending
-
     go : (o : Option Conn) → reader_in cs k ≡ o → reader_in cs k ≡ Some x
     go None is =
-        let no : test x ≡ false = All-contains (λ (y : Conn). waits_on k y.pending ≡ false) cs x (find-not (λ (y : Conn). waits_on k y.pending) cs is) has in
+        let no : waits_on k x.pending ≡ false = All-contains (λ (y : Conn). waits_on k y.pending ≡ false) cs x (find-not (λ (y : Conn). waits_on k y.pending) cs is) has in
         absurd (false≢true (sym no ∙ waits-yes k x.pending waits))
     go (Some y) is =
         let it = find-is (λ (y : Conn). waits_on k y.pending) cs y is in
@@ -103,7 +99,8 @@ pub record IsTimed (t : ℕ) (cs : List Conn) (e : Exchange) (x : Conn) : Type 0
   pub past : is_past t e ≡ true
 
 pub timed-reader : (t : ℕ) (cs : List Conn) (e : Exchange) (x : Conn) → AreApart cs → IsTimed t cs e x → late_reader t cs e ≡ Some x
-timed-reader t cs e x a w = rw (w.past) (reader-some cs x e.opening a w.stands w.waits)
+timed-reader t cs e x a w =
+    subst (λ (b : Bool). cond b (reader_in cs e.opening) None ≡ Some x) (sym w.past) (reader-some cs x e.opening a w.stands w.waits)
 
 pub reader-timed : (t : ℕ) (cs : List Conn) (e : Exchange) (x : Conn) → late_reader t cs e ≡ Some x → IsTimed t cs e x
 reader-timed t cs e x f = go (is_past t e) refl f
@@ -132,10 +129,7 @@ none-timed t cs e f = go (is_past t e) refl f
 pub looked-none : (t : ℕ) (cs : List Conn) (e : Exchange) → IsReader cs (late_ending t e) None → late_reader t cs e ≡ None
 looked-none t cs e w = go (is_past t e) w
   where
-    ending : Ending
-    ending = record { opening = e.opening; finding = record { told = Fails Timeout; grounds = Fault Timeout e.number } }
-
-    go : (b : Bool) → IsReader cs (cond b (Some ending) None) None → cond b (reader_in cs e.opening) None ≡ None
+    go : (b : Bool) → IsReader cs (cond b (Some (timed_out e)) None) None → cond b (reader_in cs e.opening) None ≡ None
     go false w = refl
     go true w = reader-none cs e.opening w
 
@@ -150,10 +144,7 @@ pub record Looked (t : ℕ) (cs : List Conn) (e : Exchange) (r : Reader) : Type 
 pub looked-some : (t : ℕ) (cs : List Conn) (e : Exchange) (r : Reader) → IsReader cs (late_ending t e) (Some r) → Looked t cs e r
 looked-some t cs e r w = go (is_past t e) refl w
   where
-    ending : Ending
-    ending = record { opening = e.opening; finding = record { told = Fails Timeout; grounds = Fault Timeout e.number } }
-
-    go : (b : Bool) → is_past t e ≡ b → IsReader cs (cond b (Some ending) None) (Some r) → Looked t cs e r
+    go : (b : Bool) → is_past t e ≡ b → IsReader cs (cond b (Some (timed_out e)) None) (Some r) → Looked t cs e r
     go false past w = elim w [ ]
     go true past w = record {
       conn = w.0.0;
@@ -169,6 +160,9 @@ kept-one : (t k : ℕ) (xs : List Exchange) (x : Conn) (rest : Option Conn) → 
     → cond (waits_on k (timed t xs x).pending) (Some (timed t xs x)) rest ≡ cond (waits_on k x.pending) (Some x) rest
 kept-one t k xs x rest apart = go (late_for t xs x) refl
   where
+    some-same : (a b : ℕ) → Some a ≡ Some b → a ≡ b
+    some-same a b e = cc
+
     go : (o : Option Exchange) → late_for t xs x ≡ o
         → cond (waits_on k (timed_by o x).pending) (Some (timed_by o x)) rest ≡ cond (waits_on k x.pending) (Some x) rest
     go None is = refl
@@ -177,9 +171,6 @@ kept-one t k xs x rest apart = go (late_for t xs x) refl
         let other : d.opening ≢ k = All-contains (λ (d : Exchange). d.opening ≢ k) xs d apart it.stands in
         let no : waits_on k x.pending ≡ false = waits-no k x.pending (λ same. other (some-same d.opening k (sym it.waited ∙ same))) in
         rw no refl
-
-    some-same : (a b : ℕ) → Some a ≡ Some b → a ≡ b
-    some-same a b e = cc
 
 reader-kept : (t k : ℕ) (xs : List Exchange) (cs : List Conn) → All (λ (d : Exchange). d.opening ≢ k) xs
     → reader_in (map (timed t xs) cs) k ≡ reader_in cs k

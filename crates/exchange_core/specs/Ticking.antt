@@ -140,9 +140,11 @@ abbrev pub late_end : Exchange → Ended
 late_end e = record { opening = e.opening; grounds = Fault Timeout e.number }
 
 -- how an exchange ends that is past its time
+abbrev pub timed_out : Exchange → Ending
+timed_out e = record { opening = e.opening; finding = record { told = Fails Timeout; grounds = Fault Timeout e.number } }
+
 abbrev pub late_ending : ℕ → Exchange → Option Ending
-late_ending t e =
-    if is_past t e then Some (record { opening = e.opening; finding = record { told = Fails Timeout; grounds = Fault Timeout e.number } }) else None
+late_ending t e = if is_past t e then Some (timed_out e) else None
 
 -- The exchanges stand by rising opening.
 abbrev pub AreRising : List Exchange → Type 0
