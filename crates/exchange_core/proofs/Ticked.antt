@@ -1,5 +1,5 @@
 -- What a core keeps, behind a tick.
-use Rattle.std.proofs.Common.{◌≡◌, ℕ, zero, suc, ◌+◌, ◌-◌, ◌*◌, ◌^◌, ◌<◌, ◌≤◌, min, max, Bool, true, false, cond, inl, inr, List, [], ◌∷◌, ◌++◌, length, map, Option, Some, None, refl, sym, ap, subst, ◌∙◌, arith, length-append}
+use Rattle.std.proofs.Common.{◌≡◌, ℕ, ◌+◌, ◌-◌, ◌*◌, ◌^◌, ◌≤◌, min, max, Bool, true, false, inl, inr, List, [], ◌∷◌, ◌++◌, length, map, Option, Some, None, refl, sym, ap, subst, ◌∙◌, arith, length-append}
 use Rattle.std.specs.Prelude.{sum_by, count_by, Result, Ok, Err, OnErr}
 use Rattle.std.specs.List.{filter}
 use Rattle.std.proofs.lemmas.List.{length-map, append-nil, append_assoc}
@@ -10,12 +10,11 @@ use Rattle.history_laws.specs.declared.kept.Conn.{Conn}
 use Rattle.history_laws.specs.declared.kept.Exchange.{Exchange}
 use Rattle.history_laws.specs.Limits.{MaySeal}
 use Rattle.history_laws.specs.Kept.{Held, Agrees}
-use Rattle.history_laws.specs.Amid.{Ended}
 use Rattle.history_laws.proofs.Amidst.{Amid-done}
 use Rattle.history_laws.proofs.Lateness.{Amid-passed, Amid-late}
-use Rattle.exchange_core.specs.Room.{is_pending, fits, takes, held}
+use Rattle.exchange_core.specs.Room.{is_pending, fits, takes}
 use Rattle.exchange_core.specs.Answering.{Given, Waited}
-use Rattle.exchange_core.specs.CoreValue.{written, CoreValue, CoreKept, Answerable, is_sending, sends_behind}
+use Rattle.exchange_core.specs.CoreValue.{written, CoreValue, CoreKept, Answerable, sends_behind}
 use Rattle.exchange_core.specs.Ticking.{is_past, late_reader, timeout_by, timeout_for, timeouts, timed, going, due_count, late_end, moment_after, takes_tick, AddsAnswers, SealsLate, Midway}
 use Rattle.exchange_core.proofs.Giving.{answerable-more}
 use Rattle.exchange_core.proofs.Keeping.{fits-parts, fits-from, fits-not, takes-fits}

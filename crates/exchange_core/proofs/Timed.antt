@@ -1,11 +1,11 @@
 -- Connections behind the turns of exchanges, and how many of them are answered.
-use Rattle.std.proofs.Common.{◌≡◌, ◌≢◌, ℕ, zero, suc, ◌+◌, ◌*◌, Bool, true, false, cond, ◌&&◌, eqb, inl, inr, List, [], ◌∷◌, ◌++◌, length, set, map, Option, Some, None, refl, sym, ap, ap₂, subst, ◌∙◌, arith, length-append}
+use Rattle.std.proofs.Common.{◌≡◌, ◌≢◌, ℕ, ◌+◌, ◌*◌, Bool, true, false, cond, ◌&&◌, eqb, inl, inr, List, [], ◌∷◌, ◌++◌, length, set, map, Option, Some, None, refl, sym, ap, ap₂, subst, ◌∙◌, arith, length-append}
 use Rattle.std.specs.Prelude.{sum_by, count_by, is_some}
 use Rattle.std.specs.List.{All, Contains, find}
 use Rattle.std.proofs.lemmas.List.Sums.{sum_by-append, sum_by-cons, sum_by-set}
 use Rattle.std.proofs.lemmas.List.Elements.{All-head, All-tail, All-weaker, All-contains, All-contains_itself}
 use Rattle.std.proofs.lemmas.Bool.Decides.{eqb_tells}
-use Rattle.journal_book.specs.Entries.{Written, entry_size}
+use Rattle.journal_book.specs.Entries.{entry_size}
 use Rattle.history_laws.specs.declared.kept.Conn.{Conn}
 use Rattle.history_laws.specs.declared.kept.Exchange.{Exchange}
 use Rattle.history_laws.specs.Kept.{pend}
@@ -13,7 +13,7 @@ use Rattle.history_laws.proofs.Elements.{contains-none, first-or-later}
 use Rattle.history_laws.proofs.Readers.{pend-at}
 use Rattle.exchange_core.specs.Room.{is_some_ask, is_pending}
 use Rattle.exchange_core.specs.Ticking.{is_past, late_on, late_for, is_due, due_count, timed_by, timed, late_reader, timeout_by, timeout_for, timeouts, AreRising}
-use Rattle.exchange_core.proofs.Lates.{IsLate, late-is}
+use Rattle.exchange_core.proofs.Lates.{late-is}
 use Rattle.exchange_core.proofs.Rising.{behind-apart}
 use Rattle.exchange_core.proofs.Waiters.{AreApart, same-number, IsTimed, HasNone, reader-timed, none-timed}
 

@@ -1,5 +1,5 @@
 -- In the midst of a tick: who waits for one exchange more gets its answer.
-use Rattle.std.proofs.Common.{◌≡◌, ◌≢◌, ℕ, ◌+◌, ◌<◌, ◌≤◌, Bool, true, false, not, eqb, inl, inr, List, [], ◌∷◌, ◌++◌, length, get_or, take, map, Option, Some, None, refl, sym, ap, subst, ◌∙◌, arith, length-append}
+use Rattle.std.proofs.Common.{◌≡◌, ℕ, ◌+◌, ◌<◌, ◌≤◌, Bool, true, false, not, eqb, inl, inr, List, [], ◌∷◌, ◌++◌, length, get_or, take, map, Option, Some, None, refl, sym, ap, subst, ◌∙◌, arith, length-append}
 use Rattle.std.specs.Prelude.{count_by}
 use Rattle.std.specs.List.{All, Contains, filter, slice_get}
 use Rattle.std.proofs.lemmas.List.{length-map, append-nil, append_assoc, take_all, take_more}
@@ -12,8 +12,7 @@ use Rattle.journal_book.specs.Entries.{Written, Asks, Answers, Fault}
 use Rattle.journal_book.specs.Views.{ask_of}
 use Rattle.history_laws.specs.declared.kept.Conn.{Conn}
 use Rattle.history_laws.specs.declared.kept.Exchange.{Exchange}
-use Rattle.history_laws.specs.Readings.{Noted, Note, entries, at}
-use Rattle.history_laws.specs.Justified.{IsAsk}
+use Rattle.history_laws.specs.Readings.{Noted, entries, at}
 use Rattle.history_laws.specs.Kept.{pend, Held}
 use Rattle.history_laws.specs.Amid.{Ended, Amid}
 use Rattle.history_laws.proofs.Conns.{TurnIn}

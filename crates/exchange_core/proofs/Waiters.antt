@@ -1,7 +1,7 @@
 -- Who waits for an exchange that is late: one connection alone, whichever others were answered before.
-use Rattle.std.proofs.Common.{◌≡◌, ◌≢◌, ℕ, zero, suc, ◌+◌, ◌<◌, Bool, true, false, cond, ◌&&◌, eqb, inl, inr, List, [], ◌∷◌, ◌++◌, length, map, Option, Some, None, refl, sym, ap, ap₂, subst, ◌∙◌, arith}
-use Rattle.std.specs.List.{All, Contains, find}
-use Rattle.std.proofs.lemmas.List.Elements.{All-nil, All-cons, All-head, All-tail, All-weaker, All-contains, All-contains_itself}
+use Rattle.std.proofs.Common.{◌≡◌, ◌≢◌, ℕ, Bool, true, false, cond, inl, inr, List, [], ◌∷◌, map, Option, Some, None, refl, sym, ap, subst, ◌∙◌}
+use Rattle.std.specs.List.{All, Contains}
+use Rattle.std.proofs.lemmas.List.Elements.{All-weaker, All-contains, All-contains_itself}
 use Rattle.std.proofs.lemmas.Bool.Decides.{eqb_tells}
 use Rattle.std.proofs.lemmas.Bool.{false≢true}
 use Rattle.ask_model.specs.declared.cause.Cause.TheVariants.{Timeout}
@@ -10,7 +10,7 @@ use Rattle.journal_book.specs.Views.{grounds_of}
 use Rattle.history_laws.specs.declared.kept.Conn.{Conn}
 use Rattle.history_laws.specs.declared.kept.Exchange.{Exchange}
 use Rattle.history_laws.specs.Confirming.{Confirmation}
-use Rattle.history_laws.specs.Kept.{pend, Held, Agrees}
+use Rattle.history_laws.specs.Kept.{Held, Agrees}
 use Rattle.history_laws.specs.Amid.{Ended, Amid}
 use Rattle.history_laws.proofs.Elements.{contains-none, first-or-later}
 use Rattle.history_laws.proofs.Pending.{Distinct}
@@ -19,8 +19,8 @@ use Rattle.history_laws.proofs.Readers.{Agrees-distinct, Amid-distinct, pending-
 use Rattle.exchange_core.specs.declared.step.Reader.{Reader}
 use Rattle.exchange_core.specs.Findings.{Fails}
 use Rattle.exchange_core.specs.Steps.{IsReader}
-use Rattle.exchange_core.specs.Ticking.{is_past, late_on, late_for, timed_by, timed, waits_on, reader_in, late_reader, timed_out, late_ending}
-use Rattle.exchange_core.proofs.Lates.{IsLate, late-is, find-none, find-is, find-not}
+use Rattle.exchange_core.specs.Ticking.{is_past, late_for, timed_by, timed, waits_on, reader_in, late_reader, timed_out, late_ending}
+use Rattle.exchange_core.proofs.Lates.{late-is, find-none, find-is, find-not}
 
 -- no two connections have the same number, or wait for the same
 pub record AreApart (cs : List Conn) : Type 0 where

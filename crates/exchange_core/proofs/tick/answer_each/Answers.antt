@@ -1,14 +1,16 @@
-use Rattle.std.proofs.Common.{◌+◌, ◌≡◌, Option, Some, None, List, refl, subst, arith}
+use Rattle.std.proofs.Common.{◌≡◌, ℕ, List, Option, refl, subst, arith}
 use Rattle.history_laws.specs.declared.kept.Conn.{Conn}
+use Rattle.history_laws.specs.declared.kept.Exchange.{Exchange}
 use Rattle.exchange_core.specs.declared.step.Reader.{Reader}
-use Rattle.exchange_core.specs.declared.verdict.Ending.{Ending}
 use Rattle.exchange_core.specs.Steps.{IsReader}
+use Rattle.exchange_core.specs.Ticking.{late_ending}
 use Rattle.exchange_core.proofs.Timing.{midway-room, so_far-none, so_far-passed, so_far-answered, so_far-all}
 use Rattle.exchange_core.proofs.tick.answer_each.Goals.{in-Some, in_default}
 use Rattle.exchange_core.proofs.tick.answer_each.Goals as goal
 
-looked : (xs cs : List Conn) (d : Option Ending) (o u : Option Reader) → xs ≡ cs → o ≡ u → IsReader xs d o → IsReader cs d u
-looked xs cs d o u e f w = subst (λ (ys : List Conn). IsReader ys d u) e (subst (λ (r : Option Reader). IsReader xs d r) f w)
+looked : (t : ℕ) (e : Exchange) (xs cs : List Conn) (o u : Option Reader) → xs ≡ cs → o ≡ u → IsReader xs (late_ending t e) o → IsReader cs (late_ending t e) u
+looked t e xs cs o u conns found w =
+    subst (λ (ys : List Conn). IsReader ys (late_ending t e) u) conns (subst (λ (r : Option Reader). IsReader xs (late_ending t e) r) found w)
 
 pub each-init : goal.each-init
 each-init g c = so_far-none _ _ _ _ _ _ _ _
@@ -17,19 +19,19 @@ pub answer_reader-requires-clause-room : goal.answer_reader-requires-clause-room
 answer_reader-requires-clause-room g c =
     let r = c.requires in
     let m = c.each.invariant.midway r.0 r.1 r.2 r.3 in
-    (midway-room _ _ _ _ _ _ _ _ _ _ _ c.e-item.result c.in-Some.reader m (looked _ _ _ _ _ c.deref.ensures.value c.in-Some.is c.late_reader.ensures)).0
+    (midway-room _ _ _ _ _ _ _ _ _ _ _ c.e-item.result c.in-Some.reader m (looked c.args.moment c.e-item.result _ _ _ _ c.deref.ensures.value c.in-Some.is c.late_reader.ensures)).0
 
 pub answer_reader-requires-clause-few : goal.answer_reader-requires-clause-few
 answer_reader-requires-clause-few g c =
     let r = c.requires in
     let m = c.each.invariant.midway r.0 r.1 r.2 r.3 in
-    (midway-room _ _ _ _ _ _ _ _ _ _ _ c.e-item.result c.in-Some.reader m (looked _ _ _ _ _ c.deref.ensures.value c.in-Some.is c.late_reader.ensures)).1
+    (midway-room _ _ _ _ _ _ _ _ _ _ _ c.e-item.result c.in-Some.reader m (looked c.args.moment c.e-item.result _ _ _ _ c.deref.ensures.value c.in-Some.is c.late_reader.ensures)).1
 
 pub answer_reader-requires-clause-waits : goal.answer_reader-requires-clause-waits
 answer_reader-requires-clause-waits g c =
     let r = c.requires in
     let m = c.each.invariant.midway r.0 r.1 r.2 r.3 in
-    (midway-room _ _ _ _ _ _ _ _ _ _ _ c.e-item.result c.in-Some.reader m (looked _ _ _ _ _ c.deref.ensures.value c.in-Some.is c.late_reader.ensures)).2
+    (midway-room _ _ _ _ _ _ _ _ _ _ _ c.e-item.result c.in-Some.reader m (looked c.args.moment c.e-item.result _ _ _ _ c.deref.ensures.value c.in-Some.is c.late_reader.ensures)).2
 
 pub each-preserved : goal.each-preserved
 each-preserved g c =
@@ -37,12 +39,12 @@ each-preserved g c =
       | in-Some w ↦
           rw (w.journal-is, w.conns-is, w.outbox-is, w.last-is)
           (so_far-answered _ _ c.each.e-index c.e-item.result w.in-Some.reader _ _ _ _ _ _ _ _ _ _ _ _ _ _ _ _ _ _
-          c.each.invariant c.requires c.each-test.true c.e-item.is (looked _ _ _ _ _ c.deref.ensures.value w.in-Some.is c.late_reader.ensures)
+          c.each.invariant c.requires c.each-test.true c.e-item.is (looked c.args.moment c.e-item.result _ _ _ _ c.deref.ensures.value w.in-Some.is c.late_reader.ensures)
           w.answer_reader.ensures.entries w.answer_reader.ensures.room w.answer_reader.ensures.conns refl w.answer_reader.ensures.waiting w.answer_reader.ensures.answers)
       | in_default w ↦
           rw (w.journal-is, w.conns-is, w.outbox-is, w.last-is)
           (so_far-passed _ _ c.each.e-index c.e-item.result _ _ _ _ _ _ _ _ _ _ _ _
-          c.each.invariant c.requires c.each-test.true c.e-item.is (looked _ _ _ _ _ c.deref.ensures.value w.in_default.is c.late_reader.ensures))
+          c.each.invariant c.requires c.each-test.true c.e-item.is (looked c.args.moment c.e-item.result _ _ _ _ c.deref.ensures.value w.in_default.is c.late_reader.ensures))
     ]
 
 pub returns : goal.returns
