@@ -88,13 +88,13 @@ pub record GoesOn (t : ℕ) (old s : LinkState) (answers : List (List ℕ)) : Ty
   pub out : s.out ≡ old.out ++ answers
   pub quiet : filter is_con answers ≡ []
 
-quiet-sent : (old answers sent : List (List ℕ)) → filter is_con answers ≡ [] → old ++ answers ≡ old ++ sent → filter is_con sent ≡ []
+pub quiet-sent : (old answers sent : List (List ℕ)) → filter is_con answers ≡ [] → old ++ answers ≡ old ++ sent → filter is_con sent ≡ []
 quiet-sent old answers sent quiet e = rw (← append_cancel_left old answers sent e) quiet
 
 append-again : (a b c : List (List ℕ)) → (a ++ b) ++ c ≡ a ++ (b ++ c)
 append-again a b c = simp append_assoc
 
-con-sent : (old answers : List (List ℕ)) (d : List ℕ) (sent : List (List ℕ)) → filter is_con answers ≡ [] → is_con d ≡ true
+pub con-sent : (old answers : List (List ℕ)) (d : List ℕ) (sent : List (List ℕ)) → filter is_con answers ≡ [] → is_con d ≡ true
     → (old ++ answers) ++ d ∷ [] ≡ old ++ sent → filter is_con sent ≡ d ∷ []
 con-sent old answers d sent quiet con e =
     let is : answers ++ d ∷ [] ≡ sent = append_cancel_left old _ sent (sym (append-again old answers (d ∷ [])) ∙ e) in

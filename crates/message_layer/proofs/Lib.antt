@@ -5,5 +5,6 @@ pub mod Sendings
 pub mod Effects
 pub mod RunLaws
 pub mod Apart
+pub mod AwaitLaws
 pub mod AnswerLaws
 pub mod HandsUp

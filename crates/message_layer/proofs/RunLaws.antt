@@ -1,5 +1,5 @@
 -- What a link transmits in a whole run.
-use Rattle.std.proofs.Common.{◌≡◌, ℕ, suc, zero, ◌+◌, ◌-◌, ◌*◌, ◌/◌, ◌%◌, ◌^◌, ◌≤◌, ◌<◌, List, [], ◌∷◌, ◌++◌, length, filter, map, Option, Some, None, Bool, true, false, cond, nat_lt, ◌⊎◌, inl, inr, refl, sym, ◌∙◌, ap, subst, arith, append_assoc, rules}
+use Rattle.std.proofs.Common.{◌≡◌, ◌≢◌, ℕ, suc, zero, ◌+◌, ◌-◌, ◌*◌, ◌/◌, ◌%◌, ◌^◌, ◌≤◌, ◌<◌, List, [], ◌∷◌, ◌++◌, length, filter, map, Option, Some, None, Bool, true, false, cond, nat_lt, ◌⊎◌, inl, inr, refl, sym, ◌∙◌, ap, subst, arith, append_assoc, rules}
 use Rattle.std.proofs.Math.Nat.{mul-pos}
 use Rattle.std.proofs.lemmas.Nat.{pow_pos}
 use Rattle.std.specs.List.{AllByRecursion}
@@ -150,7 +150,7 @@ rests-tied now t ms old new sent queue later h r = record {
     by (inl e) = rw e h.outstanding
     by (inr e) = rw e tt
 
-mid_of-with_mid : (mid : ℕ) (d : List ℕ) → 4 ≤ length d → mid_of (with_mid mid d) ≡ mid
+pub mid_of-with_mid : (mid : ℕ) (d : List ℕ) → 4 ≤ length d → mid_of (with_mid mid d) ≡ mid
 mid_of-with_mid mid [] h = absurd (omega arith)
 mid_of-with_mid mid (a ∷ []) h = absurd (omega arith)
 mid_of-with_mid mid (a ∷ b ∷ []) h = absurd (omega arith)
@@ -412,3 +412,16 @@ nothing-sent run s r none = let e = run-explains run s r in
     by : (ms : List SentMessage) → transmissions run ≡ sendings ms → IsLastMid None ms → transmissions run ≡ []
     by [] all last = all
     by (m ∷ older) all last = absurd last
+
+-- and one that gave an ID sent something
+pub something-sent : (run : List Step) (s : LinkState) (mid : ℕ) → IsRun run s → s.last_mid ≡ Some mid → transmissions run ≢ []
+something-sent run s mid r some none = let e = run-explains run s r in
+    by e.messages (sym e.all ∙ none) (subst (λ (last : Option ℕ). IsLastMid last e.messages) some e.tied.last)
+  where
+    at_least : (m : SentMessage) (copies : List ℕ) (rest : List Transmission) → map (λ t. transmitted t m.datagram) (copies ++ m.first ∷ []) ++ rest ≡ [] → ⊥
+    at_least m [] rest e = absurd cc
+    at_least m (t ∷ ts) rest e = absurd cc
+
+    by : (ms : List SentMessage) → sendings ms ≡ [] → IsLastMid (Some mid) ms → ⊥
+    by [] all last = last
+    by (m ∷ older) all last = at_least m m.copies (sendings older) all
