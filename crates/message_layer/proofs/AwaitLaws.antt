@@ -345,7 +345,7 @@ taken-follows : (x : Step) (older : List Step) (m : Content) (s : LinkState) →
     → let v = verdict_of x.moment s m in
     (applied x.moment m.mid m.token v s).out ≡ s.out ++ x.sent
     → KnowsBehind (applied x.moment m.mid m.token v s) (λ token. awaits token older) (λ mid token. awaits_ack mid token older && not (tells_under token (says v.news m)))
-        (heard_by (says v.news m) (Ok m) (outstanding_of older)) (filter is_con x.sent)
+    (heard_by (says v.news m) (Ok m) (outstanding_of older)) (filter is_con x.sent)
 taken-follows x older m s h f out =
     let v : Verdict = verdict_of x.moment s m in
     let mid_state : LinkState = record {
@@ -487,11 +487,11 @@ step-follows last older x old new h f i = by x.call i.leaves i.puts
     by (forget token) e p = nothing-by x older (forget token) new (no-cons x.sent p)
         (rw e (record { awaited = f.awaited; acks = f.acks; outstanding = f.outstanding; waiting = spelled-filter (waits_not_under token) old.waiting f.waiting }))
     by (expect token on) e p = nothing-by x older (expect token on) new (no-cons x.sent p) (rw e (record {
-          awaited = λ other. expected-awaited token other on old.awaited ∙ rw (f.awaited other) refl;
-          acks = λ mid other. expected-acks token other mid on old.awaited ∙ rw (f.acks mid other) refl;
-          outstanding = f.outstanding;
-          waiting = f.waiting;
-        }))
+      awaited = λ other. expected-awaited token other on old.awaited ∙ rw (f.awaited other) refl;
+      acks = λ mid other. expected-acks token other mid on old.awaited ∙ rw (f.acks mid other) refl;
+      outstanding = f.outstanding;
+      waiting = f.waiting;
+    }))
     by (take_send d) e p =
         let Q : LinkState × Option (List ℕ) → Type 0 = λ r. Follows older r.0 in
         nothing-by x older (take_send d) new (no-cons x.sent p) (subst Q e (taken_out old.out))

@@ -233,14 +233,14 @@ fn rejected(rt: HostRuntime) -> Result<(), Fail> {
 }
 
 /// A call that memory was refused is made once more; until then the link is as before.
-fn submits(link: &mut Link, alloc: Global, token: &[u8]) -> Result<(), Fail> {
+fn submits(link: &mut Link, alloc: Global, token: Token) -> Result<(), Fail> {
     let due = link.next_due();
-    let Err(fault) = link.submit(request(alloc, Token::new(token)), 0, 0) else {
+    let Err(fault) = link.submit(request(alloc, token), 0, 0) else {
         return Ok(());
     };
     holds(fault == LinkFault::Memory)?;
     holds(link.next_due() == due && link.take_send().is_none())?;
-    link.submit(request(alloc, Token::new(token)), 0, 0)?;
+    link.submit(request(alloc, token), 0, 0)?;
     Ok(())
 }
 
@@ -274,12 +274,12 @@ fn ticks(link: &mut Link, moment: u64) -> Result<Up, Fail>
     }
 }
 
-fn expects(link: &mut Link, token: &[u8]) -> Result<(), Fail> {
-    let Err(fault) = link.expect(&Token::new(token), true) else {
+fn expects(link: &mut Link, token: Token) -> Result<(), Fail> {
+    let Err(fault) = link.expect(&token, true) else {
         return Ok(());
     };
     holds(fault == LinkFault::Memory)?;
-    link.expect(&Token::new(token), true)?;
+    link.expect(&token, true)?;
     Ok(())
 }
 
@@ -306,9 +306,9 @@ fn sends(link: &mut Link, wanted: &[u8]) -> Result<(), Fail> {
 fn memory_refused_once(rt: HostRuntime) -> Result<(), Fail> {
     let alloc = rt.alloc();
     let mut link = Link::new(alloc);
-    submits(&mut link, alloc, &[9])?;
+    submits(&mut link, alloc, Token::new(&[9]))?;
     sends(&mut link, &[0x41, 1, 0, 0, 9])?;
-    submits(&mut link, alloc, &[8])?;
+    submits(&mut link, alloc, Token::new(&[8]))?;
     let up = ticks(&mut link, 2000)?;
     assert!(rt; matches!(&up, Up::Nothing));
     sends(&mut link, &[0x41, 1, 0, 0, 9])?;
@@ -325,11 +325,11 @@ fn memory_refused_once(rt: HostRuntime) -> Result<(), Fail> {
     let up = hears(&mut link, &[0x49, 1, 0, 7], 2400)?;
     assert!(rt; matches!(&up, Up::Nothing));
     sends(&mut link, &[0x70, 0, 0, 7])?;
-    expects(&mut link, &[6])?;
+    expects(&mut link, Token::new(&[6]))?;
     let up = hears(&mut link, &[0x51, 0x45, 0x56, 0x78, 6], 2450)?;
     assert!(rt; matches!(&up, Up::Response(_)));
     assert!(rt; link.take_send().is_none());
-    submits(&mut link, alloc, &[7])?;
+    submits(&mut link, alloc, Token::new(&[7]))?;
     let mut copy = copies(&link)?;
     for moment in [4100, 8100, 16100, 32100u64] {
         moment_fits(moment)?;
