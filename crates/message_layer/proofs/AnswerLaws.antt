@@ -1,5 +1,5 @@
 -- What a link answers in a whole run.
-use Rattle.std.proofs.Common.{◌≡◌, ◌≢◌, ℕ, suc, zero, ◌+◌, ◌-◌, ◌/◌, ◌%◌, ◌≤◌, ◌<◌, List, [], ◌∷◌, ◌++◌, length, filter, map, Option, Some, None, Result, Ok, Err, Bool, true, false, not, cond, nat_lt, ◌&&◌, ◌||◌, ◌⊎◌, inl, inr, refl, sym, ◌∙◌, ap, subst, arith, append_assoc, append-nil, count_by, rules}
+use Rattle.std.proofs.Common.{◌≡◌, ◌≢◌, ℕ, suc, zero, ◌-◌, ◌≤◌, ◌<◌, List, [], ◌∷◌, ◌++◌, length, filter, Option, Some, None, Result, Ok, Err, Bool, true, false, not, cond, nat_lt, ◌&&◌, ◌⊎◌, inl, inr, refl, sym, ◌∙◌, ap, subst, arith, append_assoc, append-nil, count_by}
 use Rattle.std.specs.Prelude.{◌==◌, if◌then◌else◌}
 use Rattle.std.specs.List.{find, list_any}
 use Rattle.std.proofs.lemmas.Bool.{lt-ltb, eqb-true, eqb-false}
@@ -12,25 +12,23 @@ use Rattle.coap_codec.specs.Reading.{message_at}
 use Rattle.coap_codec.specs.declared.fault.CodecFault.{CodecFault}
 use Rattle.coap_codec.specs.declared.message.MsgType.{MsgType}
 use Rattle.coap_codec.specs.declared.message.MsgType.TheVariants.{Con, Non, Ack, Rst}
-use Rattle.message_layer.specs.Values.{LinkState, Told, no_news, response, was_reset, was_dropped, IsSound, IsSoundWaiting, IsSoundOutstanding, is_con}
-use Rattle.message_layer.specs.Options.{is_rejected}
-use Rattle.message_layer.specs.Sending.{with_mid, next_mid, next_by, next_sent, ticked, ticked_by, submitted, submitted_by, queued, waits, due_of}
-use Rattle.message_layer.specs.Hearing.{is_fresh, is_repeat, is_awaited, is_awaited_by_ack, replies, says, reset_for, verdict_of, verdict_by, new_verdict, heard_verdict, ack_verdict, rst_verdict, applied, ended, hears, hears_from, hears_read, takes, undecoded, remembered_in}
-use Rattle.message_layer.specs.Calls.{forgotten, expected, sent_out, taken_by}
+use Rattle.message_layer.specs.Values.{LinkState, Told, no_news, response, IsSound, IsSoundWaiting, IsSoundOutstanding, is_con}
+use Rattle.message_layer.specs.Sending.{with_mid, next_mid, next_by, ticked, ticked_by, submitted, submitted_by, queued, waits, due_of}
+use Rattle.message_layer.specs.Hearing.{is_fresh, is_repeat, is_awaited, is_awaited_by_ack, replies, says, reset_for, verdict_of, verdict_by, new_verdict, heard_verdict, ack_verdict, rst_verdict, applied, ended, hears, hears_from, hears_read, undecoded, remembered_in}
+use Rattle.message_layer.specs.Calls.{taken_by}
 use Rattle.message_layer.specs.Runs.{Step, Call, submit, hear, tick, forget, expect, take_send, refuse, Leaves, Puts, IsStep, IsRun, last_moment, transmissions}
-use Rattle.message_layer.specs.Answers.{answers, reset, accepts, IsTold, IsUnmatched, IsEmpty, IsTaken, IsLost, IsRepeated, IsOwn, IsNotRemembered, told_by_ack, told_by_rst, IsMessage, IsRead, IsIgnored, IsProcessed, IsOutstanding, IsAnswered, HasTaken, Answers, RunAnswers}
+use Rattle.message_layer.specs.Answers.{answers, reset, accepts, IsTaken, IsOwn, IsNotRemembered, told_by_ack, told_by_rst, IsMessage, IsOutstanding, IsAnswered, HasTaken, RunAnswers}
 use Rattle.message_layer.specs.declared.state.Heard.{Heard}
 use Rattle.message_layer.specs.declared.state.Outstanding.{Outstanding}
 use Rattle.message_layer.specs.declared.state.Waiting.{Waiting}
 use Rattle.message_layer.specs.declared.state.Reply.{Reply}
 use Rattle.message_layer.specs.declared.state.Reply.TheVariants as reply
-use Rattle.message_layer.specs.declared.verdict.News.{News}
-use Rattle.message_layer.specs.declared.verdict.News.TheVariants.{Quiet, Response, Reset, Lost}
+use Rattle.message_layer.specs.declared.verdict.News.TheVariants.{Quiet, Response}
 use Rattle.message_layer.specs.declared.verdict.Verdict.{Verdict}
 use Rattle.message_layer.proofs.Sound.{either, with_mid-con, all-push, waits-sound}
 use Rattle.message_layer.proofs.Effects.{filter-kept}
 use Rattle.message_layer.specs.Transmissions.{mid_of}
-use Rattle.message_layer.specs.Awaiting.{token_of, awaits, awaits_ack, outstanding_of}
+use Rattle.message_layer.specs.Awaiting.{awaits, awaits_ack, outstanding_of}
 use Rattle.message_layer.proofs.RunLaws.{run-sound, nothing-sent, something-sent}
 use Rattle.message_layer.proofs.AwaitLaws.{Follows, run-follows}
 use borrow.Author.Tests.{ltb-true, ltb-false}

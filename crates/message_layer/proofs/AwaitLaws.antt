@@ -1,26 +1,24 @@
 -- What a link keeps as awaited and as outstanding is what the run says.
-use Rattle.std.proofs.Common.{◌≡◌, ℕ, suc, zero, ◌+◌, ◌*◌, ◌/◌, ◌%◌, ◌≤◌, ◌<◌, List, [], ◌∷◌, ◌++◌, length, filter, map, take, drop, Option, Some, None, Result, Ok, Err, Bool, true, false, not, cond, nat_lt, ◌&&◌, ◌||◌, refl, sym, ◌∙◌, ap, subst, arith, append_assoc, append-nil, eq-eqb, count_by, rules}
+use Rattle.std.proofs.Common.{◌≡◌, ℕ, ◌+◌, ◌*◌, ◌%◌, ◌≤◌, List, [], ◌∷◌, ◌++◌, length, filter, map, take, Option, Some, None, Result, Ok, Err, Bool, true, false, not, cond, nat_lt, ◌&&◌, ◌||◌, refl, sym, ◌∙◌, ap, subst, arith, append_assoc, append-nil, count_by}
 use Rattle.std.specs.Prelude.{◌==◌, if◌then◌else◌}
 use Rattle.std.specs.List.{list_any, find, AllByRecursion}
 use Rattle.std.specs.Str.{bytes_eq}
 use Rattle.std.proofs.lemmas.Slice.Eq.{bytes_eq-Decides}
 use Rattle.std.proofs.lemmas.List.Folds.{list_any-append}
-use Rattle.std.proofs.lemmas.List.{append_cancel_left}
-use Rattle.std.proofs.lemmas.List.Elements.{filter-append}
 use Rattle.std.proofs.lemmas.Map.Views.{any-filter_same}
 use Rattle.coap_codec.specs.Spelling.{Content, Spells, code_of}
 use Rattle.coap_codec.specs.Reading.{message_at}
 use Rattle.coap_codec.specs.declared.fault.CodecFault.{CodecFault}
 use Rattle.coap_codec.specs.declared.message.MsgType.{MsgType}
 use Rattle.coap_codec.specs.declared.message.MsgType.TheVariants.{Con, Non, Ack, Rst}
-use Rattle.message_layer.specs.Values.{LinkState, Told, no_news, response, timed_out, was_reset, was_dropped, IsSound, IsSoundWaiting, IsSoundOutstanding, is_con}
+use Rattle.message_layer.specs.Values.{LinkState, Told, no_news, response, timed_out, was_reset, was_dropped, IsSound, IsSoundWaiting, is_con}
 use Rattle.message_layer.specs.Options.{is_rejected}
 use Rattle.message_layer.specs.Sending.{with_mid, next_mid, next_by, next_sent, ticked, ticked_by, submitted, submitted_by, queued, waits, due_of, unnumbered, again}
 use Rattle.message_layer.specs.Hearing.{is_awaited, is_awaited_by_ack, mid_is, is_outstanding_under, is_outstanding_as, is_repeat, is_fresh, replies, says, reset_for, verdict_of, verdict_by, new_verdict, heard_verdict, ack_verdict, rst_verdict, applied, ended, hears, hears_from, hears_read, undecoded, answered, answered_in, remembered_in}
-use Rattle.message_layer.specs.Calls.{forgotten, expected, expected_in, is_other, sent_out, taken_by, waits_not_under}
+use Rattle.message_layer.specs.Calls.{expected_in, is_other, taken_by, waits_not_under}
 use Rattle.message_layer.specs.Runs.{Step, Call, submit, hear, tick, forget, expect, take_send, refuse, Leaves, Puts, IsStep, IsRun, last_moment}
 use Rattle.message_layer.specs.Transmissions.{mid_of}
-use Rattle.message_layer.specs.Awaiting.{token_of, is_under, is_as, tells_under, is_timeout, is_drop, firsts_by, expects_by, awaits, keeps_by, awaits_ack, ends_by, heard_by, left_by, first_or, outstanding_of}
+use Rattle.message_layer.specs.Awaiting.{token_of, is_under, is_as, tells_under, is_drop, firsts_by, expects_by, awaits, keeps_by, awaits_ack, ends_by, heard_by, left_by, first_or, outstanding_of}
 use Rattle.message_layer.specs.Answers.{IsOutstanding}
 use Rattle.message_layer.specs.declared.state.Waiting.{Waiting}
 use Rattle.message_layer.specs.declared.state.Outstanding.{Outstanding}

@@ -1,5 +1,5 @@
 -- What was handed up is not handed up again.
-use Rattle.std.proofs.Common.{◌≡◌, ℕ, ◌+◌, ◌-◌, ◌<◌, ◌≤◌, List, [], ◌∷◌, ◌++◌, Option, Some, None, Result, Ok, Err, Bool, true, false, nat_lt, ◌⊎◌, inl, inr, refl, sym, ◌∙◌, ap, subst, arith, eq-eqb}
+use Rattle.std.proofs.Common.{◌≡◌, ℕ, ◌+◌, ◌-◌, ◌<◌, ◌≤◌, List, [], ◌∷◌, ◌++◌, Option, Some, None, Result, Ok, Err, Bool, true, false, nat_lt, ◌⊎◌, inl, inr, refl, subst, arith, eq-eqb}
 use Rattle.std.specs.List.{find}
 use Rattle.std.specs.Option.{option_or}
 use Rattle.std.proofs.lemmas.Bool.{lt-ltb}
@@ -9,12 +9,11 @@ use Rattle.coap_codec.specs.Reading.{message_at}
 use Rattle.coap_codec.specs.declared.fault.CodecFault.{CodecFault}
 use Rattle.coap_codec.specs.declared.message.MsgType.{MsgType}
 use Rattle.coap_codec.specs.declared.message.MsgType.TheVariants.{Con, Non, Ack, Rst}
-use Rattle.message_layer.specs.Values.{LinkState, Told, no_news, response, was_dropped}
-use Rattle.message_layer.specs.Hearing.{is_fresh, is_repeat}
-use Rattle.message_layer.specs.Runs.{Step, Call, submit, hear, tick, forget, expect, take_send, refuse, IsRun}
-use Rattle.message_layer.specs.Answers.{IsTaken, IsLost, IsRepeated, IsOwn, IsMessage, IsRead, IsIgnored, IsProcessed, IsAnswered, HasTaken, HearsOwn, HandsUpOnce}
+use Rattle.message_layer.specs.Values.{Told, no_news, response, was_dropped}
+use Rattle.message_layer.specs.Hearing.{is_repeat}
+use Rattle.message_layer.specs.Runs.{Step, Call, submit, hear, tick, forget, expect, take_send, refuse}
+use Rattle.message_layer.specs.Answers.{IsOwn, IsMessage, IsRead, IsIgnored, IsProcessed, IsAnswered, HasTaken, HearsOwn, HandsUpOnce}
 use Rattle.message_layer.specs.declared.state.Heard.{Heard}
-use Rattle.message_layer.specs.declared.state.Reply.{Reply}
 use Rattle.message_layer.proofs.AnswerLaws.{run-answered}
 use borrow.Author.Tests.{ltb-true, ltb-false}
 
