@@ -1,37 +1,30 @@
 -- What a link keeps as awaited and as outstanding is what the run says.
-use Rattle.std.proofs.Common.{◌≡◌, ℕ, ◌+◌, ◌*◌, ◌%◌, ◌≤◌, List, [], ◌∷◌, ◌++◌, length, filter, map, take, Option, Some, None, Result, Ok, Err, Bool, true, false, not, cond, nat_lt, ◌&&◌, ◌||◌, refl, sym, ◌∙◌, ap, subst, arith, append_assoc, append-nil, count_by}
-use Rattle.std.specs.Prelude.{◌==◌, if◌then◌else◌}
-use Rattle.std.specs.List.{list_any, find, AllByRecursion}
-use Rattle.std.specs.Str.{bytes_eq}
-use Rattle.std.proofs.lemmas.Slice.Eq.{bytes_eq-Decides}
+use Rattle.std.proofs.Common.{◌≡◌, ℕ, ◌+◌, ◌*◌, ◌%◌, ◌≤◌, List, [], ◌∷◌, ◌++◌, length, filter, take, Option, Some, None, Result, Ok, Err, Bool, true, false, not, nat_lt, ◌&&◌, ◌||◌, refl, sym, ◌∙◌, ap, subst, arith, append_assoc, append-nil}
+use Rattle.std.specs.List.{list_any, AllByRecursion}
 use Rattle.std.proofs.lemmas.List.Folds.{list_any-append}
-use Rattle.std.proofs.lemmas.Map.Views.{any-filter_same}
 use Rattle.coap_codec.specs.Spelling.{Content, Spells, code_of}
 use Rattle.coap_codec.specs.Reading.{message_at}
 use Rattle.coap_codec.specs.declared.fault.CodecFault.{CodecFault}
 use Rattle.coap_codec.specs.declared.message.MsgType.{MsgType}
-use Rattle.coap_codec.specs.declared.message.MsgType.TheVariants.{Con, Non, Ack, Rst}
-use Rattle.message_layer.specs.Values.{LinkState, Told, no_news, response, timed_out, was_reset, was_dropped, IsSound, IsSoundWaiting, is_con}
-use Rattle.message_layer.specs.Options.{is_rejected}
+use Rattle.coap_codec.specs.declared.message.MsgType.TheVariants.{Con}
+use Rattle.message_layer.specs.Values.{LinkState, Told, no_news, was_dropped, IsSound, IsSoundWaiting, is_con}
 use Rattle.message_layer.specs.Sending.{with_mid, next_mid, next_by, next_sent, ticked, ticked_by, submitted, submitted_by, queued, waits, due_of, unnumbered, again}
-use Rattle.message_layer.specs.Hearing.{is_awaited, is_awaited_by_ack, mid_is, is_outstanding_under, is_outstanding_as, is_repeat, is_fresh, replies, says, reset_for, verdict_of, verdict_by, new_verdict, heard_verdict, ack_verdict, rst_verdict, applied, ended, hears, hears_from, hears_read, undecoded, answered, answered_in, remembered_in}
-use Rattle.message_layer.specs.Calls.{expected_in, is_other, taken_by, waits_not_under}
+use Rattle.message_layer.specs.Hearing.{is_awaited, is_awaited_by_ack, replies, says, reset_for, verdict_of, applied, ended, hears, hears_from, hears_read, undecoded, answered_in, remembered_in}
+use Rattle.message_layer.specs.Calls.{taken_by, waits_not_under}
 use Rattle.message_layer.specs.Runs.{Step, Call, submit, hear, tick, forget, expect, take_send, refuse, Leaves, Puts, IsStep, IsRun, last_moment}
 use Rattle.message_layer.specs.Transmissions.{mid_of}
-use Rattle.message_layer.specs.Awaiting.{token_of, is_under, is_as, tells_under, is_drop, firsts_by, expects_by, awaits, keeps_by, awaits_ack, ends_by, heard_by, left_by, first_or, outstanding_of}
+use Rattle.message_layer.specs.Awaiting.{token_of, is_under, is_as, tells_under, firsts_by, expects_by, awaits, keeps_by, awaits_ack, heard_by, left_by, first_or, outstanding_of}
 use Rattle.message_layer.specs.Answers.{IsOutstanding}
 use Rattle.message_layer.specs.declared.state.Waiting.{Waiting}
 use Rattle.message_layer.specs.declared.state.Outstanding.{Outstanding}
-use Rattle.message_layer.specs.declared.state.Awaited.{Awaited}
-use Rattle.message_layer.specs.declared.state.Heard.{Heard}
 use Rattle.message_layer.specs.declared.state.Reply.{Reply}
 use Rattle.message_layer.specs.declared.state.Reply.TheVariants as reply
-use Rattle.message_layer.specs.declared.verdict.News.{News}
-use Rattle.message_layer.specs.declared.verdict.News.TheVariants.{Quiet, Response, Reset, Lost}
 use Rattle.message_layer.specs.declared.verdict.Verdict.{Verdict}
 use Rattle.message_layer.proofs.Sound.{either, with_mid-con, all-push, waits-sound}
 use Rattle.message_layer.proofs.Effects.{quiet-sent, con-sent}
 use Rattle.message_layer.proofs.RunLaws.{run-sound, mid_of-with_mid}
+use Rattle.message_layer.proofs.AwaitTable.{or-false, and-true, news-awaited, news-acks, expected-awaited, expected-acks}
+use Rattle.message_layer.proofs.AwaitEnds.{left-fits}
 
 -- the bytes of what waits have its token
 abbrev pub IsSpelled : Waiting → Type 0
@@ -78,10 +71,6 @@ KnowsBehind s under by_ack last firsts = Knows s (λ token. under token || list_
 abbrev FollowsBy : Step → List Step → Call → LinkState → Type 0
 FollowsBy x older c s = KnowsBehind s (λ token. expects_by token c (awaits token older)) (λ mid token. keeps_by token c (awaits_ack mid token older)) (left_by c (outstanding_of older)) (firsts_by c x.sent)
 
-or-false : (b : Bool) → b ≡ (b || false)
-or-false true = refl
-or-false false = refl
-
 nothing-first : (s : LinkState) (under : List ℕ → Bool) (by_ack : ℕ → List ℕ → Bool) (last : Option (List ℕ)) (firsts : List (List ℕ)) → firsts ≡ [] → Knows s under by_ack last → KnowsBehind s under by_ack last firsts
 nothing-first s under by_ack last firsts none h = subst (λ (xs : List (List ℕ)). KnowsBehind s under by_ack last xs) (sym none) (record {
   awaited = λ token. h.awaited token ∙ or-false (under token);
@@ -122,197 +111,6 @@ next-knows t s (w ∷ ws) under by_ack all spelled is a k =
       outstanding = (refl, sym n, sym token_is);
       waiting = spelled.1;
     }
-
--- what a response that is told does to the table
-token-same : (a b : List ℕ) → bytes_eq a b ≡ true → a ≡ b
-token-same a b e = (bytes_eq-Decides a b).0 e
-
-same-token : (a : List ℕ) → bytes_eq a a ≡ true
-same-token a = (bytes_eq-Decides a a).1 refl
-
-turn-over : (a b : List ℕ) → bytes_eq a b ≡ bytes_eq b a
-turn-over a b = by (bytes_eq a b) (bytes_eq b a) refl refl
-  where
-    by : (p q : Bool) → bytes_eq a b ≡ p → bytes_eq b a ≡ q → bytes_eq a b ≡ bytes_eq b a
-    by true true e f = e ∙ sym f
-    by false false e f = e ∙ sym f
-    by true false e f = absurd (let x : false ≡ true = sym f ∙ ap (λ (y : List ℕ). bytes_eq b y) (token-same a b e) ∙ same-token b in cc)
-    by false true e f = absurd (let x : false ≡ true = sym e ∙ ap (λ (y : List ℕ). bytes_eq a y) (token-same b a f) ∙ same-token a in cc)
-
-answered-token : (of token : List ℕ) (a : Awaited) → is_awaited token (answered of a) ≡ is_awaited token a
-answered-token of token a = either (λ (b : Awaited). is_awaited token b ≡ is_awaited token a) (bytes_eq a.token of) _ _ (λ e. refl) (λ e. refl)
-
-answered-awaited : (of token : List ℕ) (table : List Awaited) → list_any (is_awaited token) (map (answered of) table) ≡ list_any (is_awaited token) table
-answered-awaited of token [] = refl
-answered-awaited of token (a ∷ table) = rw (answered-token of token a, answered-awaited of token table) refl
-
-and-step : (p a q x : Bool) → p ≡ (a && q) → ((p || (x && q)) ≡ ((a || x) && q))
-and-step p true q true e = rw e (both q)
-  where
-    both : (q : Bool) → (q || q) ≡ q
-    both true = refl
-    both false = refl
-and-step p true q false e = rw e (sym (or-false q))
-and-step p false q x e = rw e refl
-
-answered-ack : (of token : List ℕ) (mid : ℕ) (a : Awaited) → is_awaited_by_ack mid token (answered of a) ≡ (is_awaited_by_ack mid token a && not (bytes_eq token of))
-answered-ack of token mid a = either (λ (b : Awaited). is_awaited_by_ack mid token b ≡ (is_awaited_by_ack mid token a && not (bytes_eq token of))) (bytes_eq a.token of) _ _
-    (λ e. taken (mid_is mid a.mid) (bytes_eq a.token token) refl e)
-    (λ e. kept (mid_is mid a.mid) (bytes_eq a.token token) refl e)
-  where
-    taken : (m b : Bool) → bytes_eq a.token token ≡ b → bytes_eq a.token of ≡ true → false ≡ ((m && b) && not (bytes_eq token of))
-    taken false b e f = refl
-    taken true false e f = refl
-    taken true true e f = let g : bytes_eq token of ≡ true = subst (λ (x : List ℕ). bytes_eq x of ≡ true) (token-same a.token token e) f in rw g refl
-
-    kept : (m b : Bool) → bytes_eq a.token token ≡ b → bytes_eq a.token of ≡ false → (m && b) ≡ ((m && b) && not (bytes_eq token of))
-    kept false b e f = refl
-    kept true false e f = refl
-    kept true true e f = let g : bytes_eq token of ≡ false = subst (λ (x : List ℕ). bytes_eq x of ≡ false) (token-same a.token token e) f in rw g refl
-
-answered-acks : (of token : List ℕ) (mid : ℕ) (table : List Awaited) → list_any (is_awaited_by_ack mid token) (map (answered of) table) ≡ (list_any (is_awaited_by_ack mid token) table && not (bytes_eq token of))
-answered-acks of token mid [] = refl
-answered-acks of token mid (a ∷ table) =
-    rw (answered-acks of token mid table) (and-step (is_awaited_by_ack mid token (answered of a)) (is_awaited_by_ack mid token a) (not (bytes_eq token of)) (list_any (is_awaited_by_ack mid token) table) (answered-ack of token mid a))
-
-and-true : (b : Bool) → b ≡ (b && true)
-and-true true = refl
-and-true false = refl
-
-news-awaited : (news : News) (m : Content) (token : List ℕ) (table : List Awaited) → list_any (is_awaited token) (answered_in m.token news table) ≡ list_any (is_awaited token) table
-news-awaited Quiet m token table = refl
-news-awaited Response m token table = answered-awaited m.token token table
-news-awaited (Reset other) m token table = refl
-news-awaited Lost m token table = refl
-
-news-acks : (news : News) (m : Content) (mid : ℕ) (token : List ℕ) (table : List Awaited)
-    → list_any (is_awaited_by_ack mid token) (answered_in m.token news table) ≡ (list_any (is_awaited_by_ack mid token) table && not (tells_under token (says news m)))
-news-acks Quiet m mid token table = and-true _
-news-acks Response m mid token table = answered-acks m.token token mid table
-news-acks (Reset other) m mid token table = and-true _
-news-acks Lost m mid token table = and-true _
-
--- what is expected
-expected-off : (of token : List ℕ) (table : List Awaited) → list_any (is_awaited token) (filter (is_other of) table) ≡ (not (bytes_eq token of) && list_any (is_awaited token) table)
-expected-off of token table = any-filter_same (is_awaited token) (is_other of) (not (bytes_eq token of)) (λ a e. ap (λ (x : List ℕ). not (bytes_eq x of)) (token-same a.token token e)) table
-
-right-true : (a b : Bool) → (a && b) ≡ true → b ≡ true
-right-true true b e = e
-right-true false b e = absurd cc
-
-expected-off-acks : (of token : List ℕ) (mid : ℕ) (table : List Awaited) → list_any (is_awaited_by_ack mid token) (filter (is_other of) table) ≡ (not (bytes_eq token of) && list_any (is_awaited_by_ack mid token) table)
-expected-off-acks of token mid table = any-filter_same (is_awaited_by_ack mid token) (is_other of) (not (bytes_eq token of))
-    (λ a e. ap (λ (x : List ℕ). not (bytes_eq x of)) (token-same a.token token (right-true (mid_is mid a.mid) (bytes_eq a.token token) e))) table
-
-expected-awaited : (of token : List ℕ) (on : Bool) (table : List Awaited) → list_any (is_awaited token) (expected_in of on table) ≡ cond (bytes_eq token of) on (list_any (is_awaited token) table)
-expected-awaited of token false table = expected-off of token table ∙ by (bytes_eq token of) (list_any (is_awaited token) table)
-  where
-    by : (b x : Bool) → (not b && x) ≡ cond b false x
-    by true x = refl
-    by false x = refl
-expected-awaited of token true table = either (λ (xs : List Awaited). list_any (is_awaited token) xs ≡ cond (bytes_eq token of) true (list_any (is_awaited token) table)) (list_any (is_awaited of) table) _ _
-    (λ e. there (bytes_eq token of) refl e)
-    (λ e. list_any-append (is_awaited token) table (record { token = of; mid = None } ∷ []) ∙ rw (turn-over of token) (more (bytes_eq token of) (list_any (is_awaited token) table)))
-  where
-    there : (b : Bool) → bytes_eq token of ≡ b → list_any (is_awaited of) table ≡ true → list_any (is_awaited token) table ≡ cond b true (list_any (is_awaited token) table)
-    there true e f = subst (λ (x : List ℕ). list_any (is_awaited x) table ≡ true) (sym (token-same token of e)) f
-    there false e f = refl
-
-    more : (b x : Bool) → (x || (b || false)) ≡ cond b true x
-    more true true = refl
-    more true false = refl
-    more false true = refl
-    more false false = refl
-
-expected-acks : (of token : List ℕ) (mid : ℕ) (on : Bool) (table : List Awaited)
-    → list_any (is_awaited_by_ack mid token) (expected_in of on table) ≡ (list_any (is_awaited_by_ack mid token) table && (on || not (bytes_eq token of)))
-expected-acks of token mid false table = expected-off-acks of token mid table ∙ by (not (bytes_eq token of)) (list_any (is_awaited_by_ack mid token) table)
-  where
-    by : (b x : Bool) → (b && x) ≡ (x && b)
-    by true true = refl
-    by true false = refl
-    by false true = refl
-    by false false = refl
-expected-acks of token mid true table = either (λ (xs : List Awaited). list_any (is_awaited_by_ack mid token) xs ≡ (list_any (is_awaited_by_ack mid token) table && true)) (list_any (is_awaited of) table) _ _
-    (λ e. and-true _)
-    (λ e. list_any-append (is_awaited_by_ack mid token) table (record { token = of; mid = None } ∷ []) ∙ sym (or-false _) ∙ and-true _)
-
--- what ends the outstanding interaction
-under-same : (s : LinkState) (o : Outstanding) (d token : List ℕ) → s.outstanding ≡ Some o → o.token ≡ token_of d → is_outstanding_under token s.outstanding ≡ bytes_eq (token_of d) token
-under-same s o d token e f = rw (e, f) refl
-
-new-ends : (s : LinkState) (m : Content) (a b : Reply) (o : Outstanding) (d : List ℕ) → s.outstanding ≡ Some o → o.token ≡ token_of d
-    → (new_verdict s m a b).ends ≡ tells_under (token_of d) (says (new_verdict s m a b).news m)
-new-ends s m a b o d e f =
-    let P : Verdict → Type 0 = λ v. v.ends ≡ tells_under (token_of d) (says v.news m) in
-    let empty : Verdict = record { reply = b; remembered = true; ends = false; news = Quiet } in
-    let told : Verdict = record { reply = if is_rejected m then reply.Rst else a; remembered = true; ends = is_outstanding_under m.token s.outstanding; news = Response } in
-    let unmatched : Verdict = record { reply = reply.Rst; remembered = true; ends = false; news = Quiet } in
-    either P (m.code == 0) empty (if nat_lt 31 m.code && list_any (is_awaited m.token) s.awaited then told else unmatched) (λ g. refl)
-    (λ g. either P (nat_lt 31 m.code && list_any (is_awaited m.token) s.awaited) told unmatched (λ h. under-same s o d m.token e f) (λ h. refl))
-
-not-dropped : (token : List ℕ) (told : Told) → tells_under token told ≡ (not (is_drop told) && tells_under token told)
-not-dropped token no_news = refl
-not-dropped token (response m) = refl
-not-dropped token (timed_out other) = refl
-not-dropped token (was_reset other) = refl
-not-dropped token was_dropped = refl
-
-heard-ends : (t : ℕ) (s : LinkState) (m : Content) (confirms : Bool) (found : Option Heard) (o : Outstanding) (d : List ℕ) → s.outstanding ≡ Some o → o.token ≡ token_of d
-    → let v = heard_verdict t s m confirms found in v.ends ≡ (not (is_drop (says v.news m)) && tells_under (token_of d) (says v.news m))
-heard-ends t s m confirms (Some h) o d e f = refl
-heard-ends t s m confirms None o d e f =
-    let P : Verdict → Type 0 = λ v. v.ends ≡ (not (is_drop (says v.news m)) && tells_under (token_of d) (says v.news m)) in
-    let accepts : Reply = if confirms then reply.Ack else reply.Nothing in
-    let empties : Reply = if confirms then reply.Rst else reply.Nothing in
-    let lost : Verdict = record { reply = reply.Nothing; remembered = false; ends = false; news = Lost } in
-    either P (nat_lt (count_by (is_fresh t) s.heard) 1024) (new_verdict s m accepts empties) lost
-    (λ g. new-ends s m accepts empties o d e f ∙ not-dropped (token_of d) (says (new_verdict s m accepts empties).news m))
-    (λ g. refl)
-
-no-and : (b : Bool) → false ≡ (b && false)
-no-and true = refl
-no-and false = refl
-
-ack-ends : (s : LinkState) (m : Content) (o : Outstanding) (d : List ℕ) → s.outstanding ≡ Some o → o.mid ≡ mid_of d → o.token ≡ token_of d
-    → let v = ack_verdict s m in v.ends ≡ (not (is_drop (says v.news m)) && ends_by d (says v.news m) m Ack)
-ack-ends s m o d e n f =
-    let P : Verdict → Type 0 = λ v. v.ends ≡ (not (is_drop (says v.news m)) && ends_by d (says v.news m) m Ack) in
-    let same_mid : is_outstanding_as m.mid s.outstanding ≡ (mid_of d == m.mid) = rw (e, n) refl in
-    either P (m.code == 0) _ _
-    (λ g. rw (same_mid, g) (and-true (mid_of d == m.mid)))
-    (λ g. either P (nat_lt 31 m.code) _ _
-    (λ h. rw (same_mid, under-same s o d m.token e f, g, h) (brought (list_any (is_awaited_by_ack m.mid m.token) s.awaited) ((mid_of d == m.mid) && bytes_eq (token_of d) m.token)))
-    (λ h. rw (g, h) (no-and (mid_of d == m.mid))))
-  where
-    brought : (b x : Bool) → x ≡ (not (is_drop (says (cond b Response Quiet) m)) && x)
-    brought true x = refl
-    brought false x = refl
-
-rst-ends : (m : Content) (o : Outstanding) (d : List ℕ) → o.mid ≡ mid_of d
-    → let v = rst_verdict m (Some o) in v.ends ≡ (not (is_drop (says v.news m)) && ends_by d (says v.news m) m Rst)
-rst-ends m o d n =
-    let P : Verdict → Type 0 = λ v. v.ends ≡ (not (is_drop (says v.news m)) && ((m.code == 0) && (mid_of d == m.mid))) in
-    let same : ((m.code == 0) && (o.mid == m.mid)) ≡ ((m.code == 0) && (mid_of d == m.mid)) = rw n refl in
-    either P ((m.code == 0) && (o.mid == m.mid)) _ _ (λ g. sym g ∙ same) (λ g. sym g ∙ same)
-
-verdict-ends : (t : ℕ) (s : LinkState) (m : Content) (kind : MsgType) (o : Outstanding) (d : List ℕ) → s.outstanding ≡ Some o → o.mid ≡ mid_of d → o.token ≡ token_of d
-    → let v = verdict_by t s m kind in v.ends ≡ (not (is_drop (says v.news m)) && ends_by d (says v.news m) m kind)
-verdict-ends t s m Con o d e n f = heard-ends t s m true (find (is_repeat t m.mid) s.heard) o d e f
-verdict-ends t s m Non o d e n f = heard-ends t s m false (find (is_repeat t m.mid) s.heard) o d e f
-verdict-ends t s m Ack o d e n f = ack-ends s m o d e n f
-verdict-ends t s m Rst o d e n f = rw e (rst-ends m o d n)
-
--- behind what was heard
-left-fits : (t : ℕ) (s : LinkState) (m : Content) (o : Option Outstanding) (last : Option (List ℕ)) → s.outstanding ≡ o → IsOutstanding o last
-    → let v = verdict_of t s m in (v.ends ≡ true → heard_by (says v.news m) (Ok m) last ≡ None) × (v.ends ≡ false → heard_by (says v.news m) (Ok m) last ≡ last)
-left-fits t s m None None e h = (λ g. refl, λ g. refl)
-left-fits t s m None (Some d) e h = absurd h
-left-fits t s m (Some o) None e h = absurd h
-left-fits t s m (Some o) (Some d) e h =
-    let v : Verdict = verdict_of t s m in
-    let is : v.ends ≡ (not (is_drop (says v.news m)) && ends_by d (says v.news m) m m.kind) = verdict-ends t s m m.kind o d e h.1 h.2 in
-    (λ g. ap (λ (b : Bool). cond b None (Some d)) (sym is ∙ g), λ g. ap (λ (b : Bool). cond b None (Some d)) (sym is ∙ g))
 
 abbrev ended_firsts : Bool → LinkState → List (List ℕ)
 ended_firsts false s = []
