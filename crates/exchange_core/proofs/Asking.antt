@@ -25,7 +25,7 @@ use Rattle.history_laws.proofs.Beginning.{IsNext, held_after, Agrees-begun}
 use Rattle.history_laws.proofs.Pending.{Distinct, conns-distinct}
 use Rattle.exchange_core.specs.Room.{is_pending, fits, takes, takes_first}
 use Rattle.exchange_core.specs.Tables.{HasIdle}
-use Rattle.exchange_core.specs.CoreValue.{Outgoing, written, CoreValue, CoreKept}
+use Rattle.exchange_core.specs.CoreValue.{written, CoreValue, CoreKept}
 use Rattle.exchange_core.proofs.Keeping.{fits-parts, fits-from, takes-fits}
 
 pend-others : (c : ℕ) (p : Option ℕ) (xs : List Conn) → All (λ (y : Conn). y.id ≢ c) xs → map (pend c p) xs ≡ xs

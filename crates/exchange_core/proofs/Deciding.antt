@@ -1,5 +1,5 @@
 -- What a message changes, by what it is to an exchange.
-use Rattle.std.proofs.Common.{◌≡◌, ◌⊎◌, ℕ, zero, suc, ◌<◌, Bool, true, false, cond, inl, inr, List, [], ◌∷◌, length, get_or, Option, Some, None, refl, sym, ap, ◌∙◌, arith}
+use Rattle.std.proofs.Common.{◌≡◌, ℕ, zero, suc, Bool, true, false, cond, inl, inr, List, [], ◌∷◌, Some, None, refl, sym, ap, ◌∙◌, arith}
 use Rattle.std.specs.List.{Contains, slice_get}
 use Rattle.coap_codec.specs.Spelling.{Content}
 use Rattle.uri_map.specs.declared.peer.Peer.{Peer}
@@ -13,7 +13,7 @@ use Rattle.exchange_core.specs.declared.hearing.Hit.TheVariants as H
 use Rattle.exchange_core.specs.declared.verdict.Change.TheVariants as C
 use Rattle.exchange_core.specs.Findings.{Found, Tells, Fails}
 use Rattle.exchange_core.specs.Hearing.{IsFirstHit}
-use Rattle.exchange_core.specs.Verdicts.{found_by, EndsBy, Turns}
+use Rattle.exchange_core.specs.Verdicts.{found_by, Turns}
 
 -- a reply is whole, or not
 pub found-none : (n : ℕ) (m : Content) (b : Bool) (f : Found) → ((q : CoapRequest) → whole_of q (m ∷ []) ≡ cond b (Some (response_of m)) None) → b ≡ false

@@ -8,6 +8,9 @@ pub mod Lists
 pub mod Taking
 pub mod Showing
 pub mod Lates
+pub mod Rising
+pub mod Waiters
+pub mod Timed
 pub mod Timing
 pub mod Dues
 pub mod Ticked

@@ -1,21 +1,17 @@
 -- What a core keeps behind a datagram that was heard.
-use Rattle.std.proofs.Common.{◌≡◌, ◌≢◌, ℕ, zero, ◌+◌, ◌-◌, ◌*◌, ◌^◌, ◌<◌, ◌≤◌, min, Bool, true, false, cond, eqb, ◌⊎◌, inl, inr, List, [], ◌∷◌, ◌++◌, length, map, Option, Some, None, refl, sym, ap, subst, ◌∙◌, arith, length-append}
-use Rattle.std.specs.Prelude.{sum_by, count_by}
-use Rattle.std.specs.List.{All, Contains, list_any}
-use Rattle.std.proofs.lemmas.List.{length-map}
+use Rattle.std.proofs.Common.{◌≡◌, ℕ, zero, Bool, true, false, cond, inl, inr, List, [], ◌∷◌, ◌++◌, length, map, Option, Some, None, refl, sym, ap, subst, ◌∙◌, arith}
+use Rattle.std.specs.List.{Contains}
 use Rattle.std.proofs.lemmas.List.Elements.{All-contains}
-use Rattle.std.proofs.lemmas.List.Sums.{sum_by-append}
 use Rattle.coap_codec.specs.declared.message.MsgType.{MsgType}
 use Rattle.coap_codec.specs.Spelling.{Content, Spells}
 use Rattle.uri_map.specs.declared.peer.Peer.{Peer}
 use Rattle.ask_model.specs.Requests.{CoapRequest}
-use Rattle.ask_model.specs.declared.cause.Cause.TheVariants.{Reset, NotUnderstood}
-use Rattle.journal_book.specs.Entries.{Grounds, Live, Fault, Hears, Sends, Answers, Written}
-use Rattle.journal_book.specs.Views.{grounds_of}
+use Rattle.ask_model.specs.declared.cause.Cause.TheVariants.{NotUnderstood}
+use Rattle.journal_book.specs.Entries.{Grounds, Live, Fault, Hears, Answers, Written}
 use Rattle.history_laws.specs.declared.kept.Conn.{Conn}
 use Rattle.history_laws.specs.declared.kept.Exchange.{Exchange}
 use Rattle.history_laws.specs.declared.kept.Remembered.{Remembered}
-use Rattle.history_laws.specs.Responses.{Response, response_of, whole_of}
+use Rattle.history_laws.specs.Responses.{Response, whole_of}
 use Rattle.history_laws.specs.Exchanges.{is_such, Replied}
 use Rattle.history_laws.specs.Confirming.{Confirmation, given, rejects_bytes, heard_answer}
 use Rattle.history_laws.specs.Kept.{pend, ExchangeIn, Held, Agrees}
@@ -32,8 +28,8 @@ use Rattle.exchange_core.specs.declared.verdict.Change.TheVariants as C
 use Rattle.exchange_core.specs.declared.verdict.Ending.{Ending}
 use Rattle.exchange_core.specs.declared.verdict.Verdict.{Verdict}
 use Rattle.exchange_core.specs.declared.step.Reader.{Reader}
-use Rattle.exchange_core.specs.Findings.{Found, Tells, Fails}
-use Rattle.exchange_core.specs.Verdicts.{due_at, found_by, EndsBy, Turns, exchanges_by, memory_by, heard_by, held_by, ended_by, IsGarbled, IsAgain, IsNew, IsHeard, IsVerdict}
+use Rattle.exchange_core.specs.Findings.{Found}
+use Rattle.exchange_core.specs.Verdicts.{due_at, found_by, Turns, exchanges_by, memory_by, heard_by, held_by, ended_by, IsNew, IsVerdict}
 use Rattle.exchange_core.specs.Hears.{ChangesBy}
 use Rattle.exchange_core.specs.Steps.{IsConfirmation, with_sent, IsReader, with_answer, conns_by}
 

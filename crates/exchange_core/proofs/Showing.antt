@@ -1,5 +1,6 @@
 -- What the value of a core shows of its entries.
-use Rattle.std.proofs.Common.{◌≡◌, ℕ, zero, suc, ◌+◌, ◌≤◌, Bool, true, false, cond, List, [], ◌∷◌, ◌++◌, length, refl, sym, ap, subst, ◌∙◌, arith, length-append}
+use Rattle.std.specs.Prelude.{Result, Ok, Err, OnErr}
+use Rattle.std.proofs.Common.{◌≡◌, ℕ, ◌+◌, Bool, cond, List, [], ◌∷◌, ◌++◌, refl, sym, ap, ◌∙◌, arith}
 use Rattle.std.proofs.lemmas.List.Sums.{sum_by-append}
 use Rattle.journal_book.specs.Entries.{Deed, Opens, Asks, Sends, Hears, Passes, Answers, Shuts, Seals, Written}
 use Rattle.history_laws.specs.declared.kept.Conn.{Conn}
@@ -29,3 +30,8 @@ opened-are (x ∷ older) =
 pub connections-are : (h : List Written) (cs : List Conn) (held : Held) (s : Bool) (last : ℕ) → Agrees h cs held s last → held.opened ≡ connections h
 connections-are h cs held s last a =
     sym a.opened_are ∙ opened-are a.reading ∙ ap connections a.reads.entries_are
+
+-- what holds anyhow
+pub on-err : {A E : Type 0} (r : Result A E) (P : Type 0) → P → OnErr r P
+on-err (Ok x) P p = tt
+on-err (Err e) P p = p

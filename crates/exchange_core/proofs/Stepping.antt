@@ -1,6 +1,6 @@
 -- What a core keeps behind a datagram that was heard.
-use Rattle.std.proofs.Common.{◌≡◌, ◌≢◌, ℕ, zero, suc, ◌+◌, ◌-◌, ◌*◌, ◌^◌, ◌<◌, ◌≤◌, min, Bool, true, false, cond, eqb, ◌⊎◌, inl, inr, List, [], ◌∷◌, ◌++◌, length, get_or, map, Option, Some, None, refl, sym, ap, subst, ◌∙◌, arith, length-append}
-use Rattle.std.specs.Prelude.{sum_by, count_by, is_some, option_map, option_to_list, IfSome, Result, Ok, Err, OnErr}
+use Rattle.std.proofs.Common.{◌≡◌, ℕ, zero, suc, ◌+◌, ◌-◌, ◌*◌, ◌^◌, ◌<◌, ◌≤◌, min, Bool, true, false, cond, inl, inr, List, [], ◌∷◌, ◌++◌, length, get_or, map, Option, Some, None, refl, sym, ap, subst, ◌∙◌, arith, length-append}
+use Rattle.std.specs.Prelude.{sum_by, count_by, is_some, option_map, option_to_list, IfSome}
 use Rattle.std.specs.List.{All, Contains}
 use Rattle.std.proofs.lemmas.List.{length-map}
 use Rattle.std.proofs.lemmas.List.Elements.{All-contains}
@@ -15,13 +15,12 @@ use Rattle.history_laws.specs.declared.kept.Known.{Known}
 use Rattle.history_laws.specs.declared.kept.Remembered.{Remembered}
 use Rattle.history_laws.specs.Numbering.{known_of}
 use Rattle.history_laws.specs.Kept.{pend, Held, Agrees}
-use Rattle.history_laws.specs.Amid.{Amid}
 use Rattle.history_laws.proofs.Hearing.{MayHear}
 use Rattle.exchange_core.specs.declared.verdict.Due.{Due}
 use Rattle.exchange_core.specs.declared.verdict.Ending.{Ending}
 use Rattle.exchange_core.specs.declared.verdict.Verdict.{Verdict}
 use Rattle.exchange_core.specs.declared.step.Reader.{Reader}
-use Rattle.exchange_core.specs.Room.{is_some_ask, is_pending, fits, takes, held}
+use Rattle.exchange_core.specs.Room.{is_some_ask, is_pending, fits, takes}
 use Rattle.exchange_core.specs.CoreValue.{Outgoing, CoreValue, written, CoreKept, Answerable}
 use Rattle.exchange_core.specs.Findings.{Found}
 use Rattle.exchange_core.specs.Answering.{Given, Waited, HasWaited, IsKept, answer_of}
@@ -275,10 +274,6 @@ heard-seals h b count waiting sb rb e size refused e-is size-is short few some =
       | inl w ↦ inl (omega (arith, w, e-is, one, two, few, some))
       | inr w ↦ inr (omega (arith, w, size-is, one, two, short, few, some))
     ]
-
-pub on-err : {A E : Type 0} (r : Result A E) (P : Type 0) → P → OnErr r P
-on-err (Ok x) P p = tt
-on-err (Err e) P p = p
 
 pub seals-shown : (t t1 : ℕ) (p : Peer) (b : List ℕ) (old new : CoreValue) → t1 ≡ t → HasNoRoom b old → new.sealed ≡ true
     → new.entries ≡ old.entries ++ written t1 Seals ∷ [] → new.conns ≡ old.conns → new.exchanges ≡ old.exchanges → new.answers ≡ old.answers → new.sends ≡ old.sends

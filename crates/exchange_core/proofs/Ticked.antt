@@ -1,128 +1,85 @@
 -- What a core keeps, behind a tick.
-use Rattle.std.proofs.Common.{◌≡◌, ℕ, zero, suc, ◌+◌, ◌-◌, ◌*◌, ◌^◌, ◌<◌, ◌≤◌, min, max, Bool, true, false, cond, inl, inr, List, [], ◌∷◌, ◌++◌, length, map, Option, Some, None, refl, sym, ap, subst, ◌∙◌, arith, length-append}
-use Rattle.std.specs.Prelude.{sum_by, count_by, is_some, Result, Ok, Err, OnErr}
+use Rattle.std.proofs.Common.{◌≡◌, ℕ, ◌+◌, ◌-◌, ◌*◌, ◌^◌, ◌≤◌, min, max, Bool, true, false, inl, inr, List, [], ◌∷◌, ◌++◌, length, map, refl, sym, ap, subst, ◌∙◌, arith, length-append}
+use Rattle.std.specs.Prelude.{sum_by, count_by}
 use Rattle.std.specs.List.{filter}
-use Rattle.std.proofs.lemmas.List.{length-map, append-nil, append_assoc}
-use Rattle.std.proofs.lemmas.List.Sums.{sum_by-append, sum_by-cons, count_by-le-length}
+use Rattle.std.proofs.lemmas.List.{length-map}
+use Rattle.std.proofs.lemmas.List.Sums.{sum_by-append, count_by-le-length}
 use Rattle.std.proofs.lemmas.Bool.{false≢true}
 use Rattle.journal_book.specs.Entries.{Written, Passes, Seals, entry_size}
 use Rattle.history_laws.specs.declared.kept.Conn.{Conn}
 use Rattle.history_laws.specs.declared.kept.Exchange.{Exchange}
 use Rattle.history_laws.specs.Limits.{MaySeal}
 use Rattle.history_laws.specs.Kept.{Held, Agrees}
-use Rattle.history_laws.specs.Amid.{Ended}
 use Rattle.history_laws.proofs.Amidst.{Amid-done}
 use Rattle.history_laws.proofs.Lateness.{Amid-passed, Amid-late}
-use Rattle.exchange_core.specs.Room.{is_some_ask, is_pending, fits, takes, held}
+use Rattle.exchange_core.specs.Room.{is_pending, fits, takes}
 use Rattle.exchange_core.specs.Answering.{Given, Waited}
 use Rattle.exchange_core.specs.CoreValue.{written, CoreValue, CoreKept, Answerable, Outgoing}
-use Rattle.exchange_core.specs.Ticking.{is_past, late_for, is_due, timeout_by, timeout_for, timeouts, timed_by, timed, going, due_count, late_end, moment_after, takes_tick, AddsAnswers, SealsLate, Midway}
+use Rattle.exchange_core.specs.Ticking.{is_past, timeouts, timed, going, due_count, late_end, moment_after, takes_tick, AddsAnswers, SealsLate, Midway}
 use Rattle.exchange_core.proofs.Giving.{answerable-more}
 use Rattle.exchange_core.proofs.Keeping.{fits-parts, fits-from, fits-not, takes-fits}
-use Rattle.exchange_core.proofs.Lates.{IsLate, late-is, none-waits}
-
-abbrev one_for : Bool → ℕ
-one_for b = cond b 1 0
-
-one-timeout : (t : ℕ) (x : Conn) (o : Option Exchange) → length (timeout_by t x o) ≡ one_for (is_some o)
-one-timeout t x None = refl
-one-timeout t x (Some e) = refl
-
-one-size : (t : ℕ) (x : Conn) (o : Option Exchange) → sum_by entry_size (timeout_by t x o) ≡ 68 * one_for (is_some o)
-one-size t x None = refl
-one-size t x (Some e) = refl
-
-one-waits : (t : ℕ) (es : List Exchange) (x : Conn) (o : Option Exchange) → late_for t es x ≡ o
-    → one_for (is_pending (timed_by o x)) + one_for (is_some o) ≡ one_for (is_pending x)
-one-waits t es x None late = omega arith
-one-waits t es x (Some e) late =
-    let waits : is_pending x ≡ true = ap is_some_ask (late-is t es x.pending e late).waited in
-    rw waits refl
-
--- as many answers as connections that wait for one that is late, of 68 bytes each
-pub timeouts-many : (t : ℕ) (es : List Exchange) (cs : List Conn) → length (timeouts t es cs) ≡ due_count t es cs
-timeouts-many t es [] = refl
-timeouts-many t es (x ∷ cs) =
-    let rest = timeouts-many t es cs in
-    let one = one-timeout t x (late_for t es x) in
-    let both = length-append (timeout_for t es x) (timeouts t es cs) in
-    let sum = sum_by-cons (λ (x : Conn). cond (is_due t es x) 1 0) x cs in
-    omega (arith, rest, one, both, sum)
-
-pub timeouts-size : (t : ℕ) (es : List Exchange) (cs : List Conn) → sum_by entry_size (timeouts t es cs) ≡ 68 * due_count t es cs
-timeouts-size t es [] = refl
-timeouts-size t es (x ∷ cs) =
-    let rest = timeouts-size t es cs in
-    let one = one-size t x (late_for t es x) in
-    let both = sum_by-append entry_size (timeout_for t es x) (timeouts t es cs) in
-    let sum = sum_by-cons (λ (x : Conn). cond (is_due t es x) 1 0) x cs in
-    omega (arith, rest, one, both, sum)
-
-pub waits-less : (t : ℕ) (es : List Exchange) (cs : List Conn) → count_by is_pending (map (timed t es) cs) + due_count t es cs ≡ count_by is_pending cs
-waits-less t es [] = refl
-waits-less t es (x ∷ cs) =
-    let rest = waits-less t es cs in
-    let one = one-waits t es x (late_for t es x) refl in
-    let sum = sum_by-cons (λ (x : Conn). cond (is_due t es x) 1 0) x cs in
-    let whole = sum_by-cons (λ (x : Conn). cond (is_pending x) 1 0) x cs in
-    let left = sum_by-cons (λ (x : Conn). cond (is_pending x) 1 0) (timed t es x) (map (timed t es) cs) in
-    omega (arith, rest, one, sum, whole, left)
+use Rattle.exchange_core.proofs.Lates.{none-waits}
+use Rattle.exchange_core.proofs.Rising.{table-rising}
+use Rattle.exchange_core.proofs.Waiters.{apart-agrees}
+use Rattle.exchange_core.proofs.Timed.{waits-less, timeouts-many, timeouts-size}
 
 -- the start of a tick, whose entry is written
-pub midway-passed : (h h1 h2 : List Written) (room room1 room2 : ℕ) (cs : List Conn) (tables : Held) (s : Bool) (bytes last t count pending more size : ℕ) (n : List Outgoing) (ws : List Waited) (gs : List Given)
-    → CoreKept h room cs tables s bytes last → Answerable h cs ws gs n → s ≡ false → last ≤ t
+pub midway-passed : (h h1 h2 : List Written) (room room1 room2 : ℕ) (cs : List Conn) (tables : Held) (s : Bool) (bytes last t count pending more size : ℕ) (out : List Outgoing) (ws : List Waited) (gs : List Given)
+    → CoreKept h room cs tables s bytes last → Answerable h cs ws gs out → s ≡ false → last ≤ t
     → count ≡ length cs → pending ≡ count_by is_pending cs → more ≡ due_count t tables.exchanges cs
     → takes h (1 + more) size count (pending - more) ≡ true
     → h1 ≡ h → h2 ≡ h1 ++ written t Passes ∷ [] → count + pending + 2 ≤ room1 → room2 + 1 ≡ room1
-    → Midway t tables.exchanges (record tables { exchanges = going t tables.exchanges }) s n h2 room2 cs t ws gs
-midway-passed h h1 h2 room room1 room2 cs tables s bytes last t count pending more size n ws gs k a unsealed later cnt wait due room-fits e1 e2 made less =
+    → Midway t tables.exchanges (record tables { exchanges = going t tables.exchanges }) s out h2 room2 cs t ws gs
+midway-passed h h1 h2 room room1 room2 cs tables s bytes last t count pending more size out ws gs k a unsealed later cnt wait due room-fits e1 e2 made less =
     let before : CoreKept h room cs tables false bytes last = subst (λ (s : Bool). CoreKept h room cs tables s bytes last) unsealed k in
     let parts = fits-parts (length h + (1 + more)) (sum_by entry_size h + size) count (pending - more) room-fits in
     let longer = length-append h (written t Passes ∷ []) in
-    let now : Midway t tables.exchanges (record tables { exchanges = going t tables.exchanges }) false n (h ++ written t Passes ∷ []) room2 cs t ws gs = record {
+    let now : Midway t tables.exchanges (record tables { exchanges = going t tables.exchanges }) false out (h ++ written t Passes ∷ []) room2 cs t ws gs = record {
       amid = Amid-passed t h cs tables last before.agrees later;
-      answerable = answerable-more h (h ++ written t Passes ∷ []) (written t Passes) cs ws gs n refl refl a;
+      answerable = answerable-more h (h ++ written t Passes ∷ []) (written t Passes) cs ws gs out refl refl a;
       later = omega arith;
+      rising = table-rising h cs tables false last before.agrees;
       room_held = omega (arith, made, less, cnt, wait);
       short = omega (arith, parts.0, cnt, wait, longer);
     } in
     rw (e2, e1, unsealed) now
 
 -- and in a journal that was sealed
-pub midway-sealed : (h : List Written) (room : ℕ) (cs : List Conn) (tables : Held) (s : Bool) (bytes last t : ℕ) (n : List Outgoing) (ws : List Waited) (gs : List Given)
-    → CoreKept h room cs tables s bytes last → Answerable h cs ws gs n → s ≡ true → last ≤ t
-    → Midway t tables.exchanges tables s n h room cs last ws gs
-midway-sealed h room cs tables s bytes last t n ws gs k a sealed later =
+pub midway-sealed : (h : List Written) (room : ℕ) (cs : List Conn) (tables : Held) (s : Bool) (bytes last t : ℕ) (out : List Outgoing) (ws : List Waited) (gs : List Given)
+    → CoreKept h room cs tables s bytes last → Answerable h cs ws gs out → s ≡ true → last ≤ t
+    → Midway t tables.exchanges tables s out h room cs last ws gs
+midway-sealed h room cs tables s bytes last t out ws gs k a sealed later =
     let before : CoreKept h room cs tables true bytes last = subst (λ (s : Bool). CoreKept h room cs tables s bytes last) sealed k in
-    let now : Midway t tables.exchanges tables true n h room cs last ws gs = record {
+    let now : Midway t tables.exchanges tables true out h room cs last ws gs = record {
       amid = Amid-late t h cs tables last before.agrees;
       answerable = a;
       later = later;
+      rising = table-rising h cs tables true last before.agrees;
       room_held = before.room_held;
       short = before.short;
     } in
     rw sealed now
 
 -- Behind all answers, nobody waits for one that is late.
-agrees-ticked : (t : ℕ) (es : List Exchange) (tables : Held) (s : Bool) (n : List Outgoing) (h : List Written) (room : ℕ) (cs0 cs : List Conn) (last : ℕ) (ws : List Waited) (gs : List Given)
-    → Midway t es tables s n h room cs last ws gs → cs ≡ map (timed t es) cs0 → Agrees h cs tables s last
-agrees-ticked t es tables s n h room cs0 cs last ws gs m is =
+agrees-ticked : (t : ℕ) (es : List Exchange) (tables : Held) (s : Bool) (out : List Outgoing) (h : List Written) (room : ℕ) (cs0 cs : List Conn) (last : ℕ) (ws : List Waited) (gs : List Given)
+    → Midway t es tables s out h room cs last ws gs → cs ≡ map (timed t es) cs0 → Agrees h cs tables s last
+agrees-ticked t es tables s out h room cs0 cs last ws gs m is =
     Amid-done (map late_end (filter (is_past t) es)) t h cs tables s last m.amid (rw is (none-waits t es cs0))
 
-pub kept-ticked : (h h1 h2 h3 : List Written) (room room3 : ℕ) (cs cs3 : List Conn) (tables : Held) (s : Bool) (bytes bytes' last last3 t count pending more size : ℕ) (n : List Outgoing) (ws3 : List Waited) (gs3 : List Given) (es3 : List Exchange)
+pub kept-ticked : (h h1 h2 h3 : List Written) (room room3 : ℕ) (cs cs3 : List Conn) (tables : Held) (s : Bool) (bytes bytes' last last3 t count pending more size : ℕ) (out : List Outgoing) (ws3 : List Waited) (gs3 : List Given) (es3 : List Exchange)
     → CoreKept h room cs tables s bytes last → s ≡ false → t ≤ 2 ^ 62
     → count ≡ length cs → pending ≡ count_by is_pending cs → more ≡ due_count t tables.exchanges cs
     → takes h (1 + more) size count (pending - more) ≡ true → size ≡ 64 + 68 * more
     → h1 ≡ h → h2 ≡ h1 ++ written t Passes ∷ [] → h3 ≡ h2 ++ timeouts t tables.exchanges cs → cs3 ≡ map (timed t tables.exchanges) cs
-    → Midway t tables.exchanges (record tables { exchanges = going t tables.exchanges }) s n h3 room3 cs3 last3 ws3 gs3
+    → Midway t tables.exchanges (record tables { exchanges = going t tables.exchanges }) s out h3 room3 cs3 last3 ws3 gs3
     → es3 ≡ going t tables.exchanges → bytes' ≡ min (bytes + size) (2 ^ 64 - 1)
     → CoreKept h3 room3 cs3 (record tables { exchanges = es3 }) s bytes' last3
-kept-ticked h h1 h2 h3 room room3 cs cs3 tables s bytes bytes' last last3 t count pending more size n ws3 gs3 es3 k unsealed early cnt wait due room-fits sized e1 e2 e3 f3 m went b =
+kept-ticked h h1 h2 h3 room room3 cs cs3 tables s bytes bytes' last last3 t count pending more size out ws3 gs3 es3 k unsealed early cnt wait due room-fits sized e1 e2 e3 f3 m went b =
     let es = tables.exchanges in
     let was = k.bytes_are unsealed in
     let fit : fits (length h + (1 + more)) (bytes + size) count (pending - more) ≡ true = sym (takes-fits h bytes (1 + more) size count (pending - more) was) ∙ room-fits in
     let parts = fits-parts (length h + (1 + more)) (bytes + size) count (pending - more) fit in
-    let many = timeouts-many t es cs in
+    let many = timeouts-many t es cs (table-rising h cs tables s last k.agrees) (apart-agrees h cs tables s last k.agrees) in
     let sizes = timeouts-size t es cs in
     let fewer = waits-less t es cs in
     let same : bytes' ≡ bytes + size = omega (arith, parts.1, b) in
@@ -138,8 +95,8 @@ kept-ticked h h1 h2 h3 room room3 cs cs3 tables s bytes bytes' last last3 t coun
     let few = k.few in
     let by_then = m.later in
     let kept : CoreKept h3 room3 cs3 (record tables { exchanges = going t es }) s bytes' last3 = record {
-      agrees = agrees-ticked t es _ s n h3 room3 cs cs3 last3 ws3 gs3 m f3;
-      bytes_are = λ u. omega (arith, sum1, sum2, was, same, sizes, due, sized, summed);
+      agrees = agrees-ticked t es _ s out h3 room3 cs cs3 last3 ws3 gs3 m f3;
+      bytes_are = λ u. omega (arith, sum1, sum2, was, same, sizes, many, due, sized, summed);
       room_held = m.room_held;
       within = λ u. fits-from (length h3) bytes' (length cs3) (count_by is_pending cs3)
           (omega (arith, parts.0, size1, size2, longer, many, due, cnt, wait, conns, waiting, fewer))
@@ -150,16 +107,16 @@ kept-ticked h h1 h2 h3 room room3 cs cs3 tables s bytes bytes' last last3 t coun
     } in
     rw went kept
 
-pub kept-late : (h h1 : List Written) (room room1 : ℕ) (cs cs1 : List Conn) (tables : Held) (s : Bool) (bytes last last1 t : ℕ) (n : List Outgoing) (ws1 : List Waited) (gs1 : List Given)
+pub kept-late : (h h1 : List Written) (room room1 : ℕ) (cs cs1 : List Conn) (tables : Held) (s : Bool) (bytes last last1 t : ℕ) (out : List Outgoing) (ws1 : List Waited) (gs1 : List Given)
     → CoreKept h room cs tables s bytes last → s ≡ true → t ≤ 2 ^ 62 → cs1 ≡ map (timed t tables.exchanges) cs
-    → Midway t tables.exchanges tables s n h1 room1 cs1 last1 ws1 gs1
+    → Midway t tables.exchanges tables s out h1 room1 cs1 last1 ws1 gs1
     → CoreKept h1 room1 cs1 tables s bytes last1
-kept-late h h1 room room1 cs cs1 tables s bytes last last1 t n ws1 gs1 k sealed early is m =
+kept-late h h1 room room1 cs cs1 tables s bytes last last1 t out ws1 gs1 k sealed early is m =
     let conns : length cs1 ≡ length cs = ap (λ (xs : List Conn). length xs) is ∙ length-map cs (timed t tables.exchanges) in
     let few = k.few in
     let by_then = m.later in
     record {
-      agrees = agrees-ticked t tables.exchanges tables s n h1 room1 cs cs1 last1 ws1 gs1 m is;
+      agrees = agrees-ticked t tables.exchanges tables s out h1 room1 cs cs1 last1 ws1 gs1 m is;
       bytes_are = λ u. absurd (false≢true (sym u ∙ sealed));
       room_held = m.room_held;
       within = λ u. absurd (false≢true (sym u ∙ sealed));
@@ -214,10 +171,6 @@ pub room-is : (t : ℕ) (v : CoreValue) (es : List Exchange) (cs : List Conn) (c
     → es ≡ v.exchanges → cs ≡ v.conns → count ≡ length cs → pending ≡ count_by is_pending cs → more ≡ due_count t es cs → size ≡ 64 + 68 * more
     → takes v.entries (1 + more) size count (pending - more) ≡ takes_tick t v
 room-is t v es cs count pending more size x c cnt wait due sized = rw (sized, cnt, wait, due, x, c) refl
-
-pub on-err : {A E : Type 0} (r : Result A E) (P : Type 0) → P → OnErr r P
-on-err (Ok x) P p = tt
-on-err (Err e) P p = p
 
 pub now-early : (t last m moment : ℕ) → t ≡ max last m → m ≡ min moment (2 ^ 62) → last ≤ 2 ^ 62 → t ≤ 2 ^ 62
 now-early t last m moment a b c = omega (arith, a, b, c)

@@ -1,21 +1,19 @@
 -- What the readers of an exchange that ends are told.
-use Rattle.std.proofs.Common.{◌≡◌, ◌≢◌, ℕ, zero, suc, ◌+◌, ◌*◌, ◌<◌, ◌≤◌, Bool, true, false, cond, not, eqb, inl, inr, List, [], ◌∷◌, ◌++◌, length, map, Option, Some, None, refl, sym, ap, subst, ◌∙◌, arith, length-append}
+use Rattle.std.proofs.Common.{◌≡◌, ◌≢◌, ℕ, false, not, eqb, inl, inr, List, [], ◌∷◌, ◌++◌, length, map, Option, Some, None, refl, sym, ap, subst, ◌∙◌}
 use Rattle.std.specs.Prelude.{⊤, option_to_list}
 use Rattle.std.specs.List.{All, Contains, filter, slice_get}
 use Rattle.std.proofs.lemmas.List.{append-nil}
-use Rattle.std.proofs.lemmas.List.Elements.{All-push, All-map, All-weaker, All-filter, All-contains, All-contains_itself}
+use Rattle.std.proofs.lemmas.List.Elements.{All-push, All-map, All-weaker, All-filter, All-contains}
 use Rattle.std.proofs.lemmas.Bool.Decides.{eqb_tells}
 use Rattle.coap_codec.specs.Spelling.{Content, Spells}
 use Rattle.uri_map.specs.declared.peer.Peer.{Peer}
-use Rattle.ask_model.specs.declared.cause.Cause.TheVariants.{Reset, NotUnderstood}
 use Rattle.ask_model.specs.Requests.{Ask, CoapRequest, Sense, Requests, Refuses}
-use Rattle.journal_book.specs.Entries.{Deed, Grounds, Live, Fault, grounds_size, Asks, Hears, Answers, Written}
+use Rattle.journal_book.specs.Entries.{grounds_size, Asks, Hears, Answers, Written}
 use Rattle.journal_book.specs.Views.{ask_of, grounds_of}
 use Rattle.history_laws.specs.declared.kept.Conn.{Conn}
-use Rattle.history_laws.specs.declared.kept.Exchange.{Exchange}
 use Rattle.history_laws.specs.Readings.{Noted, Note, Plain, Begins, First, Copies, Confirms, Says, Garbled, entries, at}
 use Rattle.history_laws.specs.Responses.{Response, whole_of}
-use Rattle.history_laws.specs.Justified.{IsAsk, IsReader, reads_by, AskNote, Follows, Legal}
+use Rattle.history_laws.specs.Justified.{reads_by, AskNote, Follows, Legal}
 use Rattle.history_laws.specs.Kept.{pend, ExchangeIn, WaitsFor, Held, Agrees}
 use Rattle.history_laws.proofs.Facts.{noted}
 use Rattle.history_laws.proofs.Places.{at-same, at-old}
@@ -28,9 +26,9 @@ use Rattle.exchange_core.specs.declared.verdict.Change.TheVariants as C
 use Rattle.exchange_core.specs.declared.verdict.Ending.{Ending}
 use Rattle.exchange_core.specs.declared.verdict.Verdict.{Verdict}
 use Rattle.exchange_core.specs.declared.step.Reader.{Reader}
-use Rattle.exchange_core.specs.Findings.{Found, Tells, Fails}
+use Rattle.exchange_core.specs.Findings.{Found}
 use Rattle.exchange_core.specs.CoreValue.{Outgoing, written, Answerable}
-use Rattle.exchange_core.specs.Answering.{Given, Waited, HasWaited, IsWaited, IsKept, HeardAs, IsFound, IsGiven, answer_of}
+use Rattle.exchange_core.specs.Answering.{Given, Waited, IsWaited, IsKept, IsFound, IsGiven, answer_of}
 use Rattle.exchange_core.specs.Verdicts.{found_by, Turns, IsVerdict}
 use Rattle.exchange_core.specs.Steps.{with_sent, outgoing_by, IsReader as IsReaderOf, with_answer, conns_by, waiting_by, AnswersBy}
 use Rattle.exchange_core.proofs.Giving.{slice_get-more, slice_get-end, given-keeps, waited-keeps, found-keeps, kept-other, answerable-sends, answerable-more}

@@ -1,15 +1,16 @@
 -- What a tick leaves behind.
-use Rattle.std.specs.Prelude.{◌≡◌, ◌⊎◌, ℕ, ◌+◌, ◌-◌, ◌*◌, ◌<◌, ◌≤◌, ⊤, Bool, true, false, not, ◌==◌, ◌&&◌, nat_le, is_some, List, [], ◌∷◌, ◌++◌, length, map, filter, find, count_by, Option, Some, None}
+use Rattle.std.specs.Prelude.{◌≡◌, ℕ, ◌+◌, ◌-◌, ◌*◌, ◌<◌, ◌≤◌, ⊤, Bool, true, false, not, ◌==◌, ◌&&◌, nat_le, is_some, List, [], ◌∷◌, ◌++◌, length, map, filter, find, count_by, Option, Some, None, if◌then◌else◌}
 use Rattle.std.specs.List.{All, Contains, flat_map, list_any}
 use Rattle.ask_model.specs.declared.cause.Cause.TheVariants.{Timeout}
-use Rattle.journal_book.specs.Entries.{Written, Deed, Passes, Seals, Answers, Fault}
+use Rattle.journal_book.specs.Entries.{Written, Passes, Seals, Answers, Fault}
 use Rattle.history_laws.specs.declared.kept.Conn.{Conn}
 use Rattle.history_laws.specs.declared.kept.Exchange.{Exchange}
 use Rattle.history_laws.specs.Kept.{Held}
 use Rattle.history_laws.specs.Amid.{Ended, Amid}
+use Rattle.exchange_core.specs.declared.verdict.Ending.{Ending}
 use Rattle.exchange_core.specs.Room.{is_pending, held, takes}
 use Rattle.exchange_core.specs.Findings.{Fails}
-use Rattle.exchange_core.specs.Answering.{Given, Waited, answer_of}
+use Rattle.exchange_core.specs.Answering.{Given, Waited}
 use Rattle.exchange_core.specs.CoreValue.{Outgoing, CoreValue, Answerable, written}
 
 -- The exchange has been open for MAX_TRANSMIT_WAIT, which is 93 seconds (RFC 7252 section 4.8.2).
@@ -27,24 +28,37 @@ late_for t es x = late_on t es x.pending
 abbrev pub is_due : ℕ → List Exchange → Conn → Bool
 is_due t es x = is_some (late_for t es x)
 
--- A connection that waits for it is answered that it took too long, and waits no more.
-abbrev pub timeout_by : ℕ → Conn → Option Exchange → List Written
-timeout_by t x None = []
-timeout_by t x (Some e) = written t (Answers x.id e.opening (Fault Timeout e.number)) ∷ []
-
+-- A connection that waits for it waits no more.
 abbrev pub timed_by : Option Exchange → Conn → Conn
 timed_by None x = x
 timed_by (Some e) x = record x { pending = None }
 
-abbrev pub timeout_for : ℕ → List Exchange → Conn → List Written
-timeout_for t es x = timeout_by t x (late_for t es x)
-
 abbrev pub timed : ℕ → List Exchange → Conn → Conn
 timed t es x = timed_by (late_for t es x) x
 
--- the answers to all that wait for one, in the order of the connections
+-- whether this is the ask that is waited for
+abbrev pub waits_on : ℕ → Option ℕ → Bool
+waits_on k None = false
+waits_on k (Some j) = j == k
+
+-- the first connection that waits for the ask, and for an exchange that is past its time
+abbrev pub reader_in : List Conn → ℕ → Option Conn
+reader_in cs k = find (λ (x : Conn). waits_on k x.pending) cs
+
+abbrev pub late_reader : ℕ → List Conn → Exchange → Option Conn
+late_reader t cs e = if is_past t e then reader_in cs e.opening else None
+
+-- It is answered that the exchange took too long.
+abbrev pub timeout_by : ℕ → Exchange → Option Conn → List Written
+timeout_by t e None = []
+timeout_by t e (Some x) = written t (Answers x.id e.opening (Fault Timeout e.number)) ∷ []
+
+abbrev pub timeout_for : ℕ → List Conn → Exchange → List Written
+timeout_for t cs e = timeout_by t e (late_reader t cs e)
+
+-- the answers to all that wait for one, in the order of the exchanges
 abbrev pub timeouts : ℕ → List Exchange → List Conn → List Written
-timeouts t es cs = flat_map (timeout_for t es) cs
+timeouts t es cs = flat_map (timeout_for t cs) es
 
 -- the moment of the last of these entries, or else the one before
 abbrev pub moment_after : ℕ → ℕ → List Written → ℕ
@@ -125,11 +139,24 @@ pub record KeepsLate (t : ℕ) (old new : CoreValue) : Type 0 where
 abbrev pub late_end : Exchange → Ended
 late_end e = record { opening = e.opening; grounds = Fault Timeout e.number }
 
+-- how an exchange ends that is past its time
+abbrev pub timed_out : Exchange → Ending
+timed_out e = record { opening = e.opening; finding = record { told = Fails Timeout; grounds = Fault Timeout e.number } }
+
+abbrev pub late_ending : ℕ → Exchange → Option Ending
+late_ending t e = if is_past t e then Some (timed_out e) else None
+
+-- The exchanges stand by rising opening.
+abbrev pub AreRising : List Exchange → Type 0
+AreRising [] = ⊤
+AreRising (e ∷ es) = All (λ (d : Exchange). e.opening < d.opening) es × AreRising es
+
 -- In the midst of a tick: what is kept, and that room is held free.
 pub record Midway (t : ℕ) (es : List Exchange) (tables : Held) (s : Bool) (out : List Outgoing) (h : List Written) (room : ℕ) (cs : List Conn) (last : ℕ) (ws : List Waited) (gs : List Given) : Type 0 where
   pub amid : Amid None (map late_end (filter (is_past t) es)) t h cs tables s last
   pub answerable : Answerable h cs ws gs out
   pub later : last ≤ t
+  pub rising : AreRising es
   pub room_held : held s (length cs) (count_by is_pending cs) ≤ room
   pub short : length h + length cs + count_by is_pending cs ≤ 65536
 
@@ -137,27 +164,7 @@ abbrev pub IsMidway : ℕ → List Exchange → List Written → ℕ → List Co
 IsMidway t es h room cs last ws gs =
     (tables : Held) × (s : Bool) × (out : List Outgoing) × Midway t es tables s out h room cs last ws gs
 
--- One connection gets its answer.
-pub record Answered (t : ℕ) (e : Exchange) (x y : Conn) (h h1 : List Written) (room room1 last1 : ℕ) (ws ws1 : List Waited) (gs gs1 : List Given) : Type 0 where
-  pub entries : h1 ≡ h ++ written t (Answers x.id e.opening (Fault Timeout e.number)) ∷ []
-  pub conn : y ≡ record x { pending = None }
-  pub room_less : room1 + 1 ≡ room
-  pub moment : last1 ≡ t
-  pub waiting : ws1 ≡ filter (λ (w : Waited). not (w.ask == e.opening)) ws
-  pub answers : (w : Waited) × Contains ws w × (w.ask ≡ e.opening)
-      × (gs1 ≡ gs ++ answer_of w (record { number = length h; moment = t; heard = t }) (record { told = Fails Timeout; grounds = Fault Timeout e.number }) ∷ [])
-
--- It gets it where what it waits for is past its time.
-abbrev pub Turns : ℕ → Option Exchange → Conn → Conn → List Written → List Written → ℕ → ℕ → ℕ → ℕ → List Waited → List Waited → List Given → List Given → Type 0
-Turns t None x y h h1 room room1 last last1 ws ws1 gs gs1 =
-    (h1 ≡ h) × (y ≡ x) × (room1 ≡ room) × (last1 ≡ last) × (ws1 ≡ ws) × (gs1 ≡ gs)
-Turns t (Some e) x y h h1 room room1 last last1 ws ws1 gs gs1 = Answered t e x y h h1 room room1 last1 ws ws1 gs gs1
-
 -- whether an exchange counts for the next tick: in a sealed journal, where a connection waits for it
-abbrev pub waits_on : ℕ → Option ℕ → Bool
-waits_on k None = false
-waits_on k (Some j) = j == k
-
 abbrev pub counts : Bool → List Conn → Exchange → Bool
 counts false cs e = true
 counts true cs e = list_any (λ (x : Conn). waits_on e.opening x.pending) cs

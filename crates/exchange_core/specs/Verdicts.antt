@@ -1,5 +1,5 @@
 -- What a datagram is to what a core keeps, and what it changes there.
-use Rattle.std.specs.Prelude.{◌≡◌, ◌⊎◌, ℕ, Bool, true, false, not, ◌==◌, List, [], ◌∷◌, ◌++◌, map, filter, Option, Some, None, if◌then◌else◌, ⊤}
+use Rattle.std.specs.Prelude.{◌≡◌, ◌⊎◌, ℕ, true, false, not, ◌==◌, List, [], ◌∷◌, ◌++◌, map, filter, Option, Some, None, if◌then◌else◌}
 use Rattle.std.specs.List.{All, Contains, list_any}
 use Rattle.coap_codec.specs.declared.message.MsgType.{MsgType}
 use Rattle.coap_codec.specs.Spelling.{Content, Spells}
@@ -10,7 +10,7 @@ use Rattle.journal_book.specs.Entries.{Live, Fault}
 use Rattle.history_laws.specs.declared.kept.Exchange.{Exchange}
 use Rattle.history_laws.specs.declared.kept.Remembered.{Remembered}
 use Rattle.history_laws.specs.Responses.{Response, is_rejected, whole_of}
-use Rattle.history_laws.specs.Exchanges.{is_such, is_reply, Turn, Acked, Replied, Rejected, heard_turn}
+use Rattle.history_laws.specs.Exchanges.{is_such, is_reply, Acked, Replied, Rejected, heard_turn}
 use Rattle.history_laws.specs.Confirming.{answer_by, Confirmation, given, rejects_bytes, heard_answer}
 use Rattle.history_laws.specs.Remembering.{find_live}
 use Rattle.history_laws.specs.Kept.{sending_of, Held}
@@ -22,7 +22,7 @@ use Rattle.exchange_core.specs.declared.verdict.Change.TheVariants as C
 use Rattle.exchange_core.specs.declared.verdict.Ending.{Ending}
 use Rattle.exchange_core.specs.declared.verdict.Verdict.{Verdict}
 use Rattle.exchange_core.specs.Findings.{Found, Tells, Fails}
-use Rattle.exchange_core.specs.Hearing.{IsNothingTo, IsFirstHit, is_replied}
+use Rattle.exchange_core.specs.Hearing.{IsNothingTo, IsFirstHit}
 
 -- the ACK or RST that is owed to this peer
 abbrev pub due_at : Peer → Option Due → Option Confirmation

@@ -114,10 +114,7 @@ pub fn copy_waiting<R: Relation>(
 }
 
 /// Equal datagrams.
-fn copy_sends(
-    alloc: Global,
-    sends: &VecDeque<Datagram>,
-) -> Result<VecDeque<Datagram>, AllocError>
+fn copy_sends(alloc: Global, sends: &VecDeque<Datagram>) -> Result<VecDeque<Datagram>, AllocError>
     ensures { IfOk result (λ copy. map outgoing_of copy.items ≡ map outgoing_of sends.now.items) }
 {
     let mut copy = VecDeque::new(alloc);

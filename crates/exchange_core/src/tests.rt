@@ -350,3 +350,33 @@ fn a_request_without_a_reply_times_out(rt: HostRuntime) {
         None => assert!(rt; false),
     }
 }
+
+#[test]
+fn timeouts_are_answered_by_rising_ask(rt: HostRuntime) {
+    let alloc: Global = rt.alloc();
+    let mut core: Core<Nothing> = Core::new(alloc).expect(&rt, "memory");
+    let first = core.open(0).expect(&rt, "a connection");
+    let second = core.open(0).expect(&rt, "a connection");
+    let head = b"GET /hc/coap://s.example.com/light HTTP/1.1\r\nHost: p\r\n\r\n";
+    for conn in [second, first] {
+        let mapped = asked(alloc, head)
+            .expect(&rt, "memory")
+            .expect(&rt, "a request");
+        assert!(rt; core.ask(0, 0, conn, mapped).is_ok());
+    }
+    assert!(rt; core.tick(93_000, 0).is_ok());
+    // two openings, two asks that are sent, the tick, and the answers
+    assert_eq!(rt; core.journal().len(), 9);
+    for (number, want_conn, want_ask) in [(7, 1, 2), (8, 0, 4)] {
+        match core.journal().get(number) {
+            Some(entry) => match &entry.event {
+                Event::Answered { conn, ask, .. } => {
+                    assert_eq!(rt; *conn, want_conn);
+                    assert_eq!(rt; *ask, want_ask);
+                }
+                _ => assert!(rt; false),
+            },
+            None => assert!(rt; false),
+        }
+    }
+}

@@ -1,19 +1,19 @@
 //! Exchanges that have been open for as long as they may.
 
-ghost use Rattle.std.specs.Prelude.{ℕ, Bool, ◌≡◌, ◌⊎◌, ◌<◌, ◌≤◌, ◌+◌, ◌-◌, ◌^◌, ◌==◌, ◌&&◌, ◌∷◌, ◌++◌, [], None, true, false, not, filter, map, min, count_by, find, All, length, OnOk, OnErr, IfSome, IsTrue, IsFalse, IsSome};
+ghost use Rattle.std.specs.Prelude.{ℕ, List, Bool, ◌≡◌, ◌⊎◌, ◌<◌, ◌≤◌, ◌+◌, ◌-◌, ◌^◌, ◌==◌, ◌&&◌, ◌∷◌, ◌++◌, [], None, true, false, not, filter, map, min, count_by, find, All, length, OnOk, OnErr, IfSome, IsTrue, IsFalse, IsSome};
 ghost use Rattle.std.specs.List.{Contains, list_any};
 ghost use Rattle.journal_book.specs.Entries.{Passes, Seals};
 ghost use Rattle.history_laws.specs.declared.kept.Exchange.{Exchange};
 ghost use Rattle.history_laws.specs.Kept.{Held};
 ghost use Rattle.exchange_core.specs.CoreValue.{Outgoing, written, now};
-ghost use Rattle.exchange_core.specs.Room.{is_pending};
-ghost use Rattle.exchange_core.specs.Answering.{IsKept};
-ghost use Rattle.exchange_core.specs.Ticking.{is_past, late_on, late_for, is_due, due_count, timeouts, timed, going, moment_after, takes_tick, counts, waits_on, IsNextDue, HasPast, AddsAnswers, IsPrompt, EndsLate, SealsLate, KeepsLate, Midway, IsMidway, Turns};
+ghost use Rattle.exchange_core.specs.Steps.{IsReader};
+ghost use Rattle.exchange_core.specs.Ticking.{is_past, late_on, is_due, due_count, timeouts, timed, going, moment_after, takes_tick, counts, waits_on, IsNextDue, HasPast, AddsAnswers, IsPrompt, EndsLate, SealsLate, KeepsLate, Midway, IsMidway, late_ending};
 
 use crate::answer::Finding;
 use crate::core_state::Core;
-use crate::outbox::{Outbox, Stamp};
-use crate::tables::pending_count;
+use crate::outbox::Outbox;
+use crate::step::{Reader, answer_reader};
+use crate::tables::{find_reader, pending_count};
 use ask_model::Cause;
 use history_laws::kept::{Conn, Exchange};
 use journal_book::{Entry, Event, Grounds, Journal};
@@ -89,46 +89,25 @@ fn drop_late(exchanges: &mut Vec<Exchange>, moment: u64)
     exchanges.retain(|e| !is_late(e, moment));
 }
 
-/// Answers the connection, where what it waits for is late.
-fn answer_one<R: Relation>(
-    journal: &mut Journal<R>,
-    conn: &mut Conn,
-    outbox: &mut Outbox<R>,
-    last: &mut u64,
-    exchanges: &[Exchange],
-    moment: u64,
-)
-    requires kept { IsKept outbox.old.waiting conn.old.pending }
-    requires room { is_pending conn.old ≡ true → 0 < journal.old.room }
-    requires short { is_pending conn.old ≡ true → length journal.old.entries < 65536 }
-    ensures { Turns moment (late_for moment exchanges.now conn.old) conn.old conn.new journal.old.entries journal.new.entries journal.old.room journal.new.room last.old last.new outbox.old.waiting outbox.new.waiting outbox.old.answers outbox.new.answers }
+/// The connection that waits for the exchange, and what it is answered, where the exchange is late.
+fn late_reader(conns: &[Conn], exchange: &Exchange, moment: u64) -> Option<Reader>
+    ensures { IsReader conns.now (late_ending moment exchange.now) result }
 {
-    let Some(late) = late_of(exchanges, conn.pending, moment) else {
-        return;
+    if !is_late(exchange, moment) {
+        return None;
+    }
+    let Some(x) = find_reader(conns, exchange.opening) else {
+        return None;
     };
-    let number = journal.len() as u32;
-    journal.add(Entry {
-        moment,
-        event: Event::Answered {
-            conn: conn.id,
-            ask: late.opening,
-            grounds: Grounds::Fault(Cause::Timeout, late.number),
-        },
-    });
-    outbox.answer(
-        late.opening,
-        Stamp {
-            number,
-            moment,
-            heard: moment,
-        },
-        Finding::fault(Cause::Timeout, late.number),
-    );
-    conn.pending = None;
-    *last = moment;
+    Some(Reader {
+        conn: x.id,
+        ask: exchange.opening,
+        grounds: Grounds::Fault(Cause::Timeout, exchange.number),
+        finding: Finding::fault(Cause::Timeout, exchange.number),
+    })
 }
 
-/// Answers each connection, where what it waits for is late.
+/// Answers who waits for one that is late, in the order of the exchanges.
 fn answer_each<R: Relation>(
     journal: &mut Journal<R>,
     conns: &mut Vec<Conn>,
@@ -145,8 +124,11 @@ fn answer_each<R: Relation>(
     ensures last { last.new ≡ moment_after moment last.old (timeouts moment exchanges.now conns.old.items) }
     ensures answers { AddsAnswers (length journal.old.entries) outbox.old.answers outbox.new.answers (timeouts moment exchanges.now conns.old.items) }
 {
-    'each: for conn in conns.iter_mut() {
-        answer_one(journal, conn, outbox, last, exchanges, moment);
+    'each: for e in exchanges {
+        if let Some(reader) = late_reader(conns, e, moment) {
+            answer_reader(journal, conns, outbox, moment, Some(reader));
+            *last = moment;
+        }
     }
 }
 

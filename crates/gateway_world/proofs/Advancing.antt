@@ -18,7 +18,7 @@ use Rattle.exchange_core.specs.CoreValue.{CoreValue, Outgoing, sent_by, sendings
 use Rattle.exchange_core.specs.Asking.{AnswersAtOnce, OpensExchange, AddsBy, AddsAsk}
 use Rattle.exchange_core.specs.Hears.{AddsAnswer, SealsAt, HearsAt, HeardSo}
 use Rattle.exchange_core.specs.Steps.{with_sent, outgoing_by}
-use Rattle.exchange_core.specs.Ticking.{is_past, late_for, timeout_by, timeout_for, timeouts, HasPast, AnswersLate, takes_tick, EndsLate, SealsLate, KeepsLate}
+use Rattle.exchange_core.specs.Ticking.{is_past, late_reader, timeout_by, timeout_for, timeouts, HasPast, AnswersLate, takes_tick, EndsLate, SealsLate, KeepsLate}
 use Rattle.gateway_world.specs.Worlds.{Advances}
 use Rattle.gateway_world.proofs.Going.{advances-none}
 
@@ -75,15 +75,15 @@ hearing a b t p bytes (inr (inl w)) = one-advances a b (written t Seals) refl w.
 hearing a b t p bytes (inr (inr w)) = hears-one a b t p bytes w.sent w.answer w.sends
 
 -- a tick
-quiet-one : (t : ℕ) (x : Conn) (o : Option Exchange) → sendings (timeout_by t x o) ≡ []
-quiet-one t x None = refl
-quiet-one t x (Some e) = refl
+quiet-one : (t : ℕ) (e : Exchange) (o : Option Conn) → sendings (timeout_by t e o) ≡ []
+quiet-one t e None = refl
+quiet-one t e (Some x) = refl
 
 quiet-timeouts : (t : ℕ) (es : List Exchange) (cs : List Conn) → sendings (timeouts t es cs) ≡ []
-quiet-timeouts t es [] = refl
-quiet-timeouts t es (x ∷ cs) =
-    flat_map-append (λ (e : Written). sent_by e.deed) (timeout_for t es x) (timeouts t es cs)
-    ∙ ap (λ (s : List Outgoing). s ++ sendings (timeouts t es cs)) (quiet-one t x (late_for t es x)) ∙ quiet-timeouts t es cs
+quiet-timeouts t [] cs = refl
+quiet-timeouts t (e ∷ es) cs =
+    flat_map-append (λ (w : Written). sent_by w.deed) (timeout_for t cs e) (timeouts t es cs)
+    ∙ ap (λ (s : List Outgoing). s ++ sendings (timeouts t es cs)) (quiet-one t e (late_reader t cs e)) ∙ quiet-timeouts t es cs
 
 late-none : (a b : CoreValue) (t : ℕ) → AnswersLate t a.entries a b → Advances a b
 late-none a b t w = record {

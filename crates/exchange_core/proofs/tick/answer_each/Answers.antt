@@ -1,53 +1,59 @@
-use Rattle.std.proofs.Common.{rules, ℕ, ◌<◌, None, sym, ap, ◌∙◌, arith, length, List}
-use Rattle.std.proofs.lemmas.List.{get_or_default}
-use Rattle.std.proofs.lemmas.List.Elements.{All-get_or}
+use Rattle.std.proofs.Common.{◌≡◌, ℕ, List, Option, refl, subst, arith}
 use Rattle.history_laws.specs.declared.kept.Conn.{Conn}
-use Rattle.exchange_core.specs.Answering.{IsKept}
-use Rattle.exchange_core.proofs.Timing.{midway-room, so_far-none, so_far-more, so_far-all, written-back}
+use Rattle.history_laws.specs.declared.kept.Exchange.{Exchange}
+use Rattle.exchange_core.specs.declared.step.Reader.{Reader}
+use Rattle.exchange_core.specs.Steps.{IsReader}
+use Rattle.exchange_core.specs.Ticking.{late_ending}
+use Rattle.exchange_core.proofs.Timing.{midway-room, so_far-none, so_far-passed, so_far-answered, so_far-all}
+use Rattle.exchange_core.proofs.tick.answer_each.Goals.{in-Some, in_default}
 use Rattle.exchange_core.proofs.tick.answer_each.Goals as goal
+
+looked : (t : ℕ) (e : Exchange) (xs cs : List Conn) (o u : Option Reader) → xs ≡ cs → o ≡ u → IsReader xs (late_ending t e) o → IsReader cs (late_ending t e) u
+looked t e xs cs o u conns found w =
+    subst (λ (ys : List Conn). IsReader ys (late_ending t e) u) conns (subst (λ (r : Option Reader). IsReader xs (late_ending t e) r) found w)
 
 pub each-init : goal.each-init
 each-init g c = so_far-none _ _ _ _ _ _ _ _
 
-pub answer_one-requires-clause-kept : goal.answer_one-requires-clause-kept
-answer_one-requires-clause-kept g c =
+pub answer_reader-requires-clause-room : goal.answer_reader-requires-clause-room
+answer_reader-requires-clause-room g c =
     let r = c.requires in
-    let so_far = rw (c.deref_mut-conn-items.ensures.value) at c.each.invariant in
-    let m = so_far.midway r.0 r.1 r.2 r.3 in
-    All-get_or (λ (x : Conn). IsKept c.each.outbox.waiting x.pending) c.each.conn-items c.each.conn-index (record { id = 0; pending = None })
-    (omega (arith, c.each-test.true, c.each.auto.conn-items)) m.answerable.kept
+    let m = c.each.invariant.midway r.0 r.1 r.2 r.3 in
+    (midway-room _ _ _ _ _ _ _ _ _ _ _ c.e-item.result c.in-Some.reader m (looked c.args.moment c.e-item.result _ _ _ _ c.deref.ensures.value c.in-Some.is c.late_reader.ensures)).0
 
-pub answer_one-requires-clause-room : goal.answer_one-requires-clause-room
-answer_one-requires-clause-room g c waits =
+pub answer_reader-requires-clause-few : goal.answer_reader-requires-clause-few
+answer_reader-requires-clause-few g c =
     let r = c.requires in
-    let so_far = rw (c.deref_mut-conn-items.ensures.value) at c.each.invariant in
-    let m = so_far.midway r.0 r.1 r.2 r.3 in
-    let within : c.each.conn-index < length c.each.conn-items = omega (arith, c.each-test.true, c.each.auto.conn-items) in
-    (midway-room _ _ _ _ _ _ _ c.each.conn-items _ _ _ c.each.conn-index _ m within (get_or_default _ _ _ _ within) waits).0
+    let m = c.each.invariant.midway r.0 r.1 r.2 r.3 in
+    (midway-room _ _ _ _ _ _ _ _ _ _ _ c.e-item.result c.in-Some.reader m (looked c.args.moment c.e-item.result _ _ _ _ c.deref.ensures.value c.in-Some.is c.late_reader.ensures)).1
 
-pub answer_one-requires-clause-short : goal.answer_one-requires-clause-short
-answer_one-requires-clause-short g c waits =
+pub answer_reader-requires-clause-waits : goal.answer_reader-requires-clause-waits
+answer_reader-requires-clause-waits g c =
     let r = c.requires in
-    let so_far = rw (c.deref_mut-conn-items.ensures.value) at c.each.invariant in
-    let m = so_far.midway r.0 r.1 r.2 r.3 in
-    let within : c.each.conn-index < length c.each.conn-items = omega (arith, c.each-test.true, c.each.auto.conn-items) in
-    (midway-room _ _ _ _ _ _ _ c.each.conn-items _ _ _ c.each.conn-index _ m within (get_or_default _ _ _ _ within) waits).1
+    let m = c.each.invariant.midway r.0 r.1 r.2 r.3 in
+    (midway-room _ _ _ _ _ _ _ _ _ _ _ c.e-item.result c.in-Some.reader m (looked c.args.moment c.e-item.result _ _ _ _ c.deref.ensures.value c.in-Some.is c.late_reader.ensures)).2
 
 pub each-preserved : goal.each-preserved
 each-preserved g c =
-    so_far-more _ _ c.each.conn-index _ _ _ _ _ _ _ c.each.conn-items _ _ _ _ _ _ _ _ _ (record { id = 0; pending = None }) _
-    c.each.invariant c.each-test.true c.each.auto.conn-items c.answer_one.ensures
+    elim c.match-late_reader.branch [
+      | in-Some w ↦
+          rw (w.journal-is, w.conns-is, w.outbox-is, w.last-is)
+          (so_far-answered _ _ c.each.e-index c.e-item.result w.in-Some.reader _ _ _ _ _ _ _ _ _ _ _ _ _ _ _ _ _ _
+          c.each.invariant c.requires c.each-test.true c.e-item.is (looked c.args.moment c.e-item.result _ _ _ _ c.deref.ensures.value w.in-Some.is c.late_reader.ensures)
+          w.answer_reader.ensures.entries w.answer_reader.ensures.room w.answer_reader.ensures.conns refl w.answer_reader.ensures.waiting w.answer_reader.ensures.answers)
+      | in_default w ↦
+          rw (w.journal-is, w.conns-is, w.outbox-is, w.last-is)
+          (so_far-passed _ _ c.each.e-index c.e-item.result _ _ _ _ _ _ _ _ _ _ _ _
+          c.each.invariant c.requires c.each-test.true c.e-item.is (looked c.args.moment c.e-item.result _ _ _ _ c.deref.ensures.value w.in_default.is c.late_reader.ensures))
+    ]
 
 pub returns : goal.returns
 returns g c =
-    let cs = c.args.conns.now.items in
-    let back = written-back cs c.each.conn-items c.args.conns.now.len c.args.conns.now.ok.0 (c.each.auto.conn-items ∙ ap (λ (xs : List Conn). length xs) c.deref_mut-conn-items.ensures.value) in
-    let so_far = rw (c.deref_mut-conn-items.ensures.value) at c.each.invariant in
-    let all = so_far-all _ _ c.each.conn-index _ _ _ _ cs _ _ _ _ _ _ _ so_far (omega (arith, c.each-test.false, ap (λ (xs : List Conn). length xs) c.deref_mut-conn-items.ensures.value)) in
+    let all = so_far-all _ _ c.each.e-index _ _ _ _ _ _ _ _ _ _ _ _ c.each.invariant (omega (arith, c.each-test.false)) in
     record {
-      midway = λ tables s n m. rw back (so_far.midway tables s n m);
+      midway = λ tables s n m. c.each.invariant.midway tables s n m;
       entries = all.0;
-      conns = back ∙ all.1;
+      conns = all.1;
       last = all.2;
       answers = all.3;
     }

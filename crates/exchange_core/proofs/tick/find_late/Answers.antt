@@ -1,7 +1,6 @@
-use Rattle.std.proofs.Common.{◌≡◌, ◌&&◌, eqb, false, sym, subst, ◌∙◌, arith, add-one, List, rules}
+use Rattle.std.proofs.Common.{◌≡◌, ◌&&◌, eqb, false, sym, subst, ◌∙◌, arith}
 use Rattle.std.specs.List.{All}
 use Rattle.std.proofs.lemmas.List.{take_all}
-use Rattle.std.proofs.lemmas.List.Elements.{All-more}
 use Rattle.history_laws.specs.declared.kept.Exchange.{Exchange}
 use Rattle.exchange_core.specs.Ticking.{is_past}
 use Rattle.exchange_core.proofs.Lates.{find-none, find-it}

@@ -1,4 +1,4 @@
-use Rattle.std.proofs.Common.{ℕ, Option, List, ◌+◌, take, sym, subst, ◌∙◌, arith}
+use Rattle.std.proofs.Common.{ℕ, Option, ◌+◌, take, sym, subst, ◌∙◌, arith}
 use Rattle.exchange_core.proofs.Dues.{DueSoFar, due-passed, due-taken, due-all}
 use Rattle.exchange_core.proofs.tick.least_due.Goals.{then-is_counted, else-is_counted}
 use Rattle.exchange_core.proofs.tick.least_due.Goals as goal

@@ -1,4 +1,4 @@
-use Rattle.std.proofs.Common.{false, rules, ◌≡◌, ◌≤◌, ℕ, ◌+◌, ◌-◌, ◌^◌, min, ◌<◌, length, map, List, Option, Some, refl, sym, ◌∙◌, ap, subst, arith, bit_and, [], ◌∷◌, ◌++◌}
+use Rattle.std.proofs.Common.{false, rules, ◌≡◌, ◌≤◌, ℕ, ◌+◌, ◌-◌, ◌^◌, min, ◌<◌, length, map, List, Option, Some, sym, ◌∙◌, ap, subst, arith, bit_and, [], ◌∷◌, ◌++◌}
 use Rattle.std.specs.Prelude.{count_by}
 use Rattle.std.specs.Arc.{arc_value}
 use Rattle.std.proofs.lemmas.List.Sums.{count_by-le-length}
@@ -14,7 +14,7 @@ use Rattle.history_laws.specs.declared.kept.Conn.{Conn}
 use Rattle.history_laws.specs.declared.kept.Exchange.{Exchange}
 use Rattle.exchange_core.specs.Room.{is_pending}
 use Rattle.exchange_core.specs.Tables.{HasIdle}
-use Rattle.exchange_core.specs.CoreValue.{Outgoing, CoreValue, outgoing_of, written}
+use Rattle.exchange_core.specs.CoreValue.{CoreValue, outgoing_of, written}
 use Rattle.exchange_core.proofs.Asking.{asks-request, sent-spelled, kept-begin, len-most, opens-so}
 use Rattle.exchange_core.proofs.Giving.{answerable-begun}
 use Rattle.exchange_core.proofs.Keeping.{may-seal-more}

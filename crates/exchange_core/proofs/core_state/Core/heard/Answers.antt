@@ -1,5 +1,5 @@
-use Rattle.std.proofs.Common.{rules, map, ◌≡◌, ℕ, ◌+◌, ◌*◌, refl, sym, ap, ◌∙◌, arith, inl, inr, length, List, Option}
-use Rattle.std.specs.Prelude.{count_by, option_map, is_some}
+use Rattle.std.proofs.Common.{rules, map, ◌≡◌, ◌+◌, refl, sym, ap, ◌∙◌, arith, inl, inr, length, List}
+use Rattle.std.specs.Prelude.{count_by, option_map}
 use Rattle.std.specs.Arc.{arc_value}
 use Rattle.std.proofs.lemmas.List.Sums.{count_by-le-length}
 use Rattle.history_laws.specs.declared.kept.Conn.{Conn}
@@ -10,7 +10,8 @@ use Rattle.exchange_core.specs.Steps.{outgoing_by}
 use Rattle.exchange_core.specs.CoreValue.{CoreValue, outgoing_of}
 use Rattle.exchange_core.proofs.Dropping.{never-sent, not-dropped}
 use Rattle.exchange_core.proofs.Unsent.{out-by}
-use Rattle.exchange_core.proofs.Stepping.{waits-kept, some-map, few-heard, kept-heard, answer-added, changes-shown, hears-shown, seals-shown, no-room, heard-seals, on-err}
+use Rattle.exchange_core.proofs.Stepping.{waits-kept, some-map, few-heard, kept-heard, answer-added, changes-shown, hears-shown, seals-shown, no-room, heard-seals}
+use Rattle.exchange_core.proofs.Showing.{on-err}
 use Rattle.exchange_core.proofs.core_state.Core.heard.Goals as goal
 
 pub answer_reader-requires-clause-few : goal.answer_reader-requires-clause-few
@@ -67,8 +68,11 @@ returns-clause-heard g c =
 pub returns-in_default-clause-heard : goal.returns-in_default-clause-heard
 returns-in_default-clause-heard g c =
     let s = c.self.inside in
-    rw (← c.self.view_is) (inl (inr (inr (never-sent s.journal.entries s.conns.items _ s.sealed s.last c.args.peer c.self.invariant.0.agrees
-    (sym (rw (c.deref.ensures.value) at c.find_known.ensures) ∙ c.in_default.is))), refl))
+    rw (← c.self.view_is) (inl (
+      inr (inr (never-sent s.journal.entries s.conns.items _ s.sealed s.last c.args.peer c.self.invariant.0.agrees
+          (sym (rw (c.deref.ensures.value) at c.find_known.ensures) ∙ c.in_default.is))),
+      refl,
+    ))
 
 pub seal-requires-clause-may : goal.seal-requires-clause-may
 seal-requires-clause-may g c =

@@ -1,4 +1,4 @@
-use Rattle.exchange_core.proofs.Unsent.{unsent-taken, sends-taken}
+use Rattle.exchange_core.proofs.Unsent.{unsent-taken}
 use Rattle.exchange_core.proofs.core_state.Core.take_send.Goals as goal
 
 pub invariant_of-self : goal.invariant_of-self

@@ -1,4 +1,4 @@
-use Rattle.std.proofs.Common.{rules, ◌≡◌, ◌≤◌, ◌+◌, ◌-◌, ◌*◌, ℕ, true, false, min, max, ◌^◌, List, length, map, refl, sym, subst, ap, ◌∙◌, arith}
+use Rattle.std.proofs.Common.{◌≡◌, ◌+◌, ◌-◌, ◌*◌, ℕ, true, false, max, List, length, map, refl, sym, subst, ap, ◌∙◌, arith}
 use Rattle.std.specs.Prelude.{count_by}
 use Rattle.std.proofs.lemmas.Bool.{false≢true}
 use Rattle.journal_book.specs.Entries.{Written}
@@ -7,7 +7,8 @@ use Rattle.exchange_core.specs.Room.{is_pending, takes}
 use Rattle.exchange_core.specs.CoreValue.{CoreValue, now, outgoing_of}
 use Rattle.exchange_core.specs.Ticking.{due_count, takes_tick, going}
 use Rattle.exchange_core.proofs.Lates.{prompt-timed}
-use Rattle.exchange_core.proofs.Ticked.{due-fewer, midway-passed, kept-ticked, entries-passed, moment-same, ticked-sealed, room-is, on-err, now-early}
+use Rattle.exchange_core.proofs.Ticked.{due-fewer, midway-passed, kept-ticked, entries-passed, moment-same, ticked-sealed, room-is, now-early}
+use Rattle.exchange_core.proofs.Showing.{on-err}
 use Rattle.exchange_core.proofs.core_state.Core.tick.Goals as goal
 
 pub overflow_sub-pending : goal.overflow_sub-pending
