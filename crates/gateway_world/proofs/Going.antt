@@ -170,5 +170,8 @@ goes-taking a b outputs entries sends = record {
 }
 
 -- all that is given out, where nothing was before
-pub gives-all : (a b : CoreValue) (outputs : List Output) → Goes a b [] outputs → Gives a.entries a.sends b.entries b.sends outputs
-gives-all a b outputs w = rw (w.added) w.gives
+pub gives-all : (a b : CoreValue) (before outputs : List Output) → before ≡ [] → Goes a b before outputs
+    → Gives a.entries a.sends b.entries b.sends outputs
+gives-all a b before outputs none w =
+    let all : outputs ≡ w.given = w.added ∙ ap (λ (o : List Output). o ++ w.given) none in
+    rw all w.gives

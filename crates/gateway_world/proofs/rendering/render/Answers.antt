@@ -10,4 +10,4 @@ returns-in-Fault-clause-means g c =
     let x = given_of c.args.answer.now in
     let told : x.found.told ≡ Fails c.in-Fault.cause = rw c.in-Fault.is at (sym c.outcome.ensures.told) in
     let grounds = c.number_named-number.ensures c.in-Fault.cause (rw told at c.outcome.ensures.fits) in
-    tells_means x c.in-Fault.cause c.number_named-number.result c.tell.result told grounds (rw (c.deref-in-Fault.ensures.value) at c.tell.ensures.tells)
+    tells_means x c.in-Fault.cause c.number_named-number.result c.tell.result told grounds (rw (c.deref-in-Fault.ensures) at c.tell.ensures.tells)

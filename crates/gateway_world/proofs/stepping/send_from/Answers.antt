@@ -16,4 +16,4 @@ each-preserved g c =
 pub returns-in_err-push : goal.returns-in_err-push
 returns-in_err-push g c =
     let failed = err_from_is_err_and c.from_residual.result c.from_residual.ensures.1 in
-    record { leads = rw (failed.1) (sent-grow _ _ _ _ _ c.each.invariant c.take_send.ensures.entries); sent = rw (failed.1) tt }
+    record { leads = rw (failed.1) (sent-grow _ _ c.take_send.new.self _ _ c.each.invariant c.take_send.ensures.entries); sent = rw (failed.1) tt }
