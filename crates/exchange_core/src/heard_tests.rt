@@ -116,7 +116,7 @@ fn what_options_say(rt: HostRuntime) -> Result<(), Fail> {
     let said = response_of(alloc, m)?;
     assert_eq!(rt; said.format, Some(0x0102));
     assert_eq!(rt; said.max_age, Some(60));
-    match said.etag {
+    match &said.etag {
         Some(etag) => assert_eq!(rt; etag.as_slice(), [1, 2].as_slice()),
         None => assert!(rt; false),
     }
