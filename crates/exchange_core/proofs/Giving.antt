@@ -15,7 +15,7 @@ use Rattle.journal_book.specs.Views.{ask_of}
 use Rattle.history_laws.specs.declared.kept.Conn.{Conn}
 use Rattle.history_laws.specs.Kept.{pend, Held, Agrees}
 use Rattle.history_laws.proofs.Askers.{waits-apart}
-use Rattle.exchange_core.specs.Findings.{Told, Tells, Fails, Found}
+use Rattle.datagram_verdict.specs.Findings.{Told, Tells, Fails, Found}
 use Rattle.exchange_core.specs.CoreValue.{Outgoing, sent_by, sendings, AreUnsent, written, Answerable}
 use Rattle.exchange_core.specs.Answering.{Given, Waited, HasWaited, IsWaited, IsKept, HeardAs, IsFound, IsGiven, refusal, without}
 

@@ -15,9 +15,6 @@ pub mod Timing
 pub mod Dues
 pub mod Ticked
 pub mod Lasts
-pub mod Matching
-pub mod Recognising
-pub mod Deciding
 pub mod Listening
 pub mod Told
 pub mod Dropping

@@ -22,14 +22,14 @@ use Rattle.history_laws.proofs.Hearing.{MayHear, first_answer, heard_more, held_
 use Rattle.history_laws.proofs.HearingQuiet.{heard-garbled, heard-again}
 use Rattle.history_laws.proofs.Amidst.{Amid-confirmed, Amid-answered, Amid-done}
 use Rattle.history_laws.proofs.Readers.{waits-not-one, waits-not-any, answered-none}
-use Rattle.exchange_core.specs.declared.verdict.Due.{Due}
-use Rattle.exchange_core.specs.declared.verdict.Change.{Change}
-use Rattle.exchange_core.specs.declared.verdict.Change.TheVariants as C
-use Rattle.exchange_core.specs.declared.verdict.Ending.{Ending}
-use Rattle.exchange_core.specs.declared.verdict.Verdict.{Verdict}
+use Rattle.datagram_verdict.specs.declared.verdict.Due.{Due}
+use Rattle.datagram_verdict.specs.declared.verdict.Change.{Change}
+use Rattle.datagram_verdict.specs.declared.verdict.Change.TheVariants as C
+use Rattle.datagram_verdict.specs.declared.verdict.Ending.{Ending}
+use Rattle.datagram_verdict.specs.declared.verdict.Verdict.{Verdict}
 use Rattle.exchange_core.specs.declared.step.Reader.{Reader}
-use Rattle.exchange_core.specs.Findings.{Found}
-use Rattle.exchange_core.specs.Verdicts.{due_at, found_by, Turns, exchanges_by, memory_by, heard_by, held_by, ended_by, IsNew, IsVerdict}
+use Rattle.datagram_verdict.specs.Findings.{Found}
+use Rattle.datagram_verdict.specs.Verdicts.{due_at, found_by, Turns, exchanges_by, memory_by, heard_by, held_by, ended_by, IsNew, IsVerdict}
 use Rattle.exchange_core.specs.Hears.{ChangesBy}
 use Rattle.exchange_core.specs.Steps.{IsConfirmation, with_sent, IsReader, with_answer, conns_by}
 

@@ -16,15 +16,15 @@ use Rattle.history_laws.specs.declared.kept.Remembered.{Remembered}
 use Rattle.history_laws.specs.Numbering.{known_of}
 use Rattle.history_laws.specs.Kept.{pend, Held, Agrees}
 use Rattle.history_laws.proofs.Hearing.{MayHear}
-use Rattle.exchange_core.specs.declared.verdict.Due.{Due}
-use Rattle.exchange_core.specs.declared.verdict.Ending.{Ending}
-use Rattle.exchange_core.specs.declared.verdict.Verdict.{Verdict}
+use Rattle.datagram_verdict.specs.declared.verdict.Due.{Due}
+use Rattle.datagram_verdict.specs.declared.verdict.Ending.{Ending}
+use Rattle.datagram_verdict.specs.declared.verdict.Verdict.{Verdict}
 use Rattle.exchange_core.specs.declared.step.Reader.{Reader}
 use Rattle.exchange_core.specs.Room.{is_some_ask, is_pending, fits, takes}
 use Rattle.exchange_core.specs.CoreValue.{Outgoing, CoreValue, written, CoreKept, Answerable}
-use Rattle.exchange_core.specs.Findings.{Found}
+use Rattle.datagram_verdict.specs.Findings.{Found}
 use Rattle.exchange_core.specs.Answering.{Given, Waited, HasWaited, IsKept, answer_of}
-use Rattle.exchange_core.specs.Verdicts.{exchanges_by, heard_by, held_by, ended_by, IsVerdict}
+use Rattle.datagram_verdict.specs.Verdicts.{exchanges_by, heard_by, held_by, ended_by, IsVerdict}
 use Rattle.exchange_core.specs.Hears.{AddsAnswer, ChangesBy, HearsAt, HasNoRoom, HeardSo}
 use Rattle.exchange_core.specs.Steps.{one_if, IsConfirmation, with_sent, outgoing_by, IsReader, with_answer, conns_by, waiting_by, AnswersBy}
 use Rattle.history_laws.specs.Limits.{MaySeal}

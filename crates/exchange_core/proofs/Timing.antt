@@ -23,7 +23,7 @@ use Rattle.history_laws.proofs.Readers.{late-found, pending-apart}
 use Rattle.exchange_core.specs.declared.step.Reader.{Reader}
 use Rattle.exchange_core.proofs.Told.{at-entries}
 use Rattle.exchange_core.specs.Room.{is_pending, held}
-use Rattle.exchange_core.specs.Findings.{Fails}
+use Rattle.datagram_verdict.specs.Findings.{Fails}
 use Rattle.exchange_core.specs.Answering.{Given, Waited, HasWaited, IsWaited, IsKept, IsGiven, answer_of}
 use Rattle.exchange_core.specs.Steps.{IsReader, with_answer, conns_by, waiting_by, AnswersBy}
 use Rattle.exchange_core.specs.CoreValue.{Outgoing, written, Answerable}

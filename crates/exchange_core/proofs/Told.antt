@@ -21,15 +21,15 @@ use Rattle.history_laws.proofs.Conns.{TurnIn}
 use Rattle.history_laws.proofs.Answering.{asks-stand}
 use Rattle.history_laws.proofs.Askers.{waits-apart}
 use Rattle.history_laws.proofs.Steps.{conn-in, entries-length}
-use Rattle.exchange_core.specs.declared.verdict.Change.{Change}
-use Rattle.exchange_core.specs.declared.verdict.Change.TheVariants as C
-use Rattle.exchange_core.specs.declared.verdict.Ending.{Ending}
-use Rattle.exchange_core.specs.declared.verdict.Verdict.{Verdict}
+use Rattle.datagram_verdict.specs.declared.verdict.Change.{Change}
+use Rattle.datagram_verdict.specs.declared.verdict.Change.TheVariants as C
+use Rattle.datagram_verdict.specs.declared.verdict.Ending.{Ending}
+use Rattle.datagram_verdict.specs.declared.verdict.Verdict.{Verdict}
 use Rattle.exchange_core.specs.declared.step.Reader.{Reader}
-use Rattle.exchange_core.specs.Findings.{Found}
+use Rattle.datagram_verdict.specs.Findings.{Found}
 use Rattle.exchange_core.specs.CoreValue.{Outgoing, written, Answerable}
 use Rattle.exchange_core.specs.Answering.{Given, Waited, IsWaited, IsKept, IsFound, IsGiven, answer_of}
-use Rattle.exchange_core.specs.Verdicts.{found_by, Turns, IsVerdict}
+use Rattle.datagram_verdict.specs.Verdicts.{found_by, Turns, IsVerdict}
 use Rattle.exchange_core.specs.Steps.{with_sent, outgoing_by, IsReader as IsReaderOf, with_answer, conns_by, waiting_by, AnswersBy}
 use Rattle.exchange_core.proofs.Giving.{slice_get-more, slice_get-end, given-keeps, waited-keeps, found-keeps, kept-other, answerable-sends, answerable-more}
 

@@ -17,7 +17,7 @@ use Rattle.history_laws.proofs.Pending.{Distinct}
 use Rattle.history_laws.proofs.Askers.{waits-apart}
 use Rattle.history_laws.proofs.Readers.{Agrees-distinct, Amid-distinct, pending-apart}
 use Rattle.exchange_core.specs.declared.step.Reader.{Reader}
-use Rattle.exchange_core.specs.Findings.{Fails}
+use Rattle.datagram_verdict.specs.Findings.{Fails}
 use Rattle.exchange_core.specs.Steps.{IsReader}
 use Rattle.exchange_core.specs.Ticking.{is_past, late_for, timed_by, timed, waits_on, reader_in, late_reader, timed_out, late_ending}
 use Rattle.exchange_core.proofs.Lates.{late-is, find-none, find-is, find-not}

@@ -13,7 +13,7 @@ use Rattle.history_laws.specs.Justified.{IsRefusal}
 use Rattle.exchange_core.specs.declared.answer.Answer.{Answer}
 use Rattle.exchange_core.specs.declared.outbox.Stamp.{Stamp}
 use Rattle.exchange_core.specs.declared.outbox.Waiting.{Waiting}
-use Rattle.exchange_core.specs.Findings.{Found, Told, Tells, Fails}
+use Rattle.datagram_verdict.specs.Findings.{Found, Told, Tells, Fails}
 
 pub record Given : Type 0 where
   pub ask : ℕ

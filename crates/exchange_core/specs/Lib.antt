@@ -1,12 +1,8 @@
 pub mod Answering
 pub mod Asking
 pub mod CoreValue
-pub mod Findings
-pub mod Hearing
-pub mod Reading
 pub mod Room
 pub mod Tables
 pub mod Ticking
-pub mod Verdicts
 pub mod Steps
 pub mod Hears

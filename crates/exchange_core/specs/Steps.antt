@@ -8,8 +8,8 @@ use Rattle.journal_book.specs.Views.{grounds_of}
 use Rattle.history_laws.specs.declared.kept.Conn.{Conn}
 use Rattle.history_laws.specs.Confirming.{empty}
 use Rattle.history_laws.specs.Kept.{pend}
-use Rattle.exchange_core.specs.declared.verdict.Due.{Due}
-use Rattle.exchange_core.specs.declared.verdict.Ending.{Ending}
+use Rattle.datagram_verdict.specs.declared.verdict.Due.{Due}
+use Rattle.datagram_verdict.specs.declared.verdict.Ending.{Ending}
 use Rattle.exchange_core.specs.declared.step.Reader.{Reader}
 use Rattle.exchange_core.specs.Answering.{Given, Waited, answer_of}
 use Rattle.exchange_core.specs.CoreValue.{Outgoing, written}

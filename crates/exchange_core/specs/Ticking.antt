@@ -7,9 +7,9 @@ use Rattle.history_laws.specs.declared.kept.Conn.{Conn}
 use Rattle.history_laws.specs.declared.kept.Exchange.{Exchange}
 use Rattle.history_laws.specs.Kept.{Held}
 use Rattle.history_laws.specs.Amid.{Ended, Amid}
-use Rattle.exchange_core.specs.declared.verdict.Ending.{Ending}
+use Rattle.datagram_verdict.specs.declared.verdict.Ending.{Ending}
 use Rattle.exchange_core.specs.Room.{is_pending, held, takes}
-use Rattle.exchange_core.specs.Findings.{Fails}
+use Rattle.datagram_verdict.specs.Findings.{Fails}
 use Rattle.exchange_core.specs.Answering.{Given, Waited}
 use Rattle.exchange_core.specs.CoreValue.{Outgoing, CoreValue, Answerable, written}
 

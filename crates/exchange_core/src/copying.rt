@@ -4,66 +4,15 @@ ghost use Rattle.std.specs.Prelude.{◌≡◌, ◌+◌, ◌≤◌, map, length, 
 ghost use Rattle.std.specs.Arc.{arc_value};
 ghost use Rattle.exchange_core.specs.Answering.{given_of, waited_of};
 ghost use Rattle.exchange_core.specs.CoreValue.{outgoing_of};
-ghost use Rattle.exchange_core.specs.Findings.{response_of, told_of};
 
-use crate::answer::{Answer, Outcome, Response};
+use crate::answer::Answer;
 use crate::core_state::Core;
 use crate::outbox::Waiting;
 use crate::outgoing::Datagram;
-use ask_model::Bytes;
 use std::alloc::{AllocError, Global};
 use std::collections::VecDeque;
 use std::sync::Arc;
 use transformers::Relation;
-
-/// Equal values of options.
-fn copy_values(alloc: Global, values: &[Bytes]) -> Result<Vec<Bytes>, AllocError>
-    ensures { IfOk result (λ copy. copy.items ≡ values.now) }
-{
-    let mut copy = Vec::new(alloc);
-    'each: for value in values {
-        copy.push(value.copy()?)?;
-    }
-    Ok(copy)
-}
-
-/// An equal value of an option, if there is one.
-fn copy_value(value: &Option<Bytes>) -> Result<Option<Bytes>, AllocError>
-    ensures { IfOk result (λ copy. copy ≡ value.now) }
-{
-    match value {
-        Some(value) => Ok(Some(value.copy()?)),
-        None => Ok(None),
-    }
-}
-
-impl Response {
-    /// An equal response.
-    pub fn copy(&self) -> Result<Response, AllocError>
-        ensures { IfOk result (λ r. response_of r ≡ response_of self.now) }
-    {
-        let alloc = *self.location_path.allocator();
-        Ok(Response {
-            code: self.code,
-            format: self.format,
-            etag: copy_value(&self.etag)?,
-            max_age: self.max_age,
-            location_path: copy_values(alloc, &self.location_path)?,
-            location_query: copy_values(alloc, &self.location_query)?,
-            body: self.body.copy()?,
-        })
-    }
-}
-
-/// An equal outcome.
-pub fn copy_outcome(outcome: &Outcome) -> Result<Outcome, AllocError>
-    ensures { IfOk result (λ o. told_of o ≡ told_of outcome.now) }
-{
-    match outcome {
-        Outcome::Whole(response) => Ok(Outcome::Whole(response.copy()?)),
-        Outcome::Fault(cause) => Ok(Outcome::Fault(*cause)),
-    }
-}
 
 /// Equal answers.
 pub fn copy_answers<R: Relation>(

@@ -13,13 +13,14 @@ ghost use Rattle.exchange_core.specs.Tables.{HasIdle, HasWaiting};
 ghost use Rattle.exchange_core.specs.Answering.{IsGiven, given_of};
 ghost use Rattle.exchange_core.specs.Asking.{AnswersAtOnce, IsAtOnce};
 
-use crate::answer::{Answer, Finding, Ticket};
+use crate::answer::{Answer, Ticket};
 use crate::fault::{AskFault, OpenFault};
 use crate::outbox::{Outbox, Stamp};
 use crate::outgoing::Datagram;
 use crate::room::{BYTES, has_room};
 use crate::tables::{check_idle, drop_conn, find_conn, pending_count};
 use ask_model::{Cause, Mapped, incoming_size};
+use datagram_verdict::Finding;
 use history_laws::kept::{Conn, Exchange, Known, Remembered};
 use journal_book::{Entry, Event, Grounds, Journal};
 use std::alloc::{AllocError, Global};

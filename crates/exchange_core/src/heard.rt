@@ -11,8 +11,8 @@ use crate::step::{
     added, answer_reader, confirmation_of, make_places, one_if, reader_of, send_confirmation,
 };
 use crate::tables::{change_exchanges, pending_count, remember};
-use crate::verdict::verdict_of;
 use ask_model::Bytes;
+use datagram_verdict::verdict_of;
 use journal_book::{Entry, Event};
 use std::alloc::AllocError;
 use transformers::Relation;

@@ -7,32 +7,25 @@
 
 mod answer;
 mod ask;
-mod confirming;
 mod copying;
 mod core_state;
 mod fault;
 mod heard;
-mod hearing;
 mod numbering;
 mod outbox;
 mod outgoing;
-mod reading;
-mod remembering;
-mod response;
 mod room;
 mod step;
 mod tables;
 mod tick;
-mod verdict;
 
-pub use answer::{Answer, Finding, Outcome, Response, Ticket};
+pub use answer::{Answer, Ticket};
+pub use datagram_verdict::{Finding, Outcome, Response};
 pub use core_state::Core;
 pub use fault::{AskFault, OpenFault};
 pub use outgoing::Datagram;
 
 #[cfg(test)]
 mod flow_tests;
-#[cfg(test)]
-mod heard_tests;
 #[cfg(test)]
 mod tests;

@@ -5,9 +5,10 @@ ghost use Rattle.std.specs.List.{Contains};
 ghost use Rattle.std.specs.Arc.{arc_value};
 ghost use Rattle.exchange_core.specs.Answering.{given_of, HasWaited, answer_of, without};
 
-use crate::answer::{Answer, Finding};
+use crate::answer::Answer;
 use crate::copying::{copy_answers, copy_waiting};
 use ask_model::Mapped;
+use datagram_verdict::Finding;
 use std::alloc::{AllocError, Global};
 use std::marker::Model;
 use std::sync::Arc;

@@ -7,13 +7,11 @@ ghost use Rattle.journal_book.specs.Entries.{Answers};
 ghost use Rattle.exchange_core.specs.Answering.{HasWaited};
 ghost use Rattle.exchange_core.specs.Steps.{one_if, with_sent, with_answer, conns_by, waiting_by, AnswersBy, IsReader, IsConfirmation};
 
-use crate::answer::Finding;
-use crate::confirming::confirmation;
 use crate::outbox::{Outbox, Stamp};
 use crate::outgoing::Datagram;
 use crate::tables::{find_reader, set_pending};
-use crate::verdict::{Due, Ending};
 use ask_model::Bytes;
+use datagram_verdict::{Due, Ending, Finding, confirmation};
 use history_laws::kept::{Conn, Remembered};
 use journal_book::{Entry, Event, Grounds, Journal};
 use std::alloc::{AllocError, Global};

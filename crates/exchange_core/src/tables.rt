@@ -3,12 +3,12 @@
 ghost use Rattle.std.specs.Prelude.{◌≡◌, ◌≢◌, ◌==◌, ◌<◌, not, filter, map, All, count_by, None, Some, IfSome, ◌⊎◌, Err, OnOk, OnErr, vec_len, vec_capacity};
 ghost use Rattle.std.specs.List.{Contains};
 ghost use Rattle.history_laws.specs.Kept.{pend};
-ghost use Rattle.exchange_core.specs.Verdicts.{confirm_at, exchanges_by, heard_by};
+ghost use Rattle.datagram_verdict.specs.Verdicts.{confirm_at, exchanges_by, heard_by};
 ghost use Rattle.exchange_core.specs.Room.{is_pending};
 ghost use Rattle.exchange_core.specs.Tables.{HasIdle, HasWaiting};
 
 use crate::fault::AskFault;
-use crate::verdict::Change;
+use datagram_verdict::Change;
 use history_laws::kept::{Conn, Exchange, Remembered};
 
 /// The connection with this number, if it is open.

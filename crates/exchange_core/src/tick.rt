@@ -9,12 +9,12 @@ ghost use Rattle.exchange_core.specs.CoreValue.{Outgoing, written, now};
 ghost use Rattle.exchange_core.specs.Steps.{IsReader};
 ghost use Rattle.exchange_core.specs.Ticking.{is_past, late_on, is_due, due_count, timeouts, timed, going, moment_after, takes_tick, counts, waits_on, IsNextDue, HasPast, AddsAnswers, IsPrompt, EndsLate, SealsLate, KeepsLate, Midway, IsMidway, late_ending};
 
-use crate::answer::Finding;
 use crate::core_state::Core;
 use crate::outbox::Outbox;
 use crate::step::{Reader, answer_reader};
 use crate::tables::{find_reader, pending_count};
 use ask_model::Cause;
+use datagram_verdict::Finding;
 use history_laws::kept::{Conn, Exchange};
 use journal_book::{Entry, Event, Grounds, Journal};
 use std::alloc::AllocError;

@@ -4,7 +4,7 @@ use Rattle.http_edge.specs.declared.answer.HttpAnswer.{HttpAnswer}
 use Rattle.ask_model.specs.declared.cause.Cause.{Cause}
 use Rattle.journal_book.specs.Entries.{Grounds, Fault}
 use Rattle.exchange_core.specs.Answering.{Given}
-use Rattle.exchange_core.specs.Findings.{Fails, Fits}
+use Rattle.datagram_verdict.specs.Findings.{Fails, Fits}
 use Rattle.gateway_world.specs.Means.{Means, Tells}
 
 pub named_by : (g : Grounds) (cause named : Cause) (n : ℕ) → Fault named n ≡ g → Fits (Fails cause) g → g ≡ Fault cause n

@@ -8,7 +8,7 @@ use Rattle.coap_codec.specs.Spelling.{Content}
 use Rattle.ask_model.specs.declared.cause.Cause.{Cause}
 use Rattle.ask_model.specs.Requests.{Sense, Requests, Refuses}
 use Rattle.journal_book.specs.Entries.{Grounds, Live, Kept, Fault, Written}
-use Rattle.exchange_core.specs.Findings.{Told, Tells, Fails}
+use Rattle.datagram_verdict.specs.Findings.{Told, Tells, Fails}
 use Rattle.exchange_core.specs.declared.outgoing.Datagram.{Datagram}
 use Rattle.exchange_core.specs.CoreValue.{CoreValue, Outgoing, outgoing_of, sent_by, sendings}
 use Rattle.exchange_core.specs.Answering.{Given, HeardAs, IsFound, IsGiven}

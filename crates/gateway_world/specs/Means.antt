@@ -21,7 +21,7 @@ use Rattle.ask_model.specs.Views.{Mapping}
 use Rattle.journal_book.specs.Entries.{Grounds, Fault}
 use Rattle.history_laws.specs.Responses.{Response}
 use Rattle.exchange_core.specs.Answering.{Given}
-use Rattle.exchange_core.specs.Findings.{Told, Tells as TellsOf, Fails}
+use Rattle.datagram_verdict.specs.Findings.{Told, Tells as TellsOf, Fails}
 use Rattle.gateway_world.specs.Located.{located}
 
 -- fields as names and values

@@ -5,13 +5,13 @@ ghost use Rattle.std.specs.Str.{is_utf8};
 ghost use Rattle.gateway_world.specs.Means.{pair_of, only, content_type, cache_control, entity_tag, value_if, retry_after, connection, content_length, closes as closing, seconds_left as left_of};
 ghost use Rattle.ask_model.specs.Causes.{cause_text};
 ghost use Rattle.ask_model.specs.Views.{came_of};
-ghost use Rattle.exchange_core.specs.Findings.{response_of};
+ghost use Rattle.datagram_verdict.specs.Findings.{response_of};
 ghost use Rattle.gateway_world.specs.Located.{located};
 
 use crate::location::location_of;
 use ask_model::{Cause, Mapped};
 use code_map::Status;
-use exchange_core::Response;
+use datagram_verdict::Response;
 use http_edge::{Field, Incoming, Memory};
 use media_map::media_of;
 use std::alloc::Global;

@@ -4,12 +4,12 @@ ghost use Rattle.std.specs.Prelude.{◌≡◌, IfOk, option_map, is_ok, true, Li
 ghost use Rattle.std.specs.List.{list_all};
 ghost use Rattle.std.specs.Str.{is_utf8};
 ghost use Rattle.uri_map.specs.Naming.{target_at};
-ghost use Rattle.exchange_core.specs.Findings.{response_of};
+ghost use Rattle.datagram_verdict.specs.Findings.{response_of};
 ghost use Rattle.gateway_world.specs.Located as spec;
 
 use crate::fields::is_text;
 use ask_model::{Bytes, Mapped, Meaning};
-use exchange_core::Response;
+use datagram_verdict::Response;
 use http_edge::Memory;
 use std::alloc::Global;
 use std::str::from_utf8;

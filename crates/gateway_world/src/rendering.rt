@@ -7,7 +7,7 @@ ghost use Rattle.ask_model.specs.Views.{came_of, sense_of};
 ghost use Rattle.exchange_core.specs.Answering.{given_of};
 ghost use Rattle.journal_book.specs.Entries.{Fault};
 ghost use Rattle.ask_model.specs.declared.cause.Cause.{Cause as Causes};
-ghost use Rattle.exchange_core.specs.Findings.{response_of, Fits, Fails};
+ghost use Rattle.datagram_verdict.specs.Findings.{response_of, Fits, Fails};
 ghost use Rattle.gateway_world.specs.Means.{Means, Shows, Tells, IsOwn, is_head as head, told_status, failure_status as failed};
 
 use crate::fields::{
@@ -16,7 +16,8 @@ use crate::fields::{
 };
 use ask_model::{Cause, Mapped, Meaning};
 use code_map::{Method, Status, method_of, phrase_of, status_of};
-use exchange_core::{Answer, Finding, Outcome, Response};
+use datagram_verdict::{Finding, Outcome, Response};
+use exchange_core::Answer;
 use http_edge::{Body, HttpAnswer, Incoming, Memory};
 use journal_book::Grounds;
 use std::alloc::Global;

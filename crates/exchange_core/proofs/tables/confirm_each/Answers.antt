@@ -1,4 +1,4 @@
-use Rattle.exchange_core.specs.Verdicts.{confirm_at}
+use Rattle.datagram_verdict.specs.Verdicts.{confirm_at}
 use Rattle.exchange_core.proofs.Lists.{mapped-set}
 use Rattle.exchange_core.proofs.tables.confirm_each.Goals as goal
 

@@ -1,5 +1,5 @@
 use Rattle.std.proofs.Common.{◌≡◌, ◌++◌, map, take, drop}
-use Rattle.exchange_core.specs.Verdicts.{confirm_at}
+use Rattle.datagram_verdict.specs.Verdicts.{confirm_at}
 use Rattle.exchange_core.proofs.tables.confirm_each.Given as goal
 
 abbrev pub invariant-each : goal.invariant-each

@@ -1,5 +1,5 @@
 use Rattle.std.proofs.Common.{◌≡◌, ◌≢◌, ◌++◌, codes, decimal, string_bytes, arith}
-use Rattle.exchange_core.specs.Findings.{response_of}
+use Rattle.datagram_verdict.specs.Findings.{response_of}
 use Rattle.gateway_world.specs.Means.{seconds_left}
 use Rattle.gateway_world.proofs.Rules.{cache_control_of}
 use Rattle.gateway_world.proofs.fields.add_freshness.Goals as goal

@@ -1,7 +1,7 @@
 -- An error of the proxy's own is told with its cause, and with the number that its grounds name.
 use Rattle.std.proofs.Common.{◌≡◌, sym}
 use Rattle.exchange_core.specs.Answering.{given_of}
-use Rattle.exchange_core.specs.Findings.{Fails}
+use Rattle.datagram_verdict.specs.Findings.{Fails}
 use Rattle.gateway_world.proofs.Faults.{tells_means}
 use Rattle.gateway_world.proofs.rendering.render.Goals as goal
 

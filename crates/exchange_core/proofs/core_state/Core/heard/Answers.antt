@@ -5,7 +5,7 @@ use Rattle.std.proofs.lemmas.List.Sums.{count_by-le-length}
 use Rattle.history_laws.specs.declared.kept.Conn.{Conn}
 use Rattle.history_laws.specs.Kept.{Held}
 use Rattle.exchange_core.specs.Room.{is_pending}
-use Rattle.exchange_core.specs.Verdicts.{heard_by}
+use Rattle.datagram_verdict.specs.Verdicts.{heard_by}
 use Rattle.exchange_core.specs.Steps.{outgoing_by}
 use Rattle.exchange_core.specs.CoreValue.{CoreValue, outgoing_of}
 use Rattle.exchange_core.proofs.Dropping.{never-sent, not-dropped}

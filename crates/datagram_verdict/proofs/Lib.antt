@@ -1,0 +1,3 @@
+mod Recognising
+mod Matching
+mod Deciding

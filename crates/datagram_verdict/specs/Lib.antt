@@ -1,0 +1,4 @@
+pub mod Findings
+pub mod Hearing
+pub mod Reading
+pub mod Verdicts
