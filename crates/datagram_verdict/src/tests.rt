@@ -20,11 +20,11 @@ fn peer(port: u16) -> Peer {
 }
 
 /// An exchange whose request bore this ID and the token 74 65.
-fn exchange(opening: u32, mid: u16, confirmed: bool) -> Exchange {
+fn exchange(opening: u16, mid: u16, confirmed: bool) -> Exchange {
     Exchange {
-        opening,
+        opening: u32::from(opening),
         since: 0,
-        number: opening + 1,
+        number: u32::from(opening) + 1,
         peer: peer(5683),
         mid,
         token: Token::new(&[0x74, 0x65]),

@@ -7,6 +7,7 @@
 
 mod answer;
 mod ask;
+mod beginning;
 mod copying;
 mod core_state;
 mod fault;
