@@ -1,3 +1,4 @@
+pub mod Causes
 pub mod Requests
 pub mod Sizes
 pub mod Views

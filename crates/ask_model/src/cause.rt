@@ -24,6 +24,11 @@ pub enum Cause {
 }
 
 impl Display for Cause {
+    ghost use Rattle.std.specs.Prelude.{Some};
+    ghost use Rattle.ask_model.specs.Causes.{cause_text};
+
+    ghost output = { λ cause. Some (cause_text cause) };
+
     fn fmt<W: Write>(&self, f: &mut Formatter<W>) -> Result<(), fmt::Error> {
         f.write_str(match self {
             Cause::BadHttp => "bad-http",
