@@ -1,5 +1,5 @@
 -- What a link answers in a whole run.
-use Rattle.std.proofs.Common.{◌≡◌, ℕ, suc, zero, ◌+◌, ◌-◌, ◌/◌, ◌%◌, ◌≤◌, ◌<◌, List, [], ◌∷◌, ◌++◌, length, filter, map, Option, Some, None, Result, Ok, Err, Bool, true, false, not, cond, nat_lt, ◌&&◌, ◌||◌, ◌⊎◌, inl, inr, refl, sym, ◌∙◌, ap, subst, arith, append_assoc, append-nil, count_by, rules}
+use Rattle.std.proofs.Common.{◌≡◌, ◌≢◌, ℕ, suc, zero, ◌-◌, ◌≤◌, ◌<◌, List, [], ◌∷◌, ◌++◌, length, filter, Option, Some, None, Result, Ok, Err, Bool, true, false, not, cond, nat_lt, ◌&&◌, ◌⊎◌, inl, inr, refl, sym, ◌∙◌, ap, subst, arith, append_assoc, append-nil, count_by}
 use Rattle.std.specs.Prelude.{◌==◌, if◌then◌else◌}
 use Rattle.std.specs.List.{find, list_any}
 use Rattle.std.proofs.lemmas.Bool.{lt-ltb, eqb-true, eqb-false}
@@ -12,24 +12,25 @@ use Rattle.coap_codec.specs.Reading.{message_at}
 use Rattle.coap_codec.specs.declared.fault.CodecFault.{CodecFault}
 use Rattle.coap_codec.specs.declared.message.MsgType.{MsgType}
 use Rattle.coap_codec.specs.declared.message.MsgType.TheVariants.{Con, Non, Ack, Rst}
-use Rattle.message_layer.specs.Values.{LinkState, Told, no_news, response, was_reset, was_dropped, IsSound, IsSoundWaiting, IsSoundOutstanding, is_con}
-use Rattle.message_layer.specs.Options.{is_rejected}
-use Rattle.message_layer.specs.Sending.{with_mid, next_mid, next_by, next_sent, ticked, ticked_by, submitted, submitted_by, queued, waits, due_of}
-use Rattle.message_layer.specs.Hearing.{is_fresh, is_repeat, is_awaited, is_awaited_by_ack, replies, says, reset_for, verdict_of, verdict_by, new_verdict, heard_verdict, ack_verdict, rst_verdict, applied, ended, hears, hears_from, hears_read, takes, undecoded, remembered_in}
-use Rattle.message_layer.specs.Calls.{forgotten, expected, sent_out, taken_by}
+use Rattle.message_layer.specs.Values.{LinkState, Told, no_news, response, IsSound, IsSoundWaiting, IsSoundOutstanding, is_con}
+use Rattle.message_layer.specs.Sending.{with_mid, next_mid, next_by, ticked, ticked_by, submitted, submitted_by, queued, waits, due_of}
+use Rattle.message_layer.specs.Hearing.{is_fresh, is_repeat, is_awaited, is_awaited_by_ack, replies, says, reset_for, verdict_of, verdict_by, new_verdict, heard_verdict, ack_verdict, rst_verdict, applied, ended, hears, hears_from, hears_read, undecoded, remembered_in}
+use Rattle.message_layer.specs.Calls.{taken_by}
 use Rattle.message_layer.specs.Runs.{Step, Call, submit, hear, tick, forget, expect, take_send, refuse, Leaves, Puts, IsStep, IsRun, last_moment, transmissions}
-use Rattle.message_layer.specs.Answers.{answers, reset, accepts, IsTold, IsUnmatched, IsEmpty, IsTaken, IsLost, IsRepeated, IsOwn, IsNotRemembered, ToldByAck, ToldByRst, IsMessage, IsRead, IsIgnored, IsAnswered, HasTaken, Answers, RunAnswers}
+use Rattle.message_layer.specs.Answers.{answers, reset, accepts, IsTaken, IsOwn, IsNotRemembered, told_by_ack, told_by_rst, IsMessage, IsOutstanding, IsAnswered, HasTaken, RunAnswers}
 use Rattle.message_layer.specs.declared.state.Heard.{Heard}
 use Rattle.message_layer.specs.declared.state.Outstanding.{Outstanding}
 use Rattle.message_layer.specs.declared.state.Waiting.{Waiting}
 use Rattle.message_layer.specs.declared.state.Reply.{Reply}
 use Rattle.message_layer.specs.declared.state.Reply.TheVariants as reply
-use Rattle.message_layer.specs.declared.verdict.News.{News}
-use Rattle.message_layer.specs.declared.verdict.News.TheVariants.{Quiet, Response, Reset, Lost}
+use Rattle.message_layer.specs.declared.verdict.News.TheVariants.{Quiet, Response}
 use Rattle.message_layer.specs.declared.verdict.Verdict.{Verdict}
 use Rattle.message_layer.proofs.Sound.{either, with_mid-con, all-push, waits-sound}
 use Rattle.message_layer.proofs.Effects.{filter-kept}
-use Rattle.message_layer.proofs.RunLaws.{run-sound, nothing-sent}
+use Rattle.message_layer.specs.Transmissions.{mid_of}
+use Rattle.message_layer.specs.Awaiting.{awaits, awaits_ack, outstanding_of}
+use Rattle.message_layer.proofs.RunLaws.{run-sound, nothing-sent, something-sent}
+use Rattle.message_layer.proofs.AwaitLaws.{Follows, run-follows}
 use borrow.Author.Tests.{ltb-true, ltb-false}
 
 -- what is remembered of those that were taken
@@ -135,72 +136,99 @@ applied-answers : (t mid : ℕ) (token : List ℕ) (v : Verdict) (s : LinkState)
 applied-answers t mid token v s sent h e =
     answers-are s.out (replies mid v.reply) sent _ (ended-adds t v.ends _ (record { turn = h.turn; waiting = h.waiting; given = h.given })) e ∙ replies-answer mid v.reply
 
+-- a test that fails
+and-false : (a b : Bool) → (a && b) ≡ false → (a ≡ false) ⊎ (b ≡ false)
+and-false true b e = inr e
+and-false false b e = inl refl
+
 -- a message that was not heard before
-new-own : (t : ℕ) (s : LinkState) (m : Content) (confirms : Bool) (sent : List (List ℕ)) (taken : List Heard)
+new-own : (t : ℕ) (older : List Step) (s : LinkState) (m : Content) (confirms : Bool) (sent : List (List ℕ)) (taken : List Heard) → list_any (is_awaited m.token) s.awaited ≡ awaits m.token older → count_by (is_fresh t) taken < 1024
     → let v = new_verdict s m (accepts confirms) (if confirms then reply.Rst else reply.Nothing) in
-    answers sent ≡ replies m.mid v.reply → IsTaken t confirms m (says v.news m) sent taken (noted v.remembered (record { mid = m.mid; moment = t; reply = v.reply }) taken)
-new-own t s m confirms sent taken =
-    let P : Verdict → Type 0 = λ v. answers sent ≡ replies m.mid v.reply → IsTaken t confirms m (says v.news m) sent taken (noted v.remembered (record { mid = m.mid; moment = t; reply = v.reply }) taken) in
+    answers sent ≡ replies m.mid v.reply → IsTaken t older confirms m (says v.news m) sent taken (noted v.remembered (record { mid = m.mid; moment = t; reply = v.reply }) taken)
+new-own t older s m confirms sent taken same few =
+    let P : Verdict → Type 0 = λ v. answers sent ≡ replies m.mid v.reply → IsTaken t older confirms m (says v.news m) sent taken (noted v.remembered (record { mid = m.mid; moment = t; reply = v.reply }) taken) in
     either P (m.code == 0) _ _
-    (λ e a. record { reply = _; fits = inr (inr (record { code = eqb-true m.code 0 e; says = refl; reply = refl })); answer = a; memory = refl })
+    (λ e a. record { reply = _; room = few; fits = inr (inr (record { code = eqb-true m.code 0 e; says = refl; reply = refl })); answer = a; memory = refl })
     (λ e. either P (nat_lt 31 m.code && list_any (is_awaited m.token) s.awaited) _ _
-    (λ f a. record { reply = _; fits = inl (record { code = ltb-true 31 m.code (and-left _ _ f); says = refl; reply = refl }); answer = a; memory = refl })
-    (λ f a. record { reply = _; fits = inr (inl (record { code = positive m.code (eqb-false m.code 0 e); says = refl; reply = refl })); answer = a; memory = refl }))
+    (λ f a. record {
+      reply = _;
+      room = few;
+      fits = inl (record { code = ltb-true 31 m.code (and-left (nat_lt 31 m.code) (list_any (is_awaited m.token) s.awaited) f); awaited = sym same ∙ and-right (nat_lt 31 m.code) (list_any (is_awaited m.token) s.awaited) f; says = refl; reply = refl });
+      answer = a;
+      memory = refl;
+    })
+    (λ f a. record {
+      reply = _;
+      room = few;
+      fits = inr (inl (record { code = positive m.code (eqb-false m.code 0 e); unmatched = unmatched (and-false (nat_lt 31 m.code) (list_any (is_awaited m.token) s.awaited) f); says = refl; reply = refl }));
+      answer = a;
+      memory = refl;
+    }))
   where
     positive : (n : ℕ) → (n ≡ 0 → ⊥) → 0 < n
     positive zero h = absurd (h refl)
     positive (suc n) h = omega arith
 
-own : (t : ℕ) (s : LinkState) (m : Content) (confirms : Bool) (sent : List (List ℕ)) (taken : List Heard) (o : Option Heard) → count_by (is_fresh t) s.heard ≡ count_by (is_fresh t) taken
+    unmatched : ((nat_lt 31 m.code ≡ false) ⊎ (list_any (is_awaited m.token) s.awaited ≡ false)) → (m.code ≤ 31) ⊎ (awaits m.token older ≡ false)
+    unmatched (inl e) = inl (ltb-false 31 m.code e)
+    unmatched (inr e) = inr (sym same ∙ e)
+
+own : (t : ℕ) (older : List Step) (s : LinkState) (m : Content) (confirms : Bool) (sent : List (List ℕ)) (taken : List Heard) (o : Option Heard) → list_any (is_awaited m.token) s.awaited ≡ awaits m.token older → count_by (is_fresh t) s.heard ≡ count_by (is_fresh t) taken
     → let v = heard_verdict t s m confirms o in
-    answers sent ≡ replies m.mid v.reply → IsOwn t confirms m o (says v.news m) sent taken (noted v.remembered (record { mid = m.mid; moment = t; reply = v.reply }) taken)
-own t s m confirms sent taken (Some h) same = λ a. record { says = refl; answer = a; memory = refl }
-own t s m confirms sent taken None same =
-    let P : Verdict → Type 0 = λ v. answers sent ≡ replies m.mid v.reply → IsOwn t confirms m None (says v.news m) sent taken (noted v.remembered (record { mid = m.mid; moment = t; reply = v.reply }) taken) in
+    answers sent ≡ replies m.mid v.reply → IsOwn t older confirms m o (says v.news m) sent taken (noted v.remembered (record { mid = m.mid; moment = t; reply = v.reply }) taken)
+own t older s m confirms sent taken (Some h) awaited same = λ a. record { says = refl; answer = a; memory = refl }
+own t older s m confirms sent taken None awaited same =
+    let P : Verdict → Type 0 = λ v. answers sent ≡ replies m.mid v.reply → IsOwn t older confirms m None (says v.news m) sent taken (noted v.remembered (record { mid = m.mid; moment = t; reply = v.reply }) taken) in
     either P (nat_lt (count_by (is_fresh t) s.heard) 1024) _ _
-    (λ e a. inl (new-own t s m confirms sent taken a))
+    (λ e a. inl (new-own t older s m confirms sent taken awaited (rw same at (ltb-true (count_by (is_fresh t) s.heard) 1024 e)) a))
     (λ e a. inr (record { full = rw same at (ltb-false (count_by (is_fresh t) s.heard) 1024 e); says = refl; answer = a; memory = refl }))
 
-by-ack : (t : ℕ) (s : LinkState) (m : Content) (sent : List (List ℕ)) (taken : List Heard) (h : Heard)
+by-ack : (t : ℕ) (older : List Step) (s : LinkState) (m : Content) (sent : List (List ℕ)) (taken : List Heard) (h : Heard) → list_any (is_awaited_by_ack m.mid m.token) s.awaited ≡ awaits_ack m.mid m.token older
     → let v = ack_verdict s m in
-    answers sent ≡ replies m.mid v.reply → ToldByAck m (says v.news m) × IsNotRemembered [] sent taken (noted v.remembered h taken)
-by-ack t s m sent taken h =
-    let P : Verdict → Type 0 = λ v. answers sent ≡ replies m.mid v.reply → ToldByAck m (says v.news m) × IsNotRemembered [] sent taken (noted v.remembered h taken) in
+    answers sent ≡ replies m.mid v.reply → (says v.news m ≡ told_by_ack older m) × IsNotRemembered [] sent taken (noted v.remembered h taken)
+by-ack t older s m sent taken h same =
+    let P : Verdict → Type 0 = λ v. answers sent ≡ replies m.mid v.reply → (says v.news m ≡ told_by_ack older m) × IsNotRemembered [] sent taken (noted v.remembered h taken) in
     either P (m.code == 0) _ _
-    (λ e a. (inl refl, record { answer = a; memory = refl }))
+    (λ e a. (empty (eqb-true m.code 0 e), record { answer = a; memory = refl }))
     (λ e. either P (nat_lt 31 m.code) _ _
-    (λ f a. (told (list_any (is_awaited_by_ack m.mid m.token) s.awaited) (ltb-true 31 m.code f), record { answer = a; memory = refl }))
-    (λ f a. (inl refl, record { answer = a; memory = refl })))
+    (λ f a. (rw (f, same) (told (awaits_ack m.mid m.token older)), record { answer = a; memory = refl }))
+    (λ f a. (rw f refl, record { answer = a; memory = refl })))
   where
-    told : (b : Bool) → 31 < m.code → ToldByAck m (says (cond b Response Quiet) m)
-    told true code = inr (refl, code)
-    told false code = inl refl
+    empty : m.code ≡ 0 → no_news ≡ told_by_ack older m
+    empty e = rw e refl
 
-by-rst : (m : Content) (o : Option Outstanding) (sent : List (List ℕ)) (taken : List Heard) (h : Heard)
+    told : (b : Bool) → says (cond b Response Quiet) m ≡ cond b (response m) no_news
+    told true = refl
+    told false = refl
+
+by-rst : (m : Content) (o : Option Outstanding) (last : Option (List ℕ)) (sent : List (List ℕ)) (taken : List Heard) (h : Heard) → IsOutstanding o last
     → let v = rst_verdict m o in
-    answers sent ≡ replies m.mid v.reply → ToldByRst m (says v.news m) × IsNotRemembered [] sent taken (noted v.remembered h taken)
-by-rst m None sent taken h = λ a. (inl refl, record { answer = a; memory = refl })
-by-rst m (Some o) sent taken h =
-    let P : Verdict → Type 0 = λ v. answers sent ≡ replies m.mid v.reply → ToldByRst m (says v.news m) × IsNotRemembered [] sent taken (noted v.remembered h taken) in
+    answers sent ≡ replies m.mid v.reply → (says v.news m ≡ told_by_rst last m) × IsNotRemembered [] sent taken (noted v.remembered h taken)
+by-rst m None None sent taken h i = λ a. (refl, record { answer = a; memory = refl })
+by-rst m None (Some d) sent taken h i = absurd i
+by-rst m (Some o) None sent taken h i = absurd i
+by-rst m (Some o) (Some d) sent taken h i =
+    let P : Verdict → Type 0 = λ v. answers sent ≡ replies m.mid v.reply → (says v.news m ≡ told_by_rst (Some d) m) × IsNotRemembered [] sent taken (noted v.remembered h taken) in
+    let same : ((m.code == 0) && (o.mid == m.mid)) ≡ ((m.code == 0) && (mid_of d == m.mid)) = rw i.1 refl in
     either P ((m.code == 0) && (o.mid == m.mid)) _ _
-    (λ e a. (inr (o.token, refl, eqb-true m.code 0 (and-left _ _ e)), record { answer = a; memory = refl }))
-    (λ e a. (inl refl, record { answer = a; memory = refl }))
+    (λ e a. (rw (i.2, sym same ∙ e) refl, record { answer = a; memory = refl }))
+    (λ e a. (rw (sym same ∙ e) refl, record { answer = a; memory = refl }))
 
-message-answered : (t : ℕ) (s : LinkState) (m : Content) (kind : MsgType) (sent : List (List ℕ)) (taken : List Heard) → Remembers t taken s.heard
+message-answered : (t : ℕ) (older : List Step) (s : LinkState) (m : Content) (kind : MsgType) (sent : List (List ℕ)) (taken : List Heard) → Follows older s → Remembers t taken s.heard
     → let v = verdict_by t s m kind in
-    answers sent ≡ replies m.mid v.reply → IsMessage t kind m (says v.news m) sent taken (noted v.remembered (record { mid = m.mid; moment = t; reply = v.reply }) taken)
-message-answered t s m Con sent taken r a =
+    answers sent ≡ replies m.mid v.reply → IsMessage t older kind m (says v.news m) sent taken (noted v.remembered (record { mid = m.mid; moment = t; reply = v.reply }) taken)
+message-answered t older s m Con sent taken f r a =
     let e : find (is_repeat t m.mid) s.heard ≡ find (is_repeat t m.mid) taken = same-find t m.mid s.heard taken (r t (omega arith)) in
     let v : Verdict = verdict_by t s m Con in
-    let P : Option Heard → Type 0 = λ o. IsOwn t true m o (says v.news m) sent taken (noted v.remembered (record { mid = m.mid; moment = t; reply = v.reply }) taken) in
-    subst P e (own t s m true sent taken (find (is_repeat t m.mid) s.heard) (same-count t s.heard taken (r t (omega arith))) a)
-message-answered t s m Non sent taken r a =
+    let P : Option Heard → Type 0 = λ o. IsOwn t older true m o (says v.news m) sent taken (noted v.remembered (record { mid = m.mid; moment = t; reply = v.reply }) taken) in
+    subst P e (own t older s m true sent taken (find (is_repeat t m.mid) s.heard) (f.awaited m.token) (same-count t s.heard taken (r t (omega arith))) a)
+message-answered t older s m Non sent taken f r a =
     let e : find (is_repeat t m.mid) s.heard ≡ find (is_repeat t m.mid) taken = same-find t m.mid s.heard taken (r t (omega arith)) in
     let v : Verdict = verdict_by t s m Non in
-    let P : Option Heard → Type 0 = λ o. IsOwn t false m o (says v.news m) sent taken (noted v.remembered (record { mid = m.mid; moment = t; reply = v.reply }) taken) in
-    subst P e (own t s m false sent taken (find (is_repeat t m.mid) s.heard) (same-count t s.heard taken (r t (omega arith))) a)
-message-answered t s m Ack sent taken r a = by-ack t s m sent taken _ a
-message-answered t s m Rst sent taken r a = by-rst m s.outstanding sent taken _ a
+    let P : Option Heard → Type 0 = λ o. IsOwn t older false m o (says v.news m) sent taken (noted v.remembered (record { mid = m.mid; moment = t; reply = v.reply }) taken) in
+    subst P e (own t older s m false sent taken (find (is_repeat t m.mid) s.heard) (f.awaited m.token) (same-count t s.heard taken (r t (omega arith))) a)
+message-answered t older s m Ack sent taken f r a = by-ack t older s m sent taken _ (f.acks m.mid m.token) a
+message-answered t older s m Rst sent taken f r a = by-rst m s.outstanding (outstanding_of older) sent taken _ f.outstanding a
 
 -- what a step leaves of those that were taken, and how it fits what was taken before
 pub record Goes (x : Step) (older : List Step) (c : Call) (before : List Heard) (heard : List Heard) : Type 0 where
@@ -208,20 +236,21 @@ pub record Goes (x : Step) (older : List Step) (c : Call) (before : List Heard) 
   pub answered : IsAnswered x older c before taken
   pub remembers : Remembers x.moment taken heard
 
-read-goes : (x : Step) (older : List Step) (d : List ℕ) (s : LinkState) (taken : List Heard) → IsSound s → Remembers x.moment taken s.heard → (o : Result Content CodecFault) → o ≡ message_at d
+read-goes : (x : Step) (older : List Step) (d : List ℕ) (s : LinkState) (taken : List Heard) → IsSound s → Follows older s → Remembers x.moment taken s.heard → length d ≤ 2048 → transmissions older ≢ []
+    → (o : Result Content CodecFault) → o ≡ message_at d
     → (hears_read x.moment d s o).0.out ≡ s.out ++ x.sent → Goes x older (hear d (hears_read x.moment d s o).1) taken (hears_read x.moment d s o).0.heard
-read-goes x older d s taken h r (Ok m) is out =
+read-goes x older d s taken h f r short begun (Ok m) is out =
     let v : Verdict = verdict_of x.moment s m in
     let a : answers x.sent ≡ replies m.mid v.reply = applied-answers x.moment m.mid m.token v s x.sent h out in
     let n : Heard = record { mid = m.mid; moment = x.moment; reply = v.reply } in
     record {
       taken = noted v.remembered n taken;
-      answered = inr (rw (← is) (message-answered x.moment s m m.kind x.sent taken r a));
+      answered = inr (record { short = short; begun = begun; read = rw (← is) (message-answered x.moment older s m m.kind x.sent taken f r a) });
       remembers = rw (ended-heard x.moment v.ends _) (remembers-noted x.moment m.mid v.reply v.remembered taken s.heard r);
     }
-read-goes x older d s taken h r (Err e) is out = record {
+read-goes x older d s taken h f r short begun (Err e) is out = record {
   taken = taken;
-  answered = inr (rw (← is) (refl, record { answer = by (reset_for d) out; memory = refl }));
+  answered = inr (record { short = short; begun = begun; read = rw (← is) (refl, record { answer = by (reset_for d) out; memory = refl }) });
   remembers = same (reset_for d);
 }
   where
@@ -255,7 +284,7 @@ hear-goes x older d s taken run h r = by s.last_mid refl
           answered = inl (record { why = inl (ltb-true 2048 (length d) e); says = refl; answer = nothing out; memory = refl });
           remembers = r;
         })
-        (λ e out. read-goes x older d s taken h r (message_at d) refl out)
+        (λ e out. read-goes x older d s taken h (run-follows older s run) r (ltb-false 2048 (length d) e) (something-sent older s mid run some) (message_at d) refl out)
 
 tick-adds : (t : ℕ) (s : LinkState) → IsSound s → AddsMessages s.out (ticked t s).0.out × ((ticked t s).0.heard ≡ s.heard)
 tick-adds t s h = by s.outstanding refl
@@ -331,4 +360,7 @@ run-answered (x ∷ older) s r =
     record { taken = g.taken; all = (b.taken, b.all, g.answered); remembers = g.remembers }
 
 pub run-answers : RunAnswers
-run-answers run s r = let a = run-answered run s r in record { taken = a.taken; all = a.all }
+run-answers run s r =
+    let a = run-answered run s r in
+    let f = run-follows run s r in
+    record { taken = a.taken; all = a.all; awaited = f.awaited; by_ack = f.acks; outstanding = f.outstanding }

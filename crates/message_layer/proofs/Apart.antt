@@ -1,10 +1,10 @@
 -- Message IDs are apart.
-use Rattle.std.proofs.Common.{◌≡◌, ℕ, suc, ◌+◌, ◌-◌, ◌*◌, ◌%◌, ◌^◌, ◌≤◌, ◌<◌, List, [], ◌∷◌, ◌++◌, length, filter, map, Bool, true, false, cond, nat_lt, ◌⊎◌, inl, inr, refl, sym, ◌∙◌, ap, arith}
+use Rattle.std.proofs.Common.{◌≡◌, ℕ, suc, ◌+◌, ◌-◌, ◌%◌, ◌≤◌, ◌<◌, List, [], ◌∷◌, ◌++◌, length, Bool, true, false, nat_lt, refl, arith}
 use Rattle.std.proofs.lemmas.Bool.{lt-ltb}
 use Rattle.message_layer.proofs.RunLaws.{first-latest}
 use borrow.Author.Tests.{ltb-true, ltb-false}
 use Rattle.message_layer.specs.Sending.{is_in_use}
-use Rattle.message_layer.specs.Transmissions.{SentMessage, mid_of, latest, IsSpaced, HasNextMid, IsBehind, first_of, recent, IsSent, IsSequence, MidsApart}
+use Rattle.message_layer.specs.Transmissions.{SentMessage, mid_of, latest, recent, IsSequence, MidsApart}
 
 -- a later message is sent later
 not-before : (m : SentMessage) (between : List SentMessage) (n : SentMessage) (older : List SentMessage) → IsSequence (m ∷ between ++ n ∷ older) → n.first ≤ m.first

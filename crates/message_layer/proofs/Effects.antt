@@ -1,5 +1,5 @@
 -- What a step does to the message that is outstanding: nothing, or it ends; a first sending; or a copy.
-use Rattle.std.proofs.Common.{◌≡◌, ℕ, ◌+◌, ◌*◌, ◌^◌, ◌≤◌, ◌<◌, List, [], ◌∷◌, ◌++◌, length, filter, map, Option, Some, None, Bool, true, false, cond, nat_lt, ◌⊎◌, inl, inr, Result, Ok, Err, refl, sym, ◌∙◌, ap, subst, arith, length-append, count_by, append_assoc, append-nil}
+use Rattle.std.proofs.Common.{◌≡◌, ℕ, ◌+◌, ◌≤◌, ◌<◌, List, [], ◌∷◌, ◌++◌, length, filter, Option, Some, None, Bool, true, false, cond, nat_lt, ◌⊎◌, inl, inr, Result, Ok, Err, refl, sym, ◌∙◌, ap, arith, length-append, count_by, append_assoc, append-nil}
 use Rattle.std.proofs.lemmas.Bool.{lt-ltb}
 use Rattle.std.proofs.lemmas.List.{append_cancel_left}
 use Rattle.std.proofs.lemmas.List.Elements.{filter-append}
@@ -9,8 +9,8 @@ use Rattle.coap_codec.specs.Spelling.{Content}
 use Rattle.coap_codec.specs.Reading.{message_at}
 use Rattle.coap_codec.specs.declared.fault.CodecFault.{CodecFault}
 use Rattle.message_layer.specs.Values.{LinkState, Told, IsSound, IsSoundWaiting, IsSoundOutstanding, is_con}
-use Rattle.message_layer.specs.Sending.{is_in_use, with_mid, next_mid, first_sent, next_by, next_sent, again, due_of, ticked, ticked_by, pruned, queued, submitted, submitted_by, waits}
-use Rattle.message_layer.specs.Hearing.{replies, verdict_of, applied, ended, hears, hears_from, hears_read, undecoded, reset_for, remembered_in, answered_in}
+use Rattle.message_layer.specs.Sending.{is_in_use, with_mid, next_mid, first_sent, next_by, again, due_of, ticked, ticked_by, pruned, queued, submitted, submitted_by}
+use Rattle.message_layer.specs.Hearing.{replies, verdict_of, ended, hears, hears_from, hears_read, undecoded, reset_for}
 use Rattle.message_layer.specs.declared.state.Reply.{Reply}
 use Rattle.message_layer.specs.declared.state.Reply.TheVariants as reply
 use Rattle.message_layer.specs.declared.state.Waiting.{Waiting}
@@ -88,13 +88,13 @@ pub record GoesOn (t : ℕ) (old s : LinkState) (answers : List (List ℕ)) : Ty
   pub out : s.out ≡ old.out ++ answers
   pub quiet : filter is_con answers ≡ []
 
-quiet-sent : (old answers sent : List (List ℕ)) → filter is_con answers ≡ [] → old ++ answers ≡ old ++ sent → filter is_con sent ≡ []
+pub quiet-sent : (old answers sent : List (List ℕ)) → filter is_con answers ≡ [] → old ++ answers ≡ old ++ sent → filter is_con sent ≡ []
 quiet-sent old answers sent quiet e = rw (← append_cancel_left old answers sent e) quiet
 
 append-again : (a b c : List (List ℕ)) → (a ++ b) ++ c ≡ a ++ (b ++ c)
 append-again a b c = simp append_assoc
 
-con-sent : (old answers : List (List ℕ)) (d : List ℕ) (sent : List (List ℕ)) → filter is_con answers ≡ [] → is_con d ≡ true
+pub con-sent : (old answers : List (List ℕ)) (d : List ℕ) (sent : List (List ℕ)) → filter is_con answers ≡ [] → is_con d ≡ true
     → (old ++ answers) ++ d ∷ [] ≡ old ++ sent → filter is_con sent ≡ d ∷ []
 con-sent old answers d sent quiet con e =
     let is : answers ++ d ∷ [] ≡ sent = append_cancel_left old _ sent (sym (append-again old answers (d ∷ [])) ∙ e) in

@@ -5,5 +5,8 @@ pub mod Sendings
 pub mod Effects
 pub mod RunLaws
 pub mod Apart
+pub mod AwaitTable
+pub mod AwaitEnds
+pub mod AwaitLaws
 pub mod AnswerLaws
 pub mod HandsUp

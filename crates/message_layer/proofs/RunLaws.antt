@@ -1,19 +1,19 @@
 -- What a link transmits in a whole run.
-use Rattle.std.proofs.Common.{◌≡◌, ℕ, suc, zero, ◌+◌, ◌-◌, ◌*◌, ◌/◌, ◌%◌, ◌^◌, ◌≤◌, ◌<◌, List, [], ◌∷◌, ◌++◌, length, filter, map, Option, Some, None, Bool, true, false, cond, nat_lt, ◌⊎◌, inl, inr, refl, sym, ◌∙◌, ap, subst, arith, append_assoc, rules}
+use Rattle.std.proofs.Common.{◌≡◌, ◌≢◌, ℕ, ◌+◌, ◌*◌, ◌/◌, ◌%◌, ◌^◌, ◌≤◌, ◌<◌, List, [], ◌∷◌, ◌++◌, length, filter, map, Option, Some, None, Bool, true, false, nat_lt, ◌⊎◌, inl, inr, refl, sym, ◌∙◌, ap, subst, arith}
 use Rattle.std.proofs.Math.Nat.{mul-pos}
 use Rattle.std.proofs.lemmas.Nat.{pow_pos}
 use Rattle.std.specs.List.{AllByRecursion}
 use borrow.Author.Tests.{ltb-true}
-use Rattle.message_layer.specs.Values.{LinkState, Told, IsSound, IsSoundWaiting, IsSoundOutstanding, empty_link, is_con}
-use Rattle.message_layer.specs.Sending.{is_in_use, with_mid, next_mid, first_sent, again, due_of, next_by, ticked, ticked_by, submitted, waits}
+use Rattle.message_layer.specs.Values.{LinkState, Told, IsSound, IsSoundWaiting, IsSoundOutstanding, is_con}
+use Rattle.message_layer.specs.Sending.{is_in_use, with_mid, next_mid, due_of, next_by, ticked, ticked_by, submitted, waits}
 use Rattle.message_layer.specs.Hearing.{hears}
-use Rattle.message_layer.specs.Calls.{forgotten, expected, sent_out, taken_by, waits_not_under}
-use Rattle.message_layer.specs.Runs.{Step, Call, submit, hear, tick, forget, expect, take_send, refuse, Takes, Leaves, Puts, IsStep, IsRun, last_moment, Transmission, transmitted, transmissions}
-use Rattle.message_layer.specs.Transmissions.{SentMessage, mid_of, latest, IsSpaced, HasNextMid, IsBehind, first_of, recent, IsSent, IsSequence, sendings_of, sendings, IsLatest, IsOpen, tick_of, ticks, IsFirst, ArePrompt, IsPrompt, IsUndue, IsHandedIn, Queues, Turns, HasQueued, AreSentAs, Transmits, RunTransmits, RunKeepsTurn}
+use Rattle.message_layer.specs.Calls.{sent_out, taken_by, waits_not_under}
+use Rattle.message_layer.specs.Runs.{Step, Call, submit, hear, tick, forget, expect, take_send, refuse, Leaves, Puts, IsStep, IsRun, last_moment, Transmission, transmitted, transmissions}
+use Rattle.message_layer.specs.Transmissions.{SentMessage, mid_of, latest, IsSpaced, HasNextMid, IsBehind, first_of, recent, IsSent, IsSequence, sendings, IsLatest, IsOpen, tick_of, ticks, IsFirst, ArePrompt, IsPrompt, IsUndue, Queues, HasQueued, AreSentAs, RunTransmits, RunKeepsTurn}
 use Rattle.message_layer.specs.declared.state.Waiting.{Waiting}
 use Rattle.message_layer.specs.declared.state.Outstanding.{Outstanding}
 use Rattle.message_layer.proofs.Sound.{ticked-sound, hears-sound, Submits-sound, forgotten-sound, waits-sound, either}
-use Rattle.message_layer.proofs.Effects.{Effect, Rests, SendsFirst, SendsCopy, in_use, rest, stays, submit-effect, tick-effect, hear-effect, GoesOn}
+use Rattle.message_layer.proofs.Effects.{Effect, Rests, SendsFirst, SendsCopy, in_use, rest, submit-effect, tick-effect, hear-effect}
 
 -- what a step leaves, by what it did
 step-sound : (last : ℕ) (x : Step) (old new : LinkState) → IsSound old → IsStep last x old new → IsSound new
@@ -150,7 +150,7 @@ rests-tied now t ms old new sent queue later h r = record {
     by (inl e) = rw e h.outstanding
     by (inr e) = rw e tt
 
-mid_of-with_mid : (mid : ℕ) (d : List ℕ) → 4 ≤ length d → mid_of (with_mid mid d) ≡ mid
+pub mid_of-with_mid : (mid : ℕ) (d : List ℕ) → 4 ≤ length d → mid_of (with_mid mid d) ≡ mid
 mid_of-with_mid mid [] h = absurd (omega arith)
 mid_of-with_mid mid (a ∷ []) h = absurd (omega arith)
 mid_of-with_mid mid (a ∷ b ∷ []) h = absurd (omega arith)
@@ -412,3 +412,16 @@ nothing-sent run s r none = let e = run-explains run s r in
     by : (ms : List SentMessage) → transmissions run ≡ sendings ms → IsLastMid None ms → transmissions run ≡ []
     by [] all last = all
     by (m ∷ older) all last = absurd last
+
+-- and one that gave an ID sent something
+pub something-sent : (run : List Step) (s : LinkState) (mid : ℕ) → IsRun run s → s.last_mid ≡ Some mid → transmissions run ≢ []
+something-sent run s mid r some none = let e = run-explains run s r in
+    by e.messages (sym e.all ∙ none) (subst (λ (last : Option ℕ). IsLastMid last e.messages) some e.tied.last)
+  where
+    at_least : (m : SentMessage) (copies : List ℕ) (rest : List Transmission) → map (λ t. transmitted t m.datagram) (copies ++ m.first ∷ []) ++ rest ≡ [] → ⊥
+    at_least m [] rest e = absurd cc
+    at_least m (t ∷ ts) rest e = absurd cc
+
+    by : (ms : List SentMessage) → sendings ms ≡ [] → IsLastMid (Some mid) ms → ⊥
+    by [] all last = last
+    by (m ∷ older) all last = at_least m m.copies (sendings older) all

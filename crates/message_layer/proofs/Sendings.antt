@@ -1,11 +1,11 @@
 -- What RFC 7252 says of sendings.
-use Rattle.std.proofs.Common.{◌≡◌, ◌≢◌, ℕ, ◌+◌, ◌-◌, ◌*◌, ◌/◌, ◌%◌, ◌^◌, ◌<◌, ◌≤◌, List, [], ◌∷◌, ◌++◌, Option, Some, None, Bool, true, false, nat_lt, ◌⊎◌, inl, inr, length, Result, Ok, Err, refl, arith, sym, ◌∙◌, ap}
-use Rattle.coap_codec.specs.Spelling.{Content, Spells}
+use Rattle.std.proofs.Common.{◌≡◌, ℕ, ◌+◌, ◌*◌, ◌/◌, ◌%◌, ◌^◌, ◌≤◌, List, [], ◌∷◌, Option, Some, None, Bool, true, false, nat_lt, ◌⊎◌, inl, inr, length, Result, Ok, Err, refl, arith, sym, ◌∙◌, ap}
+use Rattle.coap_codec.specs.Spelling.{Content}
 use Rattle.coap_codec.specs.Reading.{message_at}
 use Rattle.coap_codec.specs.declared.fault.CodecFault.{CodecFault}
-use Rattle.message_layer.specs.Values.{LinkState, Told, no_news, timed_out, IsSound, IsSoundOutstanding}
-use Rattle.message_layer.specs.Sending.{due_of, again, next_outstanding, next_by, next_sent, ticked, ticked_by, with_copy, with_mid, unnumbered}
-use Rattle.message_layer.specs.Hearing.{hears, hears_from, hears_read, ended, applied, undecoded, reset_for, verdict_of}
+use Rattle.message_layer.specs.Values.{LinkState, Told, IsSound, IsSoundOutstanding}
+use Rattle.message_layer.specs.Sending.{due_of, next_outstanding, next_by, ticked_by, with_mid}
+use Rattle.message_layer.specs.Hearing.{hears_from, hears_read, ended, undecoded, reset_for, verdict_of}
 use Rattle.message_layer.specs.Laws.{IsQuiet, IsCopy, IsGivenUp, TickSends, HeardSends, SentSpells}
 use Rattle.message_layer.specs.declared.state.Waiting.{Waiting}
 use Rattle.message_layer.specs.declared.state.Outstanding.{Outstanding}

@@ -1,5 +1,5 @@
 -- What stays true of a link.
-use Rattle.std.proofs.Common.{◌≡◌, ℕ, ◌+◌, ◌-◌, ◌^◌, ◌≤◌, ◌<◌, List, [], ◌∷◌, ◌++◌, length, filter, Option, Some, None, Bool, true, false, cond, nat_lt, refl, arith, length-append, count_by, rules, subst, Result, Ok, Err}
+use Rattle.std.proofs.Common.{◌≡◌, ℕ, ◌+◌, ◌^◌, ◌≤◌, ◌<◌, List, [], ◌∷◌, ◌++◌, length, filter, Option, Some, None, Bool, true, false, cond, nat_lt, refl, arith, length-append, count_by, subst, Result, Ok, Err}
 use Rattle.std.proofs.lemmas.List.Sums.{length-filter}
 use Rattle.std.proofs.lemmas.List.Sums.{count_by-le-length}
 use Rattle.coap_codec.specs.Reading.{message_at}
@@ -12,7 +12,7 @@ use Rattle.std.proofs.Common.{eq-eqb, ◌*◌, ◌/◌}
 use Rattle.coap_codec.specs.declared.message.MsgType.TheVariants.{Con}
 use Rattle.std.specs.List.{AllByRecursion}
 use Rattle.message_layer.specs.Values.{LinkState, Told, IsSound, IsSoundOutstanding, IsSoundWaiting, IsSoundTurn, is_con}
-use Rattle.message_layer.specs.Sending.{next_by, next_sent, ticked, ticked_by, first_sent, with_outstanding, due_of, with_copy, again, is_in_use, mids_in_use, submitted, submitted_by, queued, pruned, waits, initial_timeout, unnumbered, Submits, with_mid}
+use Rattle.message_layer.specs.Sending.{next_by, ticked, ticked_by, due_of, is_in_use, mids_in_use, submitted, submitted_by, queued, pruned, waits, unnumbered, Submits, with_mid}
 use Rattle.coap_codec.specs.Spelling.{Content, Spells}
 use Rattle.message_layer.specs.declared.state.Waiting.{Waiting}
 use Rattle.message_layer.specs.declared.state.Outstanding.{Outstanding}

@@ -1,5 +1,5 @@
 -- What one call sends, by what a link keeps (RFC 7252, section 4.2).
-use Rattle.std.specs.Prelude.{◌≡◌, ℕ, ◌+◌, ◌*◌, ◌<◌, ◌≤◌, List, [], ◌∷◌, ◌++◌, Option, Some, None, ◌⊎◌}
+use Rattle.std.specs.Prelude.{◌≡◌, ℕ, ◌+◌, ◌*◌, ◌<◌, ◌≤◌, List, [], ◌∷◌, ◌++◌, Some, ◌⊎◌}
 use Rattle.coap_codec.specs.Spelling.{Content, Spells}
 use Rattle.message_layer.specs.Values.{LinkState, Told, no_news, timed_out, IsSound}
 use Rattle.message_layer.specs.Sending.{due_of, again, next_outstanding, ticked, with_mid, unnumbered}

@@ -5,5 +5,6 @@ pub mod Hearing
 pub mod Calls
 pub mod Runs
 pub mod Transmissions
+pub mod Awaiting
 pub mod Answers
 pub mod Laws

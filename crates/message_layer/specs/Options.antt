@@ -1,5 +1,5 @@
 -- Which responses can be used, by their code and their options.
-use Rattle.std.specs.Prelude.{ℕ, ◌/◌, ◌%◌, List, length, count_by, Option, Some, None, Bool, true, false, not, nat_lt, nat_le, is_none, ◌==◌, ◌&&◌, ◌||◌, if◌then◌else◌}
+use Rattle.std.specs.Prelude.{ℕ, ◌/◌, ◌%◌, List, length, count_by, Option, Some, None, Bool, false, not, nat_lt, nat_le, is_none, ◌==◌, ◌&&◌, ◌||◌, if◌then◌else◌}
 use Rattle.std.specs.List.{list_any}
 use Rattle.coap_codec.specs.Spelling.{Content, Entry}
 use Rattle.coap_codec.specs.Options.{is_critical_number, is_unsafe_number, definition_of, counts}

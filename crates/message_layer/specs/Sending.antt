@@ -5,7 +5,6 @@ use Rattle.message_layer.specs.Values.{LinkState, Told, no_news, timed_out}
 use Rattle.message_layer.specs.declared.state.Waiting.{Waiting}
 use Rattle.message_layer.specs.declared.state.Outstanding.{Outstanding}
 use Rattle.message_layer.specs.declared.state.State.{State}
-use Rattle.message_layer.specs.declared.state.Awaited.{Awaited}
 use Rattle.message_layer.specs.declared.fault.LinkFault.{LinkFault}
 use Rattle.message_layer.specs.declared.fault.LinkFault.TheVariants.{Queue, Numbers, Memory}
 use Rattle.coap_codec.specs.Spelling.{Content, Spells}

@@ -22,8 +22,9 @@ pub fn run_keeps_turn()
     ensures { RunKeepsTurn }
 {}
 
-/// Over any run, each datagram gets an ACK, an RST or nothing by what was taken before: a repeat
-/// gets the answer of the first one and is not told again.
+/// Over any run, whether a datagram is told, and whether it gets an ACK, an RST or nothing, follows
+/// from the calls before it, what they told and what they put out. What the link keeps as awaited
+/// and as outstanding is what the run says.
 pub fn run_answers()
     ensures { RunAnswers }
 {}

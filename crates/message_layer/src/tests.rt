@@ -232,6 +232,119 @@ fn rejected(rt: HostRuntime) -> Result<(), Fail> {
     Ok(())
 }
 
+/// A call that memory was refused is made once more; until then the link is as before.
+fn submits(link: &mut Link, alloc: Global, token: Token) -> Result<(), Fail> {
+    let due = link.next_due();
+    let Err(fault) = link.submit(request(alloc, token), 0, 0) else {
+        return Ok(());
+    };
+    holds(fault == LinkFault::Memory)?;
+    holds(link.next_due() == due && link.take_send().is_none())?;
+    link.submit(request(alloc, token), 0, 0)?;
+    Ok(())
+}
+
+fn hears(link: &mut Link, datagram: &[u8], moment: u64) -> Result<Up, Fail>
+    requires { moment ≤ 2 ^ 62 }
+{
+    let due = link.next_due();
+    match link.heard(datagram, moment) {
+        Ok(up) => Ok(up),
+        Err(fault) => {
+            holds(fault == LinkFault::Memory)?;
+            holds(link.next_due() == due && link.take_send().is_none())?;
+            let up = link.heard(datagram, moment)?;
+            Ok(up)
+        }
+    }
+}
+
+fn ticks(link: &mut Link, moment: u64) -> Result<Up, Fail>
+    requires { moment ≤ 2 ^ 62 }
+{
+    let due = link.next_due();
+    match link.tick(moment) {
+        Ok(up) => Ok(up),
+        Err(fault) => {
+            holds(fault == LinkFault::Memory)?;
+            holds(link.next_due() == due && link.take_send().is_none())?;
+            let up = link.tick(moment)?;
+            Ok(up)
+        }
+    }
+}
+
+fn expects(link: &mut Link, token: Token) -> Result<(), Fail> {
+    let Err(fault) = link.expect(&token, true) else {
+        return Ok(());
+    };
+    holds(fault == LinkFault::Memory)?;
+    link.expect(&token, true)?;
+    Ok(())
+}
+
+fn copies(link: &Link) -> Result<Link, Fail> {
+    match link.copy() {
+        Ok(copy) => Ok(copy),
+        Err(fault) => {
+            holds(fault == LinkFault::Memory)?;
+            let copy = link.copy()?;
+            Ok(copy)
+        }
+    }
+}
+
+fn sends(link: &mut Link, wanted: &[u8]) -> Result<(), Fail> {
+    let sent = link.take_send().ok_or("nothing sent")?;
+    holds(sent.as_slice() == wanted)?;
+    holds(link.take_send().is_none())
+}
+
+/// With any one allocation refused, every call gives what it would have given, or Memory and then
+/// that.
+#[test]
+fn memory_refused_once(rt: HostRuntime) -> Result<(), Fail> {
+    let alloc = rt.alloc();
+    let mut link = Link::new(alloc);
+    submits(&mut link, alloc, Token::new(&[9]))?;
+    sends(&mut link, &[0x41, 1, 0, 0, 9])?;
+    submits(&mut link, alloc, Token::new(&[8]))?;
+    let up = ticks(&mut link, 2000)?;
+    assert!(rt; matches!(&up, Up::Nothing));
+    sends(&mut link, &[0x41, 1, 0, 0, 9])?;
+    let up = hears(&mut link, &[0x60, 0, 0, 0], 2100)?;
+    assert!(rt; matches!(&up, Up::Nothing));
+    sends(&mut link, &[0x41, 1, 0, 1, 8])?;
+    let response = [0x41, 0x45, 0x12, 0x34, 9, 0xc0, 0xff, 0x6f, 0x6e];
+    let up = hears(&mut link, &response, 2200)?;
+    assert!(rt; matches!(&up, Up::Response(_)));
+    sends(&mut link, &[0x60, 0, 0x12, 0x34])?;
+    let up = hears(&mut link, &response, 2300)?;
+    assert!(rt; matches!(&up, Up::Nothing));
+    sends(&mut link, &[0x60, 0, 0x12, 0x34])?;
+    let up = hears(&mut link, &[0x49, 1, 0, 7], 2400)?;
+    assert!(rt; matches!(&up, Up::Nothing));
+    sends(&mut link, &[0x70, 0, 0, 7])?;
+    expects(&mut link, Token::new(&[6]))?;
+    let up = hears(&mut link, &[0x51, 0x45, 0x56, 0x78, 6], 2450)?;
+    assert!(rt; matches!(&up, Up::Response(_)));
+    assert!(rt; link.take_send().is_none());
+    submits(&mut link, alloc, Token::new(&[7]))?;
+    let mut copy = copies(&link)?;
+    for moment in [4100, 8100, 16100, 32100u64] {
+        moment_fits(moment)?;
+        let up = ticks(&mut link, moment)?;
+        assert!(rt; matches!(&up, Up::Nothing));
+        sends(&mut link, &[0x41, 1, 0, 1, 8])?;
+    }
+    let up = ticks(&mut link, 64100)?;
+    assert!(rt; matches!(&up, Up::TimedOut(_)));
+    sends(&mut link, &[0x41, 1, 0, 2, 7])?;
+    let up = hears(&mut copy, &[0x70, 0, 0, 1], 2500)?;
+    assert!(rt; matches!(&up, Up::Reset(_)));
+    sends(&mut copy, &[0x41, 1, 0, 2, 7])
+}
+
 fn response(alloc: Global, number: u16, value: &[u8]) -> Result<Message, Fail> {
     let mut m = Message::new(alloc, MsgType::Non, 69, 0, Token::new(&[]));
     m.options.push(Opt::new(alloc, number, value)?)?;

@@ -1,4 +1,4 @@
-use Rattle.std.proofs.Common.{ℕ, rules}
+use Rattle.std.proofs.Common.{rules}
 use Rattle.std.proofs.lemmas.Fn.{filter_same}
 use Rattle.message_layer.specs.Calls.{is_other}
 use Rattle.message_layer.proofs.calls.drop_awaited.Goals as goal

@@ -1,4 +1,4 @@
-use Rattle.std.proofs.Common.{ℕ, rules}
+use Rattle.std.proofs.Common.{rules}
 use Rattle.std.proofs.lemmas.Fn.{filter_same}
 use Rattle.message_layer.specs.Sending.{is_in_use}
 use Rattle.message_layer.proofs.sending.drop_unused.Goals as goal

@@ -1,4 +1,3 @@
-use Rattle.std.proofs.Common.{rules}
 use Rattle.coap_codec.specs.Spelling.{content}
 use Rattle.message_layer.specs.Values.{seen}
 use Rattle.message_layer.proofs.Sound.{Submits-sound}
