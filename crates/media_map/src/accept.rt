@@ -51,6 +51,7 @@ fn is_range(media: &MediaType<'_>) -> bool
 /// An element that can be had.
 #[derive(Clone, Copy)]
 struct Choice<'a> {
+    /// In thousandths.
     weight: u16,
     pick: Pick<'a>,
 }

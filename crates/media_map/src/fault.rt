@@ -1,4 +1,4 @@
-//! Why a media type isn't mapped.
+//! Faults of media types.
 
 ghost use Rattle.std.specs.Prelude.{◌≡◌};
 ghost use Rattle.media_map.specs.declared.fault.MediaFault.TheVariants.{Memory};
@@ -6,6 +6,7 @@ ghost use Rattle.media_map.specs.declared.fault.MediaFault.TheVariants.{Memory};
 use std::alloc::{AllocError, AllocFailed};
 use std::fmt;
 
+/// Why a media type isn't mapped.
 #[derive(Clone, Copy, Debug, PartialEq, Eq)]
 pub enum MediaFault {
     /// No content format stands for it.

@@ -36,12 +36,14 @@ impl Media {
         Ok(Media { text })
     }
 
+    /// The text as it was given.
     pub fn as_str(&self) -> &str
         ensures { result.now ≡ self.now }
     {
         self.text.as_str()
     }
 
+    /// An equal value.
     pub fn copy(&self) -> Result<Media, AllocError>
         ensures { IfOk result (λ m. m ≡ self.now) }
     {
@@ -97,6 +99,7 @@ impl Form {
         self == other
     }
 
+    /// An equal value.
     pub fn copy(&self) -> Result<Form, AllocError>
         ensures { IfOk result (λ f. f ≡ self.now) }
     {

@@ -46,6 +46,7 @@ pub enum Pick<'a> {
 }
 
 impl Pick<'_> {
+    /// What is asked for, in memory of its own.
     pub fn to_wanted(self, alloc: Global) -> Result<Wanted, AllocError>
         ensures { IfOk result (λ w. w ≡ wanted_by self.entry) }
     {

@@ -40,12 +40,14 @@ impl Routes {
         Ok(())
     }
 
+    /// The pairs in order.
     pub fn as_slice(&self) -> &[(Form, Form)]
         ensures { result.now ≡ self.now }
     {
         self.pairs.as_slice()
     }
 
+    /// An equal value.
     pub fn copy(&self) -> Result<Routes, AllocError>
         ensures { IfOk result (λ r. r ≡ self.now) }
     {

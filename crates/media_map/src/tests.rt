@@ -191,91 +191,93 @@ fn demonstration_routes(alloc: Global) -> Result<Routes, Fail> {
     Ok(routes)
 }
 
+// An Accept, and the format and the media type that are wanted.
+const ACCEPTED: [(&[u8], u16, &str); 26] = [
+    (b"application/json", 60, "application/json"),
+    (b"Application/JSON;q=0.2;x=y", 60, "application/json"),
+    (b"text/csv", 42, "text/csv; charset=utf-8"),
+    (b"application/cbor", 60, "application/cbor"),
+    (b"text/plain", 0, "text/plain;charset=utf-8"),
+    (
+        b"TEXT/PLAIN;charset=us-ascii",
+        0,
+        "text/plain;charset=utf-8",
+    ),
+    (b"application/xml", 41, "application/xml"),
+    (b"text/html, application/exi;q=0.1", 47, "application/exi"),
+    (b"nonsense, application/exi", 47, "application/exi"),
+    (b",, application/exi ,", 47, "application/exi"),
+    (b"application/exi ; q=0.7", 47, "application/exi"),
+    (
+        b"application/xml;q=0.5,application/cbor;q=0.4",
+        41,
+        "application/xml",
+    ),
+    (
+        b"application/xml;q=0.5,application/cbor;q=0.6",
+        60,
+        "application/cbor",
+    ),
+    (
+        b"application/xml;q=0.5,application/cbor;q=0.500",
+        41,
+        "application/xml",
+    ),
+    (b"application/xml,application/cbor", 41, "application/xml"),
+    (
+        b"application/cbor;q=1.0,application/xml;q=1",
+        60,
+        "application/cbor",
+    ),
+    (
+        b"application/xml;q=0.999,application/cbor;q=1.000",
+        60,
+        "application/cbor",
+    ),
+    (
+        b"application/xml;q=0.001,application/cbor;q=0",
+        41,
+        "application/xml",
+    ),
+    (
+        b"application/xml;Q=0.3,application/exi;q=0.2",
+        41,
+        "application/xml",
+    ),
+    (
+        b"application/xml;q=0.3;q=0.9,application/exi;q=0.5",
+        47,
+        "application/exi",
+    ),
+    (
+        b"application/xml;q=1.001,application/exi;q=0.5",
+        47,
+        "application/exi",
+    ),
+    (b"*/*;q=0,application/exi;q=0.5", 47, "application/exi"),
+    (b"*/*;q=7,application/exi;q=0.5", 47, "application/exi"),
+    (
+        b"application/coap-payload;cf=60,application/exi;q=0.1",
+        47,
+        "application/exi",
+    ),
+    (
+        b"text/plain; q=0.5, text/html, text/x-dvi; q=0.8, text/x-c",
+        0,
+        "text/plain;charset=utf-8",
+    ),
+    (
+        b"text/plain;x=\"a,b\",application/exi",
+        47,
+        "application/exi",
+    ),
+];
+
 #[test]
 fn accepted_formats(rt: HostRuntime) -> Result<(), Fail> {
     let alloc = rt.alloc();
     let routes = demonstration_routes(alloc)?;
-    let rows: [(&[u8], u16, &str); 26] = [
-        (b"application/json", 60, "application/json"),
-        (b"Application/JSON;q=0.2;x=y", 60, "application/json"),
-        (b"text/csv", 42, "text/csv; charset=utf-8"),
-        (b"application/cbor", 60, "application/cbor"),
-        (b"text/plain", 0, "text/plain;charset=utf-8"),
-        (
-            b"TEXT/PLAIN;charset=us-ascii",
-            0,
-            "text/plain;charset=utf-8",
-        ),
-        (b"application/xml", 41, "application/xml"),
-        (b"text/html, application/exi;q=0.1", 47, "application/exi"),
-        (b"nonsense, application/exi", 47, "application/exi"),
-        (b",, application/exi ,", 47, "application/exi"),
-        (b"application/exi ; q=0.7", 47, "application/exi"),
-        (
-            b"application/xml;q=0.5,application/cbor;q=0.4",
-            41,
-            "application/xml",
-        ),
-        (
-            b"application/xml;q=0.5,application/cbor;q=0.6",
-            60,
-            "application/cbor",
-        ),
-        (
-            b"application/xml;q=0.5,application/cbor;q=0.500",
-            41,
-            "application/xml",
-        ),
-        (b"application/xml,application/cbor", 41, "application/xml"),
-        (
-            b"application/cbor;q=1.0,application/xml;q=1",
-            60,
-            "application/cbor",
-        ),
-        (
-            b"application/xml;q=0.999,application/cbor;q=1.000",
-            60,
-            "application/cbor",
-        ),
-        (
-            b"application/xml;q=0.001,application/cbor;q=0",
-            41,
-            "application/xml",
-        ),
-        (
-            b"application/xml;Q=0.3,application/exi;q=0.2",
-            41,
-            "application/xml",
-        ),
-        (
-            b"application/xml;q=0.3;q=0.9,application/exi;q=0.5",
-            47,
-            "application/exi",
-        ),
-        (
-            b"application/xml;q=1.001,application/exi;q=0.5",
-            47,
-            "application/exi",
-        ),
-        (b"*/*;q=0,application/exi;q=0.5", 47, "application/exi"),
-        (b"*/*;q=7,application/exi;q=0.5", 47, "application/exi"),
-        (
-            b"application/coap-payload;cf=60,application/exi;q=0.1",
-            47,
-            "application/exi",
-        ),
-        (
-            b"text/plain; q=0.5, text/html, text/x-dvi; q=0.8, text/x-c",
-            0,
-            "text/plain;charset=utf-8",
-        ),
-        (
-            b"text/plain;x=\"a,b\",application/exi",
-            47,
-            "application/exi",
-        ),
-    ];
-    for (value, format, media) in rows {
+    for (value, format, media) in ACCEPTED {
         let wanted = accept_of(alloc, value, STRICT, &routes)?.ok_or("nothing is wanted")?;
         assert_eq!(rt; wanted.format, format);
         assert_eq!(rt; wanted.media.as_str().as_bytes(), media.as_bytes());
@@ -335,6 +337,13 @@ fn accepted_nothing(rt: HostRuntime) -> Result<(), Fail> {
             Err(MediaFault::Unmapped)
         );
     }
+    Ok(())
+}
+
+#[test]
+fn accepted_by_number(rt: HostRuntime) -> Result<(), Fail> {
+    let alloc = rt.alloc();
+    let routes = demonstration_routes(alloc)?;
     let numbers: [&[u8]; 2] = [
         b"application/coap-payload;cf=60",
         b"text/html,application/coap-payload;cf=11050;q=0.1",

@@ -15,6 +15,7 @@ pub struct Wanted {
 }
 
 impl Wanted {
+    /// An equal value.
     pub fn copy(&self) -> Result<Wanted, AllocError>
         ensures { IfOk result (λ w. w ≡ self.now) }
     {

@@ -12,21 +12,20 @@ pub items_more : (ds : List Data) (d : Data) → items_bytes (items_of (ds ++ d 
 items_more [] d = append-nil (shortest d)
 items_more (e ∷ ds) d = ap (λ (t : List ℕ). shortest e ++ t) (items_more ds d) ∙ sym (append_assoc (shortest e) (items_bytes (items_of ds)) (shortest d))
 
-pub members_more : (es : List Entry) (e : Entry) → members_bytes (members_view (es ++ e ∷ [])) ≡ members_bytes (members_view es) ++ (text_bytes (string_bytes e.0) ++ shortest (view e.1))
-members_more [] e = ap (λ (t : List ℕ). text_bytes (string_bytes e.0) ++ t) (append-nil (shortest (view e.1)))
-members_more (f ∷ es) e =
-    let one = text_bytes (string_bytes e.0) ++ shortest (view e.1) in
-    let later = members_bytes (members_view es) in
-    ap (λ (t : List ℕ). text_bytes (string_bytes f.0) ++ (shortest (view f.1) ++ t)) (members_more es e)
-    ∙ ap (λ (t : List ℕ). text_bytes (string_bytes f.0) ++ t) (sym (append_assoc (shortest (view f.1)) later one))
-    ∙ sym (append_assoc (text_bytes (string_bytes f.0)) (shortest (view f.1) ++ later) one)
+-- what is written, with what the members that are left will add, where one of them is written
+pub one_written : (old mid new total : List ℕ) (e : Entry) (left next : List Entry) → old ++ members_bytes (members_view left) ≡ total → left ≡ e ∷ next
+    → mid ≡ old ++ text_bytes (string_bytes e.0) → new ≡ mid ++ shortest (view e.1) → new ++ members_bytes (members_view next) ≡ total
+one_written old mid new total e left next before is key value =
+    let k = text_bytes (string_bytes e.0) in
+    let v = shortest (view e.1) in
+    let rest = members_bytes (members_view next) in
+    let both : new ≡ (old ++ k) ++ v = value ∙ ap (λ (t : List ℕ). t ++ v) key in
+    ap (λ (t : List ℕ). t ++ rest) both ∙ append_assoc (old ++ k) v rest ∙ append_assoc old k (v ++ rest)
+    ∙ ap (λ (es : List Entry). old ++ members_bytes (members_view es)) (sym is)
+    ∙ before
 
 pub grown : (start old x y z new : List ℕ) → old ≡ start ++ x → new ≡ old ++ y → z ≡ x ++ y → new ≡ start ++ z
 grown start old x y z new e f g = f ∙ ap (λ (t : List ℕ). t ++ y) e ∙ append_assoc start x y ∙ ap (λ (t : List ℕ). start ++ t) (sym g)
-
-pub grown_twice : (start old x k v z mid new : List ℕ) → old ≡ start ++ x → mid ≡ old ++ k → new ≡ mid ++ v → z ≡ x ++ (k ++ v) → new ≡ start ++ z
-grown_twice start old x k v z mid new e f g h =
-    grown start old x (k ++ v) z new e (g ∙ ap (λ (t : List ℕ). t ++ v) f ∙ append_assoc old k v) h
 
 pub items_turn : (vs : List Value) (i : ℕ) (v : Value) → i < length vs → v ≡ get_or vs i v → map view (take (i + 1) vs) ≡ map view (take i vs) ++ view v ∷ []
 items_turn vs i v lt is = map_more view vs i v lt ∙ ap (λ (w : Value). map view (take i vs) ++ view w ∷ []) (sym is)

@@ -14,6 +14,7 @@ const LARGEST: usize = 65_536;
 /// Transformers in order. Of several for one pair the first counts.
 #[derive(Drop)]
 pub struct Bank<R: Relation> {
+    /// In the order in which they are looked up.
     pub stored: Vec<Stored<R>>,
 }
 

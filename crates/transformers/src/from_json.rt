@@ -29,6 +29,7 @@ fn value_of(alloc: Global, input: &[u8]) -> Result<Value, Refused>
 ///
 /// Refused are what `serde_json` refuses, a number that isn't whole or isn't one of `-2^63` to `2^64 - 1` (`-0` and
 /// `1e2` aren't whole), and more than 32 arrays and objects within each other. Of equal keys the last counts.
+/// Where memory is wanted, that may be told before a fault of the content.
 pub fn json_cbor(alloc: Global, input: &[u8]) -> Result<Vec<u8>, Refused>
     ensures fits { Fits (JsonToCbor input.now) (TakesJson input.now) result }
 {

@@ -19,8 +19,11 @@ pub struct Boxed {
 /// A transformer with the pair of forms that it is for.
 #[derive(Drop)]
 pub struct Stored<R: Relation> {
+    /// What its inputs are in.
     pub from: Form,
+    /// What its outputs are in.
     pub to: Form,
+    /// The transformer itself.
     pub closure: Boxed,
     relation: PhantomData<R>,
 }

@@ -133,7 +133,8 @@ fn put_items(out: &mut Vec<u8>, items: &Vec<Value>) -> Result<(), AllocError>
 fn put_members(out: &mut Vec<u8>, members: &Map<String, Value>) -> Result<(), AllocError>
     ensures { OnOk result (out.new.items ≡ out.old.items ++ members_bytes (members_view members.now.entries)) }
 {
-    'each: for (key, member) in members.iter() {
+    let mut left = members.iter();
+    'each: while let Some((key, member)) = left.next() {
         put_text(out, key.as_str())?;
         put(out, member)?;
     }

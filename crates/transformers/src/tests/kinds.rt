@@ -187,19 +187,23 @@ fn long_heads(rt: HostRuntime) -> Result<(), Fail> {
     Ok(())
 }
 
+// Whether JSON is refused for its content. Want of memory fails the test.
+fn is_refused(alloc: Global, json: &[u8]) -> Result<bool, Fail> {
+    match json_cbor(alloc, json) {
+        Err(Refused::Content) => Ok(true),
+        answer => {
+            answer?;
+            Ok(false)
+        }
+    }
+}
+
 #[test]
 fn json_refused(rt: HostRuntime) -> Result<(), Fail> {
     for json in REFUSED.iter() {
-        assert_eq!(rt;
-            json_cbor(rt.alloc(), json.as_bytes()).err(),
-            Some(Refused::Content),
-            "{json}"
-        );
+        assert!(rt; is_refused(rt.alloc(), json.as_bytes())?, "{json}");
     }
-    assert_eq!(rt;
-        json_cbor(rt.alloc(), &[0x22, 0xff, 0x22]).err(),
-        Some(Refused::Content)
-    );
+    assert!(rt; is_refused(rt.alloc(), &[0x22, 0xff, 0x22])?);
     Ok(())
 }
 
@@ -235,7 +239,7 @@ fn nesting(rt: HostRuntime) -> Result<(), Fail> {
     assert_eq!(rt; json_cbor(rt.alloc(), &json)?.as_slice(), item.as_slice());
     let (item, json) = nested(rt.alloc(), 33)?;
     assert_eq!(rt; cbor_json(rt.alloc(), &item).err(), Some(Refused::Content));
-    assert_eq!(rt; json_cbor(rt.alloc(), &json).err(), Some(Refused::Content));
+    assert!(rt; is_refused(rt.alloc(), &json)?);
     Ok(())
 }
 

@@ -3,7 +3,7 @@ use Rattle.std.proofs.lemmas.Result.{on_ok_weaker}
 use Rattle.serde_json.specs.View.{view, items_of}
 use Rattle.serde_json.proofs.Views.{Entry, view-Array, view-Object}
 use Rattle.transformers.specs.Shortest.{shortest, items_bytes}
-use Rattle.transformers.proofs.Writing.{items_more, members_more, grown, grown_twice, items_turn, array_bytes, map_bytes}
+use Rattle.transformers.proofs.Writing.{items_more, one_written, grown, items_turn, array_bytes, map_bytes}
 use Rattle.transformers.proofs.write.+put.Goals as goal
 
 pub put-returns-in_ok-put_head-in-Array : goal.put-returns-in_ok-put_head-in-Array
@@ -27,12 +27,5 @@ put_items-each-preserved t c =
 
 pub put_members-each-preserved : goal.put_members-each-preserved
 put_members-each-preserved t c =
-    let l = c.each in
-    let done = l.invariant.0 in
     let e : Entry = (c.in-Some.key.now, c.in-Some.member.now) in
-    let left = c.next.new.self in
-    let all : c.args.members.now.entries ≡ done ++ e ∷ left = l.invariant.1 ∙ ap (λ es. done ++ es) c.in-Some.ensures.steps in (
-      done ++ e ∷ [],
-      all ∙ sym (append_assoc done (e ∷ []) left),
-      grown_twice _ _ _ _ _ _ _ _ l.invariant.2 (rw c.as_str.ensures.value at c.in_ok-put_text.ensures) c.in_ok-put.ensures (members_more done e),
-    )
+    one_written _ _ _ _ e _ _ c.each.invariant c.in-Some.ensures.steps (rw c.as_str.ensures.value at c.in_ok-put_text.ensures) c.in_ok-put.ensures

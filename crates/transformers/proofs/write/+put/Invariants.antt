@@ -1,4 +1,4 @@
-use Rattle.std.proofs.Common.{◌≡◌, List, ◌++◌, take, map}
+use Rattle.std.proofs.Common.{◌≡◌, List, ◌++◌, length, take, map}
 use Rattle.serde_json.specs.View.{view, items_of, members_view}
 use Rattle.serde_json.proofs.Views.{Entry}
 use Rattle.transformers.specs.Shortest.{items_bytes, members_bytes}
@@ -7,6 +7,9 @@ use Rattle.transformers.proofs.write.+put.Given as goal
 abbrev pub invariant-put_items-each : goal.invariant-put_items-each
 invariant-put_items-each l = l.out.items ≡ l.initial.out.items ++ items_bytes (items_of (map view (take l.item-index l.item-items)))
 
+abbrev pub decreases-put_members-each : goal.decreases-put_members-each
+decreases-put_members-each l = length l.left
+
 abbrev pub invariant-put_members-each : goal.invariant-put_members-each
 invariant-put_members-each l =
-    (done : List Entry) × (l.members.entries ≡ done ++ l.key-iterator) × (l.out.items ≡ l.initial.out.items ++ members_bytes (members_view done))
+    l.out.items ++ members_bytes (members_view l.left) ≡ l.initial.out.items ++ members_bytes (members_view l.members.entries)
