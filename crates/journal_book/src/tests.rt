@@ -1,6 +1,5 @@
-use crate::{Entry, Event, Grounds, Journal, Numbers, incoming_size};
+use crate::{Entry, Event, Grounds, Journal, Numbers};
 use ask_model::{Bytes, Cause};
-use http_edge::{BadKind, Incoming};
 use std::alloc::{AllocError, Global};
 use std::net::{IpAddr, Ipv4Addr};
 use std::sync::Arc;
@@ -104,9 +103,4 @@ fn numbers_count_four_bytes(rt: HostRuntime) {
     assert_eq!(rt; grounds.size(), 8);
     let copy = grounds.copy().expect(&rt, "memory");
     assert_eq!(rt; copy.size(), 8);
-}
-
-#[test]
-fn what_is_no_request_counts_nothing(rt: HostRuntime) {
-    assert_eq!(rt; incoming_size(&Incoming::Bad(BadKind::Large)), 0);
 }
