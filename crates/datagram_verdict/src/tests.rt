@@ -40,7 +40,12 @@ fn response(alloc: Global, kind: MsgType, code: u8, options: Vec<Opt>) -> Messag
 
 /// A 2.05 with one option.
 fn content_with(alloc: Global, number: u16, value: &[u8]) -> Option<Message> {
-    with_option(response(alloc, MsgType::Ack, 0x45, Vec::new(alloc)), alloc, number, value)
+    with_option(
+        response(alloc, MsgType::Ack, 0x45, Vec::new(alloc)),
+        alloc,
+        number,
+        value,
+    )
 }
 
 /// The message with one more option behind its own.

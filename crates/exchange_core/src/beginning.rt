@@ -172,7 +172,15 @@ impl<R: Relation> Core<R> {
 
         let number = self.journal.len() as u32;
         let timeout = first_timeout(word);
-        enter(&mut self.journal, moment, conn, peer, shares.asked, shares.entered, timeout);
+        enter(
+            &mut self.journal,
+            moment,
+            conn,
+            peer,
+            shares.asked,
+            shares.entered,
+            timeout,
+        );
         self.exchanges.push_reserved(Exchange {
             opening: number,
             since: moment,

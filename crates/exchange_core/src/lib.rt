@@ -21,8 +21,8 @@ mod tables;
 mod tick;
 
 pub use answer::{Answer, Ticket};
-pub use datagram_verdict::{Finding, Outcome, Response};
 pub use core_state::Core;
+pub use datagram_verdict::{Finding, Outcome, Response};
 pub use fault::{AskFault, OpenFault};
 pub use outgoing::Datagram;
 
