@@ -16,6 +16,7 @@ mod fault;
 mod hearing;
 mod laws;
 mod link;
+mod mids;
 mod options;
 mod sending;
 mod state;
