@@ -79,7 +79,20 @@ fn drop_any(moments: &mut VecDeque<u64>, moment: u64)
 fn count_in_use(moments: &VecDeque<u64>, moment: u64) -> usize
     ensures { result ≡ count_by (is_in_use moment) moments.now.items }
 {
-    moments.iter().filter(|given| is_used(**given, moment)).count()
+    moments
+        .iter()
+        .filter(|given| is_used(**given, moment))
+        .count()
+}
+
+/// Where as many stand as may be in use, the oldest one alone says whether one is free.
+fn has_free_first(moments: &VecDeque<u64>, waiting: usize, moment: u64) -> bool
+    requires rising { AreRising moments.now.items }
+    requires few { length moments.now.items + waiting ≤ 32768 }
+    requires many { 32768 ≤ length moments.now.items + waiting }
+    ensures { IsTrue result ↔ (count_by (is_in_use moment) moments.now.items + waiting < 32768) }
+{
+    has_unused_first(moments, moment)
 }
 
 /// The clock goes on without going back.
@@ -138,7 +151,7 @@ impl Mids {
             return true;
         }
         if self.rising {
-            return has_unused_first(&self.moments, moment);
+            return has_free_first(&self.moments, waiting, moment);
         }
         count_in_use(&self.moments, moment) + waiting < MAX_MIDS
     }
