@@ -1,3 +1,4 @@
 mod Recognising
 mod Matching
 mod Deciding
+mod Lasts

@@ -20,11 +20,11 @@ fn peer(port: u16) -> Peer {
 }
 
 /// An exchange whose request bore this ID and the token 74 65.
-fn exchange(opening: u32, mid: u16, confirmed: bool) -> Exchange {
+fn exchange(opening: u16, mid: u16, confirmed: bool) -> Exchange {
     Exchange {
-        opening,
+        opening: u32::from(opening),
         since: 0,
-        number: opening + 1,
+        number: u32::from(opening) + 1,
         peer: peer(5683),
         mid,
         token: Token::new(&[0x74, 0x65]),
@@ -40,7 +40,12 @@ fn response(alloc: Global, kind: MsgType, code: u8, options: Vec<Opt>) -> Messag
 
 /// A 2.05 with one option.
 fn content_with(alloc: Global, number: u16, value: &[u8]) -> Option<Message> {
-    with_option(response(alloc, MsgType::Ack, 0x45, Vec::new(alloc)), alloc, number, value)
+    with_option(
+        response(alloc, MsgType::Ack, 0x45, Vec::new(alloc)),
+        alloc,
+        number,
+        value,
+    )
 }
 
 /// The message with one more option behind its own.

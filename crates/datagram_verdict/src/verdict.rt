@@ -11,8 +11,8 @@ ghost use Rattle.datagram_verdict.specs.declared.verdict.Change.TheVariants as C
 ghost use Rattle.datagram_verdict.specs.Hearing.{IsFirstHit};
 ghost use Rattle.datagram_verdict.specs.Verdicts.{due_at, memory_by, found_by, Turns, IsFound, IsGarbled, IsAgain, IsHeard, IsVerdict};
 
-use crate::finding::Finding;
 use crate::confirming::{answer_kind, heard_answer, rejected_mid};
+use crate::finding::Finding;
 use crate::hearing::{Hit, Target, find_turn};
 use crate::remembering::{find_live, is_such};
 use crate::response::{is_whole, response_of};

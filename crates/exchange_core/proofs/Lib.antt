@@ -14,7 +14,6 @@ pub mod Timed
 pub mod Timing
 pub mod Dues
 pub mod Ticked
-pub mod Lasts
 pub mod Listening
 pub mod Told
 pub mod Dropping

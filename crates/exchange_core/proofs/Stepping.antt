@@ -17,6 +17,7 @@ use Rattle.history_laws.specs.Numbering.{known_of}
 use Rattle.history_laws.specs.Kept.{pend, Held, Agrees}
 use Rattle.history_laws.proofs.Hearing.{MayHear}
 use Rattle.datagram_verdict.specs.declared.verdict.Due.{Due}
+use Rattle.datagram_verdict.specs.declared.verdict.Change.{Change}
 use Rattle.datagram_verdict.specs.declared.verdict.Ending.{Ending}
 use Rattle.datagram_verdict.specs.declared.verdict.Verdict.{Verdict}
 use Rattle.exchange_core.specs.declared.step.Reader.{Reader}
@@ -32,6 +33,13 @@ use Rattle.exchange_core.proofs.Keeping.{fits-parts, fits-from, fits-not, takes-
 use Rattle.exchange_core.proofs.Giving.{answerable-more}
 use Rattle.exchange_core.proofs.Listening.{verdict-amid, verdict-changes, confirmed-amid, answered-agrees}
 use Rattle.exchange_core.proofs.Told.{Tellable, verdict-told, told-sent, stands-sent, answerable-sent, answerable-told}
+
+-- a change, and what is remembered, by an equal one
+pub changed-so : (x y : Change) (es new : List Exchange) → new ≡ exchanges_by x es → x ≡ y → new ≡ exchanges_by y es
+changed-so x y es new e f = subst (λ (z : Change). new ≡ exchanges_by z es) f e
+
+pub remembered-so : (m k : Option Remembered) (rs old new : List Remembered) → new ≡ heard_by m rs → m ≡ k → rs ≡ old → new ≡ heard_by k old
+remembered-so m k rs old new e f g = e ∙ (ap (λ (z : Option Remembered). heard_by z rs) f ∙ ap (heard_by k) g)
 
 abbrev one_of : Conn → ℕ
 one_of x = cond (is_pending x) 1 0

@@ -1,18 +1,24 @@
 -- What is done when a datagram was heard.
-use Rattle.std.specs.Prelude.{◌≡◌, ◌≢◌, ℕ, Bool, true, false, not, ◌==◌, List, [], ◌∷◌, ◌++◌, length, map, filter, Option, Some, None, ⊤}
+use Rattle.std.specs.Prelude.{◌≡◌, ◌≢◌, ℕ, Bool, true, false, not, ◌==◌, List, [], ◌∷◌, ◌++◌, length, map, filter, Option, Some, None, option_map, ⊤}
 use Rattle.std.specs.List.{All, Contains}
 use Rattle.coap_codec.specs.Spelling.{Spells}
 use Rattle.uri_map.specs.declared.peer.Peer.{Peer}
 use Rattle.journal_book.specs.Entries.{Sends, Answers, Written}
 use Rattle.journal_book.specs.Views.{grounds_of}
+use Rattle.std.specs.Arc.{arc_value}
 use Rattle.history_laws.specs.declared.kept.Conn.{Conn}
+use Rattle.history_laws.specs.declared.kept.Exchange.{Exchange}
+use Rattle.history_laws.specs.declared.kept.Remembered.{Remembered}
 use Rattle.history_laws.specs.Confirming.{empty}
 use Rattle.history_laws.specs.Kept.{pend}
 use Rattle.datagram_verdict.specs.declared.verdict.Due.{Due}
 use Rattle.datagram_verdict.specs.declared.verdict.Ending.{Ending}
+use Rattle.datagram_verdict.specs.declared.verdict.Verdict.{Verdict}
+use Rattle.datagram_verdict.specs.Verdicts.{IsVerdict}
+use Rattle.exchange_core.specs.declared.heard.Prepared.{Prepared}
 use Rattle.exchange_core.specs.declared.step.Reader.{Reader}
 use Rattle.exchange_core.specs.Answering.{Given, Waited, answer_of}
-use Rattle.exchange_core.specs.CoreValue.{Outgoing, written}
+use Rattle.exchange_core.specs.CoreValue.{Outgoing, outgoing_of, written}
 
 -- the bytes of the ACK or RST, where one is owed
 abbrev pub IsConfirmation : Option Due → Option (List ℕ) → Type 0
@@ -62,3 +68,14 @@ abbrev pub AnswersBy : ℕ → ℕ → Option Reader → List Waited → List Gi
 AnswersBy t n None ws old new = new ≡ old
 AnswersBy t n (Some r) ws old new =
     (w : Waited) × Contains ws w × (w.ask ≡ r.ask) × (new ≡ old ++ answer_of w (record { number = n; moment = t; heard = t }) r.finding ∷ [])
+
+-- what a datagram leads to, by the verdict on it
+pub record IsPrepared (t n : ℕ) (p : Peer) (b : List ℕ) (es : List Exchange) (heard : List Remembered) (cs : List Conn) (d : Prepared) : Type 0 where
+  pub verdict : Verdict
+  pub is_verdict : IsVerdict t n p b es heard verdict
+  pub taken : d.taken ≡ b
+  pub memory : d.memory ≡ verdict.memory
+  pub change : d.change ≡ verdict.change
+  pub sent : IsConfirmation verdict.due (option_map arc_value d.sent)
+  pub datagram : option_map outgoing_of d.datagram ≡ outgoing_by p (option_map arc_value d.sent)
+  pub reader : IsReader cs verdict.ending d.reader

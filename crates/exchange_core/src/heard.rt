@@ -1,25 +1,71 @@
 //! What is heard.
 
-ghost use Rattle.std.specs.Prelude.{◌≡◌, ◌<◌, true, length, OnOk, OnErr};
+ghost use Rattle.std.specs.Prelude.{◌≡◌, ◌<◌, true, length, IfOk, OnOk, OnErr};
 ghost use Rattle.exchange_core.specs.CoreValue.{now};
 ghost use Rattle.exchange_core.specs.Hears.{HeardSo, IsDropped};
+ghost use Rattle.exchange_core.specs.Steps.{IsPrepared};
 
 use crate::core_state::Core;
 use crate::numbering::find_known;
-use crate::outgoing::{datagram_of, put_out};
+use crate::outgoing::{Datagram, datagram_of, put_out};
 use crate::step::{
-    added, answer_reader, confirmation_of, make_places, one_if, reader_of, send_confirmation,
+    Reader, added, answer_reader, confirmation_of, make_places, one_if, reader_of,
+    send_confirmation,
 };
 use crate::tables::{change_exchanges, pending_count, remember};
 use ask_model::Bytes;
-use datagram_verdict::verdict_of;
+use datagram_verdict::{Change, verdict_of};
+use history_laws::kept::{Conn, Exchange, Remembered};
 use journal_book::{Entry, Event};
-use std::alloc::AllocError;
+use std::alloc::{AllocError, Global};
+use std::sync::Arc;
 use transformers::Relation;
 use uri_map::Peer;
 
 /// The most bytes of a datagram that is looked at.
 const DATAGRAM: usize = 2048;
+
+/// What a datagram leads to, built before anything changes.
+#[derive(Drop)]
+pub struct Prepared {
+    /// its bytes, for its entry
+    pub taken: Bytes,
+    /// what is remembered of it
+    pub memory: Option<Remembered>,
+    pub change: Change,
+    /// the ACK or RST that it asks for, and the datagram that takes it
+    pub sent: Option<Arc<Bytes>>,
+    pub datagram: Option<Datagram>,
+    /// who waits for the exchange that it ends
+    pub reader: Option<Reader>,
+}
+
+/// Builds what the datagram leads to that is heard at this moment, in the entry with this number.
+fn prepare(
+    alloc: Global,
+    exchanges: &[Exchange],
+    heard: &[Remembered],
+    conns: &[Conn],
+    moment: u64,
+    number: u32,
+    peer: Peer,
+    bytes: &[u8],
+) -> Result<Prepared, AllocError>
+    ensures { IfOk result (λ d. IsPrepared moment number peer bytes.now exchanges.now heard.now conns.now d) }
+{
+    let verdict = verdict_of(alloc, exchanges, heard, moment, number, &peer, bytes)?;
+    let sent = confirmation_of(alloc, verdict.due)?;
+    let datagram = datagram_of(peer, &sent)?;
+    let reader = reader_of(conns, verdict.ending)?;
+    Ok(Prepared {
+        taken: Bytes::from_slice(alloc, bytes)?,
+        memory: verdict.memory,
+        change: verdict.change,
+        sent,
+        datagram,
+        reader,
+    })
+}
 
 impl<R: Relation> Core<R> {
     /// Takes a datagram that came from this peer at this moment. It is dropped where it is too long, where nothing
@@ -44,22 +90,20 @@ impl<R: Relation> Core<R> {
         };
         let moment = self.last.max(moment.min(1 << 62));
         let number = self.journal.len() as u32;
-        let verdict = verdict_of(
+        let ready = prepare(
             self.alloc,
             &self.exchanges,
             &self.heard,
+            &self.conns,
             moment,
             number,
-            &peer,
+            peer,
             bytes,
         )?;
-        let sent = confirmation_of(self.alloc, verdict.due)?;
-        let datagram = datagram_of(peer, &sent)?;
-        let reader = reader_of(&self.conns, verdict.ending)?;
         let count = self.conns.len();
         let pending = pending_count(&self.conns);
-        let sends = sent.is_some();
-        let answers = reader.is_some();
+        let sends = ready.sent.is_some();
+        let answers = ready.reader.is_some();
         let (entries, size) = added(sends, answers);
         let size = bytes.len() as u64 + 64 + size;
         let waiting = pending.saturating_sub(one_if(answers));
@@ -67,7 +111,6 @@ impl<R: Relation> Core<R> {
             self.seal(moment);
             return Ok(());
         }
-        let taken = Bytes::from_slice(self.alloc, bytes)?;
         make_places(
             &mut self.journal,
             &mut self.heard,
@@ -77,18 +120,21 @@ impl<R: Relation> Core<R> {
 
         self.journal.add(Entry {
             moment,
-            event: Event::Heard { peer, bytes: taken },
+            event: Event::Heard {
+                peer,
+                bytes: ready.taken,
+            },
         });
-        remember(&mut self.heard, verdict.memory);
-        change_exchanges(&mut self.exchanges, verdict.change);
-        send_confirmation(&mut self.journal, moment, peer, sent);
-        put_out(&mut self.sends, datagram);
+        remember(&mut self.heard, ready.memory);
+        change_exchanges(&mut self.exchanges, ready.change);
+        send_confirmation(&mut self.journal, moment, peer, ready.sent);
+        put_out(&mut self.sends, ready.datagram);
         answer_reader(
             &mut self.journal,
             &mut self.conns,
             &mut self.outbox,
             moment,
-            reader,
+            ready.reader,
         );
         self.bytes = self.bytes.saturating_add(size);
         self.last = moment;

@@ -7,6 +7,7 @@
 
 mod answer;
 mod ask;
+mod beginning;
 mod copying;
 mod core_state;
 mod fault;
@@ -20,8 +21,8 @@ mod tables;
 mod tick;
 
 pub use answer::{Answer, Ticket};
-pub use datagram_verdict::{Finding, Outcome, Response};
 pub use core_state::Core;
+pub use datagram_verdict::{Finding, Outcome, Response};
 pub use fault::{AskFault, OpenFault};
 pub use outgoing::Datagram;
 

@@ -17,7 +17,7 @@ use Rattle.history_laws.proofs.Sendings.{sent-behind}
 use Rattle.history_laws.proofs.Replies.{replies-fit, IsReplyTo-keeps}
 
 -- an element of a list with one more
-push-cases : (xs : List ℕ) (y i k : ℕ) → slice_get (xs ++ y ∷ []) i ≡ Some k → (slice_get xs i ≡ Some k) ⊎ ((i ≡ length xs) × (y ≡ k))
+pub push-cases : (xs : List ℕ) (y i k : ℕ) → slice_get (xs ++ y ∷ []) i ≡ Some k → (slice_get xs i ≡ Some k) ⊎ ((i ≡ length xs) × (y ≡ k))
 push-cases [] y zero k e = inr (refl, cc)
 push-cases [] y (suc i) k e = cc
 push-cases (x ∷ xs) y zero k e = inl e
@@ -95,7 +95,7 @@ asks-once : (l : List Noted) (c i j k : ℕ) → slice_get (asks_of l c) i ≡ S
 asks-once [] c i j k g h = cc
 asks-once (x ∷ older) c i j k g h = asks-step older c x.written.deed i j k (λ u v. asks-once older c i j k u v) g h
 
-asks-keep : (l : List Noted) (c : ℕ) (d : Deed) (i k : ℕ) → slice_get (asks_of l c) i ≡ Some k → slice_get (asks_by c (length l) d (asks_of l c)) i ≡ Some k
+pub asks-keep : (l : List Noted) (c : ℕ) (d : Deed) (i k : ℕ) → slice_get (asks_of l c) i ≡ Some k → slice_get (asks_by c (length l) d (asks_of l c)) i ≡ Some k
 asks-keep l c (Asks e a) i k h =
     elim (eqb_tells e c) [ inl w ↦ rw (w.0) (push-old (asks_of l c) (length l) i k h) | inr w ↦ rw (w.0) h ]
 asks-keep l c d i k h = h
@@ -224,7 +224,7 @@ number-of (r ∷ rs) j (suc i, lt, e) =
     let place = h.1 in
     (h.0, (suc place.0, let b = place.1 in omega arith, place.2), h.2)
 
-reader-is : (l : List Noted) (k o : ℕ) → IsReader l k o → k ≡ o
+pub reader-is : (l : List Noted) (k o : ℕ) → IsReader l k o → k ≡ o
 reader-is l k o h = go h.ask.note h.reads
   where
     go : (n : Note) → reads_by n k ≡ Some o → k ≡ o

@@ -15,6 +15,9 @@ pub mod Remembering
 pub mod Resting
 pub mod Working
 pub mod Askers
+pub mod Asked
+pub mod Settled
+pub mod Confirmed
 pub mod Fewness
 pub mod Elements
 pub mod Keeping

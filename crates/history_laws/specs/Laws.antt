@@ -1,18 +1,21 @@
 -- What holds of every legal reading of a history.
-use Rattle.std.specs.Prelude.{◌≡◌, ◌≢◌, ◌↔◌, ℕ, ◌<◌, ◌≤◌, false, List, length, take, Some, None, ⊤}
+use Rattle.std.specs.Prelude.{◌≡◌, ◌≢◌, ◌↔◌, ◌⊎◌, ℕ, ◌+◌, ◌<◌, ◌≤◌, true, false, List, length, take, Option, Some, None, ⊤}
 use Rattle.std.specs.List.{Contains}
 use Rattle.coap_codec.specs.declared.message.MsgType.{MsgType}
 use Rattle.coap_codec.specs.declared.message.MsgType.TheVariants.{Con, Non, Ack, Rst}
 use Rattle.coap_codec.specs.Spelling.{Content, Spells}
 use Rattle.uri_map.specs.declared.peer.Peer.{Peer}
-use Rattle.ask_model.specs.Requests.{CoapRequest, Requests}
-use Rattle.ask_model.specs.Requests.{Ask}
-use Rattle.journal_book.specs.Entries.{Grounds, Live, Hears, Answers}
-use Rattle.history_laws.specs.Readings.{Noted, Note, Says, at, before}
-use Rattle.history_laws.specs.Connections.{asks_of, answers_of}
+use Rattle.ask_model.specs.Requests.{CoapRequest, Sense, Requests, Refuses, Ask, request_message}
+use Rattle.ask_model.specs.declared.cause.Cause.{Cause}
+use Rattle.ask_model.specs.declared.cause.Cause.TheVariants.{Busy}
+use Rattle.journal_book.specs.Entries.{Grounds, Live, Fault, Sends, Hears, Answers}
+use Rattle.history_laws.specs.Readings.{Noted, Note, First, Says, at, before}
+use Rattle.history_laws.specs.Connections.{is_open, asks_of, answers_of, is_sealed}
 use Rattle.history_laws.specs.Responses.{Ending}
 use Rattle.history_laws.specs.Exchanges.{Reply, replies, repeats, begun, turn, end_here, end_of, open_exchanges}
-use Rattle.history_laws.specs.Justified.{IsAsk, IsFirst, IsOpening, IsGoing, Ends, Legal}
+use Rattle.history_laws.specs.Confirming.{empty}
+use Rattle.history_laws.specs.Limits.{exchange_limit}
+use Rattle.history_laws.specs.Justified.{IsAsk, IsFirst, IsOpening, IsGoing, Ends, Legal, AtRest}
 
 -- A token is borne by one first sending.
 abbrev pub TokensApart : Type 0
@@ -122,3 +125,74 @@ NothingOutrun =
     (l : List Noted) (n c k j e : ℕ) (js : List ℕ) (a : Ask) (q : CoapRequest) → Legal l → IsAnswer l n c k (Live js) → Contains js j
     → IsAsk l k c a → a.sense ≡ Requests q → q.method ≡ 1 → IsWriteEnd l q.peer q.target.path e → e < k
     → (o : ℕ) × (r : Reply) × IsReplyTo l o r × (r.number ≡ j) × (e < r.sending)
+
+-- The ask opened an exchange for this request, which has at most one first sending.
+pub record OpensOne (l : List Noted) (k : ℕ) (q : CoapRequest) : Type 0 where
+  pub since : ℕ
+  pub opened : IsOpening l k since q
+  pub once : (i j : ℕ) (p r : Peer) (m n : Content) → IsFirst l k i p m → IsFirst l k j r n → i ≡ j
+
+-- The ask opened no exchange, nothing is sent for it, and its answer is the proxy's own, for this cause.
+pub record OpensNone (l : List Noted) (k : ℕ) (cause : Cause) : Type 0 where
+  pub unopened : (since : ℕ) (q : CoapRequest) → IsOpening l k since q → ⊥
+  pub unsent : (i : ℕ) (p : Peer) (m : Content) → IsFirst l k i p m → ⊥
+  pub answered : (n c : ℕ) (g : Grounds) → IsAnswer l n c k g → g ≡ Fault cause k
+
+-- An ask for something opens one exchange, or none where as many were open as there may be; a refused one
+-- opens none.
+abbrev pub OpensFor : List Noted → ℕ → Sense → Type 0
+OpensFor l k (Requests q) = OpensOne l k q ⊎ (OpensNone l k Busy × (length (open_exchanges (before l k)) ≡ exchange_limit))
+OpensFor l k (Refuses cause status) = OpensNone l k cause
+
+abbrev pub AskedOnce : Type 0
+AskedOnce = (l : List Noted) (k c : ℕ) (a : Ask) → Legal l → IsAsk l k c a → OpensFor l k a.sense
+
+-- Where an exchange is open and the journal isn't sealed, its message is sent by the end of the step.
+abbrev pub SentAtOnce : Type 0
+SentAtOnce =
+    (l : List Noted) (k : ℕ) → AtRest l → is_sealed l ≡ false → IsGoing l k → (i : ℕ) × (p : Peer) × (m : Content) × IsFirst l k i p m
+
+-- Where an ask opened no exchange and its connection is open, it is answered by the end of its step: at rest,
+-- its answer stands.
+abbrev pub AnsweredAtOnce : Type 0
+AnsweredAtOnce =
+    (l : List Noted) (k c : ℕ) (a : Ask) (cause : Cause) → Legal l → AtRest l → is_open l c ≡ true
+    → IsAsk l k c a → OpensNone l k cause → (n : ℕ) × IsAnswer l n c k (Fault cause k)
+
+-- The entry with this number sends these bytes to this peer, as the first sending of the exchange of an ask
+-- before it, and they spell what that asks for.
+pub record IsAskSent (l : List Noted) (i : ℕ) (p : Peer) (bytes : List ℕ) : Type 0 where
+  pub ask : ℕ
+  pub conn : ℕ
+  pub asked : Ask
+  pub request : CoapRequest
+  pub message : Content
+  pub moment : ℕ
+  pub timeout : Option ℕ
+  pub stands : at l i ≡ Some (record { written = record { moment = moment; deed = Sends p bytes timeout }; note = First ask message })
+  pub behind : ask < i
+  pub asks : IsAsk l ask conn asked
+  pub sense : asked.sense ≡ Requests request
+  pub peer : p ≡ request.peer
+  pub carries : message ≡ request_message request message.mid message.token
+  pub spelled : Spells message bytes
+
+-- These bytes are an empty ACK or RST to the peer of the datagram that was heard just before.
+pub record IsConfirmation (l : List Noted) (i : ℕ) (p : Peer) (bytes : List ℕ) : Type 0 where
+  pub kind : MsgType
+  pub mid : ℕ
+  pub ack_or_rst : (kind ≡ Ack) ⊎ (kind ≡ Rst)
+  pub spelled : Spells (empty kind mid) bytes
+  pub heard : ℕ
+  pub just_before : heard + 1 ≡ i
+  pub moment : ℕ
+  pub datagram : List ℕ
+  pub note : Note
+  pub stands : at l heard ≡ Some (record { written = record { moment = moment; deed = Hears p datagram }; note = note })
+
+-- Each sending is a first one that an ask asks for, equals one before it, or is an ACK or RST.
+abbrev pub NothingElseSent : Type 0
+NothingElseSent =
+    (l : List Noted) (i t : ℕ) (p : Peer) (bytes : List ℕ) (w : Option ℕ) (note : Note) → Legal l
+    → at l i ≡ Some (record { written = record { moment = t; deed = Sends p bytes w }; note = note })
+    → IsAskSent l i p bytes ⊎ (((j : ℕ) × (j < i) × IsAskSent l j p bytes) ⊎ IsConfirmation l i p bytes)

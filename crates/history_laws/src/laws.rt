@@ -12,6 +12,10 @@ ghost use Rattle.history_laws.specs.Laws.{
   AnsweredOnce,
   NothingEarlier,
   NothingOutrun,
+  AskedOnce,
+  SentAtOnce,
+  AnsweredAtOnce,
+  NothingElseSent,
 };
 ghost use Rattle.history_laws.specs.Justified.{Stands};
 ghost use Rattle.history_laws.specs.Worked.{light_journal};
@@ -53,6 +57,16 @@ pub fn answered_in_order()
 pub fn nothing_outrun()
     ensures earlier { NothingEarlier }
     ensures outrun { NothingOutrun }
+{}
+
+/// Each ask opens one exchange with one message, which goes out once, or none where it is answered in its
+/// own step (RFC 7252 section 4.5 is why no request may go twice); nothing else is sent but equal copies,
+/// ACKs and RSTs.
+pub fn asked_once()
+    ensures asked { AskedOnce }
+    ensures sent { SentAtOnce }
+    ensures answered { AnsweredAtOnce }
+    ensures nothing_else { NothingElseSent }
 {}
 
 /// The journal of one GET and its response has a reading that is legal and at rest.

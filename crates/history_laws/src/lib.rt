@@ -14,6 +14,6 @@ pub mod kept;
 mod laws;
 
 pub use laws::{
-    answered_in_order, nothing_outrun, open_exactly, replies_fit, sendings_apart, sent_once,
-    worked_journal,
+    answered_in_order, asked_once, nothing_outrun, open_exactly, replies_fit, sendings_apart,
+    sent_once, worked_journal,
 };

@@ -3,7 +3,7 @@ use Rattle.std.proofs.Common.{◌≡◌, ℕ, suc, ◌+◌, ◌-◌, ◌%◌, �
 use Rattle.std.proofs.lemmas.Bool.{lt-ltb}
 use Rattle.message_layer.proofs.RunLaws.{first-latest}
 use borrow.Author.Tests.{ltb-true, ltb-false}
-use Rattle.message_layer.specs.Sending.{is_in_use}
+use Rattle.message_layer.specs.Mids.{is_in_use}
 use Rattle.message_layer.specs.Transmissions.{SentMessage, mid_of, latest, recent, IsSequence, MidsApart}
 
 -- a later message is sent later

@@ -9,7 +9,8 @@ use Rattle.coap_codec.specs.Spelling.{Content}
 use Rattle.coap_codec.specs.Reading.{message_at}
 use Rattle.coap_codec.specs.declared.fault.CodecFault.{CodecFault}
 use Rattle.message_layer.specs.Values.{LinkState, Told, IsSound, IsSoundWaiting, IsSoundOutstanding, is_con}
-use Rattle.message_layer.specs.Sending.{is_in_use, with_mid, next_mid, first_sent, next_by, again, due_of, ticked, ticked_by, pruned, queued, submitted, submitted_by}
+use Rattle.message_layer.specs.Sending.{with_mid, next_mid, first_sent, next_by, again, due_of, ticked, ticked_by, queued, submitted, submitted_by}
+use Rattle.message_layer.specs.Mids.{is_in_use, pruned}
 use Rattle.message_layer.specs.Hearing.{replies, verdict_of, ended, hears, hears_from, hears_read, undecoded, reset_for}
 use Rattle.message_layer.specs.declared.state.Reply.{Reply}
 use Rattle.message_layer.specs.declared.state.Reply.TheVariants as reply

@@ -10,3 +10,4 @@ pub mod AwaitEnds
 pub mod AwaitLaws
 pub mod AnswerLaws
 pub mod HandsUp
+pub mod Rising

@@ -5,7 +5,8 @@ use Rattle.std.proofs.lemmas.Nat.{pow_pos}
 use Rattle.std.specs.List.{AllByRecursion}
 use borrow.Author.Tests.{ltb-true}
 use Rattle.message_layer.specs.Values.{LinkState, Told, IsSound, IsSoundWaiting, IsSoundOutstanding, is_con}
-use Rattle.message_layer.specs.Sending.{is_in_use, with_mid, next_mid, due_of, next_by, ticked, ticked_by, submitted, waits}
+use Rattle.message_layer.specs.Sending.{with_mid, next_mid, due_of, next_by, ticked, ticked_by, submitted, waits}
+use Rattle.message_layer.specs.Mids.{is_in_use}
 use Rattle.message_layer.specs.Hearing.{hears}
 use Rattle.message_layer.specs.Calls.{sent_out, taken_by, waits_not_under}
 use Rattle.message_layer.specs.Runs.{Step, Call, submit, hear, tick, forget, expect, take_send, refuse, Leaves, Puts, IsStep, IsRun, last_moment, Transmission, transmitted, transmissions}

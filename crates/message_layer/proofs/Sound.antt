@@ -12,7 +12,8 @@ use Rattle.std.proofs.Common.{eq-eqb, ◌*◌, ◌/◌}
 use Rattle.coap_codec.specs.declared.message.MsgType.TheVariants.{Con}
 use Rattle.std.specs.List.{AllByRecursion}
 use Rattle.message_layer.specs.Values.{LinkState, Told, IsSound, IsSoundOutstanding, IsSoundWaiting, IsSoundTurn, is_con}
-use Rattle.message_layer.specs.Sending.{next_by, ticked, ticked_by, due_of, is_in_use, mids_in_use, submitted, submitted_by, queued, pruned, waits, unnumbered, Submits, with_mid}
+use Rattle.message_layer.specs.Sending.{next_by, ticked, ticked_by, due_of, mids_in_use, submitted, submitted_by, queued, waits, unnumbered, Submits, with_mid}
+use Rattle.message_layer.specs.Mids.{is_in_use, pruned}
 use Rattle.coap_codec.specs.Spelling.{Content, Spells}
 use Rattle.message_layer.specs.declared.state.Waiting.{Waiting}
 use Rattle.message_layer.specs.declared.state.Outstanding.{Outstanding}

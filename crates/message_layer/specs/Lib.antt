@@ -8,3 +8,4 @@ pub mod Transmissions
 pub mod Awaiting
 pub mod Answers
 pub mod Laws
+pub mod Mids

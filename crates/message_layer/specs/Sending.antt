@@ -1,6 +1,7 @@
 -- What handing in a message and a tick do to a link (RFC 7252, sections 4.2, 4.4 and 4.7).
 use Rattle.std.specs.Prelude.{◌≡◌, ℕ, ◌+◌, ◌-◌, ◌*◌, ◌/◌, ◌%◌, ◌^◌, ◌≤◌, ◌<◌, vec_len, vec_capacity, List, [], ◌∷◌, ◌++◌, length, filter, count_by, Result, Ok, Err, slice_set, Option, Some, None, Bool, nat_lt, if◌then◌else◌}
 use Rattle.std.specs.VecDeque.{deque_len, deque_capacity}
+use Rattle.message_layer.specs.Mids.{is_in_use, pruned}
 use Rattle.message_layer.specs.Values.{LinkState, Told, no_news, timed_out}
 use Rattle.message_layer.specs.declared.state.Waiting.{Waiting}
 use Rattle.message_layer.specs.declared.state.Outstanding.{Outstanding}
@@ -12,10 +13,6 @@ use Rattle.coap_codec.specs.Spelling.{Content, Spells}
 -- the datagram with this message ID, which is its third and fourth byte
 abbrev pub with_mid : ℕ → List ℕ → List ℕ
 with_mid mid datagram = slice_set (slice_set datagram 2 (mid / 256)) 3 (mid % 256)
-
--- An ID given then is still in use: a message may come until 494 s behind its sending, twice EXCHANGE_LIFETIME.
-abbrev pub is_in_use : ℕ → ℕ → Bool
-is_in_use t given = nat_lt (t - given) 494000
 
 -- The initial timeout by a random word: from ACK_TIMEOUT, 2 s, to that times ACK_RANDOM_FACTOR, 1.5.
 abbrev pub initial_timeout : ℕ → ℕ
@@ -93,10 +90,6 @@ ticked t s = ticked_by t s s.outstanding
 abbrev pub waits : List ℕ → List ℕ → ℕ → Waiting
 waits token text word = record { token = token; datagram = text; timeout = initial_timeout word; first_mid = word % 65536 }
 
--- IDs that are in use no more are forgotten once there are many
-abbrev pub pruned : ℕ → ℕ → List ℕ → List ℕ
-pruned t waiting given = if nat_lt (length given + waiting) 32768 then given else filter (is_in_use t) given
-
 abbrev pub queued : ℕ → Waiting → LinkState → LinkState
 queued t w s = record { waiting = s.waiting ++ w ∷ []; outstanding = s.outstanding; last_mid = s.last_mid; given = pruned t (length s.waiting) s.given; awaited = s.awaited; heard = s.heard; out = s.out }
 
@@ -138,13 +131,13 @@ IsNext t last_mid (w ∷ ws) (Some p) = (p.0 ≡ first_sent t last_mid w) × (p.
 
 -- room for what a sending adds
 pub record HasRoom (s : State) : Type 0 where
-  pub given : vec_len s.given < vec_capacity s.given
+  pub given : 0 < s.given.room
   pub awaited : vec_len s.awaited < vec_capacity s.awaited
   pub out : deque_len s.out < deque_capacity s.out
 
 -- room for an answer and what is remembered of it too
 pub record HasRoomToo (s : State) : Type 0 where
-  pub given : vec_len s.given < vec_capacity s.given
+  pub given : 0 < s.given.room
   pub awaited : vec_len s.awaited < vec_capacity s.awaited
   pub heard : vec_len s.heard < vec_capacity s.heard
   pub out : deque_len s.out + 2 ≤ deque_capacity s.out

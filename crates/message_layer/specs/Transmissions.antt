@@ -2,7 +2,8 @@
 use Rattle.std.specs.Prelude.{◌≡◌, ℕ, ◌+◌, ◌*◌, ◌%◌, ◌^◌, ◌<◌, ◌≤◌, List, [], ◌∷◌, ◌++◌, length, map, filter, Option, Some, None, ◌⊎◌}
 use Rattle.std.specs.List.{AllByRecursion}
 use Rattle.message_layer.specs.Values.{LinkState, IsSound}
-use Rattle.message_layer.specs.Sending.{is_in_use, due_of, with_mid, unnumbered, initial_timeout}
+use Rattle.message_layer.specs.Sending.{due_of, with_mid, unnumbered, initial_timeout}
+use Rattle.message_layer.specs.Mids.{is_in_use}
 use Rattle.message_layer.specs.Calls.{waits_not_under}
 use Rattle.coap_codec.specs.Spelling.{Content, Spells}
 use Rattle.message_layer.specs.declared.state.Waiting.{Waiting}

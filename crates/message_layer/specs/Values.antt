@@ -27,7 +27,7 @@ pub record LinkState : Type 0 where
   pub out : List (List ℕ)
 
 abbrev pub seen : State → LinkState
-seen s = record { waiting = s.waiting.items; outstanding = s.outstanding; last_mid = s.last_mid; given = s.given.items; awaited = s.awaited.items; heard = s.heard.items; out = s.out.items }
+seen s = record { waiting = s.waiting.items; outstanding = s.outstanding; last_mid = s.last_mid; given = s.given.moments; awaited = s.awaited.items; heard = s.heard.items; out = s.out.items }
 
 abbrev pub empty_link : LinkState
 empty_link = record { waiting = []; outstanding = None; last_mid = None; given = []; awaited = []; heard = []; out = [] }

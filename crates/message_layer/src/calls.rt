@@ -111,7 +111,7 @@ pub fn copy(alloc: Global, s: &State) -> Result<State, AllocError>
         waiting: copy_waiting(alloc, &s.waiting)?,
         outstanding: copy_outstanding(&s.outstanding)?,
         last_mid: s.last_mid,
-        given: Vec::from_slice(alloc, &s.given)?,
+        given: s.given.copy(alloc)?,
         awaited: Vec::from_slice(alloc, &s.awaited)?,
         heard: Vec::from_slice(alloc, &s.heard)?,
         out: copy_out(alloc, &s.out)?,

@@ -125,7 +125,7 @@ fn make_room(s: &mut State) -> Result<(), AllocError>
     ensures same { seen s.new ≡ seen s.old }
     ensures ok { OnOk result (HasRoomToo s.new) }
 {
-    s.given.reserve(1)?;
+    s.given.reserve()?;
     s.awaited.reserve(1)?;
     s.heard.reserve(1)?;
     s.out.reserve(2)?;

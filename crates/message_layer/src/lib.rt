@@ -16,6 +16,7 @@ mod fault;
 mod hearing;
 mod laws;
 mod link;
+mod mids;
 mod options;
 mod sending;
 mod state;
@@ -32,4 +33,8 @@ pub use options::{Fitness, judge};
 pub use state::{Awaited, Heard, Outstanding, Reply, Up, Waiting};
 
 #[cfg(test)]
+mod memory_tests;
+#[cfg(test)]
 mod tests;
+#[cfg(test)]
+mod value_tests;

@@ -11,6 +11,7 @@ ghost use Rattle.message_layer.specs.Calls.{forgotten, expected, sent_out};
 
 use crate::bytes::Bytes;
 use crate::fault::LinkFault;
+use crate::mids::Mids;
 use crate::state::{State, Up};
 use crate::{calls, hearing, sending};
 use coap_codec::{Message, MsgType, Token};
@@ -48,7 +49,7 @@ impl Link {
                 waiting: Vec::new(alloc),
                 outstanding: None,
                 last_mid: None,
-                given: Vec::new(alloc),
+                given: Mids::new(alloc),
                 awaited: Vec::new(alloc),
                 heard: Vec::new(alloc),
                 out: VecDeque::new(alloc),

@@ -1,12 +1,12 @@
 //! Sending: messages that are handed in, their copies, and the end of what is outstanding.
 
-ghost use Rattle.std.specs.Prelude.{◌≡◌, ◌<◌, ◌≤◌, ◌+◌, ◌^◌, length, filter, count_by, IfOk, OnOk, OnErr, IsTrue, true, ◌↔◌, IsOkUnless, MatchOption, vec_len, vec_capacity};
+ghost use Rattle.std.specs.Prelude.{◌≡◌, ◌<◌, ◌≤◌, ◌+◌, ◌^◌, length, IfOk, OnOk, OnErr, IsTrue, true, ◌↔◌, IsOkUnless, MatchOption, vec_len};
 ghost use Rattle.std.specs.Option.{option_map};
 ghost use Rattle.std.specs.List.{AllByRecursion};
 ghost use Rattle.coap_codec.specs.Spelling.{content, Spells};
 ghost use Rattle.coap_codec.specs.Writing.{IsEncodable};
 ghost use Rattle.message_layer.specs.Values.{seen, told, is_con, IsSound, IsSoundOutstanding, IsSoundWaiting};
-ghost use Rattle.message_layer.specs.Sending.{is_in_use, due_of, next_mid, first_sent, next_sent, ticked, with_outstanding, again, IsNext, HasRoom, pruned, mids_in_use, initial_timeout, unnumbered, Submits, IsSubmitted};
+ghost use Rattle.message_layer.specs.Sending.{due_of, next_mid, first_sent, next_sent, ticked, with_outstanding, again, IsNext, HasRoom, mids_in_use, initial_timeout, unnumbered, Submits, IsSubmitted};
 
 use crate::bytes::Bytes;
 use crate::fault::LinkFault;
@@ -16,12 +16,6 @@ use std::alloc::{AllocError, Global};
 
 /// How many messages may wait.
 const MAX_WAITING: usize = 64;
-
-/// How many message IDs may be in use.
-const MAX_MIDS: usize = 32768;
-
-/// How long a message ID is in use, in milliseconds.
-const MID_LIFETIME: u64 = 494_000;
 
 /// How often a message is sent again (RFC 7252 section 4.8).
 const MAX_RETRANSMIT: u8 = 4;
@@ -106,7 +100,7 @@ fn make_room(s: &mut State) -> Result<(), AllocError>
     ensures same { seen s.new ≡ seen s.old }
     ensures ok { OnOk result (HasRoom s.new) }
 {
-    s.given.reserve(1)?;
+    s.given.reserve()?;
     s.awaited.reserve(1)?;
     s.out.reserve(1)?;
     Ok(())
@@ -180,46 +174,12 @@ pub fn tick(alloc: Global, s: &mut State, moment: u64) -> Result<Up, LinkFault>
     Ok(Up::TimedOut(token))
 }
 
-/// How many of the IDs are in use.
-fn count_in_use(given: &[u64], moment: u64) -> usize
-    ensures { result ≡ count_by (is_in_use moment) given.now }
-{
-    given
-        .iter()
-        .filter(|given| moment.saturating_sub(**given) < MID_LIFETIME)
-        .count()
-}
-
-/// There is an ID for one more message. The IDs are counted only where there are many.
-#[tactic(auto, using(crate::proofs::Sound::few_in_use))]
+/// There is an ID for one more message.
 fn has_mid(s: &State, moment: u64) -> bool
-    requires { vec_len s.now.given + vec_len s.now.waiting ≤ 32768 }
+    requires { length s.now.given.moments + vec_len s.now.waiting ≤ 32768 }
     ensures { IsTrue result ↔ (mids_in_use moment (seen s.now) < 32768) }
 {
-    if s.given.len() + s.waiting.len() < MAX_MIDS {
-        return true;
-    }
-    count_in_use(&s.given, moment) + s.waiting.len() < MAX_MIDS
-}
-
-fn drop_unused(given: &mut Vec<u64>, moment: u64)
-    ensures items { given.new.items ≡ filter (is_in_use moment) given.old.items }
-    ensures len { vec_len given.new ≤ vec_len given.old }
-    ensures capacity { vec_capacity given.new ≡ vec_capacity given.old }
-{
-    given.retain(|given| moment.saturating_sub(*given) < MID_LIFETIME);
-}
-
-/// Forgets the IDs that are in use no more, if there are many.
-fn prune(given: &mut Vec<u64>, waiting: usize, moment: u64)
-    requires { waiting ≤ 64 }
-    ensures items { given.new.items ≡ pruned moment waiting given.old.items }
-    ensures len { vec_len given.new ≤ vec_len given.old }
-    ensures capacity { vec_capacity given.new ≡ vec_capacity given.old }
-{
-    if given.len() + waiting >= MAX_MIDS {
-        drop_unused(given, moment);
-    }
+    s.given.has_free(s.waiting.len(), moment)
 }
 
 fn timeout_of(word: u64) -> u64
@@ -278,14 +238,14 @@ pub fn submit(
     match &s.outstanding {
         Some(_) => {
             s.waiting.reserve(1)?;
-            prune(&mut s.given, s.waiting.len(), moment);
+            s.given.prune(s.waiting.len(), moment);
             s.waiting.push_reserved(w);
             Ok(())
         }
         None => {
             let (message, copy) = launch(alloc, &w, s.last_mid, moment)?;
             make_room(s)?;
-            prune(&mut s.given, s.waiting.len(), moment);
+            s.given.prune(s.waiting.len(), moment);
             send_first(s, message, copy);
             Ok(())
         }

@@ -1,6 +1,7 @@
 //! What a link keeps: plain data in the terms of RFC 7252, section 4.
 
 use crate::bytes::Bytes;
+use crate::mids::Mids;
 use coap_codec::{Message, Token};
 use std::collections::VecDeque;
 
@@ -64,7 +65,7 @@ pub struct State {
     /// The message ID given last.
     pub last_mid: Option<u16>,
     /// When the last message IDs were given, the oldest first.
-    pub given: Vec<u64>,
+    pub given: Mids,
     pub awaited: Vec<Awaited>,
     pub heard: Vec<Heard>,
     pub out: VecDeque<Bytes>,

@@ -5,12 +5,11 @@ use Rattle.std.proofs.lemmas.List.Sums.{count_by-le-length}
 use Rattle.history_laws.specs.declared.kept.Conn.{Conn}
 use Rattle.history_laws.specs.Kept.{Held}
 use Rattle.exchange_core.specs.Room.{is_pending}
-use Rattle.datagram_verdict.specs.Verdicts.{heard_by}
 use Rattle.exchange_core.specs.Steps.{outgoing_by}
 use Rattle.exchange_core.specs.CoreValue.{CoreValue, outgoing_of}
 use Rattle.exchange_core.proofs.Dropping.{never-sent, not-dropped}
 use Rattle.exchange_core.proofs.Unsent.{out-by}
-use Rattle.exchange_core.proofs.Stepping.{waits-kept, some-map, few-heard, kept-heard, answer-added, changes-shown, hears-shown, seals-shown, no-room, heard-seals}
+use Rattle.exchange_core.proofs.Stepping.{changed-so, remembered-so, waits-kept, some-map, few-heard, kept-heard, answer-added, changes-shown, hears-shown, seals-shown, no-room, heard-seals}
 use Rattle.exchange_core.proofs.Showing.{on-err}
 use Rattle.exchange_core.proofs.core_state.Core.heard.Goals as goal
 
@@ -18,15 +17,15 @@ pub answer_reader-requires-clause-few : goal.answer_reader-requires-clause-few
 answer_reader-requires-clause-few g c =
     let s = c.self.inside in
     few-heard s.journal.entries _ _ _ _ (1 + c.added-entries.result.0) (length c.args.bytes.now + 64 + c.added-entries.result.1) c.len-count.result c.saturating_sub-waiting.result
-    c.args.peer _ c.in_ok-verdict.verdict.due (option_map arc_value c.in_ok-sent.sent) c.is_some-sends.result c.is_some-answers.result
-    c.in_ok-sent.ensures (c.is_some-sends.ensures ∙ sym (some-map arc_value c.in_ok-sent.sent)) (ap (λ x. 1 + x.0) c.added-entries.ensures) (search rules)
+    c.args.peer _ c.in_ok-ready.ensures.verdict.due (option_map arc_value c.in_ok-ready.ready.sent) c.is_some-sends.result c.is_some-answers.result
+    c.in_ok-ready.ensures.sent (c.is_some-sends.ensures ∙ sym (some-map arc_value c.in_ok-ready.ready.sent)) (ap (λ x. 1 + x.0) c.added-entries.ensures) (search rules)
     c.in_ok-make_places.ensures.entries c.add.ensures.entries c.send_confirmation.ensures.entries
 
 pub answer_reader-requires-clause-waits : goal.answer_reader-requires-clause-waits
 answer_reader-requires-clause-waits g c =
     let s = c.self.inside in
-    waits-kept s.conns.items c.in_ok-verdict.verdict.ending c.in_ok-reader.reader s.outbox.waiting
-    (rw (c.deref-4.ensures.value) at c.in_ok-reader.ensures) c.self.invariant.1.kept
+    waits-kept s.conns.items c.in_ok-ready.ensures.verdict.ending c.in_ok-ready.ready.reader s.outbox.waiting
+    (rw (c.deref-4.ensures.value) at c.in_ok-ready.ensures.reader) c.self.invariant.1.kept
 
 pub invariant_of-self-2 : goal.invariant_of-self-2
 invariant_of-self-2 g c =
@@ -34,36 +33,36 @@ invariant_of-self-2 g c =
     kept-heard s.journal.entries _ _ _ _ s.journal.room _ _ _ _ s.conns.items _ _ _ _
     s.sealed s.bytes _ s.last _ c.len-number.result (1 + c.added-entries.result.0) (length c.args.bytes.now + 64 + c.added-entries.result.1)
     c.len-count.result c.pending_count-pending.result c.saturating_sub-waiting.result (map outgoing_of s.sends.items) _
-    c.args.peer c.args.bytes.now _ c.is_some-sends.result c.is_some-answers.result c.in_ok-verdict.verdict (option_map arc_value c.in_ok-sent.sent) c.in_ok-reader.reader c.in-Some.field-0
+    c.args.peer c.args.bytes.now _ c.is_some-sends.result c.is_some-answers.result c.in_ok-ready.ensures.verdict (option_map arc_value c.in_ok-ready.ready.sent) c.in_ok-ready.ready.reader c.in-Some.field-0
     s.outbox.waiting _ s.outbox.answers _
     c.self.invariant.0 c.self.invariant.1 c.if-self.false
     (omega (arith, c.max-moment.ensures)) (omega (arith, c.max-moment.ensures, c.min.ensures, c.self.invariant.0.early))
     (omega (arith, c.if-bytes-gt-DATAGRAM.false)) (sym (rw (c.deref.ensures.value) at c.in-Some.ensures)) c.len-number.ensures
-    (rw (c.deref-2.ensures.value, c.deref-3.ensures.value) at c.in_ok-verdict.ensures)
-    c.in_ok-sent.ensures (rw (c.deref-4.ensures.value) at c.in_ok-reader.ensures)
-    (c.is_some-sends.ensures ∙ sym (some-map arc_value c.in_ok-sent.sent)) c.is_some-answers.ensures c.in_ok-taken.ensures
+    (rw (c.deref-2.ensures.value, c.deref-3.ensures.value) at c.in_ok-ready.ensures.is_verdict)
+    c.in_ok-ready.ensures.sent (rw (c.deref-4.ensures.value) at c.in_ok-ready.ensures.reader)
+    (c.is_some-sends.ensures ∙ sym (some-map arc_value c.in_ok-ready.ready.sent)) c.is_some-answers.ensures c.in_ok-ready.ensures.taken
     (omega (arith, c.len-count.ensures, s.conns.ok.0)) (c.pending_count-pending.ensures ∙ ap (count_by is_pending) c.deref-5.ensures.value)
     (search rules)
     (ap (λ x. 1 + x.0) c.added-entries.ensures) (ap (λ x. length c.args.bytes.now + 64 + x.1) c.added-entries.ensures) (search rules)
     c.in_ok-make_places.ensures.entries c.add.ensures.entries c.send_confirmation.ensures.entries c.answer_reader.ensures.entries
-    c.change_exchanges.ensures (c.remember.ensures ∙ ap (heard_by c.in_ok-verdict.verdict.memory) c.in_ok-make_places.ensures.heard) c.answer_reader.ensures.conns
+    (changed-so _ _ _ _ c.change_exchanges.ensures c.in_ok-ready.ensures.change) (remembered-so _ _ _ _ _ c.remember.ensures c.in_ok-ready.ensures.memory c.in_ok-make_places.ensures.heard) c.answer_reader.ensures.conns
     c.answer_reader.ensures.waiting c.answer_reader.ensures.answers
     c.in_ok-make_places.ensures.room c.add.ensures.room c.send_confirmation.ensures.room c.answer_reader.ensures.room
     c.saturating_add-self-inside.ensures
-    (out-by s.sends.items _ _ c.in_ok-datagram.datagram (outgoing_by c.args.peer (option_map arc_value c.in_ok-sent.sent)) c.in_ok-make_places.ensures.sends c.put_out.ensures c.in_ok-datagram.ensures)
+    (out-by s.sends.items _ _ c.in_ok-ready.ready.datagram (outgoing_by c.args.peer (option_map arc_value c.in_ok-ready.ready.sent)) c.in_ok-make_places.ensures.sends c.put_out.ensures c.in_ok-ready.ensures.datagram)
 
 pub returns-clause-heard : goal.returns-clause-heard
 returns-clause-heard g c =
     let s = c.self.inside in
-    rw (← c.self.view_is) (hears-shown _ c.max-moment.result c.args.peer c.args.bytes.now _ _ (option_map arc_value c.in_ok-sent.sent) (search rules) c.if-self.false refl
-    (answer-added _ c.args.peer c.args.bytes.now _ s.conns.items c.in_ok-verdict.verdict.ending c.in_ok-reader.reader s.outbox.waiting (option_map arc_value c.in_ok-sent.sent) s.journal.entries _ _ _ _ _
-    (rw (c.deref-4.ensures.value) at c.in_ok-reader.ensures) c.in_ok-taken.ensures c.in_ok-make_places.ensures.entries c.add.ensures.entries c.send_confirmation.ensures.entries
+    rw (← c.self.view_is) (hears-shown _ c.max-moment.result c.args.peer c.args.bytes.now _ _ (option_map arc_value c.in_ok-ready.ready.sent) (search rules) c.if-self.false refl
+    (answer-added _ c.args.peer c.args.bytes.now _ s.conns.items c.in_ok-ready.ensures.verdict.ending c.in_ok-ready.ready.reader s.outbox.waiting (option_map arc_value c.in_ok-ready.ready.sent) s.journal.entries _ _ _ _ _
+    (rw (c.deref-4.ensures.value) at c.in_ok-ready.ensures.reader) c.in_ok-ready.ensures.taken c.in_ok-make_places.ensures.entries c.add.ensures.entries c.send_confirmation.ensures.entries
     c.answer_reader.ensures.entries c.answer_reader.ensures.conns c.answer_reader.ensures.answers)
-    (changes-shown s.journal.entries s.conns.items _ s.journal.room s.bytes s.last _ c.len-number.result c.args.peer c.args.bytes.now c.in_ok-verdict.verdict c.in-Some.field-0 s.sealed _
+    (changes-shown s.journal.entries s.conns.items _ s.journal.room s.bytes s.last _ c.len-number.result c.args.peer c.args.bytes.now c.in_ok-ready.ensures.verdict c.in-Some.field-0 s.sealed _
     c.self.invariant.0 c.if-self.false (omega (arith, c.max-moment.ensures)) (omega (arith, c.if-bytes-gt-DATAGRAM.false))
     (sym (rw (c.deref.ensures.value) at c.in-Some.ensures)) c.len-number.ensures
-    (rw (c.deref-2.ensures.value, c.deref-3.ensures.value) at c.in_ok-verdict.ensures) c.change_exchanges.ensures)
-    (out-by s.sends.items _ _ c.in_ok-datagram.datagram (outgoing_by c.args.peer (option_map arc_value c.in_ok-sent.sent)) c.in_ok-make_places.ensures.sends c.put_out.ensures c.in_ok-datagram.ensures))
+    (rw (c.deref-2.ensures.value, c.deref-3.ensures.value) at c.in_ok-ready.ensures.is_verdict) (changed-so _ _ _ _ c.change_exchanges.ensures c.in_ok-ready.ensures.change))
+    (out-by s.sends.items _ _ c.in_ok-ready.ready.datagram (outgoing_by c.args.peer (option_map arc_value c.in_ok-ready.ready.sent)) c.in_ok-make_places.ensures.sends c.put_out.ensures c.in_ok-ready.ensures.datagram))
 
 pub returns-in_default-clause-heard : goal.returns-in_default-clause-heard
 returns-in_default-clause-heard g c =

@@ -1,0 +1,209 @@
+//! The beginning of an exchange: the entries of its ask and its message, and what is kept of it.
+
+ghost use Rattle.std.specs.Prelude.{◌≡◌, ◌≢◌, ◌<◌, ◌≤◌, ◌+◌, ◌∷◌, ◌++◌, [], Some, true, false, length, IfOk, OnOk, Err, vec_len, vec_capacity};
+ghost use Rattle.std.specs.VecDeque.{deque_len, deque_capacity};
+ghost use Rattle.std.specs.Arc.{arc_value};
+ghost use Rattle.ask_model.specs.Requests.{CoapRequest, Requests};
+ghost use Rattle.ask_model.specs.Datagrams.{asked_peer};
+ghost use Rattle.journal_book.specs.Entries.{Asks, Sends, Seals};
+ghost use Rattle.journal_book.specs.Views.{ask_of};
+ghost use Rattle.exchange_core.specs.CoreValue.{written, now};
+ghost use Rattle.exchange_core.specs.Tables.{HasIdle};
+ghost use Rattle.exchange_core.specs.Asking.{OpensExchange, HasNoRoom};
+
+use crate::answer::Ticket;
+use crate::core_state::Core;
+use crate::fault::AskFault;
+use crate::numbering::{find_known, first_timeout, next_mid, token_of, use_id};
+use crate::outbox::Outbox;
+use crate::outgoing::Datagram;
+use crate::tables::{pending_count, set_pending};
+use ask_model::{Bytes, Mapped, incoming_size};
+use history_laws::kept::{Exchange, Known};
+use journal_book::{Entry, Event, Journal};
+use std::alloc::{AllocError, Global};
+use std::collections::VecDeque;
+use std::sync::Arc;
+use transformers::Relation;
+use uri_map::Peer;
+
+/// What an exchange that begins shares: the request, and the bytes of its message.
+#[derive(Drop)]
+struct Shares<R: Relation> {
+    /// for the entry of the ask
+    asked: Arc<Mapped<R>>,
+    /// for the ask that waits
+    waiting: Arc<Mapped<R>>,
+    /// for the entry of the sending
+    entered: Arc<Bytes>,
+    /// for the datagram that goes out
+    sent: Arc<Bytes>,
+}
+
+/// The request and the bytes, each shared by two.
+fn shares_of<R: Relation>(
+    alloc: Global,
+    mapped: &Arc<Mapped<R>>,
+    bytes: Bytes,
+) -> Result<Shares<R>, AllocError>
+    ensures asked { IfOk result (λ s. arc_value s.asked ≡ arc_value mapped.now) }
+    ensures waiting { IfOk result (λ s. arc_value s.waiting ≡ arc_value mapped.now) }
+    ensures entered { IfOk result (λ s. arc_value s.entered ≡ bytes) }
+    ensures sent { IfOk result (λ s. arc_value s.sent ≡ bytes) }
+{
+    let asked = Arc::try_clone(mapped)?;
+    let waiting = Arc::try_clone(mapped)?;
+    let entered = Arc::new(alloc, bytes)?;
+    let sent = Arc::try_clone(&entered)?;
+    Ok(Shares {
+        asked,
+        waiting,
+        entered,
+        sent,
+    })
+}
+
+/// Makes places for so many entries, and in each table for what one exchange adds.
+fn make_places<R: Relation>(
+    journal: &mut Journal<R>,
+    exchanges: &mut Vec<Exchange>,
+    known: &mut Vec<Known>,
+    outbox: &mut Outbox<R>,
+    sends: &mut VecDeque<Datagram>,
+    entries: usize,
+) -> Result<(), AllocError>
+    ensures entries { journal.new.entries ≡ journal.old.entries }
+    ensures kept { journal.old.room ≤ journal.new.room }
+    ensures room { OnOk result (entries ≤ journal.new.room) }
+    ensures exchanges { exchanges.new.items ≡ exchanges.old.items }
+    ensures exchanges_room { OnOk result (vec_len exchanges.new < vec_capacity exchanges.new) }
+    ensures known { known.new.items ≡ known.old.items }
+    ensures known_room { OnOk result (vec_len known.new < vec_capacity known.new) }
+    ensures waiting { outbox.new.waiting ≡ outbox.old.waiting }
+    ensures answers { outbox.new.answers ≡ outbox.old.answers }
+    ensures outbox_room { OnOk result (0 < outbox.new.room) }
+    ensures sends { sends.new.items ≡ sends.old.items }
+    ensures sends_room { OnOk result (deque_len sends.new < deque_capacity sends.new) }
+{
+    journal.make_room(entries)?;
+    exchanges.try_reserve(1)?;
+    known.try_reserve(1)?;
+    outbox.make_room()?;
+    sends.reserve(1)?;
+    Ok(())
+}
+
+/// Enters an ask and the first sending of its message.
+fn enter<R: Relation>(
+    journal: &mut Journal<R>,
+    moment: u64,
+    conn: u32,
+    peer: Peer,
+    asked: Arc<Mapped<R>>,
+    bytes: Arc<Bytes>,
+    timeout: u32,
+)
+    requires { 2 ≤ journal.old.room }
+    ensures entries { journal.new.entries ≡ (journal.old.entries ++ written moment (Asks conn (ask_of (arc_value asked))) ∷ []) ++ written moment (Sends peer (arc_value bytes) (Some timeout)) ∷ [] }
+    ensures room { journal.old.room ≡ journal.new.room + 2 }
+{
+    journal.add(Entry {
+        moment,
+        event: Event::Asked(conn, asked),
+    });
+    journal.add(Entry {
+        moment,
+        event: Event::Sent {
+            peer,
+            bytes,
+            timeout: Some(timeout),
+        },
+    });
+}
+
+impl<R: Relation> Core<R> {
+    /// Opens an exchange for a request, and sends its message.
+    pub(crate) fn begin(
+        &mut self,
+        moment: u64,
+        word: u64,
+        conn: u32,
+        mapped: Arc<Mapped<R>>,
+        peer: Peer,
+    ) -> Result<Ticket<R>, AskFault>
+        requires asks { asked_peer (arc_value mapped).sense ≡ Some peer }
+        requires idle { HasIdle self.old.conns conn }
+        requires unsealed { self.old.sealed ≡ false }
+        requires few { length self.old.exchanges < 256 }
+        ensures ticket { IfOk result (λ t. (t.conn ≡ conn) × (t.number ≡ length self.old.entries) × (arc_value t.mapped ≡ arc_value mapped)) }
+        ensures adds { IfOk result (λ t. (q : CoapRequest) × ((arc_value mapped).sense ≡ Requests q)
+            × OpensExchange (now self.old.moment moment) t.number conn (arc_value mapped) q self.old self.new) }
+        ensures sealed { result ≡ Err AskFault.Sealed → (self.new.sealed ≡ true) × HasNoRoom (arc_value mapped) self.old
+            × (self.new.entries ≡ self.old.entries ++ written (now self.old.moment moment) Seals ∷ [])
+            × (self.new.conns ≡ self.old.conns) × (self.new.exchanges ≡ self.old.exchanges)
+            × (self.new.answers ≡ self.old.answers) × (self.new.sends ≡ self.old.sends) }
+        ensures memory { result ≡ Err AskFault.Memory → self.new ≡ self.old }
+        ensures others { (result ≢ Err AskFault.Unknown) × (result ≢ Err AskFault.Pending) }
+    {
+        let moment = self.last.max(moment.min(1 << 62));
+        let first = (word & 0xffff) as u16;
+        let mid = next_mid(find_known(&self.known, &peer), first);
+        let token = token_of(self.issued, word);
+        let Some(bytes) = mapped.request(self.alloc, mid, &token)? else {
+            unreachable!()
+        };
+        let pending = pending_count(&self.conns) + 1;
+        let size = incoming_size(mapped.came());
+        let more = bytes.len() as u64 + 128;
+        if !self.has_room_for_ask(size, more, pending) {
+            self.seal(moment);
+            return Err(AskFault::Sealed);
+        }
+        let held = self.conns.len() + pending + 1;
+        make_places(
+            &mut self.journal,
+            &mut self.exchanges,
+            &mut self.known,
+            &mut self.outbox,
+            &mut self.sends,
+            held + 2,
+        )?;
+        let shares = shares_of(self.alloc, &mapped, bytes)?;
+
+        let number = self.journal.len() as u32;
+        let timeout = first_timeout(word);
+        enter(
+            &mut self.journal,
+            moment,
+            conn,
+            peer,
+            shares.asked,
+            shares.entered,
+            timeout,
+        );
+        self.exchanges.push_reserved(Exchange {
+            opening: number,
+            since: moment,
+            number: number + 1,
+            peer,
+            mid,
+            token,
+            confirmed: false,
+        });
+        self.issued += 1;
+        use_id(&mut self.known, &peer, first);
+        set_pending(&mut self.conns, conn, Some(number));
+        self.outbox.expect(number, shares.waiting);
+        self.sends.push_back_reserved(Datagram {
+            peer,
+            bytes: shares.sent,
+        });
+        self.bytes = self.bytes.saturating_add(size + more);
+        self.last = moment;
+        Ok(Ticket {
+            conn,
+            number,
+            mapped,
+        })
+    }
+}

@@ -1,0 +1,131 @@
+//! A call that memory was refused is made once more; until then the link is as before.
+
+use crate::tests::{Said, hear, said_by, sends, submit, tick};
+use crate::{Link, LinkFault};
+use coap_codec::Token;
+use std::alloc::Global;
+
+/// Memory was refused, and the link is as before.
+fn is_as_before(link: &mut Link, due: Option<u64>, fault: LinkFault) -> bool {
+    fault == LinkFault::Memory && link.next_due() == due && link.take_send().is_none()
+}
+
+fn submits(link: &mut Link, alloc: Global, token: Token) -> bool {
+    let due = link.next_due();
+    match submit(link, alloc, token, 0, 0) {
+        Ok(()) => true,
+        Err(fault) => is_as_before(link, due, fault) && submit(link, alloc, token, 0, 0).is_ok(),
+    }
+}
+
+fn hears(link: &mut Link, datagram: &[u8], moment: u32) -> Option<Said> {
+    let due = link.next_due();
+    let fault = match link.heard(datagram, u64::from(moment)) {
+        Ok(up) => return Some(said_by(&up)),
+        Err(fault) => fault,
+    };
+    if !is_as_before(link, due, fault) {
+        return None;
+    }
+    hear(link, datagram, moment)
+}
+
+fn ticks(link: &mut Link, moment: u32) -> Option<Said> {
+    let due = link.next_due();
+    let fault = match link.tick(u64::from(moment)) {
+        Ok(up) => return Some(said_by(&up)),
+        Err(fault) => fault,
+    };
+    if !is_as_before(link, due, fault) {
+        return None;
+    }
+    tick(link, moment)
+}
+
+fn expects(link: &mut Link, token: &Token) -> bool {
+    match link.expect(token, true) {
+        Ok(()) => true,
+        Err(fault) => fault == LinkFault::Memory && link.expect(token, true).is_ok(),
+    }
+}
+
+fn copies(link: &Link) -> Option<Link> {
+    match link.copy() {
+        Ok(copy) => Some(copy),
+        Err(LinkFault::Memory) => link.copy().ok(),
+        Err(_) => None,
+    }
+}
+
+/// The datagram tells this, and is answered so.
+fn answers(link: &mut Link, datagram: &[u8], moment: u32, told: Said, answer: &[u8]) -> bool {
+    hears(link, datagram, moment) == Some(told) && sends(link, answer)
+}
+
+/// The tick tells this, and sends this.
+fn sends_at(link: &mut Link, moment: u32, told: Said, datagram: &[u8]) -> bool {
+    ticks(link, moment) == Some(told) && sends(link, datagram)
+}
+
+/// Two messages go out: the first one twice, the second when the first is acknowledged.
+fn sends_two(link: &mut Link, alloc: Global) -> bool {
+    submits(link, alloc, Token::new(&[9]))
+        && sends(link, &[0x41, 1, 0, 0, 9])
+        && submits(link, alloc, Token::new(&[8]))
+        && sends_at(link, 2000, Said::Nothing, &[0x41, 1, 0, 0, 9])
+        && answers(
+            link,
+            &[0x60, 0, 0, 0],
+            2100,
+            Said::Nothing,
+            &[0x41, 1, 0, 1, 8],
+        )
+}
+
+/// A separate response is told once, and what can't be read is reset.
+fn hears_three(link: &mut Link) -> bool {
+    let response = [0x41, 0x45, 0x12, 0x34, 9, 0xc0, 0xff, 0x6f, 0x6e];
+    let ack = [0x60, 0, 0x12, 0x34];
+    answers(link, &response, 2200, Said::Response, &ack)
+        && answers(link, &response, 2300, Said::Nothing, &ack)
+        && answers(
+            link,
+            &[0x49, 1, 0, 7],
+            2400,
+            Said::Nothing,
+            &[0x70, 0, 0, 7],
+        )
+}
+
+/// A response under a token that is expected.
+fn hears_expected(link: &mut Link) -> bool {
+    expects(link, &Token::new(&[6]))
+        && hears(link, &[0x51, 0x45, 0x56, 0x78, 6], 2450) == Some(Said::Response)
+        && link.take_send().is_none()
+}
+
+/// With any one allocation refused, every call gives what it would have given, or Memory and then
+/// that.
+#[test]
+fn memory_refused_once(rt: HostRuntime) {
+    let alloc = rt.alloc();
+    let mut link = Link::new(alloc);
+    assert!(rt; sends_two(&mut link, alloc));
+    assert!(rt; hears_three(&mut link));
+    assert!(rt; hears_expected(&mut link));
+    assert!(rt; submits(&mut link, alloc, Token::new(&[7])));
+    let mut copy = copies(&link).expect(&rt, "a copy");
+    for moment in [4100, 8100, 16100, 32100] {
+        assert!(rt; sends_at(&mut link, moment, Said::Nothing, &[0x41, 1, 0, 1, 8]));
+    }
+    assert!(rt; sends_at(&mut link, 64100, Said::TimedOut, &[0x41, 1, 0, 2, 7]));
+    assert!(rt;
+        answers(
+            &mut copy,
+            &[0x70, 0, 0, 1],
+            2500,
+            Said::Reset,
+            &[0x41, 1, 0, 2, 7]
+        )
+    );
+}

@@ -1,0 +1,83 @@
+//! What a response is good for, faults in words, and shared bytes.
+
+use crate::{Bytes, Fitness, LinkFault, judge};
+use coap_codec::{Message, MsgType, Opt, Token};
+use std::alloc::Global;
+
+/// A response with one option.
+fn response(alloc: Global, number: u16, value: &[u8]) -> Option<Message> {
+    let mut m = Message::new(alloc, MsgType::Non, 69, 0, Token::new(&[]));
+    let option = Opt::new(alloc, number, value).ok()?;
+    m.options.push(option).ok()?;
+    Some(m)
+}
+
+fn judged(alloc: Global, number: u16, value: &[u8]) -> Option<Fitness> {
+    let m = response(alloc, number, value)?;
+    Some(judge(&m))
+}
+
+/// The option stands there twice.
+fn judged_twice(alloc: Global, number: u16, value: &[u8]) -> Option<Fitness> {
+    let mut m = response(alloc, number, value)?;
+    let option = Opt::new(alloc, number, value).ok()?;
+    m.options.push(option).ok()?;
+    Some(judge(&m))
+}
+
+/// A response with this code and an ETag.
+fn judged_code(alloc: Global, code: u8) -> Option<Fitness> {
+    let mut m = response(alloc, 4, &[1])?;
+    m.code = code;
+    Some(judge(&m))
+}
+
+#[test]
+fn options_of_responses(rt: HostRuntime) {
+    let alloc = rt.alloc();
+    assert!(rt; judged(alloc, 23, &[6]) == Some(Fitness::Fits));
+    assert!(rt; judged_twice(alloc, 23, &[6]) == Some(Fitness::Rejected));
+    assert!(rt; judged(alloc, 23, &[7]) == Some(Fitness::Rejected));
+    assert!(rt; judged(alloc, 27, &[0, 0, 0, 0]) == Some(Fitness::Rejected));
+    // defined for requests alone
+    assert!(rt; judged(alloc, 11, &[0x61]) == Some(Fitness::Rejected));
+    assert!(rt; judged(alloc, 6, &[0, 0, 0, 0]) == Some(Fitness::Fits));
+    // unknown ones, unsafe and safe to forward
+    assert!(rt; judged(alloc, 10, &[]) == Some(Fitness::NotUnderstood));
+    assert!(rt; judged(alloc, 16, &[]) == Some(Fitness::Fits));
+}
+
+#[test]
+fn codes_of_responses(rt: HostRuntime) {
+    let alloc = rt.alloc();
+    assert!(rt; judged_code(alloc, 96) == Some(Fitness::NotUnderstood));
+    assert!(rt; judged_code(alloc, 192) == Some(Fitness::Rejected));
+}
+
+fn words(alloc: Global, fault: LinkFault) -> Option<String> {
+    format!(in alloc; "{}", fault).ok()
+}
+
+#[test]
+fn faults_in_words(rt: HostRuntime) {
+    let alloc = rt.alloc();
+    let queue = words(alloc, LinkFault::Queue).expect(&rt, "memory");
+    assert_eq!(rt; queue.as_str(), "64 messages wait for this peer");
+    let numbers = words(alloc, LinkFault::Numbers).expect(&rt, "memory");
+    assert_eq!(rt;
+        numbers.as_str(),
+        "32,768 message IDs of this peer are in use"
+    );
+    let memory = words(alloc, LinkFault::Memory).expect(&rt, "memory");
+    assert_eq!(rt; memory.as_str(), "out of memory");
+}
+
+#[test]
+fn shared_bytes(rt: HostRuntime) {
+    let alloc = rt.alloc();
+    let items = Vec::from_slice(alloc, &[1, 2, 3]).expect(&rt, "memory");
+    let bytes = Bytes::new(alloc, items).expect(&rt, "memory");
+    let again = bytes.share().expect(&rt, "memory");
+    assert_eq!(rt; again.as_slice(), bytes.as_slice());
+    assert_eq!(rt; again.as_slice(), [1, 2, 3].as_slice());
+}
