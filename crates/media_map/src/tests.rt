@@ -1,6 +1,5 @@
 use super::*;
 use std::alloc::Global;
-use std::test::Fail;
 
 const STRICT: Policy = Policy {
     loose: false,
@@ -152,7 +151,7 @@ fn formats_by_number(rt: HostRuntime) {
 }
 
 #[test]
-fn media_types_of_formats(rt: HostRuntime) -> Result<(), Fail> {
+fn media_types_of_formats(rt: HostRuntime) {
     let alloc = rt.alloc();
     let rows: [(u16, &str); 10] = [
         (0, "text/plain;charset=utf-8"),
@@ -167,28 +166,32 @@ fn media_types_of_formats(rt: HostRuntime) -> Result<(), Fail> {
         (65535, "application/coap-payload;cf=65535"),
     ];
     for (format, name) in rows {
-        let media = media_of(alloc, format)?;
+        let media = media_of(alloc, format).expect(&rt, "memory");
         assert_eq!(rt; media.as_str().as_bytes(), name.as_bytes());
         assert_eq!(rt;
             format_of(media.as_str().as_bytes(), PASS),
             Ok(Some(format))
         );
     }
-    Ok(())
+}
+
+// The form of a media type.
+fn media(alloc: Global, name: &str) -> Option<Form> {
+    Some(Form::Media(Media::from_str(alloc, name).ok()?))
 }
 
 // From CBOR to JSON, and from bytes to a text whose charset is written.
-fn demonstration_routes(alloc: Global) -> Result<Routes, Fail> {
+fn demonstration_routes(alloc: Global) -> Option<Routes> {
+    let json = media(alloc, "application/json")?;
+    let again = media(alloc, "application/json")?;
+    let back = media(alloc, "application/json")?;
+    let csv = media(alloc, "text/csv; charset=utf-8")?;
     let mut routes = Routes::new(alloc);
-    let json = Media::from_str(alloc, "application/json")?;
-    routes.push(Form::Format(60), Form::Media(json))?;
-    let again = Media::from_str(alloc, "application/json")?;
-    routes.push(Form::Format(41), Form::Media(again))?;
-    let back = Media::from_str(alloc, "application/json")?;
-    routes.push(Form::Media(back), Form::Format(60))?;
-    let csv = Media::from_str(alloc, "text/csv; charset=utf-8")?;
-    routes.push(Form::Format(42), Form::Media(csv))?;
-    Ok(routes)
+    routes.push(Form::Format(60), json).ok()?;
+    routes.push(Form::Format(41), again).ok()?;
+    routes.push(back, Form::Format(60)).ok()?;
+    routes.push(Form::Format(42), csv).ok()?;
+    Some(routes)
 }
 
 // An Accept, and the format and the media type that are wanted.
@@ -274,19 +277,19 @@ const ACCEPTED: [(&[u8], u16, &str); 26] = [
 ];
 
 #[test]
-fn accepted_formats(rt: HostRuntime) -> Result<(), Fail> {
+fn accepted_formats(rt: HostRuntime) {
     let alloc = rt.alloc();
-    let routes = demonstration_routes(alloc)?;
+    let routes = demonstration_routes(alloc).expect(&rt, "memory");
     for (value, format, media) in ACCEPTED {
-        let wanted = accept_of(alloc, value, STRICT, &routes)?.ok_or("nothing is wanted")?;
+        let answer = accept_of(alloc, value, STRICT, &routes).expect(&rt, "memory");
+        let wanted = answer.expect(&rt, "a format");
         assert_eq!(rt; wanted.format, format);
         assert_eq!(rt; wanted.media.as_str().as_bytes(), media.as_bytes());
     }
-    Ok(())
 }
 
 #[test]
-fn accepted_anything(rt: HostRuntime) -> Result<(), Fail> {
+fn accepted_anything(rt: HostRuntime) {
     let alloc = rt.alloc();
     let routes = Routes::new(alloc);
     let rows: [&[u8]; 17] = [
@@ -309,15 +312,15 @@ fn accepted_anything(rt: HostRuntime) -> Result<(), Fail> {
         b"application/xml;x",
     ];
     for value in rows {
-        assert!(rt; accept_of(alloc, value, STRICT, &routes)?.is_none());
+        let answer = accept_of(alloc, value, STRICT, &routes).expect(&rt, "memory");
+        assert!(rt; answer.is_none());
     }
-    Ok(())
 }
 
 #[test]
-fn accepted_nothing(rt: HostRuntime) -> Result<(), Fail> {
+fn accepted_nothing(rt: HostRuntime) {
     let alloc = rt.alloc();
-    let routes = demonstration_routes(alloc)?;
+    let routes = demonstration_routes(alloc).expect(&rt, "memory");
     let rows: [&[u8]; 11] = [
         b"text/html",
         b"*/*;q=0",
@@ -337,13 +340,12 @@ fn accepted_nothing(rt: HostRuntime) -> Result<(), Fail> {
             Err(MediaFault::Unmapped)
         );
     }
-    Ok(())
 }
 
 #[test]
-fn accepted_by_number(rt: HostRuntime) -> Result<(), Fail> {
+fn accepted_by_number(rt: HostRuntime) {
     let alloc = rt.alloc();
-    let routes = demonstration_routes(alloc)?;
+    let routes = demonstration_routes(alloc).expect(&rt, "memory");
     let numbers: [&[u8]; 2] = [
         b"application/coap-payload;cf=60",
         b"text/html,application/coap-payload;cf=11050;q=0.1",
@@ -358,32 +360,27 @@ fn accepted_by_number(rt: HostRuntime) -> Result<(), Fail> {
             Err(MediaFault::PassThrough)
         );
     }
-    let wanted = accept_of(
-        alloc,
-        b"text/html,application/coap-payload;cf=11050;q=0.1",
-        PASS,
-        &routes,
-    )?;
-    let wanted = wanted.ok_or("nothing is wanted")?;
+    let value = b"text/html,application/coap-payload;cf=11050;q=0.1";
+    let answer = accept_of(alloc, value, PASS, &routes).expect(&rt, "memory");
+    let wanted = answer.expect(&rt, "a format");
     assert_eq!(rt; wanted.format, 11050);
     assert_eq!(rt;
         wanted.media.as_str().as_bytes(),
         b"application/coap-payload;cf=11050".as_slice()
     );
-    Ok(())
 }
 
 #[test]
-fn routes_of_content_types(rt: HostRuntime) -> Result<(), Fail> {
+fn routes_of_content_types(rt: HostRuntime) {
     let alloc = rt.alloc();
-    let routes = demonstration_routes(alloc)?;
+    let routes = demonstration_routes(alloc).expect(&rt, "memory");
     let rows: [&[u8]; 3] = [
         b"application/json",
         b"Application/JSON; charset=utf-8",
         b" application/json;",
     ];
     for value in rows {
-        let route = route_of(value, &routes).ok_or("no route")?;
+        let route = route_of(value, &routes).expect(&rt, "a route");
         assert!(rt; route.1.is_same(&Form::Format(60)));
     }
     let none: [&[u8]; 6] = [
@@ -397,31 +394,32 @@ fn routes_of_content_types(rt: HostRuntime) -> Result<(), Fail> {
     for value in none {
         assert!(rt; route_of(value, &routes).is_none());
     }
-    Ok(())
 }
 
 #[test]
-fn forms_and_routes(rt: HostRuntime) -> Result<(), Fail> {
+fn forms_and_routes(rt: HostRuntime) {
     let alloc = rt.alloc();
-    let routes = demonstration_routes(alloc)?.copy()?;
+    let routes = demonstration_routes(alloc).expect(&rt, "memory");
+    let routes = routes.copy().expect(&rt, "memory");
     assert_eq!(rt; routes.as_slice().len(), 4);
-    let pair = routes.as_slice().first().ok_or("no route")?;
-    let (from, to) = (&pair.0, &pair.1);
+    let (from, to) = routes.as_slice().first().expect(&rt, "a route");
     assert!(rt; from.is_same(&Form::Format(60)));
-    assert!(rt;
-        to.copy()?
-            .is_same(&Form::Media(Media::from_str(alloc, "application/json")?))
-    );
-    assert!(rt; !to.is_same(&Form::Media(Media::from_str(alloc, "application/JSON")?)));
+    let to = to.copy().expect(&rt, "memory");
+    assert!(rt; to.is_same(&media(alloc, "application/json").expect(&rt, "memory")));
+    assert!(rt; !to.is_same(&media(alloc, "application/JSON").expect(&rt, "memory")));
+}
+
+#[test]
+fn wanted_in_words(rt: HostRuntime) {
+    let alloc = rt.alloc();
     let wanted = Wanted {
         format: 47,
-        media: media_of(alloc, 47)?,
+        media: media_of(alloc, 47).expect(&rt, "memory"),
     };
-    assert_eq!(rt; wanted.copy()?, wanted);
-    let text = format!(in alloc; "{} {}", wanted.media, MediaFault::PassThrough)?;
+    assert_eq!(rt; wanted.copy().expect(&rt, "memory"), wanted);
+    let text = format!(in alloc; "{} {}", wanted.media, MediaFault::PassThrough);
     assert_eq!(rt;
-        text.as_bytes(),
+        text.expect(&rt, "memory").as_bytes(),
         b"application/exi coap-payload isn't passed through".as_slice()
     );
-    Ok(())
 }

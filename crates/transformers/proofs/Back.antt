@@ -25,6 +25,7 @@ use Rattle.transformers.proofs.Heads.{head_back}
 use Rattle.transformers.proofs.Items.{read_simple, read_body, item_read, member_read, array_read, map_read}
 use Rattle.transformers.proofs.Texts.{text_read}
 use Rattle.transformers.proofs.Within.{with_member}
+use Rattle.transformers.proofs.Writing.{items_count}
 
 -- ---- one value
 
@@ -95,10 +96,6 @@ items_again levels (d ∷ ds) found rest all =
 
 pub items_back : (levels : ℕ) (ds : List Data) → EachBack levels ds → ItemsReadBack levels ds
 items_back levels ds all rest = items_again levels ds [] rest all
-
-items_count : (ds : List Data) → items_len (items_of ds) ≡ length ds
-items_count [] = refl
-items_count (d ∷ ds) = ap suc (items_count ds)
 
 pub array_back : (levels : ℕ) (ds : List Data) → 0 < levels → ItemsReadBack (levels - 1) ds → ReadsBack levels (array (items_of ds))
 array_back levels ds lt all rest =

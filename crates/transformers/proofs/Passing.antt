@@ -2,6 +2,7 @@
 use Rattle.std.proofs.Common.{◌≡◌, ℕ, zero, suc, ◌+◌, ◌-◌, ◌<◌, ◌≤◌, ◌==◌, length, bytes_eq, true≢false, List, [], ◌∷◌, ◌++◌, Bool, true, false, Option, Some, None, option_map, is_some, refl, sym, ap, ◌∙◌, subst, arith}
 use Rattle.std.proofs.lemmas.Bool.{ne_eqb}
 use Rattle.std.proofs.lemmas.Slice.Eq.{bytes_eq-Decides}
+use Rattle.std.proofs.lemmas.Option.{same_Some}
 use Rattle.serde_json.specs.Data.{Data, Members, no_members, put}
 use Rattle.serde_json.specs.Find.{get_member}
 use Rattle.serde_json.proofs.Views.{get_member-put, get_member-put_other}
@@ -10,7 +11,7 @@ use Rattle.transformers.specs.declared.head.Major.TheVariants.{Array, Map}
 use Rattle.transformers.specs.Item.{◌>>=◌, head_at, key_at, many_at, next_item, next_member, put_new, array_at, map_at, body_at, simple_at, item_at, inner_of, only, denoted}
 use Rattle.transformers.specs.Passing.{IsBehind}
 use Rattle.transformers.proofs.Items.{read_body, inner_is}
-use Rattle.transformers.proofs.Within.{bind_some, some_is}
+use Rattle.transformers.proofs.Within.{bind_some}
 
 -- ---- one piece
 
@@ -78,7 +79,7 @@ Goes {A} c one left o next all = (g : A) × Leads c (many_at one left g next) al
 goes_from : {A : Type 0} (c : Bool) (one : A → List ℕ → Option (A × List ℕ)) (left : ℕ) (found : A) (o : Option (A × List ℕ)) (next : List ℕ) (all : Option (A × List ℕ)) → IsBehind c o (Some next)
     → Leads c (o >>= λ x. many_at one left x.0 x.1) all → Goes c one left o next all
 goes_from {A} c one left found (Some x) next all h leads =
-    let is : x.1 ≡ next = sym (some_is next x.1 h) in
+    let is : x.1 ≡ next = sym (same_Some next x.1 h) in
     (x.0, subst (λ (b : List ℕ). Leads c (many_at one left x.0 b) all) is leads, λ _. ap (λ (b : List ℕ). Some (x.0, b)) is)
 goes_from true one left found None next all h leads = absurd cc
 goes_from false one left found None next all h leads = (found, λ r b. leads r tt, λ e. absurd cc)
@@ -111,7 +112,7 @@ pub one_more : {A : Type 0} (one : A → List ℕ → Option (A × List ℕ)) (n
     → many_at one (n + 1) start bytes ≡ Some y
 unfolding many_at
 one_more {A} one zero start bytes x y e f =
-    let is : (start, bytes) ≡ x = some_is (start, bytes) x e in
+    let is : (start, bytes) ≡ x = same_Some (start, bytes) x e in
     let first : one start bytes ≡ Some y = subst (λ (z : A × List ℕ). one z.0 z.1 ≡ Some y) (sym is) f in
     rw first refl
 one_more {A} one (suc n) start bytes x y e f =
@@ -130,7 +131,7 @@ passes_put false key found v next e true is new = rw is tt
 
 passes_value : (c : Bool) (key : List ℕ) (found : Members) (o : Option (Data × List ℕ)) (next : List ℕ) → IsBehind c o (Some next) → (c ≡ true → is_some (get_member key found) ≡ false)
     → IsBehind c (o >>= λ v. put_new key v.0 found >>= λ all. Some (all, v.1)) (Some next)
-passes_value c key found (Some v) next h new = passes_put c key found v next (sym (some_is next v.1 h)) _ refl new
+passes_value c key found (Some v) next h new = passes_put c key found v next (sym (same_Some next v.1 h)) _ refl new
 passes_value true key found None next h new = absurd cc
 passes_value false key found None next h new = tt
 
@@ -179,7 +180,7 @@ member_parts one count i found bytes x lt e =
     let key = bind_some (key_at bytes) _ b.0 b.1 in
     let value = bind_some (one key.0.1) _ b.0 key.2 in
     let members = bind_some (put_new key.0.0 value.0.0 found) (λ all. Some (all, value.0.1)) b.0 value.2 in
-    let is : (members.0, value.0.1) ≡ b.0 = some_is (members.0, value.0.1) b.0 members.2 in
+    let is : (members.0, value.0.1) ≡ b.0 = same_Some (members.0, value.0.1) b.0 members.2 in
     let left : many_at (next_member one) (count - (i + 1)) members.0 value.0.1 ≡ Some x =
     subst (λ (y : Members × List ℕ). many_at (next_member one) (count - (i + 1)) y.0 y.1 ≡ Some x) (sym is) b.2 in
     (key.0, key.1, record { value = value.0; all = members.0; value_is = value.1; all_is = members.1; left_is = left })
@@ -188,7 +189,7 @@ pub one_more_of : (one : List ℕ → Option (Data × List ℕ)) (count i : ℕ)
     → many_at (next_member one) (count - i) found bytes ≡ Some x → OneMore one (count - (i + 1)) found k x
 one_more_of one count i found bytes k x lt h e =
     let parts = member_parts one count i found bytes x lt e in
-    let same : parts.0 ≡ k = some_is parts.0 k (sym parts.1 ∙ h) in
+    let same : parts.0 ≡ k = same_Some parts.0 k (sym parts.1 ∙ h) in
     subst (λ (l : List ℕ × List ℕ). OneMore one (count - (i + 1)) found l x) same parts.2
 
 pub never_keyless : (one : List ℕ → Option (Data × List ℕ)) (count i : ℕ) (found : Members) (bytes : List ℕ) (x : Members × List ℕ) → i < count → key_at bytes ≡ None
@@ -208,7 +209,7 @@ never_stopped o v e h = let n : None ≡ Some v.1 = behind_value o v None e h in
 pub left_from : (one : List ℕ → Option (Data × List ℕ)) (left : ℕ) (found : Members) (k : List ℕ × List ℕ) (x : Members × List ℕ) (next : List ℕ) (m : OneMore one left found k x) → IsBehind false (one k.1) (Some next)
     → many_at (next_member one) left m.all next ≡ Some x
 left_from one left found k x next m h =
-    let is : next ≡ m.value.1 = some_is next m.value.1 (behind_value (one k.1) m.value (Some next) m.value_is h) in
+    let is : next ≡ m.value.1 = same_Some next m.value.1 (behind_value (one k.1) m.value (Some next) m.value_is h) in
     subst (λ (b : List ℕ). many_at (next_member one) left m.all b ≡ Some x) (sym is) m.left_is
 
 pub at_start : (one : List ℕ → Option (Data × List ℕ)) (count : ℕ) (bytes : List ℕ) (x : Members × List ℕ) → many_at (next_member one) count no_members bytes ≡ Some x
@@ -220,12 +221,12 @@ pub at_end : (one : List ℕ → Option (Data × List ℕ)) (count i : ℕ) (fou
 unfolding many_at
 at_end one count i found bytes x le e =
     let k : count - i ≡ 0 = omega arith in
-    let is : (found, bytes) ≡ x = some_is (found, bytes) x (sym (ap (λ (n : ℕ). many_at (next_member one) n found bytes) k) ∙ e) in
+    let is : (found, bytes) ≡ x = same_Some (found, bytes) x (sym (ap (λ (n : ℕ). many_at (next_member one) n found bytes) k) ∙ e) in
     ap (λ (y : Members × List ℕ). y.0) is
 
 put_is : (key : List ℕ) (d : Data) (found all : Members) (there : Bool) → is_some (get_member key found) ≡ there → put_new key d found ≡ Some all → all ≡ put key d found
 unfolding put_new
-put_is key d found all false is e = sym (some_is (put key d found) all (sym (rw is refl) ∙ e))
+put_is key d found all false is e = sym (same_Some (put key d found) all (sym (rw is refl) ∙ e))
 put_is key d found all true is e = absurd (let n : None ≡ Some all = sym (rw is refl) ∙ e in cc)
 
 pub put_same : (name key : List ℕ) (d : Data) (found all : Members) → key ≡ name → put_new key d found ≡ Some all → is_some (get_member name all) ≡ true
@@ -249,7 +250,7 @@ only_empty d [] = refl
 only_empty d (b ∷ rest) = sym (ne_eqb (length (b ∷ rest)) 0 (λ e. absurd (omega (arith, e))))
 
 whole_some : (o : Option (Data × List ℕ)) (rest : List ℕ) → IsBehind true o (Some rest) → is_some (o >>= λ x. only x.0 x.1) ≡ (length rest == 0)
-whole_some (Some x) rest h = only_empty x.0 x.1 ∙ ap (λ (b : List ℕ). length b == 0) (sym (some_is rest x.1 h))
+whole_some (Some x) rest h = only_empty x.0 x.1 ∙ ap (λ (b : List ℕ). length b == 0) (sym (same_Some rest x.1 h))
 whole_some None rest h = absurd cc
 
 whole_none : (o : Option (Data × List ℕ)) → IsBehind true o None → is_some (o >>= λ x. only x.0 x.1) ≡ false

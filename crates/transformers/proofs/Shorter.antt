@@ -1,22 +1,23 @@
 -- No item that denotes a value is shorter than the one that is written.
-use Rattle.std.proofs.Common.{◌≡◌, ℕ, zero, suc, ◌+◌, ◌*◌, ◌/◌, ◌%◌, ◌-◌, ◌<◌, ◌≤◌, ◌^◌, ◌==◌, negsuc, List, [], ◌∷◌, ◌++◌, length, take, drop, Bool, true, false, cond, ltb, Option, Some, None, Ordering, Less, Equal, Greater, refl, sym, ap, ◌∙◌, subst, arith, ◌⊎◌, inl, inr, is_some, nat_cmp}
+use Rattle.std.proofs.Common.{◌≡◌, ℕ, zero, suc, ◌+◌, ◌*◌, ◌/◌, ◌%◌, ◌-◌, ◌<◌, ◌≤◌, ◌==◌, List, [], ◌∷◌, ◌++◌, length, take, drop, Bool, true, false, cond, ltb, Option, Some, None, Ordering, Less, Equal, Greater, refl, sym, ap, ◌∙◌, subst, arith, inl, inr, is_some, nat_cmp}
 use Rattle.std.proofs.lemmas.Bool.{ltb-true, ltb-false}
 use Rattle.std.proofs.lemmas.List.{length-append, length-take-le, length-drop}
+use Rattle.std.proofs.lemmas.Option.{same_Some}
 use Rattle.std.specs.Cmp.Lexicographic.{slice_cmp}
 use Rattle.std.specs.Ordering.{match_ordering}
 use Rattle.std.specs.Str.{is_utf8}
-use Rattle.serde_json.specs.Data.{Data, null, boolean, number, string, array, object, unsigned, negative, Members, no_members, member, put}
+use Rattle.serde_json.specs.Data.{Data, null, boolean, number, string, array, object, unsigned, Members, no_members, member, put}
 use Rattle.serde_json.specs.Events.{items_len, members_len}
 use Rattle.serde_json.specs.Find.{get_member}
 use Rattle.serde_json.specs.View.{items_of}
 use Rattle.transformers.specs.declared.head.Major.{Major}
 use Rattle.transformers.specs.declared.head.Major.TheVariants.{Unsigned, Negative, Text, Array, Map}
-use Rattle.transformers.specs.Item.{byte_at, two_at, four_at, eight_at, argument_at, major_of, head_at, key_of, key_at, text_at, negative_of, many_at, next_item, next_member, put_new, array_at, map_at, body_at, simple_at, item_in, or_else, item_at, only, denoted}
+use Rattle.transformers.specs.Item.{byte_at, two_at, four_at, eight_at, argument_at, major_of, head_at, key_of, key_at, text_at, negative_of, many_at, next_item, next_member, put_new, array_at, map_at, body_at, simple_at, item_in, item_at, only, denoted}
 use Rattle.transformers.specs.Kinds.{IsBytes}
 use Rattle.transformers.specs.Shortest.{four_bytes, eight_bytes, shortest_head, text_bytes, shortest, items_bytes, members_bytes}
 use Rattle.transformers.proofs.Items.{item_is}
-use Rattle.transformers.proofs.Within.{bind_some, some_is}
-use Rattle.transformers.proofs.Writing.{items_more}
+use Rattle.transformers.proofs.Within.{bind_some, either, one_of, negative_is, alone}
+use Rattle.transformers.proofs.Writing.{items_count, items_more}
 
 -- a number below a bound in so many bytes of the front
 pub record Takes (k bound : ℕ) (bytes : List ℕ) (x : ℕ × List ℕ) : Type 0 where
@@ -27,7 +28,7 @@ pub record Takes (k bound : ℕ) (bytes : List ℕ) (x : ℕ × List ℕ) : Type
 byte_takes : (bytes : List ℕ) (x : ℕ × List ℕ) → IsBytes bytes → byte_at bytes ≡ Some x → Takes 1 256 bytes x
 byte_takes [] x ok e = absurd cc
 byte_takes (b ∷ bytes) x ok e =
-    subst (λ (y : ℕ × List ℕ). Takes 1 256 (b ∷ bytes) y) (some_is (b, bytes) x e) (record { small = ok.0; count = omega arith; octets = ok.1 })
+    subst (λ (y : ℕ × List ℕ). Takes 1 256 (b ∷ bytes) y) (same_Some (b, bytes) x e) (record { small = ok.0; count = omega arith; octets = ok.1 })
 
 two_takes : (bytes : List ℕ) (x : ℕ × List ℕ) → IsBytes bytes → two_at bytes ≡ Some x → Takes 2 65536 bytes x
 unfolding two_at
@@ -36,7 +37,7 @@ two_takes bytes x ok e =
     let s = byte_takes bytes a.0 ok a.1 in
     let b = bind_some (byte_at a.0.1) (λ low. Some (256 * a.0.0 + low.0, low.1)) x a.2 in
     let t = byte_takes a.0.1 b.0 s.octets b.1 in
-    subst (λ (y : ℕ × List ℕ). Takes 2 65536 bytes y) (some_is (256 * a.0.0 + b.0.0, b.0.1) x b.2)
+    subst (λ (y : ℕ × List ℕ). Takes 2 65536 bytes y) (same_Some (256 * a.0.0 + b.0.0, b.0.1) x b.2)
     (record { small = omega (arith, s.small, t.small); count = omega (arith, s.count, t.count); octets = t.octets })
 
 four_takes : (bytes : List ℕ) (x : ℕ × List ℕ) → IsBytes bytes → four_at bytes ≡ Some x → Takes 4 4294967296 bytes x
@@ -46,7 +47,7 @@ four_takes bytes x ok e =
     let s = two_takes bytes a.0 ok a.1 in
     let b = bind_some (two_at a.0.1) (λ low. Some (65536 * a.0.0 + low.0, low.1)) x a.2 in
     let t = two_takes a.0.1 b.0 s.octets b.1 in
-    subst (λ (y : ℕ × List ℕ). Takes 4 4294967296 bytes y) (some_is (65536 * a.0.0 + b.0.0, b.0.1) x b.2)
+    subst (λ (y : ℕ × List ℕ). Takes 4 4294967296 bytes y) (same_Some (65536 * a.0.0 + b.0.0, b.0.1) x b.2)
     (record { small = omega (arith, s.small, t.small); count = omega (arith, s.count, t.count); octets = t.octets })
 
 eight_takes : (bytes : List ℕ) (x : ℕ × List ℕ) → IsBytes bytes → eight_at bytes ≡ Some x → Takes 8 18446744073709551616 bytes x
@@ -56,7 +57,7 @@ eight_takes bytes x ok e =
     let s = four_takes bytes a.0 ok a.1 in
     let b = bind_some (four_at a.0.1) (λ low. Some (4294967296 * a.0.0 + low.0, low.1)) x a.2 in
     let t = four_takes a.0.1 b.0 s.octets b.1 in
-    subst (λ (y : ℕ × List ℕ). Takes 8 18446744073709551616 bytes y) (some_is (4294967296 * a.0.0 + b.0.0, b.0.1) x b.2)
+    subst (λ (y : ℕ × List ℕ). Takes 8 18446744073709551616 bytes y) (same_Some (4294967296 * a.0.0 + b.0.0, b.0.1) x b.2)
     (record { small = omega (arith, s.small, t.small); count = omega (arith, s.count, t.count); octets = t.octets })
 
 -- ---- the length of the shortest head
@@ -109,17 +110,13 @@ pub record AtLeast (text bytes rest : List ℕ) : Type 0 where
   pub count : length text + length rest ≤ length bytes
   pub octets : IsBytes rest
 
-either : {A : Type 0} (b : Bool) (x y : Option A) (z : A) → cond b x y ≡ Some z → ((b ≡ true) × (x ≡ Some z)) ⊎ ((b ≡ false) × (y ≡ Some z))
-either true x y z e = inl (refl, e)
-either false x y z e = inr (refl, e)
-
 -- the argument in the bytes behind the first
 argument_least : (m : Major) (information : ℕ) (bytes : List ℕ) (x : ℕ × List ℕ) → IsBytes bytes → argument_at information bytes ≡ Some x
     → (length (shortest_head m x.0) + length x.1 ≤ suc (length bytes)) × IsBytes x.1
 unfolding argument_at
 argument_least m i bytes x ok e = elim (either (ltb i 24) (Some (i, bytes)) _ x e) [
   | inl f ↦
-      (let is = some_is (i, bytes) x f.1 in
+      (let is = same_Some (i, bytes) x f.1 in
       subst (λ (y : ℕ × List ℕ). (length (shortest_head m y.0) + length y.1 ≤ suc (length bytes)) × IsBytes y.1) is
       (omega (arith, head1 m i (ltb-true i 24 f.0)), ok))
   | inr f ↦ elim (either (i == 24) (byte_at bytes) _ x f.1) [
@@ -145,7 +142,7 @@ head_least bytes h ok e =
     let major = bind_some (major_of (first.0.0 / 32)) _ h first.2 in
     let argument = bind_some (argument_at (first.0.0 % 32) first.0.1) (λ a. Some (major.0, a.0, a.1)) h major.2 in
     let t = argument_least major.0 (first.0.0 % 32) first.0.1 argument.0 s.octets argument.1 in
-    subst (λ (y : Major × ℕ × List ℕ). AtLeast (shortest_head y.0 y.1) bytes y.2) (some_is (major.0, argument.0.0, argument.0.1) h argument.2)
+    subst (λ (y : Major × ℕ × List ℕ). AtLeast (shortest_head y.0 y.1) bytes y.2) (same_Some (major.0, argument.0.0, argument.0.1) h argument.2)
     (record { count = omega (arith, t.0, s.count); octets = t.1 })
 
 -- ---- texts
@@ -165,7 +162,7 @@ text_least n bytes t ok e = elim (either (ltb (length bytes) n) None _ t e) [
         (let le : n ≤ length bytes = ltb-false (length bytes) n f.0 in
         let front : length (take n bytes) ≡ n = length-take-le n bytes le in
         let back : length (drop n bytes) ≡ length bytes - n = length-drop n bytes in
-        subst (λ (y : List ℕ × List ℕ). (length y.0 ≡ n) × (length y.0 + length y.1 ≡ length bytes) × IsBytes y.1) (some_is (take n bytes, drop n bytes) t g.1)
+        subst (λ (y : List ℕ × List ℕ). (length y.0 ≡ n) × (length y.0 + length y.1 ≡ length bytes) × IsBytes y.1) (same_Some (take n bytes, drop n bytes) t g.1)
         (front, omega (arith, front, back, le), bytes_drop n bytes ok))
     | inr g ↦ absurd cc
   ]
@@ -212,14 +209,14 @@ next_item_least one least found bytes y ok e =
     let longer : length (items_bytes (items_of (found ++ b.0.0 ∷ []))) ≡ length (items_bytes (items_of found)) + length (shortest b.0.0) =
     ap length (items_more found b.0.0) ∙ length-append (items_bytes (items_of found)) (shortest b.0.0) in
     let one_more : length (found ++ b.0.0 ∷ []) ≡ length found + 1 = length-append found (b.0.0 ∷ []) in
-    subst (λ (z : List Data × List ℕ). ItemsLeast 1 found bytes z) (some_is (found ++ b.0.0 ∷ [], b.0.1) y b.2)
+    subst (λ (z : List Data × List ℕ). ItemsLeast 1 found bytes z) (same_Some (found ++ b.0.0 ∷ [], b.0.1) y b.2)
     (record { count = omega (arith, longer, s.count); octets = s.octets; more = one_more })
 
 items_least : (one : List ℕ → Option (Data × List ℕ)) → ReadsLeast one → (n : ℕ) (found : List Data) (bytes : List ℕ) (y : List Data × List ℕ) → IsBytes bytes
     → many_at (next_item one) n found bytes ≡ Some y → ItemsLeast n found bytes y
 unfolding many_at
 items_least one least zero found bytes y ok e =
-    subst (λ (z : List Data × List ℕ). ItemsLeast 0 found bytes z) (some_is (found, bytes) y e) (record { count = omega arith; octets = ok; more = omega arith })
+    subst (λ (z : List Data × List ℕ). ItemsLeast 0 found bytes z) (same_Some (found, bytes) y e) (record { count = omega arith; octets = ok; more = omega arith })
 items_least one least (suc n) found bytes y ok e =
     let b = bind_some (next_item one found bytes) (λ x. many_at (next_item one) n x.0 x.1) y e in
     let s = next_item_least one least found bytes b.0 ok b.1 in
@@ -252,7 +249,7 @@ put_new_bytes : (k : List ℕ) (d : Data) (ms all : Members) → put_new k d ms 
 unfolding put_new
 put_new_bytes k d ms all e = elim (either (is_some (get_member k ms)) None (Some (put k d ms)) all e) [
   | inl f ↦ absurd cc
-  | inr f ↦ subst (λ (r : Members). MoreBytes k d ms r) (some_is (put k d ms) all f.1) (put_bytes k d ms f.0)
+  | inr f ↦ subst (λ (r : Members). MoreBytes k d ms r) (same_Some (put k d ms) all f.1) (put_bytes k d ms f.0)
 ]
 
 pub record MembersLeast (n : ℕ) (found : Members) (bytes : List ℕ) (y : Members × List ℕ) : Type 0 where
@@ -270,23 +267,19 @@ next_member_least one least found bytes y ok e =
     let s = least key.0.1 value.0 r.octets value.1 in
     let members = bind_some (put_new key.0.0 value.0.0 found) (λ all. Some (all, value.0.1)) y value.2 in
     let t = put_new_bytes key.0.0 value.0.0 found members.0 members.1 in
-    subst (λ (z : Members × List ℕ). MembersLeast 1 found bytes z) (some_is (members.0, value.0.1) y members.2)
+    subst (λ (z : Members × List ℕ). MembersLeast 1 found bytes z) (same_Some (members.0, value.0.1) y members.2)
     (record { count = omega (arith, r.count, s.count, t.0); octets = s.octets; more = omega (arith, t.1) })
 
 members_least : (one : List ℕ → Option (Data × List ℕ)) → ReadsLeast one → (n : ℕ) (found : Members) (bytes : List ℕ) (y : Members × List ℕ) → IsBytes bytes
     → many_at (next_member one) n found bytes ≡ Some y → MembersLeast n found bytes y
 unfolding many_at
 members_least one least zero found bytes y ok e =
-    subst (λ (z : Members × List ℕ). MembersLeast 0 found bytes z) (some_is (found, bytes) y e) (record { count = omega arith; octets = ok; more = omega arith })
+    subst (λ (z : Members × List ℕ). MembersLeast 0 found bytes z) (same_Some (found, bytes) y e) (record { count = omega arith; octets = ok; more = omega arith })
 members_least one least (suc n) found bytes y ok e =
     let b = bind_some (next_member one found bytes) (λ x. many_at (next_member one) n x.0 x.1) y e in
     let s = next_member_least one least found bytes b.0 ok b.1 in
     let t = members_least one least n b.0.0 b.0.1 y s.octets b.2 in
     record { count = omega (arith, s.count, t.count); octets = t.octets; more = omega (arith, s.more, t.more) }
-
-items_count : (ds : List Data) → items_len (items_of ds) ≡ length ds
-items_count [] = refl
-items_count (d ∷ ds) = ap suc (items_count ds)
 
 array_least : (one : List ℕ → Option (Data × List ℕ)) → ReadsLeast one → (n : ℕ) (bytes rest : List ℕ) (x : Data × List ℕ) → AtLeast (shortest_head Array n) bytes rest
     → array_at one n rest ≡ Some x → AtLeast (shortest x.0) bytes x.1
@@ -298,7 +291,7 @@ array_least one least n bytes rest x head e =
     let same : shortest_head Array (items_len (items_of b.0.0)) ≡ shortest_head Array n = ap (shortest_head Array) counted in
     let whole : length (shortest (array (items_of b.0.0))) ≡ length (shortest_head Array n) + length (items_bytes (items_of b.0.0)) =
     length-append (shortest_head Array (items_len (items_of b.0.0))) (items_bytes (items_of b.0.0)) ∙ ap (λ (h : List ℕ). length h + length (items_bytes (items_of b.0.0))) same in
-    subst (λ (y : Data × List ℕ). AtLeast (shortest y.0) bytes y.1) (some_is (array (items_of b.0.0), b.0.1) x b.2)
+    subst (λ (y : Data × List ℕ). AtLeast (shortest y.0) bytes y.1) (same_Some (array (items_of b.0.0), b.0.1) x b.2)
     (record { count = omega (arith, whole, head.count, t.count); octets = t.octets })
 
 map_least : (one : List ℕ → Option (Data × List ℕ)) → ReadsLeast one → (n : ℕ) (bytes rest : List ℕ) (x : Data × List ℕ) → AtLeast (shortest_head Map n) bytes rest
@@ -311,7 +304,7 @@ map_least one least n bytes rest x head e =
     let same : shortest_head Map (members_len b.0.0) ≡ shortest_head Map n = ap (shortest_head Map) counted in
     let whole : length (shortest (object b.0.0)) ≡ length (shortest_head Map n) + length (members_bytes b.0.0) =
     length-append (shortest_head Map (members_len b.0.0)) (members_bytes b.0.0) ∙ ap (λ (h : List ℕ). length h + length (members_bytes b.0.0)) same in
-    subst (λ (y : Data × List ℕ). AtLeast (shortest y.0) bytes y.1) (some_is (object b.0.0, b.0.1) x b.2)
+    subst (λ (y : Data × List ℕ). AtLeast (shortest y.0) bytes y.1) (same_Some (object b.0.0, b.0.1) x b.2)
     (record { count = omega (arith, whole, head.count, t.count); octets = t.octets })
 
 -- ---- items
@@ -322,11 +315,11 @@ simple_least [] x ok e = absurd cc
 simple_least (b ∷ bytes) x ok e =
     let P : Data × List ℕ → Type 0 = λ y. AtLeast (shortest y.0) (b ∷ bytes) y.1 in
     elim (either (b == 244) (Some (boolean false, bytes)) _ x e) [
-      | inl f ↦ subst P (some_is (boolean false, bytes) x f.1) (record { count = omega arith; octets = ok.1 })
+      | inl f ↦ subst P (same_Some (boolean false, bytes) x f.1) (record { count = omega arith; octets = ok.1 })
       | inr f ↦ elim (either (b == 245) (Some (boolean true, bytes)) _ x f.1) [
-        | inl g ↦ subst P (some_is (boolean true, bytes) x g.1) (record { count = omega arith; octets = ok.1 })
+        | inl g ↦ subst P (same_Some (boolean true, bytes) x g.1) (record { count = omega arith; octets = ok.1 })
         | inr g ↦ elim (either (b == 246) (Some (null, bytes)) None x g.1) [
-          | inl h ↦ subst P (some_is (null, bytes) x h.1) (record { count = omega arith; octets = ok.1 })
+          | inl h ↦ subst P (same_Some (null, bytes) x h.1) (record { count = omega arith; octets = ok.1 })
           | inr h ↦ absurd cc
         ]
       ]
@@ -336,32 +329,21 @@ InnerLeast : Option (List ℕ → Option (Data × List ℕ)) → Type 0
 InnerLeast None = Unit {0}
 InnerLeast (Some one) = ReadsLeast one
 
-negative_is : (n : ℕ) (d : Data) → negative_of n ≡ Some d → number (negative (negsuc n)) ≡ d
-unfolding negative_of
-negative_is n d e = elim (either (ltb n (2 ^ 63)) (Some (number (negative (negsuc n)))) None d e) [
-  | inl f ↦ some_is (number (negative (negsuc n))) d f.1
-  | inr f ↦ absurd cc
-]
-
 body_least : (inner : Option (List ℕ → Option (Data × List ℕ))) → InnerLeast inner → (major : Major) (n : ℕ) (bytes rest : List ℕ) (x : Data × List ℕ)
     → AtLeast (shortest_head major n) bytes rest → body_at inner major n rest ≡ Some x → AtLeast (shortest x.0) bytes x.1
 unfolding InnerLeast
-body_least inner least Unsigned n bytes rest x head e = subst (λ (y : Data × List ℕ). AtLeast (shortest y.0) bytes y.1) (some_is (number (unsigned n), rest) x e) head
+body_least inner least Unsigned n bytes rest x head e = subst (λ (y : Data × List ℕ). AtLeast (shortest y.0) bytes y.1) (same_Some (number (unsigned n), rest) x e) head
 body_least inner least Negative n bytes rest x head e =
     let b = bind_some (negative_of n) (λ d. Some (d, rest)) x e in
     let here = subst (λ (d : Data). AtLeast (shortest d) bytes rest) (negative_is n b.0 b.1) head in
-    subst (λ (y : Data × List ℕ). AtLeast (shortest y.0) bytes y.1) (some_is (b.0, rest) x b.2) here
+    subst (λ (y : Data × List ℕ). AtLeast (shortest y.0) bytes y.1) (same_Some (b.0, rest) x b.2) here
 body_least inner least Text n bytes rest x head e =
     let b = bind_some (text_at n rest) (λ t. Some (string t.0, t.1)) x e in
-    subst (λ (y : Data × List ℕ). AtLeast (shortest y.0) bytes y.1) (some_is (string b.0.0, b.0.1) x b.2) (text_item_least n bytes rest b.0 head b.1)
+    subst (λ (y : Data × List ℕ). AtLeast (shortest y.0) bytes y.1) (same_Some (string b.0.0, b.0.1) x b.2) (text_item_least n bytes rest b.0 head b.1)
 body_least None least Array n bytes rest x head e = absurd cc
 body_least (Some one) least Array n bytes rest x head e = array_least one least n bytes rest x head e
 body_least None least Map n bytes rest x head e = absurd cc
 body_least (Some one) least Map n bytes rest x head e = map_least one least n bytes rest x head e
-
-one_of : {A : Type 0} (a b : Option A) (x : A) → or_else a b ≡ Some x → (a ≡ Some x) ⊎ (b ≡ Some x)
-one_of (Some y) b x e = inl e
-one_of None b x e = inr e
 
 in_least : (inner : Option (List ℕ → Option (Data × List ℕ))) → InnerLeast inner → (bytes : List ℕ) (x : Data × List ℕ) → IsBytes bytes → item_in inner bytes ≡ Some x → AtLeast (shortest x.0) bytes x.1
 in_least inner least bytes x ok e = elim (one_of (simple_at bytes) _ x e) [
@@ -376,13 +358,9 @@ unfolding InnerLeast
 item_least zero bytes x ok e = in_least None tt bytes x ok (sym (item_is zero bytes) ∙ e)
 item_least (suc levels) bytes x ok e = in_least (Some (item_at levels)) (λ bs y k f. item_least levels bs y k f) bytes x ok (sym (item_is (suc levels) bytes) ∙ e)
 
-alone_is : (c : Data) (rest : List ℕ) (d : Data) → only c rest ≡ Some d → c ≡ d
-alone_is c [] d e = some_is c d e
-alone_is c (b ∷ rest) d e = absurd cc
-
 pub shortest_least : (bytes : List ℕ) (d : Data) → IsBytes bytes → denoted bytes ≡ Some d → length (shortest d) ≤ length bytes
 unfolding denoted
 shortest_least bytes d ok e =
     let b = bind_some (item_at 32 bytes) (λ x. only x.0 x.1) d e in
     let s = item_least 32 bytes b.0 ok b.1 in
-    subst (λ (c : Data). length (shortest c) ≤ length bytes) (alone_is b.0.0 b.0.1 d b.2) (omega (arith, s.count))
+    subst (λ (c : Data). length (shortest c) ≤ length bytes) (alone b.0.0 b.0.1 d b.2) (omega (arith, s.count))

@@ -1,26 +1,30 @@
 -- What is written for one more item or member.
-use Rattle.std.proofs.Common.{◌≡◌, ℕ, ◌+◌, ◌<◌, length, take, map, get_or, List, [], ◌∷◌, ◌++◌, string_bytes, refl, sym, ap, ◌∙◌, append_assoc, append-nil}
+use Rattle.std.proofs.Common.{◌≡◌, ℕ, suc, ◌+◌, ◌<◌, length, take, map, get_or, List, [], ◌∷◌, ◌++◌, String, Global, string_bytes, refl, sym, ap, ◌∙◌, append_assoc, append-nil}
 use Rattle.serde_json.specs.Data.{Data, array, object}
 use Rattle.serde_json.specs.declared.value.Value.{Value}
 use Rattle.std.proofs.lemmas.List.{map_more}
+use Rattle.serde_json.specs.Events.{items_len}
 use Rattle.serde_json.specs.View.{view, items_of, items_view, members_view}
 use Rattle.serde_json.proofs.Views.{Entry, items_len-items_view, members_len-members_view}
 use Rattle.transformers.specs.declared.head.Major.TheVariants.{Array, Map}
 use Rattle.transformers.specs.Shortest.{shortest, shortest_head, items_bytes, members_bytes, text_bytes}
 
+pub items_count : (ds : List Data) → items_len (items_of ds) ≡ length ds
+items_count [] = refl
+items_count (d ∷ ds) = ap suc (items_count ds)
+
 pub items_more : (ds : List Data) (d : Data) → items_bytes (items_of (ds ++ d ∷ [])) ≡ items_bytes (items_of ds) ++ shortest d
 items_more [] d = append-nil (shortest d)
 items_more (e ∷ ds) d = ap (λ (t : List ℕ). shortest e ++ t) (items_more ds d) ∙ sym (append_assoc (shortest e) (items_bytes (items_of ds)) (shortest d))
 
--- what is written, with what the members that are left will add, where one of them is written
-pub one_written : (old mid new total : List ℕ) (e : Entry) (left next : List Entry) → old ++ members_bytes (members_view left) ≡ total → left ≡ e ∷ next
-    → mid ≡ old ++ text_bytes (string_bytes e.0) → new ≡ mid ++ shortest (view e.1) → new ++ members_bytes (members_view next) ≡ total
-one_written old mid new total e left next before is key value =
-    let k = text_bytes (string_bytes e.0) in
-    let v = shortest (view e.1) in
+-- what is written, with what the members that are left will add, where the first of them is written
+pub member_written : (old new total : List ℕ) (key : String Global) (member : Value) (left next : List Entry) → old ++ members_bytes (members_view left) ≡ total → left ≡ (key, member) ∷ next
+    → new ≡ old ++ (text_bytes (string_bytes key) ++ shortest (view member)) → new ++ members_bytes (members_view next) ≡ total
+member_written old new total key member left next before is one =
+    let k = text_bytes (string_bytes key) in
+    let v = shortest (view member) in
     let rest = members_bytes (members_view next) in
-    let both : new ≡ (old ++ k) ++ v = value ∙ ap (λ (t : List ℕ). t ++ v) key in
-    ap (λ (t : List ℕ). t ++ rest) both ∙ append_assoc (old ++ k) v rest ∙ append_assoc old k (v ++ rest)
+    ap (λ (t : List ℕ). t ++ rest) one ∙ append_assoc old (k ++ v) rest ∙ ap (λ (t : List ℕ). old ++ t) (append_assoc k v rest)
     ∙ ap (λ (es : List Entry). old ++ members_bytes (members_view es)) (sym is)
     ∙ before
 

@@ -1,6 +1,7 @@
 -- What CBOR bytes denote (RFC 8949 section 3), in this profile: whole numbers of -2^63 to 2^64 - 1, text, arrays, maps whose keys are
 -- texts that differ, false, true and null. A value is one of `serde_json`.
 use Rattle.std.specs.Prelude.{ℕ, zero, suc, ◌+◌, ◌*◌, ◌/◌, ◌%◌, ◌^◌, ◌==◌, ◌++◌, negsuc, List, [], ◌∷◌, length, take, drop, true, false, ltb, if◌then◌else◌, Option, Some, None, is_some}
+use Rattle.std.specs.Option.{option_or}
 use Rattle.std.specs.Str.{is_utf8}
 use Rattle.serde_json.specs.Data.{unsigned, negative, Data, null, boolean, number, string, array, object, Members, no_members, put}
 use Rattle.serde_json.specs.Find.{get_member}
@@ -12,10 +13,6 @@ infixl 10 ◌>>=◌
 abbrev pub ◌>>=◌ : {A B : Type 0} → Option A → (A → Option B) → Option B
 (Some x) >>= f = f x
 None >>= f = None
-
-abbrev pub or_else : {A : Type 0} → Option A → Option A → Option A
-or_else (Some x) other = Some x
-or_else None other = other
 
 -- ---- the head of an item: its major type and its argument (section 3)
 
@@ -134,7 +131,7 @@ simple_at (b ∷ bytes) =
     if b == 246 then Some (null, bytes) else None))
 
 abbrev pub item_in : Option (List ℕ → Option (Data × List ℕ)) → List ℕ → Option (Data × List ℕ)
-item_in inner bytes = or_else (simple_at bytes) (head_at bytes >>= λ h. body_at inner h.0 h.1 h.2)
+item_in inner bytes = option_or (simple_at bytes) (head_at bytes >>= λ h. body_at inner h.0 h.1 h.2)
 
 -- the item at the front, with at most so many arrays and maps within each other, and what follows
 unfoldable pub item_at : ℕ → List ℕ → Option (Data × List ℕ)

@@ -1,4 +1,4 @@
-ghost use Rattle.std.specs.Prelude.{◌≡◌, ◌++◌, ◌*◌, OnOk};
+ghost use Rattle.std.specs.Prelude.{◌≡◌, ◌++◌, ◌*◌, OnOk, string_bytes};
 ghost use Rattle.serde_json.specs.View.{items_view, members_view, number_view, view};
 ghost use Rattle.transformers.specs.Shortest.{eight_bytes, four_bytes, items_bytes, members_bytes, number_bytes, number_of, shortest, shortest_head, text_bytes, two_bytes};
 
@@ -130,13 +130,21 @@ fn put_items(out: &mut Vec<u8>, items: &Vec<Value>) -> Result<(), AllocError>
 }
 
 #[cycle(put)]
+#[tactic(auto, using(crate::proofs::Writing::member_written))]
 fn put_members(out: &mut Vec<u8>, members: &Map<String, Value>) -> Result<(), AllocError>
     ensures { OnOk result (out.new.items ≡ out.old.items ++ members_bytes (members_view members.now.entries)) }
 {
     let mut left = members.iter();
     'each: while let Some((key, member)) = left.next() {
-        put_text(out, key.as_str())?;
-        put(out, member)?;
+        put_member(out, key, member)?;
     }
     Ok(())
+}
+
+#[cycle(put)]
+fn put_member(out: &mut Vec<u8>, key: &String, member: &Value) -> Result<(), AllocError>
+    ensures { OnOk result (out.new.items ≡ out.old.items ++ (text_bytes (string_bytes key.now) ++ shortest (view member.now))) }
+{
+    put_text(out, key.as_str())?;
+    put(out, member)
 }

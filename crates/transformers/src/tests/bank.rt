@@ -4,7 +4,6 @@ use crate::{
 };
 use media_map::Form;
 use std::alloc::Global;
-use std::test::Fail;
 
 struct Formats;
 
@@ -25,85 +24,78 @@ const OCTETS: Form = Form::Format(42);
 const TEXT: Form = Form::Format(0);
 
 #[test]
-fn several_kinds(rt: HostRuntime) -> Result<(), Fail> {
+fn several_kinds(rt: HostRuntime) {
     let alloc: Global = rt.alloc();
     let mut all: Vec<Stored<Formats>> = Vec::new(alloc);
-    let to_json: Call = Box::new(alloc, move |x: &[u8]| cbor_json(alloc, x))?;
-    store(&mut all, Stored::new(CBOR, JSON, to_json))?;
-    let to_cbor: Call = Box::new(alloc, move |x: &[u8]| json_cbor(alloc, x))?;
-    store(&mut all, Stored::new(JSON, CBOR, to_cbor))?;
-    let to_hex: Call = Box::new(alloc, move |x: &[u8]| octets_hex(alloc, x))?;
-    store(&mut all, Stored::new(OCTETS, TEXT, to_hex))?;
-    let second: Call = Box::new(alloc, |_: &[u8]| Err(Refused::Memory))?;
-    store(&mut all, Stored::new(CBOR, JSON, second))?;
+    let to_json: Call = Box::new(alloc, move |x: &[u8]| cbor_json(alloc, x)).expect(&rt, "memory");
+    store(&mut all, Stored::new(CBOR, JSON, to_json)).expect(&rt, "memory");
+    let to_cbor: Call = Box::new(alloc, move |x: &[u8]| json_cbor(alloc, x)).expect(&rt, "memory");
+    store(&mut all, Stored::new(JSON, CBOR, to_cbor)).expect(&rt, "memory");
+    let to_hex: Call = Box::new(alloc, move |x: &[u8]| octets_hex(alloc, x)).expect(&rt, "memory");
+    store(&mut all, Stored::new(OCTETS, TEXT, to_hex)).expect(&rt, "memory");
+    let second: Call = Box::new(alloc, |_: &[u8]| Err(Refused::Memory)).expect(&rt, "memory");
+    store(&mut all, Stored::new(CBOR, JSON, second)).expect(&rt, "memory");
     let bank = Bank::new(all);
 
-    let routes = bank.routes()?;
+    let routes = bank.routes().expect(&rt, "memory");
     assert_eq!(rt; routes.as_slice().len(), 4);
-    let json = bank
-        .apply(&CBOR, &JSON, &[0xa1, 0x61, 0x61, 0x01])?
-        .ok_or("no pair")?;
+    let made = bank.apply(&CBOR, &JSON, &[0xa1, 0x61, 0x61, 0x01]);
+    let json = made.expect(&rt, "an output").expect(&rt, "a pair");
     assert_eq!(rt; json.as_slice(), b"{\"a\":1}".as_slice());
-    let item = bank.apply(&JSON, &CBOR, &json)?.ok_or("no pair")?;
+    let made = bank.apply(&JSON, &CBOR, &json);
+    let item = made.expect(&rt, "an output").expect(&rt, "a pair");
     assert_eq!(rt; item.as_slice(), [0xa1, 0x61, 0x61, 0x01].as_slice());
     assert_eq!(rt;
         bank.apply(&CBOR, &JSON, &[0xf9, 0x3c, 0x00]).err(),
         Some(ApplyFault::Refused)
     );
-    assert_eq!(rt; bank.apply(&JSON, &TEXT, b"1")?.is_none(), true);
-    Ok(())
+    let made = bank.apply(&JSON, &TEXT, b"1");
+    assert!(rt; made.expect(&rt, "no fault").is_none());
 }
 
 #[test]
-fn largest(rt: HostRuntime) -> Result<(), Fail> {
+fn largest(rt: HostRuntime) {
     let alloc: Global = rt.alloc();
     let mut all: Vec<Stored<Formats>> = Vec::new(alloc);
-    let to_hex: Call = Box::new(alloc, move |x: &[u8]| octets_hex(alloc, x))?;
-    store(&mut all, Stored::new(OCTETS, TEXT, to_hex))?;
-    let no_memory: Call = Box::new(alloc, |_: &[u8]| Err(Refused::Memory))?;
-    store(&mut all, Stored::new(CBOR, JSON, no_memory))?;
+    let to_hex: Call = Box::new(alloc, move |x: &[u8]| octets_hex(alloc, x)).expect(&rt, "memory");
+    store(&mut all, Stored::new(OCTETS, TEXT, to_hex)).expect(&rt, "memory");
+    let no_memory: Call = Box::new(alloc, |_: &[u8]| Err(Refused::Memory)).expect(&rt, "memory");
+    store(&mut all, Stored::new(CBOR, JSON, no_memory)).expect(&rt, "memory");
     let bank = Bank::new(all);
 
     let mut octets = Vec::new(alloc);
-    octets.resize(32_768, 7)?;
+    octets.resize(32_768, 7).expect(&rt, "memory");
+    let made = bank.apply(&OCTETS, &TEXT, &octets);
+    let most = made.expect(&rt, "an output").expect(&rt, "a pair");
+    assert_eq!(rt; most.len(), 65_536);
+    octets.push(7).expect(&rt, "memory");
     assert_eq!(rt;
-        bank.apply(&OCTETS, &TEXT, &octets)?.ok_or("no pair")?.len(),
-        65_536
+        bank.apply(&OCTETS, &TEXT, &octets).err(),
+        Some(ApplyFault::TooLarge)
     );
-    octets.push(7)?;
-    match bank.apply(&OCTETS, &TEXT, &octets) {
-        Err(ApplyFault::Memory) => return Err(ApplyFault::Memory)?,
-        answer => assert_eq!(rt; answer.err(), Some(ApplyFault::TooLarge)),
-    }
     assert_eq!(rt;
         bank.apply(&CBOR, &JSON, &[0x01]).err(),
         Some(ApplyFault::Memory)
     );
-    Ok(())
 }
 
 #[test]
-fn faults_in_words(rt: HostRuntime) -> Result<(), Fail> {
-    let alloc: Global = rt.alloc();
-    assert_eq!(rt;
-        format!(in alloc; "{}", ApplyFault::Refused)?.as_str(),
-        "content refused"
-    );
-    assert_eq!(rt;
-        format!(in alloc; "{}", ApplyFault::TooLarge)?.as_str(),
-        "output too large"
-    );
-    assert_eq!(rt;
-        format!(in alloc; "{}", ApplyFault::Memory)?.as_str(),
-        "out of memory"
-    );
-    assert_eq!(rt;
-        format!(in alloc; "{}", Refused::Content)?.as_str(),
-        "content refused"
-    );
-    assert_eq!(rt;
-        format!(in alloc; "{}", Refused::Memory)?.as_str(),
-        "out of memory"
-    );
-    Ok(())
+fn faults_in_words(rt: HostRuntime) {
+    let faults: [(ApplyFault, &str); 3] = [
+        (ApplyFault::Refused, "content refused"),
+        (ApplyFault::TooLarge, "output too large"),
+        (ApplyFault::Memory, "out of memory"),
+    ];
+    for (fault, words) in faults {
+        let text = format!(in rt.alloc(); "{fault}").expect(&rt, "memory");
+        assert_eq!(rt; text.as_str(), words);
+    }
+    let refusals: [(Refused, &str); 2] = [
+        (Refused::Content, "content refused"),
+        (Refused::Memory, "out of memory"),
+    ];
+    for (refused, words) in refusals {
+        let text = format!(in rt.alloc(); "{refused}").expect(&rt, "memory");
+        assert_eq!(rt; text.as_str(), words);
+    }
 }

@@ -1,7 +1,6 @@
 // Examples of RFC 8949 Appendix A, and inputs at the limits.
 use crate::{Refused, cbor_json, json_cbor, octets_hex};
 use std::alloc::Global;
-use std::test::Fail;
 
 // A CBOR item in hexadecimal, and the JSON of its value. The items have the shortest heads.
 const INSIDE: [(&str, &str); 37] = [
@@ -146,109 +145,106 @@ const REFUSED: [&str; 16] = [
     "'a'",
 ];
 
-fn json_of(alloc: Global, item: &str) -> Result<String, Fail> {
-    let bytes = hex::decode(alloc, item)?;
-    Ok(String::from_utf8(cbor_json(alloc, &bytes)?)?)
+// The JSON that is made of an item in hexadecimal.
+fn json_of(alloc: Global, item: &str) -> Option<String> {
+    let bytes = hex::decode(alloc, item).ok()?;
+    let json = cbor_json(alloc, &bytes).ok()?;
+    String::from_utf8(json).ok()
 }
 
-fn item_of(alloc: Global, json: &str) -> Result<String, Fail> {
-    let item = json_cbor(alloc, json.as_bytes())?;
-    Ok(hex::encode(alloc, item.as_slice())?)
+// The item, in hexadecimal, that is made of JSON.
+fn item_of(alloc: Global, json: &str) -> Option<String> {
+    let item = json_cbor(alloc, json.as_bytes()).ok()?;
+    hex::encode(alloc, item.as_slice()).ok()
 }
 
 #[test]
-fn items_inside(rt: HostRuntime) -> Result<(), Fail> {
+fn items_inside(rt: HostRuntime) {
     for (item, json) in INSIDE.iter() {
-        assert_eq!(rt; json_of(rt.alloc(), item)?.as_str(), *json);
-        assert_eq!(rt; item_of(rt.alloc(), json)?.as_str(), *item);
+        let made = json_of(rt.alloc(), item).expect(&rt, "JSON");
+        assert_eq!(rt; made.as_str(), *json);
+        let made = item_of(rt.alloc(), json).expect(&rt, "an item");
+        assert_eq!(rt; made.as_str(), *item);
     }
-    Ok(())
 }
 
 #[test]
-fn items_outside(rt: HostRuntime) -> Result<(), Fail> {
+fn items_outside(rt: HostRuntime) {
     for item in OUTSIDE.iter() {
-        let bytes = hex::decode(rt.alloc(), *item)?;
+        let bytes = hex::decode(rt.alloc(), *item).expect(&rt, "bytes");
         assert_eq!(rt;
             cbor_json(rt.alloc(), &bytes).err(),
             Some(Refused::Content),
             "{item}"
         );
     }
-    Ok(())
 }
 
 #[test]
-fn long_heads(rt: HostRuntime) -> Result<(), Fail> {
+fn long_heads(rt: HostRuntime) {
     for (long, short) in LONG.iter() {
-        let json = json_of(rt.alloc(), long)?;
-        assert_eq!(rt; item_of(rt.alloc(), json.as_str())?.as_str(), *short);
-    }
-    Ok(())
-}
-
-// Whether JSON is refused for its content. Want of memory fails the test.
-fn is_refused(alloc: Global, json: &[u8]) -> Result<bool, Fail> {
-    match json_cbor(alloc, json) {
-        Err(Refused::Content) => Ok(true),
-        answer => {
-            answer?;
-            Ok(false)
-        }
+        let json = json_of(rt.alloc(), long).expect(&rt, "JSON");
+        let made = item_of(rt.alloc(), json.as_str()).expect(&rt, "an item");
+        assert_eq!(rt; made.as_str(), *short);
     }
 }
 
 #[test]
-fn json_refused(rt: HostRuntime) -> Result<(), Fail> {
+fn json_refused(rt: HostRuntime) {
     for json in REFUSED.iter() {
-        assert!(rt; is_refused(rt.alloc(), json.as_bytes())?, "{json}");
+        assert_eq!(rt;
+            json_cbor(rt.alloc(), json.as_bytes()).err(),
+            Some(Refused::Content),
+            "{json}"
+        );
     }
-    assert!(rt; is_refused(rt.alloc(), &[0x22, 0xff, 0x22])?);
-    Ok(())
+    assert_eq!(rt;
+        json_cbor(rt.alloc(), &[0x22, 0xff, 0x22]).err(),
+        Some(Refused::Content)
+    );
 }
 
 #[test]
-fn equal_keys(rt: HostRuntime) -> Result<(), Fail> {
-    assert_eq!(rt;
-        item_of(rt.alloc(), "{\"a\":1,\"b\":2,\"a\":3}")?.as_str(),
-        "a2616103616202"
-    );
-    Ok(())
+fn equal_keys(rt: HostRuntime) {
+    let made = item_of(rt.alloc(), "{\"a\":1,\"b\":2,\"a\":3}").expect(&rt, "an item");
+    assert_eq!(rt; made.as_str(), "a2616103616202");
 }
 
-// So many arrays within each other, in both forms.
-fn nested(alloc: Global, levels: u8) -> Result<(Vec<u8>, Vec<u8>), Fail> {
+// An empty array within so many others, as an item.
+fn nested_item(alloc: Global, others: u8) -> Option<Vec<u8>> {
     let mut item = Vec::new(alloc);
+    item.resize(usize::from(others), 0x81).ok()?;
+    item.push(0x80).ok()?;
+    Some(item)
+}
+
+// The same as JSON.
+fn nested_json(alloc: Global, others: u8) -> Option<Vec<u8>> {
+    let arrays = usize::from(others) + 1;
     let mut json = Vec::new(alloc);
-    for _ in 1..levels {
-        item.push(0x81)?;
-        json.push(b'[')?;
-    }
-    item.push(0x80)?;
-    json.extend_from_slice(b"[]")?;
-    for _ in 1..levels {
-        json.push(b']')?;
-    }
-    Ok((item, json))
+    json.resize(arrays, b'[').ok()?;
+    json.resize(2 * arrays, b']').ok()?;
+    Some(json)
 }
 
 #[test]
-fn nesting(rt: HostRuntime) -> Result<(), Fail> {
-    let (item, json) = nested(rt.alloc(), 32)?;
-    assert_eq!(rt; cbor_json(rt.alloc(), &item)?.as_slice(), json.as_slice());
-    assert_eq!(rt; json_cbor(rt.alloc(), &json)?.as_slice(), item.as_slice());
-    let (item, json) = nested(rt.alloc(), 33)?;
+fn nesting(rt: HostRuntime) {
+    let item = nested_item(rt.alloc(), 31).expect(&rt, "memory");
+    let json = nested_json(rt.alloc(), 31).expect(&rt, "memory");
+    let made = cbor_json(rt.alloc(), &item).expect(&rt, "JSON");
+    assert_eq!(rt; made.as_slice(), json.as_slice());
+    let made = json_cbor(rt.alloc(), &json).expect(&rt, "an item");
+    assert_eq!(rt; made.as_slice(), item.as_slice());
+    let item = nested_item(rt.alloc(), 32).expect(&rt, "memory");
+    let json = nested_json(rt.alloc(), 32).expect(&rt, "memory");
     assert_eq!(rt; cbor_json(rt.alloc(), &item).err(), Some(Refused::Content));
-    assert!(rt; is_refused(rt.alloc(), &json)?);
-    Ok(())
+    assert_eq!(rt; json_cbor(rt.alloc(), &json).err(), Some(Refused::Content));
 }
 
 #[test]
-fn hexadecimal(rt: HostRuntime) -> Result<(), Fail> {
-    assert_eq!(rt;
-        octets_hex(rt.alloc(), &[0x00, 0xff, 0x1a])?.as_slice(),
-        b"00ff1a".as_slice()
-    );
-    assert_eq!(rt; octets_hex(rt.alloc(), &[])?.len(), 0);
-    Ok(())
+fn hexadecimal(rt: HostRuntime) {
+    let digits = octets_hex(rt.alloc(), &[0x00, 0xff, 0x1a]).expect(&rt, "memory");
+    assert_eq!(rt; digits.as_slice(), b"00ff1a".as_slice());
+    let none = octets_hex(rt.alloc(), &[]).expect(&rt, "memory");
+    assert_eq!(rt; none.len(), 0);
 }

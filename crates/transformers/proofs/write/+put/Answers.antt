@@ -1,9 +1,9 @@
-use Rattle.std.proofs.Common.{arith, ◌≡◌, ◌∷◌, [], ◌++◌, map, take, sym, ap, ◌∙◌, append_assoc}
+use Rattle.std.proofs.Common.{arith, map, take, ap, ◌∙◌}
 use Rattle.std.proofs.lemmas.Result.{on_ok_weaker}
 use Rattle.serde_json.specs.View.{view, items_of}
-use Rattle.serde_json.proofs.Views.{Entry, view-Array, view-Object}
+use Rattle.serde_json.proofs.Views.{view-Array, view-Object}
 use Rattle.transformers.specs.Shortest.{shortest, items_bytes}
-use Rattle.transformers.proofs.Writing.{items_more, one_written, grown, items_turn, array_bytes, map_bytes}
+use Rattle.transformers.proofs.Writing.{items_more, grown, items_turn, array_bytes, map_bytes}
 use Rattle.transformers.proofs.write.+put.Goals as goal
 
 pub put-returns-in_ok-put_head-in-Array : goal.put-returns-in_ok-put_head-in-Array
@@ -24,8 +24,3 @@ put_items-each-preserved t c =
     let one = c.item-item.result in
     let turn = ap (λ ds. items_bytes (items_of ds)) (items_turn all c.each.item-index one (omega arith) c.item-item.is) ∙ items_more (map view (take c.each.item-index all)) (view one) in
     grown _ _ _ _ _ _ c.each.invariant c.in_ok-put.ensures turn
-
-pub put_members-each-preserved : goal.put_members-each-preserved
-put_members-each-preserved t c =
-    let e : Entry = (c.in-Some.key.now, c.in-Some.member.now) in
-    one_written _ _ _ _ e _ _ c.each.invariant c.in-Some.ensures.steps (rw c.as_str.ensures.value at c.in_ok-put_text.ensures) c.in_ok-put.ensures

@@ -1,6 +1,5 @@
-use Rattle.std.proofs.Common.{◌≡◌, List, ◌++◌, length, take, map}
+use Rattle.std.proofs.Common.{◌≡◌, ◌++◌, length, take, map}
 use Rattle.serde_json.specs.View.{view, items_of, members_view}
-use Rattle.serde_json.proofs.Views.{Entry}
 use Rattle.transformers.specs.Shortest.{items_bytes, members_bytes}
 use Rattle.transformers.proofs.write.+put.Given as goal
 
