@@ -17,5 +17,6 @@ pub mod Ticked
 pub mod Listening
 pub mod Told
 pub mod Dropping
+mod Once
 mod Unsent
 pub mod Stepping

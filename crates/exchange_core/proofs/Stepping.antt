@@ -214,18 +214,19 @@ kept-heard h h1 h2 h3 h4 room room1 room2 room3 room4 cs cs1 tables es1 rs1 s by
 reader-grounds : (cs : List Conn) (d : Ending) (r : Reader) → IsReader cs (Some d) (Some r) → grounds_of r.grounds ≡ r.finding.grounds
 reader-grounds cs d r is = is.2 ∙ ap (λ (f : Found). f.grounds) (sym is.3)
 
-answer-shown : (t n : ℕ) (cs : List Conn) (d : Option Ending) (r : Option Reader) (ws : List Waited) (h : List Written) (old new : CoreValue)
-    → IsReader cs d r → n ≡ length h → new.entries ≡ with_answer t r h → new.conns ≡ conns_by r old.conns → AnswersBy t n r ws old.answers new.answers
+answer-shown : (t n : ℕ) (d : Option Ending) (r : Option Reader) (ws : List Waited) (h : List Written) (old new : CoreValue)
+    → IsReader old.conns d r → n ≡ length h → new.entries ≡ with_answer t r h → new.conns ≡ conns_by r old.conns → AnswersBy t n r ws old.answers new.answers
     → AddsAnswer t h old new
-answer-shown t n cs d None ws h old new is num entries conns by = inl (record { entries = entries; conns = conns; answers = by })
-answer-shown t n cs None (Some r) ws h old new is num entries conns by = elim is [ ]
-answer-shown t n cs (Some d) (Some r) ws h old new is num entries conns by =
+answer-shown t n d None ws h old new is num entries conns by = inl (record { entries = entries; conns = conns; answers = by })
+answer-shown t n None (Some r) ws h old new is num entries conns by = elim is [ ]
+answer-shown t n (Some d) (Some r) ws h old new is num entries conns by =
     let w : Waited = by.0 in
     inr (record {
       conn = r.conn;
       given = answer_of w (record { number = n; moment = t; heard = t }) r.finding;
+      waited = record { conn = is.0.0; stands = is.0.1; id = is.0.2; waits = is.0.3 ∙ ap Some (sym is.1 ∙ sym by.2) };
       entries = entries ∙ ap (λ (k : ℕ). h ++ written t (Answers r.conn k (grounds_of r.grounds)) ∷ []) (sym by.2)
-          ∙ ap (λ (g : Grounds). h ++ written t (Answers r.conn w.ask g) ∷ []) (reader-grounds cs d r is);
+          ∙ ap (λ (g : Grounds). h ++ written t (Answers r.conn w.ask g) ∷ []) (reader-grounds old.conns d r is);
       conns = conns;
       answers = by.3;
       number = num;
@@ -233,14 +234,14 @@ answer-shown t n cs (Some d) (Some r) ws h old new is num entries conns by =
       heard = refl;
     })
 
-pub answer-added : (t : ℕ) (p : Peer) (b b1 : List ℕ) (cs : List Conn) (d : Option Ending) (r : Option Reader) (ws : List Waited) (sent : Option (List ℕ)) (h h1 h2 h3 : List Written) (old new : CoreValue)
-    → IsReader cs d r → b1 ≡ b → h1 ≡ h → h2 ≡ h1 ++ written t (Hears p b1) ∷ [] → h3 ≡ with_sent t p sent h2
+pub answer-added : (t : ℕ) (p : Peer) (b b1 : List ℕ) (d : Option Ending) (r : Option Reader) (ws : List Waited) (sent : Option (List ℕ)) (h h1 h2 h3 : List Written) (old new : CoreValue)
+    → IsReader old.conns d r → b1 ≡ b → h1 ≡ h → h2 ≡ h1 ++ written t (Hears p b1) ∷ [] → h3 ≡ with_sent t p sent h2
     → new.entries ≡ with_answer t r h3 → new.conns ≡ conns_by r old.conns → AnswersBy t (length h3) r ws old.answers new.answers
     → AddsAnswer t (with_sent t p sent (h ++ written t (Hears p b) ∷ [])) old new
-answer-added t p b b1 cs d r ws sent h h1 h2 h3 old new is b-is e1 e2 e3 entries conns by =
+answer-added t p b b1 d r ws sent h h1 h2 h3 old new is b-is e1 e2 e3 entries conns by =
     let three : h3 ≡ with_sent t p sent (h ++ written t (Hears p b) ∷ []) =
     e3 ∙ ap (with_sent t p sent) (e2 ∙ ap (λ (b : List ℕ). h1 ++ written t (Hears p b) ∷ []) b-is ∙ ap (λ (h : List Written). h ++ written t (Hears p b) ∷ []) e1) in
-    subst (λ (h : List Written). AddsAnswer t h old new) three (answer-shown t (length h3) cs d r ws h3 old new is refl entries conns by)
+    subst (λ (h : List Written). AddsAnswer t h old new) three (answer-shown t (length h3) d r ws h3 old new is refl entries conns by)
 
 pub changes-shown : (h : List Written) (cs : List Conn) (tables : Held) (room bytes last t n : ℕ) (p : Peer) (b : List ℕ) (v : Verdict) (k : Known) (s : Bool) (es1 : List Exchange)
     → CoreKept h room cs tables s bytes last → s ≡ false → last ≤ t → length b ≤ 2048 → known_of tables.known p ≡ Some k → n ≡ length h

@@ -1,9 +1,10 @@
 -- What a datagram that was heard leaves behind.
-use Rattle.std.specs.Prelude.{◌≡◌, ◌≢◌, ◌⊎◌, ◌<◌, ◌≤◌, ◌+◌, ◌-◌, ◌*◌, ℕ, true, false, List, [], ◌∷◌, ◌++◌, length, map, count_by, Option, None, option_to_list}
-use Rattle.std.specs.List.{All}
+use Rattle.std.specs.Prelude.{◌≡◌, ◌≢◌, ◌⊎◌, ◌<◌, ◌≤◌, ◌+◌, ◌-◌, ◌*◌, ℕ, true, false, List, [], ◌∷◌, ◌++◌, length, map, count_by, Option, Some, None, option_to_list}
+use Rattle.std.specs.List.{All, Contains}
 use Rattle.coap_codec.specs.Spelling.{Content, Spells}
 use Rattle.uri_map.specs.declared.peer.Peer.{Peer}
 use Rattle.journal_book.specs.Entries.{Hears, Answers, Seals, Written}
+use Rattle.history_laws.specs.declared.kept.Conn.{Conn}
 use Rattle.history_laws.specs.declared.kept.Exchange.{Exchange}
 use Rattle.history_laws.specs.Kept.{pend}
 use Rattle.history_laws.specs.Limits.{datagram_limit}
@@ -19,10 +20,18 @@ pub record AddsNone (h : List Written) (old new : CoreValue) : Type 0 where
   pub conns : new.conns ≡ old.conns
   pub answers : new.answers ≡ old.answers
 
+-- a connection that is open and waits for the answer to this ask
+pub record WaitsFor (conns : List Conn) (c k : ℕ) : Type 0 where
+  pub conn : Conn
+  pub stands : Contains conns conn
+  pub id : conn.id ≡ c
+  pub waits : conn.pending ≡ Some k
+
 -- The answer to a connection that waited is added behind them; it waits no more.
 pub record AddsOne (t : ℕ) (h : List Written) (old new : CoreValue) : Type 0 where
   pub conn : ℕ
   pub given : Given
+  pub waited : WaitsFor old.conns conn given.ask
   pub entries : new.entries ≡ h ++ written t (Answers conn given.ask given.found.grounds) ∷ []
   pub conns : new.conns ≡ map (pend conn None) old.conns
   pub answers : new.answers ≡ old.answers ++ given ∷ []

@@ -264,6 +264,7 @@ impl<R: Relation> Core<R> {
     /// Takes the answer to an ask, which is given once.
     pub fn take_answer(&mut self, ticket: &Ticket<R>) -> Option<Answer<R>>
         ensures some { IfSome result (λ a. (a.ask ≡ ticket.now.number) × Contains self.old.answers (given_of a) × IsGiven self.old.entries (given_of a)) }
+        ensures once { IfSome result (λ a. All (λ g. g.ask ≡ a.ask → g.number ≡ a.number) self.old.answers) }
         ensures none { result ≡ None → All (λ g. g.ask ≢ ticket.now.number) self.old.answers }
         ensures answers { self.new.answers ≡ filter (λ g. not (g.ask == ticket.now.number)) self.old.answers }
         ensures entries { self.new.entries ≡ self.old.entries }

@@ -55,7 +55,7 @@ pub returns-clause-heard : goal.returns-clause-heard
 returns-clause-heard g c =
     let s = c.self.inside in
     rw (← c.self.view_is) (hears-shown _ c.max-moment.result c.args.peer c.args.bytes.now _ _ (option_map arc_value c.in_ok-ready.ready.sent) (search rules) c.if-self.false refl
-    (answer-added _ c.args.peer c.args.bytes.now _ s.conns.items c.in_ok-ready.ensures.verdict.ending c.in_ok-ready.ready.reader s.outbox.waiting (option_map arc_value c.in_ok-ready.ready.sent) s.journal.entries _ _ _ _ _
+    (answer-added _ c.args.peer c.args.bytes.now _ c.in_ok-ready.ensures.verdict.ending c.in_ok-ready.ready.reader s.outbox.waiting (option_map arc_value c.in_ok-ready.ready.sent) s.journal.entries _ _ _ _ _
     (rw (c.deref-4.ensures.value) at c.in_ok-ready.ensures.reader) c.in_ok-ready.ensures.taken c.in_ok-make_places.ensures.entries c.add.ensures.entries c.send_confirmation.ensures.entries
     c.answer_reader.ensures.entries c.answer_reader.ensures.conns c.answer_reader.ensures.answers)
     (changes-shown s.journal.entries s.conns.items _ s.journal.room s.bytes s.last _ c.len-number.result c.args.peer c.args.bytes.now c.in_ok-ready.ensures.verdict c.in-Some.field-0 s.sealed _

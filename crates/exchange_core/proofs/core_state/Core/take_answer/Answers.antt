@@ -1,6 +1,7 @@
 use Rattle.std.proofs.Common.{not, eqb}
 use Rattle.std.proofs.lemmas.List.Elements.{All-filter}
 use Rattle.exchange_core.specs.Answering.{Given, IsGiven}
+use Rattle.exchange_core.proofs.Once.{given-once}
 use Rattle.exchange_core.proofs.Taking.{given-taken}
 use Rattle.exchange_core.proofs.core_state.Core.take_answer.Goals as goal
 
@@ -18,3 +19,8 @@ invariant_of-self g c =
 
 pub returns-clause-some : goal.returns-clause-some
 returns-clause-some g c = rw (← c.self.view_is) (given-taken _ _ _ _ c.self.invariant.1.given c.take.ensures.some)
+
+pub returns-clause-once : goal.returns-clause-once
+returns-clause-once g c =
+    let s = c.self.inside in
+    rw (← c.self.view_is) (given-once _ s.journal.entries s.conns.items _ s.sealed s.last _ c.args.ticket.now.number c.self.invariant.0.agrees c.self.invariant.1.given c.take.ensures.some)
