@@ -1,144 +1,237 @@
--- Each step of a core adds entries, and what they send waits.
-use Rattle.std.proofs.Common.{◌≡◌, ◌≢◌, ◌⊎◌, ℕ, suc, ◌<◌, Bool, true, false, inl, inr, List, [], ◌∷◌, ◌++◌, length, Option, Some, None, Result, Ok, Err, IfOk, OnOk, OnErr, IsTrue, IsFalse, refl, sym, ap, ◌∙◌, arith}
-use Rattle.std.specs.List.{All, Contains}
-use Rattle.std.specs.Prelude.{option_to_list}
+-- Each step of a core adds entries, and what they send and answer waits.
+use Rattle.std.proofs.Common.{◌≡◌, ◌≢◌, ◌⊎◌, ℕ, suc, ◌+◌, ◌<◌, Bool, true, false, inl, inr, List, [], ◌∷◌, ◌++◌, length, map, Option, Some, None, Result, Ok, Err, IfOk, OnOk, OnErr, IsTrue, IsFalse, refl, sym, ap, subst, ◌∙◌, arith, length-append}
+use Rattle.std.specs.Prelude.{◌==◌, ◌&&◌, option_to_list, find, not}
+use Rattle.std.specs.List.{All, Contains, filter, slice_get}
 use Rattle.std.proofs.lemmas.Bool.{cases_Bool, false≢true}
+use Rattle.std.proofs.lemmas.Bool.Decides.{eqb_tells}
 use Rattle.std.proofs.lemmas.Grind.{flat_map-append}
 use Rattle.std.proofs.lemmas.List.{append-nil, append_assoc}
-use Rattle.std.proofs.lemmas.List.Elements.{All-nil, All-cons}
+use Rattle.std.proofs.lemmas.List.Elements.{All-nil, All-cons, All-head, All-tail, All-weaker, All-append, All-map, All-filter, All-contains_itself}
 use Rattle.uri_map.specs.declared.peer.Peer.{Peer}
 use Rattle.ask_model.specs.Requests.{Sense, Requests, Refuses}
 use Rattle.ask_model.specs.Views.{Mapping}
-use Rattle.journal_book.specs.Entries.{Written, Sends, Hears, Answers, Seals, Passes}
+use Rattle.journal_book.specs.Entries.{Grounds, Deed, Written, Opens, Sends, Hears, Answers, Seals, Passes}
 use Rattle.history_laws.specs.declared.kept.Conn.{Conn}
 use Rattle.history_laws.specs.declared.kept.Exchange.{Exchange}
+use Rattle.history_laws.specs.Kept.{pend}
 use Rattle.exchange_core.specs.declared.fault.AskFault.{AskFault}
 use Rattle.exchange_core.specs.declared.fault.AskFault.TheVariants as AskFault
+use Rattle.exchange_core.specs.declared.fault.OpenFault.{OpenFault}
+use Rattle.exchange_core.specs.declared.fault.OpenFault.TheVariants as OpenFault
 use Rattle.exchange_core.specs.CoreValue.{CoreValue, Outgoing, sent_by, sendings, written}
+use Rattle.exchange_core.specs.Answering.{Given, refusal}
 use Rattle.exchange_core.specs.Asking.{AnswersAtOnce, OpensExchange, AddsBy, AddsAsk}
-use Rattle.exchange_core.specs.Hears.{AddsAnswer, SealsAt, HearsAt, HeardSo}
+use Rattle.exchange_core.specs.Hears.{AddsNone, AddsOne, AddsAnswer, SealsAt, HearsAt, HeardSo}
 use Rattle.exchange_core.specs.Steps.{with_sent, outgoing_by}
-use Rattle.exchange_core.specs.Ticking.{is_past, late_reader, timeout_by, timeout_for, timeouts, HasPast, AnswersLate, takes_tick, EndsLate, SealsLate, KeepsLate}
-use Rattle.gateway_world.specs.Worlds.{Advances}
+use Rattle.gateway_world.specs.Steps.{Advances, answers_conn, answers_in, answers_at, is_answer, all_answered}
+use Rattle.gateway_world.specs.Rows.{ComesFrom, IsNewAnswer, AnswersAlone}
+use Rattle.gateway_world.proofs.Counting.{slice_get-at}
 use Rattle.gateway_world.proofs.Going.{advances-none}
 
 pub same-advances : (a b : CoreValue) → b ≡ a → Advances a b
 same-advances a b e = rw e (advances-none a)
 
 -- one entry that sends nothing
-pub one-advances : (a b : CoreValue) (w : Written) → sent_by w.deed ≡ [] → b.entries ≡ a.entries ++ w ∷ [] → b.sends ≡ a.sends → Advances a b
-one-advances a b w none entries sends =
-    record { more = w ∷ []; entries = entries; sends = rw none (sends ∙ sym (append-nil a.sends)) }
+abbrev pub one-advances : (a b : CoreValue) (w : Written) → sent_by w.deed ≡ [] → is_answer w.deed ≡ false → b.entries ≡ a.entries ++ w ∷ [] → b.sends ≡ a.sends
+    → b.answers ≡ a.answers → Advances a b
+one-advances a b w none quiet entries sends answers =
+    record {
+      more = w ∷ [];
+      entries = entries;
+      sends = rw none (sends ∙ sym (append-nil a.sends));
+      given = [];
+      answers = answers ∙ sym (append-nil a.answers);
+      numbers = rw quiet refl;
+    }
+
+-- connections that wait for the same, or no more
+pub comes-same : (cs : List Conn) → All (ComesFrom cs) cs
+comes-same cs = All-weaker (Contains cs) (ComesFrom cs) (λ x w. record { conn = x; stands = w; id = refl; waits = inr refl }) cs (All-contains_itself cs)
+
+pub comes-pend : (c : ℕ) (cs : List Conn) → All (ComesFrom cs) (map (pend c None) cs)
+comes-pend c cs =
+    All-map (ComesFrom cs) (pend c None) cs (All-weaker (Contains cs) (λ (x : Conn). ComesFrom cs (pend c None x)) one cs (All-contains_itself cs))
+  where
+    one : (x : Conn) → Contains cs x → ComesFrom cs (pend c None x)
+    one x w = elim (cases_Bool (x.id == c)) [
+      | inl y ↦ rw y (record { conn = x; stands = w; id = refl; waits = inl refl })
+      | inr n ↦ rw n (record { conn = x; stands = w; id = refl; waits = inr refl })
+    ]
+
+-- a step that answers nothing
+pub alone-none : (a b : CoreValue) (w : Advances a b) → w.given ≡ [] → All (ComesFrom a.conns) b.conns → AnswersAlone a b
+alone-none a b w none conns = record { step = w; conns = conns; answers = rw none (All-nil (IsNewAnswer a b)) }
+
+pub same-alone : (a b : CoreValue) → b ≡ a → AnswersAlone a b
+same-alone a b e = rw e (alone-none a a (advances-none a) refl (comes-same a.conns))
+
+pub one-alone : (a b : CoreValue) (w : Written) → sent_by w.deed ≡ [] → is_answer w.deed ≡ false → b.entries ≡ a.entries ++ w ∷ [] → b.sends ≡ a.sends
+    → b.answers ≡ a.answers → All (ComesFrom a.conns) b.conns → AnswersAlone a b
+one-alone a b w none quiet entries sends answers conns = alone-none a b (one-advances a b w none quiet entries sends answers) refl conns
+
+-- a connection is closed
+pub closing : (r : Bool) (a b : CoreValue) (c : ℕ) (X : Type 0) (w : Written) → sent_by w.deed ≡ [] → is_answer w.deed ≡ false
+    → (IsTrue r → (b.entries ≡ a.entries ++ w ∷ []) × (b.conns ≡ filter (λ (x : Conn). not (x.id == c)) a.conns))
+    → (IsFalse r → X × (b ≡ a)) → b.answers ≡ a.answers → b.sends ≡ a.sends → AnswersAlone a b
+closing true a b c X w none quiet closed unknown answers sends =
+    let two = closed refl in
+    one-alone a b w none quiet two.0 sends answers (rw (two.1) (All-filter (λ (x : Conn). not (x.id == c)) (ComesFrom a.conns) a.conns (comes-same a.conns)))
+closing false a b c X w none quiet closed unknown answers sends = same-alone a b (unknown refl).1
 
 -- an ask
-at-once : (a b : CoreValue) (t n conn : ℕ) (m : Mapping) (cause : _) → AnswersAtOnce t n conn m cause a b → Advances a b
-at-once a b t n conn m cause w =
-    record { more = _ ∷ _ ∷ []; entries = w.entries ∙ append_assoc a.entries _ _; sends = w.sends ∙ sym (append-nil a.sends) }
+at-once : (a b : CoreValue) (t n conn : ℕ) (m : Mapping) (cause : _) → n ≡ length a.entries → AnswersAtOnce t n conn m cause a b → Advances a b
+at-once a b t n conn m cause num w =
+    record {
+      more = _ ∷ _ ∷ [];
+      entries = w.entries ∙ append_assoc a.entries _ _;
+      sends = w.sends ∙ sym (append-nil a.sends);
+      given = refusal n t m cause ∷ [];
+      answers = w.answers;
+      numbers = ap (λ (k : ℕ). (k + 1) ∷ []) num;
+    }
 
 opens : (a b : CoreValue) (t n conn : ℕ) (m : Mapping) (q : _) → OpensExchange t n conn m q a b → Advances a b
 opens a b t n conn m q w =
-    record { more = _ ∷ _ ∷ []; entries = w.entries ∙ append_assoc a.entries _ _; sends = w.sends }
-
-pub asking : (s : Sense) (a b : CoreValue) (t n conn : ℕ) (m : Mapping) → AddsBy s t n conn m a b → Advances a b
-asking (Refuses cause status) a b t n conn m w = at-once a b t n conn m cause w
-asking (Requests q) a b t n conn m (inl w) = at-once a b t n conn m _ w.1
-asking (Requests q) a b t n conn m (inr w) = opens a b t n conn m q w.1
-
--- a datagram
-hears-one : (a b : CoreValue) (t : ℕ) (p : Peer) (bytes : List ℕ) (sent : Option (List ℕ))
-    → AddsAnswer t (with_sent t p sent (a.entries ++ written t (Hears p bytes) ∷ [])) a b
-    → b.sends ≡ a.sends ++ option_to_list (outgoing_by p sent) → Advances a b
-hears-one a b t p bytes None (inl w) sends =
-    record { more = written t (Hears p bytes) ∷ []; entries = w.entries; sends = sends }
-hears-one a b t p bytes (Some s) (inl w) sends =
-    let x = written t (Hears p bytes) in
-    let y = written t (Sends p s None) in
-    record { more = x ∷ y ∷ []; entries = w.entries ∙ append_assoc a.entries (x ∷ []) (y ∷ []); sends = sends }
-hears-one a b t p bytes None (inr w) sends =
-    let x = written t (Hears p bytes) in
-    let z = written t (Answers w.conn w.given.ask w.given.found.grounds) in
-    record { more = x ∷ z ∷ []; entries = w.entries ∙ append_assoc a.entries (x ∷ []) (z ∷ []); sends = sends }
-hears-one a b t p bytes (Some s) (inr w) sends =
-    let x = written t (Hears p bytes) in
-    let y = written t (Sends p s None) in
-    let z = written t (Answers w.conn w.given.ask w.given.found.grounds) in
-    let front : (a.entries ++ x ∷ []) ++ y ∷ [] ≡ a.entries ++ x ∷ y ∷ [] = append_assoc a.entries (x ∷ []) (y ∷ []) in
     record {
-      more = x ∷ y ∷ z ∷ [];
-      entries = w.entries ∙ ap (λ (h : List Written). h ++ z ∷ []) front ∙ append_assoc a.entries (x ∷ y ∷ []) (z ∷ []);
-      sends = sends;
+      more = _ ∷ _ ∷ [];
+      entries = w.entries ∙ append_assoc a.entries _ _;
+      sends = w.sends;
+      given = [];
+      answers = w.answers ∙ sym (append-nil a.answers);
+      numbers = refl;
     }
 
-pub hearing : (a b : CoreValue) (t : ℕ) (p : Peer) (bytes : List ℕ) → HeardSo t p bytes a b → Advances a b
-hearing a b t p bytes (inl w) = same-advances a b w.1
-hearing a b t p bytes (inr (inl w)) = one-advances a b (written t Seals) refl w.entries w.sends
-hearing a b t p bytes (inr (inr w)) = hears-one a b t p bytes w.sent w.answer w.sends
+asking : (s : Sense) (a b : CoreValue) (t n conn : ℕ) (m : Mapping) → n ≡ length a.entries → AddsBy s t n conn m a b → Advances a b
+asking (Refuses cause status) a b t n conn m num w = at-once a b t n conn m cause num w
+asking (Requests q) a b t n conn m num (inl w) = at-once a b t n conn m _ num w.1
+asking (Requests q) a b t n conn m num (inr w) = opens a b t n conn m q w.1
 
--- a tick
-quiet-one : (t : ℕ) (e : Exchange) (o : Option Conn) → sendings (timeout_by t e o) ≡ []
-quiet-one t e None = refl
-quiet-one t e (Some x) = refl
+-- a datagram, and the ACK or RST that it asks for
+abbrev front : ℕ → Peer → List ℕ → Option (List ℕ) → List Written
+front t p bytes None = written t (Hears p bytes) ∷ []
+front t p bytes (Some s) = written t (Hears p bytes) ∷ written t (Sends p s None) ∷ []
 
-quiet-timeouts : (t : ℕ) (es : List Exchange) (cs : List Conn) → sendings (timeouts t es cs) ≡ []
-quiet-timeouts t [] cs = refl
-quiet-timeouts t (e ∷ es) cs =
-    flat_map-append (λ (w : Written). sent_by w.deed) (timeout_for t cs e) (timeouts t es cs)
-    ∙ ap (λ (s : List Outgoing). s ++ sendings (timeouts t es cs)) (quiet-one t e (late_reader t cs e)) ∙ quiet-timeouts t es cs
+front-is : (t : ℕ) (p : Peer) (bytes : List ℕ) (sent : Option (List ℕ)) (h : List Written) → with_sent t p sent (h ++ written t (Hears p bytes) ∷ []) ≡ h ++ front t p bytes sent
+front-is t p bytes None h = refl
+front-is t p bytes (Some s) h = append_assoc h (written t (Hears p bytes) ∷ []) (written t (Sends p s None) ∷ [])
 
-late-none : (a b : CoreValue) (t : ℕ) → AnswersLate t a.entries a b → Advances a b
-late-none a b t w = record {
-  more = timeouts t a.exchanges a.conns;
-  entries = w.entries;
-  sends = w.sends ∙ sym (append-nil a.sends) ∙ ap (λ (s : List Outgoing). a.sends ++ s) (sym (quiet-timeouts t a.exchanges a.conns));
-}
+front-sends : (t : ℕ) (p : Peer) (bytes : List ℕ) (sent : Option (List ℕ)) → sendings (front t p bytes sent) ≡ option_to_list (outgoing_by p sent)
+front-sends t p bytes None = refl
+front-sends t p bytes (Some s) = refl
 
-late-one : (a b : CoreValue) (t : ℕ) (x : Written) → sent_by x.deed ≡ [] → AnswersLate t (a.entries ++ x ∷ []) a b → Advances a b
-late-one a b t x none w = record {
-  more = x ∷ timeouts t a.exchanges a.conns;
-  entries = w.entries ∙ append_assoc a.entries (x ∷ []) _;
-  sends =
-      w.sends ∙ sym (append-nil a.sends)
-      ∙ ap (λ (s : List Outgoing). a.sends ++ s) (sym (ap (λ (s : List Outgoing). s ++ sendings (timeouts t a.exchanges a.conns)) none ∙ quiet-timeouts t a.exchanges a.conns));
-}
+front-quiet : (n t : ℕ) (p : Peer) (bytes : List ℕ) (sent : Option (List ℕ)) (ws : List Written)
+    → all_answered n (front t p bytes sent ++ ws) ≡ all_answered (n + length (front t p bytes sent)) ws
+front-quiet n t p bytes None ws = refl
+front-quiet n t p bytes (Some s) ws = ap (λ (k : ℕ). all_answered k ws) (omega arith)
 
-past-or-none : (t : ℕ) (es : List Exchange) → All (λ (e : Exchange). is_past t e ≡ false) es ⊎ HasPast t es
-past-or-none t [] = inl (All-nil (λ (e : Exchange). is_past t e ≡ false))
-past-or-none t (e ∷ es) =
-    elim (cases_Bool (is_past t e)) [
-      | inl y ↦ inr (record { exchange = e; stands = (0, omega arith, refl); past = y })
-      | inr n ↦ elim (past-or-none t es) [
-        | inl all ↦ inl (All-cons (λ (x : Exchange). is_past t x ≡ false) e es n all)
-        | inr w ↦ inr (record { exchange = w.exchange; stands = (suc w.stands.0, (let lt = w.stands.1 in omega (arith, lt)), w.stands.2); past = w.past })
-      ]
+heard-none : (a b : CoreValue) (t : ℕ) (p : Peer) (bytes : List ℕ) (sent : Option (List ℕ)) → AddsNone (with_sent t p sent (a.entries ++ written t (Hears p bytes) ∷ [])) a b
+    → b.sends ≡ a.sends ++ option_to_list (outgoing_by p sent) → AnswersAlone a b
+heard-none a b t p bytes sent w sends =
+    let step : Advances a b = record {
+      more = front t p bytes sent;
+      entries = w.entries ∙ front-is t p bytes sent a.entries;
+      sends = sends ∙ ap (λ (s : List Outgoing). a.sends ++ s) (sym (front-sends t p bytes sent));
+      given = [];
+      answers = w.answers ∙ sym (append-nil a.answers);
+      numbers = sym (ap (all_answered (length a.entries)) (sym (append-nil (front t p bytes sent))) ∙ front-quiet (length a.entries) t p bytes sent []);
+    } in
+    alone-none a b step refl (rw (w.conns) (comes-same a.conns))
+
+heard-one : (a b : CoreValue) (t : ℕ) (p : Peer) (bytes : List ℕ) (sent : Option (List ℕ)) → AddsOne t (with_sent t p sent (a.entries ++ written t (Hears p bytes) ∷ [])) a b
+    → b.sends ≡ a.sends ++ option_to_list (outgoing_by p sent) → AnswersAlone a b
+heard-one a b t p bytes sent w sends =
+    let x : List Written = front t p bytes sent in
+    let z : Written = written t (Answers w.conn w.given.ask w.given.found.grounds) in
+    let entries : b.entries ≡ (a.entries ++ x) ++ z ∷ [] = w.entries ∙ ap (λ (h : List Written). h ++ z ∷ []) (front-is t p bytes sent a.entries) in
+    let number : w.given.number ≡ length a.entries + length x = w.number ∙ ap length (front-is t p bytes sent a.entries) ∙ length-append a.entries x in
+    let place : w.given.number ≡ length (a.entries ++ x) = w.number ∙ ap length (front-is t p bytes sent a.entries) in
+    let step : Advances a b = record {
+      more = x ++ z ∷ [];
+      entries = entries ∙ append_assoc a.entries x (z ∷ []);
+      sends = sends ∙ ap (λ (s : List Outgoing). a.sends ++ s)
+          (sym (front-sends t p bytes sent) ∙ sym (append-nil (sendings x)) ∙ sym (flat_map-append (λ (e : Written). sent_by e.deed) x (z ∷ [])));
+      given = w.given ∷ [];
+      answers = w.answers;
+      numbers = ap (λ (k : ℕ). k ∷ []) number ∙ sym (front-quiet (length a.entries) t p bytes sent (z ∷ []));
+    } in
+    record {
+      step = step;
+      conns = rw (w.conns) (comes-pend w.conn a.conns);
+      answers = All-cons (IsNewAnswer a b) w.given [] (record {
+        conn = w.waited.conn;
+        waited = w.waited.stands;
+        ask = w.waited.waits;
+        stands = λ c. rw (entries, place) (ap (answers_in c) (slice_get-at (a.entries ++ x) z []) ∙ ap (λ (k : ℕ). k == c) (sym w.waited.id));
+        done = rw (w.conns) (All-map (λ (y : Conn). y.id ≡ w.waited.conn.id → y.pending ≢ Some w.given.ask) (pend w.conn None) a.conns
+            (All-weaker (Contains a.conns) (λ (y : Conn). (pend w.conn None y).id ≡ w.waited.conn.id → (pend w.conn None y).pending ≢ Some w.given.ask)
+            (λ y has. ended w.conn w.given.ask y w.waited.conn.id w.waited.id) a.conns (All-contains_itself a.conns)));
+      }) (All-nil (IsNewAnswer a b));
+    }
+  where
+    ended : (c k : ℕ) (y : Conn) (d : ℕ) → d ≡ c → (pend c None y).id ≡ d → (pend c None y).pending ≢ Some k
+    ended c k y d is = elim (eqb_tells y.id c) [
+      | inl u ↦ rw (u.0) (λ same e. absurd cc)
+      | inr u ↦ rw (u.0) (λ same e. absurd (u.1 (same ∙ is)))
     ]
 
-pub ticking : (a b : CoreValue) (t : ℕ) → (a.sealed ≡ false → All (λ (e : Exchange). is_past t e ≡ false) a.exchanges → b ≡ a)
-    → (a.sealed ≡ false → HasPast t a.exchanges → takes_tick t a ≡ true → EndsLate t a b)
-    → (a.sealed ≡ false → HasPast t a.exchanges → takes_tick t a ≡ false → SealsLate t a b)
-    → (a.sealed ≡ true → KeepsLate t a b) → Advances a b
-ticking a b t early ends seals keeps =
-    elim (cases_Bool a.sealed) [
-      | inl y ↦ late-none a b t (keeps y).answers
-      | inr n ↦ elim (past-or-none t a.exchanges) [
-        | inl all ↦ same-advances a b (early n all)
-        | inr w ↦ elim (cases_Bool (takes_tick t a)) [
-          | inl y ↦ late-one a b t (written t Passes) refl (ends n w y).answers
-          | inr late ↦ late-one a b t (written t Seals) refl (seals n w late).answers
-        ]
-      ]
+pub hearing : (a b : CoreValue) (t : ℕ) (p : Peer) (bytes : List ℕ) → HeardSo t p bytes a b → AnswersAlone a b
+hearing a b t p bytes (inl w) = same-alone a b w.1
+hearing a b t p bytes (inr (inl w)) = one-alone a b (written t Seals) refl refl w.entries w.sends w.answers (rw (w.conns) (comes-same a.conns))
+hearing a b t p bytes (inr (inr w)) = elim (w.answer) [
+  | inl none ↦ heard-none a b t p bytes w.sent none w.sends
+  | inr one ↦ heard-one a b t p bytes w.sent one w.sends
+]
+
+-- a connection that wants to be opened, and isn't
+pub unopened-alone : {X : Type 0} (r : Result X OpenFault) (a b : CoreValue) (t : ℕ) (A B C D E : Type 0)
+    → (r ≡ Err OpenFault.Full → A × (b ≡ a))
+    → (r ≡ Err OpenFault.Sealed → B × ((C × (b ≡ a))
+    ⊎ (D × E × (b.entries ≡ a.entries ++ written t Seals ∷ []) × (b.conns ≡ a.conns) × (b.exchanges ≡ a.exchanges) × (b.answers ≡ a.answers) × (b.sends ≡ a.sends))))
+    → (r ≡ Err OpenFault.Memory → b ≡ a) → OnErr r (AnswersAlone a b)
+unopened-alone (Ok x) a b t A B C D E full sealed memory = tt
+unopened-alone (Err OpenFault.Full) a b t A B C D E full sealed memory = same-alone a b (full refl).1
+unopened-alone (Err OpenFault.Sealed) a b t A B C D E full sealed memory =
+    elim (sealed refl).1 [
+      | inl w ↦ same-alone a b w.1
+      | inr w ↦ one-alone a b (written t Seals) refl refl w.2 w.6 w.5 (rw (w.3) (comes-same a.conns))
     ]
+unopened-alone (Err OpenFault.Memory) a b t A B C D E full sealed memory = same-alone a b (memory refl)
+
+pub opened-advances : (r : Result ℕ OpenFault) (a b : CoreValue) (t : ℕ) (A B C : ℕ → Type 0)
+    → IfOk r (λ n. A n × (b.entries ≡ a.entries ++ written t (Opens n) ∷ []) × B n × C n × (b.answers ≡ a.answers) × (b.sends ≡ a.sends))
+    → OnErr r (AnswersAlone a b) → Advances a b
+opened-advances (Ok n) a b t A B C opened refused = one-advances a b (written t (Opens n)) refl refl opened.1 opened.5 opened.4
+opened-advances (Err e) a b t A B C opened refused = refused.step
 
 -- what an ask may come to
-pub asked-advances : {X : Type 0} (r : Result X AskFault) (number : X → ℕ) (a b : CoreValue) (t conn : ℕ) (m : Mapping) (A B C D E F G H I : Type 0)
+pub asked-advances : {X : Type 0} (r : Result X AskFault) (number : X → ℕ) (Y : X → Type 0) (a b : CoreValue) (t conn : ℕ) (m : Mapping) (A B C D E F : Type 0)
+    → IfOk r (λ x. Y x)
+    → ((x : X) → Y x → number x ≡ length a.entries)
     → IfOk r (λ x. AddsAsk t (number x) conn m a b)
     → (r ≡ Err AskFault.Unknown → A × (b ≡ a))
     → (r ≡ Err AskFault.Pending → B × (b ≡ a))
     → (r ≡ Err AskFault.Sealed → C × ((D × (b ≡ a))
-    ⊎ (E × F × (b.entries ≡ a.entries ++ written t Seals ∷ []) × G × H × I × (b.sends ≡ a.sends))))
+    ⊎ (E × F × (b.entries ≡ a.entries ++ written t Seals ∷ []) × (b.conns ≡ a.conns) × (b.exchanges ≡ a.exchanges) × (b.answers ≡ a.answers) × (b.sends ≡ a.sends))))
     → (r ≡ Err AskFault.Memory → b ≡ a) → Advances a b
-asked-advances (Ok x) number a b t conn m A B C D E F G H I ok unknown pending sealed memory = asking m.sense a b t (number x) conn m ok
-asked-advances (Err AskFault.Unknown) number a b t conn m A B C D E F G H I ok unknown pending sealed memory = same-advances a b (unknown refl).1
-asked-advances (Err AskFault.Pending) number a b t conn m A B C D E F G H I ok unknown pending sealed memory = same-advances a b (pending refl).1
-asked-advances (Err AskFault.Sealed) number a b t conn m A B C D E F G H I ok unknown pending sealed memory =
-    elim (sealed refl).1 [ inl w ↦ same-advances a b w.1 | inr w ↦ one-advances a b (written t Seals) refl w.2 w.6 ]
-asked-advances (Err AskFault.Memory) number a b t conn m A B C D E F G H I ok unknown pending sealed memory = same-advances a b (memory refl)
+asked-advances (Ok x) number Y a b t conn m A B C D E F ticket is ok unknown pending sealed memory = asking m.sense a b t (number x) conn m (is x ticket) ok
+asked-advances (Err AskFault.Unknown) number Y a b t conn m A B C D E F ticket is ok unknown pending sealed memory = same-advances a b (unknown refl).1
+asked-advances (Err AskFault.Pending) number Y a b t conn m A B C D E F ticket is ok unknown pending sealed memory = same-advances a b (pending refl).1
+asked-advances (Err AskFault.Sealed) number Y a b t conn m A B C D E F ticket is ok unknown pending sealed memory =
+    elim (sealed refl).1 [ inl w ↦ same-advances a b w.1 | inr w ↦ one-advances a b (written t Seals) refl refl w.2 w.6 w.5 ]
+asked-advances (Err AskFault.Memory) number Y a b t conn m A B C D E F ticket is ok unknown pending sealed memory = same-advances a b (memory refl)
+
+pub refused-alone : {X : Type 0} (r : Result X AskFault) (a b : CoreValue) (t : ℕ) (A B C D E F : Type 0)
+    → (r ≡ Err AskFault.Unknown → A × (b ≡ a))
+    → (r ≡ Err AskFault.Pending → B × (b ≡ a))
+    → (r ≡ Err AskFault.Sealed → C × ((D × (b ≡ a))
+    ⊎ (E × F × (b.entries ≡ a.entries ++ written t Seals ∷ []) × (b.conns ≡ a.conns) × (b.exchanges ≡ a.exchanges) × (b.answers ≡ a.answers) × (b.sends ≡ a.sends))))
+    → (r ≡ Err AskFault.Memory → b ≡ a) → OnErr r (AnswersAlone a b)
+refused-alone (Ok x) a b t A B C D E F unknown pending sealed memory = tt
+refused-alone (Err AskFault.Unknown) a b t A B C D E F unknown pending sealed memory = same-alone a b (unknown refl).1
+refused-alone (Err AskFault.Pending) a b t A B C D E F unknown pending sealed memory = same-alone a b (pending refl).1
+refused-alone (Err AskFault.Sealed) a b t A B C D E F unknown pending sealed memory =
+    elim (sealed refl).1 [
+      | inl w ↦ same-alone a b w.1
+      | inr w ↦ one-alone a b (written t Seals) refl refl w.2 w.6 w.5 (rw (w.3) (comes-same a.conns))
+    ]
+refused-alone (Err AskFault.Memory) a b t A B C D E F unknown pending sealed memory = same-alone a b (memory refl)

@@ -1,9 +1,8 @@
 -- Steps follow one another.
-use Rattle.std.proofs.Common.{◌≡◌, ◌<◌, ℕ, zero, suc, inl, inr, arith, List, [], ◌∷◌, ◌++◌, length, Option, Some, None, Result, Ok, Err, OnOk, refl, sym, ap, ◌∙◌}
+use Rattle.std.proofs.Common.{◌≡◌, ◌<◌, ℕ, zero, suc, ◌+◌, arith, List, [], ◌∷◌, ◌++◌, length, map, Option, Some, None, Result, Ok, Err, OnOk, refl, sym, ap, ◌∙◌, length-append}
 use Rattle.std.specs.List.{All, slice_get}
 use Rattle.std.proofs.lemmas.Grind.{flat_map-append}
 use Rattle.std.proofs.lemmas.List.{append-nil, append_assoc}
-use Rattle.std.proofs.lemmas.List.Elements.{All-nil, All-push, All-weaker, All-append}
 use Rattle.coap_codec.specs.Spelling.{Content}
 use Rattle.ask_model.specs.declared.cause.Cause.{Cause}
 use Rattle.ask_model.specs.Requests.{Sense, Requests, Refuses}
@@ -14,7 +13,12 @@ use Rattle.exchange_core.specs.CoreValue.{CoreValue, Outgoing, outgoing_of, sent
 use Rattle.exchange_core.specs.Answering.{Given, HeardAs, IsFound, IsGiven}
 use Rattle.gateway_world.specs.declared.input.Output.{Output}
 use Rattle.gateway_world.specs.declared.input.Output.TheVariants as Out
-use Rattle.gateway_world.specs.Worlds.{Grows, TellsAnswer, IsTold, Gives, Advances, AddsTold, Goes, Leads, datagrams, datagram_in}
+use Rattle.gateway_world.specs.Steps.{Grows, Telling, IsTelling, AllTell, Gives, Advances, AddsTold, Goes, Leads, datagrams, datagram_in, answered, untold, told_by, told_to}
+use Rattle.gateway_world.proofs.Counting.{answered-append, untold-grows}
+
+-- The answers that aren't taken stand in the history.
+abbrev pub AreStanding : CoreValue → Type 0
+AreStanding c = All (λ (n : ℕ). n < length c.entries) (map (λ (g : Given). g.number) c.answers)
 
 -- What stands in a history stands in a longer one.
 stands-more : {X : Type 0} (xs ys : List X) (n : ℕ) (x : X) → slice_get xs n ≡ Some x → slice_get (xs ++ ys) n ≡ Some x
@@ -38,7 +42,7 @@ found-more h more (Fails c) (Live js) s f = elim f [ ]
 found-more h more (Fails c) (Kept js) s f = elim f [ ]
 found-more h more (Fails c) (Fault d n) s f = f
 
-given-more : (h more : List Written) (g : Given) → IsGiven h g → IsGiven (h ++ more) g
+abbrev given-more : (h more : List Written) (g : Given) → IsGiven h g → IsGiven (h ++ more) g
 given-more h more g w = record {
   conn = w.conn;
   asked = w.asked;
@@ -47,32 +51,63 @@ given-more h more g w = record {
   found = found-more h more g.found.told g.found.grounds g.mapping.sense w.found;
 }
 
-told-more : (h more : List Written) (o : Output) → IsTold h o → IsTold (h ++ more) o
-told-more h more (Out.Bytes c bytes) (inl go_on) = inl go_on
-told-more h more (Out.Bytes c bytes) (inr t) =
-    inr (record { given = t.given; answer = t.answer; stands = given-more h more t.given t.stands; means = t.means; spelled = t.spelled })
-told-more h more (Out.Datagram d) t = tt
-told-more h more (Out.Closed c) t = tt
-told-more h more Out.Turned t = tt
+tells-more : (h more : List Written) (o : Output) (t : Option Telling) → IsTelling h o t → IsTelling (h ++ more) o t
+tells-more h more (Out.Bytes c bytes) None w = w
+tells-more h more (Out.Bytes c bytes) (Some t) w =
+    let v = w.1 in
+    (w.0, record { given = v.given; answer = v.answer; stands = given-more h more v.given v.stands; conn = v.conn; number = v.number; means = v.means; spelled = v.spelled })
+tells-more h more (Out.Datagram d) None w = tt
+tells-more h more (Out.Datagram d) (Some t) w = elim w [ ]
+tells-more h more (Out.Closed c) None w = tt
+tells-more h more (Out.Closed c) (Some t) w = elim w [ ]
+tells-more h more Out.Turned None w = tt
+tells-more h more Out.Turned (Some t) w = elim w [ ]
 
-pub advances-none : (c : CoreValue) → Advances c c
-advances-none c = record { more = []; entries = sym (append-nil c.entries); sends = sym (append-nil c.sends) }
+all-more : (h more : List Written) (os : List Output) (ts : List (Option Telling)) → AllTell h os ts → AllTell (h ++ more) os ts
+all-more h more [] [] w = tt
+all-more h more (o ∷ os) (t ∷ ts) w = (tells-more h more o t w.0, all-more h more os ts w.1)
+all-more h more [] (t ∷ ts) w = elim w [ ]
+all-more h more (o ∷ os) [] w = elim w [ ]
+
+all-joined : (h : List Written) (xs ys : List Output) (ts us : List (Option Telling)) → AllTell h xs ts → AllTell h ys us → AllTell h (xs ++ ys) (ts ++ us)
+all-joined h [] ys [] us a b = b
+all-joined h (x ∷ xs) ys (t ∷ ts) us a b = (a.0, all-joined h xs ys ts us a.1 b)
+all-joined h [] ys (t ∷ ts) us a b = elim a [ ]
+all-joined h (x ∷ xs) ys [] us a b = elim a [ ]
+
+abbrev pub advances-none : (c : CoreValue) → Advances c c
+advances-none c =
+    record { more = []; entries = sym (append-nil c.entries); sends = sym (append-nil c.sends); given = []; answers = sym (append-nil c.answers); numbers = refl }
 
 pub goes-none : (c : CoreValue) (outputs : List Output) → Goes c c outputs outputs
 goes-none c outputs = record {
   given = [];
   added = sym (append-nil outputs);
-  gives = record { more = []; entries = sym (append-nil c.entries); sent = append-nil c.sends; told = All-nil (IsTold c.entries) };
+  gives = record {
+    more = [];
+    entries = sym (append-nil c.entries);
+    sent = append-nil c.sends;
+    tellings = [];
+    told = tt;
+    answers = λ d. append-nil (untold c d);
+  };
 }
 
-pub goes-advancing : (c d : CoreValue) (outputs : List Output) → Advances c d → Goes c d outputs outputs
-goes-advancing c d outputs a = record {
+pub goes-advancing : (c d : CoreValue) (outputs : List Output) → AreStanding c → Advances c d → Goes c d outputs outputs
+goes-advancing c d outputs below a = record {
   given = [];
   added = sym (append-nil outputs);
-  gives = record { more = a.more; entries = a.entries; sent = sym a.sends; told = All-nil (IsTold d.entries) };
+  gives = record {
+    more = a.more;
+    entries = a.entries;
+    sent = sym a.sends;
+    tellings = [];
+    told = tt;
+    answers = λ k. rw (a.entries, a.answers) (untold-grows c.entries a.more c.answers a.given k below a.numbers);
+  };
 }
 
-pub goes-telling : (c : CoreValue) (before after : List Output) → AddsTold c.entries before after → Goes c c before after
+pub goes-telling : (c : CoreValue) (before after : List Output) → AddsTold c.entries None before after → Goes c c before after
 goes-telling c before after a = record {
   given = a.output ∷ [];
   added = a.added;
@@ -80,11 +115,44 @@ goes-telling c before after a = record {
     more = [];
     entries = sym (append-nil c.entries);
     sent = rw a.none_sent (append-nil c.sends);
-    told = All-push (IsTold c.entries) [] a.output (All-nil (IsTold c.entries)) a.told;
+    tellings = None ∷ [];
+    told = (a.told, tt);
+    answers = λ d. append-nil (untold c d);
   };
 }
 
-module _ (h h1 : List Written) (m1 m2 : List Written) (u u1 u2 : List Outgoing) (x y : List Output) where
+-- nothing changes that matters
+pub goes-same : (a b : CoreValue) (outputs : List Output) → b.entries ≡ a.entries → b.sends ≡ a.sends → b.answers ≡ a.answers → Goes a b outputs outputs
+goes-same a b outputs entries sends answers = record {
+  given = [];
+  added = sym (append-nil outputs);
+  gives = record {
+    more = [];
+    entries = entries ∙ sym (append-nil a.entries);
+    sent = append-nil a.sends ∙ sym sends;
+    tellings = [];
+    told = tt;
+    answers = λ d. rw (entries, answers) (append-nil (untold a d));
+  };
+}
+
+-- an answer is taken and told
+pub goes-answering : (a b : CoreValue) (before after : List Output) (t : Telling) → b.entries ≡ a.entries → b.sends ≡ a.sends
+    → ((d : ℕ) → untold a d ≡ told_by d (Some t) ++ untold b d) → AddsTold a.entries (Some t) before after → Goes a b before after
+goes-answering a b before after t entries sends taken told = record {
+  given = told.output ∷ [];
+  added = told.added;
+  gives = record {
+    more = [];
+    entries = entries ∙ sym (append-nil a.entries);
+    sent = rw (told.none_sent, sends) (append-nil a.sends);
+    tellings = Some t ∷ [];
+    told = rw entries (told.told, tt);
+    answers = λ d. append-nil (untold a d) ∙ taken d ∙ ap (λ (ns : List ℕ). ns ++ untold b d) (sym (append-nil (told_by d (Some t))));
+  };
+}
+
+module _ (m1 m2 : List Written) (u u1 u2 : List Outgoing) (x y : List Output) where
   sent-both : u ++ sendings m1 ≡ datagrams x ++ u1 → u1 ++ sendings m2 ≡ datagrams y ++ u2
       → u ++ sendings (m1 ++ m2) ≡ datagrams (x ++ y) ++ u2
   sent-both first second =
@@ -96,21 +164,36 @@ module _ (h h1 : List Written) (m1 m2 : List Written) (u u1 u2 : List Outgoing) 
       ∙ sym (append_assoc (datagrams x) (datagrams y) u2)
       ∙ ap (λ s. s ++ u2) (sym (flat_map-append datagram_in x y))
 
+told-both : (c n k : ℕ) (m1 m2 : List Written) (u u1 u2 : List ℕ) (ts us : List (Option Telling)) → k ≡ n + length m1
+    → u ++ answered c n m1 ≡ told_to c ts ++ u1 → u1 ++ answered c k m2 ≡ told_to c us ++ u2
+    → u ++ answered c n (m1 ++ m2) ≡ told_to c (ts ++ us) ++ u2
+told-both c n k m1 m2 u u1 u2 ts us place first second =
+    ap (λ s. u ++ s) (answered-append c n m1 m2 ∙ ap (λ (k : ℕ). answered c n m1 ++ answered c k m2) (sym place))
+    ∙ sym (append_assoc u (answered c n m1) (answered c k m2))
+    ∙ ap (λ s. s ++ answered c k m2) first
+    ∙ append_assoc (told_to c ts) u1 (answered c k m2)
+    ∙ ap (λ s. told_to c ts ++ s) second
+    ∙ sym (append_assoc (told_to c ts) (told_to c us) u2)
+    ∙ ap (λ s. s ++ u2) (sym (flat_map-append (told_by c) ts us))
+
 pub goes-on : (a b c : CoreValue) (x y z : List Output) → Goes a b x y → Goes b c y z → Goes a c x z
 goes-on a b c x y z first second =
     let m1 = first.gives.more in
     let m2 = second.gives.more in
     let grown : c.entries ≡ b.entries ++ m2 = second.gives.entries in
-    let kept : All (IsTold c.entries) first.given =
-    rw grown (All-weaker (IsTold b.entries) (IsTold (b.entries ++ m2)) (told-more b.entries m2) first.given first.gives.told) in
+    let place : length b.entries ≡ length a.entries + length m1 = ap length first.gives.entries ∙ length-append a.entries m1 in
     record {
       given = first.given ++ second.given;
       added = second.added ∙ ap (λ s. s ++ second.given) first.added ∙ append_assoc x first.given second.given;
       gives = record {
         more = m1 ++ m2;
         entries = grown ∙ ap (λ s. s ++ m2) first.gives.entries ∙ append_assoc a.entries m1 m2;
-        sent = sent-both a.entries b.entries m1 m2 a.sends b.sends c.sends first.given second.given first.gives.sent second.gives.sent;
-        told = All-append (IsTold c.entries) first.given second.given kept second.gives.told;
+        sent = sent-both m1 m2 a.sends b.sends c.sends first.given second.given first.gives.sent second.gives.sent;
+        tellings = first.gives.tellings ++ second.gives.tellings;
+        told = all-joined c.entries first.given second.given first.gives.tellings second.gives.tellings
+            (rw grown (all-more b.entries m2 first.given first.gives.tellings first.gives.told)) second.gives.told;
+        answers = λ d. told-both d (length a.entries) (length b.entries) m1 m2 (untold a d) (untold b d) (untold c d)
+            first.gives.tellings second.gives.tellings place (first.gives.answers d) (second.gives.answers d);
       };
     }
 
@@ -131,14 +214,14 @@ leads-on (Err e) a b c x y z first second = grows-on a.entries b.entries c.entri
 
 -- telling something, which leaves the core as it is
 pub told-leads : {X E : Type 0} (r : Result X E) (c : CoreValue) (before after : List Output)
-    → ((h : List Written) → OnOk r (AddsTold h before after)) → Leads r c c before after
+    → ((h : List Written) → OnOk r (AddsTold h None before after)) → Leads r c c before after
 told-leads (Ok v) c before after t = goes-telling c before after (t c.entries)
 told-leads (Err e) c before after t = ([], sym (append-nil c.entries))
 
 -- the first datagram that waits is given out
 pub sent-one : (a b c : CoreValue) (x y z : List Output) (d : Datagram) → Goes a b x y → b.sends ≡ outgoing_of d ∷ c.sends
-    → c.entries ≡ b.entries → z ≡ y ++ Out.Datagram d ∷ [] → Goes a c x z
-sent-one a b c x y z d first sends entries added =
+    → c.entries ≡ b.entries → c.answers ≡ b.answers → z ≡ y ++ Out.Datagram d ∷ [] → Goes a c x z
+sent-one a b c x y z d first sends entries answers added =
     goes-on a b c x y z first (record {
       given = Out.Datagram d ∷ [];
       added = added;
@@ -146,7 +229,9 @@ sent-one a b c x y z d first sends entries added =
         more = [];
         entries = entries ∙ sym (append-nil b.entries);
         sent = append-nil b.sends ∙ sends;
-        told = All-push (IsTold c.entries) [] (Out.Datagram d) (All-nil (IsTold c.entries)) tt;
+        tellings = None ∷ [];
+        told = (tt, tt);
+        answers = λ k. rw (entries, answers) (append-nil (untold b k));
       };
     })
 
@@ -156,22 +241,9 @@ sent-grow a b c x y first entries = (first.gives.more, entries ∙ first.gives.e
 pub shorter : {X : Type 0} (x : X) (xs ys : List X) → ys ≡ x ∷ xs → length xs < length ys
 shorter x xs ys e = let n = ap length e in omega (arith, n)
 
--- an answer is taken
-pub goes-taking : (a b : CoreValue) (outputs : List Output) → b.entries ≡ a.entries → b.sends ≡ a.sends → Goes a b outputs outputs
-goes-taking a b outputs entries sends = record {
-  given = [];
-  added = sym (append-nil outputs);
-  gives = record {
-    more = [];
-    entries = entries ∙ sym (append-nil a.entries);
-    sent = append-nil a.sends ∙ sym sends;
-    told = All-nil (IsTold b.entries);
-  };
-}
-
 -- all that is given out, where nothing was before
 pub gives-all : (a b : CoreValue) (before outputs : List Output) → before ≡ [] → Goes a b before outputs
-    → Gives a.entries a.sends b.entries b.sends outputs
+    → Gives a b outputs
 gives-all a b before outputs none w =
     let all : outputs ≡ w.given = w.added ∙ ap (λ (o : List Output). o ++ w.given) none in
     rw all w.gives

@@ -1,6 +1,12 @@
 pub mod Advancing
+pub mod Asking
 pub mod Bodies
+pub mod Counting
 pub mod Faults
 pub mod Going
+pub mod Lateness
 pub mod Names
+pub mod Placing
 pub mod Rules
+pub mod Serving
+pub mod Taking

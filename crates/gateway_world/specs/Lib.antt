@@ -1,4 +1,6 @@
 pub mod Limits
 pub mod Located
 pub mod Means
+pub mod Rows
+pub mod Steps
 pub mod Worlds

@@ -1,8 +1,8 @@
 //! What an input leads to, step by step.
 
-ghost use Rattle.std.specs.Prelude.{◌≡◌};
-ghost use Rattle.exchange_core.specs.Answering.{given_of, IsGiven};
-ghost use Rattle.gateway_world.specs.Worlds.{Advances, Leads};
+ghost use Rattle.std.specs.Prelude.{◌≡◌, None};
+ghost use Rattle.gateway_world.specs.Steps.{Advances, Leads};
+ghost use Rattle.gateway_world.specs.Rows.{Serves, IsRow, rows_of};
 
 use crate::fields::closes;
 use crate::inbox::{Next, REQUESTS};
@@ -12,7 +12,7 @@ use crate::stepping::{When, ask_in, close_in, hear_in, open_in, send_from, tick_
 use crate::table::Table;
 use crate::telling::{tell_answer, tell_closed, tell_continue, tell_turned};
 use ask_model::Settings;
-use exchange_core::{Answer, AskFault, Core, OpenFault, Ticket};
+use exchange_core::{AskFault, Core, OpenFault};
 use http_edge::{Edge, Incoming, Memory};
 use std::alloc::Global;
 use std::sync::Arc;
@@ -36,7 +36,9 @@ impl<R: Relation> Engine<R> {
         happening: Happening<'_>,
         outputs: &mut Vec<Output>,
     ) -> Result<(), Memory>
-        ensures { Leads result self.old.core self.new.core outputs.old.items outputs.new.items }
+        requires { Serves self.old.core (rows_of self.old.table) }
+        ensures leads { Leads result self.old.core self.new.core outputs.old.items outputs.new.items }
+        ensures kept { Serves self.new.core (rows_of self.new.table) }
     {
         match happening {
             Happening::Open => self.open(when, outputs),
@@ -52,7 +54,9 @@ impl<R: Relation> Engine<R> {
 
     /// Opens a connection, or turns the client away.
     fn open(&mut self, when: When, outputs: &mut Vec<Output>) -> Result<(), Memory>
-        ensures { Leads result self.old.core self.new.core outputs.old.items outputs.new.items }
+        requires { Serves self.old.core (rows_of self.old.table) }
+        ensures leads { Leads result self.old.core self.new.core outputs.old.items outputs.new.items }
+        ensures kept { Serves self.new.core (rows_of self.new.table) }
     {
         let edge = Edge::new(self.alloc)?;
         self.table.make_room()?;
@@ -74,7 +78,9 @@ impl<R: Relation> Engine<R> {
         bytes: &[u8],
         outputs: &mut Vec<Output>,
     ) -> Result<(), Memory>
-        ensures { Leads result self.old.core self.new.core outputs.old.items outputs.new.items }
+        requires { Serves self.old.core (rows_of self.old.table) }
+        ensures leads { Leads result self.old.core self.new.core outputs.old.items outputs.new.items }
+        ensures kept { Serves self.new.core (rows_of self.new.table) }
     {
         self.table.append(number, bytes)?;
         self.serve(when, number, outputs)
@@ -88,7 +94,9 @@ impl<R: Relation> Engine<R> {
         bytes: &[u8],
         outputs: &mut Vec<Output>,
     ) -> Result<(), Memory>
-        ensures { Leads result self.old.core self.new.core outputs.old.items outputs.new.items }
+        requires { Serves self.old.core (rows_of self.old.table) }
+        ensures leads { Leads result self.old.core self.new.core outputs.old.items outputs.new.items }
+        ensures kept { Serves self.new.core (rows_of self.new.table) }
     {
         hear_in(&mut self.core, when, peer, bytes)?;
         self.deliver(when, outputs)
@@ -96,7 +104,9 @@ impl<R: Relation> Engine<R> {
 
     /// Lets time go on.
     fn tick(&mut self, when: When, outputs: &mut Vec<Output>) -> Result<(), Memory>
-        ensures { Leads result self.old.core self.new.core outputs.old.items outputs.new.items }
+        requires { Serves self.old.core (rows_of self.old.table) }
+        ensures leads { Leads result self.old.core self.new.core outputs.old.items outputs.new.items }
+        ensures kept { Serves self.new.core (rows_of self.new.table) }
     {
         tick_in(&mut self.core, when)?;
         self.deliver(when, outputs)
@@ -104,7 +114,9 @@ impl<R: Relation> Engine<R> {
 
     /// Closes the connection, where it is open.
     fn close(&mut self, when: When, number: u32)
-        ensures { Advances self.old.core self.new.core }
+        requires { Serves self.old.core (rows_of self.old.table) }
+        ensures advances { Advances self.old.core self.new.core }
+        ensures kept { Serves self.new.core (rows_of self.new.table) }
     {
         if close_in(&mut self.core, when, number) {
             self.table.remove(number);
@@ -113,7 +125,9 @@ impl<R: Relation> Engine<R> {
 
     /// Gives out the datagrams and the answers of a step, the answers by the numbers of their asks.
     fn deliver(&mut self, when: When, outputs: &mut Vec<Output>) -> Result<(), Memory>
-        ensures { Leads result self.old.core self.new.core outputs.old.items outputs.new.items }
+        requires { Serves self.old.core (rows_of self.old.table) }
+        ensures leads { Leads result self.old.core self.new.core outputs.old.items outputs.new.items }
+        ensures kept { Serves self.new.core (rows_of self.new.table) }
     {
         send_from(&mut self.core, outputs)?;
         self.answer_all(when, outputs)
@@ -121,7 +135,9 @@ impl<R: Relation> Engine<R> {
 
     /// Gives out the answers that are there, by the numbers of their asks.
     fn answer_all(&mut self, when: When, outputs: &mut Vec<Output>) -> Result<(), Memory>
-        ensures { Leads result self.old.core self.new.core outputs.old.items outputs.new.items }
+        requires { Serves self.old.core (rows_of self.old.table) }
+        ensures leads { Leads result self.old.core self.new.core outputs.old.items outputs.new.items }
+        ensures kept { Serves self.new.core (rows_of self.new.table) }
     {
         let mut from = 0;
         'each: while let Some((ask, number)) = self.table.first_waiting(from) {
@@ -137,22 +153,19 @@ impl<R: Relation> Engine<R> {
     /// Gives out the answer that the connection waits for, if it is there, and what its further
     /// requests give.
     fn answer(&mut self, when: When, number: u32, outputs: &mut Vec<Output>) -> Result<(), Memory>
-        ensures { Leads result self.old.core self.new.core outputs.old.items outputs.new.items }
+        requires { Serves self.old.core (rows_of self.old.table) }
+        ensures leads { Leads result self.old.core self.new.core outputs.old.items outputs.new.items }
+        ensures kept { Serves self.new.core (rows_of self.new.table) }
     {
-        let Some(ticket) = self.table.ticket(number) else {
-            return Ok(());
-        };
-        let Some(answer) = self.core.take_answer(ticket) else {
-            return Ok(());
-        };
-        self.table.set_ticket(number, None);
-        self.give(when, number, &answer, outputs)?;
+        self.give(when, number, outputs)?;
         self.serve(when, number, outputs)
     }
 
     /// Asks what the connection's bytes ask, until one waits for its answer.
     fn serve(&mut self, when: When, number: u32, outputs: &mut Vec<Output>) -> Result<(), Memory>
-        ensures { Leads result self.old.core self.new.core outputs.old.items outputs.new.items }
+        requires { Serves self.old.core (rows_of self.old.table) }
+        ensures leads { Leads result self.old.core self.new.core outputs.old.items outputs.new.items }
+        ensures kept { Serves self.new.core (rows_of self.new.table) }
     {
         'each: for _ in 0..REQUESTS {
             if !self.serve_next(when, number, outputs)? {
@@ -169,7 +182,9 @@ impl<R: Relation> Engine<R> {
         number: u32,
         outputs: &mut Vec<Output>,
     ) -> Result<bool, Memory>
-        ensures { Leads result self.old.core self.new.core outputs.old.items outputs.new.items }
+        requires { Serves self.old.core (rows_of self.old.table) }
+        ensures leads { Leads result self.old.core self.new.core outputs.old.items outputs.new.items }
+        ensures kept { Serves self.new.core (rows_of self.new.table) }
     {
         match self.table.next(number)? {
             Next::Request(incoming) => {
@@ -193,12 +208,19 @@ impl<R: Relation> Engine<R> {
         incoming: Incoming,
         outputs: &mut Vec<Output>,
     ) -> Result<(), Memory>
-        ensures { Leads result self.old.core self.new.core outputs.old.items outputs.new.items }
+        requires served { Serves self.old.core (rows_of self.old.table) }
+        requires idle { IsRow (rows_of self.old.table) number None }
+        ensures leads { Leads result self.old.core self.new.core outputs.old.items outputs.new.items }
+        ensures kept { Serves self.new.core (rows_of self.new.table) }
     {
         let mapped = map_request(self.alloc, &self.settings, incoming)?;
         let mapped = Arc::new(self.alloc, mapped)?;
         match ask_in(&mut self.core, when, number, mapped) {
-            Ok(ticket) => self.asked(when, number, ticket, outputs),
+            Ok(ticket) => {
+                self.table.set_ticket(number, Some(ticket));
+                send_from(&mut self.core, outputs)?;
+                self.give(when, number, outputs)
+            }
             Err(AskFault::Memory) => Err(Memory),
             Err(AskFault::Unknown | AskFault::Pending | AskFault::Sealed) => {
                 self.shut(when, number, outputs)
@@ -206,38 +228,21 @@ impl<R: Relation> Engine<R> {
         }
     }
 
-    /// Gives out what an ask led to.
-    fn asked(
-        &mut self,
-        when: When,
-        number: u32,
-        ticket: Ticket<R>,
-        outputs: &mut Vec<Output>,
-    ) -> Result<(), Memory>
-        ensures { Leads result self.old.core self.new.core outputs.old.items outputs.new.items }
+    /// Gives out the answer that the connection waits for, if it is there, and closes the connection
+    /// where it is the last.
+    fn give(&mut self, when: When, number: u32, outputs: &mut Vec<Output>) -> Result<(), Memory>
+        requires { Serves self.old.core (rows_of self.old.table) }
+        ensures leads { Leads result self.old.core self.new.core outputs.old.items outputs.new.items }
+        ensures kept { Serves self.new.core (rows_of self.new.table) }
     {
-        send_from(&mut self.core, outputs)?;
-        match self.core.take_answer(&ticket) {
-            Some(answer) => self.give(when, number, &answer, outputs),
-            None => {
-                self.table.set_ticket(number, Some(ticket));
-                Ok(())
-            }
-        }
-    }
-
-    /// Gives out an answer, and closes the connection where it is the last.
-    fn give(
-        &mut self,
-        when: When,
-        number: u32,
-        answer: &Answer<R>,
-        outputs: &mut Vec<Output>,
-    ) -> Result<(), Memory>
-        requires { IsGiven self.old.core.entries (given_of answer.now) }
-        ensures { Leads result self.old.core self.new.core outputs.old.items outputs.new.items }
-    {
-        tell_answer(self.alloc, number, answer, outputs)?;
+        let Some(ticket) = self.table.ticket(number) else {
+            return Ok(());
+        };
+        let Some(answer) = self.core.take_answer(ticket) else {
+            return Ok(());
+        };
+        self.table.set_ticket(number, None);
+        tell_answer(self.alloc, number, &answer, outputs)?;
         if closes(answer.mapped.came()) {
             self.shut(when, number, outputs)
         } else {
@@ -247,7 +252,9 @@ impl<R: Relation> Engine<R> {
 
     /// Closes the connection by the proxy's own choice.
     fn shut(&mut self, when: When, number: u32, outputs: &mut Vec<Output>) -> Result<(), Memory>
-        ensures { Leads result self.old.core self.new.core outputs.old.items outputs.new.items }
+        requires { Serves self.old.core (rows_of self.old.table) }
+        ensures leads { Leads result self.old.core self.new.core outputs.old.items outputs.new.items }
+        ensures kept { Serves self.new.core (rows_of self.new.table) }
     {
         self.close(when, number);
         tell_closed(number, outputs)

@@ -2,7 +2,7 @@
 
 use crate::fault::WorldFault;
 use crate::input::{Input, Output};
-use crate::world::World;
+use crate::state::World;
 use ask_model::Settings;
 use journal_book::Journal;
 use std::alloc::Global;

@@ -1,7 +1,8 @@
 //! The steps of the core, by what each adds to the journal and lets wait to be sent.
 
-ghost use Rattle.std.specs.Prelude.{◌≡◌, [], ◌++◌, IfOk, OnOk, length};
-ghost use Rattle.gateway_world.specs.Worlds.{Advances, Leads};
+ghost use Rattle.std.specs.Prelude.{◌≡◌, List, [], ◌++◌, ◌∷◌, Some, None, IfOk, OnOk, OnErr, length};
+ghost use Rattle.gateway_world.specs.Steps.{Advances, Leads};
+ghost use Rattle.gateway_world.specs.Rows.{Row, Serves, IsRow, AnswersAlone, with_waits};
 
 use crate::input::Output;
 use ask_model::Mapped;
@@ -20,7 +21,9 @@ pub struct When {
 
 /// Opens a connection.
 pub fn open_in<R: Relation>(core: &mut Core<R>, when: When) -> Result<u32, OpenFault>
-    ensures { Advances core.old core.new }
+    ensures advances { Advances core.old core.new }
+    ensures opened { (rows : List Row) → Serves core.old rows → IfOk result (λ number. Serves core.new (rows ++ record { number = number; waits = None } ∷ [])) }
+    ensures kept { (rows : List Row) → Serves core.old rows → OnErr result (Serves core.new rows) }
 {
     core.open(when.moment)
 }
@@ -32,7 +35,9 @@ pub fn ask_in<R: Relation>(
     conn: u32,
     mapped: Arc<Mapped<R>>,
 ) -> Result<Ticket<R>, AskFault>
-    ensures { Advances core.old core.new }
+    ensures advances { Advances core.old core.new }
+    ensures asked { (rows : List Row) → Serves core.old rows → IsRow rows conn None → IfOk result (λ ticket. Serves core.new (with_waits conn (Some ticket.number) rows)) }
+    ensures kept { (rows : List Row) → Serves core.old rows → OnErr result (Serves core.new rows) }
 {
     core.ask(when.moment, when.word, conn, mapped)
 }
@@ -44,7 +49,7 @@ pub fn hear_in<R: Relation>(
     peer: Peer,
     bytes: &[u8],
 ) -> Result<(), Memory>
-    ensures { Advances core.old core.new }
+    ensures { AnswersAlone core.old core.new }
 {
     core.heard(when.moment, when.word, peer, bytes)?;
     Ok(())
@@ -52,7 +57,7 @@ pub fn hear_in<R: Relation>(
 
 /// Lets time go on.
 pub fn tick_in<R: Relation>(core: &mut Core<R>, when: When) -> Result<(), Memory>
-    ensures { Advances core.old core.new }
+    ensures { AnswersAlone core.old core.new }
 {
     core.tick(when.moment, when.word)?;
     Ok(())
@@ -60,7 +65,7 @@ pub fn tick_in<R: Relation>(core: &mut Core<R>, when: When) -> Result<(), Memory
 
 /// Closes a connection. False where it isn't open.
 pub fn close_in<R: Relation>(core: &mut Core<R>, when: When, conn: u32) -> bool
-    ensures { Advances core.old core.new }
+    ensures { AnswersAlone core.old core.new }
 {
     core.close(when.moment, conn)
 }
@@ -69,6 +74,7 @@ pub fn close_in<R: Relation>(core: &mut Core<R>, when: When, conn: u32) -> bool
 pub fn send_from<R: Relation>(core: &mut Core<R>, outputs: &mut Vec<Output>) -> Result<(), Memory>
     ensures leads { Leads result core.old core.new outputs.old.items outputs.new.items }
     ensures sent { OnOk result (core.new.sends ≡ []) }
+    ensures kept { (rows : List Row) → Serves core.old rows → Serves core.new rows }
 {
     'each: while let Some(datagram) = core.take_send() {
         outputs.push(Output::Datagram(datagram))?;

@@ -1,6 +1,7 @@
 //! The open connections.
 
-ghost use Rattle.std.specs.Prelude.{◌≡◌, ◌<◌, ◌≤◌, vec_len, vec_capacity, length, IfSome, OnOk};
+ghost use Rattle.std.specs.Prelude.{◌≡◌, ◌≢◌, ◌<◌, ◌≤◌, ◌∷◌, ◌++◌, [], None, Some, true, All, take, slice_get, option_map, vec_len, vec_capacity, length, IfOk, IfSome, OnOk};
+ghost use Rattle.gateway_world.specs.Rows.{rows_of, with_waits, without_row, is_request, IsRow};
 
 use crate::inbox::{Inbox, Next};
 use exchange_core::Ticket;
@@ -27,7 +28,9 @@ pub struct Table<R: Relation> {
 
 impl<R: Relation> Table<R> {
     /// No connection.
-    pub fn new(alloc: Global) -> Table<R> {
+    pub fn new(alloc: Global) -> Table<R>
+        ensures { rows_of result ≡ [] }
+    {
         Table {
             alloc,
             rows: Vec::new(alloc),
@@ -36,7 +39,8 @@ impl<R: Relation> Table<R> {
 
     /// Makes the place of one more.
     pub fn make_room(&mut self) -> Result<(), Memory>
-        ensures { OnOk result (vec_len self.new.rows < vec_capacity self.new.rows) }
+        ensures room { OnOk result (vec_len self.new.rows < vec_capacity self.new.rows) }
+        ensures rows { rows_of self.new ≡ rows_of self.old }
     {
         self.rows.try_reserve(1)?;
         Ok(())
@@ -45,6 +49,7 @@ impl<R: Relation> Table<R> {
     /// Puts a connection without bytes last, where there is a place.
     pub fn add(&mut self, number: u32, edge: Edge)
         requires { vec_len self.old.rows < vec_capacity self.old.rows }
+        ensures { rows_of self.new ≡ rows_of self.old ++ record { number = number; waits = None } ∷ [] }
     {
         self.rows.push_reserved(Connection {
             number,
@@ -55,7 +60,9 @@ impl<R: Relation> Table<R> {
 
     /// The place of the connection of that number.
     fn place_of(&self, number: u32) -> Option<usize>
-        ensures { IfSome result (λ i. i < length self.now.rows.items) }
+        ensures some { IfSome result (λ i. option_map (λ c. c.number) (slice_get self.now.rows.items i) ≡ Some number) }
+        ensures first { IfSome result (λ i. All (λ c. c.number ≢ number) (take i self.now.rows.items)) }
+        ensures none { result ≡ None → All (λ c. c.number ≢ number) self.now.rows.items }
     {
         'each: for place in 0..self.rows.len() {
             if self.rows[place].number == number {
@@ -74,7 +81,9 @@ impl<R: Relation> Table<R> {
     }
 
     /// Puts bytes behind those of the connection that wait.
-    pub fn append(&mut self, number: u32, bytes: &[u8]) -> Result<(), Memory> {
+    pub fn append(&mut self, number: u32, bytes: &[u8]) -> Result<(), Memory>
+        ensures { rows_of self.new ≡ rows_of self.old }
+    {
         match self.place_of(number) {
             Some(place) => self.rows[place].inbox.append(bytes),
             None => Ok(()),
@@ -82,7 +91,10 @@ impl<R: Relation> Table<R> {
     }
 
     /// What the connection asks next: nothing while it waits for an answer.
-    pub fn next(&mut self, number: u32) -> Result<Next, Memory> {
+    pub fn next(&mut self, number: u32) -> Result<Next, Memory>
+        ensures rows { rows_of self.new ≡ rows_of self.old }
+        ensures idle { IfOk result (λ next. is_request next ≡ true → IsRow (rows_of self.old) number None) }
+    {
         match self.place_of(number) {
             Some(place) if self.rows[place].ticket.is_none() => self.rows[place].inbox.next(),
             _ => Ok(Next::Nothing),
@@ -90,7 +102,9 @@ impl<R: Relation> Table<R> {
     }
 
     /// The ask that the connection waits for.
-    pub fn ticket(&self, number: u32) -> Option<&Ticket<R>> {
+    pub fn ticket(&self, number: u32) -> Option<&Ticket<R>>
+        ensures { IfSome result (λ t. IsRow (rows_of self.now) number (Some t.now.number)) }
+    {
         match self.place_of(number) {
             Some(place) => self.rows[place].ticket.as_ref(),
             None => None,
@@ -98,14 +112,18 @@ impl<R: Relation> Table<R> {
     }
 
     /// Sets what the connection waits for.
-    pub fn set_ticket(&mut self, number: u32, ticket: Option<Ticket<R>>) {
+    pub fn set_ticket(&mut self, number: u32, ticket: Option<Ticket<R>>)
+        ensures { rows_of self.new ≡ with_waits number (option_map (λ t. t.number) ticket) (rows_of self.old) }
+    {
         if let Some(place) = self.place_of(number) {
             self.rows[place].ticket = ticket;
         }
     }
 
     /// Takes the connection out.
-    pub fn remove(&mut self, number: u32) {
+    pub fn remove(&mut self, number: u32)
+        ensures { rows_of self.new ≡ without_row number (rows_of self.old) }
+    {
         self.rows.retain(|row| row.number != number);
     }
 

@@ -1,9 +1,9 @@
 //! What connections are told.
 
-ghost use Rattle.std.specs.Prelude.{ℕ, List, ◌≡◌, codes, OnOk};
+ghost use Rattle.std.specs.Prelude.{ℕ, List, Some, None, ◌≡◌, codes, OnOk};
 ghost use Rattle.journal_book.specs.Entries.{Written};
 ghost use Rattle.exchange_core.specs.Answering.{given_of, IsGiven};
-ghost use Rattle.gateway_world.specs.Worlds.{AddsTold};
+ghost use Rattle.gateway_world.specs.Steps.{AddsTold};
 
 use crate::input::Output;
 use crate::rendering::render;
@@ -17,7 +17,7 @@ const CONTINUE: &str = "HTTP/1.1 100 Continue\r\n\r\n";
 
 /// Tells a client that waits with its body to go on.
 pub fn tell_continue(alloc: Global, number: u32, outputs: &mut Vec<Output>) -> Result<(), Memory>
-    ensures { (h : List Written) → OnOk result (AddsTold h outputs.old.items outputs.new.items) }
+    ensures { (h : List Written) → OnOk result (AddsTold h None outputs.old.items outputs.new.items) }
 {
     let bytes = Vec::from_slice(alloc, CONTINUE.as_bytes())?;
     outputs.push(Output::Bytes(number, bytes))?;
@@ -31,7 +31,7 @@ pub fn tell_answer<R: Relation>(
     answer: &Answer<R>,
     outputs: &mut Vec<Output>,
 ) -> Result<(), Memory>
-    ensures { (h : List Written) → IsGiven h (given_of answer.now) → OnOk result (AddsTold h outputs.old.items outputs.new.items) }
+    ensures { (h : List Written) (g : IsGiven h (given_of answer.now)) → g.conn ≡ number → OnOk result (AddsTold h (Some (record { conn = number; number = answer.now.number })) outputs.old.items outputs.new.items) }
 {
     let rendered = render(alloc, answer)?;
     let bytes = answer_bytes(alloc, &rendered)?;
@@ -41,7 +41,7 @@ pub fn tell_answer<R: Relation>(
 
 /// Tells that the proxy closes the connection.
 pub fn tell_closed(number: u32, outputs: &mut Vec<Output>) -> Result<(), Memory>
-    ensures { (h : List Written) → OnOk result (AddsTold h outputs.old.items outputs.new.items) }
+    ensures { (h : List Written) → OnOk result (AddsTold h None outputs.old.items outputs.new.items) }
 {
     outputs.push(Output::Closed(number))?;
     Ok(())
@@ -49,7 +49,7 @@ pub fn tell_closed(number: u32, outputs: &mut Vec<Output>) -> Result<(), Memory>
 
 /// Tells that no connection was opened.
 pub fn tell_turned(outputs: &mut Vec<Output>) -> Result<(), Memory>
-    ensures { (h : List Written) → OnOk result (AddsTold h outputs.old.items outputs.new.items) }
+    ensures { (h : List Written) → OnOk result (AddsTold h None outputs.old.items outputs.new.items) }
 {
     outputs.push(Output::Turned)?;
     Ok(())

@@ -2,11 +2,12 @@
 
 ghost use Rattle.std.specs.Prelude.{◌≡◌, ◌≤◌, [], true, IfOk, OnOk, IsErrOf};
 ghost use Rattle.history_laws.specs.Justified.{Stands};
-ghost use Rattle.gateway_world.specs.Worlds.{Grows, Gives};
+ghost use Rattle.gateway_world.specs.Steps.{Grows, Gives};
 
 use crate::engine::Engine;
 use crate::fault::WorldFault;
 use crate::input::{Happening, Input, Output};
+use crate::state::World;
 use crate::stepping::When;
 use crate::table::Table;
 use ask_model::Settings;
@@ -20,21 +21,15 @@ use transformers::Relation;
 /// The last moment: later ones count as this one.
 const LAST_MOMENT: u64 = 1 << 62;
 
-/// A proxy with its history.
-#[derive(Drop)]
-pub struct World<R: Relation> {
-    engine: Engine<R>,
-    moment: u64,
-}
-
 impl<R: Relation> World<R> {
-    ghost use Rattle.gateway_world.specs.Worlds.{history_of, moment_of, unsent_of, counted};
+    ghost use Rattle.gateway_world.specs.Worlds.{counted};
 
     /// A proxy to which nothing has happened.
     pub fn new(alloc: Global, settings: Settings) -> Result<World<R>, Memory>
-        ensures history { IfOk result (λ w. history_of w ≡ []) }
-        ensures unsent { IfOk result (λ w. unsent_of w ≡ []) }
-        ensures moment { IfOk result (λ w. moment_of w ≡ 0) }
+        ensures history { IfOk result (λ w. w.core.entries ≡ []) }
+        ensures unsent { IfOk result (λ w. w.core.sends ≡ []) }
+        ensures untold { IfOk result (λ w. w.core.answers ≡ []) }
+        ensures moment { IfOk result (λ w. w.moment ≡ 0) }
     {
         Ok(World {
             engine: Engine {
@@ -49,15 +44,15 @@ impl<R: Relation> World<R> {
 
     /// What happened. One reading of it is legal and at rest.
     pub fn journal(&self) -> &Journal<R>
-        ensures entries { result.now.entries ≡ history_of self.now }
-        ensures stands { Stands (history_of self.now) }
+        ensures entries { result.now.entries ≡ self.now.core.entries }
+        ensures stands { Stands self.now.core.entries }
     {
         self.engine.core.journal()
     }
 
     /// The moment of the last input, in milliseconds: it never falls, and is at most 2^62.
     pub fn moment(&self) -> u64
-        ensures { result ≡ moment_of self.now }
+        ensures { result ≡ self.now.moment }
     {
         self.moment
     }
@@ -66,10 +61,10 @@ impl<R: Relation> World<R> {
     /// answers by the numbers of their asks, each followed by what its connection's further requests
     /// give. An input for a connection that isn't open gives nothing.
     pub fn input(&mut self, input: Input<'_>) -> Result<Vec<Output>, WorldFault>
-        ensures moment { OnOk result (moment_of self.new ≡ counted (moment_of self.old) input.entry.moment) }
+        ensures moment { OnOk result (self.new.moment ≡ counted self.old.moment input.entry.moment) }
         ensures backlog { IsErrOf result WorldFault.Backlog → self.new ≡ self.old }
-        ensures grows { Grows (history_of self.old) (history_of self.new) }
-        ensures gives { IfOk result (λ outputs. Gives (history_of self.old) (unsent_of self.old) (history_of self.new) (unsent_of self.new) outputs.items) }
+        ensures grows { Grows self.old.core.entries self.new.core.entries }
+        ensures gives { IfOk result (λ outputs. Gives self.old.core self.new.core outputs.items) }
     {
         if self.is_too_much(input.happening) {
             return Err(WorldFault::Backlog);

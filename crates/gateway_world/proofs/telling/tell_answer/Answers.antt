@@ -1,20 +1,25 @@
 -- The bytes are those of the response that the answer is rendered as.
-use Rattle.std.proofs.Common.{inr, refl}
+use Rattle.std.proofs.Common.{refl}
 use Rattle.exchange_core.specs.Answering.{given_of}
 use Rattle.gateway_world.specs.declared.input.Output.TheVariants as Out
 use Rattle.gateway_world.proofs.telling.tell_answer.Goals as goal
 
 pub returns : goal.returns
-returns g c = λ h given.
+returns g c = λ h given conn.
     record {
       output = Out.Bytes c.args.number c.in_ok-bytes.bytes;
       added = c.in_ok-push.ensures.items;
       none_sent = refl;
-      told = inr (record {
-        given = given_of c.args.answer.now;
-        answer = c.in_ok-rendered.rendered;
-        stands = given;
-        means = c.in_ok-rendered.ensures.means;
-        spelled = c.in_ok-bytes.ensures;
-      });
+      told = (
+        refl,
+        record {
+          given = given_of c.args.answer.now;
+          answer = c.in_ok-rendered.rendered;
+          stands = given;
+          conn = conn;
+          number = refl;
+          means = c.in_ok-rendered.ensures.means;
+          spelled = c.in_ok-bytes.ensures;
+        },
+      );
     }

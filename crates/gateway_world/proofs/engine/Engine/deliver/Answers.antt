@@ -2,5 +2,8 @@
 use Rattle.gateway_world.proofs.Going.{leads-on}
 use Rattle.gateway_world.proofs.engine.Engine.deliver.Goals as goal
 
-pub returns : goal.returns
-returns g c = leads-on c.answer_all.result _ _ _ _ _ _ c.in_ok-send_from.ensures.leads c.answer_all.ensures
+pub answer_all-requires : goal.answer_all-requires
+answer_all-requires g c = c.in_ok-send_from.ensures.kept _ c.requires
+
+pub returns-clause-leads : goal.returns-clause-leads
+returns-clause-leads g c = leads-on c.answer_all.result _ _ _ _ _ _ c.in_ok-send_from.ensures.leads c.answer_all.ensures.leads

@@ -1,7 +1,13 @@
--- Where no connection is opened, that is told.
+-- A connection is opened and served, or that it isn't is told.
 use Rattle.gateway_world.proofs.Going.{goes-advancing, leads-on, told-leads}
+use Rattle.gateway_world.proofs.Serving.{standing-of}
 use Rattle.gateway_world.proofs.engine.Engine.open.Goals as goal
 
+pub returns-in-Ok-clause-leads : goal.returns-in-Ok-clause-leads
+returns-in-Ok-clause-leads g c = goes-advancing _ _ _ (standing-of _ _ c.requires) c.open_in.ensures.advances
+
 pub returns-in-Err-Full : goal.returns-in-Err-Full
-returns-in-Err-Full g c =
-    leads-on c.tell_turned.result _ _ _ _ _ _ (goes-advancing _ _ _ c.open_in.ensures) (told-leads _ _ _ _ c.tell_turned.ensures)
+returns-in-Err-Full g c = record {
+  leads = leads-on c.tell_turned.result _ _ _ _ _ _ (goes-advancing _ _ _ (standing-of _ _ c.requires) c.open_in.ensures.advances) (told-leads _ _ _ _ c.tell_turned.ensures);
+  kept = rw (c.make_room.ensures.rows) (c.in-Err-Full.ensures.kept _ c.requires);
+}

@@ -1,6 +1,14 @@
--- What the tick led to is given out.
+-- What it led to is given out.
 use Rattle.gateway_world.proofs.Going.{goes-advancing, leads-on}
+use Rattle.gateway_world.proofs.Serving.{serves-on, standing-of}
 use Rattle.gateway_world.proofs.engine.Engine.tick.Goals as goal
 
-pub returns : goal.returns
-returns g c = leads-on c.deliver.result _ _ _ _ _ _ (goes-advancing _ _ _ c.in_ok-tick_in.ensures) c.deliver.ensures
+pub deliver-requires : goal.deliver-requires
+deliver-requires g c = serves-on _ _ _ c.in_ok-tick_in.ensures c.requires
+
+pub returns-clause-leads : goal.returns-clause-leads
+returns-clause-leads g c =
+    leads-on c.deliver.result _ _ _ _ _ _ (goes-advancing _ _ _ (standing-of _ _ c.requires) c.in_ok-tick_in.ensures.step) c.deliver.ensures.leads
+
+pub returns-in_err-tick_in-clause-kept : goal.returns-in_err-tick_in-clause-kept
+returns-in_err-tick_in-clause-kept g c = serves-on _ _ _ c.tick_in.ensures c.requires

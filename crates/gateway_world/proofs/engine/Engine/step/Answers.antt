@@ -1,0 +1,7 @@
+-- A close gives nothing out.
+use Rattle.gateway_world.proofs.Going.{goes-advancing}
+use Rattle.gateway_world.proofs.Serving.{standing-of}
+use Rattle.gateway_world.proofs.engine.Engine.step.Goals as goal
+
+pub returns-in-Close-clause-leads : goal.returns-in-Close-clause-leads
+returns-in-Close-clause-leads g c = goes-advancing _ _ _ (standing-of _ _ c.requires) c.close.ensures.advances

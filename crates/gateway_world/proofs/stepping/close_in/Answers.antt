@@ -1,0 +1,8 @@
+-- A close adds its entry, where the connection was open.
+use Rattle.std.proofs.Common.{refl}
+use Rattle.gateway_world.proofs.Advancing.{closing}
+use Rattle.gateway_world.proofs.stepping.close_in.Goals as goal
+
+pub returns : goal.returns
+returns g c =
+    closing c.close.result _ _ c.args.conn _ _ refl refl c.close.ensures.closed c.close.ensures.unknown c.close.ensures.answers c.close.ensures.sends

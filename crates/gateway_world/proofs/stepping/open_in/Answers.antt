@@ -1,0 +1,17 @@
+-- A connection is opened, or isn't.
+use Rattle.gateway_world.proofs.Advancing.{opened-advances, unopened-alone}
+use Rattle.gateway_world.proofs.Serving.{refused-serves}
+use Rattle.gateway_world.proofs.Asking.{serves-opening}
+use Rattle.gateway_world.proofs.stepping.open_in.Goals as goal
+
+pub returns-clause-advances : goal.returns-clause-advances
+returns-clause-advances g c =
+    let refused = unopened-alone c.open.result _ _ _ _ _ _ _ _ c.open.ensures.full c.open.ensures.sealed c.open.ensures.memory in
+    opened-advances c.open.result _ _ _ _ _ _ c.open.ensures.ok refused
+
+pub returns-clause-opened : goal.returns-clause-opened
+returns-clause-opened g c rows serves = serves-opening c.open.result _ _ rows _ _ c.open.ensures.ok serves
+
+pub returns-clause-kept : goal.returns-clause-kept
+returns-clause-kept g c rows serves =
+    refused-serves c.open.result _ _ rows (unopened-alone c.open.result _ _ _ _ _ _ _ _ c.open.ensures.full c.open.ensures.sealed c.open.ensures.memory) serves

@@ -1,6 +1,0 @@
--- All that is given out is what the input led to.
-use Rattle.gateway_world.proofs.Going.{gives-all}
-use Rattle.gateway_world.proofs.world.World.input.Goals as goal
-
-pub returns-clause-gives : goal.returns-clause-gives
-returns-clause-gives g c = gives-all _ _ _ _ c.new-outputs.ensures.items c.in_ok-step.ensures

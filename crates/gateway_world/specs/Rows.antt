@@ -1,0 +1,108 @@
+-- The connections that are served, and how they go with the core.
+use Rattle.std.specs.Prelude.{◌≡◌, ◌≢◌, ◌⊎◌, ℕ, ◌<◌, ◌==◌, Bool, true, false, not, List, [], ◌∷◌, length, map, filter, Option, Some, None, option_map, slice_get, ⊤, if◌then◌else◌}
+use Rattle.std.specs.List.{All, Contains}
+use Rattle.ask_model.specs.Requests.{Ask}
+use Rattle.journal_book.specs.Entries.{Asks, Written}
+use Rattle.history_laws.specs.declared.kept.Conn.{Conn}
+use Rattle.exchange_core.specs.Answering.{Given}
+use Rattle.exchange_core.specs.CoreValue.{CoreValue, connections, written}
+use Rattle.gateway_world.specs.declared.table.Connection.{Connection}
+use Rattle.gateway_world.specs.declared.table.Table.{Table}
+use Rattle.gateway_world.specs.declared.inbox.Next.{Next}
+use Rattle.gateway_world.specs.declared.inbox.Next.TheVariants as N
+use Rattle.gateway_world.specs.Steps.{answers_at, Advances}
+
+-- a connection, and the ask whose answer is due next
+pub record Row : Type 0 where
+  pub number : ℕ
+  pub waits : Option ℕ
+
+abbrev pub row_of : {R : Type 0} → Connection R → Row
+row_of c = record { number = c.number; waits = option_map (λ t. t.number) c.ticket }
+
+abbrev pub rows_of : {R : Type 0} → Table R → List Row
+rows_of t = map row_of t.rows.items
+
+-- what is asked next is a request
+abbrev pub is_request : Next → Bool
+is_request (N.Request incoming) = true
+is_request _ = false
+
+-- the rows, where the first of this connection waits for that
+abbrev pub with_waits : ℕ → Option ℕ → List Row → List Row
+with_waits c k [] = []
+with_waits c k (r ∷ rs) = if r.number == c then record { number = r.number; waits = k } ∷ rs else r ∷ with_waits c k rs
+
+-- the rows of the other connections
+abbrev pub without_row : ℕ → List Row → List Row
+without_row c rs = filter (λ (r : Row). not (r.number == c)) rs
+
+-- numbers that rise
+abbrev pub AreRising : List ℕ → Type 0
+AreRising [] = ⊤
+AreRising (n ∷ ns) = All (λ (m : ℕ). n < m) ns × AreRising ns
+
+-- The entry with this number is an ask of the connection.
+abbrev pub HasAsk : List Written → ℕ → ℕ → Type 0
+HasAsk h c k = (t : ℕ) × (a : Ask) × (slice_get h k ≡ Some (written t (Asks c a)))
+
+-- What is waited for is an ask of the connection.
+abbrev pub WaitsFor : List Written → ℕ → Option ℕ → Type 0
+WaitsFor h c None = ⊤
+WaitsFor h c (Some k) = HasAsk h c k
+
+-- A connection of the core was opened, waits for an ask of its own, and its row waits for the same.
+pub record IsServed (h : List Written) (rows : List Row) (x : Conn) : Type 0 where
+  pub opened : x.id < connections h
+  pub asked : WaitsFor h x.id x.pending
+  pub row : All (λ (r : Row). r.number ≡ x.id → (k : ℕ) → x.pending ≡ Some k → r.waits ≡ Some k) rows
+
+-- An answer that isn't taken was given on an opened connection, whose row waits for it, and no connection of
+-- the core does any more.
+pub record IsClaimed (h : List Written) (conns : List Conn) (rows : List Row) (g : Given) : Type 0 where
+  pub stands : g.number < length h
+  pub asked : g.ask < length h
+  pub opened : (c : ℕ) → answers_at h g.number c ≡ true → c < connections h
+  pub row : All (λ (r : Row). answers_at h g.number r.number ≡ true → r.waits ≡ Some g.ask) rows
+  pub done : All (λ (x : Conn). x.pending ≢ Some g.ask) conns
+
+-- A core goes with the rows of the connections that are served.
+pub record Serves (c : CoreValue) (rows : List Row) : Type 0 where
+  pub numbered : AreRising (map (λ (r : Row). r.number) rows)
+  pub opened : All (λ (r : Row). r.number < connections c.entries) rows
+  pub asked : All (λ (r : Row). WaitsFor c.entries r.number r.waits) rows
+  pub served : All (IsServed c.entries rows) c.conns
+  pub claimed : All (IsClaimed c.entries c.conns rows) c.answers
+  pub in_order : AreRising (map (λ (g : Given). g.number) c.answers)
+
+-- the first row of the connection
+abbrev pub row_at : ℕ → List Row → Option Row
+row_at c [] = None
+row_at c (r ∷ rs) = if r.number == c then Some r else row_at c rs
+
+-- The connection is served, and waits for this, or for nothing.
+pub record IsRow (rows : List Row) (c : ℕ) (k : Option ℕ) : Type 0 where
+  pub row : Row
+  pub stands : row_at c rows ≡ Some row
+  pub waits : row.waits ≡ k
+
+-- A connection of the core that was there before, and waits for the same ask, or for none any more.
+pub record ComesFrom (conns : List Conn) (y : Conn) : Type 0 where
+  pub conn : Conn
+  pub stands : Contains conns conn
+  pub id : y.id ≡ conn.id
+  pub waits : (y.pending ≡ None) ⊎ (y.pending ≡ conn.pending)
+
+-- An answer on a connection that waited for it, and doesn't any more.
+pub record IsNewAnswer (old new : CoreValue) (g : Given) : Type 0 where
+  pub conn : Conn
+  pub waited : Contains old.conns conn
+  pub ask : conn.pending ≡ Some g.ask
+  pub stands : (c : ℕ) → answers_at new.entries g.number c ≡ (conn.id == c)
+  pub done : All (λ (x : Conn). x.id ≡ conn.id → x.pending ≢ Some g.ask) new.conns
+
+-- A step in which no connection opens, and none asks.
+pub record AnswersAlone (old new : CoreValue) : Type 0 where
+  pub step : Advances old new
+  pub conns : All (ComesFrom old.conns) new.conns
+  pub answers : All (IsNewAnswer old new) step.given
