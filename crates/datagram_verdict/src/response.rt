@@ -119,6 +119,13 @@ fn copies_of(alloc: Global, m: &Message, number: u16) -> Result<Vec<Bytes>, Allo
     Ok(copies)
 }
 
+/// Its payload.
+fn body_of(m: Message) -> Bytes
+    ensures { result ≡ m.payload.items }
+{
+    Bytes::of(m.payload)
+}
+
 /// What the message says as a response. Its payload becomes the body and isn't copied.
 pub fn response_of(alloc: Global, m: Message) -> Result<Response, AllocError>
     ensures { IfOk result (λ r. response_of r ≡ said_by (content m)) }
@@ -133,6 +140,6 @@ pub fn response_of(alloc: Global, m: Message) -> Result<Response, AllocError>
         max_age: max_age_of(&m),
         location_path,
         location_query,
-        body: Bytes::of(m.payload),
+        body: body_of(m),
     })
 }
