@@ -1,5 +1,5 @@
 -- The message IDs that a link gave, by the moments at which it gave them (RFC 7252, section 4.4).
-use Rattle.std.specs.Prelude.{ℕ, ◌+◌, ◌-◌, ◌≤◌, List, [], ◌∷◌, length, filter, Option, Some, None, Bool, true, false, not, nat_lt, nat_le, if◌then◌else◌}
+use Rattle.std.specs.Prelude.{ℕ, ◌+◌, ◌-◌, ◌≤◌, List, [], ◌∷◌, length, filter, Option, Some, None, Bool, false, not, nat_lt, nat_le, if◌then◌else◌}
 use Rattle.std.specs.List.{AllByRecursion}
 
 pub record MidsGiven : Type 0 where

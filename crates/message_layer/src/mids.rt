@@ -1,6 +1,6 @@
 //! The message IDs that were given, by the moments at which they were.
 
-ghost use Rattle.std.specs.Prelude.{◌≡◌, ◌<◌, ◌≤◌, ◌+◌, ◌++◌, ◌&&◌, [], ◌∷◌, length, filter, count_by, Some, IfOk, OnOk, IsTrue, ◌↔◌, true, nat_le};
+ghost use Rattle.std.specs.Prelude.{◌≡◌, ◌<◌, ◌≤◌, ◌+◌, ◌++◌, ◌&&◌, [], ◌∷◌, length, filter, count_by, Some, IfOk, OnOk, IsTrue, ◌↔◌, nat_le};
 ghost use Rattle.std.specs.VecDeque.{deque_len, deque_capacity};
 ghost use Rattle.message_layer.specs.Mids.{AreRising, is_in_use, begins_unused, pruned, newest_behind};
 
