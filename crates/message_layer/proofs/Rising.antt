@@ -1,7 +1,7 @@
 -- Moments that rise: what is in use no more stands in front.
-use Rattle.std.proofs.Common.{◌≡◌, ℕ, suc, ◌+◌, ◌-◌, ◌≤◌, ◌<◌, List, [], ◌∷◌, ◌++◌, length, filter, count_by, Bool, true, false, not, cond, nat_lt, refl, sym, ◌∙◌, ap, arith}
+use Rattle.std.proofs.Common.{◌≡◌, ℕ, ◌+◌, ◌-◌, ◌≤◌, ◌<◌, List, [], ◌∷◌, ◌++◌, length, filter, count_by, Bool, ◌&&◌, true, false, not, cond, nat_le, refl, sym, ◌∙◌, ap, arith}
 use Rattle.std.specs.List.{AllByRecursion}
-use Rattle.std.proofs.lemmas.Bool.{lt-ltb}
+use Rattle.std.proofs.lemmas.Bool.{lt-ltb, leb-true}
 use Rattle.std.proofs.lemmas.List.Sums.{length-filter, count_by-le-length}
 use Rattle.message_layer.specs.Mids.{is_in_use, begins_unused, AreRising, IsRising}
 use Rattle.message_layer.proofs.Sound.{either}
@@ -24,6 +24,11 @@ IsRising-push n m xs up h = record {
   rising = rising-push xs m h.rising (all-below n m xs up h.latest);
   latest = all-push (λ x. x ≤ m) xs m (all-below n m xs up h.latest) (omega arith);
 }
+
+-- what a clock that goes on shows
+pub goes-on : (rising : Bool) (newest t : ℕ) → (rising && nat_le newest t) ≡ true → (rising ≡ true) × (newest ≤ t)
+goes-on true newest t e = (refl, leb-true newest t e)
+goes-on false newest t e = absurd cc
 
 all-filter : (P : ℕ → Type 0) (p : ℕ → Bool) (xs : List ℕ) → AllByRecursion P xs → AllByRecursion P (filter p xs)
 all-filter P p [] h = tt

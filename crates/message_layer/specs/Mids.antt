@@ -1,16 +1,26 @@
 -- The message IDs that a link gave, by the moments at which it gave them (RFC 7252, section 4.4).
-use Rattle.std.specs.Prelude.{ℕ, ◌+◌, ◌-◌, ◌≤◌, List, [], ◌∷◌, length, filter, Bool, true, false, not, nat_lt, if◌then◌else◌}
+use Rattle.std.specs.Prelude.{ℕ, ◌+◌, ◌-◌, ◌≤◌, List, [], ◌∷◌, length, filter, Option, Some, None, Bool, false, not, nat_lt, nat_le, if◌then◌else◌}
 use Rattle.std.specs.List.{AllByRecursion}
 
 pub record MidsGiven : Type 0 where
   -- when the last ones were given, the oldest first
   pub moments : List ℕ
+  -- none of them is later than this; nothing, once the clock went back
+  pub newest : Option ℕ
   -- for how many more there is room in memory
   pub room : ℕ
 
 -- An ID given then is still in use: a message may come until 494 s behind its sending, twice EXCHANGE_LIFETIME.
 abbrev pub is_in_use : ℕ → ℕ → Bool
 is_in_use t given = nat_lt (t - given) 494000
+
+abbrev pub newest_of : Bool → ℕ → Option ℕ
+newest_of rising newest = if rising then Some newest else None
+
+-- one more is given at this moment
+abbrev pub newest_behind : ℕ → Option ℕ → Option ℕ
+newest_behind t None = None
+newest_behind t (Some newest) = if nat_le newest t then Some t else None
 
 -- IDs that are in use no more are forgotten once there are many
 abbrev pub pruned : ℕ → ℕ → List ℕ → List ℕ

@@ -1,5 +1,5 @@
 -- What handing in a message and a tick do to a link (RFC 7252, sections 4.2, 4.4 and 4.7).
-use Rattle.std.specs.Prelude.{◌≡◌, ℕ, ◌+◌, ◌-◌, ◌*◌, ◌/◌, ◌%◌, ◌^◌, ◌≤◌, ◌<◌, vec_len, vec_capacity, List, [], ◌∷◌, ◌++◌, length, filter, count_by, Result, Ok, Err, slice_set, Option, Some, None, Bool, nat_lt, if◌then◌else◌}
+use Rattle.std.specs.Prelude.{◌≡◌, ℕ, ◌+◌, ◌*◌, ◌/◌, ◌%◌, ◌^◌, ◌≤◌, ◌<◌, vec_len, vec_capacity, List, [], ◌∷◌, ◌++◌, length, count_by, Result, Ok, Err, slice_set, Option, Some, None, nat_lt, if◌then◌else◌}
 use Rattle.std.specs.VecDeque.{deque_len, deque_capacity}
 use Rattle.message_layer.specs.Mids.{is_in_use, pruned}
 use Rattle.message_layer.specs.Values.{LinkState, Told, no_news, timed_out}

@@ -1,8 +1,8 @@
 //! The message IDs that were given, by the moments at which they were.
 
-ghost use Rattle.std.specs.Prelude.{◌≡◌, ◌<◌, ◌≤◌, ◌+◌, ◌++◌, [], ◌∷◌, length, filter, count_by, IfOk, OnOk, IsTrue, ◌↔◌, true};
+ghost use Rattle.std.specs.Prelude.{◌≡◌, ◌<◌, ◌≤◌, ◌+◌, ◌++◌, ◌&&◌, [], ◌∷◌, length, filter, count_by, Some, IfOk, OnOk, IsTrue, ◌↔◌, nat_le};
 ghost use Rattle.std.specs.VecDeque.{deque_len, deque_capacity};
-ghost use Rattle.message_layer.specs.Mids.{AreRising, is_in_use, begins_unused, pruned};
+ghost use Rattle.message_layer.specs.Mids.{AreRising, is_in_use, begins_unused, pruned, newest_behind};
 
 use std::alloc::{AllocError, Global};
 use std::collections::VecDeque;
@@ -30,11 +30,11 @@ pub struct Mids {
 impl Model for Mids {
     ghost use Rattle.std.specs.Prelude.{◌≡◌, ◌-◌, true};
     ghost use Rattle.std.specs.VecDeque.{deque_len, deque_capacity};
-    ghost use Rattle.message_layer.specs.Mids.{MidsGiven, IsRising};
+    ghost use Rattle.message_layer.specs.Mids.{MidsGiven, IsRising, newest_of};
 
     ghost Value = { MidsGiven };
 
-    ghost view = { λ m. record { moments = m.moments.items; room = deque_capacity m.moments - deque_len m.moments } };
+    ghost view = { λ m. record { moments = m.moments.items; newest = newest_of m.rising m.newest; room = deque_capacity m.moments - deque_len m.moments } };
 
     ghost invariant = { λ m. m.rising ≡ true → IsRising m.newest m.moments.items };
 }
@@ -97,7 +97,7 @@ fn has_free_first(moments: &VecDeque<u64>, waiting: usize, moment: u64) -> bool
 
 /// The clock goes on without going back.
 fn goes_on(rising: bool, newest: u64, moment: u64) -> bool
-    ensures { result ≡ true → (rising ≡ true) × (newest ≤ moment) }
+    ensures { result ≡ (rising && nat_le newest moment) }
 {
     rising && newest <= moment
 }
@@ -114,7 +114,8 @@ fn copy_moments(alloc: Global, moments: &VecDeque<u64>) -> Result<VecDeque<u64>,
 
 impl Mids {
     pub fn new(alloc: Global) -> Mids
-        ensures { result.moments ≡ [] }
+        ensures moments { result.moments ≡ [] }
+        ensures newest { result.newest ≡ Some 0 }
     {
         Mids {
             moments: VecDeque::new(alloc),
@@ -126,6 +127,7 @@ impl Mids {
     /// Room for one more.
     pub fn reserve(&mut self) -> Result<(), AllocError>
         ensures same { self.new.moments ≡ self.old.moments }
+        ensures newest { self.new.newest ≡ self.old.newest }
         ensures ok { OnOk result (0 < self.new.room) }
     {
         self.moments.reserve(1)?;
@@ -135,7 +137,8 @@ impl Mids {
     /// One more is given, at this moment.
     pub fn push_reserved(&mut self, moment: u64)
         requires { 0 < self.old.room }
-        ensures { self.new.moments ≡ self.old.moments ++ moment ∷ [] }
+        ensures moments { self.new.moments ≡ self.old.moments ++ moment ∷ [] }
+        ensures newest { self.new.newest ≡ newest_behind moment self.old.newest }
     {
         self.rising = goes_on(self.rising, self.newest, moment);
         self.newest = moment;
@@ -160,6 +163,7 @@ impl Mids {
     pub fn prune(&mut self, waiting: usize, moment: u64)
         requires { waiting ≤ 64 }
         ensures moments { self.new.moments ≡ pruned moment waiting self.old.moments }
+        ensures newest { self.new.newest ≡ self.old.newest }
         ensures room { self.old.room ≤ self.new.room }
     {
         if self.moments.len() + waiting < MAX_MIDS {
@@ -174,7 +178,8 @@ impl Mids {
 
     /// The same again.
     pub fn copy(&self, alloc: Global) -> Result<Mids, AllocError>
-        ensures { IfOk result (λ copy. copy.moments ≡ self.now.moments) }
+        ensures moments { IfOk result (λ copy. copy.moments ≡ self.now.moments) }
+        ensures newest { IfOk result (λ copy. copy.newest ≡ self.now.newest) }
     {
         let moments = copy_moments(alloc, &self.moments)?;
         Ok(Mids {

@@ -1,4 +1,4 @@
-use Rattle.std.proofs.Common.{◌≡◌, ◌≤◌, filter, length}
+use Rattle.std.proofs.Common.{◌≡◌, ◌≤◌, filter}
 use Rattle.std.specs.VecDeque.{deque_len, deque_capacity}
 use Rattle.message_layer.specs.Mids.{AreRising, is_in_use}
 use Rattle.message_layer.proofs.mids.drop_first.Given as goal
