@@ -12,7 +12,7 @@ use Rattle.serde_json.specs.Find.{get_member}
 use Rattle.serde_json.specs.View.{items_of}
 use Rattle.transformers.specs.declared.head.Major.{Major}
 use Rattle.transformers.specs.declared.head.Major.TheVariants.{Unsigned, Negative, Text, Array, Map}
-use Rattle.transformers.specs.Item.{byte_at, two_at, four_at, eight_at, argument_at, major_of, head_at, key_of, key_at, text_at, negative_of, many_at, next_item, next_member, put_new, array_at, map_at, body_at, simple_at, item_in, item_at, only, denoted}
+use Rattle.transformers.specs.Item.{◌>>=◌, byte_at, two_at, four_at, eight_at, argument_at, major_of, head_at, key_of, key_at, text_at, negative_of, many_at, next_item, next_member, put_new, array_at, map_at, body_at, simple_at, item_in, item_at, only, denoted}
 use Rattle.transformers.specs.Kinds.{IsBytes}
 use Rattle.transformers.specs.Shortest.{four_bytes, eight_bytes, shortest_head, text_bytes, shortest, items_bytes, members_bytes}
 use Rattle.transformers.proofs.Items.{item_is}
@@ -30,35 +30,30 @@ byte_takes [] x ok e = absurd cc
 byte_takes (b ∷ bytes) x ok e =
     subst (λ (y : ℕ × List ℕ). Takes 1 256 (b ∷ bytes) y) (same_Some (b, bytes) x e) (record { small = ok.0; count = omega arith; octets = ok.1 })
 
+-- two numbers of one width, the higher first
+twice_takes : (read : List ℕ → Option (ℕ × List ℕ)) (k bound whole : ℕ) → ((high low : ℕ) → high < bound → low < bound → bound * high + low < whole)
+    → ((bytes : List ℕ) (x : ℕ × List ℕ) → IsBytes bytes → read bytes ≡ Some x → Takes k bound bytes x)
+    → (bytes : List ℕ) (x : ℕ × List ℕ) → IsBytes bytes → (read bytes >>= λ high. read high.1 >>= λ low. Some (bound * high.0 + low.0, low.1)) ≡ Some x
+    → Takes (k + k) whole bytes x
+twice_takes read k bound whole fits takes bytes x ok e =
+    let a = bind_some (read bytes) (λ high. read high.1 >>= λ low. Some (bound * high.0 + low.0, low.1)) x e in
+    let s = takes bytes a.0 ok a.1 in
+    let b = bind_some (read a.0.1) (λ low. Some (bound * a.0.0 + low.0, low.1)) x a.2 in
+    let t = takes a.0.1 b.0 s.octets b.1 in
+    subst (λ (y : ℕ × List ℕ). Takes (k + k) whole bytes y) (same_Some (bound * a.0.0 + b.0.0, b.0.1) x b.2)
+    (record { small = fits a.0.0 b.0.0 s.small t.small; count = omega (arith, s.count, t.count); octets = t.octets })
+
 two_takes : (bytes : List ℕ) (x : ℕ × List ℕ) → IsBytes bytes → two_at bytes ≡ Some x → Takes 2 65536 bytes x
 unfolding two_at
-two_takes bytes x ok e =
-    let a = bind_some (byte_at bytes) _ x e in
-    let s = byte_takes bytes a.0 ok a.1 in
-    let b = bind_some (byte_at a.0.1) (λ low. Some (256 * a.0.0 + low.0, low.1)) x a.2 in
-    let t = byte_takes a.0.1 b.0 s.octets b.1 in
-    subst (λ (y : ℕ × List ℕ). Takes 2 65536 bytes y) (same_Some (256 * a.0.0 + b.0.0, b.0.1) x b.2)
-    (record { small = omega (arith, s.small, t.small); count = omega (arith, s.count, t.count); octets = t.octets })
+two_takes bytes x ok e = twice_takes byte_at 1 256 65536 (λ high low h l. omega (arith, h, l)) byte_takes bytes x ok e
 
 four_takes : (bytes : List ℕ) (x : ℕ × List ℕ) → IsBytes bytes → four_at bytes ≡ Some x → Takes 4 4294967296 bytes x
 unfolding four_at
-four_takes bytes x ok e =
-    let a = bind_some (two_at bytes) _ x e in
-    let s = two_takes bytes a.0 ok a.1 in
-    let b = bind_some (two_at a.0.1) (λ low. Some (65536 * a.0.0 + low.0, low.1)) x a.2 in
-    let t = two_takes a.0.1 b.0 s.octets b.1 in
-    subst (λ (y : ℕ × List ℕ). Takes 4 4294967296 bytes y) (same_Some (65536 * a.0.0 + b.0.0, b.0.1) x b.2)
-    (record { small = omega (arith, s.small, t.small); count = omega (arith, s.count, t.count); octets = t.octets })
+four_takes bytes x ok e = twice_takes two_at 2 65536 4294967296 (λ high low h l. omega (arith, h, l)) two_takes bytes x ok e
 
 eight_takes : (bytes : List ℕ) (x : ℕ × List ℕ) → IsBytes bytes → eight_at bytes ≡ Some x → Takes 8 18446744073709551616 bytes x
 unfolding eight_at
-eight_takes bytes x ok e =
-    let a = bind_some (four_at bytes) _ x e in
-    let s = four_takes bytes a.0 ok a.1 in
-    let b = bind_some (four_at a.0.1) (λ low. Some (4294967296 * a.0.0 + low.0, low.1)) x a.2 in
-    let t = four_takes a.0.1 b.0 s.octets b.1 in
-    subst (λ (y : ℕ × List ℕ). Takes 8 18446744073709551616 bytes y) (same_Some (4294967296 * a.0.0 + b.0.0, b.0.1) x b.2)
-    (record { small = omega (arith, s.small, t.small); count = omega (arith, s.count, t.count); octets = t.octets })
+eight_takes bytes x ok e = twice_takes four_at 4 4294967296 18446744073709551616 (λ high low h l. omega (arith, h, l)) four_takes bytes x ok e
 
 -- ---- the length of the shortest head
 

@@ -37,6 +37,7 @@ impl<R: Relation> Stored<R> {
         requires callable { Call.IsAlwaysCallable call }
         requires keeps { Keeps (R.holds from to) (R.takes from to) (λ x r. FnReturnsAt Call.Fn call x r) }
         ensures pair { pair_of result ≡ (from, to) }
+        ensures call { result.closure.call ≡ call }
         ensures keeps { KeepsRelation R.holds R.takes result }
     {
         Stored {

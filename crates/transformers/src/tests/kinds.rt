@@ -145,26 +145,14 @@ const REFUSED: [&str; 16] = [
     "'a'",
 ];
 
-// The JSON that is made of an item in hexadecimal.
-fn json_of(alloc: Global, item: &str) -> Option<String> {
-    let bytes = hex::decode(alloc, item).ok()?;
-    let json = cbor_json(alloc, &bytes).ok()?;
-    String::from_utf8(json).ok()
-}
-
-// The item, in hexadecimal, that is made of JSON.
-fn item_of(alloc: Global, json: &str) -> Option<String> {
-    let item = json_cbor(alloc, json.as_bytes()).ok()?;
-    hex::encode(alloc, item.as_slice()).ok()
-}
-
 #[test]
 fn items_inside(rt: HostRuntime) {
     for (item, json) in INSIDE.iter() {
-        let made = json_of(rt.alloc(), item).expect(&rt, "JSON");
-        assert_eq!(rt; made.as_str(), *json);
-        let made = item_of(rt.alloc(), json).expect(&rt, "an item");
-        assert_eq!(rt; made.as_str(), *item);
+        let bytes = hex::decode(rt.alloc(), *item).expect(&rt, "bytes");
+        let made = cbor_json(rt.alloc(), &bytes).expect(&rt, "JSON");
+        assert_eq!(rt; made.as_slice(), json.as_bytes());
+        let made = json_cbor(rt.alloc(), json.as_bytes()).expect(&rt, "an item");
+        assert_eq!(rt; made.as_slice(), bytes.as_slice());
     }
 }
 
@@ -183,9 +171,11 @@ fn items_outside(rt: HostRuntime) {
 #[test]
 fn long_heads(rt: HostRuntime) {
     for (long, short) in LONG.iter() {
-        let json = json_of(rt.alloc(), long).expect(&rt, "JSON");
-        let made = item_of(rt.alloc(), json.as_str()).expect(&rt, "an item");
-        assert_eq!(rt; made.as_str(), *short);
+        let long = hex::decode(rt.alloc(), *long).expect(&rt, "bytes");
+        let short = hex::decode(rt.alloc(), *short).expect(&rt, "bytes");
+        let json = cbor_json(rt.alloc(), &long).expect(&rt, "JSON");
+        let made = json_cbor(rt.alloc(), &json).expect(&rt, "an item");
+        assert_eq!(rt; made.as_slice(), short.as_slice());
     }
 }
 
@@ -206,8 +196,11 @@ fn json_refused(rt: HostRuntime) {
 
 #[test]
 fn equal_keys(rt: HostRuntime) {
-    let made = item_of(rt.alloc(), "{\"a\":1,\"b\":2,\"a\":3}").expect(&rt, "an item");
-    assert_eq!(rt; made.as_str(), "a2616103616202");
+    let made = json_cbor(rt.alloc(), b"{\"a\":1,\"b\":2,\"a\":3}").expect(&rt, "an item");
+    assert_eq!(rt;
+        made.as_slice(),
+        [0xa2, 0x61, 0x61, 0x03, 0x61, 0x62, 0x02].as_slice()
+    );
 }
 
 // An empty array within so many others, as an item.
