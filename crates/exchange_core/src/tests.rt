@@ -290,17 +290,17 @@ fn a_request_opens_an_exchange(rt: HostRuntime) {
     assert!(rt; take_answer(&mut core, &ticket).is_none());
 }
 
-/// A core whose only connection asked for a resource, with the ticket.
-fn core_that_waits(alloc: Global, moment: u64) -> Option<(Core<Nothing>, Ticket<Nothing>)> {
-    let mut core = new_core(alloc)?;
-    let conn = open(&mut core, 0).ok()?;
-    let ticket = ask(&mut core, alloc, moment, conn).ok()?;
-    Some((core, ticket))
+/// The first connection opens and asks.
+fn open_and_ask(core: &mut Core<Nothing>, alloc: Global) -> Option<Ticket<Nothing>> {
+    let conn = open(core, 0).ok()?;
+    ask(core, alloc, 0, conn).ok()
 }
 
 #[test]
 fn a_reply_answers_who_waits(rt: HostRuntime) {
-    let (mut core, ticket) = core_that_waits(rt.alloc(), 0).expect(&rt, "an ask");
+    let alloc = rt.alloc();
+    let mut core = new_core(alloc).expect(&rt, "memory");
+    let ticket = open_and_ask(&mut core, alloc).expect(&rt, "a ticket");
     // a piggybacked 2.05 (RFC 7252 section 5.2.1)
     let reply = b"\x68\x45\0\0\0\0\0\0\0\0\0\0\xff22.5";
     let stranger = Peer {
@@ -321,7 +321,9 @@ fn a_reply_answers_who_waits(rt: HostRuntime) {
 
 #[test]
 fn a_repeated_con_is_acknowledged_again(rt: HostRuntime) {
-    let (mut core, ticket) = core_that_waits(rt.alloc(), 0).expect(&rt, "an ask");
+    let alloc = rt.alloc();
+    let mut core = new_core(alloc).expect(&rt, "memory");
+    let ticket = open_and_ask(&mut core, alloc).expect(&rt, "a ticket");
     // a separate response (RFC 7252 section 5.2.2)
     let reply = b"\x48\x45\x12\x34\0\0\0\0\0\0\0\0\xff22.5";
     assert!(rt; hear(&mut core, 7, server(), reply));
@@ -336,7 +338,9 @@ fn a_repeated_con_is_acknowledged_again(rt: HostRuntime) {
 
 #[test]
 fn a_reset_message_ends_a_request(rt: HostRuntime) {
-    let (mut core, ticket) = core_that_waits(rt.alloc(), 0).expect(&rt, "an ask");
+    let alloc = rt.alloc();
+    let mut core = new_core(alloc).expect(&rt, "memory");
+    let ticket = open_and_ask(&mut core, alloc).expect(&rt, "a ticket");
     assert!(rt; hear(&mut core, 7, server(), b"\x70\0\0\0"));
     assert!(rt; entries(&core) == 5);
     let answer = take_answer(&mut core, &ticket).expect(&rt, "an answer");
@@ -344,15 +348,12 @@ fn a_reset_message_ends_a_request(rt: HostRuntime) {
 }
 
 #[test]
-fn nothing_is_due_before_an_ask(rt: HostRuntime) {
-    let mut core = new_core(rt.alloc()).expect(&rt, "memory");
+fn a_request_without_a_reply_times_out(rt: HostRuntime) {
+    let alloc = rt.alloc();
+    let mut core = new_core(alloc).expect(&rt, "memory");
     assert!(rt; open(&mut core, 0) == Ok(0));
     assert!(rt; core.next_due().is_none());
-}
-
-#[test]
-fn a_request_without_a_reply_times_out(rt: HostRuntime) {
-    let (mut core, ticket) = core_that_waits(rt.alloc(), 1000).expect(&rt, "an ask");
+    let ticket = ask(&mut core, alloc, 1000, 0).ok().expect(&rt, "a ticket");
     assert!(rt; core.next_due() == Some(94_000));
     assert!(rt; tick(&mut core, 93_999));
     assert!(rt; entries(&core) == 3);
