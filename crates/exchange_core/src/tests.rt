@@ -8,10 +8,10 @@ ghost use Rattle.uri_map.specs.Splitting.{origin_form};
 use crate::{Answer, AskFault, Core, OpenFault, Outcome, Ticket};
 use ask_model::{Cause, Mapped, Meaning, Payload, REQUEST_LIMIT, Settings, incoming_size};
 use code_map::{Method, Status, method_of};
-use http_edge::{BadKind, Edge, Incoming, Memory, Request};
+use http_edge::{BadKind, Edge, Incoming, Request};
 use journal_book::Event;
 use media_map::Routes;
-use std::alloc::{AllocError, Global};
+use std::alloc::Global;
 use std::net::{IpAddr, Ipv4Addr};
 use std::sync::Arc;
 use transformers::Relation;
@@ -26,58 +26,57 @@ impl Relation for Nothing {
     ghost takes = { λ from to input. ⊥ };
 }
 
-fn settings(alloc: Global) -> Result<Settings, AllocError> {
-    Ok(Settings {
-        base: Text::copy_of(alloc, "/hc/")?,
-        directory: Directory::new(alloc, true),
-        observed: Texts::new(alloc),
-        routes: Routes::new(alloc),
+fn settings(alloc: Global) -> Option<Settings> {
+    let base = Text::copy_of(alloc, "/hc/").ok()?;
+    let directory = Directory::new(alloc, true);
+    let observed = Texts::new(alloc);
+    let routes = Routes::new(alloc);
+    Some(Settings {
+        base,
+        directory,
+        observed,
+        routes,
     })
 }
 
 /// A request that is refused for its size.
 fn too_large(alloc: Global) -> Option<Arc<Mapped<Nothing>>> {
-    let settings = Arc::new(alloc, settings(alloc).ok()?).ok()?;
+    let settings = Arc::new(alloc, settings(alloc)?).ok()?;
     let meaning = Meaning::Refuse(Cause::BadHttp, Status::ContentTooLarge);
     let mapped = Mapped::new(Incoming::Bad(BadKind::Large), meaning, settings);
     Arc::new(alloc, mapped).ok()
 }
 
-/// What these bytes of a connection ask, where they are a GET of a resource that a server has.
-fn asked(alloc: Global, bytes: &[u8]) -> Result<Option<Arc<Mapped<Nothing>>>, Memory> {
-    let mut edge = Edge::new(alloc)?;
-    edge.feed(bytes);
-    let Some(Incoming::Request(request)) = edge.next()? else {
-        return Ok(None);
-    };
+/// The settings, with a server.
+fn settings_with_server(alloc: Global) -> Option<Settings> {
     let mut settings = settings(alloc)?;
-    settings
-        .directory
-        .add("s.example.com", IpAddr::V4(Ipv4Addr::new(192, 0, 2, 1)))?;
-    let Some(mapped) = get(alloc, settings, request)? else {
-        return Ok(None);
+    let address = IpAddr::V4(Ipv4Addr::new(192, 0, 2, 1));
+    settings.directory.add("s.example.com", address).ok()?;
+    Some(settings)
+}
+
+/// What these bytes of a connection ask, where they are a GET of a resource that a server has.
+fn asked(alloc: Global, bytes: &[u8]) -> Option<Arc<Mapped<Nothing>>> {
+    let mut edge = Edge::new(alloc).ok()?;
+    edge.feed(bytes);
+    let Some(Incoming::Request(request)) = edge.next().ok()? else {
+        return None;
     };
-    Ok(Some(Arc::new(alloc, mapped)?))
+    let settings = settings_with_server(alloc)?;
+    let mapped = get(alloc, settings, request)?;
+    Arc::new(alloc, mapped).ok()
 }
 
 /// What a GET means whose target a server has.
-fn get(
-    alloc: Global,
-    settings: Settings,
-    request: Request,
-) -> Result<Option<Mapped<Nothing>>, Memory> {
+fn get(alloc: Global, settings: Settings, request: Request) -> Option<Mapped<Nothing>> {
     let Some(Method::Get) = method_of(&request.method) else {
-        return Ok(None);
+        return None;
     };
     let text = path_and_query(&request.target);
-    let Ok(target) = target_of(alloc, settings.base.as_bytes(), text) else {
-        return Ok(None);
-    };
-    let Some(peer) = peer_of(&settings.directory, &target) else {
-        return Ok(None);
-    };
-    let settings = Arc::new(alloc, settings)?;
-    Ok(mapped_get(settings, request, target, peer))
+    let target = target_of(alloc, settings.base.as_bytes(), text).ok()?;
+    let peer = peer_of(&settings.directory, &target)?;
+    let settings = Arc::new(alloc, settings).ok()?;
+    mapped_get(settings, request, target, peer)
 }
 
 /// A GET of the target, which this server has, if it isn't too large.
@@ -109,7 +108,7 @@ fn mapped_get(
 /// A GET of a light.
 pub fn light(alloc: Global) -> Option<Arc<Mapped<Nothing>>> {
     let head = b"GET /hc/coap://s.example.com/light HTTP/1.1\r\nHost: p\r\n\r\n";
-    asked(alloc, head).ok()?
+    asked(alloc, head)
 }
 
 pub fn server() -> Peer {
