@@ -31,7 +31,7 @@ use Rattle.exchange_core.specs.declared.step.Reader.{Reader}
 use Rattle.datagram_verdict.specs.Findings.{Found}
 use Rattle.datagram_verdict.specs.Verdicts.{due_at, found_by, Turns, exchanges_by, memory_by, heard_by, held_by, ended_by, IsNew, IsVerdict}
 use Rattle.exchange_core.specs.Hears.{ChangesBy}
-use Rattle.exchange_core.specs.Steps.{IsConfirmation, with_sent, IsReader, with_answer, conns_by}
+use Rattle.exchange_core.specs.Steps.{SpellsDue, with_sent, IsReader, with_answer, conns_by}
 
 -- a reply is whole, or isn't
 replied-by : (h : List Written) (cs : List Conn) (held : Held) (last t n : ℕ) (p : Peer) (b : List ℕ) (m : Content) (e : Exchange) (q : CoapRequest) (f : Found) (r : Option Response)
@@ -124,7 +124,7 @@ verdict-amid h cs held last t n p b v may num (inr (m, spelled, inr (new, g))) =
 
 -- behind the ACK or RST
 pub confirmed-amid : (due : Option Due) (sent : Option (List ℕ)) (ds : List Ended) (t : ℕ) (p : Peer) (h : List Written) (cs : List Conn) (held : Held)
-    → IsConfirmation due sent → Amid (due_at p due) ds t h cs held false t → Amid None ds t (with_sent t p sent h) cs held false t
+    → SpellsDue due sent → Amid (due_at p due) ds t h cs held false t → Amid None ds t (with_sent t p sent h) cs held false t
 confirmed-amid None None ds t p h cs held is a = a
 confirmed-amid (Some d) (Some b) ds t p h cs held is a =
     Amid-confirmed (record { peer = p; kind = d.kind; mid = d.mid }) ds t h cs held b a is.0

@@ -27,7 +27,7 @@ use Rattle.datagram_verdict.specs.Findings.{Found}
 use Rattle.exchange_core.specs.Answering.{Given, Waited, HasWaited, IsKept, answer_of}
 use Rattle.datagram_verdict.specs.Verdicts.{exchanges_by, heard_by, held_by, ended_by, IsVerdict}
 use Rattle.exchange_core.specs.Hears.{AddsAnswer, ChangesBy, HearsAt, HasNoRoom, HeardSo}
-use Rattle.exchange_core.specs.Steps.{one_if, IsConfirmation, with_sent, outgoing_by, IsReader, with_answer, conns_by, waiting_by, AnswersBy}
+use Rattle.exchange_core.specs.Steps.{one_if, SpellsDue, with_sent, outgoing_by, IsReader, with_answer, conns_by, waiting_by, AnswersBy}
 use Rattle.history_laws.specs.Limits.{MaySeal}
 use Rattle.exchange_core.proofs.Keeping.{fits-parts, fits-from, fits-not, takes-fits}
 use Rattle.exchange_core.proofs.Giving.{answerable-more}
@@ -91,7 +91,7 @@ conns-fewer cs (Some d) (Some r) is =
 conns-fewer cs None (Some r) is = elim is [ ]
 
 -- how much is added
-sent-size : (t : ℕ) (p : Peer) (due : Option Due) (sent : Option (List ℕ)) (h : List Written) → IsConfirmation due sent
+sent-size : (t : ℕ) (p : Peer) (due : Option Due) (sent : Option (List ℕ)) (h : List Written) → SpellsDue due sent
     → (length (with_sent t p sent h) ≡ length h + one_if (is_some sent))
     × (sum_by entry_size (with_sent t p sent h) ≡ sum_by entry_size h + 68 * one_if (is_some sent))
 sent-size t p None None h is = (omega arith, omega arith)
@@ -136,7 +136,7 @@ some-map f (Some x) = refl
 
 -- the journal is long enough for one entry more
 pub few-heard : (h h1 h2 h3 : List Written) (t e size count waiting : ℕ) (p : Peer) (b : List ℕ) (due : Option Due) (sent : Option (List ℕ)) (sb rb : Bool)
-    → IsConfirmation due sent → sb ≡ is_some sent → e ≡ 1 + (one_if sb + one_if rb) → takes h e size count waiting ≡ true
+    → SpellsDue due sent → sb ≡ is_some sent → e ≡ 1 + (one_if sb + one_if rb) → takes h e size count waiting ≡ true
     → h1 ≡ h → h2 ≡ h1 ++ written t (Hears p b) ∷ [] → h3 ≡ with_sent t p sent h2 → length h3 ≤ 65536
 few-heard h h1 h2 h3 t e size count waiting p b due sent sb rb conf sb-is e-is room-fits e1 e2 e3 =
     let parts = fits-parts (length h + e) (sum_by entry_size h + size) count waiting room-fits in
@@ -152,7 +152,7 @@ pub kept-heard : (h h1 h2 h3 h4 : List Written) (room room1 room2 room3 room4 : 
     (ws ws1 : List Waited) (gs gs1 : List Given)
     → CoreKept h room cs tables s bytes last → Answerable h cs ws gs out → s ≡ false → last ≤ t → t ≤ 2 ^ 62
     → length b ≤ 2048 → known_of tables.known p ≡ Some k → n ≡ length h → IsVerdict t n p b tables.exchanges tables.heard v
-    → IsConfirmation v.due sent → IsReader cs v.ending r
+    → SpellsDue v.due sent → IsReader cs v.ending r
     → sb ≡ is_some sent → rb ≡ is_some r → b1 ≡ b
     → count ≡ length cs → pending ≡ count_by is_pending cs → waiting ≡ pending - one_if rb
     → e ≡ 1 + (one_if sb + one_if rb) → size ≡ length b + 64 + 68 * (one_if sb + one_if rb)

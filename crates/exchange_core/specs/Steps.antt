@@ -21,10 +21,10 @@ use Rattle.exchange_core.specs.Answering.{Given, Waited, answer_of}
 use Rattle.exchange_core.specs.CoreValue.{Outgoing, outgoing_of, written}
 
 -- the bytes of the ACK or RST, where one is owed
-abbrev pub IsConfirmation : Option Due → Option (List ℕ) → Type 0
-IsConfirmation None None = ⊤
-IsConfirmation (Some d) (Some b) = Spells (empty d.kind d.mid) b × (length b ≡ 4)
-IsConfirmation _ _ = ⊥
+abbrev pub SpellsDue : Option Due → Option (List ℕ) → Type 0
+SpellsDue None None = ⊤
+SpellsDue (Some d) (Some b) = Spells (empty d.kind d.mid) b × (length b ≡ 4)
+SpellsDue _ _ = ⊥
 
 -- one, where there is something
 abbrev pub one_if : Bool → ℕ
@@ -76,6 +76,6 @@ pub record IsPrepared (t n : ℕ) (p : Peer) (b : List ℕ) (es : List Exchange)
   pub taken : d.taken ≡ b
   pub memory : d.memory ≡ verdict.memory
   pub change : d.change ≡ verdict.change
-  pub sent : IsConfirmation verdict.due (option_map arc_value d.sent)
+  pub sent : SpellsDue verdict.due (option_map arc_value d.sent)
   pub datagram : option_map outgoing_of d.datagram ≡ outgoing_by p (option_map arc_value d.sent)
   pub reader : IsReader cs verdict.ending d.reader

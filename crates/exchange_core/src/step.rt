@@ -5,7 +5,7 @@ ghost use Rattle.std.specs.VecDeque.{deque_len, deque_capacity};
 ghost use Rattle.std.specs.Arc.{arc_value};
 ghost use Rattle.journal_book.specs.Entries.{Answers};
 ghost use Rattle.exchange_core.specs.Answering.{HasWaited};
-ghost use Rattle.exchange_core.specs.Steps.{one_if, with_sent, with_answer, conns_by, waiting_by, AnswersBy, IsReader, IsConfirmation};
+ghost use Rattle.exchange_core.specs.Steps.{one_if, with_sent, with_answer, conns_by, waiting_by, AnswersBy, IsReader, SpellsDue};
 
 use crate::outbox::{Outbox, Stamp};
 use crate::outgoing::Datagram;
@@ -49,7 +49,7 @@ pub fn reader_of(conns: &[Conn], ending: Option<Ending>) -> Result<Option<Reader
 
 /// The bytes of the ACK or RST, if one is owed.
 pub fn confirmation_of(alloc: Global, due: Option<Due>) -> Result<Option<Arc<Bytes>>, AllocError>
-    ensures { IfOk result (λ sent. IsConfirmation due (option_map arc_value sent)) }
+    ensures { IfOk result (λ sent. SpellsDue due (option_map arc_value sent)) }
 {
     match due {
         Some(due) => {

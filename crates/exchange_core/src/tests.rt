@@ -5,13 +5,13 @@ ghost use Rattle.uri_map.specs.Naming.{target_at};
 ghost use Rattle.uri_map.specs.Peers.{peer_in};
 ghost use Rattle.uri_map.specs.Splitting.{origin_form};
 
-use crate::{AskFault, Core, OpenFault, Outcome, Ticket};
+use crate::{Answer, AskFault, Core, OpenFault, Outcome, Ticket};
 use ask_model::{Cause, Mapped, Meaning, Payload, REQUEST_LIMIT, Settings, incoming_size};
 use code_map::{Method, Status, method_of};
-use http_edge::{BadKind, Edge, Incoming, Memory, Request};
+use http_edge::{BadKind, Edge, Incoming, Request};
 use journal_book::Event;
 use media_map::Routes;
-use std::alloc::{AllocError, Global};
+use std::alloc::Global;
 use std::net::{IpAddr, Ipv4Addr};
 use std::sync::Arc;
 use transformers::Relation;
@@ -26,58 +26,57 @@ impl Relation for Nothing {
     ghost takes = { λ from to input. ⊥ };
 }
 
-fn settings(alloc: Global) -> Result<Settings, AllocError> {
-    Ok(Settings {
-        base: Text::copy_of(alloc, "/hc/")?,
-        directory: Directory::new(alloc, true),
-        observed: Texts::new(alloc),
-        routes: Routes::new(alloc),
+fn settings(alloc: Global) -> Option<Settings> {
+    let base = Text::copy_of(alloc, "/hc/").ok()?;
+    let directory = Directory::new(alloc, true);
+    let observed = Texts::new(alloc);
+    let routes = Routes::new(alloc);
+    Some(Settings {
+        base,
+        directory,
+        observed,
+        routes,
     })
 }
 
 /// A request that is refused for its size.
-fn too_large(alloc: Global) -> Result<Arc<Mapped<Nothing>>, AllocError> {
-    let settings = Arc::new(alloc, settings(alloc)?)?;
+fn too_large(alloc: Global) -> Option<Arc<Mapped<Nothing>>> {
+    let settings = Arc::new(alloc, settings(alloc)?).ok()?;
     let meaning = Meaning::Refuse(Cause::BadHttp, Status::ContentTooLarge);
     let mapped = Mapped::new(Incoming::Bad(BadKind::Large), meaning, settings);
-    Ok(Arc::new(alloc, mapped)?)
+    Arc::new(alloc, mapped).ok()
+}
+
+/// The settings, with a server.
+fn settings_with_server(alloc: Global) -> Option<Settings> {
+    let mut settings = settings(alloc)?;
+    let address = IpAddr::V4(Ipv4Addr::new(192, 0, 2, 1));
+    settings.directory.add("s.example.com", address).ok()?;
+    Some(settings)
 }
 
 /// What these bytes of a connection ask, where they are a GET of a resource that a server has.
-pub fn asked(alloc: Global, bytes: &[u8]) -> Result<Option<Arc<Mapped<Nothing>>>, Memory> {
-    let mut edge = Edge::new(alloc)?;
+fn asked(alloc: Global, bytes: &[u8]) -> Option<Arc<Mapped<Nothing>>> {
+    let mut edge = Edge::new(alloc).ok()?;
     edge.feed(bytes);
-    let Some(Incoming::Request(request)) = edge.next()? else {
-        return Ok(None);
+    let Some(Incoming::Request(request)) = edge.next().ok()? else {
+        return None;
     };
-    let mut settings = settings(alloc)?;
-    settings
-        .directory
-        .add("s.example.com", IpAddr::V4(Ipv4Addr::new(192, 0, 2, 1)))?;
-    let Some(mapped) = get(alloc, settings, request)? else {
-        return Ok(None);
-    };
-    Ok(Some(Arc::new(alloc, mapped)?))
+    let settings = settings_with_server(alloc)?;
+    let mapped = get(alloc, settings, request)?;
+    Arc::new(alloc, mapped).ok()
 }
 
 /// What a GET means whose target a server has.
-fn get(
-    alloc: Global,
-    settings: Settings,
-    request: Request,
-) -> Result<Option<Mapped<Nothing>>, Memory> {
+fn get(alloc: Global, settings: Settings, request: Request) -> Option<Mapped<Nothing>> {
     let Some(Method::Get) = method_of(&request.method) else {
-        return Ok(None);
+        return None;
     };
     let text = path_and_query(&request.target);
-    let Ok(target) = target_of(alloc, settings.base.as_bytes(), text) else {
-        return Ok(None);
-    };
-    let Some(peer) = peer_of(&settings.directory, &target) else {
-        return Ok(None);
-    };
-    let settings = Arc::new(alloc, settings)?;
-    Ok(mapped_get(settings, request, target, peer))
+    let target = target_of(alloc, settings.base.as_bytes(), text).ok()?;
+    let peer = peer_of(&settings.directory, &target)?;
+    let settings = Arc::new(alloc, settings).ok()?;
+    mapped_get(settings, request, target, peer)
 }
 
 /// A GET of the target, which this server has, if it isn't too large.
@@ -106,134 +105,10 @@ fn mapped_get(
     Some(Mapped::new(came, meaning, settings))
 }
 
-#[test]
-fn connections_open_and_close(rt: HostRuntime) {
-    let alloc: Global = rt.alloc();
-    let mut core: Core<Nothing> = Core::new(alloc).expect(&rt, "memory");
-    let first = core.open(0).expect(&rt, "the first connection");
-    let second = core.open(7).expect(&rt, "the second connection");
-    assert_eq!(rt; first, 0);
-    assert_eq!(rt; second, 1);
-    assert!(rt; core.close(3, first));
-    assert!(rt; !core.close(9, first));
-    // a moment before the last one counts as the last one
-    match core.journal().get(2) {
-        Some(entry) => assert_eq!(rt; entry.moment, 7),
-        None => assert!(rt; false),
-    }
-}
-
-#[test]
-fn at_most_256_are_open(rt: HostRuntime) {
-    let alloc: Global = rt.alloc();
-    let mut core: Core<Nothing> = Core::new(alloc).expect(&rt, "memory");
-    for _ in 0..256 {
-        core.open(0).expect(&rt, "a connection");
-    }
-    assert_eq!(rt; core.open(0), Err(OpenFault::Full));
-    assert!(rt; core.close(0, 17));
-    assert_eq!(rt; core.open(0), Ok(256));
-}
-
-#[test]
-fn a_full_journal_is_sealed(rt: HostRuntime) {
-    let alloc: Global = rt.alloc();
-    let mut core: Core<Nothing> = Core::new(alloc).expect(&rt, "memory");
-    // an opening leaves a place for its closing and one for the seal
-    for _ in 0..32767 {
-        let conn = core.open(0).expect(&rt, "a connection");
-        assert!(rt; core.close(0, conn));
-    }
-    assert_eq!(rt; core.open(5), Err(OpenFault::Sealed));
-    assert_eq!(rt; core.journal().len(), 65535);
-    assert_eq!(rt; core.open(6), Err(OpenFault::Sealed));
-    assert_eq!(rt; core.journal().len(), 65535);
-}
-
-#[test]
-fn a_refusal_is_answered_once(rt: HostRuntime) {
-    let alloc: Global = rt.alloc();
-    let mut core: Core<Nothing> = Core::new(alloc).expect(&rt, "memory");
-    let conn = core.open(0).expect(&rt, "a connection");
-    let mapped = too_large(alloc).expect(&rt, "memory");
-    let again = too_large(alloc).expect(&rt, "memory");
-    match core.ask(5, 0, 7, again) {
-        Err(fault) => assert_eq!(rt; fault, AskFault::Unknown),
-        Ok(_) => assert!(rt; false),
-    }
-    let Ok(ticket) = core.ask(5, 0, conn, mapped) else {
-        assert!(rt; false);
-        return;
-    };
-    assert_eq!(rt; ticket.number, 1);
-    match core.journal().get(2) {
-        Some(entry) => match &entry.event {
-            Event::Answered { conn, ask, .. } => {
-                assert_eq!(rt; *conn, 0);
-                assert_eq!(rt; *ask, 1);
-            }
-            _ => assert!(rt; false),
-        },
-        None => assert!(rt; false),
-    }
-    match core.take_answer(&ticket) {
-        Some(answer) => {
-            assert_eq!(rt; answer.number, 2);
-            assert_eq!(rt; answer.moment, 5);
-            match answer.finding.outcome() {
-                Outcome::Fault(cause) => assert_eq!(rt; *cause, Cause::BadHttp),
-                Outcome::Whole(_) => assert!(rt; false),
-            }
-        }
-        None => assert!(rt; false),
-    }
-    assert!(rt; core.take_answer(&ticket).is_none());
-}
-
-#[test]
-fn a_request_opens_an_exchange(rt: HostRuntime) {
-    let alloc: Global = rt.alloc();
-    let mut core: Core<Nothing> = Core::new(alloc).expect(&rt, "memory");
-    let conn = core.open(0).expect(&rt, "a connection");
+/// A GET of a light.
+pub fn light(alloc: Global) -> Option<Arc<Mapped<Nothing>>> {
     let head = b"GET /hc/coap://s.example.com/light HTTP/1.1\r\nHost: p\r\n\r\n";
-    let mapped = asked(alloc, head)
-        .expect(&rt, "memory")
-        .expect(&rt, "a request");
-    let again = asked(alloc, head)
-        .expect(&rt, "memory")
-        .expect(&rt, "a request");
-    let Ok(ticket) = core.ask(0, 0, conn, mapped) else {
-        assert!(rt; false);
-        return;
-    };
-    assert_eq!(rt; ticket.number, 1);
-    // the header and the token, Uri-Host, and Uri-Path
-    let want = b"\x48\x01\0\0\0\0\0\0\0\0\0\0\x3d\0s.example.com\x85light";
-    match core.journal().get(2) {
-        Some(entry) => match &entry.event {
-            Event::Sent { bytes, timeout, .. } => {
-                assert_eq!(rt; bytes.as_slice(), want.as_slice());
-                assert_eq!(rt; *timeout, Some(2000));
-            }
-            _ => assert!(rt; false),
-        },
-        None => assert!(rt; false),
-    }
-    match core.ask(1, 0, conn, again) {
-        Err(fault) => assert_eq!(rt; fault, AskFault::Pending),
-        Ok(_) => assert!(rt; false),
-    }
-    assert!(rt; core.take_answer(&ticket).is_none());
-}
-
-/// A core whose only connection asked for a resource, with the ticket.
-fn core_that_waits(alloc: Global) -> Option<(Core<Nothing>, Ticket<Nothing>)> {
-    let mut core: Core<Nothing> = Core::new(alloc).ok()?;
-    let conn = core.open(0).ok()?;
-    let head = b"GET /hc/coap://s.example.com/light HTTP/1.1\r\nHost: p\r\n\r\n";
-    let mapped = asked(alloc, head).ok()??;
-    let ticket = core.ask(0, 0, conn, mapped).ok()?;
-    Some((core, ticket))
+    asked(alloc, head)
 }
 
 pub fn server() -> Peer {
@@ -243,140 +118,265 @@ pub fn server() -> Peer {
     }
 }
 
+// Calls of a core that pass on nothing of what it promises: a test over them is proved in less time.
+
+pub fn new_core(alloc: Global) -> Option<Core<Nothing>> {
+    Core::new(alloc).ok()
+}
+
+pub fn open(core: &mut Core<Nothing>, moment: u64) -> Result<u32, OpenFault> {
+    core.open(moment)
+}
+
+fn close(core: &mut Core<Nothing>, moment: u64, conn: u32) -> bool {
+    core.close(moment, conn)
+}
+
+/// Asks for the light.
+pub fn ask(
+    core: &mut Core<Nothing>,
+    alloc: Global,
+    moment: u64,
+    conn: u32,
+) -> Result<Ticket<Nothing>, AskFault> {
+    let mapped = light(alloc).ok_or(AskFault::Memory)?;
+    core.ask(moment, 0, conn, mapped)
+}
+
+/// Asks what is refused for its size.
+fn ask_too_much(
+    core: &mut Core<Nothing>,
+    alloc: Global,
+    moment: u64,
+    conn: u32,
+) -> Result<Ticket<Nothing>, AskFault> {
+    let mapped = too_large(alloc).ok_or(AskFault::Memory)?;
+    core.ask(moment, 0, conn, mapped)
+}
+
+/// Hands in a datagram, and tells whether memory sufficed.
+pub fn hear(core: &mut Core<Nothing>, moment: u64, peer: Peer, bytes: &[u8]) -> bool {
+    core.heard(moment, 0, peer, bytes).is_ok()
+}
+
+fn tick(core: &mut Core<Nothing>, moment: u64) -> bool {
+    core.tick(moment, 0).is_ok()
+}
+
+pub fn take_answer(core: &mut Core<Nothing>, ticket: &Ticket<Nothing>) -> Option<Answer<Nothing>> {
+    core.take_answer(ticket)
+}
+
+/// The number of entries.
+pub fn entries(core: &Core<Nothing>) -> usize {
+    core.journal().len()
+}
+
+/// When the entry with this number was written.
+fn moment_of(core: &Core<Nothing>, number: usize) -> Option<u64> {
+    let entry = core.journal().get(number)?;
+    Some(entry.moment)
+}
+
+/// Whether the entry with this number sends these bytes, with this timeout.
+fn sends(core: &Core<Nothing>, number: usize, wanted: &[u8], wait: Option<u32>) -> bool {
+    let Some(entry) = core.journal().get(number) else {
+        return false;
+    };
+    match &entry.event {
+        Event::Sent { bytes, timeout, .. } => bytes.as_slice() == wanted && *timeout == wait,
+        _ => false,
+    }
+}
+
+/// The connection and the ask that the entry with this number answers.
+fn answered(core: &Core<Nothing>, number: usize) -> Option<(u32, u32)> {
+    let entry = core.journal().get(number)?;
+    match &entry.event {
+        Event::Answered { conn, ask, .. } => Some((*conn, *ask)),
+        _ => None,
+    }
+}
+
+/// The cause that an answer names.
+fn cause_of(answer: &Answer<Nothing>) -> Option<Cause> {
+    match answer.finding.outcome() {
+        Outcome::Fault(cause) => Some(*cause),
+        Outcome::Whole(_) => None,
+    }
+}
+
+/// Whether an answer is a response with this code and this body.
+fn responds(answer: &Answer<Nothing>, code: u8, body: &[u8]) -> bool {
+    match answer.finding.outcome() {
+        Outcome::Whole(response) => response.code == code && response.body.as_slice() == body,
+        Outcome::Fault(_) => false,
+    }
+}
+
+#[test]
+fn connections_open_and_close(rt: HostRuntime) {
+    let mut core = new_core(rt.alloc()).expect(&rt, "memory");
+    assert!(rt; open(&mut core, 0) == Ok(0));
+    assert!(rt; open(&mut core, 7) == Ok(1));
+    assert!(rt; close(&mut core, 3, 0));
+    assert!(rt; !close(&mut core, 9, 0));
+    // a moment before the last one counts as the last one
+    assert!(rt; moment_of(&core, 2) == Some(7));
+}
+
+#[test]
+fn at_most_256_are_open(rt: HostRuntime) {
+    let mut core = new_core(rt.alloc()).expect(&rt, "memory");
+    for _ in 0..256 {
+        assert!(rt; open(&mut core, 0).is_ok());
+    }
+    assert!(rt; open(&mut core, 0) == Err(OpenFault::Full));
+    assert!(rt; close(&mut core, 0, 17));
+    assert!(rt; open(&mut core, 0) == Ok(256));
+}
+
+/// A connection is opened and closed again.
+fn passes(core: &mut Core<Nothing>) -> bool {
+    match open(core, 0) {
+        Ok(conn) => close(core, 0, conn),
+        Err(_) => false,
+    }
+}
+
+#[test]
+fn a_full_journal_is_sealed(rt: HostRuntime) {
+    let mut core = new_core(rt.alloc()).expect(&rt, "memory");
+    // an opening leaves a place for its closing and one for the seal
+    for _ in 0..32767 {
+        assert!(rt; passes(&mut core));
+    }
+    assert!(rt; open(&mut core, 5) == Err(OpenFault::Sealed));
+    assert!(rt; entries(&core) == 65535);
+    assert!(rt; open(&mut core, 6) == Err(OpenFault::Sealed));
+    assert!(rt; entries(&core) == 65535);
+}
+
+#[test]
+fn a_refusal_is_answered_once(rt: HostRuntime) {
+    let alloc = rt.alloc();
+    let mut core = new_core(alloc).expect(&rt, "memory");
+    assert!(rt; open(&mut core, 0) == Ok(0));
+    assert!(rt; ask_too_much(&mut core, alloc, 5, 7).err() == Some(AskFault::Unknown));
+    let ticket = ask_too_much(&mut core, alloc, 5, 0)
+        .ok()
+        .expect(&rt, "a ticket");
+    assert!(rt; ticket.number == 1);
+    assert!(rt; answered(&core, 2) == Some((0, 1)));
+    let answer = take_answer(&mut core, &ticket).expect(&rt, "an answer");
+    assert!(rt; answer.number == 2);
+    assert!(rt; answer.moment == 5);
+    assert!(rt; cause_of(&answer) == Some(Cause::BadHttp));
+    assert!(rt; take_answer(&mut core, &ticket).is_none());
+}
+
+#[test]
+fn a_request_opens_an_exchange(rt: HostRuntime) {
+    let alloc = rt.alloc();
+    let mut core = new_core(alloc).expect(&rt, "memory");
+    assert!(rt; open(&mut core, 0) == Ok(0));
+    let ticket = ask(&mut core, alloc, 0, 0).ok().expect(&rt, "a ticket");
+    assert!(rt; ticket.number == 1);
+    // the header and the token, Uri-Host, and Uri-Path
+    let want = b"\x48\x01\0\0\0\0\0\0\0\0\0\0\x3d\0s.example.com\x85light";
+    assert!(rt; sends(&core, 2, want, Some(2000)));
+    assert!(rt; ask(&mut core, alloc, 1, 0).err() == Some(AskFault::Pending));
+    assert!(rt; take_answer(&mut core, &ticket).is_none());
+}
+
+/// The first connection opens and asks.
+fn open_and_ask(core: &mut Core<Nothing>, alloc: Global) -> Option<Ticket<Nothing>> {
+    let conn = open(core, 0).ok()?;
+    ask(core, alloc, 0, conn).ok()
+}
+
 #[test]
 fn a_reply_answers_who_waits(rt: HostRuntime) {
-    let alloc: Global = rt.alloc();
-    let (mut core, ticket) = core_that_waits(alloc).expect(&rt, "an ask");
+    let alloc = rt.alloc();
+    let mut core = new_core(alloc).expect(&rt, "memory");
+    let ticket = open_and_ask(&mut core, alloc).expect(&rt, "a ticket");
     // a piggybacked 2.05 (RFC 7252 section 5.2.1)
     let reply = b"\x68\x45\0\0\0\0\0\0\0\0\0\0\xff22.5";
     let stranger = Peer {
         port: 5684,
         ..server()
     };
-    core.heard(3, 0, stranger, reply).expect(&rt, "memory");
-    assert_eq!(rt; core.journal().len(), 3);
-    core.heard(7, 0, server(), reply).expect(&rt, "memory");
+    assert!(rt; hear(&mut core, 3, stranger, reply));
+    assert!(rt; entries(&core) == 3);
+    assert!(rt; hear(&mut core, 7, server(), reply));
     // what was heard, and the answer
-    assert_eq!(rt; core.journal().len(), 5);
-    match core.take_answer(&ticket) {
-        Some(answer) => {
-            assert_eq!(rt; answer.ask, 1);
-            assert_eq!(rt; answer.number, 4);
-            assert_eq!(rt; answer.heard, 7);
-            match answer.finding.outcome() {
-                Outcome::Whole(response) => {
-                    assert_eq!(rt; response.code, 0x45);
-                    assert_eq!(rt; response.body.as_slice(), b"22.5".as_slice());
-                }
-                Outcome::Fault(_) => assert!(rt; false),
-            }
-        }
-        None => assert!(rt; false),
-    }
+    assert!(rt; entries(&core) == 5);
+    let answer = take_answer(&mut core, &ticket).expect(&rt, "an answer");
+    assert!(rt; answer.ask == 1);
+    assert!(rt; answer.number == 4);
+    assert!(rt; answer.heard == 7);
+    assert!(rt; responds(&answer, 0x45, b"22.5"));
 }
 
 #[test]
 fn a_repeated_con_is_acknowledged_again(rt: HostRuntime) {
-    let alloc: Global = rt.alloc();
-    let (mut core, ticket) = core_that_waits(alloc).expect(&rt, "an ask");
+    let alloc = rt.alloc();
+    let mut core = new_core(alloc).expect(&rt, "memory");
+    let ticket = open_and_ask(&mut core, alloc).expect(&rt, "a ticket");
     // a separate response (RFC 7252 section 5.2.2)
     let reply = b"\x48\x45\x12\x34\0\0\0\0\0\0\0\0\xff22.5";
-    core.heard(7, 0, server(), reply).expect(&rt, "memory");
-    core.heard(9, 0, server(), reply).expect(&rt, "memory");
+    assert!(rt; hear(&mut core, 7, server(), reply));
+    assert!(rt; hear(&mut core, 9, server(), reply));
     // both times what was heard and its ACK, and one answer
-    assert_eq!(rt; core.journal().len(), 8);
-    for number in [4, 7] {
-        match core.journal().get(number) {
-            Some(entry) => match &entry.event {
-                Event::Sent { bytes, timeout, .. } => {
-                    assert_eq!(rt; bytes.as_slice(), b"\x60\0\x12\x34".as_slice());
-                    assert_eq!(rt; *timeout, None);
-                }
-                _ => assert!(rt; false),
-            },
-            None => assert!(rt; false),
-        }
-    }
-    assert!(rt; core.take_answer(&ticket).is_some());
-    assert!(rt; core.take_answer(&ticket).is_none());
+    assert!(rt; entries(&core) == 8);
+    assert!(rt; sends(&core, 4, b"\x60\0\x12\x34", None));
+    assert!(rt; sends(&core, 7, b"\x60\0\x12\x34", None));
+    assert!(rt; take_answer(&mut core, &ticket).is_some());
+    assert!(rt; take_answer(&mut core, &ticket).is_none());
 }
 
 #[test]
 fn a_reset_message_ends_a_request(rt: HostRuntime) {
-    let alloc: Global = rt.alloc();
-    let (mut core, ticket) = core_that_waits(alloc).expect(&rt, "an ask");
-    core.heard(7, 0, server(), b"\x70\0\0\0")
-        .expect(&rt, "memory");
-    assert_eq!(rt; core.journal().len(), 5);
-    match core.take_answer(&ticket) {
-        Some(answer) => match answer.finding.outcome() {
-            Outcome::Fault(cause) => assert_eq!(rt; *cause, Cause::Reset),
-            Outcome::Whole(_) => assert!(rt; false),
-        },
-        None => assert!(rt; false),
-    }
+    let alloc = rt.alloc();
+    let mut core = new_core(alloc).expect(&rt, "memory");
+    let ticket = open_and_ask(&mut core, alloc).expect(&rt, "a ticket");
+    assert!(rt; hear(&mut core, 7, server(), b"\x70\0\0\0"));
+    assert!(rt; entries(&core) == 5);
+    let answer = take_answer(&mut core, &ticket).expect(&rt, "an answer");
+    assert!(rt; cause_of(&answer) == Some(Cause::Reset));
 }
 
 #[test]
 fn a_request_without_a_reply_times_out(rt: HostRuntime) {
-    let alloc: Global = rt.alloc();
-    let mut core: Core<Nothing> = Core::new(alloc).expect(&rt, "memory");
-    let conn = core.open(0).expect(&rt, "a connection");
-    let head = b"GET /hc/coap://s.example.com/light HTTP/1.1\r\nHost: p\r\n\r\n";
-    let mapped = asked(alloc, head)
-        .expect(&rt, "memory")
-        .expect(&rt, "a request");
-    assert_eq!(rt; core.next_due(), None);
-    let Ok(ticket) = core.ask(1000, 0, conn, mapped) else {
-        assert!(rt; false);
-        return;
-    };
-    assert_eq!(rt; core.next_due(), Some(94_000));
-    assert!(rt; core.tick(93_999, 0).is_ok());
-    assert_eq!(rt; core.journal().len(), 3);
-    assert!(rt; core.take_answer(&ticket).is_none());
-    assert!(rt; core.tick(94_000, 0).is_ok());
-    assert_eq!(rt; core.journal().len(), 5);
-    assert_eq!(rt; core.next_due(), None);
-    match core.take_answer(&ticket) {
-        Some(answer) => {
-            assert_eq!(rt; answer.number, 4);
-            assert_eq!(rt; answer.moment, 94_000);
-            match answer.finding.outcome() {
-                Outcome::Fault(cause) => assert_eq!(rt; *cause, Cause::Timeout),
-                Outcome::Whole(_) => assert!(rt; false),
-            }
-        }
-        None => assert!(rt; false),
-    }
+    let alloc = rt.alloc();
+    let mut core = new_core(alloc).expect(&rt, "memory");
+    assert!(rt; open(&mut core, 0) == Ok(0));
+    assert!(rt; core.next_due().is_none());
+    let ticket = ask(&mut core, alloc, 1000, 0).ok().expect(&rt, "a ticket");
+    assert!(rt; core.next_due() == Some(94_000));
+    assert!(rt; tick(&mut core, 93_999));
+    assert!(rt; entries(&core) == 3);
+    assert!(rt; take_answer(&mut core, &ticket).is_none());
+    assert!(rt; tick(&mut core, 94_000));
+    assert!(rt; entries(&core) == 5);
+    assert!(rt; core.next_due().is_none());
+    let answer = take_answer(&mut core, &ticket).expect(&rt, "an answer");
+    assert!(rt; answer.number == 4);
+    assert!(rt; answer.moment == 94_000);
+    assert!(rt; cause_of(&answer) == Some(Cause::Timeout));
 }
 
 #[test]
 fn timeouts_are_answered_by_rising_ask(rt: HostRuntime) {
-    let alloc: Global = rt.alloc();
-    let mut core: Core<Nothing> = Core::new(alloc).expect(&rt, "memory");
-    let first = core.open(0).expect(&rt, "a connection");
-    let second = core.open(0).expect(&rt, "a connection");
-    let head = b"GET /hc/coap://s.example.com/light HTTP/1.1\r\nHost: p\r\n\r\n";
-    for conn in [second, first] {
-        let mapped = asked(alloc, head)
-            .expect(&rt, "memory")
-            .expect(&rt, "a request");
-        assert!(rt; core.ask(0, 0, conn, mapped).is_ok());
-    }
-    assert!(rt; core.tick(93_000, 0).is_ok());
+    let alloc = rt.alloc();
+    let mut core = new_core(alloc).expect(&rt, "memory");
+    assert!(rt; open(&mut core, 0) == Ok(0));
+    assert!(rt; open(&mut core, 0) == Ok(1));
+    assert!(rt; ask(&mut core, alloc, 0, 1).is_ok());
+    assert!(rt; ask(&mut core, alloc, 0, 0).is_ok());
+    assert!(rt; tick(&mut core, 93_000));
     // two openings, two asks that are sent, the tick, and the answers
-    assert_eq!(rt; core.journal().len(), 9);
-    for (number, want_conn, want_ask) in [(7, 1, 2), (8, 0, 4)] {
-        match core.journal().get(number) {
-            Some(entry) => match &entry.event {
-                Event::Answered { conn, ask, .. } => {
-                    assert_eq!(rt; *conn, want_conn);
-                    assert_eq!(rt; *ask, want_ask);
-                }
-                _ => assert!(rt; false),
-            },
-            None => assert!(rt; false),
-        }
-    }
+    assert!(rt; entries(&core) == 9);
+    assert!(rt; answered(&core, 7) == Some((1, 2)));
+    assert!(rt; answered(&core, 8) == Some((0, 4)));
 }
