@@ -171,6 +171,27 @@ fn what_stands_before_a_refused_line_is_printed(rt: HostRuntime) -> Result<(), F
 }
 
 #[test]
+fn a_mebibyte_waits_unread_and_no_byte_more(rt: HostRuntime) -> Result<(), Fail> {
+    let alloc = rt.alloc();
+    let mut script = joined(
+        alloc,
+        &["0 0 open\n0 0 bytes 0 ", GET_LIGHT, "\n0 0 bytes 0 "],
+    )?;
+    for _ in 0..1_048_576 {
+        script.push_str("61")?;
+    }
+    script.push_str("\n")?;
+    let (out, ended) = run(alloc, &script, false)?;
+    assert_eq!(rt; ended, Ok(()));
+    assert_eq!(rt; out.as_slice(), ASKED.as_bytes());
+    script.push_str("0 0 bytes 0 61\n")?;
+    let (out, ended) = run(alloc, &script, false)?;
+    assert_eq!(rt; ended, Err(ReplayFault::Line(4)));
+    assert_eq!(rt; out.as_slice(), ASKED.as_bytes());
+    Ok(())
+}
+
+#[test]
 fn failed_devices_are_told(rt: HostRuntime) -> Result<(), Fail> {
     let alloc = rt.alloc();
     let mut reader = Trickle {
