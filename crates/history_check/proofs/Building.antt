@@ -1,7 +1,7 @@
 -- The reading that is made of entries and notes, one after the other.
 use Rattle.std.proofs.Common.{◌≡◌, ℕ, zero, suc, ◌+◌, ◌≤◌, ◌<◌, List, [], ◌∷◌, ◌++◌, length, take, get_or, refl, sym, ap, subst, ◌∙◌, arith, add-one}
 use Rattle.std.specs.Prelude.{map}
-use Rattle.std.proofs.lemmas.List.{append_assoc, length-append, length-map, map-append}
+use Rattle.std.proofs.lemmas.List.{append_assoc, length-map}
 use Rattle.journal_book.specs.Entries.{Written}
 use Rattle.history_laws.specs.Readings.{Noted, Note, entries}
 use Rattle.history_laws.specs.Justified.{Legal, AtRest, Stands}

@@ -1,12 +1,10 @@
 -- What is kept of a connection, or of an exchange, stays what the history says of it as a step follows.
-use Rattle.std.proofs.Common.{◌≡◌, ℕ, suc, ◌+◌, Bool, true, false, cond, eqb, inl, inr, List, [], ◌∷◌, ◌++◌, length, Option, Some, None, ◌≤◌, refl, sym, ap, ◌∙◌, arith}
+use Rattle.std.proofs.Common.{◌≡◌, ℕ, suc, ◌+◌, Bool, true, false, cond, eqb, List, [], ◌∷◌, ◌++◌, length, Option, Some, None, ◌≤◌, refl, sym, ap, ◌∙◌, arith}
 use Rattle.std.specs.Prelude.{map, option_map, is_some, is_none}
 use Rattle.std.proofs.lemmas.List.{length-append, map-append}
-use Rattle.std.proofs.lemmas.Bool.Decides.{eqb_tells}
-use Rattle.coap_codec.specs.Spelling.{Content}
 use Rattle.journal_book.specs.Entries.{Deed, Opens, Asks, Sends, Hears, Passes, Answers, Shuts, Seals}
 use Rattle.history_laws.specs.Readings.{Noted, Note, Plain, Begins, First, Copies, Confirms, Says, Garbled}
-use Rattle.history_laws.specs.Connections.{open_by, is_open, asks_by, asks_of, answers_by, answers_of, opened_by, opened}
+use Rattle.history_laws.specs.Connections.{open_by, asks_by, asks_of, answers_by, answers_of, opened_by, opened}
 use Rattle.history_laws.specs.Responses as R
 use Rattle.history_laws.specs.Exchanges as X
 use Rattle.history_check.specs.declared.turn.Sending.{Sending}

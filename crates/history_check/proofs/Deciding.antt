@@ -1,8 +1,8 @@
 -- Several tests at once.
-use Rattle.std.proofs.Common.{◌≡◌, ◌≤◌, ◌<◌, ℕ, Bool, true, false, not, ◌&&◌, eqb, leb, inl, inr, arith, List, [], Option, Some, None, Result, Ok, Err, refl, sym, ap, subst, ◌∙◌}
+use Rattle.std.proofs.Common.{◌≡◌, ◌≤◌, ℕ, Bool, true, false, not, ◌&&◌, eqb, leb, inl, inr, arith, List, Option, Some, None, Result, Ok, Err, refl, sym, ap, subst, ◌∙◌}
 use Rattle.std.specs.Prelude.{is_none, is_some, IsTrue, IfOk, IfSome, ◌↔◌}
 use Rattle.std.specs.Bool.{Decides}
-use Rattle.std.proofs.lemmas.Bool.Decides.{Decides-and, Decides-eqb, Decides-like, leb_tells}
+use Rattle.std.proofs.lemmas.Bool.Decides.{Decides-and, Decides-eqb, leb_tells}
 use Rattle.std.proofs.lemmas.Bool.{false≢true}
 use Rattle.coap_codec.specs.declared.message.MsgType.{MsgType}
 use Rattle.coap_codec.specs.declared.message.Message.{Message}

@@ -1,23 +1,23 @@
 -- What the parts of a step tell of whether it may follow.
-use Rattle.std.proofs.Common.{◌≡◌, ◌⊎◌, inl, inr, ℕ, ◌+◌, ◌≤◌, ◌<◌, Bool, true, false, not, ◌&&◌, ◌||◌, eqb, ltb, List, [], ◌∷◌, ◌++◌, length, Option, Some, None, refl, sym, ap, subst, ◌∙◌, arith}
+use Rattle.std.proofs.Common.{◌≡◌, inl, inr, ℕ, ◌+◌, ◌≤◌, Bool, true, false, not, ◌&&◌, ◌||◌, eqb, ltb, List, [], ◌∷◌, ◌++◌, length, Option, Some, None, refl, sym, ap, subst, ◌∙◌, arith}
 use Rattle.std.specs.Prelude.{is_none, option_map, slice_get, sum_by, min}
 use Rattle.std.specs.Bool.{Decides}
 use Rattle.std.proofs.lemmas.Bool.{false≢true}
 use Rattle.std.proofs.lemmas.List.{length-append}
 use Rattle.std.proofs.lemmas.List.Sums.{sum_by_push}
-use Rattle.std.proofs.lemmas.Bool.Decides.{Decides-and, Decides-or, Decides-like, Decides-eqb, Decides-ltb, eqb_tells, leb_tells}
+use Rattle.std.proofs.lemmas.Bool.Decides.{Decides-or, Decides-like, Decides-eqb, Decides-ltb}
 use Rattle.ask_model.specs.Requests.{CoapRequest, Sense, Requests, Refuses}
 use Rattle.ask_model.specs.Sizes.{capped}
-use Rattle.journal_book.specs.Entries.{Grounds, Written, entry_size}
-use Rattle.history_laws.specs.Readings.{Noted, Note, Plain, Begins, First, Copies, Confirms, Says, Garbled, entries, newest}
-use Rattle.history_laws.specs.Connections.{is_open, asks_of, answers_of, is_sealed}
+use Rattle.journal_book.specs.Entries.{Grounds, entry_size}
+use Rattle.history_laws.specs.Readings.{Noted, Note, Plain, Begins, entries, newest}
+use Rattle.history_laws.specs.Connections.{is_open, asks_of, answers_of}
 use Rattle.history_laws.specs.Exchanges.{open_exchanges}
 use Rattle.history_laws.specs.Confirming as C
 use Rattle.history_laws.specs.Limits.{MaySeal}
-use Rattle.history_laws.specs.Justified.{AskNote, MayCome, HasGrounds, IsPlain, Legal}
+use Rattle.history_laws.specs.Justified.{AskNote, HasGrounds, IsPlain, Legal}
 use Rattle.history_check.specs.declared.confirming.Confirmation.{Confirmation}
-use Rattle.history_check.specs.Mirrors.{IsConnection, MayAsk, MayAnswer, MayShut, confirmation_of, FollowsStep}
-use Rattle.history_check.proofs.Deciding.{two, three, four}
+use Rattle.history_check.specs.Mirrors.{IsConnection, MayAnswer, MayShut, confirmation_of, FollowsStep}
+use Rattle.history_check.proofs.Deciding.{two}
 
 pub not-tells : (b : Bool) → Decides (not b) (b ≡ false)
 not-tells true = (λ e. absurd (false≢true e), λ e. absurd (false≢true (sym e)))

@@ -1,31 +1,25 @@
 -- What a step tells of the entry at its number.
-use Rattle.std.proofs.Common.{◌≡◌, ◌≢◌, ◌⊎◌, inl, inr, ℕ, ◌+◌, ◌≤◌, ◌<◌, Bool, true, false, not, ◌&&◌, ◌||◌, eqb, List, [], ◌∷◌, length, Option, Some, None, refl, sym, ap, subst, ◌∙◌, arith}
-use Rattle.std.specs.Prelude.{option_map, is_none, is_some, nat_le, map}
+use Rattle.std.proofs.Common.{◌≡◌, ℕ, Bool, true, ◌&&◌, eqb, List, length, Option, Some, None, refl, sym, ap, subst, ◌∙◌}
+use Rattle.std.specs.Prelude.{option_map, map}
 use Rattle.std.specs.Bool.{Decides}
 use Rattle.std.proofs.lemmas.Bool.{false≢true}
-use Rattle.std.proofs.lemmas.Bool.Decides.{Decides-like, Decides-and, Decides-eqb, leb_tells, eqb_tells}
-use Rattle.coap_codec.specs.Spelling.{Content, Spells}
+use Rattle.std.proofs.lemmas.Bool.Decides.{Decides-eqb}
 use Rattle.uri_map.specs.declared.peer.Peer.{Peer}
 use Rattle.ask_model.specs.declared.cause.Cause.{Cause}
-use Rattle.ask_model.specs.Requests.{CoapRequest, Sense, Requests, Refuses, Ask, request_message}
-use Rattle.journal_book.specs.Entries.{Grounds, Live, Deed, Opens, Asks, Sends, Hears, Passes, Answers, Shuts, Seals}
+use Rattle.ask_model.specs.Requests.{CoapRequest, Sense, Requests, Refuses, Ask}
+use Rattle.journal_book.specs.Entries.{Live, Deed, Opens, Asks, Sends, Hears, Passes, Answers, Shuts, Seals}
 use Rattle.history_laws.specs.Readings.{Noted, Note, Plain, Begins, First, Copies, Confirms, Says, Garbled, at, before}
-use Rattle.history_laws.specs.Connections.{is_sealed}
 use Rattle.history_laws.specs.Responses as R
 use Rattle.history_laws.specs.Exchanges as X
-use Rattle.history_laws.specs.Limits.{exchange_limit}
-use Rattle.history_laws.specs.Justified.{IsAsk, IsOpening, IsFirst, IsReader, IsGoing, Ends, Caused, HasGrounds, MayBeFirst, reads_by, numbers}
+use Rattle.history_laws.specs.Justified.{IsAsk, IsReader, IsGoing, Ends, HasGrounds, reads_by}
 use Rattle.history_laws.proofs.Places.{at-same}
 use Rattle.history_laws.proofs.Facts.{noted}
-use Rattle.history_laws.proofs.Openings.{begun-opening, opening-begun}
 use Rattle.history_check.specs.declared.turn.Sending.{Sending}
 use Rattle.history_check.specs.declared.exchange.Ending.{Ending}
 use Rattle.history_check.specs.declared.exchange.Ending.TheVariants.{Whole, NotUnderstood, Reset, TimedOut}
 use Rattle.history_check.specs.declared.exchange.End.{End}
-use Rattle.history_check.specs.Mirrors.{is_opening, ending_of, end_of, since_of, reply_number, late_since, IsExchange, IsAskedBy, IsOpeningOf, IsOriginal, IsCopy, HasEnded, IsNamed, IsOver, IsAsking, AsksSomething, IsRefusing, IsRefusedFor, IsReadingAsk, IsBusy, IsEndedSo, IsRefusedSo, IsGoingAsk, has_token, has_mid}
-use Rattle.history_check.proofs.Courses.{late-is}
+use Rattle.history_check.specs.Mirrors.{is_opening, ending_of, end_of, reply_number, IsExchange, IsOriginal, IsCopy, HasEnded, IsAsking, AsksSomething, IsRefusing, IsRefusedFor, IsBusy, IsEndedSo, IsRefusedSo, IsGoingAsk}
 use Rattle.history_check.proofs.Deciding.{two, three}
-use Rattle.history_check.proofs.FirstSendings.{token-free, token-apart, mid-free, mid-apart}
 
 pub some-same : {X : Type 0} (x y : X) → Some x ≡ Some y → x ≡ y
 some-same x y e = cc

@@ -1,12 +1,11 @@
 -- What a datagram asks for.
-use Rattle.std.proofs.Common.{◌≡◌, ℕ, Bool, true, false, ◌&&◌, Option, Some, None, List, ◌∷◌, refl, sym, ap, ◌∙◌}
-use Rattle.std.specs.Prelude.{option_map}
+use Rattle.std.proofs.Common.{◌≡◌, ℕ, Bool, true, false, ◌&&◌, Option, List, ◌∷◌, refl, ap, ◌∙◌}
 use Rattle.coap_codec.specs.declared.message.MsgType.{MsgType}
 use Rattle.coap_codec.specs.declared.message.MsgType.TheVariants.{Con, Non, Ack, Rst}
 use Rattle.coap_codec.specs.Spelling.{Content}
 use Rattle.uri_map.specs.declared.peer.Peer.{Peer}
-use Rattle.journal_book.specs.Entries.{Deed, Hears}
-use Rattle.history_laws.specs.Readings.{Noted, Note, Says}
+use Rattle.journal_book.specs.Entries.{Hears}
+use Rattle.history_laws.specs.Readings.{Noted, Says}
 use Rattle.history_laws.specs.Exchanges.{is_such, is_repeat, is_again}
 use Rattle.history_laws.specs.Confirming.{heard_answer, answer_to, answer_again, given, owed_by}
 use Rattle.history_check.specs.Mirrors.{heard_answer_by, is_like_step, answer_after}

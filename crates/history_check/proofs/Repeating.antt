@@ -1,5 +1,5 @@
 -- Which CONs and NONs repeat others, by the moments of those that are no repeats.
-use Rattle.std.proofs.Common.{◌≡◌, ℕ, ◌+◌, ◌-◌, Bool, true, false, cond, not, ◌&&◌, ◌||◌, List, [], ◌∷◌, ◌++◌, refl, sym, ap, ◌∙◌, arith}
+use Rattle.std.proofs.Common.{◌≡◌, ℕ, ◌+◌, Bool, true, false, cond, not, ◌&&◌, ◌||◌, List, [], ◌∷◌, ◌++◌, refl, ap, ◌∙◌, arith}
 use Rattle.std.specs.List.{list_any}
 use Rattle.std.specs.Prelude.{nat_lt}
 use Rattle.std.proofs.lemmas.Bool.Decides.{nat_tests}
@@ -7,7 +7,7 @@ use Rattle.uri_map.specs.declared.peer.Peer.{Peer}
 use Rattle.ask_model.specs.Requests.{same_peer}
 use Rattle.journal_book.specs.Entries.{Deed, Opens, Asks, Sends, Hears, Passes, Answers, Shuts, Seals}
 use Rattle.history_laws.specs.Readings.{Noted, Note, Plain, Begins, First, Copies, Confirms, Says, Garbled}
-use Rattle.history_laws.specs.Exchanges.{exchange_lifetime, is_such, is_like, is_repeat}
+use Rattle.history_laws.specs.Exchanges.{is_such, is_like, is_repeat}
 use Rattle.history_check.specs.Mirrors.{is_near, is_like_step}
 
 pub near-is : (t s : ℕ) → is_near t s ≡ nat_lt t (s + 247000)

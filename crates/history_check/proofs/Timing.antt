@@ -1,32 +1,30 @@
 -- What is told of exchanges that timed out, of first sendings, and of rest.
-use Rattle.std.proofs.Common.{◌≡◌, ◌≢◌, ◌⊎◌, inl, inr, ℕ, ◌+◌, ◌≤◌, ◌<◌, Bool, true, false, not, ◌&&◌, ◌||◌, eqb, List, [], ◌∷◌, length, Option, Some, None, refl, sym, ap, subst, ◌∙◌, arith}
-use Rattle.std.specs.Prelude.{option_map, is_none, is_some, nat_le, slice_get}
+use Rattle.std.proofs.Common.{◌≡◌, ◌⊎◌, inl, inr, ℕ, ◌+◌, ◌≤◌, Bool, true, false, not, ◌&&◌, ◌||◌, List, [], ◌∷◌, length, Option, Some, None, refl, sym, ap, subst, ◌∙◌, arith}
+use Rattle.std.specs.Prelude.{option_map, is_some, slice_get}
 use Rattle.std.specs.Bool.{Decides}
 use Rattle.std.specs.List.{All, Contains}
 use Rattle.std.proofs.lemmas.List.Elements.{All-contains, All-weaker, All-contains_itself}
 use Rattle.std.proofs.lemmas.Bool.{false≢true}
-use Rattle.std.proofs.lemmas.Bool.Decides.{Decides-and, leb_tells, eqb_tells}
-use Rattle.coap_codec.specs.Spelling.{Content, Spells}
+use Rattle.std.proofs.lemmas.Bool.Decides.{leb_tells, eqb_tells}
+use Rattle.coap_codec.specs.Spelling.{Content}
 use Rattle.uri_map.specs.declared.peer.Peer.{Peer}
-use Rattle.ask_model.specs.Requests.{CoapRequest, request_message}
+use Rattle.ask_model.specs.Requests.{CoapRequest}
 use Rattle.journal_book.specs.Entries.{Deed, Opens, Asks, Sends, Hears, Passes, Answers, Shuts, Seals}
 use Rattle.history_laws.specs.Readings.{Noted, Note, Plain, Begins, First, Copies, Confirms, Says, Garbled, at}
 use Rattle.history_laws.specs.Connections.{open_by, is_open, asks_of, answers_of, is_sealed}
 use Rattle.history_laws.specs.Responses as R
 use Rattle.history_laws.specs.Exchanges as X
 use Rattle.history_laws.specs.Confirming.{owed}
-use Rattle.history_laws.specs.Justified.{IsOpening, IsFirst, IsReader, IsGoing, Ends, MayBeFirst, AtRest}
+use Rattle.history_laws.specs.Justified.{IsOpening, IsReader, IsGoing, Ends, MayBeFirst, AtRest}
 use Rattle.history_laws.proofs.Places.{at-same}
 use Rattle.history_laws.proofs.Facts.{noted}
 use Rattle.history_laws.proofs.Openings.{begun-opening, opening-begun, openings-opened, opened-openings}
 use Rattle.history_check.specs.declared.turn.Sending.{Sending}
-use Rattle.history_check.specs.declared.exchange.Ending.{Ending}
-use Rattle.history_check.specs.declared.exchange.Ending.TheVariants.{TimedOut}
 use Rattle.history_check.specs.declared.exchange.End.{End}
-use Rattle.history_check.specs.Mirrors.{IsConnection, end_of, since_of, sending_of, late_since, IsExchange, IsAskedBy, IsOpeningOf, IsNamed, IsOver, IsTimeout, IsGoingAsk, ConnRests, OpenedRests, AllOpenedRest, ExchangeRests, has_token, has_mid}
+use Rattle.history_check.specs.Mirrors.{IsConnection, end_of, late_since, IsExchange, IsAskedBy, IsOpeningOf, IsNamed, IsOver, IsTimeout, IsGoingAsk, ConnRests, OpenedRests, AllOpenedRest, ExchangeRests, has_token, has_mid}
 use Rattle.history_check.proofs.Courses.{late-is}
-use Rattle.history_check.proofs.Deciding.{two, three}
-use Rattle.history_check.proofs.FirstSendings.{or-true, token-free, token-apart, mid-free, mid-apart}
+use Rattle.history_check.proofs.Deciding.{three}
+use Rattle.history_check.proofs.FirstSendings.{token-free, token-apart, mid-free, mid-apart}
 use Rattle.history_check.proofs.Lifting.{some-same, reader-own, how-late, rebuilt, mapped-none}
 
 -- the latest first sending, or the ask

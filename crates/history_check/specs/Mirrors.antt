@@ -1,17 +1,16 @@
 -- Words that the checker's parts speak by: each says in one word what a definition of histories says of an
 -- entry, or what a Rust value says of a history.
-use Rattle.std.specs.Prelude.{◌≡◌, ◌⊎◌, ◌↔◌, ℕ, ◌+◌, ◌-◌, ◌≤◌, ◌/◌, Bool, true, false, not, ◌&&◌, ◌||◌, List, [], ◌∷◌, ◌++◌, length, map, find, slice_get, Option, Some, None, option_map, is_some, ◌==◌, nat_le, nat_lt, if◌then◌else◌, ⊤}
+use Rattle.std.specs.Prelude.{◌≡◌, ℕ, ◌+◌, ◌-◌, ◌≤◌, Bool, true, false, not, ◌&&◌, ◌||◌, List, [], ◌∷◌, length, map, find, slice_get, Option, Some, None, option_map, is_some, ◌==◌, nat_le, nat_lt, if◌then◌else◌, ⊤}
 use Rattle.std.specs.List.{list_any}
 use Rattle.std.specs.Str.{bytes_eq}
 use Rattle.coap_codec.specs.declared.message.MsgType.{MsgType}
-use Rattle.coap_codec.specs.declared.message.MsgType.TheVariants.{Con, Non, Ack, Rst}
 use Rattle.coap_codec.specs.Spelling.{Entry, Content, Spells}
 use Rattle.uri_map.specs.declared.peer.Peer.{Peer}
 use Rattle.ask_model.specs.declared.cause.Cause.{Cause}
 use Rattle.ask_model.specs.Requests.{CoapRequest, Sense, Requests, Refuses, Ask, same_peer, request_message}
-use Rattle.journal_book.specs.Entries.{Grounds, Deed, Opens, Asks, Sends, Hears, Answers, Written}
-use Rattle.history_laws.specs.Readings.{Noted, Note, Begins, First, Says, Garbled, at, before}
-use Rattle.history_laws.specs.Connections.{is_open, asks_of, answers_of, is_sealed}
+use Rattle.journal_book.specs.Entries.{Grounds, Deed, Opens, Asks, Sends, Answers}
+use Rattle.history_laws.specs.Readings.{Noted, Note, Begins, First, at, before}
+use Rattle.history_laws.specs.Connections.{is_open, asks_of, answers_of}
 use Rattle.history_laws.specs.Responses as R
 use Rattle.history_laws.specs.Exchanges as X
 use Rattle.history_laws.specs.Confirming as C

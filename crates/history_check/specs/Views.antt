@@ -1,5 +1,5 @@
 -- Notes and annotated entries as plain data, and the reading that is made of entries and notes.
-use Rattle.std.specs.Prelude.{ℕ, List, [], ◌∷◌}
+use Rattle.std.specs.Prelude.{List, [], ◌∷◌}
 use Rattle.coap_codec.specs.Spelling.{content}
 use Rattle.ask_model.specs.Requests.{CoapRequest}
 use Rattle.journal_book.specs.Entries.{Written}

@@ -1,9 +1,8 @@
 use Rattle.std.proofs.Common.{◌≡◌, ◌∙◌, ap, arith, eqb, length, take, vec_len}
-use Rattle.std.specs.Prelude.{option_map}
 use Rattle.history_check.specs.Views.{history, noted_of}
-use Rattle.history_check.specs.Mirrors.{sending_of, turn_of}
+use Rattle.history_check.specs.Mirrors.{turn_of}
 use Rattle.history_check.proofs.Along.{history-next, front-length}
-use Rattle.history_check.proofs.Courses.{exchange-step, Round}
+use Rattle.history_check.proofs.Courses.{exchange-step}
 use Rattle.history_check.proofs.exchange.exchange_of.Goals as goal
 
 pub each-preserved : goal.each-preserved

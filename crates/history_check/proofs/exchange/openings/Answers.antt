@@ -1,7 +1,7 @@
 use Rattle.std.proofs.Common.{arith, take, sym, ap, ◌∙◌}
 use Rattle.history_check.specs.Views.{history, noted_of, note_of}
 use Rattle.history_check.specs.Mirrors.{is_opening}
-use Rattle.history_check.proofs.Along.{history-next, history-at, history-none, history-length, front-length}
+use Rattle.history_check.proofs.Along.{history-next, front-length}
 use Rattle.history_check.proofs.Courses.{opened-push}
 use Rattle.history_check.proofs.exchange.openings.Goals as goal
 

@@ -1,4 +1,3 @@
-use Rattle.std.proofs.Common.{◌≡◌, take}
 use Rattle.history_check.proofs.Along.{history-next}
 use Rattle.history_check.proofs.firsts.was_sent_to.Goals as goal
 

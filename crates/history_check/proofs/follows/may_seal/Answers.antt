@@ -1,4 +1,4 @@
-use Rattle.std.proofs.Common.{◌∙◌, length, sym}
+use Rattle.std.proofs.Common.{length, sym}
 use Rattle.history_check.specs.Views.{history}
 use Rattle.history_check.proofs.Along.{history-length}
 use Rattle.history_check.proofs.Following.{seal-tells}

@@ -1,6 +1,6 @@
 use Rattle.std.proofs.Common.{◌∙◌, refl, take}
 use Rattle.history_check.specs.Views.{history, noted_of}
-use Rattle.history_check.proofs.Along.{history-next, history-at, history-none, history-length, front-length}
+use Rattle.history_check.proofs.Along.{history-next}
 use Rattle.history_check.proofs.Repeating.{fresh-step}
 use Rattle.history_check.proofs.repeats.is_repeat.Goals as goal
 

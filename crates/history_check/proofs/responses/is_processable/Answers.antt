@@ -1,6 +1,6 @@
-use Rattle.std.proofs.Common.{◌∙◌, ◌&&◌, not, ℕ, []}
+use Rattle.std.proofs.Common.{◌∙◌, not, ℕ, []}
 use Rattle.coap_codec.specs.Spelling.{entries}
-use Rattle.coap_codec.specs.Options.{is_critical_number, is_unsafe_number}
+use Rattle.coap_codec.specs.Options.{is_critical_number}
 use Rattle.history_laws.specs.Responses.{strays}
 use Rattle.history_check.proofs.StrayOptions.{all-mapped}
 use Rattle.history_check.proofs.responses.is_processable.Goals as goal

@@ -1,4 +1,4 @@
-use Rattle.std.proofs.Common.{◌≡◌, ◌++◌, [], map, take, drop}
+use Rattle.std.proofs.Common.{◌≡◌, ◌++◌, [], map, drop}
 use Rattle.coap_codec.specs.Spelling.{entries}
 use Rattle.history_laws.specs.Responses.{strays}
 use Rattle.history_check.specs.Mirrors.{number_of}

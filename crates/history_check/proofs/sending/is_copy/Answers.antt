@@ -1,6 +1,6 @@
 use Rattle.std.proofs.lemmas.Bool.{false≢true}
 use Rattle.history_check.specs.Views.{history, noted_of}
-use Rattle.history_check.proofs.Along.{history-next, history-at, history-none, history-length, front-length}
+use Rattle.history_check.proofs.Along.{history-at, history-none}
 use Rattle.history_check.proofs.Lifting.{copy-tells}
 use Rattle.history_check.proofs.sending.is_copy.Goals as goal
 
