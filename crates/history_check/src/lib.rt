@@ -3,8 +3,7 @@
 //! One contract: `legal` answers true exactly where the reading that is made of a journal's entries and of
 //! the given notes is legal and at rest, by the definitions of `history_laws`. `notes_of` proposes notes.
 //! So where `legal` says true of the proposed notes, as `is_justified` asks it, the journal is justified. It
-//! reads the history anew for each entry, for use on journals of a few hundred entries: stored runs, and
-//! random ones.
+//! reads the history anew for each entry, so it is for short journals.
 #![tactic(auto)]
 
 mod at_rest;
