@@ -1,0 +1,12 @@
+pub mod Along
+pub mod Repeating
+pub mod Courses
+pub mod Counting
+pub mod FirstSendings
+pub mod Deciding
+pub mod StrayOptions
+pub mod Lifting
+pub mod Timing
+pub mod Following
+pub mod Building
+pub mod Owing

@@ -1,0 +1,13 @@
+use Rattle.std.proofs.lemmas.Bool.{false≢true}
+use Rattle.history_check.specs.Views.{history, noted_of}
+use Rattle.history_check.proofs.Along.{history-at, history-none}
+use Rattle.history_check.proofs.Lifting.{refused-tells}
+use Rattle.history_check.proofs.grounds.is_refused.Goals as goal
+
+pub returns-in-Some : goal.returns-in-Some
+returns-in-Some g c =
+    refused-tells (history c.args.steps.now) c.args.ask (noted_of c.in-Some.step.now) c.args.cause c.is_refused_for.result
+    (history-at c.args.steps.now c.args.ask c.in-Some.step.now c.in-Some.ensures.0 c.in-Some.ensures.1) c.is_refused_for.ensures
+
+pub returns-in-None : goal.returns-in-None
+returns-in-None g c = (λ e. absurd (false≢true e), λ r. absurd (history-none c.args.steps.now c.args.ask _ c.in-None.ensures r.3.stands))
