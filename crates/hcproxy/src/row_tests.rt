@@ -68,6 +68,12 @@ const LAST: Row = Row {
     printed: "0 datagram 192.0.2.1:5683 4801000000000000000000003d00732e6578616d706c652e636f6d856c69676874\n40 bytes 0 485454502f312e3120323030204f4b0d0a436f6e74656e742d547970653a20746578742f706c61696e3b636861727365743d7574662d380d0a43616368652d436f6e74726f6c3a206d61782d6167653d36300d0a436f6e6e656374696f6e3a20636c6f73650d0a436f6e74656e742d4c656e6774683a20320d0a0d0a6f6e\n40 closed 0\n",
 };
 
+/// Two asks that end at one tick are answered by their numbers, the first on connection 1.
+const BOTH_LATE: Row = Row {
+    script: "0 0 open\n0 0 open\n0 0 bytes 1 474554202f68632f636f61703a2f2f732e6578616d706c652e636f6d2f6c6967687420485454502f312e310d0a486f73743a20700d0a0d0a\n0 0 bytes 0 474554202f68632f636f61703a2f2f3139322e302e322e392f6220485454502f312e310d0a486f73743a20700d0a0d0a\n93000 0 tick\n",
+    printed: "0 datagram 192.0.2.1:5683 4801000000000000000000003d00732e6578616d706c652e636f6d856c69676874\n0 datagram 192.0.2.9:5683 480100000000000100000000b162\n93000 bytes 1 485454502f312e312035303420476174657761792054696d656f75740d0a48432d43617573653a2074696d656f757420330d0a436f6e74656e742d4c656e6774683a20300d0a0d0a\n93000 bytes 0 485454502f312e312035303420476174657761792054696d656f75740d0a48432d43617573653a2074696d656f757420350d0a436f6e74656e742d4c656e6774683a20300d0a0d0a\n",
+};
+
 /// Runs a script over memory, and compares what it prints.
 fn prints(alloc: Global, script: &str, printed: &str) -> Result<bool, Fail> {
     let mut out = Vec::new(alloc);
@@ -127,6 +133,12 @@ fn pipelined_requests_are_answered_in_order(rt: HostRuntime) -> Result<(), Fail>
 #[test]
 fn nothing_is_asked_behind_the_last_request(rt: HostRuntime) -> Result<(), Fail> {
     assert!(rt; prints(rt.alloc(), LAST.script, LAST.printed)?);
+    Ok(())
+}
+
+#[test]
+fn answers_of_a_tick_come_by_their_asks(rt: HostRuntime) -> Result<(), Fail> {
+    assert!(rt; prints(rt.alloc(), BOTH_LATE.script, BOTH_LATE.printed)?);
     Ok(())
 }
 
