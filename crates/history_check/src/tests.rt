@@ -5,10 +5,8 @@ ghost use Rattle.uri_map.specs.Naming.{target_at};
 ghost use Rattle.uri_map.specs.Peers.{peer_in};
 ghost use Rattle.uri_map.specs.Splitting.{origin_form};
 
-use crate::{is_justified, legal, notes_of};
-use ask_model::{
-    Bytes, Cause, Mapped, Meaning, Payload, REQUEST_LIMIT, Settings, incoming_size,
-};
+use crate::{Note, is_justified, legal, notes_of};
+use ask_model::{Bytes, Cause, Mapped, Meaning, Payload, REQUEST_LIMIT, Settings, incoming_size};
 use code_map::{Method, Status, method_of};
 use http_edge::{BadKind, Incoming, Request, Version};
 use http_header::HeaderMap;
@@ -31,11 +29,13 @@ impl Relation for Nothing {
 
 /// The kinds of replies, as the first byte of a message with a token of eight bytes.
 const CON: u8 = 0x48;
+
 const NON: u8 = 0x58;
+
 const ACK: u8 = 0x68;
 
-/// What is done: conns and asks go by the numbers of their entries, message IDs by their low byte, and
-/// tokens by their last byte.
+/// What is done: connections go by their numbers, asks by those of their entries, message IDs by their low
+/// byte, and tokens by their last byte.
 #[derive(Clone, Copy)]
 enum Act {
     Open(u32),
@@ -139,12 +139,7 @@ fn too_large(alloc: Global) -> Result<Mapped<Nothing>, AllocError> {
 }
 
 /// A message with this first byte, code, ID and token, and what follows.
-fn message(
-    alloc: Global,
-    head: [u8; 4],
-    token: u8,
-    rest: &[u8],
-) -> Result<Bytes, AllocError> {
+fn message(alloc: Global, head: [u8; 4], token: u8, rest: &[u8]) -> Result<Bytes, AllocError> {
     let mut bytes = Vec::new(alloc);
     bytes.extend_from_slice(&head)?;
     bytes.extend_from_slice(&[0, 0, 0, 0, 0, 0, 0, token])?;
@@ -154,7 +149,12 @@ fn message(
 
 /// The GET that asks it: Uri-Host and Uri-Path.
 fn request(alloc: Global, mid: u8, token: u8) -> Result<Bytes, AllocError> {
-    message(alloc, [0x48, 1, 0, mid], token, b"\x3d\x00s.example.com\x85light")
+    message(
+        alloc,
+        [0x48, 1, 0, mid],
+        token,
+        b"\x3d\x00s.example.com\x85light",
+    )
 }
 
 /// 2.05 Content in text/plain, with the payload `on`.
@@ -281,7 +281,11 @@ fn what_was_done_right_stands(rt: HostRuntime) {
             (900, Live(0, 1, 4)),
         ],
         // a separate NON; the second one is a repeat
-        &[(40, Reply(NON, 7, 0)), (40, Live(0, 1, 3)), (41, Reply(NON, 7, 0))],
+        &[
+            (40, Reply(NON, 7, 0)),
+            (40, Live(0, 1, 3)),
+            (41, Reply(NON, 7, 0)),
+        ],
         // a repeated CON gets its ACK again
         &[
             (40, Reply(CON, 7, 0)),
@@ -340,9 +344,17 @@ fn what_was_spoiled_is_refused(rt: HostRuntime) {
     let alloc: Global = rt.alloc();
     let rows: [&[(u64, Act)]; 22] = [
         // an answer given twice
-        &[(40, Reply(ACK, 0, 0)), (40, Live(0, 1, 3)), (40, Live(0, 1, 3))],
+        &[
+            (40, Reply(ACK, 0, 0)),
+            (40, Live(0, 1, 3)),
+            (40, Live(0, 1, 3)),
+        ],
         // a late reply counted
-        &[(93_000, Pass), (93_010, Reply(ACK, 0, 0)), (93_010, Live(0, 1, 4))],
+        &[
+            (93_000, Pass),
+            (93_010, Reply(ACK, 0, 0)),
+            (93_010, Live(0, 1, 4)),
+        ],
         // a CON never acknowledged
         &[(40, Reply(CON, 7, 0)), (40, Live(0, 1, 3))],
         &[(40, Reply(CON, 7, 0))],
@@ -377,17 +389,39 @@ fn what_was_spoiled_is_refused(rt: HostRuntime) {
         &[(1, First(1, 1))],
         &[(2000, Again(0, 1))],
         // another cause
-        &[(40, Empty(0x70, 0)), (40, Fault(0, 1, Cause::NotUnderstood, 3))],
+        &[
+            (40, Empty(0x70, 0)),
+            (40, Fault(0, 1, Cause::NotUnderstood, 3)),
+        ],
     ];
     for row in rows {
         assert!(rt; !stands_behind(alloc, row).expect(&rt, "memory"));
     }
     let whole: [&[(u64, Act)]; 9] = [
         // a token reused, a message ID reused
-        &[(0, Open(0)), (0, Ask(0)), (0, First(0, 0)), (0, Open(1)), (0, Ask(1)), (0, First(1, 0))],
-        &[(0, Open(0)), (0, Ask(0)), (0, First(0, 0)), (0, Open(1)), (0, Ask(1)), (0, First(0, 1))],
+        &[
+            (0, Open(0)),
+            (0, Ask(0)),
+            (0, First(0, 0)),
+            (0, Open(1)),
+            (0, Ask(1)),
+            (0, First(1, 0)),
+        ],
+        &[
+            (0, Open(0)),
+            (0, Ask(0)),
+            (0, First(0, 0)),
+            (0, Open(1)),
+            (0, Ask(1)),
+            (0, First(0, 1)),
+        ],
         // a reply before its sending
-        &[(0, Open(0)), (0, Ask(0)), (1, Reply(ACK, 0, 0)), (2, First(0, 0))],
+        &[
+            (0, Open(0)),
+            (0, Ask(0)),
+            (1, Reply(ACK, 0, 0)),
+            (2, First(0, 0)),
+        ],
         // an answer on another connection
         &[
             (0, Open(0)),
@@ -422,4 +456,32 @@ fn each_entry_has_one_note(rt: HostRuntime) {
     assert!(rt; legal(alloc, &journal, &notes).expect(&rt, "memory"));
     let _ = notes.pop();
     assert!(rt; !legal(alloc, &journal, &notes).expect(&rt, "memory"));
+}
+
+#[test]
+fn each_note_counts(rt: HostRuntime) {
+    use Act::{Ask, First, Live, Open, Reply};
+    let alloc: Global = rt.alloc();
+    let acts = [
+        (0, Open(0)),
+        (0, Ask(0)),
+        (0, First(0, 0)),
+        (40, Reply(ACK, 0, 0)),
+        (40, Live(0, 1, 3)),
+    ];
+    let journal = journal_of(alloc, &acts).expect(&rt, "memory");
+    for i in 0..acts.len() {
+        let mut notes = notes_of(alloc, &journal).expect(&rt, "memory");
+        assert!(rt; legal(alloc, &journal, &notes).expect(&rt, "memory"));
+        // none of them is the ACK or RST of a datagram
+        if let Some(note) = notes.get_mut(i) {
+            *note = Note::Confirms;
+        }
+        assert!(rt; !legal(alloc, &journal, &notes).expect(&rt, "memory"));
+    }
+}
+
+#[test]
+fn nothing_stands(rt: HostRuntime) {
+    assert!(rt; stands(rt.alloc(), &[]).expect(&rt, "memory"));
 }
