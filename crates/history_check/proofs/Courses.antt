@@ -126,8 +126,8 @@ exchange-step l x o n since waits numbers ended sent turn how since2 waits2 numb
     let late : late_since t since ≡ X.is_late t (X.begun l o) = ap (λ (s : Option ℕ). late_since t s) k.since_is ∙ late-is t (X.begun l o) in
     let same : turn ≡ X.turn l o x = r.turn_is ∙ rw (at, late, k.waits_is) refl in
     let how_is : how ≡ option_map ending_of (X.end_here turn (X.begun l o) (X.replies l o)) =
-        r.how_is (X.begun l o) (X.replies l o) (ap (λ (s : Option ℕ). is_some s) k.since_is ∙ some-since (X.begun l o))
-        (ap (λ (ns : List ℕ). eqb (length ns) 0) k.numbers_are ∙ ap (λ (n : ℕ). eqb n 0) (numbers-length (X.replies l o))) in
+    r.how_is (X.begun l o) (X.replies l o) (ap (λ (s : Option ℕ). is_some s) k.since_is ∙ some-since (X.begun l o))
+    (ap (λ (ns : List ℕ). eqb (length ns) 0) k.numbers_are ∙ ap (λ (n : ℕ). eqb n 0) (numbers-length (X.replies l o))) in
     record {
       since_is = r.since_is ∙ rw (k.since_is, at) (since-step o (length l) t x.note (X.begun l o));
       waits_is = r.waits_is ∙ rw (k.waits_is, same) refl;

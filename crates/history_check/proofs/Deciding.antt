@@ -30,18 +30,19 @@ six a b c d e f p q r s t u =
 same-fields : (k l : MsgType) (c d m n : ℕ) (t u : List ℕ) (o p : List Entry) (b e : List ℕ)
     → k ≡ l → c ≡ d → m ≡ n → t ≡ u → o ≡ p → b ≡ e
     → (let x : Content = record { kind = k; code = c; mid = m; token = t; options = o; payload = b } in
-       let y : Content = record { kind = l; code = d; mid = n; token = u; options = p; payload = e } in x ≡ y)
+    let y : Content = record { kind = l; code = d; mid = n; token = u; options = p; payload = e } in x ≡ y)
 same-fields k l c d m n t u o p b e ek ec em et eo eb = rw (ek, ec, em, et, eo, eb) refl
 
 -- two messages are equal where their fields are
 pub messages-equal : (a b : Content) (k t o p : Bool) → Decides k (a.kind ≡ b.kind) → Decides t (a.token ≡ b.token) → Decides o (a.options ≡ b.options) → Decides p (a.payload ≡ b.payload)
     → Decides (((((k && eqb a.code b.code) && eqb a.mid b.mid) && t) && o) && p) (a ≡ b)
 messages-equal a b k t o p dk dt do_ dp =
-    let h = six k (eqb a.code b.code) (eqb a.mid b.mid) t o p dk (Decides-eqb a.code b.code) (Decides-eqb a.mid b.mid) dt do_ dp in
-    (λ w.
-        let v = h.0 w in
-        same-fields a.kind b.kind a.code b.code a.mid b.mid a.token b.token a.options b.options a.payload b.payload v.0 v.1 v.2 v.3 v.4 v.5,
-     λ e. h.1 (ap (λ (m : Content). m.kind) e, ap (λ (m : Content). m.code) e, ap (λ (m : Content). m.mid) e, ap (λ (m : Content). m.token) e, ap (λ (m : Content). m.options) e, ap (λ (m : Content). m.payload) e))
+    let h = six k (eqb a.code b.code) (eqb a.mid b.mid) t o p dk (Decides-eqb a.code b.code) (Decides-eqb a.mid b.mid) dt do_ dp in (
+      λ w.
+          let v = h.0 w in
+          same-fields a.kind b.kind a.code b.code a.mid b.mid a.token b.token a.options b.options a.payload b.payload v.0 v.1 v.2 v.3 v.4 v.5,
+      λ e. h.1 (ap (λ (m : Content). m.kind) e, ap (λ (m : Content). m.code) e, ap (λ (m : Content). m.mid) e, ap (λ (m : Content). m.token) e, ap (λ (m : Content). m.options) e, ap (λ (m : Content). m.payload) e),
+    )
 
 -- what is read tells which message is spelled
 pub spells-tells : (r m : Content) (bytes : List ℕ) (b : Bool) → Decides b (r ≡ m) → Spells r bytes
@@ -53,9 +54,10 @@ option-is m n v u e f = rw (e, f) refl
 
 pub options-equal : (a b : Entry) (v : Bool) → Decides v (a.value ≡ b.value) → Decides (eqb a.number b.number && v) (a ≡ b)
 options-equal a b v h =
-    let both = two (eqb a.number b.number) v (Decides-eqb a.number b.number) h in
-    (λ t. let w = both.0 t in option-is a.number b.number a.value b.value w.0 w.1,
-     λ e. both.1 (ap (λ (o : Entry). o.number) e, ap (λ (o : Entry). o.value) e))
+    let both = two (eqb a.number b.number) v (Decides-eqb a.number b.number) h in (
+      λ t. let w = both.0 t in option-is a.number b.number a.value b.value w.0 w.1,
+      λ e. both.1 (ap (λ (o : Entry). o.number) e, ap (λ (o : Entry). o.value) e),
+    )
 
 -- what an answer that was given says by another word
 pub ok-like : {E P Q : Type 0} (r : Result Bool E) → (P → Q) → (Q → P) → IfOk r (λ b. IsTrue b ↔ P) → IfOk r (λ b. IsTrue b ↔ Q)

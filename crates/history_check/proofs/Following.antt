@@ -62,6 +62,7 @@ begins-tells l (Refuses cause status) r asks count h n = (λ t. absurd (apart (h
   where
     first : (asks && ltb count 256) ≡ true → asks ≡ true
     first t = let v = (two asks (ltb count 256) (as-is asks asks refl) (as-is (ltb count 256) (ltb count 256) refl)).0 t in v.0
+
     apart : Refuses cause status ≡ Requests r → ⊥
     apart e = cc
 

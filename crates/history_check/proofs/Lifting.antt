@@ -85,12 +85,13 @@ asking-ask l k t Seals note stands h = absurd h
 pub busy-tells : (l : List Noted) (k count : ℕ) (x : Noted) (b : Bool) → at l k ≡ Some x → count ≡ length (X.open_exchanges (before l k))
     → Decides b (AsksSomething x.written.deed) → Decides (eqb count 256 && b) (IsBusy l k)
 busy-tells l k count x b stands n h =
-    let both = two (eqb count 256) b (Decides-eqb count 256) h in
-    (λ t. let v = both.0 t in (sym n ∙ v.0, asking-ask l k x.written.moment x.written.deed x.note stands v.1),
-     λ v.
-         let same = at-same l k x _ stands v.1.3.stands in
-         let asking : AsksSomething x.written.deed = subst (λ (y : Noted). AsksSomething y.written.deed) (sym same) (subst (λ (s : Sense). IsAsking s) (sym v.1.4) tt) in
-         both.1 (n ∙ v.0, asking))
+    let both = two (eqb count 256) b (Decides-eqb count 256) h in (
+      λ t. let v = both.0 t in (sym n ∙ v.0, asking-ask l k x.written.moment x.written.deed x.note stands v.1),
+      λ v.
+          let same = at-same l k x _ stands v.1.3.stands in
+          let asking : AsksSomething x.written.deed = subst (λ (y : Noted). AsksSomething y.written.deed) (sym same) (subst (λ (s : Sense). IsAsking s) (sym v.1.4) tt) in
+          both.1 (n ∙ v.0, asking),
+    )
 
 refusing-ask : (l : List Noted) (k t : ℕ) (d : Deed) (note : Note) (cause : Cause) → at l k ≡ Some (noted t d note) → IsRefusedFor d cause → IsRefusedSo l k cause
 refusing-ask l k t (Asks c a) note cause stands h = go a.sense refl h
@@ -174,11 +175,12 @@ pub ended-tells : (l : List Noted) (k n : ℕ) (how : Ending) (since : Option �
     → IsExchange l k since waits ns ended sent → Decides reader (IsReader l k k) → Decides so (ended ≡ Some (record { number = n; how = how }))
     → Decides (reader && so) (IsEndedSo l k n how)
 ended-tells l k n how since waits ns ended sent reader so x r s =
-    let both = two reader so r s in
-    (λ t. let v = both.0 t in (k, v.0, sym x.ended_is ∙ v.1),
-     λ v.
-         let own = reader-own l k v.0 v.1 in
-         both.1 (own.0, x.ended_is ∙ (rw (own.1) v.2)))
+    let both = two reader so r s in (
+      λ t. let v = both.0 t in (k, v.0, sym x.ended_is ∙ v.1),
+      λ v.
+          let own = reader-own l k v.0 v.1 in
+          both.1 (own.0, x.ended_is ∙ (rw (own.1) v.2)),
+    )
 
 going-opening : (l : List Noted) (k : ℕ) → IsReader l k k → X.end_of l k ≡ None → IsGoing l k
 going-opening l k r none = go r.ask.written.moment r.ask.written.deed r.ask.note r.stands r.reads
@@ -197,12 +199,13 @@ pub going-tells : (l : List Noted) (k : ℕ) (since : Option ℕ) (waits : Optio
     → IsExchange l k since waits ns ended sent → Decides reader (IsReader l k k) → Decides going (ended ≡ None)
     → Decides (reader && going) (IsGoingAsk l k)
 going-tells l k since waits ns ended sent reader going x r g =
-    let both = two reader going r g in
-    (λ t. let v = both.0 t in (k, v.0, going-opening l k v.0 (mapped-none (X.end_of l k) (sym x.ended_is ∙ v.1))),
-     λ v.
-         let own = reader-own l k v.0 v.1 in
-         let none : X.end_of l k ≡ None = rw (own.1) v.2.going in
-         both.1 (own.0, x.ended_is ∙ ap (λ (e : Option X.End). option_map end_of e) none))
+    let both = two reader going r g in (
+      λ t. let v = both.0 t in (k, v.0, going-opening l k v.0 (mapped-none (X.end_of l k) (sym x.ended_is ∙ v.1))),
+      λ v.
+          let own = reader-own l k v.0 v.1 in
+          let none : X.end_of l k ≡ None = rw (own.1) v.2.going in
+          both.1 (own.0, x.ended_is ∙ ap (λ (e : Option X.End). option_map end_of e) none),
+    )
 
 -- whole responses
 whole-ended : (e : Option X.End) → HasEnded (option_map end_of e) Whole → (n : ℕ) × (w : R.Response) × (e ≡ Some (record { number = n; how = R.Whole w }))
@@ -216,13 +219,14 @@ pub live-tells : (l : List Noted) (t k : ℕ) (js : List ℕ) (since : Option �
     → IsExchange l k since waits ns ended sent → Decides reader (IsReader l k k) → Decides whole (HasEnded ended Whole) → Decides same (js ≡ ns)
     → Decides ((reader && whole) && same) (HasGrounds l t k (Live js))
 live-tells l t k js since waits ns ended sent reader whole same x r w s =
-    let all = three reader whole same r w s in
-    (λ v.
-         let h = all.0 v in
-         let e = whole-ended (X.end_of l k) (subst (λ (u : Option End). HasEnded u Whole) x.ended_is h.1) in
-         (k, e.0, e.1, h.0, e.2, h.2 ∙ x.numbers_are),
-     λ h.
-         let own = reader-own l k h.0 h.3 in
-         let ends : X.end_of l k ≡ Some (record { number = h.1; how = R.Whole h.2 }) = rw (own.1) h.4 in
-         let nums : js ≡ map reply_number (X.replies l k) = rw (own.1) h.5 in
-         all.1 (own.0, subst (λ (u : Option End). HasEnded u Whole) (sym x.ended_is) (ended-whole (X.end_of l k) h.1 h.2 ends), nums ∙ sym x.numbers_are))
+    let all = three reader whole same r w s in (
+      λ v.
+          let h = all.0 v in
+          let e = whole-ended (X.end_of l k) (subst (λ (u : Option End). HasEnded u Whole) x.ended_is h.1) in
+          (k, e.0, e.1, h.0, e.2, h.2 ∙ x.numbers_are),
+      λ h.
+          let own = reader-own l k h.0 h.3 in
+          let ends : X.end_of l k ≡ Some (record { number = h.1; how = R.Whole h.2 }) = rw (own.1) h.4 in
+          let nums : js ≡ map reply_number (X.replies l k) = rw (own.1) h.5 in
+          all.1 (own.0, subst (λ (u : Option End). HasEnded u Whole) (sym x.ended_is) (ended-whole (X.end_of l k) h.1 h.2 ends), nums ∙ sym x.numbers_are),
+    )

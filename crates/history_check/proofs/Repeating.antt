@@ -73,7 +73,7 @@ fresh-step l x p mid fresh more tells is t =
     let now : ℕ = x.written.moment in
     let first : Bool = is_like now p mid now x.written.deed x.note && not (list_any (λ s. is_near now s) fresh) in
     let a : list_any (λ s. is_near t s) more ≡ cond first (list_any (λ s. is_near t s) fresh || is_near t now) (list_any (λ s. is_near t s) fresh) =
-        ap (λ xs. list_any (λ s. is_near t s) xs) is ∙ pushed (λ s. is_near t s) first fresh now in
+    ap (λ xs. list_any (λ s. is_near t s) xs) is ∙ pushed (λ s. is_near t s) first fresh now in
     let b = bools-repeat (is_like now p mid now x.written.deed x.note) (list_any (λ s. is_near now s) fresh) (is_near t now) (list_any (λ s. is_near t s) fresh) in
     a ∙ b ∙ joined
   where

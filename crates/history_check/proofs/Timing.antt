@@ -77,19 +77,23 @@ pub timeout-tells : (l : List Noted) (t k n : ℕ) (since : Option ℕ) (waits :
     → Decides ((reader && named) && over) (IsTimeout l t k n)
 timeout-tells l t k n since waits ns ended sent reader named over sealed late x se la r m o =
     let all = three reader named over r m o in
-    let same : late ≡ X.is_late t (X.begun l k) = la ∙ ap (λ (s : Option ℕ). late_since t s) x.since_is ∙ late-is t (X.begun l k) in
-    (λ v.
-         let h = all.0 v in
-         let name : IsNamed (X.sent_last l k) k n = subst (λ (s : Option ℕ). IsNamed s k n) x.sent_is h.1 in
-         let gone : IsOver (option_map end_of (X.end_of l k)) (is_sealed l) late = rw (← se, ← x.ended_is) h.2 in
-         (k, h.0, named-sent (X.sent_last l k) k n name, over-passed l t k (X.end_of l k) late refl same gone),
-     λ h.
-         let own = reader-own l k h.0 h.1 in
-         let Name : ℕ → Type 0 = λ o. (X.sent_last l o ≡ Some n) ⊎ ((X.sent_last l o ≡ None) × (n ≡ k)) in
-         let name : (X.sent_last l k ≡ Some n) ⊎ ((X.sent_last l k ≡ None) × (n ≡ k)) = subst Name (sym own.1) h.2 in
-         let gone : HasPassed l t k = rw (own.1) h.3 in
-         all.1 (own.0, subst (λ (s : Option ℕ). IsNamed s k n) (sym x.sent_is) (sent-named (X.sent_last l k) k n name),
-         (rw (se, x.ended_is) (passed-over l t k late same gone))))
+    let same : late ≡ X.is_late t (X.begun l k) = la ∙ ap (λ (s : Option ℕ). late_since t s) x.since_is ∙ late-is t (X.begun l k) in (
+      λ v.
+          let h = all.0 v in
+          let name : IsNamed (X.sent_last l k) k n = subst (λ (s : Option ℕ). IsNamed s k n) x.sent_is h.1 in
+          let gone : IsOver (option_map end_of (X.end_of l k)) (is_sealed l) late = rw (← se, ← x.ended_is) h.2 in
+          (k, h.0, named-sent (X.sent_last l k) k n name, over-passed l t k (X.end_of l k) late refl same gone),
+      λ h.
+          let own = reader-own l k h.0 h.1 in
+          let Name : ℕ → Type 0 = λ o. (X.sent_last l o ≡ Some n) ⊎ ((X.sent_last l o ≡ None) × (n ≡ k)) in
+          let name : (X.sent_last l k ≡ Some n) ⊎ ((X.sent_last l k ≡ None) × (n ≡ k)) = subst Name (sym own.1) h.2 in
+          let gone : HasPassed l t k = rw (own.1) h.3 in
+          all.1 (
+            own.0,
+            subst (λ (s : Option ℕ). IsNamed s k n) (sym x.sent_is) (sent-named (X.sent_last l k) k n name),
+            (rw (se, x.ended_is) (passed-over l t k late same gone)),
+          ),
+    )
 
 -- first sendings
 opening-asked : (l : List Noted) (o t : ℕ) (d : Deed) (note : Note) (p : Peer) (bytes : List ℕ) (m : Content) → at l o ≡ Some (noted t d note) → IsOpeningOf note p bytes m
@@ -117,33 +121,34 @@ pub first-tells : (l : List Noted) (o : ℕ) (p : Peer) (bytes : List ℕ) (m : 
 first-tells l o p bytes m w x since waits ns ended sent going asked token new wait stands_mid stands k g a t mid nw wt =
     let n : Decides new (has_mid l p m.mid ≡ false) = (λ e. sym mid ∙ not-false stands_mid (sym nw ∙ e), λ e. nw ∙ ap (λ b. not b) (mid ∙ e)) in
     let first = three going asked token g a t in
-    let all = three ((going && asked) && token) new wait first n wt in
-    (λ v.
-         let h = all.0 v in
-         let opened = opening-asked l o x.written.moment x.written.deed x.note p bytes m stands h.0.1 in
-         record {
-           since = opened.0;
-           request = opened.1;
-           opening = opened.2;
-           going = mapped-none (X.end_of l o) (sym k.ended_is ∙ h.0.0.0);
-           none_yet = sym k.sent_is ∙ h.0.0.1;
-           peer = opened.3.peer;
-           message = opened.3.message;
-           spelled = opened.3.spelled;
-           token_size = h.0.2.0;
-           token_apart = token-free l m.token h.0.2.1;
-           mid_apart = mid-free l p m.mid h.1;
-           wait = h.2.0;
-           first_wait = h.2.1;
-           least = h.2.2;
-           greatest = h.2.3;
-         },
-     λ f.
-         let same = at-same l o x _ stands f.opening.stands in
-         let by : IsOpeningOf x.note p bytes m =
-             subst (λ (y : Noted). IsOpeningOf y.note p bytes m) (sym same) (record { peer = f.peer; message = f.message; spelled = f.spelled }) in
-         let none : ended ≡ None = k.ended_is ∙ ap (λ (e : Option X.End). option_map end_of e) f.going in
-         all.1 (((none, k.sent_is ∙ f.none_yet), by, (f.token_size, token-apart l m.token f.token_apart)), mid-apart l p m.mid f.mid_apart, (f.wait, f.first_wait, f.least, f.greatest)))
+    let all = three ((going && asked) && token) new wait first n wt in (
+      λ v.
+          let h = all.0 v in
+          let opened = opening-asked l o x.written.moment x.written.deed x.note p bytes m stands h.0.1 in
+          record {
+            since = opened.0;
+            request = opened.1;
+            opening = opened.2;
+            going = mapped-none (X.end_of l o) (sym k.ended_is ∙ h.0.0.0);
+            none_yet = sym k.sent_is ∙ h.0.0.1;
+            peer = opened.3.peer;
+            message = opened.3.message;
+            spelled = opened.3.spelled;
+            token_size = h.0.2.0;
+            token_apart = token-free l m.token h.0.2.1;
+            mid_apart = mid-free l p m.mid h.1;
+            wait = h.2.0;
+            first_wait = h.2.1;
+            least = h.2.2;
+            greatest = h.2.3;
+          },
+      λ f.
+          let same = at-same l o x _ stands f.opening.stands in
+          let by : IsOpeningOf x.note p bytes m =
+          subst (λ (y : Noted). IsOpeningOf y.note p bytes m) (sym same) (record { peer = f.peer; message = f.message; spelled = f.spelled }) in
+          let none : ended ≡ None = k.ended_is ∙ ap (λ (e : Option X.End). option_map end_of e) f.going in
+          all.1 (((none, k.sent_is ∙ f.none_yet), by, (f.token_size, token-apart l m.token f.token_apart)), mid-apart l p m.mid f.mid_apart, (f.wait, f.first_wait, f.least, f.greatest)),
+    )
 
 -- rest
 pub opened-step : (l older : List Noted) (x : Noted) → AllOpenedRest l older → OpenedRests l x.written.deed → AllOpenedRest l (x ∷ older)

@@ -18,11 +18,7 @@ use std::alloc::{AllocError, Global};
 use transformers::Relation;
 
 /// Whether the ask with this number opened an exchange that is open.
-fn is_going<R: Relation>(
-    alloc: Global,
-    steps: &[Step<R>],
-    ask: usize,
-) -> Result<bool, AllocError>
+fn is_going<R: Relation>(alloc: Global, steps: &[Step<R>], ask: usize) -> Result<bool, AllocError>
     ensures { IfOk result (λ b. IsTrue b ↔ IsGoingAsk (history steps.now) ask) }
 {
     let exchange = exchange_of(alloc, steps, ask)?;
@@ -32,11 +28,7 @@ fn is_going<R: Relation>(
 }
 
 /// Whether the connection, if it is open, waits for an exchange that is open, or for nothing.
-fn conn_rests<R: Relation>(
-    alloc: Global,
-    steps: &[Step<R>],
-    conn: u32,
-) -> Result<bool, AllocError>
+fn conn_rests<R: Relation>(alloc: Global, steps: &[Step<R>], conn: u32) -> Result<bool, AllocError>
     ensures { IfOk result (λ b. IsTrue b ↔ ConnRests (history steps.now) conn) }
 {
     let connection = connection_of(alloc, steps, conn)?;

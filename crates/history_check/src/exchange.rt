@@ -65,17 +65,17 @@ pub fn is_late(moment: u64, since: Option<u64>) -> bool
 }
 
 /// The moment of the opening behind the entry with this number.
-fn since_by(opening: usize, number: usize, moment: u64, note: &Note, old: Option<u64>) -> Option<u64>
+fn since_by(
+    opening: usize,
+    number: usize,
+    moment: u64,
+    note: &Note,
+    old: Option<u64>,
+) -> Option<u64>
     ensures { result ≡ since_by opening number moment (note_of note.now) old }
 {
     match note {
-        Note::Begins(_) => {
-            if number == opening {
-                Some(moment)
-            } else {
-                old
-            }
-        }
+        Note::Begins(_) => { if number == opening { Some(moment) } else { old } }
         _ => old,
     }
 }

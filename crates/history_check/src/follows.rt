@@ -1,12 +1,13 @@
 //! Which entry may follow.
 
-ghost use Rattle.std.specs.Prelude.{◌≡◌, ◌↔◌, sum_by, IfOk, IsTrue};
+ghost use Rattle.std.specs.Prelude.{◌≡◌, ◌↔◌, false, sum_by, IfOk, IsTrue};
 ghost use Rattle.ask_model.specs.Sizes.{capped};
 ghost use Rattle.journal_book.specs.Entries.{entry_size};
 ghost use Rattle.journal_book.specs.Views.{event_of, grounds_of};
 ghost use Rattle.history_laws.specs.Readings.{entries};
+ghost use Rattle.history_laws.specs.Connections.{is_sealed, opened};
 ghost use Rattle.history_laws.specs.Limits.{MaySeal};
-ghost use Rattle.history_laws.specs.Justified.{AskNote, HeardNote, MayCome};
+ghost use Rattle.history_laws.specs.Justified.{AskNote, SentNote, HeardNote, MayCome};
 ghost use Rattle.history_check.specs.Views.{note_of, history, noted_of};
 ghost use Rattle.history_check.specs.Mirrors.{FollowsStep, MayAsk, MayHear, MayAnswer, MayShut};
 
@@ -159,6 +160,31 @@ fn may_shut<R: Relation>(alloc: Global, steps: &[Step<R>], conn: u32) -> Result<
     Ok(none_owed && open)
 }
 
+/// Whether the connection may be opened: an input may come, and it has the next number.
+fn may_open<R: Relation>(alloc: Global, steps: &[Step<R>], conn: u32) -> Result<bool, AllocError>
+    ensures { IfOk result (λ b. IsTrue b ↔ (MayCome (history steps.now) × (conn ≡ opened (history steps.now)))) }
+{
+    let come = may_come(alloc, steps)?;
+    let next = conn as usize == opened(steps);
+    Ok(come && next)
+}
+
+/// Whether the datagram may be sent to the peer.
+fn may_send<R: Relation>(
+    alloc: Global,
+    steps: &[Step<R>],
+    peer: &Peer,
+    bytes: &[u8],
+    timeout: Option<u32>,
+    note: &Note,
+) -> Result<bool, AllocError>
+    ensures { IfOk result (λ b. IsTrue b ↔ ((is_sealed (history steps.now) ≡ false) × SentNote (history steps.now) peer.now bytes.now timeout (note_of note.now))) }
+{
+    let noted = is_sent_note(alloc, steps, peer, bytes, timeout, note)?;
+    let sealed = is_sealed(steps);
+    Ok(!sealed && noted)
+}
+
 /// Whether the step may follow.
 pub fn follows<R: Relation>(
     alloc: Global,
@@ -168,42 +194,33 @@ pub fn follows<R: Relation>(
     ensures { IfOk result (λ b. IsTrue b ↔ FollowsStep (history steps.now) (noted_of step.now)) }
 {
     let note = step.note;
+    let plain = note.is_plain();
     match &step.entry.event {
         Event::Opened(conn) => {
-            let come = may_come(alloc, steps)?;
-            let plain = note.is_plain();
-            let next = *conn as usize == opened(steps);
-            Ok(come && next && plain)
+            let opens = may_open(alloc, steps, *conn)?;
+            Ok(opens && plain)
         }
         Event::Asked(conn, mapped) => may_ask(alloc, steps, *conn, mapped, note),
         Event::Sent {
             peer,
             bytes,
             timeout,
-        } => {
-            let noted = is_sent_note(alloc, steps, peer, bytes.as_slice(), *timeout, note)?;
-            let sealed = is_sealed(steps);
-            Ok(!sealed && noted)
-        }
+        } => may_send(alloc, steps, peer, bytes.as_slice(), *timeout, note),
         Event::Heard { peer, bytes } => may_hear(alloc, steps, peer, bytes.as_slice(), note),
         Event::Passed => {
             let come = may_come(alloc, steps)?;
-            let plain = note.is_plain();
             Ok(come && plain)
         }
         Event::Answered { conn, ask, grounds } => {
             let answers = may_answer(alloc, steps, step.entry.moment, *conn, *ask, grounds)?;
-            let plain = note.is_plain();
             Ok(answers && plain)
         }
         Event::Shut(conn) => {
             let shuts = may_shut(alloc, steps, *conn)?;
-            let plain = note.is_plain();
             Ok(shuts && plain)
         }
         Event::Sealed => {
             let come = may_come(alloc, steps)?;
-            let plain = note.is_plain();
             let full = may_seal(steps);
             Ok(come && full && plain)
         }

@@ -6,6 +6,8 @@
 //! reads the history anew for each entry, so it is for short journals.
 #![tactic(auto)]
 
+#[cfg(test)]
+mod acts;
 mod at_rest;
 mod checking;
 mod confirming;

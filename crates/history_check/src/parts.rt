@@ -1,4 +1,4 @@
-//! Steps of loops.
+//! Tests put together, and steps of loops.
 
 ghost use Rattle.std.specs.Prelude.{◌≡◌, ◌+◌, ◌<◌, ◌&&◌, ◌||◌, ◌++◌, ◌∷◌, [], if◌then◌else◌, OnOk};
 

@@ -22,10 +22,7 @@ use transformers::Relation;
 use uri_map::Peer;
 
 /// The request that what came in means, if it means one.
-fn request_in<R: Relation>(
-    alloc: Global,
-    mapped: &Mapped<R>,
-) -> Result<Option<Request>, AllocError>
+fn request_in<R: Relation>(alloc: Global, mapped: &Mapped<R>) -> Result<Option<Request>, AllocError>
     ensures { IfOk result (λ r. IfSome r (λ q. mapped.now.sense ≡ Requests (request_of q))) }
 {
     match mapped.meaning() {

@@ -34,9 +34,7 @@ fn is_defined(option: &Opt) -> bool
     ensures { result ≡ is_defined (entry option.now) }
 {
     let fits = match definition(option.number) {
-        Some(row) => {
-            row.in_response != Occurrence::Never && row.allows_len(option.value.len())
-        }
+        Some(row) => { row.in_response != Occurrence::Never && row.allows_len(option.value.len()) }
         None => false,
     };
     fits && !is_reserved_block(option)

@@ -147,13 +147,7 @@ pub fn turn_by<'a, R: Relation>(
             }
             _ => Turn::Nothing,
         },
-        Event::Passed => {
-            if late {
-                Turn::Expired
-            } else {
-                Turn::Nothing
-            }
-        }
+        Event::Passed => { if late { Turn::Expired } else { Turn::Nothing } }
         _ => Turn::Nothing,
     }
 }

@@ -17,8 +17,9 @@ each-preserved g c =
 
 pub returns-then-not-branch : goal.returns-then-not-branch
 returns-then-not-branch g c =
-    let next = history-next c.args.steps.now c.each.i c.index-steps-i.result (omega arith) c.index-steps-i.is in
-    (λ e. absurd (false≢true e),
-     λ h.
-         let front = subst Legal next (legal-front c.args.steps.now (c.each.i + 1) h) in
-         absurd (false≢true (sym c.if-not-branch.true ∙ c.in_ok-is_next.ensures.1 (rw c.each.invariant.1 front.1, front.2))))
+    let next = history-next c.args.steps.now c.each.i c.index-steps-i.result (omega arith) c.index-steps-i.is in (
+      λ e. absurd (false≢true e),
+      λ h.
+          let front = subst Legal next (legal-front c.args.steps.now (c.each.i + 1) h) in
+          absurd (false≢true (sym c.if-not-branch.true ∙ c.in_ok-is_next.ensures.1 (rw c.each.invariant.1 front.1, front.2))),
+    )

@@ -11,5 +11,5 @@ returns-clause-stands g c =
     let again = ap (λ ss. history ss) (c.deref-2.ensures.value ∙ sym c.deref.ensures.value) in
     ok-then c.is_at_rest.result
     (legal-stands (λ e. item_of e) (λ n. note_of n) c.entries-entries.result.now c.args.notes.now c.args.journal.now.entries (history c.deref.result.now) (history c.deref-2.result.now)
-     c.if-notes-entries.false c.entries-entries.ensures made again (c.in_ok-is_legal.ensures.0 c.if-not-branch.false))
+    c.if-notes-entries.false c.entries-entries.ensures made again (c.in_ok-is_legal.ensures.0 c.if-not-branch.false))
     c.is_at_rest.ensures

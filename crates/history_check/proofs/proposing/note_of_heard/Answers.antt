@@ -1,4 +1,4 @@
 use Rattle.history_check.proofs.proposing.note_of_heard.Goals as goal
 
 pub returns-in-None : goal.returns-in-None
-returns-in-None c m s = c.in_ok-message.ensures.none c.in-None.is m s
+returns-in-None c = c.in_ok-message.ensures.none c.in-None.is

@@ -1,0 +1,275 @@
+//! Journals of what is done, for the tests.
+
+ghost use Rattle.std.specs.Prelude.{◌≡◌};
+ghost use Rattle.std.specs.Arc.{arc_value};
+ghost use Rattle.code_map.specs.Methods.{method_named};
+ghost use Rattle.uri_map.specs.Naming.{target_at};
+ghost use Rattle.uri_map.specs.Peers.{peer_in};
+ghost use Rattle.uri_map.specs.Splitting.{origin_form};
+
+use crate::is_justified;
+use ask_model::{Bytes, Cause, Mapped, Meaning, Payload, REQUEST_LIMIT, Settings, incoming_size};
+use code_map::{Method, Status, method_of};
+use http_edge::{BadKind, Incoming, Request, Version};
+use http_header::HeaderMap;
+use journal_book::{Entry, Event, Grounds, Journal, Numbers};
+use media_map::Routes;
+use std::alloc::{AllocError, Global};
+use std::net::{IpAddr, Ipv4Addr};
+use std::sync::Arc;
+use transformers::Relation;
+use uri_map::{Directory, Peer, Target, Text, Texts, path_and_query, peer_of, target_of};
+
+/// A relation that relates nothing.
+pub struct Nothing;
+
+impl Relation for Nothing {
+    ghost holds = { λ from to input output. ⊥ };
+
+    ghost takes = { λ from to input. ⊥ };
+}
+
+/// The kinds of replies, as the first byte of a message with a token of eight bytes.
+pub const CON: u8 = 0x48;
+
+pub const NON: u8 = 0x58;
+
+pub const ACK: u8 = 0x68;
+
+/// What is done: connections go by their numbers, asks by those of their entries, message IDs by their low
+/// byte, and tokens by their last byte.
+#[derive(Clone, Copy)]
+pub enum Act {
+    Open(u32),
+    Ask(u32),
+    Refuse(u32),
+    First(u8, u8),
+    FirstWithin(u8, u8, u32),
+    FirstTo(u16, u8, u8),
+    Again(u8, u8),
+    Reply(u8, u8, u8),
+    ReplyFrom(u16, u8, u8, u8),
+    Confirm(u8, u8),
+    Empty(u8, u8),
+    Hear(&'static [u8]),
+    Pass,
+    Live(u32, u32, u32),
+    Fault(u32, u32, Cause, u32),
+    Shut(u32),
+    Seal,
+}
+
+fn server(port: u16) -> Peer {
+    Peer {
+        address: IpAddr::V4(Ipv4Addr::new(192, 0, 2, 1)),
+        port,
+    }
+}
+
+fn settings(alloc: Global) -> Result<Settings, AllocError> {
+    let mut directory = Directory::new(alloc, true);
+    directory.add("s.example.com", IpAddr::V4(Ipv4Addr::new(192, 0, 2, 1)))?;
+    Ok(Settings {
+        base: Text::copy_of(alloc, "/hc/")?,
+        directory,
+        observed: Texts::new(alloc),
+        routes: Routes::new(alloc),
+    })
+}
+
+/// A GET whose target a server has.
+fn got(alloc: Global, request: Request) -> Result<Option<Mapped<Nothing>>, AllocError> {
+    let settings = settings(alloc)?;
+    let Some(Method::Get) = method_of(&request.method) else {
+        return Ok(None);
+    };
+    let text = path_and_query(&request.target);
+    let Ok(target) = target_of(alloc, settings.base.as_bytes(), text) else {
+        return Ok(None);
+    };
+    let Some(peer) = peer_of(&settings.directory, &target) else {
+        return Ok(None);
+    };
+    let settings = Arc::new(alloc, settings)?;
+    Ok(mapped_get(settings, request, target, peer))
+}
+
+/// A GET of the target, which this server has, if it isn't too large.
+fn mapped_get(
+    settings: Arc<Settings>,
+    request: Request,
+    target: Target,
+    peer: Peer,
+) -> Option<Mapped<Nothing>>
+    requires method { method_named request.method.items ≡ Some Method.Get }
+    requires target { target_at (arc_value settings).base (origin_form request.target.items) ≡ Ok target }
+    requires peer { peer_in (arc_value settings).directory target ≡ Some peer }
+{
+    let meaning = Meaning::Ask {
+        method: Method::Get,
+        target,
+        peer,
+        accept: None,
+        format: None,
+        payload: Payload::Empty,
+    };
+    let came = Incoming::Request(request);
+    if incoming_size(&came) > REQUEST_LIMIT {
+        return None;
+    }
+    Some(Mapped::new(came, meaning, settings))
+}
+
+/// A GET of coap://s.example.com/light.
+fn light(alloc: Global) -> Result<Option<Mapped<Nothing>>, AllocError> {
+    let request = Request {
+        method: Vec::from_slice(alloc, b"GET")?,
+        target: Vec::from_slice(alloc, b"/hc/coap://s.example.com/light")?,
+        version: Version::Http11,
+        fields: HeaderMap::new(alloc),
+        body: Vec::new(alloc),
+        close: false,
+    };
+    got(alloc, request)
+}
+
+/// A request that is refused for its size.
+fn too_large(alloc: Global) -> Result<Mapped<Nothing>, AllocError> {
+    let settings = Arc::new(alloc, settings(alloc)?)?;
+    let meaning = Meaning::Refuse(Cause::BadHttp, Status::ContentTooLarge);
+    Ok(Mapped::new(Incoming::Bad(BadKind::Large), meaning, settings))
+}
+
+/// A message with this first byte, code, ID and token, and what follows.
+fn message(alloc: Global, head: [u8; 4], token: u8, rest: &[u8]) -> Result<Bytes, AllocError> {
+    let mut bytes = Vec::new(alloc);
+    bytes.extend_from_slice(&head)?;
+    bytes.extend_from_slice(&[0, 0, 0, 0, 0, 0, 0, token])?;
+    bytes.extend_from_slice(rest)?;
+    Ok(Bytes::of(bytes))
+}
+
+/// The GET that asks it: Uri-Host and Uri-Path.
+fn request(alloc: Global, mid: u8, token: u8) -> Result<Bytes, AllocError> {
+    message(
+        alloc,
+        [0x48, 1, 0, mid],
+        token,
+        b"\x3d\x00s.example.com\x85light",
+    )
+}
+
+/// 2.05 Content in text/plain, with the payload `on`.
+fn reply(alloc: Global, kind: u8, mid: u8, token: u8) -> Result<Bytes, AllocError> {
+    message(alloc, [kind, 69, 0, mid], token, b"\xc0\xffon")
+}
+
+/// The empty message with this first byte and ID.
+fn empty(alloc: Global, first: u8, mid: u8) -> Result<Bytes, AllocError> {
+    Bytes::from_slice(alloc, &[first, 0, 0, mid])
+}
+
+fn sent(
+    alloc: Global,
+    port: u16,
+    bytes: Bytes,
+    timeout: Option<u32>,
+) -> Result<Event<Nothing>, AllocError> {
+    Ok(Event::Sent {
+        peer: server(port),
+        bytes: Arc::new(alloc, bytes)?,
+        timeout,
+    })
+}
+
+fn heard(port: u16, bytes: Bytes) -> Event<Nothing> {
+    Event::Heard {
+        peer: server(port),
+        bytes,
+    }
+}
+
+fn live(alloc: Global, conn: u32, ask: u32, reply: u32) -> Result<Event<Nothing>, AllocError> {
+    let numbers = Numbers::from_slice(alloc, &[reply])?;
+    Ok(Event::Answered {
+        conn,
+        ask,
+        grounds: Grounds::Live(numbers),
+    })
+}
+
+/// What the act writes; the ask of a request that isn't mapped is passed time.
+fn event(alloc: Global, act: Act) -> Result<Event<Nothing>, AllocError> {
+    match act {
+        Act::Open(conn) => Ok(Event::Opened(conn)),
+        Act::Ask(conn) => match light(alloc)? {
+            Some(mapped) => Ok(Event::Asked(conn, Arc::new(alloc, mapped)?)),
+            None => Ok(Event::Passed),
+        },
+        Act::Refuse(conn) => Ok(Event::Asked(conn, Arc::new(alloc, too_large(alloc)?)?)),
+        Act::First(mid, token) => sent(alloc, 5683, request(alloc, mid, token)?, Some(2000)),
+        Act::FirstWithin(mid, token, timeout) => {
+            sent(alloc, 5683, request(alloc, mid, token)?, Some(timeout))
+        }
+        Act::FirstTo(port, mid, token) => {
+            sent(alloc, port, request(alloc, mid, token)?, Some(2000))
+        }
+        Act::Again(mid, token) => sent(alloc, 5683, request(alloc, mid, token)?, None),
+        Act::Reply(kind, mid, token) => Ok(heard(5683, reply(alloc, kind, mid, token)?)),
+        Act::ReplyFrom(port, kind, mid, token) => {
+            Ok(heard(port, reply(alloc, kind, mid, token)?))
+        }
+        Act::Confirm(first, mid) => sent(alloc, 5683, empty(alloc, first, mid)?, None),
+        Act::Empty(first, mid) => Ok(heard(5683, empty(alloc, first, mid)?)),
+        Act::Hear(bytes) => Ok(heard(5683, Bytes::from_slice(alloc, bytes)?)),
+        Act::Pass => Ok(Event::Passed),
+        Act::Live(conn, ask, reply) => live(alloc, conn, ask, reply),
+        Act::Fault(conn, ask, cause, number) => Ok(Event::Answered {
+            conn,
+            ask,
+            grounds: Grounds::Fault(cause, number),
+        }),
+        Act::Shut(conn) => Ok(Event::Shut(conn)),
+        Act::Seal => Ok(Event::Sealed),
+    }
+}
+
+pub fn journal_of(alloc: Global, acts: &[(u64, Act)]) -> Result<Journal<Nothing>, AllocError> {
+    let mut journal = Journal::new(alloc);
+    'each: for (moment, act) in acts {
+        journal.make_room(1)?;
+        let event = event(alloc, *act)?;
+        journal.add(Entry {
+            moment: *moment,
+            event,
+        });
+    }
+    Ok(journal)
+}
+
+/// Whether the journal of the acts is found to be justified.
+pub fn stands(alloc: Global, acts: &[(u64, Act)]) -> Result<bool, AllocError> {
+    let journal = journal_of(alloc, acts)?;
+    is_justified(alloc, &journal)
+}
+
+/// A GET up to its first sending.
+pub const BEGUN: [(u64, Act); 3] = [(0, Act::Open(0)), (0, Act::Ask(0)), (0, Act::First(0, 0))];
+
+/// Whether what is done in each row, behind what was done before, is found to be justified, or isn't.
+pub fn each_is(
+    alloc: Global,
+    wanted: bool,
+    before: &[(u64, Act)],
+    rows: &[&[(u64, Act)]],
+) -> Result<bool, AllocError> {
+    'each: for row in rows {
+        let mut acts = Vec::new(alloc);
+        acts.extend_from_slice(before)?;
+        acts.extend_from_slice(row)?;
+        if stands(alloc, &acts)? != wanted {
+            return Ok(false);
+        }
+    }
+    Ok(true)
+}
