@@ -1,29 +1,26 @@
 -- Each step of a core adds entries, and what they send and answer waits.
-use Rattle.std.proofs.Common.{◌≡◌, ◌≢◌, ◌⊎◌, ℕ, suc, ◌+◌, ◌<◌, Bool, true, false, inl, inr, List, [], ◌∷◌, ◌++◌, length, map, Option, Some, None, Result, Ok, Err, IfOk, OnOk, OnErr, IsTrue, IsFalse, refl, sym, ap, subst, ◌∙◌, arith, length-append}
-use Rattle.std.specs.Prelude.{◌==◌, ◌&&◌, option_to_list, find, not}
-use Rattle.std.specs.List.{All, Contains, filter, slice_get}
-use Rattle.std.proofs.lemmas.Bool.{cases_Bool, false≢true}
+use Rattle.std.proofs.Common.{◌≡◌, ◌≢◌, ◌⊎◌, ℕ, ◌+◌, Bool, true, false, inl, inr, List, [], ◌∷◌, ◌++◌, length, map, Option, Some, None, Result, Ok, Err, IfOk, OnErr, IsTrue, IsFalse, refl, sym, ap, ◌∙◌, arith, length-append}
+use Rattle.std.specs.Prelude.{◌==◌, option_to_list, not}
+use Rattle.std.specs.List.{All, Contains, filter}
+use Rattle.std.proofs.lemmas.Bool.{cases_Bool}
 use Rattle.std.proofs.lemmas.Bool.Decides.{eqb_tells}
 use Rattle.std.proofs.lemmas.Grind.{flat_map-append}
 use Rattle.std.proofs.lemmas.List.{append-nil, append_assoc}
-use Rattle.std.proofs.lemmas.List.Elements.{All-nil, All-cons, All-head, All-tail, All-weaker, All-append, All-map, All-filter, All-contains_itself}
+use Rattle.std.proofs.lemmas.List.Elements.{All-nil, All-cons, All-weaker, All-map, All-filter, All-contains_itself}
 use Rattle.uri_map.specs.declared.peer.Peer.{Peer}
 use Rattle.ask_model.specs.Requests.{Sense, Requests, Refuses}
 use Rattle.ask_model.specs.Views.{Mapping}
-use Rattle.journal_book.specs.Entries.{Grounds, Deed, Written, Opens, Sends, Hears, Answers, Seals, Passes}
+use Rattle.journal_book.specs.Entries.{Written, Opens, Sends, Hears, Answers, Seals}
 use Rattle.history_laws.specs.declared.kept.Conn.{Conn}
-use Rattle.history_laws.specs.declared.kept.Exchange.{Exchange}
 use Rattle.history_laws.specs.Kept.{pend}
 use Rattle.exchange_core.specs.declared.fault.AskFault.{AskFault}
-use Rattle.exchange_core.specs.declared.fault.AskFault.TheVariants as AskFault
 use Rattle.exchange_core.specs.declared.fault.OpenFault.{OpenFault}
-use Rattle.exchange_core.specs.declared.fault.OpenFault.TheVariants as OpenFault
 use Rattle.exchange_core.specs.CoreValue.{CoreValue, Outgoing, sent_by, sendings, written}
-use Rattle.exchange_core.specs.Answering.{Given, refusal}
+use Rattle.exchange_core.specs.Answering.{refusal}
 use Rattle.exchange_core.specs.Asking.{AnswersAtOnce, OpensExchange, AddsBy, AddsAsk}
-use Rattle.exchange_core.specs.Hears.{AddsNone, AddsOne, AddsAnswer, SealsAt, HearsAt, HeardSo}
+use Rattle.exchange_core.specs.Hears.{AddsNone, AddsOne, HeardSo}
 use Rattle.exchange_core.specs.Steps.{with_sent, outgoing_by}
-use Rattle.gateway_world.specs.Steps.{Advances, answers_conn, answers_in, answers_at, is_answer, all_answered}
+use Rattle.gateway_world.specs.Steps.{Advances, answers_in, is_answer, all_answered}
 use Rattle.gateway_world.specs.Rows.{ComesFrom, IsNewAnswer, AnswersAlone}
 use Rattle.gateway_world.proofs.Counting.{slice_get-at}
 use Rattle.gateway_world.proofs.Going.{advances-none}

@@ -1,11 +1,10 @@
 -- The rows go with the core where a connection opens, and where one asks.
-use Rattle.std.proofs.Common.{◌≡◌, ◌≢◌, ◌⊎◌, ℕ, zero, suc, ◌+◌, ◌<◌, ◌≤◌, Bool, true, false, cond, inl, inr, List, [], ◌∷◌, ◌++◌, length, map, Option, Some, None, Result, Ok, Err, IfOk, refl, sym, ap, subst, ◌∙◌, arith, length-append}
+use Rattle.std.proofs.Common.{◌≡◌, ◌≢◌, ℕ, ◌+◌, ◌<◌, ◌≤◌, true, false, cond, inl, inr, List, [], ◌∷◌, ◌++◌, length, map, Option, Some, None, Result, Ok, Err, IfOk, refl, sym, ap, subst, ◌∙◌, arith, length-append}
 use Rattle.std.specs.Prelude.{◌==◌}
-use Rattle.std.specs.List.{All, Contains, slice_get}
-use Rattle.std.proofs.lemmas.Bool.{cases_Bool}
+use Rattle.std.specs.List.{All, slice_get}
 use Rattle.std.proofs.lemmas.Bool.Decides.{eqb_tells}
 use Rattle.std.proofs.lemmas.List.{append_assoc, map-append}
-use Rattle.std.proofs.lemmas.List.Elements.{All-nil, All-cons, All-head, All-tail, All-weaker, All-push, All-map, All-append}
+use Rattle.std.proofs.lemmas.List.Elements.{All-nil, All-cons, All-head, All-tail, All-weaker, All-push, All-map}
 use Rattle.std.proofs.lemmas.List.Sums.{sum_by-append}
 use Rattle.ask_model.specs.Requests.{Sense, Requests, Refuses}
 use Rattle.ask_model.specs.Views.{Mapping}
@@ -18,8 +17,8 @@ use Rattle.exchange_core.specs.Answering.{Given, refusal}
 use Rattle.exchange_core.specs.Asking.{AnswersAtOnce, OpensExchange, AddsBy, AddsAsk}
 use Rattle.gateway_world.specs.Steps.{answers_at, answers_in}
 use Rattle.gateway_world.specs.Rows.{Row, AreRising, HasAsk, WaitsFor, IsServed, IsClaimed, Serves, IsRow, row_at, with_waits}
-use Rattle.gateway_world.proofs.Counting.{slice_get-at, slice_get-kept, answers-more, rising-append}
-use Rattle.gateway_world.proofs.Serving.{number_of, number_in, some-same, connections-more, longer, ask-below, ask-more, waits-more, waits-for, standing, served-more}
+use Rattle.gateway_world.proofs.Counting.{slice_get-at, answers-more, rising-append}
+use Rattle.gateway_world.proofs.Serving.{number_of, number_in, some-same, connections-more, longer, ask-below, waits-more, waits-for, standing, served-more}
 
 same-of : (n m : ℕ) → (n == m) ≡ true → n ≡ m
 same-of n m e = elim (eqb_tells n m) [ inl u ↦ u.1 | inr u ↦ absurd (differs (sym u.0 ∙ e)) ]

@@ -1,5 +1,5 @@
 -- An error of the proxy's own names its cause and an entry.
-use Rattle.std.proofs.Common.{◌≡◌, ℕ, Result, Ok, Err, IfOk, refl, sym, ap, ◌∙◌}
+use Rattle.std.proofs.Common.{◌≡◌, ℕ, Result, Ok, Err, IfOk, sym, ap, ◌∙◌}
 use Rattle.http_edge.specs.declared.answer.HttpAnswer.{HttpAnswer}
 use Rattle.ask_model.specs.declared.cause.Cause.{Cause}
 use Rattle.journal_book.specs.Entries.{Grounds, Fault}

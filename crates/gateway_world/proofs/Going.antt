@@ -4,7 +4,6 @@ use Rattle.std.specs.List.{All, slice_get}
 use Rattle.std.proofs.lemmas.Grind.{flat_map-append}
 use Rattle.std.proofs.lemmas.List.{append-nil, append_assoc}
 use Rattle.coap_codec.specs.Spelling.{Content}
-use Rattle.ask_model.specs.declared.cause.Cause.{Cause}
 use Rattle.ask_model.specs.Requests.{Sense, Requests, Refuses}
 use Rattle.journal_book.specs.Entries.{Grounds, Live, Kept, Fault, Written}
 use Rattle.datagram_verdict.specs.Findings.{Told, Tells, Fails}

@@ -1,20 +1,20 @@
 -- What a tick answers late.
-use Rattle.std.proofs.Common.{◌≡◌, ◌≢◌, ◌⊎◌, ℕ, zero, suc, ◌+◌, ◌<◌, Bool, true, false, inl, inr, List, [], ◌∷◌, ◌++◌, length, map, Option, Some, None, refl, sym, ap, subst, ◌∙◌, arith, length-append}
+use Rattle.std.proofs.Common.{◌≡◌, ◌≢◌, ◌⊎◌, ℕ, zero, suc, ◌+◌, Bool, true, false, inl, inr, List, [], ◌∷◌, ◌++◌, length, map, Option, Some, None, refl, sym, ap, subst, ◌∙◌, arith, length-append}
 use Rattle.std.specs.Prelude.{◌==◌, ◌&&◌, find}
-use Rattle.std.specs.List.{All, Contains, slice_get}
+use Rattle.std.specs.List.{All, Contains}
 use Rattle.std.proofs.lemmas.Bool.{cases_Bool}
 use Rattle.std.proofs.lemmas.Bool.Decides.{eqb_tells}
 use Rattle.std.proofs.lemmas.Grind.{flat_map-append}
 use Rattle.std.proofs.lemmas.List.{append-nil, append_assoc}
 use Rattle.std.proofs.lemmas.List.Elements.{All-nil, All-cons, All-head, All-tail, All-weaker, All-append, All-map, All-contains_itself}
 use Rattle.ask_model.specs.declared.cause.Cause.TheVariants.{Timeout}
-use Rattle.journal_book.specs.Entries.{Grounds, Fault, Deed, Written, Answers, Seals, Passes}
+use Rattle.journal_book.specs.Entries.{Grounds, Fault, Written, Answers, Seals, Passes}
 use Rattle.history_laws.specs.declared.kept.Conn.{Conn}
 use Rattle.history_laws.specs.declared.kept.Exchange.{Exchange}
 use Rattle.exchange_core.specs.CoreValue.{CoreValue, Outgoing, sent_by, sendings, written}
 use Rattle.exchange_core.specs.Answering.{Given}
-use Rattle.exchange_core.specs.Ticking.{is_past, waits_on, reader_in, late_reader, late_on, late_for, timed_by, timed, timeout_by, timeout_for, timeouts, HasPast, IsTimeout, AreTimeouts, AddsAnswers, AnswersLate, takes_tick, EndsLate, SealsLate, KeepsLate}
-use Rattle.gateway_world.specs.Steps.{Advances, answers_conn, answers_in, answers_at, is_answer, all_answered}
+use Rattle.exchange_core.specs.Ticking.{is_past, waits_on, late_reader, late_on, late_for, timed_by, timed, timeout_by, timeout_for, timeouts, HasPast, AreTimeouts, AnswersLate, takes_tick, EndsLate, SealsLate, KeepsLate}
+use Rattle.gateway_world.specs.Steps.{Advances, answers_conn, answers_in, is_answer, all_answered}
 use Rattle.gateway_world.specs.Rows.{ComesFrom, IsNewAnswer, AnswersAlone}
 use Rattle.gateway_world.proofs.Counting.{slice_get-at}
 use Rattle.gateway_world.proofs.Advancing.{same-alone}

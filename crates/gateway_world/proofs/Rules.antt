@@ -1,5 +1,5 @@
 -- What a rule for a field gives where it applies.
-use Rattle.std.proofs.Common.{◌≡◌, ℕ, Bool, true, false, not, ◌==◌, nat_le, List, ◌∷◌, [], ◌++◌, length, Some, None, codes, decimal, eq-eqb, refl}
+use Rattle.std.proofs.Common.{◌≡◌, ℕ, true, false, ◌==◌, nat_le, List, ◌∷◌, [], ◌++◌, length, Some, None, codes, decimal, eq-eqb, refl}
 use Rattle.std.specs.Str.{is_utf8}
 use Rattle.hex.specs.Hex.{encode_lower}
 use Rattle.code_map.specs.declared.status.Status.{Status}

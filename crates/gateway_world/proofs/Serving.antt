@@ -1,19 +1,18 @@
 -- The rows go with the core behind each step.
-use Rattle.std.proofs.Common.{◌≡◌, ◌≢◌, ◌⊎◌, ℕ, zero, suc, ◌+◌, ◌<◌, ◌≤◌, Bool, true, false, cond, inl, inr, List, [], ◌∷◌, ◌++◌, length, map, Option, Some, None, Result, Ok, Err, IfOk, OnErr, refl, sym, ap, subst, ◌∙◌, arith, length-append}
+use Rattle.std.proofs.Common.{◌≡◌, ◌≢◌, ℕ, ◌+◌, ◌<◌, ◌≤◌, Bool, true, false, cond, inl, inr, List, [], ◌∷◌, ◌++◌, length, map, Option, Some, None, Result, Ok, Err, OnErr, refl, sym, ap, subst, ◌∙◌, arith, length-append}
 use Rattle.std.specs.Prelude.{◌==◌, not}
-use Rattle.std.specs.List.{All, Contains, filter, slice_get}
-use Rattle.std.proofs.lemmas.Bool.{cases_Bool}
+use Rattle.std.specs.List.{All}
 use Rattle.std.proofs.lemmas.Bool.Decides.{eqb_tells}
-use Rattle.std.proofs.lemmas.List.{append-nil, append_assoc, map-append}
-use Rattle.std.proofs.lemmas.List.Elements.{All-nil, All-cons, All-head, All-tail, All-weaker, All-append, All-push, All-map, All-filter, All-contains, All-contains_itself, filter_passes}
+use Rattle.std.proofs.lemmas.List.{map-append}
+use Rattle.std.proofs.lemmas.List.Elements.{All-nil, All-cons, All-head, All-tail, All-weaker, All-append, All-map, All-filter, All-contains}
 use Rattle.std.proofs.lemmas.List.Sums.{sum_by-append}
 use Rattle.journal_book.specs.Entries.{Asks, Written}
 use Rattle.ask_model.specs.Requests.{Ask}
 use Rattle.history_laws.specs.declared.kept.Conn.{Conn}
-use Rattle.exchange_core.specs.CoreValue.{CoreValue, connections, opens_deed, written}
+use Rattle.exchange_core.specs.CoreValue.{CoreValue, connections, opens_deed}
 use Rattle.exchange_core.specs.Answering.{Given}
-use Rattle.gateway_world.specs.Steps.{Advances, answers_at, answers_conn, all_answered}
-use Rattle.gateway_world.specs.Rows.{Row, AreRising, HasAsk, WaitsFor, IsServed, IsClaimed, Serves, ComesFrom, IsNewAnswer, AnswersAlone, IsRow, row_at, with_waits, without_row}
+use Rattle.gateway_world.specs.Steps.{answers_at, all_answered}
+use Rattle.gateway_world.specs.Rows.{Row, HasAsk, WaitsFor, IsServed, IsClaimed, Serves, ComesFrom, IsNewAnswer, AnswersAlone, without_row}
 use Rattle.gateway_world.proofs.Counting.{slice_get-below, slice_get-kept, answers-more, answers-below, answered-from, answered-rise, rising-append, rising-filtered}
 
 abbrev pub number_of : Row → ℕ

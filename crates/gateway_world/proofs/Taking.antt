@@ -1,21 +1,20 @@
 -- An answer is taken.
-use Rattle.std.proofs.Common.{◌≡◌, ◌≢◌, ℕ, zero, suc, ◌+◌, ◌<◌, ◌≤◌, Bool, true, false, not, inl, inr, List, [], ◌∷◌, ◌++◌, length, map, Option, Some, None, refl, sym, ap, subst, ◌∙◌, arith, eqb}
+use Rattle.std.proofs.Common.{◌≡◌, ◌≢◌, ℕ, zero, suc, ◌<◌, Bool, true, false, not, inl, inr, List, [], ◌∷◌, ◌++◌, map, Some, None, refl, sym, ap, subst, ◌∙◌, arith}
 use Rattle.std.specs.Prelude.{◌==◌}
-use Rattle.std.specs.List.{All, Contains, filter, slice_get}
+use Rattle.std.specs.List.{All, Contains, filter}
 use Rattle.std.proofs.lemmas.Bool.{cases_Bool}
 use Rattle.std.proofs.lemmas.Bool.Decides.{eqb_tells}
 use Rattle.std.proofs.lemmas.List.Elements.{All-nil, All-cons, All-head, All-tail, All-weaker, All-map, All-filter, All-contains, All-contains_itself, filter_passes}
-use Rattle.ask_model.specs.Requests.{Ask}
-use Rattle.journal_book.specs.Entries.{Grounds, Asks, Answers, Written}
+use Rattle.journal_book.specs.Entries.{Written}
 use Rattle.history_laws.specs.declared.kept.Conn.{Conn}
-use Rattle.exchange_core.specs.CoreValue.{CoreValue, connections, written}
+use Rattle.exchange_core.specs.CoreValue.{CoreValue, connections}
 use Rattle.exchange_core.specs.declared.answer.Answer.{Answer}
 use Rattle.exchange_core.specs.Answering.{Given, IsGiven, given_of}
 use Rattle.exchange_core.proofs.Taking.{none-taken}
-use Rattle.gateway_world.specs.Steps.{Telling, answers_at, answers_in, answers_conn, untold, told_by}
-use Rattle.gateway_world.specs.Rows.{Row, AreRising, HasAsk, WaitsFor, IsServed, IsClaimed, Serves, IsRow, row_at, with_waits}
+use Rattle.gateway_world.specs.Steps.{answers_at, answers_in, untold, told_by}
+use Rattle.gateway_world.specs.Rows.{Row, AreRising, HasAsk, WaitsFor, IsServed, IsClaimed, Serves, IsRow, with_waits}
 use Rattle.gateway_world.proofs.Counting.{rising-filtered}
-use Rattle.gateway_world.proofs.Serving.{number_of, number_in, some-same, ask-one, waits-for, SameServed}
+use Rattle.gateway_world.proofs.Serving.{number_in, some-same, ask-one, waits-for, SameServed}
 use Rattle.gateway_world.proofs.Asking.{all-with, row-is, with-numbers}
 
 -- an answer that is taken, and all that is left

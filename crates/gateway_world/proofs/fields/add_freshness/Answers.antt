@@ -1,4 +1,4 @@
-use Rattle.std.proofs.Common.{◌≡◌, ◌≢◌, ◌++◌, codes, decimal, string_bytes, arith}
+use Rattle.std.proofs.Common.{◌≡◌, ◌++◌, codes, decimal, string_bytes}
 use Rattle.datagram_verdict.specs.Findings.{response_of}
 use Rattle.gateway_world.specs.Means.{seconds_left}
 use Rattle.gateway_world.proofs.Rules.{cache_control_of}

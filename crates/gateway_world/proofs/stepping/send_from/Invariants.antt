@@ -1,6 +1,5 @@
 -- So far the core went on as it was given out.
-use Rattle.std.proofs.Common.{◌≡◌, length}
-use Rattle.exchange_core.specs.CoreValue.{CoreValue}
+use Rattle.std.proofs.Common.{length}
 use Rattle.gateway_world.specs.Steps.{Goes}
 use Rattle.gateway_world.proofs.Serving.{SameServed}
 use Rattle.gateway_world.proofs.stepping.send_from.Given as goal

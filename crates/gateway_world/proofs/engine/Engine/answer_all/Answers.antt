@@ -1,6 +1,5 @@
 -- Each answer follows what was given out before.
-use Rattle.std.proofs.lemmas.Result.{err_from_is_err_and}
-use Rattle.gateway_world.proofs.Going.{goes-grow, goes-none, goes-on, grows-on}
+use Rattle.gateway_world.proofs.Going.{goes-none, goes-on}
 use Rattle.gateway_world.proofs.engine.Engine.answer_all.Goals as goal
 
 pub each-init : goal.each-init

@@ -1,6 +1,5 @@
 -- The answer is told, and the connection closed where it is the last.
-use Rattle.std.proofs.Common.{ap, Some, None, refl}
-use Rattle.exchange_core.specs.Answering.{given_of}
+use Rattle.std.proofs.Common.{refl}
 use Rattle.gateway_world.proofs.Going.{goes-none, goes-same, goes-answering, leads-on}
 use Rattle.gateway_world.proofs.Serving.{same-serves}
 use Rattle.gateway_world.proofs.Taking.{takes-from, row-for, nothing-taken, given-on, taken-told, taken-serves}

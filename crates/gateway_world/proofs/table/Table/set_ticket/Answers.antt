@@ -1,7 +1,6 @@
 -- Its row waits for that.
 use Rattle.std.proofs.Common.{ℕ, ap, refl, ◌∙◌}
 use Rattle.std.specs.Prelude.{option_map}
-use Rattle.gateway_world.specs.Rows.{Row}
 use Rattle.gateway_world.proofs.Placing.{set-waits, none-waits, number-at}
 use Rattle.gateway_world.proofs.table.Table.set_ticket.Goals as goal
 
