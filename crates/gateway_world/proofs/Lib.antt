@@ -9,4 +9,6 @@ pub mod Names
 pub mod Placing
 pub mod Rules
 pub mod Serving
+pub mod Settling
 pub mod Taking
+pub mod Waiting

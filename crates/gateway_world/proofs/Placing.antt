@@ -83,3 +83,20 @@ pub idle-row : {R E : Type 0} (cs : List (Connection R)) (i n : ℕ) (d : Connec
 idle-row {R} cs i n d b (Ok next) e first at_it tells so =
     λ request. place-row cs i n d None e first at_it (ap (λ (o : Option (Ticket R)). option_map (λ (t : Ticket R). t.number) o) (none-is d.ticket b tells so))
 idle-row cs i n d b (Err x) e first at_it tells so = tt
+
+-- where its row waits for nothing
+pub no-ticket-row : {R : Type 0} (cs : List (Connection R)) (i n : ℕ) (d : Connection R) (o : Option (Bor (Ticket R))) → option_map (λ (c : Connection R). c.number) (slice_get cs i) ≡ Some n
+    → All (λ (c : Connection R). c.number ≢ n) (take i cs) → d ≡ get_or cs i d → option_copied o ≡ d.ticket → o ≡ None → (r : Row) → row_at n (map row_of cs) ≡ Some r → r.waits ≡ None
+no-ticket-row {R} cs i n d None e first at_it copied none r found =
+    let here : row_of d ≡ r = ap row_of at_it ∙ some-same (row_of (get_or cs i d)) r (sym (row-at-place cs i n d e first) ∙ found) in
+    ap (λ (x : Row). x.waits) (sym here) ∙ ap (λ (o : Option (Ticket R)). option_map (λ (t : Ticket R). t.number) o) (sym copied)
+no-ticket-row cs i n d (Some t) e first at_it copied none r found = absurd cc
+
+-- where it isn't served
+pub no-row : {R : Type 0} (cs : List (Connection R)) (n : ℕ) (r : Row) → All (λ (c : Connection R). c.number ≢ n) cs → row_at n (map row_of cs) ≡ Some r → r.waits ≡ None
+no-row [] n r all found = absurd cc
+no-row {R} (x ∷ cs) n r all found =
+    elim (eqb_tells x.number n) [
+      | inl u ↦ absurd (All-head (λ (c : Connection R). c.number ≢ n) x cs all u.1)
+      | inr u ↦ no-row cs n r (All-tail (λ (c : Connection R). c.number ≢ n) x cs all) (rw (u.0) at found)
+    ]

@@ -1,5 +1,5 @@
 -- The connections that are served, and how they go with the core.
-use Rattle.std.specs.Prelude.{◌≡◌, ◌≢◌, ◌⊎◌, ℕ, ◌<◌, ◌==◌, Bool, true, false, not, List, [], ◌∷◌, length, map, filter, Option, Some, None, option_map, slice_get, ⊤, if◌then◌else◌}
+use Rattle.std.specs.Prelude.{◌≡◌, ◌≢◌, ◌⊎◌, ℕ, ◌<◌, ◌≤◌, ◌==◌, Bool, true, false, not, List, [], ◌∷◌, length, map, filter, Option, Some, None, option_map, slice_get, ⊤, if◌then◌else◌}
 use Rattle.std.specs.List.{All, Contains}
 use Rattle.ask_model.specs.Requests.{Ask}
 use Rattle.journal_book.specs.Entries.{Asks, Written}
@@ -106,3 +106,40 @@ pub record AnswersAlone (old new : CoreValue) : Type 0 where
   pub step : Advances old new
   pub conns : All (ComesFrom old.conns) new.conns
   pub answers : All (IsNewAnswer old new) step.given
+
+-- No answer to this ask waits to be taken.
+abbrev pub IsOpen : CoreValue → ℕ → Type 0
+IsOpen core k = All (λ (g : Given). g.ask ≢ k) core.answers
+
+-- Who waits for one of these asks, waits for one that isn't answered.
+abbrev pub Calm : (ℕ → Type 0) → CoreValue → List Row → Type 0
+Calm asks core rows = All (λ (r : Row). (k : ℕ) → r.waits ≡ Some k → asks k → IsOpen core k) rows
+
+-- Nothing waits to be given out: no datagram, and no answer to an ask that a connection waits for.
+pub record Settled (core : CoreValue) (rows : List Row) : Type 0 where
+  pub sends : core.sends ≡ []
+  pub answers : Calm (λ k. ⊤) core rows
+
+-- The connection waits for no answer that could be taken.
+abbrev pub IsServedOn : ℕ → CoreValue → List Row → Type 0
+IsServedOn c core rows = All (λ (r : Row). r.number ≡ c → (k : ℕ) → r.waits ≡ Some k → IsOpen core k) rows
+
+-- What is done for one connection leaves the others as they are.
+pub record LeavesOthers (c : ℕ) (old : CoreValue) (rows : List Row) (new : CoreValue) (rows1 : List Row) : Type 0 where
+  pub others : All (λ (r : Row). r.number ≢ c → Contains rows r) rows1
+  pub kept : (k : ℕ) → k < length old.entries → IsOpen old k → IsOpen new k
+
+
+-- The first of the asks from this number on that a connection waits for, and its connection.
+pub record IsFirstWaiting (from : ℕ) (rows : List Row) (w : ℕ × ℕ) : Type 0 where
+  pub row : Row
+  pub stands : Contains rows row
+  pub number : row.number ≡ w.1
+  pub waits : row.waits ≡ Some w.0
+  pub reached : from ≤ w.0
+  pub least : All (λ (r : Row). (k : ℕ) → r.waits ≡ Some k → from ≤ k → w.0 ≤ k) rows
+
+-- it, where there is one
+abbrev pub IsWaitedFrom : ℕ → List Row → Option (ℕ × ℕ) → Type 0
+IsWaitedFrom from rows None = All (λ (r : Row). (k : ℕ) → r.waits ≡ Some k → k < from) rows
+IsWaitedFrom from rows (Some w) = IsFirstWaiting from rows w

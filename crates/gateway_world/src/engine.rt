@@ -1,8 +1,8 @@
 //! What an input leads to, step by step.
 
-ghost use Rattle.std.specs.Prelude.{◌≡◌, None};
+ghost use Rattle.std.specs.Prelude.{◌≡◌, [], None, OnOk};
 ghost use Rattle.gateway_world.specs.Steps.{Advances, Leads};
-ghost use Rattle.gateway_world.specs.Rows.{Serves, IsRow, rows_of};
+ghost use Rattle.gateway_world.specs.Rows.{Serves, Settled, LeavesOthers, IsServedOn, IsRow, rows_of, without_row};
 
 use crate::fields::closes;
 use crate::inbox::{Next, REQUESTS};
@@ -39,6 +39,7 @@ impl<R: Relation> Engine<R> {
         requires { Serves self.old.core (rows_of self.old.table) }
         ensures leads { Leads result self.old.core self.new.core outputs.old.items outputs.new.items }
         ensures kept { Serves self.new.core (rows_of self.new.table) }
+        ensures settled { OnOk result (Settled self.old.core (rows_of self.old.table) → Settled self.new.core (rows_of self.new.table)) }
     {
         match happening {
             Happening::Open => self.open(when, outputs),
@@ -57,6 +58,7 @@ impl<R: Relation> Engine<R> {
         requires { Serves self.old.core (rows_of self.old.table) }
         ensures leads { Leads result self.old.core self.new.core outputs.old.items outputs.new.items }
         ensures kept { Serves self.new.core (rows_of self.new.table) }
+        ensures settled { OnOk result (Settled self.old.core (rows_of self.old.table) → Settled self.new.core (rows_of self.new.table)) }
     {
         let edge = Edge::new(self.alloc)?;
         self.table.make_room()?;
@@ -81,6 +83,7 @@ impl<R: Relation> Engine<R> {
         requires { Serves self.old.core (rows_of self.old.table) }
         ensures leads { Leads result self.old.core self.new.core outputs.old.items outputs.new.items }
         ensures kept { Serves self.new.core (rows_of self.new.table) }
+        ensures settled { OnOk result (Settled self.old.core (rows_of self.old.table) → Settled self.new.core (rows_of self.new.table)) }
     {
         self.table.append(number, bytes)?;
         self.serve(when, number, outputs)
@@ -97,6 +100,7 @@ impl<R: Relation> Engine<R> {
         requires { Serves self.old.core (rows_of self.old.table) }
         ensures leads { Leads result self.old.core self.new.core outputs.old.items outputs.new.items }
         ensures kept { Serves self.new.core (rows_of self.new.table) }
+        ensures settled { OnOk result (Settled self.new.core (rows_of self.new.table)) }
     {
         hear_in(&mut self.core, when, peer, bytes)?;
         self.deliver(when, outputs)
@@ -107,6 +111,7 @@ impl<R: Relation> Engine<R> {
         requires { Serves self.old.core (rows_of self.old.table) }
         ensures leads { Leads result self.old.core self.new.core outputs.old.items outputs.new.items }
         ensures kept { Serves self.new.core (rows_of self.new.table) }
+        ensures settled { OnOk result (Settled self.new.core (rows_of self.new.table)) }
     {
         tick_in(&mut self.core, when)?;
         self.deliver(when, outputs)
@@ -117,10 +122,12 @@ impl<R: Relation> Engine<R> {
         requires { Serves self.old.core (rows_of self.old.table) }
         ensures advances { Advances self.old.core self.new.core }
         ensures kept { Serves self.new.core (rows_of self.new.table) }
+        ensures rows { rows_of self.new.table ≡ without_row number (rows_of self.old.table) }
+        ensures answers { self.new.core.answers ≡ self.old.core.answers }
+        ensures sends { self.new.core.sends ≡ self.old.core.sends }
     {
-        if close_in(&mut self.core, when, number) {
-            self.table.remove(number);
-        }
+        close_in(&mut self.core, when, number);
+        self.table.remove(number);
     }
 
     /// Gives out the datagrams and the answers of a step, the answers by the numbers of their asks.
@@ -128,6 +135,7 @@ impl<R: Relation> Engine<R> {
         requires { Serves self.old.core (rows_of self.old.table) }
         ensures leads { Leads result self.old.core self.new.core outputs.old.items outputs.new.items }
         ensures kept { Serves self.new.core (rows_of self.new.table) }
+        ensures settled { OnOk result (Settled self.new.core (rows_of self.new.table)) }
     {
         send_from(&mut self.core, outputs)?;
         self.answer_all(when, outputs)
@@ -138,14 +146,12 @@ impl<R: Relation> Engine<R> {
         requires { Serves self.old.core (rows_of self.old.table) }
         ensures leads { Leads result self.old.core self.new.core outputs.old.items outputs.new.items }
         ensures kept { Serves self.new.core (rows_of self.new.table) }
+        ensures settled { OnOk result (self.old.core.sends ≡ [] → Settled self.new.core (rows_of self.new.table)) }
     {
         let mut from = 0;
         'each: while let Some((ask, number)) = self.table.first_waiting(from) {
             self.answer(when, number, outputs)?;
-            if ask == u32::MAX {
-                return Ok(());
-            }
-            from = ask + 1;
+            from = u64::from(ask) + 1;
         }
         Ok(())
     }
@@ -156,6 +162,9 @@ impl<R: Relation> Engine<R> {
         requires { Serves self.old.core (rows_of self.old.table) }
         ensures leads { Leads result self.old.core self.new.core outputs.old.items outputs.new.items }
         ensures kept { Serves self.new.core (rows_of self.new.table) }
+        ensures leaves { OnOk result (LeavesOthers number self.old.core (rows_of self.old.table) self.new.core (rows_of self.new.table)) }
+        ensures told { OnOk result (IsServedOn number self.new.core (rows_of self.new.table)) }
+        ensures sent { OnOk result (self.old.core.sends ≡ [] → self.new.core.sends ≡ []) }
     {
         self.give(when, number, outputs)?;
         self.serve(when, number, outputs)
@@ -166,6 +175,9 @@ impl<R: Relation> Engine<R> {
         requires { Serves self.old.core (rows_of self.old.table) }
         ensures leads { Leads result self.old.core self.new.core outputs.old.items outputs.new.items }
         ensures kept { Serves self.new.core (rows_of self.new.table) }
+        ensures leaves { OnOk result (LeavesOthers number self.old.core (rows_of self.old.table) self.new.core (rows_of self.new.table)) }
+        ensures told { OnOk result (IsServedOn number self.old.core (rows_of self.old.table) → IsServedOn number self.new.core (rows_of self.new.table)) }
+        ensures sent { OnOk result (self.old.core.sends ≡ [] → self.new.core.sends ≡ []) }
     {
         'each: for _ in 0..REQUESTS {
             if !self.serve_next(when, number, outputs)? {
@@ -185,6 +197,9 @@ impl<R: Relation> Engine<R> {
         requires { Serves self.old.core (rows_of self.old.table) }
         ensures leads { Leads result self.old.core self.new.core outputs.old.items outputs.new.items }
         ensures kept { Serves self.new.core (rows_of self.new.table) }
+        ensures leaves { OnOk result (LeavesOthers number self.old.core (rows_of self.old.table) self.new.core (rows_of self.new.table)) }
+        ensures told { OnOk result (IsServedOn number self.old.core (rows_of self.old.table) → IsServedOn number self.new.core (rows_of self.new.table)) }
+        ensures sent { OnOk result (self.old.core.sends ≡ [] → self.new.core.sends ≡ []) }
     {
         match self.table.next(number)? {
             Next::Request(incoming) => {
@@ -212,6 +227,9 @@ impl<R: Relation> Engine<R> {
         requires idle { IsRow (rows_of self.old.table) number None }
         ensures leads { Leads result self.old.core self.new.core outputs.old.items outputs.new.items }
         ensures kept { Serves self.new.core (rows_of self.new.table) }
+        ensures leaves { OnOk result (LeavesOthers number self.old.core (rows_of self.old.table) self.new.core (rows_of self.new.table)) }
+        ensures told { OnOk result (IsServedOn number self.new.core (rows_of self.new.table)) }
+        ensures sent { OnOk result (self.old.core.sends ≡ [] → self.new.core.sends ≡ []) }
     {
         let mapped = map_request(self.alloc, &self.settings, incoming)?;
         let mapped = Arc::new(self.alloc, mapped)?;
@@ -234,6 +252,9 @@ impl<R: Relation> Engine<R> {
         requires { Serves self.old.core (rows_of self.old.table) }
         ensures leads { Leads result self.old.core self.new.core outputs.old.items outputs.new.items }
         ensures kept { Serves self.new.core (rows_of self.new.table) }
+        ensures leaves { OnOk result (LeavesOthers number self.old.core (rows_of self.old.table) self.new.core (rows_of self.new.table)) }
+        ensures told { OnOk result (IsServedOn number self.new.core (rows_of self.new.table)) }
+        ensures sent { OnOk result (self.old.core.sends ≡ [] → self.new.core.sends ≡ []) }
     {
         let Some(ticket) = self.table.ticket(number) else {
             return Ok(());
@@ -255,6 +276,9 @@ impl<R: Relation> Engine<R> {
         requires { Serves self.old.core (rows_of self.old.table) }
         ensures leads { Leads result self.old.core self.new.core outputs.old.items outputs.new.items }
         ensures kept { Serves self.new.core (rows_of self.new.table) }
+        ensures leaves { OnOk result (LeavesOthers number self.old.core (rows_of self.old.table) self.new.core (rows_of self.new.table)) }
+        ensures told { OnOk result (IsServedOn number self.new.core (rows_of self.new.table)) }
+        ensures sent { OnOk result (self.old.core.sends ≡ [] → self.new.core.sends ≡ []) }
     {
         self.close(when, number);
         tell_closed(number, outputs)

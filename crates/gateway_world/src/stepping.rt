@@ -1,8 +1,8 @@
 //! The steps of the core, by what each adds to the journal and lets wait to be sent.
 
-ghost use Rattle.std.specs.Prelude.{◌≡◌, List, [], ◌++◌, ◌∷◌, Some, None, IfOk, OnOk, OnErr, length};
+ghost use Rattle.std.specs.Prelude.{ℕ, ◌≡◌, ◌<◌, List, [], ◌++◌, ◌∷◌, Some, None, IfOk, OnOk, OnErr, length};
 ghost use Rattle.gateway_world.specs.Steps.{Advances, Leads};
-ghost use Rattle.gateway_world.specs.Rows.{Row, Serves, IsRow, AnswersAlone, with_waits};
+ghost use Rattle.gateway_world.specs.Rows.{Row, Serves, IsRow, IsOpen, AnswersAlone, with_waits};
 
 use crate::input::Output;
 use ask_model::Mapped;
@@ -24,6 +24,8 @@ pub fn open_in<R: Relation>(core: &mut Core<R>, when: When) -> Result<u32, OpenF
     ensures advances { Advances core.old core.new }
     ensures opened { (rows : List Row) → Serves core.old rows → IfOk result (λ number. Serves core.new (rows ++ record { number = number; waits = None } ∷ [])) }
     ensures kept { (rows : List Row) → Serves core.old rows → OnErr result (Serves core.new rows) }
+    ensures answers { core.new.answers ≡ core.old.answers }
+    ensures sends { core.new.sends ≡ core.old.sends }
 {
     core.open(when.moment)
 }
@@ -38,6 +40,8 @@ pub fn ask_in<R: Relation>(
     ensures advances { Advances core.old core.new }
     ensures asked { (rows : List Row) → Serves core.old rows → IsRow rows conn None → IfOk result (λ ticket. Serves core.new (with_waits conn (Some ticket.number) rows)) }
     ensures kept { (rows : List Row) → Serves core.old rows → OnErr result (Serves core.new rows) }
+    ensures open { (k : ℕ) → k < length core.old.entries → IsOpen core.old k → IsOpen core.new k }
+    ensures sends { OnErr result (core.new.sends ≡ core.old.sends) }
 {
     core.ask(when.moment, when.word, conn, mapped)
 }
@@ -63,11 +67,13 @@ pub fn tick_in<R: Relation>(core: &mut Core<R>, when: When) -> Result<(), Memory
     Ok(())
 }
 
-/// Closes a connection. False where it isn't open.
-pub fn close_in<R: Relation>(core: &mut Core<R>, when: When, conn: u32) -> bool
-    ensures { AnswersAlone core.old core.new }
+/// Closes a connection, where it is open.
+pub fn close_in<R: Relation>(core: &mut Core<R>, when: When, conn: u32)
+    ensures alone { AnswersAlone core.old core.new }
+    ensures answers { core.new.answers ≡ core.old.answers }
+    ensures sends { core.new.sends ≡ core.old.sends }
 {
-    core.close(when.moment, conn)
+    core.close(when.moment, conn);
 }
 
 /// Gives out the datagrams that wait to be sent.
@@ -75,6 +81,8 @@ pub fn send_from<R: Relation>(core: &mut Core<R>, outputs: &mut Vec<Output>) -> 
     ensures leads { Leads result core.old core.new outputs.old.items outputs.new.items }
     ensures sent { OnOk result (core.new.sends ≡ []) }
     ensures kept { (rows : List Row) → Serves core.old rows → Serves core.new rows }
+    ensures answers { core.new.answers ≡ core.old.answers }
+    ensures entries { core.new.entries ≡ core.old.entries }
 {
     'each: while let Some(datagram) = core.take_send() {
         outputs.push(Output::Datagram(datagram))?;

@@ -1,7 +1,7 @@
 //! The open connections.
 
-ghost use Rattle.std.specs.Prelude.{◌≡◌, ◌≢◌, ◌<◌, ◌≤◌, ◌∷◌, ◌++◌, [], None, Some, true, All, take, slice_get, option_map, vec_len, vec_capacity, length, IfOk, IfSome, OnOk};
-ghost use Rattle.gateway_world.specs.Rows.{rows_of, with_waits, without_row, is_request, IsRow};
+ghost use Rattle.std.specs.Prelude.{List, ◌≡◌, ◌≢◌, ◌<◌, ◌≤◌, ◌∷◌, ◌++◌, [], None, Some, true, All, take, slice_get, option_map, vec_len, vec_capacity, length, IfOk, IfSome, OnOk};
+ghost use Rattle.gateway_world.specs.Rows.{Row, rows_of, row_at, with_waits, without_row, is_request, IsRow, IsWaitedFrom};
 
 use crate::inbox::{Inbox, Next};
 use exchange_core::Ticket;
@@ -103,7 +103,8 @@ impl<R: Relation> Table<R> {
 
     /// The ask that the connection waits for.
     pub fn ticket(&self, number: u32) -> Option<&Ticket<R>>
-        ensures { IfSome result (λ t. IsRow (rows_of self.now) number (Some t.now.number)) }
+        ensures some { IfSome result (λ t. IsRow (rows_of self.now) number (Some t.now.number)) }
+        ensures none { result ≡ None → (r : Row) → row_at number (rows_of self.now) ≡ Some r → r.waits ≡ None }
     {
         match self.place_of(number) {
             Some(place) => self.rows[place].ticket.as_ref(),
@@ -128,8 +129,8 @@ impl<R: Relation> Table<R> {
     }
 
     /// The first ask that a connection waits for, of those from that number on, and its connection.
-    pub fn first_waiting(&self, from: u32) -> Option<(u32, u32)>
-        ensures { IfSome result (λ w. from ≤ w.0) }
+    pub fn first_waiting(&self, from: u64) -> Option<(u32, u32)>
+        ensures { IsWaitedFrom from (rows_of self.now) result }
     {
         let mut first: Option<(u32, u32)> = None;
         'each: for row in &self.rows {
@@ -143,11 +144,10 @@ impl<R: Relation> Table<R> {
 
 /// The sooner of an ask found before and this ask of a connection, which counts where it comes from
 /// that number on.
-fn sooner(first: Option<(u32, u32)>, from: u32, ask: u32, conn: u32) -> Option<(u32, u32)>
-    requires { IfSome first (λ w. from ≤ w.0) }
-    ensures { IfSome result (λ w. from ≤ w.0) }
+fn sooner(first: Option<(u32, u32)>, from: u64, ask: u32, conn: u32) -> Option<(u32, u32)>
+    ensures { (rows : List Row) → IsWaitedFrom from rows first → IsWaitedFrom from (rows ++ record { number = conn; waits = Some ask } ∷ []) result }
 {
-    if ask < from {
+    if u64::from(ask) < from {
         return first;
     }
     match first {

@@ -3,6 +3,6 @@ use Rattle.std.proofs.Common.{refl}
 use Rattle.gateway_world.proofs.Advancing.{closing}
 use Rattle.gateway_world.proofs.stepping.close_in.Goals as goal
 
-pub returns : goal.returns
-returns g c =
+pub returns-clause-alone : goal.returns-clause-alone
+returns-clause-alone g c =
     closing c.close.result _ _ c.args.conn _ _ refl refl c.close.ensures.closed c.close.ensures.unknown c.close.ensures.answers c.close.ensures.sends

@@ -28,4 +28,6 @@ returns-in_err-push g c =
       leads = rw (failed.1) (sent-grow _ _ c.take_send.new.self _ _ c.each.invariant.0 t.entries);
       sent = rw (failed.1) tt;
       kept = λ rows s. same-serves _ _ rows (record { entries = t.entries ∙ before.entries; conns = t.conns ∙ before.conns; answers = t.answers ∙ before.answers }) s;
+      answers = t.answers ∙ before.answers;
+      entries = t.entries ∙ before.entries;
     }

@@ -1,6 +1,17 @@
 -- The answer that is there is given, and what further requests give follows.
-use Rattle.gateway_world.proofs.Going.{leads-on}
+use Rattle.gateway_world.proofs.Going.{goes-grow, leads-on}
+use Rattle.gateway_world.proofs.Settling.{leaves-then, told-then, sent-then}
 use Rattle.gateway_world.proofs.engine.Engine.answer.Goals as goal
 
 pub returns-clause-leads : goal.returns-clause-leads
 returns-clause-leads g c = leads-on c.serve.result _ _ _ _ _ _ c.in_ok-give.ensures.leads c.serve.ensures.leads
+
+pub returns-clause-leaves : goal.returns-clause-leaves
+returns-clause-leaves g c =
+    leaves-then c.serve.result c.args.number _ _ _ _ _ _ (goes-grow _ _ _ _ c.in_ok-give.ensures.leads) c.in_ok-give.ensures.leaves c.serve.ensures.leaves
+
+pub returns-clause-told : goal.returns-clause-told
+returns-clause-told g c = told-then c.serve.result _ _ c.in_ok-give.ensures.told c.serve.ensures.told
+
+pub returns-clause-sent : goal.returns-clause-sent
+returns-clause-sent g c = sent-then c.serve.result _ _ _ c.in_ok-give.ensures.sent c.serve.ensures.sent

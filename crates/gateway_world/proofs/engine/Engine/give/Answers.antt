@@ -1,8 +1,11 @@
 -- The answer is told, and the connection closed where it is the last.
-use Rattle.std.proofs.Common.{refl}
+use Rattle.std.proofs.Common.{[], refl, sym, ◌∙◌}
+use Rattle.std.proofs.lemmas.List.{append-nil}
+use Rattle.exchange_core.specs.Answering.{given_of}
 use Rattle.gateway_world.proofs.Going.{goes-none, goes-same, goes-answering, leads-on}
 use Rattle.gateway_world.proofs.Serving.{same-serves}
 use Rattle.gateway_world.proofs.Taking.{takes-from, row-for, nothing-taken, given-on, taken-told, taken-serves}
+use Rattle.gateway_world.proofs.Settling.{leaves-none, leaves-same, leaves-taken, leaves-then, served-idle, served-open, told-taken, sent-then}
 use Rattle.gateway_world.proofs.engine.Engine.give.Goals as goal
 
 pub returns-in_default-clause-leads : goal.returns-in_default-clause-leads
@@ -22,7 +25,7 @@ pub returns-in_err-tell_answer-clause-kept : goal.returns-in_err-tell_answer-cla
 returns-in_err-tell_answer-clause-kept g c =
     let t = c.take_answer.ensures in
     let some = c.in-Some-take_answer.ensures.some in
-    let row = row-for _ _ _ _ some.0 c.in-Some.ensures in
+    let row = row-for _ _ _ _ some.0 c.in-Some.ensures.some in
     let takes = takes-from c.args.self.now.core c.take_answer.new.self _ c.in-Some-take_answer.answer some c.in-Some-take_answer.ensures.once t.answers t.entries t.conns in
     rw (c.set_ticket.ensures) (taken-serves _ _ _ c.args.number _ c.requires row takes)
 
@@ -30,7 +33,7 @@ pub shut-requires : goal.shut-requires
 shut-requires g c =
     let t = c.take_answer.ensures in
     let some = c.in-Some-take_answer.ensures.some in
-    let row = row-for _ _ _ _ some.0 c.in-Some.ensures in
+    let row = row-for _ _ _ _ some.0 c.in-Some.ensures.some in
     let takes = takes-from c.args.self.now.core c.take_answer.new.self _ c.in-Some-take_answer.answer some c.in-Some-take_answer.ensures.once t.answers t.entries t.conns in
     rw (c.set_ticket.ensures) (taken-serves _ _ _ c.args.number _ c.requires row takes)
 
@@ -38,7 +41,7 @@ pub returns-then-closes-clause-leads : goal.returns-then-closes-clause-leads
 returns-then-closes-clause-leads g c =
     let t = c.take_answer.ensures in
     let some = c.in-Some-take_answer.ensures.some in
-    let row = row-for _ _ _ _ some.0 c.in-Some.ensures in
+    let row = row-for _ _ _ _ some.0 c.in-Some.ensures.some in
     let takes = takes-from c.args.self.now.core c.take_answer.new.self _ c.in-Some-take_answer.answer some c.in-Some-take_answer.ensures.once t.answers t.entries t.conns in
     let told = c.in_ok-tell_answer.ensures c.args.self.now.core.entries some.2 (given-on _ _ c.args.number _ c.requires row some.2) in
     leads-on c.shut.result _ _ _ _ _ _ (goes-answering _ _ _ _ _ t.entries t.sends (taken-told _ _ _ c.args.number _ c.requires row takes) told) c.shut.ensures.leads
@@ -47,7 +50,7 @@ pub returns-clause-leads : goal.returns-clause-leads
 returns-clause-leads g c =
     let t = c.take_answer.ensures in
     let some = c.in-Some-take_answer.ensures.some in
-    let row = row-for _ _ _ _ some.0 c.in-Some.ensures in
+    let row = row-for _ _ _ _ some.0 c.in-Some.ensures.some in
     let takes = takes-from c.args.self.now.core c.take_answer.new.self _ c.in-Some-take_answer.answer some c.in-Some-take_answer.ensures.once t.answers t.entries t.conns in
     let told = c.in_ok-tell_answer.ensures c.args.self.now.core.entries some.2 (given-on _ _ c.args.number _ c.requires row some.2) in
     goes-answering _ _ _ _ _ t.entries t.sends (taken-told _ _ _ c.args.number _ c.requires row takes) told
@@ -56,6 +59,51 @@ pub returns-clause-kept : goal.returns-clause-kept
 returns-clause-kept g c =
     let t = c.take_answer.ensures in
     let some = c.in-Some-take_answer.ensures.some in
-    let row = row-for _ _ _ _ some.0 c.in-Some.ensures in
+    let row = row-for _ _ _ _ some.0 c.in-Some.ensures.some in
     let takes = takes-from c.args.self.now.core c.take_answer.new.self _ c.in-Some-take_answer.answer some c.in-Some-take_answer.ensures.once t.answers t.entries t.conns in
     rw (c.set_ticket.ensures) (taken-serves _ _ _ c.args.number _ c.requires row takes)
+
+pub returns-in_default-clause-leaves : goal.returns-in_default-clause-leaves
+returns-in_default-clause-leaves g c = leaves-none _ _ _
+
+pub returns-in_default-clause-told : goal.returns-in_default-clause-told
+returns-in_default-clause-told g c = served-idle c.args.number c.args.self.now.core _ c.requires.numbered (c.in_default.ensures.none refl)
+
+pub returns-in_default-take_answer-clause-leaves : goal.returns-in_default-take_answer-clause-leaves
+returns-in_default-take_answer-clause-leaves g c =
+    let t = c.take_answer.ensures in
+    leaves-same _ _ _ _ (nothing-taken c.args.self.now.core c.take_answer.new.self _ (c.in_default-take_answer.ensures.none refl) t.answers t.entries t.conns).answers
+
+pub returns-in_default-take_answer-clause-told : goal.returns-in_default-take_answer-clause-told
+returns-in_default-take_answer-clause-told g c =
+    let t = c.take_answer.ensures in
+    let same = nothing-taken c.args.self.now.core c.take_answer.new.self _ (c.in_default-take_answer.ensures.none refl) t.answers t.entries t.conns in
+    served-open c.args.number _ c.take_answer.new.self _ c.requires.numbered c.in-Some.ensures.some (rw (same.answers) (c.in_default-take_answer.ensures.none refl))
+
+pub returns-clause-leaves : goal.returns-clause-leaves
+returns-clause-leaves g c =
+    let t = c.take_answer.ensures in
+    let some = c.in-Some-take_answer.ensures.some in
+    let row = row-for _ _ _ _ some.0 c.in-Some.ensures.some in
+    let takes = takes-from c.args.self.now.core c.take_answer.new.self _ c.in-Some-take_answer.answer some c.in-Some-take_answer.ensures.once t.answers t.entries t.conns in
+    rw (c.set_ticket.ensures) (leaves-taken c.args.number _ _ _ _ c.requires row takes)
+
+pub returns-clause-told : goal.returns-clause-told
+returns-clause-told g c =
+    let t = c.take_answer.ensures in
+    let some = c.in-Some-take_answer.ensures.some in
+    let row = row-for _ _ _ _ some.0 c.in-Some.ensures.some in
+    let takes = takes-from c.args.self.now.core c.take_answer.new.self _ c.in-Some-take_answer.answer some c.in-Some-take_answer.ensures.once t.answers t.entries t.conns in
+    rw (c.set_ticket.ensures) (told-taken c.args.number c.args.self.now.core c.take_answer.new.self _ (given_of c.in-Some-take_answer.answer) c.requires row)
+
+pub returns-then-closes-clause-leaves : goal.returns-then-closes-clause-leaves
+returns-then-closes-clause-leaves g c =
+    let t = c.take_answer.ensures in
+    let some = c.in-Some-take_answer.ensures.some in
+    let row = row-for _ _ _ _ some.0 c.in-Some.ensures.some in
+    let takes = takes-from c.args.self.now.core c.take_answer.new.self _ c.in-Some-take_answer.answer some c.in-Some-take_answer.ensures.once t.answers t.entries t.conns in
+    leaves-then c.shut.result c.args.number _ _ _ _ _ _ ([], t.entries ∙ sym (append-nil c.args.self.now.core.entries))
+    (rw (c.set_ticket.ensures) (leaves-taken c.args.number _ _ _ _ c.requires row takes)) c.shut.ensures.leaves
+
+pub returns-then-closes-clause-sent : goal.returns-then-closes-clause-sent
+returns-then-closes-clause-sent g c = sent-then c.shut.result _ _ _ (λ e. c.take_answer.ensures.sends ∙ e) c.shut.ensures.sent

@@ -1,13 +1,22 @@
 -- Each request follows what was given out before.
 use Rattle.std.proofs.lemmas.Result.{err_from_is_err_and}
 use Rattle.gateway_world.proofs.Going.{goes-grow, goes-none, goes-on, grows-on}
+use Rattle.gateway_world.proofs.Settling.{leaves-none, leaves-on}
 use Rattle.gateway_world.proofs.engine.Engine.serve.Goals as goal
 
 pub each-init : goal.each-init
-each-init g c = (goes-none _ _, c.requires)
+each-init g c = (goes-none _ _, c.requires, leaves-none _ _ _, (λ w. w), (λ e. e))
 
 pub each-preserved : goal.each-preserved
-each-preserved g c = (goes-on _ _ _ _ _ _ c.each.invariant.0 c.in_ok-serve_next.ensures.leads, c.in_ok-serve_next.ensures.kept)
+each-preserved g c =
+    let before = c.each.invariant in
+    let next = c.in_ok-serve_next.ensures in (
+      goes-on _ _ _ _ _ _ before.0 next.leads,
+      next.kept,
+      leaves-on _ _ _ _ _ _ _ (goes-grow _ _ _ _ before.0) before.2 next.leaves,
+      (λ w. next.told (before.3 w)),
+      (λ e. next.sent (before.4 e)),
+    )
 
 pub returns-in_err-serve_next-clause-leads : goal.returns-in_err-serve_next-clause-leads
 returns-in_err-serve_next-clause-leads g c =
@@ -16,3 +25,9 @@ returns-in_err-serve_next-clause-leads g c =
 
 pub returns-then-not-branch-clause-leads : goal.returns-then-not-branch-clause-leads
 returns-then-not-branch-clause-leads g c = goes-on _ _ _ _ _ _ c.each.invariant.0 c.in_ok-serve_next.ensures.leads
+
+pub returns-then-not-branch-clause-leaves : goal.returns-then-not-branch-clause-leaves
+returns-then-not-branch-clause-leaves g c = leaves-on _ _ _ _ _ _ _ (goes-grow _ _ _ _ c.each.invariant.0) c.each.invariant.2 c.in_ok-serve_next.ensures.leaves
+
+pub returns-then-not-branch-clause-told : goal.returns-then-not-branch-clause-told
+returns-then-not-branch-clause-told g c = λ w. c.in_ok-serve_next.ensures.told (c.each.invariant.3 w)

@@ -1,0 +1,219 @@
+-- What is told, and what is left for the others.
+use Rattle.std.proofs.Common.{◌≡◌, ◌≢◌, ℕ, ◌+◌, ◌<◌, ◌≤◌, Bool, true, false, not, inl, inr, List, [], ◌∷◌, ◌++◌, length, map, Option, Some, None, Result, Ok, Err, OnOk, refl, sym, ap, subst, ◌∙◌, arith}
+use Rattle.std.specs.Prelude.{◌==◌, ⊤}
+use Rattle.std.specs.List.{All, Contains, filter}
+use Rattle.std.proofs.lemmas.Bool.{cases_lt, cases_Bool}
+use Rattle.std.proofs.lemmas.Bool.Decides.{eqb_tells}
+use Rattle.std.proofs.lemmas.List.Elements.{All-nil, All-cons, All-head, All-tail, All-weaker, All-push, All-filter, All-contains, All-contains_itself, filter_passes}
+use Rattle.journal_book.specs.Entries.{Written}
+use Rattle.exchange_core.specs.CoreValue.{CoreValue}
+use Rattle.exchange_core.specs.Answering.{Given}
+use Rattle.gateway_world.specs.Steps.{Grows, untold, answers_at}
+use Rattle.gateway_world.specs.Rows.{Row, AreRising, HasAsk, WaitsFor, IsClaimed, Serves, IsRow, row_at, with_waits, without_row, IsOpen, Calm, Settled, IsServedOn, LeavesOthers, IsFirstWaiting, IsWaitedFrom}
+use Rattle.gateway_world.proofs.Serving.{number_of, number_in, some-same, ask-below, ask-one, waits-for, longer, SameServed}
+use Rattle.gateway_world.proofs.Asking.{all-with}
+use Rattle.gateway_world.proofs.Taking.{Takes}
+
+away : (P : Row → Type 0) (c : ℕ) (rs : List Row) → All (λ (m : ℕ). c < m) (map number_of rs) → All (λ (r : Row). r.number ≡ c → P r) rs
+away P c [] above = All-nil (λ (r : Row). r.number ≡ c → P r)
+away P c (r ∷ rs) above =
+    let lt = All-head (λ (m : ℕ). c < m) r.number (map number_of rs) above in
+    All-cons (λ (r : Row). r.number ≡ c → P r) r rs (λ same. absurd (omega (arith, lt, same))) (away P c rs (All-tail (λ (m : ℕ). c < m) r.number (map number_of rs) above))
+
+-- what holds of the first row of a connection holds of all of them
+pub row-only : (P : Row → Type 0) (c : ℕ) (rs : List Row) → AreRising (map number_of rs) → ((r : Row) → row_at c rs ≡ Some r → P r) → All (λ (r : Row). r.number ≡ c → P r) rs
+row-only P c [] rising f = All-nil (λ (r : Row). r.number ≡ c → P r)
+row-only P c (r ∷ rs) rising f =
+    elim (eqb_tells r.number c) [
+      | inl u ↦ All-cons (λ (r : Row). r.number ≡ c → P r) r rs (λ same. f r (rw (u.0) refl))
+          (away P c rs (subst (λ (n : ℕ). All (λ (m : ℕ). n < m) (map number_of rs)) u.1 rising.0))
+      | inr u ↦ All-cons (λ (r : Row). r.number ≡ c → P r) r rs (λ same. absurd (u.1 same)) (row-only P c rs rising.1 (λ s is. f s (rw (u.0) is)))
+    ]
+
+none-some : {X : Type 0} (k : X) → None ≡ Some k → ⊥
+none-some k e = absurd cc
+
+-- a connection that waits for nothing
+pub served-idle : (c : ℕ) (core : CoreValue) (rows : List Row) → AreRising (map number_of rows) → ((r : Row) → row_at c rows ≡ Some r → r.waits ≡ None) → IsServedOn c core rows
+served-idle c core rows rising idle =
+    row-only (λ (r : Row). (k : ℕ) → r.waits ≡ Some k → IsOpen core k) c rows rising (λ r is k e. absurd (none-some k (sym (idle r is) ∙ e)))
+
+-- one that waits for an ask that isn't answered
+pub served-open : (c k : ℕ) (core : CoreValue) (rows : List Row) → AreRising (map number_of rows) → IsRow rows c (Some k) → IsOpen core k → IsServedOn c core rows
+served-open c k core rows rising row open_one =
+    row-only (λ (r : Row). (k : ℕ) → r.waits ≡ Some k → IsOpen core k) c rows rising (λ r is j e.
+        let same : row.row ≡ r = some-same row.row r (sym row.stands ∙ is) in
+        let one : k ≡ j = some-same k j (sym row.waits ∙ ap (λ (r : Row). r.waits) same ∙ e) in
+        subst (IsOpen core) one open_one)
+
+pub leaves-none : (c : ℕ) (a : CoreValue) (rows : List Row) → LeavesOthers c a rows a rows
+leaves-none c a rows = record {
+  others = All-weaker (Contains rows) (λ (r : Row). r.number ≢ c → Contains rows r) (λ r w not. w) rows (All-contains_itself rows);
+  kept = λ k lt w. w;
+}
+
+pub leaves-same : (c : ℕ) (a b : CoreValue) (rows : List Row) → b.answers ≡ a.answers → LeavesOthers c a rows b rows
+leaves-same c a b rows answers = record { others = (leaves-none c a rows).others; kept = λ k lt w. rw answers w }
+
+-- the row of a connection is set
+pub leaves-with : (c : ℕ) (k : Option ℕ) (a b : CoreValue) (rows : List Row) (r0 : Row) → Serves a rows → row_at c rows ≡ Some r0 → ((k : ℕ) → k < length a.entries → IsOpen a k → IsOpen b k)
+    → LeavesOthers c a rows b (with_waits c k rows)
+leaves-with c k a b rows r0 s stands kept = record {
+  others = all-with (Contains rows) (λ (r : Row). r.number ≢ c → Contains rows r) c k rows r0 s.numbered stands (λ r not w other. w) (λ is w other. absurd (other is)) (All-contains_itself rows);
+  kept = kept;
+}
+
+pub leaves-taken : (c : ℕ) (a b : CoreValue) (rows : List Row) (g : Given) → Serves a rows → IsRow rows c (Some g.ask) → Takes a b g → LeavesOthers c a rows b (with_waits c None rows)
+leaves-taken c a b rows g s row t =
+    leaves-with c None a b rows row.row s row.stands (λ k lt w. rw (t.answers) (All-filter (λ (x : Given). not (x.ask == g.ask)) (λ (x : Given). x.ask ≢ k) a.answers w))
+
+pub told-taken : (c : ℕ) (a b : CoreValue) (rows : List Row) (g : Given) → Serves a rows → IsRow rows c (Some g.ask) → IsServedOn c b (with_waits c None rows)
+told-taken c a b rows g s row =
+    all-with (Contains rows) (λ (r : Row). r.number ≡ c → (k : ℕ) → r.waits ≡ Some k → IsOpen b k) c None rows row.row s.numbered row.stands
+    (λ r not w same. absurd (not same)) (λ is w same k e. absurd (none-some k e)) (All-contains_itself rows)
+
+-- the rows without a connection's
+pub leaves-without : (c : ℕ) (a b : CoreValue) (rows : List Row) → b.answers ≡ a.answers → LeavesOthers c a rows b (without_row c rows)
+leaves-without c a b rows answers = record {
+  others = All-filter (λ (r : Row). not (r.number == c)) (λ (r : Row). r.number ≢ c → Contains rows r) rows (leaves-none c a rows).others;
+  kept = λ k lt w. rw answers w;
+}
+
+pub told-without : (c : ℕ) (b : CoreValue) (rows : List Row) → IsServedOn c b (without_row c rows)
+told-without c b rows =
+    All-weaker (λ (r : Row). not (r.number == c) ≡ true) (λ (r : Row). r.number ≡ c → (k : ℕ) → r.waits ≡ Some k → IsOpen b k)
+    (λ r passes same. absurd (kept-out r.number passes same)) (without_row c rows) (filter_passes (λ (r : Row). not (r.number == c)) rows)
+  where
+    kept-out : (n : ℕ) → not (n == c) ≡ true → n ≡ c → ⊥
+    kept-out n passes same = elim (eqb_tells n c) [ inl u ↦ differs (sym (rw (u.0) at passes)) | inr u ↦ u.1 same ]
+      where
+        differs : true ≡ not true → ⊥
+        differs f = absurd cc
+
+grown : (h more : List Written) (h1 : List Written) → h1 ≡ h ++ more → length h ≤ length h1
+grown h more h1 e = let le = longer h more in rw e le
+
+pub leaves-on : (c : ℕ) (a b d : CoreValue) (ra rb rd : List Row) → Grows a.entries b.entries → LeavesOthers c a ra b rb → LeavesOthers c b rb d rd → LeavesOthers c a ra d rd
+leaves-on c a b d ra rb rd grows first second = record {
+  others = All-weaker (λ (r : Row). r.number ≢ c → Contains rb r) (λ (r : Row). r.number ≢ c → Contains ra r)
+      (λ r w not. All-contains (λ (r : Row). r.number ≢ c → Contains ra r) rb r first.others (w not) not) rd second.others;
+  kept = λ k lt w. let le = grown a.entries grows.0 b.entries grows.1 in second.kept k (omega (arith, lt, le)) (first.kept k lt w);
+}
+
+-- Who waited for what isn't answered, does so still.
+pub calm-on : (asks : ℕ → Type 0) (c : ℕ) (a b : CoreValue) (ra rb : List Row) → Serves a ra → LeavesOthers c a ra b rb → IsServedOn c b rb → Calm asks a ra → Calm asks b rb
+calm-on asks c a b ra rb s leaves told calm =
+    All-weaker (Contains rb) (λ (r : Row). (k : ℕ) → r.waits ≡ Some k → asks k → IsOpen b k) (λ r has k e ask.
+        elim (eqb_tells r.number c) [
+          | inl u ↦ All-contains (λ (r : Row). r.number ≡ c → (k : ℕ) → r.waits ≡ Some k → IsOpen b k) rb r told has u.1 k e
+          | inr u ↦
+              let there : Contains ra r = All-contains (λ (r : Row). r.number ≢ c → Contains ra r) rb r leaves.others has u.1 in
+              let asked : WaitsFor a.entries r.number r.waits = All-contains (λ (r : Row). WaitsFor a.entries r.number r.waits) ra r s.asked there in
+              leaves.kept k (ask-below a.entries r.number k (waits-for a.entries r.number k r.waits e asked))
+              (All-contains (λ (r : Row). (k : ℕ) → r.waits ≡ Some k → asks k → IsOpen a k) ra r calm there k e ask)
+        ]) rb (All-contains_itself rb)
+
+-- Behind the first that waits, those up to it are calm.
+pub calm-next : (from : ℕ) (w : ℕ × ℕ) (a b : CoreValue) (ra rb : List Row) → Serves a ra → IsFirstWaiting from ra w → LeavesOthers w.1 a ra b rb → IsServedOn w.1 b rb
+    → Calm (λ k. k < from) a ra → Calm (λ k. k < w.0 + 1) b rb
+calm-next from w a b ra rb s first leaves told calm =
+    All-weaker (Contains rb) (λ (r : Row). (k : ℕ) → r.waits ≡ Some k → k < w.0 + 1 → IsOpen b k) (λ r has k e lt.
+        elim (eqb_tells r.number w.1) [
+          | inl u ↦ All-contains (λ (r : Row). r.number ≡ w.1 → (k : ℕ) → r.waits ≡ Some k → IsOpen b k) rb r told has u.1 k e
+          | inr u ↦
+              let there : Contains ra r = All-contains (λ (r : Row). r.number ≢ w.1 → Contains ra r) rb r leaves.others has u.1 in
+              let asked : HasAsk a.entries r.number k =
+              waits-for a.entries r.number k r.waits e (All-contains (λ (r : Row). WaitsFor a.entries r.number r.waits) ra r s.asked there) in
+              leaves.kept k (ask-below a.entries r.number k asked)
+              (All-contains (λ (r : Row). (k : ℕ) → r.waits ≡ Some k → k < from → IsOpen a k) ra r calm there k e (early r k there e asked lt u.1))
+        ]) rb (All-contains_itself rb)
+  where
+    early : (r : Row) (k : ℕ) → Contains ra r → r.waits ≡ Some k → HasAsk a.entries r.number k → k < w.0 + 1 → r.number ≢ w.1 → k < from
+    early r k there e asked lt not = elim (cases_lt k from) [
+      | inl before ↦ before
+      | inr after ↦
+          let le = All-contains (λ (r : Row). (k : ℕ) → r.waits ≡ Some k → from ≤ k → w.0 ≤ k) ra r first.least there k e after in
+          let same : w.0 ≡ k = omega (arith, le, lt) in
+          let mine : HasAsk a.entries first.row.number w.0 =
+          waits-for a.entries first.row.number w.0 first.row.waits first.waits (All-contains (λ (r : Row). WaitsFor a.entries r.number r.waits) ra first.row s.asked first.stands) in
+          absurd (not (ask-one a.entries r.number first.row.number k asked (subst (HasAsk a.entries first.row.number) same mine) ∙ first.number))
+    ]
+
+pub calm-none : (core : CoreValue) (rows : List Row) → Calm (λ k. k < 0) core rows
+calm-none core rows =
+    All-weaker (Contains rows) (λ (r : Row). (k : ℕ) → r.waits ≡ Some k → k < 0 → IsOpen core k) (λ r has k e lt. absurd (omega (arith, lt))) rows (All-contains_itself rows)
+
+-- where none waits from there on
+pub calm-all : (from : ℕ) (core : CoreValue) (rows : List Row) → IsWaitedFrom from rows None → Calm (λ k. k < from) core rows → Calm (λ k. ⊤) core rows
+calm-all from core rows none calm =
+    All-weaker (Contains rows) (λ (r : Row). (k : ℕ) → r.waits ≡ Some k → ⊤ → IsOpen core k) (λ r has k e any.
+        All-contains (λ (r : Row). (k : ℕ) → r.waits ≡ Some k → k < from → IsOpen core k) rows r calm has k e
+        (All-contains (λ (r : Row). (k : ℕ) → r.waits ≡ Some k → k < from) rows r none has k e)) rows (All-contains_itself rows)
+
+-- one connection of those that are settled
+pub told-one : (c : ℕ) (core : CoreValue) (rows : List Row) → Calm (λ k. ⊤) core rows → IsServedOn c core rows
+told-one c core rows calm =
+    All-weaker (λ (r : Row). (k : ℕ) → r.waits ≡ Some k → ⊤ → IsOpen core k) (λ (r : Row). r.number ≡ c → (k : ℕ) → r.waits ≡ Some k → IsOpen core k)
+    (λ r f same k e. f k e tt) rows calm
+
+-- what holds anyhow, and one call behind another
+pub on-ok : {X E : Type 0} (r : Result X E) (P : Type 0) → P → OnOk r P
+on-ok (Ok x) P p = p
+on-ok (Err e) P p = tt
+
+pub told-then : {X E : Type 0} (r : Result X E) (P Q : Type 0) → P → OnOk r (P → Q) → OnOk r Q
+told-then (Ok x) P Q p f = f p
+told-then (Err e) P Q p f = tt
+
+pub leaves-then : {X E : Type 0} (r : Result X E) (c : ℕ) (a b d : CoreValue) (ra rb rd : List Row) → Grows a.entries b.entries → LeavesOthers c a ra b rb
+    → OnOk r (LeavesOthers c b rb d rd) → OnOk r (LeavesOthers c a ra d rd)
+leaves-then (Ok x) c a b d ra rb rd grows first second = leaves-on c a b d ra rb rd grows first second
+leaves-then (Err e) c a b d ra rb rd grows first second = tt
+
+pub sent-then : {X E O : Type 0} (r : Result X E) (a b d : List O) → (a ≡ [] → b ≡ []) → OnOk r (b ≡ [] → d ≡ []) → OnOk r (a ≡ [] → d ≡ [])
+sent-then (Ok x) a b d first second = λ e. second (first e)
+sent-then (Err e) a b d first second = tt
+
+-- A connection was served, and all is settled still.
+pub settled-served : {X E : Type 0} (r : Result X E) (c : ℕ) (a d : CoreValue) (ra rd : List Row) → Serves a ra → OnOk r (LeavesOthers c a ra d rd)
+    → OnOk r (IsServedOn c a ra → IsServedOn c d rd) → OnOk r (a.sends ≡ [] → d.sends ≡ []) → OnOk r (Settled a ra → Settled d rd)
+settled-served (Ok x) c a d ra rd s leaves told sent = λ w. record {
+  sends = sent w.sends;
+  answers = calm-on (λ k. ⊤) c a d ra rd s leaves (told (told-one c a ra w.answers)) w.answers;
+}
+settled-served (Err e) c a d ra rd s leaves told sent = tt
+
+pub settled-same : (a d : CoreValue) (rows : List Row) → d.answers ≡ a.answers → d.sends ≡ a.sends → Settled a rows → Settled d rows
+settled-same a d rows answers sends w = record { sends = sends ∙ w.sends; answers = rw answers (w.answers) }
+
+pub settled-opened : (a d : CoreValue) (rows : List Row) (n : ℕ) → d.answers ≡ a.answers → d.sends ≡ a.sends → Settled a rows → Settled d (rows ++ record { number = n; waits = None } ∷ [])
+settled-opened a d rows n answers sends w = record {
+  sends = sends ∙ w.sends;
+  answers = rw answers (All-push (λ (r : Row). (k : ℕ) → r.waits ≡ Some k → ⊤ → IsOpen a k) rows (record { number = n; waits = None }) w.answers (λ k e any. absurd (none-some k e)));
+}
+
+pub settled-without : (a d : CoreValue) (rows : List Row) (c : ℕ) → d.answers ≡ a.answers → d.sends ≡ a.sends → Settled a rows → Settled d (without_row c rows)
+settled-without a d rows c answers sends w = record {
+  sends = sends ∙ w.sends;
+  answers = rw answers (All-filter (λ (r : Row). not (r.number == c)) (λ (r : Row). (k : ℕ) → r.waits ≡ Some k → ⊤ → IsOpen a k) rows w.answers);
+}
+
+-- Where all is settled, each connection that is served was told all its answers.
+pub settled-told : (a : CoreValue) (rows : List Row) → Serves a rows → Settled a rows → All (λ (r : Row). untold a r.number ≡ []) rows
+settled-told a rows s w =
+    All-weaker (Contains rows) (λ (r : Row). untold a r.number ≡ []) (λ r has.
+        none-of r (All-contains (λ (r : Row). (k : ℕ) → r.waits ≡ Some k → ⊤ → IsOpen a k) rows r w.answers has) has a.answers s.claimed (All-contains_itself a.answers))
+    rows (All-contains_itself rows)
+  where
+    none-of : (r : Row) → ((k : ℕ) → r.waits ≡ Some k → ⊤ → IsOpen a k) → Contains rows r → (gs : List Given) → All (IsClaimed a.entries a.conns rows) gs → All (Contains a.answers) gs
+        → filter (λ (n : ℕ). answers_at a.entries n r.number) (map number_in gs) ≡ []
+    none-of r calm has [] claimed there = refl
+    none-of r calm has (g ∷ gs) claimed there =
+        let rest = none-of r calm has gs (All-tail (IsClaimed a.entries a.conns rows) g gs claimed) (All-tail (Contains a.answers) g gs there) in
+        let mine = All-head (IsClaimed a.entries a.conns rows) g gs claimed in
+        elim (cases_Bool (answers_at a.entries g.number r.number)) [
+          | inl y ↦
+              let waits = All-contains (λ (r : Row). answers_at a.entries g.number r.number ≡ true → r.waits ≡ Some g.ask) rows r mine.row has y in
+              absurd (All-contains (λ (x : Given). x.ask ≢ g.ask) a.answers g (calm g.ask waits tt) (All-head (Contains a.answers) g gs there) refl)
+          | inr n ↦ rw n rest
+        ]
