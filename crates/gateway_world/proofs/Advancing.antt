@@ -6,7 +6,7 @@ use Rattle.std.proofs.lemmas.Bool.{cases_Bool}
 use Rattle.std.proofs.lemmas.Bool.Decides.{eqb_tells}
 use Rattle.std.proofs.lemmas.Grind.{flat_map-append}
 use Rattle.std.proofs.lemmas.List.{append-nil, append_assoc}
-use Rattle.std.proofs.lemmas.List.Elements.{All-nil, All-cons, All-weaker, All-map, All-filter, All-contains_itself}
+use Rattle.std.proofs.lemmas.List.Elements.{All-nil, All-cons, All-weaker, All-map, All-filter, All-contains_itself, filter_passes}
 use Rattle.uri_map.specs.declared.peer.Peer.{Peer}
 use Rattle.ask_model.specs.Requests.{Sense, Requests, Refuses}
 use Rattle.ask_model.specs.Views.{Mapping}
@@ -74,6 +74,21 @@ closing true a b c X w none quiet closed unknown answers sends =
     let two = closed refl in
     one-alone a b w none quiet two.0 sends answers (rw (two.1) (All-filter (λ (x : Conn). not (x.id == c)) (ComesFrom a.conns) a.conns (comes-same a.conns)))
 closing false a b c X w none quiet closed unknown answers sends = same-alone a b (unknown refl).1
+
+-- It is gone.
+pub closed-gone : (r : Bool) (a b : CoreValue) (c : ℕ) (X : Type 0)
+    → (IsTrue r → X × (b.conns ≡ filter (λ (x : Conn). not (x.id == c)) a.conns))
+    → (IsFalse r → All (λ (x : Conn). x.id ≢ c) a.conns × (b ≡ a)) → All (λ (x : Conn). x.id ≢ c) b.conns
+closed-gone true a b c X closed unknown =
+    rw ((closed refl).1) (All-weaker (λ (x : Conn). not (x.id == c) ≡ true) (λ (x : Conn). x.id ≢ c) (λ x passes same. kept-out x.id passes same)
+    (filter (λ (x : Conn). not (x.id == c)) a.conns) (filter_passes (λ (x : Conn). not (x.id == c)) a.conns))
+  where
+    kept-out : (n : ℕ) → not (n == c) ≡ true → n ≡ c → ⊥
+    kept-out n passes same = elim (eqb_tells n c) [ inl u ↦ differs (sym (rw (u.0) at passes)) | inr u ↦ u.1 same ]
+      where
+        differs : true ≡ not true → ⊥
+        differs f = absurd cc
+closed-gone false a b c X closed unknown = let two = unknown refl in rw (two.1) (two.0)
 
 -- an ask
 at-once : (a b : CoreValue) (t n conn : ℕ) (m : Mapping) (cause : _) → n ≡ length a.entries → AnswersAtOnce t n conn m cause a b → Advances a b

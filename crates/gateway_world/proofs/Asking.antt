@@ -4,7 +4,7 @@ use Rattle.std.specs.Prelude.{◌==◌}
 use Rattle.std.specs.List.{All, slice_get}
 use Rattle.std.proofs.lemmas.Bool.Decides.{eqb_tells}
 use Rattle.std.proofs.lemmas.List.{append_assoc, map-append}
-use Rattle.std.proofs.lemmas.List.Elements.{All-nil, All-cons, All-head, All-tail, All-weaker, All-push, All-map}
+use Rattle.std.proofs.lemmas.List.Elements.{All-nil, All-cons, All-head, All-tail, All-weaker, All-push, All-map, Contains-append_left, Contains-append_right}
 use Rattle.std.proofs.lemmas.List.Sums.{sum_by-append}
 use Rattle.ask_model.specs.Requests.{Sense, Requests, Refuses}
 use Rattle.ask_model.specs.Views.{Mapping}
@@ -90,12 +90,14 @@ serves-open a b rows t n fresh entries conns answers s =
           (All-weaker (IsServed h rows) (IsServed h1 rows1) (λ x v.
           let u = served-more h w rows x v in
           record {
+            there = rw (map-append number_of rows (row ∷ [])) (Contains-append_left (map number_of rows) (n ∷ []) x.id u.there);
             opened = u.opened;
             asked = u.asked;
             row = All-push (λ (r : Row). r.number ≡ x.id → (k : ℕ) → x.pending ≡ Some k → r.waits ≡ Some k) rows row u.row
                 (λ same. let lt = v.opened in absurd (omega (arith, lt, fresh, same)));
           }) a.conns s.served)
           (record {
+            there = rw (map-append number_of rows (row ∷ [])) (Contains-append_right (map number_of rows) (n ∷ []) n (0, omega arith, refl));
             opened = omega (arith, fresh, more);
             asked = tt;
             row = all-of (λ (r : Row). r.number ≡ n → (k : ℕ) → None ≡ Some k → r.waits ≡ Some k) (λ r same k e. absurd (none-is k e)) rows1;
@@ -166,6 +168,7 @@ module _ (a b : CoreValue) (rows : List Row) (conn n : ℕ) (more : List Written
   old-served x v =
       let u = served-more a.entries more rows x v in
       record {
+        there = rw (with-numbers conn (Some n) rows) (u.there);
         opened = u.opened;
         asked = u.asked;
         row = all-with (λ (r : Row). r.number ≡ x.id → (k : ℕ) → x.pending ≡ Some k → r.waits ≡ Some k) (λ (r : Row). r.number ≡ x.id → (k : ℕ) → x.pending ≡ Some k → r.waits ≡ Some k) conn (Some n) rows idle.row s.numbered idle.stands (λ r not w. w)
@@ -228,6 +231,7 @@ serves-opened a b rows t n conn m q place s idle w =
     let one : (x : Conn) → IsServed h rows x → IsServed (h ++ more) rows1 (pend conn (Some n) x) =
     λ x v. elim (eqb_tells x.id conn) [
       | inl u ↦ rw (u.0) (record {
+        there = rw (with-numbers conn (Some n) rows) (v.there);
         opened = (served-more h more rows x v).opened;
         asked = subst (λ (c : ℕ). HasAsk (h ++ more) c n) (sym u.1) has;
         row = all-with (λ (r : Row). r.number < connections h) (λ (r : Row). r.number ≡ x.id → (k : ℕ) → Some n ≡ Some k → r.waits ≡ Some k) conn (Some n) rows idle.row s.numbered idle.stands

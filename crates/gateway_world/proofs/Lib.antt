@@ -1,5 +1,6 @@
 pub mod Advancing
 pub mod Asking
+pub mod Attending
 pub mod Bodies
 pub mod Counting
 pub mod Faults

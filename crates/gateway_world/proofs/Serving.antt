@@ -1,10 +1,10 @@
 -- The rows go with the core behind each step.
 use Rattle.std.proofs.Common.{◌≡◌, ◌≢◌, ℕ, ◌+◌, ◌<◌, ◌≤◌, Bool, true, false, cond, inl, inr, List, [], ◌∷◌, ◌++◌, length, map, Option, Some, None, Result, Ok, Err, OnErr, refl, sym, ap, subst, ◌∙◌, arith, length-append}
 use Rattle.std.specs.Prelude.{◌==◌, not}
-use Rattle.std.specs.List.{All}
+use Rattle.std.specs.List.{All, Contains}
 use Rattle.std.proofs.lemmas.Bool.Decides.{eqb_tells}
 use Rattle.std.proofs.lemmas.List.{map-append}
-use Rattle.std.proofs.lemmas.List.Elements.{All-nil, All-cons, All-head, All-tail, All-weaker, All-append, All-map, All-filter, All-contains}
+use Rattle.std.proofs.lemmas.List.Elements.{All-nil, All-cons, All-head, All-tail, All-weaker, All-append, All-map, All-filter, All-contains, Contains-append_right, All-contains_itself}
 use Rattle.std.proofs.lemmas.List.Sums.{sum_by-append}
 use Rattle.journal_book.specs.Entries.{Asks, Written}
 use Rattle.ask_model.specs.Requests.{Ask}
@@ -12,7 +12,7 @@ use Rattle.history_laws.specs.declared.kept.Conn.{Conn}
 use Rattle.exchange_core.specs.CoreValue.{CoreValue, connections, opens_deed}
 use Rattle.exchange_core.specs.Answering.{Given}
 use Rattle.gateway_world.specs.Steps.{answers_at, all_answered}
-use Rattle.gateway_world.specs.Rows.{Row, HasAsk, WaitsFor, IsServed, IsClaimed, Serves, ComesFrom, IsNewAnswer, AnswersAlone, without_row}
+use Rattle.gateway_world.specs.Rows.{Row, HasAsk, WaitsFor, IsThere, IsServed, IsClaimed, Serves, ComesFrom, IsNewAnswer, AnswersAlone, without_row}
 use Rattle.gateway_world.proofs.Counting.{slice_get-below, slice_get-kept, answers-more, answers-below, answered-from, answered-rise, rising-append, rising-filtered}
 
 abbrev pub number_of : Row → ℕ
@@ -62,6 +62,7 @@ standing-of a rows s = standing a.entries a.conns rows a.answers s.claimed
 -- a connection of the core, behind more entries and with other rows
 pub served-more : (h more : List Written) (rows : List Row) (x : Conn) → IsServed h rows x → IsServed (h ++ more) rows x
 served-more h more rows x w = record {
+  there = w.there;
   opened = let le = connections-more h more in let lt = w.opened in omega (arith, le, lt);
   asked = waits-more h more x.id x.pending w.asked;
   row = w.row;
@@ -73,12 +74,14 @@ came-served h more rows cs y all w =
     let v = served-more h more rows x (All-contains (IsServed h rows) cs x all w.stands) in
     elim (w.waits) [
       | inl none ↦ record {
+        there = rw (w.id) (v.there);
         opened = rw (w.id) (v.opened);
         asked = rw none tt;
         row = All-weaker (λ (r : Row). r.number ≡ x.id → (k : ℕ) → x.pending ≡ Some k → r.waits ≡ Some k) (λ (r : Row). r.number ≡ y.id → (k : ℕ) → y.pending ≡ Some k → r.waits ≡ Some k)
             (λ r u same k waits. absurd (not-some k (sym none ∙ waits))) rows v.row;
       }
       | inr like ↦ record {
+        there = rw (w.id) (v.there);
         opened = rw (w.id) (v.opened);
         asked = rw (w.id, like) (v.asked);
         row = All-weaker (λ (r : Row). r.number ≡ x.id → (k : ℕ) → x.pending ≡ Some k → r.waits ≡ Some k) (λ (r : Row). r.number ≡ y.id → (k : ℕ) → y.pending ≡ Some k → r.waits ≡ Some k)
@@ -168,19 +171,35 @@ serves-on a b rows w s =
           (answered-rise (length h) more) (answered-from (length h) more));
     }
 
--- a connection is no longer served
-pub serves-without : (a : CoreValue) (rows : List Row) (c : ℕ) → Serves a rows → Serves a (without_row c rows)
-serves-without a rows c s =
+-- the others stay
+there-without : (c : ℕ) (rows : List Row) → All (λ (n : ℕ). n ≢ c → IsThere (without_row c rows) n) (map number_of rows)
+there-without c [] = All-nil (λ (n : ℕ). n ≢ c → IsThere (without_row c []) n)
+there-without c (r ∷ rows) =
+    let rest = there-without c rows in
+    elim (eqb_tells r.number c) [
+      | inl u ↦ rw (u.0) (All-cons (λ (n : ℕ). n ≢ c → IsThere (without_row c rows) n) r.number (map number_of rows) (λ not. absurd (not u.1)) rest)
+      | inr u ↦ rw (u.0) (All-cons (λ (n : ℕ). n ≢ c → IsThere (r ∷ without_row c rows) n) r.number (map number_of rows) (λ not. (0, omega arith, refl))
+          (All-weaker (λ (n : ℕ). n ≢ c → IsThere (without_row c rows) n) (λ (n : ℕ). n ≢ c → IsThere (r ∷ without_row c rows) n)
+          (λ n f not. Contains-append_right (r.number ∷ []) (map number_of (without_row c rows)) n (f not)) (map number_of rows) rest))
+    ]
+
+-- a connection that the core has no more is no longer served
+pub serves-without : (a : CoreValue) (rows : List Row) (c : ℕ) → All (λ (x : Conn). x.id ≢ c) a.conns → Serves a rows → Serves a (without_row c rows)
+serves-without a rows c gone s =
     let p : Row → Bool = λ r. not (r.number == c) in
     record {
       numbered = rising-filtered number_of p rows s.numbered;
       opened = All-filter p (λ (r : Row). r.number < connections a.entries) rows s.opened;
       asked = All-filter p (λ (r : Row). WaitsFor a.entries r.number r.waits) rows s.asked;
-      served = All-weaker (IsServed a.entries rows) (IsServed a.entries (without_row c rows)) (λ x w. record {
+      served = All-weaker (Contains a.conns) (IsServed a.entries (without_row c rows)) (λ x has.
+      let w : IsServed a.entries rows x = All-contains (IsServed a.entries rows) a.conns x s.served has in
+      record {
+        there = All-contains (λ (n : ℕ). n ≢ c → IsThere (without_row c rows) n) (map number_of rows) x.id (there-without c rows) w.there
+            (All-contains (λ (x : Conn). x.id ≢ c) a.conns x gone has);
         opened = w.opened;
         asked = w.asked;
         row = All-filter p (λ (r : Row). r.number ≡ x.id → (k : ℕ) → x.pending ≡ Some k → r.waits ≡ Some k) rows w.row;
-      }) a.conns s.served;
+      }) a.conns (All-contains_itself a.conns);
       claimed = All-weaker (IsClaimed a.entries a.conns rows) (IsClaimed a.entries a.conns (without_row c rows)) (λ g w. record {
         stands = w.stands;
         asked = w.asked;

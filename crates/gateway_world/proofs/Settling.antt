@@ -1,18 +1,18 @@
 -- What is told, and what is left for the others.
-use Rattle.std.proofs.Common.{◌≡◌, ◌≢◌, ℕ, ◌+◌, ◌<◌, ◌≤◌, Bool, true, false, not, inl, inr, List, [], ◌∷◌, ◌++◌, length, map, Option, Some, None, Result, Ok, Err, OnOk, refl, sym, ap, subst, ◌∙◌, arith}
+use Rattle.std.proofs.Common.{◌≡◌, ◌≢◌, ℕ, zero, suc, ◌+◌, ◌<◌, ◌≤◌, Bool, true, false, not, inl, inr, List, [], ◌∷◌, ◌++◌, length, map, Option, Some, None, Result, Ok, Err, OnOk, refl, sym, ap, subst, ◌∙◌, arith}
 use Rattle.std.specs.Prelude.{◌==◌, ⊤}
 use Rattle.std.specs.List.{All, Contains, filter}
 use Rattle.std.proofs.lemmas.Bool.{cases_lt, cases_Bool}
 use Rattle.std.proofs.lemmas.Bool.Decides.{eqb_tells}
-use Rattle.std.proofs.lemmas.List.Elements.{All-nil, All-cons, All-head, All-tail, All-weaker, All-push, All-filter, All-contains, All-contains_itself, filter_passes}
+use Rattle.std.proofs.lemmas.List.Elements.{All-nil, All-cons, All-head, All-tail, All-weaker, All-push, All-filter, All-contains, All-contains_itself, filter_passes, Contains-append_right}
 use Rattle.journal_book.specs.Entries.{Written}
 use Rattle.exchange_core.specs.CoreValue.{CoreValue}
 use Rattle.exchange_core.specs.Answering.{Given}
-use Rattle.gateway_world.specs.Steps.{Grows, untold, answers_at}
-use Rattle.gateway_world.specs.Rows.{Row, AreRising, HasAsk, WaitsFor, IsClaimed, Serves, IsRow, row_at, with_waits, without_row, IsOpen, Calm, Settled, IsServedOn, LeavesOthers, IsFirstWaiting, IsWaitedFrom}
+use Rattle.gateway_world.specs.Steps.{Grows}
+use Rattle.gateway_world.specs.Rows.{Row, AreRising, HasAsk, WaitsFor, IsThere, IsServed, Serves, IsRow, row_at, with_waits, without_row, IsOpen, Calm, Settled, IsAttended, Attended, IsNewAnswer, AnswersAlone, IsServedOn, LeavesOthers, IsFirstWaiting, IsWaitedFrom}
 use Rattle.gateway_world.proofs.Serving.{number_of, number_in, some-same, ask-below, ask-one, waits-for, longer, SameServed}
 use Rattle.gateway_world.proofs.Asking.{all-with}
-use Rattle.gateway_world.proofs.Taking.{Takes}
+use Rattle.gateway_world.proofs.Taking.{Takes, key-kept}
 
 away : (P : Row → Type 0) (c : ℕ) (rs : List Row) → All (λ (m : ℕ). c < m) (map number_of rs) → All (λ (r : Row). r.number ≡ c → P r) rs
 away P c [] above = All-nil (λ (r : Row). r.number ≡ c → P r)
@@ -38,6 +38,10 @@ pub served-idle : (c : ℕ) (core : CoreValue) (rows : List Row) → AreRising (
 served-idle c core rows rising idle =
     row-only (λ (r : Row). (k : ℕ) → r.waits ≡ Some k → IsOpen core k) c rows rising (λ r is k e. absurd (none-some k (sym (idle r is) ∙ e)))
 
+pub served-idle-row : (c : ℕ) (core : CoreValue) (rows : List Row) → AreRising (map number_of rows) → IsRow rows c None → IsServedOn c core rows
+served-idle-row c core rows rising idle =
+    served-idle c core rows rising (λ r is. ap (λ (r : Row). r.waits) (sym (some-same idle.row r (sym idle.stands ∙ is))) ∙ idle.waits)
+
 -- one that waits for an ask that isn't answered
 pub served-open : (c k : ℕ) (core : CoreValue) (rows : List Row) → AreRising (map number_of rows) → IsRow rows c (Some k) → IsOpen core k → IsServedOn c core rows
 served-open c k core rows rising row open_one =
@@ -46,20 +50,48 @@ served-open c k core rows rising row open_one =
         let one : k ≡ j = some-same k j (sym row.waits ∙ ap (λ (r : Row). r.waits) same ∙ e) in
         subst (IsOpen core) one open_one)
 
+Contains-cons : (r s : Row) (rows : List Row) → Contains rows s → Contains (r ∷ rows) s
+Contains-cons r s rows has = Contains-append_right (r ∷ []) rows s has
+
+stay-with : (c : ℕ) (k : Option ℕ) (rows : List Row) → All (λ (r : Row). r.number ≢ c → Contains (with_waits c k rows) r) rows
+stay-with c k [] = All-nil (λ (r : Row). r.number ≢ c → Contains (with_waits c k []) r)
+stay-with c k (r ∷ rows) =
+    elim (eqb_tells r.number c) [
+      | inl u ↦ rw (u.0) (All-cons (λ (s : Row). s.number ≢ c → Contains (record { number = r.number; waits = k } ∷ rows) s) r rows (λ not. absurd (not u.1))
+          (All-weaker (Contains rows) (λ (s : Row). s.number ≢ c → Contains (record { number = r.number; waits = k } ∷ rows) s)
+          (λ s has not. Contains-cons (record { number = r.number; waits = k }) s rows has) rows (All-contains_itself rows)))
+      | inr u ↦ rw (u.0) (All-cons (λ (s : Row). s.number ≢ c → Contains (r ∷ with_waits c k rows) s) r rows (λ not. (0, omega arith, refl))
+          (All-weaker (λ (s : Row). s.number ≢ c → Contains (with_waits c k rows) s) (λ (s : Row). s.number ≢ c → Contains (r ∷ with_waits c k rows) s)
+          (λ s f not. Contains-cons r s (with_waits c k rows) (f not)) rows (stay-with c k rows)))
+    ]
+
+stay-without : (c : ℕ) (rows : List Row) → All (λ (r : Row). r.number ≢ c → Contains (without_row c rows) r) rows
+stay-without c [] = All-nil (λ (r : Row). r.number ≢ c → Contains (without_row c []) r)
+stay-without c (r ∷ rows) =
+    let rest = stay-without c rows in
+    elim (eqb_tells r.number c) [
+      | inl u ↦ rw (u.0) (All-cons (λ (s : Row). s.number ≢ c → Contains (without_row c rows) s) r rows (λ not. absurd (not u.1)) rest)
+      | inr u ↦ rw (u.0) (All-cons (λ (s : Row). s.number ≢ c → Contains (r ∷ without_row c rows) s) r rows (λ not. (0, omega arith, refl))
+          (All-weaker (λ (s : Row). s.number ≢ c → Contains (without_row c rows) s) (λ (s : Row). s.number ≢ c → Contains (r ∷ without_row c rows) s)
+          (λ s f not. Contains-cons r s (without_row c rows) (f not)) rows rest))
+    ]
+
 pub leaves-none : (c : ℕ) (a : CoreValue) (rows : List Row) → LeavesOthers c a rows a rows
 leaves-none c a rows = record {
   others = All-weaker (Contains rows) (λ (r : Row). r.number ≢ c → Contains rows r) (λ r w not. w) rows (All-contains_itself rows);
+  stay = All-weaker (Contains rows) (λ (r : Row). r.number ≢ c → Contains rows r) (λ r w not. w) rows (All-contains_itself rows);
   kept = λ k lt w. w;
 }
 
 pub leaves-same : (c : ℕ) (a b : CoreValue) (rows : List Row) → b.answers ≡ a.answers → LeavesOthers c a rows b rows
-leaves-same c a b rows answers = record { others = (leaves-none c a rows).others; kept = λ k lt w. rw answers w }
+leaves-same c a b rows answers = record { others = (leaves-none c a rows).others; stay = (leaves-none c a rows).stay; kept = λ k lt w. rw answers w }
 
 -- the row of a connection is set
 pub leaves-with : (c : ℕ) (k : Option ℕ) (a b : CoreValue) (rows : List Row) (r0 : Row) → Serves a rows → row_at c rows ≡ Some r0 → ((k : ℕ) → k < length a.entries → IsOpen a k → IsOpen b k)
     → LeavesOthers c a rows b (with_waits c k rows)
 leaves-with c k a b rows r0 s stands kept = record {
   others = all-with (Contains rows) (λ (r : Row). r.number ≢ c → Contains rows r) c k rows r0 s.numbered stands (λ r not w other. w) (λ is w other. absurd (other is)) (All-contains_itself rows);
+  stay = stay-with c k rows;
   kept = kept;
 }
 
@@ -76,6 +108,7 @@ told-taken c a b rows g s row =
 pub leaves-without : (c : ℕ) (a b : CoreValue) (rows : List Row) → b.answers ≡ a.answers → LeavesOthers c a rows b (without_row c rows)
 leaves-without c a b rows answers = record {
   others = All-filter (λ (r : Row). not (r.number == c)) (λ (r : Row). r.number ≢ c → Contains rows r) rows (leaves-none c a rows).others;
+  stay = stay-without c rows;
   kept = λ k lt w. rw answers w;
 }
 
@@ -97,6 +130,8 @@ pub leaves-on : (c : ℕ) (a b d : CoreValue) (ra rb rd : List Row) → Grows a.
 leaves-on c a b d ra rb rd grows first second = record {
   others = All-weaker (λ (r : Row). r.number ≢ c → Contains rb r) (λ (r : Row). r.number ≢ c → Contains ra r)
       (λ r w not. All-contains (λ (r : Row). r.number ≢ c → Contains ra r) rb r first.others (w not) not) rd second.others;
+  stay = All-weaker (λ (r : Row). r.number ≢ c → Contains rb r) (λ (r : Row). r.number ≢ c → Contains rd r)
+      (λ r w not. All-contains (λ (r : Row). r.number ≢ c → Contains rd r) rb r second.stay (w not) not) ra first.stay;
   kept = λ k lt w. let le = grown a.entries grows.0 b.entries grows.1 in second.kept k (omega (arith, lt, le)) (first.kept k lt w);
 }
 
@@ -165,6 +200,10 @@ pub told-then : {X E : Type 0} (r : Result X E) (P Q : Type 0) → P → OnOk r 
 told-then (Ok x) P Q p f = f p
 told-then (Err e) P Q p f = tt
 
+pub attended-then : {X E : Type 0} (r : Result X E) (P Q S : Type 0) → (P → Q) → OnOk r (Q → S) → OnOk r (P → S)
+attended-then (Ok x) P Q S f h = λ p. h (f p)
+attended-then (Err e) P Q S f h = tt
+
 pub leaves-then : {X E : Type 0} (r : Result X E) (c : ℕ) (a b d : CoreValue) (ra rb rd : List Row) → Grows a.entries b.entries → LeavesOthers c a ra b rb
     → OnOk r (LeavesOthers c b rb d rd) → OnOk r (LeavesOthers c a ra d rd)
 leaves-then (Ok x) c a b d ra rb rd grows first second = leaves-on c a b d ra rb rd grows first second
@@ -174,46 +213,112 @@ pub sent-then : {X E O : Type 0} (r : Result X E) (a b d : List O) → (a ≡ []
 sent-then (Ok x) a b d first second = λ e. second (first e)
 sent-then (Err e) a b d first second = tt
 
--- A connection was served, and all is settled still.
-pub settled-served : {X E : Type 0} (r : Result X E) (c : ℕ) (a d : CoreValue) (ra rd : List Row) → Serves a ra → OnOk r (LeavesOthers c a ra d rd)
-    → OnOk r (IsServedOn c a ra → IsServedOn c d rd) → OnOk r (a.sends ≡ [] → d.sends ≡ []) → OnOk r (Settled a ra → Settled d rd)
-settled-served (Ok x) c a d ra rd s leaves told sent = λ w. record {
-  sends = sent w.sends;
-  answers = calm-on (λ k. ⊤) c a d ra rd s leaves (told (told-one c a ra w.answers)) w.answers;
-}
-settled-served (Err e) c a d ra rd s leaves told sent = tt
+-- what attends stays, where its row does
+attended-by : (c : ℕ) (rows rows1 : List Row) (g : Given) (w : IsAttended rows g) → All (λ (r : Row). r.number ≢ c → Contains rows1 r) rows → w.row.number ≢ c → IsAttended rows1 g
+attended-by c rows rows1 g w stay not =
+    record { row = w.row; stands = All-contains (λ (r : Row). r.number ≢ c → Contains rows1 r) rows w.row stay w.stands not; waits = w.waits }
 
-pub settled-same : (a d : CoreValue) (rows : List Row) → d.answers ≡ a.answers → d.sends ≡ a.sends → Settled a rows → Settled d rows
-settled-same a d rows answers sends w = record { sends = sends ∙ w.sends; answers = rw answers (w.answers) }
+pub attended-same : (a b : CoreValue) (rows : List Row) → b.answers ≡ a.answers → Attended a rows → Attended b rows
+attended-same a b rows answers w = rw answers w
 
-pub settled-opened : (a d : CoreValue) (rows : List Row) (n : ℕ) → d.answers ≡ a.answers → d.sends ≡ a.sends → Settled a rows → Settled d (rows ++ record { number = n; waits = None } ∷ [])
-settled-opened a d rows n answers sends w = record {
-  sends = sends ∙ w.sends;
-  answers = rw answers (All-push (λ (r : Row). (k : ℕ) → r.waits ≡ Some k → ⊤ → IsOpen a k) rows (record { number = n; waits = None }) w.answers (λ k e any. absurd (none-some k e)));
-}
-
-pub settled-without : (a d : CoreValue) (rows : List Row) (c : ℕ) → d.answers ≡ a.answers → d.sends ≡ a.sends → Settled a rows → Settled d (without_row c rows)
-settled-without a d rows c answers sends w = record {
-  sends = sends ∙ w.sends;
-  answers = rw answers (All-filter (λ (r : Row). not (r.number == c)) (λ (r : Row). (k : ℕ) → r.waits ≡ Some k → ⊤ → IsOpen a k) rows w.answers);
-}
-
--- Where all is settled, each connection that is served was told all its answers.
-pub settled-told : (a : CoreValue) (rows : List Row) → Serves a rows → Settled a rows → All (λ (r : Row). untold a r.number ≡ []) rows
-settled-told a rows s w =
-    All-weaker (Contains rows) (λ (r : Row). untold a r.number ≡ []) (λ r has.
-        none-of r (All-contains (λ (r : Row). (k : ℕ) → r.waits ≡ Some k → ⊤ → IsOpen a k) rows r w.answers has) has a.answers s.claimed (All-contains_itself a.answers))
-    rows (All-contains_itself rows)
+-- behind an answer that is taken
+pub attended-taken : (c : ℕ) (a b : CoreValue) (rows : List Row) (g : Given) → Serves a rows → IsRow rows c (Some g.ask) → Takes a b g → Attended a rows → Attended b (with_waits c None rows)
+attended-taken c a b rows g s row t w =
+    let waits : All (λ (r : Row). r.number ≡ c → r.waits ≡ Some g.ask) rows =
+    row-only (λ (r : Row). r.waits ≡ Some g.ask) c rows s.numbered (λ r is. ap (λ (r : Row). r.waits) (sym (some-same row.row r (sym row.stands ∙ is))) ∙ row.waits) in
+    rw (t.answers) (both-filter (λ (x : Given). not (x.ask == g.ask)) (IsAttended rows) (IsAttended (with_waits c None rows)) (λ x v passes.
+        attended-by c rows (with_waits c None rows) x v (stay-with c None rows) (λ same.
+            key-kept g.ask x.ask passes (some-same x.ask g.ask (sym v.waits ∙ All-contains (λ (r : Row). r.number ≡ c → r.waits ≡ Some g.ask) rows v.row waits v.stands same))))
+        a.answers w)
   where
-    none-of : (r : Row) → ((k : ℕ) → r.waits ≡ Some k → ⊤ → IsOpen a k) → Contains rows r → (gs : List Given) → All (IsClaimed a.entries a.conns rows) gs → All (Contains a.answers) gs
-        → filter (λ (n : ℕ). answers_at a.entries n r.number) (map number_in gs) ≡ []
-    none-of r calm has [] claimed there = refl
-    none-of r calm has (g ∷ gs) claimed there =
-        let rest = none-of r calm has gs (All-tail (IsClaimed a.entries a.conns rows) g gs claimed) (All-tail (Contains a.answers) g gs there) in
-        let mine = All-head (IsClaimed a.entries a.conns rows) g gs claimed in
-        elim (cases_Bool (answers_at a.entries g.number r.number)) [
-          | inl y ↦
-              let waits = All-contains (λ (r : Row). answers_at a.entries g.number r.number ≡ true → r.waits ≡ Some g.ask) rows r mine.row has y in
-              absurd (All-contains (λ (x : Given). x.ask ≢ g.ask) a.answers g (calm g.ask waits tt) (All-head (Contains a.answers) g gs there) refl)
+    both-filter : (p : Given → Bool) (P Q : Given → Type 0) → ((x : Given) → P x → p x ≡ true → Q x) → (xs : List Given) → All P xs → All Q (filter p xs)
+    both-filter p P Q f [] all = All-nil Q
+    both-filter p P Q f (x ∷ xs) all =
+        let rest = both-filter p P Q f xs (All-tail P x xs all) in
+        elim (cases_Bool (p x)) [
+          | inl y ↦ rw y (All-cons Q x (filter p xs) (f x (All-head P x xs all) y) rest)
           | inr n ↦ rw n rest
         ]
+
+-- behind a connection that is closed, which wasn't owed an answer
+pub attended-without : (c : ℕ) (a b : CoreValue) (rows : List Row) → b.answers ≡ a.answers → IsServedOn c a rows → Attended a rows → Attended b (without_row c rows)
+attended-without c a b rows answers told w =
+    rw answers (All-weaker (Contains a.answers) (IsAttended (without_row c rows)) (λ g has.
+        let v : IsAttended rows g = All-contains (IsAttended rows) a.answers g w has in
+        attended-by c rows (without_row c rows) g v (stay-without c rows) (λ same.
+            All-contains (λ (x : Given). x.ask ≢ g.ask) a.answers g
+            (All-contains (λ (r : Row). r.number ≡ c → (k : ℕ) → r.waits ≡ Some k → IsOpen a k) rows v.row told v.stands same g.ask v.waits) has refl))
+        a.answers (All-contains_itself a.answers))
+
+-- behind an ask, where the connection waited for nothing
+pub attended-old : (c n : ℕ) (a : CoreValue) (rows : List Row) → Serves a rows → IsRow rows c None → Attended a rows → All (IsAttended (with_waits c (Some n) rows)) a.answers
+attended-old c n a rows s idle w =
+    let waits : All (λ (r : Row). r.number ≡ c → r.waits ≡ None) rows =
+    row-only (λ (r : Row). r.waits ≡ None) c rows s.numbered (λ r is. ap (λ (r : Row). r.waits) (sym (some-same idle.row r (sym idle.stands ∙ is))) ∙ idle.waits) in
+    All-weaker (IsAttended rows) (IsAttended (with_waits c (Some n) rows)) (λ g v.
+        attended-by c rows (with_waits c (Some n) rows) g v (stay-with c (Some n) rows) (λ same.
+            none-some g.ask (sym (All-contains (λ (r : Row). r.number ≡ c → r.waits ≡ None) rows v.row waits v.stands same) ∙ v.waits))) a.answers w
+
+-- the row that was set
+set-row : (c : ℕ) (k : Option ℕ) (rows : List Row) (r0 : Row) → row_at c rows ≡ Some r0 → (r : Row) × Contains (with_waits c k rows) r × (r.waits ≡ k)
+set-row c k [] r0 is = absurd cc
+set-row c k (r ∷ rows) r0 is =
+    elim (eqb_tells r.number c) [
+      | inl u ↦ rw (u.0) (record { number = r.number; waits = k }, (0, omega arith, refl), refl)
+      | inr u ↦
+          let rest = set-row c k rows r0 (rw (u.0) at is) in
+          rw (u.0) (rest.0, Contains-cons r rest.0 (with_waits c k rows) rest.1, rest.2)
+    ]
+
+pub attended-new : (c : ℕ) (rows : List Row) (r0 : Row) (g : Given) → row_at c rows ≡ Some r0 → IsAttended (with_waits c (Some g.ask) rows) g
+attended-new c rows r0 g is = let set_one = set-row c (Some g.ask) rows r0 is in record { row = set_one.0; stands = set_one.1; waits = set_one.2 }
+
+-- the row of a connection that is served
+row-there : (rows : List Row) (c : ℕ) → IsThere rows c → (r : Row) × Contains rows r × (r.number ≡ c)
+row-there [] c has = let lt = has.1 in absurd (omega (arith, lt))
+row-there (r ∷ rows) c (zero, lt, is) = (r, (0, omega arith, refl), is)
+row-there (r ∷ rows) c (suc i, lt, is) =
+    let rest = row-there rows c (i, omega (arith, lt), is) in
+    (rest.0, Contains-cons r rest.0 rows rest.1, rest.2)
+
+-- behind what was heard, or a tick, where nothing waited to be taken
+pub attended-heard : (a b : CoreValue) (rows : List Row) → Serves a rows → AnswersAlone a b → a.answers ≡ [] → Attended b rows
+attended-heard a b rows s w none =
+    rw (w.step.answers, none) (All-weaker (IsNewAnswer a b) (IsAttended rows) (λ g v.
+        let x : IsServed a.entries rows v.conn = All-contains (IsServed a.entries rows) a.conns v.conn s.served v.waited in
+        let r = row-there rows v.conn.id x.there in
+        record {
+          row = r.0;
+          stands = r.1;
+          waits = All-contains (λ (r : Row). r.number ≡ v.conn.id → (k : ℕ) → v.conn.pending ≡ Some k → r.waits ≡ Some k) rows r.0 x.row r.1 r.2 g.ask v.ask;
+        }) w.step.given w.answers)
+
+-- Where each answer is attended, and all are calm, there is none.
+pub all-told : (core : CoreValue) (rows : List Row) → Attended core rows → Calm (λ k. ⊤) core rows → core.answers ≡ []
+all-told core rows w calm = go core.answers refl w
+  where
+    go : (gs : List Given) → core.answers ≡ gs → All (IsAttended rows) gs → gs ≡ []
+    go [] is all = refl
+    go (g ∷ gs) is all =
+        let v = All-head (IsAttended rows) g gs all in
+        let open_one : All (λ (x : Given). x.ask ≢ g.ask) core.answers =
+        All-contains (λ (r : Row). (k : ℕ) → r.waits ≡ Some k → ⊤ → IsOpen core k) rows v.row calm v.stands g.ask v.waits tt in
+        absurd (All-head (λ (x : Given). x.ask ≢ g.ask) g gs (subst (All (λ (x : Given). x.ask ≢ g.ask)) is open_one) refl)
+
+pub settled-same : (a d : CoreValue) → d.answers ≡ a.answers → d.sends ≡ a.sends → Settled a → Settled d
+settled-same a d answers sends w = record { sends = sends ∙ w.sends; answers = answers ∙ w.answers }
+
+-- A connection was served, and all is settled still.
+pub settled-served : {X E : Type 0} (r : Result X E) (c : ℕ) (a d : CoreValue) (ra rd : List Row) → Serves a ra → OnOk r (LeavesOthers c a ra d rd)
+    → OnOk r (IsServedOn c a ra → IsServedOn c d rd) → OnOk r (a.sends ≡ [] → d.sends ≡ []) → OnOk r (Attended a ra → Attended d rd) → OnOk r (Settled a → Settled d)
+settled-served (Ok x) c a d ra rd s leaves told sent attended = λ w.
+    let calm : Calm (λ k. ⊤) a ra = calm-empty a ra w.answers in
+    record {
+      sends = sent w.sends;
+      answers = all-told d rd (attended (rw (w.answers) (All-nil (IsAttended ra)))) (calm-on (λ k. ⊤) c a d ra rd s leaves (told (told-one c a ra calm)) calm);
+    }
+  where
+    calm-empty : (a : CoreValue) (rows : List Row) → a.answers ≡ [] → Calm (λ k. ⊤) a rows
+    calm-empty a rows none =
+        All-weaker (Contains rows) (λ (r : Row). (k : ℕ) → r.waits ≡ Some k → ⊤ → IsOpen a k) (λ r has k e any. rw none (All-nil (λ (g : Given). g.ask ≢ k))) rows (All-contains_itself rows)
+settled-served (Err e) c a d ra rd s leaves told sent attended = tt

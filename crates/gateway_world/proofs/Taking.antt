@@ -61,7 +61,7 @@ given-on a rows c g s row v =
 on-conn : (a : CoreValue) (g : Given) (v : IsGiven a.entries g) (d : ℕ) → answers_at a.entries g.number d ≡ (v.conn == d)
 on-conn a g v d = ap (answers_in d) v.stands
 
-key-kept : (k m : ℕ) → not (m == k) ≡ true → m ≢ k
+pub key-kept : (k m : ℕ) → not (m == k) ≡ true → m ≢ k
 key-kept k m e same = elim (eqb_tells m k) [ inl u ↦ true≢false (sym (rw (u.0) at e)) | inr u ↦ u.1 same ]
 
 -- of what isn't taken, none is on the connection
@@ -166,6 +166,7 @@ taken-serves a b rows c g s row t =
     let v : IsServed h rows x = All-contains (IsServed h rows) a.conns x s.served has in
     let done : x.pending ≢ Some g.ask = All-contains (λ (x : Conn). x.pending ≢ Some g.ask) a.conns x mine.done has in
     record {
+      there = rw (with-numbers c None rows) (v.there);
       opened = v.opened;
       asked = v.asked;
       row = all-with (λ (r : Row). r.number ≡ x.id → (k : ℕ) → x.pending ≡ Some k → r.waits ≡ Some k) (λ (r : Row). r.number ≡ x.id → (k : ℕ) → x.pending ≡ Some k → r.waits ≡ Some k)

@@ -51,9 +51,14 @@ abbrev pub WaitsFor : List Written → ℕ → Option ℕ → Type 0
 WaitsFor h c None = ⊤
 WaitsFor h c (Some k) = HasAsk h c k
 
--- A connection of the core was opened, waits for an ask of its own, and its row waits for the same.
+-- The connection is served.
+abbrev pub IsThere : List Row → ℕ → Type 0
+IsThere rows c = Contains (map (λ (r : Row). r.number) rows) c
+
+-- A connection of the core was opened, is served, waits for an ask of its own, and its row waits for the same.
 pub record IsServed (h : List Written) (rows : List Row) (x : Conn) : Type 0 where
   pub opened : x.id < connections h
+  pub there : IsThere rows x.id
   pub asked : WaitsFor h x.id x.pending
   pub row : All (λ (r : Row). r.number ≡ x.id → (k : ℕ) → x.pending ≡ Some k → r.waits ≡ Some k) rows
 
@@ -115,10 +120,19 @@ IsOpen core k = All (λ (g : Given). g.ask ≢ k) core.answers
 abbrev pub Calm : (ℕ → Type 0) → CoreValue → List Row → Type 0
 Calm asks core rows = All (λ (r : Row). (k : ℕ) → r.waits ≡ Some k → asks k → IsOpen core k) rows
 
--- Nothing waits to be given out: no datagram, and no answer to an ask that a connection waits for.
-pub record Settled (core : CoreValue) (rows : List Row) : Type 0 where
+-- Nothing waits to be given out: no datagram, and no answer.
+pub record Settled (core : CoreValue) : Type 0 where
   pub sends : core.sends ≡ []
-  pub answers : Calm (λ k. ⊤) core rows
+  pub answers : core.answers ≡ []
+
+-- For each answer that isn't taken, a connection that is served waits.
+pub record IsAttended (rows : List Row) (g : Given) : Type 0 where
+  pub row : Row
+  pub stands : Contains rows row
+  pub waits : row.waits ≡ Some g.ask
+
+abbrev pub Attended : CoreValue → List Row → Type 0
+Attended core rows = All (IsAttended rows) core.answers
 
 -- The connection waits for no answer that could be taken.
 abbrev pub IsServedOn : ℕ → CoreValue → List Row → Type 0
@@ -127,6 +141,7 @@ IsServedOn c core rows = All (λ (r : Row). r.number ≡ c → (k : ℕ) → r.w
 -- What is done for one connection leaves the others as they are.
 pub record LeavesOthers (c : ℕ) (old : CoreValue) (rows : List Row) (new : CoreValue) (rows1 : List Row) : Type 0 where
   pub others : All (λ (r : Row). r.number ≢ c → Contains rows r) rows1
+  pub stay : All (λ (r : Row). r.number ≢ c → Contains rows1 r) rows
   pub kept : (k : ℕ) → k < length old.entries → IsOpen old k → IsOpen new k
 
 

@@ -2,7 +2,7 @@
 
 ghost use Rattle.std.specs.Prelude.{◌≡◌, [], None, OnOk};
 ghost use Rattle.gateway_world.specs.Steps.{Advances, Leads};
-ghost use Rattle.gateway_world.specs.Rows.{Serves, Settled, LeavesOthers, IsServedOn, IsRow, rows_of, without_row};
+ghost use Rattle.gateway_world.specs.Rows.{Serves, Settled, Attended, LeavesOthers, IsServedOn, IsRow, rows_of, without_row};
 
 use crate::fields::closes;
 use crate::inbox::{Next, REQUESTS};
@@ -39,7 +39,7 @@ impl<R: Relation> Engine<R> {
         requires { Serves self.old.core (rows_of self.old.table) }
         ensures leads { Leads result self.old.core self.new.core outputs.old.items outputs.new.items }
         ensures kept { Serves self.new.core (rows_of self.new.table) }
-        ensures settled { OnOk result (Settled self.old.core (rows_of self.old.table) → Settled self.new.core (rows_of self.new.table)) }
+        ensures settled { OnOk result (Settled self.old.core → Settled self.new.core) }
     {
         match happening {
             Happening::Open => self.open(when, outputs),
@@ -58,7 +58,7 @@ impl<R: Relation> Engine<R> {
         requires { Serves self.old.core (rows_of self.old.table) }
         ensures leads { Leads result self.old.core self.new.core outputs.old.items outputs.new.items }
         ensures kept { Serves self.new.core (rows_of self.new.table) }
-        ensures settled { OnOk result (Settled self.old.core (rows_of self.old.table) → Settled self.new.core (rows_of self.new.table)) }
+        ensures settled { OnOk result (Settled self.old.core → Settled self.new.core) }
     {
         let edge = Edge::new(self.alloc)?;
         self.table.make_room()?;
@@ -83,7 +83,7 @@ impl<R: Relation> Engine<R> {
         requires { Serves self.old.core (rows_of self.old.table) }
         ensures leads { Leads result self.old.core self.new.core outputs.old.items outputs.new.items }
         ensures kept { Serves self.new.core (rows_of self.new.table) }
-        ensures settled { OnOk result (Settled self.old.core (rows_of self.old.table) → Settled self.new.core (rows_of self.new.table)) }
+        ensures settled { OnOk result (Settled self.old.core → Settled self.new.core) }
     {
         self.table.append(number, bytes)?;
         self.serve(when, number, outputs)
@@ -100,7 +100,7 @@ impl<R: Relation> Engine<R> {
         requires { Serves self.old.core (rows_of self.old.table) }
         ensures leads { Leads result self.old.core self.new.core outputs.old.items outputs.new.items }
         ensures kept { Serves self.new.core (rows_of self.new.table) }
-        ensures settled { OnOk result (Settled self.new.core (rows_of self.new.table)) }
+        ensures settled { OnOk result (Settled self.old.core → Settled self.new.core) }
     {
         hear_in(&mut self.core, when, peer, bytes)?;
         self.deliver(when, outputs)
@@ -111,7 +111,7 @@ impl<R: Relation> Engine<R> {
         requires { Serves self.old.core (rows_of self.old.table) }
         ensures leads { Leads result self.old.core self.new.core outputs.old.items outputs.new.items }
         ensures kept { Serves self.new.core (rows_of self.new.table) }
-        ensures settled { OnOk result (Settled self.new.core (rows_of self.new.table)) }
+        ensures settled { OnOk result (Settled self.old.core → Settled self.new.core) }
     {
         tick_in(&mut self.core, when)?;
         self.deliver(when, outputs)
@@ -135,7 +135,7 @@ impl<R: Relation> Engine<R> {
         requires { Serves self.old.core (rows_of self.old.table) }
         ensures leads { Leads result self.old.core self.new.core outputs.old.items outputs.new.items }
         ensures kept { Serves self.new.core (rows_of self.new.table) }
-        ensures settled { OnOk result (Settled self.new.core (rows_of self.new.table)) }
+        ensures settled { OnOk result (Attended self.old.core (rows_of self.old.table) → Settled self.new.core) }
     {
         send_from(&mut self.core, outputs)?;
         self.answer_all(when, outputs)
@@ -146,7 +146,7 @@ impl<R: Relation> Engine<R> {
         requires { Serves self.old.core (rows_of self.old.table) }
         ensures leads { Leads result self.old.core self.new.core outputs.old.items outputs.new.items }
         ensures kept { Serves self.new.core (rows_of self.new.table) }
-        ensures settled { OnOk result (self.old.core.sends ≡ [] → Settled self.new.core (rows_of self.new.table)) }
+        ensures settled { OnOk result (self.old.core.sends ≡ [] → Attended self.old.core (rows_of self.old.table) → Settled self.new.core) }
     {
         let mut from = 0;
         'each: while let Some((ask, number)) = self.table.first_waiting(from) {
@@ -165,6 +165,7 @@ impl<R: Relation> Engine<R> {
         ensures leaves { OnOk result (LeavesOthers number self.old.core (rows_of self.old.table) self.new.core (rows_of self.new.table)) }
         ensures told { OnOk result (IsServedOn number self.new.core (rows_of self.new.table)) }
         ensures sent { OnOk result (self.old.core.sends ≡ [] → self.new.core.sends ≡ []) }
+        ensures attended { OnOk result (Attended self.old.core (rows_of self.old.table) → Attended self.new.core (rows_of self.new.table)) }
     {
         self.give(when, number, outputs)?;
         self.serve(when, number, outputs)
@@ -178,6 +179,7 @@ impl<R: Relation> Engine<R> {
         ensures leaves { OnOk result (LeavesOthers number self.old.core (rows_of self.old.table) self.new.core (rows_of self.new.table)) }
         ensures told { OnOk result (IsServedOn number self.old.core (rows_of self.old.table) → IsServedOn number self.new.core (rows_of self.new.table)) }
         ensures sent { OnOk result (self.old.core.sends ≡ [] → self.new.core.sends ≡ []) }
+        ensures attended { OnOk result (Attended self.old.core (rows_of self.old.table) → Attended self.new.core (rows_of self.new.table)) }
     {
         'each: for _ in 0..REQUESTS {
             if !self.serve_next(when, number, outputs)? {
@@ -200,6 +202,7 @@ impl<R: Relation> Engine<R> {
         ensures leaves { OnOk result (LeavesOthers number self.old.core (rows_of self.old.table) self.new.core (rows_of self.new.table)) }
         ensures told { OnOk result (IsServedOn number self.old.core (rows_of self.old.table) → IsServedOn number self.new.core (rows_of self.new.table)) }
         ensures sent { OnOk result (self.old.core.sends ≡ [] → self.new.core.sends ≡ []) }
+        ensures attended { OnOk result (Attended self.old.core (rows_of self.old.table) → Attended self.new.core (rows_of self.new.table)) }
     {
         match self.table.next(number)? {
             Next::Request(incoming) => {
@@ -230,6 +233,7 @@ impl<R: Relation> Engine<R> {
         ensures leaves { OnOk result (LeavesOthers number self.old.core (rows_of self.old.table) self.new.core (rows_of self.new.table)) }
         ensures told { OnOk result (IsServedOn number self.new.core (rows_of self.new.table)) }
         ensures sent { OnOk result (self.old.core.sends ≡ [] → self.new.core.sends ≡ []) }
+        ensures attended { OnOk result (Attended self.old.core (rows_of self.old.table) → Attended self.new.core (rows_of self.new.table)) }
     {
         let mapped = map_request(self.alloc, &self.settings, incoming)?;
         let mapped = Arc::new(self.alloc, mapped)?;
@@ -255,6 +259,7 @@ impl<R: Relation> Engine<R> {
         ensures leaves { OnOk result (LeavesOthers number self.old.core (rows_of self.old.table) self.new.core (rows_of self.new.table)) }
         ensures told { OnOk result (IsServedOn number self.new.core (rows_of self.new.table)) }
         ensures sent { OnOk result (self.old.core.sends ≡ [] → self.new.core.sends ≡ []) }
+        ensures attended { OnOk result (Attended self.old.core (rows_of self.old.table) → Attended self.new.core (rows_of self.new.table)) }
     {
         let Some(ticket) = self.table.ticket(number) else {
             return Ok(());
@@ -279,6 +284,7 @@ impl<R: Relation> Engine<R> {
         ensures leaves { OnOk result (LeavesOthers number self.old.core (rows_of self.old.table) self.new.core (rows_of self.new.table)) }
         ensures told { OnOk result (IsServedOn number self.new.core (rows_of self.new.table)) }
         ensures sent { OnOk result (self.old.core.sends ≡ [] → self.new.core.sends ≡ []) }
+        ensures attended { OnOk result (IsServedOn number self.old.core (rows_of self.old.table) → Attended self.old.core (rows_of self.old.table) → Attended self.new.core (rows_of self.new.table)) }
     {
         self.close(when, number);
         tell_closed(number, outputs)

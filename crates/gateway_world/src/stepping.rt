@@ -1,8 +1,8 @@
 //! The steps of the core, by what each adds to the journal and lets wait to be sent.
 
-ghost use Rattle.std.specs.Prelude.{ℕ, ◌≡◌, ◌<◌, List, [], ◌++◌, ◌∷◌, Some, None, IfOk, OnOk, OnErr, length};
+ghost use Rattle.std.specs.Prelude.{ℕ, ◌≡◌, ◌≢◌, ◌<◌, All, List, [], ◌++◌, ◌∷◌, Some, None, IfOk, OnOk, OnErr, length};
 ghost use Rattle.gateway_world.specs.Steps.{Advances, Leads};
-ghost use Rattle.gateway_world.specs.Rows.{Row, Serves, IsRow, IsOpen, AnswersAlone, with_waits};
+ghost use Rattle.gateway_world.specs.Rows.{Row, Serves, IsRow, IsOpen, Attended, AnswersAlone, with_waits};
 
 use crate::input::Output;
 use ask_model::Mapped;
@@ -41,6 +41,8 @@ pub fn ask_in<R: Relation>(
     ensures asked { (rows : List Row) → Serves core.old rows → IsRow rows conn None → IfOk result (λ ticket. Serves core.new (with_waits conn (Some ticket.number) rows)) }
     ensures kept { (rows : List Row) → Serves core.old rows → OnErr result (Serves core.new rows) }
     ensures open { (k : ℕ) → k < length core.old.entries → IsOpen core.old k → IsOpen core.new k }
+    ensures attended { (rows : List Row) → Serves core.old rows → IsRow rows conn None → Attended core.old rows → IfOk result (λ ticket. Attended core.new (with_waits conn (Some ticket.number) rows)) }
+    ensures same { OnErr result (core.new.answers ≡ core.old.answers) }
     ensures sends { OnErr result (core.new.sends ≡ core.old.sends) }
 {
     core.ask(when.moment, when.word, conn, mapped)
@@ -70,6 +72,7 @@ pub fn tick_in<R: Relation>(core: &mut Core<R>, when: When) -> Result<(), Memory
 /// Closes a connection, where it is open.
 pub fn close_in<R: Relation>(core: &mut Core<R>, when: When, conn: u32)
     ensures alone { AnswersAlone core.old core.new }
+    ensures gone { All (λ x. x.id ≢ conn) core.new.conns }
     ensures answers { core.new.answers ≡ core.old.answers }
     ensures sends { core.new.sends ≡ core.old.sends }
 {

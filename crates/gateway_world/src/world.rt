@@ -1,8 +1,8 @@
 //! The proxy as one value: inputs in, outputs out.
 
-ghost use Rattle.std.specs.Prelude.{◌≡◌, ◌≤◌, [], true, All, IfOk, OnOk, IsErrOf};
+ghost use Rattle.std.specs.Prelude.{◌≡◌, ◌≤◌, [], true, IfOk, OnOk, IsErrOf};
 ghost use Rattle.history_laws.specs.Justified.{Stands};
-ghost use Rattle.gateway_world.specs.Steps.{Grows, Gives, untold};
+ghost use Rattle.gateway_world.specs.Steps.{Grows, Gives};
 ghost use Rattle.gateway_world.specs.Rows.{Settled};
 
 use crate::engine::Engine;
@@ -30,7 +30,7 @@ impl<R: Relation> World<R> {
         ensures history { IfOk result (λ w. w.core.entries ≡ []) }
         ensures unsent { IfOk result (λ w. w.core.sends ≡ []) }
         ensures untold { IfOk result (λ w. w.core.answers ≡ []) }
-        ensures settled { IfOk result (λ w. Settled w.core w.rows) }
+        ensures settled { IfOk result (λ w. Settled w.core) }
         ensures moment { IfOk result (λ w. w.moment ≡ 0) }
     {
         Ok(World {
@@ -67,8 +67,7 @@ impl<R: Relation> World<R> {
         ensures backlog { IsErrOf result WorldFault.Backlog → self.new ≡ self.old }
         ensures grows { Grows self.old.core.entries self.new.core.entries }
         ensures gives { IfOk result (λ outputs. Gives self.old.core self.new.core outputs.items) }
-        ensures settled { OnOk result (Settled self.old.core self.old.rows → Settled self.new.core self.new.rows) }
-        ensures told { OnOk result (Settled self.old.core self.old.rows → All (λ r. untold self.new.core r.number ≡ []) self.new.rows) }
+        ensures settled { OnOk result (Settled self.old.core → Settled self.new.core) }
     {
         if self.is_too_much(input.happening) {
             return Err(WorldFault::Backlog);

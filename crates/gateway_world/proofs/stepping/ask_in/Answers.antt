@@ -2,6 +2,7 @@
 use Rattle.gateway_world.proofs.Advancing.{asked-advances, refused-alone}
 use Rattle.gateway_world.proofs.Serving.{refused-serves}
 use Rattle.gateway_world.proofs.Asking.{serves-asked}
+use Rattle.gateway_world.proofs.Attending.{attended-asked}
 use Rattle.gateway_world.proofs.stepping.ask_in.Goals as goal
 
 pub returns-clause-advances : goal.returns-clause-advances
@@ -17,3 +18,7 @@ pub returns-clause-kept : goal.returns-clause-kept
 returns-clause-kept g c rows serves =
     refused-serves c.ask.result _ _ rows
     (refused-alone c.ask.result _ _ _ _ _ _ _ _ _ c.ask.ensures.unknown c.ask.ensures.pending c.ask.ensures.sealed c.ask.ensures.memory) serves
+
+pub returns-clause-attended : goal.returns-clause-attended
+returns-clause-attended g c rows serves idle attended =
+    attended-asked c.ask.result (λ x. x.number) _ _ rows _ c.args.conn _ c.ask.ensures.adds serves idle attended

@@ -1,8 +1,11 @@
 -- A close adds its entry, where the connection was open.
 use Rattle.std.proofs.Common.{refl}
-use Rattle.gateway_world.proofs.Advancing.{closing}
+use Rattle.gateway_world.proofs.Advancing.{closing, closed-gone}
 use Rattle.gateway_world.proofs.stepping.close_in.Goals as goal
 
 pub returns-clause-alone : goal.returns-clause-alone
 returns-clause-alone g c =
     closing c.close.result _ _ c.args.conn _ _ refl refl c.close.ensures.closed c.close.ensures.unknown c.close.ensures.answers c.close.ensures.sends
+
+pub returns-clause-gone : goal.returns-clause-gone
+returns-clause-gone g c = closed-gone c.close.result _ _ c.args.conn _ c.close.ensures.closed c.close.ensures.unknown

@@ -1,6 +1,6 @@
 -- The answer that is there is given, and what further requests give follows.
 use Rattle.gateway_world.proofs.Going.{goes-grow, leads-on}
-use Rattle.gateway_world.proofs.Settling.{leaves-then, told-then, sent-then}
+use Rattle.gateway_world.proofs.Settling.{attended-then, leaves-then, told-then, sent-then}
 use Rattle.gateway_world.proofs.engine.Engine.answer.Goals as goal
 
 pub returns-clause-leads : goal.returns-clause-leads
@@ -15,3 +15,6 @@ returns-clause-told g c = told-then c.serve.result _ _ c.in_ok-give.ensures.told
 
 pub returns-clause-sent : goal.returns-clause-sent
 returns-clause-sent g c = sent-then c.serve.result _ _ _ c.in_ok-give.ensures.sent c.serve.ensures.sent
+
+pub returns-clause-attended : goal.returns-clause-attended
+returns-clause-attended g c = attended-then c.serve.result _ _ _ c.in_ok-give.ensures.attended c.serve.ensures.attended

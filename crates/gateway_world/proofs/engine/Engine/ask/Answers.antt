@@ -2,7 +2,7 @@
 use Rattle.gateway_world.proofs.Going.{advances-grow, goes-advancing, goes-on, leads-on}
 use Rattle.std.proofs.Common.{◌∙◌}
 use Rattle.gateway_world.proofs.Serving.{standing-of}
-use Rattle.gateway_world.proofs.Settling.{leaves-none, leaves-with, leaves-then, sent-then}
+use Rattle.gateway_world.proofs.Settling.{attended-same, attended-then, told-then, served-idle-row, leaves-none, leaves-with, leaves-then, sent-then}
 use Rattle.gateway_world.proofs.engine.Engine.ask.Goals as goal
 
 pub returns-in_ok-send_from-in-Ok-clause-leads : goal.returns-in_ok-send_from-in-Ok-clause-leads
@@ -27,7 +27,17 @@ returns-in-Err-Unknown g c = record {
   leads = leads-on c.shut.result _ _ _ _ _ _ (goes-advancing _ _ _ (standing-of _ _ c.requires.served) c.ask_in.ensures.advances) c.shut.ensures.leads;
   kept = c.shut.ensures.kept;
   leaves = leaves-then c.shut.result c.args.number _ _ _ _ _ _ (advances-grow _ _ c.ask_in.ensures.advances)
-      (record { others = (leaves-none c.args.number c.args.self.now.core _).others; kept = c.ask_in.ensures.open }) c.shut.ensures.leaves;
+      (record {
+        others = (leaves-none c.args.number c.args.self.now.core _).others;
+        stay = (leaves-none c.args.number c.args.self.now.core _).stay;
+        kept = c.ask_in.ensures.open;
+      }) c.shut.ensures.leaves;
   told = c.shut.ensures.told;
   sent = sent-then c.shut.result _ _ _ (λ e. c.in-Err-Unknown.ensures.sends ∙ e) c.shut.ensures.sent;
+  attended = attended-then c.shut.result _ _ _ (attended-same c.args.self.now.core c.ask_in.new.core _ c.in-Err-Unknown.ensures.same)
+      (told-then c.shut.result _ _ (served-idle-row c.args.number c.ask_in.new.core _ c.requires.served.numbered c.requires.idle) c.shut.ensures.attended);
 }
+
+pub returns-in_ok-send_from-in-Ok-clause-attended : goal.returns-in_ok-send_from-in-Ok-clause-attended
+returns-in_ok-send_from-in-Ok-clause-attended g c =
+    attended-then c.give.result _ _ _ (λ w. rw (c.set_ticket.ensures, c.in_ok-send_from-in-Ok.ensures.answers) (c.in-Ok.ensures.attended _ c.requires.served c.requires.idle w)) c.give.ensures.attended

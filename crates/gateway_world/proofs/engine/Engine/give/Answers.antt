@@ -5,7 +5,7 @@ use Rattle.exchange_core.specs.Answering.{given_of}
 use Rattle.gateway_world.proofs.Going.{goes-none, goes-same, goes-answering, leads-on}
 use Rattle.gateway_world.proofs.Serving.{same-serves}
 use Rattle.gateway_world.proofs.Taking.{takes-from, row-for, nothing-taken, given-on, taken-told, taken-serves}
-use Rattle.gateway_world.proofs.Settling.{leaves-none, leaves-same, leaves-taken, leaves-then, served-idle, served-open, told-taken, sent-then}
+use Rattle.gateway_world.proofs.Settling.{attended-same, attended-taken, attended-then, told-then, leaves-none, leaves-same, leaves-taken, leaves-then, served-idle, served-open, told-taken, sent-then}
 use Rattle.gateway_world.proofs.engine.Engine.give.Goals as goal
 
 pub returns-in_default-clause-leads : goal.returns-in_default-clause-leads
@@ -107,3 +107,26 @@ returns-then-closes-clause-leaves g c =
 
 pub returns-then-closes-clause-sent : goal.returns-then-closes-clause-sent
 returns-then-closes-clause-sent g c = sent-then c.shut.result _ _ _ (λ e. c.take_answer.ensures.sends ∙ e) c.shut.ensures.sent
+
+pub returns-in_default-take_answer-clause-attended : goal.returns-in_default-take_answer-clause-attended
+returns-in_default-take_answer-clause-attended g c =
+    let t = c.take_answer.ensures in
+    attended-same c.args.self.now.core c.take_answer.new.self _
+    (nothing-taken c.args.self.now.core c.take_answer.new.self _ (c.in_default-take_answer.ensures.none refl) t.answers t.entries t.conns).answers
+
+pub returns-clause-attended : goal.returns-clause-attended
+returns-clause-attended g c =
+    let t = c.take_answer.ensures in
+    let some = c.in-Some-take_answer.ensures.some in
+    let row = row-for _ _ _ _ some.0 c.in-Some.ensures.some in
+    let takes = takes-from c.args.self.now.core c.take_answer.new.self _ c.in-Some-take_answer.answer some c.in-Some-take_answer.ensures.once t.answers t.entries t.conns in
+    rw (c.set_ticket.ensures) (attended-taken c.args.number c.args.self.now.core c.take_answer.new.self _ _ c.requires row takes)
+
+pub returns-then-closes-clause-attended : goal.returns-then-closes-clause-attended
+returns-then-closes-clause-attended g c =
+    let t = c.take_answer.ensures in
+    let some = c.in-Some-take_answer.ensures.some in
+    let row = row-for _ _ _ _ some.0 c.in-Some.ensures.some in
+    let takes = takes-from c.args.self.now.core c.take_answer.new.self _ c.in-Some-take_answer.answer some c.in-Some-take_answer.ensures.once t.answers t.entries t.conns in
+    attended-then c.shut.result _ _ _ (rw (c.set_ticket.ensures) (attended-taken c.args.number c.args.self.now.core c.take_answer.new.self _ _ c.requires row takes))
+    (told-then c.shut.result _ _ (rw (c.set_ticket.ensures) (told-taken c.args.number c.args.self.now.core c.take_answer.new.self _ (given_of c.in-Some-take_answer.answer) c.requires row)) c.shut.ensures.attended)

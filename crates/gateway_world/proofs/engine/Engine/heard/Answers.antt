@@ -1,6 +1,7 @@
 -- What it led to is given out.
 use Rattle.gateway_world.proofs.Going.{goes-advancing, leads-on}
 use Rattle.gateway_world.proofs.Serving.{serves-on, standing-of}
+use Rattle.gateway_world.proofs.Settling.{attended-heard, attended-then}
 use Rattle.gateway_world.proofs.engine.Engine.heard.Goals as goal
 
 pub deliver-requires : goal.deliver-requires
@@ -12,3 +13,7 @@ returns-clause-leads g c =
 
 pub returns-in_err-hear_in-clause-kept : goal.returns-in_err-hear_in-clause-kept
 returns-in_err-hear_in-clause-kept g c = serves-on _ _ _ c.hear_in.ensures c.requires
+
+pub returns-clause-settled : goal.returns-clause-settled
+returns-clause-settled g c =
+    attended-then c.deliver.result _ _ _ (λ w. attended-heard c.args.self.now.core c.hear_in.new.core _ c.requires c.in_ok-hear_in.ensures w.answers) c.deliver.ensures.settled

@@ -1,7 +1,7 @@
 -- A connection is opened and served, or that it isn't is told.
 use Rattle.gateway_world.proofs.Going.{goes-advancing, leads-on, told-leads}
 use Rattle.gateway_world.proofs.Serving.{standing-of}
-use Rattle.gateway_world.proofs.Settling.{on-ok, settled-same, settled-opened}
+use Rattle.gateway_world.proofs.Settling.{on-ok, settled-same}
 use Rattle.gateway_world.proofs.engine.Engine.open.Goals as goal
 
 pub returns-in-Ok-clause-leads : goal.returns-in-Ok-clause-leads
@@ -11,9 +11,8 @@ pub returns-in-Err-Full : goal.returns-in-Err-Full
 returns-in-Err-Full g c = record {
   leads = leads-on c.tell_turned.result _ _ _ _ _ _ (goes-advancing _ _ _ (standing-of _ _ c.requires) c.open_in.ensures.advances) (told-leads _ _ _ _ c.tell_turned.ensures);
   kept = rw (c.make_room.ensures.rows) (c.in-Err-Full.ensures.kept _ c.requires);
-  settled = on-ok c.tell_turned.result _ (rw (c.make_room.ensures.rows) (settled-same c.args.self.now.core c.open_in.new.core _ c.open_in.ensures.answers c.open_in.ensures.sends));
+  settled = on-ok c.tell_turned.result _ (settled-same c.args.self.now.core c.open_in.new.core c.open_in.ensures.answers c.open_in.ensures.sends);
 }
 
 pub returns-in-Ok-clause-settled : goal.returns-in-Ok-clause-settled
-returns-in-Ok-clause-settled g c =
-    rw (c.add.ensures, c.make_room.ensures.rows) (settled-opened c.args.self.now.core c.open_in.new.core _ c.in-Ok.number c.open_in.ensures.answers c.open_in.ensures.sends)
+returns-in-Ok-clause-settled g c = settled-same c.args.self.now.core c.open_in.new.core c.open_in.ensures.answers c.open_in.ensures.sends

@@ -5,7 +5,7 @@ use Rattle.gateway_world.proofs.Settling.{leaves-none, leaves-on}
 use Rattle.gateway_world.proofs.engine.Engine.serve.Goals as goal
 
 pub each-init : goal.each-init
-each-init g c = (goes-none _ _, c.requires, leaves-none _ _ _, (λ w. w), (λ e. e))
+each-init g c = (goes-none _ _, c.requires, leaves-none _ _ _, (λ w. w), (λ e. e), (λ w. w))
 
 pub each-preserved : goal.each-preserved
 each-preserved g c =
@@ -16,6 +16,7 @@ each-preserved g c =
       leaves-on _ _ _ _ _ _ _ (goes-grow _ _ _ _ before.0) before.2 next.leaves,
       (λ w. next.told (before.3 w)),
       (λ e. next.sent (before.4 e)),
+      (λ w. next.attended (before.5 w)),
     )
 
 pub returns-in_err-serve_next-clause-leads : goal.returns-in_err-serve_next-clause-leads
@@ -31,3 +32,6 @@ returns-then-not-branch-clause-leaves g c = leaves-on _ _ _ _ _ _ _ (goes-grow _
 
 pub returns-then-not-branch-clause-told : goal.returns-then-not-branch-clause-told
 returns-then-not-branch-clause-told g c = λ w. c.in_ok-serve_next.ensures.told (c.each.invariant.3 w)
+
+pub returns-then-not-branch-clause-attended : goal.returns-then-not-branch-clause-attended
+returns-then-not-branch-clause-attended g c = λ w. c.in_ok-serve_next.ensures.attended (c.each.invariant.5 w)

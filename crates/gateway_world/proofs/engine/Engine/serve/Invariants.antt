@@ -1,7 +1,7 @@
 -- So far the core went on as it was given out, and the others were left as they were.
 use Rattle.std.proofs.Common.{◌≡◌, []}
 use Rattle.gateway_world.specs.Steps.{Goes}
-use Rattle.gateway_world.specs.Rows.{Serves, LeavesOthers, IsServedOn, rows_of}
+use Rattle.gateway_world.specs.Rows.{Serves, Attended, LeavesOthers, IsServedOn, rows_of}
 use Rattle.gateway_world.proofs.engine.Engine.serve.Given as goal
 
 abbrev pub invariant-each : goal.invariant-each
@@ -10,3 +10,4 @@ invariant-each g l =
     × LeavesOthers l.number l.initial.self.core (rows_of l.initial.self.table) l.self.core (rows_of l.self.table)
     × (IsServedOn l.number l.initial.self.core (rows_of l.initial.self.table) → IsServedOn l.number l.self.core (rows_of l.self.table))
     × (l.initial.self.core.sends ≡ [] → l.self.core.sends ≡ [])
+    × (Attended l.initial.self.core (rows_of l.initial.self.table) → Attended l.self.core (rows_of l.self.table))

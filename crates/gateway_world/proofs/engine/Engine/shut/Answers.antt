@@ -2,7 +2,7 @@
 use Rattle.gateway_world.proofs.Going.{goes-advancing, leads-on, told-leads}
 use Rattle.gateway_world.proofs.Serving.{standing-of}
 use Rattle.std.proofs.Common.{◌∙◌}
-use Rattle.gateway_world.proofs.Settling.{leaves-without, told-without, on-ok}
+use Rattle.gateway_world.proofs.Settling.{attended-without, leaves-without, told-without, on-ok}
 use Rattle.gateway_world.proofs.engine.Engine.shut.Goals as goal
 
 pub returns-clause-leads : goal.returns-clause-leads
@@ -17,3 +17,7 @@ returns-clause-told g c = on-ok c.tell_closed.result _ (rw (c.close.ensures.rows
 
 pub returns-clause-sent : goal.returns-clause-sent
 returns-clause-sent g c = on-ok c.tell_closed.result _ (λ e. c.close.ensures.sends ∙ e)
+
+pub returns-clause-attended : goal.returns-clause-attended
+returns-clause-attended g c =
+    on-ok c.tell_closed.result _ (rw (c.close.ensures.rows) (attended-without c.args.number c.args.self.now.core c.close.new.self.core _ c.close.ensures.answers))

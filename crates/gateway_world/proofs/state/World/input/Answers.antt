@@ -1,10 +1,6 @@
 -- All that is given out is what the input led to.
 use Rattle.gateway_world.proofs.Going.{gives-all}
-use Rattle.gateway_world.proofs.Settling.{settled-told}
 use Rattle.gateway_world.proofs.state.World.input.Goals as goal
 
 pub returns-clause-gives : goal.returns-clause-gives
 returns-clause-gives g c = rw (← c.self.view_is) (gives-all _ _ _ _ c.new-outputs.ensures.items c.in_ok-step.ensures.leads)
-
-pub returns-clause-told : goal.returns-clause-told
-returns-clause-told g c = rw (← c.self.view_is) (λ w. settled-told _ _ c.in_ok-step.ensures.kept (c.in_ok-step.ensures.settled w))
