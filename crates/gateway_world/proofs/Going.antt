@@ -62,13 +62,13 @@ tells-more h more (Out.Closed c) (Some t) w = elim w [ ]
 tells-more h more Out.Turned None w = tt
 tells-more h more Out.Turned (Some t) w = elim w [ ]
 
-all-more : (h more : List Written) (os : List Output) (ts : List (Option Telling)) → AllTell h os ts → AllTell (h ++ more) os ts
+pub all-more : (h more : List Written) (os : List Output) (ts : List (Option Telling)) → AllTell h os ts → AllTell (h ++ more) os ts
 all-more h more [] [] w = tt
 all-more h more (o ∷ os) (t ∷ ts) w = (tells-more h more o t w.0, all-more h more os ts w.1)
 all-more h more [] (t ∷ ts) w = elim w [ ]
 all-more h more (o ∷ os) [] w = elim w [ ]
 
-all-joined : (h : List Written) (xs ys : List Output) (ts us : List (Option Telling)) → AllTell h xs ts → AllTell h ys us → AllTell h (xs ++ ys) (ts ++ us)
+pub all-joined : (h : List Written) (xs ys : List Output) (ts us : List (Option Telling)) → AllTell h xs ts → AllTell h ys us → AllTell h (xs ++ ys) (ts ++ us)
 all-joined h [] ys [] us a b = b
 all-joined h (x ∷ xs) ys (t ∷ ts) us a b = (a.0, all-joined h xs ys ts us a.1 b)
 all-joined h [] ys (t ∷ ts) us a b = elim a [ ]

@@ -9,6 +9,7 @@ pub mod Lateness
 pub mod Names
 pub mod Placing
 pub mod Rules
+pub mod Running
 pub mod Serving
 pub mod Settling
 pub mod Taking

@@ -93,6 +93,14 @@ pub record Gives (old new : CoreValue) (outputs : List Output) : Type 0 where
   pub told : AllTell new.entries outputs tellings
   pub answers : (c : ℕ) → untold old c ++ answered c (length old.entries) more ≡ told_to c tellings ++ untold new c
 
+-- The outputs of a whole run: the datagrams are those that the entries send, in order; each connection is told
+-- the answers of the entries to it, in order, and else nothing but to go on.
+pub record TellsAll (h : List Written) (outputs : List Output) : Type 0 where
+  pub sent : datagrams outputs ≡ sendings h
+  pub tellings : List (Option Telling)
+  pub told : AllTell h outputs tellings
+  pub answers : (c : ℕ) → told_to c tellings ≡ answered c 0 h
+
 -- the numbers of the entries that answer some connection
 abbrev pub is_answer : Deed → Bool
 is_answer (Answers c ask grounds) = true

@@ -1,5 +1,9 @@
 //! A run: all inputs of a proxy, and what they led to.
 
+ghost use Rattle.std.specs.Prelude.{IfOk};
+ghost use Rattle.history_laws.specs.Justified.{Stands};
+ghost use Rattle.gateway_world.specs.Steps.{TellsAll};
+
 use crate::fault::WorldFault;
 use crate::input::{Input, Output};
 use crate::state::World;
@@ -22,7 +26,10 @@ impl<R: Relation> World<R> {
         alloc: Global,
         settings: Settings,
         inputs: &[Input<'_>],
-    ) -> Result<Run<R>, WorldFault> {
+    ) -> Result<Run<R>, WorldFault>
+        ensures stands { IfOk result (λ run. Stands run.journal.entries) }
+        ensures tells { IfOk result (λ run. TellsAll run.journal.entries run.outputs.items) }
+    {
         let mut world = World::new(alloc, settings)?;
         let mut outputs = Vec::new(alloc);
         'each: for input in inputs {

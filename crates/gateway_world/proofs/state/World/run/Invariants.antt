@@ -1,0 +1,7 @@
+-- What was told so far is all that there is to tell.
+use Rattle.gateway_world.specs.Steps.{TellsAll}
+use Rattle.gateway_world.specs.Rows.{Settled}
+use Rattle.gateway_world.proofs.state.World.run.Given as goal
+
+abbrev pub invariant-each : goal.invariant-each
+invariant-each g l = TellsAll l.world.core.entries l.outputs.items × Settled l.world.core
