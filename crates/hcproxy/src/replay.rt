@@ -50,7 +50,7 @@ impl<T: Drop> From<AllocFailed<T>> for ReplayFault {
 
 /// A run of a script.
 #[derive(Drop)]
-struct Script {
+pub struct Script {
     alloc: Global,
     world: World<Unchanged>,
     /// The line begun.
@@ -60,6 +60,21 @@ struct Script {
 }
 
 impl Script {
+    /// A run of no line yet.
+    pub fn new(alloc: Global, settings: Settings) -> Result<Script, ReplayFault> {
+        Ok(Script {
+            alloc,
+            world: World::new(alloc, settings).map_err(|_| ReplayFault::Memory)?,
+            line: Vec::new(alloc),
+            lines: 0,
+        })
+    }
+
+    /// What happened.
+    pub fn journal(&self) -> &Journal<Unchanged> {
+        self.world.journal()
+    }
+
     /// Runs the lines that end within the bytes, and keeps the one that is begun.
     fn take<W: Write>(&mut self, bytes: &[u8], writer: &mut W) -> Result<(), ReplayFault> {
         for part in bytes.split_inclusive(|b| *b == b'\n') {
@@ -108,7 +123,7 @@ impl Script {
 
     /// Writes the entries of the journal.
     fn write_journal<W: Write>(&self, writer: &mut W) -> Result<(), ReplayFault> {
-        let journal = self.world.journal();
+        let journal = self.journal();
         for number in 0..journal.len() {
             if let Some(entry) = journal.get(number) {
                 write_entry(self.alloc, writer, number, entry)?;
@@ -119,7 +134,7 @@ impl Script {
 }
 
 /// Reads the script to its end and runs it line by line.
-fn run_lines<R: Read, W: Write>(
+pub fn run_lines<R: Read, W: Write>(
     run: &mut Script,
     reader: &mut R,
     writer: &mut W,
@@ -146,16 +161,7 @@ pub fn replay<R: Read, W: Write>(
     writer: &mut W,
     journal: bool,
 ) -> Result<(), ReplayFault> {
-    let world = match World::new(alloc, settings) {
-        Ok(world) => world,
-        Err(_) => return Err(ReplayFault::Memory),
-    };
-    let mut run = Script {
-        alloc,
-        world,
-        line: Vec::new(alloc),
-        lines: 0,
-    };
+    let mut run = Script::new(alloc, settings)?;
     let mut outcome = run_lines(&mut run, reader, writer);
     if journal && outcome.is_ok() {
         outcome = run.write_journal(writer);

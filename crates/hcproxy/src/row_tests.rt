@@ -1,7 +1,8 @@
 //! Runs of scripts, each with what it has to print.
 
-use crate::replay::replay;
+use crate::replay::{Script, run_lines};
 use crate::settings::demonstration;
+use history_check::is_justified;
 use std::alloc::Global;
 use std::test::Fail;
 
@@ -74,12 +75,16 @@ const BOTH_LATE: Row = Row {
     printed: "0 datagram 192.0.2.1:5683 4801000000000000000000003d00732e6578616d706c652e636f6d856c69676874\n0 datagram 192.0.2.9:5683 480100000000000100000000b162\n93000 bytes 1 485454502f312e312035303420476174657761792054696d656f75740d0a48432d43617573653a2074696d656f757420330d0a436f6e74656e742d4c656e6774683a20300d0a0d0a\n93000 bytes 0 485454502f312e312035303420476174657761792054696d656f75740d0a48432d43617573653a2074696d656f757420350d0a436f6e74656e742d4c656e6774683a20300d0a0d0a\n",
 };
 
-/// Runs a script over memory, and compares what it prints.
+/// Runs a script over memory, and compares what it prints. Its journal has to be justified.
 fn prints(alloc: Global, script: &str, printed: &str) -> Result<bool, Fail> {
     let mut out = Vec::new(alloc);
     let mut reader = script.as_bytes();
-    let ended = replay(alloc, demonstration(alloc)?, &mut reader, &mut out, false);
-    Ok(ended.is_ok() && out.as_slice() == printed.as_bytes())
+    let Ok(mut run) = Script::new(alloc, demonstration(alloc)?) else {
+        return Ok(false);
+    };
+    let ended = run_lines(&mut run, &mut reader, &mut out);
+    let justified = is_justified(alloc, run.journal())?;
+    Ok(ended.is_ok() && justified && out.as_slice() == printed.as_bytes())
 }
 
 #[test]
