@@ -5,6 +5,7 @@ pub mod Bodies
 pub mod Counting
 pub mod Faults
 pub mod Going
+pub mod Holding
 pub mod Lateness
 pub mod Names
 pub mod Placing

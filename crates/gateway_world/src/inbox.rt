@@ -1,6 +1,7 @@
 //! The bytes of one connection, as far as they aren't asked.
 
-ghost use Rattle.std.specs.Prelude.{◌≡◌, ◌≤◌, vec_len};
+ghost use Rattle.std.specs.Prelude.{◌≡◌, ◌≤◌, ◌++◌, ◌↔◌, [], ℕ, List, true, false, IsTrue, vec_len, OnOk, OnErr};
+ghost use Rattle.http_edge.specs.Edges.{Stands};
 
 use crate::fields::closes;
 use http_edge::{Edge, Incoming, Memory};
@@ -34,8 +35,13 @@ pub struct Inbox {
 }
 
 impl Inbox {
+    ghost use Rattle.gateway_world.specs.Inboxes.{Holds, ReadsNext, AsksNext};
+
     /// No bytes yet.
-    pub fn new(alloc: Global, edge: Edge) -> Inbox {
+    pub fn new(alloc: Global, edge: Edge) -> Inbox
+        ensures holds { Stands edge [] → Holds result [] }
+        ensures open { result.closing ≡ false }
+    {
         Inbox {
             edge,
             backlog: Vec::new(alloc),
@@ -55,7 +61,11 @@ impl Inbox {
     }
 
     /// Puts the bytes behind those that wait, unless the last request was read.
-    pub fn append(&mut self, bytes: &[u8]) -> Result<(), Memory> {
+    pub fn append(&mut self, bytes: &[u8]) -> Result<(), Memory>
+        ensures closing { self.new.closing ≡ self.old.closing }
+        ensures more { OnOk result ((text : List ℕ) → self.old.closing ≡ false → Holds self.old text → Holds self.new (text ++ bytes.now)) }
+        ensures kept { OnErr result ((text : List ℕ) → Holds self.old text → Holds self.new text) }
+    {
         if !self.closing {
             self.backlog.extend_from_slice(bytes)?;
         }
@@ -63,7 +73,10 @@ impl Inbox {
     }
 
     /// Lets the edge take what waits. False where it took nothing.
-    fn refill(&mut self) -> bool {
+    fn refill(&mut self) -> bool
+        ensures closing { self.new.closing ≡ self.old.closing }
+        ensures holds { (text : List ℕ) → Holds self.old text → Holds self.new text }
+    {
         let n = self.edge.feed(&self.backlog[self.taken..]);
         self.taken += n;
         if self.taken == self.backlog.len() {
@@ -74,20 +87,33 @@ impl Inbox {
     }
 
     /// What the bytes that wait ask next.
-    pub fn next(&mut self) -> Result<Next, Memory> {
-        'each: for _ in 0..REQUESTS {
-            if let Some(incoming) = self.edge.next()? {
-                self.closing = closes(&incoming);
-                return Ok(Next::Request(incoming));
-            }
-            if !self.refill() {
-                break;
-            }
+    pub fn next(&mut self) -> Result<Next, Memory>
+        ensures { (text : List ℕ) → self.old.closing ≡ false → Holds self.old text → AsksNext result self.new text }
+    {
+        if let Some(incoming) = self.read()? {
+            return Ok(Next::Request(incoming));
         }
         if self.edge.wants_continue() {
             Ok(Next::Continue)
         } else {
             Ok(Next::Nothing)
         }
+    }
+
+    /// The next request of the bytes that wait, or the refusal of what stands in its place. None where
+    /// none is whole.
+    fn read(&mut self) -> Result<Option<Incoming>, Memory>
+        ensures { (text : List ℕ) → self.old.closing ≡ false → Holds self.old text → ReadsNext result self.new text }
+    {
+        'each: for _ in 0..REQUESTS {
+            if let Some(incoming) = self.edge.next()? {
+                self.closing = closes(&incoming);
+                return Ok(Some(incoming));
+            }
+            if !self.refill() {
+                return Ok(None);
+            }
+        }
+        Ok(None)
     }
 }

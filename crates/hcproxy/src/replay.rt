@@ -5,6 +5,7 @@ use crate::relation::Unchanged;
 use crate::script::{LineFault, line_of};
 use ask_model::Settings;
 use gateway_world::{World, WorldFault};
+use journal_book::Journal;
 use std::alloc::{AllocError, AllocFailed, Global};
 use std::fmt;
 use std::io::{ErrorKind, Read, Write};

@@ -1,0 +1,38 @@
+-- What of a connection's bytes isn't asked yet.
+use Rattle.std.specs.Prelude.{◌≡◌, ℕ, false, List, ◌++◌, drop, Option, Some, None, Result, Ok, Err}
+use Rattle.http_edge.specs.declared.memory.Memory.{Memory}
+use Rattle.http_edge.specs.declared.request.Incoming.{Incoming}
+use Rattle.http_edge.specs.Reading.{First, closes}
+use Rattle.http_edge.specs.Edges.{Stands, item}
+use Rattle.gateway_world.specs.declared.inbox.Inbox.{Inbox}
+use Rattle.gateway_world.specs.declared.inbox.Next.{Next}
+use Rattle.gateway_world.specs.declared.inbox.Next.TheVariants as N
+
+-- The text is what the edge stands for, and then the bytes that it had no room for.
+pub record Holds (i : Inbox) (text : List ℕ) : Type 0 where
+  pub front : List ℕ
+  pub stands : Stands i.edge front
+  pub whole : text ≡ front ++ drop i.taken i.backlog.items
+
+-- What is read next is the first request of the text, or the refusal of what stands in its place; the rest
+-- stands behind it, unless it is the last.
+pub record ReadsOne (incoming : Incoming) (i : Inbox) (text : List ℕ) : Type 0 where
+  pub rest : List ℕ
+  pub first : First text (item incoming) rest
+  pub closing : i.closing ≡ closes (item incoming)
+  pub left : i.closing ≡ false → Holds i rest
+
+-- Where nothing is read, the text stays.
+pub record Stays (i : Inbox) (text : List ℕ) : Type 0 where
+  pub goes_on : i.closing ≡ false
+  pub holds : Holds i text
+
+abbrev pub ReadsNext : Result (Option Incoming) Memory → Inbox → List ℕ → Type 0
+ReadsNext (Ok (Some incoming)) i text = ReadsOne incoming i text
+ReadsNext (Ok None) i text = Stays i text
+ReadsNext (Err m) i text = Stays i text
+
+abbrev pub AsksNext : Result Next Memory → Inbox → List ℕ → Type 0
+AsksNext (Ok (N.Request incoming)) i text = ReadsOne incoming i text
+AsksNext (Ok _) i text = Stays i text
+AsksNext (Err m) i text = Stays i text
