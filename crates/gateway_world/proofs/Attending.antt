@@ -1,11 +1,10 @@
 -- Each answer that isn't taken is attended, where a connection asks.
-use Rattle.std.proofs.Common.{◌≡◌, ℕ, List, [], ◌∷◌, ◌++◌, length, Option, Some, None, Result, Ok, Err, IfOk, inl, inr, refl, sym, subst}
-use Rattle.std.specs.List.{All}
+use Rattle.std.proofs.Common.{ℕ, List, Some, None, Result, Ok, Err, IfOk, inl, inr}
 use Rattle.std.proofs.lemmas.List.Elements.{All-push}
 use Rattle.ask_model.specs.Requests.{Sense, Requests, Refuses}
 use Rattle.ask_model.specs.Views.{Mapping}
 use Rattle.exchange_core.specs.CoreValue.{CoreValue}
-use Rattle.exchange_core.specs.Answering.{Given, refusal}
+use Rattle.exchange_core.specs.Answering.{refusal}
 use Rattle.exchange_core.specs.Asking.{AnswersAtOnce, AddsBy, AddsAsk}
 use Rattle.gateway_world.specs.Rows.{Row, Serves, IsRow, IsAttended, Attended, with_waits}
 use Rattle.gateway_world.proofs.Settling.{attended-old, attended-new}

@@ -1,8 +1,7 @@
 -- The text of a connection, as its bytes go into the edge and requests come out.
-use Rattle.std.proofs.Common.{◌≡◌, ℕ, zero, suc, ◌+◌, ◌-◌, ◌≤◌, ◌⊎◌, inl, inr, Bool, true, false, List, [], ◌∷◌, ◌++◌, length, take, drop, Option, Some, None, Result, Ok, Err, refl, sym, ap, subst, ◌∙◌, arith}
+use Rattle.std.proofs.Common.{◌≡◌, ℕ, zero, suc, ◌+◌, ◌-◌, ◌≤◌, ◌⊎◌, inl, inr, true, false, List, [], ◌∷◌, ◌++◌, length, take, drop, refl, sym, ap, ◌∙◌, arith}
 use Rattle.std.proofs.Math.ListN.{drop_of_length-le}
-use Rattle.std.proofs.lemmas.List.{take_all, take-append-drop, append_assoc, append-nil}
-use Rattle.http_edge.specs.declared.edge.Edge.{Edge}
+use Rattle.std.proofs.lemmas.List.{take_all, take-append-drop, append_assoc}
 use Rattle.http_edge.specs.declared.request.Incoming.{Incoming}
 use Rattle.http_edge.specs.Reading.{Item, First, closes}
 use Rattle.http_edge.specs.Edges.{Stands, item}

@@ -1,13 +1,13 @@
 -- What a run tells, input by input.
-use Rattle.std.proofs.Common.{◌≡◌, ℕ, ◌+◌, List, [], ◌∷◌, ◌++◌, length, map, Option, Some, None, refl, sym, ap, subst, ◌∙◌, arith, length-append}
+use Rattle.std.proofs.Common.{◌≡◌, ℕ, ◌+◌, List, [], ◌++◌, length, map, refl, sym, ap, ◌∙◌, arith}
 use Rattle.std.specs.List.{filter}
 use Rattle.std.proofs.lemmas.Grind.{flat_map-append}
-use Rattle.std.proofs.lemmas.List.{append-nil, append_assoc}
+use Rattle.std.proofs.lemmas.List.{append-nil}
 use Rattle.journal_book.specs.Entries.{Written}
 use Rattle.exchange_core.specs.Answering.{Given}
 use Rattle.exchange_core.specs.CoreValue.{CoreValue, Outgoing, sent_by, sendings}
 use Rattle.gateway_world.specs.declared.input.Output.{Output}
-use Rattle.gateway_world.specs.Steps.{Telling, AllTell, TellsAll, Gives, datagrams, datagram_in, answered, answers_at, untold, told_by, told_to}
+use Rattle.gateway_world.specs.Steps.{TellsAll, Gives, datagrams, datagram_in, answered, answers_at, untold, told_by, told_to}
 use Rattle.gateway_world.specs.Rows.{Settled}
 use Rattle.gateway_world.proofs.Counting.{answered-append}
 use Rattle.gateway_world.proofs.Going.{all-more, all-joined}

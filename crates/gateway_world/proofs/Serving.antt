@@ -192,14 +192,14 @@ serves-without a rows c gone s =
       opened = All-filter p (λ (r : Row). r.number < connections a.entries) rows s.opened;
       asked = All-filter p (λ (r : Row). WaitsFor a.entries r.number r.waits) rows s.asked;
       served = All-weaker (Contains a.conns) (IsServed a.entries (without_row c rows)) (λ x has.
-      let w : IsServed a.entries rows x = All-contains (IsServed a.entries rows) a.conns x s.served has in
-      record {
-        there = All-contains (λ (n : ℕ). n ≢ c → IsThere (without_row c rows) n) (map number_of rows) x.id (there-without c rows) w.there
-            (All-contains (λ (x : Conn). x.id ≢ c) a.conns x gone has);
-        opened = w.opened;
-        asked = w.asked;
-        row = All-filter p (λ (r : Row). r.number ≡ x.id → (k : ℕ) → x.pending ≡ Some k → r.waits ≡ Some k) rows w.row;
-      }) a.conns (All-contains_itself a.conns);
+          let w : IsServed a.entries rows x = All-contains (IsServed a.entries rows) a.conns x s.served has in
+          record {
+            there = All-contains (λ (n : ℕ). n ≢ c → IsThere (without_row c rows) n) (map number_of rows) x.id (there-without c rows) w.there
+                (All-contains (λ (x : Conn). x.id ≢ c) a.conns x gone has);
+            opened = w.opened;
+            asked = w.asked;
+            row = All-filter p (λ (r : Row). r.number ≡ x.id → (k : ℕ) → x.pending ≡ Some k → r.waits ≡ Some k) rows w.row;
+          }) a.conns (All-contains_itself a.conns);
       claimed = All-weaker (IsClaimed a.entries a.conns rows) (IsClaimed a.entries a.conns (without_row c rows)) (λ g w. record {
         stands = w.stands;
         asked = w.asked;

@@ -1,16 +1,16 @@
 -- What is told, and what is left for the others.
-use Rattle.std.proofs.Common.{◌≡◌, ◌≢◌, ℕ, zero, suc, ◌+◌, ◌<◌, ◌≤◌, Bool, true, false, not, inl, inr, List, [], ◌∷◌, ◌++◌, length, map, Option, Some, None, Result, Ok, Err, OnOk, refl, sym, ap, subst, ◌∙◌, arith}
+use Rattle.std.proofs.Common.{◌≡◌, ◌≢◌, ℕ, zero, suc, ◌+◌, ◌<◌, ◌≤◌, Bool, true, not, inl, inr, List, [], ◌∷◌, ◌++◌, length, map, Option, Some, None, Result, Ok, Err, OnOk, refl, sym, ap, subst, ◌∙◌, arith}
 use Rattle.std.specs.Prelude.{◌==◌, ⊤}
 use Rattle.std.specs.List.{All, Contains, filter}
 use Rattle.std.proofs.lemmas.Bool.{cases_lt, cases_Bool}
 use Rattle.std.proofs.lemmas.Bool.Decides.{eqb_tells}
-use Rattle.std.proofs.lemmas.List.Elements.{All-nil, All-cons, All-head, All-tail, All-weaker, All-push, All-filter, All-contains, All-contains_itself, filter_passes, Contains-append_right}
+use Rattle.std.proofs.lemmas.List.Elements.{All-nil, All-cons, All-head, All-tail, All-weaker, All-filter, All-contains, All-contains_itself, filter_passes, Contains-append_right}
 use Rattle.journal_book.specs.Entries.{Written}
 use Rattle.exchange_core.specs.CoreValue.{CoreValue}
 use Rattle.exchange_core.specs.Answering.{Given}
 use Rattle.gateway_world.specs.Steps.{Grows}
 use Rattle.gateway_world.specs.Rows.{Row, AreRising, HasAsk, WaitsFor, IsThere, IsServed, Serves, IsRow, row_at, with_waits, without_row, IsOpen, Calm, Settled, IsAttended, Attended, IsNewAnswer, AnswersAlone, IsServedOn, LeavesOthers, IsFirstWaiting, IsWaitedFrom}
-use Rattle.gateway_world.proofs.Serving.{number_of, number_in, some-same, ask-below, ask-one, waits-for, longer, SameServed}
+use Rattle.gateway_world.proofs.Serving.{number_of, some-same, ask-below, ask-one, waits-for, longer}
 use Rattle.gateway_world.proofs.Asking.{all-with}
 use Rattle.gateway_world.proofs.Taking.{Takes, key-kept}
 
@@ -46,9 +46,9 @@ served-idle-row c core rows rising idle =
 pub served-open : (c k : ℕ) (core : CoreValue) (rows : List Row) → AreRising (map number_of rows) → IsRow rows c (Some k) → IsOpen core k → IsServedOn c core rows
 served-open c k core rows rising row open_one =
     row-only (λ (r : Row). (k : ℕ) → r.waits ≡ Some k → IsOpen core k) c rows rising (λ r is j e.
-        let same : row.row ≡ r = some-same row.row r (sym row.stands ∙ is) in
-        let one : k ≡ j = some-same k j (sym row.waits ∙ ap (λ (r : Row). r.waits) same ∙ e) in
-        subst (IsOpen core) one open_one)
+    let same : row.row ≡ r = some-same row.row r (sym row.stands ∙ is) in
+    let one : k ≡ j = some-same k j (sym row.waits ∙ ap (λ (r : Row). r.waits) same ∙ e) in
+    subst (IsOpen core) one open_one)
 
 Contains-cons : (r s : Row) (rows : List Row) → Contains rows s → Contains (r ∷ rows) s
 Contains-cons r s rows has = Contains-append_right (r ∷ []) rows s has
@@ -139,29 +139,29 @@ leaves-on c a b d ra rb rd grows first second = record {
 pub calm-on : (asks : ℕ → Type 0) (c : ℕ) (a b : CoreValue) (ra rb : List Row) → Serves a ra → LeavesOthers c a ra b rb → IsServedOn c b rb → Calm asks a ra → Calm asks b rb
 calm-on asks c a b ra rb s leaves told calm =
     All-weaker (Contains rb) (λ (r : Row). (k : ℕ) → r.waits ≡ Some k → asks k → IsOpen b k) (λ r has k e ask.
-        elim (eqb_tells r.number c) [
-          | inl u ↦ All-contains (λ (r : Row). r.number ≡ c → (k : ℕ) → r.waits ≡ Some k → IsOpen b k) rb r told has u.1 k e
-          | inr u ↦
-              let there : Contains ra r = All-contains (λ (r : Row). r.number ≢ c → Contains ra r) rb r leaves.others has u.1 in
-              let asked : WaitsFor a.entries r.number r.waits = All-contains (λ (r : Row). WaitsFor a.entries r.number r.waits) ra r s.asked there in
-              leaves.kept k (ask-below a.entries r.number k (waits-for a.entries r.number k r.waits e asked))
-              (All-contains (λ (r : Row). (k : ℕ) → r.waits ≡ Some k → asks k → IsOpen a k) ra r calm there k e ask)
-        ]) rb (All-contains_itself rb)
+    elim (eqb_tells r.number c) [
+      | inl u ↦ All-contains (λ (r : Row). r.number ≡ c → (k : ℕ) → r.waits ≡ Some k → IsOpen b k) rb r told has u.1 k e
+      | inr u ↦
+          let there : Contains ra r = All-contains (λ (r : Row). r.number ≢ c → Contains ra r) rb r leaves.others has u.1 in
+          let asked : WaitsFor a.entries r.number r.waits = All-contains (λ (r : Row). WaitsFor a.entries r.number r.waits) ra r s.asked there in
+          leaves.kept k (ask-below a.entries r.number k (waits-for a.entries r.number k r.waits e asked))
+          (All-contains (λ (r : Row). (k : ℕ) → r.waits ≡ Some k → asks k → IsOpen a k) ra r calm there k e ask)
+    ]) rb (All-contains_itself rb)
 
 -- Behind the first that waits, those up to it are calm.
 pub calm-next : (from : ℕ) (w : ℕ × ℕ) (a b : CoreValue) (ra rb : List Row) → Serves a ra → IsFirstWaiting from ra w → LeavesOthers w.1 a ra b rb → IsServedOn w.1 b rb
     → Calm (λ k. k < from) a ra → Calm (λ k. k < w.0 + 1) b rb
 calm-next from w a b ra rb s first leaves told calm =
     All-weaker (Contains rb) (λ (r : Row). (k : ℕ) → r.waits ≡ Some k → k < w.0 + 1 → IsOpen b k) (λ r has k e lt.
-        elim (eqb_tells r.number w.1) [
-          | inl u ↦ All-contains (λ (r : Row). r.number ≡ w.1 → (k : ℕ) → r.waits ≡ Some k → IsOpen b k) rb r told has u.1 k e
-          | inr u ↦
-              let there : Contains ra r = All-contains (λ (r : Row). r.number ≢ w.1 → Contains ra r) rb r leaves.others has u.1 in
-              let asked : HasAsk a.entries r.number k =
-              waits-for a.entries r.number k r.waits e (All-contains (λ (r : Row). WaitsFor a.entries r.number r.waits) ra r s.asked there) in
-              leaves.kept k (ask-below a.entries r.number k asked)
-              (All-contains (λ (r : Row). (k : ℕ) → r.waits ≡ Some k → k < from → IsOpen a k) ra r calm there k e (early r k there e asked lt u.1))
-        ]) rb (All-contains_itself rb)
+    elim (eqb_tells r.number w.1) [
+      | inl u ↦ All-contains (λ (r : Row). r.number ≡ w.1 → (k : ℕ) → r.waits ≡ Some k → IsOpen b k) rb r told has u.1 k e
+      | inr u ↦
+          let there : Contains ra r = All-contains (λ (r : Row). r.number ≢ w.1 → Contains ra r) rb r leaves.others has u.1 in
+          let asked : HasAsk a.entries r.number k =
+          waits-for a.entries r.number k r.waits e (All-contains (λ (r : Row). WaitsFor a.entries r.number r.waits) ra r s.asked there) in
+          leaves.kept k (ask-below a.entries r.number k asked)
+          (All-contains (λ (r : Row). (k : ℕ) → r.waits ≡ Some k → k < from → IsOpen a k) ra r calm there k e (early r k there e asked lt u.1))
+    ]) rb (All-contains_itself rb)
   where
     early : (r : Row) (k : ℕ) → Contains ra r → r.waits ≡ Some k → HasAsk a.entries r.number k → k < w.0 + 1 → r.number ≢ w.1 → k < from
     early r k there e asked lt not = elim (cases_lt k from) [
@@ -182,8 +182,8 @@ calm-none core rows =
 pub calm-all : (from : ℕ) (core : CoreValue) (rows : List Row) → IsWaitedFrom from rows None → Calm (λ k. k < from) core rows → Calm (λ k. ⊤) core rows
 calm-all from core rows none calm =
     All-weaker (Contains rows) (λ (r : Row). (k : ℕ) → r.waits ≡ Some k → ⊤ → IsOpen core k) (λ r has k e any.
-        All-contains (λ (r : Row). (k : ℕ) → r.waits ≡ Some k → k < from → IsOpen core k) rows r calm has k e
-        (All-contains (λ (r : Row). (k : ℕ) → r.waits ≡ Some k → k < from) rows r none has k e)) rows (All-contains_itself rows)
+    All-contains (λ (r : Row). (k : ℕ) → r.waits ≡ Some k → k < from → IsOpen core k) rows r calm has k e
+    (All-contains (λ (r : Row). (k : ℕ) → r.waits ≡ Some k → k < from) rows r none has k e)) rows (All-contains_itself rows)
 
 -- one connection of those that are settled
 pub told-one : (c : ℕ) (core : CoreValue) (rows : List Row) → Calm (λ k. ⊤) core rows → IsServedOn c core rows
@@ -227,9 +227,9 @@ attended-taken c a b rows g s row t w =
     let waits : All (λ (r : Row). r.number ≡ c → r.waits ≡ Some g.ask) rows =
     row-only (λ (r : Row). r.waits ≡ Some g.ask) c rows s.numbered (λ r is. ap (λ (r : Row). r.waits) (sym (some-same row.row r (sym row.stands ∙ is))) ∙ row.waits) in
     rw (t.answers) (both-filter (λ (x : Given). not (x.ask == g.ask)) (IsAttended rows) (IsAttended (with_waits c None rows)) (λ x v passes.
-        attended-by c rows (with_waits c None rows) x v (stay-with c None rows) (λ same.
-            key-kept g.ask x.ask passes (some-same x.ask g.ask (sym v.waits ∙ All-contains (λ (r : Row). r.number ≡ c → r.waits ≡ Some g.ask) rows v.row waits v.stands same))))
-        a.answers w)
+    attended-by c rows (with_waits c None rows) x v (stay-with c None rows) (λ same.
+    key-kept g.ask x.ask passes (some-same x.ask g.ask (sym v.waits ∙ All-contains (λ (r : Row). r.number ≡ c → r.waits ≡ Some g.ask) rows v.row waits v.stands same))))
+    a.answers w)
   where
     both-filter : (p : Given → Bool) (P Q : Given → Type 0) → ((x : Given) → P x → p x ≡ true → Q x) → (xs : List Given) → All P xs → All Q (filter p xs)
     both-filter p P Q f [] all = All-nil Q
@@ -244,11 +244,11 @@ attended-taken c a b rows g s row t w =
 pub attended-without : (c : ℕ) (a b : CoreValue) (rows : List Row) → b.answers ≡ a.answers → IsServedOn c a rows → Attended a rows → Attended b (without_row c rows)
 attended-without c a b rows answers told w =
     rw answers (All-weaker (Contains a.answers) (IsAttended (without_row c rows)) (λ g has.
-        let v : IsAttended rows g = All-contains (IsAttended rows) a.answers g w has in
-        attended-by c rows (without_row c rows) g v (stay-without c rows) (λ same.
-            All-contains (λ (x : Given). x.ask ≢ g.ask) a.answers g
-            (All-contains (λ (r : Row). r.number ≡ c → (k : ℕ) → r.waits ≡ Some k → IsOpen a k) rows v.row told v.stands same g.ask v.waits) has refl))
-        a.answers (All-contains_itself a.answers))
+    let v : IsAttended rows g = All-contains (IsAttended rows) a.answers g w has in
+    attended-by c rows (without_row c rows) g v (stay-without c rows) (λ same.
+    All-contains (λ (x : Given). x.ask ≢ g.ask) a.answers g
+    (All-contains (λ (r : Row). r.number ≡ c → (k : ℕ) → r.waits ≡ Some k → IsOpen a k) rows v.row told v.stands same g.ask v.waits) has refl))
+    a.answers (All-contains_itself a.answers))
 
 -- behind an ask, where the connection waited for nothing
 pub attended-old : (c n : ℕ) (a : CoreValue) (rows : List Row) → Serves a rows → IsRow rows c None → Attended a rows → All (IsAttended (with_waits c (Some n) rows)) a.answers
@@ -256,8 +256,8 @@ attended-old c n a rows s idle w =
     let waits : All (λ (r : Row). r.number ≡ c → r.waits ≡ None) rows =
     row-only (λ (r : Row). r.waits ≡ None) c rows s.numbered (λ r is. ap (λ (r : Row). r.waits) (sym (some-same idle.row r (sym idle.stands ∙ is))) ∙ idle.waits) in
     All-weaker (IsAttended rows) (IsAttended (with_waits c (Some n) rows)) (λ g v.
-        attended-by c rows (with_waits c (Some n) rows) g v (stay-with c (Some n) rows) (λ same.
-            none-some g.ask (sym (All-contains (λ (r : Row). r.number ≡ c → r.waits ≡ None) rows v.row waits v.stands same) ∙ v.waits))) a.answers w
+    attended-by c rows (with_waits c (Some n) rows) g v (stay-with c (Some n) rows) (λ same.
+    none-some g.ask (sym (All-contains (λ (r : Row). r.number ≡ c → r.waits ≡ None) rows v.row waits v.stands same) ∙ v.waits))) a.answers w
 
 -- the row that was set
 set-row : (c : ℕ) (k : Option ℕ) (rows : List Row) (r0 : Row) → row_at c rows ≡ Some r0 → (r : Row) × Contains (with_waits c k rows) r × (r.waits ≡ k)
@@ -285,13 +285,13 @@ row-there (r ∷ rows) c (suc i, lt, is) =
 pub attended-heard : (a b : CoreValue) (rows : List Row) → Serves a rows → AnswersAlone a b → a.answers ≡ [] → Attended b rows
 attended-heard a b rows s w none =
     rw (w.step.answers, none) (All-weaker (IsNewAnswer a b) (IsAttended rows) (λ g v.
-        let x : IsServed a.entries rows v.conn = All-contains (IsServed a.entries rows) a.conns v.conn s.served v.waited in
-        let r = row-there rows v.conn.id x.there in
-        record {
-          row = r.0;
-          stands = r.1;
-          waits = All-contains (λ (r : Row). r.number ≡ v.conn.id → (k : ℕ) → v.conn.pending ≡ Some k → r.waits ≡ Some k) rows r.0 x.row r.1 r.2 g.ask v.ask;
-        }) w.step.given w.answers)
+    let x : IsServed a.entries rows v.conn = All-contains (IsServed a.entries rows) a.conns v.conn s.served v.waited in
+    let r = row-there rows v.conn.id x.there in
+    record {
+      row = r.0;
+      stands = r.1;
+      waits = All-contains (λ (r : Row). r.number ≡ v.conn.id → (k : ℕ) → v.conn.pending ≡ Some k → r.waits ≡ Some k) rows r.0 x.row r.1 r.2 g.ask v.ask;
+    }) w.step.given w.answers)
 
 -- Where each answer is attended, and all are calm, there is none.
 pub all-told : (core : CoreValue) (rows : List Row) → Attended core rows → Calm (λ k. ⊤) core rows → core.answers ≡ []

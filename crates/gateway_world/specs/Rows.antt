@@ -144,7 +144,6 @@ pub record LeavesOthers (c : ℕ) (old : CoreValue) (rows : List Row) (new : Cor
   pub stay : All (λ (r : Row). r.number ≢ c → Contains rows1 r) rows
   pub kept : (k : ℕ) → k < length old.entries → IsOpen old k → IsOpen new k
 
-
 -- The first of the asks from this number on that a connection waits for, and its connection.
 pub record IsFirstWaiting (from : ℕ) (rows : List Row) (w : ℕ × ℕ) : Type 0 where
   pub row : Row

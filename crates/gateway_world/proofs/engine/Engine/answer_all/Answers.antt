@@ -1,5 +1,4 @@
 -- Each answer follows what was given out before.
-use Rattle.std.proofs.Common.{arith}
 use Rattle.gateway_world.proofs.Going.{goes-none, goes-on}
 use Rattle.gateway_world.proofs.Settling.{all-told, calm-none, calm-next, calm-all}
 use Rattle.gateway_world.proofs.engine.Engine.answer_all.Goals as goal

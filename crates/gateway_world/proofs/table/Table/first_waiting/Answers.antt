@@ -1,9 +1,7 @@
 -- One row more is looked at.
-use Rattle.std.proofs.Common.{◌≡◌, ◌<◌, ◌≤◌, ℕ, List, map, length, get_or, None, sym, ap, subst, ◌∙◌, arith}
+use Rattle.std.proofs.Common.{◌≡◌, ◌<◌, ◌≤◌, List, length, get_or, None, ap, subst, arith}
 use Rattle.std.specs.Prelude.{option_map}
-use Rattle.std.proofs.lemmas.List.{take_all}
 use Rattle.gateway_world.specs.declared.table.Connection.{Connection}
-use Rattle.gateway_world.specs.Rows.{row_of, IsWaitedFrom}
 use Rattle.gateway_world.proofs.Waiting.{waited-passed, waited-next, waited-all}
 use Rattle.gateway_world.proofs.table.Table.first_waiting.Goals.{in-Some, in_default}
 use Rattle.gateway_world.proofs.table.Table.first_waiting.Goals as goal
