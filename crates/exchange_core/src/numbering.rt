@@ -1,6 +1,6 @@
 //! The tokens and message IDs that requests are sent under.
 
-ghost use Rattle.std.specs.Prelude.{◌≡◌, ◌≤◌, ◌<◌, false, length, None, IfSome, All, vec_len, vec_capacity};
+ghost use Rattle.std.specs.Prelude.{◌≡◌, ◌≤◌, ◌<◌, ◌+◌, ◌/◌, ◌%◌, ◌^◌, drop, false, length, None, IfSome, All, vec_len, vec_capacity};
 ghost use Rattle.ask_model.specs.Requests.{same_peer};
 ghost use Rattle.history_laws.specs.Numbering.{token_number, known_of, known_after, next_id};
 ghost use Rattle.exchange_core.specs.Tables.{IsPlaceOf};
@@ -14,6 +14,7 @@ use uri_map::Peer;
 pub fn token_of(issued: u32, word: u64) -> Token
     ensures size { length result ≡ 8 }
     ensures number { token_number result ≡ issued }
+    ensures word { token_number (drop 4 result) ≡ word / 2 ^ 32 }
 {
     let high = (word >> 32) as u32;
     let [a, b, c, d] = issued.to_be_bytes();
@@ -49,6 +50,7 @@ pub fn next_mid(known: Option<Known>, first: u16) -> u16
 pub fn first_timeout(word: u64) -> u32
     ensures least { 2000 ≤ result }
     ensures greatest { result ≤ 3000 }
+    ensures word { result ≡ 2000 + word % 2 ^ 32 % 1001 }
 {
     2000 + ((word & 0xffff_ffff) % 1001) as u32
 }
