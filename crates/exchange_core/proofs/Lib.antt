@@ -8,6 +8,7 @@ pub mod Lists
 pub mod Taking
 pub mod Showing
 pub mod Lates
+pub mod Least
 pub mod Rising
 pub mod Waiters
 pub mod Timed

@@ -1,6 +1,6 @@
 //! The core.
 
-ghost use Rattle.std.specs.Prelude.{ℕ, ◌≡◌, ◌≢◌, ◌⊎◌, ◌==◌, ◌≤◌, ◌+◌, ◌^◌, ◌∷◌, ◌++◌, [], None, true, false, not, filter, All, length, IfOk, IfSome, IsOk, Err, IsTrue, IsFalse};
+ghost use Rattle.std.specs.Prelude.{ℕ, ◌≡◌, ◌≢◌, ◌⊎◌, ◌==◌, ◌≤◌, ◌+◌, ◌^◌, ◌∷◌, ◌++◌, [], None, true, false, not, map, filter, All, length, IfOk, IfSome, IsOk, Err, IsTrue, IsFalse};
 ghost use Rattle.std.specs.List.{Contains};
 ghost use Rattle.std.specs.Arc.{arc_value};
 ghost use Rattle.ask_model.specs.Sizes.{came_size, capped};
@@ -259,6 +259,15 @@ impl<R: Relation> Core<R> {
             number,
             mapped,
         })
+    }
+
+    /// The first of the asks whose answers aren't taken yet.
+    pub fn first_answered(&self) -> Option<u32>
+        ensures some { IfSome result (λ k. Contains (map (λ g. g.ask) self.now.answers) k) }
+        ensures least { IfSome result (λ k. All (λ g. k ≤ g.ask) self.now.answers) }
+        ensures none { result ≡ None → self.now.answers ≡ [] }
+    {
+        self.outbox.first_answered()
     }
 
     /// Takes the answer to an ask, which is given once.

@@ -1,7 +1,7 @@
 //! The asks that wait for an answer, and the answers that aren't taken yet.
 
-ghost use Rattle.std.specs.Prelude.{◌≡◌, ◌≢◌, ◌<◌, ◌==◌, ◌∷◌, ◌++◌, [], not, filter, All, Some, None, slice_get, option_map, IfSome, IfOk, OnOk, OnErr};
-ghost use Rattle.std.specs.List.{Contains};
+ghost use Rattle.std.specs.Prelude.{◌≡◌, ◌≢◌, ◌<◌, ◌≤◌, ◌==◌, ◌∷◌, ◌++◌, [], not, map, filter, min, All, Some, None, slice_get, option_map, IfSome, IfOk, OnOk, OnErr};
+ghost use Rattle.std.specs.List.{Contains, reduce};
 ghost use Rattle.std.specs.Arc.{arc_value};
 ghost use Rattle.exchange_core.specs.Answering.{given_of, HasWaited, answer_of, without};
 
@@ -134,6 +134,15 @@ impl<R: Relation> Outbox<R> {
         }
     }
 
+    /// The first of the asks that were answered.
+    pub fn first_answered(&self) -> Option<u32>
+        ensures some { IfSome result (λ k. Contains (map (λ g. g.ask) self.now.answers) k) }
+        ensures least { IfSome result (λ k. All (λ g. k ≤ g.ask) self.now.answers) }
+        ensures none { result ≡ None → self.now.answers ≡ [] }
+    {
+        least_ask(&self.answers)
+    }
+
     /// Takes out the answer to the ask, if there is one.
     pub fn take(&mut self, ask: u32) -> Option<Answer<R>>
         ensures some { IfSome result (λ a. (a.ask ≡ ask) × Contains self.old.answers (given_of a)) }
@@ -161,6 +170,13 @@ fn place_of<R: Relation>(waiting: &[Waiting<R>], ask: u32) -> Option<usize>
         }
     }
     None
+}
+
+/// The least of their asks.
+fn least_ask<R: Relation>(answers: &[Answer<R>]) -> Option<u32>
+    ensures { result ≡ reduce min (map (λ a. a.ask) answers.now) }
+{
+    answers.iter().map(|answer| answer.ask).min()
 }
 
 /// The place of the answer to the ask.

@@ -372,11 +372,15 @@ fn timeouts_are_answered_by_rising_ask(rt: HostRuntime) {
     let mut core = new_core(alloc).expect(&rt, "memory");
     assert!(rt; open(&mut core, 0) == Ok(0));
     assert!(rt; open(&mut core, 0) == Ok(1));
-    assert!(rt; ask(&mut core, alloc, 0, 1).is_ok());
+    let first = ask(&mut core, alloc, 0, 1).ok().expect(&rt, "a ticket");
     assert!(rt; ask(&mut core, alloc, 0, 0).is_ok());
+    assert!(rt; core.first_answered().is_none());
     assert!(rt; tick(&mut core, 93_000));
     // two openings, two asks that are sent, the tick, and the answers
     assert!(rt; entries(&core) == 9);
     assert!(rt; answered(&core, 7) == Some((1, 2)));
     assert!(rt; answered(&core, 8) == Some((0, 4)));
+    assert!(rt; core.first_answered() == Some(2));
+    assert!(rt; take_answer(&mut core, &first).is_some());
+    assert!(rt; core.first_answered() == Some(4));
 }
