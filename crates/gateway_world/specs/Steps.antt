@@ -25,22 +25,28 @@ datagrams outputs = flat_map datagram_in outputs
 abbrev pub continue_text : List ℕ
 continue_text = codes "HTTP/1.1 100 Continue\r\n\r\n"
 
--- Whether the entry with this number answers the connection.
+-- whether the deed answers the connection
 abbrev pub answers_conn : ℕ → Deed → Bool
 answers_conn c (Answers d ask grounds) = d == c
 answers_conn c _ = false
 
+-- Whether there is an entry, and it answers the connection.
 abbrev pub answers_in : ℕ → Option Written → Bool
 answers_in c None = false
 answers_in c (Some w) = answers_conn c w.deed
 
+-- Whether the entry with this number answers the connection.
 abbrev pub answers_at : List Written → ℕ → ℕ → Bool
 answers_at h n c = answers_in c (slice_get h n)
 
--- the numbers of the entries that answer the connection, where the first of them all has this number
+-- the numbers of the entries whose deeds pass the test, where the first of them all has this number
+abbrev pub numbered_where : (Deed → Bool) → ℕ → List Written → List ℕ
+numbered_where test n [] = []
+numbered_where test n (w ∷ ws) = if test w.deed then n ∷ numbered_where test (n + 1) ws else numbered_where test (n + 1) ws
+
+-- the numbers of those that answer the connection
 abbrev pub answered : ℕ → ℕ → List Written → List ℕ
-answered c n [] = []
-answered c n (w ∷ ws) = if answers_conn c w.deed then n ∷ answered c (n + 1) ws else answered c (n + 1) ws
+answered c n ws = numbered_where (answers_conn c) n ws
 
 -- the answers to the connection that it wasn't told yet, by the numbers of their entries
 abbrev pub untold : CoreValue → ℕ → List ℕ
@@ -101,14 +107,14 @@ pub record TellsAll (h : List Written) (outputs : List Output) : Type 0 where
   pub told : AllTell h outputs tellings
   pub answers : (c : ℕ) → told_to c tellings ≡ answered c 0 h
 
--- the numbers of the entries that answer some connection
+-- whether the deed answers some connection
 abbrev pub is_answer : Deed → Bool
 is_answer (Answers c ask grounds) = true
 is_answer _ = false
 
+-- the numbers of the entries that do
 abbrev pub all_answered : ℕ → List Written → List ℕ
-all_answered n [] = []
-all_answered n (w ∷ ws) = if is_answer w.deed then n ∷ all_answered (n + 1) ws else all_answered (n + 1) ws
+all_answered n ws = numbered_where is_answer n ws
 
 -- A step of the core: entries are added, and what they send and answer waits.
 pub record Advances (old new : CoreValue) : Type 0 where
