@@ -21,7 +21,7 @@ use Rattle.exchange_core.specs.Asking.{AnswersAtOnce, OpensExchange, AddsBy, Add
 use Rattle.exchange_core.specs.Hears.{AddsNone, AddsOne, HeardSo}
 use Rattle.exchange_core.specs.Steps.{with_sent, outgoing_by}
 use Rattle.gateway_world.specs.Steps.{Advances, answers_in, is_answer, all_answered}
-use Rattle.gateway_world.specs.Rows.{ComesFrom, IsNewAnswer, AnswersAlone}
+use Rattle.gateway_world.specs.CoreSteps.{ComesFrom, IsNewAnswer, AnswersAlone}
 use Rattle.gateway_world.proofs.Counting.{slice_get-at}
 use Rattle.gateway_world.proofs.Going.{advances-none}
 

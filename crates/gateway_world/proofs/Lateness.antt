@@ -15,7 +15,7 @@ use Rattle.exchange_core.specs.CoreValue.{CoreValue, Outgoing, sent_by, sendings
 use Rattle.exchange_core.specs.Answering.{Given}
 use Rattle.exchange_core.specs.Ticking.{is_past, waits_on, late_reader, late_on, late_for, timed_by, timed, timeout_by, timeout_for, timeouts, HasPast, AreTimeouts, AnswersLate, takes_tick, EndsLate, SealsLate, KeepsLate}
 use Rattle.gateway_world.specs.Steps.{Advances, answers_conn, answers_in, is_answer, all_answered}
-use Rattle.gateway_world.specs.Rows.{ComesFrom, IsNewAnswer, AnswersAlone}
+use Rattle.gateway_world.specs.CoreSteps.{ComesFrom, IsNewAnswer, AnswersAlone}
 use Rattle.gateway_world.proofs.Counting.{slice_get-at}
 use Rattle.gateway_world.proofs.Advancing.{same-alone}
 

@@ -12,7 +12,8 @@ use Rattle.history_laws.specs.declared.kept.Conn.{Conn}
 use Rattle.exchange_core.specs.CoreValue.{CoreValue, connections, opens_deed}
 use Rattle.exchange_core.specs.Answering.{Given}
 use Rattle.gateway_world.specs.Steps.{answers_at, all_answered}
-use Rattle.gateway_world.specs.Rows.{Row, HasAsk, WaitsFor, IsThere, IsServed, IsClaimed, Serves, ComesFrom, IsNewAnswer, AnswersAlone, without_row}
+use Rattle.gateway_world.specs.CoreSteps.{ComesFrom, IsNewAnswer, AnswersAlone}
+use Rattle.gateway_world.specs.Rows.{Row, HasAsk, WaitsFor, IsThere, IsServed, IsClaimed, Serves, without_row}
 use Rattle.gateway_world.proofs.Counting.{slice_get-below, slice_get-kept, answers-more, answers-below, answered-from, answered-rise, rising-append, rising-filtered}
 
 abbrev pub number_of : Row → ℕ

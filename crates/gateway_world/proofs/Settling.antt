@@ -9,7 +9,8 @@ use Rattle.journal_book.specs.Entries.{Written}
 use Rattle.exchange_core.specs.CoreValue.{CoreValue}
 use Rattle.exchange_core.specs.Answering.{Given}
 use Rattle.gateway_world.specs.Steps.{Grows}
-use Rattle.gateway_world.specs.Rows.{Row, AreRising, HasAsk, WaitsFor, IsThere, IsServed, Serves, IsRow, row_at, with_waits, without_row, IsOpen, Calm, Settled, IsAttended, Attended, IsNewAnswer, AnswersAlone, IsServedOn, LeavesOthers, IsFirstWaiting, IsWaitedFrom}
+use Rattle.gateway_world.specs.CoreSteps.{IsNewAnswer, AnswersAlone}
+use Rattle.gateway_world.specs.Rows.{Row, AreRising, HasAsk, WaitsFor, IsThere, IsServed, Serves, IsRow, row_at, with_waits, without_row, IsOpen, Calm, Settled, IsAttended, Attended, IsServedOn, LeavesOthers, IsFirstWaiting, IsWaitedFrom}
 use Rattle.gateway_world.proofs.Serving.{number_of, some-same, ask-below, ask-one, waits-for, longer}
 use Rattle.gateway_world.proofs.Asking.{all-with}
 use Rattle.gateway_world.proofs.Taking.{Takes, key-kept}

@@ -1,3 +1,4 @@
+pub mod CoreSteps
 pub mod Inboxes
 pub mod Limits
 pub mod Located

@@ -1,5 +1,5 @@
 -- The connections that are served, and how they go with the core.
-use Rattle.std.specs.Prelude.{◌≡◌, ◌≢◌, ◌⊎◌, ℕ, ◌<◌, ◌≤◌, ◌==◌, Bool, true, false, not, List, [], ◌∷◌, length, map, filter, Option, Some, None, option_map, slice_get, ⊤, if◌then◌else◌}
+use Rattle.std.specs.Prelude.{◌≡◌, ◌≢◌, ℕ, ◌<◌, ◌≤◌, ◌==◌, Bool, true, false, not, List, [], ◌∷◌, length, map, filter, Option, Some, None, option_map, slice_get, ⊤, if◌then◌else◌}
 use Rattle.std.specs.List.{All, Contains}
 use Rattle.ask_model.specs.Requests.{Ask}
 use Rattle.journal_book.specs.Entries.{Asks, Written}
@@ -10,7 +10,7 @@ use Rattle.gateway_world.specs.declared.table.Connection.{Connection}
 use Rattle.gateway_world.specs.declared.table.Table.{Table}
 use Rattle.gateway_world.specs.declared.inbox.Next.{Next}
 use Rattle.gateway_world.specs.declared.inbox.Next.TheVariants as N
-use Rattle.gateway_world.specs.Steps.{answers_at, Advances}
+use Rattle.gateway_world.specs.Steps.{answers_at}
 
 -- a connection, and the ask whose answer is due next
 pub record Row : Type 0 where
@@ -90,27 +90,6 @@ pub record IsRow (rows : List Row) (c : ℕ) (k : Option ℕ) : Type 0 where
   pub row : Row
   pub stands : row_at c rows ≡ Some row
   pub waits : row.waits ≡ k
-
--- A connection of the core that was there before, and waits for the same ask, or for none any more.
-pub record ComesFrom (conns : List Conn) (y : Conn) : Type 0 where
-  pub conn : Conn
-  pub stands : Contains conns conn
-  pub id : y.id ≡ conn.id
-  pub waits : (y.pending ≡ None) ⊎ (y.pending ≡ conn.pending)
-
--- An answer on a connection that waited for it, and doesn't any more.
-pub record IsNewAnswer (old new : CoreValue) (g : Given) : Type 0 where
-  pub conn : Conn
-  pub waited : Contains old.conns conn
-  pub ask : conn.pending ≡ Some g.ask
-  pub stands : (c : ℕ) → answers_at new.entries g.number c ≡ (conn.id == c)
-  pub done : All (λ (x : Conn). x.id ≡ conn.id → x.pending ≢ Some g.ask) new.conns
-
--- A step in which no connection opens, and none asks.
-pub record AnswersAlone (old new : CoreValue) : Type 0 where
-  pub step : Advances old new
-  pub conns : All (ComesFrom old.conns) new.conns
-  pub answers : All (IsNewAnswer old new) step.given
 
 -- No answer to this ask waits to be taken.
 abbrev pub IsOpen : CoreValue → ℕ → Type 0

@@ -2,7 +2,8 @@
 
 ghost use Rattle.std.specs.Prelude.{ℕ, ◌≡◌, ◌≢◌, ◌<◌, All, List, [], ◌++◌, ◌∷◌, Some, None, IfOk, OnOk, OnErr, length};
 ghost use Rattle.gateway_world.specs.Steps.{Advances, Leads};
-ghost use Rattle.gateway_world.specs.Rows.{Row, Serves, IsRow, IsOpen, Attended, AnswersAlone, with_waits};
+ghost use Rattle.gateway_world.specs.CoreSteps.{AnswersAlone};
+ghost use Rattle.gateway_world.specs.Rows.{Row, Serves, IsRow, IsOpen, Attended, with_waits};
 
 use crate::input::Output;
 use ask_model::Mapped;
