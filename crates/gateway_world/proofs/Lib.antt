@@ -8,6 +8,7 @@ pub mod Going
 pub mod Holding
 pub mod Lateness
 pub mod Names
+pub mod Owing
 pub mod Placing
 pub mod Rules
 pub mod Running

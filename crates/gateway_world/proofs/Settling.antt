@@ -1,8 +1,8 @@
 -- What is told, and what is left for the others.
-use Rattle.std.proofs.Common.{◌≡◌, ◌≢◌, ℕ, zero, suc, ◌+◌, ◌<◌, ◌≤◌, Bool, true, not, inl, inr, List, [], ◌∷◌, ◌++◌, length, map, Option, Some, None, Result, Ok, Err, OnOk, refl, sym, ap, subst, ◌∙◌, arith}
-use Rattle.std.specs.Prelude.{◌==◌, ⊤}
+use Rattle.std.proofs.Common.{◌≡◌, ◌≢◌, ℕ, zero, suc, ◌<◌, ◌≤◌, Bool, true, not, inl, inr, List, [], ◌∷◌, ◌++◌, length, map, Option, Some, None, Result, Ok, Err, OnOk, refl, sym, ap, subst, ◌∙◌, arith}
+use Rattle.std.specs.Prelude.{◌==◌}
 use Rattle.std.specs.List.{All, Contains, filter}
-use Rattle.std.proofs.lemmas.Bool.{cases_lt, cases_Bool}
+use Rattle.std.proofs.lemmas.Bool.{cases_Bool}
 use Rattle.std.proofs.lemmas.Bool.Decides.{eqb_tells}
 use Rattle.std.proofs.lemmas.List.Elements.{All-nil, All-cons, All-head, All-tail, All-weaker, All-filter, All-contains, All-contains_itself, filter_passes, Contains-append_right}
 use Rattle.journal_book.specs.Entries.{Written}
@@ -10,8 +10,8 @@ use Rattle.exchange_core.specs.CoreValue.{CoreValue}
 use Rattle.exchange_core.specs.Answering.{Given}
 use Rattle.gateway_world.specs.Steps.{Grows}
 use Rattle.gateway_world.specs.CoreSteps.{IsNewAnswer, AnswersAlone}
-use Rattle.gateway_world.specs.Rows.{Row, AreRising, HasAsk, WaitsFor, IsThere, IsServed, Serves, IsRow, row_at, with_waits, without_row, IsOpen, Calm, Settled, IsAttended, Attended, IsServedOn, LeavesOthers, IsFirstWaiting, IsWaitedFrom}
-use Rattle.gateway_world.proofs.Serving.{number_of, some-same, ask-below, ask-one, waits-for, longer}
+use Rattle.gateway_world.specs.Rows.{Row, AreRising, WaitsFor, IsThere, IsServed, Serves, IsRow, row_at, with_waits, without_row, IsOpen, Settled, IsAttended, Attended, IsServedOn, LeavesOthers}
+use Rattle.gateway_world.proofs.Serving.{number_of, some-same, ask-below, waits-for, longer}
 use Rattle.gateway_world.proofs.Asking.{all-with}
 use Rattle.gateway_world.proofs.Taking.{Takes, key-kept}
 
@@ -136,62 +136,6 @@ leaves-on c a b d ra rb rd grows first second = record {
   kept = λ k lt w. let le = grown a.entries grows.0 b.entries grows.1 in second.kept k (omega (arith, lt, le)) (first.kept k lt w);
 }
 
--- Who waited for what isn't answered, does so still.
-pub calm-on : (asks : ℕ → Type 0) (c : ℕ) (a b : CoreValue) (ra rb : List Row) → Serves a ra → LeavesOthers c a ra b rb → IsServedOn c b rb → Calm asks a ra → Calm asks b rb
-calm-on asks c a b ra rb s leaves told calm =
-    All-weaker (Contains rb) (λ (r : Row). (k : ℕ) → r.waits ≡ Some k → asks k → IsOpen b k) (λ r has k e ask.
-    elim (eqb_tells r.number c) [
-      | inl u ↦ All-contains (λ (r : Row). r.number ≡ c → (k : ℕ) → r.waits ≡ Some k → IsOpen b k) rb r told has u.1 k e
-      | inr u ↦
-          let there : Contains ra r = All-contains (λ (r : Row). r.number ≢ c → Contains ra r) rb r leaves.others has u.1 in
-          let asked : WaitsFor a.entries r.number r.waits = All-contains (λ (r : Row). WaitsFor a.entries r.number r.waits) ra r s.asked there in
-          leaves.kept k (ask-below a.entries r.number k (waits-for a.entries r.number k r.waits e asked))
-          (All-contains (λ (r : Row). (k : ℕ) → r.waits ≡ Some k → asks k → IsOpen a k) ra r calm there k e ask)
-    ]) rb (All-contains_itself rb)
-
--- Behind the first that waits, those up to it are calm.
-pub calm-next : (from : ℕ) (w : ℕ × ℕ) (a b : CoreValue) (ra rb : List Row) → Serves a ra → IsFirstWaiting from ra w → LeavesOthers w.1 a ra b rb → IsServedOn w.1 b rb
-    → Calm (λ k. k < from) a ra → Calm (λ k. k < w.0 + 1) b rb
-calm-next from w a b ra rb s first leaves told calm =
-    All-weaker (Contains rb) (λ (r : Row). (k : ℕ) → r.waits ≡ Some k → k < w.0 + 1 → IsOpen b k) (λ r has k e lt.
-    elim (eqb_tells r.number w.1) [
-      | inl u ↦ All-contains (λ (r : Row). r.number ≡ w.1 → (k : ℕ) → r.waits ≡ Some k → IsOpen b k) rb r told has u.1 k e
-      | inr u ↦
-          let there : Contains ra r = All-contains (λ (r : Row). r.number ≢ w.1 → Contains ra r) rb r leaves.others has u.1 in
-          let asked : HasAsk a.entries r.number k =
-          waits-for a.entries r.number k r.waits e (All-contains (λ (r : Row). WaitsFor a.entries r.number r.waits) ra r s.asked there) in
-          leaves.kept k (ask-below a.entries r.number k asked)
-          (All-contains (λ (r : Row). (k : ℕ) → r.waits ≡ Some k → k < from → IsOpen a k) ra r calm there k e (early r k there e asked lt u.1))
-    ]) rb (All-contains_itself rb)
-  where
-    early : (r : Row) (k : ℕ) → Contains ra r → r.waits ≡ Some k → HasAsk a.entries r.number k → k < w.0 + 1 → r.number ≢ w.1 → k < from
-    early r k there e asked lt not = elim (cases_lt k from) [
-      | inl before ↦ before
-      | inr after ↦
-          let le = All-contains (λ (r : Row). (k : ℕ) → r.waits ≡ Some k → from ≤ k → w.0 ≤ k) ra r first.least there k e after in
-          let same : w.0 ≡ k = omega (arith, le, lt) in
-          let mine : HasAsk a.entries first.row.number w.0 =
-          waits-for a.entries first.row.number w.0 first.row.waits first.waits (All-contains (λ (r : Row). WaitsFor a.entries r.number r.waits) ra first.row s.asked first.stands) in
-          absurd (not (ask-one a.entries r.number first.row.number k asked (subst (HasAsk a.entries first.row.number) same mine) ∙ first.number))
-    ]
-
-pub calm-none : (core : CoreValue) (rows : List Row) → Calm (λ k. k < 0) core rows
-calm-none core rows =
-    All-weaker (Contains rows) (λ (r : Row). (k : ℕ) → r.waits ≡ Some k → k < 0 → IsOpen core k) (λ r has k e lt. absurd (omega (arith, lt))) rows (All-contains_itself rows)
-
--- where none waits from there on
-pub calm-all : (from : ℕ) (core : CoreValue) (rows : List Row) → IsWaitedFrom from rows None → Calm (λ k. k < from) core rows → Calm (λ k. ⊤) core rows
-calm-all from core rows none calm =
-    All-weaker (Contains rows) (λ (r : Row). (k : ℕ) → r.waits ≡ Some k → ⊤ → IsOpen core k) (λ r has k e any.
-    All-contains (λ (r : Row). (k : ℕ) → r.waits ≡ Some k → k < from → IsOpen core k) rows r calm has k e
-    (All-contains (λ (r : Row). (k : ℕ) → r.waits ≡ Some k → k < from) rows r none has k e)) rows (All-contains_itself rows)
-
--- one connection of those that are settled
-pub told-one : (c : ℕ) (core : CoreValue) (rows : List Row) → Calm (λ k. ⊤) core rows → IsServedOn c core rows
-told-one c core rows calm =
-    All-weaker (λ (r : Row). (k : ℕ) → r.waits ≡ Some k → ⊤ → IsOpen core k) (λ (r : Row). r.number ≡ c → (k : ℕ) → r.waits ≡ Some k → IsOpen core k)
-    (λ r f same k e. f k e tt) rows calm
-
 -- what holds anyhow, and one call behind another
 pub on-ok : {X E : Type 0} (r : Result X E) (P : Type 0) → P → OnOk r P
 on-ok (Ok x) P p = p
@@ -294,17 +238,24 @@ attended-heard a b rows s w none =
       waits = All-contains (λ (r : Row). r.number ≡ v.conn.id → (k : ℕ) → v.conn.pending ≡ Some k → r.waits ≡ Some k) rows r.0 x.row r.1 r.2 g.ask v.ask;
     }) w.step.given w.answers)
 
--- Where each answer is attended, and all are calm, there is none.
-pub all-told : (core : CoreValue) (rows : List Row) → Attended core rows → Calm (λ k. ⊤) core rows → core.answers ≡ []
-all-told core rows w calm = go core.answers refl w
+-- Where none was answered, and each answer is attended, none is there behind what one connection asked.
+none-behind : (c : ℕ) (a d : CoreValue) (ra rd : List Row) → Serves a ra → LeavesOthers c a ra d rd → IsServedOn c d rd → a.answers ≡ [] → Attended d rd → d.answers ≡ []
+none-behind c a d ra rd s leaves told none w = go d.answers refl w
   where
-    go : (gs : List Given) → core.answers ≡ gs → All (IsAttended rows) gs → gs ≡ []
+    still-open : (k : ℕ) (r : Row) → Contains rd r → r.waits ≡ Some k → IsOpen d k
+    still-open k r has waits = elim (eqb_tells r.number c) [
+      | inl u ↦ All-contains (λ (r : Row). r.number ≡ c → (k : ℕ) → r.waits ≡ Some k → IsOpen d k) rd r told has u.1 k waits
+      | inr u ↦
+          let there : Contains ra r = All-contains (λ (r : Row). r.number ≢ c → Contains ra r) rd r leaves.others has u.1 in
+          let asked : WaitsFor a.entries r.number r.waits = All-contains (λ (r : Row). WaitsFor a.entries r.number r.waits) ra r s.asked there in
+          leaves.kept k (ask-below a.entries r.number k (waits-for a.entries r.number k r.waits waits asked)) (rw none (All-nil (λ (g : Given). g.ask ≢ k)))
+    ]
+
+    go : (gs : List Given) → d.answers ≡ gs → All (IsAttended rd) gs → gs ≡ []
     go [] is all = refl
     go (g ∷ gs) is all =
-        let v = All-head (IsAttended rows) g gs all in
-        let open_one : All (λ (x : Given). x.ask ≢ g.ask) core.answers =
-        All-contains (λ (r : Row). (k : ℕ) → r.waits ≡ Some k → ⊤ → IsOpen core k) rows v.row calm v.stands g.ask v.waits tt in
-        absurd (All-head (λ (x : Given). x.ask ≢ g.ask) g gs (subst (All (λ (x : Given). x.ask ≢ g.ask)) is open_one) refl)
+        let v = All-head (IsAttended rd) g gs all in
+        absurd (All-head (λ (x : Given). x.ask ≢ g.ask) g gs (subst (All (λ (x : Given). x.ask ≢ g.ask)) is (still-open g.ask v.row v.stands v.waits)) refl)
 
 pub settled-same : (a d : CoreValue) → d.answers ≡ a.answers → d.sends ≡ a.sends → Settled a → Settled d
 settled-same a d answers sends w = record { sends = sends ∙ w.sends; answers = answers ∙ w.answers }
@@ -313,13 +264,13 @@ settled-same a d answers sends w = record { sends = sends ∙ w.sends; answers =
 pub settled-served : {X E : Type 0} (r : Result X E) (c : ℕ) (a d : CoreValue) (ra rd : List Row) → Serves a ra → OnOk r (LeavesOthers c a ra d rd)
     → OnOk r (IsServedOn c a ra → IsServedOn c d rd) → OnOk r (a.sends ≡ [] → d.sends ≡ []) → OnOk r (Attended a ra → Attended d rd) → OnOk r (Settled a → Settled d)
 settled-served (Ok x) c a d ra rd s leaves told sent attended = λ w.
-    let calm : Calm (λ k. ⊤) a ra = calm-empty a ra w.answers in
     record {
       sends = sent w.sends;
-      answers = all-told d rd (attended (rw (w.answers) (All-nil (IsAttended ra)))) (calm-on (λ k. ⊤) c a d ra rd s leaves (told (told-one c a ra calm)) calm);
+      answers = none-behind c a d ra rd s leaves (told (served-none c a ra w.answers)) w.answers (attended (rw (w.answers) (All-nil (IsAttended ra))));
     }
   where
-    calm-empty : (a : CoreValue) (rows : List Row) → a.answers ≡ [] → Calm (λ k. ⊤) a rows
-    calm-empty a rows none =
-        All-weaker (Contains rows) (λ (r : Row). (k : ℕ) → r.waits ≡ Some k → ⊤ → IsOpen a k) (λ r has k e any. rw none (All-nil (λ (g : Given). g.ask ≢ k))) rows (All-contains_itself rows)
+    served-none : (c : ℕ) (a : CoreValue) (rows : List Row) → a.answers ≡ [] → IsServedOn c a rows
+    served-none c a rows none =
+        All-weaker (Contains rows) (λ (r : Row). r.number ≡ c → (k : ℕ) → r.waits ≡ Some k → IsOpen a k)
+        (λ r has same k e. rw none (All-nil (λ (g : Given). g.ask ≢ k))) rows (All-contains_itself rows)
 settled-served (Err e) c a d ra rd s leaves told sent attended = tt

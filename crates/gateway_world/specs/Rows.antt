@@ -95,10 +95,6 @@ pub record IsRow (rows : List Row) (c : ℕ) (k : Option ℕ) : Type 0 where
 abbrev pub IsOpen : CoreValue → ℕ → Type 0
 IsOpen core k = All (λ (g : Given). g.ask ≢ k) core.answers
 
--- Who waits for one of these asks, waits for one that isn't answered.
-abbrev pub Calm : (ℕ → Type 0) → CoreValue → List Row → Type 0
-Calm asks core rows = All (λ (r : Row). (k : ℕ) → r.waits ≡ Some k → asks k → IsOpen core k) rows
-
 -- Nothing waits to be given out: no datagram, and no answer.
 pub record Settled (core : CoreValue) : Type 0 where
   pub sends : core.sends ≡ []
@@ -123,16 +119,9 @@ pub record LeavesOthers (c : ℕ) (old : CoreValue) (rows : List Row) (new : Cor
   pub stay : All (λ (r : Row). r.number ≢ c → Contains rows1 r) rows
   pub kept : (k : ℕ) → k < length old.entries → IsOpen old k → IsOpen new k
 
--- The first of the asks from this number on that a connection waits for, and its connection.
-pub record IsFirstWaiting (from : ℕ) (rows : List Row) (w : ℕ × ℕ) : Type 0 where
-  pub row : Row
-  pub stands : Contains rows row
-  pub number : row.number ≡ w.1
-  pub waits : row.waits ≡ Some w.0
-  pub reached : from ≤ w.0
-  pub least : All (λ (r : Row). (k : ℕ) → r.waits ≡ Some k → from ≤ k → w.0 ≤ k) rows
-
--- it, where there is one
-abbrev pub IsWaitedFrom : ℕ → List Row → Option (ℕ × ℕ) → Type 0
-IsWaitedFrom from rows None = All (λ (r : Row). (k : ℕ) → r.waits ≡ Some k → k < from) rows
-IsWaitedFrom from rows (Some w) = IsFirstWaiting from rows w
+-- The connection waits for the first of the asks whose answers aren't taken.
+pub record IsFirstAnswered (core : CoreValue) (rows : List Row) (c : ℕ) : Type 0 where
+  pub ask : ℕ
+  pub stands : Contains rows (record { number = c; waits = Some ask })
+  pub answered : Contains (map (λ (g : Given). g.ask) core.answers) ask
+  pub least : All (λ (g : Given). ask ≤ g.ask) core.answers

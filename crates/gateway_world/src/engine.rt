@@ -1,8 +1,8 @@
 //! What an input leads to, step by step.
 
-ghost use Rattle.std.specs.Prelude.{◌≡◌, [], None, OnOk};
+ghost use Rattle.std.specs.Prelude.{◌≡◌, [], None, IfSome, OnOk};
 ghost use Rattle.gateway_world.specs.Steps.{Advances, Leads};
-ghost use Rattle.gateway_world.specs.Rows.{Serves, Settled, Attended, LeavesOthers, IsServedOn, IsRow, rows_of, without_row};
+ghost use Rattle.gateway_world.specs.Rows.{Serves, Settled, Attended, LeavesOthers, IsServedOn, IsFirstAnswered, IsRow, rows_of, without_row};
 
 use crate::fields::closes;
 use crate::inbox::{Next, REQUESTS};
@@ -148,12 +148,19 @@ impl<R: Relation> Engine<R> {
         ensures kept { Serves self.new.core (rows_of self.new.table) }
         ensures settled { OnOk result (self.old.core.sends ≡ [] → Attended self.old.core (rows_of self.old.table) → Settled self.new.core) }
     {
-        let mut from = 0;
-        'each: while let Some((ask, number)) = self.table.first_waiting(from) {
+        'each: while let Some(number) = self.first_answered() {
             self.answer(when, number, outputs)?;
-            from = u64::from(ask) + 1;
         }
         Ok(())
+    }
+
+    /// The connection that waits for the first of the asks whose answers are there.
+    fn first_answered(&self) -> Option<u32>
+        ensures some { IfSome result (IsFirstAnswered self.now.core (rows_of self.now.table)) }
+        ensures none { result ≡ None → Attended self.now.core (rows_of self.now.table) → self.now.core.answers ≡ [] }
+    {
+        let ask = self.core.first_answered()?;
+        self.table.waiting_for(ask)
     }
 
     /// Gives out the answer that the connection waits for, if it is there, and what its further

@@ -1,7 +1,9 @@
 //! The open connections.
 
-ghost use Rattle.std.specs.Prelude.{List, ◌≡◌, ◌≢◌, ◌<◌, ◌≤◌, ◌∷◌, ◌++◌, [], None, Some, true, All, take, slice_get, option_map, vec_len, vec_capacity, length, IfOk, IfSome, OnOk};
-ghost use Rattle.gateway_world.specs.Rows.{Row, rows_of, row_at, with_waits, without_row, is_request, IsRow, IsWaitedFrom};
+ghost use Rattle.std.specs.Prelude.{◌≡◌, ◌≢◌, ◌<◌, ◌∷◌, ◌++◌, [], None, Some, true, All, take, slice_get, option_map, vec_len, vec_capacity, IfOk, IfSome, OnOk};
+ghost use Rattle.std.specs.List.{Contains};
+ghost use Rattle.exchange_core.specs.Ticking.{waits_on};
+ghost use Rattle.gateway_world.specs.Rows.{Row, row_of, rows_of, row_at, with_waits, without_row, is_request, IsRow};
 
 use crate::inbox::{Inbox, Next};
 use exchange_core::Ticket;
@@ -17,6 +19,18 @@ pub struct Connection<R: Relation> {
     inbox: Inbox,
     /// The ask whose answer is due next.
     ticket: Option<Ticket<R>>,
+}
+
+impl<R: Relation> Connection<R> {
+    /// Whether it waits for the answer to the ask.
+    fn waits_for(&self, ask: u32) -> bool
+        ensures { result ≡ waits_on ask (row_of self.now).waits }
+    {
+        match &self.ticket {
+            Some(ticket) => ticket.number == ask,
+            None => false,
+        }
+    }
 }
 
 /// The open connections, by their numbers.
@@ -128,30 +142,16 @@ impl<R: Relation> Table<R> {
         self.rows.retain(|row| row.number != number);
     }
 
-    /// The first ask that a connection waits for, of those from that number on, and its connection.
-    pub fn first_waiting(&self, from: u64) -> Option<(u32, u32)>
-        ensures { IsWaitedFrom from (rows_of self.now) result }
+    /// The connection that waits for the answer to the ask.
+    pub fn waiting_for(&self, ask: u32) -> Option<u32>
+        ensures some { IfSome result (λ number. Contains (rows_of self.now) (record { number = number; waits = Some ask })) }
+        ensures none { result ≡ None → All (λ r. r.waits ≢ Some ask) (rows_of self.now) }
     {
-        let mut first: Option<(u32, u32)> = None;
         'each: for row in &self.rows {
-            if let Some(ticket) = &row.ticket {
-                first = sooner(first, from, ticket.number, row.number);
+            if row.waits_for(ask) {
+                return Some(row.number);
             }
         }
-        first
-    }
-}
-
-/// The sooner of an ask found before and this ask of a connection, which counts where it comes from
-/// that number on.
-fn sooner(first: Option<(u32, u32)>, from: u64, ask: u32, conn: u32) -> Option<(u32, u32)>
-    ensures { (rows : List Row) → IsWaitedFrom from rows first → IsWaitedFrom from (rows ++ record { number = conn; waits = Some ask } ∷ []) result }
-{
-    if u64::from(ask) < from {
-        return first;
-    }
-    match first {
-        Some((least, _)) if least <= ask => first,
-        _ => Some((ask, conn)),
+        None
     }
 }
