@@ -25,7 +25,10 @@ use Rattle.history_laws.proofs.Beginning.{IsNext, held_after, Agrees-begun}
 use Rattle.history_laws.proofs.Pending.{Distinct, conns-distinct}
 use Rattle.exchange_core.specs.Room.{is_pending, fits, takes, takes_first}
 use Rattle.exchange_core.specs.Tables.{HasIdle}
-use Rattle.exchange_core.specs.CoreValue.{written, CoreValue, CoreKept}
+use Rattle.exchange_core.specs.CoreValue.{Outgoing, written, CoreValue}
+use Rattle.exchange_core.specs.CoreKept.{CoreKept}
+use Rattle.exchange_core.specs.Numbers.{firsts, IsNumbered, IsIssued}
+use Rattle.exchange_core.proofs.Issuing.{firsts-other, firsts-new, issued-first, bears-id}
 use Rattle.exchange_core.proofs.Keeping.{fits-parts, fits-from, takes-fits}
 
 pend-others : (c : ℕ) (p : Option ℕ) (xs : List Conn) → All (λ (y : Conn). y.id ≢ c) xs → map (pend c p) xs ≡ xs
@@ -93,8 +96,13 @@ kept-begun h h1 h2 h3 room room1 room2 room3 cs cs1 es s bytes bytes' last t n s
     subst (λ (c : ℕ). Agrees ((h ++ written t (Asks c a) ∷ []) ++ sent ∷ []) (map (pend c (Some n)) cs) (held_after es n t q m first) false t) has.id
     (Agrees-begun h cs es last t n has.conn a q b wait m first before.agrees later (num ∙ ap length e1) has.stands has.idle exchanges (omega (arith, parts.0)) next) in
     let few = before.few in
+    let new : Outgoing = record { peer = q.peer; bytes = b } in
+    let firsts_are : firsts ((h ++ ask ∷ []) ++ sent ∷ []) ≡ firsts h ++ new ∷ [] =
+    firsts-new (h ++ ask ∷ []) t wait q.peer b ∙ ap (λ (os : List Outgoing). os ++ new ∷ []) (firsts-other h t (Asks conn a) refl) in
+    let issued = issued-first (firsts h) es.issued es.known q.peer b first m.mid before.issued next.mid (bears-id m b next.spelled) in
     let now : CoreKept ((h ++ ask ∷ []) ++ sent ∷ []) room3 (map (pend conn (Some n)) cs) (held_after es n t q m first) false bytes' t = record {
       agrees = agrees;
+      issued = subst (λ (os : List Outgoing). IsIssued os (es.issued + 1) (known_after es.known q.peer first)) (sym firsts_are) issued;
       bytes_are = λ e. omega (arith, sum1, sum2, was, same);
       room_held = omega (arith, made, less2, less3, cnt, waiting, conns, more);
       within = λ e. rw (size2, size1, same) (fits-from (length h + 1 + 1) (bytes + (real + (length b + 128))) (length (map (pend conn (Some n)) cs)) (count_by is_pending (map (pend conn (Some n)) cs))
@@ -155,19 +163,21 @@ len-most (Some c) b n e h = subst (λ (b : List ℕ). length b ≤ n) (some-same
     some-same : (a b : List ℕ) → Some a ≡ Some b → a ≡ b
     some-same a b f = cc
 
-pub opens-exchange : (t n conn : ℕ) (m : Mapping) (q : CoapRequest) (old new : CoreValue) (p : Peer) (mid wait : ℕ) (token b : List ℕ)
-    → p ≡ q.peer → Spells (request_message q mid token) b → takes_first old.entries old.conns (came_size m.came) (length b) ≡ true
+pub opens-exchange : (t word n conn : ℕ) (m : Mapping) (q : CoapRequest) (old new : CoreValue) (p : Peer) (mid wait : ℕ) (token b : List ℕ)
+    → p ≡ q.peer → IsNumbered word p (firsts old.entries) mid token wait
+    → Spells (request_message q mid token) b → takes_first old.entries old.conns (came_size m.came) (length b) ≡ true
     → new.entries ≡ (old.entries ++ written t (Asks conn (ask_of m)) ∷ []) ++ written t (Sends p b (Some wait)) ∷ []
     → new.conns ≡ map (pend conn (Some n)) old.conns
     → new.exchanges ≡ old.exchanges ++ record { opening = n; since = t; number = n + 1; peer = p; mid = mid; token = token; confirmed = false } ∷ []
     → new.answers ≡ old.answers → new.sends ≡ old.sends ++ record { peer = p; bytes = b } ∷ []
-    → OpensExchange t n conn m q old new
-opens-exchange t n conn m q old new p mid wait token b peer spelled room entries conns exchanges answers sends =
+    → OpensExchange t word n conn m q old new
+opens-exchange t word n conn m q old new p mid wait token b peer numbered spelled room entries conns exchanges answers sends =
     record {
       mid = mid;
       token = token;
       bytes = b;
       wait = wait;
+      numbered = subst (λ (p : Peer). IsNumbered word p (firsts old.entries) mid token wait) peer numbered;
       spelled = spelled;
       room = room;
       entries = entries ∙ ap (λ (p : Peer). (old.entries ++ written t (Asks conn (ask_of m)) ∷ []) ++ written t (Sends p b (Some wait)) ∷ []) peer;
@@ -178,14 +188,15 @@ opens-exchange t n conn m q old new p mid wait token b peer spelled room entries
     }
 
 -- the same of what the code has: the value before, the moment, and the request by another name
-pub opens-so : (t tm n conn : ℕ) (m m1 : Mapping) (q : CoapRequest) (old new v : CoreValue) (p : Peer) (mid wait : ℕ) (token b : List ℕ)
-    → v ≡ old → tm ≡ t → m1 ≡ m → p ≡ q.peer → Spells (request_message q mid token) b → takes_first v.entries v.conns (came_size m1.came) (length b) ≡ true
+pub opens-so : (t tm word n conn : ℕ) (m m1 : Mapping) (q : CoapRequest) (old new v : CoreValue) (p : Peer) (mid wait : ℕ) (token b : List ℕ)
+    → v ≡ old → tm ≡ t → m1 ≡ m → p ≡ q.peer → IsNumbered word p (firsts v.entries) mid token wait
+    → Spells (request_message q mid token) b → takes_first v.entries v.conns (came_size m1.came) (length b) ≡ true
     → new.entries ≡ (v.entries ++ written tm (Asks conn (ask_of m1)) ∷ []) ++ written tm (Sends p b (Some wait)) ∷ []
     → new.conns ≡ map (pend conn (Some n)) v.conns
     → new.exchanges ≡ v.exchanges ++ record { opening = n; since = tm; number = n + 1; peer = p; mid = mid; token = token; confirmed = false } ∷ []
     → new.answers ≡ v.answers → new.sends ≡ v.sends ++ record { peer = p; bytes = b } ∷ []
-    → OpensExchange t n conn m q old new
-opens-so t tm n conn m m1 q old new v p mid wait token b view time asked peer spelled room entries conns exchanges answers sends =
-    let here = opens-exchange tm n conn m1 q v new p mid wait token b peer spelled room entries conns exchanges answers sends in
-    subst (λ (old : CoreValue). OpensExchange t n conn m q old new) view
-    (subst (λ (m : Mapping). OpensExchange t n conn m q v new) asked (subst (λ (t : ℕ). OpensExchange t n conn m1 q v new) time here))
+    → OpensExchange t word n conn m q old new
+opens-so t tm word n conn m m1 q old new v p mid wait token b view time asked peer numbered spelled room entries conns exchanges answers sends =
+    let here = opens-exchange tm word n conn m1 q v new p mid wait token b peer numbered spelled room entries conns exchanges answers sends in
+    subst (λ (old : CoreValue). OpensExchange t word n conn m q old new) view
+    (subst (λ (m : Mapping). OpensExchange t word n conn m q v new) asked (subst (λ (t : ℕ). OpensExchange t word n conn m1 q v new) time here))

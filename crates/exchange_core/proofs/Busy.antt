@@ -17,10 +17,10 @@ pub asks-sense : (means : Meaning) (body : List ℕ) (s : Sense) → {method : _
     → means ≡ Means.Ask method target peer accept format payload → sense_of means body ≡ s → (q : CoapRequest) × (s ≡ Requests q)
 asks-sense means body s is sense = (_, sym sense ∙ ap (λ (m : Meaning). sense_of m body) is)
 
-pub busy-adds : {R : Type 0} (r : Result (Ticket R) AskFault) (t conn : ℕ) (m : Mapping) (old new : CoreValue) (q : CoapRequest) → m.sense ≡ Requests q
-    → length old.exchanges ≡ 256 → IfOk r (λ (k : Ticket R). AnswersAtOnce t k.number conn m Busy old new) → IfOk r (λ (k : Ticket R). AddsAsk t k.number conn m old new)
-busy-adds (Ok k) t conn m old new q asks full h = subst (λ (s : Sense). AddsBy s t k.number conn m old new) (sym asks) (inl (full, h))
-busy-adds (Err e) t conn m old new q asks full h = h
+pub busy-adds : {R : Type 0} (r : Result (Ticket R) AskFault) (t word conn : ℕ) (m : Mapping) (old new : CoreValue) (q : CoapRequest) → m.sense ≡ Requests q
+    → length old.exchanges ≡ 256 → IfOk r (λ (k : Ticket R). AnswersAtOnce t k.number conn m Busy old new) → IfOk r (λ (k : Ticket R). AddsAsk t word k.number conn m old new)
+busy-adds (Ok k) t word conn m old new q asks full h = subst (λ (s : Sense). AddsBy s t word k.number conn m old new) (sym asks) (inl (full, h))
+busy-adds (Err e) t word conn m old new q asks full h = h
 
 pub busy-full : (m : Mapping) (old : CoreValue) (q : CoapRequest) → m.sense ≡ Requests q → length old.exchanges ≡ 256
     → takes_ask old.entries old.conns (came_size m.came) ≡ false → HasNoRoom m old

@@ -148,6 +148,14 @@ was-sent h cs held s last p k a known never =
     All-contains (λ (o : Outgoing). o.peer ≢ p) (sendings h) (record { peer = p; bytes = w.first.bytes }) never
     (sent-stands h w.number w.first.moment p w.first.bytes w.first.timeout there) refl
 
+pub known-where-sent : (h : List Written) (cs : List Conn) (held : Held) (s : Bool) (last : ℕ) (p : Peer) → Agrees h cs held s last
+    → (NeverSentTo p h → ⊥) → (k : Known) × (known_of held.known p ≡ Some k)
+known-where-sent h cs held s last p a sent = go (known_of held.known p) refl
+  where
+    go : (o : Option Known) → known_of held.known p ≡ o → (k : Known) × (known_of held.known p ≡ Some k)
+    go None e = absurd (sent (never-sent h cs held s last p a e))
+    go (Some k) e = (k, e)
+
 -- So one that is short and from a peer that is kept isn't dropped, in a journal that isn't sealed.
 pub not-dropped : (v : CoreValue) (cs : List Conn) (held : Held) (s : Bool) (last : ℕ) (p : Peer) (b : List ℕ) (k : Known) → Agrees v.entries cs held s last
     → v.sealed ≡ false → length b ≤ 2048 → known_of held.known p ≡ Some k → IsDropped p b v → ⊥

@@ -15,7 +15,7 @@ use Rattle.journal_book.specs.Views.{ask_of}
 use Rattle.history_laws.specs.declared.kept.Conn.{Conn}
 use Rattle.history_laws.specs.Kept.{pend, Held, Agrees}
 use Rattle.history_laws.proofs.Askers.{waits-apart}
-use Rattle.datagram_verdict.specs.Findings.{Told, Tells, Fails, Found}
+use Rattle.datagram_verdict.specs.Findings.{Told, Tells, Fails}
 use Rattle.exchange_core.specs.CoreValue.{Outgoing, sent_by, sendings, AreUnsent, written, Answerable}
 use Rattle.exchange_core.specs.Answering.{Given, Waited, HasWaited, IsWaited, IsKept, HeardAs, IsFound, IsGiven, refusal, without}
 
@@ -174,10 +174,6 @@ answerable-at-once h h1 h2 h3 conn t n out cause cs cs1 m ws ws1 ws2 gs gs1 gs2 
       kept = two.kept;
       unsent = two.unsent;
     })
-
-pub given-is : (n t : ℕ) (m m' : Mapping) (cause : Cause) (f : Found) → m' ≡ m → f ≡ record { told = Fails cause; grounds = Fault cause n }
-    → record { ask = n; number = n + 1; moment = t; heard = t; mapping = m'; found = f } ≡ refusal n t m cause
-given-is n t m m' cause f e d = rw (e, d) refl
 
 -- behind a closing, the ask that the connection waited for is forgotten
 not-is : (b : Bool) → not b ≡ true → b ≡ false

@@ -22,7 +22,9 @@ use Rattle.exchange_core.specs.Room.{is_pending, fits, takes, held}
 use Rattle.exchange_core.specs.Tables.{HasIdle}
 use Rattle.exchange_core.specs.Answering.{Given, Waited, IsGiven, IsWaited, IsKept}
 use Rattle.exchange_core.specs.Asking.{IsAtOnce}
-use Rattle.exchange_core.specs.CoreValue.{Outgoing, written, CoreKept, Answerable}
+use Rattle.exchange_core.specs.CoreValue.{Outgoing, written, Answerable}
+use Rattle.exchange_core.specs.CoreKept.{CoreKept}
+use Rattle.exchange_core.proofs.Issuing.{firsts-other, issued-same}
 use Rattle.exchange_core.proofs.Fewer.{others, fewer, no-more-wait, push-waits}
 
 le-true : (a b : ℕ) → nat_le a b ≡ true → a ≤ b
@@ -41,7 +43,7 @@ fits-from e b c p h g = rw (le-from (e + c + p + 1) 65536 h, le-from (b + 64 * c
 
 pub kept-start : (room : ℕ) → 1 ≤ room → CoreKept [] room [] (record { exchanges = []; opened = 0; issued = 0; known = []; heard = [] }) false 0 0
 kept-start room h =
-    record { agrees = Agrees-start; bytes_are = λ s. refl; room_held = omega arith; within = λ s. refl; few = omega arith; early = lit≤ tt; short = lit≤ tt }
+    record { agrees = Agrees-start; issued = record { count = refl; next = λ p word. refl }; bytes_are = λ s. refl; room_held = omega arith; within = λ s. refl; few = omega arith; early = lit≤ tt; short = lit≤ tt }
 
 pub kept-opened : (h : List Written) (room room' : ℕ) (cs : List Conn) (es : Held) (bytes bytes' last t n : ℕ)
     → CoreKept h room cs es false bytes last → last ≤ t → t ≤ 2 ^ 62 → n ≡ es.opened → length cs < 256
@@ -58,6 +60,7 @@ kept-opened h room room' cs es bytes bytes' last t n k later early e few room-fi
     let wait = push-waits cs n in
     record {
       agrees = rw e (Agrees-opened h cs es last t k.agrees later);
+      issued = issued-same (h ++ written t (Opens n) ∷ []) h es.issued es.known (firsts-other h t (Opens n) refl) k.issued;
       bytes_are = λ s. omega (arith, sum, was, same);
       room_held = rw (longer, wait) (omega (arith, free));
       within = λ s. rw (longer, wait, entries, same) room-fits;
@@ -97,6 +100,7 @@ kept-sealed h room room' cs es bytes bytes' last t k later early may less =
     let longer = length-append h (written t Seals ∷ []) in
     record {
       agrees = Agrees-sealed h cs es last t k.agrees later may;
+      issued = issued-same (h ++ written t Seals ∷ []) h es.issued es.known (firsts-other h t Seals refl) k.issued;
       bytes_are = λ s. absurd (false≢true (sym s));
       room_held = omega arith;
       within = λ s. absurd (false≢true (sym s));
@@ -121,6 +125,7 @@ kept-shut h room room' cs es s bytes bytes' last t x k later early has less b =
     let was_short = k.short in
     record {
       agrees = Agrees-shut h cs es s last t x k.agrees later has;
+      issued = issued-same (h ++ written t (Shuts x.id) ∷ []) h es.issued es.known (firsts-other h t (Shuts x.id) refl) k.issued;
       bytes_are = λ e. let was = k.bytes_are e in let parts = fits-parts (length h) bytes (length cs) (count_by is_pending cs) (k.within e) in omega (arith, sum, was, parts.1, b);
       room_held = held-less s _ _ _ _ room room' k.room_held fewer_now wait less;
       within = λ e.
@@ -194,6 +199,8 @@ kept-at-once h h1 h2 h3 room room1 room2 room3 cs es s bytes bytes' last t n siz
     (Agrees-at-once h cs es last t n has.conn a cause before.agrees later (num ∙ ap length e1) has.stands has.idle reason) in
     let now : CoreKept ((h ++ asked ∷ []) ++ answered ∷ []) room3 cs es false bytes' t = record {
       agrees = agrees;
+      issued = issued-same ((h ++ asked ∷ []) ++ answered ∷ []) h es.issued es.known
+          (firsts-other (h ++ asked ∷ []) t (Answers conn n (Fault cause n)) refl ∙ firsts-other h t (Asks conn a) refl) before.issued;
       bytes_are = λ e. omega (arith, sum1, sum2, was, same);
       room_held = omega (arith, made, less2, less3, cnt, wait);
       within = λ e. rw (size2, size1, same, ← cnt, ← wait) (fits-from (length h + 1 + 1) (bytes + (real + 132)) count pending (omega (arith, parts.0)) (parts.1));

@@ -4,6 +4,7 @@ pub mod Fewer
 pub mod Giving
 pub mod Keeping
 pub mod Knowing
+pub mod Issuing
 pub mod Lists
 pub mod Taking
 pub mod Showing

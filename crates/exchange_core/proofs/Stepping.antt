@@ -22,7 +22,8 @@ use Rattle.datagram_verdict.specs.declared.verdict.Ending.{Ending}
 use Rattle.datagram_verdict.specs.declared.verdict.Verdict.{Verdict}
 use Rattle.exchange_core.specs.declared.step.Reader.{Reader}
 use Rattle.exchange_core.specs.Room.{is_some_ask, is_pending, fits, takes}
-use Rattle.exchange_core.specs.CoreValue.{Outgoing, CoreValue, written, CoreKept, Answerable}
+use Rattle.exchange_core.specs.CoreValue.{Outgoing, CoreValue, written, Answerable}
+use Rattle.exchange_core.specs.CoreKept.{CoreKept}
 use Rattle.datagram_verdict.specs.Findings.{Found}
 use Rattle.exchange_core.specs.Answering.{Given, Waited, HasWaited, IsKept, answer_of}
 use Rattle.datagram_verdict.specs.Verdicts.{exchanges_by, heard_by, held_by, ended_by, IsVerdict}
@@ -30,6 +31,7 @@ use Rattle.exchange_core.specs.Hears.{AddsAnswer, ChangesBy, HearsAt, HasNoRoom,
 use Rattle.exchange_core.specs.Steps.{one_if, SpellsDue, with_sent, outgoing_by, IsReader, with_answer, conns_by, waiting_by, AnswersBy}
 use Rattle.history_laws.specs.Limits.{MaySeal}
 use Rattle.exchange_core.proofs.Keeping.{fits-parts, fits-from, fits-not, takes-fits}
+use Rattle.exchange_core.proofs.Issuing.{firsts-other, firsts-sent, firsts-answered, issued-same}
 use Rattle.exchange_core.proofs.Giving.{answerable-more}
 use Rattle.exchange_core.proofs.Listening.{verdict-amid, verdict-changes, confirmed-amid, answered-agrees}
 use Rattle.exchange_core.proofs.Told.{Tellable, verdict-told, told-sent, stands-sent, answerable-sent, answerable-told}
@@ -199,6 +201,7 @@ kept-heard h h1 h2 h3 h4 room room1 room2 room3 room4 cs cs1 tables es1 rs1 s by
     let lengths : length x4 ≡ length h + e = omega (arith, size2, by3.0, by4.0, a1, a2, e-is) in
     let now : CoreKept x4 room4 cs2 y false bytes' t = record {
       agrees = agrees;
+      issued = issued-same x4 h tables.issued tables.known (firsts-answered t r x3 ∙ firsts-sent t p sent x2 ∙ firsts-other h t (Hears p b) refl) before.issued;
       bytes_are = λ u. omega (arith, sum2, was, same, size-is, by3.1, by4.1, a1, a2);
       room_held = omega (arith, made, less2, less3, less4, cnt, pend-is, fewer.0, fewer.1, a1, a2, one);
       within = λ u. rw (lengths, same) (fits-from (length h + e) (bytes + size) (length cs2) (count_by is_pending cs2)

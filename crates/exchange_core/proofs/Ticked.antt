@@ -14,9 +14,12 @@ use Rattle.history_laws.proofs.Amidst.{Amid-done}
 use Rattle.history_laws.proofs.Lateness.{Amid-passed, Amid-late}
 use Rattle.exchange_core.specs.Room.{is_pending, fits, takes}
 use Rattle.exchange_core.specs.Answering.{Given, Waited}
-use Rattle.exchange_core.specs.CoreValue.{written, CoreValue, CoreKept, Answerable, Outgoing}
+use Rattle.exchange_core.specs.CoreValue.{written, CoreValue, Answerable, Outgoing}
+use Rattle.exchange_core.specs.CoreKept.{CoreKept}
 use Rattle.exchange_core.specs.Ticking.{is_past, timeouts, timed, going, due_count, late_end, moment_after, takes_tick, AddsAnswers, SealsLate, Midway}
 use Rattle.exchange_core.proofs.Giving.{answerable-more}
+use Rattle.exchange_core.specs.Numbers.{firsts}
+use Rattle.exchange_core.proofs.Issuing.{firsts-other, firsts-ticked, issued-same}
 use Rattle.exchange_core.proofs.Keeping.{fits-parts, fits-from, fits-not, takes-fits}
 use Rattle.exchange_core.proofs.Lates.{none-waits}
 use Rattle.exchange_core.proofs.Rising.{table-rising}
@@ -96,6 +99,8 @@ kept-ticked h h1 h2 h3 room room3 cs cs3 tables s bytes bytes' last last3 t coun
     let by_then = m.later in
     let kept : CoreKept h3 room3 cs3 (record tables { exchanges = going t es }) s bytes' last3 = record {
       agrees = agrees-ticked t es _ s out h3 room3 cs cs3 last3 ws3 gs3 m f3;
+      issued = issued-same h3 h tables.issued tables.known
+          (ap firsts whole ∙ firsts-ticked (h ++ written t Passes ∷ []) t es cs ∙ firsts-other h t Passes refl) k.issued;
       bytes_are = λ u. omega (arith, sum1, sum2, was, same, sizes, many, due, sized, summed);
       room_held = m.room_held;
       within = λ u. fits-from (length h3) bytes' (length cs3) (count_by is_pending cs3)
@@ -108,15 +113,16 @@ kept-ticked h h1 h2 h3 room room3 cs cs3 tables s bytes bytes' last last3 t coun
     rw went kept
 
 pub kept-late : (h h1 : List Written) (room room1 : ℕ) (cs cs1 : List Conn) (tables : Held) (s : Bool) (bytes last last1 t : ℕ) (out : List Outgoing) (ws1 : List Waited) (gs1 : List Given)
-    → CoreKept h room cs tables s bytes last → s ≡ true → t ≤ 2 ^ 62 → cs1 ≡ map (timed t tables.exchanges) cs
+    → CoreKept h room cs tables s bytes last → s ≡ true → t ≤ 2 ^ 62 → h1 ≡ h ++ timeouts t tables.exchanges cs → cs1 ≡ map (timed t tables.exchanges) cs
     → Midway t tables.exchanges tables s out h1 room1 cs1 last1 ws1 gs1
     → CoreKept h1 room1 cs1 tables s bytes last1
-kept-late h h1 room room1 cs cs1 tables s bytes last last1 t out ws1 gs1 k sealed early is m =
+kept-late h h1 room room1 cs cs1 tables s bytes last last1 t out ws1 gs1 k sealed early e1 is m =
     let conns : length cs1 ≡ length cs = ap (λ (xs : List Conn). length xs) is ∙ length-map cs (timed t tables.exchanges) in
     let few = k.few in
     let by_then = m.later in
     record {
       agrees = agrees-ticked t tables.exchanges tables s out h1 room1 cs cs1 last1 ws1 gs1 m is;
+      issued = issued-same h1 h tables.issued tables.known (ap firsts e1 ∙ firsts-ticked h t tables.exchanges cs) k.issued;
       bytes_are = λ u. absurd (false≢true (sym u ∙ sealed));
       room_held = m.room_held;
       within = λ u. absurd (false≢true (sym u ∙ sealed));

@@ -10,6 +10,7 @@ use Rattle.journal_book.specs.Entries.{Asks, Sends, Answers, Fault}
 use Rattle.journal_book.specs.Views.{ask_of}
 use Rattle.history_laws.specs.Kept.{pend}
 use Rattle.history_laws.specs.Limits.{exchange_limit}
+use Rattle.exchange_core.specs.Numbers.{firsts, IsNumbered}
 use Rattle.exchange_core.specs.Room.{takes_ask, takes_first}
 use Rattle.exchange_core.specs.Answering.{MeansRefusal, refusal}
 use Rattle.exchange_core.specs.CoreValue.{CoreValue, written}
@@ -23,12 +24,13 @@ pub record AnswersAtOnce (t n conn : ℕ) (m : Mapping) (cause : Cause) (old new
   pub exchanges : new.exchanges ≡ old.exchanges
   pub sends : new.sends ≡ old.sends
 
--- It opens an exchange, and the message that asks for it is sent.
-pub record OpensExchange (t n conn : ℕ) (m : Mapping) (q : CoapRequest) (old new : CoreValue) : Type 0 where
+-- It opens an exchange, and the message that asks for it is sent, numbered by the word.
+pub record OpensExchange (t word n conn : ℕ) (m : Mapping) (q : CoapRequest) (old new : CoreValue) : Type 0 where
   pub mid : ℕ
   pub token : List ℕ
   pub bytes : List ℕ
   pub wait : ℕ
+  pub numbered : IsNumbered word q.peer (firsts old.entries) mid token wait
   pub spelled : Spells (request_message q mid token) bytes
   pub room : takes_first old.entries old.conns (came_size m.came) (length bytes) ≡ true
   pub entries : new.entries ≡ (old.entries ++ written t (Asks conn (ask_of m)) ∷ []) ++ written t (Sends q.peer bytes (Some wait)) ∷ []
@@ -44,11 +46,11 @@ IsAtOnce s count cause =
     MeansRefusal s cause ⊎ ((cause ≡ Busy) × (count ≡ exchange_limit) × ((q : CoapRequest) × (s ≡ Requests q)))
 
 -- A refusal is answered at once, and so is a request at which as many exchanges are open as may be.
-abbrev pub AddsBy : Sense → ℕ → ℕ → ℕ → Mapping → CoreValue → CoreValue → Type 0
-AddsBy (Refuses cause status) t n conn m old new = AnswersAtOnce t n conn m cause old new
-AddsBy (Requests q) t n conn m old new =
+abbrev pub AddsBy : Sense → ℕ → ℕ → ℕ → ℕ → Mapping → CoreValue → CoreValue → Type 0
+AddsBy (Refuses cause status) t word n conn m old new = AnswersAtOnce t n conn m cause old new
+AddsBy (Requests q) t word n conn m old new =
     ((length old.exchanges ≡ exchange_limit) × AnswersAtOnce t n conn m Busy old new)
-    ⊎ ((length old.exchanges < exchange_limit) × OpensExchange t n conn m q old new)
+    ⊎ ((length old.exchanges < exchange_limit) × OpensExchange t word n conn m q old new)
 
 -- why there is no room for an ask: its entry and that of its answer, or of its message, would pass a limit
 abbrev pub HasNoRoomBy : Sense → Mapping → CoreValue → Type 0
@@ -62,5 +64,6 @@ HasNoRoomBy (Requests q) m old =
 abbrev pub HasNoRoom : Mapping → CoreValue → Type 0
 HasNoRoom m old = HasNoRoomBy m.sense m old
 
-abbrev pub AddsAsk : ℕ → ℕ → ℕ → Mapping → CoreValue → CoreValue → Type 0
-AddsAsk t n conn m old new = AddsBy m.sense t n conn m old new
+-- an ask at this moment, with this word, in the entry with this number
+abbrev pub AddsAsk : ℕ → ℕ → ℕ → ℕ → Mapping → CoreValue → CoreValue → Type 0
+AddsAsk t word n conn m old new = AddsBy m.sense t word n conn m old new

@@ -1,14 +1,12 @@
 -- What contracts see of a core.
-use Rattle.std.specs.Prelude.{◌≡◌, ℕ, ◌+◌, ◌≤◌, ◌^◌, min, max, Bool, true, false, List, [], ◌∷◌, ◌++◌, length, sum_by, count_by}
+use Rattle.std.specs.Prelude.{◌≡◌, ℕ, ◌^◌, min, max, Bool, true, false, List, [], ◌∷◌, ◌++◌, count_by}
 use Rattle.std.specs.Arc.{arc_value}
 use Rattle.std.specs.List.{All, flat_map}
 use Rattle.uri_map.specs.declared.peer.Peer.{Peer}
-use Rattle.journal_book.specs.Entries.{Deed, Opens, Sends, Written, entry_size}
+use Rattle.journal_book.specs.Entries.{Deed, Opens, Sends, Written}
 use Rattle.history_laws.specs.declared.kept.Conn.{Conn}
 use Rattle.history_laws.specs.declared.kept.Exchange.{Exchange}
-use Rattle.history_laws.specs.Kept.{Held, Agrees}
 use Rattle.exchange_core.specs.declared.outgoing.Datagram.{Datagram}
-use Rattle.exchange_core.specs.Room.{fits, held, is_pending}
 use Rattle.exchange_core.specs.Answering.{Given, Waited, IsGiven, IsWaited, IsKept}
 
 -- a datagram that goes out
@@ -57,16 +55,6 @@ written t d = record { moment = t; deed = d }
 -- The moment that counts: none before the last one, and none above 2 ^ 62.
 abbrev pub now : ℕ → ℕ → ℕ
 now last moment = max last (min moment (2 ^ 62))
-
--- what a core keeps: its tables agree with its journal, and room is held free for what has to come
-pub record CoreKept (h : List Written) (room : ℕ) (conns : List Conn) (tables : Held) (sealed : Bool) (bytes last : ℕ) : Type 0 where
-  pub agrees : Agrees h conns tables sealed last
-  pub bytes_are : sealed ≡ false → sum_by entry_size h ≡ bytes
-  pub room_held : held sealed (length conns) (count_by is_pending conns) ≤ room
-  pub within : sealed ≡ false → fits (length h) bytes (length conns) (count_by is_pending conns) ≡ true
-  pub few : length conns ≤ 256
-  pub early : last ≤ 2 ^ 62
-  pub short : length h + length conns + count_by is_pending conns ≤ 65536
 
 -- The answers stand in the journal, what the connections wait for is kept with what was asked, and what isn't
 -- given out was sent.

@@ -1,6 +1,8 @@
 pub mod Answering
 pub mod Asking
 pub mod CoreValue
+pub mod CoreKept
+pub mod Numbers
 pub mod Room
 pub mod Tables
 pub mod Ticking

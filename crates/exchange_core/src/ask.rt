@@ -21,7 +21,7 @@ const EXCHANGES: usize = 256;
 impl<R: Relation> Core<R> {
     /// Takes a request of a connection at this moment: a refusal is answered at once, and a request opens an
     /// exchange, but where 256 are open already, which is answered as busy. The first call that finds no room
-    /// for it seals the journal. The word gives random bits for the token, the ID and the timeout.
+    /// for it seals the journal. The word gives random bits for the token, the ID and the timeout (IsNumbered).
     pub fn ask(
         &mut self,
         moment: u64,
@@ -30,7 +30,7 @@ impl<R: Relation> Core<R> {
         mapped: Arc<Mapped<R>>,
     ) -> Result<Ticket<R>, AskFault>
         ensures ticket { IfOk result (λ t. (t.conn ≡ conn) × (t.number ≡ length self.old.entries) × (arc_value t.mapped ≡ arc_value mapped)) }
-        ensures adds { IfOk result (λ t. AddsAsk (now self.old.moment moment) t.number conn (arc_value mapped) self.old self.new) }
+        ensures adds { IfOk result (λ t. AddsAsk (now self.old.moment moment) word t.number conn (arc_value mapped) self.old self.new) }
         ensures unknown { result ≡ Err AskFault.Unknown → All (λ x. x.id ≢ conn) self.old.conns × (self.new ≡ self.old) }
         ensures pending { result ≡ Err AskFault.Pending → HasWaiting self.old.conns conn × (self.new ≡ self.old) }
         ensures sealed { result ≡ Err AskFault.Sealed → (self.new.sealed ≡ true)

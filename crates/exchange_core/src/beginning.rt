@@ -1,24 +1,25 @@
 //! The beginning of an exchange: the entries of its ask and its message, and what is kept of it.
 
-ghost use Rattle.std.specs.Prelude.{◌≡◌, ◌≢◌, ◌<◌, ◌≤◌, ◌+◌, ◌∷◌, ◌++◌, [], Some, true, false, length, IfOk, OnOk, Err, vec_len, vec_capacity};
+ghost use Rattle.std.specs.Prelude.{◌≡◌, ◌≢◌, ◌<◌, ◌≤◌, ◌+◌, ◌∷◌, ◌++◌, [], Some, true, false, length, IfOk, OnOk, IsSome, Err, vec_len, vec_capacity};
 ghost use Rattle.std.specs.VecDeque.{deque_len, deque_capacity};
 ghost use Rattle.std.specs.Arc.{arc_value};
 ghost use Rattle.ask_model.specs.Requests.{CoapRequest, Requests};
-ghost use Rattle.ask_model.specs.Datagrams.{asked_peer};
+ghost use Rattle.ask_model.specs.Datagrams.{asked_peer, IsSentFor};
 ghost use Rattle.journal_book.specs.Entries.{Asks, Sends, Seals};
-ghost use Rattle.journal_book.specs.Views.{ask_of};
-ghost use Rattle.exchange_core.specs.CoreValue.{written, now};
+ghost use Rattle.journal_book.specs.Views.{ask_of, item_of};
+ghost use Rattle.exchange_core.specs.CoreValue.{written, now, outgoing_of};
 ghost use Rattle.exchange_core.specs.Tables.{HasIdle};
 ghost use Rattle.exchange_core.specs.Asking.{OpensExchange, HasNoRoom};
 
 use crate::answer::Ticket;
 use crate::core_state::Core;
 use crate::fault::AskFault;
-use crate::numbering::{find_known, first_timeout, next_mid, token_of, use_id};
+use crate::numbering::{find_known, first_id, first_timeout, next_mid, token_of, use_id};
 use crate::outbox::Outbox;
 use crate::outgoing::Datagram;
 use crate::tables::{pending_count, set_pending};
 use ask_model::{Bytes, Mapped, incoming_size};
+use coap_codec::Token;
 use history_laws::kept::{Exchange, Known};
 use journal_book::{Entry, Event, Journal};
 use std::alloc::{AllocError, Global};
@@ -27,39 +28,71 @@ use std::sync::Arc;
 use transformers::Relation;
 use uri_map::Peer;
 
-/// What an exchange that begins shares: the request, and the bytes of its message.
+/// What an exchange that begins leads to, built before anything changes.
 #[derive(Drop)]
-struct Shares<R: Relation> {
-    /// for the entry of the ask
-    asked: Arc<Mapped<R>>,
-    /// for the ask that waits
+struct Begun<R: Relation> {
+    /// the entry of its ask
+    asked: Entry<R>,
+    /// the entry of the sending of its message
+    sent: Entry<R>,
+    /// the request, for the ask that waits
     waiting: Arc<Mapped<R>>,
-    /// for the entry of the sending
-    entered: Arc<Bytes>,
-    /// for the datagram that goes out
-    sent: Arc<Bytes>,
+    /// the message, as it goes out
+    datagram: Datagram,
 }
 
-/// The request and the bytes, each shared by two.
-fn shares_of<R: Relation>(
+/// The bytes of the message that asks it, under this message ID and token.
+fn message_of<R: Relation>(
     alloc: Global,
     mapped: &Arc<Mapped<R>>,
+    mid: u16,
+    token: &Token,
+) -> Result<Bytes, AllocError>
+    requires { IsSome (asked_peer (arc_value mapped.now).sense) }
+    ensures sent { IfOk result (λ b. IsSentFor (arc_value mapped.now).sense mid token.now (Some b)) }
+    ensures len { IfOk result (λ b. length b ≤ 2016) }
+{
+    let Some(bytes) = mapped.request(alloc, mid, token)? else {
+        unreachable!()
+    };
+    Ok(bytes)
+}
+
+/// Builds what an exchange leads to that begins at this moment. Its entries share the request with the ask
+/// that waits, and the bytes with the datagram.
+fn prepare<R: Relation>(
+    alloc: Global,
+    moment: u64,
+    conn: u32,
+    peer: Peer,
+    mapped: &Arc<Mapped<R>>,
     bytes: Bytes,
-) -> Result<Shares<R>, AllocError>
-    ensures asked { IfOk result (λ s. arc_value s.asked ≡ arc_value mapped.now) }
-    ensures waiting { IfOk result (λ s. arc_value s.waiting ≡ arc_value mapped.now) }
-    ensures entered { IfOk result (λ s. arc_value s.entered ≡ bytes) }
-    ensures sent { IfOk result (λ s. arc_value s.sent ≡ bytes) }
+    timeout: u32,
+) -> Result<Begun<R>, AllocError>
+    ensures asked { IfOk result (λ d. item_of d.asked ≡ written moment (Asks conn (ask_of (arc_value mapped.now)))) }
+    ensures sent { IfOk result (λ d. item_of d.sent ≡ written moment (Sends peer bytes (Some timeout))) }
+    ensures waiting { IfOk result (λ d. arc_value d.waiting ≡ arc_value mapped.now) }
+    ensures datagram { IfOk result (λ d. outgoing_of d.datagram ≡ record { peer = peer; bytes = bytes }) }
 {
     let asked = Arc::try_clone(mapped)?;
     let waiting = Arc::try_clone(mapped)?;
     let entered = Arc::new(alloc, bytes)?;
-    let sent = Arc::try_clone(&entered)?;
-    Ok(Shares {
-        asked,
+    let bytes = Arc::try_clone(&entered)?;
+    Ok(Begun {
+        asked: Entry {
+            moment,
+            event: Event::Asked(conn, asked),
+        },
+        sent: Entry {
+            moment,
+            event: Event::Sent {
+                peer,
+                bytes: entered,
+                timeout: Some(timeout),
+            },
+        },
         waiting,
-        entered,
-        sent,
+        datagram: Datagram { peer, bytes },
     })
 }
 
@@ -93,32 +126,20 @@ fn make_places<R: Relation>(
     Ok(())
 }
 
-/// Enters an ask and the first sending of its message.
-fn enter<R: Relation>(
-    journal: &mut Journal<R>,
-    moment: u64,
-    conn: u32,
-    peer: Peer,
-    asked: Arc<Mapped<R>>,
-    bytes: Arc<Bytes>,
-    timeout: u32,
-)
-    requires { 2 ≤ journal.old.room }
-    ensures entries { journal.new.entries ≡ (journal.old.entries ++ written moment (Asks conn (ask_of (arc_value asked))) ∷ []) ++ written moment (Sends peer (arc_value bytes) (Some timeout)) ∷ [] }
-    ensures room { journal.old.room ≡ journal.new.room + 2 }
+/// What is kept of an exchange whose ask is entered under this number, and its message behind it.
+fn exchange_at(number: u32, moment: u64, peer: Peer, mid: u16, token: Token) -> Exchange
+    requires { number ≤ 65536 }
+    ensures { result ≡ record { opening = number; since = moment; number = number + 1; peer = peer; mid = mid; token = token; confirmed = false } }
 {
-    journal.add(Entry {
-        moment,
-        event: Event::Asked(conn, asked),
-    });
-    journal.add(Entry {
-        moment,
-        event: Event::Sent {
-            peer,
-            bytes,
-            timeout: Some(timeout),
-        },
-    });
+    Exchange {
+        opening: number,
+        since: moment,
+        number: number + 1,
+        peer,
+        mid,
+        token,
+        confirmed: false,
+    }
 }
 
 impl<R: Relation> Core<R> {
@@ -137,7 +158,7 @@ impl<R: Relation> Core<R> {
         requires few { length self.old.exchanges < 256 }
         ensures ticket { IfOk result (λ t. (t.conn ≡ conn) × (t.number ≡ length self.old.entries) × (arc_value t.mapped ≡ arc_value mapped)) }
         ensures adds { IfOk result (λ t. (q : CoapRequest) × ((arc_value mapped).sense ≡ Requests q)
-            × OpensExchange (now self.old.moment moment) t.number conn (arc_value mapped) q self.old self.new) }
+            × OpensExchange (now self.old.moment moment) word t.number conn (arc_value mapped) q self.old self.new) }
         ensures sealed { result ≡ Err AskFault.Sealed → (self.new.sealed ≡ true) × HasNoRoom (arc_value mapped) self.old
             × (self.new.entries ≡ self.old.entries ++ written (now self.old.moment moment) Seals ∷ [])
             × (self.new.conns ≡ self.old.conns) × (self.new.exchanges ≡ self.old.exchanges)
@@ -146,12 +167,11 @@ impl<R: Relation> Core<R> {
         ensures others { (result ≢ Err AskFault.Unknown) × (result ≢ Err AskFault.Pending) }
     {
         let moment = self.last.max(moment.min(1 << 62));
-        let first = (word & 0xffff) as u16;
+        let first = first_id(word);
         let mid = next_mid(find_known(&self.known, &peer), first);
         let token = token_of(self.issued, word);
-        let Some(bytes) = mapped.request(self.alloc, mid, &token)? else {
-            unreachable!()
-        };
+        let timeout = first_timeout(word);
+        let bytes = message_of(self.alloc, &mapped, mid, &token)?;
         let pending = pending_count(&self.conns) + 1;
         let size = incoming_size(mapped.came());
         let more = bytes.len() as u64 + 128;
@@ -159,45 +179,26 @@ impl<R: Relation> Core<R> {
             self.seal(moment);
             return Err(AskFault::Sealed);
         }
-        let held = self.conns.len() + pending + 1;
         make_places(
             &mut self.journal,
             &mut self.exchanges,
             &mut self.known,
             &mut self.outbox,
             &mut self.sends,
-            held + 2,
+            self.conns.len() + pending + 3,
         )?;
-        let shares = shares_of(self.alloc, &mapped, bytes)?;
+        let begun = prepare(self.alloc, moment, conn, peer, &mapped, bytes, timeout)?;
 
         let number = self.journal.len() as u32;
-        let timeout = first_timeout(word);
-        enter(
-            &mut self.journal,
-            moment,
-            conn,
-            peer,
-            shares.asked,
-            shares.entered,
-            timeout,
-        );
-        self.exchanges.push_reserved(Exchange {
-            opening: number,
-            since: moment,
-            number: number + 1,
-            peer,
-            mid,
-            token,
-            confirmed: false,
-        });
+        self.journal.add(begun.asked);
+        self.journal.add(begun.sent);
+        self.exchanges
+            .push_reserved(exchange_at(number, moment, peer, mid, token));
         self.issued += 1;
         use_id(&mut self.known, &peer, first);
         set_pending(&mut self.conns, conn, Some(number));
-        self.outbox.expect(number, shares.waiting);
-        self.sends.push_back_reserved(Datagram {
-            peer,
-            bytes: shares.sent,
-        });
+        self.outbox.expect(number, begun.waiting);
+        self.sends.push_back_reserved(begun.datagram);
         self.bytes = self.bytes.saturating_add(size + more);
         self.last = moment;
         Ok(Ticket {

@@ -10,7 +10,7 @@ ghost use Rattle.history_laws.specs.Limits.{MaySeal};
 ghost use Rattle.exchange_core.specs.CoreValue.{written, now, connections, outgoing_of, AreUnsent};
 ghost use Rattle.exchange_core.specs.Room.{takes, takes_conn, takes_ask};
 ghost use Rattle.exchange_core.specs.Tables.{HasIdle, HasWaiting};
-ghost use Rattle.exchange_core.specs.Answering.{IsGiven, given_of};
+ghost use Rattle.exchange_core.specs.Answering.{IsGiven, given_of, refusal};
 ghost use Rattle.exchange_core.specs.Asking.{AnswersAtOnce, IsAtOnce};
 
 use crate::answer::{Answer, Ticket};
@@ -56,13 +56,34 @@ pub struct Core<R: Relation> {
 
 impl<R: Relation> Model for Core<R> {
     ghost use Rattle.std.specs.Prelude.{map};
-    ghost use Rattle.exchange_core.specs.CoreValue.{CoreValue, CoreKept, Answerable, outgoing_of};
+    ghost use Rattle.exchange_core.specs.CoreValue.{CoreValue, Answerable, outgoing_of};
+    ghost use Rattle.exchange_core.specs.CoreKept.{CoreKept};
 
     ghost Value = { CoreValue };
 
     ghost view = { λ s. record { entries = s.journal.entries; conns = s.conns.items; exchanges = s.exchanges.items; sealed = s.sealed; moment = s.last; answers = s.outbox.answers; sends = map outgoing_of s.sends.items } };
 
     ghost invariant = { λ s. CoreKept s.journal.entries s.journal.room s.conns.items (record { exchanges = s.exchanges.items; opened = s.opened; issued = s.issued; known = s.known.items; heard = s.heard.items }) s.sealed s.bytes s.last × Answerable s.journal.entries s.conns.items s.outbox.waiting s.outbox.answers (map outgoing_of s.sends.items) };
+}
+
+/// The answer to an ask that is entered under this number, and answered behind it at the same moment.
+fn refusal_of<R: Relation>(
+    number: u32,
+    moment: u64,
+    mapped: Arc<Mapped<R>>,
+    cause: Cause,
+) -> Answer<R>
+    requires { number ≤ 65536 }
+    ensures { given_of result ≡ refusal number moment (arc_value mapped) cause }
+{
+    Answer {
+        ask: number,
+        number: number + 1,
+        mapped,
+        moment,
+        heard: moment,
+        finding: Finding::fault(cause, number),
+    }
 }
 
 impl<R: Relation> Core<R> {
@@ -244,14 +265,7 @@ impl<R: Relation> Core<R> {
                 grounds: Grounds::Fault(cause, number),
             },
         });
-        self.outbox.put(Answer {
-            ask: number,
-            number: number + 1,
-            mapped: answered,
-            moment,
-            heard: moment,
-            finding: Finding::fault(cause, number),
-        });
+        self.outbox.put(refusal_of(number, moment, answered, cause));
         self.bytes = self.bytes.saturating_add(size + 132);
         self.last = moment;
         Ok(Ticket {

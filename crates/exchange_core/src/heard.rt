@@ -1,8 +1,10 @@
 //! What is heard.
 
-ghost use Rattle.std.specs.Prelude.{◌≡◌, ◌<◌, true, length, IfOk, OnOk, OnErr};
-ghost use Rattle.exchange_core.specs.CoreValue.{now};
-ghost use Rattle.exchange_core.specs.Hears.{HeardSo, IsDropped};
+ghost use Rattle.std.specs.Prelude.{◌≡◌, ◌<◌, ◌≤◌, ◌^◌, true, false, length, IfOk, OnOk, OnErr};
+ghost use Rattle.journal_book.specs.Entries.{Hears};
+ghost use Rattle.journal_book.specs.Views.{item_of};
+ghost use Rattle.exchange_core.specs.CoreValue.{written, now};
+ghost use Rattle.exchange_core.specs.Hears.{HeardSo, IsDropped, NeverSentTo};
 ghost use Rattle.exchange_core.specs.Steps.{IsPrepared};
 
 use crate::core_state::Core;
@@ -67,6 +69,16 @@ fn prepare(
     })
 }
 
+/// The entry of a datagram.
+fn heard_entry<R: Relation>(moment: u64, peer: Peer, bytes: Bytes) -> Entry<R>
+    ensures { item_of result ≡ written moment (Hears peer bytes) }
+{
+    Entry {
+        moment,
+        event: Event::Heard { peer, bytes },
+    }
+}
+
 impl<R: Relation> Core<R> {
     /// Takes a datagram that came from this peer at this moment. It is dropped where it is too long, where nothing
     /// was sent to the peer, and where the journal is sealed. The first that finds no room seals it. The word isn't
@@ -89,6 +101,19 @@ impl<R: Relation> Core<R> {
             return Ok(());
         };
         let moment = self.last.max(moment.min(1 << 62));
+        self.hear(moment, peer, bytes)
+    }
+
+    /// Enters a datagram that isn't dropped, with what it leads to. The first that finds no room seals the journal.
+    fn hear(&mut self, moment: u64, peer: Peer, bytes: &[u8]) -> Result<(), AllocError>
+        requires later { self.old.moment ≤ moment }
+        requires early { moment ≤ 2 ^ 62 }
+        requires unsealed { self.old.sealed ≡ false }
+        requires short { length bytes.now ≤ 2048 }
+        requires sent { NeverSentTo peer self.old.entries → ⊥ }
+        ensures heard { OnOk result (HeardSo moment peer bytes.now self.old self.new) }
+        ensures memory { OnErr result (self.new ≡ self.old) }
+    {
         let number = self.journal.len() as u32;
         let ready = prepare(
             self.alloc,
@@ -102,29 +127,18 @@ impl<R: Relation> Core<R> {
         )?;
         let count = self.conns.len();
         let pending = pending_count(&self.conns);
-        let sends = ready.sent.is_some();
         let answers = ready.reader.is_some();
-        let (entries, size) = added(sends, answers);
+        let (entries, size) = added(ready.sent.is_some(), answers);
         let size = bytes.len() as u64 + 64 + size;
         let waiting = pending.saturating_sub(one_if(answers));
         if !self.has_room_for(1 + entries, size, count, waiting) {
             self.seal(moment);
             return Ok(());
         }
-        make_places(
-            &mut self.journal,
-            &mut self.heard,
-            &mut self.sends,
-            count + pending + 4,
-        )?;
+        let places = count + pending + 4;
+        make_places(&mut self.journal, &mut self.heard, &mut self.sends, places)?;
 
-        self.journal.add(Entry {
-            moment,
-            event: Event::Heard {
-                peer,
-                bytes: ready.taken,
-            },
-        });
+        self.journal.add(heard_entry(moment, peer, ready.taken));
         remember(&mut self.heard, ready.memory);
         change_exchanges(&mut self.exchanges, ready.change);
         send_confirmation(&mut self.journal, moment, peer, ready.sent);

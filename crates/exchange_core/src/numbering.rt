@@ -45,6 +45,13 @@ pub fn next_mid(known: Option<Known>, first: u16) -> u16
     }
 }
 
+/// The ID of the first message to an endpoint: the low 16 bits of the word (RFC 7252 section 4.4).
+pub fn first_id(word: u64) -> u16
+    ensures { result ≡ word % 2 ^ 16 }
+{
+    (word & 0xffff) as u16
+}
+
 /// The timeout before the first copy, in milliseconds: ACK_TIMEOUT times a factor of 1 to
 /// ACK_RANDOM_FACTOR, which is 1.5 (RFC 7252 section 4.8).
 pub fn first_timeout(word: u64) -> u32

@@ -102,8 +102,8 @@ at-once a b t n conn m cause num w =
       numbers = ap (λ (k : ℕ). (k + 1) ∷ []) num;
     }
 
-opens : (a b : CoreValue) (t n conn : ℕ) (m : Mapping) (q : _) → OpensExchange t n conn m q a b → Advances a b
-opens a b t n conn m q w =
+opens : (a b : CoreValue) (t word n conn : ℕ) (m : Mapping) (q : _) → OpensExchange t word n conn m q a b → Advances a b
+opens a b t word n conn m q w =
     record {
       more = _ ∷ _ ∷ [];
       entries = w.entries ∙ append_assoc a.entries _ _;
@@ -113,10 +113,10 @@ opens a b t n conn m q w =
       numbers = refl;
     }
 
-asking : (s : Sense) (a b : CoreValue) (t n conn : ℕ) (m : Mapping) → n ≡ length a.entries → AddsBy s t n conn m a b → Advances a b
-asking (Refuses cause status) a b t n conn m num w = at-once a b t n conn m cause num w
-asking (Requests q) a b t n conn m num (inl w) = at-once a b t n conn m _ num w.1
-asking (Requests q) a b t n conn m num (inr w) = opens a b t n conn m q w.1
+asking : (s : Sense) (a b : CoreValue) (t word n conn : ℕ) (m : Mapping) → n ≡ length a.entries → AddsBy s t word n conn m a b → Advances a b
+asking (Refuses cause status) a b t word n conn m num w = at-once a b t n conn m cause num w
+asking (Requests q) a b t word n conn m num (inl w) = at-once a b t n conn m _ num w.1
+asking (Requests q) a b t word n conn m num (inr w) = opens a b t word n conn m q w.1
 
 -- a datagram, and the ACK or RST that it asks for
 abbrev front : ℕ → Peer → List ℕ → Option (List ℕ) → List Written
@@ -216,21 +216,21 @@ opened-advances (Ok n) a b t A B C opened refused = one-advances a b (written t 
 opened-advances (Err e) a b t A B C opened refused = refused.step
 
 -- what an ask may come to
-pub asked-advances : {X : Type 0} (r : Result X AskFault) (number : X → ℕ) (Y : X → Type 0) (a b : CoreValue) (t conn : ℕ) (m : Mapping) (A B C D E F : Type 0)
+pub asked-advances : {X : Type 0} (r : Result X AskFault) (number : X → ℕ) (Y : X → Type 0) (a b : CoreValue) (t word conn : ℕ) (m : Mapping) (A B C D E F : Type 0)
     → IfOk r (λ x. Y x)
     → ((x : X) → Y x → number x ≡ length a.entries)
-    → IfOk r (λ x. AddsAsk t (number x) conn m a b)
+    → IfOk r (λ x. AddsAsk t word (number x) conn m a b)
     → (r ≡ Err AskFault.Unknown → A × (b ≡ a))
     → (r ≡ Err AskFault.Pending → B × (b ≡ a))
     → (r ≡ Err AskFault.Sealed → C × ((D × (b ≡ a))
     ⊎ (E × F × (b.entries ≡ a.entries ++ written t Seals ∷ []) × (b.conns ≡ a.conns) × (b.exchanges ≡ a.exchanges) × (b.answers ≡ a.answers) × (b.sends ≡ a.sends))))
     → (r ≡ Err AskFault.Memory → b ≡ a) → Advances a b
-asked-advances (Ok x) number Y a b t conn m A B C D E F ticket is ok unknown pending sealed memory = asking m.sense a b t (number x) conn m (is x ticket) ok
-asked-advances (Err AskFault.Unknown) number Y a b t conn m A B C D E F ticket is ok unknown pending sealed memory = same-advances a b (unknown refl).1
-asked-advances (Err AskFault.Pending) number Y a b t conn m A B C D E F ticket is ok unknown pending sealed memory = same-advances a b (pending refl).1
-asked-advances (Err AskFault.Sealed) number Y a b t conn m A B C D E F ticket is ok unknown pending sealed memory =
+asked-advances (Ok x) number Y a b t word conn m A B C D E F ticket is ok unknown pending sealed memory = asking m.sense a b t word (number x) conn m (is x ticket) ok
+asked-advances (Err AskFault.Unknown) number Y a b t word conn m A B C D E F ticket is ok unknown pending sealed memory = same-advances a b (unknown refl).1
+asked-advances (Err AskFault.Pending) number Y a b t word conn m A B C D E F ticket is ok unknown pending sealed memory = same-advances a b (pending refl).1
+asked-advances (Err AskFault.Sealed) number Y a b t word conn m A B C D E F ticket is ok unknown pending sealed memory =
     elim (sealed refl).1 [ inl w ↦ same-advances a b w.1 | inr w ↦ one-advances a b (written t Seals) refl refl w.2 w.6 w.5 ]
-asked-advances (Err AskFault.Memory) number Y a b t conn m A B C D E F ticket is ok unknown pending sealed memory = same-advances a b (memory refl)
+asked-advances (Err AskFault.Memory) number Y a b t word conn m A B C D E F ticket is ok unknown pending sealed memory = same-advances a b (memory refl)
 
 pub refused-alone : {X : Type 0} (r : Result X AskFault) (a b : CoreValue) (t : ℕ) (A B C D E F : Type 0)
     → (r ≡ Err AskFault.Unknown → A × (b ≡ a))

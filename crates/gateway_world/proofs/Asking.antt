@@ -218,9 +218,9 @@ serves-refused a b rows t n conn m cause place s idle w =
     }
 
 -- an ask that opens an exchange
-serves-opened : (a b : CoreValue) (rows : List Row) (t n conn : ℕ) (m : Mapping) (q : _) → n ≡ length a.entries → Serves a rows → IsRow rows conn None
-    → OpensExchange t n conn m q a b → Serves b (with_waits conn (Some n) rows)
-serves-opened a b rows t n conn m q place s idle w =
+serves-opened : (a b : CoreValue) (rows : List Row) (t word n conn : ℕ) (m : Mapping) (q : _) → n ≡ length a.entries → Serves a rows → IsRow rows conn None
+    → OpensExchange t word n conn m q a b → Serves b (with_waits conn (Some n) rows)
+serves-opened a b rows t word n conn m q place s idle w =
     let h : List Written = a.entries in
     let asks : Written = written t (Asks conn (ask_of m)) in
     let sent : Written = written t (Sends _ w.bytes (Some w.wait)) in
@@ -257,18 +257,18 @@ serves-opened a b rows t n conn m q place s idle w =
       in_order = rw (w.answers) (s.in_order);
     }
 
-serves-by : (sense : Sense) (a b : CoreValue) (rows : List Row) (t n conn : ℕ) (m : Mapping) → n ≡ length a.entries → Serves a rows → IsRow rows conn None
-    → AddsBy sense t n conn m a b → Serves b (with_waits conn (Some n) rows)
-serves-by (Refuses cause status) a b rows t n conn m place s idle w = serves-refused a b rows t n conn m cause place s idle w
-serves-by (Requests q) a b rows t n conn m place s idle (inl w) = serves-refused a b rows t n conn m _ place s idle w.1
-serves-by (Requests q) a b rows t n conn m place s idle (inr w) = serves-opened a b rows t n conn m q place s idle w.1
+serves-by : (sense : Sense) (a b : CoreValue) (rows : List Row) (t word n conn : ℕ) (m : Mapping) → n ≡ length a.entries → Serves a rows → IsRow rows conn None
+    → AddsBy sense t word n conn m a b → Serves b (with_waits conn (Some n) rows)
+serves-by (Refuses cause status) a b rows t word n conn m place s idle w = serves-refused a b rows t n conn m cause place s idle w
+serves-by (Requests q) a b rows t word n conn m place s idle (inl w) = serves-refused a b rows t n conn m _ place s idle w.1
+serves-by (Requests q) a b rows t word n conn m place s idle (inr w) = serves-opened a b rows t word n conn m q place s idle w.1
 
 -- an ask that is taken
-pub serves-asked : {X E : Type 0} (r : Result X E) (number : X → ℕ) (Y : X → Type 0) (a b : CoreValue) (rows : List Row) (t conn : ℕ) (m : Mapping)
-    → IfOk r (λ x. Y x) → ((x : X) → Y x → number x ≡ length a.entries) → IfOk r (λ x. AddsAsk t (number x) conn m a b) → Serves a rows → IsRow rows conn None
+pub serves-asked : {X E : Type 0} (r : Result X E) (number : X → ℕ) (Y : X → Type 0) (a b : CoreValue) (rows : List Row) (t word conn : ℕ) (m : Mapping)
+    → IfOk r (λ x. Y x) → ((x : X) → Y x → number x ≡ length a.entries) → IfOk r (λ x. AddsAsk t word (number x) conn m a b) → Serves a rows → IsRow rows conn None
     → IfOk r (λ x. Serves b (with_waits conn (Some (number x)) rows))
-serves-asked (Ok x) number Y a b rows t conn m ticket is adds s idle = serves-by m.sense a b rows t (number x) conn m (is x ticket) s idle adds
-serves-asked (Err e) number Y a b rows t conn m ticket is adds s idle = tt
+serves-asked (Ok x) number Y a b rows t word conn m ticket is adds s idle = serves-by m.sense a b rows t word (number x) conn m (is x ticket) s idle adds
+serves-asked (Err e) number Y a b rows t word conn m ticket is adds s idle = tt
 
 -- a connection that is opened
 pub serves-opening : {E : Type 0} (r : Result ℕ E) (a b : CoreValue) (rows : List Row) (t : ℕ) (A : ℕ → Type 0)

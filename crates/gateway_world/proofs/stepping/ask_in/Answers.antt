@@ -7,12 +7,12 @@ use Rattle.gateway_world.proofs.stepping.ask_in.Goals as goal
 
 pub returns-clause-advances : goal.returns-clause-advances
 returns-clause-advances g c =
-    asked-advances c.ask.result (λ x. x.number) _ _ _ _ _ _ _ _ _ _ _ _
+    asked-advances c.ask.result (λ x. x.number) _ _ _ _ _ _ _ _ _ _ _ _ _
     c.ask.ensures.ticket (λ x w. w.1) c.ask.ensures.adds c.ask.ensures.unknown c.ask.ensures.pending c.ask.ensures.sealed c.ask.ensures.memory
 
 pub returns-clause-asked : goal.returns-clause-asked
 returns-clause-asked g c rows serves idle =
-    serves-asked c.ask.result (λ x. x.number) _ _ _ rows _ c.args.conn _ c.ask.ensures.ticket (λ x w. w.1) c.ask.ensures.adds serves idle
+    serves-asked c.ask.result (λ x. x.number) _ _ _ rows _ _ c.args.conn _ c.ask.ensures.ticket (λ x w. w.1) c.ask.ensures.adds serves idle
 
 pub returns-clause-kept : goal.returns-clause-kept
 returns-clause-kept g c rows serves =
@@ -21,4 +21,4 @@ returns-clause-kept g c rows serves =
 
 pub returns-clause-attended : goal.returns-clause-attended
 returns-clause-attended g c rows serves idle attended =
-    attended-asked c.ask.result (λ x. x.number) _ _ rows _ c.args.conn _ c.ask.ensures.adds serves idle attended
+    attended-asked c.ask.result (λ x. x.number) _ _ rows _ _ c.args.conn _ c.ask.ensures.adds serves idle attended

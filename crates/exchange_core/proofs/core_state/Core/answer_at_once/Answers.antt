@@ -9,8 +9,9 @@ use Rattle.history_laws.specs.declared.kept.Exchange.{Exchange}
 use Rattle.exchange_core.specs.Room.{is_pending}
 use Rattle.exchange_core.specs.Tables.{HasIdle}
 use Rattle.exchange_core.specs.CoreValue.{CoreValue}
+use Rattle.exchange_core.specs.Answering.{refusal}
 use Rattle.exchange_core.specs.Asking.{IsAtOnce}
-use Rattle.exchange_core.proofs.Giving.{answerable-at-once, given-is}
+use Rattle.exchange_core.proofs.Giving.{answerable-at-once}
 use Rattle.exchange_core.proofs.Keeping.{kept-at-once}
 use Rattle.exchange_core.proofs.core_state.Core.answer_at_once.Goals as goal
 
@@ -30,5 +31,5 @@ invariant_of-self-2 g c =
       answerable-at-once s.journal.entries _ _ _ c.args.conn _ _ _ c.args.cause s.conns.items _ (arc_value c.in_ok-asked.asked) s.outbox.waiting _ _ s.outbox.answers _ _ _
           c.self.invariant.1 c.in_ok-make_room.ensures.same c.len-number.ensures c.add.ensures.entries c.add-2.ensures.entries
           refl c.in_ok-make_room-2.ensures.waiting c.put.ensures.waiting c.in_ok-make_room-2.ensures.answers c.put.ensures.answers
-          (given-is _ _ _ _ _ _ (c.in_ok-answered.ensures ∙ sym c.in_ok-asked.ensures) c.fault.ensures),
+          (c.refusal_of.ensures ∙ ap (λ (m : Mapping). refusal c.len-number.result c.max-moment.result m c.args.cause) (c.in_ok-answered.ensures ∙ sym c.in_ok-asked.ensures)),
     )

@@ -23,9 +23,10 @@ invariant_of-self g c =
     c.self.invariant.0 c.self.invariant.1 (ap (λ (v : CoreValue). v.sealed) is ∙ c.requires.sealed)
     (subst (λ (n : ℕ). n ≤ c.args.moment) (sym (ap (λ (v : CoreValue). v.moment) is)) c.requires.later) in
     let gives = rw (c.deref.ensures.value) at c.answer_each.ensures.midway in
+    let entries = rw (c.deref.ensures.value) at c.answer_each.ensures.entries in
     let conns = rw (c.deref.ensures.value) at c.answer_each.ensures.conns in
     let m = gives tables s.sealed (map outgoing_of s.sends.items) start in (
       kept-late s.journal.entries _ s.journal.room _ s.conns.items _ tables s.sealed s.bytes s.last _ c.args.moment _ _ _
-          c.self.invariant.0 (ap (λ (v : CoreValue). v.sealed) is ∙ c.requires.sealed) c.requires.early conns m,
+          c.self.invariant.0 (ap (λ (v : CoreValue). v.sealed) is ∙ c.requires.sealed) c.requires.early entries conns m,
       m.answerable,
     )

@@ -18,7 +18,7 @@ returns-then-len-ge-EXCHANGES-clause-adds g c =
     let many : length c.self.inside.exchanges.items ≡ 256 = omega (arith, few, c.if-len-ge-EXCHANGES.true, c.len.ensures, c.self.inside.exchanges.ok.0) in
     let full : length c.args.self.now.exchanges ≡ 256 = subst (λ (v : CoreValue). length v.exchanges ≡ 256) c.self.view_is many in
     let asks = asks-sense _ _ _ c.in-Ask.is (c.meaning.ensures.sense ∙ ap (λ (m : Mapping). m.sense) c.deref-2.ensures) in
-    busy-adds _ _ _ _ _ _ asks.0 asks.1 full c.answer_at_once-then-len-ge-EXCHANGES.ensures.adds
+    busy-adds _ _ _ _ _ _ _ asks.0 asks.1 full c.answer_at_once-then-len-ge-EXCHANGES.ensures.adds
 
 pub returns-then-len-ge-EXCHANGES-clause-sealed : goal.returns-then-len-ge-EXCHANGES-clause-sealed
 returns-then-len-ge-EXCHANGES-clause-sealed g c =

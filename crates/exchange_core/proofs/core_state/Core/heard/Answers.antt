@@ -1,68 +1,15 @@
-use Rattle.std.proofs.Common.{rules, map, ◌≡◌, ◌+◌, refl, sym, ap, ◌∙◌, arith, inl, inr, length, List}
-use Rattle.std.specs.Prelude.{count_by, option_map}
-use Rattle.std.specs.Arc.{arc_value}
-use Rattle.std.proofs.lemmas.List.Sums.{count_by-le-length}
-use Rattle.history_laws.specs.declared.kept.Conn.{Conn}
+use Rattle.std.proofs.Common.{sym, ap, ◌∙◌, arith, inl, inr, refl}
 use Rattle.history_laws.specs.Kept.{Held}
-use Rattle.exchange_core.specs.Room.{is_pending}
-use Rattle.exchange_core.specs.Steps.{outgoing_by}
-use Rattle.exchange_core.specs.CoreValue.{CoreValue, outgoing_of}
-use Rattle.exchange_core.proofs.Dropping.{never-sent, not-dropped}
-use Rattle.exchange_core.proofs.Unsent.{out-by}
-use Rattle.exchange_core.proofs.Stepping.{changed-so, remembered-so, waits-kept, some-map, few-heard, kept-heard, answer-added, changes-shown, hears-shown, seals-shown, no-room, heard-seals}
-use Rattle.exchange_core.proofs.Showing.{on-err}
+use Rattle.exchange_core.specs.CoreValue.{CoreValue}
+use Rattle.exchange_core.proofs.Dropping.{never-sent, was-sent, not-dropped}
 use Rattle.exchange_core.proofs.core_state.Core.heard.Goals as goal
 
-pub answer_reader-requires-clause-few : goal.answer_reader-requires-clause-few
-answer_reader-requires-clause-few g c =
+pub hear-requires-clause-sent : goal.hear-requires-clause-sent
+hear-requires-clause-sent g c never =
     let s = c.self.inside in
-    few-heard s.journal.entries _ _ _ _ (1 + c.added-entries.result.0) (length c.args.bytes.now + 64 + c.added-entries.result.1) c.len-count.result c.saturating_sub-waiting.result
-    c.args.peer _ c.in_ok-ready.ensures.verdict.due (option_map arc_value c.in_ok-ready.ready.sent) c.is_some-sends.result c.is_some-answers.result
-    c.in_ok-ready.ensures.sent (c.is_some-sends.ensures ∙ sym (some-map arc_value c.in_ok-ready.ready.sent)) (ap (λ x. 1 + x.0) c.added-entries.ensures) (search rules)
-    c.in_ok-make_places.ensures.entries c.add.ensures.entries c.send_confirmation.ensures.entries
-
-pub answer_reader-requires-clause-waits : goal.answer_reader-requires-clause-waits
-answer_reader-requires-clause-waits g c =
-    let s = c.self.inside in
-    waits-kept s.conns.items c.in_ok-ready.ensures.verdict.ending c.in_ok-ready.ready.reader s.outbox.waiting
-    (rw (c.deref-4.ensures.value) at c.in_ok-ready.ensures.reader) c.self.invariant.1.kept
-
-pub invariant_of-self-2 : goal.invariant_of-self-2
-invariant_of-self-2 g c =
-    let s = c.self.inside in
-    kept-heard s.journal.entries _ _ _ _ s.journal.room _ _ _ _ s.conns.items _ _ _ _
-    s.sealed s.bytes _ s.last _ c.len-number.result (1 + c.added-entries.result.0) (length c.args.bytes.now + 64 + c.added-entries.result.1)
-    c.len-count.result c.pending_count-pending.result c.saturating_sub-waiting.result (map outgoing_of s.sends.items) _
-    c.args.peer c.args.bytes.now _ c.is_some-sends.result c.is_some-answers.result c.in_ok-ready.ensures.verdict (option_map arc_value c.in_ok-ready.ready.sent) c.in_ok-ready.ready.reader c.in-Some.field-0
-    s.outbox.waiting _ s.outbox.answers _
-    c.self.invariant.0 c.self.invariant.1 c.if-self.false
-    (omega (arith, c.max-moment.ensures)) (omega (arith, c.max-moment.ensures, c.min.ensures, c.self.invariant.0.early))
-    (omega (arith, c.if-bytes-gt-DATAGRAM.false)) (sym (rw (c.deref.ensures.value) at c.in-Some.ensures)) c.len-number.ensures
-    (rw (c.deref-2.ensures.value, c.deref-3.ensures.value) at c.in_ok-ready.ensures.is_verdict)
-    c.in_ok-ready.ensures.sent (rw (c.deref-4.ensures.value) at c.in_ok-ready.ensures.reader)
-    (c.is_some-sends.ensures ∙ sym (some-map arc_value c.in_ok-ready.ready.sent)) c.is_some-answers.ensures c.in_ok-ready.ensures.taken
-    (omega (arith, c.len-count.ensures, s.conns.ok.0)) (c.pending_count-pending.ensures ∙ ap (count_by is_pending) c.deref-5.ensures.value)
-    (search rules)
-    (ap (λ x. 1 + x.0) c.added-entries.ensures) (ap (λ x. length c.args.bytes.now + 64 + x.1) c.added-entries.ensures) (search rules)
-    c.in_ok-make_places.ensures.entries c.add.ensures.entries c.send_confirmation.ensures.entries c.answer_reader.ensures.entries
-    (changed-so _ _ _ _ c.change_exchanges.ensures c.in_ok-ready.ensures.change) (remembered-so _ _ _ _ _ c.remember.ensures c.in_ok-ready.ensures.memory c.in_ok-make_places.ensures.heard) c.answer_reader.ensures.conns
-    c.answer_reader.ensures.waiting c.answer_reader.ensures.answers
-    c.in_ok-make_places.ensures.room c.add.ensures.room c.send_confirmation.ensures.room c.answer_reader.ensures.room
-    c.saturating_add-self-inside.ensures
-    (out-by s.sends.items _ _ c.in_ok-ready.ready.datagram (outgoing_by c.args.peer (option_map arc_value c.in_ok-ready.ready.sent)) c.in_ok-make_places.ensures.sends c.put_out.ensures c.in_ok-ready.ensures.datagram)
-
-pub returns-clause-heard : goal.returns-clause-heard
-returns-clause-heard g c =
-    let s = c.self.inside in
-    rw (← c.self.view_is) (hears-shown _ c.max-moment.result c.args.peer c.args.bytes.now _ _ (option_map arc_value c.in_ok-ready.ready.sent) (search rules) c.if-self.false refl
-    (answer-added _ c.args.peer c.args.bytes.now _ c.in_ok-ready.ensures.verdict.ending c.in_ok-ready.ready.reader s.outbox.waiting (option_map arc_value c.in_ok-ready.ready.sent) s.journal.entries _ _ _ _ _
-    (rw (c.deref-4.ensures.value) at c.in_ok-ready.ensures.reader) c.in_ok-ready.ensures.taken c.in_ok-make_places.ensures.entries c.add.ensures.entries c.send_confirmation.ensures.entries
-    c.answer_reader.ensures.entries c.answer_reader.ensures.conns c.answer_reader.ensures.answers)
-    (changes-shown s.journal.entries s.conns.items _ s.journal.room s.bytes s.last _ c.len-number.result c.args.peer c.args.bytes.now c.in_ok-ready.ensures.verdict c.in-Some.field-0 s.sealed _
-    c.self.invariant.0 c.if-self.false (omega (arith, c.max-moment.ensures)) (omega (arith, c.if-bytes-gt-DATAGRAM.false))
-    (sym (rw (c.deref.ensures.value) at c.in-Some.ensures)) c.len-number.ensures
-    (rw (c.deref-2.ensures.value, c.deref-3.ensures.value) at c.in_ok-ready.ensures.is_verdict) (changed-so _ _ _ _ c.change_exchanges.ensures c.in_ok-ready.ensures.change))
-    (out-by s.sends.items _ _ c.in_ok-ready.ready.datagram (outgoing_by c.args.peer (option_map arc_value c.in_ok-ready.ready.sent)) c.in_ok-make_places.ensures.sends c.put_out.ensures c.in_ok-ready.ensures.datagram))
+    let tables : Held = record { exchanges = s.exchanges.items; opened = s.opened; issued = s.issued; known = s.known.items; heard = s.heard.items } in
+    was-sent c.args.self.now.entries s.conns.items tables s.sealed s.last c.args.peer c.in-Some.field-0
+    (rw (← c.self.view_is) (c.self.invariant.0.agrees)) (sym (rw (c.deref.ensures.value) at c.in-Some.ensures)) never
 
 pub returns-in_default-clause-heard : goal.returns-in_default-clause-heard
 returns-in_default-clause-heard g c =
@@ -72,47 +19,6 @@ returns-in_default-clause-heard g c =
           (sym (rw (c.deref.ensures.value) at c.find_known.ensures) ∙ c.in_default.is))),
       refl,
     ))
-
-pub seal-requires-clause-may : goal.seal-requires-clause-may
-seal-requires-clause-may g c =
-    let s = c.self.inside in
-    let some = count_by-le-length is_pending s.conns.items in
-    let unsealed = sym (ap (λ (v : CoreValue). v.sealed) c.self.view_is) ∙ c.if-self.false in
-    let pending : c.pending_count-pending.result ≡ count_by is_pending s.conns.items = c.pending_count-pending.ensures ∙ ap (count_by is_pending) c.deref-5.ensures.value in
-    let few = c.self.invariant.0.few in
-    let count : c.len-count.result ≡ length s.conns.items = omega (arith, c.len-count.ensures, s.conns.ok.0) in
-    heard-seals c.args.self.now.entries (length c.args.bytes.now) c.len-count.result c.saturating_sub-waiting.result c.is_some-sends.result c.is_some-answers.result
-    (1 + c.added-entries.result.0) (length c.args.bytes.now + 64 + c.added-entries.result.1)
-    (sym (c.has_room_for.ensures unsealed) ∙ c.if-not-has_room_for.true)
-    (ap (λ x. 1 + x.0) c.added-entries.ensures) (ap (λ x. length c.args.bytes.now + 64 + x.1) c.added-entries.ensures)
-    (omega (arith, c.if-bytes-gt-DATAGRAM.false)) (omega (arith, few, count)) (omega (arith, c.saturating_sub-waiting.ensures, pending, some, count))
-
-pub returns-then-not-has_room_for-clause-dropped : goal.returns-then-not-has_room_for-clause-dropped
-returns-then-not-has_room_for-clause-dropped g c dropped =
-    let s = c.self.inside in
-    let tables : Held = record { exchanges = s.exchanges.items; opened = s.opened; issued = s.issued; known = s.known.items; heard = s.heard.items } in
-    absurd (not-dropped c.args.self.now s.conns.items tables c.self.inside.sealed c.self.inside.last c.args.peer c.args.bytes.now c.in-Some.field-0
-    (rw (← c.self.view_is) (c.self.invariant.0.agrees)) (sym (ap (λ (v : CoreValue). v.sealed) c.self.view_is) ∙ c.if-self.false)
-    (omega (arith, c.if-bytes-gt-DATAGRAM.false)) (sym (rw (c.deref.ensures.value) at c.in-Some.ensures)) dropped)
-
-pub returns-then-not-has_room_for-clause-heard : goal.returns-then-not-has_room_for-clause-heard
-returns-then-not-has_room_for-clause-heard g c =
-    let s = c.self.inside in
-    let v = c.args.self.now in
-    let unsealed = sym (ap (λ (v : CoreValue). v.sealed) c.self.view_is) ∙ c.if-self.false in
-    let conns = ap (λ (v : CoreValue). v.conns) c.self.view_is in
-    let count : c.len-count.result ≡ length s.conns.items = omega (arith, c.len-count.ensures, s.conns.ok.0) in
-    let a = c.seal.ensures in
-    seals-shown _ c.max-moment.result c.args.peer c.args.bytes.now v c.seal.new.self (search rules)
-    (no-room c.args.bytes.now v c.is_some-sends.result c.is_some-answers.result c.has_room_for.result (1 + c.added-entries.result.0) (length c.args.bytes.now + 64 + c.added-entries.result.1)
-    c.len-count.result c.pending_count-pending.result c.saturating_sub-waiting.result (c.has_room_for.ensures unsealed) c.if-not-has_room_for.true
-    (ap (λ x. 1 + x.0) c.added-entries.ensures) (ap (λ x. length c.args.bytes.now + 64 + x.1) c.added-entries.ensures)
-    (count ∙ ap (λ (cs : List Conn). length cs) conns) (c.pending_count-pending.ensures ∙ ap (count_by is_pending) (c.deref-5.ensures.value ∙ conns)) (search rules))
-    a.sealed a.entries a.conns a.exchanges a.answers a.sends
-
-pub returns-in_err-make_places-clause-memory : goal.returns-in_err-make_places-clause-memory
-returns-in_err-make_places-clause-memory g c =
-    on-err c.from_residual-in_err-make_places.result _ (rw (c.in_err-make_places.ensures.entries, c.in_err-make_places.ensures.sends) (c.self.view_is))
 
 pub returns-clause-dropped : goal.returns-clause-dropped
 returns-clause-dropped g c dropped =
