@@ -143,6 +143,14 @@ pub fn ask(
     core.ask(moment, 0, conn, mapped)
 }
 
+/// Asks for the light at the first moment, with this word.
+fn ask_by(core: &mut Core<Nothing>, alloc: Global, word: u64, conn: u32) -> bool {
+    match light(alloc) {
+        Some(mapped) => core.ask(0, word, conn, mapped).is_ok(),
+        None => false,
+    }
+}
+
 /// Asks what is refused for its size.
 fn ask_too_much(
     core: &mut Core<Nothing>,
@@ -287,6 +295,22 @@ fn a_request_opens_an_exchange(rt: HostRuntime) {
     assert!(rt; sends(&core, 2, want, Some(2000)));
     assert!(rt; ask(&mut core, alloc, 1, 0).err() == Some(AskFault::Pending));
     assert!(rt; take_answer(&mut core, &ticket).is_none());
+}
+
+#[test]
+fn messages_are_numbered_by_their_words(rt: HostRuntime) {
+    let alloc = rt.alloc();
+    let mut core = new_core(alloc).expect(&rt, "memory");
+    assert!(rt; open(&mut core, 0) == Ok(0));
+    assert!(rt; open(&mut core, 0) == Ok(1));
+    assert!(rt; ask_by(&mut core, alloc, 0x0123_4567_89ab_cdef, 0));
+    // the first ID is the low 16 bits; the token is no token issued yet, and the high 32 bits
+    let want = b"\x48\x01\xcd\xef\0\0\0\0\x01\x23\x45\x67\x3d\0s.example.com\x85light";
+    assert!(rt; sends(&core, 3, want, Some(2537)));
+    assert!(rt; ask_by(&mut core, alloc, 0xffff_ffff_ffff_ffff, 1));
+    // the ID behind that one, and the token behind one that was issued
+    let want = b"\x48\x01\xcd\xf0\0\0\0\x01\xff\xff\xff\xff\x3d\0s.example.com\x85light";
+    assert!(rt; sends(&core, 5, want, Some(2619)));
 }
 
 /// The first connection opens and asks.
