@@ -6,6 +6,8 @@ ghost use Rattle.std.specs.Prelude.{◌≡◌};
 ghost use Rattle.hcproxy.specs.Failures.{exit_status};
 
 mod lines;
+#[cfg(test)]
+mod random_tests;
 mod relation;
 mod replay;
 #[cfg(test)]
