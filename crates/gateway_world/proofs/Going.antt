@@ -202,6 +202,10 @@ advances-grow a b w = (w.more, w.entries)
 pub goes-grow : (a b : CoreValue) (x y : List Output) → Goes a b x y → Grows a.entries b.entries
 goes-grow a b x y w = (w.gives.more, w.gives.entries)
 
+pub leads-grow : {X E : Type 0} (r : Result X E) (a b : CoreValue) (before after : List Output) → Leads r a b before after → OnOk r (Grows a.entries b.entries)
+leads-grow (Ok x) a b before after w = goes-grow a b before after w
+leads-grow (Err e) a b before after w = tt
+
 pub grows-on : (h h1 h2 : List Written) → Grows h h1 → Grows h1 h2 → Grows h h2
 grows-on h h1 h2 first second =
     (first.0 ++ second.0, second.1 ∙ ap (λ s. s ++ second.0) first.1 ∙ append_assoc h first.0 second.0)

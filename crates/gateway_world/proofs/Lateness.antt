@@ -195,7 +195,7 @@ late-one a b t x none quiet w =
     let ws = timeouts t a.exchanges a.conns in
     late-alone a b t (x ∷ []) (rw none refl) (rw quiet (ap (λ (k : ℕ). all_answered k ws) (sym (length-append a.entries (x ∷ []))))) w
 
-past-or-none : (t : ℕ) (es : List Exchange) → All (λ (e : Exchange). is_past t e ≡ false) es ⊎ HasPast t es
+pub past-or-none : (t : ℕ) (es : List Exchange) → All (λ (e : Exchange). is_past t e ≡ false) es ⊎ HasPast t es
 past-or-none t [] = inl (All-nil (λ (e : Exchange). is_past t e ≡ false))
 past-or-none t (e ∷ es) =
     elim (cases_Bool (is_past t e)) [

@@ -152,3 +152,7 @@ owed-fewer c a b ra rb sa sb first leaves told =
     (All-weaker (λ (r : Row). Contains (owed a ra) r.number × (r.number ≢ c)) (λ (r : Row). r.number ≢ c) (λ r w. w.1) (filter q rb) all))
     (All-contains (λ (r : Row). p r ≡ true → Contains (owed a ra) r.number) ra (record { number = c; waits = Some first.ask }) (kept p ra) first.stands
     (answered-yes first.ask a.answers first.answered))
+
+-- Where there is no answer, none is the first.
+pub none-answered : (c : ℕ) (core : CoreValue) (rows : List Row) → IsFirstAnswered core rows c → core.answers ≡ [] → ⊥
+none-answered c core rows w none = none-with w.ask core.answers w.answered (rw none (All-nil (λ (g : Given). g.ask ≢ w.ask)))

@@ -1,12 +1,20 @@
 -- What of a connection's bytes isn't asked yet.
-use Rattle.std.specs.Prelude.{◌≡◌, ℕ, false, List, ◌++◌, drop, Option, Some, None, Result, Ok, Err}
+use Rattle.std.specs.Prelude.{◌≡◌, ℕ, ◌+◌, ◌-◌, Bool, false, not, ◌&&◌, nat_lt, List, length, ◌++◌, drop, Option, Some, None, Result, Ok, Err}
 use Rattle.http_edge.specs.declared.memory.Memory.{Memory}
 use Rattle.http_edge.specs.declared.request.Incoming.{Incoming}
 use Rattle.http_edge.specs.Reading.{First, closes}
-use Rattle.http_edge.specs.Edges.{Stands, item}
+use Rattle.http_edge.specs.Edges.{Stands, item, unread_len}
 use Rattle.gateway_world.specs.declared.inbox.Inbox.{Inbox}
 use Rattle.gateway_world.specs.declared.inbox.Next.{Next}
 use Rattle.gateway_world.specs.declared.inbox.Next.TheVariants as N
+
+-- how many bytes aren't asked yet: those that the edge holds unread, and those that it had no room for
+abbrev pub unread_of : Inbox → ℕ
+unread_of i = unread_len i.edge + (length i.backlog.items - i.taken)
+
+-- So many more would be more than 1,048,576 in all. Behind the last request none count.
+abbrev pub is_full : Inbox → ℕ → Bool
+is_full i more = not i.closing && nat_lt 1048576 (unread_of i + more)
 
 -- The text is what the edge stands for, and then the bytes that it had no room for.
 pub record Holds (i : Inbox) (text : List ℕ) : Type 0 where

@@ -1,4 +1,7 @@
+pub mod AskSteps
+pub mod Asks
 pub mod CoreSteps
+pub mod Entering
 pub mod Inboxes
 pub mod Limits
 pub mod Located

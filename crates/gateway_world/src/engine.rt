@@ -1,6 +1,11 @@
 //! What an input leads to, step by step.
 
-ghost use Rattle.std.specs.Prelude.{◌≡◌, [], None, IfSome, OnOk};
+ghost use Rattle.std.specs.Prelude.{ℕ, List, ◌≡◌, ◌≢◌, ◌++◌, [], None, IfSome, OnOk};
+ghost use Rattle.http_edge.specs.Edges.{item};
+ghost use Rattle.exchange_core.specs.CoreValue.{now};
+ghost use Rattle.gateway_world.specs.Entering.{Enters, EntersOpen, EntersDatagram, EntersTick, EntersClose};
+ghost use Rattle.gateway_world.specs.Asks.{inlets_of, AsksNothing, AsksFirst, StandsFor, IsOver, Heeds};
+ghost use Rattle.gateway_world.specs.AskSteps.{AsksInOrder, AsksOn, AsksOne, AsksNone};
 ghost use Rattle.gateway_world.specs.Steps.{Advances, Leads};
 ghost use Rattle.gateway_world.specs.Rows.{Serves, Settled, Attended, LeavesOthers, IsServedOn, IsFirstAnswered, IsRow, rows_of, without_row};
 
@@ -12,7 +17,7 @@ use crate::stepping::{When, ask_in, close_in, hear_in, open_in, send_from, tick_
 use crate::table::Table;
 use crate::telling::{tell_answer, tell_closed, tell_continue, tell_turned};
 use ask_model::Settings;
-use exchange_core::{AskFault, Core, OpenFault};
+use exchange_core::{AskFault, Core};
 use http_edge::{Edge, Incoming, Memory};
 use std::alloc::Global;
 use std::sync::Arc;
@@ -39,6 +44,8 @@ impl<R: Relation> Engine<R> {
         requires { Serves self.old.core (rows_of self.old.table) }
         ensures leads { Leads result self.old.core self.new.core outputs.old.items outputs.new.items }
         ensures kept { Serves self.new.core (rows_of self.new.table) }
+        ensures enters { OnOk result (Enters happening.entry (now self.old.core.moment when.moment) self.old.core self.new.core outputs.old.items outputs.new.items) }
+        ensures asks { OnOk result ((c : ℕ) → Heeds c happening.entry self.old.core.entries (inlets_of self.old.table) self.new.core.entries (inlets_of self.new.table)) }
         ensures settled { OnOk result (Settled self.old.core → Settled self.new.core) }
     {
         match happening {
@@ -58,6 +65,8 @@ impl<R: Relation> Engine<R> {
         requires { Serves self.old.core (rows_of self.old.table) }
         ensures leads { Leads result self.old.core self.new.core outputs.old.items outputs.new.items }
         ensures kept { Serves self.new.core (rows_of self.new.table) }
+        ensures enters { OnOk result (EntersOpen (now self.old.core.moment when.moment) self.old.core self.new.core outputs.old.items outputs.new.items) }
+        ensures asks { OnOk result ((c : ℕ) → Heeds c Happening.Open self.old.core.entries (inlets_of self.old.table) self.new.core.entries (inlets_of self.new.table)) }
         ensures settled { OnOk result (Settled self.old.core → Settled self.new.core) }
     {
         let edge = Edge::new(self.alloc)?;
@@ -67,8 +76,7 @@ impl<R: Relation> Engine<R> {
                 self.table.add(number, edge);
                 Ok(())
             }
-            Err(OpenFault::Full | OpenFault::Sealed) => tell_turned(outputs),
-            Err(OpenFault::Memory) => Err(Memory),
+            Err(fault) => tell_turned(fault, outputs),
         }
     }
 
@@ -83,6 +91,9 @@ impl<R: Relation> Engine<R> {
         requires { Serves self.old.core (rows_of self.old.table) }
         ensures leads { Leads result self.old.core self.new.core outputs.old.items outputs.new.items }
         ensures kept { Serves self.new.core (rows_of self.new.table) }
+        ensures others { OnOk result ((c : ℕ) → c ≢ number → AsksOn c self.old.core.entries (inlets_of self.old.table) self.new.core.entries (inlets_of self.new.table)) }
+        ensures reads { OnOk result ((text : List ℕ) → StandsFor (inlets_of self.old.table) number text → AsksFirst number (text ++ bytes.now) self.old.core.entries self.new.core.entries (inlets_of self.new.table)) }
+        ensures over { OnOk result (IsOver (inlets_of self.old.table) number → AsksNothing number self.old.core.entries self.new.core.entries (inlets_of self.new.table)) }
         ensures settled { OnOk result (Settled self.old.core → Settled self.new.core) }
     {
         self.table.append(number, bytes)?;
@@ -100,6 +111,8 @@ impl<R: Relation> Engine<R> {
         requires { Serves self.old.core (rows_of self.old.table) }
         ensures leads { Leads result self.old.core self.new.core outputs.old.items outputs.new.items }
         ensures kept { Serves self.new.core (rows_of self.new.table) }
+        ensures enters { OnOk result (EntersDatagram (now self.old.core.moment when.moment) peer bytes.now self.old.core self.new.core) }
+        ensures asks { OnOk result (AsksInOrder self.old.core.entries (inlets_of self.old.table) self.new.core.entries (inlets_of self.new.table)) }
         ensures settled { OnOk result (Settled self.old.core → Settled self.new.core) }
     {
         hear_in(&mut self.core, when, peer, bytes)?;
@@ -111,6 +124,8 @@ impl<R: Relation> Engine<R> {
         requires { Serves self.old.core (rows_of self.old.table) }
         ensures leads { Leads result self.old.core self.new.core outputs.old.items outputs.new.items }
         ensures kept { Serves self.new.core (rows_of self.new.table) }
+        ensures enters { OnOk result (EntersTick (now self.old.core.moment when.moment) self.old.core self.new.core) }
+        ensures asks { OnOk result (AsksInOrder self.old.core.entries (inlets_of self.old.table) self.new.core.entries (inlets_of self.new.table)) }
         ensures settled { OnOk result (Settled self.old.core → Settled self.new.core) }
     {
         tick_in(&mut self.core, when)?;
@@ -122,6 +137,9 @@ impl<R: Relation> Engine<R> {
         requires { Serves self.old.core (rows_of self.old.table) }
         ensures advances { Advances self.old.core self.new.core }
         ensures kept { Serves self.new.core (rows_of self.new.table) }
+        ensures enters { EntersClose (now self.old.core.moment when.moment) number self.old.core self.new.core }
+        ensures asks { AsksNone number self.old.core.entries (inlets_of self.old.table) self.new.core.entries (inlets_of self.new.table) }
+        ensures over { IsOver (inlets_of self.new.table) number }
         ensures rows { rows_of self.new.table ≡ without_row number (rows_of self.old.table) }
         ensures answers { self.new.core.answers ≡ self.old.core.answers }
         ensures sends { self.new.core.sends ≡ self.old.core.sends }
@@ -135,6 +153,8 @@ impl<R: Relation> Engine<R> {
         requires { Serves self.old.core (rows_of self.old.table) }
         ensures leads { Leads result self.old.core self.new.core outputs.old.items outputs.new.items }
         ensures kept { Serves self.new.core (rows_of self.new.table) }
+        ensures quiet { OnOk result (self.old.core.answers ≡ [] → self.new.core.entries ≡ self.old.core.entries) }
+        ensures asks { OnOk result (AsksInOrder self.old.core.entries (inlets_of self.old.table) self.new.core.entries (inlets_of self.new.table)) }
         ensures settled { OnOk result (Attended self.old.core (rows_of self.old.table) → Settled self.new.core) }
     {
         send_from(&mut self.core, outputs)?;
@@ -146,6 +166,8 @@ impl<R: Relation> Engine<R> {
         requires { Serves self.old.core (rows_of self.old.table) }
         ensures leads { Leads result self.old.core self.new.core outputs.old.items outputs.new.items }
         ensures kept { Serves self.new.core (rows_of self.new.table) }
+        ensures quiet { OnOk result (self.old.core.answers ≡ [] → self.new.core.entries ≡ self.old.core.entries) }
+        ensures asks { OnOk result (AsksInOrder self.old.core.entries (inlets_of self.old.table) self.new.core.entries (inlets_of self.new.table)) }
         ensures settled { OnOk result (self.old.core.sends ≡ [] → Attended self.old.core (rows_of self.old.table) → Settled self.new.core) }
     {
         'each: while let Some(number) = self.first_answered() {
@@ -169,6 +191,7 @@ impl<R: Relation> Engine<R> {
         requires { Serves self.old.core (rows_of self.old.table) }
         ensures leads { Leads result self.old.core self.new.core outputs.old.items outputs.new.items }
         ensures kept { Serves self.new.core (rows_of self.new.table) }
+        ensures asks { OnOk result (AsksInOrder self.old.core.entries (inlets_of self.old.table) self.new.core.entries (inlets_of self.new.table)) }
         ensures leaves { OnOk result (LeavesOthers number self.old.core (rows_of self.old.table) self.new.core (rows_of self.new.table)) }
         ensures told { OnOk result (IsServedOn number self.new.core (rows_of self.new.table)) }
         ensures sent { OnOk result (self.old.core.sends ≡ [] → self.new.core.sends ≡ []) }
@@ -183,6 +206,7 @@ impl<R: Relation> Engine<R> {
         requires { Serves self.old.core (rows_of self.old.table) }
         ensures leads { Leads result self.old.core self.new.core outputs.old.items outputs.new.items }
         ensures kept { Serves self.new.core (rows_of self.new.table) }
+        ensures asks { OnOk result (AsksInOrder self.old.core.entries (inlets_of self.old.table) self.new.core.entries (inlets_of self.new.table)) }
         ensures leaves { OnOk result (LeavesOthers number self.old.core (rows_of self.old.table) self.new.core (rows_of self.new.table)) }
         ensures told { OnOk result (IsServedOn number self.old.core (rows_of self.old.table) → IsServedOn number self.new.core (rows_of self.new.table)) }
         ensures sent { OnOk result (self.old.core.sends ≡ [] → self.new.core.sends ≡ []) }
@@ -206,6 +230,7 @@ impl<R: Relation> Engine<R> {
         requires { Serves self.old.core (rows_of self.old.table) }
         ensures leads { Leads result self.old.core self.new.core outputs.old.items outputs.new.items }
         ensures kept { Serves self.new.core (rows_of self.new.table) }
+        ensures asks { OnOk result (AsksInOrder self.old.core.entries (inlets_of self.old.table) self.new.core.entries (inlets_of self.new.table)) }
         ensures leaves { OnOk result (LeavesOthers number self.old.core (rows_of self.old.table) self.new.core (rows_of self.new.table)) }
         ensures told { OnOk result (IsServedOn number self.old.core (rows_of self.old.table) → IsServedOn number self.new.core (rows_of self.new.table)) }
         ensures sent { OnOk result (self.old.core.sends ≡ [] → self.new.core.sends ≡ []) }
@@ -237,6 +262,7 @@ impl<R: Relation> Engine<R> {
         requires idle { IsRow (rows_of self.old.table) number None }
         ensures leads { Leads result self.old.core self.new.core outputs.old.items outputs.new.items }
         ensures kept { Serves self.new.core (rows_of self.new.table) }
+        ensures asks { OnOk result (AsksOne (item incoming) number self.old.core.entries (inlets_of self.old.table) self.new.core.entries (inlets_of self.new.table)) }
         ensures leaves { OnOk result (LeavesOthers number self.old.core (rows_of self.old.table) self.new.core (rows_of self.new.table)) }
         ensures told { OnOk result (IsServedOn number self.new.core (rows_of self.new.table)) }
         ensures sent { OnOk result (self.old.core.sends ≡ [] → self.new.core.sends ≡ []) }
@@ -263,6 +289,7 @@ impl<R: Relation> Engine<R> {
         requires { Serves self.old.core (rows_of self.old.table) }
         ensures leads { Leads result self.old.core self.new.core outputs.old.items outputs.new.items }
         ensures kept { Serves self.new.core (rows_of self.new.table) }
+        ensures asks { OnOk result (AsksNone number self.old.core.entries (inlets_of self.old.table) self.new.core.entries (inlets_of self.new.table)) }
         ensures leaves { OnOk result (LeavesOthers number self.old.core (rows_of self.old.table) self.new.core (rows_of self.new.table)) }
         ensures told { OnOk result (IsServedOn number self.new.core (rows_of self.new.table)) }
         ensures sent { OnOk result (self.old.core.sends ≡ [] → self.new.core.sends ≡ []) }
@@ -288,6 +315,8 @@ impl<R: Relation> Engine<R> {
         requires { Serves self.old.core (rows_of self.old.table) }
         ensures leads { Leads result self.old.core self.new.core outputs.old.items outputs.new.items }
         ensures kept { Serves self.new.core (rows_of self.new.table) }
+        ensures asks { OnOk result (AsksNone number self.old.core.entries (inlets_of self.old.table) self.new.core.entries (inlets_of self.new.table)) }
+        ensures over { OnOk result (IsOver (inlets_of self.new.table) number) }
         ensures leaves { OnOk result (LeavesOthers number self.old.core (rows_of self.old.table) self.new.core (rows_of self.new.table)) }
         ensures told { OnOk result (IsServedOn number self.new.core (rows_of self.new.table)) }
         ensures sent { OnOk result (self.old.core.sends ≡ [] → self.new.core.sends ≡ []) }

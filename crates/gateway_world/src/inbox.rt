@@ -35,7 +35,7 @@ pub struct Inbox {
 }
 
 impl Inbox {
-    ghost use Rattle.gateway_world.specs.Inboxes.{Holds, ReadsNext, AsksNext};
+    ghost use Rattle.gateway_world.specs.Inboxes.{Holds, ReadsNext, AsksNext, unread_of, is_full};
 
     /// No bytes yet.
     pub fn new(alloc: Global, edge: Edge) -> Inbox
@@ -51,12 +51,16 @@ impl Inbox {
     }
 
     /// Whether so many bytes more would be too many. Bytes behind the last request don't count.
-    pub fn passes_limit(&self, more: usize) -> bool {
+    pub fn passes_limit(&self, more: usize) -> bool
+        ensures { result ≡ is_full self.now more }
+    {
         !self.closing && (more > UNREAD || self.unread() > UNREAD - more)
     }
 
     /// How many bytes wait unread.
-    fn unread(&self) -> usize {
+    fn unread(&self) -> usize
+        ensures { result ≡ unread_of self.now }
+    {
         self.edge.unread() + (self.backlog.len() - self.taken)
     }
 
@@ -86,10 +90,14 @@ impl Inbox {
         n > 0
     }
 
-    /// What the bytes that wait ask next.
+    /// What the bytes that wait ask next: nothing behind the last request.
     pub fn next(&mut self) -> Result<Next, Memory>
-        ensures { (text : List ℕ) → self.old.closing ≡ false → Holds self.old text → AsksNext result self.new text }
+        ensures asks { (text : List ℕ) → self.old.closing ≡ false → Holds self.old text → AsksNext result self.new text }
+        ensures over { self.old.closing ≡ true → (result ≡ Ok Next.Nothing) × (self.new.closing ≡ true) }
     {
+        if self.closing {
+            return Ok(Next::Nothing);
+        }
         if let Some(incoming) = self.read()? {
             return Ok(Next::Request(incoming));
         }

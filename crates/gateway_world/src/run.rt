@@ -1,7 +1,8 @@
 //! A run: all inputs of a proxy, and what they led to.
 
-ghost use Rattle.std.specs.Prelude.{IfOk};
+ghost use Rattle.std.specs.Prelude.{ℕ, IfOk};
 ghost use Rattle.history_laws.specs.Justified.{Stands};
+ghost use Rattle.gateway_world.specs.Asks.{AsksAll};
 ghost use Rattle.gateway_world.specs.Steps.{TellsAll};
 
 use crate::fault::WorldFault;
@@ -28,6 +29,7 @@ impl<R: Relation> World<R> {
         inputs: &[Input<'_>],
     ) -> Result<Run<R>, WorldFault>
         ensures stands { IfOk result (λ run. Stands run.journal.entries) }
+        ensures asks { IfOk result (λ run. (c : ℕ) → AsksAll c inputs.now run.journal.entries) }
         ensures tells { IfOk result (λ run. TellsAll run.journal.entries run.outputs.items) }
     {
         let mut world = World::new(alloc, settings)?;

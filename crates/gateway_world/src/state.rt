@@ -12,13 +12,16 @@ pub struct World<R: Relation> {
 }
 
 impl<R: Relation> Model for World<R> {
-    ghost use Rattle.std.specs.Prelude.{map};
+    ghost use Rattle.std.specs.Prelude.{map, option_map};
+    ghost use Rattle.std.specs.Arc.{arc_value};
+    ghost use Rattle.ask_model.specs.Views.{rules_of};
+    ghost use Rattle.gateway_world.specs.Asks.{inlets_of};
     ghost use Rattle.gateway_world.specs.Rows.{Serves, rows_of};
     ghost use Rattle.gateway_world.specs.Worlds.{WorldValue};
 
     ghost Value = { WorldValue };
 
-    ghost view = { λ w. record { core = w.engine.core; rows = rows_of w.engine.table; inboxes = map (λ c. c.inbox) w.engine.table.rows.items; moment = w.moment } };
+    ghost view = { λ w. record { core = w.engine.core; rows = rows_of w.engine.table; rules = rules_of (arc_value w.engine.settings); inlets = inlets_of w.engine.table; waiting = map (λ c. option_map (λ t. arc_value t.mapped) c.ticket) w.engine.table.rows.items; moment = w.moment } };
 
     ghost invariant = { λ w. Serves w.engine.core (rows_of w.engine.table) };
 }

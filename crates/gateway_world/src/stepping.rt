@@ -1,7 +1,14 @@
 //! The steps of the core, by what each adds to the journal and lets wait to be sent.
 
 ghost use Rattle.std.specs.Prelude.{ℕ, ◌≡◌, ◌≢◌, ◌<◌, All, List, [], ◌++◌, ◌∷◌, Some, None, IfOk, OnOk, OnErr, length};
+ghost use Rattle.std.specs.Arc.{arc_value};
+ghost use Rattle.journal_book.specs.Entries.{Asks};
+ghost use Rattle.journal_book.specs.Views.{ask_of};
+ghost use Rattle.exchange_core.specs.CoreValue.{connections, now};
+ghost use Rattle.exchange_core.specs.Hears.{HeardSo};
+ghost use Rattle.gateway_world.specs.Entering.{EntersOpening, TicksFirst, EntersClose};
 ghost use Rattle.gateway_world.specs.Steps.{Advances, Leads};
+ghost use Rattle.gateway_world.specs.Asks.{asked_by, asked_on};
 ghost use Rattle.gateway_world.specs.CoreSteps.{AnswersAlone};
 ghost use Rattle.gateway_world.specs.Rows.{Row, Serves, IsRow, IsOpen, Attended, with_waits};
 
@@ -23,6 +30,9 @@ pub struct When {
 /// Opens a connection.
 pub fn open_in<R: Relation>(core: &mut Core<R>, when: When) -> Result<u32, OpenFault>
     ensures advances { Advances core.old core.new }
+    ensures enters { EntersOpening result (now core.old.moment when.moment) core.old core.new }
+    ensures fresh { IfOk result (λ number. number ≡ connections core.old.entries) }
+    ensures asks { (c : ℕ) → asked_on c core.new.entries ≡ asked_on c core.old.entries }
     ensures opened { (rows : List Row) → Serves core.old rows → IfOk result (λ number. Serves core.new (rows ++ record { number = number; waits = None } ∷ [])) }
     ensures kept { (rows : List Row) → Serves core.old rows → OnErr result (Serves core.new rows) }
     ensures answers { core.new.answers ≡ core.old.answers }
@@ -41,6 +51,8 @@ pub fn ask_in<R: Relation>(
     ensures advances { Advances core.old core.new }
     ensures asked { (rows : List Row) → Serves core.old rows → IsRow rows conn None → IfOk result (λ ticket. Serves core.new (with_waits conn (Some ticket.number) rows)) }
     ensures kept { (rows : List Row) → Serves core.old rows → OnErr result (Serves core.new rows) }
+    ensures asks { IfOk result (λ ticket. (c : ℕ) → asked_on c core.new.entries ≡ asked_on c core.old.entries ++ asked_by c (Asks conn (ask_of (arc_value mapped)))) }
+    ensures refused { OnErr result ((c : ℕ) → asked_on c core.new.entries ≡ asked_on c core.old.entries) }
     ensures open { (k : ℕ) → k < length core.old.entries → IsOpen core.old k → IsOpen core.new k }
     ensures attended { (rows : List Row) → Serves core.old rows → IsRow rows conn None → Attended core.old rows → IfOk result (λ ticket. Attended core.new (with_waits conn (Some ticket.number) rows)) }
     ensures same { OnErr result (core.new.answers ≡ core.old.answers) }
@@ -56,7 +68,9 @@ pub fn hear_in<R: Relation>(
     peer: Peer,
     bytes: &[u8],
 ) -> Result<(), Memory>
-    ensures { AnswersAlone core.old core.new }
+    ensures heard { OnOk result (HeardSo (now core.old.moment when.moment) peer bytes.now core.old core.new) }
+    ensures alone { AnswersAlone core.old core.new }
+    ensures asks { (c : ℕ) → asked_on c core.new.entries ≡ asked_on c core.old.entries }
 {
     core.heard(when.moment, when.word, peer, bytes)?;
     Ok(())
@@ -64,7 +78,9 @@ pub fn hear_in<R: Relation>(
 
 /// Lets time go on.
 pub fn tick_in<R: Relation>(core: &mut Core<R>, when: When) -> Result<(), Memory>
-    ensures { AnswersAlone core.old core.new }
+    ensures enters { OnOk result (TicksFirst (now core.old.moment when.moment) core.old core.new) }
+    ensures alone { AnswersAlone core.old core.new }
+    ensures asks { (c : ℕ) → asked_on c core.new.entries ≡ asked_on c core.old.entries }
 {
     core.tick(when.moment, when.word)?;
     Ok(())
@@ -72,7 +88,9 @@ pub fn tick_in<R: Relation>(core: &mut Core<R>, when: When) -> Result<(), Memory
 
 /// Closes a connection, where it is open.
 pub fn close_in<R: Relation>(core: &mut Core<R>, when: When, conn: u32)
+    ensures enters { EntersClose (now core.old.moment when.moment) conn core.old core.new }
     ensures alone { AnswersAlone core.old core.new }
+    ensures asks { (c : ℕ) → asked_on c core.new.entries ≡ asked_on c core.old.entries }
     ensures gone { All (λ x. x.id ≢ conn) core.new.conns }
     ensures answers { core.new.answers ≡ core.old.answers }
     ensures sends { core.new.sends ≡ core.old.sends }

@@ -1,8 +1,12 @@
 //! The open connections.
 
-ghost use Rattle.std.specs.Prelude.{◌≡◌, ◌≢◌, ◌<◌, ◌∷◌, ◌++◌, [], None, Some, true, All, take, slice_get, option_map, vec_len, vec_capacity, IfOk, IfSome, OnOk};
+ghost use Rattle.std.specs.Prelude.{ℕ, List, ◌≡◌, ◌≢◌, ◌<◌, ◌∷◌, ◌++◌, [], None, Some, true, false, All, take, slice_get, option_map, vec_len, vec_capacity, IfOk, IfSome, OnOk};
 ghost use Rattle.std.specs.List.{Contains};
+ghost use Rattle.http_edge.specs.Edges.{Stands};
 ghost use Rattle.exchange_core.specs.Ticking.{waits_on};
+ghost use Rattle.gateway_world.specs.Inboxes.{Holds};
+ghost use Rattle.gateway_world.specs.Asks.{inlets_of, StandsFor, IsOver, is_full_at};
+ghost use Rattle.gateway_world.specs.AskSteps.{TakesNext, LeavesInboxes, without_inlet};
 ghost use Rattle.gateway_world.specs.Rows.{Row, row_of, rows_of, row_at, with_waits, without_row, is_request, IsRow};
 
 use crate::inbox::{Inbox, Next};
@@ -43,7 +47,8 @@ pub struct Table<R: Relation> {
 impl<R: Relation> Table<R> {
     /// No connection.
     pub fn new(alloc: Global) -> Table<R>
-        ensures { rows_of result ≡ [] }
+        ensures rows { rows_of result ≡ [] }
+        ensures inlets { inlets_of result ≡ [] }
     {
         Table {
             alloc,
@@ -55,6 +60,7 @@ impl<R: Relation> Table<R> {
     pub fn make_room(&mut self) -> Result<(), Memory>
         ensures room { OnOk result (vec_len self.new.rows < vec_capacity self.new.rows) }
         ensures rows { rows_of self.new ≡ rows_of self.old }
+        ensures inlets { inlets_of self.new ≡ inlets_of self.old }
     {
         self.rows.try_reserve(1)?;
         Ok(())
@@ -63,7 +69,8 @@ impl<R: Relation> Table<R> {
     /// Puts a connection without bytes last, where there is a place.
     pub fn add(&mut self, number: u32, edge: Edge)
         requires { vec_len self.old.rows < vec_capacity self.old.rows }
-        ensures { rows_of self.new ≡ rows_of self.old ++ record { number = number; waits = None } ∷ [] }
+        ensures rows { rows_of self.new ≡ rows_of self.old ++ record { number = number; waits = None } ∷ [] }
+        ensures inlets { (inbox : Inbox) × (inlets_of self.new ≡ inlets_of self.old ++ record { number = number; inbox = inbox } ∷ []) × (inbox.closing ≡ false) × (Stands edge [] → Holds inbox []) }
     {
         self.rows.push_reserved(Connection {
             number,
@@ -87,7 +94,9 @@ impl<R: Relation> Table<R> {
     }
 
     /// Whether so many bytes more of the connection would be too many.
-    pub fn passes_limit(&self, number: u32, more: usize) -> bool {
+    pub fn passes_limit(&self, number: u32, more: usize) -> bool
+        ensures { result ≡ is_full_at number more (inlets_of self.now) }
+    {
         match self.place_of(number) {
             Some(place) => self.rows[place].inbox.passes_limit(more),
             None => false,
@@ -96,7 +105,10 @@ impl<R: Relation> Table<R> {
 
     /// Puts bytes behind those of the connection that wait.
     pub fn append(&mut self, number: u32, bytes: &[u8]) -> Result<(), Memory>
-        ensures { rows_of self.new ≡ rows_of self.old }
+        ensures rows { rows_of self.new ≡ rows_of self.old }
+        ensures others { LeavesInboxes number (inlets_of self.old) (inlets_of self.new) }
+        ensures more { OnOk result ((text : List ℕ) → StandsFor (inlets_of self.old) number text → StandsFor (inlets_of self.new) number (text ++ bytes.now)) }
+        ensures over { IsOver (inlets_of self.old) number → IsOver (inlets_of self.new) number }
     {
         match self.place_of(number) {
             Some(place) => self.rows[place].inbox.append(bytes),
@@ -108,6 +120,9 @@ impl<R: Relation> Table<R> {
     pub fn next(&mut self, number: u32) -> Result<Next, Memory>
         ensures rows { rows_of self.new ≡ rows_of self.old }
         ensures idle { IfOk result (λ next. is_request next ≡ true → IsRow (rows_of self.old) number None) }
+        ensures others { LeavesInboxes number (inlets_of self.old) (inlets_of self.new) }
+        ensures takes { (text : List ℕ) → StandsFor (inlets_of self.old) number text → TakesNext result number text (inlets_of self.new) }
+        ensures over { IsOver (inlets_of self.old) number → IsOver (inlets_of self.new) number × IfOk result (λ next. is_request next ≡ false) }
     {
         match self.place_of(number) {
             Some(place) if self.rows[place].ticket.is_none() => self.rows[place].inbox.next(),
@@ -128,7 +143,8 @@ impl<R: Relation> Table<R> {
 
     /// Sets what the connection waits for.
     pub fn set_ticket(&mut self, number: u32, ticket: Option<Ticket<R>>)
-        ensures { rows_of self.new ≡ with_waits number (option_map (λ t. t.number) ticket) (rows_of self.old) }
+        ensures rows { rows_of self.new ≡ with_waits number (option_map (λ t. t.number) ticket) (rows_of self.old) }
+        ensures inlets { inlets_of self.new ≡ inlets_of self.old }
     {
         if let Some(place) = self.place_of(number) {
             self.rows[place].ticket = ticket;
@@ -137,7 +153,8 @@ impl<R: Relation> Table<R> {
 
     /// Takes the connection out.
     pub fn remove(&mut self, number: u32)
-        ensures { rows_of self.new ≡ without_row number (rows_of self.old) }
+        ensures rows { rows_of self.new ≡ without_row number (rows_of self.old) }
+        ensures inlets { inlets_of self.new ≡ without_inlet number (inlets_of self.old) }
     {
         self.rows.retain(|row| row.number != number);
     }

@@ -1,13 +1,13 @@
 //! What connections are told.
 
-ghost use Rattle.std.specs.Prelude.{ℕ, List, Some, None, ◌≡◌, codes, OnOk};
+ghost use Rattle.std.specs.Prelude.{ℕ, List, [], ◌∷◌, ◌++◌, Some, None, ◌≡◌, ◌≢◌, codes, OnOk};
 ghost use Rattle.journal_book.specs.Entries.{Written};
 ghost use Rattle.exchange_core.specs.Answering.{given_of, IsGiven};
 ghost use Rattle.gateway_world.specs.Steps.{AddsTold};
 
 use crate::input::Output;
 use crate::rendering::render;
-use exchange_core::Answer;
+use exchange_core::{Answer, OpenFault};
 use http_edge::{Memory, answer_bytes};
 use std::alloc::Global;
 use transformers::Relation;
@@ -47,10 +47,17 @@ pub fn tell_closed(number: u32, outputs: &mut Vec<Output>) -> Result<(), Memory>
     Ok(())
 }
 
-/// Tells that no connection was opened.
-pub fn tell_turned(outputs: &mut Vec<Output>) -> Result<(), Memory>
-    ensures { (h : List Written) → OnOk result (AddsTold h None outputs.old.items outputs.new.items) }
+/// Tells that no connection was opened, where that isn't for want of memory.
+pub fn tell_turned(fault: OpenFault, outputs: &mut Vec<Output>) -> Result<(), Memory>
+    ensures fault { OnOk result (fault ≢ OpenFault.Memory) }
+    ensures turned { OnOk result (outputs.new.items ≡ outputs.old.items ++ Output.Turned ∷ []) }
+    ensures told { (h : List Written) → OnOk result (AddsTold h None outputs.old.items outputs.new.items) }
 {
-    outputs.push(Output::Turned)?;
-    Ok(())
+    match fault {
+        OpenFault::Full | OpenFault::Sealed => {
+            outputs.push(Output::Turned)?;
+            Ok(())
+        }
+        OpenFault::Memory => Err(Memory),
+    }
 }

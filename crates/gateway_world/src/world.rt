@@ -1,9 +1,12 @@
 //! The proxy as one value: inputs in, outputs out.
 
-ghost use Rattle.std.specs.Prelude.{◌≡◌, ◌≤◌, [], true, IfOk, OnOk, IsErrOf};
+ghost use Rattle.std.specs.Prelude.{ℕ, ◌≡◌, ◌≤◌, [], true, IfOk, OnOk, IsErrOf};
 ghost use Rattle.history_laws.specs.Justified.{Stands};
 ghost use Rattle.gateway_world.specs.Steps.{Grows, Gives};
 ghost use Rattle.gateway_world.specs.Rows.{Settled};
+ghost use Rattle.exchange_core.specs.CoreValue.{now};
+ghost use Rattle.gateway_world.specs.Entering.{Enters};
+ghost use Rattle.gateway_world.specs.Asks.{Heeds, is_too_much};
 
 use crate::engine::Engine;
 use crate::fault::WorldFault;
@@ -31,6 +34,7 @@ impl<R: Relation> World<R> {
         ensures unsent { IfOk result (λ w. w.core.sends ≡ []) }
         ensures untold { IfOk result (λ w. w.core.answers ≡ []) }
         ensures settled { IfOk result (λ w. Settled w.core) }
+        ensures closed { IfOk result (λ w. w.inlets ≡ []) }
         ensures moment { IfOk result (λ w. w.moment ≡ 0) }
     {
         Ok(World {
@@ -65,8 +69,12 @@ impl<R: Relation> World<R> {
     pub fn input(&mut self, input: Input<'_>) -> Result<Vec<Output>, WorldFault>
         ensures moment { OnOk result (self.new.moment ≡ counted self.old.moment input.entry.moment) }
         ensures backlog { IsErrOf result WorldFault.Backlog → self.new ≡ self.old }
+        ensures full { is_too_much input.entry.happening self.old.inlets ≡ true → IsErrOf result WorldFault.Backlog }
+        ensures room { IsErrOf result WorldFault.Backlog → is_too_much input.entry.happening self.old.inlets ≡ true }
         ensures grows { Grows self.old.core.entries self.new.core.entries }
         ensures gives { IfOk result (λ outputs. Gives self.old.core self.new.core outputs.items) }
+        ensures enters { IfOk result (λ outputs. Enters input.entry.happening (now self.old.core.moment self.new.moment) self.old.core self.new.core [] outputs.items) }
+        ensures asks { OnOk result ((c : ℕ) → Heeds c input.entry.happening self.old.core.entries self.old.inlets self.new.core.entries self.new.inlets) }
         ensures settled { OnOk result (Settled self.old.core → Settled self.new.core) }
     {
         if self.is_too_much(input.happening) {
@@ -83,7 +91,9 @@ impl<R: Relation> World<R> {
     }
 
     /// Whether more bytes come of a connection than may wait unread.
-    fn is_too_much(&self, happening: Happening<'_>) -> bool {
+    fn is_too_much(&self, happening: Happening<'_>) -> bool
+        ensures { result ≡ is_too_much happening.entry self.now.inlets }
+    {
         match happening {
             Happening::Bytes(number, bytes) => {
                 self.engine.table.passes_limit(number, bytes.len())

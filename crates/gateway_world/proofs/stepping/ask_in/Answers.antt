@@ -3,6 +3,7 @@ use Rattle.gateway_world.proofs.Advancing.{asked-advances, refused-alone}
 use Rattle.gateway_world.proofs.Serving.{refused-serves}
 use Rattle.gateway_world.proofs.Asking.{serves-asked}
 use Rattle.gateway_world.proofs.Attending.{attended-asked}
+use Rattle.gateway_world.proofs.Quiet.{asked-one, quiet-refused}
 use Rattle.gateway_world.proofs.stepping.ask_in.Goals as goal
 
 pub returns-clause-advances : goal.returns-clause-advances
@@ -22,3 +23,10 @@ returns-clause-kept g c rows serves =
 pub returns-clause-attended : goal.returns-clause-attended
 returns-clause-attended g c rows serves idle attended =
     attended-asked c.ask.result (λ x. x.number) _ _ rows _ _ c.args.conn _ c.ask.ensures.adds serves idle attended
+
+pub returns-clause-asks : goal.returns-clause-asks
+returns-clause-asks g c = asked-one c.ask.result (λ x. x.number) _ _ _ _ c.args.conn _ c.ask.ensures.adds
+
+pub returns-clause-refused : goal.returns-clause-refused
+returns-clause-refused g c =
+    quiet-refused c.ask.result _ _ _ _ _ _ _ _ _ _ _ _ _ c.ask.ensures.unknown c.ask.ensures.pending c.ask.ensures.sealed c.ask.ensures.memory

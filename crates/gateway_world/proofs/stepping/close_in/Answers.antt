@@ -1,6 +1,8 @@
 -- A close adds its entry, where the connection was open.
 use Rattle.std.proofs.Common.{refl}
 use Rattle.gateway_world.proofs.Advancing.{closing, closed-gone}
+use Rattle.gateway_world.proofs.Quiet.{quiet-close}
+use Rattle.gateway_world.proofs.Entering.{closes}
 use Rattle.gateway_world.proofs.stepping.close_in.Goals as goal
 
 pub returns-clause-alone : goal.returns-clause-alone
@@ -9,3 +11,9 @@ returns-clause-alone g c =
 
 pub returns-clause-gone : goal.returns-clause-gone
 returns-clause-gone g c = closed-gone c.close.result _ _ c.args.conn _ c.close.ensures.closed c.close.ensures.unknown
+
+pub returns-clause-asks : goal.returns-clause-asks
+returns-clause-asks g c = λ d. quiet-close d c.close.result _ _ _ _ _ refl c.close.ensures.closed c.close.ensures.unknown
+
+pub returns-clause-enters : goal.returns-clause-enters
+returns-clause-enters g c = closes c.close.result _ _ _ c.args.conn _ c.close.ensures.closed c.close.ensures.unknown

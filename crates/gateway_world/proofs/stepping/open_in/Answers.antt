@@ -2,6 +2,8 @@
 use Rattle.gateway_world.proofs.Advancing.{opened-advances, unopened-alone}
 use Rattle.gateway_world.proofs.Serving.{refused-serves}
 use Rattle.gateway_world.proofs.Asking.{serves-opening}
+use Rattle.gateway_world.proofs.Quiet.{quiet-open, fresh-number}
+use Rattle.gateway_world.proofs.Entering.{opening}
 use Rattle.gateway_world.proofs.stepping.open_in.Goals as goal
 
 pub returns-clause-advances : goal.returns-clause-advances
@@ -15,3 +17,12 @@ returns-clause-opened g c rows serves = serves-opening c.open.result _ _ rows _ 
 pub returns-clause-kept : goal.returns-clause-kept
 returns-clause-kept g c rows serves =
     refused-serves c.open.result _ _ rows (unopened-alone c.open.result _ _ _ _ _ _ _ _ c.open.ensures.full c.open.ensures.sealed c.open.ensures.memory) serves
+
+pub returns-clause-fresh : goal.returns-clause-fresh
+returns-clause-fresh g c = fresh-number c.open.result _ _ _ _ _ _ c.open.ensures.ok
+
+pub returns-clause-asks : goal.returns-clause-asks
+returns-clause-asks g c = λ d. quiet-open d c.open.result _ _ _ _ _ _ _ _ _ _ _ _ _ _ _ _ _ c.open.ensures.ok c.open.ensures.full c.open.ensures.sealed c.open.ensures.memory
+
+pub returns-clause-enters : goal.returns-clause-enters
+returns-clause-enters g c = opening c.open.result _ _ _ _ _ _ _ _ _ _ _ _ _ _ c.open.ensures.ok c.open.ensures.full c.open.ensures.sealed c.open.ensures.memory

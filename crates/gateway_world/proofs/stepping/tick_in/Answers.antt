@@ -1,11 +1,24 @@
 -- A tick adds what it ends.
 use Rattle.gateway_world.proofs.Advancing.{same-alone}
 use Rattle.gateway_world.proofs.Lateness.{ticking}
+use Rattle.gateway_world.proofs.Quiet.{quiet-tick, quiet-same}
+use Rattle.gateway_world.proofs.Entering.{tick-enters}
 use Rattle.gateway_world.proofs.stepping.tick_in.Goals as goal
 
-pub returns : goal.returns
-returns g c =
+pub returns-clause-alone : goal.returns-clause-alone
+returns-clause-alone g c =
     ticking _ _ _ c.in_ok-tick.ensures.early c.in_ok-tick.ensures.ends c.in_ok-tick.ensures.seals c.in_ok-tick.ensures.sealed
 
-pub returns-in_err-tick : goal.returns-in_err-tick
-returns-in_err-tick g c = same-alone _ _ c.in_err-tick.ensures.memory
+pub returns-clause-asks : goal.returns-clause-asks
+returns-clause-asks g c =
+    λ d. quiet-tick d _ _ _ c.in_ok-tick.ensures.early c.in_ok-tick.ensures.ends c.in_ok-tick.ensures.seals c.in_ok-tick.ensures.sealed
+
+pub returns-in_err-tick-clause-alone : goal.returns-in_err-tick-clause-alone
+returns-in_err-tick-clause-alone g c = same-alone _ _ c.in_err-tick.ensures.memory
+
+pub returns-in_err-tick-clause-asks : goal.returns-in_err-tick-clause-asks
+returns-in_err-tick-clause-asks g c = λ d. quiet-same d _ _ c.in_err-tick.ensures.memory
+
+pub returns-clause-enters : goal.returns-clause-enters
+returns-clause-enters g c =
+    tick-enters _ _ _ c.in_ok-tick.ensures.early c.in_ok-tick.ensures.ends c.in_ok-tick.ensures.seals c.in_ok-tick.ensures.sealed

@@ -1,6 +1,7 @@
 -- The answer that is there is given, and what further requests give follows.
 use Rattle.gateway_world.proofs.Going.{goes-grow, leads-on}
 use Rattle.gateway_world.proofs.Settling.{attended-then, leaves-then, told-then, sent-then}
+use Rattle.gateway_world.proofs.Reading.{order-none, order-call}
 use Rattle.gateway_world.proofs.engine.Engine.answer.Goals as goal
 
 pub returns-clause-leads : goal.returns-clause-leads
@@ -18,3 +19,6 @@ returns-clause-sent g c = sent-then c.serve.result _ _ _ c.in_ok-give.ensures.se
 
 pub returns-clause-attended : goal.returns-clause-attended
 returns-clause-attended g c = attended-then c.serve.result _ _ _ c.in_ok-give.ensures.attended c.serve.ensures.attended
+
+pub returns-clause-asks : goal.returns-clause-asks
+returns-clause-asks g c = order-call c.serve.result _ _ _ _ _ _ (order-none c.args.number _ _ _ _ c.in_ok-give.ensures.asks) c.serve.ensures.asks

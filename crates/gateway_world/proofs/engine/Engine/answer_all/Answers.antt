@@ -1,10 +1,12 @@
 -- Each answer follows what was given out before.
 use Rattle.gateway_world.proofs.Going.{goes-none, goes-on}
-use Rattle.gateway_world.proofs.Owing.{owed-fewer}
+use Rattle.std.proofs.Common.{refl}
+use Rattle.gateway_world.proofs.Owing.{owed-fewer, none-answered}
+use Rattle.gateway_world.proofs.Reading.{order-quiet, order-then}
 use Rattle.gateway_world.proofs.engine.Engine.answer_all.Goals as goal
 
 pub each-init : goal.each-init
-each-init g c = (goes-none _ _, c.requires, (λ e. e), (λ w. w))
+each-init g c = (goes-none _ _, c.requires, (λ e. e), (λ w. w), order-quiet _ _ _ _ (λ d. refl) refl, (λ none. (refl, none)))
 
 pub each-preserved : goal.each-preserved
 each-preserved g c =
@@ -14,6 +16,8 @@ each-preserved g c =
       next.kept,
       (λ e. next.sent (before.2 e)),
       (λ w. next.attended (before.3 w)),
+      order-then _ _ _ _ _ _ before.4 next.asks,
+      (λ none. absurd (none-answered c.in-Some.number c.each.self.core _ (rw (c.in-Some.is) at (c.first_answered.ensures.some)) (before.5 none).1)),
     )
 
 pub each-smaller : goal.each-smaller
@@ -23,3 +27,6 @@ each-smaller g c =
 
 pub returns-clause-settled : goal.returns-clause-settled
 returns-clause-settled g c = λ e w. record { sends = c.each.invariant.2 e; answers = c.first_answered.ensures.none c.in_default.is (c.each.invariant.3 w) }
+
+pub returns-clause-quiet : goal.returns-clause-quiet
+returns-clause-quiet g c = λ none. (c.each.invariant.5 none).0

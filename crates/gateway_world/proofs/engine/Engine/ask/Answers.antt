@@ -1,8 +1,16 @@
 -- What the ask led to is given out, or the connection is closed.
 use Rattle.gateway_world.proofs.Going.{advances-grow, goes-advancing, goes-on, leads-on}
-use Rattle.std.proofs.Common.{◌∙◌}
+use Rattle.std.proofs.Common.{List, ◌++◌, ap, ◌∙◌}
+use Rattle.std.proofs.lemmas.List.{append-nil}
+use Rattle.std.specs.Arc.{arc_value}
+use Rattle.ask_model.specs.Requests.{Came}
+use Rattle.ask_model.specs.Views.{Mapping}
+use Rattle.journal_book.specs.Views.{ask_of}
+use Rattle.gateway_world.specs.Asks.{asked_on}
 use Rattle.gateway_world.proofs.Serving.{standing-of}
 use Rattle.gateway_world.proofs.Settling.{attended-same, attended-then, told-then, served-idle-row, leaves-none, leaves-with, leaves-then, sent-then}
+use Rattle.gateway_world.proofs.Reading.{one-asked, one-ended}
+use Rattle.gateway_world.proofs.Heeding.{asks-here, asks-elsewhere}
 use Rattle.gateway_world.proofs.engine.Engine.ask.Goals as goal
 
 pub returns-in_ok-send_from-in-Ok-clause-leads : goal.returns-in_ok-send_from-in-Ok-clause-leads
@@ -16,7 +24,7 @@ returns-in_ok-send_from-in-Ok-clause-leaves g c =
     let asked = c.ask_in.ensures in
     let idle = c.requires.idle in
     leaves-then c.give.result c.args.number _ _ _ _ _ _ (asked.advances.more, sent.entries ∙ asked.advances.entries)
-    (rw (c.set_ticket.ensures) (leaves-with c.args.number _ _ _ _ idle.row c.requires.served idle.stands (λ k lt w. rw (sent.answers) (asked.open k lt w))))
+    (rw (c.set_ticket.ensures.rows) (leaves-with c.args.number _ _ _ _ idle.row c.requires.served idle.stands (λ k lt w. rw (sent.answers) (asked.open k lt w))))
     c.give.ensures.leaves
 
 pub returns-in_ok-send_from-in-Ok-clause-sent : goal.returns-in_ok-send_from-in-Ok-clause-sent
@@ -34,10 +42,20 @@ returns-in-Err-Unknown g c = record {
       }) c.shut.ensures.leaves;
   told = c.shut.ensures.told;
   sent = sent-then c.shut.result _ _ _ (λ e. c.in-Err-Unknown.ensures.sends ∙ e) c.shut.ensures.sent;
+  asks = one-ended c.shut.result _ c.args.number _ _ _ _ _ c.in-Err-Unknown.ensures.refused c.shut.ensures.asks c.shut.ensures.over;
   attended = attended-then c.shut.result _ _ _ (attended-same c.args.self.now.core c.ask_in.new.core _ c.in-Err-Unknown.ensures.same)
       (told-then c.shut.result _ _ (served-idle-row c.args.number c.ask_in.new.core _ c.requires.served.numbered c.requires.idle) c.shut.ensures.attended);
 }
 
 pub returns-in_ok-send_from-in-Ok-clause-attended : goal.returns-in_ok-send_from-in-Ok-clause-attended
 returns-in_ok-send_from-in-Ok-clause-attended g c =
-    attended-then c.give.result _ _ _ (λ w. rw (c.set_ticket.ensures, c.in_ok-send_from-in-Ok.ensures.answers) (c.in-Ok.ensures.attended _ c.requires.served c.requires.idle w)) c.give.ensures.attended
+    attended-then c.give.result _ _ _ (λ w. rw (c.set_ticket.ensures.rows, c.in_ok-send_from-in-Ok.ensures.answers) (c.in-Ok.ensures.attended _ c.requires.served c.requires.idle w)) c.give.ensures.attended
+
+pub returns-in_ok-send_from-in-Ok-clause-asks : goal.returns-in_ok-send_from-in-Ok-clause-asks
+returns-in_ok-send_from-in-Ok-clause-asks g c =
+    let sent = c.in_ok-send_from-in-Ok.ensures.entries in
+    let asked = c.in-Ok.ensures.asks in
+    one-asked c.give.result _ c.args.number _ _ _ _ _ _
+    (λ d other. ap (asked_on d) sent ∙ asked d ∙ ap (λ (s : List Came). asked_on d c.args.self.now.core.entries ++ s) (asks-elsewhere d c.args.number (ask_of (arc_value c.in_ok-mapped-2.mapped)) other) ∙ append-nil _)
+    (ap (asked_on c.args.number) sent ∙ asked c.args.number ∙ ap (λ (s : List Came). asked_on c.args.number c.args.self.now.core.entries ++ s) (asks-here c.args.number (arc_value c.in_ok-mapped-2.mapped) c.args.incoming (ap (λ (m : Mapping). m.came) c.in_ok-mapped-2.ensures.ok ∙ c.in_ok-mapped.ensures.came)))
+    c.set_ticket.ensures.inlets c.give.ensures.asks

@@ -1,6 +1,10 @@
 -- The answers follow the datagrams.
 use Rattle.gateway_world.proofs.Going.{leads-on}
 use Rattle.gateway_world.proofs.Settling.{attended-same, attended-then, told-then}
+use Rattle.std.proofs.Common.{refl, ap}
+use Rattle.gateway_world.proofs.Reading.{order-quiet, order-call}
+use Rattle.gateway_world.specs.Asks.{asked_on}
+use Rattle.gateway_world.proofs.Entering.{quiet-then}
 use Rattle.gateway_world.proofs.engine.Engine.deliver.Goals as goal
 
 pub answer_all-requires : goal.answer_all-requires
@@ -13,3 +17,11 @@ pub returns-clause-settled : goal.returns-clause-settled
 returns-clause-settled g c =
     attended-then c.answer_all.result _ _ _ (attended-same c.args.self.now.core c.send_from.new.core _ c.in_ok-send_from.ensures.answers)
     (told-then c.answer_all.result _ _ c.in_ok-send_from.ensures.sent c.answer_all.ensures.settled)
+
+pub returns-clause-asks : goal.returns-clause-asks
+returns-clause-asks g c =
+    order-call c.answer_all.result _ _ _ _ _ _ (order-quiet _ _ _ _ (λ d. ap (asked_on d) c.in_ok-send_from.ensures.entries) refl) c.answer_all.ensures.asks
+
+pub returns-clause-quiet : goal.returns-clause-quiet
+returns-clause-quiet g c =
+    quiet-then c.answer_all.result c.args.self.now.core c.send_from.new.core c.answer_all.new.self.core c.in_ok-send_from.ensures.answers c.in_ok-send_from.ensures.entries c.answer_all.ensures.quiet

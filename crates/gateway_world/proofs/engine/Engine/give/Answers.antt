@@ -1,11 +1,13 @@
 -- The answer is told, and the connection closed where it is the last.
-use Rattle.std.proofs.Common.{[], refl, sym, ◌∙◌}
+use Rattle.std.proofs.Common.{[], refl, ap, sym, ◌∙◌}
 use Rattle.std.proofs.lemmas.List.{append-nil}
 use Rattle.exchange_core.specs.Answering.{given_of}
 use Rattle.gateway_world.proofs.Going.{goes-none, goes-same, goes-answering, leads-on}
 use Rattle.gateway_world.proofs.Serving.{same-serves}
 use Rattle.gateway_world.proofs.Taking.{takes-from, row-for, nothing-taken, given-on, taken-told, taken-serves}
 use Rattle.gateway_world.proofs.Settling.{attended-same, attended-taken, attended-then, told-then, leaves-none, leaves-same, leaves-taken, leaves-then, served-idle, served-open, told-taken, sent-then}
+use Rattle.gateway_world.proofs.Reading.{none-same, none-then}
+use Rattle.gateway_world.specs.Asks.{asked_on}
 use Rattle.gateway_world.proofs.engine.Engine.give.Goals as goal
 
 pub returns-in_default-clause-leads : goal.returns-in_default-clause-leads
@@ -27,7 +29,7 @@ returns-in_err-tell_answer-clause-kept g c =
     let some = c.in-Some-take_answer.ensures.some in
     let row = row-for _ _ _ _ some.0 c.in-Some.ensures.some in
     let takes = takes-from c.args.self.now.core c.take_answer.new.self _ c.in-Some-take_answer.answer some c.in-Some-take_answer.ensures.once t.answers t.entries t.conns in
-    rw (c.set_ticket.ensures) (taken-serves _ _ _ c.args.number _ c.requires row takes)
+    rw (c.set_ticket.ensures.rows) (taken-serves _ _ _ c.args.number _ c.requires row takes)
 
 pub shut-requires : goal.shut-requires
 shut-requires g c =
@@ -35,7 +37,7 @@ shut-requires g c =
     let some = c.in-Some-take_answer.ensures.some in
     let row = row-for _ _ _ _ some.0 c.in-Some.ensures.some in
     let takes = takes-from c.args.self.now.core c.take_answer.new.self _ c.in-Some-take_answer.answer some c.in-Some-take_answer.ensures.once t.answers t.entries t.conns in
-    rw (c.set_ticket.ensures) (taken-serves _ _ _ c.args.number _ c.requires row takes)
+    rw (c.set_ticket.ensures.rows) (taken-serves _ _ _ c.args.number _ c.requires row takes)
 
 pub returns-then-closes-clause-leads : goal.returns-then-closes-clause-leads
 returns-then-closes-clause-leads g c =
@@ -61,7 +63,7 @@ returns-clause-kept g c =
     let some = c.in-Some-take_answer.ensures.some in
     let row = row-for _ _ _ _ some.0 c.in-Some.ensures.some in
     let takes = takes-from c.args.self.now.core c.take_answer.new.self _ c.in-Some-take_answer.answer some c.in-Some-take_answer.ensures.once t.answers t.entries t.conns in
-    rw (c.set_ticket.ensures) (taken-serves _ _ _ c.args.number _ c.requires row takes)
+    rw (c.set_ticket.ensures.rows) (taken-serves _ _ _ c.args.number _ c.requires row takes)
 
 pub returns-in_default-clause-leaves : goal.returns-in_default-clause-leaves
 returns-in_default-clause-leaves g c = leaves-none _ _ _
@@ -86,7 +88,7 @@ returns-clause-leaves g c =
     let some = c.in-Some-take_answer.ensures.some in
     let row = row-for _ _ _ _ some.0 c.in-Some.ensures.some in
     let takes = takes-from c.args.self.now.core c.take_answer.new.self _ c.in-Some-take_answer.answer some c.in-Some-take_answer.ensures.once t.answers t.entries t.conns in
-    rw (c.set_ticket.ensures) (leaves-taken c.args.number _ _ _ _ c.requires row takes)
+    rw (c.set_ticket.ensures.rows) (leaves-taken c.args.number _ _ _ _ c.requires row takes)
 
 pub returns-clause-told : goal.returns-clause-told
 returns-clause-told g c =
@@ -94,7 +96,7 @@ returns-clause-told g c =
     let some = c.in-Some-take_answer.ensures.some in
     let row = row-for _ _ _ _ some.0 c.in-Some.ensures.some in
     let takes = takes-from c.args.self.now.core c.take_answer.new.self _ c.in-Some-take_answer.answer some c.in-Some-take_answer.ensures.once t.answers t.entries t.conns in
-    rw (c.set_ticket.ensures) (told-taken c.args.number c.args.self.now.core c.take_answer.new.self _ (given_of c.in-Some-take_answer.answer) c.requires row)
+    rw (c.set_ticket.ensures.rows) (told-taken c.args.number c.args.self.now.core c.take_answer.new.self _ (given_of c.in-Some-take_answer.answer) c.requires row)
 
 pub returns-then-closes-clause-leaves : goal.returns-then-closes-clause-leaves
 returns-then-closes-clause-leaves g c =
@@ -103,7 +105,7 @@ returns-then-closes-clause-leaves g c =
     let row = row-for _ _ _ _ some.0 c.in-Some.ensures.some in
     let takes = takes-from c.args.self.now.core c.take_answer.new.self _ c.in-Some-take_answer.answer some c.in-Some-take_answer.ensures.once t.answers t.entries t.conns in
     leaves-then c.shut.result c.args.number _ _ _ _ _ _ ([], t.entries ∙ sym (append-nil c.args.self.now.core.entries))
-    (rw (c.set_ticket.ensures) (leaves-taken c.args.number _ _ _ _ c.requires row takes)) c.shut.ensures.leaves
+    (rw (c.set_ticket.ensures.rows) (leaves-taken c.args.number _ _ _ _ c.requires row takes)) c.shut.ensures.leaves
 
 pub returns-then-closes-clause-sent : goal.returns-then-closes-clause-sent
 returns-then-closes-clause-sent g c = sent-then c.shut.result _ _ _ (λ e. c.take_answer.ensures.sends ∙ e) c.shut.ensures.sent
@@ -120,7 +122,7 @@ returns-clause-attended g c =
     let some = c.in-Some-take_answer.ensures.some in
     let row = row-for _ _ _ _ some.0 c.in-Some.ensures.some in
     let takes = takes-from c.args.self.now.core c.take_answer.new.self _ c.in-Some-take_answer.answer some c.in-Some-take_answer.ensures.once t.answers t.entries t.conns in
-    rw (c.set_ticket.ensures) (attended-taken c.args.number c.args.self.now.core c.take_answer.new.self _ _ c.requires row takes)
+    rw (c.set_ticket.ensures.rows) (attended-taken c.args.number c.args.self.now.core c.take_answer.new.self _ _ c.requires row takes)
 
 pub returns-then-closes-clause-attended : goal.returns-then-closes-clause-attended
 returns-then-closes-clause-attended g c =
@@ -128,5 +130,18 @@ returns-then-closes-clause-attended g c =
     let some = c.in-Some-take_answer.ensures.some in
     let row = row-for _ _ _ _ some.0 c.in-Some.ensures.some in
     let takes = takes-from c.args.self.now.core c.take_answer.new.self _ c.in-Some-take_answer.answer some c.in-Some-take_answer.ensures.once t.answers t.entries t.conns in
-    attended-then c.shut.result _ _ _ (rw (c.set_ticket.ensures) (attended-taken c.args.number c.args.self.now.core c.take_answer.new.self _ _ c.requires row takes))
-    (told-then c.shut.result _ _ (rw (c.set_ticket.ensures) (told-taken c.args.number c.args.self.now.core c.take_answer.new.self _ (given_of c.in-Some-take_answer.answer) c.requires row)) c.shut.ensures.attended)
+    attended-then c.shut.result _ _ _ (rw (c.set_ticket.ensures.rows) (attended-taken c.args.number c.args.self.now.core c.take_answer.new.self _ _ c.requires row takes))
+    (told-then c.shut.result _ _ (rw (c.set_ticket.ensures.rows) (told-taken c.args.number c.args.self.now.core c.take_answer.new.self _ (given_of c.in-Some-take_answer.answer) c.requires row)) c.shut.ensures.attended)
+
+pub returns-in_default-clause-asks : goal.returns-in_default-clause-asks
+returns-in_default-clause-asks g c = none-same c.args.number _ _ _ _ (λ d. refl) refl
+
+pub returns-in_default-take_answer-clause-asks : goal.returns-in_default-take_answer-clause-asks
+returns-in_default-take_answer-clause-asks g c = none-same c.args.number _ _ _ _ (λ d. ap (asked_on d) c.take_answer.ensures.entries) refl
+
+pub returns-clause-asks : goal.returns-clause-asks
+returns-clause-asks g c = none-same c.args.number _ _ _ _ (λ d. ap (asked_on d) c.take_answer.ensures.entries) c.set_ticket.ensures.inlets
+
+pub returns-then-closes-clause-asks : goal.returns-then-closes-clause-asks
+returns-then-closes-clause-asks g c =
+    none-then c.shut.result c.args.number _ _ _ _ _ _ (λ d. ap (asked_on d) c.take_answer.ensures.entries) c.set_ticket.ensures.inlets c.shut.ensures.asks

@@ -1,19 +1,29 @@
 -- What it led to is given out.
-use Rattle.gateway_world.proofs.Going.{goes-advancing, leads-on}
+use Rattle.gateway_world.proofs.Going.{goes-advancing, leads-grow, leads-on}
 use Rattle.gateway_world.proofs.Serving.{serves-on, standing-of}
 use Rattle.gateway_world.proofs.Settling.{attended-heard, attended-then}
+use Rattle.std.proofs.Common.{refl}
+use Rattle.gateway_world.proofs.Reading.{order-quiet, order-call}
+use Rattle.gateway_world.proofs.Entering.{heard-enters}
 use Rattle.gateway_world.proofs.engine.Engine.heard.Goals as goal
 
 pub deliver-requires : goal.deliver-requires
-deliver-requires g c = serves-on _ _ _ c.in_ok-hear_in.ensures c.requires
+deliver-requires g c = serves-on _ _ _ c.in_ok-hear_in.ensures.alone c.requires
 
 pub returns-clause-leads : goal.returns-clause-leads
 returns-clause-leads g c =
-    leads-on c.deliver.result _ _ _ _ _ _ (goes-advancing _ _ _ (standing-of _ _ c.requires) c.in_ok-hear_in.ensures.step) c.deliver.ensures.leads
+    leads-on c.deliver.result _ _ _ _ _ _ (goes-advancing _ _ _ (standing-of _ _ c.requires) c.in_ok-hear_in.ensures.alone.step) c.deliver.ensures.leads
 
 pub returns-in_err-hear_in-clause-kept : goal.returns-in_err-hear_in-clause-kept
-returns-in_err-hear_in-clause-kept g c = serves-on _ _ _ c.hear_in.ensures c.requires
+returns-in_err-hear_in-clause-kept g c = serves-on _ _ _ c.hear_in.ensures.alone c.requires
 
 pub returns-clause-settled : goal.returns-clause-settled
 returns-clause-settled g c =
-    attended-then c.deliver.result _ _ _ (λ w. attended-heard c.args.self.now.core c.hear_in.new.core _ c.requires c.in_ok-hear_in.ensures w.answers) c.deliver.ensures.settled
+    attended-then c.deliver.result _ _ _ (λ w. attended-heard c.args.self.now.core c.hear_in.new.core _ c.requires c.in_ok-hear_in.ensures.alone w.answers) c.deliver.ensures.settled
+
+pub returns-clause-asks : goal.returns-clause-asks
+returns-clause-asks g c = order-call c.deliver.result _ _ _ _ _ _ (order-quiet _ _ _ _ c.in_ok-hear_in.ensures.asks refl) c.deliver.ensures.asks
+
+pub returns-clause-enters : goal.returns-clause-enters
+returns-clause-enters g c =
+    heard-enters c.deliver.result c.args.self.now.core c.hear_in.new.core c.deliver.new.self.core _ c.args.peer c.args.bytes.now c.in_ok-hear_in.ensures.heard (leads-grow c.deliver.result _ _ _ _ c.deliver.ensures.leads) c.deliver.ensures.quiet

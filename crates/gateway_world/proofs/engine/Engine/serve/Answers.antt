@@ -1,11 +1,13 @@
 -- Each request follows what was given out before.
+use Rattle.std.proofs.Common.{refl}
 use Rattle.std.proofs.lemmas.Result.{err_from_is_err_and}
 use Rattle.gateway_world.proofs.Going.{goes-grow, goes-none, goes-on, grows-on}
 use Rattle.gateway_world.proofs.Settling.{leaves-none, leaves-on}
+use Rattle.gateway_world.proofs.Reading.{order-quiet, order-then}
 use Rattle.gateway_world.proofs.engine.Engine.serve.Goals as goal
 
 pub each-init : goal.each-init
-each-init g c = (goes-none _ _, c.requires, leaves-none _ _ _, (λ w. w), (λ e. e), (λ w. w))
+each-init g c = (goes-none _ _, c.requires, leaves-none _ _ _, (λ w. w), (λ e. e), (λ w. w), order-quiet _ _ _ _ (λ d. refl) refl)
 
 pub each-preserved : goal.each-preserved
 each-preserved g c =
@@ -17,6 +19,7 @@ each-preserved g c =
       (λ w. next.told (before.3 w)),
       (λ e. next.sent (before.4 e)),
       (λ w. next.attended (before.5 w)),
+      order-then _ _ _ _ _ _ before.6 next.asks,
     )
 
 pub returns-in_err-serve_next-clause-leads : goal.returns-in_err-serve_next-clause-leads
@@ -35,3 +38,6 @@ returns-then-not-branch-clause-told g c = λ w. c.in_ok-serve_next.ensures.told 
 
 pub returns-then-not-branch-clause-attended : goal.returns-then-not-branch-clause-attended
 returns-then-not-branch-clause-attended g c = λ w. c.in_ok-serve_next.ensures.attended (c.each.invariant.5 w)
+
+pub returns-then-not-branch-clause-asks : goal.returns-then-not-branch-clause-asks
+returns-then-not-branch-clause-asks g c = order-then _ _ _ _ _ _ c.each.invariant.6 c.in_ok-serve_next.ensures.asks

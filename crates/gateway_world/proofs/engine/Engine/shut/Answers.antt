@@ -21,3 +21,9 @@ returns-clause-sent g c = on-ok c.tell_closed.result _ (λ e. c.close.ensures.se
 pub returns-clause-attended : goal.returns-clause-attended
 returns-clause-attended g c =
     on-ok c.tell_closed.result _ (rw (c.close.ensures.rows) (attended-without c.args.number c.args.self.now.core c.close.new.self.core _ c.close.ensures.answers))
+
+pub returns-clause-asks : goal.returns-clause-asks
+returns-clause-asks g c = on-ok c.tell_closed.result _ c.close.ensures.asks
+
+pub returns-clause-over : goal.returns-clause-over
+returns-clause-over g c = on-ok c.tell_closed.result _ c.close.ensures.over

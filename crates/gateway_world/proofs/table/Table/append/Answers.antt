@@ -1,8 +1,26 @@
--- Its row stays as it was.
-use Rattle.std.proofs.Common.{ap}
+-- Its row stays as it was, and the bytes stand behind those that wait.
+use Rattle.std.proofs.Common.{ap, refl}
 use Rattle.std.proofs.Math.Seq.{map-set_same}
 use Rattle.gateway_world.specs.Rows.{row_of}
+use Rattle.gateway_world.proofs.Inlets.{put-others, put-more, put-over, closed-more, ok-then}
 use Rattle.gateway_world.proofs.table.Table.append.Goals as goal
 
-pub returns-in-Some : goal.returns-in-Some
-returns-in-Some g c = map-set_same row_of c.args.self.now.rows.items c.in-Some.place _ c.index_mut.result.now (ap row_of c.index_mut.ensures.value)
+pub returns-in-Some-clause-rows : goal.returns-in-Some-clause-rows
+returns-in-Some-clause-rows g c = map-set_same row_of c.args.self.now.rows.items c.in-Some.place _ c.index_mut.result.now (ap row_of c.index_mut.ensures.value)
+
+pub returns-in-Some-clause-others : goal.returns-in-Some-clause-others
+returns-in-Some-clause-others g c = put-others c.args.self.now.rows.items c.in-Some.place c.args.number c.index_mut.result.now _ c.in-Some.ensures.some c.in-Some.ensures.first c.index_mut.ensures.value refl
+
+pub returns-in-Some-clause-more : goal.returns-in-Some-clause-more
+returns-in-Some-clause-more g c =
+    ok-then c.append.result _ _
+    (put-more c.args.self.now.rows.items c.in-Some.place c.args.number c.index_mut.result.now _ c.in-Some.ensures.some c.in-Some.ensures.first c.index_mut.ensures.value refl
+    c.args.bytes.now c.append.ensures.closing) c.append.ensures.more
+
+pub returns-in-Some-clause-over : goal.returns-in-Some-clause-over
+returns-in-Some-clause-over g c =
+    put-over c.args.self.now.rows.items c.in-Some.place c.args.number c.index_mut.result.now _ c.in-Some.ensures.some c.in-Some.ensures.first c.index_mut.ensures.value refl
+    c.append.ensures.closing
+
+pub returns-in-None-clause-more : goal.returns-in-None-clause-more
+returns-in-None-clause-more g c = closed-more c.args.self.now.rows.items c.args.number c.args.bytes.now _ (c.in-None.ensures.none refl)

@@ -1,0 +1,141 @@
+-- Which entry a step of the core adds first.
+use Rattle.std.proofs.Common.{◌≡◌, ◌≢◌, ℕ, ◌⊎◌, Bool, true, false, inl, inr, List, [], ◌∷◌, ◌++◌, length, Option, Some, None, Result, Ok, Err, IfOk, OnOk, IsTrue, IsFalse, refl, sym, ap, subst, ◌∙◌}
+use Rattle.std.specs.List.{All}
+use Rattle.std.proofs.lemmas.Bool.{cases_Bool}
+use Rattle.std.proofs.lemmas.List.{append-nil, append_assoc}
+use Rattle.uri_map.specs.declared.peer.Peer.{Peer}
+use Rattle.ask_model.specs.declared.cause.Cause.TheVariants.{Timeout}
+use Rattle.journal_book.specs.Entries.{Written, Opens, Hears, Answers, Passes, Shuts, Seals, Fault}
+use Rattle.history_laws.specs.declared.kept.Conn.{Conn}
+use Rattle.history_laws.specs.declared.kept.Exchange.{Exchange}
+use Rattle.exchange_core.specs.declared.fault.OpenFault.{OpenFault}
+use Rattle.exchange_core.specs.Answering.{Given}
+use Rattle.exchange_core.specs.CoreValue.{CoreValue, connections, written}
+use Rattle.exchange_core.specs.Steps.{with_sent}
+use Rattle.exchange_core.specs.Hears.{HeardSo, HearsAt}
+use Rattle.exchange_core.specs.Ticking.{HasPast, is_past, takes_tick, late_reader, timeout_by, timeouts, AreTimeouts, AnswersLate, EndsLate, SealsLate, KeepsLate}
+use Rattle.gateway_world.specs.declared.input.Happening.{Happening}
+use Rattle.gateway_world.specs.declared.input.Output.{Output}
+use Rattle.gateway_world.specs.declared.input.Output.TheVariants as Out
+use Rattle.gateway_world.specs.Steps.{Grows}
+use Rattle.gateway_world.specs.Entering.{AddsFirst, Enters, EntersOpen, EntersOpening, IsHeardOrSealed, EntersDatagram, IsTickEntry, EntersTick, TicksFirst, EntersClose}
+use Rattle.gateway_world.proofs.Lateness.{past-or-none}
+
+-- what calls that open enter
+pub opening : (r : Result ℕ OpenFault) (a b : CoreValue) (t : ℕ) (C D E F G H I : Type 0) (Y Z V W : ℕ → Type 0)
+    → IfOk r (λ n. (n ≡ connections a.entries) × (b.entries ≡ a.entries ++ written t (Opens n) ∷ []) × Y n × Z n × V n × W n)
+    → (r ≡ Err OpenFault.Full → (length a.conns ≡ 256) × (b ≡ a))
+    → (r ≡ Err OpenFault.Sealed → (b.sealed ≡ true) × ((C × (b ≡ a)) ⊎ (D × E × (b.entries ≡ a.entries ++ written t Seals ∷ []) × F × G × H × I)))
+    → (r ≡ Err OpenFault.Memory → b ≡ a) → EntersOpening r t a b
+opening (Ok n) a b t C D E F G H I Y Z V W ok full sealed memory = ok.1 ∙ ap (λ (k : ℕ). a.entries ++ written t (Opens k) ∷ []) ok.0
+opening (Err OpenFault.Full) a b t C D E F G H I Y Z V W ok full sealed memory = ((full refl).0, ap (λ (v : CoreValue). v.entries) (full refl).1)
+opening (Err OpenFault.Sealed) a b t C D E F G H I Y Z V W ok full sealed memory =
+    ((sealed refl).0, elim (sealed refl).1 [ inl w ↦ inl (ap (λ (v : CoreValue). v.entries) w.1) | inr w ↦ inr w.2 ])
+opening (Err OpenFault.Memory) a b t C D E F G H I Y Z V W ok full sealed memory = ap (λ (v : CoreValue). v.entries) (memory refl)
+
+-- a close
+pub closes : (r : Bool) (a b : CoreValue) (t c : ℕ) (X : Type 0) → (IsTrue r → (b.entries ≡ a.entries ++ written t (Shuts c) ∷ []) × X)
+    → (IsFalse r → All (λ (x : Conn). x.id ≢ c) a.conns × (b ≡ a)) → EntersClose t c a b
+closes true a b t c X closed unknown = inr (closed refl).0
+closes false a b t c X closed unknown = inl ((unknown refl).0, ap (λ (v : CoreValue). v.entries) (unknown refl).1)
+
+-- More entries behind change nothing of the first.
+first-more : (P : Written → Type 0) (a b d : List Written) → AddsFirst P a b → Grows b d → AddsFirst P a d
+first-more P a b d w more = record {
+  first = w.first;
+  rest = w.rest ++ more.0;
+  is_first = w.is_first;
+  added = more.1 ∙ ap (λ (h : List Written). h ++ more.0) w.added ∙ append_assoc a (w.first ∷ w.rest) more.0;
+}
+
+-- a datagram
+with-first : (t : ℕ) (p : Peer) (sent : Option (List ℕ)) (h : List Written) (w : Written) → AddsFirst (λ (x : Written). x ≡ w) h (with_sent t p sent (h ++ w ∷ []))
+with-first t p None h w = record { first = w; rest = []; is_first = refl; added = refl }
+with-first t p (Some s) h w = record { first = w; rest = _ ∷ []; is_first = refl; added = append_assoc h (w ∷ []) _ }
+
+heard-first : (a b : CoreValue) (t : ℕ) (p : Peer) (bytes : List ℕ) → HearsAt t p bytes a b → AddsFirst (λ (x : Written). x ≡ written t (Hears p bytes)) a.entries b.entries
+heard-first a b t p bytes w =
+    let w0 : Written = written t (Hears p bytes) in
+    let front = with-first t p w.sent a.entries w0 in
+    elim (w.answer) [
+      | inl none ↦ subst (AddsFirst (λ (x : Written). x ≡ w0) a.entries) (sym none.entries) front
+      | inr one ↦ first-more (λ (x : Written). x ≡ w0) a.entries _ b.entries front (_ ∷ [], one.entries)
+    ]
+
+pub heard-enters : {X E : Type 0} (r : Result X E) (a b d : CoreValue) (t : ℕ) (p : Peer) (bytes : List ℕ) → HeardSo t p bytes a b → OnOk r (Grows b.entries d.entries)
+    → OnOk r (b.answers ≡ [] → d.entries ≡ b.entries) → OnOk r (EntersDatagram t p bytes a d)
+heard-enters (Ok x) a b d t p bytes (inl w) grows quiet =
+    inl (w.0, λ none. quiet (ap (λ (v : CoreValue). v.answers) w.1 ∙ none) ∙ ap (λ (v : CoreValue). v.entries) w.1)
+heard-enters (Ok x) a b d t p bytes (inr (inl w)) grows quiet =
+    inr (first-more (IsHeardOrSealed t p bytes a) a.entries b.entries d.entries
+    (record { first = written t Seals; rest = []; is_first = inr (refl, w.room); added = w.entries }) grows)
+heard-enters (Ok x) a b d t p bytes (inr (inr w)) grows quiet =
+    let f = heard-first a b t p bytes w in
+    inr (first-more (IsHeardOrSealed t p bytes a) a.entries b.entries d.entries
+    (record { first = f.first; rest = f.rest; is_first = inl f.is_first; added = f.added }) grows)
+heard-enters (Err e) a b d t p bytes w grows quiet = tt
+
+-- a tick
+late-first : (t : ℕ) (es : List Exchange) (cs : List Conn) (h : List Written) → (timeouts t es cs ≡ []) ⊎ AddsFirst (IsTickEntry t) h (h ++ timeouts t es cs)
+late-first t [] cs h = inl refl
+late-first t (e ∷ es) cs h = go (late_reader t cs e) (late-first t es cs h)
+  where
+    go : (o : Option Conn) → (timeouts t es cs ≡ []) ⊎ AddsFirst (IsTickEntry t) h (h ++ timeouts t es cs)
+        → (timeout_by t e o ++ timeouts t es cs ≡ []) ⊎ AddsFirst (IsTickEntry t) h (h ++ (timeout_by t e o ++ timeouts t es cs))
+    go None rest = rest
+    go (Some x) rest = inr (record { first = written t (Answers x.id e.opening (Fault Timeout e.number)); rest = timeouts t es cs; is_first = (refl, tt); added = refl })
+
+pub tick-enters : (a b : CoreValue) (t : ℕ) → (a.sealed ≡ false → All (λ (e : Exchange). is_past t e ≡ false) a.exchanges → b ≡ a)
+    → (a.sealed ≡ false → HasPast t a.exchanges → takes_tick t a ≡ true → EndsLate t a b)
+    → (a.sealed ≡ false → HasPast t a.exchanges → takes_tick t a ≡ false → SealsLate t a b)
+    → (a.sealed ≡ true → KeepsLate t a b) → TicksFirst t a b
+tick-enters a b t early ends seals keeps =
+    elim (cases_Bool a.sealed) [
+      | inl y ↦ kept (keeps y).answers
+      | inr n ↦ elim (past-or-none t a.exchanges) [
+        | inl all ↦ inl (ap (λ (v : CoreValue). v.entries) (early n all), ap (λ (v : CoreValue). v.answers) (early n all))
+        | inr w ↦ elim (cases_Bool (takes_tick t a)) [
+          | inl y ↦ inr (begun (written t Passes) (refl, tt) (ends n w y).answers)
+          | inr late ↦ inr (begun (written t Seals) (refl, tt) (seals n w late).answers)
+        ]
+      ]
+    ]
+  where
+    begun : (x : Written) → IsTickEntry t x → AnswersLate t (a.entries ++ x ∷ []) a b → AddsFirst (IsTickEntry t) a.entries b.entries
+    begun x is w = record { first = x; rest = timeouts t a.exchanges a.conns; is_first = is; added = w.entries ∙ append_assoc a.entries (x ∷ []) (timeouts t a.exchanges a.conns) }
+
+    none-given : (n : ℕ) (gs : List Given) → AreTimeouts n gs [] → gs ≡ []
+    none-given n [] w = refl
+    none-given n (g ∷ gs) w = elim w [ ]
+
+    kept : AnswersLate t a.entries a b → TicksFirst t a b
+    kept w = elim (late-first t a.exchanges a.conns a.entries) [
+      | inl none ↦ inl (
+        w.entries ∙ ap (λ (ws : List Written). a.entries ++ ws) none ∙ append-nil a.entries,
+        w.answers.1 ∙ ap (λ (gs : List Given). a.answers ++ gs) (none-given (length a.entries) w.answers.0 (subst (AreTimeouts (length a.entries) w.answers.0) none w.answers.2)) ∙ append-nil a.answers,
+      )
+      | inr f ↦ inr (subst (AddsFirst (IsTickEntry t) a.entries) (sym w.entries) f)
+    ]
+
+pub tick-more : {X E : Type 0} (r : Result X E) (a b d : CoreValue) (t : ℕ) → TicksFirst t a b → OnOk r (Grows b.entries d.entries) → OnOk r (b.answers ≡ [] → d.entries ≡ b.entries) → OnOk r (EntersTick t a d)
+tick-more (Ok x) a b d t (inl same) grows quiet = inl (λ none. quiet (same.1 ∙ none) ∙ same.0)
+tick-more (Ok x) a b d t (inr w) grows quiet = inr (first-more (IsTickEntry t) a.entries b.entries d.entries w grows)
+tick-more (Err e) a b d t w grows quiet = tt
+
+-- Where no answer waited, nothing is entered, and what was done before entered nothing.
+pub quiet-then : {X E : Type 0} (r : Result X E) (a b d : CoreValue) → b.answers ≡ a.answers → b.entries ≡ a.entries → OnOk r (b.answers ≡ [] → d.entries ≡ b.entries)
+    → OnOk r (a.answers ≡ [] → d.entries ≡ a.entries)
+quiet-then (Ok x) a b d answers entries quiet = λ none. quiet (answers ∙ none) ∙ entries
+quiet-then (Err e) a b d answers entries quiet = tt
+
+-- A client is turned away.
+pub turned-away : {X E : Type 0} (r : Result X E) (f : OpenFault) (a b : CoreValue) (t : ℕ) (before after : List Output) → EntersOpening (Err f) t a b
+    → OnOk r (f ≢ OpenFault.Memory) → OnOk r (after ≡ before ++ Out.Turned ∷ []) → OnOk r (EntersOpen t a b before after)
+turned-away (Ok x) OpenFault.Full a b t before after w why told = inr (inl w.0, inl w.1, told)
+turned-away (Ok x) OpenFault.Sealed a b t before after w why told = inr (inr w.0, w.1, told)
+turned-away (Ok x) OpenFault.Memory a b t before after w why told = absurd (why refl)
+turned-away (Err e) f a b t before after w why told = tt
+
+-- All outputs are those of the input.
+pub enters-all : (h : Happening) (t : ℕ) (a b : CoreValue) (before after : List Output) → before ≡ [] → Enters h t a b before after → Enters h t a b [] after
+enters-all h t a b before after none w = subst (λ (os : List Output). Enters h t a b os after) none w
