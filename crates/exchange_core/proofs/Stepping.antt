@@ -288,12 +288,13 @@ heard-seals h b count waiting sb rb e size refused e-is size-is short few some =
     ]
 
 pub seals-shown : (t t1 : ℕ) (p : Peer) (b : List ℕ) (old new : CoreValue) → t1 ≡ t → HasNoRoom b old → new.sealed ≡ true
-    → new.entries ≡ old.entries ++ written t1 Seals ∷ [] → new.conns ≡ old.conns → new.exchanges ≡ old.exchanges → new.answers ≡ old.answers → new.sends ≡ old.sends
+    → new.moment ≡ t1 → new.entries ≡ old.entries ++ written t1 Seals ∷ [] → new.conns ≡ old.conns → new.exchanges ≡ old.exchanges → new.answers ≡ old.answers → new.sends ≡ old.sends
     → HeardSo t p b old new
-seals-shown t t1 p b old new same room sealed entries conns exchanges answers sends =
+seals-shown t t1 p b old new same room sealed moment entries conns exchanges answers sends =
     inr (inl (record {
       room = room;
       sealed = sealed;
+      moment = moment ∙ same;
       entries = rw (← same) entries;
       conns = conns;
       exchanges = exchanges;

@@ -68,6 +68,7 @@ pub record HasNoRoom (b : List ℕ) (old : CoreValue) : Type 0 where
 pub record SealsAt (t : ℕ) (b : List ℕ) (old new : CoreValue) : Type 0 where
   pub room : HasNoRoom b old
   pub sealed : new.sealed ≡ true
+  pub moment : new.moment ≡ t
   pub entries : new.entries ≡ old.entries ++ written t Seals ∷ []
   pub conns : new.conns ≡ old.conns
   pub exchanges : new.exchanges ≡ old.exchanges

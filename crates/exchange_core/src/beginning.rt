@@ -163,6 +163,8 @@ impl<R: Relation> Core<R> {
             × (self.new.entries ≡ self.old.entries ++ written (now self.old.moment moment) Seals ∷ [])
             × (self.new.conns ≡ self.old.conns) × (self.new.exchanges ≡ self.old.exchanges)
             × (self.new.answers ≡ self.old.answers) × (self.new.sends ≡ self.old.sends) }
+        ensures moment { IfOk result (λ t. self.new.moment ≡ now self.old.moment moment) }
+        ensures sealed_at { result ≡ Err AskFault.Sealed → self.new.moment ≡ now self.old.moment moment }
         ensures memory { result ≡ Err AskFault.Memory → self.new ≡ self.old }
         ensures others { (result ≢ Err AskFault.Unknown) × (result ≢ Err AskFault.Pending) }
     {

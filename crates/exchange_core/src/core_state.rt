@@ -89,7 +89,7 @@ fn refusal_of<R: Relation>(
 impl<R: Relation> Core<R> {
     /// A core with no entry, which holds the place of its seal.
     pub fn new(alloc: Global) -> Result<Core<R>, AllocError>
-        ensures { IfOk result (λ c. (c.entries ≡ []) × (c.conns ≡ []) × (c.exchanges ≡ []) × (c.sealed ≡ false) × (c.answers ≡ []) × (c.sends ≡ [])) }
+        ensures { IfOk result (λ c. (c.entries ≡ []) × (c.conns ≡ []) × (c.exchanges ≡ []) × (c.sealed ≡ false) × (c.moment ≡ 0) × (c.answers ≡ []) × (c.sends ≡ [])) }
     {
         let mut journal = Journal::new(alloc);
         journal.make_room(1)?;
@@ -185,6 +185,8 @@ impl<R: Relation> Core<R> {
             × (self.new.entries ≡ self.old.entries ++ written (now self.old.moment moment) Seals ∷ [])
             × (self.new.conns ≡ self.old.conns) × (self.new.exchanges ≡ self.old.exchanges)
             × (self.new.answers ≡ self.old.answers) × (self.new.sends ≡ self.old.sends))) }
+        ensures moment { IfOk result (λ id. self.new.moment ≡ now self.old.moment moment) }
+        ensures sealed_at { result ≡ Err OpenFault.Sealed → self.old.sealed ≡ false → self.new.moment ≡ now self.old.moment moment }
         ensures room { IsOk result → (self.old.sealed ≡ false) × (takes_conn self.old.entries self.old.conns ≡ true) }
         ensures memory { result ≡ Err OpenFault.Memory → self.new ≡ self.old }
         ensures memory_last { result ≡ Err OpenFault.Memory → (self.old.sealed ≡ false) × (takes_conn self.old.entries self.old.conns ≡ true) }
@@ -236,6 +238,8 @@ impl<R: Relation> Core<R> {
             × (self.new.entries ≡ self.old.entries ++ written (now self.old.moment moment) Seals ∷ [])
             × (self.new.conns ≡ self.old.conns) × (self.new.exchanges ≡ self.old.exchanges)
             × (self.new.answers ≡ self.old.answers) × (self.new.sends ≡ self.old.sends) }
+        ensures moment { IfOk result (λ t. self.new.moment ≡ now self.old.moment moment) }
+        ensures sealed_at { result ≡ Err AskFault.Sealed → self.new.moment ≡ now self.old.moment moment }
         ensures memory { result ≡ Err AskFault.Memory → self.new ≡ self.old }
         ensures others { (result ≢ Err AskFault.Unknown) × (result ≢ Err AskFault.Pending) }
     {
@@ -325,6 +329,7 @@ impl<R: Relation> Core<R> {
         ensures answers { self.new.answers ≡ self.old.answers }
         ensures sends { self.new.sends ≡ self.old.sends }
         ensures sealed { self.new.sealed ≡ self.old.sealed }
+        ensures moment { IsTrue result → self.new.moment ≡ now self.old.moment moment }
     {
         let Some(x) = find_conn(&self.conns, conn) else {
             return false;

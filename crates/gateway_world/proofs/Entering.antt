@@ -136,6 +136,6 @@ turned-away (Ok x) OpenFault.Sealed a b t before after w why told = inr (inr w.0
 turned-away (Ok x) OpenFault.Memory a b t before after w why told = absurd (why refl)
 turned-away (Err e) f a b t before after w why told = tt
 
--- All outputs are those of the input.
-pub enters-all : (h : Happening) (t : ℕ) (a b : CoreValue) (before after : List Output) → before ≡ [] → Enters h t a b before after → Enters h t a b [] after
-enters-all h t a b before after none w = subst (λ (os : List Output). Enters h t a b os after) none w
+-- All outputs are those of the input, and it counts at that moment.
+pub enters-all : (h : Happening) (t t1 : ℕ) (a b : CoreValue) (before after : List Output) → t1 ≡ t → before ≡ [] → Enters h t1 a b before after → Enters h t a b [] after
+enters-all h t t1 a b before after is none w = subst (λ (n : ℕ). Enters h n a b [] after) is (subst (λ (os : List Output). Enters h t1 a b os after) none w)

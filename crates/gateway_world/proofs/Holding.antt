@@ -1,10 +1,10 @@
 -- The text of a connection, as its bytes go into the edge and requests come out.
-use Rattle.std.proofs.Common.{◌≡◌, ℕ, zero, suc, ◌+◌, ◌-◌, ◌≤◌, ◌⊎◌, inl, inr, true, false, List, [], ◌∷◌, ◌++◌, length, take, drop, refl, sym, ap, ◌∙◌, arith}
+use Rattle.std.proofs.Common.{◌≡◌, ℕ, zero, suc, ◌+◌, ◌-◌, ◌≤◌, ◌<◌, min, ◌⊎◌, inl, inr, true, false, List, [], ◌∷◌, ◌++◌, length, take, drop, refl, sym, ap, subst, ◌∙◌, arith}
 use Rattle.std.proofs.Math.ListN.{drop_of_length-le}
-use Rattle.std.proofs.lemmas.List.{take_all, take-append-drop, append_assoc}
+use Rattle.std.proofs.lemmas.List.{append-nil, take_all, take-append-drop, append_assoc}
 use Rattle.http_edge.specs.declared.request.Incoming.{Incoming}
-use Rattle.http_edge.specs.Reading.{Item, First, closes}
-use Rattle.http_edge.specs.Edges.{Stands, item}
+use Rattle.http_edge.specs.Reading.{Item, First, HasNone, closes}
+use Rattle.http_edge.specs.Edges.{Stands, Waits, item}
 use Rattle.http_edge.proofs.Readings.{first_on}
 use Rattle.gateway_world.specs.declared.inbox.Inbox.{Inbox}
 use Rattle.http_edge.specs.declared.request.Incoming.TheVariants as In
@@ -74,3 +74,19 @@ read-one incoming b j text front whole left closing steps = record {
   where
     differs : true ≡ false → ⊥
     differs e = absurd cc
+
+-- Where all bytes are the edge's, no request of the whole text is held back.
+pub none-read : (text front b : List ℕ) → text ≡ front ++ b → b ≡ [] → HasNone front ⊎ Waits front → HasNone text ⊎ Waits text
+none-read text front b whole none waits =
+    subst (λ (t : List ℕ). HasNone t ⊎ Waits t) (sym (whole ∙ ap (λ (s : List ℕ). front ++ s) none ∙ append-nil front)) waits
+
+-- The edge took nothing though it had room, since nothing was left.
+pub none-fits : (b v : List ℕ) (taken n u : ℕ) → v ≡ b → n ≡ min (length (take (length v - taken) (drop taken v))) (8192 - u) → n ≡ 0 → u < 8192 → drop taken b ≡ []
+none-fits b v taken n u same count none room =
+    let all : take (length v - taken) (drop taken v) ≡ drop taken b =
+    take_all (length v - taken) (drop taken v) (drop-len taken v) ∙ ap (drop taken) same in
+    go (drop taken b) (sym none ∙ count ∙ ap (λ (s : List ℕ). min (length s) (8192 - u)) all)
+  where
+    go : (s : List ℕ) → 0 ≡ min (length s) (8192 - u) → s ≡ []
+    go [] e = refl
+    go (x ∷ xs) e = absurd (omega (arith, e, room))

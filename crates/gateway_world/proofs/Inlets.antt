@@ -1,5 +1,5 @@
 -- The inboxes of connections, by their places.
-use Rattle.std.proofs.Common.{◌≡◌, ◌≢◌, ℕ, zero, suc, List, [], ◌∷◌, ◌++◌, map, take, get_or, inl, inr, true, false, Some, None, Result, Ok, Err, IfOk, OnOk, refl, sym, ap, subst, ◌∙◌}
+use Rattle.std.proofs.Common.{◌≡◌, ◌≢◌, ℕ, zero, suc, ◌<◌, List, [], ◌∷◌, ◌++◌, map, take, get_or, inl, inr, true, false, Some, None, Result, Ok, Err, IfOk, OnOk, refl, sym, ap, subst, ◌∙◌, arith}
 use Rattle.std.specs.Prelude.{option_map}
 use Rattle.std.specs.List.{All, slice_get}
 use Rattle.std.proofs.Math.ListN.{set}
@@ -11,8 +11,9 @@ use Rattle.gateway_world.specs.declared.inbox.Inbox.{Inbox}
 use Rattle.gateway_world.specs.declared.inbox.Next.{Next}
 use Rattle.gateway_world.specs.declared.inbox.Next.TheVariants as N
 use Rattle.gateway_world.specs.declared.table.Connection.{Connection}
-use Rattle.gateway_world.specs.Inboxes.{Holds, AsksNext}
-use Rattle.gateway_world.specs.Rows.{is_request}
+use Rattle.gateway_world.specs.Inboxes.{Holds, AsksNext, IsIdle, work_of}
+use Rattle.gateway_world.specs.Rows.{Row, is_request}
+use Rattle.gateway_world.specs.Prompt.{IsPromptOn, work_in, work_at}
 use Rattle.gateway_world.specs.Asks.{Inlet, inlet_of, inbox_at, StandsFor, ReadsNoMore, IsOver}
 use Rattle.gateway_world.specs.AskSteps.{TakesNext, without_inlet}
 use Rattle.gateway_world.proofs.Placing.{number-at}
@@ -189,6 +190,21 @@ module _ {R : Type 0} (cs : List (Connection R)) (i n : ℕ) (x y : Connection R
   put-ends r over o =
       let w = over (over-here o) in
       (subst ReadsNoMore (sym put-here) w.1, subst (λ (q : Result Next Memory). IfOk q (λ next. is_request next ≡ false)) (sym w.0) refl)
+
+  -- A request leaves less to read.
+  pub put-less : (r : Result Next Memory) → IfOk r (λ next. is_request next ≡ true → work_of y.inbox < work_of x.inbox)
+      → IfOk r (λ next. is_request next ≡ true → work_at n (map inlet_of (set cs i y)) < work_at n (map inlet_of cs))
+  put-less (Ok next) less = λ request.
+      let lt = less request in let before = ap work_in (inbox-here cs i n x e first at_it) in let after = ap work_in put-here in omega (arith, lt, before, after)
+  put-less (Err m) less = tt
+
+  -- Where nothing is asked, nothing can be.
+  pub put-prompt : (r : Result Next Memory) (rows : List Row) → IfOk r (λ next. is_request next ≡ false → y.inbox.closing ≡ false → (text : List ℕ) → Holds y.inbox text → IsIdle text)
+      → IfOk r (λ next. is_request next ≡ false → IsPromptOn n rows (map inlet_of (set cs i y)))
+  put-prompt (Ok next) rows idle = λ none text w.
+      let here = same-inbox w.inbox y.inbox (sym w.stands ∙ put-here) in
+      inr (idle none (subst (λ (b : Inbox). b.closing ≡ false) here w.goes_on) text (subst (λ (b : Inbox). Holds b text) here w.holds))
+  put-prompt (Err m) rows idle = tt
 
 -- Where it isn't open, it stands for nothing.
 pub closed-more : {R : Type 0} (cs : List (Connection R)) (n : ℕ) (bytes : List ℕ) (inlets : List Inlet) → All (λ (c : Connection R). c.number ≢ n) cs

@@ -2,6 +2,7 @@ pub mod Advancing
 pub mod Asking
 pub mod Attending
 pub mod Bodies
+pub mod Closings
 pub mod Counting
 pub mod Entering
 pub mod Faults
@@ -10,9 +11,11 @@ pub mod Heeding
 pub mod Holding
 pub mod Inlets
 pub mod Lateness
+pub mod Making
 pub mod Names
 pub mod Owing
 pub mod Placing
+pub mod Prompting
 pub mod Quiet
 pub mod Reading
 pub mod Rules

@@ -1,5 +1,5 @@
 -- The rows, where a connection stands at a place.
-use Rattle.std.proofs.Common.{◌≡◌, ◌≢◌, ℕ, zero, suc, List, [], ◌∷◌, map, take, get_or, inl, inr, Bool, true, not, Option, Some, None, Result, Ok, Err, IfOk, IfSome, Bor, refl, sym, ap, ◌∙◌}
+use Rattle.std.proofs.Common.{◌≡◌, ◌≢◌, ℕ, zero, suc, List, [], ◌∷◌, map, take, get_or, inl, inr, Bool, true, false, not, Option, Some, None, Result, Ok, Err, IfOk, IfSome, Bor, refl, sym, ap, ◌∙◌}
 use Rattle.std.specs.Prelude.{option_map, option_copied, is_some}
 use Rattle.std.specs.List.{All, slice_get}
 use Rattle.std.proofs.Math.ListN.{set}
@@ -100,3 +100,17 @@ no-row {R} (x ∷ cs) n r all found =
       | inl u ↦ absurd (All-head (λ (c : Connection R). c.number ≢ n) x cs all u.1)
       | inr u ↦ no-row cs n r (All-tail (λ (c : Connection R). c.number ≢ n) x cs all) (rw (u.0) at found)
     ]
+
+some-is : {X : Type 0} (o : Option X) (b : Bool) → is_some o ≡ not b → b ≡ false → (x : X) × (o ≡ Some x)
+some-is None b e f = absurd (differs (e ∙ ap not f))
+  where
+    differs : false ≡ not false → ⊥
+    differs g = absurd cc
+some-is (Some x) b e f = (x, refl)
+
+-- one that waits for something
+pub busy-row : {R : Type 0} (cs : List (Connection R)) (i n : ℕ) (d : Connection R) (b : Bool) → option_map (λ (c : Connection R). c.number) (slice_get cs i) ≡ Some n
+    → All (λ (c : Connection R). c.number ≢ n) (take i cs) → d ≡ get_or cs i d → is_some d.ticket ≡ not b → b ≡ false → (k : ℕ) × IsRow (map row_of cs) n (Some k)
+busy-row {R} cs i n d b e first at_it tells so =
+    let t = some-is d.ticket b tells so in
+    (t.0.number, place-row cs i n d (Some t.0.number) e first at_it (ap (λ (o : Option (Ticket R)). option_map (λ (t : Ticket R). t.number) o) t.1))

@@ -1,13 +1,14 @@
--- What the steps of the core ask, and what they don't.
+-- What the steps of the core add to what is read off a history, and what they don't.
 use Rattle.std.proofs.Common.{◌≡◌, ℕ, ◌⊎◌, Bool, true, false, inl, inr, List, [], ◌∷◌, ◌++◌, Option, Some, None, Result, Ok, Err, IfOk, OnErr, IsTrue, IsFalse, refl, ap, ◌∙◌}
-use Rattle.std.specs.List.{All}
+use Rattle.std.specs.List.{All, flat_map}
 use Rattle.std.proofs.lemmas.Bool.{cases_Bool}
 use Rattle.std.proofs.lemmas.Grind.{flat_map-append}
 use Rattle.std.proofs.lemmas.List.{append-nil}
 use Rattle.uri_map.specs.declared.peer.Peer.{Peer}
-use Rattle.ask_model.specs.Requests.{Came, Sense, Requests, Refuses}
+use Rattle.ask_model.specs.declared.cause.Cause.TheVariants.{Busy, Timeout}
+use Rattle.ask_model.specs.Requests.{Sense, Requests, Refuses}
 use Rattle.ask_model.specs.Views.{Mapping}
-use Rattle.journal_book.specs.Entries.{Written, Asks, Opens, Hears, Passes, Seals}
+use Rattle.journal_book.specs.Entries.{Deed, Written, Grounds, Fault, Asks, Opens, Sends, Hears, Passes, Answers, Seals}
 use Rattle.journal_book.specs.Views.{ask_of}
 use Rattle.history_laws.specs.declared.kept.Conn.{Conn}
 use Rattle.history_laws.specs.declared.kept.Exchange.{Exchange}
@@ -18,114 +19,150 @@ use Rattle.exchange_core.specs.Steps.{with_sent}
 use Rattle.exchange_core.specs.Hears.{HeardSo}
 use Rattle.exchange_core.specs.Asking.{AddsAsk, AddsBy}
 use Rattle.exchange_core.specs.Ticking.{HasPast, is_past, takes_tick, late_reader, timeout_by, timeout_for, timeouts, AnswersLate, EndsLate, SealsLate, KeepsLate}
-use Rattle.gateway_world.specs.Asks.{asked_by, asked_on}
+use Rattle.gateway_world.specs.Asks.{asked_by}
+use Rattle.gateway_world.specs.Closing.{shut_by}
 use Rattle.gateway_world.proofs.Lateness.{past-or-none}
 
-asked-append : (c : ℕ) (xs ys : List Written) → asked_on c (xs ++ ys) ≡ asked_on c xs ++ asked_on c ys
-asked-append c xs ys = flat_map-append (λ (w : Written). asked_by c w.deed) xs ys
+-- what the deeds of a history give, in order
+abbrev given_in : {X : Type 0} → (Deed → List X) → List Written → List X
+given_in f h = flat_map (λ (w : Written). f w.deed) h
 
--- behind entries that ask nothing
-quiet-more : (c : ℕ) (h ws : List Written) → asked_on c ws ≡ [] → asked_on c (h ++ ws) ≡ asked_on c h
-quiet-more c h ws none = asked-append c h ws ∙ ap (λ (s : List Came). asked_on c h ++ s) none ∙ append-nil (asked_on c h)
+-- Nothing is given by what steps add in which nobody asks and no connection is closed.
+pub record IsSilent {X : Type 0} (f : Deed → List X) : Type 0 where
+  pub opens : (n : ℕ) → f (Opens n) ≡ []
+  pub sends : (p : Peer) (b : List ℕ) (w : Option ℕ) → f (Sends p b w) ≡ []
+  pub hears : (p : Peer) (b : List ℕ) → f (Hears p b) ≡ []
+  pub passes : f Passes ≡ []
+  pub answers : (c k : ℕ) (g : Grounds) → f (Answers c k g) ≡ []
+  pub seals : f Seals ≡ []
 
-pub quiet-same : (c : ℕ) (a b : CoreValue) → b ≡ a → asked_on c b.entries ≡ asked_on c a.entries
-quiet-same c a b same = ap (λ (v : CoreValue). asked_on c v.entries) same
+pub asked-silent : (c : ℕ) → IsSilent (asked_by c)
+asked-silent c = record { opens = λ n. refl; sends = λ p b w. refl; hears = λ p b. refl; passes = refl; answers = λ d k g. refl; seals = refl }
 
-quiet-one : (c : ℕ) (a b : CoreValue) (w : Written) → asked_by c w.deed ≡ [] → b.entries ≡ a.entries ++ w ∷ [] → asked_on c b.entries ≡ asked_on c a.entries
-quiet-one c a b w none entries = ap (asked_on c) entries ∙ quiet-more c a.entries (w ∷ []) (ap (λ (s : List Came). s ++ []) none)
+pub shut-silent : IsSilent shut_by
+shut-silent = record { opens = λ n. refl; sends = λ p b w. refl; hears = λ p b. refl; passes = refl; answers = λ d k g. refl; seals = refl }
 
--- a datagram
-quiet-sent : (c t : ℕ) (p : Peer) (sent : Option (List ℕ)) (h : List Written) → asked_on c (with_sent t p sent h) ≡ asked_on c h
-quiet-sent c t p None h = refl
-quiet-sent c t p (Some b) h = quiet-more c h _ refl
+module _ {X : Type 0} (f : Deed → List X) (silent : IsSilent f) where
+  given-append : (xs ys : List Written) → given_in f (xs ++ ys) ≡ given_in f xs ++ given_in f ys
+  given-append xs ys = flat_map-append (λ (w : Written). f w.deed) xs ys
 
-pub quiet-heard : (c : ℕ) (a b : CoreValue) (t : ℕ) (p : Peer) (bytes : List ℕ) → HeardSo t p bytes a b → asked_on c b.entries ≡ asked_on c a.entries
-quiet-heard c a b t p bytes (inl w) = quiet-same c a b w.1
-quiet-heard c a b t p bytes (inr (inl w)) = quiet-one c a b (written t Seals) refl w.entries
-quiet-heard c a b t p bytes (inr (inr w)) =
-    let front : asked_on c (with_sent t p w.sent (a.entries ++ written t (Hears p bytes) ∷ [])) ≡ asked_on c a.entries =
-    quiet-sent c t p w.sent (a.entries ++ written t (Hears p bytes) ∷ []) ∙ quiet-more c a.entries (written t (Hears p bytes) ∷ []) refl in
-    elim (w.answer) [
-      | inl none ↦ ap (asked_on c) none.entries ∙ front
-      | inr one ↦ ap (asked_on c) one.entries ∙ quiet-more c (with_sent t p w.sent (a.entries ++ written t (Hears p bytes) ∷ [])) _ refl ∙ front
-    ]
+  -- behind entries that give nothing
+  quiet-more : (h ws : List Written) → given_in f ws ≡ [] → given_in f (h ++ ws) ≡ given_in f h
+  quiet-more h ws none = given-append h ws ∙ ap (λ (s : List X). given_in f h ++ s) none ∙ append-nil (given_in f h)
 
--- a tick
-quiet-timeouts : (c t : ℕ) (es : List Exchange) (cs : List Conn) → asked_on c (timeouts t es cs) ≡ []
-quiet-timeouts c t [] cs = refl
-quiet-timeouts c t (e ∷ es) cs =
-    asked-append c (timeout_for t cs e) (timeouts t es cs) ∙ ap (λ (s : List Came). s ++ asked_on c (timeouts t es cs)) (one (late_reader t cs e)) ∙ quiet-timeouts c t es cs
-  where
-    one : (o : Option Conn) → asked_on c (timeout_by t e o) ≡ []
-    one None = refl
-    one (Some x) = refl
+  one-none : (w : Written) → f w.deed ≡ [] → given_in f (w ∷ []) ≡ []
+  one-none w none = ap (λ (s : List X). s ++ []) none
 
-quiet-late : (c : ℕ) (a b : CoreValue) (t : ℕ) (h : List Written) → AnswersLate t h a b → asked_on c b.entries ≡ asked_on c h
-quiet-late c a b t h w = ap (asked_on c) w.entries ∙ quiet-more c h (timeouts t a.exchanges a.conns) (quiet-timeouts c t a.exchanges a.conns)
+  pub quiet-same : (a b : CoreValue) → b ≡ a → given_in f b.entries ≡ given_in f a.entries
+  quiet-same a b same = ap (λ (v : CoreValue). given_in f v.entries) same
 
-pub quiet-tick : (c : ℕ) (a b : CoreValue) (t : ℕ) → (a.sealed ≡ false → All (λ (e : Exchange). is_past t e ≡ false) a.exchanges → b ≡ a)
-    → (a.sealed ≡ false → HasPast t a.exchanges → takes_tick t a ≡ true → EndsLate t a b)
-    → (a.sealed ≡ false → HasPast t a.exchanges → takes_tick t a ≡ false → SealsLate t a b)
-    → (a.sealed ≡ true → KeepsLate t a b) → asked_on c b.entries ≡ asked_on c a.entries
-quiet-tick c a b t early ends seals keeps =
-    elim (cases_Bool a.sealed) [
-      | inl y ↦ quiet-late c a b t a.entries (keeps y).answers
-      | inr n ↦ elim (past-or-none t a.exchanges) [
-        | inl all ↦ quiet-same c a b (early n all)
-        | inr w ↦ elim (cases_Bool (takes_tick t a)) [
-          | inl y ↦ quiet-late c a b t (a.entries ++ written t Passes ∷ []) (ends n w y).answers ∙ quiet-more c a.entries (written t Passes ∷ []) refl
-          | inr late ↦ quiet-late c a b t (a.entries ++ written t Seals ∷ []) (seals n w late).answers ∙ quiet-more c a.entries (written t Seals ∷ []) refl
+  quiet-one : (a b : CoreValue) (w : Written) → f w.deed ≡ [] → b.entries ≡ a.entries ++ w ∷ [] → given_in f b.entries ≡ given_in f a.entries
+  quiet-one a b w none entries = ap (given_in f) entries ∙ quiet-more a.entries (w ∷ []) (one-none w none)
+
+  -- a datagram
+  quiet-sent : (t : ℕ) (p : Peer) (sent : Option (List ℕ)) (h : List Written) → given_in f (with_sent t p sent h) ≡ given_in f h
+  quiet-sent t p None h = refl
+  quiet-sent t p (Some b) h = quiet-more h _ (one-none (written t (Sends p b None)) (silent.sends p b None))
+
+  pub quiet-heard : (a b : CoreValue) (t : ℕ) (p : Peer) (bytes : List ℕ) → HeardSo t p bytes a b → given_in f b.entries ≡ given_in f a.entries
+  quiet-heard a b t p bytes (inl w) = quiet-same a b w.1
+  quiet-heard a b t p bytes (inr (inl w)) = quiet-one a b (written t Seals) silent.seals w.entries
+  quiet-heard a b t p bytes (inr (inr w)) =
+      let front : given_in f (with_sent t p w.sent (a.entries ++ written t (Hears p bytes) ∷ [])) ≡ given_in f a.entries =
+      quiet-sent t p w.sent (a.entries ++ written t (Hears p bytes) ∷ []) ∙ quiet-more a.entries (written t (Hears p bytes) ∷ []) (one-none (written t (Hears p bytes)) (silent.hears p bytes)) in
+      elim (w.answer) [
+        | inl none ↦ ap (given_in f) none.entries ∙ front
+        | inr one ↦ ap (given_in f) one.entries
+            ∙ quiet-more (with_sent t p w.sent (a.entries ++ written t (Hears p bytes) ∷ [])) (written t (Answers one.conn one.given.ask one.given.found.grounds) ∷ [])
+            (one-none (written t (Answers one.conn one.given.ask one.given.found.grounds)) (silent.answers one.conn one.given.ask one.given.found.grounds)) ∙ front
+      ]
+
+  -- a tick
+  quiet-timeout : (t : ℕ) (e : Exchange) (o : Option Conn) → given_in f (timeout_by t e o) ≡ []
+  quiet-timeout t e None = refl
+  quiet-timeout t e (Some x) = one-none (written t (Answers x.id e.opening (Fault Timeout e.number))) (silent.answers x.id e.opening (Fault Timeout e.number))
+
+  quiet-timeouts : (t : ℕ) (es : List Exchange) (cs : List Conn) → given_in f (timeouts t es cs) ≡ []
+  quiet-timeouts t [] cs = refl
+  quiet-timeouts t (e ∷ es) cs =
+      given-append (timeout_for t cs e) (timeouts t es cs) ∙ ap (λ (s : List X). s ++ given_in f (timeouts t es cs)) (quiet-timeout t e (late_reader t cs e)) ∙ quiet-timeouts t es cs
+
+  quiet-late : (a b : CoreValue) (t : ℕ) (h : List Written) → AnswersLate t h a b → given_in f b.entries ≡ given_in f h
+  quiet-late a b t h w = ap (given_in f) w.entries ∙ quiet-more h (timeouts t a.exchanges a.conns) (quiet-timeouts t a.exchanges a.conns)
+
+  pub quiet-tick : (a b : CoreValue) (t : ℕ) → (a.sealed ≡ false → All (λ (e : Exchange). is_past t e ≡ false) a.exchanges → b ≡ a)
+      → (a.sealed ≡ false → HasPast t a.exchanges → takes_tick t a ≡ true → EndsLate t a b)
+      → (a.sealed ≡ false → HasPast t a.exchanges → takes_tick t a ≡ false → SealsLate t a b)
+      → (a.sealed ≡ true → KeepsLate t a b) → given_in f b.entries ≡ given_in f a.entries
+  quiet-tick a b t early ends seals keeps =
+      elim (cases_Bool a.sealed) [
+        | inl y ↦ quiet-late a b t a.entries (keeps y).answers
+        | inr n ↦ elim (past-or-none t a.exchanges) [
+          | inl all ↦ quiet-same a b (early n all)
+          | inr w ↦ elim (cases_Bool (takes_tick t a)) [
+            | inl y ↦ quiet-late a b t (a.entries ++ written t Passes ∷ []) (ends n w y).answers ∙ quiet-more a.entries (written t Passes ∷ []) (one-none (written t Passes) silent.passes)
+            | inr late ↦ quiet-late a b t (a.entries ++ written t Seals ∷ []) (seals n w late).answers ∙ quiet-more a.entries (written t Seals ∷ []) (one-none (written t Seals) silent.seals)
+          ]
         ]
       ]
-    ]
 
--- an opening
-pub quiet-open : (c : ℕ) (r : Result ℕ OpenFault) (a b : CoreValue) (t : ℕ) (A B C D E F G H I : Type 0) (X Y Z V W : ℕ → Type 0)
-    → IfOk r (λ n. X n × (b.entries ≡ a.entries ++ written t (Opens n) ∷ []) × Y n × Z n × V n × W n)
-    → (r ≡ Err OpenFault.Full → A × (b ≡ a))
-    → (r ≡ Err OpenFault.Sealed → B × ((C × (b ≡ a)) ⊎ (D × E × (b.entries ≡ a.entries ++ written t Seals ∷ []) × F × G × H × I)))
-    → (r ≡ Err OpenFault.Memory → b ≡ a) → asked_on c b.entries ≡ asked_on c a.entries
-quiet-open c (Ok n) a b t A B C D E F G H I X Y Z V W ok full sealed memory = quiet-one c a b (written t (Opens n)) refl ok.1
-quiet-open c (Err OpenFault.Full) a b t A B C D E F G H I X Y Z V W ok full sealed memory = quiet-same c a b (full refl).1
-quiet-open c (Err OpenFault.Sealed) a b t A B C D E F G H I X Y Z V W ok full sealed memory =
-    elim (sealed refl).1 [ inl w ↦ quiet-same c a b w.1 | inr w ↦ quiet-one c a b (written t Seals) refl w.2 ]
-quiet-open c (Err OpenFault.Memory) a b t A B C D E F G H I X Y Z V W ok full sealed memory = quiet-same c a b (memory refl)
+  -- an opening
+  pub quiet-open : (r : Result ℕ OpenFault) (a b : CoreValue) (t : ℕ) (A B C D E F G H I : Type 0) (P Y Z V W : ℕ → Type 0)
+      → IfOk r (λ n. P n × (b.entries ≡ a.entries ++ written t (Opens n) ∷ []) × Y n × Z n × V n × W n)
+      → (r ≡ Err OpenFault.Full → A × (b ≡ a))
+      → (r ≡ Err OpenFault.Sealed → B × ((C × (b ≡ a)) ⊎ (D × E × (b.entries ≡ a.entries ++ written t Seals ∷ []) × F × G × H × I)))
+      → (r ≡ Err OpenFault.Memory → b ≡ a) → given_in f b.entries ≡ given_in f a.entries
+  quiet-open (Ok n) a b t A B C D E F G H I P Y Z V W ok full sealed memory = quiet-one a b (written t (Opens n)) (silent.opens n) ok.1
+  quiet-open (Err OpenFault.Full) a b t A B C D E F G H I P Y Z V W ok full sealed memory = quiet-same a b (full refl).1
+  quiet-open (Err OpenFault.Sealed) a b t A B C D E F G H I P Y Z V W ok full sealed memory =
+      elim (sealed refl).1 [ inl w ↦ quiet-same a b w.1 | inr w ↦ quiet-one a b (written t Seals) silent.seals w.2 ]
+  quiet-open (Err OpenFault.Memory) a b t A B C D E F G H I P Y Z V W ok full sealed memory = quiet-same a b (memory refl)
+
+  -- a close
+  pub quiet-close : (r : Bool) (a b : CoreValue) (w : Written) (A B : Type 0) → f w.deed ≡ []
+      → (IsTrue r → (b.entries ≡ a.entries ++ w ∷ []) × A) → (IsFalse r → B × (b ≡ a)) → given_in f b.entries ≡ given_in f a.entries
+  quiet-close true a b w A B none closed unknown = quiet-one a b w none (closed refl).0
+  quiet-close false a b w A B none closed unknown = quiet-same a b (unknown refl).1
+
+  -- an ask, and what is behind it in its step
+  two-more : (a b : CoreValue) (w x : Written) → f x.deed ≡ [] → b.entries ≡ (a.entries ++ w ∷ []) ++ x ∷ [] → given_in f b.entries ≡ given_in f a.entries ++ f w.deed
+  two-more a b w x none entries =
+      ap (given_in f) entries ∙ quiet-more (a.entries ++ w ∷ []) (x ∷ []) (one-none x none)
+      ∙ given-append a.entries (w ∷ []) ∙ ap (λ (s : List X). given_in f a.entries ++ s) (append-nil (f w.deed))
+
+  ask-gives : (s : Sense) (a b : CoreValue) (t word n conn : ℕ) (m : Mapping) → AddsBy s t word n conn m a b → given_in f b.entries ≡ given_in f a.entries ++ f (Asks conn (ask_of m))
+  ask-gives (Refuses cause status) a b t word n conn m w = two-more a b (written t (Asks conn (ask_of m))) (written t (Answers conn n (Fault cause n))) (silent.answers conn n (Fault cause n)) w.entries
+  ask-gives (Requests q) a b t word n conn m (inl w) = two-more a b (written t (Asks conn (ask_of m))) (written t (Answers conn n (Fault Busy n))) (silent.answers conn n (Fault Busy n)) w.1.entries
+  ask-gives (Requests q) a b t word n conn m (inr w) =
+      two-more a b (written t (Asks conn (ask_of m))) (written t (Sends q.peer w.1.bytes (Some w.1.wait))) (silent.sends q.peer w.1.bytes (Some w.1.wait)) w.1.entries
+
+  pub asked-gives : {Y E : Type 0} (r : Result Y E) (number : Y → ℕ) (a b : CoreValue) (t word conn : ℕ) (m : Mapping) → IfOk r (λ x. AddsAsk t word (number x) conn m a b)
+      → IfOk r (λ x. given_in f b.entries ≡ given_in f a.entries ++ f (Asks conn (ask_of m)))
+  asked-gives (Ok x) number a b t word conn m w = ask-gives m.sense a b t word (number x) conn m w
+  asked-gives (Err e) number a b t word conn m w = tt
+
+  pub quiet-refused : {Y : Type 0} (r : Result Y AskFault) (a b : CoreValue) (t : ℕ) (A B C D E F G H I J : Type 0)
+      → (r ≡ Err AskFault.Unknown → A × (b ≡ a))
+      → (r ≡ Err AskFault.Pending → B × (b ≡ a))
+      → (r ≡ Err AskFault.Sealed → C × ((D × (b ≡ a)) ⊎ (E × F × (b.entries ≡ a.entries ++ written t Seals ∷ []) × G × H × I × J)))
+      → (r ≡ Err AskFault.Memory → b ≡ a) → OnErr r (given_in f b.entries ≡ given_in f a.entries)
+  quiet-refused (Ok x) a b t A B C D E F G H I J unknown pending sealed memory = tt
+  quiet-refused (Err AskFault.Unknown) a b t A B C D E F G H I J unknown pending sealed memory = quiet-same a b (unknown refl).1
+  quiet-refused (Err AskFault.Pending) a b t A B C D E F G H I J unknown pending sealed memory = quiet-same a b (pending refl).1
+  quiet-refused (Err AskFault.Sealed) a b t A B C D E F G H I J unknown pending sealed memory =
+      elim (sealed refl).1 [ inl w ↦ quiet-same a b w.1 | inr w ↦ quiet-one a b (written t Seals) silent.seals w.2 ]
+  quiet-refused (Err AskFault.Memory) a b t A B C D E F G H I J unknown pending sealed memory = quiet-same a b (memory refl)
+
+-- for each connection
+pub ok-each : {Y E Z : Type 0} (r : Result Y E) (P : Y → Z → Type 0) → ((z : Z) → IfOk r (λ x. P x z)) → IfOk r (λ x. (z : Z) → P x z)
+ok-each (Ok x) P w = w
+ok-each (Err e) P w = tt
+
+pub err-each : {Y E Z : Type 0} (r : Result Y E) (P : Z → Type 0) → ((z : Z) → OnErr r (P z)) → OnErr r ((z : Z) → P z)
+err-each (Ok x) P w = tt
+err-each (Err e) P w = w
 
 -- the number of what opens
 pub fresh-number : (r : Result ℕ OpenFault) (n : ℕ) (X Y Z V W : ℕ → Type 0) → IfOk r (λ k. (k ≡ n) × X k × Y k × Z k × V k × W k) → IfOk r (λ k. k ≡ n)
 fresh-number (Ok k) n X Y Z V W w = w.0
 fresh-number (Err e) n X Y Z V W w = tt
-
--- a close
-pub quiet-close : (d : ℕ) (r : Bool) (a b : CoreValue) (w : Written) (X Y : Type 0) → asked_by d w.deed ≡ []
-    → (IsTrue r → (b.entries ≡ a.entries ++ w ∷ []) × X) → (IsFalse r → Y × (b ≡ a)) → asked_on d b.entries ≡ asked_on d a.entries
-quiet-close d true a b w X Y none closed unknown = quiet-one d a b w none (closed refl).0
-quiet-close d false a b w X Y none closed unknown = quiet-same d a b (unknown refl).1
-
--- an ask, and what is behind it in its step
-asked-two : (c : ℕ) (a b : CoreValue) (w x : Written) → asked_by c x.deed ≡ [] → b.entries ≡ (a.entries ++ w ∷ []) ++ x ∷ [] → asked_on c b.entries ≡ asked_on c a.entries ++ asked_by c w.deed
-asked-two c a b w x none entries =
-    ap (asked_on c) entries ∙ quiet-more c (a.entries ++ w ∷ []) (x ∷ []) (ap (λ (s : List Came). s ++ []) none)
-    ∙ asked-append c a.entries (w ∷ []) ∙ ap (λ (s : List Came). asked_on c a.entries ++ s) (append-nil (asked_by c w.deed))
-
-asked-by : (c : ℕ) (s : Sense) (a b : CoreValue) (t word n conn : ℕ) (m : Mapping) → AddsBy s t word n conn m a b → asked_on c b.entries ≡ asked_on c a.entries ++ asked_by c (Asks conn (ask_of m))
-asked-by c (Refuses cause status) a b t word n conn m w = asked-two c a b (written t (Asks conn (ask_of m))) _ refl w.entries
-asked-by c (Requests q) a b t word n conn m (inl w) = asked-two c a b (written t (Asks conn (ask_of m))) _ refl w.1.entries
-asked-by c (Requests q) a b t word n conn m (inr w) = asked-two c a b (written t (Asks conn (ask_of m))) _ refl w.1.entries
-
-pub asked-one : {X E : Type 0} (r : Result X E) (number : X → ℕ) (a b : CoreValue) (t word conn : ℕ) (m : Mapping) → IfOk r (λ x. AddsAsk t word (number x) conn m a b)
-    → IfOk r (λ x. (c : ℕ) → asked_on c b.entries ≡ asked_on c a.entries ++ asked_by c (Asks conn (ask_of m)))
-asked-one (Ok x) number a b t word conn m w = λ c. asked-by c m.sense a b t word (number x) conn m w
-asked-one (Err e) number a b t word conn m w = tt
-
-pub quiet-refused : {X : Type 0} (r : Result X AskFault) (a b : CoreValue) (t : ℕ) (A B C D E F G H I J : Type 0)
-    → (r ≡ Err AskFault.Unknown → A × (b ≡ a))
-    → (r ≡ Err AskFault.Pending → B × (b ≡ a))
-    → (r ≡ Err AskFault.Sealed → C × ((D × (b ≡ a)) ⊎ (E × F × (b.entries ≡ a.entries ++ written t Seals ∷ []) × G × H × I × J)))
-    → (r ≡ Err AskFault.Memory → b ≡ a) → OnErr r ((c : ℕ) → asked_on c b.entries ≡ asked_on c a.entries)
-quiet-refused (Ok x) a b t A B C D E F G H I J unknown pending sealed memory = tt
-quiet-refused (Err AskFault.Unknown) a b t A B C D E F G H I J unknown pending sealed memory = λ c. quiet-same c a b (unknown refl).1
-quiet-refused (Err AskFault.Pending) a b t A B C D E F G H I J unknown pending sealed memory = λ c. quiet-same c a b (pending refl).1
-quiet-refused (Err AskFault.Sealed) a b t A B C D E F G H I J unknown pending sealed memory =
-    elim (sealed refl).1 [ inl w ↦ λ c. quiet-same c a b w.1 | inr w ↦ λ c. quiet-one c a b (written t Seals) refl w.2 ]
-quiet-refused (Err AskFault.Memory) a b t A B C D E F G H I J unknown pending sealed memory = λ c. quiet-same c a b (memory refl)

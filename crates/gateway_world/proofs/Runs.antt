@@ -1,22 +1,22 @@
 -- What connections ask in a run, input by input.
-use Rattle.std.proofs.Common.{◌≡◌, ℕ, zero, suc, ◌+◌, ◌<◌, ◌≤◌, ◌⊎◌, inl, inr, List, [], ◌∷◌, ◌++◌, length, map, take, drop, get_or, refl, sym, ap, subst, ◌∙◌, arith, length-append}
+use Rattle.std.proofs.Common.{◌≡◌, ℕ, zero, suc, ◌+◌, ◌<◌, ◌≤◌, ◌⊎◌, inl, inr, List, [], ◌∷◌, ◌++◌, length, take, drop, get_or, refl, sym, ap, subst, ◌∙◌, arith, length-append}
 use Rattle.std.proofs.Math.ListN.{drop_of_length-le}
 use Rattle.std.proofs.lemmas.Grind.{flat_map-append}
-use Rattle.std.proofs.lemmas.List.{append-nil, map-append, take_all}
+use Rattle.std.proofs.lemmas.List.{append-nil, take_all}
 use Rattle.http_edge.specs.Reading.{Item, AllOpen}
 use Rattle.http_edge.proofs.Readings.{first_on}
-use Rattle.ask_model.specs.Requests.{Came}
+use Rattle.ask_model.specs.Requests.{Came, Sense}
 use Rattle.journal_book.specs.Entries.{Written}
 use Rattle.exchange_core.specs.CoreValue.{connections}
 use Rattle.gateway_world.specs.declared.input.Input.{Input}
 use Rattle.gateway_world.specs.Steps.{Grows}
-use Rattle.gateway_world.specs.Asks.{Inlet, StandsFor, IsOver, asked_on, came_at, ReadsFirst, bytes_on, Heeds, text_on, EndsWithOpen, AsksAll}
+use Rattle.gateway_world.specs.Asks.{Inlet, StandsFor, IsOver, asked_on, AreAsked, ReadsFirst, bytes_on, Heeds, text_on, EndsWithOpen, AsksAll}
 use Rattle.gateway_world.proofs.Counting.{slice_get-kept, slice_get-at}
-use Rattle.gateway_world.proofs.Reading.{reads-on, open-both}
+use Rattle.gateway_world.proofs.Reading.{reads-on, open-both, meant-both}
 use Rattle.gateway_world.proofs.Serving.{connections-more}
 
 -- What the connection asked by the inputs so far, and what it stands for.
-pub record HasAsked (c : ℕ) (done : List Input) (h : List Written) (inlets : List Inlet) : Type 0 where
+pub record HasAsked (M : Came → Sense → Type 0) (c : ℕ) (done : List Input) (h : List Written) (inlets : List Inlet) : Type 0 where
   pub from : ℕ
   pub within : from ≤ length done
   pub opened : EndsWithOpen from done
@@ -24,11 +24,11 @@ pub record HasAsked (c : ℕ) (done : List Input) (h : List Written) (inlets : L
   pub items : List Item
   pub rest : List ℕ
   pub first : ReadsFirst (text_on c (drop from done)) items rest
-  pub asks : asked_on c h ≡ map came_at items
+  pub meant : AreAsked M items (asked_on c h)
   pub left : (AllOpen items × StandsFor inlets c rest) ⊎ IsOver inlets c
 
-abbrev pub SoFar : ℕ → List Input → List Written → List Inlet → Type 0
-SoFar c done h inlets = ((asked_on c h ≡ []) × IsOver inlets c) ⊎ HasAsked c done h inlets
+abbrev pub SoFar : (Came → Sense → Type 0) → ℕ → List Input → List Written → List Inlet → Type 0
+SoFar M c done h inlets = ((asked_on c h ≡ []) × IsOver inlets c) ⊎ HasAsked M c done h inlets
 
 -- What is read of a text is read of a longer one.
 reads-more : (text rest more : List ℕ) (items : List Item) → ReadsFirst text items rest → ReadsFirst (text ++ more) items (rest ++ more)
@@ -51,10 +51,10 @@ ends-more n done x le w = let place = w.2 in (w.0, w.1, w.2, slice_get-kept done
 more-done : {X : Type 0} (xs : List X) (x : X) → length (xs ++ x ∷ []) ≡ length xs + 1
 more-done xs x = length-append xs (x ∷ [])
 
-pub so-far : (c : ℕ) (done : List Input) (x : Input) (a b : List Written) (i j : List Inlet) → Grows a b → SoFar c done a i → Heeds c x.happening a i b j → SoFar c (done ++ x ∷ []) b j
-so-far c done x a b i j grows (inl s) heeds =
+pub so-far : (M : Came → Sense → Type 0) (c : ℕ) (done : List Input) (x : Input) (a b : List Written) (i j : List Inlet) → Grows a b → SoFar M c done a i → Heeds M c x.happening a i b j → SoFar M c (done ++ x ∷ []) b j
+so-far M c done x a b i j grows (inl s) heeds =
     elim (heeds.over s.1) [
-      | inl none ↦ inl (none.asks ∙ s.0, none.over)
+      | inl none ↦ inl (none.asked ∙ s.0, none.over)
       | inr begins ↦
           let w = begins.1 in
           let long = more-done done x in
@@ -66,11 +66,11 @@ so-far c done x a b i j grows (inl s) heeds =
             items = [];
             rest = [];
             first = sym (ap (text_on c) (drop_of_length-le (done ++ x ∷ []) (omega (arith, long))));
-            asks = w.asks ∙ s.0;
+            meant = subst (AreAsked M []) (sym (w.asked ∙ s.0)) tt;
             left = inl (tt, w.stands);
           })
     ]
-so-far c done x a b i j grows (inr s) heeds =
+so-far M c done x a b i j grows (inr s) heeds =
     let long = more-done done x in
     let le = s.within in
     let within : s.from ≤ length (done ++ x ∷ []) = omega (arith, le, long) in
@@ -90,7 +90,7 @@ so-far c done x a b i j grows (inr s) heeds =
             items = s.items ++ y.items;
             rest = y.rest;
             first = reads-on (text_on c (drop s.from (done ++ x ∷ []))) (s.rest ++ more) y.rest s.items y.items first l.0 y.first;
-            asks = y.asks ∙ ap (λ (v : List Came). v ++ map came_at y.items) s.asks ∙ sym (map-append came_at s.items y.items);
+            meant = subst (AreAsked M (s.items ++ y.items)) (sym y.asked) (meant-both M s.items y.items (asked_on c a) y.asks s.meant y.meant);
             left = elim (y.left) [ inl m ↦ inl (open-both s.items y.items l.0 m.0, m.1) | inr o ↦ inr o ];
           })
       | inr o ↦ elim (heeds.over o) [
@@ -103,7 +103,7 @@ so-far c done x a b i j grows (inr s) heeds =
               items = s.items;
               rest = s.rest ++ more;
               first = first;
-              asks = none.asks ∙ s.asks;
+              meant = subst (AreAsked M s.items) (sym none.asked) s.meant;
               left = inr none.over;
             })
         | inr begins ↦ let lt = s.below in let fresh = begins.1.fresh in absurd (omega (arith, lt, fresh))
@@ -111,8 +111,8 @@ so-far c done x a b i j grows (inr s) heeds =
     ]
 
 -- No connection is open at first.
-pub so-far-none : (c : ℕ) (h : List Written) (inlets : List Inlet) → h ≡ [] → inlets ≡ [] → SoFar c [] h inlets
-so-far-none c h inlets none closed = rw (none, closed) (inl (refl, tt))
+pub so-far-none : (M : Came → Sense → Type 0) (c : ℕ) (h : List Written) (inlets : List Inlet) → h ≡ [] → inlets ≡ [] → SoFar M c [] h inlets
+so-far-none M c h inlets none closed = rw (none, closed) (inl (refl, tt))
 
 -- the elements up to one, and it
 take-next : {X : Type 0} (xs : List X) (i : ℕ) (d : X) → i < length xs → take (i + 1) xs ≡ take i xs ++ get_or xs i d ∷ []
@@ -123,14 +123,14 @@ take-next {X} (y ∷ xs) (suc i) d lt =
     subst (λ (n : ℕ). take n (y ∷ xs) ≡ y ∷ (take i xs ++ get_or xs i d ∷ [])) (sym place) (ap (λ (s : List X). y ∷ s) (take-next xs i d (omega (arith, lt))))
 
 -- one input more
-pub so-far-next : (c : ℕ) (inputs : List Input) (n : ℕ) (d : Input) (a b : List Written) (i j : List Inlet) → n < length inputs → Grows a b
-    → SoFar c (take n inputs) a i → Heeds c (get_or inputs n d).happening a i b j → SoFar c (take (n + 1) inputs) b j
-so-far-next c inputs n d a b i j lt grows s heeds = rw (take-next inputs n d lt) (so-far c (take n inputs) (get_or inputs n d) a b i j grows s heeds)
+pub so-far-next : (M : Came → Sense → Type 0) (c : ℕ) (inputs : List Input) (n : ℕ) (d : Input) (a b : List Written) (i j : List Inlet) → n < length inputs → Grows a b
+    → SoFar M c (take n inputs) a i → Heeds M c (get_or inputs n d).happening a i b j → SoFar M c (take (n + 1) inputs) b j
+so-far-next M c inputs n d a b i j lt grows s heeds = rw (take-next inputs n d lt) (so-far M c (take n inputs) (get_or inputs n d) a b i j grows s heeds)
 
 -- all inputs
-pub asks-all : (c : ℕ) (inputs : List Input) (n : ℕ) (h : List Written) (inlets : List Inlet) → length inputs ≤ n → SoFar c (take n inputs) h inlets → AsksAll c inputs h
-asks-all c inputs n h inlets le s =
-    elim (subst (λ (xs : List Input). SoFar c xs h inlets) (take_all n inputs le) s) [
+pub asks-all : (M : Came → Sense → Type 0) (c : ℕ) (inputs : List Input) (n : ℕ) (h : List Written) (inlets : List Inlet) → length inputs ≤ n → SoFar M c (take n inputs) h inlets → AsksAll M c inputs h
+asks-all M c inputs n h inlets le s =
+    elim (subst (λ (xs : List Input). SoFar M c xs h inlets) (take_all n inputs le) s) [
       | inl none ↦ inl none.0
-      | inr w ↦ inr (w.from, record { opened = w.opened; items = w.items; rest = w.rest; first = w.first; asks = w.asks })
+      | inr w ↦ inr (w.from, record { opened = w.opened; items = w.items; rest = w.rest; first = w.first; meant = w.meant })
     ]

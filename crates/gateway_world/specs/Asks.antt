@@ -1,7 +1,7 @@
 -- What is asked of the bytes of connections (RFC 9112, sections 2.2 and 9.3.2).
 use Rattle.std.specs.Prelude.{◌≡◌, ◌⊎◌, ◌<◌, ⊤, ℕ, ◌==◌, Bool, true, false, length, List, [], ◌∷◌, ◌++◌, ◌+◌, drop, slice_get, map, flat_map, Option, Some, None, if◌then◌else◌}
 use Rattle.http_edge.specs.Reading.{Item, asked, bad, First, closes, AllOpen}
-use Rattle.ask_model.specs.Requests.{Came, Whole, Bad}
+use Rattle.ask_model.specs.Requests.{Came, Whole, Bad, Sense, Ask}
 use Rattle.journal_book.specs.Entries.{Deed, Asks, Written}
 use Rattle.exchange_core.specs.CoreValue.{connections}
 use Rattle.gateway_world.specs.declared.input.Input.{Input}
@@ -45,17 +45,23 @@ abbrev pub IsOver : List Inlet → ℕ → Type 0
 IsOver inlets c = ReadsNoMore (inbox_at c inlets)
 
 -- what the entries ask on the connection, in order
-abbrev pub asked_by : ℕ → Deed → List Came
-asked_by c (Asks d ask) = if d == c then ask.came ∷ [] else []
+abbrev pub asked_by : ℕ → Deed → List Ask
+asked_by c (Asks d ask) = if d == c then ask ∷ [] else []
 asked_by c _ = []
 
-abbrev pub asked_on : ℕ → List Written → List Came
+abbrev pub asked_on : ℕ → List Written → List Ask
 asked_on c h = flat_map (λ (w : Written). asked_by c w.deed) h
 
 -- what an item of a text brings: a request, too large a one, or bytes that are none
 abbrev pub came_at : Item → Came
 came_at (asked r) = limited (Whole r)
 came_at (bad kind) = limited (Bad kind)
+
+-- In order, each ask is of its item, with the meaning of what the item brings.
+abbrev pub AreAsked : (Came → Sense → Type 0) → List Item → List Ask → Type 0
+AreAsked IsMeaning [] [] = ⊤
+AreAsked IsMeaning (i ∷ items) (a ∷ asks) = (a.came ≡ came_at i) × IsMeaning a.came a.sense × AreAsked IsMeaning items asks
+AreAsked IsMeaning _ _ = ⊥
 
 -- The text begins with those items, one behind the other, and goes on with the rest; behind one that closes the
 -- connection nothing is read.
@@ -65,17 +71,19 @@ ReadsFirst text (i ∷ items) rest =
     (behind : List ℕ) × First text i behind × ReadsFirst behind items rest × (closes i ≡ true → items ≡ [])
 
 -- Between two histories the connection asks the first items of the text, and then stands for the rest, or for
--- nothing more.
-pub record AsksFirst (c : ℕ) (text : List ℕ) (old new : List Written) (inlets : List Inlet) : Type 0 where
+-- nothing more. What a request means is given.
+pub record AsksFirst (IsMeaning : Came → Sense → Type 0) (c : ℕ) (text : List ℕ) (old new : List Written) (inlets : List Inlet) : Type 0 where
   pub items : List Item
   pub rest : List ℕ
   pub first : ReadsFirst text items rest
-  pub asks : asked_on c new ≡ asked_on c old ++ map came_at items
+  pub asks : List Ask
+  pub meant : AreAsked IsMeaning items asks
+  pub asked : asked_on c new ≡ asked_on c old ++ asks
   pub left : (AllOpen items × StandsFor inlets c rest) ⊎ IsOver inlets c
 
 -- Where nothing more is read, nothing is asked.
 pub record AsksNothing (c : ℕ) (old new : List Written) (inlets : List Inlet) : Type 0 where
-  pub asks : asked_on c new ≡ asked_on c old
+  pub asked : asked_on c new ≡ asked_on c old
   pub over : IsOver inlets c
 
 -- A connection opens: it stands for no bytes yet.
@@ -83,7 +91,7 @@ pub record Begins (c : ℕ) (old : List Written) (before : List Inlet) (new : Li
   pub fresh : c ≡ connections old
   pub opened : c < connections new
   pub closed : IsOver before c
-  pub asks : asked_on c new ≡ asked_on c old
+  pub asked : asked_on c new ≡ asked_on c old
   pub stands : StandsFor after c []
 
 -- what an input brings on the connection
@@ -92,8 +100,8 @@ bytes_on c (H.Bytes d bytes) = if d == c then bytes.now else []
 bytes_on c _ = []
 
 -- What an input leads to on the connection: it asks what its text brings with the bytes that came in; or it opens.
-pub record Heeds (c : ℕ) (happening : Happening) (old : List Written) (before : List Inlet) (new : List Written) (after : List Inlet) : Type 0 where
-  pub reads : (text : List ℕ) → StandsFor before c text → AsksFirst c (text ++ bytes_on c happening) old new after
+pub record Heeds (IsMeaning : Came → Sense → Type 0) (c : ℕ) (happening : Happening) (old : List Written) (before : List Inlet) (new : List Written) (after : List Inlet) : Type 0 where
+  pub reads : (text : List ℕ) → StandsFor before c text → AsksFirst IsMeaning c (text ++ bytes_on c happening) old new after
   pub over : IsOver before c → AsksNothing c old new after ⊎ ((happening ≡ H.Open) × Begins c old before new after)
 
 -- what the inputs bring on the connection, in order
@@ -106,15 +114,15 @@ EndsWithOpen n inputs = (m : ℕ) × (i : Input) × (n ≡ m + 1) × (slice_get 
 
 -- What the connection asks in a run are the first items of the text that the inputs bring on it, behind the one
 -- with which it opened. A connection that didn't open asks nothing.
-pub record AsksBehind (c from : ℕ) (inputs : List Input) (h : List Written) : Type 0 where
+pub record AsksBehind (IsMeaning : Came → Sense → Type 0) (c from : ℕ) (inputs : List Input) (h : List Written) : Type 0 where
   pub opened : EndsWithOpen from inputs
   pub items : List Item
   pub rest : List ℕ
   pub first : ReadsFirst (text_on c (drop from inputs)) items rest
-  pub asks : asked_on c h ≡ map came_at items
+  pub meant : AreAsked IsMeaning items (asked_on c h)
 
-abbrev pub AsksAll : ℕ → List Input → List Written → Type 0
-AsksAll c inputs h = (asked_on c h ≡ []) ⊎ ((from : ℕ) × AsksBehind c from inputs h)
+abbrev pub AsksAll : (Came → Sense → Type 0) → ℕ → List Input → List Written → Type 0
+AsksAll IsMeaning c inputs h = (asked_on c h ≡ []) ⊎ ((from : ℕ) × AsksBehind IsMeaning c from inputs h)
 
 -- So many bytes more of the connection would be too many.
 abbrev pub is_full_in : Option Inbox → ℕ → Bool

@@ -1,11 +1,14 @@
 pub mod AskSteps
 pub mod Asks
+pub mod Closing
 pub mod CoreSteps
 pub mod Entering
 pub mod Inboxes
 pub mod Limits
 pub mod Located
+pub mod Making
 pub mod Means
+pub mod Prompt
 pub mod Rows
 pub mod Steps
 pub mod Worlds

@@ -1,16 +1,22 @@
 //! What an input leads to, step by step.
 
-ghost use Rattle.std.specs.Prelude.{ℕ, List, ◌≡◌, ◌≢◌, ◌++◌, [], None, IfSome, OnOk};
+ghost use Rattle.std.specs.Prelude.{ℕ, List, ◌≡◌, ◌≢◌, ◌<◌, ◌++◌, [], true, false, None, IfOk, IfSome, OnOk};
+ghost use Rattle.std.specs.Arc.{arc_value};
 ghost use Rattle.http_edge.specs.Edges.{item};
+ghost use Rattle.ask_model.specs.Views.{rules_of};
+ghost use Rattle.ask_model.specs.Maps.{Maps};
 ghost use Rattle.exchange_core.specs.CoreValue.{now};
 ghost use Rattle.gateway_world.specs.Entering.{Enters, EntersOpen, EntersDatagram, EntersTick, EntersClose};
 ghost use Rattle.gateway_world.specs.Asks.{inlets_of, AsksNothing, AsksFirst, StandsFor, IsOver, Heeds};
+ghost use Rattle.gateway_world.specs.Making.{Makes};
+ghost use Rattle.gateway_world.specs.Closing.{Closes, TellsClosings, shut_in, closed_if};
+ghost use Rattle.gateway_world.specs.Prompt.{IsPrompt, IsPromptOn, LeavesConnections, work_at};
 ghost use Rattle.gateway_world.specs.AskSteps.{AsksInOrder, AsksOn, AsksOne, AsksNone};
 ghost use Rattle.gateway_world.specs.Steps.{Advances, Leads};
 ghost use Rattle.gateway_world.specs.Rows.{Serves, Settled, Attended, LeavesOthers, IsServedOn, IsFirstAnswered, IsRow, rows_of, without_row};
 
 use crate::fields::closes;
-use crate::inbox::{Next, REQUESTS};
+use crate::inbox::Next;
 use crate::input::{Happening, Output};
 use crate::mapping::map_request;
 use crate::stepping::{When, ask_in, close_in, hear_in, open_in, send_from, tick_in};
@@ -24,11 +30,17 @@ use std::sync::Arc;
 use transformers::Relation;
 use uri_map::Peer;
 
+/// What the steps of an input share: when it is, and the settings.
+#[derive(Clone, Copy)]
+pub struct Context<'a> {
+    pub when: When,
+    pub settings: &'a Arc<Settings>,
+}
+
 /// A core with the connections that it serves.
 #[derive(Drop)]
 pub struct Engine<R: Relation> {
     pub alloc: Global,
-    pub settings: Arc<Settings>,
     pub core: Core<R>,
     pub table: Table<R>,
 }
@@ -37,41 +49,47 @@ impl<R: Relation> Engine<R> {
     /// Does what happens leads to.
     pub fn step(
         &mut self,
-        when: When,
+        context: Context<'_>,
         happening: Happening<'_>,
         outputs: &mut Vec<Output>,
     ) -> Result<(), Memory>
         requires { Serves self.old.core (rows_of self.old.table) }
         ensures leads { Leads result self.old.core self.new.core outputs.old.items outputs.new.items }
         ensures kept { Serves self.new.core (rows_of self.new.table) }
-        ensures enters { OnOk result (Enters happening.entry (now self.old.core.moment when.moment) self.old.core self.new.core outputs.old.items outputs.new.items) }
-        ensures asks { OnOk result ((c : ℕ) → Heeds c happening.entry self.old.core.entries (inlets_of self.old.table) self.new.core.entries (inlets_of self.new.table)) }
+        ensures made { Makes context.entry.when self.old.core self.new.core }
+        ensures closes { OnOk result (Closes happening.entry self.old.core.entries self.new.core.entries outputs.old.items outputs.new.items) }
+        ensures prompt { OnOk result (IsPrompt (rows_of self.old.table) (inlets_of self.old.table) → IsPrompt (rows_of self.new.table) (inlets_of self.new.table)) }
+        ensures enters { OnOk result (Enters happening.entry (now self.old.core.moment context.entry.when.moment) self.old.core self.new.core outputs.old.items outputs.new.items) }
+        ensures asks { OnOk result ((c : ℕ) → Heeds (Maps R.holds R.takes (rules_of (arc_value context.entry.settings.now))) c happening.entry self.old.core.entries (inlets_of self.old.table) self.new.core.entries (inlets_of self.new.table)) }
         ensures settled { OnOk result (Settled self.old.core → Settled self.new.core) }
     {
         match happening {
-            Happening::Open => self.open(when, outputs),
-            Happening::Bytes(number, bytes) => self.bytes(when, number, bytes, outputs),
-            Happening::Datagram(peer, bytes) => self.heard(when, peer, bytes, outputs),
-            Happening::Tick => self.tick(when, outputs),
+            Happening::Open => self.open(context, outputs),
+            Happening::Bytes(number, bytes) => self.bytes(context, number, bytes, outputs),
+            Happening::Datagram(peer, bytes) => self.heard(context, peer, bytes, outputs),
+            Happening::Tick => self.tick(context, outputs),
             Happening::Close(number) => {
-                self.close(when, number);
+                self.close(context, number);
                 Ok(())
             }
         }
     }
 
     /// Opens a connection, or turns the client away.
-    fn open(&mut self, when: When, outputs: &mut Vec<Output>) -> Result<(), Memory>
+    fn open(&mut self, context: Context<'_>, outputs: &mut Vec<Output>) -> Result<(), Memory>
         requires { Serves self.old.core (rows_of self.old.table) }
         ensures leads { Leads result self.old.core self.new.core outputs.old.items outputs.new.items }
         ensures kept { Serves self.new.core (rows_of self.new.table) }
-        ensures enters { OnOk result (EntersOpen (now self.old.core.moment when.moment) self.old.core self.new.core outputs.old.items outputs.new.items) }
-        ensures asks { OnOk result ((c : ℕ) → Heeds c Happening.Open self.old.core.entries (inlets_of self.old.table) self.new.core.entries (inlets_of self.new.table)) }
+        ensures made { Makes context.entry.when self.old.core self.new.core }
+        ensures closes { OnOk result (TellsClosings self.old.core.entries self.new.core.entries outputs.old.items outputs.new.items) }
+        ensures prompt { OnOk result (IsPrompt (rows_of self.old.table) (inlets_of self.old.table) → IsPrompt (rows_of self.new.table) (inlets_of self.new.table)) }
+        ensures enters { OnOk result (EntersOpen (now self.old.core.moment context.entry.when.moment) self.old.core self.new.core outputs.old.items outputs.new.items) }
+        ensures asks { OnOk result ((c : ℕ) → Heeds (Maps R.holds R.takes (rules_of (arc_value context.entry.settings.now))) c Happening.Open self.old.core.entries (inlets_of self.old.table) self.new.core.entries (inlets_of self.new.table)) }
         ensures settled { OnOk result (Settled self.old.core → Settled self.new.core) }
     {
         let edge = Edge::new(self.alloc)?;
         self.table.make_room()?;
-        match open_in(&mut self.core, when) {
+        match open_in(&mut self.core, context.when) {
             Ok(number) => {
                 self.table.add(number, edge);
                 Ok(())
@@ -83,7 +101,7 @@ impl<R: Relation> Engine<R> {
     /// Takes bytes of the connection.
     fn bytes(
         &mut self,
-        when: When,
+        context: Context<'_>,
         number: u32,
         bytes: &[u8],
         outputs: &mut Vec<Output>,
@@ -91,19 +109,22 @@ impl<R: Relation> Engine<R> {
         requires { Serves self.old.core (rows_of self.old.table) }
         ensures leads { Leads result self.old.core self.new.core outputs.old.items outputs.new.items }
         ensures kept { Serves self.new.core (rows_of self.new.table) }
-        ensures others { OnOk result ((c : ℕ) → c ≢ number → AsksOn c self.old.core.entries (inlets_of self.old.table) self.new.core.entries (inlets_of self.new.table)) }
-        ensures reads { OnOk result ((text : List ℕ) → StandsFor (inlets_of self.old.table) number text → AsksFirst number (text ++ bytes.now) self.old.core.entries self.new.core.entries (inlets_of self.new.table)) }
+        ensures made { Makes context.entry.when self.old.core self.new.core }
+        ensures closes { OnOk result (TellsClosings self.old.core.entries self.new.core.entries outputs.old.items outputs.new.items) }
+        ensures prompt { OnOk result (IsPrompt (rows_of self.old.table) (inlets_of self.old.table) → IsPrompt (rows_of self.new.table) (inlets_of self.new.table)) }
+        ensures others { OnOk result ((c : ℕ) → c ≢ number → AsksOn (Maps R.holds R.takes (rules_of (arc_value context.entry.settings.now))) c self.old.core.entries (inlets_of self.old.table) self.new.core.entries (inlets_of self.new.table)) }
+        ensures reads { OnOk result ((text : List ℕ) → StandsFor (inlets_of self.old.table) number text → AsksFirst (Maps R.holds R.takes (rules_of (arc_value context.entry.settings.now))) number (text ++ bytes.now) self.old.core.entries self.new.core.entries (inlets_of self.new.table)) }
         ensures over { OnOk result (IsOver (inlets_of self.old.table) number → AsksNothing number self.old.core.entries self.new.core.entries (inlets_of self.new.table)) }
         ensures settled { OnOk result (Settled self.old.core → Settled self.new.core) }
     {
         self.table.append(number, bytes)?;
-        self.serve(when, number, outputs)
+        self.serve(context, number, outputs)
     }
 
     /// Takes a datagram.
     fn heard(
         &mut self,
-        when: When,
+        context: Context<'_>,
         peer: Peer,
         bytes: &[u8],
         outputs: &mut Vec<Output>,
@@ -111,67 +132,84 @@ impl<R: Relation> Engine<R> {
         requires { Serves self.old.core (rows_of self.old.table) }
         ensures leads { Leads result self.old.core self.new.core outputs.old.items outputs.new.items }
         ensures kept { Serves self.new.core (rows_of self.new.table) }
-        ensures enters { OnOk result (EntersDatagram (now self.old.core.moment when.moment) peer bytes.now self.old.core self.new.core) }
-        ensures asks { OnOk result (AsksInOrder self.old.core.entries (inlets_of self.old.table) self.new.core.entries (inlets_of self.new.table)) }
+        ensures made { Makes context.entry.when self.old.core self.new.core }
+        ensures closes { OnOk result (TellsClosings self.old.core.entries self.new.core.entries outputs.old.items outputs.new.items) }
+        ensures prompt { OnOk result (IsPrompt (rows_of self.old.table) (inlets_of self.old.table) → IsPrompt (rows_of self.new.table) (inlets_of self.new.table)) }
+        ensures enters { OnOk result (EntersDatagram (now self.old.core.moment context.entry.when.moment) peer bytes.now self.old.core self.new.core) }
+        ensures asks { OnOk result (AsksInOrder (Maps R.holds R.takes (rules_of (arc_value context.entry.settings.now))) self.old.core.entries (inlets_of self.old.table) self.new.core.entries (inlets_of self.new.table)) }
         ensures settled { OnOk result (Settled self.old.core → Settled self.new.core) }
     {
-        hear_in(&mut self.core, when, peer, bytes)?;
-        self.deliver(when, outputs)
+        hear_in(&mut self.core, context.when, peer, bytes)?;
+        self.deliver(context, outputs)
     }
 
     /// Lets time go on.
-    fn tick(&mut self, when: When, outputs: &mut Vec<Output>) -> Result<(), Memory>
+    fn tick(&mut self, context: Context<'_>, outputs: &mut Vec<Output>) -> Result<(), Memory>
         requires { Serves self.old.core (rows_of self.old.table) }
         ensures leads { Leads result self.old.core self.new.core outputs.old.items outputs.new.items }
         ensures kept { Serves self.new.core (rows_of self.new.table) }
-        ensures enters { OnOk result (EntersTick (now self.old.core.moment when.moment) self.old.core self.new.core) }
-        ensures asks { OnOk result (AsksInOrder self.old.core.entries (inlets_of self.old.table) self.new.core.entries (inlets_of self.new.table)) }
+        ensures made { Makes context.entry.when self.old.core self.new.core }
+        ensures closes { OnOk result (TellsClosings self.old.core.entries self.new.core.entries outputs.old.items outputs.new.items) }
+        ensures prompt { OnOk result (IsPrompt (rows_of self.old.table) (inlets_of self.old.table) → IsPrompt (rows_of self.new.table) (inlets_of self.new.table)) }
+        ensures enters { OnOk result (EntersTick (now self.old.core.moment context.entry.when.moment) self.old.core self.new.core) }
+        ensures asks { OnOk result (AsksInOrder (Maps R.holds R.takes (rules_of (arc_value context.entry.settings.now))) self.old.core.entries (inlets_of self.old.table) self.new.core.entries (inlets_of self.new.table)) }
         ensures settled { OnOk result (Settled self.old.core → Settled self.new.core) }
     {
-        tick_in(&mut self.core, when)?;
-        self.deliver(when, outputs)
+        tick_in(&mut self.core, context.when)?;
+        self.deliver(context, outputs)
     }
 
-    /// Closes the connection, where it is open.
-    fn close(&mut self, when: When, number: u32)
+    /// Closes the connection. False where it isn't open.
+    fn close(&mut self, context: Context<'_>, number: u32) -> bool
         requires { Serves self.old.core (rows_of self.old.table) }
         ensures advances { Advances self.old.core self.new.core }
         ensures kept { Serves self.new.core (rows_of self.new.table) }
-        ensures enters { EntersClose (now self.old.core.moment when.moment) number self.old.core self.new.core }
+        ensures made { Makes context.entry.when self.old.core self.new.core }
+        ensures closes { shut_in self.new.core.entries ≡ shut_in self.old.core.entries ++ closed_if result number }
+        ensures apart { LeavesConnections number (rows_of self.old.table) (inlets_of self.old.table) (rows_of self.new.table) (inlets_of self.new.table) }
+        ensures prompt { IsPrompt (rows_of self.old.table) (inlets_of self.old.table) → IsPrompt (rows_of self.new.table) (inlets_of self.new.table) }
+        ensures enters { EntersClose (now self.old.core.moment context.entry.when.moment) number self.old.core self.new.core }
         ensures asks { AsksNone number self.old.core.entries (inlets_of self.old.table) self.new.core.entries (inlets_of self.new.table) }
         ensures over { IsOver (inlets_of self.new.table) number }
         ensures rows { rows_of self.new.table ≡ without_row number (rows_of self.old.table) }
         ensures answers { self.new.core.answers ≡ self.old.core.answers }
         ensures sends { self.new.core.sends ≡ self.old.core.sends }
     {
-        close_in(&mut self.core, when, number);
+        let closed = close_in(&mut self.core, context.when, number);
         self.table.remove(number);
+        closed
     }
 
     /// Gives out the datagrams and the answers of a step, the answers by the numbers of their asks.
-    fn deliver(&mut self, when: When, outputs: &mut Vec<Output>) -> Result<(), Memory>
+    fn deliver(&mut self, context: Context<'_>, outputs: &mut Vec<Output>) -> Result<(), Memory>
         requires { Serves self.old.core (rows_of self.old.table) }
         ensures leads { Leads result self.old.core self.new.core outputs.old.items outputs.new.items }
         ensures kept { Serves self.new.core (rows_of self.new.table) }
+        ensures made { Makes context.entry.when self.old.core self.new.core }
+        ensures closes { OnOk result (TellsClosings self.old.core.entries self.new.core.entries outputs.old.items outputs.new.items) }
+        ensures prompt { OnOk result (IsPrompt (rows_of self.old.table) (inlets_of self.old.table) → IsPrompt (rows_of self.new.table) (inlets_of self.new.table)) }
         ensures quiet { OnOk result (self.old.core.answers ≡ [] → self.new.core.entries ≡ self.old.core.entries) }
-        ensures asks { OnOk result (AsksInOrder self.old.core.entries (inlets_of self.old.table) self.new.core.entries (inlets_of self.new.table)) }
+        ensures asks { OnOk result (AsksInOrder (Maps R.holds R.takes (rules_of (arc_value context.entry.settings.now))) self.old.core.entries (inlets_of self.old.table) self.new.core.entries (inlets_of self.new.table)) }
         ensures settled { OnOk result (Attended self.old.core (rows_of self.old.table) → Settled self.new.core) }
     {
         send_from(&mut self.core, outputs)?;
-        self.answer_all(when, outputs)
+        self.answer_all(context, outputs)
     }
 
     /// Gives out the answers that are there, by the numbers of their asks.
-    fn answer_all(&mut self, when: When, outputs: &mut Vec<Output>) -> Result<(), Memory>
+    fn answer_all(&mut self, context: Context<'_>, outputs: &mut Vec<Output>) -> Result<(), Memory>
         requires { Serves self.old.core (rows_of self.old.table) }
         ensures leads { Leads result self.old.core self.new.core outputs.old.items outputs.new.items }
         ensures kept { Serves self.new.core (rows_of self.new.table) }
+        ensures made { Makes context.entry.when self.old.core self.new.core }
+        ensures closes { OnOk result (TellsClosings self.old.core.entries self.new.core.entries outputs.old.items outputs.new.items) }
+        ensures prompt { OnOk result (IsPrompt (rows_of self.old.table) (inlets_of self.old.table) → IsPrompt (rows_of self.new.table) (inlets_of self.new.table)) }
         ensures quiet { OnOk result (self.old.core.answers ≡ [] → self.new.core.entries ≡ self.old.core.entries) }
-        ensures asks { OnOk result (AsksInOrder self.old.core.entries (inlets_of self.old.table) self.new.core.entries (inlets_of self.new.table)) }
+        ensures asks { OnOk result (AsksInOrder (Maps R.holds R.takes (rules_of (arc_value context.entry.settings.now))) self.old.core.entries (inlets_of self.old.table) self.new.core.entries (inlets_of self.new.table)) }
         ensures settled { OnOk result (self.old.core.sends ≡ [] → Attended self.old.core (rows_of self.old.table) → Settled self.new.core) }
     {
         'each: while let Some(number) = self.first_answered() {
-            self.answer(when, number, outputs)?;
+            self.answer(context, number, outputs)?;
         }
         Ok(())
     }
@@ -187,50 +225,69 @@ impl<R: Relation> Engine<R> {
 
     /// Gives out the answer that the connection waits for, if it is there, and what its further
     /// requests give.
-    fn answer(&mut self, when: When, number: u32, outputs: &mut Vec<Output>) -> Result<(), Memory>
+    fn answer(
+        &mut self,
+        context: Context<'_>,
+        number: u32,
+        outputs: &mut Vec<Output>,
+    ) -> Result<(), Memory>
         requires { Serves self.old.core (rows_of self.old.table) }
         ensures leads { Leads result self.old.core self.new.core outputs.old.items outputs.new.items }
         ensures kept { Serves self.new.core (rows_of self.new.table) }
-        ensures asks { OnOk result (AsksInOrder self.old.core.entries (inlets_of self.old.table) self.new.core.entries (inlets_of self.new.table)) }
+        ensures made { Makes context.entry.when self.old.core self.new.core }
+        ensures closes { OnOk result (TellsClosings self.old.core.entries self.new.core.entries outputs.old.items outputs.new.items) }
+        ensures prompt { OnOk result (IsPromptOn number (rows_of self.new.table) (inlets_of self.new.table)) }
+        ensures apart { OnOk result (LeavesConnections number (rows_of self.old.table) (inlets_of self.old.table) (rows_of self.new.table) (inlets_of self.new.table)) }
+        ensures asks { OnOk result (AsksInOrder (Maps R.holds R.takes (rules_of (arc_value context.entry.settings.now))) self.old.core.entries (inlets_of self.old.table) self.new.core.entries (inlets_of self.new.table)) }
         ensures leaves { OnOk result (LeavesOthers number self.old.core (rows_of self.old.table) self.new.core (rows_of self.new.table)) }
         ensures told { OnOk result (IsServedOn number self.new.core (rows_of self.new.table)) }
         ensures sent { OnOk result (self.old.core.sends ≡ [] → self.new.core.sends ≡ []) }
         ensures attended { OnOk result (Attended self.old.core (rows_of self.old.table) → Attended self.new.core (rows_of self.new.table)) }
     {
-        self.give(when, number, outputs)?;
-        self.serve(when, number, outputs)
+        self.give(context, number, outputs)?;
+        self.serve(context, number, outputs)
     }
 
     /// Asks what the connection's bytes ask, until one waits for its answer.
-    fn serve(&mut self, when: When, number: u32, outputs: &mut Vec<Output>) -> Result<(), Memory>
+    fn serve(
+        &mut self,
+        context: Context<'_>,
+        number: u32,
+        outputs: &mut Vec<Output>,
+    ) -> Result<(), Memory>
         requires { Serves self.old.core (rows_of self.old.table) }
         ensures leads { Leads result self.old.core self.new.core outputs.old.items outputs.new.items }
         ensures kept { Serves self.new.core (rows_of self.new.table) }
-        ensures asks { OnOk result (AsksInOrder self.old.core.entries (inlets_of self.old.table) self.new.core.entries (inlets_of self.new.table)) }
+        ensures made { Makes context.entry.when self.old.core self.new.core }
+        ensures closes { OnOk result (TellsClosings self.old.core.entries self.new.core.entries outputs.old.items outputs.new.items) }
+        ensures prompt { OnOk result (IsPromptOn number (rows_of self.new.table) (inlets_of self.new.table)) }
+        ensures apart { OnOk result (LeavesConnections number (rows_of self.old.table) (inlets_of self.old.table) (rows_of self.new.table) (inlets_of self.new.table)) }
+        ensures asks { OnOk result (AsksInOrder (Maps R.holds R.takes (rules_of (arc_value context.entry.settings.now))) self.old.core.entries (inlets_of self.old.table) self.new.core.entries (inlets_of self.new.table)) }
         ensures leaves { OnOk result (LeavesOthers number self.old.core (rows_of self.old.table) self.new.core (rows_of self.new.table)) }
         ensures told { OnOk result (IsServedOn number self.old.core (rows_of self.old.table) → IsServedOn number self.new.core (rows_of self.new.table)) }
         ensures sent { OnOk result (self.old.core.sends ≡ [] → self.new.core.sends ≡ []) }
         ensures attended { OnOk result (Attended self.old.core (rows_of self.old.table) → Attended self.new.core (rows_of self.new.table)) }
     {
-        'each: for _ in 0..REQUESTS {
-            if !self.serve_next(when, number, outputs)? {
-                return Ok(());
-            }
-        }
+        'each: while self.serve_next(context, number, outputs)? {}
         Ok(())
     }
 
     /// Asks what the connection's bytes ask next. False where that is nothing.
     fn serve_next(
         &mut self,
-        when: When,
+        context: Context<'_>,
         number: u32,
         outputs: &mut Vec<Output>,
     ) -> Result<bool, Memory>
         requires { Serves self.old.core (rows_of self.old.table) }
         ensures leads { Leads result self.old.core self.new.core outputs.old.items outputs.new.items }
         ensures kept { Serves self.new.core (rows_of self.new.table) }
-        ensures asks { OnOk result (AsksInOrder self.old.core.entries (inlets_of self.old.table) self.new.core.entries (inlets_of self.new.table)) }
+        ensures made { Makes context.entry.when self.old.core self.new.core }
+        ensures closes { OnOk result (TellsClosings self.old.core.entries self.new.core.entries outputs.old.items outputs.new.items) }
+        ensures less { IfOk result (λ more. more ≡ true → work_at number (inlets_of self.new.table) < work_at number (inlets_of self.old.table)) }
+        ensures prompt { IfOk result (λ more. more ≡ false → IsPromptOn number (rows_of self.new.table) (inlets_of self.new.table)) }
+        ensures apart { OnOk result (LeavesConnections number (rows_of self.old.table) (inlets_of self.old.table) (rows_of self.new.table) (inlets_of self.new.table)) }
+        ensures asks { OnOk result (AsksInOrder (Maps R.holds R.takes (rules_of (arc_value context.entry.settings.now))) self.old.core.entries (inlets_of self.old.table) self.new.core.entries (inlets_of self.new.table)) }
         ensures leaves { OnOk result (LeavesOthers number self.old.core (rows_of self.old.table) self.new.core (rows_of self.new.table)) }
         ensures told { OnOk result (IsServedOn number self.old.core (rows_of self.old.table) → IsServedOn number self.new.core (rows_of self.new.table)) }
         ensures sent { OnOk result (self.old.core.sends ≡ [] → self.new.core.sends ≡ []) }
@@ -238,7 +295,7 @@ impl<R: Relation> Engine<R> {
     {
         match self.table.next(number)? {
             Next::Request(incoming) => {
-                self.ask(when, number, incoming, outputs)?;
+                self.ask(context, number, incoming, outputs)?;
                 Ok(true)
             }
             Next::Continue => {
@@ -253,7 +310,7 @@ impl<R: Relation> Engine<R> {
     /// doesn't take closes it.
     fn ask(
         &mut self,
-        when: When,
+        context: Context<'_>,
         number: u32,
         incoming: Incoming,
         outputs: &mut Vec<Output>,
@@ -262,33 +319,44 @@ impl<R: Relation> Engine<R> {
         requires idle { IsRow (rows_of self.old.table) number None }
         ensures leads { Leads result self.old.core self.new.core outputs.old.items outputs.new.items }
         ensures kept { Serves self.new.core (rows_of self.new.table) }
-        ensures asks { OnOk result (AsksOne (item incoming) number self.old.core.entries (inlets_of self.old.table) self.new.core.entries (inlets_of self.new.table)) }
+        ensures made { Makes context.entry.when self.old.core self.new.core }
+        ensures closes { OnOk result (TellsClosings self.old.core.entries self.new.core.entries outputs.old.items outputs.new.items) }
+        ensures apart { OnOk result (LeavesConnections number (rows_of self.old.table) (inlets_of self.old.table) (rows_of self.new.table) (inlets_of self.new.table)) }
+        ensures asks { OnOk result (AsksOne (Maps R.holds R.takes (rules_of (arc_value context.entry.settings.now))) (item incoming) number self.old.core.entries (inlets_of self.old.table) self.new.core.entries (inlets_of self.new.table)) }
         ensures leaves { OnOk result (LeavesOthers number self.old.core (rows_of self.old.table) self.new.core (rows_of self.new.table)) }
         ensures told { OnOk result (IsServedOn number self.new.core (rows_of self.new.table)) }
         ensures sent { OnOk result (self.old.core.sends ≡ [] → self.new.core.sends ≡ []) }
         ensures attended { OnOk result (Attended self.old.core (rows_of self.old.table) → Attended self.new.core (rows_of self.new.table)) }
     {
-        let mapped = map_request(self.alloc, &self.settings, incoming)?;
+        let mapped = map_request(self.alloc, context.settings, incoming)?;
         let mapped = Arc::new(self.alloc, mapped)?;
-        match ask_in(&mut self.core, when, number, mapped) {
+        match ask_in(&mut self.core, context.when, number, mapped) {
             Ok(ticket) => {
                 self.table.set_ticket(number, Some(ticket));
                 send_from(&mut self.core, outputs)?;
-                self.give(when, number, outputs)
+                self.give(context, number, outputs)
             }
             Err(AskFault::Memory) => Err(Memory),
             Err(AskFault::Unknown | AskFault::Pending | AskFault::Sealed) => {
-                self.shut(when, number, outputs)
+                self.shut(context, number, outputs)
             }
         }
     }
 
     /// Gives out the answer that the connection waits for, if it is there, and closes the connection
     /// where it is the last.
-    fn give(&mut self, when: When, number: u32, outputs: &mut Vec<Output>) -> Result<(), Memory>
+    fn give(
+        &mut self,
+        context: Context<'_>,
+        number: u32,
+        outputs: &mut Vec<Output>,
+    ) -> Result<(), Memory>
         requires { Serves self.old.core (rows_of self.old.table) }
         ensures leads { Leads result self.old.core self.new.core outputs.old.items outputs.new.items }
         ensures kept { Serves self.new.core (rows_of self.new.table) }
+        ensures made { Makes context.entry.when self.old.core self.new.core }
+        ensures closes { OnOk result (TellsClosings self.old.core.entries self.new.core.entries outputs.old.items outputs.new.items) }
+        ensures apart { OnOk result (LeavesConnections number (rows_of self.old.table) (inlets_of self.old.table) (rows_of self.new.table) (inlets_of self.new.table)) }
         ensures asks { OnOk result (AsksNone number self.old.core.entries (inlets_of self.old.table) self.new.core.entries (inlets_of self.new.table)) }
         ensures leaves { OnOk result (LeavesOthers number self.old.core (rows_of self.old.table) self.new.core (rows_of self.new.table)) }
         ensures told { OnOk result (IsServedOn number self.new.core (rows_of self.new.table)) }
@@ -304,17 +372,25 @@ impl<R: Relation> Engine<R> {
         self.table.set_ticket(number, None);
         tell_answer(self.alloc, number, &answer, outputs)?;
         if closes(answer.mapped.came()) {
-            self.shut(when, number, outputs)
+            self.shut(context, number, outputs)
         } else {
             Ok(())
         }
     }
 
     /// Closes the connection by the proxy's own choice.
-    fn shut(&mut self, when: When, number: u32, outputs: &mut Vec<Output>) -> Result<(), Memory>
+    fn shut(
+        &mut self,
+        context: Context<'_>,
+        number: u32,
+        outputs: &mut Vec<Output>,
+    ) -> Result<(), Memory>
         requires { Serves self.old.core (rows_of self.old.table) }
         ensures leads { Leads result self.old.core self.new.core outputs.old.items outputs.new.items }
         ensures kept { Serves self.new.core (rows_of self.new.table) }
+        ensures made { Makes context.entry.when self.old.core self.new.core }
+        ensures closes { OnOk result (TellsClosings self.old.core.entries self.new.core.entries outputs.old.items outputs.new.items) }
+        ensures apart { OnOk result (LeavesConnections number (rows_of self.old.table) (inlets_of self.old.table) (rows_of self.new.table) (inlets_of self.new.table)) }
         ensures asks { OnOk result (AsksNone number self.old.core.entries (inlets_of self.old.table) self.new.core.entries (inlets_of self.new.table)) }
         ensures over { OnOk result (IsOver (inlets_of self.new.table) number) }
         ensures leaves { OnOk result (LeavesOthers number self.old.core (rows_of self.old.table) self.new.core (rows_of self.new.table)) }
@@ -322,7 +398,10 @@ impl<R: Relation> Engine<R> {
         ensures sent { OnOk result (self.old.core.sends ≡ [] → self.new.core.sends ≡ []) }
         ensures attended { OnOk result (IsServedOn number self.old.core (rows_of self.old.table) → Attended self.old.core (rows_of self.old.table) → Attended self.new.core (rows_of self.new.table)) }
     {
-        self.close(when, number);
-        tell_closed(number, outputs)
+        if self.close(context, number) {
+            tell_closed(number, outputs)
+        } else {
+            Ok(())
+        }
     }
 }

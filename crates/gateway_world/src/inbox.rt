@@ -1,7 +1,7 @@
 //! The bytes of one connection, as far as they aren't asked.
 
-ghost use Rattle.std.specs.Prelude.{◌≡◌, ◌≤◌, ◌++◌, ◌↔◌, [], ℕ, List, true, false, IsTrue, vec_len, OnOk, OnErr};
-ghost use Rattle.http_edge.specs.Edges.{Stands};
+ghost use Rattle.std.specs.Prelude.{◌≡◌, ◌≤◌, ◌<◌, ◌-◌, ◌++◌, ◌↔◌, [], ℕ, List, drop, true, false, IsTrue, vec_len, IfOk, IfSome, OnOk, OnErr};
+ghost use Rattle.http_edge.specs.Edges.{Stands, unread_len};
 
 use crate::fields::closes;
 use http_edge::{Edge, Incoming, Memory};
@@ -9,9 +9,6 @@ use std::alloc::Global;
 
 /// The most bytes of a connection that wait unread.
 const UNREAD: usize = 1_048_576;
-
-/// How many requests wait at most: each has a byte at least.
-pub const REQUESTS: usize = UNREAD + 1;
 
 /// What the bytes of a connection ask next.
 #[derive(Drop)]
@@ -35,12 +32,14 @@ pub struct Inbox {
 }
 
 impl Inbox {
-    ghost use Rattle.gateway_world.specs.Inboxes.{Holds, ReadsNext, AsksNext, unread_of, is_full};
+    ghost use Rattle.gateway_world.specs.Rows.{is_request};
+    ghost use Rattle.gateway_world.specs.Inboxes.{Holds, ReadsNext, AsksNext, IsIdle, Rests, unread_of, is_full, work_of};
 
     /// No bytes yet.
     pub fn new(alloc: Global, edge: Edge) -> Inbox
         ensures holds { Stands edge [] → Holds result [] }
         ensures open { result.closing ≡ false }
+        ensures only { ((text : List ℕ) → Stands edge text → text ≡ []) → (text : List ℕ) → Holds result text → text ≡ [] }
     {
         Inbox {
             edge,
@@ -80,6 +79,11 @@ impl Inbox {
     fn refill(&mut self) -> bool
         ensures closing { self.new.closing ≡ self.old.closing }
         ensures holds { (text : List ℕ) → Holds self.old text → Holds self.new text }
+        ensures none_left { result ≡ false → unread_len self.old.edge < 8192 → drop self.old.taken self.old.backlog.items ≡ [] }
+        ensures less { result ≡ true → vec_len self.new.backlog - self.new.taken < vec_len self.old.backlog - self.old.taken }
+        ensures work { work_of self.new ≡ work_of self.old }
+        ensures rests { result ≡ false → unread_len self.old.edge < 8192 → self.old.edge.waits ≡ true → Rests self.new }
+        ensures ended { self.new.edge.ended ≡ self.old.edge.ended }
     {
         let n = self.edge.feed(&self.backlog[self.taken..]);
         self.taken += n;
@@ -94,6 +98,8 @@ impl Inbox {
     pub fn next(&mut self) -> Result<Next, Memory>
         ensures asks { (text : List ℕ) → self.old.closing ≡ false → Holds self.old text → AsksNext result self.new text }
         ensures over { self.old.closing ≡ true → (result ≡ Ok Next.Nothing) × (self.new.closing ≡ true) }
+        ensures idle { IfOk result (λ next. is_request next ≡ false → self.new.closing ≡ false → (text : List ℕ) → Holds self.new text → IsIdle text) }
+        ensures less { IfOk result (λ next. is_request next ≡ true → work_of self.new < work_of self.old) }
     {
         if self.closing {
             return Ok(Next::Nothing);
@@ -111,9 +117,11 @@ impl Inbox {
     /// The next request of the bytes that wait, or the refusal of what stands in its place. None where
     /// none is whole.
     fn read(&mut self) -> Result<Option<Incoming>, Memory>
-        ensures { (text : List ℕ) → self.old.closing ≡ false → Holds self.old text → ReadsNext result self.new text }
+        ensures reads { (text : List ℕ) → self.old.closing ≡ false → Holds self.old text → ReadsNext result self.new text }
+        ensures rests { result ≡ Ok None → self.new.edge.ended ≡ false → Rests self.new }
+        ensures less { IfOk result (λ incoming. IfSome incoming (λ i. work_of self.new < work_of self.old)) }
     {
-        'each: for _ in 0..REQUESTS {
+        'each: loop {
             if let Some(incoming) = self.edge.next()? {
                 self.closing = closes(&incoming);
                 return Ok(Some(incoming));
@@ -122,6 +130,5 @@ impl Inbox {
                 return Ok(None);
             }
         }
-        Ok(None)
     }
 }

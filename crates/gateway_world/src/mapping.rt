@@ -35,6 +35,7 @@ pub fn map_request<R: Relation>(
 ) -> Result<Mapped<R>, Memory>
     ensures came { IfOk result (λ m. m.came ≡ limited (came_of came)) }
     ensures rules { IfOk result (λ m. m.rules ≡ rules_of (arc_value settings.now)) }
+    ensures maps { IfOk result (λ m. Maps R.holds R.takes (rules_of (arc_value settings.now)) m.came m.sense) }
 {
     let came = within_limit(came);
     let meaning = meaning_of::<R>(alloc, settings, &came)?;

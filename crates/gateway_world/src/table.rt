@@ -6,6 +6,7 @@ ghost use Rattle.http_edge.specs.Edges.{Stands};
 ghost use Rattle.exchange_core.specs.Ticking.{waits_on};
 ghost use Rattle.gateway_world.specs.Inboxes.{Holds};
 ghost use Rattle.gateway_world.specs.Asks.{inlets_of, StandsFor, IsOver, is_full_at};
+ghost use Rattle.gateway_world.specs.Prompt.{IsPromptOn, work_at};
 ghost use Rattle.gateway_world.specs.AskSteps.{TakesNext, LeavesInboxes, without_inlet};
 ghost use Rattle.gateway_world.specs.Rows.{Row, row_of, rows_of, row_at, with_waits, without_row, is_request, IsRow};
 
@@ -70,7 +71,8 @@ impl<R: Relation> Table<R> {
     pub fn add(&mut self, number: u32, edge: Edge)
         requires { vec_len self.old.rows < vec_capacity self.old.rows }
         ensures rows { rows_of self.new ≡ rows_of self.old ++ record { number = number; waits = None } ∷ [] }
-        ensures inlets { (inbox : Inbox) × (inlets_of self.new ≡ inlets_of self.old ++ record { number = number; inbox = inbox } ∷ []) × (inbox.closing ≡ false) × (Stands edge [] → Holds inbox []) }
+        ensures inlets { (inbox : Inbox) × (inlets_of self.new ≡ inlets_of self.old ++ record { number = number; inbox = inbox } ∷ []) × (inbox.closing ≡ false) × (Stands edge [] → Holds inbox [])
+            × (((text : List ℕ) → Stands edge text → text ≡ []) → (text : List ℕ) → Holds inbox text → text ≡ []) }
     {
         self.rows.push_reserved(Connection {
             number,
@@ -123,6 +125,8 @@ impl<R: Relation> Table<R> {
         ensures others { LeavesInboxes number (inlets_of self.old) (inlets_of self.new) }
         ensures takes { (text : List ℕ) → StandsFor (inlets_of self.old) number text → TakesNext result number text (inlets_of self.new) }
         ensures over { IsOver (inlets_of self.old) number → IsOver (inlets_of self.new) number × IfOk result (λ next. is_request next ≡ false) }
+        ensures less { IfOk result (λ next. is_request next ≡ true → work_at number (inlets_of self.new) < work_at number (inlets_of self.old)) }
+        ensures prompt { IfOk result (λ next. is_request next ≡ false → IsPromptOn number (rows_of self.new) (inlets_of self.new)) }
     {
         match self.place_of(number) {
             Some(place) if self.rows[place].ticket.is_none() => self.rows[place].inbox.next(),

@@ -4,6 +4,7 @@ ghost use Rattle.std.specs.Prelude.{ℕ, List, [], ◌∷◌, ◌++◌, Some, No
 ghost use Rattle.journal_book.specs.Entries.{Written};
 ghost use Rattle.exchange_core.specs.Answering.{given_of, IsGiven};
 ghost use Rattle.gateway_world.specs.Steps.{AddsTold};
+ghost use Rattle.gateway_world.specs.Closing.{closed_in};
 
 use crate::input::Output;
 use crate::rendering::render;
@@ -17,7 +18,8 @@ const CONTINUE: &str = "HTTP/1.1 100 Continue\r\n\r\n";
 
 /// Tells a client that waits with its body to go on.
 pub fn tell_continue(alloc: Global, number: u32, outputs: &mut Vec<Output>) -> Result<(), Memory>
-    ensures { (h : List Written) → OnOk result (AddsTold h None outputs.old.items outputs.new.items) }
+    ensures told { (h : List Written) → OnOk result (AddsTold h None outputs.old.items outputs.new.items) }
+    ensures silent { OnOk result (closed_in outputs.new.items ≡ closed_in outputs.old.items) }
 {
     let bytes = Vec::from_slice(alloc, CONTINUE.as_bytes())?;
     outputs.push(Output::Bytes(number, bytes))?;
@@ -31,7 +33,8 @@ pub fn tell_answer<R: Relation>(
     answer: &Answer<R>,
     outputs: &mut Vec<Output>,
 ) -> Result<(), Memory>
-    ensures { (h : List Written) (g : IsGiven h (given_of answer.now)) → g.conn ≡ number → OnOk result (AddsTold h (Some (record { conn = number; number = answer.now.number })) outputs.old.items outputs.new.items) }
+    ensures told { (h : List Written) (g : IsGiven h (given_of answer.now)) → g.conn ≡ number → OnOk result (AddsTold h (Some (record { conn = number; number = answer.now.number })) outputs.old.items outputs.new.items) }
+    ensures silent { OnOk result (closed_in outputs.new.items ≡ closed_in outputs.old.items) }
 {
     let rendered = render(alloc, answer)?;
     let bytes = answer_bytes(alloc, &rendered)?;
@@ -41,7 +44,8 @@ pub fn tell_answer<R: Relation>(
 
 /// Tells that the proxy closes the connection.
 pub fn tell_closed(number: u32, outputs: &mut Vec<Output>) -> Result<(), Memory>
-    ensures { (h : List Written) → OnOk result (AddsTold h None outputs.old.items outputs.new.items) }
+    ensures told { (h : List Written) → OnOk result (AddsTold h None outputs.old.items outputs.new.items) }
+    ensures closes { OnOk result (closed_in outputs.new.items ≡ closed_in outputs.old.items ++ number ∷ []) }
 {
     outputs.push(Output::Closed(number))?;
     Ok(())

@@ -3,12 +3,16 @@
 ghost use Rattle.std.specs.Prelude.{ℕ, ◌≡◌, ◌≤◌, [], true, IfOk, OnOk, IsErrOf};
 ghost use Rattle.history_laws.specs.Justified.{Stands};
 ghost use Rattle.gateway_world.specs.Steps.{Grows, Gives};
+ghost use Rattle.gateway_world.specs.Making.{AddsMade};
+ghost use Rattle.gateway_world.specs.Closing.{Closes};
+ghost use Rattle.gateway_world.specs.Prompt.{IsPrompt};
 ghost use Rattle.gateway_world.specs.Rows.{Settled};
-ghost use Rattle.exchange_core.specs.CoreValue.{now};
+ghost use Rattle.ask_model.specs.Views.{rules_of};
+ghost use Rattle.ask_model.specs.Maps.{Maps};
 ghost use Rattle.gateway_world.specs.Entering.{Enters};
 ghost use Rattle.gateway_world.specs.Asks.{Heeds, is_too_much};
 
-use crate::engine::Engine;
+use crate::engine::{Context, Engine};
 use crate::fault::WorldFault;
 use crate::input::{Happening, Input, Output};
 use crate::state::World;
@@ -35,12 +39,14 @@ impl<R: Relation> World<R> {
         ensures untold { IfOk result (λ w. w.core.answers ≡ []) }
         ensures settled { IfOk result (λ w. Settled w.core) }
         ensures closed { IfOk result (λ w. w.inlets ≡ []) }
+        ensures prompt { IfOk result (λ w. IsPrompt w.rows w.inlets) }
+        ensures rules { IfOk result (λ w. w.rules ≡ rules_of settings) }
         ensures moment { IfOk result (λ w. w.moment ≡ 0) }
     {
         Ok(World {
+            settings: Arc::new(alloc, settings)?,
             engine: Engine {
                 alloc,
-                settings: Arc::new(alloc, settings)?,
                 core: Core::new(alloc)?,
                 table: Table::new(alloc),
             },
@@ -68,25 +74,32 @@ impl<R: Relation> World<R> {
     /// give. An input for a connection that isn't open gives nothing.
     pub fn input(&mut self, input: Input<'_>) -> Result<Vec<Output>, WorldFault>
         ensures moment { OnOk result (self.new.moment ≡ counted self.old.moment input.entry.moment) }
+        ensures rules { self.new.rules ≡ self.old.rules }
         ensures backlog { IsErrOf result WorldFault.Backlog → self.new ≡ self.old }
         ensures full { is_too_much input.entry.happening self.old.inlets ≡ true → IsErrOf result WorldFault.Backlog }
         ensures room { IsErrOf result WorldFault.Backlog → is_too_much input.entry.happening self.old.inlets ≡ true }
+        ensures made { AddsMade self.new.moment input.entry.word self.old.core.entries self.new.core.entries }
         ensures grows { Grows self.old.core.entries self.new.core.entries }
         ensures gives { IfOk result (λ outputs. Gives self.old.core self.new.core outputs.items) }
-        ensures enters { IfOk result (λ outputs. Enters input.entry.happening (now self.old.core.moment self.new.moment) self.old.core self.new.core [] outputs.items) }
-        ensures asks { OnOk result ((c : ℕ) → Heeds c input.entry.happening self.old.core.entries self.old.inlets self.new.core.entries self.new.inlets) }
+        ensures enters { IfOk result (λ outputs. Enters input.entry.happening self.new.moment self.old.core self.new.core [] outputs.items) }
+        ensures asks { OnOk result ((c : ℕ) → Heeds (Maps R.holds R.takes self.old.rules) c input.entry.happening self.old.core.entries self.old.inlets self.new.core.entries self.new.inlets) }
+        ensures closes { IfOk result (λ outputs. Closes input.entry.happening self.old.core.entries self.new.core.entries [] outputs.items) }
+        ensures prompt { OnOk result (IsPrompt self.old.rows self.old.inlets → IsPrompt self.new.rows self.new.inlets) }
         ensures settled { OnOk result (Settled self.old.core → Settled self.new.core) }
     {
         if self.is_too_much(input.happening) {
             return Err(WorldFault::Backlog);
         }
         self.moment = self.moment.max(input.moment.min(LAST_MOMENT));
-        let when = When {
-            moment: self.moment,
-            word: input.word,
+        let context = Context {
+            when: When {
+                moment: self.moment,
+                word: input.word,
+            },
+            settings: &self.settings,
         };
         let mut outputs = Vec::new(self.engine.alloc);
-        self.engine.step(when, input.happening, &mut outputs)?;
+        self.engine.step(context, input.happening, &mut outputs)?;
         Ok(outputs)
     }
 

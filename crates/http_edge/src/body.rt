@@ -1,6 +1,6 @@
 //! A body, as its bytes come in (RFC 9112, sections 6 and 7.1).
 
-ghost use Rattle.std.specs.Prelude.{◌≡◌, ◌≤◌, ◌<◌, ◌-◌, ◌+◌, ◌++◌, ℕ, List, take, drop, min, length, IsTrue, ◌↔◌, IfOk, OnOk, OnErr};
+ghost use Rattle.std.specs.Prelude.{◌≡◌, ◌≤◌, ◌<◌, ◌-◌, ◌+◌, ◌++◌, ℕ, List, take, drop, min, length, IsTrue, ◌↔◌, Ok, IfOk, OnOk, OnErr};
 ghost use Rattle.http_edge.specs.declared.framing.Framing.{Framing};
 ghost use Rattle.http_edge.specs.declared.body.Left.TheVariants.{Bytes, Line, Data, Trailers};
 ghost use Rattle.http_edge.specs.declared.body.Next.TheVariants.{On};
@@ -56,6 +56,7 @@ pub fn fill_body(left: &mut Left, body: &mut Vec<u8>, unread: &mut Unread) -> Re
     ensures ok { IfOk result (λ fill. (f : Framing) (text : List ℕ) → SoFar f left.old body.old.items unread.old text → Comes f fill left.new body.new.items unread.new text) }
     ensures err { OnErr result ((f : Framing) (text : List ℕ) → SoFar f left.old body.old.items unread.old text → SoFar f left.new body.new.items unread.new text) }
     ensures fewer { length unread.new ≤ length unread.old }
+    ensures room { result ≡ Ok Fill.Wait → length unread.new < 8192 }
 {
     'each: loop {
         match step(left, body, unread)? {
@@ -73,6 +74,7 @@ fn step(left: &mut Left, body: &mut Vec<u8>, unread: &mut Unread) -> Result<Next
     ensures err { OnErr result ((left.new ≡ left.old) × (body.new.items ≡ body.old.items) × (unread.new ≡ unread.old)) }
     ensures reads { IfOk result (λ next. next ≡ On → length unread.new < length unread.old) }
     ensures fewer { length unread.new ≤ length unread.old }
+    ensures room { result ≡ Ok Next.Wait → length unread.new < 8192 }
 {
     match *left {
         Left::Bytes(missing) => read_bytes(left, missing, body, unread),
@@ -95,6 +97,7 @@ fn read_bytes(
     ensures err { OnErr result ((left.new ≡ left.old) × (body.new.items ≡ body.old.items) × (unread.new ≡ unread.old)) }
     ensures reads { IfOk result (λ next. next ≡ On → length unread.new < length unread.old) }
     ensures fewer { length unread.new ≤ length unread.old }
+    ensures room { result ≡ Ok Next.Wait → length unread.new < 8192 }
 {
     if missing == 0 {
         return Ok(Next::Whole);
@@ -120,6 +123,7 @@ fn read_data(
     ensures err { OnErr result ((left.new ≡ left.old) × (body.new.items ≡ body.old.items) × (unread.new ≡ unread.old)) }
     ensures reads { IfOk result (λ next. next ≡ On → length unread.new < length unread.old) }
     ensures fewer { length unread.new ≤ length unread.old }
+    ensures room { result ≡ Ok Next.Wait → length unread.new < 8192 }
 {
     if unread.as_slice().is_empty() {
         return Ok(Next::Wait);
@@ -147,6 +151,7 @@ fn read_line(left: &mut Left, body: &[u8], unread: &mut Unread) -> Next
     ensures goes { (f : Framing) (text : List ℕ) → SoFar f left.old body.now unread.old text → Goes f result left.new body.now unread.new text }
     ensures reads { result ≡ On → length unread.new < length unread.old }
     ensures fewer { length unread.new ≤ length unread.old }
+    ensures room { result ≡ Next.Wait → length unread.new < 8192 }
 {
     let (len, size) = match parse_chunk_size(unread.as_slice()) {
         Ok(Status::Complete(found)) => found,
@@ -179,6 +184,7 @@ fn read_end(left: &mut Left, unread: &mut Unread) -> Next
     ensures goes { (f : Framing) (body text : List ℕ) → SoFar f left.old body unread.old text → Goes f result left.new body unread.new text }
     ensures reads { result ≡ On → length unread.new < length unread.old }
     ensures fewer { length unread.new ≤ length unread.old }
+    ensures room { result ≡ Next.Wait → length unread.new < 8192 }
 {
     let n = unread.as_slice().len().min(LINE_END.len());
     if !is_equal(&unread.as_slice()[..n], &LINE_END[..n]) {
@@ -204,6 +210,7 @@ fn read_trailers(unread: &mut Unread) -> Next
     ensures goes { (f : Framing) (body text : List ℕ) → SoFar f Trailers body unread.old text → Goes f result Trailers body unread.new text }
     ensures reads { result ≡ On → length unread.new < length unread.old }
     ensures fewer { length unread.new ≤ length unread.old }
+    ensures room { result ≡ Next.Wait → length unread.new < 8192 }
 {
     let mut spans = [EMPTY_HEADER_SPAN; 64];
     match parse_headers(unread.as_slice(), &mut spans) {

@@ -1,6 +1,6 @@
 //! A connection's bytes, read as requests.
 
-ghost use Rattle.std.specs.Prelude.{◌≡◌, ◌≤◌, ◌+◌, ◌-◌, ◌++◌, ◌⊎◌, ℕ, List, [], take, drop, length, min, IfOk, OnErr, IsTrue, ◌↔◌, ◌||◌, false, true, Ok, None};
+ghost use Rattle.std.specs.Prelude.{◌≡◌, ◌≤◌, ◌<◌, ◌+◌, ◌-◌, ◌*◌, ◌++◌, ◌⊎◌, ℕ, List, [], take, drop, length, min, IfOk, OnErr, IsSome, IsTrue, ◌↔◌, ◌||◌, false, true, Ok, None};
 
 use crate::body::{Fill, fill_body};
 use crate::head::{Begun, Start, start_of};
@@ -25,6 +25,7 @@ pub struct Edge {
     /// Nothing can be read before more bytes come.
     waits: bool,
     ended: bool,
+    ghost room: { waits ≡ true → length unread < 8192 },
 }
 
 impl Edge {
@@ -35,6 +36,7 @@ impl Edge {
     pub fn new(alloc: Global) -> Result<Edge, Memory>
         ensures stands { IfOk result (λ e. Stands e []) }
         ensures empty { IfOk result (λ e. unread_len e ≡ 0) }
+        ensures only { IfOk result (λ e. (text : List ℕ) → Stands e text → text ≡ []) }
     {
         Ok(Edge {
             alloc,
@@ -70,11 +72,16 @@ impl Edge {
         ensures count { result ≡ min (length bytes.now) (8192 - unread_len self.old) }
         ensures more { (text : List ℕ) → Stands self.old text → Stands self.new (text ++ take result bytes.now) }
         ensures unread { unread_len self.new ≡ unread_len self.old + result }
+        ensures work { work_left self.new ≡ work_left self.old + 2 * result }
+        ensures waits { result ≡ 0 → self.new.waits ≡ self.old.waits }
         ensures ended { self.new.ended ≡ self.old.ended }
         ensures told { is_told self.new ≡ is_told self.old }
     {
-        self.waits = false;
-        self.unread.feed(bytes)
+        let taken = self.unread.feed(bytes);
+        if taken > 0 {
+            self.waits = false;
+        }
+        taken
     }
 
     /// How many bytes are unread, at most 8,192.
@@ -90,6 +97,8 @@ impl Edge {
     pub fn next(&mut self) -> Result<Option<Incoming>, Memory>
         ensures steps { (text : List ℕ) → Stands self.old text → Steps result self.new text }
         ensures ended { self.old.ended ≡ true → (result ≡ Ok None) × (self.new.ended ≡ true) }
+        ensures room { self.old.ended ≡ false → result ≡ Ok None → unread_len self.new < 8192 }
+        ensures waits { self.old.ended ≡ false → result ≡ Ok None → self.new.waits ≡ true }
         ensures told { is_told self.new ≡ true → is_told self.old ≡ true }
         ensures still_told { result ≡ Ok None → is_told self.new ≡ is_told self.old }
         ensures told_on_refusal { OnErr result (is_told self.new ≡ is_told self.old) }
@@ -122,6 +131,7 @@ impl Edge {
         ensures stands { (text : List ℕ) → Stands self.old text → Stands self.new text }
         ensures ended { self.new.ended ≡ self.old.ended }
         ensures unread { unread_len self.new ≡ unread_len self.old }
+        ensures waits { self.new.waits ≡ self.old.waits }
     {
         match &mut self.begun {
             Some(begun) if begun.wants && !begun.told => {
@@ -139,6 +149,9 @@ impl Edge {
         ensures told { is_told self.new ≡ is_told self.old }
         ensures less { IfOk result (λ begin. BeginFalls begin (work_left self.old) (work_left self.new)) }
         ensures stays_open { result ≡ Ok Begin.Begun → self.new.ended ≡ false }
+        ensures begun { result ≡ Ok Begin.Begun → IsBegun self.new }
+        ensures room { result ≡ Ok (Begin.Done None) → unread_len self.new < 8192 }
+        ensures waits { result ≡ Ok (Begin.Done None) → self.new.waits ≡ true }
     {
         if self.begun.is_some() {
             return Ok(Begin::Begun);
@@ -166,6 +179,8 @@ impl Edge {
         ensures told { is_told self.new ≡ is_told self.old }
         ensures less { work_left self.new ≤ work_left self.old }
         ensures ended { self.new.ended ≡ self.old.ended }
+        ensures begun { IsBegun self.old → IsBegun self.new }
+        ensures room { IsBegun self.old → result ≡ Ok Fill.Wait → unread_len self.new < 8192 }
     {
         match &mut self.begun {
             Some(begun) => fill_body(&mut begun.left, &mut begun.request.body, &mut self.unread),
@@ -179,6 +194,7 @@ impl Edge {
         ensures steps { (text : List ℕ) → IsBegun self.old → IsWholeIn self.old.begun self.old.unread text → Steps (spec.ok_of result) self.new text }
         ensures told { is_told self.new ≡ false }
         ensures none { result ≡ None → is_told self.old ≡ false }
+        ensures some { IsBegun self.old → IsSome result }
         ensures less { Falls result (work_left self.old) (work_left self.new) }
     {
         let begun = self.begun.take()?;

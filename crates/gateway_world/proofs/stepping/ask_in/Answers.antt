@@ -3,7 +3,11 @@ use Rattle.gateway_world.proofs.Advancing.{asked-advances, refused-alone}
 use Rattle.gateway_world.proofs.Serving.{refused-serves}
 use Rattle.gateway_world.proofs.Asking.{serves-asked}
 use Rattle.gateway_world.proofs.Attending.{attended-asked}
-use Rattle.gateway_world.proofs.Quiet.{asked-one, quiet-refused}
+use Rattle.gateway_world.specs.Asks.{asked_by}
+use Rattle.gateway_world.specs.Closing.{shut_by}
+use Rattle.gateway_world.proofs.Closings.{either-way, asked-shuts}
+use Rattle.gateway_world.proofs.Quiet.{asked-gives, quiet-refused, asked-silent, shut-silent, ok-each, err-each}
+use Rattle.gateway_world.proofs.Making.{makes-ask}
 use Rattle.gateway_world.proofs.stepping.ask_in.Goals as goal
 
 pub returns-clause-advances : goal.returns-clause-advances
@@ -25,8 +29,18 @@ returns-clause-attended g c rows serves idle attended =
     attended-asked c.ask.result (λ x. x.number) _ _ rows _ _ c.args.conn _ c.ask.ensures.adds serves idle attended
 
 pub returns-clause-asks : goal.returns-clause-asks
-returns-clause-asks g c = asked-one c.ask.result (λ x. x.number) _ _ _ _ c.args.conn _ c.ask.ensures.adds
+returns-clause-asks g c = ok-each c.ask.result _ (λ d. asked-gives (asked_by d) (asked-silent d) c.ask.result (λ x. x.number) _ _ _ _ c.args.conn _ c.ask.ensures.adds)
 
 pub returns-clause-refused : goal.returns-clause-refused
 returns-clause-refused g c =
-    quiet-refused c.ask.result _ _ _ _ _ _ _ _ _ _ _ _ _ c.ask.ensures.unknown c.ask.ensures.pending c.ask.ensures.sealed c.ask.ensures.memory
+    err-each c.ask.result _ (λ d. quiet-refused (asked_by d) (asked-silent d) c.ask.result _ _ _ _ _ _ _ _ _ _ _ _ _ c.ask.ensures.unknown c.ask.ensures.pending c.ask.ensures.sealed c.ask.ensures.memory)
+
+pub returns-clause-shuts : goal.returns-clause-shuts
+returns-clause-shuts g c =
+    either-way c.ask.result _ (asked-shuts c.ask.result _ _ (asked-gives shut_by shut-silent c.ask.result (λ x. x.number) _ _ _ _ c.args.conn _ c.ask.ensures.adds))
+    (quiet-refused shut_by shut-silent c.ask.result _ _ _ _ _ _ _ _ _ _ _ _ _ c.ask.ensures.unknown c.ask.ensures.pending c.ask.ensures.sealed c.ask.ensures.memory)
+
+pub returns-clause-made : goal.returns-clause-made
+returns-clause-made g c =
+    makes-ask c.ask.result (λ x. x.number) c.args.when _ _ c.args.conn _ _ _ _ _ _ _ _ _ _
+    c.ask.ensures.adds c.ask.ensures.unknown c.ask.ensures.pending c.ask.ensures.sealed c.ask.ensures.memory c.ask.ensures.moment c.ask.ensures.sealed_at

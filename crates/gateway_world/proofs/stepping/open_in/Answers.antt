@@ -2,8 +2,11 @@
 use Rattle.gateway_world.proofs.Advancing.{opened-advances, unopened-alone}
 use Rattle.gateway_world.proofs.Serving.{refused-serves}
 use Rattle.gateway_world.proofs.Asking.{serves-opening}
-use Rattle.gateway_world.proofs.Quiet.{quiet-open, fresh-number}
+use Rattle.gateway_world.specs.Asks.{asked_by}
+use Rattle.gateway_world.specs.Closing.{shut_by}
+use Rattle.gateway_world.proofs.Quiet.{quiet-open, asked-silent, shut-silent, fresh-number}
 use Rattle.gateway_world.proofs.Entering.{opening}
+use Rattle.gateway_world.proofs.Making.{makes-open}
 use Rattle.gateway_world.proofs.stepping.open_in.Goals as goal
 
 pub returns-clause-advances : goal.returns-clause-advances
@@ -22,7 +25,13 @@ pub returns-clause-fresh : goal.returns-clause-fresh
 returns-clause-fresh g c = fresh-number c.open.result _ _ _ _ _ _ c.open.ensures.ok
 
 pub returns-clause-asks : goal.returns-clause-asks
-returns-clause-asks g c = λ d. quiet-open d c.open.result _ _ _ _ _ _ _ _ _ _ _ _ _ _ _ _ _ c.open.ensures.ok c.open.ensures.full c.open.ensures.sealed c.open.ensures.memory
+returns-clause-asks g c = λ d. quiet-open (asked_by d) (asked-silent d) c.open.result _ _ _ _ _ _ _ _ _ _ _ _ _ _ _ _ _ c.open.ensures.ok c.open.ensures.full c.open.ensures.sealed c.open.ensures.memory
 
 pub returns-clause-enters : goal.returns-clause-enters
 returns-clause-enters g c = opening c.open.result _ _ _ _ _ _ _ _ _ _ _ _ _ _ c.open.ensures.ok c.open.ensures.full c.open.ensures.sealed c.open.ensures.memory
+
+pub returns-clause-shuts : goal.returns-clause-shuts
+returns-clause-shuts g c = quiet-open shut_by shut-silent c.open.result _ _ _ _ _ _ _ _ _ _ _ _ _ _ _ _ _ c.open.ensures.ok c.open.ensures.full c.open.ensures.sealed c.open.ensures.memory
+
+pub returns-clause-made : goal.returns-clause-made
+returns-clause-made g c = makes-open c.open.result _ _ _ _ _ _ _ _ _ _ _ _ _ _ _ _ c.open.ensures.ok c.open.ensures.full c.open.ensures.sealed c.open.ensures.memory c.open.ensures.moment c.open.ensures.sealed_at

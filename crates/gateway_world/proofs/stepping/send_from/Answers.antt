@@ -1,12 +1,13 @@
 -- Each datagram that is taken is given out.
 use Rattle.std.proofs.lemmas.Result.{err_from_is_err_and}
 use Rattle.std.proofs.Common.{refl, ◌∙◌}
+use Rattle.gateway_world.proofs.Closings.{silent-more}
 use Rattle.gateway_world.proofs.Going.{goes-none, sent-one, shorter, sent-grow}
 use Rattle.gateway_world.proofs.Serving.{same-serves}
 use Rattle.gateway_world.proofs.stepping.send_from.Goals as goal
 
 pub each-init : goal.each-init
-each-init g c = (goes-none _ _, record { entries = refl; conns = refl; answers = refl })
+each-init g c = (goes-none _ _, record { entries = refl; conns = refl; answers = refl }, refl, refl)
 
 pub each-smaller : goal.each-smaller
 each-smaller g c = shorter _ _ _ (rw c.in-Some.is at c.take_send.ensures.some)
@@ -17,6 +18,8 @@ each-preserved g c =
     let t = c.take_send.ensures in (
       sent-one _ _ _ _ _ _ c.in-Some.datagram c.each.invariant.0 (rw c.in-Some.is at t.some) t.entries t.answers c.in_ok-push.ensures.items,
       record { entries = t.entries ∙ before.entries; conns = t.conns ∙ before.conns; answers = t.answers ∙ before.answers },
+      silent-more _ _ _ c.in_ok-push.ensures.items refl ∙ c.each.invariant.2,
+      t.moment ∙ c.each.invariant.3,
     )
 
 pub returns-in_err-push : goal.returns-in_err-push
@@ -30,4 +33,9 @@ returns-in_err-push g c =
       kept = λ rows s. same-serves _ _ rows (record { entries = t.entries ∙ before.entries; conns = t.conns ∙ before.conns; answers = t.answers ∙ before.answers }) s;
       answers = t.answers ∙ before.answers;
       entries = t.entries ∙ before.entries;
+      moment = t.moment ∙ c.each.invariant.3;
+      silent = rw (failed.1) tt;
     }
+
+pub returns-clause-silent : goal.returns-clause-silent
+returns-clause-silent g c = c.each.invariant.2

@@ -4,8 +4,8 @@ use Rattle.exchange_core.specs.Answering.{given_of}
 use Rattle.gateway_world.specs.declared.input.Output.TheVariants as Out
 use Rattle.gateway_world.proofs.telling.tell_answer.Goals as goal
 
-pub returns : goal.returns
-returns g c = λ h given conn.
+pub returns-clause-told : goal.returns-clause-told
+returns-clause-told g c = λ h given conn.
     record {
       output = Out.Bytes c.args.number c.in_ok-bytes.bytes;
       added = c.in_ok-push.ensures.items;

@@ -103,7 +103,7 @@ returns-then-not-has_room_for-clause-heard g c =
     c.len-count.result c.pending_count-pending.result c.saturating_sub-waiting.result (c.has_room_for.ensures unsealed) c.if-not-has_room_for.true
     (ap (λ x. 1 + x.0) c.added-entries.ensures) (ap (λ x. length c.args.bytes.now + 64 + x.1) c.added-entries.ensures)
     (count ∙ ap (λ (cs : List Conn). length cs) conns) (c.pending_count-pending.ensures ∙ ap (count_by is_pending) (c.deref-4.ensures.value ∙ conns)) (search rules))
-    a.sealed a.entries a.conns a.exchanges a.answers a.sends
+    a.sealed a.moment a.entries a.conns a.exchanges a.answers a.sends
 
 pub returns-in_err-make_places-clause-memory : goal.returns-in_err-make_places-clause-memory
 returns-in_err-make_places-clause-memory g c =

@@ -2,6 +2,9 @@
 use Rattle.gateway_world.proofs.Going.{goes-grow, leads-on}
 use Rattle.gateway_world.proofs.Settling.{attended-then, leaves-then, told-then, sent-then}
 use Rattle.gateway_world.proofs.Reading.{order-none, order-call}
+use Rattle.gateway_world.proofs.Prompting.{apart-call}
+use Rattle.gateway_world.proofs.Closings.{closes-call}
+use Rattle.gateway_world.proofs.Making.{makes-then}
 use Rattle.gateway_world.proofs.engine.Engine.answer.Goals as goal
 
 pub returns-clause-leads : goal.returns-clause-leads
@@ -21,4 +24,13 @@ pub returns-clause-attended : goal.returns-clause-attended
 returns-clause-attended g c = attended-then c.serve.result _ _ _ c.in_ok-give.ensures.attended c.serve.ensures.attended
 
 pub returns-clause-asks : goal.returns-clause-asks
-returns-clause-asks g c = order-call c.serve.result _ _ _ _ _ _ (order-none c.args.number _ _ _ _ c.in_ok-give.ensures.asks) c.serve.ensures.asks
+returns-clause-asks g c = order-call _ c.serve.result _ _ _ _ _ _ (order-none _ c.args.number _ _ _ _ c.in_ok-give.ensures.asks) c.serve.ensures.asks
+
+pub returns-clause-apart : goal.returns-clause-apart
+returns-clause-apart g c = apart-call c.serve.result c.args.number _ _ _ _ _ _ c.in_ok-give.ensures.apart c.serve.ensures.apart
+
+pub returns-clause-closes : goal.returns-clause-closes
+returns-clause-closes g c = closes-call c.serve.result _ _ _ _ _ _ c.in_ok-give.ensures.closes c.serve.ensures.closes
+
+pub returns-clause-made : goal.returns-clause-made
+returns-clause-made g c = makes-then _ _ _ _ c.in_ok-give.ensures.made c.serve.ensures.made

@@ -3,10 +3,13 @@ use Rattle.gateway_world.proofs.Going.{goes-none, goes-on}
 use Rattle.std.proofs.Common.{refl}
 use Rattle.gateway_world.proofs.Owing.{owed-fewer, none-answered}
 use Rattle.gateway_world.proofs.Reading.{order-quiet, order-then}
+use Rattle.gateway_world.proofs.Prompting.{prompt-all}
+use Rattle.gateway_world.proofs.Closings.{closes-same, closes-then}
+use Rattle.gateway_world.proofs.Making.{makes-same, makes-then}
 use Rattle.gateway_world.proofs.engine.Engine.answer_all.Goals as goal
 
 pub each-init : goal.each-init
-each-init g c = (goes-none _ _, c.requires, (λ e. e), (λ w. w), order-quiet _ _ _ _ (λ d. refl) refl, (λ none. (refl, none)))
+each-init g c = (goes-none _ _, c.requires, (λ e. e), (λ w. w), order-quiet _ _ _ _ _ (λ d. refl) refl, (λ none. (refl, none)), (λ w. w), closes-same _ _ _ refl, makes-same _ _ _ refl)
 
 pub each-preserved : goal.each-preserved
 each-preserved g c =
@@ -16,8 +19,11 @@ each-preserved g c =
       next.kept,
       (λ e. next.sent (before.2 e)),
       (λ w. next.attended (before.3 w)),
-      order-then _ _ _ _ _ _ before.4 next.asks,
+      order-then _ _ _ _ _ _ _ before.4 next.asks,
       (λ none. absurd (none-answered c.in-Some.number c.each.self.core _ (rw (c.in-Some.is) at (c.first_answered.ensures.some)) (before.5 none).1)),
+      (λ w. prompt-all c.in-Some.number _ _ _ _ next.apart next.prompt (before.6 w)),
+      closes-then _ _ _ _ _ _ before.7 next.closes,
+      makes-then _ _ _ _ before.8 next.made,
     )
 
 pub each-smaller : goal.each-smaller
@@ -30,3 +36,6 @@ returns-clause-settled g c = λ e w. record { sends = c.each.invariant.2 e; answ
 
 pub returns-clause-quiet : goal.returns-clause-quiet
 returns-clause-quiet g c = λ none. (c.each.invariant.5 none).0
+
+pub returns-in_err-answer-clause-made : goal.returns-in_err-answer-clause-made
+returns-in_err-answer-clause-made g c = makes-then _ _ _ _ c.each.invariant.8 c.in_err-answer.ensures.made

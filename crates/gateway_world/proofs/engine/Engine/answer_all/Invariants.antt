@@ -3,7 +3,13 @@ use Rattle.std.proofs.Common.{◌≡◌, [], length}
 use Rattle.gateway_world.specs.Steps.{Goes}
 use Rattle.gateway_world.specs.Rows.{Serves, Attended, rows_of}
 use Rattle.gateway_world.specs.Asks.{inlets_of}
+use Rattle.std.specs.Arc.{arc_value}
+use Rattle.ask_model.specs.Views.{rules_of}
+use Rattle.ask_model.specs.Maps.{Maps}
 use Rattle.gateway_world.specs.AskSteps.{AsksInOrder}
+use Rattle.gateway_world.specs.Closing.{TellsClosings}
+use Rattle.gateway_world.specs.Making.{Makes}
+use Rattle.gateway_world.specs.Prompt.{IsPrompt}
 use Rattle.gateway_world.proofs.Owing.{owed}
 use Rattle.gateway_world.proofs.engine.Engine.answer_all.Given as goal
 
@@ -12,8 +18,11 @@ invariant-each g l =
     Goes l.initial.self.core l.self.core l.initial.outputs.items l.outputs.items × Serves l.self.core (rows_of l.self.table)
     × (l.initial.self.core.sends ≡ [] → l.self.core.sends ≡ [])
     × (Attended l.initial.self.core (rows_of l.initial.self.table) → Attended l.self.core (rows_of l.self.table))
-    × AsksInOrder l.initial.self.core.entries (inlets_of l.initial.self.table) l.self.core.entries (inlets_of l.self.table)
+    × AsksInOrder (Maps g.R.Relation.holds g.R.Relation.takes (rules_of (arc_value l.context.settings.now))) l.initial.self.core.entries (inlets_of l.initial.self.table) l.self.core.entries (inlets_of l.self.table)
     × (l.initial.self.core.answers ≡ [] → (l.self.core.entries ≡ l.initial.self.core.entries) × (l.self.core.answers ≡ []))
+    × (IsPrompt (rows_of l.initial.self.table) (inlets_of l.initial.self.table) → IsPrompt (rows_of l.self.table) (inlets_of l.self.table))
+    × TellsClosings l.initial.self.core.entries l.self.core.entries l.initial.outputs.items l.outputs.items
+    × Makes l.context.when l.initial.self.core l.self.core
 
 abbrev pub decreases-each : goal.decreases-each
 decreases-each g l = length (owed l.self.core (rows_of l.self.table))

@@ -1,9 +1,9 @@
 -- What the ask led to is given out, or the connection is closed.
 use Rattle.gateway_world.proofs.Going.{advances-grow, goes-advancing, goes-on, leads-on}
-use Rattle.std.proofs.Common.{List, ◌++◌, ap, ◌∙◌}
+use Rattle.std.proofs.Common.{List, ◌++◌, refl, ap, ◌∙◌}
 use Rattle.std.proofs.lemmas.List.{append-nil}
 use Rattle.std.specs.Arc.{arc_value}
-use Rattle.ask_model.specs.Requests.{Came}
+use Rattle.ask_model.specs.Requests.{Ask}
 use Rattle.ask_model.specs.Views.{Mapping}
 use Rattle.journal_book.specs.Views.{ask_of}
 use Rattle.gateway_world.specs.Asks.{asked_on}
@@ -11,6 +11,10 @@ use Rattle.gateway_world.proofs.Serving.{standing-of}
 use Rattle.gateway_world.proofs.Settling.{attended-same, attended-then, told-then, served-idle-row, leaves-none, leaves-with, leaves-then, sent-then}
 use Rattle.gateway_world.proofs.Reading.{one-asked, one-ended}
 use Rattle.gateway_world.proofs.Heeding.{asks-here, asks-elsewhere}
+use Rattle.gateway_world.proofs.Prompting.{apart-with, apart-call}
+use Rattle.gateway_world.specs.Closing.{shut_in}
+use Rattle.gateway_world.proofs.Closings.{closes-none, closes-call}
+use Rattle.gateway_world.proofs.Making.{makes-none, makes-same, makes-then}
 use Rattle.gateway_world.proofs.engine.Engine.ask.Goals as goal
 
 pub returns-in_ok-send_from-in-Ok-clause-leads : goal.returns-in_ok-send_from-in-Ok-clause-leads
@@ -34,6 +38,7 @@ pub returns-in-Err-Unknown : goal.returns-in-Err-Unknown
 returns-in-Err-Unknown g c = record {
   leads = leads-on c.shut.result _ _ _ _ _ _ (goes-advancing _ _ _ (standing-of _ _ c.requires.served) c.ask_in.ensures.advances) c.shut.ensures.leads;
   kept = c.shut.ensures.kept;
+  made = makes-then _ _ _ _ c.ask_in.ensures.made c.shut.ensures.made;
   leaves = leaves-then c.shut.result c.args.number _ _ _ _ _ _ (advances-grow _ _ c.ask_in.ensures.advances)
       (record {
         others = (leaves-none c.args.number c.args.self.now.core _).others;
@@ -42,7 +47,9 @@ returns-in-Err-Unknown g c = record {
       }) c.shut.ensures.leaves;
   told = c.shut.ensures.told;
   sent = sent-then c.shut.result _ _ _ (λ e. c.in-Err-Unknown.ensures.sends ∙ e) c.shut.ensures.sent;
-  asks = one-ended c.shut.result _ c.args.number _ _ _ _ _ c.in-Err-Unknown.ensures.refused c.shut.ensures.asks c.shut.ensures.over;
+  closes = closes-call c.shut.result _ _ _ _ _ _ (closes-none _ _ _ _ c.ask_in.ensures.shuts refl) c.shut.ensures.closes;
+  apart = c.shut.ensures.apart;
+  asks = one-ended _ c.shut.result _ c.args.number _ _ _ _ _ c.in-Err-Unknown.ensures.refused c.shut.ensures.asks c.shut.ensures.over;
   attended = attended-then c.shut.result _ _ _ (attended-same c.args.self.now.core c.ask_in.new.core _ c.in-Err-Unknown.ensures.same)
       (told-then c.shut.result _ _ (served-idle-row c.args.number c.ask_in.new.core _ c.requires.served.numbered c.requires.idle) c.shut.ensures.attended);
 }
@@ -55,7 +62,34 @@ pub returns-in_ok-send_from-in-Ok-clause-asks : goal.returns-in_ok-send_from-in-
 returns-in_ok-send_from-in-Ok-clause-asks g c =
     let sent = c.in_ok-send_from-in-Ok.ensures.entries in
     let asked = c.in-Ok.ensures.asks in
-    one-asked c.give.result _ c.args.number _ _ _ _ _ _
-    (λ d other. ap (asked_on d) sent ∙ asked d ∙ ap (λ (s : List Came). asked_on d c.args.self.now.core.entries ++ s) (asks-elsewhere d c.args.number (ask_of (arc_value c.in_ok-mapped-2.mapped)) other) ∙ append-nil _)
-    (ap (asked_on c.args.number) sent ∙ asked c.args.number ∙ ap (λ (s : List Came). asked_on c.args.number c.args.self.now.core.entries ++ s) (asks-here c.args.number (arc_value c.in_ok-mapped-2.mapped) c.args.incoming (ap (λ (m : Mapping). m.came) c.in_ok-mapped-2.ensures.ok ∙ c.in_ok-mapped.ensures.came)))
+    let mapped = c.in_ok-mapped.ensures in
+    let held = c.in_ok-mapped-2.ensures.ok in
+    one-asked _ c.give.result _ c.args.number _ _ _ _ _ _
+    (λ d other. ap (asked_on d) sent ∙ asked d ∙ ap (λ (s : List Ask). asked_on d c.args.self.now.core.entries ++ s)
+    (asks-elsewhere d c.args.number (ask_of (arc_value c.in_ok-mapped-2.mapped)) other) ∙ append-nil _)
+    (asks-here _ c.args.number (arc_value c.in_ok-mapped-2.mapped) c.args.incoming _ _ (ap (λ (m : Mapping). m.came) held ∙ mapped.came) (rw held mapped.maps) (ap (asked_on c.args.number) sent ∙ asked c.args.number))
     c.set_ticket.ensures.inlets c.give.ensures.asks
+
+pub returns-in_ok-send_from-in-Ok-clause-apart : goal.returns-in_ok-send_from-in-Ok-clause-apart
+returns-in_ok-send_from-in-Ok-clause-apart g c =
+    apart-call c.give.result c.args.number _ _ _ _ _ _ (apart-with c.args.number _ _ _ _ _ c.set_ticket.ensures.rows c.set_ticket.ensures.inlets) c.give.ensures.apart
+
+pub returns-in_ok-send_from-in-Ok-clause-closes : goal.returns-in_ok-send_from-in-Ok-clause-closes
+returns-in_ok-send_from-in-Ok-clause-closes g c =
+    closes-call c.give.result _ _ _ _ _ _ (closes-none _ _ _ _ (ap shut_in c.in_ok-send_from-in-Ok.ensures.entries ∙ c.ask_in.ensures.shuts) c.in_ok-send_from-in-Ok.ensures.silent) c.give.ensures.closes
+
+pub returns-in_ok-send_from-in-Ok-clause-made : goal.returns-in_ok-send_from-in-Ok-clause-made
+returns-in_ok-send_from-in-Ok-clause-made g c =
+    let sent = c.in_ok-send_from-in-Ok.ensures in
+    makes-then _ _ _ _ c.ask_in.ensures.made (makes-then _ _ _ _ (makes-none _ _ _ sent.entries sent.moment) c.give.ensures.made)
+
+pub returns-in_err-send_from-in-Ok-clause-made : goal.returns-in_err-send_from-in-Ok-clause-made
+returns-in_err-send_from-in-Ok-clause-made g c =
+    let sent = c.in_err-send_from-in-Ok.ensures in
+    makes-then _ _ _ _ c.ask_in.ensures.made (makes-none _ _ _ sent.entries sent.moment)
+
+pub returns-in_err-mapped-clause-made : goal.returns-in_err-mapped-clause-made
+returns-in_err-mapped-clause-made g c = makes-same _ _ _ refl
+
+pub returns-in_err-mapped-2-clause-made : goal.returns-in_err-mapped-2-clause-made
+returns-in_err-mapped-2-clause-made g c = makes-same _ _ _ refl

@@ -1,6 +1,9 @@
 -- The connection is served.
 use Rattle.gateway_world.proofs.Settling.{settled-served}
 use Rattle.gateway_world.proofs.Heeding.{fed-others, fed-reads, fed-over}
+use Rattle.gateway_world.proofs.Prompting.{apart-read, apart-call, prompt-call}
+use Rattle.gateway_world.proofs.Making.{makes-same}
+use Rattle.std.proofs.Common.{refl}
 use Rattle.gateway_world.proofs.engine.Engine.bytes.Goals as goal
 
 pub returns-clause-settled : goal.returns-clause-settled
@@ -9,10 +12,18 @@ returns-clause-settled g c =
     c.serve.ensures.leaves c.serve.ensures.told c.serve.ensures.sent c.serve.ensures.attended
 
 pub returns-clause-others : goal.returns-clause-others
-returns-clause-others g c = fed-others c.serve.result c.args.number _ _ _ _ _ c.in_ok-append.ensures.others c.serve.ensures.asks
+returns-clause-others g c = fed-others _ c.serve.result c.args.number _ _ _ _ _ c.in_ok-append.ensures.others c.serve.ensures.asks
 
 pub returns-clause-reads : goal.returns-clause-reads
-returns-clause-reads g c = fed-reads c.serve.result c.args.number c.args.bytes.now _ _ _ _ _ c.in_ok-append.ensures.more c.serve.ensures.asks
+returns-clause-reads g c = fed-reads _ c.serve.result c.args.number c.args.bytes.now _ _ _ _ _ c.in_ok-append.ensures.more c.serve.ensures.asks
 
 pub returns-clause-over : goal.returns-clause-over
-returns-clause-over g c = fed-over c.serve.result c.args.number _ _ _ _ _ c.in_ok-append.ensures.over c.serve.ensures.asks
+returns-clause-over g c = fed-over _ c.serve.result c.args.number _ _ _ _ _ c.in_ok-append.ensures.over c.serve.ensures.asks
+
+pub returns-clause-prompt : goal.returns-clause-prompt
+returns-clause-prompt g c =
+    prompt-call c.serve.result c.args.number _ _ _ _
+    (apart-call c.serve.result c.args.number _ _ _ _ _ _ (apart-read c.args.number _ _ _ _ c.append.ensures.rows c.append.ensures.others) c.serve.ensures.apart) c.serve.ensures.prompt
+
+pub returns-in_err-append-clause-made : goal.returns-in_err-append-clause-made
+returns-in_err-append-clause-made g c = makes-same _ _ _ refl

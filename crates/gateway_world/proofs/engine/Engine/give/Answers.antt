@@ -8,6 +8,10 @@ use Rattle.gateway_world.proofs.Taking.{takes-from, row-for, nothing-taken, give
 use Rattle.gateway_world.proofs.Settling.{attended-same, attended-taken, attended-then, told-then, leaves-none, leaves-same, leaves-taken, leaves-then, served-idle, served-open, told-taken, sent-then}
 use Rattle.gateway_world.proofs.Reading.{none-same, none-then}
 use Rattle.gateway_world.specs.Asks.{asked_on}
+use Rattle.gateway_world.proofs.Prompting.{apart-same, apart-with, apart-call}
+use Rattle.gateway_world.proofs.Closings.{closes-same, closes-none, closes-call}
+use Rattle.gateway_world.specs.Closing.{shut_in}
+use Rattle.gateway_world.proofs.Making.{makes-none, makes-same, makes-then}
 use Rattle.gateway_world.proofs.engine.Engine.give.Goals as goal
 
 pub returns-in_default-clause-leads : goal.returns-in_default-clause-leads
@@ -45,7 +49,7 @@ returns-then-closes-clause-leads g c =
     let some = c.in-Some-take_answer.ensures.some in
     let row = row-for _ _ _ _ some.0 c.in-Some.ensures.some in
     let takes = takes-from c.args.self.now.core c.take_answer.new.self _ c.in-Some-take_answer.answer some c.in-Some-take_answer.ensures.once t.answers t.entries t.conns in
-    let told = c.in_ok-tell_answer.ensures c.args.self.now.core.entries some.2 (given-on _ _ c.args.number _ c.requires row some.2) in
+    let told = c.in_ok-tell_answer.ensures.told c.args.self.now.core.entries some.2 (given-on _ _ c.args.number _ c.requires row some.2) in
     leads-on c.shut.result _ _ _ _ _ _ (goes-answering _ _ _ _ _ t.entries t.sends (taken-told _ _ _ c.args.number _ c.requires row takes) told) c.shut.ensures.leads
 
 pub returns-clause-leads : goal.returns-clause-leads
@@ -54,7 +58,7 @@ returns-clause-leads g c =
     let some = c.in-Some-take_answer.ensures.some in
     let row = row-for _ _ _ _ some.0 c.in-Some.ensures.some in
     let takes = takes-from c.args.self.now.core c.take_answer.new.self _ c.in-Some-take_answer.answer some c.in-Some-take_answer.ensures.once t.answers t.entries t.conns in
-    let told = c.in_ok-tell_answer.ensures c.args.self.now.core.entries some.2 (given-on _ _ c.args.number _ c.requires row some.2) in
+    let told = c.in_ok-tell_answer.ensures.told c.args.self.now.core.entries some.2 (given-on _ _ c.args.number _ c.requires row some.2) in
     goes-answering _ _ _ _ _ t.entries t.sends (taken-told _ _ _ c.args.number _ c.requires row takes) told
 
 pub returns-clause-kept : goal.returns-clause-kept
@@ -145,3 +149,44 @@ returns-clause-asks g c = none-same c.args.number _ _ _ _ (λ d. ap (asked_on d)
 pub returns-then-closes-clause-asks : goal.returns-then-closes-clause-asks
 returns-then-closes-clause-asks g c =
     none-then c.shut.result c.args.number _ _ _ _ _ _ (λ d. ap (asked_on d) c.take_answer.ensures.entries) c.set_ticket.ensures.inlets c.shut.ensures.asks
+
+pub returns-in_default-clause-apart : goal.returns-in_default-clause-apart
+returns-in_default-clause-apart g c = apart-same c.args.number _ _
+
+pub returns-in_default-take_answer-clause-apart : goal.returns-in_default-take_answer-clause-apart
+returns-in_default-take_answer-clause-apart g c = apart-same c.args.number _ _
+
+pub returns-clause-apart : goal.returns-clause-apart
+returns-clause-apart g c = apart-with c.args.number _ _ _ _ _ c.set_ticket.ensures.rows c.set_ticket.ensures.inlets
+
+pub returns-then-closes-clause-apart : goal.returns-then-closes-clause-apart
+returns-then-closes-clause-apart g c =
+    apart-call c.shut.result c.args.number _ _ _ _ _ _ (apart-with c.args.number _ _ _ _ _ c.set_ticket.ensures.rows c.set_ticket.ensures.inlets) c.shut.ensures.apart
+
+pub returns-in_default-clause-closes : goal.returns-in_default-clause-closes
+returns-in_default-clause-closes g c = closes-same _ _ _ refl
+
+pub returns-in_default-take_answer-clause-closes : goal.returns-in_default-take_answer-clause-closes
+returns-in_default-take_answer-clause-closes g c = closes-same _ _ _ c.take_answer.ensures.entries
+
+pub returns-clause-closes : goal.returns-clause-closes
+returns-clause-closes g c = closes-none _ _ _ _ (ap shut_in c.take_answer.ensures.entries) c.in_ok-tell_answer.ensures.silent
+
+pub returns-then-closes-clause-closes : goal.returns-then-closes-clause-closes
+returns-then-closes-clause-closes g c =
+    closes-call c.shut.result _ _ _ _ _ _ (closes-none _ _ _ _ (ap shut_in c.take_answer.ensures.entries) c.in_ok-tell_answer.ensures.silent) c.shut.ensures.closes
+
+pub returns-in_default-clause-made : goal.returns-in_default-clause-made
+returns-in_default-clause-made g c = makes-same _ _ _ refl
+
+pub returns-in_default-take_answer-clause-made : goal.returns-in_default-take_answer-clause-made
+returns-in_default-take_answer-clause-made g c = makes-none _ _ _ c.take_answer.ensures.entries c.take_answer.ensures.moment
+
+pub returns-in_err-tell_answer-clause-made : goal.returns-in_err-tell_answer-clause-made
+returns-in_err-tell_answer-clause-made g c = makes-none _ _ _ c.take_answer.ensures.entries c.take_answer.ensures.moment
+
+pub returns-then-closes-clause-made : goal.returns-then-closes-clause-made
+returns-then-closes-clause-made g c = makes-then _ _ _ _ (makes-none _ _ _ c.take_answer.ensures.entries c.take_answer.ensures.moment) c.shut.ensures.made
+
+pub returns-clause-made : goal.returns-clause-made
+returns-clause-made g c = makes-none _ _ _ c.take_answer.ensures.entries c.take_answer.ensures.moment

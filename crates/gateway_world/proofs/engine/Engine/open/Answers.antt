@@ -1,12 +1,18 @@
 -- A connection is opened and served, or that it isn't is told.
-use Rattle.gateway_world.proofs.Going.{goes-advancing, leads-on, told-leads}
+use Rattle.std.proofs.lemmas.Result.{err_from_is_err_and}
+use Rattle.gateway_world.proofs.Going.{goes-advancing, goes-grow, goes-none, leads-on, told-leads}
 use Rattle.gateway_world.proofs.Serving.{standing-of}
 use Rattle.gateway_world.proofs.Settling.{on-ok, settled-same}
 use Rattle.std.proofs.Common.{inl, List, [], ◌∷◌, ◌++◌, refl, ap, ◌∙◌}
+use Rattle.std.proofs.Common.{None}
+use Rattle.gateway_world.specs.Rows.{Row}
 use Rattle.gateway_world.specs.Asks.{Inlet}
 use Rattle.gateway_world.proofs.Heeding.{heeds-open, heeds-quiet}
 use Rattle.gateway_world.proofs.Entering.{turned-away}
 use Rattle.gateway_world.proofs.Reading.{order-quiet}
+use Rattle.gateway_world.proofs.Prompting.{prompt-open}
+use Rattle.gateway_world.proofs.Closings.{closes-none, closes-turned}
+use Rattle.gateway_world.proofs.Making.{makes-same}
 use Rattle.gateway_world.proofs.engine.Engine.open.Goals as goal
 
 pub returns-in-Ok-clause-leads : goal.returns-in-Ok-clause-leads
@@ -16,8 +22,11 @@ pub returns-in-Err : goal.returns-in-Err
 returns-in-Err g c = record {
   leads = leads-on c.tell_turned.result _ _ _ _ _ _ (goes-advancing _ _ _ (standing-of _ _ c.requires) c.open_in.ensures.advances) (told-leads _ _ _ _ c.tell_turned.ensures.told);
   kept = rw (c.make_room.ensures.rows) (c.in-Err.ensures.kept _ c.requires);
+  made = c.open_in.ensures.made;
   enters = turned-away c.tell_turned.result _ c.args.self.now.core c.open_in.new.core _ _ _ c.in-Err.ensures.enters c.tell_turned.ensures.fault c.tell_turned.ensures.turned;
-  asks = heeds-quiet c.tell_turned.result _ _ _ _ _ (λ d. refl) (on-ok c.tell_turned.result _ (order-quiet _ _ _ _ c.open_in.ensures.asks c.make_room.ensures.inlets));
+  closes = closes-turned c.tell_turned.result _ _ _ _ c.open_in.ensures.shuts c.tell_turned.ensures.turned;
+  prompt = on-ok c.tell_turned.result _ (λ w. rw (c.make_room.ensures.rows, c.make_room.ensures.inlets) w);
+  asks = heeds-quiet _ c.tell_turned.result _ _ _ _ _ (λ d. refl) (on-ok c.tell_turned.result _ (order-quiet _ _ _ _ _ c.open_in.ensures.asks c.make_room.ensures.inlets));
   settled = on-ok c.tell_turned.result _ (settled-same c.args.self.now.core c.open_in.new.core c.open_in.ensures.answers c.open_in.ensures.sends);
 }
 
@@ -27,7 +36,27 @@ returns-in-Ok-clause-settled g c = settled-same c.args.self.now.core c.open_in.n
 pub returns-in-Ok-clause-asks : goal.returns-in-Ok-clause-asks
 returns-in-Ok-clause-asks g c =
     let put = c.add.ensures.inlets in
-    heeds-open _ _ _ put.0 _ _ _ c.in-Ok.ensures.fresh c.requires.opened (c.in-Ok.ensures.opened _ c.requires).opened c.open_in.ensures.asks (put.1 ∙ ap (λ (is : List Inlet). is ++ record { number = c.in-Ok.number; inbox = put.0 } ∷ []) c.make_room.ensures.inlets) put.2 (put.3 c.in_ok-edge.ensures.stands)
+    heeds-open _ _ _ _ put.0 _ _ _ c.in-Ok.ensures.fresh c.requires.opened (c.in-Ok.ensures.opened _ c.requires).opened c.open_in.ensures.asks (put.1 ∙ ap (λ (is : List Inlet). is ++ record { number = c.in-Ok.number; inbox = put.0 } ∷ []) c.make_room.ensures.inlets) put.2 (put.3 c.in_ok-edge.ensures.stands)
 
 pub returns-in-Ok-clause-enters : goal.returns-in-Ok-clause-enters
 returns-in-Ok-clause-enters g c = inl (c.in-Ok.ensures.enters, refl)
+
+pub returns-in-Ok-clause-prompt : goal.returns-in-Ok-clause-prompt
+returns-in-Ok-clause-prompt g c =
+    let put = c.add.ensures.inlets in
+    prompt-open _ _ _ put.0 c.args.self.now.core.entries _ c.in-Ok.ensures.fresh c.requires.opened (c.add.ensures.rows ∙ ap (λ (rs : List Row). rs ++ record { number = c.in-Ok.number; waits = None } ∷ []) c.make_room.ensures.rows)
+    (put.1 ∙ ap (λ (is : List Inlet). is ++ record { number = c.in-Ok.number; inbox = put.0 } ∷ []) c.make_room.ensures.inlets) (put.4 c.in_ok-edge.ensures.only)
+
+pub returns-in-Ok-clause-closes : goal.returns-in-Ok-clause-closes
+returns-in-Ok-clause-closes g c = closes-none _ _ _ _ c.open_in.ensures.shuts refl
+
+pub returns-in_err-edge-clause-made : goal.returns-in_err-edge-clause-made
+returns-in_err-edge-clause-made g c = makes-same _ _ _ refl
+
+pub returns-in_err-make_room-clause-made : goal.returns-in_err-make_room-clause-made
+returns-in_err-make_room-clause-made g c = makes-same _ _ _ refl
+
+pub returns-in_err-make_room-clause-leads : goal.returns-in_err-make_room-clause-leads
+returns-in_err-make_room-clause-leads g c =
+    let failed = err_from_is_err_and c.from_residual-in_err-make_room.result c.from_residual-in_err-make_room.ensures.1 in
+    rw (failed.1) (goes-grow _ _ _ _ (goes-none c.args.self.now.core c.args.outputs.now.items))

@@ -1,13 +1,16 @@
 -- Each request follows what was given out before.
-use Rattle.std.proofs.Common.{refl}
+use Rattle.std.proofs.Common.{rules, refl}
 use Rattle.std.proofs.lemmas.Result.{err_from_is_err_and}
 use Rattle.gateway_world.proofs.Going.{goes-grow, goes-none, goes-on, grows-on}
 use Rattle.gateway_world.proofs.Settling.{leaves-none, leaves-on}
 use Rattle.gateway_world.proofs.Reading.{order-quiet, order-then}
+use Rattle.gateway_world.proofs.Prompting.{apart-same, apart-then}
+use Rattle.gateway_world.proofs.Closings.{closes-same, closes-then}
+use Rattle.gateway_world.proofs.Making.{makes-same, makes-then}
 use Rattle.gateway_world.proofs.engine.Engine.serve.Goals as goal
 
 pub each-init : goal.each-init
-each-init g c = (goes-none _ _, c.requires, leaves-none _ _ _, (λ w. w), (λ e. e), (λ w. w), order-quiet _ _ _ _ (λ d. refl) refl)
+each-init g c = (goes-none _ _, c.requires, leaves-none _ _ _, (λ w. w), (λ e. e), (λ w. w), order-quiet _ _ _ _ _ (λ d. refl) refl, apart-same _ _ _, closes-same _ _ _ refl, makes-same _ _ _ refl)
 
 pub each-preserved : goal.each-preserved
 each-preserved g c =
@@ -19,7 +22,10 @@ each-preserved g c =
       (λ w. next.told (before.3 w)),
       (λ e. next.sent (before.4 e)),
       (λ w. next.attended (before.5 w)),
-      order-then _ _ _ _ _ _ before.6 next.asks,
+      order-then _ _ _ _ _ _ _ before.6 next.asks,
+      apart-then _ _ _ _ _ _ _ before.7 next.apart,
+      closes-then _ _ _ _ _ _ before.8 next.closes,
+      makes-then _ _ _ _ before.9 next.made,
     )
 
 pub returns-in_err-serve_next-clause-leads : goal.returns-in_err-serve_next-clause-leads
@@ -27,17 +33,32 @@ returns-in_err-serve_next-clause-leads g c =
     let failed = err_from_is_err_and c.from_residual.result c.from_residual.ensures.1 in
     rw (failed.1) (grows-on _ _ _ (goes-grow _ _ _ _ c.each.invariant.0) c.in_err-serve_next.ensures.leads)
 
-pub returns-then-not-branch-clause-leads : goal.returns-then-not-branch-clause-leads
-returns-then-not-branch-clause-leads g c = goes-on _ _ _ _ _ _ c.each.invariant.0 c.in_ok-serve_next.ensures.leads
+pub returns-clause-leads : goal.returns-clause-leads
+returns-clause-leads g c = goes-on _ _ _ _ _ _ c.each.invariant.0 c.in_ok-serve_next.ensures.leads
 
-pub returns-then-not-branch-clause-leaves : goal.returns-then-not-branch-clause-leaves
-returns-then-not-branch-clause-leaves g c = leaves-on _ _ _ _ _ _ _ (goes-grow _ _ _ _ c.each.invariant.0) c.each.invariant.2 c.in_ok-serve_next.ensures.leaves
+pub returns-clause-leaves : goal.returns-clause-leaves
+returns-clause-leaves g c = leaves-on _ _ _ _ _ _ _ (goes-grow _ _ _ _ c.each.invariant.0) c.each.invariant.2 c.in_ok-serve_next.ensures.leaves
 
-pub returns-then-not-branch-clause-told : goal.returns-then-not-branch-clause-told
-returns-then-not-branch-clause-told g c = λ w. c.in_ok-serve_next.ensures.told (c.each.invariant.3 w)
+pub returns-clause-told : goal.returns-clause-told
+returns-clause-told g c = λ w. c.in_ok-serve_next.ensures.told (c.each.invariant.3 w)
 
-pub returns-then-not-branch-clause-attended : goal.returns-then-not-branch-clause-attended
-returns-then-not-branch-clause-attended g c = λ w. c.in_ok-serve_next.ensures.attended (c.each.invariant.5 w)
+pub returns-clause-attended : goal.returns-clause-attended
+returns-clause-attended g c = λ w. c.in_ok-serve_next.ensures.attended (c.each.invariant.5 w)
 
-pub returns-then-not-branch-clause-asks : goal.returns-then-not-branch-clause-asks
-returns-then-not-branch-clause-asks g c = order-then _ _ _ _ _ _ c.each.invariant.6 c.in_ok-serve_next.ensures.asks
+pub returns-clause-asks : goal.returns-clause-asks
+returns-clause-asks g c = order-then _ _ _ _ _ _ _ c.each.invariant.6 c.in_ok-serve_next.ensures.asks
+
+pub returns-clause-prompt : goal.returns-clause-prompt
+returns-clause-prompt g c = c.in_ok-serve_next.ensures.prompt (search rules)
+
+pub returns-clause-apart : goal.returns-clause-apart
+returns-clause-apart g c = apart-then _ _ _ _ _ _ _ c.each.invariant.7 c.in_ok-serve_next.ensures.apart
+
+pub returns-clause-closes : goal.returns-clause-closes
+returns-clause-closes g c = closes-then _ _ _ _ _ _ c.each.invariant.8 c.in_ok-serve_next.ensures.closes
+
+pub returns-in_err-serve_next-clause-made : goal.returns-in_err-serve_next-clause-made
+returns-in_err-serve_next-clause-made g c = makes-then _ _ _ _ c.each.invariant.9 c.in_err-serve_next.ensures.made
+
+pub returns-clause-made : goal.returns-clause-made
+returns-clause-made g c = makes-then _ _ _ _ c.each.invariant.9 c.in_ok-serve_next.ensures.made

@@ -3,7 +3,13 @@ use Rattle.std.proofs.Common.{◌≡◌, []}
 use Rattle.gateway_world.specs.Steps.{Goes}
 use Rattle.gateway_world.specs.Rows.{Serves, Attended, LeavesOthers, IsServedOn, rows_of}
 use Rattle.gateway_world.specs.Asks.{inlets_of}
+use Rattle.std.specs.Arc.{arc_value}
+use Rattle.ask_model.specs.Views.{rules_of}
+use Rattle.ask_model.specs.Maps.{Maps}
 use Rattle.gateway_world.specs.AskSteps.{AsksInOrder}
+use Rattle.gateway_world.specs.Closing.{TellsClosings}
+use Rattle.gateway_world.specs.Making.{Makes}
+use Rattle.gateway_world.specs.Prompt.{LeavesConnections, work_at}
 use Rattle.gateway_world.proofs.engine.Engine.serve.Given as goal
 
 abbrev pub invariant-each : goal.invariant-each
@@ -13,4 +19,10 @@ invariant-each g l =
     × (IsServedOn l.number l.initial.self.core (rows_of l.initial.self.table) → IsServedOn l.number l.self.core (rows_of l.self.table))
     × (l.initial.self.core.sends ≡ [] → l.self.core.sends ≡ [])
     × (Attended l.initial.self.core (rows_of l.initial.self.table) → Attended l.self.core (rows_of l.self.table))
-    × AsksInOrder l.initial.self.core.entries (inlets_of l.initial.self.table) l.self.core.entries (inlets_of l.self.table)
+    × AsksInOrder (Maps g.R.Relation.holds g.R.Relation.takes (rules_of (arc_value l.context.settings.now))) l.initial.self.core.entries (inlets_of l.initial.self.table) l.self.core.entries (inlets_of l.self.table)
+    × LeavesConnections l.number (rows_of l.initial.self.table) (inlets_of l.initial.self.table) (rows_of l.self.table) (inlets_of l.self.table)
+    × TellsClosings l.initial.self.core.entries l.self.core.entries l.initial.outputs.items l.outputs.items
+    × Makes l.context.when l.initial.self.core l.self.core
+
+abbrev pub decreases-each : goal.decreases-each
+decreases-each g l = work_at l.number (inlets_of l.self.table)

@@ -2,10 +2,14 @@
 use Rattle.gateway_world.proofs.Going.{goes-none, goes-telling}
 use Rattle.gateway_world.proofs.Heeding.{not-request}
 use Rattle.gateway_world.proofs.Reading.{order-next, order-idle}
+use Rattle.gateway_world.proofs.Prompting.{apart-read, apart-then, work-ends}
+use Rattle.std.proofs.Common.{refl, arith}
+use Rattle.gateway_world.proofs.Closings.{closes-none, closes-same}
+use Rattle.gateway_world.proofs.Making.{makes-same}
 use Rattle.gateway_world.proofs.engine.Engine.serve_next.Goals as goal
 
 pub returns-in_ok-tell_continue-in-Continue-clause-leads : goal.returns-in_ok-tell_continue-in-Continue-clause-leads
-returns-in_ok-tell_continue-in-Continue-clause-leads g c = goes-telling _ _ _ (c.in_ok-tell_continue-in-Continue.ensures c.args.self.now.core.entries)
+returns-in_ok-tell_continue-in-Continue-clause-leads g c = goes-telling _ _ _ (c.in_ok-tell_continue-in-Continue.ensures.told c.args.self.now.core.entries)
 
 pub returns-in-Nothing-clause-leads : goal.returns-in-Nothing-clause-leads
 returns-in-Nothing-clause-leads g c = goes-none _ _
@@ -13,14 +17,59 @@ returns-in-Nothing-clause-leads g c = goes-none _ _
 pub returns-in_ok-ask-in-Request-clause-asks : goal.returns-in_ok-ask-in-Request-clause-asks
 returns-in_ok-ask-in-Request-clause-asks g c =
     let next = c.in_ok-incoming.ensures in
-    order-next _ c.args.number _ _ _ _ _ next.others (rw (c.in-Request.is) at next.takes) (λ o. not-request _ _ c.in-Request.is (next.over o).1) c.in_ok-ask-in-Request.ensures.asks
+    order-next _ _ c.args.number _ _ _ _ _ next.others (rw (c.in-Request.is) at next.takes) (λ o. not-request _ _ c.in-Request.is (next.over o).1) c.in_ok-ask-in-Request.ensures.asks
 
 pub returns-in_ok-tell_continue-in-Continue-clause-asks : goal.returns-in_ok-tell_continue-in-Continue-clause-asks
 returns-in_ok-tell_continue-in-Continue-clause-asks g c =
     let next = c.in_ok-incoming.ensures in
-    order-idle c.args.number _ _ _ next.others (rw (c.in-Continue.is) at next.takes) (λ o. (next.over o).0)
+    order-idle _ c.args.number _ _ _ next.others (rw (c.in-Continue.is) at next.takes) (λ o. (next.over o).0)
 
 pub returns-in-Nothing-clause-asks : goal.returns-in-Nothing-clause-asks
 returns-in-Nothing-clause-asks g c =
     let next = c.in_ok-incoming.ensures in
-    order-idle c.args.number _ _ _ next.others (rw (c.in-Nothing.is) at next.takes) (λ o. (next.over o).0)
+    order-idle _ c.args.number _ _ _ next.others (rw (c.in-Nothing.is) at next.takes) (λ o. (next.over o).0)
+
+pub returns-in_ok-ask-in-Request-clause-apart : goal.returns-in_ok-ask-in-Request-clause-apart
+returns-in_ok-ask-in-Request-clause-apart g c =
+    let next = c.in_ok-incoming.ensures in
+    apart-then c.args.number _ _ _ _ _ _ (apart-read c.args.number _ _ _ _ next.rows next.others) c.in_ok-ask-in-Request.ensures.apart
+
+pub returns-in_ok-tell_continue-in-Continue-clause-apart : goal.returns-in_ok-tell_continue-in-Continue-clause-apart
+returns-in_ok-tell_continue-in-Continue-clause-apart g c =
+    let next = c.in_ok-incoming.ensures in
+    apart-read c.args.number _ _ _ _ next.rows next.others
+
+pub returns-in-Nothing-clause-apart : goal.returns-in-Nothing-clause-apart
+returns-in-Nothing-clause-apart g c =
+    let next = c.in_ok-incoming.ensures in
+    apart-read c.args.number _ _ _ _ next.rows next.others
+
+pub returns-in_ok-ask-in-Request-clause-less : goal.returns-in_ok-ask-in-Request-clause-less
+returns-in_ok-ask-in-Request-clause-less g c = λ more.
+    let lt = (rw (c.in-Request.is) at c.in_ok-incoming.ensures.less) refl in
+    let le = work-ends c.args.number _ _ c.in_ok-ask-in-Request.ensures.asks.left in
+    omega (arith, lt, le)
+
+pub returns-in_ok-tell_continue-in-Continue-clause-prompt : goal.returns-in_ok-tell_continue-in-Continue-clause-prompt
+returns-in_ok-tell_continue-in-Continue-clause-prompt g c = λ more. (rw (c.in-Continue.is) at c.in_ok-incoming.ensures.prompt) refl
+
+pub returns-in-Nothing-clause-prompt : goal.returns-in-Nothing-clause-prompt
+returns-in-Nothing-clause-prompt g c = λ more. (rw (c.in-Nothing.is) at c.in_ok-incoming.ensures.prompt) refl
+
+pub returns-in_ok-tell_continue-in-Continue-clause-closes : goal.returns-in_ok-tell_continue-in-Continue-clause-closes
+returns-in_ok-tell_continue-in-Continue-clause-closes g c = closes-none _ _ _ _ refl c.in_ok-tell_continue-in-Continue.ensures.silent
+
+pub returns-in-Nothing-clause-closes : goal.returns-in-Nothing-clause-closes
+returns-in-Nothing-clause-closes g c = closes-same _ _ _ refl
+
+pub returns-in_ok-tell_continue-in-Continue-clause-made : goal.returns-in_ok-tell_continue-in-Continue-clause-made
+returns-in_ok-tell_continue-in-Continue-clause-made g c = makes-same _ _ _ refl
+
+pub returns-in-Nothing-clause-made : goal.returns-in-Nothing-clause-made
+returns-in-Nothing-clause-made g c = makes-same _ _ _ refl
+
+pub returns-in_err-incoming-clause-made : goal.returns-in_err-incoming-clause-made
+returns-in_err-incoming-clause-made g c = makes-same _ _ _ refl
+
+pub returns-in_err-tell_continue-in-Continue-clause-made : goal.returns-in_err-tell_continue-in-Continue-clause-made
+returns-in_err-tell_continue-in-Continue-clause-made g c = makes-same _ _ _ refl

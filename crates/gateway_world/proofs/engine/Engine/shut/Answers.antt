@@ -3,27 +3,50 @@ use Rattle.gateway_world.proofs.Going.{goes-advancing, leads-on, told-leads}
 use Rattle.gateway_world.proofs.Serving.{standing-of}
 use Rattle.std.proofs.Common.{◌∙◌}
 use Rattle.gateway_world.proofs.Settling.{attended-without, leaves-without, told-without, on-ok}
+use Rattle.gateway_world.proofs.Closings.{closes-told, closes-untold}
 use Rattle.gateway_world.proofs.engine.Engine.shut.Goals as goal
 
-pub returns-clause-leads : goal.returns-clause-leads
-returns-clause-leads g c =
-    leads-on c.tell_closed.result _ _ _ _ _ _ (goes-advancing _ _ _ (standing-of _ _ c.requires) c.close.ensures.advances) (told-leads _ _ _ _ c.tell_closed.ensures)
+pub returns-then-close-clause-leads : goal.returns-then-close-clause-leads
+returns-then-close-clause-leads g c =
+    leads-on c.tell_closed.result _ _ _ _ _ _ (goes-advancing _ _ _ (standing-of _ _ c.requires) c.close.ensures.advances) (told-leads _ _ _ _ c.tell_closed.ensures.told)
 
-pub returns-clause-leaves : goal.returns-clause-leaves
-returns-clause-leaves g c = on-ok c.tell_closed.result _ (rw (c.close.ensures.rows) (leaves-without c.args.number _ _ _ c.close.ensures.answers))
+pub returns-then-close-clause-leaves : goal.returns-then-close-clause-leaves
+returns-then-close-clause-leaves g c = on-ok c.tell_closed.result _ (rw (c.close.ensures.rows) (leaves-without c.args.number _ _ _ c.close.ensures.answers))
 
-pub returns-clause-told : goal.returns-clause-told
-returns-clause-told g c = on-ok c.tell_closed.result _ (rw (c.close.ensures.rows) (told-without c.args.number c.close.new.self.core _))
+pub returns-then-close-clause-told : goal.returns-then-close-clause-told
+returns-then-close-clause-told g c = on-ok c.tell_closed.result _ (rw (c.close.ensures.rows) (told-without c.args.number c.close.new.self.core _))
 
-pub returns-clause-sent : goal.returns-clause-sent
-returns-clause-sent g c = on-ok c.tell_closed.result _ (λ e. c.close.ensures.sends ∙ e)
+pub returns-then-close-clause-sent : goal.returns-then-close-clause-sent
+returns-then-close-clause-sent g c = on-ok c.tell_closed.result _ (λ e. c.close.ensures.sends ∙ e)
 
-pub returns-clause-attended : goal.returns-clause-attended
-returns-clause-attended g c =
+pub returns-then-close-clause-attended : goal.returns-then-close-clause-attended
+returns-then-close-clause-attended g c =
     on-ok c.tell_closed.result _ (rw (c.close.ensures.rows) (attended-without c.args.number c.args.self.now.core c.close.new.self.core _ c.close.ensures.answers))
 
-pub returns-clause-asks : goal.returns-clause-asks
-returns-clause-asks g c = on-ok c.tell_closed.result _ c.close.ensures.asks
+pub returns-then-close-clause-asks : goal.returns-then-close-clause-asks
+returns-then-close-clause-asks g c = on-ok c.tell_closed.result _ c.close.ensures.asks
 
-pub returns-clause-over : goal.returns-clause-over
-returns-clause-over g c = on-ok c.tell_closed.result _ c.close.ensures.over
+pub returns-then-close-clause-over : goal.returns-then-close-clause-over
+returns-then-close-clause-over g c = on-ok c.tell_closed.result _ c.close.ensures.over
+
+pub returns-then-close-clause-apart : goal.returns-then-close-clause-apart
+returns-then-close-clause-apart g c = on-ok c.tell_closed.result _ c.close.ensures.apart
+
+pub returns-then-close-clause-closes : goal.returns-then-close-clause-closes
+returns-then-close-clause-closes g c = closes-told c.tell_closed.result c.close.result c.args.number _ _ _ _ c.if-close.true c.close.ensures.closes c.tell_closed.ensures.closes
+
+pub returns-else-close-clause-leads : goal.returns-else-close-clause-leads
+returns-else-close-clause-leads g c = goes-advancing _ _ _ (standing-of _ _ c.requires) c.close.ensures.advances
+
+pub returns-else-close-clause-leaves : goal.returns-else-close-clause-leaves
+returns-else-close-clause-leaves g c = rw (c.close.ensures.rows) (leaves-without c.args.number _ _ _ c.close.ensures.answers)
+
+pub returns-else-close-clause-told : goal.returns-else-close-clause-told
+returns-else-close-clause-told g c = rw (c.close.ensures.rows) (told-without c.args.number c.close.new.self.core _)
+
+pub returns-else-close-clause-attended : goal.returns-else-close-clause-attended
+returns-else-close-clause-attended g c =
+    rw (c.close.ensures.rows) (attended-without c.args.number c.args.self.now.core c.close.new.self.core _ c.close.ensures.answers)
+
+pub returns-else-close-clause-closes : goal.returns-else-close-clause-closes
+returns-else-close-clause-closes g c = closes-untold c.close.result c.args.number _ _ _ c.if-close.false c.close.ensures.closes

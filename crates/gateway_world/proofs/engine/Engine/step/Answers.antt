@@ -19,17 +19,17 @@ returns-in-Open-clause-asks g c = rw (c.in-Open.is) (c.open.ensures.asks)
 
 pub returns-in-Bytes-clause-asks : goal.returns-in-Bytes-clause-asks
 returns-in-Bytes-clause-asks g c =
-    heeds-bytes c.bytes.result c.in-Bytes.number c.in-Bytes.bytes.now _ _ _ _ _ (ap (bytes_on c.in-Bytes.number) c.in-Bytes.is ∙ bytes-here c.in-Bytes.number c.in-Bytes.bytes)
+    heeds-bytes _ c.bytes.result c.in-Bytes.number c.in-Bytes.bytes.now _ _ _ _ _ (ap (bytes_on c.in-Bytes.number) c.in-Bytes.is ∙ bytes-here c.in-Bytes.number c.in-Bytes.bytes)
     (λ d other. ap (bytes_on d) c.in-Bytes.is ∙ bytes-elsewhere d c.in-Bytes.number c.in-Bytes.bytes other) c.bytes.ensures.others c.bytes.ensures.reads c.bytes.ensures.over
 
 pub returns-in-Datagram-clause-asks : goal.returns-in-Datagram-clause-asks
-returns-in-Datagram-clause-asks g c = heeds-quiet c.heard.result _ _ _ _ _ (λ d. ap (bytes_on d) c.in-Datagram.is) c.heard.ensures.asks
+returns-in-Datagram-clause-asks g c = heeds-quiet _ c.heard.result _ _ _ _ _ (λ d. ap (bytes_on d) c.in-Datagram.is) c.heard.ensures.asks
 
 pub returns-in-Tick-clause-asks : goal.returns-in-Tick-clause-asks
-returns-in-Tick-clause-asks g c = heeds-quiet c.tick.result _ _ _ _ _ (λ d. ap (bytes_on d) c.in-Tick.is) c.tick.ensures.asks
+returns-in-Tick-clause-asks g c = heeds-quiet _ c.tick.result _ _ _ _ _ (λ d. ap (bytes_on d) c.in-Tick.is) c.tick.ensures.asks
 
 pub returns-in-Close-clause-asks : goal.returns-in-Close-clause-asks
-returns-in-Close-clause-asks g c = λ d. heeds-none d _ _ _ _ _ (ap (bytes_on d) c.in-Close.is) (order-none _ _ _ _ _ c.close.ensures.asks d)
+returns-in-Close-clause-asks g c = λ d. heeds-none _ d _ _ _ _ _ (ap (bytes_on d) c.in-Close.is) (order-none _ _ _ _ _ _ c.close.ensures.asks d)
 
 pub returns-in-Open-clause-enters : goal.returns-in-Open-clause-enters
 returns-in-Open-clause-enters g c = rw (c.in-Open.is) (c.open.ensures.enters)
@@ -45,3 +45,18 @@ returns-in-Tick-clause-enters g c = rw (c.in-Tick.is) (c.tick.ensures.enters)
 
 pub returns-in-Close-clause-enters : goal.returns-in-Close-clause-enters
 returns-in-Close-clause-enters g c = rw (c.in-Close.is) (c.close.ensures.enters, refl)
+
+pub returns-in-Open-clause-closes : goal.returns-in-Open-clause-closes
+returns-in-Open-clause-closes g c = rw (c.in-Open.is) (c.open.ensures.closes)
+
+pub returns-in-Bytes-clause-closes : goal.returns-in-Bytes-clause-closes
+returns-in-Bytes-clause-closes g c = rw (c.in-Bytes.is) (c.bytes.ensures.closes)
+
+pub returns-in-Datagram-clause-closes : goal.returns-in-Datagram-clause-closes
+returns-in-Datagram-clause-closes g c = rw (c.in-Datagram.is) (c.heard.ensures.closes)
+
+pub returns-in-Tick-clause-closes : goal.returns-in-Tick-clause-closes
+returns-in-Tick-clause-closes g c = rw (c.in-Tick.is) (c.tick.ensures.closes)
+
+pub returns-in-Close-clause-closes : goal.returns-in-Close-clause-closes
+returns-in-Close-clause-closes g c = rw (c.in-Close.is) tt

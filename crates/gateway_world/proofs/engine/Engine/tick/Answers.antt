@@ -5,6 +5,8 @@ use Rattle.gateway_world.proofs.Settling.{attended-heard, attended-then}
 use Rattle.std.proofs.Common.{refl}
 use Rattle.gateway_world.proofs.Reading.{order-quiet, order-call}
 use Rattle.gateway_world.proofs.Entering.{tick-more}
+use Rattle.gateway_world.proofs.Closings.{closes-none, closes-call}
+use Rattle.gateway_world.proofs.Making.{makes-then}
 use Rattle.gateway_world.proofs.engine.Engine.tick.Goals as goal
 
 pub deliver-requires : goal.deliver-requires
@@ -22,8 +24,14 @@ returns-clause-settled g c =
     attended-then c.deliver.result _ _ _ (λ w. attended-heard c.args.self.now.core c.tick_in.new.core _ c.requires c.in_ok-tick_in.ensures.alone w.answers) c.deliver.ensures.settled
 
 pub returns-clause-asks : goal.returns-clause-asks
-returns-clause-asks g c = order-call c.deliver.result _ _ _ _ _ _ (order-quiet _ _ _ _ c.in_ok-tick_in.ensures.asks refl) c.deliver.ensures.asks
+returns-clause-asks g c = order-call _ c.deliver.result _ _ _ _ _ _ (order-quiet _ _ _ _ _ c.in_ok-tick_in.ensures.asks refl) c.deliver.ensures.asks
 
 pub returns-clause-enters : goal.returns-clause-enters
 returns-clause-enters g c =
     tick-more c.deliver.result c.args.self.now.core c.tick_in.new.core c.deliver.new.self.core _ c.in_ok-tick_in.ensures.enters (leads-grow c.deliver.result _ _ _ _ c.deliver.ensures.leads) c.deliver.ensures.quiet
+
+pub returns-clause-closes : goal.returns-clause-closes
+returns-clause-closes g c = closes-call c.deliver.result _ _ _ _ _ _ (closes-none _ _ _ _ c.in_ok-tick_in.ensures.shuts refl) c.deliver.ensures.closes
+
+pub returns-clause-made : goal.returns-clause-made
+returns-clause-made g c = makes-then _ _ _ _ c.tick_in.ensures.made c.deliver.ensures.made

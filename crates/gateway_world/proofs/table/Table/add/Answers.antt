@@ -11,4 +11,5 @@ returns-clause-inlets g c = (
   ap (λ (cs : List (Connection g.row.R.Denot)). map inlet_of cs) c.push_reserved.ensures.items ∙ map-append inlet_of c.args.self.now.rows.items _,
   c.new.ensures.open,
   c.new.ensures.holds,
+  c.new.ensures.only,
 )

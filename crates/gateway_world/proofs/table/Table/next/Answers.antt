@@ -1,9 +1,10 @@
 -- Its row stays as it was, and waits for nothing.
-use Rattle.std.proofs.Common.{ap, refl}
+use Rattle.std.proofs.Common.{ap, refl, inl}
 use Rattle.std.proofs.Math.Seq.{map-set_same}
 use Rattle.gateway_world.specs.Rows.{row_of}
-use Rattle.gateway_world.proofs.Placing.{idle-row}
-use Rattle.gateway_world.proofs.Inlets.{put-others, put-takes, put-ends}
+use Rattle.gateway_world.proofs.Placing.{idle-row, busy-row}
+use Rattle.gateway_world.proofs.Inlets.{no-inbox, none-stands, put-others, put-takes, put-ends, put-less, put-prompt}
+use Rattle.gateway_world.proofs.table.Table.next.Goals.{in_default-via-in-Some+else-is_none, in_default-via-in_default}
 use Rattle.gateway_world.proofs.table.Table.next.Goals as goal
 
 pub returns-in-Some-clause-rows : goal.returns-in-Some-clause-rows
@@ -26,3 +27,21 @@ pub returns-in-Some-clause-over : goal.returns-in-Some-clause-over
 returns-in-Some-clause-over g c =
     put-ends c.args.self.now.rows.items c.in-Some.place c.args.number c.index_mut.result.now _ c.in-Some.ensures.some c.in-Some.ensures.first c.index_mut.ensures.value refl
     c.next.result c.next.ensures.over
+
+pub returns-in-Some-clause-less : goal.returns-in-Some-clause-less
+returns-in-Some-clause-less g c =
+    put-less c.args.self.now.rows.items c.in-Some.place c.args.number c.index_mut.result.now _ c.in-Some.ensures.some c.in-Some.ensures.first c.index_mut.ensures.value refl
+    c.next.result c.next.ensures.less
+
+pub returns-in-Some-clause-prompt : goal.returns-in-Some-clause-prompt
+returns-in-Some-clause-prompt g c =
+    put-prompt c.args.self.now.rows.items c.in-Some.place c.args.number c.index_mut.result.now _ c.in-Some.ensures.some c.in-Some.ensures.first c.index_mut.ensures.value refl
+    c.next.result _ c.next.ensures.idle
+
+pub returns-in_default-clause-prompt : goal.returns-in_default-clause-prompt
+returns-in_default-clause-prompt g c = λ none text stands.
+    elim c.in_default.branch [
+      | in_default-via-in-Some+else-is_none w ↦
+          inl (busy-row c.args.self.now.rows.items w.in-Some.place c.args.number w.index.result.now w.is_none.result w.in-Some.ensures.some w.in-Some.ensures.first w.index.ensures w.is_none.ensures w.if-is_none.false)
+      | in_default-via-in_default w ↦ absurd (none-stands _ c.args.number text (no-inbox c.args.self.now.rows.items c.args.number (w.in_default.ensures.none refl)) stands)
+    ]

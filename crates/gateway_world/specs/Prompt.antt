@@ -1,0 +1,30 @@
+-- That nothing waits which could be asked.
+use Rattle.std.specs.Prelude.{◌≡◌, ◌≢◌, ◌⊎◌, ℕ, List, Option, Some, None}
+use Rattle.gateway_world.specs.declared.inbox.Inbox.{Inbox}
+use Rattle.gateway_world.specs.Inboxes.{IsIdle, work_of}
+use Rattle.gateway_world.specs.Rows.{Row, IsRow, row_at}
+use Rattle.gateway_world.specs.Asks.{Inlet, inbox_at, StandsFor}
+
+-- The connection waits for the answer to an ask.
+abbrev pub IsWaiting : List Row → ℕ → Type 0
+IsWaiting rows c = (k : ℕ) × IsRow rows c (Some k)
+
+-- Nothing can be asked of the texts that the connection stands for, or it waits for an answer.
+abbrev pub IsPromptOn : ℕ → List Row → List Inlet → Type 0
+IsPromptOn c rows inlets = (text : List ℕ) → StandsFor inlets c text → IsWaiting rows c ⊎ IsIdle text
+
+-- So it is on each connection.
+abbrev pub IsPrompt : List Row → List Inlet → Type 0
+IsPrompt rows inlets = (c : ℕ) → IsPromptOn c rows inlets
+
+-- The other connections are as they were.
+abbrev pub LeavesConnections : ℕ → List Row → List Inlet → List Row → List Inlet → Type 0
+LeavesConnections c rows inlets rows1 inlets1 = (d : ℕ) → d ≢ c → (row_at d rows1 ≡ row_at d rows) × (inbox_at d inlets1 ≡ inbox_at d inlets)
+
+-- what is left to read on the connection at most
+abbrev pub work_in : Option Inbox → ℕ
+work_in None = 0
+work_in (Some inbox) = work_of inbox
+
+abbrev pub work_at : ℕ → List Inlet → ℕ
+work_at c inlets = work_in (inbox_at c inlets)
