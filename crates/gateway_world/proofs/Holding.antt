@@ -1,10 +1,11 @@
 -- The text of a connection, as its bytes go into the edge and requests come out.
-use Rattle.std.proofs.Common.{◌≡◌, ℕ, zero, suc, ◌+◌, ◌-◌, ◌≤◌, ◌<◌, min, ◌⊎◌, inl, inr, true, false, List, [], ◌∷◌, ◌++◌, length, take, drop, refl, sym, ap, subst, ◌∙◌, arith}
+use Rattle.std.specs.Prelude.{not, ◌&&◌, ◌||◌, ◌↔◌, IsTrue}
+use Rattle.std.proofs.Common.{Bool, ◌≡◌, ℕ, zero, suc, ◌+◌, ◌-◌, ◌≤◌, ◌<◌, min, ◌⊎◌, inl, inr, true, false, List, [], ◌∷◌, ◌++◌, length, take, drop, refl, sym, ap, subst, ◌∙◌, arith}
 use Rattle.std.proofs.Math.ListN.{drop_of_length-le}
 use Rattle.std.proofs.lemmas.List.{append-nil, take_all, take-append-drop, append_assoc}
 use Rattle.http_edge.specs.declared.request.Incoming.{Incoming}
 use Rattle.http_edge.specs.Reading.{Item, First, HasNone, closes}
-use Rattle.http_edge.specs.Edges.{Stands, Waits, item}
+use Rattle.http_edge.specs.Edges.{Stands, Waits, item, Expects}
 use Rattle.http_edge.proofs.Readings.{first_on}
 use Rattle.gateway_world.specs.declared.inbox.Inbox.{Inbox}
 use Rattle.http_edge.specs.declared.request.Incoming.TheVariants as In
@@ -54,7 +55,7 @@ first-whole text front behind rest i whole first = rw whole (first_on front i re
 pub stays-on : (b : List ℕ) (j : Inbox) (text front : List ℕ) → text ≡ front ++ b → Stands j.edge front → drop j.taken j.backlog.items ≡ b → Holds j text
 stays-on b j text front whole stands left = record { front = front; stands = stands; whole = whole ∙ ap (λ (s : List ℕ). front ++ s) (sym left) }
 
-same-close : (i : Incoming) → closes_came (came_of i) ≡ closes (item i)
+pub same-close : (i : Incoming) → closes_came (came_of i) ≡ closes (item i)
 same-close (In.Request r) = refl
 same-close (In.Bad k) = refl
 
@@ -90,3 +91,22 @@ none-fits b v taken n u same count none room =
     go : (s : List ℕ) → 0 ≡ min (length s) (8192 - u) → s ≡ []
     go [] e = refl
     go (x ∷ xs) e = absurd (omega (arith, e, room))
+
+-- what a client was told, by whether its last request was read
+pub none-told : (b t closes : Bool) → b ≡ closes → (closes ≡ false → t ≡ false) → (not b && t) ≡ false
+none-told true t closes is fresh = refl
+none-told false t closes is fresh = fresh (sym is)
+
+pub told-now : (c0 c1 t0 t1 t2 r : Bool) → c0 ≡ false → c1 ≡ c0 → t1 ≡ t0 → (IsTrue r → t1 ≡ false) → t2 ≡ (r || t1) → r ≡ true
+    → (c0 ≡ false) × ((not c0 && t0) ≡ false) × ((not c1 && t2) ≡ true)
+told-now c0 c1 t0 t1 t2 r open_one same kept fresh now so =
+    let before : t0 ≡ false = sym kept ∙ fresh (rw so refl) in
+    (open_one, rw (open_one, before) refl, rw (same, open_one, now, so) refl)
+
+pub told-still : (c0 c1 t0 t1 t2 r : Bool) → c1 ≡ c0 → t1 ≡ t0 → t2 ≡ (r || t1) → r ≡ false → (not c1 && t2) ≡ (not c0 && t0)
+told-still c0 c1 t0 t1 t2 r same kept now so = rw (same, now, so, kept) refl
+
+pub continued-so : (closing t : Bool) (text front b : List ℕ) → closing ≡ false → text ≡ front ++ b → b ≡ [] → (t ≡ true ↔ Expects front) → ((not closing && t) ≡ true ↔ Expects text)
+continued-so closing t text front b open_one whole none w =
+    let same : text ≡ front = whole ∙ ap (λ (s : List ℕ). front ++ s) none ∙ append-nil front in
+    rw (open_one, same) w

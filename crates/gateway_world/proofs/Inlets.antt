@@ -1,5 +1,5 @@
 -- The inboxes of connections, by their places.
-use Rattle.std.proofs.Common.{◌≡◌, ◌≢◌, ℕ, zero, suc, ◌<◌, List, [], ◌∷◌, ◌++◌, map, take, get_or, inl, inr, true, false, Some, None, Result, Ok, Err, IfOk, OnOk, refl, sym, ap, subst, ◌∙◌, arith}
+use Rattle.std.proofs.Common.{◌≡◌, ◌≢◌, ℕ, zero, suc, ◌<◌, List, [], ◌∷◌, ◌++◌, map, take, get_or, inl, inr, true, false, Option, Some, None, Result, Ok, Err, IfOk, OnOk, refl, sym, ap, subst, ◌∙◌, arith}
 use Rattle.std.specs.Prelude.{option_map}
 use Rattle.std.specs.List.{All, slice_get}
 use Rattle.std.proofs.Math.ListN.{set}
@@ -11,9 +11,10 @@ use Rattle.gateway_world.specs.declared.inbox.Inbox.{Inbox}
 use Rattle.gateway_world.specs.declared.inbox.Next.{Next}
 use Rattle.gateway_world.specs.declared.inbox.Next.TheVariants as N
 use Rattle.gateway_world.specs.declared.table.Connection.{Connection}
-use Rattle.gateway_world.specs.Inboxes.{Holds, AsksNext, IsIdle, work_of}
+use Rattle.gateway_world.specs.Inboxes.{Holds, AsksNext, work_of}
 use Rattle.gateway_world.specs.Rows.{Row, is_request}
-use Rattle.gateway_world.specs.Prompt.{IsPromptOn, work_in, work_at}
+use Rattle.gateway_world.specs.Continuing.{told_of, told_in, told_at, TellsNext, TellsAt}
+use Rattle.gateway_world.specs.Prompt.{AwaitsMore, IsPromptOn, work_in, work_at}
 use Rattle.gateway_world.specs.Asks.{Inlet, inlet_of, inbox_at, StandsFor, ReadsNoMore, IsOver}
 use Rattle.gateway_world.specs.AskSteps.{TakesNext, without_inlet}
 use Rattle.gateway_world.proofs.Placing.{number-at}
@@ -199,12 +200,31 @@ module _ {R : Type 0} (cs : List (Connection R)) (i n : ℕ) (x y : Connection R
   put-less (Err m) less = tt
 
   -- Where nothing is asked, nothing can be.
-  pub put-prompt : (r : Result Next Memory) (rows : List Row) → IfOk r (λ next. is_request next ≡ false → y.inbox.closing ≡ false → (text : List ℕ) → Holds y.inbox text → IsIdle text)
+  pub put-prompt : (r : Result Next Memory) (rows : List Row) → IfOk r (λ next. is_request next ≡ false → y.inbox.closing ≡ false → (text : List ℕ) → Holds y.inbox text → AwaitsMore (told_of y.inbox) text)
       → IfOk r (λ next. is_request next ≡ false → IsPromptOn n rows (map inlet_of (set cs i y)))
   put-prompt (Ok next) rows idle = λ none text w.
       let here = same-inbox w.inbox y.inbox (sym w.stands ∙ put-here) in
-      inr (idle none (subst (λ (b : Inbox). b.closing ≡ false) here w.goes_on) text (subst (λ (b : Inbox). Holds b text) here w.holds))
+      inr (subst (λ (o : Option Inbox). AwaitsMore (told_in o) text) (sym put-here)
+      (idle none (subst (λ (b : Inbox). b.closing ≡ false) here w.goes_on) text (subst (λ (b : Inbox). Holds b text) here w.holds)))
   put-prompt (Err m) rows idle = tt
+
+  -- what a client was told
+  pub put-told : (r : Result Next Memory) → IfOk r (λ next. TellsNext next x.inbox y.inbox) → IfOk r (λ next. TellsAt next n (map inlet_of cs) (map inlet_of (set cs i y)))
+  put-told (Ok (N.Request incoming)) w = ap told_in put-here ∙ w
+  put-told (Ok N.Continue) w =
+      let before = ap told_in (inbox-here cs i n x e first at_it) in
+      (λ o. true-false (sym (over-here o) ∙ w.0), before ∙ w.1, ap told_in put-here ∙ w.2)
+    where
+      true-false : true ≡ false → ⊥
+      true-false f = absurd cc
+  put-told (Ok N.Nothing) w = ap told_in put-here ∙ w ∙ sym (ap told_in (inbox-here cs i n x e first at_it))
+  put-told (Err m) w = tt
+
+  pub put-told-still : told_of y.inbox ≡ told_of x.inbox → told_at n (map inlet_of (set cs i y)) ≡ told_at n (map inlet_of cs)
+  put-told-still still = ap told_in put-here ∙ still ∙ sym (ap told_in (inbox-here cs i n x e first at_it))
+
+  pub put-open : y.inbox.closing ≡ x.inbox.closing → IsOver (map inlet_of (set cs i y)) n → IsOver (map inlet_of cs) n
+  put-open closing o = subst ReadsNoMore (sym (inbox-here cs i n x e first at_it)) (sym closing ∙ subst ReadsNoMore put-here o)
 
 -- Where it isn't open, it stands for nothing.
 pub closed-more : {R : Type 0} (cs : List (Connection R)) (n : ℕ) (bytes : List ℕ) (inlets : List Inlet) → All (λ (c : Connection R). c.number ≢ n) cs

@@ -3,6 +3,7 @@ pub mod Asking
 pub mod Attending
 pub mod Bodies
 pub mod Closings
+pub mod Continuing
 pub mod Counting
 pub mod Entering
 pub mod Faults

@@ -46,7 +46,7 @@ answered-open k (g ∷ gs) e =
       | inr u ↦ All-cons (λ (g : Given). g.ask ≢ k) g gs u.1 (answered-open k gs (rw (u.0) at e))
     ]
 
-none-with : (k : ℕ) (gs : List Given) → Contains (map ask_of gs) k → All (λ (g : Given). g.ask ≢ k) gs → ⊥
+pub none-with : (k : ℕ) (gs : List Given) → Contains (map ask_of gs) k → All (λ (g : Given). g.ask ≢ k) gs → ⊥
 none-with k gs has all = All-contains (λ (j : ℕ). j ≢ k) (map ask_of gs) k (All-map (λ (j : ℕ). j ≢ k) ask_of gs all) has refl
 
 answered-yes : (k : ℕ) (gs : List Given) → Contains (map ask_of gs) k → is_answered k gs ≡ true

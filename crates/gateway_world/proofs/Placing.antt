@@ -84,6 +84,11 @@ idle-row {R} cs i n d b (Ok next) e first at_it tells so =
     λ request. place-row cs i n d None e first at_it (ap (λ (o : Option (Ticket R)). option_map (λ (t : Ticket R). t.number) o) (none-is d.ticket b tells so))
 idle-row cs i n d b (Err x) e first at_it tells so = tt
 
+pub free-row : {R : Type 0} (cs : List (Connection R)) (i n : ℕ) (d : Connection R) (b : Bool) → option_map (λ (c : Connection R). c.number) (slice_get cs i) ≡ Some n
+    → All (λ (c : Connection R). c.number ≢ n) (take i cs) → d ≡ get_or cs i d → is_some d.ticket ≡ not b → b ≡ true → IsRow (map row_of cs) n None
+free-row {R} cs i n d b e first at_it tells so =
+    place-row cs i n d None e first at_it (ap (λ (o : Option (Ticket R)). option_map (λ (t : Ticket R). t.number) o) (none-is d.ticket b tells so))
+
 -- where its row waits for nothing
 pub no-ticket-row : {R : Type 0} (cs : List (Connection R)) (i n : ℕ) (d : Connection R) (o : Option (Bor (Ticket R))) → option_map (λ (c : Connection R). c.number) (slice_get cs i) ≡ Some n
     → All (λ (c : Connection R). c.number ≢ n) (take i cs) → d ≡ get_or cs i d → option_copied o ≡ d.ticket → o ≡ None → (r : Row) → row_at n (map row_of cs) ≡ Some r → r.waits ≡ None

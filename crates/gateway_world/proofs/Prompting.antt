@@ -1,7 +1,9 @@
 -- What is prompt stays so.
-use Rattle.std.proofs.Common.{◌≡◌, ◌≢◌, ℕ, ◌<◌, ◌≤◌, inl, inr, List, [], ◌∷◌, ◌++◌, map, Option, Some, None, Result, Ok, Err, OnOk, refl, sym, ap, subst, ◌∙◌, arith}
+use Rattle.std.proofs.Common.{◌≡◌, ◌≢◌, true, false, ℕ, ◌<◌, ◌≤◌, inl, inr, List, [], ◌∷◌, ◌++◌, map, Option, Some, None, Result, Ok, Err, OnOk, refl, sym, ap, subst, ◌∙◌, arith}
 use Rattle.std.specs.List.{All}
 use Rattle.std.proofs.lemmas.Bool.Decides.{eqb_tells}
+use Rattle.http_edge.specs.Edges.{Expects}
+use Rattle.http_edge.proofs.Edging.{empty-expects}
 use Rattle.gateway_world.specs.declared.inbox.Inbox.{Inbox}
 use Rattle.journal_book.specs.Entries.{Written}
 use Rattle.exchange_core.specs.CoreValue.{connections}
@@ -10,7 +12,8 @@ use Rattle.gateway_world.specs.Inboxes.{Holds}
 use Rattle.gateway_world.specs.Rows.{Row, row_of, row_at, with_waits, without_row}
 use Rattle.gateway_world.specs.Asks.{Inlet, inlet_of, inbox_at}
 use Rattle.gateway_world.specs.AskSteps.{LeavesInboxes, StaysOrEnds, without_inlet}
-use Rattle.gateway_world.specs.Prompt.{IsPromptOn, IsPrompt, LeavesConnections, work_in, work_at}
+use Rattle.gateway_world.specs.Continuing.{told_of, told_in}
+use Rattle.gateway_world.specs.Prompt.{AwaitsMore, IsPromptOn, IsPrompt, LeavesConnections, work_in, work_at}
 use Rattle.gateway_world.proofs.Heeding.{fresh-inbox}
 use Rattle.gateway_world.proofs.Inlets.{none-stands, inbox-left, inbox-last, inbox-before}
 
@@ -68,7 +71,7 @@ prompt-same : (c : ℕ) (r s : List Row) (i j : List Inlet) → row_at c s ≡ r
 prompt-same c r s i j row inbox w = λ text stands.
     elim (w text (record { inbox = stands.inbox; stands = sym inbox ∙ stands.stands; goes_on = stands.goes_on; holds = stands.holds })) [
       | inl waits ↦ inl (waits.0, record { row = waits.1.row; stands = row ∙ waits.1.stands; waits = waits.1.waits })
-      | inr idle ↦ inr idle
+      | inr awaits ↦ inr (subst (λ (o : Option Inbox). AwaitsMore (told_in o) text) (sym inbox) awaits)
     ]
 
 -- All are, where this one is, and the others are as they were.
@@ -106,10 +109,18 @@ same-inbox a b e = cc
 
 pub prompt-open : {R : Type 0} (cs : List (Connection R)) (s : List Row) (n : ℕ) (inbox : Inbox) (a : List Written) (j : List Inlet) → n ≡ connections a
     → All (λ (r : Row). r.number < connections a) (map row_of cs) → s ≡ map row_of cs ++ record { number = n; waits = None } ∷ [] → j ≡ map inlet_of cs ++ record { number = n; inbox = inbox } ∷ []
-    → ((text : List ℕ) → Holds inbox text → text ≡ []) → IsPrompt (map row_of cs) (map inlet_of cs) → IsPrompt s j
-prompt-open {R} cs s n inbox a j fresh below rows put empty all =
+    → ((text : List ℕ) → Holds inbox text → text ≡ []) → told_of inbox ≡ false → IsPrompt (map row_of cs) (map inlet_of cs) → IsPrompt s j
+prompt-open {R} cs s n inbox a j fresh below rows put empty none_told all =
     let none : inbox_at n (map inlet_of cs) ≡ None = fresh-inbox cs n (subst (λ (k : ℕ). All (λ (r : Row). r.number < k) (map row_of cs)) (sym fresh) below) in
     let here : inbox_at n j ≡ Some inbox = ap (inbox_at n) put ∙ inbox-last (map inlet_of cs) n inbox none in
     prompt-all n (map row_of cs) s (map inlet_of cs) j
     (λ d other. (ap (row_at d) rows ∙ row-before (map row_of cs) (record { number = n; waits = None }) d other, ap (inbox_at d) put ∙ inbox-before (map inlet_of cs) (record { number = n; inbox = inbox }) d other))
-    (λ text stands. inr (inl (empty text (subst (λ (b : Inbox). Holds b text) (same-inbox stands.inbox inbox (sym stands.stands ∙ here)) stands.holds)))) all
+    (λ text stands.
+    let nothing = empty text (subst (λ (b : Inbox). Holds b text) (same-inbox stands.inbox inbox (sym stands.stands ∙ here)) stands.holds) in
+    inr (record {
+      idle = inl nothing;
+      continued = (λ told. absurd (differs (sym (ap told_in here ∙ none_told) ∙ told)), λ x. absurd (empty-expects (subst Expects nothing x)));
+    })) all
+  where
+    differs : false ≡ true → ⊥
+    differs f = absurd cc

@@ -10,16 +10,17 @@ use Rattle.journal_book.specs.Entries.{Written}
 use Rattle.exchange_core.specs.CoreValue.{connections}
 use Rattle.gateway_world.specs.declared.input.Input.{Input}
 use Rattle.gateway_world.specs.Steps.{Grows}
-use Rattle.gateway_world.specs.Asks.{Inlet, StandsFor, IsOver, asked_on, AreAsked, ReadsFirst, bytes_on, Heeds, text_on, EndsWithOpen, AsksAll}
+use Rattle.gateway_world.specs.Asks.{Inlet, StandsFor, IsOver, asked_on, AreAsked, ReadsFirst, bytes_on, Heeds, text_on}
+use Rattle.gateway_world.specs.Runs.{behind, IsTrail, OpensAt, AsksAll, AsksInRun}
 use Rattle.gateway_world.proofs.Counting.{slice_get-kept, slice_get-at}
 use Rattle.gateway_world.proofs.Reading.{reads-on, open-both, meant-both}
 use Rattle.gateway_world.proofs.Serving.{connections-more}
 
 -- What the connection asked by the inputs so far, and what it stands for.
-pub record HasAsked (M : Came → Sense → Type 0) (c : ℕ) (done : List Input) (h : List Written) (inlets : List Inlet) : Type 0 where
+pub record HasAsked (M : Came → Sense → Type 0) (c : ℕ) (done : List Input) (trail : List (List Written)) (h : List Written) (inlets : List Inlet) : Type 0 where
   pub from : ℕ
   pub within : from ≤ length done
-  pub opened : EndsWithOpen from done
+  pub opened : OpensAt c from done trail
   pub below : c < connections h
   pub items : List Item
   pub rest : List ℕ
@@ -27,8 +28,14 @@ pub record HasAsked (M : Came → Sense → Type 0) (c : ℕ) (done : List Input
   pub meant : AreAsked M items (asked_on c h)
   pub left : (AllOpen items × StandsFor inlets c rest) ⊎ IsOver inlets c
 
-abbrev pub SoFar : (Came → Sense → Type 0) → ℕ → List Input → List Written → List Inlet → Type 0
-SoFar M c done h inlets = ((asked_on c h ≡ []) × IsOver inlets c) ⊎ HasAsked M c done h inlets
+abbrev pub SoFar : (Came → Sense → Type 0) → ℕ → List Input → List (List Written) → List Written → List Inlet → Type 0
+SoFar M c done trail h inlets = ((asked_on c h ≡ []) × IsOver inlets c) ⊎ HasAsked M c done trail h inlets
+
+-- So far each connection did so, by one trail.
+pub record AllSoFar (M : Came → Sense → Type 0) (done : List Input) (h : List Written) (inlets : List Inlet) : Type 0 where
+  pub trail : List (List Written)
+  pub is_trail : IsTrail done trail h
+  pub asks : (c : ℕ) → SoFar M c done trail h inlets
 
 -- What is read of a text is read of a longer one.
 reads-more : (text rest more : List ℕ) (items : List Item) → ReadsFirst text items rest → ReadsFirst (text ++ more) items (rest ++ more)
@@ -45,14 +52,49 @@ text-more c from done x le =
     ap (text_on c) (drop-before from done (x ∷ []) le) ∙ flat_map-append (λ (i : Input). bytes_on c i.happening) (drop from done) (x ∷ [])
     ∙ ap (λ (s : List ℕ). text_on c (drop from done) ++ s) (append-nil (bytes_on c x.happening))
 
-ends-more : (n : ℕ) (done : List Input) (x : Input) → n ≤ length done → EndsWithOpen n done → EndsWithOpen n (done ++ x ∷ [])
-ends-more n done x le w = let place = w.2 in (w.0, w.1, w.2, slice_get-kept done (x ∷ []) w.0 (omega (arith, le, place)) ∙ w.3, w.4)
+-- one history more
+behind-more : (trail : List (List Written)) (h : List Written) (n : ℕ) → n ≤ length trail → behind (trail ++ h ∷ []) n ≡ behind trail n
+behind-more trail h zero le = refl
+behind-more trail h (suc n) le = get-before trail h n (omega (arith, le))
+  where
+    get-before : (xs : List (List Written)) (y : List Written) (k : ℕ) → k < length xs → get_or (xs ++ y ∷ []) k [] ≡ get_or xs k []
+    get-before [] y k lt = absurd (omega (arith, lt))
+    get-before (x ∷ xs) y zero lt = refl
+    get-before (x ∷ xs) y (suc k) lt = get-before xs y k (omega (arith, lt))
+
+behind-last : (trail : List (List Written)) (h : List Written) (n : ℕ) → n ≡ length trail → behind (trail ++ h ∷ []) (n + 1) ≡ h
+behind-last trail h n is = rw (is) (at-end trail h)
+  where
+    at-end : (xs : List (List Written)) (y : List Written) → behind (xs ++ y ∷ []) (length xs + 1) ≡ y
+    at-end xs y = subst (λ (k : ℕ). behind (xs ++ y ∷ []) k ≡ y) (place (length xs)) (last-of xs y)
+      where
+        place : (k : ℕ) → suc k ≡ k + 1
+        place k = omega arith
+
+        last-of : (zs : List (List Written)) (z : List Written) → get_or (zs ++ z ∷ []) (length zs) [] ≡ z
+        last-of [] z = refl
+        last-of (z1 ∷ zs) z = last-of zs z
+
+opens-more : (c n : ℕ) (done : List Input) (x : Input) (trail : List (List Written)) (h : List Written) → n ≤ length done → length trail ≡ length done → OpensAt c n done trail
+    → OpensAt c n (done ++ x ∷ []) (trail ++ h ∷ [])
+opens-more c n done x trail h le same w =
+    let next = w.next in
+    record {
+      place = w.place;
+      input = w.input;
+      next = w.next;
+      stands = slice_get-kept done (x ∷ []) w.place (omega (arith, le, next)) ∙ w.stands;
+      wants = w.wants;
+      fresh = w.fresh ∙ ap connections (sym (behind-more trail h w.place (omega (arith, le, next, same))));
+      opened = subst (λ (g : List Written). c < connections g) (sym (behind-more trail h n (omega (arith, le, same)))) w.opened;
+    }
 
 more-done : {X : Type 0} (xs : List X) (x : X) → length (xs ++ x ∷ []) ≡ length xs + 1
 more-done xs x = length-append xs (x ∷ [])
 
-pub so-far : (M : Came → Sense → Type 0) (c : ℕ) (done : List Input) (x : Input) (a b : List Written) (i j : List Inlet) → Grows a b → SoFar M c done a i → Heeds M c x.happening a i b j → SoFar M c (done ++ x ∷ []) b j
-so-far M c done x a b i j grows (inl s) heeds =
+so-far : (M : Came → Sense → Type 0) (c : ℕ) (done : List Input) (x : Input) (trail : List (List Written)) (a b : List Written) (i j : List Inlet) → IsTrail done trail a → Grows a b → SoFar M c done trail a i
+    → Heeds M c x.happening a i b j → SoFar M c (done ++ x ∷ []) (trail ++ b ∷ []) b j
+so-far M c done x trail a b i j is_trail grows (inl s) heeds =
     elim (heeds.over s.1) [
       | inl none ↦ inl (none.asked ∙ s.0, none.over)
       | inr begins ↦
@@ -61,7 +103,15 @@ so-far M c done x a b i j grows (inl s) heeds =
           inr (record {
             from = length done + 1;
             within = omega (arith, long);
-            opened = (length done, x, refl, slice_get-at done x [], begins.0);
+            opened = record {
+              place = length done;
+              input = x;
+              next = refl;
+              stands = slice_get-at done x [];
+              wants = begins.0;
+              fresh = w.fresh ∙ ap connections (sym (behind-more trail b (length done) (let same = is_trail.one_each in omega (arith, same)) ∙ is_trail.last));
+              opened = subst (λ (g : List Written). c < connections g) (sym (behind-last trail b (length done) (sym is_trail.one_each))) w.opened;
+            };
             below = w.opened;
             items = [];
             rest = [];
@@ -70,11 +120,11 @@ so-far M c done x a b i j grows (inl s) heeds =
             left = inl (tt, w.stands);
           })
     ]
-so-far M c done x a b i j grows (inr s) heeds =
+so-far M c done x trail a b i j is_trail grows (inr s) heeds =
     let long = more-done done x in
     let le = s.within in
     let within : s.from ≤ length (done ++ x ∷ []) = omega (arith, le, long) in
-    let opened = ends-more s.from done x s.within s.opened in
+    let opened = opens-more c s.from done x trail b s.within is_trail.one_each s.opened in
     let below : c < connections b = rw (grows.1) (let lt = s.below in let co = connections-more a grows.0 in omega (arith, lt, co)) in
     let more : List ℕ = bytes_on c x.happening in
     let first : ReadsFirst (text_on c (drop s.from (done ++ x ∷ []))) s.items (s.rest ++ more) =
@@ -110,9 +160,34 @@ so-far M c done x a b i j grows (inr s) heeds =
       ]
     ]
 
+-- the trail, one input more
+trail-on : (done : List Input) (x : Input) (trail : List (List Written)) (a b : List Written) → IsTrail done trail a → Grows a b → IsTrail (done ++ x ∷ []) (trail ++ b ∷ []) b
+trail-on done x trail a b w grows =
+    let same = w.one_each in
+    let more = more-done done x in
+    let long = length-append trail (b ∷ []) in
+    record {
+      one_each = omega (arith, same, more, long);
+      grows = λ n lt. elim (lt-or n (length done) (omega (arith, lt, more))) [
+        | inl below ↦ rw (behind-more trail b n (omega (arith, below, same)), behind-more trail b (n + 1) (omega (arith, below, same))) (w.grows n below)
+        | inr last ↦ rw (last, behind-more trail b (length done) (omega (arith, same)), behind-last trail b (length done) (sym same), w.last) grows
+      ];
+      last = ap (behind (trail ++ b ∷ [])) more ∙ behind-last trail b (length done) (sym same);
+    }
+  where
+    lt-or : (n k : ℕ) → n < k + 1 → (n < k) ⊎ (n ≡ k)
+    lt-or zero zero lt = inr refl
+    lt-or zero (suc k) lt = inl (omega arith)
+    lt-or (suc n) zero lt = absurd (omega (arith, lt))
+    lt-or (suc n) (suc k) lt = elim (lt-or n k (omega (arith, lt))) [ inl u ↦ inl (omega (arith, u)) | inr u ↦ inr (ap suc u) ]
+
 -- No connection is open at first.
-pub so-far-none : (M : Came → Sense → Type 0) (c : ℕ) (h : List Written) (inlets : List Inlet) → h ≡ [] → inlets ≡ [] → SoFar M c [] h inlets
-so-far-none M c h inlets none closed = rw (none, closed) (inl (refl, tt))
+pub so-far-none : (M : Came → Sense → Type 0) (h : List Written) (inlets : List Inlet) → h ≡ [] → inlets ≡ [] → AllSoFar M [] h inlets
+so-far-none M h inlets none closed = record {
+  trail = [];
+  is_trail = record { one_each = refl; grows = λ n lt. absurd (omega (arith, lt)); last = sym none };
+  asks = λ c. rw (none, closed) (inl (refl, tt));
+}
 
 -- the elements up to one, and it
 take-next : {X : Type 0} (xs : List X) (i : ℕ) (d : X) → i < length xs → take (i + 1) xs ≡ take i xs ++ get_or xs i d ∷ []
@@ -123,14 +198,22 @@ take-next {X} (y ∷ xs) (suc i) d lt =
     subst (λ (n : ℕ). take n (y ∷ xs) ≡ y ∷ (take i xs ++ get_or xs i d ∷ [])) (sym place) (ap (λ (s : List X). y ∷ s) (take-next xs i d (omega (arith, lt))))
 
 -- one input more
-pub so-far-next : (M : Came → Sense → Type 0) (c : ℕ) (inputs : List Input) (n : ℕ) (d : Input) (a b : List Written) (i j : List Inlet) → n < length inputs → Grows a b
-    → SoFar M c (take n inputs) a i → Heeds M c (get_or inputs n d).happening a i b j → SoFar M c (take (n + 1) inputs) b j
-so-far-next M c inputs n d a b i j lt grows s heeds = rw (take-next inputs n d lt) (so-far M c (take n inputs) (get_or inputs n d) a b i j grows s heeds)
+pub so-far-next : (M : Came → Sense → Type 0) (inputs : List Input) (n : ℕ) (d : Input) (a b : List Written) (i j : List Inlet) → n < length inputs → Grows a b → AllSoFar M (take n inputs) a i
+    → ((c : ℕ) → Heeds M c (get_or inputs n d).happening a i b j) → AllSoFar M (take (n + 1) inputs) b j
+so-far-next M inputs n d a b i j lt grows s heeds =
+    let x : Input = get_or inputs n d in
+    rw (take-next inputs n d lt) (record {
+      trail = s.trail ++ b ∷ [];
+      is_trail = trail-on (take n inputs) x s.trail a b s.is_trail grows;
+      asks = λ c. so-far M c (take n inputs) x s.trail a b i j s.is_trail grows (s.asks c) (heeds c);
+    })
 
 -- all inputs
-pub asks-all : (M : Came → Sense → Type 0) (c : ℕ) (inputs : List Input) (n : ℕ) (h : List Written) (inlets : List Inlet) → length inputs ≤ n → SoFar M c (take n inputs) h inlets → AsksAll M c inputs h
-asks-all M c inputs n h inlets le s =
-    elim (subst (λ (xs : List Input). SoFar M c xs h inlets) (take_all n inputs le) s) [
-      | inl none ↦ inl none.0
-      | inr w ↦ inr (w.from, record { opened = w.opened; items = w.items; rest = w.rest; first = w.first; meant = w.meant })
-    ]
+asks-of : (M : Came → Sense → Type 0) (c : ℕ) (done : List Input) (trail : List (List Written)) (h : List Written) (inlets : List Inlet) → SoFar M c done trail h inlets → AsksAll M c done trail h
+asks-of M c done trail h inlets (inl none) = inl none.0
+asks-of M c done trail h inlets (inr w) = inr (w.from, record { opened = w.opened; items = w.items; rest = w.rest; first = w.first; meant = w.meant })
+
+pub asks-all : (M : Came → Sense → Type 0) (inputs : List Input) (n : ℕ) (h : List Written) (inlets : List Inlet) → length inputs ≤ n → AllSoFar M (take n inputs) h inlets → AsksInRun M inputs h
+asks-all M inputs n h inlets le s =
+    let w = subst (λ (xs : List Input). AllSoFar M xs h inlets) (take_all n inputs le) s in
+    record { trail = w.trail; is_trail = w.is_trail; asks = λ c. asks-of M c inputs w.trail h inlets (w.asks c) }

@@ -1,5 +1,5 @@
 -- What is asked of the bytes of connections (RFC 9112, sections 2.2 and 9.3.2).
-use Rattle.std.specs.Prelude.{◌≡◌, ◌⊎◌, ◌<◌, ⊤, ℕ, ◌==◌, Bool, true, false, length, List, [], ◌∷◌, ◌++◌, ◌+◌, drop, slice_get, map, flat_map, Option, Some, None, if◌then◌else◌}
+use Rattle.std.specs.Prelude.{◌≡◌, ◌⊎◌, ◌<◌, ⊤, ℕ, ◌==◌, Bool, true, false, length, List, [], ◌∷◌, ◌++◌, map, flat_map, Option, Some, None, if◌then◌else◌}
 use Rattle.http_edge.specs.Reading.{Item, asked, bad, First, closes, AllOpen}
 use Rattle.ask_model.specs.Requests.{Came, Whole, Bad, Sense, Ask}
 use Rattle.journal_book.specs.Entries.{Deed, Asks, Written}
@@ -107,22 +107,6 @@ pub record Heeds (IsMeaning : Came → Sense → Type 0) (c : ℕ) (happening : 
 -- what the inputs bring on the connection, in order
 abbrev pub text_on : ℕ → List Input → List ℕ
 text_on c inputs = flat_map (λ (i : Input). bytes_on c i.happening) inputs
-
--- So many of these inputs are there, and the last of them wants a connection.
-abbrev pub EndsWithOpen : ℕ → List Input → Type 0
-EndsWithOpen n inputs = (m : ℕ) × (i : Input) × (n ≡ m + 1) × (slice_get inputs m ≡ Some i) × (i.happening ≡ H.Open)
-
--- What the connection asks in a run are the first items of the text that the inputs bring on it, behind the one
--- with which it opened. A connection that didn't open asks nothing.
-pub record AsksBehind (IsMeaning : Came → Sense → Type 0) (c from : ℕ) (inputs : List Input) (h : List Written) : Type 0 where
-  pub opened : EndsWithOpen from inputs
-  pub items : List Item
-  pub rest : List ℕ
-  pub first : ReadsFirst (text_on c (drop from inputs)) items rest
-  pub meant : AreAsked IsMeaning items (asked_on c h)
-
-abbrev pub AsksAll : (Came → Sense → Type 0) → ℕ → List Input → List Written → Type 0
-AsksAll IsMeaning c inputs h = (asked_on c h ≡ []) ⊎ ((from : ℕ) × AsksBehind IsMeaning c from inputs h)
 
 -- So many bytes more of the connection would be too many.
 abbrev pub is_full_in : Option Inbox → ℕ → Bool

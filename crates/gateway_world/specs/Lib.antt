@@ -1,6 +1,7 @@
 pub mod AskSteps
 pub mod Asks
 pub mod Closing
+pub mod Continuing
 pub mod CoreSteps
 pub mod Entering
 pub mod Inboxes
@@ -10,5 +11,6 @@ pub mod Making
 pub mod Means
 pub mod Prompt
 pub mod Rows
+pub mod Runs
 pub mod Steps
 pub mod Worlds

@@ -1,17 +1,25 @@
--- That nothing waits which could be asked.
-use Rattle.std.specs.Prelude.{◌≡◌, ◌≢◌, ◌⊎◌, ℕ, List, Option, Some, None}
+-- That nothing waits which could be asked, nor a client that could be told to go on.
+use Rattle.std.specs.Prelude.{◌≡◌, ◌≢◌, ◌⊎◌, ◌↔◌, ℕ, Bool, true, List, Option, Some, None}
+use Rattle.http_edge.specs.Edges.{Expects}
 use Rattle.gateway_world.specs.declared.inbox.Inbox.{Inbox}
 use Rattle.gateway_world.specs.Inboxes.{IsIdle, work_of}
 use Rattle.gateway_world.specs.Rows.{Row, IsRow, row_at}
 use Rattle.gateway_world.specs.Asks.{Inlet, inbox_at, StandsFor}
+use Rattle.gateway_world.specs.Continuing.{told_at}
 
 -- The connection waits for the answer to an ask.
 abbrev pub IsWaiting : List Row → ℕ → Type 0
 IsWaiting rows c = (k : ℕ) × IsRow rows c (Some k)
 
--- Nothing can be asked of the texts that the connection stands for, or it waits for an answer.
+-- More bytes are awaited: nothing can be asked of the text, and the client was told to go on exactly where the
+-- head in front asks for that.
+pub record AwaitsMore (told : Bool) (text : List ℕ) : Type 0 where
+  pub idle : IsIdle text
+  pub continued : told ≡ true ↔ Expects text
+
+-- More is awaited behind the texts that the connection stands for, or it waits for an answer.
 abbrev pub IsPromptOn : ℕ → List Row → List Inlet → Type 0
-IsPromptOn c rows inlets = (text : List ℕ) → StandsFor inlets c text → IsWaiting rows c ⊎ IsIdle text
+IsPromptOn c rows inlets = (text : List ℕ) → StandsFor inlets c text → IsWaiting rows c ⊎ AwaitsMore (told_at c inlets) text
 
 -- So it is on each connection.
 abbrev pub IsPrompt : List Row → List Inlet → Type 0

@@ -9,6 +9,7 @@ ghost use Rattle.exchange_core.specs.CoreValue.{now};
 ghost use Rattle.gateway_world.specs.Entering.{Enters, EntersOpen, EntersDatagram, EntersTick, EntersClose};
 ghost use Rattle.gateway_world.specs.Asks.{inlets_of, AsksNothing, AsksFirst, StandsFor, IsOver, Heeds};
 ghost use Rattle.gateway_world.specs.Making.{Makes};
+ghost use Rattle.gateway_world.specs.Continuing.{TellsToGoOn, TellsOne, GivesFinal};
 ghost use Rattle.gateway_world.specs.Closing.{Closes, TellsClosings, shut_in, closed_if};
 ghost use Rattle.gateway_world.specs.Prompt.{IsPrompt, IsPromptOn, LeavesConnections, work_at};
 ghost use Rattle.gateway_world.specs.AskSteps.{AsksInOrder, AsksOn, AsksOne, AsksNone};
@@ -58,6 +59,7 @@ impl<R: Relation> Engine<R> {
         ensures kept { Serves self.new.core (rows_of self.new.table) }
         ensures made { Makes context.entry.when self.old.core self.new.core }
         ensures closes { OnOk result (Closes happening.entry self.old.core.entries self.new.core.entries outputs.old.items outputs.new.items) }
+        ensures continues { OnOk result ((c : ℕ) → TellsToGoOn c self.old.core.entries (inlets_of self.old.table) outputs.old.items self.new.core.entries (rows_of self.new.table) (inlets_of self.new.table) outputs.new.items) }
         ensures prompt { OnOk result (IsPrompt (rows_of self.old.table) (inlets_of self.old.table) → IsPrompt (rows_of self.new.table) (inlets_of self.new.table)) }
         ensures enters { OnOk result (Enters happening.entry (now self.old.core.moment context.entry.when.moment) self.old.core self.new.core outputs.old.items outputs.new.items) }
         ensures asks { OnOk result ((c : ℕ) → Heeds (Maps R.holds R.takes (rules_of (arc_value context.entry.settings.now))) c happening.entry self.old.core.entries (inlets_of self.old.table) self.new.core.entries (inlets_of self.new.table)) }
@@ -82,6 +84,7 @@ impl<R: Relation> Engine<R> {
         ensures kept { Serves self.new.core (rows_of self.new.table) }
         ensures made { Makes context.entry.when self.old.core self.new.core }
         ensures closes { OnOk result (TellsClosings self.old.core.entries self.new.core.entries outputs.old.items outputs.new.items) }
+        ensures continues { OnOk result ((c : ℕ) → TellsToGoOn c self.old.core.entries (inlets_of self.old.table) outputs.old.items self.new.core.entries (rows_of self.new.table) (inlets_of self.new.table) outputs.new.items) }
         ensures prompt { OnOk result (IsPrompt (rows_of self.old.table) (inlets_of self.old.table) → IsPrompt (rows_of self.new.table) (inlets_of self.new.table)) }
         ensures enters { OnOk result (EntersOpen (now self.old.core.moment context.entry.when.moment) self.old.core self.new.core outputs.old.items outputs.new.items) }
         ensures asks { OnOk result ((c : ℕ) → Heeds (Maps R.holds R.takes (rules_of (arc_value context.entry.settings.now))) c Happening.Open self.old.core.entries (inlets_of self.old.table) self.new.core.entries (inlets_of self.new.table)) }
@@ -111,6 +114,7 @@ impl<R: Relation> Engine<R> {
         ensures kept { Serves self.new.core (rows_of self.new.table) }
         ensures made { Makes context.entry.when self.old.core self.new.core }
         ensures closes { OnOk result (TellsClosings self.old.core.entries self.new.core.entries outputs.old.items outputs.new.items) }
+        ensures continues { OnOk result ((c : ℕ) → TellsToGoOn c self.old.core.entries (inlets_of self.old.table) outputs.old.items self.new.core.entries (rows_of self.new.table) (inlets_of self.new.table) outputs.new.items) }
         ensures prompt { OnOk result (IsPrompt (rows_of self.old.table) (inlets_of self.old.table) → IsPrompt (rows_of self.new.table) (inlets_of self.new.table)) }
         ensures others { OnOk result ((c : ℕ) → c ≢ number → AsksOn (Maps R.holds R.takes (rules_of (arc_value context.entry.settings.now))) c self.old.core.entries (inlets_of self.old.table) self.new.core.entries (inlets_of self.new.table)) }
         ensures reads { OnOk result ((text : List ℕ) → StandsFor (inlets_of self.old.table) number text → AsksFirst (Maps R.holds R.takes (rules_of (arc_value context.entry.settings.now))) number (text ++ bytes.now) self.old.core.entries self.new.core.entries (inlets_of self.new.table)) }
@@ -134,6 +138,7 @@ impl<R: Relation> Engine<R> {
         ensures kept { Serves self.new.core (rows_of self.new.table) }
         ensures made { Makes context.entry.when self.old.core self.new.core }
         ensures closes { OnOk result (TellsClosings self.old.core.entries self.new.core.entries outputs.old.items outputs.new.items) }
+        ensures continues { OnOk result ((c : ℕ) → TellsToGoOn c self.old.core.entries (inlets_of self.old.table) outputs.old.items self.new.core.entries (rows_of self.new.table) (inlets_of self.new.table) outputs.new.items) }
         ensures prompt { OnOk result (IsPrompt (rows_of self.old.table) (inlets_of self.old.table) → IsPrompt (rows_of self.new.table) (inlets_of self.new.table)) }
         ensures enters { OnOk result (EntersDatagram (now self.old.core.moment context.entry.when.moment) peer bytes.now self.old.core self.new.core) }
         ensures asks { OnOk result (AsksInOrder (Maps R.holds R.takes (rules_of (arc_value context.entry.settings.now))) self.old.core.entries (inlets_of self.old.table) self.new.core.entries (inlets_of self.new.table)) }
@@ -150,6 +155,7 @@ impl<R: Relation> Engine<R> {
         ensures kept { Serves self.new.core (rows_of self.new.table) }
         ensures made { Makes context.entry.when self.old.core self.new.core }
         ensures closes { OnOk result (TellsClosings self.old.core.entries self.new.core.entries outputs.old.items outputs.new.items) }
+        ensures continues { OnOk result ((c : ℕ) → TellsToGoOn c self.old.core.entries (inlets_of self.old.table) outputs.old.items self.new.core.entries (rows_of self.new.table) (inlets_of self.new.table) outputs.new.items) }
         ensures prompt { OnOk result (IsPrompt (rows_of self.old.table) (inlets_of self.old.table) → IsPrompt (rows_of self.new.table) (inlets_of self.new.table)) }
         ensures enters { OnOk result (EntersTick (now self.old.core.moment context.entry.when.moment) self.old.core self.new.core) }
         ensures asks { OnOk result (AsksInOrder (Maps R.holds R.takes (rules_of (arc_value context.entry.settings.now))) self.old.core.entries (inlets_of self.old.table) self.new.core.entries (inlets_of self.new.table)) }
@@ -187,6 +193,7 @@ impl<R: Relation> Engine<R> {
         ensures kept { Serves self.new.core (rows_of self.new.table) }
         ensures made { Makes context.entry.when self.old.core self.new.core }
         ensures closes { OnOk result (TellsClosings self.old.core.entries self.new.core.entries outputs.old.items outputs.new.items) }
+        ensures continues { OnOk result ((c : ℕ) → TellsToGoOn c self.old.core.entries (inlets_of self.old.table) outputs.old.items self.new.core.entries (rows_of self.new.table) (inlets_of self.new.table) outputs.new.items) }
         ensures prompt { OnOk result (IsPrompt (rows_of self.old.table) (inlets_of self.old.table) → IsPrompt (rows_of self.new.table) (inlets_of self.new.table)) }
         ensures quiet { OnOk result (self.old.core.answers ≡ [] → self.new.core.entries ≡ self.old.core.entries) }
         ensures asks { OnOk result (AsksInOrder (Maps R.holds R.takes (rules_of (arc_value context.entry.settings.now))) self.old.core.entries (inlets_of self.old.table) self.new.core.entries (inlets_of self.new.table)) }
@@ -203,6 +210,7 @@ impl<R: Relation> Engine<R> {
         ensures kept { Serves self.new.core (rows_of self.new.table) }
         ensures made { Makes context.entry.when self.old.core self.new.core }
         ensures closes { OnOk result (TellsClosings self.old.core.entries self.new.core.entries outputs.old.items outputs.new.items) }
+        ensures continues { OnOk result ((c : ℕ) → TellsToGoOn c self.old.core.entries (inlets_of self.old.table) outputs.old.items self.new.core.entries (rows_of self.new.table) (inlets_of self.new.table) outputs.new.items) }
         ensures prompt { OnOk result (IsPrompt (rows_of self.old.table) (inlets_of self.old.table) → IsPrompt (rows_of self.new.table) (inlets_of self.new.table)) }
         ensures quiet { OnOk result (self.old.core.answers ≡ [] → self.new.core.entries ≡ self.old.core.entries) }
         ensures asks { OnOk result (AsksInOrder (Maps R.holds R.takes (rules_of (arc_value context.entry.settings.now))) self.old.core.entries (inlets_of self.old.table) self.new.core.entries (inlets_of self.new.table)) }
@@ -236,6 +244,7 @@ impl<R: Relation> Engine<R> {
         ensures kept { Serves self.new.core (rows_of self.new.table) }
         ensures made { Makes context.entry.when self.old.core self.new.core }
         ensures closes { OnOk result (TellsClosings self.old.core.entries self.new.core.entries outputs.old.items outputs.new.items) }
+        ensures continues { OnOk result (TellsOne number self.old.core.entries (inlets_of self.old.table) outputs.old.items self.new.core.entries (rows_of self.new.table) (inlets_of self.new.table) outputs.new.items) }
         ensures prompt { OnOk result (IsPromptOn number (rows_of self.new.table) (inlets_of self.new.table)) }
         ensures apart { OnOk result (LeavesConnections number (rows_of self.old.table) (inlets_of self.old.table) (rows_of self.new.table) (inlets_of self.new.table)) }
         ensures asks { OnOk result (AsksInOrder (Maps R.holds R.takes (rules_of (arc_value context.entry.settings.now))) self.old.core.entries (inlets_of self.old.table) self.new.core.entries (inlets_of self.new.table)) }
@@ -260,6 +269,7 @@ impl<R: Relation> Engine<R> {
         ensures kept { Serves self.new.core (rows_of self.new.table) }
         ensures made { Makes context.entry.when self.old.core self.new.core }
         ensures closes { OnOk result (TellsClosings self.old.core.entries self.new.core.entries outputs.old.items outputs.new.items) }
+        ensures continues { OnOk result (TellsOne number self.old.core.entries (inlets_of self.old.table) outputs.old.items self.new.core.entries (rows_of self.new.table) (inlets_of self.new.table) outputs.new.items) }
         ensures prompt { OnOk result (IsPromptOn number (rows_of self.new.table) (inlets_of self.new.table)) }
         ensures apart { OnOk result (LeavesConnections number (rows_of self.old.table) (inlets_of self.old.table) (rows_of self.new.table) (inlets_of self.new.table)) }
         ensures asks { OnOk result (AsksInOrder (Maps R.holds R.takes (rules_of (arc_value context.entry.settings.now))) self.old.core.entries (inlets_of self.old.table) self.new.core.entries (inlets_of self.new.table)) }
@@ -284,6 +294,8 @@ impl<R: Relation> Engine<R> {
         ensures kept { Serves self.new.core (rows_of self.new.table) }
         ensures made { Makes context.entry.when self.old.core self.new.core }
         ensures closes { OnOk result (TellsClosings self.old.core.entries self.new.core.entries outputs.old.items outputs.new.items) }
+        ensures continues { OnOk result (TellsOne number self.old.core.entries (inlets_of self.old.table) outputs.old.items self.new.core.entries (rows_of self.new.table) (inlets_of self.new.table) outputs.new.items) }
+        ensures no_interim { IfOk result (λ more. more ≡ true → GivesFinal outputs.old.items outputs.new.items) }
         ensures less { IfOk result (λ more. more ≡ true → work_at number (inlets_of self.new.table) < work_at number (inlets_of self.old.table)) }
         ensures prompt { IfOk result (λ more. more ≡ false → IsPromptOn number (rows_of self.new.table) (inlets_of self.new.table)) }
         ensures apart { OnOk result (LeavesConnections number (rows_of self.old.table) (inlets_of self.old.table) (rows_of self.new.table) (inlets_of self.new.table)) }
@@ -321,6 +333,7 @@ impl<R: Relation> Engine<R> {
         ensures kept { Serves self.new.core (rows_of self.new.table) }
         ensures made { Makes context.entry.when self.old.core self.new.core }
         ensures closes { OnOk result (TellsClosings self.old.core.entries self.new.core.entries outputs.old.items outputs.new.items) }
+        ensures no_interim { OnOk result (GivesFinal outputs.old.items outputs.new.items) }
         ensures apart { OnOk result (LeavesConnections number (rows_of self.old.table) (inlets_of self.old.table) (rows_of self.new.table) (inlets_of self.new.table)) }
         ensures asks { OnOk result (AsksOne (Maps R.holds R.takes (rules_of (arc_value context.entry.settings.now))) (item incoming) number self.old.core.entries (inlets_of self.old.table) self.new.core.entries (inlets_of self.new.table)) }
         ensures leaves { OnOk result (LeavesOthers number self.old.core (rows_of self.old.table) self.new.core (rows_of self.new.table)) }
@@ -356,6 +369,7 @@ impl<R: Relation> Engine<R> {
         ensures kept { Serves self.new.core (rows_of self.new.table) }
         ensures made { Makes context.entry.when self.old.core self.new.core }
         ensures closes { OnOk result (TellsClosings self.old.core.entries self.new.core.entries outputs.old.items outputs.new.items) }
+        ensures no_interim { OnOk result (GivesFinal outputs.old.items outputs.new.items) }
         ensures apart { OnOk result (LeavesConnections number (rows_of self.old.table) (inlets_of self.old.table) (rows_of self.new.table) (inlets_of self.new.table)) }
         ensures asks { OnOk result (AsksNone number self.old.core.entries (inlets_of self.old.table) self.new.core.entries (inlets_of self.new.table)) }
         ensures leaves { OnOk result (LeavesOthers number self.old.core (rows_of self.old.table) self.new.core (rows_of self.new.table)) }
@@ -390,6 +404,7 @@ impl<R: Relation> Engine<R> {
         ensures kept { Serves self.new.core (rows_of self.new.table) }
         ensures made { Makes context.entry.when self.old.core self.new.core }
         ensures closes { OnOk result (TellsClosings self.old.core.entries self.new.core.entries outputs.old.items outputs.new.items) }
+        ensures no_interim { OnOk result (GivesFinal outputs.old.items outputs.new.items) }
         ensures apart { OnOk result (LeavesConnections number (rows_of self.old.table) (inlets_of self.old.table) (rows_of self.new.table) (inlets_of self.new.table)) }
         ensures asks { OnOk result (AsksNone number self.old.core.entries (inlets_of self.old.table) self.new.core.entries (inlets_of self.new.table)) }
         ensures over { OnOk result (IsOver (inlets_of self.new.table) number) }

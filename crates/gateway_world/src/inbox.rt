@@ -32,13 +32,17 @@ pub struct Inbox {
 }
 
 impl Inbox {
+    ghost use Rattle.http_edge.specs.Edges.{is_told};
     ghost use Rattle.gateway_world.specs.Rows.{is_request};
-    ghost use Rattle.gateway_world.specs.Inboxes.{Holds, ReadsNext, AsksNext, IsIdle, Rests, unread_of, is_full, work_of};
+    ghost use Rattle.gateway_world.specs.Continuing.{told_of, TellsNext};
+    ghost use Rattle.gateway_world.specs.Prompt.{AwaitsMore};
+    ghost use Rattle.gateway_world.specs.Inboxes.{Holds, ReadsNext, AsksNext, Rests, unread_of, is_full, work_of};
 
     /// No bytes yet.
     pub fn new(alloc: Global, edge: Edge) -> Inbox
         ensures holds { Stands edge [] → Holds result [] }
         ensures open { result.closing ≡ false }
+        ensures told { is_told edge ≡ false → told_of result ≡ false }
         ensures only { ((text : List ℕ) → Stands edge text → text ≡ []) → (text : List ℕ) → Holds result text → text ≡ [] }
     {
         Inbox {
@@ -66,6 +70,7 @@ impl Inbox {
     /// Puts the bytes behind those that wait, unless the last request was read.
     pub fn append(&mut self, bytes: &[u8]) -> Result<(), Memory>
         ensures closing { self.new.closing ≡ self.old.closing }
+        ensures told { told_of self.new ≡ told_of self.old }
         ensures more { OnOk result ((text : List ℕ) → self.old.closing ≡ false → Holds self.old text → Holds self.new (text ++ bytes.now)) }
         ensures kept { OnErr result ((text : List ℕ) → Holds self.old text → Holds self.new text) }
     {
@@ -83,6 +88,7 @@ impl Inbox {
         ensures less { result ≡ true → vec_len self.new.backlog - self.new.taken < vec_len self.old.backlog - self.old.taken }
         ensures work { work_of self.new ≡ work_of self.old }
         ensures rests { result ≡ false → unread_len self.old.edge < 8192 → self.old.edge.waits ≡ true → Rests self.new }
+        ensures told { is_told self.new.edge ≡ is_told self.old.edge }
         ensures ended { self.new.edge.ended ≡ self.old.edge.ended }
     {
         let n = self.edge.feed(&self.backlog[self.taken..]);
@@ -98,7 +104,8 @@ impl Inbox {
     pub fn next(&mut self) -> Result<Next, Memory>
         ensures asks { (text : List ℕ) → self.old.closing ≡ false → Holds self.old text → AsksNext result self.new text }
         ensures over { self.old.closing ≡ true → (result ≡ Ok Next.Nothing) × (self.new.closing ≡ true) }
-        ensures idle { IfOk result (λ next. is_request next ≡ false → self.new.closing ≡ false → (text : List ℕ) → Holds self.new text → IsIdle text) }
+        ensures idle { IfOk result (λ next. is_request next ≡ false → self.new.closing ≡ false → (text : List ℕ) → Holds self.new text → AwaitsMore (told_of self.new) text) }
+        ensures told { IfOk result (λ next. TellsNext next self.old self.new) }
         ensures less { IfOk result (λ next. is_request next ≡ true → work_of self.new < work_of self.old) }
     {
         if self.closing {
@@ -119,6 +126,8 @@ impl Inbox {
     fn read(&mut self) -> Result<Option<Incoming>, Memory>
         ensures reads { (text : List ℕ) → self.old.closing ≡ false → Holds self.old text → ReadsNext result self.new text }
         ensures rests { result ≡ Ok None → self.new.edge.ended ≡ false → Rests self.new }
+        ensures found { IfOk result (λ incoming. IfSome incoming (λ i. told_of self.new ≡ false)) }
+        ensures none { result ≡ Ok None → (self.new.closing ≡ self.old.closing) × (is_told self.new.edge ≡ is_told self.old.edge) }
         ensures less { IfOk result (λ incoming. IfSome incoming (λ i. work_of self.new < work_of self.old)) }
     {
         'each: loop {

@@ -1,10 +1,10 @@
 //! A run: all inputs of a proxy, and what they led to.
 
-ghost use Rattle.std.specs.Prelude.{ℕ, IfOk};
+ghost use Rattle.std.specs.Prelude.{IfOk};
 ghost use Rattle.history_laws.specs.Justified.{Stands};
 ghost use Rattle.ask_model.specs.Views.{rules_of};
 ghost use Rattle.ask_model.specs.Maps.{Maps};
-ghost use Rattle.gateway_world.specs.Asks.{AsksAll};
+ghost use Rattle.gateway_world.specs.Runs.{AsksInRun};
 ghost use Rattle.gateway_world.specs.Steps.{TellsAll};
 
 use crate::fault::WorldFault;
@@ -31,7 +31,7 @@ impl<R: Relation> World<R> {
         inputs: &[Input<'_>],
     ) -> Result<Run<R>, WorldFault>
         ensures stands { IfOk result (λ run. Stands run.journal.entries) }
-        ensures asks { IfOk result (λ run. (c : ℕ) → AsksAll (Maps R.holds R.takes (rules_of settings)) c inputs.now run.journal.entries) }
+        ensures asks { IfOk result (λ run. AsksInRun (Maps R.holds R.takes (rules_of settings)) inputs.now run.journal.entries) }
         ensures tells { IfOk result (λ run. TellsAll run.journal.entries run.outputs.items) }
     {
         let mut world = World::new(alloc, settings)?;

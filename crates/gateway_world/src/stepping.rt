@@ -9,6 +9,7 @@ ghost use Rattle.exchange_core.specs.Hears.{HeardSo};
 ghost use Rattle.gateway_world.specs.Entering.{EntersOpening, TicksFirst, EntersClose};
 ghost use Rattle.gateway_world.specs.Steps.{Advances, Leads};
 ghost use Rattle.gateway_world.specs.Closing.{shut_in, closed_in, closed_if};
+ghost use Rattle.gateway_world.specs.Continuing.{GivesFinal};
 ghost use Rattle.gateway_world.specs.Making.{Makes};
 ghost use Rattle.gateway_world.specs.Asks.{asked_by, asked_on};
 ghost use Rattle.gateway_world.specs.CoreSteps.{AnswersAlone};
@@ -119,6 +120,7 @@ pub fn send_from<R: Relation>(core: &mut Core<R>, outputs: &mut Vec<Output>) -> 
     ensures entries { core.new.entries ≡ core.old.entries }
     ensures moment { core.new.moment ≡ core.old.moment }
     ensures silent { OnOk result (closed_in outputs.new.items ≡ closed_in outputs.old.items) }
+    ensures no_interim { OnOk result (GivesFinal outputs.old.items outputs.new.items) }
 {
     'each: while let Some(datagram) = core.take_send() {
         outputs.push(Output::Datagram(datagram))?;

@@ -2,10 +2,11 @@
 
 ghost use Rattle.std.specs.Prelude.{ℕ, List, ◌≡◌, ◌≢◌, ◌<◌, ◌∷◌, ◌++◌, [], None, Some, true, false, All, take, slice_get, option_map, vec_len, vec_capacity, IfOk, IfSome, OnOk};
 ghost use Rattle.std.specs.List.{Contains};
-ghost use Rattle.http_edge.specs.Edges.{Stands};
+ghost use Rattle.http_edge.specs.Edges.{Stands, is_told};
 ghost use Rattle.exchange_core.specs.Ticking.{waits_on};
 ghost use Rattle.gateway_world.specs.Inboxes.{Holds};
 ghost use Rattle.gateway_world.specs.Asks.{inlets_of, StandsFor, IsOver, is_full_at};
+ghost use Rattle.gateway_world.specs.Continuing.{told_of, told_at, TellsAt};
 ghost use Rattle.gateway_world.specs.Prompt.{IsPromptOn, work_at};
 ghost use Rattle.gateway_world.specs.AskSteps.{TakesNext, LeavesInboxes, without_inlet};
 ghost use Rattle.gateway_world.specs.Rows.{Row, row_of, rows_of, row_at, with_waits, without_row, is_request, IsRow};
@@ -72,7 +73,7 @@ impl<R: Relation> Table<R> {
         requires { vec_len self.old.rows < vec_capacity self.old.rows }
         ensures rows { rows_of self.new ≡ rows_of self.old ++ record { number = number; waits = None } ∷ [] }
         ensures inlets { (inbox : Inbox) × (inlets_of self.new ≡ inlets_of self.old ++ record { number = number; inbox = inbox } ∷ []) × (inbox.closing ≡ false) × (Stands edge [] → Holds inbox [])
-            × (((text : List ℕ) → Stands edge text → text ≡ []) → (text : List ℕ) → Holds inbox text → text ≡ []) }
+            × (((text : List ℕ) → Stands edge text → text ≡ []) → (text : List ℕ) → Holds inbox text → text ≡ []) × (is_told edge ≡ false → told_of inbox ≡ false) }
     {
         self.rows.push_reserved(Connection {
             number,
@@ -110,6 +111,8 @@ impl<R: Relation> Table<R> {
         ensures rows { rows_of self.new ≡ rows_of self.old }
         ensures others { LeavesInboxes number (inlets_of self.old) (inlets_of self.new) }
         ensures more { OnOk result ((text : List ℕ) → StandsFor (inlets_of self.old) number text → StandsFor (inlets_of self.new) number (text ++ bytes.now)) }
+        ensures told { told_at number (inlets_of self.new) ≡ told_at number (inlets_of self.old) }
+        ensures open { IsOver (inlets_of self.new) number → IsOver (inlets_of self.old) number }
         ensures over { IsOver (inlets_of self.old) number → IsOver (inlets_of self.new) number }
     {
         match self.place_of(number) {
@@ -122,6 +125,8 @@ impl<R: Relation> Table<R> {
     pub fn next(&mut self, number: u32) -> Result<Next, Memory>
         ensures rows { rows_of self.new ≡ rows_of self.old }
         ensures idle { IfOk result (λ next. is_request next ≡ true → IsRow (rows_of self.old) number None) }
+        ensures free { result ≡ Ok Next.Continue → IsRow (rows_of self.old) number None }
+        ensures told { IfOk result (λ next. TellsAt next number (inlets_of self.old) (inlets_of self.new)) }
         ensures others { LeavesInboxes number (inlets_of self.old) (inlets_of self.new) }
         ensures takes { (text : List ℕ) → StandsFor (inlets_of self.old) number text → TakesNext result number text (inlets_of self.new) }
         ensures over { IsOver (inlets_of self.old) number → IsOver (inlets_of self.new) number × IfOk result (λ next. is_request next ≡ false) }

@@ -1,10 +1,11 @@
 //! What connections are told.
 
-ghost use Rattle.std.specs.Prelude.{ℕ, List, [], ◌∷◌, ◌++◌, Some, None, ◌≡◌, ◌≢◌, codes, OnOk};
+ghost use Rattle.std.specs.Prelude.{ℕ, List, [], ◌∷◌, ◌++◌, ◌+◌, Some, None, ◌≡◌, ◌≢◌, codes, OnOk};
 ghost use Rattle.journal_book.specs.Entries.{Written};
 ghost use Rattle.exchange_core.specs.Answering.{given_of, IsGiven};
 ghost use Rattle.gateway_world.specs.Steps.{AddsTold};
 ghost use Rattle.gateway_world.specs.Closing.{closed_in};
+ghost use Rattle.gateway_world.specs.Continuing.{interims, GivesFinal};
 
 use crate::input::Output;
 use crate::rendering::render;
@@ -20,6 +21,8 @@ const CONTINUE: &str = "HTTP/1.1 100 Continue\r\n\r\n";
 pub fn tell_continue(alloc: Global, number: u32, outputs: &mut Vec<Output>) -> Result<(), Memory>
     ensures told { (h : List Written) → OnOk result (AddsTold h None outputs.old.items outputs.new.items) }
     ensures silent { OnOk result (closed_in outputs.new.items ≡ closed_in outputs.old.items) }
+    ensures one { OnOk result (interims number outputs.new.items ≡ interims number outputs.old.items + 1) }
+    ensures others { OnOk result ((c : ℕ) → c ≢ number → interims c outputs.new.items ≡ interims c outputs.old.items) }
 {
     let bytes = Vec::from_slice(alloc, CONTINUE.as_bytes())?;
     outputs.push(Output::Bytes(number, bytes))?;
@@ -35,6 +38,7 @@ pub fn tell_answer<R: Relation>(
 ) -> Result<(), Memory>
     ensures told { (h : List Written) (g : IsGiven h (given_of answer.now)) → g.conn ≡ number → OnOk result (AddsTold h (Some (record { conn = number; number = answer.now.number })) outputs.old.items outputs.new.items) }
     ensures silent { OnOk result (closed_in outputs.new.items ≡ closed_in outputs.old.items) }
+    ensures no_interim { OnOk result (GivesFinal outputs.old.items outputs.new.items) }
 {
     let rendered = render(alloc, answer)?;
     let bytes = answer_bytes(alloc, &rendered)?;
@@ -46,6 +50,7 @@ pub fn tell_answer<R: Relation>(
 pub fn tell_closed(number: u32, outputs: &mut Vec<Output>) -> Result<(), Memory>
     ensures told { (h : List Written) → OnOk result (AddsTold h None outputs.old.items outputs.new.items) }
     ensures closes { OnOk result (closed_in outputs.new.items ≡ closed_in outputs.old.items ++ number ∷ []) }
+    ensures no_interim { OnOk result (GivesFinal outputs.old.items outputs.new.items) }
 {
     outputs.push(Output::Closed(number))?;
     Ok(())

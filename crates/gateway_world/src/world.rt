@@ -4,6 +4,7 @@ ghost use Rattle.std.specs.Prelude.{ℕ, ◌≡◌, ◌≤◌, [], true, IfOk, O
 ghost use Rattle.history_laws.specs.Justified.{Stands};
 ghost use Rattle.gateway_world.specs.Steps.{Grows, Gives};
 ghost use Rattle.gateway_world.specs.Making.{AddsMade};
+ghost use Rattle.gateway_world.specs.Continuing.{TellsToGoOn};
 ghost use Rattle.gateway_world.specs.Closing.{Closes};
 ghost use Rattle.gateway_world.specs.Prompt.{IsPrompt};
 ghost use Rattle.gateway_world.specs.Rows.{Settled};
@@ -84,6 +85,7 @@ impl<R: Relation> World<R> {
         ensures enters { IfOk result (λ outputs. Enters input.entry.happening self.new.moment self.old.core self.new.core [] outputs.items) }
         ensures asks { OnOk result ((c : ℕ) → Heeds (Maps R.holds R.takes self.old.rules) c input.entry.happening self.old.core.entries self.old.inlets self.new.core.entries self.new.inlets) }
         ensures closes { IfOk result (λ outputs. Closes input.entry.happening self.old.core.entries self.new.core.entries [] outputs.items) }
+        ensures continues { IfOk result (λ outputs. (c : ℕ) → TellsToGoOn c self.old.core.entries self.old.inlets [] self.new.core.entries self.new.rows self.new.inlets outputs.items) }
         ensures prompt { OnOk result (IsPrompt self.old.rows self.old.inlets → IsPrompt self.new.rows self.new.inlets) }
         ensures settled { OnOk result (Settled self.old.core → Settled self.new.core) }
     {

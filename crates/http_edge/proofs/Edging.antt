@@ -1,6 +1,6 @@
 -- What an edge does to the text that it stands for.
-use Rattle.std.proofs.Common.{◌≡◌, ◌⊎◌, inl, inr, ℕ, ◌≤◌, ◌<◌, ◌+◌, List, [], ◌∷◌, ◌++◌, length, refl, sym, ap, subst, ◌∙◌, arith, append_assoc, Bool, true, false, Option, Some, None, Result, Ok, Err, IfOk, OnErr}
-use Rattle.httparse.specs.Grammar.{RequestHead, ChunkLine, chunk_size, HasNoSection}
+use Rattle.std.proofs.Common.{◌≡◌, ◌⊎◌, ◌&&◌, not, inl, inr, ℕ, ◌≤◌, ◌<◌, ◌+◌, List, [], ◌∷◌, ◌++◌, length, refl, sym, ap, subst, ◌∙◌, arith, append_assoc, length-append, Bool, true, false, Option, Some, None, IsSome, Result, Ok, Err, IfOk, OnErr}
+use Rattle.httparse.specs.Grammar.{RequestHead, print_request, ChunkLine, chunk_size, HasNoSection}
 use Rattle.httparse.specs.Spans.{RequestOverflows, SectionOverflows}
 use Rattle.http_edge.specs.declared.memory.Memory.{Memory}
 use Rattle.http_edge.specs.declared.request.BadKind.{BadKind}
@@ -10,7 +10,7 @@ use Rattle.http_edge.specs.declared.body.Left.{Left}
 use Rattle.http_edge.specs.declared.body.Left.TheVariants.{Bytes, Line, Data, Trailers}
 use Rattle.http_edge.specs.declared.body.Fill.{Fill}
 use Rattle.http_edge.specs.declared.body.Fill.TheVariants as fill
-use Rattle.http_edge.specs.declared.head.Begun.{Begun}
+use Rattle.http_edge.specs.declared.begun.Begun.{Begun}
 use Rattle.http_edge.specs.declared.head.Start.{Start}
 use Rattle.http_edge.specs.declared.head.Start.TheVariants.{Bad}
 use Rattle.http_edge.specs.Framing.{framing}
@@ -18,8 +18,9 @@ use Rattle.http_edge.specs.Requests.{Content, content, expects}
 use Rattle.http_edge.specs.Reading.{BeginsWith, TakesBody, NeverTakes, IsRefused, Item, asked, bad, First, HasNone}
 use Rattle.http_edge.specs.Chunks.{BeginsLine, BeginsTrailers, NeverTrailers, RefusedBehind, TakesChunks, FailsChunks}
 use Rattle.http_edge.specs.Bodies.{SoFar, Chunks, BehindLine, NoBody, OpenTrailers, Comes}
-use Rattle.http_edge.specs.Edges.{GoesOn, IsStart, StandsBegun, HeadWaits, TrailersWait, Waits, HasTooMany, Expects, FillsBegun, FillsIn}
+use Rattle.http_edge.specs.Edges.{GoesOn, IsStart, StandsBegun, HeadWaits, TrailersWait, Waits, HasTooMany, Expects, WaitsIn, FillsBegun, FillsIn}
 use Rattle.http_edge.proofs.Chunking.{chunk_on, line_on, line_never, same_line}
+use Rattle.http_edge.proofs.Heading.{head_is_some}
 use Rattle.http_edge.proofs.Lefts.{splits, splits_fail}
 use Rattle.http_edge.proofs.Readings.{same_head, begins_on, never_and_begins}
 
@@ -183,3 +184,39 @@ waits_only text i rest (inr w) x = inr (w, trailers_wait text i rest w x)
 -- who asks for 100 Continue is known of the request begun
 pub asking : (c : Content) (left : Left) (wants : Bool) (unread text : List ℕ) → GoesOn c left wants unread text → Expects text → wants ≡ true
 asking c left wants unread text g x = g.wants_is ∙ same_head (λ h t. expects h ≡ true) text g.head x.head g.behind x.behind g.begins x.begins x.asks
+
+-- where nothing can be read
+
+pub waits-so : (o : Option Begun) (text : List ℕ) → WaitsIn o text → HasNone text ⊎ Waits text
+waits-so None text w = inr (inl w)
+waits-so (Some b) text w = w
+
+pub waits-begun : (o : Option Begun) (text : List ℕ) → IsSome o → HasNone text ⊎ Waits text → WaitsIn o text
+waits-begun None text some w = absurd cc
+waits-begun (Some b) text some w = w
+
+pub waits-unbegun : (o : Option Begun) (text : List ℕ) → o ≡ None → HeadWaits text → WaitsIn o text
+waits-unbegun o text none w = rw none w
+
+-- where no head is whole, nothing is expected
+pub expects-none : (o : Option Begun) (text : List ℕ) → o ≡ None → WaitsIn o text → Expects text → ⊥
+expects-none o text none w x =
+    let head : HeadWaits text = subst (λ (u : Option Begun). WaitsIn u text) none w in
+    head.0 x.head x.behind x.begins.reads
+
+-- the request begun asks for it
+pub expected : (c : Content) (left : Left) (wants : Bool) (unread text : List ℕ) → GoesOn c left wants unread text → wants ≡ true → Expects text
+expected c left wants unread text g so = record { head = g.head; behind = g.behind; begins = g.begins; asks = sym g.wants_is ∙ so }
+
+-- who isn't told to go on though it asks was told before
+pub told-before : (wants told : Bool) → (wants && not told) ≡ false → wants ≡ true → told ≡ true
+told-before wants true either so = refl
+told-before true false either so = absurd cc
+told-before false false either so = absurd cc
+
+-- no head, and so none that asks for it, begins nothing
+pub empty-expects : Expects [] → ⊥
+empty-expects x =
+    let some = head_is_some x.head in
+    let whole = ap length x.begins.reads.1 ∙ length-append (print_request x.head) x.behind in
+    absurd (omega (arith, some, whole))

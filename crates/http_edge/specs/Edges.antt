@@ -7,7 +7,7 @@ use Rattle.http_edge.specs.declared.request.Incoming.{Incoming}
 use Rattle.http_edge.specs.declared.request.Incoming.TheVariants as incoming
 use Rattle.http_edge.specs.declared.framing.Framing.TheVariants.{Chunked}
 use Rattle.http_edge.specs.declared.body.Left.{Left}
-use Rattle.http_edge.specs.declared.head.Begun.{Begun}
+use Rattle.http_edge.specs.declared.begun.Begun.{Begun}
 use Rattle.http_edge.specs.declared.head.Start.{Start}
 use Rattle.http_edge.specs.declared.head.Start.TheVariants.{Wait, Bad, Head}
 use Rattle.http_edge.specs.declared.edge.Edge.{Edge}
@@ -65,9 +65,14 @@ abbrev pub StandsBegun : Option Begun → List ℕ → List ℕ → Type 0
 StandsBegun None unread text = text ≡ unread
 StandsBegun (Some b) unread text = GoesOn (content b.request) b.left b.wants unread text
 
+-- Why nothing can be read: no head is whole, or not the request begun.
+abbrev pub WaitsIn : Option Begun → List ℕ → Type 0
+WaitsIn None text = HeadWaits text
+WaitsIn (Some b) text = HasNone text ⊎ Waits text
+
 -- The parts of an open edge stand for the text, and it only waits where nothing can be read.
 abbrev pub StandsIn : Bool → Bool → Option Begun → List ℕ → List ℕ → Type 0
-StandsIn ended waits begun unread text = (ended ≡ false) × StandsBegun begun unread text × (waits ≡ true → HasNone text ⊎ Waits text)
+StandsIn ended waits begun unread text = (ended ≡ false) × StandsBegun begun unread text × (waits ≡ true → WaitsIn begun text)
 
 -- The edge is open and stands for the text.
 abbrev pub Stands : Edge → List ℕ → Type 0
@@ -164,3 +169,8 @@ Falls (Some i) old new = new < old
 abbrev pub BeginFalls : Begin → ℕ → ℕ → Type 0
 BeginFalls (begin.Done result) old new = Falls result old new
 BeginFalls begin.Begun old new = new ≤ old
+
+-- An item behind which nothing is begun closes the connection.
+abbrev pub BeginCloses : Begin → Type 0
+BeginCloses (begin.Done (Some i)) = closes (item i) ≡ true
+BeginCloses _ = ⊤

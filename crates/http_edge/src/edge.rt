@@ -1,9 +1,10 @@
 //! A connection's bytes, read as requests.
 
-ghost use Rattle.std.specs.Prelude.{◌≡◌, ◌≤◌, ◌<◌, ◌+◌, ◌-◌, ◌*◌, ◌++◌, ◌⊎◌, ℕ, List, [], take, drop, length, min, IfOk, OnErr, IsSome, IsTrue, ◌↔◌, ◌||◌, false, true, Ok, None};
+ghost use Rattle.std.specs.Prelude.{◌≡◌, ◌≤◌, ◌<◌, ◌+◌, ◌-◌, ◌*◌, ◌++◌, ◌⊎◌, ℕ, List, [], take, drop, length, min, IfOk, IfSome, OnErr, IsSome, IsTrue, ◌↔◌, ◌||◌, false, true, Ok, None};
 
+use crate::begun::Begun;
 use crate::body::{Fill, fill_body};
-use crate::head::{Begun, Start, start_of};
+use crate::head::{Start, start_of};
 use crate::memory::Memory;
 use crate::request::Incoming;
 use crate::unread::Unread;
@@ -29,13 +30,15 @@ pub struct Edge {
 }
 
 impl Edge {
-    ghost use Rattle.http_edge.specs.Edges.{Stands, Steps, Begins, Fills, IsBegun, IsWholeIn, IsAsking, Falls, BeginFalls, is_told, unread_len, work_left};
+    ghost use Rattle.http_edge.specs.Reading.{closes};
+    ghost use Rattle.http_edge.specs.Edges.{Stands, Expects, item, Steps, Begins, Fills, IsBegun, IsWholeIn, IsAsking, Falls, BeginFalls, BeginCloses, is_told, unread_len, work_left};
     ghost use Rattle.http_edge.specs.Edges as spec;
 
     /// No bytes, and room for 8,192.
     pub fn new(alloc: Global) -> Result<Edge, Memory>
         ensures stands { IfOk result (λ e. Stands e []) }
         ensures empty { IfOk result (λ e. unread_len e ≡ 0) }
+        ensures told { IfOk result (λ e. is_told e ≡ false) }
         ensures only { IfOk result (λ e. (text : List ℕ) → Stands e text → text ≡ []) }
     {
         Ok(Edge {
@@ -100,6 +103,7 @@ impl Edge {
         ensures room { self.old.ended ≡ false → result ≡ Ok None → unread_len self.new < 8192 }
         ensures waits { self.old.ended ≡ false → result ≡ Ok None → self.new.waits ≡ true }
         ensures told { is_told self.new ≡ true → is_told self.old ≡ true }
+        ensures fresh { IfOk result (λ found. IfSome found (λ i. closes (item i) ≡ false → is_told self.new ≡ false)) }
         ensures still_told { result ≡ Ok None → is_told self.new ≡ is_told self.old }
         ensures told_on_refusal { OnErr result (is_told self.new ≡ is_told self.old) }
         ensures less { IfOk result (λ item. Falls item (work_left self.old) (work_left self.new)) }
@@ -128,6 +132,8 @@ impl Edge {
     pub fn wants_continue(&mut self) -> bool
         ensures asks { (text : List ℕ) → Stands self.old text → (IsTrue result ↔ IsAsking self.old text) }
         ensures told { is_told self.new ≡ (result || is_told self.old) }
+        ensures expects { (text : List ℕ) → Stands self.new text → self.new.waits ≡ true → (is_told self.new ≡ true ↔ Expects text) }
+        ensures fresh { IsTrue result → is_told self.old ≡ false }
         ensures stands { (text : List ℕ) → Stands self.old text → Stands self.new text }
         ensures ended { self.new.ended ≡ self.old.ended }
         ensures unread { unread_len self.new ≡ unread_len self.old }
@@ -148,6 +154,7 @@ impl Edge {
         ensures steps { (text : List ℕ) → Stands self.old text → Begins result self.new text }
         ensures told { is_told self.new ≡ is_told self.old }
         ensures less { IfOk result (λ begin. BeginFalls begin (work_left self.old) (work_left self.new)) }
+        ensures closing { IfOk result BeginCloses }
         ensures stays_open { result ≡ Ok Begin.Begun → self.new.ended ≡ false }
         ensures begun { result ≡ Ok Begin.Begun → IsBegun self.new }
         ensures room { result ≡ Ok (Begin.Done None) → unread_len self.new < 8192 }

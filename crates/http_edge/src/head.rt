@@ -11,6 +11,7 @@ ghost use Rattle.http_edge.specs.Bodies.{SoFar};
 ghost use Rattle.http_edge.specs.Reading.{NeverTakes};
 ghost use Rattle.http_edge.specs.Edges.{IsStart};
 
+use crate::begun::Begun;
 use crate::body::Left;
 use crate::framing::{Framing, framing_at, lists};
 use crate::memory::Memory;
@@ -19,31 +20,6 @@ use http_header::{HeaderMap, HeaderName, HeaderNameError, HeaderValue, HeaderVal
 use httparse::Status;
 use httparse::spans::{EMPTY_HEADER_SPAN, HeaderSpan, RequestSpans, parse_request};
 use std::alloc::Global;
-
-/// A request whose body comes in.
-#[derive(Drop)]
-pub struct Begun {
-    pub request: Request,
-    pub left: Left,
-    /// The head asks for `100 Continue`.
-    pub wants: bool,
-    /// The client was told to go on.
-    pub told: bool,
-}
-
-impl Begun {
-    /// An equal one.
-    pub fn copy(&self) -> Result<Begun, Memory>
-        ensures { IfOk result (λ b. (content b.request ≡ content self.now.request) × (b.left ≡ self.now.left) × (b.wants ≡ self.now.wants) × (b.told ≡ self.now.told)) }
-    {
-        Ok(Begun {
-            request: self.request.copy()?,
-            left: self.left,
-            wants: self.wants,
-            told: self.told,
-        })
-    }
-}
 
 /// What unread bytes begin with.
 #[derive(Drop)]

@@ -10,6 +10,7 @@
 #![tactic(auto)]
 
 mod answer;
+mod begun;
 mod body;
 mod edge;
 mod framing;

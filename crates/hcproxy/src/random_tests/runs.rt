@@ -194,13 +194,22 @@ impl Run {
         self.give(when, Happening::Datagram(peer, &bytes))
     }
 
-    /// Time goes on, by some distance.
+    /// Time goes on, by some distance: a little, far, or till the time of an exchange is over, or a
+    /// millisecond before that.
     fn wait_some(&mut self) -> Result<(), Fault> {
         let near = self.draws.below(3000).saturating_add(1);
-        let far = self
-            .draws
-            .pick(near, &[near, near, near, 92_900, WAIT, 100_000, 247_100]);
-        self.wait(far)
+        let left = self.time_left().unwrap_or(WAIT);
+        let before = left.saturating_sub(1);
+        let far = [near, near, near, left, before, 92_900, 100_000, 247_100];
+        let distance = self.draws.pick(near, &far);
+        self.wait(distance)
+    }
+
+    /// How long the first exchange that goes on may still take.
+    fn time_left(&self) -> Option<u64> {
+        let asked = self.asked.iter().find(|asked| asked.outcome.is_none())?;
+        let over = asked.since.saturating_add(WAIT);
+        Some(over.saturating_sub(self.clock))
     }
 
     /// Time goes on for so many milliseconds: exchanges end that have been open for long enough.

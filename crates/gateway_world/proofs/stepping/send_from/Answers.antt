@@ -4,10 +4,11 @@ use Rattle.std.proofs.Common.{refl, ◌∙◌}
 use Rattle.gateway_world.proofs.Closings.{silent-more}
 use Rattle.gateway_world.proofs.Going.{goes-none, sent-one, shorter, sent-grow}
 use Rattle.gateway_world.proofs.Serving.{same-serves}
+use Rattle.gateway_world.proofs.Continuing.{final-one}
 use Rattle.gateway_world.proofs.stepping.send_from.Goals as goal
 
 pub each-init : goal.each-init
-each-init g c = (goes-none _ _, record { entries = refl; conns = refl; answers = refl }, refl, refl)
+each-init g c = (goes-none _ _, record { entries = refl; conns = refl; answers = refl }, refl, refl, record { same = λ d. refl })
 
 pub each-smaller : goal.each-smaller
 each-smaller g c = shorter _ _ _ (rw c.in-Some.is at c.take_send.ensures.some)
@@ -20,6 +21,7 @@ each-preserved g c =
       record { entries = t.entries ∙ before.entries; conns = t.conns ∙ before.conns; answers = t.answers ∙ before.answers },
       silent-more _ _ _ c.in_ok-push.ensures.items refl ∙ c.each.invariant.2,
       t.moment ∙ c.each.invariant.3,
+      record { same = λ d. final-one d _ _ _ c.in_ok-push.ensures.items refl ∙ c.each.invariant.4.same d },
     )
 
 pub returns-in_err-push : goal.returns-in_err-push
@@ -35,7 +37,11 @@ returns-in_err-push g c =
       entries = t.entries ∙ before.entries;
       moment = t.moment ∙ c.each.invariant.3;
       silent = rw (failed.1) tt;
+      no_interim = rw (failed.1) tt;
     }
 
 pub returns-clause-silent : goal.returns-clause-silent
 returns-clause-silent g c = c.each.invariant.2
+
+pub returns-clause-no_interim : goal.returns-clause-no_interim
+returns-clause-no_interim g c = c.each.invariant.4

@@ -2,6 +2,7 @@
 use Rattle.std.proofs.Common.{refl}
 use Rattle.exchange_core.specs.Answering.{given_of}
 use Rattle.gateway_world.specs.declared.input.Output.TheVariants as Out
+use Rattle.gateway_world.proofs.Continuing.{final-one, final-to, answer-final}
 use Rattle.gateway_world.proofs.telling.tell_answer.Goals as goal
 
 pub returns-clause-told : goal.returns-clause-told
@@ -23,3 +24,9 @@ returns-clause-told g c = λ h given conn.
         },
       );
     }
+
+pub returns-clause-no_interim : goal.returns-clause-no_interim
+returns-clause-no_interim g c = record {
+  same = λ d. final-one d _ _ (Out.Bytes c.args.number c.in_ok-bytes.bytes) c.in_ok-push.ensures.items
+      (final-to c.args.number d c.in_ok-bytes.bytes.items (answer-final (given_of c.args.answer.now) c.in_ok-rendered.rendered c.in_ok-bytes.bytes.items c.in_ok-rendered.ensures.means c.in_ok-bytes.ensures));
+}

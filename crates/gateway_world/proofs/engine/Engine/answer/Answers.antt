@@ -5,6 +5,7 @@ use Rattle.gateway_world.proofs.Reading.{order-none, order-call}
 use Rattle.gateway_world.proofs.Prompting.{apart-call}
 use Rattle.gateway_world.proofs.Closings.{closes-call}
 use Rattle.gateway_world.proofs.Making.{makes-then}
+use Rattle.gateway_world.proofs.Continuing.{answered-tells}
 use Rattle.gateway_world.proofs.engine.Engine.answer.Goals as goal
 
 pub returns-clause-leads : goal.returns-clause-leads
@@ -34,3 +35,7 @@ returns-clause-closes g c = closes-call c.serve.result _ _ _ _ _ _ c.in_ok-give.
 
 pub returns-clause-made : goal.returns-clause-made
 returns-clause-made g c = makes-then _ _ _ _ c.in_ok-give.ensures.made c.serve.ensures.made
+
+pub returns-clause-continues : goal.returns-clause-continues
+returns-clause-continues g c =
+    answered-tells c.serve.result _ c.args.number _ _ _ _ _ _ _ _ _ _ c.in_ok-give.ensures.asks c.in_ok-give.ensures.no_interim c.serve.ensures.asks c.serve.ensures.continues

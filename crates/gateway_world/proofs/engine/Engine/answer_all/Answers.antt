@@ -6,10 +6,11 @@ use Rattle.gateway_world.proofs.Reading.{order-quiet, order-then}
 use Rattle.gateway_world.proofs.Prompting.{prompt-all}
 use Rattle.gateway_world.proofs.Closings.{closes-same, closes-then}
 use Rattle.gateway_world.proofs.Making.{makes-same, makes-then}
+use Rattle.gateway_world.proofs.Continuing.{none-yet, answers-then}
 use Rattle.gateway_world.proofs.engine.Engine.answer_all.Goals as goal
 
 pub each-init : goal.each-init
-each-init g c = (goes-none _ _, c.requires, (λ e. e), (λ w. w), order-quiet _ _ _ _ _ (λ d. refl) refl, (λ none. (refl, none)), (λ w. w), closes-same _ _ _ refl, makes-same _ _ _ refl)
+each-init g c = (goes-none _ _, c.requires, (λ e. e), (λ w. w), order-quiet _ _ _ _ _ (λ d. refl) refl, (λ none. (refl, none)), (λ w. w), closes-same _ _ _ refl, makes-same _ _ _ refl, none-yet _ _ _ _)
 
 pub each-preserved : goal.each-preserved
 each-preserved g c =
@@ -24,6 +25,7 @@ each-preserved g c =
       (λ w. prompt-all c.in-Some.number _ _ _ _ next.apart next.prompt (before.6 w)),
       closes-then _ _ _ _ _ _ before.7 next.closes,
       makes-then _ _ _ _ before.8 next.made,
+      answers-then _ c.in-Some.number c.each.self.core _ _ _ _ _ _ _ _ _ _ before.1.numbered (rw (c.in-Some.is) at (c.first_answered.ensures.some)) before.9 before.4 next.asks next.apart next.continues,
     )
 
 pub each-smaller : goal.each-smaller

@@ -1,5 +1,5 @@
 -- So far the core went on as it was given out.
-use Rattle.std.proofs.Common.{◌≡◌, [], length}
+use Rattle.std.proofs.Common.{◌≡◌, ℕ, [], length}
 use Rattle.gateway_world.specs.Steps.{Goes}
 use Rattle.gateway_world.specs.Rows.{Serves, Attended, rows_of}
 use Rattle.gateway_world.specs.Asks.{inlets_of}
@@ -8,6 +8,7 @@ use Rattle.ask_model.specs.Views.{rules_of}
 use Rattle.ask_model.specs.Maps.{Maps}
 use Rattle.gateway_world.specs.AskSteps.{AsksInOrder}
 use Rattle.gateway_world.specs.Closing.{TellsClosings}
+use Rattle.gateway_world.specs.Continuing.{TellsToGoOn}
 use Rattle.gateway_world.specs.Making.{Makes}
 use Rattle.gateway_world.specs.Prompt.{IsPrompt}
 use Rattle.gateway_world.proofs.Owing.{owed}
@@ -23,6 +24,7 @@ invariant-each g l =
     × (IsPrompt (rows_of l.initial.self.table) (inlets_of l.initial.self.table) → IsPrompt (rows_of l.self.table) (inlets_of l.self.table))
     × TellsClosings l.initial.self.core.entries l.self.core.entries l.initial.outputs.items l.outputs.items
     × Makes l.context.when l.initial.self.core l.self.core
+    × ((c : ℕ) → TellsToGoOn c l.initial.self.core.entries (inlets_of l.initial.self.table) l.initial.outputs.items l.self.core.entries (rows_of l.self.table) (inlets_of l.self.table) l.outputs.items)
 
 abbrev pub decreases-each : goal.decreases-each
 decreases-each g l = length (owed l.self.core (rows_of l.self.table))

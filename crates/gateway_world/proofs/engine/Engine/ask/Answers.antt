@@ -15,6 +15,7 @@ use Rattle.gateway_world.proofs.Prompting.{apart-with, apart-call}
 use Rattle.gateway_world.specs.Closing.{shut_in}
 use Rattle.gateway_world.proofs.Closings.{closes-none, closes-call}
 use Rattle.gateway_world.proofs.Making.{makes-none, makes-same, makes-then}
+use Rattle.gateway_world.proofs.Continuing.{final-call}
 use Rattle.gateway_world.proofs.engine.Engine.ask.Goals as goal
 
 pub returns-in_ok-send_from-in-Ok-clause-leads : goal.returns-in_ok-send_from-in-Ok-clause-leads
@@ -38,6 +39,7 @@ pub returns-in-Err-Unknown : goal.returns-in-Err-Unknown
 returns-in-Err-Unknown g c = record {
   leads = leads-on c.shut.result _ _ _ _ _ _ (goes-advancing _ _ _ (standing-of _ _ c.requires.served) c.ask_in.ensures.advances) c.shut.ensures.leads;
   kept = c.shut.ensures.kept;
+  no_interim = c.shut.ensures.no_interim;
   made = makes-then _ _ _ _ c.ask_in.ensures.made c.shut.ensures.made;
   leaves = leaves-then c.shut.result c.args.number _ _ _ _ _ _ (advances-grow _ _ c.ask_in.ensures.advances)
       (record {
@@ -93,3 +95,6 @@ returns-in_err-mapped-clause-made g c = makes-same _ _ _ refl
 
 pub returns-in_err-mapped-2-clause-made : goal.returns-in_err-mapped-2-clause-made
 returns-in_err-mapped-2-clause-made g c = makes-same _ _ _ refl
+
+pub returns-in_ok-send_from-in-Ok-clause-no_interim : goal.returns-in_ok-send_from-in-Ok-clause-no_interim
+returns-in_ok-send_from-in-Ok-clause-no_interim g c = final-call c.give.result _ _ _ c.in_ok-send_from-in-Ok.ensures.no_interim c.give.ensures.no_interim

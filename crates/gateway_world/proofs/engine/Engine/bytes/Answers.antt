@@ -4,6 +4,7 @@ use Rattle.gateway_world.proofs.Heeding.{fed-others, fed-reads, fed-over}
 use Rattle.gateway_world.proofs.Prompting.{apart-read, apart-call, prompt-call}
 use Rattle.gateway_world.proofs.Making.{makes-same}
 use Rattle.std.proofs.Common.{refl}
+use Rattle.gateway_world.proofs.Continuing.{fed-tells}
 use Rattle.gateway_world.proofs.engine.Engine.bytes.Goals as goal
 
 pub returns-clause-settled : goal.returns-clause-settled
@@ -27,3 +28,7 @@ returns-clause-prompt g c =
 
 pub returns-in_err-append-clause-made : goal.returns-in_err-append-clause-made
 returns-in_err-append-clause-made g c = makes-same _ _ _ refl
+
+pub returns-clause-continues : goal.returns-clause-continues
+returns-clause-continues g c =
+    fed-tells c.serve.result _ c.args.number _ _ _ _ _ _ _ _ _ c.append.ensures.told c.append.ensures.over c.append.ensures.others c.serve.ensures.asks c.serve.ensures.apart c.serve.ensures.continues

@@ -8,6 +8,7 @@ use Rattle.gateway_world.proofs.Entering.{quiet-then}
 use Rattle.gateway_world.proofs.Closings.{closes-none, closes-call}
 use Rattle.gateway_world.specs.Closing.{shut_in}
 use Rattle.gateway_world.proofs.Making.{makes-none, makes-then}
+use Rattle.gateway_world.proofs.Continuing.{quiet-call}
 use Rattle.gateway_world.proofs.engine.Engine.deliver.Goals as goal
 
 pub answer_all-requires : goal.answer_all-requires
@@ -38,3 +39,7 @@ returns-clause-made g c = makes-then _ _ _ _ (makes-none _ _ _ c.in_ok-send_from
 
 pub returns-in_err-send_from-clause-made : goal.returns-in_err-send_from-clause-made
 returns-in_err-send_from-clause-made g c = makes-none _ _ _ c.in_err-send_from.ensures.entries c.in_err-send_from.ensures.moment
+
+pub returns-clause-continues : goal.returns-clause-continues
+returns-clause-continues g c =
+    quiet-call c.answer_all.result _ _ _ _ _ _ _ _ _ (λ d. ap (asked_on d) c.in_ok-send_from.ensures.entries) c.in_ok-send_from.ensures.no_interim c.answer_all.ensures.continues

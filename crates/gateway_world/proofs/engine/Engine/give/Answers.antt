@@ -12,6 +12,7 @@ use Rattle.gateway_world.proofs.Prompting.{apart-same, apart-with, apart-call}
 use Rattle.gateway_world.proofs.Closings.{closes-same, closes-none, closes-call}
 use Rattle.gateway_world.specs.Closing.{shut_in}
 use Rattle.gateway_world.proofs.Making.{makes-none, makes-same, makes-then}
+use Rattle.gateway_world.proofs.Continuing.{final-call}
 use Rattle.gateway_world.proofs.engine.Engine.give.Goals as goal
 
 pub returns-in_default-clause-leads : goal.returns-in_default-clause-leads
@@ -190,3 +191,12 @@ returns-then-closes-clause-made g c = makes-then _ _ _ _ (makes-none _ _ _ c.tak
 
 pub returns-clause-made : goal.returns-clause-made
 returns-clause-made g c = makes-none _ _ _ c.take_answer.ensures.entries c.take_answer.ensures.moment
+
+pub returns-in_default-clause-no_interim : goal.returns-in_default-clause-no_interim
+returns-in_default-clause-no_interim g c = record { same = λ d. refl }
+
+pub returns-in_default-take_answer-clause-no_interim : goal.returns-in_default-take_answer-clause-no_interim
+returns-in_default-take_answer-clause-no_interim g c = record { same = λ d. refl }
+
+pub returns-then-closes-clause-no_interim : goal.returns-then-closes-clause-no_interim
+returns-then-closes-clause-no_interim g c = final-call c.shut.result _ _ _ c.in_ok-tell_answer.ensures.no_interim c.shut.ensures.no_interim

@@ -13,6 +13,7 @@ use Rattle.gateway_world.proofs.Reading.{order-quiet}
 use Rattle.gateway_world.proofs.Prompting.{prompt-open}
 use Rattle.gateway_world.proofs.Closings.{closes-none, closes-turned}
 use Rattle.gateway_world.proofs.Making.{makes-same}
+use Rattle.gateway_world.proofs.Continuing.{opened-tells, turned-tells}
 use Rattle.gateway_world.proofs.engine.Engine.open.Goals as goal
 
 pub returns-in-Ok-clause-leads : goal.returns-in-Ok-clause-leads
@@ -23,6 +24,7 @@ returns-in-Err g c = record {
   leads = leads-on c.tell_turned.result _ _ _ _ _ _ (goes-advancing _ _ _ (standing-of _ _ c.requires) c.open_in.ensures.advances) (told-leads _ _ _ _ c.tell_turned.ensures.told);
   kept = rw (c.make_room.ensures.rows) (c.in-Err.ensures.kept _ c.requires);
   made = c.open_in.ensures.made;
+  continues = turned-tells c.tell_turned.result _ _ _ _ _ _ _ c.open_in.ensures.asks c.make_room.ensures.inlets c.tell_turned.ensures.turned;
   enters = turned-away c.tell_turned.result _ c.args.self.now.core c.open_in.new.core _ _ _ c.in-Err.ensures.enters c.tell_turned.ensures.fault c.tell_turned.ensures.turned;
   closes = closes-turned c.tell_turned.result _ _ _ _ c.open_in.ensures.shuts c.tell_turned.ensures.turned;
   prompt = on-ok c.tell_turned.result _ (λ w. rw (c.make_room.ensures.rows, c.make_room.ensures.inlets) w);
@@ -45,7 +47,7 @@ pub returns-in-Ok-clause-prompt : goal.returns-in-Ok-clause-prompt
 returns-in-Ok-clause-prompt g c =
     let put = c.add.ensures.inlets in
     prompt-open _ _ _ put.0 c.args.self.now.core.entries _ c.in-Ok.ensures.fresh c.requires.opened (c.add.ensures.rows ∙ ap (λ (rs : List Row). rs ++ record { number = c.in-Ok.number; waits = None } ∷ []) c.make_room.ensures.rows)
-    (put.1 ∙ ap (λ (is : List Inlet). is ++ record { number = c.in-Ok.number; inbox = put.0 } ∷ []) c.make_room.ensures.inlets) (put.4 c.in_ok-edge.ensures.only)
+    (put.1 ∙ ap (λ (is : List Inlet). is ++ record { number = c.in-Ok.number; inbox = put.0 } ∷ []) c.make_room.ensures.inlets) (put.4 c.in_ok-edge.ensures.only) (put.5 c.in_ok-edge.ensures.told)
 
 pub returns-in-Ok-clause-closes : goal.returns-in-Ok-clause-closes
 returns-in-Ok-clause-closes g c = closes-none _ _ _ _ c.open_in.ensures.shuts refl
@@ -60,3 +62,9 @@ pub returns-in_err-make_room-clause-leads : goal.returns-in_err-make_room-clause
 returns-in_err-make_room-clause-leads g c =
     let failed = err_from_is_err_and c.from_residual-in_err-make_room.result c.from_residual-in_err-make_room.ensures.1 in
     rw (failed.1) (goes-grow _ _ _ _ (goes-none c.args.self.now.core c.args.outputs.now.items))
+
+pub returns-in-Ok-clause-continues : goal.returns-in-Ok-clause-continues
+returns-in-Ok-clause-continues g c =
+    let put = c.add.ensures.inlets in
+    opened-tells _ c.in-Ok.number put.0 _ _ _ _ _ (rw (c.in-Ok.ensures.fresh) c.requires.opened)
+    (put.1 ∙ ap (λ (is : List Inlet). is ++ record { number = c.in-Ok.number; inbox = put.0 } ∷ []) c.make_room.ensures.inlets) (put.5 c.in_ok-edge.ensures.told) c.open_in.ensures.asks

@@ -7,10 +7,11 @@ use Rattle.gateway_world.proofs.Reading.{order-quiet, order-then}
 use Rattle.gateway_world.proofs.Prompting.{apart-same, apart-then}
 use Rattle.gateway_world.proofs.Closings.{closes-same, closes-then}
 use Rattle.gateway_world.proofs.Making.{makes-same, makes-then}
+use Rattle.gateway_world.proofs.Continuing.{one-none, ones-then, final-then}
 use Rattle.gateway_world.proofs.engine.Engine.serve.Goals as goal
 
 pub each-init : goal.each-init
-each-init g c = (goes-none _ _, c.requires, leaves-none _ _ _, (λ w. w), (λ e. e), (λ w. w), order-quiet _ _ _ _ _ (λ d. refl) refl, apart-same _ _ _, closes-same _ _ _ refl, makes-same _ _ _ refl)
+each-init g c = (goes-none _ _, c.requires, leaves-none _ _ _, (λ w. w), (λ e. e), (λ w. w), order-quiet _ _ _ _ _ (λ d. refl) refl, apart-same _ _ _, closes-same _ _ _ refl, makes-same _ _ _ refl, one-none _ _ _ _ _, record { same = λ d. refl })
 
 pub each-preserved : goal.each-preserved
 each-preserved g c =
@@ -26,6 +27,8 @@ each-preserved g c =
       apart-then _ _ _ _ _ _ _ before.7 next.apart,
       closes-then _ _ _ _ _ _ before.8 next.closes,
       makes-then _ _ _ _ before.9 next.made,
+      ones-then _ _ _ _ _ _ _ _ _ _ _ _ before.10 before.11 (λ o. ((before.6 c.args.number).over o).over) (λ o. ((next.asks c.args.number).over o).over) next.continues,
+      final-then _ _ _ before.11 (next.no_interim (search rules)),
     )
 
 pub returns-in_err-serve_next-clause-leads : goal.returns-in_err-serve_next-clause-leads
@@ -62,3 +65,9 @@ returns-in_err-serve_next-clause-made g c = makes-then _ _ _ _ c.each.invariant.
 
 pub returns-clause-made : goal.returns-clause-made
 returns-clause-made g c = makes-then _ _ _ _ c.each.invariant.9 c.in_ok-serve_next.ensures.made
+
+pub returns-clause-continues : goal.returns-clause-continues
+returns-clause-continues g c =
+    let before = c.each.invariant in
+    let next = c.in_ok-serve_next.ensures in
+    ones-then _ _ _ _ _ _ _ _ _ _ _ _ before.10 before.11 (λ o. ((before.6 c.args.number).over o).over) (λ o. ((next.asks c.args.number).over o).over) next.continues

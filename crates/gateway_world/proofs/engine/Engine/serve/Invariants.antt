@@ -8,6 +8,7 @@ use Rattle.ask_model.specs.Views.{rules_of}
 use Rattle.ask_model.specs.Maps.{Maps}
 use Rattle.gateway_world.specs.AskSteps.{AsksInOrder}
 use Rattle.gateway_world.specs.Closing.{TellsClosings}
+use Rattle.gateway_world.specs.Continuing.{TellsOne, GivesFinal}
 use Rattle.gateway_world.specs.Making.{Makes}
 use Rattle.gateway_world.specs.Prompt.{LeavesConnections, work_at}
 use Rattle.gateway_world.proofs.engine.Engine.serve.Given as goal
@@ -23,6 +24,8 @@ invariant-each g l =
     × LeavesConnections l.number (rows_of l.initial.self.table) (inlets_of l.initial.self.table) (rows_of l.self.table) (inlets_of l.self.table)
     × TellsClosings l.initial.self.core.entries l.self.core.entries l.initial.outputs.items l.outputs.items
     × Makes l.context.when l.initial.self.core l.self.core
+    × TellsOne l.number l.initial.self.core.entries (inlets_of l.initial.self.table) l.initial.outputs.items l.self.core.entries (rows_of l.self.table) (inlets_of l.self.table) l.outputs.items
+    × GivesFinal l.initial.outputs.items l.outputs.items
 
 abbrev pub decreases-each : goal.decreases-each
 decreases-each g l = work_at l.number (inlets_of l.self.table)

@@ -6,6 +6,9 @@ use Rattle.gateway_world.proofs.Prompting.{apart-read, apart-then, work-ends}
 use Rattle.std.proofs.Common.{refl, arith}
 use Rattle.gateway_world.proofs.Closings.{closes-none, closes-same}
 use Rattle.gateway_world.proofs.Making.{makes-same}
+use Rattle.gateway_world.proofs.Continuing.{request-tells, continue-tells, nothing-tells}
+use Rattle.std.proofs.Common.{List, None, Ok, sym, ap, subst}
+use Rattle.gateway_world.specs.Rows.{Row, IsRow}
 use Rattle.gateway_world.proofs.engine.Engine.serve_next.Goals as goal
 
 pub returns-in_ok-tell_continue-in-Continue-clause-leads : goal.returns-in_ok-tell_continue-in-Continue-clause-leads
@@ -73,3 +76,23 @@ returns-in_err-incoming-clause-made g c = makes-same _ _ _ refl
 
 pub returns-in_err-tell_continue-in-Continue-clause-made : goal.returns-in_err-tell_continue-in-Continue-clause-made
 returns-in_err-tell_continue-in-Continue-clause-made g c = makes-same _ _ _ refl
+
+pub returns-in_ok-ask-in-Request-clause-continues : goal.returns-in_ok-ask-in-Request-clause-continues
+returns-in_ok-ask-in-Request-clause-continues g c =
+    request-tells _ _ c.args.number _ _ _ _ _ _ _ _ (rw (c.in-Request.is) at c.in_ok-incoming.ensures.told) c.in_ok-ask-in-Request.ensures.asks c.in_ok-ask-in-Request.ensures.no_interim
+
+pub returns-in_ok-ask-in-Request-clause-no_interim : goal.returns-in_ok-ask-in-Request-clause-no_interim
+returns-in_ok-ask-in-Request-clause-no_interim g c = λ more. c.in_ok-ask-in-Request.ensures.no_interim
+
+pub returns-in_ok-tell_continue-in-Continue-clause-continues : goal.returns-in_ok-tell_continue-in-Continue-clause-continues
+returns-in_ok-tell_continue-in-Continue-clause-continues g c =
+    let next = c.in_ok-incoming.ensures in
+    let told = c.in_ok-tell_continue-in-Continue.ensures in
+    continue-tells c.args.number _ _ _ _ _ _ (rw (c.in-Continue.is) at next.told)
+    (subst (λ (rows : List Row). IsRow rows c.args.number None) (sym next.rows) (next.free (ap (λ n. Ok n) c.in-Continue.is))) told.one told.others
+
+pub returns-in-Nothing-clause-continues : goal.returns-in-Nothing-clause-continues
+returns-in-Nothing-clause-continues g c = nothing-tells c.args.number _ _ _ _ _ (rw (c.in-Nothing.is) at c.in_ok-incoming.ensures.told)
+
+pub returns-in_ok-tell_continue-in-Continue-clause-told : goal.returns-in_ok-tell_continue-in-Continue-clause-told
+returns-in_ok-tell_continue-in-Continue-clause-told g c = λ w. rw (c.in_ok-incoming.ensures.rows) w

@@ -4,6 +4,7 @@ use Rattle.gateway_world.proofs.Serving.{standing-of}
 use Rattle.std.proofs.Common.{◌∙◌}
 use Rattle.gateway_world.proofs.Settling.{attended-without, leaves-without, told-without, on-ok}
 use Rattle.gateway_world.proofs.Closings.{closes-told, closes-untold}
+use Rattle.std.proofs.Common.{refl}
 use Rattle.gateway_world.proofs.engine.Engine.shut.Goals as goal
 
 pub returns-then-close-clause-leads : goal.returns-then-close-clause-leads
@@ -50,3 +51,6 @@ returns-else-close-clause-attended g c =
 
 pub returns-else-close-clause-closes : goal.returns-else-close-clause-closes
 returns-else-close-clause-closes g c = closes-untold c.close.result c.args.number _ _ _ c.if-close.false c.close.ensures.closes
+
+pub returns-else-close-clause-no_interim : goal.returns-else-close-clause-no_interim
+returns-else-close-clause-no_interim g c = record { same = λ d. refl }

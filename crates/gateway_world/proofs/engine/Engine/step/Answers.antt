@@ -6,6 +6,7 @@ use Rattle.std.proofs.Common.{ap, refl, ◌∙◌}
 use Rattle.gateway_world.specs.Asks.{bytes_on}
 use Rattle.gateway_world.proofs.Heeding.{heeds-none, heeds-quiet, heeds-bytes, bytes-here, bytes-elsewhere}
 use Rattle.gateway_world.proofs.Reading.{order-none}
+use Rattle.gateway_world.proofs.Continuing.{closed-tells}
 use Rattle.gateway_world.proofs.engine.Engine.step.Goals as goal
 
 pub returns-in-Close-clause-leads : goal.returns-in-Close-clause-leads
@@ -60,3 +61,6 @@ returns-in-Tick-clause-closes g c = rw (c.in-Tick.is) (c.tick.ensures.closes)
 
 pub returns-in-Close-clause-closes : goal.returns-in-Close-clause-closes
 returns-in-Close-clause-closes g c = rw (c.in-Close.is) tt
+
+pub returns-in-Close-clause-continues : goal.returns-in-Close-clause-continues
+returns-in-Close-clause-continues g c = closed-tells c.in-Close.number _ _ _ _ _ _ _ c.close.ensures.asks c.close.ensures.apart

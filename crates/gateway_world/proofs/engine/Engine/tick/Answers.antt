@@ -7,6 +7,7 @@ use Rattle.gateway_world.proofs.Reading.{order-quiet, order-call}
 use Rattle.gateway_world.proofs.Entering.{tick-more}
 use Rattle.gateway_world.proofs.Closings.{closes-none, closes-call}
 use Rattle.gateway_world.proofs.Making.{makes-then}
+use Rattle.gateway_world.proofs.Continuing.{quiet-call}
 use Rattle.gateway_world.proofs.engine.Engine.tick.Goals as goal
 
 pub deliver-requires : goal.deliver-requires
@@ -35,3 +36,6 @@ returns-clause-closes g c = closes-call c.deliver.result _ _ _ _ _ _ (closes-non
 
 pub returns-clause-made : goal.returns-clause-made
 returns-clause-made g c = makes-then _ _ _ _ c.tick_in.ensures.made c.deliver.ensures.made
+
+pub returns-clause-continues : goal.returns-clause-continues
+returns-clause-continues g c = quiet-call c.deliver.result _ _ _ _ _ _ _ _ _ c.in_ok-tick_in.ensures.asks (record { same = λ d. refl }) c.deliver.ensures.continues

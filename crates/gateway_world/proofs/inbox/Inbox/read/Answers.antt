@@ -2,11 +2,12 @@
 use Rattle.std.proofs.Common.{rules, ◌≡◌, ◌∙◌, drop, true, false, inl, inr, Ok, refl, sym, ap, arith}
 use Rattle.std.proofs.lemmas.Bool.{cases_Bool}
 use Rattle.std.proofs.lemmas.Result.{err_from_is_err_and}
-use Rattle.gateway_world.proofs.Holding.{read-one, stays-on}
+use Rattle.gateway_world.proofs.Holding.{none-told, read-one, same-close, stays-on}
+use Rattle.http_edge.specs.Edges.{is_told}
 use Rattle.gateway_world.proofs.inbox.Inbox.read.Goals as goal
 
 pub each-init : goal.each-init
-each-init c = ((λ text closing w. record { goes_on = closing; holds = w }), omega arith)
+each-init c = ((λ text closing w. record { goes_on = closing; holds = w }), omega arith, refl, refl)
 
 pub each-preserved : goal.each-preserved
 each-preserved c = (
@@ -18,6 +19,8 @@ each-preserved c = (
         holds = c.refill.ensures.holds text (stays-on (drop c.each.self.taken c.each.self.backlog.items) _ text before.holds.front before.holds.whole steps.0 refl);
       }),
   (let le = rw (c.in_default.is) at c.in_ok-incoming.ensures.less in let same = c.refill.ensures.work in let before = c.each.invariant.1 in omega (arith, le, same, before)),
+  c.refill.ensures.closing ∙ c.each.invariant.2,
+  c.refill.ensures.told ∙ c.in_ok-incoming.ensures.still_told (ap (λ o. Ok o) c.in_default.is) ∙ c.each.invariant.3,
 )
 
 pub returns-then-not-refill-clause-reads : goal.returns-then-not-refill-clause-reads
@@ -62,3 +65,13 @@ returns-then-not-refill-clause-rests c = λ none ended.
   where
     differs : true ≡ false → ⊥
     differs e = absurd cc
+
+pub returns-in-Some-clause-found : goal.returns-in-Some-clause-found
+returns-in-Some-clause-found c =
+    none-told c.closes-self.result (is_told c.next.new.self) _ (c.closes-self.ensures ∙ same-close c.in-Some.incoming) (rw (c.in-Some.is) at c.in_ok-incoming.ensures.fresh)
+
+pub returns-then-not-refill-clause-none : goal.returns-then-not-refill-clause-none
+returns-then-not-refill-clause-none c = λ none. (
+  c.refill.ensures.closing ∙ c.each.invariant.2,
+  c.refill.ensures.told ∙ c.in_ok-incoming.ensures.still_told (ap (λ o. Ok o) c.in_default.is) ∙ c.each.invariant.3,
+)

@@ -4,6 +4,7 @@ use Rattle.gateway_world.proofs.Entering.{enters-all}
 use Rattle.gateway_world.proofs.Closings.{closes-all}
 use Rattle.std.proofs.Common.{rules, refl}
 use Rattle.gateway_world.proofs.Making.{adds-none, on-time, made-at}
+use Rattle.gateway_world.proofs.Continuing.{tells-all}
 use Rattle.gateway_world.proofs.state.World.input.Goals as goal
 
 pub returns-clause-gives : goal.returns-clause-gives
@@ -38,3 +39,6 @@ returns-in_err-step-clause-made g c =
 
 pub returns-then-is_too_much-clause-made : goal.returns-then-is_too_much-clause-made
 returns-then-is_too_much-clause-made g c = adds-none _ _ _ _ refl
+
+pub returns-clause-continues : goal.returns-clause-continues
+returns-clause-continues g c = rw (← c.self.view_is) (tells-all _ _ _ _ _ _ _ c.new-outputs.ensures.items c.in_ok-step.ensures.continues)

@@ -6,7 +6,7 @@ use Rattle.gateway_world.proofs.Runs.{so-far-none, so-far-next, asks-all}
 use Rattle.gateway_world.proofs.state.World.run.Goals as goal
 
 pub each-init : goal.each-init
-each-init g c = (tells-none _ _ c.in_ok-world.ensures.history c.new-outputs.ensures.items, c.in_ok-world.ensures.settled, (λ d. so-far-none _ d _ _ c.in_ok-world.ensures.history c.in_ok-world.ensures.closed), c.in_ok-world.ensures.rules)
+each-init g c = (tells-none _ _ c.in_ok-world.ensures.history c.new-outputs.ensures.items, c.in_ok-world.ensures.settled, so-far-none _ _ _ c.in_ok-world.ensures.history c.in_ok-world.ensures.closed, c.in_ok-world.ensures.rules)
 
 pub each-preserved : goal.each-preserved
 each-preserved g c =
@@ -15,9 +15,9 @@ each-preserved g c =
     let next = c.in_ok-more.ensures in (
       rw (c.in_ok-append.ensures.items) (tells-on _ _ _ _ before.0 before.1 settled next.gives),
       settled,
-      (λ d. so-far-next _ d c.args.inputs.now c.each.input-index (record { moment = 0; word = 0; happening = H.Open }) _ _ _ _ c.each-test.true next.grows (before.2 d) (rw (before.3) at next.asks d)),
+      so-far-next _ c.args.inputs.now c.each.input-index (record { moment = 0; word = 0; happening = H.Open }) _ _ _ _ c.each-test.true next.grows before.2 (rw (before.3) at next.asks),
       next.rules ∙ before.3,
     )
 
 pub returns-clause-asks : goal.returns-clause-asks
-returns-clause-asks g c = λ d. rw (c.in_ok-journal.ensures, c.journal.ensures.entries) (asks-all _ d c.args.inputs.now c.each.input-index _ _ (omega (arith, c.each-test.false)) (c.each.invariant.2 d))
+returns-clause-asks g c = rw (c.in_ok-journal.ensures, c.journal.ensures.entries) (asks-all _ c.args.inputs.now c.each.input-index _ _ (omega (arith, c.each-test.false)) c.each.invariant.2)

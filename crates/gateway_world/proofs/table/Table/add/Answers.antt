@@ -12,4 +12,5 @@ returns-clause-inlets g c = (
   c.new.ensures.open,
   c.new.ensures.holds,
   c.new.ensures.only,
+  c.new.ensures.told,
 )

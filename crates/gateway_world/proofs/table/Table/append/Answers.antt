@@ -2,7 +2,7 @@
 use Rattle.std.proofs.Common.{ap, refl}
 use Rattle.std.proofs.Math.Seq.{map-set_same}
 use Rattle.gateway_world.specs.Rows.{row_of}
-use Rattle.gateway_world.proofs.Inlets.{put-others, put-more, put-over, closed-more, ok-then}
+use Rattle.gateway_world.proofs.Inlets.{put-others, put-more, put-over, put-told-still, put-open, closed-more, ok-then}
 use Rattle.gateway_world.proofs.table.Table.append.Goals as goal
 
 pub returns-in-Some-clause-rows : goal.returns-in-Some-clause-rows
@@ -24,3 +24,11 @@ returns-in-Some-clause-over g c =
 
 pub returns-in-None-clause-more : goal.returns-in-None-clause-more
 returns-in-None-clause-more g c = closed-more c.args.self.now.rows.items c.args.number c.args.bytes.now _ (c.in-None.ensures.none refl)
+
+pub returns-in-Some-clause-told : goal.returns-in-Some-clause-told
+returns-in-Some-clause-told g c =
+    put-told-still c.args.self.now.rows.items c.in-Some.place c.args.number c.index_mut.result.now _ c.in-Some.ensures.some c.in-Some.ensures.first c.index_mut.ensures.value refl c.append.ensures.told
+
+pub returns-in-Some-clause-open : goal.returns-in-Some-clause-open
+returns-in-Some-clause-open g c =
+    put-open c.args.self.now.rows.items c.in-Some.place c.args.number c.index_mut.result.now _ c.in-Some.ensures.some c.in-Some.ensures.first c.index_mut.ensures.value refl c.append.ensures.closing

@@ -2,8 +2,8 @@
 use Rattle.std.proofs.Common.{ap, refl, inl}
 use Rattle.std.proofs.Math.Seq.{map-set_same}
 use Rattle.gateway_world.specs.Rows.{row_of}
-use Rattle.gateway_world.proofs.Placing.{idle-row, busy-row}
-use Rattle.gateway_world.proofs.Inlets.{no-inbox, none-stands, put-others, put-takes, put-ends, put-less, put-prompt}
+use Rattle.gateway_world.proofs.Placing.{idle-row, free-row, busy-row}
+use Rattle.gateway_world.proofs.Inlets.{no-inbox, none-stands, put-others, put-takes, put-ends, put-less, put-told, put-prompt}
 use Rattle.gateway_world.proofs.table.Table.next.Goals.{in_default-via-in-Some+else-is_none, in_default-via-in_default}
 use Rattle.gateway_world.proofs.table.Table.next.Goals as goal
 
@@ -45,3 +45,13 @@ returns-in_default-clause-prompt g c = λ none text stands.
           inl (busy-row c.args.self.now.rows.items w.in-Some.place c.args.number w.index.result.now w.is_none.result w.in-Some.ensures.some w.in-Some.ensures.first w.index.ensures w.is_none.ensures w.if-is_none.false)
       | in_default-via-in_default w ↦ absurd (none-stands _ c.args.number text (no-inbox c.args.self.now.rows.items c.args.number (w.in_default.ensures.none refl)) stands)
     ]
+
+pub returns-in-Some-clause-told : goal.returns-in-Some-clause-told
+returns-in-Some-clause-told g c =
+    put-told c.args.self.now.rows.items c.in-Some.place c.args.number c.index_mut.result.now _ c.in-Some.ensures.some c.in-Some.ensures.first c.index_mut.ensures.value refl
+    c.next.result c.next.ensures.told
+
+pub returns-in-Some-clause-free : goal.returns-in-Some-clause-free
+returns-in-Some-clause-free g c = λ continues.
+    free-row c.args.self.now.rows.items c.in-Some.place c.args.number c.index.result.now c.is_none.result c.in-Some.ensures.some c.in-Some.ensures.first
+    c.index.ensures c.is_none.ensures c.if-is_none.true
