@@ -4,7 +4,7 @@ use Rattle.std.specs.Result.{IfOk}
 use Rattle.ask_model.specs.declared.cause.Cause.TheVariants.{Busy}
 use Rattle.ask_model.specs.declared.meaning.Meaning.{Meaning}
 use Rattle.ask_model.specs.declared.meaning.Meaning.TheVariants as Means
-use Rattle.ask_model.specs.Requests.{CoapRequest, Sense, Requests}
+use Rattle.ask_model.specs.Requests.{CoapRequest, Sense, Requests, Refuses}
 use Rattle.ask_model.specs.Views.{Mapping, sense_of}
 use Rattle.ask_model.specs.Sizes.{came_size}
 use Rattle.exchange_core.specs.declared.answer.Ticket.{Ticket}
@@ -16,6 +16,9 @@ use Rattle.exchange_core.specs.Asking.{AnswersAtOnce, AddsBy, AddsAsk, HasNoRoom
 pub asks-sense : (means : Meaning) (body : List ℕ) (s : Sense) → {method : _} → {target : _} → {peer : _} → {accept : _} → {format : _} → {payload : _}
     → means ≡ Means.Ask method target peer accept format payload → sense_of means body ≡ s → (q : CoapRequest) × (s ≡ Requests q)
 asks-sense means body s is sense = (_, sym sense ∙ ap (λ (m : Meaning). sense_of m body) is)
+
+pub refuse-sense : (means : Meaning) (body : List ℕ) (s : Sense) → {cause : _} → {status : _} → means ≡ Means.Refuse cause status → sense_of means body ≡ s → (n : ℕ) × (s ≡ Refuses cause n)
+refuse-sense means body s is sense = (_, sym sense ∙ ap (λ (m : Meaning). sense_of m body) is)
 
 pub busy-adds : {R : Type 0} (r : Result (Ticket R) AskFault) (t word conn : ℕ) (m : Mapping) (old new : CoreValue) (q : CoapRequest) → m.sense ≡ Requests q
     → length old.exchanges ≡ 256 → IfOk r (λ (k : Ticket R). AnswersAtOnce t k.number conn m Busy old new) → IfOk r (λ (k : Ticket R). AddsAsk t word k.number conn m old new)

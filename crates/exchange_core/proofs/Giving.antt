@@ -19,10 +19,14 @@ use Rattle.datagram_verdict.specs.Findings.{Told, Tells, Fails}
 use Rattle.exchange_core.specs.CoreValue.{Outgoing, sent_by, sendings, AreUnsent, written, Answerable}
 use Rattle.exchange_core.specs.Answering.{Given, Waited, HasWaited, IsWaited, IsKept, HeardAs, IsFound, IsGiven, refusal, without}
 
+-- what stands in a list stands in it with more behind it
+pub slice_get-append : {X : Type 0} (xs ys : List X) (n : ℕ) (x : X) → slice_get xs n ≡ Some x → slice_get (xs ++ ys) n ≡ Some x
+slice_get-append [] ys n x e = absurd cc
+slice_get-append (z ∷ xs) ys zero x e = e
+slice_get-append (z ∷ xs) ys (suc n) x e = slice_get-append xs ys n x e
+
 pub slice_get-more : {X : Type 0} (xs : List X) (y : X) (n : ℕ) (x : X) → slice_get xs n ≡ Some x → slice_get (xs ++ y ∷ []) n ≡ Some x
-slice_get-more [] y n x e = absurd cc
-slice_get-more (z ∷ xs) y zero x e = e
-slice_get-more (z ∷ xs) y (suc n) x e = slice_get-more xs y n x e
+slice_get-more xs y n x e = slice_get-append xs (y ∷ []) n x e
 
 pub slice_get-end : {X : Type 0} (xs : List X) (y : X) → slice_get (xs ++ y ∷ []) (length xs) ≡ Some y
 slice_get-end [] y = refl

@@ -41,6 +41,9 @@ got [] i x d e = absurd cc
 got (y ∷ ys) zero x d e = cc
 got (y ∷ ys) (suc i) x d e = got ys i x d e
 
+pub got-any : (xs : List Known) (i : ℕ) (x : Known) → slice_get xs i ≡ Some x → (d : Known) → get_or xs i d ≡ x
+got-any xs i x e d = got xs i x d e
+
 -- one more ID of an endpoint that is kept, and of one that isn't
 pub after-at : (known : List Known) (p : Peer) (first i : ℕ) (x : Known) → slice_get known i ≡ Some x → same_peer x.peer p ≡ true
     → All (λ (k : Known). same_peer k.peer p ≡ false) (take i known)

@@ -1,7 +1,10 @@
+pub mod Apart
 pub mod Asking
 pub mod Busy
 pub mod Fewer
 pub mod Giving
+pub mod GoingBack
+pub mod Kept
 pub mod Keeping
 pub mod Knowing
 pub mod Issuing
@@ -18,6 +21,7 @@ pub mod Dues
 pub mod Ticked
 pub mod Listening
 pub mod Told
+pub mod Copied
 pub mod Dropping
 mod Once
 mod Unsent

@@ -4,7 +4,7 @@ use Rattle.std.specs.Prelude.{IfSome}
 use Rattle.std.specs.List.{All, Contains, slice_get}
 use Rattle.std.proofs.lemmas.List.Elements.{All-weaker, All-contains}
 use Rattle.std.proofs.lemmas.Bool.Decides.{eqb_tells}
-use Rattle.journal_book.specs.Entries.{Answers, Written}
+use Rattle.journal_book.specs.Entries.{Written}
 use Rattle.history_laws.specs.declared.kept.Conn.{Conn}
 use Rattle.history_laws.specs.Readings.{Noted, Note, at, entries}
 use Rattle.history_laws.specs.Laws.{IsAnswer}

@@ -1,8 +1,9 @@
 -- What a core keeps, behind a tick.
 use Rattle.std.proofs.Common.{◌≡◌, ℕ, ◌+◌, ◌-◌, ◌*◌, ◌^◌, ◌≤◌, min, max, Bool, true, false, inl, inr, List, [], ◌∷◌, ◌++◌, length, map, refl, sym, ap, subst, ◌∙◌, arith, length-append}
 use Rattle.std.specs.Prelude.{sum_by, count_by}
-use Rattle.std.specs.List.{filter}
+use Rattle.std.specs.List.{All, Contains, filter}
 use Rattle.std.proofs.lemmas.List.{length-map}
+use Rattle.std.proofs.lemmas.List.Elements.{All-contains}
 use Rattle.std.proofs.lemmas.List.Sums.{sum_by-append, count_by-le-length}
 use Rattle.std.proofs.lemmas.Bool.{false≢true}
 use Rattle.journal_book.specs.Entries.{Written, Passes, Seals, entry_size}
@@ -16,7 +17,7 @@ use Rattle.exchange_core.specs.Room.{is_pending, fits, takes}
 use Rattle.exchange_core.specs.Answering.{Given, Waited}
 use Rattle.exchange_core.specs.CoreValue.{written, CoreValue, Answerable, Outgoing}
 use Rattle.exchange_core.specs.CoreKept.{CoreKept}
-use Rattle.exchange_core.specs.Ticking.{is_past, timeouts, timed, going, due_count, late_end, moment_after, takes_tick, AddsAnswers, SealsLate, Midway}
+use Rattle.exchange_core.specs.Ticking.{is_past, timeouts, timed, going, due_count, late_end, moment_after, takes_tick, AddsAnswers, SealsLate, HasPast, Midway}
 use Rattle.exchange_core.proofs.Giving.{answerable-more}
 use Rattle.exchange_core.specs.Numbers.{firsts}
 use Rattle.exchange_core.proofs.Issuing.{firsts-other, firsts-ticked, issued-same}
@@ -180,3 +181,9 @@ room-is t v es cs count pending more size x c cnt wait due sized = rw (sized, cn
 
 pub now-early : (t last m moment : ℕ) → t ≡ max last m → m ≡ min moment (2 ^ 62) → last ≤ 2 ^ 62 → t ≤ 2 ^ 62
 now-early t last m moment a b c = omega (arith, a, b, c)
+
+-- Where one is late, it isn't so that none is.
+pub past-not : (t u : ℕ) (es fs : List Exchange) → t ≡ u → es ≡ fs → HasPast t es → All (λ (e : Exchange). is_past u e ≡ false) fs → ⊥
+past-not t u es fs same is w none =
+    let here : is_past u w.exchange ≡ false = All-contains (λ (e : Exchange). is_past u e ≡ false) fs w.exchange none (subst (λ (xs : List Exchange). Contains xs w.exchange) is w.stands) in
+    false≢true (sym here ∙ subst (λ (n : ℕ). is_past n w.exchange ≡ true) same w.past)

@@ -2,6 +2,8 @@ pub mod Answering
 pub mod Asking
 pub mod CoreValue
 pub mod CoreKept
+pub mod Faults
+pub mod GoingBack
 pub mod Numbers
 pub mod Room
 pub mod Tables

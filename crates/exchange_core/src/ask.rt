@@ -42,9 +42,10 @@ impl<R: Relation> Core<R> {
         ensures moment { IfOk result (λ t. self.new.moment ≡ now self.old.moment moment) }
         ensures sealed_at { result ≡ Err AskFault.Sealed → self.old.sealed ≡ false → self.new.moment ≡ now self.old.moment moment }
         ensures memory { result ≡ Err AskFault.Memory → self.new ≡ self.old }
+        ensures marked { self.new.marked ≡ self.old.marked }
         ensures idle { result ≢ Err AskFault.Unknown → result ≢ Err AskFault.Pending → HasIdle self.old.conns conn }
     {
-        check_idle(&self.conns, conn)?;
+        check_idle(self.conns.as_slice(), conn)?;
         if self.sealed {
             return Err(AskFault::Sealed);
         }

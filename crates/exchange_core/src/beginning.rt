@@ -1,6 +1,6 @@
 //! The beginning of an exchange: the entries of its ask and its message, and what is kept of it.
 
-ghost use Rattle.std.specs.Prelude.{◌≡◌, ◌≢◌, ◌<◌, ◌≤◌, ◌+◌, ◌∷◌, ◌++◌, [], Some, true, false, length, IfOk, OnOk, IsSome, Err, vec_len, vec_capacity};
+ghost use Rattle.std.specs.Prelude.{◌≡◌, ◌≢◌, ◌<◌, ◌≤◌, ◌+◌, ◌∷◌, ◌++◌, [], Some, true, false, length, IfOk, OnOk, IsSome, Err};
 ghost use Rattle.std.specs.VecDeque.{deque_len, deque_capacity};
 ghost use Rattle.std.specs.Arc.{arc_value};
 ghost use Rattle.ask_model.specs.Requests.{CoapRequest, Requests};
@@ -8,7 +8,7 @@ ghost use Rattle.ask_model.specs.Datagrams.{asked_peer, IsSentFor};
 ghost use Rattle.journal_book.specs.Entries.{Asks, Sends, Seals};
 ghost use Rattle.journal_book.specs.Views.{ask_of, item_of};
 ghost use Rattle.exchange_core.specs.CoreValue.{written, now, outgoing_of};
-ghost use Rattle.exchange_core.specs.Tables.{HasIdle};
+ghost use Rattle.exchange_core.specs.Tables.{HasIdle, Roomier};
 ghost use Rattle.exchange_core.specs.Asking.{OpensExchange, HasNoRoom};
 
 use crate::answer::Ticket;
@@ -20,8 +20,9 @@ use crate::outgoing::Datagram;
 use crate::tables::{pending_count, set_pending};
 use ask_model::{Bytes, Mapped, incoming_size};
 use coap_codec::Token;
-use history_laws::kept::{Exchange, Known};
+use history_laws::kept::{Conn, Exchange, Known};
 use journal_book::{Entry, Event, Journal};
+use marked_list::MarkedList;
 use std::alloc::{AllocError, Global};
 use std::collections::VecDeque;
 use std::sync::Arc;
@@ -99,8 +100,9 @@ fn prepare<R: Relation>(
 /// Makes places for so many entries, and in each table for what one exchange adds.
 fn make_places<R: Relation>(
     journal: &mut Journal<R>,
-    exchanges: &mut Vec<Exchange>,
-    known: &mut Vec<Known>,
+    conns: &mut MarkedList<Conn>,
+    exchanges: &mut MarkedList<Exchange>,
+    known: &mut MarkedList<Known>,
     outbox: &mut Outbox<R>,
     sends: &mut VecDeque<Datagram>,
     entries: usize,
@@ -108,19 +110,23 @@ fn make_places<R: Relation>(
     ensures entries { journal.new.entries ≡ journal.old.entries }
     ensures kept { journal.old.room ≤ journal.new.room }
     ensures room { OnOk result (entries ≤ journal.new.room) }
-    ensures exchanges { exchanges.new.items ≡ exchanges.old.items }
-    ensures exchanges_room { OnOk result (vec_len exchanges.new < vec_capacity exchanges.new) }
-    ensures known { known.new.items ≡ known.old.items }
-    ensures known_room { OnOk result (vec_len known.new < vec_capacity known.new) }
+    ensures conns { Roomier conns.old conns.new }
+    ensures conns_spare { OnOk result (entries ≤ conns.new.spare) }
+    ensures exchanges { Roomier exchanges.old exchanges.new }
+    ensures exchanges_room { OnOk result ((0 < exchanges.new.room) × (0 < exchanges.new.spare)) }
+    ensures known { Roomier known.old known.new }
+    ensures known_room { OnOk result ((0 < known.new.room) × (0 < known.new.spare)) }
     ensures waiting { outbox.new.waiting ≡ outbox.old.waiting }
     ensures answers { outbox.new.answers ≡ outbox.old.answers }
+    ensures asks { outbox.new.asks ≡ outbox.old.asks }
     ensures outbox_room { OnOk result (0 < outbox.new.room) }
     ensures sends { sends.new.items ≡ sends.old.items }
     ensures sends_room { OnOk result (deque_len sends.new < deque_capacity sends.new) }
 {
     journal.make_room(entries)?;
-    exchanges.try_reserve(1)?;
-    known.try_reserve(1)?;
+    conns.make_room(0, entries)?;
+    exchanges.make_room(1, 1)?;
+    known.make_room(1, 1)?;
     outbox.make_room()?;
     sends.reserve(1)?;
     Ok(())
@@ -166,28 +172,31 @@ impl<R: Relation> Core<R> {
         ensures moment { IfOk result (λ t. self.new.moment ≡ now self.old.moment moment) }
         ensures sealed_at { result ≡ Err AskFault.Sealed → self.new.moment ≡ now self.old.moment moment }
         ensures memory { result ≡ Err AskFault.Memory → self.new ≡ self.old }
+        ensures marked { self.new.marked ≡ self.old.marked }
         ensures others { (result ≢ Err AskFault.Unknown) × (result ≢ Err AskFault.Pending) }
     {
         let moment = self.last.max(moment.min(1 << 62));
         let first = first_id(word);
-        let mid = next_mid(find_known(&self.known, &peer), first);
+        let mid = next_mid(find_known(self.known.as_slice(), &peer), first);
         let token = token_of(self.issued, word);
         let timeout = first_timeout(word);
         let bytes = message_of(self.alloc, &mapped, mid, &token)?;
-        let pending = pending_count(&self.conns) + 1;
+        let pending = pending_count(self.conns.as_slice()) + 1;
         let size = incoming_size(mapped.came());
         let more = bytes.len() as u64 + 128;
         if !self.has_room_for_ask(size, more, pending) {
             self.seal(moment);
             return Err(AskFault::Sealed);
         }
+        let places = self.conns.len() + pending + 3;
         make_places(
             &mut self.journal,
+            &mut self.conns,
             &mut self.exchanges,
             &mut self.known,
             &mut self.outbox,
             &mut self.sends,
-            self.conns.len() + pending + 3,
+            places,
         )?;
         let begun = prepare(self.alloc, moment, conn, peer, &mapped, bytes, timeout)?;
 
@@ -195,7 +204,7 @@ impl<R: Relation> Core<R> {
         self.journal.add(begun.asked);
         self.journal.add(begun.sent);
         self.exchanges
-            .push_reserved(exchange_at(number, moment, peer, mid, token));
+            .add(exchange_at(number, moment, peer, mid, token));
         self.issued += 1;
         use_id(&mut self.known, &peer, first);
         set_pending(&mut self.conns, conn, Some(number));

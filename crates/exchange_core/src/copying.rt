@@ -1,14 +1,15 @@
 //! Copies, which share requests and the bytes of datagrams.
 
-ghost use Rattle.std.specs.Prelude.{◌≡◌, ◌+◌, ◌≤◌, map, length, IfOk, vec_len, vec_capacity};
+ghost use Rattle.std.specs.Prelude.{◌≡◌, ◌+◌, ◌≤◌, map, length, IfOk, min};
 ghost use Rattle.std.specs.Arc.{arc_value};
 ghost use Rattle.exchange_core.specs.Answering.{given_of, waited_of};
-ghost use Rattle.exchange_core.specs.CoreValue.{outgoing_of};
+ghost use Rattle.exchange_core.specs.CoreValue.{outgoing_of, unmarked};
 
 use crate::answer::Answer;
 use crate::core_state::Core;
 use crate::outbox::Waiting;
 use crate::outgoing::Datagram;
+use journal_book::Journal;
 use std::alloc::{AllocError, Global};
 use std::collections::VecDeque;
 use std::sync::Arc;
@@ -77,28 +78,37 @@ fn copy_sends(alloc: Global, sends: &VecDeque<Datagram>) -> Result<VecDeque<Data
     Ok(copy)
 }
 
+/// An equal journal, with room for so many more entries.
+fn copy_journal<R: Relation>(journal: &Journal<R>, places: usize) -> Result<Journal<R>, AllocError>
+    ensures entries { IfOk result (λ j. j.entries ≡ journal.now.entries) }
+    ensures room { IfOk result (λ j. places ≤ j.room) }
+{
+    let mut copy = journal.copy()?;
+    copy.make_room(places)?;
+    Ok(copy)
+}
+
 impl<R: Relation> Core<R> {
-    /// An equal core, which shares what was asked and the bytes that were sent.
+    /// An equal core that isn't marked. It shares what was asked and the bytes that were sent.
     pub fn copy(&self) -> Result<Core<R>, AllocError>
-        ensures { IfOk result (λ c. c ≡ self.now) }
+        ensures { IfOk result (λ c. c ≡ unmarked self.now) }
     {
         let held = self.conns.len() * 2 + 1;
-        let mut journal = self.journal.copy()?;
-        journal.make_room(held)?;
         Ok(Core {
             alloc: self.alloc,
-            journal,
-            conns: Vec::from_slice(self.alloc, &self.conns)?,
-            exchanges: Vec::from_slice(self.alloc, &self.exchanges)?,
+            journal: copy_journal(&self.journal, held)?,
+            conns: self.conns.copy(self.alloc, held)?,
+            exchanges: self.exchanges.copy(self.alloc, 0)?,
             opened: self.opened,
             issued: self.issued,
-            known: Vec::from_slice(self.alloc, &self.known)?,
-            heard: Vec::from_slice(self.alloc, &self.heard)?,
+            known: self.known.copy(self.alloc, 0)?,
+            heard: self.heard.copy(self.alloc, 0)?,
             sealed: self.sealed,
             bytes: self.bytes,
             last: self.last,
             outbox: self.outbox.copy(self.alloc)?,
             sends: copy_sends(self.alloc, &self.sends)?,
+            mark: None,
         })
     }
 }

@@ -15,6 +15,7 @@ ghost use Rattle.exchange_core.specs.Asking.{AnswersAtOnce, IsAtOnce};
 
 use crate::answer::{Answer, Ticket};
 use crate::fault::{AskFault, OpenFault};
+use crate::mark::Mark;
 use crate::outbox::{Outbox, Stamp};
 use crate::outgoing::Datagram;
 use crate::room::{BYTES, has_room};
@@ -23,6 +24,7 @@ use ask_model::{Cause, Mapped, incoming_size};
 use datagram_verdict::Finding;
 use history_laws::kept::{Conn, Exchange, Known, Remembered};
 use journal_book::{Entry, Event, Grounds, Journal};
+use marked_list::MarkedList;
 use std::alloc::{AllocError, Global};
 use std::collections::VecDeque;
 use std::marker::Model;
@@ -38,32 +40,35 @@ const CONNECTIONS: usize = 256;
 pub struct Core<R: Relation> {
     pub(crate) alloc: Global,
     pub(crate) journal: Journal<R>,
-    pub(crate) conns: Vec<Conn>,
-    pub(crate) exchanges: Vec<Exchange>,
+    pub(crate) conns: MarkedList<Conn>,
+    pub(crate) exchanges: MarkedList<Exchange>,
     /// how many connections were opened
     pub(crate) opened: u32,
     /// how many tokens were issued
     pub(crate) issued: u32,
-    pub(crate) known: Vec<Known>,
-    pub(crate) heard: Vec<Remembered>,
+    pub(crate) known: MarkedList<Known>,
+    pub(crate) heard: MarkedList<Remembered>,
     pub(crate) sealed: bool,
     pub(crate) bytes: u64,
     pub(crate) last: u64,
     pub(crate) outbox: Outbox<R>,
     /// what isn't sent yet
     pub(crate) sends: VecDeque<Datagram>,
+    /// what it goes back to, beside its tables
+    pub(crate) mark: Option<Mark>,
 }
 
 impl<R: Relation> Model for Core<R> {
-    ghost use Rattle.std.specs.Prelude.{map};
+    ghost use Rattle.std.specs.Prelude.{map, min};
     ghost use Rattle.exchange_core.specs.CoreValue.{CoreValue, Answerable, outgoing_of};
     ghost use Rattle.exchange_core.specs.CoreKept.{CoreKept};
+    ghost use Rattle.exchange_core.specs.GoingBack.{marked_by, GoesBackBy};
 
     ghost Value = { CoreValue };
 
-    ghost view = { λ s. record { entries = s.journal.entries; conns = s.conns.items; exchanges = s.exchanges.items; sealed = s.sealed; moment = s.last; answers = s.outbox.answers; sends = map outgoing_of s.sends.items } };
+    ghost view = { λ s. record { entries = s.journal.entries; conns = s.conns.items; exchanges = s.exchanges.items; sealed = s.sealed; moment = s.last; answers = s.outbox.answers; sends = map outgoing_of s.sends.items; marked = marked_by s.mark s.conns.marked s.exchanges.marked s.journal.entries } };
 
-    ghost invariant = { λ s. CoreKept s.journal.entries s.journal.room s.conns.items (record { exchanges = s.exchanges.items; opened = s.opened; issued = s.issued; known = s.known.items; heard = s.heard.items }) s.sealed s.bytes s.last × Answerable s.journal.entries s.conns.items s.outbox.waiting s.outbox.answers (map outgoing_of s.sends.items) };
+    ghost invariant = { λ s. CoreKept s.journal.entries (min s.journal.room s.conns.spare) s.conns.items (record { exchanges = s.exchanges.items; opened = s.opened; issued = s.issued; known = s.known.items; heard = s.heard.items }) s.sealed s.bytes s.last × Answerable s.journal.entries s.conns.items s.outbox.waiting s.outbox.answers (map outgoing_of s.sends.items) × GoesBackBy s.mark s.conns.marked s.exchanges.marked s.known.marked s.heard.marked s.outbox.asks s.journal.entries s.journal.room s.conns.limit };
 }
 
 /// The answer to an ask that is entered under this number, and answered behind it at the same moment.
@@ -89,24 +94,27 @@ fn refusal_of<R: Relation>(
 impl<R: Relation> Core<R> {
     /// A core with no entry, which holds the place of its seal.
     pub fn new(alloc: Global) -> Result<Core<R>, AllocError>
-        ensures { IfOk result (λ c. (c.entries ≡ []) × (c.conns ≡ []) × (c.exchanges ≡ []) × (c.sealed ≡ false) × (c.moment ≡ 0) × (c.answers ≡ []) × (c.sends ≡ [])) }
+        ensures { IfOk result (λ c. (c.entries ≡ []) × (c.conns ≡ []) × (c.exchanges ≡ []) × (c.sealed ≡ false) × (c.moment ≡ 0) × (c.answers ≡ []) × (c.sends ≡ []) × (c.marked ≡ None)) }
     {
         let mut journal = Journal::new(alloc);
         journal.make_room(1)?;
+        let mut conns = MarkedList::new(alloc);
+        conns.make_room(0, 1)?;
         Ok(Core {
             alloc,
             journal,
-            conns: Vec::new(alloc),
-            exchanges: Vec::new(alloc),
+            conns,
+            exchanges: MarkedList::new(alloc),
             opened: 0,
             issued: 0,
-            known: Vec::new(alloc),
-            heard: Vec::new(alloc),
+            known: MarkedList::new(alloc),
+            heard: MarkedList::new(alloc),
             sealed: false,
             bytes: 0,
             last: 0,
             outbox: Outbox::new(alloc),
             sends: VecDeque::new(alloc),
+            mark: None,
         })
     }
 
@@ -161,6 +169,7 @@ impl<R: Relation> Core<R> {
         ensures answers { self.new.answers ≡ self.old.answers }
         ensures sends { self.new.sends ≡ self.old.sends }
         ensures moment { self.new.moment ≡ moment }
+        ensures marked { self.new.marked ≡ self.old.marked }
     {
         self.journal.add(Entry {
             moment,
@@ -189,6 +198,7 @@ impl<R: Relation> Core<R> {
         ensures sealed_at { result ≡ Err OpenFault.Sealed → self.old.sealed ≡ false → self.new.moment ≡ now self.old.moment moment }
         ensures room { IsOk result → (self.old.sealed ≡ false) × (takes_conn self.old.entries self.old.conns ≡ true) }
         ensures memory { result ≡ Err OpenFault.Memory → self.new ≡ self.old }
+        ensures marked { self.new.marked ≡ self.old.marked }
         ensures memory_last { result ≡ Err OpenFault.Memory → (self.old.sealed ≡ false) × (takes_conn self.old.entries self.old.conns ≡ true) }
     {
         let count = self.conns.len();
@@ -199,20 +209,20 @@ impl<R: Relation> Core<R> {
             return Err(OpenFault::Sealed);
         }
         let moment = self.last.max(moment.min(1 << 62));
-        let pending = pending_count(&self.conns);
+        let pending = pending_count(self.conns.as_slice());
         if !self.has_room_for(1, 64, count + 1, pending) {
             self.seal(moment);
             return Err(OpenFault::Sealed);
         }
         self.journal.make_room(count + pending + 3)?;
-        self.conns.try_reserve(1)?;
+        self.conns.make_room(1, count + pending + 3)?;
 
         let id = self.opened;
         self.journal.add(Entry {
             moment,
             event: Event::Opened(id),
         });
-        self.conns.push_reserved(Conn { id, pending: None });
+        self.conns.add(Conn { id, pending: None });
         self.opened = id + 1;
         self.bytes = self.bytes.saturating_add(64);
         self.last = moment;
@@ -241,10 +251,11 @@ impl<R: Relation> Core<R> {
         ensures moment { IfOk result (λ t. self.new.moment ≡ now self.old.moment moment) }
         ensures sealed_at { result ≡ Err AskFault.Sealed → self.new.moment ≡ now self.old.moment moment }
         ensures memory { result ≡ Err AskFault.Memory → self.new ≡ self.old }
+        ensures marked { self.new.marked ≡ self.old.marked }
         ensures others { (result ≢ Err AskFault.Unknown) × (result ≢ Err AskFault.Pending) }
     {
         let moment = self.last.max(moment.min(1 << 62));
-        let pending = pending_count(&self.conns);
+        let pending = pending_count(self.conns.as_slice());
         let size = incoming_size(mapped.came());
         if !self.has_room_for_ask(size, 132, pending) {
             self.seal(moment);
@@ -288,7 +299,7 @@ impl<R: Relation> Core<R> {
         self.outbox.first_answered()
     }
 
-    /// Takes the answer to an ask, which is given once.
+    /// Takes the answer to an ask, which is given once. A core whose answer was taken can't go back any more.
     pub fn take_answer(&mut self, ticket: &Ticket<R>) -> Option<Answer<R>>
         ensures some { IfSome result (λ a. (a.ask ≡ ticket.now.number) × Contains self.old.answers (given_of a) × IsGiven self.old.entries (given_of a)) }
         ensures once { IfSome result (λ a. All (λ g. g.ask ≡ a.ask → g.number ≡ a.number) self.old.answers) }
@@ -300,8 +311,20 @@ impl<R: Relation> Core<R> {
         ensures sealed { self.new.sealed ≡ self.old.sealed }
         ensures moment { self.new.moment ≡ self.old.moment }
         ensures sends { self.new.sends ≡ self.old.sends }
+        ensures unmarked { IfSome result (λ a. self.new.marked ≡ None) }
+        ensures marked { result ≡ None → self.new.marked ≡ self.old.marked }
     {
-        self.outbox.take(ticket.number)
+        let Some(answer) = self.outbox.take(ticket.number) else {
+            return None;
+        };
+        // not `unmark`, since until this is done the outbox may lack an ask that a marked connection waits for
+        self.mark = None;
+        self.conns.unmark();
+        self.exchanges.unmark();
+        self.known.unmark();
+        self.heard.unmark();
+        self.outbox.unmark();
+        Some(answer)
     }
 
     /// Takes the first datagram that isn't sent yet.
@@ -315,6 +338,7 @@ impl<R: Relation> Core<R> {
         ensures answers { self.new.answers ≡ self.old.answers }
         ensures sealed { self.new.sealed ≡ self.old.sealed }
         ensures moment { self.new.moment ≡ self.old.moment }
+        ensures marked { self.new.marked ≡ self.old.marked }
     {
         self.sends.pop_front()
     }
@@ -330,8 +354,9 @@ impl<R: Relation> Core<R> {
         ensures sends { self.new.sends ≡ self.old.sends }
         ensures sealed { self.new.sealed ≡ self.old.sealed }
         ensures moment { IsTrue result → self.new.moment ≡ now self.old.moment moment }
+        ensures marked { self.new.marked ≡ self.old.marked }
     {
-        let Some(x) = find_conn(&self.conns, conn) else {
+        let Some(x) = find_conn(self.conns.as_slice(), conn) else {
             return false;
         };
         let moment = self.last.max(moment.min(1 << 62));

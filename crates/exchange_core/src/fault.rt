@@ -17,6 +17,11 @@ pub enum OpenFault {
 }
 
 impl Display for OpenFault {
+    ghost use Rattle.std.specs.Prelude.{Some};
+    ghost use Rattle.exchange_core.specs.Faults.{opening_text};
+
+    ghost output = { λ fault. Some (opening_text fault) };
+
     fn fmt<W: Write>(&self, f: &mut Formatter<W>) -> Result<(), fmt::Error> {
         f.write_str(match self {
             OpenFault::Full => "as many connections are open as may be",
@@ -60,6 +65,11 @@ pub enum AskFault {
 }
 
 impl Display for AskFault {
+    ghost use Rattle.std.specs.Prelude.{Some};
+    ghost use Rattle.exchange_core.specs.Faults.{asking_text};
+
+    ghost output = { λ fault. Some (asking_text fault) };
+
     fn fmt<W: Write>(&self, f: &mut Formatter<W>) -> Result<(), fmt::Error> {
         f.write_str(match self {
             AskFault::Unknown => "no such connection is open",

@@ -93,11 +93,12 @@ impl<R: Relation> Core<R> {
         ensures heard { OnOk result (HeardSo (now self.old.moment moment) peer bytes.now self.old self.new) }
         ensures dropped { IsDropped peer bytes.now self.old → self.new ≡ self.old }
         ensures memory { OnErr result (self.new ≡ self.old) }
+        ensures marked { self.new.marked ≡ self.old.marked }
     {
         if self.sealed || bytes.len() > DATAGRAM {
             return Ok(());
         }
-        let Some(_) = find_known(&self.known, &peer) else {
+        let Some(_) = find_known(self.known.as_slice(), &peer) else {
             return Ok(());
         };
         let moment = self.last.max(moment.min(1 << 62));
@@ -113,20 +114,21 @@ impl<R: Relation> Core<R> {
         requires sent { NeverSentTo peer self.old.entries → ⊥ }
         ensures heard { OnOk result (HeardSo moment peer bytes.now self.old self.new) }
         ensures memory { OnErr result (self.new ≡ self.old) }
+        ensures marked { self.new.marked ≡ self.old.marked }
     {
         let number = self.journal.len() as u32;
         let ready = prepare(
             self.alloc,
-            &self.exchanges,
-            &self.heard,
-            &self.conns,
+            self.exchanges.as_slice(),
+            self.heard.as_slice(),
+            self.conns.as_slice(),
             moment,
             number,
             peer,
             bytes,
         )?;
         let count = self.conns.len();
-        let pending = pending_count(&self.conns);
+        let pending = pending_count(self.conns.as_slice());
         let answers = ready.reader.is_some();
         let (entries, size) = added(ready.sent.is_some(), answers);
         let size = bytes.len() as u64 + 64 + size;
@@ -136,7 +138,14 @@ impl<R: Relation> Core<R> {
             return Ok(());
         }
         let places = count + pending + 4;
-        make_places(&mut self.journal, &mut self.heard, &mut self.sends, places)?;
+        make_places(
+            &mut self.journal,
+            &mut self.conns,
+            &mut self.exchanges,
+            &mut self.heard,
+            &mut self.sends,
+            places,
+        )?;
 
         self.journal.add(heard_entry(moment, peer, ready.taken));
         remember(&mut self.heard, ready.memory);

@@ -12,10 +12,13 @@ mod copying;
 mod core_state;
 mod fault;
 mod heard;
+mod mark;
+mod marking;
 mod numbering;
 mod outbox;
 mod outgoing;
 mod room;
+mod shown;
 mod step;
 mod tables;
 mod tick;
@@ -26,6 +29,8 @@ pub use datagram_verdict::{Finding, Outcome, Response};
 pub use fault::{AskFault, OpenFault};
 pub use outgoing::Datagram;
 
+#[cfg(test)]
+mod back_tests;
 #[cfg(test)]
 mod flow_tests;
 #[cfg(test)]

@@ -1,13 +1,14 @@
 //! The tokens and message IDs that requests are sent under.
 
-ghost use Rattle.std.specs.Prelude.{◌≡◌, ◌≤◌, ◌<◌, ◌+◌, ◌/◌, ◌%◌, ◌^◌, drop, false, length, None, IfSome, All, vec_len, vec_capacity};
+ghost use Rattle.std.specs.Prelude.{◌≡◌, ◌≤◌, ◌<◌, ◌+◌, ◌/◌, ◌%◌, ◌^◌, drop, false, length, None, IfSome, All};
 ghost use Rattle.ask_model.specs.Requests.{same_peer};
 ghost use Rattle.history_laws.specs.Numbering.{token_number, known_of, known_after, next_id};
-ghost use Rattle.exchange_core.specs.Tables.{IsPlaceOf};
+ghost use Rattle.exchange_core.specs.Tables.{IsPlaceOf, Changed};
 
 use ask_model::is_same_peer;
 use coap_codec::Token;
 use history_laws::kept::Known;
+use marked_list::MarkedList;
 use uri_map::Peer;
 
 /// A token: how many were issued before it, and then the high 32 bits of the word.
@@ -63,20 +64,25 @@ pub fn first_timeout(word: u64) -> u32
 }
 
 /// Notes that one more ID is used for messages to an endpoint: if it is the first, this one.
-pub fn use_id(known: &mut Vec<Known>, peer: &Peer, first: u16)
-    requires room { vec_len known.old < vec_capacity known.old }
+pub fn use_id(known: &mut MarkedList<Known>, peer: &Peer, first: u16)
+    requires room { 0 < known.old.room }
+    requires spare { 0 < known.old.spare }
     requires few { All (λ k. k.used ≤ 65536) known.old.items }
-    ensures { known.new.items ≡ known_after known.old.items peer.now first }
+    ensures items { known.new.items ≡ known_after known.old.items peer.now first }
+    ensures changed { Changed known.old known.new }
 {
-    match place_of(known, peer) {
+    match place_of(known.as_slice(), peer) {
         Some(place) => {
-            let k = known[place];
-            known[place] = Known {
-                used: k.used + 1,
-                ..k
-            };
+            let k = known.as_slice()[place];
+            known.replace(
+                place,
+                Known {
+                    used: k.used + 1,
+                    ..k
+                },
+            );
         }
-        None => known.push_reserved(Known {
+        None => known.add(Known {
             peer: *peer,
             first,
             used: 1,

@@ -1,15 +1,19 @@
 //! Look-ups and changes in the tables of a core.
+//!
+//! The tables are lists that keep what takes each change back, so that steps can be taken back without a copy
+//! of what there was. Each change takes a place there, which is made before anything changes.
 
-ghost use Rattle.std.specs.Prelude.{◌≡◌, ◌≢◌, ◌==◌, ◌<◌, not, filter, map, All, count_by, None, Some, IfSome, ◌⊎◌, Err, OnOk, OnErr, vec_len, vec_capacity};
+ghost use Rattle.std.specs.Prelude.{◌≡◌, ◌≢◌, ◌==◌, ◌<◌, ◌≤◌, ◌+◌, not, filter, map, All, count_by, None, Some, IfSome, ◌⊎◌, Err, OnOk, OnErr, slice_get, option_map};
 ghost use Rattle.std.specs.List.{Contains};
 ghost use Rattle.history_laws.specs.Kept.{pend};
 ghost use Rattle.datagram_verdict.specs.Verdicts.{confirm_at, exchanges_by, heard_by};
 ghost use Rattle.exchange_core.specs.Room.{is_pending};
-ghost use Rattle.exchange_core.specs.Tables.{HasIdle, HasWaiting};
+ghost use Rattle.exchange_core.specs.Tables.{HasIdle, HasWaiting, AreToldApart, Changed};
 
 use crate::fault::AskFault;
 use datagram_verdict::Change;
 use history_laws::kept::{Conn, Exchange, Remembered};
+use marked_list::MarkedList;
 
 /// The connection with this number, if it is open.
 pub fn find_conn(conns: &[Conn], id: u32) -> Option<Conn>
@@ -63,34 +67,54 @@ pub fn pending_count(conns: &[Conn]) -> usize
     conns.iter().filter(|x| x.pending.is_some()).count()
 }
 
+/// The place of the connection with this number.
+fn conn_place(conns: &[Conn], id: u32) -> Option<usize>
+    ensures some { IfSome result (λ i. option_map (λ x. x.id) (slice_get conns.now i) ≡ Some id) }
+    ensures none { result ≡ None → All (λ x. x.id ≢ id) conns.now }
+{
+    'each: for place in 0..conns.len() {
+        if conns[place].id == id {
+            return Some(place);
+        }
+    }
+    None
+}
+
 /// Takes the connection out.
-pub fn drop_conn(conns: &mut Vec<Conn>, id: u32)
-    ensures { conns.new.items ≡ filter (λ x. not (x.id == id)) conns.old.items }
+pub fn drop_conn(conns: &mut MarkedList<Conn>, id: u32)
+    requires apart { AreToldApart (λ x. x.id) conns.old.items }
+    requires spare { 0 < conns.old.spare }
+    ensures items { conns.new.items ≡ filter (λ x. not (x.id == id)) conns.old.items }
+    ensures changed { Changed conns.old conns.new }
 {
-    conns.retain(|x| x.id != id);
-}
-
-/// The connection, waiting for this ask if it has this number.
-fn pended(x: Conn, id: u32, pending: Option<u32>) -> Conn
-    ensures { result ≡ pend id pending x }
-{
-    if x.id == id { Conn { id, pending } } else { x }
-}
-
-/// Sets what each connection with this number waits for.
-fn pend_each(conns: &mut [Conn], id: u32, pending: Option<u32>)
-    ensures { conns.new ≡ map (pend id pending) conns.old }
-{
-    'each: for x in conns.iter_mut() {
-        *x = pended(*x, id, pending);
+    if let Some(place) = conn_place(conns.as_slice(), id) {
+        conns.remove(place);
     }
 }
 
 /// Sets what the connection with this number waits for.
-pub fn set_pending(conns: &mut Vec<Conn>, id: u32, pending: Option<u32>)
-    ensures { conns.new.items ≡ map (pend id pending) conns.old.items }
+pub fn set_pending(conns: &mut MarkedList<Conn>, id: u32, pending: Option<u32>)
+    requires apart { AreToldApart (λ x. x.id) conns.old.items }
+    requires spare { 0 < conns.old.spare }
+    ensures items { conns.new.items ≡ map (pend id pending) conns.old.items }
+    ensures changed { Changed conns.old conns.new }
 {
-    pend_each(conns, id, pending);
+    if let Some(place) = conn_place(conns.as_slice(), id) {
+        conns.replace(place, Conn { id, pending });
+    }
+}
+
+/// The place of the exchange with this opening.
+fn exchange_place(exchanges: &[Exchange], opening: u32) -> Option<usize>
+    ensures some { IfSome result (λ i. option_map (λ e. e.opening) (slice_get exchanges.now i) ≡ Some opening) }
+    ensures none { result ≡ None → All (λ e. e.opening ≢ opening) exchanges.now }
+{
+    'each: for place in 0..exchanges.len() {
+        if exchanges[place].opening == opening {
+            return Some(place);
+        }
+    }
+    None
 }
 
 /// The exchange, with an empty ACK to it if it has this opening.
@@ -107,39 +131,53 @@ fn confirmed(e: Exchange, opening: u32) -> Exchange
     }
 }
 
-/// Notes that an empty ACK came to each exchange with this opening.
-fn confirm_each(exchanges: &mut [Exchange], opening: u32)
-    ensures { exchanges.new ≡ map (confirm_at opening) exchanges.old }
+/// Notes that an empty ACK came to the exchange with this opening.
+fn confirm_exchange(exchanges: &mut MarkedList<Exchange>, opening: u32)
+    requires apart { AreToldApart (λ e. e.opening) exchanges.old.items }
+    requires spare { 0 < exchanges.old.spare }
+    ensures items { exchanges.new.items ≡ map (confirm_at opening) exchanges.old.items }
+    ensures changed { Changed exchanges.old exchanges.new }
 {
-    'each: for e in exchanges.iter_mut() {
-        *e = confirmed(*e, opening);
+    if let Some(place) = exchange_place(exchanges.as_slice(), opening) {
+        let e = exchanges.as_slice()[place];
+        exchanges.replace(place, confirmed(e, opening));
     }
 }
 
 /// Takes the exchange out.
-fn drop_exchange(exchanges: &mut Vec<Exchange>, opening: u32)
-    ensures { exchanges.new.items ≡ filter (λ e. not (e.opening == opening)) exchanges.old.items }
+fn drop_exchange(exchanges: &mut MarkedList<Exchange>, opening: u32)
+    requires apart { AreToldApart (λ e. e.opening) exchanges.old.items }
+    requires spare { 0 < exchanges.old.spare }
+    ensures items { exchanges.new.items ≡ filter (λ e. not (e.opening == opening)) exchanges.old.items }
+    ensures changed { Changed exchanges.old exchanges.new }
 {
-    exchanges.retain(|e| e.opening != opening);
+    if let Some(place) = exchange_place(exchanges.as_slice(), opening) {
+        exchanges.remove(place);
+    }
 }
 
 /// Makes the change of a message that was heard.
-pub fn change_exchanges(exchanges: &mut Vec<Exchange>, change: Change)
-    ensures { exchanges.new.items ≡ exchanges_by change exchanges.old.items }
+pub fn change_exchanges(exchanges: &mut MarkedList<Exchange>, change: Change)
+    requires apart { AreToldApart (λ e. e.opening) exchanges.old.items }
+    requires spare { 0 < exchanges.old.spare }
+    ensures items { exchanges.new.items ≡ exchanges_by change exchanges.old.items }
+    ensures changed { Changed exchanges.old exchanges.new }
 {
     match change {
         Change::Keeps => {}
-        Change::Confirms(opening) => confirm_each(exchanges, opening),
+        Change::Confirms(opening) => confirm_exchange(exchanges, opening),
         Change::Ends(opening) => drop_exchange(exchanges, opening),
     }
 }
 
 /// Remembers a message, where there is one.
-pub fn remember(heard: &mut Vec<Remembered>, memory: Option<Remembered>)
-    requires { vec_len heard.old < vec_capacity heard.old }
-    ensures { heard.new.items ≡ heard_by memory heard.old.items }
+pub fn remember(heard: &mut MarkedList<Remembered>, memory: Option<Remembered>)
+    requires room { 0 < heard.old.room }
+    requires spare { 0 < heard.old.spare }
+    ensures items { heard.new.items ≡ heard_by memory heard.old.items }
+    ensures changed { Changed heard.old heard.new }
 {
     if let Some(memory) = memory {
-        heard.push_reserved(memory);
+        heard.add(memory);
     }
 }

@@ -6,7 +6,9 @@ ghost use Rattle.journal_book.specs.Entries.{Passes, Seals};
 ghost use Rattle.history_laws.specs.declared.kept.Exchange.{Exchange};
 ghost use Rattle.history_laws.specs.Kept.{Held};
 ghost use Rattle.exchange_core.specs.CoreValue.{Outgoing, written, now};
+ghost use Rattle.exchange_core.specs.Answering.{KeepsAsks};
 ghost use Rattle.exchange_core.specs.Steps.{IsReader};
+ghost use Rattle.exchange_core.specs.Tables.{Roomier};
 ghost use Rattle.exchange_core.specs.Ticking.{is_past, late_on, is_due, due_count, timeouts, timed, going, moment_after, takes_tick, counts, waits_on, IsNextDue, HasPast, AddsAnswers, IsPrompt, EndsLate, SealsLate, KeepsLate, Midway, IsMidway, late_ending};
 
 use crate::core_state::Core;
@@ -17,6 +19,7 @@ use ask_model::Cause;
 use datagram_verdict::Finding;
 use history_laws::kept::{Conn, Exchange};
 use journal_book::{Entry, Event, Grounds, Journal};
+use marked_list::MarkedList;
 use std::alloc::AllocError;
 use transformers::Relation;
 
@@ -82,11 +85,43 @@ fn late_count(conns: &[Conn], exchanges: &[Exchange], moment: u64) -> usize
         .count()
 }
 
-/// Takes the late ones out.
-fn drop_late(exchanges: &mut Vec<Exchange>, moment: u64)
-    ensures { exchanges.new.items ≡ going moment exchanges.old.items }
+/// Makes places for so many entries and changes of connections, and for the change that takes each exchange
+/// out.
+fn make_places<R: Relation>(
+    journal: &mut Journal<R>,
+    conns: &mut MarkedList<Conn>,
+    exchanges: &mut MarkedList<Exchange>,
+    places: usize,
+) -> Result<(), AllocError>
+    ensures entries { journal.new.entries ≡ journal.old.entries }
+    ensures kept { journal.old.room ≤ journal.new.room }
+    ensures room { OnOk result (places ≤ journal.new.room) }
+    ensures conns { Roomier conns.old conns.new }
+    ensures conns_spare { OnOk result (places ≤ conns.new.spare) }
+    ensures exchanges { Roomier exchanges.old exchanges.new }
+    ensures exchanges_spare { OnOk result (length exchanges.new.items ≤ exchanges.new.spare) }
 {
-    exchanges.retain(|e| !is_late(e, moment));
+    journal.make_room(places)?;
+    conns.make_room(0, places)?;
+    let count = exchanges.len();
+    exchanges.make_room(0, count)?;
+    Ok(())
+}
+
+/// Takes the late ones out, from the last to the first.
+fn drop_late(exchanges: &mut MarkedList<Exchange>, moment: u64)
+    requires { length exchanges.old.items ≤ exchanges.old.spare }
+    ensures items { exchanges.new.items ≡ going moment exchanges.old.items }
+    ensures marked { exchanges.new.marked ≡ exchanges.old.marked }
+    ensures limit { exchanges.new.limit ≡ exchanges.old.limit }
+{
+    let count = exchanges.len();
+    'each: for passed in 0..count {
+        let place = count - 1 - passed;
+        if is_late(&exchanges.as_slice()[place], moment) {
+            exchanges.remove(place);
+        }
+    }
 }
 
 /// The connection that waits for the exchange, and what it is answered, where the exchange is late.
@@ -110,22 +145,26 @@ fn late_reader(conns: &[Conn], exchange: &Exchange, moment: u64) -> Option<Reade
 /// Answers who waits for one that is late, in the order of the exchanges.
 fn answer_each<R: Relation>(
     journal: &mut Journal<R>,
-    conns: &mut Vec<Conn>,
+    conns: &mut MarkedList<Conn>,
     outbox: &mut Outbox<R>,
     last: &mut u64,
     exchanges: &[Exchange],
     moment: u64,
 )
-    requires { IsMidway moment exchanges.now journal.old.entries journal.old.room conns.old.items last.old outbox.old.waiting outbox.old.answers }
-    ensures midway { (tables : Held) → (s : Bool) → (out : List Outgoing) → Midway moment exchanges.now tables s out journal.old.entries journal.old.room conns.old.items last.old outbox.old.waiting outbox.old.answers
-        → Midway moment exchanges.now tables s out journal.new.entries journal.new.room conns.new.items last.new outbox.new.waiting outbox.new.answers }
+    requires { IsMidway moment exchanges.now journal.old.entries (min journal.old.room conns.old.spare) conns.old.items last.old outbox.old.waiting outbox.old.answers }
+    ensures midway { (tables : Held) → (s : Bool) → (out : List Outgoing) → Midway moment exchanges.now tables s out journal.old.entries (min journal.old.room conns.old.spare) conns.old.items last.old outbox.old.waiting outbox.old.answers
+        → Midway moment exchanges.now tables s out journal.new.entries (min journal.new.room conns.new.spare) conns.new.items last.new outbox.new.waiting outbox.new.answers }
     ensures entries { journal.new.entries ≡ journal.old.entries ++ timeouts moment exchanges.now conns.old.items }
     ensures conns { conns.new.items ≡ map (timed moment exchanges.now) conns.old.items }
+    ensures marked { conns.new.marked ≡ conns.old.marked }
+    ensures limit { conns.new.limit ≡ conns.old.limit }
+    ensures asks { KeepsAsks [] outbox.old.asks outbox.new.asks }
+    ensures whole { journal.old.room + length journal.old.entries ≤ journal.new.room + length journal.new.entries }
     ensures last { last.new ≡ moment_after moment last.old (timeouts moment exchanges.now conns.old.items) }
     ensures answers { AddsAnswers (length journal.old.entries) outbox.old.answers outbox.new.answers (timeouts moment exchanges.now conns.old.items) }
 {
     'each: for e in exchanges {
-        if let Some(reader) = late_reader(conns, e, moment) {
+        if let Some(reader) = late_reader(conns.as_slice(), e, moment) {
             answer_reader(journal, conns, outbox, moment, Some(reader));
             *last = moment;
         }
@@ -191,7 +230,11 @@ impl<R: Relation> Core<R> {
     pub fn next_due(&self) -> Option<u64>
         ensures { IsNextDue self.now.sealed self.now.conns self.now.exchanges result }
     {
-        least_due(&self.exchanges, &self.conns, self.sealed)
+        least_due(
+            self.exchanges.as_slice(),
+            self.conns.as_slice(),
+            self.sealed,
+        )
     }
 
     /// Answers each connection that waits for an exchange that is late, in a core that is sealed.
@@ -206,13 +249,14 @@ impl<R: Relation> Core<R> {
         ensures exchanges { self.new.exchanges ≡ self.old.exchanges }
         ensures sealed { self.new.sealed ≡ true }
         ensures sends { self.new.sends ≡ self.old.sends }
+        ensures marked { self.new.marked ≡ self.old.marked }
     {
         answer_each(
             &mut self.journal,
             &mut self.conns,
             &mut self.outbox,
             &mut self.last,
-            &self.exchanges,
+            self.exchanges.as_slice(),
             moment,
         );
     }
@@ -228,6 +272,7 @@ impl<R: Relation> Core<R> {
             → SealsLate (now self.old.moment moment) self.old self.new) }
         ensures sealed { OnOk result (self.old.sealed ≡ true → KeepsLate (now self.old.moment moment) self.old self.new) }
         ensures prompt { OnOk result (All (IsPrompt (now self.old.moment moment) self.old.exchanges) self.new.conns) }
+        ensures marked { self.new.marked ≡ self.old.marked }
         ensures memory { OnErr result (self.new ≡ self.old) }
         ensures memory_last { OnErr result ((self.old.sealed ≡ false) × (takes_tick (now self.old.moment moment) self.old ≡ true)) }
     {
@@ -236,19 +281,25 @@ impl<R: Relation> Core<R> {
             self.answer_late(moment);
             return Ok(());
         }
-        if !has_late(&self.exchanges, moment) {
+        if !has_late(self.exchanges.as_slice(), moment) {
             return Ok(());
         }
         let count = self.conns.len();
-        let pending = pending_count(&self.conns);
-        let answers = late_count(&self.conns, &self.exchanges, moment);
+        let pending = pending_count(self.conns.as_slice());
+        let answers = late_count(self.conns.as_slice(), self.exchanges.as_slice(), moment);
         let size = 64 + 68 * answers as u64;
         if !self.has_room_for(1 + answers as u64, size, count, pending - answers) {
             self.seal(moment);
             self.answer_late(moment);
             return Ok(());
         }
-        self.journal.make_room(count + pending + 2)?;
+        let places = count + pending + 2;
+        make_places(
+            &mut self.journal,
+            &mut self.conns,
+            &mut self.exchanges,
+            places,
+        )?;
 
         self.journal.add(Entry {
             moment,
@@ -260,7 +311,7 @@ impl<R: Relation> Core<R> {
             &mut self.conns,
             &mut self.outbox,
             &mut self.last,
-            &self.exchanges,
+            self.exchanges.as_slice(),
             moment,
         );
         drop_late(&mut self.exchanges, moment);

@@ -1,32 +1,50 @@
 -- Each step of a core adds entries, and what they send and answer waits.
-use Rattle.std.proofs.Common.{◌≡◌, ◌≢◌, ◌⊎◌, ℕ, ◌+◌, Bool, true, false, inl, inr, List, [], ◌∷◌, ◌++◌, length, map, Option, Some, None, Result, Ok, Err, IfOk, OnErr, IsTrue, IsFalse, refl, sym, ap, ◌∙◌, arith, length-append}
+use Rattle.std.proofs.Common.{◌≡◌, ◌≢◌, ◌⊎◌, ℕ, ◌+◌, Bool, true, false, cond, inl, inr, List, [], ◌∷◌, ◌++◌, length, map, Option, Some, None, Result, Ok, Err, IfOk, OnErr, IsTrue, IsFalse, refl, sym, ap, ◌∙◌, arith, length-append}
 use Rattle.std.specs.Prelude.{◌==◌, option_to_list, not}
 use Rattle.std.specs.List.{All, Contains, filter}
 use Rattle.std.proofs.lemmas.Bool.{cases_Bool}
 use Rattle.std.proofs.lemmas.Bool.Decides.{eqb_tells}
 use Rattle.std.proofs.lemmas.Grind.{flat_map-append}
 use Rattle.std.proofs.lemmas.List.{append-nil, append_assoc}
-use Rattle.std.proofs.lemmas.List.Elements.{All-nil, All-cons, All-weaker, All-map, All-filter, All-contains_itself, filter_passes}
+use Rattle.std.proofs.lemmas.List.Elements.{All-nil, All-cons, All-weaker, All-map, All-filter, All-contains_itself, Contains-append_right, filter_passes}
+use Rattle.std.proofs.lemmas.List.Sums.{sum_by-append}
 use Rattle.uri_map.specs.declared.peer.Peer.{Peer}
 use Rattle.ask_model.specs.Requests.{Sense, Requests, Refuses}
 use Rattle.ask_model.specs.Views.{Mapping}
-use Rattle.journal_book.specs.Entries.{Written, Opens, Sends, Hears, Answers, Seals}
+use Rattle.journal_book.specs.Entries.{Written, Deed, Opens, Asks, Sends, Hears, Passes, Answers, Shuts, Seals}
 use Rattle.history_laws.specs.declared.kept.Conn.{Conn}
 use Rattle.history_laws.specs.Kept.{pend}
 use Rattle.exchange_core.specs.declared.fault.AskFault.{AskFault}
 use Rattle.exchange_core.specs.declared.fault.OpenFault.{OpenFault}
-use Rattle.exchange_core.specs.CoreValue.{CoreValue, Outgoing, sent_by, sendings, written}
+use Rattle.exchange_core.specs.CoreValue.{CoreValue, Outgoing, connections, opens_deed, sent_by, sendings, written}
 use Rattle.exchange_core.specs.Answering.{refusal}
 use Rattle.exchange_core.specs.Asking.{AnswersAtOnce, OpensExchange, AddsBy, AddsAsk}
 use Rattle.exchange_core.specs.Hears.{AddsNone, AddsOne, HeardSo}
 use Rattle.exchange_core.specs.Steps.{with_sent, outgoing_by}
-use Rattle.gateway_world.specs.Steps.{Advances, answers_in, is_answer, all_answered}
+use Rattle.gateway_world.specs.Steps.{Advances, answers_in, is_answer, all_answered, asks_answered_by, asks_answered}
+use Rattle.gateway_world.specs.Closing.{shut_by, shut_in}
 use Rattle.gateway_world.specs.CoreSteps.{ComesFrom, IsNewAnswer, AnswersAlone}
+use Rattle.gateway_world.specs.Rows.{OpenOrShut}
+use Rattle.gateway_world.proofs.Gone.{id_of, stay-here, stay-but, pend-ids}
 use Rattle.gateway_world.proofs.Counting.{slice_get-at}
 use Rattle.gateway_world.proofs.Going.{advances-none}
 
 pub same-advances : (a b : CoreValue) → b ≡ a → Advances a b
 same-advances a b e = rw e (advances-none a)
+
+quiet-asks : (d : Deed) → is_answer d ≡ false → asks_answered_by d ≡ []
+quiet-asks (Opens c) e = refl
+quiet-asks (Asks c a) e = refl
+quiet-asks (Sends p b w) e = refl
+quiet-asks (Hears p b) e = refl
+quiet-asks Passes e = refl
+quiet-asks (Answers c k g) e = absurd cc
+quiet-asks (Shuts c) e = refl
+quiet-asks Seals e = refl
+
+-- an entry that answers nothing
+pub mute-one : (w : Written) → is_answer w.deed ≡ false → asks_answered (w ∷ []) ≡ []
+mute-one w quiet = ap (λ (ks : List ℕ). ks ++ []) (quiet-asks w.deed quiet)
 
 -- one entry that sends nothing
 abbrev pub one-advances : (a b : CoreValue) (w : Written) → sent_by w.deed ≡ [] → is_answer w.deed ≡ false → b.entries ≡ a.entries ++ w ∷ [] → b.sends ≡ a.sends
@@ -39,6 +57,7 @@ one-advances a b w none quiet entries sends answers =
       given = [];
       answers = answers ∙ sym (append-nil a.answers);
       numbers = rw quiet refl;
+      asks = sym (mute-one w quiet);
     }
 
 -- connections that wait for the same, or no more
@@ -55,25 +74,41 @@ comes-pend c cs =
       | inr n ↦ rw n (record { conn = x; stands = w; id = refl; waits = inr refl })
     ]
 
+-- entries that open no connection
+pub opens-none : (a b : CoreValue) (more : List Written) → b.entries ≡ a.entries ++ more → connections more ≡ 0 → connections b.entries ≡ connections a.entries
+opens-none a b more entries none =
+    let sum : connections (a.entries ++ more) ≡ connections a.entries + connections more = sum_by-append (λ (e : Written). cond (opens_deed e.deed) 1 0) a.entries more in
+    rw entries (omega (arith, sum, none))
+
 -- a step that answers nothing
-pub alone-none : (a b : CoreValue) (w : Advances a b) → w.given ≡ [] → All (ComesFrom a.conns) b.conns → AnswersAlone a b
-alone-none a b w none conns = record { step = w; conns = conns; answers = rw none (All-nil (IsNewAnswer a b)) }
+pub alone-none : (a b : CoreValue) (w : Advances a b) → w.given ≡ [] → connections w.more ≡ 0 → All (ComesFrom a.conns) b.conns → All (λ (x : Conn). OpenOrShut b x.id) a.conns
+    → AnswersAlone a b
+alone-none a b w none quiet conns stay =
+    record { step = w; conns = conns; answers = rw none (All-nil (IsNewAnswer a b)); opens = opens-none a b w.more w.entries quiet; stay = stay }
 
 pub same-alone : (a b : CoreValue) → b ≡ a → AnswersAlone a b
-same-alone a b e = rw e (alone-none a a (advances-none a) refl (comes-same a.conns))
+same-alone a b e = rw e (alone-none a a (advances-none a) refl refl (comes-same a.conns) (stay-here a a.conns refl))
 
-pub one-alone : (a b : CoreValue) (w : Written) → sent_by w.deed ≡ [] → is_answer w.deed ≡ false → b.entries ≡ a.entries ++ w ∷ [] → b.sends ≡ a.sends
-    → b.answers ≡ a.answers → All (ComesFrom a.conns) b.conns → AnswersAlone a b
-one-alone a b w none quiet entries sends answers conns = alone-none a b (one-advances a b w none quiet entries sends answers) refl conns
+pub one-alone : (a b : CoreValue) (w : Written) → sent_by w.deed ≡ [] → is_answer w.deed ≡ false → opens_deed w.deed ≡ false → b.entries ≡ a.entries ++ w ∷ [] → b.sends ≡ a.sends
+    → b.answers ≡ a.answers → All (ComesFrom a.conns) b.conns → All (λ (x : Conn). OpenOrShut b x.id) a.conns → AnswersAlone a b
+one-alone a b w none quiet old entries sends answers conns stay = alone-none a b (one-advances a b w none quiet entries sends answers) refl (rw old refl) conns stay
+
+-- the seal
+pub seal-alone : (a b : CoreValue) (t : ℕ) → b.entries ≡ a.entries ++ written t Seals ∷ [] → b.sends ≡ a.sends → b.answers ≡ a.answers → b.conns ≡ a.conns → AnswersAlone a b
+seal-alone a b t entries sends answers conns =
+    one-alone a b (written t Seals) refl refl refl entries sends answers (rw conns (comes-same a.conns)) (stay-here b a.conns (ap (map id_of) conns))
 
 -- a connection is closed
-pub closing : (r : Bool) (a b : CoreValue) (c : ℕ) (X : Type 0) (w : Written) → sent_by w.deed ≡ [] → is_answer w.deed ≡ false
+pub closing : (r : Bool) (a b : CoreValue) (c : ℕ) (X : Type 0) (w : Written) → sent_by w.deed ≡ [] → is_answer w.deed ≡ false → opens_deed w.deed ≡ false → shut_by w.deed ≡ c ∷ []
     → (IsTrue r → (b.entries ≡ a.entries ++ w ∷ []) × (b.conns ≡ filter (λ (x : Conn). not (x.id == c)) a.conns))
     → (IsFalse r → X × (b ≡ a)) → b.answers ≡ a.answers → b.sends ≡ a.sends → AnswersAlone a b
-closing true a b c X w none quiet closed unknown answers sends =
+closing true a b c X w none quiet old shuts closed unknown answers sends =
     let two = closed refl in
-    one-alone a b w none quiet two.0 sends answers (rw (two.1) (All-filter (λ (x : Conn). not (x.id == c)) (ComesFrom a.conns) a.conns (comes-same a.conns)))
-closing false a b c X w none quiet closed unknown answers sends = same-alone a b (unknown refl).1
+    let shut : Contains (shut_in b.entries) c =
+    rw (two.0, flat_map-append (λ (e : Written). shut_by e.deed) a.entries (w ∷ [])) (Contains-append_right (shut_in a.entries) (shut_in (w ∷ [])) c (rw shuts (0, omega arith, refl))) in
+    one-alone a b w none quiet old two.0 sends answers (rw (two.1) (All-filter (λ (x : Conn). not (x.id == c)) (ComesFrom a.conns) a.conns (comes-same a.conns)))
+    (stay-but b c a.conns two.1 shut)
+closing false a b c X w none quiet old shuts closed unknown answers sends = same-alone a b (unknown refl).1
 
 -- It is gone.
 pub closed-gone : (r : Bool) (a b : CoreValue) (c : ℕ) (X : Type 0)
@@ -100,6 +135,7 @@ at-once a b t n conn m cause num w =
       given = refusal n t m cause ∷ [];
       answers = w.answers;
       numbers = ap (λ (k : ℕ). (k + 1) ∷ []) num;
+      asks = refl;
     }
 
 opens : (a b : CoreValue) (t word n conn : ℕ) (m : Mapping) (q : _) → OpensExchange t word n conn m q a b → Advances a b
@@ -111,6 +147,7 @@ opens a b t word n conn m q w =
       given = [];
       answers = w.answers ∙ sym (append-nil a.answers);
       numbers = refl;
+      asks = refl;
     }
 
 asking : (s : Sense) (a b : CoreValue) (t word n conn : ℕ) (m : Mapping) → n ≡ length a.entries → AddsBy s t word n conn m a b → Advances a b
@@ -136,6 +173,14 @@ front-quiet : (n t : ℕ) (p : Peer) (bytes : List ℕ) (sent : Option (List ℕ
 front-quiet n t p bytes None ws = refl
 front-quiet n t p bytes (Some s) ws = ap (λ (k : ℕ). all_answered k ws) (omega arith)
 
+front-asks : (t : ℕ) (p : Peer) (bytes : List ℕ) (sent : Option (List ℕ)) (ws : List Written) → asks_answered (front t p bytes sent ++ ws) ≡ asks_answered ws
+front-asks t p bytes None ws = refl
+front-asks t p bytes (Some s) ws = refl
+
+front-opens : (t : ℕ) (p : Peer) (bytes : List ℕ) (sent : Option (List ℕ)) → connections (front t p bytes sent) ≡ 0
+front-opens t p bytes None = refl
+front-opens t p bytes (Some s) = refl
+
 heard-none : (a b : CoreValue) (t : ℕ) (p : Peer) (bytes : List ℕ) (sent : Option (List ℕ)) → AddsNone (with_sent t p sent (a.entries ++ written t (Hears p bytes) ∷ [])) a b
     → b.sends ≡ a.sends ++ option_to_list (outgoing_by p sent) → AnswersAlone a b
 heard-none a b t p bytes sent w sends =
@@ -146,8 +191,9 @@ heard-none a b t p bytes sent w sends =
       given = [];
       answers = w.answers ∙ sym (append-nil a.answers);
       numbers = sym (ap (all_answered (length a.entries)) (sym (append-nil (front t p bytes sent))) ∙ front-quiet (length a.entries) t p bytes sent []);
+      asks = sym (ap asks_answered (sym (append-nil (front t p bytes sent))) ∙ front-asks t p bytes sent []);
     } in
-    alone-none a b step refl (rw (w.conns) (comes-same a.conns))
+    alone-none a b step refl (front-opens t p bytes sent) (rw (w.conns) (comes-same a.conns)) (stay-here b a.conns (ap (map id_of) w.conns))
 
 heard-one : (a b : CoreValue) (t : ℕ) (p : Peer) (bytes : List ℕ) (sent : Option (List ℕ)) → AddsOne t (with_sent t p sent (a.entries ++ written t (Hears p bytes) ∷ [])) a b
     → b.sends ≡ a.sends ++ option_to_list (outgoing_by p sent) → AnswersAlone a b
@@ -165,6 +211,7 @@ heard-one a b t p bytes sent w sends =
       given = w.given ∷ [];
       answers = w.answers;
       numbers = ap (λ (k : ℕ). k ∷ []) number ∙ sym (front-quiet (length a.entries) t p bytes sent (z ∷ []));
+      asks = sym (front-asks t p bytes sent (z ∷ []));
     } in
     record {
       step = step;
@@ -178,8 +225,14 @@ heard-one a b t p bytes sent w sends =
             (All-weaker (Contains a.conns) (λ (y : Conn). (pend w.conn None y).id ≡ w.waited.conn.id → (pend w.conn None y).pending ≢ Some w.given.ask)
             (λ y has. ended w.conn w.given.ask y w.waited.conn.id w.waited.id) a.conns (All-contains_itself a.conns)));
       }) (All-nil (IsNewAnswer a b));
+      opens = opens-none a b (x ++ z ∷ []) step.entries (answered-opens t p bytes sent z refl);
+      stay = stay-here b a.conns (ap (map id_of) w.conns ∙ pend-ids w.conn None a.conns);
     }
   where
+    answered-opens : (t : ℕ) (p : Peer) (bytes : List ℕ) (sent : Option (List ℕ)) (z : Written) → opens_deed z.deed ≡ false → connections (front t p bytes sent ++ z ∷ []) ≡ 0
+    answered-opens t p bytes None z old = rw old refl
+    answered-opens t p bytes (Some s) z old = rw old refl
+
     ended : (c k : ℕ) (y : Conn) (d : ℕ) → d ≡ c → (pend c None y).id ≡ d → (pend c None y).pending ≢ Some k
     ended c k y d is = elim (eqb_tells y.id c) [
       | inl u ↦ rw (u.0) (λ same e. absurd cc)
@@ -188,7 +241,7 @@ heard-one a b t p bytes sent w sends =
 
 pub hearing : (a b : CoreValue) (t : ℕ) (p : Peer) (bytes : List ℕ) → HeardSo t p bytes a b → AnswersAlone a b
 hearing a b t p bytes (inl w) = same-alone a b w.1
-hearing a b t p bytes (inr (inl w)) = one-alone a b (written t Seals) refl refl w.entries w.sends w.answers (rw (w.conns) (comes-same a.conns))
+hearing a b t p bytes (inr (inl w)) = seal-alone a b t w.entries w.sends w.answers w.conns
 hearing a b t p bytes (inr (inr w)) = elim (w.answer) [
   | inl none ↦ heard-none a b t p bytes w.sent none w.sends
   | inr one ↦ heard-one a b t p bytes w.sent one w.sends
@@ -205,7 +258,7 @@ unopened-alone (Err OpenFault.Full) a b t A B C D E full sealed memory = same-al
 unopened-alone (Err OpenFault.Sealed) a b t A B C D E full sealed memory =
     elim (sealed refl).1 [
       | inl w ↦ same-alone a b w.1
-      | inr w ↦ one-alone a b (written t Seals) refl refl w.2 w.6 w.5 (rw (w.3) (comes-same a.conns))
+      | inr w ↦ seal-alone a b t w.2 w.6 w.5 w.3
     ]
 unopened-alone (Err OpenFault.Memory) a b t A B C D E full sealed memory = same-alone a b (memory refl)
 
@@ -244,6 +297,24 @@ refused-alone (Err AskFault.Pending) a b t A B C D E F unknown pending sealed me
 refused-alone (Err AskFault.Sealed) a b t A B C D E F unknown pending sealed memory =
     elim (sealed refl).1 [
       | inl w ↦ same-alone a b w.1
-      | inr w ↦ one-alone a b (written t Seals) refl refl w.2 w.6 w.5 (rw (w.3) (comes-same a.conns))
+      | inr w ↦ seal-alone a b t w.2 w.6 w.5 w.3
     ]
 refused-alone (Err AskFault.Memory) a b t A B C D E F unknown pending sealed memory = same-alone a b (memory refl)
+
+-- No connection opens where one is refused, and none where one asks.
+pub refused-opens : {X E : Type 0} (r : Result X E) (a b : CoreValue) → OnErr r (AnswersAlone a b) → OnErr r (connections b.entries ≡ connections a.entries)
+refused-opens (Ok x) a b w = tt
+refused-opens (Err e) a b w = w.opens
+
+once-opens : (a b : CoreValue) (t n conn : ℕ) (m : Mapping) (cause : _) → AnswersAtOnce t n conn m cause a b → connections b.entries ≡ connections a.entries
+once-opens a b t n conn m cause w = opens-none a b (_ ∷ _ ∷ []) (w.entries ∙ append_assoc a.entries _ _) refl
+
+asking-opens : (s : Sense) (a b : CoreValue) (t word n conn : ℕ) (m : Mapping) → AddsBy s t word n conn m a b → connections b.entries ≡ connections a.entries
+asking-opens (Refuses cause status) a b t word n conn m w = once-opens a b t n conn m cause w
+asking-opens (Requests q) a b t word n conn m (inl w) = once-opens a b t n conn m _ w.1
+asking-opens (Requests q) a b t word n conn m (inr w) = opens-none a b (_ ∷ _ ∷ []) (w.1.entries ∙ append_assoc a.entries _ _) refl
+
+pub asked-opens : {X E : Type 0} (r : Result X E) (number : X → ℕ) (a b : CoreValue) (t word conn : ℕ) (m : Mapping) → IfOk r (λ x. AddsAsk t word (number x) conn m a b) → OnErr r (AnswersAlone a b)
+    → connections b.entries ≡ connections a.entries
+asked-opens (Ok x) number a b t word conn m ok refused = asking-opens m.sense a b t word (number x) conn m ok
+asked-opens (Err e) number a b t word conn m ok refused = refused.opens

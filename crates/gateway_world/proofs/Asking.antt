@@ -3,7 +3,7 @@ use Rattle.std.proofs.Common.{◌≡◌, ◌≢◌, ℕ, ◌+◌, ◌<◌, ◌�
 use Rattle.std.specs.Prelude.{◌==◌}
 use Rattle.std.specs.List.{All, slice_get}
 use Rattle.std.proofs.lemmas.Bool.Decides.{eqb_tells}
-use Rattle.std.proofs.lemmas.List.{append_assoc, map-append}
+use Rattle.std.proofs.lemmas.List.{append-nil, append_assoc, map-append}
 use Rattle.std.proofs.lemmas.List.Elements.{All-nil, All-cons, All-head, All-tail, All-weaker, All-push, All-map, Contains-append_left, Contains-append_right}
 use Rattle.std.proofs.lemmas.List.Sums.{sum_by-append}
 use Rattle.ask_model.specs.Requests.{Sense, Requests, Refuses}
@@ -15,10 +15,13 @@ use Rattle.history_laws.specs.Kept.{pend}
 use Rattle.exchange_core.specs.CoreValue.{CoreValue, connections, opens_deed, written}
 use Rattle.exchange_core.specs.Answering.{Given, refusal}
 use Rattle.exchange_core.specs.Asking.{AnswersAtOnce, OpensExchange, AddsBy, AddsAsk}
-use Rattle.gateway_world.specs.Steps.{answers_at, answers_in}
-use Rattle.gateway_world.specs.Rows.{Row, AreRising, HasAsk, WaitsFor, IsServed, IsClaimed, Serves, IsRow, row_at, with_waits}
+use Rattle.gateway_world.specs.Steps.{answers_at, answers_in, asks_answered}
+use Rattle.gateway_world.specs.Rows.{Row, AreRising, HasAsk, WaitsFor, IsServed, IsClaimed, IsDue, Serves, IsRow, row_at, with_waits}
+use Rattle.gateway_world.proofs.Gone.{id_of, pend-ids, stay-here, ended-on, ended-open}
+use Rattle.gateway_world.proofs.Advancing.{opens-none}
+use Rattle.gateway_world.proofs.Due.{ask_in, RowDue, rows-due, due-fresh, due-untaken}
 use Rattle.gateway_world.proofs.Counting.{slice_get-at, answers-more, rising-append}
-use Rattle.gateway_world.proofs.Serving.{number_of, number_in, some-same, connections-more, longer, ask-below, waits-more, waits-for, standing, served-more}
+use Rattle.gateway_world.proofs.Serving.{number_of, number_in, some-same, connections-more, longer, ask-below, waits-more, waits-for, standing, served-more, rows-below}
 
 same-of : (n m : ℕ) → (n == m) ≡ true → n ≡ m
 same-of n m e = elim (eqb_tells n m) [ inl u ↦ u.1 | inr u ↦ absurd (differs (sym u.0 ∙ e)) ]
@@ -113,6 +116,9 @@ serves-open a b rows t n fresh entries conns answers s =
         done = All-push (λ (x : Conn). x.pending ≢ Some g.ask) a.conns (record { id = n; pending = None }) v.done (λ e. none-is g.ask e);
       }) a.answers s.claimed);
       in_order = rw answers (s.in_order);
+      due = All-push (RowDue b) rows row (rows-due a b rows w [] entries (answers ∙ sym (append-nil a.answers)) refl (rows-below h rows s.asked) s.due)
+          (λ k e. absurd (none-is k e));
+      ended = ended-open a b w n entries (ap connections entries ∙ more) fresh (ap (map id_of) conns ∙ map-append id_of a.conns (record { id = n; pending = None } ∷ [])) s.ended;
     }
   where
     none-is : (k : ℕ) → None ≡ Some k → ⊥
@@ -140,6 +146,12 @@ module _ (a b : CoreValue) (rows : List Row) (conn n : ℕ) (more : List Written
       let le = connections-more a.entries more in
       rw entries (all-with (λ (r : Row). r.number < connections a.entries) (λ (r : Row). r.number < connections (a.entries ++ more)) conn (Some n) rows idle.row s.numbered idle.stands
       (λ r not lt. omega (arith, lt, le)) (λ is lt. omega (arith, lt, le)) s.opened)
+
+  -- whose answers are due, where one waits for the new ask
+  rows-wait : (given : List Given) → b.entries ≡ a.entries ++ more → b.answers ≡ a.answers ++ given → map ask_in given ≡ asks_answered more → IsDue b n → All (RowDue b) (with_waits conn (Some n) rows)
+  rows-wait given entries answers asks new =
+      all-with (RowDue b) (RowDue b) conn (Some n) rows idle.row s.numbered idle.stands (λ r not w. w) (λ is w k e. subst (IsDue b) (some-same n k e) new)
+      (rows-due a b rows more given entries answers asks (rows-below a.entries rows s.asked) s.due)
 
   -- none waited on the connection's row
   not-idle : (k : ℕ) → idle.row.waits ≡ Some k → ⊥
@@ -215,6 +227,8 @@ serves-refused a b rows t n conn m cause place s idle w =
       in_order = rw (w.answers, map-append number_in a.answers (g0 ∷ [])) (rising-append (map number_in a.answers) ((n + 1) ∷ []) (length h) s.in_order
           (standing h a.conns rows a.answers s.claimed) (All-nil (λ (m : ℕ). n + 1 < m), tt)
           (All-cons (λ (m : ℕ). length h ≤ m) (n + 1) [] (omega (arith, place)) (All-nil (λ (m : ℕ). length h ≤ m))));
+      due = rows-wait a b rows conn n more place s idle (g0 ∷ []) entries w.answers refl (due-untaken b a.answers g0 w.answers);
+      ended = ended-on a b more entries (opens-none a b more entries refl) (stay-here b a.conns (ap (map id_of) w.conns)) s.ended;
     }
 
 -- an ask that opens an exchange
@@ -255,6 +269,8 @@ serves-opened a b rows t word n conn m q place s idle w =
       claimed = rw (entries, w.conns, w.answers) (All-weaker (IsClaimed h a.conns rows) (IsClaimed (h ++ more) (map (pend conn (Some n)) a.conns) rows1)
           (λ g v. old-claimed a b rows conn n more place s idle (map (pend conn (Some n)) a.conns) g (quiet g v) v) a.answers s.claimed);
       in_order = rw (w.answers) (s.in_order);
+      due = rows-wait a b rows conn n more place s idle [] entries (w.answers ∙ sym (append-nil a.answers)) refl (due-fresh b h asks (sent ∷ []) n place entries refl);
+      ended = ended-on a b more entries (opens-none a b more entries refl) (stay-here b a.conns (ap (map id_of) w.conns ∙ pend-ids conn (Some n) a.conns)) s.ended;
     }
 
 serves-by : (sense : Sense) (a b : CoreValue) (rows : List Row) (t word n conn : ℕ) (m : Mapping) → n ≡ length a.entries → Serves a rows → IsRow rows conn None

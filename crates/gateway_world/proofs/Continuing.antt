@@ -20,15 +20,15 @@ use Rattle.exchange_core.specs.CoreValue.{CoreValue}
 use Rattle.exchange_core.specs.Answering.{Given}
 use Rattle.gateway_world.specs.declared.input.Output.{Output}
 use Rattle.gateway_world.specs.declared.input.Output.TheVariants as Out
-use Rattle.gateway_world.specs.declared.inbox.Inbox.{Inbox}
-use Rattle.gateway_world.specs.declared.table.Connection.{Connection}
+use Rattle.gateway_world.specs.declared.connection.Connection.{Connection}
+use Rattle.gateway_world.specs.Inboxes.{Unasked}
 use Rattle.gateway_world.specs.Means.{MeansTold, Means}
 use Rattle.gateway_world.specs.Steps.{continue_text}
 use Rattle.gateway_world.specs.Rows.{Row, row_of, row_at, AreRising, IsRow, IsOpen, IsFirstAnswered}
 use Rattle.gateway_world.specs.Asks.{Inlet, inlet_of, inbox_at, ReadsNoMore, IsOver, asked_on}
 use Rattle.gateway_world.specs.AskSteps.{LeavesInboxes, StaysOrEnds, AsksNone, AsksOne, AsksOn}
 use Rattle.gateway_world.specs.Prompt.{LeavesConnections}
-use Rattle.gateway_world.specs.Continuing.{is_interim, is_interim_to, interims, told_of, told_in, told_at, SaysNothing, TellsToGoOn, TellsOne, GivesFinal}
+use Rattle.gateway_world.specs.Continuing.{is_interim, is_interim_to, interims, told_in, told_at, SaysNothing, TellsToGoOn, TellsOne, GivesFinal}
 use Rattle.gateway_world.proofs.Heeding.{fresh-inbox}
 use Rattle.gateway_world.proofs.Inlets.{inbox-last, inbox-before}
 use Rattle.gateway_world.proofs.Owing.{none-with}
@@ -249,8 +249,8 @@ request-tells M i c a b j k l rows x y none w final =
         }
         | inr nothing ↦ record {
           asks = [];
-          asked = nothing.asked ∙ sym (append-nil (asked_on c a));
-          says = inl (record { same = final.same c; told = λ t. false-true (sym gone ∙ t); kept = λ t empty. inr nothing.over });
+          asked = nothing.0 ∙ sym (append-nil (asked_on c a));
+          says = inl (record { same = final.same c; told = λ t. false-true (sym gone ∙ t); kept = λ t empty. inr (subst ReadsNoMore (sym nothing.1) tt) });
         }
       ];
       others = λ d other. (w.quiet d other, final.same d);
@@ -322,8 +322,8 @@ pub none-yet : (a : List Written) (i : List Inlet) (rows : List Row) (x : List O
 none-yet a i rows x c = quiet-tells c a a i i x x rows refl refl refl
 
 -- a connection that opens
-pub opened-tells : {R : Type 0} (cs : List (Connection R)) (n : ℕ) (inbox : Inbox) (a b : List Written) (j : List Inlet) (rows : List Row) (x : List Output)
-    → All (λ (r : Row). r.number < n) (map row_of cs) → j ≡ map inlet_of cs ++ record { number = n; inbox = inbox } ∷ [] → told_of inbox ≡ false
+pub opened-tells : {R : Type 0} (cs : List (Connection R)) (n : ℕ) (inbox : Unasked) (a b : List Written) (j : List Inlet) (rows : List Row) (x : List Output)
+    → All (λ (r : Row). r.number < n) (map row_of cs) → j ≡ map inlet_of cs ++ record { number = n; inbox = inbox } ∷ [] → inbox.told ≡ false
     → ((c : ℕ) → asked_on c b ≡ asked_on c a) → (c : ℕ) → TellsToGoOn c a (map inlet_of cs) x b rows j x
 opened-tells {R} cs n inbox a b j rows x below put none asked c =
     let i : List Inlet = map inlet_of cs in

@@ -63,13 +63,13 @@ heard-first a b t p bytes w =
     ]
 
 pub heard-enters : {X E : Type 0} (r : Result X E) (a b d : CoreValue) (t : ℕ) (p : Peer) (bytes : List ℕ) → HeardSo t p bytes a b → OnOk r (Grows b.entries d.entries)
-    → OnOk r (b.answers ≡ [] → d.entries ≡ b.entries) → OnOk r (EntersDatagram t p bytes a d)
+    → OnOk r (b.answers ≡ [] → d.entries ≡ b.entries) → OnOk r (a.answers ≡ [] → EntersDatagram t p bytes a d)
 heard-enters (Ok x) a b d t p bytes (inl w) grows quiet =
-    inl (w.0, λ none. quiet (ap (λ (v : CoreValue). v.answers) w.1 ∙ none) ∙ ap (λ (v : CoreValue). v.entries) w.1)
-heard-enters (Ok x) a b d t p bytes (inr (inl w)) grows quiet =
+    λ none. inl (w.0, quiet (ap (λ (v : CoreValue). v.answers) w.1 ∙ none) ∙ ap (λ (v : CoreValue). v.entries) w.1)
+heard-enters (Ok x) a b d t p bytes (inr (inl w)) grows quiet = λ none.
     inr (first-more (IsHeardOrSealed t p bytes a) a.entries b.entries d.entries
     (record { first = written t Seals; rest = []; is_first = inr (refl, w.room); added = w.entries }) grows)
-heard-enters (Ok x) a b d t p bytes (inr (inr w)) grows quiet =
+heard-enters (Ok x) a b d t p bytes (inr (inr w)) grows quiet = λ none.
     let f = heard-first a b t p bytes w in
     inr (first-more (IsHeardOrSealed t p bytes a) a.entries b.entries d.entries
     (record { first = f.first; rest = f.rest; is_first = inl f.is_first; added = f.added }) grows)
@@ -117,9 +117,9 @@ tick-enters a b t early ends seals keeps =
       | inr f ↦ inr (subst (AddsFirst (IsTickEntry t) a.entries) (sym w.entries) f)
     ]
 
-pub tick-more : {X E : Type 0} (r : Result X E) (a b d : CoreValue) (t : ℕ) → TicksFirst t a b → OnOk r (Grows b.entries d.entries) → OnOk r (b.answers ≡ [] → d.entries ≡ b.entries) → OnOk r (EntersTick t a d)
-tick-more (Ok x) a b d t (inl same) grows quiet = inl (λ none. quiet (same.1 ∙ none) ∙ same.0)
-tick-more (Ok x) a b d t (inr w) grows quiet = inr (first-more (IsTickEntry t) a.entries b.entries d.entries w grows)
+pub tick-more : {X E : Type 0} (r : Result X E) (a b d : CoreValue) (t : ℕ) → TicksFirst t a b → OnOk r (Grows b.entries d.entries) → OnOk r (b.answers ≡ [] → d.entries ≡ b.entries) → OnOk r (a.answers ≡ [] → EntersTick t a d)
+tick-more (Ok x) a b d t (inl same) grows quiet = λ none. inl (quiet (same.1 ∙ none) ∙ same.0)
+tick-more (Ok x) a b d t (inr w) grows quiet = λ none. inr (first-more (IsTickEntry t) a.entries b.entries d.entries w grows)
 tick-more (Err e) a b d t w grows quiet = tt
 
 -- Where no answer waited, nothing is entered, and what was done before entered nothing.

@@ -1,16 +1,11 @@
 -- An error of the proxy's own names its cause and an entry.
-use Rattle.std.proofs.Common.{◌≡◌, ℕ, Result, Ok, Err, IfOk, sym, ap, ◌∙◌}
+use Rattle.std.proofs.Common.{◌≡◌, ℕ, Result, Ok, Err, IfOk}
 use Rattle.http_edge.specs.declared.answer.HttpAnswer.{HttpAnswer}
 use Rattle.ask_model.specs.declared.cause.Cause.{Cause}
-use Rattle.journal_book.specs.Entries.{Grounds, Fault}
+use Rattle.journal_book.specs.Entries.{Fault}
 use Rattle.exchange_core.specs.Answering.{Given}
-use Rattle.datagram_verdict.specs.Findings.{Fails, Fits}
+use Rattle.datagram_verdict.specs.Findings.{Fails}
 use Rattle.gateway_world.specs.Means.{Means, Tells}
-
-pub named_by : (g : Grounds) (cause named : Cause) (n : ℕ) → Fault named n ≡ g → Fits (Fails cause) g → g ≡ Fault cause n
-named_by g cause named n e fits =
-    let same : cause ≡ named = rw (← e) at fits in
-    sym e ∙ ap (λ (x : Cause). Fault x n) (sym same)
 
 pub tells_means : {E : Type 0} (x : Given) (cause : Cause) (n : ℕ) (r : Result HttpAnswer E) → x.found.told ≡ Fails cause
     → x.found.grounds ≡ Fault cause n → IfOk r (λ a. Tells x.mapping cause n a) → IfOk r (λ a. Means x a)

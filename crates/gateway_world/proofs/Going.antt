@@ -12,7 +12,7 @@ use Rattle.exchange_core.specs.CoreValue.{CoreValue, Outgoing, outgoing_of, sent
 use Rattle.exchange_core.specs.Answering.{Given, HeardAs, IsFound, IsGiven}
 use Rattle.gateway_world.specs.declared.input.Output.{Output}
 use Rattle.gateway_world.specs.declared.input.Output.TheVariants as Out
-use Rattle.gateway_world.specs.Steps.{Grows, Telling, IsTelling, AllTell, Gives, Advances, AddsTold, Goes, Leads, datagrams, datagram_in, answered, untold, told_by, told_to}
+use Rattle.gateway_world.specs.Steps.{Grows, Telling, IsTelling, AllTell, Gives, Advances, AddsTold, Goes, datagrams, datagram_in, answered, untold, told_by, told_to}
 use Rattle.gateway_world.proofs.Counting.{answered-append, untold-grows}
 
 -- The answers that aren't taken stand in the history.
@@ -76,7 +76,7 @@ all-joined h (x ∷ xs) ys [] us a b = elim a [ ]
 
 abbrev pub advances-none : (c : CoreValue) → Advances c c
 advances-none c =
-    record { more = []; entries = sym (append-nil c.entries); sends = sym (append-nil c.sends); given = []; answers = sym (append-nil c.answers); numbers = refl }
+    record { more = []; entries = sym (append-nil c.entries); sends = sym (append-nil c.sends); given = []; answers = sym (append-nil c.answers); numbers = refl; asks = refl }
 
 pub goes-none : (c : CoreValue) (outputs : List Output) → Goes c c outputs outputs
 goes-none c outputs = record {
@@ -117,21 +117,6 @@ goes-telling c before after a = record {
     tellings = None ∷ [];
     told = (a.told, tt);
     answers = λ d. append-nil (untold c d);
-  };
-}
-
--- nothing changes that matters
-pub goes-same : (a b : CoreValue) (outputs : List Output) → b.entries ≡ a.entries → b.sends ≡ a.sends → b.answers ≡ a.answers → Goes a b outputs outputs
-goes-same a b outputs entries sends answers = record {
-  given = [];
-  added = sym (append-nil outputs);
-  gives = record {
-    more = [];
-    entries = entries ∙ sym (append-nil a.entries);
-    sent = append-nil a.sends ∙ sym sends;
-    tellings = [];
-    told = tt;
-    answers = λ d. rw (entries, answers) (append-nil (untold a d));
   };
 }
 
@@ -202,7 +187,7 @@ advances-grow a b w = (w.more, w.entries)
 pub goes-grow : (a b : CoreValue) (x y : List Output) → Goes a b x y → Grows a.entries b.entries
 goes-grow a b x y w = (w.gives.more, w.gives.entries)
 
-pub leads-grow : {X E : Type 0} (r : Result X E) (a b : CoreValue) (before after : List Output) → Leads r a b before after → OnOk r (Grows a.entries b.entries)
+pub leads-grow : {X E : Type 0} (r : Result X E) (a b : CoreValue) (before after : List Output) → OnOk r (Goes a b before after) → OnOk r (Grows a.entries b.entries)
 leads-grow (Ok x) a b before after w = goes-grow a b before after w
 leads-grow (Err e) a b before after w = tt
 
@@ -211,15 +196,15 @@ grows-on h h1 h2 first second =
     (first.0 ++ second.0, second.1 ∙ ap (λ s. s ++ second.0) first.1 ∙ append_assoc h first.0 second.0)
 
 -- a call behind what was done before
-pub leads-on : {X E : Type 0} (r : Result X E) (a b c : CoreValue) (x y z : List Output) → Goes a b x y → Leads r b c y z → Leads r a c x z
+pub leads-on : {X E : Type 0} (r : Result X E) (a b c : CoreValue) (x y z : List Output) → Goes a b x y → OnOk r (Goes b c y z) → OnOk r (Goes a c x z)
 leads-on (Ok v) a b c x y z first second = goes-on a b c x y z first second
-leads-on (Err e) a b c x y z first second = grows-on a.entries b.entries c.entries (goes-grow a b x y first) second
+leads-on (Err e) a b c x y z first second = tt
 
 -- telling something, which leaves the core as it is
 pub told-leads : {X E : Type 0} (r : Result X E) (c : CoreValue) (before after : List Output)
-    → ((h : List Written) → OnOk r (AddsTold h None before after)) → Leads r c c before after
+    → ((h : List Written) → OnOk r (AddsTold h None before after)) → OnOk r (Goes c c before after)
 told-leads (Ok v) c before after t = goes-telling c before after (t c.entries)
-told-leads (Err e) c before after t = ([], sym (append-nil c.entries))
+told-leads (Err e) c before after t = tt
 
 -- the first datagram that waits is given out
 pub sent-one : (a b c : CoreValue) (x y z : List Output) (d : Datagram) → Goes a b x y → b.sends ≡ outgoing_of d ∷ c.sends
@@ -237,9 +222,6 @@ sent-one a b c x y z d first sends entries answers added =
         answers = λ k. rw (entries, answers) (append-nil (untold b k));
       };
     })
-
-pub sent-grow : (a b c : CoreValue) (x y : List Output) → Goes a b x y → c.entries ≡ b.entries → Grows a.entries c.entries
-sent-grow a b c x y first entries = (first.gives.more, entries ∙ first.gives.entries)
 
 pub shorter : {X : Type 0} (x : X) (xs ys : List X) → ys ≡ x ∷ xs → length xs < length ys
 shorter x xs ys e = let n = ap length e in omega (arith, n)

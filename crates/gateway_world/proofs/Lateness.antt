@@ -1,5 +1,5 @@
 -- What a tick answers late.
-use Rattle.std.proofs.Common.{◌≡◌, ◌≢◌, ◌⊎◌, ℕ, zero, suc, ◌+◌, Bool, true, false, inl, inr, List, [], ◌∷◌, ◌++◌, length, map, Option, Some, None, refl, sym, ap, subst, ◌∙◌, arith, length-append}
+use Rattle.std.proofs.Common.{◌≡◌, ◌≢◌, ◌⊎◌, ℕ, zero, suc, ◌+◌, Bool, true, false, cond, inl, inr, List, [], ◌∷◌, ◌++◌, length, map, Option, Some, None, refl, sym, ap, subst, ◌∙◌, arith, length-append}
 use Rattle.std.specs.Prelude.{◌==◌, ◌&&◌, find}
 use Rattle.std.specs.List.{All, Contains}
 use Rattle.std.proofs.lemmas.Bool.{cases_Bool}
@@ -7,17 +7,19 @@ use Rattle.std.proofs.lemmas.Bool.Decides.{eqb_tells}
 use Rattle.std.proofs.lemmas.Grind.{flat_map-append}
 use Rattle.std.proofs.lemmas.List.{append-nil, append_assoc}
 use Rattle.std.proofs.lemmas.List.Elements.{All-nil, All-cons, All-head, All-tail, All-weaker, All-append, All-map, All-contains_itself}
+use Rattle.std.proofs.lemmas.List.Sums.{sum_by-append}
 use Rattle.ask_model.specs.declared.cause.Cause.TheVariants.{Timeout}
 use Rattle.journal_book.specs.Entries.{Grounds, Fault, Written, Answers, Seals, Passes}
 use Rattle.history_laws.specs.declared.kept.Conn.{Conn}
 use Rattle.history_laws.specs.declared.kept.Exchange.{Exchange}
-use Rattle.exchange_core.specs.CoreValue.{CoreValue, Outgoing, sent_by, sendings, written}
+use Rattle.exchange_core.specs.CoreValue.{CoreValue, Outgoing, connections, opens_deed, sent_by, sendings, written}
 use Rattle.exchange_core.specs.Answering.{Given}
 use Rattle.exchange_core.specs.Ticking.{is_past, waits_on, late_reader, late_on, late_for, timed_by, timed, timeout_by, timeout_for, timeouts, HasPast, AreTimeouts, AnswersLate, takes_tick, EndsLate, SealsLate, KeepsLate}
-use Rattle.gateway_world.specs.Steps.{Advances, answers_conn, answers_in, is_answer, all_answered}
+use Rattle.gateway_world.specs.Steps.{Advances, answers_conn, answers_in, is_answer, all_answered, asks_answered_by, asks_answered}
 use Rattle.gateway_world.specs.CoreSteps.{ComesFrom, IsNewAnswer, AnswersAlone}
 use Rattle.gateway_world.proofs.Counting.{slice_get-at}
-use Rattle.gateway_world.proofs.Advancing.{same-alone}
+use Rattle.gateway_world.proofs.Gone.{id_of, stay-here}
+use Rattle.gateway_world.proofs.Advancing.{same-alone, mute-one, opens-none}
 
 some-same : {X : Type 0} (x y : X) → Some x ≡ Some y → x ≡ y
 some-same x y e = cc
@@ -110,6 +112,12 @@ late-numbers t n es cs (g ∷ gs) (w ∷ ws) all are =
 late-numbers t n es cs [] (w ∷ ws) all are = elim are [ ]
 late-numbers t n es cs (g ∷ gs) [] all are = elim are [ ]
 
+late-asks : (t n : ℕ) (gs : List Given) (ws : List Written) → AreTimeouts n gs ws → map (λ (g : Given). g.ask) gs ≡ asks_answered ws
+late-asks t n [] [] are = refl
+late-asks t n (g ∷ gs) (w ∷ ws) are = rw (are.0.entry) (ap (λ (ks : List ℕ). g.ask ∷ ks) (late-asks t (n + 1) gs ws are.1))
+late-asks t n [] (w ∷ ws) are = elim are [ ]
+late-asks t n (g ∷ gs) [] are = elim are [ ]
+
 -- A connection that is answered late waits for nothing, and no other for the same.
 passes : (t : ℕ) (e : Exchange) (j : ℕ) → e.opening ≡ j → is_past t e ≡ true → ((e.opening == j) && is_past t e) ≡ true
 passes t e j same past = elim (eqb_tells e.opening j) [ inl u ↦ rw (u.0, past) refl | inr u ↦ absurd (u.1 same) ]
@@ -161,10 +169,30 @@ comes-timed t es cs =
     one x w None = record { conn = x; stands = w; id = refl; waits = inr refl }
     one x w (Some e) = record { conn = x; stands = w; id = refl; waits = inl refl }
 
+timed-ids : (t : ℕ) (es : List Exchange) (cs : List Conn) → map id_of (map (timed t es) cs) ≡ map id_of cs
+timed-ids t es [] = refl
+timed-ids t es (x ∷ cs) = rw (one (late_for t es x)) (ap (λ (ns : List ℕ). x.id ∷ ns) (timed-ids t es cs))
+  where
+    one : (o : Option Exchange) → (timed_by o x).id ≡ x.id
+    one None = refl
+    one (Some e) = refl
+
+-- They open no connection.
+late-opens : (t : ℕ) (es : List Exchange) (cs : List Conn) (ws : List Written) → All (IsLate t es cs) ws → connections ws ≡ 0
+late-opens t es cs [] all = refl
+late-opens t es cs (w ∷ ws) all =
+    let here = (All-head (IsLate t es cs) w ws all).entry in
+    rw here (late-opens t es cs ws (All-tail (IsLate t es cs) w ws all))
+
+both-opens : (xs ws : List Written) → connections xs ≡ 0 → connections ws ≡ 0 → connections (xs ++ ws) ≡ 0
+both-opens xs ws first second =
+    let sum : connections (xs ++ ws) ≡ connections xs + connections ws = sum_by-append (λ (e : Written). cond (opens_deed e.deed) 1 0) xs ws in
+    omega (arith, sum, first, second)
+
 -- behind entries that send and answer nothing
-late-alone : (a b : CoreValue) (t : ℕ) (xs : List Written) → sendings xs ≡ [] → all_answered (length a.entries) (xs ++ timeouts t a.exchanges a.conns) ≡ all_answered (length (a.entries ++ xs)) (timeouts t a.exchanges a.conns)
+late-alone : (a b : CoreValue) (t : ℕ) (xs : List Written) → sendings xs ≡ [] → asks_answered xs ≡ [] → connections xs ≡ 0 → all_answered (length a.entries) (xs ++ timeouts t a.exchanges a.conns) ≡ all_answered (length (a.entries ++ xs)) (timeouts t a.exchanges a.conns)
     → AnswersLate t (a.entries ++ xs) a b → AnswersAlone a b
-late-alone a b t xs none quiet w =
+late-alone a b t xs none mute old quiet w =
     let ws = timeouts t a.exchanges a.conns in
     let late = all-late t a.exchanges a.exchanges a.conns (All-contains_itself a.exchanges) in
     let numbers = late-numbers t (length (a.entries ++ xs)) a.exchanges a.conns w.answers.0 ws late w.answers.2 in
@@ -177,23 +205,27 @@ late-alone a b t xs none quiet w =
       given = w.answers.0;
       answers = w.answers.1;
       numbers = numbers ∙ sym quiet;
+      asks = late-asks t (length (a.entries ++ xs)) w.answers.0 ws w.answers.2 ∙ sym (ap (λ (ks : List ℕ). ks ++ asks_answered ws) mute)
+          ∙ sym (flat_map-append (λ (e : Written). asks_answered_by e.deed) xs ws);
     } in
     record {
       step = step;
       conns = rw (w.conns) (comes-timed t a.exchanges a.conns);
       answers = late-new t (length (a.entries ++ xs)) (a.entries ++ xs) w.answers.0 ws a b w.entries refl w.conns late w.answers.2;
+      opens = opens-none a b (xs ++ ws) step.entries (both-opens xs ws old (late-opens t a.exchanges a.conns ws late));
+      stay = stay-here b a.conns (ap (map id_of) w.conns ∙ timed-ids t a.exchanges a.conns);
     }
 
 late-none : (a b : CoreValue) (t : ℕ) → AnswersLate t a.entries a b → AnswersAlone a b
 late-none a b t w =
     let same : a.entries ++ [] ≡ a.entries = append-nil a.entries in
-    late-alone a b t [] refl (ap (λ (h : List Written). all_answered (length h) (timeouts t a.exchanges a.conns)) (sym same))
+    late-alone a b t [] refl refl refl (ap (λ (h : List Written). all_answered (length h) (timeouts t a.exchanges a.conns)) (sym same))
     (subst (λ (h : List Written). AnswersLate t h a b) (sym same) w)
 
-late-one : (a b : CoreValue) (t : ℕ) (x : Written) → sent_by x.deed ≡ [] → is_answer x.deed ≡ false → AnswersLate t (a.entries ++ x ∷ []) a b → AnswersAlone a b
-late-one a b t x none quiet w =
+late-one : (a b : CoreValue) (t : ℕ) (x : Written) → sent_by x.deed ≡ [] → is_answer x.deed ≡ false → opens_deed x.deed ≡ false → AnswersLate t (a.entries ++ x ∷ []) a b → AnswersAlone a b
+late-one a b t x none quiet old w =
     let ws = timeouts t a.exchanges a.conns in
-    late-alone a b t (x ∷ []) (rw none refl) (rw quiet (ap (λ (k : ℕ). all_answered k ws) (sym (length-append a.entries (x ∷ []))))) w
+    late-alone a b t (x ∷ []) (rw none refl) (mute-one x quiet) (rw old refl) (rw quiet (ap (λ (k : ℕ). all_answered k ws) (sym (length-append a.entries (x ∷ []))))) w
 
 pub past-or-none : (t : ℕ) (es : List Exchange) → All (λ (e : Exchange). is_past t e ≡ false) es ⊎ HasPast t es
 past-or-none t [] = inl (All-nil (λ (e : Exchange). is_past t e ≡ false))
@@ -216,8 +248,8 @@ ticking a b t early ends seals keeps =
       | inr n ↦ elim (past-or-none t a.exchanges) [
         | inl all ↦ same-alone a b (early n all)
         | inr w ↦ elim (cases_Bool (takes_tick t a)) [
-          | inl y ↦ late-one a b t (written t Passes) refl refl (ends n w y).answers
-          | inr late ↦ late-one a b t (written t Seals) refl refl (seals n w late).answers
+          | inl y ↦ late-one a b t (written t Passes) refl refl refl (ends n w y).answers
+          | inr late ↦ late-one a b t (written t Seals) refl refl refl (seals n w late).answers
         ]
       ]
     ]

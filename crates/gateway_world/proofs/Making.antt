@@ -1,5 +1,5 @@
 -- When the entries of steps are made, step by step.
-use Rattle.std.proofs.Common.{◌≡◌, ℕ, ◌⊎◌, Bool, true, false, inl, inr, List, [], ◌∷◌, ◌++◌, Option, Some, None, Result, Ok, Err, IfOk, IsTrue, IsFalse, refl, sym, ap, subst, ◌∙◌, arith, max, ◌≤◌, ◌^◌}
+use Rattle.std.proofs.Common.{◌≡◌, ℕ, ◌⊎◌, Bool, true, false, inl, inr, List, [], ◌∷◌, ◌++◌, Option, Some, None, Result, Ok, Err, IfOk, OnOk, IsTrue, IsFalse, refl, sym, ap, subst, ◌∙◌, arith, max, ◌≤◌, ◌^◌}
 use Rattle.std.specs.List.{All}
 use Rattle.std.proofs.lemmas.Bool.{cases_Bool}
 use Rattle.std.proofs.lemmas.Grind.{flat_map-append}
@@ -62,6 +62,11 @@ makes-then when a b d u v = record {
   added = adds-then _ _ _ _ _ u.added (subst (λ (t : ℕ). AddsMade t when.word b.entries d.entries) u.later v.added);
   later = v.later ∙ u.later;
 }
+
+-- a call behind what was done before
+pub makes-call : {X E : Type 0} (r : Result X E) (when : When) (a b d : CoreValue) → Makes when a b → OnOk r (Makes when b d) → OnOk r (Makes when a d)
+makes-call (Ok x) when a b d u v = makes-then when a b d u v
+makes-call (Err e) when a b d u v = tt
 
 -- entries of now
 makes-now : (when : When) (a b : CoreValue) → AddsMade (now a.moment when.moment) when.word a.entries b.entries → b.moment ≡ now a.moment when.moment → Makes when a b
@@ -201,6 +206,9 @@ makes-tick when a b early ends seals keeps =
 -- A core that isn't ahead goes on at the moment at which the input counts.
 pub on-time : (core last moment t : ℕ) → core ≤ last → last ≤ 2 ^ 62 → moment ≤ 2 ^ 62 → t ≡ max last moment → now core t ≡ t
 on-time core last moment t behind early soon is = omega (arith, behind, early, soon, is)
+
+pub soon-enough : (last moment t : ℕ) → last ≤ 2 ^ 62 → moment ≤ 2 ^ 62 → t ≡ max last moment → t ≤ 2 ^ 62
+soon-enough last moment t early soon is = omega (arith, early, soon, is)
 
 pub made-at : (when : When) (a b : CoreValue) (t : ℕ) → now a.moment when.moment ≡ t → Makes when a b → AddsMade t when.word a.entries b.entries
 made-at when a b t is w = subst (λ (n : ℕ). AddsMade n when.word a.entries b.entries) is w.added

@@ -4,16 +4,17 @@ use Rattle.std.specs.List.{All}
 use Rattle.std.proofs.lemmas.Bool.Decides.{eqb_tells}
 use Rattle.http_edge.specs.Edges.{Expects}
 use Rattle.http_edge.proofs.Edging.{empty-expects}
-use Rattle.gateway_world.specs.declared.inbox.Inbox.{Inbox}
 use Rattle.journal_book.specs.Entries.{Written}
-use Rattle.exchange_core.specs.CoreValue.{connections}
-use Rattle.gateway_world.specs.declared.table.Connection.{Connection}
-use Rattle.gateway_world.specs.Inboxes.{Holds}
-use Rattle.gateway_world.specs.Rows.{Row, row_of, row_at, with_waits, without_row}
+use Rattle.exchange_core.specs.CoreValue.{CoreValue, connections}
+use Rattle.gateway_world.specs.declared.connection.Connection.{Connection}
+use Rattle.gateway_world.specs.Inboxes.{Unasked}
+use Rattle.gateway_world.specs.Rows.{Row, row_of, row_at, with_waits, without_row, HasAsk, WaitsFor, IsDue, IsRow, Serves}
 use Rattle.gateway_world.specs.Asks.{Inlet, inlet_of, inbox_at}
 use Rattle.gateway_world.specs.AskSteps.{LeavesInboxes, StaysOrEnds, without_inlet}
-use Rattle.gateway_world.specs.Continuing.{told_of, told_in}
-use Rattle.gateway_world.specs.Prompt.{AwaitsMore, IsPromptOn, IsPrompt, LeavesConnections, work_in, work_at}
+use Rattle.gateway_world.specs.Continuing.{told_in}
+use Rattle.gateway_world.specs.Prompt.{IsOwed, AwaitsMore, IsPromptOn, IsPrompt, LeavesConnections, work_in, work_at}
+use Rattle.gateway_world.proofs.Asking.{row-is}
+use Rattle.gateway_world.proofs.Serving.{waits-for}
 use Rattle.gateway_world.proofs.Heeding.{fresh-inbox}
 use Rattle.gateway_world.proofs.Inlets.{none-stands, inbox-left, inbox-last, inbox-before}
 
@@ -69,9 +70,9 @@ apart-read c rows s i j same others = λ d other. (ap (row_at d) same, others d 
 -- One that is as it was is prompt still.
 prompt-same : (c : ℕ) (r s : List Row) (i j : List Inlet) → row_at c s ≡ row_at c r → inbox_at c j ≡ inbox_at c i → IsPromptOn c r i → IsPromptOn c s j
 prompt-same c r s i j row inbox w = λ text stands.
-    elim (w text (record { inbox = stands.inbox; stands = sym inbox ∙ stands.stands; goes_on = stands.goes_on; holds = stands.holds })) [
+    elim (w text (record { inbox = stands.inbox; stands = sym inbox ∙ stands.stands; goes_on = stands.goes_on; text_is = stands.text_is })) [
       | inl waits ↦ inl (waits.0, record { row = waits.1.row; stands = row ∙ waits.1.stands; waits = waits.1.waits })
-      | inr awaits ↦ inr (subst (λ (o : Option Inbox). AwaitsMore (told_in o) text) (sym inbox) awaits)
+      | inr awaits ↦ inr (subst (λ (o : Option Unasked). AwaitsMore (told_in o) text) (sym inbox) awaits)
     ]
 
 -- All are, where this one is, and the others are as they were.
@@ -104,19 +105,19 @@ row-before (r ∷ rows) x d other =
       | inr u ↦ rw (u.0) (row-before rows x d other)
     ]
 
-same-inbox : (a b : Inbox) → Some a ≡ Some b → a ≡ b
+same-inbox : (a b : Unasked) → Some a ≡ Some b → a ≡ b
 same-inbox a b e = cc
 
-pub prompt-open : {R : Type 0} (cs : List (Connection R)) (s : List Row) (n : ℕ) (inbox : Inbox) (a : List Written) (j : List Inlet) → n ≡ connections a
+pub prompt-open : {R : Type 0} (cs : List (Connection R)) (s : List Row) (n : ℕ) (inbox : Unasked) (a : List Written) (j : List Inlet) → n ≡ connections a
     → All (λ (r : Row). r.number < connections a) (map row_of cs) → s ≡ map row_of cs ++ record { number = n; waits = None } ∷ [] → j ≡ map inlet_of cs ++ record { number = n; inbox = inbox } ∷ []
-    → ((text : List ℕ) → Holds inbox text → text ≡ []) → told_of inbox ≡ false → IsPrompt (map row_of cs) (map inlet_of cs) → IsPrompt s j
+    → inbox.text ≡ [] → inbox.told ≡ false → IsPrompt (map row_of cs) (map inlet_of cs) → IsPrompt s j
 prompt-open {R} cs s n inbox a j fresh below rows put empty none_told all =
     let none : inbox_at n (map inlet_of cs) ≡ None = fresh-inbox cs n (subst (λ (k : ℕ). All (λ (r : Row). r.number < k) (map row_of cs)) (sym fresh) below) in
     let here : inbox_at n j ≡ Some inbox = ap (inbox_at n) put ∙ inbox-last (map inlet_of cs) n inbox none in
     prompt-all n (map row_of cs) s (map inlet_of cs) j
     (λ d other. (ap (row_at d) rows ∙ row-before (map row_of cs) (record { number = n; waits = None }) d other, ap (inbox_at d) put ∙ inbox-before (map inlet_of cs) (record { number = n; inbox = inbox }) d other))
     (λ text stands.
-    let nothing = empty text (subst (λ (b : Inbox). Holds b text) (same-inbox stands.inbox inbox (sym stands.stands ∙ here)) stands.holds) in
+    let nothing : text ≡ [] = sym stands.text_is ∙ ap (λ (b : Unasked). b.text) (same-inbox stands.inbox inbox (sym stands.stands ∙ here)) ∙ empty in
     inr (record {
       idle = inl nothing;
       continued = (λ told. absurd (differs (sym (ap told_in here ∙ none_told) ∙ told)), λ x. absurd (empty-expects (subst Expects nothing x)));
@@ -124,3 +125,13 @@ prompt-open {R} cs s n inbox a j fresh below rows put empty none_told all =
   where
     differs : false ≡ true → ⊥
     differs f = absurd cc
+
+-- Who waits, is owed an answer.
+pub owed-by : (core : CoreValue) (rows : List Row) (c k : ℕ) → Serves core rows → IsRow rows c (Some k) → IsOwed core c k
+owed-by core rows c k s row =
+    let asked = row-is (λ (r : Row). WaitsFor core.entries r.number r.waits) c rows row.row row.stands s.asked in
+    let due = row-is (λ (r : Row). (n : ℕ) → r.waits ≡ Some n → IsDue core n) c rows row.row row.stands s.due in
+    record {
+      asked = subst (λ (n : ℕ). HasAsk core.entries n k) asked.0 (waits-for core.entries row.row.number k row.row.waits row.waits asked.1);
+      due = due.1 k row.waits;
+    }

@@ -14,6 +14,8 @@ use Rattle.exchange_core.specs.Answering.{Given}
 use Rattle.gateway_world.specs.Steps.{answers_at, all_answered}
 use Rattle.gateway_world.specs.CoreSteps.{ComesFrom, IsNewAnswer, AnswersAlone}
 use Rattle.gateway_world.specs.Rows.{Row, HasAsk, WaitsFor, IsThere, IsServed, IsClaimed, Serves, without_row}
+use Rattle.gateway_world.proofs.Due.{RowDue, WaitsBelow, rows-due}
+use Rattle.gateway_world.proofs.Gone.{ended-on, same-ended}
 use Rattle.gateway_world.proofs.Counting.{slice_get-below, slice_get-kept, answers-more, answers-below, answered-from, answered-rise, rising-append, rising-filtered}
 
 abbrev pub number_of : Row → ℕ
@@ -148,6 +150,11 @@ claimed-new a b more rows g entries s from w =
     both P Q [] p q = All-nil (λ (y : Conn). P y × Q y)
     both P Q (y ∷ xs) p q = All-cons (λ (y : Conn). P y × Q y) y xs (All-head P y xs p, All-head Q y xs q) (both P Q xs (All-tail P y xs p) (All-tail Q y xs q))
 
+-- what rows wait for stands in the history
+pub rows-below : (h : List Written) (rows : List Row) → All (λ (r : Row). WaitsFor h r.number r.waits) rows → All (WaitsBelow h) rows
+rows-below h rows all =
+    All-weaker (λ (r : Row). WaitsFor h r.number r.waits) (WaitsBelow h) (λ r v k e. ask-below h r.number k (waits-for h r.number k r.waits e v)) rows all
+
 -- a step in which no connection opens, and none asks
 pub serves-on : (a b : CoreValue) (rows : List Row) → AnswersAlone a b → Serves a rows → Serves b rows
 serves-on a b rows w s =
@@ -170,6 +177,8 @@ serves-on a b rows w s =
       in_order = rw (w.step.answers, map-append number_in a.answers w.step.given, w.step.numbers)
           (rising-append (map number_in a.answers) (all_answered (length h) more) (length h) s.in_order (standing h a.conns rows a.answers s.claimed)
           (answered-rise (length h) more) (answered-from (length h) more));
+      ended = ended-on a b more entries w.opens w.stay s.ended;
+      due = rows-due a b rows more w.step.given entries w.step.answers w.step.asks (rows-below h rows s.asked) s.due;
     }
 
 -- the others stay
@@ -209,6 +218,8 @@ serves-without a rows c gone s =
         done = w.done;
       }) a.answers s.claimed;
       in_order = s.in_order;
+      due = All-filter p (RowDue a) rows s.due;
+      ended = s.ended;
     }
 
 -- what the rows go with stays the same
@@ -225,6 +236,8 @@ same-serves a b rows w s = record {
   served = rw (w.entries, w.conns) (s.served);
   claimed = rw (w.entries, w.conns, w.answers) (s.claimed);
   in_order = rw (w.answers) (s.in_order);
+  due = rw (w.entries, w.answers) (s.due);
+  ended = same-ended a b w.entries w.conns s.ended;
 }
 
 -- where a call is refused

@@ -84,9 +84,6 @@ leaves-none c a rows = record {
   kept = λ k lt w. w;
 }
 
-pub leaves-same : (c : ℕ) (a b : CoreValue) (rows : List Row) → b.answers ≡ a.answers → LeavesOthers c a rows b rows
-leaves-same c a b rows answers = record { others = (leaves-none c a rows).others; stay = (leaves-none c a rows).stay; kept = λ k lt w. rw answers w }
-
 -- the row of a connection is set
 pub leaves-with : (c : ℕ) (k : Option ℕ) (a b : CoreValue) (rows : List Row) (r0 : Row) → Serves a rows → row_at c rows ≡ Some r0 → ((k : ℕ) → k < length a.entries → IsOpen a k → IsOpen b k)
     → LeavesOthers c a rows b (with_waits c k rows)
@@ -140,6 +137,10 @@ leaves-on c a b d ra rb rd grows first second = record {
 pub on-ok : {X E : Type 0} (r : Result X E) (P : Type 0) → P → OnOk r P
 on-ok (Ok x) P p = p
 on-ok (Err e) P p = tt
+
+pub ok-if : {X E : Type 0} (r : Result X E) (P Q : Type 0) → OnOk r Q → OnOk r (P → Q)
+ok-if (Ok x) P Q q = λ p. q
+ok-if (Err e) P Q q = tt
 
 pub told-then : {X E : Type 0} (r : Result X E) (P Q : Type 0) → P → OnOk r (P → Q) → OnOk r Q
 told-then (Ok x) P Q p f = f p

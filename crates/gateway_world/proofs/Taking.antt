@@ -4,17 +4,18 @@ use Rattle.std.specs.Prelude.{◌==◌}
 use Rattle.std.specs.List.{All, Contains, filter}
 use Rattle.std.proofs.lemmas.Bool.{cases_Bool}
 use Rattle.std.proofs.lemmas.Bool.Decides.{eqb_tells}
-use Rattle.std.proofs.lemmas.List.Elements.{All-nil, All-cons, All-head, All-tail, All-weaker, All-map, All-filter, All-contains, All-contains_itself, filter_passes}
+use Rattle.std.proofs.lemmas.List.Elements.{All-nil, All-cons, All-head, All-tail, All-weaker, All-map, All-filter, All-contains, All-contains_itself, Contains-append_right, filter_passes}
 use Rattle.journal_book.specs.Entries.{Written}
 use Rattle.history_laws.specs.declared.kept.Conn.{Conn}
 use Rattle.exchange_core.specs.CoreValue.{CoreValue, connections}
 use Rattle.exchange_core.specs.declared.answer.Answer.{Answer}
 use Rattle.exchange_core.specs.Answering.{Given, IsGiven, given_of}
-use Rattle.exchange_core.proofs.Taking.{none-taken}
 use Rattle.gateway_world.specs.Steps.{answers_at, answers_in, untold, told_by}
 use Rattle.gateway_world.specs.Rows.{Row, AreRising, HasAsk, WaitsFor, IsServed, IsClaimed, Serves, IsRow, with_waits}
+use Rattle.gateway_world.proofs.Gone.{same-ended}
+use Rattle.gateway_world.proofs.Due.{ask_in, RowDue}
 use Rattle.gateway_world.proofs.Counting.{rising-filtered}
-use Rattle.gateway_world.proofs.Serving.{number_in, some-same, ask-one, waits-for, SameServed}
+use Rattle.gateway_world.proofs.Serving.{number_in, some-same, ask-one, waits-for}
 use Rattle.gateway_world.proofs.Asking.{all-with, row-is, with-numbers}
 
 -- an answer that is taken, and all that is left
@@ -40,12 +41,6 @@ takes-from a b k x some once answers entries conns = record {
 
 pub row-for : (rows : List Row) (c j k : ℕ) → j ≡ k → IsRow rows c (Some k) → IsRow rows c (Some j)
 row-for rows c j k same w = record { row = w.row; stands = w.stands; waits = w.waits ∙ ap Some (sym same) }
-
--- nothing is taken
-pub nothing-taken : (a b : CoreValue) (k : ℕ) → All (λ (g : Given). g.ask ≢ k) a.answers → b.answers ≡ filter (λ (g : Given). not (g.ask == k)) a.answers
-    → b.entries ≡ a.entries → b.conns ≡ a.conns → SameServed a b
-nothing-taken a b k none answers entries conns =
-    record { entries = entries; conns = conns; answers = answers ∙ none-taken (λ (g : Given). g.ask) a.answers k none }
 
 true≢false : true ≡ false → ⊥
 true≢false e = absurd cc
@@ -154,6 +149,41 @@ taken-told a b rows c g s row t d =
           rw (u.0, t.entries, t.answers) (all-left p g.ask a.answers out)
     ]
 
+-- What the others wait for is due still.
+kept-untaken : (k j : ℕ) (gs : List Given) → k ≢ j → Contains (map ask_in gs) k → Contains (map ask_in (filter (λ (x : Given). not (x.ask == j)) gs)) k
+kept-untaken k j [] other has = let lt = has.1 in absurd (omega (arith, lt))
+kept-untaken k j (x ∷ gs) other (zero, lt, is) =
+    elim (eqb_tells x.ask j) [ inl u ↦ absurd (other (sym is ∙ u.1)) | inr u ↦ rw (u.0) (0, omega arith, is) ]
+kept-untaken k j (x ∷ gs) other (suc i, lt, is) =
+    let rest = kept-untaken k j gs other (i, omega (arith, lt), is) in
+    elim (eqb_tells x.ask j) [
+      | inl u ↦ rw (u.0) rest
+      | inr u ↦ rw (u.0) (Contains-append_right (x.ask ∷ []) (map ask_in (filter (λ (x : Given). not (x.ask == j)) gs)) k rest)
+    ]
+
+taken-due : (a b : CoreValue) (rows : List Row) (c : ℕ) (g : Given) → Serves a rows → IsRow rows c (Some g.ask) → Takes a b g → All (RowDue b) (with_waits c None rows)
+taken-due a b rows c g s row t =
+    let h : List Written = a.entries in
+    let mine = row-is (λ (r : Row). WaitsFor h r.number r.waits) c rows row.row row.stands s.asked in
+    let asks : HasAsk h row.row.number g.ask = waits-for h row.row.number g.ask row.row.waits row.waits mine.1 in
+    all-with (λ (r : Row). WaitsFor h r.number r.waits × RowDue a r) (RowDue b) c None rows row.row s.numbered row.stands
+    (λ r away w k e. elim (w.1 k e) [
+      | inl none ↦ inl (rw (t.entries) none)
+      | inr untaken ↦ inr (rw (t.answers) (kept-untaken k g.ask a.answers
+          (λ same. away (ask-one h r.number row.row.number g.ask (subst (HasAsk h r.number) same (waits-for h r.number k r.waits e w.0)) asks ∙ mine.0)) untaken))
+    ])
+    (λ is w k e. absurd (none-is k e))
+    (both rows s.asked s.due)
+  where
+    none-is : (k : ℕ) → None ≡ Some k → ⊥
+    none-is k e = absurd cc
+
+    both : (rs : List Row) → All (λ (r : Row). WaitsFor a.entries r.number r.waits) rs → All (RowDue a) rs → All (λ (r : Row). WaitsFor a.entries r.number r.waits × RowDue a r) rs
+    both [] v w = All-nil (λ (r : Row). WaitsFor a.entries r.number r.waits × RowDue a r)
+    both (r ∷ rs) v w =
+        All-cons (λ (r : Row). WaitsFor a.entries r.number r.waits × RowDue a r) r rs (All-head (λ (r : Row). WaitsFor a.entries r.number r.waits) r rs v, All-head (RowDue a) r rs w)
+        (both rs (All-tail (λ (r : Row). WaitsFor a.entries r.number r.waits) r rs v) (All-tail (RowDue a) r rs w))
+
 -- The connection's row waits for nothing any more.
 pub taken-serves : (a b : CoreValue) (rows : List Row) (c : ℕ) (g : Given) → Serves a rows → IsRow rows c (Some g.ask) → Takes a b g → Serves b (with_waits c None rows)
 taken-serves a b rows c g s row t =
@@ -190,6 +220,8 @@ taken-serves a b rows c g s row t =
       served = rw (t.entries, t.conns) served;
       claimed = rw (t.entries, t.conns, t.answers) claimed;
       in_order = rw (t.answers) (rising-filtered number_in p a.answers s.in_order);
+      due = taken-due a b rows c g s row t;
+      ended = same-ended a b t.entries t.conns s.ended;
     }
   where
     both : (P Q : Given → Type 0) (xs : List Given) → All P xs → All Q xs → All (λ (y : Given). P y × Q y) xs

@@ -1,13 +1,12 @@
 -- When a client that waits with its body is told to go on (RFC 9110, section 10.1.1).
-use Rattle.std.specs.Prelude.{◌≡◌, ◌≢◌, ◌⊎◌, ℕ, ◌+◌, ◌==◌, ◌&&◌, not, Bool, true, false, List, [], ◌++◌, get_or, count_by, Option, Some, None}
-use Rattle.http_edge.specs.Edges.{is_told}
+use Rattle.std.specs.Prelude.{◌≡◌, ◌≢◌, ◌⊎◌, ℕ, ◌+◌, ◌==◌, ◌&&◌, Bool, true, false, List, [], ◌++◌, get_or, count_by, Option, Some, None}
 use Rattle.ask_model.specs.Requests.{Ask}
 use Rattle.journal_book.specs.Entries.{Written}
-use Rattle.gateway_world.specs.declared.inbox.Inbox.{Inbox}
 use Rattle.gateway_world.specs.declared.inbox.Next.{Next}
 use Rattle.gateway_world.specs.declared.inbox.Next.TheVariants as N
 use Rattle.gateway_world.specs.declared.input.Output.{Output}
 use Rattle.gateway_world.specs.declared.input.Output.TheVariants as Out
+use Rattle.gateway_world.specs.Inboxes.{Unasked}
 use Rattle.gateway_world.specs.Rows.{Row, IsRow}
 use Rattle.gateway_world.specs.Asks.{Inlet, inbox_at, IsOver, asked_on}
 
@@ -23,13 +22,10 @@ is_interim_to c _ = false
 abbrev pub interims : ℕ → List Output → ℕ
 interims c outputs = count_by (is_interim_to c) outputs
 
--- Whether its client was told to go on with the request that is next. Behind the last request there is none.
-abbrev pub told_of : Inbox → Bool
-told_of i = not i.closing && is_told i.edge
-
-abbrev pub told_in : Option Inbox → Bool
+-- Whether its client was told to go on with the request that is next.
+abbrev pub told_in : Option Unasked → Bool
 told_in None = false
-told_in (Some i) = told_of i
+told_in (Some u) = u.told
 
 abbrev pub told_at : ℕ → List Inlet → Bool
 told_at c inlets = told_in (inbox_at c inlets)
@@ -65,10 +61,10 @@ pub record GivesFinal (x y : List Output) : Type 0 where
   pub same : (c : ℕ) → interims c y ≡ interims c x
 
 -- what reading next leaves told
-abbrev pub TellsNext : Next → Inbox → Inbox → Type 0
-TellsNext (N.Request incoming) old new = told_of new ≡ false
-TellsNext N.Continue old new = (old.closing ≡ false) × (told_of old ≡ false) × (told_of new ≡ true)
-TellsNext N.Nothing old new = told_of new ≡ told_of old
+abbrev pub TellsNext : Next → Unasked → Unasked → Type 0
+TellsNext (N.Request incoming) old new = new.told ≡ false
+TellsNext N.Continue old new = (old.closing ≡ false) × (old.told ≡ false) × (new.told ≡ true)
+TellsNext N.Nothing old new = new.told ≡ old.told
 
 -- the same of the connection
 abbrev pub TellsAt : Next → ℕ → List Inlet → List Inlet → Type 0

@@ -3,8 +3,9 @@ use Rattle.std.specs.Prelude.{◌≡◌, ◌≢◌, ◌⊎◌, ◌==◌, ℕ, Li
 use Rattle.std.specs.List.{All, Contains}
 use Rattle.history_laws.specs.declared.kept.Conn.{Conn}
 use Rattle.exchange_core.specs.Answering.{Given}
-use Rattle.exchange_core.specs.CoreValue.{CoreValue}
+use Rattle.exchange_core.specs.CoreValue.{CoreValue, connections}
 use Rattle.gateway_world.specs.Steps.{answers_at, Advances}
+use Rattle.gateway_world.specs.Rows.{OpenOrShut}
 
 -- A connection of the core that was there before, and waits for the same ask, or for none any more.
 pub record ComesFrom (conns : List Conn) (y : Conn) : Type 0 where
@@ -21,8 +22,10 @@ pub record IsNewAnswer (old new : CoreValue) (g : Given) : Type 0 where
   pub stands : (c : ℕ) → answers_at new.entries g.number c ≡ (conn.id == c)
   pub done : All (λ (x : Conn). x.id ≡ conn.id → x.pending ≢ Some g.ask) new.conns
 
--- A step in which no connection opens, and none asks.
+-- A step in which no connection opens, and none asks; each goes on or is closed.
 pub record AnswersAlone (old new : CoreValue) : Type 0 where
   pub step : Advances old new
   pub conns : All (ComesFrom old.conns) new.conns
   pub answers : All (IsNewAnswer old new) step.given
+  pub opens : connections new.entries ≡ connections old.entries
+  pub stay : All (λ (x : Conn). OpenOrShut new x.id) old.conns

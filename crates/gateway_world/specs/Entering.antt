@@ -39,10 +39,10 @@ EntersOpening (Err Fault.Memory) t old new = new.entries ≡ old.entries
 abbrev pub IsHeardOrSealed : ℕ → Peer → List ℕ → CoreValue → Written → Type 0
 IsHeardOrSealed t p b old w = (w ≡ written t (Hears p b)) ⊎ ((w ≡ written t Seals) × HasNoRoom b old)
 
--- It is entered first, or dropped; where it is dropped and no answer waited, nothing is entered.
+-- It is entered first, or dropped, and then nothing is entered.
 abbrev pub EntersDatagram : ℕ → Peer → List ℕ → CoreValue → CoreValue → Type 0
 EntersDatagram t p b old new =
-    (IsDropped p b old × (old.answers ≡ [] → new.entries ≡ old.entries))
+    (IsDropped p b old × (new.entries ≡ old.entries))
     ⊎ AddsFirst (IsHeardOrSealed t p b old) old.entries new.entries
 
 -- That time went on, or the seal, or in a sealed journal that an exchange took too long.
@@ -55,9 +55,9 @@ IsTickDeed _ = ⊥
 abbrev pub IsTickEntry : ℕ → Written → Type 0
 IsTickEntry t w = (w.moment ≡ t) × IsTickDeed w.deed
 
--- Where nothing is past its time and no answer waited, nothing is entered.
+-- Where nothing is past its time, nothing is entered.
 abbrev pub EntersTick : ℕ → CoreValue → CoreValue → Type 0
-EntersTick t old new = (old.answers ≡ [] → new.entries ≡ old.entries) ⊎ AddsFirst (IsTickEntry t) old.entries new.entries
+EntersTick t old new = (new.entries ≡ old.entries) ⊎ AddsFirst (IsTickEntry t) old.entries new.entries
 
 -- the same of the core's step
 abbrev pub TicksFirst : ℕ → CoreValue → CoreValue → Type 0
@@ -68,7 +68,7 @@ abbrev pub EntersClose : ℕ → ℕ → CoreValue → CoreValue → Type 0
 EntersClose t c old new =
     (All (λ (x : Conn). x.id ≢ c) old.conns × (new.entries ≡ old.entries)) ⊎ (new.entries ≡ old.entries ++ written t (Shuts c) ∷ [])
 
--- What an input enters first, at this moment; of bytes AsksFirst says what is asked.
+-- What an input enters first, at this moment, where no answer waited; of bytes AsksFirst says what is asked.
 abbrev pub Enters : Happening → ℕ → CoreValue → CoreValue → List Output → List Output → Type 0
 Enters H.Open t old new before after = EntersOpen t old new before after
 Enters (H.Bytes c bytes) t old new before after = ⊤

@@ -1,11 +1,16 @@
 -- That nothing waits which could be asked, nor a client that could be told to go on.
 use Rattle.std.specs.Prelude.{◌≡◌, ◌≢◌, ◌⊎◌, ◌↔◌, ℕ, Bool, true, List, Option, Some, None}
 use Rattle.http_edge.specs.Edges.{Expects}
-use Rattle.gateway_world.specs.declared.inbox.Inbox.{Inbox}
-use Rattle.gateway_world.specs.Inboxes.{IsIdle, work_of}
-use Rattle.gateway_world.specs.Rows.{Row, IsRow, row_at}
+use Rattle.gateway_world.specs.Inboxes.{Unasked, IsIdle, work_of}
+use Rattle.exchange_core.specs.CoreValue.{CoreValue}
+use Rattle.gateway_world.specs.Rows.{Row, HasAsk, IsDue, IsRow, row_at}
 use Rattle.gateway_world.specs.Asks.{Inlet, inbox_at, StandsFor}
 use Rattle.gateway_world.specs.Continuing.{told_at}
+
+-- The ask is one of the connection, and its answer is due.
+pub record IsOwed (core : CoreValue) (c k : ℕ) : Type 0 where
+  pub asked : HasAsk core.entries c k
+  pub due : IsDue core k
 
 -- The connection waits for the answer to an ask.
 abbrev pub IsWaiting : List Row → ℕ → Type 0
@@ -30,7 +35,7 @@ abbrev pub LeavesConnections : ℕ → List Row → List Inlet → List Row → 
 LeavesConnections c rows inlets rows1 inlets1 = (d : ℕ) → d ≢ c → (row_at d rows1 ≡ row_at d rows) × (inbox_at d inlets1 ≡ inbox_at d inlets)
 
 -- what is left to read on the connection at most
-abbrev pub work_in : Option Inbox → ℕ
+abbrev pub work_in : Option Unasked → ℕ
 work_in None = 0
 work_in (Some inbox) = work_of inbox
 

@@ -1,16 +1,19 @@
 -- The connections that are served, and how they go with the core.
-use Rattle.std.specs.Prelude.{◌≡◌, ◌≢◌, ℕ, ◌<◌, ◌≤◌, ◌==◌, Bool, true, false, not, List, [], ◌∷◌, length, map, filter, Option, Some, None, option_map, slice_get, ⊤, if◌then◌else◌}
+use Rattle.std.specs.Prelude.{◌≡◌, ◌≢◌, ◌⊎◌, ℕ, ◌+◌, ◌<◌, ◌≤◌, ◌==◌, Bool, true, false, not, List, [], ◌∷◌, length, drop, map, filter, Option, Some, None, option_map, slice_get, ⊤, if◌then◌else◌}
 use Rattle.std.specs.List.{All, Contains}
+use Rattle.std.specs.Arc.{arc_value}
+use Rattle.ask_model.specs.Views.{Mapping}
 use Rattle.ask_model.specs.Requests.{Ask}
 use Rattle.journal_book.specs.Entries.{Asks, Written}
 use Rattle.history_laws.specs.declared.kept.Conn.{Conn}
 use Rattle.exchange_core.specs.Answering.{Given}
 use Rattle.exchange_core.specs.CoreValue.{CoreValue, connections, written}
-use Rattle.gateway_world.specs.declared.table.Connection.{Connection}
+use Rattle.gateway_world.specs.declared.connection.Connection.{Connection}
 use Rattle.gateway_world.specs.declared.table.Table.{Table}
 use Rattle.gateway_world.specs.declared.inbox.Next.{Next}
 use Rattle.gateway_world.specs.declared.inbox.Next.TheVariants as N
-use Rattle.gateway_world.specs.Steps.{answers_at}
+use Rattle.gateway_world.specs.Closing.{shut_in}
+use Rattle.gateway_world.specs.Steps.{answers_at, asks_answered}
 
 -- a connection, and the ask whose answer is due next
 pub record Row : Type 0 where
@@ -20,8 +23,19 @@ pub record Row : Type 0 where
 abbrev pub row_of : {R : Type 0} → Connection R → Row
 row_of c = record { number = c.number; waits = option_map (λ t. t.number) c.ticket }
 
+-- those that aren't closed
+abbrev pub open_of : {R : Type 0} → List (Connection R) → List (Connection R)
+open_of cs = filter (λ c. not c.closed) cs
+
 abbrev pub rows_of : {R : Type 0} → Table R → List Row
-rows_of t = map row_of t.rows.items
+rows_of t = map row_of (open_of t.rows.items)
+
+-- what each asked that waits
+abbrev pub waiting_on : {R : Type 0} → Connection R → Option Mapping
+waiting_on c = option_map (λ t. arc_value t.mapped) c.ticket
+
+abbrev pub waiting_of : {R : Type 0} → Table R → List (Option Mapping)
+waiting_of t = map waiting_on (open_of t.rows.items)
 
 -- what is asked next is a request
 abbrev pub is_request : Next → Bool
@@ -71,6 +85,18 @@ pub record IsClaimed (h : List Written) (conns : List Conn) (rows : List Row) (g
   pub row : All (λ (r : Row). answers_at h g.number r.number ≡ true → r.waits ≡ Some g.ask) rows
   pub done : All (λ (x : Conn). x.pending ≢ Some g.ask) conns
 
+-- No entry behind the ask answers it.
+abbrev pub IsUnanswered : List Written → ℕ → Type 0
+IsUnanswered h k = All (λ (j : ℕ). j ≢ k) (asks_answered (drop (k + 1) h))
+
+-- The answer to an ask is due: there is none yet, or it waits to be taken.
+abbrev pub IsDue : CoreValue → ℕ → Type 0
+IsDue core k = IsUnanswered core.entries k ⊎ Contains (map (λ (g : Given). g.ask) core.answers) k
+
+-- The connection is open in the core, or an entry closes it.
+abbrev pub OpenOrShut : CoreValue → ℕ → Type 0
+OpenOrShut core c = Contains (map (λ (x : Conn). x.id) core.conns) c ⊎ Contains (shut_in core.entries) c
+
 -- A core goes with the rows of the connections that are served.
 pub record Serves (c : CoreValue) (rows : List Row) : Type 0 where
   pub numbered : AreRising (map (λ (r : Row). r.number) rows)
@@ -79,6 +105,8 @@ pub record Serves (c : CoreValue) (rows : List Row) : Type 0 where
   pub served : All (IsServed c.entries rows) c.conns
   pub claimed : All (IsClaimed c.entries c.conns rows) c.answers
   pub in_order : AreRising (map (λ (g : Given). g.number) c.answers)
+  pub due : All (λ (r : Row). (k : ℕ) → r.waits ≡ Some k → IsDue c k) rows
+  pub ended : (n : ℕ) → n < connections c.entries → OpenOrShut c n
 
 -- the first row of the connection
 abbrev pub row_at : ℕ → List Row → Option Row

@@ -1,5 +1,5 @@
 -- What steps of a world lead to.
-use Rattle.std.specs.Prelude.{◌≡◌, ℕ, ◌+◌, ◌==◌, Bool, true, false, List, [], ◌∷◌, ◌++◌, length, map, filter, Option, Some, None, Result, Ok, Err, codes, flat_map, slice_get, ⊤, if◌then◌else◌}
+use Rattle.std.specs.Prelude.{◌≡◌, ℕ, ◌+◌, ◌==◌, Bool, true, false, List, [], ◌∷◌, ◌++◌, length, map, filter, Option, Some, None, codes, flat_map, slice_get, ⊤, if◌then◌else◌}
 use Rattle.http_edge.specs.Answers.{answer_text}
 use Rattle.http_edge.specs.declared.answer.HttpAnswer.{HttpAnswer}
 use Rattle.journal_book.specs.Entries.{Written, Deed, Answers}
@@ -88,9 +88,19 @@ told_by c (Some t) = if t.conn == c then t.number ∷ [] else []
 abbrev pub told_to : ℕ → List (Option Telling) → List ℕ
 told_to c ts = flat_map (told_by c) ts
 
--- The datagrams given out are, in order, those that waited and those that the added entries send, but for
--- those that wait still. What a connection is told are, in order, the answers that it wasn't told yet and
--- those of the added entries, but for those that it isn't told still.
+-- What is given out, by the entries that are added: the datagrams are those that these send, in order; each
+-- connection is told their answers to it, in order, and else nothing but to go on.
+pub record GivesOut (old new : List Written) (outputs : List Output) : Type 0 where
+  pub more : List Written
+  pub entries : new ≡ old ++ more
+  pub sent : datagrams outputs ≡ sendings more
+  pub tellings : List (Option Telling)
+  pub told : AllTell new outputs tellings
+  pub answers : (c : ℕ) → told_to c tellings ≡ answered c (length old) more
+
+-- The same of a step, where some wait still: the datagrams given out are, in order, those that waited and those that
+-- the added entries send, but for those that wait still. What a connection is told are, in order, the answers that it
+-- wasn't told yet and those of the added entries, but for those that it isn't told still.
 pub record Gives (old new : CoreValue) (outputs : List Output) : Type 0 where
   pub more : List Written
   pub entries : new.entries ≡ old.entries ++ more
@@ -98,14 +108,6 @@ pub record Gives (old new : CoreValue) (outputs : List Output) : Type 0 where
   pub tellings : List (Option Telling)
   pub told : AllTell new.entries outputs tellings
   pub answers : (c : ℕ) → untold old c ++ answered c (length old.entries) more ≡ told_to c tellings ++ untold new c
-
--- The outputs of a whole run: the datagrams are those that the entries send, in order; each connection is told
--- the answers of the entries to it, in order, and else nothing but to go on.
-pub record TellsAll (h : List Written) (outputs : List Output) : Type 0 where
-  pub sent : datagrams outputs ≡ sendings h
-  pub tellings : List (Option Telling)
-  pub told : AllTell h outputs tellings
-  pub answers : (c : ℕ) → told_to c tellings ≡ answered c 0 h
 
 -- whether the deed answers some connection
 abbrev pub is_answer : Deed → Bool
@@ -116,6 +118,14 @@ is_answer _ = false
 abbrev pub all_answered : ℕ → List Written → List ℕ
 all_answered n ws = numbered_where is_answer n ws
 
+-- the asks that entries answer, in order
+abbrev pub asks_answered_by : Deed → List ℕ
+asks_answered_by (Answers c ask grounds) = ask ∷ []
+asks_answered_by _ = []
+
+abbrev pub asks_answered : List Written → List ℕ
+asks_answered ws = flat_map (λ (w : Written). asks_answered_by w.deed) ws
+
 -- A step of the core: entries are added, and what they send and answer waits.
 pub record Advances (old new : CoreValue) : Type 0 where
   pub more : List Written
@@ -124,6 +134,7 @@ pub record Advances (old new : CoreValue) : Type 0 where
   pub given : List Given
   pub answers : new.answers ≡ old.answers ++ given
   pub numbers : map (λ (g : Given). g.number) given ≡ all_answered (length old.entries) more
+  pub asks : map (λ (g : Given). g.ask) given ≡ asks_answered more
 
 -- One output is added, which is no datagram, and tells this.
 pub record AddsTold (h : List Written) (t : Option Telling) (before after : List Output) : Type 0 where
@@ -137,8 +148,3 @@ pub record Goes (old new : CoreValue) (before after : List Output) : Type 0 wher
   pub given : List Output
   pub added : after ≡ before ++ given
   pub gives : Gives old new given
-
--- A call leads to that; where it is refused, entries are added alone.
-abbrev pub Leads : {X E : Type 0} → Result X E → CoreValue → CoreValue → List Output → List Output → Type 0
-Leads (Ok x) old new before after = Goes old new before after
-Leads (Err e) old new before after = Grows old.entries new.entries

@@ -5,19 +5,20 @@ ghost use Rattle.std.specs.Arc.{arc_value};
 ghost use Rattle.http_edge.specs.Edges.{item};
 ghost use Rattle.ask_model.specs.Views.{rules_of};
 ghost use Rattle.ask_model.specs.Maps.{Maps};
-ghost use Rattle.exchange_core.specs.CoreValue.{now};
+ghost use Rattle.exchange_core.specs.CoreValue.{now, marked_now, gone_back};
 ghost use Rattle.gateway_world.specs.Entering.{Enters, EntersOpen, EntersDatagram, EntersTick, EntersClose};
-ghost use Rattle.gateway_world.specs.Asks.{inlets_of, AsksNothing, AsksFirst, StandsFor, IsOver, Heeds};
+ghost use Rattle.gateway_world.specs.Asks.{inlets_of, AsksNothing, AsksFirst, StandsFor, IsOver, IsGone, Heeds};
 ghost use Rattle.gateway_world.specs.Making.{Makes};
 ghost use Rattle.gateway_world.specs.Continuing.{TellsToGoOn, TellsOne, GivesFinal};
 ghost use Rattle.gateway_world.specs.Closing.{Closes, TellsClosings, shut_in, closed_if};
 ghost use Rattle.gateway_world.specs.Prompt.{IsPrompt, IsPromptOn, LeavesConnections, work_at};
 ghost use Rattle.gateway_world.specs.AskSteps.{AsksInOrder, AsksOn, AsksOne, AsksNone};
-ghost use Rattle.gateway_world.specs.Steps.{Advances, Leads};
+ghost use Rattle.gateway_world.specs.Steps.{Advances, Goes};
 ghost use Rattle.gateway_world.specs.Rows.{Serves, Settled, Attended, LeavesOthers, IsServedOn, IsFirstAnswered, IsRow, rows_of, without_row};
+ghost use Rattle.gateway_world.specs.Undo.{shown, shown_at_mark};
 
 use crate::fields::closes;
-use crate::inbox::Next;
+use crate::inbox::{Inbox, Next};
 use crate::input::{Happening, Output};
 use crate::mapping::map_request;
 use crate::stepping::{When, ask_in, close_in, hear_in, open_in, send_from, tick_in};
@@ -25,7 +26,7 @@ use crate::table::Table;
 use crate::telling::{tell_answer, tell_closed, tell_continue, tell_turned};
 use ask_model::Settings;
 use exchange_core::{AskFault, Core};
-use http_edge::{Edge, Incoming, Memory};
+use http_edge::{Incoming, Memory};
 use std::alloc::Global;
 use std::sync::Arc;
 use transformers::Relation;
@@ -47,6 +48,26 @@ pub struct Engine<R: Relation> {
 }
 
 impl<R: Relation> Engine<R> {
+    /// Marks the core and the connections as they are.
+    pub fn mark(&mut self)
+        ensures core { Settled self.old.core → self.new.core ≡ marked_now self.old.core }
+        ensures shown { shown self.new.table ≡ shown self.old.table }
+        ensures marked { shown_at_mark self.new.table ≡ shown self.old.table }
+    {
+        self.core.mark();
+        self.table.mark();
+    }
+
+    /// Goes back to the core and the connections at the mark. It takes no memory.
+    pub fn back(&mut self)
+        ensures core { IfSome self.old.core.marked (λ m. self.new.core ≡ gone_back m) }
+        ensures shown { shown self.new.table ≡ shown_at_mark self.old.table }
+        ensures marked { shown_at_mark self.new.table ≡ shown_at_mark self.old.table }
+    {
+        self.core.back();
+        self.table.back();
+    }
+
     /// Does what happens leads to.
     pub fn step(
         &mut self,
@@ -55,13 +76,15 @@ impl<R: Relation> Engine<R> {
         outputs: &mut Vec<Output>,
     ) -> Result<(), Memory>
         requires { Serves self.old.core (rows_of self.old.table) }
-        ensures leads { Leads result self.old.core self.new.core outputs.old.items outputs.new.items }
-        ensures kept { Serves self.new.core (rows_of self.new.table) }
-        ensures made { Makes context.entry.when self.old.core self.new.core }
+        ensures leads { OnOk result (Goes self.old.core self.new.core outputs.old.items outputs.new.items) }
+        ensures kept { OnOk result (Serves self.new.core (rows_of self.new.table)) }
+        ensures marked { shown_at_mark self.new.table ≡ shown_at_mark self.old.table }
+        ensures core_mark { self.new.core.marked ≡ self.old.core.marked }
+        ensures made { OnOk result (Makes context.entry.when self.old.core self.new.core) }
         ensures closes { OnOk result (Closes happening.entry self.old.core.entries self.new.core.entries outputs.old.items outputs.new.items) }
         ensures continues { OnOk result ((c : ℕ) → TellsToGoOn c self.old.core.entries (inlets_of self.old.table) outputs.old.items self.new.core.entries (rows_of self.new.table) (inlets_of self.new.table) outputs.new.items) }
         ensures prompt { OnOk result (IsPrompt (rows_of self.old.table) (inlets_of self.old.table) → IsPrompt (rows_of self.new.table) (inlets_of self.new.table)) }
-        ensures enters { OnOk result (Enters happening.entry (now self.old.core.moment context.entry.when.moment) self.old.core self.new.core outputs.old.items outputs.new.items) }
+        ensures enters { OnOk result (self.old.core.answers ≡ [] → Enters happening.entry (now self.old.core.moment context.entry.when.moment) self.old.core self.new.core outputs.old.items outputs.new.items) }
         ensures asks { OnOk result ((c : ℕ) → Heeds (Maps R.holds R.takes (rules_of (arc_value context.entry.settings.now))) c happening.entry self.old.core.entries (inlets_of self.old.table) self.new.core.entries (inlets_of self.new.table)) }
         ensures settled { OnOk result (Settled self.old.core → Settled self.new.core) }
     {
@@ -80,9 +103,11 @@ impl<R: Relation> Engine<R> {
     /// Opens a connection, or turns the client away.
     fn open(&mut self, context: Context<'_>, outputs: &mut Vec<Output>) -> Result<(), Memory>
         requires { Serves self.old.core (rows_of self.old.table) }
-        ensures leads { Leads result self.old.core self.new.core outputs.old.items outputs.new.items }
-        ensures kept { Serves self.new.core (rows_of self.new.table) }
-        ensures made { Makes context.entry.when self.old.core self.new.core }
+        ensures leads { OnOk result (Goes self.old.core self.new.core outputs.old.items outputs.new.items) }
+        ensures kept { OnOk result (Serves self.new.core (rows_of self.new.table)) }
+        ensures marked { shown_at_mark self.new.table ≡ shown_at_mark self.old.table }
+        ensures core_mark { self.new.core.marked ≡ self.old.core.marked }
+        ensures made { OnOk result (Makes context.entry.when self.old.core self.new.core) }
         ensures closes { OnOk result (TellsClosings self.old.core.entries self.new.core.entries outputs.old.items outputs.new.items) }
         ensures continues { OnOk result ((c : ℕ) → TellsToGoOn c self.old.core.entries (inlets_of self.old.table) outputs.old.items self.new.core.entries (rows_of self.new.table) (inlets_of self.new.table) outputs.new.items) }
         ensures prompt { OnOk result (IsPrompt (rows_of self.old.table) (inlets_of self.old.table) → IsPrompt (rows_of self.new.table) (inlets_of self.new.table)) }
@@ -90,11 +115,11 @@ impl<R: Relation> Engine<R> {
         ensures asks { OnOk result ((c : ℕ) → Heeds (Maps R.holds R.takes (rules_of (arc_value context.entry.settings.now))) c Happening.Open self.old.core.entries (inlets_of self.old.table) self.new.core.entries (inlets_of self.new.table)) }
         ensures settled { OnOk result (Settled self.old.core → Settled self.new.core) }
     {
-        let edge = Edge::new(self.alloc)?;
+        let inbox = Inbox::new(self.alloc)?;
         self.table.make_room()?;
         match open_in(&mut self.core, context.when) {
             Ok(number) => {
-                self.table.add(number, edge);
+                self.table.add(number, inbox);
                 Ok(())
             }
             Err(fault) => tell_turned(fault, outputs),
@@ -110,9 +135,11 @@ impl<R: Relation> Engine<R> {
         outputs: &mut Vec<Output>,
     ) -> Result<(), Memory>
         requires { Serves self.old.core (rows_of self.old.table) }
-        ensures leads { Leads result self.old.core self.new.core outputs.old.items outputs.new.items }
-        ensures kept { Serves self.new.core (rows_of self.new.table) }
-        ensures made { Makes context.entry.when self.old.core self.new.core }
+        ensures leads { OnOk result (Goes self.old.core self.new.core outputs.old.items outputs.new.items) }
+        ensures kept { OnOk result (Serves self.new.core (rows_of self.new.table)) }
+        ensures marked { shown_at_mark self.new.table ≡ shown_at_mark self.old.table }
+        ensures core_mark { self.new.core.marked ≡ self.old.core.marked }
+        ensures made { OnOk result (Makes context.entry.when self.old.core self.new.core) }
         ensures closes { OnOk result (TellsClosings self.old.core.entries self.new.core.entries outputs.old.items outputs.new.items) }
         ensures continues { OnOk result ((c : ℕ) → TellsToGoOn c self.old.core.entries (inlets_of self.old.table) outputs.old.items self.new.core.entries (rows_of self.new.table) (inlets_of self.new.table) outputs.new.items) }
         ensures prompt { OnOk result (IsPrompt (rows_of self.old.table) (inlets_of self.old.table) → IsPrompt (rows_of self.new.table) (inlets_of self.new.table)) }
@@ -134,13 +161,15 @@ impl<R: Relation> Engine<R> {
         outputs: &mut Vec<Output>,
     ) -> Result<(), Memory>
         requires { Serves self.old.core (rows_of self.old.table) }
-        ensures leads { Leads result self.old.core self.new.core outputs.old.items outputs.new.items }
-        ensures kept { Serves self.new.core (rows_of self.new.table) }
-        ensures made { Makes context.entry.when self.old.core self.new.core }
+        ensures leads { OnOk result (Goes self.old.core self.new.core outputs.old.items outputs.new.items) }
+        ensures kept { OnOk result (Serves self.new.core (rows_of self.new.table)) }
+        ensures marked { shown_at_mark self.new.table ≡ shown_at_mark self.old.table }
+        ensures core_mark { self.new.core.marked ≡ self.old.core.marked }
+        ensures made { OnOk result (Makes context.entry.when self.old.core self.new.core) }
         ensures closes { OnOk result (TellsClosings self.old.core.entries self.new.core.entries outputs.old.items outputs.new.items) }
         ensures continues { OnOk result ((c : ℕ) → TellsToGoOn c self.old.core.entries (inlets_of self.old.table) outputs.old.items self.new.core.entries (rows_of self.new.table) (inlets_of self.new.table) outputs.new.items) }
         ensures prompt { OnOk result (IsPrompt (rows_of self.old.table) (inlets_of self.old.table) → IsPrompt (rows_of self.new.table) (inlets_of self.new.table)) }
-        ensures enters { OnOk result (EntersDatagram (now self.old.core.moment context.entry.when.moment) peer bytes.now self.old.core self.new.core) }
+        ensures enters { OnOk result (self.old.core.answers ≡ [] → EntersDatagram (now self.old.core.moment context.entry.when.moment) peer bytes.now self.old.core self.new.core) }
         ensures asks { OnOk result (AsksInOrder (Maps R.holds R.takes (rules_of (arc_value context.entry.settings.now))) self.old.core.entries (inlets_of self.old.table) self.new.core.entries (inlets_of self.new.table)) }
         ensures settled { OnOk result (Settled self.old.core → Settled self.new.core) }
     {
@@ -151,13 +180,15 @@ impl<R: Relation> Engine<R> {
     /// Lets time go on.
     fn tick(&mut self, context: Context<'_>, outputs: &mut Vec<Output>) -> Result<(), Memory>
         requires { Serves self.old.core (rows_of self.old.table) }
-        ensures leads { Leads result self.old.core self.new.core outputs.old.items outputs.new.items }
-        ensures kept { Serves self.new.core (rows_of self.new.table) }
-        ensures made { Makes context.entry.when self.old.core self.new.core }
+        ensures leads { OnOk result (Goes self.old.core self.new.core outputs.old.items outputs.new.items) }
+        ensures kept { OnOk result (Serves self.new.core (rows_of self.new.table)) }
+        ensures marked { shown_at_mark self.new.table ≡ shown_at_mark self.old.table }
+        ensures core_mark { self.new.core.marked ≡ self.old.core.marked }
+        ensures made { OnOk result (Makes context.entry.when self.old.core self.new.core) }
         ensures closes { OnOk result (TellsClosings self.old.core.entries self.new.core.entries outputs.old.items outputs.new.items) }
         ensures continues { OnOk result ((c : ℕ) → TellsToGoOn c self.old.core.entries (inlets_of self.old.table) outputs.old.items self.new.core.entries (rows_of self.new.table) (inlets_of self.new.table) outputs.new.items) }
         ensures prompt { OnOk result (IsPrompt (rows_of self.old.table) (inlets_of self.old.table) → IsPrompt (rows_of self.new.table) (inlets_of self.new.table)) }
-        ensures enters { OnOk result (EntersTick (now self.old.core.moment context.entry.when.moment) self.old.core self.new.core) }
+        ensures enters { OnOk result (self.old.core.answers ≡ [] → EntersTick (now self.old.core.moment context.entry.when.moment) self.old.core self.new.core) }
         ensures asks { OnOk result (AsksInOrder (Maps R.holds R.takes (rules_of (arc_value context.entry.settings.now))) self.old.core.entries (inlets_of self.old.table) self.new.core.entries (inlets_of self.new.table)) }
         ensures settled { OnOk result (Settled self.old.core → Settled self.new.core) }
     {
@@ -170,13 +201,15 @@ impl<R: Relation> Engine<R> {
         requires { Serves self.old.core (rows_of self.old.table) }
         ensures advances { Advances self.old.core self.new.core }
         ensures kept { Serves self.new.core (rows_of self.new.table) }
+        ensures marked { shown_at_mark self.new.table ≡ shown_at_mark self.old.table }
+        ensures core_mark { self.new.core.marked ≡ self.old.core.marked }
         ensures made { Makes context.entry.when self.old.core self.new.core }
         ensures closes { shut_in self.new.core.entries ≡ shut_in self.old.core.entries ++ closed_if result number }
         ensures apart { LeavesConnections number (rows_of self.old.table) (inlets_of self.old.table) (rows_of self.new.table) (inlets_of self.new.table) }
         ensures prompt { IsPrompt (rows_of self.old.table) (inlets_of self.old.table) → IsPrompt (rows_of self.new.table) (inlets_of self.new.table) }
         ensures enters { EntersClose (now self.old.core.moment context.entry.when.moment) number self.old.core self.new.core }
         ensures asks { AsksNone number self.old.core.entries (inlets_of self.old.table) self.new.core.entries (inlets_of self.new.table) }
-        ensures over { IsOver (inlets_of self.new.table) number }
+        ensures gone { IsGone (inlets_of self.new.table) number }
         ensures rows { rows_of self.new.table ≡ without_row number (rows_of self.old.table) }
         ensures answers { self.new.core.answers ≡ self.old.core.answers }
         ensures sends { self.new.core.sends ≡ self.old.core.sends }
@@ -189,9 +222,11 @@ impl<R: Relation> Engine<R> {
     /// Gives out the datagrams and the answers of a step, the answers by the numbers of their asks.
     fn deliver(&mut self, context: Context<'_>, outputs: &mut Vec<Output>) -> Result<(), Memory>
         requires { Serves self.old.core (rows_of self.old.table) }
-        ensures leads { Leads result self.old.core self.new.core outputs.old.items outputs.new.items }
-        ensures kept { Serves self.new.core (rows_of self.new.table) }
-        ensures made { Makes context.entry.when self.old.core self.new.core }
+        ensures leads { OnOk result (Goes self.old.core self.new.core outputs.old.items outputs.new.items) }
+        ensures kept { OnOk result (Serves self.new.core (rows_of self.new.table)) }
+        ensures marked { shown_at_mark self.new.table ≡ shown_at_mark self.old.table }
+        ensures core_mark { self.new.core.marked ≡ self.old.core.marked }
+        ensures made { OnOk result (Makes context.entry.when self.old.core self.new.core) }
         ensures closes { OnOk result (TellsClosings self.old.core.entries self.new.core.entries outputs.old.items outputs.new.items) }
         ensures continues { OnOk result ((c : ℕ) → TellsToGoOn c self.old.core.entries (inlets_of self.old.table) outputs.old.items self.new.core.entries (rows_of self.new.table) (inlets_of self.new.table) outputs.new.items) }
         ensures prompt { OnOk result (IsPrompt (rows_of self.old.table) (inlets_of self.old.table) → IsPrompt (rows_of self.new.table) (inlets_of self.new.table)) }
@@ -206,9 +241,11 @@ impl<R: Relation> Engine<R> {
     /// Gives out the answers that are there, by the numbers of their asks.
     fn answer_all(&mut self, context: Context<'_>, outputs: &mut Vec<Output>) -> Result<(), Memory>
         requires { Serves self.old.core (rows_of self.old.table) }
-        ensures leads { Leads result self.old.core self.new.core outputs.old.items outputs.new.items }
-        ensures kept { Serves self.new.core (rows_of self.new.table) }
-        ensures made { Makes context.entry.when self.old.core self.new.core }
+        ensures leads { OnOk result (Goes self.old.core self.new.core outputs.old.items outputs.new.items) }
+        ensures kept { OnOk result (Serves self.new.core (rows_of self.new.table)) }
+        ensures marked { shown_at_mark self.new.table ≡ shown_at_mark self.old.table }
+        ensures core_mark { self.new.core.marked ≡ self.old.core.marked }
+        ensures made { OnOk result (Makes context.entry.when self.old.core self.new.core) }
         ensures closes { OnOk result (TellsClosings self.old.core.entries self.new.core.entries outputs.old.items outputs.new.items) }
         ensures continues { OnOk result ((c : ℕ) → TellsToGoOn c self.old.core.entries (inlets_of self.old.table) outputs.old.items self.new.core.entries (rows_of self.new.table) (inlets_of self.new.table) outputs.new.items) }
         ensures prompt { OnOk result (IsPrompt (rows_of self.old.table) (inlets_of self.old.table) → IsPrompt (rows_of self.new.table) (inlets_of self.new.table)) }
@@ -240,9 +277,11 @@ impl<R: Relation> Engine<R> {
         outputs: &mut Vec<Output>,
     ) -> Result<(), Memory>
         requires { Serves self.old.core (rows_of self.old.table) }
-        ensures leads { Leads result self.old.core self.new.core outputs.old.items outputs.new.items }
-        ensures kept { Serves self.new.core (rows_of self.new.table) }
-        ensures made { Makes context.entry.when self.old.core self.new.core }
+        ensures leads { OnOk result (Goes self.old.core self.new.core outputs.old.items outputs.new.items) }
+        ensures kept { OnOk result (Serves self.new.core (rows_of self.new.table)) }
+        ensures marked { shown_at_mark self.new.table ≡ shown_at_mark self.old.table }
+        ensures core_mark { self.new.core.marked ≡ self.old.core.marked }
+        ensures made { OnOk result (Makes context.entry.when self.old.core self.new.core) }
         ensures closes { OnOk result (TellsClosings self.old.core.entries self.new.core.entries outputs.old.items outputs.new.items) }
         ensures continues { OnOk result (TellsOne number self.old.core.entries (inlets_of self.old.table) outputs.old.items self.new.core.entries (rows_of self.new.table) (inlets_of self.new.table) outputs.new.items) }
         ensures prompt { OnOk result (IsPromptOn number (rows_of self.new.table) (inlets_of self.new.table)) }
@@ -265,9 +304,11 @@ impl<R: Relation> Engine<R> {
         outputs: &mut Vec<Output>,
     ) -> Result<(), Memory>
         requires { Serves self.old.core (rows_of self.old.table) }
-        ensures leads { Leads result self.old.core self.new.core outputs.old.items outputs.new.items }
-        ensures kept { Serves self.new.core (rows_of self.new.table) }
-        ensures made { Makes context.entry.when self.old.core self.new.core }
+        ensures leads { OnOk result (Goes self.old.core self.new.core outputs.old.items outputs.new.items) }
+        ensures kept { OnOk result (Serves self.new.core (rows_of self.new.table)) }
+        ensures marked { shown_at_mark self.new.table ≡ shown_at_mark self.old.table }
+        ensures core_mark { self.new.core.marked ≡ self.old.core.marked }
+        ensures made { OnOk result (Makes context.entry.when self.old.core self.new.core) }
         ensures closes { OnOk result (TellsClosings self.old.core.entries self.new.core.entries outputs.old.items outputs.new.items) }
         ensures continues { OnOk result (TellsOne number self.old.core.entries (inlets_of self.old.table) outputs.old.items self.new.core.entries (rows_of self.new.table) (inlets_of self.new.table) outputs.new.items) }
         ensures prompt { OnOk result (IsPromptOn number (rows_of self.new.table) (inlets_of self.new.table)) }
@@ -290,9 +331,11 @@ impl<R: Relation> Engine<R> {
         outputs: &mut Vec<Output>,
     ) -> Result<bool, Memory>
         requires { Serves self.old.core (rows_of self.old.table) }
-        ensures leads { Leads result self.old.core self.new.core outputs.old.items outputs.new.items }
-        ensures kept { Serves self.new.core (rows_of self.new.table) }
-        ensures made { Makes context.entry.when self.old.core self.new.core }
+        ensures leads { OnOk result (Goes self.old.core self.new.core outputs.old.items outputs.new.items) }
+        ensures kept { OnOk result (Serves self.new.core (rows_of self.new.table)) }
+        ensures marked { shown_at_mark self.new.table ≡ shown_at_mark self.old.table }
+        ensures core_mark { self.new.core.marked ≡ self.old.core.marked }
+        ensures made { OnOk result (Makes context.entry.when self.old.core self.new.core) }
         ensures closes { OnOk result (TellsClosings self.old.core.entries self.new.core.entries outputs.old.items outputs.new.items) }
         ensures continues { OnOk result (TellsOne number self.old.core.entries (inlets_of self.old.table) outputs.old.items self.new.core.entries (rows_of self.new.table) (inlets_of self.new.table) outputs.new.items) }
         ensures no_interim { IfOk result (λ more. more ≡ true → GivesFinal outputs.old.items outputs.new.items) }
@@ -329,9 +372,11 @@ impl<R: Relation> Engine<R> {
     ) -> Result<(), Memory>
         requires served { Serves self.old.core (rows_of self.old.table) }
         requires idle { IsRow (rows_of self.old.table) number None }
-        ensures leads { Leads result self.old.core self.new.core outputs.old.items outputs.new.items }
-        ensures kept { Serves self.new.core (rows_of self.new.table) }
-        ensures made { Makes context.entry.when self.old.core self.new.core }
+        ensures leads { OnOk result (Goes self.old.core self.new.core outputs.old.items outputs.new.items) }
+        ensures kept { OnOk result (Serves self.new.core (rows_of self.new.table)) }
+        ensures marked { shown_at_mark self.new.table ≡ shown_at_mark self.old.table }
+        ensures core_mark { self.new.core.marked ≡ self.old.core.marked }
+        ensures made { OnOk result (Makes context.entry.when self.old.core self.new.core) }
         ensures closes { OnOk result (TellsClosings self.old.core.entries self.new.core.entries outputs.old.items outputs.new.items) }
         ensures no_interim { OnOk result (GivesFinal outputs.old.items outputs.new.items) }
         ensures apart { OnOk result (LeavesConnections number (rows_of self.old.table) (inlets_of self.old.table) (rows_of self.new.table) (inlets_of self.new.table)) }
@@ -365,9 +410,11 @@ impl<R: Relation> Engine<R> {
         outputs: &mut Vec<Output>,
     ) -> Result<(), Memory>
         requires { Serves self.old.core (rows_of self.old.table) }
-        ensures leads { Leads result self.old.core self.new.core outputs.old.items outputs.new.items }
-        ensures kept { Serves self.new.core (rows_of self.new.table) }
-        ensures made { Makes context.entry.when self.old.core self.new.core }
+        ensures leads { OnOk result (Goes self.old.core self.new.core outputs.old.items outputs.new.items) }
+        ensures kept { OnOk result (Serves self.new.core (rows_of self.new.table)) }
+        ensures marked { shown_at_mark self.new.table ≡ shown_at_mark self.old.table }
+        ensures core_mark { self.new.core.marked ≡ self.old.core.marked }
+        ensures made { OnOk result (Makes context.entry.when self.old.core self.new.core) }
         ensures closes { OnOk result (TellsClosings self.old.core.entries self.new.core.entries outputs.old.items outputs.new.items) }
         ensures no_interim { OnOk result (GivesFinal outputs.old.items outputs.new.items) }
         ensures apart { OnOk result (LeavesConnections number (rows_of self.old.table) (inlets_of self.old.table) (rows_of self.new.table) (inlets_of self.new.table)) }
@@ -380,12 +427,14 @@ impl<R: Relation> Engine<R> {
         let Some(ticket) = self.table.ticket(number) else {
             return Ok(());
         };
-        let Some(answer) = self.core.take_answer(ticket) else {
+        let Some(answer) = self.core.answer_to(ticket) else {
             return Ok(());
         };
+        tell_answer(self.alloc, number, answer, outputs)?;
+        let last = closes(answer.mapped.came());
+        self.core.drop_answer(ticket);
         self.table.set_ticket(number, None);
-        tell_answer(self.alloc, number, &answer, outputs)?;
-        if closes(answer.mapped.came()) {
+        if last {
             self.shut(context, number, outputs)
         } else {
             Ok(())
@@ -400,14 +449,16 @@ impl<R: Relation> Engine<R> {
         outputs: &mut Vec<Output>,
     ) -> Result<(), Memory>
         requires { Serves self.old.core (rows_of self.old.table) }
-        ensures leads { Leads result self.old.core self.new.core outputs.old.items outputs.new.items }
-        ensures kept { Serves self.new.core (rows_of self.new.table) }
-        ensures made { Makes context.entry.when self.old.core self.new.core }
+        ensures leads { OnOk result (Goes self.old.core self.new.core outputs.old.items outputs.new.items) }
+        ensures kept { OnOk result (Serves self.new.core (rows_of self.new.table)) }
+        ensures marked { shown_at_mark self.new.table ≡ shown_at_mark self.old.table }
+        ensures core_mark { self.new.core.marked ≡ self.old.core.marked }
+        ensures made { OnOk result (Makes context.entry.when self.old.core self.new.core) }
         ensures closes { OnOk result (TellsClosings self.old.core.entries self.new.core.entries outputs.old.items outputs.new.items) }
         ensures no_interim { OnOk result (GivesFinal outputs.old.items outputs.new.items) }
         ensures apart { OnOk result (LeavesConnections number (rows_of self.old.table) (inlets_of self.old.table) (rows_of self.new.table) (inlets_of self.new.table)) }
         ensures asks { OnOk result (AsksNone number self.old.core.entries (inlets_of self.old.table) self.new.core.entries (inlets_of self.new.table)) }
-        ensures over { OnOk result (IsOver (inlets_of self.new.table) number) }
+        ensures gone { OnOk result (IsGone (inlets_of self.new.table) number) }
         ensures leaves { OnOk result (LeavesOthers number self.old.core (rows_of self.old.table) self.new.core (rows_of self.new.table)) }
         ensures told { OnOk result (IsServedOn number self.new.core (rows_of self.new.table)) }
         ensures sent { OnOk result (self.old.core.sends ≡ [] → self.new.core.sends ≡ []) }

@@ -17,11 +17,16 @@ pub enum WorldFault {
 }
 
 impl fmt::Display for WorldFault {
+    ghost use Rattle.std.specs.Prelude.{Some};
+    ghost use Rattle.gateway_world.specs.Faults.{fault_text};
+
+    ghost output = { λ fault. Some (fault_text fault) };
+
     fn fmt<W: fmt::Write>(&self, f: &mut fmt::Formatter<W>) -> fmt::Result {
-        match self {
-            WorldFault::Memory => write!(f, "out of memory"),
-            WorldFault::Backlog => write!(f, "too many bytes wait unread"),
-        }
+        f.write_str(match self {
+            WorldFault::Memory => "out of memory",
+            WorldFault::Backlog => "too many bytes wait unread",
+        })
     }
 }
 

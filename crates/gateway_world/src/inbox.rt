@@ -1,11 +1,12 @@
 //! The bytes of one connection, as far as they aren't asked.
 
-ghost use Rattle.std.specs.Prelude.{◌≡◌, ◌≤◌, ◌<◌, ◌-◌, ◌++◌, ◌↔◌, [], ℕ, List, drop, true, false, IsTrue, vec_len, IfOk, IfSome, OnOk, OnErr};
-ghost use Rattle.http_edge.specs.Edges.{Stands, unread_len};
+ghost use Rattle.std.specs.Prelude.{ℕ, List, ◌≡◌, ◌<◌, ◌+◌, ◌++◌, true, false, length, IfOk, OnOk, OnErr};
 
 use crate::fields::closes;
-use http_edge::{Edge, Incoming, Memory};
+use crate::reader::Reader;
+use http_edge::{Incoming, Memory};
 use std::alloc::Global;
+use std::marker::Model;
 
 /// The most bytes of a connection that wait unread.
 const UNREAD: usize = 1_048_576;
@@ -19,125 +20,146 @@ pub enum Next {
     Nothing,
 }
 
-/// The bytes of a connection that aren't asked yet.
+/// What an inbox held: the bytes between two places, and the rest.
+#[derive(Clone, Copy)]
+pub struct Mark {
+    start: usize,
+    end: usize,
+    unread: usize,
+    told: bool,
+    closing: bool,
+}
+
+/// The bytes of a connection that aren't asked yet. It can go back to what it held at its mark.
 #[derive(Drop)]
 pub struct Inbox {
-    edge: Edge,
-    /// The bytes that the edge has no room for, and how many of them it took meanwhile.
-    backlog: Vec<u8>,
-    taken: usize,
+    reader: Reader,
+    /// How many bytes count as unread: what came in of a request begun doesn't.
+    unread: usize,
+    /// The client was told to go on with the request that is next.
+    told: bool,
     /// The last request was read.
     closing: bool,
-    ghost within: { taken ≤ vec_len backlog },
+    mark: Mark,
+}
+
+impl Model for Inbox {
+    ghost use Rattle.std.specs.Prelude.{◌≡◌, ◌≤◌, true, vec_len};
+    ghost use Rattle.http_edge.specs.Edges.{is_told};
+    ghost use Rattle.gateway_world.specs.Inboxes.{InboxValue, IsSound};
+    ghost use Rattle.gateway_world.specs.Readers.{IsInStep, text_of};
+    ghost use Rattle.gateway_world.specs.Marks.{at_mark};
+
+    ghost Value = { InboxValue };
+
+    ghost view = { λ i. record { current = record { text = text_of i.reader; told = i.told; closing = i.closing; unread = i.unread }; marked = at_mark i.mark i.reader.bytes.items } };
+
+    ghost invariant = { λ i. IsInStep i.reader × IsSound (record { text = text_of i.reader; told = i.told; closing = i.closing; unread = i.unread }) × (is_told i.reader.edge ≡ true → i.told ≡ true)
+        × (i.mark.start ≤ i.mark.end) × (i.mark.end ≤ vec_len i.reader.bytes) × IsSound (at_mark i.mark i.reader.bytes.items) };
 }
 
 impl Inbox {
-    ghost use Rattle.http_edge.specs.Edges.{is_told};
+    ghost use Rattle.http_edge.specs.Edges.{IsUnread};
     ghost use Rattle.gateway_world.specs.Rows.{is_request};
-    ghost use Rattle.gateway_world.specs.Continuing.{told_of, TellsNext};
+    ghost use Rattle.gateway_world.specs.Continuing.{TellsNext};
     ghost use Rattle.gateway_world.specs.Prompt.{AwaitsMore};
-    ghost use Rattle.gateway_world.specs.Inboxes.{Holds, ReadsNext, AsksNext, Rests, unread_of, is_full, work_of};
+    ghost use Rattle.gateway_world.specs.Inboxes.{no_bytes, AsksNext, is_full, work_of};
 
-    /// No bytes yet.
-    pub fn new(alloc: Global, edge: Edge) -> Inbox
-        ensures holds { Stands edge [] → Holds result [] }
-        ensures open { result.closing ≡ false }
-        ensures told { is_told edge ≡ false → told_of result ≡ false }
-        ensures only { ((text : List ℕ) → Stands edge text → text ≡ []) → (text : List ℕ) → Holds result text → text ≡ [] }
+    /// No bytes yet, which is its mark.
+    pub fn new(alloc: Global) -> Result<Inbox, Memory>
+        ensures current { IfOk result (λ i. i.current ≡ no_bytes) }
+        ensures marked { IfOk result (λ i. i.marked ≡ no_bytes) }
     {
-        Inbox {
-            edge,
-            backlog: Vec::new(alloc),
-            taken: 0,
+        Ok(Inbox {
+            reader: Reader::new(alloc)?,
+            unread: 0,
+            told: false,
             closing: false,
-        }
+            mark: Mark {
+                start: 0,
+                end: 0,
+                unread: 0,
+                told: false,
+                closing: false,
+            },
+        })
     }
 
     /// Whether so many bytes more would be too many. Bytes behind the last request don't count.
     pub fn passes_limit(&self, more: usize) -> bool
-        ensures { result ≡ is_full self.now more }
+        ensures full { result ≡ is_full self.now.current more }
+        ensures counts { IsUnread self.now.current.text self.now.current.unread }
     {
-        !self.closing && (more > UNREAD || self.unread() > UNREAD - more)
-    }
-
-    /// How many bytes wait unread.
-    fn unread(&self) -> usize
-        ensures { result ≡ unread_of self.now }
-    {
-        self.edge.unread() + (self.backlog.len() - self.taken)
+        !self.closing && (more > UNREAD || self.unread > UNREAD - more)
     }
 
     /// Puts the bytes behind those that wait, unless the last request was read.
     pub fn append(&mut self, bytes: &[u8]) -> Result<(), Memory>
-        ensures closing { self.new.closing ≡ self.old.closing }
-        ensures told { told_of self.new ≡ told_of self.old }
-        ensures more { OnOk result ((text : List ℕ) → self.old.closing ≡ false → Holds self.old text → Holds self.new (text ++ bytes.now)) }
-        ensures kept { OnErr result ((text : List ℕ) → Holds self.old text → Holds self.new text) }
+        ensures closing { self.new.current.closing ≡ self.old.current.closing }
+        ensures told { self.new.current.told ≡ self.old.current.told }
+        ensures more { OnOk result (self.old.current.closing ≡ false → self.new.current.text ≡ self.old.current.text ++ bytes.now) }
+        ensures counted { OnOk result (self.old.current.closing ≡ false → self.new.current.unread ≡ self.old.current.unread + length bytes.now) }
+        ensures over { self.old.current.closing ≡ true → self.new ≡ self.old }
+        ensures kept { OnErr result (self.new ≡ self.old) }
+        ensures marked { self.new.marked ≡ self.old.marked }
     {
         if !self.closing {
-            self.backlog.extend_from_slice(bytes)?;
+            self.reader.append(bytes)?;
+            self.unread += bytes.len();
         }
         Ok(())
     }
 
-    /// Lets the edge take what waits. False where it took nothing.
-    fn refill(&mut self) -> bool
-        ensures closing { self.new.closing ≡ self.old.closing }
-        ensures holds { (text : List ℕ) → Holds self.old text → Holds self.new text }
-        ensures none_left { result ≡ false → unread_len self.old.edge < 8192 → drop self.old.taken self.old.backlog.items ≡ [] }
-        ensures less { result ≡ true → vec_len self.new.backlog - self.new.taken < vec_len self.old.backlog - self.old.taken }
-        ensures work { work_of self.new ≡ work_of self.old }
-        ensures rests { result ≡ false → unread_len self.old.edge < 8192 → self.old.edge.waits ≡ true → Rests self.new }
-        ensures told { is_told self.new.edge ≡ is_told self.old.edge }
-        ensures ended { self.new.edge.ended ≡ self.old.edge.ended }
-    {
-        let n = self.edge.feed(&self.backlog[self.taken..]);
-        self.taken += n;
-        if self.taken == self.backlog.len() {
-            self.backlog.clear();
-            self.taken = 0;
-        }
-        n > 0
-    }
-
     /// What the bytes that wait ask next: nothing behind the last request.
     pub fn next(&mut self) -> Result<Next, Memory>
-        ensures asks { (text : List ℕ) → self.old.closing ≡ false → Holds self.old text → AsksNext result self.new text }
-        ensures over { self.old.closing ≡ true → (result ≡ Ok Next.Nothing) × (self.new.closing ≡ true) }
-        ensures idle { IfOk result (λ next. is_request next ≡ false → self.new.closing ≡ false → (text : List ℕ) → Holds self.new text → AwaitsMore (told_of self.new) text) }
-        ensures told { IfOk result (λ next. TellsNext next self.old self.new) }
-        ensures less { IfOk result (λ next. is_request next ≡ true → work_of self.new < work_of self.old) }
+        ensures asks { (text : List ℕ) → self.old.current.closing ≡ false → self.old.current.text ≡ text → AsksNext result self.new.current text }
+        ensures over { self.old.current.closing ≡ true → (result ≡ Ok Next.Nothing) × (self.new.current.closing ≡ true) }
+        ensures idle { IfOk result (λ next. is_request next ≡ false → self.new.current.closing ≡ false → (text : List ℕ) → self.new.current.text ≡ text → AwaitsMore self.new.current.told text) }
+        ensures told { IfOk result (λ next. TellsNext next self.old.current self.new.current) }
+        ensures less { IfOk result (λ next. is_request next ≡ true → work_of self.new.current < work_of self.old.current) }
+        ensures marked { self.new.marked ≡ self.old.marked }
     {
         if self.closing {
             return Ok(Next::Nothing);
         }
-        if let Some(incoming) = self.read()? {
+        let found = self.reader.read();
+        self.unread = self.reader.unread();
+        if let Some(incoming) = found? {
+            self.told = false;
+            self.closing = closes(&incoming);
             return Ok(Next::Request(incoming));
         }
-        if self.edge.wants_continue() {
+        if self.reader.wants_continue() && !self.told {
+            self.told = true;
             Ok(Next::Continue)
         } else {
             Ok(Next::Nothing)
         }
     }
 
-    /// The next request of the bytes that wait, or the refusal of what stands in its place. None where
-    /// none is whole.
-    fn read(&mut self) -> Result<Option<Incoming>, Memory>
-        ensures reads { (text : List ℕ) → self.old.closing ≡ false → Holds self.old text → ReadsNext result self.new text }
-        ensures rests { result ≡ Ok None → self.new.edge.ended ≡ false → Rests self.new }
-        ensures found { IfOk result (λ incoming. IfSome incoming (λ i. told_of self.new ≡ false)) }
-        ensures none { result ≡ Ok None → (self.new.closing ≡ self.old.closing) × (is_told self.new.edge ≡ is_told self.old.edge) }
-        ensures less { IfOk result (λ incoming. IfSome incoming (λ i. work_of self.new < work_of self.old)) }
+    /// Marks what it holds.
+    pub fn mark(&mut self)
+        ensures current { self.new.current ≡ self.old.current }
+        ensures marked { self.new.marked ≡ self.old.current }
     {
-        'each: loop {
-            if let Some(incoming) = self.edge.next()? {
-                self.closing = closes(&incoming);
-                return Ok(Some(incoming));
-            }
-            if !self.refill() {
-                return Ok(None);
-            }
-        }
+        self.reader.let_go();
+        self.mark = Mark {
+            start: self.reader.start,
+            end: self.reader.bytes.len(),
+            unread: self.unread,
+            told: self.told,
+            closing: self.closing,
+        };
+    }
+
+    /// Goes back to what it held at the mark.
+    pub fn back(&mut self)
+        ensures current { self.new.current ≡ self.old.marked }
+        ensures marked { self.new.marked ≡ self.old.marked }
+    {
+        self.reader.go_back(self.mark.start, self.mark.end);
+        self.unread = self.mark.unread;
+        self.told = self.mark.told;
+        self.closing = self.mark.closing;
     }
 }

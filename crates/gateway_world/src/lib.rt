@@ -5,6 +5,7 @@
 //! The program `hcproxy` stands on it.
 #![tactic(auto)]
 
+mod connection;
 mod engine;
 mod fault;
 mod fields;
@@ -12,6 +13,7 @@ mod inbox;
 mod input;
 mod location;
 mod mapping;
+mod reader;
 mod rendering;
 mod run;
 mod state;

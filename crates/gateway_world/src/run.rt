@@ -1,11 +1,11 @@
 //! A run: all inputs of a proxy, and what they led to.
 
-ghost use Rattle.std.specs.Prelude.{IfOk};
+ghost use Rattle.std.specs.Prelude.{[], IfOk};
 ghost use Rattle.history_laws.specs.Justified.{Stands};
 ghost use Rattle.ask_model.specs.Views.{rules_of};
 ghost use Rattle.ask_model.specs.Maps.{Maps};
 ghost use Rattle.gateway_world.specs.Runs.{AsksInRun};
-ghost use Rattle.gateway_world.specs.Steps.{TellsAll};
+ghost use Rattle.gateway_world.specs.Steps.{GivesOut};
 
 use crate::fault::WorldFault;
 use crate::input::{Input, Output};
@@ -32,7 +32,7 @@ impl<R: Relation> World<R> {
     ) -> Result<Run<R>, WorldFault>
         ensures stands { IfOk result (λ run. Stands run.journal.entries) }
         ensures asks { IfOk result (λ run. AsksInRun (Maps R.holds R.takes (rules_of settings)) inputs.now run.journal.entries) }
-        ensures tells { IfOk result (λ run. TellsAll run.journal.entries run.outputs.items) }
+        ensures gives { IfOk result (λ run. GivesOut [] run.journal.entries run.outputs.items) }
     {
         let mut world = World::new(alloc, settings)?;
         let mut outputs = Vec::new(alloc);

@@ -7,7 +7,7 @@ ghost use Rattle.journal_book.specs.Views.{ask_of};
 ghost use Rattle.exchange_core.specs.CoreValue.{connections, now};
 ghost use Rattle.exchange_core.specs.Hears.{HeardSo};
 ghost use Rattle.gateway_world.specs.Entering.{EntersOpening, TicksFirst, EntersClose};
-ghost use Rattle.gateway_world.specs.Steps.{Advances, Leads};
+ghost use Rattle.gateway_world.specs.Steps.{Advances, Goes};
 ghost use Rattle.gateway_world.specs.Closing.{shut_in, closed_in, closed_if};
 ghost use Rattle.gateway_world.specs.Continuing.{GivesFinal};
 ghost use Rattle.gateway_world.specs.Making.{Makes};
@@ -35,7 +35,9 @@ pub fn open_in<R: Relation>(core: &mut Core<R>, when: When) -> Result<u32, OpenF
     ensures advances { Advances core.old core.new }
     ensures enters { EntersOpening result (now core.old.moment when.moment) core.old core.new }
     ensures made { Makes when core.old core.new }
+    ensures core_mark { core.new.marked ≡ core.old.marked }
     ensures fresh { IfOk result (λ number. number ≡ connections core.old.entries) }
+    ensures unopened { OnErr result (connections core.new.entries ≡ connections core.old.entries) }
     ensures asks { (c : ℕ) → asked_on c core.new.entries ≡ asked_on c core.old.entries }
     ensures shuts { shut_in core.new.entries ≡ shut_in core.old.entries }
     ensures opened { (rows : List Row) → Serves core.old rows → IfOk result (λ number. Serves core.new (rows ++ record { number = number; waits = None } ∷ [])) }
@@ -55,11 +57,13 @@ pub fn ask_in<R: Relation>(
 ) -> Result<Ticket<R>, AskFault>
     ensures advances { Advances core.old core.new }
     ensures made { Makes when core.old core.new }
+    ensures core_mark { core.new.marked ≡ core.old.marked }
     ensures asked { (rows : List Row) → Serves core.old rows → IsRow rows conn None → IfOk result (λ ticket. Serves core.new (with_waits conn (Some ticket.number) rows)) }
     ensures kept { (rows : List Row) → Serves core.old rows → OnErr result (Serves core.new rows) }
     ensures asks { IfOk result (λ ticket. (c : ℕ) → asked_on c core.new.entries ≡ asked_on c core.old.entries ++ asked_by c (Asks conn (ask_of (arc_value mapped)))) }
     ensures refused { OnErr result ((c : ℕ) → asked_on c core.new.entries ≡ asked_on c core.old.entries) }
     ensures shuts { shut_in core.new.entries ≡ shut_in core.old.entries }
+    ensures opens { connections core.new.entries ≡ connections core.old.entries }
     ensures open { (k : ℕ) → k < length core.old.entries → IsOpen core.old k → IsOpen core.new k }
     ensures attended { (rows : List Row) → Serves core.old rows → IsRow rows conn None → Attended core.old rows → IfOk result (λ ticket. Attended core.new (with_waits conn (Some ticket.number) rows)) }
     ensures same { OnErr result (core.new.answers ≡ core.old.answers) }
@@ -76,10 +80,11 @@ pub fn hear_in<R: Relation>(
     bytes: &[u8],
 ) -> Result<(), Memory>
     ensures heard { OnOk result (HeardSo (now core.old.moment when.moment) peer bytes.now core.old core.new) }
-    ensures made { Makes when core.old core.new }
-    ensures alone { AnswersAlone core.old core.new }
-    ensures asks { (c : ℕ) → asked_on c core.new.entries ≡ asked_on c core.old.entries }
-    ensures shuts { shut_in core.new.entries ≡ shut_in core.old.entries }
+    ensures made { OnOk result (Makes when core.old core.new) }
+    ensures core_mark { core.new.marked ≡ core.old.marked }
+    ensures alone { OnOk result (AnswersAlone core.old core.new) }
+    ensures asks { OnOk result ((c : ℕ) → asked_on c core.new.entries ≡ asked_on c core.old.entries) }
+    ensures shuts { OnOk result (shut_in core.new.entries ≡ shut_in core.old.entries) }
 {
     core.heard(when.moment, when.word, peer, bytes)?;
     Ok(())
@@ -88,10 +93,11 @@ pub fn hear_in<R: Relation>(
 /// Lets time go on.
 pub fn tick_in<R: Relation>(core: &mut Core<R>, when: When) -> Result<(), Memory>
     ensures enters { OnOk result (TicksFirst (now core.old.moment when.moment) core.old core.new) }
-    ensures made { Makes when core.old core.new }
-    ensures alone { AnswersAlone core.old core.new }
-    ensures asks { (c : ℕ) → asked_on c core.new.entries ≡ asked_on c core.old.entries }
-    ensures shuts { shut_in core.new.entries ≡ shut_in core.old.entries }
+    ensures made { OnOk result (Makes when core.old core.new) }
+    ensures core_mark { core.new.marked ≡ core.old.marked }
+    ensures alone { OnOk result (AnswersAlone core.old core.new) }
+    ensures asks { OnOk result ((c : ℕ) → asked_on c core.new.entries ≡ asked_on c core.old.entries) }
+    ensures shuts { OnOk result (shut_in core.new.entries ≡ shut_in core.old.entries) }
 {
     core.tick(when.moment, when.word)?;
     Ok(())
@@ -101,6 +107,7 @@ pub fn tick_in<R: Relation>(core: &mut Core<R>, when: When) -> Result<(), Memory
 pub fn close_in<R: Relation>(core: &mut Core<R>, when: When, conn: u32) -> bool
     ensures enters { EntersClose (now core.old.moment when.moment) conn core.old core.new }
     ensures made { Makes when core.old core.new }
+    ensures core_mark { core.new.marked ≡ core.old.marked }
     ensures alone { AnswersAlone core.old core.new }
     ensures asks { (c : ℕ) → asked_on c core.new.entries ≡ asked_on c core.old.entries }
     ensures shuts { shut_in core.new.entries ≡ shut_in core.old.entries ++ closed_if result conn }
@@ -113,12 +120,13 @@ pub fn close_in<R: Relation>(core: &mut Core<R>, when: When, conn: u32) -> bool
 
 /// Gives out the datagrams that wait to be sent.
 pub fn send_from<R: Relation>(core: &mut Core<R>, outputs: &mut Vec<Output>) -> Result<(), Memory>
-    ensures leads { Leads result core.old core.new outputs.old.items outputs.new.items }
+    ensures leads { OnOk result (Goes core.old core.new outputs.old.items outputs.new.items) }
     ensures sent { OnOk result (core.new.sends ≡ []) }
-    ensures kept { (rows : List Row) → Serves core.old rows → Serves core.new rows }
-    ensures answers { core.new.answers ≡ core.old.answers }
-    ensures entries { core.new.entries ≡ core.old.entries }
-    ensures moment { core.new.moment ≡ core.old.moment }
+    ensures kept { OnOk result ((rows : List Row) → Serves core.old rows → Serves core.new rows) }
+    ensures answers { OnOk result (core.new.answers ≡ core.old.answers) }
+    ensures entries { OnOk result (core.new.entries ≡ core.old.entries) }
+    ensures moment { OnOk result (core.new.moment ≡ core.old.moment) }
+    ensures core_mark { core.new.marked ≡ core.old.marked }
     ensures silent { OnOk result (closed_in outputs.new.items ≡ closed_in outputs.old.items) }
     ensures no_interim { OnOk result (GivesFinal outputs.old.items outputs.new.items) }
 {

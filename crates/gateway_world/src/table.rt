@@ -1,48 +1,25 @@
 //! The open connections.
 
-ghost use Rattle.std.specs.Prelude.{ℕ, List, ◌≡◌, ◌≢◌, ◌<◌, ◌∷◌, ◌++◌, [], None, Some, true, false, All, take, slice_get, option_map, vec_len, vec_capacity, IfOk, IfSome, OnOk};
+ghost use Rattle.std.specs.Prelude.{ℕ, List, ◌≡◌, ◌≢◌, ◌<◌, ◌∷◌, ◌++◌, [], None, Some, true, false, All, take, map, slice_get, option_map, vec_len, vec_capacity, IfOk, IfSome, OnOk};
 ghost use Rattle.std.specs.List.{Contains};
-ghost use Rattle.http_edge.specs.Edges.{Stands, is_told};
-ghost use Rattle.exchange_core.specs.Ticking.{waits_on};
-ghost use Rattle.gateway_world.specs.Inboxes.{Holds};
-ghost use Rattle.gateway_world.specs.Asks.{inlets_of, StandsFor, IsOver, is_full_at};
-ghost use Rattle.gateway_world.specs.Continuing.{told_of, told_at, TellsAt};
+ghost use Rattle.gateway_world.specs.Asks.{inlets_of, inbox_at, StandsFor, IsOver, is_full_at};
+ghost use Rattle.gateway_world.specs.Counted.{IsCounted};
+ghost use Rattle.gateway_world.specs.Continuing.{told_at, TellsAt};
 ghost use Rattle.gateway_world.specs.Prompt.{IsPromptOn, work_at};
 ghost use Rattle.gateway_world.specs.AskSteps.{TakesNext, LeavesInboxes, without_inlet};
-ghost use Rattle.gateway_world.specs.Rows.{Row, row_of, rows_of, row_at, with_waits, without_row, is_request, IsRow};
+ghost use Rattle.gateway_world.specs.Rows.{Row, rows_of, open_of, row_at, with_waits, without_row, is_request, IsRow};
+ghost use Rattle.gateway_world.specs.Undo.{put_back, settled, shut_at, shown, shown_at_mark};
 
+use crate::connection::Connection;
 use crate::inbox::{Inbox, Next};
 use exchange_core::Ticket;
-use http_edge::{Edge, Memory};
+use http_edge::Memory;
 use std::alloc::Global;
 use transformers::Relation;
 
-/// A connection.
-#[derive(Drop)]
-pub struct Connection<R: Relation> {
-    /// By which the core knows it.
-    number: u32,
-    inbox: Inbox,
-    /// The ask whose answer is due next.
-    ticket: Option<Ticket<R>>,
-}
-
-impl<R: Relation> Connection<R> {
-    /// Whether it waits for the answer to the ask.
-    fn waits_for(&self, ask: u32) -> bool
-        ensures { result ≡ waits_on ask (row_of self.now).waits }
-    {
-        match &self.ticket {
-            Some(ticket) => ticket.number == ask,
-            None => false,
-        }
-    }
-}
-
-/// The open connections, by their numbers.
+/// The open connections, by their numbers. It can go back to those at its mark.
 #[derive(Drop)]
 pub struct Table<R: Relation> {
-    alloc: Global,
     rows: Vec<Connection<R>>,
 }
 
@@ -51,9 +28,9 @@ impl<R: Relation> Table<R> {
     pub fn new(alloc: Global) -> Table<R>
         ensures rows { rows_of result ≡ [] }
         ensures inlets { inlets_of result ≡ [] }
+        ensures marked { shown_at_mark result ≡ shown result }
     {
         Table {
-            alloc,
             rows: Vec::new(alloc),
         }
     }
@@ -63,33 +40,41 @@ impl<R: Relation> Table<R> {
         ensures room { OnOk result (vec_len self.new.rows < vec_capacity self.new.rows) }
         ensures rows { rows_of self.new ≡ rows_of self.old }
         ensures inlets { inlets_of self.new ≡ inlets_of self.old }
+        ensures shown { shown self.new ≡ shown self.old }
+        ensures marked { shown_at_mark self.new ≡ shown_at_mark self.old }
     {
         self.rows.try_reserve(1)?;
         Ok(())
     }
 
-    /// Puts a connection without bytes last, where there is a place.
-    pub fn add(&mut self, number: u32, edge: Edge)
+    /// Puts a connection last, where there is a place.
+    pub fn add(&mut self, number: u32, inbox: Inbox)
         requires { vec_len self.old.rows < vec_capacity self.old.rows }
         ensures rows { rows_of self.new ≡ rows_of self.old ++ record { number = number; waits = None } ∷ [] }
-        ensures inlets { (inbox : Inbox) × (inlets_of self.new ≡ inlets_of self.old ++ record { number = number; inbox = inbox } ∷ []) × (inbox.closing ≡ false) × (Stands edge [] → Holds inbox [])
-            × (((text : List ℕ) → Stands edge text → text ≡ []) → (text : List ℕ) → Holds inbox text → text ≡ []) × (is_told edge ≡ false → told_of inbox ≡ false) }
+        ensures inlets { inlets_of self.new ≡ inlets_of self.old ++ record { number = number; inbox = inbox.current } ∷ [] }
+        ensures marked { shown_at_mark self.new ≡ shown_at_mark self.old }
     {
         self.rows.push_reserved(Connection {
             number,
-            inbox: Inbox::new(self.alloc, edge),
+            inbox,
             ticket: None,
+            fresh: true,
+            closed: false,
+            changed: false,
+            before: None,
         });
     }
 
-    /// The place of the connection of that number.
+    /// The place of the open connection of that number.
     fn place_of(&self, number: u32) -> Option<usize>
         ensures some { IfSome result (λ i. option_map (λ c. c.number) (slice_get self.now.rows.items i) ≡ Some number) }
-        ensures first { IfSome result (λ i. All (λ c. c.number ≢ number) (take i self.now.rows.items)) }
-        ensures none { result ≡ None → All (λ c. c.number ≢ number) self.now.rows.items }
+        ensures stays { IfSome result (λ i. option_map (λ c. c.closed) (slice_get self.now.rows.items i) ≡ Some false) }
+        ensures first { IfSome result (λ i. All (λ c. c.number ≢ number) (open_of (take i self.now.rows.items))) }
+        ensures none { result ≡ None → All (λ c. c.number ≢ number) (open_of self.now.rows.items) }
     {
         'each: for place in 0..self.rows.len() {
-            if self.rows[place].number == number {
+            let row = &self.rows[place];
+            if row.number == number && !row.closed {
                 return Some(place);
             }
         }
@@ -98,7 +83,8 @@ impl<R: Relation> Table<R> {
 
     /// Whether so many bytes more of the connection would be too many.
     pub fn passes_limit(&self, number: u32, more: usize) -> bool
-        ensures { result ≡ is_full_at number more (inlets_of self.now) }
+        ensures full { result ≡ is_full_at number more (inlets_of self.now) }
+        ensures counts { IsCounted (inbox_at number (inlets_of self.now)) }
     {
         match self.place_of(number) {
             Some(place) => self.rows[place].inbox.passes_limit(more),
@@ -114,6 +100,7 @@ impl<R: Relation> Table<R> {
         ensures told { told_at number (inlets_of self.new) ≡ told_at number (inlets_of self.old) }
         ensures open { IsOver (inlets_of self.new) number → IsOver (inlets_of self.old) number }
         ensures over { IsOver (inlets_of self.old) number → IsOver (inlets_of self.new) number }
+        ensures marked { shown_at_mark self.new ≡ shown_at_mark self.old }
     {
         match self.place_of(number) {
             Some(place) => self.rows[place].inbox.append(bytes),
@@ -132,6 +119,7 @@ impl<R: Relation> Table<R> {
         ensures over { IsOver (inlets_of self.old) number → IsOver (inlets_of self.new) number × IfOk result (λ next. is_request next ≡ false) }
         ensures less { IfOk result (λ next. is_request next ≡ true → work_at number (inlets_of self.new) < work_at number (inlets_of self.old)) }
         ensures prompt { IfOk result (λ next. is_request next ≡ false → IsPromptOn number (rows_of self.new) (inlets_of self.new)) }
+        ensures marked { shown_at_mark self.new ≡ shown_at_mark self.old }
     {
         match self.place_of(number) {
             Some(place) if self.rows[place].ticket.is_none() => self.rows[place].inbox.next(),
@@ -154,9 +142,10 @@ impl<R: Relation> Table<R> {
     pub fn set_ticket(&mut self, number: u32, ticket: Option<Ticket<R>>)
         ensures rows { rows_of self.new ≡ with_waits number (option_map (λ t. t.number) ticket) (rows_of self.old) }
         ensures inlets { inlets_of self.new ≡ inlets_of self.old }
+        ensures marked { shown_at_mark self.new ≡ shown_at_mark self.old }
     {
         if let Some(place) = self.place_of(number) {
-            self.rows[place].ticket = ticket;
+            self.rows[place].set_ticket(ticket);
         }
     }
 
@@ -164,8 +153,9 @@ impl<R: Relation> Table<R> {
     pub fn remove(&mut self, number: u32)
         ensures rows { rows_of self.new ≡ without_row number (rows_of self.old) }
         ensures inlets { inlets_of self.new ≡ without_inlet number (inlets_of self.old) }
+        ensures marked { shown_at_mark self.new ≡ shown_at_mark self.old }
     {
-        self.rows.retain(|row| row.number != number);
+        shut_all(&mut self.rows, number);
     }
 
     /// The connection that waits for the answer to the ask.
@@ -179,5 +169,50 @@ impl<R: Relation> Table<R> {
             }
         }
         None
+    }
+
+    /// Marks the connections as they are.
+    pub fn mark(&mut self)
+        ensures shown { shown self.new ≡ shown self.old }
+        ensures marked { shown_at_mark self.new ≡ shown self.old }
+    {
+        self.rows.retain(|row| !row.closed);
+        mark_all(&mut self.rows);
+    }
+
+    /// Goes back to the connections at the mark. It takes no memory.
+    pub fn back(&mut self)
+        ensures shown { shown self.new ≡ shown_at_mark self.old }
+        ensures marked { shown_at_mark self.new ≡ shown_at_mark self.old }
+    {
+        self.rows.retain(|row| !row.fresh);
+        back_all(&mut self.rows);
+    }
+}
+
+/// Closes those of that number.
+fn shut_all<R: Relation>(rows: &mut Vec<Connection<R>>, number: u32)
+    ensures { rows.new.items ≡ map (shut_at number) rows.old.items }
+{
+    'each: for place in 0..rows.len() {
+        rows[place].shut(number);
+    }
+}
+
+/// Marks each.
+fn mark_all<R: Relation>(rows: &mut Vec<Connection<R>>)
+    ensures { rows.new.items ≡ map settled rows.old.items }
+{
+    'each: for place in 0..rows.len() {
+        rows[place].mark();
+    }
+}
+
+/// Takes each back to the mark.
+fn back_all<R: Relation>(rows: &mut Vec<Connection<R>>)
+    ensures { rows.new.items ≡ map put_back rows.old.items }
+{
+    'each: for place in 0..rows.len() {
+        rows[place].back();
     }
 }

@@ -8,6 +8,8 @@ ghost use Rattle.hcproxy.specs.Failures.{exit_status};
 mod lines;
 #[cfg(test)]
 mod random_tests;
+#[cfg(test)]
+mod refused_tests;
 mod relation;
 mod replay;
 #[cfg(test)]

@@ -8,3 +8,4 @@ pub mod Listing
 pub mod Heading
 pub mod Lefts
 pub mod Edging
+pub mod Tails

@@ -152,6 +152,17 @@ ok_of o = Ok o
 abbrev pub unread_len : Edge → ℕ
 unread_len e = length e.unread
 
+-- The text begins with a head, and no more than so many bytes of it are behind it.
+pub record AtMostBehindHead (text : List ℕ) (n : ℕ) : Type 0 where
+  pub head : RequestHead
+  pub behind : List ℕ
+  pub begins : BeginsWith text head behind
+  pub few : n ≤ length behind
+
+-- So many bytes of the text are unread: all, or where a request is begun none of its head.
+abbrev pub IsUnread : List ℕ → ℕ → Type 0
+IsUnread text n = (n ≡ length text) ⊎ AtMostBehindHead text n
+
 abbrev pub begun_len : Option Begun → ℕ
 begun_len None = 0
 begun_len (Some b) = 1

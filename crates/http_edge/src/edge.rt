@@ -31,7 +31,7 @@ pub struct Edge {
 
 impl Edge {
     ghost use Rattle.http_edge.specs.Reading.{closes};
-    ghost use Rattle.http_edge.specs.Edges.{Stands, Expects, item, Steps, Begins, Fills, IsBegun, IsWholeIn, IsAsking, Falls, BeginFalls, BeginCloses, is_told, unread_len, work_left};
+    ghost use Rattle.http_edge.specs.Edges.{Stands, Expects, item, Steps, Begins, Fills, IsBegun, IsWholeIn, IsAsking, IsUnread, Falls, BeginFalls, BeginCloses, is_told, unread_len, work_left};
     ghost use Rattle.http_edge.specs.Edges as spec;
 
     /// No bytes, and room for 8,192.
@@ -48,6 +48,21 @@ impl Edge {
             waits: false,
             ended: false,
         })
+    }
+
+    /// Forgets what it was fed, and is as a new one. It takes no memory.
+    pub fn restart(&mut self)
+        ensures stands { Stands self.new [] }
+        ensures empty { unread_len self.new ≡ 0 }
+        ensures told { is_told self.new ≡ false }
+        ensures only { (text : List ℕ) → Stands self.new text → text ≡ [] }
+        ensures open { self.new.ended ≡ false }
+        ensures ready { self.new.waits ≡ false }
+    {
+        self.unread.clear();
+        self.begun = None;
+        self.waits = false;
+        self.ended = false;
     }
 
     /// An edge that goes on as this one does.
@@ -87,10 +102,11 @@ impl Edge {
         taken
     }
 
-    /// How many bytes are unread, at most 8,192.
+    /// How many bytes are unread, at most 8,192. What came in of the request begun is read.
     pub fn unread(&self) -> usize
         ensures len { result ≡ unread_len self.now }
         ensures few { result ≤ 8192 }
+        ensures counts { (text : List ℕ) → Stands self.now text → IsUnread text result }
     {
         self.unread.as_slice().len()
     }
@@ -107,6 +123,7 @@ impl Edge {
         ensures still_told { result ≡ Ok None → is_told self.new ≡ is_told self.old }
         ensures told_on_refusal { OnErr result (is_told self.new ≡ is_told self.old) }
         ensures less { IfOk result (λ item. Falls item (work_left self.old) (work_left self.new)) }
+        ensures behind { IfOk result (λ found. IfSome found (λ i. closes (item i) ≡ false → (text : List ℕ) → Stands self.new text → text ≡ self.new.unread)) }
     {
         if self.ended || self.waits {
             return Ok(None);
@@ -203,6 +220,7 @@ impl Edge {
         ensures none { result ≡ None → is_told self.old ≡ false }
         ensures some { IsBegun self.old → IsSome result }
         ensures less { Falls result (work_left self.old) (work_left self.new) }
+        ensures behind { (text : List ℕ) → Stands self.new text → text ≡ self.new.unread }
     {
         let begun = self.begun.take()?;
         self.waits = false;

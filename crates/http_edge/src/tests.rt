@@ -376,6 +376,19 @@ fn copies(rt: HostRuntime) -> Result<(), Fail> {
 }
 
 #[test]
+fn a_restart_forgets(rt: HostRuntime) -> Result<(), Fail> {
+    let mut edge = Edge::new(rt.alloc())?;
+    edge.feed(b"PUT /a HTTP/1.1\r\nHost: p\r\nContent-Length: 3\r\n\r\no");
+    let mut out = Vec::new(rt.alloc());
+    report(&mut edge, &mut out)?;
+    edge.restart();
+    edge.feed(b"GET /b HTTP/1.1\r\nHost: p\r\n\r\n");
+    report(&mut edge, &mut out)?;
+    assert_eq!(rt; out.as_slice(), &b"[GET /b ]"[..]);
+    Ok(())
+}
+
+#[test]
 fn fields_in_order(rt: HostRuntime) -> Result<(), Fail> {
     let mut edge = Edge::new(rt.alloc())?;
     edge.feed(b"GET / HTTP/1.1\r\nAccept: a\r\nHost: p\r\nACCEPT:  b \r\n\r\n");

@@ -68,6 +68,14 @@ impl Unread {
         n
     }
 
+    /// Drops all bytes.
+    pub fn clear(&mut self)
+        ensures { self.new ≡ [] }
+    {
+        self.bytes.clear();
+        self.start = 0;
+    }
+
     /// Drops the first bytes, which were read.
     pub fn skip(&mut self, n: usize)
         requires { n ≤ length self.old }

@@ -1,6 +1,6 @@
-//! An append-only list of entries.
+//! A list of entries, to which more are added at its end.
 
-ghost use Rattle.std.specs.Prelude.{◌≡◌, ◌≤◌, ◌<◌, ◌+◌, ◌==◌, ◌∷◌, ◌++◌, [], Some, length, map, MatchOption, IfOk, OnOk, OnErr, slice_get};
+ghost use Rattle.std.specs.Prelude.{◌≡◌, ◌≤◌, ◌<◌, ◌+◌, ◌==◌, ◌∷◌, ◌++◌, [], Some, length, map, MatchOption, IfOk, OnOk, OnErr, slice_get, take};
 ghost use Rattle.journal_book.specs.Views.{item_of};
 
 use crate::entry::Entry;
@@ -8,7 +8,7 @@ use std::alloc::{AllocError, Global};
 use std::marker::Model;
 use transformers::Relation;
 
-/// Entries in their order, to which more are added at the end alone.
+/// Entries in their order, to which more are added at the end, or which is cut to the first of them.
 #[derive(Drop)]
 pub struct Journal<R: Relation> {
     entries: Vec<Entry<R>>,
@@ -79,6 +79,15 @@ impl<R: Relation> Journal<R> {
         ensures room { self.new.room + 1 ≡ self.old.room }
     {
         self.entries.push_reserved(entry);
+    }
+
+    /// Keeps the first n entries, for one who takes back what added the others.
+    pub fn cut(&mut self, n: usize)
+        ensures entries { self.new.entries ≡ take n self.old.entries }
+        ensures room { self.old.room ≤ self.new.room }
+        ensures whole { n ≤ length self.old.entries → self.new.room + n ≡ self.old.room + length self.old.entries }
+    {
+        self.entries.truncate(n);
     }
 
     /// A journal with equal entries.

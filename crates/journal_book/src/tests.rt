@@ -104,3 +104,14 @@ fn numbers_count_four_bytes(rt: HostRuntime) {
     let copy = grounds.copy().expect(&rt, "memory");
     assert_eq!(rt; copy.size(), 8);
 }
+
+#[test]
+fn a_journal_is_cut(rt: HostRuntime) {
+    let alloc: Global = rt.alloc();
+    let mut journal = small_journal(alloc).expect(&rt, "memory");
+    journal.cut(5);
+    assert_eq!(rt; journal.len(), 3);
+    journal.cut(1);
+    assert_eq!(rt; journal.len(), 1);
+    assert!(rt; journal.get(0).is_some_and(|entry| entry.moment == 0));
+}

@@ -1,13 +1,14 @@
-use Rattle.std.proofs.Common.{◌≡◌, refl, ◌∙◌}
-use Rattle.exchange_core.proofs.Knowing.{got, after-at, after-none}
+use Rattle.std.proofs.Common.{refl, ◌∙◌}
+use Rattle.exchange_core.proofs.Knowing.{got-any, after-at, after-none}
 use Rattle.exchange_core.proofs.numbering.use_id.Goals as goal
 
-pub returns-in-Some : goal.returns-in-Some
-returns-in-Some c =
-    let place = rw (c.deref.ensures.value) at c.in-Some.ensures.some in
-    let is : c.index-k.result.now ≡ place.here = c.index-k.ensures ∙ got c.args.known.now.items c.in-Some.place place.here c.index-k.result.now place.stands in
-    rw is (after-at c.args.known.now.items _ _ c.in-Some.place place.here place.stands place.same place.first)
+pub returns-in-Some-clause-items : goal.returns-in-Some-clause-items
+returns-in-Some-clause-items c =
+    let xs = c.args.known.now.items in
+    let place = rw (c.as_slice.ensures) at c.in-Some.ensures.some in
+    let here = got-any xs c.in-Some.place place.here place.stands in
+    c.replace.ensures.items ∙ rw (c.as_slice-in-Some.ensures, here) (after-at xs _ _ c.in-Some.place place.here place.stands place.same place.first)
 
-pub returns-in-None : goal.returns-in-None
-returns-in-None c =
-    rw (c.push_reserved.ensures.items) (after-none _ _ _ (rw (c.deref.ensures.value) at (c.in-None.ensures.none refl)))
+pub returns-in-None-clause-items : goal.returns-in-None-clause-items
+returns-in-None-clause-items c =
+    c.add.ensures.items ∙ after-none _ _ _ (rw (c.as_slice.ensures) at (c.in-None.ensures.none refl))

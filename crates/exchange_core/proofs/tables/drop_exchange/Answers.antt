@@ -1,7 +1,16 @@
-use Rattle.std.proofs.Common.{not, rules, eqb}
-use Rattle.std.proofs.lemmas.Fn.{filter_same}
+use Rattle.std.proofs.Common.{◌≡◌, ◌≢◌, Some, ◌∙◌, refl}
+use Rattle.std.specs.Prelude.{option_map}
+use Rattle.std.specs.List.{All, slice_get}
 use Rattle.history_laws.specs.declared.kept.Exchange.{Exchange}
+use Rattle.exchange_core.proofs.Apart.{removed-at, removed-none}
 use Rattle.exchange_core.proofs.tables.drop_exchange.Goals as goal
 
-pub returns : goal.returns
-returns c = filter_same _ (λ (x : Exchange). not (eqb x.opening c.args.opening)) _ (λ x b f' k. search rules) _ _ c.retain.ensures.filtered
+pub returns-in-Some-clause-items : goal.returns-in-Some-clause-items
+returns-in-Some-clause-items c =
+    let at_it : option_map (λ (x : Exchange). x.opening) (slice_get c.args.exchanges.now.items c.in-Some.place) ≡ Some c.args.opening = rw (c.as_slice.ensures) at c.in-Some.ensures.some in
+    c.remove.ensures.items ∙ removed-at (λ (x : Exchange). x.opening) c.args.opening c.args.exchanges.now.items c.in-Some.place c.requires.apart at_it
+
+pub returns-in_default-clause-items : goal.returns-in_default-clause-items
+returns-in_default-clause-items c =
+    let none : All (λ (x : Exchange). x.opening ≢ c.args.opening) c.args.exchanges.now.items = rw (c.as_slice.ensures) at (c.in_default.ensures.none refl) in
+    removed-none (λ (x : Exchange). x.opening) c.args.opening c.args.exchanges.now.items none

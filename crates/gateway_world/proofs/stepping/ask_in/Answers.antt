@@ -1,5 +1,5 @@
 -- An ask adds its entry and what it leads to, or the seal.
-use Rattle.gateway_world.proofs.Advancing.{asked-advances, refused-alone}
+use Rattle.gateway_world.proofs.Advancing.{asked-advances, refused-alone, asked-opens}
 use Rattle.gateway_world.proofs.Serving.{refused-serves}
 use Rattle.gateway_world.proofs.Asking.{serves-asked}
 use Rattle.gateway_world.proofs.Attending.{attended-asked}
@@ -44,3 +44,8 @@ pub returns-clause-made : goal.returns-clause-made
 returns-clause-made g c =
     makes-ask c.ask.result (λ x. x.number) c.args.when _ _ c.args.conn _ _ _ _ _ _ _ _ _ _
     c.ask.ensures.adds c.ask.ensures.unknown c.ask.ensures.pending c.ask.ensures.sealed c.ask.ensures.memory c.ask.ensures.moment c.ask.ensures.sealed_at
+
+pub returns-clause-opens : goal.returns-clause-opens
+returns-clause-opens g c =
+    asked-opens c.ask.result (λ x. x.number) _ _ _ _ _ _ c.ask.ensures.adds
+    (refused-alone c.ask.result _ _ _ _ _ _ _ _ _ c.ask.ensures.unknown c.ask.ensures.pending c.ask.ensures.sealed c.ask.ensures.memory)

@@ -10,7 +10,7 @@ use Rattle.gateway_world.proofs.stepping.close_in.Goals as goal
 
 pub returns-clause-alone : goal.returns-clause-alone
 returns-clause-alone g c =
-    closing c.close.result _ _ c.args.conn _ _ refl refl c.close.ensures.closed c.close.ensures.unknown c.close.ensures.answers c.close.ensures.sends
+    closing c.close.result _ _ c.args.conn _ _ refl refl refl refl c.close.ensures.closed c.close.ensures.unknown c.close.ensures.answers c.close.ensures.sends
 
 pub returns-clause-gone : goal.returns-clause-gone
 returns-clause-gone g c = closed-gone c.close.result _ _ c.args.conn _ c.close.ensures.closed c.close.ensures.unknown

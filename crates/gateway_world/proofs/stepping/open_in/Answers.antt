@@ -1,5 +1,5 @@
 -- A connection is opened, or isn't.
-use Rattle.gateway_world.proofs.Advancing.{opened-advances, unopened-alone}
+use Rattle.gateway_world.proofs.Advancing.{opened-advances, unopened-alone, refused-opens}
 use Rattle.gateway_world.proofs.Serving.{refused-serves}
 use Rattle.gateway_world.proofs.Asking.{serves-opening}
 use Rattle.gateway_world.specs.Asks.{asked_by}
@@ -35,3 +35,6 @@ returns-clause-shuts g c = quiet-open shut_by shut-silent c.open.result _ _ _ _ 
 
 pub returns-clause-made : goal.returns-clause-made
 returns-clause-made g c = makes-open c.open.result _ _ _ _ _ _ _ _ _ _ _ _ _ _ _ _ c.open.ensures.ok c.open.ensures.full c.open.ensures.sealed c.open.ensures.memory c.open.ensures.moment c.open.ensures.sealed_at
+
+pub returns-clause-unopened : goal.returns-clause-unopened
+returns-clause-unopened g c = refused-opens c.open.result _ _ (unopened-alone c.open.result _ _ _ _ _ _ _ _ c.open.ensures.full c.open.ensures.sealed c.open.ensures.memory)

@@ -1,14 +1,13 @@
 -- Each datagram that is taken is given out.
-use Rattle.std.proofs.lemmas.Result.{err_from_is_err_and}
 use Rattle.std.proofs.Common.{refl, ◌∙◌}
 use Rattle.gateway_world.proofs.Closings.{silent-more}
-use Rattle.gateway_world.proofs.Going.{goes-none, sent-one, shorter, sent-grow}
+use Rattle.gateway_world.proofs.Going.{goes-none, sent-one, shorter}
 use Rattle.gateway_world.proofs.Serving.{same-serves}
 use Rattle.gateway_world.proofs.Continuing.{final-one}
 use Rattle.gateway_world.proofs.stepping.send_from.Goals as goal
 
 pub each-init : goal.each-init
-each-init g c = (goes-none _ _, record { entries = refl; conns = refl; answers = refl }, refl, refl, record { same = λ d. refl })
+each-init g c = (goes-none _ _, record { entries = refl; conns = refl; answers = refl }, refl, refl, record { same = λ d. refl }, refl)
 
 pub each-smaller : goal.each-smaller
 each-smaller g c = shorter _ _ _ (rw c.in-Some.is at c.take_send.ensures.some)
@@ -22,26 +21,20 @@ each-preserved g c =
       silent-more _ _ _ c.in_ok-push.ensures.items refl ∙ c.each.invariant.2,
       t.moment ∙ c.each.invariant.3,
       record { same = λ d. final-one d _ _ _ c.in_ok-push.ensures.items refl ∙ c.each.invariant.4.same d },
+      t.marked ∙ c.each.invariant.5,
     )
 
-pub returns-in_err-push : goal.returns-in_err-push
-returns-in_err-push g c =
-    let failed = err_from_is_err_and c.from_residual.result c.from_residual.ensures.1 in
-    let before = c.each.invariant.1 in
-    let t = c.take_send.ensures in
-    record {
-      leads = rw (failed.1) (sent-grow _ _ c.take_send.new.self _ _ c.each.invariant.0 t.entries);
-      sent = rw (failed.1) tt;
-      kept = λ rows s. same-serves _ _ rows (record { entries = t.entries ∙ before.entries; conns = t.conns ∙ before.conns; answers = t.answers ∙ before.answers }) s;
-      answers = t.answers ∙ before.answers;
-      entries = t.entries ∙ before.entries;
-      moment = t.moment ∙ c.each.invariant.3;
-      silent = rw (failed.1) tt;
-      no_interim = rw (failed.1) tt;
-    }
+pub returns-in_err-push-clause-core_mark : goal.returns-in_err-push-clause-core_mark
+returns-in_err-push-clause-core_mark g c = c.take_send.ensures.marked ∙ c.each.invariant.5
 
 pub returns-clause-silent : goal.returns-clause-silent
 returns-clause-silent g c = c.each.invariant.2
 
 pub returns-clause-no_interim : goal.returns-clause-no_interim
 returns-clause-no_interim g c = c.each.invariant.4
+
+pub returns-clause-kept : goal.returns-clause-kept
+returns-clause-kept g c = λ rows s.
+    let before = c.each.invariant.1 in
+    let t = c.take_send.ensures in
+    same-serves _ _ rows (record { entries = t.entries ∙ before.entries; conns = t.conns ∙ before.conns; answers = t.answers ∙ before.answers }) s

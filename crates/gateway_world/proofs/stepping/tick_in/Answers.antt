@@ -1,11 +1,10 @@
 -- A tick adds what it ends.
-use Rattle.gateway_world.proofs.Advancing.{same-alone}
 use Rattle.gateway_world.proofs.Lateness.{ticking}
 use Rattle.gateway_world.specs.Asks.{asked_by}
 use Rattle.gateway_world.specs.Closing.{shut_by}
-use Rattle.gateway_world.proofs.Quiet.{asked-silent, shut-silent, quiet-tick, quiet-same}
+use Rattle.gateway_world.proofs.Quiet.{asked-silent, shut-silent, quiet-tick}
 use Rattle.gateway_world.proofs.Entering.{tick-enters}
-use Rattle.gateway_world.proofs.Making.{makes-tick, makes-same}
+use Rattle.gateway_world.proofs.Making.{makes-tick}
 use Rattle.gateway_world.proofs.stepping.tick_in.Goals as goal
 
 pub returns-clause-alone : goal.returns-clause-alone
@@ -16,12 +15,6 @@ pub returns-clause-asks : goal.returns-clause-asks
 returns-clause-asks g c =
     λ d. quiet-tick (asked_by d) (asked-silent d) _ _ _ c.in_ok-tick.ensures.early c.in_ok-tick.ensures.ends c.in_ok-tick.ensures.seals c.in_ok-tick.ensures.sealed
 
-pub returns-in_err-tick-clause-alone : goal.returns-in_err-tick-clause-alone
-returns-in_err-tick-clause-alone g c = same-alone _ _ c.in_err-tick.ensures.memory
-
-pub returns-in_err-tick-clause-asks : goal.returns-in_err-tick-clause-asks
-returns-in_err-tick-clause-asks g c = λ d. quiet-same (asked_by d) (asked-silent d) _ _ c.in_err-tick.ensures.memory
-
 pub returns-clause-enters : goal.returns-clause-enters
 returns-clause-enters g c =
     tick-enters _ _ _ c.in_ok-tick.ensures.early c.in_ok-tick.ensures.ends c.in_ok-tick.ensures.seals c.in_ok-tick.ensures.sealed
@@ -29,11 +22,5 @@ returns-clause-enters g c =
 pub returns-clause-shuts : goal.returns-clause-shuts
 returns-clause-shuts g c = quiet-tick shut_by shut-silent _ _ _ c.in_ok-tick.ensures.early c.in_ok-tick.ensures.ends c.in_ok-tick.ensures.seals c.in_ok-tick.ensures.sealed
 
-pub returns-in_err-tick-clause-shuts : goal.returns-in_err-tick-clause-shuts
-returns-in_err-tick-clause-shuts g c = quiet-same shut_by shut-silent _ _ c.in_err-tick.ensures.memory
-
 pub returns-clause-made : goal.returns-clause-made
 returns-clause-made g c = makes-tick _ _ _ c.in_ok-tick.ensures.early c.in_ok-tick.ensures.ends c.in_ok-tick.ensures.seals c.in_ok-tick.ensures.sealed
-
-pub returns-in_err-tick-clause-made : goal.returns-in_err-tick-clause-made
-returns-in_err-tick-clause-made g c = makes-same _ _ _ c.in_err-tick.ensures.memory

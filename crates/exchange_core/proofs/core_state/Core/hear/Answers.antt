@@ -1,18 +1,24 @@
-use Rattle.std.proofs.Common.{rules, map, ◌≡◌, ◌≤◌, ℕ, false, ◌+◌, refl, sym, ap, subst, ◌∙◌, arith, length, List}
+use Rattle.std.proofs.Common.{rules, map, min, ◌≡◌, ◌≤◌, ℕ, false, ◌+◌, refl, sym, ap, subst, ◌∙◌, arith, length, List, []}
 use Rattle.std.specs.Prelude.{count_by, option_map}
 use Rattle.std.specs.Arc.{arc_value}
 use Rattle.std.proofs.lemmas.List.Sums.{count_by-le-length}
 use Rattle.history_laws.specs.declared.kept.Conn.{Conn}
 use Rattle.history_laws.specs.Kept.{Held}
+use Rattle.datagram_verdict.specs.Verdicts.{exchanges_by}
 use Rattle.exchange_core.specs.Room.{is_pending}
-use Rattle.exchange_core.specs.Steps.{outgoing_by}
+use Rattle.exchange_core.specs.Steps.{outgoing_by, conns_by}
 use Rattle.exchange_core.specs.CoreValue.{CoreValue, outgoing_of}
 use Rattle.exchange_core.specs.Hears.{NeverSentTo}
+use Rattle.exchange_core.proofs.Apart.{conns-apart, exchanges-apart}
 use Rattle.exchange_core.proofs.Dropping.{known-where-sent}
 use Rattle.exchange_core.proofs.Lists.{pushed}
 use Rattle.exchange_core.proofs.Unsent.{out-by}
 use Rattle.exchange_core.proofs.Stepping.{changed-so, remembered-so, waits-kept, some-map, few-heard, kept-heard, answer-added, changes-shown, hears-shown, seals-shown, no-room, heard-seals}
 use Rattle.exchange_core.proofs.Showing.{on-err}
+use Rattle.std.proofs.lemmas.List.Elements.{All-nil}
+use Rattle.exchange_core.specs.Answering.{IsWaited}
+use Rattle.exchange_core.proofs.GoingBack.{goes-on, marked-on, added-on, heard-more, made-room, no-more-room}
+use Rattle.exchange_core.proofs.Lists.{behind}
 use Rattle.exchange_core.proofs.core_state.Core.hear.Goals as goal
 
 pub answer_reader-requires-clause-few : goal.answer_reader-requires-clause-few
@@ -27,7 +33,7 @@ pub answer_reader-requires-clause-waits : goal.answer_reader-requires-clause-wai
 answer_reader-requires-clause-waits g c =
     let s = c.self.inside in
     waits-kept s.conns.items c.in_ok-ready.ensures.verdict.ending c.in_ok-ready.ready.reader s.outbox.waiting
-    (rw (c.deref-3.ensures.value) at c.in_ok-ready.ensures.reader) c.self.invariant.1.kept
+    (rw (c.as_slice-3.ensures) at c.in_ok-ready.ensures.reader) c.self.invariant.1.kept
 
 pub invariant_of-self-2 : goal.invariant_of-self-2
 invariant_of-self-2 g c =
@@ -37,7 +43,8 @@ invariant_of-self-2 g c =
     let tables : Held = record { exchanges = s.exchanges.items; opened = s.opened; issued = s.issued; known = s.known.items; heard = s.heard.items } in
     let known = known-where-sent s.journal.entries s.conns.items tables s.sealed s.last c.args.peer c.self.invariant.0.agrees
     (subst (λ (v : CoreValue). NeverSentTo c.args.peer v.entries → ⊥) (sym c.self.view_is) c.requires.sent) in
-    kept-heard s.journal.entries _ _ _ _ s.journal.room _ _ _ _ s.conns.items _ _ _ _
+    let left = min c.answer_reader.new.journal.room c.answer_reader.new.conns.spare in
+    let both = kept-heard s.journal.entries _ _ _ _ (min s.journal.room s.conns.spare) (left + 3) (left + 2) (left + 1) left s.conns.items _ _ _ _
     s.sealed s.bytes _ s.last _ c.len-number.result (1 + c.added-entries.result.0) (length c.args.bytes.now + 64 + c.added-entries.result.1)
     c.len-count.result c.pending_count-pending.result c.saturating_sub-waiting.result (map outgoing_of s.sends.items) _
     c.args.peer c.args.bytes.now _ c.is_some.result c.is_some-answers.result c.in_ok-ready.ensures.verdict (option_map arc_value c.in_ok-ready.ready.sent) c.in_ok-ready.ready.reader known.0
@@ -45,18 +52,25 @@ invariant_of-self-2 g c =
     c.self.invariant.0 c.self.invariant.1 unsealed
     later c.requires.early
     c.requires.short known.1 c.len-number.ensures
-    (rw (c.deref.ensures.value, c.deref-2.ensures.value) at c.in_ok-ready.ensures.is_verdict)
-    c.in_ok-ready.ensures.sent (rw (c.deref-3.ensures.value) at c.in_ok-ready.ensures.reader)
+    (rw (c.as_slice.ensures, c.as_slice-2.ensures) at c.in_ok-ready.ensures.is_verdict)
+    c.in_ok-ready.ensures.sent (rw (c.as_slice-3.ensures) at c.in_ok-ready.ensures.reader)
     (c.is_some.ensures ∙ sym (some-map arc_value c.in_ok-ready.ready.sent)) c.is_some-answers.ensures c.in_ok-ready.ensures.taken
-    (omega (arith, c.len-count.ensures, s.conns.ok.0)) (c.pending_count-pending.ensures ∙ ap (count_by is_pending) c.deref-4.ensures.value)
+    c.len-count.ensures (c.pending_count-pending.ensures ∙ ap (count_by is_pending) c.as_slice-4.ensures)
     (search rules)
     (ap (λ x. 1 + x.0) c.added-entries.ensures) (ap (λ x. length c.args.bytes.now + 64 + x.1) c.added-entries.ensures) (search rules)
     c.in_ok-make_places.ensures.entries (pushed _ _ _ _ c.add.ensures.entries c.heard_entry.ensures) c.send_confirmation.ensures.entries c.answer_reader.ensures.entries
-    (changed-so _ _ _ _ c.change_exchanges.ensures c.in_ok-ready.ensures.change) (remembered-so _ _ _ _ _ c.remember.ensures c.in_ok-ready.ensures.memory c.in_ok-make_places.ensures.heard) c.answer_reader.ensures.conns
+    (changed-so _ _ _ _ (c.change_exchanges.ensures.items ∙ ap (exchanges_by c.in_ok-ready.ready.change) c.in_ok-make_places.ensures.exchanges.items) c.in_ok-ready.ensures.change) (remembered-so _ _ _ _ _ c.remember.ensures.items c.in_ok-ready.ensures.memory c.in_ok-make_places.ensures.heard.items) (c.answer_reader.ensures.conns ∙ ap (conns_by c.in_ok-ready.ready.reader) c.in_ok-make_places.ensures.conns.items)
     c.answer_reader.ensures.waiting c.answer_reader.ensures.answers
-    c.in_ok-make_places.ensures.room c.add.ensures.room c.send_confirmation.ensures.room c.answer_reader.ensures.room
+    (omega (arith, c.in_ok-make_places.ensures.room, c.in_ok-make_places.ensures.conns_spare, c.add.ensures.room, c.send_confirmation.ensures.room, c.answer_reader.ensures.room, c.answer_reader.ensures.changed.spare)) (omega arith) (omega arith) (omega arith)
     c.saturating_add-self-inside.ensures
-    (out-by s.sends.items _ _ c.in_ok-ready.ready.datagram (outgoing_by c.args.peer (option_map arc_value c.in_ok-ready.ready.sent)) c.in_ok-make_places.ensures.sends c.put_out.ensures c.in_ok-ready.ensures.datagram)
+    (out-by s.sends.items _ _ c.in_ok-ready.ready.datagram (outgoing_by c.args.peer (option_map arc_value c.in_ok-ready.ready.sent)) c.in_ok-make_places.ensures.sends c.put_out.ensures c.in_ok-ready.ensures.datagram) in
+    let more = heard-more s.journal.entries _ _ _ _ _ _ _ _ _ c.in_ok-make_places.ensures.entries c.add.ensures.entries c.send_confirmation.ensures.entries c.answer_reader.ensures.entries in (
+      both.0,
+      both.1,
+      goes-on s.mark s.conns.marked _ s.exchanges.marked _ s.known.marked _ s.heard.marked _ s.outbox.asks _ [] s.journal.entries _ _ s.journal.room _ s.conns.limit _ c.self.invariant.2
+          (c.answer_reader.ensures.changed.marked ∙ c.in_ok-make_places.ensures.conns.marked) (c.change_exchanges.ensures.changed.marked ∙ c.in_ok-make_places.ensures.exchanges.marked) refl (c.remember.ensures.changed.marked ∙ c.in_ok-make_places.ensures.heard.marked) c.answer_reader.ensures.asks more.1
+          (All-nil (IsWaited _)) (let made = c.in_ok-make_places.ensures.kept in let added = added-on s.journal.entries _ _ c.make_places.new.journal.room c.add.new.self.room (behind _ _ _ _ c.add.ensures.entries c.in_ok-make_places.ensures.entries) c.add.ensures.room in omega (arith, made, added, c.send_confirmation.ensures.whole, c.answer_reader.ensures.whole)) (let roomy = c.in_ok-make_places.ensures.conns.limit in omega (arith, roomy, c.answer_reader.ensures.changed.limit)),
+    )
 
 pub returns-clause-heard : goal.returns-clause-heard
 returns-clause-heard g c =
@@ -68,12 +82,12 @@ returns-clause-heard g c =
     (subst (λ (v : CoreValue). NeverSentTo c.args.peer v.entries → ⊥) (sym c.self.view_is) c.requires.sent) in
     rw (← c.self.view_is) (hears-shown _ c.args.moment c.args.peer c.args.bytes.now _ _ (option_map arc_value c.in_ok-ready.ready.sent) (search rules) unsealed refl
     (answer-added _ c.args.peer c.args.bytes.now _ c.in_ok-ready.ensures.verdict.ending c.in_ok-ready.ready.reader s.outbox.waiting (option_map arc_value c.in_ok-ready.ready.sent) s.journal.entries _ _ _ _ _
-    (rw (c.deref-3.ensures.value) at c.in_ok-ready.ensures.reader) c.in_ok-ready.ensures.taken c.in_ok-make_places.ensures.entries (pushed _ _ _ _ c.add.ensures.entries c.heard_entry.ensures) c.send_confirmation.ensures.entries
-    c.answer_reader.ensures.entries c.answer_reader.ensures.conns c.answer_reader.ensures.answers)
-    (changes-shown s.journal.entries s.conns.items _ s.journal.room s.bytes s.last _ c.len-number.result c.args.peer c.args.bytes.now c.in_ok-ready.ensures.verdict known.0 s.sealed _
+    (rw (c.as_slice-3.ensures) at c.in_ok-ready.ensures.reader) c.in_ok-ready.ensures.taken c.in_ok-make_places.ensures.entries (pushed _ _ _ _ c.add.ensures.entries c.heard_entry.ensures) c.send_confirmation.ensures.entries
+    c.answer_reader.ensures.entries (c.answer_reader.ensures.conns ∙ ap (conns_by c.in_ok-ready.ready.reader) c.in_ok-make_places.ensures.conns.items) c.answer_reader.ensures.answers)
+    (changes-shown s.journal.entries s.conns.items _ (min s.journal.room s.conns.spare) s.bytes s.last _ c.len-number.result c.args.peer c.args.bytes.now c.in_ok-ready.ensures.verdict known.0 s.sealed _
     c.self.invariant.0 unsealed later c.requires.short
     known.1 c.len-number.ensures
-    (rw (c.deref.ensures.value, c.deref-2.ensures.value) at c.in_ok-ready.ensures.is_verdict) (changed-so _ _ _ _ c.change_exchanges.ensures c.in_ok-ready.ensures.change))
+    (rw (c.as_slice.ensures, c.as_slice-2.ensures) at c.in_ok-ready.ensures.is_verdict) (changed-so _ _ _ _ (c.change_exchanges.ensures.items ∙ ap (exchanges_by c.in_ok-ready.ready.change) c.in_ok-make_places.ensures.exchanges.items) c.in_ok-ready.ensures.change))
     (out-by s.sends.items _ _ c.in_ok-ready.ready.datagram (outgoing_by c.args.peer (option_map arc_value c.in_ok-ready.ready.sent)) c.in_ok-make_places.ensures.sends c.put_out.ensures c.in_ok-ready.ensures.datagram))
 
 pub seal-requires-clause-may : goal.seal-requires-clause-may
@@ -81,9 +95,9 @@ seal-requires-clause-may g c =
     let s = c.self.inside in
     let some = count_by-le-length is_pending s.conns.items in
     let unsealed = c.requires.unsealed in
-    let pending : c.pending_count-pending.result ≡ count_by is_pending s.conns.items = c.pending_count-pending.ensures ∙ ap (count_by is_pending) c.deref-4.ensures.value in
+    let pending : c.pending_count-pending.result ≡ count_by is_pending s.conns.items = c.pending_count-pending.ensures ∙ ap (count_by is_pending) c.as_slice-4.ensures in
     let few = c.self.invariant.0.few in
-    let count : c.len-count.result ≡ length s.conns.items = omega (arith, c.len-count.ensures, s.conns.ok.0) in
+    let count : c.len-count.result ≡ length s.conns.items = c.len-count.ensures in
     heard-seals c.args.self.now.entries (length c.args.bytes.now) c.len-count.result c.saturating_sub-waiting.result c.is_some.result c.is_some-answers.result
     (1 + c.added-entries.result.0) (length c.args.bytes.now + 64 + c.added-entries.result.1)
     (sym (c.has_room_for.ensures unsealed) ∙ c.if-not-has_room_for.true)
@@ -96,15 +110,38 @@ returns-then-not-has_room_for-clause-heard g c =
     let v = c.args.self.now in
     let unsealed = c.requires.unsealed in
     let conns = ap (λ (v : CoreValue). v.conns) c.self.view_is in
-    let count : c.len-count.result ≡ length s.conns.items = omega (arith, c.len-count.ensures, s.conns.ok.0) in
+    let count : c.len-count.result ≡ length s.conns.items = c.len-count.ensures in
     let a = c.seal.ensures in
     seals-shown _ c.args.moment c.args.peer c.args.bytes.now v c.seal.new.self (search rules)
     (no-room c.args.bytes.now v c.is_some.result c.is_some-answers.result c.has_room_for.result (1 + c.added-entries.result.0) (length c.args.bytes.now + 64 + c.added-entries.result.1)
     c.len-count.result c.pending_count-pending.result c.saturating_sub-waiting.result (c.has_room_for.ensures unsealed) c.if-not-has_room_for.true
     (ap (λ x. 1 + x.0) c.added-entries.ensures) (ap (λ x. length c.args.bytes.now + 64 + x.1) c.added-entries.ensures)
-    (count ∙ ap (λ (cs : List Conn). length cs) conns) (c.pending_count-pending.ensures ∙ ap (count_by is_pending) (c.deref-4.ensures.value ∙ conns)) (search rules))
+    (count ∙ ap (λ (cs : List Conn). length cs) conns) (c.pending_count-pending.ensures ∙ ap (count_by is_pending) (c.as_slice-4.ensures ∙ conns)) (search rules))
     a.sealed a.moment a.entries a.conns a.exchanges a.answers a.sends
 
 pub returns-in_err-make_places-clause-memory : goal.returns-in_err-make_places-clause-memory
 returns-in_err-make_places-clause-memory g c =
-    on-err c.from_residual-in_err-make_places.result _ (rw (c.in_err-make_places.ensures.entries, c.in_err-make_places.ensures.sends) (c.self.view_is))
+    on-err c.from_residual-in_err-make_places.result _ (rw (c.in_err-make_places.ensures.entries, c.in_err-make_places.ensures.sends, c.in_err-make_places.ensures.conns.items, c.in_err-make_places.ensures.conns.marked, c.in_err-make_places.ensures.exchanges.items, c.in_err-make_places.ensures.exchanges.marked) (c.self.view_is))
+
+pub change_exchanges-requires-clause-apart : goal.change_exchanges-requires-clause-apart
+change_exchanges-requires-clause-apart g c =
+    rw (c.in_ok-make_places.ensures.exchanges.items) (exchanges-apart _ _ _ _ _ c.self.invariant.0.agrees)
+
+pub answer_reader-requires-clause-apart : goal.answer_reader-requires-clause-apart
+answer_reader-requires-clause-apart g c =
+    rw (c.in_ok-make_places.ensures.conns.items) (conns-apart _ _ _ _ _ c.self.invariant.0.agrees)
+
+pub returns-clause-marked : goal.returns-clause-marked
+returns-clause-marked g c =
+    let s = c.self.inside in
+    let more = heard-more s.journal.entries _ _ _ _ _ _ _ _ _ c.in_ok-make_places.ensures.entries c.add.ensures.entries c.send_confirmation.ensures.entries c.answer_reader.ensures.entries in
+    marked-on s.mark s.conns.marked _ s.exchanges.marked _ s.known.marked s.heard.marked s.outbox.asks s.journal.entries _ _ s.journal.room s.conns.limit c.self.invariant.2
+    (c.answer_reader.ensures.changed.marked ∙ c.in_ok-make_places.ensures.conns.marked) (c.change_exchanges.ensures.changed.marked ∙ c.in_ok-make_places.ensures.exchanges.marked) more.1 ∙ ap (λ (v : CoreValue). v.marked) c.self.view_is
+
+pub invariant_of-self : goal.invariant_of-self
+invariant_of-self g c =
+    let s = c.self.inside in
+    made-room s.mark s.opened s.issued s.sealed s.bytes s.last s.journal c.make_places.new.journal s.conns c.make_places.new.conns s.exchanges c.make_places.new.exchanges s.known s.known s.heard c.make_places.new.heard s.outbox s.outbox (map outgoing_of s.sends.items) _
+    (record { kept = c.self.invariant.0; answerable = c.self.invariant.1; goes = c.self.invariant.2 })
+    c.in_err-make_places.ensures.entries (omega (arith, c.in_err-make_places.ensures.kept)) c.in_err-make_places.ensures.conns c.in_err-make_places.ensures.exchanges (no-more-room s.known) c.in_err-make_places.ensures.heard
+    refl refl refl (ap (map outgoing_of) c.in_err-make_places.ensures.sends)

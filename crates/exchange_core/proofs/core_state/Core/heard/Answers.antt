@@ -9,14 +9,14 @@ hear-requires-clause-sent g c never =
     let s = c.self.inside in
     let tables : Held = record { exchanges = s.exchanges.items; opened = s.opened; issued = s.issued; known = s.known.items; heard = s.heard.items } in
     was-sent c.args.self.now.entries s.conns.items tables s.sealed s.last c.args.peer c.in-Some.field-0
-    (rw (← c.self.view_is) (c.self.invariant.0.agrees)) (sym (rw (c.deref.ensures.value) at c.in-Some.ensures)) never
+    (rw (← c.self.view_is) (c.self.invariant.0.agrees)) (sym (rw (c.as_slice.ensures) at c.in-Some.ensures)) never
 
 pub returns-in_default-clause-heard : goal.returns-in_default-clause-heard
 returns-in_default-clause-heard g c =
     let s = c.self.inside in
     rw (← c.self.view_is) (inl (
       inr (inr (never-sent s.journal.entries s.conns.items _ s.sealed s.last c.args.peer c.self.invariant.0.agrees
-          (sym (rw (c.deref.ensures.value) at c.find_known.ensures) ∙ c.in_default.is))),
+          (sym (rw (c.as_slice.ensures) at c.find_known.ensures) ∙ c.in_default.is))),
       refl,
     ))
 
@@ -26,4 +26,4 @@ returns-clause-dropped g c dropped =
     let tables : Held = record { exchanges = s.exchanges.items; opened = s.opened; issued = s.issued; known = s.known.items; heard = s.heard.items } in
     absurd (not-dropped c.args.self.now s.conns.items tables c.self.inside.sealed c.self.inside.last c.args.peer c.args.bytes.now c.in-Some.field-0
     (rw (← c.self.view_is) (c.self.invariant.0.agrees)) (sym (ap (λ (v : CoreValue). v.sealed) c.self.view_is) ∙ c.if-self.false)
-    (omega (arith, c.if-bytes-gt-DATAGRAM.false)) (sym (rw (c.deref.ensures.value) at c.in-Some.ensures)) dropped)
+    (omega (arith, c.if-bytes-gt-DATAGRAM.false)) (sym (rw (c.as_slice.ensures) at c.in-Some.ensures)) dropped)

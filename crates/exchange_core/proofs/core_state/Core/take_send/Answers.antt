@@ -11,4 +11,5 @@ invariant_of-self g c =
         kept = a.kept;
         unsent = unsent-taken _ c.self.inside.sends.items _ c.pop_front.result c.pop_front.ensures.items a.unsent;
       },
+      c.self.invariant.2,
     )

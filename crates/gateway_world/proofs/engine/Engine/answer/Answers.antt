@@ -4,7 +4,7 @@ use Rattle.gateway_world.proofs.Settling.{attended-then, leaves-then, told-then,
 use Rattle.gateway_world.proofs.Reading.{order-none, order-call}
 use Rattle.gateway_world.proofs.Prompting.{apart-call}
 use Rattle.gateway_world.proofs.Closings.{closes-call}
-use Rattle.gateway_world.proofs.Making.{makes-then}
+use Rattle.gateway_world.proofs.Making.{makes-call}
 use Rattle.gateway_world.proofs.Continuing.{answered-tells}
 use Rattle.gateway_world.proofs.engine.Engine.answer.Goals as goal
 
@@ -34,7 +34,7 @@ pub returns-clause-closes : goal.returns-clause-closes
 returns-clause-closes g c = closes-call c.serve.result _ _ _ _ _ _ c.in_ok-give.ensures.closes c.serve.ensures.closes
 
 pub returns-clause-made : goal.returns-clause-made
-returns-clause-made g c = makes-then _ _ _ _ c.in_ok-give.ensures.made c.serve.ensures.made
+returns-clause-made g c = makes-call c.serve.result _ _ _ _ c.in_ok-give.ensures.made c.serve.ensures.made
 
 pub returns-clause-continues : goal.returns-clause-continues
 returns-clause-continues g c =

@@ -1,6 +1,6 @@
 -- Each answer follows what was given out before.
 use Rattle.gateway_world.proofs.Going.{goes-none, goes-on}
-use Rattle.std.proofs.Common.{refl}
+use Rattle.std.proofs.Common.{refl, ◌∙◌}
 use Rattle.gateway_world.proofs.Owing.{owed-fewer, none-answered}
 use Rattle.gateway_world.proofs.Reading.{order-quiet, order-then}
 use Rattle.gateway_world.proofs.Prompting.{prompt-all}
@@ -10,7 +10,7 @@ use Rattle.gateway_world.proofs.Continuing.{none-yet, answers-then}
 use Rattle.gateway_world.proofs.engine.Engine.answer_all.Goals as goal
 
 pub each-init : goal.each-init
-each-init g c = (goes-none _ _, c.requires, (λ e. e), (λ w. w), order-quiet _ _ _ _ _ (λ d. refl) refl, (λ none. (refl, none)), (λ w. w), closes-same _ _ _ refl, makes-same _ _ _ refl, none-yet _ _ _ _)
+each-init g c = (goes-none _ _, c.requires, (λ e. e), (λ w. w), order-quiet _ _ _ _ _ (λ d. refl) refl refl, (λ none. (refl, none)), (λ w. w), closes-same _ _ _ refl, makes-same _ _ _ refl, none-yet _ _ _ _, refl, refl)
 
 pub each-preserved : goal.each-preserved
 each-preserved g c =
@@ -26,6 +26,8 @@ each-preserved g c =
       closes-then _ _ _ _ _ _ before.7 next.closes,
       makes-then _ _ _ _ before.8 next.made,
       answers-then _ c.in-Some.number c.each.self.core _ _ _ _ _ _ _ _ _ _ before.1.numbered (rw (c.in-Some.is) at (c.first_answered.ensures.some)) before.9 before.4 next.asks next.apart next.continues,
+      next.marked ∙ before.10,
+      next.core_mark ∙ before.11,
     )
 
 pub each-smaller : goal.each-smaller
@@ -38,6 +40,3 @@ returns-clause-settled g c = λ e w. record { sends = c.each.invariant.2 e; answ
 
 pub returns-clause-quiet : goal.returns-clause-quiet
 returns-clause-quiet g c = λ none. (c.each.invariant.5 none).0
-
-pub returns-in_err-answer-clause-made : goal.returns-in_err-answer-clause-made
-returns-in_err-answer-clause-made g c = makes-then _ _ _ _ c.each.invariant.8 c.in_err-answer.ensures.made

@@ -12,6 +12,7 @@ use Rattle.gateway_world.specs.Continuing.{TellsToGoOn}
 use Rattle.gateway_world.specs.Making.{Makes}
 use Rattle.gateway_world.specs.Prompt.{IsPrompt}
 use Rattle.gateway_world.proofs.Owing.{owed}
+use Rattle.gateway_world.specs.Undo.{shown_at_mark}
 use Rattle.gateway_world.proofs.engine.Engine.answer_all.Given as goal
 
 abbrev pub invariant-each : goal.invariant-each
@@ -25,6 +26,8 @@ invariant-each g l =
     × TellsClosings l.initial.self.core.entries l.self.core.entries l.initial.outputs.items l.outputs.items
     × Makes l.context.when l.initial.self.core l.self.core
     × ((c : ℕ) → TellsToGoOn c l.initial.self.core.entries (inlets_of l.initial.self.table) l.initial.outputs.items l.self.core.entries (rows_of l.self.table) (inlets_of l.self.table) l.outputs.items)
+    × (shown_at_mark l.self.table ≡ shown_at_mark l.initial.self.table)
+    × (l.self.core.marked ≡ l.initial.self.core.marked)
 
 abbrev pub decreases-each : goal.decreases-each
 decreases-each g l = length (owed l.self.core (rows_of l.self.table))

@@ -14,8 +14,9 @@ use Rattle.gateway_world.proofs.Heeding.{asks-here, asks-elsewhere}
 use Rattle.gateway_world.proofs.Prompting.{apart-with, apart-call}
 use Rattle.gateway_world.specs.Closing.{shut_in}
 use Rattle.gateway_world.proofs.Closings.{closes-none, closes-call}
-use Rattle.gateway_world.proofs.Making.{makes-none, makes-same, makes-then}
+use Rattle.gateway_world.proofs.Making.{makes-none, makes-then, makes-call}
 use Rattle.gateway_world.proofs.Continuing.{final-call}
+use Rattle.exchange_core.specs.CoreValue.{connections}
 use Rattle.gateway_world.proofs.engine.Engine.ask.Goals as goal
 
 pub returns-in_ok-send_from-in-Ok-clause-leads : goal.returns-in_ok-send_from-in-Ok-clause-leads
@@ -39,8 +40,10 @@ pub returns-in-Err-Unknown : goal.returns-in-Err-Unknown
 returns-in-Err-Unknown g c = record {
   leads = leads-on c.shut.result _ _ _ _ _ _ (goes-advancing _ _ _ (standing-of _ _ c.requires.served) c.ask_in.ensures.advances) c.shut.ensures.leads;
   kept = c.shut.ensures.kept;
+  marked = c.shut.ensures.marked;
+  core_mark = c.shut.ensures.core_mark ∙ c.ask_in.ensures.core_mark;
   no_interim = c.shut.ensures.no_interim;
-  made = makes-then _ _ _ _ c.ask_in.ensures.made c.shut.ensures.made;
+  made = makes-call c.shut.result _ _ _ _ c.ask_in.ensures.made c.shut.ensures.made;
   leaves = leaves-then c.shut.result c.args.number _ _ _ _ _ _ (advances-grow _ _ c.ask_in.ensures.advances)
       (record {
         others = (leaves-none c.args.number c.args.self.now.core _).others;
@@ -51,7 +54,7 @@ returns-in-Err-Unknown g c = record {
   sent = sent-then c.shut.result _ _ _ (λ e. c.in-Err-Unknown.ensures.sends ∙ e) c.shut.ensures.sent;
   closes = closes-call c.shut.result _ _ _ _ _ _ (closes-none _ _ _ _ c.ask_in.ensures.shuts refl) c.shut.ensures.closes;
   apart = c.shut.ensures.apart;
-  asks = one-ended _ c.shut.result _ c.args.number _ _ _ _ _ c.in-Err-Unknown.ensures.refused c.shut.ensures.asks c.shut.ensures.over;
+  asks = one-ended _ c.shut.result _ c.args.number _ _ _ _ _ c.in-Err-Unknown.ensures.refused c.ask_in.ensures.opens c.shut.ensures.asks c.shut.ensures.gone;
   attended = attended-then c.shut.result _ _ _ (attended-same c.args.self.now.core c.ask_in.new.core _ c.in-Err-Unknown.ensures.same)
       (told-then c.shut.result _ _ (served-idle-row c.args.number c.ask_in.new.core _ c.requires.served.numbered c.requires.idle) c.shut.ensures.attended);
 }
@@ -69,6 +72,7 @@ returns-in_ok-send_from-in-Ok-clause-asks g c =
     one-asked _ c.give.result _ c.args.number _ _ _ _ _ _
     (λ d other. ap (asked_on d) sent ∙ asked d ∙ ap (λ (s : List Ask). asked_on d c.args.self.now.core.entries ++ s)
     (asks-elsewhere d c.args.number (ask_of (arc_value c.in_ok-mapped-2.mapped)) other) ∙ append-nil _)
+    (ap connections sent ∙ c.ask_in.ensures.opens)
     (asks-here _ c.args.number (arc_value c.in_ok-mapped-2.mapped) c.args.incoming _ _ (ap (λ (m : Mapping). m.came) held ∙ mapped.came) (rw held mapped.maps) (ap (asked_on c.args.number) sent ∙ asked c.args.number))
     c.set_ticket.ensures.inlets c.give.ensures.asks
 
@@ -83,18 +87,7 @@ returns-in_ok-send_from-in-Ok-clause-closes g c =
 pub returns-in_ok-send_from-in-Ok-clause-made : goal.returns-in_ok-send_from-in-Ok-clause-made
 returns-in_ok-send_from-in-Ok-clause-made g c =
     let sent = c.in_ok-send_from-in-Ok.ensures in
-    makes-then _ _ _ _ c.ask_in.ensures.made (makes-then _ _ _ _ (makes-none _ _ _ sent.entries sent.moment) c.give.ensures.made)
-
-pub returns-in_err-send_from-in-Ok-clause-made : goal.returns-in_err-send_from-in-Ok-clause-made
-returns-in_err-send_from-in-Ok-clause-made g c =
-    let sent = c.in_err-send_from-in-Ok.ensures in
-    makes-then _ _ _ _ c.ask_in.ensures.made (makes-none _ _ _ sent.entries sent.moment)
-
-pub returns-in_err-mapped-clause-made : goal.returns-in_err-mapped-clause-made
-returns-in_err-mapped-clause-made g c = makes-same _ _ _ refl
-
-pub returns-in_err-mapped-2-clause-made : goal.returns-in_err-mapped-2-clause-made
-returns-in_err-mapped-2-clause-made g c = makes-same _ _ _ refl
+    makes-call c.give.result _ _ _ _ (makes-then _ _ _ _ c.ask_in.ensures.made (makes-none _ _ _ sent.entries sent.moment)) c.give.ensures.made
 
 pub returns-in_ok-send_from-in-Ok-clause-no_interim : goal.returns-in_ok-send_from-in-Ok-clause-no_interim
 returns-in_ok-send_from-in-Ok-clause-no_interim g c = final-call c.give.result _ _ _ c.in_ok-send_from-in-Ok.ensures.no_interim c.give.ensures.no_interim

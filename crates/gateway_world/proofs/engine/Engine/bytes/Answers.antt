@@ -2,8 +2,6 @@
 use Rattle.gateway_world.proofs.Settling.{settled-served}
 use Rattle.gateway_world.proofs.Heeding.{fed-others, fed-reads, fed-over}
 use Rattle.gateway_world.proofs.Prompting.{apart-read, apart-call, prompt-call}
-use Rattle.gateway_world.proofs.Making.{makes-same}
-use Rattle.std.proofs.Common.{refl}
 use Rattle.gateway_world.proofs.Continuing.{fed-tells}
 use Rattle.gateway_world.proofs.engine.Engine.bytes.Goals as goal
 
@@ -25,9 +23,6 @@ pub returns-clause-prompt : goal.returns-clause-prompt
 returns-clause-prompt g c =
     prompt-call c.serve.result c.args.number _ _ _ _
     (apart-call c.serve.result c.args.number _ _ _ _ _ _ (apart-read c.args.number _ _ _ _ c.append.ensures.rows c.append.ensures.others) c.serve.ensures.apart) c.serve.ensures.prompt
-
-pub returns-in_err-append-clause-made : goal.returns-in_err-append-clause-made
-returns-in_err-append-clause-made g c = makes-same _ _ _ refl
 
 pub returns-clause-continues : goal.returns-clause-continues
 returns-clause-continues g c =

@@ -1,6 +1,6 @@
 -- What is closed isn't served any more.
 use Rattle.gateway_world.proofs.Serving.{serves-on, serves-without}
-use Rattle.gateway_world.proofs.Reading.{none-without, over-without}
+use Rattle.gateway_world.proofs.Reading.{none-without, gone-without}
 use Rattle.gateway_world.proofs.Prompting.{apart-without, prompt-all, prompt-closed}
 use Rattle.gateway_world.proofs.Inlets.{inbox-without}
 use Rattle.gateway_world.specs.Asks.{inbox_at}
@@ -11,10 +11,10 @@ pub returns-clause-kept : goal.returns-clause-kept
 returns-clause-kept g c = rw (c.remove.ensures.rows) (serves-without _ _ c.args.number c.close_in-closed.ensures.gone (serves-on _ _ _ c.close_in-closed.ensures.alone c.requires))
 
 pub returns-clause-asks : goal.returns-clause-asks
-returns-clause-asks g c = none-without c.args.number _ _ _ _ c.close_in-closed.ensures.asks c.remove.ensures.inlets
+returns-clause-asks g c = none-without c.args.number _ _ _ _ c.close_in-closed.ensures.asks c.close_in-closed.ensures.alone.opens c.remove.ensures.inlets
 
-pub returns-clause-over : goal.returns-clause-over
-returns-clause-over g c = over-without c.args.number _ _ c.remove.ensures.inlets
+pub returns-clause-gone : goal.returns-clause-gone
+returns-clause-gone g c = gone-without c.args.number _ _ c.remove.ensures.inlets
 
 pub returns-clause-apart : goal.returns-clause-apart
 returns-clause-apart g c = apart-without c.args.number _ _ _ _ c.remove.ensures.rows c.remove.ensures.inlets

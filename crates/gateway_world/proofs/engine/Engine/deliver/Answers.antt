@@ -7,8 +7,9 @@ use Rattle.gateway_world.specs.Asks.{asked_on}
 use Rattle.gateway_world.proofs.Entering.{quiet-then}
 use Rattle.gateway_world.proofs.Closings.{closes-none, closes-call}
 use Rattle.gateway_world.specs.Closing.{shut_in}
-use Rattle.gateway_world.proofs.Making.{makes-none, makes-then}
+use Rattle.gateway_world.proofs.Making.{makes-none, makes-call}
 use Rattle.gateway_world.proofs.Continuing.{quiet-call}
+use Rattle.exchange_core.specs.CoreValue.{connections}
 use Rattle.gateway_world.proofs.engine.Engine.deliver.Goals as goal
 
 pub answer_all-requires : goal.answer_all-requires
@@ -24,7 +25,7 @@ returns-clause-settled g c =
 
 pub returns-clause-asks : goal.returns-clause-asks
 returns-clause-asks g c =
-    order-call _ c.answer_all.result _ _ _ _ _ _ (order-quiet _ _ _ _ _ (λ d. ap (asked_on d) c.in_ok-send_from.ensures.entries) refl) c.answer_all.ensures.asks
+    order-call _ c.answer_all.result _ _ _ _ _ _ (order-quiet _ _ _ _ _ (λ d. ap (asked_on d) c.in_ok-send_from.ensures.entries) (ap connections c.in_ok-send_from.ensures.entries) refl) c.answer_all.ensures.asks
 
 pub returns-clause-quiet : goal.returns-clause-quiet
 returns-clause-quiet g c =
@@ -35,10 +36,7 @@ returns-clause-closes g c =
     closes-call c.answer_all.result _ _ _ _ _ _ (closes-none _ _ _ _ (ap shut_in c.in_ok-send_from.ensures.entries) c.in_ok-send_from.ensures.silent) c.answer_all.ensures.closes
 
 pub returns-clause-made : goal.returns-clause-made
-returns-clause-made g c = makes-then _ _ _ _ (makes-none _ _ _ c.in_ok-send_from.ensures.entries c.in_ok-send_from.ensures.moment) c.answer_all.ensures.made
-
-pub returns-in_err-send_from-clause-made : goal.returns-in_err-send_from-clause-made
-returns-in_err-send_from-clause-made g c = makes-none _ _ _ c.in_err-send_from.ensures.entries c.in_err-send_from.ensures.moment
+returns-clause-made g c = makes-call c.answer_all.result _ _ _ _ (makes-none _ _ _ c.in_ok-send_from.ensures.entries c.in_ok-send_from.ensures.moment) c.answer_all.ensures.made
 
 pub returns-clause-continues : goal.returns-clause-continues
 returns-clause-continues g c =

@@ -6,7 +6,7 @@ use Rattle.std.proofs.Common.{refl}
 use Rattle.gateway_world.proofs.Reading.{order-quiet, order-call}
 use Rattle.gateway_world.proofs.Entering.{heard-enters}
 use Rattle.gateway_world.proofs.Closings.{closes-none, closes-call}
-use Rattle.gateway_world.proofs.Making.{makes-then}
+use Rattle.gateway_world.proofs.Making.{makes-call}
 use Rattle.gateway_world.proofs.Continuing.{quiet-call}
 use Rattle.gateway_world.proofs.engine.Engine.heard.Goals as goal
 
@@ -17,15 +17,12 @@ pub returns-clause-leads : goal.returns-clause-leads
 returns-clause-leads g c =
     leads-on c.deliver.result _ _ _ _ _ _ (goes-advancing _ _ _ (standing-of _ _ c.requires) c.in_ok-hear_in.ensures.alone.step) c.deliver.ensures.leads
 
-pub returns-in_err-hear_in-clause-kept : goal.returns-in_err-hear_in-clause-kept
-returns-in_err-hear_in-clause-kept g c = serves-on _ _ _ c.hear_in.ensures.alone c.requires
-
 pub returns-clause-settled : goal.returns-clause-settled
 returns-clause-settled g c =
     attended-then c.deliver.result _ _ _ (λ w. attended-heard c.args.self.now.core c.hear_in.new.core _ c.requires c.in_ok-hear_in.ensures.alone w.answers) c.deliver.ensures.settled
 
 pub returns-clause-asks : goal.returns-clause-asks
-returns-clause-asks g c = order-call _ c.deliver.result _ _ _ _ _ _ (order-quiet _ _ _ _ _ c.in_ok-hear_in.ensures.asks refl) c.deliver.ensures.asks
+returns-clause-asks g c = order-call _ c.deliver.result _ _ _ _ _ _ (order-quiet _ _ _ _ _ c.in_ok-hear_in.ensures.asks c.in_ok-hear_in.ensures.alone.opens refl) c.deliver.ensures.asks
 
 pub returns-clause-enters : goal.returns-clause-enters
 returns-clause-enters g c =
@@ -35,7 +32,7 @@ pub returns-clause-closes : goal.returns-clause-closes
 returns-clause-closes g c = closes-call c.deliver.result _ _ _ _ _ _ (closes-none _ _ _ _ c.in_ok-hear_in.ensures.shuts refl) c.deliver.ensures.closes
 
 pub returns-clause-made : goal.returns-clause-made
-returns-clause-made g c = makes-then _ _ _ _ c.hear_in.ensures.made c.deliver.ensures.made
+returns-clause-made g c = makes-call c.deliver.result _ _ _ _ c.in_ok-hear_in.ensures.made c.deliver.ensures.made
 
 pub returns-clause-continues : goal.returns-clause-continues
 returns-clause-continues g c = quiet-call c.deliver.result _ _ _ _ _ _ _ _ _ c.in_ok-hear_in.ensures.asks (record { same = λ d. refl }) c.deliver.ensures.continues

@@ -1,18 +1,17 @@
 -- A connection is opened and served, or that it isn't is told.
-use Rattle.std.proofs.lemmas.Result.{err_from_is_err_and}
-use Rattle.gateway_world.proofs.Going.{goes-advancing, goes-grow, goes-none, leads-on, told-leads}
+use Rattle.gateway_world.proofs.Going.{goes-advancing, leads-on, told-leads}
 use Rattle.gateway_world.proofs.Serving.{standing-of}
 use Rattle.gateway_world.proofs.Settling.{on-ok, settled-same}
 use Rattle.std.proofs.Common.{inl, List, [], ◌∷◌, ◌++◌, refl, ap, ◌∙◌}
 use Rattle.std.proofs.Common.{None}
 use Rattle.gateway_world.specs.Rows.{Row}
 use Rattle.gateway_world.specs.Asks.{Inlet}
-use Rattle.gateway_world.proofs.Heeding.{heeds-open, heeds-quiet}
+use Rattle.gateway_world.specs.Inboxes.{Unasked}
+use Rattle.gateway_world.proofs.Heeding.{heeds-open, heeds-quiet, opens-one}
 use Rattle.gateway_world.proofs.Entering.{turned-away}
 use Rattle.gateway_world.proofs.Reading.{order-quiet}
 use Rattle.gateway_world.proofs.Prompting.{prompt-open}
 use Rattle.gateway_world.proofs.Closings.{closes-none, closes-turned}
-use Rattle.gateway_world.proofs.Making.{makes-same}
 use Rattle.gateway_world.proofs.Continuing.{opened-tells, turned-tells}
 use Rattle.gateway_world.proofs.engine.Engine.open.Goals as goal
 
@@ -22,13 +21,15 @@ returns-in-Ok-clause-leads g c = goes-advancing _ _ _ (standing-of _ _ c.require
 pub returns-in-Err : goal.returns-in-Err
 returns-in-Err g c = record {
   leads = leads-on c.tell_turned.result _ _ _ _ _ _ (goes-advancing _ _ _ (standing-of _ _ c.requires) c.open_in.ensures.advances) (told-leads _ _ _ _ c.tell_turned.ensures.told);
-  kept = rw (c.make_room.ensures.rows) (c.in-Err.ensures.kept _ c.requires);
-  made = c.open_in.ensures.made;
+  kept = on-ok c.tell_turned.result _ (rw (c.make_room.ensures.rows) (c.in-Err.ensures.kept _ c.requires));
+  made = on-ok c.tell_turned.result _ c.open_in.ensures.made;
+  marked = c.make_room.ensures.marked;
+  core_mark = c.open_in.ensures.core_mark;
   continues = turned-tells c.tell_turned.result _ _ _ _ _ _ _ c.open_in.ensures.asks c.make_room.ensures.inlets c.tell_turned.ensures.turned;
   enters = turned-away c.tell_turned.result _ c.args.self.now.core c.open_in.new.core _ _ _ c.in-Err.ensures.enters c.tell_turned.ensures.fault c.tell_turned.ensures.turned;
   closes = closes-turned c.tell_turned.result _ _ _ _ c.open_in.ensures.shuts c.tell_turned.ensures.turned;
   prompt = on-ok c.tell_turned.result _ (λ w. rw (c.make_room.ensures.rows, c.make_room.ensures.inlets) w);
-  asks = heeds-quiet _ c.tell_turned.result _ _ _ _ _ (λ d. refl) (on-ok c.tell_turned.result _ (order-quiet _ _ _ _ _ c.open_in.ensures.asks c.make_room.ensures.inlets));
+  asks = heeds-quiet _ c.tell_turned.result _ _ _ _ _ (λ d. refl) (on-ok c.tell_turned.result _ (order-quiet _ _ _ _ _ c.open_in.ensures.asks c.in-Err.ensures.unopened c.make_room.ensures.inlets));
   settled = on-ok c.tell_turned.result _ (settled-same c.args.self.now.core c.open_in.new.core c.open_in.ensures.answers c.open_in.ensures.sends);
 }
 
@@ -37,34 +38,23 @@ returns-in-Ok-clause-settled g c = settled-same c.args.self.now.core c.open_in.n
 
 pub returns-in-Ok-clause-asks : goal.returns-in-Ok-clause-asks
 returns-in-Ok-clause-asks g c =
-    let put = c.add.ensures.inlets in
-    heeds-open _ _ _ _ put.0 _ _ _ c.in-Ok.ensures.fresh c.requires.opened (c.in-Ok.ensures.opened _ c.requires).opened c.open_in.ensures.asks (put.1 ∙ ap (λ (is : List Inlet). is ++ record { number = c.in-Ok.number; inbox = put.0 } ∷ []) c.make_room.ensures.inlets) put.2 (put.3 c.in_ok-edge.ensures.stands)
+    let is = c.in_ok-inbox.ensures.current in
+    heeds-open _ _ _ _ c.in_ok-inbox.inbox.current _ _ _ c.in-Ok.ensures.fresh c.requires.opened (c.in-Ok.ensures.opened _ c.requires).opened c.open_in.ensures.asks (opens-one _ _ _ _ c.in-Ok.ensures.enters) (c.add.ensures.inlets ∙ ap (λ (xs : List Inlet). xs ++ record { number = c.in-Ok.number; inbox = c.in_ok-inbox.inbox.current } ∷ []) c.make_room.ensures.inlets) (ap (λ (u : Unasked). u.closing) is) (ap (λ (u : Unasked). u.text) is)
 
 pub returns-in-Ok-clause-enters : goal.returns-in-Ok-clause-enters
 returns-in-Ok-clause-enters g c = inl (c.in-Ok.ensures.enters, refl)
 
 pub returns-in-Ok-clause-prompt : goal.returns-in-Ok-clause-prompt
 returns-in-Ok-clause-prompt g c =
-    let put = c.add.ensures.inlets in
-    prompt-open _ _ _ put.0 c.args.self.now.core.entries _ c.in-Ok.ensures.fresh c.requires.opened (c.add.ensures.rows ∙ ap (λ (rs : List Row). rs ++ record { number = c.in-Ok.number; waits = None } ∷ []) c.make_room.ensures.rows)
-    (put.1 ∙ ap (λ (is : List Inlet). is ++ record { number = c.in-Ok.number; inbox = put.0 } ∷ []) c.make_room.ensures.inlets) (put.4 c.in_ok-edge.ensures.only) (put.5 c.in_ok-edge.ensures.told)
+    let is = c.in_ok-inbox.ensures.current in
+    prompt-open _ _ _ c.in_ok-inbox.inbox.current c.args.self.now.core.entries _ c.in-Ok.ensures.fresh c.requires.opened (c.add.ensures.rows ∙ ap (λ (rs : List Row). rs ++ record { number = c.in-Ok.number; waits = None } ∷ []) c.make_room.ensures.rows)
+    (c.add.ensures.inlets ∙ ap (λ (xs : List Inlet). xs ++ record { number = c.in-Ok.number; inbox = c.in_ok-inbox.inbox.current } ∷ []) c.make_room.ensures.inlets) (ap (λ (u : Unasked). u.text) is) (ap (λ (u : Unasked). u.told) is)
 
 pub returns-in-Ok-clause-closes : goal.returns-in-Ok-clause-closes
 returns-in-Ok-clause-closes g c = closes-none _ _ _ _ c.open_in.ensures.shuts refl
 
-pub returns-in_err-edge-clause-made : goal.returns-in_err-edge-clause-made
-returns-in_err-edge-clause-made g c = makes-same _ _ _ refl
-
-pub returns-in_err-make_room-clause-made : goal.returns-in_err-make_room-clause-made
-returns-in_err-make_room-clause-made g c = makes-same _ _ _ refl
-
-pub returns-in_err-make_room-clause-leads : goal.returns-in_err-make_room-clause-leads
-returns-in_err-make_room-clause-leads g c =
-    let failed = err_from_is_err_and c.from_residual-in_err-make_room.result c.from_residual-in_err-make_room.ensures.1 in
-    rw (failed.1) (goes-grow _ _ _ _ (goes-none c.args.self.now.core c.args.outputs.now.items))
-
 pub returns-in-Ok-clause-continues : goal.returns-in-Ok-clause-continues
 returns-in-Ok-clause-continues g c =
-    let put = c.add.ensures.inlets in
-    opened-tells _ c.in-Ok.number put.0 _ _ _ _ _ (rw (c.in-Ok.ensures.fresh) c.requires.opened)
-    (put.1 ∙ ap (λ (is : List Inlet). is ++ record { number = c.in-Ok.number; inbox = put.0 } ∷ []) c.make_room.ensures.inlets) (put.5 c.in_ok-edge.ensures.told) c.open_in.ensures.asks
+    let is = c.in_ok-inbox.ensures.current in
+    opened-tells _ c.in-Ok.number c.in_ok-inbox.inbox.current _ _ _ _ _ (rw (c.in-Ok.ensures.fresh) c.requires.opened)
+    (c.add.ensures.inlets ∙ ap (λ (xs : List Inlet). xs ++ record { number = c.in-Ok.number; inbox = c.in_ok-inbox.inbox.current } ∷ []) c.make_room.ensures.inlets) (ap (λ (u : Unasked). u.told) is) c.open_in.ensures.asks

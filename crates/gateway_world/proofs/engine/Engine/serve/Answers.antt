@@ -1,7 +1,6 @@
 -- Each request follows what was given out before.
-use Rattle.std.proofs.Common.{rules, refl}
-use Rattle.std.proofs.lemmas.Result.{err_from_is_err_and}
-use Rattle.gateway_world.proofs.Going.{goes-grow, goes-none, goes-on, grows-on}
+use Rattle.std.proofs.Common.{rules, refl, ◌∙◌}
+use Rattle.gateway_world.proofs.Going.{goes-grow, goes-none, goes-on}
 use Rattle.gateway_world.proofs.Settling.{leaves-none, leaves-on}
 use Rattle.gateway_world.proofs.Reading.{order-quiet, order-then}
 use Rattle.gateway_world.proofs.Prompting.{apart-same, apart-then}
@@ -11,7 +10,7 @@ use Rattle.gateway_world.proofs.Continuing.{one-none, ones-then, final-then}
 use Rattle.gateway_world.proofs.engine.Engine.serve.Goals as goal
 
 pub each-init : goal.each-init
-each-init g c = (goes-none _ _, c.requires, leaves-none _ _ _, (λ w. w), (λ e. e), (λ w. w), order-quiet _ _ _ _ _ (λ d. refl) refl, apart-same _ _ _, closes-same _ _ _ refl, makes-same _ _ _ refl, one-none _ _ _ _ _, record { same = λ d. refl })
+each-init g c = (goes-none _ _, c.requires, leaves-none _ _ _, (λ w. w), (λ e. e), (λ w. w), order-quiet _ _ _ _ _ (λ d. refl) refl refl, apart-same _ _ _, closes-same _ _ _ refl, makes-same _ _ _ refl, one-none _ _ _ _ _, record { same = λ d. refl }, refl, refl)
 
 pub each-preserved : goal.each-preserved
 each-preserved g c =
@@ -29,12 +28,9 @@ each-preserved g c =
       makes-then _ _ _ _ before.9 next.made,
       ones-then _ _ _ _ _ _ _ _ _ _ _ _ before.10 before.11 (λ o. ((before.6 c.args.number).over o).over) (λ o. ((next.asks c.args.number).over o).over) next.continues,
       final-then _ _ _ before.11 (next.no_interim (search rules)),
+      next.marked ∙ before.12,
+      next.core_mark ∙ before.13,
     )
-
-pub returns-in_err-serve_next-clause-leads : goal.returns-in_err-serve_next-clause-leads
-returns-in_err-serve_next-clause-leads g c =
-    let failed = err_from_is_err_and c.from_residual.result c.from_residual.ensures.1 in
-    rw (failed.1) (grows-on _ _ _ (goes-grow _ _ _ _ c.each.invariant.0) c.in_err-serve_next.ensures.leads)
 
 pub returns-clause-leads : goal.returns-clause-leads
 returns-clause-leads g c = goes-on _ _ _ _ _ _ c.each.invariant.0 c.in_ok-serve_next.ensures.leads
@@ -59,9 +55,6 @@ returns-clause-apart g c = apart-then _ _ _ _ _ _ _ c.each.invariant.7 c.in_ok-s
 
 pub returns-clause-closes : goal.returns-clause-closes
 returns-clause-closes g c = closes-then _ _ _ _ _ _ c.each.invariant.8 c.in_ok-serve_next.ensures.closes
-
-pub returns-in_err-serve_next-clause-made : goal.returns-in_err-serve_next-clause-made
-returns-in_err-serve_next-clause-made g c = makes-then _ _ _ _ c.each.invariant.9 c.in_err-serve_next.ensures.made
 
 pub returns-clause-made : goal.returns-clause-made
 returns-clause-made g c = makes-then _ _ _ _ c.each.invariant.9 c.in_ok-serve_next.ensures.made

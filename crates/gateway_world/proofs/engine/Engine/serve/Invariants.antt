@@ -11,6 +11,7 @@ use Rattle.gateway_world.specs.Closing.{TellsClosings}
 use Rattle.gateway_world.specs.Continuing.{TellsOne, GivesFinal}
 use Rattle.gateway_world.specs.Making.{Makes}
 use Rattle.gateway_world.specs.Prompt.{LeavesConnections, work_at}
+use Rattle.gateway_world.specs.Undo.{shown_at_mark}
 use Rattle.gateway_world.proofs.engine.Engine.serve.Given as goal
 
 abbrev pub invariant-each : goal.invariant-each
@@ -26,6 +27,8 @@ invariant-each g l =
     × Makes l.context.when l.initial.self.core l.self.core
     × TellsOne l.number l.initial.self.core.entries (inlets_of l.initial.self.table) l.initial.outputs.items l.self.core.entries (rows_of l.self.table) (inlets_of l.self.table) l.outputs.items
     × GivesFinal l.initial.outputs.items l.outputs.items
+    × (shown_at_mark l.self.table ≡ shown_at_mark l.initial.self.table)
+    × (l.self.core.marked ≡ l.initial.self.core.marked)
 
 abbrev pub decreases-each : goal.decreases-each
 decreases-each g l = work_at l.number (inlets_of l.self.table)

@@ -2,6 +2,7 @@
 use Rattle.gateway_world.proofs.Going.{goes-none, goes-telling}
 use Rattle.gateway_world.proofs.Heeding.{not-request}
 use Rattle.gateway_world.proofs.Reading.{order-next, order-idle}
+use Rattle.gateway_world.proofs.Gone.{gone-stays}
 use Rattle.gateway_world.proofs.Prompting.{apart-read, apart-then, work-ends}
 use Rattle.std.proofs.Common.{refl, arith}
 use Rattle.gateway_world.proofs.Closings.{closes-none, closes-same}
@@ -25,12 +26,12 @@ returns-in_ok-ask-in-Request-clause-asks g c =
 pub returns-in_ok-tell_continue-in-Continue-clause-asks : goal.returns-in_ok-tell_continue-in-Continue-clause-asks
 returns-in_ok-tell_continue-in-Continue-clause-asks g c =
     let next = c.in_ok-incoming.ensures in
-    order-idle _ c.args.number _ _ _ next.others (rw (c.in-Continue.is) at next.takes) (λ o. (next.over o).0)
+    order-idle _ c.args.number _ _ _ next.others (rw (c.in-Continue.is) at next.takes) (λ o. (next.over o).0) (gone-stays _ _ c.args.number next.rows)
 
 pub returns-in-Nothing-clause-asks : goal.returns-in-Nothing-clause-asks
 returns-in-Nothing-clause-asks g c =
     let next = c.in_ok-incoming.ensures in
-    order-idle _ c.args.number _ _ _ next.others (rw (c.in-Nothing.is) at next.takes) (λ o. (next.over o).0)
+    order-idle _ c.args.number _ _ _ next.others (rw (c.in-Nothing.is) at next.takes) (λ o. (next.over o).0) (gone-stays _ _ c.args.number next.rows)
 
 pub returns-in_ok-ask-in-Request-clause-apart : goal.returns-in_ok-ask-in-Request-clause-apart
 returns-in_ok-ask-in-Request-clause-apart g c =
@@ -70,12 +71,6 @@ returns-in_ok-tell_continue-in-Continue-clause-made g c = makes-same _ _ _ refl
 
 pub returns-in-Nothing-clause-made : goal.returns-in-Nothing-clause-made
 returns-in-Nothing-clause-made g c = makes-same _ _ _ refl
-
-pub returns-in_err-incoming-clause-made : goal.returns-in_err-incoming-clause-made
-returns-in_err-incoming-clause-made g c = makes-same _ _ _ refl
-
-pub returns-in_err-tell_continue-in-Continue-clause-made : goal.returns-in_err-tell_continue-in-Continue-clause-made
-returns-in_err-tell_continue-in-Continue-clause-made g c = makes-same _ _ _ refl
 
 pub returns-in_ok-ask-in-Request-clause-continues : goal.returns-in_ok-ask-in-Request-clause-continues
 returns-in_ok-ask-in-Request-clause-continues g c =

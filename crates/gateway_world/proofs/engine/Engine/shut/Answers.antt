@@ -11,6 +11,12 @@ pub returns-then-close-clause-leads : goal.returns-then-close-clause-leads
 returns-then-close-clause-leads g c =
     leads-on c.tell_closed.result _ _ _ _ _ _ (goes-advancing _ _ _ (standing-of _ _ c.requires) c.close.ensures.advances) (told-leads _ _ _ _ c.tell_closed.ensures.told)
 
+pub returns-then-close-clause-kept : goal.returns-then-close-clause-kept
+returns-then-close-clause-kept g c = on-ok c.tell_closed.result _ c.close.ensures.kept
+
+pub returns-then-close-clause-made : goal.returns-then-close-clause-made
+returns-then-close-clause-made g c = on-ok c.tell_closed.result _ c.close.ensures.made
+
 pub returns-then-close-clause-leaves : goal.returns-then-close-clause-leaves
 returns-then-close-clause-leaves g c = on-ok c.tell_closed.result _ (rw (c.close.ensures.rows) (leaves-without c.args.number _ _ _ c.close.ensures.answers))
 
@@ -27,8 +33,8 @@ returns-then-close-clause-attended g c =
 pub returns-then-close-clause-asks : goal.returns-then-close-clause-asks
 returns-then-close-clause-asks g c = on-ok c.tell_closed.result _ c.close.ensures.asks
 
-pub returns-then-close-clause-over : goal.returns-then-close-clause-over
-returns-then-close-clause-over g c = on-ok c.tell_closed.result _ c.close.ensures.over
+pub returns-then-close-clause-gone : goal.returns-then-close-clause-gone
+returns-then-close-clause-gone g c = on-ok c.tell_closed.result _ c.close.ensures.gone
 
 pub returns-then-close-clause-apart : goal.returns-then-close-clause-apart
 returns-then-close-clause-apart g c = on-ok c.tell_closed.result _ c.close.ensures.apart

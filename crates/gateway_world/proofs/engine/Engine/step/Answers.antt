@@ -1,7 +1,7 @@
 -- A close gives nothing out.
 use Rattle.gateway_world.proofs.Going.{goes-advancing}
 use Rattle.gateway_world.proofs.Serving.{standing-of}
-use Rattle.gateway_world.proofs.Settling.{on-ok, settled-same}
+use Rattle.gateway_world.proofs.Settling.{on-ok, ok-if, settled-same}
 use Rattle.std.proofs.Common.{ap, refl, ◌∙◌}
 use Rattle.gateway_world.specs.Asks.{bytes_on}
 use Rattle.gateway_world.proofs.Heeding.{heeds-none, heeds-quiet, heeds-bytes, bytes-here, bytes-elsewhere}
@@ -33,10 +33,10 @@ pub returns-in-Close-clause-asks : goal.returns-in-Close-clause-asks
 returns-in-Close-clause-asks g c = λ d. heeds-none _ d _ _ _ _ _ (ap (bytes_on d) c.in-Close.is) (order-none _ _ _ _ _ _ c.close.ensures.asks d)
 
 pub returns-in-Open-clause-enters : goal.returns-in-Open-clause-enters
-returns-in-Open-clause-enters g c = rw (c.in-Open.is) (c.open.ensures.enters)
+returns-in-Open-clause-enters g c = rw (c.in-Open.is) (ok-if c.open.result _ _ c.open.ensures.enters)
 
 pub returns-in-Bytes-clause-enters : goal.returns-in-Bytes-clause-enters
-returns-in-Bytes-clause-enters g c = rw (c.in-Bytes.is) (on-ok c.bytes.result _ tt)
+returns-in-Bytes-clause-enters g c = rw (c.in-Bytes.is) (on-ok c.bytes.result _ (λ none. tt))
 
 pub returns-in-Datagram-clause-enters : goal.returns-in-Datagram-clause-enters
 returns-in-Datagram-clause-enters g c = rw (c.in-Datagram.is) (c.heard.ensures.enters)
@@ -45,7 +45,7 @@ pub returns-in-Tick-clause-enters : goal.returns-in-Tick-clause-enters
 returns-in-Tick-clause-enters g c = rw (c.in-Tick.is) (c.tick.ensures.enters)
 
 pub returns-in-Close-clause-enters : goal.returns-in-Close-clause-enters
-returns-in-Close-clause-enters g c = rw (c.in-Close.is) (c.close.ensures.enters, refl)
+returns-in-Close-clause-enters g c = rw (c.in-Close.is) (λ none. (c.close.ensures.enters, refl))
 
 pub returns-in-Open-clause-closes : goal.returns-in-Open-clause-closes
 returns-in-Open-clause-closes g c = rw (c.in-Open.is) (c.open.ensures.closes)

@@ -1,6 +1,6 @@
 -- One row more is looked at.
 use Rattle.std.proofs.Common.{◌≡◌, ◌<◌, ◌≤◌, List, length, get_or, sym, subst, ◌∙◌, arith}
-use Rattle.gateway_world.specs.declared.table.Connection.{Connection}
+use Rattle.gateway_world.specs.declared.connection.Connection.{Connection}
 use Rattle.gateway_world.proofs.Waiting.{passed-by, passed-all, row-waits}
 use Rattle.gateway_world.proofs.table.Table.waiting_for.Goals as goal
 
