@@ -1,5 +1,6 @@
 pub mod Apart
 pub mod Asking
+mod Sealed
 pub mod Busy
 pub mod Fewer
 pub mod Giving

@@ -30,6 +30,7 @@ use Rattle.datagram_verdict.specs.Verdicts.{exchanges_by, heard_by, held_by, end
 use Rattle.exchange_core.specs.Hears.{AddsAnswer, ChangesBy, HearsAt, HasNoRoom, HeardSo}
 use Rattle.exchange_core.specs.Steps.{one_if, SpellsDue, with_sent, outgoing_by, IsReader, with_answer, conns_by, waiting_by, AnswersBy}
 use Rattle.history_laws.specs.Limits.{MaySeal}
+use Rattle.exchange_core.proofs.Sealed.{seals-now}
 use Rattle.exchange_core.proofs.Keeping.{fits-parts, fits-from, fits-not, takes-fits}
 use Rattle.exchange_core.proofs.Issuing.{firsts-other, firsts-sent, firsts-answered, issued-same}
 use Rattle.exchange_core.proofs.Giving.{answerable-more}
@@ -291,13 +292,4 @@ pub seals-shown : (t t1 : ℕ) (p : Peer) (b : List ℕ) (old new : CoreValue) �
     → new.moment ≡ t1 → new.entries ≡ old.entries ++ written t1 Seals ∷ [] → new.conns ≡ old.conns → new.exchanges ≡ old.exchanges → new.answers ≡ old.answers → new.sends ≡ old.sends
     → HeardSo t p b old new
 seals-shown t t1 p b old new same room sealed moment entries conns exchanges answers sends =
-    inr (inl (record {
-      room = room;
-      sealed = sealed;
-      moment = moment ∙ same;
-      entries = rw (← same) entries;
-      conns = conns;
-      exchanges = exchanges;
-      answers = answers;
-      sends = sends;
-    }))
+    inr (inl (seals-now t t1 old new same room sealed moment entries conns exchanges answers sends))

@@ -1,9 +1,8 @@
 -- What a core keeps, behind a tick.
 use Rattle.std.proofs.Common.{◌≡◌, ℕ, ◌+◌, ◌-◌, ◌*◌, ◌^◌, ◌≤◌, min, max, Bool, true, false, inl, inr, List, [], ◌∷◌, ◌++◌, length, map, refl, sym, ap, subst, ◌∙◌, arith, length-append}
 use Rattle.std.specs.Prelude.{sum_by, count_by}
-use Rattle.std.specs.List.{All, Contains, filter}
+use Rattle.std.specs.List.{All, filter}
 use Rattle.std.proofs.lemmas.List.{length-map}
-use Rattle.std.proofs.lemmas.List.Elements.{All-contains}
 use Rattle.std.proofs.lemmas.List.Sums.{sum_by-append, count_by-le-length}
 use Rattle.std.proofs.lemmas.Bool.{false≢true}
 use Rattle.journal_book.specs.Entries.{Written, Passes, Seals, entry_size}
@@ -17,7 +16,7 @@ use Rattle.exchange_core.specs.Room.{is_pending, fits, takes}
 use Rattle.exchange_core.specs.Answering.{Given, Waited}
 use Rattle.exchange_core.specs.CoreValue.{written, CoreValue, Answerable, Outgoing}
 use Rattle.exchange_core.specs.CoreKept.{CoreKept}
-use Rattle.exchange_core.specs.Ticking.{is_past, timeouts, timed, going, due_count, late_end, moment_after, takes_tick, AddsAnswers, SealsLate, HasPast, Midway}
+use Rattle.exchange_core.specs.Ticking.{is_past, timeouts, timed, going, due_count, late_end, moment_after, takes_tick, AddsAnswers, AnswersLate, EndsLate, SealsLate, HasPast, Midway}
 use Rattle.exchange_core.proofs.Giving.{answerable-more}
 use Rattle.exchange_core.specs.Numbers.{firsts}
 use Rattle.exchange_core.proofs.Issuing.{firsts-other, firsts-ticked, issued-same}
@@ -154,24 +153,49 @@ moment-same t [] = refl
 moment-same t (x ∷ xs) = refl
 
 -- a tick that seals
-pub ticked-sealed : (t : ℕ) (v v1 v2 : CoreValue) → v1.entries ≡ v.entries ++ written t Seals ∷ [] → v1.conns ≡ v.conns → v1.exchanges ≡ v.exchanges
+pub ticked-sealed : (t u : ℕ) (v v1 v2 : CoreValue) → t ≡ u → v.sealed ≡ false → HasPast u v.exchanges → takes_tick u v ≡ false
+    → v1.entries ≡ v.entries ++ written t Seals ∷ [] → v1.conns ≡ v.conns → v1.exchanges ≡ v.exchanges
     → v1.sends ≡ v.sends → v1.moment ≡ t → v1.answers ≡ v.answers → AddsAnswers (length v1.entries) v1.answers v2.answers (timeouts t v1.exchanges v1.conns)
     → v2.entries ≡ v1.entries ++ timeouts t v1.exchanges v1.conns → v2.conns ≡ map (timed t v1.exchanges) v1.conns
     → v2.sends ≡ v1.sends → v2.moment ≡ moment_after t v1.moment (timeouts t v1.exchanges v1.conns) → v2.exchanges ≡ v1.exchanges → v2.sealed ≡ true
-    → SealsLate t v v2
-ticked-sealed t v v1 v2 e1 c1 x1 s1 m1 a1 a2 e2 c2 s2 m2 x2 sealed =
+    → SealsLate u v v2
+ticked-sealed t u v v1 v2 at_t unsealed past room e1 c1 x1 s1 m1 a1 a2 e2 c2 s2 m2 x2 sealed =
     let same : timeouts t v1.exchanges v1.conns ≡ timeouts t v.exchanges v.conns = rw (c1, x1) refl in
+    let answers : AnswersLate t (v.entries ++ written t Seals ∷ []) v v2 = record {
+      entries = e2 ∙ ap (λ (h : List Written). h ++ timeouts t v1.exchanges v1.conns) e1 ∙ ap (λ (xs : List Written). (v.entries ++ written t Seals ∷ []) ++ xs) same;
+      conns = c2 ∙ rw (c1, x1) refl;
+      answers = rw (e1, a1, same) at a2;
+      sends = s2 ∙ s1;
+    } in
     record {
-      answers = record {
-        entries = e2 ∙ ap (λ (h : List Written). h ++ timeouts t v1.exchanges v1.conns) e1 ∙ ap (λ (xs : List Written). (v.entries ++ written t Seals ∷ []) ++ xs) same;
-        conns = c2 ∙ rw (c1, x1) refl;
-        answers = rw (e1, a1, same) at a2;
-        sends = s2 ∙ s1;
-      };
+      unsealed = unsealed;
+      past = past;
+      room = room;
+      answers = rw (← at_t) answers;
       sealed = sealed;
-      moment = m2 ∙ ap (λ (k : ℕ). moment_after t k (timeouts t v1.exchanges v1.conns)) m1 ∙ moment-same t (timeouts t v1.exchanges v1.conns);
+      moment = m2 ∙ ap (λ (k : ℕ). moment_after t k (timeouts t v1.exchanges v1.conns)) m1 ∙ moment-same t (timeouts t v1.exchanges v1.conns) ∙ at_t;
       exchanges = x2 ∙ x1;
     }
+
+-- a tick that ends what is late, by the core as it stands and by what it shows
+pub ticked-ends : (t u : ℕ) (v w new : CoreValue) → t ≡ u → w ≡ v → v.sealed ≡ false → HasPast u v.exchanges → takes_tick u v ≡ true → AnswersLate t (w.entries ++ written t Passes ∷ []) w new
+    → new.sealed ≡ false → new.moment ≡ t → new.exchanges ≡ going t w.exchanges → EndsLate u v new
+ticked-ends t u v w new at_t is unsealed past room answers sealed moment exchanges = record {
+  unsealed = unsealed;
+  past = past;
+  room = room;
+  answers = rw (← at_t, ← is) answers;
+  sealed = sealed;
+  moment = moment ∙ at_t;
+  exchanges = rw (← at_t, ← is) exchanges;
+}
+
+-- what is past its time, by the core as it stands and by what it shows
+pub past-at : (t u : ℕ) (es fs : List Exchange) → t ≡ u → es ≡ fs → HasPast t es → HasPast u fs
+past-at t u es fs same is w = rw (← same, ← is) w
+
+pub early-at : (t u : ℕ) (es fs : List Exchange) → t ≡ u → es ≡ fs → All (λ (e : Exchange). is_past t e ≡ false) es → All (λ (e : Exchange). is_past u e ≡ false) fs
+early-at t u es fs same is w = rw (← same, ← is) w
 
 -- the room that was asked for is that of the tick
 pub room-is : (t : ℕ) (v : CoreValue) (es : List Exchange) (cs : List Conn) (count pending more size : ℕ)
@@ -181,9 +205,3 @@ room-is t v es cs count pending more size x c cnt wait due sized = rw (sized, cn
 
 pub now-early : (t last m moment : ℕ) → t ≡ max last m → m ≡ min moment (2 ^ 62) → last ≤ 2 ^ 62 → t ≤ 2 ^ 62
 now-early t last m moment a b c = omega (arith, a, b, c)
-
--- Where one is late, it isn't so that none is.
-pub past-not : (t u : ℕ) (es fs : List Exchange) → t ≡ u → es ≡ fs → HasPast t es → All (λ (e : Exchange). is_past u e ≡ false) fs → ⊥
-past-not t u es fs same is w none =
-    let here : is_past u w.exchange ≡ false = All-contains (λ (e : Exchange). is_past u e ≡ false) fs w.exchange none (subst (λ (xs : List Exchange). Contains xs w.exchange) is w.stands) in
-    false≢true (sym here ∙ subst (λ (n : ℕ). is_past n w.exchange ≡ true) same w.past)

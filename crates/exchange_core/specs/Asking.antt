@@ -1,5 +1,6 @@
 -- What an ask leaves behind.
-use Rattle.std.specs.Prelude.{◌≡◌, ◌⊎◌, ℕ, ◌+◌, ◌<◌, true, false, List, [], ◌∷◌, ◌++◌, length, map, Some}
+use Rattle.std.specs.Prelude.{◌≡◌, ◌≢◌, ◌⊎◌, ℕ, ◌+◌, ◌<◌, true, false, List, [], ◌∷◌, ◌++◌, length, map, Some}
+use Rattle.std.specs.List.{All}
 use Rattle.coap_codec.specs.Spelling.{Spells}
 use Rattle.ask_model.specs.declared.cause.Cause.{Cause}
 use Rattle.ask_model.specs.declared.cause.Cause.TheVariants.{Busy}
@@ -8,12 +9,17 @@ use Rattle.ask_model.specs.Sizes.{came_size}
 use Rattle.ask_model.specs.Views.{Mapping}
 use Rattle.journal_book.specs.Entries.{Asks, Sends, Answers, Fault}
 use Rattle.journal_book.specs.Views.{ask_of}
+use Rattle.history_laws.specs.declared.kept.Conn.{Conn}
 use Rattle.history_laws.specs.Kept.{pend}
 use Rattle.history_laws.specs.Limits.{exchange_limit}
+use Rattle.exchange_core.specs.declared.fault.AskFault.{AskFault}
+use Rattle.exchange_core.specs.declared.fault.AskFault.TheVariants as Ask
 use Rattle.exchange_core.specs.Numbers.{firsts, IsNumbered}
 use Rattle.exchange_core.specs.Room.{takes_ask, takes_first}
 use Rattle.exchange_core.specs.Answering.{MeansRefusal, refusal}
 use Rattle.exchange_core.specs.CoreValue.{CoreValue, written}
+use Rattle.exchange_core.specs.Sealing.{TakesNoMore}
+use Rattle.exchange_core.specs.Tables.{HasIdle, HasWaiting}
 
 -- It is answered in its own step, by an error of the proxy's own that names it.
 pub record AnswersAtOnce (t n conn : ℕ) (m : Mapping) (cause : Cause) (old new : CoreValue) : Type 0 where
@@ -64,6 +70,17 @@ HasNoRoomBy (Requests q) m old =
 abbrev pub HasNoRoom : Mapping → CoreValue → Type 0
 HasNoRoom m old = HasNoRoomBy m.sense m old
 
--- an ask at this moment, with this word, in the entry with this number
-abbrev pub AddsAsk : ℕ → ℕ → ℕ → ℕ → Mapping → CoreValue → CoreValue → Type 0
-AddsAsk t word n conn m old new = AddsBy m.sense t word n conn m old new
+-- An ask at this moment, with this word, in the entry with this number.
+pub record AddsAsk (t word n conn : ℕ) (m : Mapping) (old new : CoreValue) : Type 0 where
+  pub idle : HasIdle old.conns conn
+  pub number : n ≡ length old.entries
+  pub moment : new.moment ≡ t
+  pub adds : AddsBy m.sense t word n conn m old new
+
+-- Why an ask is refused: its connection isn't open or waits for an answer, the journal takes no more, or memory
+-- is wanted.
+abbrev pub RefusesSo : AskFault → ℕ → ℕ → Mapping → CoreValue → CoreValue → Type 0
+RefusesSo Ask.Unknown t conn m old new = All (λ (x : Conn). x.id ≢ conn) old.conns × (new ≡ old)
+RefusesSo Ask.Pending t conn m old new = HasWaiting old.conns conn × (new ≡ old)
+RefusesSo Ask.Sealed t conn m old new = HasIdle old.conns conn × TakesNoMore (HasNoRoom m old) t old new
+RefusesSo Ask.Memory t conn m old new = HasIdle old.conns conn × (new ≡ old)

@@ -3,7 +3,7 @@ use Rattle.std.specs.Prelude.{◌≡◌, ◌≢◌, ◌⊎◌, ◌<◌, ◌≤�
 use Rattle.std.specs.List.{All, Contains}
 use Rattle.coap_codec.specs.Spelling.{Content, Spells}
 use Rattle.uri_map.specs.declared.peer.Peer.{Peer}
-use Rattle.journal_book.specs.Entries.{Hears, Answers, Seals, Written}
+use Rattle.journal_book.specs.Entries.{Hears, Answers, Written}
 use Rattle.history_laws.specs.declared.kept.Conn.{Conn}
 use Rattle.history_laws.specs.declared.kept.Exchange.{Exchange}
 use Rattle.history_laws.specs.Kept.{pend}
@@ -12,6 +12,7 @@ use Rattle.history_laws.specs.Amid.{exchanges_heard}
 use Rattle.exchange_core.specs.Room.{is_pending, takes}
 use Rattle.exchange_core.specs.Answering.{Given}
 use Rattle.exchange_core.specs.CoreValue.{CoreValue, Outgoing, sendings, written}
+use Rattle.exchange_core.specs.Sealing.{SealsNow}
 use Rattle.exchange_core.specs.Steps.{with_sent, outgoing_by}
 
 -- No answer is added behind these entries.
@@ -64,17 +65,6 @@ pub record HasNoRoom (b : List ℕ) (old : CoreValue) : Type 0 where
   pub room : takes old.entries (1 + (confirmations + answers)) (length b + 64 + 68 * (confirmations + answers))
       (length old.conns) (count_by is_pending old.conns - answers) ≡ false
 
--- There is no room for it, and the journal is sealed.
-pub record SealsAt (t : ℕ) (b : List ℕ) (old new : CoreValue) : Type 0 where
-  pub room : HasNoRoom b old
-  pub sealed : new.sealed ≡ true
-  pub moment : new.moment ≡ t
-  pub entries : new.entries ≡ old.entries ++ written t Seals ∷ []
-  pub conns : new.conns ≡ old.conns
-  pub exchanges : new.exchanges ≡ old.exchanges
-  pub answers : new.answers ≡ old.answers
-  pub sends : new.sends ≡ old.sends
-
 -- nothing was ever sent to the peer
 abbrev pub NeverSentTo : Peer → List Written → Type 0
 NeverSentTo p h = All (λ (o : Outgoing). o.peer ≢ p) (sendings h)
@@ -85,4 +75,4 @@ IsDropped p b old = (old.sealed ≡ true) ⊎ ((datagram_limit < length b) ⊎ N
 
 -- It is dropped, finds no room, or is heard.
 abbrev pub HeardSo : ℕ → Peer → List ℕ → CoreValue → CoreValue → Type 0
-HeardSo t p b old new = (IsDropped p b old × (new ≡ old)) ⊎ (SealsAt t b old new ⊎ HearsAt t p b old new)
+HeardSo t p b old new = (IsDropped p b old × (new ≡ old)) ⊎ (SealsNow (HasNoRoom b old) t old new ⊎ HearsAt t p b old new)

@@ -5,7 +5,9 @@ pub mod CoreKept
 pub mod Faults
 pub mod GoingBack
 pub mod Numbers
+pub mod Opening
 pub mod Room
+pub mod Sealing
 pub mod Tables
 pub mod Ticking
 pub mod Steps

@@ -1,5 +1,5 @@
 -- What a tick leaves behind.
-use Rattle.std.specs.Prelude.{◌≡◌, ℕ, ◌+◌, ◌-◌, ◌*◌, ◌<◌, ◌≤◌, ⊤, Bool, true, false, not, ◌==◌, ◌&&◌, nat_le, is_some, List, [], ◌∷◌, ◌++◌, length, map, filter, find, count_by, Option, Some, None, if◌then◌else◌}
+use Rattle.std.specs.Prelude.{◌≡◌, ◌⊎◌, ℕ, ◌+◌, ◌-◌, ◌*◌, ◌<◌, ◌≤◌, ⊤, Bool, true, false, not, ◌==◌, ◌&&◌, nat_le, is_some, List, [], ◌∷◌, ◌++◌, length, map, filter, find, count_by, Option, Some, None, if◌then◌else◌}
 use Rattle.std.specs.List.{All, Contains, flat_map, list_any}
 use Rattle.ask_model.specs.declared.cause.Cause.TheVariants.{Timeout}
 use Rattle.journal_book.specs.Entries.{Written, Passes, Seals, Answers, Fault}
@@ -114,15 +114,27 @@ pub record AnswersLate (t : ℕ) (h : List Written) (old new : CoreValue) : Type
   pub answers : AddsAnswers (length h) old.answers new.answers (timeouts t old.exchanges old.conns)
   pub sends : new.sends ≡ old.sends
 
+-- No exchange is past its time, and nothing changes.
+pub record FindsNone (t : ℕ) (old new : CoreValue) : Type 0 where
+  pub unsealed : old.sealed ≡ false
+  pub early : All (λ (e : Exchange). is_past t e ≡ false) old.exchanges
+  pub same : new ≡ old
+
 -- A tick ends what is late.
 pub record EndsLate (t : ℕ) (old new : CoreValue) : Type 0 where
+  pub unsealed : old.sealed ≡ false
+  pub past : HasPast t old.exchanges
+  pub room : takes_tick t old ≡ true
   pub answers : AnswersLate t (old.entries ++ written t Passes ∷ []) old new
   pub sealed : new.sealed ≡ false
   pub moment : new.moment ≡ t
   pub exchanges : new.exchanges ≡ going t old.exchanges
 
--- It seals the journal, and goes on as in a sealed one.
+-- There is no room to: it seals the journal, and goes on as in a sealed one.
 pub record SealsLate (t : ℕ) (old new : CoreValue) : Type 0 where
+  pub unsealed : old.sealed ≡ false
+  pub past : HasPast t old.exchanges
+  pub room : takes_tick t old ≡ false
   pub answers : AnswersLate t (old.entries ++ written t Seals ∷ []) old new
   pub sealed : new.sealed ≡ true
   pub moment : new.moment ≡ t
@@ -130,10 +142,15 @@ pub record SealsLate (t : ℕ) (old new : CoreValue) : Type 0 where
 
 -- In a sealed journal no exchange ends.
 pub record KeepsLate (t : ℕ) (old new : CoreValue) : Type 0 where
+  pub before : old.sealed ≡ true
   pub answers : AnswersLate t old.entries old new
   pub sealed : new.sealed ≡ true
   pub moment : new.moment ≡ moment_after t old.moment (timeouts t old.exchanges old.conns)
   pub exchanges : new.exchanges ≡ old.exchanges
+
+-- what a tick leads to
+abbrev pub TicksSo : ℕ → CoreValue → CoreValue → Type 0
+TicksSo t old new = KeepsLate t old new ⊎ (FindsNone t old new ⊎ (EndsLate t old new ⊎ SealsLate t old new))
 
 -- what is answered at a tick, by its exchange
 abbrev pub late_end : Exchange → Ended

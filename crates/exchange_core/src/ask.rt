@@ -1,11 +1,9 @@
 //! Asks.
 
-ghost use Rattle.std.specs.Prelude.{◌≡◌, ◌≢◌, ◌⊎◌, ◌<◌, ◌≤◌, ◌∷◌, ◌++◌, [], true, false, All, length, IfOk, Err};
+ghost use Rattle.std.specs.Prelude.{◌≡◌, IfOk, IfErr};
 ghost use Rattle.std.specs.Arc.{arc_value};
-ghost use Rattle.journal_book.specs.Entries.{Seals};
-ghost use Rattle.exchange_core.specs.CoreValue.{written, now};
-ghost use Rattle.exchange_core.specs.Tables.{HasIdle, HasWaiting};
-ghost use Rattle.exchange_core.specs.Asking.{AddsAsk, HasNoRoom};
+ghost use Rattle.exchange_core.specs.CoreValue.{now};
+ghost use Rattle.exchange_core.specs.Asking.{AddsAsk, RefusesSo};
 
 use crate::answer::Ticket;
 use crate::core_state::Core;
@@ -29,21 +27,10 @@ impl<R: Relation> Core<R> {
         conn: u32,
         mapped: Arc<Mapped<R>>,
     ) -> Result<Ticket<R>, AskFault>
-        ensures ticket { IfOk result (λ t. (t.conn ≡ conn) × (t.number ≡ length self.old.entries) × (arc_value t.mapped ≡ arc_value mapped)) }
+        ensures ticket { IfOk result (λ t. (t.conn ≡ conn) × (arc_value t.mapped ≡ arc_value mapped)) }
         ensures adds { IfOk result (λ t. AddsAsk (now self.old.moment moment) word t.number conn (arc_value mapped) self.old self.new) }
-        ensures unknown { result ≡ Err AskFault.Unknown → All (λ x. x.id ≢ conn) self.old.conns × (self.new ≡ self.old) }
-        ensures pending { result ≡ Err AskFault.Pending → HasWaiting self.old.conns conn × (self.new ≡ self.old) }
-        ensures sealed { result ≡ Err AskFault.Sealed → (self.new.sealed ≡ true)
-            × (((self.old.sealed ≡ true) × (self.new ≡ self.old))
-            ⊎ ((self.old.sealed ≡ false) × HasNoRoom (arc_value mapped) self.old
-            × (self.new.entries ≡ self.old.entries ++ written (now self.old.moment moment) Seals ∷ [])
-            × (self.new.conns ≡ self.old.conns) × (self.new.exchanges ≡ self.old.exchanges)
-            × (self.new.answers ≡ self.old.answers) × (self.new.sends ≡ self.old.sends))) }
-        ensures moment { IfOk result (λ t. self.new.moment ≡ now self.old.moment moment) }
-        ensures sealed_at { result ≡ Err AskFault.Sealed → self.old.sealed ≡ false → self.new.moment ≡ now self.old.moment moment }
-        ensures memory { result ≡ Err AskFault.Memory → self.new ≡ self.old }
+        ensures refused { IfErr result (λ fault. RefusesSo fault (now self.old.moment moment) conn (arc_value mapped) self.old self.new) }
         ensures marked { self.new.marked ≡ self.old.marked }
-        ensures idle { result ≢ Err AskFault.Unknown → result ≢ Err AskFault.Pending → HasIdle self.old.conns conn }
     {
         check_idle(self.conns.as_slice(), conn)?;
         if self.sealed {

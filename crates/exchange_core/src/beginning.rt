@@ -1,15 +1,16 @@
 //! The beginning of an exchange: the entries of its ask and its message, and what is kept of it.
 
-ghost use Rattle.std.specs.Prelude.{◌≡◌, ◌≢◌, ◌<◌, ◌≤◌, ◌+◌, ◌∷◌, ◌++◌, [], Some, true, false, length, IfOk, OnOk, IsSome, Err};
+ghost use Rattle.std.specs.Prelude.{◌≡◌, ◌≢◌, ◌<◌, ◌≤◌, ◌+◌, [], Some, false, length, IfOk, OnOk, IsSome, Err};
 ghost use Rattle.std.specs.VecDeque.{deque_len, deque_capacity};
 ghost use Rattle.std.specs.Arc.{arc_value};
 ghost use Rattle.ask_model.specs.Requests.{CoapRequest, Requests};
 ghost use Rattle.ask_model.specs.Datagrams.{asked_peer, IsSentFor};
-ghost use Rattle.journal_book.specs.Entries.{Asks, Sends, Seals};
+ghost use Rattle.journal_book.specs.Entries.{Asks, Sends};
 ghost use Rattle.journal_book.specs.Views.{ask_of, item_of};
 ghost use Rattle.exchange_core.specs.CoreValue.{written, now, outgoing_of};
 ghost use Rattle.exchange_core.specs.Tables.{HasIdle, Roomier};
 ghost use Rattle.exchange_core.specs.Asking.{OpensExchange, HasNoRoom};
+ghost use Rattle.exchange_core.specs.Sealing.{SealsNow};
 
 use crate::answer::Ticket;
 use crate::core_state::Core;
@@ -165,12 +166,8 @@ impl<R: Relation> Core<R> {
         ensures ticket { IfOk result (λ t. (t.conn ≡ conn) × (t.number ≡ length self.old.entries) × (arc_value t.mapped ≡ arc_value mapped)) }
         ensures adds { IfOk result (λ t. (q : CoapRequest) × ((arc_value mapped).sense ≡ Requests q)
             × OpensExchange (now self.old.moment moment) word t.number conn (arc_value mapped) q self.old self.new) }
-        ensures sealed { result ≡ Err AskFault.Sealed → (self.new.sealed ≡ true) × HasNoRoom (arc_value mapped) self.old
-            × (self.new.entries ≡ self.old.entries ++ written (now self.old.moment moment) Seals ∷ [])
-            × (self.new.conns ≡ self.old.conns) × (self.new.exchanges ≡ self.old.exchanges)
-            × (self.new.answers ≡ self.old.answers) × (self.new.sends ≡ self.old.sends) }
+        ensures sealed { result ≡ Err AskFault.Sealed → SealsNow (HasNoRoom (arc_value mapped) self.old) (now self.old.moment moment) self.old self.new }
         ensures moment { IfOk result (λ t. self.new.moment ≡ now self.old.moment moment) }
-        ensures sealed_at { result ≡ Err AskFault.Sealed → self.new.moment ≡ now self.old.moment moment }
         ensures memory { result ≡ Err AskFault.Memory → self.new ≡ self.old }
         ensures marked { self.new.marked ≡ self.old.marked }
         ensures others { (result ≢ Err AskFault.Unknown) × (result ≢ Err AskFault.Pending) }

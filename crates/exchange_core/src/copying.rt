@@ -1,7 +1,6 @@
 //! Copies, which share requests and the bytes of datagrams.
 
-ghost use Rattle.std.specs.Prelude.{◌≡◌, ◌+◌, ◌≤◌, map, length, IfOk, min};
-ghost use Rattle.std.specs.Arc.{arc_value};
+ghost use Rattle.std.specs.Prelude.{◌≡◌, ◌+◌, ◌≤◌, map, IfOk};
 ghost use Rattle.exchange_core.specs.Answering.{given_of, waited_of};
 ghost use Rattle.exchange_core.specs.CoreValue.{outgoing_of, unmarked};
 

@@ -1,15 +1,17 @@
 //! The core.
 
-ghost use Rattle.std.specs.Prelude.{ℕ, ◌≡◌, ◌≢◌, ◌⊎◌, ◌==◌, ◌≤◌, ◌+◌, ◌^◌, ◌∷◌, ◌++◌, [], None, true, false, not, map, filter, All, length, IfOk, IfSome, IsOk, Err, IsTrue, IsFalse};
+ghost use Rattle.std.specs.Prelude.{ℕ, ◌≡◌, ◌≢◌, ◌==◌, ◌≤◌, ◌+◌, ◌^◌, ◌∷◌, ◌++◌, [], None, true, false, not, map, filter, All, length, IfOk, IfSome, Err};
 ghost use Rattle.std.specs.List.{Contains};
 ghost use Rattle.std.specs.Arc.{arc_value};
 ghost use Rattle.ask_model.specs.Sizes.{came_size, capped};
-ghost use Rattle.journal_book.specs.Entries.{Opens, Shuts, Seals};
+ghost use Rattle.journal_book.specs.Entries.{Opens, Seals};
 ghost use Rattle.history_laws.specs.Justified.{Stands};
 ghost use Rattle.history_laws.specs.Limits.{MaySeal};
 ghost use Rattle.exchange_core.specs.CoreValue.{written, now, connections, outgoing_of, AreUnsent};
-ghost use Rattle.exchange_core.specs.Room.{takes, takes_conn, takes_ask};
-ghost use Rattle.exchange_core.specs.Tables.{HasIdle, HasWaiting};
+ghost use Rattle.exchange_core.specs.Sealing.{SealsNow};
+ghost use Rattle.exchange_core.specs.Opening.{OpensSo, ClosesSo};
+ghost use Rattle.exchange_core.specs.Room.{takes, takes_ask};
+ghost use Rattle.exchange_core.specs.Tables.{HasIdle};
 ghost use Rattle.exchange_core.specs.Answering.{IsGiven, given_of, refusal};
 ghost use Rattle.exchange_core.specs.Asking.{AnswersAtOnce, IsAtOnce};
 
@@ -182,24 +184,9 @@ impl<R: Relation> Core<R> {
 
     /// Opens a connection at this moment. The first call that finds no room for it seals the journal.
     pub fn open(&mut self, moment: u64) -> Result<u32, OpenFault>
-        ensures ok { IfOk result (λ id. (id ≡ connections self.old.entries)
-            × (self.new.entries ≡ self.old.entries ++ written (now self.old.moment moment) (Opens id) ∷ [])
-            × (self.new.conns ≡ self.old.conns ++ record { id = id; pending = None } ∷ [])
-            × (self.new.exchanges ≡ self.old.exchanges) × (self.new.answers ≡ self.old.answers) × (self.new.sends ≡ self.old.sends)) }
-        ensures full { result ≡ Err OpenFault.Full → (length self.old.conns ≡ 256) × (self.new ≡ self.old) }
+        ensures opens { OpensSo result (now self.old.moment moment) self.old self.new }
         ensures full_always { length self.old.conns ≡ 256 → result ≡ Err OpenFault.Full }
-        ensures sealed { result ≡ Err OpenFault.Sealed → (self.new.sealed ≡ true)
-            × (((self.old.sealed ≡ true) × (self.new ≡ self.old))
-            ⊎ ((self.old.sealed ≡ false) × (takes_conn self.old.entries self.old.conns ≡ false)
-            × (self.new.entries ≡ self.old.entries ++ written (now self.old.moment moment) Seals ∷ [])
-            × (self.new.conns ≡ self.old.conns) × (self.new.exchanges ≡ self.old.exchanges)
-            × (self.new.answers ≡ self.old.answers) × (self.new.sends ≡ self.old.sends))) }
-        ensures moment { IfOk result (λ id. self.new.moment ≡ now self.old.moment moment) }
-        ensures sealed_at { result ≡ Err OpenFault.Sealed → self.old.sealed ≡ false → self.new.moment ≡ now self.old.moment moment }
-        ensures room { IsOk result → (self.old.sealed ≡ false) × (takes_conn self.old.entries self.old.conns ≡ true) }
-        ensures memory { result ≡ Err OpenFault.Memory → self.new ≡ self.old }
         ensures marked { self.new.marked ≡ self.old.marked }
-        ensures memory_last { result ≡ Err OpenFault.Memory → (self.old.sealed ≡ false) × (takes_conn self.old.entries self.old.conns ≡ true) }
     {
         let count = self.conns.len();
         if count >= CONNECTIONS {
@@ -243,13 +230,9 @@ impl<R: Relation> Core<R> {
         requires unsealed { self.old.sealed ≡ false }
         ensures ticket { IfOk result (λ t. (t.conn ≡ conn) × (t.number ≡ length self.old.entries) × (arc_value t.mapped ≡ arc_value mapped)) }
         ensures adds { IfOk result (λ t. AnswersAtOnce (now self.old.moment moment) t.number conn (arc_value mapped) cause self.old self.new) }
-        ensures sealed { result ≡ Err AskFault.Sealed → (self.new.sealed ≡ true)
-            × (takes_ask self.old.entries self.old.conns (came_size (arc_value mapped).came) ≡ false)
-            × (self.new.entries ≡ self.old.entries ++ written (now self.old.moment moment) Seals ∷ [])
-            × (self.new.conns ≡ self.old.conns) × (self.new.exchanges ≡ self.old.exchanges)
-            × (self.new.answers ≡ self.old.answers) × (self.new.sends ≡ self.old.sends) }
+        ensures sealed { result ≡ Err AskFault.Sealed
+            → SealsNow (takes_ask self.old.entries self.old.conns (came_size (arc_value mapped).came) ≡ false) (now self.old.moment moment) self.old self.new }
         ensures moment { IfOk result (λ t. self.new.moment ≡ now self.old.moment moment) }
-        ensures sealed_at { result ≡ Err AskFault.Sealed → self.new.moment ≡ now self.old.moment moment }
         ensures memory { result ≡ Err AskFault.Memory → self.new ≡ self.old }
         ensures marked { self.new.marked ≡ self.old.marked }
         ensures others { (result ≢ Err AskFault.Unknown) × (result ≢ Err AskFault.Pending) }
@@ -346,14 +329,7 @@ impl<R: Relation> Core<R> {
     /// Closes a connection at this moment, and tells whether it was open. It is answered nothing more; what it
     /// asked for goes on.
     pub fn close(&mut self, moment: u64, conn: u32) -> bool
-        ensures closed { IsTrue result → (self.new.entries ≡ self.old.entries ++ written (now self.old.moment moment) (Shuts conn) ∷ [])
-            × (self.new.conns ≡ filter (λ x. not (x.id == conn)) self.old.conns) }
-        ensures unknown { IsFalse result → All (λ x. x.id ≢ conn) self.old.conns × (self.new ≡ self.old) }
-        ensures exchanges { self.new.exchanges ≡ self.old.exchanges }
-        ensures answers { self.new.answers ≡ self.old.answers }
-        ensures sends { self.new.sends ≡ self.old.sends }
-        ensures sealed { self.new.sealed ≡ self.old.sealed }
-        ensures moment { IsTrue result → self.new.moment ≡ now self.old.moment moment }
+        ensures closes { ClosesSo result (now self.old.moment moment) conn self.old self.new }
         ensures marked { self.new.marked ≡ self.old.marked }
     {
         let Some(x) = find_conn(self.conns.as_slice(), conn) else {

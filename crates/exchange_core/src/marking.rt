@@ -4,7 +4,7 @@
 //! forgotten is kept too. So going back takes no memory, and marking copies no state: a core is marked before
 //! each input, and an input changes little.
 
-ghost use Rattle.std.specs.Prelude.{◌≡◌, ◌≢◌, ◌⊎◌, [], None, Some, IfSome, IsTrue};
+ghost use Rattle.std.specs.Prelude.{◌≡◌, ◌≢◌, ◌⊎◌, [], None, Some, IfSome};
 ghost use Rattle.exchange_core.specs.CoreValue.{unmarked, marked_now, gone_back};
 
 use crate::core_state::Core;

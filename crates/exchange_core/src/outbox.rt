@@ -1,6 +1,6 @@
 //! The asks that wait for an answer, and the answers that aren't taken yet.
 
-ghost use Rattle.std.specs.Prelude.{◌≡◌, ◌≢◌, ◌<◌, ◌≤◌, ◌+◌, ◌==◌, ◌∷◌, ◌++◌, [], not, map, filter, min, All, Some, None, slice_get, option_map, IfSome, IfOk, OnOk, OnErr, IsTrue, IsFalse, vec_len, vec_capacity};
+ghost use Rattle.std.specs.Prelude.{◌≡◌, ◌≢◌, ◌<◌, ◌≤◌, ◌+◌, ◌==◌, ◌∷◌, ◌++◌, [], not, map, filter, min, All, Some, None, slice_get, option_map, IfSome, IfOk, OnOk, IsTrue, IsFalse, vec_len, vec_capacity};
 ghost use Rattle.std.specs.List.{Contains, reduce};
 ghost use Rattle.std.specs.Arc.{arc_value};
 ghost use Rattle.exchange_core.specs.Answering.{given_of, waited_of, asked_of, HasWaited, answer_of, without, kept_if, KeepsAsks, IsGathered, WaitAgain, WaitsBelow};

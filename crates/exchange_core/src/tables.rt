@@ -3,7 +3,7 @@
 //! The tables are lists that keep what takes each change back, so that steps can be taken back without a copy
 //! of what there was. Each change takes a place there, which is made before anything changes.
 
-ghost use Rattle.std.specs.Prelude.{◌≡◌, ◌≢◌, ◌==◌, ◌<◌, ◌≤◌, ◌+◌, not, filter, map, All, count_by, None, Some, IfSome, ◌⊎◌, Err, OnOk, OnErr, slice_get, option_map};
+ghost use Rattle.std.specs.Prelude.{◌≡◌, ◌≢◌, ◌==◌, ◌<◌, not, filter, map, All, count_by, None, Some, IfSome, ◌⊎◌, Err, OnOk, OnErr, slice_get, option_map};
 ghost use Rattle.std.specs.List.{Contains};
 ghost use Rattle.history_laws.specs.Kept.{pend};
 ghost use Rattle.datagram_verdict.specs.Verdicts.{confirm_at, exchanges_by, heard_by};

@@ -1,15 +1,14 @@
 //! Exchanges that have been open for as long as they may.
 
-ghost use Rattle.std.specs.Prelude.{ℕ, List, Bool, ◌≡◌, ◌⊎◌, ◌<◌, ◌≤◌, ◌+◌, ◌-◌, ◌^◌, ◌==◌, ◌&&◌, ◌∷◌, ◌++◌, [], None, true, false, not, filter, map, min, count_by, find, All, length, OnOk, OnErr, IfSome, IsTrue, IsFalse, IsSome};
-ghost use Rattle.std.specs.List.{Contains, list_any};
-ghost use Rattle.journal_book.specs.Entries.{Passes, Seals};
+ghost use Rattle.std.specs.Prelude.{List, Bool, ◌≡◌, ◌<◌, ◌≤◌, ◌+◌, ◌-◌, ◌^◌, ◌==◌, ◌&&◌, ◌++◌, [], None, true, false, filter, map, min, find, All, length, OnOk, OnErr, IfSome, IsTrue, IsFalse};
+ghost use Rattle.std.specs.List.{list_any};
 ghost use Rattle.history_laws.specs.declared.kept.Exchange.{Exchange};
 ghost use Rattle.history_laws.specs.Kept.{Held};
-ghost use Rattle.exchange_core.specs.CoreValue.{Outgoing, written, now};
+ghost use Rattle.exchange_core.specs.CoreValue.{Outgoing, now};
 ghost use Rattle.exchange_core.specs.Answering.{KeepsAsks};
 ghost use Rattle.exchange_core.specs.Steps.{IsReader};
 ghost use Rattle.exchange_core.specs.Tables.{Roomier};
-ghost use Rattle.exchange_core.specs.Ticking.{is_past, late_on, is_due, due_count, timeouts, timed, going, moment_after, takes_tick, counts, waits_on, IsNextDue, HasPast, AddsAnswers, IsPrompt, EndsLate, SealsLate, KeepsLate, Midway, IsMidway, late_ending};
+ghost use Rattle.exchange_core.specs.Ticking.{is_past, late_on, due_count, timeouts, timed, going, moment_after, takes_tick, counts, waits_on, IsNextDue, HasPast, AddsAnswers, IsPrompt, TicksSo, Midway, IsMidway, late_ending};
 
 use crate::core_state::Core;
 use crate::outbox::Outbox;
@@ -265,16 +264,11 @@ impl<R: Relation> Core<R> {
     /// them. Where the journal has no room for that, it is sealed; in a sealed journal no exchange ends, and who
     /// waits for one that is late is answered.
     pub fn tick(&mut self, moment: u64, _word: u64) -> Result<(), AllocError>
-        ensures early { self.old.sealed ≡ false → All (λ e. is_past (now self.old.moment moment) e ≡ false) self.old.exchanges → self.new ≡ self.old }
-        ensures ends { OnOk result (self.old.sealed ≡ false → HasPast (now self.old.moment moment) self.old.exchanges → takes_tick (now self.old.moment moment) self.old ≡ true
-            → EndsLate (now self.old.moment moment) self.old self.new) }
-        ensures seals { OnOk result (self.old.sealed ≡ false → HasPast (now self.old.moment moment) self.old.exchanges → takes_tick (now self.old.moment moment) self.old ≡ false
-            → SealsLate (now self.old.moment moment) self.old self.new) }
-        ensures sealed { OnOk result (self.old.sealed ≡ true → KeepsLate (now self.old.moment moment) self.old self.new) }
+        ensures ticks { OnOk result (TicksSo (now self.old.moment moment) self.old self.new) }
         ensures prompt { OnOk result (All (IsPrompt (now self.old.moment moment) self.old.exchanges) self.new.conns) }
         ensures marked { self.new.marked ≡ self.old.marked }
         ensures memory { OnErr result (self.new ≡ self.old) }
-        ensures memory_last { OnErr result ((self.old.sealed ≡ false) × (takes_tick (now self.old.moment moment) self.old ≡ true)) }
+        ensures memory_last { OnErr result ((self.old.sealed ≡ false) × HasPast (now self.old.moment moment) self.old.exchanges × (takes_tick (now self.old.moment moment) self.old ≡ true)) }
     {
         let moment = self.last.max(moment.min(1 << 62));
         if self.sealed {

@@ -1,12 +1,12 @@
 -- Each step of a core adds entries, and what they send and answer waits.
-use Rattle.std.proofs.Common.{◌≡◌, ◌≢◌, ◌⊎◌, ℕ, ◌+◌, Bool, true, false, cond, inl, inr, List, [], ◌∷◌, ◌++◌, length, map, Option, Some, None, Result, Ok, Err, IfOk, OnErr, IsTrue, IsFalse, refl, sym, ap, ◌∙◌, arith, length-append}
-use Rattle.std.specs.Prelude.{◌==◌, option_to_list, not}
+use Rattle.std.proofs.Common.{◌≡◌, ◌≢◌, ℕ, ◌+◌, Bool, true, false, cond, inl, inr, List, [], ◌∷◌, ◌++◌, length, map, Option, Some, None, Result, Ok, Err, IfOk, OnErr, refl, sym, ap, ◌∙◌, arith, length-append}
+use Rattle.std.specs.Prelude.{◌==◌, option_to_list, not, IfErr}
 use Rattle.std.specs.List.{All, Contains, filter}
 use Rattle.std.proofs.lemmas.Bool.{cases_Bool}
 use Rattle.std.proofs.lemmas.Bool.Decides.{eqb_tells}
 use Rattle.std.proofs.lemmas.Grind.{flat_map-append}
 use Rattle.std.proofs.lemmas.List.{append-nil, append_assoc}
-use Rattle.std.proofs.lemmas.List.Elements.{All-nil, All-cons, All-weaker, All-map, All-filter, All-contains_itself, Contains-append_right, filter_passes}
+use Rattle.std.proofs.lemmas.List.Elements.{All-nil, All-cons, All-weaker, All-map, All-filter, All-contains, All-contains_itself, Contains-append_right, filter_passes}
 use Rattle.std.proofs.lemmas.List.Sums.{sum_by-append}
 use Rattle.uri_map.specs.declared.peer.Peer.{Peer}
 use Rattle.ask_model.specs.Requests.{Sense, Requests, Refuses}
@@ -18,8 +18,10 @@ use Rattle.exchange_core.specs.declared.fault.AskFault.{AskFault}
 use Rattle.exchange_core.specs.declared.fault.OpenFault.{OpenFault}
 use Rattle.exchange_core.specs.CoreValue.{CoreValue, Outgoing, connections, opens_deed, sent_by, sendings, written}
 use Rattle.exchange_core.specs.Answering.{refusal}
-use Rattle.exchange_core.specs.Asking.{AnswersAtOnce, OpensExchange, AddsBy, AddsAsk}
+use Rattle.exchange_core.specs.Asking.{AnswersAtOnce, OpensExchange, AddsBy, AddsAsk, RefusesSo}
 use Rattle.exchange_core.specs.Hears.{AddsNone, AddsOne, HeardSo}
+use Rattle.exchange_core.specs.Opening.{OpensSo, ClosesSo}
+use Rattle.exchange_core.specs.Sealing.{TakesNoMore}
 use Rattle.exchange_core.specs.Steps.{with_sent, outgoing_by}
 use Rattle.gateway_world.specs.Steps.{Advances, answers_in, is_answer, all_answered, asks_answered_by, asks_answered}
 use Rattle.gateway_world.specs.Closing.{shut_by, shut_in}
@@ -99,23 +101,18 @@ seal-alone a b t entries sends answers conns =
     one-alone a b (written t Seals) refl refl refl entries sends answers (rw conns (comes-same a.conns)) (stay-here b a.conns (ap (map id_of) conns))
 
 -- a connection is closed
-pub closing : (r : Bool) (a b : CoreValue) (c : ℕ) (X : Type 0) (w : Written) → sent_by w.deed ≡ [] → is_answer w.deed ≡ false → opens_deed w.deed ≡ false → shut_by w.deed ≡ c ∷ []
-    → (IsTrue r → (b.entries ≡ a.entries ++ w ∷ []) × (b.conns ≡ filter (λ (x : Conn). not (x.id == c)) a.conns))
-    → (IsFalse r → X × (b ≡ a)) → b.answers ≡ a.answers → b.sends ≡ a.sends → AnswersAlone a b
-closing true a b c X w none quiet old shuts closed unknown answers sends =
-    let two = closed refl in
+pub closing : (r : Bool) (a b : CoreValue) (t c : ℕ) → ClosesSo r t c a b → AnswersAlone a b
+closing true a b t c w =
     let shut : Contains (shut_in b.entries) c =
-    rw (two.0, flat_map-append (λ (e : Written). shut_by e.deed) a.entries (w ∷ [])) (Contains-append_right (shut_in a.entries) (shut_in (w ∷ [])) c (rw shuts (0, omega arith, refl))) in
-    one-alone a b w none quiet old two.0 sends answers (rw (two.1) (All-filter (λ (x : Conn). not (x.id == c)) (ComesFrom a.conns) a.conns (comes-same a.conns)))
-    (stay-but b c a.conns two.1 shut)
-closing false a b c X w none quiet old shuts closed unknown answers sends = same-alone a b (unknown refl).1
+    rw (w.entries, flat_map-append (λ (e : Written). shut_by e.deed) a.entries (written t (Shuts c) ∷ [])) (Contains-append_right (shut_in a.entries) (c ∷ []) c (0, omega arith, refl)) in
+    one-alone a b (written t (Shuts c)) refl refl refl w.entries w.sends w.answers (rw (w.conns) (All-filter (λ (x : Conn). not (x.id == c)) (ComesFrom a.conns) a.conns (comes-same a.conns)))
+    (stay-but b c a.conns w.conns shut)
+closing false a b t c w = same-alone a b w.1
 
 -- It is gone.
-pub closed-gone : (r : Bool) (a b : CoreValue) (c : ℕ) (X : Type 0)
-    → (IsTrue r → X × (b.conns ≡ filter (λ (x : Conn). not (x.id == c)) a.conns))
-    → (IsFalse r → All (λ (x : Conn). x.id ≢ c) a.conns × (b ≡ a)) → All (λ (x : Conn). x.id ≢ c) b.conns
-closed-gone true a b c X closed unknown =
-    rw ((closed refl).1) (All-weaker (λ (x : Conn). not (x.id == c) ≡ true) (λ (x : Conn). x.id ≢ c) (λ x passes same. kept-out x.id passes same)
+pub closed-gone : (r : Bool) (a b : CoreValue) (t c : ℕ) → ClosesSo r t c a b → All (λ (x : Conn). x.id ≢ c) b.conns
+closed-gone true a b t c w =
+    rw (w.conns) (All-weaker (λ (x : Conn). not (x.id == c) ≡ true) (λ (x : Conn). x.id ≢ c) (λ x passes same. kept-out x.id passes same)
     (filter (λ (x : Conn). not (x.id == c)) a.conns) (filter_passes (λ (x : Conn). not (x.id == c)) a.conns))
   where
     kept-out : (n : ℕ) → not (n == c) ≡ true → n ≡ c → ⊥
@@ -123,7 +120,21 @@ closed-gone true a b c X closed unknown =
       where
         differs : true ≡ not true → ⊥
         differs f = absurd cc
-closed-gone false a b c X closed unknown = let two = unknown refl in rw (two.1) (two.0)
+closed-gone false a b t c w = rw (w.1) (w.0)
+
+-- What isn't open isn't closed.
+pub closes-none : (r : Bool) (a b : CoreValue) (t c : ℕ) → ClosesSo r t c a b → All (λ (x : Conn). x.id ≢ c) a.conns → r ≡ false
+closes-none true a b t c w none = absurd (All-contains (λ (x : Conn). x.id ≢ c) a.conns w.conn none w.stands w.id)
+closes-none false a b t c w none = refl
+
+-- It is the answers and what waits to be sent that a close leaves.
+pub closes-answers : (r : Bool) (a b : CoreValue) (t c : ℕ) → ClosesSo r t c a b → b.answers ≡ a.answers
+closes-answers true a b t c w = w.answers
+closes-answers false a b t c w = ap (λ (v : CoreValue). v.answers) w.1
+
+pub closes-sends : (r : Bool) (a b : CoreValue) (t c : ℕ) → ClosesSo r t c a b → b.sends ≡ a.sends
+closes-sends true a b t c w = w.sends
+closes-sends false a b t c w = ap (λ (v : CoreValue). v.sends) w.1
 
 -- an ask
 at-once : (a b : CoreValue) (t n conn : ℕ) (m : Mapping) (cause : _) → n ≡ length a.entries → AnswersAtOnce t n conn m cause a b → Advances a b
@@ -247,59 +258,39 @@ hearing a b t p bytes (inr (inr w)) = elim (w.answer) [
   | inr one ↦ heard-one a b t p bytes w.sent one w.sends
 ]
 
--- a connection that wants to be opened, and isn't
-pub unopened-alone : {X : Type 0} (r : Result X OpenFault) (a b : CoreValue) (t : ℕ) (A B C D E : Type 0)
-    → (r ≡ Err OpenFault.Full → A × (b ≡ a))
-    → (r ≡ Err OpenFault.Sealed → B × ((C × (b ≡ a))
-    ⊎ (D × E × (b.entries ≡ a.entries ++ written t Seals ∷ []) × (b.conns ≡ a.conns) × (b.exchanges ≡ a.exchanges) × (b.answers ≡ a.answers) × (b.sends ≡ a.sends))))
-    → (r ≡ Err OpenFault.Memory → b ≡ a) → OnErr r (AnswersAlone a b)
-unopened-alone (Ok x) a b t A B C D E full sealed memory = tt
-unopened-alone (Err OpenFault.Full) a b t A B C D E full sealed memory = same-alone a b (full refl).1
-unopened-alone (Err OpenFault.Sealed) a b t A B C D E full sealed memory =
-    elim (sealed refl).1 [
-      | inl w ↦ same-alone a b w.1
-      | inr w ↦ seal-alone a b t w.2 w.6 w.5 w.3
-    ]
-unopened-alone (Err OpenFault.Memory) a b t A B C D E full sealed memory = same-alone a b (memory refl)
+-- a call that finds that the journal takes no more
+no-more-alone : {NoRoom : Type 0} (a b : CoreValue) (t : ℕ) → TakesNoMore NoRoom t a b → AnswersAlone a b
+no-more-alone a b t w = elim (w.how) [
+  | inl before ↦ same-alone a b before.1
+  | inr now ↦ seal-alone a b t now.1.entries now.1.sends now.1.answers now.1.conns
+]
 
-pub opened-advances : (r : Result ℕ OpenFault) (a b : CoreValue) (t : ℕ) (A B C : ℕ → Type 0)
-    → IfOk r (λ n. A n × (b.entries ≡ a.entries ++ written t (Opens n) ∷ []) × B n × C n × (b.answers ≡ a.answers) × (b.sends ≡ a.sends))
-    → OnErr r (AnswersAlone a b) → Advances a b
-opened-advances (Ok n) a b t A B C opened refused = one-advances a b (written t (Opens n)) refl refl opened.1 opened.5 opened.4
-opened-advances (Err e) a b t A B C opened refused = refused.step
+-- a connection that wants to be opened, and isn't
+pub unopened-alone : (r : Result ℕ OpenFault) (a b : CoreValue) (t : ℕ) → OpensSo r t a b → OnErr r (AnswersAlone a b)
+unopened-alone (Ok n) a b t w = tt
+unopened-alone (Err OpenFault.Full) a b t w = same-alone a b w.1
+unopened-alone (Err OpenFault.Sealed) a b t w = no-more-alone a b t w
+unopened-alone (Err OpenFault.Memory) a b t w = same-alone a b w.2
+
+pub opened-advances : (r : Result ℕ OpenFault) (a b : CoreValue) (t : ℕ) → OpensSo r t a b → OnErr r (AnswersAlone a b) → Advances a b
+opened-advances (Ok n) a b t w refused = one-advances a b (written t (Opens n)) refl refl w.entries w.sends w.answers
+opened-advances (Err e) a b t w refused = refused.step
 
 -- what an ask may come to
-pub asked-advances : {X : Type 0} (r : Result X AskFault) (number : X → ℕ) (Y : X → Type 0) (a b : CoreValue) (t word conn : ℕ) (m : Mapping) (A B C D E F : Type 0)
-    → IfOk r (λ x. Y x)
-    → ((x : X) → Y x → number x ≡ length a.entries)
-    → IfOk r (λ x. AddsAsk t word (number x) conn m a b)
-    → (r ≡ Err AskFault.Unknown → A × (b ≡ a))
-    → (r ≡ Err AskFault.Pending → B × (b ≡ a))
-    → (r ≡ Err AskFault.Sealed → C × ((D × (b ≡ a))
-    ⊎ (E × F × (b.entries ≡ a.entries ++ written t Seals ∷ []) × (b.conns ≡ a.conns) × (b.exchanges ≡ a.exchanges) × (b.answers ≡ a.answers) × (b.sends ≡ a.sends))))
-    → (r ≡ Err AskFault.Memory → b ≡ a) → Advances a b
-asked-advances (Ok x) number Y a b t word conn m A B C D E F ticket is ok unknown pending sealed memory = asking m.sense a b t word (number x) conn m (is x ticket) ok
-asked-advances (Err AskFault.Unknown) number Y a b t word conn m A B C D E F ticket is ok unknown pending sealed memory = same-advances a b (unknown refl).1
-asked-advances (Err AskFault.Pending) number Y a b t word conn m A B C D E F ticket is ok unknown pending sealed memory = same-advances a b (pending refl).1
-asked-advances (Err AskFault.Sealed) number Y a b t word conn m A B C D E F ticket is ok unknown pending sealed memory =
-    elim (sealed refl).1 [ inl w ↦ same-advances a b w.1 | inr w ↦ one-advances a b (written t Seals) refl refl w.2 w.6 w.5 ]
-asked-advances (Err AskFault.Memory) number Y a b t word conn m A B C D E F ticket is ok unknown pending sealed memory = same-advances a b (memory refl)
+refusing : (f : AskFault) (a b : CoreValue) (t conn : ℕ) (m : Mapping) → RefusesSo f t conn m a b → AnswersAlone a b
+refusing AskFault.Unknown a b t conn m w = same-alone a b w.1
+refusing AskFault.Pending a b t conn m w = same-alone a b w.1
+refusing AskFault.Sealed a b t conn m w = no-more-alone a b t w.1
+refusing AskFault.Memory a b t conn m w = same-alone a b w.1
 
-pub refused-alone : {X : Type 0} (r : Result X AskFault) (a b : CoreValue) (t : ℕ) (A B C D E F : Type 0)
-    → (r ≡ Err AskFault.Unknown → A × (b ≡ a))
-    → (r ≡ Err AskFault.Pending → B × (b ≡ a))
-    → (r ≡ Err AskFault.Sealed → C × ((D × (b ≡ a))
-    ⊎ (E × F × (b.entries ≡ a.entries ++ written t Seals ∷ []) × (b.conns ≡ a.conns) × (b.exchanges ≡ a.exchanges) × (b.answers ≡ a.answers) × (b.sends ≡ a.sends))))
-    → (r ≡ Err AskFault.Memory → b ≡ a) → OnErr r (AnswersAlone a b)
-refused-alone (Ok x) a b t A B C D E F unknown pending sealed memory = tt
-refused-alone (Err AskFault.Unknown) a b t A B C D E F unknown pending sealed memory = same-alone a b (unknown refl).1
-refused-alone (Err AskFault.Pending) a b t A B C D E F unknown pending sealed memory = same-alone a b (pending refl).1
-refused-alone (Err AskFault.Sealed) a b t A B C D E F unknown pending sealed memory =
-    elim (sealed refl).1 [
-      | inl w ↦ same-alone a b w.1
-      | inr w ↦ seal-alone a b t w.2 w.6 w.5 w.3
-    ]
-refused-alone (Err AskFault.Memory) a b t A B C D E F unknown pending sealed memory = same-alone a b (memory refl)
+pub refused-alone : {X : Type 0} (r : Result X AskFault) (a b : CoreValue) (t conn : ℕ) (m : Mapping) → IfErr r (λ f. RefusesSo f t conn m a b) → OnErr r (AnswersAlone a b)
+refused-alone (Ok x) a b t conn m w = tt
+refused-alone (Err f) a b t conn m w = refusing f a b t conn m w
+
+pub asked-advances : {X : Type 0} (r : Result X AskFault) (number : X → ℕ) (a b : CoreValue) (t word conn : ℕ) (m : Mapping)
+    → IfOk r (λ x. AddsAsk t word (number x) conn m a b) → IfErr r (λ f. RefusesSo f t conn m a b) → Advances a b
+asked-advances (Ok x) number a b t word conn m adds refused = asking m.sense a b t word (number x) conn m adds.number adds.adds
+asked-advances (Err f) number a b t word conn m adds refused = (refusing f a b t conn m refused).step
 
 -- No connection opens where one is refused, and none where one asks.
 pub refused-opens : {X E : Type 0} (r : Result X E) (a b : CoreValue) → OnErr r (AnswersAlone a b) → OnErr r (connections b.entries ≡ connections a.entries)
@@ -316,5 +307,5 @@ asking-opens (Requests q) a b t word n conn m (inr w) = opens-none a b (_ ∷ _ 
 
 pub asked-opens : {X E : Type 0} (r : Result X E) (number : X → ℕ) (a b : CoreValue) (t word conn : ℕ) (m : Mapping) → IfOk r (λ x. AddsAsk t word (number x) conn m a b) → OnErr r (AnswersAlone a b)
     → connections b.entries ≡ connections a.entries
-asked-opens (Ok x) number a b t word conn m ok refused = asking-opens m.sense a b t word (number x) conn m ok
+asked-opens (Ok x) number a b t word conn m ok refused = asking-opens m.sense a b t word (number x) conn m ok.adds
 asked-opens (Err e) number a b t word conn m ok refused = refused.opens

@@ -14,6 +14,8 @@ use Rattle.history_laws.specs.declared.kept.Conn.{Conn}
 use Rattle.history_laws.specs.Kept.{pend}
 use Rattle.exchange_core.specs.CoreValue.{CoreValue, connections, opens_deed, written}
 use Rattle.exchange_core.specs.Answering.{Given, refusal}
+use Rattle.exchange_core.specs.declared.fault.OpenFault.{OpenFault}
+use Rattle.exchange_core.specs.Opening.{OpensSo}
 use Rattle.exchange_core.specs.Asking.{AnswersAtOnce, OpensExchange, AddsBy, AddsAsk}
 use Rattle.gateway_world.specs.Steps.{answers_at, answers_in, asks_answered}
 use Rattle.gateway_world.specs.Rows.{Row, AreRising, HasAsk, WaitsFor, IsServed, IsClaimed, IsDue, Serves, IsRow, row_at, with_waits}
@@ -280,16 +282,12 @@ serves-by (Requests q) a b rows t word n conn m place s idle (inl w) = serves-re
 serves-by (Requests q) a b rows t word n conn m place s idle (inr w) = serves-opened a b rows t word n conn m q place s idle w.1
 
 -- an ask that is taken
-pub serves-asked : {X E : Type 0} (r : Result X E) (number : X → ℕ) (Y : X → Type 0) (a b : CoreValue) (rows : List Row) (t word conn : ℕ) (m : Mapping)
-    → IfOk r (λ x. Y x) → ((x : X) → Y x → number x ≡ length a.entries) → IfOk r (λ x. AddsAsk t word (number x) conn m a b) → Serves a rows → IsRow rows conn None
-    → IfOk r (λ x. Serves b (with_waits conn (Some (number x)) rows))
-serves-asked (Ok x) number Y a b rows t word conn m ticket is adds s idle = serves-by m.sense a b rows t word (number x) conn m (is x ticket) s idle adds
-serves-asked (Err e) number Y a b rows t word conn m ticket is adds s idle = tt
+pub serves-asked : {X E : Type 0} (r : Result X E) (number : X → ℕ) (a b : CoreValue) (rows : List Row) (t word conn : ℕ) (m : Mapping)
+    → IfOk r (λ x. AddsAsk t word (number x) conn m a b) → Serves a rows → IsRow rows conn None → IfOk r (λ x. Serves b (with_waits conn (Some (number x)) rows))
+serves-asked (Ok x) number a b rows t word conn m adds s idle = serves-by m.sense a b rows t word (number x) conn m adds.number s idle adds.adds
+serves-asked (Err e) number a b rows t word conn m adds s idle = tt
 
 -- a connection that is opened
-pub serves-opening : {E : Type 0} (r : Result ℕ E) (a b : CoreValue) (rows : List Row) (t : ℕ) (A : ℕ → Type 0)
-    → IfOk r (λ n. (n ≡ connections a.entries) × (b.entries ≡ a.entries ++ written t (Opens n) ∷ []) × (b.conns ≡ a.conns ++ record { id = n; pending = None } ∷ [])
-    × A n × (b.answers ≡ a.answers) × (b.sends ≡ a.sends))
-    → Serves a rows → IfOk r (λ n. Serves b (rows ++ record { number = n; waits = None } ∷ []))
-serves-opening (Ok n) a b rows t A w s = serves-open a b rows t n w.0 w.1 w.2 w.4 s
-serves-opening (Err e) a b rows t A w s = tt
+pub serves-opening : (r : Result ℕ OpenFault) (a b : CoreValue) (rows : List Row) (t : ℕ) → OpensSo r t a b → Serves a rows → IfOk r (λ n. Serves b (rows ++ record { number = n; waits = None } ∷ []))
+serves-opening (Ok n) a b rows t w s = serves-open a b rows t n w.number w.entries w.conns w.answers s
+serves-opening (Err e) a b rows t w s = tt

@@ -24,5 +24,5 @@ attended-by-ask (Requests q) a b rows t word n conn m s idle w (inr adds) = rw (
 pub attended-asked : {X E : Type 0} (r : Result X E) (number : X → ℕ) (a b : CoreValue) (rows : List Row) (t word conn : ℕ) (m : Mapping)
     → IfOk r (λ x. AddsAsk t word (number x) conn m a b) → Serves a rows → IsRow rows conn None → Attended a rows
     → IfOk r (λ x. Attended b (with_waits conn (Some (number x)) rows))
-attended-asked (Ok x) number a b rows t word conn m adds s idle w = attended-by-ask m.sense a b rows t word (number x) conn m s idle w adds
+attended-asked (Ok x) number a b rows t word conn m adds s idle w = attended-by-ask m.sense a b rows t word (number x) conn m s idle w adds.adds
 attended-asked (Err e) number a b rows t word conn m adds s idle w = tt

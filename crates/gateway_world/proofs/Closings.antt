@@ -1,9 +1,10 @@
 -- What is closed is told, step by step.
-use Rattle.std.proofs.Common.{◌≡◌, ℕ, Bool, true, false, List, [], ◌∷◌, ◌++◌, Result, Ok, Err, IfOk, OnOk, OnErr, IsTrue, IsFalse, refl, sym, ap, subst, ◌∙◌}
+use Rattle.std.proofs.Common.{◌≡◌, ℕ, Bool, true, false, List, [], ◌∷◌, ◌++◌, Result, Ok, Err, IfOk, OnOk, OnErr, refl, sym, ap, subst, ◌∙◌}
 use Rattle.std.proofs.lemmas.List.{append-nil, append_assoc}
 use Rattle.std.proofs.lemmas.Grind.{flat_map-append}
 use Rattle.journal_book.specs.Entries.{Written, Shuts}
 use Rattle.exchange_core.specs.CoreValue.{CoreValue, written}
+use Rattle.exchange_core.specs.Opening.{ClosesSo}
 use Rattle.gateway_world.specs.declared.input.Happening.{Happening}
 use Rattle.gateway_world.specs.declared.input.Output.{Output}
 use Rattle.gateway_world.specs.declared.input.Output.TheVariants as Out
@@ -47,10 +48,9 @@ closes-turned (Ok v) a b x y shut turned = closes-none a b x y shut (silent-more
 closes-turned (Err e) a b x y shut turned = tt
 
 -- a close
-pub shut-now : (r : Bool) (a b : CoreValue) (t c : ℕ) (A B : Type 0) → (IsTrue r → (b.entries ≡ a.entries ++ written t (Shuts c) ∷ []) × A) → (IsFalse r → B × (b ≡ a))
-    → shut_in b.entries ≡ shut_in a.entries ++ closed_if r c
-shut-now true a b t c A B closed unknown = ap shut_in (closed refl).0 ∙ flat_map-append (λ (w : Written). shut_by w.deed) a.entries (written t (Shuts c) ∷ [])
-shut-now false a b t c A B closed unknown = ap (λ (v : CoreValue). shut_in v.entries) (unknown refl).1 ∙ sym (append-nil (shut_in a.entries))
+pub shut-now : (r : Bool) (a b : CoreValue) (t c : ℕ) → ClosesSo r t c a b → shut_in b.entries ≡ shut_in a.entries ++ closed_if r c
+shut-now true a b t c w = ap shut_in w.entries ∙ flat_map-append (λ (w : Written). shut_by w.deed) a.entries (written t (Shuts c) ∷ [])
+shut-now false a b t c w = ap (λ (v : CoreValue). shut_in v.entries) w.1 ∙ sym (append-nil (shut_in a.entries))
 
 -- The same of either result of a call.
 pub either-way : {X E : Type 0} (r : Result X E) (P : Type 0) → IfOk r (λ x. P) → OnErr r P → P

@@ -1,43 +1,42 @@
 -- Which entry a step of the core adds first.
-use Rattle.std.proofs.Common.{◌≡◌, ◌≢◌, ℕ, ◌⊎◌, Bool, true, false, inl, inr, List, [], ◌∷◌, ◌++◌, length, Option, Some, None, Result, Ok, Err, IfOk, OnOk, IsTrue, IsFalse, refl, sym, ap, subst, ◌∙◌}
-use Rattle.std.specs.List.{All}
-use Rattle.std.proofs.lemmas.Bool.{cases_Bool}
+use Rattle.std.proofs.Common.{◌≡◌, ◌≢◌, ℕ, ◌⊎◌, Bool, true, false, inl, inr, List, [], ◌∷◌, ◌++◌, length, Option, Some, None, Result, Ok, Err, OnOk, refl, sym, ap, subst, ◌∙◌}
 use Rattle.std.proofs.lemmas.List.{append-nil, append_assoc}
 use Rattle.uri_map.specs.declared.peer.Peer.{Peer}
 use Rattle.ask_model.specs.declared.cause.Cause.TheVariants.{Timeout}
-use Rattle.journal_book.specs.Entries.{Written, Opens, Hears, Answers, Passes, Shuts, Seals, Fault}
+use Rattle.journal_book.specs.Entries.{Written, Opens, Hears, Answers, Passes, Seals, Fault}
 use Rattle.history_laws.specs.declared.kept.Conn.{Conn}
 use Rattle.history_laws.specs.declared.kept.Exchange.{Exchange}
 use Rattle.exchange_core.specs.declared.fault.OpenFault.{OpenFault}
 use Rattle.exchange_core.specs.Answering.{Given}
-use Rattle.exchange_core.specs.CoreValue.{CoreValue, connections, written}
+use Rattle.exchange_core.specs.CoreValue.{CoreValue, written}
+use Rattle.exchange_core.specs.Opening.{OpensSo, ClosesSo}
+use Rattle.exchange_core.specs.Sealing.{TakesNoMore}
 use Rattle.exchange_core.specs.Steps.{with_sent}
 use Rattle.exchange_core.specs.Hears.{HeardSo, HearsAt}
-use Rattle.exchange_core.specs.Ticking.{HasPast, is_past, takes_tick, late_reader, timeout_by, timeouts, AreTimeouts, AnswersLate, EndsLate, SealsLate, KeepsLate}
+use Rattle.exchange_core.specs.Ticking.{late_reader, timeout_by, timeouts, AreTimeouts, AnswersLate, TicksSo}
 use Rattle.gateway_world.specs.declared.input.Happening.{Happening}
 use Rattle.gateway_world.specs.declared.input.Output.{Output}
 use Rattle.gateway_world.specs.declared.input.Output.TheVariants as Out
 use Rattle.gateway_world.specs.Steps.{Grows}
 use Rattle.gateway_world.specs.Entering.{AddsFirst, Enters, EntersOpen, EntersOpening, IsHeardOrSealed, EntersDatagram, IsTickEntry, EntersTick, TicksFirst, EntersClose}
-use Rattle.gateway_world.proofs.Lateness.{past-or-none}
 
 -- what calls that open enter
-pub opening : (r : Result ℕ OpenFault) (a b : CoreValue) (t : ℕ) (C D E F G H I : Type 0) (Y Z V W : ℕ → Type 0)
-    → IfOk r (λ n. (n ≡ connections a.entries) × (b.entries ≡ a.entries ++ written t (Opens n) ∷ []) × Y n × Z n × V n × W n)
-    → (r ≡ Err OpenFault.Full → (length a.conns ≡ 256) × (b ≡ a))
-    → (r ≡ Err OpenFault.Sealed → (b.sealed ≡ true) × ((C × (b ≡ a)) ⊎ (D × E × (b.entries ≡ a.entries ++ written t Seals ∷ []) × F × G × H × I)))
-    → (r ≡ Err OpenFault.Memory → b ≡ a) → EntersOpening r t a b
-opening (Ok n) a b t C D E F G H I Y Z V W ok full sealed memory = ok.1 ∙ ap (λ (k : ℕ). a.entries ++ written t (Opens k) ∷ []) ok.0
-opening (Err OpenFault.Full) a b t C D E F G H I Y Z V W ok full sealed memory = ((full refl).0, ap (λ (v : CoreValue). v.entries) (full refl).1)
-opening (Err OpenFault.Sealed) a b t C D E F G H I Y Z V W ok full sealed memory =
-    ((sealed refl).0, elim (sealed refl).1 [ inl w ↦ inl (ap (λ (v : CoreValue). v.entries) w.1) | inr w ↦ inr w.2 ])
-opening (Err OpenFault.Memory) a b t C D E F G H I Y Z V W ok full sealed memory = ap (λ (v : CoreValue). v.entries) (memory refl)
+sealed-now : {NoRoom : Type 0} (a b : CoreValue) (t : ℕ) → TakesNoMore NoRoom t a b → (b.sealed ≡ true) × ((b.entries ≡ a.entries) ⊎ (b.entries ≡ a.entries ++ written t Seals ∷ []))
+sealed-now a b t w = elim (w.how) [
+  | inl before ↦ (ap (λ (v : CoreValue). v.sealed) before.1 ∙ before.0, inl (ap (λ (v : CoreValue). v.entries) before.1))
+  | inr now ↦ (now.1.sealed, inr now.1.entries)
+]
+
+pub opening : (r : Result ℕ OpenFault) (a b : CoreValue) (t : ℕ) → OpensSo r t a b → EntersOpening r t a b
+opening (Ok n) a b t w = w.entries ∙ ap (λ (k : ℕ). a.entries ++ written t (Opens k) ∷ []) w.number
+opening (Err OpenFault.Full) a b t w = (w.0, ap (λ (v : CoreValue). v.entries) w.1)
+opening (Err OpenFault.Sealed) a b t w = sealed-now a b t w
+opening (Err OpenFault.Memory) a b t w = ap (λ (v : CoreValue). v.entries) w.2
 
 -- a close
-pub closes : (r : Bool) (a b : CoreValue) (t c : ℕ) (X : Type 0) → (IsTrue r → (b.entries ≡ a.entries ++ written t (Shuts c) ∷ []) × X)
-    → (IsFalse r → All (λ (x : Conn). x.id ≢ c) a.conns × (b ≡ a)) → EntersClose t c a b
-closes true a b t c X closed unknown = inr (closed refl).0
-closes false a b t c X closed unknown = inl ((unknown refl).0, ap (λ (v : CoreValue). v.entries) (unknown refl).1)
+pub closes : (r : Bool) (a b : CoreValue) (t c : ℕ) → ClosesSo r t c a b → EntersClose t c a b
+closes true a b t c w = inr w.entries
+closes false a b t c w = inl (w.0, ap (λ (v : CoreValue). v.entries) w.1)
 
 -- More entries behind change nothing of the first.
 first-more : (P : Written → Type 0) (a b d : List Written) → AddsFirst P a b → Grows b d → AddsFirst P a d
@@ -85,21 +84,13 @@ late-first t (e ∷ es) cs h = go (late_reader t cs e) (late-first t es cs h)
     go None rest = rest
     go (Some x) rest = inr (record { first = written t (Answers x.id e.opening (Fault Timeout e.number)); rest = timeouts t es cs; is_first = (refl, tt); added = refl })
 
-pub tick-enters : (a b : CoreValue) (t : ℕ) → (a.sealed ≡ false → All (λ (e : Exchange). is_past t e ≡ false) a.exchanges → b ≡ a)
-    → (a.sealed ≡ false → HasPast t a.exchanges → takes_tick t a ≡ true → EndsLate t a b)
-    → (a.sealed ≡ false → HasPast t a.exchanges → takes_tick t a ≡ false → SealsLate t a b)
-    → (a.sealed ≡ true → KeepsLate t a b) → TicksFirst t a b
-tick-enters a b t early ends seals keeps =
-    elim (cases_Bool a.sealed) [
-      | inl y ↦ kept (keeps y).answers
-      | inr n ↦ elim (past-or-none t a.exchanges) [
-        | inl all ↦ inl (ap (λ (v : CoreValue). v.entries) (early n all), ap (λ (v : CoreValue). v.answers) (early n all))
-        | inr w ↦ elim (cases_Bool (takes_tick t a)) [
-          | inl y ↦ inr (begun (written t Passes) (refl, tt) (ends n w y).answers)
-          | inr late ↦ inr (begun (written t Seals) (refl, tt) (seals n w late).answers)
-        ]
-      ]
-    ]
+pub tick-enters : (a b : CoreValue) (t : ℕ) → TicksSo t a b → TicksFirst t a b
+tick-enters a b t ticks = elim ticks [
+  | inl late ↦ kept late.answers
+  | inr (inl none) ↦ inl (ap (λ (v : CoreValue). v.entries) none.same, ap (λ (v : CoreValue). v.answers) none.same)
+  | inr (inr (inl ends)) ↦ inr (begun (written t Passes) (refl, tt) ends.answers)
+  | inr (inr (inr seals)) ↦ inr (begun (written t Seals) (refl, tt) seals.answers)
+]
   where
     begun : (x : Written) → IsTickEntry t x → AnswersLate t (a.entries ++ x ∷ []) a b → AddsFirst (IsTickEntry t) a.entries b.entries
     begun x is w = record { first = x; rest = timeouts t a.exchanges a.conns; is_first = is; added = w.entries ∙ append_assoc a.entries (x ∷ []) (timeouts t a.exchanges a.conns) }

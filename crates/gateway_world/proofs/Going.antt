@@ -20,7 +20,7 @@ abbrev pub AreStanding : CoreValue → Type 0
 AreStanding c = All (λ (n : ℕ). n < length c.entries) (map (λ (g : Given). g.number) c.answers)
 
 -- What stands in a history stands in a longer one.
-stands-more : {X : Type 0} (xs ys : List X) (n : ℕ) (x : X) → slice_get xs n ≡ Some x → slice_get (xs ++ ys) n ≡ Some x
+pub stands-more : {X : Type 0} (xs ys : List X) (n : ℕ) (x : X) → slice_get xs n ≡ Some x → slice_get (xs ++ ys) n ≡ Some x
 stands-more [] ys n x e = absurd cc
 stands-more (z ∷ xs) ys zero x e = e
 stands-more (z ∷ xs) ys (suc n) x e = stands-more xs ys n x e

@@ -1,5 +1,5 @@
 -- What a tick answers late.
-use Rattle.std.proofs.Common.{◌≡◌, ◌≢◌, ◌⊎◌, ℕ, zero, suc, ◌+◌, Bool, true, false, cond, inl, inr, List, [], ◌∷◌, ◌++◌, length, map, Option, Some, None, refl, sym, ap, subst, ◌∙◌, arith, length-append}
+use Rattle.std.proofs.Common.{◌≡◌, ◌≢◌, ℕ, zero, suc, ◌+◌, Bool, true, false, cond, inl, inr, List, [], ◌∷◌, ◌++◌, length, map, Option, Some, None, refl, sym, ap, subst, ◌∙◌, arith, length-append}
 use Rattle.std.specs.Prelude.{◌==◌, ◌&&◌, find}
 use Rattle.std.specs.List.{All, Contains}
 use Rattle.std.proofs.lemmas.Bool.{cases_Bool}
@@ -14,7 +14,7 @@ use Rattle.history_laws.specs.declared.kept.Conn.{Conn}
 use Rattle.history_laws.specs.declared.kept.Exchange.{Exchange}
 use Rattle.exchange_core.specs.CoreValue.{CoreValue, Outgoing, connections, opens_deed, sent_by, sendings, written}
 use Rattle.exchange_core.specs.Answering.{Given}
-use Rattle.exchange_core.specs.Ticking.{is_past, waits_on, late_reader, late_on, late_for, timed_by, timed, timeout_by, timeout_for, timeouts, HasPast, AreTimeouts, AnswersLate, takes_tick, EndsLate, SealsLate, KeepsLate}
+use Rattle.exchange_core.specs.Ticking.{is_past, waits_on, late_reader, late_on, late_for, timed_by, timed, timeout_by, timeout_for, timeouts, AreTimeouts, AnswersLate, TicksSo}
 use Rattle.gateway_world.specs.Steps.{Advances, answers_conn, answers_in, is_answer, all_answered, asks_answered_by, asks_answered}
 use Rattle.gateway_world.specs.CoreSteps.{ComesFrom, IsNewAnswer, AnswersAlone}
 use Rattle.gateway_world.proofs.Counting.{slice_get-at}
@@ -227,29 +227,8 @@ late-one a b t x none quiet old w =
     let ws = timeouts t a.exchanges a.conns in
     late-alone a b t (x ∷ []) (rw none refl) (mute-one x quiet) (rw old refl) (rw quiet (ap (λ (k : ℕ). all_answered k ws) (sym (length-append a.entries (x ∷ []))))) w
 
-pub past-or-none : (t : ℕ) (es : List Exchange) → All (λ (e : Exchange). is_past t e ≡ false) es ⊎ HasPast t es
-past-or-none t [] = inl (All-nil (λ (e : Exchange). is_past t e ≡ false))
-past-or-none t (e ∷ es) =
-    elim (cases_Bool (is_past t e)) [
-      | inl y ↦ inr (record { exchange = e; stands = (0, omega arith, refl); past = y })
-      | inr n ↦ elim (past-or-none t es) [
-        | inl all ↦ inl (All-cons (λ (x : Exchange). is_past t x ≡ false) e es n all)
-        | inr w ↦ inr (record { exchange = w.exchange; stands = (suc w.stands.0, (let lt = w.stands.1 in omega (arith, lt)), w.stands.2); past = w.past })
-      ]
-    ]
-
-pub ticking : (a b : CoreValue) (t : ℕ) → (a.sealed ≡ false → All (λ (e : Exchange). is_past t e ≡ false) a.exchanges → b ≡ a)
-    → (a.sealed ≡ false → HasPast t a.exchanges → takes_tick t a ≡ true → EndsLate t a b)
-    → (a.sealed ≡ false → HasPast t a.exchanges → takes_tick t a ≡ false → SealsLate t a b)
-    → (a.sealed ≡ true → KeepsLate t a b) → AnswersAlone a b
-ticking a b t early ends seals keeps =
-    elim (cases_Bool a.sealed) [
-      | inl y ↦ late-none a b t (keeps y).answers
-      | inr n ↦ elim (past-or-none t a.exchanges) [
-        | inl all ↦ same-alone a b (early n all)
-        | inr w ↦ elim (cases_Bool (takes_tick t a)) [
-          | inl y ↦ late-one a b t (written t Passes) refl refl refl (ends n w y).answers
-          | inr late ↦ late-one a b t (written t Seals) refl refl refl (seals n w late).answers
-        ]
-      ]
-    ]
+pub ticking : (a b : CoreValue) (t : ℕ) → TicksSo t a b → AnswersAlone a b
+ticking a b t (inl kept) = late-none a b t kept.answers
+ticking a b t (inr (inl none)) = same-alone a b none.same
+ticking a b t (inr (inr (inl ends))) = late-one a b t (written t Passes) refl refl refl ends.answers
+ticking a b t (inr (inr (inr seals))) = late-one a b t (written t Seals) refl refl refl seals.answers

@@ -28,5 +28,7 @@ pub mod Running
 pub mod Runs
 pub mod Serving
 pub mod Settling
+pub mod Shutting
 pub mod Taking
 pub mod Waiting
+pub mod Working

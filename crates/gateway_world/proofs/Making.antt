@@ -1,7 +1,5 @@
 -- When the entries of steps are made, step by step.
-use Rattle.std.proofs.Common.{◌≡◌, ℕ, ◌⊎◌, Bool, true, false, inl, inr, List, [], ◌∷◌, ◌++◌, Option, Some, None, Result, Ok, Err, IfOk, OnOk, IsTrue, IsFalse, refl, sym, ap, subst, ◌∙◌, arith, max, ◌≤◌, ◌^◌}
-use Rattle.std.specs.List.{All}
-use Rattle.std.proofs.lemmas.Bool.{cases_Bool}
+use Rattle.std.proofs.Common.{◌≡◌, ℕ, Bool, true, false, inl, inr, List, [], ◌∷◌, ◌++◌, Option, Some, None, Result, Ok, Err, IfOk, IfErr, OnOk, refl, sym, ap, subst, ◌∙◌, arith, max, ◌≤◌, ◌^◌}
 use Rattle.std.proofs.lemmas.Grind.{flat_map-append}
 use Rattle.std.proofs.lemmas.List.{append-nil, append_assoc}
 use Rattle.uri_map.specs.declared.peer.Peer.{Peer}
@@ -18,11 +16,12 @@ use Rattle.exchange_core.specs.CoreValue.{CoreValue, written, now}
 use Rattle.exchange_core.specs.Numbers.{first_by, firsts, IsNumbered}
 use Rattle.exchange_core.specs.Steps.{with_sent}
 use Rattle.exchange_core.specs.Hears.{HeardSo}
-use Rattle.exchange_core.specs.Asking.{AddsAsk, AddsBy}
-use Rattle.exchange_core.specs.Ticking.{HasPast, is_past, takes_tick, late_reader, timeout_by, timeout_for, timeouts, moment_after, AnswersLate, EndsLate, SealsLate, KeepsLate}
+use Rattle.exchange_core.specs.Asking.{AddsAsk, AddsBy, RefusesSo}
+use Rattle.exchange_core.specs.Opening.{OpensSo, ClosesSo}
+use Rattle.exchange_core.specs.Sealing.{TakesNoMore}
+use Rattle.exchange_core.specs.Ticking.{late_reader, timeout_by, timeout_for, timeouts, moment_after, AnswersLate, TicksSo}
 use Rattle.gateway_world.specs.declared.stepping.When.{When}
 use Rattle.gateway_world.specs.Making.{NumbersBy, AreMade, AddsMade, Makes}
-use Rattle.gateway_world.proofs.Lateness.{past-or-none}
 
 -- some entries, and more behind them
 made-more : (t word : ℕ) (h xs ys : List Written) → AreMade t word h xs → AreMade t word (h ++ xs) ys → AreMade t word h (xs ++ ys)
@@ -76,31 +75,24 @@ makes-one : (when : When) (a b : CoreValue) (w : Written) → w.moment ≡ now a
     → b.moment ≡ now a.moment when.moment → Makes when a b
 makes-one when a b w at numbered entries moment = makes-now when a b (adds-one _ _ _ _ w at numbered entries) moment
 
+-- a call that finds that the journal takes no more
+makes-seal : {NoRoom : Type 0} (when : When) (a b : CoreValue) → TakesNoMore NoRoom (now a.moment when.moment) a b → Makes when a b
+makes-seal when a b w = elim (w.how) [
+  | inl before ↦ makes-same when a b before.1
+  | inr sealed ↦ makes-one when a b (written (now a.moment when.moment) Seals) refl tt sealed.1.entries sealed.1.moment
+]
+
 -- an opening
-pub makes-open : (r : Result ℕ OpenFault) (when : When) (a b : CoreValue) (A B C E F G H I : Type 0) (P Y Z V W : ℕ → Type 0)
-    → IfOk r (λ n. P n × (b.entries ≡ a.entries ++ written (now a.moment when.moment) (Opens n) ∷ []) × Y n × Z n × V n × W n)
-    → (r ≡ Err OpenFault.Full → A × (b ≡ a))
-    → (r ≡ Err OpenFault.Sealed → B × ((C × (b ≡ a)) ⊎ ((a.sealed ≡ false) × E × (b.entries ≡ a.entries ++ written (now a.moment when.moment) Seals ∷ []) × F × G × H × I)))
-    → (r ≡ Err OpenFault.Memory → b ≡ a)
-    → IfOk r (λ n. b.moment ≡ now a.moment when.moment)
-    → (r ≡ Err OpenFault.Sealed → a.sealed ≡ false → b.moment ≡ now a.moment when.moment) → Makes when a b
-makes-open (Ok n) when a b A B C E F G H I P Y Z V W ok full sealed memory moment at =
-    makes-one when a b (written (now a.moment when.moment) (Opens n)) refl tt ok.1 moment
-makes-open (Err OpenFault.Full) when a b A B C E F G H I P Y Z V W ok full sealed memory moment at = makes-same when a b (full refl).1
-makes-open (Err OpenFault.Sealed) when a b A B C E F G H I P Y Z V W ok full sealed memory moment at =
-    elim (sealed refl).1 [
-      | inl w ↦ makes-same when a b w.1
-      | inr w ↦ makes-one when a b (written (now a.moment when.moment) Seals) refl tt w.2 (at refl w.0)
-    ]
-makes-open (Err OpenFault.Memory) when a b A B C E F G H I P Y Z V W ok full sealed memory moment at = makes-same when a b (memory refl)
+pub makes-open : (r : Result ℕ OpenFault) (when : When) (a b : CoreValue) → OpensSo r (now a.moment when.moment) a b → Makes when a b
+makes-open (Ok n) when a b w = makes-one when a b (written (now a.moment when.moment) (Opens n)) refl tt w.entries w.moment
+makes-open (Err OpenFault.Full) when a b w = makes-same when a b w.1
+makes-open (Err OpenFault.Sealed) when a b w = makes-seal when a b w
+makes-open (Err OpenFault.Memory) when a b w = makes-same when a b w.2
 
 -- a close
-pub makes-close : (r : Bool) (when : When) (a b : CoreValue) (c : ℕ) (A B : Type 0)
-    → (IsTrue r → (b.entries ≡ a.entries ++ written (now a.moment when.moment) (Shuts c) ∷ []) × A) → (IsFalse r → B × (b ≡ a))
-    → (IsTrue r → b.moment ≡ now a.moment when.moment) → Makes when a b
-makes-close true when a b c A B closed unknown moment =
-    makes-one when a b (written (now a.moment when.moment) (Shuts c)) refl tt (closed refl).0 (moment refl)
-makes-close false when a b c A B closed unknown moment = makes-same when a b (unknown refl).1
+pub makes-close : (r : Bool) (when : When) (a b : CoreValue) (c : ℕ) → ClosesSo r (now a.moment when.moment) c a b → Makes when a b
+makes-close true when a b c w = makes-one when a b (written (now a.moment when.moment) (Shuts c)) refl tt w.entries w.moment
+makes-close false when a b c w = makes-same when a b w.1
 
 -- an ask
 first-behind : (h : List Written) (w : Written) → first_by w.deed ≡ [] → firsts (h ++ w ∷ []) ≡ firsts h
@@ -128,24 +120,13 @@ asks-made (Requests q) t word n conn m a b (inr w) =
       numbered = subst (λ (s : List _). IsNumbered word q.peer s w.1.mid w.1.token w.1.wait) (sym (first-behind a.entries asked refl)) w.1.numbered;
     }) w.1.entries
 
-pub makes-ask : {Y : Type 0} (r : Result Y AskFault) (number : Y → ℕ) (when : When) (a b : CoreValue) (conn : ℕ) (m : Mapping) (A B C D F G H I J : Type 0)
-    → IfOk r (λ x. AddsAsk (now a.moment when.moment) when.word (number x) conn m a b)
-    → (r ≡ Err AskFault.Unknown → A × (b ≡ a))
-    → (r ≡ Err AskFault.Pending → B × (b ≡ a))
-    → (r ≡ Err AskFault.Sealed → C × ((D × (b ≡ a)) ⊎ ((a.sealed ≡ false) × F × (b.entries ≡ a.entries ++ written (now a.moment when.moment) Seals ∷ []) × G × H × I × J)))
-    → (r ≡ Err AskFault.Memory → b ≡ a)
-    → IfOk r (λ x. b.moment ≡ now a.moment when.moment)
-    → (r ≡ Err AskFault.Sealed → a.sealed ≡ false → b.moment ≡ now a.moment when.moment) → Makes when a b
-makes-ask (Ok x) number when a b conn m A B C D F G H I J adds unknown pending sealed memory moment at =
-    makes-now when a b (asks-made m.sense _ _ (number x) conn m a b adds) moment
-makes-ask (Err AskFault.Unknown) number when a b conn m A B C D F G H I J adds unknown pending sealed memory moment at = makes-same when a b (unknown refl).1
-makes-ask (Err AskFault.Pending) number when a b conn m A B C D F G H I J adds unknown pending sealed memory moment at = makes-same when a b (pending refl).1
-makes-ask (Err AskFault.Sealed) number when a b conn m A B C D F G H I J adds unknown pending sealed memory moment at =
-    elim (sealed refl).1 [
-      | inl w ↦ makes-same when a b w.1
-      | inr w ↦ makes-one when a b (written (now a.moment when.moment) Seals) refl tt w.2 (at refl w.0)
-    ]
-makes-ask (Err AskFault.Memory) number when a b conn m A B C D F G H I J adds unknown pending sealed memory moment at = makes-same when a b (memory refl)
+pub makes-ask : {X : Type 0} (r : Result X AskFault) (number : X → ℕ) (when : When) (a b : CoreValue) (conn : ℕ) (m : Mapping)
+    → IfOk r (λ x. AddsAsk (now a.moment when.moment) when.word (number x) conn m a b) → IfErr r (λ f. RefusesSo f (now a.moment when.moment) conn m a b) → Makes when a b
+makes-ask (Ok x) number when a b conn m adds refused = makes-now when a b (asks-made m.sense _ _ (number x) conn m a b adds.adds) adds.moment
+makes-ask (Err AskFault.Unknown) number when a b conn m adds refused = makes-same when a b refused.1
+makes-ask (Err AskFault.Pending) number when a b conn m adds refused = makes-same when a b refused.1
+makes-ask (Err AskFault.Sealed) number when a b conn m adds refused = makes-seal when a b refused.1
+makes-ask (Err AskFault.Memory) number when a b conn m adds refused = makes-same when a b refused.1
 
 -- a datagram
 sent-made : (t word : ℕ) (p : Peer) (sent : Option (List ℕ)) (a h : List Written) → AddsMade t word a h → AddsMade t word a (with_sent t p sent h)
@@ -183,25 +164,20 @@ now-after : (last moment : ℕ) (xs : List Written) → now (moment_after (now l
 now-after last moment [] = refl
 now-after last moment (x ∷ xs) = now-again last moment
 
-pub makes-tick : (when : When) (a b : CoreValue) → (a.sealed ≡ false → All (λ (e : Exchange). is_past (now a.moment when.moment) e ≡ false) a.exchanges → b ≡ a)
-    → (a.sealed ≡ false → HasPast (now a.moment when.moment) a.exchanges → takes_tick (now a.moment when.moment) a ≡ true → EndsLate (now a.moment when.moment) a b)
-    → (a.sealed ≡ false → HasPast (now a.moment when.moment) a.exchanges → takes_tick (now a.moment when.moment) a ≡ false → SealsLate (now a.moment when.moment) a b)
-    → (a.sealed ≡ true → KeepsLate (now a.moment when.moment) a b) → Makes when a b
-makes-tick when a b early ends seals keeps =
+pub makes-tick : (when : When) (a b : CoreValue) → TicksSo (now a.moment when.moment) a b → Makes when a b
+makes-tick when a b (inl kept) =
     let t : ℕ = now a.moment when.moment in
-    elim (cases_Bool a.sealed) [
-      | inl y ↦ let w = keeps y in record {
-        added = ends-made t when.word a.entries a b w.answers (adds-none t when.word a.entries a.entries refl);
-        later = ap (λ (m : ℕ). now m when.moment) w.moment ∙ now-after a.moment when.moment (timeouts t a.exchanges a.conns);
-      }
-      | inr n ↦ elim (past-or-none t a.exchanges) [
-        | inl all ↦ makes-same when a b (early n all)
-        | inr w ↦ elim (cases_Bool (takes_tick t a)) [
-          | inl y ↦ let u = ends n w y in makes-now when a b (ends-made t when.word (a.entries ++ written t Passes ∷ []) a b u.answers (adds-one t when.word a.entries _ (written t Passes) refl tt refl)) u.moment
-          | inr late ↦ let u = seals n w late in makes-now when a b (ends-made t when.word (a.entries ++ written t Seals ∷ []) a b u.answers (adds-one t when.word a.entries _ (written t Seals) refl tt refl)) u.moment
-        ]
-      ]
-    ]
+    record {
+      added = ends-made t when.word a.entries a b kept.answers (adds-none t when.word a.entries a.entries refl);
+      later = ap (λ (m : ℕ). now m when.moment) kept.moment ∙ now-after a.moment when.moment (timeouts t a.exchanges a.conns);
+    }
+makes-tick when a b (inr (inl none)) = makes-same when a b none.same
+makes-tick when a b (inr (inr (inl ends))) =
+    let t : ℕ = now a.moment when.moment in
+    makes-now when a b (ends-made t when.word (a.entries ++ written t Passes ∷ []) a b ends.answers (adds-one t when.word a.entries _ (written t Passes) refl tt refl)) ends.moment
+makes-tick when a b (inr (inr (inr seals))) =
+    let t : ℕ = now a.moment when.moment in
+    makes-now when a b (ends-made t when.word (a.entries ++ written t Seals ∷ []) a b seals.answers (adds-one t when.word a.entries _ (written t Seals) refl tt refl)) seals.moment
 
 -- A core that isn't ahead goes on at the moment at which the input counts.
 pub on-time : (core last moment t : ℕ) → core ≤ last → last ≤ 2 ^ 62 → moment ≤ 2 ^ 62 → t ≡ max last moment → now core t ≡ t

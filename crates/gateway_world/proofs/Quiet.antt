@@ -1,27 +1,28 @@
 -- What the steps of the core add to what is read off a history, and what they don't.
-use Rattle.std.proofs.Common.{◌≡◌, ℕ, ◌⊎◌, Bool, true, false, inl, inr, List, [], ◌∷◌, ◌++◌, Option, Some, None, Result, Ok, Err, IfOk, OnErr, IsTrue, IsFalse, refl, ap, ◌∙◌}
-use Rattle.std.specs.List.{All, flat_map}
-use Rattle.std.proofs.lemmas.Bool.{cases_Bool}
+use Rattle.std.proofs.Common.{◌≡◌, ℕ, Bool, true, false, inl, inr, List, [], ◌∷◌, ◌++◌, Option, Some, None, Result, Ok, Err, IfOk, OnErr, refl, ap, ◌∙◌}
+use Rattle.std.specs.Prelude.{IfErr}
+use Rattle.std.specs.List.{flat_map}
 use Rattle.std.proofs.lemmas.Grind.{flat_map-append}
 use Rattle.std.proofs.lemmas.List.{append-nil}
 use Rattle.uri_map.specs.declared.peer.Peer.{Peer}
 use Rattle.ask_model.specs.declared.cause.Cause.TheVariants.{Busy, Timeout}
 use Rattle.ask_model.specs.Requests.{Sense, Requests, Refuses}
 use Rattle.ask_model.specs.Views.{Mapping}
-use Rattle.journal_book.specs.Entries.{Deed, Written, Grounds, Fault, Asks, Opens, Sends, Hears, Passes, Answers, Seals}
+use Rattle.journal_book.specs.Entries.{Deed, Written, Grounds, Fault, Asks, Opens, Sends, Hears, Passes, Answers, Shuts, Seals}
 use Rattle.journal_book.specs.Views.{ask_of}
 use Rattle.history_laws.specs.declared.kept.Conn.{Conn}
 use Rattle.history_laws.specs.declared.kept.Exchange.{Exchange}
 use Rattle.exchange_core.specs.declared.fault.AskFault.{AskFault}
 use Rattle.exchange_core.specs.declared.fault.OpenFault.{OpenFault}
-use Rattle.exchange_core.specs.CoreValue.{CoreValue, written}
+use Rattle.exchange_core.specs.CoreValue.{CoreValue, connections, written}
 use Rattle.exchange_core.specs.Steps.{with_sent}
 use Rattle.exchange_core.specs.Hears.{HeardSo}
-use Rattle.exchange_core.specs.Asking.{AddsAsk, AddsBy}
-use Rattle.exchange_core.specs.Ticking.{HasPast, is_past, takes_tick, late_reader, timeout_by, timeout_for, timeouts, AnswersLate, EndsLate, SealsLate, KeepsLate}
+use Rattle.exchange_core.specs.Asking.{AddsAsk, AddsBy, RefusesSo}
+use Rattle.exchange_core.specs.Opening.{OpensSo, ClosesSo}
+use Rattle.exchange_core.specs.Sealing.{TakesNoMore}
+use Rattle.exchange_core.specs.Ticking.{late_reader, timeout_by, timeout_for, timeouts, AnswersLate, TicksSo}
 use Rattle.gateway_world.specs.Asks.{asked_by}
 use Rattle.gateway_world.specs.Closing.{shut_by}
-use Rattle.gateway_world.proofs.Lateness.{past-or-none}
 
 -- what the deeds of a history give, in order
 abbrev given_in : {X : Type 0} → (Deed → List X) → List Written → List X
@@ -90,39 +91,27 @@ module _ {X : Type 0} (f : Deed → List X) (silent : IsSilent f) where
   quiet-late : (a b : CoreValue) (t : ℕ) (h : List Written) → AnswersLate t h a b → given_in f b.entries ≡ given_in f h
   quiet-late a b t h w = ap (given_in f) w.entries ∙ quiet-more h (timeouts t a.exchanges a.conns) (quiet-timeouts t a.exchanges a.conns)
 
-  pub quiet-tick : (a b : CoreValue) (t : ℕ) → (a.sealed ≡ false → All (λ (e : Exchange). is_past t e ≡ false) a.exchanges → b ≡ a)
-      → (a.sealed ≡ false → HasPast t a.exchanges → takes_tick t a ≡ true → EndsLate t a b)
-      → (a.sealed ≡ false → HasPast t a.exchanges → takes_tick t a ≡ false → SealsLate t a b)
-      → (a.sealed ≡ true → KeepsLate t a b) → given_in f b.entries ≡ given_in f a.entries
-  quiet-tick a b t early ends seals keeps =
-      elim (cases_Bool a.sealed) [
-        | inl y ↦ quiet-late a b t a.entries (keeps y).answers
-        | inr n ↦ elim (past-or-none t a.exchanges) [
-          | inl all ↦ quiet-same a b (early n all)
-          | inr w ↦ elim (cases_Bool (takes_tick t a)) [
-            | inl y ↦ quiet-late a b t (a.entries ++ written t Passes ∷ []) (ends n w y).answers ∙ quiet-more a.entries (written t Passes ∷ []) (one-none (written t Passes) silent.passes)
-            | inr late ↦ quiet-late a b t (a.entries ++ written t Seals ∷ []) (seals n w late).answers ∙ quiet-more a.entries (written t Seals ∷ []) (one-none (written t Seals) silent.seals)
-          ]
-        ]
-      ]
+  pub quiet-tick : (a b : CoreValue) (t : ℕ) → TicksSo t a b → given_in f b.entries ≡ given_in f a.entries
+  quiet-tick a b t (inl kept) = quiet-late a b t a.entries kept.answers
+  quiet-tick a b t (inr (inl none)) = quiet-same a b none.same
+  quiet-tick a b t (inr (inr (inl ends))) = quiet-late a b t (a.entries ++ written t Passes ∷ []) ends.answers ∙ quiet-more a.entries (written t Passes ∷ []) (one-none (written t Passes) silent.passes)
+  quiet-tick a b t (inr (inr (inr seals))) = quiet-late a b t (a.entries ++ written t Seals ∷ []) seals.answers ∙ quiet-more a.entries (written t Seals ∷ []) (one-none (written t Seals) silent.seals)
+
+  -- a call that finds that the journal takes no more
+  quiet-seal : {NoRoom : Type 0} (a b : CoreValue) (t : ℕ) → TakesNoMore NoRoom t a b → given_in f b.entries ≡ given_in f a.entries
+  quiet-seal a b t w = elim (w.how) [ inl before ↦ quiet-same a b before.1 | inr now ↦ quiet-one a b (written t Seals) silent.seals now.1.entries ]
 
   -- an opening
-  pub quiet-open : (r : Result ℕ OpenFault) (a b : CoreValue) (t : ℕ) (A B C D E F G H I : Type 0) (P Y Z V W : ℕ → Type 0)
-      → IfOk r (λ n. P n × (b.entries ≡ a.entries ++ written t (Opens n) ∷ []) × Y n × Z n × V n × W n)
-      → (r ≡ Err OpenFault.Full → A × (b ≡ a))
-      → (r ≡ Err OpenFault.Sealed → B × ((C × (b ≡ a)) ⊎ (D × E × (b.entries ≡ a.entries ++ written t Seals ∷ []) × F × G × H × I)))
-      → (r ≡ Err OpenFault.Memory → b ≡ a) → given_in f b.entries ≡ given_in f a.entries
-  quiet-open (Ok n) a b t A B C D E F G H I P Y Z V W ok full sealed memory = quiet-one a b (written t (Opens n)) (silent.opens n) ok.1
-  quiet-open (Err OpenFault.Full) a b t A B C D E F G H I P Y Z V W ok full sealed memory = quiet-same a b (full refl).1
-  quiet-open (Err OpenFault.Sealed) a b t A B C D E F G H I P Y Z V W ok full sealed memory =
-      elim (sealed refl).1 [ inl w ↦ quiet-same a b w.1 | inr w ↦ quiet-one a b (written t Seals) silent.seals w.2 ]
-  quiet-open (Err OpenFault.Memory) a b t A B C D E F G H I P Y Z V W ok full sealed memory = quiet-same a b (memory refl)
+  pub quiet-open : (r : Result ℕ OpenFault) (a b : CoreValue) (t : ℕ) → OpensSo r t a b → given_in f b.entries ≡ given_in f a.entries
+  quiet-open (Ok n) a b t w = quiet-one a b (written t (Opens n)) (silent.opens n) w.entries
+  quiet-open (Err OpenFault.Full) a b t w = quiet-same a b w.1
+  quiet-open (Err OpenFault.Sealed) a b t w = quiet-seal a b t w
+  quiet-open (Err OpenFault.Memory) a b t w = quiet-same a b w.2
 
   -- a close
-  pub quiet-close : (r : Bool) (a b : CoreValue) (w : Written) (A B : Type 0) → f w.deed ≡ []
-      → (IsTrue r → (b.entries ≡ a.entries ++ w ∷ []) × A) → (IsFalse r → B × (b ≡ a)) → given_in f b.entries ≡ given_in f a.entries
-  quiet-close true a b w A B none closed unknown = quiet-one a b w none (closed refl).0
-  quiet-close false a b w A B none closed unknown = quiet-same a b (unknown refl).1
+  pub quiet-close : (r : Bool) (a b : CoreValue) (t c : ℕ) → f (Shuts c) ≡ [] → ClosesSo r t c a b → given_in f b.entries ≡ given_in f a.entries
+  quiet-close true a b t c none w = quiet-one a b (written t (Shuts c)) none w.entries
+  quiet-close false a b t c none w = quiet-same a b w.1
 
   -- an ask, and what is behind it in its step
   two-more : (a b : CoreValue) (w x : Written) → f x.deed ≡ [] → b.entries ≡ (a.entries ++ w ∷ []) ++ x ∷ [] → given_in f b.entries ≡ given_in f a.entries ++ f w.deed
@@ -138,20 +127,16 @@ module _ {X : Type 0} (f : Deed → List X) (silent : IsSilent f) where
 
   pub asked-gives : {Y E : Type 0} (r : Result Y E) (number : Y → ℕ) (a b : CoreValue) (t word conn : ℕ) (m : Mapping) → IfOk r (λ x. AddsAsk t word (number x) conn m a b)
       → IfOk r (λ x. given_in f b.entries ≡ given_in f a.entries ++ f (Asks conn (ask_of m)))
-  asked-gives (Ok x) number a b t word conn m w = ask-gives m.sense a b t word (number x) conn m w
+  asked-gives (Ok x) number a b t word conn m w = ask-gives m.sense a b t word (number x) conn m w.adds
   asked-gives (Err e) number a b t word conn m w = tt
 
-  pub quiet-refused : {Y : Type 0} (r : Result Y AskFault) (a b : CoreValue) (t : ℕ) (A B C D E F G H I J : Type 0)
-      → (r ≡ Err AskFault.Unknown → A × (b ≡ a))
-      → (r ≡ Err AskFault.Pending → B × (b ≡ a))
-      → (r ≡ Err AskFault.Sealed → C × ((D × (b ≡ a)) ⊎ (E × F × (b.entries ≡ a.entries ++ written t Seals ∷ []) × G × H × I × J)))
-      → (r ≡ Err AskFault.Memory → b ≡ a) → OnErr r (given_in f b.entries ≡ given_in f a.entries)
-  quiet-refused (Ok x) a b t A B C D E F G H I J unknown pending sealed memory = tt
-  quiet-refused (Err AskFault.Unknown) a b t A B C D E F G H I J unknown pending sealed memory = quiet-same a b (unknown refl).1
-  quiet-refused (Err AskFault.Pending) a b t A B C D E F G H I J unknown pending sealed memory = quiet-same a b (pending refl).1
-  quiet-refused (Err AskFault.Sealed) a b t A B C D E F G H I J unknown pending sealed memory =
-      elim (sealed refl).1 [ inl w ↦ quiet-same a b w.1 | inr w ↦ quiet-one a b (written t Seals) silent.seals w.2 ]
-  quiet-refused (Err AskFault.Memory) a b t A B C D E F G H I J unknown pending sealed memory = quiet-same a b (memory refl)
+  pub quiet-refused : {Y : Type 0} (r : Result Y AskFault) (a b : CoreValue) (t conn : ℕ) (m : Mapping) → IfErr r (λ fault. RefusesSo fault t conn m a b)
+      → OnErr r (given_in f b.entries ≡ given_in f a.entries)
+  quiet-refused (Ok x) a b t conn m w = tt
+  quiet-refused (Err AskFault.Unknown) a b t conn m w = quiet-same a b w.1
+  quiet-refused (Err AskFault.Pending) a b t conn m w = quiet-same a b w.1
+  quiet-refused (Err AskFault.Sealed) a b t conn m w = quiet-seal a b t w.1
+  quiet-refused (Err AskFault.Memory) a b t conn m w = quiet-same a b w.1
 
 -- for each connection
 pub ok-each : {Y E Z : Type 0} (r : Result Y E) (P : Y → Z → Type 0) → ((z : Z) → IfOk r (λ x. P x z)) → IfOk r (λ x. (z : Z) → P x z)
@@ -163,6 +148,6 @@ err-each (Ok x) P w = tt
 err-each (Err e) P w = w
 
 -- the number of what opens
-pub fresh-number : (r : Result ℕ OpenFault) (n : ℕ) (X Y Z V W : ℕ → Type 0) → IfOk r (λ k. (k ≡ n) × X k × Y k × Z k × V k × W k) → IfOk r (λ k. k ≡ n)
-fresh-number (Ok k) n X Y Z V W w = w.0
-fresh-number (Err e) n X Y Z V W w = tt
+pub fresh-number : (r : Result ℕ OpenFault) (a b : CoreValue) (t : ℕ) → OpensSo r t a b → IfOk r (λ k. k ≡ connections a.entries)
+fresh-number (Ok k) a b t w = w.number
+fresh-number (Err e) a b t w = tt

@@ -276,7 +276,7 @@ so-far-none M h inlets none closed = record {
 }
 
 -- the elements up to one, and it
-take-next : {X : Type 0} (xs : List X) (i : ℕ) (d : X) → i < length xs → take (i + 1) xs ≡ take i xs ++ get_or xs i d ∷ []
+pub take-next : {X : Type 0} (xs : List X) (i : ℕ) (d : X) → i < length xs → take (i + 1) xs ≡ take i xs ++ get_or xs i d ∷ []
 take-next [] i d lt = absurd (omega (arith, lt))
 take-next (y ∷ xs) zero d lt = refl
 take-next {X} (y ∷ xs) (suc i) d lt =

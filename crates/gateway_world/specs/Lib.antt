@@ -16,6 +16,8 @@ pub mod Prompt
 pub mod Readers
 pub mod Rows
 pub mod Runs
+pub mod Shutting
 pub mod Steps
 pub mod Undo
 pub mod Worlds
+pub mod Working

@@ -9,11 +9,13 @@ ghost use Rattle.exchange_core.specs.CoreValue.{now, marked_now, gone_back};
 ghost use Rattle.gateway_world.specs.Entering.{Enters, EntersOpen, EntersDatagram, EntersTick, EntersClose};
 ghost use Rattle.gateway_world.specs.Asks.{inlets_of, AsksNothing, AsksFirst, StandsFor, IsOver, IsGone, Heeds};
 ghost use Rattle.gateway_world.specs.Making.{Makes};
+ghost use Rattle.gateway_world.specs.Working.{Works, WorksFor};
 ghost use Rattle.gateway_world.specs.Continuing.{TellsToGoOn, TellsOne, GivesFinal};
-ghost use Rattle.gateway_world.specs.Closing.{Closes, TellsClosings, shut_in, closed_if};
+ghost use Rattle.gateway_world.specs.Closing.{shut_in, closed_if};
+ghost use Rattle.gateway_world.specs.Shutting.{ShutsFor, IsDone};
 ghost use Rattle.gateway_world.specs.Prompt.{IsPrompt, IsPromptOn, LeavesConnections, work_at};
 ghost use Rattle.gateway_world.specs.AskSteps.{AsksInOrder, AsksOn, AsksOne, AsksNone};
-ghost use Rattle.gateway_world.specs.Steps.{Advances, Goes};
+ghost use Rattle.gateway_world.specs.Steps.{Advances};
 ghost use Rattle.gateway_world.specs.Rows.{Serves, Settled, Attended, LeavesOthers, IsServedOn, IsFirstAnswered, IsRow, rows_of, without_row};
 ghost use Rattle.gateway_world.specs.Undo.{shown, shown_at_mark};
 
@@ -76,12 +78,10 @@ impl<R: Relation> Engine<R> {
         outputs: &mut Vec<Output>,
     ) -> Result<(), Memory>
         requires { Serves self.old.core (rows_of self.old.table) }
-        ensures leads { OnOk result (Goes self.old.core self.new.core outputs.old.items outputs.new.items) }
+        ensures works { OnOk result (WorksFor happening.entry context.entry.when self.old.core self.new.core outputs.old.items outputs.new.items) }
         ensures kept { OnOk result (Serves self.new.core (rows_of self.new.table)) }
         ensures marked { shown_at_mark self.new.table ≡ shown_at_mark self.old.table }
         ensures core_mark { self.new.core.marked ≡ self.old.core.marked }
-        ensures made { OnOk result (Makes context.entry.when self.old.core self.new.core) }
-        ensures closes { OnOk result (Closes happening.entry self.old.core.entries self.new.core.entries outputs.old.items outputs.new.items) }
         ensures continues { OnOk result ((c : ℕ) → TellsToGoOn c self.old.core.entries (inlets_of self.old.table) outputs.old.items self.new.core.entries (rows_of self.new.table) (inlets_of self.new.table) outputs.new.items) }
         ensures prompt { OnOk result (IsPrompt (rows_of self.old.table) (inlets_of self.old.table) → IsPrompt (rows_of self.new.table) (inlets_of self.new.table)) }
         ensures enters { OnOk result (self.old.core.answers ≡ [] → Enters happening.entry (now self.old.core.moment context.entry.when.moment) self.old.core self.new.core outputs.old.items outputs.new.items) }
@@ -103,12 +103,10 @@ impl<R: Relation> Engine<R> {
     /// Opens a connection, or turns the client away.
     fn open(&mut self, context: Context<'_>, outputs: &mut Vec<Output>) -> Result<(), Memory>
         requires { Serves self.old.core (rows_of self.old.table) }
-        ensures leads { OnOk result (Goes self.old.core self.new.core outputs.old.items outputs.new.items) }
+        ensures works { OnOk result (Works context.entry.when self.old.core self.new.core outputs.old.items outputs.new.items) }
         ensures kept { OnOk result (Serves self.new.core (rows_of self.new.table)) }
         ensures marked { shown_at_mark self.new.table ≡ shown_at_mark self.old.table }
         ensures core_mark { self.new.core.marked ≡ self.old.core.marked }
-        ensures made { OnOk result (Makes context.entry.when self.old.core self.new.core) }
-        ensures closes { OnOk result (TellsClosings self.old.core.entries self.new.core.entries outputs.old.items outputs.new.items) }
         ensures continues { OnOk result ((c : ℕ) → TellsToGoOn c self.old.core.entries (inlets_of self.old.table) outputs.old.items self.new.core.entries (rows_of self.new.table) (inlets_of self.new.table) outputs.new.items) }
         ensures prompt { OnOk result (IsPrompt (rows_of self.old.table) (inlets_of self.old.table) → IsPrompt (rows_of self.new.table) (inlets_of self.new.table)) }
         ensures enters { OnOk result (EntersOpen (now self.old.core.moment context.entry.when.moment) self.old.core self.new.core outputs.old.items outputs.new.items) }
@@ -135,12 +133,10 @@ impl<R: Relation> Engine<R> {
         outputs: &mut Vec<Output>,
     ) -> Result<(), Memory>
         requires { Serves self.old.core (rows_of self.old.table) }
-        ensures leads { OnOk result (Goes self.old.core self.new.core outputs.old.items outputs.new.items) }
+        ensures works { OnOk result (Works context.entry.when self.old.core self.new.core outputs.old.items outputs.new.items) }
         ensures kept { OnOk result (Serves self.new.core (rows_of self.new.table)) }
         ensures marked { shown_at_mark self.new.table ≡ shown_at_mark self.old.table }
         ensures core_mark { self.new.core.marked ≡ self.old.core.marked }
-        ensures made { OnOk result (Makes context.entry.when self.old.core self.new.core) }
-        ensures closes { OnOk result (TellsClosings self.old.core.entries self.new.core.entries outputs.old.items outputs.new.items) }
         ensures continues { OnOk result ((c : ℕ) → TellsToGoOn c self.old.core.entries (inlets_of self.old.table) outputs.old.items self.new.core.entries (rows_of self.new.table) (inlets_of self.new.table) outputs.new.items) }
         ensures prompt { OnOk result (IsPrompt (rows_of self.old.table) (inlets_of self.old.table) → IsPrompt (rows_of self.new.table) (inlets_of self.new.table)) }
         ensures others { OnOk result ((c : ℕ) → c ≢ number → AsksOn (Maps R.holds R.takes (rules_of (arc_value context.entry.settings.now))) c self.old.core.entries (inlets_of self.old.table) self.new.core.entries (inlets_of self.new.table)) }
@@ -161,12 +157,10 @@ impl<R: Relation> Engine<R> {
         outputs: &mut Vec<Output>,
     ) -> Result<(), Memory>
         requires { Serves self.old.core (rows_of self.old.table) }
-        ensures leads { OnOk result (Goes self.old.core self.new.core outputs.old.items outputs.new.items) }
+        ensures works { OnOk result (Works context.entry.when self.old.core self.new.core outputs.old.items outputs.new.items) }
         ensures kept { OnOk result (Serves self.new.core (rows_of self.new.table)) }
         ensures marked { shown_at_mark self.new.table ≡ shown_at_mark self.old.table }
         ensures core_mark { self.new.core.marked ≡ self.old.core.marked }
-        ensures made { OnOk result (Makes context.entry.when self.old.core self.new.core) }
-        ensures closes { OnOk result (TellsClosings self.old.core.entries self.new.core.entries outputs.old.items outputs.new.items) }
         ensures continues { OnOk result ((c : ℕ) → TellsToGoOn c self.old.core.entries (inlets_of self.old.table) outputs.old.items self.new.core.entries (rows_of self.new.table) (inlets_of self.new.table) outputs.new.items) }
         ensures prompt { OnOk result (IsPrompt (rows_of self.old.table) (inlets_of self.old.table) → IsPrompt (rows_of self.new.table) (inlets_of self.new.table)) }
         ensures enters { OnOk result (self.old.core.answers ≡ [] → EntersDatagram (now self.old.core.moment context.entry.when.moment) peer bytes.now self.old.core self.new.core) }
@@ -180,12 +174,10 @@ impl<R: Relation> Engine<R> {
     /// Lets time go on.
     fn tick(&mut self, context: Context<'_>, outputs: &mut Vec<Output>) -> Result<(), Memory>
         requires { Serves self.old.core (rows_of self.old.table) }
-        ensures leads { OnOk result (Goes self.old.core self.new.core outputs.old.items outputs.new.items) }
+        ensures works { OnOk result (Works context.entry.when self.old.core self.new.core outputs.old.items outputs.new.items) }
         ensures kept { OnOk result (Serves self.new.core (rows_of self.new.table)) }
         ensures marked { shown_at_mark self.new.table ≡ shown_at_mark self.old.table }
         ensures core_mark { self.new.core.marked ≡ self.old.core.marked }
-        ensures made { OnOk result (Makes context.entry.when self.old.core self.new.core) }
-        ensures closes { OnOk result (TellsClosings self.old.core.entries self.new.core.entries outputs.old.items outputs.new.items) }
         ensures continues { OnOk result ((c : ℕ) → TellsToGoOn c self.old.core.entries (inlets_of self.old.table) outputs.old.items self.new.core.entries (rows_of self.new.table) (inlets_of self.new.table) outputs.new.items) }
         ensures prompt { OnOk result (IsPrompt (rows_of self.old.table) (inlets_of self.old.table) → IsPrompt (rows_of self.new.table) (inlets_of self.new.table)) }
         ensures enters { OnOk result (self.old.core.answers ≡ [] → EntersTick (now self.old.core.moment context.entry.when.moment) self.old.core self.new.core) }
@@ -205,6 +197,7 @@ impl<R: Relation> Engine<R> {
         ensures core_mark { self.new.core.marked ≡ self.old.core.marked }
         ensures made { Makes context.entry.when self.old.core self.new.core }
         ensures closes { shut_in self.new.core.entries ≡ shut_in self.old.core.entries ++ closed_if result number }
+        ensures why { IsDone self.old.core number → ShutsFor self.old.core.entries self.new.core.entries }
         ensures apart { LeavesConnections number (rows_of self.old.table) (inlets_of self.old.table) (rows_of self.new.table) (inlets_of self.new.table) }
         ensures prompt { IsPrompt (rows_of self.old.table) (inlets_of self.old.table) → IsPrompt (rows_of self.new.table) (inlets_of self.new.table) }
         ensures enters { EntersClose (now self.old.core.moment context.entry.when.moment) number self.old.core self.new.core }
@@ -222,12 +215,10 @@ impl<R: Relation> Engine<R> {
     /// Gives out the datagrams and the answers of a step, the answers by the numbers of their asks.
     fn deliver(&mut self, context: Context<'_>, outputs: &mut Vec<Output>) -> Result<(), Memory>
         requires { Serves self.old.core (rows_of self.old.table) }
-        ensures leads { OnOk result (Goes self.old.core self.new.core outputs.old.items outputs.new.items) }
+        ensures works { OnOk result (Works context.entry.when self.old.core self.new.core outputs.old.items outputs.new.items) }
         ensures kept { OnOk result (Serves self.new.core (rows_of self.new.table)) }
         ensures marked { shown_at_mark self.new.table ≡ shown_at_mark self.old.table }
         ensures core_mark { self.new.core.marked ≡ self.old.core.marked }
-        ensures made { OnOk result (Makes context.entry.when self.old.core self.new.core) }
-        ensures closes { OnOk result (TellsClosings self.old.core.entries self.new.core.entries outputs.old.items outputs.new.items) }
         ensures continues { OnOk result ((c : ℕ) → TellsToGoOn c self.old.core.entries (inlets_of self.old.table) outputs.old.items self.new.core.entries (rows_of self.new.table) (inlets_of self.new.table) outputs.new.items) }
         ensures prompt { OnOk result (IsPrompt (rows_of self.old.table) (inlets_of self.old.table) → IsPrompt (rows_of self.new.table) (inlets_of self.new.table)) }
         ensures quiet { OnOk result (self.old.core.answers ≡ [] → self.new.core.entries ≡ self.old.core.entries) }
@@ -241,12 +232,10 @@ impl<R: Relation> Engine<R> {
     /// Gives out the answers that are there, by the numbers of their asks.
     fn answer_all(&mut self, context: Context<'_>, outputs: &mut Vec<Output>) -> Result<(), Memory>
         requires { Serves self.old.core (rows_of self.old.table) }
-        ensures leads { OnOk result (Goes self.old.core self.new.core outputs.old.items outputs.new.items) }
+        ensures works { OnOk result (Works context.entry.when self.old.core self.new.core outputs.old.items outputs.new.items) }
         ensures kept { OnOk result (Serves self.new.core (rows_of self.new.table)) }
         ensures marked { shown_at_mark self.new.table ≡ shown_at_mark self.old.table }
         ensures core_mark { self.new.core.marked ≡ self.old.core.marked }
-        ensures made { OnOk result (Makes context.entry.when self.old.core self.new.core) }
-        ensures closes { OnOk result (TellsClosings self.old.core.entries self.new.core.entries outputs.old.items outputs.new.items) }
         ensures continues { OnOk result ((c : ℕ) → TellsToGoOn c self.old.core.entries (inlets_of self.old.table) outputs.old.items self.new.core.entries (rows_of self.new.table) (inlets_of self.new.table) outputs.new.items) }
         ensures prompt { OnOk result (IsPrompt (rows_of self.old.table) (inlets_of self.old.table) → IsPrompt (rows_of self.new.table) (inlets_of self.new.table)) }
         ensures quiet { OnOk result (self.old.core.answers ≡ [] → self.new.core.entries ≡ self.old.core.entries) }
@@ -277,12 +266,10 @@ impl<R: Relation> Engine<R> {
         outputs: &mut Vec<Output>,
     ) -> Result<(), Memory>
         requires { Serves self.old.core (rows_of self.old.table) }
-        ensures leads { OnOk result (Goes self.old.core self.new.core outputs.old.items outputs.new.items) }
+        ensures works { OnOk result (Works context.entry.when self.old.core self.new.core outputs.old.items outputs.new.items) }
         ensures kept { OnOk result (Serves self.new.core (rows_of self.new.table)) }
         ensures marked { shown_at_mark self.new.table ≡ shown_at_mark self.old.table }
         ensures core_mark { self.new.core.marked ≡ self.old.core.marked }
-        ensures made { OnOk result (Makes context.entry.when self.old.core self.new.core) }
-        ensures closes { OnOk result (TellsClosings self.old.core.entries self.new.core.entries outputs.old.items outputs.new.items) }
         ensures continues { OnOk result (TellsOne number self.old.core.entries (inlets_of self.old.table) outputs.old.items self.new.core.entries (rows_of self.new.table) (inlets_of self.new.table) outputs.new.items) }
         ensures prompt { OnOk result (IsPromptOn number (rows_of self.new.table) (inlets_of self.new.table)) }
         ensures apart { OnOk result (LeavesConnections number (rows_of self.old.table) (inlets_of self.old.table) (rows_of self.new.table) (inlets_of self.new.table)) }
@@ -304,12 +291,10 @@ impl<R: Relation> Engine<R> {
         outputs: &mut Vec<Output>,
     ) -> Result<(), Memory>
         requires { Serves self.old.core (rows_of self.old.table) }
-        ensures leads { OnOk result (Goes self.old.core self.new.core outputs.old.items outputs.new.items) }
+        ensures works { OnOk result (Works context.entry.when self.old.core self.new.core outputs.old.items outputs.new.items) }
         ensures kept { OnOk result (Serves self.new.core (rows_of self.new.table)) }
         ensures marked { shown_at_mark self.new.table ≡ shown_at_mark self.old.table }
         ensures core_mark { self.new.core.marked ≡ self.old.core.marked }
-        ensures made { OnOk result (Makes context.entry.when self.old.core self.new.core) }
-        ensures closes { OnOk result (TellsClosings self.old.core.entries self.new.core.entries outputs.old.items outputs.new.items) }
         ensures continues { OnOk result (TellsOne number self.old.core.entries (inlets_of self.old.table) outputs.old.items self.new.core.entries (rows_of self.new.table) (inlets_of self.new.table) outputs.new.items) }
         ensures prompt { OnOk result (IsPromptOn number (rows_of self.new.table) (inlets_of self.new.table)) }
         ensures apart { OnOk result (LeavesConnections number (rows_of self.old.table) (inlets_of self.old.table) (rows_of self.new.table) (inlets_of self.new.table)) }
@@ -331,12 +316,10 @@ impl<R: Relation> Engine<R> {
         outputs: &mut Vec<Output>,
     ) -> Result<bool, Memory>
         requires { Serves self.old.core (rows_of self.old.table) }
-        ensures leads { OnOk result (Goes self.old.core self.new.core outputs.old.items outputs.new.items) }
+        ensures works { OnOk result (Works context.entry.when self.old.core self.new.core outputs.old.items outputs.new.items) }
         ensures kept { OnOk result (Serves self.new.core (rows_of self.new.table)) }
         ensures marked { shown_at_mark self.new.table ≡ shown_at_mark self.old.table }
         ensures core_mark { self.new.core.marked ≡ self.old.core.marked }
-        ensures made { OnOk result (Makes context.entry.when self.old.core self.new.core) }
-        ensures closes { OnOk result (TellsClosings self.old.core.entries self.new.core.entries outputs.old.items outputs.new.items) }
         ensures continues { OnOk result (TellsOne number self.old.core.entries (inlets_of self.old.table) outputs.old.items self.new.core.entries (rows_of self.new.table) (inlets_of self.new.table) outputs.new.items) }
         ensures no_interim { IfOk result (λ more. more ≡ true → GivesFinal outputs.old.items outputs.new.items) }
         ensures less { IfOk result (λ more. more ≡ true → work_at number (inlets_of self.new.table) < work_at number (inlets_of self.old.table)) }
@@ -372,12 +355,10 @@ impl<R: Relation> Engine<R> {
     ) -> Result<(), Memory>
         requires served { Serves self.old.core (rows_of self.old.table) }
         requires idle { IsRow (rows_of self.old.table) number None }
-        ensures leads { OnOk result (Goes self.old.core self.new.core outputs.old.items outputs.new.items) }
+        ensures works { OnOk result (Works context.entry.when self.old.core self.new.core outputs.old.items outputs.new.items) }
         ensures kept { OnOk result (Serves self.new.core (rows_of self.new.table)) }
         ensures marked { shown_at_mark self.new.table ≡ shown_at_mark self.old.table }
         ensures core_mark { self.new.core.marked ≡ self.old.core.marked }
-        ensures made { OnOk result (Makes context.entry.when self.old.core self.new.core) }
-        ensures closes { OnOk result (TellsClosings self.old.core.entries self.new.core.entries outputs.old.items outputs.new.items) }
         ensures no_interim { OnOk result (GivesFinal outputs.old.items outputs.new.items) }
         ensures apart { OnOk result (LeavesConnections number (rows_of self.old.table) (inlets_of self.old.table) (rows_of self.new.table) (inlets_of self.new.table)) }
         ensures asks { OnOk result (AsksOne (Maps R.holds R.takes (rules_of (arc_value context.entry.settings.now))) (item incoming) number self.old.core.entries (inlets_of self.old.table) self.new.core.entries (inlets_of self.new.table)) }
@@ -410,12 +391,10 @@ impl<R: Relation> Engine<R> {
         outputs: &mut Vec<Output>,
     ) -> Result<(), Memory>
         requires { Serves self.old.core (rows_of self.old.table) }
-        ensures leads { OnOk result (Goes self.old.core self.new.core outputs.old.items outputs.new.items) }
+        ensures works { OnOk result (Works context.entry.when self.old.core self.new.core outputs.old.items outputs.new.items) }
         ensures kept { OnOk result (Serves self.new.core (rows_of self.new.table)) }
         ensures marked { shown_at_mark self.new.table ≡ shown_at_mark self.old.table }
         ensures core_mark { self.new.core.marked ≡ self.old.core.marked }
-        ensures made { OnOk result (Makes context.entry.when self.old.core self.new.core) }
-        ensures closes { OnOk result (TellsClosings self.old.core.entries self.new.core.entries outputs.old.items outputs.new.items) }
         ensures no_interim { OnOk result (GivesFinal outputs.old.items outputs.new.items) }
         ensures apart { OnOk result (LeavesConnections number (rows_of self.old.table) (inlets_of self.old.table) (rows_of self.new.table) (inlets_of self.new.table)) }
         ensures asks { OnOk result (AsksNone number self.old.core.entries (inlets_of self.old.table) self.new.core.entries (inlets_of self.new.table)) }
@@ -449,12 +428,10 @@ impl<R: Relation> Engine<R> {
         outputs: &mut Vec<Output>,
     ) -> Result<(), Memory>
         requires { Serves self.old.core (rows_of self.old.table) }
-        ensures leads { OnOk result (Goes self.old.core self.new.core outputs.old.items outputs.new.items) }
+        ensures works { OnOk result (IsDone self.old.core number → Works context.entry.when self.old.core self.new.core outputs.old.items outputs.new.items) }
         ensures kept { OnOk result (Serves self.new.core (rows_of self.new.table)) }
         ensures marked { shown_at_mark self.new.table ≡ shown_at_mark self.old.table }
         ensures core_mark { self.new.core.marked ≡ self.old.core.marked }
-        ensures made { OnOk result (Makes context.entry.when self.old.core self.new.core) }
-        ensures closes { OnOk result (TellsClosings self.old.core.entries self.new.core.entries outputs.old.items outputs.new.items) }
         ensures no_interim { OnOk result (GivesFinal outputs.old.items outputs.new.items) }
         ensures apart { OnOk result (LeavesConnections number (rows_of self.old.table) (inlets_of self.old.table) (rows_of self.new.table) (inlets_of self.new.table)) }
         ensures asks { OnOk result (AsksNone number self.old.core.entries (inlets_of self.old.table) self.new.core.entries (inlets_of self.new.table)) }

@@ -1,6 +1,6 @@
 //! Where a created resource is hosted (RFC 8075, section 5.3; RFC 9110, section 10.2.2).
 
-ghost use Rattle.std.specs.Prelude.{◌≡◌, IfOk, option_map, is_ok, true, List, ℕ};
+ghost use Rattle.std.specs.Prelude.{◌≡◌, IfOk, option_map, is_ok, true};
 ghost use Rattle.std.specs.List.{list_all};
 ghost use Rattle.std.specs.Str.{is_utf8};
 ghost use Rattle.uri_map.specs.Naming.{target_at};

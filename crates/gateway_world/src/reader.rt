@@ -1,6 +1,6 @@
 //! The bytes of a connection, and how far they were read.
 
-ghost use Rattle.std.specs.Prelude.{ℕ, ◌≡◌, ◌≤◌, ◌<◌, ◌+◌, ◌-◌, ◌++◌, ◌||◌, ◌↔◌, [], true, false, take, drop, length, vec_len, IsTrue, IfOk, IfSome, OnOk, OnErr, Ok, None};
+ghost use Rattle.std.specs.Prelude.{◌≡◌, ◌≤◌, ◌<◌, ◌+◌, ◌-◌, ◌++◌, ◌||◌, ◌↔◌, [], true, false, take, drop, vec_len, IsTrue, IfOk, IfSome, OnOk, OnErr, Ok, None};
 
 use crate::fields::closes;
 use http_edge::{Edge, Incoming, Memory};
@@ -20,7 +20,7 @@ pub struct Reader {
 }
 
 impl Reader {
-    ghost use Rattle.http_edge.specs.Edges.{Expects, IsUnread, item, is_told, unread_len};
+    ghost use Rattle.http_edge.specs.Edges.{Expects, IsUnread, is_told, unread_len};
     ghost use Rattle.gateway_world.specs.Readers.{IsInStep, Rests, text_of, ReadsNext, Shortens};
 
     /// No bytes.

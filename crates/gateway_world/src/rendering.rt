@@ -1,7 +1,6 @@
 //! From an answer to the HTTP response that tells it (RFC 8075, sections 6 and 7).
 
 ghost use Rattle.std.specs.Prelude.{ℕ, List, ◌≡◌, ◌<◌, ◌-◌, [], IfOk, if◌then◌else◌};
-ghost use Rattle.code_map.specs.Statuses.{number_of};
 ghost use Rattle.http_edge.specs.Answers.{body_bytes};
 ghost use Rattle.ask_model.specs.Views.{came_of, sense_of};
 ghost use Rattle.exchange_core.specs.Answering.{given_of};

@@ -5,6 +5,7 @@ ghost use Rattle.history_laws.specs.Justified.{Stands};
 ghost use Rattle.ask_model.specs.Views.{rules_of};
 ghost use Rattle.ask_model.specs.Maps.{Maps};
 ghost use Rattle.gateway_world.specs.Runs.{AsksInRun};
+ghost use Rattle.gateway_world.specs.Shutting.{ShutsInRun};
 ghost use Rattle.gateway_world.specs.Steps.{GivesOut};
 
 use crate::fault::WorldFault;
@@ -32,6 +33,7 @@ impl<R: Relation> World<R> {
     ) -> Result<Run<R>, WorldFault>
         ensures stands { IfOk result (λ run. Stands run.journal.entries) }
         ensures asks { IfOk result (λ run. AsksInRun (Maps R.holds R.takes (rules_of settings)) inputs.now run.journal.entries) }
+        ensures shuts { IfOk result (λ run. ShutsInRun inputs.now run.journal.entries) }
         ensures gives { IfOk result (λ run. GivesOut [] run.journal.entries run.outputs.items) }
     {
         let mut world = World::new(alloc, settings)?;

@@ -1,6 +1,6 @@
 //! The steps of the core, by what each adds to the journal and lets wait to be sent.
 
-ghost use Rattle.std.specs.Prelude.{ℕ, ◌≡◌, ◌≢◌, ◌<◌, All, List, [], ◌++◌, ◌∷◌, Some, None, IfOk, OnOk, OnErr, length};
+ghost use Rattle.std.specs.Prelude.{ℕ, ◌≡◌, ◌≢◌, ◌<◌, All, List, [], ◌++◌, ◌∷◌, Some, None, false, Err, IfOk, OnOk, OnErr, length};
 ghost use Rattle.std.specs.Arc.{arc_value};
 ghost use Rattle.journal_book.specs.Entries.{Asks};
 ghost use Rattle.journal_book.specs.Views.{ask_of};
@@ -13,6 +13,7 @@ ghost use Rattle.gateway_world.specs.Continuing.{GivesFinal};
 ghost use Rattle.gateway_world.specs.Making.{Makes};
 ghost use Rattle.gateway_world.specs.Asks.{asked_by, asked_on};
 ghost use Rattle.gateway_world.specs.CoreSteps.{AnswersAlone};
+ghost use Rattle.gateway_world.specs.Shutting.{IsDone};
 ghost use Rattle.gateway_world.specs.Rows.{Row, Serves, IsRow, IsOpen, Attended, with_waits};
 
 use crate::input::Output;
@@ -60,6 +61,7 @@ pub fn ask_in<R: Relation>(
     ensures core_mark { core.new.marked ≡ core.old.marked }
     ensures asked { (rows : List Row) → Serves core.old rows → IsRow rows conn None → IfOk result (λ ticket. Serves core.new (with_waits conn (Some ticket.number) rows)) }
     ensures kept { (rows : List Row) → Serves core.old rows → OnErr result (Serves core.new rows) }
+    ensures done { (rows : List Row) → Serves core.old rows → IsRow rows conn None → result ≢ Err AskFault.Memory → OnErr result (IsDone core.new conn) }
     ensures asks { IfOk result (λ ticket. (c : ℕ) → asked_on c core.new.entries ≡ asked_on c core.old.entries ++ asked_by c (Asks conn (ask_of (arc_value mapped)))) }
     ensures refused { OnErr result ((c : ℕ) → asked_on c core.new.entries ≡ asked_on c core.old.entries) }
     ensures shuts { shut_in core.new.entries ≡ shut_in core.old.entries }
@@ -112,6 +114,7 @@ pub fn close_in<R: Relation>(core: &mut Core<R>, when: When, conn: u32) -> bool
     ensures asks { (c : ℕ) → asked_on c core.new.entries ≡ asked_on c core.old.entries }
     ensures shuts { shut_in core.new.entries ≡ shut_in core.old.entries ++ closed_if result conn }
     ensures gone { All (λ x. x.id ≢ conn) core.new.conns }
+    ensures stranger { All (λ x. x.id ≢ conn) core.old.conns → result ≡ false }
     ensures answers { core.new.answers ≡ core.old.answers }
     ensures sends { core.new.sends ≡ core.old.sends }
 {

@@ -1,6 +1,6 @@
 //! What connections are told.
 
-ghost use Rattle.std.specs.Prelude.{ℕ, List, [], ◌∷◌, ◌++◌, ◌+◌, Some, None, ◌≡◌, ◌≢◌, codes, OnOk};
+ghost use Rattle.std.specs.Prelude.{ℕ, List, [], ◌∷◌, ◌++◌, ◌+◌, Some, None, ◌≡◌, ◌≢◌, OnOk};
 ghost use Rattle.journal_book.specs.Entries.{Written};
 ghost use Rattle.exchange_core.specs.Answering.{given_of, IsGiven};
 ghost use Rattle.gateway_world.specs.Steps.{AddsTold};

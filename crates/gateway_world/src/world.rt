@@ -1,12 +1,13 @@
 //! The proxy as one value: inputs in, outputs out.
 
-ghost use Rattle.std.specs.Prelude.{ℕ, ◌≡◌, ◌<◌, ◌≤◌, [], true, Some, IfOk, OnOk, OnErr, IsErrOf};
+ghost use Rattle.std.specs.Prelude.{ℕ, ◌≡◌, ◌<◌, [], true, Some, IfOk, OnOk, OnErr, IsErrOf};
 ghost use Rattle.std.specs.List.{Contains};
 ghost use Rattle.history_laws.specs.Justified.{Stands};
 ghost use Rattle.gateway_world.specs.Steps.{Grows, GivesOut};
 ghost use Rattle.gateway_world.specs.Making.{AddsMade};
 ghost use Rattle.gateway_world.specs.Continuing.{TellsToGoOn};
 ghost use Rattle.gateway_world.specs.Closing.{Closes, shut_in};
+ghost use Rattle.gateway_world.specs.Shutting.{ClosesFor};
 ghost use Rattle.gateway_world.specs.Prompt.{IsOwed, IsPrompt};
 ghost use Rattle.gateway_world.specs.Rows.{IsRow, Settled};
 ghost use Rattle.exchange_core.specs.CoreValue.{connections};
@@ -92,6 +93,7 @@ impl<R: Relation> World<R> {
         ensures enters { IfOk result (λ outputs. Enters input.entry.happening self.new.moment self.old.core self.new.core [] outputs.items) }
         ensures asks { OnOk result ((c : ℕ) → Heeds (Maps R.holds R.takes self.old.rules) c input.entry.happening self.old.core.entries self.old.inlets self.new.core.entries self.new.inlets) }
         ensures closes { IfOk result (λ outputs. Closes input.entry.happening self.old.core.entries self.new.core.entries [] outputs.items) }
+        ensures why { OnOk result (ClosesFor input.entry.happening self.old.core.entries self.new.core.entries) }
         ensures continues { IfOk result (λ outputs. (c : ℕ) → TellsToGoOn c self.old.core.entries self.old.inlets [] self.new.core.entries self.new.rows self.new.inlets outputs.items) }
         ensures prompt { IsPrompt self.new.rows self.new.inlets }
         ensures owed { (c k : ℕ) → IsRow self.new.rows c (Some k) → IsOwed self.new.core c k }

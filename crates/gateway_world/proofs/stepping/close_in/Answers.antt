@@ -1,6 +1,6 @@
 -- A close adds its entry, where the connection was open.
 use Rattle.std.proofs.Common.{refl}
-use Rattle.gateway_world.proofs.Advancing.{closing, closed-gone}
+use Rattle.gateway_world.proofs.Advancing.{closing, closed-gone, closes-none, closes-answers, closes-sends}
 use Rattle.gateway_world.specs.Asks.{asked_by}
 use Rattle.gateway_world.proofs.Closings.{shut-now}
 use Rattle.gateway_world.proofs.Quiet.{quiet-close, asked-silent}
@@ -9,20 +9,28 @@ use Rattle.gateway_world.proofs.Making.{makes-close}
 use Rattle.gateway_world.proofs.stepping.close_in.Goals as goal
 
 pub returns-clause-alone : goal.returns-clause-alone
-returns-clause-alone g c =
-    closing c.close.result _ _ c.args.conn _ _ refl refl refl refl c.close.ensures.closed c.close.ensures.unknown c.close.ensures.answers c.close.ensures.sends
+returns-clause-alone g c = closing c.close.result _ _ _ c.args.conn c.close.ensures.closes
 
 pub returns-clause-gone : goal.returns-clause-gone
-returns-clause-gone g c = closed-gone c.close.result _ _ c.args.conn _ c.close.ensures.closed c.close.ensures.unknown
+returns-clause-gone g c = closed-gone c.close.result _ _ _ c.args.conn c.close.ensures.closes
+
+pub returns-clause-stranger : goal.returns-clause-stranger
+returns-clause-stranger g c = closes-none c.close.result _ _ _ c.args.conn c.close.ensures.closes
+
+pub returns-clause-answers : goal.returns-clause-answers
+returns-clause-answers g c = closes-answers c.close.result _ _ _ c.args.conn c.close.ensures.closes
+
+pub returns-clause-sends : goal.returns-clause-sends
+returns-clause-sends g c = closes-sends c.close.result _ _ _ c.args.conn c.close.ensures.closes
 
 pub returns-clause-asks : goal.returns-clause-asks
-returns-clause-asks g c = λ d. quiet-close (asked_by d) (asked-silent d) c.close.result _ _ _ _ _ refl c.close.ensures.closed c.close.ensures.unknown
+returns-clause-asks g c = λ d. quiet-close (asked_by d) (asked-silent d) c.close.result _ _ _ c.args.conn refl c.close.ensures.closes
 
 pub returns-clause-enters : goal.returns-clause-enters
-returns-clause-enters g c = closes c.close.result _ _ _ c.args.conn _ c.close.ensures.closed c.close.ensures.unknown
+returns-clause-enters g c = closes c.close.result _ _ _ c.args.conn c.close.ensures.closes
 
 pub returns-clause-shuts : goal.returns-clause-shuts
-returns-clause-shuts g c = shut-now c.close.result _ _ _ c.args.conn _ _ c.close.ensures.closed c.close.ensures.unknown
+returns-clause-shuts g c = shut-now c.close.result _ _ _ c.args.conn c.close.ensures.closes
 
 pub returns-clause-made : goal.returns-clause-made
-returns-clause-made g c = makes-close c.close.result _ _ _ c.args.conn _ _ c.close.ensures.closed c.close.ensures.unknown c.close.ensures.moment
+returns-clause-made g c = makes-close c.close.result _ _ _ c.args.conn c.close.ensures.closes

@@ -8,19 +8,16 @@ use Rattle.gateway_world.proofs.Making.{makes-tick}
 use Rattle.gateway_world.proofs.stepping.tick_in.Goals as goal
 
 pub returns-clause-alone : goal.returns-clause-alone
-returns-clause-alone g c =
-    ticking _ _ _ c.in_ok-tick.ensures.early c.in_ok-tick.ensures.ends c.in_ok-tick.ensures.seals c.in_ok-tick.ensures.sealed
+returns-clause-alone g c = ticking _ _ _ c.in_ok-tick.ensures.ticks
 
 pub returns-clause-asks : goal.returns-clause-asks
-returns-clause-asks g c =
-    λ d. quiet-tick (asked_by d) (asked-silent d) _ _ _ c.in_ok-tick.ensures.early c.in_ok-tick.ensures.ends c.in_ok-tick.ensures.seals c.in_ok-tick.ensures.sealed
+returns-clause-asks g c = λ d. quiet-tick (asked_by d) (asked-silent d) _ _ _ c.in_ok-tick.ensures.ticks
 
 pub returns-clause-enters : goal.returns-clause-enters
-returns-clause-enters g c =
-    tick-enters _ _ _ c.in_ok-tick.ensures.early c.in_ok-tick.ensures.ends c.in_ok-tick.ensures.seals c.in_ok-tick.ensures.sealed
+returns-clause-enters g c = tick-enters _ _ _ c.in_ok-tick.ensures.ticks
 
 pub returns-clause-shuts : goal.returns-clause-shuts
-returns-clause-shuts g c = quiet-tick shut_by shut-silent _ _ _ c.in_ok-tick.ensures.early c.in_ok-tick.ensures.ends c.in_ok-tick.ensures.seals c.in_ok-tick.ensures.sealed
+returns-clause-shuts g c = quiet-tick shut_by shut-silent _ _ _ c.in_ok-tick.ensures.ticks
 
 pub returns-clause-made : goal.returns-clause-made
-returns-clause-made g c = makes-tick _ _ _ c.in_ok-tick.ensures.early c.in_ok-tick.ensures.ends c.in_ok-tick.ensures.seals c.in_ok-tick.ensures.sealed
+returns-clause-made g c = makes-tick _ _ _ c.in_ok-tick.ensures.ticks

@@ -1,4 +1,4 @@
-use Rattle.std.proofs.Common.{◌≡◌, ◌+◌, ◌∷◌, ◌++◌, [], ℕ, min, max, eqb, not, refl, ap, ◌∙◌, arith}
+use Rattle.std.proofs.Common.{rules, ◌≡◌, ◌+◌, ◌∷◌, ◌++◌, [], ℕ, min, max, eqb, not, refl, ap, ◌∙◌, arith}
 use Rattle.std.specs.List.{filter}
 use Rattle.journal_book.specs.Entries.{Shuts, Written}
 use Rattle.history_laws.specs.declared.kept.Conn.{Conn}
@@ -33,17 +33,27 @@ invariant_of-self g c =
 pub drop_conn-requires-clause-apart : goal.drop_conn-requires-clause-apart
 drop_conn-requires-clause-apart g c = conns-apart _ _ _ _ _ c.self.invariant.0.agrees
 
-pub returns-clause-closed : goal.returns-clause-closed
-returns-clause-closed g c told =
+pub returns-clause-closes : goal.returns-clause-closes
+returns-clause-closes g c =
     let s = c.self.inside in
     let v = c.args.self.now in
     let at_t : c.max-moment.result ≡ now v.moment c.args.moment =
     c.max-moment.ensures ∙ ap (max s.last) c.min.ensures ∙ ap (λ (n : ℕ). now n c.args.moment) (ap (λ (v : CoreValue). v.moment) c.self.view_is) in
-    let entry : Written = written (now v.moment c.args.moment) (Shuts c.args.conn) in (
-      c.add.ensures.entries ∙ ap (λ (t : ℕ). s.journal.entries ++ written t (Shuts c.args.conn) ∷ []) at_t
-          ∙ ap (λ (v : CoreValue). v.entries ++ entry ∷ []) c.self.view_is,
-      c.drop_conn.ensures.items ∙ ap (λ (v : CoreValue). filter (λ (x : Conn). not (eqb x.id c.args.conn)) v.conns) c.self.view_is,
-    )
+    let entry : Written = written (now v.moment c.args.moment) (Shuts c.args.conn) in
+    let found = rw (c.as_slice.ensures) at c.in-Some.ensures.some in
+    record {
+      conn = c.in-Some.x;
+      stands = rw (← c.self.view_is) (found.0);
+      id = found.1;
+      moment = at_t;
+      entries = c.add.ensures.entries ∙ ap (λ (t : ℕ). s.journal.entries ++ written t (Shuts c.args.conn) ∷ []) at_t
+          ∙ ap (λ (v : CoreValue). v.entries ++ entry ∷ []) c.self.view_is;
+      conns = c.drop_conn.ensures.items ∙ ap (λ (v : CoreValue). filter (λ (x : Conn). not (eqb x.id c.args.conn)) v.conns) c.self.view_is;
+      exchanges = search rules;
+      answers = search rules;
+      sends = search rules;
+      sealed = search rules;
+    }
 
 pub returns-clause-marked : goal.returns-clause-marked
 returns-clause-marked g c =

@@ -1,4 +1,4 @@
-use Rattle.std.proofs.Common.{rules, ◌+◌, min, refl, ◌∙◌, ap, arith, []}
+use Rattle.std.proofs.Common.{rules, ◌+◌, min, refl, ◌∙◌, ap, subst, arith, []}
 use Rattle.std.specs.Prelude.{count_by}
 use Rattle.exchange_core.specs.Room.{is_pending}
 use Rattle.exchange_core.proofs.Giving.{answerable-opened}
@@ -10,6 +10,8 @@ use Rattle.exchange_core.proofs.GoingBack.{goes-on, marked-on, places-on}
 use Rattle.exchange_core.proofs.Kept.{asks-same}
 use Rattle.exchange_core.specs.CoreValue.{CoreValue}
 use Rattle.exchange_core.proofs.Lists.{behind}
+use Rattle.exchange_core.specs.Sealing.{HasSeal}
+use Rattle.exchange_core.proofs.Sealed.{has-seal, no-more, none-more, seals-now}
 use Rattle.exchange_core.proofs.core_state.Core.open.Goals as goal
 
 pub invariant_of-self-2 : goal.invariant_of-self-2
@@ -29,15 +31,26 @@ invariant_of-self-2 g c =
           (All-nil (IsWaited _)) (places-on s.journal.entries _ _ s.journal.room _ (behind _ _ _ _ c.add.ensures.entries c.in_ok-make_room.ensures.same) (omega (arith, c.in_ok-make_room.ensures.kept, c.add.ensures.room))) (omega (arith, c.in_ok-make_room-2.ensures.limit_kept, c.add-2.ensures.limit)),
     )
 
-pub returns-clause-ok : goal.returns-clause-ok
-returns-clause-ok g c = (
-  rw (← c.self.view_is) (connections-are _ _ _ _ _ c.self.invariant.0.agrees),
-  search rules,
-  search rules,
-  search rules,
-  search rules,
-  search rules,
-)
+pub returns-clause-opens : goal.returns-clause-opens
+returns-clause-opens g c = record {
+  number = rw (← c.self.view_is) (connections-are _ _ _ _ _ c.self.invariant.0.agrees);
+  unsealed = search rules;
+  room = search rules;
+  moment = search rules;
+  entries = search rules;
+  conns = search rules;
+  exchanges = search rules;
+  answers = search rules;
+  sends = search rules;
+}
+
+pub returns-then-self-clause-opens : goal.returns-then-self-clause-opens
+returns-then-self-clause-opens g c = no-more _ _ (subst (λ (v : CoreValue). HasSeal v.entries) c.self.view_is (has-seal _ _ _ _ _ c.self.invariant.0.agrees c.if-self.true)) (search rules)
+
+pub returns-then-not-has_room_for-clause-opens : goal.returns-then-not-has_room_for-clause-opens
+returns-then-not-has_room_for-clause-opens g c =
+    let w = c.seal.ensures in
+    none-more _ _ _ (search rules) (seals-now _ _ _ _ (search rules) (search rules) w.sealed w.moment w.entries w.conns w.exchanges w.answers w.sends)
 
 pub returns-clause-marked : goal.returns-clause-marked
 returns-clause-marked g c =

@@ -1,13 +1,12 @@
-use Rattle.std.proofs.Common.{◌≡◌, ◌+◌, ◌-◌, ◌*◌, ℕ, true, false, max, min, List, length, map, refl, sym, subst, ap, ◌∙◌, arith, []}
+use Rattle.std.proofs.Common.{rules, ◌≡◌, inl, inr, ◌+◌, ◌-◌, ◌*◌, ℕ, true, false, max, min, List, length, map, refl, sym, subst, ap, ◌∙◌, arith, []}
 use Rattle.std.specs.Prelude.{count_by}
-use Rattle.std.proofs.lemmas.Bool.{false≢true}
 use Rattle.journal_book.specs.Entries.{Written}
 use Rattle.history_laws.specs.Kept.{Held}
 use Rattle.exchange_core.specs.Room.{is_pending, takes}
 use Rattle.exchange_core.specs.CoreValue.{CoreValue, now, outgoing_of}
-use Rattle.exchange_core.specs.Ticking.{due_count, takes_tick, going}
+use Rattle.exchange_core.specs.Ticking.{due_count, takes_tick, going, HasPast}
 use Rattle.exchange_core.proofs.Lates.{prompt-timed}
-use Rattle.exchange_core.proofs.Ticked.{due-fewer, midway-passed, kept-ticked, entries-passed, moment-same, ticked-sealed, room-is, now-early, past-not}
+use Rattle.exchange_core.proofs.Ticked.{due-fewer, midway-passed, kept-ticked, entries-passed, moment-same, ticked-sealed, ticked-ends, room-is, now-early, past-at, early-at}
 use Rattle.exchange_core.proofs.Showing.{on-err}
 use Rattle.std.proofs.lemmas.List.Elements.{All-nil}
 use Rattle.exchange_core.specs.Answering.{IsWaited}
@@ -27,11 +26,43 @@ overflow_sub-pending g c =
 pub answer_late-requires-then-not-has_room_for-clause-later : goal.answer_late-requires-then-not-has_room_for-clause-later
 answer_late-requires-then-not-has_room_for-clause-later g c = omega (arith, c.seal.ensures.moment)
 
-pub returns-then-not-has_room_for-clause-ends : goal.returns-then-not-has_room_for-clause-ends
-returns-then-not-has_room_for-clause-ends g c _ past takes_it =
+pub returns-then-self-clause-ticks : goal.returns-then-self-clause-ticks
+returns-then-self-clause-ticks g c =
     let s = c.self.inside in
     let v = c.args.self.now in
     let t = c.max-moment.result in
+    let at_t : t ≡ now v.moment c.args.moment =
+    c.max-moment.ensures ∙ ap (max s.last) c.min.ensures ∙ ap (λ (n : ℕ). now n c.args.moment) (ap (λ (v : CoreValue). v.moment) c.self.view_is) in
+    let b = c.answer_late.ensures in
+    inl (rw (← at_t) (record {
+      before = sym (ap (λ (v : CoreValue). v.sealed) c.self.view_is) ∙ c.if-self.true;
+      answers = record { entries = b.entries; conns = b.conns; answers = b.answers; sends = b.sends };
+      sealed = b.sealed;
+      moment = b.moment;
+      exchanges = b.exchanges;
+    }))
+
+pub returns-then-not-has_late-clause-ticks : goal.returns-then-not-has_late-clause-ticks
+returns-then-not-has_late-clause-ticks g c =
+    let s = c.self.inside in
+    let v = c.args.self.now in
+    let t = c.max-moment.result in
+    let at_t : t ≡ now v.moment c.args.moment =
+    c.max-moment.ensures ∙ ap (max s.last) c.min.ensures ∙ ap (λ (n : ℕ). now n c.args.moment) (ap (λ (v : CoreValue). v.moment) c.self.view_is) in
+    inr (inl (record {
+      unsealed = sym (ap (λ (v : CoreValue). v.sealed) c.self.view_is) ∙ c.if-self.false;
+      early = early-at t (now v.moment c.args.moment) s.exchanges.items v.exchanges at_t (ap (λ (v : CoreValue). v.exchanges) c.self.view_is) (rw (c.as_slice.ensures) at (c.has_late.ensures.none c.if-not-has_late.true));
+      same = search rules;
+    }))
+
+pub returns-then-not-has_room_for-clause-ticks : goal.returns-then-not-has_room_for-clause-ticks
+returns-then-not-has_room_for-clause-ticks g c =
+    let s = c.self.inside in
+    let v = c.args.self.now in
+    let t = c.max-moment.result in
+    let at_t : t ≡ now v.moment c.args.moment =
+    c.max-moment.ensures ∙ ap (max s.last) c.min.ensures ∙ ap (λ (n : ℕ). now n c.args.moment) (ap (λ (v : CoreValue). v.moment) c.self.view_is) in
+    let past = past-at t (now v.moment c.args.moment) s.exchanges.items v.exchanges at_t (ap (λ (v : CoreValue). v.exchanges) c.self.view_is) (rw (c.as_slice.ensures) at (c.has_late.ensures.some c.if-not-has_late.false)) in
     let more = c.late_count-answers.result in
     let count = c.len-count.result in
     let pending = c.pending_count-pending.result in
@@ -39,24 +70,14 @@ returns-then-not-has_room_for-clause-ends g c _ past takes_it =
     let wait : pending ≡ count_by is_pending s.conns.items = c.pending_count-pending.ensures ∙ ap (count_by is_pending) c.as_slice-2.ensures in
     let due : more ≡ due_count t s.exchanges.items s.conns.items = rw (c.as_slice-3.ensures, c.as_slice-4.ensures) at c.late_count-answers.ensures in
     let unsealed : v.sealed ≡ false = sym (ap (λ (v : CoreValue). v.sealed) c.self.view_is) ∙ c.if-self.false in
-    let at_t : t ≡ now v.moment c.args.moment =
-    c.max-moment.ensures ∙ ap (max s.last) c.min.ensures ∙ ap (λ (n : ℕ). now n c.args.moment) (ap (λ (v : CoreValue). v.moment) c.self.view_is) in
     let same : takes v.entries (1 + more) (64 + 68 * more) count (pending - more) ≡ takes_tick t v =
     room-is t v s.exchanges.items s.conns.items count pending more (64 + 68 * more) (ap (λ (v : CoreValue). v.exchanges) c.self.view_is) (ap (λ (v : CoreValue). v.conns) c.self.view_is) cnt wait due refl in
     let answer : takes v.entries (1 + more) (64 + 68 * more) count (pending - more) ≡ false = sym (c.has_room_for.ensures unsealed) ∙ c.if-not-has_room_for.true in
     let told : takes_tick (now v.moment c.args.moment) v ≡ false = ap (λ (n : ℕ). takes_tick n v) (sym at_t) ∙ sym same ∙ answer in
-    absurd (false≢true (sym told ∙ takes_it))
-
-pub returns-then-not-has_room_for-clause-seals : goal.returns-then-not-has_room_for-clause-seals
-returns-then-not-has_room_for-clause-seals g c _ past takes_not =
-    let s = c.self.inside in
-    let v = c.args.self.now in
-    let t = c.max-moment.result in
-    let at_t : t ≡ now v.moment c.args.moment =
-    c.max-moment.ensures ∙ ap (max s.last) c.min.ensures ∙ ap (λ (n : ℕ). now n c.args.moment) (ap (λ (v : CoreValue). v.moment) c.self.view_is) in
     let a = c.seal.ensures in
     let b = c.answer_late-then-not-has_room_for.ensures in
-    rw (← at_t) (ticked-sealed t v c.seal.new.self c.answer_late-then-not-has_room_for.new.self a.entries a.conns a.exchanges a.sends a.moment a.answers b.answers b.entries b.conns b.sends b.moment b.exchanges b.sealed)
+    inr (inr (inr (ticked-sealed t (now v.moment c.args.moment) v c.seal.new.self c.answer_late-then-not-has_room_for.new.self at_t unsealed past told
+    a.entries a.conns a.exchanges a.sends a.moment a.answers b.answers b.entries b.conns b.sends b.moment b.exchanges b.sealed)))
 
 pub returns-in_err-make_places-clause-memory_last : goal.returns-in_err-make_places-clause-memory_last
 returns-in_err-make_places-clause-memory_last g c =
@@ -76,7 +97,8 @@ returns-in_err-make_places-clause-memory_last g c =
     room-is t v s.exchanges.items s.conns.items count pending more (64 + 68 * more) (ap (λ (v : CoreValue). v.exchanges) c.self.view_is) (ap (λ (v : CoreValue). v.conns) c.self.view_is) cnt wait due refl in
     let answer : takes v.entries (1 + more) (64 + 68 * more) count (pending - more) ≡ true = sym (c.has_room_for.ensures unsealed) ∙ c.if-not-has_room_for.false in
     let told : takes_tick (now v.moment c.args.moment) v ≡ true = ap (λ (n : ℕ). takes_tick n v) (sym at_t) ∙ sym same ∙ answer in
-    on-err c.from_residual.result ((v.sealed ≡ false) × (takes_tick (now v.moment c.args.moment) v ≡ true)) (unsealed, told)
+    let past = past-at t (now v.moment c.args.moment) s.exchanges.items v.exchanges at_t (ap (λ (v : CoreValue). v.exchanges) c.self.view_is) (rw (c.as_slice.ensures) at (c.has_late.ensures.some c.if-not-has_late.false)) in
+    on-err c.from_residual.result ((v.sealed ≡ false) × HasPast (now v.moment c.args.moment) v.exchanges × (takes_tick (now v.moment c.args.moment) v ≡ true)) (unsealed, past, told)
 
 pub answer_each-requires : goal.answer_each-requires
 answer_each-requires g c =
@@ -133,31 +155,14 @@ invariant_of-self-2 g c =
           (All-nil (IsWaited _)) (let made = c.in_ok-make_places.ensures.kept in let added = added-on s.journal.entries _ _ c.make_places.new.journal.room c.add.new.self.room (behind _ _ _ _ c.add.ensures.entries c.in_ok-make_places.ensures.entries) c.add.ensures.room in omega (arith, made, added, c.answer_each.ensures.whole)) (let more = c.in_ok-make_places.ensures.conns.limit in omega (arith, more, c.answer_each.ensures.limit)),
     )
 
-pub returns-clause-ends : goal.returns-clause-ends
-returns-clause-ends g c _ past takes_it =
+pub returns-clause-ticks : goal.returns-clause-ticks
+returns-clause-ticks g c =
     let s = c.self.inside in
     let v = c.args.self.now in
     let t = c.max-moment.result in
     let at_t : t ≡ now v.moment c.args.moment =
     c.max-moment.ensures ∙ ap (max s.last) c.min.ensures ∙ ap (λ (n : ℕ). now n c.args.moment) (ap (λ (v : CoreValue). v.moment) c.self.view_is) in
-    let added = rw (c.as_slice-5.ensures, c.in_ok-make_places.ensures.exchanges.items, c.in_ok-make_places.ensures.conns.items) at c.answer_each.ensures.entries in
-    let conns = rw (c.as_slice-5.ensures, c.in_ok-make_places.ensures.exchanges.items, c.in_ok-make_places.ensures.conns.items) at c.answer_each.ensures.conns in
-    let last = rw (c.as_slice-5.ensures, c.in_ok-make_places.ensures.exchanges.items, c.in_ok-make_places.ensures.conns.items) at c.answer_each.ensures.last in
-    let gave = rw (c.as_slice-5.ensures, c.in_ok-make_places.ensures.exchanges.items, c.in_ok-make_places.ensures.conns.items) at c.answer_each.ensures.answers in
-    let given = rw (c.add.ensures.entries, c.in_ok-make_places.ensures.entries) at gave in
-    let entries = entries-passed s.journal.entries _ _ _ _ _ c.in_ok-make_places.ensures.entries c.add.ensures.entries added in
-    rw (← at_t, ← c.self.view_is) (record {
-      answers = record { entries = entries; conns = conns; answers = given; sends = refl };
-      sealed = c.if-self.false;
-      moment = last ∙ moment-same t _;
-      exchanges = c.drop_late.ensures.items ∙ ap (going t) c.in_ok-make_places.ensures.exchanges.items;
-    })
-
-pub returns-clause-seals : goal.returns-clause-seals
-returns-clause-seals g c _ past takes_not =
-    let s = c.self.inside in
-    let v = c.args.self.now in
-    let t = c.max-moment.result in
+    let past = past-at t (now v.moment c.args.moment) s.exchanges.items v.exchanges at_t (ap (λ (v : CoreValue). v.exchanges) c.self.view_is) (rw (c.as_slice.ensures) at (c.has_late.ensures.some c.if-not-has_late.false)) in
     let more = c.late_count-answers.result in
     let count = c.len-count.result in
     let pending = c.pending_count-pending.result in
@@ -165,13 +170,18 @@ returns-clause-seals g c _ past takes_not =
     let wait : pending ≡ count_by is_pending s.conns.items = c.pending_count-pending.ensures ∙ ap (count_by is_pending) c.as_slice-2.ensures in
     let due : more ≡ due_count t s.exchanges.items s.conns.items = rw (c.as_slice-3.ensures, c.as_slice-4.ensures) at c.late_count-answers.ensures in
     let unsealed : v.sealed ≡ false = sym (ap (λ (v : CoreValue). v.sealed) c.self.view_is) ∙ c.if-self.false in
-    let at_t : t ≡ now v.moment c.args.moment =
-    c.max-moment.ensures ∙ ap (max s.last) c.min.ensures ∙ ap (λ (n : ℕ). now n c.args.moment) (ap (λ (v : CoreValue). v.moment) c.self.view_is) in
     let same : takes v.entries (1 + more) (64 + 68 * more) count (pending - more) ≡ takes_tick t v =
     room-is t v s.exchanges.items s.conns.items count pending more (64 + 68 * more) (ap (λ (v : CoreValue). v.exchanges) c.self.view_is) (ap (λ (v : CoreValue). v.conns) c.self.view_is) cnt wait due refl in
     let answer : takes v.entries (1 + more) (64 + 68 * more) count (pending - more) ≡ true = sym (c.has_room_for.ensures unsealed) ∙ c.if-not-has_room_for.false in
     let told : takes_tick (now v.moment c.args.moment) v ≡ true = ap (λ (n : ℕ). takes_tick n v) (sym at_t) ∙ sym same ∙ answer in
-    absurd (false≢true (sym takes_not ∙ told))
+    let added = rw (c.as_slice-5.ensures, c.in_ok-make_places.ensures.exchanges.items, c.in_ok-make_places.ensures.conns.items) at c.answer_each.ensures.entries in
+    let conns = rw (c.as_slice-5.ensures, c.in_ok-make_places.ensures.exchanges.items, c.in_ok-make_places.ensures.conns.items) at c.answer_each.ensures.conns in
+    let last = rw (c.as_slice-5.ensures, c.in_ok-make_places.ensures.exchanges.items, c.in_ok-make_places.ensures.conns.items) at c.answer_each.ensures.last in
+    let gave = rw (c.as_slice-5.ensures, c.in_ok-make_places.ensures.exchanges.items, c.in_ok-make_places.ensures.conns.items) at c.answer_each.ensures.answers in
+    let given = rw (c.add.ensures.entries, c.in_ok-make_places.ensures.entries) at gave in
+    let entries = entries-passed s.journal.entries _ _ _ _ _ c.in_ok-make_places.ensures.entries c.add.ensures.entries added in
+    inr (inr (inl (ticked-ends t (now v.moment c.args.moment) v _ _ at_t c.self.view_is unsealed past told (record { entries = entries; conns = conns; answers = given; sends = refl })
+    c.if-self.false (last ∙ moment-same t _) (c.drop_late.ensures.items ∙ ap (going t) c.in_ok-make_places.ensures.exchanges.items))))
 
 pub returns-clause-prompt : goal.returns-clause-prompt
 returns-clause-prompt g c =
@@ -194,16 +204,6 @@ returns-then-not-has_room_for-clause-prompt g c =
     c.max-moment.ensures ∙ ap (max c.self.inside.last) c.min.ensures ∙ ap (λ (n : ℕ). now n c.args.moment) (ap (λ (v : CoreValue). v.moment) c.self.view_is) in
     let conns = rw (c.seal.ensures.exchanges) at c.answer_late-then-not-has_room_for.ensures.conns in
     rw (← at_t) (prompt-timed c.max-moment.result v.exchanges c.seal.new.self.conns c.answer_late-then-not-has_room_for.new.self.conns conns)
-
-pub returns-clause-early : goal.returns-clause-early
-returns-clause-early g c unsealed none =
-    let s = c.self.inside in
-    let v = c.args.self.now in
-    let t = c.max-moment.result in
-    let at_t : t ≡ now v.moment c.args.moment =
-    c.max-moment.ensures ∙ ap (max s.last) c.min.ensures ∙ ap (λ (n : ℕ). now n c.args.moment) (ap (λ (v : CoreValue). v.moment) c.self.view_is) in
-    let past = rw (c.as_slice.ensures) at (c.has_late.ensures.some c.if-not-has_late.false) in
-    absurd (past-not t (now v.moment c.args.moment) s.exchanges.items v.exchanges at_t (ap (λ (v : CoreValue). v.exchanges) c.self.view_is) past none)
 
 pub returns-clause-marked : goal.returns-clause-marked
 returns-clause-marked g c =

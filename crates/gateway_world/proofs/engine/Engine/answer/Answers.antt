@@ -1,19 +1,18 @@
 -- The answer that is there is given, and what further requests give follows.
-use Rattle.gateway_world.proofs.Going.{goes-grow, leads-on}
+use Rattle.gateway_world.proofs.Going.{goes-grow}
 use Rattle.gateway_world.proofs.Settling.{attended-then, leaves-then, told-then, sent-then}
 use Rattle.gateway_world.proofs.Reading.{order-none, order-call}
 use Rattle.gateway_world.proofs.Prompting.{apart-call}
-use Rattle.gateway_world.proofs.Closings.{closes-call}
-use Rattle.gateway_world.proofs.Making.{makes-call}
 use Rattle.gateway_world.proofs.Continuing.{answered-tells}
+use Rattle.gateway_world.proofs.Working.{works-call}
 use Rattle.gateway_world.proofs.engine.Engine.answer.Goals as goal
 
-pub returns-clause-leads : goal.returns-clause-leads
-returns-clause-leads g c = leads-on c.serve.result _ _ _ _ _ _ c.in_ok-give.ensures.leads c.serve.ensures.leads
+pub returns-clause-works : goal.returns-clause-works
+returns-clause-works g c = works-call c.serve.result _ _ _ _ _ _ _ c.in_ok-give.ensures.works c.serve.ensures.works
 
 pub returns-clause-leaves : goal.returns-clause-leaves
 returns-clause-leaves g c =
-    leaves-then c.serve.result c.args.number _ _ _ _ _ _ (goes-grow _ _ _ _ c.in_ok-give.ensures.leads) c.in_ok-give.ensures.leaves c.serve.ensures.leaves
+    leaves-then c.serve.result c.args.number _ _ _ _ _ _ (goes-grow _ _ _ _ c.in_ok-give.ensures.works.goes) c.in_ok-give.ensures.leaves c.serve.ensures.leaves
 
 pub returns-clause-told : goal.returns-clause-told
 returns-clause-told g c = told-then c.serve.result _ _ c.in_ok-give.ensures.told c.serve.ensures.told
@@ -29,12 +28,6 @@ returns-clause-asks g c = order-call _ c.serve.result _ _ _ _ _ _ (order-none _ 
 
 pub returns-clause-apart : goal.returns-clause-apart
 returns-clause-apart g c = apart-call c.serve.result c.args.number _ _ _ _ _ _ c.in_ok-give.ensures.apart c.serve.ensures.apart
-
-pub returns-clause-closes : goal.returns-clause-closes
-returns-clause-closes g c = closes-call c.serve.result _ _ _ _ _ _ c.in_ok-give.ensures.closes c.serve.ensures.closes
-
-pub returns-clause-made : goal.returns-clause-made
-returns-clause-made g c = makes-call c.serve.result _ _ _ _ c.in_ok-give.ensures.made c.serve.ensures.made
 
 pub returns-clause-continues : goal.returns-clause-continues
 returns-clause-continues g c =

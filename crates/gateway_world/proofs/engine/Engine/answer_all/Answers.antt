@@ -1,33 +1,29 @@
 -- Each answer follows what was given out before.
-use Rattle.gateway_world.proofs.Going.{goes-none, goes-on}
 use Rattle.std.proofs.Common.{refl, ◌∙◌}
 use Rattle.gateway_world.proofs.Owing.{owed-fewer, none-answered}
 use Rattle.gateway_world.proofs.Reading.{order-quiet, order-then}
 use Rattle.gateway_world.proofs.Prompting.{prompt-all}
-use Rattle.gateway_world.proofs.Closings.{closes-same, closes-then}
-use Rattle.gateway_world.proofs.Making.{makes-same, makes-then}
 use Rattle.gateway_world.proofs.Continuing.{none-yet, answers-then}
+use Rattle.gateway_world.proofs.Working.{works-none, works-then}
 use Rattle.gateway_world.proofs.engine.Engine.answer_all.Goals as goal
 
 pub each-init : goal.each-init
-each-init g c = (goes-none _ _, c.requires, (λ e. e), (λ w. w), order-quiet _ _ _ _ _ (λ d. refl) refl refl, (λ none. (refl, none)), (λ w. w), closes-same _ _ _ refl, makes-same _ _ _ refl, none-yet _ _ _ _, refl, refl)
+each-init g c = (works-none _ _ _, c.requires, (λ e. e), (λ w. w), order-quiet _ _ _ _ _ (λ d. refl) refl refl, (λ none. (refl, none)), (λ w. w), none-yet _ _ _ _, refl, refl)
 
 pub each-preserved : goal.each-preserved
 each-preserved g c =
     let before = c.each.invariant in
     let next = c.in_ok-answer.ensures in (
-      goes-on _ _ _ _ _ _ before.0 next.leads,
+      works-then _ _ _ _ _ _ _ before.0 next.works,
       next.kept,
       (λ e. next.sent (before.2 e)),
       (λ w. next.attended (before.3 w)),
       order-then _ _ _ _ _ _ _ before.4 next.asks,
       (λ none. absurd (none-answered c.in-Some.number c.each.self.core _ (rw (c.in-Some.is) at (c.first_answered.ensures.some)) (before.5 none).1)),
       (λ w. prompt-all c.in-Some.number _ _ _ _ next.apart next.prompt (before.6 w)),
-      closes-then _ _ _ _ _ _ before.7 next.closes,
-      makes-then _ _ _ _ before.8 next.made,
-      answers-then _ c.in-Some.number c.each.self.core _ _ _ _ _ _ _ _ _ _ before.1.numbered (rw (c.in-Some.is) at (c.first_answered.ensures.some)) before.9 before.4 next.asks next.apart next.continues,
-      next.marked ∙ before.10,
-      next.core_mark ∙ before.11,
+      answers-then _ c.in-Some.number c.each.self.core _ _ _ _ _ _ _ _ _ _ before.1.numbered (rw (c.in-Some.is) at (c.first_answered.ensures.some)) before.7 before.4 next.asks next.apart next.continues,
+      next.marked ∙ before.8,
+      next.core_mark ∙ before.9,
     )
 
 pub each-smaller : goal.each-smaller

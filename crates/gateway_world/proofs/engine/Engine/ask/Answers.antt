@@ -1,6 +1,6 @@
 -- What the ask led to is given out, or the connection is closed.
-use Rattle.gateway_world.proofs.Going.{advances-grow, goes-advancing, goes-on, leads-on}
-use Rattle.std.proofs.Common.{List, ◌++◌, refl, ap, ◌∙◌}
+use Rattle.gateway_world.proofs.Going.{advances-grow}
+use Rattle.std.proofs.Common.{rules, List, ◌++◌, ap, ◌∙◌}
 use Rattle.std.proofs.lemmas.List.{append-nil}
 use Rattle.std.specs.Arc.{arc_value}
 use Rattle.ask_model.specs.Requests.{Ask}
@@ -12,17 +12,18 @@ use Rattle.gateway_world.proofs.Settling.{attended-same, attended-then, told-the
 use Rattle.gateway_world.proofs.Reading.{one-asked, one-ended}
 use Rattle.gateway_world.proofs.Heeding.{asks-here, asks-elsewhere}
 use Rattle.gateway_world.proofs.Prompting.{apart-with, apart-call}
-use Rattle.gateway_world.specs.Closing.{shut_in}
-use Rattle.gateway_world.proofs.Closings.{closes-none, closes-call}
-use Rattle.gateway_world.proofs.Making.{makes-none, makes-then, makes-call}
 use Rattle.gateway_world.proofs.Continuing.{final-call}
 use Rattle.exchange_core.specs.CoreValue.{connections}
+use Rattle.gateway_world.proofs.Working.{works-step, works-out, works-then, works-call}
 use Rattle.gateway_world.proofs.engine.Engine.ask.Goals as goal
 
-pub returns-in_ok-send_from-in-Ok-clause-leads : goal.returns-in_ok-send_from-in-Ok-clause-leads
-returns-in_ok-send_from-in-Ok-clause-leads g c =
-    let asked = goes-advancing _ _ _ (standing-of _ _ c.requires.served) c.ask_in.ensures.advances in
-    leads-on c.give.result _ _ _ _ _ _ (goes-on _ _ _ _ _ _ asked c.in_ok-send_from-in-Ok.ensures.leads) c.give.ensures.leads
+pub returns-in_ok-send_from-in-Ok-clause-works : goal.returns-in_ok-send_from-in-Ok-clause-works
+returns-in_ok-send_from-in-Ok-clause-works g c =
+    let sent = c.in_ok-send_from-in-Ok.ensures in
+    let asked = c.ask_in.ensures in
+    works-call c.give.result _ _ _ _ _ _ _
+    (works-then _ _ _ _ _ _ _ (works-step _ _ _ _ (standing-of _ _ c.requires.served) asked.advances asked.made asked.shuts) (works-out _ _ _ _ _ sent.leads sent.entries sent.moment sent.silent))
+    c.give.ensures.works
 
 pub returns-in_ok-send_from-in-Ok-clause-leaves : goal.returns-in_ok-send_from-in-Ok-clause-leaves
 returns-in_ok-send_from-in-Ok-clause-leaves g c =
@@ -38,12 +39,12 @@ returns-in_ok-send_from-in-Ok-clause-sent g c = sent-then c.give.result _ _ _ (�
 
 pub returns-in-Err-Unknown : goal.returns-in-Err-Unknown
 returns-in-Err-Unknown g c = record {
-  leads = leads-on c.shut.result _ _ _ _ _ _ (goes-advancing _ _ _ (standing-of _ _ c.requires.served) c.ask_in.ensures.advances) c.shut.ensures.leads;
+  works = works-call c.shut.result _ _ _ _ _ _ _ (works-step _ _ _ _ (standing-of _ _ c.requires.served) c.ask_in.ensures.advances c.ask_in.ensures.made c.ask_in.ensures.shuts)
+      (told-then c.shut.result _ _ (c.in-Err-Unknown.ensures.done _ c.requires.served c.requires.idle (search rules)) c.shut.ensures.works);
   kept = c.shut.ensures.kept;
   marked = c.shut.ensures.marked;
   core_mark = c.shut.ensures.core_mark ∙ c.ask_in.ensures.core_mark;
   no_interim = c.shut.ensures.no_interim;
-  made = makes-call c.shut.result _ _ _ _ c.ask_in.ensures.made c.shut.ensures.made;
   leaves = leaves-then c.shut.result c.args.number _ _ _ _ _ _ (advances-grow _ _ c.ask_in.ensures.advances)
       (record {
         others = (leaves-none c.args.number c.args.self.now.core _).others;
@@ -52,7 +53,6 @@ returns-in-Err-Unknown g c = record {
       }) c.shut.ensures.leaves;
   told = c.shut.ensures.told;
   sent = sent-then c.shut.result _ _ _ (λ e. c.in-Err-Unknown.ensures.sends ∙ e) c.shut.ensures.sent;
-  closes = closes-call c.shut.result _ _ _ _ _ _ (closes-none _ _ _ _ c.ask_in.ensures.shuts refl) c.shut.ensures.closes;
   apart = c.shut.ensures.apart;
   asks = one-ended _ c.shut.result _ c.args.number _ _ _ _ _ c.in-Err-Unknown.ensures.refused c.ask_in.ensures.opens c.shut.ensures.asks c.shut.ensures.gone;
   attended = attended-then c.shut.result _ _ _ (attended-same c.args.self.now.core c.ask_in.new.core _ c.in-Err-Unknown.ensures.same)
@@ -79,15 +79,6 @@ returns-in_ok-send_from-in-Ok-clause-asks g c =
 pub returns-in_ok-send_from-in-Ok-clause-apart : goal.returns-in_ok-send_from-in-Ok-clause-apart
 returns-in_ok-send_from-in-Ok-clause-apart g c =
     apart-call c.give.result c.args.number _ _ _ _ _ _ (apart-with c.args.number _ _ _ _ _ c.set_ticket.ensures.rows c.set_ticket.ensures.inlets) c.give.ensures.apart
-
-pub returns-in_ok-send_from-in-Ok-clause-closes : goal.returns-in_ok-send_from-in-Ok-clause-closes
-returns-in_ok-send_from-in-Ok-clause-closes g c =
-    closes-call c.give.result _ _ _ _ _ _ (closes-none _ _ _ _ (ap shut_in c.in_ok-send_from-in-Ok.ensures.entries ∙ c.ask_in.ensures.shuts) c.in_ok-send_from-in-Ok.ensures.silent) c.give.ensures.closes
-
-pub returns-in_ok-send_from-in-Ok-clause-made : goal.returns-in_ok-send_from-in-Ok-clause-made
-returns-in_ok-send_from-in-Ok-clause-made g c =
-    let sent = c.in_ok-send_from-in-Ok.ensures in
-    makes-call c.give.result _ _ _ _ (makes-then _ _ _ _ c.ask_in.ensures.made (makes-none _ _ _ sent.entries sent.moment)) c.give.ensures.made
 
 pub returns-in_ok-send_from-in-Ok-clause-no_interim : goal.returns-in_ok-send_from-in-Ok-clause-no_interim
 returns-in_ok-send_from-in-Ok-clause-no_interim g c = final-call c.give.result _ _ _ c.in_ok-send_from-in-Ok.ensures.no_interim c.give.ensures.no_interim

@@ -5,6 +5,8 @@ use Rattle.gateway_world.proofs.Prompting.{apart-without, prompt-all, prompt-clo
 use Rattle.gateway_world.proofs.Inlets.{inbox-without}
 use Rattle.gateway_world.specs.Asks.{inbox_at}
 use Rattle.std.proofs.Common.{ap, ◌∙◌}
+use Rattle.gateway_world.proofs.Going.{advances-grow}
+use Rattle.gateway_world.proofs.Shutting.{shuts-one}
 use Rattle.gateway_world.proofs.engine.Engine.close.Goals as goal
 
 pub returns-clause-kept : goal.returns-clause-kept
@@ -23,3 +25,6 @@ pub returns-clause-prompt : goal.returns-clause-prompt
 returns-clause-prompt g c =
     prompt-all c.args.number _ _ _ _ (apart-without c.args.number _ _ _ _ c.remove.ensures.rows c.remove.ensures.inlets)
     (prompt-closed c.args.number _ _ (ap (inbox_at c.args.number) c.remove.ensures.inlets ∙ inbox-without _ c.args.number))
+
+pub returns-clause-why : goal.returns-clause-why
+returns-clause-why g c = λ done. shuts-one c.close_in-closed.result c.args.self.now.core c.close_in-closed.new.core c.args.number c.close_in-closed.ensures.shuts (advances-grow _ _ c.close_in-closed.ensures.alone.step) c.close_in-closed.ensures.stranger done

@@ -1,22 +1,21 @@
 -- The answers follow the datagrams.
-use Rattle.gateway_world.proofs.Going.{leads-on}
 use Rattle.gateway_world.proofs.Settling.{attended-same, attended-then, told-then}
 use Rattle.std.proofs.Common.{refl, ap}
 use Rattle.gateway_world.proofs.Reading.{order-quiet, order-call}
 use Rattle.gateway_world.specs.Asks.{asked_on}
 use Rattle.gateway_world.proofs.Entering.{quiet-then}
-use Rattle.gateway_world.proofs.Closings.{closes-none, closes-call}
-use Rattle.gateway_world.specs.Closing.{shut_in}
-use Rattle.gateway_world.proofs.Making.{makes-none, makes-call}
 use Rattle.gateway_world.proofs.Continuing.{quiet-call}
 use Rattle.exchange_core.specs.CoreValue.{connections}
+use Rattle.gateway_world.proofs.Working.{works-out, works-call}
 use Rattle.gateway_world.proofs.engine.Engine.deliver.Goals as goal
 
 pub answer_all-requires : goal.answer_all-requires
 answer_all-requires g c = c.in_ok-send_from.ensures.kept _ c.requires
 
-pub returns-clause-leads : goal.returns-clause-leads
-returns-clause-leads g c = leads-on c.answer_all.result _ _ _ _ _ _ c.in_ok-send_from.ensures.leads c.answer_all.ensures.leads
+pub returns-clause-works : goal.returns-clause-works
+returns-clause-works g c =
+    let sent = c.in_ok-send_from.ensures in
+    works-call c.answer_all.result _ _ _ _ _ _ _ (works-out _ _ _ _ _ sent.leads sent.entries sent.moment sent.silent) c.answer_all.ensures.works
 
 pub returns-clause-settled : goal.returns-clause-settled
 returns-clause-settled g c =
@@ -30,13 +29,6 @@ returns-clause-asks g c =
 pub returns-clause-quiet : goal.returns-clause-quiet
 returns-clause-quiet g c =
     quiet-then c.answer_all.result c.args.self.now.core c.send_from.new.core c.answer_all.new.self.core c.in_ok-send_from.ensures.answers c.in_ok-send_from.ensures.entries c.answer_all.ensures.quiet
-
-pub returns-clause-closes : goal.returns-clause-closes
-returns-clause-closes g c =
-    closes-call c.answer_all.result _ _ _ _ _ _ (closes-none _ _ _ _ (ap shut_in c.in_ok-send_from.ensures.entries) c.in_ok-send_from.ensures.silent) c.answer_all.ensures.closes
-
-pub returns-clause-made : goal.returns-clause-made
-returns-clause-made g c = makes-call c.answer_all.result _ _ _ _ (makes-none _ _ _ c.in_ok-send_from.ensures.entries c.in_ok-send_from.ensures.moment) c.answer_all.ensures.made
 
 pub returns-clause-continues : goal.returns-clause-continues
 returns-clause-continues g c =

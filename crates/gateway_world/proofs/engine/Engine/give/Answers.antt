@@ -2,24 +2,25 @@
 use Rattle.std.proofs.Common.{[], refl, ap, sym, ◌∙◌}
 use Rattle.std.proofs.lemmas.List.{append-nil}
 use Rattle.exchange_core.specs.Answering.{given_of}
-use Rattle.gateway_world.proofs.Going.{goes-none, goes-answering, leads-on}
+use Rattle.gateway_world.proofs.Going.{goes-answering}
 use Rattle.gateway_world.proofs.Taking.{takes-from, row-for, given-on, taken-told, taken-serves}
 use Rattle.gateway_world.proofs.Settling.{attended-taken, attended-then, told-then, leaves-none, leaves-taken, leaves-then, served-idle, served-open, told-taken, sent-then}
 use Rattle.gateway_world.proofs.Reading.{none-same, none-then}
 use Rattle.gateway_world.specs.Asks.{asked_on}
 use Rattle.gateway_world.proofs.Prompting.{apart-same, apart-with, apart-call}
-use Rattle.gateway_world.proofs.Closings.{closes-same, closes-none, closes-call}
-use Rattle.gateway_world.specs.Closing.{shut_in}
-use Rattle.gateway_world.proofs.Making.{makes-none, makes-same, makes-call}
 use Rattle.gateway_world.proofs.Continuing.{final-call}
 use Rattle.exchange_core.specs.CoreValue.{connections}
+use Rattle.gateway_world.proofs.Shutting.{last-answered}
+use Rattle.gateway_world.proofs.Working.{works-none, works-out, works-call}
+use Rattle.ask_model.specs.Views.{Mapping}
+use Rattle.gateway_world.specs.Means.{closes}
 use Rattle.gateway_world.proofs.engine.Engine.give.Goals as goal
 
-pub returns-in_default-clause-leads : goal.returns-in_default-clause-leads
-returns-in_default-clause-leads g c = goes-none _ _
+pub returns-in_default-clause-works : goal.returns-in_default-clause-works
+returns-in_default-clause-works g c = works-none _ _ _
 
-pub returns-in_default-answer_to-clause-leads : goal.returns-in_default-answer_to-clause-leads
-returns-in_default-answer_to-clause-leads g c = goes-none _ _
+pub returns-in_default-answer_to-clause-works : goal.returns-in_default-answer_to-clause-works
+returns-in_default-answer_to-clause-works g c = works-none _ _ _
 
 pub shut-requires : goal.shut-requires
 shut-requires g c =
@@ -28,24 +29,6 @@ shut-requires g c =
     let row = row-for _ _ _ _ some.0 c.in-Some.ensures.some in
     let takes = takes-from c.args.self.now.core c.drop_answer.new.self _ c.in-Some-answer_to.answer.now some c.in-Some-answer_to.ensures.once t.answers t.entries t.conns in
     rw (c.set_ticket.ensures.rows) (taken-serves _ _ _ c.args.number _ c.requires row takes)
-
-pub returns-then-last-clause-leads : goal.returns-then-last-clause-leads
-returns-then-last-clause-leads g c =
-    let t = c.drop_answer.ensures in
-    let some = c.in-Some-answer_to.ensures.some in
-    let row = row-for _ _ _ _ some.0 c.in-Some.ensures.some in
-    let takes = takes-from c.args.self.now.core c.drop_answer.new.self _ c.in-Some-answer_to.answer.now some c.in-Some-answer_to.ensures.once t.answers t.entries t.conns in
-    let told = c.in_ok-tell_answer.ensures.told c.args.self.now.core.entries some.2 (given-on _ _ c.args.number _ c.requires row some.2) in
-    leads-on c.shut.result _ _ _ _ _ _ (goes-answering _ _ _ _ _ t.entries t.sends (taken-told _ _ _ c.args.number _ c.requires row takes) told) c.shut.ensures.leads
-
-pub returns-else-last-clause-leads : goal.returns-else-last-clause-leads
-returns-else-last-clause-leads g c =
-    let t = c.drop_answer.ensures in
-    let some = c.in-Some-answer_to.ensures.some in
-    let row = row-for _ _ _ _ some.0 c.in-Some.ensures.some in
-    let takes = takes-from c.args.self.now.core c.drop_answer.new.self _ c.in-Some-answer_to.answer.now some c.in-Some-answer_to.ensures.once t.answers t.entries t.conns in
-    let told = c.in_ok-tell_answer.ensures.told c.args.self.now.core.entries some.2 (given-on _ _ c.args.number _ c.requires row some.2) in
-    goes-answering _ _ _ _ _ t.entries t.sends (taken-told _ _ _ c.args.number _ c.requires row takes) told
 
 pub returns-else-last-clause-kept : goal.returns-else-last-clause-kept
 returns-else-last-clause-kept g c =
@@ -82,6 +65,31 @@ returns-else-last-clause-told g c =
     let row = row-for _ _ _ _ some.0 c.in-Some.ensures.some in
     let takes = takes-from c.args.self.now.core c.drop_answer.new.self _ c.in-Some-answer_to.answer.now some c.in-Some-answer_to.ensures.once t.answers t.entries t.conns in
     rw (c.set_ticket.ensures.rows) (told-taken c.args.number c.args.self.now.core c.drop_answer.new.self _ (given_of c.in-Some-answer_to.answer.now) c.requires row)
+
+pub returns-then-last-clause-works : goal.returns-then-last-clause-works
+returns-then-last-clause-works g c =
+    let t = c.drop_answer.ensures in
+    let some = c.in-Some-answer_to.ensures.some in
+    let row = row-for _ _ _ _ some.0 c.in-Some.ensures.some in
+    let takes = takes-from c.args.self.now.core c.drop_answer.new.self _ c.in-Some-answer_to.answer.now some c.in-Some-answer_to.ensures.once t.answers t.entries t.conns in
+    let on = given-on _ _ c.args.number _ c.requires row some.2 in
+    let told = c.in_ok-tell_answer.ensures.told c.args.self.now.core.entries some.2 on in
+    let gave = works-out _ _ _ _ _ (goes-answering _ _ _ _ _ t.entries t.sends (taken-told _ _ _ c.args.number _ c.requires row takes) told) t.entries t.moment c.in_ok-tell_answer.ensures.silent in
+    let came = c.came.ensures.came ∙ ap (λ (m : Mapping). m.came) c.deref.ensures in
+    let last = ap closes (sym came) ∙ sym c.closes-last.ensures ∙ c.if-last.true in
+    works-call c.shut.result _ _ _ _ _ _ _ gave
+    (told-then c.shut.result _ _ (last-answered c.args.self.now.core c.drop_answer.new.self (given_of c.in-Some-answer_to.answer.now) c.args.number some.2 t.entries on last) c.shut.ensures.works)
+
+pub returns-else-last-clause-works : goal.returns-else-last-clause-works
+returns-else-last-clause-works g c =
+    let t = c.drop_answer.ensures in
+    let some = c.in-Some-answer_to.ensures.some in
+    let row = row-for _ _ _ _ some.0 c.in-Some.ensures.some in
+    let takes = takes-from c.args.self.now.core c.drop_answer.new.self _ c.in-Some-answer_to.answer.now some c.in-Some-answer_to.ensures.once t.answers t.entries t.conns in
+    let on = given-on _ _ c.args.number _ c.requires row some.2 in
+    let told = c.in_ok-tell_answer.ensures.told c.args.self.now.core.entries some.2 on in
+    let gave = works-out _ _ _ _ _ (goes-answering _ _ _ _ _ t.entries t.sends (taken-told _ _ _ c.args.number _ c.requires row takes) told) t.entries t.moment c.in_ok-tell_answer.ensures.silent in
+    gave
 
 pub returns-then-last-clause-leaves : goal.returns-then-last-clause-leaves
 returns-then-last-clause-leaves g c =
@@ -137,31 +145,6 @@ returns-else-last-clause-apart g c = apart-with c.args.number _ _ _ _ _ c.set_ti
 pub returns-then-last-clause-apart : goal.returns-then-last-clause-apart
 returns-then-last-clause-apart g c =
     apart-call c.shut.result c.args.number _ _ _ _ _ _ (apart-with c.args.number _ _ _ _ _ c.set_ticket.ensures.rows c.set_ticket.ensures.inlets) c.shut.ensures.apart
-
-pub returns-in_default-clause-closes : goal.returns-in_default-clause-closes
-returns-in_default-clause-closes g c = closes-same _ _ _ refl
-
-pub returns-in_default-answer_to-clause-closes : goal.returns-in_default-answer_to-clause-closes
-returns-in_default-answer_to-clause-closes g c = closes-same _ _ _ refl
-
-pub returns-else-last-clause-closes : goal.returns-else-last-clause-closes
-returns-else-last-clause-closes g c = closes-none _ _ _ _ (ap shut_in c.drop_answer.ensures.entries) c.in_ok-tell_answer.ensures.silent
-
-pub returns-then-last-clause-closes : goal.returns-then-last-clause-closes
-returns-then-last-clause-closes g c =
-    closes-call c.shut.result _ _ _ _ _ _ (closes-none _ _ _ _ (ap shut_in c.drop_answer.ensures.entries) c.in_ok-tell_answer.ensures.silent) c.shut.ensures.closes
-
-pub returns-in_default-clause-made : goal.returns-in_default-clause-made
-returns-in_default-clause-made g c = makes-same _ _ _ refl
-
-pub returns-in_default-answer_to-clause-made : goal.returns-in_default-answer_to-clause-made
-returns-in_default-answer_to-clause-made g c = makes-same _ _ _ refl
-
-pub returns-then-last-clause-made : goal.returns-then-last-clause-made
-returns-then-last-clause-made g c = makes-call c.shut.result _ _ _ _ (makes-none _ _ _ c.drop_answer.ensures.entries c.drop_answer.ensures.moment) c.shut.ensures.made
-
-pub returns-else-last-clause-made : goal.returns-else-last-clause-made
-returns-else-last-clause-made g c = makes-none _ _ _ c.drop_answer.ensures.entries c.drop_answer.ensures.moment
 
 pub returns-in_default-clause-no_interim : goal.returns-in_default-clause-no_interim
 returns-in_default-clause-no_interim g c = record { same = λ d. refl }

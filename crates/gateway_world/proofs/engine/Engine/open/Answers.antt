@@ -11,23 +11,25 @@ use Rattle.gateway_world.proofs.Heeding.{heeds-open, heeds-quiet, opens-one}
 use Rattle.gateway_world.proofs.Entering.{turned-away}
 use Rattle.gateway_world.proofs.Reading.{order-quiet}
 use Rattle.gateway_world.proofs.Prompting.{prompt-open}
-use Rattle.gateway_world.proofs.Closings.{closes-none, closes-turned}
+use Rattle.gateway_world.proofs.Closings.{closes-turned}
 use Rattle.gateway_world.proofs.Continuing.{opened-tells, turned-tells}
+use Rattle.gateway_world.proofs.Shutting.{shuts-quiet}
+use Rattle.gateway_world.proofs.Working.{works-all, works-step}
 use Rattle.gateway_world.proofs.engine.Engine.open.Goals as goal
 
-pub returns-in-Ok-clause-leads : goal.returns-in-Ok-clause-leads
-returns-in-Ok-clause-leads g c = goes-advancing _ _ _ (standing-of _ _ c.requires) c.open_in.ensures.advances
+pub returns-in-Ok-clause-works : goal.returns-in-Ok-clause-works
+returns-in-Ok-clause-works g c = works-step _ _ _ _ (standing-of _ _ c.requires) c.open_in.ensures.advances c.open_in.ensures.made c.open_in.ensures.shuts
 
 pub returns-in-Err : goal.returns-in-Err
 returns-in-Err g c = record {
-  leads = leads-on c.tell_turned.result _ _ _ _ _ _ (goes-advancing _ _ _ (standing-of _ _ c.requires) c.open_in.ensures.advances) (told-leads _ _ _ _ c.tell_turned.ensures.told);
+  works = works-all c.tell_turned.result _ _ _ _ _
+      (leads-on c.tell_turned.result _ _ _ _ _ _ (goes-advancing _ _ _ (standing-of _ _ c.requires) c.open_in.ensures.advances) (told-leads _ _ _ _ c.tell_turned.ensures.told))
+      c.open_in.ensures.made (closes-turned c.tell_turned.result _ _ _ _ c.open_in.ensures.shuts c.tell_turned.ensures.turned) (shuts-quiet _ _ c.open_in.ensures.shuts);
   kept = on-ok c.tell_turned.result _ (rw (c.make_room.ensures.rows) (c.in-Err.ensures.kept _ c.requires));
-  made = on-ok c.tell_turned.result _ c.open_in.ensures.made;
   marked = c.make_room.ensures.marked;
   core_mark = c.open_in.ensures.core_mark;
   continues = turned-tells c.tell_turned.result _ _ _ _ _ _ _ c.open_in.ensures.asks c.make_room.ensures.inlets c.tell_turned.ensures.turned;
   enters = turned-away c.tell_turned.result _ c.args.self.now.core c.open_in.new.core _ _ _ c.in-Err.ensures.enters c.tell_turned.ensures.fault c.tell_turned.ensures.turned;
-  closes = closes-turned c.tell_turned.result _ _ _ _ c.open_in.ensures.shuts c.tell_turned.ensures.turned;
   prompt = on-ok c.tell_turned.result _ (λ w. rw (c.make_room.ensures.rows, c.make_room.ensures.inlets) w);
   asks = heeds-quiet _ c.tell_turned.result _ _ _ _ _ (λ d. refl) (on-ok c.tell_turned.result _ (order-quiet _ _ _ _ _ c.open_in.ensures.asks c.in-Err.ensures.unopened c.make_room.ensures.inlets));
   settled = on-ok c.tell_turned.result _ (settled-same c.args.self.now.core c.open_in.new.core c.open_in.ensures.answers c.open_in.ensures.sends);
@@ -49,9 +51,6 @@ returns-in-Ok-clause-prompt g c =
     let is = c.in_ok-inbox.ensures.current in
     prompt-open _ _ _ c.in_ok-inbox.inbox.current c.args.self.now.core.entries _ c.in-Ok.ensures.fresh c.requires.opened (c.add.ensures.rows ∙ ap (λ (rs : List Row). rs ++ record { number = c.in-Ok.number; waits = None } ∷ []) c.make_room.ensures.rows)
     (c.add.ensures.inlets ∙ ap (λ (xs : List Inlet). xs ++ record { number = c.in-Ok.number; inbox = c.in_ok-inbox.inbox.current } ∷ []) c.make_room.ensures.inlets) (ap (λ (u : Unasked). u.text) is) (ap (λ (u : Unasked). u.told) is)
-
-pub returns-in-Ok-clause-closes : goal.returns-in-Ok-clause-closes
-returns-in-Ok-clause-closes g c = closes-none _ _ _ _ c.open_in.ensures.shuts refl
 
 pub returns-in-Ok-clause-continues : goal.returns-in-Ok-clause-continues
 returns-in-Ok-clause-continues g c =

@@ -1,42 +1,39 @@
 -- Each request follows what was given out before.
 use Rattle.std.proofs.Common.{rules, refl, ◌∙◌}
-use Rattle.gateway_world.proofs.Going.{goes-grow, goes-none, goes-on}
+use Rattle.gateway_world.proofs.Going.{goes-grow}
 use Rattle.gateway_world.proofs.Settling.{leaves-none, leaves-on}
 use Rattle.gateway_world.proofs.Reading.{order-quiet, order-then}
 use Rattle.gateway_world.proofs.Prompting.{apart-same, apart-then}
-use Rattle.gateway_world.proofs.Closings.{closes-same, closes-then}
-use Rattle.gateway_world.proofs.Making.{makes-same, makes-then}
 use Rattle.gateway_world.proofs.Continuing.{one-none, ones-then, final-then}
+use Rattle.gateway_world.proofs.Working.{works-none, works-then}
 use Rattle.gateway_world.proofs.engine.Engine.serve.Goals as goal
 
 pub each-init : goal.each-init
-each-init g c = (goes-none _ _, c.requires, leaves-none _ _ _, (λ w. w), (λ e. e), (λ w. w), order-quiet _ _ _ _ _ (λ d. refl) refl refl, apart-same _ _ _, closes-same _ _ _ refl, makes-same _ _ _ refl, one-none _ _ _ _ _, record { same = λ d. refl }, refl, refl)
+each-init g c = (works-none _ _ _, c.requires, leaves-none _ _ _, (λ w. w), (λ e. e), (λ w. w), order-quiet _ _ _ _ _ (λ d. refl) refl refl, apart-same _ _ _, one-none _ _ _ _ _, record { same = λ d. refl }, refl, refl)
 
 pub each-preserved : goal.each-preserved
 each-preserved g c =
     let before = c.each.invariant in
     let next = c.in_ok-serve_next.ensures in (
-      goes-on _ _ _ _ _ _ before.0 next.leads,
+      works-then _ _ _ _ _ _ _ before.0 next.works,
       next.kept,
-      leaves-on _ _ _ _ _ _ _ (goes-grow _ _ _ _ before.0) before.2 next.leaves,
+      leaves-on _ _ _ _ _ _ _ (goes-grow _ _ _ _ before.0.goes) before.2 next.leaves,
       (λ w. next.told (before.3 w)),
       (λ e. next.sent (before.4 e)),
       (λ w. next.attended (before.5 w)),
       order-then _ _ _ _ _ _ _ before.6 next.asks,
       apart-then _ _ _ _ _ _ _ before.7 next.apart,
-      closes-then _ _ _ _ _ _ before.8 next.closes,
-      makes-then _ _ _ _ before.9 next.made,
-      ones-then _ _ _ _ _ _ _ _ _ _ _ _ before.10 before.11 (λ o. ((before.6 c.args.number).over o).over) (λ o. ((next.asks c.args.number).over o).over) next.continues,
-      final-then _ _ _ before.11 (next.no_interim (search rules)),
-      next.marked ∙ before.12,
-      next.core_mark ∙ before.13,
+      ones-then _ _ _ _ _ _ _ _ _ _ _ _ before.8 before.9 (λ o. ((before.6 c.args.number).over o).over) (λ o. ((next.asks c.args.number).over o).over) next.continues,
+      final-then _ _ _ before.9 (next.no_interim (search rules)),
+      next.marked ∙ before.10,
+      next.core_mark ∙ before.11,
     )
 
-pub returns-clause-leads : goal.returns-clause-leads
-returns-clause-leads g c = goes-on _ _ _ _ _ _ c.each.invariant.0 c.in_ok-serve_next.ensures.leads
+pub returns-clause-works : goal.returns-clause-works
+returns-clause-works g c = works-then _ _ _ _ _ _ _ c.each.invariant.0 c.in_ok-serve_next.ensures.works
 
 pub returns-clause-leaves : goal.returns-clause-leaves
-returns-clause-leaves g c = leaves-on _ _ _ _ _ _ _ (goes-grow _ _ _ _ c.each.invariant.0) c.each.invariant.2 c.in_ok-serve_next.ensures.leaves
+returns-clause-leaves g c = leaves-on _ _ _ _ _ _ _ (goes-grow _ _ _ _ c.each.invariant.0.goes) c.each.invariant.2 c.in_ok-serve_next.ensures.leaves
 
 pub returns-clause-told : goal.returns-clause-told
 returns-clause-told g c = λ w. c.in_ok-serve_next.ensures.told (c.each.invariant.3 w)
@@ -53,14 +50,8 @@ returns-clause-prompt g c = c.in_ok-serve_next.ensures.prompt (search rules)
 pub returns-clause-apart : goal.returns-clause-apart
 returns-clause-apart g c = apart-then _ _ _ _ _ _ _ c.each.invariant.7 c.in_ok-serve_next.ensures.apart
 
-pub returns-clause-closes : goal.returns-clause-closes
-returns-clause-closes g c = closes-then _ _ _ _ _ _ c.each.invariant.8 c.in_ok-serve_next.ensures.closes
-
-pub returns-clause-made : goal.returns-clause-made
-returns-clause-made g c = makes-then _ _ _ _ c.each.invariant.9 c.in_ok-serve_next.ensures.made
-
 pub returns-clause-continues : goal.returns-clause-continues
 returns-clause-continues g c =
     let before = c.each.invariant in
     let next = c.in_ok-serve_next.ensures in
-    ones-then _ _ _ _ _ _ _ _ _ _ _ _ before.10 before.11 (λ o. ((before.6 c.args.number).over o).over) (λ o. ((next.asks c.args.number).over o).over) next.continues
+    ones-then _ _ _ _ _ _ _ _ _ _ _ _ before.8 before.9 (λ o. ((before.6 c.args.number).over o).over) (λ o. ((next.asks c.args.number).over o).over) next.continues

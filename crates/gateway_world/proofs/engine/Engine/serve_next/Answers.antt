@@ -1,22 +1,23 @@
 -- Who waits with a body is told to go on.
-use Rattle.gateway_world.proofs.Going.{goes-none, goes-telling}
+use Rattle.gateway_world.proofs.Going.{goes-telling}
 use Rattle.gateway_world.proofs.Heeding.{not-request}
 use Rattle.gateway_world.proofs.Reading.{order-next, order-idle}
 use Rattle.gateway_world.proofs.Gone.{gone-stays}
 use Rattle.gateway_world.proofs.Prompting.{apart-read, apart-then, work-ends}
 use Rattle.std.proofs.Common.{refl, arith}
-use Rattle.gateway_world.proofs.Closings.{closes-none, closes-same}
-use Rattle.gateway_world.proofs.Making.{makes-same}
 use Rattle.gateway_world.proofs.Continuing.{request-tells, continue-tells, nothing-tells}
 use Rattle.std.proofs.Common.{List, None, Ok, sym, ap, subst}
 use Rattle.gateway_world.specs.Rows.{Row, IsRow}
+use Rattle.gateway_world.proofs.Working.{works-none, works-out}
 use Rattle.gateway_world.proofs.engine.Engine.serve_next.Goals as goal
 
-pub returns-in_ok-tell_continue-in-Continue-clause-leads : goal.returns-in_ok-tell_continue-in-Continue-clause-leads
-returns-in_ok-tell_continue-in-Continue-clause-leads g c = goes-telling _ _ _ (c.in_ok-tell_continue-in-Continue.ensures.told c.args.self.now.core.entries)
+pub returns-in_ok-tell_continue-in-Continue-clause-works : goal.returns-in_ok-tell_continue-in-Continue-clause-works
+returns-in_ok-tell_continue-in-Continue-clause-works g c =
+    let told = c.in_ok-tell_continue-in-Continue.ensures in
+    works-out _ _ _ _ _ (goes-telling _ _ _ (told.told c.args.self.now.core.entries)) refl refl told.silent
 
-pub returns-in-Nothing-clause-leads : goal.returns-in-Nothing-clause-leads
-returns-in-Nothing-clause-leads g c = goes-none _ _
+pub returns-in-Nothing-clause-works : goal.returns-in-Nothing-clause-works
+returns-in-Nothing-clause-works g c = works-none _ _ _
 
 pub returns-in_ok-ask-in-Request-clause-asks : goal.returns-in_ok-ask-in-Request-clause-asks
 returns-in_ok-ask-in-Request-clause-asks g c =
@@ -59,18 +60,6 @@ returns-in_ok-tell_continue-in-Continue-clause-prompt g c = λ more. (rw (c.in-C
 
 pub returns-in-Nothing-clause-prompt : goal.returns-in-Nothing-clause-prompt
 returns-in-Nothing-clause-prompt g c = λ more. (rw (c.in-Nothing.is) at c.in_ok-incoming.ensures.prompt) refl
-
-pub returns-in_ok-tell_continue-in-Continue-clause-closes : goal.returns-in_ok-tell_continue-in-Continue-clause-closes
-returns-in_ok-tell_continue-in-Continue-clause-closes g c = closes-none _ _ _ _ refl c.in_ok-tell_continue-in-Continue.ensures.silent
-
-pub returns-in-Nothing-clause-closes : goal.returns-in-Nothing-clause-closes
-returns-in-Nothing-clause-closes g c = closes-same _ _ _ refl
-
-pub returns-in_ok-tell_continue-in-Continue-clause-made : goal.returns-in_ok-tell_continue-in-Continue-clause-made
-returns-in_ok-tell_continue-in-Continue-clause-made g c = makes-same _ _ _ refl
-
-pub returns-in-Nothing-clause-made : goal.returns-in-Nothing-clause-made
-returns-in-Nothing-clause-made g c = makes-same _ _ _ refl
 
 pub returns-in_ok-ask-in-Request-clause-continues : goal.returns-in_ok-ask-in-Request-clause-continues
 returns-in_ok-ask-in-Request-clause-continues g c =

@@ -7,10 +7,29 @@ use Rattle.gateway_world.specs.Asks.{bytes_on}
 use Rattle.gateway_world.proofs.Heeding.{heeds-none, heeds-quiet, heeds-bytes, bytes-here, bytes-elsewhere}
 use Rattle.gateway_world.proofs.Reading.{order-none}
 use Rattle.gateway_world.proofs.Continuing.{closed-tells}
+use Rattle.gateway_world.proofs.Shutting.{client-for}
+use Rattle.gateway_world.proofs.Working.{works-for}
 use Rattle.gateway_world.proofs.engine.Engine.step.Goals as goal
 
-pub returns-in-Close-clause-leads : goal.returns-in-Close-clause-leads
-returns-in-Close-clause-leads g c = goes-advancing _ _ _ (standing-of _ _ c.requires) c.close.ensures.advances
+pub returns-in-Open-clause-works : goal.returns-in-Open-clause-works
+returns-in-Open-clause-works g c = works-for c.open.result _ _ _ _ _ _ c.open.ensures.works
+
+pub returns-in-Bytes-clause-works : goal.returns-in-Bytes-clause-works
+returns-in-Bytes-clause-works g c = works-for c.bytes.result _ _ _ _ _ _ c.bytes.ensures.works
+
+pub returns-in-Datagram-clause-works : goal.returns-in-Datagram-clause-works
+returns-in-Datagram-clause-works g c = works-for c.heard.result _ _ _ _ _ _ c.heard.ensures.works
+
+pub returns-in-Tick-clause-works : goal.returns-in-Tick-clause-works
+returns-in-Tick-clause-works g c = works-for c.tick.result _ _ _ _ _ _ c.tick.ensures.works
+
+pub returns-in-Close-clause-works : goal.returns-in-Close-clause-works
+returns-in-Close-clause-works g c = record {
+  goes = goes-advancing _ _ _ (standing-of _ _ c.requires) c.close.ensures.advances;
+  made = c.close.ensures.made;
+  closes = rw (c.in-Close.is) tt;
+  why = client-for c.close.result _ c.args.self.now.core.entries c.close.new.self.core.entries c.in-Close.number c.in-Close.is c.close.ensures.closes;
+}
 
 pub returns-in-Close-clause-settled : goal.returns-in-Close-clause-settled
 returns-in-Close-clause-settled g c = settled-same c.args.self.now.core c.close.new.self.core c.close.ensures.answers c.close.ensures.sends
@@ -46,21 +65,6 @@ returns-in-Tick-clause-enters g c = rw (c.in-Tick.is) (c.tick.ensures.enters)
 
 pub returns-in-Close-clause-enters : goal.returns-in-Close-clause-enters
 returns-in-Close-clause-enters g c = rw (c.in-Close.is) (λ none. (c.close.ensures.enters, refl))
-
-pub returns-in-Open-clause-closes : goal.returns-in-Open-clause-closes
-returns-in-Open-clause-closes g c = rw (c.in-Open.is) (c.open.ensures.closes)
-
-pub returns-in-Bytes-clause-closes : goal.returns-in-Bytes-clause-closes
-returns-in-Bytes-clause-closes g c = rw (c.in-Bytes.is) (c.bytes.ensures.closes)
-
-pub returns-in-Datagram-clause-closes : goal.returns-in-Datagram-clause-closes
-returns-in-Datagram-clause-closes g c = rw (c.in-Datagram.is) (c.heard.ensures.closes)
-
-pub returns-in-Tick-clause-closes : goal.returns-in-Tick-clause-closes
-returns-in-Tick-clause-closes g c = rw (c.in-Tick.is) (c.tick.ensures.closes)
-
-pub returns-in-Close-clause-closes : goal.returns-in-Close-clause-closes
-returns-in-Close-clause-closes g c = rw (c.in-Close.is) tt
 
 pub returns-in-Close-clause-continues : goal.returns-in-Close-clause-continues
 returns-in-Close-clause-continues g c = closed-tells c.in-Close.number _ _ _ _ _ _ _ c.close.ensures.asks c.close.ensures.apart

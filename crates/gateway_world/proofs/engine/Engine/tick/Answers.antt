@@ -1,21 +1,20 @@
 -- What it led to is given out.
-use Rattle.gateway_world.proofs.Going.{goes-advancing, leads-grow, leads-on}
 use Rattle.gateway_world.proofs.Serving.{serves-on, standing-of}
 use Rattle.gateway_world.proofs.Settling.{attended-heard, attended-then}
 use Rattle.std.proofs.Common.{refl}
 use Rattle.gateway_world.proofs.Reading.{order-quiet, order-call}
 use Rattle.gateway_world.proofs.Entering.{tick-more}
-use Rattle.gateway_world.proofs.Closings.{closes-none, closes-call}
-use Rattle.gateway_world.proofs.Making.{makes-call}
 use Rattle.gateway_world.proofs.Continuing.{quiet-call}
+use Rattle.gateway_world.proofs.Working.{works-step, works-call, works-grow}
 use Rattle.gateway_world.proofs.engine.Engine.tick.Goals as goal
 
 pub deliver-requires : goal.deliver-requires
 deliver-requires g c = serves-on _ _ _ c.in_ok-tick_in.ensures.alone c.requires
 
-pub returns-clause-leads : goal.returns-clause-leads
-returns-clause-leads g c =
-    leads-on c.deliver.result _ _ _ _ _ _ (goes-advancing _ _ _ (standing-of _ _ c.requires) c.in_ok-tick_in.ensures.alone.step) c.deliver.ensures.leads
+pub returns-clause-works : goal.returns-clause-works
+returns-clause-works g c =
+    let done = c.in_ok-tick_in.ensures in
+    works-call c.deliver.result _ _ _ _ _ _ _ (works-step _ _ _ _ (standing-of _ _ c.requires) done.alone.step done.made done.shuts) c.deliver.ensures.works
 
 pub returns-clause-settled : goal.returns-clause-settled
 returns-clause-settled g c =
@@ -26,13 +25,7 @@ returns-clause-asks g c = order-call _ c.deliver.result _ _ _ _ _ _ (order-quiet
 
 pub returns-clause-enters : goal.returns-clause-enters
 returns-clause-enters g c =
-    tick-more c.deliver.result c.args.self.now.core c.tick_in.new.core c.deliver.new.self.core _ c.in_ok-tick_in.ensures.enters (leads-grow c.deliver.result _ _ _ _ c.deliver.ensures.leads) c.deliver.ensures.quiet
-
-pub returns-clause-closes : goal.returns-clause-closes
-returns-clause-closes g c = closes-call c.deliver.result _ _ _ _ _ _ (closes-none _ _ _ _ c.in_ok-tick_in.ensures.shuts refl) c.deliver.ensures.closes
-
-pub returns-clause-made : goal.returns-clause-made
-returns-clause-made g c = makes-call c.deliver.result _ _ _ _ c.in_ok-tick_in.ensures.made c.deliver.ensures.made
+    tick-more c.deliver.result c.args.self.now.core c.tick_in.new.core c.deliver.new.self.core _ c.in_ok-tick_in.ensures.enters (works-grow c.deliver.result _ _ _ _ _ c.deliver.ensures.works) c.deliver.ensures.quiet
 
 pub returns-clause-continues : goal.returns-clause-continues
 returns-clause-continues g c = quiet-call c.deliver.result _ _ _ _ _ _ _ _ _ c.in_ok-tick_in.ensures.asks (record { same = λ d. refl }) c.deliver.ensures.continues

@@ -10,6 +10,7 @@ use Rattle.gateway_world.proofs.Continuing.{tells-all}
 use Rattle.gateway_world.proofs.Prompting.{owed-by}
 use Rattle.gateway_world.proofs.Gone.{ended-by}
 use Rattle.gateway_world.proofs.Marking.{enters-marked, as-it-was, serves-marked, settled-marked, marked-again, back-again}
+use Rattle.gateway_world.proofs.Shutting.{closes-marked}
 use Rattle.gateway_world.proofs.state.World.input.Goals as goal
 
 pub invariant_of-self : goal.invariant_of-self
@@ -21,7 +22,7 @@ invariant_of-self g c =
     let inlets = ap (λ (s : Shown). s.inlets) c.mark.ensures.shown in
     let is = on-time w.engine.core.moment w.moment c.min.result c.max-moment.result c.self.invariant.1 c.self.invariant.2 (search rules) c.max-moment.ensures in (
       serves-marked c.step.new.self.core c.mark.new.self.core _ core (rw rows c.in-Ok.ensures.kept),
-      rw core (not-ahead _ _ c.step.new.self.core _ is c.in-Ok.ensures.made),
+      rw core (not-ahead _ _ c.step.new.self.core _ is c.in-Ok.ensures.works.made),
       soon-enough w.moment c.min.result c.max-moment.result c.self.invariant.2 (search rules) c.max-moment.ensures,
       settled-marked c.step.new.self.core _ core settled,
       rw (rows, inlets) (c.in-Ok.ensures.prompt c.self.invariant.4),
@@ -62,7 +63,7 @@ pub returns-in-Ok-clause-gives : goal.returns-in-Ok-clause-gives
 returns-in-Ok-clause-gives g c =
     let settled = c.in-Ok.ensures.settled c.self.invariant.3 in
     let core = c.mark.ensures.core settled in
-    rw (← c.self.view_is, core) (gives-out _ _ _ c.self.invariant.3 settled (gives-all _ _ _ _ c.new-outputs.ensures.items c.in-Ok.ensures.leads))
+    rw (← c.self.view_is, core) (gives-out _ _ _ c.self.invariant.3 settled (gives-all _ _ _ _ c.new-outputs.ensures.items c.in-Ok.ensures.works.goes))
 
 pub returns-in-Ok-clause-asks : goal.returns-in-Ok-clause-asks
 returns-in-Ok-clause-asks g c =
@@ -91,14 +92,14 @@ returns-in-Ok-clause-settled g c =
 pub returns-in-Ok-clause-closes : goal.returns-in-Ok-clause-closes
 returns-in-Ok-clause-closes g c =
     let core = c.mark.ensures.core (c.in-Ok.ensures.settled c.self.invariant.3) in
-    rw (← c.self.view_is, core) (closes-all _ _ _ _ _ c.new-outputs.ensures.items c.in-Ok.ensures.closes)
+    rw (← c.self.view_is, core) (closes-all _ _ _ _ _ c.new-outputs.ensures.items c.in-Ok.ensures.works.closes)
 
 pub returns-in-Ok-clause-made : goal.returns-in-Ok-clause-made
 returns-in-Ok-clause-made g c =
     let w = c.self.inside in
     let core = c.mark.ensures.core (c.in-Ok.ensures.settled c.self.invariant.3) in
     let is = on-time w.engine.core.moment w.moment c.min.result c.max-moment.result c.self.invariant.1 c.self.invariant.2 (search rules) c.max-moment.ensures in
-    rw (← c.self.view_is, core) (made-at _ _ _ _ is c.in-Ok.ensures.made)
+    rw (← c.self.view_is, core) (made-at _ _ _ _ is c.in-Ok.ensures.works.made)
 
 pub returns-in-Ok-clause-continues : goal.returns-in-Ok-clause-continues
 returns-in-Ok-clause-continues g c =
@@ -162,3 +163,8 @@ returns-in-Err-clause-settled g c =
     let w = c.self.inside in
     let core = back-again w.engine.core c.step.new.self.core c.back.new.self.core c.self.invariant.3 c.self.invariant.5.core_is c.step.ensures.core_mark c.back.ensures.core in
     rw core (c.self.invariant.3)
+
+pub returns-in-Ok-clause-why : goal.returns-in-Ok-clause-why
+returns-in-Ok-clause-why g c =
+    let core = c.mark.ensures.core (c.in-Ok.ensures.settled c.self.invariant.3) in
+    rw (← c.self.view_is) (closes-marked _ c.self.inside.engine.core.entries c.step.new.self.core _ core c.in-Ok.ensures.works.why)
