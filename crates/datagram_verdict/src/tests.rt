@@ -1,5 +1,3 @@
-ghost use Rattle.std.specs.Prelude.{◌≡◌, ◌≤◌, length};
-
 use crate::confirming::{answer_kind, confirmation, heard_answer, rejected_mid};
 use crate::hearing::{Hit, find_turn, is_reply};
 use crate::reading::{is_final, is_forwardable, is_processable, is_rejected, says_more, value_of};

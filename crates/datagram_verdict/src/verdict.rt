@@ -1,6 +1,6 @@
 //! What a datagram is to what a core keeps.
 
-ghost use Rattle.std.specs.Prelude.{◌≡◌, ℕ, List, ◌∷◌, [], Some, None, Ok, IfOk, IfSome};
+ghost use Rattle.std.specs.Prelude.{◌≡◌, List, ◌∷◌, [], Some, None, Ok, IfOk, IfSome};
 ghost use Rattle.coap_codec.specs.Spelling.{Spells, Content, content};
 ghost use Rattle.uri_map.specs.declared.peer.Peer.{Peer};
 ghost use Rattle.ask_model.specs.Requests.{CoapRequest};

@@ -1,6 +1,6 @@
 //! The beginning of an exchange: the entries of its ask and its message, and what is kept of it.
 
-ghost use Rattle.std.specs.Prelude.{◌≡◌, ◌≢◌, ◌<◌, ◌≤◌, ◌+◌, [], Some, false, length, IfOk, OnOk, IsSome, Err};
+ghost use Rattle.std.specs.Prelude.{◌≡◌, ◌≢◌, ◌<◌, ◌≤◌, ◌+◌, Some, false, length, IfOk, OnOk, IsSome, Err};
 ghost use Rattle.std.specs.VecDeque.{deque_len, deque_capacity};
 ghost use Rattle.std.specs.Arc.{arc_value};
 ghost use Rattle.ask_model.specs.Requests.{CoapRequest, Requests};

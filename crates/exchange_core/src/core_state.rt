@@ -4,10 +4,10 @@ ghost use Rattle.std.specs.Prelude.{ℕ, ◌≡◌, ◌≢◌, ◌==◌, ◌≤�
 ghost use Rattle.std.specs.List.{Contains};
 ghost use Rattle.std.specs.Arc.{arc_value};
 ghost use Rattle.ask_model.specs.Sizes.{came_size, capped};
-ghost use Rattle.journal_book.specs.Entries.{Opens, Seals};
+ghost use Rattle.journal_book.specs.Entries.{Seals};
 ghost use Rattle.history_laws.specs.Justified.{Stands};
 ghost use Rattle.history_laws.specs.Limits.{MaySeal};
-ghost use Rattle.exchange_core.specs.CoreValue.{written, now, connections, outgoing_of, AreUnsent};
+ghost use Rattle.exchange_core.specs.CoreValue.{written, now, outgoing_of, AreUnsent};
 ghost use Rattle.exchange_core.specs.Sealing.{SealsNow};
 ghost use Rattle.exchange_core.specs.Opening.{OpensSo, ClosesSo};
 ghost use Rattle.exchange_core.specs.Room.{takes, takes_ask};

@@ -3,7 +3,6 @@
 ghost use Rattle.std.specs.Prelude.{◌≡◌, ◌<◌, ◌≤◌, ◌+◌, ◌*◌, [], length, option_map, IfOk, IfSome, OnOk};
 ghost use Rattle.std.specs.VecDeque.{deque_len, deque_capacity};
 ghost use Rattle.std.specs.Arc.{arc_value};
-ghost use Rattle.journal_book.specs.Entries.{Answers};
 ghost use Rattle.exchange_core.specs.Answering.{HasWaited, KeepsAsks};
 ghost use Rattle.exchange_core.specs.Tables.{AreToldApart, Changed, Roomier};
 ghost use Rattle.exchange_core.specs.Steps.{one_if, with_sent, with_answer, conns_by, waiting_by, AnswersBy, IsReader, SpellsDue};

@@ -4,6 +4,7 @@ pub mod Closing
 pub mod Continuing
 pub mod CoreSteps
 pub mod Counted
+pub mod Engines
 pub mod Entering
 pub mod Faults
 pub mod Inboxes

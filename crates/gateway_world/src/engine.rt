@@ -1,22 +1,20 @@
 //! What an input leads to, step by step.
 
 ghost use Rattle.std.specs.Prelude.{ℕ, List, ◌≡◌, ◌≢◌, ◌<◌, ◌++◌, [], true, false, None, IfOk, IfSome, OnOk};
-ghost use Rattle.std.specs.Arc.{arc_value};
 ghost use Rattle.http_edge.specs.Edges.{item};
-ghost use Rattle.ask_model.specs.Views.{rules_of};
 ghost use Rattle.ask_model.specs.Maps.{Maps};
 ghost use Rattle.exchange_core.specs.CoreValue.{now, marked_now, gone_back};
+ghost use Rattle.gateway_world.specs.Engines.{rules_in, IsServing, IsAttentive, HasServed, HasAsked, HasAskedAll, LeavesOpen, LeavesDue, Continues, ContinuesOne, HeedsIn, AsksAt, AsksEach, AsksItem, AsksNoItem};
 ghost use Rattle.gateway_world.specs.Entering.{Enters, EntersOpen, EntersDatagram, EntersTick, EntersClose};
-ghost use Rattle.gateway_world.specs.Asks.{inlets_of, AsksNothing, AsksFirst, StandsFor, IsOver, IsGone, Heeds};
+ghost use Rattle.gateway_world.specs.Asks.{inlets_of, AsksNothing, AsksFirst, StandsFor, IsOver, IsGone};
 ghost use Rattle.gateway_world.specs.Making.{Makes};
 ghost use Rattle.gateway_world.specs.Working.{Works, WorksFor};
-ghost use Rattle.gateway_world.specs.Continuing.{TellsToGoOn, TellsOne, GivesFinal};
+ghost use Rattle.gateway_world.specs.Continuing.{GivesFinal};
 ghost use Rattle.gateway_world.specs.Closing.{shut_in, closed_if};
 ghost use Rattle.gateway_world.specs.Shutting.{ShutsFor, IsDone};
-ghost use Rattle.gateway_world.specs.Prompt.{IsPrompt, IsPromptOn, LeavesConnections, work_at};
-ghost use Rattle.gateway_world.specs.AskSteps.{AsksInOrder, AsksOn, AsksOne, AsksNone};
+ghost use Rattle.gateway_world.specs.Prompt.{work_at};
 ghost use Rattle.gateway_world.specs.Steps.{Advances};
-ghost use Rattle.gateway_world.specs.Rows.{Serves, Settled, Attended, LeavesOthers, IsServedOn, IsFirstAnswered, IsRow, rows_of, without_row};
+ghost use Rattle.gateway_world.specs.Rows.{Settled, IsFirstAnswered, IsRow, rows_of, without_row};
 ghost use Rattle.gateway_world.specs.Undo.{shown, shown_at_mark};
 
 use crate::fields::closes;
@@ -77,15 +75,15 @@ impl<R: Relation> Engine<R> {
         happening: Happening<'_>,
         outputs: &mut Vec<Output>,
     ) -> Result<(), Memory>
-        requires { Serves self.old.core (rows_of self.old.table) }
+        requires { IsServing self.old }
         ensures works { OnOk result (WorksFor happening.entry context.entry.when self.old.core self.new.core outputs.old.items outputs.new.items) }
-        ensures kept { OnOk result (Serves self.new.core (rows_of self.new.table)) }
+        ensures kept { OnOk result (IsServing self.new) }
         ensures marked { shown_at_mark self.new.table ≡ shown_at_mark self.old.table }
         ensures core_mark { self.new.core.marked ≡ self.old.core.marked }
-        ensures continues { OnOk result ((c : ℕ) → TellsToGoOn c self.old.core.entries (inlets_of self.old.table) outputs.old.items self.new.core.entries (rows_of self.new.table) (inlets_of self.new.table) outputs.new.items) }
-        ensures prompt { OnOk result (IsPrompt (rows_of self.old.table) (inlets_of self.old.table) → IsPrompt (rows_of self.new.table) (inlets_of self.new.table)) }
+        ensures continues { OnOk result ((c : ℕ) → Continues c self.old self.new outputs.old.items outputs.new.items) }
+        ensures prompt { OnOk result (HasAskedAll self.old → HasAskedAll self.new) }
         ensures enters { OnOk result (self.old.core.answers ≡ [] → Enters happening.entry (now self.old.core.moment context.entry.when.moment) self.old.core self.new.core outputs.old.items outputs.new.items) }
-        ensures asks { OnOk result ((c : ℕ) → Heeds (Maps R.holds R.takes (rules_of (arc_value context.entry.settings.now))) c happening.entry self.old.core.entries (inlets_of self.old.table) self.new.core.entries (inlets_of self.new.table)) }
+        ensures asks { OnOk result ((c : ℕ) → HeedsIn (Maps R.holds R.takes (rules_in context.entry)) c happening.entry self.old self.new) }
         ensures settled { OnOk result (Settled self.old.core → Settled self.new.core) }
     {
         match happening {
@@ -102,15 +100,15 @@ impl<R: Relation> Engine<R> {
 
     /// Opens a connection, or turns the client away.
     fn open(&mut self, context: Context<'_>, outputs: &mut Vec<Output>) -> Result<(), Memory>
-        requires { Serves self.old.core (rows_of self.old.table) }
+        requires { IsServing self.old }
         ensures works { OnOk result (Works context.entry.when self.old.core self.new.core outputs.old.items outputs.new.items) }
-        ensures kept { OnOk result (Serves self.new.core (rows_of self.new.table)) }
+        ensures kept { OnOk result (IsServing self.new) }
         ensures marked { shown_at_mark self.new.table ≡ shown_at_mark self.old.table }
         ensures core_mark { self.new.core.marked ≡ self.old.core.marked }
-        ensures continues { OnOk result ((c : ℕ) → TellsToGoOn c self.old.core.entries (inlets_of self.old.table) outputs.old.items self.new.core.entries (rows_of self.new.table) (inlets_of self.new.table) outputs.new.items) }
-        ensures prompt { OnOk result (IsPrompt (rows_of self.old.table) (inlets_of self.old.table) → IsPrompt (rows_of self.new.table) (inlets_of self.new.table)) }
+        ensures continues { OnOk result ((c : ℕ) → Continues c self.old self.new outputs.old.items outputs.new.items) }
+        ensures prompt { OnOk result (HasAskedAll self.old → HasAskedAll self.new) }
         ensures enters { OnOk result (EntersOpen (now self.old.core.moment context.entry.when.moment) self.old.core self.new.core outputs.old.items outputs.new.items) }
-        ensures asks { OnOk result ((c : ℕ) → Heeds (Maps R.holds R.takes (rules_of (arc_value context.entry.settings.now))) c Happening.Open self.old.core.entries (inlets_of self.old.table) self.new.core.entries (inlets_of self.new.table)) }
+        ensures asks { OnOk result ((c : ℕ) → HeedsIn (Maps R.holds R.takes (rules_in context.entry)) c Happening.Open self.old self.new) }
         ensures settled { OnOk result (Settled self.old.core → Settled self.new.core) }
     {
         let inbox = Inbox::new(self.alloc)?;
@@ -132,15 +130,15 @@ impl<R: Relation> Engine<R> {
         bytes: &[u8],
         outputs: &mut Vec<Output>,
     ) -> Result<(), Memory>
-        requires { Serves self.old.core (rows_of self.old.table) }
+        requires { IsServing self.old }
         ensures works { OnOk result (Works context.entry.when self.old.core self.new.core outputs.old.items outputs.new.items) }
-        ensures kept { OnOk result (Serves self.new.core (rows_of self.new.table)) }
+        ensures kept { OnOk result (IsServing self.new) }
         ensures marked { shown_at_mark self.new.table ≡ shown_at_mark self.old.table }
         ensures core_mark { self.new.core.marked ≡ self.old.core.marked }
-        ensures continues { OnOk result ((c : ℕ) → TellsToGoOn c self.old.core.entries (inlets_of self.old.table) outputs.old.items self.new.core.entries (rows_of self.new.table) (inlets_of self.new.table) outputs.new.items) }
-        ensures prompt { OnOk result (IsPrompt (rows_of self.old.table) (inlets_of self.old.table) → IsPrompt (rows_of self.new.table) (inlets_of self.new.table)) }
-        ensures others { OnOk result ((c : ℕ) → c ≢ number → AsksOn (Maps R.holds R.takes (rules_of (arc_value context.entry.settings.now))) c self.old.core.entries (inlets_of self.old.table) self.new.core.entries (inlets_of self.new.table)) }
-        ensures reads { OnOk result ((text : List ℕ) → StandsFor (inlets_of self.old.table) number text → AsksFirst (Maps R.holds R.takes (rules_of (arc_value context.entry.settings.now))) number (text ++ bytes.now) self.old.core.entries self.new.core.entries (inlets_of self.new.table)) }
+        ensures continues { OnOk result ((c : ℕ) → Continues c self.old self.new outputs.old.items outputs.new.items) }
+        ensures prompt { OnOk result (HasAskedAll self.old → HasAskedAll self.new) }
+        ensures others { OnOk result ((c : ℕ) → c ≢ number → AsksAt (Maps R.holds R.takes (rules_in context.entry)) c self.old self.new) }
+        ensures reads { OnOk result ((text : List ℕ) → StandsFor (inlets_of self.old.table) number text → AsksFirst (Maps R.holds R.takes (rules_in context.entry)) number (text ++ bytes.now) self.old.core.entries self.new.core.entries (inlets_of self.new.table)) }
         ensures over { OnOk result (IsOver (inlets_of self.old.table) number → AsksNothing number self.old.core.entries self.new.core.entries (inlets_of self.new.table)) }
         ensures settled { OnOk result (Settled self.old.core → Settled self.new.core) }
     {
@@ -156,15 +154,15 @@ impl<R: Relation> Engine<R> {
         bytes: &[u8],
         outputs: &mut Vec<Output>,
     ) -> Result<(), Memory>
-        requires { Serves self.old.core (rows_of self.old.table) }
+        requires { IsServing self.old }
         ensures works { OnOk result (Works context.entry.when self.old.core self.new.core outputs.old.items outputs.new.items) }
-        ensures kept { OnOk result (Serves self.new.core (rows_of self.new.table)) }
+        ensures kept { OnOk result (IsServing self.new) }
         ensures marked { shown_at_mark self.new.table ≡ shown_at_mark self.old.table }
         ensures core_mark { self.new.core.marked ≡ self.old.core.marked }
-        ensures continues { OnOk result ((c : ℕ) → TellsToGoOn c self.old.core.entries (inlets_of self.old.table) outputs.old.items self.new.core.entries (rows_of self.new.table) (inlets_of self.new.table) outputs.new.items) }
-        ensures prompt { OnOk result (IsPrompt (rows_of self.old.table) (inlets_of self.old.table) → IsPrompt (rows_of self.new.table) (inlets_of self.new.table)) }
+        ensures continues { OnOk result ((c : ℕ) → Continues c self.old self.new outputs.old.items outputs.new.items) }
+        ensures prompt { OnOk result (HasAskedAll self.old → HasAskedAll self.new) }
         ensures enters { OnOk result (self.old.core.answers ≡ [] → EntersDatagram (now self.old.core.moment context.entry.when.moment) peer bytes.now self.old.core self.new.core) }
-        ensures asks { OnOk result (AsksInOrder (Maps R.holds R.takes (rules_of (arc_value context.entry.settings.now))) self.old.core.entries (inlets_of self.old.table) self.new.core.entries (inlets_of self.new.table)) }
+        ensures asks { OnOk result (AsksEach (Maps R.holds R.takes (rules_in context.entry)) self.old self.new) }
         ensures settled { OnOk result (Settled self.old.core → Settled self.new.core) }
     {
         hear_in(&mut self.core, context.when, peer, bytes)?;
@@ -173,15 +171,15 @@ impl<R: Relation> Engine<R> {
 
     /// Lets time go on.
     fn tick(&mut self, context: Context<'_>, outputs: &mut Vec<Output>) -> Result<(), Memory>
-        requires { Serves self.old.core (rows_of self.old.table) }
+        requires { IsServing self.old }
         ensures works { OnOk result (Works context.entry.when self.old.core self.new.core outputs.old.items outputs.new.items) }
-        ensures kept { OnOk result (Serves self.new.core (rows_of self.new.table)) }
+        ensures kept { OnOk result (IsServing self.new) }
         ensures marked { shown_at_mark self.new.table ≡ shown_at_mark self.old.table }
         ensures core_mark { self.new.core.marked ≡ self.old.core.marked }
-        ensures continues { OnOk result ((c : ℕ) → TellsToGoOn c self.old.core.entries (inlets_of self.old.table) outputs.old.items self.new.core.entries (rows_of self.new.table) (inlets_of self.new.table) outputs.new.items) }
-        ensures prompt { OnOk result (IsPrompt (rows_of self.old.table) (inlets_of self.old.table) → IsPrompt (rows_of self.new.table) (inlets_of self.new.table)) }
+        ensures continues { OnOk result ((c : ℕ) → Continues c self.old self.new outputs.old.items outputs.new.items) }
+        ensures prompt { OnOk result (HasAskedAll self.old → HasAskedAll self.new) }
         ensures enters { OnOk result (self.old.core.answers ≡ [] → EntersTick (now self.old.core.moment context.entry.when.moment) self.old.core self.new.core) }
-        ensures asks { OnOk result (AsksInOrder (Maps R.holds R.takes (rules_of (arc_value context.entry.settings.now))) self.old.core.entries (inlets_of self.old.table) self.new.core.entries (inlets_of self.new.table)) }
+        ensures asks { OnOk result (AsksEach (Maps R.holds R.takes (rules_in context.entry)) self.old self.new) }
         ensures settled { OnOk result (Settled self.old.core → Settled self.new.core) }
     {
         tick_in(&mut self.core, context.when)?;
@@ -190,18 +188,18 @@ impl<R: Relation> Engine<R> {
 
     /// Closes the connection. False where it isn't open.
     fn close(&mut self, context: Context<'_>, number: u32) -> bool
-        requires { Serves self.old.core (rows_of self.old.table) }
+        requires { IsServing self.old }
         ensures advances { Advances self.old.core self.new.core }
-        ensures kept { Serves self.new.core (rows_of self.new.table) }
+        ensures kept { IsServing self.new }
         ensures marked { shown_at_mark self.new.table ≡ shown_at_mark self.old.table }
         ensures core_mark { self.new.core.marked ≡ self.old.core.marked }
         ensures made { Makes context.entry.when self.old.core self.new.core }
         ensures closes { shut_in self.new.core.entries ≡ shut_in self.old.core.entries ++ closed_if result number }
         ensures why { IsDone self.old.core number → ShutsFor self.old.core.entries self.new.core.entries }
-        ensures apart { LeavesConnections number (rows_of self.old.table) (inlets_of self.old.table) (rows_of self.new.table) (inlets_of self.new.table) }
-        ensures prompt { IsPrompt (rows_of self.old.table) (inlets_of self.old.table) → IsPrompt (rows_of self.new.table) (inlets_of self.new.table) }
+        ensures apart { LeavesOpen number self.old self.new }
+        ensures prompt { HasAskedAll self.old → HasAskedAll self.new }
         ensures enters { EntersClose (now self.old.core.moment context.entry.when.moment) number self.old.core self.new.core }
-        ensures asks { AsksNone number self.old.core.entries (inlets_of self.old.table) self.new.core.entries (inlets_of self.new.table) }
+        ensures asks { AsksNoItem number self.old self.new }
         ensures gone { IsGone (inlets_of self.new.table) number }
         ensures rows { rows_of self.new.table ≡ without_row number (rows_of self.old.table) }
         ensures answers { self.new.core.answers ≡ self.old.core.answers }
@@ -214,16 +212,16 @@ impl<R: Relation> Engine<R> {
 
     /// Gives out the datagrams and the answers of a step, the answers by the numbers of their asks.
     fn deliver(&mut self, context: Context<'_>, outputs: &mut Vec<Output>) -> Result<(), Memory>
-        requires { Serves self.old.core (rows_of self.old.table) }
+        requires { IsServing self.old }
         ensures works { OnOk result (Works context.entry.when self.old.core self.new.core outputs.old.items outputs.new.items) }
-        ensures kept { OnOk result (Serves self.new.core (rows_of self.new.table)) }
+        ensures kept { OnOk result (IsServing self.new) }
         ensures marked { shown_at_mark self.new.table ≡ shown_at_mark self.old.table }
         ensures core_mark { self.new.core.marked ≡ self.old.core.marked }
-        ensures continues { OnOk result ((c : ℕ) → TellsToGoOn c self.old.core.entries (inlets_of self.old.table) outputs.old.items self.new.core.entries (rows_of self.new.table) (inlets_of self.new.table) outputs.new.items) }
-        ensures prompt { OnOk result (IsPrompt (rows_of self.old.table) (inlets_of self.old.table) → IsPrompt (rows_of self.new.table) (inlets_of self.new.table)) }
+        ensures continues { OnOk result ((c : ℕ) → Continues c self.old self.new outputs.old.items outputs.new.items) }
+        ensures prompt { OnOk result (HasAskedAll self.old → HasAskedAll self.new) }
         ensures quiet { OnOk result (self.old.core.answers ≡ [] → self.new.core.entries ≡ self.old.core.entries) }
-        ensures asks { OnOk result (AsksInOrder (Maps R.holds R.takes (rules_of (arc_value context.entry.settings.now))) self.old.core.entries (inlets_of self.old.table) self.new.core.entries (inlets_of self.new.table)) }
-        ensures settled { OnOk result (Attended self.old.core (rows_of self.old.table) → Settled self.new.core) }
+        ensures asks { OnOk result (AsksEach (Maps R.holds R.takes (rules_in context.entry)) self.old self.new) }
+        ensures settled { OnOk result (IsAttentive self.old → Settled self.new.core) }
     {
         send_from(&mut self.core, outputs)?;
         self.answer_all(context, outputs)
@@ -231,16 +229,16 @@ impl<R: Relation> Engine<R> {
 
     /// Gives out the answers that are there, by the numbers of their asks.
     fn answer_all(&mut self, context: Context<'_>, outputs: &mut Vec<Output>) -> Result<(), Memory>
-        requires { Serves self.old.core (rows_of self.old.table) }
+        requires { IsServing self.old }
         ensures works { OnOk result (Works context.entry.when self.old.core self.new.core outputs.old.items outputs.new.items) }
-        ensures kept { OnOk result (Serves self.new.core (rows_of self.new.table)) }
+        ensures kept { OnOk result (IsServing self.new) }
         ensures marked { shown_at_mark self.new.table ≡ shown_at_mark self.old.table }
         ensures core_mark { self.new.core.marked ≡ self.old.core.marked }
-        ensures continues { OnOk result ((c : ℕ) → TellsToGoOn c self.old.core.entries (inlets_of self.old.table) outputs.old.items self.new.core.entries (rows_of self.new.table) (inlets_of self.new.table) outputs.new.items) }
-        ensures prompt { OnOk result (IsPrompt (rows_of self.old.table) (inlets_of self.old.table) → IsPrompt (rows_of self.new.table) (inlets_of self.new.table)) }
+        ensures continues { OnOk result ((c : ℕ) → Continues c self.old self.new outputs.old.items outputs.new.items) }
+        ensures prompt { OnOk result (HasAskedAll self.old → HasAskedAll self.new) }
         ensures quiet { OnOk result (self.old.core.answers ≡ [] → self.new.core.entries ≡ self.old.core.entries) }
-        ensures asks { OnOk result (AsksInOrder (Maps R.holds R.takes (rules_of (arc_value context.entry.settings.now))) self.old.core.entries (inlets_of self.old.table) self.new.core.entries (inlets_of self.new.table)) }
-        ensures settled { OnOk result (self.old.core.sends ≡ [] → Attended self.old.core (rows_of self.old.table) → Settled self.new.core) }
+        ensures asks { OnOk result (AsksEach (Maps R.holds R.takes (rules_in context.entry)) self.old self.new) }
+        ensures settled { OnOk result (self.old.core.sends ≡ [] → IsAttentive self.old → Settled self.new.core) }
     {
         'each: while let Some(number) = self.first_answered() {
             self.answer(context, number, outputs)?;
@@ -251,7 +249,7 @@ impl<R: Relation> Engine<R> {
     /// The connection that waits for the first of the asks whose answers are there.
     fn first_answered(&self) -> Option<u32>
         ensures some { IfSome result (IsFirstAnswered self.now.core (rows_of self.now.table)) }
-        ensures none { result ≡ None → Attended self.now.core (rows_of self.now.table) → self.now.core.answers ≡ [] }
+        ensures none { result ≡ None → IsAttentive self.now → self.now.core.answers ≡ [] }
     {
         let ask = self.core.first_answered()?;
         self.table.waiting_for(ask)
@@ -265,19 +263,19 @@ impl<R: Relation> Engine<R> {
         number: u32,
         outputs: &mut Vec<Output>,
     ) -> Result<(), Memory>
-        requires { Serves self.old.core (rows_of self.old.table) }
+        requires { IsServing self.old }
         ensures works { OnOk result (Works context.entry.when self.old.core self.new.core outputs.old.items outputs.new.items) }
-        ensures kept { OnOk result (Serves self.new.core (rows_of self.new.table)) }
+        ensures kept { OnOk result (IsServing self.new) }
         ensures marked { shown_at_mark self.new.table ≡ shown_at_mark self.old.table }
         ensures core_mark { self.new.core.marked ≡ self.old.core.marked }
-        ensures continues { OnOk result (TellsOne number self.old.core.entries (inlets_of self.old.table) outputs.old.items self.new.core.entries (rows_of self.new.table) (inlets_of self.new.table) outputs.new.items) }
-        ensures prompt { OnOk result (IsPromptOn number (rows_of self.new.table) (inlets_of self.new.table)) }
-        ensures apart { OnOk result (LeavesConnections number (rows_of self.old.table) (inlets_of self.old.table) (rows_of self.new.table) (inlets_of self.new.table)) }
-        ensures asks { OnOk result (AsksInOrder (Maps R.holds R.takes (rules_of (arc_value context.entry.settings.now))) self.old.core.entries (inlets_of self.old.table) self.new.core.entries (inlets_of self.new.table)) }
-        ensures leaves { OnOk result (LeavesOthers number self.old.core (rows_of self.old.table) self.new.core (rows_of self.new.table)) }
-        ensures told { OnOk result (IsServedOn number self.new.core (rows_of self.new.table)) }
+        ensures continues { OnOk result (ContinuesOne number self.old self.new outputs.old.items outputs.new.items) }
+        ensures prompt { OnOk result (HasAsked number self.new) }
+        ensures apart { OnOk result (LeavesOpen number self.old self.new) }
+        ensures asks { OnOk result (AsksEach (Maps R.holds R.takes (rules_in context.entry)) self.old self.new) }
+        ensures leaves { OnOk result (LeavesDue number self.old self.new) }
+        ensures told { OnOk result (HasServed number self.new) }
         ensures sent { OnOk result (self.old.core.sends ≡ [] → self.new.core.sends ≡ []) }
-        ensures attended { OnOk result (Attended self.old.core (rows_of self.old.table) → Attended self.new.core (rows_of self.new.table)) }
+        ensures attended { OnOk result (IsAttentive self.old → IsAttentive self.new) }
     {
         self.give(context, number, outputs)?;
         self.serve(context, number, outputs)
@@ -290,19 +288,19 @@ impl<R: Relation> Engine<R> {
         number: u32,
         outputs: &mut Vec<Output>,
     ) -> Result<(), Memory>
-        requires { Serves self.old.core (rows_of self.old.table) }
+        requires { IsServing self.old }
         ensures works { OnOk result (Works context.entry.when self.old.core self.new.core outputs.old.items outputs.new.items) }
-        ensures kept { OnOk result (Serves self.new.core (rows_of self.new.table)) }
+        ensures kept { OnOk result (IsServing self.new) }
         ensures marked { shown_at_mark self.new.table ≡ shown_at_mark self.old.table }
         ensures core_mark { self.new.core.marked ≡ self.old.core.marked }
-        ensures continues { OnOk result (TellsOne number self.old.core.entries (inlets_of self.old.table) outputs.old.items self.new.core.entries (rows_of self.new.table) (inlets_of self.new.table) outputs.new.items) }
-        ensures prompt { OnOk result (IsPromptOn number (rows_of self.new.table) (inlets_of self.new.table)) }
-        ensures apart { OnOk result (LeavesConnections number (rows_of self.old.table) (inlets_of self.old.table) (rows_of self.new.table) (inlets_of self.new.table)) }
-        ensures asks { OnOk result (AsksInOrder (Maps R.holds R.takes (rules_of (arc_value context.entry.settings.now))) self.old.core.entries (inlets_of self.old.table) self.new.core.entries (inlets_of self.new.table)) }
-        ensures leaves { OnOk result (LeavesOthers number self.old.core (rows_of self.old.table) self.new.core (rows_of self.new.table)) }
-        ensures told { OnOk result (IsServedOn number self.old.core (rows_of self.old.table) → IsServedOn number self.new.core (rows_of self.new.table)) }
+        ensures continues { OnOk result (ContinuesOne number self.old self.new outputs.old.items outputs.new.items) }
+        ensures prompt { OnOk result (HasAsked number self.new) }
+        ensures apart { OnOk result (LeavesOpen number self.old self.new) }
+        ensures asks { OnOk result (AsksEach (Maps R.holds R.takes (rules_in context.entry)) self.old self.new) }
+        ensures leaves { OnOk result (LeavesDue number self.old self.new) }
+        ensures told { OnOk result (HasServed number self.old → HasServed number self.new) }
         ensures sent { OnOk result (self.old.core.sends ≡ [] → self.new.core.sends ≡ []) }
-        ensures attended { OnOk result (Attended self.old.core (rows_of self.old.table) → Attended self.new.core (rows_of self.new.table)) }
+        ensures attended { OnOk result (IsAttentive self.old → IsAttentive self.new) }
     {
         'each: while self.serve_next(context, number, outputs)? {}
         Ok(())
@@ -315,21 +313,21 @@ impl<R: Relation> Engine<R> {
         number: u32,
         outputs: &mut Vec<Output>,
     ) -> Result<bool, Memory>
-        requires { Serves self.old.core (rows_of self.old.table) }
+        requires { IsServing self.old }
         ensures works { OnOk result (Works context.entry.when self.old.core self.new.core outputs.old.items outputs.new.items) }
-        ensures kept { OnOk result (Serves self.new.core (rows_of self.new.table)) }
+        ensures kept { OnOk result (IsServing self.new) }
         ensures marked { shown_at_mark self.new.table ≡ shown_at_mark self.old.table }
         ensures core_mark { self.new.core.marked ≡ self.old.core.marked }
-        ensures continues { OnOk result (TellsOne number self.old.core.entries (inlets_of self.old.table) outputs.old.items self.new.core.entries (rows_of self.new.table) (inlets_of self.new.table) outputs.new.items) }
+        ensures continues { OnOk result (ContinuesOne number self.old self.new outputs.old.items outputs.new.items) }
         ensures no_interim { IfOk result (λ more. more ≡ true → GivesFinal outputs.old.items outputs.new.items) }
         ensures less { IfOk result (λ more. more ≡ true → work_at number (inlets_of self.new.table) < work_at number (inlets_of self.old.table)) }
-        ensures prompt { IfOk result (λ more. more ≡ false → IsPromptOn number (rows_of self.new.table) (inlets_of self.new.table)) }
-        ensures apart { OnOk result (LeavesConnections number (rows_of self.old.table) (inlets_of self.old.table) (rows_of self.new.table) (inlets_of self.new.table)) }
-        ensures asks { OnOk result (AsksInOrder (Maps R.holds R.takes (rules_of (arc_value context.entry.settings.now))) self.old.core.entries (inlets_of self.old.table) self.new.core.entries (inlets_of self.new.table)) }
-        ensures leaves { OnOk result (LeavesOthers number self.old.core (rows_of self.old.table) self.new.core (rows_of self.new.table)) }
-        ensures told { OnOk result (IsServedOn number self.old.core (rows_of self.old.table) → IsServedOn number self.new.core (rows_of self.new.table)) }
+        ensures prompt { IfOk result (λ more. more ≡ false → HasAsked number self.new) }
+        ensures apart { OnOk result (LeavesOpen number self.old self.new) }
+        ensures asks { OnOk result (AsksEach (Maps R.holds R.takes (rules_in context.entry)) self.old self.new) }
+        ensures leaves { OnOk result (LeavesDue number self.old self.new) }
+        ensures told { OnOk result (HasServed number self.old → HasServed number self.new) }
         ensures sent { OnOk result (self.old.core.sends ≡ [] → self.new.core.sends ≡ []) }
-        ensures attended { OnOk result (Attended self.old.core (rows_of self.old.table) → Attended self.new.core (rows_of self.new.table)) }
+        ensures attended { OnOk result (IsAttentive self.old → IsAttentive self.new) }
     {
         match self.table.next(number)? {
             Next::Request(incoming) => {
@@ -353,19 +351,19 @@ impl<R: Relation> Engine<R> {
         incoming: Incoming,
         outputs: &mut Vec<Output>,
     ) -> Result<(), Memory>
-        requires served { Serves self.old.core (rows_of self.old.table) }
+        requires served { IsServing self.old }
         requires idle { IsRow (rows_of self.old.table) number None }
         ensures works { OnOk result (Works context.entry.when self.old.core self.new.core outputs.old.items outputs.new.items) }
-        ensures kept { OnOk result (Serves self.new.core (rows_of self.new.table)) }
+        ensures kept { OnOk result (IsServing self.new) }
         ensures marked { shown_at_mark self.new.table ≡ shown_at_mark self.old.table }
         ensures core_mark { self.new.core.marked ≡ self.old.core.marked }
         ensures no_interim { OnOk result (GivesFinal outputs.old.items outputs.new.items) }
-        ensures apart { OnOk result (LeavesConnections number (rows_of self.old.table) (inlets_of self.old.table) (rows_of self.new.table) (inlets_of self.new.table)) }
-        ensures asks { OnOk result (AsksOne (Maps R.holds R.takes (rules_of (arc_value context.entry.settings.now))) (item incoming) number self.old.core.entries (inlets_of self.old.table) self.new.core.entries (inlets_of self.new.table)) }
-        ensures leaves { OnOk result (LeavesOthers number self.old.core (rows_of self.old.table) self.new.core (rows_of self.new.table)) }
-        ensures told { OnOk result (IsServedOn number self.new.core (rows_of self.new.table)) }
+        ensures apart { OnOk result (LeavesOpen number self.old self.new) }
+        ensures asks { OnOk result (AsksItem (Maps R.holds R.takes (rules_in context.entry)) (item incoming) number self.old self.new) }
+        ensures leaves { OnOk result (LeavesDue number self.old self.new) }
+        ensures told { OnOk result (HasServed number self.new) }
         ensures sent { OnOk result (self.old.core.sends ≡ [] → self.new.core.sends ≡ []) }
-        ensures attended { OnOk result (Attended self.old.core (rows_of self.old.table) → Attended self.new.core (rows_of self.new.table)) }
+        ensures attended { OnOk result (IsAttentive self.old → IsAttentive self.new) }
     {
         let mapped = map_request(self.alloc, context.settings, incoming)?;
         let mapped = Arc::new(self.alloc, mapped)?;
@@ -390,18 +388,18 @@ impl<R: Relation> Engine<R> {
         number: u32,
         outputs: &mut Vec<Output>,
     ) -> Result<(), Memory>
-        requires { Serves self.old.core (rows_of self.old.table) }
+        requires { IsServing self.old }
         ensures works { OnOk result (Works context.entry.when self.old.core self.new.core outputs.old.items outputs.new.items) }
-        ensures kept { OnOk result (Serves self.new.core (rows_of self.new.table)) }
+        ensures kept { OnOk result (IsServing self.new) }
         ensures marked { shown_at_mark self.new.table ≡ shown_at_mark self.old.table }
         ensures core_mark { self.new.core.marked ≡ self.old.core.marked }
         ensures no_interim { OnOk result (GivesFinal outputs.old.items outputs.new.items) }
-        ensures apart { OnOk result (LeavesConnections number (rows_of self.old.table) (inlets_of self.old.table) (rows_of self.new.table) (inlets_of self.new.table)) }
-        ensures asks { OnOk result (AsksNone number self.old.core.entries (inlets_of self.old.table) self.new.core.entries (inlets_of self.new.table)) }
-        ensures leaves { OnOk result (LeavesOthers number self.old.core (rows_of self.old.table) self.new.core (rows_of self.new.table)) }
-        ensures told { OnOk result (IsServedOn number self.new.core (rows_of self.new.table)) }
+        ensures apart { OnOk result (LeavesOpen number self.old self.new) }
+        ensures asks { OnOk result (AsksNoItem number self.old self.new) }
+        ensures leaves { OnOk result (LeavesDue number self.old self.new) }
+        ensures told { OnOk result (HasServed number self.new) }
         ensures sent { OnOk result (self.old.core.sends ≡ [] → self.new.core.sends ≡ []) }
-        ensures attended { OnOk result (Attended self.old.core (rows_of self.old.table) → Attended self.new.core (rows_of self.new.table)) }
+        ensures attended { OnOk result (IsAttentive self.old → IsAttentive self.new) }
     {
         let Some(ticket) = self.table.ticket(number) else {
             return Ok(());
@@ -427,19 +425,19 @@ impl<R: Relation> Engine<R> {
         number: u32,
         outputs: &mut Vec<Output>,
     ) -> Result<(), Memory>
-        requires { Serves self.old.core (rows_of self.old.table) }
+        requires { IsServing self.old }
         ensures works { OnOk result (IsDone self.old.core number → Works context.entry.when self.old.core self.new.core outputs.old.items outputs.new.items) }
-        ensures kept { OnOk result (Serves self.new.core (rows_of self.new.table)) }
+        ensures kept { OnOk result (IsServing self.new) }
         ensures marked { shown_at_mark self.new.table ≡ shown_at_mark self.old.table }
         ensures core_mark { self.new.core.marked ≡ self.old.core.marked }
         ensures no_interim { OnOk result (GivesFinal outputs.old.items outputs.new.items) }
-        ensures apart { OnOk result (LeavesConnections number (rows_of self.old.table) (inlets_of self.old.table) (rows_of self.new.table) (inlets_of self.new.table)) }
-        ensures asks { OnOk result (AsksNone number self.old.core.entries (inlets_of self.old.table) self.new.core.entries (inlets_of self.new.table)) }
+        ensures apart { OnOk result (LeavesOpen number self.old self.new) }
+        ensures asks { OnOk result (AsksNoItem number self.old self.new) }
         ensures gone { OnOk result (IsGone (inlets_of self.new.table) number) }
-        ensures leaves { OnOk result (LeavesOthers number self.old.core (rows_of self.old.table) self.new.core (rows_of self.new.table)) }
-        ensures told { OnOk result (IsServedOn number self.new.core (rows_of self.new.table)) }
+        ensures leaves { OnOk result (LeavesDue number self.old self.new) }
+        ensures told { OnOk result (HasServed number self.new) }
         ensures sent { OnOk result (self.old.core.sends ≡ [] → self.new.core.sends ≡ []) }
-        ensures attended { OnOk result (IsServedOn number self.old.core (rows_of self.old.table) → Attended self.old.core (rows_of self.old.table) → Attended self.new.core (rows_of self.new.table)) }
+        ensures attended { OnOk result (HasServed number self.old → IsAttentive self.old → IsAttentive self.new) }
     {
         if self.close(context, number) {
             tell_closed(number, outputs)

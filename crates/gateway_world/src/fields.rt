@@ -1,6 +1,6 @@
 //! The fields of answers, each added where its rule says so.
 
-ghost use Rattle.std.specs.Prelude.{◌≡◌, ◌++◌, [], map, codes, decimal, string_bytes, OnOk};
+ghost use Rattle.std.specs.Prelude.{◌≡◌, ◌++◌, map, codes, decimal, string_bytes, OnOk};
 ghost use Rattle.std.specs.Str.{is_utf8};
 ghost use Rattle.gateway_world.specs.Means.{pair_of, only, content_type, cache_control, entity_tag, value_if, retry_after, connection, content_length, closes as closing, seconds_left as left_of};
 ghost use Rattle.ask_model.specs.Causes.{cause_text};

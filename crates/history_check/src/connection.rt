@@ -1,8 +1,8 @@
 //! What the history says of a connection.
 
-ghost use Rattle.std.specs.Prelude.{◌≡◌, length, slice_get, IfOk};
+ghost use Rattle.std.specs.Prelude.{◌≡◌, slice_get, IfOk};
 ghost use Rattle.journal_book.specs.Views.{event_of};
-ghost use Rattle.history_laws.specs.Connections.{open_by, is_open, asks_of, answers_of, sealed_by, is_sealed, opened};
+ghost use Rattle.history_laws.specs.Connections.{open_by, is_open, sealed_by, is_sealed, opened};
 ghost use Rattle.history_check.specs.Views.{history};
 ghost use Rattle.history_check.specs.Mirrors.{opens, is_ask_of, is_answer_of, IsConnection};
 

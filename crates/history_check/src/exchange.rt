@@ -1,11 +1,11 @@
 //! What the history says of an exchange.
 
-ghost use Rattle.std.specs.Prelude.{◌≡◌, ◌++◌, ◌∷◌, ◌==◌, [], length, map, is_some, is_none, option_map, List, Option, IfOk};
+ghost use Rattle.std.specs.Prelude.{◌≡◌, ◌++◌, ◌∷◌, ◌==◌, [], length, is_some, is_none, option_map, List, Option, IfOk};
 ghost use Rattle.coap_codec.specs.Spelling.{content};
 ghost use Rattle.journal_book.specs.Views.{event_of};
-ghost use Rattle.history_laws.specs.Exchanges.{Begun, Reply, opened_by, openings, messages, replied_end, end_here, open_exchanges, sent_by};
-ghost use Rattle.history_check.specs.Views.{note_of, history, noted_of};
-ghost use Rattle.history_check.specs.Mirrors.{sending_of, turn_of, end_value, ending_of, late_since, since_by, is_replied, is_opening, IsExchange};
+ghost use Rattle.history_laws.specs.Exchanges.{Begun, Reply, openings, messages, replied_end, end_here, open_exchanges, sent_by};
+ghost use Rattle.history_check.specs.Views.{note_of, history};
+ghost use Rattle.history_check.specs.Mirrors.{turn_of, end_value, ending_of, late_since, since_by, is_replied, is_opening, IsExchange};
 
 use crate::note::Note;
 use crate::parts::{counted, push_if};

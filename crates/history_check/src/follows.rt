@@ -3,7 +3,7 @@
 ghost use Rattle.std.specs.Prelude.{◌≡◌, ◌↔◌, false, sum_by, IfOk, IsTrue};
 ghost use Rattle.ask_model.specs.Sizes.{capped};
 ghost use Rattle.journal_book.specs.Entries.{entry_size};
-ghost use Rattle.journal_book.specs.Views.{event_of, grounds_of};
+ghost use Rattle.journal_book.specs.Views.{grounds_of};
 ghost use Rattle.history_laws.specs.Readings.{entries};
 ghost use Rattle.history_laws.specs.Connections.{is_sealed, opened};
 ghost use Rattle.history_laws.specs.Limits.{MaySeal};

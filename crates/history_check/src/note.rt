@@ -1,8 +1,8 @@
 //! Notes: what a reading says of entries.
 
-ghost use Rattle.std.specs.Prelude.{◌≡◌, ◌↔◌, IfOk, IsTrue};
+ghost use Rattle.std.specs.Prelude.{◌↔◌, IsTrue};
 ghost use Rattle.history_laws.specs.Justified.{IsPlain};
-ghost use Rattle.history_check.specs.Views.{request_of, note_of};
+ghost use Rattle.history_check.specs.Views.{note_of};
 
 use ask_model::Bytes;
 use coap_codec::Message;

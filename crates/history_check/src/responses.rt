@@ -4,7 +4,7 @@ ghost use Rattle.std.specs.Prelude.{◌≡◌, ◌%◌, ◌&&◌, not, [], map, 
 ghost use Rattle.std.specs.List.{list_all};
 ghost use Rattle.coap_codec.specs.Values.{uint};
 ghost use Rattle.coap_codec.specs.Options.{is_critical_number, is_unsafe_number};
-ghost use Rattle.coap_codec.specs.Spelling.{Entry, entry, entries, content};
+ghost use Rattle.coap_codec.specs.Spelling.{entry, entries, content};
 ghost use Rattle.history_laws.specs.Responses.{is_reserved_block, is_defined, may_repeat, strays, is_processable, is_forwardable, is_rejected, is_final, value_of, says_more};
 ghost use Rattle.history_check.specs.Mirrors.{is_recognised, is_whole, is_block2, number_of, value_in};
 

@@ -1,9 +1,9 @@
 //! Which sendings may follow.
 
-ghost use Rattle.std.specs.Prelude.{◌≡◌, ◌≤◌, ◌++◌, ◌↔◌, ◌∷◌, [], ℕ, false, length, Some, None, IfOk, OnOk, IsTrue, map, option_map};
+ghost use Rattle.std.specs.Prelude.{◌≡◌, ◌≤◌, ◌++◌, ◌↔◌, ◌∷◌, [], ℕ, false, length, Some, None, IfOk, OnOk, IsTrue};
 ghost use Rattle.coap_codec.specs.Spelling.{content, entries};
 ghost use Rattle.uri_map.specs.Limits.{host_options, option_with, options_with};
-ghost use Rattle.ask_model.specs.Requests.{optional, request_options, request_message, uint_bytes};
+ghost use Rattle.ask_model.specs.Requests.{optional, request_options, request_message};
 ghost use Rattle.journal_book.specs.Views.{event_of};
 ghost use Rattle.history_laws.specs.Justified.{MayBeFirst, SentNote};
 ghost use Rattle.history_check.specs.Views.{request_of, note_of, history};

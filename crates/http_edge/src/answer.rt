@@ -1,6 +1,6 @@
 //! The bytes of an answer (RFC 9112, sections 4 to 6).
 
-ghost use Rattle.std.specs.Prelude.{◌≡◌, ◌<◌, ◌++◌, length, OnOk, IfOk};
+ghost use Rattle.std.specs.Prelude.{◌≡◌, ◌<◌, ◌++◌, OnOk, IfOk};
 ghost use Rattle.http_edge.specs.Answers.{answer_text, body_bytes, digits_of, field_line, status_line};
 ghost use Rattle.std.specs.List.{flat_map};
 

@@ -1,6 +1,6 @@
 //! A body, as its bytes come in (RFC 9112, sections 6 and 7.1).
 
-ghost use Rattle.std.specs.Prelude.{◌≡◌, ◌≤◌, ◌<◌, ◌-◌, ◌+◌, ◌++◌, ℕ, List, take, drop, min, length, IsTrue, ◌↔◌, Ok, IfOk, OnOk, OnErr};
+ghost use Rattle.std.specs.Prelude.{◌≡◌, ◌≤◌, ◌<◌, ◌-◌, ◌+◌, ◌++◌, ℕ, List, take, drop, min, length, IsTrue, ◌↔◌, Ok, IfOk, OnErr};
 ghost use Rattle.http_edge.specs.declared.framing.Framing.{Framing};
 ghost use Rattle.http_edge.specs.declared.body.Left.TheVariants.{Bytes, Line, Data, Trailers};
 ghost use Rattle.http_edge.specs.declared.body.Next.TheVariants.{On};

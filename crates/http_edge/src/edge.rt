@@ -1,6 +1,6 @@
 //! A connection's bytes, read as requests.
 
-ghost use Rattle.std.specs.Prelude.{◌≡◌, ◌≤◌, ◌<◌, ◌+◌, ◌-◌, ◌*◌, ◌++◌, ◌⊎◌, ℕ, List, [], take, drop, length, min, IfOk, IfSome, OnErr, IsSome, IsTrue, ◌↔◌, ◌||◌, false, true, Ok, None};
+ghost use Rattle.std.specs.Prelude.{◌≡◌, ◌≤◌, ◌<◌, ◌+◌, ◌-◌, ◌*◌, ◌++◌, ℕ, List, [], take, length, min, IfOk, IfSome, OnErr, IsSome, IsTrue, ◌↔◌, ◌||◌, false, true, Ok, None};
 
 use crate::begun::Begun;
 use crate::body::{Fill, fill_body};

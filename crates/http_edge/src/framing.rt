@@ -1,6 +1,6 @@
 //! How a body is framed, and which heads are refused (RFC 9112, sections 3.2 and 6).
 
-ghost use Rattle.std.specs.Prelude.{◌≡◌, ◌≢◌, ◌≤◌, ℕ, List, length, All, map};
+ghost use Rattle.std.specs.Prelude.{◌≡◌, ℕ, List, length, All, map};
 ghost use Rattle.httparse.specs.Spans.{IsHeaderWithin, header_bytes};
 ghost use Rattle.http_edge.specs.Lists.{named};
 ghost use Rattle.http_edge.specs.Lists as spec;

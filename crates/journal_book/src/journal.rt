@@ -1,6 +1,6 @@
 //! A list of entries, to which more are added at its end.
 
-ghost use Rattle.std.specs.Prelude.{◌≡◌, ◌≤◌, ◌<◌, ◌+◌, ◌==◌, ◌∷◌, ◌++◌, [], Some, length, map, MatchOption, IfOk, OnOk, OnErr, slice_get, take};
+ghost use Rattle.std.specs.Prelude.{◌≡◌, ◌≤◌, ◌<◌, ◌+◌, ◌==◌, ◌∷◌, ◌++◌, [], Some, length, map, MatchOption, IfOk, OnOk, slice_get, take};
 ghost use Rattle.journal_book.specs.Views.{item_of};
 
 use crate::entry::Entry;

@@ -1,6 +1,6 @@
 //! Lists that go back.
 
-ghost use Rattle.std.specs.Prelude.{◌≡◌, ◌≤◌, ◌∷◌, [], None, IfSome};
+ghost use Rattle.std.specs.Prelude.{◌≡◌, ◌≤◌, ◌∷◌, [], IfSome};
 
 use crate::MarkedList;
 use std::alloc::Global;

@@ -2,7 +2,7 @@
 
 ghost use Rattle.std.specs.Prelude.{◌≡◌, ◌≢◌, IfOk, IfErr, IsErrOf, Ok, Err, Some, false};
 ghost use Rattle.std.specs.Option.{option_map};
-ghost use Rattle.media_map.specs.Texts.{pieces, behind};
+ghost use Rattle.media_map.specs.Texts.{pieces};
 ghost use Rattle.media_map.specs.Accepting.{element_at, is_range as range, choice_of, accept_at};
 ghost use Rattle.media_map.specs.Views.{named_of};
 ghost use Rattle.media_map.specs.Tallying.{element_of, choice_by, seen_by, chosen, with_element, with_piece, seen_from, nothing, told, answered};

@@ -1,7 +1,6 @@
 //! The calls that neither send nor hear: forgetting, expecting, giving out and copying.
 
 ghost use Rattle.std.specs.Prelude.{◌≡◌, filter, IfOk, OnOk, OnErr, IsOk, false};
-ghost use Rattle.std.specs.Option.{option_map};
 ghost use Rattle.message_layer.specs.Values.{seen};
 ghost use Rattle.message_layer.specs.Calls.{waits_not_under, forgotten, is_other, expected, sent_out};
 

@@ -1,6 +1,6 @@
 //! Whether a response can be used.
 
-ghost use Rattle.std.specs.Prelude.{◌≡◌, ◌==◌, ◌||◌, count_by, length};
+ghost use Rattle.std.specs.Prelude.{◌≡◌, ◌==◌, ◌||◌, count_by};
 ghost use Rattle.std.specs.List.{list_any};
 ghost use Rattle.coap_codec.specs.Spelling.{content, entry, entries};
 ghost use Rattle.coap_codec.specs.Options.{definition_of};

@@ -1,9 +1,7 @@
 //! Addresses in brackets, and ports (RFC 3986, section 3.2).
 
-ghost use Rattle.std.specs.Prelude.{◌≡◌, ◌<◌, ◌^◌, length};
+ghost use Rattle.std.specs.Prelude.{◌≡◌, ◌<◌, length};
 ghost use Rattle.std.specs.Option.{option_map};
-ghost use Rattle.std.specs.Str.{all_ascii_digits};
-ghost use Rattle.std.specs.Str.Parse.{digits_value};
 ghost use Rattle.uri_map.specs.Steps.{option_view};
 ghost use Rattle.uri_map.specs.Authority as spec;
 ghost use Rattle.uri_map.specs.Peers.{plain_at};

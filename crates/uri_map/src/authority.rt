@@ -1,6 +1,6 @@
 //! Authorities: a host and a port (RFC 3986, section 3.2).
 
-ghost use Rattle.std.specs.Prelude.{◌≡◌, ◌≤◌, length, IfSome, IsUtf8};
+ghost use Rattle.std.specs.Prelude.{◌≡◌, ◌≤◌, length, IsUtf8};
 ghost use Rattle.uri_map.specs.Steps.{Reads};
 ghost use Rattle.uri_map.specs.Authority as spec;
 ghost use Rattle.uri_map.specs.Scanning.{host_view, NameFound};

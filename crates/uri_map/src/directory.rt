@@ -25,7 +25,6 @@ pub struct Directory {
 }
 
 impl Model for Directory {
-    ghost use Rattle.std.specs.Prelude.{map};
     ghost use Rattle.uri_map.specs.Peers.{Lines};
 
     ghost Value = { Lines };

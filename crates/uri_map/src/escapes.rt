@@ -1,8 +1,8 @@
 //! Escapes in paths and queries (RFC 3986, section 2.1), looked at where they stand.
 
-ghost use Rattle.std.specs.Prelude.{◌≡◌, ◌<◌, [], ◌∷◌, length, true, false, MatchOption, IsOk};
+ghost use Rattle.std.specs.Prelude.{◌≡◌, ◌<◌, [], ◌∷◌, length, true, false, MatchOption};
 ghost use Rattle.percent_encoding.specs.Percent.{percent_decode as decoded};
-ghost use Rattle.uri_map.specs.Steps.{Reads, option_view};
+ghost use Rattle.uri_map.specs.Steps.{option_view};
 ghost use Rattle.uri_map.specs.Splitting.{pieces};
 ghost use Rattle.uri_map.specs.Escapes as spec;
 ghost use Rattle.uri_map.specs.Limits as limits;

@@ -1,6 +1,6 @@
 //! The text under which the proxy hosts a target (RFC 8075, section 5.3).
 
-ghost use Rattle.std.specs.Prelude.{◌≡◌, ◌<◌, ◌∷◌, [], ◌++◌, IfOk, OnOk, codes, flat_map};
+ghost use Rattle.std.specs.Prelude.{◌≡◌, ◌<◌, ◌++◌, IfOk, OnOk, codes, flat_map};
 ghost use Rattle.std.specs.Char.{digit_char};
 ghost use Rattle.std.specs.Net.Text.{groups_text, hex};
 ghost use Rattle.percent_encoding.specs.Percent.{percent_encode as encoded};

@@ -1,6 +1,6 @@
 //! The limits of the options of one request: 255 bytes a value, 960 bytes in all.
 
-ghost use Rattle.std.specs.Prelude.{◌≡◌, ◌≤◌, length, IfOk};
+ghost use Rattle.std.specs.Prelude.{◌≡◌, ◌≤◌, IfOk};
 ghost use Rattle.uri_map.specs.Steps.{option_view};
 ghost use Rattle.uri_map.specs.Limits as limits;
 ghost use Rattle.uri_map.specs.Splitting.{pieces};

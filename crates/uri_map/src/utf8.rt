@@ -1,6 +1,6 @@
 //! Whether escaped bytes are UTF-8 (RFC 3629), without decoding them into memory.
 
-ghost use Rattle.std.specs.Prelude.{◌≡◌, ◌≤◌, ◌∷◌, length, take, drop, true, false, IsUtf8, MatchBool};
+ghost use Rattle.std.specs.Prelude.{◌≡◌, ◌∷◌, take, drop, true, false, IsUtf8};
 ghost use Rattle.std.specs.Str.{is_utf8 as utf8, continuation_len};
 ghost use Rattle.percent_encoding.specs.Percent.{percent_decode as decoded};
 ghost use Rattle.percent_encoding.specs.Iter.{decoded_bytes};
