@@ -34,8 +34,8 @@ fn printed(alloc: Global, script: &str) -> Result<Vec<u8>, ReplayFault> {
 
 fn fault_of(fault: LineFault) -> ReplayFault {
     match fault {
-        LineFault::Form => ReplayFault::Line(0),
         LineFault::Memory => ReplayFault::Memory,
+        _ => ReplayFault::Line(0),
     }
 }
 

@@ -37,6 +37,36 @@ impl fmt::Display for ReplayFault {
     }
 }
 
+/// What more can be said of a fault.
+#[derive(Clone, Copy, Debug, PartialEq, Eq)]
+pub enum Reason {
+    /// The line is no input.
+    Line(LineFault),
+    /// The script ends within the line.
+    Unended,
+    /// The line brings more bytes than may wait.
+    Backlog,
+    /// The script can't be read.
+    Input,
+    /// What comes out can't be written.
+    Output,
+}
+
+impl fmt::Display for Reason {
+    fn fmt<W: fmt::Write>(&self, f: &mut fmt::Formatter<W>) -> fmt::Result {
+        match self {
+            Reason::Line(fault) => write!(f, "{fault}"),
+            Reason::Unended => write!(f, "the last line has no line end"),
+            Reason::Backlog => write!(
+                f,
+                "more than 1048576 bytes would wait unread on the connection"
+            ),
+            Reason::Input => write!(f, "standard input can't be read to its end"),
+            Reason::Output => write!(f, "standard output can't be written"),
+        }
+    }
+}
+
 impl From<AllocError> for ReplayFault {
     fn from(_e: AllocError) -> ReplayFault {
         ReplayFault::Memory
@@ -58,6 +88,8 @@ pub struct Script {
     line: Vec<u8>,
     /// How many lines were begun and ended.
     lines: u64,
+    /// What more can be said of the fault that ended the run.
+    reason: Option<Reason>,
 }
 
 impl Script {
@@ -68,12 +100,24 @@ impl Script {
             world: World::new(alloc, settings).map_err(|_| ReplayFault::Memory)?,
             line: Vec::new(alloc),
             lines: 0,
+            reason: None,
         })
     }
 
     /// What happened.
     pub fn journal(&self) -> &Journal<Unchanged> {
         self.world.journal()
+    }
+
+    /// What more can be said of the fault that ended the run.
+    pub fn reason(&self) -> Option<Reason> {
+        self.reason
+    }
+
+    /// Refuses the line of that number.
+    fn refuse(&mut self, line: u64, reason: Reason) -> ReplayFault {
+        self.reason = Some(reason);
+        ReplayFault::Line(line)
     }
 
     /// Runs the lines that end within the bytes, and keeps the one that is begun.
@@ -99,12 +143,12 @@ impl Script {
         }
         let line = match line_of(self.alloc, &self.line) {
             Ok(line) => line,
-            Err(LineFault::Form) => return Err(ReplayFault::Line(self.lines)),
             Err(LineFault::Memory) => return Err(ReplayFault::Memory),
+            Err(fault) => return Err(self.refuse(self.lines, Reason::Line(fault))),
         };
         let outputs = match self.world.input(line.input()) {
             Ok(outputs) => outputs,
-            Err(WorldFault::Backlog) => return Err(ReplayFault::Line(self.lines)),
+            Err(WorldFault::Backlog) => return Err(self.refuse(self.lines, Reason::Backlog)),
             Err(WorldFault::Memory) => return Err(ReplayFault::Memory),
         };
         for output in &outputs {
@@ -114,11 +158,11 @@ impl Script {
     }
 
     /// Refuses a line that has no end.
-    fn end(&self) -> Result<(), ReplayFault> {
+    fn end(&mut self) -> Result<(), ReplayFault> {
         if self.line.is_empty() {
             Ok(())
         } else {
-            Err(ReplayFault::Line(self.lines.saturating_add(1)))
+            Err(self.refuse(self.lines.saturating_add(1), Reason::Unended))
         }
     }
 
@@ -132,29 +176,50 @@ impl Script {
         }
         Ok(())
     }
-}
 
-/// Reads the script to its end and runs it line by line.
-pub fn run_lines<R: Read, W: Write>(
-    run: &mut Script,
-    reader: &mut R,
-    writer: &mut W,
-) -> Result<(), ReplayFault> {
-    let mut chunk = vec![in run.alloc; 0u8; CHUNK]?;
-    for _ in 0..READS {
-        match reader.read(&mut chunk) {
-            Ok(0) => return run.end(),
-            Ok(n) => run.take(&chunk[..n], writer)?,
-            Err(e) if e.kind() == ErrorKind::Interrupted => {}
-            Err(_) => return Err(ReplayFault::Device),
+    /// Reads the script to its end and runs it line by line.
+    fn read<R: Read, W: Write>(
+        &mut self,
+        reader: &mut R,
+        writer: &mut W,
+    ) -> Result<(), ReplayFault> {
+        let mut chunk = vec![in self.alloc; 0u8; CHUNK]?;
+        for _ in 0..READS {
+            match reader.read(&mut chunk) {
+                Ok(0) => return self.end(),
+                Ok(n) => self.take(&chunk[..n], writer)?,
+                Err(e) if e.kind() == ErrorKind::Interrupted => {}
+                Err(_) => break,
+            }
         }
+        self.reason = Some(Reason::Input);
+        Err(ReplayFault::Device)
     }
-    Err(ReplayFault::Device)
+
+    /// Reads a script, runs it, and writes the outputs and, where asked for, the entries of the journal
+    /// after them. The first fault met in reading order ends it; what the lines before it gave is
+    /// written.
+    pub fn run<R: Read, W: Write>(
+        &mut self,
+        reader: &mut R,
+        writer: &mut W,
+        journal: bool,
+    ) -> Result<(), ReplayFault> {
+        let mut outcome = self.read(reader, writer);
+        if journal && outcome.is_ok() {
+            outcome = self.write_journal(writer);
+        }
+        if writer.flush().is_err() && outcome.is_ok() {
+            outcome = Err(ReplayFault::Device);
+        }
+        if outcome == Err(ReplayFault::Device) && self.reason.is_none() {
+            self.reason = Some(Reason::Output);
+        }
+        outcome
+    }
 }
 
-/// Reads a script, runs it under the settings, and writes the outputs and, where asked for, the
-/// entries of the journal behind them. The first fault met in reading order ends it; what the lines
-/// before it gave is written.
+/// Runs a script under the settings, as `Script::run` does.
 pub fn replay<R: Read, W: Write>(
     alloc: Global,
     settings: Settings,
@@ -162,13 +227,5 @@ pub fn replay<R: Read, W: Write>(
     writer: &mut W,
     journal: bool,
 ) -> Result<(), ReplayFault> {
-    let mut run = Script::new(alloc, settings)?;
-    let mut outcome = run_lines(&mut run, reader, writer);
-    if journal && outcome.is_ok() {
-        outcome = run.write_journal(writer);
-    }
-    if writer.flush().is_err() && outcome.is_ok() {
-        outcome = Err(ReplayFault::Device);
-    }
-    outcome
+    Script::new(alloc, settings)?.run(reader, writer, journal)
 }

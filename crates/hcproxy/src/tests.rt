@@ -1,7 +1,9 @@
 //! Scripts run over memory.
 
-use crate::replay::{ReplayFault, replay};
+use crate::replay::{Reason, ReplayFault, Script, replay};
+use crate::script::LineFault;
 use crate::settings::demonstration;
+use crate::{Command, Hint, command_of};
 use std::alloc::Global;
 use std::io::{self, ErrorKind, Read, Write};
 use std::test::Fail;
@@ -207,5 +209,49 @@ fn failed_devices_are_told(rt: HostRuntime) -> Result<(), Fail> {
     };
     let ended = replay(alloc, demonstration(alloc)?, &mut reader, &mut Full, true);
     assert_eq!(rt; ended, Err(ReplayFault::Device));
+    Ok(())
+}
+
+#[test]
+fn words_ask_for_a_command(rt: HostRuntime) -> Result<(), Fail> {
+    let alloc = rt.alloc();
+    for (line, asked) in [
+        ("replay", Ok(Command::Replay { journal: false })),
+        ("replay --journal", Ok(Command::Replay { journal: true })),
+        ("replay --help", Ok(Command::Help)),
+        ("--version", Ok(Command::Version)),
+        ("serve", Err(Hint::StillToCome)),
+        ("replay --journal --journal", Err(Hint::SeeHelp)),
+        ("--journal replay", Err(Hint::SeeHelp)),
+        ("reply", Err(Hint::SeeHelp)),
+    ] {
+        let mut words = Vec::new(alloc);
+        for word in line.split(' ') {
+            words.push(String::from_str(alloc, word)?)?;
+        }
+        assert_eq!(rt; command_of(&words), asked, "{line}");
+    }
+    Ok(())
+}
+
+#[test]
+fn a_refused_line_has_a_reason(rt: HostRuntime) -> Result<(), Fail> {
+    let alloc = rt.alloc();
+    for (text, reason) in [
+        ("0 0 open", Reason::Unended),
+        ("0 0 opne\n", Reason::Line(LineFault::Form)),
+        ("0 0 open\r\n", Reason::Line(LineFault::CarriageReturn)),
+        ("0 -1 open\n", Reason::Line(LineFault::Number)),
+        ("0 0 close x\n", Reason::Line(LineFault::Number)),
+        ("0 0 datagram a:1 00\n", Reason::Line(LineFault::Peer)),
+        ("0 0 bytes 0 4A\n", Reason::Line(LineFault::Hex)),
+        ("0 0 bytes 0 4\n", Reason::Line(LineFault::Hex)),
+    ] {
+        let mut script = Script::new(alloc, demonstration(alloc)?)?;
+        let mut out = Vec::new(alloc);
+        let ended = script.run(&mut text.as_bytes(), &mut out, true);
+        assert_eq!(rt; ended, Err(ReplayFault::Line(1)));
+        assert_eq!(rt; script.reason(), Some(reason), "{text}");
+    }
     Ok(())
 }
