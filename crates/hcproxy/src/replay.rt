@@ -196,9 +196,9 @@ impl Script {
         Err(ReplayFault::Device)
     }
 
-    /// Reads a script, runs it, and writes the outputs and, where asked for, the entries of the journal
-    /// after them. The first fault met in reading order ends it; what the lines before it gave is
-    /// written.
+    /// Reads a script, runs it, and writes the outputs and, where asked for, the entries of the
+    /// journal after them. The first fault met in reading order ends it; what the lines before it
+    /// gave is written.
     pub fn run<R: Read, W: Write>(
         &mut self,
         reader: &mut R,

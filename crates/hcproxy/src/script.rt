@@ -28,7 +28,7 @@ impl fmt::Display for LineFault {
         match self {
             LineFault::Form => write!(
                 f,
-                "a line is MOMENT WORD and open, bytes CONN HEX, datagram PEER HEX, tick or close CONN"
+                "a line is MOMENT WORD open|tick|bytes CONN HEX|datagram PEER HEX|close CONN"
             ),
             LineFault::CarriageReturn => write!(f, "lines end by LF, and this one by CR and LF"),
             LineFault::Number => write!(
