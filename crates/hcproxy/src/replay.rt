@@ -177,25 +177,6 @@ impl Script {
         Ok(())
     }
 
-    /// Reads the script to its end and runs it line by line.
-    fn read<R: Read, W: Write>(
-        &mut self,
-        reader: &mut R,
-        writer: &mut W,
-    ) -> Result<(), ReplayFault> {
-        let mut chunk = vec![in self.alloc; 0u8; CHUNK]?;
-        for _ in 0..READS {
-            match reader.read(&mut chunk) {
-                Ok(0) => return self.end(),
-                Ok(n) => self.take(&chunk[..n], writer)?,
-                Err(e) if e.kind() == ErrorKind::Interrupted => {}
-                Err(_) => break,
-            }
-        }
-        self.reason = Some(Reason::Input);
-        Err(ReplayFault::Device)
-    }
-
     /// Reads a script, runs it, and writes the outputs and, where asked for, the entries of the
     /// journal after them. The first fault met in reading order ends it; what the lines before it
     /// gave is written.
@@ -205,7 +186,7 @@ impl Script {
         writer: &mut W,
         journal: bool,
     ) -> Result<(), ReplayFault> {
-        let mut outcome = self.read(reader, writer);
+        let mut outcome = run_lines(self, reader, writer);
         if journal && outcome.is_ok() {
             outcome = self.write_journal(writer);
         }
@@ -217,6 +198,25 @@ impl Script {
         }
         outcome
     }
+}
+
+/// Reads the script to its end and runs it line by line.
+pub fn run_lines<R: Read, W: Write>(
+    run: &mut Script,
+    reader: &mut R,
+    writer: &mut W,
+) -> Result<(), ReplayFault> {
+    let mut chunk = vec![in run.alloc; 0u8; CHUNK]?;
+    for _ in 0..READS {
+        match reader.read(&mut chunk) {
+            Ok(0) => return run.end(),
+            Ok(n) => run.take(&chunk[..n], writer)?,
+            Err(e) if e.kind() == ErrorKind::Interrupted => {}
+            Err(_) => break,
+        }
+    }
+    run.reason = Some(Reason::Input);
+    Err(ReplayFault::Device)
 }
 
 /// Runs a script under the settings, as `Script::run` does.

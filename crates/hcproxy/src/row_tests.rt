@@ -1,6 +1,6 @@
 //! Runs of scripts, each with what it has to print.
 
-use crate::replay::Script;
+use crate::replay::{Script, run_lines};
 use crate::settings::demonstration;
 use history_check::is_justified;
 use std::alloc::Global;
@@ -82,7 +82,7 @@ fn prints(alloc: Global, script: &str, printed: &str) -> Result<bool, Fail> {
     let Ok(mut run) = Script::new(alloc, demonstration(alloc)?) else {
         return Ok(false);
     };
-    let ended = run.run(&mut reader, &mut out, false);
+    let ended = run_lines(&mut run, &mut reader, &mut out);
     let justified = is_justified(alloc, run.journal())?;
     Ok(ended.is_ok() && justified && out.as_slice() == printed.as_bytes())
 }
