@@ -40,6 +40,3 @@ pub use token::Token;
 pub use uint::{MAX_UINT_LEN, uint_of, uint_to};
 pub use values::{first_of, values_of};
 pub use writing::{MAX_VALUE_LEN, encode, is_encodable};
-
-#[cfg(test)]
-mod tests;

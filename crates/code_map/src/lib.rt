@@ -13,6 +13,3 @@ pub use laws::{
 };
 pub use method::{Method, method_of};
 pub use status::{Status, is_passed_on, phrase_of, status_of};
-
-#[cfg(test)]
-mod tests;

@@ -26,6 +26,3 @@ pub use edge::Edge;
 pub use laws::{however_cut, none_held_back, reading_goes_on, reading_is_one, waits_only};
 pub use memory::Memory;
 pub use request::{BadKind, Incoming, Request, Version};
-
-#[cfg(test)]
-mod tests;

@@ -29,6 +29,3 @@ pub use pick::route_of;
 pub use policy::Policy;
 pub use routes::Routes;
 pub use wanted::Wanted;
-
-#[cfg(test)]
-mod tests;

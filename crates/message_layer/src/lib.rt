@@ -31,10 +31,3 @@ pub use laws::{
 pub use link::Link;
 pub use options::{Fitness, judge};
 pub use state::{Awaited, Heard, Outstanding, Reply, Up, Waiting};
-
-#[cfg(test)]
-mod memory_tests;
-#[cfg(test)]
-mod tests;
-#[cfg(test)]
-mod value_tests;

@@ -5,4 +5,3 @@ pub mod Passing
 pub mod Shortest
 pub mod ReadBack
 pub mod Kinds
-pub mod Tested

@@ -18,8 +18,6 @@ mod refused;
 mod relation;
 mod stored;
 mod taken;
-#[cfg(test)]
-mod tests;
 mod write;
 
 pub use apply_fault::ApplyFault;

@@ -34,6 +34,3 @@ pub use peer::{Peer, peer_at};
 pub use reading::target_of;
 pub use target::{Host, Target};
 pub use text::{Text, Texts};
-
-#[cfg(test)]
-mod tests;

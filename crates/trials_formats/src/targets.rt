@@ -1,9 +1,14 @@
-use super::*;
+//! Targets of requests, and where they lead (RFC 7252, section 6; RFC 8075, section 5).
+
 use std::net::{IpAddr, Ipv4Addr, Ipv6Addr};
 use std::test::Fail;
+use uri_map::{
+    Directory, Host, Peer, UriFault, hosting_of, options_of, path_and_query, peer_at, peer_of,
+    target_of,
+};
 
-/// What the text names below `/hc/`, written out: the host, the port, each segment behind ` /` and
-/// each argument behind ` ?`; or the fault.
+/// What the text names below `/hc/`, written out: the host, the port, each segment after ` /` and
+/// each argument after ` ?`; or the fault.
 fn named(rt: &HostRuntime, text: &[u8]) -> Result<String, Fail> {
     let alloc = rt.alloc();
     let target = match target_of(alloc, b"/hc/", text) {
@@ -27,128 +32,122 @@ fn named(rt: &HostRuntime, text: &[u8]) -> Result<String, Fail> {
     Ok(out)
 }
 
-#[test]
-fn bases_and_schemes(rt: HostRuntime) -> Result<(), Fail> {
-    let rows: [(&[u8], &str); 16] = [
-        // RFC 8075, section 5.3: the default mapping, here below /hc/.
-        (
-            b"/hc/coap://s.example.com/light",
-            "s.example.com 5683 /light",
-        ),
-        (
-            b"/hc/coap://s.example.com:5683/~sensors/temp.xml",
-            "s.example.com 5683 /~sensors /temp.xml",
-        ),
-        // RFC 7252, section 6.3: equal targets.
-        (
-            b"/hc/coap://EXAMPLE.com:5683/%7Esensors/temp.xml",
-            "example.com 5683 /~sensors /temp.xml",
-        ),
-        (
-            b"/hc/coap://EXAMPLE.com/%7esensors/temp.xml",
-            "example.com 5683 /~sensors /temp.xml",
-        ),
-        (
-            b"/hc/s.example.com/light?on",
-            "s.example.com 5683 /light ?on",
-        ),
-        (b"/hc/COAP://S.Example.com", "s.example.com 5683"),
-        (b"/hc/coaps://s.example.com/x", "Scheme"),
-        (b"/hc/http://s.example.com/x", "Scheme"),
-        (b"/hc/://s.example.com/x", "Scheme"),
-        (b"/hc/coap:/x", "Authority"),
-        (b"/hc/coap://", "Authority"),
-        (b"/hc/", "Authority"),
-        (b"/hc", "OtherBase"),
-        (b"/other", "OtherBase"),
-        (b"", "OtherBase"),
-        (b"*", "OtherBase"),
-    ];
-    for (text, want) in rows {
-        assert_eq!(rt; named(&rt, text)?.as_str(), want);
-    }
-    Ok(())
-}
+/// Below the base or not, and schemes.
+const BASES: [(&[u8], &str); 16] = [
+    // RFC 8075, section 5.3: the default mapping, here below /hc/.
+    (
+        b"/hc/coap://s.example.com/light",
+        "s.example.com 5683 /light",
+    ),
+    (
+        b"/hc/coap://s.example.com:5683/~sensors/temp.xml",
+        "s.example.com 5683 /~sensors /temp.xml",
+    ),
+    // RFC 7252, section 6.3: equal targets.
+    (
+        b"/hc/coap://EXAMPLE.com:5683/%7Esensors/temp.xml",
+        "example.com 5683 /~sensors /temp.xml",
+    ),
+    (
+        b"/hc/coap://EXAMPLE.com/%7esensors/temp.xml",
+        "example.com 5683 /~sensors /temp.xml",
+    ),
+    (
+        b"/hc/s.example.com/light?on",
+        "s.example.com 5683 /light ?on",
+    ),
+    (b"/hc/COAP://S.Example.com", "s.example.com 5683"),
+    (b"/hc/coaps://s.example.com/x", "Scheme"),
+    (b"/hc/http://s.example.com/x", "Scheme"),
+    (b"/hc/://s.example.com/x", "Scheme"),
+    (b"/hc/coap:/x", "Authority"),
+    (b"/hc/coap://", "Authority"),
+    (b"/hc/", "Authority"),
+    (b"/hc", "OtherBase"),
+    (b"/other", "OtherBase"),
+    (b"", "OtherBase"),
+    (b"*", "OtherBase"),
+];
+
+const AUTHORITIES: [(&[u8], &str); 34] = [
+    (b"/hc/h:61616", "h 61616"),
+    (b"/hc/h:00080", "h 80"),
+    (b"/hc/h:65535", "h 65535"),
+    (b"/hc/h:65536", "Authority"),
+    (b"/hc/h:0", "Authority"),
+    (b"/hc/h:", "Authority"),
+    (b"/hc/h:000080", "Authority"),
+    (b"/hc/h:+80", "Authority"),
+    (b"/hc/h:80:80", "Authority"),
+    (b"/hc/:80", "Authority"),
+    (b"/hc/user@h", "Authority"),
+    (b"/hc/user%40h", "user@h 5683"),
+    (b"/hc/a%3Ab", "a:b 5683"),
+    (b"/hc/%C3%89%41", "\u{c9}a 5683"),
+    (b"/hc/%ff", "Authority"),
+    (b"/hc/h%4", "Authority"),
+    (b"/hc/h%zz", "Authority"),
+    (b"/hc/192.0.2.1:65535", "v4 192.0.2.1 65535"),
+    (b"/hc/%31%392.0.2.1", "v4 192.0.2.1 5683"),
+    (b"/hc/192.0.2.01", "192.0.2.01 5683"),
+    (b"/hc/192.0.2.256", "192.0.2.256 5683"),
+    (
+        b"/hc/%5B2001:db8::1%5D/light?on",
+        "v6 2001:db8::1 5683 /light ?on",
+    ),
+    (b"/hc/%5b2001:DB8:0:0:0:0:0:1%5d:1", "v6 2001:db8::1 1"),
+    (b"/hc/[::]/", "v6 :: 5683"),
+    (b"/hc/[1::%5D", "v6 1:: 5683"),
+    (b"/hc/%5B1:2:3:4:5:6:7::]", "v6 1:2:3:4:5:6:7:0 5683"),
+    (b"/hc/[1:2:3:4:5:6:7]", "Authority"),
+    (b"/hc/[1:2:3:4:5:6:7:8:9]", "Authority"),
+    (b"/hc/[12345::]", "Authority"),
+    (b"/hc/%5B1::2::3%5D", "Authority"),
+    (b"/hc/%5B::ffff:1.2.3.4%5D", "Authority"),
+    (b"/hc/[fe80::1%25eth0]", "Authority"),
+    (b"/hc/[::1]x", "Authority"),
+    (b"/hc/%5Bfoo%5D", "[foo] 5683"),
+];
+
+const PATHS_AND_QUERIES: [(&[u8], &str); 24] = [
+    (b"/hc/h/", "h 5683"),
+    (b"/hc/h//", "h 5683 / /"),
+    (b"/hc/h/a/", "h 5683 /a /"),
+    (b"/hc/h/a%2Fb//c", "h 5683 /a/b / /c"),
+    (b"/hc/h/a%2fb", "h 5683 /a/b"),
+    (b"/hc/h/.", "Escape"),
+    (b"/hc/h/a/../b", "Escape"),
+    (b"/hc/h/%2e", "Escape"),
+    (b"/hc/h/%2e%2E", "Escape"),
+    (b"/hc/h/%2e%2E%2e", "h 5683 /..."),
+    (b"/hc/h/a%", "Escape"),
+    (b"/hc/h/a%4", "Escape"),
+    (b"/hc/h/a%4g", "Escape"),
+    (
+        b"/hc/h/%C3%A9%E2%82%AC%F0%9F%98%80",
+        "h 5683 /\u{e9}\u{20ac}\u{1f600}",
+    ),
+    (b"/hc/h/%C3%A9%ff", "Escape"),
+    (b"/hc/h/%ED%A0%80", "Escape"),
+    (b"/hc/h/%C0%80", "Escape"),
+    (b"/hc/h/%E2%82", "Escape"),
+    (b"/hc/h?", "h 5683 ?"),
+    (b"/hc/h?a=1&&b", "h 5683 ?a=1 ? ?b"),
+    (b"/hc/h?a?b/..&..", "h 5683 ?a?b/.. ?.."),
+    (b"/hc/h/x?a%26b=%3d", "h 5683 /x ?a&b=="),
+    (b"/hc/h?%", "Escape"),
+    (b"/hc/h/%?x", "Escape"),
+];
 
 #[test]
-fn authorities(rt: HostRuntime) -> Result<(), Fail> {
-    let rows: [(&[u8], &str); 34] = [
-        (b"/hc/h:61616", "h 61616"),
-        (b"/hc/h:00080", "h 80"),
-        (b"/hc/h:65535", "h 65535"),
-        (b"/hc/h:65536", "Authority"),
-        (b"/hc/h:0", "Authority"),
-        (b"/hc/h:", "Authority"),
-        (b"/hc/h:000080", "Authority"),
-        (b"/hc/h:+80", "Authority"),
-        (b"/hc/h:80:80", "Authority"),
-        (b"/hc/:80", "Authority"),
-        (b"/hc/user@h", "Authority"),
-        (b"/hc/user%40h", "user@h 5683"),
-        (b"/hc/a%3Ab", "a:b 5683"),
-        (b"/hc/%C3%89%41", "\u{c9}a 5683"),
-        (b"/hc/%ff", "Authority"),
-        (b"/hc/h%4", "Authority"),
-        (b"/hc/h%zz", "Authority"),
-        (b"/hc/192.0.2.1:65535", "v4 192.0.2.1 65535"),
-        (b"/hc/%31%392.0.2.1", "v4 192.0.2.1 5683"),
-        (b"/hc/192.0.2.01", "192.0.2.01 5683"),
-        (b"/hc/192.0.2.256", "192.0.2.256 5683"),
-        (
-            b"/hc/%5B2001:db8::1%5D/light?on",
-            "v6 2001:db8::1 5683 /light ?on",
-        ),
-        (b"/hc/%5b2001:DB8:0:0:0:0:0:1%5d:1", "v6 2001:db8::1 1"),
-        (b"/hc/[::]/", "v6 :: 5683"),
-        (b"/hc/[1::%5D", "v6 1:: 5683"),
-        (b"/hc/%5B1:2:3:4:5:6:7::]", "v6 1:2:3:4:5:6:7:0 5683"),
-        (b"/hc/[1:2:3:4:5:6:7]", "Authority"),
-        (b"/hc/[1:2:3:4:5:6:7:8:9]", "Authority"),
-        (b"/hc/[12345::]", "Authority"),
-        (b"/hc/%5B1::2::3%5D", "Authority"),
-        (b"/hc/%5B::ffff:1.2.3.4%5D", "Authority"),
-        (b"/hc/[fe80::1%25eth0]", "Authority"),
-        (b"/hc/[::1]x", "Authority"),
-        (b"/hc/%5Bfoo%5D", "[foo] 5683"),
-    ];
-    for (text, want) in rows {
+fn named_targets(rt: HostRuntime) -> Result<(), Fail> {
+    for (text, want) in BASES {
         assert_eq!(rt; named(&rt, text)?.as_str(), want);
     }
-    Ok(())
-}
-
-#[test]
-fn paths_and_queries(rt: HostRuntime) -> Result<(), Fail> {
-    let rows: [(&[u8], &str); 24] = [
-        (b"/hc/h/", "h 5683"),
-        (b"/hc/h//", "h 5683 / /"),
-        (b"/hc/h/a/", "h 5683 /a /"),
-        (b"/hc/h/a%2Fb//c", "h 5683 /a/b / /c"),
-        (b"/hc/h/a%2fb", "h 5683 /a/b"),
-        (b"/hc/h/.", "Escape"),
-        (b"/hc/h/a/../b", "Escape"),
-        (b"/hc/h/%2e", "Escape"),
-        (b"/hc/h/%2e%2E", "Escape"),
-        (b"/hc/h/%2e%2E%2e", "h 5683 /..."),
-        (b"/hc/h/a%", "Escape"),
-        (b"/hc/h/a%4", "Escape"),
-        (b"/hc/h/a%4g", "Escape"),
-        (
-            b"/hc/h/%C3%A9%E2%82%AC%F0%9F%98%80",
-            "h 5683 /\u{e9}\u{20ac}\u{1f600}",
-        ),
-        (b"/hc/h/%C3%A9%ff", "Escape"),
-        (b"/hc/h/%ED%A0%80", "Escape"),
-        (b"/hc/h/%C0%80", "Escape"),
-        (b"/hc/h/%E2%82", "Escape"),
-        (b"/hc/h?", "h 5683 ?"),
-        (b"/hc/h?a=1&&b", "h 5683 ?a=1 ? ?b"),
-        (b"/hc/h?a?b/..&..", "h 5683 ?a?b/.. ?.."),
-        (b"/hc/h/x?a%26b=%3d", "h 5683 /x ?a&b=="),
-        (b"/hc/h?%", "Escape"),
-        (b"/hc/h/%?x", "Escape"),
-    ];
-    for (text, want) in rows {
+    for (text, want) in AUTHORITIES {
+        assert_eq!(rt; named(&rt, text)?.as_str(), want);
+    }
+    for (text, want) in PATHS_AND_QUERIES {
         assert_eq!(rt; named(&rt, text)?.as_str(), want);
     }
     Ok(())

@@ -1,8 +1,8 @@
 ghost use Rattle.std.specs.Prelude.{◌≡◌, []};
 ghost use Rattle.coap_codec.specs.Spelling.{content};
 
-use super::*;
 use coap_codec::{Message, MsgType, Token};
+use message_layer::{Fitness, Link, LinkFault, Up, judge};
 use std::alloc::Global;
 
 /// What a call told.

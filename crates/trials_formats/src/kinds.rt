@@ -1,6 +1,7 @@
-// Examples of RFC 8949 Appendix A, and inputs at the limits.
-use crate::{Refused, cbor_json, json_cbor, octets_hex};
+//! Examples of RFC 8949, appendix A, and inputs at the limits.
+
 use std::alloc::Global;
+use transformers::{Refused, cbor_json, json_cbor, octets_hex};
 
 // A CBOR item in hexadecimal, and the JSON of its value. The items have the shortest heads.
 const INSIDE: [(&str, &str); 37] = [

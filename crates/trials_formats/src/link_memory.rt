@@ -1,8 +1,8 @@
 //! A call that memory was refused is made once more; until then the link is as before.
 
-use crate::tests::{Said, hear, said_by, sends, submit, tick};
-use crate::{Link, LinkFault};
+use crate::link::{Said, hear, said_by, sends, submit, tick};
 use coap_codec::Token;
+use message_layer::{Link, LinkFault};
 use std::alloc::Global;
 
 /// Memory was refused, and the link is as before.

@@ -1,7 +1,7 @@
 //! What a response is good for, faults in words, and shared bytes.
 
-use crate::{Bytes, Fitness, LinkFault, judge};
 use coap_codec::{Message, MsgType, Opt, Token};
+use message_layer::{Bytes, Fitness, LinkFault, judge};
 use std::alloc::Global;
 
 /// A response with one option.

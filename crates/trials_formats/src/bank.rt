@@ -1,14 +1,15 @@
-// Banks of closures.
-use crate::{
-    ApplyFault, Bank, Call, Refused, Relation, Stored, cbor_json, json_cbor, octets_hex, store,
-};
+//! Banks of closures.
+
 use media_map::Form;
 use std::alloc::Global;
+use transformers::{
+    ApplyFault, Bank, Call, Refused, Relation, Stored, cbor_json, json_cbor, octets_hex, store,
+};
 
 struct Formats;
 
 impl Relation for Formats {
-    ghost use Rattle.transformers.specs.Tested.{FormatsHold, FormatsTake};
+    ghost use Rattle.trials_formats.specs.Formats.{FormatsHold, FormatsTake};
 
     ghost holds = { FormatsHold };
 

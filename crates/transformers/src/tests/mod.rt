@@ -1,2 +1,0 @@
-mod bank;
-mod kinds;

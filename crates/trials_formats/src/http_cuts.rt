@@ -1,0 +1,147 @@
+//! Requests are read the same however their bytes are cut.
+
+use crate::http::{filled, read, report};
+use http_edge::Edge;
+use std::alloc::Global;
+use std::ops::Range;
+use std::test::Fail;
+
+/// The text is read so at every cut into two pieces, and byte by byte.
+fn reads(alloc: Global, text: &[u8], want: &[u8]) -> Result<bool, Fail> {
+    for at in 0..text.len() {
+        let (front, back) = text.split_at(at);
+        if read(alloc, &[front, back])?.as_slice() != want {
+            return Ok(false);
+        }
+    }
+    let mut out = Vec::new(alloc);
+    let mut edge = Edge::new(alloc)?;
+    for byte in text.chunks(1) {
+        edge.feed(byte);
+        report(&mut edge, &mut out)?;
+    }
+    Ok(out.as_slice() == want)
+}
+
+/// What is given of a text, however it is cut.
+const READ: [(&[u8], &[u8]); 9] = [
+    (b"HEAD /a HTTP/1.1\r\nHost: p\r\n\r\n", b"[HEAD /a ]"),
+    (b"\r\n\nGET /a HTTP/1.1\nhOST: p\n\n", b"[GET /a ]"),
+    (
+        b"GET /a HTTP/1.0\r\n\r\nGET /b HTTP/1.1\r\nHost: p\r\n\r\n",
+        b"[GET /a !]",
+    ),
+    (
+        b"GET /a HTTP/1.1\r\nHost: p\r\nConnection: x ,\tCLOSE\r\n\r\nGET",
+        b"[GET /a !]",
+    ),
+    (
+        b"GET /a HTTP/1.1\r\nHost: p\r\nConnection: closed, clo se\r\n\r\n",
+        b"[GET /a ]",
+    ),
+    (
+        b"GET /a HTTP/1.1\r\n\r\nGET /b HTTP/1.1\r\nHost: p\r\n\r\n",
+        b"[400]",
+    ),
+    (b"GET /a HTTP/1.1\r\nHost: p\r\nHost: p\r\n\r\n", b"[400]"),
+    (
+        b"GET /a HTTP/1.1\r\nHost: p\r\nA: b\r\n c\r\n\r\n",
+        b"[400]",
+    ),
+    (
+        b"POST /a HTTP/1.1\r\nHost: p\r\nContent-Length: 3\r\n\r\nabcPUT /b HTTP/1.1\r\nhost: q\r\nTransfer-Encoding: Chunked\r\n\r\n4;x=\"y\" \r\nWiki\r\n005\t\r\npedia\r\n0\r\nExpires: never\r\n\r\nGET /c HTTP/1.1\r\nHost: p\r\n\r\nGET /d",
+        b"[POST /a abc][PUT /b Wikipedia][GET /c ]",
+    ),
+];
+
+#[test]
+fn cut_once(rt: HostRuntime) -> Result<(), Fail> {
+    for (text, want) in READ {
+        assert!(rt; reads(rt.alloc(), text, want)?, "{want:?}");
+    }
+    Ok(())
+}
+
+/// The text is read so at each pair of cuts outside the range.
+fn reads_in_three(
+    alloc: Global,
+    text: &[u8],
+    range: Range<usize>,
+    want: &[u8],
+) -> Result<bool, Fail> {
+    for first in 0..text.len() {
+        for second in first..text.len() {
+            if !range.contains(&first) && !range.contains(&second) {
+                let pieces = [&text[..first], &text[first..second], &text[second..]];
+                if read(alloc, &pieces)?.as_slice() != want {
+                    return Ok(false);
+                }
+            }
+        }
+    }
+    Ok(true)
+}
+
+/// What is given of a text, however it is cut into three.
+const READ_IN_THREE: [(&[u8], &[u8]); 4] = [
+    (
+        b"GET /light HTTP/1.1\r\nHost: p\r\n\r\nGET /light HTTP/1.1\r\nHost: p\r\n\r\n",
+        b"[GET /light ][GET /light ]",
+    ),
+    (
+        b"PUT /light HTTP/1.1\r\nHost: p\r\nContent-Length: 3\r\n\r\noff",
+        b"[PUT /light off]",
+    ),
+    (
+        b"PUT /light HTTP/1.1\r\nHost: p\r\nTransfer-Encoding: chunked\r\n\r\n3\r\noff\r\n0\r\n\r\n",
+        b"[PUT /light off]",
+    ),
+    (
+        b"PUT /light HTTP/1.1\r\nHost: p\r\nTransfer-Encoding: chunked\r\nContent-Length: 3\r\n\r\noff",
+        b"[400]",
+    ),
+];
+
+#[test]
+fn cut_twice(rt: HostRuntime) -> Result<(), Fail> {
+    for (text, want) in READ_IN_THREE {
+        assert!(rt; reads_in_three(rt.alloc(), text, 0..0, want)?, "{want:?}");
+    }
+    Ok(())
+}
+
+/// The client is told to go on where a piece ends after the head and before the body's end.
+#[test]
+fn cuts_that_continue(rt: HostRuntime) -> Result<(), Fail> {
+    let head =
+        b"PUT /light HTTP/1.1\r\nHost: p\r\nExpect: 100-continue\r\nContent-Length: 3\r\n\r\n";
+    let mut text = Vec::from_slice(rt.alloc(), head)?;
+    text.extend_from_slice(b"off")?;
+    for first in 0..text.len() {
+        for second in first..text.len() {
+            let pieces = [&text[..first], &text[first..second], &text[second..]];
+            let want: &[u8] = if second >= head.len() {
+                b"[?][PUT /light off]"
+            } else {
+                b"[PUT /light off]"
+            };
+            assert_eq!(rt; read(rt.alloc(), &pieces)?.as_slice(), want);
+        }
+    }
+    Ok(())
+}
+
+/// A chunk's line of 256 bytes is read, and one of 257 is refused. The cuts in the midst of its
+/// equal bytes are left out.
+#[test]
+fn cuts_in_a_chunk_line(rt: HostRuntime) -> Result<(), Fail> {
+    let head = b"PUT /light HTTP/1.1\r\nHost: p\r\nTransfer-Encoding: chunked\r\n\r\n3;";
+    for (count, want) in [(252, &b"[PUT /light off]"[..]), (253, &b"[400]"[..])] {
+        let text = filled(rt.alloc(), head, b"a", count, b"\r\noff\r\n0\r\n\r\n")?;
+        assert!(rt;
+            reads_in_three(rt.alloc(), &text, 80..300, want)?,
+            "{want:?}"
+        );
+    }
+    Ok(())
+}

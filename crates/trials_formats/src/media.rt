@@ -1,0 +1,343 @@
+//! Media types and content formats, and what Accept asks for (RFC 9110, sections 8.3 and 12.5.1; RFC 7252,
+//! section 12.3; RFC 8075, section 6).
+
+use media_map::{
+    Form, Media, MediaFault, Policy, Routes, Wanted, accept_of, format_of, media_of, route_of,
+};
+use std::alloc::Global;
+use std::test::Fail;
+
+const STRICT: Policy = Policy {
+    loose: false,
+    pass: false,
+};
+
+const LOOSE: Policy = Policy {
+    loose: true,
+    pass: false,
+};
+
+const PASS: Policy = Policy {
+    loose: false,
+    pass: true,
+};
+
+/// What a content type answers, by its number: the format, or none of these.
+const UNMAPPED: Result<Option<u16>, MediaFault> = Err(MediaFault::Unmapped);
+
+const PASS_THROUGH: Result<Option<u16>, MediaFault> = Err(MediaFault::PassThrough);
+
+const SYNTAX: Result<Option<u16>, MediaFault> = Err(MediaFault::Syntax);
+
+/// The value is answered so under the strict, the loose and the passing policy.
+fn is_read(
+    value: &[u8],
+    strict: Result<Option<u16>, MediaFault>,
+    loose: Result<Option<u16>, MediaFault>,
+    pass: Result<Option<u16>, MediaFault>,
+) -> bool {
+    format_of(value, STRICT) == strict
+        && format_of(value, LOOSE) == loose
+        && format_of(value, PASS) == pass
+}
+
+/// Content types that every policy maps.
+const MAPPED: [(&[u8], Option<u16>); 22] = [
+    (b"", None),
+    (b" \t", None),
+    (b"text/plain", Some(0)),
+    (b"text/plain; charset=UTF-8", Some(0)),
+    (b"Text/Plain; Charset=\"utf-8\"", Some(0)),
+    (b"text/plain ; charset=\"US-ASCII\" ", Some(0)),
+    (b"text/plain;", Some(0)),
+    (b"text/plain; ;;charset=utf-8", Some(0)),
+    (b"text/plain;charset=utf-8;charset=utf-16", Some(0)),
+    (b"text/plain;format=flowed", Some(0)),
+    (b"text/plain;x=\"a;b\";charset=utf-8", Some(0)),
+    (b"text/plain;x=\"a\\\";charset=utf-16\"", Some(0)),
+    (b"application/link-format", Some(40)),
+    (b"application/xml", Some(41)),
+    (b"application/xml;charset=utf-16", Some(41)),
+    (b"application/octet-stream", Some(42)),
+    (b"application/exi", Some(47)),
+    (b"application/json", Some(50)),
+    (b"APPLICATION/JSON", Some(50)),
+    (b" application/json\t", Some(50)),
+    (b"application/cbor", Some(60)),
+    (b"application/cbor;q=0", Some(60)),
+];
+
+const MALFORMED: [&[u8]; 16] = [
+    b"text",
+    b"/plain",
+    b"text/",
+    b"text/plain/x",
+    b"te xt/plain",
+    b"text /plain",
+    b";charset=utf-8",
+    b"text/pl\xc3\xa4in",
+    b"text/plain;charset",
+    b"text/plain;charset=",
+    b"text/plain;=utf-8",
+    b"text/plain;charset =utf-8",
+    b"text/plain;charset= utf-8",
+    b"text/plain;charset=\"utf-8",
+    b"text/plain;x=\"a\x01b\"",
+    b"text/plain,text/html",
+];
+
+/// Content types without a format, and the nearest one, which the loose policy takes.
+const NEAREST: [(&[u8], u16); 18] = [
+    (b"text/plain;charset=utf-16", 42),
+    (b"text/plain;charset=utf-16;charset=utf-8", 42),
+    (b"text/plain;charset=\"\"", 42),
+    (b"text/html;charset=utf-16", 0),
+    (b"Text/XML;charset=utf-8", 41),
+    (b"text/x+json", 0),
+    (b"application/ATOM+XML", 41),
+    (b"application/problem+json", 50),
+    (b"application/json+zip", 42),
+    (b"application/pdf", 42),
+    (b"image/svg+xml", 42),
+    (b"*/*", 42),
+    (b"application/coap-payload", 42),
+    (b"application/coap-payload;cf=65536", 42),
+    (b"application/coap-payload;cf=000060", 42),
+    (b"application/coap-payload;cf=6a", 42),
+    (b"application/coap-payload;cf=-1", 42),
+    (b"application/coap-payload;cf=\"\"", 42),
+];
+
+/// Formats by their number, which the passing policy takes.
+const NUMBERED: [(&[u8], u16); 6] = [
+    (b"application/coap-payload;cf=0", 0),
+    (b"application/coap-payload;cf=65535", 65535),
+    (b"application/coap-payload;cf=00060", 60),
+    (b"application/coap-payload; cf=\"11050\"", 11050),
+    (b"Application/CoAP-Payload;CF=1;cf=2", 1),
+    (b"application/coap-payload;x=1;cf=2", 2),
+];
+
+#[test]
+fn content_types(rt: HostRuntime) {
+    for (value, format) in MAPPED {
+        let read = Ok(format);
+        assert!(rt; is_read(value, read, read, read), "{value:?}");
+    }
+    for value in MALFORMED {
+        assert!(rt; is_read(value, SYNTAX, SYNTAX, SYNTAX), "{value:?}");
+    }
+    for (value, nearest) in NEAREST {
+        assert!(rt;
+            is_read(value, UNMAPPED, Ok(Some(nearest)), UNMAPPED),
+            "{value:?}"
+        );
+    }
+    for (value, format) in NUMBERED {
+        let pass = Ok(Some(format));
+        assert!(rt;
+            is_read(value, PASS_THROUGH, PASS_THROUGH, pass),
+            "{value:?}"
+        );
+    }
+}
+
+#[test]
+fn media_types_of_formats(rt: HostRuntime) -> Result<(), Fail> {
+    let alloc = rt.alloc();
+    let rows: [(u16, &str); 9] = [
+        (0, "text/plain;charset=utf-8"),
+        (40, "application/link-format"),
+        (41, "application/xml"),
+        (42, "application/octet-stream"),
+        (47, "application/exi"),
+        (50, "application/json"),
+        (60, "application/cbor"),
+        (1, "application/coap-payload;cf=1"),
+        (65535, "application/coap-payload;cf=65535"),
+    ];
+    for (format, name) in rows {
+        let media = media_of(alloc, format)?;
+        assert_eq!(rt; media.as_str().as_bytes(), name.as_bytes());
+    }
+    Ok(())
+}
+
+/// The form of a media type.
+fn form(alloc: Global, name: &str) -> Result<Form, MediaFault> {
+    Ok(Form::Media(Media::from_str(alloc, name)?))
+}
+
+/// From CBOR to JSON and back, and from bytes to a text whose charset is written.
+fn demonstration_routes(alloc: Global) -> Result<Routes, Fail> {
+    let mut routes = Routes::new(alloc);
+    routes.push(Form::Format(60), form(alloc, "application/json")?)?;
+    routes.push(Form::Format(41), form(alloc, "application/json")?)?;
+    routes.push(form(alloc, "application/json")?, Form::Format(60))?;
+    routes.push(Form::Format(42), form(alloc, "text/csv; charset=utf-8")?)?;
+    Ok(routes)
+}
+
+/// An Accept, and the format and the media type that are wanted.
+const ACCEPTED: [(&[u8], u16, &str); 18] = [
+    (b"application/json", 60, "application/json"),
+    (b"Application/JSON;q=0.2;x=y", 60, "application/json"),
+    (b"text/csv", 42, "text/csv; charset=utf-8"),
+    (
+        b"TEXT/PLAIN;charset=us-ascii",
+        0,
+        "text/plain;charset=utf-8",
+    ),
+    (b"text/html, application/exi;q=0.1", 47, "application/exi"),
+    (b"nonsense, application/exi", 47, "application/exi"),
+    (b",, application/exi ,", 47, "application/exi"),
+    (
+        b"application/xml;q=0.5,application/cbor;q=0.6",
+        60,
+        "application/cbor",
+    ),
+    (
+        b"application/xml;q=0.5,application/cbor;q=0.500",
+        41,
+        "application/xml",
+    ),
+    (
+        b"application/xml;q=0.999,application/cbor;q=1.000",
+        60,
+        "application/cbor",
+    ),
+    (
+        b"application/xml;q=0.001,application/cbor;q=0",
+        41,
+        "application/xml",
+    ),
+    (
+        b"application/xml;Q=0.3,application/exi;q=0.2",
+        41,
+        "application/xml",
+    ),
+    (
+        b"application/xml;q=0.3;q=0.9,application/exi;q=0.5",
+        47,
+        "application/exi",
+    ),
+    (
+        b"application/xml;q=1.001,application/exi;q=0.5",
+        47,
+        "application/exi",
+    ),
+    (b"*/*;q=0,application/exi;q=0.5", 47, "application/exi"),
+    (
+        b"application/coap-payload;cf=60,application/exi;q=0.1",
+        47,
+        "application/exi",
+    ),
+    // RFC 9110, section 12.5.1.
+    (
+        b"text/plain; q=0.5, text/html, text/x-dvi; q=0.8, text/x-c",
+        0,
+        "text/plain;charset=utf-8",
+    ),
+    (
+        b"text/plain;x=\"a,b\",application/exi",
+        47,
+        "application/exi",
+    ),
+];
+
+/// Accepts that leave the format open, two of them from RFC 9110, section 12.5.1.
+const OPEN: [&[u8]; 12] = [
+    b"",
+    b" , ,",
+    b"nonsense",
+    b"text/html,*/*;q=0.8",
+    b"application/xml,text/*;q=0.001",
+    b"audio/*; q=0.2, audio/basic",
+    b"text/*;q=0.3, text/plain;q=0.7, text/plain;format=flowed, text/plain;format=fixed;q=0.4, */*;q=0.5",
+    b"application/xml;q=1.001",
+    b"application/xml;q=0.1234",
+    b"application/xml;q=.5",
+    b"application/xml;q=\"0.5\"",
+    b"application/xml;x",
+];
+
+/// Accepts that no format meets.
+const UNMET: [&[u8]; 9] = [
+    b"text/html",
+    b"*/*;q=0",
+    b"text/*;q=0.000",
+    b"application/xml;q=0.",
+    b"text/plain;charset=utf-16",
+    b"*/json",
+    b"text/html,application/json;q=0",
+    b"application/coap-payload;cf=65536",
+    b"application/coap-payload;cf=60;q=0",
+];
+
+#[test]
+fn accepted(rt: HostRuntime) -> Result<(), Fail> {
+    let alloc = rt.alloc();
+    let routes = demonstration_routes(alloc)?;
+    for (value, format, media) in ACCEPTED {
+        let wanted = accept_of(alloc, value, STRICT, &routes)?.ok_or("open")?;
+        assert_eq!(rt; wanted.format, format, "{value:?}");
+        assert_eq!(rt; wanted.media.as_str().as_bytes(), media.as_bytes());
+    }
+    let none = Routes::new(alloc);
+    for value in OPEN {
+        let wanted = accept_of(alloc, value, STRICT, &none)?;
+        assert!(rt; wanted.is_none(), "{value:?}");
+    }
+    for value in UNMET {
+        let fault = accept_of(alloc, value, STRICT, &routes).err();
+        assert_eq!(rt; fault, Some(MediaFault::Unmapped), "{value:?}");
+    }
+    Ok(())
+}
+
+#[test]
+fn accepted_by_number(rt: HostRuntime) -> Result<(), Fail> {
+    let alloc = rt.alloc();
+    let routes = demonstration_routes(alloc)?;
+    let value = b"text/html,application/coap-payload;cf=11050;q=0.1";
+    let fault = accept_of(alloc, value, LOOSE, &routes).err();
+    assert_eq!(rt; fault, Some(MediaFault::PassThrough));
+    let wanted = accept_of(alloc, value, PASS, &routes)?.ok_or("open")?;
+    assert_eq!(rt; wanted.format, 11050);
+    let text = format!(in alloc; "{} {}", wanted.media, MediaFault::PassThrough)?;
+    assert_eq!(rt;
+        text.as_str(),
+        "application/coap-payload;cf=11050 coap-payload isn't passed through"
+    );
+    let same = Wanted {
+        format: 11050,
+        media: media_of(alloc, 11050)?,
+    };
+    assert_eq!(rt; wanted.copy()?, same);
+    Ok(())
+}
+
+#[test]
+fn routes_of_content_types(rt: HostRuntime) -> Result<(), Fail> {
+    let alloc = rt.alloc();
+    let routes = demonstration_routes(alloc)?.copy()?;
+    assert_eq!(rt; routes.as_slice().len(), 4);
+    let good: [&[u8]; 2] = [b"Application/JSON; charset=utf-8", b" application/json;"];
+    for value in good {
+        let route = route_of(value, &routes).ok_or("no route")?;
+        assert!(rt; route.1.is_same(&Form::Format(60)));
+    }
+    let none: [&[u8]; 4] = [
+        b"",
+        b"application/json;x",
+        b"application/cbor",
+        b"application/jso",
+    ];
+    for value in none {
+        assert!(rt; route_of(value, &routes).is_none(), "{value:?}");
+    }
+    let json = form(alloc, "application/json")?;
+    assert!(rt; json.copy()?.is_same(&json));
+    assert!(rt; !json.is_same(&form(alloc, "application/JSON")?));
+    Ok(())
+}

@@ -1,0 +1,240 @@
+//! Messages of CoAP: the vectors of RFC 7252, and what its tables say of options.
+
+use coap_codec::{
+    Block, CodecFault, Message, MsgType, Opt, Token, block_of, block_to, decode, definition,
+    encode, first_of, is_allowed_in_response, is_critical, is_encodable, is_unsafe, no_cache_key,
+    number, uint_of, uint_to, values_of,
+};
+use std::alloc::Global;
+use std::test::Fail;
+
+/// A message, its option where it has one, and its bytes.
+struct Vector {
+    kind: MsgType,
+    code: u8,
+    mid: u16,
+    token: &'static [u8],
+    option: Option<(u16, &'static [u8])>,
+    payload: &'static [u8],
+    bytes: &'static [u8],
+}
+
+/// RFC 7252, figures 16 and 17; a ping and a reset; and an option of two bytes' number.
+const VECTORS: [Vector; 7] = [
+    Vector {
+        kind: MsgType::Con,
+        code: 1,
+        mid: 0x7d34,
+        token: b"",
+        option: Some((11, b"temperature")),
+        payload: b"",
+        bytes: b"\x40\x01\x7d\x34\xbbtemperature",
+    },
+    Vector {
+        kind: MsgType::Ack,
+        code: 0x45,
+        mid: 0x7d34,
+        token: b"",
+        option: None,
+        payload: b"22.3 C",
+        bytes: b"\x60\x45\x7d\x34\xff22.3 C",
+    },
+    Vector {
+        kind: MsgType::Con,
+        code: 1,
+        mid: 0x7d35,
+        token: b"\x20",
+        option: Some((11, b"temperature")),
+        payload: b"",
+        bytes: b"\x41\x01\x7d\x35\x20\xbbtemperature",
+    },
+    Vector {
+        kind: MsgType::Ack,
+        code: 0x45,
+        mid: 0x7d35,
+        token: b"\x20",
+        option: None,
+        payload: b"22.3 C",
+        bytes: b"\x61\x45\x7d\x35\x20\xff22.3 C",
+    },
+    Vector {
+        kind: MsgType::Con,
+        code: 0,
+        mid: 9,
+        token: b"",
+        option: None,
+        payload: b"",
+        bytes: b"\x40\0\0\x09",
+    },
+    Vector {
+        kind: MsgType::Rst,
+        code: 0,
+        mid: 9,
+        token: b"",
+        option: None,
+        payload: b"",
+        bytes: b"\x70\0\0\x09",
+    },
+    Vector {
+        kind: MsgType::Non,
+        code: 2,
+        mid: 0x0102,
+        token: b"t",
+        option: Some((281, b"")),
+        payload: b"x",
+        bytes: b"\x51\x02\x01\x02t\xe0\0\x0c\xffx",
+    },
+];
+
+fn message_of(alloc: Global, row: &Vector) -> Result<Message, Fail> {
+    if row.token.len() > 8 {
+        return Err("a token above 8 bytes".into());
+    }
+    let token = Token::new(row.token);
+    let mut m = Message::new(alloc, row.kind, row.code, row.mid, token);
+    if let Some((number, value)) = row.option {
+        m.options.push(Opt::new(alloc, number, value)?)?;
+    }
+    m.payload.extend_from_slice(row.payload)?;
+    Ok(m)
+}
+
+/// The bytes of a message that can be encoded.
+fn encoded(alloc: Global, m: &Message) -> Result<Vec<u8>, Fail> {
+    if !is_encodable(m) {
+        return Err("not encodable".into());
+    }
+    Ok(encode(alloc, m)?)
+}
+
+#[test]
+fn vectors(rt: HostRuntime) -> Result<(), Fail> {
+    let alloc = rt.alloc();
+    for row in VECTORS.iter() {
+        let m = message_of(alloc, row)?;
+        assert_eq!(rt; encoded(alloc, &m)?.as_slice(), row.bytes);
+        assert!(rt; decode(alloc, row.bytes)? == m, "{m:?}");
+    }
+    Ok(())
+}
+
+/// The head of an option by the length of its value.
+#[test]
+fn lengths(rt: HostRuntime) -> Result<(), Fail> {
+    let alloc = rt.alloc();
+    let rows: [(usize, &[u8]); 5] = [
+        (12, b"\x40\x01\0\0\x1c\x07"),
+        (13, b"\x40\x01\0\0\x1d\0\x07"),
+        (268, b"\x40\x01\0\0\x1d\xff\x07"),
+        (269, b"\x40\x01\0\0\x1e\0\0\x07"),
+        (1034, b"\x40\x01\0\0\x1e\x02\xfd\x07"),
+    ];
+    for (len, want) in rows {
+        let mut m = Message::new(alloc, MsgType::Con, 1, 0, Token::new(&[]));
+        let value = vec![in alloc; 7; len]?;
+        m.options.push(Opt { number: 1, value })?;
+        let bytes = encoded(alloc, &m)?;
+        assert!(rt; bytes.starts_with(want), "{len}");
+        assert!(rt; decode(alloc, &bytes)? == m, "{len}");
+    }
+    Ok(())
+}
+
+#[test]
+fn faults(rt: HostRuntime) {
+    let rows: [(&[u8], CodecFault); 13] = [
+        (b"\x40\x01\0", CodecFault::Short),
+        (b"\x80\x01\0\0", CodecFault::Version),
+        (b"\x49\x01\0\x07", CodecFault::TokenLength),
+        (b"\x48\x45\0\x07", CodecFault::Truncated),
+        (b"\x40\x45\0\x07\xff", CodecFault::EmptyPayload),
+        (b"\x50\x45\0\x07\xf0", CodecFault::Reserved),
+        (b"\x41\0\0\x07\xaa", CodecFault::EmptyExtra),
+        (b"\x40\0\0\x07\xff", CodecFault::EmptyExtra),
+        (b"\x40\x45\0\x07\xe0\xff\xff", CodecFault::Number),
+        // The delta's and the length's bytes are missing, and one of the value's.
+        (b"\x40\x45\0\x07\xe0\xff", CodecFault::Truncated),
+        (b"\x40\x45\0\x07\x1d", CodecFault::Truncated),
+        (b"\x40\x45\0\x07\x12a", CodecFault::Truncated),
+        // The first of two faults, after an option that is good.
+        (b"\x40\x45\0\x07\x11a\x0f\xff", CodecFault::Reserved),
+    ];
+    for (bytes, fault) in rows {
+        let found = decode(rt.alloc(), bytes).err();
+        assert_eq!(rt; found, Some(fault), "{bytes:?}");
+    }
+}
+
+#[test]
+fn numbers_and_blocks(rt: HostRuntime) -> Result<(), Fail> {
+    let alloc = rt.alloc();
+    assert_eq!(rt; uint_of(&[0, 0, 1, 2]), 258);
+    let rows: [(u32, &[u8]); 4] = [
+        (0, b""),
+        (60, b"\x3c"),
+        (258, b"\x01\x02"),
+        (0xffff_ffff, b"\xff\xff\xff\xff"),
+    ];
+    for (n, want) in rows {
+        assert_eq!(rt; uint_to(alloc, n)?.as_slice(), want);
+    }
+    let second = Block {
+        num: 1,
+        more: true,
+        szx: 6,
+    };
+    assert_eq!(rt; block_of(&[0x1e]), Some(second));
+    assert_eq!(rt; second.size(), 1024);
+    assert_eq!(rt; block_to(alloc, second)?.as_slice(), b"\x1e".as_slice());
+    assert_eq!(rt; block_of(&[7]), None);
+    Ok(())
+}
+
+#[test]
+fn copies_and_values(rt: HostRuntime) -> Result<(), Fail> {
+    let alloc = rt.alloc();
+    let m = decode(alloc, b"\x51\x02\0\x01t\x41a\x02bc\xffx")?;
+    let n = m.copy(alloc)?;
+    assert!(rt; n == m);
+    assert_eq!(rt; n.token.as_slice(), b"t".as_slice());
+    assert_eq!(rt; (n.token.len(), n.token.is_empty()), (1, false));
+    assert_eq!(rt; first_of(&n, number::ETAG), Some(b"a".as_slice()));
+    let values = values_of(alloc, &n, number::ETAG)?;
+    assert_eq!(rt;
+        values.as_slice(),
+        [b"a".as_slice(), b"bc".as_slice()].as_slice()
+    );
+    Ok(())
+}
+
+/// RFC 7252, table 4, RFC 7641 and RFC 7959.
+#[test]
+fn option_table(rt: HostRuntime) -> Result<(), Fail> {
+    let known = [
+        1, 3, 4, 5, 6, 7, 8, 11, 12, 14, 15, 17, 20, 23, 27, 28, 35, 39, 60,
+    ];
+    let critical = [1, 3, 5, 7, 11, 15, 17, 23, 27, 35, 39];
+    let unsafe_to_forward = [3, 6, 7, 11, 14, 15, 23, 27, 35, 39];
+    for number in 0..100 {
+        let row = definition(number);
+        assert_eq!(rt; row.is_some(), known.contains(&number), "{number}");
+        if row.is_some() {
+            assert_eq!(rt; is_critical(number), critical.contains(&number), "{number}");
+            assert_eq!(rt;
+                is_unsafe(number),
+                unsafe_to_forward.contains(&number),
+                "{number}"
+            );
+        }
+    }
+    let size1 = definition(number::SIZE1).ok_or("no Size1")?;
+    assert_eq!(rt; format!(in rt.alloc(); "{}", size1.name)?.as_str(), "Size1");
+    assert!(rt; size1.no_cache_key && size1.allows_len(4) && !size1.allows_len(5));
+    assert!(rt;
+        is_allowed_in_response(number::MAX_AGE) && !is_allowed_in_response(number::URI_PATH)
+    );
+    assert!(rt; no_cache_key(0x1c) && !no_cache_key(0x1e));
+    let text = format!(in rt.alloc(); "{}", CodecFault::TokenLength)?;
+    assert_eq!(rt; text.as_str(), "a token length above 8");
+    Ok(())
+}
