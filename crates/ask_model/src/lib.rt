@@ -22,6 +22,3 @@ pub use peers::is_same_peer;
 pub use request::MAX_REQUEST_LEN;
 pub use settings::Settings;
 pub use size::{REQUEST_LIMIT, incoming_size};
-
-#[cfg(test)]
-mod tests;

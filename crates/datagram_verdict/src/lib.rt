@@ -18,6 +18,3 @@ pub use confirming::confirmation;
 pub use finding::{Finding, Outcome};
 pub use response::Response;
 pub use verdict::{Change, Due, Ending, Verdict, verdict_of};
-
-#[cfg(test)]
-mod tests;

@@ -28,10 +28,3 @@ pub use core_state::Core;
 pub use datagram_verdict::{Finding, Outcome, Response};
 pub use fault::{AskFault, OpenFault};
 pub use outgoing::Datagram;
-
-#[cfg(test)]
-mod back_tests;
-#[cfg(test)]
-mod flow_tests;
-#[cfg(test)]
-mod tests;

@@ -6,8 +6,6 @@
 //! reads the history anew for each entry, so it is for short journals.
 #![tactic(auto)]
 
-#[cfg(test)]
-mod acts;
 mod at_rest;
 mod checking;
 mod confirming;
@@ -31,6 +29,3 @@ mod turn;
 pub use checking::{is_justified, legal};
 pub use note::{Note, Request};
 pub use proposing::notes_of;
-
-#[cfg(test)]
-mod tests;

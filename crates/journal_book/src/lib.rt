@@ -13,6 +13,3 @@ mod size;
 pub use entry::{Entry, Event, Grounds};
 pub use journal::Journal;
 pub use numbers::Numbers;
-
-#[cfg(test)]
-mod tests;

@@ -13,7 +13,7 @@ use Rattle.http_edge.specs.Requests.{Content as HttpRequest, content}
 use Rattle.ask_model.specs.Requests.{Whole, Requests}
 use Rattle.ask_model.specs.Views.{Rules, rules_of}
 use Rattle.ask_model.specs.Maps.{Maps}
-use Rattle.ask_model.proofs.tests.mapped_get.Goals as goal
+use Rattle.trials_history.proofs.sample.mapped_get.Goals as goal
 
 get_maps : (holds : Form → Form → List ℕ → List ℕ → Type 0) (takes : Form → Form → List ℕ → Type 0) (s : Rules) (r : HttpRequest) (t : Target) (p : Peer) → method_named r.method ≡ Some Get → target_at s.base (origin_form r.target) ≡ Ok t → peer_in s.directory t ≡ Some p → Maps holds takes s (Whole r) (Requests (record { method = 1; peer = p; target = t; accept = None; format = None; body = [] }))
 get_maps holds takes s r t p method target peer = rw (method, target, peer) (refl, refl, refl, (refl, refl), refl)

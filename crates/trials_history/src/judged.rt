@@ -1,6 +1,8 @@
+//! What the checker says of journals: of those that the standard allows, and of each with one thing wrong.
+
 use crate::acts::{ACK, Act, BEGUN, CON, NON, each_is, journal_of, stands};
-use crate::{Note, legal, notes_of};
 use ask_model::Cause;
+use history_check::{Note, legal, notes_of};
 use std::alloc::Global;
 
 #[test]
