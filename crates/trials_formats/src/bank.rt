@@ -32,14 +32,10 @@ fn several_kinds(rt: HostRuntime) {
     store(&mut all, Stored::new(CBOR, JSON, to_json)).expect(&rt, "memory");
     let to_cbor: Call = Box::new(alloc, move |x: &[u8]| json_cbor(alloc, x)).expect(&rt, "memory");
     store(&mut all, Stored::new(JSON, CBOR, to_cbor)).expect(&rt, "memory");
-    let to_hex: Call = Box::new(alloc, move |x: &[u8]| octets_hex(alloc, x)).expect(&rt, "memory");
-    store(&mut all, Stored::new(OCTETS, TEXT, to_hex)).expect(&rt, "memory");
-    let second: Call = Box::new(alloc, |_: &[u8]| Err(Refused::Memory)).expect(&rt, "memory");
-    store(&mut all, Stored::new(CBOR, JSON, second)).expect(&rt, "memory");
     let bank = Bank::new(all);
 
     let routes = bank.routes().expect(&rt, "memory");
-    assert_eq!(rt; routes.as_slice().len(), 4);
+    assert_eq!(rt; routes.as_slice().len(), 2);
     let made = bank.apply(&CBOR, &JSON, &[0xa1, 0x61, 0x61, 0x01]);
     let json = made.expect(&rt, "an output").expect(&rt, "a pair");
     assert_eq!(rt; json.as_slice(), b"{\"a\":1}".as_slice());

@@ -5,11 +5,22 @@ use std::alloc::Global;
 use std::sync::Arc;
 use std::test::Fail;
 
+/// Feeds a piece. Like `next`, it passes on nothing of what the edge promises: a trial over it is proved in
+/// less time.
+pub fn feed(edge: &mut Edge, piece: &[u8]) {
+    edge.feed(piece);
+}
+
+/// The next item.
+fn next(edge: &mut Edge) -> Result<Option<Incoming>, Memory> {
+    edge.next()
+}
+
 /// What the edge gives, each in brackets: a request by its method, target, body and, where it
 /// closes the connection, a `!`; a refusal by its status; and where 100 Continue is due, a `?`.
 pub fn report(edge: &mut Edge, out: &mut Vec<u8>) -> Result<(), Fail> {
     for _ in 0..4 {
-        match edge.next()? {
+        match next(edge)? {
             Some(Incoming::Request(request)) => {
                 out.push(b'[')?;
                 out.extend_from_slice(&request.method)?;
@@ -38,7 +49,7 @@ pub fn read(alloc: Global, pieces: &[&[u8]]) -> Result<Vec<u8>, Fail> {
     let mut edge = Edge::new(alloc)?;
     for piece in pieces {
         for part in piece.chunks(4096) {
-            edge.feed(part);
+            feed(&mut edge, part);
             report(&mut edge, &mut out)?;
         }
     }
@@ -62,7 +73,7 @@ pub fn filled(
 }
 
 /// What is given of a connection's bytes: how a body is framed, and lengths of 0 to 65,536 bytes.
-const FRAMINGS: [(&[u8], &[u8]); 16] = [
+static FRAMINGS: [(&[u8], &[u8]); 16] = [
     (
         b"PUT /a HTTP/1.1\r\nHost: p\r\nTransfer-Encoding: chunked\r\nContent-Length: 3\r\n\r\noff",
         b"[400]",
@@ -129,9 +140,14 @@ const FRAMINGS: [(&[u8], &[u8]); 16] = [
     ),
 ];
 
+/// The table, handed out by a call that says nothing of its rows: a loop over it is proved in less time.
+fn framing_rows() -> &'static [(&'static [u8], &'static [u8])] {
+    &FRAMINGS
+}
+
 #[test]
 fn framings(rt: HostRuntime) -> Result<(), Fail> {
-    for (text, want) in FRAMINGS {
+    for &(text, want) in framing_rows() {
         assert_eq!(rt; read(rt.alloc(), &[text])?.as_slice(), want);
     }
     Ok(())
@@ -139,7 +155,7 @@ fn framings(rt: HostRuntime) -> Result<(), Fail> {
 
 /// A text in front, a part and how often it follows, what ends it, and what is given: a head has at most
 /// 8,191 bytes and 64 fields, a chunk's line 256 bytes.
-const LIMITS: [(&[u8], &[u8], usize, &[u8], &[u8]); 9] = [
+static LIMITS: [(&[u8], &[u8], usize, &[u8], &[u8]); 9] = [
     (b"", b"a", 8191, b"", b""),
     (b"", b"a", 8192, b"", b"[400]"),
     (
@@ -193,10 +209,21 @@ const LIMITS: [(&[u8], &[u8], usize, &[u8], &[u8]); 9] = [
     ),
 ];
 
+/// The same.
+fn limit_rows() -> &'static [(
+    &'static [u8],
+    &'static [u8],
+    usize,
+    &'static [u8],
+    &'static [u8],
+)] {
+    &LIMITS
+}
+
 #[test]
 fn limits(rt: HostRuntime) -> Result<(), Fail> {
     let alloc = rt.alloc();
-    for (front, part, count, back, want) in LIMITS {
+    for &(front, part, count, back, want) in limit_rows() {
         let text = filled(alloc, front, part, count, back)?;
         assert_eq!(rt; read(alloc, &[&text])?.as_slice(), want, "{count}");
     }
@@ -209,13 +236,16 @@ fn copies_and_restarts(rt: HostRuntime) -> Result<(), Fail> {
     let alloc = rt.alloc();
     let mut out = Vec::new(alloc);
     let mut edge = Edge::new(alloc)?;
-    edge.feed(b"PUT /a HTTP/1.1\r\nHost: p\r\nContent-Length: 3\r\n\r\nof");
+    feed(
+        &mut edge,
+        b"PUT /a HTTP/1.1\r\nHost: p\r\nContent-Length: 3\r\n\r\nof",
+    );
     report(&mut edge, &mut out)?;
     let mut copy = edge.copy()?;
-    copy.feed(b"f");
+    feed(&mut copy, b"f");
     report(&mut copy, &mut out)?;
     edge.restart();
-    edge.feed(b"GET /b HTTP/1.1\r\nHost: p\r\n\r\n");
+    feed(&mut edge, b"GET /b HTTP/1.1\r\nHost: p\r\n\r\n");
     report(&mut edge, &mut out)?;
     assert_eq!(rt; out.as_slice(), b"[PUT /a off][GET /b ]".as_slice());
     Ok(())
@@ -224,8 +254,11 @@ fn copies_and_restarts(rt: HostRuntime) -> Result<(), Fail> {
 #[test]
 fn fields_in_order(rt: HostRuntime) -> Result<(), Fail> {
     let mut edge = Edge::new(rt.alloc())?;
-    edge.feed(b"GET / HTTP/1.1\r\nAccept: a\r\nHost: p\r\nACCEPT:  b \r\n\r\n");
-    let Some(Incoming::Request(request)) = edge.next()? else {
+    feed(
+        &mut edge,
+        b"GET / HTTP/1.1\r\nAccept: a\r\nHost: p\r\nACCEPT:  b \r\n\r\n",
+    );
+    let Some(Incoming::Request(request)) = next(&mut edge)? else {
         return Err("no request".into());
     };
     let copy = request.copy()?;
@@ -283,14 +316,15 @@ fn memory(rt: HostRuntime) -> Result<(), Fail> {
         Ok(edge) => edge,
         Err(_) => Edge::new(rt.alloc())?,
     };
-    edge.feed(
+    feed(
+        &mut edge,
         b"PUT /a HTTP/1.1\r\nHost: p\r\nTransfer-Encoding: chunked\r\n\r\n3\r\noff\r\n0\r\n\r\nPUT /b HTTP/1.1\r\nHost: p\r\nContent-Length: 2\r\n\r\non",
     );
     let wanted: [(&[u8], &[u8]); 2] = [(b"/a", b"off"), (b"/b", b"on")];
     let mut given = 0;
     // Two requests, a call that is refused, and one for which nothing is left.
     for _ in 0..4 {
-        match edge.next() {
+        match next(&mut edge) {
             Ok(Some(Incoming::Request(request))) => {
                 assert!(rt; given < wanted.len());
                 let (target, body) = wanted[given];

@@ -1,6 +1,6 @@
 //! Requests are read the same however their bytes are cut.
 
-use crate::http::{filled, read, report};
+use crate::http::{feed, filled, read, report};
 use http_edge::Edge;
 use std::alloc::Global;
 use std::ops::Range;
@@ -17,14 +17,14 @@ fn reads(alloc: Global, text: &[u8], want: &[u8]) -> Result<bool, Fail> {
     let mut out = Vec::new(alloc);
     let mut edge = Edge::new(alloc)?;
     for byte in text.chunks(1) {
-        edge.feed(byte);
+        feed(&mut edge, byte);
         report(&mut edge, &mut out)?;
     }
     Ok(out.as_slice() == want)
 }
 
 /// What is given of a text, however it is cut.
-const READ: [(&[u8], &[u8]); 9] = [
+static READ: [(&[u8], &[u8]); 9] = [
     (b"HEAD /a HTTP/1.1\r\nHost: p\r\n\r\n", b"[HEAD /a ]"),
     (b"\r\n\nGET /a HTTP/1.1\nhOST: p\n\n", b"[GET /a ]"),
     (
@@ -54,9 +54,14 @@ const READ: [(&[u8], &[u8]); 9] = [
     ),
 ];
 
+/// The table, handed out by a call that says nothing of its rows: a loop over it is proved in less time.
+fn read_rows() -> &'static [(&'static [u8], &'static [u8])] {
+    &READ
+}
+
 #[test]
 fn cut_once(rt: HostRuntime) -> Result<(), Fail> {
-    for (text, want) in READ {
+    for &(text, want) in read_rows() {
         assert!(rt; reads(rt.alloc(), text, want)?, "{want:?}");
     }
     Ok(())
@@ -83,7 +88,7 @@ fn reads_in_three(
 }
 
 /// What is given of a text, however it is cut into three.
-const READ_IN_THREE: [(&[u8], &[u8]); 4] = [
+static READ_IN_THREE: [(&[u8], &[u8]); 4] = [
     (
         b"GET /light HTTP/1.1\r\nHost: p\r\n\r\nGET /light HTTP/1.1\r\nHost: p\r\n\r\n",
         b"[GET /light ][GET /light ]",
@@ -102,9 +107,14 @@ const READ_IN_THREE: [(&[u8], &[u8]); 4] = [
     ),
 ];
 
+/// The same.
+fn read_in_three_rows() -> &'static [(&'static [u8], &'static [u8])] {
+    &READ_IN_THREE
+}
+
 #[test]
 fn cut_twice(rt: HostRuntime) -> Result<(), Fail> {
-    for (text, want) in READ_IN_THREE {
+    for &(text, want) in read_in_three_rows() {
         assert!(rt; reads_in_three(rt.alloc(), text, 0..0, want)?, "{want:?}");
     }
     Ok(())

@@ -4,7 +4,7 @@ use std::alloc::Global;
 use transformers::{Refused, cbor_json, json_cbor, octets_hex};
 
 // A CBOR item in hexadecimal, and the JSON of its value. The items have the shortest heads.
-const INSIDE: [(&str, &str); 37] = [
+static INSIDE: [(&str, &str); 37] = [
     ("00", "0"),
     ("01", "1"),
     ("0a", "10"),
@@ -50,8 +50,13 @@ const INSIDE: [(&str, &str); 37] = [
     ("82f6a0", "[null,{}]"),
 ];
 
+/// The table, handed out by a call that says nothing of its rows: a loop over it is proved in less time.
+fn inside() -> &'static [(&'static str, &'static str)] {
+    &INSIDE
+}
+
 // Items that aren't taken: other kinds, keys that aren't text, items of unknown length, and items that aren't well formed.
-const OUTSIDE: [&str; 62] = [
+static OUTSIDE: [&str; 62] = [
     "c249010000000000000000",
     "3bffffffffffffffff",
     "3b8000000000000000",
@@ -116,8 +121,13 @@ const OUTSIDE: [&str; 62] = [
     "9bffffffffffffffff00",
 ];
 
+/// The same.
+fn outside() -> &'static [&'static str] {
+    &OUTSIDE
+}
+
 // Items with heads that are longer than they have to be, or with keys out of order.
-const LONG: [(&str, &str); 6] = [
+static LONG: [(&str, &str); 6] = [
     ("1817", "17"),
     ("1900ff", "18ff"),
     ("1b0000000000000001", "01"),
@@ -126,8 +136,13 @@ const LONG: [(&str, &str); 6] = [
     ("a2616202616101", "a2616101616202"),
 ];
 
+/// The same.
+fn long_rows() -> &'static [(&'static str, &'static str)] {
+    &LONG
+}
+
 // JSON that isn't taken.
-const REFUSED: [&str; 16] = [
+static REFUSED: [&str; 16] = [
     "",
     "1.5",
     "{\"a\":1.5}",
@@ -146,9 +161,14 @@ const REFUSED: [&str; 16] = [
     "'a'",
 ];
 
+/// The same.
+fn refused() -> &'static [&'static str] {
+    &REFUSED
+}
+
 #[test]
 fn items_inside(rt: HostRuntime) {
-    for (item, json) in INSIDE.iter() {
+    for (item, json) in inside() {
         let bytes = hex::decode(rt.alloc(), *item).expect(&rt, "bytes");
         let made = cbor_json(rt.alloc(), &bytes).expect(&rt, "JSON");
         assert_eq!(rt; made.as_slice(), json.as_bytes());
@@ -159,7 +179,7 @@ fn items_inside(rt: HostRuntime) {
 
 #[test]
 fn items_outside(rt: HostRuntime) {
-    for item in OUTSIDE.iter() {
+    for item in outside() {
         let bytes = hex::decode(rt.alloc(), *item).expect(&rt, "bytes");
         assert_eq!(rt;
             cbor_json(rt.alloc(), &bytes).err(),
@@ -171,7 +191,7 @@ fn items_outside(rt: HostRuntime) {
 
 #[test]
 fn long_heads(rt: HostRuntime) {
-    for (long, short) in LONG.iter() {
+    for (long, short) in long_rows() {
         let long = hex::decode(rt.alloc(), *long).expect(&rt, "bytes");
         let short = hex::decode(rt.alloc(), *short).expect(&rt, "bytes");
         let json = cbor_json(rt.alloc(), &long).expect(&rt, "JSON");
@@ -182,7 +202,7 @@ fn long_heads(rt: HostRuntime) {
 
 #[test]
 fn json_refused(rt: HostRuntime) {
-    for json in REFUSED.iter() {
+    for json in refused() {
         assert_eq!(rt;
             json_cbor(rt.alloc(), json.as_bytes()).err(),
             Some(Refused::Content),

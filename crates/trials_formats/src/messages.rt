@@ -20,7 +20,7 @@ struct Vector {
 }
 
 /// RFC 7252, figures 16 and 17; a ping and a reset; and an option of two bytes' number.
-const VECTORS: [Vector; 7] = [
+static VECTORS: [Vector; 7] = [
     Vector {
         kind: MsgType::Con,
         code: 1,
@@ -86,6 +86,11 @@ const VECTORS: [Vector; 7] = [
     },
 ];
 
+/// The table, handed out by a call that says nothing of its rows: a loop over it is proved in less time.
+fn vector_rows() -> &'static [Vector] {
+    &VECTORS
+}
+
 fn message_of(alloc: Global, row: &Vector) -> Result<Message, Fail> {
     if row.token.len() > 8 {
         return Err("a token above 8 bytes".into());
@@ -110,7 +115,7 @@ fn encoded(alloc: Global, m: &Message) -> Result<Vec<u8>, Fail> {
 #[test]
 fn vectors(rt: HostRuntime) -> Result<(), Fail> {
     let alloc = rt.alloc();
-    for row in VECTORS.iter() {
+    for row in vector_rows() {
         let m = message_of(alloc, row)?;
         assert_eq!(rt; encoded(alloc, &m)?.as_slice(), row.bytes);
         assert!(rt; decode(alloc, row.bytes)? == m, "{m:?}");
@@ -118,18 +123,24 @@ fn vectors(rt: HostRuntime) -> Result<(), Fail> {
     Ok(())
 }
 
+/// A length, and how the message begins.
+static LENGTHS: [(usize, &[u8]); 5] = [
+    (12, b"\x40\x01\0\0\x1c\x07"),
+    (13, b"\x40\x01\0\0\x1d\0\x07"),
+    (268, b"\x40\x01\0\0\x1d\xff\x07"),
+    (269, b"\x40\x01\0\0\x1e\0\0\x07"),
+    (1034, b"\x40\x01\0\0\x1e\x02\xfd\x07"),
+];
+
+fn length_rows() -> &'static [(usize, &'static [u8])] {
+    &LENGTHS
+}
+
 /// The head of an option by the length of its value.
 #[test]
 fn lengths(rt: HostRuntime) -> Result<(), Fail> {
     let alloc = rt.alloc();
-    let rows: [(usize, &[u8]); 5] = [
-        (12, b"\x40\x01\0\0\x1c\x07"),
-        (13, b"\x40\x01\0\0\x1d\0\x07"),
-        (268, b"\x40\x01\0\0\x1d\xff\x07"),
-        (269, b"\x40\x01\0\0\x1e\0\0\x07"),
-        (1034, b"\x40\x01\0\0\x1e\x02\xfd\x07"),
-    ];
-    for (len, want) in rows {
+    for &(len, want) in length_rows() {
         let mut m = Message::new(alloc, MsgType::Con, 1, 0, Token::new(&[]));
         let value = vec![in alloc; 7; len]?;
         m.options.push(Opt { number: 1, value })?;
@@ -140,42 +151,54 @@ fn lengths(rt: HostRuntime) -> Result<(), Fail> {
     Ok(())
 }
 
+/// Bytes, and their first fault.
+static FAULTS: [(&[u8], CodecFault); 13] = [
+    (b"\x40\x01\0", CodecFault::Short),
+    (b"\x80\x01\0\0", CodecFault::Version),
+    (b"\x49\x01\0\x07", CodecFault::TokenLength),
+    (b"\x48\x45\0\x07", CodecFault::Truncated),
+    (b"\x40\x45\0\x07\xff", CodecFault::EmptyPayload),
+    (b"\x50\x45\0\x07\xf0", CodecFault::Reserved),
+    (b"\x41\0\0\x07\xaa", CodecFault::EmptyExtra),
+    (b"\x40\0\0\x07\xff", CodecFault::EmptyExtra),
+    (b"\x40\x45\0\x07\xe0\xff\xff", CodecFault::Number),
+    // The delta's and the length's bytes are missing, and one of the value's.
+    (b"\x40\x45\0\x07\xe0\xff", CodecFault::Truncated),
+    (b"\x40\x45\0\x07\x1d", CodecFault::Truncated),
+    (b"\x40\x45\0\x07\x12a", CodecFault::Truncated),
+    // The first of two faults, after an option that is good.
+    (b"\x40\x45\0\x07\x11a\x0f\xff", CodecFault::Reserved),
+];
+
+fn fault_rows() -> &'static [(&'static [u8], CodecFault)] {
+    &FAULTS
+}
+
 #[test]
 fn faults(rt: HostRuntime) {
-    let rows: [(&[u8], CodecFault); 13] = [
-        (b"\x40\x01\0", CodecFault::Short),
-        (b"\x80\x01\0\0", CodecFault::Version),
-        (b"\x49\x01\0\x07", CodecFault::TokenLength),
-        (b"\x48\x45\0\x07", CodecFault::Truncated),
-        (b"\x40\x45\0\x07\xff", CodecFault::EmptyPayload),
-        (b"\x50\x45\0\x07\xf0", CodecFault::Reserved),
-        (b"\x41\0\0\x07\xaa", CodecFault::EmptyExtra),
-        (b"\x40\0\0\x07\xff", CodecFault::EmptyExtra),
-        (b"\x40\x45\0\x07\xe0\xff\xff", CodecFault::Number),
-        // The delta's and the length's bytes are missing, and one of the value's.
-        (b"\x40\x45\0\x07\xe0\xff", CodecFault::Truncated),
-        (b"\x40\x45\0\x07\x1d", CodecFault::Truncated),
-        (b"\x40\x45\0\x07\x12a", CodecFault::Truncated),
-        // The first of two faults, after an option that is good.
-        (b"\x40\x45\0\x07\x11a\x0f\xff", CodecFault::Reserved),
-    ];
-    for (bytes, fault) in rows {
+    for &(bytes, fault) in fault_rows() {
         let found = decode(rt.alloc(), bytes).err();
         assert_eq!(rt; found, Some(fault), "{bytes:?}");
     }
+}
+
+/// A number, and its shortest bytes.
+static NUMBERS: [(u32, &[u8]); 4] = [
+    (0, b""),
+    (60, b"\x3c"),
+    (258, b"\x01\x02"),
+    (0xffff_ffff, b"\xff\xff\xff\xff"),
+];
+
+fn number_rows() -> &'static [(u32, &'static [u8])] {
+    &NUMBERS
 }
 
 #[test]
 fn numbers_and_blocks(rt: HostRuntime) -> Result<(), Fail> {
     let alloc = rt.alloc();
     assert_eq!(rt; uint_of(&[0, 0, 1, 2]), 258);
-    let rows: [(u32, &[u8]); 4] = [
-        (0, b""),
-        (60, b"\x3c"),
-        (258, b"\x01\x02"),
-        (0xffff_ffff, b"\xff\xff\xff\xff"),
-    ];
-    for (n, want) in rows {
+    for &(n, want) in number_rows() {
         assert_eq!(rt; uint_to(alloc, n)?.as_slice(), want);
     }
     let second = Block {
@@ -207,32 +230,54 @@ fn copies_and_values(rt: HostRuntime) -> Result<(), Fail> {
     Ok(())
 }
 
-/// RFC 7252, table 4, RFC 7641 and RFC 7959.
+/// RFC 7252, table 4, RFC 7641 and RFC 7959: an option's number, whether it is critical, and whether it is
+/// unsafe to forward.
+static OPTIONS: [(u16, bool, bool); 19] = [
+    (1, true, false),
+    (3, true, true),
+    (4, false, false),
+    (5, true, false),
+    (6, false, true),
+    (7, true, true),
+    (8, false, false),
+    (11, true, true),
+    (12, false, false),
+    (14, false, true),
+    (15, true, true),
+    (17, true, false),
+    (20, false, false),
+    (23, true, true),
+    (27, true, true),
+    (28, false, false),
+    (35, true, true),
+    (39, true, true),
+    (60, false, false),
+];
+
+fn option_rows() -> &'static [(u16, bool, bool)] {
+    &OPTIONS
+}
+
 #[test]
-fn option_table(rt: HostRuntime) -> Result<(), Fail> {
-    let known = [
-        1, 3, 4, 5, 6, 7, 8, 11, 12, 14, 15, 17, 20, 23, 27, 28, 35, 39, 60,
-    ];
-    let critical = [1, 3, 5, 7, 11, 15, 17, 23, 27, 35, 39];
-    let unsafe_to_forward = [3, 6, 7, 11, 14, 15, 23, 27, 35, 39];
-    for number in 0..100 {
-        let row = definition(number);
-        assert_eq!(rt; row.is_some(), known.contains(&number), "{number}");
-        if row.is_some() {
-            assert_eq!(rt; is_critical(number), critical.contains(&number), "{number}");
-            assert_eq!(rt;
-                is_unsafe(number),
-                unsafe_to_forward.contains(&number),
-                "{number}"
-            );
-        }
+fn option_table(rt: HostRuntime) {
+    for &(number, critical, unsafe_to_forward) in option_rows() {
+        assert!(rt; definition(number).is_some(), "{number}");
+        assert_eq!(rt; is_critical(number), critical, "{number}");
+        assert_eq!(rt; is_unsafe(number), unsafe_to_forward, "{number}");
     }
+    let known = (0..100)
+        .filter(|number| definition(*number).is_some())
+        .count();
+    assert_eq!(rt; known, 19);
+}
+
+#[test]
+fn one_option(rt: HostRuntime) -> Result<(), Fail> {
     let size1 = definition(number::SIZE1).ok_or("no Size1")?;
     assert_eq!(rt; format!(in rt.alloc(); "{}", size1.name)?.as_str(), "Size1");
     assert!(rt; size1.no_cache_key && size1.allows_len(4) && !size1.allows_len(5));
-    assert!(rt;
-        is_allowed_in_response(number::MAX_AGE) && !is_allowed_in_response(number::URI_PATH)
-    );
+    assert!(rt; is_allowed_in_response(number::MAX_AGE));
+    assert!(rt; !is_allowed_in_response(number::URI_PATH));
     assert!(rt; no_cache_key(0x1c) && !no_cache_key(0x1e));
     let text = format!(in rt.alloc(); "{}", CodecFault::TokenLength)?;
     assert_eq!(rt; text.as_str(), "a token length above 8");
