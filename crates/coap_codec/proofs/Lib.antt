@@ -13,3 +13,4 @@ pub mod FaultsFound
 pub mod FaultsOnly
 pub mod FaultsStay
 pub mod Either
+pub mod Recognising

@@ -5,3 +5,4 @@ pub mod Tokens
 pub mod Writing
 pub mod Values
 pub mod Options
+pub mod Recognition

@@ -6,8 +6,9 @@
 //! in front of which all is spelled; `encode` gives the bytes that spell the message. A message
 //! has one spelling, and bytes spell one message.
 //!
-//! The table of options stands here too, with what the bits of an option's number say. Whoever
-//! sends or receives messages of CoAP stands on this crate.
+//! The table of options stands here too, with what the bits of an option's number say, and which
+//! options of a response are recognised. Whoever sends or receives messages of CoAP stands on
+//! this crate.
 #![tactic(auto)]
 
 mod block;
@@ -18,6 +19,7 @@ pub mod number;
 mod opt;
 mod options;
 mod reading;
+mod recognition;
 mod token;
 mod uint;
 mod values;
@@ -36,6 +38,7 @@ pub use options::{
     is_unsafe, no_cache_key,
 };
 pub use reading::decode;
+pub use recognition::{is_defined, is_forwardable, is_processable, is_rejected};
 pub use token::Token;
 pub use uint::{MAX_UINT_LEN, uint_of, uint_to};
 pub use values::{first_of, values_of};

@@ -1,4 +1,3 @@
-mod Recognising
 mod Matching
 mod Deciding
 mod Lasts

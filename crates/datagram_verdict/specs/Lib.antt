@@ -1,4 +1,3 @@
 pub mod Findings
 pub mod Hearing
-pub mod Reading
 pub mod Verdicts

@@ -3,13 +3,14 @@ use Rattle.std.specs.Prelude.{◌≡◌, ◌⊎◌, ℕ, true, false, not, ◌==
 use Rattle.std.specs.List.{All, Contains, list_any}
 use Rattle.coap_codec.specs.declared.message.MsgType.{MsgType}
 use Rattle.coap_codec.specs.Spelling.{Content, Spells}
+use Rattle.coap_codec.specs.Recognition.{is_rejected}
 use Rattle.uri_map.specs.declared.peer.Peer.{Peer}
 use Rattle.ask_model.specs.Requests.{CoapRequest}
 use Rattle.ask_model.specs.declared.cause.Cause.TheVariants.{Reset, NotUnderstood}
 use Rattle.journal_book.specs.Entries.{Live, Fault}
 use Rattle.history_laws.specs.declared.kept.Exchange.{Exchange}
 use Rattle.history_laws.specs.declared.kept.Remembered.{Remembered}
-use Rattle.history_laws.specs.Responses.{Response, is_rejected, whole_of}
+use Rattle.history_laws.specs.Responses.{Response, whole_of}
 use Rattle.history_laws.specs.Exchanges.{is_such, is_reply, Acked, Replied, Rejected, heard_turn}
 use Rattle.history_laws.specs.Confirming.{answer_by, Confirmation, given, rejects_bytes, heard_answer}
 use Rattle.history_laws.specs.Remembering.{find_live}

@@ -3,12 +3,11 @@
 ghost use Rattle.std.specs.Prelude.{◌≡◌, ◌==◌, IfOk, length};
 ghost use Rattle.coap_codec.specs.Spelling.{Spells, content};
 ghost use Rattle.uri_map.specs.declared.peer.Peer.{Peer};
-ghost use Rattle.history_laws.specs.Responses.{is_rejected};
+ghost use Rattle.coap_codec.specs.Recognition.{is_rejected};
 ghost use Rattle.history_laws.specs.Confirming.{answer_by, empty, heard_answer, rejects_bytes};
 ghost use Rattle.datagram_verdict.specs.Hearing.{reset_with};
 
-use crate::reading::is_rejected;
-use coap_codec::{Message, MsgType};
+use coap_codec::{Message, MsgType, is_rejected};
 use std::alloc::{AllocError, Global};
 
 /// The type of the message that answers this one, which is no repeat; it is matched where it replies to

@@ -13,6 +13,8 @@ mod refused_tests;
 mod relation;
 mod replay;
 #[cfg(test)]
+mod reply_tests;
+#[cfg(test)]
 mod row_tests;
 mod script;
 mod settings;

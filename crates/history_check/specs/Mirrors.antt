@@ -1,10 +1,10 @@
 -- Words that the checker's parts speak by: each says in one word what a definition of histories says of an
 -- entry, or what a Rust value says of a history.
 use Rattle.std.specs.Prelude.{◌≡◌, ℕ, ◌+◌, ◌-◌, ◌≤◌, Bool, true, false, not, ◌&&◌, ◌||◌, List, [], ◌∷◌, length, map, find, slice_get, Option, Some, None, option_map, is_some, ◌==◌, nat_le, nat_lt, if◌then◌else◌, ⊤}
-use Rattle.std.specs.List.{list_any}
 use Rattle.std.specs.Str.{bytes_eq}
 use Rattle.coap_codec.specs.declared.message.MsgType.{MsgType}
 use Rattle.coap_codec.specs.Spelling.{Entry, Content, Spells}
+use Rattle.coap_codec.specs.Recognition.{is_defined, is_forwardable}
 use Rattle.uri_map.specs.declared.peer.Peer.{Peer}
 use Rattle.ask_model.specs.declared.cause.Cause.{Cause}
 use Rattle.ask_model.specs.Requests.{CoapRequest, Sense, Requests, Refuses, Ask, same_peer, request_message}
@@ -25,21 +25,15 @@ use Rattle.history_check.specs.declared.exchange.End.{End}
 use Rattle.history_check.specs.declared.confirming.Confirmation.{Confirmation}
 use Rattle.coap_codec.specs.Spelling.{content}
 
-abbrev pub number_of : Entry → ℕ
-number_of o = o.number
-
-abbrev pub is_recognised : List ℕ → Entry → Bool
-is_recognised seen o = R.is_defined o && (R.may_repeat o || not (list_any (λ (n : ℕ). n == o.number) seen))
-
 abbrev pub is_whole : Content → Bool
-is_whole m = R.is_forwardable m && (R.is_final m && not (R.says_more (R.value_of 23 m)))
+is_whole m = is_forwardable m.options && (R.is_final m && not (R.says_more (R.value_of 23 m)))
 
 -- the value of the first of the options with this number that is defined
 abbrev pub is_block2 : Entry → Bool
-is_block2 o = (o.number == 23) && R.is_defined o
+is_block2 o = (o.number == 23) && is_defined o
 
 abbrev pub value_in : ℕ → List Entry → Option (List ℕ)
-value_in number os = option_map (λ (o : Entry). o.value) (find (λ (o : Entry). (o.number == number) && R.is_defined o) os)
+value_in number os = option_map (λ (o : Entry). o.value) (find (λ (o : Entry). (o.number == number) && is_defined o) os)
 
 -- the entry of a reading, as the definitions take it apart
 abbrev pub is_like_step : ℕ → Peer → ℕ → Noted → Bool

@@ -10,10 +10,9 @@ use crate::exchange::{exchange_of, openings};
 use crate::note::Note;
 use crate::parts::either;
 use crate::repeats::{is_again, is_like, is_repeat};
-use crate::responses::is_rejected;
 use crate::step::Step;
 use crate::turn::{Sending, is_reply};
-use coap_codec::{Message, MsgType};
+use coap_codec::{Message, MsgType, is_rejected};
 use journal_book::Event;
 use std::alloc::{AllocError, Global};
 use transformers::Relation;
@@ -90,7 +89,7 @@ fn answer_to<R: Relation>(
     ensures { IfOk result (λ k. k ≡ answer_to (history steps.now) peer.now (content message.now)) }
 {
     let matched = is_matched(alloc, steps, peer, message)?;
-    let rejected = is_rejected(alloc, message)?;
+    let rejected = is_rejected(message);
     Ok(answer_by(message.kind, matched, rejected, message.code == 0))
 }
 

@@ -106,37 +106,27 @@ fn sent_by<R: Relation>(
 }
 
 /// How an exchange that was begun, and had no reply before, ends by a reply.
-fn ending_by_reply(
-    alloc: Global,
-    message: &coap_codec::Message,
-    begun: bool,
-    first: bool,
-) -> Result<Option<Ending>, AllocError>
-    ensures { IfOk result (λ e. (b : Option Begun) (rs : List Reply) → begun ≡ is_some b → first ≡ (length rs == 0) → e ≡ option_map ending_of (replied_end b (messages rs ++ content message.now ∷ []))) }
+fn ending_by_reply(message: &coap_codec::Message, begun: bool, first: bool) -> Option<Ending>
+    ensures { (b : Option Begun) (rs : List Reply) → begun ≡ is_some b → first ≡ (length rs == 0) → result ≡ option_map ending_of (replied_end b (messages rs ++ content message.now ∷ [])) }
 {
     if !begun {
-        return Ok(None);
+        return None;
     }
-    if first && is_whole(alloc, message)? {
-        return Ok(Some(Ending::Whole));
+    if first && is_whole(message) {
+        return Some(Ending::Whole);
     }
-    Ok(Some(Ending::NotUnderstood))
+    Some(Ending::NotUnderstood)
 }
 
 /// How an exchange ends by the turn, if it does.
-fn ending_by(
-    alloc: Global,
-    turn: &Turn<'_>,
-    begun: bool,
-    first: bool,
-) -> Result<Option<Ending>, AllocError>
-    ensures { IfOk result (λ e. (b : Option Begun) (rs : List Reply) → begun ≡ is_some b → first ≡ (length rs == 0) → e ≡ option_map ending_of (end_here (turn_of turn.now) b rs)) }
+fn ending_by(turn: &Turn<'_>, begun: bool, first: bool) -> Option<Ending>
+    ensures { (b : Option Begun) (rs : List Reply) → begun ≡ is_some b → first ≡ (length rs == 0) → result ≡ option_map ending_of (end_here (turn_of turn.now) b rs) }
 {
     match turn {
-        Turn::Replied(_, message) => ending_by_reply(alloc, message, begun, first),
-        Turn::Rejected => Ok(Some(Ending::Reset)),
-        Turn::Expired => Ok(Some(Ending::TimedOut)),
-        _ => Ok(None),
+        Turn::Replied(_, message) => ending_by_reply(message, begun, first),
+        Turn::Rejected => Some(Ending::Reset),
+        Turn::Expired => Some(Ending::TimedOut),
+        _ => None,
     }
 }
 
@@ -184,7 +174,7 @@ pub fn exchange_of<R: Relation>(
         let late = is_late(moment, since);
         let before = waits;
         let turn = turn_by(opening, i, again, late, event, step.note, &before);
-        let ending = ending_by(alloc, &turn, since.is_some(), replies.is_empty())?;
+        let ending = ending_by(&turn, since.is_some(), replies.is_empty());
         push_if(&mut replies, i, is_replied(&turn))?;
         end = end_by(ending, i, end);
         waits = waits_by(&turn, &before);

@@ -35,13 +35,3 @@ pub fn push_if<T: Copy>(values: &mut Vec<T>, value: T, test: bool) -> Result<(),
     }
     Ok(())
 }
-
-/// Puts the number first, where the test holds.
-pub fn put_first_if(numbers: &mut Vec<u16>, number: u16, test: bool) -> Result<(), AllocError>
-    ensures { OnOk result (numbers.new.items ≡ (if test then number ∷ numbers.old.items else numbers.old.items)) }
-{
-    if test {
-        numbers.insert(0, number)?;
-    }
-    Ok(())
-}

@@ -3,10 +3,10 @@ use Rattle.std.proofs.Common.{◌≡◌, ℕ, ◌+◌, ◌/◌, Bool, true, fals
 use Rattle.std.specs.Prelude.{⊤}
 use Rattle.coap_codec.specs.declared.message.MsgType.{MsgType}
 use Rattle.coap_codec.specs.declared.message.MsgType.TheVariants.{Con, Non, Ack, Rst}
+use Rattle.coap_codec.specs.Recognition.{is_rejected}
 use Rattle.uri_map.specs.declared.peer.Peer.{Peer}
 use Rattle.journal_book.specs.Entries.{Deed, Hears}
 use Rattle.history_laws.specs.Readings.{Noted, Note, Says, Garbled, at}
-use Rattle.history_laws.specs.Responses.{is_rejected}
 use Rattle.history_laws.specs.Exchanges.{is_repeat}
 use Rattle.history_laws.specs.Confirming.{is_matched, answer_by, answered_as, answer_again, Confirmation, given, rejects_bytes, heard_answer, owed_by, owed}
 use Rattle.history_laws.proofs.Places.{at-new}

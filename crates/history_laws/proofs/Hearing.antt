@@ -7,6 +7,7 @@ use Rattle.std.proofs.lemmas.Bool.Decides.{eqb_tells}
 use Rattle.coap_codec.specs.declared.message.MsgType.{MsgType}
 use Rattle.coap_codec.specs.declared.message.MsgType.TheVariants.{Con, Non, Ack, Rst}
 use Rattle.coap_codec.specs.Spelling.{Content, Spells}
+use Rattle.coap_codec.specs.Recognition.{is_rejected}
 use Rattle.uri_map.specs.declared.peer.Peer.{Peer}
 use Rattle.ask_model.specs.Requests.{CoapRequest, same_peer}
 use Rattle.ask_model.specs.declared.cause.Cause.TheVariants.{Reset as ResetCause, NotUnderstood as NotUnderstoodCause}
@@ -17,7 +18,7 @@ use Rattle.history_laws.specs.declared.kept.Exchange.{Exchange}
 use Rattle.history_laws.specs.declared.kept.Known.{Known}
 use Rattle.history_laws.specs.declared.kept.Remembered.{Remembered}
 use Rattle.history_laws.specs.Readings.{Noted, Note, Begins, Says}
-use Rattle.history_laws.specs.Responses.{Response, Whole, NotUnderstood, Reset, is_rejected, whole_of}
+use Rattle.history_laws.specs.Responses.{Response, Whole, NotUnderstood, Reset, whole_of}
 use Rattle.history_laws.specs.Exchanges.{is_such, is_repeat, repeats, Turn, Nothing, Acked, Replied, Rejected, replies, end_of}
 use Rattle.history_laws.specs.Confirming.{answer_by, answer_to, answer_again, given, heard_answer}
 use Rattle.history_laws.specs.Justified.{IsReader, reads_by, HasGrounds, numbers, WasSentTo, Follows}

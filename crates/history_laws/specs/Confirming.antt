@@ -4,10 +4,10 @@ use Rattle.std.specs.List.{list_any}
 use Rattle.coap_codec.specs.declared.message.MsgType.{MsgType}
 use Rattle.coap_codec.specs.declared.message.MsgType.TheVariants.{Con, Non, Ack, Rst}
 use Rattle.coap_codec.specs.Spelling.{Content}
+use Rattle.coap_codec.specs.Recognition.{is_rejected}
 use Rattle.uri_map.specs.declared.peer.Peer.{Peer}
 use Rattle.journal_book.specs.Entries.{Deed, Hears}
 use Rattle.history_laws.specs.Readings.{Noted, Note, Says, Garbled}
-use Rattle.history_laws.specs.Responses.{is_rejected}
 use Rattle.history_laws.specs.Exchanges.{Sending, openings, is_reply, is_like, is_repeat, waits_for}
 
 -- an empty message (RFC 7252 section 4.1)

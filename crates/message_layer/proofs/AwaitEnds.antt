@@ -6,8 +6,8 @@ use Rattle.std.specs.Str.{bytes_eq}
 use Rattle.coap_codec.specs.Spelling.{Content}
 use Rattle.coap_codec.specs.declared.message.MsgType.{MsgType}
 use Rattle.coap_codec.specs.declared.message.MsgType.TheVariants.{Con, Non, Ack, Rst}
+use Rattle.coap_codec.specs.Recognition.{is_rejected}
 use Rattle.message_layer.specs.Values.{LinkState, Told, no_news, response, timed_out, was_reset, was_dropped}
-use Rattle.message_layer.specs.Options.{is_rejected}
 use Rattle.message_layer.specs.Hearing.{is_awaited, is_awaited_by_ack, is_outstanding_under, is_outstanding_as, is_repeat, is_fresh, says, verdict_of, verdict_by, new_verdict, heard_verdict, ack_verdict, rst_verdict}
 use Rattle.message_layer.specs.Transmissions.{mid_of}
 use Rattle.message_layer.specs.Awaiting.{token_of, tells_under, is_drop, ends_by, heard_by}

@@ -1,5 +1,4 @@
 pub mod Sound
-pub mod Entries
 pub mod Lists
 pub mod Sendings
 pub mod Effects

@@ -6,8 +6,8 @@ use Rattle.coap_codec.specs.Reading.{message_at}
 use Rattle.coap_codec.specs.declared.fault.CodecFault.{CodecFault}
 use Rattle.coap_codec.specs.declared.message.MsgType.{MsgType}
 use Rattle.coap_codec.specs.declared.message.MsgType.TheVariants.{Con, Non, Ack, Rst}
+use Rattle.coap_codec.specs.Recognition.{is_rejected}
 use Rattle.message_layer.specs.Values.{LinkState, Told, no_news, response, was_reset, was_dropped, is_con}
-use Rattle.message_layer.specs.Options.{is_rejected}
 use Rattle.message_layer.specs.Hearing.{is_fresh, is_repeat, is_awaited, is_awaited_by_ack, replies, reset_for}
 use Rattle.message_layer.specs.Runs.{Call, submit, hear, tick, forget, expect, take_send, refuse, Step, IsRun, transmissions}
 use Rattle.message_layer.specs.Transmissions.{mid_of}

@@ -7,8 +7,8 @@ use Rattle.coap_codec.specs.Reading.{message_at}
 use Rattle.coap_codec.specs.declared.fault.CodecFault.{CodecFault}
 use Rattle.coap_codec.specs.declared.message.MsgType.{MsgType}
 use Rattle.coap_codec.specs.declared.message.MsgType.TheVariants.{Con, Non, Ack, Rst}
+use Rattle.coap_codec.specs.Recognition.{is_rejected}
 use Rattle.message_layer.specs.Values.{LinkState, Told, no_news, response, was_reset, was_dropped}
-use Rattle.message_layer.specs.Options.{is_rejected}
 use Rattle.message_layer.specs.Sending.{next_sent}
 use Rattle.message_layer.specs.declared.state.Outstanding.{Outstanding}
 use Rattle.message_layer.specs.declared.state.Awaited.{Awaited}

@@ -1,12 +1,10 @@
 //! Whether a response can be used.
 
-ghost use Rattle.std.specs.Prelude.{◌≡◌, ◌==◌, ◌||◌, count_by};
-ghost use Rattle.std.specs.List.{list_any};
-ghost use Rattle.coap_codec.specs.Spelling.{content, entry, entries};
-ghost use Rattle.coap_codec.specs.Options.{definition_of};
-ghost use Rattle.message_layer.specs.Options.{is_block, has_row, has_number, is_recognised, is_refused, has_refused, is_unforwardable, is_rejected, fitness_of};
+ghost use Rattle.std.specs.Prelude.{◌≡◌};
+ghost use Rattle.coap_codec.specs.Spelling.{content};
+ghost use Rattle.message_layer.specs.Options.{fitness_of};
 
-use coap_codec::{Message, Occurrence, Opt, definition, is_critical, is_unsafe, uint_of};
+use coap_codec::{Message, is_forwardable, is_rejected};
 
 /// What a response is good for.
 #[derive(Clone, Copy, Debug, PartialEq, Eq)]
@@ -19,79 +17,14 @@ pub enum Fitness {
     Fits,
 }
 
-fn is_block_number(number: u16) -> bool
-    ensures { result ≡ is_block number }
-{
-    number == 23 || number == 27
-}
-
-fn is_in_table(number: u16, len: usize) -> bool
-    ensures { result ≡ has_row (definition_of number) len }
-{
-    match definition(number) {
-        None => false,
-        Some(row) => {
-            let counts = match row.in_response {
-                Occurrence::Never => false,
-                Occurrence::Once | Occurrence::Repeated => true,
-            };
-            counts && usize::from(row.min_len) <= len && len <= usize::from(row.max_len)
-        }
-    }
-}
-
-fn is_usable(o: &Opt) -> bool
-    ensures { result ≡ is_recognised (entry o.now) }
-{
-    is_in_table(o.number, o.value.len())
-        && !(is_block_number(o.number) && uint_of(&o.value) % 8 == 7)
-}
-
-fn any_refused(options: &[Opt]) -> bool
-    ensures { result ≡ list_any (λ o. is_refused (entry o)) options.now }
-{
-    options
-        .iter()
-        .any(|o| is_critical(o.number) && !is_usable(o))
-}
-
-fn count_of(options: &[Opt], number: u16) -> usize
-    ensures { result ≡ count_by (λ o. has_number number (entry o)) options.now }
-{
-    options.iter().filter(|o| o.number == number).count()
-}
-
-#[tactic(auto, using(crate::proofs::Entries::list_any_entries, crate::proofs::Entries::count_by_entries))]
-fn refuses(options: &[Opt]) -> bool
-    ensures { result ≡ has_refused (entries options.now) }
-{
-    any_refused(options) || count_of(options, 23) > 1 || count_of(options, 27) > 1
-}
-
-fn any_unforwardable(options: &[Opt]) -> bool
-    ensures { result ≡ list_any (λ o. is_unforwardable (entry o)) options.now }
-{
-    options.iter().any(|o| !is_critical(o.number)
-        && is_unsafe(o.number)
-        && definition(o.number).is_none())
-}
-
-/// Whether a response is to be rejected.
-pub fn rejects(m: &Message) -> bool
-    ensures { result ≡ is_rejected (content m.now) }
-{
-    m.code / 32 == 1 || m.code / 32 >= 6 || refuses(&m.options)
-}
-
 /// What the response is good for, by its code and its options.
-#[tactic(auto, using(crate::proofs::Entries::list_any_entries))]
 pub fn judge(m: &Message) -> Fitness
     ensures { result ≡ fitness_of (content m.now) }
 {
-    if rejects(m) {
+    if is_rejected(m) {
         return Fitness::Rejected;
     }
-    if m.code / 32 == 3 || any_unforwardable(&m.options) {
+    if m.code / 32 == 3 || !is_forwardable(&m.options) {
         return Fitness::NotUnderstood;
     }
     Fitness::Fits

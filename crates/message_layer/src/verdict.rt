@@ -8,9 +8,8 @@ ghost use Rattle.coap_codec.specs.Spelling.{content};
 ghost use Rattle.message_layer.specs.Values.{seen};
 ghost use Rattle.message_layer.specs.Hearing.{is_fresh, is_repeat, is_awaited, mid_is, is_awaited_by_ack, is_outstanding_under, is_outstanding_as, new_verdict, heard_verdict, ack_verdict, rst_verdict, verdict_of};
 
-use crate::options::rejects;
 use crate::state::{Awaited, Heard, Outstanding, Reply, State};
-use coap_codec::{Message, MsgType, Token};
+use coap_codec::{Message, MsgType, Token, is_rejected};
 
 /// How long a message ID of the peer's stands for one message, in milliseconds
 /// (EXCHANGE_LIFETIME, RFC 7252 section 4.8.2).
@@ -125,7 +124,7 @@ fn new_message(s: &State, m: &Message, accepts: Reply, empties: Reply) -> Verdic
     }
     if m.code > 31 && awaits(&s.awaited, &m.token) {
         return Verdict {
-            reply: if rejects(m) { Reply::Rst } else { accepts },
+            reply: if is_rejected(m) { Reply::Rst } else { accepts },
             remembered: true,
             ends: has_token(&s.outstanding, &m.token),
             news: News::Response,

@@ -1,7 +1,7 @@
 use Rattle.std.proofs.Common.{◌≡◌, ◌&&◌, eqb, drop}
 use Rattle.std.specs.List.{find}
 use Rattle.coap_codec.specs.Spelling.{Entry, entries}
-use Rattle.history_laws.specs.Responses.{is_defined}
+use Rattle.coap_codec.specs.Recognition.{is_defined}
 use Rattle.datagram_verdict.proofs.reading.value_of.Given as goal
 
 abbrev pub invariant-each : goal.invariant-each

@@ -7,7 +7,7 @@ use Rattle.std.proofs.lemmas.Bool.{cases_eq, eq-eqb, ne_eqb, false≢true, and_l
 use Rattle.coap_codec.specs.declared.opt.Opt.{Opt}
 use Rattle.coap_codec.specs.Spelling.{Entry, entry, entries}
 use Rattle.coap_codec.proofs.Appends.{next_entry}
-use Rattle.history_laws.specs.Responses.{is_defined, may_repeat, strays}
+use Rattle.coap_codec.specs.Recognition.{is_defined, may_repeat, strays}
 
 -- The numbers that are marked are those of the options recognised so far, and what is left decides.
 pub record Going (p : Entry → Bool) (all rest : List Entry) (marks : List Bool) : Type 0 where

@@ -1,9 +1,9 @@
 use Rattle.std.proofs.Common.{◌≡◌, true, false, refl, arith}
 use Rattle.coap_codec.specs.Spelling.{Entry}
-use Rattle.datagram_verdict.specs.Reading.{may_pass}
-use Rattle.datagram_verdict.proofs.Recognising.{starts, steps, halts}
-use Rattle.datagram_verdict.proofs.reading.strays_may_pass.Goals as goal
-use Rattle.datagram_verdict.proofs.reading.strays_may_pass.Goals.{else-not-recognised-via-then-not-recognised+else-not-may_pass, else-not-recognised-via-else-not-recognised}
+use Rattle.coap_codec.specs.Recognition.{may_pass}
+use Rattle.coap_codec.proofs.Recognising.{starts, steps, halts}
+use Rattle.coap_codec.proofs.recognition.strays_may_pass.Goals as goal
+use Rattle.coap_codec.proofs.recognition.strays_may_pass.Goals.{else-not-recognised-via-then-not-recognised+else-not-may_pass, else-not-recognised-via-else-not-recognised}
 
 pub each-init : goal.each-init
 each-init c = starts _ _ _ refl refl

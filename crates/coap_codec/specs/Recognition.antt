@@ -1,0 +1,61 @@
+-- Which options of a response are recognised, and what those that aren't allow.
+use Rattle.std.specs.Prelude.{ℕ, ◌/◌, ◌%◌, Bool, true, false, not, ◌&&◌, ◌||◌, List, [], ◌∷◌, length, is_some, ◌==◌, nat_le, if◌then◌else◌}
+use Rattle.std.specs.List.{list_any, list_all}
+use Rattle.std.specs.Option.{option_map_or}
+use Rattle.coap_codec.specs.Spelling.{Entry, Content}
+use Rattle.coap_codec.specs.declared.options.OptionDefinition.{OptionDefinition}
+use Rattle.coap_codec.specs.declared.options.Occurrence.{Occurrence}
+use Rattle.coap_codec.specs.declared.options.Occurrence.TheVariants.{Repeated}
+use Rattle.coap_codec.specs.Options.{is_critical_number, is_unsafe_number, definition_of, counts}
+use Rattle.coap_codec.specs.Values.{uint}
+
+-- A Block value of size exponent 7 is reserved (RFC 7959 section 2.2).
+abbrev pub is_reserved_block : Entry → Bool
+is_reserved_block o = ((o.number == 23) || (o.number == 27)) && (uint o.value % 8 == 7)
+
+-- The option is defined for responses, and its value has a length that it may have (RFC 7252 section 5.4.3).
+abbrev pub fits_row : Entry → OptionDefinition → Bool
+fits_row o r = counts r.in_response && (nat_le r.min_len (length o.value) && nat_le (length o.value) r.max_len)
+
+abbrev pub is_defined : Entry → Bool
+is_defined o = option_map_or (fits_row o) (definition_of o.number) false && not (is_reserved_block o)
+
+abbrev pub is_repeated : Occurrence → Bool
+is_repeated Repeated = true
+is_repeated _ = false
+
+abbrev pub may_repeat : Entry → Bool
+may_repeat o = option_map_or (λ (r : OptionDefinition). is_repeated r.in_response) (definition_of o.number) false
+
+-- The options that aren't recognised, after those with these numbers: those that aren't defined, and a
+-- second one of a kind that may stand once (RFC 7252 section 5.4.5).
+abbrev pub strays : List ℕ → List Entry → List Entry
+strays seen [] = []
+strays seen (o ∷ os) =
+    if is_defined o && (may_repeat o || not (list_any (λ (n : ℕ). n == o.number) seen))
+    then strays (o.number ∷ seen) os else o ∷ strays seen os
+
+-- An option that isn't recognised is left out if it is elective (RFC 7252 section 5.4.1). Only one that the
+-- table doesn't have may be unsafe to forward without that (section 5.4.2).
+abbrev pub may_be_left_out : ℕ → Bool
+may_be_left_out n = not (is_critical_number n) && (not (is_unsafe_number n) || is_some (definition_of n))
+
+-- Where no critical option is a stray, the options can be processed (RFC 7252 section 5.4.1); where each
+-- stray may be left out, what they say can be passed on (section 5.7.1).
+abbrev pub may_pass : Bool → ℕ → Bool
+may_pass true n = may_be_left_out n
+may_pass false n = not (is_critical_number n)
+
+abbrev pub is_processable : List Entry → Bool
+is_processable os = list_all (λ (o : Entry). may_pass false o.number) (strays [] os)
+
+abbrev pub is_forwardable : List Entry → Bool
+is_forwardable os = list_all (λ (o : Entry). may_pass true o.number) (strays [] os)
+
+abbrev pub class_of : Content → ℕ
+class_of m = m.code / 32
+
+-- A response that is rejected: of a reserved class, or one that can't be processed (RFC 7252 sections 4.2,
+-- 4.3, 5.4.1).
+abbrev pub is_rejected : Content → Bool
+is_rejected m = (class_of m == 1) || ((class_of m == 6) || ((class_of m == 7) || not (is_processable m.options)))

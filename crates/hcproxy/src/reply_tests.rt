@@ -1,0 +1,65 @@
+//! Replies of a device, each with the answer that its client is told.
+
+use crate::replay::{Script, run_lines};
+use crate::settings::demonstration;
+use history_check::is_justified;
+use std::alloc::Global;
+use std::test::Fail;
+
+const GET: &str = "GET /hc/coap://s.example.com/light HTTP/1.1\r\nHost: p\r\n\r\n";
+
+/// The answer to a reply that can't be passed on.
+const NOT_UNDERSTOOD: &str =
+    "HTTP/1.1 502 Bad Gateway\r\nHC-Cause: not-understood 3\r\nContent-Length: 0\r\n\r\n";
+
+/// A 200 with the text `on` that is fresh for a minute, the time where Max-Age is absent (RFC 7252,
+/// section 5.10.5).
+const FRESH: &str = "HTTP/1.1 200 OK\r\nCache-Control: max-age=60\r\nContent-Length: 2\r\n\r\non";
+
+/// Asks the request at 0, and lets a reply with this code, and these options and payload, be heard at 40.
+/// Whether the answer is told then, and the journal is justified.
+fn is_told(
+    alloc: Global,
+    request: &str,
+    code: &str,
+    rest: &str,
+    answer: &str,
+) -> Result<bool, Fail> {
+    let request = hex::encode(alloc, request.as_bytes())?;
+    let answer = hex::encode(alloc, answer.as_bytes())?;
+    let script = format!(in alloc;
+        "0 0 open\n0 0 bytes 0 {request}\n40 0 datagram 192.0.2.1:5683 68{code}00000000000000000000{rest}\n"
+    )?;
+    let told = format!(in alloc; "\n40 bytes 0 {answer}\n")?;
+    let mut out = Vec::new(alloc);
+    let mut reader = script.as_bytes();
+    let Ok(mut run) = Script::new(alloc, demonstration(alloc)?) else {
+        return Ok(false);
+    };
+    let ended = run_lines(&mut run, &mut reader, &mut out);
+    let justified = is_justified(alloc, run.journal())?;
+    Ok(ended.is_ok() && justified && out.as_slice().ends_with(told.as_bytes()))
+}
+
+/// An elective option of a wrong length is left out, though it is unsafe to forward (RFC 7252, sections
+/// 5.4.1 and 5.4.3).
+#[test]
+fn a_malformed_max_age_or_observe_is_left_out(rt: HostRuntime) -> Result<(), Fail> {
+    let alloc = rt.alloc();
+    assert!(rt; is_told(alloc, GET, "45", "d5010102030405ff6f6e", FRESH)?);
+    assert!(rt; is_told(alloc, GET, "45", "6400000000ff6f6e", FRESH)?);
+    // an unknown one that is unsafe
+    assert!(rt; is_told(alloc, GET, "45", "a0ff6f6e", NOT_UNDERSTOOD)?);
+    Ok(())
+}
+
+/// Of two options of a kind that may stand once the first that is well formed counts (RFC 7252, section
+/// 5.4.5).
+#[test]
+fn a_second_max_age_is_left_out(rt: HostRuntime) -> Result<(), Fail> {
+    let alloc = rt.alloc();
+    let five = "HTTP/1.1 200 OK\r\nCache-Control: max-age=5\r\nContent-Length: 2\r\n\r\non";
+    assert!(rt; is_told(alloc, GET, "45", "d101050107ff6f6e", five)?);
+    assert!(rt; is_told(alloc, GET, "45", "d50101020304050105ff6f6e", five)?);
+    Ok(())
+}
