@@ -1,9 +1,9 @@
 //! What a message is as the reply to a request (RFC 7252 section 5.9).
 
-ghost use Rattle.std.specs.Prelude.{◌≡◌, true, IfSome, option_map};
+ghost use Rattle.std.specs.Prelude.{◌≡◌, true, length, IfSome, option_map};
 ghost use Rattle.coap_codec.specs.Spelling.{content};
 ghost use Rattle.coap_codec.specs.Recognition.{is_defined};
-ghost use Rattle.history_laws.specs.Responses.{is_final, value_of, says_more};
+ghost use Rattle.history_laws.specs.Responses.{is_final, value_of, is_in_one_piece};
 
 use coap_codec::{Message, is_defined, number, uint_of};
 
@@ -28,12 +28,16 @@ pub fn value_of(m: &Message, number: u16) -> Option<&[u8]>
     None
 }
 
-/// Whether Block2 says that more follows (RFC 7959 section 2.2).
-pub fn says_more(m: &Message) -> bool
-    ensures { result ≡ says_more (value_of 23 (content m.now)) }
+/// Whether it gives all in one piece: no Block2, or the first block, which no other follows, with no
+/// more bytes than it has (RFC 7959 sections 2.2 and 2.4).
+pub fn is_in_one_piece(m: &Message) -> bool
+    ensures { result ≡ is_in_one_piece (value_of 23 (content m.now)) (length m.now.payload.items) }
 {
     match value_of(m, number::BLOCK2) {
-        Some(value) => uint_of(value) / 8 % 2 == 1,
-        None => false,
+        Some(value) => {
+            let block = uint_of(value);
+            block / 16 == 0 && block / 8 % 2 == 0 && m.payload.len() <= 1 << (block % 8 + 4)
+        }
+        None => true,
     }
 }

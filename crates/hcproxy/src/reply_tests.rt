@@ -41,6 +41,15 @@ fn is_told(
     Ok(ended.is_ok() && justified && out.as_slice().ends_with(told.as_bytes()))
 }
 
+/// A value of so many letters, in hexadecimal digits.
+fn letters(alloc: Global, count: usize) -> Result<String, Fail> {
+    let mut digits = String::new(alloc);
+    for _ in 0..count {
+        digits.push_str("61")?;
+    }
+    Ok(digits)
+}
+
 /// An elective option of a wrong length is left out, though it is unsafe to forward (RFC 7252, sections
 /// 5.4.1 and 5.4.3).
 #[test]
@@ -61,5 +70,22 @@ fn a_second_max_age_is_left_out(rt: HostRuntime) -> Result<(), Fail> {
     let five = "HTTP/1.1 200 OK\r\nCache-Control: max-age=5\r\nContent-Length: 2\r\n\r\non";
     assert!(rt; is_told(alloc, GET, "45", "d101050107ff6f6e", five)?);
     assert!(rt; is_told(alloc, GET, "45", "d50101020304050105ff6f6e", five)?);
+    Ok(())
+}
+
+/// A later block, or one with more bytes than its size, is no whole representation (RFC 7959, section 2).
+#[test]
+fn a_later_block_is_no_whole_response(rt: HostRuntime) -> Result<(), Fail> {
+    let alloc = rt.alloc();
+    assert!(rt; is_told(alloc, GET, "45", "d10a12ff6f6e", NOT_UNDERSTOOD)?);
+    assert!(rt; is_told(alloc, GET, "45", "d10a10ff6f6e", NOT_UNDERSTOOD)?);
+    assert!(rt; is_told(alloc, GET, "45", "d10a06ff6f6e", FRESH)?);
+    assert!(rt; is_told(alloc, GET, "45", "d00aff6f6e", FRESH)?);
+    let full = format!(in alloc; "d10a00ff{}", letters(alloc, 16)?)?;
+    let told =
+        "HTTP/1.1 200 OK\r\nCache-Control: max-age=60\r\nContent-Length: 16\r\n\r\naaaaaaaaaaaaaaaa";
+    assert!(rt; is_told(alloc, GET, "45", full.as_str(), told)?);
+    let longer = format!(in alloc; "d10a00ff{}", letters(alloc, 17)?)?;
+    assert!(rt; is_told(alloc, GET, "45", longer.as_str(), NOT_UNDERSTOOD)?);
     Ok(())
 }

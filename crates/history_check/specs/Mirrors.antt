@@ -26,7 +26,7 @@ use Rattle.history_check.specs.declared.confirming.Confirmation.{Confirmation}
 use Rattle.coap_codec.specs.Spelling.{content}
 
 abbrev pub is_whole : Content → Bool
-is_whole m = is_forwardable m.options && (R.is_final m && not (R.says_more (R.value_of 23 m)))
+is_whole m = is_forwardable m.options && (R.is_final m && R.is_in_one_piece (R.value_of 23 m) (length m.payload))
 
 -- the value of the first of the options with this number that is defined
 abbrev pub is_block2 : Entry → Bool

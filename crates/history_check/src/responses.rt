@@ -1,9 +1,9 @@
 //! When a reply is a whole response.
 
-ghost use Rattle.std.specs.Prelude.{◌≡◌, true, IfSome, option_map};
+ghost use Rattle.std.specs.Prelude.{◌≡◌, true, length, IfSome, option_map};
 ghost use Rattle.coap_codec.specs.Spelling.{entry, entries, content};
 ghost use Rattle.coap_codec.specs.Recognition.{is_defined};
-ghost use Rattle.history_laws.specs.Responses.{is_final, value_of, says_more};
+ghost use Rattle.history_laws.specs.Responses.{is_final, value_of, is_in_one_piece};
 ghost use Rattle.history_check.specs.Mirrors.{is_whole, is_block2, value_in};
 
 use coap_codec::{Message, Opt, is_defined, is_forwardable, uint_of};
@@ -37,19 +37,23 @@ fn block_value(options: &[Opt]) -> Option<&[u8]>
     None
 }
 
-/// Whether Block2 says that more follows.
-fn says_more(message: &Message) -> bool
-    ensures { result ≡ says_more (value_of 23 (content message.now)) }
+/// Whether it gives all in one piece.
+fn is_in_one_piece(message: &Message) -> bool
+    ensures { result ≡ is_in_one_piece (value_of 23 (content message.now)) (length message.now.payload.items) }
 {
     match block_value(&message.options) {
-        Some(value) => uint_of(value) / 8 % 2 == 1,
-        None => false,
+        Some(value) => {
+            let block = uint_of(value);
+            let size = 1 << (block % 8 + 4);
+            block / 16 == 0 && (block / 8 % 2 == 0 && message.payload.len() <= size)
+        }
+        None => true,
     }
 }
 
-/// Whether the reply, in one piece, is a whole response.
+/// Whether the reply is a whole response.
 pub fn is_whole(message: &Message) -> bool
     ensures { result ≡ is_whole (content message.now) }
 {
-    is_forwardable(&message.options) && is_final(message) && !says_more(message)
+    is_forwardable(&message.options) && is_final(message) && is_in_one_piece(message)
 }

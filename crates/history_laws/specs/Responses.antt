@@ -1,5 +1,5 @@
 -- When the replies to an exchange are a whole response, and which.
-use Rattle.std.specs.Prelude.{ℕ, ◌/◌, ◌%◌, Bool, false, not, ◌&&◌, ◌||◌, List, [], ◌∷◌, Option, Some, None, option_map, find, ◌==◌, if◌then◌else◌}
+use Rattle.std.specs.Prelude.{ℕ, ◌+◌, ◌^◌, ◌/◌, ◌%◌, Bool, true, not, ◌&&◌, ◌||◌, List, [], ◌∷◌, length, Option, Some, None, option_map, find, ◌==◌, nat_le, if◌then◌else◌}
 use Rattle.coap_codec.specs.Spelling.{Entry, Content}
 use Rattle.coap_codec.specs.Recognition.{is_defined, is_forwardable, class_of}
 use Rattle.coap_codec.specs.Values.{uint, values}
@@ -16,10 +16,12 @@ is_final m =
 abbrev pub value_of : ℕ → Content → Option (List ℕ)
 value_of number m = option_map (λ (o : Entry). o.value) (find (λ (o : Entry). (o.number == number) && is_defined o) m.options)
 
--- Block2 says that more follows (RFC 7959 section 2.2)
-abbrev pub says_more : Option (List ℕ) → Bool
-says_more None = false
-says_more (Some value) = (uint value / 8) % 2 == 1
+-- A reply gives all in one piece if it bears no Block2, or that of the first block, which no other follows, and
+-- no more bytes than the block has (RFC 7959 sections 2.2, 2.4).
+abbrev pub is_in_one_piece : Option (List ℕ) → ℕ → Bool
+is_in_one_piece None len = true
+is_in_one_piece (Some value) len =
+    (uint value / 16 == 0) && ((uint value / 8 % 2 == 0) && nat_le len (2 ^ (uint value % 8 + 4)))
 
 -- what a response says (RFC 7252 section 5.10)
 pub record Response : Type 0 where
@@ -56,7 +58,7 @@ pub data Ending : Type 0 where
 
 -- The whole response that the replies to a request are, in order: of one message, the reply in one piece.
 abbrev pub whole_of : CoapRequest → List Content → Option Response
-whole_of q (m ∷ []) = if is_forwardable m.options && (is_final m && not (says_more (value_of 23 m))) then Some (response_of m) else None
+whole_of q (m ∷ []) = if is_forwardable m.options && (is_final m && is_in_one_piece (value_of 23 m) (length m.payload)) then Some (response_of m) else None
 whole_of q _ = None
 
 -- how the exchange ends by the last of these replies, if it does
