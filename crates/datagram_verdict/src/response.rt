@@ -1,15 +1,15 @@
 //! The whole response that a message is.
 
 ghost use Rattle.std.specs.Prelude.{◌≡◌, [], ◌∷◌, IfOk, Some, None, is_some, if◌then◌else◌, option_map};
-ghost use Rattle.coap_codec.specs.Spelling.{content, entries};
-ghost use Rattle.coap_codec.specs.Values.{uint, values};
+ghost use Rattle.coap_codec.specs.Spelling.{content};
+ghost use Rattle.coap_codec.specs.Values.{uint};
 ghost use Rattle.ask_model.specs.Requests.{CoapRequest};
-ghost use Rattle.history_laws.specs.Responses.{value_of, whole_of, response_of as said_by};
+ghost use Rattle.history_laws.specs.Responses.{value_of, values_of, whole_of, response_of as said_by};
 ghost use Rattle.datagram_verdict.specs.Findings.{response_of};
 
 use crate::reading::{is_final, is_in_one_piece, value_of};
 use ask_model::Bytes;
-use coap_codec::{Message, is_forwardable, number, uint_of};
+use coap_codec::{Message, is_defined, is_forwardable, number, uint_of};
 use std::alloc::{AllocError, Global};
 
 /// The whole response of a CoAP server (RFC 7252 section 5.10).
@@ -21,9 +21,9 @@ pub struct Response {
     pub etag: Option<Bytes>,
     /// in seconds
     pub max_age: Option<u32>,
-    /// the values of its Location-Path options
+    /// the values of its Location-Path options, of those that are defined
     pub location_path: Vec<Bytes>,
-    /// the values of its Location-Query options
+    /// the values of its Location-Query options, of those that are defined
     pub location_query: Vec<Bytes>,
     pub body: Bytes,
 }
@@ -105,13 +105,13 @@ fn etag_of(alloc: Global, m: &Message) -> Result<Option<Bytes>, AllocError>
     }
 }
 
-/// Copies of the values of its options of this number, in order.
+/// Copies of the values of its options of this number that are defined, in order.
 fn copies_of(alloc: Global, m: &Message, number: u16) -> Result<Vec<Bytes>, AllocError>
-    ensures { IfOk result (λ v. v.items ≡ values number (entries m.now.options.items)) }
+    ensures { IfOk result (λ v. v.items ≡ values_of number (content m.now)) }
 {
     let mut copies = Vec::new(alloc);
     'each: for o in &m.options {
-        if o.number == number {
+        if o.number == number && is_defined(o) {
             let value = Bytes::from_slice(alloc, &o.value)?;
             copies.push(value)?;
         }

@@ -8,6 +8,8 @@ use std::test::Fail;
 
 const GET: &str = "GET /hc/coap://s.example.com/light HTTP/1.1\r\nHost: p\r\n\r\n";
 
+const POST: &str = "POST /hc/coap://s.example.com/light HTTP/1.1\r\nHost: p\r\n\r\n";
+
 /// The answer to a reply that can't be passed on.
 const NOT_UNDERSTOOD: &str =
     "HTTP/1.1 502 Bad Gateway\r\nHC-Cause: not-understood 3\r\nContent-Length: 0\r\n\r\n";
@@ -15,6 +17,10 @@ const NOT_UNDERSTOOD: &str =
 /// A 200 with the text `on` that is fresh for a minute, the time where Max-Age is absent (RFC 7252,
 /// section 5.10.5).
 const FRESH: &str = "HTTP/1.1 200 OK\r\nCache-Control: max-age=60\r\nContent-Length: 2\r\n\r\non";
+
+/// The answer to a POST that created a resource.
+const CREATED: &str =
+    "HTTP/1.1 201 Created\r\nLocation: /hc/coap://s.example.com/a%20b?n=1\r\nContent-Length: 0\r\n\r\n";
 
 /// Asks the request at 0, and lets a reply with this code, and these options and payload, be heard at 40.
 /// Whether the answer is told then, and the journal is justified.
@@ -87,5 +93,19 @@ fn a_later_block_is_no_whole_response(rt: HostRuntime) -> Result<(), Fail> {
     assert!(rt; is_told(alloc, GET, "45", full.as_str(), told)?);
     let longer = format!(in alloc; "d10a00ff{}", letters(alloc, 17)?)?;
     assert!(rt; is_told(alloc, GET, "45", longer.as_str(), NOT_UNDERSTOOD)?);
+    Ok(())
+}
+
+/// A part of a location above 255 bytes is left out, and the others are told (RFC 7252, sections 5.4.3 and
+/// 5.10.7).
+#[test]
+fn a_location_part_that_is_too_long_is_left_out(rt: HostRuntime) -> Result<(), Fail> {
+    let alloc = rt.alloc();
+    assert!(rt; is_told(alloc, POST, "41", "83612062c36e3d31", CREATED)?);
+    let long = letters(alloc, 256)?;
+    let path = format!(in alloc; "8df3{long}03612062c36e3d31")?;
+    assert!(rt; is_told(alloc, POST, "41", path.as_str(), CREATED)?);
+    let query = format!(in alloc; "83612062cdf3{long}036e3d31")?;
+    assert!(rt; is_told(alloc, POST, "41", query.as_str(), CREATED)?);
     Ok(())
 }

@@ -1,8 +1,8 @@
 -- When the replies to an exchange are a whole response, and which.
-use Rattle.std.specs.Prelude.{ℕ, ◌+◌, ◌^◌, ◌/◌, ◌%◌, Bool, true, not, ◌&&◌, ◌||◌, List, [], ◌∷◌, length, Option, Some, None, option_map, find, ◌==◌, nat_le, if◌then◌else◌}
+use Rattle.std.specs.Prelude.{ℕ, ◌+◌, ◌^◌, ◌/◌, ◌%◌, Bool, true, not, ◌&&◌, ◌||◌, List, [], ◌∷◌, length, map, filter, Option, Some, None, option_map, find, ◌==◌, nat_le, if◌then◌else◌}
 use Rattle.coap_codec.specs.Spelling.{Entry, Content}
 use Rattle.coap_codec.specs.Recognition.{is_defined, is_forwardable, class_of}
-use Rattle.coap_codec.specs.Values.{uint, values}
+use Rattle.coap_codec.specs.Values.{uint}
 use Rattle.ask_model.specs.Requests.{CoapRequest}
 
 -- A code that ends a request: of class 2, 4 or 5, and none of 2.03, 2.31 and 4.08, which no request of the
@@ -15,6 +15,10 @@ is_final m =
 -- the value of the first option with this number that is defined
 abbrev pub value_of : ℕ → Content → Option (List ℕ)
 value_of number m = option_map (λ (o : Entry). o.value) (find (λ (o : Entry). (o.number == number) && is_defined o) m.options)
+
+-- the values of the options with this number that are defined, in order
+abbrev pub values_of : ℕ → Content → List (List ℕ)
+values_of number m = map (λ (o : Entry). o.value) (filter (λ (o : Entry). (o.number == number) && is_defined o) m.options)
 
 -- A reply gives all in one piece if it bears no Block2, or that of the first block, which no other follows, and
 -- no more bytes than the block has (RFC 7959 sections 2.2, 2.4).
@@ -40,8 +44,8 @@ response_of m =
       format = option_map uint (value_of 12 m);
       etag = value_of 4 m;
       max_age = option_map uint (value_of 14 m);
-      location_path = values 8 m.options;
-      location_query = values 20 m.options;
+      location_path = values_of 8 m;
+      location_query = values_of 20 m;
       body = m.payload;
     }
 

@@ -1,7 +1,10 @@
-use Rattle.std.proofs.Common.{◌≡◌, ◌++◌, drop}
-use Rattle.coap_codec.specs.Values.{values}
-use Rattle.coap_codec.specs.Spelling.{entries}
+use Rattle.std.proofs.Common.{◌≡◌, ◌++◌, ◌&&◌, eqb, drop, map}
+use Rattle.std.specs.List.{filter}
+use Rattle.coap_codec.specs.Spelling.{Entry, entries}
+use Rattle.coap_codec.specs.Recognition.{is_defined}
 use Rattle.datagram_verdict.proofs.response.copies_of.Given as goal
 
 abbrev pub invariant-each : goal.invariant-each
-invariant-each l = l.copies.items ++ values l.number (entries (drop l.o-index l.o-items)) ≡ values l.number (entries l.m.options.items)
+invariant-each l =
+    l.copies.items ++ map (λ (o : Entry). o.value) (filter (λ (o : Entry). eqb o.number l.number && is_defined o) (entries (drop l.o-index l.o-items)))
+    ≡ map (λ (o : Entry). o.value) (filter (λ (o : Entry). eqb o.number l.number && is_defined o) (entries l.m.options.items))
