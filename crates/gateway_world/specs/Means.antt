@@ -6,7 +6,7 @@ use Rattle.http_edge.specs.Answers.{body_bytes}
 use Rattle.http_edge.specs.declared.answer.Field.{Field}
 use Rattle.http_edge.specs.declared.answer.HttpAnswer.{HttpAnswer}
 use Rattle.code_map.specs.declared.method.Method.{Method}
-use Rattle.code_map.specs.declared.method.Method.TheVariants.{Head}
+use Rattle.code_map.specs.declared.method.Method.TheVariants.{Get, Head}
 use Rattle.code_map.specs.Methods.{method_named}
 use Rattle.code_map.specs.declared.status.Status.{Status}
 use Rattle.code_map.specs.declared.status.Status.TheVariants.{MethodNotAllowed}
@@ -66,6 +66,21 @@ quoted (Some tag) = only (codes "ETag") (34 ∷ encode_lower tag ++ 34 ∷ [])
 abbrev pub entity_tag : Response → Pairs
 entity_tag w = when (w.code == 69) (quoted w.etag)
 
+-- A representation was asked for: by GET or HEAD.
+abbrev pub is_read_method : Option Method → Bool
+is_read_method (Some Get) = true
+is_read_method (Some Head) = true
+is_read_method _ = false
+
+abbrev pub is_read : Came → Bool
+is_read (Whole r) = is_read_method (method_named r.method)
+is_read (Bad kind) = false
+
+-- What tells a cache of the representation, where one was asked for: that of an answer to another method is
+-- none that a later GET may be answered with (RFC 9110, sections 9.3.3 and 9.3.4).
+abbrev pub caching : Came → Response → ℕ → Pairs
+caching came w age = when (is_read came) (cache_control w age ++ entity_tag w)
+
 -- Location, where a resource was created that the proxy can be asked for (RFC 9110, section 10.2.2)
 abbrev pub value_if : List ℕ → Option (List ℕ) → Pairs
 value_if name None = []
@@ -109,7 +124,7 @@ pub record Shows (mapping : Mapping) (w : Response) (age : ℕ) (a : HttpAnswer)
   pub status : a.status ≡ number_of (status_for w)
   pub phrase : a.phrase.now ≡ phrase_of (status_for w)
   pub fields : map pair_of a.fields.items
-      ≡ content_type w ++ cache_control w age ++ entity_tag w ++ value_if (codes "Location") (located mapping.rules mapping.sense w)
+      ≡ content_type w ++ caching mapping.came w age ++ value_if (codes "Location") (located mapping.rules mapping.sense w)
       ++ retry_after w ++ connection mapping.came ++ content_length (status_for w) (length w.body)
   pub body : body_bytes a.body ≡ (if is_head mapping.came then [] else w.body)
 

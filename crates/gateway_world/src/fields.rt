@@ -2,7 +2,7 @@
 
 ghost use Rattle.std.specs.Prelude.{◌≡◌, ◌++◌, map, codes, decimal, string_bytes, OnOk};
 ghost use Rattle.std.specs.Str.{is_utf8};
-ghost use Rattle.gateway_world.specs.Means.{pair_of, only, content_type, cache_control, entity_tag, value_if, retry_after, connection, content_length, closes as closing, seconds_left as left_of};
+ghost use Rattle.gateway_world.specs.Means.{pair_of, only, content_type, cache_control, entity_tag, is_read, caching, value_if, retry_after, connection, content_length, closes as closing, seconds_left as left_of};
 ghost use Rattle.ask_model.specs.Causes.{cause_text};
 ghost use Rattle.ask_model.specs.Views.{came_of};
 ghost use Rattle.datagram_verdict.specs.Findings.{response_of};
@@ -10,7 +10,7 @@ ghost use Rattle.gateway_world.specs.Located.{located};
 
 use crate::location::location_of;
 use ask_model::{Cause, Mapped};
-use code_map::Status;
+use code_map::{Method, Status, method_of};
 use datagram_verdict::Response;
 use http_edge::{Field, Incoming, Memory};
 use media_map::media_of;
@@ -105,7 +105,7 @@ pub fn is_text(bytes: &[u8]) -> bool
 }
 
 /// How long a response of that age, in milliseconds, stays fresh.
-pub fn add_freshness(
+fn add_freshness(
     alloc: Global,
     fields: &mut Vec<Field>,
     response: &Response,
@@ -133,11 +133,7 @@ fn seconds_left(response: &Response, age: u64) -> u64
 }
 
 /// The entity tag, as HTTP writes it (RFC 9110, section 8.8.3).
-pub fn add_entity_tag(
-    alloc: Global,
-    fields: &mut Vec<Field>,
-    response: &Response,
-) -> Result<(), Memory>
+fn add_entity_tag(alloc: Global, fields: &mut Vec<Field>, response: &Response) -> Result<(), Memory>
     ensures { OnOk result (map pair_of fields.new.items ≡ map pair_of fields.old.items ++ entity_tag (response_of response.now)) }
 {
     match &response.etag {
@@ -146,6 +142,35 @@ pub fn add_entity_tag(
             add(fields, "ETag", format!(in alloc; "\"{digits}\"")?)
         }
         _ => Ok(()),
+    }
+}
+
+/// How long a representation that was asked for stays fresh, and its entity tag.
+pub fn add_caching(
+    alloc: Global,
+    fields: &mut Vec<Field>,
+    came: &Incoming,
+    response: &Response,
+    age: u64,
+) -> Result<(), Memory>
+    ensures { OnOk result (map pair_of fields.new.items ≡ map pair_of fields.old.items ++ caching (came_of came.now) (response_of response.now) age) }
+{
+    if !is_read(came) {
+        return Ok(());
+    }
+    add_freshness(alloc, fields, response, age)?;
+    add_entity_tag(alloc, fields, response)
+}
+
+/// Whether a representation was asked for, by GET or HEAD.
+fn is_read(came: &Incoming) -> bool
+    ensures { result ≡ is_read (came_of came.now) }
+{
+    match came {
+        Incoming::Request(request) => {
+            matches!(method_of(&request.method), Some(Method::Get | Method::Head))
+        }
+        Incoming::Bad(_) => false,
     }
 }
 

@@ -10,8 +10,8 @@ ghost use Rattle.datagram_verdict.specs.Findings.{response_of, Fits, Fails};
 ghost use Rattle.gateway_world.specs.Means.{Means, Shows, Tells, IsOwn, is_head as head, told_status, failure_status as failed};
 
 use crate::fields::{
-    add_cause, add_connection, add_content_length, add_content_type, add_entity_tag, add_freshness,
-    add_location, add_retry_after,
+    add_caching, add_cause, add_connection, add_content_length, add_content_type, add_location,
+    add_retry_after,
 };
 use ask_model::{Cause, Mapped, Meaning};
 use code_map::{Method, Status, method_of, phrase_of, status_of};
@@ -109,8 +109,7 @@ fn show<R: Relation>(
     let status = status_of(response.code, !body.is_empty());
     let mut fields = Vec::new(alloc);
     add_content_type(alloc, &mut fields, response)?;
-    add_freshness(alloc, &mut fields, response, age)?;
-    add_entity_tag(alloc, &mut fields, response)?;
+    add_caching(alloc, &mut fields, mapped.came(), response, age)?;
     add_location(alloc, &mut fields, mapped, response)?;
     add_retry_after(alloc, &mut fields, response)?;
     add_connection(alloc, &mut fields, mapped.came())?;

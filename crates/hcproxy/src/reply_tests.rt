@@ -8,6 +8,8 @@ use std::test::Fail;
 
 const GET: &str = "GET /hc/coap://s.example.com/light HTTP/1.1\r\nHost: p\r\n\r\n";
 
+const HEAD: &str = "HEAD /hc/coap://s.example.com/light HTTP/1.1\r\nHost: p\r\n\r\n";
+
 const POST: &str = "POST /hc/coap://s.example.com/light HTTP/1.1\r\nHost: p\r\n\r\n";
 
 /// The answer to a reply that can't be passed on.
@@ -93,6 +95,42 @@ fn a_later_block_is_no_whole_response(rt: HostRuntime) -> Result<(), Fail> {
     assert!(rt; is_told(alloc, GET, "45", full.as_str(), told)?);
     let longer = format!(in alloc; "d10a00ff{}", letters(alloc, 17)?)?;
     assert!(rt; is_told(alloc, GET, "45", longer.as_str(), NOT_UNDERSTOOD)?);
+    Ok(())
+}
+
+/// Freshness and entity tag are told of what GET or HEAD asked for, and of nothing else (RFC 9110,
+/// section 9.3).
+#[test]
+fn freshness_and_tag_are_told_to_who_reads(rt: HostRuntime) -> Result<(), Fail> {
+    let alloc = rt.alloc();
+    let tagged = "410280ff6f6e";
+    assert!(rt;
+        is_told(
+            alloc,
+            GET,
+            "45",
+            tagged,
+            "HTTP/1.1 200 OK\r\nContent-Type: text/plain;charset=utf-8\r\nCache-Control: max-age=60\r\nETag: \"02\"\r\nContent-Length: 2\r\n\r\non"
+        )?
+    );
+    assert!(rt;
+        is_told(
+            alloc,
+            HEAD,
+            "45",
+            tagged,
+            "HTTP/1.1 200 OK\r\nContent-Type: text/plain;charset=utf-8\r\nCache-Control: max-age=60\r\nETag: \"02\"\r\nContent-Length: 2\r\n\r\n"
+        )?
+    );
+    assert!(rt;
+        is_told(
+            alloc,
+            POST,
+            "45",
+            tagged,
+            "HTTP/1.1 200 OK\r\nContent-Type: text/plain;charset=utf-8\r\nContent-Length: 2\r\n\r\non"
+        )?
+    );
     Ok(())
 }
 

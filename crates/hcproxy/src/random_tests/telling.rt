@@ -42,8 +42,8 @@ pub fn is_own(
     Ok(headed && body.is_empty() && head.contains(named.as_str()))
 }
 
-/// Whether the bytes show a device's reply to just this question: its status, its tag, and the text that
-/// it says, which none has but the answer to a HEAD.
+/// Whether the bytes show a device's reply to just this question: its status, its tag where it is a 2.05 to
+/// a GET, and the text that it says, which all have but the answer to a HEAD.
 pub fn is_shown(
     alloc: Global,
     bytes: &[u8],
@@ -71,7 +71,7 @@ pub fn is_shown(
     }
     let headed = is_headed(alloc, head, status, is_last, text.len())?;
     let tagged = format!(in alloc; "\r\nETag: \"{tag:04x}\"\r\n")?;
-    let has_tag = head.contains(tagged.as_str()) == (shown.code == 69);
+    let has_tag = head.contains(tagged.as_str()) == (shown.code == 69 && *code == 1);
     let says = if is_head {
         body.is_empty()
     } else {
