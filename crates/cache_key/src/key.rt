@@ -1,0 +1,100 @@
+//! Keys.
+
+ghost use Rattle.std.specs.Prelude.{◌≡◌, IfOk};
+ghost use Rattle.cache_key.specs.Keys.{key_of, same_host, same_key};
+
+use crate::place::Place;
+use std::alloc::{AllocError, Global};
+use std::marker::Model;
+use std::sync::Arc;
+use uri_map::{Host, Peer, Target, Texts};
+
+/// What a key is made of.
+#[derive(Drop)]
+struct Parts {
+    place: Place,
+    host: Host,
+    query: Texts,
+    accept: Option<u16>,
+}
+
+/// What the response to a GET is kept under: the peer, the host, the path, the query and the
+/// Accept of the request. Its copies share it.
+#[derive(Drop)]
+pub struct Key {
+    parts: Arc<Parts>,
+}
+
+impl Model for Key {
+    ghost use Rattle.std.specs.Arc.{arc_value};
+    ghost use Rattle.cache_key.specs.Keys.{CacheKey};
+
+    ghost Value = { CacheKey };
+
+    ghost view = { λ k. record {
+      place = (arc_value k.parts).place;
+      host = (arc_value k.parts).host;
+      query = (arc_value k.parts).query;
+      accept = (arc_value k.parts).accept;
+    } };
+}
+
+/// Whether the hosts are equal.
+fn is_same_host(a: &Host, b: &Host) -> bool
+    ensures { result ≡ same_host a.now b.now }
+{
+    match (a, b) {
+        (Host::Name(a), Host::Name(b)) => a == b,
+        (Host::V4(a), Host::V4(b)) => a.octets() == b.octets(),
+        (Host::V6(a), Host::V6(b)) => a.segments() == b.segments(),
+        _ => false,
+    }
+}
+
+impl Key {
+    /// The key of a GET of the target at the peer, with that Accept.
+    pub fn of(
+        alloc: Global,
+        peer: Peer,
+        target: &Target,
+        accept: Option<u16>,
+    ) -> Result<Key, AllocError>
+        ensures { IfOk result (λ k. k ≡ key_of peer target.now accept) }
+    {
+        let parts = Parts {
+            place: Place::of(peer, target)?,
+            host: target.host.copy()?,
+            query: target.query.copy()?,
+            accept,
+        };
+        Ok(Key {
+            parts: Arc::new(alloc, parts)?,
+        })
+    }
+
+    /// The place that the request reads.
+    pub fn place(&self) -> &Place
+        ensures { result.now ≡ self.now.place }
+    {
+        &self.parts.place
+    }
+
+    /// Whether it is that key.
+    pub fn is_same(&self, other: &Key) -> bool
+        ensures { result ≡ same_key self.now other.now }
+    {
+        self.parts.place.is_same(&other.parts.place)
+            && is_same_host(&self.parts.host, &other.parts.host)
+            && self.parts.query == other.parts.query
+            && self.parts.accept == other.parts.accept
+    }
+
+    /// The same key once more, which isn't copied.
+    pub fn share(&self) -> Result<Key, AllocError>
+        ensures { IfOk result (λ k. k ≡ self.now) }
+    {
+        Ok(Key {
+            parts: Arc::try_clone(&self.parts)?,
+        })
+    }
+}

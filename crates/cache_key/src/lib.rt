@@ -1,0 +1,15 @@
+//! What the response to a GET is kept under (RFC 7252, section 5.6), and the place that a write
+//! changes (section 5.9.2).
+//!
+//! The one contract: two keys, and two places, pass for the same exactly where they are equal, so
+//! that definitions may speak of equal ones. The watches (`observe_share`) stand on it, and so will
+//! the store of responses. A key is made once for each request; its copies share it.
+#![tactic(auto)]
+
+mod key;
+mod laws;
+mod place;
+
+pub use key::Key;
+pub use laws::{keys_told_apart, places_told_apart};
+pub use place::Place;

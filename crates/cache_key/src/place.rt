@@ -1,0 +1,60 @@
+//! Places.
+
+ghost use Rattle.std.specs.Prelude.{◌≡◌, IfOk};
+ghost use Rattle.cache_key.specs.Keys.{place_of, same_address, same_place};
+
+use std::alloc::AllocError;
+use std::net::IpAddr;
+use uri_map::{Peer, Target, Texts};
+
+/// What a write changes: the resource of a peer that a path names, whatever the host that the
+/// request named, its query and its Accept.
+#[derive(Debug, Drop)]
+pub struct Place {
+    /// Who serves it.
+    pub peer: Peer,
+    /// The values of the Uri-Path options.
+    pub path: Texts,
+}
+
+/// Whether the addresses are equal.
+fn is_same_address(a: &IpAddr, b: &IpAddr) -> bool
+    ensures { result ≡ same_address a.now b.now }
+{
+    match (a, b) {
+        (IpAddr::V4(a), IpAddr::V4(b)) => a.octets() == b.octets(),
+        (IpAddr::V6(a), IpAddr::V6(b)) => a.segments() == b.segments(),
+        _ => false,
+    }
+}
+
+impl Place {
+    /// The place of the target at the peer.
+    pub fn of(peer: Peer, target: &Target) -> Result<Place, AllocError>
+        ensures { IfOk result (λ p. p ≡ place_of peer target.now) }
+    {
+        Ok(Place {
+            peer,
+            path: target.path.copy()?,
+        })
+    }
+
+    /// Whether it is that place.
+    pub fn is_same(&self, other: &Place) -> bool
+        ensures { result ≡ same_place self.now other.now }
+    {
+        is_same_address(&self.peer.address, &other.peer.address)
+            && self.peer.port == other.peer.port
+            && self.path == other.path
+    }
+
+    /// A copy of the place.
+    pub fn copy(&self) -> Result<Place, AllocError>
+        ensures { IfOk result (λ p. p ≡ self.now) }
+    {
+        Ok(Place {
+            peer: self.peer,
+            path: self.path.copy()?,
+        })
+    }
+}
