@@ -1,0 +1,4 @@
+pub mod Latest
+pub mod First
+pub mod Noticing
+pub mod Due

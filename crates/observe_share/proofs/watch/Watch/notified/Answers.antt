@@ -1,0 +1,45 @@
+use Rattle.std.proofs.Common.{◌≡◌, Some, sym, ◌∙◌}
+use Rattle.std.specs.List.{position}
+use Rattle.observe_share.specs.Watches.{is_under}
+use Rattle.observe_share.proofs.Noticing.{unknown, older, update, ending, one_read}
+use Rattle.observe_share.proofs.watch.Watch.notified.Goals as goal
+
+pub returns-in_default-clause-watches : goal.returns-in_default-clause-watches
+returns-in_default-clause-watches c =
+    rw (← c.self.view_is) ((unknown c.args.token.now c.args.notice c.args.moment c.self.inside.standing.items (rw (← c.deref.ensures.value) (sym c.place_under.ensures ∙ c.in_default.is))).watches)
+
+pub returns-in_default-clause-told : goal.returns-in_default-clause-told
+returns-in_default-clause-told c =
+    rw (← c.self.view_is) ((unknown c.args.token.now c.args.notice c.args.moment c.self.inside.standing.items (rw (← c.deref.ensures.value) (sym c.place_under.ensures ∙ c.in_default.is))).told)
+
+pub returns-then-not-counts-clause-watches : goal.returns-then-not-counts-clause-watches
+returns-then-not-counts-clause-watches c =
+    let there : position (is_under c.args.token.now) c.self.inside.standing.items ≡ Some c.in-Some.place = rw (← c.deref.ensures.value) (sym c.place_under.ensures ∙ c.in-Some.is) in
+    rw (← c.self.view_is) ((older c.args.token.now c.args.notice c.args.moment c.self.inside.standing.items c.in-Some.place c.index.result.now there c.index.ensures (sym c.counts.ensures ∙ c.if-not-counts.true)).watches)
+
+pub returns-then-not-counts-clause-told : goal.returns-then-not-counts-clause-told
+returns-then-not-counts-clause-told c =
+    let there : position (is_under c.args.token.now) c.self.inside.standing.items ≡ Some c.in-Some.place = rw (← c.deref.ensures.value) (sym c.place_under.ensures ∙ c.in-Some.is) in
+    rw (← c.self.view_is) ((older c.args.token.now c.args.notice c.args.moment c.self.inside.standing.items c.in-Some.place c.index.result.now there c.index.ensures (sym c.counts.ensures ∙ c.if-not-counts.true)).told)
+
+pub returns-in-Update-clause-watches : goal.returns-in-Update-clause-watches
+returns-in-Update-clause-watches c =
+    let there : position (is_under c.args.token.now) c.self.inside.standing.items ≡ Some c.in-Some.place = rw (← c.deref.ensures.value) (sym c.place_under.ensures ∙ c.in-Some.is) in
+    let same : c.index_mut.result.now ≡ c.index.result.now = one_read (is_under c.args.token.now) c.self.inside.standing.items c.in-Some.place _ _ there c.index_mut.ensures.value c.index.ensures in
+    rw (← c.self.view_is, c.renew.ensures, same, c.in-Update.is) ((update c.args.token.now c.in-Update.version c.args.moment c.self.inside.standing.items c.in-Some.place c.index.result.now there c.index.ensures (rw c.in-Update.is at (sym c.counts.ensures ∙ c.if-not-counts.false))).watches)
+
+pub returns-in-Update-clause-told : goal.returns-in-Update-clause-told
+returns-in-Update-clause-told c =
+    let there : position (is_under c.args.token.now) c.self.inside.standing.items ≡ Some c.in-Some.place = rw (← c.deref.ensures.value) (sym c.place_under.ensures ∙ c.in-Some.is) in
+    rw (← c.self.view_is, c.in-Update.is) ((update c.args.token.now c.in-Update.version c.args.moment c.self.inside.standing.items c.in-Some.place c.index.result.now there c.index.ensures (rw c.in-Update.is at (sym c.counts.ensures ∙ c.if-not-counts.false))).told)
+
+pub returns-in-Other-clause-watches : goal.returns-in-Other-clause-watches
+returns-in-Other-clause-watches c =
+    let there : position (is_under c.args.token.now) c.self.inside.standing.items ≡ Some c.in-Some.place = rw (← c.deref.ensures.value) (sym c.place_under.ensures ∙ c.in-Some.is) in
+    rw (← c.self.view_is, c.remove.ensures.items, c.in-Other.is) ((ending c.args.token.now c.in-Other.field-0 c.args.moment c.self.inside.standing.items c.in-Some.place c.index.result.now there c.index.ensures (rw c.in-Other.is at (sym c.counts.ensures ∙ c.if-not-counts.false))).watches)
+
+pub returns-in-Other-clause-told : goal.returns-in-Other-clause-told
+returns-in-Other-clause-told c =
+    let there : position (is_under c.args.token.now) c.self.inside.standing.items ≡ Some c.in-Some.place = rw (← c.deref.ensures.value) (sym c.place_under.ensures ∙ c.in-Some.is) in
+    let same : c.remove.result ≡ c.index.result.now = one_read (is_under c.args.token.now) c.self.inside.standing.items c.in-Some.place _ _ there c.remove.ensures.value c.index.ensures in
+    rw (← c.self.view_is, same, c.in-Other.is) ((ending c.args.token.now c.in-Other.field-0 c.args.moment c.self.inside.standing.items c.in-Some.place c.index.result.now there c.index.ensures (rw c.in-Other.is at (sym c.counts.ensures ∙ c.if-not-counts.false))).told)

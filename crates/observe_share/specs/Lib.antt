@@ -1,0 +1,4 @@
+pub mod Newer
+pub mod Watches
+pub mod Due
+pub mod Order

@@ -1,0 +1,22 @@
+//! Watches: which resources are observed, and which of two notifications is the newer (RFC 7641).
+//!
+//! The one contract: a watch holds the number and the moment of the newest notification that came
+//! under its token, and no more than 64 stand. `newer` is the formula of RFC 7641 section 3.4, and
+//! `newest_wins` says what it is good for: of notifications that came in any order, the last one
+//! sent is the one that is kept. Who shares one observation among many readers is to stand on it;
+//! the program doesn't use it yet.
+#![tactic(auto)]
+
+mod fault;
+mod laws;
+mod notice;
+mod order;
+mod registration;
+mod watch;
+
+pub use fault::WatchFault;
+pub use laws::newest_wins;
+pub use notice::{Notice, Notified};
+pub use order::newer;
+pub use registration::Registration;
+pub use watch::Watch;

@@ -1,0 +1,219 @@
+//! The watches that stand.
+
+ghost use Rattle.std.specs.Prelude.{◌≡◌, ◌==◌, ◌≤◌, ◌+◌, ◌∷◌, ◌++◌, ◌↔◌, [], map, length, All, Any, OnOk, OnErr, IfOk, IfNone, IfSome, IsErrOf};
+ghost use Rattle.std.specs.Option.{option_copied};
+ghost use Rattle.std.specs.List.{position, find};
+ghost use Rattle.observe_share.specs.Watches.{is_under, is_of, is_at, is_idle, without, asked_at, counts_for, noticed, told_of, notice_tells};
+ghost use Rattle.observe_share.specs.Due.{IsNextDue};
+ghost use Rattle.observe_share.specs.declared.fault.WatchFault.{WatchFault};
+
+use crate::fault::WatchFault;
+use crate::notice::{Notice, Notified};
+use crate::order::newer;
+use crate::registration::{IDLE, Registration};
+use cache_key::{Key, Place};
+use coap_codec::Token;
+use std::alloc::{AllocError, Global};
+use std::marker::Model;
+
+/// How many may stand.
+const LIMIT: usize = 64;
+
+/// The watches that stand, in the order of their registration.
+#[derive(Drop)]
+pub struct Watch {
+    standing: Vec<Registration>,
+}
+
+impl Model for Watch {
+    ghost use Rattle.std.specs.Prelude.{List, length, ◌≤◌};
+    ghost use Rattle.observe_share.specs.declared.registration.Registration.{Registration};
+
+    ghost Value = { List Registration };
+
+    ghost view = { λ w. w.standing.items };
+
+    ghost invariant = { λ w. length w.standing.items ≤ 64 };
+}
+
+/// Whether the registration has the token.
+fn has_token(r: &Registration, token: &Token) -> bool
+    ensures { result ≡ is_under token.now r.now }
+{
+    r.token == *token
+}
+
+/// The place of the first one under the token.
+fn place_under(standing: &[Registration], token: &Token) -> Option<usize>
+    ensures { result ≡ position (is_under token.now) standing.now }
+{
+    standing.iter().position(|r| has_token(r, token))
+}
+
+/// Whether the notice counts for the watch.
+fn counts(notice: Notice, moment: u64, r: &Registration) -> bool
+    ensures { result ≡ counts_for notice moment r.now }
+{
+    match notice {
+        Notice::Update(version) | Notice::Other(Some(version)) => {
+            newer(r.version, r.moment, version, moment)
+        }
+        Notice::Other(None) => true,
+    }
+}
+
+/// The key was asked for at this moment.
+fn touch(standing: &mut [Registration], key: &Key, moment: u64)
+    ensures { standing.new ≡ map (asked_at key.now moment) standing.old }
+{
+    'each: for r in standing {
+        r.touch(key, moment);
+    }
+}
+
+/// The least of the moments at which their keys were asked for last.
+fn first_asked(standing: &[Registration]) -> Option<u64>
+    ensures none { IfNone result (standing.now ≡ []) }
+    ensures one { IfSome result (λ t. Any (λ r. r.asked ≡ t) standing.now) }
+    ensures least { IfSome result (λ t. All (λ r. t ≤ r.asked) standing.now) }
+{
+    standing.iter().map(|r| r.asked).min()
+}
+
+fn drop_key(standing: &mut Vec<Registration>, key: &Key)
+    ensures items { standing.new.items ≡ without (is_of key.now) standing.old.items }
+    ensures fewer { length standing.new.items ≤ length standing.old.items }
+{
+    standing.retain(|r| !r.key.is_same(key));
+}
+
+fn drop_place(standing: &mut Vec<Registration>, place: &Place)
+    ensures items { standing.new.items ≡ without (is_at place.now) standing.old.items }
+    ensures fewer { length standing.new.items ≤ length standing.old.items }
+{
+    standing.retain(|r| !r.key.place().is_same(place));
+}
+
+fn drop_idle(standing: &mut Vec<Registration>, moment: u64)
+    ensures items { standing.new.items ≡ without (is_idle moment) standing.old.items }
+    ensures fewer { length standing.new.items ≤ length standing.old.items }
+{
+    standing.retain(|r| !r.is_idle(moment));
+}
+
+impl Watch {
+    /// No watches.
+    pub fn new(alloc: Global) -> Watch
+        ensures { result ≡ [] }
+    {
+        Watch {
+            standing: Vec::new(alloc),
+        }
+    }
+
+    /// How many stand.
+    pub fn len(&self) -> usize
+        ensures count { result ≡ length self.now }
+        ensures few { length self.now ≤ 64 }
+    {
+        self.standing.len()
+    }
+
+    /// Whether none stands.
+    pub fn is_empty(&self) -> bool
+        ensures { result ≡ (length self.now == 0) }
+    {
+        self.standing.is_empty()
+    }
+
+    /// One more watch. A watch of its key that stands is to be forgotten first.
+    pub fn register(&mut self, registration: Registration) -> Result<(), WatchFault>
+        ensures ok { OnOk result (self.new ≡ self.old ++ registration ∷ []) }
+        ensures err { OnErr result (self.new ≡ self.old) }
+        ensures full { IsErrOf result WatchFault.Full ↔ (64 ≤ length self.old) }
+    {
+        if self.standing.len() >= LIMIT {
+            return Err(WatchFault::Full);
+        }
+        self.standing.push(registration)?;
+        Ok(())
+    }
+
+    /// The watch under this token.
+    pub fn under(&self, token: &Token) -> Option<&Registration>
+        ensures { option_copied result ≡ find (is_under token.now) self.now }
+    {
+        self.standing.iter().find(|r| has_token(r, token))
+    }
+
+    /// What came under this token, at this moment. Where it counts, the watch holds its number and
+    /// moment from then on, or ends.
+    pub fn notified(&mut self, token: &Token, notice: Notice, moment: u64) -> Notified
+        ensures watches { self.new ≡ noticed token.now notice moment self.old }
+        ensures told { told_of result ≡ notice_tells notice moment (find (is_under token.now) self.old) }
+    {
+        let Some(place) = place_under(&self.standing, token) else {
+            return Notified::Unknown;
+        };
+        if !counts(notice, moment, &self.standing[place]) {
+            return Notified::Older;
+        }
+        match notice {
+            Notice::Update(version) => {
+                self.standing[place].renew(version, moment);
+                Notified::Updated
+            }
+            Notice::Other(_) => Notified::Ended(self.standing.remove(place)),
+        }
+    }
+
+    /// The key was asked for at this moment.
+    pub fn touched(&mut self, key: &Key, moment: u64)
+        ensures { self.new ≡ map (asked_at key.now moment) self.old }
+    {
+        touch(&mut self.standing, key, moment);
+    }
+
+    /// The watches of this key are forgotten, since an exchange is opened for it.
+    pub fn forget(&mut self, key: &Key)
+        ensures { self.new ≡ without (is_of key.now) self.old }
+    {
+        drop_key(&mut self.standing, key);
+    }
+
+    /// The watches of this place are forgotten, since a write to it ended.
+    pub fn retire(&mut self, place: &Place)
+        ensures { self.new ≡ without (is_at place.now) self.old }
+    {
+        drop_place(&mut self.standing, place);
+    }
+
+    /// The watches for whose keys nobody asked in the last 120,000 ms are forgotten; how many these
+    /// are.
+    pub fn idle(&mut self, moment: u64) -> usize
+        ensures watches { self.new ≡ without (is_idle moment) self.old }
+        ensures count { result + length self.new ≡ length self.old }
+    {
+        let before = self.standing.len();
+        drop_idle(&mut self.standing, moment);
+        before - self.standing.len()
+    }
+
+    /// The least moment at which `idle` forgets a watch; None where there is none.
+    pub fn next_due(&self) -> Option<u64>
+        ensures { IsNextDue self.now result }
+    {
+        first_asked(&self.standing)?.checked_add(IDLE)
+    }
+
+    /// The same watches, which share their keys.
+    pub fn copy(&self) -> Result<Watch, AllocError>
+        ensures { IfOk result (λ w. w ≡ self.now) }
+    {
+        let mut standing = Vec::new(*self.standing.allocator());
+        'each: for r in &self.standing {
+            standing.push(r.share()?)?;
+        }
+        Ok(Watch { standing })
+    }
+}
