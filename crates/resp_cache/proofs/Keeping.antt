@@ -1,0 +1,100 @@
+-- What calls leave is a store.
+use Rattle.std.proofs.Common.{◌≡◌, ℕ, suc, ◌+◌, ◌<◌, ◌≤◌, List, [], ◌∷◌, ◌++◌, length, filter, Bool, true, false, Option, Some, None, MatchOption, Result, Ok, Err, OnOk, OnErr, refl, ap, sym, subst, ◌∙◌, get_or, take, drop, arith, inl, inr, length-append}
+use Rattle.std.specs.List.{position, find, remove, list_any, slice_get}
+use Rattle.std.specs.Option.{option_to_list}
+use Rattle.std.proofs.lemmas.Bool.{cases_lt}
+use Rattle.std.proofs.lemmas.List.Edits.{length-remove}
+use Rattle.std.proofs.lemmas.List.{length-take}
+use Rattle.std.proofs.lemmas.Option.{slice_get_read, slice_get_cases}
+use Rattle.cache_key.specs.Keys.{CacheKey}
+use Rattle.resp_cache.specs.Stored.{Stored, is_never_fresh}
+use Rattle.resp_cache.specs.Stores.{is_of, is_of_another, is_fresh_under, others, moved, placed, served, stored_in, store_limit, with_first, IsStore}
+use Rattle.resp_cache.specs.declared.pair.Pair.{Pair}
+use Rattle.resp_cache.proofs.Lists.{cut_at, find-at, find-nothing, length-filtered, none_dropped, none_passed, take_roomy}
+use Rattle.resp_cache.proofs.Apart.{apart-filtered, apart-placed, apart-taken, others-removed}
+
+pub store-filtered : (f : Pair → Bool) (ps : List Pair) → IsStore ps → IsStore (filter f ps)
+store-filtered f ps s = record { few = omega (arith, length-filtered f ps, s.few); apart = apart-filtered f ps s.apart }
+
+pub store-placed : (p : Pair) (ps : List Pair) → IsStore ps → IsStore (take store_limit (p ∷ others p.key ps))
+store-placed p ps s = record {
+  few = omega (arith, length-take store_limit (p ∷ others p.key ps));
+  apart = apart-taken store_limit (p ∷ others p.key ps) (apart-placed p ps s.apart);
+}
+
+-- where a pair was put, or none could be put
+pub store-put : {A E : Type 0} (r : Result A E) (p : Pair) (ps left news : List Pair) → IsStore ps → left ≡ others p.key ps → OnOk r (news ≡ take store_limit (p ∷ left)) → OnErr r (news ≡ left) → IsStore news
+store-put (Ok x) p ps left news s is ok err =
+    let P : List Pair → Type 0 = λ xs. IsStore xs in
+    subst P (sym (ok ∙ ap (λ xs. take store_limit (p ∷ xs)) is)) (store-placed p ps s)
+store-put (Err e) p ps left news s is ok err =
+    let P : List Pair → Type 0 = λ xs. IsStore xs in
+    subst P (sym (err ∙ is)) (store-filtered (is_of_another p.key) ps s)
+
+-- Nothing has to be cut off from what a filter leaves.
+pub roomy-filtered : (f : Pair → Bool) (ps : List Pair) → IsStore ps → (take store_limit (filter f ps) ≡ filter f ps) × (drop store_limit (filter f ps) ≡ [])
+roomy-filtered f ps s = take_roomy store_limit (filter f ps) ((store-filtered f ps s).few)
+
+-- a response that is never fresh
+pub put_never : (key : CacheKey) (stored : Stored) (ps left : List Pair) → IsStore ps → is_never_fresh stored ≡ true → left ≡ others key ps → (left ≡ take store_limit (placed key stored ps)) × ([] ≡ drop store_limit (placed key stored ps))
+put_never key stored ps left s never is =
+    let roomy = roomy-filtered (is_of_another key) ps s in
+    let same : placed key stored ps ≡ others key ps = rw never refl in
+    (is ∙ sym (ap (take store_limit) same ∙ roomy.0), sym (ap (drop store_limit) same ∙ roomy.1))
+
+-- Where no fewer are left, the key had no pair.
+unknown : (key : CacheKey) (ps : List Pair) → length ps ≤ length (others key ps) → (others key ps ≡ ps) × (find (is_of key) ps ≡ None)
+unknown key ps all =
+    let none : list_any (is_of key) ps ≡ false = none_passed (is_of key) ps all in
+    (none_dropped (is_of key) ps none, find-nothing (is_of key) ps none)
+
+-- What takes a pair out leaves room, so room is wanted for a key alone that had no pair.
+pub put_refused : {A E : Type 0} (r : Result A E) (key : CacheKey) (ps left news : List Pair) (len room : ℕ) → left ≡ others key ps → (length left < length ps → len < room) → OnErr r (room ≤ len) → OnErr r (news ≡ left) → OnErr r (news ≡ ps) × OnErr r (find (is_of key) ps ≡ None)
+put_refused (Ok x) key ps left news len room is fits full same = (tt, tt)
+put_refused (Err e) key ps left news len room is fits full same =
+    elim (cases_lt (length left) (length ps)) [
+      | inl fewer ↦ absurd (let narrow : room ≤ len = full in omega (arith, fits fewer, narrow))
+      | inr all ↦
+          let h = unknown key ps (omega (arith, all, ap length is)) in
+          (same ∙ (is ∙ h.0), h.1)
+    ]
+
+-- a pair that comes to the front
+pub moved-first : (ps left news : List Pair) (i : ℕ) (r : Pair) → IsStore ps → i < length ps → r ≡ get_or ps i r → left ≡ remove ps i → news ≡ r ∷ left → (news ≡ with_first (slice_get ps i) ps) × IsStore news
+moved-first ps left news i r s lt read is made =
+    let apart : left ≡ others r.key ps = is ∙ others-removed ps i r s.apart lt read in
+    let at : slice_get ps i ≡ Some r = slice_get_read ps (length ps) i r refl lt read in
+    let list : news ≡ r ∷ others r.key ps = made ∙ ap (λ (qs : List Pair). r ∷ qs) apart in
+    let few : length (r ∷ others r.key ps) ≤ store_limit = omega (arith, length-remove ps i lt, ap length is, ap length apart, s.few) in
+    let store : IsStore (r ∷ others r.key ps) = record { few = few; apart = apart-placed r ps s.apart } in
+    let P : List Pair → Type 0 = λ xs. IsStore xs in
+    (list ∙ sym (ap (λ (o : Option Pair). with_first o ps) at), subst P (sym list) store)
+
+served_at : (key : CacheKey) (t : ℕ) (ps news : List Pair) (i : ℕ) (r x : Pair) → find (is_fresh_under key t) ps ≡ slice_get ps i → slice_get ps i ≡ Some x → news ≡ with_first (slice_get ps i) ps → r ≡ get_or news 0 r → (news ≡ moved key t ps) × (Some r.stored ≡ served key t ps)
+served_at key t ps news i r x found at made read =
+    let list : news ≡ x ∷ others x.key ps = made ∙ ap (λ (o : Option Pair). with_first o ps) at in
+    let same : r ≡ x = read ∙ ap (λ (qs : List Pair). get_or qs 0 r) list in
+    (made ∙ ap (λ (o : Option Pair). with_first o ps) (sym found), ap (λ (q : Pair). Some q.stored) same ∙ sym (ap stored_in (found ∙ at)))
+
+-- what is served, and what is left
+pub served-first : (key : CacheKey) (t : ℕ) (ps news : List Pair) (i : ℕ) (r : Pair) → position (is_fresh_under key t) ps ≡ Some i → news ≡ with_first (slice_get ps i) ps → r ≡ get_or news 0 r → (news ≡ moved key t ps) × (Some r.stored ≡ served key t ps)
+served-first key t ps news i r place made read =
+    let f = find-at (is_fresh_under key t) ps i place in
+    elim ((slice_get_cases ps i).1) [
+      | inl x ↦ served_at key t ps news i r x.0 f.0 x.2 made read
+      | inr past ↦ absurd (omega (arith, f.1, past.0))
+    ]
+
+-- One more, for which there is room.
+pub put-roomy : (l : ℕ) (p : Pair) (xs same news : List Pair) (last : Option Pair) → length xs ≤ l → same ≡ xs → last ≡ None → news ≡ p ∷ same → (news ≡ p ∷ take l xs) × (option_to_list last ≡ drop l xs)
+put-roomy l p xs same news last few is none made =
+    let roomy = take_roomy l xs few in
+    (made ∙ ap (λ (qs : List Pair). p ∷ qs) (is ∙ sym roomy.0), ap (λ (o : Option Pair). option_to_list o) none ∙ sym roomy.1)
+
+-- One more, where the last one goes.
+pub put-full : (l : ℕ) (p : Pair) (xs left news : List Pair) (r last : Option Pair) (n m : ℕ) → length xs ≡ suc l → xs ≡ left ++ option_to_list r → MatchOption r ((n ≡ 0) × (m ≡ 0)) (λ _. m + 1 ≡ n) → 0 < n → last ≡ r → news ≡ p ∷ left → (news ≡ p ∷ take l xs) × (option_to_list last ≡ drop l xs)
+put-full l p xs left news None last n m long is cases some same made = absurd (omega (arith, cases.0, some))
+put-full l p xs left news (Some x) last n m long is cases some same made =
+    let len : length left ≡ l = omega (arith, ap length is, length-append left (x ∷ []), long) in
+    let cut = cut_at l left (x ∷ []) len in
+    (made ∙ ap (λ (qs : List Pair). p ∷ qs) (sym (ap (take l) is ∙ cut.0)), ap (λ (o : Option Pair). option_to_list o) same ∙ sym (ap (drop l) is ∙ cut.1))

@@ -1,0 +1,16 @@
+use Rattle.std.proofs.Common.{refl, sym}
+use Rattle.resp_cache.specs.Stores.{is_fresh_under}
+use Rattle.resp_cache.proofs.Lists.{find-none}
+use Rattle.resp_cache.proofs.Keeping.{served-first}
+use Rattle.resp_cache.proofs.store.Store.get.Goals as goal
+
+pub returns-in_err-place : goal.returns-in_err-place
+returns-in_err-place c =
+    let none = find-none (is_fresh_under c.args.key.now c.args.moment) c.self.inside.pairs.items (rw c.deref.ensures.value at (sym c.in_err-place.ensures)) in
+    rw (c.from_residual.ensures, ← c.self.view_is) ((refl, λ _. tt, rw none refl), record { moves = tt; value = rw none refl })
+
+pub returns : goal.returns
+returns c =
+    let place = rw c.deref.ensures.value at (sym c.in_ok-place.ensures) in
+    let h = served-first c.args.key.now c.args.moment c.self.inside.pairs.items c.move_first.new.pairs.items c.in_ok-place.place c.index.result.now place c.move_first.ensures.first c.index.ensures in
+    rw (← c.self.view_is) ((refl, λ _. tt, h.0), record { moves = tt; value = h.1 })

@@ -1,0 +1,4 @@
+pub mod Stored
+pub mod Stores
+pub mod Ends
+pub mod Uses

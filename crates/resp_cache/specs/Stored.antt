@@ -1,0 +1,45 @@
+-- Responses that are stored, and how long they are fresh.
+use Rattle.std.specs.Prelude.{ℕ, ◌+◌, ◌*◌, Bool, List, Option, unwrap_or, nat_lt, ◌==◌}
+use Rattle.resp_cache.specs.declared.response.Response as declared
+
+-- what a response says (RFC 7252 section 5.10)
+pub record Response : Type 0 where
+  pub code : ℕ
+  pub format : Option ℕ
+  pub etag : Option (List ℕ)
+  pub max_age : Option ℕ
+  pub location_path : List (List ℕ)
+  pub location_query : List (List ℕ)
+  pub body : List ℕ
+
+abbrev pub response_of : declared.Response → Response
+response_of r = record {
+  code = r.code;
+  format = r.format;
+  etag = r.etag;
+  max_age = r.max_age;
+  location_path = r.location_path.items;
+  location_query = r.location_query.items;
+  body = r.body;
+}
+
+-- A response, the moment from which its freshness counts, and the numbers of the entries that it rests on.
+pub record Stored : Type 0 where
+  pub response : Response
+  pub heard : ℕ
+  pub list : List ℕ
+
+abbrev pub stored_of : declared.Response → ℕ → List ℕ → Stored
+stored_of r heard list = record { response = response_of r; heard = heard; list = list }
+
+-- in milliseconds; Max-Age is in seconds, and 60 where it is absent (RFC 7252 section 5.10.5)
+abbrev pub lifetime : Option ℕ → ℕ
+lifetime max_age = 1000 * unwrap_or max_age 60
+
+-- It may be served at this moment (RFC 7252 section 5.6.1).
+abbrev pub is_fresh : ℕ → Stored → Bool
+is_fresh t s = nat_lt t (s.heard + lifetime s.response.max_age)
+
+-- It isn't even fresh when it is heard.
+abbrev pub is_never_fresh : Stored → Bool
+is_never_fresh s = lifetime s.response.max_age == 0

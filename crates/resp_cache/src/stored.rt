@@ -1,0 +1,115 @@
+//! Responses that are stored.
+
+ghost use Rattle.std.specs.Prelude.{◌≡◌, IfOk};
+ghost use Rattle.resp_cache.specs.Stored.{response_of, lifetime, is_fresh, is_never_fresh};
+
+use crate::response::Response;
+use std::alloc::{AllocError, Global};
+use std::marker::Model;
+use std::sync::Arc;
+
+/// How long a response without a Max-Age is fresh, in seconds (RFC 7252, section 5.10.5).
+const DEFAULT_MAX_AGE: u32 = 60;
+
+/// A response with what it rests on.
+#[derive(Drop)]
+struct Record {
+    response: Response,
+    heard: u64,
+    list: Vec<u32>,
+}
+
+/// A response that may be served again. Its copies share it.
+#[derive(Drop)]
+pub struct StoredResponse {
+    record: Arc<Record>,
+}
+
+impl Model for StoredResponse {
+    ghost use Rattle.std.specs.Arc.{arc_value};
+    ghost use Rattle.resp_cache.specs.Stored.{Stored, response_of};
+
+    ghost Value = { Stored };
+
+    ghost view = { λ s. record {
+      response = response_of (arc_value s.record).response;
+      heard = (arc_value s.record).heard;
+      list = (arc_value s.record).list.items;
+    } };
+}
+
+/// How long it is fresh, in milliseconds.
+fn lifetime_of(max_age: Option<u32>) -> u64
+    ensures { result ≡ lifetime max_age }
+{
+    1000 * u64::from(max_age.unwrap_or(DEFAULT_MAX_AGE))
+}
+
+impl StoredResponse {
+    ghost use Rattle.resp_cache.specs.Stored.{stored_of};
+
+    /// A response that was heard at this moment in milliseconds, from which its freshness counts, and
+    /// the numbers of the journal's entries that it rests on.
+    pub fn new(
+        alloc: Global,
+        response: Response,
+        heard: u64,
+        list: Vec<u32>,
+    ) -> Result<StoredResponse, AllocError>
+        ensures { IfOk result (λ s. s ≡ stored_of response heard list.items) }
+    {
+        let record = Record {
+            response,
+            heard,
+            list,
+        };
+        Ok(StoredResponse {
+            record: Arc::new(alloc, record)?,
+        })
+    }
+
+    /// The response.
+    pub fn response(&self) -> &Response
+        ensures { response_of result.now ≡ self.now.response }
+    {
+        &self.record.response
+    }
+
+    /// The moment from which its freshness counts, in milliseconds.
+    pub fn heard(&self) -> u64
+        ensures { result ≡ self.now.heard }
+    {
+        self.record.heard
+    }
+
+    /// The numbers of the journal's entries that it rests on.
+    pub fn list(&self) -> &[u32]
+        ensures { result.now ≡ self.now.list }
+    {
+        self.record.list.as_slice()
+    }
+
+    /// Whether it may be served at this moment.
+    pub fn is_fresh(&self, moment: u64) -> bool
+        ensures { result ≡ is_fresh moment self.now }
+    {
+        let heard = self.record.heard;
+        moment < heard || moment - heard < lifetime_of(self.record.response.max_age)
+    }
+
+    /// Whether its Max-Age is 0, so that it isn't stored.
+    pub fn is_never_fresh(&self) -> bool
+        ensures { result ≡ is_never_fresh self.now }
+    {
+        lifetime_of(self.record.response.max_age) == 0
+    }
+
+    /// The same once more, which isn't copied.
+    pub fn share(&self) -> Result<StoredResponse, AllocError>
+        ensures { IfOk result (λ s. s ≡ self.now) }
+    {
+        Ok(StoredResponse {
+            record: Arc::try_clone(&self.record)?,
+        })
+    }
+}
