@@ -23,7 +23,8 @@ response_of r = record {
   body = r.body;
 }
 
--- A response, the moment from which its freshness counts, and the numbers of the entries that it rests on.
+-- A response, the moment from which its freshness counts, and the numbers of the entries that it
+-- rests on.
 pub record Stored : Type 0 where
   pub response : Response
   pub heard : ℕ

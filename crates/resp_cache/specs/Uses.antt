@@ -42,7 +42,8 @@ spares p (Retire place) = is_elsewhere place p
 abbrev pub is_among : List CacheKey → CacheKey → Bool
 is_among keys key = list_any (same_key key) keys
 
--- Where all other keys that are used are among fewer than are kept, the pair that stood first is served.
+-- Where all other keys that are used are among fewer than are kept, the pair that stood first is
+-- served.
 abbrev pub TheLastUsedStay : Type 0
 TheLastUsedStay =
     (p : Pair) (ps : List Pair) (calls : List Call) (others : List CacheKey) (t : ℕ)

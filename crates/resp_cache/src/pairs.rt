@@ -25,10 +25,10 @@ pub fn stale_pair<'a>(pairs: &'a [Pair], key: &Key, moment: u64) -> Option<&'a P
     pairs.iter().find(|pair| pair.key.is_same(key) && !pair.stored.is_fresh(moment))
 }
 
-/// Takes the key's pair out, which leaves room for another one.
+/// Takes the key's pair out.
 pub fn drop_key(pairs: &mut Vec<Pair>, key: &Key)
     ensures items { pairs.new.items ≡ others key.now pairs.old.items }
-    ensures room { length pairs.new.items < length pairs.old.items → vec_len pairs.new < vec_capacity pairs.new }
+    ensures capacity { vec_capacity pairs.new ≡ vec_capacity pairs.old }
 {
     pairs.retain(|pair| !pair.key.is_same(key));
 }

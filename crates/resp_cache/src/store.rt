@@ -60,8 +60,8 @@ impl Store {
         self.pairs.is_empty()
     }
 
-    /// The key's response, if it is fresh at this moment in milliseconds. Its pair is the first one then,
-    /// and else nothing changes.
+    /// The key's response, if it is fresh at this moment in milliseconds. Its pair is the first one
+    /// then, and else nothing changes.
     pub fn get(&mut self, key: &Key, moment: u64) -> Option<&StoredResponse>
         ensures* moves { sem 𝓛 (EndsServed self.entry key.now moment) }
         ensures value { option_copied result ≡ served key.now moment self.old }
@@ -79,15 +79,16 @@ impl Store {
         Some(&pair.stored)
     }
 
-    /// Puts a response in front, in place of the key's own, and answers the pair that goes where there is
-    /// one too many. A response whose Max-Age is 0 isn't stored, and takes the key's pair out. Memory may
-    /// be wanted for a key that has no pair.
+    /// Puts a response in front, in place of the key's own, and answers the pair that goes where there
+    /// is one too many. A response whose Max-Age is 0 isn't stored, and takes the key's pair out. Memory
+    /// may be wanted for a key that has no pair.
     pub fn put(&mut self, key: Key, stored: StoredResponse) -> Result<Option<Pair>, AllocError>
         ensures kept { OnOk result (self.new ≡ take store_limit (placed key stored self.old)) }
-        ensures evicted { IfOk result (λ e. option_to_list e ≡ drop store_limit (placed key stored self.old)) }
+        ensures evicted { IfOk result
+            (λ e. option_to_list e ≡ drop store_limit (placed key stored self.old)) }
         ensures unchanged { OnErr result (self.new ≡ self.old) }
-        ensures known { OnErr result (find (is_of key) self.old ≡ None) }
-        ensures fresh { OnErr result (is_never_fresh stored ≡ false) }
+        ensures new_key { OnErr result (find (is_of key) self.old ≡ None) }
+        ensures storable { OnErr result (is_never_fresh stored ≡ false) }
     {
         // Where the key has a pair, this leaves room for the new one.
         drop_key(&mut self.pairs, &key);

@@ -48,8 +48,8 @@ fn lifetime_of(max_age: Option<u32>) -> u64
 impl StoredResponse {
     ghost use Rattle.resp_cache.specs.Stored.{stored_of};
 
-    /// A response that was heard at this moment in milliseconds, from which its freshness counts, and
-    /// the numbers of the journal's entries that it rests on.
+    /// A response, the moment in milliseconds from which its freshness counts, and the numbers of the
+    /// journal's entries that it rests on.
     pub fn new(
         alloc: Global,
         response: Response,

@@ -1,4 +1,4 @@
-use Rattle.std.proofs.Common.{◌≡◌, true, sym}
+use Rattle.std.proofs.Common.{◌≡◌, ◌<◌, length, true, sym, arith}
 use Rattle.resp_cache.specs.Stored.{is_never_fresh}
 use Rattle.resp_cache.specs.Stores.{is_of_another}
 use Rattle.resp_cache.proofs.Keeping.{put_never, put_refused, store-filtered, store-put}
@@ -27,10 +27,22 @@ invariant_of-self-2 c =
 
 pub returns-clause-unchanged : goal.returns-clause-unchanged
 returns-clause-unchanged c =
-    rw (← c.self.view_is) ((put_refused c.put_first.result c.args.key c.self.inside.pairs.items c.drop_key.new.pairs.items c.put_first.new.pairs.items c.drop_key.new.pairs.len c.drop_key.new.pairs.cap
-    c.drop_key.ensures.items c.drop_key.ensures.room c.put_first.ensures.full c.put_first.ensures.unchanged).0)
+    let old = c.self.inside.pairs.items in
+    let left = c.drop_key.new.pairs.items in
+    let fits : length left < length old → c.drop_key.new.pairs.len < c.drop_key.new.pairs.cap =
+    λ fewer. omega (arith, c.self.inside.pairs.ok, c.drop_key.new.pairs.ok, c.drop_key.ensures.capacity, fewer) in
+    let refused = put_refused c.put_first.result c.args.key old left c.put_first.new.pairs.items
+    c.drop_key.new.pairs.len c.drop_key.new.pairs.cap c.drop_key.ensures.items fits
+    c.put_first.ensures.full c.put_first.ensures.unchanged in
+    rw (← c.self.view_is) (refused.0)
 
-pub returns-clause-known : goal.returns-clause-known
-returns-clause-known c =
-    rw (← c.self.view_is) ((put_refused c.put_first.result c.args.key c.self.inside.pairs.items c.drop_key.new.pairs.items c.put_first.new.pairs.items c.drop_key.new.pairs.len c.drop_key.new.pairs.cap
-    c.drop_key.ensures.items c.drop_key.ensures.room c.put_first.ensures.full c.put_first.ensures.unchanged).1)
+pub returns-clause-new_key : goal.returns-clause-new_key
+returns-clause-new_key c =
+    let old = c.self.inside.pairs.items in
+    let left = c.drop_key.new.pairs.items in
+    let fits : length left < length old → c.drop_key.new.pairs.len < c.drop_key.new.pairs.cap =
+    λ fewer. omega (arith, c.self.inside.pairs.ok, c.drop_key.new.pairs.ok, c.drop_key.ensures.capacity, fewer) in
+    let refused = put_refused c.put_first.result c.args.key old left c.put_first.new.pairs.items
+    c.drop_key.new.pairs.len c.drop_key.new.pairs.cap c.drop_key.ensures.items fits
+    c.put_first.ensures.full c.put_first.ensures.unchanged in
+    rw (← c.self.view_is) (refused.1)
