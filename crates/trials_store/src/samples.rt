@@ -1,0 +1,73 @@
+//! Keys and responses of one device.
+
+use cache_key::{Key, Place};
+use resp_cache::{Bytes, Response, Store, StoredResponse};
+use std::alloc::{AllocError, Global};
+use std::net::{IpAddr, Ipv4Addr};
+use uri_map::{Host, Peer, Target, Text, Texts};
+
+/// 192.0.2.1:5683.
+fn device() -> Peer {
+    Peer {
+        address: IpAddr::V4(Ipv4Addr::new(192, 0, 2, 1)),
+        port: 5683,
+    }
+}
+
+/// `coap://s.example.com/` with this segment.
+fn target(alloc: Global, segment: &str) -> Result<Target, AllocError> {
+    let mut path = Texts::new(alloc);
+    path.push(Text::copy_of(alloc, segment)?)?;
+    Ok(Target {
+        host: Host::Name(Text::copy_of(alloc, "s.example.com")?),
+        port: 5683,
+        path,
+        query: Texts::new(alloc),
+    })
+}
+
+/// The key of a GET of that target, with this Accept.
+pub fn key_of(alloc: Global, segment: &str, accept: Option<u16>) -> Result<Key, AllocError> {
+    Key::of(alloc, device(), &target(alloc, segment)?, accept)
+}
+
+/// The key of a GET of `light` with this Accept.
+pub fn key(alloc: Global, accept: u16) -> Result<Key, AllocError> {
+    key_of(alloc, "light", Some(accept))
+}
+
+/// The place of that target.
+pub fn place(alloc: Global, segment: &str) -> Result<Place, AllocError> {
+    Place::of(device(), &target(alloc, segment)?)
+}
+
+/// 2.05 with the body `on`, which rests on the journal's entry 3.
+pub fn response(
+    alloc: Global,
+    heard: u64,
+    max_age: Option<u32>,
+) -> Result<StoredResponse, AllocError> {
+    let response = Response {
+        code: 69,
+        format: Some(0),
+        etag: Some(Bytes::of(Vec::from_slice(alloc, &[7])?)),
+        max_age,
+        location_path: Vec::new(alloc),
+        location_query: Vec::new(alloc),
+        body: Bytes::of(Vec::from_slice(alloc, b"on")?),
+    };
+    StoredResponse::new(alloc, response, heard, Vec::from_slice(alloc, &[3])?)
+}
+
+/// Puts a response that is fresh until 60,000 under the key with this Accept. True where nothing
+/// goes.
+pub fn puts(store: &mut Store, alloc: Global, accept: u16) -> Result<bool, AllocError> {
+    let gone = store.put(key(alloc, accept)?, response(alloc, 0, None)?)?;
+    Ok(gone.is_none())
+}
+
+/// Whether the key with this Accept is served.
+pub fn serves(store: &mut Store, alloc: Global, accept: u16) -> Result<bool, AllocError> {
+    let key = key(alloc, accept)?;
+    Ok(store.get(&key, 1).is_some())
+}
