@@ -1,0 +1,123 @@
+-- What an answer to a piece means, in the words of the standard.
+use Rattle.std.proofs.Common.{◌≡◌, ◌≢◌, ◌↔◌, ℕ, ◌⊎◌, inl, inr, Bool, true, false, not, ◌&&◌, ◌||◌, ◌==◌, List, [], ◌∷◌, Option, Some, None, refl, sym, ◌∙◌, cond}
+use Rattle.std.proofs.lemmas.Bool.{false≢true}
+use Rattle.std.specs.Bool.{Decides}
+use Rattle.std.proofs.lemmas.Bool.Decides.{Decides-eqb}
+use Rattle.coap_codec.specs.Spelling.{Content}
+use Rattle.coap_codec.specs.declared.block.Block.{Block}
+use Rattle.blockwise.specs.Reading.{block_in, is_final, class_of, goes_on}
+use Rattle.blockwise.specs.Uploads.{UploadValue, is_last, next_num, is_number_of, next_of, if_final, answer_to, Names, Continues, Responds, outcome_by}
+use Rattle.blockwise.specs.Joins.{outcome, AreAnswers}
+use Rattle.blockwise.specs.declared.upload.Answered.{Answered}
+use Rattle.blockwise.specs.declared.upload.Answered.TheVariants.{Next, Last, Wrong}
+
+names_decided : (b : Option Block) (num : ℕ) → Decides (is_number_of b num) (Names b num)
+names_decided None num = (λ e. tt, λ h. refl)
+names_decided (Some b) num = Decides-eqb b.num num
+
+-- An answer is sorted by its tests: more of it follows, the piece is the last, 2.31, the end of a request, an
+-- error that is one, the number of the piece.
+next_means : (more last continue final error number : Bool)
+    → cond more Wrong (cond last (if_final final) (cond (not continue) (if_final error) (cond number Next Wrong))) ≡ Next
+    → (more ≡ false) × (last ≡ false) × (continue ≡ true) × (number ≡ true)
+next_means true last continue final error number e = absurd cc
+next_means false true continue true error number e = absurd cc
+next_means false true continue false error number e = absurd cc
+next_means false false false final true number e = absurd cc
+next_means false false false final false number e = absurd cc
+next_means false false true final error true e = (refl, refl, refl, refl)
+next_means false false true final error false e = absurd cc
+
+last_means : (more last continue final error number : Bool)
+    → cond more Wrong (cond last (if_final final) (cond (not continue) (if_final error) (cond number Next Wrong))) ≡ Last
+    → (more ≡ false) × (((last ≡ true) × (final ≡ true)) ⊎ (error ≡ true))
+last_means true last continue final error number e = absurd cc
+last_means false true continue true error number e = (refl, inl (refl, refl))
+last_means false true continue false error number e = absurd cc
+last_means false false false final true number e = (refl, inr refl)
+last_means false false false final false number e = absurd cc
+last_means false false true final error true e = absurd cc
+last_means false false true final error false e = absurd cc
+
+and_both : (a b : Bool) → (a && b) ≡ true → (a ≡ true) × (b ≡ true)
+and_both true b e = (refl, e)
+and_both false b e = absurd cc
+
+not_false : (b : Bool) → not b ≡ true → b ≡ false
+not_false true e = absurd cc
+not_false false e = refl
+
+differ : (a b : ℕ) → (a == b) ≡ false → a ≢ b
+differ a b e same = false≢true (sym e ∙ (Decides-eqb a b).1 same)
+
+unequal : (a b : ℕ) → a ≢ b → (a == b) ≡ false
+unequal a b ne = by_test (a == b) refl
+  where
+    by_test : (t : Bool) → (a == b) ≡ t → (a == b) ≡ false
+    by_test true e = absurd (ne ((Decides-eqb a b).0 e))
+    by_test false e = e
+
+pub next_continues : (u : UploadValue) (m : Content) → answer_to u m ≡ Next → Continues u m
+next_continues u m e =
+    let p = next_means (goes_on (block_in 23 m)) (is_last u) (m.code == 95) (is_final m) (is_final m && not (class_of m == 2)) (is_number_of (block_in 27 m) (next_num u)) e in
+    record {
+      in_one_piece = p.0;
+      before_last = p.1;
+      code = (Decides-eqb m.code 95).0 p.2;
+      number = (names_decided (block_in 27 m) (next_num u)).0 p.3;
+    }
+
+pub continues_next : (u : UploadValue) (m : Content) → Continues u m → answer_to u m ≡ Next
+continues_next u m h = rw (h.in_one_piece, h.before_last, (Decides-eqb m.code 95).1 h.code, (names_decided (block_in 27 m) (next_num u)).1 h.number) refl
+
+pub last_responds : (u : UploadValue) (m : Content) → answer_to u m ≡ Last → Responds u m
+last_responds u m e =
+    let p = last_means (goes_on (block_in 23 m)) (is_last u) (m.code == 95) (is_final m) (is_final m && not (class_of m == 2)) (is_number_of (block_in 27 m) (next_num u)) e in
+    elim p.1 [ inl q ↦ record { in_one_piece = p.0; final = q.1; last_or_error = inl q.0 } | inr q ↦ by_error p.0 (and_both (is_final m) (not (class_of m == 2)) q) ]
+  where
+    by_error : goes_on (block_in 23 m) ≡ false → (is_final m ≡ true) × (not (class_of m == 2) ≡ true) → Responds u m
+    by_error one q = record { in_one_piece = one; final = q.0; last_or_error = inr (differ (class_of m) 2 (not_false (class_of m == 2) q.1)) }
+
+-- What ends a request isn't 2.31.
+no_continue : (m : Content) → is_final m ≡ true → (m.code == 95) ≡ false
+no_continue m e =
+    let classes = (class_of m == 2) || ((class_of m == 4) || (class_of m == 5)) in
+    let p = and_both classes (not (m.code == 67) && (not (m.code == 95) && not (m.code == 136))) e in
+    let q = and_both (not (m.code == 67)) (not (m.code == 95) && not (m.code == 136)) p.1 in
+    not_false (m.code == 95) ((and_both (not (m.code == 95)) (not (m.code == 136)) q.1).0)
+
+error_last : (more last continue final success number : Bool) → more ≡ false → last ≡ false → continue ≡ false → final ≡ true → success ≡ false
+    → cond more Wrong (cond last (if_final final) (cond (not continue) (if_final (final && not success)) (cond number Next Wrong))) ≡ Last
+error_last more last continue final success number a b c d e = rw (a, b, c, d, e) refl
+
+pub responds_last : (u : UploadValue) (m : Content) → Responds u m → answer_to u m ≡ Last
+responds_last u m h = by_last (is_last u) refl h.last_or_error
+  where
+    by_last : (last : Bool) → is_last u ≡ last → (is_last u ≡ true) ⊎ (class_of m ≢ 2) → answer_to u m ≡ Last
+    by_last true e how = rw (h.in_one_piece, e, h.final) refl
+    by_last false e (inl l) = absurd (false≢true (sym e ∙ l))
+    by_last false e (inr ne) =
+        error_last (goes_on (block_in 23 m)) (is_last u) (m.code == 95) (is_final m) (class_of m == 2) (is_number_of (block_in 27 m) (next_num u))
+        h.in_one_piece e (no_continue m h.final) h.final (unequal (class_of m) 2 ne)
+
+pub next_is : (u : UploadValue) (m : Content) → (answer_to u m ≡ Next) ↔ Continues u m
+next_is u m = (next_continues u m, continues_next u m)
+
+pub last_is : (u : UploadValue) (m : Content) → (answer_to u m ≡ Last) ↔ Responds u m
+last_is u m = (last_responds u m, responds_last u m)
+
+-- The same, over the answers to an upload.
+outcome_next : (u : UploadValue) (a : Answered) (later : Answered) → outcome_by a later ≡ Last → (a ≡ Next) × (later ≡ Last)
+outcome_next u Next later e = (refl, e)
+outcome_next u Last later e = absurd cc
+outcome_next u Wrong later e = absurd cc
+
+pub outcome_answers : (u : UploadValue) (ms : List Content) (last : Content) → outcome u ms last ≡ Last → AreAnswers u ms last
+outcome_answers u [] last e = last_responds u last e
+outcome_answers u (m ∷ ms) last e =
+    let p = outcome_next u (answer_to u m) (outcome (next_of u m) ms last) e in
+    (next_continues u m p.0, outcome_answers (next_of u m) ms last p.1)
+
+pub answers_outcome : (u : UploadValue) (ms : List Content) (last : Content) → AreAnswers u ms last → outcome u ms last ≡ Last
+answers_outcome u [] last h = responds_last u last h
+answers_outcome u (m ∷ ms) last h = rw (continues_next u m h.0) (answers_outcome (next_of u m) ms last h.1)

@@ -1,0 +1,5 @@
+pub mod WholeBlocks
+pub mod Blocks
+pub mod Answering
+pub mod Sent
+pub mod Fetching

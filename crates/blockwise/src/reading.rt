@@ -1,0 +1,77 @@
+//! What a response says of its piece.
+
+ghost use Rattle.std.specs.Prelude.{◌≡◌, ◌≤◌, ◌<◌, ◌^◌, true, IfSome, length};
+ghost use Rattle.std.specs.Option.{option_map};
+ghost use Rattle.coap_codec.specs.Spelling.{entry, content};
+ghost use Rattle.blockwise.specs.Reading.{is_defined, IsDefined, is_final, value_of, block_in, goes_on};
+
+use coap_codec::{Block, Message, Occurrence, Opt, block_of, definition, number, uint_of};
+
+/// Whether the option is defined for responses, with a value that it may have there.
+fn is_defined(o: &Opt) -> bool
+    ensures { result ≡ is_defined (entry o.now) }
+{
+    if o.number == number::BLOCK2 || o.number == number::BLOCK1 {
+        // RFC 7959, section 2.2
+        return o.value.len() <= 3 && uint_of(&o.value) % 8 != 7;
+    }
+    match definition(o.number) {
+        Some(row) => row.in_response != Occurrence::Never && row.allows_len(o.value.len()),
+        None => false,
+    }
+}
+
+/// Whether its code ends a request.
+pub fn is_final(m: &Message) -> bool
+    ensures { result ≡ is_final (content m.now) }
+{
+    let class = m.code / 32;
+    (class == 2 || class == 4 || class == 5) && m.code != 67 && m.code != 95 && m.code != 136
+}
+
+/// The value of the first option of this number that is defined.
+pub fn value_of(m: &Message, number: u16) -> Option<&[u8]>
+    ensures value { option_map (λ v. v.now) result ≡ value_of number (content m.now) }
+    ensures defined { IfSome result (λ v. IsDefined number v.now) }
+{
+    'each: for o in &m.options {
+        if o.number == number && is_defined(o) {
+            return Some(&o.value);
+        }
+    }
+    None
+}
+
+/// Its Block1.
+pub fn block1_in(m: &Message) -> Option<Block>
+    ensures value { result ≡ block_in 27 (content m.now) }
+    ensures num { IfSome result (λ b. b.num < 2 ^ 20) }
+    ensures szx { IfSome result (λ b. b.szx < 7) }
+{
+    match value_of(m, number::BLOCK1) {
+        Some(value) => block_of(value),
+        None => None,
+    }
+}
+
+/// Its Block2.
+pub fn block2_in(m: &Message) -> Option<Block>
+    ensures value { result ≡ block_in 23 (content m.now) }
+    ensures num { IfSome result (λ b. b.num < 2 ^ 20) }
+    ensures szx { IfSome result (λ b. b.szx < 7) }
+{
+    match value_of(m, number::BLOCK2) {
+        Some(value) => block_of(value),
+        None => None,
+    }
+}
+
+/// Whether a Block option says that more follows.
+pub fn goes_on(block: Option<Block>) -> bool
+    ensures { result ≡ goes_on block }
+{
+    match block {
+        Some(block) => block.more,
+        None => false,
+    }
+}
