@@ -145,3 +145,27 @@ fn counted_alone(rt: HostRuntime) -> Result<(), Fail> {
     assert!(rt; said_by(download.add(whole)) == Said::Whole(3000));
     Ok(())
 }
+
+#[test]
+fn faults_in_words(rt: HostRuntime) {
+    let faults: [(BlockFault, &str); 5] = [
+        (
+            BlockFault::Changed,
+            "the representation changed between two blocks",
+        ),
+        (BlockFault::Size, "a block of another size than it says"),
+        (
+            BlockFault::Gap,
+            "a block that doesn't follow the one before",
+        ),
+        (
+            BlockFault::TooLarge,
+            "a representation of more than 65,536 bytes",
+        ),
+        (BlockFault::Memory, "out of memory"),
+    ];
+    for (fault, words) in faults {
+        let text = format!(in rt.alloc(); "{fault}").expect(&rt, "memory");
+        assert_eq!(rt; text.as_str(), words);
+    }
+}
