@@ -66,17 +66,17 @@ pended c p (x ∷ xs) d =
           omega (arith, whole, left, counts, rest)
     ]
 
-pub kept-begun : (h h1 h2 h3 : List Written) (room room1 room2 room3 : ℕ) (cs cs1 : List Conn) (es : Held) (s : Bool) (bytes bytes' last t n size count pending conn : ℕ)
+pub kept-begun : (h h1 h2 h3 : List Written) (cs cs1 : List Conn) (es : Held) (s : Bool) (bytes bytes' last t n size count pending conn : ℕ)
     (a : Ask) (q : CoapRequest) (b : List ℕ) (wait : ℕ) (m : Content) (first : ℕ)
-    → CoreKept h room cs es s bytes last → s ≡ false → last ≤ t → t ≤ 2 ^ 62 → count ≡ length cs → pending ≡ count_by is_pending cs
+    → CoreKept h cs es s bytes last → s ≡ false → last ≤ t → t ≤ 2 ^ 62 → count ≡ length cs → pending ≡ count_by is_pending cs
     → HasIdle cs conn → length es.exchanges < 256 → IsNext a q b wait m es first → size ≡ min (came_size a.came) (2 ^ 64 - 1)
     → takes h 2 (came_size a.came + (length b + 128)) count (pending + 1) ≡ true
     → h1 ≡ h → n ≡ length h1 → h2 ≡ h1 ++ written t (Asks conn a) ∷ [] → h3 ≡ h2 ++ written t (Sends q.peer b (Some wait)) ∷ []
     → cs1 ≡ map (pend conn (Some n)) cs
-    → count + pending + 4 ≤ room1 → room2 + 1 ≡ room1 → room3 + 1 ≡ room2 → bytes' ≡ min (bytes + (size + (length b + 128))) (2 ^ 64 - 1)
-    → CoreKept h3 room3 cs1 (held_after es n t q m first) s bytes' t
-kept-begun h h1 h2 h3 room room1 room2 room3 cs cs1 es s bytes bytes' last t n size count pending conn a q b wait m first k unsealed later early cnt waiting has exchanges next size-is room-fits e1 num e2 e3 f made less2 less3 total =
-    let before : CoreKept h room cs es false bytes last = subst (λ (s : Bool). CoreKept h room cs es s bytes last) unsealed k in
+    → bytes' ≡ min (bytes + (size + (length b + 128))) (2 ^ 64 - 1)
+    → CoreKept h3 cs1 (held_after es n t q m first) s bytes' t
+kept-begun h h1 h2 h3 cs cs1 es s bytes bytes' last t n size count pending conn a q b wait m first k unsealed later early cnt waiting has exchanges next size-is room-fits e1 num e2 e3 f total =
+    let before : CoreKept h cs es false bytes last = subst (λ (s : Bool). CoreKept h cs es s bytes last) unsealed k in
     let was = before.bytes_are refl in
     let real : ℕ = came_size a.came in
     let fit : fits (length h + 2) (bytes + (real + (length b + 128))) count (pending + 1) ≡ true = sym (takes-fits h bytes 2 (real + (length b + 128)) count (pending + 1) was) ∙ room-fits in
@@ -100,11 +100,10 @@ kept-begun h h1 h2 h3 room room1 room2 room3 cs cs1 es s bytes bytes' last t n s
     let firsts_are : firsts ((h ++ ask ∷ []) ++ sent ∷ []) ≡ firsts h ++ new ∷ [] =
     firsts-new (h ++ ask ∷ []) t wait q.peer b ∙ ap (λ (os : List Outgoing). os ++ new ∷ []) (firsts-other h t (Asks conn a) refl) in
     let issued = issued-first (firsts h) es.issued es.known q.peer b first m.mid before.issued next.mid (bears-id m b next.spelled) in
-    let now : CoreKept ((h ++ ask ∷ []) ++ sent ∷ []) room3 (map (pend conn (Some n)) cs) (held_after es n t q m first) false bytes' t = record {
+    let now : CoreKept ((h ++ ask ∷ []) ++ sent ∷ []) (map (pend conn (Some n)) cs) (held_after es n t q m first) false bytes' t = record {
       agrees = agrees;
       issued = subst (λ (os : List Outgoing). IsIssued os (es.issued + 1) (known_after es.known q.peer first)) (sym firsts_are) issued;
       bytes_are = λ e. omega (arith, sum1, sum2, was, same);
-      room_held = omega (arith, made, less2, less3, cnt, waiting, conns, more);
       within = λ e. rw (size2, size1, same) (fits-from (length h + 1 + 1) (bytes + (real + (length b + 128))) (length (map (pend conn (Some n)) cs)) (count_by is_pending (map (pend conn (Some n)) cs))
           (omega (arith, parts.0, cnt, waiting, conns, more)) (omega (arith, parts.1, cnt, waiting, conns, more)));
       few = omega (arith, few, conns);
@@ -124,19 +123,19 @@ pub sent-spelled : (s : Sense) (q : CoapRequest) (mid : ℕ) (token b : List ℕ
 sent-spelled s q mid token b e sent = subst (λ (s : Sense). IsSentFor s mid token (Some b)) e sent
 
 -- the way that an ask which opens an exchange leaves a core
-pub kept-begin : (h h1 h2 h3 : List Written) (room room1 room2 room3 : ℕ) (cs cs1 : List Conn) (es es0 es1 : List Exchange) (opened issued : ℕ) (ks ks0 ks1 : List Known) (rs : List Remembered)
+pub kept-begin : (h h1 h2 h3 : List Written) (cs cs1 : List Conn) (es es0 es1 : List Exchange) (opened issued : ℕ) (ks ks0 ks1 : List Known) (rs : List Remembered)
     (s : Bool) (bytes bytes' last t n size pending conn : ℕ) (a : Ask) (q : CoapRequest) (p : Peer) (b : List ℕ) (wait mid first : ℕ) (token : List ℕ)
-    → CoreKept h room cs (record { exchanges = es; opened = opened; issued = issued; known = ks; heard = rs }) s bytes last → s ≡ false → last ≤ t → t ≤ 2 ^ 62
+    → CoreKept h cs (record { exchanges = es; opened = opened; issued = issued; known = ks; heard = rs }) s bytes last → s ≡ false → last ≤ t → t ≤ 2 ^ 62
     → pending ≡ count_by is_pending cs + 1 → HasIdle cs conn → length es < 256 → a.sense ≡ Requests q → p ≡ q.peer
     → Spells (request_message q mid token) b → length token ≡ 8 → token_number token ≡ issued → first < 65536 → mid ≡ next_id (known_of ks p) first → 2000 ≤ wait → wait ≤ 3000
     → size ≡ min (came_size a.came) (2 ^ 64 - 1) → takes h 2 (came_size a.came + (length b + 128)) (length cs) pending ≡ true
     → h1 ≡ h → n ≡ length h1 → h2 ≡ h1 ++ written t (Asks conn a) ∷ [] → h3 ≡ h2 ++ written t (Sends p b (Some wait)) ∷ []
     → es0 ≡ es → es1 ≡ es0 ++ record { opening = n; since = t; number = n + 1; peer = p; mid = mid; token = token; confirmed = false } ∷ []
     → ks0 ≡ ks → ks1 ≡ known_after ks0 p first → cs1 ≡ map (pend conn (Some n)) cs
-    → length cs + pending + 3 ≤ room1 → room2 + 1 ≡ room1 → room3 + 1 ≡ room2 → bytes' ≡ min (bytes + (size + (length b + 128))) (2 ^ 64 - 1)
-    → CoreKept h3 room3 cs1 (record { exchanges = es1; opened = opened; issued = issued + 1; known = ks1; heard = rs }) s bytes' t
-kept-begin h h1 h2 h3 room room1 room2 room3 cs cs1 es es0 es1 opened issued ks ks0 ks1 rs s bytes bytes' last t n size pending conn a q p b wait mid first token
-    k unsealed later early waiting has few asks peer spelled token_size number first_fits is_mid least greatest size-is room-fits e1 num e2 e3 f0 f1 g0 g1 c1 made less2 less3 total =
+    → bytes' ≡ min (bytes + (size + (length b + 128))) (2 ^ 64 - 1)
+    → CoreKept h3 cs1 (record { exchanges = es1; opened = opened; issued = issued + 1; known = ks1; heard = rs }) s bytes' t
+kept-begin h h1 h2 h3 cs cs1 es es0 es1 opened issued ks ks0 ks1 rs s bytes bytes' last t n size pending conn a q p b wait mid first token
+    k unsealed later early waiting has few asks peer spelled token_size number first_fits is_mid least greatest size-is room-fits e1 num e2 e3 f0 f1 g0 g1 c1 total =
     let es' : Held = record { exchanges = es; opened = opened; issued = issued; known = ks; heard = rs } in
     let m : Content = request_message q mid token in
     let next : IsNext a q b wait m es' first = record {
@@ -152,8 +151,8 @@ kept-begin h h1 h2 h3 room room1 room2 room3 cs cs1 es es0 es1 opened issued ks 
     } in
     let count : ℕ = count_by is_pending cs in
     let fits_so : takes h 2 (came_size a.came + (length b + 128)) (length cs) (count + 1) ≡ true = rw (← waiting) (room-fits) in
-    let now = kept-begun h h1 h2 (h2 ++ written t (Sends q.peer b (Some wait)) ∷ []) room room1 room2 room3 cs cs1 es' s bytes bytes' last t n size (length cs) count conn a q b wait m first
-    k unsealed later early refl refl has few next size-is fits_so e1 num e2 refl c1 (omega (arith, made, waiting)) less2 less3 total in
+    let now = kept-begun h h1 h2 (h2 ++ written t (Sends q.peer b (Some wait)) ∷ []) cs cs1 es' s bytes bytes' last t n size (length cs) count conn a q b wait m first
+    k unsealed later early refl refl has few next size-is fits_so e1 num e2 refl c1 total in
     rw (e3, f1, f0, g1, g0, peer, add-one) now
 
 pub len-most : (o : Option (List ℕ)) (b : List ℕ) (n : ℕ) → o ≡ Some b → IfSome o (λ (b : List ℕ). length b ≤ n) → length b ≤ n

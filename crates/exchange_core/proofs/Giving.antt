@@ -214,3 +214,9 @@ answerable-shut h h1 e cs cs1 held s last x c ws ws1 gs gs1 out agrees has id qu
           _ (λ i d b. (All-filter _ (λ (y : Conn). keeps y × ((k : ℕ) → x.pending ≡ Some k → y.id ≢ x.id → y.pending ≢ Some k)) cs both i d b, filter_passes (λ (y : Conn). not (eqb y.id c)) cs i d b));
       unsent = more.unsent;
     })
+
+-- what is answered, with one answer fewer
+pub answerable-less : (h : List Written) (cs : List Conn) (ws ws1 : List Waited) (gs gs1 : List Given) (out : List Outgoing) (n : ℕ) → Answerable h cs ws gs out
+    → gs1 ≡ filter (λ (g : Given). not (eqb g.ask n)) gs → ws1 ≡ ws → Answerable h cs ws1 gs1 out
+answerable-less h cs ws ws1 gs gs1 out n a e1 e2 =
+    rw (e1, e2) (record { given = All-filter (λ (g : Given). not (eqb g.ask n)) (IsGiven h) gs a.given; asked = a.asked; kept = a.kept; unsent = a.unsent })

@@ -4,8 +4,6 @@ mod Sealed
 pub mod Busy
 pub mod Fewer
 pub mod Giving
-pub mod GoingBack
-pub mod Kept
 pub mod Keeping
 pub mod Knowing
 pub mod Issuing

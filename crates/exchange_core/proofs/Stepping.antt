@@ -137,10 +137,10 @@ pub some-map : {X Y : Type 0} (f : X → Y) (x : Option X) → is_some (option_m
 some-map f None = refl
 some-map f (Some x) = refl
 
--- the journal is long enough for one entry more
+-- the journal is short enough for one entry more
 pub few-heard : (h h1 h2 h3 : List Written) (t e size count waiting : ℕ) (p : Peer) (b : List ℕ) (due : Option Due) (sent : Option (List ℕ)) (sb rb : Bool)
     → SpellsDue due sent → sb ≡ is_some sent → e ≡ 1 + (one_if sb + one_if rb) → takes h e size count waiting ≡ true
-    → h1 ≡ h → h2 ≡ h1 ++ written t (Hears p b) ∷ [] → h3 ≡ with_sent t p sent h2 → length h3 ≤ 65536
+    → h1 ≡ h → h2 ≡ h1 ++ written t (Hears p b) ∷ [] → h3 ≡ with_sent t p sent h2 → length h3 + 1 ≤ 65536
 few-heard h h1 h2 h3 t e size count waiting p b due sent sb rb conf sb-is e-is room-fits e1 e2 e3 =
     let parts = fits-parts (length h + e) (sum_by entry_size h + size) count waiting room-fits in
     let by3 = sent-size t p due sent h2 conf in
@@ -150,10 +150,10 @@ few-heard h h1 h2 h3 t e size count waiting p b due sent sb rb conf sb-is e-is r
     let same : one_if sb ≡ one_if (is_some sent) = ap one_if sb-is in
     omega (arith, parts.0, by3.0, long, two, one, same, e-is)
 
-pub kept-heard : (h h1 h2 h3 h4 : List Written) (room room1 room2 room3 room4 : ℕ) (cs cs1 : List Conn) (tables : Held) (es1 : List Exchange) (rs1 : List Remembered)
+pub kept-heard : (h h1 h2 h3 h4 : List Written) (cs cs1 : List Conn) (tables : Held) (es1 : List Exchange) (rs1 : List Remembered)
     (s : Bool) (bytes bytes' last t n e size count pending waiting : ℕ) (out out1 : List Outgoing) (p : Peer) (b b1 : List ℕ) (sb rb : Bool) (v : Verdict) (sent : Option (List ℕ)) (r : Option Reader) (k : Known)
     (ws ws1 : List Waited) (gs gs1 : List Given)
-    → CoreKept h room cs tables s bytes last → Answerable h cs ws gs out → s ≡ false → last ≤ t → t ≤ 2 ^ 62
+    → CoreKept h cs tables s bytes last → Answerable h cs ws gs out → s ≡ false → last ≤ t → t ≤ 2 ^ 62
     → length b ≤ 2048 → known_of tables.known p ≡ Some k → n ≡ length h → IsVerdict t n p b tables.exchanges tables.heard v
     → SpellsDue v.due sent → IsReader cs v.ending r
     → sb ≡ is_some sent → rb ≡ is_some r → b1 ≡ b
@@ -163,11 +163,10 @@ pub kept-heard : (h h1 h2 h3 h4 : List Written) (room room1 room2 room3 room4 : 
     → h1 ≡ h → h2 ≡ h1 ++ written t (Hears p b1) ∷ [] → h3 ≡ with_sent t p sent h2 → h4 ≡ with_answer t r h3
     → es1 ≡ exchanges_by v.change tables.exchanges → rs1 ≡ heard_by v.memory tables.heard → cs1 ≡ conns_by r cs
     → ws1 ≡ waiting_by r ws → AnswersBy t (length h3) r ws gs gs1
-    → count + pending + 4 ≤ room1 → room2 + 1 ≡ room1 → room2 ≤ room3 + 1 → room3 ≤ room4 + 1
     → bytes' ≡ min (bytes + size) (2 ^ 64 - 1) → out1 ≡ out ++ option_to_list (outgoing_by p sent)
-    → CoreKept h4 room4 cs1 (record tables { exchanges = es1; heard = rs1 }) s bytes' t × Answerable h4 cs1 ws1 gs1 out1
-kept-heard h h1 h2 h3 h4 room room1 room2 room3 room4 cs cs1 tables es1 rs1 s bytes bytes' last t n e size count pending waiting out out1 p b b1 sb rb v sent r k ws ws1 gs gs1 kept ans unsealed later early short known num verdict conf reader sb-is rb-is b-is cnt pend-is wait-is e-is size-is room-fits e1 e2 e3 e4 f1 f2 f3 g1 answers made less2 less3 less4 total outs =
-    let before : CoreKept h room cs tables false bytes last = subst (λ (s : Bool). CoreKept h room cs tables s bytes last) unsealed kept in
+    → CoreKept h4 cs1 (record tables { exchanges = es1; heard = rs1 }) s bytes' t × Answerable h4 cs1 ws1 gs1 out1
+kept-heard h h1 h2 h3 h4 cs cs1 tables es1 rs1 s bytes bytes' last t n e size count pending waiting out out1 p b b1 sb rb v sent r k ws ws1 gs gs1 kept ans unsealed later early short known num verdict conf reader sb-is rb-is b-is cnt pend-is wait-is e-is size-is room-fits e1 e2 e3 e4 f1 f2 f3 g1 answers total outs =
+    let before : CoreKept h cs tables false bytes last = subst (λ (s : Bool). CoreKept h cs tables s bytes last) unsealed kept in
     let may : MayHear h cs tables last t p b = record { agrees = before.agrees; later = later; short = short; peer = k; known = known } in
     let x2 : List Written = h ++ written t (Hears p b) ∷ [] in
     let x3 : List Written = with_sent t p sent x2 in
@@ -196,15 +195,13 @@ kept-heard h h1 h2 h3 h4 room room1 room2 room3 room4 cs cs1 tables es1 rs1 s by
     let fewer = conns-fewer cs v.ending r reader in
     let a1 : one_if sb ≡ one_if (is_some sent) = ap one_if sb-is in
     let a2 : one_if rb ≡ one_if (is_some r) = ap one_if rb-is in
-    let one = one-at-most (is_some r) in
     let same : bytes' ≡ bytes + size = omega (arith, parts.1, total) in
     let few = before.few in
     let lengths : length x4 ≡ length h + e = omega (arith, size2, by3.0, by4.0, a1, a2, e-is) in
-    let now : CoreKept x4 room4 cs2 y false bytes' t = record {
+    let now : CoreKept x4 cs2 y false bytes' t = record {
       agrees = agrees;
       issued = issued-same x4 h tables.issued tables.known (firsts-answered t r x3 ∙ firsts-sent t p sent x2 ∙ firsts-other h t (Hears p b) refl) before.issued;
       bytes_are = λ u. omega (arith, sum2, was, same, size-is, by3.1, by4.1, a1, a2);
-      room_held = omega (arith, made, less2, less3, less4, cnt, pend-is, fewer.0, fewer.1, a1, a2, one);
       within = λ u. rw (lengths, same) (fits-from (length h + e) (bytes + size) (length cs2) (count_by is_pending cs2)
           (omega (arith, parts.0, cnt, pend-is, wait-is, a2, fewer.0, fewer.1)) (omega (arith, parts.1, cnt, pend-is, wait-is, a2, fewer.0, fewer.1)));
       few = omega (arith, few, fewer.0);
@@ -247,12 +244,12 @@ answer-added t p b b1 d r ws sent h h1 h2 h3 old new is b-is e1 e2 e3 entries co
     e3 ∙ ap (with_sent t p sent) (e2 ∙ ap (λ (b : List ℕ). h1 ++ written t (Hears p b) ∷ []) b-is ∙ ap (λ (h : List Written). h ++ written t (Hears p b) ∷ []) e1) in
     subst (λ (h : List Written). AddsAnswer t h old new) three (answer-shown t (length h3) d r ws h3 old new is refl entries conns by)
 
-pub changes-shown : (h : List Written) (cs : List Conn) (tables : Held) (room bytes last t n : ℕ) (p : Peer) (b : List ℕ) (v : Verdict) (k : Known) (s : Bool) (es1 : List Exchange)
-    → CoreKept h room cs tables s bytes last → s ≡ false → last ≤ t → length b ≤ 2048 → known_of tables.known p ≡ Some k → n ≡ length h
+pub changes-shown : (h : List Written) (cs : List Conn) (tables : Held) (bytes last t n : ℕ) (p : Peer) (b : List ℕ) (v : Verdict) (k : Known) (s : Bool) (es1 : List Exchange)
+    → CoreKept h cs tables s bytes last → s ≡ false → last ≤ t → length b ≤ 2048 → known_of tables.known p ≡ Some k → n ≡ length h
     → IsVerdict t n p b tables.exchanges tables.heard v → es1 ≡ exchanges_by v.change tables.exchanges
     → ChangesBy p b tables.exchanges es1
-changes-shown h cs tables room bytes last t n p b v k s es1 kept unsealed later short known num verdict is =
-    let before : CoreKept h room cs tables false bytes last = subst (λ (s : Bool). CoreKept h room cs tables s bytes last) unsealed kept in
+changes-shown h cs tables bytes last t n p b v k s es1 kept unsealed later short known num verdict is =
+    let before : CoreKept h cs tables false bytes last = subst (λ (s : Bool). CoreKept h cs tables s bytes last) unsealed kept in
     let may : MayHear h cs tables last t p b = record { agrees = before.agrees; later = later; short = short; peer = k; known = known } in
     rw is (verdict-changes h cs tables last t n p b v may num verdict)
 

@@ -12,7 +12,7 @@ use Rattle.history_laws.specs.Limits.{MaySeal}
 use Rattle.history_laws.specs.Kept.{Held, Agrees}
 use Rattle.history_laws.proofs.Amidst.{Amid-done}
 use Rattle.history_laws.proofs.Lateness.{Amid-passed, Amid-late}
-use Rattle.exchange_core.specs.Room.{is_pending, fits, takes}
+use Rattle.exchange_core.specs.Room.{HasPlaces, is_pending, fits, takes}
 use Rattle.exchange_core.specs.Answering.{Given, Waited}
 use Rattle.exchange_core.specs.CoreValue.{written, CoreValue, Answerable, Outgoing}
 use Rattle.exchange_core.specs.CoreKept.{CoreKept}
@@ -27,38 +27,39 @@ use Rattle.exchange_core.proofs.Waiters.{apart-agrees}
 use Rattle.exchange_core.proofs.Timed.{waits-less, timeouts-many, timeouts-size}
 
 -- the start of a tick, whose entry is written
-pub midway-passed : (h h1 h2 : List Written) (room room1 room2 : ℕ) (cs : List Conn) (tables : Held) (s : Bool) (bytes last t count pending more size : ℕ) (out : List Outgoing) (ws : List Waited) (gs : List Given)
-    → CoreKept h room cs tables s bytes last → Answerable h cs ws gs out → s ≡ false → last ≤ t
+pub midway-passed : (h h1 h2 : List Written) (room : ℕ) (cs : List Conn) (tables : Held) (s : Bool) (bytes last t count pending more size : ℕ) (out : List Outgoing) (ws : List Waited) (gs : List Given)
+    → CoreKept h cs tables s bytes last → Answerable h cs ws gs out → s ≡ false → last ≤ t
     → count ≡ length cs → pending ≡ count_by is_pending cs → more ≡ due_count t tables.exchanges cs
     → takes h (1 + more) size count (pending - more) ≡ true
-    → h1 ≡ h → h2 ≡ h1 ++ written t Passes ∷ [] → count + pending + 2 ≤ room1 → room2 + 1 ≡ room1
-    → Midway t tables.exchanges (record tables { exchanges = going t tables.exchanges }) s out h2 room2 cs t ws gs
-midway-passed h h1 h2 room room1 room2 cs tables s bytes last t count pending more size out ws gs k a unsealed later cnt wait due room-fits e1 e2 made less =
-    let before : CoreKept h room cs tables false bytes last = subst (λ (s : Bool). CoreKept h room cs tables s bytes last) unsealed k in
+    → h1 ≡ h → h2 ≡ h1 ++ written t Passes ∷ [] → HasPlaces h2 room
+    → Midway t tables.exchanges (record tables { exchanges = going t tables.exchanges }) s out h2 room cs t ws gs
+midway-passed h h1 h2 room cs tables s bytes last t count pending more size out ws gs k a unsealed later cnt wait due room-fits e1 e2 places =
+    let before : CoreKept h cs tables false bytes last = subst (λ (s : Bool). CoreKept h cs tables s bytes last) unsealed k in
     let parts = fits-parts (length h + (1 + more)) (sum_by entry_size h + size) count (pending - more) room-fits in
     let longer = length-append h (written t Passes ∷ []) in
-    let now : Midway t tables.exchanges (record tables { exchanges = going t tables.exchanges }) false out (h ++ written t Passes ∷ []) room2 cs t ws gs = record {
+    let same : h2 ≡ h ++ written t Passes ∷ [] = e2 ∙ ap (λ (k : List Written). k ++ written t Passes ∷ []) e1 in
+    let now : Midway t tables.exchanges (record tables { exchanges = going t tables.exchanges }) false out (h ++ written t Passes ∷ []) room cs t ws gs = record {
       amid = Amid-passed t h cs tables last before.agrees later;
       answerable = answerable-more h (h ++ written t Passes ∷ []) (written t Passes) cs ws gs out refl refl a;
       later = omega arith;
       rising = table-rising h cs tables false last before.agrees;
-      room_held = omega (arith, made, less, cnt, wait);
+      places = subst (λ (k : List Written). HasPlaces k room) same places;
       short = omega (arith, parts.0, cnt, wait, longer);
     } in
-    rw (e2, e1, unsealed) now
+    rw (same, unsealed) now
 
 -- and in a journal that was sealed
 pub midway-sealed : (h : List Written) (room : ℕ) (cs : List Conn) (tables : Held) (s : Bool) (bytes last t : ℕ) (out : List Outgoing) (ws : List Waited) (gs : List Given)
-    → CoreKept h room cs tables s bytes last → Answerable h cs ws gs out → s ≡ true → last ≤ t
+    → CoreKept h cs tables s bytes last → Answerable h cs ws gs out → HasPlaces h room → s ≡ true → last ≤ t
     → Midway t tables.exchanges tables s out h room cs last ws gs
-midway-sealed h room cs tables s bytes last t out ws gs k a sealed later =
-    let before : CoreKept h room cs tables true bytes last = subst (λ (s : Bool). CoreKept h room cs tables s bytes last) sealed k in
+midway-sealed h room cs tables s bytes last t out ws gs k a places sealed later =
+    let before : CoreKept h cs tables true bytes last = subst (λ (s : Bool). CoreKept h cs tables s bytes last) sealed k in
     let now : Midway t tables.exchanges tables true out h room cs last ws gs = record {
       amid = Amid-late t h cs tables last before.agrees;
       answerable = a;
       later = later;
       rising = table-rising h cs tables true last before.agrees;
-      room_held = before.room_held;
+      places = places;
       short = before.short;
     } in
     rw sealed now
@@ -69,15 +70,15 @@ agrees-ticked : (t : ℕ) (es : List Exchange) (tables : Held) (s : Bool) (out :
 agrees-ticked t es tables s out h room cs0 cs last ws gs m is =
     Amid-done (map late_end (filter (is_past t) es)) t h cs tables s last m.amid (rw is (none-waits t es cs0))
 
-pub kept-ticked : (h h1 h2 h3 : List Written) (room room3 : ℕ) (cs cs3 : List Conn) (tables : Held) (s : Bool) (bytes bytes' last last3 t count pending more size : ℕ) (out : List Outgoing) (ws3 : List Waited) (gs3 : List Given) (es3 : List Exchange)
-    → CoreKept h room cs tables s bytes last → s ≡ false → t ≤ 2 ^ 62
+pub kept-ticked : (h h1 h2 h3 : List Written) (room3 : ℕ) (cs cs3 : List Conn) (tables : Held) (s : Bool) (bytes bytes' last last3 t count pending more size : ℕ) (out : List Outgoing) (ws3 : List Waited) (gs3 : List Given) (es3 : List Exchange)
+    → CoreKept h cs tables s bytes last → s ≡ false → t ≤ 2 ^ 62
     → count ≡ length cs → pending ≡ count_by is_pending cs → more ≡ due_count t tables.exchanges cs
     → takes h (1 + more) size count (pending - more) ≡ true → size ≡ 64 + 68 * more
     → h1 ≡ h → h2 ≡ h1 ++ written t Passes ∷ [] → h3 ≡ h2 ++ timeouts t tables.exchanges cs → cs3 ≡ map (timed t tables.exchanges) cs
     → Midway t tables.exchanges (record tables { exchanges = going t tables.exchanges }) s out h3 room3 cs3 last3 ws3 gs3
     → es3 ≡ going t tables.exchanges → bytes' ≡ min (bytes + size) (2 ^ 64 - 1)
-    → CoreKept h3 room3 cs3 (record tables { exchanges = es3 }) s bytes' last3
-kept-ticked h h1 h2 h3 room room3 cs cs3 tables s bytes bytes' last last3 t count pending more size out ws3 gs3 es3 k unsealed early cnt wait due room-fits sized e1 e2 e3 f3 m went b =
+    → CoreKept h3 cs3 (record tables { exchanges = es3 }) s bytes' last3
+kept-ticked h h1 h2 h3 room3 cs cs3 tables s bytes bytes' last last3 t count pending more size out ws3 gs3 es3 k unsealed early cnt wait due room-fits sized e1 e2 e3 f3 m went b =
     let es = tables.exchanges in
     let was = k.bytes_are unsealed in
     let fit : fits (length h + (1 + more)) (bytes + size) count (pending - more) ≡ true = sym (takes-fits h bytes (1 + more) size count (pending - more) was) ∙ room-fits in
@@ -97,12 +98,11 @@ kept-ticked h h1 h2 h3 room room3 cs cs3 tables s bytes bytes' last last3 t coun
     let waiting : count_by is_pending cs3 ≡ count_by is_pending (map (timed t es) cs) = ap (count_by is_pending) f3 in
     let few = k.few in
     let by_then = m.later in
-    let kept : CoreKept h3 room3 cs3 (record tables { exchanges = going t es }) s bytes' last3 = record {
+    let kept : CoreKept h3 cs3 (record tables { exchanges = going t es }) s bytes' last3 = record {
       agrees = agrees-ticked t es _ s out h3 room3 cs cs3 last3 ws3 gs3 m f3;
       issued = issued-same h3 h tables.issued tables.known
           (ap firsts whole ∙ firsts-ticked (h ++ written t Passes ∷ []) t es cs ∙ firsts-other h t Passes refl) k.issued;
       bytes_are = λ u. omega (arith, sum1, sum2, was, same, sizes, many, due, sized, summed);
-      room_held = m.room_held;
       within = λ u. fits-from (length h3) bytes' (length cs3) (count_by is_pending cs3)
           (omega (arith, parts.0, size1, size2, longer, many, due, cnt, wait, conns, waiting, fewer))
           (omega (arith, parts.1, same, due, cnt, wait, conns, waiting, fewer));
@@ -112,11 +112,11 @@ kept-ticked h h1 h2 h3 room room3 cs cs3 tables s bytes bytes' last last3 t coun
     } in
     rw went kept
 
-pub kept-late : (h h1 : List Written) (room room1 : ℕ) (cs cs1 : List Conn) (tables : Held) (s : Bool) (bytes last last1 t : ℕ) (out : List Outgoing) (ws1 : List Waited) (gs1 : List Given)
-    → CoreKept h room cs tables s bytes last → s ≡ true → t ≤ 2 ^ 62 → h1 ≡ h ++ timeouts t tables.exchanges cs → cs1 ≡ map (timed t tables.exchanges) cs
+pub kept-late : (h h1 : List Written) (room1 : ℕ) (cs cs1 : List Conn) (tables : Held) (s : Bool) (bytes last last1 t : ℕ) (out : List Outgoing) (ws1 : List Waited) (gs1 : List Given)
+    → CoreKept h cs tables s bytes last → s ≡ true → t ≤ 2 ^ 62 → h1 ≡ h ++ timeouts t tables.exchanges cs → cs1 ≡ map (timed t tables.exchanges) cs
     → Midway t tables.exchanges tables s out h1 room1 cs1 last1 ws1 gs1
-    → CoreKept h1 room1 cs1 tables s bytes last1
-kept-late h h1 room room1 cs cs1 tables s bytes last last1 t out ws1 gs1 k sealed early e1 is m =
+    → CoreKept h1 cs1 tables s bytes last1
+kept-late h h1 room1 cs cs1 tables s bytes last last1 t out ws1 gs1 k sealed early e1 is m =
     let conns : length cs1 ≡ length cs = ap (λ (xs : List Conn). length xs) is ∙ length-map cs (timed t tables.exchanges) in
     let few = k.few in
     let by_then = m.later in
@@ -124,7 +124,6 @@ kept-late h h1 room room1 cs cs1 tables s bytes last last1 t out ws1 gs1 k seale
       agrees = agrees-ticked t tables.exchanges tables s out h1 room1 cs cs1 last1 ws1 gs1 m is;
       issued = issued-same h1 h tables.issued tables.known (ap firsts e1 ∙ firsts-ticked h t tables.exchanges cs) k.issued;
       bytes_are = λ u. absurd (false≢true (sym u ∙ sealed));
-      room_held = m.room_held;
       within = λ u. absurd (false≢true (sym u ∙ sealed));
       few = omega (arith, few, conns);
       early = omega (arith, by_then, early);

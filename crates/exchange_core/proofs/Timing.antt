@@ -22,7 +22,7 @@ use Rattle.history_laws.proofs.Amidst.{Amid-answered}
 use Rattle.history_laws.proofs.Readers.{late-found, pending-apart}
 use Rattle.exchange_core.specs.declared.step.Reader.{Reader}
 use Rattle.exchange_core.proofs.Told.{at-entries}
-use Rattle.exchange_core.specs.Room.{is_pending, held}
+use Rattle.exchange_core.specs.Room.{is_pending}
 use Rattle.datagram_verdict.specs.Findings.{Fails}
 use Rattle.exchange_core.specs.Answering.{Given, Waited, HasWaited, IsWaited, IsKept, IsGiven, answer_of}
 use Rattle.exchange_core.specs.Steps.{IsReader, with_answer, conns_by, waiting_by, AnswersBy}
@@ -100,14 +100,6 @@ answerable-late ds t h cs tables s last out x e w ws gs amid a has waits there i
       unsent = (answerable-more h h1 entry cs ws gs out refl refl a).unsent;
     }
 
-held-one : (s : Bool) (c p q room room1 : ℕ) → held s c p ≤ room → q + 1 ≡ p → room ≤ room1 + 1 → held s c q ≤ room1
-held-one true c p q room room1 a b d = omega arith
-held-one false c p q room room1 a b d = omega arith
-
-held-some : (s : Bool) (c p room : ℕ) → held s c p ≤ room → p ≤ room
-held-some true c p room a = omega arith
-held-some false c p room a = omega arith
-
 -- there is room for the answer to one that waits
 pub midway-room : (t : ℕ) (es : List Exchange) (tables : Held) (s : Bool) (out : List Outgoing) (h : List Written) (room : ℕ) (cs : List Conn) (last : ℕ) (ws : List Waited) (gs : List Given) (e : Exchange) (r : Reader)
     → Midway t es tables s out h room cs last ws gs → IsReader cs (late_ending t e) (Some r)
@@ -116,10 +108,10 @@ midway-room t es tables s out h room cs last ws gs e r m is =
     let it = looked-some t cs e r is in
     let x = it.conn in
     let fewer = one-less cs x e.opening (apart-amid _ _ _ _ _ _ _ _ m.amid) it.timed.stands it.timed.waits in
-    let some = held-some s (length cs) (count_by is_pending cs) room m.room_held in
+    let places = m.places in
     let short = m.short in
     let kept : IsKept ws x.pending = All-contains (λ (x : Conn). IsKept ws x.pending) cs x m.answerable.kept it.timed.stands in
-    (omega (arith, fewer, some), omega (arith, fewer, short), subst (HasWaited ws) (sym it.ask) (subst (IsKept ws) it.timed.waits kept))
+    (omega (arith, fewer, places, short), omega (arith, fewer, short), subst (HasWaited ws) (sym it.ask) (subst (IsKept ws) it.timed.waits kept))
 
 -- Who waits for the exchange gets its answer.
 pub record Answered (t : ℕ) (e : Exchange) (x : Conn) (cs cs1 : List Conn) (h h1 : List Written) (room room1 last1 : ℕ) (ws ws1 : List Waited) (gs gs1 : List Given) : Type 0 where
@@ -160,6 +152,8 @@ turned-late t es tables s out h h1 room room1 cs cs1 x e last last1 ws ws1 gs gs
     let size : length (map (pend x.id None) cs) ≡ length cs = length-map cs (pend x.id None) in
     let longer = length-append h (written t (Answers x.id e.opening (Fault Timeout e.number)) ∷ []) in
     let short = m.short in
+    let places = m.places in
+    let room_less = w.room_less in
     let made : Midway t es tables s out (h ++ written t (Answers x.id e.opening (Fault Timeout e.number)) ∷ []) room1 (map (pend x.id None) cs) t
     (filter (λ (v : Waited). not (eqb v.ask e.opening)) ws)
     (gs ++ answer_of w.answers.0 (record { number = length h; moment = t; heard = t }) (record { told = Fails Timeout; grounds = Fault Timeout e.number }) ∷ []) = record {
@@ -167,7 +161,7 @@ turned-late t es tables s out h h1 room room1 cs cs1 x e last last1 ws ws1 gs gs
       answerable = answerable;
       later = omega arith;
       rising = m.rising;
-      room_held = rw size (held-one s (length cs) (count_by is_pending cs) (count_by is_pending (map (pend x.id None) cs)) room room1 m.room_held fewer w.room_less);
+      places = omega (arith, places, room_less, longer);
       short = omega (arith, short, size, fewer, longer);
     } in
     rw (w.entries, w.conns, w.moment, w.waiting, w.answers.3) made

@@ -1,6 +1,5 @@
 -- Answers that aren't taken yet, as plain data.
-use Rattle.std.specs.Prelude.{◌≡◌, ◌⊎◌, ℕ, ◌+◌, ◌<◌, Bool, true, false, List, [], ◌∷◌, ◌++◌, Option, Some, None, filter, not, ◌==◌, slice_get, ⊤}
-use Rattle.std.specs.List.{All}
+use Rattle.std.specs.Prelude.{◌≡◌, ◌⊎◌, ℕ, ◌+◌, List, [], ◌∷◌, ◌++◌, Option, Some, None, filter, not, ◌==◌, slice_get, ⊤}
 use Rattle.std.specs.Arc.{arc_value}
 use Rattle.ask_model.specs.declared.cause.Cause.{Cause}
 use Rattle.coap_codec.specs.Spelling.{Content, Spells}
@@ -39,10 +38,6 @@ waited_of w = record { ask = w.ask; mapping = arc_value w.mapped }
 -- its answer
 abbrev pub answer_of : Waited → Stamp → Found → Given
 answer_of w s f = record { ask = w.ask; number = s.number; moment = s.moment; heard = s.heard; mapping = w.mapping; found = f }
-
--- the ask that was answered
-abbrev pub asked_of : {R : Type 0} → Answer R → Waited
-asked_of a = record { ask = a.ask; mapping = arc_value a.mapped }
 
 -- an ask with this number waits
 abbrev pub HasWaited : List Waited → ℕ → Type 0
@@ -86,66 +81,10 @@ pub record IsGiven (h : List Written) (g : Given) : Type 0 where
   pub stands : slice_get h g.number ≡ Some (record { moment = g.moment; deed = Answers conn g.ask g.found.grounds })
   pub found : IsFound h g.found.told g.found.grounds g.mapping.sense
 
--- the asks that wait, those that were answered, and those that wait no more and are kept for going back
-pub record AskList : Type 0 where
-  pub waiting : List Waited
-  pub answered : List Waited
-  pub gone : List Waited
-
--- An ask with this number is among them.
-abbrev pub HasAsk : AskList → ℕ → Type 0
-HasAsk asks k = HasWaited asks.waiting k ⊎ (HasWaited asks.answered k ⊎ HasWaited asks.gone k)
-
--- The entries have them all.
-pub record AreAsks (h : List Written) (asks : AskList) : Type 0 where
-  pub waiting : All (IsWaited h) asks.waiting
-  pub answered : All (IsWaited h) asks.answered
-  pub gone : All (IsWaited h) asks.gone
-
--- None of the old ones is lost, and entries that have those and the added ones have the new ones.
-pub record StillAsked (added : List Waited) (old new : AskList) : Type 0 where
-  pub stays : (k : ℕ) → HasAsk old k → HasAsk new k
-  pub stands : (h : List Written) → All (IsWaited h) added → AreAsks h old → AreAsks h new
-
--- Behind what adds these, the asks that were kept are kept still, and a mark is neither set nor ended.
-abbrev pub KeepsAsks : List Waited → Option AskList → Option AskList → Type 0
-KeepsAsks added None None = ⊤
-KeepsAsks added (Some old) (Some new) = StillAsked added old new
-KeepsAsks added _ _ = ⊥
-
--- what an outbox keeps of its asks: nothing, where no mark is set
-abbrev pub kept_by : Bool → List Waited → List Waited → List Waited → Option AskList
-kept_by true waiting answered gone = Some (record { waiting = waiting; answered = answered; gone = gone })
-kept_by false waiting answered gone = None
-
--- these, and behind them this one where a mark is set
-abbrev pub kept_if : Bool → Waited → List Waited → List Waited
-kept_if true w ws = ws ++ w ∷ []
-kept_if false w ws = ws
-
--- All of both are among these, and entries that have both have these.
-pub record IsGathered (xs ys all : List Waited) : Type 0 where
-  pub stays : (k : ℕ) → HasWaited xs k ⊎ HasWaited ys k → HasWaited all k
-  pub stands : (h : List Written) → All (IsWaited h) xs → All (IsWaited h) ys → All (IsWaited h) all
-
--- So are those of both that are asks before this entry; and these are such asks, if the second are.
-pub record WaitsBelow (n : ℕ) (xs ys all : List Waited) : Type 0 where
-  pub stays : (k : ℕ) → k < n → HasWaited xs k ⊎ HasWaited ys k → HasWaited all k
-  pub stands : (h : List Written) → All (IsWaited h) xs → All (IsWaited h) ys → All (IsWaited h) all
-  pub below : All (λ (w : Waited). w.ask < n) ys → All (λ (w : Waited). w.ask < n) all
-
--- The asks before this entry wait, and no other.
-pub record WaitAgain (n : ℕ) (asks : AskList) (waiting : List Waited) : Type 0 where
-  pub stays : (k : ℕ) → k < n → HasAsk asks k → HasWaited waiting k
-  pub stands : (h : List Written) → AreAsks h asks → All (IsWaited h) waiting
-  pub below : All (λ (w : Waited). w.ask < n) waiting
-
--- what an outbox is: the asks that wait, the answers that aren't taken, what is kept of asks behind a mark, and for
--- how many more asks it has room
+-- what an outbox is: the asks that wait, the answers that aren't taken, and for how many more asks it has room
 pub record OutboxValue : Type 0 where
   pub waiting : List Waited
   pub answers : List Given
-  pub asks : Option AskList
   pub room : ℕ
 
 -- the request means a refusal for this cause, which is one that requests are refused for

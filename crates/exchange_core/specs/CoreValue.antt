@@ -17,16 +17,8 @@ pub record Outgoing : Type 0 where
 abbrev pub outgoing_of : Datagram → Outgoing
 outgoing_of d = record { peer = d.peer; bytes = arc_value d.bytes }
 
--- what a core goes back to
-pub record Marked : Type 0 where
-  pub entries : List Written
-  pub conns : List Conn
-  pub exchanges : List Exchange
-  pub sealed : Bool
-  pub moment : ℕ
-
--- its entries, the connections and the exchanges that are open, whether it is sealed, the last moment, the
--- answers and the datagrams that aren't taken yet, and what it goes back to
+-- its entries, the connections and the exchanges that are open, whether it is sealed, the last moment, and the
+-- answers and the datagrams that aren't taken yet
 pub record CoreValue : Type 0 where
   pub entries : List Written
   pub conns : List Conn
@@ -35,19 +27,10 @@ pub record CoreValue : Type 0 where
   pub moment : ℕ
   pub answers : List Given
   pub sends : List Outgoing
-  pub marked : Option Marked
 
--- the core with nothing that it goes back to, and the core that goes back to what it is now
-abbrev pub unmarked : CoreValue → CoreValue
-unmarked c = record c { marked = None }
-
-abbrev pub marked_now : CoreValue → CoreValue
-marked_now c = record c { marked = Some (record { entries = c.entries; conns = c.conns; exchanges = c.exchanges; sealed = c.sealed; moment = c.moment }) }
-
--- the core that has gone back to this
-abbrev pub gone_back : Marked → CoreValue
-gone_back m =
-    record { entries = m.entries; conns = m.conns; exchanges = m.exchanges; sealed = m.sealed; moment = m.moment; answers = []; sends = []; marked = Some m }
+-- Entries are added, and none is changed.
+abbrev pub Grows : List Written → List Written → Type 0
+Grows old new = (more : List Written) × (new ≡ old ++ more)
 
 -- how many connections were opened
 abbrev pub opens_deed : Deed → Bool

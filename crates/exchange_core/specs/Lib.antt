@@ -3,11 +3,11 @@ pub mod Asking
 pub mod CoreValue
 pub mod CoreKept
 pub mod Faults
-pub mod GoingBack
 pub mod Numbers
 pub mod Opening
 pub mod Room
 pub mod Sealing
+pub mod Snapshots
 pub mod Tables
 pub mod Ticking
 pub mod Steps

@@ -1,5 +1,5 @@
 -- The room of a journal, and what of it is held free.
-use Rattle.std.specs.Prelude.{ℕ, ◌+◌, ◌*◌, Bool, true, false, ◌&&◌, nat_le, List, length, sum_by, count_by, Option, Some, None}
+use Rattle.std.specs.Prelude.{ℕ, ◌+◌, ◌*◌, ◌≤◌, Bool, true, false, ◌&&◌, nat_le, List, length, sum_by, count_by, Option, Some, None}
 use Rattle.journal_book.specs.Entries.{Written, entry_size}
 use Rattle.history_laws.specs.declared.kept.Conn.{Conn}
 use Rattle.history_laws.specs.Limits.{entry_limit, byte_limit}
@@ -34,7 +34,6 @@ takes_ask h cs size = takes h 2 (size + 132) (length cs) (count_by is_pending cs
 abbrev pub takes_first : List Written → List Conn → ℕ → ℕ → Bool
 takes_first h cs size sent = takes h 2 (size + (sent + 128)) (length cs) (count_by is_pending cs + 1)
 
--- how many entries have their place made
-abbrev pub held : Bool → ℕ → ℕ → ℕ
-held true conns pending = conns + pending
-held false conns pending = conns + pending + 1
+-- A journal has the places of all the entries that it may have.
+abbrev pub HasPlaces : List Written → ℕ → Type 0
+HasPlaces h room = entry_limit ≤ room + length h

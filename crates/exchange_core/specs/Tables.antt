@@ -1,11 +1,15 @@
--- What look-ups in the tables of a core find.
-use Rattle.std.specs.Prelude.{◌≡◌, ◌≢◌, ◌≤◌, ◌+◌, ℕ, true, false, List, [], ◌∷◌, Some, None, take, slice_get, ⊤}
+-- The tables of a core, and what look-ups in them find.
+use Rattle.std.specs.Prelude.{◌≡◌, ◌≢◌, ℕ, true, false, List, [], ◌∷◌, Some, None, take, slice_get, ⊤}
 use Rattle.std.specs.List.{All, Contains}
 use Rattle.uri_map.specs.declared.peer.Peer.{Peer}
 use Rattle.ask_model.specs.Requests.{same_peer}
 use Rattle.history_laws.specs.declared.kept.Known.{Known}
 use Rattle.history_laws.specs.declared.kept.Conn.{Conn}
-use Rattle.marked_list.specs.Undoing.{MarkedValue}
+
+-- a table: its items, and for how many more it has room
+pub record TableValue (T : Type 0) : Type 0 where
+  pub items : List T
+  pub room : ℕ
 
 -- a connection that is open and waits for no answer
 pub record HasIdle (conns : List Conn) (c : ℕ) : Type 0 where
@@ -33,16 +37,3 @@ pub record IsPlaceOf (known : List Known) (p : Peer) (i : ℕ) : Type 0 where
 abbrev pub AreToldApart : {X : Type 0} → (X → ℕ) → List X → Type 0
 AreToldApart key [] = ⊤
 AreToldApart key (x ∷ xs) = All (λ y. key y ≢ key x) xs × AreToldApart key xs
-
--- One change at most was made in a table: what is marked stays.
-pub record Changed {X : Type 0} (old new : MarkedValue X) : Type 0 where
-  pub marked : new.marked ≡ old.marked
-  pub spare : old.spare ≤ new.spare + 1
-  pub limit : new.limit ≡ old.limit
-
--- There is no less room in a table, and it is the same else.
-pub record Roomier {X : Type 0} (old new : MarkedValue X) : Type 0 where
-  pub items : new.items ≡ old.items
-  pub marked : new.marked ≡ old.marked
-  pub spare : old.spare ≤ new.spare
-  pub limit : old.limit ≤ new.limit

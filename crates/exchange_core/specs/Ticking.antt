@@ -8,7 +8,7 @@ use Rattle.history_laws.specs.declared.kept.Exchange.{Exchange}
 use Rattle.history_laws.specs.Kept.{Held}
 use Rattle.history_laws.specs.Amid.{Ended, Amid}
 use Rattle.datagram_verdict.specs.declared.verdict.Ending.{Ending}
-use Rattle.exchange_core.specs.Room.{is_pending, held, takes}
+use Rattle.exchange_core.specs.Room.{HasPlaces, is_pending, takes}
 use Rattle.datagram_verdict.specs.Findings.{Fails}
 use Rattle.exchange_core.specs.Answering.{Given, Waited}
 use Rattle.exchange_core.specs.CoreValue.{Outgoing, CoreValue, Answerable, written}
@@ -168,13 +168,13 @@ abbrev pub AreRising : List Exchange → Type 0
 AreRising [] = ⊤
 AreRising (e ∷ es) = All (λ (d : Exchange). e.opening < d.opening) es × AreRising es
 
--- In the midst of a tick: what is kept, and that room is held free.
+-- In the midst of a tick: what is kept, and that what has to come has its places.
 pub record Midway (t : ℕ) (es : List Exchange) (tables : Held) (s : Bool) (out : List Outgoing) (h : List Written) (room : ℕ) (cs : List Conn) (last : ℕ) (ws : List Waited) (gs : List Given) : Type 0 where
   pub amid : Amid None (map late_end (filter (is_past t) es)) t h cs tables s last
   pub answerable : Answerable h cs ws gs out
   pub later : last ≤ t
   pub rising : AreRising es
-  pub room_held : held s (length cs) (count_by is_pending cs) ≤ room
+  pub places : HasPlaces h room
   pub short : length h + length cs + count_by is_pending cs ≤ 65536
 
 abbrev pub IsMidway : ℕ → List Exchange → List Written → ℕ → List Conn → ℕ → List Waited → List Given → Type 0

@@ -30,7 +30,6 @@ impl<R: Relation> Core<R> {
         ensures ticket { IfOk result (λ t. (t.conn ≡ conn) × (arc_value t.mapped ≡ arc_value mapped)) }
         ensures adds { IfOk result (λ t. AddsAsk (now self.old.moment moment) word t.number conn (arc_value mapped) self.old self.new) }
         ensures refused { IfErr result (λ fault. RefusesSo fault (now self.old.moment moment) conn (arc_value mapped) self.old self.new) }
-        ensures marked { self.new.marked ≡ self.old.marked }
     {
         check_idle(self.conns.as_slice(), conn)?;
         if self.sealed {

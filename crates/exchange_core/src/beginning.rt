@@ -8,7 +8,7 @@ ghost use Rattle.ask_model.specs.Datagrams.{asked_peer, IsSentFor};
 ghost use Rattle.journal_book.specs.Entries.{Asks, Sends};
 ghost use Rattle.journal_book.specs.Views.{ask_of, item_of};
 ghost use Rattle.exchange_core.specs.CoreValue.{written, now, outgoing_of};
-ghost use Rattle.exchange_core.specs.Tables.{HasIdle, Roomier};
+ghost use Rattle.exchange_core.specs.Tables.{HasIdle};
 ghost use Rattle.exchange_core.specs.Asking.{OpensExchange, HasNoRoom};
 ghost use Rattle.exchange_core.specs.Sealing.{SealsNow};
 
@@ -18,12 +18,12 @@ use crate::fault::AskFault;
 use crate::numbering::{find_known, first_id, first_timeout, next_mid, token_of, use_id};
 use crate::outbox::Outbox;
 use crate::outgoing::Datagram;
+use crate::table::Table;
 use crate::tables::{pending_count, set_pending};
 use ask_model::{Bytes, Mapped, incoming_size};
 use coap_codec::Token;
-use history_laws::kept::{Conn, Exchange, Known};
-use journal_book::{Entry, Event, Journal};
-use marked_list::MarkedList;
+use history_laws::kept::{Exchange, Known};
+use journal_book::{Entry, Event};
 use std::alloc::{AllocError, Global};
 use std::collections::VecDeque;
 use std::sync::Arc;
@@ -98,36 +98,25 @@ fn prepare<R: Relation>(
     })
 }
 
-/// Makes places for so many entries, and in each table for what one exchange adds.
+/// Makes places in each table for what one exchange adds.
 fn make_places<R: Relation>(
-    journal: &mut Journal<R>,
-    conns: &mut MarkedList<Conn>,
-    exchanges: &mut MarkedList<Exchange>,
-    known: &mut MarkedList<Known>,
+    exchanges: &mut Table<Exchange>,
+    known: &mut Table<Known>,
     outbox: &mut Outbox<R>,
     sends: &mut VecDeque<Datagram>,
-    entries: usize,
 ) -> Result<(), AllocError>
-    ensures entries { journal.new.entries ≡ journal.old.entries }
-    ensures kept { journal.old.room ≤ journal.new.room }
-    ensures room { OnOk result (entries ≤ journal.new.room) }
-    ensures conns { Roomier conns.old conns.new }
-    ensures conns_spare { OnOk result (entries ≤ conns.new.spare) }
-    ensures exchanges { Roomier exchanges.old exchanges.new }
-    ensures exchanges_room { OnOk result ((0 < exchanges.new.room) × (0 < exchanges.new.spare)) }
-    ensures known { Roomier known.old known.new }
-    ensures known_room { OnOk result ((0 < known.new.room) × (0 < known.new.spare)) }
+    ensures exchanges { exchanges.new.items ≡ exchanges.old.items }
+    ensures exchanges_room { OnOk result (0 < exchanges.new.room) }
+    ensures known { known.new.items ≡ known.old.items }
+    ensures known_room { OnOk result (0 < known.new.room) }
     ensures waiting { outbox.new.waiting ≡ outbox.old.waiting }
     ensures answers { outbox.new.answers ≡ outbox.old.answers }
-    ensures asks { outbox.new.asks ≡ outbox.old.asks }
     ensures outbox_room { OnOk result (0 < outbox.new.room) }
     ensures sends { sends.new.items ≡ sends.old.items }
     ensures sends_room { OnOk result (deque_len sends.new < deque_capacity sends.new) }
 {
-    journal.make_room(entries)?;
-    conns.make_room(0, entries)?;
-    exchanges.make_room(1, 1)?;
-    known.make_room(1, 1)?;
+    exchanges.make_room()?;
+    known.make_room()?;
     outbox.make_room()?;
     sends.reserve(1)?;
     Ok(())
@@ -169,7 +158,6 @@ impl<R: Relation> Core<R> {
         ensures sealed { result ≡ Err AskFault.Sealed → SealsNow (HasNoRoom (arc_value mapped) self.old) (now self.old.moment moment) self.old self.new }
         ensures moment { IfOk result (λ t. self.new.moment ≡ now self.old.moment moment) }
         ensures memory { result ≡ Err AskFault.Memory → self.new ≡ self.old }
-        ensures marked { self.new.marked ≡ self.old.marked }
         ensures others { (result ≢ Err AskFault.Unknown) × (result ≢ Err AskFault.Pending) }
     {
         let moment = self.last.max(moment.min(1 << 62));
@@ -185,15 +173,11 @@ impl<R: Relation> Core<R> {
             self.seal(moment);
             return Err(AskFault::Sealed);
         }
-        let places = self.conns.len() + pending + 3;
         make_places(
-            &mut self.journal,
-            &mut self.conns,
             &mut self.exchanges,
             &mut self.known,
             &mut self.outbox,
             &mut self.sends,
-            places,
         )?;
         let begun = prepare(self.alloc, moment, conn, peer, &mapped, bytes, timeout)?;
 

@@ -1,13 +1,15 @@
 //! Copies, which share requests and the bytes of datagrams.
 
-ghost use Rattle.std.specs.Prelude.{◌≡◌, ◌+◌, ◌≤◌, map, IfOk};
+ghost use Rattle.std.specs.Prelude.{◌≡◌, map, IfOk};
 ghost use Rattle.exchange_core.specs.Answering.{given_of, waited_of};
-ghost use Rattle.exchange_core.specs.CoreValue.{outgoing_of, unmarked};
+ghost use Rattle.exchange_core.specs.CoreValue.{outgoing_of};
+ghost use Rattle.exchange_core.specs.Room.{HasPlaces};
 
 use crate::answer::Answer;
 use crate::core_state::Core;
 use crate::outbox::Waiting;
 use crate::outgoing::Datagram;
+use crate::room::ENTRIES;
 use journal_book::Journal;
 use std::alloc::{AllocError, Global};
 use std::collections::VecDeque;
@@ -63,7 +65,10 @@ pub fn copy_waiting<R: Relation>(
 }
 
 /// Equal datagrams.
-fn copy_sends(alloc: Global, sends: &VecDeque<Datagram>) -> Result<VecDeque<Datagram>, AllocError>
+pub fn copy_sends(
+    alloc: Global,
+    sends: &VecDeque<Datagram>,
+) -> Result<VecDeque<Datagram>, AllocError>
     ensures { IfOk result (λ copy. map outgoing_of copy.items ≡ map outgoing_of sends.now.items) }
 {
     let mut copy = VecDeque::new(alloc);
@@ -77,37 +82,35 @@ fn copy_sends(alloc: Global, sends: &VecDeque<Datagram>) -> Result<VecDeque<Data
     Ok(copy)
 }
 
-/// An equal journal, with room for so many more entries.
-fn copy_journal<R: Relation>(journal: &Journal<R>, places: usize) -> Result<Journal<R>, AllocError>
+/// An equal journal, with the places of all the entries that it may have.
+fn copy_journal<R: Relation>(journal: &Journal<R>) -> Result<Journal<R>, AllocError>
     ensures entries { IfOk result (λ j. j.entries ≡ journal.now.entries) }
-    ensures room { IfOk result (λ j. places ≤ j.room) }
+    ensures room { IfOk result (λ j. HasPlaces j.entries j.room) }
 {
     let mut copy = journal.copy()?;
-    copy.make_room(places)?;
+    copy.make_room((ENTRIES as usize).saturating_sub(copy.len()))?;
     Ok(copy)
 }
 
 impl<R: Relation> Core<R> {
-    /// An equal core that isn't marked. It shares what was asked and the bytes that were sent.
+    /// An equal core. It shares what was asked and the bytes that were sent.
     pub fn copy(&self) -> Result<Core<R>, AllocError>
-        ensures { IfOk result (λ c. c ≡ unmarked self.now) }
+        ensures { IfOk result (λ c. c ≡ self.now) }
     {
-        let held = self.conns.len() * 2 + 1;
         Ok(Core {
             alloc: self.alloc,
-            journal: copy_journal(&self.journal, held)?,
-            conns: self.conns.copy(self.alloc, held)?,
-            exchanges: self.exchanges.copy(self.alloc, 0)?,
+            journal: copy_journal(&self.journal)?,
+            conns: self.conns.copy(self.alloc)?,
+            exchanges: self.exchanges.copy(self.alloc)?,
             opened: self.opened,
             issued: self.issued,
-            known: self.known.copy(self.alloc, 0)?,
-            heard: self.heard.copy(self.alloc, 0)?,
+            known: self.known.copy(self.alloc)?,
+            heard: self.heard.copy(self.alloc)?,
             sealed: self.sealed,
             bytes: self.bytes,
             last: self.last,
             outbox: self.outbox.copy(self.alloc)?,
             sends: copy_sends(self.alloc, &self.sends)?,
-            mark: None,
         })
     }
 }

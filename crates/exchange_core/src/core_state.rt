@@ -17,16 +17,15 @@ ghost use Rattle.exchange_core.specs.Asking.{AnswersAtOnce, IsAtOnce};
 
 use crate::answer::{Answer, Ticket};
 use crate::fault::{AskFault, OpenFault};
-use crate::mark::Mark;
 use crate::outbox::{Outbox, Stamp};
 use crate::outgoing::Datagram;
-use crate::room::{BYTES, has_room};
+use crate::room::{BYTES, ENTRIES, has_room};
+use crate::table::Table;
 use crate::tables::{check_idle, drop_conn, find_conn, pending_count};
 use ask_model::{Cause, Mapped, incoming_size};
 use datagram_verdict::Finding;
 use history_laws::kept::{Conn, Exchange, Known, Remembered};
 use journal_book::{Entry, Event, Grounds, Journal};
-use marked_list::MarkedList;
 use std::alloc::{AllocError, Global};
 use std::collections::VecDeque;
 use std::marker::Model;
@@ -42,35 +41,33 @@ const CONNECTIONS: usize = 256;
 pub struct Core<R: Relation> {
     pub(crate) alloc: Global,
     pub(crate) journal: Journal<R>,
-    pub(crate) conns: MarkedList<Conn>,
-    pub(crate) exchanges: MarkedList<Exchange>,
+    pub(crate) conns: Table<Conn>,
+    pub(crate) exchanges: Table<Exchange>,
     /// how many connections were opened
     pub(crate) opened: u32,
     /// how many tokens were issued
     pub(crate) issued: u32,
-    pub(crate) known: MarkedList<Known>,
-    pub(crate) heard: MarkedList<Remembered>,
+    pub(crate) known: Table<Known>,
+    pub(crate) heard: Table<Remembered>,
     pub(crate) sealed: bool,
     pub(crate) bytes: u64,
     pub(crate) last: u64,
     pub(crate) outbox: Outbox<R>,
     /// what isn't sent yet
     pub(crate) sends: VecDeque<Datagram>,
-    /// what it goes back to, beside its tables
-    pub(crate) mark: Option<Mark>,
 }
 
 impl<R: Relation> Model for Core<R> {
-    ghost use Rattle.std.specs.Prelude.{map, min};
+    ghost use Rattle.std.specs.Prelude.{map};
     ghost use Rattle.exchange_core.specs.CoreValue.{CoreValue, Answerable, outgoing_of};
     ghost use Rattle.exchange_core.specs.CoreKept.{CoreKept};
-    ghost use Rattle.exchange_core.specs.GoingBack.{marked_by, GoesBackBy};
+    ghost use Rattle.exchange_core.specs.Room.{HasPlaces};
 
     ghost Value = { CoreValue };
 
-    ghost view = { λ s. record { entries = s.journal.entries; conns = s.conns.items; exchanges = s.exchanges.items; sealed = s.sealed; moment = s.last; answers = s.outbox.answers; sends = map outgoing_of s.sends.items; marked = marked_by s.mark s.conns.marked s.exchanges.marked s.journal.entries } };
+    ghost view = { λ s. record { entries = s.journal.entries; conns = s.conns.items; exchanges = s.exchanges.items; sealed = s.sealed; moment = s.last; answers = s.outbox.answers; sends = map outgoing_of s.sends.items } };
 
-    ghost invariant = { λ s. CoreKept s.journal.entries (min s.journal.room s.conns.spare) s.conns.items (record { exchanges = s.exchanges.items; opened = s.opened; issued = s.issued; known = s.known.items; heard = s.heard.items }) s.sealed s.bytes s.last × Answerable s.journal.entries s.conns.items s.outbox.waiting s.outbox.answers (map outgoing_of s.sends.items) × GoesBackBy s.mark s.conns.marked s.exchanges.marked s.known.marked s.heard.marked s.outbox.asks s.journal.entries s.journal.room s.conns.limit };
+    ghost invariant = { λ s. CoreKept s.journal.entries s.conns.items (record { exchanges = s.exchanges.items; opened = s.opened; issued = s.issued; known = s.known.items; heard = s.heard.items }) s.sealed s.bytes s.last × Answerable s.journal.entries s.conns.items s.outbox.waiting s.outbox.answers (map outgoing_of s.sends.items) × HasPlaces s.journal.entries s.journal.room };
 }
 
 /// The answer to an ask that is entered under this number, and answered behind it at the same moment.
@@ -94,29 +91,27 @@ fn refusal_of<R: Relation>(
 }
 
 impl<R: Relation> Core<R> {
-    /// A core with no entry, which holds the place of its seal.
+    /// A core with no entry. It makes the places of all the entries that its journal may have, so that no step
+    /// waits for the journal to grow.
     pub fn new(alloc: Global) -> Result<Core<R>, AllocError>
-        ensures { IfOk result (λ c. (c.entries ≡ []) × (c.conns ≡ []) × (c.exchanges ≡ []) × (c.sealed ≡ false) × (c.moment ≡ 0) × (c.answers ≡ []) × (c.sends ≡ []) × (c.marked ≡ None)) }
+        ensures { IfOk result (λ c. (c.entries ≡ []) × (c.conns ≡ []) × (c.exchanges ≡ []) × (c.sealed ≡ false) × (c.moment ≡ 0) × (c.answers ≡ []) × (c.sends ≡ [])) }
     {
         let mut journal = Journal::new(alloc);
-        journal.make_room(1)?;
-        let mut conns = MarkedList::new(alloc);
-        conns.make_room(0, 1)?;
+        journal.make_room(ENTRIES as usize)?;
         Ok(Core {
             alloc,
             journal,
-            conns,
-            exchanges: MarkedList::new(alloc),
+            conns: Table::new(alloc),
+            exchanges: Table::new(alloc),
             opened: 0,
             issued: 0,
-            known: MarkedList::new(alloc),
-            heard: MarkedList::new(alloc),
+            known: Table::new(alloc),
+            heard: Table::new(alloc),
             sealed: false,
             bytes: 0,
             last: 0,
             outbox: Outbox::new(alloc),
             sends: VecDeque::new(alloc),
-            mark: None,
         })
     }
 
@@ -171,7 +166,6 @@ impl<R: Relation> Core<R> {
         ensures answers { self.new.answers ≡ self.old.answers }
         ensures sends { self.new.sends ≡ self.old.sends }
         ensures moment { self.new.moment ≡ moment }
-        ensures marked { self.new.marked ≡ self.old.marked }
     {
         self.journal.add(Entry {
             moment,
@@ -186,7 +180,6 @@ impl<R: Relation> Core<R> {
     pub fn open(&mut self, moment: u64) -> Result<u32, OpenFault>
         ensures opens { OpensSo result (now self.old.moment moment) self.old self.new }
         ensures full_always { length self.old.conns ≡ 256 → result ≡ Err OpenFault.Full }
-        ensures marked { self.new.marked ≡ self.old.marked }
     {
         let count = self.conns.len();
         if count >= CONNECTIONS {
@@ -201,8 +194,7 @@ impl<R: Relation> Core<R> {
             self.seal(moment);
             return Err(OpenFault::Sealed);
         }
-        self.journal.make_room(count + pending + 3)?;
-        self.conns.make_room(1, count + pending + 3)?;
+        self.conns.make_room()?;
 
         let id = self.opened;
         self.journal.add(Entry {
@@ -234,7 +226,6 @@ impl<R: Relation> Core<R> {
             → SealsNow (takes_ask self.old.entries self.old.conns (came_size (arc_value mapped).came) ≡ false) (now self.old.moment moment) self.old self.new }
         ensures moment { IfOk result (λ t. self.new.moment ≡ now self.old.moment moment) }
         ensures memory { result ≡ Err AskFault.Memory → self.new ≡ self.old }
-        ensures marked { self.new.marked ≡ self.old.marked }
         ensures others { (result ≢ Err AskFault.Unknown) × (result ≢ Err AskFault.Pending) }
     {
         let moment = self.last.max(moment.min(1 << 62));
@@ -244,8 +235,6 @@ impl<R: Relation> Core<R> {
             self.seal(moment);
             return Err(AskFault::Sealed);
         }
-        let held = self.conns.len() + pending + 1;
-        self.journal.make_room(held + 2)?;
         self.outbox.make_room()?;
         let asked = Arc::try_clone(&mapped)?;
         let answered = Arc::try_clone(&mapped)?;
@@ -282,7 +271,7 @@ impl<R: Relation> Core<R> {
         self.outbox.first_answered()
     }
 
-    /// Takes the answer to an ask, which is given once. A core whose answer was taken can't go back any more.
+    /// Takes the answer to an ask, which is given once.
     pub fn take_answer(&mut self, ticket: &Ticket<R>) -> Option<Answer<R>>
         ensures some { IfSome result (λ a. (a.ask ≡ ticket.now.number) × Contains self.old.answers (given_of a) × IsGiven self.old.entries (given_of a)) }
         ensures once { IfSome result (λ a. All (λ g. g.ask ≡ a.ask → g.number ≡ a.number) self.old.answers) }
@@ -294,20 +283,8 @@ impl<R: Relation> Core<R> {
         ensures sealed { self.new.sealed ≡ self.old.sealed }
         ensures moment { self.new.moment ≡ self.old.moment }
         ensures sends { self.new.sends ≡ self.old.sends }
-        ensures unmarked { IfSome result (λ a. self.new.marked ≡ None) }
-        ensures marked { result ≡ None → self.new.marked ≡ self.old.marked }
     {
-        let Some(answer) = self.outbox.take(ticket.number) else {
-            return None;
-        };
-        // not `unmark`, since until this is done the outbox may lack an ask that a marked connection waits for
-        self.mark = None;
-        self.conns.unmark();
-        self.exchanges.unmark();
-        self.known.unmark();
-        self.heard.unmark();
-        self.outbox.unmark();
-        Some(answer)
+        self.outbox.take(ticket.number)
     }
 
     /// Takes the first datagram that isn't sent yet.
@@ -321,7 +298,6 @@ impl<R: Relation> Core<R> {
         ensures answers { self.new.answers ≡ self.old.answers }
         ensures sealed { self.new.sealed ≡ self.old.sealed }
         ensures moment { self.new.moment ≡ self.old.moment }
-        ensures marked { self.new.marked ≡ self.old.marked }
     {
         self.sends.pop_front()
     }
@@ -329,8 +305,7 @@ impl<R: Relation> Core<R> {
     /// Closes a connection at this moment, and tells whether it was open. It is answered nothing more; what it
     /// asked for goes on.
     pub fn close(&mut self, moment: u64, conn: u32) -> bool
-        ensures closes { ClosesSo result (now self.old.moment moment) conn self.old self.new }
-        ensures marked { self.new.marked ≡ self.old.marked }
+        ensures { ClosesSo result (now self.old.moment moment) conn self.old self.new }
     {
         let Some(x) = find_conn(self.conns.as_slice(), conn) else {
             return false;

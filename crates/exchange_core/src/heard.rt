@@ -93,7 +93,6 @@ impl<R: Relation> Core<R> {
         ensures heard { OnOk result (HeardSo (now self.old.moment moment) peer bytes.now self.old self.new) }
         ensures dropped { IsDropped peer bytes.now self.old → self.new ≡ self.old }
         ensures memory { OnErr result (self.new ≡ self.old) }
-        ensures marked { self.new.marked ≡ self.old.marked }
     {
         if self.sealed || bytes.len() > DATAGRAM {
             return Ok(());
@@ -114,7 +113,6 @@ impl<R: Relation> Core<R> {
         requires sent { NeverSentTo peer self.old.entries → ⊥ }
         ensures heard { OnOk result (HeardSo moment peer bytes.now self.old self.new) }
         ensures memory { OnErr result (self.new ≡ self.old) }
-        ensures marked { self.new.marked ≡ self.old.marked }
     {
         let number = self.journal.len() as u32;
         let ready = prepare(
@@ -137,15 +135,7 @@ impl<R: Relation> Core<R> {
             self.seal(moment);
             return Ok(());
         }
-        let places = count + pending + 4;
-        make_places(
-            &mut self.journal,
-            &mut self.conns,
-            &mut self.exchanges,
-            &mut self.heard,
-            &mut self.sends,
-            places,
-        )?;
+        make_places(&mut self.heard, &mut self.sends)?;
 
         self.journal.add(heard_entry(moment, peer, ready.taken));
         remember(&mut self.heard, ready.memory);

@@ -3,12 +3,12 @@
 ghost use Rattle.std.specs.Prelude.{◌≡◌, ◌≤◌, ◌<◌, ◌+◌, ◌/◌, ◌%◌, ◌^◌, drop, false, length, None, IfSome, All};
 ghost use Rattle.ask_model.specs.Requests.{same_peer};
 ghost use Rattle.history_laws.specs.Numbering.{token_number, known_of, known_after, next_id};
-ghost use Rattle.exchange_core.specs.Tables.{IsPlaceOf, Changed};
+ghost use Rattle.exchange_core.specs.Tables.{IsPlaceOf};
 
+use crate::table::Table;
 use ask_model::is_same_peer;
 use coap_codec::Token;
 use history_laws::kept::Known;
-use marked_list::MarkedList;
 use uri_map::Peer;
 
 /// A token: how many were issued before it, and then the high 32 bits of the word.
@@ -64,12 +64,10 @@ pub fn first_timeout(word: u64) -> u32
 }
 
 /// Notes that one more ID is used for messages to an endpoint: if it is the first, this one.
-pub fn use_id(known: &mut MarkedList<Known>, peer: &Peer, first: u16)
+pub fn use_id(known: &mut Table<Known>, peer: &Peer, first: u16)
     requires room { 0 < known.old.room }
-    requires spare { 0 < known.old.spare }
     requires few { All (λ k. k.used ≤ 65536) known.old.items }
-    ensures items { known.new.items ≡ known_after known.old.items peer.now first }
-    ensures changed { Changed known.old known.new }
+    ensures { known.new.items ≡ known_after known.old.items peer.now first }
 {
     match place_of(known.as_slice(), peer) {
         Some(place) => {

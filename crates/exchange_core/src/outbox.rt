@@ -3,7 +3,7 @@
 ghost use Rattle.std.specs.Prelude.{◌≡◌, ◌≢◌, ◌<◌, ◌≤◌, ◌+◌, ◌==◌, ◌∷◌, ◌++◌, [], not, map, filter, min, All, Some, None, slice_get, option_map, IfSome, IfOk, OnOk, IsTrue, IsFalse, vec_len, vec_capacity};
 ghost use Rattle.std.specs.List.{Contains, reduce};
 ghost use Rattle.std.specs.Arc.{arc_value};
-ghost use Rattle.exchange_core.specs.Answering.{given_of, waited_of, asked_of, HasWaited, answer_of, without, kept_if, KeepsAsks, IsGathered, WaitAgain, WaitsBelow};
+ghost use Rattle.exchange_core.specs.Answering.{given_of, waited_of, HasWaited, answer_of, without};
 
 use crate::answer::Answer;
 use crate::copying::{copy_answers, copy_waiting};
@@ -32,27 +32,22 @@ pub struct Stamp {
     pub heard: u64,
 }
 
-/// The asks that wait, and the answers to others. It has the place of an answer for each that waits. Behind a
-/// mark no ask is lost: one that is forgotten, or whose answer is dropped, is kept aside, and has a place in which
-/// it waits again and one for its answer.
+/// The asks that wait, and the answers to others. It has the place of an answer for each that waits.
 #[derive(Drop)]
 pub struct Outbox<R: Relation> {
     waiting: Vec<Waiting<R>>,
     answers: Vec<Answer<R>>,
-    /// the asks behind a mark that don't wait and have no answer here
-    gone: Vec<Waiting<R>>,
-    is_marked: bool,
 }
 
 impl<R: Relation> Model for Outbox<R> {
     ghost use Rattle.std.specs.Prelude.{map, min, vec_len, vec_capacity, ◌-◌, ◌+◌, ◌≤◌};
-    ghost use Rattle.exchange_core.specs.Answering.{OutboxValue, waited_of, given_of, asked_of, kept_by};
+    ghost use Rattle.exchange_core.specs.Answering.{OutboxValue, waited_of, given_of};
 
     ghost Value = { OutboxValue };
 
-    ghost view = { λ o. record { waiting = map waited_of o.waiting.items; answers = map given_of o.answers.items; asks = kept_by o.is_marked (map waited_of o.waiting.items) (map asked_of o.answers.items) (map waited_of o.gone.items); room = min (vec_capacity o.waiting - (vec_len o.waiting + vec_len o.answers + vec_len o.gone)) (min (vec_capacity o.answers - (vec_len o.waiting + vec_len o.answers + vec_len o.gone)) (vec_capacity o.gone - (vec_len o.waiting + vec_len o.answers + vec_len o.gone))) } };
+    ghost view = { λ o. record { waiting = map waited_of o.waiting.items; answers = map given_of o.answers.items; room = min (vec_capacity o.waiting - vec_len o.waiting) (vec_capacity o.answers - (vec_len o.waiting + vec_len o.answers)) } };
 
-    ghost invariant = { λ o. (vec_len o.waiting + vec_len o.answers + vec_len o.gone ≤ vec_capacity o.waiting) × (vec_len o.waiting + vec_len o.answers + vec_len o.gone ≤ vec_capacity o.answers) × (vec_len o.waiting + vec_len o.answers + vec_len o.gone ≤ vec_capacity o.gone) };
+    ghost invariant = { λ o. vec_len o.waiting + vec_len o.answers ≤ vec_capacity o.answers };
 }
 
 impl<R: Relation> Outbox<R> {
@@ -64,43 +59,28 @@ impl<R: Relation> Outbox<R> {
         Outbox {
             waiting: Vec::new(alloc),
             answers: Vec::new(alloc),
-            gone: Vec::new(alloc),
-            is_marked: false,
         }
     }
 
-    /// An equal outbox that isn't marked.
+    /// An equal outbox, which shares what was asked.
     pub fn copy(&self, alloc: Global) -> Result<Outbox<R>, AllocError>
         ensures waiting { IfOk result (λ o. o.waiting ≡ self.now.waiting) }
         ensures answers { IfOk result (λ o. o.answers ≡ self.now.answers) }
     {
-        let mut waiting = copy_waiting(alloc, &self.waiting)?;
+        let waiting = copy_waiting(alloc, &self.waiting)?;
         let mut answers = copy_answers(alloc, &self.answers)?;
-        let mut gone = Vec::new(alloc);
-        waiting.try_reserve(answers.len())?;
         answers.try_reserve(waiting.len())?;
-        gone.try_reserve(waiting.len() + answers.len())?;
-        Ok(Outbox {
-            waiting,
-            answers,
-            gone,
-            is_marked: false,
-        })
+        Ok(Outbox { waiting, answers })
     }
 
     /// Makes room for one more ask, and for its answer.
     pub fn make_room(&mut self) -> Result<(), AllocError>
         ensures waiting { self.new.waiting ≡ self.old.waiting }
         ensures answers { self.new.answers ≡ self.old.answers }
-        ensures asks { self.new.asks ≡ self.old.asks }
         ensures ok { OnOk result (0 < self.new.room) }
     {
-        let waiting = self.waiting.len();
-        let answers = self.answers.len();
-        let gone = self.gone.len();
-        self.waiting.try_reserve(answers + gone + 1)?;
-        self.answers.try_reserve(waiting + gone + 1)?;
-        self.gone.try_reserve(waiting + answers + 1)?;
+        self.waiting.try_reserve(1)?;
+        self.answers.try_reserve(self.waiting.len() + 1)?;
         Ok(())
     }
 
@@ -109,7 +89,6 @@ impl<R: Relation> Outbox<R> {
         requires room { 0 < self.old.room }
         ensures waiting { self.new.waiting ≡ self.old.waiting ++ record { ask = ask; mapping = arc_value mapped } ∷ [] }
         ensures answers { self.new.answers ≡ self.old.answers }
-        ensures asks { KeepsAsks (record { ask = ask; mapping = arc_value mapped } ∷ []) self.old.asks self.new.asks }
     {
         self.waiting.push_reserved(Waiting { ask, mapped });
     }
@@ -119,7 +98,6 @@ impl<R: Relation> Outbox<R> {
         requires room { 0 < self.old.room }
         ensures waiting { self.new.waiting ≡ self.old.waiting }
         ensures answers { self.new.answers ≡ self.old.answers ++ given_of answer ∷ [] }
-        ensures asks { KeepsAsks (asked_of answer ∷ []) self.old.asks self.new.asks }
     {
         self.answers.push_reserved(answer);
     }
@@ -129,7 +107,6 @@ impl<R: Relation> Outbox<R> {
         requires waits { HasWaited self.old.waiting ask }
         ensures waiting { self.new.waiting ≡ filter (λ w. not (w.ask == ask)) self.old.waiting }
         ensures answers { (w : _) × Contains self.old.waiting w × (w.ask ≡ ask) × (self.new.answers ≡ self.old.answers ++ answer_of w stamp finding ∷ []) }
-        ensures asks { KeepsAsks [] self.old.asks self.new.asks }
     {
         let Some(place) = place_of(&self.waiting, ask) else {
             return;
@@ -150,7 +127,6 @@ impl<R: Relation> Outbox<R> {
     pub fn forget(&mut self, ask: Option<u32>)
         ensures waiting { self.new.waiting ≡ without ask self.old.waiting }
         ensures answers { self.new.answers ≡ self.old.answers }
-        ensures asks { KeepsAsks [] self.old.asks self.new.asks }
     {
         if let Some(ask) = ask {
             self.forget_one(ask);
@@ -161,14 +137,8 @@ impl<R: Relation> Outbox<R> {
     fn forget_one(&mut self, ask: u32)
         ensures waiting { self.new.waiting ≡ without (Some ask) self.old.waiting }
         ensures answers { self.new.answers ≡ self.old.answers }
-        ensures asks { KeepsAsks [] self.old.asks self.new.asks }
     {
-        let Some(place) = place_of(&self.waiting, ask) else {
-            return;
-        };
-        let waiting = self.waiting.remove(place);
         self.waiting.retain(|w| w.ask != ask);
-        keep(&mut self.gone, self.is_marked, waiting);
     }
 
     /// The first of the asks that were answered.
@@ -203,14 +173,8 @@ impl<R: Relation> Outbox<R> {
     pub fn drop_answer(&mut self, ask: u32)
         ensures others { self.new.answers ≡ filter (λ g. not (g.ask == ask)) self.old.answers }
         ensures waiting { self.new.waiting ≡ self.old.waiting }
-        ensures asks { KeepsAsks [] self.old.asks self.new.asks }
     {
-        let Some(place) = answer_place(&self.answers, ask) else {
-            return;
-        };
-        let answer = self.answers.remove(place);
         self.answers.retain(|a| a.ask != ask);
-        keep(&mut self.gone, self.is_marked, waiting_of(answer));
     }
 
     /// Takes out the answer to the ask, if there is one.
@@ -219,7 +183,6 @@ impl<R: Relation> Outbox<R> {
         ensures none { result ≡ None → All (λ g. g.ask ≢ ask) self.old.answers }
         ensures others { self.new.answers ≡ filter (λ g. not (g.ask == ask)) self.old.answers }
         ensures waiting { self.new.waiting ≡ self.old.waiting }
-        ensures asks { result ≡ None → self.new.asks ≡ self.old.asks }
     {
         let Some(place) = answer_place(&self.answers, ask) else {
             return None;
@@ -227,100 +190,6 @@ impl<R: Relation> Outbox<R> {
         let answer = self.answers.remove(place);
         self.answers.retain(|a| a.ask != ask);
         Some(answer)
-    }
-
-    /// Marks the asks that wait, where no answer is left.
-    pub fn mark(&mut self)
-        requires { self.old.answers ≡ [] }
-        ensures waiting { self.new.waiting ≡ self.old.waiting }
-        ensures answers { self.new.answers ≡ [] }
-        ensures asks { self.new.asks ≡ Some (record { waiting = self.old.waiting; answered = []; gone = [] }) }
-    {
-        self.gone.clear();
-        self.is_marked = true;
-    }
-
-    /// Ends the mark, if one is set.
-    pub fn unmark(&mut self)
-        ensures waiting { self.new.waiting ≡ self.old.waiting }
-        ensures answers { self.new.answers ≡ self.old.answers }
-    {
-        self.gone.clear();
-        self.is_marked = false;
-    }
-
-    /// Drops all answers. Of the asks that were kept behind the mark, those before this entry wait again.
-    pub fn back(&mut self, entry: u32)
-        ensures answers { self.new.answers ≡ [] }
-        ensures waiting { IfSome self.old.asks (λ asks. WaitAgain entry asks self.new.waiting) }
-        ensures asks { IfSome self.old.asks (λ asks. self.new.asks ≡ Some (record { waiting = self.new.waiting; answered = []; gone = [] })) }
-    {
-        set_aside(&mut self.answers, &mut self.gone);
-        self.waiting.retain(|w| w.ask < entry);
-        wait_again(&mut self.waiting, &mut self.gone, entry);
-    }
-}
-
-/// The ask of an answer, as one that waits.
-fn waiting_of<R: Relation>(answer: Answer<R>) -> Waiting<R>
-    ensures { waited_of result ≡ asked_of answer }
-{
-    Waiting {
-        ask: answer.ask,
-        mapped: answer.mapped,
-    }
-}
-
-/// Keeps an ask aside, where a mark is set.
-fn keep<R: Relation>(gone: &mut Vec<Waiting<R>>, is_marked: bool, ask: Waiting<R>)
-    requires { vec_len gone.old < vec_capacity gone.old }
-    ensures items { map waited_of gone.new.items ≡ kept_if is_marked (waited_of ask) (map waited_of gone.old.items) }
-    ensures capacity { vec_capacity gone.new ≡ vec_capacity gone.old }
-    ensures len { vec_len gone.new ≤ vec_len gone.old + 1 }
-{
-    if is_marked {
-        gone.push_reserved(ask);
-    }
-}
-
-/// Puts the asks of the answers to these, and drops the answers.
-fn set_aside<R: Relation>(answers: &mut Vec<Answer<R>>, gone: &mut Vec<Waiting<R>>)
-    requires { vec_len answers.old + vec_len gone.old ≤ vec_capacity gone.old }
-    ensures answers { answers.new.items ≡ [] }
-    ensures gone { IsGathered (map asked_of answers.old.items) (map waited_of gone.old.items) (map waited_of gone.new.items) }
-    ensures capacity { vec_capacity gone.new ≡ vec_capacity gone.old }
-    ensures answers_capacity { vec_capacity answers.new ≡ vec_capacity answers.old }
-    ensures len { vec_len gone.new ≡ vec_len answers.old + vec_len gone.old }
-{
-    'each: while let Some(answer) = answers.pop() {
-        gone.push_reserved(waiting_of(answer));
-    }
-}
-
-/// Lets those of the asks wait again that stand before this entry, and drops the others.
-fn wait_again<R: Relation>(waiting: &mut Vec<Waiting<R>>, gone: &mut Vec<Waiting<R>>, entry: u32)
-    requires { vec_len waiting.old + vec_len gone.old ≤ vec_capacity waiting.old }
-    ensures gone { gone.new.items ≡ [] }
-    ensures waiting { WaitsBelow entry (map waited_of gone.old.items) (map waited_of waiting.old.items) (map waited_of waiting.new.items) }
-    ensures capacity { vec_capacity waiting.new ≡ vec_capacity waiting.old }
-    ensures gone_capacity { vec_capacity gone.new ≡ vec_capacity gone.old }
-    ensures len { vec_len waiting.new ≤ vec_len waiting.old + vec_len gone.old }
-{
-    'each: while let Some(ask) = gone.pop() {
-        wake(waiting, ask, entry);
-    }
-}
-
-/// Lets the ask wait again, if it stands before this entry.
-fn wake<R: Relation>(waiting: &mut Vec<Waiting<R>>, ask: Waiting<R>, entry: u32)
-    requires { vec_len waiting.old < vec_capacity waiting.old }
-    ensures early { ask.ask < entry → waiting.new.items ≡ waiting.old.items ++ ask ∷ [] }
-    ensures late { entry ≤ ask.ask → waiting.new.items ≡ waiting.old.items }
-    ensures capacity { vec_capacity waiting.new ≡ vec_capacity waiting.old }
-    ensures len { vec_len waiting.new ≤ vec_len waiting.old + 1 }
-{
-    if ask.ask < entry {
-        waiting.push_reserved(ask);
     }
 }
 

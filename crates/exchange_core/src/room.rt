@@ -4,7 +4,7 @@ ghost use Rattle.std.specs.Prelude.{◌≡◌, ◌+◌};
 ghost use Rattle.exchange_core.specs.Room.{fits};
 
 /// The most entries of a journal.
-const ENTRIES: u64 = 65536;
+pub const ENTRIES: u64 = 65536;
 
 /// The most bytes that they count.
 pub const BYTES: u64 = 268435456;

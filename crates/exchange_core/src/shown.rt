@@ -18,7 +18,7 @@ impl<R: Relation> Core<R> {
         self.outbox.answer_to(ticket.number)
     }
 
-    /// Drops the answer to an ask. Behind a mark, going back lets the ask wait again.
+    /// Drops the answer to an ask.
     pub fn drop_answer(&mut self, ticket: &Ticket<R>)
         ensures answers { self.new.answers ≡ filter (λ g. not (g.ask == ticket.now.number)) self.old.answers }
         ensures entries { self.new.entries ≡ self.old.entries }
@@ -27,7 +27,6 @@ impl<R: Relation> Core<R> {
         ensures sealed { self.new.sealed ≡ self.old.sealed }
         ensures moment { self.new.moment ≡ self.old.moment }
         ensures sends { self.new.sends ≡ self.old.sends }
-        ensures marked { self.new.marked ≡ self.old.marked }
     {
         self.outbox.drop_answer(ticket.number);
     }

@@ -1,20 +1,20 @@
 //! What is done when a datagram was heard.
 
-ghost use Rattle.std.specs.Prelude.{◌≡◌, ◌<◌, ◌≤◌, ◌+◌, ◌*◌, [], length, option_map, IfOk, IfSome, OnOk};
+ghost use Rattle.std.specs.Prelude.{◌≡◌, ◌<◌, ◌≤◌, ◌+◌, ◌*◌, length, option_map, IfOk, IfSome, OnOk};
 ghost use Rattle.std.specs.VecDeque.{deque_len, deque_capacity};
 ghost use Rattle.std.specs.Arc.{arc_value};
-ghost use Rattle.exchange_core.specs.Answering.{HasWaited, KeepsAsks};
-ghost use Rattle.exchange_core.specs.Tables.{AreToldApart, Changed, Roomier};
+ghost use Rattle.exchange_core.specs.Answering.{HasWaited};
+ghost use Rattle.exchange_core.specs.Tables.{AreToldApart};
 ghost use Rattle.exchange_core.specs.Steps.{one_if, with_sent, with_answer, conns_by, waiting_by, AnswersBy, IsReader, SpellsDue};
 
 use crate::outbox::{Outbox, Stamp};
 use crate::outgoing::Datagram;
+use crate::table::Table;
 use crate::tables::{find_reader, set_pending};
 use ask_model::Bytes;
 use datagram_verdict::{Due, Ending, Finding, confirmation};
-use history_laws::kept::{Conn, Exchange, Remembered};
+use history_laws::kept::{Conn, Remembered};
 use journal_book::{Entry, Event, Grounds, Journal};
-use marked_list::MarkedList;
 use std::alloc::{AllocError, Global};
 use std::collections::VecDeque;
 use std::sync::Arc;
@@ -79,32 +79,17 @@ pub fn added(sends: bool, answers: bool) -> (u64, u64)
     }
 }
 
-/// Makes places for so many entries, for a change in each table, one message to remember and one datagram to
-/// send.
-pub fn make_places<R: Relation>(
-    journal: &mut Journal<R>,
-    conns: &mut MarkedList<Conn>,
-    exchanges: &mut MarkedList<Exchange>,
-    heard: &mut MarkedList<Remembered>,
+/// Makes places for one message to remember and one datagram to send.
+pub fn make_places(
+    heard: &mut Table<Remembered>,
     sends: &mut VecDeque<Datagram>,
-    entries: usize,
 ) -> Result<(), AllocError>
-    ensures entries { journal.new.entries ≡ journal.old.entries }
-    ensures kept { journal.old.room ≤ journal.new.room }
-    ensures room { OnOk result (entries ≤ journal.new.room) }
-    ensures conns { Roomier conns.old conns.new }
-    ensures conns_spare { OnOk result (entries ≤ conns.new.spare) }
-    ensures exchanges { Roomier exchanges.old exchanges.new }
-    ensures exchanges_spare { OnOk result (0 < exchanges.new.spare) }
-    ensures heard { Roomier heard.old heard.new }
-    ensures heard_room { OnOk result ((0 < heard.new.room) × (0 < heard.new.spare)) }
+    ensures heard { heard.new.items ≡ heard.old.items }
+    ensures heard_room { OnOk result (0 < heard.new.room) }
     ensures sends { sends.new.items ≡ sends.old.items }
     ensures sends_room { OnOk result (deque_len sends.new < deque_capacity sends.new) }
 {
-    journal.make_room(entries)?;
-    conns.make_room(0, entries)?;
-    exchanges.make_room(0, 1)?;
-    heard.make_room(1, 1)?;
+    heard.make_room()?;
     sends.reserve(1)?;
     Ok(())
 }
@@ -136,23 +121,20 @@ pub fn send_confirmation<R: Relation>(
 /// Answers the connection that waited, if there is one.
 pub fn answer_reader<R: Relation>(
     journal: &mut Journal<R>,
-    conns: &mut MarkedList<Conn>,
+    conns: &mut Table<Conn>,
     outbox: &mut Outbox<R>,
     moment: u64,
     reader: Option<Reader>,
 )
     requires room { 0 < journal.old.room }
     requires apart { AreToldApart (λ x. x.id) conns.old.items }
-    requires spare { 0 < conns.old.spare }
     requires few { length journal.old.entries ≤ 65536 }
     requires waits { IfSome reader (λ r. HasWaited outbox.old.waiting r.ask) }
     ensures entries { journal.new.entries ≡ with_answer moment reader journal.old.entries }
     ensures room { journal.old.room ≤ journal.new.room + 1 }
     ensures whole { journal.old.room + length journal.old.entries ≤ journal.new.room + length journal.new.entries }
     ensures conns { conns.new.items ≡ conns_by reader conns.old.items }
-    ensures changed { Changed conns.old conns.new }
     ensures waiting { outbox.new.waiting ≡ waiting_by reader outbox.old.waiting }
-    ensures asks { KeepsAsks [] outbox.old.asks outbox.new.asks }
     ensures answers { AnswersBy moment (length journal.old.entries) reader outbox.old.waiting outbox.old.answers outbox.new.answers }
 {
     let Some(reader) = reader else {

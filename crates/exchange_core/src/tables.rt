@@ -1,19 +1,16 @@
 //! Look-ups and changes in the tables of a core.
-//!
-//! The tables are lists that keep what takes each change back, so that steps can be taken back without a copy
-//! of what there was. Each change takes a place there, which is made before anything changes.
 
 ghost use Rattle.std.specs.Prelude.{◌≡◌, ◌≢◌, ◌==◌, ◌<◌, not, filter, map, All, count_by, None, Some, IfSome, ◌⊎◌, Err, OnOk, OnErr, slice_get, option_map};
 ghost use Rattle.std.specs.List.{Contains};
 ghost use Rattle.history_laws.specs.Kept.{pend};
 ghost use Rattle.datagram_verdict.specs.Verdicts.{confirm_at, exchanges_by, heard_by};
 ghost use Rattle.exchange_core.specs.Room.{is_pending};
-ghost use Rattle.exchange_core.specs.Tables.{HasIdle, HasWaiting, AreToldApart, Changed};
+ghost use Rattle.exchange_core.specs.Tables.{HasIdle, HasWaiting, AreToldApart};
 
 use crate::fault::AskFault;
+use crate::table::Table;
 use datagram_verdict::Change;
 use history_laws::kept::{Conn, Exchange, Remembered};
-use marked_list::MarkedList;
 
 /// The connection with this number, if it is open.
 pub fn find_conn(conns: &[Conn], id: u32) -> Option<Conn>
@@ -81,11 +78,9 @@ fn conn_place(conns: &[Conn], id: u32) -> Option<usize>
 }
 
 /// Takes the connection out.
-pub fn drop_conn(conns: &mut MarkedList<Conn>, id: u32)
-    requires apart { AreToldApart (λ x. x.id) conns.old.items }
-    requires spare { 0 < conns.old.spare }
-    ensures items { conns.new.items ≡ filter (λ x. not (x.id == id)) conns.old.items }
-    ensures changed { Changed conns.old conns.new }
+pub fn drop_conn(conns: &mut Table<Conn>, id: u32)
+    requires { AreToldApart (λ x. x.id) conns.old.items }
+    ensures { conns.new.items ≡ filter (λ x. not (x.id == id)) conns.old.items }
 {
     if let Some(place) = conn_place(conns.as_slice(), id) {
         conns.remove(place);
@@ -93,11 +88,9 @@ pub fn drop_conn(conns: &mut MarkedList<Conn>, id: u32)
 }
 
 /// Sets what the connection with this number waits for.
-pub fn set_pending(conns: &mut MarkedList<Conn>, id: u32, pending: Option<u32>)
-    requires apart { AreToldApart (λ x. x.id) conns.old.items }
-    requires spare { 0 < conns.old.spare }
-    ensures items { conns.new.items ≡ map (pend id pending) conns.old.items }
-    ensures changed { Changed conns.old conns.new }
+pub fn set_pending(conns: &mut Table<Conn>, id: u32, pending: Option<u32>)
+    requires { AreToldApart (λ x. x.id) conns.old.items }
+    ensures { conns.new.items ≡ map (pend id pending) conns.old.items }
 {
     if let Some(place) = conn_place(conns.as_slice(), id) {
         conns.replace(place, Conn { id, pending });
@@ -132,11 +125,9 @@ fn confirmed(e: Exchange, opening: u32) -> Exchange
 }
 
 /// Notes that an empty ACK came to the exchange with this opening.
-fn confirm_exchange(exchanges: &mut MarkedList<Exchange>, opening: u32)
-    requires apart { AreToldApart (λ e. e.opening) exchanges.old.items }
-    requires spare { 0 < exchanges.old.spare }
-    ensures items { exchanges.new.items ≡ map (confirm_at opening) exchanges.old.items }
-    ensures changed { Changed exchanges.old exchanges.new }
+fn confirm_exchange(exchanges: &mut Table<Exchange>, opening: u32)
+    requires { AreToldApart (λ e. e.opening) exchanges.old.items }
+    ensures { exchanges.new.items ≡ map (confirm_at opening) exchanges.old.items }
 {
     if let Some(place) = exchange_place(exchanges.as_slice(), opening) {
         let e = exchanges.as_slice()[place];
@@ -145,11 +136,9 @@ fn confirm_exchange(exchanges: &mut MarkedList<Exchange>, opening: u32)
 }
 
 /// Takes the exchange out.
-fn drop_exchange(exchanges: &mut MarkedList<Exchange>, opening: u32)
-    requires apart { AreToldApart (λ e. e.opening) exchanges.old.items }
-    requires spare { 0 < exchanges.old.spare }
-    ensures items { exchanges.new.items ≡ filter (λ e. not (e.opening == opening)) exchanges.old.items }
-    ensures changed { Changed exchanges.old exchanges.new }
+fn drop_exchange(exchanges: &mut Table<Exchange>, opening: u32)
+    requires { AreToldApart (λ e. e.opening) exchanges.old.items }
+    ensures { exchanges.new.items ≡ filter (λ e. not (e.opening == opening)) exchanges.old.items }
 {
     if let Some(place) = exchange_place(exchanges.as_slice(), opening) {
         exchanges.remove(place);
@@ -157,11 +146,9 @@ fn drop_exchange(exchanges: &mut MarkedList<Exchange>, opening: u32)
 }
 
 /// Makes the change of a message that was heard.
-pub fn change_exchanges(exchanges: &mut MarkedList<Exchange>, change: Change)
-    requires apart { AreToldApart (λ e. e.opening) exchanges.old.items }
-    requires spare { 0 < exchanges.old.spare }
-    ensures items { exchanges.new.items ≡ exchanges_by change exchanges.old.items }
-    ensures changed { Changed exchanges.old exchanges.new }
+pub fn change_exchanges(exchanges: &mut Table<Exchange>, change: Change)
+    requires { AreToldApart (λ e. e.opening) exchanges.old.items }
+    ensures { exchanges.new.items ≡ exchanges_by change exchanges.old.items }
 {
     match change {
         Change::Keeps => {}
@@ -171,11 +158,9 @@ pub fn change_exchanges(exchanges: &mut MarkedList<Exchange>, change: Change)
 }
 
 /// Remembers a message, where there is one.
-pub fn remember(heard: &mut MarkedList<Remembered>, memory: Option<Remembered>)
-    requires room { 0 < heard.old.room }
-    requires spare { 0 < heard.old.spare }
-    ensures items { heard.new.items ≡ heard_by memory heard.old.items }
-    ensures changed { Changed heard.old heard.new }
+pub fn remember(heard: &mut Table<Remembered>, memory: Option<Remembered>)
+    requires { 0 < heard.old.room }
+    ensures { heard.new.items ≡ heard_by memory heard.old.items }
 {
     if let Some(memory) = memory {
         heard.add(memory);

@@ -5,20 +5,18 @@ ghost use Rattle.std.specs.List.{list_any};
 ghost use Rattle.history_laws.specs.declared.kept.Exchange.{Exchange};
 ghost use Rattle.history_laws.specs.Kept.{Held};
 ghost use Rattle.exchange_core.specs.CoreValue.{Outgoing, now};
-ghost use Rattle.exchange_core.specs.Answering.{KeepsAsks};
 ghost use Rattle.exchange_core.specs.Steps.{IsReader};
-ghost use Rattle.exchange_core.specs.Tables.{Roomier};
 ghost use Rattle.exchange_core.specs.Ticking.{is_past, late_on, due_count, timeouts, timed, going, moment_after, takes_tick, counts, waits_on, IsNextDue, HasPast, AddsAnswers, IsPrompt, TicksSo, Midway, IsMidway, late_ending};
 
 use crate::core_state::Core;
 use crate::outbox::Outbox;
 use crate::step::{Reader, answer_reader};
+use crate::table::Table;
 use crate::tables::{find_reader, pending_count};
 use ask_model::Cause;
 use datagram_verdict::Finding;
 use history_laws::kept::{Conn, Exchange};
 use journal_book::{Entry, Event, Grounds, Journal};
-use marked_list::MarkedList;
 use std::alloc::AllocError;
 use transformers::Relation;
 
@@ -84,35 +82,9 @@ fn late_count(conns: &[Conn], exchanges: &[Exchange], moment: u64) -> usize
         .count()
 }
 
-/// Makes places for so many entries and changes of connections, and for the change that takes each exchange
-/// out.
-fn make_places<R: Relation>(
-    journal: &mut Journal<R>,
-    conns: &mut MarkedList<Conn>,
-    exchanges: &mut MarkedList<Exchange>,
-    places: usize,
-) -> Result<(), AllocError>
-    ensures entries { journal.new.entries ≡ journal.old.entries }
-    ensures kept { journal.old.room ≤ journal.new.room }
-    ensures room { OnOk result (places ≤ journal.new.room) }
-    ensures conns { Roomier conns.old conns.new }
-    ensures conns_spare { OnOk result (places ≤ conns.new.spare) }
-    ensures exchanges { Roomier exchanges.old exchanges.new }
-    ensures exchanges_spare { OnOk result (length exchanges.new.items ≤ exchanges.new.spare) }
-{
-    journal.make_room(places)?;
-    conns.make_room(0, places)?;
-    let count = exchanges.len();
-    exchanges.make_room(0, count)?;
-    Ok(())
-}
-
 /// Takes the late ones out, from the last to the first.
-fn drop_late(exchanges: &mut MarkedList<Exchange>, moment: u64)
-    requires { length exchanges.old.items ≤ exchanges.old.spare }
-    ensures items { exchanges.new.items ≡ going moment exchanges.old.items }
-    ensures marked { exchanges.new.marked ≡ exchanges.old.marked }
-    ensures limit { exchanges.new.limit ≡ exchanges.old.limit }
+fn drop_late(exchanges: &mut Table<Exchange>, moment: u64)
+    ensures { exchanges.new.items ≡ going moment exchanges.old.items }
 {
     let count = exchanges.len();
     'each: for passed in 0..count {
@@ -144,21 +116,17 @@ fn late_reader(conns: &[Conn], exchange: &Exchange, moment: u64) -> Option<Reade
 /// Answers who waits for one that is late, in the order of the exchanges.
 fn answer_each<R: Relation>(
     journal: &mut Journal<R>,
-    conns: &mut MarkedList<Conn>,
+    conns: &mut Table<Conn>,
     outbox: &mut Outbox<R>,
     last: &mut u64,
     exchanges: &[Exchange],
     moment: u64,
 )
-    requires { IsMidway moment exchanges.now journal.old.entries (min journal.old.room conns.old.spare) conns.old.items last.old outbox.old.waiting outbox.old.answers }
-    ensures midway { (tables : Held) → (s : Bool) → (out : List Outgoing) → Midway moment exchanges.now tables s out journal.old.entries (min journal.old.room conns.old.spare) conns.old.items last.old outbox.old.waiting outbox.old.answers
-        → Midway moment exchanges.now tables s out journal.new.entries (min journal.new.room conns.new.spare) conns.new.items last.new outbox.new.waiting outbox.new.answers }
+    requires { IsMidway moment exchanges.now journal.old.entries journal.old.room conns.old.items last.old outbox.old.waiting outbox.old.answers }
+    ensures midway { (tables : Held) → (s : Bool) → (out : List Outgoing) → Midway moment exchanges.now tables s out journal.old.entries journal.old.room conns.old.items last.old outbox.old.waiting outbox.old.answers
+        → Midway moment exchanges.now tables s out journal.new.entries journal.new.room conns.new.items last.new outbox.new.waiting outbox.new.answers }
     ensures entries { journal.new.entries ≡ journal.old.entries ++ timeouts moment exchanges.now conns.old.items }
     ensures conns { conns.new.items ≡ map (timed moment exchanges.now) conns.old.items }
-    ensures marked { conns.new.marked ≡ conns.old.marked }
-    ensures limit { conns.new.limit ≡ conns.old.limit }
-    ensures asks { KeepsAsks [] outbox.old.asks outbox.new.asks }
-    ensures whole { journal.old.room + length journal.old.entries ≤ journal.new.room + length journal.new.entries }
     ensures last { last.new ≡ moment_after moment last.old (timeouts moment exchanges.now conns.old.items) }
     ensures answers { AddsAnswers (length journal.old.entries) outbox.old.answers outbox.new.answers (timeouts moment exchanges.now conns.old.items) }
 {
@@ -248,7 +216,6 @@ impl<R: Relation> Core<R> {
         ensures exchanges { self.new.exchanges ≡ self.old.exchanges }
         ensures sealed { self.new.sealed ≡ true }
         ensures sends { self.new.sends ≡ self.old.sends }
-        ensures marked { self.new.marked ≡ self.old.marked }
     {
         answer_each(
             &mut self.journal,
@@ -266,7 +233,6 @@ impl<R: Relation> Core<R> {
     pub fn tick(&mut self, moment: u64, _word: u64) -> Result<(), AllocError>
         ensures ticks { OnOk result (TicksSo (now self.old.moment moment) self.old self.new) }
         ensures prompt { OnOk result (All (IsPrompt (now self.old.moment moment) self.old.exchanges) self.new.conns) }
-        ensures marked { self.new.marked ≡ self.old.marked }
         ensures memory { OnErr result (self.new ≡ self.old) }
         ensures memory_last { OnErr result ((self.old.sealed ≡ false) × HasPast (now self.old.moment moment) self.old.exchanges × (takes_tick (now self.old.moment moment) self.old ≡ true)) }
     {
@@ -287,14 +253,6 @@ impl<R: Relation> Core<R> {
             self.answer_late(moment);
             return Ok(());
         }
-        let places = count + pending + 2;
-        make_places(
-            &mut self.journal,
-            &mut self.conns,
-            &mut self.exchanges,
-            places,
-        )?;
-
         self.journal.add(Entry {
             moment,
             event: Event::Passed,

@@ -17,7 +17,7 @@ use Rattle.exchange_core.specs.Ticking.{late_reader, timeout_by, timeouts, AreTi
 use Rattle.gateway_world.specs.declared.input.Happening.{Happening}
 use Rattle.gateway_world.specs.declared.input.Output.{Output}
 use Rattle.gateway_world.specs.declared.input.Output.TheVariants as Out
-use Rattle.gateway_world.specs.Steps.{Grows}
+use Rattle.exchange_core.specs.CoreValue.{Grows}
 use Rattle.gateway_world.specs.Entering.{AddsFirst, Enters, EntersOpen, EntersOpening, IsHeardOrSealed, EntersDatagram, IsTickEntry, EntersTick, TicksFirst, EntersClose}
 
 -- what calls that open enter

@@ -12,7 +12,8 @@ use Rattle.exchange_core.specs.CoreValue.{CoreValue, Outgoing, outgoing_of, sent
 use Rattle.exchange_core.specs.Answering.{Given, HeardAs, IsFound, IsGiven}
 use Rattle.gateway_world.specs.declared.input.Output.{Output}
 use Rattle.gateway_world.specs.declared.input.Output.TheVariants as Out
-use Rattle.gateway_world.specs.Steps.{Grows, Telling, IsTelling, AllTell, Gives, Advances, AddsTold, Goes, datagrams, datagram_in, answered, untold, told_by, told_to}
+use Rattle.gateway_world.specs.Steps.{Telling, IsTelling, AllTell, Gives, Advances, AddsTold, Goes, datagrams, datagram_in, answered, untold, told_by, told_to}
+use Rattle.exchange_core.specs.CoreValue.{Grows}
 use Rattle.gateway_world.proofs.Counting.{answered-append, untold-grows}
 
 -- The answers that aren't taken stand in the history.
@@ -194,6 +195,13 @@ leads-grow (Err e) a b before after w = tt
 pub grows-on : (h h1 h2 : List Written) → Grows h h1 → Grows h1 h2 → Grows h h2
 grows-on h h1 h2 first second =
     (first.0 ++ second.0, second.1 ∙ ap (λ s. s ++ second.0) first.1 ∙ append_assoc h first.0 second.0)
+
+pub grows-none : (h : List Written) → Grows h h
+grows-none h = ([], sym (append-nil h))
+
+-- what the journal began with, it begins with still
+pub keeps-grown : (a b : List Written) → Grows a b → (h : List Written) → Grows h a → Grows h b
+keeps-grown a b w h g = grows-on h a b g w
 
 -- a call behind what was done before
 pub leads-on : {X E : Type 0} (r : Result X E) (a b c : CoreValue) (x y z : List Output) → Goes a b x y → OnOk r (Goes b c y z) → OnOk r (Goes a c x z)

@@ -10,7 +10,7 @@ use Rattle.ask_model.specs.Requests.{Came, Sense}
 use Rattle.journal_book.specs.Entries.{Written}
 use Rattle.exchange_core.specs.CoreValue.{CoreValue, connections}
 use Rattle.gateway_world.specs.declared.input.Input.{Input}
-use Rattle.gateway_world.specs.Steps.{Grows}
+use Rattle.exchange_core.specs.CoreValue.{Grows}
 use Rattle.gateway_world.specs.declared.input.Happening.TheVariants as H
 use Rattle.gateway_world.specs.Asks.{Inlet, StandsFor, IsOver, IsGone, closes_last, asked_on, AreAsked, ReadsFirst, bytes_on, Begins, Heeds, text_on}
 use Rattle.gateway_world.specs.Closing.{shut_in}

@@ -8,7 +8,7 @@ use Rattle.std.proofs.lemmas.List.Elements.{All-nil, All-cons, All-head, All-tai
 use Rattle.journal_book.specs.Entries.{Written}
 use Rattle.exchange_core.specs.CoreValue.{CoreValue}
 use Rattle.exchange_core.specs.Answering.{Given}
-use Rattle.gateway_world.specs.Steps.{Grows}
+use Rattle.exchange_core.specs.CoreValue.{Grows}
 use Rattle.gateway_world.specs.CoreSteps.{IsNewAnswer, AnswersAlone}
 use Rattle.gateway_world.specs.Rows.{Row, AreRising, WaitsFor, IsThere, IsServed, Serves, IsRow, row_at, with_waits, without_row, IsOpen, Settled, IsAttended, Attended, IsServedOn, LeavesOthers}
 use Rattle.gateway_world.proofs.Serving.{number_of, some-same, ask-below, waits-for, longer}

@@ -9,7 +9,7 @@ use Rattle.journal_book.specs.Views.{ask_of}
 use Rattle.ask_model.specs.Views.{Mapping}
 use Rattle.history_laws.specs.declared.kept.Conn.{Conn}
 use Rattle.exchange_core.specs.declared.fault.AskFault.{AskFault}
-use Rattle.exchange_core.specs.CoreValue.{CoreValue, marked_now}
+use Rattle.exchange_core.specs.CoreValue.{CoreValue}
 use Rattle.exchange_core.specs.Sealing.{HasSeal}
 use Rattle.exchange_core.specs.Asking.{RefusesSo}
 use Rattle.exchange_core.specs.Answering.{Given, IsGiven}
@@ -21,7 +21,7 @@ use Rattle.gateway_world.specs.Closing.{shut_in, closed_if}
 use Rattle.gateway_world.specs.Means.{closes}
 use Rattle.gateway_world.specs.Rows.{Row, IsRow, IsServed, Serves}
 use Rattle.gateway_world.specs.Shutting.{HasLastAnswer, MayShut, ShutsFor, IsDone, ClosesFor, ClosedByClient, ShutsInRun}
-use Rattle.gateway_world.specs.Steps.{Grows}
+use Rattle.exchange_core.specs.CoreValue.{Grows}
 use Rattle.gateway_world.proofs.Asking.{row-is}
 use Rattle.gateway_world.proofs.Going.{stands-more}
 use Rattle.gateway_world.proofs.Runs.{take-next}
@@ -134,9 +134,6 @@ client-for r happening a b n is shut = λ c has.
       | inl old ↦ inl old
       | inr new ↦ inr (inl (is ∙ ap (λ (d : ℕ). H.Close d) (closed-one r n c new).1))
     ]
-
-pub closes-marked : (happening : Happening) (a : List Written) (b d : CoreValue) → d ≡ marked_now b → ClosesFor happening a b.entries → ClosesFor happening a d.entries
-closes-marked happening a b d is w = rw is w
 
 -- A run of no inputs closes nobody.
 pub run-none : (h : List Written) → h ≡ [] → ShutsInRun [] h

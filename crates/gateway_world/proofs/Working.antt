@@ -9,7 +9,8 @@ use Rattle.journal_book.specs.Entries.{Written}
 use Rattle.gateway_world.specs.Closing.{TellsClosings, Closes, shut_in, closed_in}
 use Rattle.gateway_world.specs.Making.{Makes}
 use Rattle.gateway_world.specs.Shutting.{ShutsFor, IsDone}
-use Rattle.gateway_world.specs.Steps.{Advances, Goes, Grows}
+use Rattle.gateway_world.specs.Steps.{Advances, Goes}
+use Rattle.exchange_core.specs.CoreValue.{Grows}
 use Rattle.gateway_world.specs.Working.{Works, WorksFor}
 use Rattle.gateway_world.proofs.Closings.{closes-none, closes-same, closes-then}
 use Rattle.gateway_world.proofs.Going.{AreStanding, goes-none, goes-on, goes-grow, goes-advancing}

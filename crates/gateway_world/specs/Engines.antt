@@ -4,6 +4,8 @@ use Rattle.std.specs.Arc.{arc_value}
 use Rattle.ask_model.specs.Requests.{Came, Sense}
 use Rattle.ask_model.specs.Views.{Rules, rules_of}
 use Rattle.http_edge.specs.Reading.{Item}
+use Rattle.journal_book.specs.Entries.{Written}
+use Rattle.exchange_core.specs.CoreValue.{Grows}
 use Rattle.gateway_world.specs.declared.engine.Context.{Context}
 use Rattle.gateway_world.specs.declared.engine.Engine.{Engine}
 use Rattle.gateway_world.specs.declared.input.Happening.{Happening}
@@ -17,6 +19,10 @@ use Rattle.gateway_world.specs.Rows.{Attended, IsServedOn, LeavesOthers, Serves,
 -- by what rules a request is mapped
 abbrev pub rules_in : Context → Rules
 rules_in context = rules_of (arc_value context.settings.now)
+
+-- What entries the journal began with, it begins with still, whatever came of the step.
+abbrev pub KeepsEntries : {R : Type 0} → Engine R → Engine R → Type 0
+KeepsEntries old new = (h : List Written) → Grows h old.core.entries → Grows h new.core.entries
 
 -- The core goes with the connections that are served.
 abbrev pub IsServing : {R : Type 0} → Engine R → Type 0

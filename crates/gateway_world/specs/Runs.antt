@@ -7,7 +7,7 @@ use Rattle.journal_book.specs.Entries.{Written}
 use Rattle.exchange_core.specs.CoreValue.{connections}
 use Rattle.gateway_world.specs.declared.input.Input.{Input}
 use Rattle.gateway_world.specs.declared.input.Happening.TheVariants as H
-use Rattle.gateway_world.specs.Steps.{Grows}
+use Rattle.exchange_core.specs.CoreValue.{Grows}
 use Rattle.gateway_world.specs.Closing.{shut_in}
 use Rattle.gateway_world.specs.Inboxes.{IsIdle}
 use Rattle.gateway_world.specs.Rows.{HasAsk, IsUnanswered}

@@ -9,10 +9,6 @@ use Rattle.gateway_world.specs.declared.input.Output.{Output}
 use Rattle.gateway_world.specs.declared.input.Output.TheVariants as Out
 use Rattle.gateway_world.specs.Means.{Means}
 
--- Entries are added, and none is changed.
-abbrev pub Grows : List Written → List Written → Type 0
-Grows old new = (more : List Written) × (new ≡ old ++ more)
-
 -- the datagrams among outputs
 abbrev pub datagram_in : Output → List Outgoing
 datagram_in (Out.Datagram d) = outgoing_of d ∷ []

@@ -1,7 +1,6 @@
 -- What connections were at the mark.
 use Rattle.std.specs.Prelude.{◌≡◌, ℕ, ◌==◌, not, List, map, filter, Option, None, false, true, if◌then◌else◌}
 use Rattle.ask_model.specs.Views.{Mapping}
-use Rattle.exchange_core.specs.CoreValue.{CoreValue, marked_now}
 use Rattle.gateway_world.specs.declared.connection.Connection.{Connection}
 use Rattle.gateway_world.specs.declared.table.Table.{Table}
 use Rattle.gateway_world.specs.Rows.{Row, row_of, open_of, waiting_on}
@@ -54,8 +53,3 @@ shown t = shown_of (open_of t.rows.items)
 -- the same at the mark
 abbrev pub shown_at_mark : {R : Type 0} → Table R → Shown
 shown_at_mark t = shown_of (marked_of t.rows.items)
-
--- A core and its connections are marked as they are.
-pub record IsMarked {R : Type 0} (core : CoreValue) (table : Table R) : Type 0 where
-  pub core_is : core ≡ marked_now core
-  pub table_is : shown_at_mark table ≡ shown table

@@ -3,8 +3,9 @@
 ghost use Rattle.std.specs.Prelude.{ℕ, List, ◌≡◌, ◌≢◌, ◌<◌, ◌++◌, [], true, false, None, IfOk, IfSome, OnOk};
 ghost use Rattle.http_edge.specs.Edges.{item};
 ghost use Rattle.ask_model.specs.Maps.{Maps};
-ghost use Rattle.exchange_core.specs.CoreValue.{now, marked_now, gone_back};
-ghost use Rattle.gateway_world.specs.Engines.{rules_in, IsServing, IsAttentive, HasServed, HasAsked, HasAskedAll, LeavesOpen, LeavesDue, Continues, ContinuesOne, HeedsIn, AsksAt, AsksEach, AsksItem, AsksNoItem};
+ghost use Rattle.exchange_core.specs.CoreValue.{CoreValue, Grows, now};
+ghost use Rattle.exchange_core.specs.Snapshots.{IsOf, MayRestore};
+ghost use Rattle.gateway_world.specs.Engines.{rules_in, KeepsEntries, IsServing, IsAttentive, HasServed, HasAsked, HasAskedAll, LeavesOpen, LeavesDue, Continues, ContinuesOne, HeedsIn, AsksAt, AsksEach, AsksItem, AsksNoItem};
 ghost use Rattle.gateway_world.specs.Entering.{Enters, EntersOpen, EntersDatagram, EntersTick, EntersClose};
 ghost use Rattle.gateway_world.specs.Asks.{inlets_of, AsksNothing, AsksFirst, StandsFor, IsOver, IsGone};
 ghost use Rattle.gateway_world.specs.Making.{Makes};
@@ -25,7 +26,7 @@ use crate::stepping::{When, ask_in, close_in, hear_in, open_in, send_from, tick_
 use crate::table::Table;
 use crate::telling::{tell_answer, tell_closed, tell_continue, tell_turned};
 use ask_model::Settings;
-use exchange_core::{AskFault, Core};
+use exchange_core::{AskFault, Core, Snapshot};
 use http_edge::{Incoming, Memory};
 use std::alloc::Global;
 use std::sync::Arc;
@@ -48,23 +49,21 @@ pub struct Engine<R: Relation> {
 }
 
 impl<R: Relation> Engine<R> {
-    /// Marks the core and the connections as they are.
-    pub fn mark(&mut self)
-        ensures core { Settled self.old.core → self.new.core ≡ marked_now self.old.core }
-        ensures shown { shown self.new.table ≡ shown self.old.table }
-        ensures marked { shown_at_mark self.new.table ≡ shown self.old.table }
+    /// The core as it is. The connections are marked as they are.
+    pub fn snapshot(&self) -> Result<Snapshot<R>, Memory>
+        ensures { IfOk result (λ s. IsOf s self.now.core) }
     {
-        self.core.mark();
-        self.table.mark();
+        Ok(self.core.snapshot()?)
     }
 
-    /// Goes back to the core and the connections at the mark. It takes no memory.
-    pub fn back(&mut self)
-        ensures core { IfSome self.old.core.marked (λ m. self.new.core ≡ gone_back m) }
+    /// Goes back to that core, and to the connections at their mark. It takes no memory.
+    pub fn restore(&mut self, snapshot: Snapshot<R>)
+        requires { MayRestore snapshot self.old.core }
+        ensures core { (core : CoreValue) → IsOf snapshot core → Grows core.entries self.old.core.entries → self.new.core ≡ core }
         ensures shown { shown self.new.table ≡ shown_at_mark self.old.table }
         ensures marked { shown_at_mark self.new.table ≡ shown_at_mark self.old.table }
     {
-        self.core.back();
+        self.core.restore(snapshot);
         self.table.back();
     }
 
@@ -79,7 +78,7 @@ impl<R: Relation> Engine<R> {
         ensures works { OnOk result (WorksFor happening.entry context.entry.when self.old.core self.new.core outputs.old.items outputs.new.items) }
         ensures kept { OnOk result (IsServing self.new) }
         ensures marked { shown_at_mark self.new.table ≡ shown_at_mark self.old.table }
-        ensures core_mark { self.new.core.marked ≡ self.old.core.marked }
+        ensures grows { KeepsEntries self.old self.new }
         ensures continues { OnOk result ((c : ℕ) → Continues c self.old self.new outputs.old.items outputs.new.items) }
         ensures prompt { OnOk result (HasAskedAll self.old → HasAskedAll self.new) }
         ensures enters { OnOk result (self.old.core.answers ≡ [] → Enters happening.entry (now self.old.core.moment context.entry.when.moment) self.old.core self.new.core outputs.old.items outputs.new.items) }
@@ -104,7 +103,7 @@ impl<R: Relation> Engine<R> {
         ensures works { OnOk result (Works context.entry.when self.old.core self.new.core outputs.old.items outputs.new.items) }
         ensures kept { OnOk result (IsServing self.new) }
         ensures marked { shown_at_mark self.new.table ≡ shown_at_mark self.old.table }
-        ensures core_mark { self.new.core.marked ≡ self.old.core.marked }
+        ensures grows { KeepsEntries self.old self.new }
         ensures continues { OnOk result ((c : ℕ) → Continues c self.old self.new outputs.old.items outputs.new.items) }
         ensures prompt { OnOk result (HasAskedAll self.old → HasAskedAll self.new) }
         ensures enters { OnOk result (EntersOpen (now self.old.core.moment context.entry.when.moment) self.old.core self.new.core outputs.old.items outputs.new.items) }
@@ -134,7 +133,7 @@ impl<R: Relation> Engine<R> {
         ensures works { OnOk result (Works context.entry.when self.old.core self.new.core outputs.old.items outputs.new.items) }
         ensures kept { OnOk result (IsServing self.new) }
         ensures marked { shown_at_mark self.new.table ≡ shown_at_mark self.old.table }
-        ensures core_mark { self.new.core.marked ≡ self.old.core.marked }
+        ensures grows { KeepsEntries self.old self.new }
         ensures continues { OnOk result ((c : ℕ) → Continues c self.old self.new outputs.old.items outputs.new.items) }
         ensures prompt { OnOk result (HasAskedAll self.old → HasAskedAll self.new) }
         ensures others { OnOk result ((c : ℕ) → c ≢ number → AsksAt (Maps R.holds R.takes (rules_in context.entry)) c self.old self.new) }
@@ -158,7 +157,7 @@ impl<R: Relation> Engine<R> {
         ensures works { OnOk result (Works context.entry.when self.old.core self.new.core outputs.old.items outputs.new.items) }
         ensures kept { OnOk result (IsServing self.new) }
         ensures marked { shown_at_mark self.new.table ≡ shown_at_mark self.old.table }
-        ensures core_mark { self.new.core.marked ≡ self.old.core.marked }
+        ensures grows { KeepsEntries self.old self.new }
         ensures continues { OnOk result ((c : ℕ) → Continues c self.old self.new outputs.old.items outputs.new.items) }
         ensures prompt { OnOk result (HasAskedAll self.old → HasAskedAll self.new) }
         ensures enters { OnOk result (self.old.core.answers ≡ [] → EntersDatagram (now self.old.core.moment context.entry.when.moment) peer bytes.now self.old.core self.new.core) }
@@ -175,7 +174,7 @@ impl<R: Relation> Engine<R> {
         ensures works { OnOk result (Works context.entry.when self.old.core self.new.core outputs.old.items outputs.new.items) }
         ensures kept { OnOk result (IsServing self.new) }
         ensures marked { shown_at_mark self.new.table ≡ shown_at_mark self.old.table }
-        ensures core_mark { self.new.core.marked ≡ self.old.core.marked }
+        ensures grows { KeepsEntries self.old self.new }
         ensures continues { OnOk result ((c : ℕ) → Continues c self.old self.new outputs.old.items outputs.new.items) }
         ensures prompt { OnOk result (HasAskedAll self.old → HasAskedAll self.new) }
         ensures enters { OnOk result (self.old.core.answers ≡ [] → EntersTick (now self.old.core.moment context.entry.when.moment) self.old.core self.new.core) }
@@ -192,7 +191,7 @@ impl<R: Relation> Engine<R> {
         ensures advances { Advances self.old.core self.new.core }
         ensures kept { IsServing self.new }
         ensures marked { shown_at_mark self.new.table ≡ shown_at_mark self.old.table }
-        ensures core_mark { self.new.core.marked ≡ self.old.core.marked }
+        ensures grows { KeepsEntries self.old self.new }
         ensures made { Makes context.entry.when self.old.core self.new.core }
         ensures closes { shut_in self.new.core.entries ≡ shut_in self.old.core.entries ++ closed_if result number }
         ensures why { IsDone self.old.core number → ShutsFor self.old.core.entries self.new.core.entries }
@@ -216,7 +215,7 @@ impl<R: Relation> Engine<R> {
         ensures works { OnOk result (Works context.entry.when self.old.core self.new.core outputs.old.items outputs.new.items) }
         ensures kept { OnOk result (IsServing self.new) }
         ensures marked { shown_at_mark self.new.table ≡ shown_at_mark self.old.table }
-        ensures core_mark { self.new.core.marked ≡ self.old.core.marked }
+        ensures grows { KeepsEntries self.old self.new }
         ensures continues { OnOk result ((c : ℕ) → Continues c self.old self.new outputs.old.items outputs.new.items) }
         ensures prompt { OnOk result (HasAskedAll self.old → HasAskedAll self.new) }
         ensures quiet { OnOk result (self.old.core.answers ≡ [] → self.new.core.entries ≡ self.old.core.entries) }
@@ -233,7 +232,7 @@ impl<R: Relation> Engine<R> {
         ensures works { OnOk result (Works context.entry.when self.old.core self.new.core outputs.old.items outputs.new.items) }
         ensures kept { OnOk result (IsServing self.new) }
         ensures marked { shown_at_mark self.new.table ≡ shown_at_mark self.old.table }
-        ensures core_mark { self.new.core.marked ≡ self.old.core.marked }
+        ensures grows { KeepsEntries self.old self.new }
         ensures continues { OnOk result ((c : ℕ) → Continues c self.old self.new outputs.old.items outputs.new.items) }
         ensures prompt { OnOk result (HasAskedAll self.old → HasAskedAll self.new) }
         ensures quiet { OnOk result (self.old.core.answers ≡ [] → self.new.core.entries ≡ self.old.core.entries) }
@@ -267,7 +266,7 @@ impl<R: Relation> Engine<R> {
         ensures works { OnOk result (Works context.entry.when self.old.core self.new.core outputs.old.items outputs.new.items) }
         ensures kept { OnOk result (IsServing self.new) }
         ensures marked { shown_at_mark self.new.table ≡ shown_at_mark self.old.table }
-        ensures core_mark { self.new.core.marked ≡ self.old.core.marked }
+        ensures grows { KeepsEntries self.old self.new }
         ensures continues { OnOk result (ContinuesOne number self.old self.new outputs.old.items outputs.new.items) }
         ensures prompt { OnOk result (HasAsked number self.new) }
         ensures apart { OnOk result (LeavesOpen number self.old self.new) }
@@ -292,7 +291,7 @@ impl<R: Relation> Engine<R> {
         ensures works { OnOk result (Works context.entry.when self.old.core self.new.core outputs.old.items outputs.new.items) }
         ensures kept { OnOk result (IsServing self.new) }
         ensures marked { shown_at_mark self.new.table ≡ shown_at_mark self.old.table }
-        ensures core_mark { self.new.core.marked ≡ self.old.core.marked }
+        ensures grows { KeepsEntries self.old self.new }
         ensures continues { OnOk result (ContinuesOne number self.old self.new outputs.old.items outputs.new.items) }
         ensures prompt { OnOk result (HasAsked number self.new) }
         ensures apart { OnOk result (LeavesOpen number self.old self.new) }
@@ -317,7 +316,7 @@ impl<R: Relation> Engine<R> {
         ensures works { OnOk result (Works context.entry.when self.old.core self.new.core outputs.old.items outputs.new.items) }
         ensures kept { OnOk result (IsServing self.new) }
         ensures marked { shown_at_mark self.new.table ≡ shown_at_mark self.old.table }
-        ensures core_mark { self.new.core.marked ≡ self.old.core.marked }
+        ensures grows { KeepsEntries self.old self.new }
         ensures continues { OnOk result (ContinuesOne number self.old self.new outputs.old.items outputs.new.items) }
         ensures no_interim { IfOk result (λ more. more ≡ true → GivesFinal outputs.old.items outputs.new.items) }
         ensures less { IfOk result (λ more. more ≡ true → work_at number (inlets_of self.new.table) < work_at number (inlets_of self.old.table)) }
@@ -356,7 +355,7 @@ impl<R: Relation> Engine<R> {
         ensures works { OnOk result (Works context.entry.when self.old.core self.new.core outputs.old.items outputs.new.items) }
         ensures kept { OnOk result (IsServing self.new) }
         ensures marked { shown_at_mark self.new.table ≡ shown_at_mark self.old.table }
-        ensures core_mark { self.new.core.marked ≡ self.old.core.marked }
+        ensures grows { KeepsEntries self.old self.new }
         ensures no_interim { OnOk result (GivesFinal outputs.old.items outputs.new.items) }
         ensures apart { OnOk result (LeavesOpen number self.old self.new) }
         ensures asks { OnOk result (AsksItem (Maps R.holds R.takes (rules_in context.entry)) (item incoming) number self.old self.new) }
@@ -392,7 +391,7 @@ impl<R: Relation> Engine<R> {
         ensures works { OnOk result (Works context.entry.when self.old.core self.new.core outputs.old.items outputs.new.items) }
         ensures kept { OnOk result (IsServing self.new) }
         ensures marked { shown_at_mark self.new.table ≡ shown_at_mark self.old.table }
-        ensures core_mark { self.new.core.marked ≡ self.old.core.marked }
+        ensures grows { KeepsEntries self.old self.new }
         ensures no_interim { OnOk result (GivesFinal outputs.old.items outputs.new.items) }
         ensures apart { OnOk result (LeavesOpen number self.old self.new) }
         ensures asks { OnOk result (AsksNoItem number self.old self.new) }
@@ -429,7 +428,7 @@ impl<R: Relation> Engine<R> {
         ensures works { OnOk result (IsDone self.old.core number → Works context.entry.when self.old.core self.new.core outputs.old.items outputs.new.items) }
         ensures kept { OnOk result (IsServing self.new) }
         ensures marked { shown_at_mark self.new.table ≡ shown_at_mark self.old.table }
-        ensures core_mark { self.new.core.marked ≡ self.old.core.marked }
+        ensures grows { KeepsEntries self.old self.new }
         ensures no_interim { OnOk result (GivesFinal outputs.old.items outputs.new.items) }
         ensures apart { OnOk result (LeavesOpen number self.old self.new) }
         ensures asks { OnOk result (AsksNoItem number self.old self.new) }

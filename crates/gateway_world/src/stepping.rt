@@ -4,7 +4,7 @@ ghost use Rattle.std.specs.Prelude.{ℕ, ◌≡◌, ◌≢◌, ◌<◌, All, Lis
 ghost use Rattle.std.specs.Arc.{arc_value};
 ghost use Rattle.journal_book.specs.Entries.{Asks};
 ghost use Rattle.journal_book.specs.Views.{ask_of};
-ghost use Rattle.exchange_core.specs.CoreValue.{connections, now};
+ghost use Rattle.exchange_core.specs.CoreValue.{Grows, connections, now};
 ghost use Rattle.exchange_core.specs.Hears.{HeardSo};
 ghost use Rattle.gateway_world.specs.Entering.{EntersOpening, TicksFirst, EntersClose};
 ghost use Rattle.gateway_world.specs.Steps.{Advances, Goes};
@@ -36,7 +36,6 @@ pub fn open_in<R: Relation>(core: &mut Core<R>, when: When) -> Result<u32, OpenF
     ensures advances { Advances core.old core.new }
     ensures enters { EntersOpening result (now core.old.moment when.moment) core.old core.new }
     ensures made { Makes when core.old core.new }
-    ensures core_mark { core.new.marked ≡ core.old.marked }
     ensures fresh { IfOk result (λ number. number ≡ connections core.old.entries) }
     ensures unopened { OnErr result (connections core.new.entries ≡ connections core.old.entries) }
     ensures asks { (c : ℕ) → asked_on c core.new.entries ≡ asked_on c core.old.entries }
@@ -58,7 +57,6 @@ pub fn ask_in<R: Relation>(
 ) -> Result<Ticket<R>, AskFault>
     ensures advances { Advances core.old core.new }
     ensures made { Makes when core.old core.new }
-    ensures core_mark { core.new.marked ≡ core.old.marked }
     ensures asked { (rows : List Row) → Serves core.old rows → IsRow rows conn None → IfOk result (λ ticket. Serves core.new (with_waits conn (Some ticket.number) rows)) }
     ensures kept { (rows : List Row) → Serves core.old rows → OnErr result (Serves core.new rows) }
     ensures done { (rows : List Row) → Serves core.old rows → IsRow rows conn None → result ≢ Err AskFault.Memory → OnErr result (IsDone core.new conn) }
@@ -81,9 +79,9 @@ pub fn hear_in<R: Relation>(
     peer: Peer,
     bytes: &[u8],
 ) -> Result<(), Memory>
+    ensures grows { Grows core.old.entries core.new.entries }
     ensures heard { OnOk result (HeardSo (now core.old.moment when.moment) peer bytes.now core.old core.new) }
     ensures made { OnOk result (Makes when core.old core.new) }
-    ensures core_mark { core.new.marked ≡ core.old.marked }
     ensures alone { OnOk result (AnswersAlone core.old core.new) }
     ensures asks { OnOk result ((c : ℕ) → asked_on c core.new.entries ≡ asked_on c core.old.entries) }
     ensures shuts { OnOk result (shut_in core.new.entries ≡ shut_in core.old.entries) }
@@ -94,9 +92,9 @@ pub fn hear_in<R: Relation>(
 
 /// Lets time go on.
 pub fn tick_in<R: Relation>(core: &mut Core<R>, when: When) -> Result<(), Memory>
+    ensures grows { Grows core.old.entries core.new.entries }
     ensures enters { OnOk result (TicksFirst (now core.old.moment when.moment) core.old core.new) }
     ensures made { OnOk result (Makes when core.old core.new) }
-    ensures core_mark { core.new.marked ≡ core.old.marked }
     ensures alone { OnOk result (AnswersAlone core.old core.new) }
     ensures asks { OnOk result ((c : ℕ) → asked_on c core.new.entries ≡ asked_on c core.old.entries) }
     ensures shuts { OnOk result (shut_in core.new.entries ≡ shut_in core.old.entries) }
@@ -109,7 +107,6 @@ pub fn tick_in<R: Relation>(core: &mut Core<R>, when: When) -> Result<(), Memory
 pub fn close_in<R: Relation>(core: &mut Core<R>, when: When, conn: u32) -> bool
     ensures enters { EntersClose (now core.old.moment when.moment) conn core.old core.new }
     ensures made { Makes when core.old core.new }
-    ensures core_mark { core.new.marked ≡ core.old.marked }
     ensures alone { AnswersAlone core.old core.new }
     ensures asks { (c : ℕ) → asked_on c core.new.entries ≡ asked_on c core.old.entries }
     ensures shuts { shut_in core.new.entries ≡ shut_in core.old.entries ++ closed_if result conn }
@@ -127,9 +124,8 @@ pub fn send_from<R: Relation>(core: &mut Core<R>, outputs: &mut Vec<Output>) -> 
     ensures sent { OnOk result (core.new.sends ≡ []) }
     ensures kept { OnOk result ((rows : List Row) → Serves core.old rows → Serves core.new rows) }
     ensures answers { OnOk result (core.new.answers ≡ core.old.answers) }
-    ensures entries { OnOk result (core.new.entries ≡ core.old.entries) }
+    ensures entries { core.new.entries ≡ core.old.entries }
     ensures moment { OnOk result (core.new.moment ≡ core.old.moment) }
-    ensures core_mark { core.new.marked ≡ core.old.marked }
     ensures silent { OnOk result (closed_in outputs.new.items ≡ closed_in outputs.old.items) }
     ensures no_interim { OnOk result (GivesFinal outputs.old.items outputs.new.items) }
 {

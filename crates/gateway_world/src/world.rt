@@ -3,14 +3,14 @@
 ghost use Rattle.std.specs.Prelude.{ℕ, ◌≡◌, ◌<◌, [], true, Some, IfOk, OnOk, OnErr, IsErrOf};
 ghost use Rattle.std.specs.List.{Contains};
 ghost use Rattle.history_laws.specs.Justified.{Stands};
-ghost use Rattle.gateway_world.specs.Steps.{Grows, GivesOut};
+ghost use Rattle.gateway_world.specs.Steps.{GivesOut};
 ghost use Rattle.gateway_world.specs.Making.{AddsMade};
 ghost use Rattle.gateway_world.specs.Continuing.{TellsToGoOn};
 ghost use Rattle.gateway_world.specs.Closing.{Closes, shut_in};
 ghost use Rattle.gateway_world.specs.Shutting.{ClosesFor};
 ghost use Rattle.gateway_world.specs.Prompt.{IsOwed, IsPrompt};
 ghost use Rattle.gateway_world.specs.Rows.{IsRow, Settled};
-ghost use Rattle.exchange_core.specs.CoreValue.{connections};
+ghost use Rattle.exchange_core.specs.CoreValue.{Grows, connections};
 ghost use Rattle.ask_model.specs.Views.{rules_of};
 ghost use Rattle.ask_model.specs.Maps.{Maps};
 ghost use Rattle.gateway_world.specs.Entering.{Enters};
@@ -48,12 +48,11 @@ impl<R: Relation> World<R> {
         ensures rules { IfOk result (λ w. w.rules ≡ rules_of settings) }
         ensures moment { IfOk result (λ w. w.moment ≡ 0) }
     {
-        let mut engine = Engine {
+        let engine = Engine {
             alloc,
             core: Core::new(alloc)?,
             table: Table::new(alloc),
         };
-        engine.mark();
         Ok(World {
             settings: Arc::new(alloc, settings)?,
             engine,
@@ -111,15 +110,16 @@ impl<R: Relation> World<R> {
             },
             settings: &self.settings,
         };
+        let before = self.engine.snapshot()?;
         let mut outputs = Vec::new(self.engine.alloc);
         match self.engine.step(context, input.happening, &mut outputs) {
             Ok(()) => {
-                self.engine.mark();
+                self.engine.table.mark();
                 self.moment = moment;
                 Ok(outputs)
             }
             Err(Memory) => {
-                self.engine.back();
+                self.engine.restore(before);
                 Err(WorldFault::Memory)
             }
         }

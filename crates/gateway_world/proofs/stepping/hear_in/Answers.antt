@@ -1,4 +1,5 @@
 -- A datagram adds its entry and what it leads to, or the seal.
+use Rattle.gateway_world.proofs.Going.{advances-grow, grows-none}
 use Rattle.gateway_world.proofs.Advancing.{hearing}
 use Rattle.gateway_world.specs.Asks.{asked_by}
 use Rattle.gateway_world.specs.Closing.{shut_by}
@@ -17,3 +18,9 @@ returns-clause-shuts g c = quiet-heard shut_by shut-silent _ _ _ c.args.peer c.a
 
 pub returns-clause-made : goal.returns-clause-made
 returns-clause-made g c = makes-heard _ _ _ c.args.peer c.args.bytes.now c.in_ok-heard.ensures.heard
+
+pub returns-clause-grows : goal.returns-clause-grows
+returns-clause-grows g c = advances-grow _ _ (hearing _ _ _ c.args.peer c.args.bytes.now c.in_ok-heard.ensures.heard).step
+
+pub returns-in_err-heard-clause-grows : goal.returns-in_err-heard-clause-grows
+returns-in_err-heard-clause-grows g c = rw (c.in_err-heard.ensures.memory) (grows-none c.args.core.now.entries)

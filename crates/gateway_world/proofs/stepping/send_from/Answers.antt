@@ -7,7 +7,7 @@ use Rattle.gateway_world.proofs.Continuing.{final-one}
 use Rattle.gateway_world.proofs.stepping.send_from.Goals as goal
 
 pub each-init : goal.each-init
-each-init g c = (goes-none _ _, record { entries = refl; conns = refl; answers = refl }, refl, refl, record { same = λ d. refl }, refl)
+each-init g c = (goes-none _ _, record { entries = refl; conns = refl; answers = refl }, refl, refl, record { same = λ d. refl })
 
 pub each-smaller : goal.each-smaller
 each-smaller g c = shorter _ _ _ (rw c.in-Some.is at c.take_send.ensures.some)
@@ -21,11 +21,10 @@ each-preserved g c =
       silent-more _ _ _ c.in_ok-push.ensures.items refl ∙ c.each.invariant.2,
       t.moment ∙ c.each.invariant.3,
       record { same = λ d. final-one d _ _ _ c.in_ok-push.ensures.items refl ∙ c.each.invariant.4.same d },
-      t.marked ∙ c.each.invariant.5,
     )
 
-pub returns-in_err-push-clause-core_mark : goal.returns-in_err-push-clause-core_mark
-returns-in_err-push-clause-core_mark g c = c.take_send.ensures.marked ∙ c.each.invariant.5
+pub returns-in_err-push-clause-entries : goal.returns-in_err-push-clause-entries
+returns-in_err-push-clause-entries g c = c.take_send.ensures.entries ∙ c.each.invariant.1.entries
 
 pub returns-clause-silent : goal.returns-clause-silent
 returns-clause-silent g c = c.each.invariant.2

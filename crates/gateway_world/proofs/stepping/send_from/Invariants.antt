@@ -9,7 +9,7 @@ use Rattle.gateway_world.proofs.stepping.send_from.Given as goal
 abbrev pub invariant-each : goal.invariant-each
 invariant-each g l = Goes l.initial.core l.core l.initial.outputs.items l.outputs.items × SameServed l.initial.core l.core
     × (closed_in l.outputs.items ≡ closed_in l.initial.outputs.items) × (l.core.moment ≡ l.initial.core.moment)
-    × GivesFinal l.initial.outputs.items l.outputs.items × (l.core.marked ≡ l.initial.core.marked)
+    × GivesFinal l.initial.outputs.items l.outputs.items
 
 abbrev pub decreases-each : goal.decreases-each
 decreases-each g l = length l.core.sends

@@ -1,4 +1,5 @@
 -- A tick adds what it ends.
+use Rattle.gateway_world.proofs.Going.{advances-grow, grows-none}
 use Rattle.gateway_world.proofs.Lateness.{ticking}
 use Rattle.gateway_world.specs.Asks.{asked_by}
 use Rattle.gateway_world.specs.Closing.{shut_by}
@@ -21,3 +22,9 @@ returns-clause-shuts g c = quiet-tick shut_by shut-silent _ _ _ c.in_ok-tick.ens
 
 pub returns-clause-made : goal.returns-clause-made
 returns-clause-made g c = makes-tick _ _ _ c.in_ok-tick.ensures.ticks
+
+pub returns-clause-grows : goal.returns-clause-grows
+returns-clause-grows g c = advances-grow _ _ (ticking _ _ _ c.in_ok-tick.ensures.ticks).step
+
+pub returns-in_err-tick-clause-grows : goal.returns-in_err-tick-clause-grows
+returns-in_err-tick-clause-grows g c = rw (c.in_err-tick.ensures.memory) (grows-none c.args.core.now.entries)

@@ -9,7 +9,6 @@ use Rattle.journal_book.specs.Views.{ask_of}
 use Rattle.history_laws.specs.declared.kept.Known.{Known}
 use Rattle.history_laws.specs.Numbering.{known_of, next_id}
 use Rattle.history_laws.specs.declared.kept.Conn.{Conn}
-use Rattle.history_laws.specs.Kept.{pend}
 use Rattle.history_laws.specs.declared.kept.Exchange.{Exchange}
 use Rattle.exchange_core.specs.Room.{is_pending}
 use Rattle.exchange_core.specs.Tables.{HasIdle}
@@ -18,10 +17,9 @@ use Rattle.exchange_core.proofs.Apart.{conns-apart}
 use Rattle.exchange_core.proofs.Asking.{asks-request, sent-spelled, kept-begin, opens-so}
 use Rattle.exchange_core.proofs.Giving.{answerable-begun}
 use Rattle.exchange_core.proofs.Issuing.{numbered-so}
-use Rattle.exchange_core.proofs.Keeping.{may-seal-more}
+use Rattle.exchange_core.proofs.Keeping.{may-seal-more, places-add, room-for-two}
 use Rattle.exchange_core.proofs.Lists.{pushed, behind}
 use Rattle.exchange_core.proofs.Unsent.{out-more}
-use Rattle.exchange_core.proofs.GoingBack.{goes-on, marked-on, places-on, two-more, waited-asked}
 use Rattle.exchange_core.proofs.core_state.Core.begin.Goals as goal
 
 pub seal-requires-clause-may : goal.seal-requires-clause-may
@@ -40,16 +38,14 @@ invariant_of-self-2 g c =
     let asks = asks-request (arc_value c.args.mapped).sense c.args.peer c.requires.asks in
     let counted = c.incoming_size-size.ensures ∙ ap (λ (x : Came). min (came_size x) (2 ^ 64 - 1)) (c.came.ensures.came ∙ ap (λ (m : Mapping). m.came) c.deref.ensures) in
     let asked = pushed _ _ _ _ c.add.ensures.entries c.in_ok-begun.ensures.asked in
-    let left = min c.add-2.new.self.room c.set_pending.new.conns.spare in
-    let pended = c.set_pending.ensures.items ∙ ap (map (pend c.args.conn (Some c.len-number.result))) c.in_ok-make_places.ensures.conns.items in
     let sent = pushed _ _ _ _ c.add-2.ensures.entries c.in_ok-begun.ensures.sent in
     let answers = answerable-begun s.journal.entries _ _ _ _ _ c.args.conn c.max-moment.result c.len-number.result (map outgoing_of s.sends.items) _ s.conns.items _ (arc_value c.args.mapped) s.outbox.waiting _ _ s.outbox.answers _
-    c.self.invariant.1 c.in_ok-make_places.ensures.entries c.len-number.ensures c.add.ensures.entries sent c.in_ok-begun.ensures.asked
+    c.self.invariant.1 refl c.len-number.ensures c.add.ensures.entries sent c.in_ok-begun.ensures.asked
     (out-more s.sends.items _ _ _ (record { peer = c.args.peer; bytes = c.in_ok-bytes.bytes }) c.in_ok-make_places.ensures.sends c.push_back_reserved.ensures.items c.in_ok-begun.ensures.datagram)
-    pended c.in_ok-make_places.ensures.waiting
+    c.set_pending.ensures c.in_ok-make_places.ensures.waiting
     (pushed _ _ _ _ c.expect.ensures.waiting (ap (λ (m : Mapping). record { ask = c.len-number.result; mapping = m }) c.in_ok-begun.ensures.waiting))
     (c.expect.ensures.answers ∙ c.in_ok-make_places.ensures.answers) in (
-      kept-begin s.journal.entries _ _ _ (min s.journal.room s.conns.spare) (left + 2) (left + 1) left s.conns.items _ s.exchanges.items _ _ s.opened s.issued s.known.items _ _ s.heard.items
+      kept-begin s.journal.entries _ _ _ s.conns.items _ s.exchanges.items _ _ s.opened s.issued s.known.items _ _ s.heard.items
           s.sealed s.bytes _ s.last _ _ c.incoming_size-size.result (c.pending_count-pending.result + 1) c.args.conn (ask_of (arc_value c.args.mapped)) asks.0 c.args.peer
           c.in_ok-bytes.bytes c.first_timeout-timeout.result c.next_mid-mid.result _ c.token_of-token.result
           c.self.invariant.0 (ap (λ (v : CoreValue). v.sealed) c.self.view_is ∙ c.requires.unsealed)
@@ -62,15 +58,12 @@ invariant_of-self-2 g c =
           (c.next_mid-mid.ensures ∙ ap (λ (u : Option Known). next_id u c.first_id-first.result) (c.find_known.ensures ∙ ap (λ (ks : List Known). known_of ks c.args.peer) c.as_slice.ensures))
           c.first_timeout-timeout.ensures.least c.first_timeout-timeout.ensures.greatest
           counted (rw (← c.len.ensures) (search rules))
-          c.in_ok-make_places.ensures.entries c.len-number.ensures
-          asked sent c.in_ok-make_places.ensures.exchanges.items (pushed _ _ _ _ c.add-3.ensures.items c.exchange_at.ensures)
-          c.in_ok-make_places.ensures.known.items c.use_id.ensures.items pended
-          (omega (arith, c.in_ok-make_places.ensures.room, c.in_ok-make_places.ensures.conns_spare, c.set_pending.ensures.changed.spare, c.add.ensures.room, c.add-2.ensures.room, c.len-2.ensures)) (omega arith) refl
+          refl c.len-number.ensures
+          asked sent c.in_ok-make_places.ensures.exchanges (pushed _ _ _ _ c.add-3.ensures c.exchange_at.ensures)
+          c.in_ok-make_places.ensures.known c.use_id.ensures c.set_pending.ensures
           (c.saturating_add-self-inside.ensures ∙ ap (λ (n : ℕ). min (s.bytes + (c.incoming_size-size.result + (n + 128))) (2 ^ 64 - 1)) c.len.ensures),
       answers,
-      goes-on s.mark s.conns.marked _ s.exchanges.marked _ s.known.marked _ s.heard.marked _ s.outbox.asks _ _ s.journal.entries _ _ s.journal.room _ s.conns.limit _ c.self.invariant.2
-          (c.set_pending.ensures.changed.marked ∙ c.in_ok-make_places.ensures.conns.marked) (c.add-3.ensures.marked ∙ c.in_ok-make_places.ensures.exchanges.marked) (c.use_id.ensures.changed.marked ∙ c.in_ok-make_places.ensures.known.marked) refl (rw (c.in_ok-make_places.ensures.asks) at c.expect.ensures.asks) (two-more _ _ _ _ _ _ c.in_ok-make_places.ensures.entries c.add.ensures.entries c.add-2.ensures.entries)
-          (waited-asked _ _ _ (rw (c.expect.ensures.waiting) at answers.asked)) (places-on s.journal.entries _ _ s.journal.room _ (two-more _ _ _ _ _ _ c.in_ok-make_places.ensures.entries c.add.ensures.entries c.add-2.ensures.entries) (omega (arith, c.in_ok-make_places.ensures.kept, c.add.ensures.room, c.add-2.ensures.room))) (let more = c.in_ok-make_places.ensures.conns.limit in omega (arith, more, c.set_pending.ensures.changed.limit)),
+      places-add _ _ _ c.add.new.self.room _ (places-add s.journal.entries _ _ s.journal.room _ c.self.invariant.2 c.add.ensures.entries c.add.ensures.room) c.add-2.ensures.entries c.add-2.ensures.room,
     )
 
 pub returns-clause-adds : goal.returns-clause-adds
@@ -90,19 +83,26 @@ returns-clause-adds g c =
           (sent-spelled _ _ _ _ _ asks.1 c.in_ok-bytes.ensures.sent)
           (rw (← c.len.ensures, ← waiting) (search rules))
           (behind _ _ _ _ (pushed _ _ _ _ c.add-2.ensures.entries c.in_ok-begun.ensures.sent)
-          (behind _ _ _ _ (pushed _ _ _ _ c.add.ensures.entries c.in_ok-begun.ensures.asked) c.in_ok-make_places.ensures.entries))
-          (c.set_pending.ensures.items ∙ ap (map (pend c.args.conn (Some c.len-number.result))) c.in_ok-make_places.ensures.conns.items)
-          (behind _ _ _ _ (pushed _ _ _ _ c.add-3.ensures.items c.exchange_at.ensures) c.in_ok-make_places.ensures.exchanges.items)
+          (pushed _ _ _ _ c.add.ensures.entries c.in_ok-begun.ensures.asked))
+          c.set_pending.ensures
+          (behind _ _ _ _ (pushed _ _ _ _ c.add-3.ensures c.exchange_at.ensures) c.in_ok-make_places.ensures.exchanges)
           (c.expect.ensures.answers ∙ c.in_ok-make_places.ensures.answers)
           (out-more s.sends.items _ _ _ (record { peer = c.args.peer; bytes = c.in_ok-bytes.bytes }) c.in_ok-make_places.ensures.sends c.push_back_reserved.ensures.items c.in_ok-begun.ensures.datagram),
     )
 
-pub set_pending-requires-clause-apart : goal.set_pending-requires-clause-apart
-set_pending-requires-clause-apart g c =
-    rw (c.in_ok-make_places.ensures.conns.items) (conns-apart _ _ _ _ _ c.self.invariant.0.agrees)
+pub set_pending-requires : goal.set_pending-requires
+set_pending-requires g c = conns-apart _ _ _ _ _ c.self.invariant.0.agrees
 
-pub returns-clause-marked : goal.returns-clause-marked
-returns-clause-marked g c =
+pub add-requires : goal.add-requires
+add-requires g c =
     let s = c.self.inside in
-    marked-on s.mark s.conns.marked _ s.exchanges.marked _ s.known.marked s.heard.marked s.outbox.asks s.journal.entries _ _ s.journal.room s.conns.limit c.self.invariant.2
-    (c.set_pending.ensures.changed.marked ∙ c.in_ok-make_places.ensures.conns.marked) (c.add-3.ensures.marked ∙ c.in_ok-make_places.ensures.exchanges.marked) (two-more _ _ _ _ _ _ c.in_ok-make_places.ensures.entries c.add.ensures.entries c.add-2.ensures.entries) ∙ ap (λ (v : CoreValue). v.marked) c.self.view_is
+    let two = room-for-two s.journal.entries s.journal.room s.conns.items _ s.sealed s.bytes s.last c.args.conn c.self.invariant.0 (ap (λ (v : CoreValue). v.sealed) c.self.view_is ∙ c.requires.unsealed)
+    (subst (λ (cs : List Conn). HasIdle cs c.args.conn) (sym (ap (λ (v : CoreValue). v.conns) c.self.view_is)) c.requires.idle) c.self.invariant.2 in
+    omega (arith, two)
+
+pub add-requires-2 : goal.add-requires-2
+add-requires-2 g c =
+    let s = c.self.inside in
+    let two = room-for-two s.journal.entries s.journal.room s.conns.items _ s.sealed s.bytes s.last c.args.conn c.self.invariant.0 (ap (λ (v : CoreValue). v.sealed) c.self.view_is ∙ c.requires.unsealed)
+    (subst (λ (cs : List Conn). HasIdle cs c.args.conn) (sym (ap (λ (v : CoreValue). v.conns) c.self.view_is)) c.requires.idle) c.self.invariant.2 in
+    omega (arith, two, c.add.ensures.room)

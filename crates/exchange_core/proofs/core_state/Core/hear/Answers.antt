@@ -15,19 +15,38 @@ use Rattle.exchange_core.proofs.Lists.{pushed}
 use Rattle.exchange_core.proofs.Unsent.{out-by}
 use Rattle.exchange_core.proofs.Stepping.{changed-so, remembered-so, waits-kept, some-map, few-heard, kept-heard, answer-added, changes-shown, hears-shown, seals-shown, no-room, heard-seals}
 use Rattle.exchange_core.proofs.Showing.{on-err}
-use Rattle.std.proofs.lemmas.List.Elements.{All-nil}
-use Rattle.exchange_core.specs.Answering.{IsWaited}
-use Rattle.exchange_core.proofs.GoingBack.{goes-on, marked-on, added-on, heard-more, made-room, no-more-room}
-use Rattle.exchange_core.proofs.Lists.{behind}
+use Rattle.exchange_core.proofs.Keeping.{places-add, places-for, room-to-seal}
 use Rattle.exchange_core.proofs.core_state.Core.hear.Goals as goal
+
+pub add-requires : goal.add-requires
+add-requires g c =
+    let s = c.self.inside in
+    room-to-seal s.journal.entries s.journal.room s.conns.items _ s.sealed s.bytes s.last c.self.invariant.0 (ap (λ (v : CoreValue). v.sealed) c.self.view_is ∙ c.requires.unsealed) c.self.invariant.2
+
+pub send_confirmation-requires : goal.send_confirmation-requires
+send_confirmation-requires g c =
+    let s = c.self.inside in
+    let more = places-for s.journal.entries s.journal.room (1 + c.added-entries.result.0) (length c.args.bytes.now + 64 + c.added-entries.result.1) c.len-count.result c.saturating_sub-waiting.result c.self.invariant.2 (search rules) in
+    omega (arith, more, c.add.ensures.room)
+
+pub answer_reader-requires-clause-room : goal.answer_reader-requires-clause-room
+answer_reader-requires-clause-room g c =
+    let s = c.self.inside in
+    let short = few-heard s.journal.entries _ _ _ _ (1 + c.added-entries.result.0) (length c.args.bytes.now + 64 + c.added-entries.result.1) c.len-count.result c.saturating_sub-waiting.result
+    c.args.peer _ c.in_ok-ready.ensures.verdict.due (option_map arc_value c.in_ok-ready.ready.sent) c.is_some.result c.is_some-answers.result
+    c.in_ok-ready.ensures.sent (c.is_some.ensures ∙ sym (some-map arc_value c.in_ok-ready.ready.sent)) (ap (λ x. 1 + x.0) c.added-entries.ensures) (search rules)
+    refl (pushed _ _ _ _ c.add.ensures.entries c.heard_entry.ensures) c.send_confirmation.ensures.entries in
+    let added = places-add s.journal.entries _ _ s.journal.room _ c.self.invariant.2 c.add.ensures.entries c.add.ensures.room in
+    omega (arith, short, added, c.send_confirmation.ensures.whole)
 
 pub answer_reader-requires-clause-few : goal.answer_reader-requires-clause-few
 answer_reader-requires-clause-few g c =
     let s = c.self.inside in
-    few-heard s.journal.entries _ _ _ _ (1 + c.added-entries.result.0) (length c.args.bytes.now + 64 + c.added-entries.result.1) c.len-count.result c.saturating_sub-waiting.result
+    let short = few-heard s.journal.entries _ _ _ _ (1 + c.added-entries.result.0) (length c.args.bytes.now + 64 + c.added-entries.result.1) c.len-count.result c.saturating_sub-waiting.result
     c.args.peer _ c.in_ok-ready.ensures.verdict.due (option_map arc_value c.in_ok-ready.ready.sent) c.is_some.result c.is_some-answers.result
     c.in_ok-ready.ensures.sent (c.is_some.ensures ∙ sym (some-map arc_value c.in_ok-ready.ready.sent)) (ap (λ x. 1 + x.0) c.added-entries.ensures) (search rules)
-    c.in_ok-make_places.ensures.entries (pushed _ _ _ _ c.add.ensures.entries c.heard_entry.ensures) c.send_confirmation.ensures.entries
+    refl (pushed _ _ _ _ c.add.ensures.entries c.heard_entry.ensures) c.send_confirmation.ensures.entries in
+    omega (arith, short)
 
 pub answer_reader-requires-clause-waits : goal.answer_reader-requires-clause-waits
 answer_reader-requires-clause-waits g c =
@@ -43,8 +62,7 @@ invariant_of-self-2 g c =
     let tables : Held = record { exchanges = s.exchanges.items; opened = s.opened; issued = s.issued; known = s.known.items; heard = s.heard.items } in
     let known = known-where-sent s.journal.entries s.conns.items tables s.sealed s.last c.args.peer c.self.invariant.0.agrees
     (subst (λ (v : CoreValue). NeverSentTo c.args.peer v.entries → ⊥) (sym c.self.view_is) c.requires.sent) in
-    let left = min c.answer_reader.new.journal.room c.answer_reader.new.conns.spare in
-    let both = kept-heard s.journal.entries _ _ _ _ (min s.journal.room s.conns.spare) (left + 3) (left + 2) (left + 1) left s.conns.items _ _ _ _
+    let both = kept-heard s.journal.entries _ _ _ _ s.conns.items _ _ _ _
     s.sealed s.bytes _ s.last _ c.len-number.result (1 + c.added-entries.result.0) (length c.args.bytes.now + 64 + c.added-entries.result.1)
     c.len-count.result c.pending_count-pending.result c.saturating_sub-waiting.result (map outgoing_of s.sends.items) _
     c.args.peer c.args.bytes.now _ c.is_some.result c.is_some-answers.result c.in_ok-ready.ensures.verdict (option_map arc_value c.in_ok-ready.ready.sent) c.in_ok-ready.ready.reader known.0
@@ -58,19 +76,13 @@ invariant_of-self-2 g c =
     c.len-count.ensures (c.pending_count-pending.ensures ∙ ap (count_by is_pending) c.as_slice-4.ensures)
     (search rules)
     (ap (λ x. 1 + x.0) c.added-entries.ensures) (ap (λ x. length c.args.bytes.now + 64 + x.1) c.added-entries.ensures) (search rules)
-    c.in_ok-make_places.ensures.entries (pushed _ _ _ _ c.add.ensures.entries c.heard_entry.ensures) c.send_confirmation.ensures.entries c.answer_reader.ensures.entries
-    (changed-so _ _ _ _ (c.change_exchanges.ensures.items ∙ ap (exchanges_by c.in_ok-ready.ready.change) c.in_ok-make_places.ensures.exchanges.items) c.in_ok-ready.ensures.change) (remembered-so _ _ _ _ _ c.remember.ensures.items c.in_ok-ready.ensures.memory c.in_ok-make_places.ensures.heard.items) (c.answer_reader.ensures.conns ∙ ap (conns_by c.in_ok-ready.ready.reader) c.in_ok-make_places.ensures.conns.items)
+    refl (pushed _ _ _ _ c.add.ensures.entries c.heard_entry.ensures) c.send_confirmation.ensures.entries c.answer_reader.ensures.entries
+    (changed-so _ _ _ _ c.change_exchanges.ensures c.in_ok-ready.ensures.change) (remembered-so _ _ _ _ _ c.remember.ensures c.in_ok-ready.ensures.memory c.in_ok-make_places.ensures.heard) c.answer_reader.ensures.conns
     c.answer_reader.ensures.waiting c.answer_reader.ensures.answers
-    (omega (arith, c.in_ok-make_places.ensures.room, c.in_ok-make_places.ensures.conns_spare, c.add.ensures.room, c.send_confirmation.ensures.room, c.answer_reader.ensures.room, c.answer_reader.ensures.changed.spare)) (omega arith) (omega arith) (omega arith)
     c.saturating_add-self-inside.ensures
     (out-by s.sends.items _ _ c.in_ok-ready.ready.datagram (outgoing_by c.args.peer (option_map arc_value c.in_ok-ready.ready.sent)) c.in_ok-make_places.ensures.sends c.put_out.ensures c.in_ok-ready.ensures.datagram) in
-    let more = heard-more s.journal.entries _ _ _ _ _ _ _ _ _ c.in_ok-make_places.ensures.entries c.add.ensures.entries c.send_confirmation.ensures.entries c.answer_reader.ensures.entries in (
-      both.0,
-      both.1,
-      goes-on s.mark s.conns.marked _ s.exchanges.marked _ s.known.marked _ s.heard.marked _ s.outbox.asks _ [] s.journal.entries _ _ s.journal.room _ s.conns.limit _ c.self.invariant.2
-          (c.answer_reader.ensures.changed.marked ∙ c.in_ok-make_places.ensures.conns.marked) (c.change_exchanges.ensures.changed.marked ∙ c.in_ok-make_places.ensures.exchanges.marked) refl (c.remember.ensures.changed.marked ∙ c.in_ok-make_places.ensures.heard.marked) c.answer_reader.ensures.asks more.1
-          (All-nil (IsWaited _)) (let made = c.in_ok-make_places.ensures.kept in let added = added-on s.journal.entries _ _ c.make_places.new.journal.room c.add.new.self.room (behind _ _ _ _ c.add.ensures.entries c.in_ok-make_places.ensures.entries) c.add.ensures.room in omega (arith, made, added, c.send_confirmation.ensures.whole, c.answer_reader.ensures.whole)) (let roomy = c.in_ok-make_places.ensures.conns.limit in omega (arith, roomy, c.answer_reader.ensures.changed.limit)),
-    )
+    let added = places-add s.journal.entries _ _ s.journal.room _ c.self.invariant.2 c.add.ensures.entries c.add.ensures.room in
+    (both.0, both.1, omega (arith, added, c.send_confirmation.ensures.whole, c.answer_reader.ensures.whole))
 
 pub returns-clause-heard : goal.returns-clause-heard
 returns-clause-heard g c =
@@ -82,12 +94,12 @@ returns-clause-heard g c =
     (subst (λ (v : CoreValue). NeverSentTo c.args.peer v.entries → ⊥) (sym c.self.view_is) c.requires.sent) in
     rw (← c.self.view_is) (hears-shown _ c.args.moment c.args.peer c.args.bytes.now _ _ (option_map arc_value c.in_ok-ready.ready.sent) (search rules) unsealed refl
     (answer-added _ c.args.peer c.args.bytes.now _ c.in_ok-ready.ensures.verdict.ending c.in_ok-ready.ready.reader s.outbox.waiting (option_map arc_value c.in_ok-ready.ready.sent) s.journal.entries _ _ _ _ _
-    (rw (c.as_slice-3.ensures) at c.in_ok-ready.ensures.reader) c.in_ok-ready.ensures.taken c.in_ok-make_places.ensures.entries (pushed _ _ _ _ c.add.ensures.entries c.heard_entry.ensures) c.send_confirmation.ensures.entries
-    c.answer_reader.ensures.entries (c.answer_reader.ensures.conns ∙ ap (conns_by c.in_ok-ready.ready.reader) c.in_ok-make_places.ensures.conns.items) c.answer_reader.ensures.answers)
-    (changes-shown s.journal.entries s.conns.items _ (min s.journal.room s.conns.spare) s.bytes s.last _ c.len-number.result c.args.peer c.args.bytes.now c.in_ok-ready.ensures.verdict known.0 s.sealed _
+    (rw (c.as_slice-3.ensures) at c.in_ok-ready.ensures.reader) c.in_ok-ready.ensures.taken refl (pushed _ _ _ _ c.add.ensures.entries c.heard_entry.ensures) c.send_confirmation.ensures.entries
+    c.answer_reader.ensures.entries c.answer_reader.ensures.conns c.answer_reader.ensures.answers)
+    (changes-shown s.journal.entries s.conns.items _ s.bytes s.last _ c.len-number.result c.args.peer c.args.bytes.now c.in_ok-ready.ensures.verdict known.0 s.sealed _
     c.self.invariant.0 unsealed later c.requires.short
     known.1 c.len-number.ensures
-    (rw (c.as_slice.ensures, c.as_slice-2.ensures) at c.in_ok-ready.ensures.is_verdict) (changed-so _ _ _ _ (c.change_exchanges.ensures.items ∙ ap (exchanges_by c.in_ok-ready.ready.change) c.in_ok-make_places.ensures.exchanges.items) c.in_ok-ready.ensures.change))
+    (rw (c.as_slice.ensures, c.as_slice-2.ensures) at c.in_ok-ready.ensures.is_verdict) (changed-so _ _ _ _ c.change_exchanges.ensures c.in_ok-ready.ensures.change))
     (out-by s.sends.items _ _ c.in_ok-ready.ready.datagram (outgoing_by c.args.peer (option_map arc_value c.in_ok-ready.ready.sent)) c.in_ok-make_places.ensures.sends c.put_out.ensures c.in_ok-ready.ensures.datagram))
 
 pub seal-requires-clause-may : goal.seal-requires-clause-may
@@ -121,27 +133,13 @@ returns-then-not-has_room_for-clause-heard g c =
 
 pub returns-in_err-make_places-clause-memory : goal.returns-in_err-make_places-clause-memory
 returns-in_err-make_places-clause-memory g c =
-    on-err c.from_residual-in_err-make_places.result _ (rw (c.in_err-make_places.ensures.entries, c.in_err-make_places.ensures.sends, c.in_err-make_places.ensures.conns.items, c.in_err-make_places.ensures.conns.marked, c.in_err-make_places.ensures.exchanges.items, c.in_err-make_places.ensures.exchanges.marked) (c.self.view_is))
+    on-err c.from_residual-in_err-make_places.result _ (rw (c.in_err-make_places.ensures.sends) (c.self.view_is))
 
-pub change_exchanges-requires-clause-apart : goal.change_exchanges-requires-clause-apart
-change_exchanges-requires-clause-apart g c =
-    rw (c.in_ok-make_places.ensures.exchanges.items) (exchanges-apart _ _ _ _ _ c.self.invariant.0.agrees)
+pub change_exchanges-requires : goal.change_exchanges-requires
+change_exchanges-requires g c = exchanges-apart _ _ _ _ _ c.self.invariant.0.agrees
 
 pub answer_reader-requires-clause-apart : goal.answer_reader-requires-clause-apart
-answer_reader-requires-clause-apart g c =
-    rw (c.in_ok-make_places.ensures.conns.items) (conns-apart _ _ _ _ _ c.self.invariant.0.agrees)
-
-pub returns-clause-marked : goal.returns-clause-marked
-returns-clause-marked g c =
-    let s = c.self.inside in
-    let more = heard-more s.journal.entries _ _ _ _ _ _ _ _ _ c.in_ok-make_places.ensures.entries c.add.ensures.entries c.send_confirmation.ensures.entries c.answer_reader.ensures.entries in
-    marked-on s.mark s.conns.marked _ s.exchanges.marked _ s.known.marked s.heard.marked s.outbox.asks s.journal.entries _ _ s.journal.room s.conns.limit c.self.invariant.2
-    (c.answer_reader.ensures.changed.marked ∙ c.in_ok-make_places.ensures.conns.marked) (c.change_exchanges.ensures.changed.marked ∙ c.in_ok-make_places.ensures.exchanges.marked) more.1 ∙ ap (λ (v : CoreValue). v.marked) c.self.view_is
+answer_reader-requires-clause-apart g c = conns-apart _ _ _ _ _ c.self.invariant.0.agrees
 
 pub invariant_of-self : goal.invariant_of-self
-invariant_of-self g c =
-    let s = c.self.inside in
-    made-room s.mark s.opened s.issued s.sealed s.bytes s.last s.journal c.make_places.new.journal s.conns c.make_places.new.conns s.exchanges c.make_places.new.exchanges s.known s.known s.heard c.make_places.new.heard s.outbox s.outbox (map outgoing_of s.sends.items) _
-    (record { kept = c.self.invariant.0; answerable = c.self.invariant.1; goes = c.self.invariant.2 })
-    c.in_err-make_places.ensures.entries (omega (arith, c.in_err-make_places.ensures.kept)) c.in_err-make_places.ensures.conns c.in_err-make_places.ensures.exchanges (no-more-room s.known) c.in_err-make_places.ensures.heard
-    refl refl refl (ap (map outgoing_of) c.in_err-make_places.ensures.sends)
+invariant_of-self g c = rw (c.in_err-make_places.ensures.heard, c.in_err-make_places.ensures.sends) (c.self.invariant)

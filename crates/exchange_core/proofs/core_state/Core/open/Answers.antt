@@ -2,12 +2,8 @@ use Rattle.std.proofs.Common.{rules, ◌+◌, min, refl, ◌∙◌, ap, subst, a
 use Rattle.std.specs.Prelude.{count_by}
 use Rattle.exchange_core.specs.Room.{is_pending}
 use Rattle.exchange_core.proofs.Giving.{answerable-opened}
-use Rattle.exchange_core.proofs.Keeping.{kept-open}
+use Rattle.exchange_core.proofs.Keeping.{kept-open, places-add, room-to-seal}
 use Rattle.exchange_core.proofs.Showing.{connections-are}
-use Rattle.std.proofs.lemmas.List.Elements.{All-nil}
-use Rattle.exchange_core.specs.Answering.{IsWaited}
-use Rattle.exchange_core.proofs.GoingBack.{goes-on, marked-on, places-on}
-use Rattle.exchange_core.proofs.Kept.{asks-same}
 use Rattle.exchange_core.specs.CoreValue.{CoreValue}
 use Rattle.exchange_core.proofs.Lists.{behind}
 use Rattle.exchange_core.specs.Sealing.{HasSeal}
@@ -16,19 +12,16 @@ use Rattle.exchange_core.proofs.core_state.Core.open.Goals as goal
 
 pub invariant_of-self-2 : goal.invariant_of-self-2
 invariant_of-self-2 g c =
-    let s = c.self.inside in
-    let left = min c.add.new.self.room c.add-2.new.self.spare in (
-      kept-open s.journal.entries _ _ (min s.journal.room s.conns.spare) (left + 1) left s.conns.items _ _ _ s.sealed s.bytes _ s.last _ _ _ c.len-count.result c.pending_count-pending.result
+    let s = c.self.inside in (
+      kept-open s.journal.entries _ _ s.conns.items _ _ _ s.sealed s.bytes _ s.last _ _ _ c.len-count.result c.pending_count-pending.result
           c.self.invariant.0 c.if-self.false
           (omega (arith, c.max-moment.ensures)) (omega (arith, c.max-moment.ensures, c.min.ensures, c.self.invariant.0.early))
           c.len-count.ensures (c.pending_count-pending.ensures ∙ ap (count_by is_pending) c.as_slice.ensures)
           (omega (arith, c.if-count-ge-CONNECTIONS.false)) (search rules)
-          c.in_ok-make_room.ensures.same refl c.add.ensures.entries c.in_ok-make_room-2.ensures.items c.add-2.ensures.items
-          refl (omega (arith, c.in_ok-make_room.ensures.ok, c.add.ensures.room, c.in_ok-make_room-2.ensures.spare, c.add-2.ensures.spare)) refl c.saturating_add-self-inside.ensures,
-      answerable-opened _ _ _ _ _ _ _ _ _ refl c.add.ensures.entries c.add-2.ensures.items (rw (c.in_ok-make_room.ensures.same, c.in_ok-make_room-2.ensures.items) (c.self.invariant.1)),
-      goes-on s.mark s.conns.marked _ s.exchanges.marked _ s.known.marked _ s.heard.marked _ s.outbox.asks _ [] s.journal.entries _ _ s.journal.room _ s.conns.limit _ c.self.invariant.2
-          (c.add-2.ensures.marked ∙ c.in_ok-make_room-2.ensures.marked) refl refl refl (asks-same s.outbox.asks _ refl) (behind _ _ _ _ c.add.ensures.entries c.in_ok-make_room.ensures.same)
-          (All-nil (IsWaited _)) (places-on s.journal.entries _ _ s.journal.room _ (behind _ _ _ _ c.add.ensures.entries c.in_ok-make_room.ensures.same) (omega (arith, c.in_ok-make_room.ensures.kept, c.add.ensures.room))) (omega (arith, c.in_ok-make_room-2.ensures.limit_kept, c.add-2.ensures.limit)),
+          refl refl c.add.ensures.entries c.in_ok-make_room.ensures.items c.add-2.ensures
+          refl c.saturating_add-self-inside.ensures,
+      answerable-opened _ _ _ _ _ _ _ _ _ refl c.add.ensures.entries c.add-2.ensures (rw (c.in_ok-make_room.ensures.items) (c.self.invariant.1)),
+      places-add s.journal.entries _ _ s.journal.room _ c.self.invariant.2 c.add.ensures.entries c.add.ensures.room,
     )
 
 pub returns-clause-opens : goal.returns-clause-opens
@@ -52,8 +45,7 @@ returns-then-not-has_room_for-clause-opens g c =
     let w = c.seal.ensures in
     none-more _ _ _ (search rules) (seals-now _ _ _ _ (search rules) (search rules) w.sealed w.moment w.entries w.conns w.exchanges w.answers w.sends)
 
-pub returns-clause-marked : goal.returns-clause-marked
-returns-clause-marked g c =
+pub add-requires : goal.add-requires
+add-requires g c =
     let s = c.self.inside in
-    marked-on s.mark s.conns.marked _ s.exchanges.marked _ s.known.marked s.heard.marked s.outbox.asks s.journal.entries _ _ s.journal.room s.conns.limit c.self.invariant.2
-    (c.add-2.ensures.marked ∙ c.in_ok-make_room-2.ensures.marked) refl (behind _ _ _ _ c.add.ensures.entries c.in_ok-make_room.ensures.same) ∙ ap (λ (v : CoreValue). v.marked) c.self.view_is
+    room-to-seal s.journal.entries s.journal.room s.conns.items _ s.sealed s.bytes s.last c.self.invariant.0 c.if-self.false c.self.invariant.2

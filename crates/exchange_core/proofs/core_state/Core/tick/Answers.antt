@@ -7,11 +7,7 @@ use Rattle.exchange_core.specs.CoreValue.{CoreValue, now, outgoing_of}
 use Rattle.exchange_core.specs.Ticking.{due_count, takes_tick, going, HasPast}
 use Rattle.exchange_core.proofs.Lates.{prompt-timed}
 use Rattle.exchange_core.proofs.Ticked.{due-fewer, midway-passed, kept-ticked, entries-passed, moment-same, ticked-sealed, ticked-ends, room-is, now-early, past-at, early-at}
-use Rattle.exchange_core.proofs.Showing.{on-err}
-use Rattle.std.proofs.lemmas.List.Elements.{All-nil}
-use Rattle.exchange_core.specs.Answering.{IsWaited}
-use Rattle.exchange_core.proofs.GoingBack.{goes-on, marked-on, added-on, ticked-more}
-use Rattle.exchange_core.proofs.Lists.{behind}
+use Rattle.exchange_core.proofs.Keeping.{places-add, room-to-seal}
 use Rattle.exchange_core.proofs.core_state.Core.tick.Goals as goal
 
 pub overflow_sub-pending : goal.overflow_sub-pending
@@ -79,27 +75,6 @@ returns-then-not-has_room_for-clause-ticks g c =
     inr (inr (inr (ticked-sealed t (now v.moment c.args.moment) v c.seal.new.self c.answer_late-then-not-has_room_for.new.self at_t unsealed past told
     a.entries a.conns a.exchanges a.sends a.moment a.answers b.answers b.entries b.conns b.sends b.moment b.exchanges b.sealed)))
 
-pub returns-in_err-make_places-clause-memory_last : goal.returns-in_err-make_places-clause-memory_last
-returns-in_err-make_places-clause-memory_last g c =
-    let s = c.self.inside in
-    let v = c.args.self.now in
-    let t = c.max-moment.result in
-    let more = c.late_count-answers.result in
-    let count = c.len-count.result in
-    let pending = c.pending_count-pending.result in
-    let cnt : count ≡ length s.conns.items = c.len-count.ensures in
-    let wait : pending ≡ count_by is_pending s.conns.items = c.pending_count-pending.ensures ∙ ap (count_by is_pending) c.as_slice-2.ensures in
-    let due : more ≡ due_count t s.exchanges.items s.conns.items = rw (c.as_slice-3.ensures, c.as_slice-4.ensures) at c.late_count-answers.ensures in
-    let unsealed : v.sealed ≡ false = sym (ap (λ (v : CoreValue). v.sealed) c.self.view_is) ∙ c.if-self.false in
-    let at_t : t ≡ now v.moment c.args.moment =
-    c.max-moment.ensures ∙ ap (max s.last) c.min.ensures ∙ ap (λ (n : ℕ). now n c.args.moment) (ap (λ (v : CoreValue). v.moment) c.self.view_is) in
-    let same : takes v.entries (1 + more) (64 + 68 * more) count (pending - more) ≡ takes_tick t v =
-    room-is t v s.exchanges.items s.conns.items count pending more (64 + 68 * more) (ap (λ (v : CoreValue). v.exchanges) c.self.view_is) (ap (λ (v : CoreValue). v.conns) c.self.view_is) cnt wait due refl in
-    let answer : takes v.entries (1 + more) (64 + 68 * more) count (pending - more) ≡ true = sym (c.has_room_for.ensures unsealed) ∙ c.if-not-has_room_for.false in
-    let told : takes_tick (now v.moment c.args.moment) v ≡ true = ap (λ (n : ℕ). takes_tick n v) (sym at_t) ∙ sym same ∙ answer in
-    let past = past-at t (now v.moment c.args.moment) s.exchanges.items v.exchanges at_t (ap (λ (v : CoreValue). v.exchanges) c.self.view_is) (rw (c.as_slice.ensures) at (c.has_late.ensures.some c.if-not-has_late.false)) in
-    on-err c.from_residual.result ((v.sealed ≡ false) × HasPast (now v.moment c.args.moment) v.exchanges × (takes_tick (now v.moment c.args.moment) v ≡ true)) (unsealed, past, told)
-
 pub answer_each-requires : goal.answer_each-requires
 answer_each-requires g c =
     let s = c.self.inside in
@@ -116,14 +91,13 @@ answer_each-requires g c =
     let answer : takes v.entries (1 + more) (64 + 68 * more) count (pending - more) ≡ true = sym (c.has_room_for.ensures unsealed) ∙ c.if-not-has_room_for.false in
     let room_fits : takes s.journal.entries (1 + more) (64 + 68 * more) count (pending - more) ≡ true =
     subst (λ (h : List Written). takes h (1 + more) (64 + 68 * more) count (pending - more) ≡ true) (sym (ap (λ (v : CoreValue). v.entries) c.self.view_is)) answer in
-    let left = min c.add.new.self.room c.make_places.new.conns.spare in
-    let start = midway-passed s.journal.entries _ _ (min s.journal.room s.conns.spare) (left + 1) left s.conns.items tables s.sealed s.bytes s.last t count pending more (64 + 68 * more) (map outgoing_of s.sends.items) s.outbox.waiting s.outbox.answers
+    let start = midway-passed s.journal.entries _ _ _ s.conns.items tables s.sealed s.bytes s.last t count pending more (64 + 68 * more) (map outgoing_of s.sends.items) s.outbox.waiting s.outbox.answers
     c.self.invariant.0 c.self.invariant.1 c.if-self.false (omega (arith, c.max-moment.ensures)) cnt wait due room_fits
-    c.in_ok-make_places.ensures.entries c.add.ensures.entries (omega (arith, c.in_ok-make_places.ensures.room, c.in_ok-make_places.ensures.conns_spare, c.add.ensures.room)) refl in
-    rw (c.as_slice-5.ensures, c.in_ok-make_places.ensures.exchanges.items, c.in_ok-make_places.ensures.conns.items) (record tables { exchanges = going t s.exchanges.items }, s.sealed, map outgoing_of s.sends.items, start)
+    refl c.add.ensures.entries (places-add s.journal.entries _ _ s.journal.room _ c.self.invariant.2 c.add.ensures.entries c.add.ensures.room) in
+    rw (c.as_slice-5.ensures) (record tables { exchanges = going t s.exchanges.items }, s.sealed, map outgoing_of s.sends.items, start)
 
-pub invariant_of-self-2 : goal.invariant_of-self-2
-invariant_of-self-2 g c =
+pub invariant_of-self : goal.invariant_of-self
+invariant_of-self g c =
     let s = c.self.inside in
     let v = c.args.self.now in
     let t = c.max-moment.result in
@@ -138,21 +112,18 @@ invariant_of-self-2 g c =
     let answer : takes v.entries (1 + more) (64 + 68 * more) count (pending - more) ≡ true = sym (c.has_room_for.ensures unsealed) ∙ c.if-not-has_room_for.false in
     let room_fits : takes s.journal.entries (1 + more) (64 + 68 * more) count (pending - more) ≡ true =
     subst (λ (h : List Written). takes h (1 + more) (64 + 68 * more) count (pending - more) ≡ true) (sym (ap (λ (v : CoreValue). v.entries) c.self.view_is)) answer in
-    let left = min c.add.new.self.room c.make_places.new.conns.spare in
-    let start = midway-passed s.journal.entries _ _ (min s.journal.room s.conns.spare) (left + 1) left s.conns.items tables s.sealed s.bytes s.last t count pending more (64 + 68 * more) (map outgoing_of s.sends.items) s.outbox.waiting s.outbox.answers
+    let start = midway-passed s.journal.entries _ _ _ s.conns.items tables s.sealed s.bytes s.last t count pending more (64 + 68 * more) (map outgoing_of s.sends.items) s.outbox.waiting s.outbox.answers
     c.self.invariant.0 c.self.invariant.1 c.if-self.false (omega (arith, c.max-moment.ensures)) cnt wait due room_fits
-    c.in_ok-make_places.ensures.entries c.add.ensures.entries (omega (arith, c.in_ok-make_places.ensures.room, c.in_ok-make_places.ensures.conns_spare, c.add.ensures.room)) refl in
-    let gives = rw (c.as_slice-5.ensures, c.in_ok-make_places.ensures.exchanges.items, c.in_ok-make_places.ensures.conns.items) at c.answer_each.ensures.midway in
-    let entries = rw (c.as_slice-5.ensures, c.in_ok-make_places.ensures.exchanges.items, c.in_ok-make_places.ensures.conns.items) at c.answer_each.ensures.entries in
-    let conns = rw (c.as_slice-5.ensures, c.in_ok-make_places.ensures.exchanges.items, c.in_ok-make_places.ensures.conns.items) at c.answer_each.ensures.conns in
+    refl c.add.ensures.entries (places-add s.journal.entries _ _ s.journal.room _ c.self.invariant.2 c.add.ensures.entries c.add.ensures.room) in
+    let gives = rw (c.as_slice-5.ensures) at c.answer_each.ensures.midway in
+    let entries = rw (c.as_slice-5.ensures) at c.answer_each.ensures.entries in
+    let conns = rw (c.as_slice-5.ensures) at c.answer_each.ensures.conns in
     let m = gives (record tables { exchanges = going t s.exchanges.items }) s.sealed (map outgoing_of s.sends.items) start in (
-      kept-ticked s.journal.entries _ _ _ (min s.journal.room s.conns.spare) _ s.conns.items _ tables s.sealed s.bytes _ s.last _ t count pending more (64 + 68 * more) _ _ _ _
+      kept-ticked s.journal.entries _ _ _ _ s.conns.items _ tables s.sealed s.bytes _ s.last _ t count pending more (64 + 68 * more) _ _ _ _
           c.self.invariant.0 c.if-self.false (now-early t s.last c.min.result c.args.moment c.max-moment.ensures c.min.ensures c.self.invariant.0.early) cnt wait due room_fits refl
-          c.in_ok-make_places.ensures.entries c.add.ensures.entries entries conns m (c.drop_late.ensures.items ∙ ap (going t) c.in_ok-make_places.ensures.exchanges.items) c.saturating_add-self-inside.ensures,
+          refl c.add.ensures.entries entries conns m c.drop_late.ensures c.saturating_add-self-inside.ensures,
       m.answerable,
-      goes-on s.mark s.conns.marked _ s.exchanges.marked _ s.known.marked _ s.heard.marked _ s.outbox.asks _ [] s.journal.entries _ _ s.journal.room _ s.conns.limit _ c.self.invariant.2
-          (c.answer_each.ensures.marked ∙ c.in_ok-make_places.ensures.conns.marked) (c.drop_late.ensures.marked ∙ c.in_ok-make_places.ensures.exchanges.marked) refl refl c.answer_each.ensures.asks (ticked-more _ _ _ _ _ _ c.in_ok-make_places.ensures.entries c.add.ensures.entries entries)
-          (All-nil (IsWaited _)) (let made = c.in_ok-make_places.ensures.kept in let added = added-on s.journal.entries _ _ c.make_places.new.journal.room c.add.new.self.room (behind _ _ _ _ c.add.ensures.entries c.in_ok-make_places.ensures.entries) c.add.ensures.room in omega (arith, made, added, c.answer_each.ensures.whole)) (let more = c.in_ok-make_places.ensures.conns.limit in omega (arith, more, c.answer_each.ensures.limit)),
+      m.places,
     )
 
 pub returns-clause-ticks : goal.returns-clause-ticks
@@ -174,20 +145,20 @@ returns-clause-ticks g c =
     room-is t v s.exchanges.items s.conns.items count pending more (64 + 68 * more) (ap (λ (v : CoreValue). v.exchanges) c.self.view_is) (ap (λ (v : CoreValue). v.conns) c.self.view_is) cnt wait due refl in
     let answer : takes v.entries (1 + more) (64 + 68 * more) count (pending - more) ≡ true = sym (c.has_room_for.ensures unsealed) ∙ c.if-not-has_room_for.false in
     let told : takes_tick (now v.moment c.args.moment) v ≡ true = ap (λ (n : ℕ). takes_tick n v) (sym at_t) ∙ sym same ∙ answer in
-    let added = rw (c.as_slice-5.ensures, c.in_ok-make_places.ensures.exchanges.items, c.in_ok-make_places.ensures.conns.items) at c.answer_each.ensures.entries in
-    let conns = rw (c.as_slice-5.ensures, c.in_ok-make_places.ensures.exchanges.items, c.in_ok-make_places.ensures.conns.items) at c.answer_each.ensures.conns in
-    let last = rw (c.as_slice-5.ensures, c.in_ok-make_places.ensures.exchanges.items, c.in_ok-make_places.ensures.conns.items) at c.answer_each.ensures.last in
-    let gave = rw (c.as_slice-5.ensures, c.in_ok-make_places.ensures.exchanges.items, c.in_ok-make_places.ensures.conns.items) at c.answer_each.ensures.answers in
-    let given = rw (c.add.ensures.entries, c.in_ok-make_places.ensures.entries) at gave in
-    let entries = entries-passed s.journal.entries _ _ _ _ _ c.in_ok-make_places.ensures.entries c.add.ensures.entries added in
+    let added = rw (c.as_slice-5.ensures) at c.answer_each.ensures.entries in
+    let conns = rw (c.as_slice-5.ensures) at c.answer_each.ensures.conns in
+    let last = rw (c.as_slice-5.ensures) at c.answer_each.ensures.last in
+    let gave = rw (c.as_slice-5.ensures) at c.answer_each.ensures.answers in
+    let given = rw (c.add.ensures.entries) at gave in
+    let entries = entries-passed s.journal.entries _ _ _ _ _ refl c.add.ensures.entries added in
     inr (inr (inl (ticked-ends t (now v.moment c.args.moment) v _ _ at_t c.self.view_is unsealed past told (record { entries = entries; conns = conns; answers = given; sends = refl })
-    c.if-self.false (last ∙ moment-same t _) (c.drop_late.ensures.items ∙ ap (going t) c.in_ok-make_places.ensures.exchanges.items))))
+    c.if-self.false (last ∙ moment-same t _) c.drop_late.ensures)))
 
 pub returns-clause-prompt : goal.returns-clause-prompt
 returns-clause-prompt g c =
     let at_t : c.max-moment.result ≡ now c.args.self.now.moment c.args.moment =
     c.max-moment.ensures ∙ ap (max c.self.inside.last) c.min.ensures ∙ ap (λ (n : ℕ). now n c.args.moment) (ap (λ (v : CoreValue). v.moment) c.self.view_is) in
-    let conns = rw (c.as_slice-5.ensures, c.in_ok-make_places.ensures.exchanges.items, c.in_ok-make_places.ensures.conns.items) at c.answer_each.ensures.conns in
+    let conns = rw (c.as_slice-5.ensures) at c.answer_each.ensures.conns in
     rw (← at_t, ← c.self.view_is) (prompt-timed c.max-moment.result c.self.inside.exchanges.items c.self.inside.conns.items _ conns)
 
 pub returns-then-self-clause-prompt : goal.returns-then-self-clause-prompt
@@ -205,9 +176,7 @@ returns-then-not-has_room_for-clause-prompt g c =
     let conns = rw (c.seal.ensures.exchanges) at c.answer_late-then-not-has_room_for.ensures.conns in
     rw (← at_t) (prompt-timed c.max-moment.result v.exchanges c.seal.new.self.conns c.answer_late-then-not-has_room_for.new.self.conns conns)
 
-pub returns-clause-marked : goal.returns-clause-marked
-returns-clause-marked g c =
+pub add-requires : goal.add-requires
+add-requires g c =
     let s = c.self.inside in
-    let entries = c.answer_each.ensures.entries in
-    marked-on s.mark s.conns.marked _ s.exchanges.marked _ s.known.marked s.heard.marked s.outbox.asks s.journal.entries _ _ s.journal.room s.conns.limit c.self.invariant.2
-    (c.answer_each.ensures.marked ∙ c.in_ok-make_places.ensures.conns.marked) (c.drop_late.ensures.marked ∙ c.in_ok-make_places.ensures.exchanges.marked) (ticked-more _ _ _ _ _ _ c.in_ok-make_places.ensures.entries c.add.ensures.entries entries) ∙ ap (λ (v : CoreValue). v.marked) c.self.view_is
+    room-to-seal s.journal.entries s.journal.room s.conns.items _ s.sealed s.bytes s.last c.self.invariant.0 c.if-self.false c.self.invariant.2

@@ -4,9 +4,8 @@ use Rattle.std.specs.List.{All, filter, slice_get}
 use Rattle.std.proofs.lemmas.Fn.{filter_same}
 use Rattle.std.proofs.lemmas.List.{map_push}
 use Rattle.exchange_core.specs.declared.outbox.Waiting.{Waiting}
-use Rattle.exchange_core.specs.Answering.{Waited, waited_of, given_of, asked_of}
+use Rattle.exchange_core.specs.Answering.{Waited, waited_of, given_of}
 use Rattle.exchange_core.proofs.Taking.{place-below, key-is, there, left, map-filter, waited-not}
-use Rattle.exchange_core.proofs.Kept.{shifted, asks-answered}
 use Rattle.exchange_core.proofs.outbox.Outbox.answer.Goals as goal
 
 pub returns-in_default-clause-waiting : goal.returns-in_default-clause-waiting
@@ -46,23 +45,3 @@ returns-clause-answers g c =
       rw (c.remove-waiting.ensures.value) (key-is (λ (w : Waiting g.row.R.Denot). w.ask) c.self.inside.waiting.items c.in-Some.place c.args.ask c.remove-waiting.result at_it),
       rw (c.push_reserved.ensures.items) (map_push given_of _ _),
     )
-
-pub returns-in_default-clause-asks : goal.returns-in_default-clause-asks
-returns-in_default-clause-asks g c =
-    let none : All (λ (w : Waiting g.row.R.Denot). w.ask ≢ c.args.ask) c.self.inside.waiting.items = rw (c.deref.ensures.value) at (c.in_default.ensures.none refl) in
-    absurd (waited-not c.self.inside.waiting.items c.args.ask none (rw (← c.self.view_is) at c.requires.waits))
-
-pub returns-clause-asks : goal.returns-clause-asks
-returns-clause-asks g c =
-    let s = c.self.inside in
-    let at_it : option_map (λ (w : Waiting g.row.R.Denot). w.ask) (slice_get s.waiting.items c.in-Some.place) ≡ Some c.args.ask =
-    rw (c.deref.ensures.value) at c.in-Some.ensures.some in
-    let below = place-below (λ (w : Waiting g.row.R.Denot). w.ask) s.waiting.items c.in-Some.place c.args.ask at_it in
-    let kept = filter_same _ (λ (w : Waiting g.row.R.Denot). not (eqb w.ask c.args.ask)) _ (λ x b f' k. search rules) _ _ c.retain.ensures.filtered in
-    let others = ap (λ (xs : List (Waiting g.row.R.Denot)). filter (λ (w : Waiting g.row.R.Denot). not (eqb w.ask c.args.ask)) xs) c.remove-waiting.ensures.items
-    ∙ left (λ (w : Waiting g.row.R.Denot). w.ask) s.waiting.items c.in-Some.place c.args.ask at_it in
-    let is : c.remove-waiting.result.ask ≡ c.args.ask = rw (c.remove-waiting.ensures.value) (key-is (λ (w : Waiting g.row.R.Denot). w.ask) s.waiting.items c.in-Some.place c.args.ask c.remove-waiting.result at_it) in
-    rw (← c.self.view_is) (asks-answered s.is_marked (map waited_of s.waiting.items) _ (map asked_of s.answers.items) _ (map waited_of s.gone.items)
-    (shifted _ _ _ _ (waited_of c.remove-waiting.result) c.args.ask (there waited_of s.waiting.items c.in-Some.place c.remove-waiting.result below c.remove-waiting.ensures.value) is
-    (ap (λ (xs : List (Waiting g.row.R.Denot)). map waited_of xs) (kept ∙ others) ∙ map-filter waited_of (λ (w : Waited). w.ask) s.waiting.items c.args.ask)
-    (rw (c.push_reserved.ensures.items) (map_push asked_of _ _))))

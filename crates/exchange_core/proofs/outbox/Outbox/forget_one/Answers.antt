@@ -1,48 +1,11 @@
-use Rattle.std.proofs.Common.{◌≡◌, ◌≢◌, Some, List, map, not, rules, eqb, refl, sym, ap, ◌∙◌, arith}
-use Rattle.std.specs.Prelude.{option_map}
-use Rattle.std.specs.List.{All, filter, slice_get}
+use Rattle.std.proofs.Common.{List, map, not, rules, eqb, ap, ◌∙◌}
 use Rattle.std.proofs.lemmas.Fn.{filter_same}
 use Rattle.exchange_core.specs.declared.outbox.Waiting.{Waiting}
-use Rattle.exchange_core.specs.Answering.{Waited, waited_of, asked_of}
-use Rattle.exchange_core.proofs.Taking.{place-below, key-is, there, left, map-filter, none-taken, none-of}
-use Rattle.exchange_core.proofs.Kept.{asks-same, asks-forgotten}
+use Rattle.exchange_core.specs.Answering.{Waited, waited_of}
+use Rattle.exchange_core.proofs.Taking.{map-filter}
 use Rattle.exchange_core.proofs.outbox.Outbox.forget_one.Goals as goal
-
-pub returns-in_default-clause-waiting : goal.returns-in_default-clause-waiting
-returns-in_default-clause-waiting g c =
-    let none : All (λ (w : Waiting g.row.R.Denot). w.ask ≢ c.args.ask) c.self.inside.waiting.items = rw (c.deref.ensures.value) at (c.in_default.ensures.none refl) in
-    rw (← c.self.view_is) (sym (none-taken (λ (w : Waited). w.ask) _ c.args.ask (none-of waited_of (λ (w : Waited). w.ask) c.self.inside.waiting.items c.args.ask none)))
-
-pub returns-in_default-clause-asks : goal.returns-in_default-clause-asks
-returns-in_default-clause-asks g c = asks-same _ _ refl
-
-pub remove-waiting-requires : goal.remove-waiting-requires
-remove-waiting-requires g c =
-    let at_it : option_map (λ (w : Waiting g.row.R.Denot). w.ask) (slice_get c.self.inside.waiting.items c.in-Some.place) ≡ Some c.args.ask =
-    rw (c.deref.ensures.value) at c.in-Some.ensures.some in
-    let below = place-below (λ (w : Waiting g.row.R.Denot). w.ask) c.self.inside.waiting.items c.in-Some.place c.args.ask at_it in
-    omega (arith, below, c.self.inside.waiting.ok.0)
 
 pub returns-clause-waiting : goal.returns-clause-waiting
 returns-clause-waiting g c =
-    let at_it : option_map (λ (w : Waiting g.row.R.Denot). w.ask) (slice_get c.self.inside.waiting.items c.in-Some.place) ≡ Some c.args.ask =
-    rw (c.deref.ensures.value) at c.in-Some.ensures.some in
     let kept = filter_same _ (λ (w : Waiting g.row.R.Denot). not (eqb w.ask c.args.ask)) _ (λ x b f' k. search rules) _ _ c.retain.ensures.filtered in
-    let others = ap (λ (xs : List (Waiting g.row.R.Denot)). filter (λ (w : Waiting g.row.R.Denot). not (eqb w.ask c.args.ask)) xs) c.remove-waiting.ensures.items
-    ∙ left (λ (w : Waiting g.row.R.Denot). w.ask) c.self.inside.waiting.items c.in-Some.place c.args.ask at_it in
-    rw (← c.self.view_is) (ap (λ (xs : List (Waiting g.row.R.Denot)). map waited_of xs) (kept ∙ others) ∙ map-filter waited_of (λ (w : Waited). w.ask) c.self.inside.waiting.items c.args.ask)
-
-pub returns-clause-asks : goal.returns-clause-asks
-returns-clause-asks g c =
-    let s = c.self.inside in
-    let at_it : option_map (λ (w : Waiting g.row.R.Denot). w.ask) (slice_get s.waiting.items c.in-Some.place) ≡ Some c.args.ask =
-    rw (c.deref.ensures.value) at c.in-Some.ensures.some in
-    let below = place-below (λ (w : Waiting g.row.R.Denot). w.ask) s.waiting.items c.in-Some.place c.args.ask at_it in
-    let kept = filter_same _ (λ (w : Waiting g.row.R.Denot). not (eqb w.ask c.args.ask)) _ (λ x b f' k. search rules) _ _ c.retain.ensures.filtered in
-    let others = ap (λ (xs : List (Waiting g.row.R.Denot)). filter (λ (w : Waiting g.row.R.Denot). not (eqb w.ask c.args.ask)) xs) c.remove-waiting.ensures.items
-    ∙ left (λ (w : Waiting g.row.R.Denot). w.ask) s.waiting.items c.in-Some.place c.args.ask at_it in
-    let is : c.remove-waiting.result.ask ≡ c.args.ask = rw (c.remove-waiting.ensures.value) (key-is (λ (w : Waiting g.row.R.Denot). w.ask) s.waiting.items c.in-Some.place c.args.ask c.remove-waiting.result at_it) in
-    rw (← c.self.view_is) (asks-forgotten s.is_marked (waited_of c.remove-waiting.result) c.args.ask (map waited_of s.waiting.items) _ (map asked_of s.answers.items) (map waited_of s.gone.items) _
-    (there waited_of s.waiting.items c.in-Some.place c.remove-waiting.result below c.remove-waiting.ensures.value) is
-    (ap (λ (xs : List (Waiting g.row.R.Denot)). map waited_of xs) (kept ∙ others) ∙ map-filter waited_of (λ (w : Waited). w.ask) s.waiting.items c.args.ask)
-    c.keep.ensures.items)
+    rw (← c.self.view_is) (ap (λ (xs : List (Waiting g.row.R.Denot)). map waited_of xs) kept ∙ map-filter waited_of (λ (w : Waited). w.ask) c.self.inside.waiting.items c.args.ask)

@@ -32,3 +32,6 @@ returns-clause-apart g c = apart-call c.serve.result c.args.number _ _ _ _ _ _ c
 pub returns-clause-continues : goal.returns-clause-continues
 returns-clause-continues g c =
     answered-tells c.serve.result _ c.args.number _ _ _ _ _ _ _ _ _ _ c.in_ok-give.ensures.asks c.in_ok-give.ensures.no_interim c.serve.ensures.asks c.serve.ensures.continues
+
+pub returns-clause-grows : goal.returns-clause-grows
+returns-clause-grows g c = λ h w. c.serve.ensures.grows h (c.in_ok-give.ensures.grows h w)

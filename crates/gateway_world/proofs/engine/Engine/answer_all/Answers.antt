@@ -8,7 +8,7 @@ use Rattle.gateway_world.proofs.Working.{works-none, works-then}
 use Rattle.gateway_world.proofs.engine.Engine.answer_all.Goals as goal
 
 pub each-init : goal.each-init
-each-init g c = (works-none _ _ _, c.requires, (λ e. e), (λ w. w), order-quiet _ _ _ _ _ (λ d. refl) refl refl, (λ none. (refl, none)), (λ w. w), none-yet _ _ _ _, refl, refl)
+each-init g c = (works-none _ _ _, c.requires, (λ e. e), (λ w. w), order-quiet _ _ _ _ _ (λ d. refl) refl refl, (λ none. (refl, none)), (λ w. w), none-yet _ _ _ _, refl, (λ h w. w))
 
 pub each-preserved : goal.each-preserved
 each-preserved g c =
@@ -23,7 +23,7 @@ each-preserved g c =
       (λ w. prompt-all c.in-Some.number _ _ _ _ next.apart next.prompt (before.6 w)),
       answers-then _ c.in-Some.number c.each.self.core _ _ _ _ _ _ _ _ _ _ before.1.numbered (rw (c.in-Some.is) at (c.first_answered.ensures.some)) before.7 before.4 next.asks next.apart next.continues,
       next.marked ∙ before.8,
-      next.core_mark ∙ before.9,
+      (λ h w. next.grows h (before.9 h w)),
     )
 
 pub each-smaller : goal.each-smaller
@@ -36,3 +36,6 @@ returns-clause-settled g c = λ e w. record { sends = c.each.invariant.2 e; answ
 
 pub returns-clause-quiet : goal.returns-clause-quiet
 returns-clause-quiet g c = λ none. (c.each.invariant.5 none).0
+
+pub returns-in_err-answer-clause-grows : goal.returns-in_err-answer-clause-grows
+returns-in_err-answer-clause-grows g c = λ h w. c.in_err-answer.ensures.grows h (c.each.invariant.9 h w)

@@ -1,4 +1,5 @@
 -- So far the core went on as it was given out.
+use Rattle.gateway_world.specs.Engines.{KeepsEntries}
 use Rattle.std.proofs.Common.{◌≡◌, ℕ, [], length}
 use Rattle.gateway_world.specs.Working.{Works}
 use Rattle.gateway_world.specs.Rows.{Serves, Attended, rows_of}
@@ -23,7 +24,7 @@ invariant-each g l =
     × (IsPrompt (rows_of l.initial.self.table) (inlets_of l.initial.self.table) → IsPrompt (rows_of l.self.table) (inlets_of l.self.table))
     × ((c : ℕ) → TellsToGoOn c l.initial.self.core.entries (inlets_of l.initial.self.table) l.initial.outputs.items l.self.core.entries (rows_of l.self.table) (inlets_of l.self.table) l.outputs.items)
     × (shown_at_mark l.self.table ≡ shown_at_mark l.initial.self.table)
-    × (l.self.core.marked ≡ l.initial.self.core.marked)
+    × KeepsEntries l.initial.self l.self
 
 abbrev pub decreases-each : goal.decreases-each
 decreases-each g l = length (owed l.self.core (rows_of l.self.table))

@@ -1,5 +1,5 @@
 -- What the ask led to is given out, or the connection is closed.
-use Rattle.gateway_world.proofs.Going.{advances-grow}
+use Rattle.gateway_world.proofs.Going.{advances-grow, keeps-grown}
 use Rattle.std.proofs.Common.{rules, List, ◌++◌, ap, ◌∙◌}
 use Rattle.std.proofs.lemmas.List.{append-nil}
 use Rattle.std.specs.Arc.{arc_value}
@@ -43,7 +43,7 @@ returns-in-Err-Unknown g c = record {
       (told-then c.shut.result _ _ (c.in-Err-Unknown.ensures.done _ c.requires.served c.requires.idle (search rules)) c.shut.ensures.works);
   kept = c.shut.ensures.kept;
   marked = c.shut.ensures.marked;
-  core_mark = c.shut.ensures.core_mark ∙ c.ask_in.ensures.core_mark;
+  grows = λ h w. c.shut.ensures.grows h (keeps-grown _ _ (advances-grow _ _ c.ask_in.ensures.advances) h w);
   no_interim = c.shut.ensures.no_interim;
   leaves = leaves-then c.shut.result c.args.number _ _ _ _ _ _ (advances-grow _ _ c.ask_in.ensures.advances)
       (record {
@@ -82,3 +82,14 @@ returns-in_ok-send_from-in-Ok-clause-apart g c =
 
 pub returns-in_ok-send_from-in-Ok-clause-no_interim : goal.returns-in_ok-send_from-in-Ok-clause-no_interim
 returns-in_ok-send_from-in-Ok-clause-no_interim g c = final-call c.give.result _ _ _ c.in_ok-send_from-in-Ok.ensures.no_interim c.give.ensures.no_interim
+
+pub returns-in-Err-Memory-clause-grows : goal.returns-in-Err-Memory-clause-grows
+returns-in-Err-Memory-clause-grows g c = keeps-grown _ _ (advances-grow _ _ c.ask_in.ensures.advances)
+
+pub returns-in_err-send_from-in-Ok-clause-grows : goal.returns-in_err-send_from-in-Ok-clause-grows
+returns-in_err-send_from-in-Ok-clause-grows g c = λ h w.
+    rw (c.in_err-send_from-in-Ok.ensures.entries) (keeps-grown _ _ (advances-grow _ _ c.ask_in.ensures.advances) h w)
+
+pub returns-in_ok-send_from-in-Ok-clause-grows : goal.returns-in_ok-send_from-in-Ok-clause-grows
+returns-in_ok-send_from-in-Ok-clause-grows g c = λ h w.
+    c.give.ensures.grows h (rw (c.in_ok-send_from-in-Ok.ensures.entries) (keeps-grown _ _ (advances-grow _ _ c.ask_in.ensures.advances) h w))

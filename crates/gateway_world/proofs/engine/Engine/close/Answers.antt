@@ -1,4 +1,5 @@
 -- What is closed isn't served any more.
+use Rattle.gateway_world.proofs.Going.{advances-grow, keeps-grown}
 use Rattle.gateway_world.proofs.Serving.{serves-on, serves-without}
 use Rattle.gateway_world.proofs.Reading.{none-without, gone-without}
 use Rattle.gateway_world.proofs.Prompting.{apart-without, prompt-all, prompt-closed}
@@ -28,3 +29,6 @@ returns-clause-prompt g c =
 
 pub returns-clause-why : goal.returns-clause-why
 returns-clause-why g c = λ done. shuts-one c.close_in-closed.result c.args.self.now.core c.close_in-closed.new.core c.args.number c.close_in-closed.ensures.shuts (advances-grow _ _ c.close_in-closed.ensures.alone.step) c.close_in-closed.ensures.stranger done
+
+pub returns-clause-grows : goal.returns-clause-grows
+returns-clause-grows g c = keeps-grown _ _ (advances-grow _ _ c.close_in-closed.ensures.alone.step)

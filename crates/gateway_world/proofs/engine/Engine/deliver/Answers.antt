@@ -33,3 +33,9 @@ returns-clause-quiet g c =
 pub returns-clause-continues : goal.returns-clause-continues
 returns-clause-continues g c =
     quiet-call c.answer_all.result _ _ _ _ _ _ _ _ _ (λ d. ap (asked_on d) c.in_ok-send_from.ensures.entries) c.in_ok-send_from.ensures.no_interim c.answer_all.ensures.continues
+
+pub returns-clause-grows : goal.returns-clause-grows
+returns-clause-grows g c = λ h w. c.answer_all.ensures.grows h (rw (c.in_ok-send_from.ensures.entries) w)
+
+pub returns-in_err-send_from-clause-grows : goal.returns-in_err-send_from-clause-grows
+returns-in_err-send_from-clause-grows g c = λ h w. rw (c.in_err-send_from.ensures.entries) w

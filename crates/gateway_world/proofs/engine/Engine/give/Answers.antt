@@ -154,3 +154,9 @@ returns-in_default-answer_to-clause-no_interim g c = record { same = λ d. refl 
 
 pub returns-then-last-clause-no_interim : goal.returns-then-last-clause-no_interim
 returns-then-last-clause-no_interim g c = final-call c.shut.result _ _ _ c.in_ok-tell_answer.ensures.no_interim c.shut.ensures.no_interim
+
+pub returns-then-last-clause-grows : goal.returns-then-last-clause-grows
+returns-then-last-clause-grows g c = λ h w. c.shut.ensures.grows h (rw (c.drop_answer.ensures.entries) w)
+
+pub returns-else-last-clause-grows : goal.returns-else-last-clause-grows
+returns-else-last-clause-grows g c = λ h w. rw (c.drop_answer.ensures.entries) w

@@ -1,5 +1,5 @@
 -- A connection is opened and served, or that it isn't is told.
-use Rattle.gateway_world.proofs.Going.{goes-advancing, leads-on, told-leads}
+use Rattle.gateway_world.proofs.Going.{advances-grow, goes-advancing, keeps-grown, leads-on, told-leads}
 use Rattle.gateway_world.proofs.Serving.{standing-of}
 use Rattle.gateway_world.proofs.Settling.{on-ok, settled-same}
 use Rattle.std.proofs.Common.{inl, List, [], ◌∷◌, ◌++◌, refl, ap, ◌∙◌}
@@ -27,7 +27,7 @@ returns-in-Err g c = record {
       c.open_in.ensures.made (closes-turned c.tell_turned.result _ _ _ _ c.open_in.ensures.shuts c.tell_turned.ensures.turned) (shuts-quiet _ _ c.open_in.ensures.shuts);
   kept = on-ok c.tell_turned.result _ (rw (c.make_room.ensures.rows) (c.in-Err.ensures.kept _ c.requires));
   marked = c.make_room.ensures.marked;
-  core_mark = c.open_in.ensures.core_mark;
+  grows = keeps-grown _ _ (advances-grow _ _ c.open_in.ensures.advances);
   continues = turned-tells c.tell_turned.result _ _ _ _ _ _ _ c.open_in.ensures.asks c.make_room.ensures.inlets c.tell_turned.ensures.turned;
   enters = turned-away c.tell_turned.result _ c.args.self.now.core c.open_in.new.core _ _ _ c.in-Err.ensures.enters c.tell_turned.ensures.fault c.tell_turned.ensures.turned;
   prompt = on-ok c.tell_turned.result _ (λ w. rw (c.make_room.ensures.rows, c.make_room.ensures.inlets) w);
@@ -57,3 +57,6 @@ returns-in-Ok-clause-continues g c =
     let is = c.in_ok-inbox.ensures.current in
     opened-tells _ c.in-Ok.number c.in_ok-inbox.inbox.current _ _ _ _ _ (rw (c.in-Ok.ensures.fresh) c.requires.opened)
     (c.add.ensures.inlets ∙ ap (λ (xs : List Inlet). xs ++ record { number = c.in-Ok.number; inbox = c.in_ok-inbox.inbox.current } ∷ []) c.make_room.ensures.inlets) (ap (λ (u : Unasked). u.told) is) c.open_in.ensures.asks
+
+pub returns-in-Ok-clause-grows : goal.returns-in-Ok-clause-grows
+returns-in-Ok-clause-grows g c = keeps-grown _ _ (advances-grow _ _ c.open_in.ensures.advances)

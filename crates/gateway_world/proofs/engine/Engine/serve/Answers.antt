@@ -9,7 +9,7 @@ use Rattle.gateway_world.proofs.Working.{works-none, works-then}
 use Rattle.gateway_world.proofs.engine.Engine.serve.Goals as goal
 
 pub each-init : goal.each-init
-each-init g c = (works-none _ _ _, c.requires, leaves-none _ _ _, (λ w. w), (λ e. e), (λ w. w), order-quiet _ _ _ _ _ (λ d. refl) refl refl, apart-same _ _ _, one-none _ _ _ _ _, record { same = λ d. refl }, refl, refl)
+each-init g c = (works-none _ _ _, c.requires, leaves-none _ _ _, (λ w. w), (λ e. e), (λ w. w), order-quiet _ _ _ _ _ (λ d. refl) refl refl, apart-same _ _ _, one-none _ _ _ _ _, record { same = λ d. refl }, refl, (λ h w. w))
 
 pub each-preserved : goal.each-preserved
 each-preserved g c =
@@ -26,7 +26,7 @@ each-preserved g c =
       ones-then _ _ _ _ _ _ _ _ _ _ _ _ before.8 before.9 (λ o. ((before.6 c.args.number).over o).over) (λ o. ((next.asks c.args.number).over o).over) next.continues,
       final-then _ _ _ before.9 (next.no_interim (search rules)),
       next.marked ∙ before.10,
-      next.core_mark ∙ before.11,
+      (λ h w. next.grows h (before.11 h w)),
     )
 
 pub returns-clause-works : goal.returns-clause-works
@@ -55,3 +55,9 @@ returns-clause-continues g c =
     let before = c.each.invariant in
     let next = c.in_ok-serve_next.ensures in
     ones-then _ _ _ _ _ _ _ _ _ _ _ _ before.8 before.9 (λ o. ((before.6 c.args.number).over o).over) (λ o. ((next.asks c.args.number).over o).over) next.continues
+
+pub returns-clause-grows : goal.returns-clause-grows
+returns-clause-grows g c = λ h w. c.in_ok-serve_next.ensures.grows h (c.each.invariant.11 h w)
+
+pub returns-in_err-serve_next-clause-grows : goal.returns-in_err-serve_next-clause-grows
+returns-in_err-serve_next-clause-grows g c = λ h w. c.in_err-serve_next.ensures.grows h (c.each.invariant.11 h w)

@@ -1,4 +1,5 @@
 -- So far the core went on as it was given out, and the others were left as they were.
+use Rattle.gateway_world.specs.Engines.{KeepsEntries}
 use Rattle.std.proofs.Common.{◌≡◌, []}
 use Rattle.gateway_world.specs.Working.{Works}
 use Rattle.gateway_world.specs.Rows.{Serves, Attended, LeavesOthers, IsServedOn, rows_of}
@@ -24,7 +25,7 @@ invariant-each g l =
     × TellsOne l.number l.initial.self.core.entries (inlets_of l.initial.self.table) l.initial.outputs.items l.self.core.entries (rows_of l.self.table) (inlets_of l.self.table) l.outputs.items
     × GivesFinal l.initial.outputs.items l.outputs.items
     × (shown_at_mark l.self.table ≡ shown_at_mark l.initial.self.table)
-    × (l.self.core.marked ≡ l.initial.self.core.marked)
+    × KeepsEntries l.initial.self l.self
 
 abbrev pub decreases-each : goal.decreases-each
 decreases-each g l = work_at l.number (inlets_of l.self.table)

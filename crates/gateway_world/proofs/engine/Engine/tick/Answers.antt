@@ -1,4 +1,5 @@
 -- What it led to is given out.
+use Rattle.gateway_world.proofs.Going.{keeps-grown}
 use Rattle.gateway_world.proofs.Serving.{serves-on, standing-of}
 use Rattle.gateway_world.proofs.Settling.{attended-heard, attended-then}
 use Rattle.std.proofs.Common.{refl}
@@ -29,3 +30,9 @@ returns-clause-enters g c =
 
 pub returns-clause-continues : goal.returns-clause-continues
 returns-clause-continues g c = quiet-call c.deliver.result _ _ _ _ _ _ _ _ _ c.in_ok-tick_in.ensures.asks (record { same = λ d. refl }) c.deliver.ensures.continues
+
+pub returns-clause-grows : goal.returns-clause-grows
+returns-clause-grows g c = λ h w. c.deliver.ensures.grows h (keeps-grown _ _ c.in_ok-tick_in.ensures.grows h w)
+
+pub returns-in_err-tick_in-clause-grows : goal.returns-in_err-tick_in-clause-grows
+returns-in_err-tick_in-clause-grows g c = keeps-grown _ _ c.in_err-tick_in.ensures.grows
