@@ -5,7 +5,8 @@ use Rattle.std.proofs.lemmas.Bool.Decides.{Decides-eqb}
 use Rattle.std.proofs.Math.Nat.{zero-mul}
 use Rattle.coap_codec.specs.Spelling.{Content}
 use Rattle.coap_codec.specs.declared.block.Block.{Block}
-use Rattle.blockwise.specs.Reading.{block_in, size_of, class_of, goes_on, offset_in}
+use Rattle.coap_codec.specs.Recognition.{class_of}
+use Rattle.blockwise.specs.Reading.{block_in, size_of, goes_on, offset_in}
 use Rattle.blockwise.specs.Uploads.{UploadValue, IsSound, begun, is_last, is_whole, block_at, next_block, next_payload, next_szx, next_of}
 use Rattle.blockwise.specs.Joins.{IsFull, IsSized, Part, next_part, IsPartAt, AreInOrder, joined, sent, AllGo, UploadsJoin, AreAnswers, UploadsAnswered, UploadsSucceed}
 use Rattle.blockwise.proofs.WholeBlocks.{whole_number, one_block_more}

@@ -2,7 +2,8 @@
 use Rattle.std.specs.Prelude.{◌≡◌, ◌≤◌, ◌<◌, ◌↔◌, ℕ, ◌+◌, Bool, true, false, List, [], ◌∷◌, ◌++◌, length, Option, Some, None}
 use Rattle.coap_codec.specs.Spelling.{Content}
 use Rattle.coap_codec.specs.declared.block.Block.{Block}
-use Rattle.blockwise.specs.Reading.{block_in, size_of, class_of, goes_on, offset_in}
+use Rattle.coap_codec.specs.Recognition.{class_of}
+use Rattle.blockwise.specs.Reading.{block_in, size_of, goes_on, offset_in}
 use Rattle.blockwise.specs.Representations.{representation_of}
 use Rattle.blockwise.specs.Downloads.{last_szx, given, nothing}
 use Rattle.blockwise.specs.Uploads.{UploadValue, begun, next_block, next_payload, is_last, answer_to, next_of, outcome_by, Continues, Responds}

@@ -1,26 +1,9 @@
 -- What a response says by its code and its options.
-use Rattle.std.specs.Prelude.{◌≡◌, ℕ, ◌/◌, ◌%◌, ◌+◌, ◌*◌, ◌^◌, Bool, true, false, not, ◌&&◌, ◌||◌, List, length, Option, Some, None, option_map, find, ◌==◌, nat_le}
-use Rattle.std.specs.Option.{option_map_or}
+use Rattle.std.specs.Prelude.{◌≡◌, ℕ, ◌/◌, ◌%◌, ◌+◌, ◌*◌, ◌^◌, Bool, true, false, not, ◌&&◌, ◌||◌, List, Option, Some, None, option_map, find, ◌==◌}
 use Rattle.coap_codec.specs.Spelling.{Entry, Content}
 use Rattle.coap_codec.specs.declared.block.Block.{Block}
-use Rattle.coap_codec.specs.declared.options.OptionDefinition.{OptionDefinition}
-use Rattle.coap_codec.specs.Options.{definition_of, counts}
+use Rattle.coap_codec.specs.Recognition.{is_defined, class_of}
 use Rattle.coap_codec.specs.Values.{uint}
-
--- A Block value of size exponent 7 is reserved (RFC 7959, section 2.2).
-abbrev pub is_reserved_block : Entry → Bool
-is_reserved_block o = ((o.number == 23) || (o.number == 27)) && (uint o.value % 8 == 7)
-
--- The option is defined for responses, and its value has a length that it may have (RFC 7252,
--- section 5.4.3).
-abbrev pub fits_row : Entry → OptionDefinition → Bool
-fits_row o r =
-    counts r.in_response
-    && (nat_le r.min_len (length o.value) && nat_le (length o.value) r.max_len)
-
-abbrev pub is_defined : Entry → Bool
-is_defined o =
-    option_map_or (fits_row o) (definition_of o.number) false && not (is_reserved_block o)
 
 abbrev pub IsDefined : ℕ → List ℕ → Type 0
 IsDefined number value = is_defined (record { number = number; value = value }) ≡ true
@@ -31,9 +14,6 @@ option_in number m = find (λ (o : Entry). (o.number == number) && is_defined o)
 
 abbrev pub value_of : ℕ → Content → Option (List ℕ)
 value_of number m = option_map (λ (o : Entry). o.value) (option_in number m)
-
-abbrev pub class_of : Content → ℕ
-class_of m = m.code / 32
 
 -- A code that ends a request: of class 2, 4 or 5, and none of 2.03, 2.31 and 4.08 (RFC 7252,
 -- section 5.9; RFC 7959, section 2.9).

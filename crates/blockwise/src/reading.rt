@@ -2,24 +2,10 @@
 
 ghost use Rattle.std.specs.Prelude.{◌≡◌, ◌≤◌, ◌<◌, ◌^◌, true, IfSome, length};
 ghost use Rattle.std.specs.Option.{option_map};
-ghost use Rattle.coap_codec.specs.Spelling.{entry, content};
-ghost use Rattle.blockwise.specs.Reading.{is_defined, IsDefined, is_final, value_of, block_in, goes_on};
+ghost use Rattle.coap_codec.specs.Spelling.{content};
+ghost use Rattle.blockwise.specs.Reading.{IsDefined, is_final, value_of, block_in, goes_on};
 
-use coap_codec::{Block, Message, Occurrence, Opt, block_of, definition, number, uint_of};
-
-/// Whether the option is defined for responses, with a value that it may have there.
-fn is_defined(o: &Opt) -> bool
-    ensures { result ≡ is_defined (entry o.now) }
-{
-    if o.number == number::BLOCK2 || o.number == number::BLOCK1 {
-        // RFC 7959, section 2.2
-        return o.value.len() <= 3 && uint_of(&o.value) % 8 != 7;
-    }
-    match definition(o.number) {
-        Some(row) => row.in_response != Occurrence::Never && row.allows_len(o.value.len()),
-        None => false,
-    }
-}
+use coap_codec::{Block, Message, block_of, is_defined, number};
 
 /// Whether its code ends a request.
 pub fn is_final(m: &Message) -> bool
