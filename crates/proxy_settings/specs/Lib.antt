@@ -1,0 +1,9 @@
+pub mod Steps
+pub mod Keys
+pub mod Members
+pub mod Firsts
+pub mod Values
+pub mod Rows
+pub mod Written
+pub mod Setups
+pub mod Fronts
