@@ -1,5 +1,5 @@
 -- Answers that aren't taken yet, as plain data.
-use Rattle.std.specs.Prelude.{◌≡◌, ◌⊎◌, ℕ, ◌+◌, List, [], ◌∷◌, ◌++◌, Option, Some, None, filter, not, ◌==◌, slice_get, ⊤}
+use Rattle.std.specs.Prelude.{◌≡◌, ◌⊎◌, ℕ, ◌+◌, List, [], ◌∷◌, Option, Some, None, filter, not, ◌==◌, slice_get, ⊤}
 use Rattle.std.specs.Arc.{arc_value}
 use Rattle.ask_model.specs.declared.cause.Cause.{Cause}
 use Rattle.coap_codec.specs.Spelling.{Content, Spells}

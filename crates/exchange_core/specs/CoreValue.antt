@@ -1,5 +1,5 @@
 -- What contracts see of a core.
-use Rattle.std.specs.Prelude.{◌≡◌, ℕ, ◌^◌, min, max, Bool, true, false, List, [], ◌∷◌, ◌++◌, count_by, Option, Some, None}
+use Rattle.std.specs.Prelude.{◌≡◌, ℕ, ◌^◌, min, max, Bool, true, false, List, [], ◌∷◌, ◌++◌, count_by}
 use Rattle.std.specs.Arc.{arc_value}
 use Rattle.std.specs.List.{All, flat_map}
 use Rattle.uri_map.specs.declared.peer.Peer.{Peer}

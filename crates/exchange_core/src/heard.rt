@@ -1,6 +1,6 @@
 //! What is heard.
 
-ghost use Rattle.std.specs.Prelude.{◌≡◌, ◌<◌, ◌≤◌, ◌^◌, false, length, IfOk, OnOk, OnErr};
+ghost use Rattle.std.specs.Prelude.{◌≡◌, ◌≤◌, ◌^◌, false, length, IfOk, OnOk, OnErr};
 ghost use Rattle.journal_book.specs.Entries.{Hears};
 ghost use Rattle.journal_book.specs.Views.{item_of};
 ghost use Rattle.exchange_core.specs.CoreValue.{written, now};

@@ -1,6 +1,6 @@
 //! A table of a core.
 
-ghost use Rattle.std.specs.Prelude.{◌≡◌, ◌<◌, ◌≤◌, ◌+◌, ◌∷◌, ◌++◌, [], length, remove, slice_set, OnOk, IfOk};
+ghost use Rattle.std.specs.Prelude.{◌≡◌, ◌<◌, ◌∷◌, ◌++◌, [], length, remove, slice_set, OnOk, IfOk};
 
 use std::alloc::{AllocError, Global};
 use std::marker::Model;

@@ -1,6 +1,6 @@
 //! Exchanges that have been open for as long as they may.
 
-ghost use Rattle.std.specs.Prelude.{List, Bool, ◌≡◌, ◌<◌, ◌≤◌, ◌+◌, ◌-◌, ◌^◌, ◌==◌, ◌&&◌, ◌++◌, [], None, true, false, filter, map, min, find, All, length, OnOk, OnErr, IfSome, IsTrue, IsFalse};
+ghost use Rattle.std.specs.Prelude.{List, Bool, ◌≡◌, ◌≤◌, ◌+◌, ◌-◌, ◌^◌, ◌==◌, ◌&&◌, ◌++◌, None, true, false, filter, map, min, find, All, length, OnOk, OnErr, IfSome, IsTrue, IsFalse};
 ghost use Rattle.std.specs.List.{list_any};
 ghost use Rattle.history_laws.specs.declared.kept.Exchange.{Exchange};
 ghost use Rattle.history_laws.specs.Kept.{Held};

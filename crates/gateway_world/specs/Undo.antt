@@ -1,5 +1,5 @@
 -- What connections were at the mark.
-use Rattle.std.specs.Prelude.{◌≡◌, ℕ, ◌==◌, not, List, map, filter, Option, None, false, true, if◌then◌else◌}
+use Rattle.std.specs.Prelude.{ℕ, ◌==◌, not, List, map, filter, Option, None, false, true, if◌then◌else◌}
 use Rattle.ask_model.specs.Views.{Mapping}
 use Rattle.gateway_world.specs.declared.connection.Connection.{Connection}
 use Rattle.gateway_world.specs.declared.table.Table.{Table}

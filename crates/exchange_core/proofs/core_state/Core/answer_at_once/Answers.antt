@@ -1,4 +1,4 @@
-use Rattle.std.proofs.Common.{rules, ◌≡◌, ◌≤◌, Bool, false, ◌+◌, ◌-◌, ◌^◌, min, length, List, refl, sym, ◌∙◌, ap, subst, arith}
+use Rattle.std.proofs.Common.{rules, ◌-◌, ◌^◌, min, length, List, refl, sym, ◌∙◌, ap, subst, arith}
 use Rattle.std.specs.Prelude.{count_by}
 use Rattle.std.specs.Arc.{arc_value}
 use Rattle.ask_model.specs.Requests.{Came}

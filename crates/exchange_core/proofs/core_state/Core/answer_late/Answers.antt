@@ -1,4 +1,4 @@
-use Rattle.std.proofs.Common.{◌≤◌, ℕ, min, map, sym, subst, ap, ◌∙◌, [], refl, arith}
+use Rattle.std.proofs.Common.{◌≤◌, ℕ, map, sym, subst, ap, ◌∙◌}
 use Rattle.history_laws.specs.Kept.{Held}
 use Rattle.exchange_core.specs.CoreValue.{CoreValue, outgoing_of}
 use Rattle.exchange_core.proofs.Ticked.{midway-sealed, kept-late}

@@ -1,12 +1,11 @@
-use Rattle.std.proofs.Common.{rules, map, min, ◌≡◌, ◌≤◌, ℕ, false, ◌+◌, refl, sym, ap, subst, ◌∙◌, arith, length, List, []}
+use Rattle.std.proofs.Common.{rules, map, ◌≡◌, ◌≤◌, ℕ, false, ◌+◌, refl, sym, ap, subst, ◌∙◌, arith, length, List}
 use Rattle.std.specs.Prelude.{count_by, option_map}
 use Rattle.std.specs.Arc.{arc_value}
 use Rattle.std.proofs.lemmas.List.Sums.{count_by-le-length}
 use Rattle.history_laws.specs.declared.kept.Conn.{Conn}
 use Rattle.history_laws.specs.Kept.{Held}
-use Rattle.datagram_verdict.specs.Verdicts.{exchanges_by}
 use Rattle.exchange_core.specs.Room.{is_pending}
-use Rattle.exchange_core.specs.Steps.{outgoing_by, conns_by}
+use Rattle.exchange_core.specs.Steps.{outgoing_by}
 use Rattle.exchange_core.specs.CoreValue.{CoreValue, outgoing_of}
 use Rattle.exchange_core.specs.Hears.{NeverSentTo}
 use Rattle.exchange_core.proofs.Apart.{conns-apart, exchanges-apart}

@@ -1,11 +1,10 @@
-use Rattle.std.proofs.Common.{rules, ◌+◌, min, refl, ◌∙◌, ap, subst, arith, []}
+use Rattle.std.proofs.Common.{rules, refl, ◌∙◌, ap, subst, arith}
 use Rattle.std.specs.Prelude.{count_by}
 use Rattle.exchange_core.specs.Room.{is_pending}
 use Rattle.exchange_core.proofs.Giving.{answerable-opened}
 use Rattle.exchange_core.proofs.Keeping.{kept-open, places-add, room-to-seal}
 use Rattle.exchange_core.proofs.Showing.{connections-are}
 use Rattle.exchange_core.specs.CoreValue.{CoreValue}
-use Rattle.exchange_core.proofs.Lists.{behind}
 use Rattle.exchange_core.specs.Sealing.{HasSeal}
 use Rattle.exchange_core.proofs.Sealed.{has-seal, no-more, none-more, seals-now}
 use Rattle.exchange_core.proofs.core_state.Core.open.Goals as goal

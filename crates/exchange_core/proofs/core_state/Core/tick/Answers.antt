@@ -1,10 +1,10 @@
-use Rattle.std.proofs.Common.{rules, ◌≡◌, inl, inr, ◌+◌, ◌-◌, ◌*◌, ℕ, true, false, max, min, List, length, map, refl, sym, subst, ap, ◌∙◌, arith, []}
+use Rattle.std.proofs.Common.{rules, ◌≡◌, inl, inr, ◌+◌, ◌-◌, ◌*◌, ℕ, true, false, max, List, length, map, refl, sym, subst, ap, ◌∙◌, arith}
 use Rattle.std.specs.Prelude.{count_by}
 use Rattle.journal_book.specs.Entries.{Written}
 use Rattle.history_laws.specs.Kept.{Held}
 use Rattle.exchange_core.specs.Room.{is_pending, takes}
 use Rattle.exchange_core.specs.CoreValue.{CoreValue, now, outgoing_of}
-use Rattle.exchange_core.specs.Ticking.{due_count, takes_tick, going, HasPast}
+use Rattle.exchange_core.specs.Ticking.{due_count, takes_tick, going}
 use Rattle.exchange_core.proofs.Lates.{prompt-timed}
 use Rattle.exchange_core.proofs.Ticked.{due-fewer, midway-passed, kept-ticked, entries-passed, moment-same, ticked-sealed, ticked-ends, room-is, now-early, past-at, early-at}
 use Rattle.exchange_core.proofs.Keeping.{places-add, room-to-seal}
