@@ -1,0 +1,204 @@
+//! Texts that are refused, and what is printed of them.
+
+use crate::telling::told;
+use proxy_settings::{Part, SetupFault, settings_of};
+use std::alloc::Global;
+use std::test::Fail;
+
+/// What stands in front of each text of the proxy's settings below.
+const PORTS: &str = "listen = '1.2.3.4:5'\nudp = '1.2.3.4:6'\n";
+
+const SERVE: [(&str, &str); 26] = [
+    ("colour = 'red'\n", "colour: unknown key"),
+    ("'two words\\n' = 1\n", "two?words\\n: unknown key"),
+    (
+        "\"a\\nkey of more than forty bytes is cut to one line\" = 1\n",
+        "a?key?of?more?than?forty?bytes?is?cut?to..: unknown key",
+    ),
+    (
+        "base = 'hc/'\n",
+        "base: not a path of letters, digits, -._~ and / between two /",
+    ),
+    (
+        "base = '/hc'\n",
+        "base: not a path of letters, digits, -._~ and / between two /",
+    ),
+    (
+        "base = ''\n",
+        "base: not a path of letters, digits, -._~ and / between two /",
+    ),
+    (
+        "base = '/a%20b/'\n",
+        "base: not a path of letters, digits, -._~ and / between two /",
+    ),
+    ("base = 1\n", "base: not a text"),
+    ("literals = 'true'\n", "literals: neither true nor false"),
+    ("loose = 1\n", "loose: neither true nor false"),
+    ("origin = 1\n", "origin: not an array of tables"),
+    (
+        "origin = [{host = 'a', address = '::1'}, 7]\n",
+        "origin: not an array of tables",
+    ),
+    (
+        "[origin]\nhost = 'a'\naddress = '::1'\n",
+        "origin: not an array of tables",
+    ),
+    ("[[origin]]\naddress = '::1'\n", "origin[0].host: missing"),
+    (
+        "[[origin]]\nhost = ''\naddress = '::1'\n",
+        "origin[0].host: not a host's name of 1 to 255 bytes",
+    ),
+    (
+        "[[origin]]\nhost = '192.0.2.1'\naddress = '::1'\n",
+        "origin[0].host: not a host's name of 1 to 255 bytes",
+    ),
+    (
+        "[[origin]]\nhost = 'a'\naddress = '::1'\n[[origin]]\nhost = 'b'\naddress = '::1'\n[[origin]]\nhost = 'a'\naddress = '192.0.2.01'\n",
+        "origin[2].address: not an address",
+    ),
+    (
+        "[[origin]]\nhost = 'a'\naddress = '[::1]'\n",
+        "origin[0].address: not an address",
+    ),
+    (
+        "[[origin]]\nhost = 'a'\naddress = '::ffff:192.0.2.1'\n",
+        "origin[0].address: not an address",
+    ),
+    (
+        "[[origin]]\nhost = 'a'\naddress = '::1'\nport = 1\n",
+        "origin[0].port: unknown key",
+    ),
+    (
+        "[[down]]\nfrom = 65536\nto = 'a/b'\nby = 'octets-hex'\n",
+        "down[0].from: not a number from 0 to 65535",
+    ),
+    (
+        "[[down]]\nfrom = 60\nto = 'text/plain'\nby = 'cbor-json'\n",
+        "down[0].by: not a way between these two",
+    ),
+    (
+        "[[up]]\nfrom = 'application/json'\nto = 60\nby = 'cbor-json'\n",
+        "up[0].by: not a way between these two",
+    ),
+    (
+        "[[down]]\nfrom = 42\nto = 'text'\nby = 'octets-hex'\n",
+        "down[0].to: not a media type",
+    ),
+    (
+        "[[down]]\nfrom = 42\nto = 'a/b'\nby = 'hex'\n",
+        "down[0].by: none of cbor-json, json-cbor and octets-hex",
+    ),
+    (
+        "[[down]]\nfrom = -1\nto = 'a/b'\nby = 'octets-hex'\n",
+        "down[0].from: not a number from 0 to 65535",
+    ),
+];
+
+/// Whole texts, of either part.
+const WHOLE: [(Part, &str, &str); 13] = [
+    (Part::Serve, "", "listen: missing"),
+    (Part::Serve, "listen = '1.2.3.4:5'\n", "udp: missing"),
+    (
+        Part::Serve,
+        "listen = '1.2.3.4:0'\n",
+        "listen: not an address and a port from 1 to 65535",
+    ),
+    (
+        Part::Serve,
+        "listen = '1.2.3.4'\n",
+        "listen: not an address and a port from 1 to 65535",
+    ),
+    (
+        Part::Serve,
+        "listen = 'localhost:80'\n",
+        "listen: not an address and a port from 1 to 65535",
+    ),
+    (Part::Serve, "listen = 8080\n", "listen: not a text"),
+    (
+        Part::Serve,
+        "listen = '1.2.3.4:5'\nlisten = '1.2.3.4:6'\n",
+        "line 2: duplicate key",
+    ),
+    (
+        Part::Serve,
+        "listen '1.2.3.4:5'\n",
+        "line 1: key with no value, expected `=`",
+    ),
+    (
+        Part::Origin,
+        "listen = '1.2.3.4:5'\nudp = '1.2.3.4:6'\n",
+        "udp: unknown key",
+    ),
+    (
+        Part::Origin,
+        "listen = '1.2.3.4:5'\nblock = 7\n",
+        "block: not a number from 0 to 6",
+    ),
+    (
+        Part::Origin,
+        "listen = '1.2.3.4:5'\nblock = 1.0\n",
+        "block: not a whole number",
+    ),
+    (
+        Part::Origin,
+        "listen = '1.2.3.4:5'\n[[resource]]\npath = 'a'\nkind = 'bell'\n",
+        "resource[0].kind: neither cell nor counter",
+    ),
+    (
+        Part::Origin,
+        "listen = '1.2.3.4:5'\n[[resource]]\npath = 'a'\nkind = 'cell'\nmax_age = 4294967296\n",
+        "resource[0].max_age: not a number from 0 to 4294967295",
+    ),
+];
+
+#[test]
+fn refused(rt: HostRuntime) -> Result<(), Fail> {
+    let alloc = rt.alloc();
+    for (rest, line) in SERVE {
+        let text = format!(in alloc; "{PORTS}{rest}")?;
+        assert_eq!(rt; told(alloc, Part::Serve, text.as_str())?.as_str(), line);
+    }
+    Ok(())
+}
+
+#[test]
+fn refused_wholly(rt: HostRuntime) -> Result<(), Fail> {
+    for (part, text, line) in WHOLE {
+        assert_eq!(rt; told(rt.alloc(), part, text)?.as_str(), line);
+    }
+    Ok(())
+}
+
+/// A cell that holds so many bytes.
+fn cell(alloc: Global, len: usize) -> Result<String, Fail> {
+    let mut text = String::from_str(
+        alloc,
+        "listen = '1.2.3.4:5'\nresource = [{path = 'a', kind = 'cell', state = '",
+    )?;
+    for _ in 0..len {
+        text.push('x')?;
+    }
+    text.push_str("'}]\n")?;
+    Ok(text)
+}
+
+#[test]
+fn states_have_an_end(rt: HostRuntime) -> Result<(), Fail> {
+    let alloc = rt.alloc();
+    assert!(rt; settings_of(alloc, Part::Origin, cell(alloc, 65536)?.as_str()).is_ok());
+    assert_eq!(rt;
+        told(alloc, Part::Origin, cell(alloc, 65537)?.as_str())?.as_str(),
+        "resource[0].state: above 65,536 bytes"
+    );
+    Ok(())
+}
+
+#[test]
+fn numbers(rt: HostRuntime) -> Result<(), Fail> {
+    let fault = settings_of(rt.alloc(), Part::Serve, "")
+        .err()
+        .ok_or("taken")?;
+    assert_eq!(rt; fault.number(), 1);
+    assert_eq!(rt; SetupFault::Memory.number(), 2);
+    Ok(())
+}
