@@ -5,8 +5,8 @@ use Rattle.std.specs.Bool.{Decides}
 use Rattle.std.proofs.lemmas.Bool.Decides.{Decides-eqb}
 use Rattle.coap_codec.specs.Spelling.{Content}
 use Rattle.coap_codec.specs.declared.block.Block.{Block}
-use Rattle.coap_codec.specs.Recognition.{class_of}
-use Rattle.blockwise.specs.Reading.{block_in, is_final, goes_on}
+use Rattle.coap_codec.specs.Recognition.{class_of, is_final}
+use Rattle.blockwise.specs.Reading.{block_in, goes_on}
 use Rattle.blockwise.specs.Uploads.{UploadValue, is_last, next_num, is_number_of, next_of, if_final, answer_to, Names, Continues, Responds, outcome_by}
 use Rattle.blockwise.specs.Joins.{outcome, AreAnswers}
 use Rattle.blockwise.specs.declared.upload.Answered.{Answered}

@@ -3,7 +3,7 @@ use Rattle.std.specs.Prelude.{ℕ, Bool, true, false, ◌&&◌, List, Option, So
 use Rattle.std.specs.Str.{bytes_eq}
 use Rattle.coap_codec.specs.Spelling.{Content}
 use Rattle.coap_codec.specs.Values.{uint}
-use Rattle.blockwise.specs.Reading.{value_of}
+use Rattle.coap_codec.specs.Recognition.{value_of}
 use Rattle.blockwise.specs.declared.representation.EntityTag.{EntityTag}
 use Rattle.blockwise.specs.declared.representation.Representation.{Representation}
 

@@ -2,8 +2,8 @@
 use Rattle.std.specs.Prelude.{◌<◌, ◌≤◌, ◌≡◌, ◌≢◌, ◌⊎◌, ℕ, ◌+◌, ◌*◌, ◌/◌, Bool, true, false, not, ◌&&◌, List, take, drop, Option, Some, None, ◌==◌, nat_le, nat_lt, if◌then◌else◌}
 use Rattle.coap_codec.specs.Spelling.{Content}
 use Rattle.coap_codec.specs.declared.block.Block.{Block}
-use Rattle.coap_codec.specs.Recognition.{class_of}
-use Rattle.blockwise.specs.Reading.{block_in, size_of, is_final, goes_on}
+use Rattle.coap_codec.specs.Recognition.{class_of, is_final}
+use Rattle.blockwise.specs.Reading.{block_in, size_of, goes_on}
 use Rattle.blockwise.specs.declared.upload.Answered.{Answered}
 use Rattle.blockwise.specs.declared.upload.Answered.TheVariants.{Next, Last, Wrong}
 

@@ -3,7 +3,8 @@
 ghost use Rattle.std.specs.Prelude.{◌≡◌, ◌≤◌, ◌<◌, ◌^◌, true, IfSome, length};
 ghost use Rattle.std.specs.Option.{option_map};
 ghost use Rattle.coap_codec.specs.Spelling.{content};
-ghost use Rattle.blockwise.specs.Reading.{IsDefined, is_final, value_of, block_in, goes_on};
+ghost use Rattle.coap_codec.specs.Recognition.{is_final, value_of};
+ghost use Rattle.blockwise.specs.Reading.{IsDefined, block_in, goes_on};
 
 use coap_codec::{Block, Message, block_of, is_defined, number};
 

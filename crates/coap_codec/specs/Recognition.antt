@@ -1,5 +1,5 @@
 -- Which options of a response are recognised, and what those that aren't allow.
-use Rattle.std.specs.Prelude.{ℕ, ◌/◌, ◌%◌, Bool, true, false, not, ◌&&◌, ◌||◌, List, [], ◌∷◌, length, is_some, ◌==◌, nat_le, if◌then◌else◌}
+use Rattle.std.specs.Prelude.{ℕ, ◌/◌, ◌%◌, Bool, true, false, not, ◌&&◌, ◌||◌, List, [], ◌∷◌, length, map, filter, find, Option, option_map, is_some, ◌==◌, nat_le, if◌then◌else◌}
 use Rattle.std.specs.List.{list_any, list_all}
 use Rattle.std.specs.Option.{option_map_or}
 use Rattle.coap_codec.specs.Spelling.{Entry, Content}
@@ -19,6 +19,17 @@ fits_row o r = counts r.in_response && (nat_le r.min_len (length o.value) && nat
 
 abbrev pub is_defined : Entry → Bool
 is_defined o = option_map_or (fits_row o) (definition_of o.number) false && not (is_reserved_block o)
+
+-- the values of the options with this number that are defined, in order, and the first of them
+abbrev pub values_of : ℕ → Content → List (List ℕ)
+values_of number m =
+    map (λ (o : Entry). o.value)
+    (filter (λ (o : Entry). (o.number == number) && is_defined o) m.options)
+
+abbrev pub value_of : ℕ → Content → Option (List ℕ)
+value_of number m =
+    option_map (λ (o : Entry). o.value)
+    (find (λ (o : Entry). (o.number == number) && is_defined o) m.options)
 
 abbrev pub is_repeated : Occurrence → Bool
 is_repeated Repeated = true
@@ -59,3 +70,11 @@ class_of m = m.code / 32
 -- 4.3, 5.4.1).
 abbrev pub is_rejected : Content → Bool
 is_rejected m = (class_of m == 1) || ((class_of m == 6) || ((class_of m == 7) || not (is_processable m.options)))
+
+-- A code that ends a request: of class 2, 4 or 5, and none of 2.03, which only a request with an
+-- ETag asks for, and of 2.31 and 4.08, which answer blocks (RFC 7252 sections 5.9 and 5.10.6, RFC
+-- 7959 section 2.9).
+abbrev pub is_final : Content → Bool
+is_final m =
+    ((class_of m == 2) || ((class_of m == 4) || (class_of m == 5)))
+    && (not (m.code == 67) && (not (m.code == 95) && not (m.code == 136)))

@@ -2,8 +2,8 @@
 
 ghost use Rattle.std.specs.Prelude.{◌≡◌, true, length, IfSome, option_map};
 ghost use Rattle.coap_codec.specs.Spelling.{content};
-ghost use Rattle.coap_codec.specs.Recognition.{is_defined};
-ghost use Rattle.history_laws.specs.Responses.{is_final, value_of, is_in_one_piece};
+ghost use Rattle.coap_codec.specs.Recognition.{is_defined, is_final, value_of};
+ghost use Rattle.history_laws.specs.Responses.{is_only_block, answers_all, is_in_one_piece};
 
 use coap_codec::{Message, is_defined, number, uint_of};
 
@@ -28,15 +28,34 @@ pub fn value_of(m: &Message, number: u16) -> Option<&[u8]>
     None
 }
 
-/// Whether it gives all in one piece: no Block2, or the first block, which no other follows, with no
-/// more bytes than it has (RFC 7959 sections 2.2 and 2.4).
+/// Whether the value of a Block option names the first block, which no other follows (RFC 7959
+/// section 2.2).
+fn is_only_block(block: u32) -> bool
+    ensures { result ≡ is_only_block block }
+{
+    block / 16 == 0 && block / 8 % 2 == 0
+}
+
+/// Whether it answers all that a message without Block1 carried: no Block1, or the only block (RFC
+/// 7959 sections 2.3 and 2.9.3).
+pub fn answers_all(m: &Message) -> bool
+    ensures { result ≡ answers_all (value_of 27 (content m.now)) }
+{
+    match value_of(m, number::BLOCK1) {
+        Some(value) => is_only_block(uint_of(value)),
+        None => true,
+    }
+}
+
+/// Whether it gives all in one piece: no Block2, or the only block, with no more bytes than it
+/// has (RFC 7959 sections 2.2 and 2.4).
 pub fn is_in_one_piece(m: &Message) -> bool
     ensures { result ≡ is_in_one_piece (value_of 23 (content m.now)) (length m.now.payload.items) }
 {
     match value_of(m, number::BLOCK2) {
         Some(value) => {
             let block = uint_of(value);
-            block / 16 == 0 && block / 8 % 2 == 0 && m.payload.len() <= 1 << (block % 8 + 4)
+            is_only_block(block) && m.payload.len() <= 1 << (block % 8 + 4)
         }
         None => true,
     }

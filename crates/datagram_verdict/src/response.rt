@@ -4,10 +4,11 @@ ghost use Rattle.std.specs.Prelude.{◌≡◌, [], ◌∷◌, IfOk, Some, None, 
 ghost use Rattle.coap_codec.specs.Spelling.{content};
 ghost use Rattle.coap_codec.specs.Values.{uint};
 ghost use Rattle.ask_model.specs.Requests.{CoapRequest};
-ghost use Rattle.history_laws.specs.Responses.{value_of, values_of, whole_of, response_of as said_by};
+ghost use Rattle.coap_codec.specs.Recognition.{value_of, values_of};
+ghost use Rattle.history_laws.specs.Responses.{whole_of, response_of as said_by};
 ghost use Rattle.datagram_verdict.specs.Findings.{response_of};
 
-use crate::reading::{is_final, is_in_one_piece, value_of};
+use crate::reading::{answers_all, is_final, is_in_one_piece, value_of};
 use ask_model::Bytes;
 use coap_codec::{Message, is_defined, is_forwardable, number, uint_of};
 use std::alloc::{AllocError, Global};
@@ -72,7 +73,7 @@ pub fn is_whole(m: &Message) -> bool
     ensures decides { (q : CoapRequest) → result ≡ is_some (whole_of q (content m.now ∷ [])) }
     ensures whole { (q : CoapRequest) → whole_of q (content m.now ∷ []) ≡ (if result then Some (said_by (content m.now)) else None) }
 {
-    is_forwardable(&m.options) && is_final(m) && is_in_one_piece(m)
+    is_forwardable(&m.options) && is_final(m) && answers_all(m) && is_in_one_piece(m)
 }
 
 /// Its Content-Format.

@@ -2,7 +2,7 @@
 use Rattle.std.proofs.Common.{◌≡◌, ℕ, zero, suc, ◌+◌, ◌<◌, true, false, List, [], ◌∷◌, length, take, drop, get_or, Option, Some, refl, sym, ap, ◌∙◌, arith, add-one}
 use Rattle.coap_codec.specs.declared.opt.Opt.{Opt}
 use Rattle.coap_codec.specs.Spelling.{Entry, entry, entries}
-use Rattle.history_check.specs.Mirrors.{is_block2, value_in}
+use Rattle.history_check.specs.Mirrors.{is_defined_as, value_in}
 use Rattle.history_check.proofs.Building.{mapped-more}
 
 entries-next : (os : List Opt) (i : ℕ) (o d : Opt) → i < length os → o ≡ get_or os i d → entries (drop i os) ≡ entry o ∷ entries (drop (suc i) os)
@@ -10,23 +10,23 @@ entries-next [] i o d lt e = absurd (omega arith)
 entries-next (x ∷ xs) zero o d lt e = ap (λ (y : Opt). entry y ∷ entries xs) (sym e)
 entries-next (x ∷ xs) (suc i) o d lt e = entries-next xs i o d (omega arith) e
 
--- an option that is no Block2 is passed over
-pub value-later : (os : List Opt) (i : ℕ) (o : Opt) (total : Option (List ℕ)) → i < length os → o ≡ get_or os i o → is_block2 (entry o) ≡ false
-    → value_in 23 (entries (drop i os)) ≡ total → value_in 23 (entries (drop (i + 1) os)) ≡ total
-value-later os i o total lt e no_ h =
+-- another option is passed over
+pub value-later : (number : ℕ) (os : List Opt) (i : ℕ) (o : Opt) (total : Option (List ℕ)) → i < length os → o ≡ get_or os i o → is_defined_as number (entry o) ≡ false
+    → value_in number (entries (drop i os)) ≡ total → value_in number (entries (drop (i + 1) os)) ≡ total
+value-later number os i o total lt e no_ h =
     let front = entries-next os i o o lt e in
     rw add-one (later (entry o) (entries (drop (suc i) os)) total no_ (rw front at h))
   where
-    later : (x : Entry) (xs : List Entry) (total : Option (List ℕ)) → is_block2 x ≡ false → value_in 23 (x ∷ xs) ≡ total → value_in 23 xs ≡ total
+    later : (x : Entry) (xs : List Entry) (total : Option (List ℕ)) → is_defined_as number x ≡ false → value_in number (x ∷ xs) ≡ total → value_in number xs ≡ total
     later x xs total no_ h = rw no_ at h
 
-pub value-here : (os : List Opt) (i : ℕ) (o : Opt) (total : Option (List ℕ)) → i < length os → o ≡ get_or os i o → is_block2 (entry o) ≡ true
-    → value_in 23 (entries (drop i os)) ≡ total → Some o.value.items ≡ total
-value-here os i o total lt e is h =
+pub value-here : (number : ℕ) (os : List Opt) (i : ℕ) (o : Opt) (total : Option (List ℕ)) → i < length os → o ≡ get_or os i o → is_defined_as number (entry o) ≡ true
+    → value_in number (entries (drop i os)) ≡ total → Some o.value.items ≡ total
+value-here number os i o total lt e is h =
     let front = entries-next os i o o lt e in
     here (entry o) (entries (drop (suc i) os)) total is (rw front at h)
   where
-    here : (x : Entry) (xs : List Entry) (total : Option (List ℕ)) → is_block2 x ≡ true → value_in 23 (x ∷ xs) ≡ total → Some x.value ≡ total
+    here : (x : Entry) (xs : List Entry) (total : Option (List ℕ)) → is_defined_as number x ≡ true → value_in number (x ∷ xs) ≡ total → Some x.value ≡ total
     here x xs total is h = rw is at h
 
 entries-at : (xs ys : List Opt) (i : ℕ) (d f : Opt) → entries xs ≡ entries ys → i < length xs → i < length ys → entry (get_or xs i d) ≡ entry (get_or ys i f)

@@ -4,7 +4,7 @@ use Rattle.std.specs.Prelude.{◌≡◌, ℕ, ◌+◌, ◌-◌, ◌≤◌, Bool,
 use Rattle.std.specs.Str.{bytes_eq}
 use Rattle.coap_codec.specs.declared.message.MsgType.{MsgType}
 use Rattle.coap_codec.specs.Spelling.{Entry, Content, Spells}
-use Rattle.coap_codec.specs.Recognition.{is_defined, is_forwardable}
+use Rattle.coap_codec.specs.Recognition.{is_defined}
 use Rattle.uri_map.specs.declared.peer.Peer.{Peer}
 use Rattle.ask_model.specs.declared.cause.Cause.{Cause}
 use Rattle.ask_model.specs.Requests.{CoapRequest, Sense, Requests, Refuses, Ask, same_peer, request_message}
@@ -25,15 +25,13 @@ use Rattle.history_check.specs.declared.exchange.End.{End}
 use Rattle.history_check.specs.declared.confirming.Confirmation.{Confirmation}
 use Rattle.coap_codec.specs.Spelling.{content}
 
-abbrev pub is_whole : Content → Bool
-is_whole m = is_forwardable m.options && (R.is_final m && R.is_in_one_piece (R.value_of 23 m) (length m.payload))
+-- it is the option with this number, defined
+abbrev pub is_defined_as : ℕ → Entry → Bool
+is_defined_as number o = (o.number == number) && is_defined o
 
--- the value of the first of the options with this number that is defined
-abbrev pub is_block2 : Entry → Bool
-is_block2 o = (o.number == 23) && is_defined o
-
+-- the value of the first of these
 abbrev pub value_in : ℕ → List Entry → Option (List ℕ)
-value_in number os = option_map (λ (o : Entry). o.value) (find (λ (o : Entry). (o.number == number) && is_defined o) os)
+value_in number os = option_map (λ (o : Entry). o.value) (find (is_defined_as number) os)
 
 -- the entry of a reading, as the definitions take it apart
 abbrev pub is_like_step : ℕ → Peer → ℕ → Noted → Bool

@@ -1,31 +1,33 @@
 -- When the replies to an exchange are a whole response, and which.
-use Rattle.std.specs.Prelude.{ℕ, ◌+◌, ◌^◌, ◌/◌, ◌%◌, Bool, true, not, ◌&&◌, ◌||◌, List, [], ◌∷◌, length, map, filter, Option, Some, None, option_map, find, ◌==◌, nat_le, if◌then◌else◌}
-use Rattle.coap_codec.specs.Spelling.{Entry, Content}
-use Rattle.coap_codec.specs.Recognition.{is_defined, is_forwardable, class_of}
+use Rattle.std.specs.Prelude.{ℕ, ◌+◌, ◌^◌, ◌/◌, ◌%◌, Bool, true, ◌&&◌, List, [], ◌∷◌, length, Option, Some, None, option_map, ◌==◌, nat_le, if◌then◌else◌}
+use Rattle.coap_codec.specs.Spelling.{Content}
+use Rattle.coap_codec.specs.Recognition.{is_final, is_forwardable, value_of, values_of}
 use Rattle.coap_codec.specs.Values.{uint}
 use Rattle.ask_model.specs.Requests.{CoapRequest}
 
--- A code that ends a request: of class 2, 4 or 5, and none of 2.03, 2.31 and 4.08, which no request of the
--- proxy's asks for in its place (RFC 7252 section 5.9, RFC 7959 section 2.9).
-abbrev pub is_final : Content → Bool
-is_final m =
-    ((class_of m == 2) || ((class_of m == 4) || (class_of m == 5)))
-    && (not (m.code == 67) && (not (m.code == 95) && not (m.code == 136)))
+-- the value of a Block option names the first block, which no other follows (RFC 7959 section 2.2)
+abbrev pub is_only_block : ℕ → Bool
+is_only_block block = (block / 16 == 0) && (block / 8 % 2 == 0)
 
--- the value of the first option with this number that is defined
-abbrev pub value_of : ℕ → Content → Option (List ℕ)
-value_of number m = option_map (λ (o : Entry). o.value) (find (λ (o : Entry). (o.number == number) && is_defined o) m.options)
-
--- the values of the options with this number that are defined, in order
-abbrev pub values_of : ℕ → Content → List (List ℕ)
-values_of number m = map (λ (o : Entry). o.value) (filter (λ (o : Entry). (o.number == number) && is_defined o) m.options)
-
--- A reply gives all in one piece if it bears no Block2, or that of the first block, which no other follows, and
--- no more bytes than the block has (RFC 7959 sections 2.2, 2.4).
+-- A reply gives all in one piece if it bears no Block2, or that of the only block, and no more
+-- bytes than the block has (RFC 7959 sections 2.2, 2.4).
 abbrev pub is_in_one_piece : Option (List ℕ) → ℕ → Bool
 is_in_one_piece None len = true
-is_in_one_piece (Some value) len =
-    (uint value / 16 == 0) && ((uint value / 8 % 2 == 0) && nat_le len (2 ^ (uint value % 8 + 4)))
+is_in_one_piece (Some value) len = is_only_block (uint value) && nat_le len (2 ^ (uint value % 8 + 4))
+
+-- A reply answers all that a message without Block1 carried if it bears no Block1, or that of the
+-- only block, whose size may be a hint: another number acknowledges a block that wasn't sent, and
+-- where more is set, the code isn't the final one (RFC 7959 sections 2.3, 2.9.3).
+abbrev pub answers_all : Option (List ℕ) → Bool
+answers_all None = true
+answers_all (Some value) = is_only_block (uint value)
+
+-- the reply is a whole response to a message without Block1
+abbrev pub is_whole : Content → Bool
+is_whole m =
+    is_forwardable m.options
+    && (is_final m
+    && (answers_all (value_of 27 m) && is_in_one_piece (value_of 23 m) (length m.payload)))
 
 -- what a response says (RFC 7252 section 5.10)
 pub record Response : Type 0 where
@@ -60,9 +62,9 @@ pub data Ending : Type 0 where
   -- it has been open for as long as it may
   TimedOut : Ending
 
--- The whole response that the replies to a request are, in order: of one message, the reply in one piece.
+-- The whole response that the replies to a request are, in order: of one message, its reply.
 abbrev pub whole_of : CoapRequest → List Content → Option Response
-whole_of q (m ∷ []) = if is_forwardable m.options && (is_final m && is_in_one_piece (value_of 23 m) (length m.payload)) then Some (response_of m) else None
+whole_of q (m ∷ []) = if is_whole m then Some (response_of m) else None
 whole_of q _ = None
 
 -- how the exchange ends by the last of these replies, if it does

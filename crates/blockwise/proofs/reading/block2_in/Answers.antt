@@ -1,7 +1,8 @@
 use Rattle.std.proofs.Common.{rules, ◌≡◌, ◌≤◌, ◌<◌, ◌%◌, ◌∙◌, ap, length, Some, option_map}
 use Rattle.coap_codec.specs.Spelling.{content}
 use Rattle.coap_codec.specs.Values.{uint}
-use Rattle.blockwise.specs.Reading.{value_of, block_by}
+use Rattle.coap_codec.specs.Recognition.{value_of}
+use Rattle.blockwise.specs.Reading.{block_by}
 use Rattle.blockwise.proofs.Blocks.{block_found}
 use Rattle.blockwise.proofs.reading.block2_in.Goals as goal
 

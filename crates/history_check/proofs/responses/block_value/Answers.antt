@@ -1,6 +1,0 @@
-use Rattle.std.proofs.Common.{sym, ◌∙◌}
-use Rattle.history_check.proofs.StrayOptions.{value-later}
-use Rattle.history_check.proofs.responses.block_value.Goals as goal
-
-pub each-preserved : goal.each-preserved
-each-preserved c = value-later c.args.options.now c.each.option-index c.option-item.result _ c.each-test.true c.option-item.is (sym c.is_block2.ensures ∙ c.if-is_block2.false) c.each.invariant
