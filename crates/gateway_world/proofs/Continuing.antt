@@ -22,7 +22,7 @@ use Rattle.gateway_world.specs.declared.input.Output.{Output}
 use Rattle.gateway_world.specs.declared.input.Output.TheVariants as Out
 use Rattle.gateway_world.specs.declared.connection.Connection.{Connection}
 use Rattle.gateway_world.specs.Inboxes.{Unasked}
-use Rattle.gateway_world.specs.Means.{MeansTold, Means}
+use Rattle.http_mapping.specs.Means.{MeansTold, Means}
 use Rattle.gateway_world.specs.Steps.{continue_text}
 use Rattle.gateway_world.specs.Rows.{Row, row_of, row_at, AreRising, IsRow, IsOpen, IsFirstAnswered}
 use Rattle.gateway_world.specs.Asks.{Inlet, inlet_of, inbox_at, ReadsNoMore, IsOver, asked_on}

@@ -20,8 +20,8 @@ use Rattle.gateway_world.specs.declared.input.Happening.{Happening}
 use Rattle.gateway_world.specs.declared.input.Happening.TheVariants as H
 use Rattle.gateway_world.specs.declared.connection.Connection.{Connection}
 use Rattle.gateway_world.specs.Inboxes.{Unasked}
-use Rattle.gateway_world.specs.Means.{closes as closes_came}
-use Rattle.gateway_world.specs.Limits.{limited}
+use Rattle.http_mapping.specs.Means.{closes as closes_came}
+use Rattle.http_mapping.specs.Limits.{limited}
 use Rattle.gateway_world.specs.Rows.{Row, row_of, is_request}
 use Rattle.gateway_world.specs.Asks.{Inlet, inlet_of, inbox_at, StandsFor, IsOver, asked_by, asked_on, came_at, AsksFirst, AsksNothing, OpensNot, bytes_on, Heeds}
 use Rattle.gateway_world.specs.AskSteps.{IsOneAsked, AsksOn, AsksInOrder, LeavesInboxes}

@@ -18,7 +18,7 @@ use Rattle.gateway_world.specs.declared.input.Happening.{Happening}
 use Rattle.gateway_world.specs.declared.input.Happening.TheVariants as H
 use Rattle.gateway_world.specs.declared.input.Input.{Input}
 use Rattle.gateway_world.specs.Closing.{shut_in, closed_if}
-use Rattle.gateway_world.specs.Means.{closes}
+use Rattle.http_mapping.specs.Means.{closes}
 use Rattle.gateway_world.specs.Rows.{Row, IsRow, IsServed, Serves}
 use Rattle.gateway_world.specs.Shutting.{HasLastAnswer, MayShut, ShutsFor, IsDone, ClosesFor, ClosedByClient, ShutsInRun}
 use Rattle.exchange_core.specs.CoreValue.{Grows}

@@ -10,7 +10,7 @@ use Rattle.gateway_world.specs.declared.input.Happening.TheVariants as H
 use Rattle.gateway_world.specs.declared.connection.Connection.{Connection}
 use Rattle.gateway_world.specs.declared.table.Table.{Table}
 use Rattle.gateway_world.specs.Inboxes.{Unasked, is_full}
-use Rattle.gateway_world.specs.Limits.{limited}
+use Rattle.http_mapping.specs.Limits.{limited}
 use Rattle.gateway_world.specs.Rows.{open_of}
 
 -- an open connection, and what of its bytes isn't asked yet

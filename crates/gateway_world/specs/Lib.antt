@@ -8,11 +8,8 @@ pub mod Engines
 pub mod Entering
 pub mod Faults
 pub mod Inboxes
-pub mod Limits
-pub mod Located
 pub mod Making
 pub mod Marks
-pub mod Means
 pub mod Prompt
 pub mod Readers
 pub mod Rows

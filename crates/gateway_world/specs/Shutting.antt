@@ -9,7 +9,7 @@ use Rattle.exchange_core.specs.Sealing.{HasSeal}
 use Rattle.gateway_world.specs.declared.input.Happening.{Happening}
 use Rattle.gateway_world.specs.declared.input.Happening.TheVariants as H
 use Rattle.gateway_world.specs.declared.input.Input.{Input}
-use Rattle.gateway_world.specs.Means.{closes}
+use Rattle.http_mapping.specs.Means.{closes}
 use Rattle.gateway_world.specs.Closing.{shut_in}
 
 -- The connection asked something behind which it is closed, and was answered.

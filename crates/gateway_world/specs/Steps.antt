@@ -7,7 +7,7 @@ use Rattle.exchange_core.specs.Answering.{Given, IsGiven}
 use Rattle.exchange_core.specs.CoreValue.{CoreValue, Outgoing, outgoing_of, sendings}
 use Rattle.gateway_world.specs.declared.input.Output.{Output}
 use Rattle.gateway_world.specs.declared.input.Output.TheVariants as Out
-use Rattle.gateway_world.specs.Means.{Means}
+use Rattle.http_mapping.specs.Means.{Means}
 
 -- the datagrams among outputs
 abbrev pub datagram_in : Output → List Outgoing

@@ -18,16 +18,15 @@ ghost use Rattle.gateway_world.specs.Steps.{Advances};
 ghost use Rattle.gateway_world.specs.Rows.{Settled, IsFirstAnswered, IsRow, rows_of, without_row};
 ghost use Rattle.gateway_world.specs.Undo.{shown, shown_at_mark};
 
-use crate::fields::closes;
 use crate::inbox::{Inbox, Next};
 use crate::input::{Happening, Output};
-use crate::mapping::map_request;
 use crate::stepping::{When, ask_in, close_in, hear_in, open_in, send_from, tick_in};
 use crate::table::Table;
 use crate::telling::{tell_answer, tell_closed, tell_continue, tell_turned};
 use ask_model::Settings;
 use exchange_core::{AskFault, Core, Snapshot};
 use http_edge::{Incoming, Memory};
+use http_mapping::{closes, map_request};
 use std::alloc::Global;
 use std::sync::Arc;
 use transformers::Relation;

@@ -2,9 +2,9 @@
 
 ghost use Rattle.std.specs.Prelude.{ℕ, List, ◌≡◌, ◌<◌, ◌+◌, ◌++◌, true, false, length, IfOk, OnOk, OnErr};
 
-use crate::fields::closes;
 use crate::reader::Reader;
 use http_edge::{Incoming, Memory};
+use http_mapping::closes;
 use std::alloc::Global;
 use std::marker::Model;
 

@@ -8,13 +8,9 @@
 mod connection;
 mod engine;
 mod fault;
-mod fields;
 mod inbox;
 mod input;
-mod location;
-mod mapping;
 mod reader;
-mod rendering;
 mod run;
 mod state;
 mod stepping;
@@ -24,8 +20,7 @@ mod world;
 
 pub use fault::WorldFault;
 pub use http_edge::Memory;
+pub use http_mapping::{map_request, render};
 pub use input::{Datagram, Happening, Input, Output};
-pub use mapping::map_request;
-pub use rendering::render;
 pub use run::Run;
 pub use state::World;

@@ -2,8 +2,8 @@
 
 ghost use Rattle.std.specs.Prelude.{◌≡◌, ◌≤◌, ◌<◌, ◌+◌, ◌-◌, ◌++◌, ◌||◌, ◌↔◌, [], true, false, take, drop, vec_len, IsTrue, IfOk, IfSome, OnOk, OnErr, Ok, None};
 
-use crate::fields::closes;
 use http_edge::{Edge, Incoming, Memory};
+use http_mapping::closes;
 use std::alloc::Global;
 
 /// The bytes that came in, as far as they weren't let go, and the edge that reads them.

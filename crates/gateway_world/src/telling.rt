@@ -8,9 +8,9 @@ ghost use Rattle.gateway_world.specs.Closing.{closed_in};
 ghost use Rattle.gateway_world.specs.Continuing.{interims, GivesFinal};
 
 use crate::input::Output;
-use crate::rendering::render;
 use exchange_core::{Answer, OpenFault};
 use http_edge::{Memory, answer_bytes};
+use http_mapping::render;
 use std::alloc::Global;
 use transformers::Relation;
 

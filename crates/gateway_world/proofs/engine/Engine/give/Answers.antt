@@ -13,7 +13,7 @@ use Rattle.exchange_core.specs.CoreValue.{connections}
 use Rattle.gateway_world.proofs.Shutting.{last-answered}
 use Rattle.gateway_world.proofs.Working.{works-none, works-out, works-call}
 use Rattle.ask_model.specs.Views.{Mapping}
-use Rattle.gateway_world.specs.Means.{closes}
+use Rattle.http_mapping.specs.Means.{closes}
 use Rattle.gateway_world.proofs.engine.Engine.give.Goals as goal
 
 pub returns-in_default-clause-works : goal.returns-in_default-clause-works

@@ -1,0 +1,4 @@
+pub mod Bodies
+pub mod Faults
+pub mod Names
+pub mod Rules

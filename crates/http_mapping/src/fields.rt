@@ -1,0 +1,244 @@
+//! The fields of answers, each added where its rule says so.
+
+ghost use Rattle.std.specs.Prelude.{◌≡◌, ◌++◌, map, codes, decimal, string_bytes, OnOk};
+ghost use Rattle.std.specs.Str.{is_utf8};
+ghost use Rattle.http_mapping.specs.Means.{pair_of, only, content_type, cache_control, entity_tag, is_read, caching, value_if, retry_after, connection, content_length, closes as closing, seconds_left as left_of};
+ghost use Rattle.ask_model.specs.Causes.{cause_text};
+ghost use Rattle.ask_model.specs.Views.{came_of};
+ghost use Rattle.datagram_verdict.specs.Findings.{response_of};
+ghost use Rattle.http_mapping.specs.Located.{located};
+
+use crate::location::location_of;
+use ask_model::{Cause, Mapped};
+use code_map::{Method, Status, method_of};
+use datagram_verdict::Response;
+use http_edge::{Field, Incoming, Memory};
+use media_map::media_of;
+use std::alloc::Global;
+use std::str;
+use transformers::Relation;
+
+/// The code 2.05, Content.
+const CONTENT: u8 = 69;
+
+/// The code 5.03, Service Unavailable.
+const UNAVAILABLE: u8 = 163;
+
+/// The least code of an error, 4.00.
+const ERROR: u8 = 128;
+
+/// The content format of UTF-8 text.
+const TEXT: u16 = 0;
+
+/// The status that has no body.
+const NO_CONTENT: u16 = 204;
+
+/// The seconds that a response is fresh where it doesn't say (RFC 7252, section 5.10.5).
+const DEFAULT_MAX_AGE: u32 = 60;
+
+/// Puts a field last.
+fn add(fields: &mut Vec<Field>, name: &'static str, value: String) -> Result<(), Memory>
+    ensures { OnOk result (map pair_of fields.new.items ≡ map pair_of fields.old.items ++ only name.now (string_bytes value)) }
+{
+    let value = value.into_bytes();
+    fields.push(Field { name, value })?;
+    Ok(())
+}
+
+/// Puts a field with a fixed text last.
+fn add_text(
+    alloc: Global,
+    fields: &mut Vec<Field>,
+    name: &'static str,
+    text: &str,
+) -> Result<(), Memory>
+    ensures { OnOk result (map pair_of fields.new.items ≡ map pair_of fields.old.items ++ only name.now text.now) }
+{
+    add(fields, name, String::from_str(alloc, text)?)
+}
+
+/// Names the cause of an answer of the proxy's own, and the entry that shows it.
+pub fn add_cause(
+    alloc: Global,
+    fields: &mut Vec<Field>,
+    cause: Cause,
+    number: u32,
+) -> Result<(), Memory>
+    ensures { OnOk result (map pair_of fields.new.items ≡ map pair_of fields.old.items ++ only (codes "HC-Cause") (cause_text cause ++ codes " " ++ decimal number)) }
+{
+    add(fields, "HC-Cause", format!(in alloc; "{cause} {number}")?)
+}
+
+/// The media type of the body.
+pub fn add_content_type(
+    alloc: Global,
+    fields: &mut Vec<Field>,
+    response: &Response,
+) -> Result<(), Memory>
+    ensures { OnOk result (map pair_of fields.new.items ≡ map pair_of fields.old.items ++ content_type (response_of response.now)) }
+{
+    let body = response.body.as_slice();
+    if body.is_empty() {
+        return Ok(());
+    }
+    match response.format {
+        Some(format) => {
+            let media = media_of(alloc, format)?;
+            add_text(alloc, fields, "Content-Type", media.as_str())
+        }
+        None if response.code >= ERROR && is_text(body) => {
+            let media = media_of(alloc, TEXT)?;
+            add_text(alloc, fields, "Content-Type", media.as_str())
+        }
+        None => Ok(()),
+    }
+}
+
+/// Whether the bytes are UTF-8.
+pub fn is_text(bytes: &[u8]) -> bool
+    ensures { result ≡ is_utf8 bytes.now }
+{
+    match str::from_utf8(bytes) {
+        Ok(_) => true,
+        Err(_) => false,
+    }
+}
+
+/// How long a response of that age, in milliseconds, stays fresh.
+fn add_freshness(
+    alloc: Global,
+    fields: &mut Vec<Field>,
+    response: &Response,
+    age: u64,
+) -> Result<(), Memory>
+    ensures { OnOk result (map pair_of fields.new.items ≡ map pair_of fields.old.items ++ cache_control (response_of response.now) age) }
+{
+    if response.code != CONTENT {
+        return Ok(());
+    }
+    let left = seconds_left(response, age);
+    add(
+        fields,
+        "Cache-Control",
+        format!(in alloc; "max-age={left}")?,
+    )
+}
+
+/// The whole seconds for which a response of that age, in milliseconds, stays fresh.
+fn seconds_left(response: &Response, age: u64) -> u64
+    ensures { result ≡ left_of (response_of response.now) age }
+{
+    let fresh = 1000 * u64::from(response.max_age.unwrap_or(DEFAULT_MAX_AGE));
+    fresh.saturating_sub(age) / 1000
+}
+
+/// The entity tag, as HTTP writes it (RFC 9110, section 8.8.3).
+fn add_entity_tag(alloc: Global, fields: &mut Vec<Field>, response: &Response) -> Result<(), Memory>
+    ensures { OnOk result (map pair_of fields.new.items ≡ map pair_of fields.old.items ++ entity_tag (response_of response.now)) }
+{
+    match &response.etag {
+        Some(tag) if response.code == CONTENT => {
+            let digits = hex::encode(alloc, tag.as_slice())?;
+            add(fields, "ETag", format!(in alloc; "\"{digits}\"")?)
+        }
+        _ => Ok(()),
+    }
+}
+
+/// How long a representation that was asked for stays fresh, and its entity tag.
+pub fn add_caching(
+    alloc: Global,
+    fields: &mut Vec<Field>,
+    came: &Incoming,
+    response: &Response,
+    age: u64,
+) -> Result<(), Memory>
+    ensures { OnOk result (map pair_of fields.new.items ≡ map pair_of fields.old.items ++ caching (came_of came.now) (response_of response.now) age) }
+{
+    if !is_read(came) {
+        return Ok(());
+    }
+    add_freshness(alloc, fields, response, age)?;
+    add_entity_tag(alloc, fields, response)
+}
+
+/// Whether a representation was asked for, by GET or HEAD.
+fn is_read(came: &Incoming) -> bool
+    ensures { result ≡ is_read (came_of came.now) }
+{
+    match came {
+        Incoming::Request(request) => {
+            matches!(method_of(&request.method), Some(Method::Get | Method::Head))
+        }
+        Incoming::Bad(_) => false,
+    }
+}
+
+/// Where a created resource is hosted.
+pub fn add_location<R: Relation>(
+    alloc: Global,
+    fields: &mut Vec<Field>,
+    mapped: &Mapped<R>,
+    response: &Response,
+) -> Result<(), Memory>
+    ensures { OnOk result (map pair_of fields.new.items ≡ map pair_of fields.old.items ++ value_if (codes "Location") (located mapped.now.rules mapped.now.sense (response_of response.now))) }
+{
+    if let Some(value) = location_of(alloc, mapped, response)? {
+        fields.push(Field {
+            name: "Location",
+            value,
+        })?;
+    }
+    Ok(())
+}
+
+/// When to ask again (RFC 8075, section 7).
+pub fn add_retry_after(
+    alloc: Global,
+    fields: &mut Vec<Field>,
+    response: &Response,
+) -> Result<(), Memory>
+    ensures { OnOk result (map pair_of fields.new.items ≡ map pair_of fields.old.items ++ retry_after (response_of response.now)) }
+{
+    match response.max_age {
+        Some(seconds) if response.code == UNAVAILABLE => {
+            add(fields, "Retry-After", format!(in alloc; "{seconds}")?)
+        }
+        _ => Ok(()),
+    }
+}
+
+/// Says that the connection is closed behind the answer, where it is (RFC 9112, section 9.6).
+pub fn add_connection(alloc: Global, fields: &mut Vec<Field>, came: &Incoming) -> Result<(), Memory>
+    ensures { OnOk result (map pair_of fields.new.items ≡ map pair_of fields.old.items ++ connection (came_of came.now)) }
+{
+    if closes(came) {
+        add_text(alloc, fields, "Connection", "close")?;
+    }
+    Ok(())
+}
+
+/// Whether the connection is closed behind the answer to what was read.
+pub fn closes(incoming: &Incoming) -> bool
+    ensures { result ≡ closing (came_of incoming.now) }
+{
+    match incoming {
+        Incoming::Request(request) => request.close,
+        Incoming::Bad(_) => true,
+    }
+}
+
+/// The length of the body, but in a 204 (RFC 9110, section 8.6).
+pub fn add_content_length(
+    alloc: Global,
+    fields: &mut Vec<Field>,
+    status: Status,
+    len: usize,
+) -> Result<(), Memory>
+    ensures { OnOk result (map pair_of fields.new.items ≡ map pair_of fields.old.items ++ content_length status len) }
+{
+    if status.number() == NO_CONTENT {
+        return Ok(());
+    }
+    add(fields, "Content-Length", format!(in alloc; "{len}")?)
+}

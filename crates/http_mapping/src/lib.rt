@@ -1,0 +1,15 @@
+//! What a request of HTTP means to a device, and the HTTP response that tells an answer (RFC 8075, sections 5 to 7).
+//!
+//! Its one contract: `map_request` gives a request the one meaning that `Maps` allows, and `render` an HTTP
+//! response that tells the answer as `Means` says, field by field. The proxy's inputs and outputs
+//! (`gateway_world`) stand on it.
+#![tactic(auto)]
+
+mod fields;
+mod location;
+mod mapping;
+mod rendering;
+
+pub use fields::closes;
+pub use mapping::map_request;
+pub use rendering::render;

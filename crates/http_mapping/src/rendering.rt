@@ -1,0 +1,143 @@
+//! From an answer to the HTTP response that tells it (RFC 8075, sections 6 and 7).
+
+ghost use Rattle.std.specs.Prelude.{ℕ, List, ◌≡◌, ◌<◌, ◌-◌, [], IfOk, if◌then◌else◌};
+ghost use Rattle.http_edge.specs.Answers.{body_bytes};
+ghost use Rattle.ask_model.specs.Views.{came_of, sense_of};
+ghost use Rattle.exchange_core.specs.Answering.{given_of};
+ghost use Rattle.journal_book.specs.Entries.{Fault};
+ghost use Rattle.ask_model.specs.declared.cause.Cause.{Cause as Causes};
+ghost use Rattle.datagram_verdict.specs.Findings.{response_of, Fits, Fails};
+ghost use Rattle.http_mapping.specs.Means.{Means, Shows, Tells, IsOwn, is_head as head, told_status, failure_status as failed};
+
+use crate::fields::{
+    add_caching, add_cause, add_connection, add_content_length, add_content_type, add_location,
+    add_retry_after,
+};
+use ask_model::{Cause, Mapped, Meaning};
+use code_map::{Method, Status, method_of, phrase_of, status_of};
+use datagram_verdict::{Finding, Outcome, Response};
+use exchange_core::Answer;
+use http_edge::{Body, HttpAnswer, Incoming, Memory};
+use journal_book::Grounds;
+use std::alloc::Global;
+use transformers::Relation;
+
+/// The HTTP response that tells an answer. An answer to HEAD has no body, and the Content-Length of
+/// the one to GET.
+pub fn render<R: Relation>(alloc: Global, answer: &Answer<R>) -> Result<HttpAnswer, Memory>
+    ensures means { IfOk result (λ a. Means (given_of answer.now) a) }
+    ensures digits { IfOk result (λ a. a.status < 1000) }
+{
+    match answer.finding.outcome() {
+        Outcome::Whole(response) => {
+            let age = answer.moment.saturating_sub(answer.heard);
+            show(alloc, &answer.mapped, response, age)
+        }
+        Outcome::Fault(cause) => {
+            let number = number_named(&answer.finding);
+            tell(alloc, &answer.mapped, *cause, number)
+        }
+    }
+}
+
+/// The number of the entry that an error of the proxy's own names.
+fn number_named(finding: &Finding) -> u32
+    ensures { (cause : Causes) → Fits (Fails cause) finding.now.grounds → finding.now.grounds ≡ Fault cause result }
+{
+    match finding.grounds() {
+        Grounds::Fault(_, number) => *number,
+        Grounds::Live(_) | Grounds::Kept(_) => 0,
+    }
+}
+
+/// An answer of the proxy's own: its cause, and the number of the entry that it names.
+fn tell<R: Relation>(
+    alloc: Global,
+    mapped: &Mapped<R>,
+    cause: Cause,
+    number: u32,
+) -> Result<HttpAnswer, Memory>
+    ensures tells { IfOk result (λ a. Tells mapped.now cause number a) }
+    ensures digits { IfOk result (λ a. a.status < 1000) }
+{
+    let status = status_told(mapped.meaning(), cause);
+    let mut fields = Vec::new(alloc);
+    add_cause(alloc, &mut fields, cause, number)?;
+    add_connection(alloc, &mut fields, mapped.came())?;
+    add_content_length(alloc, &mut fields, status, 0)?;
+    Ok(HttpAnswer {
+        status: status.number(),
+        phrase: phrase_of(status),
+        fields,
+        body: Body::Empty,
+    })
+}
+
+/// The status of an error of the proxy's own.
+fn status_told(meaning: &Meaning, cause: Cause) -> Status
+    ensures { (body : List ℕ) → IsOwn (told_status (sense_of meaning.now body) cause) result }
+{
+    match meaning {
+        Meaning::Refuse(_, Status::MethodNotAllowed) => Status::BadRequest,
+        Meaning::Refuse(_, status) => *status,
+        Meaning::Ask { .. } => failure_status(cause),
+    }
+}
+
+/// The status that tells why a request has no response.
+fn failure_status(cause: Cause) -> Status
+    ensures { IsOwn (failed cause) result }
+{
+    match cause {
+        Cause::Busy => Status::ServiceUnavailable,
+        Cause::Timeout => Status::GatewayTimeout,
+        _ => Status::BadGateway,
+    }
+}
+
+/// The answer that shows a response of that age, in milliseconds.
+fn show<R: Relation>(
+    alloc: Global,
+    mapped: &Mapped<R>,
+    response: &Response,
+    age: u64,
+) -> Result<HttpAnswer, Memory>
+    ensures shows { IfOk result (λ a. Shows mapped.now (response_of response.now) age a) }
+    ensures digits { IfOk result (λ a. a.status < 1000) }
+{
+    let body = response.body.as_slice();
+    let status = status_of(response.code, !body.is_empty());
+    let mut fields = Vec::new(alloc);
+    add_content_type(alloc, &mut fields, response)?;
+    add_caching(alloc, &mut fields, mapped.came(), response, age)?;
+    add_location(alloc, &mut fields, mapped, response)?;
+    add_retry_after(alloc, &mut fields, response)?;
+    add_connection(alloc, &mut fields, mapped.came())?;
+    add_content_length(alloc, &mut fields, status, body.len())?;
+    Ok(HttpAnswer {
+        status: status.number(),
+        phrase: phrase_of(status),
+        fields,
+        body: shown_body(alloc, mapped.came(), body)?,
+    })
+}
+
+/// The body of an answer: that of the response, but to a HEAD none (RFC 9110, section 9.3.2).
+fn shown_body(alloc: Global, came: &Incoming, body: &[u8]) -> Result<Body, Memory>
+    ensures { IfOk result (λ b. body_bytes b ≡ (if head (came_of came.now) then [] else body.now)) }
+{
+    if is_head(came) {
+        return Ok(Body::Empty);
+    }
+    Ok(Body::Owned(Vec::from_slice(alloc, body)?))
+}
+
+/// Whether a HEAD was asked.
+fn is_head(came: &Incoming) -> bool
+    ensures { result ≡ head (came_of came.now) }
+{
+    match came {
+        Incoming::Request(request) => method_of(&request.method) == Some(Method::Head),
+        Incoming::Bad(_) => false,
+    }
+}
