@@ -22,7 +22,7 @@ use Rattle.history_laws.proofs.Places.{at-new}
 use Rattle.history_laws.proofs.Hearing.{sent-to}
 use Rattle.exchange_core.specs.CoreValue.{CoreValue, Outgoing, sent_by, sendings}
 use Rattle.exchange_core.specs.Hears.{NeverSentTo, IsDropped}
-use Rattle.exchange_core.proofs.Told.{at-entries}
+use Rattle.exchange_core.proofs.Answered.{at-entries}
 
 -- An ACK or RST is for the peer that was heard.
 given-to : (p : Peer) (mid : ℕ) (kind : Option MsgType) (c : Confirmation) → given p mid kind ≡ Some c → c.peer ≡ p

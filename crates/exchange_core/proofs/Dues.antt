@@ -9,6 +9,7 @@ use Rattle.std.proofs.lemmas.Bool.{false≢true}
 use Rattle.journal_book.specs.Entries.{Written}
 use Rattle.history_laws.specs.declared.kept.Conn.{Conn}
 use Rattle.history_laws.specs.declared.kept.Exchange.{Exchange}
+use Rattle.history_laws.specs.Exchanges.{max_transmit_wait}
 use Rattle.history_laws.specs.Readings.{Noted, Note, Plain, Begins, First, Copies, Confirms, Says, Garbled, newest}
 use Rattle.history_laws.specs.Exchanges.{Begun, begun_by, begun}
 use Rattle.history_laws.specs.Justified.{Legal}
@@ -52,7 +53,7 @@ since-early h cs tables s last n a le =
 -- the same, of the exchanges up to a place
 abbrev pub DueSoFar : Bool → List Conn → List Exchange → List Exchange → Option ℕ → Type 0
 DueSoFar s cs es xs None = All (λ (e : Exchange). counts s cs e ≡ false) xs
-DueSoFar s cs es xs (Some d) = HasDue d s cs es × All (λ (e : Exchange). counts s cs e ≡ true → d ≤ e.since + 93000) xs
+DueSoFar s cs es xs (Some d) = HasDue d s cs es × All (λ (e : Exchange). counts s cs e ≡ true → d ≤ e.since + max_transmit_wait) xs
 
 pub due-passed : (s : Bool) (cs : List Conn) (es : List Exchange) (i : ℕ) (e : Exchange) (least : Option ℕ) → DueSoFar s cs es (take i es) least
     → i < length es → e ≡ get_or es i e → counts s cs e ≡ false → DueSoFar s cs es (take (i + 1) es) least
@@ -60,36 +61,36 @@ due-passed s cs es i e None so_far lt is not_counted =
     All-more (λ (e : Exchange). counts s cs e ≡ false) es i e lt so_far (ap (counts s cs) (sym is) ∙ not_counted)
 due-passed s cs es i e (Some d) so_far lt is not_counted = (
   so_far.0,
-  All-more (λ (e : Exchange). counts s cs e ≡ true → d ≤ e.since + 93000) es i e lt so_far.1
+  All-more (λ (e : Exchange). counts s cs e ≡ true → d ≤ e.since + max_transmit_wait) es i e lt so_far.1
       (λ counted. absurd (false≢true (sym not_counted ∙ ap (counts s cs) is ∙ counted))),
 )
 
 pub due-taken : (s : Bool) (cs : List Conn) (es : List Exchange) (i : ℕ) (e : Exchange) (least : Option ℕ) (m : ℕ) → DueSoFar s cs es (take i es) least
-    → i < length es → e ≡ get_or es i e → counts s cs e ≡ true → (least ≡ None → m ≡ e.since + 93000) → IfSome least (λ d. m ≡ min d (e.since + 93000))
+    → i < length es → e ≡ get_or es i e → counts s cs e ≡ true → (least ≡ None → m ≡ e.since + max_transmit_wait) → IfSome least (λ d. m ≡ min d (e.since + max_transmit_wait))
     → DueSoFar s cs es (take (i + 1) es) (Some m)
 due-taken s cs es i e None m so_far lt is counted first other =
-    let due : m ≡ e.since + 93000 = first refl in
+    let due : m ≡ e.since + max_transmit_wait = first refl in
     let since : e.since ≡ (get_or es i e).since = ap (λ (e : Exchange). e.since) is in (
       record { exchange = e; stands = (i, lt, sym is); counted = counted; due = due },
-      All-more (λ (e : Exchange). counts s cs e ≡ true → m ≤ e.since + 93000) es i e lt
-          (All-weaker (λ (e : Exchange). counts s cs e ≡ false) (λ (e : Exchange). counts s cs e ≡ true → m ≤ e.since + 93000)
+      All-more (λ (e : Exchange). counts s cs e ≡ true → m ≤ e.since + max_transmit_wait) es i e lt
+          (All-weaker (λ (e : Exchange). counts s cs e ≡ false) (λ (e : Exchange). counts s cs e ≡ true → m ≤ e.since + max_transmit_wait)
           (λ x w is. absurd (false≢true (sym w ∙ is))) (take i es) so_far)
           (λ k. omega (arith, due, since)),
     )
 due-taken s cs es i e (Some d) m so_far lt is counted first other =
     let since : e.since ≡ (get_or es i e).since = ap (λ (e : Exchange). e.since) is in
-    let rest : All (λ (e : Exchange). counts s cs e ≡ true → m ≤ e.since + 93000) (take (i + 1) es) =
-    All-more (λ (e : Exchange). counts s cs e ≡ true → m ≤ e.since + 93000) es i e lt
-    (All-weaker (λ (e : Exchange). counts s cs e ≡ true → d ≤ e.since + 93000) (λ (e : Exchange). counts s cs e ≡ true → m ≤ e.since + 93000)
+    let rest : All (λ (e : Exchange). counts s cs e ≡ true → m ≤ e.since + max_transmit_wait) (take (i + 1) es) =
+    All-more (λ (e : Exchange). counts s cs e ≡ true → m ≤ e.since + max_transmit_wait) es i e lt
+    (All-weaker (λ (e : Exchange). counts s cs e ≡ true → d ≤ e.since + max_transmit_wait) (λ (e : Exchange). counts s cs e ≡ true → m ≤ e.since + max_transmit_wait)
     (λ x w is. let le = w is in omega (arith, le, other)) (take i es) so_far.1)
     (λ k. omega (arith, other, since)) in
-    elim (leb_tells d (e.since + 93000)) [
+    elim (leb_tells d (e.since + max_transmit_wait)) [
       | inl w ↦
           let same : m ≡ d = omega (arith, other, w.1) in
           let was = so_far.0 in
           (record { exchange = was.exchange; stands = was.stands; counted = was.counted; due = same ∙ was.due }, rest)
       | inr w ↦
-          let same : m ≡ e.since + 93000 = omega (arith, other, w.1) in
+          let same : m ≡ e.since + max_transmit_wait = omega (arith, other, w.1) in
           (record { exchange = e; stands = (i, lt, sym is); counted = counted; due = same }, rest)
     ]
 
@@ -97,4 +98,4 @@ pub due-all : (s : Bool) (cs : List Conn) (es : List Exchange) (i : ℕ) (least 
     → IsNextDue s cs es least
 due-all s cs es i None so_far le = subst (All (λ (e : Exchange). counts s cs e ≡ false)) (take_all i es le) so_far
 due-all s cs es i (Some d) so_far le =
-    (so_far.0, subst (All (λ (e : Exchange). counts s cs e ≡ true → d ≤ e.since + 93000)) (take_all i es le) so_far.1)
+    (so_far.0, subst (All (λ (e : Exchange). counts s cs e ≡ true → d ≤ e.since + max_transmit_wait)) (take_all i es le) so_far.1)

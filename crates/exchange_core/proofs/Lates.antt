@@ -7,6 +7,7 @@ use Rattle.std.proofs.lemmas.Bool.{false≢true}
 use Rattle.ask_model.proofs.Endpoints.{and-both}
 use Rattle.history_laws.specs.declared.kept.Conn.{Conn}
 use Rattle.history_laws.specs.declared.kept.Exchange.{Exchange}
+use Rattle.history_laws.specs.Exchanges.{max_transmit_wait}
 use Rattle.history_laws.proofs.Elements.{contains-later}
 use Rattle.history_laws.proofs.Amidst.{WaitsNot}
 use Rattle.history_laws.proofs.Readers.{late-none, late-found, idle-waits-not, other-waits-not}
@@ -100,7 +101,7 @@ none-waits t es cs =
 -- No connection waits for one that is past its time.
 prompt-one : (t : ℕ) (es : List Exchange) (x : Conn) → WaitsNot (map late_end (filter (is_past t) es)) x → IsPrompt t es x
 prompt-one t es x w e has waits =
-    elim (leb_tells (e.since + 93000) t) [
+    elim (leb_tells (e.since + max_transmit_wait) t) [
       | inl u ↦ absurd (w (late_end e) (late-found t es e has u.0) waits)
       | inr u ↦ omega (arith, u.1)
     ]

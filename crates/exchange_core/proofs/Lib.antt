@@ -14,6 +14,7 @@ pub mod Lates
 pub mod Least
 pub mod Rising
 pub mod Waiters
+pub mod Answered
 pub mod Timed
 pub mod Timing
 pub mod Dues

@@ -6,7 +6,7 @@ use Rattle.history_laws.specs.Kept.{Held, Agrees}
 use Rattle.history_laws.specs.Readings.{Noted, entries}
 use Rattle.history_laws.specs.Connections.{is_sealed, sealed_by}
 use Rattle.exchange_core.specs.CoreValue.{CoreValue, written}
-use Rattle.exchange_core.specs.Sealing.{HasSeal, SealsNow, TakesNoMore}
+use Rattle.exchange_core.specs.Sealing.{HasSeal, SealsNow, TakesNoMore, sealed_at}
 use Rattle.exchange_core.proofs.Giving.{slice_get-more, slice_get-end}
 
 seal-last : (h : List Written) (t : ℕ) → HasSeal (h ++ written t Seals ∷ [])
@@ -40,18 +40,9 @@ no-more t old seal is = record { seal = seal; how = inl (is, refl) }
 pub none-more : {NoRoom : Type 0} (t : ℕ) (old new : CoreValue) → old.sealed ≡ false → SealsNow NoRoom t old new → TakesNoMore NoRoom t old new
 none-more t old new unsealed w = record { seal = subst HasSeal (sym w.entries) (seal-last old.entries t); how = inr (unsealed, w) }
 
-pub seals-now : {NoRoom : Type 0} (t t1 : ℕ) (old new : CoreValue) → t1 ≡ t → NoRoom → new.sealed ≡ true → new.moment ≡ t1 → new.entries ≡ old.entries ++ written t1 Seals ∷ []
-    → new.conns ≡ old.conns → new.exchanges ≡ old.exchanges → new.answers ≡ old.answers → new.sends ≡ old.sends → SealsNow NoRoom t old new
-seals-now t t1 old new same room sealed moment entries conns exchanges answers sends = record {
-  room = room;
-  sealed = sealed;
-  moment = moment ∙ same;
-  entries = rw (← same) entries;
-  conns = conns;
-  exchanges = exchanges;
-  answers = answers;
-  sends = sends;
-}
+pub seals-now : {NoRoom : Type 0} (t t1 : ℕ) (old new : CoreValue) → t1 ≡ t → NoRoom → new ≡ sealed_at t1 old → SealsNow NoRoom t old new
+seals-now t t1 old new same room is =
+    rw (is, same) (record { room = room; sealed = refl; moment = refl; entries = refl; conns = refl; exchanges = refl; answers = refl; sends = refl })
 
 -- the same, for another reason that there is no room
 pub seals-because : {A B : Type 0} {t : ℕ} {old new : CoreValue} → (A → B) → SealsNow A t old new → SealsNow B t old new

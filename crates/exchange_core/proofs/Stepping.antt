@@ -1,13 +1,12 @@
 -- What a core keeps behind a datagram that was heard.
-use Rattle.std.proofs.Common.{◌≡◌, ℕ, zero, suc, ◌+◌, ◌-◌, ◌*◌, ◌^◌, ◌<◌, ◌≤◌, min, Bool, true, false, cond, inl, inr, List, [], ◌∷◌, ◌++◌, length, get_or, map, Option, Some, None, refl, sym, ap, subst, ◌∙◌, arith, length-append}
+use Rattle.std.proofs.Common.{◌≡◌, ℕ, ◌+◌, ◌-◌, ◌*◌, ◌^◌, ◌≤◌, min, Bool, true, false, inl, inr, List, [], ◌∷◌, ◌++◌, length, map, Option, Some, None, refl, sym, ap, subst, ◌∙◌, arith, length-append}
 use Rattle.std.specs.Prelude.{sum_by, count_by, is_some, option_map, option_to_list, IfSome}
-use Rattle.std.specs.List.{All, Contains}
+use Rattle.std.specs.List.{All}
 use Rattle.std.proofs.lemmas.List.{length-map}
 use Rattle.std.proofs.lemmas.List.Elements.{All-contains}
-use Rattle.std.proofs.lemmas.List.Sums.{sum_by-append, sum_by-cons}
-use Rattle.std.proofs.lemmas.Bool.Decides.{eqb_tells}
+use Rattle.std.proofs.lemmas.List.Sums.{sum_by-append}
 use Rattle.uri_map.specs.declared.peer.Peer.{Peer}
-use Rattle.journal_book.specs.Entries.{Grounds, grounds_size, Hears, Sends, Answers, Seals, Written, entry_size}
+use Rattle.journal_book.specs.Entries.{Grounds, grounds_size, Hears, Sends, Answers, Written, entry_size}
 use Rattle.journal_book.specs.Views.{grounds_of}
 use Rattle.history_laws.specs.declared.kept.Conn.{Conn}
 use Rattle.history_laws.specs.declared.kept.Exchange.{Exchange}
@@ -21,7 +20,7 @@ use Rattle.datagram_verdict.specs.declared.verdict.Change.{Change}
 use Rattle.datagram_verdict.specs.declared.verdict.Ending.{Ending}
 use Rattle.datagram_verdict.specs.declared.verdict.Verdict.{Verdict}
 use Rattle.exchange_core.specs.declared.step.Reader.{Reader}
-use Rattle.exchange_core.specs.Room.{is_some_ask, is_pending, fits, takes}
+use Rattle.exchange_core.specs.Room.{is_pending, fits, takes}
 use Rattle.exchange_core.specs.CoreValue.{Outgoing, CoreValue, written, Answerable}
 use Rattle.exchange_core.specs.CoreKept.{CoreKept}
 use Rattle.datagram_verdict.specs.Findings.{Found}
@@ -30,11 +29,14 @@ use Rattle.datagram_verdict.specs.Verdicts.{exchanges_by, heard_by, held_by, end
 use Rattle.exchange_core.specs.Hears.{AddsAnswer, ChangesBy, HearsAt, HasNoRoom, HeardSo}
 use Rattle.exchange_core.specs.Steps.{one_if, SpellsDue, with_sent, outgoing_by, IsReader, with_answer, conns_by, waiting_by, AnswersBy}
 use Rattle.history_laws.specs.Limits.{MaySeal}
+use Rattle.exchange_core.specs.Sealing.{sealed_at}
 use Rattle.exchange_core.proofs.Sealed.{seals-now}
 use Rattle.exchange_core.proofs.Keeping.{fits-parts, fits-from, fits-not, takes-fits}
 use Rattle.exchange_core.proofs.Issuing.{firsts-other, firsts-sent, firsts-answered, issued-same}
 use Rattle.exchange_core.proofs.Giving.{answerable-more}
 use Rattle.exchange_core.proofs.Listening.{verdict-amid, verdict-changes, confirmed-amid, answered-agrees}
+use Rattle.exchange_core.proofs.Waiters.{AreApart, apart-agrees}
+use Rattle.exchange_core.proofs.Timed.{one-less}
 use Rattle.exchange_core.proofs.Told.{Tellable, verdict-told, told-sent, stands-sent, answerable-sent, answerable-told}
 
 -- a change, and what is remembered, by an equal one
@@ -44,54 +46,16 @@ changed-so x y es new e f = subst (λ (z : Change). new ≡ exchanges_by z es) f
 pub remembered-so : (m k : Option Remembered) (rs old new : List Remembered) → new ≡ heard_by m rs → m ≡ k → rs ≡ old → new ≡ heard_by k old
 remembered-so m k rs old new e f g = e ∙ (ap (λ (z : Option Remembered). heard_by z rs) f ∙ ap (heard_by k) g)
 
-abbrev one_of : Conn → ℕ
-one_of x = cond (is_pending x) 1 0
-
 -- a connection that is answered waits no more
-no-more : (c : ℕ) (xs : List Conn) → count_by is_pending (map (pend c None) xs) ≤ count_by is_pending xs
-no-more c [] = omega arith
-no-more c (x ∷ xs) =
-    let rest = no-more c xs in
-    let whole = sum_by-cons (λ (x : Conn). cond (is_pending x) 1 0) x xs in
-    let left = sum_by-cons (λ (x : Conn). cond (is_pending x) 1 0) (pend c None x) (map (pend c None) xs) in
-    elim (eqb_tells x.id c) [
-      | inl w ↦ let none : one_of (pend c None x) ≡ 0 = rw (w.0) refl in omega (arith, whole, left, rest, none)
-      | inr w ↦ let same : one_of (pend c None x) ≡ one_of x = rw (w.0) refl in omega (arith, whole, left, rest, same)
-    ]
-
-fewer-at : (c : ℕ) (xs : List Conn) (k : ℕ) (d : Conn) → k < length xs → (get_or xs k d).id ≡ c → is_pending (get_or xs k d) ≡ true
-    → count_by is_pending (map (pend c None) xs) + 1 ≤ count_by is_pending xs
-fewer-at c [] k d lt e waits = absurd (omega arith)
-fewer-at c (x ∷ xs) zero d lt e waits =
-    let rest = no-more c xs in
-    let whole = sum_by-cons (λ (x : Conn). cond (is_pending x) 1 0) x xs in
-    let left = sum_by-cons (λ (x : Conn). cond (is_pending x) 1 0) (pend c None x) (map (pend c None) xs) in
-    let one : one_of x ≡ 1 = ap (λ (b : Bool). cond b 1 0) waits in
-    elim (eqb_tells x.id c) [
-      | inl w ↦ let none : one_of (pend c None x) ≡ 0 = rw (w.0) refl in omega (arith, whole, left, rest, none, one)
-      | inr w ↦ absurd (w.1 e)
-    ]
-fewer-at c (x ∷ xs) (suc k) d lt e waits =
-    let rest = fewer-at c xs k d (omega arith) e waits in
-    let whole = sum_by-cons (λ (x : Conn). cond (is_pending x) 1 0) x xs in
-    let left = sum_by-cons (λ (x : Conn). cond (is_pending x) 1 0) (pend c None x) (map (pend c None) xs) in
-    elim (eqb_tells x.id c) [
-      | inl w ↦ let none : one_of (pend c None x) ≡ 0 = rw (w.0) refl in omega (arith, whole, left, rest, none)
-      | inr w ↦ let same : one_of (pend c None x) ≡ one_of x = rw (w.0) refl in omega (arith, whole, left, rest, same)
-    ]
-
-fewer-wait : (xs : List Conn) (x : Conn) (c k : ℕ) → Contains xs x → x.id ≡ c → x.pending ≡ Some k
-    → count_by is_pending (map (pend c None) xs) + 1 ≤ count_by is_pending xs
-fewer-wait xs x c k has id waits =
-    fewer-at c xs has.0 x has.1 (ap (λ (y : Conn). y.id) has.2 ∙ id) (ap is_pending has.2 ∙ ap is_some_ask waits)
-
-conns-fewer : (cs : List Conn) (d : Option Ending) (r : Option Reader) → IsReader cs d r
+conns-fewer : (cs : List Conn) (d : Option Ending) (r : Option Reader) → AreApart cs → IsReader cs d r
     → (length (conns_by r cs) ≡ length cs) × (count_by is_pending (conns_by r cs) + one_if (is_some r) ≤ count_by is_pending cs)
-conns-fewer cs None None is = (refl, omega arith)
-conns-fewer cs (Some d) None is = (refl, omega arith)
-conns-fewer cs (Some d) (Some r) is =
-    (length-map cs (pend r.conn None), fewer-wait cs is.0.0 r.conn d.opening is.0.1 is.0.2 is.0.3)
-conns-fewer cs None (Some r) is = elim is [ ]
+conns-fewer cs None None apart is = (refl, omega arith)
+conns-fewer cs (Some d) None apart is = (refl, omega arith)
+conns-fewer cs (Some d) (Some r) apart is =
+    let less : count_by is_pending (map (pend r.conn None) cs) + 1 ≡ count_by is_pending cs =
+    subst (λ (c : ℕ). count_by is_pending (map (pend c None) cs) + 1 ≡ count_by is_pending cs) is.0.2 (one-less cs is.0.0 d.opening apart is.0.1 is.0.3) in
+    (length-map cs (pend r.conn None), omega (arith, less))
+conns-fewer cs None (Some r) apart is = elim is [ ]
 
 -- how much is added
 sent-size : (t : ℕ) (p : Peer) (due : Option Due) (sent : Option (List ℕ)) (h : List Written) → SpellsDue due sent
@@ -192,7 +156,7 @@ kept-heard h h1 h2 h3 h4 cs cs1 tables es1 rs1 s bytes bytes' last t n e size co
     let size2 = length-append h (written t (Hears p b) ∷ []) in
     let by3 = sent-size t p v.due sent x2 conf in
     let by4 = answer-size t cs v.ending r x3 x3 reader told3 in
-    let fewer = conns-fewer cs v.ending r reader in
+    let fewer = conns-fewer cs v.ending r (apart-agrees h cs tables false last before.agrees) reader in
     let a1 : one_if sb ≡ one_if (is_some sent) = ap one_if sb-is in
     let a2 : one_if rb ≡ one_if (is_some r) = ap one_if rb-is in
     let same : bytes' ≡ bytes + size = omega (arith, parts.1, total) in
@@ -285,8 +249,5 @@ heard-seals h b count waiting sb rb e size refused e-is size-is short few some =
       | inr w ↦ inr (omega (arith, w, size-is, one, two, short, few, some))
     ]
 
-pub seals-shown : (t t1 : ℕ) (p : Peer) (b : List ℕ) (old new : CoreValue) → t1 ≡ t → HasNoRoom b old → new.sealed ≡ true
-    → new.moment ≡ t1 → new.entries ≡ old.entries ++ written t1 Seals ∷ [] → new.conns ≡ old.conns → new.exchanges ≡ old.exchanges → new.answers ≡ old.answers → new.sends ≡ old.sends
-    → HeardSo t p b old new
-seals-shown t t1 p b old new same room sealed moment entries conns exchanges answers sends =
-    inr (inl (seals-now t t1 old new same room sealed moment entries conns exchanges answers sends))
+pub seals-shown : (t t1 : ℕ) (p : Peer) (b : List ℕ) (old new : CoreValue) → t1 ≡ t → HasNoRoom b old → new ≡ sealed_at t1 old → HeardSo t p b old new
+seals-shown t t1 p b old new same room is = inr (inl (seals-now t t1 old new same room is))

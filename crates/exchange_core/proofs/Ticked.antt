@@ -1,5 +1,5 @@
 -- What a core keeps, behind a tick.
-use Rattle.std.proofs.Common.{◌≡◌, ℕ, ◌+◌, ◌-◌, ◌*◌, ◌^◌, ◌≤◌, min, max, Bool, true, false, inl, inr, List, [], ◌∷◌, ◌++◌, length, map, refl, sym, ap, subst, ◌∙◌, arith, length-append}
+use Rattle.std.proofs.Common.{◌≡◌, ℕ, ◌+◌, ◌-◌, ◌*◌, ◌^◌, ◌≤◌, min, Bool, true, false, inl, inr, List, [], ◌∷◌, ◌++◌, length, map, refl, sym, ap, subst, ◌∙◌, arith, length-append}
 use Rattle.std.specs.Prelude.{sum_by, count_by}
 use Rattle.std.specs.List.{All, filter}
 use Rattle.std.proofs.lemmas.List.{length-map}
@@ -16,7 +16,8 @@ use Rattle.exchange_core.specs.Room.{HasPlaces, is_pending, fits, takes}
 use Rattle.exchange_core.specs.Answering.{Given, Waited}
 use Rattle.exchange_core.specs.CoreValue.{written, CoreValue, Answerable, Outgoing}
 use Rattle.exchange_core.specs.CoreKept.{CoreKept}
-use Rattle.exchange_core.specs.Ticking.{is_past, timeouts, timed, going, due_count, late_end, moment_after, takes_tick, AddsAnswers, AnswersLate, EndsLate, SealsLate, HasPast, Midway}
+use Rattle.exchange_core.specs.Ticking.{is_past, timeouts, timed, going, due_count, late_end, moment_after, takes_tick, AnswersLate, EndsLate, SealsLate, KeepsLate, HasPast, Midway}
+use Rattle.exchange_core.specs.Sealing.{sealed_at}
 use Rattle.exchange_core.proofs.Giving.{answerable-more}
 use Rattle.exchange_core.specs.Numbers.{firsts}
 use Rattle.exchange_core.proofs.Issuing.{firsts-other, firsts-ticked, issued-same}
@@ -153,27 +154,19 @@ moment-same t (x ∷ xs) = refl
 
 -- a tick that seals
 pub ticked-sealed : (t u : ℕ) (v v1 v2 : CoreValue) → t ≡ u → v.sealed ≡ false → HasPast u v.exchanges → takes_tick u v ≡ false
-    → v1.entries ≡ v.entries ++ written t Seals ∷ [] → v1.conns ≡ v.conns → v1.exchanges ≡ v.exchanges
-    → v1.sends ≡ v.sends → v1.moment ≡ t → v1.answers ≡ v.answers → AddsAnswers (length v1.entries) v1.answers v2.answers (timeouts t v1.exchanges v1.conns)
-    → v2.entries ≡ v1.entries ++ timeouts t v1.exchanges v1.conns → v2.conns ≡ map (timed t v1.exchanges) v1.conns
-    → v2.sends ≡ v1.sends → v2.moment ≡ moment_after t v1.moment (timeouts t v1.exchanges v1.conns) → v2.exchanges ≡ v1.exchanges → v2.sealed ≡ true
-    → SealsLate u v v2
-ticked-sealed t u v v1 v2 at_t unsealed past room e1 c1 x1 s1 m1 a1 a2 e2 c2 s2 m2 x2 sealed =
-    let same : timeouts t v1.exchanges v1.conns ≡ timeouts t v.exchanges v.conns = rw (c1, x1) refl in
-    let answers : AnswersLate t (v.entries ++ written t Seals ∷ []) v v2 = record {
-      entries = e2 ∙ ap (λ (h : List Written). h ++ timeouts t v1.exchanges v1.conns) e1 ∙ ap (λ (xs : List Written). (v.entries ++ written t Seals ∷ []) ++ xs) same;
-      conns = c2 ∙ rw (c1, x1) refl;
-      answers = rw (e1, a1, same) at a2;
-      sends = s2 ∙ s1;
-    } in
+    → v1 ≡ sealed_at t v → KeepsLate t v1 v2 → SealsLate u v v2
+ticked-sealed t u v v1 v2 at_t unsealed past room is late =
+    let w : KeepsLate t (sealed_at t v) v2 = subst (λ (c : CoreValue). KeepsLate t c v2) is late in
+    let a = w.answers in
+    let answers : AnswersLate t (v.entries ++ written t Seals ∷ []) v v2 = record { entries = a.entries; conns = a.conns; answers = a.answers; sends = a.sends } in
     record {
       unsealed = unsealed;
       past = past;
       room = room;
       answers = rw (← at_t) answers;
-      sealed = sealed;
-      moment = m2 ∙ ap (λ (k : ℕ). moment_after t k (timeouts t v1.exchanges v1.conns)) m1 ∙ moment-same t (timeouts t v1.exchanges v1.conns) ∙ at_t;
-      exchanges = x2 ∙ x1;
+      sealed = w.sealed;
+      moment = w.moment ∙ moment-same t (timeouts t v.exchanges v.conns) ∙ at_t;
+      exchanges = w.exchanges;
     }
 
 -- a tick that ends what is late, by the core as it stands and by what it shows
@@ -201,6 +194,3 @@ pub room-is : (t : ℕ) (v : CoreValue) (es : List Exchange) (cs : List Conn) (c
     → es ≡ v.exchanges → cs ≡ v.conns → count ≡ length cs → pending ≡ count_by is_pending cs → more ≡ due_count t es cs → size ≡ 64 + 68 * more
     → takes v.entries (1 + more) size count (pending - more) ≡ takes_tick t v
 room-is t v es cs count pending more size x c cnt wait due sized = rw (sized, cnt, wait, due, x, c) refl
-
-pub now-early : (t last m moment : ℕ) → t ≡ max last m → m ≡ min moment (2 ^ 62) → last ≤ 2 ^ 62 → t ≤ 2 ^ 62
-now-early t last m moment a b c = omega (arith, a, b, c)

@@ -1,74 +1,31 @@
 -- In the midst of a tick: who waits for one exchange more gets its answer.
-use Rattle.std.proofs.Common.{◌≡◌, ℕ, ◌+◌, ◌<◌, ◌≤◌, Bool, not, eqb, inl, inr, List, [], ◌∷◌, ◌++◌, length, get_or, take, map, Option, Some, None, refl, sym, ap, subst, ◌∙◌, arith, length-append}
+use Rattle.std.proofs.Common.{◌≡◌, ℕ, ◌+◌, ◌<◌, ◌≤◌, Bool, not, eqb, List, [], ◌∷◌, ◌++◌, length, get_or, take, map, Option, Some, None, refl, sym, ap, subst, ◌∙◌, arith, length-append}
 use Rattle.std.specs.Prelude.{count_by}
-use Rattle.std.specs.List.{All, Contains, filter, slice_get}
+use Rattle.std.specs.List.{Contains, filter}
 use Rattle.std.proofs.lemmas.List.{length-map, append-nil, append_assoc, take_all, take_more}
 use Rattle.std.proofs.lemmas.List.Concat.{flat_map-append}
-use Rattle.std.proofs.lemmas.List.Elements.{All-push, All-map, All-weaker, All-filter, All-contains, All-contains_itself}
-use Rattle.std.proofs.lemmas.Bool.Decides.{eqb_tells}
+use Rattle.std.proofs.lemmas.List.Elements.{All-contains}
 use Rattle.ask_model.specs.declared.cause.Cause.TheVariants.{Timeout}
-use Rattle.ask_model.specs.Requests.{Ask}
-use Rattle.journal_book.specs.Entries.{Written, Asks, Answers, Fault}
+use Rattle.journal_book.specs.Entries.{Written, Answers, Fault}
 use Rattle.journal_book.specs.Views.{ask_of}
 use Rattle.history_laws.specs.declared.kept.Conn.{Conn}
 use Rattle.history_laws.specs.declared.kept.Exchange.{Exchange}
 use Rattle.history_laws.specs.Readings.{entries}
 use Rattle.history_laws.specs.Kept.{pend, Held}
 use Rattle.history_laws.specs.Amid.{Ended, Amid}
-use Rattle.history_laws.proofs.Conns.{TurnIn}
-use Rattle.history_laws.proofs.Answering.{asks-stand}
-use Rattle.history_laws.proofs.Steps.{conn-in}
 use Rattle.history_laws.proofs.Amidst.{Amid-answered}
-use Rattle.history_laws.proofs.Readers.{late-found, pending-apart}
+use Rattle.history_laws.proofs.Readers.{late-found}
 use Rattle.exchange_core.specs.declared.step.Reader.{Reader}
-use Rattle.exchange_core.proofs.Told.{at-entries}
+use Rattle.exchange_core.proofs.Answered.{own-ask, answerable-one}
 use Rattle.exchange_core.specs.Room.{is_pending}
 use Rattle.datagram_verdict.specs.Findings.{Fails}
-use Rattle.exchange_core.specs.Answering.{Given, Waited, HasWaited, IsWaited, IsKept, IsGiven, answer_of}
+use Rattle.exchange_core.specs.Answering.{Given, Waited, HasWaited, IsWaited, IsKept, answer_of}
 use Rattle.exchange_core.specs.Steps.{IsReader, with_answer, conns_by, waiting_by, AnswersBy}
 use Rattle.exchange_core.specs.CoreValue.{Outgoing, written, Answerable}
 use Rattle.exchange_core.specs.Ticking.{is_past, late_end, late_reader, late_ending, timeout_by, timeout_for, timeouts, timed, moment_after, IsTimeout, AreTimeouts, AddsAnswers, AreRising, Midway, IsMidway}
-use Rattle.exchange_core.proofs.Giving.{answerable-more, slice_get-more, slice_get-end, given-keeps, waited-keeps, kept-other}
 use Rattle.exchange_core.proofs.Rising.{before-apart}
 use Rattle.exchange_core.proofs.Waiters.{AreApart, apart-amid, IsTimed, timed-reader, none-timed, looked-none, Looked, looked-some, late_reader-kept}
 use Rattle.exchange_core.proofs.Timed.{conns-append, conns-nothing, conns-passed, conns-answered, one-less}
-
--- the ask that a connection waits for is its own
-asked-by : (t s c d : ℕ) (a b : Ask) → Some (written t (Asks c a)) ≡ Some (written s (Asks d b)) → c ≡ d
-asked-by t s c d a b e = deeds (ap (λ (w : Written). w.deed) (some-same (written t (Asks c a)) (written s (Asks d b)) e))
-  where
-    some-same : (v w : Written) → Some v ≡ Some w → v ≡ w
-    some-same v w f = cc
-
-    deeds : Asks c a ≡ Asks d b → c ≡ d
-    deeds f = cc
-
-own-ask : (ds : List Ended) (t : ℕ) (h : List Written) (cs : List Conn) (tables : Held) (s : Bool) (last : ℕ) (x : Conn) (k conn asked : ℕ) (a : Ask)
-    → Amid None ds t h cs tables s last → Contains cs x → x.pending ≡ Some k → slice_get h k ≡ Some (written asked (Asks conn a))
-    → conn ≡ x.id
-own-ask ds t h cs tables s last x k conn asked a amid has waits stands =
-    let l = amid.reading in
-    let turn : TurnIn l x.id (Some k) = subst (TurnIn l x.id) waits (conn-in l h cs tables.exchanges s last amid.reads x has).turn in
-    let mine = asks-stand l x.id _ k turn.0 in
-    let there : slice_get (entries l) k ≡ Some (written mine.1.moment (Asks x.id mine.0)) = at-entries l k _ mine.1.stands in
-    let here : slice_get h k ≡ Some (written mine.1.moment (Asks x.id mine.0)) =
-    subst (λ (h : List Written). slice_get h k ≡ Some (written mine.1.moment (Asks x.id mine.0))) amid.reads.entries_are there in
-    asked-by asked mine.1.moment conn x.id a mine.0 (sym stands ∙ here)
-
--- the others wait for other asks
-kept-answered : (ds : List Ended) (t : ℕ) (h : List Written) (cs : List Conn) (tables : Held) (s : Bool) (last : ℕ) (x : Conn) (k : ℕ) (ws : List Waited)
-    → Amid None ds t h cs tables s last → Contains cs x → x.pending ≡ Some k
-    → All (λ (y : Conn). IsKept ws y.pending) cs
-    → All (λ (y : Conn). IsKept (filter (λ (w : Waited). not (eqb w.ask k)) ws) y.pending) (map (pend x.id None) cs)
-kept-answered ds t h cs tables s last x k ws amid has waits all =
-    let rest : List Waited = filter (λ (w : Waited). not (eqb w.ask k)) ws in
-    let among = All-contains_itself cs in
-    All-map (λ (y : Conn). IsKept rest y.pending) (pend x.id None) cs
-    (All-weaker (λ (y : Conn). IsKept ws y.pending × Contains cs y) (λ (y : Conn). IsKept rest (pend x.id None y).pending)
-    (λ y w. elim (eqb_tells y.id x.id) [
-      | inl u ↦ rw (u.0) tt
-      | inr u ↦ rw (u.0) (kept-other ws y.pending k (λ same. u.1 (pending-apart None ds t h cs tables s last y x k amid w.1 has same waits)) w.0)
-    ]) cs (λ i d lt. (all i d lt, among i d lt)))
 
 answerable-late : (ds : List Ended) (t : ℕ) (h : List Written) (cs : List Conn) (tables : Held) (s : Bool) (last : ℕ) (out : List Outgoing) (x : Conn) (e : Exchange) (w : Waited) (ws : List Waited) (gs : List Given)
     → Amid None ds t h cs tables s last → Answerable h cs ws gs out → Contains cs x → x.pending ≡ Some e.opening → Contains ws w → w.ask ≡ e.opening
@@ -76,29 +33,10 @@ answerable-late : (ds : List Ended) (t : ℕ) (h : List Written) (cs : List Conn
     (filter (λ (v : Waited). not (eqb v.ask e.opening)) ws)
     (gs ++ answer_of w (record { number = length h; moment = t; heard = t }) (record { told = Fails Timeout; grounds = Fault Timeout e.number }) ∷ []) out
 answerable-late ds t h cs tables s last out x e w ws gs amid a has waits there is =
-    let entry : Written = written t (Answers x.id e.opening (Fault Timeout e.number)) in
-    let h1 : List Written = h ++ entry ∷ [] in
     let i : IsWaited h w = All-contains (IsWaited h) ws w a.asked there in
-    let stood : slice_get h e.opening ≡ Some (written i.asked (Asks i.conn (ask_of w.mapping))) =
-    subst (λ (k : ℕ). slice_get h k ≡ Some (written i.asked (Asks i.conn (ask_of w.mapping)))) is i.stands in
-    let own : i.conn ≡ x.id = own-ask ds t h cs tables s last x e.opening i.conn i.asked (ask_of w.mapping) amid has waits stood in
-    let g : Given = answer_of w (record { number = length h; moment = t; heard = t }) (record { told = Fails Timeout; grounds = Fault Timeout e.number }) in
-    let here : slice_get h1 (length h) ≡ Some entry = slice_get-end h entry in
-    let asked : slice_get h1 w.ask ≡ Some (written i.asked (Asks x.id (ask_of w.mapping))) =
-    subst (λ (c : ℕ). slice_get h1 w.ask ≡ Some (written i.asked (Asks c (ask_of w.mapping)))) own (slice_get-more h entry w.ask _ i.stands) in
-    let given : IsGiven h1 g = record {
-      conn = x.id;
-      asked = i.asked;
-      ask_stands = asked;
-      stands = rw is here;
-      found = refl;
-    } in
-    record {
-      given = All-push (IsGiven h1) gs g (given-keeps h entry gs a.given) given;
-      asked = All-filter (λ (v : Waited). not (eqb v.ask e.opening)) (IsWaited h1) ws (waited-keeps h entry ws a.asked);
-      kept = kept-answered ds t h cs tables s last x e.opening ws amid has waits a.kept;
-      unsent = (answerable-more h h1 entry cs ws gs out refl refl a).unsent;
-    }
+    let asks : x.pending ≡ Some w.ask = waits ∙ ap Some (sym is) in
+    let own = own-ask amid.reading h cs tables.exchanges s last x w.ask i.conn i.asked (ask_of w.mapping) amid.reads has asks i.stands in
+    rw (← is) (answerable-one h cs t out x (record { told = Fails Timeout; grounds = Fault Timeout e.number }) w i ws gs (apart-amid _ _ _ _ _ _ _ _ amid) a has asks own.0 refl)
 
 -- there is room for the answer to one that waits
 pub midway-room : (t : ℕ) (es : List Exchange) (tables : Held) (s : Bool) (out : List Outgoing) (h : List Written) (room : ℕ) (cs : List Conn) (last : ℕ) (ws : List Waited) (gs : List Given) (e : Exchange) (r : Reader)

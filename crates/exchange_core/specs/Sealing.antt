@@ -9,6 +9,10 @@ pub record HasSeal (h : List Written) : Type 0 where
   pub moment : ℕ
   pub stands : slice_get h number ≡ Some (written moment Seals)
 
+-- The journal is sealed, and nothing else changes.
+abbrev pub sealed_at : ℕ → CoreValue → CoreValue
+sealed_at t c = record c { entries = c.entries ++ written t Seals ∷ []; sealed = true; moment = t }
+
 -- There is no room, and the journal is sealed; nothing else changes.
 pub record SealsNow (NoRoom : Type 0) (t : ℕ) (old new : CoreValue) : Type 0 where
   pub room : NoRoom

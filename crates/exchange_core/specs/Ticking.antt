@@ -6,6 +6,7 @@ use Rattle.journal_book.specs.Entries.{Written, Passes, Seals, Answers, Fault}
 use Rattle.history_laws.specs.declared.kept.Conn.{Conn}
 use Rattle.history_laws.specs.declared.kept.Exchange.{Exchange}
 use Rattle.history_laws.specs.Kept.{Held}
+use Rattle.history_laws.specs.Exchanges.{max_transmit_wait}
 use Rattle.history_laws.specs.Amid.{Ended, Amid}
 use Rattle.datagram_verdict.specs.declared.verdict.Ending.{Ending}
 use Rattle.exchange_core.specs.Room.{HasPlaces, is_pending, takes}
@@ -13,9 +14,9 @@ use Rattle.datagram_verdict.specs.Findings.{Fails}
 use Rattle.exchange_core.specs.Answering.{Given, Waited}
 use Rattle.exchange_core.specs.CoreValue.{Outgoing, CoreValue, Answerable, written}
 
--- The exchange has been open for MAX_TRANSMIT_WAIT, which is 93 seconds (RFC 7252 section 4.8.2).
+-- The exchange has been open for MAX_TRANSMIT_WAIT (RFC 7252 section 4.8.2).
 abbrev pub is_past : ℕ → Exchange → Bool
-is_past t e = nat_le (e.since + 93000) t
+is_past t e = nat_le (e.since + max_transmit_wait) t
 
 -- the exchange that is waited for, where it is past its time
 abbrev pub late_on : ℕ → List Exchange → Option ℕ → Option Exchange
@@ -104,7 +105,7 @@ AddsAnswers n old new ws = (gs : List Given) × (new ≡ old ++ gs) × AreTimeou
 
 -- No connection waits for an exchange that is past its time.
 abbrev pub IsPrompt : ℕ → List Exchange → Conn → Type 0
-IsPrompt t es x = (e : Exchange) → Contains es e → x.pending ≡ Some e.opening → t < e.since + 93000
+IsPrompt t es x = (e : Exchange) → Contains es e → x.pending ≡ Some e.opening → t < e.since + max_transmit_wait
 
 -- Behind these entries come the answers, and nothing else of a core changes but that who was answered waits
 -- no more.
@@ -191,9 +192,9 @@ pub record HasDue (d : ℕ) (s : Bool) (cs : List Conn) (es : List Exchange) : T
   pub exchange : Exchange
   pub stands : Contains es exchange
   pub counted : counts s cs exchange ≡ true
-  pub due : d ≡ exchange.since + 93000
+  pub due : d ≡ exchange.since + max_transmit_wait
 
 -- the least moment at which the time of one that counts is over, if any counts
 abbrev pub IsNextDue : Bool → List Conn → List Exchange → Option ℕ → Type 0
 IsNextDue s cs es None = All (λ (e : Exchange). counts s cs e ≡ false) es
-IsNextDue s cs es (Some d) = HasDue d s cs es × All (λ (e : Exchange). counts s cs e ≡ true → d ≤ e.since + 93000) es
+IsNextDue s cs es (Some d) = HasDue d s cs es × All (λ (e : Exchange). counts s cs e ≡ true → d ≤ e.since + max_transmit_wait) es

@@ -160,7 +160,7 @@ impl<R: Relation> Core<R> {
         ensures memory { result ≡ Err AskFault.Memory → self.new ≡ self.old }
         ensures others { (result ≢ Err AskFault.Unknown) × (result ≢ Err AskFault.Pending) }
     {
-        let moment = self.last.max(moment.min(1 << 62));
+        let moment = self.now(moment);
         let first = first_id(word);
         let mid = next_mid(find_known(self.known.as_slice(), &peer), first);
         let token = token_of(self.issued, word);

@@ -8,7 +8,7 @@ ghost use Rattle.journal_book.specs.Entries.{Seals};
 ghost use Rattle.history_laws.specs.Justified.{Stands};
 ghost use Rattle.history_laws.specs.Limits.{MaySeal};
 ghost use Rattle.exchange_core.specs.CoreValue.{written, now, outgoing_of, AreUnsent};
-ghost use Rattle.exchange_core.specs.Sealing.{SealsNow};
+ghost use Rattle.exchange_core.specs.Sealing.{SealsNow, sealed_at};
 ghost use Rattle.exchange_core.specs.Opening.{OpensSo, ClosesSo};
 ghost use Rattle.exchange_core.specs.Room.{takes, takes_ask};
 ghost use Rattle.exchange_core.specs.Tables.{HasIdle};
@@ -123,6 +123,15 @@ impl<R: Relation> Core<R> {
         &self.journal
     }
 
+    /// The moment that counts at a call with this one, in milliseconds: none before the last, and none above 2^62.
+    pub(crate) fn now(&self, moment: u64) -> u64
+        ensures is { result ≡ now self.now.moment moment }
+        ensures later { self.now.moment ≤ result }
+        ensures early { result ≤ 2 ^ 62 }
+    {
+        self.last.max(moment.min(1 << 62))
+    }
+
     /// Whether entries may come that count so many bytes, and leave so many connections, as many of which
     /// wait for an answer.
     pub(crate) fn has_room_for(
@@ -159,13 +168,7 @@ impl<R: Relation> Core<R> {
         requires may { MaySeal self.old.entries }
         requires later { self.old.moment ≤ moment }
         requires early { moment ≤ 2 ^ 62 }
-        ensures entries { self.new.entries ≡ self.old.entries ++ written moment Seals ∷ [] }
-        ensures sealed { self.new.sealed ≡ true }
-        ensures conns { self.new.conns ≡ self.old.conns }
-        ensures exchanges { self.new.exchanges ≡ self.old.exchanges }
-        ensures answers { self.new.answers ≡ self.old.answers }
-        ensures sends { self.new.sends ≡ self.old.sends }
-        ensures moment { self.new.moment ≡ moment }
+        ensures { self.new ≡ sealed_at moment self.old }
     {
         self.journal.add(Entry {
             moment,
@@ -188,7 +191,7 @@ impl<R: Relation> Core<R> {
         if self.sealed {
             return Err(OpenFault::Sealed);
         }
-        let moment = self.last.max(moment.min(1 << 62));
+        let moment = self.now(moment);
         let pending = pending_count(self.conns.as_slice());
         if !self.has_room_for(1, 64, count + 1, pending) {
             self.seal(moment);
@@ -228,7 +231,7 @@ impl<R: Relation> Core<R> {
         ensures memory { result ≡ Err AskFault.Memory → self.new ≡ self.old }
         ensures others { (result ≢ Err AskFault.Unknown) × (result ≢ Err AskFault.Pending) }
     {
-        let moment = self.last.max(moment.min(1 << 62));
+        let moment = self.now(moment);
         let pending = pending_count(self.conns.as_slice());
         let size = incoming_size(mapped.came());
         if !self.has_room_for_ask(size, 132, pending) {
@@ -276,13 +279,7 @@ impl<R: Relation> Core<R> {
         ensures some { IfSome result (λ a. (a.ask ≡ ticket.now.number) × Contains self.old.answers (given_of a) × IsGiven self.old.entries (given_of a)) }
         ensures once { IfSome result (λ a. All (λ g. g.ask ≡ a.ask → g.number ≡ a.number) self.old.answers) }
         ensures none { result ≡ None → All (λ g. g.ask ≢ ticket.now.number) self.old.answers }
-        ensures answers { self.new.answers ≡ filter (λ g. not (g.ask == ticket.now.number)) self.old.answers }
-        ensures entries { self.new.entries ≡ self.old.entries }
-        ensures conns { self.new.conns ≡ self.old.conns }
-        ensures exchanges { self.new.exchanges ≡ self.old.exchanges }
-        ensures sealed { self.new.sealed ≡ self.old.sealed }
-        ensures moment { self.new.moment ≡ self.old.moment }
-        ensures sends { self.new.sends ≡ self.old.sends }
+        ensures taken { self.new ≡ record self.old { answers = filter (λ g. not (g.ask == ticket.now.number)) self.old.answers } }
     {
         self.outbox.take(ticket.number)
     }
@@ -310,7 +307,7 @@ impl<R: Relation> Core<R> {
         let Some(x) = find_conn(self.conns.as_slice(), conn) else {
             return false;
         };
-        let moment = self.last.max(moment.min(1 << 62));
+        let moment = self.now(moment);
         self.journal.add(Entry {
             moment,
             event: Event::Shut(conn),

@@ -100,7 +100,7 @@ impl<R: Relation> Core<R> {
         let Some(_) = find_known(self.known.as_slice(), &peer) else {
             return Ok(());
         };
-        let moment = self.last.max(moment.min(1 << 62));
+        let moment = self.now(moment);
         self.hear(moment, peer, bytes)
     }
 

@@ -6,7 +6,7 @@ ghost use Rattle.history_laws.specs.declared.kept.Exchange.{Exchange};
 ghost use Rattle.history_laws.specs.Kept.{Held};
 ghost use Rattle.exchange_core.specs.CoreValue.{Outgoing, now};
 ghost use Rattle.exchange_core.specs.Steps.{IsReader};
-ghost use Rattle.exchange_core.specs.Ticking.{is_past, late_on, due_count, timeouts, timed, going, moment_after, takes_tick, counts, waits_on, IsNextDue, HasPast, AddsAnswers, IsPrompt, TicksSo, Midway, IsMidway, late_ending};
+ghost use Rattle.exchange_core.specs.Ticking.{is_past, late_on, due_count, timeouts, timed, going, moment_after, takes_tick, counts, waits_on, IsNextDue, HasPast, AddsAnswers, IsPrompt, TicksSo, KeepsLate, Midway, IsMidway, late_ending};
 
 use crate::core_state::Core;
 use crate::outbox::Outbox;
@@ -209,13 +209,7 @@ impl<R: Relation> Core<R> {
         requires sealed { self.old.sealed ≡ true }
         requires later { self.old.moment ≤ moment }
         requires early { moment ≤ 2 ^ 62 }
-        ensures entries { self.new.entries ≡ self.old.entries ++ timeouts moment self.old.exchanges self.old.conns }
-        ensures conns { self.new.conns ≡ map (timed moment self.old.exchanges) self.old.conns }
-        ensures answers { AddsAnswers (length self.old.entries) self.old.answers self.new.answers (timeouts moment self.old.exchanges self.old.conns) }
-        ensures moment { self.new.moment ≡ moment_after moment self.old.moment (timeouts moment self.old.exchanges self.old.conns) }
-        ensures exchanges { self.new.exchanges ≡ self.old.exchanges }
-        ensures sealed { self.new.sealed ≡ true }
-        ensures sends { self.new.sends ≡ self.old.sends }
+        ensures { KeepsLate moment self.old self.new }
     {
         answer_each(
             &mut self.journal,
@@ -236,7 +230,7 @@ impl<R: Relation> Core<R> {
         ensures memory { OnErr result (self.new ≡ self.old) }
         ensures memory_last { OnErr result ((self.old.sealed ≡ false) × HasPast (now self.old.moment moment) self.old.exchanges × (takes_tick (now self.old.moment moment) self.old ≡ true)) }
     {
-        let moment = self.last.max(moment.min(1 << 62));
+        let moment = self.now(moment);
         if self.sealed {
             self.answer_late(moment);
             return Ok(());

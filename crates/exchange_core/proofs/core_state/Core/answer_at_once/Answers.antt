@@ -1,4 +1,4 @@
-use Rattle.std.proofs.Common.{rules, ◌-◌, ◌^◌, min, length, List, refl, sym, ◌∙◌, ap, subst, arith}
+use Rattle.std.proofs.Common.{rules, ◌-◌, ◌^◌, min, length, List, refl, sym, ◌∙◌, ap, subst, arith, ℕ, ◌≤◌}
 use Rattle.std.specs.Prelude.{count_by}
 use Rattle.std.specs.Arc.{arc_value}
 use Rattle.ask_model.specs.Requests.{Came}
@@ -21,10 +21,10 @@ invariant_of-self-2 g c =
     let answers = answerable-at-once s.journal.entries _ _ _ c.args.conn _ _ _ c.args.cause s.conns.items _ (arc_value c.in_ok-asked.asked) s.outbox.waiting _ _ s.outbox.answers _ _ _
     c.self.invariant.1 refl c.len-number.ensures c.add.ensures.entries c.add-2.ensures.entries
     refl c.in_ok-make_room.ensures.waiting c.put.ensures.waiting c.in_ok-make_room.ensures.answers c.put.ensures.answers
-    (c.refusal_of.ensures ∙ ap (λ (m : Mapping). refusal c.len-number.result c.max-moment.result m c.args.cause) (c.in_ok-answered.ensures ∙ sym c.in_ok-asked.ensures)) in (
+    (c.refusal_of.ensures ∙ ap (λ (m : Mapping). refusal c.len-number.result c.now-moment.result m c.args.cause) (c.in_ok-answered.ensures ∙ sym c.in_ok-asked.ensures)) in (
       kept-at-once s.journal.entries _ _ _ s.conns.items _ s.sealed s.bytes _ s.last _ _ c.incoming_size-size.result (length s.conns.items) c.pending_count-pending.result c.args.conn _ c.args.cause
           c.self.invariant.0 (ap (λ (v : CoreValue). v.sealed) c.self.view_is ∙ c.requires.unsealed)
-          (omega (arith, c.max-moment.ensures)) (omega (arith, c.max-moment.ensures, c.min.ensures, c.self.invariant.0.early))
+          (subst (λ (n : ℕ). n ≤ c.now-moment.result) (sym (ap (λ (v : CoreValue). v.moment) c.self.view_is)) c.now-moment.ensures.later) c.now-moment.ensures.early
           refl (c.pending_count-pending.ensures ∙ ap (count_by is_pending) c.as_slice.ensures)
           (subst (λ (cs : List Conn). HasIdle cs c.args.conn) (sym (ap (λ (v : CoreValue). v.conns) c.self.view_is)) c.requires.idle)
           (subst (λ (es : List Exchange). IsAtOnce (arc_value c.in_ok-asked.asked).sense (length es) c.args.cause) (sym (ap (λ (v : CoreValue). v.exchanges) c.self.view_is)) (rw (c.in_ok-asked.ensures) (c.requires.cause)))

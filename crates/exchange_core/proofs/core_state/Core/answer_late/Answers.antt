@@ -1,4 +1,4 @@
-use Rattle.std.proofs.Common.{◌≤◌, ℕ, map, sym, subst, ap, ◌∙◌}
+use Rattle.std.proofs.Common.{◌≤◌, ℕ, map, refl, sym, subst, ap, ◌∙◌}
 use Rattle.history_laws.specs.Kept.{Held}
 use Rattle.exchange_core.specs.CoreValue.{CoreValue, outgoing_of}
 use Rattle.exchange_core.proofs.Ticked.{midway-sealed, kept-late}
@@ -31,3 +31,19 @@ invariant_of-self g c =
       m.answerable,
       m.places,
     )
+
+pub returns : goal.returns
+returns g c =
+    let is = c.self.view_is in
+    let entries = rw (c.as_slice.ensures) at c.answer_each.ensures.entries in
+    let conns = rw (c.as_slice.ensures) at c.answer_each.ensures.conns in
+    let last = rw (c.as_slice.ensures) at c.answer_each.ensures.last in
+    let gave = rw (c.as_slice.ensures) at c.answer_each.ensures.answers in
+    let sealed = ap (λ (v : CoreValue). v.sealed) is ∙ c.requires.sealed in
+    rw (← is) (record {
+      before = sealed;
+      answers = record { entries = entries; conns = conns; answers = gave; sends = refl };
+      sealed = sealed;
+      moment = last;
+      exchanges = refl;
+    })

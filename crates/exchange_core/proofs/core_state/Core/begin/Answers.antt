@@ -39,7 +39,7 @@ invariant_of-self-2 g c =
     let counted = c.incoming_size-size.ensures ∙ ap (λ (x : Came). min (came_size x) (2 ^ 64 - 1)) (c.came.ensures.came ∙ ap (λ (m : Mapping). m.came) c.deref.ensures) in
     let asked = pushed _ _ _ _ c.add.ensures.entries c.in_ok-begun.ensures.asked in
     let sent = pushed _ _ _ _ c.add-2.ensures.entries c.in_ok-begun.ensures.sent in
-    let answers = answerable-begun s.journal.entries _ _ _ _ _ c.args.conn c.max-moment.result c.len-number.result (map outgoing_of s.sends.items) _ s.conns.items _ (arc_value c.args.mapped) s.outbox.waiting _ _ s.outbox.answers _
+    let answers = answerable-begun s.journal.entries _ _ _ _ _ c.args.conn c.now-moment.result c.len-number.result (map outgoing_of s.sends.items) _ s.conns.items _ (arc_value c.args.mapped) s.outbox.waiting _ _ s.outbox.answers _
     c.self.invariant.1 refl c.len-number.ensures c.add.ensures.entries sent c.in_ok-begun.ensures.asked
     (out-more s.sends.items _ _ _ (record { peer = c.args.peer; bytes = c.in_ok-bytes.bytes }) c.in_ok-make_places.ensures.sends c.push_back_reserved.ensures.items c.in_ok-begun.ensures.datagram)
     c.set_pending.ensures c.in_ok-make_places.ensures.waiting
@@ -49,7 +49,7 @@ invariant_of-self-2 g c =
           s.sealed s.bytes _ s.last _ _ c.incoming_size-size.result (c.pending_count-pending.result + 1) c.args.conn (ask_of (arc_value c.args.mapped)) asks.0 c.args.peer
           c.in_ok-bytes.bytes c.first_timeout-timeout.result c.next_mid-mid.result _ c.token_of-token.result
           c.self.invariant.0 (ap (λ (v : CoreValue). v.sealed) c.self.view_is ∙ c.requires.unsealed)
-          (omega (arith, c.max-moment.ensures)) (omega (arith, c.max-moment.ensures, c.min.ensures, c.self.invariant.0.early))
+          (subst (λ (n : ℕ). n ≤ c.now-moment.result) (sym (ap (λ (v : CoreValue). v.moment) c.self.view_is)) c.now-moment.ensures.later) c.now-moment.ensures.early
           (ap (λ (n : ℕ). n + 1) (c.pending_count-pending.ensures ∙ ap (count_by is_pending) c.as_slice-2.ensures))
           (subst (λ (cs : List Conn). HasIdle cs c.args.conn) (sym (ap (λ (v : CoreValue). v.conns) c.self.view_is)) c.requires.idle)
           (subst (λ (es : List Exchange). length es < 256) (sym (ap (λ (v : CoreValue). v.exchanges) c.self.view_is)) c.requires.few) asks.1 asks.2
@@ -76,7 +76,7 @@ returns-clause-adds g c =
     let mid = c.next_mid-mid.ensures ∙ ap (λ (u : Option Known). next_id u c.first_id-first.result) (c.find_known.ensures ∙ ap (λ (ks : List Known). known_of ks c.args.peer) c.as_slice.ensures) in (
       asks.0,
       asks.1,
-      opens-so _ c.max-moment.result _ _ _ _ (arc_value c.args.mapped) asks.0 _ _ _ c.args.peer c.next_mid-mid.result c.first_timeout-timeout.result c.token_of-token.result c.in_ok-bytes.bytes
+      opens-so _ c.now-moment.result _ _ _ _ (arc_value c.args.mapped) asks.0 _ _ _ c.args.peer c.next_mid-mid.result c.first_timeout-timeout.result c.token_of-token.result c.in_ok-bytes.bytes
           c.self.view_is (search rules) refl asks.2
           (numbered-so _ s.issued s.known.items c.args.peer c.args.word c.first_id-first.result _ _ _ c.self.invariant.0.issued c.first_id-first.ensures mid
           c.token_of-token.ensures.size c.token_of-token.ensures.number c.token_of-token.ensures.word c.first_timeout-timeout.ensures.word)

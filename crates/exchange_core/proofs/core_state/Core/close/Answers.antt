@@ -1,4 +1,4 @@
-use Rattle.std.proofs.Common.{rules, ◌≡◌, ◌∷◌, ◌++◌, [], ℕ, max, eqb, not, refl, ap, ◌∙◌, arith}
+use Rattle.std.proofs.Common.{rules, ◌∷◌, ◌++◌, [], ℕ, eqb, not, refl, ap, ◌∙◌, ◌≤◌, sym, subst}
 use Rattle.std.specs.List.{filter}
 use Rattle.journal_book.specs.Entries.{Shuts, Written}
 use Rattle.history_laws.specs.declared.kept.Conn.{Conn}
@@ -13,7 +13,7 @@ invariant_of-self g c =
     let s = c.self.inside in
     let found = rw (c.as_slice.ensures) at c.in-Some.ensures.some in (
       kept-close s.journal.entries _ s.conns.items _ _ s.sealed s.bytes _ s.last _ c.args.conn c.in-Some.x
-          c.self.invariant.0 (omega (arith, c.max-moment.ensures)) (omega (arith, c.max-moment.ensures, c.min.ensures, c.self.invariant.0.early))
+          c.self.invariant.0 (subst (λ (n : ℕ). n ≤ c.now-moment.result) (sym (ap (λ (v : CoreValue). v.moment) c.self.view_is)) c.now-moment.ensures.later) c.now-moment.ensures.early
           found.0 found.1
           c.add.ensures.entries c.drop_conn.ensures c.saturating_add-self-inside.ensures,
       answerable-shut s.journal.entries _ _ s.conns.items _ _ s.sealed s.last c.in-Some.x c.args.conn s.outbox.waiting _ s.outbox.answers _ _
@@ -34,8 +34,7 @@ pub returns : goal.returns
 returns g c =
     let s = c.self.inside in
     let v = c.args.self.now in
-    let at_t : c.max-moment.result ≡ now v.moment c.args.moment =
-    c.max-moment.ensures ∙ ap (max s.last) c.min.ensures ∙ ap (λ (n : ℕ). now n c.args.moment) (ap (λ (v : CoreValue). v.moment) c.self.view_is) in
+    let at_t = c.now-moment.ensures.is in
     let entry : Written = written (now v.moment c.args.moment) (Shuts c.args.conn) in
     let found = rw (c.as_slice.ensures) at c.in-Some.ensures.some in
     record {

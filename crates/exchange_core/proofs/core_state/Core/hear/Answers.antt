@@ -122,13 +122,12 @@ returns-then-not-has_room_for-clause-heard g c =
     let unsealed = c.requires.unsealed in
     let conns = ap (λ (v : CoreValue). v.conns) c.self.view_is in
     let count : c.len-count.result ≡ length s.conns.items = c.len-count.ensures in
-    let a = c.seal.ensures in
     seals-shown _ c.args.moment c.args.peer c.args.bytes.now v c.seal.new.self (search rules)
     (no-room c.args.bytes.now v c.is_some.result c.is_some-answers.result c.has_room_for.result (1 + c.added-entries.result.0) (length c.args.bytes.now + 64 + c.added-entries.result.1)
     c.len-count.result c.pending_count-pending.result c.saturating_sub-waiting.result (c.has_room_for.ensures unsealed) c.if-not-has_room_for.true
     (ap (λ x. 1 + x.0) c.added-entries.ensures) (ap (λ x. length c.args.bytes.now + 64 + x.1) c.added-entries.ensures)
     (count ∙ ap (λ (cs : List Conn). length cs) conns) (c.pending_count-pending.ensures ∙ ap (count_by is_pending) (c.as_slice-4.ensures ∙ conns)) (search rules))
-    a.sealed a.moment a.entries a.conns a.exchanges a.answers a.sends
+    c.seal.ensures
 
 pub returns-in_err-make_places-clause-memory : goal.returns-in_err-make_places-clause-memory
 returns-in_err-make_places-clause-memory g c =

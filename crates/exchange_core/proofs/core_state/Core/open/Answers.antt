@@ -1,4 +1,4 @@
-use Rattle.std.proofs.Common.{rules, refl, ◌∙◌, ap, subst, arith}
+use Rattle.std.proofs.Common.{rules, refl, ◌∙◌, ap, subst, arith, ℕ, ◌≤◌, sym}
 use Rattle.std.specs.Prelude.{count_by}
 use Rattle.exchange_core.specs.Room.{is_pending}
 use Rattle.exchange_core.proofs.Giving.{answerable-opened}
@@ -14,7 +14,7 @@ invariant_of-self-2 g c =
     let s = c.self.inside in (
       kept-open s.journal.entries _ _ s.conns.items _ _ _ s.sealed s.bytes _ s.last _ _ _ c.len-count.result c.pending_count-pending.result
           c.self.invariant.0 c.if-self.false
-          (omega (arith, c.max-moment.ensures)) (omega (arith, c.max-moment.ensures, c.min.ensures, c.self.invariant.0.early))
+          (subst (λ (n : ℕ). n ≤ c.now-moment.result) (sym (ap (λ (v : CoreValue). v.moment) c.self.view_is)) c.now-moment.ensures.later) c.now-moment.ensures.early
           c.len-count.ensures (c.pending_count-pending.ensures ∙ ap (count_by is_pending) c.as_slice.ensures)
           (omega (arith, c.if-count-ge-CONNECTIONS.false)) (search rules)
           refl refl c.add.ensures.entries c.in_ok-make_room.ensures.items c.add-2.ensures
@@ -41,8 +41,7 @@ returns-then-self-clause-opens g c = no-more _ _ (subst (λ (v : CoreValue). Has
 
 pub returns-then-not-has_room_for-clause-opens : goal.returns-then-not-has_room_for-clause-opens
 returns-then-not-has_room_for-clause-opens g c =
-    let w = c.seal.ensures in
-    none-more _ _ _ (search rules) (seals-now _ _ _ _ (search rules) (search rules) w.sealed w.moment w.entries w.conns w.exchanges w.answers w.sends)
+    none-more _ _ _ (search rules) (seals-now _ _ _ _ (search rules) (search rules) c.seal.ensures)
 
 pub add-requires : goal.add-requires
 add-requires g c =

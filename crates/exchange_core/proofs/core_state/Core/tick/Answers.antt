@@ -1,4 +1,4 @@
-use Rattle.std.proofs.Common.{rules, ◌≡◌, inl, inr, ◌+◌, ◌-◌, ◌*◌, ℕ, true, false, max, List, length, map, refl, sym, subst, ap, ◌∙◌, arith}
+use Rattle.std.proofs.Common.{rules, ◌≡◌, inl, inr, ◌+◌, ◌-◌, ◌*◌, ℕ, true, false, List, length, map, refl, sym, subst, ap, ◌∙◌, arith, ◌≤◌}
 use Rattle.std.specs.Prelude.{count_by}
 use Rattle.journal_book.specs.Entries.{Written}
 use Rattle.history_laws.specs.Kept.{Held}
@@ -6,45 +6,33 @@ use Rattle.exchange_core.specs.Room.{is_pending, takes}
 use Rattle.exchange_core.specs.CoreValue.{CoreValue, now, outgoing_of}
 use Rattle.exchange_core.specs.Ticking.{due_count, takes_tick, going}
 use Rattle.exchange_core.proofs.Lates.{prompt-timed}
-use Rattle.exchange_core.proofs.Ticked.{due-fewer, midway-passed, kept-ticked, entries-passed, moment-same, ticked-sealed, ticked-ends, room-is, now-early, past-at, early-at}
+use Rattle.exchange_core.proofs.Ticked.{due-fewer, midway-passed, kept-ticked, entries-passed, moment-same, ticked-sealed, ticked-ends, room-is, past-at, early-at}
 use Rattle.exchange_core.proofs.Keeping.{places-add, room-to-seal}
 use Rattle.exchange_core.proofs.core_state.Core.tick.Goals as goal
 
 pub overflow_sub-pending : goal.overflow_sub-pending
 overflow_sub-pending g c =
     let s = c.self.inside in
-    let less = due-fewer c.max-moment.result s.exchanges.items s.conns.items in
-    let due : c.late_count-answers.result ≡ due_count c.max-moment.result s.exchanges.items s.conns.items =
+    let less = due-fewer c.now-moment.result s.exchanges.items s.conns.items in
+    let due : c.late_count-answers.result ≡ due_count c.now-moment.result s.exchanges.items s.conns.items =
     rw (c.as_slice-3.ensures, c.as_slice-4.ensures) at c.late_count-answers.ensures in
     let wait : c.pending_count-pending.result ≡ count_by is_pending s.conns.items = c.pending_count-pending.ensures ∙ ap (count_by is_pending) c.as_slice-2.ensures in
     omega (arith, less, due, wait)
 
 pub answer_late-requires-then-not-has_room_for-clause-later : goal.answer_late-requires-then-not-has_room_for-clause-later
-answer_late-requires-then-not-has_room_for-clause-later g c = omega (arith, c.seal.ensures.moment)
+answer_late-requires-then-not-has_room_for-clause-later g c =
+    let same : c.seal.new.self.moment ≡ c.now-moment.result = ap (λ (v : CoreValue). v.moment) c.seal.ensures in
+    omega (arith, same)
 
 pub returns-then-self-clause-ticks : goal.returns-then-self-clause-ticks
-returns-then-self-clause-ticks g c =
-    let s = c.self.inside in
-    let v = c.args.self.now in
-    let t = c.max-moment.result in
-    let at_t : t ≡ now v.moment c.args.moment =
-    c.max-moment.ensures ∙ ap (max s.last) c.min.ensures ∙ ap (λ (n : ℕ). now n c.args.moment) (ap (λ (v : CoreValue). v.moment) c.self.view_is) in
-    let b = c.answer_late.ensures in
-    inl (rw (← at_t) (record {
-      before = sym (ap (λ (v : CoreValue). v.sealed) c.self.view_is) ∙ c.if-self.true;
-      answers = record { entries = b.entries; conns = b.conns; answers = b.answers; sends = b.sends };
-      sealed = b.sealed;
-      moment = b.moment;
-      exchanges = b.exchanges;
-    }))
+returns-then-self-clause-ticks g c = inl (rw (← c.now-moment.ensures.is) (c.answer_late.ensures))
 
 pub returns-then-not-has_late-clause-ticks : goal.returns-then-not-has_late-clause-ticks
 returns-then-not-has_late-clause-ticks g c =
     let s = c.self.inside in
     let v = c.args.self.now in
-    let t = c.max-moment.result in
-    let at_t : t ≡ now v.moment c.args.moment =
-    c.max-moment.ensures ∙ ap (max s.last) c.min.ensures ∙ ap (λ (n : ℕ). now n c.args.moment) (ap (λ (v : CoreValue). v.moment) c.self.view_is) in
+    let t = c.now-moment.result in
+    let at_t = c.now-moment.ensures.is in
     inr (inl (record {
       unsealed = sym (ap (λ (v : CoreValue). v.sealed) c.self.view_is) ∙ c.if-self.false;
       early = early-at t (now v.moment c.args.moment) s.exchanges.items v.exchanges at_t (ap (λ (v : CoreValue). v.exchanges) c.self.view_is) (rw (c.as_slice.ensures) at (c.has_late.ensures.none c.if-not-has_late.true));
@@ -55,9 +43,8 @@ pub returns-then-not-has_room_for-clause-ticks : goal.returns-then-not-has_room_
 returns-then-not-has_room_for-clause-ticks g c =
     let s = c.self.inside in
     let v = c.args.self.now in
-    let t = c.max-moment.result in
-    let at_t : t ≡ now v.moment c.args.moment =
-    c.max-moment.ensures ∙ ap (max s.last) c.min.ensures ∙ ap (λ (n : ℕ). now n c.args.moment) (ap (λ (v : CoreValue). v.moment) c.self.view_is) in
+    let t = c.now-moment.result in
+    let at_t = c.now-moment.ensures.is in
     let past = past-at t (now v.moment c.args.moment) s.exchanges.items v.exchanges at_t (ap (λ (v : CoreValue). v.exchanges) c.self.view_is) (rw (c.as_slice.ensures) at (c.has_late.ensures.some c.if-not-has_late.false)) in
     let more = c.late_count-answers.result in
     let count = c.len-count.result in
@@ -70,16 +57,14 @@ returns-then-not-has_room_for-clause-ticks g c =
     room-is t v s.exchanges.items s.conns.items count pending more (64 + 68 * more) (ap (λ (v : CoreValue). v.exchanges) c.self.view_is) (ap (λ (v : CoreValue). v.conns) c.self.view_is) cnt wait due refl in
     let answer : takes v.entries (1 + more) (64 + 68 * more) count (pending - more) ≡ false = sym (c.has_room_for.ensures unsealed) ∙ c.if-not-has_room_for.true in
     let told : takes_tick (now v.moment c.args.moment) v ≡ false = ap (λ (n : ℕ). takes_tick n v) (sym at_t) ∙ sym same ∙ answer in
-    let a = c.seal.ensures in
-    let b = c.answer_late-then-not-has_room_for.ensures in
     inr (inr (inr (ticked-sealed t (now v.moment c.args.moment) v c.seal.new.self c.answer_late-then-not-has_room_for.new.self at_t unsealed past told
-    a.entries a.conns a.exchanges a.sends a.moment a.answers b.answers b.entries b.conns b.sends b.moment b.exchanges b.sealed)))
+    c.seal.ensures c.answer_late-then-not-has_room_for.ensures)))
 
 pub answer_each-requires : goal.answer_each-requires
 answer_each-requires g c =
     let s = c.self.inside in
     let v = c.args.self.now in
-    let t = c.max-moment.result in
+    let t = c.now-moment.result in
     let more = c.late_count-answers.result in
     let count = c.len-count.result in
     let pending = c.pending_count-pending.result in
@@ -92,7 +77,7 @@ answer_each-requires g c =
     let room_fits : takes s.journal.entries (1 + more) (64 + 68 * more) count (pending - more) ≡ true =
     subst (λ (h : List Written). takes h (1 + more) (64 + 68 * more) count (pending - more) ≡ true) (sym (ap (λ (v : CoreValue). v.entries) c.self.view_is)) answer in
     let start = midway-passed s.journal.entries _ _ _ s.conns.items tables s.sealed s.bytes s.last t count pending more (64 + 68 * more) (map outgoing_of s.sends.items) s.outbox.waiting s.outbox.answers
-    c.self.invariant.0 c.self.invariant.1 c.if-self.false (omega (arith, c.max-moment.ensures)) cnt wait due room_fits
+    c.self.invariant.0 c.self.invariant.1 c.if-self.false (subst (λ (n : ℕ). n ≤ c.now-moment.result) (sym (ap (λ (v : CoreValue). v.moment) c.self.view_is)) c.now-moment.ensures.later) cnt wait due room_fits
     refl c.add.ensures.entries (places-add s.journal.entries _ _ s.journal.room _ c.self.invariant.2 c.add.ensures.entries c.add.ensures.room) in
     rw (c.as_slice-5.ensures) (record tables { exchanges = going t s.exchanges.items }, s.sealed, map outgoing_of s.sends.items, start)
 
@@ -100,7 +85,7 @@ pub invariant_of-self : goal.invariant_of-self
 invariant_of-self g c =
     let s = c.self.inside in
     let v = c.args.self.now in
-    let t = c.max-moment.result in
+    let t = c.now-moment.result in
     let more = c.late_count-answers.result in
     let count = c.len-count.result in
     let pending = c.pending_count-pending.result in
@@ -113,14 +98,14 @@ invariant_of-self g c =
     let room_fits : takes s.journal.entries (1 + more) (64 + 68 * more) count (pending - more) ≡ true =
     subst (λ (h : List Written). takes h (1 + more) (64 + 68 * more) count (pending - more) ≡ true) (sym (ap (λ (v : CoreValue). v.entries) c.self.view_is)) answer in
     let start = midway-passed s.journal.entries _ _ _ s.conns.items tables s.sealed s.bytes s.last t count pending more (64 + 68 * more) (map outgoing_of s.sends.items) s.outbox.waiting s.outbox.answers
-    c.self.invariant.0 c.self.invariant.1 c.if-self.false (omega (arith, c.max-moment.ensures)) cnt wait due room_fits
+    c.self.invariant.0 c.self.invariant.1 c.if-self.false (subst (λ (n : ℕ). n ≤ c.now-moment.result) (sym (ap (λ (v : CoreValue). v.moment) c.self.view_is)) c.now-moment.ensures.later) cnt wait due room_fits
     refl c.add.ensures.entries (places-add s.journal.entries _ _ s.journal.room _ c.self.invariant.2 c.add.ensures.entries c.add.ensures.room) in
     let gives = rw (c.as_slice-5.ensures) at c.answer_each.ensures.midway in
     let entries = rw (c.as_slice-5.ensures) at c.answer_each.ensures.entries in
     let conns = rw (c.as_slice-5.ensures) at c.answer_each.ensures.conns in
     let m = gives (record tables { exchanges = going t s.exchanges.items }) s.sealed (map outgoing_of s.sends.items) start in (
       kept-ticked s.journal.entries _ _ _ _ s.conns.items _ tables s.sealed s.bytes _ s.last _ t count pending more (64 + 68 * more) _ _ _ _
-          c.self.invariant.0 c.if-self.false (now-early t s.last c.min.result c.args.moment c.max-moment.ensures c.min.ensures c.self.invariant.0.early) cnt wait due room_fits refl
+          c.self.invariant.0 c.if-self.false c.now-moment.ensures.early cnt wait due room_fits refl
           refl c.add.ensures.entries entries conns m c.drop_late.ensures c.saturating_add-self-inside.ensures,
       m.answerable,
       m.places,
@@ -130,9 +115,8 @@ pub returns-clause-ticks : goal.returns-clause-ticks
 returns-clause-ticks g c =
     let s = c.self.inside in
     let v = c.args.self.now in
-    let t = c.max-moment.result in
-    let at_t : t ≡ now v.moment c.args.moment =
-    c.max-moment.ensures ∙ ap (max s.last) c.min.ensures ∙ ap (λ (n : ℕ). now n c.args.moment) (ap (λ (v : CoreValue). v.moment) c.self.view_is) in
+    let t = c.now-moment.result in
+    let at_t = c.now-moment.ensures.is in
     let past = past-at t (now v.moment c.args.moment) s.exchanges.items v.exchanges at_t (ap (λ (v : CoreValue). v.exchanges) c.self.view_is) (rw (c.as_slice.ensures) at (c.has_late.ensures.some c.if-not-has_late.false)) in
     let more = c.late_count-answers.result in
     let count = c.len-count.result in
@@ -156,25 +140,20 @@ returns-clause-ticks g c =
 
 pub returns-clause-prompt : goal.returns-clause-prompt
 returns-clause-prompt g c =
-    let at_t : c.max-moment.result ≡ now c.args.self.now.moment c.args.moment =
-    c.max-moment.ensures ∙ ap (max c.self.inside.last) c.min.ensures ∙ ap (λ (n : ℕ). now n c.args.moment) (ap (λ (v : CoreValue). v.moment) c.self.view_is) in
     let conns = rw (c.as_slice-5.ensures) at c.answer_each.ensures.conns in
-    rw (← at_t, ← c.self.view_is) (prompt-timed c.max-moment.result c.self.inside.exchanges.items c.self.inside.conns.items _ conns)
+    rw (← c.now-moment.ensures.is, ← c.self.view_is) (prompt-timed c.now-moment.result c.self.inside.exchanges.items c.self.inside.conns.items _ conns)
 
 pub returns-then-self-clause-prompt : goal.returns-then-self-clause-prompt
 returns-then-self-clause-prompt g c =
     let v = c.args.self.now in
-    let at_t : c.max-moment.result ≡ now v.moment c.args.moment =
-    c.max-moment.ensures ∙ ap (max c.self.inside.last) c.min.ensures ∙ ap (λ (n : ℕ). now n c.args.moment) (ap (λ (v : CoreValue). v.moment) c.self.view_is) in
-    rw (← at_t) (prompt-timed c.max-moment.result v.exchanges v.conns c.answer_late.new.self.conns c.answer_late.ensures.conns)
+    rw (← c.now-moment.ensures.is) (prompt-timed c.now-moment.result v.exchanges v.conns c.answer_late.new.self.conns c.answer_late.ensures.answers.conns)
 
 pub returns-then-not-has_room_for-clause-prompt : goal.returns-then-not-has_room_for-clause-prompt
 returns-then-not-has_room_for-clause-prompt g c =
     let v = c.args.self.now in
-    let at_t : c.max-moment.result ≡ now v.moment c.args.moment =
-    c.max-moment.ensures ∙ ap (max c.self.inside.last) c.min.ensures ∙ ap (λ (n : ℕ). now n c.args.moment) (ap (λ (v : CoreValue). v.moment) c.self.view_is) in
-    let conns = rw (c.seal.ensures.exchanges) at c.answer_late-then-not-has_room_for.ensures.conns in
-    rw (← at_t) (prompt-timed c.max-moment.result v.exchanges c.seal.new.self.conns c.answer_late-then-not-has_room_for.new.self.conns conns)
+    let same : c.seal.new.self.exchanges ≡ v.exchanges = ap (λ (v : CoreValue). v.exchanges) c.seal.ensures in
+    let conns = rw same at c.answer_late-then-not-has_room_for.ensures.answers.conns in
+    rw (← c.now-moment.ensures.is) (prompt-timed c.now-moment.result v.exchanges c.seal.new.self.conns c.answer_late-then-not-has_room_for.new.self.conns conns)
 
 pub add-requires : goal.add-requires
 add-requires g c =
