@@ -1,3 +1,4 @@
 pub mod Tables
 pub mod FirstOnes
 pub mod Setups
+pub mod Files

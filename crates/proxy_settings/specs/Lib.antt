@@ -7,3 +7,4 @@ pub mod Rows
 pub mod Written
 pub mod Setups
 pub mod Fronts
+pub mod Files

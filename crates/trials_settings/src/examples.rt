@@ -13,8 +13,8 @@ listen = "127.0.0.1:8080"
 # From where CoAP messages are sent. An IPv6 address stands in brackets, as in "[2001:db8::1]:5683".
 udp = "0.0.0.0:56830"
 
-# What a target begins with that names a CoAP resource: GET /hc/coap://lamp.example.com/light asks
-# lamp.example.com for /light. Letters, digits and -._~/ between two slashes.
+# What a target begins with that names a CoAP resource: GET /hc/coap://s.example.com/light asks
+# s.example.com for /light. Letters, digits and -._~/ between two slashes.
 base = "/hc/"
 
 # Whether addresses that stand in targets are taken as they are; false: only hosts listed below.
@@ -29,16 +29,20 @@ pass = false
 # A device behind the proxy. There may be any number; of equal hosts the first counts.
 [[origin]]
 # Its name, in any case.
-host = "lamp.example.com"
+host = "s.example.com"
 # Its address, without a port: the port stands in the target, or is 5683.
 address = "192.0.2.1"
 # Whether its resources may be observed, so that one observation serves many readers.
+observe = false
+
+[[origin]]
+host = "o.example.com"
+address = "192.0.2.2"
 observe = true
 
 [[origin]]
 host = "meter.example.com"
 address = "2001:db8::1"
-observe = false
 
 # What is transformed on its way to a client: from a content format to a media type.
 [[down]]
@@ -90,7 +94,7 @@ max_age = 5
 fn proxy(rt: HostRuntime) -> Result<(), Fail> {
     assert_eq!(rt;
         told(rt.alloc(), Part::Serve, HCPROXY)?.as_str(),
-        "127.0.0.1:8080 0.0.0.0:56830 /hc/ true false false; lamp.example.com 192.0.2.1 true; meter.example.com 2001:db8::1 false; down 60 application/json CborJson; up application/json 60 JsonCbor"
+        "127.0.0.1:8080 0.0.0.0:56830 /hc/ true false false; s.example.com 192.0.2.1 false; o.example.com 192.0.2.2 true; meter.example.com 2001:db8::1 false; down 60 application/json CborJson; up application/json 60 JsonCbor"
     );
     Ok(())
 }

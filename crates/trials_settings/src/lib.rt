@@ -10,6 +10,8 @@ mod bad;
 #[cfg(test)]
 mod examples;
 #[cfg(test)]
+mod files;
+#[cfg(test)]
 mod good;
 #[cfg(test)]
 mod memory;
