@@ -1,7 +1,9 @@
 -- The exit status that tells of a failure.
 use Rattle.std.specs.Prelude.{ℕ}
-use Rattle.hcproxy.specs.declared.Failure.{Failure}
-use Rattle.hcproxy.specs.declared.Failure.TheVariants.{Usage, Replay}
+use Rattle.proxy_settings.specs.declared.file.FileFault.{FileFault}
+use Rattle.proxy_settings.specs.declared.file.FileFault.TheVariants as file
+use Rattle.hcproxy.specs.declared.report.Failure.{Failure}
+use Rattle.hcproxy.specs.declared.report.Failure.TheVariants as failure
 use Rattle.hcproxy.specs.declared.replay.ReplayFault.{ReplayFault}
 use Rattle.hcproxy.specs.declared.replay.ReplayFault.TheVariants.{Line, Device, Memory}
 
@@ -10,6 +12,18 @@ replay_status (Line number) = 1
 replay_status Device = 3
 replay_status Memory = 3
 
+-- 1 for what is refused, 2 for wrong arguments, 3 for a device or for want of memory
 abbrev pub exit_status : Failure → ℕ
-exit_status Usage = 2
-exit_status (Replay fault) = replay_status fault
+exit_status failure.Usage = 2
+exit_status failure.Settings = 1
+exit_status failure.Device = 3
+exit_status failure.Memory = 3
+exit_status (failure.Replay fault) = replay_status fault
+
+-- A file that was read is refused; one that can't be read is a failed device.
+abbrev pub setup_failure : FileFault → Failure
+setup_failure (file.Unread error) = failure.Device
+setup_failure file.TooLarge = failure.Settings
+setup_failure (file.NotText line) = failure.Settings
+setup_failure (file.Refused line reason) = failure.Settings
+setup_failure file.Memory = failure.Memory

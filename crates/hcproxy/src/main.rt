@@ -1,10 +1,11 @@
-//! The program: `hcproxy replay [--journal]` runs a script of inputs through the proxy and prints
-//! what comes out; `--help` and `--version` tell of it.
+//! The program: `hcproxy replay` runs a script of inputs through the proxy and prints what comes out,
+//! `hcproxy check` reads a file of settings; `--help` and `--version` tell of it.
 #![tactic(auto)]
 
-ghost use Rattle.std.specs.Prelude.{◌≡◌};
-ghost use Rattle.hcproxy.specs.Failures.{exit_status};
+ghost use Rattle.std.specs.Prelude.{IfOk};
+ghost use Rattle.proxy_settings.specs.Files.{IsOf};
 
+mod command;
 mod lines;
 #[cfg(test)]
 mod random_tests;
@@ -14,165 +15,127 @@ mod relation;
 mod replay;
 #[cfg(test)]
 mod reply_tests;
+mod report;
 #[cfg(test)]
 mod row_tests;
 mod script;
+#[cfg(test)]
+mod setting_tests;
 mod settings;
 #[cfg(test)]
 mod tests;
 
-use replay::{Reason, ReplayFault, Script};
-use settings::demonstration;
-use std::io::{self, BufReader, BufWriter};
+use ask_model::Settings;
+use command::{Command, command_of};
+use proxy_settings::{FileFault, Part, Serve, Setup, read_setup};
+use replay::Script;
+use report::{Hint, Report, USAGE};
+use settings::{demonstration, followed, undone};
+use std::alloc::AllocError;
 use std::process::ExitCode;
-use std::rt::Env;
-use std::{env, fmt};
-
-/// The first line of what `--help` prints, and what wrong arguments are told.
-const USAGE: &str = "usage: hcproxy replay [--journal] | hcproxy serve | hcproxy origin";
+use std::rt::{Env, Files};
+use std::{env, fs, io};
 
 /// What `--help` prints after the usage.
 const HELP: &str = "
 A gateway from HTTP/1.1 to CoAP.
 
-  replay            runs the script on standard input through the gateway, prints what goes out
-  replay --journal  .. and then the entries of the journal
-  serve, origin     are still to come
-  --help, -h        prints this
-  --version, -V     prints the version
+  replay                  runs the script on standard input through the gateway, and prints what goes out
+  replay --journal        .. and then the entries of the journal
+  replay --settings FILE  .. under the settings of FILE in place of those of a demonstration
+  check FILE              says whether FILE has settings of the gateway, or what is wrong at which line
+  check --origin FILE     the same of settings of the demonstration device
+  serve, origin           are still to come
+  --help, -h              prints this
+  --version, -V           prints the version
 
-Exit status: 0 done; 1 a line of the script was refused; 2 wrong arguments;
-3 standard input or output failed, or memory ran out.
-docs/FORMATS.md has the format of scripts, examples/ has some.";
+Exit status: 0 done; 1 a line of the script, or the settings, were refused; 2 wrong arguments;
+3 a file can't be read, standard input or output failed, or memory ran out.
+docs/FORMATS.md has the formats of scripts and settings, examples/ has some of both.";
 
 /// What `--version` prints.
 const VERSION: &str = "hcproxy 0.1.0";
 
-/// What the arguments ask for.
-#[derive(Clone, Copy, Debug, PartialEq, Eq)]
-enum Command {
-    Help,
-    Version,
-    Replay { journal: bool },
-}
-
-/// Why the program ends without having done what it was asked for.
-#[derive(Clone, Copy, Debug, PartialEq, Eq)]
-enum Failure {
-    Usage,
-    Replay(ReplayFault),
-}
-
-impl Failure {
-    /// The exit status that tells of it.
-    fn status(self) -> u8
-        ensures { result ≡ exit_status self }
-    {
-        match self {
-            Failure::Replay(ReplayFault::Line(_)) => 1,
-            Failure::Usage => 2,
-            Failure::Replay(ReplayFault::Device | ReplayFault::Memory) => 3,
-        }
+/// Reads the words after the program's name.
+fn words<R: Env + AllocGlobal>(rt: &R) -> Result<Vec<String>, Report<'static>> {
+    match env::args(rt) {
+        Ok(args) => args.skip(1).collect(rt.alloc()).map_err(out_of_memory),
+        Err(_) => Err(Report::usage(Hint::SeeHelp)),
     }
 }
 
-impl fmt::Display for Failure {
-    fn fmt<W: fmt::Write>(&self, f: &mut fmt::Formatter<W>) -> fmt::Result {
-        match self {
-            Failure::Usage => write!(f, "{USAGE}"),
-            Failure::Replay(fault) => write!(f, "hcproxy: {fault}"),
-        }
-    }
-}
-
-/// What more can be said of a failure.
-#[derive(Clone, Copy, Debug, PartialEq, Eq)]
-enum Hint {
-    SeeHelp,
-    StillToCome,
-    Because(Reason),
-}
-
-impl fmt::Display for Hint {
-    fn fmt<W: fmt::Write>(&self, f: &mut fmt::Formatter<W>) -> fmt::Result {
-        match self {
-            Hint::SeeHelp => write!(f, "hcproxy: --help says more"),
-            Hint::StillToCome => write!(f, "hcproxy: serve and origin are still to come"),
-            Hint::Because(reason) => write!(f, "hcproxy: {reason}"),
-        }
-    }
-}
-
-/// A failure, with a second line where more can be said.
-#[derive(Clone, Copy, Debug, PartialEq, Eq)]
-struct Report {
-    failure: Failure,
-    hint: Option<Hint>,
-}
-
-impl Report {
-    /// Wrong arguments.
-    fn usage(hint: Hint) -> Report {
-        Report {
-            failure: Failure::Usage,
-            hint: Some(hint),
-        }
-    }
-
-    /// A run that failed.
-    fn replay(fault: ReplayFault, reason: Option<Reason>) -> Report {
-        Report {
-            failure: Failure::Replay(fault),
-            hint: reason.map(Hint::Because),
-        }
-    }
-}
-
-/// What the words after the program's name ask for.
-fn command_of(words: &[String]) -> Result<Command, Hint> {
-    for word in words {
-        if matches!(word.as_str(), "--help" | "-h") {
-            return Ok(Command::Help);
-        }
-    }
-    match words {
-        [word] => match word.as_str() {
-            "--version" | "-V" => Ok(Command::Version),
-            "replay" => Ok(Command::Replay { journal: false }),
-            "serve" | "origin" => Err(Hint::StillToCome),
-            _ => Err(Hint::SeeHelp),
-        },
-        [name, flag] if name.as_str() == "replay" && flag.as_str() == "--journal" => {
-            Ok(Command::Replay { journal: true })
-        }
-        _ => Err(Hint::SeeHelp),
-    }
-}
-
-/// Reads the arguments.
-fn command_line<R: Env + AllocGlobal>(rt: &R) -> Result<Command, Report> {
-    let words: Vec<String> = match env::args(rt) {
-        Ok(args) => match args.skip(1).collect(rt.alloc()) {
-            Ok(words) => words,
-            Err(_) => return Err(Report::replay(ReplayFault::Memory, None)),
-        },
-        Err(_) => return Err(Report::usage(Hint::SeeHelp)),
-    };
-    command_of(&words).map_err(Report::usage)
+fn out_of_memory(_error: AllocError) -> Report<'static> {
+    Report::memory()
 }
 
 /// A write of a text that failed is told as a failed device.
-fn printed(outcome: io::Result<()>) -> Result<(), Report> {
-    outcome.map_err(|_| Report::replay(ReplayFault::Device, Some(Reason::Output)))
+fn printed(outcome: io::Result<()>) -> Result<(), Report<'static>> {
+    outcome.map_err(|_| Report::unprinted())
+}
+
+/// The settings of the part that a file has.
+fn setup_in<'a, R: Files + AllocGlobal>(
+    rt: &R,
+    part: Part,
+    path: &'a str,
+) -> Result<Setup, Report<'a>>
+    ensures { IfOk result (IsOf part) }
+{
+    let read = match fs::open(rt, path) {
+        Ok(file) => read_setup(rt.alloc(), part, file),
+        Err(error) => Err(FileFault::Unread(error)),
+    };
+    read.map_err(|fault| Report::file(path, fault))
+}
+
+/// Tells of the keys of settings that the gateway doesn't follow yet.
+fn tell_undone<R: Eprint>(rt: &R, path: &str, serve: &Serve) {
+    for (key, asked) in undone(serve) {
+        if asked {
+            let _ = eprintln!(rt; "hcproxy: {path}: {key}: not followed yet");
+        }
+    }
+}
+
+/// Says whether a file has settings.
+fn check<'a, R: Print + Eprint + Files + AllocGlobal>(
+    rt: &R,
+    part: Part,
+    path: &'a str,
+) -> Result<(), Report<'a>> {
+    let setup = setup_in(rt, part, path)?;
+    printed(println!(rt; "settings ok"))?;
+    if let Setup::Serve(serve) = &setup {
+        tell_undone(rt, path, serve);
+    }
+    Ok(())
+}
+
+/// The settings that a script runs under.
+fn settings_at<'a, R: Eprint + Files + AllocGlobal>(
+    rt: &R,
+    path: Option<&'a str>,
+) -> Result<Settings, Report<'a>> {
+    let alloc = rt.alloc();
+    let Some(path) = path else {
+        return demonstration(alloc).map_err(|fault| Report::replay(fault, None));
+    };
+    match setup_in(rt, Part::Serve, path)? {
+        Setup::Serve(serve) => {
+            tell_undone(rt, path, &serve);
+            followed(alloc, &serve).map_err(out_of_memory)
+        }
+        Setup::Origin(_) => unreachable!(),
+    }
 }
 
 /// Runs the script on standard input.
 fn replay_input<R: Input + Print + AllocGlobal + Clone + Drop>(
     rt: &R,
+    settings: Settings,
     journal: bool,
-) -> Result<(), Report> {
-    let alloc = rt.alloc();
-    let begun = demonstration(alloc).and_then(|settings| Script::new(alloc, settings));
+) -> Result<(), Report<'static>> {
+    let begun = Script::new(rt.alloc(), settings);
     let mut script = begun.map_err(|fault| Report::replay(fault, None))?;
     let mut reader = rt.reader();
     let mut writer = io::writer(rt);
@@ -180,24 +143,38 @@ fn replay_input<R: Input + Print + AllocGlobal + Clone + Drop>(
     outcome.map_err(|fault| Report::replay(fault, script.reason()))
 }
 
-/// Does what the arguments ask for.
-fn run<R: Env + Input + Print + AllocGlobal + Clone + Drop>(rt: &R) -> Result<(), Report> {
-    match command_line(rt)? {
+/// Does what the words ask for.
+fn run<'a, R: Input + Print + Eprint + Files + AllocGlobal + Clone + Drop>(
+    rt: &R,
+    words: &'a [String],
+) -> Result<(), Report<'a>> {
+    match command_of(words).map_err(Report::usage)? {
         Command::Help => printed(println!(rt; "{USAGE}\n{HELP}")),
         Command::Version => printed(println!(rt; "{VERSION}")),
-        Command::Replay { journal } => replay_input(rt, journal),
+        Command::Check { part, file } => check(rt, part, file),
+        Command::Replay {
+            journal,
+            settings: path,
+        } => replay_input(rt, settings_at(rt, path)?, journal),
     }
 }
 
-fn main(rt: HostRuntime) -> ExitCode {
-    match run(&rt) {
-        Ok(()) => ExitCode::from(0),
-        Err(Report { failure, hint }) => {
-            let _ = eprintln!(rt; "{failure}");
-            if let Some(hint) = hint {
-                let _ = eprintln!(rt; "{hint}");
-            }
-            ExitCode::from(failure.status())
-        }
+/// Tells why the program ends, and answers the exit status.
+fn tell<R: Eprint>(rt: &R, report: Report<'_>) -> u8 {
+    let _ = eprintln!(rt; "{}", report.failure);
+    if let Some(hint) = report.hint {
+        let _ = eprintln!(rt; "{hint}");
     }
+    report.failure.status()
+}
+
+fn main(rt: HostRuntime) -> ExitCode {
+    let status = match words(&rt) {
+        Err(report) => tell(&rt, report),
+        Ok(words) => match run(&rt, &words) {
+            Ok(()) => 0,
+            Err(report) => tell(&rt, report),
+        },
+    };
+    ExitCode::from(status)
 }

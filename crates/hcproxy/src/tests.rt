@@ -1,9 +1,10 @@
 //! Scripts run over memory.
 
+use crate::command::{Command, command_of};
 use crate::replay::{Reason, ReplayFault, Script, replay};
 use crate::script::LineFault;
 use crate::settings::demonstration;
-use crate::{Command, Hint, command_of};
+use proxy_settings::Part;
 use std::alloc::Global;
 use std::io::{self, ErrorKind, Read, Write};
 use std::test::Fail;
@@ -212,24 +213,73 @@ fn failed_devices_are_told(rt: HostRuntime) -> Result<(), Fail> {
     Ok(())
 }
 
+/// What a line of words asks for, or None where it is answered by the usage.
+const COMMANDS: [(&str, Option<Command<'static>>); 20] = [
+    ("replay", RUN),
+    (
+        "replay --journal",
+        Some(Command::Replay {
+            journal: true,
+            settings: None,
+        }),
+    ),
+    (
+        "replay --settings a.toml",
+        Some(Command::Replay {
+            journal: false,
+            settings: Some("a.toml"),
+        }),
+    ),
+    ("replay --journal --settings a.toml", BOTH),
+    ("replay --settings a.toml --journal", BOTH),
+    (
+        "check a.toml",
+        Some(Command::Check {
+            part: Part::Serve,
+            file: "a.toml",
+        }),
+    ),
+    (
+        "check --origin a.toml",
+        Some(Command::Check {
+            part: Part::Origin,
+            file: "a.toml",
+        }),
+    ),
+    ("replay --help", Some(Command::Help)),
+    ("-h", Some(Command::Help)),
+    ("--version", Some(Command::Version)),
+    ("serve", None),
+    ("origin", None),
+    ("replay --journal --journal", None),
+    ("replay --settings", None),
+    ("replay --settings a.toml b.toml", None),
+    ("replay a.toml", None),
+    ("--journal replay", None),
+    ("check", None),
+    ("check a.toml b.toml", None),
+    ("reply", None),
+];
+
+const RUN: Option<Command<'static>> = Some(Command::Replay {
+    journal: false,
+    settings: None,
+});
+
+const BOTH: Option<Command<'static>> = Some(Command::Replay {
+    journal: true,
+    settings: Some("a.toml"),
+});
+
 #[test]
 fn words_ask_for_a_command(rt: HostRuntime) -> Result<(), Fail> {
     let alloc = rt.alloc();
-    for (line, asked) in [
-        ("replay", Ok(Command::Replay { journal: false })),
-        ("replay --journal", Ok(Command::Replay { journal: true })),
-        ("replay --help", Ok(Command::Help)),
-        ("--version", Ok(Command::Version)),
-        ("serve", Err(Hint::StillToCome)),
-        ("replay --journal --journal", Err(Hint::SeeHelp)),
-        ("--journal replay", Err(Hint::SeeHelp)),
-        ("reply", Err(Hint::SeeHelp)),
-    ] {
+    for (line, asked) in COMMANDS {
         let mut words = Vec::new(alloc);
         for word in line.split(' ') {
             words.push(String::from_str(alloc, word)?)?;
         }
-        assert_eq!(rt; command_of(&words), asked, "{line}");
+        assert_eq!(rt; command_of(&words).ok(), asked, "{line}");
     }
     Ok(())
 }

@@ -1,0 +1,68 @@
+//! What the arguments ask for.
+
+use crate::report::Hint;
+use proxy_settings::Part;
+
+/// What the arguments ask for. A file is named by its path.
+#[derive(Clone, Copy, Debug, PartialEq, Eq)]
+pub enum Command<'a> {
+    Help,
+    Version,
+    /// A run of a script, under the settings of a file or else under those of a demonstration.
+    Replay {
+        journal: bool,
+        settings: Option<&'a str>,
+    },
+    /// Whether a file has settings of the part.
+    Check {
+        part: Part,
+        file: &'a str,
+    },
+}
+
+/// What the words after the program's name ask for.
+pub fn command_of(words: &[String]) -> Result<Command<'_>, Hint<'static>> {
+    for word in words {
+        if matches!(word.as_str(), "--help" | "-h") {
+            return Ok(Command::Help);
+        }
+    }
+    let Some((name, rest)) = words.split_first() else {
+        return Err(Hint::SeeHelp);
+    };
+    match (name.as_str(), rest) {
+        ("--version" | "-V", []) => Ok(Command::Version),
+        ("serve" | "origin", []) => Err(Hint::StillToCome),
+        ("replay", rest) => replay_of(rest).ok_or(Hint::SeeHelp),
+        ("check", rest) => check_of(rest).ok_or(Hint::SeeHelp),
+        _ => Err(Hint::SeeHelp),
+    }
+}
+
+/// What the words after `replay` ask for: `[--journal] [--settings FILE]`, in any order.
+fn replay_of(words: &[String]) -> Option<Command<'_>> {
+    let (journal, rest) = match words {
+        [flag, rest @ ..] if flag.as_str() == "--journal" => (true, rest),
+        [rest @ .., flag] if flag.as_str() == "--journal" => (true, rest),
+        _ => (false, words),
+    };
+    let settings = match rest {
+        [] => None,
+        [name, file] if name.as_str() == "--settings" => Some(file.as_str()),
+        _ => return None,
+    };
+    Some(Command::Replay { journal, settings })
+}
+
+/// What the words after `check` ask for: `[--origin] FILE`.
+fn check_of(words: &[String]) -> Option<Command<'_>> {
+    let (part, file) = match words {
+        [file] => (Part::Serve, file),
+        [flag, file] if flag.as_str() == "--origin" => (Part::Origin, file),
+        _ => return None,
+    };
+    Some(Command::Check {
+        part,
+        file: file.as_str(),
+    })
+}

@@ -1,0 +1,140 @@
+//! Why the program ends without having done what it was asked for.
+
+ghost use Rattle.std.specs.Prelude.{◌≡◌};
+ghost use Rattle.hcproxy.specs.Failures.{exit_status, setup_failure};
+
+use crate::replay::{Reason, ReplayFault};
+use proxy_settings::FileFault;
+use std::fmt;
+
+/// The first line of what `--help` prints, and what wrong arguments are told.
+pub const USAGE: &str = "usage: hcproxy replay [--journal] | hcproxy serve | hcproxy origin";
+
+/// Why the program ends without having done what it was asked for.
+#[derive(Clone, Copy, Debug, PartialEq, Eq)]
+pub enum Failure {
+    Usage,
+    /// A file has no settings of the part.
+    Settings,
+    /// A file of settings can't be read, or a text can't be printed.
+    Device,
+    Memory,
+    Replay(ReplayFault),
+}
+
+impl Failure {
+    /// The exit status that tells of it.
+    pub fn status(self) -> u8
+        ensures { result ≡ exit_status self }
+    {
+        match self {
+            Failure::Settings | Failure::Replay(ReplayFault::Line(_)) => 1,
+            Failure::Usage => 2,
+            Failure::Device | Failure::Replay(ReplayFault::Device) => 3,
+            Failure::Memory | Failure::Replay(ReplayFault::Memory) => 3,
+        }
+    }
+
+    /// What a file without settings is to the program.
+    pub fn of_file(fault: FileFault) -> Failure
+        ensures { result ≡ setup_failure fault }
+    {
+        match fault {
+            FileFault::TooLarge | FileFault::NotText(_) | FileFault::Refused(_, _) => {
+                Failure::Settings
+            }
+            FileFault::Unread(_) => Failure::Device,
+            FileFault::Memory => Failure::Memory,
+        }
+    }
+}
+
+impl fmt::Display for Failure {
+    fn fmt<W: fmt::Write>(&self, f: &mut fmt::Formatter<W>) -> fmt::Result {
+        match self {
+            Failure::Usage => write!(f, "{USAGE}"),
+            Failure::Settings => write!(f, "hcproxy: settings refused"),
+            Failure::Device => write!(f, "hcproxy: device failed"),
+            Failure::Memory => write!(f, "hcproxy: out of memory"),
+            Failure::Replay(fault) => write!(f, "hcproxy: {fault}"),
+        }
+    }
+}
+
+/// What more can be said of a failure.
+#[derive(Clone, Copy, Debug)]
+pub enum Hint<'a> {
+    SeeHelp,
+    StillToCome,
+    Because(Reason),
+    /// What is wrong with the file of that path.
+    File(&'a str, FileFault),
+}
+
+impl fmt::Display for Hint<'_> {
+    fn fmt<W: fmt::Write>(&self, f: &mut fmt::Formatter<W>) -> fmt::Result {
+        match self {
+            Hint::SeeHelp => write!(f, "hcproxy: --help says more"),
+            Hint::StillToCome => write!(f, "hcproxy: serve and origin are still to come"),
+            Hint::Because(reason) => write!(f, "hcproxy: {reason}"),
+            Hint::File(path, fault) => write!(f, "hcproxy: {path}: {fault}"),
+        }
+    }
+}
+
+/// A failure, with a second line where more can be said.
+#[derive(Clone, Copy, Debug)]
+pub struct Report<'a> {
+    pub failure: Failure,
+    pub hint: Option<Hint<'a>>,
+}
+
+impl<'a> Report<'a> {
+    /// Wrong arguments.
+    pub fn usage(hint: Hint<'a>) -> Report<'a> {
+        Report {
+            failure: Failure::Usage,
+            hint: Some(hint),
+        }
+    }
+
+    /// A run that failed.
+    pub fn replay(fault: ReplayFault, reason: Option<Reason>) -> Report<'a> {
+        let hint = match reason {
+            Some(reason) => Some(Hint::Because(reason)),
+            None => None,
+        };
+        Report {
+            failure: Failure::Replay(fault),
+            hint,
+        }
+    }
+
+    /// A file without settings.
+    pub fn file(path: &'a str, fault: FileFault) -> Report<'a> {
+        let hint = match fault {
+            FileFault::Memory => None,
+            _ => Some(Hint::File(path, fault)),
+        };
+        Report {
+            failure: Failure::of_file(fault),
+            hint,
+        }
+    }
+
+    /// A text that can't be printed.
+    pub fn unprinted() -> Report<'a> {
+        Report {
+            failure: Failure::Device,
+            hint: Some(Hint::Because(Reason::Output)),
+        }
+    }
+
+    /// Memory ran out.
+    pub fn memory() -> Report<'a> {
+        Report {
+            failure: Failure::Memory,
+            hint: None,
+        }
+    }
+}
