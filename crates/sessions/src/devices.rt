@@ -1,0 +1,92 @@
+//! What sessions are given from outside.
+
+ghost use Rattle.std.specs.Prelude.{ℕ, ◌≡◌, ◌≤◌, [], length, take, IfOk, IfSome, OnOk, OnErr, IsTrue, IsFalse};
+ghost use Rattle.sessions.specs.Devices.{Rises, Grown};
+
+use uri_map::Peer;
+
+/// A device failed.
+#[derive(Clone, Copy, Debug, PartialEq, Eq)]
+pub struct Failed;
+
+/// A client's connection.
+pub trait Stream {
+    ghost use Rattle.std.specs.Prelude.{List, ℕ, Option};
+
+    /// how often it failed
+    ghost count: { Self → ℕ };
+
+    /// what was written, where that can be known
+    ghost written: { Self → Option (List ℕ) };
+
+    /// How often it failed. A count at the greatest `u64` stays there.
+    fn faults(&self) -> u64
+        ensures { result ≡ count self.now };
+
+    /// Puts what comes next into the buffer, and answers how many bytes that are: none at the end.
+    fn read(&mut self, buffer: &mut [u8]) -> Result<usize, Failed>
+        ensures fits { IfOk result (λ n. n ≤ length buffer.new) }
+        ensures length { length buffer.new ≡ length buffer.old }
+        ensures same { Grown (written self.old) (written self.new) [] }
+        ensures ok { OnOk result (count self.new ≡ count self.old) }
+        ensures err { OnErr result (Rises (count self.old) (count self.new)) };
+
+    /// Writes the bytes, or a part of them where it fails.
+    fn write(&mut self, bytes: &[u8]) -> Result<(), Failed>
+        ensures ok { OnOk result (Grown (written self.old) (written self.new) bytes.now × (count self.new ≡ count self.old)) }
+        ensures err { OnErr result (((n : ℕ) × Grown (written self.old) (written self.new) (take n bytes.now)) × Rises (count self.old) (count self.new)) };
+}
+
+/// Where datagrams go and come from.
+pub trait Wire {
+    /// Sends a datagram. One that can't be sent is lost.
+    fn send(&self, peer: Peer, bytes: &[u8]);
+
+    /// Puts the datagram that comes in a short wait into the buffer, and answers how long it is and who sent
+    /// it.
+    fn receive(&self, buffer: &mut [u8]) -> Result<Option<(usize, Peer)>, Failed>
+        ensures fits { IfOk result (λ o. IfSome o (λ r. r.0 ≤ length buffer.new)) }
+        ensures length { length buffer.new ≡ length buffer.old };
+}
+
+/// Where a session may be held.
+#[derive(Clone, Copy, Debug, PartialEq, Eq)]
+pub enum Point {
+    /// after an ask
+    Asked,
+    /// after the wait for its answer
+    Answered,
+}
+
+/// Decides at each point whether a session goes on.
+pub trait Gate {
+    ghost use Rattle.std.specs.Prelude.{ℕ};
+
+    /// how often it said no
+    ghost nays: { Self → ℕ };
+
+    /// How often it said no. A count at the greatest `u64` stays there.
+    fn noes(&self) -> u64
+        ensures { result ≡ nays self.now };
+
+    /// Whether the session goes on; the number is the ask's.
+    fn pass(&mut self, point: Point, number: u32) -> bool
+        ensures yes { IsTrue result → nays self.new ≡ nays self.old }
+        ensures no { IsFalse result → Rises (nays self.old) (nays self.new) };
+}
+
+/// A gate that never says no.
+#[derive(Clone, Copy, Debug)]
+pub struct Open;
+
+impl Gate for Open {
+    ghost nays = { λ g. 0 };
+
+    fn noes(&self) -> u64 {
+        0
+    }
+
+    fn pass(&mut self, _point: Point, _number: u32) -> bool {
+        true
+    }
+}

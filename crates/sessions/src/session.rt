@@ -1,0 +1,205 @@
+//! What the thread of a connection does.
+
+ghost use Rattle.std.specs.Prelude.{ℕ, List, ◌≡◌, ◌≢◌, Some, None, IfSome};
+ghost use Rattle.front_desk.specs.Lines.{Line};
+ghost use Rattle.sessions.specs.Devices.{Rises};
+ghost use Rattle.sessions.specs.Telling.{Turned};
+
+use crate::devices::{Gate, Point, Stream, Wire};
+use crate::loops::send_due;
+use crate::reading::Reading;
+use crate::writing::{bytes_of, write_continue};
+use ask_model::Settings;
+use exchange_core::AskFault;
+use front_desk::{Clock, LockedDesk, Pass};
+use http_edge::Incoming;
+use http_mapping::map_request;
+use std::alloc::Global;
+use std::fmt;
+use std::sync::ledger::Ledger;
+use std::sync::{Arc, Wait};
+use transformers::Relation;
+
+/// Why a session ended.
+#[derive(Clone, Copy, Debug, PartialEq, Eq)]
+pub enum End {
+    /// The client closed the connection, or its last request was answered.
+    Finished,
+    /// A read failed.
+    ReadFault,
+    /// A write failed: a part of an answer may have gone out.
+    WriteFault,
+    /// The journal takes no more, so an ask wasn't taken.
+    Sealed,
+    /// Memory ran out.
+    Memory,
+    /// The gate said no.
+    Held,
+    /// The desk was shut.
+    Closed,
+}
+
+impl fmt::Display for End {
+    fn fmt<W: fmt::Write>(&self, f: &mut fmt::Formatter<W>) -> fmt::Result {
+        f.write_str(match self {
+            End::Finished => "Finished",
+            End::ReadFault => "ReadFault",
+            End::WriteFault => "WriteFault",
+            End::Sealed => "Sealed",
+            End::Memory => "Memory",
+            End::Held => "Held",
+            End::Closed => "Closed",
+        })
+    }
+}
+
+/// What is left of a session.
+#[derive(Drop)]
+pub struct Done<R: Relation, L: Ledger> {
+    pub pass: Pass<R, L>,
+    pub end: End,
+}
+
+/// Serves a connection until it ends: reads requests, asks each of them once the one before is answered, and
+/// writes the answers. What its ask sends goes out at once.
+pub fn serve<R: Relation, C: Clock, L: Ledger, S: Stream, N: Wire, G: Gate, W: Wait>(
+    rt: &W,
+    alloc: Global,
+    stream: &mut S,
+    wire: &N,
+    desk: &LockedDesk<R, C, L>,
+    gate: &mut G,
+    settings: &Arc<Settings>,
+    pass: Pass<R, L>,
+) -> Done<R, L>
+    ensures read_fault { result.end ≡ End.ReadFault → Rises (S.count stream.old) (S.count stream.new) }
+    ensures write_fault { result.end ≡ End.WriteFault → Rises (S.count stream.old) (S.count stream.new) }
+    ensures held { result.end ≡ End.Held → Rises (G.nays gate.old) (G.nays gate.new) }
+{
+    let mut pass = pass;
+    let end = talk(rt, alloc, stream, wire, desk, gate, settings, &mut pass);
+    desk.close(rt, pass.conn());
+    Done { pass, end }
+}
+
+/// Reads, asks, waits and writes by turns.
+fn talk<R: Relation, C: Clock, L: Ledger, S: Stream, N: Wire, G: Gate, W: Wait>(
+    rt: &W,
+    alloc: Global,
+    stream: &mut S,
+    wire: &N,
+    desk: &LockedDesk<R, C, L>,
+    gate: &mut G,
+    settings: &Arc<Settings>,
+    pass: &mut Pass<R, L>,
+) -> End
+    ensures read_fault { result ≡ End.ReadFault → Rises (S.count stream.old) (S.count stream.new) }
+    ensures write_fault { result ≡ End.WriteFault → Rises (S.count stream.old) (S.count stream.new) }
+    ensures held { result ≡ End.Held → Rises (G.nays gate.old) (G.nays gate.new) }
+{
+    let Ok(mut reading) = Reading::new(alloc) else {
+        return End::Memory;
+    };
+    for _ in rt.forever() {
+        match reading.next() {
+            Err(_) => return End::Memory,
+            Ok(Some(incoming)) => {
+                let last = is_last(&incoming);
+                if let Some(end) = turn(
+                    rt, alloc, stream, wire, desk, gate, settings, pass, incoming,
+                ) {
+                    return end;
+                }
+                if last {
+                    return End::Finished;
+                }
+            }
+            Ok(None) => {
+                if let Some(end) = read_on(stream, &mut reading) {
+                    return end;
+                }
+            }
+        }
+    }
+    unreachable!()
+}
+
+/// Whether the connection is closed after the answer to what was read.
+fn is_last(incoming: &Incoming) -> bool {
+    match incoming {
+        Incoming::Request(request) => request.close,
+        Incoming::Bad(_) => true,
+    }
+}
+
+/// Reads more, where the client isn't to be told first that it may go on.
+fn read_on<S: Stream>(stream: &mut S, reading: &mut Reading) -> Option<End>
+    ensures faults { result ≡ Some End.ReadFault → Rises (S.count stream.old) (S.count stream.new) }
+    ensures write_fault { result ≡ Some End.WriteFault → Rises (S.count stream.old) (S.count stream.new) }
+    ensures others { result ≢ Some End.Held }
+    ensures counted { result ≡ None → S.count stream.new ≡ S.count stream.old }
+{
+    if reading.wants_continue() {
+        return match write_continue(stream) {
+            Ok(()) => None,
+            Err(_) => Some(End::WriteFault),
+        };
+    }
+    match reading.more(stream) {
+        Ok(true) => None,
+        Ok(false) => Some(End::Finished),
+        Err(_) => Some(End::ReadFault),
+    }
+}
+
+/// Serves one request.
+fn turn<R: Relation, C: Clock, L: Ledger, S: Stream, N: Wire, G: Gate, W: Wait>(
+    rt: &W,
+    alloc: Global,
+    stream: &mut S,
+    wire: &N,
+    desk: &LockedDesk<R, C, L>,
+    gate: &mut G,
+    settings: &Arc<Settings>,
+    pass: &mut Pass<R, L>,
+    incoming: Incoming,
+) -> Option<End>
+    ensures none { result ≡ None → Turned pass.old.lines pass.new.lines (S.written stream.old) (S.written stream.new) }
+    ensures write_fault { result ≡ Some End.WriteFault → Rises (S.count stream.old) (S.count stream.new) }
+    ensures held { result ≡ Some End.Held → Rises (G.nays gate.old) (G.nays gate.new) }
+    ensures others { (result ≢ Some End.Finished) × (result ≢ Some End.ReadFault) }
+    ensures counted { result ≡ None → S.count stream.new ≡ S.count stream.old }
+    ensures passed { result ≡ None → G.nays gate.new ≡ G.nays gate.old }
+{
+    let Ok(mapped) = map_request::<R>(alloc, settings, incoming) else {
+        return Some(End::Memory);
+    };
+    let Ok(mapped) = Arc::new(alloc, mapped) else {
+        return Some(End::Memory);
+    };
+    let ticket = match desk.ask(rt, pass, mapped) {
+        Ok(ticket) => ticket,
+        Err(AskFault::Memory) => return Some(End::Memory),
+        Err(_) => return Some(End::Sealed),
+    };
+    let number = ticket.number;
+    send_due(rt, wire, desk);
+    if !gate.pass(Point::Asked, number) {
+        return Some(End::Held);
+    }
+    let Some(receipt) = desk.answer(rt, ticket) else {
+        return Some(End::Closed);
+    };
+    let bytes = bytes_of(alloc, &receipt.answer);
+    pass.keep(receipt);
+    if !gate.pass(Point::Answered, number) {
+        return Some(End::Held);
+    }
+    let Ok(bytes) = bytes else {
+        return Some(End::Memory);
+    };
+    match stream.write(bytes.as_slice()) {
+        Ok(()) => None,
+        Err(_) => Some(End::WriteFault),
+    }
+}

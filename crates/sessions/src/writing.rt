@@ -1,0 +1,33 @@
+//! What is written to a client.
+
+ghost use Rattle.std.specs.Prelude.{◌≡◌, IfOk, OnOk, OnErr};
+ghost use Rattle.exchange_core.specs.Answering.{given_of};
+ghost use Rattle.sessions.specs.Devices.{Rises, Grown};
+ghost use Rattle.sessions.specs.Telling.{SaysAnswer, continue_text};
+
+use crate::devices::{Failed, Stream};
+use exchange_core::Answer;
+use http_edge::{Memory, answer_bytes};
+use http_mapping::render;
+use std::alloc::Global;
+use transformers::Relation;
+
+/// What a client that waits with its body is told (RFC 9110, section 10.1.1).
+const CONTINUE: &str = "HTTP/1.1 100 Continue\r\n\r\n";
+
+/// The bytes that say an answer.
+pub fn bytes_of<R: Relation>(alloc: Global, answer: &Answer<R>) -> Result<Vec<u8>, Memory>
+    ensures { IfOk result (λ bytes. SaysAnswer (given_of answer.now) bytes.items) }
+{
+    let rendered = render(alloc, answer)?;
+    let bytes = answer_bytes(alloc, &rendered)?;
+    Ok(bytes)
+}
+
+/// Tells a client that waits with its body to go on.
+pub fn write_continue<S: Stream>(stream: &mut S) -> Result<(), Failed>
+    ensures ok { OnOk result (Grown (S.written stream.old) (S.written stream.new) continue_text × (S.count stream.new ≡ S.count stream.old)) }
+    ensures err { OnErr result (Rises (S.count stream.old) (S.count stream.new)) }
+{
+    stream.write(CONTINUE.as_bytes())
+}
