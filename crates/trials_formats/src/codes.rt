@@ -1,7 +1,7 @@
 //! Methods, and the statuses of response codes (RFC 8075, table 2).
 
 use code_map::{Method, Status, is_passed_on, method_of, phrase_of, status_of};
-use std::test::Fail;
+use std::alloc::{AllocError, Global};
 
 /// A method's name, the method, its code, and whether it writes.
 static METHODS: [(&[u8], Method, u8, bool); 5] = [
@@ -16,18 +16,27 @@ fn methods() -> &'static [(&'static [u8], Method, u8, bool)] {
     &METHODS
 }
 
+/// The name is the method's, and the method has this code, and writes or doesn't.
+fn is_method(name: &[u8], method: Method, code: u8, writes: bool) -> bool {
+    method_of(name) == Some(method)
+        && method.name().as_bytes() == name
+        && method.code() == code
+        && method.is_write() == writes
+}
+
+fn method_text(alloc: Global, method: Method) -> Result<String, AllocError> {
+    format!(in alloc; "{method}")
+}
+
 #[test]
-fn methods_by_name(rt: HostRuntime) -> Result<(), Fail> {
+fn methods_by_name(rt: HostRuntime) {
     for &(name, method, code, writes) in methods() {
-        assert_eq!(rt; method_of(name), Some(method));
-        assert_eq!(rt; method.name().as_bytes(), name);
-        assert_eq!(rt; (method.code(), method.is_write()), (code, writes));
+        assert!(rt; is_method(name, method, code, writes), "{method:?}");
     }
-    assert_eq!(rt; method_of(b"Get"), None);
-    assert_eq!(rt; method_of(b"PATCH"), None);
-    let method = format!(in rt.alloc(); "{}", Method::Delete)?;
+    assert!(rt; method_of(b"Get").is_none());
+    assert!(rt; method_of(b"PATCH").is_none());
+    let method = method_text(rt.alloc(), Method::Delete).expect(&rt, "memory");
     assert_eq!(rt; method.as_bytes(), b"DELETE".as_slice());
-    Ok(())
 }
 
 /// The code of c.dd, the status of a response without a payload, and its phrase.
@@ -61,21 +70,33 @@ fn statuses() -> &'static [(u8, u8, u16, &'static str)] {
     &STATUSES
 }
 
+/// The code c.dd is passed on, with this status and this phrase.
+fn is_told(class: u8, detail: u8, number: u16, phrase: &str) -> bool {
+    let code = (class % 8) * 32 + detail % 32;
+    let status = status_of(code, false);
+    status.number() == number
+        && phrase_of(status).as_bytes() == phrase.as_bytes()
+        && is_passed_on(code)
+}
+
+/// The number of the status of a response with a payload.
+fn with_payload(code: u8) -> u16 {
+    status_of(code, true).number()
+}
+
+fn status_text(alloc: Global, status: Status) -> Result<String, AllocError> {
+    format!(in alloc; "{status}")
+}
+
 #[test]
-fn statuses_by_code(rt: HostRuntime) -> Result<(), Fail> {
+fn statuses_by_code(rt: HostRuntime) {
     for &(class, detail, number, phrase) in statuses() {
-        let code = (class % 8) * 32 + detail % 32;
-        let status = status_of(code, false);
-        assert_eq!(rt; status.number(), number, "{class}.{detail}");
-        assert_eq!(rt; phrase_of(status).as_bytes(), phrase.as_bytes());
-        assert!(rt; is_passed_on(code));
+        assert!(rt; is_told(class, detail, number, phrase), "{class}.{detail}");
     }
     // 2.02 and 2.04 with a payload; 2.31 is no final answer, and 7.00 no response.
-    for (code, number) in [(66, 200), (68, 200), (95, 502), (224, 502)] {
-        assert_eq!(rt; status_of(code, true).number(), number);
-    }
+    assert!(rt; with_payload(66) == 200 && with_payload(68) == 200);
+    assert!(rt; with_payload(95) == 502 && with_payload(224) == 502);
     assert!(rt; !is_passed_on(95) && !is_passed_on(224));
-    let status = format!(in rt.alloc(); "{}", Status::UriTooLong)?;
+    let status = status_text(rt.alloc(), Status::UriTooLong).expect(&rt, "memory");
     assert_eq!(rt; status.as_bytes(), b"414 URI Too Long".as_slice());
-    Ok(())
 }

@@ -1,13 +1,15 @@
 //! Requests as they are read from a connection, and answers as they are written (RFC 9112).
 
-use http_edge::{BadKind, Body, Edge, Field, HttpAnswer, Incoming, Memory, Version, answer_bytes};
+use http_edge::{
+    BadKind, Body, Edge, Field, HttpAnswer, Incoming, Memory, Request, Version, answer_bytes,
+};
 use std::alloc::Global;
 use std::sync::Arc;
 use std::test::Fail;
 
 /// Feeds a piece. Like `next`, it passes on nothing of what the edge promises: a trial over it is proved in
 /// less time.
-pub fn feed(edge: &mut Edge, piece: &[u8]) {
+fn feed(edge: &mut Edge, piece: &[u8]) {
     edge.feed(piece);
 }
 
@@ -16,42 +18,69 @@ fn next(edge: &mut Edge) -> Result<Option<Incoming>, Memory> {
     edge.next()
 }
 
-/// What the edge gives, each in brackets: a request by its method, target, body and, where it
-/// closes the connection, a `!`; a refusal by its status; and where 100 Continue is due, a `?`.
-pub fn report(edge: &mut Edge, out: &mut Vec<u8>) -> Result<(), Fail> {
+/// A request, in brackets: its method, target, body and, where it closes the connection, a `!`.
+fn write_request(out: &mut Vec<u8>, request: &Request) -> Result<(), Memory> {
+    out.extend_from_slice(b"[")?;
+    out.extend_from_slice(&request.method)?;
+    out.extend_from_slice(b" ")?;
+    out.extend_from_slice(&request.target)?;
+    out.extend_from_slice(b" ")?;
+    out.extend_from_slice(&request.body)?;
+    out.extend_from_slice(if request.close { b"!]" } else { b"]" })?;
+    Ok(())
+}
+
+/// A request, or a refusal by its status.
+fn write_item(out: &mut Vec<u8>, item: &Incoming) -> Result<(), Memory> {
+    let status: &[u8] = match item {
+        Incoming::Request(request) => return write_request(out, request),
+        Incoming::Bad(BadKind::Syntax) => b"[400]",
+        Incoming::Bad(BadKind::Large) => b"[413]",
+        Incoming::Bad(BadKind::Coding) => b"[501]",
+    };
+    out.extend_from_slice(status)?;
+    Ok(())
+}
+
+/// What the edge gives next; and where nothing is left and 100 Continue is due, a `?`.
+fn report_one(edge: &mut Edge, out: &mut Vec<u8>) -> Result<(), Memory> {
+    if let Some(item) = next(edge)? {
+        return write_item(out, &item);
+    }
+    if edge.wants_continue() {
+        out.extend_from_slice(b"[?]")?;
+    }
+    Ok(())
+}
+
+/// What the edge gives, each in brackets.
+fn report(edge: &mut Edge, out: &mut Vec<u8>) -> Result<(), Memory> {
     for _ in 0..4 {
-        match next(edge)? {
-            Some(Incoming::Request(request)) => {
-                out.push(b'[')?;
-                out.extend_from_slice(&request.method)?;
-                out.push(b' ')?;
-                out.extend_from_slice(&request.target)?;
-                out.push(b' ')?;
-                out.extend_from_slice(&request.body)?;
-                out.extend_from_slice(if request.close { b"!]" } else { b"]" })?;
-            }
-            Some(Incoming::Bad(BadKind::Syntax)) => out.extend_from_slice(b"[400]")?,
-            Some(Incoming::Bad(BadKind::Large)) => out.extend_from_slice(b"[413]")?,
-            Some(Incoming::Bad(BadKind::Coding)) => out.extend_from_slice(b"[501]")?,
-            None => {
-                if edge.wants_continue() {
-                    out.extend_from_slice(b"[?]")?;
-                }
-            }
-        }
+        report_one(edge, out)?;
+    }
+    Ok(())
+}
+
+/// Feeds a piece, and reports what is given then.
+pub fn read_on(edge: &mut Edge, out: &mut Vec<u8>, piece: &[u8]) -> Result<(), Memory> {
+    feed(edge, piece);
+    report(edge, out)
+}
+
+/// Feeds a piece in parts that fit, and reports what is given after each.
+fn read_parts(edge: &mut Edge, out: &mut Vec<u8>, piece: &[u8]) -> Result<(), Memory> {
+    for part in piece.chunks(4096) {
+        read_on(edge, out, part)?;
     }
     Ok(())
 }
 
 /// What is read of the pieces, each fed in parts that fit.
-pub fn read(alloc: Global, pieces: &[&[u8]]) -> Result<Vec<u8>, Fail> {
+pub fn read(alloc: Global, pieces: &[&[u8]]) -> Result<Vec<u8>, Memory> {
     let mut out = Vec::new(alloc);
     let mut edge = Edge::new(alloc)?;
     for piece in pieces {
-        for part in piece.chunks(4096) {
-            feed(&mut edge, part);
-            report(&mut edge, &mut out)?;
-        }
+        read_parts(&mut edge, &mut out, piece)?;
     }
     Ok(out)
 }
@@ -63,7 +92,7 @@ pub fn filled(
     part: &[u8],
     count: usize,
     back: &[u8],
-) -> Result<Vec<u8>, Fail> {
+) -> Result<Vec<u8>, Memory> {
     let mut text = Vec::from_slice(alloc, front)?;
     for _ in 0..count {
         text.extend_from_slice(part)?;
@@ -145,12 +174,17 @@ fn framing_rows() -> &'static [(&'static [u8], &'static [u8])] {
     &FRAMINGS
 }
 
+/// This is read of the text.
+fn reads(alloc: Global, text: &[u8], want: &[u8]) -> Result<bool, Memory> {
+    Ok(read(alloc, &[text])?.as_slice() == want)
+}
+
 #[test]
-fn framings(rt: HostRuntime) -> Result<(), Fail> {
+fn framings(rt: HostRuntime) {
     for &(text, want) in framing_rows() {
-        assert_eq!(rt; read(rt.alloc(), &[text])?.as_slice(), want);
+        let is_read = reads(rt.alloc(), text, want).expect(&rt, "memory");
+        assert!(rt; is_read, "{text:?}");
     }
-    Ok(())
 }
 
 /// A text in front, a part and how often it follows, what ends it, and what is given: a head has at most
@@ -220,52 +254,70 @@ fn limit_rows() -> &'static [(
     &LIMITS
 }
 
+/// This is read of a text with so many equal parts in it.
+fn reads_filled(
+    alloc: Global,
+    (front, part, count, back): (&[u8], &[u8], usize, &[u8]),
+    want: &[u8],
+) -> Result<bool, Memory> {
+    let text = filled(alloc, front, part, count, back)?;
+    reads(alloc, &text, want)
+}
+
 #[test]
-fn limits(rt: HostRuntime) -> Result<(), Fail> {
-    let alloc = rt.alloc();
+fn limits(rt: HostRuntime) {
     for &(front, part, count, back, want) in limit_rows() {
-        let text = filled(alloc, front, part, count, back)?;
-        assert_eq!(rt; read(alloc, &[&text])?.as_slice(), want, "{count}");
+        let is_read = reads_filled(rt.alloc(), (front, part, count, back), want);
+        assert!(rt; is_read.expect(&rt, "memory"), "{count}");
     }
-    Ok(())
+}
+
+/// Reads on with a copy alone.
+fn copy_reads_on(edge: &Edge, out: &mut Vec<u8>, piece: &[u8]) -> Result<(), Memory> {
+    let mut copy = edge.copy()?;
+    read_on(&mut copy, out, piece)
+}
+
+/// A copy reads the rest of a request, and the edge another one after a restart.
+fn read_by_two(alloc: Global) -> Result<Vec<u8>, Memory> {
+    let mut out = Vec::new(alloc);
+    let mut edge = Edge::new(alloc)?;
+    let begun = b"PUT /a HTTP/1.1\r\nHost: p\r\nContent-Length: 3\r\n\r\nof";
+    read_on(&mut edge, &mut out, begun)?;
+    copy_reads_on(&edge, &mut out, b"f")?;
+    edge.restart();
+    read_on(&mut edge, &mut out, b"GET /b HTTP/1.1\r\nHost: p\r\n\r\n")?;
+    Ok(out)
 }
 
 /// A copy reads on by itself, and a restart forgets what was fed.
 #[test]
-fn copies_and_restarts(rt: HostRuntime) -> Result<(), Fail> {
-    let alloc = rt.alloc();
-    let mut out = Vec::new(alloc);
-    let mut edge = Edge::new(alloc)?;
-    feed(
-        &mut edge,
-        b"PUT /a HTTP/1.1\r\nHost: p\r\nContent-Length: 3\r\n\r\nof",
-    );
-    report(&mut edge, &mut out)?;
-    let mut copy = edge.copy()?;
-    feed(&mut copy, b"f");
-    report(&mut copy, &mut out)?;
-    edge.restart();
-    feed(&mut edge, b"GET /b HTTP/1.1\r\nHost: p\r\n\r\n");
-    report(&mut edge, &mut out)?;
+fn copies_and_restarts(rt: HostRuntime) {
+    let out = read_by_two(rt.alloc()).expect(&rt, "memory");
     assert_eq!(rt; out.as_slice(), b"[PUT /a off][GET /b ]".as_slice());
-    Ok(())
+}
+
+/// A copy of the request that a text begins with.
+fn copy_of_request(alloc: Global, text: &[u8]) -> Option<Request> {
+    let mut edge = Edge::new(alloc).ok()?;
+    feed(&mut edge, text);
+    match next(&mut edge) {
+        Ok(Some(Incoming::Request(request))) => request.copy().ok(),
+        _ => None,
+    }
+}
+
+fn count_of_accepts(request: &Request) -> usize {
+    request.fields.get_all("accept").iter().count()
 }
 
 #[test]
-fn fields_in_order(rt: HostRuntime) -> Result<(), Fail> {
-    let mut edge = Edge::new(rt.alloc())?;
-    feed(
-        &mut edge,
-        b"GET / HTTP/1.1\r\nAccept: a\r\nHost: p\r\nACCEPT:  b \r\n\r\n",
-    );
-    let Some(Incoming::Request(request)) = next(&mut edge)? else {
-        return Err("no request".into());
-    };
-    let copy = request.copy()?;
-    assert_eq!(rt; copy.version, Version::Http11);
-    assert_eq!(rt; copy.fields.get_all("accept").iter().count(), 2);
-    assert_eq!(rt; copy.fields.len(), 3);
-    Ok(())
+fn fields_in_order(rt: HostRuntime) {
+    let text = b"GET / HTTP/1.1\r\nAccept: a\r\nHost: p\r\nACCEPT:  b \r\n\r\n";
+    let copy = copy_of_request(rt.alloc(), text).expect(&rt, "a request");
+    assert!(rt; copy.version == Version::Http11);
+    assert!(rt; count_of_accepts(&copy) == 2);
+    assert!(rt; copy.fields.len() == 3);
 }
 
 #[test]
@@ -294,53 +346,80 @@ fn answers(rt: HostRuntime) -> Result<(), Fail> {
     Ok(())
 }
 
-#[test]
-fn refusals_in_words(rt: HostRuntime) -> Result<(), Fail> {
-    let alloc = rt.alloc();
-    let rows = [
-        (BadKind::Syntax, "not an HTTP request"),
-        (BadKind::Large, "a body above 65536 bytes"),
-        (BadKind::Coding, "a transfer coding other than chunked"),
-    ];
-    for (kind, want) in rows {
-        assert_eq!(rt; format!(in alloc; "{kind}")?.as_str(), want);
+fn refusal_is(alloc: Global, kind: BadKind, words: &str) -> bool {
+    match format!(in alloc; "{kind}") {
+        Ok(text) => text.as_str() == words,
+        Err(_) => false,
     }
-    assert_eq!(rt; format!(in alloc; "{}", Memory)?.as_str(), "out of memory");
-    Ok(())
+}
+
+fn memory_is(alloc: Global, words: &str) -> bool {
+    match format!(in alloc; "{}", Memory) {
+        Ok(text) => text.as_str() == words,
+        Err(_) => false,
+    }
+}
+
+#[test]
+fn refusals_in_words(rt: HostRuntime) {
+    let alloc = rt.alloc();
+    assert!(rt; refusal_is(alloc, BadKind::Syntax, "not an HTTP request"));
+    assert!(rt; refusal_is(alloc, BadKind::Large, "a body above 65536 bytes"));
+    assert!(rt;
+        refusal_is(
+            alloc,
+            BadKind::Coding,
+            "a transfer coding other than chunked"
+        )
+    );
+    assert!(rt; memory_is(alloc, "out of memory"));
+}
+
+/// The request is this PUT, with two fields.
+fn is_put(request: &Request, target: &[u8], body: &[u8]) -> bool {
+    request.method.as_slice() == b"PUT".as_slice()
+        && request.target.as_slice() == target
+        && request.fields.len() == 2
+        && request.fields.contains_key("host")
+        && request.body.as_slice() == body
+        && !request.close
+}
+
+/// How many requests are given after one more call, which gives the next of the two, or nothing where both
+/// are given, or is refused memory.
+fn given_then(edge: &mut Edge, given: u8) -> Option<u8> {
+    match next(edge) {
+        Ok(Some(Incoming::Request(request))) => match given {
+            0 => is_put(&request, b"/a", b"off").then_some(1),
+            1 => is_put(&request, b"/b", b"on").then_some(2),
+            _ => None,
+        },
+        Ok(Some(Incoming::Bad(_))) => None,
+        Ok(None) => (given == 2).then_some(given),
+        Err(Memory) => Some(given),
+    }
+}
+
+/// An edge, though a first call is refused memory.
+fn new_edge(alloc: Global) -> Result<Edge, Memory> {
+    match Edge::new(alloc) {
+        Ok(edge) => Ok(edge),
+        Err(Memory) => Edge::new(alloc),
+    }
 }
 
 /// Two requests are read whole though a call is refused memory, and made again.
 #[test]
-fn memory(rt: HostRuntime) -> Result<(), Fail> {
-    let mut edge = match Edge::new(rt.alloc()) {
-        Ok(edge) => edge,
-        Err(_) => Edge::new(rt.alloc())?,
-    };
+fn memory(rt: HostRuntime) {
+    let mut edge = new_edge(rt.alloc()).expect(&rt, "memory");
     feed(
         &mut edge,
         b"PUT /a HTTP/1.1\r\nHost: p\r\nTransfer-Encoding: chunked\r\n\r\n3\r\noff\r\n0\r\n\r\nPUT /b HTTP/1.1\r\nHost: p\r\nContent-Length: 2\r\n\r\non",
     );
-    let wanted: [(&[u8], &[u8]); 2] = [(b"/a", b"off"), (b"/b", b"on")];
     let mut given = 0;
     // Two requests, a call that is refused, and one for which nothing is left.
     for _ in 0..4 {
-        match next(&mut edge) {
-            Ok(Some(Incoming::Request(request))) => {
-                assert!(rt; given < wanted.len());
-                let (target, body) = wanted[given];
-                assert_eq!(rt; request.method.as_slice(), &b"PUT"[..]);
-                assert_eq!(rt; request.target.as_slice(), target);
-                assert_eq!(rt; request.fields.len(), 2);
-                assert!(rt; request.fields.contains_key("host"));
-                assert_eq!(rt; request.body.as_slice(), body);
-                assert!(rt; !request.close);
-                given += 1;
-            }
-            Ok(None) => assert_eq!(rt; given, wanted.len()),
-            Ok(Some(Incoming::Bad(_))) => assert!(rt; false, "refused"),
-            Err(Memory) => {}
-        }
+        given = given_then(&mut edge, given).expect(&rt, "what is due");
     }
-    assert_eq!(rt; given, wanted.len());
-    Ok(())
+    assert!(rt; given == 2);
 }

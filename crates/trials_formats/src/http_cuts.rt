@@ -1,26 +1,34 @@
 //! Requests are read the same however their bytes are cut.
 
-use crate::http::{feed, filled, read, report};
-use http_edge::Edge;
+use crate::http::{filled, read, read_on};
+use http_edge::{Edge, Memory};
 use std::alloc::Global;
 use std::ops::Range;
-use std::test::Fail;
 
-/// The text is read so at every cut into two pieces, and byte by byte.
-fn reads(alloc: Global, text: &[u8], want: &[u8]) -> Result<bool, Fail> {
-    for at in 0..text.len() {
-        let (front, back) = text.split_at(at);
-        if read(alloc, &[front, back])?.as_slice() != want {
-            return Ok(false);
-        }
-    }
+/// This is read of the pieces.
+fn reads(alloc: Global, pieces: &[&[u8]], want: &[u8]) -> Result<bool, Memory> {
+    Ok(read(alloc, pieces)?.as_slice() == want)
+}
+
+/// What is read of the text byte by byte.
+fn read_by_bytes(alloc: Global, text: &[u8]) -> Result<Vec<u8>, Memory> {
     let mut out = Vec::new(alloc);
     let mut edge = Edge::new(alloc)?;
     for byte in text.chunks(1) {
-        feed(&mut edge, byte);
-        report(&mut edge, &mut out)?;
+        read_on(&mut edge, &mut out, byte)?;
     }
-    Ok(out.as_slice() == want)
+    Ok(out)
+}
+
+/// The text is read so at every cut into two pieces, and byte by byte.
+fn reads_in_two(alloc: Global, text: &[u8], want: &[u8]) -> Result<bool, Memory> {
+    for at in 0..text.len() {
+        let (front, back) = text.split_at(at);
+        if !reads(alloc, &[front, back], want)? {
+            return Ok(false);
+        }
+    }
+    Ok(read_by_bytes(alloc, text)?.as_slice() == want)
 }
 
 /// What is given of a text, however it is cut.
@@ -60,11 +68,11 @@ fn read_rows() -> &'static [(&'static [u8], &'static [u8])] {
 }
 
 #[test]
-fn cut_once(rt: HostRuntime) -> Result<(), Fail> {
+fn cut_once(rt: HostRuntime) {
     for &(text, want) in read_rows() {
-        assert!(rt; reads(rt.alloc(), text, want)?, "{want:?}");
+        let is_read = reads_in_two(rt.alloc(), text, want).expect(&rt, "memory");
+        assert!(rt; is_read, "{want:?}");
     }
-    Ok(())
 }
 
 /// The text is read so at each pair of cuts outside the range.
@@ -73,12 +81,12 @@ fn reads_in_three(
     text: &[u8],
     range: Range<usize>,
     want: &[u8],
-) -> Result<bool, Fail> {
+) -> Result<bool, Memory> {
     for first in 0..text.len() {
         for second in first..text.len() {
             if !range.contains(&first) && !range.contains(&second) {
                 let pieces = [&text[..first], &text[first..second], &text[second..]];
-                if read(alloc, &pieces)?.as_slice() != want {
+                if !reads(alloc, &pieces, want)? {
                     return Ok(false);
                 }
             }
@@ -113,45 +121,52 @@ fn read_in_three_rows() -> &'static [(&'static [u8], &'static [u8])] {
 }
 
 #[test]
-fn cut_twice(rt: HostRuntime) -> Result<(), Fail> {
+fn cut_twice(rt: HostRuntime) {
     for &(text, want) in read_in_three_rows() {
-        assert!(rt; reads_in_three(rt.alloc(), text, 0..0, want)?, "{want:?}");
+        let is_read = reads_in_three(rt.alloc(), text, 0..0, want).expect(&rt, "memory");
+        assert!(rt; is_read, "{want:?}");
     }
-    Ok(())
 }
 
-/// The client is told to go on where a piece ends after the head and before the body's end.
-#[test]
-fn cuts_that_continue(rt: HostRuntime) -> Result<(), Fail> {
-    let head =
-        b"PUT /light HTTP/1.1\r\nHost: p\r\nExpect: 100-continue\r\nContent-Length: 3\r\n\r\n";
-    let mut text = Vec::from_slice(rt.alloc(), head)?;
-    text.extend_from_slice(b"off")?;
+/// The client is told to go on at each pair of cuts of which one lies after the head.
+fn continues(alloc: Global, text: &[u8], head: usize) -> Result<bool, Memory> {
     for first in 0..text.len() {
         for second in first..text.len() {
             let pieces = [&text[..first], &text[first..second], &text[second..]];
-            let want: &[u8] = if second >= head.len() {
+            let want: &[u8] = if second >= head {
                 b"[?][PUT /light off]"
             } else {
                 b"[PUT /light off]"
             };
-            assert_eq!(rt; read(rt.alloc(), &pieces)?.as_slice(), want);
+            if !reads(alloc, &pieces, want)? {
+                return Ok(false);
+            }
         }
     }
-    Ok(())
+    Ok(true)
 }
 
-/// A chunk's line of 256 bytes is read, and one of 257 is refused. The cuts in the midst of its
-/// equal bytes are left out.
+/// The client is told to go on where a piece ends after the head and before the body's end.
 #[test]
-fn cuts_in_a_chunk_line(rt: HostRuntime) -> Result<(), Fail> {
+fn cuts_that_continue(rt: HostRuntime) {
+    let head =
+        b"PUT /light HTTP/1.1\r\nHost: p\r\nExpect: 100-continue\r\nContent-Length: 3\r\n\r\n";
+    let text = filled(rt.alloc(), head, b"", 0, b"off").expect(&rt, "memory");
+    assert!(rt; continues(rt.alloc(), &text, head.len()).expect(&rt, "memory"));
+}
+
+/// This is read of a chunk with so many equal bytes in its line. The cuts in the midst of them are left out.
+fn reads_line(alloc: Global, count: usize, want: &[u8]) -> Result<bool, Memory> {
     let head = b"PUT /light HTTP/1.1\r\nHost: p\r\nTransfer-Encoding: chunked\r\n\r\n3;";
-    for (count, want) in [(252, &b"[PUT /light off]"[..]), (253, &b"[400]"[..])] {
-        let text = filled(rt.alloc(), head, b"a", count, b"\r\noff\r\n0\r\n\r\n")?;
-        assert!(rt;
-            reads_in_three(rt.alloc(), &text, 80..300, want)?,
-            "{want:?}"
-        );
-    }
-    Ok(())
+    let text = filled(alloc, head, b"a", count, b"\r\noff\r\n0\r\n\r\n")?;
+    reads_in_three(alloc, &text, 80..300, want)
+}
+
+/// A chunk's line of 256 bytes is read, and one of 257 is refused.
+#[test]
+fn cuts_in_a_chunk_line(rt: HostRuntime) {
+    let most = reads_line(rt.alloc(), 252, b"[PUT /light off]").expect(&rt, "memory");
+    assert!(rt; most);
+    let more = reads_line(rt.alloc(), 253, b"[400]").expect(&rt, "memory");
+    assert!(rt; more);
 }

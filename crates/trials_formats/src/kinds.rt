@@ -166,62 +166,99 @@ fn refused() -> &'static [&'static str] {
     &REFUSED
 }
 
+// The bytes of an item.
+fn bytes_of(alloc: Global, item: &str) -> Option<Vec<u8>> {
+    hex::decode(alloc, item).ok()
+}
+
+// This JSON is made of the item.
+fn makes_json(alloc: Global, item: &[u8], json: &[u8]) -> bool {
+    match cbor_json(alloc, item) {
+        Ok(made) => made.as_slice() == json,
+        Err(_) => false,
+    }
+}
+
+// This item is made of the JSON.
+fn makes_item(alloc: Global, json: &[u8], item: &[u8]) -> bool {
+    match json_cbor(alloc, json) {
+        Ok(made) => made.as_slice() == item,
+        Err(_) => false,
+    }
+}
+
+fn makes_both(alloc: Global, item: &str, json: &str) -> bool {
+    match bytes_of(alloc, item) {
+        Some(item) => {
+            makes_json(alloc, &item, json.as_bytes()) && makes_item(alloc, json.as_bytes(), &item)
+        }
+        None => false,
+    }
+}
+
 #[test]
 fn items_inside(rt: HostRuntime) {
-    for (item, json) in inside() {
-        let bytes = hex::decode(rt.alloc(), *item).expect(&rt, "bytes");
-        let made = cbor_json(rt.alloc(), &bytes).expect(&rt, "JSON");
-        assert_eq!(rt; made.as_slice(), json.as_bytes());
-        let made = json_cbor(rt.alloc(), json.as_bytes()).expect(&rt, "an item");
-        assert_eq!(rt; made.as_slice(), bytes.as_slice());
+    for &(item, json) in inside() {
+        assert!(rt; makes_both(rt.alloc(), item, json), "{item}");
+    }
+}
+
+fn item_fault(alloc: Global, item: &[u8]) -> Option<Refused> {
+    cbor_json(alloc, item).err()
+}
+
+fn json_fault(alloc: Global, json: &[u8]) -> Option<Refused> {
+    json_cbor(alloc, json).err()
+}
+
+fn is_outside(alloc: Global, item: &str) -> bool {
+    match bytes_of(alloc, item) {
+        Some(item) => item_fault(alloc, &item) == Some(Refused::Content),
+        None => false,
     }
 }
 
 #[test]
 fn items_outside(rt: HostRuntime) {
-    for item in outside() {
-        let bytes = hex::decode(rt.alloc(), *item).expect(&rt, "bytes");
-        assert_eq!(rt;
-            cbor_json(rt.alloc(), &bytes).err(),
-            Some(Refused::Content),
-            "{item}"
-        );
+    for &item in outside() {
+        assert!(rt; is_outside(rt.alloc(), item), "{item}");
+    }
+}
+
+// The item that is made of the JSON that is made of an item.
+fn shortened(alloc: Global, item: &str) -> Option<Vec<u8>> {
+    let item = bytes_of(alloc, item)?;
+    let json = cbor_json(alloc, &item).ok()?;
+    json_cbor(alloc, &json).ok()
+}
+
+fn has_short(alloc: Global, long: &str, short: &str) -> bool {
+    match (shortened(alloc, long), bytes_of(alloc, short)) {
+        (Some(made), Some(short)) => made.as_slice() == short.as_slice(),
+        _ => false,
     }
 }
 
 #[test]
 fn long_heads(rt: HostRuntime) {
-    for (long, short) in long_rows() {
-        let long = hex::decode(rt.alloc(), *long).expect(&rt, "bytes");
-        let short = hex::decode(rt.alloc(), *short).expect(&rt, "bytes");
-        let json = cbor_json(rt.alloc(), &long).expect(&rt, "JSON");
-        let made = json_cbor(rt.alloc(), &json).expect(&rt, "an item");
-        assert_eq!(rt; made.as_slice(), short.as_slice());
+    for &(long, short) in long_rows() {
+        assert!(rt; has_short(rt.alloc(), long, short), "{long}");
     }
 }
 
 #[test]
 fn json_refused(rt: HostRuntime) {
-    for json in refused() {
-        assert_eq!(rt;
-            json_cbor(rt.alloc(), json.as_bytes()).err(),
-            Some(Refused::Content),
-            "{json}"
-        );
+    for &json in refused() {
+        let fault = json_fault(rt.alloc(), json.as_bytes());
+        assert!(rt; fault == Some(Refused::Content), "{json}");
     }
-    assert_eq!(rt;
-        json_cbor(rt.alloc(), &[0x22, 0xff, 0x22]).err(),
-        Some(Refused::Content)
-    );
+    assert!(rt; json_fault(rt.alloc(), &[0x22, 0xff, 0x22]) == Some(Refused::Content));
 }
 
 #[test]
 fn equal_keys(rt: HostRuntime) {
-    let made = json_cbor(rt.alloc(), b"{\"a\":1,\"b\":2,\"a\":3}").expect(&rt, "an item");
-    assert_eq!(rt;
-        made.as_slice(),
-        [0xa2, 0x61, 0x61, 0x03, 0x61, 0x62, 0x02].as_slice()
-    );
+    let item = [0xa2, 0x61, 0x61, 0x03, 0x61, 0x62, 0x02];
+    assert!(rt; makes_item(rt.alloc(), b"{\"a\":1,\"b\":2,\"a\":3}", &item));
 }
 
 // An empty array within so many others, as an item.
@@ -243,22 +280,26 @@ fn nested_json(alloc: Global, others: u8) -> Option<Vec<u8>> {
 
 #[test]
 fn nesting(rt: HostRuntime) {
-    let item = nested_item(rt.alloc(), 31).expect(&rt, "memory");
-    let json = nested_json(rt.alloc(), 31).expect(&rt, "memory");
-    let made = cbor_json(rt.alloc(), &item).expect(&rt, "JSON");
-    assert_eq!(rt; made.as_slice(), json.as_slice());
-    let made = json_cbor(rt.alloc(), &json).expect(&rt, "an item");
-    assert_eq!(rt; made.as_slice(), item.as_slice());
-    let item = nested_item(rt.alloc(), 32).expect(&rt, "memory");
-    let json = nested_json(rt.alloc(), 32).expect(&rt, "memory");
-    assert_eq!(rt; cbor_json(rt.alloc(), &item).err(), Some(Refused::Content));
-    assert_eq!(rt; json_cbor(rt.alloc(), &json).err(), Some(Refused::Content));
+    let alloc = rt.alloc();
+    let item = nested_item(alloc, 31).expect(&rt, "memory");
+    let json = nested_json(alloc, 31).expect(&rt, "memory");
+    assert!(rt; makes_json(alloc, &item, &json));
+    assert!(rt; makes_item(alloc, &json, &item));
+    let item = nested_item(alloc, 32).expect(&rt, "memory");
+    let json = nested_json(alloc, 32).expect(&rt, "memory");
+    assert!(rt; item_fault(alloc, &item) == Some(Refused::Content));
+    assert!(rt; json_fault(alloc, &json) == Some(Refused::Content));
+}
+
+fn has_digits(alloc: Global, octets: &[u8], want: &[u8]) -> bool {
+    match octets_hex(alloc, octets) {
+        Ok(digits) => digits.as_slice() == want,
+        Err(_) => false,
+    }
 }
 
 #[test]
 fn hexadecimal(rt: HostRuntime) {
-    let digits = octets_hex(rt.alloc(), &[0x00, 0xff, 0x1a]).expect(&rt, "memory");
-    assert_eq!(rt; digits.as_slice(), b"00ff1a".as_slice());
-    let none = octets_hex(rt.alloc(), &[]).expect(&rt, "memory");
-    assert_eq!(rt; none.len(), 0);
+    assert!(rt; has_digits(rt.alloc(), &[0x00, 0xff, 0x1a], b"00ff1a"));
+    assert!(rt; has_digits(rt.alloc(), &[], b""));
 }

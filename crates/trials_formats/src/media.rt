@@ -4,8 +4,7 @@
 use media_map::{
     Form, Media, MediaFault, Policy, Routes, Wanted, accept_of, format_of, media_of, route_of,
 };
-use std::alloc::Global;
-use std::test::Fail;
+use std::alloc::{AllocError, Global};
 
 const STRICT: Policy = Policy {
     loose: false,
@@ -179,23 +178,25 @@ fn names() -> &'static [(u16, &'static str)] {
     &NAMES
 }
 
+fn is_named(alloc: Global, format: u16, name: &str) -> Result<bool, AllocError> {
+    Ok(media_of(alloc, format)?.as_str() == name)
+}
+
 #[test]
-fn media_types_of_formats(rt: HostRuntime) -> Result<(), Fail> {
-    let alloc = rt.alloc();
+fn media_types_of_formats(rt: HostRuntime) {
     for &(format, name) in names() {
-        let media = media_of(alloc, format)?;
-        assert_eq!(rt; media.as_str().as_bytes(), name.as_bytes());
+        let named = is_named(rt.alloc(), format, name).expect(&rt, "memory");
+        assert!(rt; named, "{format}");
     }
-    Ok(())
 }
 
 /// The form of a media type.
-fn form(alloc: Global, name: &str) -> Result<Form, MediaFault> {
+fn form(alloc: Global, name: &str) -> Result<Form, AllocError> {
     Ok(Form::Media(Media::from_str(alloc, name)?))
 }
 
 /// From CBOR to JSON and back, and from bytes to a text whose charset is written.
-fn demonstration_routes(alloc: Global) -> Result<Routes, Fail> {
+fn demonstration_routes(alloc: Global) -> Result<Routes, AllocError> {
     let mut routes = Routes::new(alloc);
     routes.push(Form::Format(60), form(alloc, "application/json")?)?;
     routes.push(Form::Format(41), form(alloc, "application/json")?)?;
@@ -315,70 +316,129 @@ fn unmet() -> &'static [&'static [u8]] {
     &UNMET
 }
 
+/// What an Accept asks for under a policy. Like each call here, it passes on nothing of what the one in it
+/// promises: a trial over it is proved in less time.
+fn asked(
+    alloc: Global,
+    value: &[u8],
+    policy: Policy,
+    routes: &Routes,
+) -> Result<Option<Wanted>, MediaFault> {
+    accept_of(alloc, value, policy, routes)
+}
+
+/// The Accept asks for this format and this media type.
+fn asks_for(alloc: Global, value: &[u8], routes: &Routes, format: u16, media: &str) -> bool {
+    match asked(alloc, value, STRICT, routes) {
+        Ok(Some(wanted)) => wanted.format == format && wanted.media.as_str() == media,
+        _ => false,
+    }
+}
+
+/// The Accept leaves the format open.
+fn is_open(alloc: Global, value: &[u8], routes: &Routes) -> bool {
+    matches!(asked(alloc, value, STRICT, routes), Ok(None))
+}
+
+fn accept_fault(
+    alloc: Global,
+    value: &[u8],
+    policy: Policy,
+    routes: &Routes,
+) -> Option<MediaFault> {
+    asked(alloc, value, policy, routes).err()
+}
+
 #[test]
-fn accepted(rt: HostRuntime) -> Result<(), Fail> {
+fn accepted(rt: HostRuntime) {
     let alloc = rt.alloc();
-    let routes = demonstration_routes(alloc)?;
+    let routes = demonstration_routes(alloc).expect(&rt, "memory");
     for &(value, format, media) in accepts() {
-        let wanted = accept_of(alloc, value, STRICT, &routes)?.ok_or("open")?;
-        assert_eq!(rt; wanted.format, format, "{value:?}");
-        assert_eq!(rt; wanted.media.as_str().as_bytes(), media.as_bytes());
+        assert!(rt; asks_for(alloc, value, &routes, format, media), "{value:?}");
     }
     let none = Routes::new(alloc);
     for &value in open_accepts() {
-        let wanted = accept_of(alloc, value, STRICT, &none)?;
-        assert!(rt; wanted.is_none(), "{value:?}");
+        assert!(rt; is_open(alloc, value, &none), "{value:?}");
     }
     for &value in unmet() {
-        let fault = accept_of(alloc, value, STRICT, &routes).err();
-        assert_eq!(rt; fault, Some(MediaFault::Unmapped), "{value:?}");
+        let fault = accept_fault(alloc, value, STRICT, &routes);
+        assert!(rt; fault == Some(MediaFault::Unmapped), "{value:?}");
     }
-    Ok(())
 }
 
-#[test]
-fn accepted_by_number(rt: HostRuntime) -> Result<(), Fail> {
-    let alloc = rt.alloc();
-    let routes = demonstration_routes(alloc)?;
-    let value = b"text/html,application/coap-payload;cf=11050;q=0.1";
-    let fault = accept_of(alloc, value, LOOSE, &routes).err();
-    assert_eq!(rt; fault, Some(MediaFault::PassThrough));
-    let wanted = accept_of(alloc, value, PASS, &routes)?.ok_or("open")?;
-    assert_eq!(rt; wanted.format, 11050);
-    let text = format!(in alloc; "{} {}", wanted.media, MediaFault::PassThrough)?;
-    assert_eq!(rt;
-        text.as_str(),
-        "application/coap-payload;cf=11050 coap-payload isn't passed through"
-    );
+/// What is wanted is this format by its number, written so, and a copy is the same.
+fn is_numbered(
+    alloc: Global,
+    wanted: &Wanted,
+    format: u16,
+    name: &str,
+) -> Result<bool, AllocError> {
     let same = Wanted {
-        format: 11050,
-        media: media_of(alloc, 11050)?,
+        format,
+        media: media_of(alloc, format)?,
     };
-    assert_eq!(rt; wanted.copy()?, same);
-    Ok(())
+    let text = format!(in alloc; "{}", wanted.media)?;
+    Ok(wanted.format == format && wanted.copy()? == same && text.as_str() == name)
+}
+
+fn fault_is(alloc: Global, fault: MediaFault, words: &str) -> bool {
+    match format!(in alloc; "{fault}") {
+        Ok(text) => text.as_str() == words,
+        Err(_) => false,
+    }
 }
 
 #[test]
-fn routes_of_content_types(rt: HostRuntime) -> Result<(), Fail> {
+fn accepted_by_number(rt: HostRuntime) {
     let alloc = rt.alloc();
-    let routes = demonstration_routes(alloc)?.copy()?;
-    assert_eq!(rt; routes.as_slice().len(), 4);
-    let good: [&[u8]; 2] = [b"Application/JSON; charset=utf-8", b" application/json;"];
-    for value in good {
-        let route = route_of(value, &routes).ok_or("no route")?;
-        assert!(rt; route.1.is_same(&Form::Format(60)));
+    let routes = demonstration_routes(alloc).expect(&rt, "memory");
+    let value = b"text/html,application/coap-payload;cf=11050;q=0.1";
+    assert!(rt; accept_fault(alloc, value, LOOSE, &routes) == Some(MediaFault::PassThrough));
+    let wanted = asked(alloc, value, PASS, &routes).expect(&rt, "no fault");
+    let wanted = wanted.expect(&rt, "a format");
+    let name = "application/coap-payload;cf=11050";
+    assert!(rt; is_numbered(alloc, &wanted, 11050, name).expect(&rt, "memory"));
+    assert!(rt;
+        fault_is(
+            alloc,
+            MediaFault::PassThrough,
+            "coap-payload isn't passed through"
+        )
+    );
+}
+
+/// The content type has a route to this format.
+fn leads_to(value: &[u8], routes: &Routes, format: u16) -> bool {
+    match route_of(value, routes) {
+        Some(route) => route.1.is_same(&Form::Format(format)),
+        None => false,
     }
-    let none: [&[u8]; 4] = [
-        b"",
-        b"application/json;x",
-        b"application/cbor",
-        b"application/jso",
-    ];
-    for value in none {
-        assert!(rt; route_of(value, &routes).is_none(), "{value:?}");
-    }
-    let json = form(alloc, "application/json")?;
-    assert!(rt; json.copy()?.is_same(&json));
-    assert!(rt; !json.is_same(&form(alloc, "application/JSON")?));
-    Ok(())
+}
+
+fn has_no_route(value: &[u8], routes: &Routes) -> bool {
+    route_of(value, routes).is_none()
+}
+
+fn copied_routes(alloc: Global) -> Result<Routes, AllocError> {
+    demonstration_routes(alloc)?.copy()
+}
+
+/// A form is the same as its copy, and not as one that is written otherwise.
+fn differs(alloc: Global, name: &str, other: &str) -> Result<bool, AllocError> {
+    let one = form(alloc, name)?;
+    Ok(one.copy()?.is_same(&one) && !one.is_same(&form(alloc, other)?))
+}
+
+#[test]
+fn routes_of_content_types(rt: HostRuntime) {
+    let alloc = rt.alloc();
+    let routes = copied_routes(alloc).expect(&rt, "memory");
+    assert!(rt; routes.as_slice().len() == 4);
+    assert!(rt; leads_to(b"Application/JSON; charset=utf-8", &routes, 60));
+    assert!(rt; leads_to(b" application/json;", &routes, 60));
+    assert!(rt; has_no_route(b"", &routes));
+    assert!(rt; has_no_route(b"application/json;x", &routes));
+    assert!(rt; has_no_route(b"application/cbor", &routes));
+    assert!(rt; has_no_route(b"application/jso", &routes));
+    assert!(rt; differs(alloc, "application/json", "application/JSON").expect(&rt, "memory"));
 }

@@ -1,12 +1,13 @@
 //! Messages of CoAP: the vectors of RFC 7252, and what its tables say of options.
 
+ghost use Rattle.std.specs.Prelude.{◌^◌, ◌<◌};
+
 use coap_codec::{
-    Block, CodecFault, Message, MsgType, Opt, Token, block_of, block_to, decode, definition,
-    encode, first_of, is_allowed_in_response, is_critical, is_encodable, is_unsafe, no_cache_key,
-    number, uint_of, uint_to, values_of,
+    Block, CodecFault, Message, MsgType, Opt, OptionDefinition, Token, block_of, block_to, decode,
+    definition, encode, first_of, is_allowed_in_response, is_critical, is_encodable, is_unsafe,
+    no_cache_key, number, uint_of, uint_to, values_of,
 };
-use std::alloc::Global;
-use std::test::Fail;
+use std::alloc::{AllocError, Global};
 
 /// A message, its option where it has one, and its bytes.
 struct Vector {
@@ -91,9 +92,9 @@ fn vector_rows() -> &'static [Vector] {
     &VECTORS
 }
 
-fn message_of(alloc: Global, row: &Vector) -> Result<Message, Fail> {
+fn message_of(alloc: Global, row: &Vector) -> Result<Message, CodecFault> {
     if row.token.len() > 8 {
-        return Err("a token above 8 bytes".into());
+        return Err(CodecFault::TokenLength);
     }
     let token = Token::new(row.token);
     let mut m = Message::new(alloc, row.kind, row.code, row.mid, token);
@@ -105,22 +106,34 @@ fn message_of(alloc: Global, row: &Vector) -> Result<Message, Fail> {
 }
 
 /// The bytes of a message that can be encoded.
-fn encoded(alloc: Global, m: &Message) -> Result<Vec<u8>, Fail> {
+fn encoded(alloc: Global, m: &Message) -> Option<Vec<u8>> {
     if !is_encodable(m) {
-        return Err("not encodable".into());
+        return None;
     }
-    Ok(encode(alloc, m)?)
+    encode(alloc, m).ok()
+}
+
+/// The bytes are read as this message.
+fn reads_as(alloc: Global, bytes: &[u8], m: &Message) -> bool {
+    match decode(alloc, bytes) {
+        Ok(read) => read == *m,
+        Err(_) => false,
+    }
+}
+
+/// The message is written as these bytes, and they are read as it.
+fn is_vector(alloc: Global, row: &Vector) -> Result<bool, CodecFault> {
+    let m = message_of(alloc, row)?;
+    let bytes = encoded(alloc, &m);
+    Ok(bytes.as_deref() == Some(row.bytes) && reads_as(alloc, row.bytes, &m))
 }
 
 #[test]
-fn vectors(rt: HostRuntime) -> Result<(), Fail> {
-    let alloc = rt.alloc();
+fn vectors(rt: HostRuntime) {
     for row in vector_rows() {
-        let m = message_of(alloc, row)?;
-        assert_eq!(rt; encoded(alloc, &m)?.as_slice(), row.bytes);
-        assert!(rt; decode(alloc, row.bytes)? == m, "{m:?}");
+        let is_met = is_vector(rt.alloc(), row).expect(&rt, "a message");
+        assert!(rt; is_met, "{:?}", row.bytes);
     }
-    Ok(())
 }
 
 /// A length, and how the message begins.
@@ -136,19 +149,29 @@ fn length_rows() -> &'static [(usize, &'static [u8])] {
     &LENGTHS
 }
 
+/// A message with an option of so many bytes.
+fn with_value(alloc: Global, len: usize) -> Result<Message, CodecFault> {
+    let mut m = Message::new(alloc, MsgType::Con, 1, 0, Token::new(&[]));
+    let value = vec![in alloc; 7; len]?;
+    m.options.push(Opt { number: 1, value })?;
+    Ok(m)
+}
+
+/// The message's bytes begin so, and are read as it.
+fn begins(alloc: Global, m: &Message, want: &[u8]) -> bool {
+    match encoded(alloc, m) {
+        Some(bytes) => bytes.starts_with(want) && reads_as(alloc, &bytes, m),
+        None => false,
+    }
+}
+
 /// The head of an option by the length of its value.
 #[test]
-fn lengths(rt: HostRuntime) -> Result<(), Fail> {
-    let alloc = rt.alloc();
+fn lengths(rt: HostRuntime) {
     for &(len, want) in length_rows() {
-        let mut m = Message::new(alloc, MsgType::Con, 1, 0, Token::new(&[]));
-        let value = vec![in alloc; 7; len]?;
-        m.options.push(Opt { number: 1, value })?;
-        let bytes = encoded(alloc, &m)?;
-        assert!(rt; bytes.starts_with(want), "{len}");
-        assert!(rt; decode(alloc, &bytes)? == m, "{len}");
+        let m = with_value(rt.alloc(), len).expect(&rt, "memory");
+        assert!(rt; begins(rt.alloc(), &m, want), "{len}");
     }
-    Ok(())
 }
 
 /// Bytes, and their first fault.
@@ -194,40 +217,60 @@ fn number_rows() -> &'static [(u32, &'static [u8])] {
     &NUMBERS
 }
 
+fn is_number(alloc: Global, n: u32, want: &[u8]) -> Result<bool, CodecFault> {
+    Ok(uint_to(alloc, n)?.as_slice() == want)
+}
+
+/// The block has this size, and these bytes, which are read as it.
+fn is_block(alloc: Global, block: Block, size: usize, want: &[u8]) -> Result<bool, CodecFault>
+    requires num { block.num < 2 ^ 20 }
+    requires szx { block.szx < 7 }
+{
+    let bytes = block_to(alloc, block)?;
+    Ok(bytes.as_slice() == want && block_of(want) == Some(block) && block.size() == size)
+}
+
 #[test]
-fn numbers_and_blocks(rt: HostRuntime) -> Result<(), Fail> {
+fn numbers_and_blocks(rt: HostRuntime) {
     let alloc = rt.alloc();
-    assert_eq!(rt; uint_of(&[0, 0, 1, 2]), 258);
+    assert!(rt; uint_of(&[0, 0, 1, 2]) == 258);
     for &(n, want) in number_rows() {
-        assert_eq!(rt; uint_to(alloc, n)?.as_slice(), want);
+        assert!(rt; is_number(alloc, n, want).expect(&rt, "memory"), "{n}");
     }
     let second = Block {
         num: 1,
         more: true,
         szx: 6,
     };
-    assert_eq!(rt; block_of(&[0x1e]), Some(second));
-    assert_eq!(rt; second.size(), 1024);
-    assert_eq!(rt; block_to(alloc, second)?.as_slice(), b"\x1e".as_slice());
-    assert_eq!(rt; block_of(&[7]), None);
-    Ok(())
+    assert!(rt; is_block(alloc, second, 1024, b"\x1e").expect(&rt, "memory"));
+    assert!(rt; block_of(&[7]).is_none());
+}
+
+/// A message, and its copy, which is the same.
+fn copied(alloc: Global, bytes: &[u8]) -> Result<Option<Message>, CodecFault> {
+    let m = decode(alloc, bytes)?;
+    let n = m.copy(alloc)?;
+    Ok(if n == m { Some(n) } else { None })
+}
+
+/// The message has these two values of an ETag, and no others.
+fn has_tags(alloc: Global, m: &Message, one: &[u8], other: &[u8]) -> Result<bool, CodecFault> {
+    let values = values_of(alloc, m, number::ETAG)?;
+    Ok(match values.as_slice() {
+        [first, second] => *first == one && *second == other,
+        _ => false,
+    })
 }
 
 #[test]
-fn copies_and_values(rt: HostRuntime) -> Result<(), Fail> {
+fn copies_and_values(rt: HostRuntime) {
     let alloc = rt.alloc();
-    let m = decode(alloc, b"\x51\x02\0\x01t\x41a\x02bc\xffx")?;
-    let n = m.copy(alloc)?;
-    assert!(rt; n == m);
-    assert_eq!(rt; n.token.as_slice(), b"t".as_slice());
-    assert_eq!(rt; (n.token.len(), n.token.is_empty()), (1, false));
-    assert_eq!(rt; first_of(&n, number::ETAG), Some(b"a".as_slice()));
-    let values = values_of(alloc, &n, number::ETAG)?;
-    assert_eq!(rt;
-        values.as_slice(),
-        [b"a".as_slice(), b"bc".as_slice()].as_slice()
-    );
-    Ok(())
+    let copy = copied(alloc, b"\x51\x02\0\x01t\x41a\x02bc\xffx").expect(&rt, "memory");
+    let n = copy.expect(&rt, "the same");
+    assert!(rt; n.token.as_slice() == b"t".as_slice());
+    assert!(rt; n.token.len() == 1 && !n.token.is_empty());
+    assert!(rt; first_of(&n, number::ETAG) == Some(b"a".as_slice()));
+    assert!(rt; has_tags(alloc, &n, b"a", b"bc").expect(&rt, "memory"));
 }
 
 /// RFC 7252, table 4, RFC 7641 and RFC 7959: an option's number, whether it is critical, and whether it is
@@ -258,28 +301,59 @@ fn option_rows() -> &'static [(u16, bool, bool)] {
     &OPTIONS
 }
 
-#[test]
-fn option_table(rt: HostRuntime) {
-    for &(number, critical, unsafe_to_forward) in option_rows() {
-        assert!(rt; definition(number).is_some(), "{number}");
-        assert_eq!(rt; is_critical(number), critical, "{number}");
-        assert_eq!(rt; is_unsafe(number), unsafe_to_forward, "{number}");
+/// The option is defined so.
+fn is_option(number: u16, critical: bool, unsafe_to_forward: bool) -> bool {
+    definition(number).is_some()
+        && is_critical(number) == critical
+        && is_unsafe(number) == unsafe_to_forward
+}
+
+/// How many options below 100 are defined.
+fn count_of_options() -> u8 {
+    let mut known: u8 = 0;
+    for number in 0..100 {
+        if definition(number).is_some() {
+            known = known.saturating_add(1);
+        }
     }
-    let known = (0..100)
-        .filter(|number| definition(*number).is_some())
-        .count();
-    assert_eq!(rt; known, 19);
+    known
 }
 
 #[test]
-fn one_option(rt: HostRuntime) -> Result<(), Fail> {
-    let size1 = definition(number::SIZE1).ok_or("no Size1")?;
-    assert_eq!(rt; format!(in rt.alloc(); "{}", size1.name)?.as_str(), "Size1");
+fn option_table(rt: HostRuntime) {
+    for &(number, critical, unsafe_to_forward) in option_rows() {
+        assert!(rt; is_option(number, critical, unsafe_to_forward), "{number}");
+    }
+    assert!(rt; count_of_options() == 19);
+}
+
+fn name_is(alloc: Global, definition: OptionDefinition, want: &str) -> bool {
+    match format!(in alloc; "{}", definition.name) {
+        Ok(text) => text.as_str() == want,
+        Err(_) => false,
+    }
+}
+
+fn fault_is(alloc: Global, fault: CodecFault, words: &str) -> bool {
+    match format!(in alloc; "{fault}") {
+        Ok(text) => text.as_str() == words,
+        Err(_) => false,
+    }
+}
+
+#[test]
+fn one_option(rt: HostRuntime) {
+    let size1 = definition(number::SIZE1).expect(&rt, "Size1");
+    assert!(rt; name_is(rt.alloc(), size1, "Size1"));
     assert!(rt; size1.no_cache_key && size1.allows_len(4) && !size1.allows_len(5));
     assert!(rt; is_allowed_in_response(number::MAX_AGE));
     assert!(rt; !is_allowed_in_response(number::URI_PATH));
     assert!(rt; no_cache_key(0x1c) && !no_cache_key(0x1e));
-    let text = format!(in rt.alloc(); "{}", CodecFault::TokenLength)?;
-    assert_eq!(rt; text.as_str(), "a token length above 8");
-    Ok(())
+    assert!(rt;
+        fault_is(
+            rt.alloc(),
+            CodecFault::TokenLength,
+            "a token length above 8"
+        )
+    );
 }

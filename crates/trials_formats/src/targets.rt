@@ -1,35 +1,64 @@
 //! Targets of requests, and where they lead (RFC 7252, section 6; RFC 8075, section 5).
 
+use coap_codec::Opt;
+use std::alloc::{AllocError, Global};
 use std::net::{IpAddr, Ipv4Addr, Ipv6Addr};
-use std::test::Fail;
 use uri_map::{
-    Directory, Host, Peer, UriFault, hosting_of, options_of, path_and_query, peer_at, peer_of,
-    target_of,
+    Directory, Host, Peer, Target, Text, UriFault, hosting_of, options_of, path_and_query, peer_at,
+    peer_of, target_of,
 };
 
-/// What the text names below `/hc/`, written out: the host, the port, each segment after ` /` and
-/// each argument after ` ?`; or the fault.
-fn named(rt: &HostRuntime, text: &[u8]) -> Result<String, Fail> {
-    let alloc = rt.alloc();
-    let target = match target_of(alloc, b"/hc/", text) {
-        Err(fault) => return Ok(format!(in alloc; "{fault:?}")?),
-        Ok(target) => target,
-    };
-    let port = target.port;
-    let mut out = match &target.host {
-        Host::Name(name) => format!(in alloc; "{} {port}", name.as_str())?,
-        Host::V4(address) => format!(in alloc; "v4 {address} {port}")?,
-        Host::V6(address) => format!(in alloc; "v6 {address} {port}")?,
-    };
-    for text in target.path.as_slice() {
-        out.push_str(" /")?;
+/// What the text names below `/hc/`. Like each call here, it passes on nothing of what the one in it
+/// promises: a trial over it is proved in less time.
+fn read(alloc: Global, text: &[u8]) -> Result<Target, UriFault> {
+    target_of(alloc, b"/hc/", text)
+}
+
+/// The host and the port.
+fn authority_text(alloc: Global, host: &Host, port: u16) -> Result<String, AllocError> {
+    match host {
+        Host::Name(name) => format!(in alloc; "{} {port}", name.as_str()),
+        Host::V4(address) => format!(in alloc; "v4 {address} {port}"),
+        Host::V6(address) => format!(in alloc; "v6 {address} {port}"),
+    }
+}
+
+/// Each of the texts after this mark.
+fn write_texts(out: &mut String, mark: &str, texts: &[Text]) -> Result<(), AllocError> {
+    for text in texts {
+        out.push_str(mark)?;
         out.push_str(text.as_str())?;
     }
-    for text in target.query.as_slice() {
-        out.push_str(" ?")?;
-        out.push_str(text.as_str())?;
-    }
+    Ok(())
+}
+
+/// A target written out: the host, the port, each segment after ` /` and each argument after ` ?`.
+fn target_text(alloc: Global, target: &Target) -> Result<String, AllocError> {
+    let mut out = authority_text(alloc, &target.host, target.port)?;
+    write_texts(&mut out, " /", target.path.as_slice())?;
+    write_texts(&mut out, " ?", target.query.as_slice())?;
     Ok(out)
+}
+
+/// What the text names, written out; or the fault.
+fn named(alloc: Global, text: &[u8]) -> Result<String, AllocError> {
+    match read(alloc, text) {
+        Ok(target) => target_text(alloc, &target),
+        Err(fault) => format!(in alloc; "{fault:?}"),
+    }
+}
+
+/// The first text of the rows that names something else.
+fn first_wrong(
+    alloc: Global,
+    rows: &'static [(&'static [u8], &'static str)],
+) -> Result<Option<&'static [u8]>, AllocError> {
+    for &(text, want) in rows {
+        if named(alloc, text)?.as_str() != want {
+            return Ok(Some(text));
+        }
+    }
+    Ok(None)
 }
 
 /// Below the base or not, and schemes.
@@ -155,55 +184,45 @@ fn paths_and_queries() -> &'static [(&'static [u8], &'static str)] {
 }
 
 #[test]
-fn named_targets(rt: HostRuntime) -> Result<(), Fail> {
-    for &(text, want) in bases() {
-        assert_eq!(rt; named(&rt, text)?.as_str(), want);
-    }
-    for &(text, want) in authorities() {
-        assert_eq!(rt; named(&rt, text)?.as_str(), want);
-    }
-    for &(text, want) in paths_and_queries() {
-        assert_eq!(rt; named(&rt, text)?.as_str(), want);
-    }
-    Ok(())
+fn named_targets(rt: HostRuntime) {
+    let alloc = rt.alloc();
+    assert_eq!(rt; first_wrong(alloc, bases()), Ok(None));
+    assert_eq!(rt; first_wrong(alloc, authorities()), Ok(None));
+    assert_eq!(rt; first_wrong(alloc, paths_and_queries()), Ok(None));
 }
 
-/// The target `/hc/h/` with `pieces` segments of `len` bytes each.
-fn segments(rt: &HostRuntime, pieces: usize, len: usize) -> Result<Vec<u8>, Fail> {
-    let mut text = Vec::from_slice(rt.alloc(), b"/hc/192.0.2.1")?;
+/// The target `/hc/192.0.2.1` with `pieces` segments of `len` bytes each, and what follows.
+fn segments(alloc: Global, pieces: usize, len: usize, rest: &[u8]) -> Result<Vec<u8>, AllocError> {
+    let mut text = Vec::from_slice(alloc, b"/hc/192.0.2.1")?;
     for _ in 0..pieces {
         text.push(b'/')?;
         for _ in 0..len {
             text.push(b'a')?;
         }
     }
+    text.extend_from_slice(rest)?;
     Ok(text)
 }
 
+/// The fault of that target, or none.
+fn fault_of(alloc: Global, pieces: usize, len: usize, rest: &[u8]) -> Option<UriFault> {
+    match segments(alloc, pieces, len, rest) {
+        Ok(text) => read(alloc, &text).err(),
+        Err(AllocError) => Some(UriFault::Memory),
+    }
+}
+
 #[test]
-fn limits(rt: HostRuntime) -> Result<(), Fail> {
+fn limits(rt: HostRuntime) {
     let alloc = rt.alloc();
     // A value has at most 255 bytes.
-    assert!(rt; target_of(alloc, b"/hc/", &segments(&rt, 1, 255)?).is_ok());
-    assert!(rt;
-        matches!(
-            target_of(alloc, b"/hc/", &segments(&rt, 1, 256)?),
-            Err(UriFault::TooLong)
-        )
-    );
+    assert!(rt; fault_of(alloc, 1, 255, b"").is_none());
+    assert!(rt; fault_of(alloc, 1, 256, b"") == Some(UriFault::TooLong));
     // 80 options of 12 bytes each are 960 bytes; an option more is too many.
-    assert!(rt; target_of(alloc, b"/hc/", &segments(&rt, 80, 11)?).is_ok());
-    assert!(rt;
-        matches!(
-            target_of(alloc, b"/hc/", &segments(&rt, 81, 11)?),
-            Err(UriFault::TooLong)
-        )
-    );
+    assert!(rt; fault_of(alloc, 80, 11, b"").is_none());
+    assert!(rt; fault_of(alloc, 81, 11, b"") == Some(UriFault::TooLong));
     // A bad escape is told before a value that is too long.
-    let mut text = segments(&rt, 1, 256)?;
-    text.extend_from_slice(b"?%")?;
-    assert!(rt; matches!(target_of(alloc, b"/hc/", &text), Err(UriFault::Escape)));
-    Ok(())
+    assert!(rt; fault_of(alloc, 1, 256, b"?%") == Some(UriFault::Escape));
 }
 
 /// A target, and its text as it is hosted.
@@ -232,70 +251,90 @@ fn hosted_rows() -> &'static [(&'static [u8], &'static [u8])] {
     &HOSTED
 }
 
+/// The text names the target, or a copy of it.
+fn names(alloc: Global, text: &[u8], target: &Target) -> Result<bool, UriFault> {
+    Ok(read(alloc, text)? == target.copy()?)
+}
+
+/// The target of the text is hosted so, and what is hosted names the target.
+fn is_hosted(alloc: Global, text: &[u8], want: &[u8]) -> Result<bool, UriFault> {
+    let target = read(alloc, text)?;
+    let hosted = hosting_of(alloc, b"/hc/", &target)?;
+    Ok(hosted.as_slice() == want && names(alloc, &hosted, &target)?)
+}
+
 #[test]
-fn hosted_again(rt: HostRuntime) -> Result<(), Fail> {
-    let alloc = rt.alloc();
+fn hosted_again(rt: HostRuntime) {
     for &(text, want) in hosted_rows() {
-        let target = target_of(alloc, b"/hc/", text)?;
-        let hosted = hosting_of(alloc, b"/hc/", &target)?;
-        assert_eq!(rt; hosted.as_slice(), want);
-        assert!(rt; target_of(alloc, b"/hc/", &hosted)? == target.copy()?);
+        let hosted = is_hosted(rt.alloc(), text, want).expect(&rt, "a target");
+        assert!(rt; hosted, "{text:?}");
     }
-    Ok(())
+}
+
+/// The options of the target that the text names.
+fn options(alloc: Global, text: &[u8]) -> Result<Vec<Opt>, UriFault> {
+    let target = read(alloc, text)?;
+    Ok(options_of(alloc, &target)?)
+}
+
+fn has_option(options: &[Opt], place: usize, number: u16, value: &[u8]) -> bool {
+    match options.get(place) {
+        Some(option) => option.number == number && option.value.as_slice() == value,
+        None => false,
+    }
 }
 
 #[test]
-fn options_of_a_target(rt: HostRuntime) -> Result<(), Fail> {
+fn options_of_a_target(rt: HostRuntime) {
     let alloc = rt.alloc();
-    let target = target_of(alloc, b"/hc/", b"/hc/s.example.com:61616/a//b?x&y")?;
-    let options = options_of(alloc, &target)?;
-    let want: [(u16, &[u8]); 6] = [
-        (3, b"s.example.com"),
-        (11, b"a"),
-        (11, b""),
-        (11, b"b"),
-        (15, b"x"),
-        (15, b"y"),
-    ];
-    assert_eq!(rt; options.len(), want.len());
-    for (option, (number, value)) in options.iter().zip(want) {
-        assert_eq!(rt; option.number, number);
-        assert_eq!(rt; option.value.as_slice(), value);
-    }
-    let target = target_of(alloc, b"/hc/", b"/hc/192.0.2.1")?;
-    assert!(rt; options_of(alloc, &target)?.is_empty());
-    Ok(())
+    let given = options(alloc, b"/hc/s.example.com:61616/a//b?x&y").expect(&rt, "options");
+    assert!(rt; given.len() == 6);
+    assert!(rt; has_option(&given, 0, 3, b"s.example.com"));
+    assert!(rt; has_option(&given, 1, 11, b"a"));
+    assert!(rt; has_option(&given, 2, 11, b""));
+    assert!(rt; has_option(&given, 3, 11, b"b"));
+    assert!(rt; has_option(&given, 4, 15, b"x"));
+    assert!(rt; has_option(&given, 5, 15, b"y"));
+    let none = options(alloc, b"/hc/192.0.2.1").expect(&rt, "options");
+    assert!(rt; none.is_empty());
 }
 
-#[test]
-fn peers(rt: HostRuntime) -> Result<(), Fail> {
-    let alloc = rt.alloc();
-    let first = IpAddr::V4(Ipv4Addr::new(192, 0, 2, 1));
-    let second = IpAddr::V6(Ipv6Addr::new(0x2001, 0xdb8, 0, 0, 0, 0, 0, 1));
+/// A directory with two servers of one name.
+fn lamps(alloc: Global, first: IpAddr, second: IpAddr) -> Result<Directory, AllocError> {
     let mut directory = Directory::new(alloc, false);
     directory.add("Lamp.Example", first)?;
     directory.add("lamp.example", second)?;
+    Ok(directory)
+}
+
+/// Where the text leads, if it leads anywhere.
+fn peer(alloc: Global, directory: &Directory, text: &[u8]) -> Result<Option<Peer>, UriFault> {
+    let target = read(alloc, text)?;
+    Ok(peer_of(directory, &target))
+}
+
+/// The text leads there.
+fn leads(alloc: Global, directory: &Directory, text: &[u8], address: IpAddr, port: u16) -> bool {
+    peer(alloc, directory, text) == Ok(Some(Peer { address, port }))
+}
+
+/// The text names a target that leads nowhere.
+fn leads_nowhere(alloc: Global, directory: &Directory, text: &[u8]) -> bool {
+    peer(alloc, directory, text) == Ok(None)
+}
+
+#[test]
+fn peers(rt: HostRuntime) {
+    let alloc = rt.alloc();
+    let first = IpAddr::V4(Ipv4Addr::new(192, 0, 2, 1));
+    let second = IpAddr::V6(Ipv6Addr::new(0x2001, 0xdb8, 0, 0, 0, 0, 0, 1));
+    let directory = lamps(alloc, first, second).expect(&rt, "memory");
     assert!(rt; !directory.literals());
-    let target = target_of(alloc, b"/hc/", b"/hc/LAMP.example:80")?;
-    let peer = peer_of(&directory, &target);
-    assert!(rt;
-        peer == Some(Peer {
-            address: first,
-            port: 80
-        })
-    );
-    let literal = target_of(alloc, b"/hc/", b"/hc/%5B2001:db8::1%5D")?;
-    assert!(rt; peer_of(&directory, &literal).is_none());
+    assert!(rt; leads(alloc, &directory, b"/hc/LAMP.example:80", first, 80));
+    assert!(rt; leads_nowhere(alloc, &directory, b"/hc/%5B2001:db8::1%5D"));
     let taking = Directory::new(alloc, true);
-    assert!(rt;
-        peer_of(&taking, &literal)
-            == Some(Peer {
-                address: second,
-                port: 5683
-            })
-    );
-    assert!(rt; peer_of(&taking, &target).is_none());
-    Ok(())
+    assert!(rt; leads(alloc, &taking, b"/hc/%5B2001:db8::1%5D", second, 5683));
+    assert!(rt; leads_nowhere(alloc, &taking, b"/hc/LAMP.example:80"));
 }
 
 /// The text of a peer, and how it is written.
@@ -319,21 +358,25 @@ fn written_rows() -> &'static [(&'static [u8], Option<&'static str>)] {
     &WRITTEN
 }
 
-#[test]
-fn peers_written(rt: HostRuntime) -> Result<(), Fail> {
-    let alloc = rt.alloc();
-    for &(text, want) in written_rows() {
-        let shown = match peer_at(text) {
-            Some(peer) => Some(format!(in alloc; "{peer}")?),
-            None => None,
-        };
-        match (shown, want) {
-            (Some(shown), Some(want)) => assert_eq!(rt; shown.as_str(), want),
-            (None, None) => {}
-            _ => assert!(rt; false),
-        }
+fn peer_is(alloc: Global, peer: Peer, want: &str) -> Result<bool, AllocError> {
+    Ok(format!(in alloc; "{peer}")?.as_str() == want)
+}
+
+/// The peer of the text is written so, or there is none.
+fn is_written(alloc: Global, text: &[u8], want: Option<&str>) -> Result<bool, AllocError> {
+    match (peer_at(text), want) {
+        (Some(peer), Some(want)) => peer_is(alloc, peer, want),
+        (None, None) => Ok(true),
+        _ => Ok(false),
     }
-    Ok(())
+}
+
+#[test]
+fn peers_written(rt: HostRuntime) {
+    for &(text, want) in written_rows() {
+        let written = is_written(rt.alloc(), text, want).expect(&rt, "memory");
+        assert!(rt; written, "{text:?}");
+    }
 }
 
 /// A target of a request, and its path and query.
@@ -359,19 +402,44 @@ fn absolute_form(rt: HostRuntime) {
     }
 }
 
-#[test]
-fn faults_in_words(rt: HostRuntime) -> Result<(), Fail> {
-    let alloc = rt.alloc();
-    let rows = [
-        (UriFault::OtherBase, "the target is not below the base"),
-        (UriFault::Scheme, "the scheme is not coap"),
-        (UriFault::Authority, "the host or the port is malformed"),
-        (UriFault::Escape, "the path or the query is malformed"),
-        (UriFault::TooLong, "the path or the query is too long"),
-        (UriFault::Memory, "out of memory"),
-    ];
-    for (fault, want) in rows {
-        assert_eq!(rt; format!(in alloc; "{fault}")?.as_str(), want);
+fn fault_is(alloc: Global, fault: UriFault, words: &str) -> bool {
+    match format!(in alloc; "{fault}") {
+        Ok(text) => text.as_str() == words,
+        Err(_) => false,
     }
-    Ok(())
+}
+
+#[test]
+fn faults_in_words(rt: HostRuntime) {
+    let alloc = rt.alloc();
+    assert!(rt;
+        fault_is(
+            alloc,
+            UriFault::OtherBase,
+            "the target is not below the base"
+        )
+    );
+    assert!(rt; fault_is(alloc, UriFault::Scheme, "the scheme is not coap"));
+    assert!(rt;
+        fault_is(
+            alloc,
+            UriFault::Authority,
+            "the host or the port is malformed"
+        )
+    );
+    assert!(rt;
+        fault_is(
+            alloc,
+            UriFault::Escape,
+            "the path or the query is malformed"
+        )
+    );
+    assert!(rt;
+        fault_is(
+            alloc,
+            UriFault::TooLong,
+            "the path or the query is too long"
+        )
+    );
+    assert!(rt; fault_is(alloc, UriFault::Memory, "out of memory"));
 }

@@ -95,22 +95,39 @@ fn live(alloc: Global, conn: u32, ask: u32, reply: u32) -> Result<Event<Nothing>
     })
 }
 
-/// What the act writes; the ask of a request that isn't mapped is passed time.
+/// The GET goes out first.
+fn first(
+    alloc: Global,
+    port: u16,
+    mid: u8,
+    token: u8,
+    timeout: u32,
+) -> Result<Event<Nothing>, AllocError> {
+    sent(alloc, port, request(alloc, mid, token)?, Some(timeout))
+}
+
+/// The light is asked for; the ask of a request that isn't mapped is passed time.
+fn asked(alloc: Global, conn: u32) -> Result<Event<Nothing>, AllocError> {
+    match light(alloc)? {
+        Some(mapped) => Ok(Event::Asked(conn, Arc::new(alloc, mapped)?)),
+        None => Ok(Event::Passed),
+    }
+}
+
+/// What is refused for its size is asked.
+fn refused(alloc: Global, conn: u32) -> Result<Event<Nothing>, AllocError> {
+    Ok(Event::Asked(conn, Arc::new(alloc, too_large(alloc)?)?))
+}
+
+/// What the act writes.
 fn event(alloc: Global, act: Act) -> Result<Event<Nothing>, AllocError> {
     match act {
         Act::Open(conn) => Ok(Event::Opened(conn)),
-        Act::Ask(conn) => match light(alloc)? {
-            Some(mapped) => Ok(Event::Asked(conn, Arc::new(alloc, mapped)?)),
-            None => Ok(Event::Passed),
-        },
-        Act::Refuse(conn) => Ok(Event::Asked(conn, Arc::new(alloc, too_large(alloc)?)?)),
-        Act::First(mid, token) => sent(alloc, 5683, request(alloc, mid, token)?, Some(2000)),
-        Act::FirstWithin(mid, token, timeout) => {
-            sent(alloc, 5683, request(alloc, mid, token)?, Some(timeout))
-        }
-        Act::FirstTo(port, mid, token) => {
-            sent(alloc, port, request(alloc, mid, token)?, Some(2000))
-        }
+        Act::Ask(conn) => asked(alloc, conn),
+        Act::Refuse(conn) => refused(alloc, conn),
+        Act::First(mid, token) => first(alloc, 5683, mid, token, 2000),
+        Act::FirstWithin(mid, token, timeout) => first(alloc, 5683, mid, token, timeout),
+        Act::FirstTo(port, mid, token) => first(alloc, port, mid, token, 2000),
         Act::Again(mid, token) => sent(alloc, 5683, request(alloc, mid, token)?, None),
         Act::Reply(kind, mid, token) => Ok(heard(5683, reply(alloc, kind, mid, token)?)),
         Act::ReplyFrom(port, kind, mid, token) => {
@@ -153,6 +170,18 @@ pub fn stands(alloc: Global, acts: &[(u64, Act)]) -> Result<bool, AllocError> {
 /// A GET up to its first sending.
 pub const BEGUN: [(u64, Act); 3] = [(0, Act::Open(0)), (0, Act::Ask(0)), (0, Act::First(0, 0))];
 
+/// Whether the acts are found to be justified after what was done before.
+fn stands_after(
+    alloc: Global,
+    before: &[(u64, Act)],
+    acts: &[(u64, Act)],
+) -> Result<bool, AllocError> {
+    let mut all = Vec::new(alloc);
+    all.extend_from_slice(before)?;
+    all.extend_from_slice(acts)?;
+    stands(alloc, &all)
+}
+
 /// Whether what is done in each row, after what was done before, is found to be justified, or isn't.
 pub fn each_is(
     alloc: Global,
@@ -161,10 +190,7 @@ pub fn each_is(
     rows: &[&[(u64, Act)]],
 ) -> Result<bool, AllocError> {
     'each: for row in rows {
-        let mut acts = Vec::new(alloc);
-        acts.extend_from_slice(before)?;
-        acts.extend_from_slice(row)?;
-        if stands(alloc, &acts)? != wanted {
+        if stands_after(alloc, before, row)? != wanted {
             return Ok(false);
         }
     }

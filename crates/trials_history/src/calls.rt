@@ -58,6 +58,16 @@ pub fn tick(core: &mut Core<Nothing>, moment: u64) -> bool {
     core.tick(moment, 0).is_ok()
 }
 
+/// When the core has to be given a tick.
+pub fn next_due(core: &Core<Nothing>) -> Option<u64> {
+    core.next_due()
+}
+
+/// The ask whose answer waits first.
+pub fn first_answered(core: &Core<Nothing>) -> Option<u32> {
+    core.first_answered()
+}
+
 pub fn take_answer(core: &mut Core<Nothing>, ticket: &Ticket<Nothing>) -> Option<Answer<Nothing>> {
     core.take_answer(ticket)
 }

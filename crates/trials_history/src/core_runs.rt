@@ -1,8 +1,8 @@
 //! Runs of a core: connections, asks, replies, and what ends them.
 
 use crate::calls::{
-    answered, ask, ask_too_much, cause_of, close, copied, entries, hear, moment_of, new_core,
-    next_sent, open, responds, sends, take_answer, tick,
+    answered, ask, ask_too_much, cause_of, close, copied, entries, first_answered, hear, moment_of,
+    new_core, next_due, next_sent, open, responds, sends, take_answer, tick,
 };
 use crate::sample::Nothing;
 use ask_model::Cause;
@@ -44,34 +44,71 @@ fn a_full_journal_is_sealed(rt: HostRuntime) {
     assert!(rt; entries(&core) == 65535);
 }
 
+/// The core with its first connections open, so many of them.
+fn opened(alloc: Global, count: u32) -> Option<Core<Nothing>> {
+    let mut core = new_core(alloc)?;
+    for conn in 0..count {
+        if open(&mut core, 0) != Ok(conn) {
+            return None;
+        }
+    }
+    Some(core)
+}
+
+/// The fault of what is refused for its size; none where it is taken.
+fn refusal(core: &mut Core<Nothing>, alloc: Global, moment: u64, conn: u32) -> Option<AskFault> {
+    ask_too_much(core, alloc, moment, conn).err()
+}
+
+/// The answer waits, with this number, moment and cause.
+fn is_refused(
+    core: &mut Core<Nothing>,
+    ticket: &Ticket<Nothing>,
+    number: u32,
+    moment: u64,
+    cause: Cause,
+) -> bool {
+    match take_answer(core, ticket) {
+        Some(answer) => {
+            answer.number == number && answer.moment == moment && cause_of(&answer) == Some(cause)
+        }
+        None => false,
+    }
+}
+
+/// Whether the answer waits.
+fn is_answered(core: &mut Core<Nothing>, ticket: &Ticket<Nothing>) -> bool {
+    take_answer(core, ticket).is_some()
+}
+
 #[test]
 fn a_refusal_is_answered_once(rt: HostRuntime) {
     let alloc = rt.alloc();
-    let mut core = new_core(alloc).expect(&rt, "memory");
-    assert!(rt; open(&mut core, 0) == Ok(0));
-    assert!(rt; ask_too_much(&mut core, alloc, 5, 7).err() == Some(AskFault::Unknown));
+    let mut core = opened(alloc, 1).expect(&rt, "a connection");
+    assert!(rt; refusal(&mut core, alloc, 5, 7) == Some(AskFault::Unknown));
     let asked = ask_too_much(&mut core, alloc, 5, 0);
     let ticket = asked.ok().expect(&rt, "a ticket");
     assert!(rt; ticket.number == 1);
     assert!(rt; answered(&core, 2) == Some((0, 1)));
-    let answer = take_answer(&mut core, &ticket).expect(&rt, "an answer");
-    assert!(rt; (answer.number, answer.moment) == (2, 5));
-    assert!(rt; cause_of(&answer) == Some(Cause::BadHttp));
-    assert!(rt; take_answer(&mut core, &ticket).is_none());
+    assert!(rt; is_refused(&mut core, &ticket, 2, 5, Cause::BadHttp));
+    assert!(rt; !is_answered(&mut core, &ticket));
+}
+
+/// The fault of an ask; none where it is taken.
+fn ask_fault(core: &mut Core<Nothing>, alloc: Global, word: u64, conn: u32) -> Option<AskFault> {
+    ask(core, alloc, 0, word, conn).err()
 }
 
 #[test]
 fn messages_are_numbered_by_their_words(rt: HostRuntime) {
     let alloc = rt.alloc();
-    let mut core = new_core(alloc).expect(&rt, "memory");
-    assert!(rt; open(&mut core, 0) == Ok(0));
-    assert!(rt; open(&mut core, 0) == Ok(1));
-    assert!(rt; ask(&mut core, alloc, 0, 0x0123_4567_89ab_cdef, 0).is_ok());
+    let mut core = opened(alloc, 2).expect(&rt, "connections");
+    assert!(rt; ask_fault(&mut core, alloc, 0x0123_4567_89ab_cdef, 0).is_none());
     // the first ID is the low 16 bits; the token is no token issued yet, and the high 32 bits
     let want = b"\x48\x01\xcd\xef\0\0\0\0\x01\x23\x45\x67\x3d\0s.example.com\x85light";
     assert!(rt; sends(&core, 3, want, Some(2537)));
-    assert!(rt; ask(&mut core, alloc, 0, 0, 0).err() == Some(AskFault::Pending));
-    assert!(rt; ask(&mut core, alloc, 0, 0xffff_ffff_ffff_ffff, 1).is_ok());
+    assert!(rt; ask_fault(&mut core, alloc, 0, 0) == Some(AskFault::Pending));
+    assert!(rt; ask_fault(&mut core, alloc, 0xffff_ffff_ffff_ffff, 1).is_none());
     // the ID after that one, and the token after one that was issued
     let want = b"\x48\x01\xcd\xf0\0\0\0\x01\xff\xff\xff\xff\x3d\0s.example.com\x85light";
     assert!(rt; sends(&core, 5, want, Some(2619)));
@@ -94,6 +131,24 @@ fn sends_next(core: &mut Core<Nothing>, alloc: Global, wanted: &[u8]) -> bool {
     }
 }
 
+/// The answer waits: to this ask, with this number, on a reply that was heard then, and with this body.
+fn is_content(
+    core: &mut Core<Nothing>,
+    ticket: &Ticket<Nothing>,
+    (ask, number, heard): (u32, u32, u64),
+    body: &[u8],
+) -> bool {
+    match take_answer(core, ticket) {
+        Some(answer) => {
+            answer.ask == ask
+                && answer.number == number
+                && answer.heard == heard
+                && responds(&answer, 0x45, body)
+        }
+        None => false,
+    }
+}
+
 #[test]
 fn a_reply_answers_who_waits(rt: HostRuntime) {
     let alloc = rt.alloc();
@@ -106,9 +161,11 @@ fn a_reply_answers_who_waits(rt: HostRuntime) {
     assert!(rt; hear(&mut core, 7, 5683, reply));
     // what was heard, and the answer
     assert!(rt; entries(&core) == 5);
-    let answer = take_answer(&mut core, &ticket).expect(&rt, "an answer");
-    assert!(rt; (answer.ask, answer.number, answer.heard) == (1, 4, 7));
-    assert!(rt; responds(&answer, 0x45, b"22.5"));
+    assert!(rt; is_content(&mut core, &ticket, (1, 4, 7), b"22.5"));
+}
+
+fn sends_nothing(core: &mut Core<Nothing>, alloc: Global) -> bool {
+    next_sent(core, alloc).is_none()
 }
 
 #[test]
@@ -125,9 +182,9 @@ fn a_repeated_con_is_acknowledged_again(rt: HostRuntime) {
     assert!(rt; sends_next(&mut core, alloc, REQUEST));
     assert!(rt; sends_next(&mut core, alloc, b"\x60\0\x12\x34"));
     assert!(rt; sends_next(&mut core, alloc, b"\x60\0\x12\x34"));
-    assert!(rt; next_sent(&mut core, alloc).is_none());
-    assert!(rt; take_answer(&mut core, &ticket).is_some());
-    assert!(rt; take_answer(&mut core, &ticket).is_none());
+    assert!(rt; sends_nothing(&mut core, alloc));
+    assert!(rt; is_answered(&mut core, &ticket));
+    assert!(rt; !is_answered(&mut core, &ticket));
 }
 
 #[test]
@@ -137,45 +194,40 @@ fn a_reset_message_ends_a_request(rt: HostRuntime) {
     let ticket = open_and_ask(&mut core, alloc).expect(&rt, "a ticket");
     assert!(rt; hear(&mut core, 7, 5683, b"\x70\0\0\0"));
     assert!(rt; entries(&core) == 5);
-    let answer = take_answer(&mut core, &ticket).expect(&rt, "an answer");
-    assert!(rt; cause_of(&answer) == Some(Cause::Reset));
+    assert!(rt; is_refused(&mut core, &ticket, 4, 7, Cause::Reset));
 }
 
 #[test]
 fn a_request_without_a_reply_times_out(rt: HostRuntime) {
     let alloc = rt.alloc();
     let mut core = new_core(alloc).expect(&rt, "memory");
-    assert!(rt; core.next_due().is_none());
+    assert!(rt; next_due(&core).is_none());
     let ticket = open_and_ask(&mut core, alloc).expect(&rt, "a ticket");
-    assert!(rt; core.next_due() == Some(93_000));
+    assert!(rt; next_due(&core) == Some(93_000));
     assert!(rt; tick(&mut core, 92_999));
     assert!(rt; entries(&core) == 3);
-    assert!(rt; take_answer(&mut core, &ticket).is_none());
+    assert!(rt; !is_answered(&mut core, &ticket));
     assert!(rt; tick(&mut core, 93_000));
     assert!(rt; entries(&core) == 5);
-    assert!(rt; core.next_due().is_none());
-    let answer = take_answer(&mut core, &ticket).expect(&rt, "an answer");
-    assert!(rt; (answer.number, answer.moment) == (4, 93_000));
-    assert!(rt; cause_of(&answer) == Some(Cause::Timeout));
+    assert!(rt; next_due(&core).is_none());
+    assert!(rt; is_refused(&mut core, &ticket, 4, 93_000, Cause::Timeout));
 }
 
 #[test]
 fn timeouts_are_answered_by_rising_ask(rt: HostRuntime) {
     let alloc = rt.alloc();
-    let mut core = new_core(alloc).expect(&rt, "memory");
-    assert!(rt; open(&mut core, 0) == Ok(0));
-    assert!(rt; open(&mut core, 0) == Ok(1));
+    let mut core = opened(alloc, 2).expect(&rt, "connections");
     let first = ask(&mut core, alloc, 0, 0, 1).ok().expect(&rt, "a ticket");
-    assert!(rt; ask(&mut core, alloc, 0, 0, 0).is_ok());
-    assert!(rt; core.first_answered().is_none());
+    assert!(rt; ask_fault(&mut core, alloc, 0, 0).is_none());
+    assert!(rt; first_answered(&core).is_none());
     assert!(rt; tick(&mut core, 93_000));
     // two openings, two asks that are sent, the tick, and the answers
     assert!(rt; entries(&core) == 9);
     assert!(rt; answered(&core, 7) == Some((1, 2)));
     assert!(rt; answered(&core, 8) == Some((0, 4)));
-    assert!(rt; core.first_answered() == Some(2));
-    assert!(rt; take_answer(&mut core, &first).is_some());
-    assert!(rt; core.first_answered() == Some(4));
+    assert!(rt; first_answered(&core) == Some(2));
+    assert!(rt; is_answered(&mut core, &first));
+    assert!(rt; first_answered(&core) == Some(4));
 }
 
 /// The piggybacked 2.05 that replies to a request with a token of 8 bytes.
@@ -207,19 +259,17 @@ fn answers_at(core: &mut Core<Nothing>, alloc: Global, moment: u64) -> Option<u6
 #[test]
 fn a_copy_goes_on_by_itself(rt: HostRuntime) {
     let alloc = rt.alloc();
-    let mut core = new_core(alloc).expect(&rt, "memory");
-    assert!(rt; open(&mut core, 0) == Ok(0));
+    let mut core = opened(alloc, 1).expect(&rt, "a connection");
     let mut copy = copied(&core).expect(&rt, "memory");
     assert!(rt; answers_at(&mut core, alloc, 5) == Some(5));
-    assert!(rt; (entries(&core), entries(&copy)) == (5, 1));
+    assert!(rt; entries(&core) == 5 && entries(&copy) == 1);
     assert!(rt; answers_at(&mut copy, alloc, 9) == Some(9));
 }
 
 #[test]
 fn two_thousand_asks(rt: HostRuntime) {
     let alloc = rt.alloc();
-    let mut core = new_core(alloc).expect(&rt, "memory");
-    assert!(rt; open(&mut core, 0) == Ok(0));
+    let mut core = opened(alloc, 1).expect(&rt, "a connection");
     for moment in 0..2_000 {
         assert!(rt; answers_at(&mut core, alloc, moment).is_some());
     }

@@ -5,7 +5,6 @@ use ask_model::{Bytes, Cause};
 use journal_book::{Entry, Event, Grounds, Journal, Numbers};
 use std::alloc::{AllocError, Global};
 use std::sync::Arc;
-use std::test::Fail;
 
 /// An opening, a datagram that is sent, one that is heard, and two answers.
 fn small_journal(alloc: Global) -> Result<Journal<Nothing>, AllocError> {
@@ -42,24 +41,53 @@ fn small_journal(alloc: Global) -> Result<Journal<Nothing>, AllocError> {
     Ok(journal)
 }
 
-#[test]
-fn entries_are_counted_copied_and_cut(rt: HostRuntime) -> Result<(), Fail> {
-    let alloc = rt.alloc();
-    let mut journal = small_journal(alloc)?;
-    // 64 bytes for each, those of a datagram, and four for each number that an answer names
-    let sizes = [64, 66, 65, 68, 72];
-    assert!(rt; !journal.is_empty());
-    let copy = journal.copy()?;
-    assert_eq!(rt; copy.entries().len(), sizes.len());
-    for (entry, size) in copy.entries().iter().zip(sizes) {
-        assert_eq!(rt; (entry.moment, entry.size()), (7, size));
-        assert_eq!(rt; entry.copy()?.size(), size);
+fn copied(journal: &Journal<Nothing>) -> Option<Journal<Nothing>> {
+    journal.copy().ok()
+}
+
+fn count(journal: &Journal<Nothing>) -> usize {
+    journal.entries().len()
+}
+
+/// The entry of the moment 7 at this place, and its copy, have this size.
+fn has_size(journal: &Journal<Nothing>, place: usize, size: u64) -> bool {
+    let Some(entry) = journal.get(place) else {
+        return false;
+    };
+    match entry.copy() {
+        Ok(copy) => entry.moment == 7 && entry.size() == size && copy.size() == size,
+        Err(_) => false,
     }
+}
+
+/// So many entries are left.
+fn cuts(journal: &mut Journal<Nothing>, len: usize) -> bool {
+    journal.cut(len);
+    journal.len() == len
+}
+
+/// The first entry opens the connection 0.
+fn begins_with_an_opening(journal: &Journal<Nothing>) -> bool {
+    match journal.get(0) {
+        Some(entry) => matches!(entry.event, Event::Opened(0)),
+        None => false,
+    }
+}
+
+#[test]
+fn entries_are_counted_copied_and_cut(rt: HostRuntime) {
+    let mut journal = small_journal(rt.alloc()).expect(&rt, "memory");
+    assert!(rt; !journal.is_empty());
+    let copy = copied(&journal).expect(&rt, "memory");
+    assert!(rt; count(&copy) == 5);
+    // 64 bytes for each, those of a datagram, and four for each number that an answer names
+    assert!(rt; has_size(&copy, 0, 64));
+    assert!(rt; has_size(&copy, 1, 66));
+    assert!(rt; has_size(&copy, 2, 65));
+    assert!(rt; has_size(&copy, 3, 68));
+    assert!(rt; has_size(&copy, 4, 72));
     assert!(rt; journal.get(5).is_none());
-    journal.cut(5);
-    assert_eq!(rt; journal.len(), 5);
-    journal.cut(1);
-    assert_eq!(rt; journal.len(), 1);
-    assert!(rt; matches!(journal.get(0).ok_or("no entry")?.event, Event::Opened(0)));
-    Ok(())
+    assert!(rt; cuts(&mut journal, 5));
+    assert!(rt; cuts(&mut journal, 1));
+    assert!(rt; begins_with_an_opening(&journal));
 }

@@ -6,7 +6,6 @@ use coap_codec::{MsgType, Token};
 use datagram_verdict::{Change, Outcome, Response, Verdict, confirmation, verdict_of};
 use history_laws::kept::{Exchange, Remembered};
 use std::alloc::{AllocError, Global};
-use std::test::Fail;
 
 /// An exchange whose request bore this ID and the token 74 65.
 fn exchange(opening: u32, mid: u16, confirmed: bool) -> Exchange {
@@ -66,7 +65,7 @@ const NOT_UNDERSTOOD: Option<(u32, Option<Cause>)> = Some((3, Some(Cause::NotUnd
 
 /// A datagram, what is due, and what it ends. The exchanges 3 and 9 bore the IDs 1234 and 7d34 and the same
 /// token.
-static ROWS: [(&[u8], Option<(MsgType, u16)>, Option<(u32, Option<Cause>)>); 22] = [
+static ROWS: [(&[u8], Option<(MsgType, u16)>, Option<(u32, Option<Cause>)>); 29] = [
     // the response of figure 17, piggybacked
     (b"\x62\x45\x7d\x34te\xff22.3 C", None, Some((9, None))),
     // an acknowledgement of another message
@@ -99,6 +98,15 @@ static ROWS: [(&[u8], Option<(MsgType, u16)>, Option<(u32, Option<Cause>)>); 22]
         RST,
         NOT_UNDERSTOOD,
     ),
+    // Block1: the first block, also with a 4.13, where its size is a hint; a later one; one with more to come,
+    // also with a 4.13; 2.31; and one of four bytes
+    (b"\x42\x44\x12\x99te\xd1\x0e\x06", ACK, WHOLE),
+    (b"\x42\x8d\x12\x99te\xd1\x0e\x02", ACK, WHOLE),
+    (b"\x42\x44\x12\x99te\xd1\x0e\x16", ACK, NOT_UNDERSTOOD),
+    (b"\x42\x44\x12\x99te\xd1\x0e\x0e", ACK, NOT_UNDERSTOOD),
+    (b"\x42\x8d\x12\x99te\xd1\x0e\x0a", ACK, NOT_UNDERSTOOD),
+    (b"\x42\x5f\x12\x99te\xd1\x0e\x06", ACK, NOT_UNDERSTOOD),
+    (b"\x42\x44\x12\x99te\xd4\x0e\0\0\0\x06", RST, NOT_UNDERSTOOD),
     // Location-Path may repeat
     (b"\x42\x45\x12\x99te\x81a\x01b", ACK, WHOLE),
 ];
@@ -112,56 +120,112 @@ fn rows() -> &'static [(
     &ROWS
 }
 
-#[test]
-fn datagrams_are_judged(rt: HostRuntime) -> Result<(), Fail> {
-    let alloc = rt.alloc();
-    let table = [exchange(3, 0x1234, false), exchange(9, 0x7d34, false)];
-    for &(bytes, answer, end) in rows() {
-        let told = verdict(alloc, &table, &[], 40, 5683, bytes)?;
-        assert_eq!(rt; due(&told), answer, "{bytes:?}");
-        assert_eq!(rt; ended(&told), end, "{bytes:?}");
-        assert_eq!(rt; confirmed(&told), None);
-    }
-    Ok(())
+/// The datagram calls for this answer, ends this exchange, and confirms none.
+fn is_judged(
+    alloc: Global,
+    table: &[Exchange],
+    bytes: &[u8],
+    answer: Option<(MsgType, u16)>,
+    end: Option<(u32, Option<Cause>)>,
+) -> Result<bool, AllocError> {
+    let told = verdict(alloc, table, &[], 40, 5683, bytes)?;
+    Ok(due(&told) == answer && ended(&told) == end && confirmed(&told).is_none())
 }
 
 #[test]
-fn acknowledgements_and_other_peers(rt: HostRuntime) -> Result<(), Fail> {
+fn datagrams_are_judged(rt: HostRuntime) {
+    let table = [exchange(3, 0x1234, false), exchange(9, 0x7d34, false)];
+    for &(bytes, answer, end) in rows() {
+        let judged = is_judged(rt.alloc(), &table, bytes, answer, end).expect(&rt, "memory");
+        assert!(rt; judged, "{bytes:?}");
+    }
+}
+
+/// The exchange that the datagram confirms, heard at 40 from the server's port.
+fn confirmed_by(
+    alloc: Global,
+    table: &[Exchange],
+    bytes: &[u8],
+) -> Result<Option<u32>, AllocError> {
+    Ok(confirmed(&verdict(alloc, table, &[], 40, 5683, bytes)?))
+}
+
+/// Whether the datagram ends an exchange, heard at 40 from this port.
+fn ends(alloc: Global, table: &[Exchange], port: u16, bytes: &[u8]) -> Result<bool, AllocError> {
+    Ok(ended(&verdict(alloc, table, &[], 40, port, bytes)?).is_some())
+}
+
+#[test]
+fn acknowledgements_and_other_peers(rt: HostRuntime) {
     let alloc = rt.alloc();
-    let ack = confirmation(alloc, MsgType::Ack, 0x7d34)?;
-    assert_eq!(rt; ack.as_slice(), b"\x60\0\x7d\x34".as_slice());
+    let ack = confirmation(alloc, MsgType::Ack, 0x7d34).expect(&rt, "memory");
+    assert!(rt; ack.as_slice() == b"\x60\0\x7d\x34".as_slice());
     let table = [exchange(3, 0x1234, false), exchange(9, 0x7d34, true)];
-    assert_eq!(rt;
-        confirmed(&verdict(alloc, &table, &[], 40, 5683, &ack)?),
-        Some(9)
-    );
+    assert!(rt; confirmed_by(alloc, &table, &ack) == Ok(Some(9)));
     // a Reset message after the acknowledgement
-    assert_eq!(rt;
-        ended(&verdict(alloc, &table, &[], 40, 5683, b"\x70\0\x7d\x34")?),
-        None
-    );
+    assert!(rt; ends(alloc, &table, 5683, b"\x70\0\x7d\x34") == Ok(false));
     let reply = b"\x62\x45\x7d\x34te\xffon";
-    assert_eq!(rt; ended(&verdict(alloc, &table, &[], 40, 5684, reply)?), None);
-    Ok(())
+    assert!(rt; ends(alloc, &table, 5684, reply) == Ok(false));
+}
+
+/// What is remembered of the datagram, which calls for an ACK and ends the exchange.
+fn remembered(
+    alloc: Global,
+    table: &[Exchange],
+    bytes: &[u8],
+) -> Result<Option<Remembered>, AllocError> {
+    let first = verdict(alloc, table, &[], 40, 5683, bytes)?;
+    if due(&first) == ACK && ended(&first) == WHOLE {
+        Ok(first.memory)
+    } else {
+        Ok(None)
+    }
+}
+
+/// The datagram is a repeat: it calls for an ACK again, and ends and leaves nothing.
+fn is_repeat(
+    alloc: Global,
+    table: &[Exchange],
+    heard: &[Remembered],
+    moment: u64,
+    bytes: &[u8],
+) -> Result<bool, AllocError> {
+    let again = verdict(alloc, table, heard, moment, 5683, bytes)?;
+    Ok(due(&again) == ACK && ended(&again).is_none() && again.memory.is_none())
+}
+
+/// The datagram ends the exchange.
+fn is_new(
+    alloc: Global,
+    table: &[Exchange],
+    heard: &[Remembered],
+    moment: u64,
+    bytes: &[u8],
+) -> Result<bool, AllocError> {
+    Ok(ended(&verdict(alloc, table, heard, moment, 5683, bytes)?) == WHOLE)
+}
+
+/// From another port the datagram calls for an RST.
+fn is_foreign(
+    alloc: Global,
+    table: &[Exchange],
+    heard: &[Remembered],
+    bytes: &[u8],
+) -> Result<bool, AllocError> {
+    Ok(due(&verdict(alloc, table, heard, 40, 5684, bytes)?) == RST)
 }
 
 /// The same datagram within 247 seconds is a repeat, and gets the same ACK or RST (section 4.5).
 #[test]
-fn repeats(rt: HostRuntime) -> Result<(), Fail> {
+fn repeats(rt: HostRuntime) {
     let alloc = rt.alloc();
     let table = [exchange(3, 0x1234, true)];
     let bytes = b"\x42\x45\x12\x99te\xffon";
-    let first = verdict(alloc, &table, &[], 40, 5683, bytes)?;
-    assert_eq!(rt; (due(&first), ended(&first)), (ACK, WHOLE));
-    let heard = [first.memory.ok_or("not remembered")?];
-    let again = verdict(alloc, &table, &heard, 247_039, 5683, bytes)?;
-    assert_eq!(rt; (due(&again), ended(&again)), (ACK, None));
-    assert!(rt; again.memory.is_none());
-    let later = verdict(alloc, &table, &heard, 247_040, 5683, bytes)?;
-    assert_eq!(rt; ended(&later), WHOLE);
-    let other = verdict(alloc, &table, &heard, 40, 5684, bytes)?;
-    assert_eq!(rt; due(&other), RST);
-    Ok(())
+    let first = remembered(alloc, &table, bytes).expect(&rt, "memory");
+    let heard = [first.expect(&rt, "a first datagram")];
+    assert!(rt; is_repeat(alloc, &table, &heard, 247_039, bytes) == Ok(true));
+    assert!(rt; is_new(alloc, &table, &heard, 247_040, bytes) == Ok(true));
+    assert!(rt; is_foreign(alloc, &table, &heard, bytes) == Ok(true));
 }
 
 /// The response that the verdict ends its exchange with.
@@ -173,29 +237,32 @@ fn response_of(verdict: &Verdict) -> Option<Response> {
     }
 }
 
-#[test]
-fn what_options_say(rt: HostRuntime) -> Result<(), Fail> {
-    let alloc = rt.alloc();
+/// The response that this datagram ends the exchange 3 with.
+fn response_in(alloc: Global, bytes: &[u8]) -> Option<Response> {
     let table = [exchange(3, 0x1234, false)];
+    let verdict = verdict(alloc, &table, &[], 40, 5683, bytes).ok()?;
+    response_of(&verdict)
+}
+
+fn has_tag(response: &Response, wanted: &[u8]) -> bool {
+    match &response.etag {
+        Some(etag) => etag.as_slice() == wanted,
+        None => false,
+    }
+}
+
+#[test]
+fn what_options_say(rt: HostRuntime) {
     // ETag, Location-Path, Content-Format and Max-Age
     let full = b"\x42\x45\x12\x99te\x42\x01\x02\x41a\x42\x01\x02\x21\x3c\xffon";
-    let said = response_of(&verdict(alloc, &table, &[], 40, 5683, full)?).ok_or("no response")?;
-    assert_eq!(rt;
-        (said.code, said.format, said.max_age),
-        (0x45, Some(0x0102), Some(60))
-    );
-    assert!(rt;
-        said.etag
-            .is_some_and(|etag| etag.as_slice() == [1, 2].as_slice())
-    );
-    assert_eq!(rt;
-        (said.location_path.len(), said.location_query.len()),
-        (1, 0)
-    );
-    assert_eq!(rt; said.body.as_slice(), b"on".as_slice());
+    let said = response_in(rt.alloc(), full).expect(&rt, "a response");
+    assert!(rt; said.code == 0x45);
+    assert!(rt; said.format == Some(0x0102) && said.max_age == Some(60));
+    assert!(rt; has_tag(&said, &[1, 2]));
+    assert!(rt; said.location_path.len() == 1 && said.location_query.len() == 0);
+    assert!(rt; said.body.as_slice() == b"on".as_slice());
     // an empty ETag does not count
     let bare = b"\x42\x45\x12\x99te\x40\xffon";
-    let said = response_of(&verdict(alloc, &table, &[], 40, 5683, bare)?).ok_or("no response")?;
+    let said = response_in(rt.alloc(), bare).expect(&rt, "a response");
     assert!(rt; said.etag.is_none() && said.format.is_none() && said.max_age.is_none());
-    Ok(())
 }
