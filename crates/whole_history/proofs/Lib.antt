@@ -1,0 +1,5 @@
+pub mod Resting
+pub mod Spelled
+pub mod Messages
+pub mod Places
+pub mod Sendings

@@ -1,0 +1,12 @@
+pub mod Readings
+pub mod Connections
+pub mod Limits
+pub mod Progress
+pub mod Transmissions
+pub mod Exchanges
+pub mod Hearing
+pub mod Confirming
+pub mod Justified
+pub mod Laws
+pub mod Worked
+pub mod WorkedMessages

@@ -1,0 +1,18 @@
+//! What makes the whole history of a proxy justified, with its messages on their way: copies, one
+//! outstanding message a peer, message IDs, repeats (RFC 7252 section 4).
+//!
+//! A history is a list of entries, each with its moment. A reading gives each entry a note, which says
+//! what the entry is: the request of an exchange, whose message is sent, what a datagram answers or
+//! repeats. A history is justified if some reading is legal, that is, if each of its entries may follow
+//! the ones before it, and an input comes only where all that was due is done.
+//!
+//! The definitions stand in `specs/`, to be read in this order: `Readings`, `Connections`, `Limits`,
+//! `Progress`, `Transmissions`, `Exchanges`, `Hearing`, `Confirming`, `Justified`; then the worked
+//! journals, and `Laws`, which says what follows.
+#![tactic(auto)]
+
+mod laws;
+mod worked;
+
+pub use laws::sendings_apart;
+pub use worked::worked_messages;
