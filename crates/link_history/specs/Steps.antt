@@ -1,0 +1,134 @@
+-- What the calls of a link leave in a history.
+use Rattle.std.specs.Prelude.{◌≡◌, ℕ, ◌<◌, ◌≤◌, true, false, List, ◌∷◌, length, Option, Some, None, if◌then◌else◌}
+use Rattle.coap_codec.specs.Spelling.{Content, Spells}
+use Rattle.uri_map.specs.declared.peer.Peer.{Peer}
+use Rattle.ask_model.specs.Requests.{CoapRequest, Ask, request_message}
+use Rattle.journal_book.specs.Entries.{Asks, Sends, Hears}
+use Rattle.history_laws.specs.Confirming.{Confirmation}
+use Rattle.history_laws.specs.Numbering.{token_number}
+use Rattle.message_layer.specs.Values.{LinkState}
+use Rattle.message_layer.specs.Calls.{expected_in}
+use Rattle.message_layer.specs.Sending.{due_of, with_copy, first_sent, with_outstanding, waits, queued}
+use Rattle.message_layer.specs.Hearing.{answered_in, remembered_in, verdict_of, reset_for}
+use Rattle.message_layer.specs.declared.state.Awaited.{Awaited}
+use Rattle.message_layer.specs.declared.state.Outstanding.{Outstanding}
+use Rattle.message_layer.specs.declared.state.Reply.TheVariants as R
+use Rattle.message_layer.specs.declared.state.Waiting.{Waiting}
+use Rattle.message_layer.specs.declared.verdict.News.{News}
+use Rattle.message_layer.specs.declared.verdict.News.TheVariants.{Quiet, Response, Reset, Lost}
+use Rattle.message_layer.specs.declared.verdict.Verdict.{Verdict}
+use Rattle.whole_history.specs.Readings.{Noted, Begins, First, Copies, Says, Repeats, Garbled, Unobserved, newest, ticked}
+use Rattle.whole_history.specs.Connections.{is_sealed}
+use Rattle.whole_history.specs.Limits.{mid_limit, copy_limit}
+use Rattle.whole_history.specs.Transmissions.{bears_token, mids_used}
+use Rattle.whole_history.specs.Exchanges.{openings}
+use Rattle.whole_history.specs.Hearing.{repeated, can_be_remembered, answers}
+use Rattle.whole_history.specs.Confirming.{owed}
+use Rattle.whole_history.specs.Justified.{Legal, Follows}
+use Rattle.whole_history.specs.Worked.{noted}
+use Rattle.link_history.specs.Agrees.{due, Agrees}
+
+-- Before an entry at this moment, the history is legal, and the link agrees with it.
+pub record Before (l : List Noted) (t : ℕ) (p : Peer) (s : LinkState) : Type 0 where
+  pub legal : Legal l
+  pub later : newest l ≤ t
+  pub agrees : Agrees l p s
+
+-- A message may be sent: the journal isn't sealed, and nobody is owed an ACK or RST.
+pub record MaySend (l : List Noted) : Type 0 where
+  pub unsealed : is_sealed l ≡ false
+  pub quiet : owed l ≡ None
+
+-- an entry that may follow, after which the link is this and agrees
+pub record Leads (l : List Noted) (p : Peer) (x : Noted) (s : LinkState) : Type 0 where
+  pub follows : Follows l x.written.moment x.written.deed x.note
+  pub agrees : Agrees (x ∷ l) p s
+
+-- A copy is sent once it is due.
+abbrev pub copy : ℕ → Peer → Outstanding → ℕ → Noted
+copy t p o sending = noted t (Sends p o.datagram None) (Copies sending)
+
+abbrev pub CopyFollows : Type 0
+CopyFollows =
+    (l : List Noted) (t : ℕ) (p : Peer) (s : LinkState) (o : Outstanding)
+    → Before l t p s → MaySend l
+    → s.outstanding ≡ Some o → o.retransmissions < copy_limit → due_of o ≤ ticked l
+    → (i : ℕ) × Leads l p (copy t p o i) (with_copy t s o)
+
+-- The message that waits first is sent where nothing is outstanding.
+abbrev pub first : ℕ → Peer → Outstanding → ℕ → Content → Noted
+first t p o opening m = noted t (Sends p o.datagram (Some o.timeout)) (First opening m)
+
+abbrev pub NextFollows : Type 0
+NextFollows =
+    (l : List Noted) (t : ℕ) (p : Peer) (s : LinkState) (w : Waiting) (ws : List Waiting)
+    → Before l t p s → MaySend l
+    → w.first_mid < 65536 → mids_used l t p < mid_limit
+    → s.outstanding ≡ None → s.waiting ≡ w ∷ ws
+    → (o : ℕ) × (m : Content)
+    × Leads l p (first t p (first_sent t s.last_mid w) o m) (with_outstanding s ws (first_sent t s.last_mid w))
+
+-- Its message waits last where an ask opens an exchange with the peer.
+abbrev pub QueuedAgrees : Type 0
+QueuedAgrees =
+    (l : List Noted) (t : ℕ) (p : Peer) (s : LinkState)
+    (c : ℕ) (a : Ask) (q : CoapRequest) (token text : List ℕ) (word : ℕ)
+    → Before l t p s → q.peer ≡ p → Spells (request_message q 0 token) text
+    → length token ≡ 8 → bears_token l token ≡ false → token_number token ≡ length (openings l)
+    → Agrees (noted t (Asks c a) (Begins q) ∷ l) p (queued t (waits token text word) s)
+
+-- What is heard asks for just what the link answers (RFC 7252 sections 4.2, 4.3, 4.5), which is this after it.
+pub record Heeds (l : List Noted) (p : Peer) (x : Noted) (c : Option Confirmation) (s : LinkState) : Type 0 where
+  pub owes : owed (x ∷ l) ≡ c
+  pub agrees : Agrees (x ∷ l) p s
+
+-- A datagram that repeats one changes nothing.
+abbrev pub RepeatAgrees : Type 0
+RepeatAgrees =
+    (l : List Noted) (t : ℕ) (p : Peer) (s : LinkState) (d : List ℕ) (m : Content) (j : ℕ)
+    → Before l t p s → repeated l t p m ≡ Some j
+    → Heeds l p (noted t (Hears p d) (Repeats m j)) (due p m.mid (verdict_of t s m).reply) s
+
+-- One that is no message changes nothing, and is reset where it begins as a CON does.
+abbrev pub reset : Peer → Option ℕ → Option Confirmation
+reset p None = None
+reset p (Some mid) = due p mid R.Rst
+
+abbrev pub GarbledAgrees : Type 0
+GarbledAgrees =
+    (l : List Noted) (t : ℕ) (p : Peer) (s : LinkState) (d : List ℕ)
+    → Before l t p s
+    → Heeds l p (noted t (Hears p d) Garbled) (reset p (reset_for d)) s
+
+-- The token under which nothing is awaited any more: that of a response that is told, or of a message that is reset.
+abbrev pub ended_token : News → List ℕ → Option (List ℕ)
+ended_token Quiet token = None
+ended_token Response token = Some token
+ended_token (Reset of) token = Some of
+ended_token Lost token = None
+
+abbrev pub unawaited : Option (List ℕ) → List Awaited → List Awaited
+unawaited None awaited = awaited
+unawaited (Some token) awaited = expected_in token false awaited
+
+-- What a link keeps after a message that it hears, before the next of its own has its turn.
+abbrev pub heard_link : ℕ → ℕ → List ℕ → Verdict → LinkState → LinkState
+heard_link t mid token v s = record {
+  waiting = s.waiting;
+  outstanding = if v.ends then None else s.outstanding;
+  last_mid = s.last_mid;
+  given = s.given;
+  awaited = unawaited (ended_token v.news token) (answered_in token v.news s.awaited);
+  heard = remembered_in t mid v.reply v.remembered s.heard;
+  out = s.out;
+}
+
+-- A message that is new ends what it answers.
+abbrev pub heard : List Noted → ℕ → Peer → List ℕ → Content → Noted
+heard l t p d m = noted t (Hears p d) (Says m (answers l p m) Unobserved)
+
+abbrev pub SaysAgrees : Type 0
+SaysAgrees =
+    (l : List Noted) (t : ℕ) (p : Peer) (s : LinkState) (d : List ℕ) (m : Content)
+    → Before l t p s → repeated l t p m ≡ None → can_be_remembered l t p m ≡ true
+    → Heeds l p (heard l t p d m) (due p m.mid (verdict_of t s m).reply) (heard_link t m.mid m.token (verdict_of t s m) s)

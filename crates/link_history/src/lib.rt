@@ -1,0 +1,6 @@
+//! What a link of the message layer does keeps a history legal.
+#![tactic(auto)]
+
+mod laws;
+
+pub use laws::{copy_follows, next_follows, queued_agrees, says_agrees, unchanged_by};
