@@ -3,3 +3,16 @@ pub mod Spelled
 pub mod Messages
 pub mod Places
 pub mod Sendings
+pub mod Facts
+pub mod Answering
+pub mod Outstanding
+pub mod Copying
+pub mod Elements
+pub mod Openings
+pub mod Turns
+pub mod Replies
+pub mod Sent
+pub mod Basis
+pub mod Confirmed
+pub mod Asked
+pub mod Settled

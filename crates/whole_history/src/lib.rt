@@ -14,5 +14,8 @@
 mod laws;
 mod worked;
 
-pub use laws::sendings_apart;
+pub use laws::{
+    answered_in_order, asked_once, one_outstanding, open_exactly, replies_fit, rests_on_its_own,
+    sendings_apart,
+};
 pub use worked::worked_messages;
