@@ -16,3 +16,5 @@ pub mod Basis
 pub mod Confirmed
 pub mod Asked
 pub mod Settled
+pub mod Endings
+pub mod Spoiled

@@ -38,7 +38,7 @@ pub ack-52-spelled : Spells (empty Ack 52) (empty_ack 52)
 unfolding message_at X.options_at X.option_at
 ack-52-spelled = spelled (empty_ack 52) _ refl refl
 
-legal-waiting : Legal waiting
+pub legal-waiting : Legal waiting
 legal-waiting = (
   (
     (
@@ -76,7 +76,7 @@ legal-waiting = (
   (may-come _ refl refl, refl, refl, (refl, refl)),
 )
 
-legal-copied : Legal copied
+pub legal-copied : Legal copied
 legal-copied = (
   (legal-waiting, lit≤ tt, (may-come _ refl refl, tt)),
   lit≤ tt,

@@ -10,3 +10,5 @@ pub mod Justified
 pub mod Laws
 pub mod Worked
 pub mod WorkedMessages
+pub mod WorkedEndings
+pub mod WorkedSpoiled

@@ -63,9 +63,9 @@ pub fn rests_on_its_own()
     ensures outrun { NothingOutrun }
 {}
 
-/// Each ask opens one exchange with one message, which goes out once and waits for no more than the one
-/// that is outstanding at its peer, or none where it is answered in its own step (RFC 7252 section 4.5 is
-/// why no request may go twice); nothing else is sent but equal copies, ACKs and RSTs.
+/// Each ask opens one exchange with one message, which goes out once (RFC 7252 section 4.5 is why no
+/// request may go twice) and waits only while another is outstanding at its peer; or it opens none and
+/// is answered in its own step. Nothing else is sent but equal copies, ACKs and RSTs.
 pub fn asked_once()
     ensures asked { AskedOnce }
     ensures sent { SentAtOnce }
