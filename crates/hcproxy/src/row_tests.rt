@@ -1,10 +1,9 @@
 //! Runs of scripts, each with what it has to print.
 
-use crate::replay::{Script, run_lines};
+use crate::replay::{ReplayFault, Script, run_lines};
 use crate::settings::demonstration;
 use history_check::is_justified;
-use std::alloc::Global;
-use std::test::Fail;
+use std::alloc::{AllocError, Global};
 
 /// A script, and what it prints.
 #[derive(Clone, Copy)]
@@ -76,106 +75,106 @@ pub const BOTH_LATE: Row = Row {
 };
 
 /// Runs a script over memory, and compares what it prints. Its journal has to be justified.
-fn prints(alloc: Global, script: &str, printed: &str) -> Result<bool, Fail> {
+fn prints(alloc: Global, script: &str, printed: &str) -> Result<bool, ReplayFault> {
     let mut out = Vec::new(alloc);
     let mut reader = script.as_bytes();
-    let Ok(mut run) = Script::new(alloc, demonstration(alloc)?) else {
-        return Ok(false);
-    };
+    let mut run = Script::new(alloc, demonstration(alloc)?)?;
     let ended = run_lines(&mut run, &mut reader, &mut out);
     let justified = is_justified(alloc, run.journal())?;
     Ok(ended.is_ok() && justified && out.as_slice() == printed.as_bytes())
 }
 
-#[test]
-fn a_separate_response_is_acknowledged(rt: HostRuntime) -> Result<(), Fail> {
-    assert!(rt; prints(rt.alloc(), SEPARATE.script, SEPARATE.printed)?);
-    Ok(())
+impl Row {
+    fn holds(self, alloc: Global) -> Result<bool, ReplayFault> {
+        prints(alloc, self.script, self.printed)
+    }
 }
 
 #[test]
-fn a_reset_is_told(rt: HostRuntime) -> Result<(), Fail> {
-    assert!(rt; prints(rt.alloc(), RESET.script, RESET.printed)?);
-    Ok(())
+fn a_separate_response_is_acknowledged(rt: HostRuntime) {
+    assert!(rt; SEPARATE.holds(rt.alloc()) == Ok(true));
 }
 
 #[test]
-fn refusals_come_in_their_turn(rt: HostRuntime) -> Result<(), Fail> {
-    assert!(rt; prints(rt.alloc(), TARGETS.script, TARGETS.printed)?);
-    Ok(())
+fn a_reset_is_told(rt: HostRuntime) {
+    assert!(rt; RESET.holds(rt.alloc()) == Ok(true));
 }
 
 #[test]
-fn head_has_no_body(rt: HostRuntime) -> Result<(), Fail> {
-    assert!(rt; prints(rt.alloc(), HEAD.script, HEAD.printed)?);
-    Ok(())
+fn refusals_come_in_their_turn(rt: HostRuntime) {
+    assert!(rt; TARGETS.holds(rt.alloc()) == Ok(true));
 }
 
 #[test]
-fn who_waits_with_a_body_is_told_to_go_on(rt: HostRuntime) -> Result<(), Fail> {
-    assert!(rt; prints(rt.alloc(), EXPECT.script, EXPECT.printed)?);
-    Ok(())
+fn head_has_no_body(rt: HostRuntime) {
+    assert!(rt; HEAD.holds(rt.alloc()) == Ok(true));
 }
 
 #[test]
-fn a_bad_request_closes_its_connection(rt: HostRuntime) -> Result<(), Fail> {
-    assert!(rt; prints(rt.alloc(), BOTH_LENGTHS.script, BOTH_LENGTHS.printed)?);
-    Ok(())
+fn who_waits_with_a_body_is_told_to_go_on(rt: HostRuntime) {
+    assert!(rt; EXPECT.holds(rt.alloc()) == Ok(true));
 }
 
 #[test]
-fn each_connection_is_told_its_own_answer(rt: HostRuntime) -> Result<(), Fail> {
-    assert!(rt; prints(rt.alloc(), TWO_CONNECTIONS.script, TWO_CONNECTIONS.printed)?);
-    Ok(())
+fn a_bad_request_closes_its_connection(rt: HostRuntime) {
+    assert!(rt; BOTH_LENGTHS.holds(rt.alloc()) == Ok(true));
 }
 
 #[test]
-fn pipelined_requests_are_answered_in_order(rt: HostRuntime) -> Result<(), Fail> {
-    assert!(rt; prints(rt.alloc(), PIPELINED.script, PIPELINED.printed)?);
-    Ok(())
+fn each_connection_is_told_its_own_answer(rt: HostRuntime) {
+    assert!(rt; TWO_CONNECTIONS.holds(rt.alloc()) == Ok(true));
 }
 
 #[test]
-fn nothing_is_asked_behind_the_last_request(rt: HostRuntime) -> Result<(), Fail> {
-    assert!(rt; prints(rt.alloc(), LAST.script, LAST.printed)?);
-    Ok(())
+fn pipelined_requests_are_answered_in_order(rt: HostRuntime) {
+    assert!(rt; PIPELINED.holds(rt.alloc()) == Ok(true));
 }
 
 #[test]
-fn answers_of_a_tick_come_by_their_asks(rt: HostRuntime) -> Result<(), Fail> {
-    assert!(rt; prints(rt.alloc(), BOTH_LATE.script, BOTH_LATE.printed)?);
-    Ok(())
+fn nothing_is_asked_behind_the_last_request(rt: HostRuntime) {
+    assert!(rt; LAST.holds(rt.alloc()) == Ok(true));
 }
 
 #[test]
-fn the_257th_connection_is_turned(rt: HostRuntime) -> Result<(), Fail> {
-    let mut script = String::new(rt.alloc());
-    for _ in 0..257 {
+fn answers_of_a_tick_come_by_their_asks(rt: HostRuntime) {
+    assert!(rt; BOTH_LATE.holds(rt.alloc()) == Ok(true));
+}
+
+/// A script that opens so many connections, and goes on so.
+fn opening(alloc: Global, count: u32, rest: &str) -> Result<String, AllocError> {
+    let mut script = String::new(alloc);
+    for _ in 0..count {
         script.push_str("0 0 open\n")?;
     }
-    script.push_str("5 0 close 7\n9 0 open\n")?;
-    assert!(rt; prints(rt.alloc(), script.as_str(), "0 turned\n")?);
-    Ok(())
+    script.push_str(rest)?;
+    Ok(script)
+}
+
+#[test]
+fn the_257th_connection_is_turned(rt: HostRuntime) {
+    let script = opening(rt.alloc(), 257, "5 0 close 7\n9 0 open\n").expect(&rt, "memory");
+    assert!(rt; prints(rt.alloc(), script.as_str(), "0 turned\n") == Ok(true));
 }
 
 /// What is printed where no reply comes within 93 seconds (RFC 7252, section 4.8.2).
 const TIMED_OUT: &str =
     "93000 bytes 0 485454502f312e312035303420476174657761792054696d656f75740d0a48432d43617573653a2074696d656f757420320d0a436f6e74656e742d4c656e6774683a20300d0a0d0a\n";
 
+/// So many lines of a text, and what follows.
+fn lines_and(alloc: Global, text: &str, count: usize, rest: &str) -> Result<String, AllocError> {
+    let mut lines = String::new(alloc);
+    for line in text.lines().take(count) {
+        lines.push_str(line)?;
+        lines.push_str("\n")?;
+    }
+    lines.push_str(rest)?;
+    Ok(lines)
+}
+
 #[test]
-fn an_exchange_ends_in_time(rt: HostRuntime) -> Result<(), Fail> {
-    let mut script = String::new(rt.alloc());
-    for line in RESET.script.lines().take(2) {
-        script.push_str(line)?;
-        script.push_str("\n")?;
-    }
-    script.push_str("92999 0 tick\n93000 0 tick\n")?;
-    let mut printed = String::new(rt.alloc());
-    for line in RESET.printed.lines().take(1) {
-        printed.push_str(line)?;
-        printed.push_str("\n")?;
-    }
-    printed.push_str(TIMED_OUT)?;
-    assert!(rt; prints(rt.alloc(), script.as_str(), printed.as_str())?);
-    Ok(())
+fn an_exchange_ends_in_time(rt: HostRuntime) {
+    let ticks = "92999 0 tick\n93000 0 tick\n";
+    let script = lines_and(rt.alloc(), RESET.script, 2, ticks).expect(&rt, "memory");
+    let printed = lines_and(rt.alloc(), RESET.printed, 1, TIMED_OUT).expect(&rt, "memory");
+    assert!(rt; prints(rt.alloc(), script.as_str(), printed.as_str()) == Ok(true));
 }
