@@ -1,11 +1,10 @@
 //! Texts that are taken.
 
-use crate::telling::told;
+use crate::telling::first_wrong;
 use proxy_settings::Part;
-use std::test::Fail;
 
 /// Texts of the proxy's settings, and what they stand for.
-const SERVE: [(&str, &str); 9] = [
+static SERVE: [(&str, &str); 9] = [
     (
         "listen = '127.0.0.1:8080'\nudp = '0.0.0.0:5700'\n",
         "127.0.0.1:8080 0.0.0.0:5700 /hc/ true false false",
@@ -47,8 +46,13 @@ const SERVE: [(&str, &str); 9] = [
     ),
 ];
 
+/// The table, handed out by a call that says nothing of its rows: a trial over it is proved in less time.
+fn serve() -> &'static [(&'static str, &'static str)] {
+    &SERVE
+}
+
 /// Texts of the device's settings, and what they stand for.
-const ORIGIN: [(&str, &str); 4] = [
+static ORIGIN: [(&str, &str); 4] = [
     ("listen = '127.0.0.1:5683'\n", "127.0.0.1:5683 6"),
     (
         "listen = '[::1]:5683'\nblock = 0\n[[resource]]\npath = 'light'\nkind = 'cell'\n",
@@ -65,18 +69,17 @@ const ORIGIN: [(&str, &str); 4] = [
     ),
 ];
 
-#[test]
-fn proxies(rt: HostRuntime) -> Result<(), Fail> {
-    for (text, line) in SERVE {
-        assert_eq!(rt; told(rt.alloc(), Part::Serve, text)?.as_str(), line);
-    }
-    Ok(())
+/// The same.
+fn origin() -> &'static [(&'static str, &'static str)] {
+    &ORIGIN
 }
 
 #[test]
-fn devices(rt: HostRuntime) -> Result<(), Fail> {
-    for (text, line) in ORIGIN {
-        assert_eq!(rt; told(rt.alloc(), Part::Origin, text)?.as_str(), line);
-    }
-    Ok(())
+fn proxies(rt: HostRuntime) {
+    assert_eq!(rt; first_wrong(rt.alloc(), Part::Serve, serve()), None);
+}
+
+#[test]
+fn devices(rt: HostRuntime) {
+    assert_eq!(rt; first_wrong(rt.alloc(), Part::Origin, origin()), None);
 }
