@@ -210,7 +210,22 @@ fn place_of<R: Relation>(waiting: &[Waiting<R>], ask: u32) -> Option<usize>
 fn least_ask<R: Relation>(answers: &[Answer<R>]) -> Option<u32>
     ensures { result ≡ reduce min (map (λ a. a.ask) answers.now) }
 {
-    answers.iter().map(|answer| answer.ask).min()
+    let mut least: Option<u32> = None;
+    'each: for answer in answers {
+        least = Some(lesser(least, answer.ask));
+    }
+    least
+}
+
+/// The lesser of two asks, where there are two.
+fn lesser(least: Option<u32>, ask: u32) -> u32
+    ensures first { least ≡ None → result ≡ ask }
+    ensures other { IfSome least (λ d. result ≡ min d ask) }
+{
+    match least {
+        Some(d) => d.min(ask),
+        None => ask,
+    }
 }
 
 /// The place of the answer to the ask.
