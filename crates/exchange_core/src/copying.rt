@@ -3,14 +3,10 @@
 ghost use Rattle.std.specs.Prelude.{◌≡◌, map, IfOk};
 ghost use Rattle.exchange_core.specs.Answering.{given_of, waited_of};
 ghost use Rattle.exchange_core.specs.CoreValue.{outgoing_of};
-ghost use Rattle.exchange_core.specs.Room.{HasPlaces};
 
 use crate::answer::Answer;
-use crate::core_state::Core;
 use crate::outbox::Waiting;
 use crate::outgoing::Datagram;
-use crate::room::ENTRIES;
-use journal_book::Journal;
 use std::alloc::{AllocError, Global};
 use std::collections::VecDeque;
 use std::sync::Arc;
@@ -80,37 +76,4 @@ pub fn copy_sends(
         })?;
     }
     Ok(copy)
-}
-
-/// An equal journal, with the places of all the entries that it may have.
-fn copy_journal<R: Relation>(journal: &Journal<R>) -> Result<Journal<R>, AllocError>
-    ensures entries { IfOk result (λ j. j.entries ≡ journal.now.entries) }
-    ensures room { IfOk result (λ j. HasPlaces j.entries j.room) }
-{
-    let mut copy = journal.copy()?;
-    copy.make_room((ENTRIES as usize).saturating_sub(copy.len()))?;
-    Ok(copy)
-}
-
-impl<R: Relation> Core<R> {
-    /// An equal core. It shares what was asked and the bytes that were sent.
-    pub fn copy(&self) -> Result<Core<R>, AllocError>
-        ensures { IfOk result (λ c. c ≡ self.now) }
-    {
-        Ok(Core {
-            alloc: self.alloc,
-            journal: copy_journal(&self.journal)?,
-            conns: self.conns.copy(self.alloc)?,
-            exchanges: self.exchanges.copy(self.alloc)?,
-            opened: self.opened,
-            issued: self.issued,
-            known: self.known.copy(self.alloc)?,
-            heard: self.heard.copy(self.alloc)?,
-            sealed: self.sealed,
-            bytes: self.bytes,
-            last: self.last,
-            outbox: self.outbox.copy(self.alloc)?,
-            sends: copy_sends(self.alloc, &self.sends)?,
-        })
-    }
 }

@@ -1,11 +1,12 @@
 //! What is heard.
 
-ghost use Rattle.std.specs.Prelude.{◌≡◌, ◌≤◌, ◌^◌, false, length, IfOk, OnOk, OnErr};
+ghost use Rattle.std.specs.Prelude.{◌≡◌, ◌≤◌, ◌^◌, false, length, option_map, IfOk, OnOk, OnErr};
+ghost use Rattle.std.specs.Arc.{arc_value};
 ghost use Rattle.journal_book.specs.Entries.{Hears};
 ghost use Rattle.journal_book.specs.Views.{item_of};
-ghost use Rattle.exchange_core.specs.CoreValue.{written, now};
+ghost use Rattle.exchange_core.specs.CoreValue.{written, now, outgoing_of};
 ghost use Rattle.exchange_core.specs.Hears.{HeardSo, IsDropped, NeverSentTo};
-ghost use Rattle.exchange_core.specs.Steps.{IsPrepared};
+ghost use Rattle.exchange_core.specs.Steps.{IsPrepared, SpellsDue, outgoing_by};
 
 use crate::core_state::Core;
 use crate::numbering::find_known;
@@ -16,7 +17,7 @@ use crate::step::{
 };
 use crate::tables::{change_exchanges, pending_count, remember};
 use ask_model::Bytes;
-use datagram_verdict::{Change, verdict_of};
+use datagram_verdict::{Change, Due, Verdict, verdict_of};
 use history_laws::kept::{Conn, Exchange, Remembered};
 use journal_book::{Entry, Event};
 use std::alloc::{AllocError, Global};
@@ -42,6 +43,20 @@ pub struct Prepared {
     pub reader: Option<Reader>,
 }
 
+/// The ACK or RST, if one is owed, and the datagram that takes it.
+fn confirm(
+    alloc: Global,
+    peer: Peer,
+    due: Option<Due>,
+) -> Result<(Option<Arc<Bytes>>, Option<Datagram>), AllocError>
+    ensures sent { IfOk result (λ x. SpellsDue due (option_map arc_value x.0)) }
+    ensures datagram { IfOk result (λ x. option_map outgoing_of x.1 ≡ outgoing_by peer (option_map arc_value x.0)) }
+{
+    let sent = confirmation_of(alloc, due)?;
+    let datagram = datagram_of(peer, &sent)?;
+    Ok((sent, datagram))
+}
+
 /// Builds what the datagram leads to that is heard at this moment, in the entry with this number.
 fn prepare(
     alloc: Global,
@@ -55,14 +70,19 @@ fn prepare(
 ) -> Result<Prepared, AllocError>
     ensures { IfOk result (λ d. IsPrepared moment number peer bytes.now exchanges.now heard.now conns.now d) }
 {
-    let verdict = verdict_of(alloc, exchanges, heard, moment, number, &peer, bytes)?;
-    let sent = confirmation_of(alloc, verdict.due)?;
-    let datagram = datagram_of(peer, &sent)?;
-    let reader = reader_of(conns, verdict.ending)?;
+    let taken = Bytes::from_slice(alloc, bytes)?;
+    let Verdict {
+        due,
+        memory,
+        change,
+        ending,
+    } = verdict_of(alloc, exchanges, heard, moment, number, &peer, bytes)?;
+    let reader = reader_of(conns, ending)?;
+    let (sent, datagram) = confirm(alloc, peer, due)?;
     Ok(Prepared {
-        taken: Bytes::from_slice(alloc, bytes)?,
-        memory: verdict.memory,
-        change: verdict.change,
+        taken,
+        memory,
+        change,
         sent,
         datagram,
         reader,

@@ -5,6 +5,7 @@
 //! nothing where it is refused, and takes no snapshot; one who makes several steps for an input does.
 
 ghost use Rattle.std.specs.Prelude.{◌≡◌, IfOk};
+ghost use Rattle.exchange_core.specs.Room.{HasPlaces};
 ghost use Rattle.exchange_core.specs.CoreValue.{CoreValue, Grows};
 ghost use Rattle.exchange_core.specs.Snapshots.{IsOf, MayRestore};
 
@@ -12,8 +13,10 @@ use crate::copying::copy_sends;
 use crate::core_state::Core;
 use crate::outbox::Outbox;
 use crate::outgoing::Datagram;
+use crate::room::ENTRIES;
 use crate::table::Table;
 use history_laws::kept::{Conn, Exchange, Known, Remembered};
+use journal_book::Journal;
 use std::alloc::AllocError;
 use std::collections::VecDeque;
 use std::marker::Model;
@@ -47,6 +50,16 @@ impl<R: Relation> Model for Snapshot<R> {
     ghost view = { λ s. record { count = s.entries; conns = s.conns.items; tables = record { exchanges = s.exchanges.items; opened = s.opened; issued = s.issued; known = s.known.items; heard = s.heard.items }; sealed = s.sealed; bytes = s.bytes; moment = s.last; waiting = s.outbox.waiting; answers = s.outbox.answers; sends = map outgoing_of s.sends.items } };
 }
 
+/// An equal journal, with the places of all the entries that it may have.
+fn copy_journal<R: Relation>(journal: &Journal<R>) -> Result<Journal<R>, AllocError>
+    ensures entries { IfOk result (λ j. j.entries ≡ journal.now.entries) }
+    ensures room { IfOk result (λ j. HasPlaces j.entries j.room) }
+{
+    let mut copy = journal.copy()?;
+    copy.make_room((ENTRIES as usize).saturating_sub(copy.len()))?;
+    Ok(copy)
+}
+
 impl<R: Relation> Core<R> {
     /// What the core is.
     pub fn snapshot(&self) -> Result<Snapshot<R>, AllocError>
@@ -65,6 +78,29 @@ impl<R: Relation> Core<R> {
             last: self.last,
             outbox: self.outbox.copy(self.alloc)?,
             sends: copy_sends(self.alloc, &self.sends)?,
+        })
+    }
+
+    /// An equal core. It shares what was asked and the bytes that were sent.
+    pub fn copy(&self) -> Result<Core<R>, AllocError>
+        ensures { IfOk result (λ c. c ≡ self.now) }
+    {
+        let journal = copy_journal(&self.journal)?;
+        let now = self.snapshot()?;
+        Ok(Core {
+            alloc: self.alloc,
+            journal,
+            conns: now.conns,
+            exchanges: now.exchanges,
+            opened: now.opened,
+            issued: now.issued,
+            known: now.known,
+            heard: now.heard,
+            sealed: now.sealed,
+            bytes: now.bytes,
+            last: now.last,
+            outbox: now.outbox,
+            sends: now.sends,
         })
     }
 
