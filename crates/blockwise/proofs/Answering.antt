@@ -16,29 +16,29 @@ names_decided : (b : Option Block) (num : ℕ) → Decides (is_number_of b num) 
 names_decided None num = (λ e. tt, λ h. refl)
 names_decided (Some b) num = Decides-eqb b.num num
 
--- An answer is sorted by its tests: more of it follows, the piece is the last, 2.31, the end of a request, an
--- error that is one, the number of the piece.
-next_means : (more last continue final error number : Bool)
-    → cond more Wrong (cond last (if_final final) (cond (not continue) (if_final error) (cond number Next Wrong))) ≡ Next
+-- An answer is sorted by its tests: more of it follows, the number of the piece, the piece is the last, its code is
+-- the final one, 2.31, an error that ends the request.
+next_means : (more number last final continue error : Bool)
+    → cond (more || not number) Wrong (cond last (if_final final) (cond continue Next (if_final error))) ≡ Next
     → (more ≡ false) × (last ≡ false) × (continue ≡ true) × (number ≡ true)
-next_means true last continue final error number e = absurd cc
-next_means false true continue true error number e = absurd cc
-next_means false true continue false error number e = absurd cc
-next_means false false false final true number e = absurd cc
-next_means false false false final false number e = absurd cc
-next_means false false true final error true e = (refl, refl, refl, refl)
-next_means false false true final error false e = absurd cc
+next_means true number last final continue error e = absurd cc
+next_means false false last final continue error e = absurd cc
+next_means false true true true continue error e = absurd cc
+next_means false true true false continue error e = absurd cc
+next_means false true false final true error e = (refl, refl, refl, refl)
+next_means false true false final false true e = absurd cc
+next_means false true false final false false e = absurd cc
 
-last_means : (more last continue final error number : Bool)
-    → cond more Wrong (cond last (if_final final) (cond (not continue) (if_final error) (cond number Next Wrong))) ≡ Last
-    → (more ≡ false) × (((last ≡ true) × (final ≡ true)) ⊎ (error ≡ true))
-last_means true last continue final error number e = absurd cc
-last_means false true continue true error number e = (refl, inl (refl, refl))
-last_means false true continue false error number e = absurd cc
-last_means false false false final true number e = (refl, inr refl)
-last_means false false false final false number e = absurd cc
-last_means false false true final error true e = absurd cc
-last_means false false true final error false e = absurd cc
+last_means : (more number last final continue error : Bool)
+    → cond (more || not number) Wrong (cond last (if_final final) (cond continue Next (if_final error))) ≡ Last
+    → (more ≡ false) × (number ≡ true) × (((last ≡ true) × (final ≡ true)) ⊎ ((last ≡ false) × (error ≡ true)))
+last_means true number last final continue error e = absurd cc
+last_means false false last final continue error e = absurd cc
+last_means false true true true continue error e = (refl, refl, inl (refl, refl))
+last_means false true true false continue error e = absurd cc
+last_means false true false final true error e = absurd cc
+last_means false true false final false true e = (refl, refl, inr (refl, refl))
+last_means false true false final false false e = absurd cc
 
 and_both : (a b : Bool) → (a && b) ≡ true → (a ≡ true) × (b ≡ true)
 and_both true b e = (refl, e)
@@ -60,7 +60,7 @@ unequal a b ne = by_test (a == b) refl
 
 pub next_continues : (u : UploadValue) (m : Content) → answer_to u m ≡ Next → Continues u m
 next_continues u m e =
-    let p = next_means (goes_on (block_in 23 m)) (is_last u) (m.code == 95) (is_final m) (is_final m && not (class_of m == 2)) (is_number_of (block_in 27 m) (next_num u)) e in
+    let p = next_means (goes_on (block_in 23 m)) (is_number_of (block_in 27 m) (next_num u)) (is_last u) (is_final m && not (goes_on (block_in 27 m))) (m.code == 95) (is_final m && not (class_of m == 2)) e in
     record {
       in_one_piece = p.0;
       before_last = p.1;
@@ -69,15 +69,30 @@ next_continues u m e =
     }
 
 pub continues_next : (u : UploadValue) (m : Content) → Continues u m → answer_to u m ≡ Next
-continues_next u m h = rw (h.in_one_piece, h.before_last, (Decides-eqb m.code 95).1 h.code, (names_decided (block_in 27 m) (next_num u)).1 h.number) refl
+continues_next u m h = rw (h.in_one_piece, (names_decided (block_in 27 m) (next_num u)).1 h.number, h.before_last, (Decides-eqb m.code 95).1 h.code) refl
 
 pub last_responds : (u : UploadValue) (m : Content) → answer_to u m ≡ Last → Responds u m
 last_responds u m e =
-    let p = last_means (goes_on (block_in 23 m)) (is_last u) (m.code == 95) (is_final m) (is_final m && not (class_of m == 2)) (is_number_of (block_in 27 m) (next_num u)) e in
-    elim p.1 [ inl q ↦ record { in_one_piece = p.0; final = q.1; last_or_error = inl q.0 } | inr q ↦ by_error p.0 (and_both (is_final m) (not (class_of m == 2)) q) ]
+    let p = last_means (goes_on (block_in 23 m)) (is_number_of (block_in 27 m) (next_num u)) (is_last u) (is_final m && not (goes_on (block_in 27 m))) (m.code == 95) (is_final m && not (class_of m == 2)) e in
+    elim p.2 [ inl q ↦ by_last p.0 p.1 q.0 (and_both (is_final m) (not (goes_on (block_in 27 m))) q.1) | inr q ↦ by_error p.0 p.1 q.0 (and_both (is_final m) (not (class_of m == 2)) q.1) ]
   where
-    by_error : goes_on (block_in 23 m) ≡ false → (is_final m ≡ true) × (not (class_of m == 2) ≡ true) → Responds u m
-    by_error one q = record { in_one_piece = one; final = q.0; last_or_error = inr (differ (class_of m) 2 (not_false (class_of m == 2) q.1)) }
+    by_last : goes_on (block_in 23 m) ≡ false → is_number_of (block_in 27 m) (next_num u) ≡ true → is_last u ≡ true → (is_final m ≡ true) × (not (goes_on (block_in 27 m)) ≡ true) → Responds u m
+    by_last one number last q = record {
+      in_one_piece = one;
+      number = (names_decided (block_in 27 m) (next_num u)).0 number;
+      final = q.0;
+      last_or_error = inl last;
+      concluded = λ h. not_false (goes_on (block_in 27 m)) q.1;
+    }
+
+    by_error : goes_on (block_in 23 m) ≡ false → is_number_of (block_in 27 m) (next_num u) ≡ true → is_last u ≡ false → (is_final m ≡ true) × (not (class_of m == 2) ≡ true) → Responds u m
+    by_error one number more q = record {
+      in_one_piece = one;
+      number = (names_decided (block_in 27 m) (next_num u)).0 number;
+      final = q.0;
+      last_or_error = inr (differ (class_of m) 2 (not_false (class_of m == 2) q.1));
+      concluded = λ h. absurd (false≢true (sym more ∙ h));
+    }
 
 -- What ends a request isn't 2.31.
 no_continue : (m : Content) → is_final m ≡ true → (m.code == 95) ≡ false
@@ -87,19 +102,20 @@ no_continue m e =
     let q = and_both (not (m.code == 67)) (not (m.code == 95) && not (m.code == 136)) p.1 in
     not_false (m.code == 95) ((and_both (not (m.code == 95)) (not (m.code == 136)) q.1).0)
 
-error_last : (more last continue final success number : Bool) → more ≡ false → last ≡ false → continue ≡ false → final ≡ true → success ≡ false
-    → cond more Wrong (cond last (if_final final) (cond (not continue) (if_final (final && not success)) (cond number Next Wrong))) ≡ Last
-error_last more last continue final success number a b c d e = rw (a, b, c, d, e) refl
+error_last : (more number last whole continue final success : Bool)
+    → more ≡ false → number ≡ true → last ≡ false → continue ≡ false → final ≡ true → success ≡ false
+    → cond (more || not number) Wrong (cond last (if_final whole) (cond continue Next (if_final (final && not success)))) ≡ Last
+error_last more number last whole continue final success a b c d e f = rw (a, b, c, d, e, f) refl
 
 pub responds_last : (u : UploadValue) (m : Content) → Responds u m → answer_to u m ≡ Last
 responds_last u m h = by_last (is_last u) refl h.last_or_error
   where
     by_last : (last : Bool) → is_last u ≡ last → (is_last u ≡ true) ⊎ (class_of m ≢ 2) → answer_to u m ≡ Last
-    by_last true e how = rw (h.in_one_piece, e, h.final) refl
+    by_last true e how = rw (h.in_one_piece, (names_decided (block_in 27 m) (next_num u)).1 h.number, e, h.final, h.concluded e) refl
     by_last false e (inl l) = absurd (false≢true (sym e ∙ l))
     by_last false e (inr ne) =
-        error_last (goes_on (block_in 23 m)) (is_last u) (m.code == 95) (is_final m) (class_of m == 2) (is_number_of (block_in 27 m) (next_num u))
-        h.in_one_piece e (no_continue m h.final) h.final (unequal (class_of m) 2 ne)
+        error_last (goes_on (block_in 23 m)) (is_number_of (block_in 27 m) (next_num u)) (is_last u) (is_final m && not (goes_on (block_in 27 m))) (m.code == 95) (is_final m) (class_of m == 2)
+        h.in_one_piece ((names_decided (block_in 27 m) (next_num u)).1 h.number) e (no_continue m h.final) h.final (unequal (class_of m) 2 ne)
 
 pub next_is : (u : UploadValue) (m : Content) → (answer_to u m ≡ Next) ↔ Continues u m
 next_is u m = (next_continues u m, continues_next u m)

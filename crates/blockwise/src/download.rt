@@ -1,6 +1,6 @@
 //! A body that comes in pieces.
 
-ghost use Rattle.std.specs.Prelude.{◌≡◌, ◌++◌, ◌↔◌, [], length, IsTrue, OnOk, IfOk, IfErr, Ok, OnErr, IsOkUnless};
+ghost use Rattle.std.specs.Prelude.{◌≡◌, ◌≢◌, ◌++◌, ◌↔◌, [], length, IsTrue, OnOk, IfOk, IfErr, Ok, OnErr, IsOkUnless};
 ghost use Rattle.coap_codec.specs.Spelling.{content};
 ghost use Rattle.blockwise.specs.Downloads.{nothing, takes, told, IsRefused, NextCanBeAsked};
 
@@ -41,6 +41,7 @@ pub enum Progress {
 fn join(bytes: &mut Vec<u8>, more: Vec<u8>) -> Result<(), AllocError>
     ensures ok { OnOk result (bytes.new.items ≡ bytes.old.items ++ more.items) }
     ensures err { OnErr result (bytes.new.items ≡ bytes.old.items) }
+    ensures later { OnErr result (bytes.old.items ≢ []) }
 {
     if bytes.is_empty() {
         *bytes = more;
@@ -75,11 +76,13 @@ impl Download {
         self.bytes.is_empty()
     }
 
-    /// Takes one more piece and keeps its bytes. After the last one the download is as a new one.
+    /// Takes one more piece and keeps its bytes; those of the first one are moved in, and want no memory.
+    /// After the last one the download is as a new one.
     pub fn add(&mut self, m: Message) -> Result<Progress, BlockFault>
         ensures ok { IfOk result (λ p. takes self.old (content m) ≡ Ok (self.new, told p)) }
         ensures asked { IfOk result NextCanBeAsked }
         ensures err { IfErr result (λ fault. IsRefused fault (takes self.old (content m))) }
+        ensures first { self.old.bytes ≡ [] → IfErr result (λ fault. fault ≢ BlockFault.Memory) }
         ensures same { OnErr result (self.new ≡ self.old) }
     {
         let mut pieces = self.pieces;

@@ -1,6 +1,6 @@
 //! Which piece may follow: what is known of those before it, without their bytes.
 
-ghost use Rattle.std.specs.Prelude.{◌≡◌, ◌≤◌, ◌<◌, ◌+◌, ◌^◌, ◌↔◌, IsTrue, length, OnOk, IfOk, IfErr, IfSome, OnErr, Ok, Err};
+ghost use Rattle.std.specs.Prelude.{◌≡◌, ◌≢◌, ◌≤◌, ◌<◌, ◌+◌, ◌^◌, ◌↔◌, IsTrue, length, OnOk, IfOk, IfErr, IfSome, OnErr, Ok, Err};
 ghost use Rattle.coap_codec.specs.Spelling.{content};
 ghost use Rattle.blockwise.specs.Reading.{offset_in};
 ghost use Rattle.blockwise.specs.Downloads.{no_pieces, differs, is_sized, is_no_larger, adds, CanBeAsked};
@@ -96,6 +96,13 @@ impl Pieces {
         }
     }
 
+    /// The same pieces once more, which take no memory.
+    pub fn copy(&self) -> Pieces
+        ensures { result ≡ self.now }
+    {
+        *self
+    }
+
     /// How many bytes were taken.
     pub fn len(&self) -> usize
         ensures value { result ≡ self.now.len }
@@ -111,13 +118,14 @@ impl Pieces {
         self.len == 0
     }
 
-    /// Takes one more piece. After the last one the next body is for other `Pieces`.
+    /// Takes one more piece, and no memory. After the last one the next body is for other `Pieces`.
     #[tactic(auto, using(crate::proofs::WholeBlocks::few_blocks))]
     pub fn add(&mut self, m: &Message) -> Result<Step, BlockFault>
         ensures ok { IfOk result (λ step. adds self.old (content m.now) ≡ Ok (self.new, step)) }
         ensures len { OnOk result (self.new.len ≡ self.old.len + length m.now.payload.items) }
         ensures asked { IfOk result CanBeAsked }
         ensures err { IfErr result (λ fault. adds self.old (content m.now) ≡ Err fault) }
+        ensures free { IfErr result (λ fault. fault ≢ BlockFault.Memory) }
         ensures same { OnErr result (self.new ≡ self.old) }
     {
         if is_changed(self.of, m) {

@@ -2,7 +2,7 @@
 
 ghost use Rattle.std.specs.Prelude.{◌≡◌, ◌≢◌, ◌≤◌, ◌<◌, ◌*◌, ◌^◌, ◌+◌, ◌↔◌, IfSome, length};
 ghost use Rattle.coap_codec.specs.Spelling.{content};
-ghost use Rattle.blockwise.specs.Uploads.{begun, is_last, next_block, next_payload, is_number_of, next_szx, answer_to, next_of, Continues, Responds};
+ghost use Rattle.blockwise.specs.Uploads.{begun, is_last, next_block, next_payload, is_number_of, next_szx, if_final, answer_to, next_of, Continues, Responds};
 
 use crate::reading::{block1_in, block2_in, goes_on, is_final};
 use crate::sizes::size_of;
@@ -65,6 +65,17 @@ fn is_number_of(block: Option<Block>, num: usize) -> bool
     }
 }
 
+/// The answer is the whole response if its code is the final one.
+fn if_final(is_final: bool) -> Answered
+    ensures { result ≡ if_final is_final }
+{
+    if is_final {
+        Answered::Last
+    } else {
+        Answered::Wrong
+    }
+}
+
 /// In what size the rest goes.
 fn next_szx(block: Option<Block>, szx: u8) -> u8
     ensures { result ≡ next_szx block szx }
@@ -87,6 +98,13 @@ impl Upload {
             taken: 0,
             szx,
         }
+    }
+
+    /// The same upload once more, which takes no memory.
+    pub fn copy(&self) -> Upload
+        ensures { result ≡ self.now }
+    {
+        *self
     }
 
     /// How long the body is, in bytes.
@@ -144,27 +162,16 @@ impl Upload {
         ensures same { result ≢ Answered.Next → self.new ≡ self.old }
         ensures len { self.new.len ≡ self.old.len }
     {
-        if goes_on(block2_in(m)) {
+        let block = block1_in(m);
+        let size = size_of(self.szx);
+        if goes_on(block2_in(m)) || !is_number_of(block, self.taken / size) {
             return Answered::Wrong;
         }
         if self.is_last() {
-            return if is_final(m) {
-                Answered::Last
-            } else {
-                Answered::Wrong
-            };
+            return if_final(is_final(m) && !goes_on(block));
         }
         if m.code != CONTINUE {
-            return if is_final(m) && m.code / 32 != 2 {
-                Answered::Last
-            } else {
-                Answered::Wrong
-            };
-        }
-        let block = block1_in(m);
-        let size = size_of(self.szx);
-        if !is_number_of(block, self.taken / size) {
-            return Answered::Wrong;
+            return if_final(is_final(m) && m.code / 32 != 2);
         }
         self.taken += size;
         self.szx = next_szx(block, self.szx);
