@@ -12,4 +12,6 @@ mod memory;
 #[cfg(test)]
 mod responses;
 #[cfg(test)]
+mod rows;
+#[cfg(test)]
 mod uploads;

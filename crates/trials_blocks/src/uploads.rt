@@ -8,14 +8,14 @@ use std::test::Fail;
 
 /// An upload of which the pieces that went are kept.
 #[derive(Drop)]
-struct Trial {
+pub struct Trial {
     body: Vec<u8>,
-    upload: Upload,
+    pub upload: Upload,
     went: Vec<u8>,
 }
 
 /// An upload of so many bytes.
-fn begin(alloc: Global, len: usize) -> Result<Trial, CodecFault> {
+pub fn begin(alloc: Global, len: usize) -> Result<Trial, CodecFault> {
     let body = bytes_from(alloc, 0, len)?;
     let upload = if body.len() <= 65536 {
         Upload::new(&body, LARGEST_SZX)
@@ -30,7 +30,7 @@ fn begin(alloc: Global, len: usize) -> Result<Trial, CodecFault> {
 }
 
 /// The next piece goes, with this value of Block1 and so many bytes, and is answered so.
-fn goes(
+pub fn goes(
     alloc: Global,
     t: &mut Trial,
     value: Option<&[u8]>,
@@ -120,6 +120,59 @@ fn answers(rt: HostRuntime) -> Result<(), Fail> {
         let mut t = begin(alloc, 7)?;
         let answer = goes(alloc, &mut t, None, 7, code, None)?;
         assert!(rt; answer == Some(meaning), "{code}");
+    }
+    Ok(())
+}
+
+/// The answer to the last piece names that piece or none, in any size, and says no more: else its
+/// code isn't the final one.
+#[test]
+fn answers_to_the_last(rt: HostRuntime) -> Result<(), Fail> {
+    let alloc = rt.alloc();
+    for (code, value, meaning) in [
+        (CHANGED, 0x16u8, Answered::Last),
+        (CHANGED, 0x14, Answered::Last),
+        (TOO_LARGE, 0x14, Answered::Last),
+        (CHANGED, 0x1e, Answered::Wrong),
+        (TOO_LARGE, 0x1e, Answered::Wrong),
+        (CHANGED, 0x06, Answered::Wrong),
+        (CHANGED, 0x26, Answered::Wrong),
+    ] {
+        let mut t = begin(alloc, 1025)?;
+        let first = goes(alloc, &mut t, Some(&[0x0e]), 1024, CONTINUE, None)?;
+        assert!(rt; first == Some(Answered::Next));
+        let block1 = [value];
+        let last = goes(alloc, &mut t, Some(&[0x16]), 1, code, Some(&block1))?;
+        assert!(rt; last == Some(meaning), "{code}, {value}");
+    }
+    Ok(())
+}
+
+/// A body that went whole has the number 0; an error before the last piece may repeat what the piece
+/// said of more, and ask for a smaller size.
+#[test]
+fn answers_to_the_first(rt: HostRuntime) -> Result<(), Fail> {
+    let alloc = rt.alloc();
+    for (value, meaning) in [
+        (0x06u8, Answered::Last),
+        (0x02, Answered::Last),
+        (0x0e, Answered::Wrong),
+        (0x16, Answered::Wrong),
+    ] {
+        let mut t = begin(alloc, 7)?;
+        let block1 = [value];
+        let answer = goes(alloc, &mut t, None, 7, CHANGED, Some(&block1))?;
+        assert!(rt; answer == Some(meaning), "{value}");
+    }
+    for (value, meaning) in [
+        (0x0eu8, Answered::Last),
+        (0x0c, Answered::Last),
+        (0x1e, Answered::Wrong),
+    ] {
+        let mut t = begin(alloc, 1025)?;
+        let block1 = [value];
+        let answer = goes(alloc, &mut t, Some(&[0x0e]), 1024, TOO_LARGE, Some(&block1))?;
+        assert!(rt; answer == Some(meaning), "{value}");
     }
     Ok(())
 }
