@@ -1,27 +1,6 @@
 -- Responses that are stored, and how long they are fresh.
 use Rattle.std.specs.Prelude.{ℕ, ◌+◌, ◌*◌, Bool, List, Option, unwrap_or, nat_lt, ◌==◌}
-use Rattle.resp_cache.specs.declared.response.Response as declared
-
--- what a response says (RFC 7252 section 5.10)
-pub record Response : Type 0 where
-  pub code : ℕ
-  pub format : Option ℕ
-  pub etag : Option (List ℕ)
-  pub max_age : Option ℕ
-  pub location_path : List (List ℕ)
-  pub location_query : List (List ℕ)
-  pub body : List ℕ
-
-abbrev pub response_of : declared.Response → Response
-response_of r = record {
-  code = r.code;
-  format = r.format;
-  etag = r.etag;
-  max_age = r.max_age;
-  location_path = r.location_path.items;
-  location_query = r.location_query.items;
-  body = r.body;
-}
+use Rattle.resp_cache.specs.declared.response.Response.{Response}
 
 -- A response, the moment from which its freshness counts, and the numbers of the entries that it
 -- rests on.
@@ -30,8 +9,8 @@ pub record Stored : Type 0 where
   pub heard : ℕ
   pub list : List ℕ
 
-abbrev pub stored_of : declared.Response → ℕ → List ℕ → Stored
-stored_of r heard list = record { response = response_of r; heard = heard; list = list }
+abbrev pub stored_of : Response → ℕ → List ℕ → Stored
+stored_of r heard list = record { response = r; heard = heard; list = list }
 
 -- in milliseconds; Max-Age is in seconds, and 60 where it is absent (RFC 7252 section 5.10.5)
 abbrev pub lifetime : Option ℕ → ℕ

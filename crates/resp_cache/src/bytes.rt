@@ -1,4 +1,4 @@
-//! Bytes that contracts see as a list of numbers.
+//! Bytes, and lists of them, that contracts see as plain lists.
 
 ghost use Rattle.std.specs.Prelude.{◌≡◌};
 
@@ -28,6 +28,36 @@ impl Bytes {
 
     /// The bytes.
     pub fn as_slice(&self) -> &[u8]
+        ensures { result.now ≡ self.now }
+    {
+        self.items.as_slice()
+    }
+}
+
+/// Values of options of one kind, in their order.
+#[derive(Debug, Drop)]
+pub struct Values {
+    items: Vec<Bytes>,
+}
+
+impl Model for Values {
+    ghost use Rattle.std.specs.Prelude.{List, ℕ};
+
+    ghost Value = { List (List ℕ) };
+
+    ghost view = { λ v. v.items.items };
+}
+
+impl Values {
+    /// Takes the values over.
+    pub fn of(items: Vec<Bytes>) -> Values
+        ensures { result ≡ items.items }
+    {
+        Values { items }
+    }
+
+    /// The values.
+    pub fn as_slice(&self) -> &[Bytes]
         ensures { result.now ≡ self.now }
     {
         self.items.as_slice()

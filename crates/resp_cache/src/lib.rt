@@ -17,9 +17,9 @@ mod response;
 mod store;
 mod stored;
 
-pub use bytes::Bytes;
+pub use bytes::{Bytes, Values};
 pub use laws::the_last_used_stay;
 pub use pair::Pair;
-pub use response::Response;
+pub use response::{Location, Response};
 pub use store::Store;
 pub use stored::StoredResponse;

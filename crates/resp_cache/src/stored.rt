@@ -1,7 +1,7 @@
 //! Responses that are stored.
 
 ghost use Rattle.std.specs.Prelude.{◌≡◌, IfOk};
-ghost use Rattle.resp_cache.specs.Stored.{response_of, lifetime, is_fresh, is_never_fresh};
+ghost use Rattle.resp_cache.specs.Stored.{lifetime, is_fresh, is_never_fresh};
 
 use crate::response::Response;
 use std::alloc::{AllocError, Global};
@@ -27,12 +27,12 @@ pub struct StoredResponse {
 
 impl Model for StoredResponse {
     ghost use Rattle.std.specs.Arc.{arc_value};
-    ghost use Rattle.resp_cache.specs.Stored.{Stored, response_of};
+    ghost use Rattle.resp_cache.specs.Stored.{Stored};
 
     ghost Value = { Stored };
 
     ghost view = { λ s. record {
-      response = response_of (arc_value s.record).response;
+      response = (arc_value s.record).response;
       heard = (arc_value s.record).heard;
       list = (arc_value s.record).list.items;
     } };
@@ -70,7 +70,7 @@ impl StoredResponse {
 
     /// The response.
     pub fn response(&self) -> &Response
-        ensures { response_of result.now ≡ self.now.response }
+        ensures { result.now ≡ self.now.response }
     {
         &self.record.response
     }

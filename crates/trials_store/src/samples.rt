@@ -1,7 +1,7 @@
 //! Keys and responses of one device.
 
 use cache_key::{Key, Place};
-use resp_cache::{Bytes, Response, Store, StoredResponse};
+use resp_cache::{Bytes, Location, Response, Store, StoredResponse, Values};
 use std::alloc::{AllocError, Global};
 use std::net::{IpAddr, Ipv4Addr};
 use uri_map::{Host, Peer, Target, Text, Texts};
@@ -52,8 +52,10 @@ pub fn response(
         format: Some(0),
         etag: Some(Bytes::of(Vec::from_slice(alloc, &[7])?)),
         max_age,
-        location_path: Vec::new(alloc),
-        location_query: Vec::new(alloc),
+        location: Location {
+            path: Values::of(Vec::new(alloc)),
+            query: Values::of(Vec::new(alloc)),
+        },
         body: Bytes::of(Vec::from_slice(alloc, b"on")?),
     };
     StoredResponse::new(alloc, response, heard, Vec::from_slice(alloc, &[3])?)
