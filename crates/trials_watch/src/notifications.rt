@@ -1,6 +1,7 @@
 //! A watch from its registration to its end.
 
-use crate::samples::{token, watched};
+use crate::samples::{device, target, token, watched};
+use cache_key::Place;
 use observe_share::{Notice, Notified, Watch};
 use std::alloc::Global;
 
@@ -46,4 +47,14 @@ fn what_has_no_number_ends_the_watch(rt: HostRuntime) {
     let told = watch.notified(&token(7), Notice::Other(None), 2000);
     assert!(rt; matches!(&told, Notified::Ended(r) if r.version == 16_777_214));
     assert!(rt; watch.is_empty());
+}
+
+#[test]
+fn what_comes_after_a_write_is_unknown(rt: HostRuntime) {
+    let alloc = rt.alloc();
+    let mut watch = one_watch(alloc).expect(&rt, "memory");
+    let written = target(alloc, "t").expect(&rt, "memory");
+    watch.retire(&Place::of(device(), &written).expect(&rt, "memory"));
+    let told = watch.notified(&token(7), Notice::Update(1), 5020);
+    assert!(rt; matches!(&told, Notified::Unknown));
 }
