@@ -52,9 +52,10 @@ fn download_begun_anew(rt: HostRuntime) -> Result<(), Fail> {
 fn download_of_four_changes(rt: HostRuntime) -> Result<(), Fail> {
     let alloc = rt.alloc();
     for id in [0u8, 2, 4, 6] {
+        let (second, tag) = (id.wrapping_add(1), id.wrapping_add(2));
         let mut download = Download::first(alloc);
-        assert!(rt; hears(alloc, &mut download, id, id + 1, 0x08, 16)? == asks(1));
-        let changed = hears(alloc, &mut download, id + 1, id + 2, 0x18, 16)?;
+        assert!(rt; hears(alloc, &mut download, id, second, 0x08, 16)? == asks(1));
+        let changed = hears(alloc, &mut download, second, tag, 0x18, 16)?;
         assert!(rt; changed == Said::Refused(BlockFault::Changed), "{id}");
     }
     Ok(())
