@@ -12,10 +12,16 @@ mod desk;
 mod desk_state;
 mod pass;
 mod receipt;
+mod report;
+mod same;
+mod settling;
 mod shop;
+mod standing;
 
 pub use clock::Clock;
 pub use desk::LockedDesk;
 pub use pass::{Note, Pass};
 pub use receipt::Receipt;
+pub use report::{Report, SettleFault};
+pub use settling::settle;
 pub use shop::Shop;

@@ -18,6 +18,20 @@ pub enum Note<R: Relation> {
     Told(Receipt<R>),
 }
 
+impl<R: Relation> Note<R> {
+    ghost use Rattle.front_desk.specs.Lines.{line_of, is_made};
+
+    /// Whether it is an ask.
+    fn is_ask(&self) -> bool
+        ensures { result ≡ is_made (line_of self.now) }
+    {
+        match self {
+            Note::Asked(_) => true,
+            Note::Got(_) | Note::Told(_) => false,
+        }
+    }
+}
+
 /// A session's connection, its share of the ledger of asks, and its notes in order.
 #[derive(Drop)]
 pub struct Pass<R: Relation, L: Ledger> {
@@ -73,6 +87,13 @@ impl<R: Relation, L: Ledger> Pass<R, L> {
         ensures amount { self.now.amount ≡ count_by is_made self.now.lines }
     {
         self.notes.as_slice()
+    }
+
+    /// How many asks it notes, which are those that its share of the ledger counts.
+    pub fn made(&self) -> u64
+        ensures { result ≡ self.now.amount }
+    {
+        self.notes.iter().filter(|note| note.is_ask()).count() as u64
     }
 
     /// Makes the places of an ask and of its receipt.
