@@ -1,9 +1,9 @@
 //! What the thread of a connection does.
 
-ghost use Rattle.std.specs.Prelude.{ℕ, List, ◌≡◌, ◌≢◌, Some, None, IfSome};
+ghost use Rattle.std.specs.Prelude.{List, ◌≡◌, ◌≢◌, Some, None, IfSome};
 ghost use Rattle.front_desk.specs.Lines.{Line};
 ghost use Rattle.sessions.specs.Devices.{Rises};
-ghost use Rattle.sessions.specs.Telling.{Turned};
+ghost use Rattle.sessions.specs.Telling.{Serves, ServesMost};
 
 use crate::devices::{Gate, Point, Stream, Wire};
 use crate::loops::send_due;
@@ -72,6 +72,8 @@ pub fn serve<R: Relation, C: Clock, L: Ledger, S: Stream, N: Wire, G: Gate, W: W
     settings: &Arc<Settings>,
     pass: Pass<R, L>,
 ) -> Done<R, L>
+    ensures written { ServesMost pass.lines result.pass.lines (S.written stream.old) (S.written stream.new) }
+    ensures finished { result.end ≡ End.Finished → Serves pass.lines result.pass.lines (S.written stream.old) (S.written stream.new) }
     ensures read_fault { result.end ≡ End.ReadFault → Rises (S.count stream.old) (S.count stream.new) }
     ensures write_fault { result.end ≡ End.WriteFault → Rises (S.count stream.old) (S.count stream.new) }
     ensures held { result.end ≡ End.Held → Rises (G.nays gate.old) (G.nays gate.new) }
@@ -83,6 +85,7 @@ pub fn serve<R: Relation, C: Clock, L: Ledger, S: Stream, N: Wire, G: Gate, W: W
 }
 
 /// Reads, asks, waits and writes by turns.
+#[tactic(auto, using(crate::proofs::Joining::serves_join, crate::proofs::Joining::most_join, crate::proofs::Joining::most_whole, crate::proofs::Joining::serves_none, crate::proofs::Joining::cut_none, crate::proofs::Joining::grown_none))]
 fn talk<R: Relation, C: Clock, L: Ledger, S: Stream, N: Wire, G: Gate, W: Wait>(
     rt: &W,
     alloc: Global,
@@ -93,6 +96,8 @@ fn talk<R: Relation, C: Clock, L: Ledger, S: Stream, N: Wire, G: Gate, W: Wait>(
     settings: &Arc<Settings>,
     pass: &mut Pass<R, L>,
 ) -> End
+    ensures written { ServesMost pass.old.lines pass.new.lines (S.written stream.old) (S.written stream.new) }
+    ensures finished { result ≡ End.Finished → Serves pass.old.lines pass.new.lines (S.written stream.old) (S.written stream.new) }
     ensures read_fault { result ≡ End.ReadFault → Rises (S.count stream.old) (S.count stream.new) }
     ensures write_fault { result ≡ End.WriteFault → Rises (S.count stream.old) (S.count stream.new) }
     ensures held { result ≡ End.Held → Rises (G.nays gate.old) (G.nays gate.new) }
@@ -134,6 +139,9 @@ fn is_last(incoming: &Incoming) -> bool {
 
 /// Reads more, where the client isn't to be told first that it may go on.
 fn read_on<S: Stream>(stream: &mut S, reading: &mut Reading) -> Option<End>
+    ensures none { (lines : List Line) → result ≡ None → Serves lines lines (S.written stream.old) (S.written stream.new) }
+    ensures some { (lines : List Line) → IfSome result (λ end. ServesMost lines lines (S.written stream.old) (S.written stream.new)) }
+    ensures finished { (lines : List Line) → result ≡ Some End.Finished → Serves lines lines (S.written stream.old) (S.written stream.new) }
     ensures faults { result ≡ Some End.ReadFault → Rises (S.count stream.old) (S.count stream.new) }
     ensures write_fault { result ≡ Some End.WriteFault → Rises (S.count stream.old) (S.count stream.new) }
     ensures others { result ≢ Some End.Held }
@@ -164,7 +172,8 @@ fn turn<R: Relation, C: Clock, L: Ledger, S: Stream, N: Wire, G: Gate, W: Wait>(
     pass: &mut Pass<R, L>,
     incoming: Incoming,
 ) -> Option<End>
-    ensures none { result ≡ None → Turned pass.old.lines pass.new.lines (S.written stream.old) (S.written stream.new) }
+    ensures none { result ≡ None → Serves pass.old.lines pass.new.lines (S.written stream.old) (S.written stream.new) }
+    ensures some { IfSome result (λ end. ServesMost pass.old.lines pass.new.lines (S.written stream.old) (S.written stream.new)) }
     ensures write_fault { result ≡ Some End.WriteFault → Rises (S.count stream.old) (S.count stream.new) }
     ensures held { result ≡ Some End.Held → Rises (G.nays gate.old) (G.nays gate.new) }
     ensures others { (result ≢ Some End.Finished) × (result ≢ Some End.ReadFault) }
