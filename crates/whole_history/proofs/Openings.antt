@@ -15,7 +15,7 @@ use Rattle.whole_history.proofs.Facts.{eqb-same, eqb-itself}
 use Rattle.whole_history.proofs.Elements.{contains-none, contains-filter, filtered-from}
 
 begun-step : (n o t : ℕ) (asked : Option CoapRequest) (old : Option Begun) (os : List ℕ) (b : Bool) → eqb n o ≡ b
-    → (is_some old ≡ true → Contains os o) → is_some (begun_by b t asked old) ≡ true → Contains (opened_by n asked os) o
+    → (is_some old ≡ true → Contains os o) → is_some (begun_by asked b t old) ≡ true → Contains (opened_by n asked os) o
 begun-step n o t (Some q) old os true same ih e = subst (Contains (os ++ n ∷ [])) (eqb-same n o same) (Contains-push os n)
 begun-step n o t (Some q) old os false same ih e = Contains-append_left os (n ∷ []) o (ih e)
 begun-step n o t None old os true same ih e = ih e
@@ -28,7 +28,7 @@ begun-listed (x ∷ older) o e =
     (begun-listed older o) e
 
 listed-step : (n o t : ℕ) (asked : Option CoapRequest) (old : Option Begun) (os : List ℕ) (b : Bool) → eqb n o ≡ b
-    → (Contains os o → is_some old ≡ true) → Contains (opened_by n asked os) o → is_some (begun_by b t asked old) ≡ true
+    → (Contains os o → is_some old ≡ true) → Contains (opened_by n asked os) o → is_some (begun_by asked b t old) ≡ true
 listed-step n o t (Some q) old os true same ih h = refl
 listed-step n o t (Some q) old os false same ih h =
     elim (Contains-push_cases os n o h) [

@@ -33,7 +33,7 @@ opens-begins n q e = cc
 
 opening-step : (l : List Noted) (o t : ℕ) (d : Deed) (note : Note) (b : Begun) → (begun l o ≡ Some b → Opening l o b)
     → (asked : Option CoapRequest) → opens_by note ≡ asked → (here : Bool) → eqb (length l) o ≡ here
-    → begun_by here t asked (begun l o) ≡ Some b → Opening (noted t d note ∷ l) o b
+    → begun_by asked here t (begun l o) ≡ Some b → Opening (noted t d note ∷ l) o b
 opening-step l o t d note b ih (Some q) is true same e =
     let made : record { since = t; request = q } ≡ b = some-is _ _ e in
     let stands : at (noted t d note ∷ l) o ≡ Some (noted t d (Begins q)) =
@@ -53,10 +53,14 @@ begun-opening (x ∷ older) o b e =
 pub begun-below : (l : List Noted) (o : ℕ) (b : Begun) → begun l o ≡ Some b → o < length l
 begun-below l o b e = let h = begun-opening l o b e in at-below l o _ h.1
 
+not-here : (asked : Option CoapRequest) (t : ℕ) (old : Option Begun) → begun_by asked false t old ≡ old
+not-here None t old = refl
+not-here (Some q) t old = refl
+
 pub begun-keeps : (x : Noted) (l : List Noted) (o : ℕ) (b : Begun) → begun l o ≡ Some b → begun (x ∷ l) o ≡ Some b
 begun-keeps x l o b e =
     let below = begun-below l o b e in
-    elim (eqb_tells (length l) o) [ inl w ↦ let a = w.1 in absurd (omega (arith, a, below)) | inr w ↦ rw (w.0) e ]
+    elim (eqb_tells (length l) o) [ inl w ↦ let a = w.1 in absurd (omega (arith, a, below)) | inr w ↦ rw (w.0) (not-here (opens_by x.note) x.written.moment (begun l o) ∙ e) ]
 
 pub opening-begun : (l : List Noted) (o t : ℕ) (d : Deed) (q : CoapRequest) → at l o ≡ Some (noted t d (Begins q))
     → begun l o ≡ Some (record { since = t; request = q })
