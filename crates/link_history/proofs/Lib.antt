@@ -16,3 +16,4 @@ pub mod Judging
 pub mod OwnMessages
 pub mod Acknowledgements
 pub mod Saying
+pub mod Passing

@@ -130,7 +130,7 @@ waits-on l t p d m to (o ∷ os) (w ∷ ws) i = (
   waits-on l t p d m to os ws i.1,
 )
 
-none-out : (l n : List Noted) (last : Option FirstSending) → ((i : ℕ) → transmission l i ≡ None → transmission n i ≡ None)
+pub none-out : (l n : List Noted) (last : Option FirstSending) → ((i : ℕ) → transmission l i ≡ None → transmission n i ≡ None)
     → option_and_then (if_outstanding l) last ≡ None → option_and_then (if_outstanding n) last ≡ None
 none-out l n None gone e = refl
 none-out l n (Some f) gone e = by (transmission l f.number) refl (transmission n f.number) refl

@@ -1,9 +1,9 @@
 -- What the calls of a link leave in a history.
-use Rattle.std.specs.Prelude.{◌≡◌, ℕ, ◌<◌, ◌≤◌, true, false, List, ◌∷◌, length, Option, Some, None, if◌then◌else◌}
+use Rattle.std.specs.Prelude.{◌≡◌, ℕ, ◌<◌, ◌≤◌, Bool, true, false, not, ◌&&◌, ◌==◌, nat_le, List, ◌∷◌, length, filter, Option, Some, None, if◌then◌else◌, ⊤}
 use Rattle.coap_codec.specs.Spelling.{Content, Spells}
 use Rattle.uri_map.specs.declared.peer.Peer.{Peer}
 use Rattle.ask_model.specs.Requests.{CoapRequest, Ask, request_message}
-use Rattle.journal_book.specs.Entries.{Asks, Sends, Hears}
+use Rattle.journal_book.specs.Entries.{Asks, Sends, Hears, Passes}
 use Rattle.history_laws.specs.Confirming.{Confirmation}
 use Rattle.history_laws.specs.Numbering.{token_number}
 use Rattle.message_layer.specs.Values.{LinkState}
@@ -17,12 +17,12 @@ use Rattle.message_layer.specs.declared.state.Waiting.{Waiting}
 use Rattle.message_layer.specs.declared.verdict.News.{News}
 use Rattle.message_layer.specs.declared.verdict.News.TheVariants.{Quiet, Response, Reset, Lost}
 use Rattle.message_layer.specs.declared.verdict.Verdict.{Verdict}
-use Rattle.whole_history.specs.Readings.{Noted, Begins, First, Copies, Says, Repeats, Garbled, Unobserved, newest, ticked}
+use Rattle.whole_history.specs.Readings.{Noted, Plain, Begins, First, Copies, Says, Repeats, Garbled, Unobserved, newest, ticked}
 use Rattle.whole_history.specs.Connections.{is_sealed}
 use Rattle.whole_history.specs.Limits.{mid_limit, copy_limit}
-use Rattle.whole_history.specs.Transmissions.{bears_token, mids_used}
-use Rattle.whole_history.specs.Exchanges.{openings}
-use Rattle.whole_history.specs.Hearing.{repeated, can_be_remembered, answers}
+use Rattle.whole_history.specs.Transmissions.{first_at, bears_token, mids_used}
+use Rattle.whole_history.specs.Exchanges.{begun, openings, is_late, expires, waits_for, waiting}
+use Rattle.whole_history.specs.Hearing.{went_under, repeated, can_be_remembered, answers}
 use Rattle.whole_history.specs.Confirming.{owed}
 use Rattle.whole_history.specs.Justified.{Legal, Follows}
 use Rattle.whole_history.specs.Worked.{noted}
@@ -132,3 +132,36 @@ SaysAgrees =
     (l : List Noted) (t : ℕ) (p : Peer) (s : LinkState) (d : List ℕ) (m : Content)
     → Before l t p s → repeated l t p m ≡ None → can_be_remembered l t p m ≡ true
     → Heeds l p (heard l t p d m) (due p m.mid (verdict_of t s m).reply) (heard_link t m.mid m.token (verdict_of t s m) s)
+
+-- A tick gives up what was sent five times, and ends exchanges: what bears a token of these is neither awaited nor
+-- sent any more (RFC 7252 sections 4.2, 4.8.2).
+abbrev pub is_over : ℕ → Option Outstanding → Bool
+is_over t None = false
+is_over t (Some o) = (o.retransmissions == copy_limit) && nat_le (due_of o) t
+
+abbrev pub passed_link : ℕ → (List ℕ → Bool) → LinkState → LinkState
+passed_link t gone s = record {
+  waiting = filter (λ (w : Waiting). not (gone w.token)) s.waiting;
+  outstanding = if is_over t s.outstanding then None else s.outstanding;
+  last_mid = s.last_mid;
+  given = s.given;
+  awaited = filter (λ (a : Awaited). not (gone a.token)) s.awaited;
+  heard = s.heard;
+  out = s.out;
+}
+
+-- These are the tokens of the exchanges with the peer that end at this moment.
+abbrev pub EndWaiting : List Noted → ℕ → (List ℕ → Bool) → List ℕ → List Waiting → Type 0
+EndWaiting l t gone (o ∷ os) (w ∷ ws) = (is_late t (begun l o) ≡ gone w.token) × EndWaiting l t gone os ws
+EndWaiting l t gone _ _ = ⊤
+
+pub record EndTokens (l : List Noted) (t : ℕ) (p : Peer) (s : LinkState) (gone : List ℕ → Bool) : Type 0 where
+  pub awaited : (o i : ℕ) (token : List ℕ) → waits_for l o ≡ Some i
+      → went_under p token (first_at l i) ≡ true → expires l o t (Some i) ≡ gone token
+  pub waiting : EndWaiting l t gone (waiting l p) s.waiting
+
+abbrev pub PassAgrees : Type 0
+PassAgrees =
+    (l : List Noted) (t : ℕ) (p : Peer) (s : LinkState) (gone : List ℕ → Bool)
+    → Before l t p s → EndTokens l t p s gone
+    → Agrees (noted t Passes Plain ∷ l) p (passed_link t gone s)

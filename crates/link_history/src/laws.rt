@@ -7,6 +7,7 @@ ghost use Rattle.link_history.specs.Steps.{
   RepeatAgrees,
   GarbledAgrees,
   SaysAgrees,
+  PassAgrees,
 };
 
 /// A copy that is due may follow (RFC 7252 section 4.2).
@@ -35,4 +36,9 @@ pub fn unchanged_by()
 /// A message that is new ends what it answers, and asks for what a link answers (RFC 7252 sections 4.2, 4.3).
 pub fn says_agrees()
     ensures { SaysAgrees }
+{}
+
+/// A tick gives up what was sent five times, and ends what took too long (RFC 7252 sections 4.2, 4.8.2).
+pub fn pass_agrees()
+    ensures { PassAgrees }
 {}
