@@ -117,17 +117,16 @@ fn a_later_block_is_no_whole_response(rt: HostRuntime) {
 /// A reply to a body that went whole acknowledges no later block, and none that others follow; a 4.13 may
 /// name a smaller size (RFC 7959, sections 2.3 and 2.9.3).
 #[test]
-fn a_reply_to_another_block_is_no_whole_response(rt: HostRuntime) -> Result<(), Fail> {
+fn a_reply_to_another_block_is_no_whole_response(rt: HostRuntime) {
     let alloc = rt.alloc();
     let changed = "HTTP/1.1 204 No Content\r\n\r\n";
-    assert!(rt; is_told(alloc, POST, "44", "", changed)?);
-    assert!(rt; is_told(alloc, POST, "44", "d10e06", changed)?);
-    assert!(rt; is_told(alloc, POST, "44", "d10e16", NOT_UNDERSTOOD)?);
-    assert!(rt; is_told(alloc, POST, "44", "d10e0e", NOT_UNDERSTOOD)?);
-    assert!(rt; is_told(alloc, POST, "5f", "d10e06", NOT_UNDERSTOOD)?);
+    assert!(rt; is_told(alloc, POST, "44", "", changed) == Ok(true));
+    assert!(rt; is_told(alloc, POST, "44", "d10e06", changed) == Ok(true));
+    assert!(rt; is_told(alloc, POST, "44", "d10e16", NOT_UNDERSTOOD) == Ok(true));
+    assert!(rt; is_told(alloc, POST, "44", "d10e0e", NOT_UNDERSTOOD) == Ok(true));
+    assert!(rt; is_told(alloc, POST, "5f", "d10e06", NOT_UNDERSTOOD) == Ok(true));
     let large = "HTTP/1.1 413 Content Too Large\r\nContent-Length: 0\r\n\r\n";
-    assert!(rt; is_told(alloc, POST, "8d", "d10e02", large)?);
-    Ok(())
+    assert!(rt; is_told(alloc, POST, "8d", "d10e02", large) == Ok(true));
 }
 
 /// Freshness and entity tag are told of what GET or HEAD asked for, and of nothing else (RFC 9110,

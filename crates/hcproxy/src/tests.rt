@@ -5,9 +5,8 @@ use crate::replay::{Reason, ReplayFault, Script, replay};
 use crate::script::LineFault;
 use crate::settings::demonstration;
 use proxy_settings::Part;
-use std::alloc::Global;
+use std::alloc::{AllocError, Global};
 use std::io::{self, ErrorKind, Read, Write};
-use std::test::Fail;
 
 /// A GET of the resource `light`, as bytes of a connection.
 const GET_LIGHT: &str =
@@ -59,23 +58,25 @@ impl Write for Full {
     }
 }
 
-/// Runs a script, and gives what it prints and how it ends.
-fn run(
+/// The script ends so, and prints this.
+fn ends(
     alloc: Global,
     script: &str,
     journal: bool,
-) -> Result<(Vec<u8>, Result<(), ReplayFault>), ReplayFault> {
+    end: Result<(), ReplayFault>,
+    printed: &str,
+) -> Result<bool, ReplayFault> {
     let mut out = Vec::new(alloc);
     let mut reader = Trickle {
         text: script.as_bytes(),
         fails: false,
     };
     let ended = replay(alloc, demonstration(alloc)?, &mut reader, &mut out, journal);
-    Ok((out, ended))
+    Ok(ended == end && out.as_slice() == printed.as_bytes())
 }
 
 /// The text of several parts.
-fn joined(alloc: Global, parts: &[&str]) -> Result<String, Fail> {
+fn joined(alloc: Global, parts: &[&str]) -> Result<String, AllocError> {
     let mut text = String::new(alloc);
     for part in parts {
         text.push_str(part)?;
@@ -83,138 +84,176 @@ fn joined(alloc: Global, parts: &[&str]) -> Result<String, Fail> {
     Ok(text)
 }
 
-#[test]
-fn a_request_cut_anywhere_is_one(rt: HostRuntime) -> Result<(), Fail> {
-    let alloc = rt.alloc();
-    let expected = joined(alloc, &[ASKED, TOLD])?;
-    for cut in 0..=GET_LIGHT.len() / 2 {
-        let (front, back) = GET_LIGHT.as_bytes().split_at(2 * cut);
-        let mut script = joined(alloc, &["0 0 open\n0 0 bytes 0 "])?;
-        script.push_str(std::str::from_utf8(front)?)?;
-        script.push_str("\n0 0 bytes 0 ")?;
-        script.push_str(std::str::from_utf8(back)?)?;
-        script.push_str("\n")?;
-        script.push_str(REPLY)?;
-        let (out, ended) = run(alloc, &script, false)?;
-        assert_eq!(rt; ended, Ok(()));
-        assert_eq!(rt; out.as_slice(), expected.as_bytes(), "cut behind {cut}");
-    }
-    Ok(())
-}
-
-#[test]
-fn connections_are_numbered_as_they_come(rt: HostRuntime) -> Result<(), Fail> {
-    let (out, ended) = run(
-        rt.alloc(),
-        "0 0 open\n7 0 open\n9 0 close 0\n9 0 open\n8 0 close 1\n",
-        true,
+/// The GET comes in two pieces, and its reply.
+fn is_one(alloc: Global, front: &str, back: &str) -> Result<bool, ReplayFault> {
+    let script = joined(
+        alloc,
+        &[
+            "0 0 open\n0 0 bytes 0 ",
+            front,
+            "\n0 0 bytes 0 ",
+            back,
+            "\n",
+            REPLY,
+        ],
     )?;
-    assert_eq!(rt; ended, Ok(()));
-    assert_eq!(rt;
-        out.as_slice(),
-        b"0 0 opened 0\n1 7 opened 1\n2 9 shut 0\n3 9 opened 2\n4 9 shut 1\n".as_slice()
-    );
-    Ok(())
+    let printed = joined(alloc, &[ASKED, TOLD])?;
+    ends(alloc, &script, false, Ok(()), &printed)
 }
 
 #[test]
-fn lines_of_another_form_are_refused(rt: HostRuntime) -> Result<(), Fail> {
-    for (script, line) in [
-        ("0 0 opne\n", 1),
-        ("\n\n0 0 open\n0 0  tick\n", 4),
-        ("0 0 open", 1),
-        ("+1 0 tick\n", 1),
-        ("18446744073709551616 0 tick\n", 1),
-        ("0 0 bytes 0 4\n", 1),
-        ("0 0 bytes 0 4A\n", 1),
-        ("0 0 bytes 0\n", 1),
-        ("0 0 bytes 4294967296 00\n", 1),
-        ("0 0 datagram 192.0.2.1 00\n", 1),
-        ("0 0 datagram 192.0.2.1:0 00\n", 1),
-        ("0 0 datagram s.example.com:5683 00\n", 1),
-        ("0 0 close\n", 1),
-        ("tick\n", 1),
-    ] {
-        let (out, ended) = run(rt.alloc(), script, true)?;
-        assert_eq!(rt; ended, Err(ReplayFault::Line(line)), "{script}");
-        assert_eq!(rt; out.len(), 0);
+fn a_request_cut_anywhere_is_one(rt: HostRuntime) {
+    for cut in 0..=GET_LIGHT.len() / 2 {
+        let parts = GET_LIGHT.split_at_checked(2 * cut);
+        let (front, back) = parts.expect(&rt, "two pieces");
+        assert!(rt;
+            is_one(rt.alloc(), front, back) == Ok(true),
+            "cut after {cut}"
+        );
     }
-    Ok(())
 }
 
 #[test]
-fn lines_that_say_nothing_are_taken(rt: HostRuntime) -> Result<(), Fail> {
-    for script in [
-        "",
-        "\n",
-        "00 007 tick\n",
-        "0 0 bytes 0 00\n",
-        "0 0 datagram 192.0.2.1:5683 \n",
-        "0 0 datagram [2001:db8::1]:05683 00\n",
-        "0 18446744073709551615 close 4294967295\n",
-    ] {
-        let (out, ended) = run(rt.alloc(), script, true)?;
-        assert_eq!(rt; ended, Ok(()), "{script}");
-        assert_eq!(rt; out.len(), 0);
+fn connections_are_numbered_as_they_come(rt: HostRuntime) {
+    let script = "0 0 open\n7 0 open\n9 0 close 0\n9 0 open\n8 0 close 1\n";
+    let printed = "0 0 opened 0\n1 7 opened 1\n2 9 shut 0\n3 9 opened 2\n4 9 shut 1\n";
+    assert!(rt; ends(rt.alloc(), script, true, Ok(()), printed) == Ok(true));
+}
+
+/// Scripts, and the line at which each is refused.
+static REFUSED: [(&str, u64); 14] = [
+    ("0 0 opne\n", 1),
+    ("\n\n0 0 open\n0 0  tick\n", 4),
+    ("0 0 open", 1),
+    ("+1 0 tick\n", 1),
+    ("18446744073709551616 0 tick\n", 1),
+    ("0 0 bytes 0 4\n", 1),
+    ("0 0 bytes 0 4A\n", 1),
+    ("0 0 bytes 0\n", 1),
+    ("0 0 bytes 4294967296 00\n", 1),
+    ("0 0 datagram 192.0.2.1 00\n", 1),
+    ("0 0 datagram 192.0.2.1:0 00\n", 1),
+    ("0 0 datagram s.example.com:5683 00\n", 1),
+    ("0 0 close\n", 1),
+    ("tick\n", 1),
+];
+
+/// The table, handed out by a call that says nothing of its rows: a loop over it is proved in less time.
+fn refused() -> &'static [(&'static str, u64)] {
+    &REFUSED
+}
+
+#[test]
+fn lines_of_another_form_are_refused(rt: HostRuntime) {
+    for &(script, line) in refused() {
+        let end = Err(ReplayFault::Line(line));
+        assert!(rt;
+            ends(rt.alloc(), script, true, end, "") == Ok(true),
+            "{script}"
+        );
     }
-    Ok(())
+}
+
+/// Scripts that print nothing.
+static QUIET: [&str; 7] = [
+    "",
+    "\n",
+    "00 007 tick\n",
+    "0 0 bytes 0 00\n",
+    "0 0 datagram 192.0.2.1:5683 \n",
+    "0 0 datagram [2001:db8::1]:05683 00\n",
+    "0 18446744073709551615 close 4294967295\n",
+];
+
+/// The same.
+fn quiet() -> &'static [&'static str] {
+    &QUIET
 }
 
 #[test]
-fn what_stands_before_a_refused_line_is_printed(rt: HostRuntime) -> Result<(), Fail> {
-    let alloc = rt.alloc();
+fn lines_that_say_nothing_are_taken(rt: HostRuntime) {
+    for &script in quiet() {
+        assert!(rt;
+            ends(rt.alloc(), script, true, Ok(()), "") == Ok(true),
+            "{script}"
+        );
+    }
+}
+
+/// The GET is asked, and a line after it refused.
+fn stops(alloc: Global) -> Result<bool, ReplayFault> {
     let script = joined(
         alloc,
         &["0 0 open\n0 0 bytes 0 ", GET_LIGHT, "\n40 0 stop\n", REPLY],
     )?;
-    let (out, ended) = run(alloc, &script, true)?;
-    assert_eq!(rt; ended, Err(ReplayFault::Line(3)));
-    assert_eq!(rt; out.as_slice(), ASKED.as_bytes());
-    Ok(())
+    ends(alloc, &script, true, Err(ReplayFault::Line(3)), ASKED)
 }
 
 #[test]
-fn a_mebibyte_waits_unread_and_no_byte_more(rt: HostRuntime) -> Result<(), Fail> {
-    let alloc = rt.alloc();
+fn what_stands_before_a_refused_line_is_printed(rt: HostRuntime) {
+    assert!(rt; stops(rt.alloc()) == Ok(true));
+}
+
+/// The GET, so many bytes after it, and what else follows.
+fn waiting(alloc: Global, count: u32, rest: &str) -> Result<String, AllocError> {
     let mut script = joined(
         alloc,
         &["0 0 open\n0 0 bytes 0 ", GET_LIGHT, "\n0 0 bytes 0 "],
     )?;
-    for _ in 0..1_048_576 {
+    for _ in 0..count {
         script.push_str("61")?;
     }
-    script.push_str("\n")?;
-    let (out, ended) = run(alloc, &script, false)?;
-    assert_eq!(rt; ended, Ok(()));
-    assert_eq!(rt; out.as_slice(), ASKED.as_bytes());
-    script.push_str("0 0 bytes 0 61\n")?;
-    let (out, ended) = run(alloc, &script, false)?;
-    assert_eq!(rt; ended, Err(ReplayFault::Line(4)));
-    assert_eq!(rt; out.as_slice(), ASKED.as_bytes());
-    Ok(())
+    script.push_str(rest)?;
+    Ok(script)
+}
+
+/// So much waits, and the script ends so.
+fn waits(
+    alloc: Global,
+    count: u32,
+    rest: &str,
+    end: Result<(), ReplayFault>,
+) -> Result<bool, ReplayFault> {
+    let script = waiting(alloc, count, rest)?;
+    ends(alloc, &script, false, end, ASKED)
 }
 
 #[test]
-fn failed_devices_are_told(rt: HostRuntime) -> Result<(), Fail> {
-    let alloc = rt.alloc();
+fn a_mebibyte_waits_unread_and_no_byte_more(rt: HostRuntime) {
+    let most = waits(rt.alloc(), 1_048_576, "\n", Ok(()));
+    assert!(rt; most == Ok(true));
+    let refused = Err(ReplayFault::Line(4));
+    let more = waits(rt.alloc(), 1_048_576, "\n0 0 bytes 0 61\n", refused);
+    assert!(rt; more == Ok(true));
+}
+
+/// How a script ends whose reader fails.
+fn unread(alloc: Global) -> Result<(), ReplayFault> {
     let mut reader = Trickle {
         text: b"0 0 open\n0 0 op",
         fails: true,
     };
     let mut out = Vec::new(alloc);
-    let ended = replay(alloc, demonstration(alloc)?, &mut reader, &mut out, true);
-    assert_eq!(rt; ended, Err(ReplayFault::Device));
+    replay(alloc, demonstration(alloc)?, &mut reader, &mut out, true)
+}
+
+/// How a script ends whose writer takes no byte.
+fn unwritten(alloc: Global) -> Result<(), ReplayFault> {
     let mut reader = Trickle {
         text: b"0 0 open\n0 0 open\n",
         fails: false,
     };
-    let ended = replay(alloc, demonstration(alloc)?, &mut reader, &mut Full, true);
-    assert_eq!(rt; ended, Err(ReplayFault::Device));
-    Ok(())
+    replay(alloc, demonstration(alloc)?, &mut reader, &mut Full, true)
+}
+
+#[test]
+fn failed_devices_are_told(rt: HostRuntime) {
+    assert!(rt; unread(rt.alloc()) == Err(ReplayFault::Device));
+    assert!(rt; unwritten(rt.alloc()) == Err(ReplayFault::Device));
 }
 
 /// What a line of words asks for, or None where it is answered by the usage.
-const COMMANDS: [(&str, Option<Command<'static>>); 20] = [
+static COMMANDS: [(&str, Option<Command<'static>>); 20] = [
     ("replay", RUN),
     (
         "replay --journal",
@@ -271,37 +310,55 @@ const BOTH: Option<Command<'static>> = Some(Command::Replay {
     settings: Some("a.toml"),
 });
 
-#[test]
-fn words_ask_for_a_command(rt: HostRuntime) -> Result<(), Fail> {
-    let alloc = rt.alloc();
-    for (line, asked) in COMMANDS {
-        let mut words = Vec::new(alloc);
-        for word in line.split(' ') {
-            words.push(String::from_str(alloc, word)?)?;
-        }
-        assert_eq!(rt; command_of(&words).ok(), asked, "{line}");
+fn commands() -> &'static [(&'static str, Option<Command<'static>>)] {
+    &COMMANDS
+}
+
+/// The words of the line ask for this.
+fn asks(alloc: Global, line: &str, asked: Option<Command<'static>>) -> Result<bool, AllocError> {
+    let mut words = Vec::new(alloc);
+    for word in line.split(' ') {
+        words.push(String::from_str(alloc, word)?)?;
     }
-    Ok(())
+    Ok(command_of(&words).ok() == asked)
 }
 
 #[test]
-fn a_refused_line_has_a_reason(rt: HostRuntime) -> Result<(), Fail> {
-    let alloc = rt.alloc();
-    for (text, reason) in [
-        ("0 0 open", Reason::Unended),
-        ("0 0 opne\n", Reason::Line(LineFault::Form)),
-        ("0 0 open\r\n", Reason::Line(LineFault::CarriageReturn)),
-        ("0 -1 open\n", Reason::Line(LineFault::Number)),
-        ("0 0 close x\n", Reason::Line(LineFault::Number)),
-        ("0 0 datagram a:1 00\n", Reason::Line(LineFault::Peer)),
-        ("0 0 bytes 0 4A\n", Reason::Line(LineFault::Hex)),
-        ("0 0 bytes 0 4\n", Reason::Line(LineFault::Hex)),
-    ] {
-        let mut script = Script::new(alloc, demonstration(alloc)?)?;
-        let mut out = Vec::new(alloc);
-        let ended = script.run(&mut text.as_bytes(), &mut out, true);
-        assert_eq!(rt; ended, Err(ReplayFault::Line(1)));
-        assert_eq!(rt; script.reason(), Some(reason), "{text}");
+fn words_ask_for_a_command(rt: HostRuntime) {
+    for &(line, asked) in commands() {
+        assert!(rt; asks(rt.alloc(), line, asked) == Ok(true), "{line}");
     }
-    Ok(())
+}
+
+/// Scripts of one line that is refused, and why.
+static REASONS: [(&str, Reason); 8] = [
+    ("0 0 open", Reason::Unended),
+    ("0 0 opne\n", Reason::Line(LineFault::Form)),
+    ("0 0 open\r\n", Reason::Line(LineFault::CarriageReturn)),
+    ("0 -1 open\n", Reason::Line(LineFault::Number)),
+    ("0 0 close x\n", Reason::Line(LineFault::Number)),
+    ("0 0 datagram a:1 00\n", Reason::Line(LineFault::Peer)),
+    ("0 0 bytes 0 4A\n", Reason::Line(LineFault::Hex)),
+    ("0 0 bytes 0 4\n", Reason::Line(LineFault::Hex)),
+];
+
+fn reasons() -> &'static [(&'static str, Reason)] {
+    &REASONS
+}
+
+/// The first line of the script is refused, and why.
+fn reason_of(alloc: Global, text: &str) -> Result<Option<Reason>, ReplayFault> {
+    let mut script = Script::new(alloc, demonstration(alloc)?)?;
+    let mut out = Vec::new(alloc);
+    match script.run(&mut text.as_bytes(), &mut out, true) {
+        Err(ReplayFault::Line(1)) => Ok(script.reason()),
+        _ => Ok(None),
+    }
+}
+
+#[test]
+fn a_refused_line_has_a_reason(rt: HostRuntime) {
+    for &(text, reason) in reasons() {
+        assert!(rt; reason_of(rt.alloc(), text) == Ok(Some(reason)), "{text}");
+    }
 }
