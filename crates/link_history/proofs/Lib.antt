@@ -9,6 +9,7 @@ pub mod Nexts
 pub mod Unbegun
 pub mod Queueing
 pub mod Repeating
+pub mod Silence
 pub mod Remembering
 pub mod Replying
 pub mod Tokens

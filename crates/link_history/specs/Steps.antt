@@ -3,7 +3,7 @@ use Rattle.std.specs.Prelude.{◌≡◌, ℕ, ◌<◌, ◌≤◌, Bool, true, fa
 use Rattle.coap_codec.specs.Spelling.{Content, Spells}
 use Rattle.uri_map.specs.declared.peer.Peer.{Peer}
 use Rattle.ask_model.specs.Requests.{CoapRequest, Ask, request_message}
-use Rattle.journal_book.specs.Entries.{Asks, Sends, Hears, Passes}
+use Rattle.journal_book.specs.Entries.{Deed, Opens, Asks, Sends, Hears, Passes, Answers, Shuts, Seals}
 use Rattle.history_laws.specs.Confirming.{Confirmation}
 use Rattle.history_laws.specs.Numbering.{token_number}
 use Rattle.message_layer.specs.Values.{LinkState}
@@ -17,7 +17,7 @@ use Rattle.message_layer.specs.declared.state.Waiting.{Waiting}
 use Rattle.message_layer.specs.declared.verdict.News.{News}
 use Rattle.message_layer.specs.declared.verdict.News.TheVariants.{Quiet, Response, Reset, Lost}
 use Rattle.message_layer.specs.declared.verdict.Verdict.{Verdict}
-use Rattle.whole_history.specs.Readings.{Noted, Plain, Begins, First, Copies, Says, Repeats, Garbled, Unobserved, newest, ticked}
+use Rattle.whole_history.specs.Readings.{Noted, Note, Plain, Begins, First, Copies, Confirms, Says, Repeats, Garbled, Unobserved, newest, ticked}
 use Rattle.whole_history.specs.Connections.{is_sealed}
 use Rattle.whole_history.specs.Limits.{mid_limit, copy_limit}
 use Rattle.whole_history.specs.Transmissions.{first_at, bears_token, mids_used}
@@ -43,6 +43,23 @@ pub record MaySend (l : List Noted) : Type 0 where
 pub record Leads (l : List Noted) (p : Peer) (x : Noted) (s : LinkState) : Type 0 where
   pub follows : Follows l x.written.moment x.written.deed x.note
   pub agrees : Agrees (x ∷ l) p s
+
+-- Entries that are nothing to any link: of connections, an ACK or RST, and what is heard and is nothing new.
+abbrev pub IsSilent : Deed → Note → Type 0
+IsSilent (Opens c) Plain = ⊤
+IsSilent (Asks c a) Plain = ⊤
+IsSilent (Answers c k g) Plain = ⊤
+IsSilent (Shuts c) Plain = ⊤
+IsSilent Seals Plain = ⊤
+IsSilent (Sends p b w) Confirms = ⊤
+IsSilent (Hears p b) (Repeats m j) = ⊤
+IsSilent (Hears p b) Garbled = ⊤
+IsSilent _ _ = ⊥
+
+abbrev pub SilentAgrees : Type 0
+SilentAgrees =
+    (l : List Noted) (t : ℕ) (p : Peer) (s : LinkState) (d : Deed) (note : Note)
+    → Before l t p s → IsSilent d note → Agrees (noted t d note ∷ l) p s
 
 -- A copy is sent once it is due.
 abbrev pub copy : ℕ → Peer → Outstanding → ℕ → Noted

@@ -1,6 +1,7 @@
 //! What the calls of a link leave in a history, as contracts of functions that do nothing.
 
 ghost use Rattle.link_history.specs.Steps.{
+  SilentAgrees,
   CopyFollows,
   NextFollows,
   QueuedAgrees,
@@ -9,6 +10,11 @@ ghost use Rattle.link_history.specs.Steps.{
   SaysAgrees,
   PassAgrees,
 };
+
+/// Entries of connections, ACKs, RSTs, and what is heard and is nothing new, are nothing to any link.
+pub fn silent_agrees()
+    ensures { SilentAgrees }
+{}
 
 /// A copy that is due may follow (RFC 7252 section 4.2).
 pub fn copy_follows()

@@ -3,4 +3,7 @@
 
 mod laws;
 
-pub use laws::{copy_follows, next_follows, pass_agrees, queued_agrees, says_agrees, unchanged_by};
+pub use laws::{
+    copy_follows, next_follows, pass_agrees, queued_agrees, says_agrees, silent_agrees,
+    unchanged_by,
+};
