@@ -1,6 +1,6 @@
 //! Journals of what is done, written out act by act.
 
-use crate::sample::{Nothing, light, server, too_large};
+use crate::sample::{Nothing, light, server, shared, too_large};
 use ask_model::{Bytes, Cause};
 use history_check::is_justified;
 use journal_book::{Entry, Event, Grounds, Journal, Numbers};
@@ -109,14 +109,14 @@ fn first(
 /// The light is asked for; the ask of a request that isn't mapped is passed time.
 fn asked(alloc: Global, conn: u32) -> Result<Event<Nothing>, AllocError> {
     match light(alloc)? {
-        Some(mapped) => Ok(Event::Asked(conn, Arc::new(alloc, mapped)?)),
+        Some(mapped) => Ok(Event::Asked(conn, shared(alloc, mapped)?)),
         None => Ok(Event::Passed),
     }
 }
 
 /// What is refused for its size is asked.
 fn refused(alloc: Global, conn: u32) -> Result<Event<Nothing>, AllocError> {
-    Ok(Event::Asked(conn, Arc::new(alloc, too_large(alloc)?)?))
+    Ok(Event::Asked(conn, shared(alloc, too_large(alloc)?)?))
 }
 
 /// What the act writes.
@@ -168,7 +168,12 @@ pub fn stands(alloc: Global, acts: &[(u64, Act)]) -> Result<bool, AllocError> {
 }
 
 /// A GET up to its first sending.
-pub const BEGUN: [(u64, Act); 3] = [(0, Act::Open(0)), (0, Act::Ask(0)), (0, Act::First(0, 0))];
+static BEGUN: [(u64, Act); 3] = [(0, Act::Open(0)), (0, Act::Ask(0)), (0, Act::First(0, 0))];
+
+/// The same, handed out by a call that says nothing of it: a trial over it is proved in less time.
+pub fn begun() -> &'static [(u64, Act)] {
+    &BEGUN
+}
 
 /// Whether the acts are found to be justified after what was done before.
 fn stands_after(

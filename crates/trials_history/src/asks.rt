@@ -16,25 +16,34 @@ fn goes_to(mapped: &Mapped<Nothing>, server: &Peer) -> bool {
     }
 }
 
-/// The datagram with the ID 0 and this token, where there is one.
-fn datagram(
+/// With the ID 0 and this token it is sent so.
+fn is_sent_as(
     alloc: Global,
     mapped: &Mapped<Nothing>,
     token: &[u8; 8],
-) -> Result<Option<Bytes>, AllocError> {
-    mapped.request(alloc, 0, &Token::new(token))
+    want: &[u8],
+) -> Result<bool, AllocError> {
+    match mapped.request(alloc, 0, &Token::new(token))? {
+        Some(sent) => Ok(sent.as_slice() == want),
+        None => Ok(false),
+    }
+}
+
+/// The ask of the light goes to its server, and is sent so.
+fn light_is_sent_as(alloc: Global, want: &[u8]) -> Result<bool, AllocError> {
+    match light(alloc)? {
+        Some(mapped) => {
+            Ok(goes_to(&mapped, &server(5683)) && is_sent_as(alloc, &mapped, &[0; 8], want)?)
+        }
+        None => Ok(false),
+    }
 }
 
 #[test]
 fn a_request_is_sent_as_its_datagram(rt: HostRuntime) {
-    let mapped = light(rt.alloc()).expect(&rt, "memory");
-    let mapped = mapped.expect(&rt, "an ask");
-    assert!(rt; goes_to(&mapped, &server(5683)));
-    let sent = datagram(rt.alloc(), &mapped, &[0; 8]).expect(&rt, "memory");
-    let sent = sent.expect(&rt, "a datagram");
     // the header and the token, Uri-Host, and Uri-Path
     let want = b"\x48\x01\0\0\0\0\0\0\0\0\0\0\x3d\0s.example.com\x85light";
-    assert_eq!(rt; sent.as_slice(), want.as_slice());
+    assert!(rt; light_is_sent_as(rt.alloc(), want) == Ok(true));
 }
 
 /// The request is refused for this cause, with this status.
@@ -62,14 +71,23 @@ fn is_sent(alloc: Global, mapped: &Mapped<Nothing>) -> Result<bool, AllocError> 
     Ok(mapped.request(alloc, 0, &Token::new(&[]))?.is_some())
 }
 
+/// The request is refused for its size, and goes nowhere.
+fn is_refusal(alloc: Global, mapped: &Mapped<Nothing>) -> bool {
+    is_refused(mapped, Cause::BadHttp, 413)
+        && came_large(mapped)
+        && takes_literals(mapped)
+        && !has_peer(mapped)
+        && is_sent(alloc, mapped) == Ok(false)
+}
+
+fn too_large_is_refused(alloc: Global) -> Result<bool, AllocError> {
+    let mapped = too_large(alloc)?;
+    Ok(is_refusal(alloc, &mapped))
+}
+
 #[test]
 fn a_refusal_sends_nothing(rt: HostRuntime) {
-    let mapped = too_large(rt.alloc()).expect(&rt, "memory");
-    assert!(rt; is_refused(&mapped, Cause::BadHttp, 413));
-    assert!(rt; came_large(&mapped));
-    assert!(rt; takes_literals(&mapped));
-    assert!(rt; !has_peer(&mapped));
-    assert!(rt; is_sent(rt.alloc(), &mapped) == Ok(false));
+    assert!(rt; too_large_is_refused(rt.alloc()) == Ok(true));
 }
 
 #[test]

@@ -1,11 +1,10 @@
 //! Calls of a core that pass on nothing of what it promises: a trial over them is proved in less time.
 
-use crate::sample::{Nothing, light, server, too_large};
+use crate::sample::{Nothing, light, server, shared, too_large};
 use ask_model::Cause;
 use exchange_core::{Answer, AskFault, Core, OpenFault, Outcome, Ticket};
 use journal_book::Event;
 use std::alloc::Global;
-use std::sync::Arc;
 
 pub fn new_core(alloc: Global) -> Option<Core<Nothing>> {
     Core::new(alloc).ok()
@@ -31,11 +30,10 @@ pub fn ask(
     word: u64,
     conn: u32,
 ) -> Result<Ticket<Nothing>, AskFault> {
-    let mapped = match light(alloc) {
-        Ok(Some(mapped)) => Arc::new(alloc, mapped)?,
-        _ => return Err(AskFault::Memory),
-    };
-    core.ask(moment, word, conn, mapped)
+    match light(alloc) {
+        Ok(Some(mapped)) => core.ask(moment, word, conn, shared(alloc, mapped)?),
+        _ => Err(AskFault::Memory),
+    }
 }
 
 /// Asks what is refused for its size.
@@ -45,7 +43,7 @@ pub fn ask_too_much(
     moment: u64,
     conn: u32,
 ) -> Result<Ticket<Nothing>, AskFault> {
-    let mapped = Arc::new(alloc, too_large(alloc)?)?;
+    let mapped = shared(alloc, too_large(alloc)?)?;
     core.ask(moment, 0, conn, mapped)
 }
 

@@ -6,37 +6,55 @@ use journal_book::{Entry, Event, Grounds, Journal, Numbers};
 use std::alloc::{AllocError, Global};
 use std::sync::Arc;
 
+/// Two bytes are sent.
+fn sent(alloc: Global) -> Result<Event<Nothing>, AllocError> {
+    let bytes = Bytes::from_slice(alloc, &[0x48, 0x01])?;
+    Ok(Event::Sent {
+        peer: server(5683),
+        bytes: Arc::new(alloc, bytes)?,
+        timeout: Some(2000),
+    })
+}
+
+/// An answer that rests on two replies.
+fn live(alloc: Global) -> Result<Event<Nothing>, AllocError> {
+    Ok(Event::Answered {
+        conn: 0,
+        ask: 1,
+        grounds: Grounds::Live(Numbers::from_slice(alloc, &[3, 7])?),
+    })
+}
+
 /// An opening, a datagram that is sent, one that is heard, and two answers.
-fn small_journal(alloc: Global) -> Result<Journal<Nothing>, AllocError> {
-    let sent = Arc::new(alloc, Bytes::from_slice(alloc, &[0x48, 0x01])?)?;
-    let heard = Bytes::from_slice(alloc, &[0x60])?;
-    let replies = Numbers::from_slice(alloc, &[3, 7])?;
-    let events = [
-        Event::Opened(0),
-        Event::Sent {
+fn event(alloc: Global, place: u8) -> Result<Event<Nothing>, AllocError> {
+    match place {
+        0 => Ok(Event::Opened(0)),
+        1 => sent(alloc),
+        2 => Ok(Event::Heard {
             peer: server(5683),
-            bytes: sent,
-            timeout: Some(2000),
-        },
-        Event::Heard {
-            peer: server(5683),
-            bytes: heard,
-        },
-        Event::Answered {
+            bytes: Bytes::from_slice(alloc, &[0x60])?,
+        }),
+        3 => Ok(Event::Answered {
             conn: 0,
             ask: 1,
             grounds: Grounds::Fault(Cause::Timeout, 1),
-        },
-        Event::Answered {
-            conn: 0,
-            ask: 1,
-            grounds: Grounds::Live(replies),
-        },
-    ];
+        }),
+        _ => live(alloc),
+    }
+}
+
+/// Adds an entry of the moment 7.
+fn add(journal: &mut Journal<Nothing>, event: Event<Nothing>) -> Result<(), AllocError> {
+    journal.make_room(1)?;
+    journal.add(Entry { moment: 7, event });
+    Ok(())
+}
+
+/// A journal of those five.
+fn small_journal(alloc: Global) -> Result<Journal<Nothing>, AllocError> {
     let mut journal = Journal::new(alloc);
-    for event in events {
-        journal.make_room(1)?;
-        journal.add(Entry { moment: 7, event });
+    for place in 0..5 {
+        add(&mut journal, event(alloc, place)?)?;
     }
     Ok(journal)
 }
@@ -74,20 +92,30 @@ fn begins_with_an_opening(journal: &Journal<Nothing>) -> bool {
     }
 }
 
+/// The five entries have these sizes: 64 bytes for each, those of a datagram, and four for each number that
+/// an answer names.
+fn has_sizes(journal: &Journal<Nothing>) -> bool {
+    count(journal) == 5
+        && has_size(journal, 0, 64)
+        && has_size(journal, 1, 66)
+        && has_size(journal, 2, 65)
+        && has_size(journal, 3, 68)
+        && has_size(journal, 4, 72)
+        && journal.get(5).is_none()
+}
+
+/// The journal is cut, and its copy is whole.
+fn is_cut(journal: &mut Journal<Nothing>, copy: &Journal<Nothing>) -> bool {
+    !journal.is_empty()
+        && cuts(journal, 5)
+        && cuts(journal, 1)
+        && begins_with_an_opening(journal)
+        && has_sizes(copy)
+}
+
 #[test]
 fn entries_are_counted_copied_and_cut(rt: HostRuntime) {
     let mut journal = small_journal(rt.alloc()).expect(&rt, "memory");
-    assert!(rt; !journal.is_empty());
     let copy = copied(&journal).expect(&rt, "memory");
-    assert!(rt; count(&copy) == 5);
-    // 64 bytes for each, those of a datagram, and four for each number that an answer names
-    assert!(rt; has_size(&copy, 0, 64));
-    assert!(rt; has_size(&copy, 1, 66));
-    assert!(rt; has_size(&copy, 2, 65));
-    assert!(rt; has_size(&copy, 3, 68));
-    assert!(rt; has_size(&copy, 4, 72));
-    assert!(rt; journal.get(5).is_none());
-    assert!(rt; cuts(&mut journal, 5));
-    assert!(rt; cuts(&mut journal, 1));
-    assert!(rt; begins_with_an_opening(&journal));
+    assert!(rt; is_cut(&mut journal, &copy));
 }

@@ -108,3 +108,8 @@ pub fn too_large(alloc: Global) -> Result<Mapped<Nothing>, AllocError> {
     let meaning = Meaning::Refuse(Cause::BadHttp, Status::ContentTooLarge);
     Ok(Mapped::new(Incoming::Bad(BadKind::Large), meaning, settings))
 }
+
+/// What was asked, to be shared.
+pub fn shared(alloc: Global, mapped: Mapped<Nothing>) -> Result<Arc<Mapped<Nothing>>, AllocError> {
+    Ok(Arc::new(alloc, mapped)?)
+}

@@ -3,7 +3,7 @@
 use crate::sample::server;
 use ask_model::Cause;
 use coap_codec::{MsgType, Token};
-use datagram_verdict::{Change, Outcome, Response, Verdict, confirmation, verdict_of};
+use datagram_verdict::{Change, Finding, Outcome, Response, Verdict, confirmation, verdict_of};
 use history_laws::kept::{Exchange, Remembered};
 use std::alloc::{AllocError, Global};
 
@@ -129,7 +129,15 @@ fn is_judged(
     end: Option<(u32, Option<Cause>)>,
 ) -> Result<bool, AllocError> {
     let told = verdict(alloc, table, &[], 40, 5683, bytes)?;
-    Ok(due(&told) == answer && ended(&told) == end && confirmed(&told).is_none())
+    Ok(calls_for(&told, answer, end))
+}
+
+fn calls_for(
+    verdict: &Verdict,
+    answer: Option<(MsgType, u16)>,
+    end: Option<(u32, Option<Cause>)>,
+) -> bool {
+    due(verdict) == answer && ended(verdict) == end && confirmed(verdict).is_none()
 }
 
 #[test]
@@ -174,11 +182,14 @@ fn remembered(
     table: &[Exchange],
     bytes: &[u8],
 ) -> Result<Option<Remembered>, AllocError> {
-    let first = verdict(alloc, table, &[], 40, 5683, bytes)?;
-    if due(&first) == ACK && ended(&first) == WHOLE {
-        Ok(first.memory)
+    Ok(memory_of(&verdict(alloc, table, &[], 40, 5683, bytes)?))
+}
+
+fn memory_of(verdict: &Verdict) -> Option<Remembered> {
+    if due(verdict) == ACK && ended(verdict) == WHOLE {
+        verdict.memory
     } else {
-        Ok(None)
+        None
     }
 }
 
@@ -190,8 +201,11 @@ fn is_repeat(
     moment: u64,
     bytes: &[u8],
 ) -> Result<bool, AllocError> {
-    let again = verdict(alloc, table, heard, moment, 5683, bytes)?;
-    Ok(due(&again) == ACK && ended(&again).is_none() && again.memory.is_none())
+    Ok(leaves_nothing(&verdict(alloc, table, heard, moment, 5683, bytes)?))
+}
+
+fn leaves_nothing(verdict: &Verdict) -> bool {
+    due(verdict) == ACK && ended(verdict).is_none() && verdict.memory.is_none()
 }
 
 /// The datagram ends the exchange.
@@ -228,13 +242,19 @@ fn repeats(rt: HostRuntime) {
     assert!(rt; is_foreign(alloc, &table, &heard, bytes) == Ok(true));
 }
 
-/// The response that the verdict ends its exchange with.
-fn response_of(verdict: &Verdict) -> Option<Response> {
-    let finding = verdict.ending.as_ref()?.finding.copy().ok()?;
+/// A copy of the response that was found.
+fn response_in_finding(finding: &Finding) -> Option<Response> {
     match finding.outcome() {
         Outcome::Whole(response) => response.copy().ok(),
         Outcome::Fault(_) => None,
     }
+}
+
+/// The response that the verdict ends its exchange with, by a copy of what it found.
+fn response_of(verdict: &Verdict) -> Option<Response> {
+    let ending = verdict.ending.as_ref()?;
+    let finding = ending.finding.copy().ok()?;
+    response_in_finding(&finding)
 }
 
 /// The response that this datagram ends the exchange 3 with.
