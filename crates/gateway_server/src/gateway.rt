@@ -1,0 +1,172 @@
+//! The threads of the gateway.
+
+ghost use Rattle.std.specs.Prelude.{◌≡◌, ◌-◌, ◌^◌};
+
+use crate::clock::SystemClock;
+use crate::fault::ServeFault;
+use crate::ports::Ports;
+use crate::shared::Shared;
+use ask_model::Settings;
+use exchange_core::OpenFault;
+use front_desk::{LockedDesk, Pass, Shop};
+use log::{Log, info, warn};
+use sessions::{tick_loop, udp_loop};
+use std::alloc::Global;
+use std::marker::Brand;
+use std::net::{TcpListener, TcpStream};
+use std::random::RandomSource;
+use std::rt::Clock;
+use std::sync::atomic::AtomicBool;
+use std::sync::ledger::{Blank, Ledger};
+use std::sync::{Arc, Wait};
+use std::thread::{self, Threads};
+use std::time::{Duration, Instant};
+use transformers::Relation;
+
+/// How long nothing is taken after a connection couldn't be, in milliseconds.
+const PAUSE: u64 = 50;
+
+/// How many asks and sessions the ledger of a shop has parts for.
+const PARTS: u64 = 4294967295;
+
+/// Runs the gateway at these ports, until the clock or the UDP socket fails. It goes on in threads of its
+/// own, one for each connection; those are cut off when the program ends.
+pub fn run<
+    R: Relation + Send + Sync + 'static,
+    W: Threads + Wait + Log + Clock + RandomSource + Copy + Drop + Send + Sync + 'static,
+>(rt: W, alloc: Global, ports: Ports, settings: Settings) -> ServeFault {
+    match run_with::<R, W, Brand>(rt, alloc, ports, settings, Blank::new(PARTS)) {
+        Ok(()) => ServeFault::Stopped,
+        Err(fault) => fault,
+    }
+}
+
+/// Runs the gateway with a ledger of asks.
+fn run_with<
+    R: Relation + Send + Sync + 'static,
+    W: Threads + Wait + Log + Clock + RandomSource + Copy + Drop + Send + Sync + 'static,
+    L: Ledger + Send + Sync + 'static,
+>(rt: W, alloc: Global, ports: Ports, settings: Settings, blank: Blank) -> Result<(), ServeFault>
+    requires name { blank.name ≡ L.name }
+    requires parts { (blank.parts ≡ L.parts) × (blank.parts ≡ 2 ^ 32 - 1) }
+{
+    let begin = match Instant::now(&rt) {
+        Ok(begin) => begin,
+        Err(error) => return Err(ServeFault::Clock(error)),
+    };
+    let (listen, udp) = (ports.listens_at(), ports.sends_from());
+    let Ports { listener, devices } = ports;
+    let shop: Shop<R, L> = Shop::new(alloc, blank)?;
+    let desk = LockedDesk::new(alloc, shop, SystemClock::new(rt, begin))?;
+    let shared = Shared {
+        desk,
+        devices,
+        settings: Arc::new(alloc, settings)?,
+        noted: AtomicBool::new(false),
+    };
+    let shared = Arc::new(alloc, shared)?;
+    start_loops(rt, alloc, listener, &shared)?;
+    if let (Ok(listen), Ok(udp)) = (listen, udp) {
+        info!(&rt; target: "hcproxy", "takes connections at {listen}, sends from {udp}");
+    }
+    tick_loop(&rt, &shared.devices, &shared.desk, u64::MAX);
+    Ok(())
+}
+
+/// Starts the thread that takes connections, and that of the UDP socket.
+fn start_loops<
+    R: Relation + Send + Sync + 'static,
+    W: Threads + Wait + Log + Clock + RandomSource + Copy + Drop + Send + Sync + 'static,
+    L: Ledger + Send + Sync + 'static,
+>(
+    rt: W,
+    alloc: Global,
+    listener: TcpListener,
+    shared: &Arc<Shared<R, W, L>>,
+) -> Result<(), ServeFault> {
+    let (mine, theirs) = (Arc::try_clone(shared)?, Arc::try_clone(shared)?);
+    let hears = thread::spawn(&rt, move || {
+        udp_loop(&rt, alloc, &mine.devices, &mine.desk, u64::MAX)
+    });
+    if hears.is_err() {
+        return Err(ServeFault::Thread);
+    }
+    let takes = thread::spawn(&rt, move || take_connections(rt, alloc, &listener, &theirs));
+    if takes.is_err() {
+        return Err(ServeFault::Thread);
+    }
+    Ok(())
+}
+
+/// Takes connections, and starts a session for each, until the desk is shut.
+fn take_connections<
+    R: Relation + Send + Sync + 'static,
+    W: Threads + Wait + Log + Clock + RandomSource + Copy + Drop + Send + Sync + 'static,
+    L: Ledger + Send + Sync + 'static,
+>(rt: W, alloc: Global, listener: &TcpListener, shared: &Arc<Shared<R, W, L>>) {
+    let mut turning_away = false;
+    for stream in listener.incoming() {
+        if shared.desk.is_shut(&rt) {
+            return;
+        }
+        match stream {
+            Ok(stream) => turning_away = take(rt, alloc, stream, shared, turning_away),
+            Err(_) => thread::sleep(&rt, Duration::from_millis(PAUSE)),
+        }
+    }
+}
+
+/// Takes a connection, or turns it away, and answers whether it was turned away. The first of some that
+/// follow each other is noted.
+fn take<
+    R: Relation + Send + Sync + 'static,
+    W: Threads + Wait + Log + Clock + RandomSource + Copy + Drop + Send + Sync + 'static,
+    L: Ledger + Send + Sync + 'static,
+>(
+    rt: W,
+    alloc: Global,
+    stream: TcpStream,
+    shared: &Arc<Shared<R, W, L>>,
+    turning_away: bool,
+) -> bool {
+    let reason = match shared.desk.open(&rt) {
+        Ok(pass) => match start_session(rt, alloc, stream, shared, pass) {
+            Ok(()) => return false,
+            Err(_) => "no thread or no memory for it",
+        },
+        Err(OpenFault::Sealed) => {
+            shared.note_sealed(&rt);
+            return true;
+        }
+        Err(OpenFault::Full) => "256 connections are open",
+        Err(OpenFault::Memory) => "no memory for it",
+    };
+    if !turning_away {
+        warn!(&rt; target: "hcproxy", "a connection is turned away: {reason}");
+    }
+    true
+}
+
+/// Starts a session in a thread of its own. Where that can't be, the connection is closed.
+fn start_session<
+    R: Relation + Send + Sync + 'static,
+    W: Threads + Wait + Log + Clock + RandomSource + Copy + Drop + Send + Sync + 'static,
+    L: Ledger + Send + Sync + 'static,
+>(
+    rt: W,
+    alloc: Global,
+    stream: TcpStream,
+    shared: &Arc<Shared<R, W, L>>,
+    pass: Pass<R, L>,
+) -> Result<(), ServeFault> {
+    let number = pass.conn();
+    let started = match Arc::try_clone(shared) {
+        Ok(mine) => thread::spawn(&rt, move || mine.serve_client(&rt, alloc, stream, pass)).is_ok(),
+        Err(_) => false,
+    };
+    if started {
+        return Ok(());
+    }
+    shared.desk.close(&rt, number);
+    Err(ServeFault::Thread)
+}
