@@ -2,6 +2,8 @@
 use Rattle.std.specs.Prelude.{ℕ}
 use Rattle.proxy_settings.specs.declared.file.FileFault.{FileFault}
 use Rattle.proxy_settings.specs.declared.file.FileFault.TheVariants as file
+use Rattle.gateway_server.specs.declared.fault.ServeFault.{ServeFault}
+use Rattle.gateway_server.specs.declared.fault.ServeFault.TheVariants as serve
 use Rattle.hcproxy.specs.declared.report.Failure.{Failure}
 use Rattle.hcproxy.specs.declared.report.Failure.TheVariants as failure
 use Rattle.hcproxy.specs.declared.replay.ReplayFault.{ReplayFault}
@@ -27,3 +29,12 @@ setup_failure file.TooLarge = failure.Settings
 setup_failure (file.NotText line) = failure.Settings
 setup_failure (file.Refused line reason) = failure.Settings
 setup_failure file.Memory = failure.Memory
+
+-- A taken or bad address, a clock, a thread or a socket that fails is a failed device.
+abbrev pub serve_failure : ServeFault → Failure
+serve_failure (serve.Listen address error) = failure.Device
+serve_failure (serve.Udp address error) = failure.Device
+serve_failure (serve.Clock error) = failure.Device
+serve_failure serve.Thread = failure.Device
+serve_failure serve.Stopped = failure.Device
+serve_failure serve.Memory = failure.Memory

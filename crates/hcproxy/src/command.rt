@@ -13,6 +13,10 @@ pub enum Command<'a> {
         journal: bool,
         settings: Option<&'a str>,
     },
+    /// The gateway, under the settings of a file or else under those on standard input.
+    Serve {
+        settings: Option<&'a str>,
+    },
     /// Whether a file has settings of the part.
     Check {
         part: Part,
@@ -32,7 +36,11 @@ pub fn command_of(words: &[String]) -> Result<Command<'_>, Hint<'static>> {
     };
     match (name.as_str(), rest) {
         ("--version" | "-V", []) => Ok(Command::Version),
-        ("serve" | "origin", []) => Err(Hint::StillToCome),
+        ("serve", []) => Ok(Command::Serve { settings: None }),
+        ("serve", [file]) => Ok(Command::Serve {
+            settings: Some(file.as_str()),
+        }),
+        ("origin", []) => Err(Hint::StillToCome),
         ("replay", rest) => replay_of(rest).ok_or(Hint::SeeHelp),
         ("check", rest) => check_of(rest).ok_or(Hint::SeeHelp),
         _ => Err(Hint::SeeHelp),

@@ -1,11 +1,9 @@
-//! The program: `hcproxy replay` runs a script of inputs through the proxy and prints what comes out,
-//! `hcproxy check` reads a file of settings; `--help` and `--version` tell of it.
+//! The program: `hcproxy serve` runs the gateway, `hcproxy replay` runs a script of inputs through it and
+//! prints what comes out, `hcproxy check` reads a file of settings; `--help` and `--version` tell of it.
 #![tactic(auto)]
 
-ghost use Rattle.std.specs.Prelude.{IfOk};
-ghost use Rattle.proxy_settings.specs.Files.{IsOf};
-
 mod command;
+mod files;
 mod lines;
 #[cfg(test)]
 mod random_tests;
@@ -20,6 +18,9 @@ mod report;
 mod row_tests;
 mod script;
 #[cfg(test)]
+mod serve_tests;
+mod serving;
+#[cfg(test)]
 mod setting_tests;
 mod settings;
 #[cfg(test)]
@@ -27,31 +28,40 @@ mod tests;
 
 use ask_model::Settings;
 use command::{Command, command_of};
-use proxy_settings::{FileFault, Part, Serve, Setup, read_setup};
+use files::{serve_in, setup_in, tell_undone};
+use log::Log;
+use proxy_settings::{Part, Setup};
 use replay::Script;
 use report::{Hint, Report, USAGE};
-use settings::{demonstration, followed, undone};
+use serving::serve;
+use settings::{demonstration, followed};
 use std::alloc::AllocError;
+use std::net::{Net, TcpListener, TcpStream};
 use std::process::ExitCode;
-use std::rt::{Env, Files};
-use std::{env, fs, io};
+use std::random::RandomSource;
+use std::rt::{Clock, Env, Files};
+use std::sync::Wait;
+use std::thread::Threads;
+use std::{env, io};
 
 /// What `--help` prints after the usage.
 const HELP: &str = "
 A gateway from HTTP/1.1 to CoAP.
 
+  serve FILE              runs the gateway by the settings of FILE, or of standard input without FILE
   replay                  runs the script on standard input through the gateway, and prints what goes out
   replay --journal        .. and then the entries of the journal
   replay --settings FILE  .. under the settings of FILE in place of those of a demonstration
   check FILE              says whether FILE has settings of the gateway, or what is wrong at which line
   check --origin FILE     the same of settings of the demonstration device
-  serve, origin           are still to come
+  origin                  is still to come
   --help, -h              prints this
   --version, -V           prints the version
 
 Exit status: 0 done; 1 a line of the script, or the settings, were refused; 2 wrong arguments;
-3 a file can't be read, standard input or output failed, or memory ran out.
-docs/FORMATS.md has the formats of scripts and settings, examples/ has some of both.";
+3 a file can't be read, an address can't be taken, a device failed, or memory ran out.
+docs/RUNNING.md says how to run the gateway, docs/FORMATS.md has the formats of scripts and settings,
+and examples/ has some of both.";
 
 /// What `--version` prints.
 const VERSION: &str = "hcproxy 0.1.0";
@@ -71,30 +81,6 @@ fn out_of_memory(_error: AllocError) -> Report<'static> {
 /// A write of a text that failed is told as a failed device.
 fn printed(outcome: io::Result<()>) -> Result<(), Report<'static>> {
     outcome.map_err(|_| Report::unprinted())
-}
-
-/// The settings of the part that a file has.
-fn setup_in<'a, R: Files + AllocGlobal>(
-    rt: &R,
-    part: Part,
-    path: &'a str,
-) -> Result<Setup, Report<'a>>
-    ensures { IfOk result (IsOf part) }
-{
-    let read = match fs::open(rt, path) {
-        Ok(file) => read_setup(rt.alloc(), part, file),
-        Err(error) => Err(FileFault::Unread(error)),
-    };
-    read.map_err(|fault| Report::file(path, fault))
-}
-
-/// Tells of the keys of settings that the gateway doesn't follow yet.
-fn tell_undone<R: Eprint>(rt: &R, path: &str, serve: &Serve) {
-    for (key, asked) in undone(serve) {
-        if asked {
-            let _ = eprintln!(rt; "hcproxy: {path}: {key}: not followed yet");
-        }
-    }
 }
 
 /// Says whether a file has settings.
@@ -120,13 +106,7 @@ fn settings_at<'a, R: Eprint + Files + AllocGlobal>(
     let Some(path) = path else {
         return demonstration(alloc).map_err(|fault| Report::replay(fault, None));
     };
-    match setup_in(rt, Part::Serve, path)? {
-        Setup::Serve(serve) => {
-            tell_undone(rt, path, &serve);
-            followed(alloc, &serve).map_err(out_of_memory)
-        }
-        Setup::Origin(_) => unreachable!(),
-    }
+    followed(alloc, &serve_in(rt, path)?).map_err(out_of_memory)
 }
 
 /// Runs the script on standard input.
@@ -144,18 +124,34 @@ fn replay_input<R: Input + Print + AllocGlobal + Clone + Drop>(
 }
 
 /// Does what the words ask for.
-fn run<'a, R: Input + Print + Eprint + Files + AllocGlobal + Clone + Drop>(
-    rt: &R,
-    words: &'a [String],
-) -> Result<(), Report<'a>> {
+fn run<
+    'a,
+    R: Net<Listener = TcpListener, Stream = TcpStream>
+        + Threads
+        + Wait
+        + Log
+        + Clock
+        + RandomSource
+        + Input
+        + Print
+        + Eprint
+        + Files
+        + AllocGlobal
+        + Copy
+        + Drop
+        + Send
+        + Sync
+        + 'static,
+>(rt: R, words: &'a [String]) -> Result<(), Report<'a>> {
     match command_of(words).map_err(Report::usage)? {
         Command::Help => printed(println!(rt; "{USAGE}\n{HELP}")),
         Command::Version => printed(println!(rt; "{VERSION}")),
-        Command::Check { part, file } => check(rt, part, file),
+        Command::Serve { settings } => Err(serve(rt, settings)),
+        Command::Check { part, file } => check(&rt, part, file),
         Command::Replay {
             journal,
             settings: path,
-        } => replay_input(rt, settings_at(rt, path)?, journal),
+        } => replay_input(&rt, settings_at(&rt, path)?, journal),
     }
 }
 
@@ -171,7 +167,7 @@ fn tell<R: Eprint>(rt: &R, report: Report<'_>) -> u8 {
 fn main(rt: HostRuntime) -> ExitCode {
     let status = match words(&rt) {
         Err(report) => tell(&rt, report),
-        Ok(words) => match run(&rt, &words) {
+        Ok(words) => match run(rt, &words) {
             Ok(()) => 0,
             Err(report) => tell(&rt, report),
         },

@@ -1,9 +1,10 @@
 //! Why the program ends without having done what it was asked for.
 
 ghost use Rattle.std.specs.Prelude.{◌≡◌};
-ghost use Rattle.hcproxy.specs.Failures.{exit_status, setup_failure};
+ghost use Rattle.hcproxy.specs.Failures.{exit_status, setup_failure, serve_failure};
 
 use crate::replay::{Reason, ReplayFault};
+use gateway_server::ServeFault;
 use proxy_settings::FileFault;
 use std::fmt;
 
@@ -16,7 +17,8 @@ pub enum Failure {
     Usage,
     /// A file has no settings of the part.
     Settings,
-    /// A file of settings can't be read, or a text can't be printed.
+    /// A file of settings can't be read, a text can't be printed, or the gateway's clock, threads or
+    /// sockets fail.
     Device,
     Memory,
     Replay(ReplayFault),
@@ -47,6 +49,20 @@ impl Failure {
             FileFault::Memory => Failure::Memory,
         }
     }
+
+    /// What a gateway that doesn't run is to the program.
+    pub fn of_serve(fault: ServeFault) -> Failure
+        ensures { result ≡ serve_failure fault }
+    {
+        match fault {
+            ServeFault::Listen(_, _)
+            | ServeFault::Udp(_, _)
+            | ServeFault::Clock(_)
+            | ServeFault::Thread
+            | ServeFault::Stopped => Failure::Device,
+            ServeFault::Memory => Failure::Memory,
+        }
+    }
 }
 
 impl fmt::Display for Failure {
@@ -69,15 +85,18 @@ pub enum Hint<'a> {
     Because(Reason),
     /// What is wrong with the file of that path.
     File(&'a str, FileFault),
+    /// Why the gateway doesn't run, or runs no more.
+    Serve(ServeFault),
 }
 
 impl fmt::Display for Hint<'_> {
     fn fmt<W: fmt::Write>(&self, f: &mut fmt::Formatter<W>) -> fmt::Result {
         match self {
             Hint::SeeHelp => write!(f, "hcproxy: --help says more"),
-            Hint::StillToCome => write!(f, "hcproxy: serve and origin are still to come"),
+            Hint::StillToCome => write!(f, "hcproxy: origin is still to come"),
             Hint::Because(reason) => write!(f, "hcproxy: {reason}"),
             Hint::File(path, fault) => write!(f, "hcproxy: {path}: {fault}"),
+            Hint::Serve(fault) => write!(f, "hcproxy: {fault}"),
         }
     }
 }
@@ -118,6 +137,18 @@ impl<'a> Report<'a> {
         };
         Report {
             failure: Failure::of_file(fault),
+            hint,
+        }
+    }
+
+    /// A gateway that doesn't run, or runs no more.
+    pub fn serve(fault: ServeFault) -> Report<'a> {
+        let hint = match fault {
+            ServeFault::Memory => None,
+            _ => Some(Hint::Serve(fault)),
+        };
+        Report {
+            failure: Failure::of_serve(fault),
             hint,
         }
     }

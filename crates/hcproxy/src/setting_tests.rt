@@ -63,7 +63,7 @@ fn what_is_not_done_yet_is_told(rt: HostRuntime) {
 }
 
 /// The lines and the status of a report.
-fn told(alloc: Global, report: Report<'_>) -> Result<String, AllocError> {
+pub fn told(alloc: Global, report: Report<'_>) -> Result<String, AllocError> {
     let (failure, status) = (report.failure, report.failure.status());
     match report.hint {
         Some(hint) => format!(in alloc; "{failure}\n{hint}\n{status}"),

@@ -253,7 +253,7 @@ fn failed_devices_are_told(rt: HostRuntime) {
 }
 
 /// What a line of words asks for, or None where it is answered by the usage.
-static COMMANDS: [(&str, Option<Command<'static>>); 20] = [
+static COMMANDS: [(&str, Option<Command<'static>>); 22] = [
     ("replay", RUN),
     (
         "replay --journal",
@@ -288,7 +288,14 @@ static COMMANDS: [(&str, Option<Command<'static>>); 20] = [
     ("replay --help", Some(Command::Help)),
     ("-h", Some(Command::Help)),
     ("--version", Some(Command::Version)),
-    ("serve", None),
+    ("serve", Some(Command::Serve { settings: None })),
+    (
+        "serve a.toml",
+        Some(Command::Serve {
+            settings: Some("a.toml"),
+        }),
+    ),
+    ("serve a.toml b.toml", None),
     ("origin", None),
     ("replay --journal --journal", None),
     ("replay --settings", None),
