@@ -42,7 +42,8 @@ impl Bells {
 
     /// Wakes those who are answered by the entries from this number on.
     pub fn ring<R: Relation>(&self, journal: &Journal<R>, from: usize) {
-        'each: for entry in journal.entries().iter().skip(from) {
+        let entries = journal.entries();
+        'each: for entry in &entries[from.min(entries.len())..] {
             if let Event::Answered { conn, .. } = &entry.event {
                 self.of(*conn).notify_all();
             }
