@@ -16,7 +16,7 @@ use Rattle.link_history.specs.Steps.{copy, CopyFollows}
 use Rattle.link_history.proofs.Ranks.{begun-below}
 use Rattle.link_history.proofs.Still.{Still, eqb-itself, SameHeard, rest-still, heard-at}
 
-still-copy : (l : List Noted) (t : ℕ) (p : Peer) (b : List ℕ) (i : ℕ) → newest l ≤ t → Still l (noted t (Sends p b None) (Copies i) ∷ l)
+pub still-copy : (l : List Noted) (t : ℕ) (p : Peer) (b : List ℕ) (i : ℕ) → newest l ≤ t → Still l (noted t (Sends p b None) (Copies i) ∷ l)
 still-copy l t p b i later = record {
   later = later;
   stands = λ j x e. at-keeps (noted t (Sends p b None) (Copies i)) l j x e;

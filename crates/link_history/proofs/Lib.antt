@@ -10,6 +10,7 @@ pub mod Unbegun
 pub mod Queueing
 pub mod Repeating
 pub mod Silence
+pub mod OtherPeers
 pub mod Remembering
 pub mod Replying
 pub mod Tokens
@@ -18,3 +19,4 @@ pub mod OwnMessages
 pub mod Acknowledgements
 pub mod Saying
 pub mod Passing
+pub mod HeardElsewhere

@@ -37,7 +37,7 @@ filter-push f (y ∷ xs) x e = by (f y) (filter-push f xs x e)
     by true h = rw (h) refl
     by false h = h
 
-filter-on : (f g : ℕ → Bool) (xs : List ℕ) → AllByRecursion (λ (x : ℕ). f x ≡ g x) xs → filter f xs ≡ filter g xs
+pub filter-on : (f g : ℕ → Bool) (xs : List ℕ) → AllByRecursion (λ (x : ℕ). f x ≡ g x) xs → filter f xs ≡ filter g xs
 filter-on f g [] a = refl
 filter-on f g (x ∷ xs) a = rw (a.0, filter-on f g xs a.1) refl
 
@@ -91,10 +91,10 @@ asked t c a q = noted t (Asks c a) (Begins q)
 begun-other : (l : List Noted) (t c : ℕ) (a : Ask) (q : CoapRequest) (o : ℕ) → o < length l → begun (asked t c a q ∷ l) o ≡ begun l o
 begun-other l t c a q o lt = elim (eqb_tells (length l) o) [ inl e ↦ let same = e.1 in absurd (omega (arith, lt, same)) | inr e ↦ rw (e.0) refl ]
 
-begun-here : (l : List Noted) (t c : ℕ) (a : Ask) (q : CoapRequest) → begun (asked t c a q ∷ l) (length l) ≡ Some (record { since = t; request = q })
+pub begun-here : (l : List Noted) (t c : ℕ) (a : Ask) (q : CoapRequest) → begun (asked t c a q ∷ l) (length l) ≡ Some (record { since = t; request = q })
 begun-here l t c a q = rw (eqb-itself (length l)) refl
 
-others-wait : (l : List Noted) (t c : ℕ) (a : Ask) (q : CoapRequest) (p : Peer) (o : ℕ) → o < length l → is_waiting (asked t c a q ∷ l) p o ≡ is_waiting l p o
+pub others-wait : (l : List Noted) (t c : ℕ) (a : Ask) (q : CoapRequest) (p : Peer) (o : ℕ) → o < length l → is_waiting (asked t c a q ∷ l) p o ≡ is_waiting l p o
 others-wait l t c a q p o lt = rw (begun-other l t c a q o lt) refl
 
 it-waits : (l : List Noted) (t c : ℕ) (a : Ask) (q : CoapRequest) (p : Peer) → Legal l → q.peer ≡ p → is_waiting (asked t c a q ∷ l) p (length l) ≡ true

@@ -79,7 +79,7 @@ link-acks (Reset of) m mid token xs = expected-acks of token mid false xs ∙ by
     by false false = refl
 
 -- A test that is the same for all that pass another can be asked once.
-asked-once : (f g : ℕ → Bool) (c : Bool) (xs : List ℕ) → ((i : ℕ) → list_any (eqb i) xs ≡ true → f i ≡ true → g i ≡ c)
+pub asked-once : (f g : ℕ → Bool) (c : Bool) (xs : List ℕ) → ((i : ℕ) → list_any (eqb i) xs ≡ true → f i ≡ true → g i ≡ c)
     → list_any (λ (i : ℕ). not (g i) && f i) xs ≡ (not c && list_any f xs)
 asked-once f g c [] same = by c
   where
@@ -111,7 +111,7 @@ asked-once f g c (x ∷ xs) same = by (f x) refl (asked-once f g c xs (λ i e h.
 
 -- what waits, and what is outstanding
 
-waits-on : (l : List Noted) (t : ℕ) (p : Peer) (d : List ℕ) (m : Content) (to : Option ℕ) (os : List ℕ) (ws : List Waiting) → WaitIn l os ws → WaitIn (says t p d m to ∷ l) os ws
+pub waits-on : (l : List Noted) (t : ℕ) (p : Peer) (d : List ℕ) (m : Content) (to : Option ℕ) (os : List ℕ) (ws : List Waiting) → WaitIn l os ws → WaitIn (says t p d m to ∷ l) os ws
 waits-on l t p d m to [] [] i = i
 waits-on l t p d m to [] (w ∷ ws) i = i
 waits-on l t p d m to (o ∷ os) [] i = i

@@ -1,13 +1,11 @@
 -- Entries that are nothing to a link leave what it keeps.
-use Rattle.std.proofs.Common.{◌≡◌, ℕ, ◌≤◌, List, ◌∷◌, length, refl, ap}
+use Rattle.std.proofs.Common.{ℕ, ◌≤◌, List, ◌∷◌, length, refl, ap}
 use Rattle.uri_map.specs.declared.peer.Peer.{Peer}
 use Rattle.journal_book.specs.Entries.{Deed, Opens, Asks, Sends, Hears, Answers, Shuts, Seals}
-use Rattle.message_layer.specs.Values.{LinkState}
 use Rattle.whole_history.specs.Readings.{Noted, Note, Plain, Confirms, Repeats, Garbled, newest}
 use Rattle.whole_history.specs.Worked.{noted}
 use Rattle.whole_history.specs.Exchanges.{openings}
 use Rattle.whole_history.proofs.Places.{at-keeps, before-keeps}
-use Rattle.link_history.specs.Agrees.{Agrees}
 use Rattle.link_history.specs.Steps.{IsSilent, SilentAgrees}
 use Rattle.link_history.proofs.Ranks.{begun-below}
 use Rattle.link_history.proofs.Still.{Still, SameHeard, heard-at, rest-still}

@@ -2,7 +2,7 @@
 use Rattle.std.specs.Prelude.{◌≡◌, ℕ, ◌<◌, ◌≤◌, Bool, true, false, not, ◌&&◌, ◌==◌, nat_le, List, ◌∷◌, length, filter, Option, Some, None, if◌then◌else◌, ⊤}
 use Rattle.coap_codec.specs.Spelling.{Content, Spells}
 use Rattle.uri_map.specs.declared.peer.Peer.{Peer}
-use Rattle.ask_model.specs.Requests.{CoapRequest, Ask, request_message}
+use Rattle.ask_model.specs.Requests.{CoapRequest, Ask, same_peer, request_message}
 use Rattle.journal_book.specs.Entries.{Deed, Opens, Asks, Sends, Hears, Passes, Answers, Shuts, Seals}
 use Rattle.history_laws.specs.Confirming.{Confirmation}
 use Rattle.history_laws.specs.Numbering.{token_number}
@@ -20,13 +20,13 @@ use Rattle.message_layer.specs.declared.verdict.Verdict.{Verdict}
 use Rattle.whole_history.specs.Readings.{Noted, Note, Plain, Begins, First, Copies, Confirms, Says, Repeats, Garbled, Unobserved, newest, ticked}
 use Rattle.whole_history.specs.Connections.{is_sealed}
 use Rattle.whole_history.specs.Limits.{mid_limit, copy_limit}
-use Rattle.whole_history.specs.Transmissions.{first_at, bears_token, mids_used}
-use Rattle.whole_history.specs.Exchanges.{begun, openings, is_late, expires, waits_for, waiting}
+use Rattle.whole_history.specs.Transmissions.{FirstSending, first_at, bears_token, mids_used}
+use Rattle.whole_history.specs.Exchanges.{begun, openings, is_late, expires, waits_for, is_waiting, waiting}
 use Rattle.whole_history.specs.Hearing.{went_under, repeated, can_be_remembered, answers}
 use Rattle.whole_history.specs.Confirming.{owed}
 use Rattle.whole_history.specs.Justified.{Legal, Follows}
 use Rattle.whole_history.specs.Worked.{noted}
-use Rattle.link_history.specs.Agrees.{due, Agrees}
+use Rattle.link_history.specs.Agrees.{IsWaitingFor, due, Agrees}
 
 -- Before an entry at this moment, the history is legal, and the link agrees with it.
 pub record Before (l : List Noted) (t : ℕ) (p : Peer) (s : LinkState) : Type 0 where
@@ -182,3 +182,32 @@ PassAgrees =
     (l : List Noted) (t : ℕ) (p : Peer) (s : LinkState) (gone : List ℕ → Bool)
     → Before l t p s → EndTokens l t p s gone
     → Agrees (noted t Passes Plain ∷ l) p (passed_link t gone s)
+
+-- What concerns another peer leaves the link: an ask that opens an exchange with that one, a message of its that
+-- waited, a copy of one, and what is heard from it.
+abbrev pub AskElsewhere : Type 0
+AskElsewhere =
+    (l : List Noted) (t : ℕ) (p : Peer) (s : LinkState) (c : ℕ) (a : Ask) (q : CoapRequest)
+    → Before l t p s → same_peer q.peer p ≡ false
+    → Agrees (noted t (Asks c a) (Begins q) ∷ l) p s
+
+abbrev pub FirstElsewhere : Type 0
+FirstElsewhere =
+    (l : List Noted) (t : ℕ) (p r : Peer) (s : LinkState)
+    (bytes : List ℕ) (timeout : Option ℕ) (o : ℕ) (m : Content) (w : Waiting)
+    → Before l t p s → same_peer r p ≡ false
+    → is_waiting l r o ≡ true → IsWaitingFor l o w → m.token ≡ w.token
+    → Agrees (noted t (Sends r bytes timeout) (First o m) ∷ l) p s
+
+abbrev pub CopyElsewhere : Type 0
+CopyElsewhere =
+    (l : List Noted) (t : ℕ) (p r : Peer) (s : LinkState) (bytes : List ℕ) (i : ℕ) (f : FirstSending)
+    → Before l t p s → first_at l i ≡ Some f → same_peer f.peer p ≡ false
+    → Agrees (noted t (Sends r bytes None) (Copies i) ∷ l) p s
+
+abbrev pub SaysElsewhere : Type 0
+SaysElsewhere =
+    (l : List Noted) (t : ℕ) (p r : Peer) (s : LinkState) (d : List ℕ) (m : Content) (to : Option ℕ)
+    → Before l t p s → same_peer r p ≡ false
+    → ((i : ℕ) (f : FirstSending) → to ≡ Some i → first_at l i ≡ Some f → same_peer f.peer p ≡ false)
+    → Agrees (noted t (Hears r d) (Says m to Unobserved) ∷ l) p s

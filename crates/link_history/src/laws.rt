@@ -9,6 +9,10 @@ ghost use Rattle.link_history.specs.Steps.{
   GarbledAgrees,
   SaysAgrees,
   PassAgrees,
+  AskElsewhere,
+  FirstElsewhere,
+  CopyElsewhere,
+  SaysElsewhere,
 };
 
 /// Entries of connections, ACKs, RSTs, and what is heard and is nothing new, are nothing to any link.
@@ -47,4 +51,12 @@ pub fn says_agrees()
 /// A tick gives up what was sent five times, and ends what took too long (RFC 7252 sections 4.2, 4.8.2).
 pub fn pass_agrees()
     ensures { PassAgrees }
+{}
+
+/// What concerns another peer leaves the link.
+pub fn elsewhere_agrees()
+    ensures asks { AskElsewhere }
+    ensures first { FirstElsewhere }
+    ensures copies { CopyElsewhere }
+    ensures says { SaysElsewhere }
 {}

@@ -4,6 +4,6 @@
 mod laws;
 
 pub use laws::{
-    copy_follows, next_follows, pass_agrees, queued_agrees, says_agrees, silent_agrees,
-    unchanged_by,
+    copy_follows, elsewhere_agrees, next_follows, pass_agrees, queued_agrees, says_agrees,
+    silent_agrees, unchanged_by,
 };
