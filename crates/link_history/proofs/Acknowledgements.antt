@@ -25,10 +25,10 @@ use Rattle.whole_history.specs.Hearing.{is_such, went_under, is_under, is_as, op
 use Rattle.whole_history.specs.Justified.{Legal}
 use Rattle.link_history.specs.Agrees.{reply_of, IsOut, TurnIn, Agrees}
 use Rattle.link_history.specs.Steps.{ended_token}
-use Rattle.link_history.proofs.Facts.{and-left}
+use Rattle.whole_history.proofs.Resting.{first as and-left}
 use Rattle.link_history.proofs.Replying.{is_to, ends_by, ends_what}
 use Rattle.link_history.proofs.Tokens.{find-passes}
-use Rattle.link_history.proofs.Still.{eqb-itself}
+use Rattle.whole_history.proofs.Facts.{eqb-itself}
 use Rattle.link_history.proofs.Judging.{is_ended, Judged, any-find, among, one-under, out-under, out-as, out-open, ends-under, quiet, empty-code}
 
 -- the one that is looked for by its ID

@@ -1,5 +1,5 @@
 -- A copy leaves nothing changed but the timer of its message.
-use Rattle.std.proofs.Common.{◌≡◌, ℕ, ◌≤◌, ◌<◌, Bool, true, false, cond, List, ◌∷◌, length, Option, Some, None, refl, sym, subst, ap}
+use Rattle.std.proofs.Common.{◌≡◌, ℕ, ◌≤◌, ◌<◌, Bool, true, false, cond, List, ◌∷◌, Option, Some, None, refl, sym, subst}
 use Rattle.std.specs.Prelude.{is_some, option_and_then}
 use Rattle.uri_map.specs.declared.peer.Peer.{Peer}
 use Rattle.journal_book.specs.Entries.{Sends}
@@ -7,26 +7,16 @@ use Rattle.message_layer.specs.declared.state.Outstanding.{Outstanding}
 use Rattle.message_layer.specs.Sending.{again, due_of, with_copy}
 use Rattle.whole_history.specs.Readings.{Noted, Note, Copies, newest, ticked}
 use Rattle.whole_history.specs.Transmissions.{FirstSending, Transmission, transmission, copied_way, if_outstanding, last_sent}
-use Rattle.whole_history.specs.Exchanges.{openings}
 use Rattle.whole_history.specs.Justified.{MayBeCopy}
 use Rattle.whole_history.specs.Worked.{noted}
-use Rattle.whole_history.proofs.Places.{at-keeps, before-keeps}
+use Rattle.whole_history.proofs.Places.{at-keeps}
 use Rattle.link_history.specs.Agrees.{way_of, IsOut, TurnIn}
 use Rattle.link_history.specs.Steps.{copy, CopyFollows}
-use Rattle.link_history.proofs.Ranks.{begun-below}
-use Rattle.link_history.proofs.Still.{Still, eqb-itself, SameHeard, rest-still, heard-at}
+use Rattle.whole_history.proofs.Facts.{eqb-itself}
+use Rattle.link_history.proofs.Still.{Still, still-by, SameHeard, rest-still, heard-at}
 
 pub still-copy : (l : List Noted) (t : ℕ) (p : Peer) (b : List ℕ) (i : ℕ) → newest l ≤ t → Still l (noted t (Sends p b None) (Copies i) ∷ l)
-still-copy l t p b i later = record {
-  later = later;
-  stands = λ j x e. at-keeps (noted t (Sends p b None) (Copies i)) l j x e;
-  firsts_are = refl;
-  openings_are = refl;
-  ranks_are = λ o e. ap (λ (v : List Noted). length (openings v)) (before-keeps (noted t (Sends p b None) (Copies i)) l o (begun-below l o _ e));
-  begun_are = λ o. refl;
-  waits_are = λ o. refl;
-  ends_are = λ o. refl;
-}
+still-copy l t p b i later = still-by (noted t (Sends p b None) (Copies i)) l later refl refl (λ o. refl) (λ o. refl) (λ o. refl)
 
 -- the timer of the copied message
 way-copied : (l : List Noted) (t : ℕ) (p : Peer) (b : List ℕ) (i : ℕ) (x : Transmission) → transmission l i ≡ Some x

@@ -10,6 +10,7 @@ use Rattle.uri_map.specs.declared.peer.Peer.{Peer}
 use Rattle.ask_model.specs.Requests.{CoapRequest}
 use Rattle.journal_book.specs.Entries.{Deed, Sends, Hears, Passes}
 use Rattle.whole_history.specs.Readings.{Noted, Note, First, Says}
+use Rattle.whole_history.proofs.Resting.{first as and-left, second as and-right}
 use Rattle.whole_history.specs.Progress.{Ending, Reply, progress, ended_by, replied}
 use Rattle.whole_history.specs.Exchanges.{opened_by, opens_by, openings, Turn, Nothing, Sent, Replied, Rejected, Expired, answered_by, heard_turn, expires, turn_by, turn, waits_by, waits_for, replies_by, replies, End, end_here, end_by, end_of, is_going, is_waiting, waiting, submitted, is_first_waiting, goes_to, begun}
 
@@ -157,14 +158,6 @@ unreplied (x ∷ older) o e =
     none-replied (length older) (replies older o) (turn older o x) (unreplied older o both.1) both.0
 
 -- who waits
-
-pub and-left : (a b : Bool) → (a && b) ≡ true → a ≡ true
-and-left true b e = refl
-and-left false b e = absurd (false≢true e)
-
-pub and-right : (a b : Bool) → (a && b) ≡ true → b ≡ true
-and-right true b e = e
-and-right false b e = absurd (false≢true e)
 
 and-both : {a b : Bool} → a ≡ true → b ≡ true → (a && b) ≡ true
 and-both d e = rw (d, e) refl

@@ -14,7 +14,7 @@ use Rattle.whole_history.specs.Hearing.{is_such, is_live, went_under, went_as}
 use Rattle.whole_history.proofs.Places.{at-keeps}
 use Rattle.link_history.specs.Agrees.{WaitIn}
 use Rattle.link_history.specs.Steps.{SaysElsewhere}
-use Rattle.link_history.proofs.Facts.{and-left}
+use Rattle.whole_history.proofs.Resting.{first as and-left}
 use Rattle.link_history.proofs.Still.{filter-same, heard-at, heard-still}
 use Rattle.link_history.proofs.Replying.{says, is_to, ends_by, ends_what, way-after, waits-after, waiting-after, awaited-after}
 use Rattle.link_history.proofs.Judging.{token-found}

@@ -21,7 +21,7 @@ use Rattle.whole_history.specs.Hearing.{is_such, went_under, went_as, open_at}
 use Rattle.whole_history.specs.Justified.{Legal}
 use Rattle.link_history.specs.Agrees.{reply_of, IsOut}
 use Rattle.link_history.specs.Steps.{ended_token}
-use Rattle.link_history.proofs.Facts.{and-left, and-right}
+use Rattle.whole_history.proofs.Resting.{first as and-left, second as and-right}
 use Rattle.link_history.proofs.Copying.{is-last}
 use Rattle.link_history.proofs.Replying.{is_to, ends_by, ends_what}
 use Rattle.link_history.proofs.Tokens.{find-passes, one-token, found-first}

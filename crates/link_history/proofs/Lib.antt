@@ -8,8 +8,8 @@ pub mod Sent
 pub mod Nexts
 pub mod Unbegun
 pub mod Queueing
-pub mod Repeating
 pub mod Silence
+pub mod Repeating
 pub mod OtherPeers
 pub mod Remembering
 pub mod Replying

@@ -20,13 +20,14 @@ use Rattle.whole_history.specs.Readings.{Noted, First, newest}
 use Rattle.whole_history.specs.Transmissions.{FirstSending, firsts, first_at, last_sent, if_outstanding, is_recent, mids_used, transmission}
 use Rattle.whole_history.specs.Exchanges.{openings, waits_for, awaited, is_waiting, waiting}
 use Rattle.whole_history.specs.Hearing.{went_under, went_as}
-use Rattle.whole_history.proofs.Places.{at-new, before-keeps}
+use Rattle.whole_history.proofs.Places.{at-new}
 use Rattle.link_history.specs.Agrees.{rank, way_of, IsOut, firsts_to, CountUp, IsWaitingFor, WaitIn, awaits, awaits_ack}
 use Rattle.link_history.specs.Steps.{NextFollows}
 use Rattle.link_history.proofs.Facts.{Rising, rising-filter, openings-rising, waits-below, waiting-unsent}
 use Rattle.link_history.proofs.Mids.{count-cons}
-use Rattle.link_history.proofs.Ranks.{begun-below, rank-apart}
-use Rattle.link_history.proofs.Still.{eqb-itself, heard-still}
+use Rattle.link_history.proofs.Ranks.{rank-keeps, rank-apart}
+use Rattle.whole_history.proofs.Facts.{eqb-itself}
+use Rattle.link_history.proofs.Still.{waits-one, heard-still}
 use Rattle.link_history.proofs.Copying.{is-outstanding, unheard-sent}
 use Rattle.link_history.proofs.Sending.{head, head-waits, has-next, next-small, message-of, may-be-first}
 use Rattle.link_history.proofs.Sent.{sent, taken-away, waiting-sent, not-waiting, waits-sent, one-awaited, is-among, count-push, in-use-recent}
@@ -49,17 +50,7 @@ still-waits l t p r b w o v mine m e (q ∷ os) (x ∷ ws) a i =
     let less : rank l o < rank l q = rank-apart l o q _ _ mine.opening i.0.opening a.0 in
     let numbers : token_number m.token < token_number x.token =
     let d = ap token_number e in let f = mine.numbered in let g = i.0.numbered in omega (arith, less, d, f, g) in (
-      record {
-        since = i.0.since;
-        request = i.0.request;
-        opening = i.0.opening;
-        spelled = i.0.spelled;
-        token_size = i.0.token_size;
-        token_apart = rw (other-token m.token x.token numbers) i.0.token_apart;
-        numbered = i.0.numbered ∙ sym (ap (λ (h : List Noted). length (openings h)) (before-keeps (sent t p b w o m) l q (begun-below l q _ i.0.opening)));
-        least = i.0.least;
-        greatest = i.0.greatest;
-      },
+      waits-one l (sent t p b w o m ∷ l) q x (λ k c e. (e, rank-keeps (sent t p b w o m) l k c e)) (λ e. rw (other-token m.token x.token numbers) e) i.0,
       still-waits l t p r b w o v mine m e os ws a.1 i.1,
     )
 

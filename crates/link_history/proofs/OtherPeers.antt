@@ -21,13 +21,15 @@ use Rattle.whole_history.specs.Transmissions.{FirstSending, firsts, first_at, la
 use Rattle.whole_history.specs.Exchanges.{Begun, begun, openings, goes_to, waits_for, is_waiting, waiting}
 use Rattle.whole_history.specs.Hearing.{went_under, went_as}
 use Rattle.whole_history.specs.Justified.{Legal}
-use Rattle.whole_history.proofs.Places.{at-below, at-keeps, before-keeps}
+use Rattle.whole_history.proofs.Places.{at-below, at-keeps}
 use Rattle.link_history.specs.Agrees.{rank, TurnIn, IsWaitingFor, WaitIn, awaits, awaits_ack, Agrees}
 use Rattle.link_history.specs.Steps.{AskElsewhere, FirstElsewhere, CopyElsewhere}
-use Rattle.link_history.proofs.Facts.{all-more, and-left, all-passes, openings-below, waits-below, waiting-unsent}
+use Rattle.whole_history.proofs.Resting.{first as and-left}
+use Rattle.link_history.proofs.Facts.{all-more, all-passes, openings-below, waits-below, waiting-unsent}
 use Rattle.link_history.proofs.Mids.{count-cons}
-use Rattle.link_history.proofs.Ranks.{begun-below, rank-apart}
-use Rattle.link_history.proofs.Still.{eqb-itself, filter-same, heard-at, heard-still, rest-still}
+use Rattle.link_history.proofs.Ranks.{rank-keeps, rank-apart}
+use Rattle.whole_history.proofs.Facts.{eqb-itself}
+use Rattle.link_history.proofs.Still.{waits-one, filter-same, heard-at, heard-still, rest-still}
 use Rattle.link_history.proofs.Copying.{is-last, still-copy, unheard-sent}
 use Rattle.link_history.proofs.Sent.{sent, waits-sent, waiting-sent, not-waiting, one-awaited}
 use Rattle.link_history.proofs.Tokens.{IsThere, all-there, find-all, find-passes, found-first}
@@ -120,17 +122,7 @@ waits-other l t p r b w o m v mine e gone (q ∷ os) (x ∷ ws) a i =
     let never : o ≡ q → ⊥ = λ same. false≢true (sym gone ∙ subst (λ (k : ℕ). is_waiting l p k ≡ true) (sym same) a.0) in
     let apart : token_number m.token ≡ token_number x.token → ⊥ =
     λ same. ranks-differ l o q _ _ mine.opening i.0.opening never (sym mine.numbered ∙ (ap token_number (sym e) ∙ (same ∙ i.0.numbered))) in (
-      record {
-        since = i.0.since;
-        request = i.0.request;
-        opening = i.0.opening;
-        spelled = i.0.spelled;
-        token_size = i.0.token_size;
-        token_apart = rw (token-differs m.token x.token apart) i.0.token_apart;
-        numbered = i.0.numbered ∙ sym (ap (λ (h : List Noted). length (openings h)) (before-keeps (sent t r b w o m) l q (begun-below l q _ i.0.opening)));
-        least = i.0.least;
-        greatest = i.0.greatest;
-      },
+      waits-one l (sent t r b w o m ∷ l) q x (λ k c e. (e, rank-keeps (sent t r b w o m) l k c e)) (λ e. rw (token-differs m.token x.token apart) e) i.0,
       waits-other l t p r b w o m v mine e gone os ws a.1 i.1,
     )
 

@@ -18,13 +18,13 @@ use Rattle.whole_history.specs.Progress.{Reply}
 use Rattle.whole_history.specs.Transmissions.{FirstSending, first_at, last_sent, transmission, if_outstanding}
 use Rattle.whole_history.specs.Exchanges.{begun, is_late, Expired, Nothing, expires, waits_by, waits_for, End, end_here, end_by, end_of, replies, is_going, goes_to, is_waiting, waiting, openings}
 use Rattle.whole_history.specs.Hearing.{went_under, went_as}
-use Rattle.whole_history.proofs.Places.{at-keeps, before-keeps}
+use Rattle.whole_history.proofs.Places.{at-keeps}
 use Rattle.link_history.specs.Agrees.{way_of, TurnIn, IsWaitingFor, WaitIn}
 use Rattle.link_history.specs.Steps.{is_over, EndWaiting, PassAgrees}
-use Rattle.link_history.proofs.Facts.{and-left, and-right}
-use Rattle.link_history.proofs.Ranks.{begun-below}
+use Rattle.whole_history.proofs.Resting.{first as and-left, second as and-right}
+use Rattle.link_history.proofs.Ranks.{rank-keeps}
 use Rattle.link_history.proofs.Copying.{is-last, is-outstanding}
-use Rattle.link_history.proofs.Still.{filter-same, heard-at, heard-still}
+use Rattle.link_history.proofs.Still.{waits-one, filter-same, heard-at, heard-still}
 use Rattle.link_history.proofs.Saying.{none-out}
 
 abbrev ticked_at : ℕ → Noted
@@ -87,17 +87,7 @@ waits-on l t gone (o ∷ os) [] a e = absurd a
 waits-on l t gone (o ∷ os) (w ∷ ws) a e = rw (e.0) (by (gone w.token) (waits-on l t gone os ws a.1 e.1))
   where
     kept : IsWaitingFor (ticked_at t ∷ l) o w
-    kept = record {
-      since = a.0.since;
-      request = a.0.request;
-      opening = a.0.opening;
-      spelled = a.0.spelled;
-      token_size = a.0.token_size;
-      token_apart = a.0.token_apart;
-      numbered = a.0.numbered ∙ sym (ap (λ (h : List Noted). length (openings h)) (before-keeps (ticked_at t) l o (begun-below l o _ a.0.opening)));
-      least = a.0.least;
-      greatest = a.0.greatest;
-    }
+    kept = waits-one l (ticked_at t ∷ l) o w (λ o b e. (e, rank-keeps (ticked_at t) l o b e)) (λ e. e) a.0
 
     by : (b : Bool) → WaitIn (ticked_at t ∷ l) (filter (λ (o : ℕ). not (is_late t (begun l o))) os) (filter (λ (w : Waiting). not (gone w.token)) ws)
         → WaitIn (ticked_at t ∷ l) (cond (not b) (o ∷ filter (λ (o : ℕ). not (is_late t (begun l o))) os) (filter (λ (o : ℕ). not (is_late t (begun l o))) os))

@@ -19,12 +19,14 @@ use Rattle.whole_history.specs.Worked.{noted}
 use Rattle.whole_history.specs.Transmissions.{FirstSending, firsts, if_outstanding, transmission, last_sent}
 use Rattle.whole_history.specs.Exchanges.{begun, openings, waits_for, awaited, is_waiting, waiting}
 use Rattle.whole_history.specs.Justified.{Legal}
-use Rattle.whole_history.proofs.Places.{at-keeps, before-keeps, before-new}
+use Rattle.whole_history.proofs.Places.{at-keeps, before-new}
 use Rattle.link_history.specs.Agrees.{TurnIn, IsWaitingFor, WaitIn}
 use Rattle.link_history.specs.Steps.{QueuedAgrees}
 use Rattle.link_history.proofs.Facts.{openings-below, all-more}
-use Rattle.link_history.proofs.Ranks.{begun-below}
-use Rattle.link_history.proofs.Still.{eqb-itself, heard-at, heard-still}
+use Rattle.whole_history.proofs.Sent.{begun-below}
+use Rattle.link_history.proofs.Ranks.{rank-keeps}
+use Rattle.whole_history.proofs.Facts.{eqb-itself}
+use Rattle.link_history.proofs.Still.{waits-all, heard-at, heard-still}
 use Rattle.link_history.proofs.Unbegun.{unbegun, not-yet}
 
 -- lists with one more
@@ -117,24 +119,8 @@ wait-push n (q ∷ os) [] o w a i = absurd a
 wait-push n (q ∷ os) (v ∷ ws) o w a i = (a.0, wait-push n os ws o w a.1 i)
 
 pub waits-on : (l : List Noted) (t c : ℕ) (a : Ask) (q : CoapRequest) (os : List ℕ) (ws : List Waiting) → WaitIn l os ws → WaitIn (asked t c a q ∷ l) os ws
-waits-on l t c a q [] [] i = i
-waits-on l t c a q [] (w ∷ ws) i = i
-waits-on l t c a q (o ∷ os) [] i = i
-waits-on l t c a q (o ∷ os) (w ∷ ws) i =
-    let below = begun-below l o _ i.0.opening in (
-      record {
-        since = i.0.since;
-        request = i.0.request;
-        opening = begun-other l t c a q o below ∙ i.0.opening;
-        spelled = i.0.spelled;
-        token_size = i.0.token_size;
-        token_apart = i.0.token_apart;
-        numbered = i.0.numbered ∙ sym (ap (λ (h : List Noted). length (openings h)) (before-keeps (asked t c a q) l o below));
-        least = i.0.least;
-        greatest = i.0.greatest;
-      },
-      waits-on l t c a q os ws i.1,
-    )
+waits-on l t c a q os ws i =
+    waits-all l (asked t c a q ∷ l) (λ o b e. (begun-other l t c a q o (begun-below l o b e) ∙ e, rank-keeps (asked t c a q) l o b e)) refl os ws i
 
 pub awaited-same : (l : List Noted) (t c : ℕ) (a : Ask) (q : CoapRequest) → Legal l → awaited (asked t c a q ∷ l) ≡ awaited l
 awaited-same l t c a q legal = none-more (waits_for l) (openings l) (length l) (unbegun l (length l) legal (not-yet l)).0

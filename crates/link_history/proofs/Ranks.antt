@@ -5,6 +5,7 @@ use Rattle.ask_model.specs.Requests.{CoapRequest}
 use Rattle.whole_history.specs.Readings.{Noted, before}
 use Rattle.whole_history.specs.Exchanges.{Begun, begun_by, begun, opens_by, opened_by, openings}
 use Rattle.whole_history.proofs.Places.{before-keeps, before-new}
+use Rattle.whole_history.proofs.Sent.{begun-below}
 use Rattle.link_history.specs.Agrees.{rank}
 
 begun-old : (q : Option CoapRequest) (t : ℕ) (old : Option Begun) (b : Begun) → begun_by q false t old ≡ Some b → old ≡ Some b
@@ -16,16 +17,9 @@ begun-here : (q : Option CoapRequest) (here : Bool) (t : ℕ) (old : Option Begu
 begun-here None here t old b never e = absurd (never e)
 begun-here (Some q) here t old b never e = (q, refl)
 
-pub begun-below : (l : List Noted) (o : ℕ) (b : Begun) → begun l o ≡ Some b → o < length l
-begun-below [] o b e = cc
-begun-below (x ∷ older) o b e =
-    elim (eqb_tells (length older) o) [
-      | inl w ↦ let same = w.1 in omega (arith, same)
-      | inr w ↦
-          let old = begun-old (opens_by x.note) x.written.moment (begun older o) b (subst (λ (v : Bool). begun_by (opens_by x.note) v x.written.moment (begun older o) ≡ Some b) (w.0) e) in
-          let ih = begun-below older o b old in
-          omega (arith, ih)
-    ]
+-- An entry more leaves the ranks.
+pub rank-keeps : (x : Noted) (l : List Noted) (o : ℕ) (b : Begun) → begun l o ≡ Some b → rank (x ∷ l) o ≡ rank l o
+rank-keeps x l o b e = ap (λ (v : List Noted). length (openings v)) (before-keeps x l o (begun-below l o b e))
 
 length-push : (xs : List ℕ) (n : ℕ) → length (xs ++ n ∷ []) ≡ length xs + 1
 length-push [] n = refl
@@ -52,7 +46,7 @@ rank-below (x ∷ older) o b e =
       | inr w ↦
           let old = begun-old (opens_by x.note) x.written.moment (begun older o) b (subst (λ (v : Bool). begun_by (opens_by x.note) v x.written.moment (begun older o) ≡ Some b) (w.0) e) in
           let ih = rank-below older o b old in
-          let same : rank (x ∷ older) o ≡ rank older o = ap (λ (v : List Noted). length (openings v)) (before-keeps x older o (begun-below older o b old)) in
+          let same : rank (x ∷ older) o ≡ rank older o = rank-keeps x older o b old in
           let more = opened-more (length older) (opens_by x.note) (openings older) in
           omega (arith, ih, same, more)
     ]
@@ -65,7 +59,7 @@ rank-apart (x ∷ older) o q b c e f lt =
       | inl w ↦ let same = w.1 in absurd (omega (arith, below, same, lt))
       | inr w ↦ begun-old (opens_by x.note) x.written.moment (begun older o) b (subst (λ (v : Bool). begun_by (opens_by x.note) v x.written.moment (begun older o) ≡ Some b) (w.0) e)
     ] in
-    let same : rank (x ∷ older) o ≡ rank older o = ap (λ (v : List Noted). length (openings v)) (before-keeps x older o (begun-below older o b old)) in
+    let same : rank (x ∷ older) o ≡ rank older o = rank-keeps x older o b old in
     elim (eqb_tells (length older) q) [
       | inl w ↦
           let here : rank (x ∷ older) q ≡ length (openings older) = ap (λ (v : List Noted). length (openings v)) (subst (λ (k : ℕ). before (x ∷ older) k ≡ older) (w.1) (before-new x older)) in
@@ -74,6 +68,6 @@ rank-apart (x ∷ older) o q b c e f lt =
       | inr w ↦
           let last = begun-old (opens_by x.note) x.written.moment (begun older q) c (subst (λ (v : Bool). begun_by (opens_by x.note) v x.written.moment (begun older q) ≡ Some c) (w.0) f) in
           let ih = rank-apart older o q b c old last lt in
-          let also : rank (x ∷ older) q ≡ rank older q = ap (λ (v : List Noted). length (openings v)) (before-keeps x older q (begun-below older q c last)) in
+          let also : rank (x ∷ older) q ≡ rank older q = rank-keeps x older q c last in
           omega (arith, ih, same, also)
     ]

@@ -20,7 +20,7 @@ use Rattle.whole_history.specs.Hearing.{is_such, is_live, heard_before, live_hea
 use Rattle.whole_history.specs.Confirming.{answered}
 use Rattle.whole_history.proofs.Places.{at-new}
 use Rattle.link_history.specs.Agrees.{reply_of, HeardIn}
-use Rattle.link_history.proofs.Facts.{and-left, and-right}
+use Rattle.whole_history.proofs.Resting.{first as and-left, second as and-right}
 use Rattle.link_history.proofs.Sent.{count-push}
 use Rattle.link_history.proofs.Still.{heard-at, answers_in}
 

@@ -1,5 +1,5 @@
 -- Repeats and what is no message.
-use Rattle.std.proofs.Common.{◌≡◌, ℕ, ◌≤◌, ◌+◌, ◌*◌, Bool, true, false, cond, eqb, List, [], ◌∷◌, length, Option, Some, None, refl, sym, ap, ◌∙◌}
+use Rattle.std.proofs.Common.{◌≡◌, ℕ, ◌≤◌, ◌+◌, ◌*◌, Bool, true, false, cond, eqb, List, [], ◌∷◌, Option, Some, None, refl, sym, ap, ◌∙◌}
 use Rattle.std.specs.Prelude.{option_map, ◌/◌}
 use Rattle.std.specs.List.{find}
 use Rattle.coap_codec.specs.declared.message.MsgType.{MsgType}
@@ -14,16 +14,12 @@ use Rattle.message_layer.specs.Hearing.{is_repeat, heard_verdict, verdict_by, re
 use Rattle.message_layer.specs.declared.state.Heard.{Heard}
 use Rattle.message_layer.specs.declared.state.Reply.{Reply}
 use Rattle.whole_history.specs.Readings.{Noted, Note, Plain, Begins, First, Copies, Confirms, Says, Repeats, Garbled, at, newest}
-use Rattle.whole_history.specs.Worked.{noted}
 use Rattle.whole_history.specs.Hearing.{is_such, heard_before}
 use Rattle.whole_history.specs.Confirming.{answered, answered_as, answered_again}
-use Rattle.whole_history.proofs.Places.{at-keeps, before-keeps}
-use Rattle.whole_history.specs.Exchanges.{openings}
 use Rattle.link_history.specs.Agrees.{reply_of, due, HeardIn, Agrees}
 use Rattle.link_history.specs.Steps.{RepeatAgrees, reset, GarbledAgrees}
-use Rattle.link_history.proofs.Ranks.{begun-below}
-use Rattle.link_history.proofs.Still.{Still, heard-at, rest-still, answers_in}
-use Rattle.link_history.proofs.Queueing.{turn-kept}
+use Rattle.link_history.proofs.Silence.{silent-agrees}
+use Rattle.link_history.proofs.Still.{answers_in}
 
 -- what answers a message is an ACK, a RST or nothing
 
@@ -65,32 +61,6 @@ due-given p mid (Some Rst) c = refl
 due-given p mid (Some Con) c = absurd c
 due-given p mid (Some Non) c = absurd c
 
--- entries that change nothing
-
-pub still-heard : (l : List Noted) (t : ℕ) (p : Peer) (b : List ℕ) (m : Content) (j : ℕ) → newest l ≤ t → Still l (noted t (Hears p b) (Repeats m j) ∷ l)
-still-heard l t p b m j later = record {
-  later = later;
-  stands = λ i x e. at-keeps (noted t (Hears p b) (Repeats m j)) l i x e;
-  firsts_are = refl;
-  openings_are = refl;
-  ranks_are = λ o e. ap (λ (v : List Noted). length (openings v)) (before-keeps (noted t (Hears p b) (Repeats m j)) l o (begun-below l o _ e));
-  begun_are = λ o. refl;
-  waits_are = λ o. refl;
-  ends_are = λ o. refl;
-}
-
-still-garbled : (l : List Noted) (t : ℕ) (p : Peer) (b : List ℕ) → newest l ≤ t → Still l (noted t (Hears p b) Garbled ∷ l)
-still-garbled l t p b later = record {
-  later = later;
-  stands = λ i x e. at-keeps (noted t (Hears p b) Garbled) l i x e;
-  firsts_are = refl;
-  openings_are = refl;
-  ranks_are = λ o e. ap (λ (v : List Noted). length (openings v)) (before-keeps (noted t (Hears p b) Garbled) l o (begun-below l o _ e));
-  begun_are = λ o. refl;
-  waits_are = λ o. refl;
-  ends_are = λ o. refl;
-}
-
 -- the answer to a repeat
 
 pub found-reply : (l : List Noted) (t : ℕ) (p : Peer) (mid : ℕ) (heard : List Heard) (v : Option Heard) (w : Option ℕ) → find (is_repeat t mid) heard ≡ v
@@ -119,19 +89,10 @@ again l t p s m j Ack later a e = cc
 again l t p s m j Rst later a e = cc
 
 pub repeat-agrees : RepeatAgrees
-repeat-agrees l t p s d m j b e =
-    let later = b.later in
-    let a = b.agrees in
-    let x = noted t (Hears p d) (Repeats m j) in
-    record {
-      agrees = rest-still l (x ∷ l) p s s (still-heard l t p d m j later) (record {
-        later = later;
-        before = λ u mid. refl;
-        live = λ u. refl;
-        below = λ u mid i f. heard-at x l u p mid i f;
-      }) a (turn-kept l (x ∷ l) p s.outstanding (λ i y f. at-keeps x l i y f) refl (λ i. refl) a.turn) refl refl refl refl refl;
-      owes = sym (again l t p s m j m.kind later a e);
-    }
+repeat-agrees l t p s d m j b e = record {
+  agrees = silent-agrees l t p s (Hears p d) (Repeats m j) b tt;
+  owes = sym (again l t p s m j m.kind b.later b.agrees e);
+}
 
 reset-same : (p : Peer) (d : List ℕ) → rejects_bytes p d ≡ reset p (reset_for d)
 reset-same p [] = refl
@@ -145,16 +106,4 @@ reset-same p (a ∷ b ∷ c ∷ e ∷ rest) = by (eqb (a / 16) 4)
     by false = refl
 
 pub garbled-agrees : GarbledAgrees
-garbled-agrees l t p s d b =
-    let later = b.later in
-    let a = b.agrees in
-    let x = noted t (Hears p d) Garbled in
-    record {
-      agrees = rest-still l (x ∷ l) p s s (still-garbled l t p d later) (record {
-        later = later;
-        before = λ u mid. refl;
-        live = λ u. refl;
-        below = λ u mid i f. heard-at x l u p mid i f;
-      }) a (turn-kept l (x ∷ l) p s.outstanding (λ i y f. at-keeps x l i y f) refl (λ i. refl) a.turn) refl refl refl refl refl;
-      owes = reset-same p d;
-    }
+garbled-agrees l t p s d b = record { agrees = silent-agrees l t p s (Hears p d) Garbled b tt; owes = reset-same p d }

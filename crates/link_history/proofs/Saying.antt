@@ -1,5 +1,5 @@
 -- After a new message, the link agrees, and it answers what the message asks for.
-use Rattle.std.proofs.Common.{◌≡◌, ℕ, ◌≤◌, Bool, true, false, cond, eqb, leb, ltb, List, [], ◌∷◌, length, Option, Some, None, refl, sym, ap, subst, ◌∙◌, arith}
+use Rattle.std.proofs.Common.{◌≡◌, ℕ, ◌≤◌, Bool, true, false, cond, eqb, leb, ltb, List, [], ◌∷◌, Option, Some, None, refl, sym, ap, subst, ◌∙◌, arith}
 use Rattle.std.specs.Prelude.{◌&&◌, ◌||◌, not, is_some, option_and_then, count_by}
 use Rattle.std.specs.List.{find, list_any}
 use Rattle.std.specs.Str.{bytes_eq}
@@ -27,12 +27,13 @@ use Rattle.whole_history.specs.Transmissions.{FirstSending, Transmission, first_
 use Rattle.whole_history.specs.Exchanges.{openings, waits_for, awaited, is_waiting, waiting}
 use Rattle.whole_history.specs.Hearing.{is_such, heard_before, live_heard, repeated, can_be_remembered, went_under, went_as, answers_by, answers}
 use Rattle.whole_history.specs.Justified.{Legal}
-use Rattle.whole_history.proofs.Places.{at-keeps, before-keeps}
+use Rattle.whole_history.proofs.Places.{at-keeps}
 use Rattle.link_history.specs.Agrees.{way_of, due, IsOut, TurnIn, WaitIn, HeardIn, Agrees}
 use Rattle.link_history.specs.Steps.{ended_token, unawaited, heard_link, SaysAgrees}
-use Rattle.link_history.proofs.Facts.{and-left}
-use Rattle.link_history.proofs.Ranks.{begun-below}
-use Rattle.link_history.proofs.Still.{eqb-itself, filter-same, heard-at, heard-still}
+use Rattle.whole_history.proofs.Resting.{first as and-left}
+use Rattle.link_history.proofs.Ranks.{rank-keeps}
+use Rattle.whole_history.proofs.Facts.{eqb-itself}
+use Rattle.link_history.proofs.Still.{waits-all, filter-same, heard-at, heard-still}
 use Rattle.link_history.proofs.Copying.{is-last, is-outstanding}
 use Rattle.link_history.proofs.Repeating.{due-given, confirming-by, found-reply}
 use Rattle.link_history.proofs.Remembering.{remembers, none-before}
@@ -112,23 +113,7 @@ asked-once f g c (x ∷ xs) same = by (f x) refl (asked-once f g c xs (λ i e h.
 -- what waits, and what is outstanding
 
 pub waits-on : (l : List Noted) (t : ℕ) (p : Peer) (d : List ℕ) (m : Content) (to : Option ℕ) (os : List ℕ) (ws : List Waiting) → WaitIn l os ws → WaitIn (says t p d m to ∷ l) os ws
-waits-on l t p d m to [] [] i = i
-waits-on l t p d m to [] (w ∷ ws) i = i
-waits-on l t p d m to (o ∷ os) [] i = i
-waits-on l t p d m to (o ∷ os) (w ∷ ws) i = (
-  record {
-    since = i.0.since;
-    request = i.0.request;
-    opening = i.0.opening;
-    spelled = i.0.spelled;
-    token_size = i.0.token_size;
-    token_apart = i.0.token_apart;
-    numbered = i.0.numbered ∙ sym (ap (λ (h : List Noted). length (openings h)) (before-keeps (says t p d m to) l o (begun-below l o _ i.0.opening)));
-    least = i.0.least;
-    greatest = i.0.greatest;
-  },
-  waits-on l t p d m to os ws i.1,
-)
+waits-on l t p d m to os ws i = waits-all l (says t p d m to ∷ l) (λ o b e. (e, rank-keeps (says t p d m to) l o b e)) refl os ws i
 
 pub none-out : (l n : List Noted) (last : Option FirstSending) → ((i : ℕ) → transmission l i ≡ None → transmission n i ≡ None)
     → option_and_then (if_outstanding l) last ≡ None → option_and_then (if_outstanding n) last ≡ None

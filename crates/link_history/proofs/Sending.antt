@@ -16,7 +16,8 @@ use Rattle.whole_history.specs.Transmissions.{FirstSending, firsts, last_sent, m
 use Rattle.whole_history.specs.Exchanges.{Begun, begun, openings, goes_to, is_waiting, waiting}
 use Rattle.whole_history.specs.Justified.{Legal, MayBeFirst}
 use Rattle.link_history.specs.Agrees.{TurnIn, firsts_to, HasMid, IsWaitingFor, WaitIn, Agrees}
-use Rattle.link_history.proofs.Facts.{all-passes, and-left, waiting-goes, unreplied, first-waiting}
+use Rattle.whole_history.proofs.Resting.{first as and-left}
+use Rattle.link_history.proofs.Facts.{all-passes, waiting-goes, unreplied, first-waiting}
 use Rattle.link_history.proofs.Mids.{mid-apart}
 
 -- the first that waits

@@ -1,97 +1,23 @@
 -- Entries that are nothing to a link leave what it keeps.
-use Rattle.std.proofs.Common.{ℕ, ◌≤◌, List, ◌∷◌, length, refl, ap}
+use Rattle.std.proofs.Common.{ℕ, ◌≤◌, List, ◌∷◌, refl}
 use Rattle.uri_map.specs.declared.peer.Peer.{Peer}
 use Rattle.journal_book.specs.Entries.{Deed, Opens, Asks, Sends, Hears, Answers, Shuts, Seals}
 use Rattle.whole_history.specs.Readings.{Noted, Note, Plain, Confirms, Repeats, Garbled, newest}
 use Rattle.whole_history.specs.Worked.{noted}
-use Rattle.whole_history.specs.Exchanges.{openings}
-use Rattle.whole_history.proofs.Places.{at-keeps, before-keeps}
+use Rattle.whole_history.proofs.Places.{at-keeps}
 use Rattle.link_history.specs.Steps.{IsSilent, SilentAgrees}
-use Rattle.link_history.proofs.Ranks.{begun-below}
-use Rattle.link_history.proofs.Still.{Still, SameHeard, heard-at, rest-still}
+use Rattle.link_history.proofs.Still.{Still, still-by, SameHeard, heard-at, rest-still}
 use Rattle.link_history.proofs.Queueing.{turn-kept}
 
 still : (l : List Noted) (t : ℕ) (d : Deed) (note : Note) → newest l ≤ t → IsSilent d note → Still l (noted t d note ∷ l)
-still l t (Opens c) Plain later i = record {
-  later = later;
-  stands = λ i x e. at-keeps (noted t (Opens c) Plain) l i x e;
-  firsts_are = refl;
-  openings_are = refl;
-  ranks_are = λ o e. ap (λ (v : List Noted). length (openings v)) (before-keeps (noted t (Opens c) Plain) l o (begun-below l o _ e));
-  begun_are = λ o. refl;
-  waits_are = λ o. refl;
-  ends_are = λ o. refl;
-}
-still l t (Asks c a) Plain later i = record {
-  later = later;
-  stands = λ i x e. at-keeps (noted t (Asks c a) Plain) l i x e;
-  firsts_are = refl;
-  openings_are = refl;
-  ranks_are = λ o e. ap (λ (v : List Noted). length (openings v)) (before-keeps (noted t (Asks c a) Plain) l o (begun-below l o _ e));
-  begun_are = λ o. refl;
-  waits_are = λ o. refl;
-  ends_are = λ o. refl;
-}
-still l t (Answers c k g) Plain later i = record {
-  later = later;
-  stands = λ i x e. at-keeps (noted t (Answers c k g) Plain) l i x e;
-  firsts_are = refl;
-  openings_are = refl;
-  ranks_are = λ o e. ap (λ (v : List Noted). length (openings v)) (before-keeps (noted t (Answers c k g) Plain) l o (begun-below l o _ e));
-  begun_are = λ o. refl;
-  waits_are = λ o. refl;
-  ends_are = λ o. refl;
-}
-still l t (Shuts c) Plain later i = record {
-  later = later;
-  stands = λ i x e. at-keeps (noted t (Shuts c) Plain) l i x e;
-  firsts_are = refl;
-  openings_are = refl;
-  ranks_are = λ o e. ap (λ (v : List Noted). length (openings v)) (before-keeps (noted t (Shuts c) Plain) l o (begun-below l o _ e));
-  begun_are = λ o. refl;
-  waits_are = λ o. refl;
-  ends_are = λ o. refl;
-}
-still l t Seals Plain later i = record {
-  later = later;
-  stands = λ i x e. at-keeps (noted t Seals Plain) l i x e;
-  firsts_are = refl;
-  openings_are = refl;
-  ranks_are = λ o e. ap (λ (v : List Noted). length (openings v)) (before-keeps (noted t Seals Plain) l o (begun-below l o _ e));
-  begun_are = λ o. refl;
-  waits_are = λ o. refl;
-  ends_are = λ o. refl;
-}
-still l t (Sends p b w) Confirms later i = record {
-  later = later;
-  stands = λ i x e. at-keeps (noted t (Sends p b w) Confirms) l i x e;
-  firsts_are = refl;
-  openings_are = refl;
-  ranks_are = λ o e. ap (λ (v : List Noted). length (openings v)) (before-keeps (noted t (Sends p b w) Confirms) l o (begun-below l o _ e));
-  begun_are = λ o. refl;
-  waits_are = λ o. refl;
-  ends_are = λ o. refl;
-}
-still l t (Hears p b) (Repeats m j) later i = record {
-  later = later;
-  stands = λ i x e. at-keeps (noted t (Hears p b) (Repeats m j)) l i x e;
-  firsts_are = refl;
-  openings_are = refl;
-  ranks_are = λ o e. ap (λ (v : List Noted). length (openings v)) (before-keeps (noted t (Hears p b) (Repeats m j)) l o (begun-below l o _ e));
-  begun_are = λ o. refl;
-  waits_are = λ o. refl;
-  ends_are = λ o. refl;
-}
-still l t (Hears p b) Garbled later i = record {
-  later = later;
-  stands = λ i x e. at-keeps (noted t (Hears p b) Garbled) l i x e;
-  firsts_are = refl;
-  openings_are = refl;
-  ranks_are = λ o e. ap (λ (v : List Noted). length (openings v)) (before-keeps (noted t (Hears p b) Garbled) l o (begun-below l o _ e));
-  begun_are = λ o. refl;
-  waits_are = λ o. refl;
-  ends_are = λ o. refl;
-}
+still l t (Opens c) Plain later i = still-by (noted t (Opens c) Plain) l later refl refl (λ o. refl) (λ o. refl) (λ o. refl)
+still l t (Asks c a) Plain later i = still-by (noted t (Asks c a) Plain) l later refl refl (λ o. refl) (λ o. refl) (λ o. refl)
+still l t (Answers c k g) Plain later i = still-by (noted t (Answers c k g) Plain) l later refl refl (λ o. refl) (λ o. refl) (λ o. refl)
+still l t (Shuts c) Plain later i = still-by (noted t (Shuts c) Plain) l later refl refl (λ o. refl) (λ o. refl) (λ o. refl)
+still l t Seals Plain later i = still-by (noted t Seals Plain) l later refl refl (λ o. refl) (λ o. refl) (λ o. refl)
+still l t (Sends p b w) Confirms later i = still-by (noted t (Sends p b w) Confirms) l later refl refl (λ o. refl) (λ o. refl) (λ o. refl)
+still l t (Hears p b) (Repeats m j) later i = still-by (noted t (Hears p b) (Repeats m j)) l later refl refl (λ o. refl) (λ o. refl) (λ o. refl)
+still l t (Hears p b) Garbled later i = still-by (noted t (Hears p b) Garbled) l later refl refl (λ o. refl) (λ o. refl) (λ o. refl)
 still l t d note later i = absurd i
 
 unheard : (l : List Noted) (t : ℕ) (d : Deed) (note : Note) (p : Peer) → newest l ≤ t → IsSilent d note → SameHeard l (noted t d note ∷ l) p

@@ -1,20 +1,20 @@
 -- What an entry that leaves a peer alone leaves of what a link keeps.
-use Rattle.std.proofs.Common.{◌≡◌, ℕ, ◌≤◌, ◌<◌, Bool, eqb, inl, inr, length, arith, true, false, ◌&&◌, List, [], ◌∷◌, Option, Some, None, refl, sym, ap, subst, ◌∙◌, cond}
+use Rattle.std.proofs.Common.{◌≡◌, ℕ, ◌≤◌, ◌<◌, Bool, inl, inr, length, arith, true, false, ◌&&◌, List, [], ◌∷◌, Option, Some, None, refl, sym, ap, subst, ◌∙◌, cond}
 use Rattle.std.specs.Prelude.{filter, option_map}
 use Rattle.std.specs.List.{list_any, filter_map}
-use Rattle.std.proofs.lemmas.Bool.Decides.{eqb_tells}
 use Rattle.uri_map.specs.declared.peer.Peer.{Peer}
 use Rattle.message_layer.specs.Values.{LinkState}
 use Rattle.message_layer.specs.declared.state.Waiting.{Waiting}
 use Rattle.message_layer.specs.declared.state.Heard.{Heard}
 use Rattle.message_layer.specs.declared.state.Reply.{Reply}
 use Rattle.whole_history.specs.Readings.{Noted, at, newest}
-use Rattle.whole_history.specs.Transmissions.{firsts, first_at}
+use Rattle.whole_history.specs.Transmissions.{bears_token, firsts, first_at}
 use Rattle.whole_history.specs.Exchanges.{Begun, begun, openings, waits_for, end_of, awaited, is_waiting, waiting}
 use Rattle.whole_history.specs.Hearing.{went_under, went_as, is_like, heard_before, live_heard}
 use Rattle.whole_history.specs.Confirming.{answered_as}
-use Rattle.whole_history.proofs.Places.{at-cases}
-use Rattle.link_history.specs.Agrees.{rank, TurnIn, WaitIn, reply_of, awaits, awaits_ack, HeardIn, Agrees}
+use Rattle.whole_history.proofs.Places.{at-cases, at-keeps}
+use Rattle.link_history.proofs.Ranks.{rank-keeps}
+use Rattle.link_history.specs.Agrees.{IsWaitingFor, rank, TurnIn, WaitIn, reply_of, awaits, awaits_ack, HeardIn, Agrees}
 
 pub filter-same : {X : Type 0} (p q : X → Bool) → ((x : X) → p x ≡ q x) → (xs : List X) → filter p xs ≡ filter q xs
 filter-same p q same [] = refl
@@ -47,24 +47,48 @@ is_waiting-still l n e p o = rw (e.begun_are o, e.waits_are o, e.ends_are o) ref
 pub waiting-still : (l n : List Noted) → Still l n → (p : Peer) → waiting n p ≡ waiting l p
 waiting-still l n e p = rw (e.openings_are) (filter-same (is_waiting n p) (is_waiting l p) (is_waiting-still l n e p) (openings l))
 
-waits-still : (l n : List Noted) → Still l n → (os : List ℕ) (ws : List Waiting) → WaitIn l os ws → WaitIn n os ws
-waits-still l n e [] [] a = a
-waits-still l n e [] (w ∷ ws) a = a
-waits-still l n e (o ∷ os) [] a = a
-waits-still l n e (o ∷ os) (w ∷ ws) a = (
-  record {
-    since = a.0.since;
-    request = a.0.request;
-    opening = e.begun_are o ∙ a.0.opening;
-    spelled = a.0.spelled;
-    token_size = a.0.token_size;
-    token_apart = rw (e.firsts_are) a.0.token_apart;
-    numbered = a.0.numbered ∙ sym (e.ranks_are o a.0.opening);
-    least = a.0.least;
-    greatest = a.0.greatest;
-  },
-  waits-still l n e os ws a.1,
-)
+-- Who waits for a first sending waits for the same one.
+abbrev pub Keeps : List Noted → List Noted → Type 0
+Keeps l n = (o : ℕ) (b : Begun) → begun l o ≡ Some b → (begun n o ≡ Some b) × (rank n o ≡ rank l o)
+
+pub waits-one : (l n : List Noted) (o : ℕ) (w : Waiting) → Keeps l n → (bears_token l w.token ≡ false → bears_token n w.token ≡ false)
+    → IsWaitingFor l o w → IsWaitingFor n o w
+waits-one l n o w keeps apart a =
+    let same = keeps o (record { since = a.since; request = a.request }) a.opening in
+    record {
+      since = a.since;
+      request = a.request;
+      opening = same.0;
+      spelled = a.spelled;
+      token_size = a.token_size;
+      token_apart = apart a.token_apart;
+      numbered = a.numbered ∙ sym same.1;
+      least = a.least;
+      greatest = a.greatest;
+    }
+
+pub waits-all : (l n : List Noted) → Keeps l n → firsts n ≡ firsts l → (os : List ℕ) (ws : List Waiting) → WaitIn l os ws → WaitIn n os ws
+waits-all l n keeps same [] [] a = a
+waits-all l n keeps same [] (w ∷ ws) a = a
+waits-all l n keeps same (o ∷ os) [] a = a
+waits-all l n keeps same (o ∷ os) (w ∷ ws) a = (waits-one l n o w keeps (λ e. rw (same) e) a.0, waits-all l n keeps same os ws a.1)
+
+keeps-still : (l n : List Noted) → Still l n → Keeps l n
+keeps-still l n e o b h = (e.begun_are o ∙ h, e.ranks_are o h)
+
+-- One entry more leaves what it says, where it leaves these.
+pub still-by : (x : Noted) (l : List Noted) → newest l ≤ x.written.moment → firsts (x ∷ l) ≡ firsts l → openings (x ∷ l) ≡ openings l
+    → ((o : ℕ) → begun (x ∷ l) o ≡ begun l o) → ((o : ℕ) → waits_for (x ∷ l) o ≡ waits_for l o) → ((o : ℕ) → end_of (x ∷ l) o ≡ end_of l o) → Still l (x ∷ l)
+still-by x l later firsts_are openings_are begun_are waits_are ends_are = record {
+  later = later;
+  stands = λ i y e. at-keeps x l i y e;
+  firsts_are = firsts_are;
+  openings_are = openings_are;
+  ranks_are = λ o {b} e. rank-keeps x l o b e;
+  begun_are = begun_are;
+  waits_are = waits_are;
+  ends_are = ends_are;
+}
 
 -- It says of what was heard from the peer what the older one says.
 pub record SameHeard (l n : List Noted) (p : Peer) : Type 0 where
@@ -72,9 +96,6 @@ pub record SameHeard (l n : List Noted) (p : Peer) : Type 0 where
   pub before : (t mid : ℕ) → heard_before n t p mid ≡ heard_before l t p mid
   pub live : (t : ℕ) → live_heard n t p ≡ live_heard l t p
   pub below : (t mid j : ℕ) → heard_before l t p mid ≡ Some j → at n j ≡ at l j
-
-pub eqb-itself : (n : ℕ) → eqb n n ≡ true
-eqb-itself n = elim (eqb_tells n n) [ inl w ↦ w.0 | inr w ↦ absurd (w.1 refl) ]
 
 pub list_any-same : {X : Type 0} (p q : X → Bool) → ((x : X) → p x ≡ q x) → (xs : List X) → list_any p xs ≡ list_any q xs
 list_any-same p q same [] = refl
@@ -127,7 +148,7 @@ rest-still l n p s r e h a turn waiting_is last_is given_is awaited_is heard_is 
   last = last_is ∙ (a.last ∙ rw (e.firsts_are) refl);
   count_up = rw (e.firsts_are) a.count_up;
   given = λ t later. rw (given_is, e.firsts_are) (a.given t (let g = e.later in omega (arith, g, later)));
-  waits = rw (waiting_is, waiting-still l n e p) (waits-still l n e (waiting l p) s.waiting a.waits);
+  waits = rw (waiting_is, waiting-still l n e p) (waits-all l n (keeps-still l n e) e.firsts_are (waiting l p) s.waiting a.waits);
   awaits = λ token. rw (awaited_is) (a.awaits token ∙ sym (awaits-still l n e p token));
   acks = λ mid token. rw (awaited_is) (a.acks mid token ∙ sym (acks-still l n e p mid token));
   heard = rw (heard_is) (heard-still l n p s.heard h a.heard);

@@ -6,7 +6,7 @@ use Rattle.journal_book.specs.Entries.{Deed, Sends, Hears, Passes}
 use Rattle.whole_history.specs.Readings.{Noted, Note, First, Says}
 use Rattle.whole_history.specs.Exchanges.{Begun, begun_by, begun, opens_by, Nothing, turn_by, turn, waits_for, end_of}
 use Rattle.whole_history.specs.Justified.{Follows, Legal}
-use Rattle.link_history.proofs.Ranks.{begun-below}
+use Rattle.whole_history.proofs.Sent.{begun-below}
 
 not-begun : (q : Option CoapRequest) (here : Bool) (t : ℕ) (old : Option Begun) → begun_by q here t old ≡ None → old ≡ None
 not-begun None here t old e = e
