@@ -1,9 +1,9 @@
 -- The pieces of a body that is sent, and what the answers to them do.
-use Rattle.std.specs.Prelude.{◌<◌, ◌≤◌, ◌≡◌, ◌≢◌, ◌⊎◌, ℕ, ◌+◌, ◌*◌, ◌/◌, Bool, true, false, not, ◌&&◌, ◌||◌, List, take, drop, Option, Some, None, ◌==◌, nat_le, nat_lt, if◌then◌else◌}
+use Rattle.std.specs.Prelude.{◌<◌, ◌≤◌, ◌≡◌, ◌≢◌, ◌⊎◌, ℕ, ◌+◌, ◌*◌, ◌/◌, Bool, true, false, not, ◌&&◌, ◌||◌, List, length, take, drop, Option, Some, None, ◌==◌, nat_le, nat_lt, if◌then◌else◌}
 use Rattle.coap_codec.specs.Spelling.{Content}
 use Rattle.coap_codec.specs.declared.block.Block.{Block}
 use Rattle.coap_codec.specs.Recognition.{class_of, is_final}
-use Rattle.blockwise.specs.Reading.{block_in, size_of, goes_on}
+use Rattle.blockwise.specs.Reading.{block_in, size_of, goes_on, is_whole_response, IsInOnePiece}
 use Rattle.blockwise.specs.declared.upload.Answered.{Answered}
 use Rattle.blockwise.specs.declared.upload.Answered.TheVariants.{Next, Last, Wrong}
 
@@ -68,8 +68,8 @@ if_final final = if final then Last else Wrong
 abbrev pub answer_to : UploadValue → Content → Answered
 answer_to u m =
     if goes_on (block_in 23 m) || not (is_number_of (block_in 27 m) (next_num u)) then Wrong
-    else (if is_last u then if_final (is_final m && not (goes_on (block_in 27 m)))
-    else (if m.code == 95 then Next else if_final (is_final m && not (class_of m == 2))))
+    else (if is_last u then if_final (is_whole_response m && not (goes_on (block_in 27 m)))
+    else (if m.code == 95 then Next else if_final (is_whole_response m && not (class_of m == 2))))
 
 abbrev pub next_of : UploadValue → Content → UploadValue
 next_of u m = record {
@@ -84,18 +84,19 @@ Names None num = Unit {0}
 Names (Some b) num = b.num ≡ num
 
 -- By the answer the next piece goes: 2.31 (Continue), to a piece before the last (RFC 7959,
--- sections 2.3 and 2.9.1).
+-- sections 2.3 and 2.9.1). No more of the answer follows.
 pub record Continues (u : UploadValue) (m : Content) : Type 0 where
-  pub in_one_piece : goes_on (block_in 23 m) ≡ false
+  pub no_more : goes_on (block_in 23 m) ≡ false
   pub before_last : is_last u ≡ false
   pub code : m.code ≡ 95
   pub number : Names (block_in 27 m) (next_num u)
 
 -- The answer is the whole response: it ends the request, after the last piece, or as an error
--- after any. By more in the answer to the last piece its code isn't the final one (RFC 7959, section
+-- after any, and of its own body it gives all, where a longer one would begin at number 0 and say
+-- that more follows (RFC 7959, section 2.7). By more in the answer to the last piece its code isn't the final one (RFC 7959, section
 -- 2.3); in an error before that it repeats what the piece said.
 pub record Responds (u : UploadValue) (m : Content) : Type 0 where
-  pub in_one_piece : goes_on (block_in 23 m) ≡ false
+  pub in_one_piece : IsInOnePiece (block_in 23 m) (length m.payload)
   pub number : Names (block_in 27 m) (next_num u)
   pub final : is_final m ≡ true
   pub last_or_error : (is_last u ≡ true) ⊎ (class_of m ≢ 2)

@@ -4,12 +4,13 @@ ghost use Rattle.std.specs.Prelude.{◌≡◌, ◌≤◌, ◌<◌, ◌^◌, true
 ghost use Rattle.std.specs.Option.{option_map};
 ghost use Rattle.coap_codec.specs.Spelling.{content};
 ghost use Rattle.coap_codec.specs.Recognition.{is_final, value_of};
-ghost use Rattle.blockwise.specs.Reading.{IsDefined, block_in, goes_on};
+ghost use Rattle.blockwise.specs.Reading.{IsDefined, block_in, goes_on, is_in_one_piece, is_whole_response};
 
+use crate::sizes::size_of;
 use coap_codec::{Block, Message, block_of, is_defined, number};
 
 /// Whether its code ends a request.
-pub fn is_final(m: &Message) -> bool
+fn is_final(m: &Message) -> bool
     ensures { result ≡ is_final (content m.now) }
 {
     let class = m.code / 32;
@@ -61,4 +62,22 @@ pub fn goes_on(block: Option<Block>) -> bool
         Some(block) => block.more,
         None => false,
     }
+}
+
+/// Whether a payload of so many bytes is a whole body: without a Block option, or as its only block.
+fn is_in_one_piece(block: Option<Block>, len: usize) -> bool
+    requires { IfSome block (λ b. b.szx < 7) }
+    ensures { result ≡ is_in_one_piece block len }
+{
+    match block {
+        Some(block) => block.num == 0 && !block.more && len <= size_of(block.szx),
+        None => true,
+    }
+}
+
+/// Whether its code ends a request and its payload is all of the response.
+pub fn is_whole_response(m: &Message) -> bool
+    ensures { result ≡ is_whole_response (content m.now) }
+{
+    is_final(m) && is_in_one_piece(block2_in(m), m.payload.len())
 }

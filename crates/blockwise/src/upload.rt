@@ -4,7 +4,7 @@ ghost use Rattle.std.specs.Prelude.{◌≡◌, ◌≢◌, ◌≤◌, ◌<◌, �
 ghost use Rattle.coap_codec.specs.Spelling.{content};
 ghost use Rattle.blockwise.specs.Uploads.{begun, is_last, next_block, next_payload, is_number_of, next_szx, if_final, answer_to, next_of, Continues, Responds};
 
-use crate::reading::{block1_in, block2_in, goes_on, is_final};
+use crate::reading::{block1_in, block2_in, goes_on, is_whole_response};
 use crate::sizes::size_of;
 use coap_codec::{Block, Message};
 use std::marker::Model;
@@ -168,10 +168,10 @@ impl Upload {
             return Answered::Wrong;
         }
         if self.is_last() {
-            return if_final(is_final(m) && !goes_on(block));
+            return if_final(is_whole_response(m) && !goes_on(block));
         }
         if m.code != CONTINUE {
-            return if_final(is_final(m) && m.code / 32 != 2);
+            return if_final(is_whole_response(m) && m.code / 32 != 2);
         }
         self.taken += size;
         self.szx = next_szx(block, self.szx);

@@ -1,6 +1,6 @@
 //! Bodies that are sent in pieces.
 
-use crate::responses::{CHANGED, CONTINUE, INCOMPLETE, TOO_LARGE, bytes_from, empty};
+use crate::responses::{CHANGED, CONTINUE, INCOMPLETE, TOO_LARGE, bytes_from, empty, response};
 use blockwise::{Answered, LARGEST_SZX, Upload};
 use coap_codec::{CodecFault, block_to, number};
 use std::alloc::Global;
@@ -187,6 +187,31 @@ fn answers_in_pieces(rt: HostRuntime) -> Result<(), Fail> {
         let mut upload = t.upload;
         let answer = empty(alloc, code, &[(number::BLOCK2, more)])?;
         assert!(rt; upload.answered(&answer) == Answered::Wrong, "{code}");
+    }
+    Ok(())
+}
+
+/// A response, to the last piece or an error before it, is the only block of its body.
+#[test]
+fn responses_in_one_piece(rt: HostRuntime) -> Result<(), Fail> {
+    let alloc = rt.alloc();
+    for (value, len, meaning) in [
+        (0x06u8, 3, Answered::Last),
+        (0x00, 16, Answered::Last),
+        (0x00, 17, Answered::Wrong),
+        (0x10, 16, Answered::Wrong),
+        (0x16, 3, Answered::Wrong),
+    ] {
+        let block2 = [value];
+        for (size, code) in [(7, CHANGED), (1025, TOO_LARGE)] {
+            let mut upload = begin(alloc, size)?.upload;
+            let options = [(number::BLOCK2, block2.as_slice())];
+            let answer = response(alloc, code, &options, bytes_from(alloc, 0, len)?)?;
+            assert!(rt;
+                upload.answered(&answer) == meaning,
+                "{value}, {len}, {code}"
+            );
+        }
     }
     Ok(())
 }
