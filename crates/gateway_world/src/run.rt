@@ -1,9 +1,10 @@
 //! A run: all inputs of a proxy, and what they led to.
 
-ghost use Rattle.std.specs.Prelude.{[], IfOk};
+ghost use Rattle.std.specs.Prelude.{◌≡◌, [], IfOk, OnOk};
 ghost use Rattle.history_laws.specs.Justified.{Stands};
 ghost use Rattle.ask_model.specs.Views.{rules_of};
 ghost use Rattle.ask_model.specs.Maps.{Maps};
+ghost use Rattle.gateway_world.specs.Prompt.{IsPrompt};
 ghost use Rattle.gateway_world.specs.Runs.{AsksInRun};
 ghost use Rattle.gateway_world.specs.Shutting.{ShutsInRun};
 ghost use Rattle.gateway_world.specs.Steps.{GivesOut};
@@ -38,11 +39,29 @@ impl<R: Relation> World<R> {
     {
         let mut world = World::new(alloc, settings)?;
         let mut outputs = Vec::new(alloc);
-        'each: for input in inputs {
-            let mut more = world.input(*input)?;
-            outputs.append(&mut more)?;
-        }
+        world.take_all(inputs, &mut outputs)?;
         let journal = world.journal().copy()?;
         Ok(Run { outputs, journal })
+    }
+
+    /// Takes all inputs of a world to which nothing has happened.
+    fn take_all(
+        &mut self,
+        inputs: &[Input<'_>],
+        outputs: &mut Vec<Output>,
+    ) -> Result<(), WorldFault>
+        requires history { self.old.core.entries ≡ [] }
+        requires closed { self.old.inlets ≡ [] }
+        requires prompt { IsPrompt self.old.rows self.old.inlets }
+        requires untold { outputs.old.items ≡ [] }
+        ensures asks { OnOk result (AsksInRun (Maps R.holds R.takes self.old.rules) inputs.now self.new.core.entries) }
+        ensures shuts { OnOk result (ShutsInRun inputs.now self.new.core.entries) }
+        ensures gives { OnOk result (GivesOut [] self.new.core.entries outputs.new.items) }
+    {
+        'each: for input in inputs {
+            let mut more = self.input(*input)?;
+            outputs.append(&mut more)?;
+        }
+        Ok(())
     }
 }

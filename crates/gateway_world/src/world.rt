@@ -48,13 +48,14 @@ impl<R: Relation> World<R> {
         ensures rules { IfOk result (λ w. w.rules ≡ rules_of settings) }
         ensures moment { IfOk result (λ w. w.moment ≡ 0) }
     {
+        let settings = Arc::new(alloc, settings)?;
         let engine = Engine {
             alloc,
             core: Core::new(alloc)?,
             table: Table::new(alloc),
         };
         Ok(World {
-            settings: Arc::new(alloc, settings)?,
+            settings,
             engine,
             moment: 0,
         })
