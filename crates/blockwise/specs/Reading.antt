@@ -33,7 +33,8 @@ abbrev pub offset_in : Option Block → ℕ
 offset_in None = 0
 offset_in (Some b) = b.num * size_of b.szx
 
--- The block is the first and the last, and the payload is no longer than it (RFC 7959, section 2.2).
+-- The block is the first and the last, and the payload is no longer than it (RFC 7959, section
+-- 2.2).
 pub record IsOnlyBlock (b : Block) (len : ℕ) : Type 0 where
   pub first : b.num ≡ 0
   pub last : b.more ≡ false

@@ -92,9 +92,9 @@ pub record Continues (u : UploadValue) (m : Content) : Type 0 where
   pub number : Names (block_in 27 m) (next_num u)
 
 -- The answer is the whole response: it ends the request, after the last piece, or as an error
--- after any, and of its own body it gives all, where a longer one would begin at number 0 and say
--- that more follows (RFC 7959, section 2.7). By more in the answer to the last piece its code isn't the final one (RFC 7959, section
--- 2.3); in an error before that it repeats what the piece said.
+-- after any. Its payload is all of it: a longer response would begin at number 0 and say that more
+-- follows (RFC 7959, section 2.7). By more in the Block1 of the answer to the last piece its code
+-- isn't the final one (section 2.3); in an error before that it repeats what the piece said.
 pub record Responds (u : UploadValue) (m : Content) : Type 0 where
   pub in_one_piece : IsInOnePiece (block_in 23 m) (length m.payload)
   pub number : Names (block_in 27 m) (next_num u)

@@ -7,9 +7,9 @@ use std::alloc::Global;
 
 /// A piece of 16 bytes, built once more where memory was refused.
 fn built(alloc: Global, block2: &[u8], place: usize) -> Result<Message, CodecFault> {
-    match piece(alloc, 1, block2, place, 16) {
+    match piece(alloc, block2, place, 16) {
         Ok(m) => Ok(m),
-        Err(_) => piece(alloc, 1, block2, place, 16),
+        Err(_) => piece(alloc, block2, place, 16),
     }
 }
 

@@ -1,21 +1,38 @@
 //! Bodies that are sent in pieces.
 
+ghost use Rattle.std.specs.Prelude.{◌<◌, ◌^◌, IfSome};
+
 use crate::responses::{CHANGED, CONTINUE, INCOMPLETE, TOO_LARGE, bytes_from, empty, response};
 use blockwise::{Answered, LARGEST_SZX, Upload};
-use coap_codec::{CodecFault, block_to, number};
+use coap_codec::{Block, CodecFault, Message, block_to, decode, number};
 use std::alloc::Global;
-use std::test::Fail;
 
 /// An upload of which the pieces that went are kept.
 #[derive(Drop)]
-pub struct Trial {
+struct Trial {
     body: Vec<u8>,
-    pub upload: Upload,
+    upload: Upload,
     went: Vec<u8>,
 }
 
+/// What an answer bears.
+#[derive(Clone, Copy, Debug)]
+enum Bears {
+    Nothing,
+    /// A Block1 of this value.
+    Block1(u8),
+    /// A Block2 of this value, and so many bytes.
+    Block2(u8, usize),
+}
+
+/// The code of an answer, what it bears, and what it means.
+type Answer = (u8, Bears, Answered);
+
+/// The value of the Block1 that a piece has, its length, and the answer to it.
+type Turn = (Option<u8>, usize, Answer);
+
 /// An upload of so many bytes.
-pub fn begin(alloc: Global, len: usize) -> Result<Trial, CodecFault> {
+fn begin(alloc: Global, len: usize) -> Result<Trial, CodecFault> {
     let body = bytes_from(alloc, 0, len)?;
     let upload = if body.len() <= 65536 {
         Upload::new(&body, LARGEST_SZX)
@@ -29,189 +46,216 @@ pub fn begin(alloc: Global, len: usize) -> Result<Trial, CodecFault> {
     })
 }
 
-/// The next piece goes, with this value of Block1 and so many bytes, and is answered so.
-pub fn goes(
-    alloc: Global,
-    t: &mut Trial,
-    value: Option<&[u8]>,
-    len: usize,
-    code: u8,
-    block1: Option<&[u8]>,
-) -> Result<Option<Answered>, CodecFault> {
+fn message(alloc: Global, code: u8, bears: Bears) -> Result<Message, CodecFault> {
+    match bears {
+        Bears::Nothing => empty(alloc, code, &[]),
+        Bears::Block1(value) => empty(alloc, code, &[(number::BLOCK1, &[value])]),
+        Bears::Block2(value, len) => {
+            let payload = bytes_from(alloc, 0, len)?;
+            response(alloc, code, &[(number::BLOCK2, &[value])], payload)
+        }
+    }
+}
+
+/// The block goes as a Block1 of this value, or there is none.
+fn is_block1(alloc: Global, block: Option<Block>, value: Option<u8>) -> Result<bool, CodecFault>
+    requires num { IfSome block (λ b. b.num < 2 ^ 20) }
+    requires szx { IfSome block (λ b. b.szx < 7) }
+{
+    match (block, value) {
+        (Some(block), Some(value)) => Ok(block_to(alloc, block)?.as_slice() == [value].as_slice()),
+        (None, None) => Ok(true),
+        _ => Ok(false),
+    }
+}
+
+/// The next piece goes so, and the answer means that.
+fn goes(alloc: Global, t: &mut Trial, turn: &Turn) -> Result<bool, CodecFault> {
     if t.body.len() != t.upload.body_len() {
-        return Ok(None);
+        return Ok(false);
     }
     let piece = t.upload.next_piece(&t.body);
-    let said = match piece.block {
-        Some(block) => Some(block_to(alloc, block)?),
-        None => None,
-    };
-    let is_so = match (&said, value) {
-        (Some(said), Some(value)) => said.as_slice() == value,
-        (None, None) => true,
-        _ => false,
-    };
-    if !is_so || piece.payload.len() != len {
-        return Ok(None);
+    if piece.payload.len() != turn.1 || !is_block1(alloc, piece.block, turn.0)? {
+        return Ok(false);
     }
     t.went.extend_from_slice(piece.payload)?;
-    let answer = match block1 {
-        Some(value) => empty(alloc, code, &[(number::BLOCK1, value)])?,
-        None => empty(alloc, code, &[])?,
-    };
-    Ok(Some(t.upload.answered(&answer)))
+    let (code, bears, meaning) = turn.2;
+    Ok(t.upload.answered(&message(alloc, code, bears)?) == meaning)
+}
+
+fn all_go(alloc: Global, t: &mut Trial, turns: &[Turn]) -> Result<bool, CodecFault> {
+    for turn in turns {
+        if !goes(alloc, t, turn)? {
+            return Ok(false);
+        }
+    }
+    Ok(true)
+}
+
+/// An upload of so many bytes has these turns, and the last of its pieces went exactly where those
+/// that went join to its body.
+fn uploads(alloc: Global, len: usize, turns: &[Turn]) -> Result<bool, CodecFault> {
+    let mut t = begin(alloc, len)?;
+    Ok(all_go(alloc, &mut t, turns)? && t.upload.is_last() == (t.went == t.body))
 }
 
 /// A server asks for smaller pieces in its first answer.
+static SMALLER: [Turn; 7] = [
+    (
+        Some(0x0e),
+        1024,
+        (CONTINUE, Bears::Block1(0x0c), Answered::Next),
+    ),
+    (Some(0x4c), 256, (CONTINUE, Bears::Nothing, Answered::Next)),
+    (Some(0x5c), 256, (CONTINUE, Bears::Nothing, Answered::Next)),
+    (Some(0x6c), 256, (CONTINUE, Bears::Nothing, Answered::Next)),
+    (Some(0x7c), 256, (CONTINUE, Bears::Nothing, Answered::Next)),
+    (Some(0x8c), 256, (CONTINUE, Bears::Nothing, Answered::Next)),
+    (Some(0x94), 196, (CHANGED, Bears::Nothing, Answered::Last)),
+];
+
+/// The same, and it loses some: the third piece is answered 4.08.
+static LOST: [Turn; 4] = [
+    (
+        Some(0x0e),
+        1024,
+        (CONTINUE, Bears::Block1(0x0c), Answered::Next),
+    ),
+    (Some(0x4c), 256, (CONTINUE, Bears::Nothing, Answered::Next)),
+    (
+        Some(0x5c),
+        256,
+        (INCOMPLETE, Bears::Nothing, Answered::Wrong),
+    ),
+    (Some(0x5c), 256, (CHANGED, Bears::Nothing, Answered::Wrong)),
+];
+
+/// What fits into one message.
+static ONE: [Turn; 1] = [(None, 1024, (CHANGED, Bears::Nothing, Answered::Last))];
+
+/// A byte more.
+static TWO: [Turn; 2] = [
+    (Some(0x0e), 1024, (CONTINUE, Bears::Nothing, Answered::Next)),
+    (Some(0x16), 1, (CHANGED, Bears::Nothing, Answered::Last)),
+];
+
+/// The series, handed out by a call that says nothing of them: a loop over them is proved in less
+/// time.
+fn series() -> [(usize, &'static [Turn]); 4] {
+    [(2500, &SMALLER), (2500, &LOST), (1024, &ONE), (1025, &TWO)]
+}
+
 #[test]
-fn smaller_blocks_asked(rt: HostRuntime) -> Result<(), Fail> {
-    let alloc = rt.alloc();
+fn pieces_go(rt: HostRuntime) {
+    for (len, turns) in series() {
+        assert!(rt; uploads(rt.alloc(), len, turns) == Ok(true), "{len}");
+    }
+}
+
+/// What the first answer of a series of 2,500 bytes means, by its datagram.
+fn heard_first(alloc: Global, bytes: &[u8]) -> Result<Answered, CodecFault> {
     let mut t = begin(alloc, 2500)?;
-    let first = goes(alloc, &mut t, Some(&[0x0e]), 1024, CONTINUE, Some(&[0x0c]))?;
-    assert!(rt; first == Some(Answered::Next));
-    for value in [0x4c, 0x5c, 0x6c, 0x7c, 0x8c] {
-        let next = goes(alloc, &mut t, Some(&[value]), 256, CONTINUE, None)?;
-        assert!(rt; next == Some(Answered::Next), "at {value}");
-    }
-    assert!(rt; t.upload.is_last());
-    let last = goes(alloc, &mut t, Some(&[0x94]), 196, CHANGED, None)?;
-    assert!(rt; last == Some(Answered::Last));
-    assert!(rt; t.went == t.body);
-    Ok(())
+    Ok(t.upload.answered(&decode(alloc, bytes)?))
 }
 
-/// What fits into one message goes whole; a byte more takes two.
 #[test]
-fn one_message_or_two(rt: HostRuntime) -> Result<(), Fail> {
-    let alloc = rt.alloc();
-    let mut t = begin(alloc, 1024)?;
-    let whole = goes(alloc, &mut t, None, 1024, CHANGED, None)?;
-    assert!(rt; whole == Some(Answered::Last));
-    let mut t = begin(alloc, 1025)?;
-    let first = goes(alloc, &mut t, Some(&[0x0e]), 1024, CONTINUE, None)?;
-    assert!(rt; first == Some(Answered::Next));
-    let last = goes(alloc, &mut t, Some(&[0x16]), 1, CHANGED, None)?;
-    assert!(rt; last == Some(Answered::Last));
-    assert!(rt; t.went == t.body);
-    Ok(())
+fn smaller_pieces_asked_by_a_datagram(rt: HostRuntime) {
+    let bytes = [0x68, 0x5f, 0, 0, 0, 0, 0, 0, 0, 0, 0, 0, 0xd1, 0x0e, 0x0c];
+    assert!(rt; heard_first(rt.alloc(), &bytes) == Ok(Answered::Next));
 }
 
-/// What the first of two pieces, and the last, may be answered.
+/// What the first of two pieces may be answered. An error may repeat what the piece said of more,
+/// and ask for a smaller size.
+static TO_THE_FIRST: [Answer; 15] = [
+    (TOO_LARGE, Bears::Nothing, Answered::Last),
+    (INCOMPLETE, Bears::Nothing, Answered::Wrong),
+    (CHANGED, Bears::Nothing, Answered::Wrong),
+    (CONTINUE, Bears::Block1(0x1e), Answered::Wrong),
+    (TOO_LARGE, Bears::Block1(0x0e), Answered::Last),
+    (TOO_LARGE, Bears::Block1(0x0c), Answered::Last),
+    (TOO_LARGE, Bears::Block1(0x1e), Answered::Wrong),
+    // it comes in one piece, whatever its code
+    (CONTINUE, Bears::Block2(0x0e, 0), Answered::Wrong),
+    (CHANGED, Bears::Block2(0x0e, 0), Answered::Wrong),
+    (TOO_LARGE, Bears::Block2(0x0e, 0), Answered::Wrong),
+    (TOO_LARGE, Bears::Block2(0x06, 3), Answered::Last),
+    (TOO_LARGE, Bears::Block2(0x00, 16), Answered::Last),
+    (TOO_LARGE, Bears::Block2(0x00, 17), Answered::Wrong),
+    (TOO_LARGE, Bears::Block2(0x10, 16), Answered::Wrong),
+    (TOO_LARGE, Bears::Block2(0x16, 3), Answered::Wrong),
+];
+
+fn to_the_first() -> &'static [Answer] {
+    &TO_THE_FIRST
+}
+
+fn is_first(alloc: Global, answer: Answer) -> bool {
+    uploads(alloc, 1025, &[(Some(0x0e), 1024, answer)]) == Ok(true)
+}
+
 #[test]
-fn answers(rt: HostRuntime) -> Result<(), Fail> {
-    let alloc = rt.alloc();
-    let asked_again: &[u8] = &[0x1e];
-    for (code, block1, meaning) in [
-        (TOO_LARGE, None, Answered::Last),
-        (INCOMPLETE, None, Answered::Wrong),
-        (CHANGED, None, Answered::Wrong),
-        (CONTINUE, Some(asked_again), Answered::Wrong),
-    ] {
-        let mut t = begin(alloc, 1025)?;
-        let answer = goes(alloc, &mut t, Some(&[0x0e]), 1024, code, block1)?;
-        assert!(rt; answer == Some(meaning), "{code}");
-        assert!(rt; !t.upload.is_last());
+fn answers_to_the_first(rt: HostRuntime) {
+    for &answer in to_the_first() {
+        assert!(rt; is_first(rt.alloc(), answer), "{answer:?}");
     }
-    for (code, meaning) in [
-        (CONTINUE, Answered::Wrong),
-        (INCOMPLETE, Answered::Wrong),
-        (TOO_LARGE, Answered::Last),
-    ] {
-        let mut t = begin(alloc, 7)?;
-        let answer = goes(alloc, &mut t, None, 7, code, None)?;
-        assert!(rt; answer == Some(meaning), "{code}");
-    }
-    Ok(())
 }
 
 /// The answer to the last piece names that piece or none, in any size, and says no more: else its
 /// code isn't the final one.
-#[test]
-fn answers_to_the_last(rt: HostRuntime) -> Result<(), Fail> {
-    let alloc = rt.alloc();
-    for (code, value, meaning) in [
-        (CHANGED, 0x16u8, Answered::Last),
-        (CHANGED, 0x14, Answered::Last),
-        (TOO_LARGE, 0x14, Answered::Last),
-        (CHANGED, 0x1e, Answered::Wrong),
-        (TOO_LARGE, 0x1e, Answered::Wrong),
-        (CHANGED, 0x06, Answered::Wrong),
-        (CHANGED, 0x26, Answered::Wrong),
-    ] {
-        let mut t = begin(alloc, 1025)?;
-        let first = goes(alloc, &mut t, Some(&[0x0e]), 1024, CONTINUE, None)?;
-        assert!(rt; first == Some(Answered::Next));
-        let block1 = [value];
-        let last = goes(alloc, &mut t, Some(&[0x16]), 1, code, Some(&block1))?;
-        assert!(rt; last == Some(meaning), "{code}, {value}");
-    }
-    Ok(())
+static TO_THE_LAST: [Answer; 7] = [
+    (CHANGED, Bears::Block1(0x16), Answered::Last),
+    (CHANGED, Bears::Block1(0x14), Answered::Last),
+    (TOO_LARGE, Bears::Block1(0x14), Answered::Last),
+    (CHANGED, Bears::Block1(0x1e), Answered::Wrong),
+    (TOO_LARGE, Bears::Block1(0x1e), Answered::Wrong),
+    (CHANGED, Bears::Block1(0x06), Answered::Wrong),
+    (CHANGED, Bears::Block1(0x26), Answered::Wrong),
+];
+
+fn to_the_last() -> &'static [Answer] {
+    &TO_THE_LAST
 }
 
-/// A body that went whole has the number 0; an error before the last piece may repeat what the piece
-/// said of more, and ask for a smaller size.
-#[test]
-fn answers_to_the_first(rt: HostRuntime) -> Result<(), Fail> {
-    let alloc = rt.alloc();
-    for (value, meaning) in [
-        (0x06u8, Answered::Last),
-        (0x02, Answered::Last),
-        (0x0e, Answered::Wrong),
-        (0x16, Answered::Wrong),
-    ] {
-        let mut t = begin(alloc, 7)?;
-        let block1 = [value];
-        let answer = goes(alloc, &mut t, None, 7, CHANGED, Some(&block1))?;
-        assert!(rt; answer == Some(meaning), "{value}");
-    }
-    for (value, meaning) in [
-        (0x0eu8, Answered::Last),
-        (0x0c, Answered::Last),
-        (0x1e, Answered::Wrong),
-    ] {
-        let mut t = begin(alloc, 1025)?;
-        let block1 = [value];
-        let answer = goes(alloc, &mut t, Some(&[0x0e]), 1024, TOO_LARGE, Some(&block1))?;
-        assert!(rt; answer == Some(meaning), "{value}");
-    }
-    Ok(())
+fn is_last(alloc: Global, answer: Answer) -> bool {
+    let first = (CONTINUE, Bears::Nothing, Answered::Next);
+    let turns = [(Some(0x0e), 1024, first), (Some(0x16), 1, answer)];
+    uploads(alloc, 1025, &turns) == Ok(true)
 }
 
-/// An answer to a piece comes in one piece, whatever its code.
 #[test]
-fn answers_in_pieces(rt: HostRuntime) -> Result<(), Fail> {
-    let alloc = rt.alloc();
-    let more: &[u8] = &[0x0e];
-    for code in [CONTINUE, CHANGED, TOO_LARGE] {
-        let t = begin(alloc, 1025)?;
-        let mut upload = t.upload;
-        let answer = empty(alloc, code, &[(number::BLOCK2, more)])?;
-        assert!(rt; upload.answered(&answer) == Answered::Wrong, "{code}");
+fn answers_to_the_last(rt: HostRuntime) {
+    for &answer in to_the_last() {
+        assert!(rt; is_last(rt.alloc(), answer), "{answer:?}");
     }
-    Ok(())
 }
 
-/// A response, to the last piece or an error before it, is the only block of its body.
+/// What a body that went whole may be answered, in one piece. It has the number 0.
+static TO_THE_WHOLE: [Answer; 12] = [
+    (CONTINUE, Bears::Nothing, Answered::Wrong),
+    (INCOMPLETE, Bears::Nothing, Answered::Wrong),
+    (TOO_LARGE, Bears::Nothing, Answered::Last),
+    (CHANGED, Bears::Block1(0x06), Answered::Last),
+    (CHANGED, Bears::Block1(0x02), Answered::Last),
+    (CHANGED, Bears::Block1(0x0e), Answered::Wrong),
+    (CHANGED, Bears::Block1(0x16), Answered::Wrong),
+    (CHANGED, Bears::Block2(0x06, 3), Answered::Last),
+    (CHANGED, Bears::Block2(0x00, 16), Answered::Last),
+    (CHANGED, Bears::Block2(0x00, 17), Answered::Wrong),
+    (CHANGED, Bears::Block2(0x10, 16), Answered::Wrong),
+    (CHANGED, Bears::Block2(0x16, 3), Answered::Wrong),
+];
+
+fn to_the_whole() -> &'static [Answer] {
+    &TO_THE_WHOLE
+}
+
+fn is_only(alloc: Global, answer: Answer) -> bool {
+    uploads(alloc, 7, &[(None, 7, answer)]) == Ok(true)
+}
+
 #[test]
-fn responses_in_one_piece(rt: HostRuntime) -> Result<(), Fail> {
-    let alloc = rt.alloc();
-    for (value, len, meaning) in [
-        (0x06u8, 3, Answered::Last),
-        (0x00, 16, Answered::Last),
-        (0x00, 17, Answered::Wrong),
-        (0x10, 16, Answered::Wrong),
-        (0x16, 3, Answered::Wrong),
-    ] {
-        let block2 = [value];
-        for (size, code) in [(7, CHANGED), (1025, TOO_LARGE)] {
-            let mut upload = begin(alloc, size)?.upload;
-            let options = [(number::BLOCK2, block2.as_slice())];
-            let answer = response(alloc, code, &options, bytes_from(alloc, 0, len)?)?;
-            assert!(rt;
-                upload.answered(&answer) == meaning,
-                "{value}, {len}, {code}"
-            );
-        }
+fn answers_to_the_whole(rt: HostRuntime) {
+    for &answer in to_the_whole() {
+        assert!(rt; is_only(rt.alloc(), answer), "{answer:?}");
     }
-    Ok(())
 }
