@@ -1,5 +1,8 @@
 //! Banks of closures.
 
+ghost use Rattle.transformers.specs.Keeps.{AllKeep};
+ghost use Rattle.trials_formats.specs.Formats.{FormatsHold, FormatsTake};
+
 use media_map::Form;
 use std::alloc::Global;
 use transformers::{
@@ -24,6 +27,63 @@ const OCTETS: Form = Form::Format(42);
 
 const TEXT: Form = Form::Format(0);
 
+/// The output of the bank, which has the pair and takes the input.
+fn made(bank: &Bank<Formats>, from: &Form, to: &Form, input: &[u8]) -> Option<Vec<u8>>
+    requires keeps { AllKeep FormatsHold FormatsTake bank.now.stored.items }
+{
+    bank.apply(from, to, input).ok()?
+}
+
+fn makes(bank: &Bank<Formats>, from: &Form, to: &Form, input: &[u8], wanted: &[u8]) -> bool
+    requires keeps { AllKeep FormatsHold FormatsTake bank.now.stored.items }
+{
+    match made(bank, from, to, input) {
+        Some(output) => output.as_slice() == wanted,
+        None => false,
+    }
+}
+
+/// The length of the output, where one is made.
+fn made_length(bank: &Bank<Formats>, from: &Form, to: &Form, input: &[u8]) -> Option<usize>
+    requires keeps { AllKeep FormatsHold FormatsTake bank.now.stored.items }
+{
+    let output = made(bank, from, to, input)?;
+    Some(output.len())
+}
+
+fn fault_of(bank: &Bank<Formats>, from: &Form, to: &Form, input: &[u8]) -> Option<ApplyFault>
+    requires keeps { AllKeep FormatsHold FormatsTake bank.now.stored.items }
+{
+    bank.apply(from, to, input).err()
+}
+
+/// The bank has no such pair, which is no fault.
+fn has_none(bank: &Bank<Formats>, from: &Form, to: &Form, input: &[u8]) -> bool
+    requires keeps { AllKeep FormatsHold FormatsTake bank.now.stored.items }
+{
+    matches!(bank.apply(from, to, input), Ok(None))
+}
+
+fn count_of_routes(bank: &Bank<Formats>) -> Option<usize> {
+    let routes = bank.routes().ok()?;
+    Some(routes.as_slice().len())
+}
+
+/// A map with one pair, from CBOR to JSON and back.
+fn converts(bank: &Bank<Formats>) -> bool
+    requires keeps { AllKeep FormatsHold FormatsTake bank.now.stored.items }
+{
+    let item = [0xa1, 0x61, 0x61, 0x01];
+    makes(bank, &CBOR, &JSON, &item, b"{\"a\":1}") && makes(bank, &JSON, &CBOR, b"{\"a\":1}", &item)
+}
+
+/// A number that isn't whole is refused.
+fn refuses_half(bank: &Bank<Formats>) -> bool
+    requires keeps { AllKeep FormatsHold FormatsTake bank.now.stored.items }
+{
+    fault_of(bank, &CBOR, &JSON, &[0xf9, 0x3c, 0x00]) == Some(ApplyFault::Refused)
+}
+
 #[test]
 fn several_kinds(rt: HostRuntime) {
     let alloc: Global = rt.alloc();
@@ -34,20 +94,21 @@ fn several_kinds(rt: HostRuntime) {
     store(&mut all, Stored::new(JSON, CBOR, to_cbor)).expect(&rt, "memory");
     let bank = Bank::new(all);
 
-    let routes = bank.routes().expect(&rt, "memory");
-    assert_eq!(rt; routes.as_slice().len(), 2);
-    let made = bank.apply(&CBOR, &JSON, &[0xa1, 0x61, 0x61, 0x01]);
-    let json = made.expect(&rt, "an output").expect(&rt, "a pair");
-    assert_eq!(rt; json.as_slice(), b"{\"a\":1}".as_slice());
-    let made = bank.apply(&JSON, &CBOR, &json);
-    let item = made.expect(&rt, "an output").expect(&rt, "a pair");
-    assert_eq!(rt; item.as_slice(), [0xa1, 0x61, 0x61, 0x01].as_slice());
-    assert_eq!(rt;
-        bank.apply(&CBOR, &JSON, &[0xf9, 0x3c, 0x00]).err(),
-        Some(ApplyFault::Refused)
-    );
-    let made = bank.apply(&JSON, &TEXT, b"1");
-    assert!(rt; made.expect(&rt, "no fault").is_none());
+    assert!(rt; count_of_routes(&bank) == Some(2));
+    assert!(rt; converts(&bank));
+    assert!(rt; refuses_half(&bank));
+    assert!(rt; has_none(&bank, &JSON, &TEXT, b"1"));
+}
+
+/// So many octets are the most that make an output, of this length.
+fn is_most(alloc: Global, bank: &Bank<Formats>, count: usize, length: usize) -> Option<bool>
+    requires keeps { AllKeep FormatsHold FormatsTake bank.now.stored.items }
+{
+    let octets = vec![in alloc; 7; count].ok()?;
+    let more = vec![in alloc; 7; count.checked_add(1)?].ok()?;
+    let made = made_length(bank, &OCTETS, &TEXT, &octets);
+    let fault = fault_of(bank, &OCTETS, &TEXT, &more);
+    Some(made == Some(length) && fault == Some(ApplyFault::TooLarge))
 }
 
 #[test]
@@ -60,20 +121,8 @@ fn largest(rt: HostRuntime) {
     store(&mut all, Stored::new(CBOR, JSON, no_memory)).expect(&rt, "memory");
     let bank = Bank::new(all);
 
-    let mut octets = Vec::new(alloc);
-    octets.resize(32_768, 7).expect(&rt, "memory");
-    let made = bank.apply(&OCTETS, &TEXT, &octets);
-    let most = made.expect(&rt, "an output").expect(&rt, "a pair");
-    assert_eq!(rt; most.len(), 65_536);
-    octets.push(7).expect(&rt, "memory");
-    assert_eq!(rt;
-        bank.apply(&OCTETS, &TEXT, &octets).err(),
-        Some(ApplyFault::TooLarge)
-    );
-    assert_eq!(rt;
-        bank.apply(&CBOR, &JSON, &[0x01]).err(),
-        Some(ApplyFault::Memory)
-    );
+    assert!(rt; is_most(alloc, &bank, 32_768, 65_536) == Some(true));
+    assert!(rt; fault_of(&bank, &CBOR, &JSON, &[0x01]) == Some(ApplyFault::Memory));
 }
 
 fn fault_is(alloc: Global, fault: ApplyFault, words: &str) -> bool {

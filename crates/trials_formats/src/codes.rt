@@ -1,7 +1,7 @@
 //! Methods, and the statuses of response codes (RFC 8075, table 2).
 
 use code_map::{Method, Status, is_passed_on, method_of, phrase_of, status_of};
-use std::alloc::{AllocError, Global};
+use std::alloc::Global;
 
 /// A method's name, the method, its code, and whether it writes.
 static METHODS: [(&[u8], Method, u8, bool); 5] = [
@@ -24,8 +24,15 @@ fn is_method(name: &[u8], method: Method, code: u8, writes: bool) -> bool {
         && method.is_write() == writes
 }
 
-fn method_text(alloc: Global, method: Method) -> Result<String, AllocError> {
-    format!(in alloc; "{method}")
+fn is_no_method(name: &[u8]) -> bool {
+    method_of(name).is_none()
+}
+
+fn method_is(alloc: Global, method: Method, words: &str) -> bool {
+    match format!(in alloc; "{method}") {
+        Ok(text) => text.as_str() == words,
+        Err(_) => false,
+    }
 }
 
 #[test]
@@ -33,10 +40,8 @@ fn methods_by_name(rt: HostRuntime) {
     for &(name, method, code, writes) in methods() {
         assert!(rt; is_method(name, method, code, writes), "{method:?}");
     }
-    assert!(rt; method_of(b"Get").is_none());
-    assert!(rt; method_of(b"PATCH").is_none());
-    let method = method_text(rt.alloc(), Method::Delete).expect(&rt, "memory");
-    assert_eq!(rt; method.as_bytes(), b"DELETE".as_slice());
+    assert!(rt; is_no_method(b"Get") && is_no_method(b"PATCH"));
+    assert!(rt; method_is(rt.alloc(), Method::Delete, "DELETE"));
 }
 
 /// The code of c.dd, the status of a response without a payload, and its phrase.
@@ -84,8 +89,21 @@ fn with_payload(code: u8) -> u16 {
     status_of(code, true).number()
 }
 
-fn status_text(alloc: Global, status: Status) -> Result<String, AllocError> {
-    format!(in alloc; "{status}")
+/// 2.02 and 2.04 with a payload.
+fn payloads_are_told() -> bool {
+    with_payload(66) == 200 && with_payload(68) == 200
+}
+
+/// The code isn't passed on: 2.31 is no final answer, and 7.00 no response.
+fn is_kept(code: u8) -> bool {
+    with_payload(code) == 502 && !is_passed_on(code)
+}
+
+fn status_is(alloc: Global, status: Status, words: &str) -> bool {
+    match format!(in alloc; "{status}") {
+        Ok(text) => text.as_str() == words,
+        Err(_) => false,
+    }
 }
 
 #[test]
@@ -93,10 +111,7 @@ fn statuses_by_code(rt: HostRuntime) {
     for &(class, detail, number, phrase) in statuses() {
         assert!(rt; is_told(class, detail, number, phrase), "{class}.{detail}");
     }
-    // 2.02 and 2.04 with a payload; 2.31 is no final answer, and 7.00 no response.
-    assert!(rt; with_payload(66) == 200 && with_payload(68) == 200);
-    assert!(rt; with_payload(95) == 502 && with_payload(224) == 502);
-    assert!(rt; !is_passed_on(95) && !is_passed_on(224));
-    let status = status_text(rt.alloc(), Status::UriTooLong).expect(&rt, "memory");
-    assert_eq!(rt; status.as_bytes(), b"414 URI Too Long".as_slice());
+    assert!(rt; payloads_are_told());
+    assert!(rt; is_kept(95) && is_kept(224));
+    assert!(rt; status_is(rt.alloc(), Status::UriTooLong, "414 URI Too Long"));
 }

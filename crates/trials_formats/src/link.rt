@@ -271,6 +271,11 @@ fn tells_separate(link: &mut Link) -> bool {
         && sends_next(link, &[0x60, 0, 0x12, 0x34])
 }
 
+/// The second message is reset.
+fn is_reset(link: &mut Link) -> bool {
+    hear(link, &[0x70, 0, 0, 1], 400) == Some(Said::Reset)
+}
+
 #[test]
 fn separate(rt: HostRuntime) {
     let alloc = rt.alloc();
@@ -278,10 +283,10 @@ fn separate(rt: HostRuntime) {
     assert!(rt; sends_second(&mut link, alloc));
     assert!(rt; tells_separate(&mut link));
     let mut copy = link.copy().expect(&rt, "memory");
-    assert!(rt; hear(&mut link, &[0x70, 0, 0, 1], 400) == Some(Said::Reset));
+    assert!(rt; is_reset(&mut link));
     assert!(rt; link.next_due().is_none());
     assert!(rt; copy.next_due() == Some(2100));
-    assert!(rt; hear(&mut copy, &[0x70, 0, 0, 1], 400) == Some(Said::Reset));
+    assert!(rt; is_reset(&mut copy));
 }
 
 #[test]

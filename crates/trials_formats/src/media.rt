@@ -195,13 +195,23 @@ fn form(alloc: Global, name: &str) -> Result<Form, AllocError> {
     Ok(Form::Media(Media::from_str(alloc, name)?))
 }
 
+/// A route from a format to a media type.
+fn push_from(
+    alloc: Global,
+    routes: &mut Routes,
+    format: u16,
+    name: &str,
+) -> Result<(), AllocError> {
+    routes.push(Form::Format(format), form(alloc, name)?)
+}
+
 /// From CBOR to JSON and back, and from bytes to a text whose charset is written.
 fn demonstration_routes(alloc: Global) -> Result<Routes, AllocError> {
     let mut routes = Routes::new(alloc);
-    routes.push(Form::Format(60), form(alloc, "application/json")?)?;
-    routes.push(Form::Format(41), form(alloc, "application/json")?)?;
+    push_from(alloc, &mut routes, 60, "application/json")?;
+    push_from(alloc, &mut routes, 41, "application/json")?;
     routes.push(form(alloc, "application/json")?, Form::Format(60))?;
-    routes.push(Form::Format(42), form(alloc, "text/csv; charset=utf-8")?)?;
+    push_from(alloc, &mut routes, 42, "text/csv; charset=utf-8")?;
     Ok(routes)
 }
 

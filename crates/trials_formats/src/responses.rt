@@ -32,19 +32,33 @@ fn judged_code(alloc: Global, code: u8) -> Option<Fitness> {
     Some(judge(&m))
 }
 
+/// An option of a response, and what the response is good for.
+static OPTIONS: [(u16, &[u8], Fitness); 7] = [
+    (23, &[6], Fitness::Fits),
+    (23, &[7], Fitness::Rejected),
+    (27, &[0, 0, 0, 0], Fitness::Rejected),
+    // defined for requests alone
+    (11, &[0x61], Fitness::Rejected),
+    (6, &[0, 0, 0, 0], Fitness::Fits),
+    // unknown ones, unsafe and safe to forward
+    (10, &[], Fitness::NotUnderstood),
+    (16, &[], Fitness::Fits),
+];
+
+/// The table, handed out by a call that says nothing of its rows: a loop over it is proved in less time.
+fn option_rows() -> &'static [(u16, &'static [u8], Fitness)] {
+    &OPTIONS
+}
+
 #[test]
 fn options_of_responses(rt: HostRuntime) {
-    let alloc = rt.alloc();
-    assert!(rt; judged(alloc, 23, &[6]) == Some(Fitness::Fits));
-    assert!(rt; judged_twice(alloc, 23, &[6]) == Some(Fitness::Rejected));
-    assert!(rt; judged(alloc, 23, &[7]) == Some(Fitness::Rejected));
-    assert!(rt; judged(alloc, 27, &[0, 0, 0, 0]) == Some(Fitness::Rejected));
-    // defined for requests alone
-    assert!(rt; judged(alloc, 11, &[0x61]) == Some(Fitness::Rejected));
-    assert!(rt; judged(alloc, 6, &[0, 0, 0, 0]) == Some(Fitness::Fits));
-    // unknown ones, unsafe and safe to forward
-    assert!(rt; judged(alloc, 10, &[]) == Some(Fitness::NotUnderstood));
-    assert!(rt; judged(alloc, 16, &[]) == Some(Fitness::Fits));
+    for &(number, value, fitness) in option_rows() {
+        assert!(rt;
+            judged(rt.alloc(), number, value) == Some(fitness),
+            "{number}"
+        );
+    }
+    assert!(rt; judged_twice(rt.alloc(), 23, &[6]) == Some(Fitness::Rejected));
 }
 
 #[test]

@@ -251,23 +251,32 @@ fn hosted_rows() -> &'static [(&'static [u8], &'static [u8])] {
     &HOSTED
 }
 
-/// The text names the target, or a copy of it.
-fn names(alloc: Global, text: &[u8], target: &Target) -> Result<bool, UriFault> {
-    Ok(read(alloc, text)? == target.copy()?)
+/// The text names the target.
+fn names(alloc: Global, text: &[u8], target: &Target) -> bool {
+    match read(alloc, text) {
+        Ok(read) => read == *target,
+        Err(_) => false,
+    }
 }
 
-/// The target of the text is hosted so, and what is hosted names the target.
+/// The target is hosted so, and what is hosted names the target.
+fn hosts(alloc: Global, target: &Target, want: &[u8]) -> bool {
+    match hosting_of(alloc, b"/hc/", target) {
+        Ok(hosted) => hosted.as_slice() == want && names(alloc, &hosted, target),
+        Err(_) => false,
+    }
+}
+
+/// A copy of the target of the text is hosted so.
 fn is_hosted(alloc: Global, text: &[u8], want: &[u8]) -> Result<bool, UriFault> {
-    let target = read(alloc, text)?;
-    let hosted = hosting_of(alloc, b"/hc/", &target)?;
-    Ok(hosted.as_slice() == want && names(alloc, &hosted, &target)?)
+    let target = read(alloc, text)?.copy()?;
+    Ok(hosts(alloc, &target, want))
 }
 
 #[test]
 fn hosted_again(rt: HostRuntime) {
     for &(text, want) in hosted_rows() {
-        let hosted = is_hosted(rt.alloc(), text, want).expect(&rt, "a target");
-        assert!(rt; hosted, "{text:?}");
+        assert!(rt; is_hosted(rt.alloc(), text, want) == Ok(true), "{text:?}");
     }
 }
 
@@ -277,26 +286,46 @@ fn options(alloc: Global, text: &[u8]) -> Result<Vec<Opt>, UriFault> {
     Ok(options_of(alloc, &target)?)
 }
 
-fn has_option(options: &[Opt], place: usize, number: u16, value: &[u8]) -> bool {
-    match options.get(place) {
-        Some(option) => option.number == number && option.value.as_slice() == value,
-        None => false,
+/// The options of `s.example.com:61616/a//b?x&y`, by their numbers.
+static OPTIONS: [(u16, &[u8]); 6] = [
+    (3, b"s.example.com"),
+    (11, b"a"),
+    (11, b""),
+    (11, b"b"),
+    (15, b"x"),
+    (15, b"y"),
+];
+
+fn option_rows() -> &'static [(u16, &'static [u8])] {
+    &OPTIONS
+}
+
+fn is_option(option: &Opt, row: &(u16, &'static [u8])) -> bool {
+    option.number == row.0 && option.value.as_slice() == row.1
+}
+
+/// The options are those of the rows.
+fn are_options(options: &[Opt], rows: &[(u16, &'static [u8])]) -> bool {
+    options.len() == rows.len()
+        && options
+            .iter()
+            .zip(rows)
+            .all(|(option, row)| is_option(option, row))
+}
+
+/// The text names a target with these options.
+fn has_options(alloc: Global, text: &[u8], rows: &[(u16, &'static [u8])]) -> bool {
+    match options(alloc, text) {
+        Ok(given) => are_options(&given, rows),
+        Err(_) => false,
     }
 }
 
 #[test]
 fn options_of_a_target(rt: HostRuntime) {
-    let alloc = rt.alloc();
-    let given = options(alloc, b"/hc/s.example.com:61616/a//b?x&y").expect(&rt, "options");
-    assert!(rt; given.len() == 6);
-    assert!(rt; has_option(&given, 0, 3, b"s.example.com"));
-    assert!(rt; has_option(&given, 1, 11, b"a"));
-    assert!(rt; has_option(&given, 2, 11, b""));
-    assert!(rt; has_option(&given, 3, 11, b"b"));
-    assert!(rt; has_option(&given, 4, 15, b"x"));
-    assert!(rt; has_option(&given, 5, 15, b"y"));
-    let none = options(alloc, b"/hc/192.0.2.1").expect(&rt, "options");
-    assert!(rt; none.is_empty());
+    let text = b"/hc/s.example.com:61616/a//b?x&y";
+    assert!(rt; has_options(rt.alloc(), text, option_rows()));
+    assert!(rt; has_options(rt.alloc(), b"/hc/192.0.2.1", &[]));
 }
 
 /// A directory with two servers of one name.
@@ -374,8 +403,7 @@ fn is_written(alloc: Global, text: &[u8], want: Option<&str>) -> Result<bool, Al
 #[test]
 fn peers_written(rt: HostRuntime) {
     for &(text, want) in written_rows() {
-        let written = is_written(rt.alloc(), text, want).expect(&rt, "memory");
-        assert!(rt; written, "{text:?}");
+        assert!(rt; is_written(rt.alloc(), text, want) == Ok(true), "{text:?}");
     }
 }
 
