@@ -2,8 +2,10 @@
 //! changes (section 5.9.2).
 //!
 //! The one contract: two keys, and two places, pass for the same exactly where they are equal, so
-//! that definitions may speak of equal ones. The watches (`observe_share`) stand on it, and so will
-//! the store of responses. A key is made once for each request; its copies share it.
+//! that definitions may speak of equal ones. Two GETs have one key exactly where a response to one
+//! may answer the other: they ask the same server with equal options (`keys_match_requests`). The
+//! watches (`observe_share`) stand on it, and so will the store of responses. A key is made once for
+//! each request; its copies share it.
 #![tactic(auto)]
 
 mod key;
@@ -11,5 +13,5 @@ mod laws;
 mod place;
 
 pub use key::Key;
-pub use laws::{keys_told_apart, places_told_apart};
+pub use laws::{keys_match_requests, keys_told_apart, places_told_apart};
 pub use place::Place;

@@ -1,7 +1,7 @@
 //! Keys and places.
 
 use crate::samples::{device, key, target};
-use cache_key::{Key, Place, keys_told_apart, places_told_apart};
+use cache_key::{Key, Place, keys_match_requests, keys_told_apart, places_told_apart};
 
 #[test]
 fn a_key_is_shared(rt: HostRuntime) {
@@ -19,6 +19,7 @@ fn another_format_is_another_key_of_the_place(rt: HostRuntime) {
     assert!(rt; !any.is_same(&text));
     assert!(rt; any.place().is_same(text.place()));
     keys_told_apart();
+    keys_match_requests();
 }
 
 #[test]
