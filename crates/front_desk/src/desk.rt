@@ -23,6 +23,9 @@ use uri_map::Peer;
 /// How long one rests at most who lets time go on, in milliseconds.
 const LONGEST_REST: u64 = 60_000;
 
+/// How long one rests at least who had no memory to let time go on, in milliseconds.
+const PAUSE: u64 = 50;
+
 /// A shop and its clock under one lock, which is held for one step at a time, and never from an ask to its
 /// answer. Whenever it is free, one reading of the journal there is legal and at rest.
 #[derive(Drop)]
@@ -180,15 +183,17 @@ impl<R: Relation, C: Clock, L: Ledger> LockedDesk<R, C, L> {
         Ok(state.clock.faults() == faults)
     }
 
-    /// Rests until there is something to do for `tick`, or a minute at most. It takes no work while nothing
-    /// is due. False where the desk was shut.
-    pub fn rest<W: Wait + std::rt::Clock>(&self, rt: &W) -> bool {
+    /// Rests until there is something to do for `tick`, or a minute at most; after a tick that memory was
+    /// refused for, so that it is still due, at least for a pause. It takes no work while nothing is due.
+    /// False where the desk was shut.
+    pub fn rest<W: Wait + std::rt::Clock>(&self, rt: &W, was_refused: bool) -> bool {
+        let least = if was_refused { PAUSE } else { 0 };
         let mut guard = self.state.lock(rt);
         let state = &mut *guard;
         if state.shut {
             return false;
         }
-        match state.rest() {
+        match state.rest(least) {
             Some(0) => {}
             Some(time) => {
                 let time = Duration::from_millis(time.min(LONGEST_REST));

@@ -1,14 +1,15 @@
 //! What lies under the lock of a desk.
 
-ghost use Rattle.std.specs.Prelude.{◌≡◌, ◌⊎◌, ◌+◌, ◌<◌, ◌++◌, ◌∷◌, [], ℕ, IfOk, IfErr, IfSome, IsTrue, IsFalse, OnOk, OnErr};
+ghost use Rattle.std.specs.Prelude.{◌≡◌, ◌⊎◌, ◌+◌, ◌<◌, ◌++◌, ◌∷◌, [], ℕ, Option, IfOk, IfErr, IfSome, IsTrue, IsFalse, OnOk, OnErr};
 ghost use Rattle.std.specs.Arc.{arc_value};
 ghost use Rattle.exchange_core.specs.CoreValue.{now};
 ghost use Rattle.exchange_core.specs.Opening.{OpensNext, ClosesSo};
 ghost use Rattle.exchange_core.specs.Asking.{AddsAsk, RefusesSo};
 ghost use Rattle.exchange_core.specs.Hears.{HeardSo};
-ghost use Rattle.exchange_core.specs.Ticking.{TicksSo};
+ghost use Rattle.exchange_core.specs.Ticking.{TicksSo, IsNextDue};
 ghost use Rattle.exchange_core.specs.Answering.{given_of, IsGiven};
 ghost use Rattle.front_desk.specs.Lines.{made};
+ghost use Rattle.front_desk.specs.Resting.{rest_time};
 
 use crate::clock::Clock;
 use crate::pass::Pass;
@@ -104,14 +105,17 @@ impl<R: Relation, C: Clock, L: Ledger> DeskState<R, C, L> {
         }
     }
 
-    /// How long the one who lets time go on may rest, in milliseconds: none where there is something to do,
-    /// and without end where nothing is open.
-    pub fn rest(&mut self) -> Option<u64> {
+    /// How long the one who lets time go on rests, in milliseconds: until there is something to do, and so
+    /// long at least; without end where nothing is open.
+    pub fn rest(&mut self, least: u64) -> Option<u64>
+        ensures rests { (moment : ℕ) × (due : Option ℕ) × IsNextDue self.old.shop.core.sealed self.old.shop.core.conns self.old.shop.core.exchanges due × (result ≡ rest_time due moment least) }
+        ensures shop { self.new.shop ≡ self.old.shop }
+    {
         let moment = self.clock.moment();
         match self.shop.next_due() {
             Some(due) => {
                 self.rests_until = due;
-                Some(due.saturating_sub(moment))
+                Some(due.saturating_sub(moment).max(least))
             }
             None => {
                 self.rests_until = u64::MAX;

@@ -52,7 +52,8 @@ pub fn udp_loop<R: Relation, C: Clock, L: Ledger, N: Wire, W: Wait>(
 }
 
 /// Lets time go on, in so many turns or until the clock fails. Each turn does what is due, and rests until
-/// something is due again. It shuts the desk as it ends.
+/// something is due again; where it had no memory to do it, it rests for a pause. It shuts the desk as it
+/// ends.
 pub fn tick_loop<R: Relation, C: Clock, L: Ledger, N: Wire, W: Wait + std::rt::Clock>(
     rt: &W,
     wire: &N,
@@ -60,11 +61,12 @@ pub fn tick_loop<R: Relation, C: Clock, L: Ledger, N: Wire, W: Wait + std::rt::C
     turns: u64,
 ) {
     for _ in 0..turns {
-        if let Ok(false) = desk.tick(rt) {
+        let ticked = desk.tick(rt);
+        if let Ok(false) = ticked {
             break;
         }
         send_due(rt, wire, desk);
-        if !desk.rest(rt) {
+        if !desk.rest(rt, ticked.is_err()) {
             break;
         }
     }
