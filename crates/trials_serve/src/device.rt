@@ -1,0 +1,170 @@
+//! Devices with a light each, behind a wire in memory.
+
+use sessions::{Failed, Wire};
+use std::alloc::{AllocError, Global};
+use std::collections::VecDeque;
+use std::net::{IpAddr, Ipv4Addr};
+use std::sync::{Mutex, MutexGuard};
+use std::thread;
+use uri_map::Peer;
+
+/// How often a lock that is held is tried again.
+const TRIES: u32 = 1_000_000;
+
+/// How an ACK with a token of 8 bytes begins.
+pub const ACK: u8 = 0x68;
+
+/// When the devices answer.
+#[derive(Clone, Copy, Debug, PartialEq, Eq)]
+pub enum Manner {
+    /// At once.
+    Prompt,
+    /// Once the first was asked, and the first itself only once a session was answered.
+    FirstLast,
+    /// Never.
+    Silent,
+}
+
+/// A datagram on its way to the proxy.
+#[derive(Drop)]
+struct Letter {
+    from: Peer,
+    bytes: Vec<u8>,
+}
+
+/// The light's state, and what the devices answered.
+#[derive(Drop)]
+struct Mail {
+    alloc: Global,
+    manner: Manner,
+    is_on: bool,
+    ready: VecDeque<Letter>,
+    /// the answer of the first device
+    held: Option<Letter>,
+}
+
+/// Devices that answer a GET with the state of their light, and whose light a PUT puts out.
+#[derive(Drop)]
+pub struct Device {
+    mail: Mutex<Mail>,
+}
+
+fn first_device() -> IpAddr {
+    IpAddr::V4(Ipv4Addr::new(192, 0, 2, 1))
+}
+
+/// The reply to a request that begins so, with its ID, and with its token where the length says so.
+pub fn reply_to(
+    alloc: Global,
+    first: u8,
+    request: &[u8],
+    code: u8,
+    rest: &[u8],
+) -> Result<Vec<u8>, AllocError> {
+    let mut bytes = Vec::new(alloc);
+    bytes.extend_from_slice(&[first, code])?;
+    if let [_, _, front @ ..] = request {
+        let kept = if first & 15 == 0 { 2 } else { 10 };
+        bytes.extend_from_slice(&front[..front.len().min(kept)])?;
+    }
+    bytes.extend_from_slice(rest)?;
+    Ok(bytes)
+}
+
+impl Mail {
+    /// What the devices do with a request.
+    fn take(&mut self, to: Peer, request: &[u8]) -> Result<(), AllocError> {
+        if self.manner == Manner::Silent {
+            return Ok(());
+        }
+        let bytes = self.reply(request)?;
+        let letter = Letter { from: to, bytes };
+        if self.manner == Manner::FirstLast && to.address == first_device() {
+            self.held = Some(letter);
+            return Ok(());
+        }
+        let _ = self.ready.push_back(letter);
+        Ok(())
+    }
+
+    /// What is answered, by the request's code.
+    fn reply(&mut self, request: &[u8]) -> Result<Vec<u8>, AllocError> {
+        if request.get(1) != Some(&1) {
+            self.is_on = false;
+            return reply_to(self.alloc, ACK, request, 68, b"");
+        }
+        let state: &[u8] = if self.is_on {
+            b"\xc0\xffon"
+        } else {
+            b"\xc0\xffoff"
+        };
+        reply_to(self.alloc, ACK, request, 69, state)
+    }
+
+    /// The next datagram that comes.
+    fn next(&mut self) -> Option<Letter> {
+        match self.manner {
+            Manner::FirstLast if self.held.is_none() => None,
+            Manner::FirstLast => self.ready.pop_front(),
+            _ => self.ready.pop_front().or(self.held.take()),
+        }
+    }
+}
+
+impl Device {
+    pub fn new(alloc: Global, manner: Manner) -> Device {
+        Device {
+            mail: Mutex::new(Mail {
+                alloc,
+                manner,
+                is_on: true,
+                ready: VecDeque::new(alloc),
+                held: None,
+            }),
+        }
+    }
+
+    /// The mail, once no other thread has it.
+    fn mail(&self) -> Option<MutexGuard<'_, Mail>> {
+        for _ in 0..TRIES {
+            if let Some(mail) = self.mail.try_lock() {
+                return Some(mail);
+            }
+            thread::yield_now();
+        }
+        None
+    }
+
+    /// A session was answered: what is held back may come.
+    pub fn release(&self) {
+        if let Some(mut mail) = self.mail() {
+            if mail.manner == Manner::FirstLast {
+                mail.manner = Manner::Prompt;
+            }
+        }
+    }
+
+    /// The next datagram that comes.
+    fn next(&self) -> Option<Letter> {
+        let mut mail = self.mail()?;
+        mail.next()
+    }
+}
+
+impl Wire for Device {
+    fn send(&self, peer: Peer, bytes: &[u8]) {
+        if let Some(mut mail) = self.mail() {
+            let _ = mail.take(peer, bytes);
+        }
+    }
+
+    fn receive(&self, buffer: &mut [u8]) -> Result<Option<(usize, Peer)>, Failed> {
+        let Some(letter) = self.next() else {
+            thread::yield_now();
+            return Ok(None);
+        };
+        let count = letter.bytes.len().min(buffer.len());
+        buffer[..count].copy_from_slice(&letter.bytes[..count]);
+        Ok(Some((count, letter.from)))
+    }
+}

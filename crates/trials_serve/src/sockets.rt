@@ -1,0 +1,124 @@
+//! The gateway on sockets of this machine, with a device that goes by rows.
+
+use crate::device::reply_to;
+use crate::rows::{Row, rows};
+use crate::sample::{Nothing, settings};
+use gateway_server::{Ports, run};
+use log::Log;
+use std::alloc::Global;
+use std::io::{Read, Write};
+use std::net::{IpAddr, Ipv4Addr, Net, SocketAddr, TcpListener, TcpStream, UdpSocket};
+use std::random::RandomSource;
+use std::rt::Clock;
+use std::sync::Wait;
+use std::thread;
+use std::thread::Threads;
+use std::time::Duration;
+
+/// How long the client and the device wait at most, in seconds.
+const PATIENCE: u64 = 20;
+
+/// A port of this machine that the system chooses.
+fn any_port() -> SocketAddr {
+    SocketAddr::new(IpAddr::V4(Ipv4Addr::LOCALHOST), 0)
+}
+
+/// Starts a gateway, and answers where it takes connections.
+fn start<
+    W: Threads
+        + Wait
+        + Log
+        + Clock
+        + RandomSource
+        + Net<Listener = TcpListener, Stream = TcpStream>
+        + Copy
+        + Drop
+        + Send
+        + Sync
+        + 'static,
+>(rt: W, alloc: Global) -> Option<SocketAddr> {
+    let ports = Ports::bind(&rt, any_port(), any_port()).ok()?;
+    let at = ports.listens_at().ok()?;
+    let settings = settings(alloc).ok()?;
+    let started = thread::spawn(&rt, move || {
+        let _ = run::<Nothing, W>(rt, alloc, ports, settings);
+    });
+    started.is_ok().then_some(at)
+}
+
+/// A device's socket.
+fn open_device<W: Net>(rt: &W) -> Option<UdpSocket> {
+    let device = UdpSocket::bind(rt, any_port()).ok()?;
+    let patience = Duration::from_secs(PATIENCE);
+    device.set_read_timeout(Some(patience)).ok()?;
+    Some(device)
+}
+
+/// A client's connection to the gateway.
+fn open_client<W: Net<Stream = TcpStream>>(rt: &W, gateway: SocketAddr) -> Option<TcpStream> {
+    let client = TcpStream::connect(rt, gateway).ok()?;
+    let patience = Duration::from_secs(PATIENCE);
+    client.set_read_timeout(Some(patience)).ok()?;
+    Some(client)
+}
+
+/// The client asks for the light of the device at this port.
+fn asks(client: &mut TcpStream, port: u16, row: &'static Row) -> bool {
+    client.write_all(row.method).is_ok()
+        && write!(client, " /hc/coap://127.0.0.1:{port}").is_ok()
+        && client.write_all(row.rest).is_ok()
+}
+
+/// Whether the datagram asks what the row says: a CON with a token of 8 bytes.
+fn is_asked(datagram: &[u8], row: &'static Row) -> bool {
+    match datagram {
+        [0x48, code, _, _, _, _, _, _, _, _, _, _, asked @ ..] => {
+            *code == row.code && asked == row.asked
+        }
+        _ => false,
+    }
+}
+
+/// The device is asked what the row says, and replies as it says.
+fn replies(alloc: Global, device: &UdpSocket, row: &'static Row) -> bool {
+    let mut buffer = [0u8; 64];
+    let Ok((count, gateway)) = device.recv_from(&mut buffer) else {
+        return false;
+    };
+    let request = &buffer[..count];
+    let Ok(reply) = reply_to(alloc, row.reply.0, request, row.reply.1, row.reply.2) else {
+        return false;
+    };
+    is_asked(request, row) && device.send_to(&reply, gateway).is_ok()
+}
+
+/// Whether the client is told what the row says.
+fn is_told(client: &mut TcpStream, row: &'static Row) -> bool {
+    let mut buffer = [0u8; 256];
+    let count = row.told.len().min(256);
+    let told = &mut buffer[..count];
+    client.read_exact(told).is_ok() && &told[..] == row.told
+}
+
+/// Whether the rows go as they say, one after the other on one connection.
+fn go<W: Net<Stream = TcpStream>>(rt: &W, alloc: Global, gateway: SocketAddr) -> Option<bool> {
+    let device = open_device(rt)?;
+    let port = device.local_addr().ok()?.port();
+    let mut client = open_client(rt, gateway)?;
+    for row in rows() {
+        let asked = asks(&mut client, port, row);
+        if !asked || !replies(alloc, &device, row) || !is_told(&mut client, row) {
+            return Some(false);
+        }
+    }
+    Some(true)
+}
+
+#[test]
+fn rows_go_over_sockets(rt: HostRuntime) {
+    let gateway = start(rt, rt.alloc());
+    assert!(rt; gateway.is_some());
+    if let Some(gateway) = gateway {
+        assert!(rt; go(&rt, rt.alloc(), gateway) == Some(true));
+    }
+}

@@ -1,0 +1,188 @@
+//! Sessions in threads, over one desk.
+
+ghost use Rattle.std.specs.Prelude.{◌≡◌, ◌-◌, ◌^◌};
+
+use crate::client::{Client, Keeper, Steps, Tape};
+use crate::device::Device;
+use crate::rows::{Trial, crossed, held, late, shut, told};
+use crate::sample::{Nothing, settings};
+use ask_model::Settings;
+use front_desk::{LockedDesk, Note, Pass, Shop, settle};
+use sessions::{Done, serve, tick_loop, udp_loop};
+use std::alloc::Global;
+use std::marker::Brand;
+use std::sync::ledger::{Blank, Ledger};
+use std::sync::{Arc, Wait};
+use std::thread;
+use std::thread::Threads;
+
+/// Turns within which all is done.
+const TURNS: u64 = 1_000_000;
+
+/// A desk that sessions of these trials share.
+pub type Counter<L> = LockedDesk<Nothing, Steps, L>;
+
+/// What sessions leave.
+type Passes<L> = Vec<Pass<Nothing, L>>;
+
+/// A desk over a new shop.
+pub fn new_desk<L: Ledger>(alloc: Global, blank: Blank, step: u64) -> Option<Counter<L>>
+    requires name { blank.name ≡ L.name }
+    requires parts { (blank.parts ≡ L.parts) × (blank.parts ≡ 2 ^ 32 - 1) }
+{
+    let shop: Shop<Nothing, L> = Shop::new(alloc, blank).ok()?;
+    LockedDesk::new(alloc, shop, Steps { at: 0, step }).ok()
+}
+
+/// The pass of a new connection, which is told the answer that another was given last.
+fn open_told<L: Ledger, W: Wait>(
+    rt: &W,
+    desk: &Counter<L>,
+    other: Option<&Pass<Nothing, L>>,
+) -> Option<Pass<Nothing, L>> {
+    let mut pass = desk.open(rt).ok()?;
+    if let Some(other) = other {
+        if let Some(Note::Got(receipt)) = other.notes().last() {
+            pass.told(receipt).ok()?;
+        }
+    }
+    Some(pass)
+}
+
+/// Serves a client. What its session leaves is its pass, where its end and what the client got are as wanted.
+fn serve_client<L: Ledger, W: Wait>(
+    rt: &W,
+    alloc: Global,
+    device: &Device,
+    desk: &Counter<L>,
+    settings: &Arc<Settings>,
+    client: &'static Client,
+    pass: Pass<Nothing, L>,
+) -> Option<Pass<Nothing, L>> {
+    let mut tape = Tape::of(client);
+    let mut gate = Keeper {
+        device,
+        held_at: client.held_at,
+        noes: 0,
+    };
+    let done = serve(
+        rt, alloc, &mut tape, device, desk, &mut gate, settings, pass,
+    );
+    let Done { pass, end } = done;
+    if end == client.end && tape.is_done() {
+        Some(pass)
+    } else {
+        None
+    }
+}
+
+/// Serves clients one after the other. Each session is told what the one before was answered last.
+fn serve_all<L: Ledger, W: Wait>(
+    rt: &W,
+    alloc: Global,
+    device: &Device,
+    desk: &Counter<L>,
+    clients: &'static [Client],
+) -> Option<Passes<L>> {
+    let settings = Arc::new(alloc, settings(alloc).ok()?).ok()?;
+    let mut passes = Vec::new(alloc);
+    for client in clients {
+        let pass = open_told(rt, desk, passes.last())?;
+        let pass = serve_client(rt, alloc, device, desk, &settings, client, pass)?;
+        passes.push(pass).ok()?;
+    }
+    Some(passes)
+}
+
+/// All passes.
+fn joined<L: Ledger>(one: Option<Passes<L>>, two: Option<Passes<L>>) -> Option<Passes<L>> {
+    let (mut one, mut two) = (one?, two?);
+    one.append(&mut two).ok()?;
+    Some(one)
+}
+
+/// Serves the clients of a trial in two threads, and then shuts the desk.
+fn serve_both<L: Ledger + Send + Sync, W: Threads + Wait + Sync>(
+    rt: &W,
+    alloc: Global,
+    device: &Device,
+    desk: &Counter<L>,
+    trial: &'static Trial,
+) -> Option<Passes<L>> {
+    let (one, two) = thread::join(
+        rt,
+        || serve_all(rt, alloc, device, desk, trial.one),
+        || serve_all(rt, alloc, device, desk, trial.two),
+    );
+    desk.shut(rt);
+    joined(one, two)
+}
+
+/// Lets time go on, or hands in what the devices send.
+fn go_on<L: Ledger, W: Wait + std::rt::Clock>(
+    rt: &W,
+    alloc: Global,
+    device: &Device,
+    desk: &Counter<L>,
+    step: u64,
+) {
+    if step > 0 {
+        tick_loop(rt, device, desk, TURNS);
+    } else {
+        udp_loop(rt, alloc, device, desk, TURNS);
+    }
+}
+
+/// Whether the trial goes as it says.
+fn run<L: Ledger + Send + Sync, W: Threads + Wait + std::rt::Clock + Sync>(
+    rt: &W,
+    alloc: Global,
+    blank: Blank,
+    trial: &'static Trial,
+) -> Option<bool>
+    requires name { blank.name ≡ L.name }
+    requires parts { (blank.parts ≡ L.parts) × (blank.parts ≡ 2 ^ 32 - 1) }
+{
+    let desk: Counter<L> = new_desk(alloc, blank, trial.step)?;
+    let device = Device::new(alloc, trial.manner);
+    let (passes, _) = thread::join(
+        rt,
+        || serve_both(rt, alloc, &device, &desk, trial),
+        || go_on(rt, alloc, &device, &desk, trial.step),
+    );
+    let found = settle(alloc, desk.into_shop(), passes?);
+    Some(found == Ok(trial.settled))
+}
+
+fn goes<W: Threads + Wait + std::rt::Clock + Sync>(
+    rt: &W,
+    alloc: Global,
+    trial: &'static Trial,
+) -> bool {
+    run::<Brand, W>(rt, alloc, Blank::new(4294967295), trial) == Some(true)
+}
+
+#[test]
+fn the_first_device_answers_last(rt: HostRuntime) {
+    assert!(rt; goes(&rt, rt.alloc(), crossed()));
+}
+
+#[test]
+fn who_is_told_of_a_write_reads_it(rt: HostRuntime) {
+    assert!(rt; goes(&rt, rt.alloc(), told()));
+}
+
+#[test]
+fn gates_and_clients_end_sessions(rt: HostRuntime) {
+    assert!(rt; goes(&rt, rt.alloc(), held()));
+}
+
+#[test]
+fn a_silent_device_is_given_up(rt: HostRuntime) {
+    assert!(rt; goes(&rt, rt.alloc(), late()));
+}
+
+#[test]
+fn who_waits_is_woken_by_the_shutting(rt: HostRuntime) {
+    assert!(rt; goes(&rt, rt.alloc(), shut()));
+}
