@@ -4,6 +4,7 @@ use ask_model::Settings;
 use media_map::Routes;
 use std::alloc::{AllocError, Global};
 use std::net::{IpAddr, Ipv4Addr};
+use std::sync::Arc;
 use transformers::Relation;
 use uri_map::{Directory, Text, Texts};
 
@@ -26,4 +27,12 @@ pub fn settings(alloc: Global) -> Result<Settings, AllocError> {
         observed: Texts::new(alloc),
         routes: Routes::new(alloc),
     })
+}
+
+/// The same, to be shared.
+pub fn shared_settings(alloc: Global) -> Option<Arc<Settings>> {
+    match settings(alloc) {
+        Ok(settings) => Arc::new(alloc, settings).ok(),
+        Err(_) => None,
+    }
 }

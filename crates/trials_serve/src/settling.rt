@@ -1,10 +1,11 @@
 //! What settling refuses.
 
-ghost use Rattle.std.specs.Prelude.{◌≡◌, ◌-◌, ◌^◌};
+ghost use Rattle.std.specs.Prelude.{◌≡◌, ◌-◌, ◌^◌, ◌<◌, IfSome};
 
-use crate::sample::{Nothing, settings};
+use crate::sample::{Nothing, shared_settings};
 use crate::threads::{Counter, new_desk};
-use ask_model::Mapped;
+use ask_model::{Mapped, Settings};
+use exchange_core::Ticket;
 use front_desk::{Pass, Receipt, SettleFault, settle};
 use http_edge::{BadKind, Incoming};
 use http_mapping::map_request;
@@ -25,21 +26,35 @@ enum Wrong {
 }
 
 /// A request that is refused, and so answered at once.
-fn refused(alloc: Global) -> Option<Arc<Mapped<Nothing>>> {
-    let settings = Arc::new(alloc, settings(alloc).ok()?).ok()?;
-    let came = Incoming::Bad(BadKind::Syntax);
-    let mapped = map_request::<Nothing>(alloc, &settings, came).ok()?;
-    Arc::new(alloc, mapped).ok()
+fn refused(alloc: Global, settings: &Arc<Settings>) -> Option<Arc<Mapped<Nothing>>> {
+    match map_request::<Nothing>(alloc, settings, Incoming::Bad(BadKind::Syntax)) {
+        Ok(mapped) => Arc::new(alloc, mapped).ok(),
+        Err(_) => None,
+    }
 }
 
-/// The receipt of an ask on the connection of a pass.
+/// Asks on the connection of a pass.
 fn ask<L: Ledger, W: Wait>(
     rt: &W,
     alloc: Global,
     desk: &Counter<L>,
     pass: &mut Pass<Nothing, L>,
+) -> Option<Ticket<Nothing>>
+    ensures { IfSome result (λ t. 0 < pass.new.places) }
+{
+    let settings = shared_settings(alloc)?;
+    let mapped = refused(alloc, &settings)?;
+    desk.ask(rt, pass, mapped).ok()
+}
+
+/// The receipt of an ask, which the pass doesn't keep.
+fn take<L: Ledger, W: Wait>(
+    rt: &W,
+    alloc: Global,
+    desk: &Counter<L>,
+    pass: &mut Pass<Nothing, L>,
 ) -> Option<Receipt<Nothing>> {
-    let ticket = desk.ask(rt, pass, refused(alloc)?).ok()?;
+    let ticket = ask(rt, alloc, desk, pass)?;
     desk.answer(rt, ticket)
 }
 
@@ -50,35 +65,65 @@ fn ask_and_keep<L: Ledger, W: Wait>(
     desk: &Counter<L>,
     pass: &mut Pass<Nothing, L>,
     kept: Receipt<Nothing>,
-) -> Option<()> {
-    let mapped = refused(alloc)?;
-    desk.ask(rt, pass, mapped).ok()?;
-    pass.keep(kept);
-    Some(())
+) -> bool {
+    let asked = ask(rt, alloc, desk, pass).is_some();
+    if asked {
+        pass.keep(kept);
+    }
+    asked
 }
 
-/// What a session does, and what it leaves.
-fn misuse<L: Ledger, W: Wait>(
+/// The pass of a session that keeps one receipt for two asks.
+fn keep_twice<L: Ledger, W: Wait>(
+    rt: &W,
+    alloc: Global,
+    desk: &Counter<L>,
+) -> Option<Pass<Nothing, L>> {
+    let mut pass = desk.open(rt).ok()?;
+    let receipt = take(rt, alloc, desk, &mut pass)?;
+    let copy = receipt.copy().ok()?;
+    let kept = ask_and_keep(rt, alloc, desk, &mut pass, copy)
+        && ask_and_keep(rt, alloc, desk, &mut pass, receipt);
+    kept.then_some(pass)
+}
+
+/// The pass of a session that is told an answer.
+fn told<L: Ledger, W: Wait>(
+    rt: &W,
+    desk: &Counter<L>,
+    answer: &Receipt<Nothing>,
+) -> Option<Pass<Nothing, L>> {
+    let mut pass = desk.open(rt).ok()?;
+    pass.told(answer).ok()?;
+    Some(pass)
+}
+
+/// What a session leaves.
+fn leave<L: Ledger, W: Wait>(
     rt: &W,
     alloc: Global,
     desk: &Counter<L>,
     wrong: Wrong,
     other: &Receipt<Nothing>,
-) -> Option<Vec<Pass<Nothing, L>>> {
-    let mut passes = Vec::new(alloc);
-    let mut pass = desk.open(rt).ok()?;
+) -> Option<Pass<Nothing, L>> {
     if wrong == Wrong::ToldAnother {
-        pass.told(other).ok()?;
-    } else {
-        let receipt = ask(rt, alloc, desk, &mut pass)?;
-        if wrong == Wrong::Missing {
-            return Some(passes);
-        }
-        ask_and_keep(rt, alloc, desk, &mut pass, receipt.copy().ok()?)?;
-        ask_and_keep(rt, alloc, desk, &mut pass, receipt)?;
+        return told(rt, desk, other);
     }
-    passes.push(pass).ok()?;
-    Some(passes)
+    let pass = keep_twice(rt, alloc, desk);
+    pass.filter(|_| wrong == Wrong::KeptTwice)
+}
+
+/// Why what was left isn't settled.
+fn settled<L: Ledger>(
+    alloc: Global,
+    desk: Counter<L>,
+    pass: Option<Pass<Nothing, L>>,
+) -> Option<SettleFault> {
+    let mut passes = Vec::new(alloc);
+    if let Some(pass) = pass {
+        passes.push(pass).ok()?;
+    }
+    settle(alloc, desk.into_shop(), passes).err()
 }
 
 fn run_wrong<L: Ledger, W: Wait>(
@@ -92,8 +137,8 @@ fn run_wrong<L: Ledger, W: Wait>(
     requires parts { (blank.parts ≡ L.parts) × (blank.parts ≡ 2 ^ 32 - 1) }
 {
     let desk: Counter<L> = new_desk(alloc, blank, 0)?;
-    let passes = misuse(rt, alloc, &desk, wrong, other)?;
-    settle(alloc, desk.into_shop(), passes).err()
+    let pass = leave(rt, alloc, &desk, wrong, other);
+    settled(alloc, desk, pass)
 }
 
 /// An answer that a shop gave.
@@ -103,7 +148,7 @@ fn run_other<L: Ledger, W: Wait>(rt: &W, alloc: Global, blank: Blank) -> Option<
 {
     let desk: Counter<L> = new_desk(alloc, blank, 0)?;
     let mut pass = desk.open(rt).ok()?;
-    ask(rt, alloc, &desk, &mut pass)
+    take(rt, alloc, &desk, &mut pass)
 }
 
 fn other_receipt<W: Wait>(rt: &W, alloc: Global) -> Option<Receipt<Nothing>> {

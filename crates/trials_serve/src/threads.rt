@@ -5,7 +5,7 @@ ghost use Rattle.std.specs.Prelude.{◌≡◌, ◌-◌, ◌^◌};
 use crate::client::{Client, Keeper, Steps, Tape};
 use crate::device::Device;
 use crate::rows::{Trial, crossed, held, late, shut, told};
-use crate::sample::{Nothing, settings};
+use crate::sample::{Nothing, shared_settings};
 use ask_model::Settings;
 use front_desk::{LockedDesk, Note, Pass, Shop, settle};
 use sessions::{Done, serve, tick_loop, udp_loop};
@@ -84,7 +84,7 @@ fn serve_all<L: Ledger, W: Wait>(
     desk: &Counter<L>,
     clients: &'static [Client],
 ) -> Option<Passes<L>> {
-    let settings = Arc::new(alloc, settings(alloc).ok()?).ok()?;
+    let settings = shared_settings(alloc)?;
     let mut passes = Vec::new(alloc);
     for client in clients {
         let pass = open_told(rt, desk, passes.last())?;
