@@ -2,17 +2,19 @@
 use Rattle.std.proofs.Common.{◌≡◌, ℕ, ◌≤◌, ◌<◌, Bool, true, false, cond, List, ◌∷◌, Option, Some, None, refl, sym, subst}
 use Rattle.std.specs.Prelude.{is_some, option_and_then}
 use Rattle.uri_map.specs.declared.peer.Peer.{Peer}
+use Rattle.ask_model.specs.Requests.{same_peer}
 use Rattle.journal_book.specs.Entries.{Sends}
 use Rattle.message_layer.specs.declared.state.Outstanding.{Outstanding}
 use Rattle.message_layer.specs.Sending.{again, due_of, with_copy}
 use Rattle.whole_history.specs.Readings.{Noted, Note, Copies, newest, ticked}
-use Rattle.whole_history.specs.Transmissions.{FirstSending, Transmission, transmission, copied_way, if_outstanding, last_sent}
+use Rattle.whole_history.specs.Transmissions.{FirstSending, Transmission, transmission, copied_way, if_outstanding, firsts, last_sent}
 use Rattle.whole_history.specs.Justified.{MayBeCopy}
 use Rattle.whole_history.specs.Worked.{noted}
 use Rattle.whole_history.proofs.Places.{at-keeps}
 use Rattle.link_history.specs.Agrees.{way_of, IsOut, TurnIn}
 use Rattle.link_history.specs.Steps.{copy, CopyFollows}
 use Rattle.whole_history.proofs.Facts.{eqb-itself}
+use Rattle.link_history.proofs.Tokens.{find-passes, found-first}
 use Rattle.link_history.proofs.Still.{Still, still-by, SameHeard, rest-still, heard-at}
 
 pub still-copy : (l : List Noted) (t : ℕ) (p : Peer) (b : List ℕ) (i : ℕ) → newest l ≤ t → Still l (noted t (Sends p b None) (Copies i) ∷ l)
@@ -79,8 +81,12 @@ unheard-sent l t p q b w note later = record {
 pub copy-follows : CopyFollows
 copy-follows l t p s o b q is few due =
     let out : IsOut l p o = subst (TurnIn l p) is b.agrees.turn in
-    let i = out.first.number in (
+    let i = out.first.number in
+    let last = is-last l p (last_sent l p) out.first out.is in (
       i,
+      out.first,
+      found-first l (λ (f : FirstSending). same_peer f.peer p) out.first last,
+      find-passes (λ (f : FirstSending). same_peer f.peer p) (firsts l) out.first last,
       record {
         follows = (q.unsealed, (q.quiet, refl, may-copy l p o out few due));
         agrees = rest-still l (copy t p o i ∷ l) p s (with_copy t s o) (still-copy l t p o.datagram i b.later) (unheard-sent l t p p o.datagram None (Copies i) b.later) b.agrees

@@ -85,7 +85,7 @@ one-under l p i j token legal e f =
 pub out-first : (l : List Noted) (p : Peer) (o : Outstanding) (a : IsOut l p o) → first_at l a.first.number ≡ Some a.first
 out-first l p o a = found-first l (λ (f : FirstSending). same_peer f.peer p) a.first (is-last l p (last_sent l p) a.first a.is)
 
-out-peer : (l : List Noted) (p : Peer) (o : Outstanding) (a : IsOut l p o) → same_peer a.first.peer p ≡ true
+pub out-peer : (l : List Noted) (p : Peer) (o : Outstanding) (a : IsOut l p o) → same_peer a.first.peer p ≡ true
 out-peer l p o a = find-passes (λ (f : FirstSending). same_peer f.peer p) (firsts l) a.first (is-last l p (last_sent l p) a.first a.is)
 
 pub out-under : (l : List Noted) (p : Peer) (o : Outstanding) (a : IsOut l p o) (token : List ℕ) → went_under p token (first_at l a.first.number) ≡ bytes_eq o.token token

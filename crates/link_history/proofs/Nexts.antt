@@ -156,6 +156,9 @@ next-follows l t p s w ws b q small few free e =
     (not-waiting l t p p x.datagram (Some x.timeout) o m) (openings l) (openings-rising l) h.is in (
       o,
       m,
+      waits,
+      h.waits,
+      refl,
       record {
         follows = (q.unsealed, (q.quiet, may-be-first l t p s w ws h legal a few free));
         agrees = record {

@@ -36,7 +36,7 @@ ends-waiting : (b : Bool) (w : Option ℕ) → waits_by (cond b Expired Nothing)
 ends-waiting true w = refl
 ends-waiting false w = refl
 
-waits-passed : (l : List Noted) (t o : ℕ) → waits_for (ticked_at t ∷ l) o ≡ cond (expires l o t (waits_for l o)) None (waits_for l o)
+pub waits-passed : (l : List Noted) (t o : ℕ) → waits_for (ticked_at t ∷ l) o ≡ cond (expires l o t (waits_for l o)) None (waits_for l o)
 waits-passed l t o = ends-waiting (expires l o t (waits_for l o)) (waits_for l o)
 
 ends-going : (n : ℕ) (rs : List Reply) (b : Bool) (old : Option End) → is_none (end_by (end_here n rs (cond b Expired Nothing)) n old) ≡ (not b && is_none old)
@@ -44,7 +44,7 @@ ends-going n rs true None = refl
 ends-going n rs true (Some e) = refl
 ends-going n rs false old = refl
 
-going-passed : (l : List Noted) (t o : ℕ) → is_going (ticked_at t ∷ l) o ≡ (not (expires l o t (waits_for l o)) && is_going l o)
+pub going-passed : (l : List Noted) (t o : ℕ) → is_going (ticked_at t ∷ l) o ≡ (not (expires l o t (waits_for l o)) && is_going l o)
 going-passed l t o = ends-going (length l) (replies l o) (expires l o t (waits_for l o)) (end_of l o)
 
 -- Who waits and isn't late waits still.

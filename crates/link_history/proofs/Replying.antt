@@ -37,7 +37,7 @@ way-after l t p d m (Some j) i = refl
 
 -- the turn of an exchange, and what it leaves
 
-abbrev hit : Option ℕ → Content → Option ℕ → Bool
+abbrev pub hit : Option ℕ → Content → Option ℕ → Bool
 hit to m None = false
 hit to m (Some i) = ends_what to m i
 

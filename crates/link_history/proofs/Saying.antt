@@ -239,7 +239,7 @@ own-of l t p s m k later legal a kind own such none room confirms accepted empti
     subst (λ (k : MsgType). Judged l p s m (answers_by l p m k (eqb m.code 0) (leb 32 m.code)) (new_verdict s m (accepts k) (empties k))) kind judged in
     rw (not_found, few, ← accepted, ← emptied) for_kind
 
-judge : (l : List Noted) (t : ℕ) (p : Peer) (s : LinkState) (m : Content) (k : MsgType) → newest l ≤ t → Legal l → Agrees l p s → m.kind ≡ k
+pub judge : (l : List Noted) (t : ℕ) (p : Peer) (s : LinkState) (m : Content) (k : MsgType) → newest l ≤ t → Legal l → Agrees l p s → m.kind ≡ k
     → repeated l t p m ≡ None → can_be_remembered l t p m ≡ true
     → Judged l p s m (answers_by l p m k (eqb m.code 0) (leb 32 m.code)) (verdict_by t s m k)
 judge l t p s m Con later legal a kind none room = own-of l t p s m Con later legal a kind tt refl none room true refl refl

@@ -9,7 +9,7 @@ use Rattle.link_history.specs.Steps.{IsSilent, SilentAgrees}
 use Rattle.link_history.proofs.Still.{Still, still-by, SameHeard, heard-at, rest-still}
 use Rattle.link_history.proofs.Queueing.{turn-kept}
 
-still : (l : List Noted) (t : ℕ) (d : Deed) (note : Note) → newest l ≤ t → IsSilent d note → Still l (noted t d note ∷ l)
+pub still : (l : List Noted) (t : ℕ) (d : Deed) (note : Note) → newest l ≤ t → IsSilent d note → Still l (noted t d note ∷ l)
 still l t (Opens c) Plain later i = still-by (noted t (Opens c) Plain) l later refl refl (λ o. refl) (λ o. refl) (λ o. refl)
 still l t (Asks c a) Plain later i = still-by (noted t (Asks c a) Plain) l later refl refl (λ o. refl) (λ o. refl) (λ o. refl)
 still l t (Answers c k g) Plain later i = still-by (noted t (Answers c k g) Plain) l later refl refl (λ o. refl) (λ o. refl) (λ o. refl)

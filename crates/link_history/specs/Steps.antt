@@ -70,7 +70,8 @@ CopyFollows =
     (l : List Noted) (t : ℕ) (p : Peer) (s : LinkState) (o : Outstanding)
     → Before l t p s → MaySend l
     → s.outstanding ≡ Some o → o.retransmissions < copy_limit → due_of o ≤ ticked l
-    → (i : ℕ) × Leads l p (copy t p o i) (with_copy t s o)
+    → (i : ℕ) × (f : FirstSending) × (first_at l i ≡ Some f) × (same_peer f.peer p ≡ true)
+    × Leads l p (copy t p o i) (with_copy t s o)
 
 -- The message that waits first is sent where nothing is outstanding.
 abbrev pub first : ℕ → Peer → Outstanding → ℕ → Content → Noted
@@ -82,7 +83,7 @@ NextFollows =
     → Before l t p s → MaySend l
     → w.first_mid < 65536 → mids_used l t p < mid_limit
     → s.outstanding ≡ None → s.waiting ≡ w ∷ ws
-    → (o : ℕ) × (m : Content)
+    → (o : ℕ) × (m : Content) × (is_waiting l p o ≡ true) × IsWaitingFor l o w × (m.token ≡ w.token)
     × Leads l p (first t p (first_sent t s.last_mid w) o m) (with_outstanding s ws (first_sent t s.last_mid w))
 
 -- Its message waits last where an ask opens an exchange with the peer.

@@ -51,7 +51,7 @@ ticked-step : (l : List Noted) (t : ℕ) (d : Deed) (note : Note) → newest l �
 ticked-step l t Passes note a b = omega arith
 ticked-step l t d note a b = omega (arith, a, b)
 
-ticked-newest : (l : List Noted) → Legal l → ticked l ≤ newest l
+pub ticked-newest : (l : List Noted) → Legal l → ticked l ≤ newest l
 ticked-newest [] legal = omega arith
 ticked-newest (x ∷ older) legal =
     ticked-step older x.written.moment x.written.deed x.note legal.1 (ticked-newest older legal.0)
