@@ -1,0 +1,25 @@
+-- What holds of each element of a list.
+use Rattle.std.proofs.Common.{◌≡◌, Bool, true, List, [], ◌∷◌, map, refl}
+use Rattle.std.specs.List.{AllByRecursion, list_all}
+
+module _ {X Y : Type 0} (f : X → Y) (P : Y → Type 0) where
+  pub all-map : (xs : List X) → AllByRecursion (λ (x : X). P (f x)) xs → AllByRecursion P (map f xs)
+  all-map [] a = a
+  all-map (x ∷ xs) a = (a.0, all-map xs a.1)
+
+  pub all-mapped : (xs : List X) → AllByRecursion P (map f xs) → AllByRecursion (λ (x : X). P (f x)) xs
+  all-mapped [] a = a
+  all-mapped (x ∷ xs) a = (a.0, all-mapped xs a.1)
+
+pub all-both : {X : Type 0} (P Q : X → Type 0) (xs : List X) → AllByRecursion P xs → AllByRecursion Q xs → AllByRecursion (λ (x : X). P x × Q x) xs
+all-both P Q [] a b = tt
+all-both P Q (x ∷ xs) a b = ((a.0, b.0), all-both P Q xs a.1 b.1)
+
+module _ {X : Type 0} (q : X → Bool) where
+  pub all-pass : (xs : List X) → AllByRecursion (λ (x : X). q x ≡ true) xs → list_all q xs ≡ true
+  all-pass [] a = refl
+  all-pass (x ∷ xs) a = rw (a.0) (all-pass xs a.1)
+
+  pub every-passes : ((x : X) → q x ≡ true) → (xs : List X) → list_all q xs ≡ true
+  every-passes h [] = refl
+  every-passes h (x ∷ xs) = rw (h x) (every-passes h xs)

@@ -1,0 +1,8 @@
+use Rattle.core_steps.proofs.Ticking.{ticks-keeps, ticks-do}
+use Rattle.core_steps.proofs.laws.ticking_keeps.Goals as goal
+
+pub returns-clause-keeps : goal.returns-clause-keeps
+returns-clause-keeps c = ticks-keeps
+
+pub returns-clause-done : goal.returns-clause-done
+returns-clause-done c = ticks-do

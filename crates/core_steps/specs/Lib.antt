@@ -1,0 +1,7 @@
+pub mod State
+pub mod Reads
+pub mod Steps
+pub mod Resting
+pub mod Laws
+pub mod Calls
+pub mod Keeping

@@ -1,0 +1,92 @@
+//! What each entry does to a state, as contracts of functions that do nothing.
+
+ghost use Rattle.core_steps.specs.Laws.{
+  OpensLeads,
+  ShutsLeads,
+  SealsLeads,
+  AnswersLeads,
+  AsksLeads,
+  BeginsLeads,
+  FirstLeads,
+  CopyLeads,
+  ConfirmsLeads,
+  RepeatsLeads,
+  GarbledLeads,
+  HearsLeads,
+  PassesLeads,
+};
+ghost use Rattle.core_steps.specs.Keeping.{
+  KeptStands,
+  OpensKeeps,
+  ShutsKeeps,
+  SealsKeeps,
+  AsksKeeps,
+  HearsKeeps,
+  TicksKeeps,
+  TicksDo,
+};
+ghost use Rattle.core_steps.specs.Resting.{ConnsTell, RestsAtRest};
+
+/// A connection may be opened and shut, an ask answered on its grounds, and the journal sealed
+/// where it is as good as full.
+pub fn connections_lead()
+    ensures opens { OpensLeads }
+    ensures shuts { ShutsLeads }
+    ensures seals { SealsLeads }
+    ensures answers { AnswersLeads }
+{}
+
+/// An ask opens an exchange under a token of its own, or none.
+pub fn asks_lead()
+    ensures refused { AsksLeads }
+    ensures begins { BeginsLeads }
+{}
+
+/// A message goes out in its turn, once more when that is due, and an ACK or RST where one is owed
+/// (RFC 7252 sections 4.2, 4.7).
+pub fn sendings_lead()
+    ensures first { FirstLeads }
+    ensures copy { CopyLeads }
+    ensures confirms { ConfirmsLeads }
+{}
+
+/// A datagram repeats one, is no message, or ends what it answers (RFC 7252 sections 4.2, 4.5,
+/// 5.3.2).
+pub fn hearing_leads()
+    ensures repeats { RepeatsLeads }
+    ensures garbled { GarbledLeads }
+    ensures hears { HearsLeads }
+{}
+
+/// A tick ends the exchanges that took too long, and gives up what was sent five times.
+pub fn passes_lead()
+    ensures { PassesLeads }
+{}
+
+/// Where all that was due is done, the history is at rest; and the state has just the open
+/// connections.
+pub fn rests_at_rest()
+    ensures conns { ConnsTell }
+    ensures rests { RestsAtRest }
+{}
+
+/// A step keeps that the journal stands, and that the state says what it says: a connection opened
+/// or shut, the seal, an ask.
+pub fn step_keeps()
+    ensures stands { KeptStands }
+    ensures opens { OpensKeeps }
+    ensures shuts { ShutsKeeps }
+    ensures seals { SealsKeeps }
+    ensures asks { AsksKeeps }
+{}
+
+/// So does a datagram that is heard.
+pub fn hearing_keeps()
+    ensures { HearsKeeps }
+{}
+
+/// So does a tick, after which nothing is due.
+pub fn ticking_keeps()
+    ensures keeps { TicksKeeps }
+    ensures done { TicksDo }
+{}
