@@ -18,17 +18,53 @@ fn give(world: &mut World<Unchanged>, line: &Line) -> Result<Vec<Output>, WorldF
     }
 }
 
+/// Prints what an input gives out.
+fn print_all(
+    alloc: Global,
+    out: &mut Vec<u8>,
+    moment: u64,
+    outputs: &[Output],
+) -> Result<(), ReplayFault> {
+    for output in outputs {
+        write_output(alloc, out, moment, output)?;
+    }
+    Ok(())
+}
+
+/// Gives the input of a line, and prints what it gives out.
+fn print_line(
+    alloc: Global,
+    world: &mut World<Unchanged>,
+    out: &mut Vec<u8>,
+    text: &str,
+) -> Result<(), ReplayFault> {
+    let line = line_of(alloc, text.as_bytes()).map_err(fault_of)?;
+    let outputs = give(world, &line).map_err(|_| ReplayFault::Memory)?;
+    print_all(alloc, out, world.moment(), &outputs)
+}
+
+/// The same of each line of a script.
+fn print_lines(
+    alloc: Global,
+    world: &mut World<Unchanged>,
+    out: &mut Vec<u8>,
+    script: &str,
+) -> Result<(), ReplayFault> {
+    for text in script.lines() {
+        print_line(alloc, world, out, text)?;
+    }
+    Ok(())
+}
+
+fn new_world(alloc: Global) -> Result<World<Unchanged>, ReplayFault> {
+    World::new(alloc, demonstration(alloc)?).map_err(|_| ReplayFault::Memory)
+}
+
 /// What a script prints. Memory may be refused once.
 fn printed(alloc: Global, script: &str) -> Result<Vec<u8>, ReplayFault> {
-    let mut world = World::new(alloc, demonstration(alloc)?).map_err(|_| ReplayFault::Memory)?;
+    let mut world = new_world(alloc)?;
     let mut out = Vec::new(alloc);
-    for text in script.lines() {
-        let line = line_of(alloc, text.as_bytes()).map_err(fault_of)?;
-        let outputs = give(&mut world, &line).map_err(|_| ReplayFault::Memory)?;
-        for output in &outputs {
-            write_output(alloc, &mut out, world.moment(), output)?;
-        }
-    }
+    print_lines(alloc, &mut world, &mut out, script)?;
     Ok(out)
 }
 

@@ -62,6 +62,19 @@ fn is_told(
     ends(alloc, &script, &last)
 }
 
+/// A request, and of the reply its code, and its options and payload; and the answer.
+type Told = (&'static str, &'static str, &'static str, &'static str);
+
+/// The first of the replies of which something else is told.
+fn first_wrong(alloc: Global, rows: &'static [Told]) -> Result<Option<&'static str>, ReplayFault> {
+    for &(request, code, rest, answer) in rows {
+        if !is_told(alloc, request, code, rest, answer)? {
+            return Ok(Some(rest));
+        }
+    }
+    Ok(None)
+}
+
 /// A value of so many letters, in hexadecimal digits.
 fn letters(alloc: Global, count: usize) -> Result<String, AllocError> {
     let mut digits = String::new(alloc);
@@ -71,25 +84,43 @@ fn letters(alloc: Global, count: usize) -> Result<String, AllocError> {
     Ok(digits)
 }
 
+static MALFORMED: [Told; 3] = [
+    (GET, "45", "d5010102030405ff6f6e", FRESH),
+    (GET, "45", "6400000000ff6f6e", FRESH),
+    // an unknown one that is unsafe
+    (GET, "45", "a0ff6f6e", NOT_UNDERSTOOD),
+];
+
+/// The table, handed out by a call that says nothing of its rows: a loop over it is proved in less time.
+fn malformed() -> &'static [Told] {
+    &MALFORMED
+}
+
 /// An elective option of a wrong length is left out, though it is unsafe to forward (RFC 7252, sections
 /// 5.4.1 and 5.4.3).
 #[test]
 fn a_malformed_max_age_or_observe_is_left_out(rt: HostRuntime) {
-    let alloc = rt.alloc();
-    assert!(rt; is_told(alloc, GET, "45", "d5010102030405ff6f6e", FRESH) == Ok(true));
-    assert!(rt; is_told(alloc, GET, "45", "6400000000ff6f6e", FRESH) == Ok(true));
-    // an unknown one that is unsafe
-    assert!(rt; is_told(alloc, GET, "45", "a0ff6f6e", NOT_UNDERSTOOD) == Ok(true));
+    assert_eq!(rt; first_wrong(rt.alloc(), malformed()), Ok(None));
+}
+
+/// A 200 with the text `on` that is fresh for five seconds.
+const FIVE: &str = "HTTP/1.1 200 OK\r\nCache-Control: max-age=5\r\nContent-Length: 2\r\n\r\non";
+
+static SECONDS: [Told; 2] = [
+    (GET, "45", "d101050107ff6f6e", FIVE),
+    (GET, "45", "d50101020304050105ff6f6e", FIVE),
+];
+
+/// The same.
+fn seconds() -> &'static [Told] {
+    &SECONDS
 }
 
 /// Of two options of a kind that may stand once the first that is well formed counts (RFC 7252, section
 /// 5.4.5).
 #[test]
 fn a_second_max_age_is_left_out(rt: HostRuntime) {
-    let alloc = rt.alloc();
-    let five = "HTTP/1.1 200 OK\r\nCache-Control: max-age=5\r\nContent-Length: 2\r\n\r\non";
-    assert!(rt; is_told(alloc, GET, "45", "d101050107ff6f6e", five) == Ok(true));
-    assert!(rt; is_told(alloc, GET, "45", "d50101020304050105ff6f6e", five) == Ok(true));
+    assert_eq!(rt; first_wrong(rt.alloc(), seconds()), Ok(None));
 }
 
 /// A block of size 16 that is the first and the last, with so many bytes.
@@ -98,70 +129,97 @@ fn first_block(alloc: Global, count: usize) -> Result<String, AllocError> {
     format!(in alloc; "d10a00ff{payload}")
 }
 
+static BLOCKS: [Told; 4] = [
+    (GET, "45", "d10a12ff6f6e", NOT_UNDERSTOOD),
+    (GET, "45", "d10a10ff6f6e", NOT_UNDERSTOOD),
+    (GET, "45", "d10a06ff6f6e", FRESH),
+    (GET, "45", "d00aff6f6e", FRESH),
+];
+
+/// The same.
+fn blocks() -> &'static [Told] {
+    &BLOCKS
+}
+
+/// A 200 with sixteen letters.
+const SIXTEEN: &str =
+    "HTTP/1.1 200 OK\r\nCache-Control: max-age=60\r\nContent-Length: 16\r\n\r\naaaaaaaaaaaaaaaa";
+
+/// Of a block of size 16 with so many bytes this is told.
+fn is_block_told(alloc: Global, count: usize, answer: &str) -> Result<bool, ReplayFault> {
+    let rest = first_block(alloc, count)?;
+    is_told(alloc, GET, "45", rest.as_str(), answer)
+}
+
 /// A later block, or one with more bytes than its size, is no whole representation (RFC 7959, section 2).
 #[test]
 fn a_later_block_is_no_whole_response(rt: HostRuntime) {
     let alloc = rt.alloc();
-    assert!(rt; is_told(alloc, GET, "45", "d10a12ff6f6e", NOT_UNDERSTOOD) == Ok(true));
-    assert!(rt; is_told(alloc, GET, "45", "d10a10ff6f6e", NOT_UNDERSTOOD) == Ok(true));
-    assert!(rt; is_told(alloc, GET, "45", "d10a06ff6f6e", FRESH) == Ok(true));
-    assert!(rt; is_told(alloc, GET, "45", "d00aff6f6e", FRESH) == Ok(true));
-    let full = first_block(alloc, 16).expect(&rt, "memory");
-    let told =
-        "HTTP/1.1 200 OK\r\nCache-Control: max-age=60\r\nContent-Length: 16\r\n\r\naaaaaaaaaaaaaaaa";
-    assert!(rt; is_told(alloc, GET, "45", full.as_str(), told) == Ok(true));
-    let longer = first_block(alloc, 17).expect(&rt, "memory");
-    assert!(rt; is_told(alloc, GET, "45", longer.as_str(), NOT_UNDERSTOOD) == Ok(true));
+    assert_eq!(rt; first_wrong(alloc, blocks()), Ok(None));
+    assert!(rt; is_block_told(alloc, 16, SIXTEEN) == Ok(true));
+    assert!(rt; is_block_told(alloc, 17, NOT_UNDERSTOOD) == Ok(true));
+}
+
+/// The answer to a POST that changed a resource.
+const CHANGED: &str = "HTTP/1.1 204 No Content\r\n\r\n";
+
+static OTHER_BLOCKS: [Told; 6] = [
+    (POST, "44", "", CHANGED),
+    (POST, "44", "d10e06", CHANGED),
+    (POST, "44", "d10e16", NOT_UNDERSTOOD),
+    (POST, "44", "d10e0e", NOT_UNDERSTOOD),
+    (POST, "5f", "d10e06", NOT_UNDERSTOOD),
+    (
+        POST,
+        "8d",
+        "d10e02",
+        "HTTP/1.1 413 Content Too Large\r\nContent-Length: 0\r\n\r\n",
+    ),
+];
+
+/// The same.
+fn other_blocks() -> &'static [Told] {
+    &OTHER_BLOCKS
 }
 
 /// A reply to a body that went whole acknowledges no later block, and none that others follow; a 4.13 may
 /// name a smaller size (RFC 7959, sections 2.3 and 2.9.3).
 #[test]
 fn a_reply_to_another_block_is_no_whole_response(rt: HostRuntime) {
-    let alloc = rt.alloc();
-    let changed = "HTTP/1.1 204 No Content\r\n\r\n";
-    assert!(rt; is_told(alloc, POST, "44", "", changed) == Ok(true));
-    assert!(rt; is_told(alloc, POST, "44", "d10e06", changed) == Ok(true));
-    assert!(rt; is_told(alloc, POST, "44", "d10e16", NOT_UNDERSTOOD) == Ok(true));
-    assert!(rt; is_told(alloc, POST, "44", "d10e0e", NOT_UNDERSTOOD) == Ok(true));
-    assert!(rt; is_told(alloc, POST, "5f", "d10e06", NOT_UNDERSTOOD) == Ok(true));
-    let large = "HTTP/1.1 413 Content Too Large\r\nContent-Length: 0\r\n\r\n";
-    assert!(rt; is_told(alloc, POST, "8d", "d10e02", large) == Ok(true));
+    assert_eq!(rt; first_wrong(rt.alloc(), other_blocks()), Ok(None));
+}
+
+static TAGGED: [Told; 3] = [
+    (
+        GET,
+        "45",
+        "410280ff6f6e",
+        "HTTP/1.1 200 OK\r\nContent-Type: text/plain;charset=utf-8\r\nCache-Control: max-age=60\r\nETag: \"02\"\r\nContent-Length: 2\r\n\r\non",
+    ),
+    (
+        HEAD,
+        "45",
+        "410280ff6f6e",
+        "HTTP/1.1 200 OK\r\nContent-Type: text/plain;charset=utf-8\r\nCache-Control: max-age=60\r\nETag: \"02\"\r\nContent-Length: 2\r\n\r\n",
+    ),
+    (
+        POST,
+        "45",
+        "410280ff6f6e",
+        "HTTP/1.1 200 OK\r\nContent-Type: text/plain;charset=utf-8\r\nContent-Length: 2\r\n\r\non",
+    ),
+];
+
+/// The same.
+fn tagged() -> &'static [Told] {
+    &TAGGED
 }
 
 /// Freshness and entity tag are told of what GET or HEAD asked for, and of nothing else (RFC 9110,
 /// section 9.3).
 #[test]
 fn freshness_and_tag_are_told_to_who_reads(rt: HostRuntime) {
-    let alloc = rt.alloc();
-    let tagged = "410280ff6f6e";
-    assert!(rt;
-        is_told(
-            alloc,
-            GET,
-            "45",
-            tagged,
-            "HTTP/1.1 200 OK\r\nContent-Type: text/plain;charset=utf-8\r\nCache-Control: max-age=60\r\nETag: \"02\"\r\nContent-Length: 2\r\n\r\non"
-        ) == Ok(true)
-    );
-    assert!(rt;
-        is_told(
-            alloc,
-            HEAD,
-            "45",
-            tagged,
-            "HTTP/1.1 200 OK\r\nContent-Type: text/plain;charset=utf-8\r\nCache-Control: max-age=60\r\nETag: \"02\"\r\nContent-Length: 2\r\n\r\n"
-        ) == Ok(true)
-    );
-    assert!(rt;
-        is_told(
-            alloc,
-            POST,
-            "45",
-            tagged,
-            "HTTP/1.1 200 OK\r\nContent-Type: text/plain;charset=utf-8\r\nContent-Length: 2\r\n\r\non"
-        ) == Ok(true)
-    );
+    assert_eq!(rt; first_wrong(rt.alloc(), tagged()), Ok(None));
 }
 
 /// Options with a value of 256 bytes in the midst.
@@ -170,14 +228,18 @@ fn with_long(alloc: Global, front: &str, back: &str) -> Result<String, AllocErro
     format!(in alloc; "{front}{value}{back}")
 }
 
+/// The same location is told where such a value stands in the midst.
+fn is_created(alloc: Global, front: &str, back: &str) -> Result<bool, ReplayFault> {
+    let rest = with_long(alloc, front, back)?;
+    is_told(alloc, POST, "41", rest.as_str(), CREATED)
+}
+
 /// A part of a location above 255 bytes is left out, and the others are told (RFC 7252, sections 5.4.3 and
 /// 5.10.7).
 #[test]
 fn a_location_part_that_is_too_long_is_left_out(rt: HostRuntime) {
     let alloc = rt.alloc();
     assert!(rt; is_told(alloc, POST, "41", "83612062c36e3d31", CREATED) == Ok(true));
-    let path = with_long(alloc, "8df3", "03612062c36e3d31").expect(&rt, "memory");
-    assert!(rt; is_told(alloc, POST, "41", path.as_str(), CREATED) == Ok(true));
-    let query = with_long(alloc, "83612062cdf3", "036e3d31").expect(&rt, "memory");
-    assert!(rt; is_told(alloc, POST, "41", query.as_str(), CREATED) == Ok(true));
+    assert!(rt; is_created(alloc, "8df3", "03612062c36e3d31") == Ok(true));
+    assert!(rt; is_created(alloc, "83612062cdf3", "036e3d31") == Ok(true));
 }
