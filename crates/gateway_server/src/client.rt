@@ -56,6 +56,8 @@ impl Stream for Client {
 
     ghost written = { λ c. None };
 
+    ghost gave = { λ c. None };
+
     fn faults(&self) -> u64 {
         self.faults
     }

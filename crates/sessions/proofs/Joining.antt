@@ -9,7 +9,7 @@ use Rattle.front_desk.specs.Lines.{Line, Slip, made, got, told}
 use Rattle.sessions.specs.Devices.{Grown}
 use Rattle.sessions.specs.Telling.{continue_text, SaysAnswer, Piece, interim, final, IsPiece, bytes_in, said_in, AreTurns, given_by, Serves, IsCut, ServesMost}
 
-grown_join : (a b c : Option (List ℕ)) (p q : List ℕ) → Grown a b p → Grown b c q → Grown a c (p ++ q)
+pub grown_join : (a b c : Option (List ℕ)) (p q : List ℕ) → Grown a b p → Grown b c q → Grown a c (p ++ q)
 grown_join None b c p q g h = tt
 grown_join (Some x) None c p q g h = absurd g
 grown_join (Some x) (Some y) None p q g h = absurd h
@@ -76,7 +76,7 @@ serves_interim a w x g = record {
   grown = subst (Grown w x) (sym (append-nil continue_text)) g;
 }
 
-two_more : (a b c : List Line) (n : ℕ) (s : Slip) → b ≡ a ++ made n ∷ [] → c ≡ b ++ got s ∷ [] → c ≡ a ++ (made n ∷ got s ∷ [])
+pub two_more : (a b c : List Line) (n : ℕ) (s : Slip) → b ≡ a ++ made n ∷ [] → c ≡ b ++ got s ∷ [] → c ≡ a ++ (made n ∷ got s ∷ [])
 two_more a b c n s e f = f ∙ ap (λ (ls : List Line). ls ++ got s ∷ []) e ∙ append_assoc a (made n ∷ []) (got s ∷ [])
 
 -- an ask and its answer are noted, and what is written says the answer

@@ -1,1 +1,2 @@
+pub mod AskedItems
 pub mod Joining

@@ -19,6 +19,9 @@ pub trait Stream {
     /// what was written, where that can be known
     ghost written: { Self → Option (List ℕ) };
 
+    /// what came in, where that can be known
+    ghost gave: { Self → Option (List ℕ) };
+
     /// How often it failed. A count at the greatest `u64` stays there.
     fn faults(&self) -> u64
         ensures { result ≡ count self.now };
@@ -28,11 +31,14 @@ pub trait Stream {
         ensures fits { IfOk result (λ n. n ≤ length buffer.new) }
         ensures length { length buffer.new ≡ length buffer.old }
         ensures same { Grown (written self.old) (written self.new) [] }
+        ensures came { IfOk result (λ n. Grown (gave self.old) (gave self.new) (take n buffer.new)) }
+        ensures none { OnErr result (Grown (gave self.old) (gave self.new) []) }
         ensures ok { OnOk result (count self.new ≡ count self.old) }
         ensures err { OnErr result (Rises (count self.old) (count self.new)) };
 
     /// Writes the bytes, or a part of them where it fails.
     fn write(&mut self, bytes: &[u8]) -> Result<(), Failed>
+        ensures quiet { Grown (gave self.old) (gave self.new) [] }
         ensures ok { OnOk result (Grown (written self.old) (written self.new) bytes.now × (count self.new ≡ count self.old)) }
         ensures err { OnErr result (((n : ℕ) × Grown (written self.old) (written self.new) (take n bytes.now)) × Rises (count self.old) (count self.new)) };
 }

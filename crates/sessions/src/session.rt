@@ -1,8 +1,14 @@
 //! What the thread of a connection does.
 
-ghost use Rattle.std.specs.Prelude.{List, ◌≡◌, ◌≢◌, Some, None, IfSome};
+ghost use Rattle.std.specs.Prelude.{List, ◌≡◌, ◌≢◌, [], Some, None, IfSome};
 ghost use Rattle.front_desk.specs.Lines.{Line};
-ghost use Rattle.sessions.specs.Devices.{Rises};
+ghost use Rattle.ask_model.specs.Maps.{Maps};
+ghost use Rattle.ask_model.specs.Views.{rules_of};
+ghost use Rattle.http_edge.specs.Edges.{item};
+ghost use Rattle.http_edge.specs.Reading.{closes};
+ghost use Rattle.std.specs.Arc.{arc_value};
+ghost use Rattle.sessions.specs.Asking.{AsksFirst, IsAnswered, MayBeAsked, TakesMore};
+ghost use Rattle.sessions.specs.Devices.{Rises, Grown};
 ghost use Rattle.sessions.specs.Telling.{Serves, ServesMost};
 
 use crate::devices::{Gate, Point, Stream, Wire};
@@ -74,6 +80,7 @@ pub fn serve<R: Relation, C: Clock, L: Ledger, S: Stream, N: Wire, G: Gate, W: W
 ) -> Done<R, L>
     ensures written { ServesMost pass.lines result.pass.lines (S.written stream.old) (S.written stream.new) }
     ensures finished { result.end ≡ End.Finished → Serves pass.lines result.pass.lines (S.written stream.old) (S.written stream.new) }
+    ensures asks { AsksFirst (Maps R.holds R.takes (rules_of (arc_value settings.now))) pass.lines result.pass.lines (S.gave stream.old) (S.gave stream.new) }
     ensures read_fault { result.end ≡ End.ReadFault → Rises (S.count stream.old) (S.count stream.new) }
     ensures write_fault { result.end ≡ End.WriteFault → Rises (S.count stream.old) (S.count stream.new) }
     ensures held { result.end ≡ End.Held → Rises (G.nays gate.old) (G.nays gate.new) }
@@ -98,6 +105,7 @@ fn talk<R: Relation, C: Clock, L: Ledger, S: Stream, N: Wire, G: Gate, W: Wait>(
 ) -> End
     ensures written { ServesMost pass.old.lines pass.new.lines (S.written stream.old) (S.written stream.new) }
     ensures finished { result ≡ End.Finished → Serves pass.old.lines pass.new.lines (S.written stream.old) (S.written stream.new) }
+    ensures asks { AsksFirst (Maps R.holds R.takes (rules_of (arc_value settings.now))) pass.old.lines pass.new.lines (S.gave stream.old) (S.gave stream.new) }
     ensures read_fault { result ≡ End.ReadFault → Rises (S.count stream.old) (S.count stream.new) }
     ensures write_fault { result ≡ End.WriteFault → Rises (S.count stream.old) (S.count stream.new) }
     ensures held { result ≡ End.Held → Rises (G.nays gate.old) (G.nays gate.new) }
@@ -106,7 +114,7 @@ fn talk<R: Relation, C: Clock, L: Ledger, S: Stream, N: Wire, G: Gate, W: Wait>(
         return End::Memory;
     };
     for _ in rt.forever() {
-        match reading.next() {
+        match reading.edge.next() {
             Err(_) => return End::Memory,
             Ok(Some(incoming)) => {
                 let last = is_last(&incoming);
@@ -130,7 +138,9 @@ fn talk<R: Relation, C: Clock, L: Ledger, S: Stream, N: Wire, G: Gate, W: Wait>(
 }
 
 /// Whether the connection is closed after the answer to what was read.
-fn is_last(incoming: &Incoming) -> bool {
+fn is_last(incoming: &Incoming) -> bool
+    ensures { result ≡ closes (item incoming.now) }
+{
     match incoming {
         Incoming::Request(request) => request.close,
         Incoming::Bad(_) => true,
@@ -146,8 +156,9 @@ fn read_on<S: Stream>(stream: &mut S, reading: &mut Reading) -> Option<End>
     ensures write_fault { result ≡ Some End.WriteFault → Rises (S.count stream.old) (S.count stream.new) }
     ensures others { result ≢ Some End.Held }
     ensures counted { result ≡ None → S.count stream.new ≡ S.count stream.old }
+    ensures takes { TakesMore reading.old.edge reading.new.edge (S.gave stream.old) (S.gave stream.new) }
 {
-    if reading.wants_continue() {
+    if reading.edge.wants_continue() {
         return match write_continue(stream) {
             Ok(()) => None,
             Err(_) => Some(End::WriteFault),
@@ -161,6 +172,7 @@ fn read_on<S: Stream>(stream: &mut S, reading: &mut Reading) -> Option<End>
 }
 
 /// Serves one request.
+#[tactic(auto, using(crate::proofs::Joining::grown_none))]
 fn turn<R: Relation, C: Clock, L: Ledger, S: Stream, N: Wire, G: Gate, W: Wait>(
     rt: &W,
     alloc: Global,
@@ -179,6 +191,9 @@ fn turn<R: Relation, C: Clock, L: Ledger, S: Stream, N: Wire, G: Gate, W: Wait>(
     ensures others { (result ≢ Some End.Finished) × (result ≢ Some End.ReadFault) }
     ensures counted { result ≡ None → S.count stream.new ≡ S.count stream.old }
     ensures passed { result ≡ None → G.nays gate.new ≡ G.nays gate.old }
+    ensures quiet { Grown (S.gave stream.old) (S.gave stream.new) [] }
+    ensures answered { result ≡ None → IsAnswered (Maps R.holds R.takes (rules_of (arc_value settings.now))) (item incoming) pass.old.lines pass.new.lines }
+    ensures asked { IfSome result (λ end. MayBeAsked (Maps R.holds R.takes (rules_of (arc_value settings.now))) (item incoming) pass.old.lines pass.new.lines) }
 {
     let Ok(mapped) = map_request::<R>(alloc, settings, incoming) else {
         return Some(End::Memory);

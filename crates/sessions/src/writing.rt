@@ -1,6 +1,6 @@
 //! What is written to a client.
 
-ghost use Rattle.std.specs.Prelude.{ℕ, ◌≡◌, take, IfOk, OnOk, OnErr};
+ghost use Rattle.std.specs.Prelude.{ℕ, ◌≡◌, [], take, IfOk, OnOk, OnErr};
 ghost use Rattle.exchange_core.specs.Answering.{given_of};
 ghost use Rattle.sessions.specs.Devices.{Rises, Grown};
 ghost use Rattle.sessions.specs.Telling.{SaysAnswer, continue_text};
@@ -26,6 +26,7 @@ pub fn bytes_of<R: Relation>(alloc: Global, answer: &Answer<R>) -> Result<Vec<u8
 
 /// Tells a client that waits with its body to go on.
 pub fn write_continue<S: Stream>(stream: &mut S) -> Result<(), Failed>
+    ensures quiet { Grown (S.gave stream.old) (S.gave stream.new) [] }
     ensures ok { OnOk result (Grown (S.written stream.old) (S.written stream.new) continue_text × (S.count stream.new ≡ S.count stream.old)) }
     ensures err { OnErr result (((n : ℕ) × Grown (S.written stream.old) (S.written stream.new) (take n continue_text)) × Rises (S.count stream.old) (S.count stream.new)) }
 {

@@ -49,6 +49,8 @@ impl Stream for Tape {
 
     ghost written = { λ t. None };
 
+    ghost gave = { λ t. None };
+
     fn faults(&self) -> u64 {
         self.faults
     }

@@ -1,5 +1,6 @@
 -- Nothing is noted, and at most an interim response is written.
 use Rattle.std.proofs.Common.{refl}
+use Rattle.sessions.proofs.AskedItems.{takes_none}
 use Rattle.sessions.proofs.Joining.{serves_none, serves_interim, cut_none, cut_interim}
 use Rattle.sessions.proofs.session.read_on.Goals as goal
 
@@ -20,3 +21,18 @@ returns-in-Ok-false-clause-finished g c lines e = serves_none lines lines _ _ re
 
 pub returns-in-Err-more-clause-some : goal.returns-in-Err-more-clause-some
 returns-in-Err-more-clause-some g c lines = cut_none lines lines _ _ refl c.more.ensures.same
+
+pub returns-in-Ok-clause-takes : goal.returns-in-Ok-clause-takes
+returns-in-Ok-clause-takes g c = takes_none c.args.reading.now.edge c.wants_continue.new.self _ _ c.wants_continue.ensures.stands c.write_continue.ensures.quiet
+
+pub returns-in-Err-clause-takes : goal.returns-in-Err-clause-takes
+returns-in-Err-clause-takes g c = takes_none c.args.reading.now.edge c.wants_continue.new.self _ _ c.wants_continue.ensures.stands c.write_continue.ensures.quiet
+
+pub returns-in-Ok-true-clause-takes : goal.returns-in-Ok-true-clause-takes
+returns-in-Ok-true-clause-takes g c = λ text stands. c.more.ensures.takes text (c.wants_continue.ensures.stands text stands)
+
+pub returns-in-Ok-false-clause-takes : goal.returns-in-Ok-false-clause-takes
+returns-in-Ok-false-clause-takes g c = λ text stands. c.more.ensures.takes text (c.wants_continue.ensures.stands text stands)
+
+pub returns-in-Err-more-clause-takes : goal.returns-in-Err-more-clause-takes
+returns-in-Err-more-clause-takes g c = λ text stands. c.more.ensures.takes text (c.wants_continue.ensures.stands text stands)

@@ -1,5 +1,9 @@
 -- What a turn adds is put after what was served before it.
-use Rattle.sessions.proofs.Joining.{serves_join, most_join, most_whole}
+use Rattle.std.proofs.Common.{◌≡◌, ◌∙◌, [], false, Some, None, Ok, refl, sym}
+use Rattle.http_edge.specs.Edges.{Stands, item}
+use Rattle.http_edge.specs.Reading.{closes}
+use Rattle.sessions.proofs.AskedItems.{item_given, none_given, goes_on, far_none, far_more, far_edge, far_one, first_none, first_far, first_one, first_most}
+use Rattle.sessions.proofs.Joining.{grown_none, serves_none, serves_join, most_join, most_whole}
 use Rattle.sessions.proofs.session.talk.Goals as goal
 
 pub returns-in-Some-turn-clause-written : goal.returns-in-Some-turn-clause-written
@@ -22,3 +26,74 @@ pub returns-in-Some-read_on-clause-written : goal.returns-in-Some-read_on-clause
 returns-in-Some-read_on-clause-written g c =
     most_join c.args.pass.now.lines c.loop.pass.lines _ _ (g.S.Stream.written c.loop.stream) _ c.loop.invariant.4
     (c.in-Some-read_on.ensures.some c.loop.pass.lines)
+
+-- what is asked of what came in
+pub returns-in_default-clause-asks : goal.returns-in_default-clause-asks
+returns-in_default-clause-asks g c = first_none _ _ (g.S.Stream.gave c.args.stream.now)
+
+pub loop-init : goal.loop-init
+loop-init g c = (
+  tt,
+  tt,
+  refl,
+  refl,
+  serves_none _ _ _ _ refl (grown_none (g.S.Stream.written c.args.stream.now)),
+  far_none _ _ (g.S.Stream.gave c.args.stream.now) c.in-Ok.reading.edge c.in-Ok.ensures,
+)
+
+pub returns-in-Err-clause-asks : goal.returns-in-Err-clause-asks
+returns-in-Err-clause-asks g c =
+    first_far _ _ c.loop.pass.lines _ _ (g.S.Stream.gave c.loop.stream) _ c.loop.reading.edge c.loop.invariant.5 ([], grown_none (g.S.Stream.gave c.loop.stream)) refl
+
+pub returns-in-Some-turn-clause-asks : goal.returns-in-Some-turn-clause-asks
+returns-in-Some-turn-clause-asks g c =
+    let s = c.loop.invariant.5 in
+    let e : c.next-in-loop.result ≡ Ok (Some c.in-Ok-Some.incoming) = cc in
+    let given = item_given _ _ s.rest c.in-Ok-Some.incoming e (c.next-in-loop.ensures.steps s.rest s.stands) in
+    first_most _ _ c.loop.pass.lines _ _ (g.S.Stream.gave c.loop.stream) _ c.loop.reading.edge (item c.in-Ok-Some.incoming) given.0 s given.1
+    c.turn.ensures.quiet c.in-Some-turn.ensures.asked
+
+pub returns-then-last-clause-asks : goal.returns-then-last-clause-asks
+returns-then-last-clause-asks g c =
+    let s = c.loop.invariant.5 in
+    let e : c.next-in-loop.result ≡ Ok (Some c.in-Ok-Some.incoming) = cc in
+    let given = item_given _ _ s.rest c.in-Ok-Some.incoming e (c.next-in-loop.ensures.steps s.rest s.stands) in
+    first_one _ _ c.loop.pass.lines _ _ (g.S.Stream.gave c.loop.stream) _ c.loop.reading.edge (item c.in-Ok-Some.incoming) given.0 s given.1
+    c.turn.ensures.quiet (c.turn.ensures.answered c.in_default-turn.is)
+
+pub loop-preserved-else-last : goal.loop-preserved-else-last
+loop-preserved-else-last g c =
+    let s = c.loop.invariant.5 in
+    let e : c.next-in-loop.result ≡ Ok (Some c.in-Ok-Some.incoming) = cc in
+    let given = item_given _ _ s.rest c.in-Ok-Some.incoming e (c.next-in-loop.ensures.steps s.rest s.stands) in
+    let goes : closes (item c.in-Ok-Some.incoming) ≡ false = sym c.is_last-last.ensures ∙ c.if-last.false in (
+      tt,
+      tt,
+      c.turn.ensures.counted c.in_default-turn.is ∙ c.loop.invariant.2,
+      c.turn.ensures.passed c.in_default-turn.is ∙ c.loop.invariant.3,
+      serves_join c.args.pass.now.lines c.loop.pass.lines _ _ (g.S.Stream.written c.loop.stream) _ c.loop.invariant.4 (c.turn.ensures.none c.in_default-turn.is),
+      far_one _ _ c.loop.pass.lines _ _ (g.S.Stream.gave c.loop.stream) _ c.loop.reading.edge c.next-in-loop.new.self (item c.in-Ok-Some.incoming) given.0 s given.1 goes
+          (goes_on (item c.in-Ok-Some.incoming) _ _ goes given.2) c.turn.ensures.quiet (c.turn.ensures.answered c.in_default-turn.is),
+    )
+
+pub returns-in-Some-read_on-clause-asks : goal.returns-in-Some-read_on-clause-asks
+returns-in-Some-read_on-clause-asks g c =
+    let s = c.loop.invariant.5 in
+    let e : c.next-in-loop.result ≡ Ok None = cc in
+    let stands : Stands c.next-in-loop.new.self s.rest = none_given _ _ s.rest e (c.next-in-loop.ensures.steps s.rest s.stands) in
+    let more = c.read_on.ensures.takes s.rest stands in
+    first_far _ _ c.loop.pass.lines _ _ (g.S.Stream.gave c.loop.stream) _ c.loop.reading.edge s (more.0, more.1) refl
+
+pub loop-preserved : goal.loop-preserved
+loop-preserved g c =
+    let s = c.loop.invariant.5 in
+    let e : c.next-in-loop.result ≡ Ok None = cc in
+    let stands : Stands c.next-in-loop.new.self s.rest = none_given _ _ s.rest e (c.next-in-loop.ensures.steps s.rest s.stands) in (
+      tt,
+      tt,
+      c.read_on.ensures.counted c.in_default-read_on.is ∙ c.loop.invariant.2,
+      c.loop.invariant.3,
+      serves_join c.args.pass.now.lines c.loop.pass.lines _ _ (g.S.Stream.written c.loop.stream) _ c.loop.invariant.4
+          (c.read_on.ensures.none c.loop.pass.lines c.in_default-read_on.is),
+      far_more _ _ _ _ (g.S.Stream.gave c.loop.stream) _ c.next-in-loop.new.self _ (far_edge _ _ _ _ _ c.loop.reading.edge c.next-in-loop.new.self s stands) c.read_on.ensures.takes,
+    )

@@ -1,6 +1,9 @@
 -- The ask and its answer are noted one after the other, and what is written says that answer.
-use Rattle.std.proofs.Common.{refl, ◌∙◌}
+use Rattle.std.proofs.Common.{inl, inr, refl, ◌∙◌}
+use Rattle.std.specs.Arc.{arc_value}
+use Rattle.http_edge.specs.Edges.{item}
 use Rattle.front_desk.specs.Lines.{slip_of}
+use Rattle.sessions.proofs.AskedItems.{ask_of, is_answered}
 use Rattle.sessions.proofs.Joining.{grown_none, serves_turn, cut_none, cut_ask, cut_answer, cut_part}
 use Rattle.sessions.proofs.session.turn.Goals as goal
 
@@ -22,6 +25,9 @@ returns-in-Err g c = record {
   others = (λ e. cc, λ e. cc);
   counted = λ e. absurd cc;
   passed = λ e. absurd cc;
+  quiet = grown_none (g.S.Stream.gave c.args.stream.now);
+  answered = λ e. absurd cc;
+  asked = inl c.in-Err.ensures.none;
 }
 
 pub returns-then-not-pass-clause-some : goal.returns-then-not-pass-clause-some
@@ -54,3 +60,31 @@ returns-clause-some g c =
     let part = c.in-Err-write.ensures.err.0 in
     cut_part _ c.ask.new.pass.lines _ c.in-Ok-ask.ticket.number (slip_of c.in-Some.receipt) c.as_slice.result.now part.0 _ _ c.in-Ok-ask.ensures.lines
     c.keep.ensures.lines c.in-Some.ensures.number.0 (s.0, s.1, c.as_slice.ensures.value ∙ s.2) part.1
+
+pub returns-then-not-pass-2-clause-asked : goal.returns-then-not-pass-2-clause-asked
+returns-then-not-pass-2-clause-asked g c =
+    inr (inr (is_answered _ (item c.args.incoming) _ c.ask.new.pass.lines _ c.in-Ok-ask.ticket.number (slip_of c.in-Some.receipt) c.in-Ok-ask.ensures.lines
+    c.keep.ensures.lines c.in-Some.ensures.number.0
+    (ask_of _ c.args.incoming (arc_value c.in-Some.receipt.answer.mapped) c.in-Ok.mapped
+    (c.in-Some.ensures.request ∙ c.in-Ok-ask.ensures.ticket.1 ∙ c.in-Ok-new.ensures.ok) c.in-Ok.ensures.came c.in-Ok.ensures.maps)))
+
+pub returns-in_default-bytes-clause-asked : goal.returns-in_default-bytes-clause-asked
+returns-in_default-bytes-clause-asked g c =
+    inr (inr (is_answered _ (item c.args.incoming) _ c.ask.new.pass.lines _ c.in-Ok-ask.ticket.number (slip_of c.in-Some.receipt) c.in-Ok-ask.ensures.lines
+    c.keep.ensures.lines c.in-Some.ensures.number.0
+    (ask_of _ c.args.incoming (arc_value c.in-Some.receipt.answer.mapped) c.in-Ok.mapped
+    (c.in-Some.ensures.request ∙ c.in-Ok-ask.ensures.ticket.1 ∙ c.in-Ok-new.ensures.ok) c.in-Ok.ensures.came c.in-Ok.ensures.maps)))
+
+pub returns-clause-asked : goal.returns-clause-asked
+returns-clause-asked g c =
+    inr (inr (is_answered _ (item c.args.incoming) _ c.ask.new.pass.lines _ c.in-Ok-ask.ticket.number (slip_of c.in-Some.receipt) c.in-Ok-ask.ensures.lines
+    c.keep.ensures.lines c.in-Some.ensures.number.0
+    (ask_of _ c.args.incoming (arc_value c.in-Some.receipt.answer.mapped) c.in-Ok.mapped
+    (c.in-Some.ensures.request ∙ c.in-Ok-ask.ensures.ticket.1 ∙ c.in-Ok-new.ensures.ok) c.in-Ok.ensures.came c.in-Ok.ensures.maps)))
+
+pub returns-in-Ok-write-clause-answered : goal.returns-in-Ok-write-clause-answered
+returns-in-Ok-write-clause-answered g c e =
+    is_answered _ (item c.args.incoming) _ c.ask.new.pass.lines _ c.in-Ok-ask.ticket.number (slip_of c.in-Some.receipt) c.in-Ok-ask.ensures.lines
+    c.keep.ensures.lines c.in-Some.ensures.number.0
+    (ask_of _ c.args.incoming (arc_value c.in-Some.receipt.answer.mapped) c.in-Ok.mapped
+    (c.in-Some.ensures.request ∙ c.in-Ok-ask.ensures.ticket.1 ∙ c.in-Ok-new.ensures.ok) c.in-Ok.ensures.came c.in-Ok.ensures.maps)
