@@ -20,3 +20,4 @@ pub mod Over
 pub mod Moving
 pub mod TimingOut
 pub mod Ticking
+pub mod Running

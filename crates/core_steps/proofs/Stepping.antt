@@ -36,7 +36,7 @@ use Rattle.core_steps.specs.Reads.{opening_of}
 use Rattle.core_steps.specs.Steps.{asks, begins, exchange_for}
 use Rattle.core_steps.specs.Resting.{IsUndue, LinkRests, HasExchange, IsServed, HasConn, Rests}
 use Rattle.core_steps.specs.Calls.{Numbers, next, refused, has_place, asked_by}
-use Rattle.core_steps.specs.Keeping.{HasMids, Kept, MayStep, KeptStands, OpensKeeps, ShutsKeeps, SealsKeeps, IsProper, IsNumbered, AsksKeeps}
+use Rattle.core_steps.specs.Keeping.{StartKeeps, HasMids, Kept, MayStep, KeptStands, OpensKeeps, ShutsKeeps, SealsKeeps, IsProper, IsNumbered, AsksKeeps}
 use Rattle.core_steps.specs.Laws.{Before, MayAsk}
 use Rattle.core_steps.proofs.Amid.{Amid, Moved, RestAt, IsEarly, tick-before, next-moves}
 use Rattle.core_steps.proofs.Begins.{begins-leads}
@@ -258,3 +258,31 @@ asks-keeps t c a n S m h proper numbered = by a.sense refl
         place true e = opened-for t c a q n S m h is (numbered q is) e
         place false e = at-once t c a C.Busy S m h (rw (is) (room-same m.kept.reading t q S (before-step t S m) ∙ e))
             (λ l k stands. (refl, record { moment = t; conn = c; ask = a; request = q; stands = stands; sense = is }))
+
+-- before the first step
+
+pub start-keeps : StartKeeps
+start-keeps = record {
+  reading = [];
+  rests = record {
+    reads = record {
+      entries_are = refl;
+      legal = tt;
+      sealed_is = refl;
+      moment_is = refl;
+      opened_are = refl;
+      issued_are = refl;
+      conns_are = refl;
+      keys = refl;
+      exchanges_are = tt;
+      tokens_are = tt;
+      waiting_are = tt;
+      links_are = λ p. record { turn = refl; last = refl; count_up = tt; given = λ t later. refl; waits = tt; awaits = λ token. refl; acks = λ mid token. refl; heard = record { repeats = λ t mid later. refl; live = λ t later. refl } };
+    };
+    quiet = refl;
+    links = λ p. refl;
+    in_time = tt;
+    served = tt;
+  };
+  mids = λ p. record { small = tt; enough = omega arith };
+}

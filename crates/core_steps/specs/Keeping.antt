@@ -1,6 +1,6 @@
 -- The law of the steps: between two of them one reading of the journal is legal, at rest, and says
 -- what the state says.
-use Rattle.std.specs.Prelude.{◌≡◌, ℕ, ◌+◌, ◌<◌, ◌≤◌, false, List, length, Option, None}
+use Rattle.std.specs.Prelude.{◌≡◌, ℕ, ◌+◌, ◌<◌, ◌≤◌, false, List, [], length, Option, None}
 use Rattle.std.specs.List.{AllByRecursion}
 use Rattle.coap_codec.specs.Spelling.{Spells}
 use Rattle.uri_map.specs.declared.peer.Peer.{Peer}
@@ -29,6 +29,22 @@ pub record Kept (S : State) : Type 0 where
   pub reading : List Noted
   pub rests : Rests reading S
   pub mids : (p : Peer) → HasMids (link_of S.links p)
+
+-- a core before its first step
+abbrev pub start : State
+start = record {
+  entries = [];
+  sealed = false;
+  moment = 0;
+  opened = 0;
+  issued = 0;
+  conns = [];
+  exchanges = [];
+  links = [];
+}
+
+abbrev pub StartKeeps : Type 0
+StartKeeps = Kept start
 
 -- before an input at this moment: the journal isn't sealed
 pub record MayStep (t : ℕ) (S : State) : Type 0 where

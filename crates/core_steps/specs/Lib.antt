@@ -5,3 +5,4 @@ pub mod Resting
 pub mod Laws
 pub mod Calls
 pub mod Keeping
+pub mod Worked

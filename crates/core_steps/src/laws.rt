@@ -16,6 +16,7 @@ ghost use Rattle.core_steps.specs.Laws.{
   PassesLeads,
 };
 ghost use Rattle.core_steps.specs.Keeping.{
+  StartKeeps,
   KeptStands,
   OpensKeeps,
   ShutsKeeps,
@@ -25,6 +26,7 @@ ghost use Rattle.core_steps.specs.Keeping.{
   TicksKeeps,
   TicksDo,
 };
+ghost use Rattle.core_steps.specs.Worked.{AnsweredRun, GivenUpRun};
 ghost use Rattle.core_steps.specs.Resting.{ConnsTell, RestsAtRest};
 
 /// A connection may be opened and shut, an ask answered on its grounds, and the journal sealed
@@ -73,6 +75,7 @@ pub fn rests_at_rest()
 /// A step keeps that the journal stands, and that the state says what it says: a connection opened
 /// or shut, the seal, an ask.
 pub fn step_keeps()
+    ensures start { StartKeeps }
     ensures stands { KeptStands }
     ensures opens { OpensKeeps }
     ensures shuts { ShutsKeeps }
@@ -89,4 +92,11 @@ pub fn hearing_keeps()
 pub fn ticking_keeps()
     ensures keeps { TicksKeeps }
     ensures done { TicksDo }
+{}
+
+/// Worked runs leave the entries of worked journals: a copy, a message that waits, an empty ACK, a response
+/// of its own and its repeat; and no reply at all.
+pub fn worked_runs()
+    ensures answered { AnsweredRun }
+    ensures given_up { GivenUpRun }
 {}

@@ -1,5 +1,8 @@
-use Rattle.core_steps.proofs.Stepping.{kept-stands, opens-keeps, shuts-keeps, seals-keeps, asks-keeps}
+use Rattle.core_steps.proofs.Stepping.{start-keeps, kept-stands, opens-keeps, shuts-keeps, seals-keeps, asks-keeps}
 use Rattle.core_steps.proofs.laws.step_keeps.Goals as goal
+
+pub returns-clause-start : goal.returns-clause-start
+returns-clause-start c = start-keeps
 
 pub returns-clause-stands : goal.returns-clause-stands
 returns-clause-stands c = kept-stands
