@@ -94,8 +94,8 @@ pub fn ticking_keeps()
     ensures done { TicksDo }
 {}
 
-/// Worked runs leave the entries of worked journals: a copy, a message that waits, an empty ACK, a response
-/// of its own and its repeat; and no reply at all.
+/// Worked runs leave the entries of worked journals: a copy, a message that waits, an empty ACK, a
+/// response of its own and its repeat; and no reply at all.
 pub fn worked_runs()
     ensures answered { AnsweredRun }
     ensures given_up { GivenUpRun }
