@@ -104,7 +104,7 @@ bears-it f token (g ∷ fs) i e same = by (eqb g.number i) e (λ h. bears-it f t
     by true e ih = rw ((bytes_eq-Decides g.message.token token).1 (ap (λ (k : FirstSending). k.message.token) (is-it g e) ∙ same)) refl
     by false e ih = or-right (bytes_eq g.message.token token) _ (ih e)
 
-borne-bears : (l : List Noted) (f : FirstSending) (token : List ℕ) (i : ℕ) → first_at l i ≡ Some f → f.message.token ≡ token → bears_token l token ≡ true
+pub borne-bears : (l : List Noted) (f : FirstSending) (token : List ℕ) (i : ℕ) → first_at l i ≡ Some f → f.message.token ≡ token → bears_token l token ≡ true
 borne-bears l f token i is same = bears-it f token (firsts l) i is same
 
 some-first : (f g : FirstSending) → Some f ≡ Some g → f ≡ g

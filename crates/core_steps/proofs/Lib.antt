@@ -21,3 +21,4 @@ pub mod Moving
 pub mod TimingOut
 pub mod Ticking
 pub mod Running
+pub mod Links

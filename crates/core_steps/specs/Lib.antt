@@ -6,3 +6,4 @@ pub mod Laws
 pub mod Calls
 pub mod Keeping
 pub mod Worked
+pub mod Links

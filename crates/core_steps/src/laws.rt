@@ -28,6 +28,7 @@ ghost use Rattle.core_steps.specs.Keeping.{
 };
 ghost use Rattle.core_steps.specs.Worked.{AnsweredRun, GivenUpRun};
 ghost use Rattle.core_steps.specs.Resting.{ConnsTell, RestsAtRest};
+ghost use Rattle.core_steps.specs.Links.{SubmitsLink, SubmitsOne};
 
 /// A connection may be opened and shut, an ask answered on its grounds, and the journal sealed
 /// where it is as good as full.
@@ -99,4 +100,10 @@ pub fn ticking_keeps()
 pub fn worked_runs()
     ensures answered { AnsweredRun }
     ensures given_up { GivenUpRun }
+{}
+
+/// What a link is after a call of the message layer is what the step makes of it (RFC 7252 section 4).
+pub fn links_follow()
+    ensures submits { SubmitsLink }
+    ensures submits_one { SubmitsOne }
 {}

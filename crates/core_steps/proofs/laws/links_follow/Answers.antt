@@ -1,0 +1,8 @@
+use Rattle.core_steps.proofs.Links.{submits-link, submits-one}
+use Rattle.core_steps.proofs.laws.links_follow.Goals as goal
+
+pub returns-clause-submits : goal.returns-clause-submits
+returns-clause-submits c = submits-link
+
+pub returns-clause-submits_one : goal.returns-clause-submits_one
+returns-clause-submits_one c = submits-one

@@ -1,0 +1,50 @@
+-- What a link is after a call of the message layer is what the step makes of it, but for the datagrams
+-- that it gives out.
+use Rattle.std.specs.Prelude.{◌≡◌, ℕ, Bool, true, false, not, List, filter, Option, Some, None}
+use Rattle.uri_map.specs.declared.peer.Peer.{Peer}
+use Rattle.ask_model.specs.Requests.{CoapRequest, Ask, same_peer}
+use Rattle.message_layer.specs.Values.{LinkState, Told, response, was_reset}
+use Rattle.message_layer.specs.Calls.{expected}
+use Rattle.message_layer.specs.Sending.{waits, submitted}
+use Rattle.message_layer.specs.Hearing.{hears as call_hears}
+use Rattle.core_steps.specs.State.{State, link_of}
+use Rattle.core_steps.specs.Steps.{begins, given_out}
+use Rattle.core_steps.specs.Calls.{Numbers, next, heard}
+use Rattle.core_steps.specs.Keeping.{Kept}
+
+-- The token under which nothing is awaited any more: that of a response, or of a message that was
+-- reset.
+abbrev pub over_by : Told → Option (List ℕ)
+over_by (response m) = Some m.token
+over_by (was_reset token) = Some token
+over_by _ = None
+
+abbrev pub awaits_no_more : Option (List ℕ) → LinkState → LinkState
+awaits_no_more None s = s
+awaits_no_more (Some token) s = expected token false s
+
+-- The message of an ask is submitted to its endpoint's link.
+abbrev pub SubmitsLink : Type 0
+SubmitsLink =
+    (t c : ℕ) (a : Ask) (q : CoapRequest) (n : Numbers) (S : State)
+    → given_out (link_of (next t q.peer (begins t c a q n.token n.text n.word S)).links q.peer)
+    ≡ given_out (submitted t (waits n.token n.text n.word) (link_of S.links q.peer))
+
+-- A datagram is heard by the link of the endpoint that sent it.
+abbrev pub HearsLink : Type 0
+HearsLink =
+    (t : ℕ) (p : Peer) (d : List ℕ) (S : State) → Kept S
+    → let x = call_hears t d (link_of S.links p) in
+    given_out (link_of (heard t p d S).links p) ≡ given_out (awaits_no_more (over_by x.1) x.0)
+
+-- No other link changes.
+abbrev pub SubmitsOne : Type 0
+SubmitsOne =
+    (t c : ℕ) (a : Ask) (q : CoapRequest) (n : Numbers) (p : Peer) (S : State)
+    → same_peer q.peer p ≡ false
+    → link_of (next t q.peer (begins t c a q n.token n.text n.word S)).links p ≡ link_of S.links p
+
+abbrev pub HearsOne : Type 0
+HearsOne =
+    (t : ℕ) (p q : Peer) (d : List ℕ) (S : State) → same_peer p q ≡ false
+    → link_of (heard t p d S).links q ≡ link_of S.links q
