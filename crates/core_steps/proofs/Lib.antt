@@ -22,3 +22,5 @@ pub mod TimingOut
 pub mod Ticking
 pub mod Running
 pub mod Links
+pub mod Idle
+pub mod LinksHeard

@@ -28,7 +28,7 @@ ghost use Rattle.core_steps.specs.Keeping.{
 };
 ghost use Rattle.core_steps.specs.Worked.{AnsweredRun, GivenUpRun};
 ghost use Rattle.core_steps.specs.Resting.{ConnsTell, RestsAtRest};
-ghost use Rattle.core_steps.specs.Links.{SubmitsLink, SubmitsOne};
+ghost use Rattle.core_steps.specs.Links.{SubmitsLink, SubmitsOne, HearsLink, HearsOne};
 
 /// A connection may be opened and shut, an ask answered on its grounds, and the journal sealed
 /// where it is as good as full.
@@ -106,4 +106,6 @@ pub fn worked_runs()
 pub fn links_follow()
     ensures submits { SubmitsLink }
     ensures submits_one { SubmitsOne }
+    ensures hears { HearsLink }
+    ensures hears_one { HearsOne }
 {}

@@ -1,4 +1,5 @@
 use Rattle.core_steps.proofs.Links.{submits-link, submits-one}
+use Rattle.core_steps.proofs.LinksHeard.{hears-link, hears-one}
 use Rattle.core_steps.proofs.laws.links_follow.Goals as goal
 
 pub returns-clause-submits : goal.returns-clause-submits
@@ -6,3 +7,9 @@ returns-clause-submits c = submits-link
 
 pub returns-clause-submits_one : goal.returns-clause-submits_one
 returns-clause-submits_one c = submits-one
+
+pub returns-clause-hears : goal.returns-clause-hears
+returns-clause-hears c = hears-link
+
+pub returns-clause-hears_one : goal.returns-clause-hears_one
+returns-clause-hears_one c = hears-one
