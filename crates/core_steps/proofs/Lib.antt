@@ -24,3 +24,4 @@ pub mod Running
 pub mod Links
 pub mod Idle
 pub mod LinksHeard
+pub mod LinksTicked

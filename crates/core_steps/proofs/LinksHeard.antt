@@ -112,11 +112,11 @@ answering t mid token v s = record s {
 }
 
 -- where nothing is outstanding, nothing waits
-abbrev Turns : Option Outstanding → List Waiting → Type 0
+abbrev pub Turns : Option Outstanding → List Waiting → Type 0
 Turns None ws = ws ≡ []
 Turns (Some o) ws = Unit {0}
 
-turns : (tick : ℕ) (v : Option Outstanding) (ws : List Waiting) → IsUndue tick v ws → Turns v ws
+pub turns : (tick : ℕ) (v : Option Outstanding) (ws : List Waiting) → IsUndue tick v ws → Turns v ws
 turns tick None ws h = h
 turns tick (Some o) ws h = tt
 

@@ -91,7 +91,7 @@ copied l t p o S a quiet tick out over due =
 
 -- one endpoint
 
-visited : (l : List Noted) (t : ℕ) (p : Peer) (S : State) → Amid l t S → owed l ≡ None → ticked l ≡ t → is_over t (link_of S.links p).outstanding ≡ false
+pub visited : (l : List Noted) (t : ℕ) (p : Peer) (S : State) → Amid l t S → owed l ≡ None → ticked l ≡ t → is_over t (link_of S.links p).outstanding ≡ false
     → (n : List Noted) × Moved l t p S n (moves t S p) × RestAt n (moves t S p) p
 visited l t p S a quiet tick over = by (link_of S.links p).outstanding refl over
   where

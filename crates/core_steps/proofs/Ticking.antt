@@ -71,13 +71,13 @@ going-in-time t links e h =
     going false k = refl
 
 -- an endpoint without a link
-unlinked : (xs : List PeerLink) (p : Peer) → is_among (map peer_of xs) p ≡ false → link_of xs p ≡ empty_link
+pub unlinked : (xs : List PeerLink) (p : Peer) → is_among (map peer_of xs) p ≡ false → link_of xs p ≡ empty_link
 unlinked [] p h = refl
 unlinked (x ∷ xs) p h =
     let away = or_parts (same_peer x.peer p) (is_among (map peer_of xs) p) h in
     rw (away.0) (unlinked xs p away.1)
 
-passed-ready : (l : List Noted) (t : ℕ) (S : State) → Rests l S → S.sealed ≡ false → S.moment ≤ t → ((p : Peer) → HasMids (link_of S.links p))
+pub passed-ready : (l : List Noted) (t : ℕ) (S : State) → Rests l S → S.sealed ≡ false → S.moment ≤ t → ((p : Peer) → HasMids (link_of S.links p))
     → Ready (map peer_of (passes t S).links) (passed_by t l) t (passes t S)
 passed-ready l t S r unsealed later mids =
     let led = passes-leads l t S (record { reads = r.reads; later = later }) (r.reads.sealed_is ∙ unsealed, rests-at-rest l S r) in

@@ -3,14 +3,16 @@
 use Rattle.std.specs.Prelude.{◌≡◌, ℕ, Bool, true, false, not, List, filter, Option, Some, None}
 use Rattle.uri_map.specs.declared.peer.Peer.{Peer}
 use Rattle.ask_model.specs.Requests.{CoapRequest, Ask, same_peer}
-use Rattle.message_layer.specs.Values.{LinkState, Told, response, was_reset}
+use Rattle.message_layer.specs.Values.{LinkState, Told, no_news, response, was_reset}
 use Rattle.message_layer.specs.Calls.{expected}
-use Rattle.message_layer.specs.Sending.{waits, submitted}
+use Rattle.message_layer.specs.Sending.{waits, submitted, ticked as call_ticked}
 use Rattle.message_layer.specs.Hearing.{hears as call_hears}
+use Rattle.message_layer.specs.declared.state.Awaited.{Awaited}
+use Rattle.message_layer.specs.declared.state.Waiting.{Waiting}
 use Rattle.core_steps.specs.State.{State, link_of}
-use Rattle.core_steps.specs.Steps.{begins, given_out}
-use Rattle.core_steps.specs.Calls.{Numbers, next, heard}
-use Rattle.core_steps.specs.Keeping.{Kept}
+use Rattle.core_steps.specs.Steps.{begins, given_out, is_gone}
+use Rattle.core_steps.specs.Calls.{Numbers, next, heard, something_due, ticked}
+use Rattle.core_steps.specs.Keeping.{Kept, MayStep}
 
 -- The token under which nothing is awaited any more: that of a response, or of a message that was
 -- reset.
@@ -48,3 +50,23 @@ abbrev pub HearsOne : Type 0
 HearsOne =
     (t : ℕ) (p q : Peer) (d : List ℕ) (S : State) → same_peer p q ≡ false
     → link_of (heard t p d S).links q ≡ link_of S.links q
+
+-- What bears the token of an exchange that ends is neither awaited nor sent any more.
+abbrev pub rid_of : (List ℕ → Bool) → LinkState → LinkState
+rid_of gone s = record s {
+  waiting = filter (λ (w : Waiting). not (gone w.token)) s.waiting;
+  awaited = filter (λ (a : Awaited). not (gone a.token)) s.awaited;
+}
+
+-- Each link looks at its timer then, where something is due.
+abbrev pub TicksLink : Type 0
+TicksLink =
+    (t : ℕ) (p : Peer) (S : State) → MayStep t S → something_due t S ≡ true
+    → given_out (link_of (ticked t S).links p)
+    ≡ given_out (call_ticked t (rid_of (is_gone t S) (link_of S.links p))).0
+
+-- Where nothing is, no link would do anything.
+abbrev pub NoneTicks : Type 0
+NoneTicks =
+    (t : ℕ) (p : Peer) (S : State) → something_due t S ≡ false
+    → call_ticked t (link_of S.links p) ≡ (link_of S.links p, no_news)

@@ -28,7 +28,7 @@ ghost use Rattle.core_steps.specs.Keeping.{
 };
 ghost use Rattle.core_steps.specs.Worked.{AnsweredRun, GivenUpRun};
 ghost use Rattle.core_steps.specs.Resting.{ConnsTell, RestsAtRest};
-ghost use Rattle.core_steps.specs.Links.{SubmitsLink, SubmitsOne, HearsLink, HearsOne};
+ghost use Rattle.core_steps.specs.Links.{SubmitsLink, SubmitsOne, HearsLink, HearsOne, TicksLink, NoneTicks};
 
 /// A connection may be opened and shut, an ask answered on its grounds, and the journal sealed
 /// where it is as good as full.
@@ -108,4 +108,6 @@ pub fn links_follow()
     ensures submits_one { SubmitsOne }
     ensures hears { HearsLink }
     ensures hears_one { HearsOne }
+    ensures ticks { TicksLink }
+    ensures none_ticks { NoneTicks }
 {}

@@ -1,5 +1,6 @@
 use Rattle.core_steps.proofs.Links.{submits-link, submits-one}
 use Rattle.core_steps.proofs.LinksHeard.{hears-link, hears-one}
+use Rattle.core_steps.proofs.LinksTicked.{ticks-link, none-ticks}
 use Rattle.core_steps.proofs.laws.links_follow.Goals as goal
 
 pub returns-clause-submits : goal.returns-clause-submits
@@ -13,3 +14,9 @@ returns-clause-hears c = hears-link
 
 pub returns-clause-hears_one : goal.returns-clause-hears_one
 returns-clause-hears_one c = hears-one
+
+pub returns-clause-ticks : goal.returns-clause-ticks
+returns-clause-ticks c = ticks-link
+
+pub returns-clause-none_ticks : goal.returns-clause-none_ticks
+returns-clause-none_ticks c = none-ticks
