@@ -1,46 +1,22 @@
 -- A message that is lost, or that repeats one, leaves its link.
-use Rattle.std.proofs.Common.{◌≡◌, ℕ, ◌⊎◌, Bool, true, false, cond, not, eqb, ltb, leb, inl, inr, List, [], ◌∷◌, ◌++◌, length, Option, Some, None, Result, Ok, Err, refl, sym, ap, subst, ◌∙◌, arith}
-use Rattle.std.specs.Prelude.{◌&&◌, filter, is_some, count_by}
+use Rattle.std.proofs.Common.{◌≡◌, ℕ, ◌⊎◌, Bool, true, false, cond, eqb, ltb, inl, inr, List, Option, Some, None, refl, sym, ap, ◌∙◌}
+use Rattle.std.specs.Prelude.{◌&&◌, is_some, count_by}
 use Rattle.std.specs.List.{find, list_any}
-use Rattle.std.specs.Str.{bytes_eq}
-use Rattle.std.proofs.lemmas.Bool.{false≢true, lt-ltb, le-ltb}
-use Rattle.std.proofs.lemmas.Bool.Decides.{leb_tells}
-use Rattle.std.proofs.lemmas.Slice.Eq.{bytes_eq-Decides}
+use Rattle.std.proofs.lemmas.Bool.{false≢true}
 use Rattle.coap_codec.specs.Spelling.{Content}
-use Rattle.coap_codec.specs.Reading.{message_at}
-use Rattle.coap_codec.specs.declared.fault.CodecFault.{CodecFault}
 use Rattle.coap_codec.specs.declared.message.MsgType.{MsgType}
 use Rattle.coap_codec.specs.declared.message.MsgType.TheVariants.{Con, Non, Ack, Rst}
-use Rattle.uri_map.specs.declared.peer.Peer.{Peer}
-use Rattle.ask_model.specs.Requests.{same_peer}
-use Rattle.journal_book.specs.Entries.{Grounds}
-use Rattle.message_layer.specs.Values.{LinkState, was_dropped}
-use Rattle.message_layer.specs.Calls.{is_other}
-use Rattle.message_layer.specs.Sending.{first_sent, with_outstanding, next_by as call_next_by, submitted_by}
-use Rattle.message_layer.specs.Hearing.{is_fresh, is_repeat, replies, reset_for, new_verdict, heard_verdict, ack_verdict, rst_verdict, verdict_by, verdict_of, answered_in, remembered_in, applied, ended, says, undecoded, hears_read, hears_from, is_awaited, is_awaited_by_ack}
-use Rattle.message_layer.specs.declared.state.Awaited.{Awaited}
+use Rattle.message_layer.specs.Values.{LinkState}
+use Rattle.message_layer.specs.Hearing.{is_fresh, is_repeat, new_verdict, heard_verdict, ack_verdict, rst_verdict, verdict_by, answered_in, applied, says, is_awaited, is_awaited_by_ack}
 use Rattle.message_layer.specs.declared.state.Heard.{Heard}
 use Rattle.message_layer.specs.declared.state.Outstanding.{Outstanding}
 use Rattle.message_layer.specs.declared.state.Reply.{Reply}
-use Rattle.message_layer.specs.declared.state.Reply.TheVariants as R
-use Rattle.message_layer.specs.declared.state.Waiting.{Waiting}
 use Rattle.message_layer.specs.declared.verdict.News.{News}
 use Rattle.message_layer.specs.declared.verdict.News.TheVariants as N
 use Rattle.message_layer.specs.declared.verdict.Verdict.{Verdict}
-use Rattle.whole_history.specs.Readings.{Noted}
 use Rattle.whole_history.specs.Hearing.{is_such}
-use Rattle.whole_history.specs.Transmissions.{bears_token}
-use Rattle.whole_history.specs.Exchanges.{waiting}
-use Rattle.link_history.specs.Agrees.{WaitIn, Agrees}
-use Rattle.link_history.specs.Steps.{ended_token, unawaited, heard_link}
-use Rattle.core_steps.specs.declared.kept.Conn.{Conn}
-use Rattle.core_steps.specs.declared.kept.Exchange.{Exchange}
-use Rattle.core_steps.specs.State.{PeerLink, State, link_of}
-use Rattle.core_steps.specs.Steps.{given_out, answers, hears, hears_nothing}
-use Rattle.core_steps.specs.Calls.{next, given_back, waits_on, ends, ends_if, ended_in, grounds_by, takes_new, takes_by, repeats, takes, resets, reads_so}
-use Rattle.core_steps.specs.Resting.{IsUndue}
-use Rattle.core_steps.specs.Keeping.{Kept}
-use Rattle.core_steps.specs.Links.{over_by, awaits_no_more, HearsLink, HearsOne}
+use Rattle.core_steps.specs.Steps.{given_out}
+use Rattle.core_steps.specs.Links.{over_by, awaits_no_more}
 
 abbrev pub Idle : Verdict → Type 0
 Idle v = (v.remembered ≡ false) × (v.ends ≡ false) × (v.news ≡ N.Quiet ⊎ v.news ≡ N.Lost)

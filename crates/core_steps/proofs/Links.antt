@@ -1,10 +1,9 @@
 -- What the calls of the message layer make of a link is what the steps make of it.
-use Rattle.std.proofs.Common.{◌≡◌, ℕ, Bool, true, false, cond, inl, inr, leb, ltb, List, [], ◌∷◌, ◌++◌, length, Option, Some, None, refl, sym, ap, subst, ◌∙◌, arith}
-use Rattle.std.specs.Prelude.{◌&&◌, is_some}
+use Rattle.std.proofs.Common.{◌≡◌, ℕ, false, List, [], ◌∷◌, Option, Some, None, refl, sym, ap, ◌∙◌}
 use Rattle.uri_map.specs.declared.peer.Peer.{Peer}
 use Rattle.ask_model.specs.Requests.{same_peer}
 use Rattle.message_layer.specs.Values.{LinkState}
-use Rattle.message_layer.specs.Sending.{first_sent, with_outstanding, without_outstanding, next_by as call_next_by, submitted_by, waits, queued}
+use Rattle.message_layer.specs.Sending.{first_sent, with_outstanding, submitted_by, waits, queued}
 use Rattle.message_layer.specs.declared.state.Outstanding.{Outstanding}
 use Rattle.message_layer.specs.declared.state.Waiting.{Waiting}
 use Rattle.core_steps.specs.State.{State, link_of}

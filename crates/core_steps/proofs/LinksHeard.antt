@@ -1,7 +1,7 @@
 -- What hearing a datagram makes of a link is what the step makes of it.
-use Rattle.std.proofs.Common.{◌≡◌, ℕ, ◌⊎◌, Bool, true, false, cond, not, eqb, ltb, leb, inl, inr, List, [], ◌∷◌, ◌++◌, length, Option, Some, None, Result, Ok, Err, refl, sym, ap, subst, ◌∙◌, arith}
-use Rattle.std.specs.Prelude.{◌&&◌, filter, is_some, count_by}
-use Rattle.std.specs.List.{find, list_any}
+use Rattle.std.proofs.Common.{◌≡◌, ℕ, Bool, true, false, cond, not, ltb, leb, inl, inr, List, [], ◌∷◌, ◌++◌, length, Option, Some, None, Result, Ok, Err, refl, sym, ap, ◌∙◌}
+use Rattle.std.specs.Prelude.{◌&&◌, filter, is_some}
+use Rattle.std.specs.List.{list_any}
 use Rattle.std.specs.Str.{bytes_eq}
 use Rattle.std.proofs.lemmas.Bool.{false≢true, lt-ltb, le-ltb}
 use Rattle.std.proofs.lemmas.Bool.Decides.{leb_tells}
@@ -9,41 +9,34 @@ use Rattle.std.proofs.lemmas.Slice.Eq.{bytes_eq-Decides}
 use Rattle.coap_codec.specs.Spelling.{Content}
 use Rattle.coap_codec.specs.Reading.{message_at}
 use Rattle.coap_codec.specs.declared.fault.CodecFault.{CodecFault}
-use Rattle.coap_codec.specs.declared.message.MsgType.{MsgType}
-use Rattle.coap_codec.specs.declared.message.MsgType.TheVariants.{Con, Non, Ack, Rst}
 use Rattle.uri_map.specs.declared.peer.Peer.{Peer}
 use Rattle.ask_model.specs.Requests.{same_peer}
 use Rattle.journal_book.specs.Entries.{Grounds}
 use Rattle.message_layer.specs.Values.{LinkState, was_dropped}
 use Rattle.message_layer.specs.Calls.{is_other}
 use Rattle.message_layer.specs.Sending.{first_sent, with_outstanding, next_by as call_next_by, submitted_by}
-use Rattle.message_layer.specs.Hearing.{is_fresh, is_repeat, replies, reset_for, new_verdict, heard_verdict, ack_verdict, rst_verdict, verdict_by, verdict_of, answered_in, remembered_in, applied, ended, says, undecoded, hears_read, hears_from, is_awaited, is_awaited_by_ack}
+use Rattle.message_layer.specs.Hearing.{replies, reset_for, verdict_of, answered_in, remembered_in, applied, ended, says, undecoded, hears_read, hears_from}
 use Rattle.message_layer.specs.declared.state.Awaited.{Awaited}
-use Rattle.message_layer.specs.declared.state.Heard.{Heard}
 use Rattle.message_layer.specs.declared.state.Outstanding.{Outstanding}
-use Rattle.message_layer.specs.declared.state.Reply.{Reply}
-use Rattle.message_layer.specs.declared.state.Reply.TheVariants as R
 use Rattle.message_layer.specs.declared.state.Waiting.{Waiting}
 use Rattle.message_layer.specs.declared.verdict.News.{News}
 use Rattle.message_layer.specs.declared.verdict.News.TheVariants as N
 use Rattle.message_layer.specs.declared.verdict.Verdict.{Verdict}
 use Rattle.whole_history.specs.Readings.{Noted}
-use Rattle.whole_history.specs.Hearing.{is_such}
 use Rattle.whole_history.specs.Transmissions.{bears_token}
 use Rattle.whole_history.specs.Exchanges.{waiting}
 use Rattle.link_history.specs.Agrees.{WaitIn, Agrees}
 use Rattle.link_history.specs.Steps.{ended_token, unawaited, heard_link}
-use Rattle.core_steps.specs.declared.kept.Conn.{Conn}
 use Rattle.core_steps.specs.declared.kept.Exchange.{Exchange}
 use Rattle.core_steps.specs.State.{PeerLink, State, link_of}
 use Rattle.core_steps.specs.Steps.{given_out, answers, hears, hears_nothing}
-use Rattle.core_steps.specs.Calls.{next, given_back, waits_on, ends, ends_if, ended_in, grounds_by, takes_new, takes_by, repeats, takes, resets, reads_so}
+use Rattle.core_steps.specs.Calls.{next, given_back, waits_on, ends_if, ended_in, grounds_by, takes_new, takes_by, repeats, takes, resets, reads_so}
 use Rattle.core_steps.specs.Resting.{IsUndue}
 use Rattle.core_steps.specs.Keeping.{Kept}
 use Rattle.core_steps.specs.Links.{over_by, awaits_no_more, HearsLink, HearsOne}
 use Rattle.core_steps.proofs.Borne.{ended-borne}
 use Rattle.core_steps.proofs.Hearing.{borne-bears}
-use Rattle.core_steps.proofs.Idle.{Idle, idle-link, repeat-idle, lost-idle}
+use Rattle.core_steps.proofs.Idle.{idle-link, repeat-idle, lost-idle}
 use Rattle.core_steps.proofs.Links.{turned, next-link, next-other}
 use Rattle.core_steps.proofs.Tables.{link-same, link-other}
 
@@ -180,7 +173,7 @@ new-link t p d m S k =
     let r = k.rests in
     let same = heard-turned t m.mid m.token v s v.ends refl (turns _ s.outstanding s.waiting (r.links p)) (new-unborne k.reading t p s m (r.reads.links_are p)) in
     let over = ap (λ (of : Option (List ℕ)). given_out (awaits_no_more of (applied t m.mid m.token v s))) (over-is v.news m)
-        ∙ ap given_out (without-is (ended_token v.news m.token) (applied t m.mid m.token v s)) in
+    ∙ ap given_out (without-is (ended_token v.news m.token) (applied t m.mid m.token v s)) in
     told ∙ (went ∙ (same ∙ sym over))
 
 by-news : (t : ℕ) (p : Peer) (d : List ℕ) (m : Content) (S : State) (news : News) → Kept S
@@ -250,7 +243,7 @@ new-other t p q d m S v away =
     let at_q = λ (xs : List PeerLink). link_of xs q in
     ap at_q (links-told t (grounds_by v.news (length S.entries) m) (ended_in (ended_token v.news m.token) S.exchanges) (next t p S2))
     ∙ (next-other t p q S2 away
-        ∙ (ap at_q (links-given t p (replies m.mid v.reply) S1) ∙ link-other p q (heard_link t m.mid m.token (verdict_of t s m) s) away S.links))
+    ∙ (ap at_q (links-given t p (replies m.mid v.reply) S1) ∙ link-other p q (heard_link t m.mid m.token (verdict_of t s m) s) away S.links))
 
 pub hears-one : HearsOne
 hears-one t p q d S away = by (is_some (link_of S.links p).last_mid && leb (length d) 2048) (message_at d)

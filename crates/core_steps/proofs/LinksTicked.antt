@@ -1,6 +1,6 @@
 -- What a tick makes of a link is what the step makes of it.
-use Rattle.std.proofs.Common.{◌≡◌, ℕ, ◌<◌, ◌≤◌, Bool, true, false, cond, not, eqb, ltb, leb, inl, inr, List, [], ◌∷◌, map, Option, Some, None, refl, sym, ap, subst, ◌∙◌, arith}
-use Rattle.std.specs.Prelude.{◌&&◌, ◌||◌, filter, fold, unwrap_or}
+use Rattle.std.proofs.Common.{◌≡◌, ℕ, ◌<◌, ◌≤◌, Bool, true, false, cond, not, leb, inl, inr, List, [], ◌∷◌, map, Option, Some, None, refl, sym, ap, subst, ◌∙◌, arith}
+use Rattle.std.specs.Prelude.{◌||◌, filter, fold, unwrap_or}
 use Rattle.std.specs.List.{list_any}
 use Rattle.std.proofs.lemmas.Bool.{false≢true, or_parts, lt-leb, lt-ltb, le-ltb}
 use Rattle.std.proofs.lemmas.Bool.Decides.{eqb_tells, leb_tells}
@@ -11,23 +11,21 @@ use Rattle.ask_model.proofs.Endpoints.{same_peer-same}
 use Rattle.journal_book.specs.Entries.{Fault}
 use Rattle.message_layer.specs.Values.{LinkState, no_news}
 use Rattle.message_layer.specs.Sending.{due_of, with_copy, next_by as call_next_by, submitted_by, ticked_by}
-use Rattle.message_layer.specs.declared.state.Awaited.{Awaited}
 use Rattle.message_layer.specs.declared.state.Outstanding.{Outstanding}
 use Rattle.message_layer.specs.declared.state.Waiting.{Waiting}
 use Rattle.whole_history.specs.Limits.{copy_limit}
-use Rattle.whole_history.specs.Readings.{Noted, ticked as ticked_in}
+use Rattle.whole_history.specs.Readings.{Noted}
 use Rattle.whole_history.specs.Justified.{Legal}
-use Rattle.whole_history.proofs.Outstanding.{Sound, sound}
+use Rattle.whole_history.proofs.Outstanding.{sound}
 use Rattle.link_history.specs.Agrees.{way_of, TurnIn}
-use Rattle.link_history.specs.Steps.{is_over, passed_link}
+use Rattle.link_history.specs.Steps.{is_over}
 use Rattle.core_steps.specs.declared.kept.Exchange.{Exchange}
 use Rattle.core_steps.specs.State.{PeerLink, State, link_of}
 use Rattle.core_steps.specs.Steps.{given_out, sends_copy, expires, is_gone, passes}
-use Rattle.core_steps.specs.Calls.{next_by, is_due, link_due, something_due, moves_by, moves, move_all, peer_of, times_out}
+use Rattle.core_steps.specs.Calls.{next_by, is_due, link_due, moves_by, moves, move_all, peer_of, times_out}
 use Rattle.core_steps.specs.Resting.{IsUndue, LinkRests}
-use Rattle.core_steps.specs.Keeping.{MayStep}
 use Rattle.core_steps.specs.Links.{rid_of, TicksLink, NoneTicks}
-use Rattle.core_steps.proofs.Links.{turned, next-link, next-other}
+use Rattle.core_steps.proofs.Links.{next-link, next-other}
 use Rattle.core_steps.proofs.LinksHeard.{Turns, turns, links-told}
 use Rattle.core_steps.proofs.Moving.{is_among, visited}
 use Rattle.core_steps.proofs.Passing.{link-passed}
