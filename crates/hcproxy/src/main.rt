@@ -6,8 +6,6 @@ mod command;
 mod files;
 mod lines;
 #[cfg(test)]
-mod random_tests;
-#[cfg(test)]
 mod refused_tests;
 mod relation;
 mod replay;

@@ -2,20 +2,12 @@
 //! or of somebody else. What comes out has to be what the clients and devices of the script make it, and
 //! the journal has to be justified.
 
-mod clients;
-mod devices;
-mod draws;
-mod faults;
-mod records;
-mod runs;
-mod telling;
-
-use crate::random_tests::clients::Outcome;
-use crate::random_tests::faults::Fault;
-use crate::random_tests::records::{is_recorded, is_spoiled_refused};
-use crate::random_tests::runs::Run;
+use crate::clients::Outcome;
+use crate::faults::Fault;
+use crate::records::{is_recorded, is_spoiled_refused};
 use crate::relation::Unchanged;
-use crate::settings::demonstration;
+use crate::runs::Run;
+use crate::settings::two_devices;
 use gateway_world::World;
 use history_check::is_justified;
 use std::alloc::Global;
@@ -26,7 +18,7 @@ const STEPS: u64 = 40;
 
 /// A run of the script that the seed makes, before its first step.
 fn begun(alloc: Global, seed: u64) -> Result<Run, Fault> {
-    let Ok(settings) = demonstration(alloc) else {
+    let Ok(settings) = two_devices(alloc) else {
         return Err(Fault::Memory);
     };
     match World::<Unchanged>::new(alloc, settings) {
@@ -118,17 +110,31 @@ fn the_third_thousand_scripts_hold(rt: HostRuntime) {
     assert!(rt; wrong.is_empty(), "{wrong}");
 }
 
+/// The ways to answer: by a reply, or by the proxy for a cause.
+static WAYS: [Option<&str>; 8] = [
+    None,
+    Some("timeout"),
+    Some("reset"),
+    Some("not-understood"),
+    Some("bad-http"),
+    Some("no-map"),
+    Some("method"),
+    Some("media"),
+];
+
+/// The table, handed out by a call that says nothing of its rows: a loop over it is proved in less time.
+fn ways() -> &'static [Option<&'static str>] {
+    &WAYS
+}
+
 #[test]
 fn each_way_to_answer_is_met(rt: HostRuntime) {
-    let alloc = rt.alloc();
-    assert!(rt; is_met(alloc, 0..100, None) == Ok(true));
-    assert!(rt; is_met(alloc, 0..100, Some("timeout")) == Ok(true));
-    assert!(rt; is_met(alloc, 0..100, Some("reset")) == Ok(true));
-    assert!(rt; is_met(alloc, 0..100, Some("not-understood")) == Ok(true));
-    assert!(rt; is_met(alloc, 0..100, Some("bad-http")) == Ok(true));
-    assert!(rt; is_met(alloc, 0..100, Some("no-map")) == Ok(true));
-    assert!(rt; is_met(alloc, 0..100, Some("method")) == Ok(true));
-    assert!(rt; is_met(alloc, 0..100, Some("media")) == Ok(true));
+    for &wanted in ways() {
+        assert!(rt;
+            is_met(rt.alloc(), 0..100, wanted) == Ok(true),
+            "{wanted:?}"
+        );
+    }
 }
 
 #[test]

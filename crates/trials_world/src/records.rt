@@ -1,10 +1,10 @@
 //! What the journal of a run says of the answers that were told, and journals that were spoiled.
 
-use crate::random_tests::clients::Outcome;
-use crate::random_tests::devices::Parcel;
-use crate::random_tests::faults::Fault;
-use crate::random_tests::runs::Run;
+use crate::clients::Outcome;
+use crate::devices::Parcel;
+use crate::faults::Fault;
 use crate::relation::Unchanged;
+use crate::runs::Run;
 use ask_model::Bytes;
 use history_check::is_justified;
 use journal_book::{Entry, Event, Grounds, Journal, Numbers};
@@ -93,6 +93,56 @@ enum Spoil {
     Heard(usize),
 }
 
+/// An answer rests on that reply.
+fn rest_on(alloc: Global, event: &mut Event<Unchanged>, other: u32) -> Result<(), AllocError> {
+    if let Event::Answered { grounds, .. } = event {
+        *grounds = Grounds::Live(Numbers::from_slice(alloc, &[other])?);
+    }
+    Ok(())
+}
+
+/// An answer is told to that connection.
+fn tell(event: &mut Event<Unchanged>, other: u32) {
+    if let Event::Answered { conn, .. } = event {
+        *conn = other;
+    }
+}
+
+/// The same bytes, but for a bit of the sixth.
+fn flipped(alloc: Global, bytes: &[u8]) -> Result<Bytes, AllocError> {
+    let mut other = Vec::from_slice(alloc, bytes)?;
+    if let Some(byte) = other.get_mut(5) {
+        *byte ^= 1;
+    }
+    Ok(Bytes::of(other))
+}
+
+/// A reply has another token.
+fn flip(alloc: Global, event: &mut Event<Unchanged>) -> Result<(), AllocError> {
+    if let Event::Heard { bytes, .. } = event {
+        *bytes = flipped(alloc, bytes.as_slice())?;
+    }
+    Ok(())
+}
+
+/// Spoils the entry with this number, if it is the one.
+fn spoil_event(
+    alloc: Global,
+    number: usize,
+    event: &mut Event<Unchanged>,
+    spoil: Spoil,
+) -> Result<(), AllocError> {
+    match spoil {
+        Spoil::Resting(place, other) if place == number => rest_on(alloc, event, other),
+        Spoil::Telling(place, other) if place == number => {
+            tell(event, other);
+            Ok(())
+        }
+        Spoil::Heard(place) if place == number => flip(alloc, event),
+        _ => Ok(()),
+    }
+}
+
 /// What the spoiled journal has in the place of the entry with this number.
 fn spoiled_entry(
     alloc: Global,
@@ -100,30 +150,13 @@ fn spoiled_entry(
     entry: &Entry<Unchanged>,
     spoil: Spoil,
 ) -> Result<Option<Entry<Unchanged>>, AllocError> {
-    let mut copy = entry.copy()?;
-    match spoil {
-        Spoil::Without(place) if place == number => return Ok(None),
-        Spoil::Resting(place, other) if place == number => {
-            if let Event::Answered { grounds, .. } = &mut copy.event {
-                *grounds = Grounds::Live(Numbers::from_slice(alloc, &[other])?);
-            }
+    if let Spoil::Without(place) = spoil {
+        if place == number {
+            return Ok(None);
         }
-        Spoil::Telling(place, other) if place == number => {
-            if let Event::Answered { conn, .. } = &mut copy.event {
-                *conn = other;
-            }
-        }
-        Spoil::Heard(place) if place == number => {
-            if let Event::Heard { bytes, .. } = &mut copy.event {
-                let mut other = Vec::from_slice(alloc, bytes.as_slice())?;
-                if let Some(byte) = other.get_mut(5) {
-                    *byte ^= 1;
-                }
-                *bytes = Bytes::of(other);
-            }
-        }
-        _ => {}
     }
+    let mut copy = entry.copy()?;
+    spoil_event(alloc, number, &mut copy.event, spoil)?;
     Ok(Some(copy))
 }
 

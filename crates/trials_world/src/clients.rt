@@ -1,6 +1,6 @@
 //! Clients, and what they have to be told of what they ask.
 
-use crate::random_tests::draws::Draws;
+use crate::draws::Draws;
 use std::alloc::{AllocError, Global};
 use std::net::{IpAddr, Ipv4Addr};
 use uri_map::Peer;
@@ -240,6 +240,25 @@ fn add_ask(
     let (verb, code) = draws.pick(GET, &VERBS);
     let (uri, resource, last) = resource(alloc, draws, number, client.planned.len())?;
     let (fields, body, payload) = framed(alloc, draws, code, number)?;
+    let question = Question {
+        peer: peer(last),
+        code,
+        resource,
+        payload,
+    };
+    let texts = (uri.as_str(), fields.as_str(), body.as_str());
+    write_ask(alloc, draws, client, verb, texts, question)
+}
+
+/// Adds the request of this URI, with these fields and this body, which asks that.
+fn write_ask(
+    alloc: Global,
+    draws: &mut Draws,
+    client: &mut Client,
+    verb: &str,
+    (uri, fields, body): (&str, &str, &str),
+    question: Question,
+) -> Result<(), AllocError> {
     // HTTP/1.0 has no chunks (RFC 9112, section 6.1), and nobody waits in it
     let is_old = draws.once_in(16) && !fields.starts_with("Transfer");
     let closes = draws.once_in(10);
@@ -249,49 +268,56 @@ fn add_ask(
     let head = format!(in alloc;
         "{verb} /hc/{uri} HTTP/{version}\r\nHost: p\r\n{ending}{fields}\r\n"
     )?;
-    let fate = Fate::Asks(Question {
-        peer: peer(last),
-        code,
-        resource,
-        payload,
-    });
     let marks = (waits, verb == "HEAD", is_old || closes);
+    let fate = Fate::Asks(question);
     add(client, head.as_str(), body.as_bytes(), marks, fate)
 }
 
 /// The fields that frame a body, the body, and what a device is told of it.
-fn framed(
+type Framed = (String, String, Vec<u8>);
+
+/// No body.
+fn unframed(alloc: Global) -> Framed {
+    (String::new(alloc), String::new(alloc), Vec::new(alloc))
+}
+
+/// The body of this request as a text of known length, with another field. A device is told of it, or isn't.
+fn with_length(
     alloc: Global,
-    draws: &mut Draws,
-    code: u8,
     number: usize,
-) -> Result<(String, String, Vec<u8>), AllocError> {
+    more: &str,
+    is_told: bool,
+) -> Result<Framed, AllocError> {
     let content = format!(in alloc; "to {number}")?;
-    let len = content.len();
-    let length = format!(in alloc; "Content-Length: {len}\r\n")?;
+    let fields = format!(in alloc; "Content-Length: {}\r\n{more}", content.len())?;
+    let told: &[u8] = if is_told { content.as_bytes() } else { &[] };
+    let carried = Vec::from_slice(alloc, told)?;
+    Ok((fields, content, carried))
+}
+
+/// The same in two chunks.
+fn chunked(alloc: Global, number: usize) -> Result<Framed, AllocError> {
+    let content = format!(in alloc; "to {number}")?;
+    let rest = content.len().saturating_sub(2);
     let carried = Vec::from_slice(alloc, content.as_bytes())?;
-    let none = Vec::new(alloc);
+    let body = format!(in alloc; "2\r\nto\r\n{rest:x};a=b\r\n {number}\r\n0\r\n\r\n")?;
+    let fields = String::from_str(alloc, "Transfer-Encoding: chunked\r\n")?;
+    Ok((fields, body, carried))
+}
+
+/// One of the ways to frame the body of a request with this code.
+fn framed(alloc: Global, draws: &mut Draws, code: u8, number: usize) -> Result<Framed, AllocError> {
     if code == 1 || code == 4 {
         return if draws.once_in(8) {
-            Ok((length, content, none))
+            with_length(alloc, number, "", false)
         } else {
-            Ok((String::new(alloc), String::new(alloc), none))
+            Ok(unframed(alloc))
         };
     }
     match draws.below(4) {
-        0 => Ok((String::new(alloc), String::new(alloc), none)),
-        1 => {
-            let fields = String::from_str(alloc, "Transfer-Encoding: chunked\r\n")?;
-            let body = format!(in alloc;
-                "2\r\nto\r\n{:x};a=b\r\n {number}\r\n0\r\n\r\n",
-                len.saturating_sub(2)
-            )?;
-            Ok((fields, body, carried))
-        }
-        2 => {
-            let fields = format!(in alloc; "{length}Expect: 100-continue\r\n")?;
-            Ok((fields, content, carried))
-        }
-        _ => Ok((length, content, carried)),
+        0 => Ok(unframed(alloc)),
+        1 => chunked(alloc, number),
+        2 => with_length(alloc, number, "Expect: 100-continue\r\n", true),
+        _ => with_length(alloc, number, "", true),
     }
 }

@@ -1,7 +1,7 @@
 //! Devices, and what they do with what they are asked.
 
-use crate::random_tests::clients::{Outcome, Question, peer};
-use crate::random_tests::draws::Draws;
+use crate::clients::{Outcome, Question, peer};
+use crate::draws::Draws;
 use coap_codec::{Message, Token};
 use std::alloc::{AllocError, Global};
 use std::str;

@@ -1,11 +1,11 @@
 //! A run of a script that is made as it goes, and what has to come out of it.
 
-use crate::random_tests::clients::{Client, Fate, Outcome, Planned, Question, new_client};
-use crate::random_tests::devices::{Asked, Deed, Devices, Parcel, question_of};
-use crate::random_tests::draws::Draws;
-use crate::random_tests::faults::Fault;
-use crate::random_tests::telling::{is_own, is_shown};
+use crate::clients::{Client, Fate, Outcome, Planned, Question, new_client};
+use crate::devices::{Asked, Deed, Devices, Parcel, question_of};
+use crate::draws::Draws;
+use crate::faults::Fault;
 use crate::relation::Unchanged;
+use crate::telling::{is_own, is_shown};
 use coap_codec::{Message, MsgType, decode};
 use gateway_world::{Happening, Input, Output, World};
 use journal_book::Journal;

@@ -1,8 +1,8 @@
 //! What answers say, read as text (RFC 9112, section 4; RFC 8075, section 7).
 
-use crate::random_tests::clients::Question;
-use crate::random_tests::devices::{STATUSES, Shown};
-use crate::random_tests::faults::Fault;
+use crate::clients::Question;
+use crate::devices::{STATUSES, Shown};
+use crate::faults::Fault;
 use std::alloc::Global;
 use std::str;
 
