@@ -25,3 +25,4 @@ pub mod Links
 pub mod Idle
 pub mod LinksHeard
 pub mod LinksTicked
+pub mod Due

@@ -197,7 +197,7 @@ ticks-keeps t S may = by (something_due t S)
 
 -- Where it leaves no entry nothing was due.
 
-undue-link : (t : ℕ) (xs : List PeerLink) → list_any (link_due t) xs ≡ false → (p : Peer) → is_due t (link_of xs p).outstanding ≡ false
+pub undue-link : (t : ℕ) (xs : List PeerLink) → list_any (link_due t) xs ≡ false → (p : Peer) → is_due t (link_of xs p).outstanding ≡ false
 undue-link t [] h p = refl
 undue-link t (x ∷ xs) h p =
     let both = or_parts (link_due t x) (list_any (link_due t) xs) h in

@@ -4,6 +4,7 @@ pub mod Steps
 pub mod Resting
 pub mod Laws
 pub mod Calls
+pub mod Due
 pub mod Keeping
 pub mod Worked
 pub mod Links

@@ -15,6 +15,7 @@ ghost use Rattle.core_steps.specs.Laws.{
   HearsLeads,
   PassesLeads,
 };
+ghost use Rattle.core_steps.specs.Due.{NextDue};
 ghost use Rattle.core_steps.specs.Keeping.{
   StartKeeps,
   KeptStands,
@@ -89,10 +90,11 @@ pub fn hearing_keeps()
     ensures { HearsKeeps }
 {}
 
-/// So does a tick, after which nothing is due.
+/// So does a tick, after which nothing is due. It has something to do from one moment on.
 pub fn ticking_keeps()
     ensures keeps { TicksKeeps }
     ensures done { TicksDo }
+    ensures due { NextDue }
 {}
 
 /// Worked runs leave the entries of worked journals: a copy, a message that waits, an empty ACK, a

@@ -1,4 +1,5 @@
 use Rattle.core_steps.proofs.Ticking.{ticks-keeps, ticks-do}
+use Rattle.core_steps.proofs.Due.{next-due}
 use Rattle.core_steps.proofs.laws.ticking_keeps.Goals as goal
 
 pub returns-clause-keeps : goal.returns-clause-keeps
@@ -6,3 +7,6 @@ returns-clause-keeps c = ticks-keeps
 
 pub returns-clause-done : goal.returns-clause-done
 returns-clause-done c = ticks-do
+
+pub returns-clause-due : goal.returns-clause-due
+returns-clause-due c = next-due
