@@ -33,7 +33,7 @@ pub record IsBorne (l : List Noted) (p : Peer) (token : List ℕ) : Type 0 where
   pub peer : same_peer first.peer p ≡ true
   pub token_is : first.message.token ≡ token
 
-any-one : {X : Type 0} (q : X → Bool) (xs : List X) → list_any q xs ≡ true → (x : X) × (q x ≡ true)
+pub any-one : {X : Type 0} (q : X → Bool) (xs : List X) → list_any q xs ≡ true → (x : X) × (q x ≡ true)
 any-one q [] e = absurd (false≢true e)
 any-one {X = X} q (x ∷ xs) e = by (q x) refl (any-one q xs) e
   where
@@ -41,7 +41,7 @@ any-one {X = X} q (x ∷ xs) e = by (q x) refl (any-one q xs) e
     by true is ih e = (x, is)
     by false is ih e = ih e
 
-under-borne : (l : List Noted) (p : Peer) (token : List ℕ) (i : ℕ) → went_under p token (first_at l i) ≡ true → IsBorne l p token
+pub under-borne : (l : List Noted) (p : Peer) (token : List ℕ) (i : ℕ) → went_under p token (first_at l i) ≡ true → IsBorne l p token
 under-borne l p token i e =
     let f = token-found p token (first_at l i) e in
     record {

@@ -26,3 +26,4 @@ pub mod Idle
 pub mod LinksHeard
 pub mod LinksTicked
 pub mod Due
+pub mod Dropping

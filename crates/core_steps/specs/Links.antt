@@ -1,16 +1,17 @@
--- What a link is after a call of the message layer is what the step makes of it, but for the datagrams
--- that it gives out.
-use Rattle.std.specs.Prelude.{◌≡◌, ℕ, Bool, true, false, not, List, filter, Option, Some, None}
+-- What a link is after a call of the message layer is what the step makes of it, but for the
+-- datagrams that it gives out.
+use Rattle.std.specs.Prelude.{◌≡◌, ℕ, Bool, true, false, not, List, filter, fold, Option, Some, None, if◌then◌else◌}
 use Rattle.uri_map.specs.declared.peer.Peer.{Peer}
 use Rattle.ask_model.specs.Requests.{CoapRequest, Ask, same_peer}
 use Rattle.message_layer.specs.Values.{LinkState, Told, no_news, response, was_reset}
-use Rattle.message_layer.specs.Calls.{expected}
+use Rattle.message_layer.specs.Calls.{forgotten, expected}
 use Rattle.message_layer.specs.Sending.{waits, submitted, ticked as call_ticked}
 use Rattle.message_layer.specs.Hearing.{hears as call_hears}
 use Rattle.message_layer.specs.declared.state.Awaited.{Awaited}
 use Rattle.message_layer.specs.declared.state.Waiting.{Waiting}
+use Rattle.core_steps.specs.declared.kept.Exchange.{Exchange}
 use Rattle.core_steps.specs.State.{State, link_of}
-use Rattle.core_steps.specs.Steps.{begins, given_out, is_gone}
+use Rattle.core_steps.specs.Steps.{begins, given_out, expires, is_gone}
 use Rattle.core_steps.specs.Calls.{Numbers, next, heard, something_due, ticked}
 use Rattle.core_steps.specs.Keeping.{Kept, MayStep}
 
@@ -57,6 +58,17 @@ rid_of gone s = record s {
   waiting = filter (λ (w : Waiting). not (gone w.token)) s.waiting;
   awaited = filter (λ (a : Awaited). not (gone a.token)) s.awaited;
 }
+
+-- That is what forgetting the messages of those with the endpoint leaves, and awaiting no response.
+abbrev pub dropped : Peer → LinkState → Exchange → LinkState
+dropped p s e =
+    if same_peer e.peer p then expected e.token false (forgotten e.token s) else s
+
+abbrev pub DropsLink : Type 0
+DropsLink =
+    (t : ℕ) (p : Peer) (S : State) → Kept S
+    → fold (dropped p) (link_of S.links p) (filter (expires t S.links) S.exchanges)
+    ≡ rid_of (is_gone t S) (link_of S.links p)
 
 -- Each link looks at its timer then, where something is due.
 abbrev pub TicksLink : Type 0

@@ -29,7 +29,15 @@ ghost use Rattle.core_steps.specs.Keeping.{
 };
 ghost use Rattle.core_steps.specs.Worked.{AnsweredRun, GivenUpRun};
 ghost use Rattle.core_steps.specs.Resting.{ConnsTell, RestsAtRest};
-ghost use Rattle.core_steps.specs.Links.{SubmitsLink, SubmitsOne, HearsLink, HearsOne, TicksLink, NoneTicks};
+ghost use Rattle.core_steps.specs.Links.{
+  SubmitsLink,
+  SubmitsOne,
+  HearsLink,
+  HearsOne,
+  DropsLink,
+  TicksLink,
+  NoneTicks,
+};
 
 /// A connection may be opened and shut, an ask answered on its grounds, and the journal sealed
 /// where it is as good as full.
@@ -110,6 +118,7 @@ pub fn links_follow()
     ensures submits_one { SubmitsOne }
     ensures hears { HearsLink }
     ensures hears_one { HearsOne }
+    ensures drops { DropsLink }
     ensures ticks { TicksLink }
     ensures none_ticks { NoneTicks }
 {}

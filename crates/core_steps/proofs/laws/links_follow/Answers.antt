@@ -1,3 +1,4 @@
+use Rattle.core_steps.proofs.Dropping.{drops-link}
 use Rattle.core_steps.proofs.Links.{submits-link, submits-one}
 use Rattle.core_steps.proofs.LinksHeard.{hears-link, hears-one}
 use Rattle.core_steps.proofs.LinksTicked.{ticks-link, none-ticks}
@@ -20,3 +21,6 @@ returns-clause-ticks c = ticks-link
 
 pub returns-clause-none_ticks : goal.returns-clause-none_ticks
 returns-clause-none_ticks c = none-ticks
+
+pub returns-clause-drops : goal.returns-clause-drops
+returns-clause-drops c = drops-link
