@@ -11,6 +11,7 @@ use Rattle.message_layer.specs.Hearing.{is_fresh, is_repeat, new_verdict, heard_
 use Rattle.message_layer.specs.declared.state.Heard.{Heard}
 use Rattle.message_layer.specs.declared.state.Outstanding.{Outstanding}
 use Rattle.message_layer.specs.declared.state.Reply.{Reply}
+use Rattle.message_layer.specs.declared.state.Reply.TheVariants as R
 use Rattle.message_layer.specs.declared.verdict.News.{News}
 use Rattle.message_layer.specs.declared.verdict.News.TheVariants as N
 use Rattle.message_layer.specs.declared.verdict.Verdict.{Verdict}
@@ -19,18 +20,18 @@ use Rattle.core_steps.specs.Steps.{given_out}
 use Rattle.core_steps.specs.Links.{over_by, awaits_no_more}
 
 abbrev pub Idle : Verdict → Type 0
-Idle v = (v.remembered ≡ false) × (v.ends ≡ false) × (v.news ≡ N.Quiet ⊎ v.news ≡ N.Lost)
+Idle v = (v.remembered ≡ false) × (v.ends ≡ false) × (v.news ≡ N.Quiet ⊎ ((v.news ≡ N.Lost) × (v.reply ≡ R.Nothing)))
 
 idle-applied : (t mid : ℕ) (token : List ℕ) (v : Verdict) (s : LinkState) → Idle v → given_out (applied t mid token v s) ≡ given_out s
 idle-applied t mid token v s i = rw (i.1, i.0) (elim (i.2) [
   | inl w ↦ ap (λ (n : News). given_out (record s { awaited = answered_in token n s.awaited })) w
-  | inr w ↦ ap (λ (n : News). given_out (record s { awaited = answered_in token n s.awaited })) w
+  | inr w ↦ ap (λ (n : News). given_out (record s { awaited = answered_in token n s.awaited })) w.0
 ])
 
 idle-over : (v : Verdict) (m : Content) → Idle v → over_by (says v.news m) ≡ None
 idle-over v m i = elim (i.2) [
   | inl w ↦ ap (λ (n : News). over_by (says n m)) w
-  | inr w ↦ ap (λ (n : News). over_by (says n m)) w
+  | inr w ↦ ap (λ (n : News). over_by (says n m)) w.0
 ]
 
 pub idle-link : (t : ℕ) (m : Content) (v : Verdict) (s : LinkState) → Idle v → given_out s ≡ given_out (awaits_no_more (over_by (says v.news m)) (applied t m.mid m.token v s))
@@ -69,7 +70,7 @@ lost-new s m r e = not-lost (eqb m.code 0) _ _ (λ k. absurd (quiet-kept k))
 
 lost-heard : (t : ℕ) (s : LinkState) (m : Content) (confirms : Bool) (v : Option Heard) → Kind (heard_verdict t s m confirms v)
 lost-heard t s m confirms (Some h) = λ k. absurd (quiet-kept k)
-lost-heard t s m confirms None = not-lost (ltb (count_by (is_fresh t) s.heard) 1024) _ _ (lost-new s m _ _) (λ k. (refl, refl, inr refl))
+lost-heard t s m confirms None = not-lost (ltb (count_by (is_fresh t) s.heard) 1024) _ _ (lost-new s m _ _) (λ k. (refl, refl, inr (refl, refl)))
 
 lost-ack : (s : LinkState) (m : Content) → Kind (ack_verdict s m)
 lost-ack s m = not-lost (eqb m.code 0) _ _ (λ k. absurd (quiet-kept k))

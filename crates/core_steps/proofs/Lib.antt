@@ -27,3 +27,4 @@ pub mod LinksHeard
 pub mod LinksTicked
 pub mod Due
 pub mod Dropping
+pub mod LinksOut

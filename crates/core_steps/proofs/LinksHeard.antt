@@ -211,7 +211,7 @@ read-link t p d S (Ok m) k = message-link t p d m S k
 read-link t p d S (Err e) k =
     ap (λ (xs : List PeerLink). given_out (link_of xs p)) (links-given t p (resets (reset_for d)) (hears_nothing t p d S)) ∙ sym (undecoded-link (reset_for d) (link_of S.links p))
 
-limits : (n : ℕ) → ltb 2048 n ≡ not (leb n 2048)
+pub limits : (n : ℕ) → ltb 2048 n ≡ not (leb n 2048)
 limits n = elim (leb_tells n 2048) [ inl w ↦ rw (w.0) (le-ltb 2048 n w.1) | inr w ↦ rw (w.0) (lt-ltb 2048 n w.1) ]
 
 pub hears-link : HearsLink

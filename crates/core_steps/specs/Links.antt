@@ -1,8 +1,9 @@
 -- What a link is after a call of the message layer is what the step makes of it, but for the
 -- datagrams that it gives out.
-use Rattle.std.specs.Prelude.{◌≡◌, ℕ, Bool, true, false, not, List, filter, fold, Option, Some, None, if◌then◌else◌}
+use Rattle.std.specs.Prelude.{◌≡◌, ℕ, Bool, true, false, not, List, filter, fold, Option, Some, None, if◌then◌else◌, [], ◌∷◌, ◌++◌}
 use Rattle.uri_map.specs.declared.peer.Peer.{Peer}
 use Rattle.ask_model.specs.Requests.{CoapRequest, Ask, same_peer}
+use Rattle.journal_book.specs.Entries.{Deed, Sends, Written}
 use Rattle.message_layer.specs.Values.{LinkState, Told, no_news, response, was_reset}
 use Rattle.message_layer.specs.Calls.{forgotten, expected}
 use Rattle.message_layer.specs.Sending.{waits, submitted, ticked as call_ticked}
@@ -82,3 +83,26 @@ abbrev pub NoneTicks : Type 0
 NoneTicks =
     (t : ℕ) (p : Peer) (S : State) → something_due t S ≡ false
     → call_ticked t (link_of S.links p) ≡ (link_of S.links p, no_news)
+
+-- the datagrams that were sent to an endpoint, in order
+abbrev pub sent_by : Peer → Deed → List (List ℕ)
+sent_by p (Sends q bytes timeout) = if same_peer q p then bytes ∷ [] else []
+sent_by p _ = []
+
+abbrev pub sent_in : Peer → List Written → List (List ℕ)
+sent_in p [] = []
+sent_in p (w ∷ ws) = sent_by p w.deed ++ sent_in p ws
+
+-- What a link gives out is what the step sends to its endpoint, in that order.
+abbrev pub SubmitsOut : Type 0
+SubmitsOut =
+    (t c : ℕ) (a : Ask) (q : CoapRequest) (n : Numbers) (S : State) → (link_of S.links q.peer).out ≡ []
+    → sent_in q.peer (next t q.peer (begins t c a q n.token n.text n.word S)).entries
+    ≡ sent_in q.peer S.entries
+    ++ (submitted t (waits n.token n.text n.word) (link_of S.links q.peer)).out
+
+abbrev pub HearsOut : Type 0
+HearsOut =
+    (t : ℕ) (p : Peer) (d : List ℕ) (S : State) → Kept S → (link_of S.links p).out ≡ []
+    → sent_in p (heard t p d S).entries
+    ≡ sent_in p S.entries ++ (call_hears t d (link_of S.links p)).0.out

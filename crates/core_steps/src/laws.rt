@@ -30,6 +30,8 @@ ghost use Rattle.core_steps.specs.Keeping.{
 ghost use Rattle.core_steps.specs.Worked.{AnsweredRun, GivenUpRun};
 ghost use Rattle.core_steps.specs.Resting.{ConnsTell, RestsAtRest};
 ghost use Rattle.core_steps.specs.Links.{
+  SubmitsOut,
+  HearsOut,
   SubmitsLink,
   SubmitsOne,
   HearsLink,
@@ -121,4 +123,6 @@ pub fn links_follow()
     ensures drops { DropsLink }
     ensures ticks { TicksLink }
     ensures none_ticks { NoneTicks }
+    ensures submits_out { SubmitsOut }
+    ensures hears_out { HearsOut }
 {}

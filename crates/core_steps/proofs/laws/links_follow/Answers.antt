@@ -1,4 +1,5 @@
 use Rattle.core_steps.proofs.Dropping.{drops-link}
+use Rattle.core_steps.proofs.LinksOut.{submits-out, hears-out}
 use Rattle.core_steps.proofs.Links.{submits-link, submits-one}
 use Rattle.core_steps.proofs.LinksHeard.{hears-link, hears-one}
 use Rattle.core_steps.proofs.LinksTicked.{ticks-link, none-ticks}
@@ -24,3 +25,9 @@ returns-clause-none_ticks c = none-ticks
 
 pub returns-clause-drops : goal.returns-clause-drops
 returns-clause-drops c = drops-link
+
+pub returns-clause-submits_out : goal.returns-clause-submits_out
+returns-clause-submits_out c = submits-out
+
+pub returns-clause-hears_out : goal.returns-clause-hears_out
+returns-clause-hears_out c = hears-out
