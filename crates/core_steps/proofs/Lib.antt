@@ -28,3 +28,4 @@ pub mod LinksTicked
 pub mod Due
 pub mod Dropping
 pub mod LinksOut
+pub mod LinksSent

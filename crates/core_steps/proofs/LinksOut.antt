@@ -28,7 +28,7 @@ use Rattle.core_steps.proofs.Idle.{Idle, repeat-idle, lost-idle}
 use Rattle.core_steps.proofs.LinksHeard.{Turns, turns, links-given, limits}
 use Rattle.core_steps.proofs.Tables.{link-same}
 
-more : {X : Type 0} (xs : List X) → xs ++ [] ≡ xs
+pub more : {X : Type 0} (xs : List X) → xs ++ [] ≡ xs
 more [] = refl
 more {X = X} (x ∷ xs) = ap (λ (ys : List X). x ∷ ys) (more xs)
 
@@ -36,11 +36,11 @@ joined : {X : Type 0} (xs ys zs : List X) → (xs ++ ys) ++ zs ≡ xs ++ (ys ++ 
 joined [] ys zs = refl
 joined {X = X} (x ∷ xs) ys zs = ap (λ (us : List X). x ∷ us) (joined xs ys zs)
 
-sent-push : (p : Peer) (es : List Written) (x : Written) → sent_in p (es ++ x ∷ []) ≡ sent_in p es ++ sent_by p x.deed
+pub sent-push : (p : Peer) (es : List Written) (x : Written) → sent_in p (es ++ x ∷ []) ≡ sent_in p es ++ sent_by p x.deed
 sent-push p [] x = more (sent_by p x.deed)
 sent-push p (e ∷ es) x = ap (λ (us : List (List ℕ)). sent_by p e.deed ++ us) (sent-push p es x) ∙ sym (joined (sent_by p e.deed) (sent_in p es) (sent_by p x.deed))
 
-to-itself : (p : Peer) (b : List ℕ) (w : Option ℕ) → sent_by p (Sends p b w) ≡ b ∷ []
+pub to-itself : (p : Peer) (b : List ℕ) (w : Option ℕ) → sent_by p (Sends p b w) ≡ b ∷ []
 to-itself p b w = ap (λ (c : Bool). cond c (b ∷ []) []) (same_peer-itself p)
 
 sent-given : (t : ℕ) (p : Peer) (bs : List (List ℕ)) (S : State) → sent_in p (given_back t p bs S).entries ≡ sent_in p S.entries ++ bs
@@ -50,7 +50,7 @@ sent-given t p (b ∷ bs) S =
     ∙ (ap (λ (us : List (List ℕ)). us ++ bs) (sent-push p S.entries _ ∙ ap (λ (us : List (List ℕ)). sent_in p S.entries ++ us) (to-itself p b None))
     ∙ joined (sent_in p S.entries) (b ∷ []) bs)
 
-sent-told : (t : ℕ) (p : Peer) (g : Grounds) (v : Option Exchange) (S : State) → sent_in p (ends_if t g v S).entries ≡ sent_in p S.entries
+pub sent-told : (t : ℕ) (p : Peer) (g : Grounds) (v : Option Exchange) (S : State) → sent_in p (ends_if t g v S).entries ≡ sent_in p S.entries
 sent-told t p g None S = refl
 sent-told t p g (Some e) S = by (list_any (waits_on e) S.conns)
   where
@@ -59,12 +59,12 @@ sent-told t p g (Some e) S = by (list_any (waits_on e) S.conns)
     by false = refl
 
 -- what goes out at a turn
-abbrev goes_by : ℕ → Option ℕ → Option Outstanding → List Waiting → List (List ℕ)
+abbrev pub goes_by : ℕ → Option ℕ → Option Outstanding → List Waiting → List (List ℕ)
 goes_by t last None [] = []
 goes_by t last None (w ∷ ws) = (first_sent t last w).datagram ∷ []
 goes_by t last (Some o) ws = []
 
-sent-next : (t : ℕ) (p : Peer) (S : State) → let s = link_of S.links p in sent_in p (next t p S).entries ≡ sent_in p S.entries ++ goes_by t s.last_mid s.outstanding s.waiting
+pub sent-next : (t : ℕ) (p : Peer) (S : State) → let s = link_of S.links p in sent_in p (next t p S).entries ≡ sent_in p S.entries ++ goes_by t s.last_mid s.outstanding s.waiting
 sent-next t p S = by (link_of S.links p).outstanding (link_of S.links p).waiting
   where
     by : (v : Option Outstanding) (ws : List Waiting) → sent_in p (next_by t p v ws S).entries ≡ sent_in p S.entries ++ goes_by t (link_of S.links p).last_mid v ws
@@ -75,12 +75,12 @@ sent-next t p S = by (link_of S.links p).outstanding (link_of S.links p).waiting
 
 -- a call of the message layer
 
-turn-out : (t : ℕ) (s : LinkState) (ws : List Waiting) → (call_next_by t s ws).out ≡ s.out ++ goes_by t s.last_mid None ws
+pub turn-out : (t : ℕ) (s : LinkState) (ws : List Waiting) → (call_next_by t s ws).out ≡ s.out ++ goes_by t s.last_mid None ws
 turn-out t s [] = sym (more s.out)
 turn-out t s (w ∷ ws) = refl
 
 -- nothing goes out where the turn has not come
-still : (t : ℕ) (last : Option ℕ) (v : Option Outstanding) (ws : List Waiting) → Turns v ws → goes_by t last v ws ≡ []
+pub still : (t : ℕ) (last : Option ℕ) (v : Option Outstanding) (ws : List Waiting) → Turns v ws → goes_by t last v ws ≡ []
 still t last None ws h = ap (goes_by t last None) h
 still t last (Some o) [] h = refl
 still t last (Some o) (w ∷ ws) h = refl

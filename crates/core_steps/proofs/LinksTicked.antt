@@ -34,14 +34,14 @@ use Rattle.core_steps.proofs.Ticking.{unlinked, passed-ready}
 
 -- At an endpoint a copy goes out that is due, or the next message.
 
-abbrev moved_by : ℕ → LinkState → Option Outstanding → LinkState
+abbrev pub moved_by : ℕ → LinkState → Option Outstanding → LinkState
 moved_by t s None = submitted_by t s None
 moved_by t s (Some o) = cond (leb (due_of o) t) (with_copy t s o) s
 
-abbrev moved : ℕ → LinkState → LinkState
+abbrev pub moved : ℕ → LinkState → LinkState
 moved t s = moved_by t s s.outstanding
 
-moves-link : (t : ℕ) (p : Peer) (S : State) → given_out (link_of (moves t S p).links p) ≡ given_out (moved t (link_of S.links p))
+pub moves-link : (t : ℕ) (p : Peer) (S : State) → given_out (link_of (moves t S p).links p) ≡ given_out (moved t (link_of S.links p))
 moves-link t p S = by (link_of S.links p).outstanding refl
   where
     s : LinkState
@@ -55,7 +55,7 @@ moves-link t p S = by (link_of S.links p).outstanding refl
     by None e = next-link t p S ∙ ap (λ (u : Option Outstanding). given_out (submitted_by t s u)) e
     by (Some o) e = copies o (leb (due_of o) t)
 
-moves-other : (t : ℕ) (p q : Peer) (S : State) → same_peer p q ≡ false → link_of (moves t S p).links q ≡ link_of S.links q
+pub moves-other : (t : ℕ) (p q : Peer) (S : State) → same_peer p q ≡ false → link_of (moves t S p).links q ≡ link_of S.links q
 moves-other t p q S away = by (link_of S.links p).outstanding
   where
     copies : (o : Outstanding) (b : Bool) → link_of (cond b (sends_copy t p o S) S).links q ≡ link_of S.links q
@@ -68,7 +68,7 @@ moves-other t p q S away = by (link_of S.links p).outstanding
 
 -- What rests stays.
 
-stays : (t : ℕ) (p : Peer) (S : State) → LinkRests t (link_of S.links p) → moves t S p ≡ S
+pub stays : (t : ℕ) (p : Peer) (S : State) → LinkRests t (link_of S.links p) → moves t S p ≡ S
 stays t p S h = by (link_of S.links p).outstanding refl h
   where
     s : LinkState
@@ -109,13 +109,13 @@ all-link t p (q ∷ ps) S h among = by (same_peer q p) refl (all-link t p ps)
         ih (moves t S q) (subst (λ (u : LinkState). LinkRests t (moved t u)) (sym other) h) (sym (ap (λ (b : Bool). b || is_among ps p) e) ∙ among)
         ∙ ap (λ (u : LinkState). given_out (moved t u)) other
 
-all-told : (t : ℕ) (es : List Exchange) (S : State) → (fold (times_out t) S es).links ≡ S.links
+pub all-told : (t : ℕ) (es : List Exchange) (S : State) → (fold (times_out t) S es).links ≡ S.links
 all-told t [] S = refl
 all-told t (e ∷ es) S = all-told t es (times_out t S e) ∙ links-told t (Fault C.Timeout (unwrap_or e.sending e.opening)) (Some e) S
 
 -- The timer of a link.
 
-abbrev Few : Option Outstanding → Type 0
+abbrev pub Few : Option Outstanding → Type 0
 Few None = Unit {0}
 Few (Some o) = o.retransmissions ≤ copy_limit
 
@@ -139,11 +139,11 @@ tick-same t r (Some o) e h few = elim (leb_tells (due_of o) t) [
     below : (o.retransmissions ≡ 4 → ⊥) → o.retransmissions < 4
     below apart = elim (leb_tells 4 o.retransmissions) [ inl w ↦ let more = w.1 in absurd (apart (omega (arith, more, few))) | inr w ↦ w.1 ]
 
-few-copies : (l : List Noted) (p : Peer) (v : Option Outstanding) → Legal l → TurnIn l p v → Few v
+pub few-copies : (l : List Noted) (p : Peer) (v : Option Outstanding) → Legal l → TurnIn l p v → Few v
 few-copies l p None legal turn = tt
 few-copies l p (Some o) legal turn = (sound l turn.first.number (way_of o) legal turn.way).few
 
-fewer-turn : (q : Waiting → Bool) (v : Option Outstanding) (ws : List Waiting) → Turns v ws → Turns v (filter q ws)
+pub fewer-turn : (q : Waiting → Bool) (v : Option Outstanding) (ws : List Waiting) → Turns v ws → Turns v (filter q ws)
 fewer-turn q None ws h = ap (filter q) h
 fewer-turn q (Some o) ws h = tt
 

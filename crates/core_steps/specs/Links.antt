@@ -106,3 +106,11 @@ HearsOut =
     (t : ℕ) (p : Peer) (d : List ℕ) (S : State) → Kept S → (link_of S.links p).out ≡ []
     → sent_in p (heard t p d S).entries
     ≡ sent_in p S.entries ++ (call_hears t d (link_of S.links p)).0.out
+
+abbrev pub TicksOut : Type 0
+TicksOut =
+    (t : ℕ) (p : Peer) (S : State) → MayStep t S → something_due t S ≡ true
+    → (link_of S.links p).out ≡ []
+    → sent_in p (ticked t S).entries
+    ≡ sent_in p S.entries
+        ++ (call_ticked t (rid_of (is_gone t S) (link_of S.links p))).0.out

@@ -32,6 +32,7 @@ ghost use Rattle.core_steps.specs.Resting.{ConnsTell, RestsAtRest};
 ghost use Rattle.core_steps.specs.Links.{
   SubmitsOut,
   HearsOut,
+  TicksOut,
   SubmitsLink,
   SubmitsOne,
   HearsLink,
@@ -125,4 +126,5 @@ pub fn links_follow()
     ensures none_ticks { NoneTicks }
     ensures submits_out { SubmitsOut }
     ensures hears_out { HearsOut }
+    ensures ticks_out { TicksOut }
 {}

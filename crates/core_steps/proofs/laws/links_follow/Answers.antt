@@ -1,4 +1,5 @@
 use Rattle.core_steps.proofs.Dropping.{drops-link}
+use Rattle.core_steps.proofs.LinksSent.{ticks-out}
 use Rattle.core_steps.proofs.LinksOut.{submits-out, hears-out}
 use Rattle.core_steps.proofs.Links.{submits-link, submits-one}
 use Rattle.core_steps.proofs.LinksHeard.{hears-link, hears-one}
@@ -31,3 +32,6 @@ returns-clause-submits_out c = submits-out
 
 pub returns-clause-hears_out : goal.returns-clause-hears_out
 returns-clause-hears_out c = hears-out
+
+pub returns-clause-ticks_out : goal.returns-clause-ticks_out
+returns-clause-ticks_out c = ticks-out
