@@ -96,7 +96,8 @@ sent_in p (w ∷ ws) = sent_by p w.deed ++ sent_in p ws
 -- What a link gives out is what the step sends to its endpoint, in that order.
 abbrev pub SubmitsOut : Type 0
 SubmitsOut =
-    (t c : ℕ) (a : Ask) (q : CoapRequest) (n : Numbers) (S : State) → (link_of S.links q.peer).out ≡ []
+    (t c : ℕ) (a : Ask) (q : CoapRequest) (n : Numbers) (S : State)
+    → (link_of S.links q.peer).out ≡ []
     → sent_in q.peer (next t q.peer (begins t c a q n.token n.text n.word S)).entries
     ≡ sent_in q.peer S.entries
     ++ (submitted t (waits n.token n.text n.word) (link_of S.links q.peer)).out
@@ -113,4 +114,4 @@ TicksOut =
     → (link_of S.links p).out ≡ []
     → sent_in p (ticked t S).entries
     ≡ sent_in p S.entries
-        ++ (call_ticked t (rid_of (is_gone t S) (link_of S.links p))).0.out
+    ++ (call_ticked t (rid_of (is_gone t S) (link_of S.links p))).0.out
