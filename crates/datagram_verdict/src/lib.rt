@@ -17,4 +17,4 @@ mod verdict;
 pub use confirming::confirmation;
 pub use finding::{Finding, Outcome};
 pub use response::Response;
-pub use verdict::{Change, Due, Ending, Verdict, verdict_of};
+pub use verdict::{Change, Due, Ending, Verdict, finding_of, verdict_of};

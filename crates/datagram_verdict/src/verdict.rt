@@ -58,8 +58,9 @@ pub struct Verdict {
     pub ending: Option<Ending>,
 }
 
-/// What the only reply to an exchange makes known, which the entry with this number bears.
-fn finding_of(alloc: Global, number: u32, m: Message) -> Result<Finding, AllocError>
+/// What the only reply to an exchange makes known, which the entry with this number bears: a whole
+/// response, whose payload isn't copied, or that it isn't understood.
+pub fn finding_of(alloc: Global, number: u32, m: Message) -> Result<Finding, AllocError>
     ensures { (q : CoapRequest) → IfOk result (λ f. f ≡ found_by number (whole_of q (content m ∷ []))) }
 {
     if !is_whole(&m) {
