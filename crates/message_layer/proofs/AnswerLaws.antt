@@ -13,7 +13,7 @@ use Rattle.coap_codec.specs.declared.fault.CodecFault.{CodecFault}
 use Rattle.coap_codec.specs.declared.message.MsgType.{MsgType}
 use Rattle.coap_codec.specs.declared.message.MsgType.TheVariants.{Con, Non, Ack, Rst}
 use Rattle.message_layer.specs.Values.{LinkState, Told, no_news, response, IsSound, IsSoundWaiting, IsSoundOutstanding, is_con}
-use Rattle.message_layer.specs.Sending.{with_mid, next_mid, next_by, ticked, ticked_by, submitted, submitted_by, queued, waits, due_of}
+use Rattle.message_layer.specs.Sending.{with_mid, next_mid, next_by, ticked, ticked_by, submitted, submitted_by, queued, waits, due_of, unnumbered}
 use Rattle.message_layer.specs.Hearing.{is_fresh, is_repeat, is_awaited, is_awaited_by_ack, replies, says, reset_for, verdict_of, verdict_by, new_verdict, heard_verdict, ack_verdict, rst_verdict, applied, ended, hears, hears_from, hears_read, undecoded, remembered_in}
 use Rattle.message_layer.specs.Calls.{taken_by}
 use Rattle.message_layer.specs.Runs.{Step, Call, submit, hear, tick, forget, expect, take_send, refuse, Leaves, Puts, IsStep, IsRun, last_moment, transmissions}
@@ -322,7 +322,7 @@ step-goes older x old new taken run h before i = by x.call i.leaves i.puts
     by (submit m word) e p =
         let w : Waiting = waits m.token e.submits.text word in
         let is : new ≡ submitted x.moment w old = e.submits.is in
-        let a = submit-adds x.moment w old h (waits-sound m e.submits.text word e.confirmable e.submits.spelled) in
+        let a = submit-adds x.moment w old h (waits-sound (unnumbered m) e.submits.text word e.confirmable e.submits.spelled) in
         record {
           taken = taken;
           answered = record { answer = no-answers old.out x.sent _ a.0 (rw is at p); memory = refl };

@@ -273,7 +273,7 @@ step-follows last older x old new h f i = by x.call i.leaves i.puts
     by (submit m word) e p =
         let w : Waiting = waits m.token e.submits.text word in
         let is : new ≡ submitted x.moment w old = e.submits.is in
-        rw is (submit-follows x older w old h f (waits-sound m e.submits.text word e.confirmable e.submits.spelled) (spelled-token m e.submits.text e.confirmable e.submits.spelled) (rw is at p))
+        rw is (submit-follows x older w old h f (waits-sound (unnumbered m) e.submits.text word e.confirmable e.submits.spelled) (spelled-token m e.submits.text e.confirmable e.submits.spelled) (rw is at p))
     by (hear d told) e p =
         let Q : LinkState × Told → Type 0 = λ r. r.0.out ≡ old.out ++ x.sent → FollowsBy x older (hear d r.1) r.0 in
         subst Q e (hear-follows x older d old h f) p

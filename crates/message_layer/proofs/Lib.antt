@@ -10,3 +10,5 @@ pub mod AwaitLaws
 pub mod AnswerLaws
 pub mod HandsUp
 pub mod Rising
+pub mod Room
+pub mod Preparing

@@ -5,7 +5,7 @@ use Rattle.std.proofs.lemmas.Nat.{pow_pos}
 use Rattle.std.specs.List.{AllByRecursion}
 use borrow.Author.Tests.{ltb-true}
 use Rattle.message_layer.specs.Values.{LinkState, Told, IsSound, IsSoundWaiting, IsSoundOutstanding, is_con}
-use Rattle.message_layer.specs.Sending.{with_mid, next_mid, due_of, next_by, ticked, ticked_by, submitted, waits}
+use Rattle.message_layer.specs.Sending.{with_mid, next_mid, due_of, next_by, ticked, ticked_by, submitted, unnumbered, waits}
 use Rattle.message_layer.specs.Mids.{is_in_use}
 use Rattle.message_layer.specs.Hearing.{hears}
 use Rattle.message_layer.specs.Calls.{sent_out, taken_by, waits_not_under}
@@ -53,7 +53,7 @@ step-effect last x old new h i = by x.call i.leaves i.puts
     by (submit m word) e p =
         let w : Waiting = waits m.token e.submits.text word in
         let is : new ≡ submitted x.moment w old = e.submits.is in
-        let effect = submit-effect x.moment w old x.sent h (waits-sound m e.submits.text word e.confirmable e.submits.spelled) (omega (arith, e.free)) (rw is at p) in
+        let effect = submit-effect x.moment w old x.sent h (waits-sound (unnumbered m) e.submits.text word e.confirmable e.submits.spelled) (omega (arith, e.free)) (rw is at p) in
         (old.waiting ++ w ∷ [], (w, record { token = refl; spelled = e.submits.spelled; timeout = refl }, refl), rw is effect)
     by (hear d told) e p =
         let is : (hears x.moment d old).0 ≡ new = ap (λ (r : LinkState × Told). r.0) e in

@@ -86,16 +86,16 @@ submitted-sound t w s late h p few = by s.outstanding refl
 pub Spells-long : (m : Content) (bytes : List ℕ) → Spells m bytes → 4 ≤ length bytes
 Spells-long m bytes s = rw s.whole (omega arith)
 
-pub spelled_con : (m : Content) (bytes : List ℕ) → m.kind ≡ Con → Spells (unnumbered m) bytes → is_con bytes ≡ true
+pub spelled_con : (m : Content) (bytes : List ℕ) → m.kind ≡ Con → Spells m bytes → is_con bytes ≡ true
 spelled_con m bytes kind s =
     let short : length m.token ≤ 8 = s.short_token in
     let four : (64 + 16 * 0 + length m.token) / 16 ≡ 4 = omega (arith, short) in
     rw (s.whole, kind) (eq-eqb _ _ four)
 
-pub waits-sound : (m : Content) (text : List ℕ) (word : ℕ) → m.kind ≡ Con → Spells (unnumbered m) text → IsSoundWaiting (waits m.token text word)
+pub waits-sound : (m : Content) (text : List ℕ) (word : ℕ) → m.kind ≡ Con → Spells m text → IsSoundWaiting (waits m.token text word)
 waits-sound m text word kind s = record {
   confirmable = spelled_con m text kind s;
-  header = Spells-long (unnumbered m) text s;
+  header = Spells-long m text s;
   short = omega arith;
   long = omega arith;
   mid = omega arith;
@@ -103,7 +103,7 @@ waits-sound m text word kind s = record {
 
 pub Submits-sound : (t word : ℕ) (m : Content) (old new : LinkState) → t ≤ 2 ^ 62 → m.kind ≡ Con → IsSound old → mids_in_use t old < 32768 → Submits t word m old new → IsSound new
 Submits-sound t word m old new late kind h few s =
-    rw (s.is) (submitted-sound t (waits m.token s.text word) old late h (waits-sound m s.text word kind s.spelled) few)
+    rw (s.is) (submitted-sound t (waits m.token s.text word) old late h (waits-sound (unnumbered m) s.text word kind s.spelled) few)
 
 pub ended-sound : (t : ℕ) (b : Bool) (s : LinkState) → t ≤ 2 ^ 62 → IsSound s → IsSound (ended t b s)
 ended-sound t false s late h = h

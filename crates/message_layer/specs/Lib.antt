@@ -9,3 +9,4 @@ pub mod Awaiting
 pub mod Answers
 pub mod Laws
 pub mod Mids
+pub mod Prepared

@@ -6,6 +6,7 @@ use Rattle.message_layer.specs.Values.{LinkState, Told, no_news, timed_out}
 use Rattle.message_layer.specs.declared.state.Waiting.{Waiting}
 use Rattle.message_layer.specs.declared.state.Outstanding.{Outstanding}
 use Rattle.message_layer.specs.declared.state.State.{State}
+use Rattle.message_layer.specs.declared.prepared.FirstSending.{FirstSending}
 use Rattle.message_layer.specs.declared.fault.LinkFault.{LinkFault}
 use Rattle.message_layer.specs.declared.fault.LinkFault.TheVariants.{Queue, Numbers, Memory}
 use Rattle.coap_codec.specs.Spelling.{Content, Spells}
@@ -115,19 +116,30 @@ pub record Submits (t word : ℕ) (m : Content) (old new : LinkState) : Type 0 w
 abbrev pub mids_in_use : ℕ → LinkState → ℕ
 mids_in_use t s = count_by (is_in_use t) s.given + length s.waiting
 
+-- a place in the queue and an ID are free
+abbrev pub HasPlace : ℕ → LinkState → Type 0
+HasPlace t s = (length s.waiting < 64) × (mids_in_use t s < 32768)
+
+abbrev pub IsRefused : ℕ → LinkState → LinkFault → Type 0
+IsRefused t s Queue = 64 ≤ length s.waiting
+IsRefused t s Numbers = (length s.waiting < 64) × (32768 ≤ mids_in_use t s)
+IsRefused t s Memory = HasPlace t s
+
 -- the first reason to refuse a message, exactly
-abbrev pub IsSubmitted : ℕ → LinkState → Result (Unit {0}) LinkFault → Type 0
-IsSubmitted t s (Ok u) = (length s.waiting < 64) × (mids_in_use t s < 32768)
-IsSubmitted t s (Err Queue) = 64 ≤ length s.waiting
-IsSubmitted t s (Err Numbers) = (length s.waiting < 64) × (32768 ≤ mids_in_use t s)
-IsSubmitted t s (Err Memory) = (length s.waiting < 64) × (mids_in_use t s < 32768)
+abbrev pub IsSubmitted : {X : Type 0} → ℕ → LinkState → Result X LinkFault → Type 0
+IsSubmitted t s (Ok x) = HasPlace t s
+IsSubmitted t s (Err e) = IsRefused t s e
 
 -- the message that goes out next and its bytes once more, as they are prepared
-abbrev pub IsNext : ℕ → Option ℕ → List Waiting → Option (Outstanding × List ℕ) → Type 0
+abbrev pub IsNext : ℕ → Option ℕ → List Waiting → Option FirstSending → Type 0
 IsNext t last_mid [] None = Unit {0}
 IsNext t last_mid [] (Some p) = ⊥
 IsNext t last_mid (w ∷ ws) None = ⊥
-IsNext t last_mid (w ∷ ws) (Some p) = (p.0 ≡ first_sent t last_mid w) × (p.1 ≡ p.0.datagram)
+IsNext t last_mid (w ∷ ws) (Some p) =
+    (p.message ≡ first_sent t last_mid w) × (p.datagram ≡ p.message.datagram)
+
+abbrev pub IsNextOf : ℕ → LinkState → Option FirstSending → Type 0
+IsNextOf t s next = IsNext t s.last_mid s.waiting next
 
 -- room for what a sending adds
 pub record HasRoom (s : State) : Type 0 where
@@ -135,9 +147,10 @@ pub record HasRoom (s : State) : Type 0 where
   pub awaited : vec_len s.awaited < vec_capacity s.awaited
   pub out : deque_len s.out < deque_capacity s.out
 
--- room for an answer and what is remembered of it too
+-- room for what a call adds: an answer, what is remembered of it, and what waits too
 pub record HasRoomToo (s : State) : Type 0 where
   pub given : 0 < s.given.room
+  pub waiting : vec_len s.waiting < vec_capacity s.waiting
   pub awaited : vec_len s.awaited < vec_capacity s.awaited
   pub heard : vec_len s.heard < vec_capacity s.heard
   pub out : deque_len s.out + 2 ≤ deque_capacity s.out

@@ -1,5 +1,6 @@
 -- What a link is to its users.
-use Rattle.std.specs.Prelude.{◌≡◌, ℕ, ◌+◌, ◌/◌, ◌^◌, ◌≤◌, ◌<◌, List, [], ◌∷◌, length, Option, Some, None, Bool, true, false, ◌==◌}
+use Rattle.std.specs.Prelude.{◌≡◌, ℕ, ◌+◌, ◌/◌, ◌^◌, ◌≤◌, ◌<◌, List, [], ◌∷◌, length, Option, Some, None, Bool, true, false, ◌==◌, ◌&&◌, nat_lt, nat_le, vec_len, vec_capacity}
+use Rattle.std.specs.VecDeque.{deque_len, deque_capacity}
 use Rattle.std.specs.List.{AllByRecursion}
 use Rattle.coap_codec.specs.Spelling.{Content, content}
 use Rattle.message_layer.specs.declared.state.Waiting.{Waiting}
@@ -28,6 +29,23 @@ pub record LinkState : Type 0 where
 
 abbrev pub seen : State → LinkState
 seen s = record { waiting = s.waiting.items; outstanding = s.outstanding; last_mid = s.last_mid; given = s.given.moments; awaited = s.awaited.items; heard = s.heard.items; out = s.out.items }
+
+-- there is room in memory for what one more call adds
+abbrev pub has_room : State → Bool
+has_room s =
+    nat_lt 0 s.given.room
+    && (nat_lt (vec_len s.waiting) (vec_capacity s.waiting)
+    && (nat_lt (vec_len s.awaited) (vec_capacity s.awaited)
+    && (nat_lt (vec_len s.heard) (vec_capacity s.heard)
+    && nat_le (deque_len s.out + 2) (deque_capacity s.out))))
+
+-- what a link keeps, and whether it has room for what one more call adds
+pub record LinkValue : Type 0 where
+  pub state : LinkState
+  pub room : Bool
+
+abbrev pub shown : State → LinkValue
+shown s = record { state = seen s; room = has_room s }
 
 abbrev pub empty_link : LinkState
 empty_link = record { waiting = []; outstanding = None; last_mid = None; given = []; awaited = []; heard = []; out = [] }

@@ -1,8 +1,9 @@
 //! The calls that neither send nor hear: forgetting, expecting, giving out and copying.
 
-ghost use Rattle.std.specs.Prelude.{◌≡◌, filter, IfOk, OnOk, OnErr, IsOk, false};
+ghost use Rattle.std.specs.Prelude.{◌≡◌, ◌≤◌, filter, IfOk, OnOk, OnErr, IsOk, false, vec_len, vec_capacity};
 ghost use Rattle.message_layer.specs.Values.{seen};
-ghost use Rattle.message_layer.specs.Calls.{waits_not_under, forgotten, is_other, expected, sent_out};
+ghost use Rattle.message_layer.specs.Sending.{HasRoomToo};
+ghost use Rattle.message_layer.specs.Calls.{waits_not_under, forgotten, is_other, expected, sent_out, is_among, rid_waiting, rid_awaited, rid_of, out_empty};
 
 use crate::bytes::Bytes;
 use crate::state::{Awaited, Outstanding, State, Waiting};
@@ -47,6 +48,47 @@ pub fn expect(s: &mut State, token: &Token, on: bool) -> Result<(), AllocError>
         drop_awaited(&mut s.awaited, token);
     }
     Ok(())
+}
+
+/// The token is one of these.
+pub fn is_among(tokens: &[Token], token: &Token) -> bool
+    ensures { result ≡ is_among tokens.now token.now }
+{
+    tokens.iter().any(|other| is_same(token, other))
+}
+
+fn drop_gone_waiting(waiting: &mut Vec<Waiting>, gone: &[Token])
+    ensures items { waiting.new.items ≡ rid_waiting (is_among gone.now) waiting.old.items }
+    ensures len { vec_len waiting.new ≤ vec_len waiting.old }
+    ensures capacity { vec_capacity waiting.new ≡ vec_capacity waiting.old }
+{
+    waiting.retain(|w| !is_among(gone, &w.token));
+}
+
+fn drop_gone_awaited(awaited: &mut Vec<Awaited>, gone: &[Token])
+    ensures items { awaited.new.items ≡ rid_awaited (is_among gone.now) awaited.old.items }
+    ensures len { vec_len awaited.new ≤ vec_len awaited.old }
+    ensures capacity { vec_capacity awaited.new ≡ vec_capacity awaited.old }
+{
+    awaited.retain(|a| !is_among(gone, &a.token));
+}
+
+/// What bears one of these tokens is neither awaited nor sent any more.
+pub fn drop_gone(s: &mut State, gone: &[Token])
+    ensures state { seen s.new ≡ rid_of (is_among gone.now) (seen s.old) }
+    ensures room { HasRoomToo s.old → HasRoomToo s.new }
+{
+    if !gone.is_empty() {
+        drop_gone_waiting(&mut s.waiting, gone);
+        drop_gone_awaited(&mut s.awaited, gone);
+    }
+}
+
+/// Nothing is to be given out any more.
+pub fn clear_out(s: &mut State)
+    ensures { seen s.new ≡ out_empty (seen s.old) }
+{
+    s.out.clear();
 }
 
 /// The next datagram to be sent.

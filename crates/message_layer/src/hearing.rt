@@ -1,17 +1,19 @@
 //! Datagrams of the peer's: what the verdict over them says is done.
 
-ghost use Rattle.std.specs.Prelude.{◌≡◌, ◌<◌, ◌≤◌, ◌+◌, ◌++◌, map, filter, IfOk, OnOk, OnErr, IsOkUnless, true, vec_len, vec_capacity};
+ghost use Rattle.std.specs.Prelude.{◌≡◌, ◌<◌, ◌≤◌, ◌+◌, ◌++◌, map, filter, IfOk, OnErr, IsOkUnless, None, true, false, vec_len, vec_capacity};
 ghost use Rattle.std.specs.VecDeque.{deque_len, deque_capacity};
 ghost use Rattle.coap_codec.specs.Spelling.{content};
-ghost use Rattle.message_layer.specs.Values.{seen, told, IsSound};
-ghost use Rattle.message_layer.specs.Sending.{HasRoom, HasRoomToo, IsNext};
-ghost use Rattle.message_layer.specs.Hearing.{is_fresh, replies, remembered_in, answered, answered_in, ended, applied, says, reset_for, hears, listed, undecoded, takes};
+ghost use Rattle.message_layer.specs.Values.{seen, shown, told, was_dropped, IsSound};
+ghost use Rattle.message_layer.specs.Sending.{HasRoom, HasRoomToo, IsNextOf};
+ghost use Rattle.message_layer.specs.Hearing.{is_fresh, replies, remembered_in, answered, answered_in, ended, applied, says, reset_for, hears, listed, takes};
+ghost use Rattle.message_layer.specs.Prepared.{MayHeed, IsMessage, IsOfNone, IsPreparedFor, is_lost, unread_mid, unread_verdict};
 
 use crate::bytes::Bytes;
 use crate::fault::LinkFault;
+use crate::prepared::{FirstSending, Hearing, Heeding};
 use crate::sending;
-use crate::state::{Awaited, Heard, Outstanding, Reply, State, Up};
-use crate::verdict::{EXCHANGE_LIFETIME, News, Verdict, decide, is_same};
+use crate::state::{Awaited, Heard, Reply, State, Up};
+use crate::verdict::{EXCHANGE_LIFETIME, IGNORED, News, Verdict, decide, is_same};
 use coap_codec::{CodecFault, Message, Token, decode};
 use std::alloc::{AllocError, Global};
 use std::collections::VecDeque;
@@ -99,9 +101,10 @@ fn prepared_if(
     ends: bool,
     s: &State,
     moment: u64,
-) -> Result<Option<(Outstanding, Bytes)>, AllocError>
+) -> Result<Option<FirstSending>, AllocError>
     requires { IsSound (seen s.now) }
-    ensures { IfOk result (λ next. ends ≡ true → IsNext moment s.now.last_mid s.now.waiting.items next) }
+    ensures next { IfOk result (λ x. ends ≡ true → IsNextOf moment (seen s.now) x) }
+    ensures none { IfOk result (λ x. ends ≡ false → x ≡ None) }
 {
     if ends {
         let next = sending::prepared(alloc, &s.waiting, s.last_mid, moment)?;
@@ -110,9 +113,9 @@ fn prepared_if(
     Ok(None)
 }
 
-fn end_if(s: &mut State, ends: bool, next: Option<(Outstanding, Bytes)>, moment: u64)
+fn end_if(s: &mut State, ends: bool, next: Option<FirstSending>, moment: u64)
     requires room { HasRoom s.old }
-    requires next { ends ≡ true → IsNext moment s.old.last_mid s.old.waiting.items next }
+    requires next { ends ≡ true → IsNextOf moment (seen s.old) next }
     ensures { seen s.new ≡ ended moment ends (seen s.old) }
 {
     if ends {
@@ -120,39 +123,51 @@ fn end_if(s: &mut State, ends: bool, next: Option<(Outstanding, Bytes)>, moment:
     }
 }
 
-/// Room for an answer, for what is remembered, and for the next message.
-fn make_room(s: &mut State) -> Result<(), AllocError>
-    ensures same { seen s.new ≡ seen s.old }
-    ensures ok { OnOk result (HasRoomToo s.new) }
-{
-    s.given.reserve()?;
-    s.awaited.reserve(1)?;
-    s.heard.reserve(1)?;
-    s.out.reserve(2)?;
-    Ok(())
-}
-
-/// Does what the verdict says.
-fn apply(
+/// What the verdict says, with all that it puts out. It changes nothing.
+fn prepare_heeding(
     alloc: Global,
     s: &mut State,
     mid: u16,
-    token: &Token,
-    v: Verdict,
+    token: Token,
+    verdict: Verdict,
     moment: u64,
-) -> Result<(), AllocError>
+) -> Result<Heeding, AllocError>
     requires { IsSound (seen s.old) }
-    ensures ok { OnOk result (seen s.new ≡ applied moment mid token.now v (seen s.old)) }
-    ensures err { OnErr result (seen s.new ≡ seen s.old) }
+    ensures same { seen s.new ≡ seen s.old }
+    ensures ready { IfOk result (λ x. MayHeed moment (shown s.new) x) }
+    ensures mid { IfOk result (λ x. x.mid ≡ mid) }
+    ensures token { IfOk result (λ x. x.token ≡ token) }
+    ensures verdict { IfOk result (λ x. x.verdict ≡ verdict) }
 {
-    let reply = reply_of(alloc, mid, v.reply)?;
-    let next = prepared_if(alloc, v.ends, s, moment)?;
-    make_room(s)?;
+    let reply = reply_of(alloc, mid, verdict.reply)?;
+    let next = prepared_if(alloc, verdict.ends, s, moment)?;
+    sending::make_room(s)?;
+    Ok(Heeding {
+        mid,
+        token,
+        verdict,
+        reply,
+        next,
+    })
+}
+
+/// Does what the verdict says.
+pub fn heed(s: &mut State, x: Heeding, moment: u64)
+    requires room { HasRoomToo s.old }
+    requires ready { MayHeed moment (shown s.old) x }
+    ensures { seen s.new ≡ applied moment x.mid x.token x.verdict (seen s.old) }
+{
+    let Heeding {
+        mid,
+        token,
+        verdict,
+        reply,
+        next,
+    } = x;
     push_reply(&mut s.out, reply);
-    remember(&mut s.heard, v.remembered, mid, v.reply, moment);
-    answer(&mut s.awaited, token, v.news);
-    end_if(s, v.ends, next, moment);
-    Ok(())
+    remember(&mut s.heard, verdict.remembered, mid, verdict.reply, moment);
+    answer(&mut s.awaited, &token, verdict.news);
+    end_if(s, verdict.ends, next, moment);
 }
 
 /// The ID of a CON that is no message, where it shows one.
@@ -171,17 +186,43 @@ fn mid_to_reset(datagram: &[u8]) -> Option<u16>
     }
 }
 
-/// Resets what can't be read, where it shows an ID.
-fn reset_undecoded(alloc: Global, s: &mut State, datagram: &[u8]) -> Result<(), AllocError>
-    ensures ok { OnOk result (seen s.new ≡ undecoded (reset_for datagram.now) (seen s.old)) }
-    ensures err { OnErr result (seen s.new ≡ seen s.old) }
+fn mid_or_zero(mid: Option<u16>) -> u16
+    ensures { result ≡ unread_mid mid }
 {
-    if let Some(mid) = mid_to_reset(datagram) {
-        let reply = reply_of(alloc, mid, Reply::Rst)?;
-        s.out.reserve(1)?;
-        push_reply(&mut s.out, reply);
+    mid.unwrap_or(0)
+}
+
+/// What can't be read is reset, where it shows an ID.
+fn unread(mid: Option<u16>) -> Verdict
+    ensures { result ≡ unread_verdict mid }
+{
+    match mid {
+        None => IGNORED,
+        Some(_) => Verdict {
+            reply: Reply::Rst,
+            ..IGNORED
+        },
     }
-    Ok(())
+}
+
+fn prepare_unread(
+    alloc: Global,
+    s: &mut State,
+    datagram: &[u8],
+    moment: u64,
+) -> Result<Hearing, AllocError>
+    requires { IsSound (seen s.old) }
+    ensures same { seen s.new ≡ seen s.old }
+    ensures ready { IfOk result (λ h. MayHeed moment (shown s.new) h.heeding) }
+    ensures is { IfOk result (λ h. IsOfNone (reset_for datagram.now) h) }
+{
+    let reset = mid_to_reset(datagram);
+    let mid = mid_or_zero(reset);
+    let heeding = prepare_heeding(alloc, s, mid, Token::new(&[]), unread(reset), moment)?;
+    Ok(Hearing {
+        heeding,
+        up: Up::Nothing,
+    })
 }
 
 fn up_of(news: News, m: Message) -> Up
@@ -195,18 +236,64 @@ fn up_of(news: News, m: Message) -> Up
     }
 }
 
-/// Takes a message.
-fn take(alloc: Global, s: &mut State, m: Message, moment: u64) -> Result<Up, AllocError>
-    requires { IsSound (seen s.old) }
-    ensures ok { IfOk result (λ up. takes moment (content m) (seen s.old) ≡ (seen s.new, told up)) }
-    ensures err { OnErr result (seen s.new ≡ seen s.old) }
+fn loses(news: News) -> bool
+    ensures { result ≡ is_lost news }
 {
-    let v = decide(s, &m, moment);
-    let mid = m.mid;
-    let token = m.token;
-    let news = v.news;
-    apply(alloc, s, mid, &token, v, moment)?;
-    Ok(up_of(news, m))
+    match news {
+        News::Lost => true,
+        News::Quiet | News::Response | News::Reset(_) => false,
+    }
+}
+
+/// What the message does and tells.
+fn prepare_message(
+    alloc: Global,
+    s: &mut State,
+    m: Message,
+    moment: u64,
+) -> Result<Option<Hearing>, AllocError>
+    requires { IsSound (seen s.old) }
+    ensures same { seen s.new ≡ seen s.old }
+    ensures ok { IfOk result (λ o. IsMessage moment (content m) (shown s.new) o) }
+{
+    let verdict = decide(s, &m, moment);
+    let news = verdict.news;
+    if loses(news) {
+        return Ok(None);
+    }
+    let heeding = prepare_heeding(alloc, s, m.mid, m.token, verdict, moment)?;
+    Ok(Some(Hearing {
+        heeding,
+        up: up_of(news, m),
+    }))
+}
+
+/// What a datagram does and tells. It changes nothing.
+pub fn prepare_heard(
+    alloc: Global,
+    s: &mut State,
+    datagram: &[u8],
+    moment: u64,
+) -> Result<Option<Hearing>, LinkFault>
+    requires { IsSound (seen s.old) }
+    ensures same { seen s.new ≡ seen s.old }
+    ensures ok { IfOk result (λ o. IsPreparedFor moment datagram.now (shown s.new) o) }
+    ensures memory { IsOkUnless result LinkFault.Memory }
+{
+    if s.last_mid.is_none() || datagram.len() > MAX_DATAGRAM {
+        return Ok(None);
+    }
+    match decode(alloc, datagram) {
+        Ok(m) => {
+            let hearing = prepare_message(alloc, s, m, moment)?;
+            Ok(hearing)
+        }
+        Err(CodecFault::Memory) => Err(LinkFault::Memory),
+        Err(_) => {
+            let hearing = prepare_unread(alloc, s, datagram, moment)?;
+            Ok(Some(hearing))
+        }
+    }
 }
 
 /// Takes a datagram.
@@ -216,18 +303,12 @@ pub fn hear(alloc: Global, s: &mut State, datagram: &[u8], moment: u64) -> Resul
     ensures err { OnErr result (seen s.new ≡ seen s.old) }
     ensures memory { IsOkUnless result LinkFault.Memory }
 {
-    if s.last_mid.is_none() || datagram.len() > MAX_DATAGRAM {
-        return Ok(Up::Dropped);
-    }
-    match decode(alloc, datagram) {
-        Ok(m) => {
-            let up = take(alloc, s, m, moment)?;
+    match prepare_heard(alloc, s, datagram, moment)? {
+        None => Ok(Up::Dropped),
+        Some(hearing) => {
+            let Hearing { heeding, up } = hearing;
+            heed(s, heeding, moment);
             Ok(up)
-        }
-        Err(CodecFault::Memory) => Err(LinkFault::Memory),
-        Err(_) => {
-            reset_undecoded(alloc, s, datagram)?;
-            Ok(Up::Nothing)
         }
     }
 }

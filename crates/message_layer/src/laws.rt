@@ -4,6 +4,7 @@
 ghost use Rattle.message_layer.specs.Transmissions.{RunTransmits, MidsApart, RunKeepsTurn};
 ghost use Rattle.message_layer.specs.Answers.{RunAnswers, HandsUpOnce};
 ghost use Rattle.message_layer.specs.Laws.{TickSends, HeardSends, SentSpells};
+ghost use Rattle.message_layer.specs.Prepared.{HearsAsPrepared};
 
 /// Over any run, the CONs that go out are the sendings of messages one after another: each at
 /// most five times, equal byte for byte, each copy at the first tick at or after the moment when
@@ -49,4 +50,9 @@ pub fn heard_sends()
 /// What is sent spells the message that was handed in, under the ID that it is given.
 pub fn sent_spells()
     ensures { SentSpells }
+{}
+
+/// What was prepared for a datagram is what hearing it does and tells.
+pub fn hears_as_prepared()
+    ensures { HearsAsPrepared }
 {}

@@ -18,6 +18,7 @@ mod laws;
 mod link;
 mod mids;
 mod options;
+mod prepared;
 mod sending;
 mod state;
 mod verdict;
@@ -25,9 +26,11 @@ mod verdict;
 pub use bytes::Bytes;
 pub use fault::LinkFault;
 pub use laws::{
-    hands_up_once, heard_sends, mids_apart, run_answers, run_keeps_turn, run_transmits,
-    sent_spells, tick_sends,
+    hands_up_once, heard_sends, hears_as_prepared, mids_apart, run_answers, run_keeps_turn,
+    run_transmits, sent_spells, tick_sends,
 };
 pub use link::Link;
 pub use options::{Fitness, judge};
+pub use prepared::{FirstSending, Hearing, Heeding, Submission, Ticking};
 pub use state::{Awaited, Heard, Outstanding, Reply, Up, Waiting};
+pub use verdict::{News, Verdict};

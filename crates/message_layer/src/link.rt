@@ -1,17 +1,19 @@
 //! A link towards one peer.
 
-ghost use Rattle.std.specs.Prelude.{◌≡◌, ◌≤◌, ◌^◌, OnOk, OnErr, IfOk, IsOk, IsOkUnless, false};
+ghost use Rattle.std.specs.Prelude.{◌≡◌, ◌≤◌, ◌^◌, OnOk, OnErr, IfOk, IsOk, IsOkUnless, true, false};
 ghost use Rattle.std.specs.Option.{option_map};
 ghost use Rattle.coap_codec.specs.Spelling.{content};
 ghost use Rattle.coap_codec.specs.Writing.{IsEncodable};
 ghost use Rattle.message_layer.specs.Values.{told, empty_link};
-ghost use Rattle.message_layer.specs.Sending.{ticked, Submits, IsSubmitted, due_of};
-ghost use Rattle.message_layer.specs.Hearing.{hears};
-ghost use Rattle.message_layer.specs.Calls.{forgotten, expected, sent_out};
+ghost use Rattle.message_layer.specs.Sending.{ticked, submitted, Submits, IsSubmitted, due_of};
+ghost use Rattle.message_layer.specs.Hearing.{hears, applied};
+ghost use Rattle.message_layer.specs.Calls.{forgotten, expected, sent_out, rid_among, out_empty};
+ghost use Rattle.message_layer.specs.Prepared.{IsUnnumberedCon, IsSubmission, MaySubmit, MayHeed, IsPreparedFor, IsTicking};
 
 use crate::bytes::Bytes;
 use crate::fault::LinkFault;
 use crate::mids::Mids;
+use crate::prepared::{Hearing, Heeding, Submission, Ticking};
 use crate::state::{State, Up};
 use crate::{calls, hearing, sending};
 use coap_codec::{Message, MsgType, Token};
@@ -29,11 +31,11 @@ pub struct Link {
 }
 
 impl Model for Link {
-    ghost use Rattle.message_layer.specs.Values.{LinkState, seen, IsSound};
+    ghost use Rattle.message_layer.specs.Values.{LinkValue, seen, shown, IsSound};
 
-    ghost Value = { LinkState };
+    ghost Value = { LinkValue };
 
-    ghost view = { λ l. seen l.state };
+    ghost view = { λ l. shown l.state };
 
     ghost invariant = { λ l. IsSound (seen l.state) };
 }
@@ -41,7 +43,7 @@ impl Model for Link {
 impl Link {
     /// A link to which nothing was handed in.
     pub fn new(alloc: Global) -> Link
-        ensures { result ≡ empty_link }
+        ensures { result.state ≡ empty_link }
     {
         Link {
             alloc,
@@ -65,23 +67,102 @@ impl Link {
         requires moment { moment ≤ 2 ^ 62 }
         requires confirmable { m.kind ≡ MsgType.Con }
         requires encodable { IsEncodable (content m) }
-        ensures ok { OnOk result (Submits moment word (content m) self.old self.new) }
-        ensures err { OnErr result (self.new ≡ self.old) }
-        ensures fault { IsSubmitted moment self.old result }
+        ensures ok { OnOk result (Submits moment word (content m) self.old.state self.new.state) }
+        ensures err { OnErr result (self.new.state ≡ self.old.state) }
+        ensures fault { IsSubmitted moment self.old.state result }
     {
         sending::submit(self.alloc, &mut self.state, m, moment, word)?;
         Ok(())
+    }
+
+    /// Prepares that a message is taken: one that is spelled already, as a CON under message ID 0.
+    /// It makes all that `submit_prepared` wants, and changes nothing else.
+    pub fn prepare_submit(
+        &mut self,
+        token: Token,
+        text: &[u8],
+        moment: u64,
+        word: u64,
+    ) -> Result<Submission, LinkFault>
+        requires moment { moment ≤ 2 ^ 62 }
+        requires message { IsUnnumberedCon token text.now }
+        ensures same { self.new.state ≡ self.old.state }
+        ensures ok { IfOk result (λ x. IsSubmission moment token text.now word self.new x) }
+        ensures fault { IsSubmitted moment self.old.state result }
+    {
+        sending::check(&self.state, moment)?;
+        let text = Bytes::new(self.alloc, Vec::from_slice(self.alloc, text)?)?;
+        let x = sending::prepare_submit(self.alloc, &mut self.state, token, text, moment, word)?;
+        Ok(x)
+    }
+
+    /// Takes a message that was prepared at this moment, and the link has not changed since.
+    pub fn submit_prepared(&mut self, x: Submission, moment: u64)
+        requires moment { moment ≤ 2 ^ 62 }
+        requires ready { MaySubmit moment self.old x }
+        ensures { self.new.state ≡ submitted moment x.waiting self.old.state }
+    {
+        sending::submit_prepared(&mut self.state, x, moment);
+    }
+
+    /// Prepares a tick, once what bears one of these tokens is neither awaited nor sent any more.
+    /// It makes all that `tick_prepared` wants, and changes nothing else.
+    pub fn prepare_tick(&mut self, moment: u64, gone: &[Token]) -> Result<Ticking, LinkFault>
+        requires { moment ≤ 2 ^ 62 }
+        ensures same { self.new.state ≡ self.old.state }
+        ensures ok { IfOk result (λ x. IsTicking moment gone.now self.new x) }
+        ensures memory { IsOkUnless result LinkFault.Memory }
+    {
+        let x = sending::prepare_tick(self.alloc, &mut self.state, moment, gone)?;
+        Ok(x)
+    }
+
+    /// Takes what bears one of these tokens away, and does the tick that was prepared for them at
+    /// this moment.
+    pub fn tick_prepared(&mut self, x: Ticking, moment: u64, gone: &[Token]) -> Up
+        requires moment { moment ≤ 2 ^ 62 }
+        requires ready { IsTicking moment gone.now self.old x }
+        ensures { ticked moment (rid_among gone.now self.old.state) ≡ (self.new.state, told result) }
+    {
+        sending::tick_prepared(&mut self.state, x, moment, gone)
     }
 
     /// Looks at the timer: it sends one copy, or gives up and sends the next message, or does
     /// nothing.
     pub fn tick(&mut self, moment: u64) -> Result<Up, LinkFault>
         requires { moment ≤ 2 ^ 62 }
-        ensures ok { IfOk result (λ up. ticked moment self.old ≡ (self.new, told up)) }
-        ensures err { OnErr result (self.new ≡ self.old) }
+        ensures ok { IfOk result (λ up. ticked moment self.old.state ≡ (self.new.state, told up)) }
+        ensures err { OnErr result (self.new.state ≡ self.old.state) }
         ensures memory { IsOkUnless result LinkFault.Memory }
     {
-        sending::tick(self.alloc, &mut self.state, moment)
+        let x = self.prepare_tick(moment, &[])?;
+        Ok(self.tick_prepared(x, moment, &[]))
+    }
+
+    /// Prepares that a datagram of the peer's is heard: what it does to the link, and what it
+    /// tells. It makes all that `hear_prepared` wants, and changes nothing else. `None`: it counts
+    /// as lost, so that nothing is to be done.
+    pub fn prepare_heard(
+        &mut self,
+        datagram: &[u8],
+        moment: u64,
+    ) -> Result<Option<Hearing>, LinkFault>
+        requires { moment ≤ 2 ^ 62 }
+        ensures same { self.new.state ≡ self.old.state }
+        ensures ok { IfOk result (λ o. IsPreparedFor moment datagram.now self.new o) }
+        ensures memory { IsOkUnless result LinkFault.Memory }
+    {
+        let hearing = hearing::prepare_heard(self.alloc, &mut self.state, datagram, moment)?;
+        Ok(hearing)
+    }
+
+    /// Does what a datagram makes the link do, as it was prepared at this moment.
+    pub fn hear_prepared(&mut self, x: Heeding, moment: u64)
+        requires moment { moment ≤ 2 ^ 62 }
+        requires ready { MayHeed moment self.old x }
+        ensures { self.new.state ≡ applied moment x.mid x.token x.verdict self.old.state }
+    {
+        hearing::heed(&mut self.state, x, moment);
     }
 
     /// Takes a datagram of the peer's. A response is told even where it is rejected: `judge`
@@ -89,8 +170,8 @@ impl Link {
     /// its token is awaited until `expect` says otherwise.
     pub fn heard(&mut self, datagram: &[u8], moment: u64) -> Result<Up, LinkFault>
         requires { moment ≤ 2 ^ 62 }
-        ensures ok { IfOk result (λ up. hears moment datagram.now self.old ≡ (self.new, told up)) }
-        ensures err { OnErr result (self.new ≡ self.old) }
+        ensures ok { IfOk result (λ up. hears moment datagram.now self.old.state ≡ (self.new.state, told up)) }
+        ensures err { OnErr result (self.new.state ≡ self.old.state) }
         ensures memory { IsOkUnless result LinkFault.Memory }
     {
         let up = hearing::hear(self.alloc, &mut self.state, datagram, moment)?;
@@ -100,15 +181,15 @@ impl Link {
     /// The messages with this token are not to be sent, should they wait yet. Copies of one that
     /// was sent go on.
     pub fn forget(&mut self, token: &Token)
-        ensures { self.new ≡ forgotten token.now self.old }
+        ensures { self.new.state ≡ forgotten token.now self.old.state }
     {
         calls::forget(&mut self.state, token);
     }
 
     /// Whether a response in a CON or NON is awaited under this token.
     pub fn expect(&mut self, token: &Token, on: bool) -> Result<(), LinkFault>
-        ensures ok { OnOk result (self.new ≡ expected token.now on self.old) }
-        ensures err { OnErr result (self.new ≡ self.old) }
+        ensures ok { OnOk result (self.new.state ≡ expected token.now on self.old.state) }
+        ensures err { OnErr result (self.new.state ≡ self.old.state) }
         ensures off { on ≡ false → IsOk result }
         ensures memory { IsOkUnless result LinkFault.Memory }
     {
@@ -118,21 +199,29 @@ impl Link {
 
     /// The next datagram to be sent to the peer.
     pub fn take_send(&mut self) -> Option<Bytes>
-        ensures { sent_out self.old ≡ (self.new, result) }
+        ensures { sent_out self.old.state ≡ (self.new.state, result) }
     {
         calls::take_send(&mut self.state)
     }
 
+    /// Nothing is to be given out any more: for a caller that took the datagrams from what was
+    /// prepared.
+    pub fn clear_out(&mut self)
+        ensures { self.new.state ≡ out_empty self.old.state }
+    {
+        calls::clear_out(&mut self.state);
+    }
+
     /// When a tick has something to do.
     pub fn next_due(&self) -> Option<u64>
-        ensures { result ≡ option_map due_of self.now.outstanding }
+        ensures { result ≡ option_map due_of self.now.state.outstanding }
     {
         sending::next_due(&self.state)
     }
 
     /// The same link again, which shares the bytes of its messages.
     pub fn copy(&self) -> Result<Link, LinkFault>
-        ensures ok { IfOk result (λ link. link ≡ self.now) }
+        ensures ok { IfOk result (λ link. link.state ≡ self.now.state) }
         ensures memory { IsOkUnless result LinkFault.Memory }
     {
         Ok(Link {

@@ -161,7 +161,7 @@ impl Mids {
 
     /// Forgets those that are in use no more, if there are many.
     pub fn prune(&mut self, waiting: usize, moment: u64)
-        requires { waiting ≤ 64 }
+        requires { waiting ≤ 32768 }
         ensures moments { self.new.moments ≡ pruned moment waiting self.old.moments }
         ensures newest { self.new.newest ≡ self.old.newest }
         ensures room { self.old.room ≤ self.new.room }

@@ -5,13 +5,17 @@ ghost use Rattle.std.specs.Option.{option_map};
 ghost use Rattle.std.specs.List.{AllByRecursion};
 ghost use Rattle.coap_codec.specs.Spelling.{content, Spells};
 ghost use Rattle.coap_codec.specs.Writing.{IsEncodable};
-ghost use Rattle.message_layer.specs.Values.{seen, told, is_con, IsSound, IsSoundOutstanding, IsSoundWaiting};
-ghost use Rattle.message_layer.specs.Sending.{due_of, next_mid, first_sent, next_sent, ticked, with_outstanding, again, IsNext, HasRoom, mids_in_use, initial_timeout, unnumbered, Submits, IsSubmitted};
+ghost use Rattle.message_layer.specs.Values.{seen, shown, told, has_room, IsSound, IsSoundOutstanding, IsSoundWaiting};
+ghost use Rattle.message_layer.specs.Sending.{due_of, next_mid, first_sent, next_sent, ticked, with_outstanding, again, waits, submitted, IsNext, IsNextOf, HasRoom, HasRoomToo, mids_in_use, initial_timeout, unnumbered, HasPlace, Submits, IsSubmitted};
+ghost use Rattle.message_layer.specs.Calls.{rid_among};
+ghost use Rattle.message_layer.specs.Prepared.{at_once, copied, MaySubmit, IsSubmission, IsTicking};
 
 use crate::bytes::Bytes;
+use crate::calls;
 use crate::fault::LinkFault;
+use crate::prepared::{FirstSending, Submission, Ticking};
 use crate::state::{Awaited, Outstanding, State, Up, Waiting};
-use coap_codec::{Message, MsgType, encode};
+use coap_codec::{Message, MsgType, Token, encode};
 use std::alloc::{AllocError, Global};
 
 /// How many messages may wait.
@@ -57,10 +61,10 @@ fn launch(
     w: &Waiting,
     last_mid: Option<u16>,
     moment: u64,
-) -> Result<(Outstanding, Bytes), AllocError>
+) -> Result<FirstSending, AllocError>
     requires { IsSoundWaiting w.now }
-    ensures message { IfOk result (λ p. p.0 ≡ first_sent moment last_mid w.now) }
-    ensures datagram { IfOk result (λ p. p.1 ≡ p.0.datagram) }
+    ensures message { IfOk result (λ p. p.message ≡ first_sent moment last_mid w.now) }
+    ensures datagram { IfOk result (λ p. p.datagram ≡ p.message.datagram) }
 {
     let mid = mid_after(last_mid, w.first_mid);
     let datagram = Bytes::numbered(alloc, w.datagram.as_slice(), mid)?;
@@ -73,7 +77,10 @@ fn launch(
         sent: moment,
         retransmissions: 0,
     };
-    Ok((message, copy))
+    Ok(FirstSending {
+        message,
+        datagram: copy,
+    })
 }
 
 /// The message that goes out next, if one waits.
@@ -82,7 +89,7 @@ pub fn prepared(
     waiting: &[Waiting],
     last_mid: Option<u16>,
     moment: u64,
-) -> Result<Option<(Outstanding, Bytes)>, AllocError>
+) -> Result<Option<FirstSending>, AllocError>
     requires { AllByRecursion IsSoundWaiting waiting.now }
     ensures { IfOk result (λ next. IsNext moment last_mid waiting.now next) }
 {
@@ -95,43 +102,66 @@ pub fn prepared(
     }
 }
 
-/// Room for what a sending adds.
-fn make_room(s: &mut State) -> Result<(), AllocError>
+/// The message that goes out next, if one waits that has no token of these.
+fn prepared_but(
+    alloc: Global,
+    s: &State,
+    gone: &[Token],
+    moment: u64,
+) -> Result<Option<FirstSending>, AllocError>
+    requires { IsSound (seen s.now) }
+    ensures { IfOk result (λ x. IsNextOf moment (rid_among gone.now (seen s.now)) x) }
+{
+    match s.waiting.iter().find(|w| !calls::is_among(gone, &w.token)) {
+        None => Ok(None),
+        Some(w) => {
+            let next = launch(alloc, w, s.last_mid, moment)?;
+            Ok(Some(next))
+        }
+    }
+}
+
+/// Room for what one more call adds.
+#[tactic(auto, using(crate::proofs::Room::room_holds))]
+pub fn make_room(s: &mut State) -> Result<(), AllocError>
     ensures same { seen s.new ≡ seen s.old }
-    ensures ok { OnOk result (HasRoom s.new) }
+    ensures ok { OnOk result (has_room s.new ≡ true) }
 {
     s.given.reserve()?;
+    s.waiting.reserve(1)?;
     s.awaited.reserve(1)?;
-    s.out.reserve(1)?;
+    s.heard.reserve(1)?;
+    s.out.reserve(2)?;
     Ok(())
 }
 
-fn send_first(s: &mut State, message: Outstanding, copy: Bytes)
+fn send_first(s: &mut State, first: FirstSending)
     requires room { HasRoom s.old }
-    requires copy { copy ≡ message.datagram }
-    ensures { seen s.new ≡ with_outstanding (seen s.old) s.old.waiting.items message }
+    requires copy { first.datagram ≡ first.message.datagram }
+    ensures { seen s.new ≡ with_outstanding (seen s.old) s.old.waiting.items first.message }
 {
+    let FirstSending { message, datagram } = first;
     s.last_mid = Some(message.mid);
     s.given.push_reserved(message.sent);
     s.awaited.push_reserved(Awaited {
         token: message.token,
         mid: Some(message.mid),
     });
-    s.out.push_back_reserved(copy);
+    s.out.push_back_reserved(datagram);
     s.outstanding = Some(message);
 }
 
 /// What was outstanding has ended: the next message is sent.
-pub fn send_next(s: &mut State, next: Option<(Outstanding, Bytes)>, moment: u64)
+pub fn send_next(s: &mut State, next: Option<FirstSending>, moment: u64)
     requires room { HasRoom s.old }
-    requires next { IsNext moment s.old.last_mid s.old.waiting.items next }
+    requires next { IsNextOf moment (seen s.old) next }
     ensures { seen s.new ≡ next_sent moment (seen s.old) }
 {
     match next {
         None => s.outstanding = None,
-        Some((message, copy)) => {
+        Some(first) => {
             drop(s.waiting.remove(0));
-            send_first(s, message, copy);
+            send_first(s, first);
         }
     }
 }
@@ -147,31 +177,69 @@ fn count_copy(outstanding: &mut Option<Outstanding>, moment: u64)
     }
 }
 
-/// Looks at the timer.
-pub fn tick(alloc: Global, s: &mut State, moment: u64) -> Result<Up, LinkFault>
+/// What a tick does once what bears one of these tokens is gone. It changes nothing.
+pub fn prepare_tick(
+    alloc: Global,
+    s: &mut State,
+    moment: u64,
+    gone: &[Token],
+) -> Result<Ticking, AllocError>
     requires { IsSound (seen s.old) }
-    ensures ok { IfOk result (λ up. ticked moment (seen s.old) ≡ (seen s.new, told up)) }
-    ensures err { OnErr result (seen s.new ≡ seen s.old) }
-    ensures memory { IsOkUnless result LinkFault.Memory }
+    ensures same { seen s.new ≡ seen s.old }
+    ensures ok { IfOk result (λ x. IsTicking moment gone.now (shown s.new) x) }
 {
     let Some(outstanding) = &s.outstanding else {
-        return Ok(Up::Nothing);
+        return Ok(Ticking::Rests);
     };
     if moment < due(outstanding) {
-        return Ok(Up::Nothing);
+        return Ok(Ticking::Rests);
     }
     if outstanding.retransmissions < MAX_RETRANSMIT {
         let copy = outstanding.datagram.share()?;
-        s.out.reserve(1)?;
-        s.out.push_back_reserved(copy);
-        count_copy(&mut s.outstanding, moment);
-        return Ok(Up::Nothing);
+        make_room(s)?;
+        return Ok(Ticking::Copies(copy));
     }
     let token = outstanding.token;
-    let next = prepared(alloc, &s.waiting, s.last_mid, moment)?;
+    let next = prepared_but(alloc, s, gone, moment)?;
     make_room(s)?;
+    Ok(Ticking::GivesUp(token, next))
+}
+
+fn send_copy(s: &mut State, copy: Bytes, moment: u64)
+    requires sound { IsSound (seen s.old) }
+    requires room { HasRoomToo s.old }
+    ensures { seen s.new ≡ copied moment copy (seen s.old) }
+{
+    s.out.push_back_reserved(copy);
+    count_copy(&mut s.outstanding, moment);
+}
+
+fn give_up(s: &mut State, next: Option<FirstSending>, moment: u64)
+    requires room { HasRoomToo s.old }
+    requires next { IsNextOf moment (seen s.old) next }
+    ensures { seen s.new ≡ next_sent moment (seen s.old) }
+{
     send_next(s, next, moment);
-    Ok(Up::TimedOut(token))
+}
+
+/// Does what a tick does.
+pub fn tick_prepared(s: &mut State, x: Ticking, moment: u64, gone: &[Token]) -> Up
+    requires sound { IsSound (seen s.old) }
+    requires ready { IsTicking moment gone.now (shown s.old) x }
+    ensures { ticked moment (rid_among gone.now (seen s.old)) ≡ (seen s.new, told result) }
+{
+    calls::drop_gone(s, gone);
+    match x {
+        Ticking::Rests => Up::Nothing,
+        Ticking::Copies(copy) => {
+            send_copy(s, copy, moment);
+            Up::Nothing
+        }
+        Ticking::GivesUp(token, next) => {
+            give_up(s, next, moment);
+            Up::TimedOut(token)
+        }
+    }
 }
 
 /// There is an ID for one more message.
@@ -188,14 +256,24 @@ fn timeout_of(word: u64) -> u64
     2000 + word % 4294967296 % 1001
 }
 
+/// A place in the queue and an ID are free, or which of them is not.
+pub fn check(s: &State, moment: u64) -> Result<(), LinkFault>
+    requires { IsSound (seen s.now) }
+    ensures { IsSubmitted moment (seen s.now) result }
+{
+    if s.waiting.len() >= MAX_WAITING {
+        return Err(LinkFault::Queue);
+    }
+    if !has_mid(s, moment) {
+        return Err(LinkFault::Numbers);
+    }
+    Ok(())
+}
+
 /// The message's bytes, under ID 0.
-#[tactic(auto, using(crate::proofs::Sound::spelled_con))]
 fn text_of(alloc: Global, m: Message) -> Result<Bytes, LinkFault>
     requires encodable { IsEncodable (content m) }
-    requires confirmable { m.kind ≡ MsgType.Con }
     ensures ok { IfOk result (λ text. Spells (unnumbered (content m)) text) }
-    ensures header { IfOk result (λ text. 4 ≤ length text) }
-    ensures con { IfOk result (λ text. is_con text ≡ true) }
     ensures memory { IsOkUnless result LinkFault.Memory }
 {
     let mut m = m;
@@ -203,6 +281,65 @@ fn text_of(alloc: Global, m: Message) -> Result<Bytes, LinkFault>
     match encode(alloc, &m) {
         Ok(text) => Ok(Bytes::new(alloc, text)?),
         Err(_) => Err(LinkFault::Memory),
+    }
+}
+
+/// The first sending of a message that is handed in, where nothing is outstanding.
+fn sent_at_once(
+    alloc: Global,
+    w: &Waiting,
+    s: &State,
+    moment: u64,
+) -> Result<Option<FirstSending>, AllocError>
+    requires { IsSoundWaiting w.now }
+    ensures { IfOk result (λ x. IsNext moment s.now.last_mid (at_once w.now s.now.outstanding) x) }
+{
+    match &s.outstanding {
+        Some(_) => Ok(None),
+        None => {
+            let first = launch(alloc, w, s.last_mid, moment)?;
+            Ok(Some(first))
+        }
+    }
+}
+
+/// The message with these bytes, as it is taken. It changes nothing.
+pub fn prepare_submit(
+    alloc: Global,
+    s: &mut State,
+    token: Token,
+    text: Bytes,
+    moment: u64,
+    word: u64,
+) -> Result<Submission, AllocError>
+    requires waiting { IsSoundWaiting (waits token text word) }
+    requires place { HasPlace moment (seen s.old) }
+    ensures same { seen s.new ≡ seen s.old }
+    ensures ok { IfOk result (λ x. IsSubmission moment token text word (shown s.new) x) }
+{
+    let waiting = Waiting {
+        token,
+        datagram: text,
+        timeout: timeout_of(word),
+        first_mid: (word % 65536) as u16,
+    };
+    let sent = sent_at_once(alloc, &waiting, s, moment)?;
+    make_room(s)?;
+    Ok(Submission { waiting, sent })
+}
+
+/// Takes a message.
+pub fn submit_prepared(s: &mut State, x: Submission, moment: u64)
+    requires sound { IsSound (seen s.old) }
+    requires room { HasRoomToo s.old }
+    requires ready { MaySubmit moment (shown s.old) x }
+    ensures { seen s.new ≡ submitted moment x.waiting (seen s.old) }
+{
+    let Submission { waiting, sent } = x;
+    s.given.prune(s.waiting.len(), moment);
+    match sent {
+        None => s.waiting.push_reserved(waiting),
+        Some(first) => send_first(s, first),
     }
 }
 
@@ -221,35 +358,12 @@ pub fn submit(
     ensures err { OnErr result (seen s.new ≡ seen s.old) }
     ensures fault { IsSubmitted moment (seen s.old) result }
 {
-    if s.waiting.len() >= MAX_WAITING {
-        return Err(LinkFault::Queue);
-    }
-    if !has_mid(s, moment) {
-        return Err(LinkFault::Numbers);
-    }
+    check(s, moment)?;
     let token = m.token;
-    let datagram = text_of(alloc, m)?;
-    let w = Waiting {
-        token,
-        datagram,
-        timeout: timeout_of(word),
-        first_mid: (word % 65536) as u16,
-    };
-    match &s.outstanding {
-        Some(_) => {
-            s.waiting.reserve(1)?;
-            s.given.prune(s.waiting.len(), moment);
-            s.waiting.push_reserved(w);
-            Ok(())
-        }
-        None => {
-            let (message, copy) = launch(alloc, &w, s.last_mid, moment)?;
-            make_room(s)?;
-            s.given.prune(s.waiting.len(), moment);
-            send_first(s, message, copy);
-            Ok(())
-        }
-    }
+    let text = text_of(alloc, m)?;
+    let x = prepare_submit(alloc, s, token, text, moment, word)?;
+    submit_prepared(s, x, moment);
+    Ok(())
 }
 
 /// When the outstanding message is due.

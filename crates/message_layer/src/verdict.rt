@@ -21,15 +21,20 @@ const REMEMBERED: usize = 1024;
 /// What is to be told of a message.
 #[derive(Clone, Copy)]
 pub enum News {
+    /// Nothing.
     Quiet,
+    /// It is a response under a token that is awaited.
     Response,
+    /// It rejects the outstanding message, which has this token.
     Reset(Token),
+    /// It counts as lost: too many messages are remembered.
     Lost,
 }
 
-/// What a message does to a link.
+/// What a message does to a link (RFC 7252 sections 4.2 and 4.3).
 #[derive(Clone, Copy)]
 pub struct Verdict {
+    /// The empty ACK or RST that answers it.
     pub reply: Reply,
     /// It is remembered, and not processed again.
     pub remembered: bool,
@@ -38,7 +43,8 @@ pub struct Verdict {
     pub news: News,
 }
 
-const IGNORED: Verdict = Verdict {
+/// It does nothing.
+pub const IGNORED: Verdict = Verdict {
     reply: Reply::Nothing,
     remembered: false,
     ends: false,
