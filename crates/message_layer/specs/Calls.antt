@@ -33,24 +33,24 @@ taken_by s (d ∷ ds) = (record { waiting = s.waiting; outstanding = s.outstandi
 abbrev pub sent_out : LinkState → LinkState × Option (List ℕ)
 sent_out s = taken_by s s.out
 
-abbrev pub rid_waiting : (List ℕ → Bool) → List Waiting → List Waiting
-rid_waiting gone ws = filter (λ (w : Waiting). not (gone w.token)) ws
+abbrev pub waits_on : (List ℕ → Bool) → Waiting → Bool
+waits_on gone w = not (gone w.token)
 
-abbrev pub rid_awaited : (List ℕ → Bool) → List Awaited → List Awaited
-rid_awaited gone as = filter (λ (a : Awaited). not (gone a.token)) as
+abbrev pub is_awaited_on : (List ℕ → Bool) → Awaited → Bool
+is_awaited_on gone a = not (gone a.token)
 
 -- What bears one of these tokens is neither awaited nor sent any more.
 abbrev pub rid_of : (List ℕ → Bool) → LinkState → LinkState
 rid_of gone s = record s {
-  waiting = rid_waiting gone s.waiting;
-  awaited = rid_awaited gone s.awaited;
+  waiting = filter (waits_on gone) s.waiting;
+  awaited = filter (is_awaited_on gone) s.awaited;
 }
 
 abbrev pub is_among : List (List ℕ) → List ℕ → Bool
 is_among tokens token = list_any (bytes_eq token) tokens
 
-abbrev pub rid_among : List (List ℕ) → LinkState → LinkState
-rid_among tokens s = rid_of (is_among tokens) s
+abbrev pub without : List (List ℕ) → LinkState → LinkState
+without tokens s = rid_of (is_among tokens) s
 
 -- all datagrams were taken
 abbrev pub out_empty : LinkState → LinkState

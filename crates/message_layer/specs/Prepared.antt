@@ -8,7 +8,7 @@ use Rattle.coap_codec.specs.declared.message.MsgType.TheVariants.{Con}
 use Rattle.message_layer.specs.Values.{LinkState, LinkValue, IsSoundWaiting, Told, told, no_news, timed_out, was_dropped}
 use Rattle.message_layer.specs.Sending.{waits, mids_in_use, IsNext, IsNextOf, again, next_sent, ticked}
 use Rattle.message_layer.specs.Hearing.{verdict_of, ignored, says, replies, listed, applied, takes, reset_for, hears}
-use Rattle.message_layer.specs.Calls.{rid_among}
+use Rattle.message_layer.specs.Calls.{without}
 use Rattle.message_layer.specs.declared.state.Waiting.{Waiting}
 use Rattle.message_layer.specs.declared.state.Outstanding.{Outstanding}
 use Rattle.message_layer.specs.declared.state.Reply.TheVariants as reply
@@ -145,4 +145,4 @@ IsTick t s room (GivesUp token next) = MayGiveUp t s room token next
 
 -- ... once what bears one of these tokens is neither awaited nor sent any more
 abbrev pub IsTicking : ℕ → List (List ℕ) → LinkValue → Ticking → Type 0
-IsTicking t gone link x = IsTick t (rid_among gone link.state) link.room x
+IsTicking t gone link x = IsTick t (without gone link.state) link.room x

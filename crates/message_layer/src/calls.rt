@@ -3,7 +3,7 @@
 ghost use Rattle.std.specs.Prelude.{◌≡◌, ◌≤◌, filter, IfOk, OnOk, OnErr, IsOk, false, vec_len, vec_capacity};
 ghost use Rattle.message_layer.specs.Values.{seen};
 ghost use Rattle.message_layer.specs.Sending.{HasRoomToo};
-ghost use Rattle.message_layer.specs.Calls.{waits_not_under, forgotten, is_other, expected, sent_out, is_among, rid_waiting, rid_awaited, rid_of, out_empty};
+ghost use Rattle.message_layer.specs.Calls.{waits_not_under, forgotten, is_other, expected, sent_out, is_among, waits_on, is_awaited_on, without, out_empty};
 
 use crate::bytes::Bytes;
 use crate::state::{Awaited, Outstanding, State, Waiting};
@@ -58,7 +58,7 @@ pub fn is_among(tokens: &[Token], token: &Token) -> bool
 }
 
 fn drop_gone_waiting(waiting: &mut Vec<Waiting>, gone: &[Token])
-    ensures items { waiting.new.items ≡ rid_waiting (is_among gone.now) waiting.old.items }
+    ensures items { waiting.new.items ≡ filter (waits_on (is_among gone.now)) waiting.old.items }
     ensures len { vec_len waiting.new ≤ vec_len waiting.old }
     ensures capacity { vec_capacity waiting.new ≡ vec_capacity waiting.old }
 {
@@ -66,7 +66,7 @@ fn drop_gone_waiting(waiting: &mut Vec<Waiting>, gone: &[Token])
 }
 
 fn drop_gone_awaited(awaited: &mut Vec<Awaited>, gone: &[Token])
-    ensures items { awaited.new.items ≡ rid_awaited (is_among gone.now) awaited.old.items }
+    ensures items { awaited.new.items ≡ filter (is_awaited_on (is_among gone.now)) awaited.old.items }
     ensures len { vec_len awaited.new ≤ vec_len awaited.old }
     ensures capacity { vec_capacity awaited.new ≡ vec_capacity awaited.old }
 {
@@ -75,7 +75,7 @@ fn drop_gone_awaited(awaited: &mut Vec<Awaited>, gone: &[Token])
 
 /// What bears one of these tokens is neither awaited nor sent any more.
 pub fn drop_gone(s: &mut State, gone: &[Token])
-    ensures state { seen s.new ≡ rid_of (is_among gone.now) (seen s.old) }
+    ensures state { seen s.new ≡ without gone.now (seen s.old) }
     ensures room { HasRoomToo s.old → HasRoomToo s.new }
 {
     if !gone.is_empty() {

@@ -261,11 +261,11 @@ fn prepare_message(
     if loses(news) {
         return Ok(None);
     }
-    let heeding = prepare_heeding(alloc, s, m.mid, m.token, verdict, moment)?;
-    Ok(Some(Hearing {
-        heeding,
-        up: up_of(news, m),
-    }))
+    let mid = m.mid;
+    let token = m.token;
+    let heeding = prepare_heeding(alloc, s, mid, token, verdict, moment)?;
+    let up = up_of(news, m);
+    Ok(Some(Hearing { heeding, up }))
 }
 
 /// What a datagram does and tells. It changes nothing.
@@ -299,7 +299,7 @@ pub fn prepare_heard(
 /// Takes a datagram.
 pub fn hear(alloc: Global, s: &mut State, datagram: &[u8], moment: u64) -> Result<Up, LinkFault>
     requires { IsSound (seen s.old) }
-    ensures ok { IfOk result (λ up. hears moment datagram.now (seen s.old) ≡ (seen s.new, told up)) }
+    ensures ok { IfOk result (λ x. hears moment datagram.now (seen s.old) ≡ (seen s.new, told x)) }
     ensures err { OnErr result (seen s.new ≡ seen s.old) }
     ensures memory { IsOkUnless result LinkFault.Memory }
 {

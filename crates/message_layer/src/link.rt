@@ -7,7 +7,7 @@ ghost use Rattle.coap_codec.specs.Writing.{IsEncodable};
 ghost use Rattle.message_layer.specs.Values.{told, empty_link};
 ghost use Rattle.message_layer.specs.Sending.{ticked, submitted, Submits, IsSubmitted, due_of};
 ghost use Rattle.message_layer.specs.Hearing.{hears, applied};
-ghost use Rattle.message_layer.specs.Calls.{forgotten, expected, sent_out, rid_among, out_empty};
+ghost use Rattle.message_layer.specs.Calls.{forgotten, expected, sent_out, without, out_empty};
 ghost use Rattle.message_layer.specs.Prepared.{IsUnnumberedCon, IsSubmission, MaySubmit, MayHeed, IsPreparedFor, IsTicking};
 
 use crate::bytes::Bytes;
@@ -122,7 +122,7 @@ impl Link {
     pub fn tick_prepared(&mut self, x: Ticking, moment: u64, gone: &[Token]) -> Up
         requires moment { moment ≤ 2 ^ 62 }
         requires ready { IsTicking moment gone.now self.old x }
-        ensures { ticked moment (rid_among gone.now self.old.state) ≡ (self.new.state, told result) }
+        ensures { ticked moment (without gone.now self.old.state) ≡ (self.new.state, told result) }
     {
         sending::tick_prepared(&mut self.state, x, moment, gone)
     }

@@ -1,13 +1,13 @@
 //! Sending: messages that are handed in, their copies, and the end of what is outstanding.
 
 ghost use Rattle.std.specs.Prelude.{◌≡◌, ◌<◌, ◌≤◌, ◌+◌, ◌^◌, length, IfOk, OnOk, OnErr, IsTrue, true, ◌↔◌, IsOkUnless, MatchOption, vec_len};
-ghost use Rattle.std.specs.Option.{option_map};
-ghost use Rattle.std.specs.List.{AllByRecursion};
+ghost use Rattle.std.specs.Option.{option_copied, option_map};
+ghost use Rattle.std.specs.List.{AllByRecursion, find};
 ghost use Rattle.coap_codec.specs.Spelling.{content, Spells};
 ghost use Rattle.coap_codec.specs.Writing.{IsEncodable};
 ghost use Rattle.message_layer.specs.Values.{seen, shown, told, has_room, IsSound, IsSoundOutstanding, IsSoundWaiting};
 ghost use Rattle.message_layer.specs.Sending.{due_of, next_mid, first_sent, next_sent, ticked, with_outstanding, again, waits, submitted, IsNext, IsNextOf, HasRoom, HasRoomToo, mids_in_use, initial_timeout, unnumbered, HasPlace, Submits, IsSubmitted};
-ghost use Rattle.message_layer.specs.Calls.{rid_among};
+ghost use Rattle.message_layer.specs.Calls.{is_among, waits_on, without};
 ghost use Rattle.message_layer.specs.Prepared.{at_once, copied, MaySubmit, IsSubmission, IsTicking};
 
 use crate::bytes::Bytes;
@@ -102,6 +102,12 @@ pub fn prepared(
     }
 }
 
+fn first_without<'a>(waiting: &'a [Waiting], gone: &[Token]) -> Option<&'a Waiting>
+    ensures { option_copied result ≡ find (waits_on (is_among gone.now)) waiting.now }
+{
+    waiting.iter().find(|w| !calls::is_among(gone, &w.token))
+}
+
 /// The message that goes out next, if one waits that has no token of these.
 fn prepared_but(
     alloc: Global,
@@ -110,9 +116,9 @@ fn prepared_but(
     moment: u64,
 ) -> Result<Option<FirstSending>, AllocError>
     requires { IsSound (seen s.now) }
-    ensures { IfOk result (λ x. IsNextOf moment (rid_among gone.now (seen s.now)) x) }
+    ensures { IfOk result (λ x. IsNextOf moment (without gone.now (seen s.now)) x) }
 {
-    match s.waiting.iter().find(|w| !calls::is_among(gone, &w.token)) {
+    match first_without(&s.waiting, gone) {
         None => Ok(None),
         Some(w) => {
             let next = launch(alloc, w, s.last_mid, moment)?;
@@ -226,7 +232,7 @@ fn give_up(s: &mut State, next: Option<FirstSending>, moment: u64)
 pub fn tick_prepared(s: &mut State, x: Ticking, moment: u64, gone: &[Token]) -> Up
     requires sound { IsSound (seen s.old) }
     requires ready { IsTicking moment gone.now (shown s.old) x }
-    ensures { ticked moment (rid_among gone.now (seen s.old)) ≡ (seen s.new, told result) }
+    ensures { ticked moment (without gone.now (seen s.old)) ≡ (seen s.new, told result) }
 {
     calls::drop_gone(s, gone);
     match x {
