@@ -6,7 +6,7 @@ use Rattle.coap_codec.specs.Reading.{message_at}
 use Rattle.coap_codec.specs.declared.fault.CodecFault.{CodecFault}
 use Rattle.message_layer.specs.Hearing.{ended, applied, undecoded, hears_read, hears_from, hears, verdict_of, reset_for}
 use Rattle.message_layer.specs.declared.verdict.Verdict.{Verdict}
-use Rattle.message_layer.specs.Calls.{forgotten, waits_not_under}
+use Rattle.message_layer.specs.Calls.{forgotten, rid_of, waits_not_under, waits_on}
 use borrow.Author.Tests.{ltb-true}
 use Rattle.std.proofs.Common.{eq-eqb, ◌*◌, ◌/◌}
 use Rattle.coap_codec.specs.declared.message.MsgType.TheVariants.{Con}
@@ -141,5 +141,18 @@ forgotten-sound token s h = record {
 }
   where
     by : (f : Option Outstanding) → s.outstanding ≡ f → IsSoundTurn f (filter (waits_not_under token) s.waiting)
+    by None e = let w : s.waiting ≡ [] = rw e at h.turn in rw w refl
+    by (Some f) e = rw e at h.turn
+
+pub rid_of-sound : (gone : List ℕ → Bool) (s : LinkState) → IsSound s → IsSound (rid_of gone s)
+rid_of-sound gone s h = record {
+  turn = by s.outstanding refl;
+  waiting = all-filter (waits_on gone) s.waiting h.waiting;
+  given = omega (arith, h.given, length-filter (waits_on gone) s.waiting,
+    count_by-le-length (waits_on gone) s.waiting);
+}
+  where
+    by : (f : Option Outstanding) → s.outstanding ≡ f
+        → IsSoundTurn f (filter (waits_on gone) s.waiting)
     by None e = let w : s.waiting ≡ [] = rw e at h.turn in rw w refl
     by (Some f) e = rw e at h.turn

@@ -128,7 +128,7 @@ fn prepare_heeding(
     alloc: Global,
     s: &mut State,
     mid: u16,
-    token: Token,
+    token: &Token,
     verdict: Verdict,
     moment: u64,
 ) -> Result<Heeding, AllocError>
@@ -136,7 +136,7 @@ fn prepare_heeding(
     ensures same { seen s.new ≡ seen s.old }
     ensures ready { IfOk result (λ x. MayHeed moment (shown s.new) x) }
     ensures mid { IfOk result (λ x. x.mid ≡ mid) }
-    ensures token { IfOk result (λ x. x.token ≡ token) }
+    ensures token { IfOk result (λ x. x.token ≡ token.now) }
     ensures verdict { IfOk result (λ x. x.verdict ≡ verdict) }
 {
     let reply = reply_of(alloc, mid, verdict.reply)?;
@@ -144,7 +144,7 @@ fn prepare_heeding(
     sending::make_room(s)?;
     Ok(Heeding {
         mid,
-        token,
+        token: *token,
         verdict,
         reply,
         next,
@@ -218,7 +218,8 @@ fn prepare_unread(
 {
     let reset = mid_to_reset(datagram);
     let mid = mid_or_zero(reset);
-    let heeding = prepare_heeding(alloc, s, mid, Token::new(&[]), unread(reset), moment)?;
+    let token = Token::new(&[]);
+    let heeding = prepare_heeding(alloc, s, mid, &token, unread(reset), moment)?;
     Ok(Hearing {
         heeding,
         up: Up::Nothing,
@@ -236,8 +237,8 @@ fn up_of(news: News, m: Message) -> Up
     }
 }
 
-fn loses(news: News) -> bool
-    ensures { result ≡ is_lost news }
+fn loses(news: &News) -> bool
+    ensures { result ≡ is_lost news.now }
 {
     match news {
         News::Lost => true,
@@ -257,13 +258,13 @@ fn prepare_message(
     ensures ok { IfOk result (λ o. IsMessage moment (content m) (shown s.new) o) }
 {
     let verdict = decide(s, &m, moment);
-    let news = verdict.news;
-    if loses(news) {
+    if loses(&verdict.news) {
         return Ok(None);
     }
     let mid = m.mid;
     let token = m.token;
-    let heeding = prepare_heeding(alloc, s, mid, token, verdict, moment)?;
+    let news = verdict.news;
+    let heeding = prepare_heeding(alloc, s, mid, &token, verdict, moment)?;
     let up = up_of(news, m);
     Ok(Some(Hearing { heeding, up }))
 }
