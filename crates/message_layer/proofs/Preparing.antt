@@ -1,15 +1,15 @@
 -- What is prepared for a call is what the call does.
-use Rattle.std.proofs.Common.{◌≡◌, ℕ, ◌≤◌, ◌++◌, List, [], ◌∷◌, length, filter, Option, Some, None, Result, Ok, Err, Bool, true, false, not, cond, nat_lt, ◌==◌, refl, sym, ◌∙◌, ap, arith, append-nil}
+use Rattle.std.proofs.Common.{◌≡◌, ℕ, List, [], ◌∷◌, length, filter, Option, Some, None, Result, Ok, Err, Bool, true, false, nat_lt, ◌==◌, refl, ◌∙◌, ap, arith, append-nil}
 use Rattle.std.proofs.lemmas.Bool.{le-ltb, eqb-true}
 use Rattle.std.specs.List.{find, AllByRecursion}
 use Rattle.coap_codec.specs.Reading.{message_at}
 use Rattle.coap_codec.specs.Spelling.{Content}
 use Rattle.coap_codec.specs.declared.fault.CodecFault.{CodecFault}
-use Rattle.message_layer.specs.Values.{LinkState, LinkValue, Told, told, no_news, was_dropped}
+use Rattle.message_layer.specs.Values.{LinkState, Told, told, no_news}
 use Rattle.message_layer.specs.Sending.{first_sent, IsNext}
 use Rattle.message_layer.specs.Hearing.{applied, reset_for, undecoded, hears_read, hears_from}
 use Rattle.message_layer.specs.Calls.{is_among, waits_on, is_awaited_on, without}
-use Rattle.message_layer.specs.Prepared.{IsHearing, IsRead, IsOfNone, HearsAsPrepared}
+use Rattle.message_layer.specs.Prepared.{IsRead, IsOfNone, HearsAsPrepared}
 use Rattle.message_layer.specs.declared.state.Waiting.{Waiting}
 use Rattle.message_layer.specs.declared.state.Awaited.{Awaited}
 use Rattle.message_layer.specs.declared.prepared.FirstSending.{FirstSending}

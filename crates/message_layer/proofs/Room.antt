@@ -1,5 +1,5 @@
 -- Room in memory, as a test and as facts.
-use Rattle.std.proofs.Common.{◌≡◌, ℕ, ◌+◌, ◌≤◌, ◌<◌, Bool, true, false, ◌&&◌, nat_lt, nat_le, vec_len, vec_capacity, refl, arith}
+use Rattle.std.proofs.Common.{◌≡◌, ◌+◌, Bool, true, false, ◌&&◌, nat_lt, nat_le, vec_len, vec_capacity, refl}
 use Rattle.std.specs.VecDeque.{deque_len, deque_capacity}
 use Rattle.std.proofs.lemmas.Bool.{lt-ltb, leb-true, le-leb}
 use borrow.Author.Tests.{ltb-true}

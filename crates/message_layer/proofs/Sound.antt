@@ -148,8 +148,12 @@ pub rid_of-sound : (gone : List ℕ → Bool) (s : LinkState) → IsSound s → 
 rid_of-sound gone s h = record {
   turn = by s.outstanding refl;
   waiting = all-filter (waits_on gone) s.waiting h.waiting;
-  given = omega (arith, h.given, length-filter (waits_on gone) s.waiting,
-    count_by-le-length (waits_on gone) s.waiting);
+  given = omega (
+    arith,
+    h.given,
+    length-filter (waits_on gone) s.waiting,
+    count_by-le-length (waits_on gone) s.waiting,
+  );
 }
   where
     by : (f : Option Outstanding) → s.outstanding ≡ f

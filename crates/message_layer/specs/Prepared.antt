@@ -1,11 +1,11 @@
 -- What is prepared for a call, before a link changes.
-use Rattle.std.specs.Prelude.{◌≡◌, ℕ, ◌^◌, ◌≤◌, ◌<◌, List, [], ◌∷◌, ◌++◌, length, Option, Some, None, Result, Ok, Err, Bool, true, false, is_some}
+use Rattle.std.specs.Prelude.{◌≡◌, ℕ, ◌≤◌, ◌<◌, List, [], ◌∷◌, ◌++◌, length, Option, Some, None, Result, Ok, Err, Bool, true, false, is_some}
 use Rattle.std.specs.Option.{option_map}
 use Rattle.coap_codec.specs.Spelling.{Content, Spells}
 use Rattle.coap_codec.specs.Reading.{message_at}
 use Rattle.coap_codec.specs.declared.fault.CodecFault.{CodecFault}
 use Rattle.coap_codec.specs.declared.message.MsgType.TheVariants.{Con}
-use Rattle.message_layer.specs.Values.{LinkState, LinkValue, IsSoundWaiting, Told, told, no_news, timed_out, was_dropped}
+use Rattle.message_layer.specs.Values.{LinkState, LinkValue, IsSoundWaiting, told, no_news, timed_out, was_dropped}
 use Rattle.message_layer.specs.Sending.{waits, mids_in_use, IsNext, IsNextOf, again, next_sent, ticked}
 use Rattle.message_layer.specs.Hearing.{verdict_of, ignored, says, replies, listed, applied, takes, reset_for, hears}
 use Rattle.message_layer.specs.Calls.{without}

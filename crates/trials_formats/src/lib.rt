@@ -20,6 +20,8 @@ mod link;
 #[cfg(test)]
 mod link_memory;
 #[cfg(test)]
+mod link_prepared;
+#[cfg(test)]
 mod media;
 #[cfg(test)]
 mod messages;

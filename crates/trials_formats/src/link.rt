@@ -25,7 +25,7 @@ pub fn said_by(up: &Up) -> Said {
     }
 }
 
-fn request(alloc: Global, token: Token) -> Message
+pub fn request(alloc: Global, token: Token) -> Message
     ensures { content result ≡ record { kind = MsgType.Con; code = 1; mid = 0; token = token; options = []; payload = [] } }
 {
     Message::new(alloc, MsgType::Con, 1, 0, token)

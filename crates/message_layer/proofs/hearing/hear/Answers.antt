@@ -10,5 +10,5 @@ returns-in-Some-clause-ok c =
     let with_up : LinkState → LinkState × Told = λ s. (s, told c.in-Some.hearing.up) in
     ap (λ (s : LinkState). hears c.args.moment c.args.datagram.now s) (sym made.same)
     ∙ (hears-as-prepared c.args.moment c.args.datagram.now (shown c.prepare_heard.new.s)
-      c.in-Some.hearing (rw c.in-Some.is at made.ok)
+    c.in-Some.hearing (rw c.in-Some.is at made.ok)
     ∙ ap with_up (sym c.heed.ensures))

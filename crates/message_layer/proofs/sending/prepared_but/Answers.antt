@@ -1,4 +1,4 @@
-use Rattle.std.proofs.Common.{sym, ◌∙◌}
+use Rattle.std.proofs.Common.{sym}
 use Rattle.message_layer.specs.Calls.{is_among, waits_on}
 use Rattle.message_layer.proofs.Preparing.{found-none, found-some, found-all}
 use Rattle.message_layer.specs.Values.{IsSoundWaiting}
