@@ -8,3 +8,4 @@ pub mod Due
 pub mod Keeping
 pub mod Worked
 pub mod Links
+pub mod Entering
