@@ -72,7 +72,7 @@ slice_get-past : {X : Type 0} (xs : List X) (n : ℕ) → length xs ≡ n → sl
 slice_get-past [] n e = refl
 slice_get-past (x ∷ xs) n e = rw (← e) (slice_get-past xs (length xs) refl)
 
-waits-for : (l : List Noted) (c : ℕ) (p : Option ℕ) → PendingIn l c p → pending l c ≡ p
+pub waits-for : (l : List Noted) (c : ℕ) (p : Option ℕ) → PendingIn l c p → pending l c ≡ p
 waits-for l c None w = slice_get-past (asks_of l c) (length (answers_of l c)) w
 waits-for l c (Some k) w = w.0
 

@@ -29,3 +29,8 @@ pub mod Due
 pub mod Dropping
 pub mod LinksOut
 pub mod LinksSent
+pub mod Entered
+pub mod Begun
+pub mod Heeded
+pub mod Passed
+pub mod TickEnters

@@ -66,14 +66,14 @@ filter-push {X = X} q (y ∷ ys) x e = by (q y) (filter-push q ys x e)
     by false ih = ih
 
 -- no message that waits bears it
-abbrev Unborne : Option (List ℕ) → List Waiting → Type 0
+abbrev pub Unborne : Option (List ℕ) → List Waiting → Type 0
 Unborne of [] = Unit {0}
 Unborne of (w ∷ ws) = (token : List ℕ) → of ≡ Some token → bytes_eq w.token token ≡ false
 
-abbrev without : Option (List ℕ) → LinkState → LinkState
+abbrev pub without : Option (List ℕ) → LinkState → LinkState
 without of s = record s { awaited = unawaited of s.awaited }
 
-without-is : (of : Option (List ℕ)) (s : LinkState) → awaits_no_more of s ≡ without of s
+pub without-is : (of : Option (List ℕ)) (s : LinkState) → awaits_no_more of s ≡ without of s
 without-is None s = refl
 without-is (Some token) s = refl
 
@@ -124,7 +124,7 @@ unanswered : (t : ℕ) (s : LinkState) (ws : List Waiting) (out : List (List ℕ
 unanswered t s [] out u = refl
 unanswered t s (w ∷ ws) out u = refl
 
-heard-turned : (t mid : ℕ) (token : List ℕ) (v : Verdict) (s : LinkState) (b : Bool) → v.ends ≡ b → Turns s.outstanding s.waiting → Unborne (ended_token v.news token) s.waiting
+pub heard-turned : (t mid : ℕ) (token : List ℕ) (v : Verdict) (s : LinkState) (b : Bool) → v.ends ≡ b → Turns s.outstanding s.waiting → Unborne (ended_token v.news token) s.waiting
     → given_out (turned t (heard_link t mid token v s)) ≡ given_out (without (ended_token v.news token) (applied t mid token v s))
 heard-turned t mid token v s b e rest h = ap (λ (c : Bool). given_out (turned t (record (heard_link t mid token v s) { outstanding = cond c None s.outstanding }))) e
     ∙ (by b ∙ sym (ap (λ (c : Bool). given_out (without (ended_token v.news token) (ended t c (answering t mid token v s)))) e))
@@ -152,7 +152,7 @@ first-unborne l (o ∷ os) (w ∷ ws) of a h = λ token e. by token (h token e) 
         let same : w.token ≡ token = (bytes_eq-Decides w.token token).0 e in
         absurd (false≢true (sym a.0.token_apart ∙ (ap (bears_token l) same ∙ borne)))
 
-new-unborne : (l : List Noted) (t : ℕ) (p : Peer) (s : LinkState) (m : Content) → Agrees l p s → Unborne (ended_token (verdict_of t s m).news m.token) s.waiting
+pub new-unborne : (l : List Noted) (t : ℕ) (p : Peer) (s : LinkState) (m : Content) → Agrees l p s → Unborne (ended_token (verdict_of t s m).news m.token) s.waiting
 new-unborne l t p s m a = first-unborne l (waiting l p) s.waiting (ended_token (verdict_of t s m).news m.token) a.waits
     (λ token e. let b = ended-borne l t p s m token m.kind a e in borne-bears l b.first token b.number b.is b.token_is)
 

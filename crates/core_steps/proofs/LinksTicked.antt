@@ -119,7 +119,7 @@ abbrev pub Few : Option Outstanding → Type 0
 Few None = Unit {0}
 Few (Some o) = o.retransmissions ≤ copy_limit
 
-tick-same : (t : ℕ) (r : LinkState) (v : Option Outstanding) → r.outstanding ≡ v → Turns v r.waiting → Few v
+pub tick-same : (t : ℕ) (r : LinkState) (v : Option Outstanding) → r.outstanding ≡ v → Turns v r.waiting → Few v
     → given_out (moved t (record r { outstanding = cond (is_over t v) None v })) ≡ given_out (ticked_by t r v).0
 tick-same t r None e h few =
     ap (λ (ws : List Waiting). given_out (call_next_by t (record r { outstanding = None }) ws)) h

@@ -29,6 +29,19 @@ ghost use Rattle.core_steps.specs.Keeping.{
 };
 ghost use Rattle.core_steps.specs.Worked.{AnsweredRun, GivenUpRun};
 ghost use Rattle.core_steps.specs.Resting.{ConnsTell, RestsAtRest};
+ghost use Rattle.core_steps.specs.Entering.{
+  BeginsEnter,
+  RefusalsEnter,
+  BusyEnters,
+  MessageEnters,
+  GarbledEnters,
+  LostStays,
+  UnknownStays,
+  LongStays,
+  TicksEnter,
+  TickStays,
+  StaysDrained,
+};
 ghost use Rattle.core_steps.specs.Links.{
   SubmitsOut,
   HearsOut,
@@ -127,4 +140,27 @@ pub fn links_follow()
     ensures submits_out { SubmitsOut }
     ensures hears_out { HearsOut }
     ensures ticks_out { TicksOut }
+{}
+
+/// What an ask leaves: the entries that it adds, in order, and each table after it.
+pub fn asks_enter()
+    ensures begins { BeginsEnter }
+    ensures refused { RefusalsEnter }
+    ensures busy { BusyEnters }
+{}
+
+/// What a datagram leaves (RFC 7252 sections 4.2, 4.5, 5.3.2).
+pub fn hearing_enters()
+    ensures message { MessageEnters }
+    ensures garbled { GarbledEnters }
+    ensures lost { LostStays }
+    ensures unknown { UnknownStays }
+    ensures long { LongStays }
+{}
+
+/// What a tick leaves where something is due, and that each call leaves links that gave out all.
+pub fn ticking_enters()
+    ensures ticks { TicksEnter }
+    ensures stays { TickStays }
+    ensures drained { StaysDrained }
 {}

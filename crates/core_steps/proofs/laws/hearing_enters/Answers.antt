@@ -1,0 +1,8 @@
+use Rattle.core_steps.proofs.Heeded.{message-enters, garbled-enters}
+use Rattle.core_steps.proofs.laws.hearing_enters.Goals as goal
+
+pub returns-clause-message : goal.returns-clause-message
+returns-clause-message c = message-enters
+
+pub returns-clause-garbled : goal.returns-clause-garbled
+returns-clause-garbled c = garbled-enters
