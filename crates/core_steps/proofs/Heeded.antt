@@ -33,19 +33,23 @@ use Rattle.core_steps.proofs.LinksHeard.{Turns, turns, links-given, without-is, 
 
 -- one deed of the step after another
 
-pub given-put : (t : ℕ) (p : Peer) (bs : List (List ℕ)) (S : State) → given_back t p bs S ≡ put t (map (confirm p) bs) S.exchanges S.links S
+pub given-put : (t : ℕ) (p : Peer) (bs : List (List ℕ)) (S : State)
+    → given_back t p bs S ≡ put t (map (confirm p) bs) S.exchanges S.links S
 given-put t p [] S = refl
 given-put t p (b ∷ bs) S = given-put t p bs (confirms t p b S)
 
-pub told-put : (t : ℕ) (g : Grounds) (v : Option Exchange) (S : State) → ends_if t g v S ≡ put t (told_if g v S.conns) S.exchanges S.links S
+pub told-put : (t : ℕ) (g : Grounds) (v : Option Exchange) (S : State)
+    → ends_if t g v S ≡ put t (told_if g v S.conns) S.exchanges S.links S
 told-put t g None S = refl
 told-put t g (Some e) S = by (list_any (waits_on e) S.conns)
   where
-    by : (b : Bool) → cond b (answers t e.conn e.opening g S) S ≡ put t (cond b (Answers e.conn e.opening g ∷ []) []) S.exchanges S.links S
+    by : (b : Bool) → cond b (answers t e.conn e.opening g S) S
+        ≡ put t (cond b (Answers e.conn e.opening g ∷ []) []) S.exchanges S.links S
     by true = refl
     by false = refl
 
-given-conns : (t : ℕ) (p : Peer) (bs : List (List ℕ)) (S : State) → (given_back t p bs S).conns ≡ S.conns
+given-conns : (t : ℕ) (p : Peer) (bs : List (List ℕ)) (S : State)
+    → (given_back t p bs S).conns ≡ S.conns
 given-conns t p [] S = refl
 given-conns t p (b ∷ bs) S = given-conns t p bs (confirms t p b S)
 
@@ -59,13 +63,15 @@ next-conns t p S = by (link_of S.links p).outstanding (link_of S.links p).waitin
 
 -- A message that is new.
 
-turn-ended : (b : Bool) (v : Option Outstanding) (ws : List Waiting) → Turns v ws → in_turn (is_none (cond b None v)) ws ≡ in_turn b ws
+turn-ended : (b : Bool) (v : Option Outstanding) (ws : List Waiting) → Turns v ws
+    → in_turn (is_none (cond b None v)) ws ≡ in_turn b ws
 turn-ended true v ws h = refl
 turn-ended false (Some o) ws h = refl
 turn-ended false None ws h = ap (in_turn true) h
 
 new-heeded : (t : ℕ) (p : Peer) (d : List ℕ) (m : Content) (S : State) → Comes t p d S
-    → let v = verdict_of t (link_of S.links p) m in takes_new t p d m v S ≡ heeded t p d m.mid m.token v (grounds_by v.news (length S.entries) m) S
+    → let v = verdict_of t (link_of S.links p) m in takes_new t p d m v S
+    ≡ heeded t p d m.mid m.token v (grounds_by v.news (length S.entries) m) S
 new-heeded t p d m S come =
     after t (H ++ F) G es2 es2 xs2 xs2 S C (ends_if t g ends C) whole told
     ∙ ap (λ (ds : List Deed). put t (Hears p d ∷ ds) es2 xs2 S) (append_assoc R F G)
@@ -131,7 +137,8 @@ new-heeded t p d m S come =
     rest = turns _ s.outstanding s.waiting (come.may.kept.rests.links p)
 
     replied : B ≡ put t H es1 xs1 S
-    replied = after t (Hears p d ∷ []) R es1 es1 xs1 xs1 S A B refl (given-put t p (replies m.mid v.reply) A)
+    replied = after t (Hears p d ∷ []) R es1 es1 xs1 xs1 S A B refl
+        (given-put t p (replies m.mid v.reply) A)
 
     count : length B.entries ≡ n
     count =
@@ -141,16 +148,22 @@ new-heeded t p d m S come =
     same : given_out (turned t new) ≡ given_out (awaits_no_more over (applied t m.mid m.token v s))
     same =
         let r = come.may.kept.rests.reads in
-        heard-turned t m.mid m.token v s v.ends refl rest (new-unborne come.may.kept.reading t p s m (r.links_are p))
+        heard-turned t m.mid m.token v s v.ends refl rest
+        (new-unborne come.may.kept.reading t p s m (r.links_are p))
         ∙ sym (ap given_out (without-is over (applied t m.mid m.token v s)))
 
     sent : C ≡ put t F es2 xs2 B
     sent =
-        next-put t p new S.links B (links-given t p (replies m.mid v.reply) A) (out-at p S.links come.drained.out)
-        ∙ (ap (λ (x : Option Waiting). put t (first_deeds t p s.last_mid x) (sent_as (going_as (length B.entries) x) B.exchanges) (with_link p (given_out (turned t new)) S.links) B)
+        next-put t p new S.links B (links-given t p (replies m.mid v.reply) A)
+        (out-at p S.links come.drained.out)
+        ∙ (ap (λ (x : Option Waiting). put t (first_deeds t p s.last_mid x)
+        (sent_as (going_as (length B.entries) x) B.exchanges)
+        (with_link p (given_out (turned t new)) S.links) B)
         (turn-ended v.ends s.outstanding s.waiting rest)
-        ∙ (ap (λ (k : ℕ). put t F (sent_as (going_as k up) B.exchanges) (with_link p (given_out (turned t new)) S.links) B) count
-        ∙ (ap (λ (U : State). put t F (sent_as (going_as n up) U.exchanges) (with_link p (given_out (turned t new)) S.links) B) replied
+        ∙ (ap (λ (k : ℕ). put t F (sent_as (going_as k up) B.exchanges)
+        (with_link p (given_out (turned t new)) S.links) B) count
+        ∙ (ap (λ (U : State). put t F (sent_as (going_as n up) U.exchanges)
+        (with_link p (given_out (turned t new)) S.links) B) replied
         ∙ ap (λ (u : LinkState). put t F es2 (with_link p u S.links) B) same)))
 
     whole : C ≡ put t (H ++ F) es2 xs2 S
@@ -159,7 +172,8 @@ new-heeded t p d m S come =
     told : ends_if t g ends C ≡ put t G es2 xs2 C
     told =
         told-put t g ends C
-        ∙ (ap (λ (cs : List Conn). put t (told_if g ends cs) C.exchanges C.links C) (next-conns t p B ∙ given-conns t p (replies m.mid v.reply) A)
+        ∙ (ap (λ (cs : List Conn). put t (told_if g ends cs) C.exchanges C.links C)
+        (next-conns t p B ∙ given-conns t p (replies m.mid v.reply) A)
         ∙ ap (λ (U : State). put t G U.exchanges U.links C) whole)
 
 -- What is nothing new leaves all but the entries.
@@ -171,31 +185,43 @@ all-others (e ∷ es) = ap (λ (xs : List Exchange). e ∷ xs) (all-others es)
 abbrev quiet_with : Verdict → Verdict
 quiet_with v = record { reply = v.reply; remembered = false; ends = false; news = N.Quiet }
 
-quiet-is : (v : Verdict) → v.remembered ≡ false → v.ends ≡ false → v.news ≡ N.Quiet → quiet_with v ≡ v
+quiet-is : (v : Verdict) → v.remembered ≡ false → v.ends ≡ false → v.news ≡ N.Quiet
+    → quiet_with v ≡ v
 quiet-is v r e n =
     ap (λ (b : Bool). record v { remembered = b; ends = false; news = N.Quiet }) (sym r)
-    ∙ (ap (λ (b : Bool). record v { ends = b; news = N.Quiet }) (sym e) ∙ ap (λ (k : News). record v { news = k }) (sym n))
+    ∙ (ap (λ (b : Bool). record v { ends = b; news = N.Quiet }) (sym e)
+    ∙ ap (λ (k : News). record v { news = k }) (sym n))
 
-idle-heeded : (t : ℕ) (p : Peer) (d : List ℕ) (mid : ℕ) (token : List ℕ) (v : Verdict) (g : Grounds) (S : State) → Comes t p d S
+idle-heeded : (t : ℕ) (p : Peer) (d : List ℕ) (mid : ℕ) (token : List ℕ) (v : Verdict) (g : Grounds)
+    (S : State) → Comes t p d S
     → v.remembered ≡ false → v.ends ≡ false → v.news ≡ N.Quiet
     → given_back t p (replies mid v.reply) (hears_nothing t p d S) ≡ heeded t p d mid token v g S
 idle-heeded t p d mid token v g S come r e n =
     given-put t p (replies mid v.reply) (hears_nothing t p d S)
-    ∙ (sym (ap (λ (ds : List Deed). put t (Hears p d ∷ ds) S.exchanges S.links S) (append-nil (map (confirm p) (replies mid v.reply))))
-    ∙ (sym (ap (λ (es : List Exchange). put t (Hears p d ∷ (map (confirm p) (replies mid v.reply) ++ [])) es S.links S) (all-others S.exchanges))
-    ∙ (sym (ap (λ (xs : List PeerLink). put t (Hears p d ∷ (map (confirm p) (replies mid v.reply) ++ [])) (filter (is_other None) S.exchanges) xs S)
-    (ap (λ (u : LinkState). with_link p u S.links) (given-itself (link_of S.links p) (out-at p S.links come.drained.out)) ∙ link-there p S.links come.known))
+    ∙ (sym (ap (λ (ds : List Deed). put t (Hears p d ∷ ds) S.exchanges S.links S)
+    (append-nil (map (confirm p) (replies mid v.reply))))
+    ∙ (sym (ap (λ (es : List Exchange). put t (Hears p d ∷
+    (map (confirm p) (replies mid v.reply) ++ [])) es S.links S) (all-others S.exchanges))
+    ∙ (sym (ap (λ (xs : List PeerLink). put t (Hears p d ∷
+    (map (confirm p) (replies mid v.reply) ++ [])) (filter (is_other None) S.exchanges) xs S)
+    (ap (λ (u : LinkState). with_link p u S.links)
+    (given-itself (link_of S.links p) (out-at p S.links come.drained.out))
+    ∙ link-there p S.links come.known))
     ∙ ap (λ (k : Verdict). heeded t p d mid token k g S) (quiet-is v r e n))))
 
 -- a datagram
 
-heard-read : (t : ℕ) (p : Peer) (d : List ℕ) (r : Result Content CodecFault) (S : State) → Comes t p d S → message_at d ≡ r → heard t p d S ≡ reads_so t p d r S
+heard-read : (t : ℕ) (p : Peer) (d : List ℕ) (r : Result Content CodecFault) (S : State)
+    → Comes t p d S → message_at d ≡ r → heard t p d S ≡ reads_so t p d r S
 heard-read t p d r S come e =
-    ap (λ (b : Bool). cond (b && leb (length d) datagram_limit) (reads_so t p d (message_at d) S) S) come.known
-    ∙ (ap (λ (b : Bool). cond b (reads_so t p d (message_at d) S) S) (le-leb (length d) datagram_limit come.short)
+    ap (λ (b : Bool). cond (b && leb (length d) datagram_limit) (reads_so t p d (message_at d) S) S)
+    come.known
+    ∙ (ap (λ (b : Bool). cond b (reads_so t p d (message_at d) S) S)
+    (le-leb (length d) datagram_limit come.short)
     ∙ ap (λ (k : Result Content CodecFault). reads_so t p d k S) e)
 
-taken : (t : ℕ) (p : Peer) (d : List ℕ) (m : Content) (v : Verdict) (news : News) (S : State) → (news ≡ N.Lost → ⊥) → takes_by t p d m v news S ≡ takes_new t p d m v S
+taken : (t : ℕ) (p : Peer) (d : List ℕ) (m : Content) (v : Verdict) (news : News) (S : State)
+    → (news ≡ N.Lost → ⊥) → takes_by t p d m v news S ≡ takes_new t p d m v S
 taken t p d m v N.Lost S h = absurd (h refl)
 taken t p d m v N.Quiet S h = refl
 taken t p d m v N.Response S h = refl
@@ -210,21 +236,27 @@ message-enters t p d m S come e kept = heard-read t p d (Ok m) S come e ∙ by (
     v : Verdict
     v = verdict_of t s m
 
-    quiet : (news : News) → (news ≡ N.Quiet) ⊎ ((news ≡ N.Lost) × (v.reply ≡ R.Nothing)) → (news ≡ N.Lost → ⊥) → news ≡ N.Quiet
+    quiet : (news : News) → (news ≡ N.Quiet) ⊎ ((news ≡ N.Lost) × (v.reply ≡ R.Nothing))
+        → (news ≡ N.Lost → ⊥) → news ≡ N.Quiet
     quiet news (inl q) h = q
     quiet news (inr q) h = absurd (h q.0)
 
-    by : (b : Bool) → repeats t s m ≡ b → cond b (given_back t p (replies m.mid v.reply) (hears_nothing t p d S)) (takes_by t p d m v v.news S)
+    by : (b : Bool) → repeats t s m ≡ b → cond b
+        (given_back t p (replies m.mid v.reply) (hears_nothing t p d S))
+        (takes_by t p d m v v.news S)
         ≡ heeded t p d m.mid m.token v (grounds_by v.news (length S.entries) m) S
     by true k =
         let i = repeat-idle t s m m.kind k in
-        idle-heeded t p d m.mid m.token v (grounds_by v.news (length S.entries) m) S come i.0 i.1 (quiet v.news i.2 kept)
+        idle-heeded t p d m.mid m.token v (grounds_by v.news (length S.entries) m) S come i.0 i.1
+        (quiet v.news i.2 kept)
     by false k = taken t p d m v v.news S kept ∙ new-heeded t p d m S come
 
 pub garbled-enters : GarbledEnters
-garbled-enters t p d e mid token g S come is at = heard-read t p d (Err e) S come is ∙ by (reset_for d) at
+garbled-enters t p d e mid token g S come is at = heard-read t p d (Err e) S come is
+    ∙ by (reset_for d) at
   where
-    by : (k : Option ℕ) → IsMid k mid → given_back t p (resets k) (hears_nothing t p d S) ≡ heeded t p d mid token (garbled k) g S
+    by : (k : Option ℕ) → IsMid k mid → given_back t p (resets k) (hears_nothing t p d S)
+        ≡ heeded t p d mid token (garbled k) g S
     by None h = idle-heeded t p d mid token (garbled None) g S come refl refl refl
     by (Some i) h =
         ap (λ (n : ℕ). given_back t p (replies n R.Rst) (hears_nothing t p d S)) (sym h)
