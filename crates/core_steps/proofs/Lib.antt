@@ -34,3 +34,4 @@ pub mod Begun
 pub mod Heeded
 pub mod Passed
 pub mod TickEnters
+pub mod Dropped

@@ -1,6 +1,7 @@
 -- What each call leaves, in one piece: the entries that it adds, in order, and each table after it.
 use Rattle.std.specs.Prelude.{◌≡◌, ℕ, ◌+◌, ◌<◌, ◌≤◌, Bool, true, false, not, nat_lt, List, [], ◌∷◌, ◌++◌, length, map, filter, Option, Some, None, option_map, is_some, unwrap_or, Ok, Err, if◌then◌else◌, ⊤}
 use Rattle.std.specs.List.{AllByRecursion, list_any}
+use Rattle.std.specs.Str.{bytes_eq}
 use Rattle.coap_codec.specs.Spelling.{Content}
 use Rattle.coap_codec.specs.Reading.{message_at}
 use Rattle.coap_codec.specs.declared.fault.CodecFault.{CodecFault}
@@ -10,9 +11,9 @@ use Rattle.ask_model.specs.declared.cause.Cause.TheVariants as C
 use Rattle.ask_model.specs.Requests.{CoapRequest, Ask, Requests, Refuses, same_peer}
 use Rattle.journal_book.specs.Entries.{Grounds, Fault, Deed, Asks, Sends, Hears, Passes, Answers}
 use Rattle.history_laws.specs.Limits.{datagram_limit}
-use Rattle.message_layer.specs.Values.{LinkState}
+use Rattle.message_layer.specs.Values.{LinkState, was_dropped}
 use Rattle.message_layer.specs.Sending.{due_of, first_sent, waits, submitted, ticked as call_ticked}
-use Rattle.message_layer.specs.Hearing.{ignored, verdict_of, replies, reset_for, applied}
+use Rattle.message_layer.specs.Hearing.{ignored, verdict_of, replies, reset_for, applied, hears as call_hears}
 use Rattle.message_layer.specs.declared.state.Outstanding.{Outstanding}
 use Rattle.message_layer.specs.declared.state.Reply.TheVariants as R
 use Rattle.message_layer.specs.declared.state.Waiting.{Waiting}
@@ -268,6 +269,12 @@ abbrev pub LongStays : Type 0
 LongStays =
     (t : ℕ) (p : Peer) (d : List ℕ) (S : State) → datagram_limit < length d → heard t p d S ≡ S
 
+-- All of this is what the link of the endpoint counts as lost.
+abbrev pub DroppedStays : Type 0
+DroppedStays =
+    (t : ℕ) (p : Peer) (d : List ℕ) (S : State)
+    → (call_hears t d (link_of S.links p)).1 ≡ was_dropped → heard t p d S ≡ S
+
 -- A tick leaves just that, where something is due; and nothing else.
 abbrev pub TicksEnter : Type 0
 TicksEnter =
@@ -276,6 +283,19 @@ TicksEnter =
 
 abbrev pub TickStays : Type 0
 TickStays = (t : ℕ) (S : State) → something_due t S ≡ false → ticked t S ≡ S
+
+-- What is gone is what bears the token of an exchange that ends then.
+abbrev pub token_of : Exchange → List ℕ
+token_of e = e.token
+
+abbrev pub gone_tokens : ℕ → State → List (List ℕ)
+gone_tokens t S = map token_of (timed_out t S)
+
+abbrev pub is_one_of : List (List ℕ) → List ℕ → Bool
+is_one_of tokens token = list_any (bytes_eq token) tokens
+
+abbrev pub GoneTokens : Type 0
+GoneTokens = (t : ℕ) (S : State) → is_gone t S ≡ is_one_of (gone_tokens t S)
 
 -- Each of these leaves a state whose links gave out all.
 abbrev pub StaysDrained : Type 0

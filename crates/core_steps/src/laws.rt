@@ -38,8 +38,10 @@ ghost use Rattle.core_steps.specs.Entering.{
   LostStays,
   UnknownStays,
   LongStays,
+  DroppedStays,
   TicksEnter,
   TickStays,
+  GoneTokens,
   StaysDrained,
 };
 ghost use Rattle.core_steps.specs.Links.{
@@ -156,11 +158,13 @@ pub fn hearing_enters()
     ensures lost { LostStays }
     ensures unknown { UnknownStays }
     ensures long { LongStays }
+    ensures dropped { DroppedStays }
 {}
 
 /// What a tick leaves where something is due, and that each call leaves links that gave out all.
 pub fn ticking_enters()
     ensures ticks { TicksEnter }
     ensures stays { TickStays }
+    ensures gone { GoneTokens }
     ensures drained { StaysDrained }
 {}

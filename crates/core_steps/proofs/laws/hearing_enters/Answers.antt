@@ -1,3 +1,4 @@
+use Rattle.core_steps.proofs.Dropped.{dropped-stays}
 use Rattle.core_steps.proofs.Heeded.{message-enters, garbled-enters}
 use Rattle.core_steps.proofs.laws.hearing_enters.Goals as goal
 
@@ -6,3 +7,6 @@ returns-clause-message c = message-enters
 
 pub returns-clause-garbled : goal.returns-clause-garbled
 returns-clause-garbled c = garbled-enters
+
+pub returns-clause-dropped : goal.returns-clause-dropped
+returns-clause-dropped c = dropped-stays
