@@ -2,7 +2,6 @@
 use Rattle.std.proofs.Common.{ℕ, ◌≤◌, List, ◌∷◌, refl, sym, subst}
 use Rattle.uri_map.specs.declared.peer.Peer.{Peer}
 use Rattle.journal_book.specs.Entries.{Deed, Opens, Answers, Shuts, Seals}
-use Rattle.history_laws.specs.Limits.{MaySeal}
 use Rattle.whole_history.specs.Readings.{Noted, Note, Plain, newest}
 use Rattle.whole_history.specs.Justified.{Follows}
 use Rattle.whole_history.specs.Worked.{noted}
@@ -49,7 +48,7 @@ shuts-leads l t c S b quiet is =
 
 pub seals-leads : SealsLeads
 seals-leads l t S b may full =
-    let follows : Follows l t Seals Plain = (may, subst MaySeal (sym b.reads.entries_are) full, tt) in
+    let follows : Follows l t Seals Plain = (may, full, tt) in
     record { follows = follows; reads = silent-reads l t Seals Plain S b tt follows }
 
 pub answers-leads : AnswersLeads

@@ -6,12 +6,12 @@ use Rattle.coap_codec.specs.Spelling.{Spells}
 use Rattle.uri_map.specs.declared.peer.Peer.{Peer}
 use Rattle.ask_model.specs.Requests.{CoapRequest, Ask, Sense, Requests, Refuses, request_message}
 use Rattle.history_laws.specs.Justified.{IsRefusal}
-use Rattle.history_laws.specs.Limits.{MaySeal}
 use Rattle.history_laws.specs.Numbering.{token_number}
 use Rattle.message_layer.specs.Values.{LinkState}
 use Rattle.message_layer.specs.declared.state.Waiting.{Waiting}
 use Rattle.whole_history.specs.Limits.{max_transmit_wait, mid_limit}
 use Rattle.whole_history.specs.Readings.{Noted}
+use Rattle.whole_history.specs.Sealing.{MaySeal}
 use Rattle.whole_history.specs.Justified.{Stands}
 use Rattle.core_steps.specs.declared.kept.Exchange.{Exchange}
 use Rattle.core_steps.specs.State.{State, link_of}
@@ -66,7 +66,8 @@ ShutsKeeps =
     → Kept (shuts t c S)
 
 abbrev pub SealsKeeps : Type 0
-SealsKeeps = (t : ℕ) (S : State) → MayStep t S → MaySeal S.entries → Kept (seals t S)
+SealsKeeps =
+    (t : ℕ) (S : State) → (m : MayStep t S) → MaySeal m.kept.reading → Kept (seals t S)
 
 -- What an ask is refused for is a refusal.
 abbrev pub IsProper : Sense → Type 0

@@ -6,7 +6,7 @@ use Rattle.uri_map.specs.declared.peer.Peer.{Peer}
 use Rattle.ask_model.specs.Requests.{CoapRequest, Ask, Requests, request_message}
 use Rattle.journal_book.specs.Entries.{Grounds, Opens, Asks, Sends, Hears, Passes, Answers, Shuts, Seals}
 use Rattle.history_laws.specs.Confirming.{Confirmation}
-use Rattle.history_laws.specs.Limits.{datagram_limit, MaySeal}
+use Rattle.history_laws.specs.Limits.{datagram_limit}
 use Rattle.history_laws.specs.Numbering.{token_number}
 use Rattle.message_layer.specs.Sending.{due_of, first_sent}
 use Rattle.message_layer.specs.Hearing.{verdict_of, reset_for}
@@ -19,6 +19,7 @@ use Rattle.whole_history.specs.Limits.{mid_limit, copy_limit}
 use Rattle.whole_history.specs.Transmissions.{mids_used, last_sent}
 use Rattle.whole_history.specs.Hearing.{repeated, can_be_remembered, has_room}
 use Rattle.whole_history.specs.Confirming.{owed}
+use Rattle.whole_history.specs.Sealing.{MaySeal}
 use Rattle.whole_history.specs.Justified.{HasGrounds, AskNote, pending, MayConfirm, MayCome, Follows}
 use Rattle.whole_history.specs.Worked.{noted}
 use Rattle.link_history.specs.Agrees.{due}
@@ -55,7 +56,7 @@ ShutsLeads =
 
 abbrev pub SealsLeads : Type 0
 SealsLeads =
-    (l : List Noted) (t : ℕ) (S : State) → Before l t S → MayCome l → MaySeal S.entries
+    (l : List Noted) (t : ℕ) (S : State) → Before l t S → MayCome l → MaySeal l
     → Leads l (noted t Seals Plain) (seals t S)
 
 abbrev pub AnswersLeads : Type 0

@@ -10,7 +10,7 @@ use Rattle.ask_model.specs.declared.cause.Cause.TheVariants as C
 use Rattle.journal_book.specs.Entries.{Grounds, Live, Kept, Fault, Deed, Opens, Asks, Sends, Hears, Passes, Answers, Shuts, Seals, Written}
 use Rattle.history_laws.specs.Responses.{Response}
 use Rattle.history_laws.specs.Confirming.{empty, Confirmation}
-use Rattle.history_laws.specs.Limits.{datagram_limit, MaySeal}
+use Rattle.history_laws.specs.Limits.{datagram_limit}
 use Rattle.history_laws.specs.Justified.{IsRefusal}
 use Rattle.whole_history.specs.Readings.{Noted, Note, Plain, Begins, First, Copies, Confirms, Says, Repeats, Garbled, entries, at, newest, ticked}
 use Rattle.whole_history.specs.Limits.{least_timeout, greatest_timeout, copy_limit}
@@ -20,6 +20,7 @@ use Rattle.whole_history.specs.Transmissions.{FirstSending, firsts, sent_last, l
 use Rattle.whole_history.specs.Exchanges.{Begun, begun, is_late, waits_for, replies, end_of, is_going, open_exchanges, is_waiting, is_first_waiting}
 use Rattle.whole_history.specs.Hearing.{repeated, can_be_remembered, answers, notice_of, has_room}
 use Rattle.whole_history.specs.Confirming.{owed}
+use Rattle.whole_history.specs.Sealing.{MaySeal}
 
 -- The ask with this number stands, by this connection.
 pub record IsAsk (l : List Noted) (k c : ℕ) (a : Ask) : Type 0 where
@@ -230,7 +231,7 @@ Follows l t (Answers c k g) note =
     (owed l ≡ None) × (is_open l c ≡ true) × (pending l c ≡ Some k)
     × HasGrounds l t k g × IsPlain note
 Follows l t (Shuts c) note = (owed l ≡ None) × (is_open l c ≡ true) × IsPlain note
-Follows l t Seals note = MayCome l × MaySeal (entries l) × IsPlain note
+Follows l t Seals note = MayCome l × MaySeal l × IsPlain note
 
 -- Each entry may follow the older ones, and moments never fall.
 abbrev pub Legal : List Noted → Type 0

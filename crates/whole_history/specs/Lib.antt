@@ -6,6 +6,7 @@ pub mod Transmissions
 pub mod Exchanges
 pub mod Hearing
 pub mod Confirming
+pub mod Sealing
 pub mod Justified
 pub mod Laws
 pub mod Worked

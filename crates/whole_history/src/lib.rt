@@ -7,7 +7,7 @@
 //! the ones before it, and an input comes only where all that was due is done.
 //!
 //! The definitions stand in `specs/`, to be read in this order: `Readings`, `Connections`, `Limits`,
-//! `Progress`, `Transmissions`, `Exchanges`, `Hearing`, `Confirming`, `Justified`; then the worked
+//! `Progress`, `Transmissions`, `Exchanges`, `Hearing`, `Confirming`, `Sealing`, `Justified`; then the worked
 //! journals, and `Laws`, which says what follows.
 #![tactic(auto)]
 
