@@ -6,6 +6,8 @@ pub mod Laws
 pub mod Calls
 pub mod Due
 pub mod Keeping
+pub mod Room
+pub mod Sealing
 pub mod Worked
 pub mod Links
 pub mod Entering
