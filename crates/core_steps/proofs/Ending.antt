@@ -66,7 +66,7 @@ waits-is e x h = elim (eqb_tells x.id e.conn) [
     by None h = absurd (false≢true h)
     by (Some j) h = elim (eqb_tells j e.opening) [ inl w ↦ ap Some w.1 | inr w ↦ absurd (false≢true (sym w.0 ∙ h)) ]
 
-found-conn : (e : Exchange) (cs : List Conn) → list_any (waits_on e) cs ≡ true → HasConn cs e.conn (Some e.opening)
+pub found-conn : (e : Exchange) (cs : List Conn) → list_any (waits_on e) cs ≡ true → HasConn cs e.conn (Some e.opening)
 found-conn e [] h = absurd (false≢true h)
 found-conn e (x ∷ xs) h = by (waits_on e x) refl h (λ k. found-conn e xs k)
   where
@@ -75,7 +75,7 @@ found-conn e (x ∷ xs) h = by (waits_on e x) refl h (λ k. found-conn e xs k)
     by true is h ih = inl (waits-is e x is)
     by false is h ih = inr (ih h)
 
-none-waits : (e : Exchange) (cs : List Conn) → list_any (waits_on e) cs ≡ false → HasConn cs e.conn (Some e.opening) → ⊥
+pub none-waits : (e : Exchange) (cs : List Conn) → list_any (waits_on e) cs ≡ false → HasConn cs e.conn (Some e.opening) → ⊥
 none-waits e [] h k = absurd k
 none-waits e (x ∷ xs) h (inl k) = false≢true (sym h ∙ here)
   where

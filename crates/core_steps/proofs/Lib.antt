@@ -35,3 +35,13 @@ pub mod Heeded
 pub mod Passed
 pub mod TickEnters
 pub mod Dropped
+
+pub mod Counting
+pub mod Waiting
+pub mod Tallies
+pub mod Tidy
+pub mod Adding
+pub mod Calling
+pub mod TickAdds
+pub mod Late
+pub mod InRoom

@@ -52,7 +52,7 @@ alike-step l o t Passes note empty ih e =
     other k = cc
 alike-step l o t d note empty ih e = ih
 
-sent-alike : (l : List Noted) (o : ℕ) → end_of l o ≡ None → sent_last l o ≡ waits_for l o
+pub sent-alike : (l : List Noted) (o : ℕ) → end_of l o ≡ None → sent_last l o ≡ waits_for l o
 sent-alike [] o e = refl
 sent-alike (x ∷ older) o e =
     let both = before-end (end_here (length older) (replies older o) (turn older o x)) (length older) (end_of older o) e in

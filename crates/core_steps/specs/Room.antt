@@ -45,9 +45,9 @@ abbrev pub IsShortOut : Option Outstanding → Type 0
 IsShortOut None = ⊤
 IsShortOut (Some o) = length o.datagram ≤ message_limit
 
-pub record IsShort (x : PeerLink) : Type 0 where
-  pub outstanding : IsShortOut x.link.outstanding
-  pub waiting : AllByRecursion (λ (w : Waiting). length w.datagram ≤ message_limit) x.link.waiting
+pub record IsShort (s : LinkState) : Type 0 where
+  pub outstanding : IsShortOut s.outstanding
+  pub waiting : AllByRecursion (λ (w : Waiting). length w.datagram ≤ message_limit) s.waiting
 
 -- Each endpoint has one link.
 abbrev pub AreApart : List Peer → Type 0
@@ -58,7 +58,7 @@ AreApart (p ∷ ps) = (list_any (λ (q : Peer). same_peer q p) ps ≡ false) × 
 pub record KeptInRoom (S : State) : Type 0 where
   pub kept : Kept S
   pub fit : fits S ≡ true
-  pub short : AllByRecursion IsShort S.links
+  pub short : AllByRecursion (λ (x : PeerLink). IsShort x.link) S.links
   pub apart : AreApart (map peer_of S.links)
 
 -- Its entries are within the limits, with what has to come.

@@ -12,5 +12,6 @@
 
 mod kept;
 mod laws;
+mod sealing;
 
 pub use kept::{Conn, Exchange};

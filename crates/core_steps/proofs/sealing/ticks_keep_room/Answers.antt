@@ -1,0 +1,8 @@
+use Rattle.core_steps.proofs.InRoom.{ticks-in-room, ticks-promptly}
+use Rattle.core_steps.proofs.sealing.ticks_keep_room.Goals as goal
+
+pub returns-clause-keeps : goal.returns-clause-keeps
+returns-clause-keeps c = ticks-in-room
+
+pub returns-clause-promptly : goal.returns-clause-promptly
+returns-clause-promptly c = ticks-promptly
