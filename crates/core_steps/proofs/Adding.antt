@@ -1,11 +1,10 @@
 -- What each entry takes of a journal's room.
-use Rattle.std.proofs.Common.{◌≡◌, ℕ, ◌+◌, ◌*◌, ◌≤◌, Bool, true, false, cond, eqb, inl, inr, List, [], ◌∷◌, ◌++◌, length, map, Option, Some, None, refl, sym, ap, subst, ◌∙◌, arith, length-append}
+use Rattle.std.proofs.Common.{◌≡◌, ℕ, ◌+◌, ◌*◌, ◌≤◌, Bool, true, false, cond, eqb, List, [], ◌∷◌, ◌++◌, length, Option, Some, None, refl, ap, ◌∙◌, arith, length-append}
 use Rattle.std.specs.Prelude.{count_by, sum_by, fold}
 use Rattle.std.specs.List.{list_any}
 use Rattle.std.proofs.lemmas.List.{length-map}
 use Rattle.std.proofs.lemmas.List.Sums.{sum_by_push}
 use Rattle.uri_map.specs.declared.peer.Peer.{Peer}
-use Rattle.ask_model.specs.Requests.{Ask}
 use Rattle.journal_book.specs.Entries.{Grounds, grounds_size, Written, entry_size}
 use Rattle.message_layer.specs.Hearing.{replies}
 use Rattle.message_layer.specs.declared.state.Outstanding.{Outstanding}
@@ -14,8 +13,8 @@ use Rattle.message_layer.specs.declared.state.Reply.TheVariants as R
 use Rattle.message_layer.specs.declared.state.Waiting.{Waiting}
 use Rattle.core_steps.specs.declared.kept.Conn.{Conn}
 use Rattle.core_steps.specs.declared.kept.Exchange.{Exchange}
-use Rattle.core_steps.specs.State.{PeerLink, State, link_of}
-use Rattle.core_steps.specs.Steps.{answers, sends_first, sends_copy, given_out}
+use Rattle.core_steps.specs.State.{State, link_of}
+use Rattle.core_steps.specs.Steps.{answers, sends_first, sends_copy}
 use Rattle.core_steps.specs.Resting.{HasConn}
 use Rattle.core_steps.specs.Calls.{next_by, next, given_back, waits_on, ends, ends_if, times_out}
 use Rattle.core_steps.specs.Room.{has_asked, asks_waiting, seals_left, entries_taken, bytes_taken}

@@ -1,5 +1,5 @@
 -- What each call takes of a journal's room.
-use Rattle.std.proofs.Common.{◌≡◌, ℕ, ◌+◌, ◌*◌, ◌≤◌, Bool, true, false, cond, eqb, leb, inl, inr, List, [], ◌∷◌, ◌++◌, length, map, Option, Some, None, Result, Ok, Err, refl, sym, ap, subst, ◌∙◌, arith, length-append}
+use Rattle.std.proofs.Common.{◌≡◌, ℕ, ◌+◌, ◌≤◌, Bool, true, false, cond, leb, inl, inr, List, [], ◌∷◌, length, map, Option, Some, None, Result, Ok, Err, refl, ap, ◌∙◌, arith, length-append}
 use Rattle.std.specs.Prelude.{count_by, is_some, ◌&&◌}
 use Rattle.std.proofs.lemmas.Bool.{leb-true}
 use Rattle.std.proofs.lemmas.List.{length-map}
@@ -23,12 +23,11 @@ use Rattle.message_layer.specs.declared.verdict.Verdict.{Verdict}
 use Rattle.whole_history.specs.Readings.{Noted}
 use Rattle.link_history.specs.Steps.{ended_token}
 use Rattle.core_steps.specs.declared.kept.Conn.{Conn}
-use Rattle.core_steps.specs.declared.kept.Exchange.{Exchange}
 use Rattle.core_steps.specs.State.{State, link_of, pend}
 use Rattle.core_steps.specs.Reads.{Reads}
 use Rattle.core_steps.specs.Steps.{opens, asks, begins, hears, hears_nothing}
 use Rattle.core_steps.specs.Resting.{HasConn}
-use Rattle.core_steps.specs.Calls.{Numbers, next, refused, has_place, asked_by, asked, given_back, ended_in, ends_if, grounds_by, takes_new, takes_by, takes, repeats, resets, reads_so, heard}
+use Rattle.core_steps.specs.Calls.{Numbers, next, refused, has_place, asked_by, asked, given_back, ended_in, grounds_by, takes_new, takes_by, repeats, resets, reads_so, heard}
 use Rattle.core_steps.specs.Room.{has_asked}
 use Rattle.core_steps.proofs.Adding.{Adds, stays, both-add, at-most, counted, still-adds, given-adds, next-adds, answers-adds, ends-if-adds}
 use Rattle.core_steps.proofs.Tallies.{id-once}

@@ -1,6 +1,6 @@
 -- Each call keeps that the journal stands and is within its limits.
-use Rattle.std.proofs.Common.{◌≡◌, ◌⊎◌, ℕ, ◌+◌, ◌*◌, ◌<◌, ◌≤◌, max, not, cond, eqb, Bool, true, false, inl, inr, List, [], ◌∷◌, ◌++◌, length, Option, Some, None, refl, sym, ap, subst, ◌∙◌, arith, length-append}
-use Rattle.std.specs.Prelude.{◌&&◌, nat_le, count_by, sum_by, map, filter}
+use Rattle.std.proofs.Common.{◌≡◌, ◌⊎◌, ℕ, ◌+◌, ◌*◌, ◌<◌, ◌≤◌, not, cond, eqb, Bool, true, false, inl, inr, List, [], ◌∷◌, length, refl, sym, ap, ◌∙◌, arith, length-append}
+use Rattle.std.specs.Prelude.{nat_le, count_by, sum_by, map, filter}
 use Rattle.std.specs.List.{AllByRecursion}
 use Rattle.std.proofs.Math.Nat.{le-max_left, le-max_right}
 use Rattle.std.proofs.lemmas.Bool.{false≢true}
@@ -10,7 +10,7 @@ use Rattle.ask_model.proofs.Endpoints.{and-both}
 use Rattle.ask_model.specs.Sizes.{came_size}
 use Rattle.journal_book.specs.Entries.{Seals, Written, entry_size}
 use Rattle.whole_history.specs.Limits.{max_transmit_wait}
-use Rattle.whole_history.specs.Readings.{Noted, entries}
+use Rattle.whole_history.specs.Readings.{Noted}
 use Rattle.whole_history.specs.Sealing as H
 use Rattle.link_history.proofs.Facts.{all-more}
 use Rattle.core_steps.specs.declared.kept.Conn.{Conn}
@@ -20,7 +20,7 @@ use Rattle.core_steps.specs.Reads.{Reads}
 use Rattle.core_steps.specs.Steps.{opens, shuts, seals, is_past}
 use Rattle.core_steps.specs.Calls.{peer_of, asked, heard, ticked}
 use Rattle.core_steps.specs.Keeping.{Kept, MayStep}
-use Rattle.core_steps.specs.Room.{has_asked, asks_waiting, seals_left, entries_taken, bytes_taken, fits, KeptInRoom, WithinLimits}
+use Rattle.core_steps.specs.Room.{has_asked, seals_left, entries_taken, bytes_taken, fits, KeptInRoom, WithinLimits}
 use Rattle.core_steps.specs.Sealing.{in_room, if_unsealed, late, StartInRoom, OpensInRoom, ShutsInRoom, AsksInRoom, HearsInRoom, TicksInRoom, IsPrompt, ArePrompt, TicksPromptly}
 use Rattle.core_steps.proofs.Adding.{Adds, counted, all-end-adds}
 use Rattle.core_steps.proofs.Calling.{opens-adds, asked-adds, heard-adds}

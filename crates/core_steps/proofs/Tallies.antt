@@ -1,7 +1,7 @@
 -- The history counts what the state counts: open connections, asks that wait, messages that are outstanding.
 use Rattle.std.proofs.Common.{◌≡◌, ℕ, zero, suc, ◌+◌, ◌<◌, ◌≤◌, Bool, true, false, cond, not, eqb, ltb, inl, inr, List, [], ◌∷◌, ◌++◌, length, map, Option, Some, None, refl, sym, ap, subst, ◌∙◌, arith}
 use Rattle.std.specs.Prelude.{count_by, filter, is_some, option_and_then, ◌&&◌, ◌||◌}
-use Rattle.std.specs.List.{AllByRecursion, Contains, list_any, range_with_len}
+use Rattle.std.specs.List.{AllByRecursion, list_any, range_with_len}
 use Rattle.std.proofs.lemmas.List.{length-map, map-append}
 use Rattle.std.proofs.lemmas.List.Elements.{filter-append}
 use Rattle.std.proofs.lemmas.Bool.{false≢true}
@@ -29,7 +29,7 @@ use Rattle.core_steps.specs.Room.{has_asked, asks_waiting, AreApart}
 use Rattle.core_steps.proofs.Conns.{PendingIn, ConnIn, conns-open}
 use Rattle.core_steps.proofs.Counting.{one, count-cons, count-map, count-alike, count-more, count-filter, any-of, one-each}
 use Rattle.core_steps.proofs.Hearing.{filter-map, filter-by, filter-both}
-use Rattle.core_steps.proofs.Waiting.{has_id, others}
+use Rattle.core_steps.proofs.Waiting.{has_id}
 
 -- The connections that are kept are the open ones, in the order of their numbers.
 

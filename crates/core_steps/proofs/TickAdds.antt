@@ -1,19 +1,18 @@
 -- What a tick takes of a journal's room: its entry, and one at each endpoint where something is outstanding.
-use Rattle.std.proofs.Common.{◌≡◌, ℕ, ◌+◌, ◌*◌, ◌≤◌, Bool, true, false, cond, List, [], ◌∷◌, map, Option, Some, None, refl, sym, ap, subst, ◌∙◌, arith}
+use Rattle.std.proofs.Common.{◌≡◌, ℕ, ◌+◌, ◌*◌, Bool, true, false, cond, List, [], ◌∷◌, map, Option, Some, None, refl, sym, ap, subst, ◌∙◌, arith}
 use Rattle.std.specs.Prelude.{count_by, filter, fold, is_some, not}
 use Rattle.std.proofs.lemmas.Bool.{false≢true}
 use Rattle.uri_map.specs.declared.peer.Peer.{Peer}
 use Rattle.ask_model.specs.Requests.{same_peer}
 use Rattle.ask_model.proofs.Endpoints.{same_peer-same}
 use Rattle.message_layer.specs.Values.{LinkState}
-use Rattle.message_layer.specs.Sending.{first_sent, with_outstanding, with_copy}
 use Rattle.message_layer.specs.declared.state.Outstanding.{Outstanding}
 use Rattle.message_layer.specs.declared.state.Waiting.{Waiting}
-use Rattle.link_history.specs.Steps.{is_over, passed_link}
+use Rattle.link_history.specs.Steps.{passed_link}
 use Rattle.core_steps.specs.State.{PeerLink, State, link_of}
-use Rattle.core_steps.specs.Steps.{given_out, sends_first, sends_copy, is_gone, passes}
+use Rattle.core_steps.specs.Steps.{sends_copy, is_gone, passes}
 use Rattle.core_steps.specs.Resting.{IsUndue, LinkRests}
-use Rattle.core_steps.specs.Calls.{next_by, next, is_due, moves_by, moves, move_all, peer_of, something_due, timed_out, times_out, ticked}
+use Rattle.core_steps.specs.Calls.{next_by, is_due, moves_by, moves, move_all, peer_of, something_due, timed_out, times_out, ticked}
 use Rattle.core_steps.proofs.Adding.{Adds, stays, both-add, at-most, still-adds, next-adds, copy-adds, all-end-adds}
 use Rattle.core_steps.proofs.Counting.{one, count-cons}
 use Rattle.core_steps.proofs.Passing.{link-passed}

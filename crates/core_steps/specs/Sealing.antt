@@ -1,5 +1,5 @@
 -- A step that doesn't fit seals the journal, and is otherwise undone.
-use Rattle.std.specs.Prelude.{◌≡◌, ℕ, ◌+◌, ◌<◌, ◌≤◌, true, List, filter, fold, length, Option, Some, None, if◌then◌else◌}
+use Rattle.std.specs.Prelude.{◌≡◌, ℕ, ◌+◌, ◌<◌, ◌≤◌, List, filter, fold, length, Option, Some, None, if◌then◌else◌}
 use Rattle.std.specs.List.{AllByRecursion}
 use Rattle.uri_map.specs.declared.peer.Peer.{Peer}
 use Rattle.ask_model.specs.Requests.{CoapRequest, Ask, Requests}

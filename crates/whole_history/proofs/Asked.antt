@@ -1,14 +1,13 @@
 -- Each ask opens one exchange or none, and each sending is for an ask or for a datagram.
-use Rattle.std.proofs.Common.{◌≡◌, ℕ, ◌<◌, ◌⊎◌, false, inl, inr, List, [], ◌∷◌, length, Option, Some, None, refl, sym, ap, subst, ◌∙◌}
+use Rattle.std.proofs.Common.{◌≡◌, ℕ, ◌<◌, ◌⊎◌, inl, inr, List, Option, Some, None, refl, sym, ap, subst, ◌∙◌}
 use Rattle.coap_codec.specs.Spelling.{Content}
 use Rattle.uri_map.specs.declared.peer.Peer.{Peer}
 use Rattle.ask_model.specs.Requests.{CoapRequest, Sense, Requests, Refuses, Ask}
 use Rattle.ask_model.specs.declared.cause.Cause.{Cause}
 use Rattle.ask_model.specs.declared.cause.Cause.TheVariants.{BadHttp, NoMap, Method, Media, Busy, Timeout, Reset, NotUnderstood}
-use Rattle.journal_book.specs.Entries.{Grounds, Live, Kept, Fault, Deed, Asks, Sends, Hears, Answers}
+use Rattle.journal_book.specs.Entries.{Grounds, Live, Kept, Fault, Asks, Sends, Hears, Answers}
 use Rattle.whole_history.specs.Readings.{Noted, Note, Plain, Begins, First, Copies, Confirms, at, before}
 use Rattle.whole_history.specs.Exchanges.{Begun, begun}
-use Rattle.whole_history.specs.Hearing.{has_room}
 use Rattle.whole_history.specs.Justified.{IsAsk, reads_by, reads_in, reads, IsTurnedAway, IsRefused, Caused, HasGrounds, AskNote, MayBeCopy, MayConfirm, Follows, Legal}
 use Rattle.whole_history.specs.Laws.{OpensNone, OpensFor, IsAskSent, IsConfirmation}
 use Rattle.whole_history.specs.Worked.{noted}

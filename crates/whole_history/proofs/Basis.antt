@@ -1,5 +1,5 @@
 -- What an answer rests on: replies to its own ask, sent for after it.
-use Rattle.std.proofs.Common.{◌≡◌, ℕ, zero, suc, ◌<◌, ◌⊎◌, Bool, true, false, cond, inl, inr, List, [], ◌∷◌, ◌++◌, length, Option, Some, None, refl, sym, ap, subst, ◌∙◌, arith}
+use Rattle.std.proofs.Common.{◌≡◌, ℕ, zero, suc, ◌<◌, Bool, true, false, cond, inl, inr, List, [], ◌∷◌, ◌++◌, length, Option, Some, None, refl, sym, ap, subst, ◌∙◌, arith}
 use Rattle.std.specs.List.{Contains}
 use Rattle.std.proofs.lemmas.List.Elements.{Contains-append_left}
 use Rattle.ask_model.specs.Requests.{CoapRequest, Requests, Ask, request_message}
@@ -8,11 +8,10 @@ use Rattle.uri_map.specs.declared.peer.Peer.{Peer}
 use Rattle.journal_book.specs.Entries.{Grounds, Live, Answers}
 use Rattle.history_laws.specs.Responses.{Response, response_of, is_whole}
 use Rattle.whole_history.specs.Readings.{Noted, Note, Begins, at}
-use Rattle.whole_history.specs.Progress.{Reply, numbers, Progress, Asks, Ends, Ending, Whole, NotUnderstood, Reset, TimedOut, replied, progress, ended_by}
-use Rattle.whole_history.specs.Exchanges.{Begun, Turn, Nothing, Sent, Replied, Rejected, Expired, turn, replies_by, replies, End, end_here, end_by, end_of}
+use Rattle.whole_history.specs.Progress.{Reply, numbers, Ending, Whole, NotUnderstood, Reset, TimedOut, progress, ended_by}
+use Rattle.whole_history.specs.Exchanges.{Turn, Nothing, Sent, Replied, Rejected, Expired, turn, replies_by, replies, End, end_here, end_by, end_of}
 use Rattle.whole_history.specs.Justified.{IsAsk, Ends as EndsAs, reads_by, reads_in, reads, HasGrounds, Follows, Legal}
 use Rattle.whole_history.specs.Laws.{IsFirst, IsReplyTo, IsAnswer, RestsOn, IsWriteEnd}
-use Rattle.whole_history.specs.Worked.{noted}
 use Rattle.whole_history.proofs.Elements.{contains-none, first-or-later}
 use Rattle.whole_history.proofs.Facts.{IsAsk-keeps, IsFirst-keeps}
 use Rattle.whole_history.proofs.Answering.{IsAnswer-old}

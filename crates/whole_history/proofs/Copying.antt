@@ -1,22 +1,20 @@
 -- Copies go out in the step of the first tick that finds them due.
-use Rattle.std.proofs.Common.{◌≡◌, ℕ, zero, suc, ◌+◌, ◌*◌, ◌^◌, ◌<◌, ◌≤◌, ◌⊎◌, Bool, true, false, ◌&&◌, cond, ltb, inl, inr, List, [], ◌∷◌, length, Option, Some, None, refl, sym, ap, subst, ◌∙◌, arith}
+use Rattle.std.proofs.Common.{◌≡◌, ℕ, zero, suc, ◌+◌, ◌*◌, ◌^◌, ◌<◌, ◌≤◌, Bool, true, false, inl, inr, List, [], ◌∷◌, length, Option, Some, refl, sym, ap, subst, arith}
 use Rattle.std.specs.Prelude.{⊤}
 use Rattle.std.specs.List.{list_all}
 use Rattle.std.proofs.lemmas.Bool.{ltb-true}
-use Rattle.coap_codec.specs.Spelling.{Content}
 use Rattle.uri_map.specs.declared.peer.Peer.{Peer}
-use Rattle.ask_model.specs.Requests.{Ask}
-use Rattle.journal_book.specs.Entries.{Grounds, Deed, Opens, Asks, Sends, Hears, Passes, Answers, Shuts, Seals}
+use Rattle.journal_book.specs.Entries.{Deed, Opens, Asks, Sends, Hears, Passes, Answers, Shuts, Seals}
 use Rattle.whole_history.specs.Readings.{Noted, Note, First, Copies, at, before, newest, ticked}
 use Rattle.whole_history.specs.Connections.{is_sealed}
-use Rattle.whole_history.specs.Transmissions.{FirstSending, firsts_by, firsts, Transmission, due, begun_way, copied_way, transmission}
-use Rattle.whole_history.specs.Justified.{MayCome, is_early, is_done, AtRest, Follows, Legal, MayBeCopy}
+use Rattle.whole_history.specs.Transmissions.{FirstSending, firsts_by, firsts, Transmission, due, transmission}
+use Rattle.whole_history.specs.Justified.{MayCome, is_early, is_done, AtRest, Legal, MayBeCopy}
 use Rattle.whole_history.specs.Laws.{IsDone, IsInTime}
 use Rattle.whole_history.specs.Worked.{noted}
-use Rattle.whole_history.proofs.Resting.{first, second, some-is, none-some}
+use Rattle.whole_history.proofs.Resting.{first, second, none-some}
 use Rattle.whole_history.proofs.Places.{at-new, at-keeps, at-below, at-old, before-keeps, before-new}
 use Rattle.whole_history.proofs.Facts.{follows-at, legal-before, at-before, length-before}
-use Rattle.whole_history.proofs.Outstanding.{WayBegun, WayCopied, way-cases, Sound, sound}
+use Rattle.whole_history.proofs.Outstanding.{way-cases, Sound, sound}
 
 -- What passes for all first sendings did so before.
 all-fewer : (f : FirstSending → Bool) (n t : ℕ) (d : Deed) (note : Note) (old : List FirstSending)

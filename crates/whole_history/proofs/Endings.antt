@@ -9,7 +9,7 @@ use Rattle.journal_book.specs.Entries.{Sends}
 use Rattle.history_laws.specs.Confirming.{empty}
 use Rattle.whole_history.specs.Readings.{Noted, First, at, ticked}
 use Rattle.whole_history.specs.Limits.{copy_limit}
-use Rattle.whole_history.specs.Transmissions.{Transmission, transmission, due}
+use Rattle.whole_history.specs.Transmissions.{transmission, due}
 use Rattle.whole_history.specs.Justified.{Legal, MayBeCopy}
 use Rattle.whole_history.specs.Worked.{Holds, noted, server, empty_rst}
 use Rattle.whole_history.specs.WorkedMessages.{get_bytes, get_message, put_light}

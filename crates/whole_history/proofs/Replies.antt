@@ -1,6 +1,5 @@
 -- The replies to an exchange: each came to a first sending of it, after that, and is no repeat.
-use Rattle.std.proofs.Common.{◌≡◌, ℕ, ◌<◌, Bool, true, false, ◌&&◌, eqb, leb, inl, inr, List, [], ◌∷◌, ◌++◌, length, Option, Some, None, refl, sym, ap, subst, ◌∙◌, arith}
-use Rattle.std.specs.Prelude.{⊤, find}
+use Rattle.std.proofs.Common.{◌≡◌, ℕ, Bool, true, false, ◌&&◌, eqb, leb, inl, inr, List, [], ◌∷◌, ◌++◌, length, Option, Some, None, refl, sym, ap, subst, ◌∙◌}
 use Rattle.std.specs.List.{Contains}
 use Rattle.std.specs.Str.{bytes_eq}
 use Rattle.std.proofs.lemmas.List.Elements.{Contains-push_cases}
@@ -17,8 +16,8 @@ use Rattle.journal_book.specs.Entries.{Deed, Sends, Hears}
 use Rattle.whole_history.specs.Readings.{Noted, Note, First, Says, Notice}
 use Rattle.whole_history.specs.Progress.{Reply}
 use Rattle.whole_history.specs.Transmissions.{FirstSending, firsts_by, firsts, first_at}
-use Rattle.whole_history.specs.Exchanges.{Turn, Nothing, Sent, Replied, Rejected, Expired, turn, waits_for, replies_by, replies, awaited}
-use Rattle.whole_history.specs.Hearing.{went_under, went_as, is_under, is_as, open_at, answers_by, answers, notice_of}
+use Rattle.whole_history.specs.Exchanges.{Turn, Nothing, Sent, Replied, Rejected, Expired, turn, replies_by, replies, awaited}
+use Rattle.whole_history.specs.Hearing.{went_under, went_as, is_under, is_as, open_at, answers_by, answers}
 use Rattle.whole_history.specs.Justified.{Follows, Legal, MaySay}
 use Rattle.whole_history.specs.Laws.{IsFirst, IsReplyKind, IsReplyTo}
 use Rattle.whole_history.specs.Worked.{noted}

@@ -8,15 +8,14 @@ use Rattle.uri_map.specs.declared.peer.Peer.{Peer}
 use Rattle.ask_model.specs.Requests.{CoapRequest, Sense, Requests, Refuses, Ask, request_message}
 use Rattle.ask_model.proofs.Endpoints.{and-both}
 use Rattle.journal_book.specs.Entries.{Deed, Opens, Asks, Sends, Hears, Passes, Answers, Shuts, Seals}
-use Rattle.whole_history.specs.Readings.{Noted, Note, Plain, Begins, First, Copies, Confirms, Says, Repeats, Garbled, at, before}
+use Rattle.whole_history.specs.Readings.{Noted, Note, Begins, First, at, before}
 use Rattle.whole_history.specs.Progress.{Reply, Progress, Asks as StillAsks, Ends, Ending, Reset, TimedOut, step, replied, progress, ended_by, next_message}
-use Rattle.whole_history.specs.Exchanges.{Begun, opens_by, begun_by, begun, Turn, Nothing, Sent, Replied, Rejected, Expired, turn, waits_by, waits_for, replies, End, end_here, end_by, end_of, is_going, goes_to}
-use Rattle.whole_history.specs.Hearing.{has_room}
+use Rattle.whole_history.specs.Exchanges.{Begun, opens_by, begun_by, begun, Turn, Nothing, Sent, Replied, Rejected, Expired, turn, waits_by, waits_for, replies, End, end_here, end_by, end_of, goes_to}
 use Rattle.whole_history.specs.Justified.{AskNote, MayBeFirst, Follows, Legal}
 use Rattle.whole_history.specs.Laws.{IsFirst}
 use Rattle.whole_history.specs.Worked.{noted}
 use Rattle.whole_history.proofs.Resting.{some-is}
-use Rattle.whole_history.proofs.Places.{at-cases, at-new, at-below, at-keeps, at-same}
+use Rattle.whole_history.proofs.Places.{at-cases, at-new, at-below, at-keeps}
 use Rattle.whole_history.proofs.Facts.{follows-at, at-before, length-before, eqb-same, eqb-itself}
 use Rattle.whole_history.proofs.Sendings.{IsFirst-old, may-be}
 

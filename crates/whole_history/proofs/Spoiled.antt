@@ -1,5 +1,5 @@
 -- The spoiled journals are not legal: what the last entry owes is not so.
-use Rattle.std.proofs.Common.{◌≡◌, ℕ, List, [], ◌∷◌, Option, refl, sym, ap, subst, ◌∙◌, true, false, arith, inl, inr}
+use Rattle.std.proofs.Common.{◌≡◌, ℕ, List, ◌∷◌, Option, refl, sym, ap, subst, ◌∙◌, arith, inl, inr}
 use Rattle.std.specs.Prelude.{Some, None}
 use Rattle.std.proofs.lemmas.Bool.{false≢true}
 use Rattle.coap_codec.specs.Spelling.{Content}
@@ -12,7 +12,7 @@ use Rattle.whole_history.specs.Worked.{Refused, noted}
 use Rattle.whole_history.specs.WorkedEndings.{copied_out}
 use Rattle.whole_history.specs.WorkedMessages.{answered}
 use Rattle.whole_history.specs.WorkedSpoiled.{sent_six_times, timed_out_early, renumbered, overtaken, used_again, heard_as_new, rejected_late, crossed}
-use Rattle.whole_history.proofs.Resting.{some-is, none-is, none-some}
+use Rattle.whole_history.proofs.Resting.{none-is, none-some}
 
 pub sent_six_times-refused : Refused sent_six_times
 sent_six_times-refused h = none-some _ h.2.1.2.is_outstanding

@@ -7,7 +7,7 @@ use Rattle.journal_book.specs.Entries.{Live, Fault, Opens, Asks, Sends, Hears, P
 use Rattle.history_laws.specs.Confirming.{empty}
 use Rattle.whole_history.specs.Readings.{Noted, Plain, Begins, First, Copies, Says, Unobserved}
 use Rattle.whole_history.specs.Worked.{noted, server, ask_for, host, token, con, empty_ack, empty_rst}
-use Rattle.whole_history.specs.WorkedMessages.{get_light, put_light, get_bytes, put_bytes, content_bytes, content_message, waiting, copied, let_go, answered}
+use Rattle.whole_history.specs.WorkedMessages.{get_light, put_light, get_bytes, content_bytes, content_message, waiting, copied, let_go, answered}
 use Rattle.whole_history.specs.WorkedEndings.{copied_out}
 
 -- a sixth sending
