@@ -1,11 +1,12 @@
 -- What each entry takes of a journal's room.
 use Rattle.std.proofs.Common.{◌≡◌, ℕ, ◌+◌, ◌*◌, ◌≤◌, Bool, true, false, cond, eqb, List, [], ◌∷◌, ◌++◌, length, Option, Some, None, refl, ap, ◌∙◌, arith, length-append}
-use Rattle.std.specs.Prelude.{count_by, sum_by, fold}
+use Rattle.std.specs.Prelude.{count_by, sum_by, fold, unwrap_or}
 use Rattle.std.specs.List.{list_any}
 use Rattle.std.proofs.lemmas.List.{length-map}
 use Rattle.std.proofs.lemmas.List.Sums.{sum_by_push}
 use Rattle.uri_map.specs.declared.peer.Peer.{Peer}
-use Rattle.journal_book.specs.Entries.{Grounds, grounds_size, Written, entry_size}
+use Rattle.ask_model.specs.declared.cause.Cause.TheVariants as C
+use Rattle.journal_book.specs.Entries.{Grounds, Fault, grounds_size, Written, entry_size}
 use Rattle.message_layer.specs.Hearing.{replies}
 use Rattle.message_layer.specs.declared.state.Outstanding.{Outstanding}
 use Rattle.message_layer.specs.declared.state.Reply.{Reply}
@@ -114,5 +115,5 @@ ends-if-adds t g (Some e) S h small = ends-adds t g e S h small
 pub all-end-adds : (t : ℕ) (es : List Exchange) (S : State) → Tidy S.links → Adds 0 0 S (fold (times_out t) S es)
 all-end-adds t [] S h = stays 0 0 S h
 all-end-adds t (e ∷ es) S h =
-    let one = ends-adds t _ e S h (omega arith) in
+    let one = ends-adds t (Fault C.Timeout (unwrap_or e.sending e.opening)) e S h (omega arith) in
     at-most 0 0 0 0 S _ (omega arith) (omega arith) (both-add 0 0 0 0 S (times_out t S e) _ one (all-end-adds t es (times_out t S e) one.tidy))

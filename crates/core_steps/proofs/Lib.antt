@@ -44,4 +44,5 @@ pub mod Adding
 pub mod Calling
 pub mod TickAdds
 pub mod Late
+pub mod Alone
 pub mod InRoom

@@ -1,9 +1,10 @@
 -- A step that doesn't fit seals the journal, and is otherwise undone.
-use Rattle.std.specs.Prelude.{◌≡◌, ℕ, ◌+◌, ◌<◌, ◌≤◌, List, filter, fold, length, Option, Some, None, if◌then◌else◌}
+use Rattle.std.specs.Prelude.{◌≡◌, ℕ, ◌+◌, ◌<◌, ◌≤◌, true, List, filter, fold, length, Option, Some, None, if◌then◌else◌, ◌++◌, ⊤}
 use Rattle.std.specs.List.{AllByRecursion}
 use Rattle.uri_map.specs.declared.peer.Peer.{Peer}
 use Rattle.ask_model.specs.Requests.{CoapRequest, Ask, Requests}
 use Rattle.ask_model.specs.Sizes.{came_size, request_limit}
+use Rattle.journal_book.specs.Entries.{Deed, Answers, Written}
 use Rattle.whole_history.specs.Limits.{max_transmit_wait}
 use Rattle.whole_history.specs.Sealing.{message_limit}
 use Rattle.core_steps.specs.declared.kept.Conn.{Conn}
@@ -87,3 +88,21 @@ ArePrompt t S = AllByRecursion (IsPrompt t S.exchanges) S.conns
 
 abbrev pub TicksPromptly : Type 0
 TicksPromptly = (t : ℕ) (S : State) → KeptInRoom S → S.moment ≤ t → ArePrompt t (ticks_in_room t S)
+
+-- After the seal a tick adds answers alone, and changes nothing but who waits.
+abbrev pub IsAnswer : Deed → Type 0
+IsAnswer (Answers c k g) = ⊤
+IsAnswer _ = ⊥
+
+pub record AnswersAlone (S S1 : State) : Type 0 where
+  pub answers : List Written
+  pub entries : S1.entries ≡ S.entries ++ answers
+  pub are : AllByRecursion (λ (w : Written). IsAnswer w.deed) answers
+  pub sealed : S1.sealed ≡ S.sealed
+  pub opened : S1.opened ≡ S.opened
+  pub issued : S1.issued ≡ S.issued
+  pub exchanges : S1.exchanges ≡ S.exchanges
+  pub links : S1.links ≡ S.links
+
+abbrev pub SealedAnswers : Type 0
+SealedAnswers = (t : ℕ) (S : State) → S.sealed ≡ true → AnswersAlone S (ticks_in_room t S)

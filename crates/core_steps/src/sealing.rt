@@ -9,6 +9,7 @@ ghost use Rattle.core_steps.specs.Sealing.{
   HearsInRoom,
   TicksInRoom,
   TicksPromptly,
+  SealedAnswers,
 };
 
 /// A journal has 65,536 entries and 256 MiB at most, with what has to come, and each call keeps
@@ -28,4 +29,5 @@ pub fn calls_keep_room()
 pub fn ticks_keep_room()
     ensures keeps { TicksInRoom }
     ensures promptly { TicksPromptly }
+    ensures sealed { SealedAnswers }
 {}

@@ -11,7 +11,7 @@ use Rattle.whole_history.specs.Justified.{Ends}
 use Rattle.whole_history.specs.Worked.{Refused, noted}
 use Rattle.whole_history.specs.WorkedEndings.{copied_out}
 use Rattle.whole_history.specs.WorkedMessages.{answered}
-use Rattle.whole_history.specs.WorkedSpoiled.{sent_six_times, timed_out_early, renumbered, overtaken, used_again, heard_as_new, rejected_late, crossed}
+use Rattle.whole_history.specs.WorkedSpoiled.{sent_six_times, timed_out_early, renumbered, overtaken, used_again, heard_as_new, rejected_late, crossed, sealed_early}
 use Rattle.whole_history.proofs.Resting.{none-is, none-some}
 
 pub sent_six_times-refused : Refused sent_six_times
@@ -67,3 +67,10 @@ pub crossed-refused : Refused crossed
 crossed-refused h =
     let o = same-number 4 h.2.3.0 h.2.3.4 in
     not-ended answered h.2.3.0 h.2.3.1 _ (subst (λ (o : ℕ). end_of answered o ≡ None) o refl) h.2.3.5
+
+pub sealed_early-refused : Refused sealed_early
+sealed_early-refused h =
+    elim (h.2.1) [
+      | inl w ↦ let few = w in absurd (omega (arith, few))
+      | inr w ↦ let small = w in absurd (omega (arith, small))
+    ]

@@ -3,7 +3,7 @@ use Rattle.std.specs.Prelude.{List, [], ◌∷◌, ◌++◌, Some, None, codes}
 use Rattle.coap_codec.specs.declared.message.MsgType.TheVariants.{Ack, Rst}
 use Rattle.ask_model.specs.declared.cause.Cause.TheVariants as C
 use Rattle.ask_model.specs.Requests.{request_message}
-use Rattle.journal_book.specs.Entries.{Live, Fault, Opens, Asks, Sends, Hears, Passes, Answers}
+use Rattle.journal_book.specs.Entries.{Live, Fault, Opens, Asks, Sends, Hears, Passes, Answers, Seals}
 use Rattle.history_laws.specs.Confirming.{empty}
 use Rattle.whole_history.specs.Readings.{Noted, Plain, Begins, First, Copies, Says, Unobserved}
 use Rattle.whole_history.specs.Worked.{noted, server, ask_for, host, token, con, empty_ack, empty_rst}
@@ -65,3 +65,7 @@ abbrev pub crossed : List Noted
 crossed =
     noted 5000 (Answers 1 4 (Live (9 ∷ []))) Plain
     ∷ answered
+
+-- the journal sealed where there is room, while two asks wait
+abbrev pub sealed_early : List Noted
+sealed_early = noted 600 Seals Plain ∷ waiting

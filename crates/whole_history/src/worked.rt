@@ -30,10 +30,11 @@ pub fn spoiled_sendings()
 {}
 
 /// What is heard or answered wrongly: a repeat as a new message, a Reset message after an ACK, a 504
-/// too early, a reply to another request.
+/// too early, a reply to another request. And a journal that is sealed where there is room.
 pub fn spoiled_answers()
     ensures heard_as_new { Refused S.heard_as_new }
     ensures rejected_late { Refused S.rejected_late }
     ensures timed_out_early { Refused S.timed_out_early }
     ensures crossed { Refused S.crossed }
+    ensures sealed_early { Refused S.sealed_early }
 {}

@@ -1,3 +1,4 @@
+use Rattle.core_steps.proofs.Alone.{sealed-answers}
 use Rattle.core_steps.proofs.InRoom.{ticks-in-room, ticks-promptly}
 use Rattle.core_steps.proofs.sealing.ticks_keep_room.Goals as goal
 
@@ -6,3 +7,6 @@ returns-clause-keeps c = ticks-in-room
 
 pub returns-clause-promptly : goal.returns-clause-promptly
 returns-clause-promptly c = ticks-promptly
+
+pub returns-clause-sealed : goal.returns-clause-sealed
+returns-clause-sealed c = sealed-answers

@@ -1,4 +1,4 @@
-use Rattle.whole_history.proofs.Spoiled.{heard_as_new-refused, rejected_late-refused, timed_out_early-refused, crossed-refused}
+use Rattle.whole_history.proofs.Spoiled.{heard_as_new-refused, rejected_late-refused, timed_out_early-refused, crossed-refused, sealed_early-refused}
 use Rattle.whole_history.proofs.worked.spoiled_answers.Goals as goal
 
 pub returns-clause-heard_as_new : goal.returns-clause-heard_as_new
@@ -12,3 +12,6 @@ returns-clause-timed_out_early c = timed_out_early-refused
 
 pub returns-clause-crossed : goal.returns-clause-crossed
 returns-clause-crossed c = crossed-refused
+
+pub returns-clause-sealed_early : goal.returns-clause-sealed_early
+returns-clause-sealed_early c = sealed_early-refused
