@@ -40,7 +40,10 @@ le-true : (a b : ℕ) → nat_le a b ≡ true → a ≤ b
 le-true a b e = elim (leb_tells a b) [ inl w ↦ w.1 | inr w ↦ absurd (false≢true (sym w.0 ∙ e)) ]
 
 le-from : (a b : ℕ) → a ≤ b → nat_le a b ≡ true
-le-from a b h = elim (leb_tells a b) [ inl w ↦ w.0 | inr w ↦ absurd (let lt = w.1 in omega (arith, h, lt)) ]
+le-from a b h = elim (leb_tells a b) [
+  | inl w ↦ w.0
+  | inr w ↦ absurd (let lt = w.1 in omega (arith, h, lt))
+]
 
 fits-parts : (S : State) → fits S ≡ true → (entries_taken S ≤ 65536) × (bytes_taken S ≤ 268435456)
 fits-parts S h =
@@ -72,7 +75,8 @@ tidy-of : (S : State) → KeptInRoom S → Tidy S.links
 tidy-of S k = record { short = k.short; apart = k.apart }
 
 -- What doesn't fit may be sealed.
-full : (l : List Noted) (S S1 : State) (n b : ℕ) → Reads l S → S.sealed ≡ false → Adds n b S S1 → fits S1 ≡ false → n ≤ H.step_entries l → b ≤ H.step_bytes l → H.MaySeal l
+full : (l : List Noted) (S S1 : State) (n b : ℕ) → Reads l S → S.sealed ≡ false → Adds n b S S1
+    → fits S1 ≡ false → n ≤ H.step_entries l → b ≤ H.step_bytes l → H.MaySeal l
 full l S S1 n b r unsealed a e few small =
     let g = a.entries in
     let k = a.bytes in
@@ -86,7 +90,8 @@ full l S S1 n b r unsealed a e few small =
       | inr w ↦ inr (let h = w in omega (arith, h, k, large, conns, asked, seal, small))
     ]
 
-abbrev may-step : (t : ℕ) (S : State) (k : KeptInRoom S) → S.sealed ≡ false → S.moment ≤ t → MayStep t S
+abbrev may-step : (t : ℕ) (S : State) (k : KeptInRoom S) → S.sealed ≡ false → S.moment ≤ t
+    → MayStep t S
 may-step t S k unsealed later = record { kept = k.kept; unsealed = unsealed; later = later }
 
 sealed-fits : (t : ℕ) (S : State) → S.sealed ≡ false → fits S ≡ true → fits (seals t S) ≡ true
@@ -100,7 +105,8 @@ sealed-fits t S unsealed h =
     let larger = sum_by_push entry_size S.entries w in
     fits-from (seals t S) (omega (arith, e, seal, longer)) (omega (arith, f, seal, larger))
 
-seals-in-room : (t : ℕ) (S : State) (k : KeptInRoom S) → S.sealed ≡ false → S.moment ≤ t → H.MaySeal k.kept.reading → KeptInRoom (seals t S)
+seals-in-room : (t : ℕ) (S : State) (k : KeptInRoom S) → S.sealed ≡ false → S.moment ≤ t
+    → H.MaySeal k.kept.reading → KeptInRoom (seals t S)
 seals-in-room t S k unsealed later may = record {
   kept = seals-keeps t S (may-step t S k unsealed later) may;
   fit = sealed-fits t S unsealed k.fit;
@@ -109,15 +115,19 @@ seals-in-room t S k unsealed later may = record {
 }
 
 -- A step that is kept, and adds no more than one may.
-stepped : (t : ℕ) (S S1 : State) (n b : ℕ) (k : KeptInRoom S) → S.sealed ≡ false → S.moment ≤ t → Kept S1 → Adds n b S S1
-    → n ≤ H.step_entries k.kept.reading → b ≤ H.step_bytes k.kept.reading → KeptInRoom (in_room t S1 S)
+stepped : (t : ℕ) (S S1 : State) (n b : ℕ) (k : KeptInRoom S) → S.sealed ≡ false → S.moment ≤ t
+    → Kept S1 → Adds n b S S1
+    → n ≤ H.step_entries k.kept.reading → b ≤ H.step_bytes k.kept.reading
+    → KeptInRoom (in_room t S1 S)
 stepped t S S1 n b k unsealed later kept a few small = by (fits S1) refl
   where
     by : (v : Bool) → fits S1 ≡ v → KeptInRoom (cond v S1 (seals t S))
     by true e = record { kept = kept; fit = e; short = a.tidy.short; apart = a.tidy.apart }
-    by false e = seals-in-room t S k unsealed later (full k.kept.reading S S1 n b k.kept.rests.reads unsealed a e few small)
+    by false e = seals-in-room t S k unsealed later
+        (full k.kept.reading S S1 n b k.kept.rests.reads unsealed a e few small)
 
-guarded : (t : ℕ) (S S1 : State) → KeptInRoom S → (S.sealed ≡ false → KeptInRoom (in_room t S1 S)) → KeptInRoom (if_unsealed t S1 S)
+guarded : (t : ℕ) (S S1 : State) → KeptInRoom S → (S.sealed ≡ false → KeptInRoom (in_room t S1 S))
+    → KeptInRoom (if_unsealed t S1 S)
 guarded t S S1 k step = by S.sealed refl
   where
     by : (v : Bool) → S.sealed ≡ v → KeptInRoom (cond v S (in_room t S1 S))
@@ -150,14 +160,21 @@ opens-in-room t S k later = guarded t S (opens t S) k
     let l = k.kept.reading in
     let few = three l in
     let small = an-ask l in
-    stepped t S (opens t S) 2 128 k unsealed later (opens-keeps t S (may-step t S k unsealed later)) (opens-adds t S (tidy-of S k)) (omega (arith, few)) (omega (arith, small)))
+    stepped t S (opens t S) 2 128 k unsealed later (opens-keeps t S (may-step t S k unsealed later))
+    (opens-adds t S (tidy-of S k)) (omega (arith, few)) (omega (arith, small)))
 
 pub shuts-in-room : ShutsInRoom
 shuts-in-room t c p S k later has =
     let fewer = shuts-fewer c p S.conns has in
     let none = count-filter has_asked (λ (x : Conn). not (eqb x.id c)) S.conns in
-    let adds = counted 0 0 S (shuts t c S) _ refl refl (tidy-of S k) (omega (arith, fewer, none)) (omega (arith, fewer, none)) in
-    record { kept = shuts-keeps t c p S k.kept later has; fit = adds-fit S (shuts t c S) adds k.fit; short = k.short; apart = k.apart }
+    let adds = counted 0 0 S (shuts t c S) _ refl refl (tidy-of S k) (omega (arith, fewer, none))
+    (omega (arith, fewer, none)) in
+    record {
+      kept = shuts-keeps t c p S k.kept later has;
+      fit = adds-fit S (shuts t c S) adds k.fit;
+      short = k.short;
+      apart = k.apart;
+    }
 
 pub asks-in-room : AsksInRoom
 asks-in-room t c a n S k later has proper numbered sized = guarded t S (asked t c a n S) k
@@ -166,25 +183,36 @@ asks-in-room t c a n S k later has proper numbered sized = guarded t S (asked t 
     let few = three l in
     let small = an-ask l in
     let size = sized.request in
-    stepped t S (asked t c a n S) 3 (92144 + came_size a.came) k unsealed later (asks-keeps t c a n S (may-step t S k unsealed later) has proper numbered)
-    (asked-adds l t c a n S k.kept.rests.reads (tidy-of S k) has sized.message) few (omega (arith, small, size)))
+    stepped t S (asked t c a n S) 3 (92144 + came_size a.came) k unsealed later
+    (asks-keeps t c a n S (may-step t S k unsealed later) has proper numbered)
+    (asked-adds l t c a n S k.kept.rests.reads (tidy-of S k) has sized.message) few
+    (omega (arith, small, size)))
 
 pub hears-in-room : HearsInRoom
 hears-in-room t p d S k later bytes = guarded t S (heard t p d S) k
     (λ unsealed.
     let l = k.kept.reading in
     let small = an-ask l in
-    stepped t S (heard t p d S) 3 4260 k unsealed later (hears-keeps t p d S (may-step t S k unsealed later) bytes) (heard-adds t p d S (tidy-of S k)) (three l) (omega (arith, small)))
+    stepped t S (heard t p d S) 3 4260 k unsealed later
+    (hears-keeps t p d S (may-step t S k unsealed later) bytes) (heard-adds t p d S (tidy-of S k))
+    (three l) (omega (arith, small)))
 
 -- a tick
 
-late-in-room : (t : ℕ) (S : State) → KeptInRoom S → S.sealed ≡ true → S.moment ≤ t → KeptInRoom (late t S)
+late-in-room : (t : ℕ) (S : State) → KeptInRoom S → S.sealed ≡ true → S.moment ≤ t
+    → KeptInRoom (late t S)
 late-in-room t S k sealed later =
     let adds = all-end-adds t (filter (is_past t) S.exchanges) S (tidy-of S k) in
-    record { kept = late-kept t S k.kept sealed later; fit = adds-fit S (late t S) adds k.fit; short = adds.tidy.short; apart = adds.tidy.apart }
+    record {
+      kept = late-kept t S k.kept sealed later;
+      fit = adds-fit S (late t S) adds k.fit;
+      short = adds.tidy.short;
+      apart = adds.tidy.apart;
+    }
 
 -- A tick adds its entry, and one message at each endpoint where one is outstanding.
-tick-full : (t : ℕ) (S : State) (k : KeptInRoom S) → S.sealed ≡ false → fits (ticked t S) ≡ false → H.MaySeal k.kept.reading
+tick-full : (t : ℕ) (S : State) (k : KeptInRoom S) → S.sealed ≡ false → fits (ticked t S) ≡ false
+    → H.MaySeal k.kept.reading
 tick-full t S k unsealed e =
     let l = k.kept.reading in
     let r = k.kept.rests in
@@ -192,35 +220,54 @@ tick-full t S k unsealed e =
     let busy = busy-count l S r.reads k.apart in
     let few = le-max_right 3 (1 + H.outstanding_count l) in
     let small = le-max_right 2189296 (64 + H.sending_size * H.outstanding_count l) in
-    full l S (ticked t S) (1 + n) (64 + 2080 * n) r.reads unsealed (ticked-adds t _ S (tidy-of S k) r.links) e (omega (arith, busy, few)) (omega (arith, busy, small))
+    full l S (ticked t S) (1 + n) (64 + 2080 * n) r.reads unsealed
+    (ticked-adds t _ S (tidy-of S k) r.links) e (omega (arith, busy, few))
+    (omega (arith, busy, small))
 
-sealed-now : (t : ℕ) (S : State) (k : KeptInRoom S) → S.sealed ≡ false → S.moment ≤ t → fits (ticked t S) ≡ false → KeptInRoom (seals t S)
+sealed-now : (t : ℕ) (S : State) (k : KeptInRoom S) → S.sealed ≡ false → S.moment ≤ t
+    → fits (ticked t S) ≡ false → KeptInRoom (seals t S)
 sealed-now t S k unsealed later e = seals-in-room t S k unsealed later (tick-full t S k unsealed e)
 
 pub ticks-in-room : TicksInRoom
 ticks-in-room t S k later = by S.sealed refl
   where
-    new : S.sealed ≡ false → (v : Bool) → fits (ticked t S) ≡ v → KeptInRoom (cond v (ticked t S) (late t (seals t S)))
+    new : S.sealed ≡ false → (v : Bool) → fits (ticked t S) ≡ v
+        → KeptInRoom (cond v (ticked t S) (late t (seals t S)))
     new unsealed true e =
         let adds = ticked-adds t _ S (tidy-of S k) k.kept.rests.links in
-        record { kept = ticks-keeps t S (may-step t S k unsealed later); fit = e; short = adds.tidy.short; apart = adds.tidy.apart }
-    new unsealed false e = late-in-room t (seals t S) (sealed-now t S k unsealed later e) refl (omega arith)
+        record {
+          kept = ticks-keeps t S (may-step t S k unsealed later);
+          fit = e;
+          short = adds.tidy.short;
+          apart = adds.tidy.apart;
+        }
+    new unsealed false e = late-in-room t (seals t S) (sealed-now t S k unsealed later e) refl
+        (omega arith)
 
-    by : (v : Bool) → S.sealed ≡ v → KeptInRoom (cond v (late t S) (cond (fits (ticked t S)) (ticked t S) (late t (seals t S))))
+    by : (v : Bool) → S.sealed ≡ v
+        → KeptInRoom (cond v (late t S)
+        (cond (fits (ticked t S)) (ticked t S) (late t (seals t S))))
     by true e = late-in-room t S k e later
     by false e = new e (fits (ticked t S)) refl
 
 pub ticks-promptly : TicksPromptly
 ticks-promptly t S k later = by S.sealed refl
   where
-    all-prompt : (S1 : State) → AllByRecursion (λ (e : Exchange). t < e.since + max_transmit_wait) S1.exchanges → (cs : List Conn) → AllByRecursion (IsPrompt t S1.exchanges) cs
+    all-prompt : (S1 : State)
+        → AllByRecursion (λ (e : Exchange). t < e.since + max_transmit_wait) S1.exchanges
+        → (cs : List Conn) → AllByRecursion (IsPrompt t S1.exchanges) cs
     all-prompt S1 a [] = tt
     all-prompt S1 a (x ∷ xs) = (all-more _ _ (λ e h w. h) S1.exchanges a, all-prompt S1 a xs)
 
-    new : S.sealed ≡ false → (v : Bool) → fits (ticked t S) ≡ v → ArePrompt t (cond v (ticked t S) (late t (seals t S)))
-    new unsealed true e = all-prompt (ticked t S) (ticks-do t S (may-step t S k unsealed later)).in_time (ticked t S).conns
-    new unsealed false e = late-prompt t (seals t S) (sealed-now t S k unsealed later e).kept refl (omega arith)
+    new : S.sealed ≡ false → (v : Bool) → fits (ticked t S) ≡ v
+        → ArePrompt t (cond v (ticked t S) (late t (seals t S)))
+    new unsealed true e = all-prompt (ticked t S)
+        (ticks-do t S (may-step t S k unsealed later)).in_time (ticked t S).conns
+    new unsealed false e = late-prompt t (seals t S) (sealed-now t S k unsealed later e).kept refl
+        (omega arith)
 
-    by : (v : Bool) → S.sealed ≡ v → ArePrompt t (cond v (late t S) (cond (fits (ticked t S)) (ticked t S) (late t (seals t S))))
+    by : (v : Bool) → S.sealed ≡ v
+        → ArePrompt t
+        (cond v (late t S) (cond (fits (ticked t S)) (ticked t S) (late t (seals t S))))
     by true e = late-prompt t S k.kept e later
     by false e = new e (fits (ticked t S)) refl

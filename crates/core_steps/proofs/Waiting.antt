@@ -15,10 +15,15 @@ has_id c x = eqb x.id c
 
 -- an ask
 
-one-asks : (c n : ℕ) (x : Conn) → one (has_asked (pend c (Some n) x)) ≤ one (has_asked x) + one (has_id c x)
-one-asks c n x = elim (eqb_tells x.id c) [ inl w ↦ rw (w.0) (omega arith) | inr w ↦ rw (w.0) (omega arith) ]
+one-asks : (c n : ℕ) (x : Conn)
+    → one (has_asked (pend c (Some n) x)) ≤ one (has_asked x) + one (has_id c x)
+one-asks c n x = elim (eqb_tells x.id c) [
+  | inl w ↦ rw (w.0) (omega arith)
+  | inr w ↦ rw (w.0) (omega arith)
+]
 
-pub asks-more : (c n : ℕ) (xs : List Conn) → count_by has_asked (map (pend c (Some n)) xs) ≤ count_by has_asked xs + count_by (has_id c) xs
+pub asks-more : (c n : ℕ) (xs : List Conn)
+    → count_by has_asked (map (pend c (Some n)) xs) ≤ count_by has_asked xs + count_by (has_id c) xs
 asks-more c n [] = omega arith
 asks-more c n (x ∷ xs) =
     let ih = asks-more c n xs in
@@ -30,14 +35,20 @@ asks-more c n (x ∷ xs) =
 
 -- an ask that is answered at once
 
-one-refused : (c n : ℕ) (x : Conn) → one (has_asked (pend c None (pend c (Some n) x))) ≤ one (has_asked x)
-one-refused c n x = elim (eqb_tells x.id c) [ inl w ↦ rw (w.0, w.0) (omega arith) | inr w ↦ rw (w.0, w.0) (omega arith) ]
+one-refused : (c n : ℕ) (x : Conn)
+    → one (has_asked (pend c None (pend c (Some n) x))) ≤ one (has_asked x)
+one-refused c n x = elim (eqb_tells x.id c) [
+  | inl w ↦ rw (w.0, w.0) (omega arith)
+  | inr w ↦ rw (w.0, w.0) (omega arith)
+]
 
-pub refuses-none : (c n : ℕ) (xs : List Conn) → count_by has_asked (map (pend c None) (map (pend c (Some n)) xs)) ≤ count_by has_asked xs
+pub refuses-none : (c n : ℕ) (xs : List Conn)
+    → count_by has_asked (map (pend c None) (map (pend c (Some n)) xs)) ≤ count_by has_asked xs
 refuses-none c n [] = omega arith
 refuses-none c n (x ∷ xs) =
     let ih = refuses-none c n xs in
-    let new = count-cons has_asked (pend c None (pend c (Some n) x)) (map (pend c None) (map (pend c (Some n)) xs)) in
+    let new = count-cons has_asked (pend c None (pend c (Some n) x))
+    (map (pend c None) (map (pend c (Some n)) xs)) in
     let old = count-cons has_asked x xs in
     let here = one-refused c n x in
     omega (arith, ih, new, old, here)
@@ -45,9 +56,13 @@ refuses-none c n (x ∷ xs) =
 -- an answer
 
 one-answers : (c : ℕ) (x : Conn) → one (has_asked (pend c None x)) ≤ one (has_asked x)
-one-answers c x = elim (eqb_tells x.id c) [ inl w ↦ rw (w.0) (omega arith) | inr w ↦ rw (w.0) (omega arith) ]
+one-answers c x = elim (eqb_tells x.id c) [
+  | inl w ↦ rw (w.0) (omega arith)
+  | inr w ↦ rw (w.0) (omega arith)
+]
 
-answers-no-more : (c : ℕ) (xs : List Conn) → count_by has_asked (map (pend c None) xs) ≤ count_by has_asked xs
+answers-no-more : (c : ℕ) (xs : List Conn)
+    → count_by has_asked (map (pend c None) xs) ≤ count_by has_asked xs
 answers-no-more c [] = omega arith
 answers-no-more c (x ∷ xs) =
     let ih = answers-no-more c xs in
@@ -56,10 +71,12 @@ answers-no-more c (x ∷ xs) =
     let here = one-answers c x in
     omega (arith, ih, new, old, here)
 
-one-answered : (c k : ℕ) (x : Conn) → x.id ≡ c → x.pending ≡ Some k → one (has_asked (pend c None x)) + 1 ≡ one (has_asked x)
+one-answered : (c k : ℕ) (x : Conn) → x.id ≡ c → x.pending ≡ Some k
+    → one (has_asked (pend c None x)) + 1 ≡ one (has_asked x)
 one-answered c k x same is = rw (same, eqb-itself c, is) refl
 
-pub answers-fewer : (c k : ℕ) (xs : List Conn) → HasConn xs c (Some k) → count_by has_asked (map (pend c None) xs) + 1 ≤ count_by has_asked xs
+pub answers-fewer : (c k : ℕ) (xs : List Conn) → HasConn xs c (Some k)
+    → count_by has_asked (map (pend c None) xs) + 1 ≤ count_by has_asked xs
 answers-fewer c k [] h = absurd h
 answers-fewer c k (x ∷ xs) (inl h) =
     let rest = answers-no-more c xs in
@@ -76,9 +93,11 @@ answers-fewer c k (x ∷ xs) (inr h) =
 
 -- a connection is opened, or shut
 
-pub opens-none : (n : ℕ) (xs : List Conn) → count_by has_asked (xs ++ record { id = n; pending = None } ∷ []) ≡ count_by has_asked xs
+pub opens-none : (n : ℕ) (xs : List Conn)
+    → count_by has_asked (xs ++ record { id = n; pending = None } ∷ []) ≡ count_by has_asked xs
 opens-none n xs =
-    let sum = sum_by-append (λ (x : Conn). cond (has_asked x) 1 0) xs (record { id = n; pending = None } ∷ []) in
+    let sum = sum_by-append (λ (x : Conn). cond (has_asked x) 1 0) xs
+    (record { id = n; pending = None } ∷ []) in
     omega (arith, sum)
 
 abbrev pub others : ℕ → List Conn → List Conn
@@ -90,9 +109,11 @@ no-more c (x ∷ xs) =
     let rest = no-more c xs in
     elim (eqb_tells x.id c) [ inl w ↦ rw (w.0) (omega arith) | inr w ↦ rw (w.0) (omega arith) ]
 
-pub shuts-fewer : (c : ℕ) (p : Option ℕ) (xs : List Conn) → HasConn xs c p → length (others c xs) + 1 ≤ length xs
+pub shuts-fewer : (c : ℕ) (p : Option ℕ) (xs : List Conn) → HasConn xs c p
+    → length (others c xs) + 1 ≤ length xs
 shuts-fewer c p [] h = absurd h
-shuts-fewer c p (x ∷ xs) (inl h) = let rest = no-more c xs in rw (h.0, eqb-itself c) (omega (arith, rest))
+shuts-fewer c p (x ∷ xs) (inl h) = let rest = no-more c xs in rw (h.0, eqb-itself c)
+    (omega (arith, rest))
 shuts-fewer c p (x ∷ xs) (inr h) =
     let rest = shuts-fewer c p xs h in
     elim (eqb_tells x.id c) [ inl w ↦ rw (w.0) (omega arith) | inr w ↦ rw (w.0) (omega arith) ]

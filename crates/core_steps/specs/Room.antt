@@ -26,8 +26,8 @@ abbrev pub seals_left : Bool → ℕ
 seals_left true = 0
 seals_left false = 1
 
--- Held free are a Shut for each connection, an answer for each ask that waits, and the Sealed: what is
--- taken with these.
+-- Held free are a Shut for each connection, an answer for each ask that waits, and the Sealed: what
+-- is taken with these.
 abbrev pub entries_taken : State → ℕ
 entries_taken S =
     length S.entries + length S.conns + asks_waiting S + seals_left S.sealed

@@ -33,8 +33,8 @@ asks_in_room t c a n S = if_unsealed t (asked t c a n S) S
 abbrev pub hears_in_room : ℕ → Peer → List ℕ → State → State
 hears_in_room t p d S = if_unsealed t (heard t p d S) S
 
--- A tick of a sealed core answers the asks whose exchanges have been open for as long as they may, in
--- the order in which they were opened.
+-- A tick of a sealed core answers the asks whose exchanges have been open for as long as they may,
+-- in the order in which they were opened.
 abbrev pub late : ℕ → State → State
 late t S = fold (times_out t) S (filter (is_past t) S.exchanges)
 

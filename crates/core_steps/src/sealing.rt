@@ -24,8 +24,8 @@ pub fn calls_keep_room()
     ensures hears { HearsInRoom }
 {}
 
-/// So does a tick, sealed or not, after which nobody waits for an exchange that has been open for as
-/// long as it may (RFC 7252 section 4.8.2).
+/// So does a tick, sealed or not, after which nobody waits for an exchange that has been open for
+/// as long as it may (RFC 7252 section 4.8.2). After the seal it adds answers alone.
 pub fn ticks_keep_room()
     ensures keeps { TicksInRoom }
     ensures promptly { TicksPromptly }
