@@ -45,15 +45,15 @@ le-from a b h = elim (leb_tells a b) [
   | inr w ↦ absurd (let lt = w.1 in omega (arith, h, lt))
 ]
 
-fits-parts : (S : State) → fits S ≡ true → (entries_taken S ≤ 65536) × (bytes_taken S ≤ 268435456)
+pub fits-parts : (S : State) → fits S ≡ true → (entries_taken S ≤ 65536) × (bytes_taken S ≤ 268435456)
 fits-parts S h =
     let both = and-both (nat_le (entries_taken S) 65536) (nat_le (bytes_taken S) 268435456) h in
     (le-true (entries_taken S) 65536 both.0, le-true (bytes_taken S) 268435456 both.1)
 
-fits-from : (S : State) → entries_taken S ≤ 65536 → bytes_taken S ≤ 268435456 → fits S ≡ true
+pub fits-from : (S : State) → entries_taken S ≤ 65536 → bytes_taken S ≤ 268435456 → fits S ≡ true
 fits-from S h g = rw (le-from (entries_taken S) 65536 h, le-from (bytes_taken S) 268435456 g) refl
 
-fits-not : (S : State) → fits S ≡ false → (65536 < entries_taken S) ⊎ (268435456 < bytes_taken S)
+pub fits-not : (S : State) → fits S ≡ false → (65536 < entries_taken S) ⊎ (268435456 < bytes_taken S)
 fits-not S h = elim (leb_tells (entries_taken S) 65536) [
   | inl v ↦ elim (leb_tells (bytes_taken S) 268435456) [
     | inl w ↦ absurd (false≢true (sym h ∙ fits-from S v.1 w.1))
@@ -62,7 +62,7 @@ fits-not S h = elim (leb_tells (entries_taken S) 65536) [
   | inr v ↦ inl (v.1)
 ]
 
-adds-fit : (S S1 : State) → Adds 0 0 S S1 → fits S ≡ true → fits S1 ≡ true
+pub adds-fit : (S S1 : State) → Adds 0 0 S S1 → fits S ≡ true → fits S1 ≡ true
 adds-fit S S1 a h =
     let parts = fits-parts S h in
     let e = parts.0 in
