@@ -255,7 +255,7 @@ asks-keeps t c a n S m h proper numbered = by a.sense refl
     by (Requests q) is = place (has_place t q.peer S) refl
       where
         place : (v : Bool) → has_place t q.peer S ≡ v → Kept (cond v (next t q.peer (begins t c a q n.token n.text n.word S)) (refused t c a C.Busy S))
-        place true e = opened-for t c a q n S m h is (numbered q is) e
+        place true e = opened-for t c a q n S m h is (numbered q is e) e
         place false e = at-once t c a C.Busy S m h (rw (is) (room-same m.kept.reading t q S (before-step t S m) ∙ e))
             (λ l k stands. (refl, record { moment = t; conn = c; ask = a; request = q; stands = stands; sense = is }))
 

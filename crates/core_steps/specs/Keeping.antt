@@ -1,6 +1,6 @@
 -- The law of the steps: between two of them one reading of the journal is legal, at rest, and says
 -- what the state says.
-use Rattle.std.specs.Prelude.{◌≡◌, ℕ, ◌+◌, ◌<◌, ◌≤◌, false, List, [], length, Option, None}
+use Rattle.std.specs.Prelude.{◌≡◌, ℕ, ◌+◌, ◌<◌, ◌≤◌, true, false, List, [], length, Option, None}
 use Rattle.std.specs.List.{AllByRecursion}
 use Rattle.coap_codec.specs.Spelling.{Spells}
 use Rattle.uri_map.specs.declared.peer.Peer.{Peer}
@@ -17,7 +17,7 @@ use Rattle.core_steps.specs.declared.kept.Exchange.{Exchange}
 use Rattle.core_steps.specs.State.{State, link_of}
 use Rattle.core_steps.specs.Steps.{opens, shuts, seals}
 use Rattle.core_steps.specs.Resting.{LinkRests, Rests, HasConn}
-use Rattle.core_steps.specs.Calls.{Numbers, asked, heard, ticked}
+use Rattle.core_steps.specs.Calls.{Numbers, has_place, asked, heard, ticked}
 
 -- IDs are two bytes, and there are enough of them for all messages that wait.
 pub record HasMids (s : LinkState) : Type 0 where
@@ -84,7 +84,7 @@ abbrev pub AsksKeeps : Type 0
 AsksKeeps =
     (t c : ℕ) (a : Ask) (n : Numbers) (S : State)
     → MayStep t S → HasConn S.conns c None → IsProper a.sense
-    → ((q : CoapRequest) → a.sense ≡ Requests q → IsNumbered q n S)
+    → ((q : CoapRequest) → a.sense ≡ Requests q → has_place t q.peer S ≡ true → IsNumbered q n S)
     → Kept (asked t c a n S)
 
 abbrev pub HearsKeeps : Type 0

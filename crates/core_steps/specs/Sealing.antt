@@ -12,7 +12,7 @@ use Rattle.core_steps.specs.declared.kept.Exchange.{Exchange}
 use Rattle.core_steps.specs.State.{State}
 use Rattle.core_steps.specs.Steps.{opens, shuts, seals, is_past}
 use Rattle.core_steps.specs.Resting.{HasConn}
-use Rattle.core_steps.specs.Calls.{Numbers, asked, heard, times_out, ticked}
+use Rattle.core_steps.specs.Calls.{Numbers, has_place, asked, heard, times_out, ticked}
 use Rattle.core_steps.specs.Keeping.{start, IsProper, IsNumbered}
 use Rattle.core_steps.specs.Room.{fits, KeptInRoom}
 
@@ -65,7 +65,8 @@ abbrev pub AsksInRoom : Type 0
 AsksInRoom =
     (t c : ℕ) (a : Ask) (n : Numbers) (S : State)
     → KeptInRoom S → S.moment ≤ t → HasConn S.conns c None → IsProper a.sense
-    → ((q : CoapRequest) → a.sense ≡ Requests q → IsNumbered q n S) → IsSized a n
+    → ((q : CoapRequest) → a.sense ≡ Requests q → has_place t q.peer S ≡ true → IsNumbered q n S)
+    → IsSized a n
     → KeptInRoom (asks_in_room t c a n S)
 
 abbrev pub HearsInRoom : Type 0
