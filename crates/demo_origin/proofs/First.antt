@@ -1,0 +1,187 @@
+-- A request is executed the first time that it is heard, and not again while it is remembered.
+use Rattle.std.proofs.Common.{◌≡◌, ℕ, zero, suc, ◌+◌, ◌-◌, ◌<◌, ◌≤◌, ◌⊎◌, inl, inr, List, [], ◌∷◌, ◌++◌, filter, Contains, Option, Some, None, Result, Ok, Err, IfOk, IsSome, Bool, true, false, cond, ◌==◌, ◌&&◌, nat_lt, length, refl, sym, ap, subst, ◌∙◌, arith}
+use Rattle.std.specs.List.{find, AllByRecursion}
+use Rattle.std.proofs.lemmas.Bool.{and_parts, and_from, ltb-true, lt-ltb}
+use Rattle.std.proofs.lemmas.Bool.Decides.{Decides-eqb}
+use Rattle.std.proofs.lemmas.List.Elements.{Contains-append_left, Contains-push}
+use Rattle.std.proofs.lemmas.Slice.Eq.{bytes_eq-Decides}
+use Rattle.std.specs.declared.net.ip_addr.IpAddr.{IpAddr}
+use Rattle.std.specs.declared.net.ip_addr.IpAddr.TheVariants as Ip
+use Rattle.uri_map.specs.declared.peer.Peer.{Peer}
+use Rattle.coap_codec.specs.Spelling.{Content}
+use Rattle.coap_codec.specs.Reading.{message_at}
+use Rattle.coap_codec.specs.declared.fault.CodecFault.{CodecFault}
+use Rattle.coap_codec.specs.declared.message.MsgType.{MsgType}
+use Rattle.coap_codec.specs.declared.message.MsgType.TheVariants.{Con, Non, Ack, Rst}
+use Rattle.demo_origin.specs.Values.{Device, Relation}
+use Rattle.demo_origin.specs.Peers.{same_address, same_peer}
+use Rattle.demo_origin.specs.Arrivals.{is_live, is_repeat, is_full, is_request, arrived_before, arrival_of, arrival_by, arrival}
+use Rattle.demo_origin.specs.Answers.{memory_of, Answers, Reads, sent, answered}
+use Rattle.demo_origin.specs.Requests.{judged}
+use Rattle.demo_origin.specs.Hearing.{asker, rst, undecoded, Executes, Processes, Takes, HearsRead, HearsBy, Hears}
+use Rattle.demo_origin.specs.Once.{IsRemembered, IsFirst}
+use Rattle.demo_origin.specs.declared.answer.Asker.{Asker}
+use Rattle.demo_origin.specs.declared.state.Held.{Held}
+use Rattle.demo_origin.specs.declared.state.Remembered.{Remembered}
+use Rattle.demo_origin.specs.declared.fault.Memory.{Memory}
+use Rattle.demo_origin.specs.declared.execution.Taken.{Taken}
+use Rattle.demo_origin.specs.declared.arrival.Arrival.{Arrival}
+use Rattle.demo_origin.specs.declared.arrival.Arrival.TheVariants.{Ignored, Rejected, Repeated, Fresh}
+use Rattle.demo_origin.specs.declared.judge.Judged.{Judged}
+use Rattle.demo_origin.specs.declared.judge.Judged.TheVariants.{Dropped, Refused, Read, Asked}
+
+-- none is found, so none is there
+none_found : {X : Type 0} (p : X → Bool) (xs : List X) (x : X)
+    → find p xs ≡ None → Contains xs x → p x ≡ true → ⊥
+none_found p [] x none (k, lt, is) passes = absurd (omega arith)
+none_found {X} p (y ∷ ys) x none (zero, lt, is) passes =
+    let at : p y ≡ true = ap p is ∙ passes in
+    let P : Bool → Type 0 = λ b. cond b (Some y) (find p ys) ≡ None in
+    let found : Some y ≡ None = subst P at none in
+    cc
+none_found {X} p (y ∷ ys) x none (suc k, lt, is) passes =
+    let more : find p ys ≡ None → ⊥ =
+    λ e. none_found p ys x e (k, omega arith, is) passes in
+    let Q : Bool → Type 0 = λ b. cond b (Some y) (find p ys) ≡ None → ⊥ in
+    let each : (b : Bool) → Q b = λ b. elim b as Q [ true ↦ λ e. cc | false ↦ more ] in
+    each (p y) none
+
+-- what passes stays in a filtered list
+pub stays : {X : Type 0} (p : X → Bool) (xs : List X) (x : X)
+    → p x ≡ true → Contains xs x → Contains (filter p xs) x
+stays p [] x passes (k, lt, is) = absurd (omega arith)
+stays {X} p (y ∷ ys) x passes (zero, lt, is) =
+    let at : p y ≡ true = ap p is ∙ passes in
+    let P : Bool → Type 0 = λ b. Contains (cond b (y ∷ filter p ys) (filter p ys)) x in
+    subst P (sym at) (zero, omega arith, is)
+stays {X} p (y ∷ ys) x passes (suc k, lt, is) =
+    let more : Contains (filter p ys) x = stays p ys x passes (k, omega arith, is) in
+    let P : Bool → Type 0 = λ b. Contains (cond b (y ∷ filter p ys) (filter p ys)) x in
+    elim (p y) as P [ true ↦ (suc more.0, omega (arith, more.1), more.2) | false ↦ more ]
+
+address_itself : (a : IpAddr) → same_address a a ≡ true
+address_itself (Ip.V4 a) = (bytes_eq-Decides a.octets a.octets).1 refl
+address_itself (Ip.V6 a) = (bytes_eq-Decides a.segments a.segments).1 refl
+
+peer_itself : (p : Peer) → same_peer p p ≡ true
+peer_itself p =
+    and_from _ _ (address_itself p.address) ((Decides-eqb p.port p.port).1 refl)
+
+-- what an answer leaves is remembered for 247 s
+repeats : (t u : ℕ) (p : Peer) (m : Content) (bytes : List ℕ)
+    → u < t + 247000 → is_repeat u p m.mid (memory_of (asker t p m) bytes) ≡ true
+repeats t u p m bytes lt =
+    and_from _ _ ((Decides-eqb m.mid m.mid).1 refl)
+    (and_from _ _ (peer_itself p) (lt-ltb (u - t) 247000 (omega arith)))
+
+-- What is new was not remembered.
+before_is_none : (c : Bool) (o : Option Remembered) (full : Bool)
+    → arrived_before c o full ≡ Fresh → o ≡ None
+before_is_none true (Some r) full e = cc
+before_is_none false (Some r) full e = cc
+before_is_none c None full e = refl
+
+other : (c : Bool) (o : Option Remembered)
+    → cond c Rejected Ignored ≡ Fresh → o ≡ None
+other true o e = cc
+other false o e = cc
+
+of_kind : (c : Bool) (t : ℕ) (p : Peer) (m : Content) (s : Device)
+    → arrival_of c t p m s ≡ Fresh → find (is_repeat t p m.mid) s.remembered ≡ None
+of_kind c t p m s e =
+    let o = find (is_repeat t p m.mid) s.remembered in
+    let P : Bool → Type 0 = λ b.
+    cond b (arrived_before c o (is_full t p s)) (cond c Rejected Ignored) ≡ Fresh
+    → o ≡ None in
+    let each : (b : Bool) → P b =
+    λ b. elim b as P [ true ↦ before_is_none c o (is_full t p s) | false ↦ other c o ] in
+    each (is_request m.code) e
+
+by_kind : (k : MsgType) (t : ℕ) (p : Peer) (m : Content) (s : Device)
+    → arrival_by k t p m s ≡ Fresh → find (is_repeat t p m.mid) s.remembered ≡ None
+by_kind Con t p m s e = of_kind true t p m s e
+by_kind Non t p m s e = of_kind false t p m s e
+by_kind Ack t p m s e = cc
+by_kind Rst t p m s e = cc
+
+pub is_new : (t : ℕ) (p : Peer) (m : Content) (s : Device)
+    → arrival t p m s ≡ Fresh → ¬ IsRemembered t p m.mid s
+is_new t p m s e r =
+    none_found (is_repeat t p m.mid) s.remembered r.0 (by_kind m.kind t p m s e) r.1 r.2
+
+-- An answer adds what is remembered of its request.
+pub record Adds (to : Asker) (old new : Device) : Type 0 where
+  pub bytes : List ℕ
+  pub is : new.remembered ≡ filter (is_live to.moment) old.remembered ++ memory_of to bytes ∷ []
+
+pub executes_adds : (holds : Relation) (to : Asker) (m : Content) (i : ℕ) (method : _) (old new : Device)
+    (taken : Taken) → Executes holds to m i method old new taken → Adds to old new
+executes_adds holds to m i method old new taken h = record {
+  bytes = h.changes.answers.bytes;
+  is = ap (λ (d : Device). d.remembered) h.changes.is
+      ∙ ap (λ (d : Device). d.remembered) h.changes.answers.is;
+}
+
+pub answers_add : (to : Asker) (code : ℕ) (options : _) (payload : List ℕ) (old new : Device)
+    → Answers to code options payload old new → Adds to old new
+answers_add to code options payload old new h =
+    record { bytes = h.bytes; is = ap (λ (d : Device). d.remembered) h.is }
+
+not_some : (o : Option Taken) → o ≡ None → IsSome o → ⊥
+not_some None e s = cc
+not_some (Some x) e s = cc
+
+processes_adds : (holds : Relation) (to : Asker) (m : Content) (j : Judged) (old new : Device)
+    (taken : Option Taken) → Processes holds to m j old new taken → IsSome taken → Adds to old new
+processes_adds holds to m Dropped old new taken h s = absurd (not_some taken h.1 s)
+processes_adds holds to m (Refused code) old new taken h s = absurd (not_some taken h.1 s)
+processes_adds holds to m (Read i) old new taken h s = absurd (not_some taken h.1 s)
+processes_adds holds to m (Asked i method) old new taken h s =
+    executes_adds holds to m i method old new h.0 h.2
+
+takes_first : (holds : Relation) (t : ℕ) (p : Peer) (m : Content) (a : Arrival) (old new : Device)
+    (taken : Option Taken) → arrival t p m old ≡ a → Takes holds t p m a old new taken → IsSome taken
+    → Adds (asker t p m) old new × (¬ IsRemembered t p m.mid old)
+takes_first holds t p m Ignored old new taken e h s = absurd (not_some taken h.1 s)
+takes_first holds t p m Rejected old new taken e h s = absurd (not_some taken h.1 s)
+takes_first holds t p m (Repeated answer) old new taken e h s = absurd (not_some taken h.1 s)
+takes_first holds t p m Fresh old new taken e h s = (
+  processes_adds holds (asker t p m) m (judged m old.resources) old new taken h s,
+  is_new t p m old e,
+)
+
+remembers : (t : ℕ) (p : Peer) (m : Content) (old new : Device) → Adds (asker t p m) old new
+    → (u : ℕ) → u < t + 247000 → IsRemembered u p m.mid new
+remembers t p m old new h u lt =
+    let r = memory_of (asker t p m) h.bytes in
+    let P : List Remembered → Type 0 = λ rs. Contains rs r in (
+      r,
+      subst P (sym h.is) (Contains-push (filter (is_live t) old.remembered) r),
+      repeats t u p m h.bytes lt,
+    )
+
+reads_first : (holds : Relation) (t : ℕ) (p : Peer) (d : List ℕ) (r : Result Content CodecFault)
+    (old new : Device) (taken : Option Taken) → message_at d ≡ r
+    → HearsRead holds t p d r old new taken → IsSome taken → IsFirst t p d old new
+reads_first holds t p d (Ok m) old new taken e h s =
+    let x = takes_first holds t p m (arrival t p m old) old new taken refl h s in
+    record { message = m; reads = e; first = x.1; kept = remembers t p m old new x.0 }
+reads_first holds t p d (Err f) old new taken e h s = absurd (not_some taken h.1 s)
+
+by_length : (b : Bool) (holds : Relation) (t : ℕ) (p : Peer) (d : List ℕ) (old new : Device)
+    (taken : Option Taken) → HearsBy b holds t p d old new taken → IsSome taken
+    → IsFirst t p d old new
+by_length true holds t p d old new taken h s = absurd (not_some taken h.1 s)
+by_length false holds t p d old new taken h s =
+    reads_first holds t p d (message_at d) old new taken refl h s
+
+pub hears_first : (holds : Relation) (t : ℕ) (p : Peer) (d : List ℕ) (old new : Device)
+    (taken : Option Taken) → Hears holds t p d old new taken → IsSome taken → IsFirst t p d old new
+hears_first holds t p d old new taken h s =
+    by_length (nat_lt 2048 (length d)) holds t p d old new taken h s
+
+pub first_of : (holds : Relation) (t : ℕ) (p : Peer) (d : List ℕ) (old new : Device)
+    (r : Result (Option Taken) Memory) → IfOk r (λ taken. Hears holds t p d old new taken)
+    → IfOk r (λ taken. IsSome taken → IsFirst t p d old new)
+first_of holds t p d old new (Ok taken) h = λ s. hears_first holds t p d old new taken h s
+first_of holds t p d old new (Err e) h = tt

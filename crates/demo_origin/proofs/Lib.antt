@@ -1,0 +1,5 @@
+pub mod Lists
+pub mod Each
+pub mod Entries
+pub mod First
+pub mod Repeats

@@ -1,0 +1,154 @@
+-- What was answered is remembered, whatever is heard after it.
+use Rattle.std.proofs.Common.{◌≡◌, ℕ, ◌+◌, ◌-◌, ◌<◌, ◌≤◌, ◌⊎◌, inl, inr, List, [], ◌∷◌, ◌++◌, length, filter, Contains, Option, Some, None, Result, Ok, Err, Bool, true, false, ◌==◌, ◌&&◌, nat_lt, refl, sym, ap, subst, ◌∙◌, arith}
+use Rattle.std.specs.List.{AllByRecursion}
+use Rattle.std.proofs.lemmas.Bool.{and_parts, and_from, ltb-true, lt-ltb}
+use Rattle.std.proofs.lemmas.List.Elements.{Contains-append_left}
+use Rattle.uri_map.specs.declared.peer.Peer.{Peer}
+use Rattle.coap_codec.specs.Spelling.{Content}
+use Rattle.coap_codec.specs.Reading.{message_at}
+use Rattle.coap_codec.specs.declared.fault.CodecFault.{CodecFault}
+use Rattle.message_layer.specs.Hearing.{reset_for}
+use Rattle.demo_origin.specs.Values.{Device, Relation}
+use Rattle.demo_origin.specs.Peers.{same_peer}
+use Rattle.demo_origin.specs.Arrivals.{is_live, is_repeat, arrival}
+use Rattle.demo_origin.specs.Answers.{Answers, Reads, memory_of}
+use Rattle.demo_origin.specs.Requests.{judged}
+use Rattle.demo_origin.specs.Hearing.{asker, undecoded, Executes, Processes, Takes, HearsRead, HearsBy, Hears}
+use Rattle.demo_origin.specs.Origins.{ticked, sent_by, sent_out}
+use Rattle.demo_origin.specs.Once.{IsRemembered, IsFirst, Event, heard, looked, gave, Steps, Runs, IsBy, Executed, ExecutedOnce}
+use Rattle.demo_origin.specs.declared.answer.Asker.{Asker}
+use Rattle.demo_origin.specs.declared.state.Held.{Held}
+use Rattle.demo_origin.specs.declared.state.Datagram.{Datagram}
+use Rattle.demo_origin.specs.declared.state.Remembered.{Remembered}
+use Rattle.demo_origin.specs.declared.execution.Taken.{Taken}
+use Rattle.demo_origin.specs.declared.arrival.Arrival.{Arrival}
+use Rattle.demo_origin.specs.declared.arrival.Arrival.TheVariants.{Ignored, Rejected, Repeated, Fresh}
+use Rattle.demo_origin.specs.declared.judge.Judged.{Judged}
+use Rattle.demo_origin.specs.declared.judge.Judged.TheVariants.{Dropped, Refused, Read, Asked}
+use Rattle.demo_origin.proofs.First.{stays, answers_add, executes_adds, Adds, hears_first}
+
+-- What is remembered stays, or only what is too old goes and something is added.
+abbrev Keeps : ℕ → Device → Device → Type 0
+Keeps t old new =
+    (new.remembered ≡ old.remembered)
+    ⊎ ((more : List Remembered)
+    × (new.remembered ≡ filter (is_live t) old.remembered ++ more))
+
+same : (t : ℕ) (old new : Device) → new ≡ old → Keeps t old new
+same t old new e = inl (ap (λ (d : Device). d.remembered) e)
+
+adds : (to : Asker) (old new : Device) → Adds to old new → Keeps to.moment old new
+adds to old new h = inr (memory_of to h.bytes ∷ [], h.is)
+
+reads : (to : Asker) (o : Option Held) (old new : Device)
+    → Reads to o old new → Keeps to.moment old new
+reads to None old new h = absurd h
+reads to (Some held) old new h =
+    adds to old new (answers_add to 69 h.0 held.state old new h.2)
+
+processes : (holds : Relation) (to : Asker) (m : Content) (j : Judged) (old new : Device)
+    (taken : Option Taken) → Processes holds to m j old new taken → Keeps to.moment old new
+processes holds to m Dropped old new taken h = same to.moment old new h.0
+processes holds to m (Refused code) old new taken h =
+    adds to old new (answers_add to code [] [] old new h.0)
+processes holds to m (Read i) old new taken h = reads to _ old new h.0
+processes holds to m (Asked i method) old new taken h =
+    adds to old new (executes_adds holds to m i method old new h.0 h.2)
+
+takes : (holds : Relation) (t : ℕ) (p : Peer) (m : Content) (a : Arrival) (old new : Device)
+    (taken : Option Taken) → Takes holds t p m a old new taken → Keeps t old new
+takes holds t p m Ignored old new taken h = same t old new h.0
+takes holds t p m Rejected old new taken h = inl (ap (λ (d : Device). d.remembered) h.0)
+takes holds t p m (Repeated answer) old new taken h =
+    inl (ap (λ (d : Device). d.remembered) h.0)
+takes holds t p m Fresh old new taken h =
+    processes holds (asker t p m) m (judged m old.resources) old new taken h
+
+resets : (t : ℕ) (p : Peer) (o : Option ℕ) (old new : Device)
+    → new ≡ undecoded p o old → Keeps t old new
+resets t p None old new e = same t old new e
+resets t p (Some mid) old new e = inl (ap (λ (d : Device). d.remembered) e)
+
+hears_read : (holds : Relation) (t : ℕ) (p : Peer) (d : List ℕ) (r : Result Content CodecFault)
+    (old new : Device) (taken : Option Taken)
+    → HearsRead holds t p d r old new taken → Keeps t old new
+hears_read holds t p d (Ok m) old new taken h =
+    takes holds t p m (arrival t p m old) old new taken h
+hears_read holds t p d (Err f) old new taken h = resets t p (reset_for d) old new h.0
+
+hears : (b : Bool) (holds : Relation) (t : ℕ) (p : Peer) (d : List ℕ) (old new : Device)
+    (taken : Option Taken) → HearsBy b holds t p d old new taken → Keeps t old new
+hears true holds t p d old new taken h = same t old new h.0
+hears false holds t p d old new taken h = hears_read holds t p d (message_at d) old new taken h
+
+-- what is a repeat later is live before
+live_before : (t u : ℕ) (p : Peer) (mid : ℕ) (r : Remembered)
+    → t ≤ u → is_repeat u p mid r ≡ true → is_live t r ≡ true
+live_before t u p mid r le e =
+    let a = and_parts (r.mid == mid) _ e in
+    let b = and_parts (same_peer r.peer p) _ a.1 in
+    let c = ltb-true (u - r.moment) 247000 b.1 in
+    lt-ltb (t - r.moment) 247000 (omega (arith, c))
+
+keeps : (t u : ℕ) (p : Peer) (mid : ℕ) (old new : Device)
+    → t ≤ u → Keeps t old new → IsRemembered u p mid old → IsRemembered u p mid new
+keeps t u p mid old new le k r =
+    let P : List Remembered → Type 0 = λ rs. Contains rs r.0 in
+    elim k [
+      | inl e ↦ (r.0, subst P (sym e) r.1, r.2)
+      | inr m ↦ (
+        r.0,
+        subst P (sym m.1) (Contains-append_left (filter (is_live t) old.remembered) m.0 r.0
+            (stays (is_live t) old.remembered r.0 (live_before t u p mid r.0 le r.2) r.1)),
+        r.2,
+      )
+    ]
+
+gives : (u : ℕ) (p : Peer) (mid : ℕ) (ds : List Datagram) (s : Device)
+    → IsRemembered u p mid s → IsRemembered u p mid (sent_by s ds).0
+gives u p mid [] s r = r
+gives u p mid (d ∷ ds) s r = r
+
+steps : (holds : Relation) (u : ℕ) (p : Peer) (mid : ℕ) (e : Event) (old new : Device)
+    → IsBy u e → Steps holds e old new → IsRemembered u p mid old → IsRemembered u p mid new
+steps holds u p mid (heard t q d taken) old new by s r =
+    keeps t u p mid old new by (hears (nat_lt 2048 (length d)) holds t q d old new taken s) r
+steps holds u p mid (looked t) old new by s r =
+    let P : Device → Type 0 = λ x. IsRemembered u p mid x in
+    subst P (sym s) (
+      r.0,
+      stays (is_live t) old.remembered r.0 (live_before t u p mid r.0 by r.2) r.1,
+      r.2,
+    )
+steps holds u p mid gave old new by s r =
+    let P : Device → Type 0 = λ x. IsRemembered u p mid x in
+    subst P (sym s) (gives u p mid old.out old r)
+
+runs : (holds : Relation) (u : ℕ) (p : Peer) (mid : ℕ) (es : List Event) (old new : Device)
+    → AllByRecursion (IsBy u) es → Runs holds es old new
+    → IsRemembered u p mid old → IsRemembered u p mid new
+runs holds u p mid [] old new by s r =
+    let P : Device → Type 0 = λ x. IsRemembered u p mid x in subst P (sym s) r
+runs holds u p mid (e ∷ es) old new by s r =
+    runs holds u p mid es s.0 new by.1 s.2 (steps holds u p mid e old s.0 by.0 s.1 r)
+
+same_mid : (d : List ℕ) (m n : Content)
+    → message_at d ≡ Ok m → message_at d ≡ Ok n → m.mid ≡ n.mid
+same_mid d m n e f =
+    let same : m ≡ n = cc in ap (λ (x : Content). x.mid) same
+
+first : (holds : Relation) (t : ℕ) (p : Peer) (mid : ℕ) (old new : Device)
+    (x : Executed holds t p mid old new) (f : IsFirst t p x.datagram old new) → f.message.mid ≡ mid
+first holds t p mid old new x f =
+    same_mid x.datagram f.message x.message f.reads x.reads ∙ x.mid_is
+
+pub executed_once : (holds : Relation) → ExecutedOnce holds
+executed_once holds es old a b new t u p mid x run by lt y =
+    let f = hears_first holds t p x.datagram old a (Some x.taken) x.hears refl in
+    let g = hears_first holds u p y.datagram b new (Some y.taken) y.hears refl in
+    let P : ℕ → Type 0 = λ n. IsRemembered u p n a in
+    let Q : ℕ → Type 0 = λ n. ¬ IsRemembered u p n b in
+    let kept : IsRemembered u p mid a =
+    subst P (first holds t p mid old a x f) (f.kept u lt) in
+    let none : ¬ IsRemembered u p mid b = subst Q (first holds u p mid b new y g) g.first in
+    none (runs holds u p mid es a b by run kept)

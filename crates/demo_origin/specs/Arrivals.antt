@@ -1,0 +1,61 @@
+-- Whether a message is a request that is to be processed (RFC 7252, sections 4.2, 4.3 and 4.5).
+use Rattle.std.specs.Prelude.{ℕ, ◌-◌, List, length, count_by, Option, Some, None, Bool, true, false, not, nat_lt, nat_le, ◌==◌, ◌&&◌, ◌||◌, if◌then◌else◌}
+use Rattle.std.specs.List.{list_any, find}
+use Rattle.uri_map.specs.declared.peer.Peer.{Peer}
+use Rattle.coap_codec.specs.Spelling.{Content}
+use Rattle.coap_codec.specs.declared.message.MsgType.{MsgType}
+use Rattle.coap_codec.specs.declared.message.MsgType.TheVariants.{Con, Non, Ack, Rst}
+use Rattle.demo_origin.specs.Values.{Device}
+use Rattle.demo_origin.specs.Peers.{same_peer, is_client}
+use Rattle.demo_origin.specs.declared.state.Client.{Client}
+use Rattle.demo_origin.specs.declared.state.Remembered.{Remembered}
+use Rattle.demo_origin.specs.declared.arrival.Arrival.{Arrival}
+use Rattle.demo_origin.specs.declared.arrival.Arrival.TheVariants.{Ignored, Rejected, Repeated, Fresh}
+
+-- Within this time messages of a peer with the same ID are one and the same (EXCHANGE_LIFETIME,
+-- section 4.8.2).
+abbrev pub is_live : ℕ → Remembered → Bool
+is_live t r = nat_lt (t - r.moment) 247000
+
+abbrev pub is_live_of : ℕ → Peer → Remembered → Bool
+is_live_of t p r = same_peer r.peer p && is_live t r
+
+-- it answered the same message
+abbrev pub is_repeat : ℕ → Peer → ℕ → Remembered → Bool
+is_repeat t p mid r = (r.mid == mid) && is_live_of t p r
+
+-- A further peer after 256 counts as lost, and a further message of a peer's after 1,024.
+abbrev pub is_full : ℕ → Peer → Device → Bool
+is_full t p s =
+    (not (list_any (is_client p) s.clients) && nat_le 256 (length s.clients))
+    || nat_le 1024 (count_by (is_live_of t p) s.remembered)
+
+-- Codes 0.01 to 0.31 are those of requests (section 12.1.1).
+abbrev pub is_request : ℕ → Bool
+is_request code = nat_lt 0 code && nat_lt code 32
+
+-- one that was answered: a CON gets the same answer again
+abbrev pub arrived_before : Bool → Option Remembered → Bool → Arrival
+arrived_before true (Some r) full = Repeated r.answer
+arrived_before false (Some r) full = Ignored
+arrived_before confirms None full = if full then Ignored else Fresh
+
+-- A CON that is no request is rejected: an empty one is a ping (section 4.3).
+abbrev pub arrival_of : Bool → ℕ → Peer → Content → Device → Arrival
+arrival_of confirms t p m s =
+    if is_request m.code
+    then arrived_before confirms (find (is_repeat t p m.mid) s.remembered) (is_full t p s)
+    else (if confirms then Rejected else Ignored)
+
+abbrev pub arrival_by : MsgType → ℕ → Peer → Content → Device → Arrival
+arrival_by Con t p m s = arrival_of true t p m s
+arrival_by Non t p m s = arrival_of false t p m s
+arrival_by Ack t p m s = Ignored
+arrival_by Rst t p m s = Ignored
+
+abbrev pub arrival : ℕ → Peer → Content → Device → Arrival
+arrival t p m s = arrival_by m.kind t p m s
+
+-- something of the peer's is remembered
+abbrev pub is_remembered : List Remembered → Client → Bool
+is_remembered rs c = list_any (λ (r : Remembered). same_peer r.peer c.peer) rs

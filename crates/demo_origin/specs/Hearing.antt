@@ -1,0 +1,126 @@
+-- What a datagram does to a device.
+use Rattle.std.specs.Prelude.{◌≡◌, ◌<◌, ◌⊎◌, ℕ, ◌+◌, ◌/◌, ◌%◌, List, [], ◌∷◌, length, set, slice_get, Option, Some, None, Result, Ok, Err, Bool, true, false, not, ◌||◌, nat_lt, if◌then◌else◌}
+use Rattle.std.specs.Str.{bytes_eq}
+use Rattle.uri_map.specs.declared.peer.Peer.{Peer}
+use Rattle.coap_codec.specs.Spelling.{Content}
+use Rattle.coap_codec.specs.Reading.{message_at}
+use Rattle.coap_codec.specs.declared.fault.CodecFault.{CodecFault}
+use Rattle.message_layer.specs.Hearing.{reset_for}
+use Rattle.demo_origin.specs.Values.{Device, Relation, Replied}
+use Rattle.demo_origin.specs.Arrivals.{arrival}
+use Rattle.demo_origin.specs.Requests.{asked, judged}
+use Rattle.demo_origin.specs.Keeps.{IsKept}
+use Rattle.demo_origin.specs.Answers.{Answers, Reads, sent}
+use Rattle.demo_origin.specs.declared.answer.Asker.{Asker}
+use Rattle.demo_origin.specs.declared.state.Held.{Held}
+use Rattle.demo_origin.specs.declared.request.Method.{Method}
+use Rattle.demo_origin.specs.declared.request.CoapRequest.{CoapRequest}
+use Rattle.demo_origin.specs.declared.execution.Taken.{Taken}
+use Rattle.demo_origin.specs.declared.execution.Outcome.{Outcome}
+use Rattle.demo_origin.specs.declared.arrival.Arrival.{Arrival}
+use Rattle.demo_origin.specs.declared.arrival.Arrival.TheVariants.{Ignored, Rejected, Repeated, Fresh}
+use Rattle.demo_origin.specs.declared.judge.Judged.{Judged}
+use Rattle.demo_origin.specs.declared.judge.Judged.TheVariants.{Dropped, Refused, Read, Asked}
+
+abbrev pub reply_of : Outcome → Replied
+reply_of o = record { code = o.code; payload = o.payload.items; changed = o.changed }
+
+-- A handler's new state is a change where it is another one, or where the handler says so.
+abbrev pub is_change : List ℕ → List ℕ → Replied → Bool
+is_change before after reply = reply.changed || not (bytes_eq before after)
+
+-- a resource with that state, and one version more for a change
+abbrev pub stated : Held → Bool → List ℕ → Held
+stated h changed after = record h {
+  state = after;
+  version = if changed then h.version + 1 else h.version;
+}
+
+abbrev pub taken_from : Held → Method → ℕ → List ℕ → Taken
+taken_from h method code after = record {
+  path = h.path;
+  method = method;
+  code = code;
+  before = h.state;
+  after = after;
+}
+
+abbrev pub with_resource : ℕ → Held → Device → Device
+with_resource i h s = record s { resources = set s.resources i h }
+
+-- the request is answered by the reply, the resource changes, and what was done is told
+pub record ChangesHeld (to : Asker) (i : ℕ) (method : Method) (held : Held)
+    (after : List ℕ) (reply : Replied) (old new : Device) (taken : Taken) : Type 0 where
+  pub middle : Device
+  pub answers : Answers to reply.code [] reply.payload old middle
+  pub is : new ≡ with_resource i (stated held (is_change held.state after reply) after) middle
+  pub told : taken ≡ taken_from held method reply.code after
+
+abbrev pub Changes : Asker → ℕ → Method → Option Held
+    → List ℕ → Replied → Device → Device → Taken → Type 0
+Changes to i method None after reply old new taken = ⊥
+Changes to i method (Some held) after reply old new taken =
+    ChangesHeld to i method held after reply old new taken
+
+-- What comes of a request: what a handler that keeps the relation may make of it, or 5.00 and no
+-- change where it takes no such request.
+abbrev pub Comes : Relation → List ℕ → CoapRequest → List ℕ → Replied → Type 0
+Comes holds before request after reply =
+    IsKept (holds before request) after reply
+    ⊎ ((after ≡ before) × (reply ≡ record { code = 160; payload = []; changed = false }))
+
+-- a request is executed: once, on the state as it stands
+pub record Executes (holds : Relation) (to : Asker) (m : Content) (i : ℕ) (method : Method)
+    (old new : Device) (taken : Taken) : Type 0 where
+  pub held : Held
+  pub there : slice_get old.resources i ≡ Some held
+  pub after : List ℕ
+  pub reply : Replied
+  pub comes : Comes holds held.state (asked method m) after reply
+  pub changes : ChangesHeld to i method held after reply old new taken
+
+-- a request that wasn't answered before
+abbrev pub Processes : Relation → Asker → Content → Judged
+    → Device → Device → Option Taken → Type 0
+Processes holds to m Dropped old new taken = (new ≡ old) × (taken ≡ None)
+Processes holds to m (Refused code) old new taken =
+    Answers to code [] [] old new × (taken ≡ None)
+Processes holds to m (Read i) old new taken =
+    Reads to (slice_get old.resources i) old new × (taken ≡ None)
+Processes holds to m (Asked i method) old new taken =
+    (done : Taken) × (taken ≡ Some done) × Executes holds to m i method old new done
+
+abbrev pub rst : ℕ → List ℕ
+rst mid = 112 ∷ 0 ∷ (mid / 256) ∷ (mid % 256) ∷ []
+
+abbrev pub asker : ℕ → Peer → Content → Asker
+asker t p m = record { peer = p; moment = t; kind = m.kind; mid = m.mid; token = m.token }
+
+abbrev pub Takes : Relation → ℕ → Peer → Content → Arrival
+    → Device → Device → Option Taken → Type 0
+Takes holds t p m Ignored old new taken = (new ≡ old) × (taken ≡ None)
+Takes holds t p m Rejected old new taken = (new ≡ sent p (rst m.mid) old) × (taken ≡ None)
+Takes holds t p m (Repeated answer) old new taken =
+    (new ≡ sent p answer old) × (taken ≡ None)
+Takes holds t p m Fresh old new taken =
+    Processes holds (asker t p m) m (judged m old.resources) old new taken
+
+-- what is no message, but shows four bytes of a CON, is rejected (RFC 7252, section 4.2)
+abbrev pub undecoded : Peer → Option ℕ → Device → Device
+undecoded p None s = s
+undecoded p (Some mid) s = sent p (rst mid) s
+
+abbrev pub HearsRead : Relation → ℕ → Peer → List ℕ → Result Content CodecFault
+    → Device → Device → Option Taken → Type 0
+HearsRead holds t p d (Ok m) old new taken = Takes holds t p m (arrival t p m old) old new taken
+HearsRead holds t p d (Err e) old new taken =
+    (new ≡ undecoded p (reset_for d) old) × (taken ≡ None)
+
+-- A datagram above 2,048 bytes counts as lost.
+abbrev pub HearsBy : Bool → Relation → ℕ → Peer → List ℕ
+    → Device → Device → Option Taken → Type 0
+HearsBy true holds t p d old new taken = (new ≡ old) × (taken ≡ None)
+HearsBy false holds t p d old new taken = HearsRead holds t p d (message_at d) old new taken
+
+abbrev pub Hears : Relation → ℕ → Peer → List ℕ → Device → Device → Option Taken → Type 0
+Hears holds t p d old new taken = HearsBy (nat_lt 2048 (length d)) holds t p d old new taken

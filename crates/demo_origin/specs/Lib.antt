@@ -1,0 +1,9 @@
+pub mod Values
+pub mod Peers
+pub mod Arrivals
+pub mod Requests
+pub mod Keeps
+pub mod Answers
+pub mod Hearing
+pub mod Origins
+pub mod Once

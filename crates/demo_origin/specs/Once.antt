@@ -1,0 +1,66 @@
+-- At most once: of each message, and over whole runs (RFC 7252, section 4.5).
+use Rattle.std.specs.Prelude.{◌≡◌, ◌<◌, ◌≤◌, ◌+◌, ℕ, List, [], ◌∷◌, Contains, Option, Some, true, Ok}
+use Rattle.std.specs.List.{AllByRecursion}
+use Rattle.uri_map.specs.declared.peer.Peer.{Peer}
+use Rattle.coap_codec.specs.Spelling.{Content}
+use Rattle.coap_codec.specs.Reading.{message_at}
+use Rattle.demo_origin.specs.Values.{Device, Relation}
+use Rattle.demo_origin.specs.Arrivals.{is_repeat}
+use Rattle.demo_origin.specs.Hearing.{Hears}
+use Rattle.demo_origin.specs.Origins.{ticked, sent_out}
+use Rattle.demo_origin.specs.declared.state.Remembered.{Remembered}
+use Rattle.demo_origin.specs.declared.execution.Taken.{Taken}
+
+-- At that moment a message of the peer's with that ID is one that was answered before.
+abbrev pub IsRemembered : ℕ → Peer → ℕ → Device → Type 0
+IsRemembered t p mid s =
+    (r : Remembered) × Contains s.remembered r × (is_repeat t p mid r ≡ true)
+
+-- The message is a new one, and is remembered for 247 s.
+pub record IsFirst (t : ℕ) (p : Peer) (datagram : List ℕ) (old new : Device) : Type 0 where
+  pub message : Content
+  pub reads : message_at datagram ≡ Ok message
+  pub first : ¬ IsRemembered t p message.mid old
+  pub kept : (u : ℕ) → u < t + 247000 → IsRemembered u p message.mid new
+
+-- a call, with what it heard and told
+pub data Event : Type 0 where
+  heard : ℕ → Peer → List ℕ → Option Taken → Event
+  looked : ℕ → Event
+  gave : Event
+
+-- what a call leaves
+abbrev pub Steps : Relation → Event → Device → Device → Type 0
+Steps holds (heard t p d taken) old new = Hears holds t p d old new taken
+Steps holds (looked t) old new = new ≡ ticked t old
+Steps holds gave old new = new ≡ (sent_out old).0
+
+-- what calls one after another leave
+abbrev pub Runs : Relation → List Event → Device → Device → Type 0
+Runs holds [] old new = new ≡ old
+Runs holds (e ∷ es) old new =
+    (middle : Device) × Steps holds e old middle × Runs holds es middle new
+
+-- the call's moment is that one at the latest
+abbrev pub IsBy : ℕ → Event → Type 0
+IsBy u (heard t p d taken) = t ≤ u
+IsBy u (looked t) = t ≤ u
+IsBy u gave = Unit {0}
+
+-- a message of the peer's with that ID is executed
+pub record Executed (holds : Relation) (t : ℕ) (p : Peer) (mid : ℕ) (old new : Device) : Type 0
+  where
+    pub datagram : List ℕ
+    pub message : Content
+    pub reads : message_at datagram ≡ Ok message
+    pub mid_is : message.mid ≡ mid
+    pub taken : Taken
+    pub hears : Hears holds t p datagram old new (Some taken)
+
+-- After a message was executed, none of that peer's with that ID is executed within 247 s, whatever
+-- is heard between them.
+abbrev pub ExecutedOnce : Relation → Type 0
+ExecutedOnce holds =
+    (es : List Event) (old a b new : Device) (t u : ℕ) (p : Peer) (mid : ℕ)
+    → Executed holds t p mid old a → Runs holds es a b → AllByRecursion (IsBy u) es
+    → u < t + 247000 → ¬ Executed holds u p mid b new

@@ -1,0 +1,43 @@
+-- Who asked.
+use Rattle.std.specs.Prelude.{ℕ, ◌+◌, ◌%◌, List, [], ◌∷◌, ◌++◌, map, Option, Some, None, Bool, false, ◌==◌, ◌&&◌, if◌then◌else◌}
+use Rattle.std.specs.List.{list_any, find}
+use Rattle.std.specs.Option.{option_map_or}
+use Rattle.std.specs.Str.{bytes_eq}
+use Rattle.std.specs.declared.net.ip_addr.IpAddr.{IpAddr}
+use Rattle.std.specs.declared.net.ip_addr.IpAddr.TheVariants as Ip
+use Rattle.uri_map.specs.declared.peer.Peer.{Peer}
+use Rattle.coap_codec.specs.declared.message.MsgType.{MsgType}
+use Rattle.coap_codec.specs.declared.message.MsgType.TheVariants.{Con, Non, Ack, Rst}
+use Rattle.demo_origin.specs.declared.state.Client.{Client}
+
+abbrev pub same_address : IpAddr → IpAddr → Bool
+same_address (Ip.V4 a) (Ip.V4 b) = bytes_eq a.octets b.octets
+same_address (Ip.V6 a) (Ip.V6 b) = bytes_eq a.segments b.segments
+same_address _ _ = false
+
+-- an address and a port are one endpoint (RFC 7252, section 1.2)
+abbrev pub same_peer : Peer → Peer → Bool
+same_peer p q = same_address p.address q.address && (p.port == q.port)
+
+abbrev pub is_client : Peer → Client → Bool
+is_client p c = same_peer c.peer p
+
+-- the message ID of the next answer that isn't piggybacked (RFC 7252, section 5.2)
+abbrev pub own_mid : Peer → List Client → ℕ
+own_mid p clients = option_map_or (λ (c : Client). c.next_mid) (find (is_client p) clients) 0
+
+abbrev pub after_answer : MsgType → ℕ → ℕ
+after_answer Con n = n
+after_answer Non n = (n + 1) % 65536
+after_answer Ack n = n
+after_answer Rst n = n
+
+abbrev pub stepped : Peer → MsgType → Client → Client
+stepped p kind c =
+    if is_client p c then (record c { next_mid = after_answer kind c.next_mid }) else c
+
+-- the peers that are known after an answer to a message of that type
+abbrev pub known_after : Peer → MsgType → List Client → List Client
+known_after p kind clients =
+    if list_any (is_client p) clients then map (stepped p kind) clients
+    else (clients ++ record { peer = p; next_mid = after_answer kind 0 } ∷ [])

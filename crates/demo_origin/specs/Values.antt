@@ -1,0 +1,40 @@
+-- What a device is to its users.
+use Rattle.std.specs.Prelude.{ℕ, List, Bool}
+use Rattle.demo_origin.specs.declared.state.Held.{Held}
+use Rattle.demo_origin.specs.declared.state.Client.{Client}
+use Rattle.demo_origin.specs.declared.state.Remembered.{Remembered}
+use Rattle.demo_origin.specs.declared.state.Datagram.{Datagram}
+use Rattle.demo_origin.specs.declared.state.State.{State}
+use Rattle.demo_origin.specs.declared.request.CoapRequest.{CoapRequest}
+use Rattle.demo_origin.specs.declared.request.Reply.{Reply}
+
+pub record Device : Type 0 where
+  -- in the order in which they are looked up
+  pub resources : List Held
+  -- the peers that are known
+  pub clients : List Client
+  -- the requests that were answered, and are not executed again
+  pub remembered : List Remembered
+  -- the datagrams to be given out, in order
+  pub out : List Datagram
+
+abbrev pub seen : State → Device
+seen s = record {
+  resources = s.resources.items;
+  clients = s.clients.items;
+  remembered = s.remembered.items;
+  out = s.out.items;
+}
+
+-- a reply without where it lies in memory
+pub record Replied : Type 0 where
+  pub code : ℕ
+  pub payload : List ℕ
+  pub changed : Bool
+
+abbrev pub replied : Reply → Replied
+replied r = record { code = r.code; payload = r.payload.items; changed = r.changed }
+
+-- what handlers keep: of the state before, the request, the state after, and the reply
+abbrev pub Relation : Type 1
+Relation = List ℕ → CoapRequest → List ℕ → Replied → Type 0

@@ -1,0 +1,231 @@
+//! Answers: how they are sent and remembered.
+
+ghost use Rattle.std.specs.Prelude.{◌≡◌, ◌≢◌, ◌<◌, ◌≤◌, ◌+◌, ◌∷◌, ◌++◌, [], map, filter, IfOk, OnOk, OnErr, vec_len, vec_capacity};
+ghost use Rattle.std.specs.List.{find, AllByRecursion};
+ghost use Rattle.std.specs.Option.{option_map};
+ghost use Rattle.std.specs.VecDeque.{deque_len, deque_capacity};
+ghost use Rattle.coap_codec.specs.Spelling.{Spells, entries};
+ghost use Rattle.coap_codec.specs.Writing.{IsInOrder, IsShort};
+ghost use Rattle.demo_origin.specs.Values.{seen};
+ghost use Rattle.demo_origin.specs.Peers.{is_client, own_mid, after_answer, stepped, known_after};
+ghost use Rattle.demo_origin.specs.Arrivals.{is_live, is_remembered};
+ghost use Rattle.demo_origin.specs.Answers.{answer_kind, answer_mid, answer_to, sent, answered, Answers, HasRoom};
+
+use crate::arrival::{is_known, is_live, is_same_peer};
+use crate::fault::{Memory, out_of_memory};
+use crate::state::{Client, Datagram, Remembered, State};
+use coap_codec::{Message, MsgType, Opt, Token, encode};
+use message_layer::Bytes;
+use std::alloc::{AllocError, Global};
+use uri_map::Peer;
+
+/// The type of an answer to a message of that type.
+pub(crate) fn answer_kind(kind: MsgType) -> MsgType
+    ensures { result ≡ answer_kind kind }
+{
+    match kind {
+        MsgType::Con => MsgType::Ack,
+        _ => MsgType::Non,
+    }
+}
+
+/// The ID of an answer.
+pub(crate) fn answer_mid(kind: MsgType, mid: u16, own: u16) -> u16
+    ensures { result ≡ answer_mid kind mid own }
+{
+    match kind {
+        MsgType::Con => mid,
+        _ => own,
+    }
+}
+
+/// What is known of the peer.
+fn client_of<'a>(clients: &'a [Client], peer: &Peer) -> Option<&'a Client>
+    ensures { option_map (λ c. c.now) result ≡ find (is_client peer.now) clients.now }
+{
+    clients.iter().find(|c| is_same_peer(&c.peer, peer))
+}
+
+/// The ID that the next NON answer to the peer has.
+fn own_mid(clients: &[Client], peer: &Peer) -> u16
+    ensures { result ≡ own_mid peer.now clients.now }
+{
+    match client_of(clients, peer) {
+        Some(c) => c.next_mid,
+        None => 0,
+    }
+}
+
+fn after_answer(kind: MsgType, mid: u16) -> u16
+    ensures { result ≡ after_answer kind mid }
+{
+    match kind {
+        MsgType::Non => mid.wrapping_add(1),
+        _ => mid,
+    }
+}
+
+fn stepped(c: Client, peer: &Peer, kind: MsgType) -> Client
+    ensures { result ≡ stepped peer.now kind c }
+{
+    if is_same_peer(&c.peer, peer) {
+        Client {
+            peer: c.peer,
+            next_mid: after_answer(kind, c.next_mid),
+        }
+    } else {
+        c
+    }
+}
+
+fn step_each(clients: &mut [Client], peer: &Peer, kind: MsgType)
+    ensures { clients.new ≡ map (stepped peer.now kind) clients.old }
+{
+    'each: for c in clients.iter_mut() {
+        *c = stepped(*c, peer, kind);
+    }
+}
+
+fn know(clients: &mut Vec<Client>, peer: Peer, kind: MsgType)
+    requires { vec_len clients.old < vec_capacity clients.old }
+    ensures { clients.new.items ≡ known_after peer kind clients.old.items }
+{
+    if is_known(clients, &peer) {
+        step_each(clients, &peer, kind);
+    } else {
+        clients.push_reserved(Client {
+            peer,
+            next_mid: after_answer(kind, 0),
+        });
+    }
+}
+
+/// Forgets what is remembered too long.
+pub(crate) fn drop_old(remembered: &mut Vec<Remembered>, moment: u64)
+    ensures items { remembered.new.items ≡ filter (is_live moment) remembered.old.items }
+    ensures len { vec_len remembered.new ≤ vec_len remembered.old }
+    ensures capacity { vec_capacity remembered.new ≡ vec_capacity remembered.old }
+{
+    remembered.retain(|r| is_live(r, moment));
+}
+
+fn remember(remembered: &mut Vec<Remembered>, one: Remembered, moment: u64)
+    requires { vec_len remembered.old < vec_capacity remembered.old }
+    ensures { remembered.new.items ≡ filter (is_live moment) remembered.old.items ++ one ∷ [] }
+{
+    drop_old(remembered, moment);
+    remembered.push_reserved(one);
+}
+
+/// Sends a datagram.
+pub(crate) fn send(s: &mut State, peer: Peer, bytes: Bytes) -> Result<(), AllocError>
+    ensures ok { OnOk result (seen s.new ≡ sent peer bytes (seen s.old)) }
+    ensures err { OnErr result (seen s.new ≡ seen s.old) }
+{
+    s.out.push_back(Datagram { peer, bytes })?;
+    Ok(())
+}
+
+fn make_room(s: &mut State) -> Result<(), AllocError>
+    ensures same { seen s.new ≡ seen s.old }
+    ensures ok { OnOk result (HasRoom s.new) }
+{
+    s.clients.reserve(1)?;
+    s.remembered.reserve(1)?;
+    s.out.reserve(1)?;
+    Ok(())
+}
+
+/// A request: who sent it, when it was heard, and what its answer is matched by.
+#[derive(Clone, Copy)]
+pub struct Asker {
+    pub peer: Peer,
+    pub moment: u64,
+    pub kind: MsgType,
+    pub mid: u16,
+    pub token: Token,
+}
+
+/// Sends the answer, and remembers it.
+fn send_answer(s: &mut State, to: Asker, bytes: Bytes, again: Bytes)
+    requires room { HasRoom s.old }
+    requires equal { again ≡ bytes }
+    ensures { seen s.new ≡ answered to bytes (seen s.old) }
+{
+    know(&mut s.clients, to.peer, to.kind);
+    let one = Remembered {
+        peer: to.peer,
+        mid: to.mid,
+        moment: to.moment,
+        answer: again,
+    };
+    remember(&mut s.remembered, one, to.moment);
+    s.out.push_back_reserved(Datagram {
+        peer: to.peer,
+        bytes,
+    });
+}
+
+/// The bytes of an answer.
+fn bytes_of(
+    alloc: Global,
+    to: Asker,
+    own: u16,
+    code: u8,
+    options: Vec<Opt>,
+    payload: Vec<u8>,
+) -> Result<Bytes, Memory>
+    requires code { code ≢ 0 }
+    requires in_order { IsInOrder 0 (entries options.items) }
+    requires short { AllByRecursion IsShort (entries options.items) }
+    ensures { IfOk result (λ b.
+        Spells (answer_to to own code (entries options.items) payload.items) b) }
+{
+    let m = Message {
+        kind: answer_kind(to.kind),
+        code,
+        mid: answer_mid(to.kind, to.mid, own),
+        token: to.token,
+        options,
+        payload,
+    };
+    let bytes = encode(alloc, &m).map_err(out_of_memory)?;
+    Ok(Bytes::new(alloc, bytes)?)
+}
+
+/// Answers a request.
+pub(crate) fn answer(
+    alloc: Global,
+    s: &mut State,
+    to: Asker,
+    code: u8,
+    options: Vec<Opt>,
+    payload: Vec<u8>,
+) -> Result<(), Memory>
+    requires code { code ≢ 0 }
+    requires in_order { IsInOrder 0 (entries options.items) }
+    requires short { AllByRecursion IsShort (entries options.items) }
+    ensures ok { OnOk result
+        (Answers to code (entries options.items) payload.items (seen s.old) (seen s.new)) }
+    ensures err { OnErr result (seen s.new ≡ seen s.old) }
+{
+    let own = own_mid(&s.clients, &to.peer);
+    let bytes = bytes_of(alloc, to, own, code, options, payload)?;
+    let again = bytes.share()?;
+    make_room(s)?;
+    send_answer(s, to, bytes, again);
+    Ok(())
+}
+
+fn is_remembered(remembered: &[Remembered], c: &Client) -> bool
+    ensures { result ≡ is_remembered remembered.now c.now }
+{
+    remembered.iter().any(|r| is_same_peer(&r.peer, &c.peer))
+}
+
+/// Forgets the peers of whom nothing is remembered.
+pub(crate) fn drop_unknown(clients: &mut Vec<Client>, remembered: &[Remembered])
+    ensures { clients.new.items ≡ filter (is_remembered remembered.now) clients.old.items }
+{
+    clients.retain(|c| is_remembered(remembered, c));
+}

@@ -1,0 +1,166 @@
+//! Whether a message is a request that is to be processed.
+
+ghost use Rattle.std.specs.Prelude.{◌≡◌, Ok, IfOk, count_by};
+ghost use Rattle.std.specs.List.{list_any, find};
+ghost use Rattle.std.specs.Option.{option_map};
+ghost use Rattle.coap_codec.specs.Spelling.{content};
+ghost use Rattle.demo_origin.specs.Values.{seen};
+ghost use Rattle.demo_origin.specs.Peers.{same_address, same_peer, is_client};
+ghost use Rattle.demo_origin.specs.Arrivals.{is_live, is_live_of, is_repeat, is_full, is_request, arrived_before, arrival_of, arrival};
+
+use crate::fault::Memory;
+use crate::state::{Client, Remembered, State};
+use coap_codec::{Message, MsgType};
+use message_layer::Bytes;
+use std::net::IpAddr;
+use uri_map::Peer;
+
+/// How long a message ID of a peer's stands for one message, in milliseconds
+/// (EXCHANGE_LIFETIME, RFC 7252 section 4.8.2).
+const EXCHANGE_LIFETIME: u64 = 247_000;
+
+/// How many peers are known.
+const CLIENTS: usize = 256;
+
+/// How many messages of a peer's are remembered.
+const REMEMBERED: usize = 1024;
+
+/// What a message is to a device.
+#[derive(Drop)]
+pub enum Arrival {
+    /// Nothing is done.
+    Ignored,
+    /// An RST answers it.
+    Rejected,
+    /// This datagram answered it before, and answers it again.
+    Repeated(Bytes),
+    /// A request that is to be processed.
+    Fresh,
+}
+
+fn is_same_address(a: &IpAddr, b: &IpAddr) -> bool
+    ensures { result ≡ same_address a.now b.now }
+{
+    match (a, b) {
+        (IpAddr::V4(a), IpAddr::V4(b)) => a.octets() == b.octets(),
+        (IpAddr::V6(a), IpAddr::V6(b)) => a.segments() == b.segments(),
+        _ => false,
+    }
+}
+
+/// Whether they are one endpoint.
+pub(crate) fn is_same_peer(a: &Peer, b: &Peer) -> bool
+    ensures { result ≡ same_peer a.now b.now }
+{
+    is_same_address(&a.address, &b.address) && a.port == b.port
+}
+
+/// Whether the message is remembered at that moment.
+pub(crate) fn is_live(r: &Remembered, moment: u64) -> bool
+    ensures { result ≡ is_live moment r.now }
+{
+    moment.saturating_sub(r.moment) < EXCHANGE_LIFETIME
+}
+
+fn is_live_of(r: &Remembered, moment: u64, peer: &Peer) -> bool
+    ensures { result ≡ is_live_of moment peer.now r.now }
+{
+    is_same_peer(&r.peer, peer) && is_live(r, moment)
+}
+
+fn is_repeat(r: &Remembered, moment: u64, peer: &Peer, mid: u16) -> bool
+    ensures { result ≡ is_repeat moment peer.now mid r.now }
+{
+    r.mid == mid && is_live_of(r, moment, peer)
+}
+
+/// The request with that ID that was answered.
+fn answered<'a>(all: &'a [Remembered], moment: u64, peer: &Peer, mid: u16) -> Option<&'a Remembered>
+    ensures { option_map (λ r. r.now) result ≡ find (is_repeat moment peer.now mid) all.now }
+{
+    all.iter().find(|r| is_repeat(r, moment, peer, mid))
+}
+
+/// Whether the peer is known.
+pub(crate) fn is_known(clients: &[Client], peer: &Peer) -> bool
+    ensures { result ≡ list_any (is_client peer.now) clients.now }
+{
+    clients.iter().any(|c| is_same_peer(&c.peer, peer))
+}
+
+fn live_count(all: &[Remembered], moment: u64, peer: &Peer) -> usize
+    ensures { result ≡ count_by (is_live_of moment peer.now) all.now }
+{
+    all.iter().filter(|r| is_live_of(r, moment, peer)).count()
+}
+
+/// Whether a further request of the peer's counts as lost.
+fn is_full(s: &State, moment: u64, peer: &Peer) -> bool
+    ensures { result ≡ is_full moment peer.now (seen s.now) }
+{
+    (!is_known(&s.clients, peer) && s.clients.len() >= CLIENTS)
+        || live_count(&s.remembered, moment, peer) >= REMEMBERED
+}
+
+fn is_request(code: u8) -> bool
+    ensures { result ≡ is_request code }
+{
+    0 < code && code < 32
+}
+
+/// What a request is, by what answered it before.
+fn arrived_before(
+    confirms: bool,
+    before: Option<&Remembered>,
+    full: bool,
+) -> Result<Arrival, Memory>
+    ensures { IfOk result (λ a.
+        a ≡ arrived_before confirms (option_map (λ r. r.now) before.entry) full) }
+{
+    match before {
+        Some(r) if confirms => Ok(Arrival::Repeated(r.answer.share()?)),
+        Some(_) => Ok(Arrival::Ignored),
+        None if full => Ok(Arrival::Ignored),
+        None => Ok(Arrival::Fresh),
+    }
+}
+
+/// What a CON or NON is.
+fn arrival_of(
+    confirms: bool,
+    s: &State,
+    moment: u64,
+    peer: &Peer,
+    m: &Message,
+) -> Result<Arrival, Memory>
+    ensures { IfOk result (λ a.
+        a ≡ arrival_of confirms moment peer.now (content m.now) (seen s.now)) }
+{
+    if is_request(m.code) {
+        let before = answered(&s.remembered, moment, peer, m.mid);
+        let full = is_full(s, moment, peer);
+        let arrival = arrived_before(confirms, before, full)?;
+        return Ok(arrival);
+    }
+    if confirms {
+        Ok(Arrival::Rejected)
+    } else {
+        Ok(Arrival::Ignored)
+    }
+}
+
+/// What the message is.
+pub(crate) fn arrival_at(
+    s: &State,
+    moment: u64,
+    peer: &Peer,
+    m: &Message,
+) -> Result<Arrival, Memory>
+    ensures { IfOk result (λ a. a ≡ arrival moment peer.now (content m.now) (seen s.now)) }
+{
+    match m.kind {
+        MsgType::Con => arrival_of(true, s, moment, peer, m),
+        MsgType::Non => arrival_of(false, s, moment, peer, m),
+        MsgType::Ack | MsgType::Rst => Ok(Arrival::Ignored),
+    }
+}

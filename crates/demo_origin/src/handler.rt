@@ -1,0 +1,95 @@
+//! Handlers, and the relation that each keeps.
+
+ghost use Rattle.std.specs.Prelude.{◌≢◌, IfOk};
+
+use crate::behaviour::Behaviour;
+use crate::execution::Outcome;
+use crate::fault::{Memory, Refused};
+use crate::request::{CoapRequest, Reply};
+use crate::state::Held;
+use message_layer::Bytes;
+use std::alloc::Global;
+use std::marker::PhantomData;
+
+/// The code 5.00.
+const INTERNAL_SERVER_ERROR: u8 = 160;
+
+/// A handler: from a state and a request to the new state and the reply.
+pub type Call = Box<dyn Fn(&[u8], &CoapRequest) -> Result<(Vec<u8>, Reply), Refused> + Send>;
+
+// A handler that may always be called.
+#[derive(Drop)]
+pub struct Boxed {
+    pub call: Call,
+    pub ghost callable: { Call.IsAlwaysCallable call },
+}
+
+/// A handler beside the relation that it keeps.
+#[derive(Drop)]
+pub struct Handler<H: Behaviour> {
+    /// The handler itself.
+    pub closure: Boxed,
+    relation: PhantomData<H>,
+}
+
+impl<H: Behaviour> Handler<H> {
+    ghost use Rattle.demo_origin.specs.Keeps.{Fits, Keeps, KeepsRelation};
+    ghost use Rattle.demo_origin.specs.Hearing.{reply_of, Comes};
+
+    /// Takes a handler that keeps the relation. Each of its replies has a code of class 2, 4 or 5,
+    /// and each of its new states at most 65,536 bytes.
+    pub fn new(call: Call) -> Handler<H>
+        requires callable { Call.IsAlwaysCallable call }
+        requires keeps { Keeps H.holds (λ p q r. Call.post call p q r) }
+        ensures { KeepsRelation H.holds result }
+    {
+        Handler {
+            closure: Boxed { call },
+            relation: PhantomData,
+        }
+    }
+
+    /// What it makes of the state and the request.
+    pub fn answer(&self, state: &[u8], request: &CoapRequest) -> Result<(Vec<u8>, Reply), Refused>
+        requires { KeepsRelation H.holds self.now }
+        ensures { Fits (H.holds state.now request.now) result }
+    {
+        self.call(state, request)
+    }
+
+    /// What comes of the request for a resource.
+    pub(crate) fn outcome(
+        &self,
+        alloc: Global,
+        held: &Held,
+        request: &CoapRequest,
+    ) -> Result<Outcome, Memory>
+        requires { KeepsRelation H.holds self.now }
+        ensures comes { IfOk result (λ o.
+            Comes H.holds held.now.state request.now o.after (reply_of o)) }
+        ensures code { IfOk result (λ o. o.code ≢ 0) }
+    {
+        match self.answer(held.state.as_slice(), request) {
+            Ok((after, reply)) => Ok(Outcome {
+                code: reply.code,
+                payload: reply.payload,
+                changed: reply.changed,
+                after: Bytes::new(alloc, after)?,
+            }),
+            Err(Refused::Content) => Ok(Outcome {
+                code: INTERNAL_SERVER_ERROR,
+                payload: Vec::new(alloc),
+                changed: false,
+                after: held.state.share()?,
+            }),
+            Err(Refused::Memory) => Err(Memory::Memory),
+        }
+    }
+
+    fn call(&self, state: &[u8], request: &CoapRequest) -> Result<(Vec<u8>, Reply), Refused>
+        requires { Keeps H.holds (λ p q r. Call.post self.now.closure.call p q r) }
+        ensures { Fits (H.holds state.now request.now) result }
+    {
+        (self.closure.call)(state, request)
+    }
+}

@@ -1,0 +1,35 @@
+//! A demonstration device: a CoAP server (RFC 7252) over resources whose state handlers change.
+//!
+//! The one contract: while a message is remembered it is executed at most once, and a repeated one
+//! gets the same answer again; what a handler made of a state keeps the relation that it stands
+//! beside; a GET is answered with the state as it stands. Want of memory executes nothing.
+//! Whoever wants a device to try a proxy with, or the other end of its promise, stands on it.
+#![tactic(auto)]
+
+mod answer;
+mod arrival;
+mod behaviour;
+mod execution;
+mod fault;
+mod handler;
+mod judge;
+mod laws;
+mod origin;
+mod reading;
+mod rejection;
+mod request;
+mod segments;
+mod state;
+
+pub use answer::Asker;
+pub use arrival::Arrival;
+pub use behaviour::Behaviour;
+pub use execution::{Outcome, Taken};
+pub use fault::{Memory, Refused};
+pub use handler::{Boxed, Call, Handler};
+pub use judge::Judged;
+pub use laws::executed_once;
+pub use origin::{Origin, Resource};
+pub use request::{CoapRequest, Method, Reply};
+pub use segments::{Segment, Segments};
+pub use state::{Client, Datagram, Held, Remembered};

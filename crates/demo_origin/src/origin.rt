@@ -1,0 +1,263 @@
+//! A demonstration device.
+
+ghost use Rattle.std.specs.Prelude.{◌≡◌, ◌≢◌, ◌<◌, length, map, [], slice_get, IfOk, IfSome, IsSome, OnOk, OnErr};
+ghost use Rattle.coap_codec.specs.Spelling.{content};
+ghost use Rattle.demo_origin.specs.Requests.{CanChange, judged};
+ghost use Rattle.demo_origin.specs.Hearing.{reply_of, Comes, Executes, Processes, Takes, Hears};
+ghost use Rattle.demo_origin.specs.Arrivals.{arrival};
+ghost use Rattle.demo_origin.specs.Keeps.{KeepsRelation};
+ghost use Rattle.demo_origin.specs.Origins.{Sound, EachKeeps, device, count, fresh, held_of, with_one, ticked, sent_out};
+ghost use Rattle.demo_origin.specs.Once.{IsFirst};
+
+use crate::answer::{Asker, drop_old, drop_unknown, send};
+use crate::arrival::{Arrival, arrival_at};
+use crate::behaviour::Behaviour;
+use crate::execution::{Outcome, Taken, execute, read, refuse, request_of};
+use crate::fault::Memory;
+use crate::handler::Handler;
+use crate::judge::{Judged, judge};
+use crate::rejection::{reset, reset_undecoded};
+use crate::request::{CoapRequest, Method};
+use crate::segments::Segments;
+use crate::state::{Datagram, Held, State};
+use coap_codec::{CodecFault, Message, decode};
+use message_layer::Bytes;
+use std::alloc::Global;
+use std::collections::VecDeque;
+use uri_map::Peer;
+
+/// The longest datagram that is read, in bytes.
+const MAX_DATAGRAM: usize = 2048;
+
+/// A device: its resources, each with its handler, and the peers that it talks to.
+///
+/// Moments are milliseconds of any clock that doesn't go back.
+#[derive(Drop)]
+pub struct Origin<H: Behaviour> {
+    alloc: Global,
+    pub state: State,
+    /// The handlers of the resources, in their order.
+    pub handlers: Vec<Handler<H>>,
+}
+
+/// A resource as it is handed in.
+#[derive(Drop)]
+pub struct Resource<H: Behaviour> {
+    pub path: Segments,
+    /// Its content format (RFC 7252, section 12.3).
+    pub format: u16,
+    /// How many seconds its responses stay fresh (RFC 7252, section 5.10.5).
+    pub max_age: u32,
+    /// What it holds at first.
+    pub state: Bytes,
+    pub handler: Handler<H>,
+}
+
+impl<H: Behaviour> Origin<H> {
+    /// A device with these resources, each at version 0. Of equal paths the first counts.
+    pub fn new(alloc: Global, resources: Vec<Resource<H>>) -> Result<Origin<H>, Memory>
+        requires { EachKeeps H.holds resources.items }
+        ensures sound { IfOk result (λ o. Sound H.holds o) }
+        ensures fresh { IfOk result (λ o. device o ≡ fresh (map held_of resources.items)) }
+    {
+        let mut origin = Origin::empty(alloc);
+        'each: for resource in resources {
+            origin.add(resource)?;
+        }
+        Ok(origin)
+    }
+
+    fn empty(alloc: Global) -> Origin<H>
+        ensures sound { Sound H.holds result }
+        ensures fresh { device result ≡ fresh [] }
+    {
+        Origin {
+            alloc,
+            state: State {
+                resources: Vec::new(alloc),
+                clients: Vec::new(alloc),
+                remembered: Vec::new(alloc),
+                out: VecDeque::new(alloc),
+            },
+            handlers: Vec::new(alloc),
+        }
+    }
+
+    /// Adds a resource last.
+    fn add(&mut self, resource: Resource<H>) -> Result<(), Memory>
+        requires sound { Sound H.holds self.old }
+        requires keeps { KeepsRelation H.holds resource.handler }
+        ensures sound { OnOk result (Sound H.holds self.new) }
+        ensures added { OnOk result (device self.new ≡ with_one (held_of resource) (device self.old)) }
+    {
+        self.state.resources.push(Held {
+            path: resource.path,
+            format: resource.format,
+            max_age: resource.max_age,
+            state: resource.state,
+            version: 0,
+        })?;
+        self.handlers.push(resource.handler)?;
+        Ok(())
+    }
+
+    /// What comes of a request for the resource of that number.
+    fn outcome(&self, place: usize, request: &CoapRequest) -> Result<Outcome, Memory>
+        requires sound { Sound H.holds self.now }
+        requires place { place < count self.now }
+        ensures comes { IfOk result (λ o. IfSome (slice_get self.now.state.resources.items place)
+            (λ h. Comes H.holds h.state request.now o.after (reply_of o))) }
+        ensures code { IfOk result (λ o. o.code ≢ 0) }
+    {
+        let handler = &self.handlers[place];
+        let held = &self.state.resources[place];
+        handler.outcome(self.alloc, held, request)
+    }
+
+    /// Executes a request.
+    fn execute(
+        &mut self,
+        to: Asker,
+        m: Message,
+        place: usize,
+        method: Method,
+    ) -> Result<Taken, Memory>
+        requires sound { Sound H.holds self.old }
+        requires place { place < count self.old }
+        requires version { IfSome (slice_get self.old.state.resources.items place) CanChange }
+        ensures ok { IfOk result (λ taken.
+            Executes H.holds to (content m) place method (device self.old) (device self.new) taken) }
+        ensures err { OnErr result (device self.new ≡ device self.old) }
+        ensures handlers { self.new.handlers ≡ self.old.handlers }
+        ensures resources { count self.new ≡ count self.old }
+    {
+        let request = request_of(self.alloc, m, method)?;
+        let outcome = self.outcome(place, &request)?;
+        let taken = execute(self.alloc, &mut self.state, to, place, method, outcome)?;
+        Ok(taken)
+    }
+
+    /// Processes a request that wasn't answered before.
+    fn process(&mut self, to: Asker, m: Message) -> Result<Option<Taken>, Memory>
+        requires sound { Sound H.holds self.old }
+        ensures ok { IfOk result (λ taken. let asked = content m in
+            Processes H.holds to asked (judged asked self.old.state.resources.items)
+            (device self.old) (device self.new) taken) }
+        ensures err { OnErr result (device self.new ≡ device self.old) }
+        ensures handlers { self.new.handlers ≡ self.old.handlers }
+        ensures resources { count self.new ≡ count self.old }
+    {
+        match judge(self.alloc, &m, &self.state.resources)? {
+            Judged::Dropped => Ok(None),
+            Judged::Refused(code) => {
+                refuse(self.alloc, &mut self.state, to, code)?;
+                Ok(None)
+            }
+            Judged::Read(place) => {
+                read(self.alloc, &mut self.state, to, place)?;
+                Ok(None)
+            }
+            Judged::Asked(place, method) => {
+                let taken = self.execute(to, m, place, method)?;
+                Ok(Some(taken))
+            }
+        }
+    }
+
+    /// Takes a message.
+    fn take(&mut self, moment: u64, peer: Peer, m: Message) -> Result<Option<Taken>, Memory>
+        requires sound { Sound H.holds self.old }
+        ensures ok { IfOk result (λ taken. let came = content m in
+            Takes H.holds moment peer came (arrival moment peer came (device self.old))
+            (device self.old) (device self.new) taken) }
+        ensures err { OnErr result (device self.new ≡ device self.old) }
+        ensures handlers { self.new.handlers ≡ self.old.handlers }
+        ensures resources { count self.new ≡ count self.old }
+    {
+        match arrival_at(&self.state, moment, &peer, &m)? {
+            Arrival::Ignored => Ok(None),
+            Arrival::Rejected => {
+                let bytes = reset(self.alloc, m.mid)?;
+                send(&mut self.state, peer, bytes)?;
+                Ok(None)
+            }
+            Arrival::Repeated(answer) => {
+                send(&mut self.state, peer, answer)?;
+                Ok(None)
+            }
+            Arrival::Fresh => {
+                let to = Asker {
+                    peer,
+                    moment,
+                    kind: m.kind,
+                    mid: m.mid,
+                    token: m.token,
+                };
+                let taken = self.process(to, m)?;
+                Ok(taken)
+            }
+        }
+    }
+
+    /// Takes a datagram.
+    fn hear(&mut self, moment: u64, peer: Peer, datagram: &[u8]) -> Result<Option<Taken>, Memory>
+        requires sound { Sound H.holds self.old }
+        ensures sound { Sound H.holds self.new }
+        ensures ok { IfOk result (λ taken.
+            Hears H.holds moment peer datagram.now (device self.old) (device self.new) taken) }
+        ensures err { OnErr result (device self.new ≡ device self.old) }
+    {
+        if datagram.len() > MAX_DATAGRAM {
+            return Ok(None);
+        }
+        match decode(self.alloc, datagram) {
+            Ok(m) => {
+                let taken = self.take(moment, peer, m)?;
+                Ok(taken)
+            }
+            Err(CodecFault::Memory) => Err(Memory::Memory),
+            Err(_) => {
+                reset_undecoded(self.alloc, &mut self.state, peer, datagram)?;
+                Ok(None)
+            }
+        }
+    }
+
+    /// Takes a datagram of a peer's. Where a handler was asked, what was done is told. Of
+    /// requests that were answered within 247 s none is executed again.
+    pub fn heard(
+        &mut self,
+        moment: u64,
+        peer: Peer,
+        datagram: &[u8],
+    ) -> Result<Option<Taken>, Memory>
+        requires sound { Sound H.holds self.old }
+        ensures sound { Sound H.holds self.new }
+        ensures ok { IfOk result (λ taken.
+            Hears H.holds moment peer datagram.now (device self.old) (device self.new) taken) }
+        ensures first { IfOk result (λ taken. IsSome taken
+            → IsFirst moment peer datagram.now (device self.old) (device self.new)) }
+        ensures err { OnErr result (device self.new ≡ device self.old) }
+    {
+        self.hear(moment, peer, datagram)
+    }
+
+    /// Forgets the requests that were answered 247 s ago, and the peers of whom none is remembered.
+    pub fn tick(&mut self, moment: u64)
+        requires sound { Sound H.holds self.old }
+        ensures sound { Sound H.holds self.new }
+        ensures ticked { device self.new ≡ ticked moment (device self.old) }
+    {
+        drop_old(&mut self.state.remembered, moment);
+        drop_unknown(&mut self.state.clients, &self.state.remembered);
+    }
+
+    /// The next datagram to be sent.
+    pub fn take_send(&mut self) -> Option<Datagram>
+        requires sound { Sound H.holds self.old }
+        ensures sound { Sound H.holds self.new }
+        ensures sent { sent_out (device self.old) ≡ (device self.new, result) }
+    {
+        self.state.out.pop_front()
+    }
+}

@@ -1,0 +1,36 @@
+//! What a GET is answered.
+
+ghost use Rattle.std.specs.Prelude.{◌≡◌, ◌≤◌, length, IfOk};
+ghost use Rattle.coap_codec.specs.Spelling.{entries, entry};
+ghost use Rattle.coap_codec.specs.Values.{uint, IsShortest};
+ghost use Rattle.coap_codec.specs.Writing.{IsInOrder, IsShort};
+ghost use Rattle.std.specs.List.{AllByRecursion};
+ghost use Rattle.demo_origin.specs.Answers.{Describes};
+
+use crate::fault::{Memory, out_of_memory};
+use crate::state::Held;
+use coap_codec::{Opt, number, uint_to};
+use std::alloc::Global;
+
+/// The option with the shortest value that stands for a number.
+fn number_option(alloc: Global, number: u16, n: u32) -> Result<Opt, Memory>
+    ensures number { IfOk result (λ o. o.number ≡ number) }
+    ensures value { IfOk result (λ o. (uint o.value.items ≡ n) × IsShortest o.value.items) }
+    ensures len { IfOk result (λ o. length o.value.items ≤ 4) }
+{
+    let value = uint_to(alloc, n).map_err(out_of_memory)?;
+    Ok(Opt { number, value })
+}
+
+/// The options that describe the state of a resource: ETag, Content-Format and Max-Age.
+pub(crate) fn described(alloc: Global, held: &Held) -> Result<Vec<Opt>, Memory>
+    ensures describes { IfOk result (λ v. Describes held.now (entries v.items)) }
+    ensures in_order { IfOk result (λ v. IsInOrder 0 (entries v.items)) }
+    ensures short { IfOk result (λ v. AllByRecursion IsShort (entries v.items)) }
+{
+    let etag = Opt::new(alloc, number::ETAG, &held.version.to_be_bytes()).map_err(out_of_memory)?;
+    let format = number_option(alloc, number::CONTENT_FORMAT, u32::from(held.format))?;
+    let max_age = number_option(alloc, number::MAX_AGE, held.max_age)?;
+    let options = Vec::from_array(alloc, [etag, format, max_age])?;
+    Ok(options)
+}

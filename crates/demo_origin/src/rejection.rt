@@ -1,0 +1,53 @@
+//! Messages that are rejected.
+
+ghost use Rattle.std.specs.Prelude.{◌≡◌, IfOk, OnOk, OnErr};
+ghost use Rattle.message_layer.specs.Hearing.{reset_for};
+ghost use Rattle.demo_origin.specs.Values.{seen};
+ghost use Rattle.demo_origin.specs.Hearing.{rst, undecoded};
+
+use crate::answer::send;
+use crate::state::State;
+use message_layer::Bytes;
+use std::alloc::{AllocError, Global};
+use uri_map::Peer;
+
+/// The RST with that ID.
+pub(crate) fn reset(alloc: Global, mid: u16) -> Result<Bytes, AllocError>
+    ensures { IfOk result (λ b. b ≡ rst mid) }
+{
+    let bytes = Vec::from_slice(alloc, &[0x70, 0, (mid / 256) as u8, (mid % 256) as u8])?;
+    Bytes::new(alloc, bytes)
+}
+
+/// The ID of a CON that is no message, where it shows one.
+fn mid_to_reset(datagram: &[u8]) -> Option<u16>
+    ensures { result ≡ reset_for datagram.now }
+{
+    match datagram {
+        [first, _, high, low, ..] => {
+            if first / 16 == 4 {
+                Some(256 * u16::from(*high) + u16::from(*low))
+            } else {
+                None
+            }
+        }
+        _ => None,
+    }
+}
+
+/// Rejects what can't be read, where it shows an ID (RFC 7252 section 4.2).
+pub(crate) fn reset_undecoded(
+    alloc: Global,
+    s: &mut State,
+    peer: Peer,
+    datagram: &[u8],
+) -> Result<(), AllocError>
+    ensures ok { OnOk result (seen s.new ≡ undecoded peer (reset_for datagram.now) (seen s.old)) }
+    ensures err { OnErr result (seen s.new ≡ seen s.old) }
+{
+    if let Some(mid) = mid_to_reset(datagram) {
+        let bytes = reset(alloc, mid)?;
+        send(s, peer, bytes)?;
+    }
+    Ok(())
+}
