@@ -6,7 +6,7 @@ use Rattle.demo_origin.specs.Keeps.{AllKeep, KeepsRelation}
 use Rattle.demo_origin.specs.declared.state.Datagram.{Datagram}
 use Rattle.demo_origin.specs.declared.state.Held.{Held}
 use Rattle.demo_origin.specs.declared.origin.Origin.{Origin}
-use Rattle.demo_origin.specs.declared.origin.Resource.{Resource}
+use Rattle.demo_origin.specs.declared.resource.Resource.{Resource}
 
 abbrev pub device : {H X : Type 0} {F : X → Type 0} {g : _} → Origin H X F g → Device
 device o = seen o.state

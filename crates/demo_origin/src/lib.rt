@@ -18,6 +18,7 @@ mod origin;
 mod reading;
 mod rejection;
 mod request;
+mod resource;
 mod segments;
 mod state;
 
@@ -29,7 +30,8 @@ pub use fault::{Memory, Refused};
 pub use handler::{Boxed, Call, Handler};
 pub use judge::Judged;
 pub use laws::executed_once;
-pub use origin::{Origin, Resource};
+pub use origin::Origin;
 pub use request::{CoapRequest, Method, Reply};
+pub use resource::{Resource, install};
 pub use segments::{Segment, Segments};
 pub use state::{Client, Datagram, Held, Remembered};

@@ -18,7 +18,7 @@ use crate::handler::Handler;
 use crate::judge::{Judged, judge};
 use crate::rejection::{reset, reset_undecoded};
 use crate::request::{CoapRequest, Method};
-use crate::segments::Segments;
+use crate::resource::Resource;
 use crate::state::{Datagram, Held, State};
 use coap_codec::{CodecFault, Message, decode};
 use message_layer::Bytes;
@@ -38,19 +38,6 @@ pub struct Origin<H: Behaviour> {
     pub state: State,
     /// The handlers of the resources, in their order.
     pub handlers: Vec<Handler<H>>,
-}
-
-/// A resource as it is handed in.
-#[derive(Drop)]
-pub struct Resource<H: Behaviour> {
-    pub path: Segments,
-    /// Its content format (RFC 7252, section 12.3).
-    pub format: u16,
-    /// How many seconds its responses stay fresh (RFC 7252, section 5.10.5).
-    pub max_age: u32,
-    /// What it holds at first.
-    pub state: Bytes,
-    pub handler: Handler<H>,
 }
 
 impl<H: Behaviour> Origin<H> {

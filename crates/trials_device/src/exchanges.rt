@@ -1,12 +1,15 @@
-//! Exchanges with a counter.
+//! Exchanges with a counter and a cell.
 
-use crate::devices::{Kinds, count, peer};
-use demo_origin::{Call, CoapRequest, Handler, Origin, Resource, Segments};
+use crate::devices::{Did, Kinds, count, is_quiet, keep, path_of, peer, sends, told};
+use demo_origin::{Call, CoapRequest, Handler, Origin, Resource, install};
 use message_layer::Bytes;
 use std::alloc::Global;
 
 // POST of c, as CON 5 with token abcd
 const POST: [u8; 8] = [0x42, 0x02, 0x00, 0x05, 0xab, 0xcd, 0xb1, 0x63];
+
+// 2.04 with the new state
+const COUNTED: [u8; 8] = [0x62, 0x44, 0x00, 0x05, 0xab, 0xcd, 0xff, 0x31];
 
 #[test]
 fn a_repeated_post_is_executed_once(rt: HostRuntime) {
@@ -15,44 +18,107 @@ fn a_repeated_post_is_executed_once(rt: HostRuntime) {
         count(alloc, state, request)
     })
     .expect(&rt, "memory");
-    let mut path = Segments::new(alloc);
-    path.push(b"c").expect(&rt, "memory");
-    let state = Bytes::new(alloc, Vec::new(alloc)).expect(&rt, "memory");
-    let mut origin: Origin<Kinds> = Origin::new(alloc);
-    let resource = Resource {
-        path,
+    let counter = Resource {
+        path: path_of(alloc, b"c").expect(&rt, "memory"),
         format: 0,
         max_age: 60,
-        state,
+        state: Bytes::new(alloc, Vec::new(alloc)).expect(&rt, "memory"),
         handler: Handler::new(call),
     };
-    origin.add(resource).expect(&rt, "memory");
+    let mut all: Vec<Resource<Kinds>> = Vec::new(alloc);
+    install(&mut all, counter).expect(&rt, "memory");
+    let mut origin = Origin::new(alloc, all).expect(&rt, "memory");
 
-    let first = origin.heard(0, peer(5000), &POST).expect(&rt, "memory");
-    let taken = first.expect(&rt, "an execution");
-    assert_eq!(rt; taken.code, 68);
-    assert!(rt; taken.after.as_slice() == b"1");
-    let sent = origin.take_send().expect(&rt, "an answer");
-    let answer = [0x62, 0x44, 0x00, 0x05, 0xab, 0xcd, 0xff, 0x31];
-    assert!(rt; sent.bytes.as_slice() == &answer);
-
-    let second = origin.heard(1000, peer(5000), &POST).expect(&rt, "memory");
-    assert!(rt; second.is_none());
-    let again = origin.take_send().expect(&rt, "the same answer");
-    assert!(rt; again.bytes.as_slice() == &answer);
+    assert_eq!(rt; told(&mut origin, 0, peer(5000), &POST), Did::Executed);
+    assert!(rt; sends(&mut origin, peer(5000), &COUNTED));
+    assert_eq!(rt; told(&mut origin, 1000, peer(5000), &POST), Did::Nothing);
+    assert!(rt; sends(&mut origin, peer(5000), &COUNTED));
 
     // GET of c, as CON 7: ETag 1, Content-Format 0, Max-Age 60
     let get = [0x42, 0x01, 0x00, 0x07, 0xab, 0xcd, 0xb1, 0x63];
-    let read = origin.heard(2000, peer(5000), &get).expect(&rt, "memory");
-    assert!(rt; read.is_none());
-    let state = origin.take_send().expect(&rt, "an answer");
-    let whole = [
+    let state = [
         0x62, 0x45, 0x00, 0x07, 0xab, 0xcd, 0x48, 0, 0, 0, 0, 0, 0, 0, 1, 0x80, 0x21, 0x3c, 0xff,
         0x31,
     ];
-    assert!(rt; state.bytes.as_slice() == &whole);
+    assert_eq!(rt; told(&mut origin, 2000, peer(5000), &get), Did::Nothing);
+    assert!(rt; sends(&mut origin, peer(5000), &state));
 
+    // the same ID of another peer is another message
+    let second = [0x62, 0x44, 0x00, 0x05, 0xab, 0xcd, 0xff, 0x32];
+    assert_eq!(rt;
+        told(&mut origin, 246_999, peer(5001), &POST),
+        Did::Executed
+    );
+    assert!(rt; sends(&mut origin, peer(5001), &second));
+    assert_eq!(rt; told(&mut origin, 246_999, peer(5000), &POST), Did::Nothing);
+    assert!(rt; sends(&mut origin, peer(5000), &COUNTED));
+
+    // after 247 s the ID stands for a new message
     origin.tick(247_000);
-    let late = origin.heard(247_000, peer(5000), &POST).expect(&rt, "memory");
-    assert!(rt; late.is_some());
+    assert_eq!(rt;
+        told(&mut origin, 247_000, peer(5000), &POST),
+        Did::Executed
+    );
+    let third = [0x62, 0x44, 0x00, 0x05, 0xab, 0xcd, 0xff, 0x33];
+    assert!(rt; sends(&mut origin, peer(5000), &third));
+    assert!(rt; is_quiet(&mut origin));
+}
+
+#[test]
+fn a_cell_keeps_what_is_put(rt: HostRuntime) {
+    let alloc: Global = rt.alloc();
+    let call: Call = Box::new(alloc, move |state: &[u8], request: &CoapRequest| {
+        keep(alloc, state, request)
+    })
+    .expect(&rt, "memory");
+    let cell = Resource {
+        path: path_of(alloc, b"s").expect(&rt, "memory"),
+        format: 0,
+        max_age: 1,
+        state: Bytes::new(alloc, Vec::new(alloc)).expect(&rt, "memory"),
+        handler: Handler::new(call),
+    };
+    let mut all: Vec<Resource<Kinds>> = Vec::new(alloc);
+    install(&mut all, cell).expect(&rt, "memory");
+    let mut origin = Origin::new(alloc, all).expect(&rt, "memory");
+
+    // PUT of s as NON 9, which is answered by a NON of the device's own ID
+    let put = [0x50, 0x03, 0x00, 0x09, 0xb1, 0x73, 0xff, 0x6f, 0x6e];
+    assert_eq!(rt; told(&mut origin, 0, peer(5000), &put), Did::Executed);
+    assert!(rt; sends(&mut origin, peer(5000), &[0x50, 0x44, 0x00, 0x00]));
+    assert_eq!(rt; told(&mut origin, 10, peer(5000), &put), Did::Nothing);
+    assert!(rt; is_quiet(&mut origin));
+
+    // GET as NON 10, with an Accept that suits: ETag 1, Content-Format 0, Max-Age 1
+    let get = [0x50, 0x01, 0x00, 0x0a, 0xb1, 0x73, 0x60];
+    let on = [
+        0x50, 0x45, 0x00, 0x01, 0x48, 0, 0, 0, 0, 0, 0, 0, 1, 0x80, 0x21, 0x01, 0xff, 0x6f, 0x6e,
+    ];
+    assert_eq!(rt; told(&mut origin, 20, peer(5000), &get), Did::Nothing);
+    assert!(rt; sends(&mut origin, peer(5000), &on));
+
+    // an Accept of 42: 4.06
+    let other = [0x40, 0x01, 0x00, 0x0b, 0xb1, 0x73, 0x61, 0x2a];
+    assert_eq!(rt; told(&mut origin, 30, peer(5000), &other), Did::Nothing);
+    assert!(rt; sends(&mut origin, peer(5000), &[0x60, 0x86, 0x00, 0x0b]));
+
+    // DELETE, and then the state is empty, of version 2
+    let delete = [0x40, 0x04, 0x00, 0x0c, 0xb1, 0x73];
+    assert_eq!(rt; told(&mut origin, 40, peer(5000), &delete), Did::Executed);
+    assert!(rt; sends(&mut origin, peer(5000), &[0x60, 0x42, 0x00, 0x0c]));
+    let again = [0x40, 0x01, 0x00, 0x0d, 0xb1, 0x73];
+    let empty = [
+        0x60, 0x45, 0x00, 0x0d, 0x48, 0, 0, 0, 0, 0, 0, 0, 2, 0x80, 0x21, 0x01,
+    ];
+    assert_eq!(rt; told(&mut origin, 50, peer(5000), &again), Did::Nothing);
+    assert!(rt; sends(&mut origin, peer(5000), &empty));
+
+    // POST: the handler says 4.05; a method that no handler is asked for: 4.05 too
+    let post = [0x40, 0x02, 0x00, 0x0e, 0xb1, 0x73];
+    assert_eq!(rt; told(&mut origin, 60, peer(5000), &post), Did::Executed);
+    assert!(rt; sends(&mut origin, peer(5000), &[0x60, 0x85, 0x00, 0x0e]));
+    let fetch = [0x40, 0x05, 0x00, 0x0f, 0xb1, 0x73];
+    assert_eq!(rt; told(&mut origin, 70, peer(5000), &fetch), Did::Nothing);
+    assert!(rt; sends(&mut origin, peer(5000), &[0x60, 0x85, 0x00, 0x0f]));
+    assert!(rt; is_quiet(&mut origin));
 }
