@@ -3,3 +3,4 @@ pub mod Each
 pub mod Entries
 pub mod First
 pub mod Repeats
+pub mod Pieces

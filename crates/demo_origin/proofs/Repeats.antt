@@ -1,5 +1,5 @@
 -- What was answered is remembered, whatever is heard after it.
-use Rattle.std.proofs.Common.{◌≡◌, ℕ, ◌+◌, ◌-◌, ◌<◌, ◌≤◌, ◌⊎◌, inl, inr, List, [], ◌∷◌, ◌++◌, length, filter, Contains, Option, Some, None, Result, Ok, Err, Bool, true, false, ◌==◌, ◌&&◌, nat_lt, refl, sym, ap, subst, ◌∙◌, arith}
+use Rattle.std.proofs.Common.{◌≡◌, ℕ, ◌+◌, ◌-◌, ◌<◌, ◌≤◌, ◌⊎◌, inl, inr, List, [], ◌∷◌, ◌++◌, length, filter, slice_get, Contains, Option, Some, None, Result, Ok, Err, Bool, true, false, ◌==◌, ◌&&◌, nat_lt, refl, sym, ap, subst, ◌∙◌, arith}
 use Rattle.std.specs.List.{AllByRecursion}
 use Rattle.std.proofs.lemmas.Bool.{and_parts, and_from, ltb-true, lt-ltb}
 use Rattle.std.proofs.lemmas.List.Elements.{Contains-append_left}
@@ -11,7 +11,12 @@ use Rattle.message_layer.specs.Hearing.{reset_for}
 use Rattle.demo_origin.specs.Values.{Device, Relation}
 use Rattle.demo_origin.specs.Peers.{same_peer}
 use Rattle.demo_origin.specs.Arrivals.{is_live, is_repeat, arrival}
-use Rattle.demo_origin.specs.Answers.{Answers, Reads, memory_of}
+use Rattle.demo_origin.specs.Answers.{Answers, Reads, ReadsPart, memory_of}
+use Rattle.coap_codec.specs.Values.{values}
+use Rattle.demo_origin.specs.Blocks.{named_by, part_of, piece_of}
+use Rattle.demo_origin.specs.declared.blocks.Named.{Named}
+use Rattle.demo_origin.specs.declared.blocks.Part.{Part}
+use Rattle.demo_origin.specs.declared.blocks.Part.TheVariants.{Whole, Piece, Past}
 use Rattle.demo_origin.specs.Requests.{judged}
 use Rattle.demo_origin.specs.Hearing.{asker, undecoded, Executes, Processes, Takes, HearsRead, HearsBy, Hears}
 use Rattle.demo_origin.specs.Origins.{ticked, sent_by, sent_out}
@@ -40,18 +45,27 @@ same t old new e = inl (ap (λ (d : Device). d.remembered) e)
 adds : (to : Asker) (old new : Device) → Adds to old new → Keeps to.moment old new
 adds to old new h = inr (memory_of to h.bytes ∷ [], h.is)
 
-reads : (to : Asker) (o : Option Held) (old new : Device)
-    → Reads to o old new → Keeps to.moment old new
-reads to None old new h = absurd h
-reads to (Some held) old new h =
+parts : (to : Asker) (held : Held) (part : Part) (old new : Device)
+    → ReadsPart to held part old new → Keeps to.moment old new
+parts to held Whole old new h =
     adds to old new (answers_add to 69 h.0 held.state old new h.2)
+parts to held (Piece b) old new h =
+    adds to old new (answers_add to 69 h.0 (piece_of b held.state) old new h.2)
+parts to held Past old new h = adds to old new (answers_add to 128 [] [] old new h)
+
+reads : (to : Asker) (named : Named) (o : Option Held) (old new : Device)
+    → Reads to named o old new → Keeps to.moment old new
+reads to named None old new h = absurd h
+reads to named (Some held) old new h =
+    parts to held (part_of named old.block (length held.state)) old new h
 
 processes : (holds : Relation) (to : Asker) (m : Content) (j : Judged) (old new : Device)
     (taken : Option Taken) → Processes holds to m j old new taken → Keeps to.moment old new
 processes holds to m Dropped old new taken h = same to.moment old new h.0
 processes holds to m (Refused code) old new taken h =
     adds to old new (answers_add to code [] [] old new h.0)
-processes holds to m (Read i) old new taken h = reads to _ old new h.0
+processes holds to m (Read i) old new taken h =
+    reads to (named_by (values 23 m.options)) (slice_get old.resources i) old new h.0
 processes holds to m (Asked i method) old new taken h =
     adds to old new (executes_adds holds to m i method old new h.0 h.2)
 

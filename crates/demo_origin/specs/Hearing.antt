@@ -4,10 +4,12 @@ use Rattle.std.specs.Str.{bytes_eq}
 use Rattle.uri_map.specs.declared.peer.Peer.{Peer}
 use Rattle.coap_codec.specs.Spelling.{Content}
 use Rattle.coap_codec.specs.Reading.{message_at}
+use Rattle.coap_codec.specs.Values.{values}
 use Rattle.coap_codec.specs.declared.fault.CodecFault.{CodecFault}
 use Rattle.message_layer.specs.Hearing.{reset_for}
 use Rattle.demo_origin.specs.Values.{Device, Relation, Replied}
 use Rattle.demo_origin.specs.Arrivals.{arrival}
+use Rattle.demo_origin.specs.Blocks.{named_by}
 use Rattle.demo_origin.specs.Requests.{asked, judged}
 use Rattle.demo_origin.specs.Keeps.{IsKept}
 use Rattle.demo_origin.specs.Answers.{Answers, Reads, sent}
@@ -86,7 +88,8 @@ Processes holds to m Dropped old new taken = (new ≡ old) × (taken ≡ None)
 Processes holds to m (Refused code) old new taken =
     Answers to code [] [] old new × (taken ≡ None)
 Processes holds to m (Read i) old new taken =
-    Reads to (slice_get old.resources i) old new × (taken ≡ None)
+    Reads to (named_by (values 23 m.options)) (slice_get old.resources i) old new
+    × (taken ≡ None)
 Processes holds to m (Asked i method) old new taken =
     (done : Taken) × (taken ≡ Some done) × Executes holds to m i method old new done
 

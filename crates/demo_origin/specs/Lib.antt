@@ -1,6 +1,7 @@
 pub mod Values
 pub mod Peers
 pub mod Arrivals
+pub mod Blocks
 pub mod Requests
 pub mod Keeps
 pub mod Answers

@@ -27,8 +27,14 @@ pub record EachKeeps {H X : Type 0} {F : X → Type 0} {g : _}
   pub each : (r : Resource H X F g) → Contains resources r → KeepsRelation holds r.handler
 
 -- a device that heard nothing yet
-abbrev pub fresh : List Held → Device
-fresh resources = record { resources = resources; clients = []; remembered = []; out = [] }
+abbrev pub fresh : ℕ → List Held → Device
+fresh block resources = record {
+  block = block;
+  resources = resources;
+  clients = [];
+  remembered = [];
+  out = [];
+}
 
 -- a resource as it is at first
 abbrev pub held_of : {H X : Type 0} {F : X → Type 0} {g : _} → Resource H X F g → Held

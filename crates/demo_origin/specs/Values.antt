@@ -9,6 +9,8 @@ use Rattle.demo_origin.specs.declared.request.CoapRequest.{CoapRequest}
 use Rattle.demo_origin.specs.declared.request.Reply.{Reply}
 
 pub record Device : Type 0 where
+  -- the size exponent of its pieces
+  pub block : ℕ
   -- in the order in which they are looked up
   pub resources : List Held
   -- the peers that are known
@@ -20,6 +22,7 @@ pub record Device : Type 0 where
 
 abbrev pub seen : State → Device
 seen s = record {
+  block = s.block.szx;
   resources = s.resources.items;
   clients = s.clients.items;
   remembered = s.remembered.items;

@@ -4,19 +4,28 @@ ghost use Rattle.std.specs.Prelude.{◌≡◌, ◌≢◌, ◌<◌, length, Some,
 ghost use Rattle.coap_codec.specs.Spelling.{content};
 ghost use Rattle.demo_origin.specs.Values.{seen};
 ghost use Rattle.demo_origin.specs.Requests.{CanChange, asked};
-ghost use Rattle.demo_origin.specs.Answers.{Answers, Reads};
+ghost use Rattle.demo_origin.specs.Answers.{Answers, Reads, ReadsPart};
+ghost use Rattle.demo_origin.specs.Blocks.{BeginsIn, IsSized};
+ghost use Rattle.demo_origin.specs.declared.blocks.Part.TheVariants as Part;
 ghost use Rattle.demo_origin.specs.Hearing.{is_change, reply_of, stated, taken_from, Changes};
 
 use crate::answer::{Asker, answer};
+use crate::blocks::{Named, Part, part_of, piece_of};
 use crate::fault::Memory;
 use crate::judge::number_in;
-use crate::reading::described;
+use crate::reading::{described, described_piece};
 use crate::request::{CoapRequest, Method};
 use crate::segments::Segments;
 use crate::state::{Held, State};
-use coap_codec::{Message, number};
+use coap_codec::{Block, Message, number};
 use message_layer::Bytes;
 use std::alloc::Global;
+
+/// The code 2.05.
+const CONTENT: u8 = 69;
+
+/// The code 4.00.
+const BAD_REQUEST: u8 = 128;
 
 /// A request that was executed: of which resource, by which method, with which answer, and the
 /// states before and after.
@@ -63,17 +72,53 @@ pub(crate) fn refuse(alloc: Global, s: &mut State, to: Asker, code: u8) -> Resul
     answer(alloc, s, to, code, Vec::new(alloc), Vec::new(alloc))
 }
 
-/// Answers a GET by the state of the resource of that number.
-pub(crate) fn read(alloc: Global, s: &mut State, to: Asker, place: usize) -> Result<(), Memory>
+/// Answers a GET by the whole state of the resource of that number.
+fn read_whole(alloc: Global, s: &mut State, to: Asker, place: usize) -> Result<(), Memory>
     requires { place < length s.old.resources.items }
-    ensures ok { OnOk result
-        (Reads to (slice_get s.old.resources.items place) (seen s.old) (seen s.new)) }
+    ensures ok { OnOk result (IfSome (slice_get s.old.resources.items place)
+        (λ h. ReadsPart to h Part.Whole (seen s.old) (seen s.new))) }
     ensures err { OnErr result (seen s.new ≡ seen s.old) }
 {
     let held = &s.resources[place];
     let options = described(alloc, held)?;
     let payload = Vec::from_slice(alloc, held.state.as_slice())?;
-    answer(alloc, s, to, 69, options, payload)
+    answer(alloc, s, to, CONTENT, options, payload)
+}
+
+/// Answers a GET by a piece of the state.
+fn read_piece(alloc: Global, s: &mut State, to: Asker, place: usize, b: Block) -> Result<(), Memory>
+    requires place { place < length s.old.resources.items }
+    requires begins { IfSome (slice_get s.old.resources.items place)
+        (λ h. BeginsIn (length h.state) b) }
+    ensures ok { OnOk result (IfSome (slice_get s.old.resources.items place)
+        (λ h. ReadsPart to h (Part.Piece b) (seen s.old) (seen s.new))) }
+    ensures err { OnErr result (seen s.new ≡ seen s.old) }
+{
+    let held = &s.resources[place];
+    let options = described_piece(alloc, held, b)?;
+    let payload = Vec::from_slice(alloc, piece_of(b, held.state.as_slice()))?;
+    answer(alloc, s, to, CONTENT, options, payload)
+}
+
+/// Answers a GET by what its Block2 asks for of the resource of that number.
+pub(crate) fn read(
+    alloc: Global,
+    s: &mut State,
+    to: Asker,
+    place: usize,
+    named: Named,
+) -> Result<(), Memory>
+    requires place { place < length s.old.resources.items }
+    requires sized { IsSized named }
+    ensures ok { OnOk result
+        (Reads to named (slice_get s.old.resources.items place) (seen s.old) (seen s.new)) }
+    ensures err { OnErr result (seen s.new ≡ seen s.old) }
+{
+    match part_of(named, s.block, s.resources[place].state.as_slice().len()) {
+        Part::Whole => read_whole(alloc, s, to, place),
+        Part::Piece(b) => read_piece(alloc, s, to, place, b),
+        Part::Past => refuse(alloc, s, to, BAD_REQUEST),
+    }
 }
 
 fn is_change(before: &Bytes, outcome: &Outcome) -> bool

@@ -40,6 +40,7 @@ fn is_recognised(o: &Opt) -> bool
         || (o.number == number::URI_HOST && 1 <= len && len <= 255)
         || (o.number == number::URI_PORT && len <= 2)
         || (o.number == number::ACCEPT && len <= 2)
+        || (o.number == number::BLOCK2 && len <= 3)
 }
 
 fn all_recognised(options: &[Opt]) -> bool
@@ -63,6 +64,7 @@ fn is_understood(options: &[Opt]) -> bool
         && is_once(options, number::URI_HOST)
         && is_once(options, number::URI_PORT)
         && is_once(options, number::ACCEPT)
+        && is_once(options, number::BLOCK2)
 }
 
 /// The number that the first option of that kind stands for.

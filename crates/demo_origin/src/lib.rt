@@ -9,6 +9,7 @@
 mod answer;
 mod arrival;
 mod behaviour;
+mod blocks;
 mod execution;
 mod fault;
 mod handler;
@@ -25,6 +26,7 @@ mod state;
 pub use answer::Asker;
 pub use arrival::Arrival;
 pub use behaviour::Behaviour;
+pub use blocks::{BlockSize, Named, Part};
 pub use execution::{Outcome, Taken};
 pub use fault::{Memory, Refused};
 pub use handler::{Boxed, Call, Handler};

@@ -12,6 +12,7 @@ ghost use Rattle.demo_origin.specs.Once.{IsFirst};
 use crate::answer::{Asker, drop_old, drop_unknown, send};
 use crate::arrival::{Arrival, arrival_at};
 use crate::behaviour::Behaviour;
+use crate::blocks::{BlockSize, named_in};
 use crate::execution::{Outcome, Taken, execute, read, refuse, request_of};
 use crate::fault::Memory;
 use crate::handler::Handler;
@@ -20,7 +21,7 @@ use crate::rejection::{reset, reset_undecoded};
 use crate::request::{CoapRequest, Method};
 use crate::resource::Resource;
 use crate::state::{Datagram, Held, State};
-use coap_codec::{CodecFault, Message, decode};
+use coap_codec::{CodecFault, Message, decode, number};
 use message_layer::Bytes;
 use std::alloc::Global;
 use std::collections::VecDeque;
@@ -41,26 +42,29 @@ pub struct Origin<H: Behaviour> {
 }
 
 impl<H: Behaviour> Origin<H> {
-    /// A device with these resources, each at version 0. Of equal paths the first counts.
-    pub fn new(alloc: Global, resources: Vec<Resource<H>>) -> Result<Origin<H>, Memory>
-        requires { EachKeeps H.holds resources.items }
+    /// A device with these resources, each at version 0. Of equal paths the first counts. `block`
+    /// is the size exponent of its pieces (RFC 7959, section 2.2).
+    pub fn new(alloc: Global, block: u8, resources: Vec<Resource<H>>) -> Result<Origin<H>, Memory>
+        requires block { block < 7 }
+        requires keep { EachKeeps H.holds resources.items }
         ensures sound { IfOk result (λ o. Sound H.holds o) }
-        ensures fresh { IfOk result (λ o. device o ≡ fresh (map held_of resources.items)) }
+        ensures fresh { IfOk result (λ o. device o ≡ fresh block (map held_of resources.items)) }
     {
-        let mut origin = Origin::empty(alloc);
+        let mut origin = Origin::empty(alloc, BlockSize { szx: block });
         'each: for resource in resources {
             origin.add(resource)?;
         }
         Ok(origin)
     }
 
-    fn empty(alloc: Global) -> Origin<H>
+    fn empty(alloc: Global, block: BlockSize) -> Origin<H>
         ensures sound { Sound H.holds result }
-        ensures fresh { device result ≡ fresh [] }
+        ensures fresh { device result ≡ fresh block.szx [] }
     {
         Origin {
             alloc,
             state: State {
+                block,
                 resources: Vec::new(alloc),
                 clients: Vec::new(alloc),
                 remembered: Vec::new(alloc),
@@ -141,7 +145,8 @@ impl<H: Behaviour> Origin<H> {
                 Ok(None)
             }
             Judged::Read(place) => {
-                read(self.alloc, &mut self.state, to, place)?;
+                let named = named_in(&m, number::BLOCK2);
+                read(self.alloc, &mut self.state, to, place, named)?;
                 Ok(None)
             }
             Judged::Asked(place, method) => {

@@ -1,15 +1,15 @@
 //! What a GET is answered.
 
-ghost use Rattle.std.specs.Prelude.{◌≡◌, ◌≤◌, length, IfOk};
+ghost use Rattle.std.specs.Prelude.{◌≡◌, ◌≤◌, ◌<◌, ◌^◌, length, Some, None, IfOk};
 ghost use Rattle.coap_codec.specs.Spelling.{entries, entry};
-ghost use Rattle.coap_codec.specs.Values.{uint, IsShortest};
+ghost use Rattle.coap_codec.specs.Values.{uint, IsBlock, IsShortest};
 ghost use Rattle.coap_codec.specs.Writing.{IsInOrder, IsShort};
 ghost use Rattle.std.specs.List.{AllByRecursion};
 ghost use Rattle.demo_origin.specs.Answers.{Describes};
 
 use crate::fault::{Memory, out_of_memory};
 use crate::state::Held;
-use coap_codec::{Opt, number, uint_to};
+use coap_codec::{Block, Opt, number, uint_to};
 use std::alloc::Global;
 
 /// The option with the shortest value that stands for a number.
@@ -22,15 +22,51 @@ fn number_option(alloc: Global, number: u16, n: u32) -> Result<Opt, Memory>
     Ok(Opt { number, value })
 }
 
-/// The options that describe the state of a resource: ETag, Content-Format and Max-Age.
-pub(crate) fn described(alloc: Global, held: &Held) -> Result<Vec<Opt>, Memory>
-    ensures describes { IfOk result (λ v. Describes held.now (entries v.items)) }
+/// How long the state stays fresh.
+fn max_age_of(alloc: Global, held: &Held) -> Result<Opt, Memory>
+    ensures number { IfOk result (λ o. o.number ≡ 14) }
+    ensures value { IfOk result (λ o.
+        (uint o.value.items ≡ held.now.max_age) × IsShortest o.value.items) }
+    ensures len { IfOk result (λ o. length o.value.items ≤ 4) }
+{
+    number_option(alloc, number::MAX_AGE, held.max_age)
+}
+
+/// The number that stands for a block.
+fn block_number(b: Block) -> u32
+    requires num { b.num < 2 ^ 20 }
+    requires szx { b.szx < 7 }
+    ensures { IsBlock b result }
+{
+    let more = if b.more { 8 } else { 0 };
+    16 * b.num + more + u32::from(b.szx)
+}
+
+/// The options that describe a piece of a state: ETag, Content-Format, Max-Age and Block2.
+pub(crate) fn described_piece(alloc: Global, held: &Held, b: Block) -> Result<Vec<Opt>, Memory>
+    requires num { b.num < 2 ^ 20 }
+    requires szx { b.szx < 7 }
+    ensures describes { IfOk result (λ v. Describes held.now (Some b) (entries v.items)) }
     ensures in_order { IfOk result (λ v. IsInOrder 0 (entries v.items)) }
     ensures short { IfOk result (λ v. AllByRecursion IsShort (entries v.items)) }
 {
     let etag = Opt::new(alloc, number::ETAG, &held.version.to_be_bytes()).map_err(out_of_memory)?;
     let format = number_option(alloc, number::CONTENT_FORMAT, u32::from(held.format))?;
-    let max_age = number_option(alloc, number::MAX_AGE, held.max_age)?;
+    let max_age = max_age_of(alloc, held)?;
+    let block = number_option(alloc, number::BLOCK2, block_number(b))?;
+    let options = Vec::from_array(alloc, [etag, format, max_age, block])?;
+    Ok(options)
+}
+
+/// The options that describe a whole state: ETag, Content-Format and Max-Age.
+pub(crate) fn described(alloc: Global, held: &Held) -> Result<Vec<Opt>, Memory>
+    ensures describes { IfOk result (λ v. Describes held.now None (entries v.items)) }
+    ensures in_order { IfOk result (λ v. IsInOrder 0 (entries v.items)) }
+    ensures short { IfOk result (λ v. AllByRecursion IsShort (entries v.items)) }
+{
+    let etag = Opt::new(alloc, number::ETAG, &held.version.to_be_bytes()).map_err(out_of_memory)?;
+    let format = number_option(alloc, number::CONTENT_FORMAT, u32::from(held.format))?;
+    let max_age = max_age_of(alloc, held)?;
     let options = Vec::from_array(alloc, [etag, format, max_age])?;
     Ok(options)
 }

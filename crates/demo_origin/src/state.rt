@@ -1,5 +1,6 @@
 //! What a device keeps: plain data in the terms of RFC 7252.
 
+use crate::blocks::BlockSize;
 use crate::segments::Segments;
 use message_layer::Bytes;
 use std::collections::VecDeque;
@@ -44,6 +45,8 @@ pub struct Datagram {
 /// What a device keeps, and the datagrams that are to be given out.
 #[derive(Drop)]
 pub struct State {
+    /// The size of its pieces.
+    pub block: BlockSize,
     pub resources: Vec<Held>,
     pub clients: Vec<Client>,
     pub remembered: Vec<Remembered>,

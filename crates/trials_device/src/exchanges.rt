@@ -27,7 +27,7 @@ fn a_repeated_post_is_executed_once(rt: HostRuntime) {
     };
     let mut all: Vec<Resource<Kinds>> = Vec::new(alloc);
     install(&mut all, counter).expect(&rt, "memory");
-    let mut origin = Origin::new(alloc, all).expect(&rt, "memory");
+    let mut origin = Origin::new(alloc, 6, all).expect(&rt, "memory");
 
     assert_eq!(rt; told(&mut origin, 0, peer(5000), &POST), Did::Executed);
     assert!(rt; sends(&mut origin, peer(5000), &COUNTED));
@@ -80,7 +80,7 @@ fn a_cell_keeps_what_is_put(rt: HostRuntime) {
     };
     let mut all: Vec<Resource<Kinds>> = Vec::new(alloc);
     install(&mut all, cell).expect(&rt, "memory");
-    let mut origin = Origin::new(alloc, all).expect(&rt, "memory");
+    let mut origin = Origin::new(alloc, 6, all).expect(&rt, "memory");
 
     // PUT of s as NON 9, which is answered by a NON of the device's own ID
     let put = [0x50, 0x03, 0x00, 0x09, 0xb1, 0x73, 0xff, 0x6f, 0x6e];

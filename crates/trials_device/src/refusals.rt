@@ -6,7 +6,7 @@ use demo_origin::Origin;
 #[test]
 fn nothing_is_executed(rt: HostRuntime) {
     let alloc = rt.alloc();
-    let mut origin: Origin<Kinds> = Origin::new(alloc, Vec::new(alloc)).expect(&rt, "memory");
+    let mut origin: Origin<Kinds> = Origin::new(alloc, 6, Vec::new(alloc)).expect(&rt, "memory");
 
     // GET of x: 4.04
     let get = [0x42, 0x01, 0x00, 0x08, 0xab, 0xcd, 0xb1, 0x78];

@@ -8,7 +8,7 @@ use Rattle.demo_origin.proofs.origin.Origin.new.Goals as goal
 pub add-requires-clause-keeps : goal.add-requires-clause-keeps
 add-requires-clause-keeps g c =
     let x = c.in-Some.resource in
-    c.requires.each x
+    c.requires.keep.each x
     (next_among c.each.yielded _ c.args.resources.items _ x c.each.invariant.0
     c.in-Some.ensures.steps.0)
 
@@ -22,7 +22,7 @@ each-preserved g c =
       c.in_ok-add.ensures.sound,
       c.in_ok-add.ensures.added
           ∙ ap (with_one (held_of x)) at.invariant.2
-          ∙ ap fresh (sym (map_push held_of at.yielded x)),
+          ∙ ap (fresh c.args.block) (sym (map_push held_of at.yielded x)),
       let was = at.invariant.3 in
           let gone = c.in-Some.ensures.steps.1 in
           let short = ap length steps in

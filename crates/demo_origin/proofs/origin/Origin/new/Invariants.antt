@@ -8,5 +8,5 @@ abbrev pub invariant-each : goal.invariant-each
 invariant-each g l =
     (l.yielded ++ into_iter_items l.resource-iterator ≡ l.fn.resources.items)
     × Sound g.H.Behaviour.holds l.origin
-    × (seen l.origin.state ≡ fresh (map held_of l.yielded))
+    × (seen l.origin.state ≡ fresh l.fn.block (map held_of l.yielded))
     × (into_iter_len l.resource-iterator ≡ length (into_iter_items l.resource-iterator))
