@@ -18,7 +18,16 @@ use Rattle.demo_origin.specs.Peers.{same_address, same_peer}
 use Rattle.demo_origin.specs.Arrivals.{is_live, is_repeat, is_full, is_request, arrived_before, arrival_of, arrival_by, arrival}
 use Rattle.demo_origin.specs.Answers.{memory_of, Answers, Reads, sent, answered}
 use Rattle.demo_origin.specs.Requests.{judged}
-use Rattle.demo_origin.specs.Hearing.{asker, rst, undecoded, Executes, Processes, Takes, HearsRead, HearsBy, Hears}
+use Rattle.coap_codec.specs.Values.{values}
+use Rattle.coap_codec.specs.declared.block.Block.{Block}
+use Rattle.demo_origin.specs.Blocks.{named_by}
+use Rattle.demo_origin.specs.Uploads.{with_piece, with_body}
+use Rattle.demo_origin.specs.declared.blocks.Named.{Named}
+use Rattle.demo_origin.specs.declared.blocks.Named.TheVariants.{Absent, Reserved, Is}
+use Rattle.demo_origin.specs.declared.uploads.Joined.{Joined}
+use Rattle.demo_origin.specs.declared.uploads.Joined.TheVariants.{Gap, TooLarge, Next, Last}
+use Rattle.demo_origin.specs.declared.request.Method.{Method}
+use Rattle.demo_origin.specs.Hearing.{asker, rst, undecoded, piece_after, Finishes, TakesPiece, Asks, Executes, Processes, Takes, HearsRead, HearsBy, Hears}
 use Rattle.demo_origin.specs.Once.{IsRemembered, IsFirst}
 use Rattle.demo_origin.specs.declared.answer.Asker.{Asker}
 use Rattle.demo_origin.specs.declared.state.Held.{Held}
@@ -131,13 +140,39 @@ not_some : (o : Option Taken) → o ≡ None → IsSome o → ⊥
 not_some None e s = cc
 not_some (Some x) e s = cc
 
+pub finishes_add : (holds : Relation) (to : Asker) (m : Content) (i : ℕ) (method : Method)
+    (b : Block) (old new : Device) (taken : Taken)
+    → Finishes holds to m i method b old new taken → Adds to old new
+finishes_add holds to m i method b old new taken h =
+    let body = with_piece to.peer i b m.payload old in
+    let a = executes_adds holds to (with_body body m) i method old h.0 taken h.1 in
+    record { bytes = a.bytes; is = ap (λ (d : Device). d.remembered) h.2 ∙ a.is }
+
+takes_piece : (holds : Relation) (to : Asker) (m : Content) (i : ℕ) (method : Method) (b : Block)
+    (j : Joined) (old new : Device) (taken : Option Taken)
+    → TakesPiece holds to m i method b j old new taken → IsSome taken → Adds to old new
+takes_piece holds to m i method b Gap old new taken h s = absurd (not_some taken h.1 s)
+takes_piece holds to m i method b TooLarge old new taken h s = absurd (not_some taken h.1 s)
+takes_piece holds to m i method b Next old new taken h s = absurd (not_some taken h.1 s)
+takes_piece holds to m i method b Last old new taken h s =
+    finishes_add holds to m i method b old new h.0 h.2
+
+asks_add : (holds : Relation) (to : Asker) (m : Content) (i : ℕ) (method : Method) (named : Named)
+    (old new : Device) (taken : Option Taken)
+    → Asks holds to m i method named old new taken → IsSome taken → Adds to old new
+asks_add holds to m i method Absent old new taken h s =
+    executes_adds holds to m i method old new h.0 h.2
+asks_add holds to m i method Reserved old new taken h s = absurd (not_some taken h.1 s)
+asks_add holds to m i method (Is b) old new taken h s =
+    takes_piece holds to m i method b (piece_after to.peer i b m old) old new taken h s
+
 processes_adds : (holds : Relation) (to : Asker) (m : Content) (j : Judged) (old new : Device)
     (taken : Option Taken) → Processes holds to m j old new taken → IsSome taken → Adds to old new
 processes_adds holds to m Dropped old new taken h s = absurd (not_some taken h.1 s)
 processes_adds holds to m (Refused code) old new taken h s = absurd (not_some taken h.1 s)
 processes_adds holds to m (Read i) old new taken h s = absurd (not_some taken h.1 s)
 processes_adds holds to m (Asked i method) old new taken h s =
-    executes_adds holds to m i method old new h.0 h.2
+    asks_add holds to m i method (named_by (values 27 m.options)) old new taken h s
 
 takes_first : (holds : Relation) (t : ℕ) (p : Peer) (m : Content) (a : Arrival) (old new : Device)
     (taken : Option Taken) → arrival t p m old ≡ a → Takes holds t p m a old new taken → IsSome taken

@@ -18,7 +18,13 @@ use Rattle.demo_origin.specs.declared.blocks.Named.{Named}
 use Rattle.demo_origin.specs.declared.blocks.Part.{Part}
 use Rattle.demo_origin.specs.declared.blocks.Part.TheVariants.{Whole, Piece, Past}
 use Rattle.demo_origin.specs.Requests.{judged}
-use Rattle.demo_origin.specs.Hearing.{asker, undecoded, Executes, Processes, Takes, HearsRead, HearsBy, Hears}
+use Rattle.coap_codec.specs.declared.block.Block.{Block}
+use Rattle.demo_origin.specs.Pieces.{holding, KeepsPiece, GivesUp}
+use Rattle.demo_origin.specs.declared.blocks.Named.TheVariants.{Absent, Reserved, Is}
+use Rattle.demo_origin.specs.declared.uploads.Joined.{Joined}
+use Rattle.demo_origin.specs.declared.uploads.Joined.TheVariants.{Gap, TooLarge, Next, Last}
+use Rattle.demo_origin.specs.declared.request.Method.{Method}
+use Rattle.demo_origin.specs.Hearing.{piece_after, TakesPiece, Asks, asker, undecoded, Executes, Processes, Takes, HearsRead, HearsBy, Hears}
 use Rattle.demo_origin.specs.Origins.{ticked, sent_by, sent_out}
 use Rattle.demo_origin.specs.Once.{IsRemembered, IsFirst, Event, heard, looked, gave, Steps, Runs, IsBy, Executed, ExecutedOnce}
 use Rattle.demo_origin.specs.declared.answer.Asker.{Asker}
@@ -30,7 +36,7 @@ use Rattle.demo_origin.specs.declared.arrival.Arrival.{Arrival}
 use Rattle.demo_origin.specs.declared.arrival.Arrival.TheVariants.{Ignored, Rejected, Repeated, Fresh}
 use Rattle.demo_origin.specs.declared.judge.Judged.{Judged}
 use Rattle.demo_origin.specs.declared.judge.Judged.TheVariants.{Dropped, Refused, Read, Asked}
-use Rattle.demo_origin.proofs.First.{stays, answers_add, executes_adds, Adds, hears_first}
+use Rattle.demo_origin.proofs.First.{stays, answers_add, executes_adds, finishes_add, Adds, hears_first}
 
 -- What is remembered stays, or only what is too old goes and something is added.
 abbrev Keeps : ℕ → Device → Device → Type 0
@@ -59,6 +65,37 @@ reads to named None old new h = absurd h
 reads to named (Some held) old new h =
     parts to held (part_of named old.block (length held.state)) old new h
 
+gives_up : (to : Asker) (i code : ℕ) (old new : Device)
+    → GivesUp to i code old new → Keeps to.moment old new
+gives_up to i code old new h =
+    let a = answers_add to code [] [] old h.middle h.answers in
+    inr (memory_of to a.bytes ∷ [], ap (λ (d : Device). d.remembered) h.is ∙ a.is)
+
+keeps_piece : (to : Asker) (i : ℕ) (b : Block) (payload : List ℕ) (old new : Device)
+    → KeepsPiece to i b payload old new → Keeps to.moment old new
+keeps_piece to i b payload old new h =
+    let a = answers_add to 95 h.options [] (holding to i b payload old) new h.answers in
+    inr (memory_of to a.bytes ∷ [], a.is)
+
+pieces : (holds : Relation) (to : Asker) (m : Content) (i : ℕ) (method : Method) (b : Block)
+    (j : Joined) (old new : Device) (taken : Option Taken)
+    → TakesPiece holds to m i method b j old new taken → Keeps to.moment old new
+pieces holds to m i method b Gap old new taken h = gives_up to i 136 old new h.0
+pieces holds to m i method b TooLarge old new taken h = gives_up to i 141 old new h.0
+pieces holds to m i method b Next old new taken h = keeps_piece to i b m.payload old new h.0
+pieces holds to m i method b Last old new taken h =
+    adds to old new (finishes_add holds to m i method b old new h.0 h.2)
+
+asks : (holds : Relation) (to : Asker) (m : Content) (i : ℕ) (method : Method) (named : Named)
+    (old new : Device) (taken : Option Taken)
+    → Asks holds to m i method named old new taken → Keeps to.moment old new
+asks holds to m i method Absent old new taken h =
+    adds to old new (executes_adds holds to m i method old new h.0 h.2)
+asks holds to m i method Reserved old new taken h =
+    adds to old new (answers_add to 128 [] [] old new h.0)
+asks holds to m i method (Is b) old new taken h =
+    pieces holds to m i method b (piece_after to.peer i b m old) old new taken h
+
 processes : (holds : Relation) (to : Asker) (m : Content) (j : Judged) (old new : Device)
     (taken : Option Taken) → Processes holds to m j old new taken → Keeps to.moment old new
 processes holds to m Dropped old new taken h = same to.moment old new h.0
@@ -67,7 +104,7 @@ processes holds to m (Refused code) old new taken h =
 processes holds to m (Read i) old new taken h =
     reads to (named_by (values 23 m.options)) (slice_get old.resources i) old new h.0
 processes holds to m (Asked i method) old new taken h =
-    adds to old new (executes_adds holds to m i method old new h.0 h.2)
+    asks holds to m i method (named_by (values 27 m.options)) old new taken h
 
 takes : (holds : Relation) (t : ℕ) (p : Peer) (m : Content) (a : Arrival) (old new : Device)
     (taken : Option Taken) → Takes holds t p m a old new taken → Keeps t old new

@@ -10,6 +10,13 @@ use Rattle.message_layer.specs.Hearing.{reset_for}
 use Rattle.demo_origin.specs.Values.{Device, Relation, Replied}
 use Rattle.demo_origin.specs.Arrivals.{arrival}
 use Rattle.demo_origin.specs.Blocks.{named_by}
+use Rattle.demo_origin.specs.Uploads.{upload_of, body_at, before_piece, joined, with_piece, with_body, without}
+use Rattle.demo_origin.specs.Pieces.{KeepsPiece, GivesUp}
+use Rattle.coap_codec.specs.declared.block.Block.{Block}
+use Rattle.demo_origin.specs.declared.blocks.Named.{Named}
+use Rattle.demo_origin.specs.declared.blocks.Named.TheVariants.{Absent, Reserved, Is}
+use Rattle.demo_origin.specs.declared.uploads.Joined.{Joined}
+use Rattle.demo_origin.specs.declared.uploads.Joined.TheVariants.{Gap, TooLarge, Next, Last}
 use Rattle.demo_origin.specs.Requests.{asked, judged}
 use Rattle.demo_origin.specs.Keeps.{IsKept}
 use Rattle.demo_origin.specs.Answers.{Answers, Reads, sent}
@@ -81,6 +88,38 @@ pub record Executes (holds : Relation) (to : Asker) (m : Content) (i : ℕ) (met
   pub comes : Comes holds held.state (asked method m) after reply
   pub changes : ChangesHeld to i method held after reply old new taken
 
+-- The last piece of a body executes the request, once, with all that came.
+abbrev pub Finishes : Relation → Asker → Content → ℕ → Method → Block
+    → Device → Device → Taken → Type 0
+Finishes holds to m i method b old new taken =
+    (middle : Device)
+    × Executes holds to (with_body (with_piece to.peer i b m.payload old) m) i method old middle taken
+    × (new ≡ without to.peer i middle)
+
+-- what the piece is to those before it
+abbrev pub piece_after : Peer → ℕ → Block → Content → Device → Joined
+piece_after p i b m s =
+    joined b (length (before_piece b (body_at (upload_of p i s.uploads) s.uploads)))
+    (length m.payload)
+
+abbrev pub TakesPiece : Relation → Asker → Content → ℕ → Method → Block → Joined
+    → Device → Device → Option Taken → Type 0
+TakesPiece holds to m i method b Gap old new taken = GivesUp to i 136 old new × (taken ≡ None)
+TakesPiece holds to m i method b TooLarge old new taken = GivesUp to i 141 old new × (taken ≡ None)
+TakesPiece holds to m i method b Next old new taken =
+    KeepsPiece to i b m.payload old new × (taken ≡ None)
+TakesPiece holds to m i method b Last old new taken =
+    (done : Taken) × (taken ≡ Some done) × Finishes holds to m i method b old new done
+
+-- The handler is asked once the body is whole. A reserved block is answered by 4.00.
+abbrev pub Asks : Relation → Asker → Content → ℕ → Method → Named
+    → Device → Device → Option Taken → Type 0
+Asks holds to m i method Absent old new taken =
+    (done : Taken) × (taken ≡ Some done) × Executes holds to m i method old new done
+Asks holds to m i method Reserved old new taken = Answers to 128 [] [] old new × (taken ≡ None)
+Asks holds to m i method (Is b) old new taken =
+    TakesPiece holds to m i method b (piece_after to.peer i b m old) old new taken
+
 -- a request that wasn't answered before
 abbrev pub Processes : Relation → Asker → Content → Judged
     → Device → Device → Option Taken → Type 0
@@ -91,7 +130,7 @@ Processes holds to m (Read i) old new taken =
     Reads to (named_by (values 23 m.options)) (slice_get old.resources i) old new
     × (taken ≡ None)
 Processes holds to m (Asked i method) old new taken =
-    (done : Taken) × (taken ≡ Some done) × Executes holds to m i method old new done
+    Asks holds to m i method (named_by (values 27 m.options)) old new taken
 
 abbrev pub rst : ℕ → List ℕ
 rst mid = 112 ∷ 0 ∷ (mid / 256) ∷ (mid % 256) ∷ []

@@ -4,7 +4,9 @@ pub mod Arrivals
 pub mod Blocks
 pub mod Requests
 pub mod Keeps
+pub mod Uploads
 pub mod Answers
+pub mod Pieces
 pub mod Hearing
 pub mod Origins
 pub mod Once

@@ -2,6 +2,8 @@
 use Rattle.std.specs.Prelude.{◌≡◌, ℕ, List, [], ◌∷◌, ◌++◌, length, filter, Contains, Option, Some, None}
 use Rattle.demo_origin.specs.Values.{Device, Relation, seen}
 use Rattle.demo_origin.specs.Arrivals.{is_live, is_remembered}
+use Rattle.demo_origin.specs.Uploads.{is_from}
+use Rattle.demo_origin.specs.declared.state.Client.{Client}
 use Rattle.demo_origin.specs.Keeps.{AllKeep, KeepsRelation}
 use Rattle.demo_origin.specs.declared.state.Datagram.{Datagram}
 use Rattle.demo_origin.specs.declared.state.Held.{Held}
@@ -33,6 +35,7 @@ fresh block resources = record {
   resources = resources;
   clients = [];
   remembered = [];
+  uploads = [];
   out = [];
 }
 
@@ -49,11 +52,16 @@ held_of r = record {
 abbrev pub with_one : Held → Device → Device
 with_one h s = record s { resources = s.resources ++ h ∷ [] }
 
--- what was answered too long ago is forgotten, and who has nothing else
+-- the peers of whom something is remembered
+abbrev pub known_at : ℕ → Device → List Client
+known_at t s = filter (is_remembered (filter (is_live t) s.remembered)) s.clients
+
+-- what was answered too long ago is forgotten, and who has nothing else, with the pieces
 abbrev pub ticked : ℕ → Device → Device
 ticked t s = record s {
-  clients = filter (is_remembered (filter (is_live t) s.remembered)) s.clients;
+  clients = known_at t s;
   remembered = filter (is_live t) s.remembered;
+  uploads = filter (is_from (known_at t s)) s.uploads;
 }
 
 abbrev pub sent_by : Device → List Datagram → Device × Option Datagram

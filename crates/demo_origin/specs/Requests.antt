@@ -14,8 +14,8 @@ use Rattle.demo_origin.specs.declared.request.CoapRequest.{CoapRequest}
 use Rattle.demo_origin.specs.declared.judge.Judged.{Judged}
 use Rattle.demo_origin.specs.declared.judge.Judged.TheVariants.{Dropped, Refused, Read, Asked}
 
--- The critical options that are recognised: Uri-Host, Uri-Port, Uri-Path, Uri-Query, Accept and
--- Block2, each of a length that it may have (section 5.4.3; RFC 7959, section 2.1).
+-- The critical options that are recognised: Uri-Host, Uri-Port, Uri-Path, Uri-Query, Accept,
+-- Block2 and Block1, each of a length that it may have (section 5.4.3; RFC 7959, section 2.1).
 abbrev pub is_recognised : Entry → Bool
 is_recognised o =
     not (is_critical_number o.number)
@@ -24,7 +24,8 @@ is_recognised o =
     || (((o.number == 3) && (nat_le 1 (length o.value) && nat_le (length o.value) 255))
     || (((o.number == 7) && nat_le (length o.value) 2)
     || (((o.number == 17) && nat_le (length o.value) 2)
-    || ((o.number == 23) && nat_le (length o.value) 3))))))
+    || (((o.number == 23) && nat_le (length o.value) 3)
+    || ((o.number == 27) && nat_le (length o.value) 3)))))))
 
 abbrev pub has_number : ℕ → Entry → Bool
 has_number n o = o.number == n
@@ -34,7 +35,7 @@ abbrev pub is_once : ℕ → List Entry → Bool
 is_once n os = nat_le (count_by (has_number n) os) 1
 
 abbrev pub is_understood : List Entry → Bool
-is_understood os = list_all is_recognised os && (is_once 3 os && (is_once 7 os && (is_once 17 os && is_once 23 os)))
+is_understood os = list_all is_recognised os && (is_once 3 os && (is_once 7 os && (is_once 17 os && (is_once 23 os && is_once 27 os))))
 
 -- the number of the first option, where its value has at most two bytes
 abbrev pub number_in : List (List ℕ) → Option ℕ

@@ -3,6 +3,7 @@ use Rattle.std.specs.Prelude.{ℕ, List, Bool}
 use Rattle.demo_origin.specs.declared.state.Held.{Held}
 use Rattle.demo_origin.specs.declared.state.Client.{Client}
 use Rattle.demo_origin.specs.declared.state.Remembered.{Remembered}
+use Rattle.demo_origin.specs.declared.state.Upload.{Upload}
 use Rattle.demo_origin.specs.declared.state.Datagram.{Datagram}
 use Rattle.demo_origin.specs.declared.state.State.{State}
 use Rattle.demo_origin.specs.declared.request.CoapRequest.{CoapRequest}
@@ -17,6 +18,8 @@ pub record Device : Type 0 where
   pub clients : List Client
   -- the requests that were answered, and are not executed again
   pub remembered : List Remembered
+  -- the bodies of which some pieces came
+  pub uploads : List Upload
   -- the datagrams to be given out, in order
   pub out : List Datagram
 
@@ -26,6 +29,7 @@ seen s = record {
   resources = s.resources.items;
   clients = s.clients.items;
   remembered = s.remembered.items;
+  uploads = s.uploads.items;
   out = s.out.items;
 }
 

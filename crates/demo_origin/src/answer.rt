@@ -147,7 +147,7 @@ pub struct Asker {
 }
 
 /// Sends the answer, and remembers it.
-fn send_answer(s: &mut State, to: Asker, bytes: Bytes, again: Bytes)
+pub(crate) fn send_answer(s: &mut State, to: Asker, bytes: Bytes, again: Bytes)
     requires room { HasRoom s.old }
     requires equal { again ≡ bytes }
     ensures { seen s.new ≡ answered to bytes (seen s.old) }
@@ -191,6 +191,38 @@ fn bytes_of(
     };
     let bytes = encode(alloc, &m).map_err(out_of_memory)?;
     Ok(Bytes::new(alloc, bytes)?)
+}
+
+/// An answer that is ready: to be sent, and to be kept for repeats.
+#[derive(Drop)]
+pub(crate) struct Ready {
+    pub bytes: Bytes,
+    pub again: Bytes,
+}
+
+/// Makes an answer, and room for it.
+pub(crate) fn prepared(
+    alloc: Global,
+    s: &mut State,
+    to: Asker,
+    code: u8,
+    options: Vec<Opt>,
+    payload: Vec<u8>,
+) -> Result<Ready, Memory>
+    requires code { code ≢ 0 }
+    requires in_order { IsInOrder 0 (entries options.items) }
+    requires short { AllByRecursion IsShort (entries options.items) }
+    ensures same { seen s.new ≡ seen s.old }
+    ensures room { OnOk result (HasRoom s.new) }
+    ensures spelled { IfOk result (λ r. let own = own_mid to.peer s.old.clients.items in
+        Spells (answer_to to own code (entries options.items) payload.items) r.bytes) }
+    ensures equal { IfOk result (λ r. r.again ≡ r.bytes) }
+{
+    let own = own_mid(&s.clients, &to.peer);
+    let bytes = bytes_of(alloc, to, own, code, options, payload)?;
+    let again = bytes.share()?;
+    make_room(s)?;
+    Ok(Ready { bytes, again })
 }
 
 /// Answers a request.

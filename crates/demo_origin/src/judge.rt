@@ -41,6 +41,7 @@ fn is_recognised(o: &Opt) -> bool
         || (o.number == number::URI_PORT && len <= 2)
         || (o.number == number::ACCEPT && len <= 2)
         || (o.number == number::BLOCK2 && len <= 3)
+        || (o.number == number::BLOCK1 && len <= 3)
 }
 
 fn all_recognised(options: &[Opt]) -> bool
@@ -65,6 +66,7 @@ fn is_understood(options: &[Opt]) -> bool
         && is_once(options, number::URI_PORT)
         && is_once(options, number::ACCEPT)
         && is_once(options, number::BLOCK2)
+        && is_once(options, number::BLOCK1)
 }
 
 /// The number that the first option of that kind stands for.

@@ -1,9 +1,11 @@
 //! A demonstration device.
 
-ghost use Rattle.std.specs.Prelude.{◌≡◌, ◌≢◌, ◌<◌, length, map, [], slice_get, IfOk, IfSome, IsSome, OnOk, OnErr};
+ghost use Rattle.std.specs.Prelude.{◌≡◌, ◌≢◌, ◌<◌, ◌^◌, length, map, [], slice_get, IfOk, IfSome, IsSome, OnOk, OnErr};
 ghost use Rattle.coap_codec.specs.Spelling.{content};
 ghost use Rattle.demo_origin.specs.Requests.{CanChange, judged};
-ghost use Rattle.demo_origin.specs.Hearing.{reply_of, Comes, Executes, Processes, Takes, Hears};
+ghost use Rattle.demo_origin.specs.Hearing.{reply_of, Comes, Executes, Finishes, TakesPiece, Asks, Processes, Takes, Hears};
+ghost use Rattle.demo_origin.specs.Blocks.{IsSized};
+ghost use Rattle.demo_origin.specs.Hearing.{piece_after};
 ghost use Rattle.demo_origin.specs.Arrivals.{arrival};
 ghost use Rattle.demo_origin.specs.Keeps.{KeepsRelation};
 ghost use Rattle.demo_origin.specs.Origins.{Sound, EachKeeps, device, count, fresh, held_of, with_one, ticked, sent_out};
@@ -12,7 +14,7 @@ ghost use Rattle.demo_origin.specs.Once.{IsFirst};
 use crate::answer::{Asker, drop_old, drop_unknown, send};
 use crate::arrival::{Arrival, arrival_at};
 use crate::behaviour::Behaviour;
-use crate::blocks::{BlockSize, named_in};
+use crate::blocks::{BlockSize, Named, named_in};
 use crate::execution::{Outcome, Taken, execute, read, refuse, request_of};
 use crate::fault::Memory;
 use crate::handler::Handler;
@@ -21,11 +23,24 @@ use crate::rejection::{reset, reset_undecoded};
 use crate::request::{CoapRequest, Method};
 use crate::resource::Resource;
 use crate::state::{Datagram, Held, State};
-use coap_codec::{CodecFault, Message, decode, number};
+use crate::uploads::{
+    Joined, before_piece, drop_orphans, drop_upload, give_up, judge_piece, keep_piece, upload_of,
+    whole_body, with_body,
+};
+use coap_codec::{Block, CodecFault, Message, decode, number};
 use message_layer::Bytes;
 use std::alloc::Global;
 use std::collections::VecDeque;
 use uri_map::Peer;
+
+/// The code 4.00.
+const BAD_REQUEST: u8 = 128;
+
+/// The code 4.08.
+const INCOMPLETE: u8 = 136;
+
+/// The code 4.13.
+const TOO_LARGE: u8 = 141;
 
 /// The longest datagram that is read, in bytes.
 const MAX_DATAGRAM: usize = 2048;
@@ -68,6 +83,7 @@ impl<H: Behaviour> Origin<H> {
                 resources: Vec::new(alloc),
                 clients: Vec::new(alloc),
                 remembered: Vec::new(alloc),
+                uploads: Vec::new(alloc),
                 out: VecDeque::new(alloc),
             },
             handlers: Vec::new(alloc),
@@ -150,10 +166,113 @@ impl<H: Behaviour> Origin<H> {
                 Ok(None)
             }
             Judged::Asked(place, method) => {
+                let named = named_in(&m, number::BLOCK1);
+                let taken = self.ask(to, m, place, method, named)?;
+                Ok(taken)
+            }
+        }
+    }
+
+    /// Asks the handler, once the body is whole.
+    fn ask(
+        &mut self,
+        to: Asker,
+        m: Message,
+        place: usize,
+        method: Method,
+        named: Named,
+    ) -> Result<Option<Taken>, Memory>
+        requires sound { Sound H.holds self.old }
+        requires place { place < count self.old }
+        requires version { IfSome (slice_get self.old.state.resources.items place) CanChange }
+        requires sized { IsSized named }
+        ensures ok { IfOk result (λ taken.
+            Asks H.holds to (content m) place method named (device self.old) (device self.new) taken) }
+        ensures err { OnErr result (device self.new ≡ device self.old) }
+        ensures handlers { self.new.handlers ≡ self.old.handlers }
+        ensures resources { count self.new ≡ count self.old }
+    {
+        match named {
+            Named::Absent => {
                 let taken = self.execute(to, m, place, method)?;
                 Ok(Some(taken))
             }
+            Named::Reserved => {
+                refuse(self.alloc, &mut self.state, to, BAD_REQUEST)?;
+                Ok(None)
+            }
+            Named::Is(b) => self.take_piece(to, m, place, method, b),
         }
+    }
+
+    /// Takes a piece of a body.
+    fn take_piece(
+        &mut self,
+        to: Asker,
+        m: Message,
+        place: usize,
+        method: Method,
+        b: Block,
+    ) -> Result<Option<Taken>, Memory>
+        requires sound { Sound H.holds self.old }
+        requires place { place < count self.old }
+        requires version { IfSome (slice_get self.old.state.resources.items place) CanChange }
+        requires szx { b.szx < 7 }
+        requires num { b.num < 2 ^ 20 }
+        ensures ok { IfOk result (λ taken. let asked = content m in
+            TakesPiece H.holds to asked place method b (piece_after to.peer place b asked (device self.old))
+            (device self.old) (device self.new) taken) }
+        ensures err { OnErr result (device self.new ≡ device self.old) }
+        ensures handlers { self.new.handlers ≡ self.old.handlers }
+        ensures resources { count self.new ≡ count self.old }
+    {
+        let k = upload_of(&self.state.uploads, &to.peer, place);
+        let len = before_piece(&self.state.uploads, k, b).len();
+        match judge_piece(b, len, m.payload.len()) {
+            Joined::Gap => {
+                give_up(self.alloc, &mut self.state, to, place, INCOMPLETE)?;
+                Ok(None)
+            }
+            Joined::TooLarge => {
+                give_up(self.alloc, &mut self.state, to, place, TOO_LARGE)?;
+                Ok(None)
+            }
+            Joined::Next => {
+                keep_piece(self.alloc, &mut self.state, to, place, b, m.payload)?;
+                Ok(None)
+            }
+            Joined::Last => {
+                let taken = self.finish(to, m, place, method, b)?;
+                Ok(Some(taken))
+            }
+        }
+    }
+
+    /// Executes a request whose last piece came.
+    fn finish(
+        &mut self,
+        to: Asker,
+        m: Message,
+        place: usize,
+        method: Method,
+        b: Block,
+    ) -> Result<Taken, Memory>
+        requires sound { Sound H.holds self.old }
+        requires place { place < count self.old }
+        requires version { IfSome (slice_get self.old.state.resources.items place) CanChange }
+        ensures ok { IfOk result (λ taken.
+            Finishes H.holds to (content m) place method b (device self.old) (device self.new) taken) }
+        ensures err { OnErr result (device self.new ≡ device self.old) }
+        ensures handlers { self.new.handlers ≡ self.old.handlers }
+        ensures resources { count self.new ≡ count self.old }
+    {
+        let k = upload_of(&self.state.uploads, &to.peer, place);
+        let before = before_piece(&self.state.uploads, k, b);
+        let body = whole_body(self.alloc, before, &m.payload)?;
+        let m = with_body(m, body);
+        let taken = self.execute(to, m, place, method)?;
+        drop_upload(&mut self.state.uploads, &to.peer, place);
+        Ok(taken)
     }
 
     /// Takes a message.
@@ -242,6 +361,7 @@ impl<H: Behaviour> Origin<H> {
     {
         drop_old(&mut self.state.remembered, moment);
         drop_unknown(&mut self.state.clients, &self.state.remembered);
+        drop_orphans(&mut self.state.uploads, &self.state.clients);
     }
 
     /// The next datagram to be sent.

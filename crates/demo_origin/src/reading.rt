@@ -13,7 +13,7 @@ use coap_codec::{Block, Opt, number, uint_to};
 use std::alloc::Global;
 
 /// The option with the shortest value that stands for a number.
-fn number_option(alloc: Global, number: u16, n: u32) -> Result<Opt, Memory>
+pub(crate) fn number_option(alloc: Global, number: u16, n: u32) -> Result<Opt, Memory>
     ensures number { IfOk result (λ o. o.number ≡ number) }
     ensures value { IfOk result (λ o. (uint o.value.items ≡ n) × IsShortest o.value.items) }
     ensures len { IfOk result (λ o. length o.value.items ≤ 4) }
@@ -33,7 +33,7 @@ fn max_age_of(alloc: Global, held: &Held) -> Result<Opt, Memory>
 }
 
 /// The number that stands for a block.
-fn block_number(b: Block) -> u32
+pub(crate) fn block_number(b: Block) -> u32
     requires num { b.num < 2 ^ 20 }
     requires szx { b.szx < 7 }
     ensures { IsBlock b result }

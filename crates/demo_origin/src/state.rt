@@ -1,6 +1,7 @@
 //! What a device keeps: plain data in the terms of RFC 7252.
 
 use crate::blocks::BlockSize;
+use crate::body::Body;
 use crate::segments::Segments;
 use message_layer::Bytes;
 use std::collections::VecDeque;
@@ -35,6 +36,14 @@ pub struct Remembered {
     pub answer: Bytes,
 }
 
+/// A body of which more comes: whose, the number of its resource, and what came.
+#[derive(Drop)]
+pub struct Upload {
+    pub peer: Peer,
+    pub place: usize,
+    pub body: Body,
+}
+
 /// A datagram to be sent.
 #[derive(Drop)]
 pub struct Datagram {
@@ -50,5 +59,6 @@ pub struct State {
     pub resources: Vec<Held>,
     pub clients: Vec<Client>,
     pub remembered: Vec<Remembered>,
+    pub uploads: Vec<Upload>,
     pub out: VecDeque<Datagram>,
 }
