@@ -1,5 +1,5 @@
 -- What holds of each element holds of each of one more.
-use Rattle.std.proofs.Common.{◌≡◌, zero, suc, List, [], ◌∷◌, ◌++◌, Contains, inl, inr, length, refl, sym, arith, subst}
+use Rattle.std.proofs.Common.{◌≡◌, zero, suc, List, [], ◌∷◌, ◌++◌, Contains, inl, inr, refl, sym, arith, subst}
 use Rattle.std.proofs.lemmas.List.Elements.{Contains-append_cases, Contains-append_right}
 
 single : {Y : Type 0} (z y : Y) → Contains (z ∷ []) y → z ≡ y

@@ -1,5 +1,5 @@
 -- What is told of options is told of their entries.
-use Rattle.std.proofs.Common.{◌≡◌, ℕ, ◌+◌, ◌<◌, ◌≤◌, ◌^◌, zero, suc, List, [], ◌∷◌, refl, ap, ◌&&◌, Bool, arith}
+use Rattle.std.proofs.Common.{◌≡◌, ℕ, ◌<◌, ◌≤◌, ◌^◌, zero, suc, List, [], ◌∷◌, refl, ap, ◌&&◌, Bool, arith}
 use Rattle.std.specs.List.{list_all}
 use Rattle.coap_codec.specs.Spelling.{Entry, entry, entries}
 use Rattle.coap_codec.specs.declared.opt.Opt.{Opt}

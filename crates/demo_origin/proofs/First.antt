@@ -1,9 +1,9 @@
 -- A request is executed the first time that it is heard, and not again while it is remembered.
-use Rattle.std.proofs.Common.{◌≡◌, ℕ, zero, suc, ◌+◌, ◌-◌, ◌<◌, ◌≤◌, ◌⊎◌, inl, inr, List, [], ◌∷◌, ◌++◌, filter, Contains, Option, Some, None, Result, Ok, Err, IfOk, IsSome, Bool, true, false, cond, ◌==◌, ◌&&◌, nat_lt, length, refl, sym, ap, subst, ◌∙◌, arith}
-use Rattle.std.specs.List.{find, AllByRecursion}
-use Rattle.std.proofs.lemmas.Bool.{and_parts, and_from, ltb-true, lt-ltb}
+use Rattle.std.proofs.Common.{◌≡◌, ℕ, zero, suc, ◌+◌, ◌-◌, ◌<◌, List, [], ◌∷◌, ◌++◌, filter, Contains, Option, Some, None, Result, Ok, Err, IfOk, IsSome, Bool, true, false, cond, nat_lt, length, refl, sym, ap, subst, ◌∙◌, arith}
+use Rattle.std.specs.List.{find}
+use Rattle.std.proofs.lemmas.Bool.{and_from, lt-ltb}
 use Rattle.std.proofs.lemmas.Bool.Decides.{Decides-eqb}
-use Rattle.std.proofs.lemmas.List.Elements.{Contains-append_left, Contains-push}
+use Rattle.std.proofs.lemmas.List.Elements.{Contains-push}
 use Rattle.std.proofs.lemmas.Slice.Eq.{bytes_eq-Decides}
 use Rattle.std.specs.declared.net.ip_addr.IpAddr.{IpAddr}
 use Rattle.std.specs.declared.net.ip_addr.IpAddr.TheVariants as Ip
@@ -16,7 +16,7 @@ use Rattle.coap_codec.specs.declared.message.MsgType.TheVariants.{Con, Non, Ack,
 use Rattle.demo_origin.specs.Values.{Device, Relation}
 use Rattle.demo_origin.specs.Peers.{same_address, same_peer}
 use Rattle.demo_origin.specs.Arrivals.{is_live, is_repeat, is_full, is_request, arrived_before, arrival_of, arrival_by, arrival}
-use Rattle.demo_origin.specs.Answers.{memory_of, Answers, Reads, sent, answered}
+use Rattle.demo_origin.specs.Answers.{memory_of, Answers}
 use Rattle.demo_origin.specs.Requests.{judged}
 use Rattle.coap_codec.specs.Values.{values}
 use Rattle.coap_codec.specs.declared.block.Block.{Block}
@@ -27,10 +27,9 @@ use Rattle.demo_origin.specs.declared.blocks.Named.TheVariants.{Absent, Reserved
 use Rattle.demo_origin.specs.declared.uploads.Joined.{Joined}
 use Rattle.demo_origin.specs.declared.uploads.Joined.TheVariants.{Gap, TooLarge, Next, Last}
 use Rattle.demo_origin.specs.declared.request.Method.{Method}
-use Rattle.demo_origin.specs.Hearing.{asker, rst, undecoded, piece_after, Finishes, TakesPiece, Asks, Executes, Processes, Takes, HearsRead, HearsBy, Hears}
+use Rattle.demo_origin.specs.Hearing.{asker, piece_after, Finishes, TakesPiece, Asks, Executes, Processes, Takes, HearsRead, HearsBy, Hears}
 use Rattle.demo_origin.specs.Once.{IsRemembered, IsFirst}
 use Rattle.demo_origin.specs.declared.answer.Asker.{Asker}
-use Rattle.demo_origin.specs.declared.state.Held.{Held}
 use Rattle.demo_origin.specs.declared.state.Remembered.{Remembered}
 use Rattle.demo_origin.specs.declared.fault.Memory.{Memory}
 use Rattle.demo_origin.specs.declared.execution.Taken.{Taken}
@@ -77,7 +76,7 @@ peer_itself p =
     and_from _ _ (address_itself p.address) ((Decides-eqb p.port p.port).1 refl)
 
 -- what an answer leaves is remembered for 247 s
-repeats : (t u : ℕ) (p : Peer) (m : Content) (bytes : List ℕ)
+pub repeats : (t u : ℕ) (p : Peer) (m : Content) (bytes : List ℕ)
     → u < t + 247000 → is_repeat u p m.mid (memory_of (asker t p m) bytes) ≡ true
 repeats t u p m bytes lt =
     and_from _ _ ((Decides-eqb m.mid m.mid).1 refl)
@@ -122,6 +121,7 @@ is_new t p m s e r =
 pub record Adds (to : Asker) (old new : Device) : Type 0 where
   pub bytes : List ℕ
   pub is : new.remembered ≡ filter (is_live to.moment) old.remembered ++ memory_of to bytes ∷ []
+  pub out : new.out ≡ old.out ++ record { peer = to.peer; bytes = bytes } ∷ []
 
 pub executes_adds : (holds : Relation) (to : Asker) (m : Content) (i : ℕ) (method : _) (old new : Device)
     (taken : Taken) → Executes holds to m i method old new taken → Adds to old new
@@ -129,12 +129,17 @@ executes_adds holds to m i method old new taken h = record {
   bytes = h.changes.answers.bytes;
   is = ap (λ (d : Device). d.remembered) h.changes.is
       ∙ ap (λ (d : Device). d.remembered) h.changes.answers.is;
+  out = ap (λ (d : Device). d.out) h.changes.is ∙ ap (λ (d : Device). d.out) h.changes.answers.is;
 }
 
 pub answers_add : (to : Asker) (code : ℕ) (options : _) (payload : List ℕ) (old new : Device)
     → Answers to code options payload old new → Adds to old new
 answers_add to code options payload old new h =
-    record { bytes = h.bytes; is = ap (λ (d : Device). d.remembered) h.is }
+    record {
+      bytes = h.bytes;
+      is = ap (λ (d : Device). d.remembered) h.is;
+      out = ap (λ (d : Device). d.out) h.is;
+    }
 
 not_some : (o : Option Taken) → o ≡ None → IsSome o → ⊥
 not_some None e s = cc
@@ -146,7 +151,11 @@ pub finishes_add : (holds : Relation) (to : Asker) (m : Content) (i : ℕ) (meth
 finishes_add holds to m i method b old new taken h =
     let body = with_piece to.peer i b m.payload old in
     let a = executes_adds holds to (with_body body m) i method old h.0 taken h.1 in
-    record { bytes = a.bytes; is = ap (λ (d : Device). d.remembered) h.2 ∙ a.is }
+    record {
+      bytes = a.bytes;
+      is = ap (λ (d : Device). d.remembered) h.2 ∙ a.is;
+      out = ap (λ (d : Device). d.out) h.2 ∙ a.out;
+    }
 
 takes_piece : (holds : Relation) (to : Asker) (m : Content) (i : ℕ) (method : Method) (b : Block)
     (j : Joined) (old new : Device) (taken : Option Taken)

@@ -3,4 +3,5 @@ pub mod Each
 pub mod Entries
 pub mod First
 pub mod Repeats
+pub mod Again
 pub mod Pieces

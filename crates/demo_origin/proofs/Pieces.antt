@@ -1,16 +1,15 @@
 -- Blocks by their values, and where pieces begin.
-use Rattle.std.proofs.Common.{◌≡◌, ◌⊎◌, inl, inr, ℕ, ◌+◌, ◌*◌, ◌/◌, ◌%◌, ◌^◌, ◌<◌, ◌≤◌, Bool, true, false, ◌&&◌, nat_le, nat_lt, List, length, Option, Some, None, cond, refl, sym, ap, ◌∙◌, arith}
+use Rattle.std.proofs.Common.{◌≡◌, ℕ, ◌+◌, ◌*◌, ◌/◌, ◌%◌, ◌^◌, ◌<◌, ◌≤◌, Bool, true, false, ◌&&◌, nat_le, nat_lt, List, length, Option, Some, None, cond, refl, ap, arith}
 use Rattle.std.specs.Prelude.{IfSome, IfNone}
 use Rattle.std.proofs.Math.Nat.{div-le_self, div-mul-le_self, mul-le-mul}
 use Rattle.std.proofs.lemmas.Bool.{and_from, and_parts, le-leb, lt-ltb, leb-true, ltb-true}
 use Rattle.coap_codec.specs.declared.block.Block.{Block}
 use Rattle.coap_codec.specs.Values.{uint, IsBlock}
-use Rattle.blockwise.specs.Reading.{block_by, size_of}
+use Rattle.blockwise.specs.Reading.{block_by}
 use Rattle.blockwise.proofs.Blocks.{block_found}
-use Rattle.blockwise.proofs.WholeBlocks.{small_size}
 use Rattle.demo_origin.specs.Blocks.{named_value}
 use Rattle.demo_origin.specs.declared.blocks.Named.{Named}
-use Rattle.demo_origin.specs.declared.blocks.Named.TheVariants.{Absent, Reserved, Is}
+use Rattle.demo_origin.specs.declared.blocks.Named.TheVariants.{Reserved, Is}
 
 pub below_itself : (n k b : ℕ) → n < b → n / k < b
 below_itself n k b lt = omega (arith, div-le_self n k)

@@ -1,7 +1,7 @@
 -- What was answered is remembered, whatever is heard after it.
-use Rattle.std.proofs.Common.{◌≡◌, ℕ, ◌+◌, ◌-◌, ◌<◌, ◌≤◌, ◌⊎◌, inl, inr, List, [], ◌∷◌, ◌++◌, length, filter, slice_get, Contains, Option, Some, None, Result, Ok, Err, Bool, true, false, ◌==◌, ◌&&◌, nat_lt, refl, sym, ap, subst, ◌∙◌, arith}
+use Rattle.std.proofs.Common.{◌≡◌, ℕ, ◌-◌, ◌≤◌, ◌⊎◌, inl, inr, List, [], ◌∷◌, ◌++◌, length, filter, slice_get, Contains, Option, Some, None, Result, Ok, Err, Bool, true, false, ◌==◌, nat_lt, refl, sym, ap, subst, ◌∙◌, arith}
 use Rattle.std.specs.List.{AllByRecursion}
-use Rattle.std.proofs.lemmas.Bool.{and_parts, and_from, ltb-true, lt-ltb}
+use Rattle.std.proofs.lemmas.Bool.{and_parts, ltb-true, lt-ltb}
 use Rattle.std.proofs.lemmas.List.Elements.{Contains-append_left}
 use Rattle.uri_map.specs.declared.peer.Peer.{Peer}
 use Rattle.coap_codec.specs.Spelling.{Content}
@@ -11,7 +11,7 @@ use Rattle.message_layer.specs.Hearing.{reset_for}
 use Rattle.demo_origin.specs.Values.{Device, Relation}
 use Rattle.demo_origin.specs.Peers.{same_peer}
 use Rattle.demo_origin.specs.Arrivals.{is_live, is_repeat, arrival}
-use Rattle.demo_origin.specs.Answers.{Answers, Reads, ReadsPart, memory_of}
+use Rattle.demo_origin.specs.Answers.{Reads, ReadsPart, memory_of}
 use Rattle.coap_codec.specs.Values.{values}
 use Rattle.demo_origin.specs.Blocks.{named_by, part_of, piece_of}
 use Rattle.demo_origin.specs.declared.blocks.Named.{Named}
@@ -24,8 +24,8 @@ use Rattle.demo_origin.specs.declared.blocks.Named.TheVariants.{Absent, Reserved
 use Rattle.demo_origin.specs.declared.uploads.Joined.{Joined}
 use Rattle.demo_origin.specs.declared.uploads.Joined.TheVariants.{Gap, TooLarge, Next, Last}
 use Rattle.demo_origin.specs.declared.request.Method.{Method}
-use Rattle.demo_origin.specs.Hearing.{piece_after, TakesPiece, Asks, asker, undecoded, Executes, Processes, Takes, HearsRead, HearsBy, Hears}
-use Rattle.demo_origin.specs.Origins.{ticked, sent_by, sent_out}
+use Rattle.demo_origin.specs.Hearing.{piece_after, TakesPiece, Asks, asker, undecoded, Processes, Takes, HearsRead, HearsBy}
+use Rattle.demo_origin.specs.Origins.{sent_by}
 use Rattle.demo_origin.specs.Once.{IsRemembered, IsFirst, Event, heard, looked, gave, Steps, Runs, IsBy, Executed, ExecutedOnce}
 use Rattle.demo_origin.specs.declared.answer.Asker.{Asker}
 use Rattle.demo_origin.specs.declared.state.Held.{Held}
@@ -39,7 +39,7 @@ use Rattle.demo_origin.specs.declared.judge.Judged.TheVariants.{Dropped, Refused
 use Rattle.demo_origin.proofs.First.{stays, answers_add, executes_adds, finishes_add, Adds, hears_first}
 
 -- What is remembered stays, or only what is too old goes and something is added.
-abbrev Keeps : ℕ → Device → Device → Type 0
+abbrev pub Keeps : ℕ → Device → Device → Type 0
 Keeps t old new =
     (new.remembered ≡ old.remembered)
     ⊎ ((more : List Remembered)
@@ -127,13 +127,13 @@ hears_read holds t p d (Ok m) old new taken h =
     takes holds t p m (arrival t p m old) old new taken h
 hears_read holds t p d (Err f) old new taken h = resets t p (reset_for d) old new h.0
 
-hears : (b : Bool) (holds : Relation) (t : ℕ) (p : Peer) (d : List ℕ) (old new : Device)
+pub hears : (b : Bool) (holds : Relation) (t : ℕ) (p : Peer) (d : List ℕ) (old new : Device)
     (taken : Option Taken) → HearsBy b holds t p d old new taken → Keeps t old new
 hears true holds t p d old new taken h = same t old new h.0
 hears false holds t p d old new taken h = hears_read holds t p d (message_at d) old new taken h
 
 -- what is a repeat later is live before
-live_before : (t u : ℕ) (p : Peer) (mid : ℕ) (r : Remembered)
+pub live_before : (t u : ℕ) (p : Peer) (mid : ℕ) (r : Remembered)
     → t ≤ u → is_repeat u p mid r ≡ true → is_live t r ≡ true
 live_before t u p mid r le e =
     let a = and_parts (r.mid == mid) _ e in

@@ -19,7 +19,6 @@ use Rattle.demo_origin.specs.declared.answer.Asker.{Asker}
 use Rattle.demo_origin.specs.declared.state.Held.{Held}
 use Rattle.demo_origin.specs.declared.state.State.{State}
 use Rattle.demo_origin.specs.declared.state.Remembered.{Remembered}
-use Rattle.demo_origin.specs.declared.state.Datagram.{Datagram}
 
 -- A CON is answered in its ACK, any other request by a NON of the device's own ID.
 abbrev pub answer_kind : MsgType → MsgType

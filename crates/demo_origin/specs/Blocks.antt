@@ -1,5 +1,5 @@
 -- Bodies and states in pieces (RFC 7959, sections 2.2 to 2.4).
-use Rattle.std.specs.Prelude.{◌≡◌, ◌<◌, ℕ, ◌+◌, ◌*◌, ◌/◌, ◌%◌, ◌^◌, min, List, [], ◌∷◌, length, take, drop, Option, Some, None, Bool, nat_lt, nat_le, ◌==◌, ◌&&◌, if◌then◌else◌}
+use Rattle.std.specs.Prelude.{◌≡◌, ◌<◌, ℕ, ◌+◌, ◌*◌, ◌/◌, ◌%◌, ◌^◌, min, List, [], ◌∷◌, length, take, drop, Option, Some, None, nat_lt, nat_le, ◌==◌, ◌&&◌, if◌then◌else◌}
 use Rattle.coap_codec.specs.Spelling.{Entry}
 use Rattle.coap_codec.specs.Values.{uint, IsBlock, IsShortest}
 use Rattle.coap_codec.specs.declared.block.Block.{Block}

@@ -1,11 +1,13 @@
 -- At most once: of each message, and over whole runs (RFC 7252, section 4.5).
-use Rattle.std.specs.Prelude.{◌≡◌, ◌<◌, ◌≤◌, ◌+◌, ℕ, List, [], ◌∷◌, Contains, Option, Some, true, Ok}
+use Rattle.std.specs.Prelude.{◌≡◌, ◌<◌, ◌≤◌, ◌+◌, ℕ, List, [], ◌∷◌, ◌++◌, length, Contains, Option, Some, None, true, Ok}
 use Rattle.std.specs.List.{AllByRecursion}
 use Rattle.uri_map.specs.declared.peer.Peer.{Peer}
 use Rattle.coap_codec.specs.Spelling.{Content}
 use Rattle.coap_codec.specs.Reading.{message_at}
 use Rattle.demo_origin.specs.Values.{Device, Relation}
-use Rattle.demo_origin.specs.Arrivals.{is_repeat}
+use Rattle.demo_origin.specs.Arrivals.{is_repeat, is_request}
+use Rattle.demo_origin.specs.Answers.{sent}
+use Rattle.coap_codec.specs.declared.message.MsgType.TheVariants.{Con}
 use Rattle.demo_origin.specs.Hearing.{Hears}
 use Rattle.demo_origin.specs.Origins.{ticked, sent_out}
 use Rattle.demo_origin.specs.declared.state.Remembered.{Remembered}
@@ -64,3 +66,33 @@ ExecutedOnce holds =
     (es : List Event) (old a b new : Device) (t u : ℕ) (p : Peer) (mid : ℕ)
     → Executed holds t p mid old a → Runs holds es a b → AllByRecursion (IsBy u) es
     → u < t + 247000 → ¬ Executed holds u p mid b new
+
+-- a CON request of the peer's with that ID is heard
+pub record HearsCon (holds : Relation) (t : ℕ) (p : Peer) (mid : ℕ) (old new : Device)
+    (taken : Option Taken) : Type 0 where
+  pub datagram : List ℕ
+  pub message : Content
+  pub short : length datagram ≤ 2048
+  pub reads : message_at datagram ≡ Ok message
+  pub kind_is : message.kind ≡ Con
+  pub request : is_request message.code ≡ true
+  pub mid_is : message.mid ≡ mid
+  pub hears : Hears holds t p datagram old new taken
+
+-- it is a new one, and is answered by that datagram
+pub record FirstAnswered (holds : Relation) (t : ℕ) (p : Peer) (mid : ℕ) (answer : List ℕ)
+    (old new : Device) : Type 0 where
+  pub taken : Option Taken
+  pub con : HearsCon holds t p mid old new taken
+  pub first : ¬ IsRemembered t p mid old
+  pub goes : new.out ≡ old.out ++ record { peer = p; bytes = answer } ∷ []
+
+-- A CON that is heard again within 247 s executes nothing, and gets the datagram that answered it
+-- first, whatever is heard between them.
+abbrev pub AnsweredAlike : Relation → Type 0
+AnsweredAlike holds =
+    (es : List Event) (old a b new : Device) (t u : ℕ) (p : Peer) (mid : ℕ) (answer : List ℕ)
+    (taken : Option Taken)
+    → FirstAnswered holds t p mid answer old a → Runs holds es a b → AllByRecursion (IsBy u) es
+    → t ≤ u → u < t + 247000 → HearsCon holds u p mid b new taken
+    → (new ≡ sent p answer b) × (taken ≡ None)

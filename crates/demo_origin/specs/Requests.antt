@@ -1,5 +1,5 @@
 -- What a request is answered by, and what a handler is asked (RFC 7252, sections 5.4, 5.8, 5.10).
-use Rattle.std.specs.Prelude.{◌≡◌, ◌≢◌, ◌<◌, IfSome, slice_get, ℕ, List, [], ◌∷◌, length, count_by, Option, Some, None, Bool, true, false, not, nat_lt, nat_le, ◌==◌, ◌&&◌, ◌||◌, if◌then◌else◌}
+use Rattle.std.specs.Prelude.{◌≡◌, ◌≢◌, ◌<◌, IfSome, slice_get, ℕ, List, [], ◌∷◌, length, count_by, Option, Some, None, Bool, true, false, not, nat_le, ◌==◌, ◌&&◌, ◌||◌, if◌then◌else◌}
 use Rattle.std.specs.List.{list_all, position}
 use Rattle.std.specs.Cmp.Lexicographic.{pointwise}
 use Rattle.coap_codec.specs.Spelling.{Content, Entry}

@@ -34,7 +34,7 @@ pub use execution::{Outcome, Taken};
 pub use fault::{Memory, Refused};
 pub use handler::{Boxed, Call, Handler};
 pub use judge::Judged;
-pub use laws::executed_once;
+pub use laws::{answered_alike, executed_once};
 pub use origin::Origin;
 pub use request::{CoapRequest, Method, Reply};
 pub use resource::{Resource, install};
