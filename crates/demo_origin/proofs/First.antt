@@ -123,8 +123,9 @@ pub record Adds (to : Asker) (old new : Device) : Type 0 where
   pub is : new.remembered ≡ filter (is_live to.moment) old.remembered ++ memory_of to bytes ∷ []
   pub out : new.out ≡ old.out ++ record { peer = to.peer; bytes = bytes } ∷ []
 
-pub executes_adds : (holds : Relation) (to : Asker) (m : Content) (i : ℕ) (method : _) (old new : Device)
-    (taken : Taken) → Executes holds to m i method old new taken → Adds to old new
+pub executes_adds : (holds : Relation) (to : Asker) (m : Content) (i : ℕ) (method : _)
+    (old new : Device) (taken : Taken)
+    → Executes holds to m i method old new taken → Adds to old new
 executes_adds holds to m i method old new taken h = record {
   bytes = h.changes.answers.bytes;
   is = ap (λ (d : Device). d.remembered) h.changes.is
@@ -184,7 +185,8 @@ processes_adds holds to m (Asked i method) old new taken h s =
     asks_add holds to m i method (named_by (values 27 m.options)) old new taken h s
 
 takes_first : (holds : Relation) (t : ℕ) (p : Peer) (m : Content) (a : Arrival) (old new : Device)
-    (taken : Option Taken) → arrival t p m old ≡ a → Takes holds t p m a old new taken → IsSome taken
+    (taken : Option Taken) → arrival t p m old ≡ a → Takes holds t p m a old new taken
+    → IsSome taken
     → Adds (asker t p m) old new × (¬ IsRemembered t p m.mid old)
 takes_first holds t p m Ignored old new taken e h s = absurd (not_some taken h.1 s)
 takes_first holds t p m Rejected old new taken e h s = absurd (not_some taken h.1 s)

@@ -93,7 +93,8 @@ abbrev pub Finishes : Relation → Asker → Content → ℕ → Method → Bloc
     → Device → Device → Taken → Type 0
 Finishes holds to m i method b old new taken =
     (middle : Device)
-    × Executes holds to (with_body (with_piece to.peer i b m.payload old) m) i method old middle taken
+    × Executes holds to (with_body (with_piece to.peer i b m.payload old) m) i method
+    old middle taken
     × (new ≡ without to.peer i middle)
 
 -- what the piece is to those before it

@@ -35,7 +35,9 @@ abbrev pub is_once : ℕ → List Entry → Bool
 is_once n os = nat_le (count_by (has_number n) os) 1
 
 abbrev pub is_understood : List Entry → Bool
-is_understood os = list_all is_recognised os && (is_once 3 os && (is_once 7 os && (is_once 17 os && (is_once 23 os && is_once 27 os))))
+is_understood os =
+    list_all is_recognised os
+    && (is_once 3 os && (is_once 7 os && (is_once 17 os && (is_once 23 os && is_once 27 os))))
 
 -- the number of the first option, where its value has at most two bytes
 abbrev pub number_in : List (List ℕ) → Option ℕ

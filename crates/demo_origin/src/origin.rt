@@ -95,7 +95,8 @@ impl<H: Behaviour> Origin<H> {
         requires sound { Sound H.holds self.old }
         requires keeps { KeepsRelation H.holds resource.handler }
         ensures sound { OnOk result (Sound H.holds self.new) }
-        ensures added { OnOk result (device self.new ≡ with_one (held_of resource) (device self.old)) }
+        ensures added { OnOk result
+            (device self.new ≡ with_one (held_of resource) (device self.old)) }
     {
         self.state.resources.push(Held {
             path: resource.path,
@@ -133,7 +134,8 @@ impl<H: Behaviour> Origin<H> {
         requires place { place < count self.old }
         requires version { IfSome (slice_get self.old.state.resources.items place) CanChange }
         ensures ok { IfOk result (λ taken.
-            Executes H.holds to (content m) place method (device self.old) (device self.new) taken) }
+            Executes H.holds to (content m) place method
+            (device self.old) (device self.new) taken) }
         ensures err { OnErr result (device self.new ≡ device self.old) }
         ensures handlers { self.new.handlers ≡ self.old.handlers }
         ensures resources { count self.new ≡ count self.old }
@@ -187,7 +189,8 @@ impl<H: Behaviour> Origin<H> {
         requires version { IfSome (slice_get self.old.state.resources.items place) CanChange }
         requires sized { IsSized named }
         ensures ok { IfOk result (λ taken.
-            Asks H.holds to (content m) place method named (device self.old) (device self.new) taken) }
+            Asks H.holds to (content m) place method named
+            (device self.old) (device self.new) taken) }
         ensures err { OnErr result (device self.new ≡ device self.old) }
         ensures handlers { self.new.handlers ≡ self.old.handlers }
         ensures resources { count self.new ≡ count self.old }
@@ -220,7 +223,8 @@ impl<H: Behaviour> Origin<H> {
         requires szx { b.szx < 7 }
         requires num { b.num < 2 ^ 20 }
         ensures ok { IfOk result (λ taken. let asked = content m in
-            TakesPiece H.holds to asked place method b (piece_after to.peer place b asked (device self.old))
+            TakesPiece H.holds to asked place method b
+            (piece_after to.peer place b asked (device self.old))
             (device self.old) (device self.new) taken) }
         ensures err { OnErr result (device self.new ≡ device self.old) }
         ensures handlers { self.new.handlers ≡ self.old.handlers }
@@ -261,7 +265,8 @@ impl<H: Behaviour> Origin<H> {
         requires place { place < count self.old }
         requires version { IfSome (slice_get self.old.state.resources.items place) CanChange }
         ensures ok { IfOk result (λ taken.
-            Finishes H.holds to (content m) place method b (device self.old) (device self.new) taken) }
+            Finishes H.holds to (content m) place method b
+            (device self.old) (device self.new) taken) }
         ensures err { OnErr result (device self.new ≡ device self.old) }
         ensures handlers { self.new.handlers ≡ self.old.handlers }
         ensures resources { count self.new ≡ count self.old }
