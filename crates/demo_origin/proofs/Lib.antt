@@ -5,3 +5,4 @@ pub mod First
 pub mod Repeats
 pub mod Again
 pub mod Pieces
+pub mod Counting

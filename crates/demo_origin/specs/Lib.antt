@@ -10,3 +10,4 @@ pub mod Pieces
 pub mod Hearing
 pub mod Origins
 pub mod Once
+pub mod Kinds

@@ -1,7 +1,7 @@
 //! Exchanges with a counter and a cell.
 
-use crate::devices::{Did, Kinds, count, is_quiet, keep, path_of, peer, sends, told};
-use demo_origin::{Call, CoapRequest, Handler, Origin, Resource, install};
+use crate::devices::{Cells, Counters, Did, is_quiet, path_of, peer, sends, told};
+use demo_origin::{Call, CoapRequest, Handler, Origin, Resource, cell, counter, install};
 use message_layer::Bytes;
 use std::alloc::Global;
 
@@ -15,18 +15,18 @@ const COUNTED: [u8; 8] = [0x62, 0x44, 0x00, 0x05, 0xab, 0xcd, 0xff, 0x31];
 fn a_repeated_post_is_executed_once(rt: HostRuntime) {
     let alloc: Global = rt.alloc();
     let call: Call = Box::new(alloc, move |state: &[u8], request: &CoapRequest| {
-        count(alloc, state, request)
+        counter(alloc, state, request)
     })
     .expect(&rt, "memory");
-    let counter = Resource {
+    let resource = Resource {
         path: path_of(alloc, b"c").expect(&rt, "memory"),
         format: 0,
         max_age: 60,
         state: Bytes::new(alloc, Vec::new(alloc)).expect(&rt, "memory"),
         handler: Handler::new(call),
     };
-    let mut all: Vec<Resource<Kinds>> = Vec::new(alloc);
-    install(&mut all, counter).expect(&rt, "memory");
+    let mut all: Vec<Resource<Counters>> = Vec::new(alloc);
+    install(&mut all, resource).expect(&rt, "memory");
     let mut origin = Origin::new(alloc, 6, all).expect(&rt, "memory");
 
     assert_eq!(rt; told(&mut origin, 0, peer(5000), &POST), Did::Executed);
@@ -68,18 +68,18 @@ fn a_repeated_post_is_executed_once(rt: HostRuntime) {
 fn a_cell_keeps_what_is_put(rt: HostRuntime) {
     let alloc: Global = rt.alloc();
     let call: Call = Box::new(alloc, move |state: &[u8], request: &CoapRequest| {
-        keep(alloc, state, request)
+        cell(alloc, state, request)
     })
     .expect(&rt, "memory");
-    let cell = Resource {
+    let resource = Resource {
         path: path_of(alloc, b"s").expect(&rt, "memory"),
         format: 0,
         max_age: 1,
         state: Bytes::new(alloc, Vec::new(alloc)).expect(&rt, "memory"),
         handler: Handler::new(call),
     };
-    let mut all: Vec<Resource<Kinds>> = Vec::new(alloc);
-    install(&mut all, cell).expect(&rt, "memory");
+    let mut all: Vec<Resource<Cells>> = Vec::new(alloc);
+    install(&mut all, resource).expect(&rt, "memory");
     let mut origin = Origin::new(alloc, 6, all).expect(&rt, "memory");
 
     // PUT of s as NON 9, which is answered by a NON of the device's own ID
@@ -120,5 +120,48 @@ fn a_cell_keeps_what_is_put(rt: HostRuntime) {
     let fetch = [0x40, 0x05, 0x00, 0x0f, 0xb1, 0x73];
     assert_eq!(rt; told(&mut origin, 70, peer(5000), &fetch), Did::Nothing);
     assert!(rt; sends(&mut origin, peer(5000), &[0x60, 0x85, 0x00, 0x0f]));
+    assert!(rt; is_quiet(&mut origin));
+}
+
+#[test]
+fn a_counter_counts_in_decimal(rt: HostRuntime) {
+    let alloc: Global = rt.alloc();
+    let call: Call = Box::new(alloc, move |state: &[u8], request: &CoapRequest| {
+        counter(alloc, state, request)
+    })
+    .expect(&rt, "memory");
+    let nine = Vec::from_slice(alloc, b"9").expect(&rt, "memory");
+    let resource = Resource {
+        path: path_of(alloc, b"c").expect(&rt, "memory"),
+        format: 0,
+        max_age: 60,
+        state: Bytes::new(alloc, nine).expect(&rt, "memory"),
+        handler: Handler::new(call),
+    };
+    let call: Call = Box::new(alloc, move |state: &[u8], request: &CoapRequest| {
+        counter(alloc, state, request)
+    })
+    .expect(&rt, "memory");
+    let last = Vec::from_slice(alloc, b"18446744073709551615").expect(&rt, "memory");
+    let full = Resource {
+        path: path_of(alloc, b"m").expect(&rt, "memory"),
+        format: 0,
+        max_age: 60,
+        state: Bytes::new(alloc, last).expect(&rt, "memory"),
+        handler: Handler::new(call),
+    };
+    let mut all: Vec<Resource<Counters>> = Vec::new(alloc);
+    install(&mut all, resource).expect(&rt, "memory");
+    install(&mut all, full).expect(&rt, "memory");
+    let mut origin = Origin::new(alloc, 6, all).expect(&rt, "memory");
+
+    let ten = [0x62, 0x44, 0x00, 0x05, 0xab, 0xcd, 0xff, 0x31, 0x30];
+    assert_eq!(rt; told(&mut origin, 0, peer(5000), &POST), Did::Executed);
+    assert!(rt; sends(&mut origin, peer(5000), &ten));
+
+    // at the last number of 64 bits: 5.00
+    let post = [0x40, 0x02, 0x00, 0x06, 0xb1, 0x6d];
+    assert_eq!(rt; told(&mut origin, 0, peer(5000), &post), Did::Executed);
+    assert!(rt; sends(&mut origin, peer(5000), &[0x60, 0xa0, 0x00, 0x06]));
     assert!(rt; is_quiet(&mut origin));
 }

@@ -1,7 +1,7 @@
 //! States and bodies that go in pieces of 16 bytes.
 
-use crate::devices::{Did, Kinds, is_quiet, keep, path_of, peer, sends, told};
-use demo_origin::{Call, CoapRequest, Handler, Origin, Resource, install};
+use crate::devices::{Cells, Did, is_quiet, path_of, peer, sends, told};
+use demo_origin::{Call, CoapRequest, Handler, Origin, Resource, cell, install};
 use message_layer::Bytes;
 use std::alloc::Global;
 
@@ -9,19 +9,19 @@ use std::alloc::Global;
 fn a_long_state_goes_in_pieces(rt: HostRuntime) {
     let alloc: Global = rt.alloc();
     let call: Call = Box::new(alloc, move |state: &[u8], request: &CoapRequest| {
-        keep(alloc, state, request)
+        cell(alloc, state, request)
     })
     .expect(&rt, "memory");
     let state = Vec::from_slice(alloc, b"0123456789abcdef0123456789abcdef01").expect(&rt, "memory");
-    let cell = Resource {
+    let resource = Resource {
         path: path_of(alloc, b"s").expect(&rt, "memory"),
         format: 0,
         max_age: 1,
         state: Bytes::new(alloc, state).expect(&rt, "memory"),
         handler: Handler::new(call),
     };
-    let mut all: Vec<Resource<Kinds>> = Vec::new(alloc);
-    install(&mut all, cell).expect(&rt, "memory");
+    let mut all: Vec<Resource<Cells>> = Vec::new(alloc);
+    install(&mut all, resource).expect(&rt, "memory");
     let mut origin = Origin::new(alloc, 0, all).expect(&rt, "memory");
 
     // GET: the first piece, with ETag 0, Content-Format 0, Max-Age 1 and Block2 0/1/16
@@ -62,18 +62,18 @@ fn a_long_state_goes_in_pieces(rt: HostRuntime) {
 fn a_body_in_pieces_executes_once(rt: HostRuntime) {
     let alloc: Global = rt.alloc();
     let call: Call = Box::new(alloc, move |state: &[u8], request: &CoapRequest| {
-        keep(alloc, state, request)
+        cell(alloc, state, request)
     })
     .expect(&rt, "memory");
-    let cell = Resource {
+    let resource = Resource {
         path: path_of(alloc, b"s").expect(&rt, "memory"),
         format: 0,
         max_age: 1,
         state: Bytes::new(alloc, Vec::new(alloc)).expect(&rt, "memory"),
         handler: Handler::new(call),
     };
-    let mut all: Vec<Resource<Kinds>> = Vec::new(alloc);
-    install(&mut all, cell).expect(&rt, "memory");
+    let mut all: Vec<Resource<Cells>> = Vec::new(alloc);
+    install(&mut all, resource).expect(&rt, "memory");
     let mut origin = Origin::new(alloc, 0, all).expect(&rt, "memory");
 
     // PUT with Block1 0/1/32: 2.31, and the rest is wanted in 16 bytes

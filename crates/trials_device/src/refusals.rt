@@ -1,12 +1,12 @@
 //! Datagrams that are refused or rejected.
 
-use crate::devices::{Did, Kinds, is_quiet, peer, sends, told};
+use crate::devices::{Cells, Did, is_quiet, peer, sends, told};
 use demo_origin::Origin;
 
 #[test]
 fn nothing_is_executed(rt: HostRuntime) {
     let alloc = rt.alloc();
-    let mut origin: Origin<Kinds> = Origin::new(alloc, 6, Vec::new(alloc)).expect(&rt, "memory");
+    let mut origin: Origin<Cells> = Origin::new(alloc, 6, Vec::new(alloc)).expect(&rt, "memory");
 
     // GET of x: 4.04
     let get = [0x42, 0x01, 0x00, 0x08, 0xab, 0xcd, 0xb1, 0x78];
