@@ -1,6 +1,6 @@
 //! Handlers of a demonstration device: cells and counters.
 
-ghost use Rattle.std.specs.Prelude.{◌≡◌, ◌≤◌, ◌∷◌, [], length, Some, IfOk};
+ghost use Rattle.std.specs.Prelude.{◌≡◌, ◌<◌, ◌≤◌, ◌⊎◌, ◌∷◌, [], length, Some, None, IfOk, IsErrOf, IsOkUnless};
 ghost use Rattle.demo_origin.specs.Values.{replied};
 ghost use Rattle.demo_origin.specs.Keeps.{Fits};
 ghost use Rattle.demo_origin.specs.Kinds.{counted, counted_from, Counts, IsCell, IsCounter};
@@ -25,8 +25,9 @@ const METHOD_NOT_ALLOWED: u8 = 133;
 const INTERNAL_SERVER_ERROR: u8 = 160;
 
 fn reply(alloc: Global, code: u8, payload: &[u8], changed: bool) -> Result<Reply, Refused>
-    ensures { IfOk result (λ r.
+    ensures ok { IfOk result (λ r.
         replied r ≡ record { code = code; payload = payload.now; changed = changed }) }
+    ensures memory { IsOkUnless result Refused.Memory }
 {
     Ok(Reply {
         code,
@@ -38,7 +39,9 @@ fn reply(alloc: Global, code: u8, payload: &[u8], changed: bool) -> Result<Reply
 /// A cell: PUT sets its state (2.04), DELETE empties it (2.02), and POST is answered 4.05. It takes
 /// no state above 65,536 bytes.
 pub fn cell(alloc: Global, state: &[u8], request: &CoapRequest) -> Result<(Vec<u8>, Reply), Refused>
-    ensures { Fits (IsCell state.now request.now) result }
+    ensures does { Fits (IsCell state.now request.now) result }
+    ensures takes { IsErrOf result Refused.Content
+        → (65536 < length request.now.body) ⊎ (65536 < length state.now) }
 {
     let body = request.body.as_slice();
     if body.len() > MAX_STATE_LEN || state.len() > MAX_STATE_LEN {
@@ -91,7 +94,8 @@ fn counted(state: &[u8]) -> Option<u64>
 /// The state and the reply after one more.
 fn count_on(alloc: Global, n: u64, state: &[u8]) -> Result<(Vec<u8>, Reply), Refused>
     requires { length state.now ≤ 65536 }
-    ensures { Fits (Counts (Some n) state.now) result }
+    ensures does { Fits (Counts (Some n) state.now) result }
+    ensures memory { IsOkUnless result Refused.Memory }
 {
     if n == u64::MAX {
         let reply = reply(alloc, INTERNAL_SERVER_ERROR, b"", false)?;
@@ -110,7 +114,9 @@ pub fn counter(
     state: &[u8],
     request: &CoapRequest,
 ) -> Result<(Vec<u8>, Reply), Refused>
-    ensures { Fits (IsCounter state.now request.now) result }
+    ensures does { Fits (IsCounter state.now request.now) result }
+    ensures takes { IsErrOf result Refused.Content
+        → (65536 < length state.now) ⊎ (counted state.now ≡ None) }
 {
     if state.len() > MAX_STATE_LEN {
         return Err(Refused::Content);

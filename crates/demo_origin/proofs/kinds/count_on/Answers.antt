@@ -6,8 +6,8 @@ use Rattle.demo_origin.specs.Values.{Replied, replied}
 use Rattle.demo_origin.specs.Kinds.{CountsOn}
 use Rattle.demo_origin.proofs.kinds.count_on.Goals as goal
 
-pub returns : goal.returns
-returns c =
+pub returns-clause-does : goal.returns-clause-does
+returns-clause-does c =
     let n = c.args.n in
     let lt : n < 18446744073709551615 =
     omega (arith, c.if-n-eq18446744073709551615.false, c.ranges.n.fits) in
