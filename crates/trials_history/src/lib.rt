@@ -1,5 +1,5 @@
 //! Trials of the crates of a run, by their public calls alone: what an ask sends, a journal's entries, the
-//! checker of journals, what a datagram is, and the core.
+//! checker of journals, what a datagram is, and the two cores.
 //!
 //! What a contract says is proved for every input, and isn't tried here. Tried is what lies outside: datagrams
 //! and journals written out by hand after the standards, printed texts, that each call can succeed, and runs
@@ -18,6 +18,10 @@ mod core_runs;
 mod entries;
 #[cfg(test)]
 mod judged;
+#[cfg(test)]
+mod linked_calls;
+#[cfg(test)]
+mod linked_runs;
 #[cfg(test)]
 mod sample;
 #[cfg(test)]

@@ -1,0 +1,322 @@
+-- What is drafted for a datagram is what the step says.
+use Rattle.std.proofs.Common.{◌≡◌, ℕ, ◌+◌, ◌≤◌, inl, inr, Bool, true, false, cond, List, [], ◌∷◌, ◌++◌, length, map, Option, Some, None, refl, sym, ap, subst, ◌∙◌, arith, append_assoc, length-append}
+use Rattle.std.specs.Prelude.{slice_get, filter, IfSome, ⊤}
+use Rattle.std.specs.List.{find, list_any, AllByRecursion}
+use Rattle.coap_codec.specs.Spelling.{Content, Spells}
+use Rattle.uri_map.specs.declared.peer.Peer.{Peer}
+use Rattle.ask_model.specs.Requests.{CoapRequest, Ask, Sense, Requests}
+use Rattle.ask_model.specs.declared.cause.Cause.TheVariants as C
+use Rattle.journal_book.specs.Entries.{Grounds, Live, Fault, Deed, Opens, Asks, Sends, Hears, Passes, Answers, Shuts, Seals, Written}
+use Rattle.journal_book.specs.Views.{ask_of}
+use Rattle.history_laws.specs.Responses.{is_whole, response_of}
+use Rattle.datagram_verdict.specs.Findings.{Found}
+use Rattle.datagram_verdict.specs.Verdicts.{found_by}
+use Rattle.message_layer.specs.Values.{LinkValue, Told, no_news, response, timed_out, was_reset, was_dropped, LinkState}
+use Rattle.message_layer.specs.Hearing.{says, listed}
+use Rattle.message_layer.specs.Sending.{IsNext}
+use Rattle.message_layer.specs.Prepared.{MayHeed}
+use Rattle.message_layer.specs.declared.prepared.FirstSending.{FirstSending}
+use Rattle.message_layer.specs.declared.prepared.Heeding.{Heeding}
+use Rattle.message_layer.specs.declared.state.Waiting.{Waiting}
+use Rattle.message_layer.specs.declared.verdict.News.{News}
+use Rattle.message_layer.specs.declared.verdict.News.TheVariants as N
+use Rattle.link_history.specs.Steps.{ended_token}
+use Rattle.core_steps.specs.declared.kept.Conn.{Conn}
+use Rattle.core_steps.specs.declared.kept.Exchange.{Exchange}
+use Rattle.core_steps.specs.State.{State, link_of, pend, conns_after}
+use Rattle.core_steps.specs.Steps.{is_under, is_other}
+use Rattle.core_steps.specs.Calls.{waits_on, ended_in, grounds_by}
+use Rattle.core_steps.specs.Entering.{first_deeds, in_turn, going_as, sent_as, told_deeds, told_if, confirm}
+use Rattle.core_steps.specs.Keeping.{Kept}
+use Rattle.whole_history.specs.Exchanges.{waiting}
+use Rattle.link_history.specs.Agrees.{WaitIn}
+use Rattle.linked_core.specs.Answering.{Given, HeardAs, IsFound, CountsFrom, IsGiven}
+use Rattle.linked_core.specs.Asked.{IsOpenedIn}
+use Rattle.linked_core.specs.Drafts.{DraftValue, Drafts, conns_from}
+use Rattle.linked_core.specs.Hearing.{found_in, whole_in, answer_to, AddsAnswer, told_by, IsTimed, sent_next, note_next, link_deeds, over_in, hearing_deeds}
+use Rattle.linked_core.specs.Values.{written}
+use Rattle.linked_core.proofs.Drafting.{map-append, length-map}
+use Rattle.linked_core.proofs.Openings.{found-holds, got-more, got-last}
+
+-- what ends is told on the grounds of the step
+
+whole-grounds : (n : ℕ) (m : Content) → (found_by n (whole_in m)).grounds
+    ≡ grounds_by N.Response n m
+whole-grounds n m = by (is_whole m)
+  where
+    by : (b : Bool) → (found_by n (cond b (Some (response_of m)) None)).grounds
+        ≡ cond b (Live (n ∷ [])) (Fault C.NotUnderstood n)
+    by true = refl
+    by false = refl
+
+pub told-same : (n : ℕ) (m : Content) (news : News) (token : List ℕ) (es : List Exchange)
+    (cs : List Conn)
+    → told_by (ended_in (ended_token news token) es) (found_in n (says news m)) cs
+    ≡ told_if (grounds_by news n m) (ended_in (ended_token news token) es) cs
+told-same n m N.Quiet token es cs = refl
+told-same n m N.Lost token es cs = refl
+told-same n m N.Response token es cs = by (find (is_under token) es)
+  where
+    by : (v : Option Exchange) → told_by v (Some (found_by n (whole_in m))) cs
+        ≡ told_if (grounds_by N.Response n m) v cs
+    by None = refl
+    by (Some e) = ap (λ (g : Grounds). told_deeds g e cs) (whole-grounds n m)
+told-same n m (N.Reset of) token es cs = by (find (is_under of) es)
+  where
+    by : (v : Option Exchange)
+        → told_by v (found_in n (says (N.Reset of) m)) cs
+        ≡ told_if (grounds_by (N.Reset of) n m) v cs
+    by None = refl
+    by (Some e) = refl
+
+-- the message that goes out next is the one that has its turn
+
+pub next-deeds : (t : ℕ) (p : Peer) (link : LinkValue) (x : Heeding) → MayHeed t link x
+    → sent_next p x.next ≡ first_deeds t p link.state.last_mid
+    (in_turn x.verdict.ends link.state.waiting)
+next-deeds t p link x h = by x.verdict.ends x.next link.state.waiting h.next h.none
+  where
+    by : (b : Bool) (n : Option FirstSending) (ws : List Waiting)
+        → (b ≡ true → IsNext t link.state.last_mid ws n) → (b ≡ false → n ≡ None)
+        → sent_next p n ≡ first_deeds t p link.state.last_mid (in_turn b ws)
+    by false n ws next none = ap (sent_next p) (none refl)
+    by true None [] next none = refl
+    by true (Some f) [] next none = absurd (next refl)
+    by true None (w ∷ ws) next none = absurd (next refl)
+    by true (Some f) (w ∷ ws) next none = let e = next refl in rw (e.1, e.0) refl
+
+pub next-noted : (t n : ℕ) (link : LinkValue) (x : Heeding) (es : List Exchange) → MayHeed t link x
+    → note_next n x.next es ≡ sent_as (going_as n (in_turn x.verdict.ends link.state.waiting)) es
+next-noted t n link x es h = by x.verdict.ends x.next link.state.waiting h.next h.none
+  where
+    by : (b : Bool) (v : Option FirstSending) (ws : List Waiting)
+        → (b ≡ true → IsNext t link.state.last_mid ws v) → (b ≡ false → v ≡ None)
+        → note_next n v es ≡ sent_as (going_as n (in_turn b ws)) es
+    by false v ws next none = ap (λ (k : Option FirstSending). note_next n k es) (none refl)
+    by true None [] next none = refl
+    by true (Some f) [] next none = absurd (next refl)
+    by true None (w ∷ ws) next none = absurd (next refl)
+    by true (Some f) (w ∷ ws) next none = let e = next refl in rw (e.0) refl
+
+pub next-timed : (t : ℕ) (p : Peer) (S : State) (link : LinkValue) (x : Heeding) → MayHeed t link x
+    → link.state ≡ link_of S.links p → Kept S → IsTimed x.next
+next-timed t p S link x h at k =
+    by x.verdict.ends x.next link.state.waiting h.next h.none (waiting k.reading p)
+    (subst (λ (u : LinkState). WaitIn k.reading (waiting k.reading p) u.waiting) (sym at)
+    (k.rests.reads.links_are p).waits)
+  where
+    some-none : (f : FirstSending) → Some f ≡ None → ⊥
+    some-none f e = cc
+
+    by : (b : Bool) (v : Option FirstSending) (ws : List Waiting)
+        → (b ≡ true → IsNext t link.state.last_mid ws v) → (b ≡ false → v ≡ None)
+        → (os : List ℕ) → WaitIn k.reading os ws → IsTimed v
+    by b None ws next none os a = tt
+    by false (Some f) ws next none os a = absurd (some-none f (none refl))
+    by true (Some f) [] next none os a = absurd (next refl)
+    by true (Some f) (w ∷ ws) next none [] a = absurd a
+    by true (Some f) (w ∷ ws) next none (o ∷ os) a =
+        let e = next refl in let s = a.0.greatest in rw (e.0) (omega (arith, s))
+
+-- the answer stands in the entries
+
+found-same : (f g : Found) → Some f ≡ Some g → f ≡ g
+found-same f g e = cc
+
+found-none : (f : Found) → None ≡ Some f → ⊥
+found-none f e = cc
+
+abbrev Holds : List Written → ℕ → Sense → Found → Type 0
+Holds h t s f = IsFound h f.told f.grounds s × CountsFrom h f.grounds t t
+
+found-stands : (h : List Written) (n t : ℕ) (told : Told) (q : CoapRequest) (f : Found)
+    → ((m : Content) → told ≡ response m → HeardAs h n t m) → found_in n told ≡ Some f
+    → Holds h t (Requests q) f
+found-stands h n t (response m) q f hear e =
+    subst (Holds h t (Requests q)) (found-same _ f e) (by (is_whole m) refl)
+  where
+    by : (b : Bool) → is_whole m ≡ b
+        → Holds h t (Requests q) (found_by n (cond b (Some (response_of m)) None))
+    by true w = ((m ∷ [], ((t, hear m refl), tt), rw (w) refl), (m, hear m refl))
+    by false w = (refl, refl)
+found-stands h n t (was_reset token) q f hear e =
+    subst (Holds h t (Requests q)) (found-same _ f e) (refl, refl)
+found-stands h n t no_news q f hear e = absurd (found-none f e)
+found-stands h n t (timed_out token) q f hear e = absurd (found-none f e)
+found-stands h n t was_dropped q f hear e = absurd (found-none f e)
+
+written-same : (v w : Written) → Some v ≡ Some w → v ≡ w
+written-same v w e = cc
+
+asks-same : (c : ℕ) (a b : Ask) → Asks c a ≡ Asks c b → a ≡ b
+asks-same c a b e = cc
+
+ask-same : (t u c : ℕ) (a b : Ask) → Some (written t (Asks c a)) ≡ Some (written u (Asks c b)) → a
+    ≡ b
+ask-same t u c a b e =
+    asks-same c a b (ap (λ (w : Written). w.deed)
+    (written-same (written t (Asks c a)) (written u (Asks c b)) e))
+
+pub given-told : (h : List Written) (S : State) (t : ℕ) (p : Peer) (d : List ℕ) (x : Heeding)
+    (told : Told)
+    (ended : Option Exchange) (found : Option Found) (d0 d1 : DraftValue)
+    → h ≡ S.entries → d0.answers ≡ []
+    → Drafts t S (link_deeds p d x) d0
+    → Drafts t S (link_deeds p d x ++ told_by ended found S.conns) d1
+    → AddsAnswer h t ended found S.conns d0 d1
+    → ((e : Exchange) → ended ≡ Some e → IsOpenedIn h e)
+    → found ≡ found_in (length h) told
+    → ((m : Content) → told ≡ response m → Spells m d)
+    → AllByRecursion (IsGiven (h ++ d1.entries)) d1.answers
+given-told h S t p d x told ended found d0 d1 same none a b (inl w) opened is spelled =
+    subst (AllByRecursion (IsGiven (h ++ d1.entries))) (sym (w ∙ none)) tt
+given-told h S t p d x told ended found d0 d1 same none a b
+    (inr (e, f, over, was, waits, tells)) opened is spelled =
+    subst (AllByRecursion (IsGiven (h ++ d1.entries)))
+    (sym (tells.answers ∙ ap (λ (gs : List Given). gs ++ g ∷ []) none)) (given, tt)
+  where
+    g : Given
+    g = answer_to t d0.next e f tells.mapping
+
+    last : Deed
+    last = Answers e.conn e.opening f.grounds
+
+    ds : List Deed
+    ds = link_deeds p d x
+
+    o : IsOpenedIn h e
+    o = opened e over
+
+    deeds : told_by ended found S.conns ≡ last ∷ []
+    deeds = rw (over, was, waits) refl
+
+    entries : d1.entries ≡ map (written t) ds ++ written t last ∷ []
+    entries = b.entries ∙ ap (λ (xs : List Deed). map (written t) (ds ++ xs)) deeds
+        ∙ map-append (written t) ds (last ∷ [])
+
+    whole : h ++ d1.entries ≡ (h ++ map (written t) ds) ++ written t last ∷ []
+    whole = ap (λ (ws : List Written). h ++ ws) entries
+        ∙ sym (append_assoc h (map (written t) ds) (written t last ∷ []))
+
+    place : d0.next ≡ length (h ++ map (written t) ds)
+    place =
+        let k = a.next in
+        let l : length h ≡ length S.entries = ap (λ (ws : List Written). length ws) same in
+        let m = length-append h (map (written t) ds) in
+        let n = length-map (written t) ds in
+        omega (arith, k, l, m, n)
+
+    first : slice_get (h ++ d1.entries) (length h) ≡ Some (written t (Hears p d))
+    first =
+        ap (λ (ws : List Written). slice_get (h ++ ws) (length h)) entries
+        ∙ got-last h (written t (Hears p d)) _
+
+    sense : tells.mapping.sense ≡ Requests o.request
+    sense =
+        ap (λ (v : Ask). v.sense) (ask-same tells.asked e.since e.conn
+        (ask_of tells.mapping) o.ask (sym tells.stands ∙ o.stands))
+        ∙ o.sense
+
+    hear : (m : Content) → told ≡ response m → HeardAs (h ++ d1.entries) (length h) t m
+    hear m r = record { peer = p; bytes = d; stands = first; spelled = spelled m r }
+
+    holds : Holds (h ++ d1.entries) t (Requests o.request) f
+    holds = found-stands (h ++ d1.entries) (length h) t told o.request f hear (sym is ∙ was)
+
+    given : IsGiven (h ++ d1.entries) g
+    given = record {
+      asked = tells.asked;
+      ask_stands = got-more h d1.entries e.opening _ tells.stands;
+      stands =
+          ap (λ (ws : List Written). slice_get ws d0.next) whole
+          ∙ (ap (λ (k : ℕ). slice_get ((h ++ map (written t) ds) ++ written t last ∷ []) k) place
+          ∙ got-last (h ++ map (written t) ds) (written t last) []);
+      found = subst (IsFound (h ++ d1.entries) f.told f.grounds) (sym sense) holds.0;
+      counts = holds.1;
+    }
+
+-- what holds of all exchanges holds of the one that ends
+
+pub ended-is : (P : Exchange → Type 0) (over : Option (List ℕ)) (es : List Exchange) (e : Exchange)
+    → ended_in over es ≡ Some e → AllByRecursion P es → P e
+ended-is P None es e f a = absurd (none-some e f)
+  where
+    none-some : (x : Exchange) → None ≡ Some x → ⊥
+    none-some x k = cc
+ended-is P (Some token) es e f a = found-holds (is_under token) P es e f a
+
+pub if-ended : (P : Exchange → Type 0) (over : Option (List ℕ)) (es : List Exchange)
+    → AllByRecursion P es → IfSome (ended_in over es) P
+if-ended P over es a = by (ended_in over es) refl
+  where
+    by : (v : Option Exchange) → ended_in over es ≡ v → IfSome v P
+    by None f = tt
+    by (Some e) f = ended-is P over es e f a
+
+pub all-others : (es : List Exchange) → filter (is_other None) es ≡ es
+all-others [] = refl
+all-others (e ∷ es) = ap (λ (xs : List Exchange). e ∷ xs) (all-others es)
+
+-- no connection comes or goes
+
+abbrev IsNoConn : Deed → Type 0
+IsNoConn (Opens c) = ⊥
+IsNoConn (Shuts c) = ⊥
+IsNoConn _ = ⊤
+
+conns-one : (d : Deed) (n : ℕ) (cs : List Conn) → IsNoConn d
+    → length (conns_after cs n d) ≤ length cs
+conns-one (Opens c) n cs h = absurd h
+conns-one (Asks c a) n cs h = let e = length-map (pend c (Some n)) cs in omega (arith, e)
+conns-one (Sends p b w) n cs h = omega arith
+conns-one (Hears p b) n cs h = omega arith
+conns-one Passes n cs h = omega arith
+conns-one (Answers c k g) n cs h = let e = length-map (pend c None) cs in omega (arith, e)
+conns-one (Shuts c) n cs h = absurd h
+conns-one Seals n cs h = omega arith
+
+pub conns-few : (ds : List Deed) (n : ℕ) (cs : List Conn) → AllByRecursion IsNoConn ds
+    → length (conns_from n ds cs) ≤ length cs
+conns-few [] n cs a = omega arith
+conns-few (d ∷ ds) n cs a =
+    let one = conns-one d n cs a.0 in
+    let more = conns-few ds (n + 1) (conns_after cs n d) a.1 in
+    omega (arith, one, more)
+
+all-joined : (xs ys : List Deed) → AllByRecursion IsNoConn xs → AllByRecursion IsNoConn ys
+    → AllByRecursion IsNoConn (xs ++ ys)
+all-joined [] ys a b = b
+all-joined (x ∷ xs) ys a b = (a.0, all-joined xs ys a.1 b)
+
+confirms-few : (p : Peer) (bs : List (List ℕ)) → AllByRecursion IsNoConn (map (confirm p) bs)
+confirms-few p [] = tt
+confirms-few p (b ∷ bs) = (tt, confirms-few p bs)
+
+next-few : (p : Peer) (v : Option FirstSending) → AllByRecursion IsNoConn (sent_next p v)
+next-few p None = tt
+next-few p (Some x) = (tt, tt)
+
+told-few : (e : Option Exchange) (f : Option Found) (cs : List Conn)
+    → AllByRecursion IsNoConn (told_by e f cs)
+told-few None f cs = tt
+told-few (Some e) None cs = tt
+told-few (Some e) (Some f) cs = by (list_any (waits_on e) cs)
+  where
+    by : (b : Bool) → AllByRecursion IsNoConn (cond b (Answers e.conn e.opening f.grounds ∷ []) [])
+    by true = (tt, tt)
+    by false = tt
+
+pub hearing-few : (p : Peer) (d : List ℕ) (x : Heeding) (told : Told) (S : State)
+    → AllByRecursion IsNoConn (hearing_deeds p d x told S)
+hearing-few p d x told S =
+    all-joined (link_deeds p d x) (told_by (ended_in (over_in x) S.exchanges)
+    (found_in (length S.entries) told) S.conns) (
+      tt,
+      all-joined (map (confirm p) (listed x.reply)) (sent_next p x.next)
+          (confirms-few p (listed x.reply)) (next-few p x.next),
+    )
+    (told-few (ended_in (over_in x) S.exchanges) (found_in (length S.entries) told) S.conns)
+
+pub reply-few : (p : Peer) (v : Option (List ℕ)) → length (map (confirm p) (listed v)) ≤ 1
+reply-few p None = omega arith
+reply-few p (Some b) = omega arith

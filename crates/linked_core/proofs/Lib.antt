@@ -1,0 +1,16 @@
+pub mod Drafting
+pub mod Openings
+pub mod Placing
+pub mod Stepping
+pub mod Takes
+pub mod Sounding
+pub mod Conns
+pub mod Least
+pub mod Refusals
+pub mod Asks
+pub mod BeginLinks
+pub mod Begins
+pub mod Heard
+pub mod Heeds
+pub mod HeardSteps
+pub mod BeginSound

@@ -1,0 +1,9 @@
+use Rattle.std.proofs.Common.{refl}
+use Rattle.linked_core.proofs.Sounding.{sound-shut}
+use Rattle.linked_core.proofs.opening.close.Goals as goal
+
+pub returns-clause-sound : goal.returns-clause-sound
+returns-clause-sound g c =
+    let e = c.take_conn.ensures in
+    let has = c.if-not-has_conn.ensures.some refl in
+    sound-shut c.args.moment c.args.conn has.0 _ _ _ _ _ _ _ _ c.requires.sound (rw (c.as_slice.ensures.value) at has.1) c.requires.later c.requires.early e.state e.bytes e.room e.answers

@@ -1,0 +1,128 @@
+-- What a datagram leaves of a core.
+use Rattle.std.specs.Prelude.{◌≡◌, ◌⊎◌, ℕ, ◌+◌, ◌<◌, true, List, [], ◌∷◌, ◌++◌, length, map, filter, Option, Some, None, slice_get, if◌then◌else◌, ⊤}
+use Rattle.std.specs.List.{list_any}
+use Rattle.coap_codec.specs.Spelling.{Content}
+use Rattle.uri_map.specs.declared.peer.Peer.{Peer}
+use Rattle.ask_model.specs.declared.cause.Cause.TheVariants.{Reset}
+use Rattle.ask_model.specs.Views.{Mapping}
+use Rattle.journal_book.specs.Entries.{Fault, Deed, Asks, Sends, Hears, Written}
+use Rattle.journal_book.specs.Views.{ask_of}
+use Rattle.history_laws.specs.Responses.{Response, is_whole, response_of}
+use Rattle.datagram_verdict.specs.Findings.{Found, Fails}
+use Rattle.datagram_verdict.specs.Verdicts.{found_by}
+use Rattle.message_layer.specs.Values.{LinkState, Told, response, was_reset}
+use Rattle.message_layer.specs.Hearing.{applied, listed}
+use Rattle.message_layer.specs.declared.prepared.FirstSending.{FirstSending}
+use Rattle.message_layer.specs.declared.prepared.Heeding.{Heeding}
+use Rattle.link_history.specs.Steps.{ended_token}
+use Rattle.core_steps.specs.declared.kept.Conn.{Conn}
+use Rattle.core_steps.specs.declared.kept.Exchange.{Exchange}
+use Rattle.core_steps.specs.State.{State, link_of, with_link}
+use Rattle.core_steps.specs.Calls.{waits_on, ended_in}
+use Rattle.core_steps.specs.Steps.{given_out, went_out, is_other}
+use Rattle.core_steps.specs.Links.{awaits_no_more}
+use Rattle.core_steps.specs.Entering.{entered_all, confirm, told_deeds}
+use Rattle.linked_core.specs.Answering.{Given}
+use Rattle.linked_core.specs.Drafts.{DraftValue}
+use Rattle.linked_core.specs.States.{with_draft}
+use Rattle.linked_core.specs.Values.{written}
+
+-- the whole response that a message is
+abbrev pub whole_in : Content → Option Response
+whole_in m = if is_whole m then Some (response_of m) else None
+
+-- what is found by what a link tells of the datagram in the entry with this number
+abbrev pub found_in : ℕ → Told → Option Found
+found_in n (response m) = Some (found_by n (whole_in m))
+found_in n (was_reset token) = Some (record { told = Fails Reset; grounds = Fault Reset n })
+found_in n _ = None
+
+-- the token under which nothing is awaited any more
+abbrev pub over_in : Heeding → Option (List ℕ)
+over_in x = ended_token x.verdict.news x.token
+
+-- the link of the endpoint after the datagram, which gave out all
+abbrev pub heeds : ℕ → Heeding → LinkState → LinkState
+heeds t x s = given_out (awaits_no_more (over_in x) (applied t x.mid x.token x.verdict s))
+
+-- the exchanges after it: one may end, and the message of another went out in the entry with this
+-- number
+abbrev pub note_next : ℕ → Option FirstSending → List Exchange → List Exchange
+note_next n None es = es
+note_next n (Some x) es = map (went_out x.message.token n) es
+
+abbrev pub first_number : ℕ → Heeding → ℕ
+first_number n x = n + 1 + length (listed x.reply)
+
+abbrev pub exchanges_after : ℕ → Heeding → List Exchange → List Exchange
+exchanges_after n x es = note_next (first_number n x) x.next (filter (is_other (over_in x)) es)
+
+-- The ask of this exchange is answered so, under this number.
+abbrev pub answer_to : ℕ → ℕ → Exchange → Found → Mapping → Given
+answer_to t n e f m = record {
+  conn = e.conn;
+  ask = e.opening;
+  number = n;
+  moment = t;
+  heard = t;
+  mapping = m;
+  found = f;
+}
+
+-- One answer more: to the ask of this exchange, which stands.
+pub record Tells (h : List Written) (t : ℕ) (e : Exchange) (f : Found)
+    (old new : DraftValue) : Type 0 where
+  pub asked : ℕ
+  pub mapping : Mapping
+  pub stands : slice_get h e.opening ≡ Some (written asked (Asks e.conn (ask_of mapping)))
+  pub answers : new.answers ≡ old.answers ++ answer_to t old.next e f mapping ∷ []
+
+-- What ends is told to the connection that waits on it.
+abbrev pub told_by : Option Exchange → Option Found → List Conn → List Deed
+told_by (Some e) (Some f) cs = told_deeds f.grounds e cs
+told_by _ _ cs = []
+
+-- one answer more, if any
+abbrev pub AddsAnswer : List Written → ℕ → Option Exchange → Option Found → List Conn
+    → DraftValue → DraftValue → Type 0
+AddsAnswer h t ended found cs old new =
+    (new.answers ≡ old.answers)
+    ⊎ ((e : Exchange) × (f : Found) × (ended ≡ Some e) × (found ≡ Some f)
+    × (list_any (waits_on e) cs ≡ true) × Tells h t e f old new)
+
+-- the message that goes out next, with its first timeout
+abbrev pub IsTimed : Option FirstSending → Type 0
+IsTimed None = ⊤
+IsTimed (Some x) = x.message.timeout < 4294967296
+
+abbrev pub sent_next : Peer → Option FirstSending → List Deed
+sent_next p None = []
+sent_next p (Some x) = Sends p x.datagram (Some x.message.timeout) ∷ []
+
+-- what the link says: the datagram came, it is answered, and the next message goes out
+abbrev pub link_deeds : Peer → List ℕ → Heeding → List Deed
+link_deeds p d x = Hears p d ∷ (map (confirm p) (listed x.reply) ++ sent_next p x.next)
+
+-- all that the datagram brings
+abbrev pub hearing_deeds : Peer → List ℕ → Heeding → Told → State → List Deed
+hearing_deeds p d x told S =
+    link_deeds p d x
+    ++ told_by (ended_in (over_in x) S.exchanges) (found_in (length S.entries) told) S.conns
+
+-- the state after it
+abbrev pub hearing_state : ℕ → Peer → List ℕ → Heeding → Told → State → State
+hearing_state t p d x told S =
+    let S1 = entered_all t (hearing_deeds p d x told S) S in record S1 {
+      exchanges = exchanges_after (length S.entries) x S.exchanges;
+      links = with_link p (heeds t x (link_of S.links p)) S.links;
+    }
+
+-- the tables after it, and then what was drafted for it
+abbrev pub tables_after : ℕ → Peer → Heeding → State → State
+tables_after t p x S = record S {
+  exchanges = exchanges_after (length S.entries) x S.exchanges;
+  links = with_link p (heeds t x (link_of S.links p)) S.links;
+}
+
+abbrev pub with_heard : ℕ → Peer → Heeding → DraftValue → State → State
+with_heard t p x d S = with_draft t d (tables_after t p x S)

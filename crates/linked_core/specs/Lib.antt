@@ -1,0 +1,15 @@
+pub mod Answering
+pub mod Asked
+pub mod Beginning
+pub mod Calls
+pub mod Drafts
+pub mod Endpoints
+pub mod Faults
+pub mod Hearing
+pub mod Refusing
+pub mod Room
+pub mod Sound
+pub mod States
+pub mod Submitting
+pub mod Taking
+pub mod Values

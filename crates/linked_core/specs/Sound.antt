@@ -1,0 +1,29 @@
+-- What the type of a core keeps.
+use Rattle.std.specs.Prelude.{◌≡◌, ℕ, ◌+◌, ◌≤◌, ◌^◌, List, length, sum_by}
+use Rattle.std.specs.List.{AllByRecursion}
+use Rattle.journal_book.specs.Entries.{entry_size}
+use Rattle.history_laws.specs.Limits.{entry_limit}
+use Rattle.core_steps.specs.State.{State}
+use Rattle.core_steps.specs.Room.{KeptInRoom}
+use Rattle.core_steps.specs.Entering.{IsDrained}
+use Rattle.linked_core.specs.declared.state.State.{State as RustState}
+use Rattle.linked_core.specs.Answering.{Given, IsGiven}
+use Rattle.linked_core.specs.States.{state_of, given_in}
+
+-- how many connections may be open
+abbrev pub conn_limit : ℕ
+conn_limit = 256
+
+-- A journal that stands within its limits counts so many bytes, and has places for all the entries
+-- that may come; the answers that aren't taken stand in it.
+pub record SoundState (S : State) (bytes room : ℕ) (gs : List Given) : Type 0 where
+  pub kept : KeptInRoom S
+  pub drained : IsDrained S
+  pub early : S.moment ≤ 2 ^ 62
+  pub few : length S.conns ≤ conn_limit
+  pub count : bytes ≡ sum_by entry_size S.entries
+  pub places : entry_limit ≤ room + length S.entries
+  pub given : AllByRecursion (IsGiven S.entries) gs
+
+abbrev pub IsSound : {R : Type 0} → RustState R → Type 0
+IsSound s = SoundState (state_of s) s.bytes s.journal.room (given_in s)

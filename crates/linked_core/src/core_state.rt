@@ -1,0 +1,175 @@
+//! The core.
+
+ghost use Rattle.std.specs.Prelude.{◌≡◌, ◌≤◌, ◌^◌, [], IfOk, OnOk, OnErr, IsTrue, IsFalse, option_map, min, map};
+ghost use Rattle.std.specs.Arc.{arc_value};
+ghost use Rattle.journal_book.specs.Views.{ask_of};
+ghost use Rattle.core_steps.specs.Sealing.{hears_in_room};
+ghost use Rattle.std.specs.List.{reduce};
+ghost use Rattle.whole_history.specs.Justified.{Stands};
+ghost use Rattle.core_steps.specs.Keeping.{start};
+ghost use Rattle.linked_core.specs.Answering.{given_of};
+ghost use Rattle.linked_core.specs.Calls.{now, IsOpened, IsAsked, IsClosed, IsUnknown};
+ghost use Rattle.linked_core.specs.Values.{outgoing_of, stepped};
+ghost use Rattle.linked_core.specs.States.{core_of, number_in};
+ghost use Rattle.linked_core.specs.Taking.{IsTaken, IsSent};
+
+use crate::answer::{Answer, Ticket};
+use crate::fault::{AskFault, OpenFault};
+use crate::outgoing::Datagram;
+use crate::room::ENTRIES;
+use crate::state::State;
+use crate::{asking, hearing, opening, taking};
+use ask_model::Mapped;
+use journal_book::Journal;
+use std::alloc::{AllocError, Global};
+use std::collections::VecDeque;
+use std::marker::Model;
+use std::sync::Arc;
+use transformers::Relation;
+use uri_map::Peer;
+
+/// A proxy's journal, what is open, and what isn't taken yet. Its type keeps that one reading of the
+/// journal is legal and at rest, that what is kept is what that reading says, and that room is held
+/// free for what has to come.
+#[derive(Drop)]
+pub struct Core<R: Relation> {
+    alloc: Global,
+    state: State<R>,
+}
+
+impl<R: Relation> Model for Core<R> {
+    ghost use Rattle.linked_core.specs.Values.{CoreValue};
+    ghost use Rattle.linked_core.specs.States.{seen};
+    ghost use Rattle.linked_core.specs.Sound.{IsSound};
+
+    ghost Value = { CoreValue };
+
+    ghost view = { λ c. seen c.state };
+
+    ghost invariant = { λ c. IsSound c.state };
+}
+
+impl<R: Relation> Core<R> {
+    /// A core with no entry. It makes the places of all the entries that its journal may have, so
+    /// that no step waits for the journal to grow.
+    pub fn new(alloc: Global) -> Result<Core<R>, AllocError>
+        ensures { IfOk result (λ c. c ≡ core_of start [] []) }
+    {
+        let mut journal = Journal::new(alloc);
+        journal.make_room(ENTRIES as usize)?;
+        Ok(Core {
+            alloc,
+            state: State {
+                journal,
+                sealed: false,
+                bytes: 0,
+                moment: 0,
+                opened: 0,
+                issued: 0,
+                conns: Vec::new(alloc),
+                exchanges: Vec::new(alloc),
+                endpoints: Vec::new(alloc),
+                answers: Vec::new(alloc),
+                sends: VecDeque::new(alloc),
+            },
+        })
+    }
+
+    /// The journal, one reading of which is legal and at rest.
+    pub fn journal(&self) -> &Journal<R>
+        ensures entries { result.now.entries ≡ self.now.state.entries }
+        ensures stands { Stands self.now.state.entries }
+    {
+        &self.state.journal
+    }
+
+    /// The moment that counts at a call with this one, in milliseconds: none before the last, and none
+    /// above 2^62.
+    fn now(&self, moment: u64) -> u64
+        ensures is { result ≡ now self.now.state.moment moment }
+        ensures later { self.now.state.moment ≤ result }
+        ensures early { result ≤ 2 ^ 62 }
+    {
+        self.state.moment.max(moment.min(1 << 62))
+    }
+
+    /// Opens a connection at this moment, under the next number. At most 256 are open; the first call
+    /// that finds no room for it seals the journal.
+    pub fn open(&mut self, moment: u64) -> Result<u32, OpenFault>
+        ensures { IsOpened result (now self.old.state.moment moment) self.old self.new }
+    {
+        let moment = self.now(moment);
+        let id = opening::open(&mut self.state, moment)?;
+        Ok(id)
+    }
+
+    /// Closes a connection at this moment, and tells whether it was open. It is answered nothing more;
+    /// what it asked for goes on. It takes no memory.
+    pub fn close(&mut self, moment: u64, conn: u32) -> bool
+        ensures closed { IsTrue result
+            → IsClosed (now self.old.state.moment moment) conn self.old self.new }
+        ensures unknown { IsFalse result → (self.new ≡ self.old) × IsUnknown conn self.old }
+    {
+        let moment = self.now(moment);
+        opening::close(&mut self.state, moment, conn)
+    }
+
+    /// Takes a request of a connection at this moment: it begins an exchange, whose message goes out at
+    /// once or waits for its turn at its endpoint (RFC 7252 section 4.7), or it is answered at once: a
+    /// refusal, or busy where 256 exchanges are open, 64 messages wait at the endpoint, or its message
+    /// IDs are used up. The first call that finds no room for it seals the journal. The word is 64
+    /// random bits, for the token, the ID and the timeout.
+    pub fn ask(
+        &mut self,
+        moment: u64,
+        word: u64,
+        conn: u32,
+        mapped: Arc<Mapped<R>>,
+    ) -> Result<Ticket<R>, AskFault>
+        ensures asks { IsAsked (number_in result) (now self.old.state.moment moment) word conn
+            (ask_of (arc_value mapped)) self.old self.new }
+        ensures ticket { IfOk result (λ t. (t.conn ≡ conn) × (arc_value t.mapped ≡ arc_value mapped)) }
+    {
+        let moment = self.now(moment);
+        asking::ask(self.alloc, &mut self.state, moment, word, conn, mapped)
+    }
+
+    /// Takes a datagram that came from this endpoint at this moment (RFC 7252 sections 4.2 to 4.5 and
+    /// 5.3.2). The word isn't looked at.
+    pub fn heard(
+        &mut self,
+        moment: u64,
+        _word: u64,
+        peer: Peer,
+        datagram: &[u8],
+    ) -> Result<(), AllocError>
+        ensures heard { OnOk result (self.new
+            ≡ stepped (hears_in_room (now self.old.state.moment moment) peer datagram.now
+            self.old.state) self.old) }
+        ensures memory { OnErr result (self.new ≡ self.old) }
+    {
+        let moment = self.now(moment);
+        hearing::hear(self.alloc, &mut self.state, moment, peer, datagram)
+    }
+
+    /// The first of the asks whose answers aren't taken yet.
+    pub fn first_answered(&self) -> Option<u32>
+        ensures { result ≡ reduce min (map (λ u. u.ask) self.now.untaken) }
+    {
+        taking::least_ask(self.state.answers.as_slice())
+    }
+
+    /// Takes the answer to an ask, which is given once. It takes no memory.
+    pub fn take_answer(&mut self, ticket: &Ticket<R>) -> Option<Answer<R>>
+        ensures { IsTaken (option_map given_of result) ticket.now.number self.old self.new }
+    {
+        taking::take_answer(&mut self.state.answers, ticket.number)
+    }
+
+    /// Takes the first datagram that wasn't taken. It takes no memory.
+    pub fn take_send(&mut self) -> Option<Datagram>
+        ensures { IsSent (option_map outgoing_of result) self.old self.new }
+    {
+        self.state.sends.pop_front()
+    }
+}

@@ -1,0 +1,33 @@
+//! The core of the proxy, over a link of the message layer for each endpoint.
+//!
+//! One contract: each call leaves just what the function of `core_steps` for it leaves of the core's
+//! state before, or seals the journal where there is no room for that, or changes nothing; so of every
+//! core one reading of its journal is legal and at rest. What a call adds to the journal is to be taken
+//! after it: answers by their asks, and datagrams in order.
+#![tactic(auto)]
+
+mod answer;
+mod asking;
+mod beginning;
+mod core_state;
+mod draft;
+mod endpoints;
+mod exchanges;
+mod fault;
+mod hearing;
+mod numbering;
+mod opening;
+mod outgoing;
+mod refusing;
+mod requests;
+mod room;
+mod sealing;
+mod state;
+mod submitting;
+mod taking;
+
+pub use answer::{Answer, Ticket};
+pub use core_state::Core;
+pub use datagram_verdict::{Finding, Outcome, Response};
+pub use fault::{AskFault, OpenFault};
+pub use outgoing::Datagram;

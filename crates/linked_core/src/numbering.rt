@@ -1,0 +1,18 @@
+//! The tokens that requests are sent under.
+
+ghost use Rattle.std.specs.Prelude.{◌≡◌, ◌/◌, ◌^◌, drop, length};
+ghost use Rattle.history_laws.specs.Numbering.{token_number};
+
+use coap_codec::Token;
+
+/// A token: how many were issued before it, and then the high 32 bits of the word.
+pub fn token_of(issued: u32, word: u64) -> Token
+    ensures size { length result ≡ 8 }
+    ensures number { token_number result ≡ issued }
+    ensures word { token_number (drop 4 result) ≡ word / 2 ^ 32 }
+{
+    let high = (word >> 32) as u32;
+    let [a, b, c, d] = issued.to_be_bytes();
+    let [e, f, g, h] = high.to_be_bytes();
+    Token::new(&[a, b, c, d, e, f, g, h])
+}

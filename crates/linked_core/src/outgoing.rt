@@ -1,0 +1,12 @@
+//! Datagrams that go out.
+
+use ask_model::Bytes;
+use std::sync::Arc;
+use uri_map::Peer;
+
+/// A datagram that goes out to an endpoint. It shares its bytes with its entry in the journal.
+#[derive(Drop)]
+pub struct Datagram {
+    pub peer: Peer,
+    pub bytes: Arc<Bytes>,
+}

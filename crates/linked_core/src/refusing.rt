@@ -1,0 +1,101 @@
+//! Asks that are answered in their own step.
+
+ghost use Rattle.std.specs.Prelude.{◌≡◌, ◌≢◌, ◌≤◌, ◌+◌, ◌^◌, ◌∷◌, [], true, false, length, IfOk, OnOk, Err};
+ghost use Rattle.std.specs.Arc.{arc_value};
+ghost use Rattle.journal_book.specs.Views.{ask_of};
+ghost use Rattle.core_steps.specs.Calls.{Numbers};
+ghost use Rattle.core_steps.specs.Entering.{refusal_deeds};
+ghost use Rattle.core_steps.specs.Sealing.{asks_in_room};
+ghost use Rattle.linked_core.specs.Refusing.{MayRefuse};
+ghost use Rattle.linked_core.specs.Drafts.{Drafts};
+ghost use Rattle.linked_core.specs.Sound.{IsSound};
+ghost use Rattle.linked_core.specs.States.{state_of, seen, refusal_given};
+ghost use Rattle.linked_core.specs.Values.{stepped};
+
+use crate::answer::{Answer, Ticket};
+use crate::draft::Draft;
+use crate::fault::AskFault;
+use crate::room;
+use crate::sealing::seal;
+use crate::state::{State, commit, make_places};
+use ask_model::{Cause, Mapped};
+use datagram_verdict::Finding;
+use journal_book::{Entry, Event};
+use std::alloc::{AllocError, Global};
+use std::sync::Arc;
+use transformers::Relation;
+
+/// The ask of a connection, and its answer by the proxy itself.
+fn draft_refusal<R: Relation>(
+    alloc: Global,
+    s: &State<R>,
+    moment: u64,
+    conn: u32,
+    mapped: &Arc<Mapped<R>>,
+    cause: Cause,
+) -> Result<Draft<R>, AllocError>
+    requires { length s.now.journal.entries ≤ 65536 }
+    ensures drafts { IfOk result (λ d. Drafts moment (state_of s.now)
+        (refusal_deeds conn (ask_of (arc_value mapped.now)) cause (state_of s.now)) d) }
+    ensures answers { IfOk result (λ d. d.answers
+        ≡ refusal_given (length s.now.journal.entries) moment conn (arc_value mapped.now) cause ∷ []) }
+{
+    let number = s.journal.len() as u32;
+    let asked = Arc::try_clone(mapped)?;
+    let answered = Arc::try_clone(mapped)?;
+    let mut draft = Draft::new(alloc, number, s.conns.as_slice())?;
+    draft.enter(Entry {
+        moment,
+        event: Event::Asked(conn, asked),
+    })?;
+    draft.answer(Answer {
+        conn,
+        ask: number,
+        number: number + 1,
+        mapped: answered,
+        moment,
+        heard: moment,
+        finding: Finding::fault(cause, number),
+    })?;
+    Ok(draft)
+}
+
+/// Enters an ask, and answers it by the proxy itself. Where there is no room for that, the journal is
+/// sealed.
+pub fn refuse<R: Relation>(
+    alloc: Global,
+    s: &mut State<R>,
+    moment: u64,
+    conn: u32,
+    mapped: Arc<Mapped<R>>,
+    cause: Cause,
+) -> Result<Ticket<R>, AskFault>
+    requires sound { IsSound s.old }
+    requires unsealed { s.old.sealed ≡ false }
+    requires later { s.old.moment ≤ moment }
+    requires early { moment ≤ 2 ^ 62 }
+    requires refused { MayRefuse moment conn (ask_of (arc_value mapped)) cause (state_of s.old) }
+    ensures sound { IsSound s.new }
+    ensures ticket { IfOk result (λ t. (t.conn ≡ conn) × (t.number ≡ length s.old.journal.entries)
+        × (arc_value t.mapped ≡ arc_value mapped)) }
+    ensures ok { OnOk result (s.new.sealed ≡ false) }
+    ensures sealed { result ≡ Err AskFault.Sealed → s.new.sealed ≡ true }
+    ensures is { result ≢ Err AskFault.Memory → (n : Numbers) → seen s.new
+        ≡ stepped (asks_in_room moment conn (ask_of (arc_value mapped)) n (state_of s.old)) (seen s.old) }
+    ensures memory { result ≡ Err AskFault.Memory → seen s.new ≡ seen s.old }
+    ensures others { (result ≢ Err AskFault.Unknown) × (result ≢ Err AskFault.Pending) }
+{
+    let number = s.journal.len() as u32;
+    let draft = draft_refusal(alloc, s, moment, conn, &mapped, cause)?;
+    if !room::takes(s, &draft) {
+        seal(s, moment);
+        return Err(AskFault::Sealed);
+    }
+    make_places(s, &draft)?;
+    commit(s, draft, moment);
+    Ok(Ticket {
+        conn,
+        number,
+        mapped,
+    })
+}

@@ -1,0 +1,112 @@
+//! Calls of a core over links that pass on nothing of what it promises: a trial over them is proved in
+//! less time.
+
+use crate::sample::{Nothing, light, server, shared, too_large};
+use ask_model::Cause;
+use journal_book::Event;
+use linked_core::{Answer, AskFault, Core, OpenFault, Outcome, Ticket};
+use std::alloc::Global;
+
+pub fn new_core(alloc: Global) -> Option<Core<Nothing>> {
+    Core::new(alloc).ok()
+}
+
+pub fn open(core: &mut Core<Nothing>, moment: u64) -> Result<u32, OpenFault> {
+    core.open(moment)
+}
+
+pub fn close(core: &mut Core<Nothing>, moment: u64, conn: u32) -> bool {
+    core.close(moment, conn)
+}
+
+/// Asks for the light, with this random word.
+pub fn ask(
+    core: &mut Core<Nothing>,
+    alloc: Global,
+    moment: u64,
+    word: u64,
+    conn: u32,
+) -> Result<Ticket<Nothing>, AskFault> {
+    match light(alloc) {
+        Ok(Some(mapped)) => core.ask(moment, word, conn, shared(alloc, mapped)?),
+        _ => Err(AskFault::Memory),
+    }
+}
+
+/// Asks what is refused for its size.
+pub fn ask_too_much(
+    core: &mut Core<Nothing>,
+    alloc: Global,
+    moment: u64,
+    conn: u32,
+) -> Result<Ticket<Nothing>, AskFault> {
+    let mapped = shared(alloc, too_large(alloc)?)?;
+    core.ask(moment, 0, conn, mapped)
+}
+
+/// Hands in a datagram from the server's host, and tells whether memory sufficed.
+pub fn hear(core: &mut Core<Nothing>, moment: u64, port: u16, bytes: &[u8]) -> bool {
+    core.heard(moment, 0, server(port), bytes).is_ok()
+}
+
+/// The ask whose answer waits first.
+pub fn first_answered(core: &Core<Nothing>) -> Option<u32> {
+    core.first_answered()
+}
+
+pub fn take_answer(core: &mut Core<Nothing>, ticket: &Ticket<Nothing>) -> Option<Answer<Nothing>> {
+    core.take_answer(ticket)
+}
+
+/// The bytes of the datagram that goes out next.
+pub fn next_sent(core: &mut Core<Nothing>, alloc: Global) -> Option<Vec<u8>> {
+    let sent = core.take_send()?;
+    Vec::from_slice(alloc, sent.bytes.as_slice()).ok()
+}
+
+/// The number of entries.
+pub fn entries(core: &Core<Nothing>) -> usize {
+    core.journal().len()
+}
+
+/// When the entry with this number was written.
+pub fn moment_of(core: &Core<Nothing>, number: usize) -> Option<u64> {
+    let entry = core.journal().get(number)?;
+    Some(entry.moment)
+}
+
+/// Whether the entry with this number sends these bytes, with this timeout.
+pub fn sends(core: &Core<Nothing>, number: usize, wanted: &[u8], wait: Option<u32>) -> bool {
+    let Some(entry) = core.journal().get(number) else {
+        return false;
+    };
+    match &entry.event {
+        Event::Sent { bytes, timeout, .. } => bytes.as_slice() == wanted && *timeout == wait,
+        _ => false,
+    }
+}
+
+/// The connection and the ask that the entry with this number answers.
+pub fn answered(core: &Core<Nothing>, number: usize) -> Option<(u32, u32)> {
+    let entry = core.journal().get(number)?;
+    match &entry.event {
+        Event::Answered { conn, ask, .. } => Some((*conn, *ask)),
+        _ => None,
+    }
+}
+
+/// The cause that an answer names.
+pub fn cause_of(answer: &Answer<Nothing>) -> Option<Cause> {
+    match answer.finding.outcome() {
+        Outcome::Fault(cause) => Some(*cause),
+        Outcome::Whole(_) => None,
+    }
+}
+
+/// Whether an answer is a response with this code and this body.
+pub fn responds(answer: &Answer<Nothing>, code: u8, body: &[u8]) -> bool {
+    match answer.finding.outcome() {
+        Outcome::Whole(response) => response.code == code && response.body.as_slice() == body,
+        Outcome::Fault(_) => false,
+    }
+}
