@@ -35,7 +35,6 @@ pub mod Heeded
 pub mod Passed
 pub mod TickEnters
 pub mod Dropped
-
 pub mod Counting
 pub mod Waiting
 pub mod Tallies
