@@ -32,7 +32,8 @@ fn check_idle(conns: &[Conn], id: u32) -> Result<(), AskFault>
     ensures ok { OnOk result (HasConn conns.now id None) }
     ensures unknown { result ≡ Err AskFault.Unknown → (p : Option ℕ) → HasConn conns.now id p → ⊥ }
     ensures pending { result ≡ Err AskFault.Pending → (k : ℕ) × HasConn conns.now id (Some k) }
-    ensures others { OnErr result ((result ≡ Err AskFault.Unknown) ⊎ (result ≡ Err AskFault.Pending)) }
+    ensures others { OnErr result ((result ≡ Err AskFault.Unknown)
+        ⊎ (result ≡ Err AskFault.Pending)) }
 {
     'each: for conn in conns {
         if conn.id == id {

@@ -128,7 +128,8 @@ impl<R: Relation> Core<R> {
     ) -> Result<Ticket<R>, AskFault>
         ensures asks { IsAsked (number_in result) (now self.old.state.moment moment) word conn
             (ask_of (arc_value mapped)) self.old self.new }
-        ensures ticket { IfOk result (λ t. (t.conn ≡ conn) × (arc_value t.mapped ≡ arc_value mapped)) }
+        ensures ticket { IfOk result (λ t. (t.conn ≡ conn)
+            × (arc_value t.mapped ≡ arc_value mapped)) }
     {
         let moment = self.now(moment);
         asking::ask(self.alloc, &mut self.state, moment, word, conn, mapped)

@@ -46,7 +46,8 @@ fn set_pending(conns: &mut [Conn], id: u32, pending: Option<u32>)
 
 /// What an entry with this number does to the connections.
 fn note<R: Relation>(conns: &mut Vec<Conn>, number: u32, event: &Event<R>) -> Result<(), AllocError>
-    ensures { OnOk result (conns.new.items ≡ conns_after conns.old.items number (event_of event.now)) }
+    ensures { OnOk result (conns.new.items
+        ≡ conns_after conns.old.items number (event_of event.now)) }
 {
     match event {
         Event::Opened(id) => conns.push(Conn {
@@ -249,7 +250,8 @@ impl<R: Relation> Draft<R> {
             → Drafts answer.moment S ds self.old
             → OnOk result (Drafts answer.moment S
             (ds ++ Answers answer.conn answer.ask answer.finding.grounds ∷ []) self.new) }
-        ensures answers { OnOk result (self.new.answers ≡ self.old.answers ++ given_of answer ∷ []) }
+        ensures answers { OnOk result (self.new.answers
+            ≡ self.old.answers ++ given_of answer ∷ []) }
     {
         self.add_answer(answer)?;
         Ok(())

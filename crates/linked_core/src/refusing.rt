@@ -81,7 +81,8 @@ pub fn refuse<R: Relation>(
     ensures ok { OnOk result (s.new.sealed ≡ false) }
     ensures sealed { result ≡ Err AskFault.Sealed → s.new.sealed ≡ true }
     ensures is { result ≢ Err AskFault.Memory → (n : Numbers) → seen s.new
-        ≡ stepped (asks_in_room moment conn (ask_of (arc_value mapped)) n (state_of s.old)) (seen s.old) }
+        ≡ stepped (asks_in_room moment conn (ask_of (arc_value mapped)) n (state_of s.old))
+        (seen s.old) }
     ensures memory { result ≡ Err AskFault.Memory → seen s.new ≡ seen s.old }
     ensures others { (result ≢ Err AskFault.Unknown) × (result ≢ Err AskFault.Pending) }
 {

@@ -216,7 +216,8 @@ fn submit_new(
 /// Hands in the message to the endpoint's link, which has not changed since it was prepared.
 pub fn submit(endpoints: &mut Vec<Endpoint>, peer: Peer, prepared: Prepared, moment: u64)
     requires early { moment ≤ 2 ^ 62 }
-    requires place { HasPlaceFor prepared.place (vec_len endpoints.old) (vec_capacity endpoints.old) }
+    requires place { HasPlaceFor prepared.place
+        (vec_len endpoints.old) (vec_capacity endpoints.old) }
     requires may { MaySubmitTo moment peer endpoints.old.items prepared.place prepared.submission }
     ensures { map peer_link endpoints.new.items
         ≡ submitted_to peer moment prepared.submission.waiting (map peer_link endpoints.old.items) }

@@ -14,7 +14,8 @@ use transformers::Relation;
 
 /// The place of the answer to the ask.
 fn answer_place<R: Relation>(answers: &[Answer<R>], ask: u32) -> Option<usize>
-    ensures some { IfSome result (λ i. option_map (λ a. a.ask) (slice_get answers.now i) ≡ Some ask) }
+    ensures some { IfSome result (λ i.
+        option_map (λ a. a.ask) (slice_get answers.now i) ≡ Some ask) }
     ensures none { result ≡ None → All (λ a. a.ask ≢ ask) answers.now }
 {
     'each: for place in 0..answers.len() {
@@ -27,9 +28,11 @@ fn answer_place<R: Relation>(answers: &[Answer<R>], ask: u32) -> Option<usize>
 
 /// Takes out the answer to the ask.
 pub fn take_answer<R: Relation>(answers: &mut Vec<Answer<R>>, ask: u32) -> Option<Answer<R>>
-    ensures some { IfSome result (λ a. (a.ask ≡ ask) × Contains (map given_of answers.old.items) (given_of a)) }
+    ensures some { IfSome result (λ a. (a.ask ≡ ask)
+        × Contains (map given_of answers.old.items) (given_of a)) }
     ensures none { result ≡ None → All (λ g. g.ask ≢ ask) (map given_of answers.old.items) }
-    ensures others { map given_of answers.new.items ≡ filter (λ g. not (g.ask == ask)) (map given_of answers.old.items) }
+    ensures others { map given_of answers.new.items
+        ≡ filter (λ g. not (g.ask == ask)) (map given_of answers.old.items) }
 {
     let Some(place) = answer_place(answers, ask) else {
         return None;
