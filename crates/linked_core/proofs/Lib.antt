@@ -14,3 +14,16 @@ pub mod Heard
 pub mod Heeds
 pub mod HeardSteps
 pub mod BeginSound
+pub mod TickDue
+pub mod TickExpiring
+pub mod TickLeads
+pub mod TickSince
+pub mod TickSound
+pub mod TickTurns
+pub mod TickBack
+pub mod TickEnds
+pub mod TickDeeds
+pub mod TickTimed
+pub mod TickRoom
+pub mod TickDraft
+pub mod TickSteps

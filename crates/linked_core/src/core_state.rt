@@ -3,7 +3,7 @@
 ghost use Rattle.std.specs.Prelude.{◌≡◌, ◌≤◌, ◌^◌, [], IfOk, OnOk, OnErr, IsTrue, IsFalse, option_map, min, map};
 ghost use Rattle.std.specs.Arc.{arc_value};
 ghost use Rattle.journal_book.specs.Views.{ask_of};
-ghost use Rattle.core_steps.specs.Sealing.{hears_in_room};
+ghost use Rattle.core_steps.specs.Sealing.{hears_in_room, ticks_in_room};
 ghost use Rattle.std.specs.List.{reduce};
 ghost use Rattle.whole_history.specs.Justified.{Stands};
 ghost use Rattle.core_steps.specs.Keeping.{start};
@@ -18,7 +18,7 @@ use crate::fault::{AskFault, OpenFault};
 use crate::outgoing::Datagram;
 use crate::room::ENTRIES;
 use crate::state::State;
-use crate::{asking, hearing, opening, taking};
+use crate::{asking, hearing, opening, taking, ticking};
 use ask_model::Mapped;
 use journal_book::Journal;
 use std::alloc::{AllocError, Global};
@@ -151,6 +151,19 @@ impl<R: Relation> Core<R> {
     {
         let moment = self.now(moment);
         hearing::hear(self.alloc, &mut self.state, moment, peer, datagram)
+    }
+
+    /// Does what is due at this moment (RFC 7252 sections 4.2 and 4.8.2): copies go out; messages
+    /// that were sent five times in vain are given up, and the next ones go out; and asks are answered
+    /// whose exchanges end with that, or were open for 93 seconds. The first call that finds no room
+    /// for it seals the journal. After the seal the asks alone are answered, for which room is held.
+    pub fn tick(&mut self, moment: u64) -> Result<(), AllocError>
+        ensures ticks { OnOk result (self.new
+            ≡ stepped (ticks_in_room (now self.old.state.moment moment) self.old.state) self.old) }
+        ensures memory { OnErr result (self.new ≡ self.old) }
+    {
+        let moment = self.now(moment);
+        ticking::tick(self.alloc, &mut self.state, moment)
     }
 
     /// The first of the asks whose answers aren't taken yet.

@@ -1,6 +1,6 @@
 //! What a step adds, built before anything changes.
 
-ghost use Rattle.std.specs.Prelude.{◌≡◌, ◌==◌, ◌<◌, ◌∷◌, ◌++◌, [], List, not, filter, length, map, sum_by, IfOk, OnOk};
+ghost use Rattle.std.specs.Prelude.{◌≡◌, ◌==◌, ◌+◌, ◌<◌, ◌∷◌, ◌++◌, [], List, not, filter, length, map, sum_by, IfOk, OnOk};
 ghost use Rattle.ask_model.specs.Sizes.{capped};
 ghost use Rattle.journal_book.specs.Entries.{Deed, Sends, Answers, entry_size};
 ghost use Rattle.journal_book.specs.Views.{event_of, item_of};
@@ -183,6 +183,7 @@ impl<R: Relation> Draft<R> {
             → Drafts entry.moment S ds self.old
             → OnOk result (Drafts entry.moment S (ds ++ event_of entry.event ∷ []) self.new) }
         ensures answers { OnOk result (self.new.answers ≡ self.old.answers) }
+        ensures next { OnOk result (self.new.next ≡ self.old.next + 1) }
     {
         self.add(entry)?;
         Ok(())
@@ -213,6 +214,7 @@ impl<R: Relation> Draft<R> {
         ensures drafts { (S : State) (ds : List Deed) → Drafts moment S ds self.old
             → OnOk result (Drafts moment S (ds ++ Sends peer bytes.now timeout ∷ []) self.new) }
         ensures answers { OnOk result (self.new.answers ≡ self.old.answers) }
+        ensures next { OnOk result (self.new.next ≡ self.old.next + 1) }
     {
         self.add_sending(moment, peer, bytes, timeout)?;
         Ok(())
@@ -252,6 +254,7 @@ impl<R: Relation> Draft<R> {
             (ds ++ Answers answer.conn answer.ask answer.finding.grounds ∷ []) self.new) }
         ensures answers { OnOk result (self.new.answers
             ≡ self.old.answers ++ given_of answer ∷ []) }
+        ensures next { OnOk result (self.new.next ≡ self.old.next + 1) }
     {
         self.add_answer(answer)?;
         Ok(())

@@ -1,0 +1,56 @@
+-- What is prepared for a tick at each endpoint.
+use Rattle.std.specs.Prelude.{ℕ, ◌+◌, ◌^◌, ◌<◌, List, [], ◌∷◌, ◌++◌, length, Option, Some, None, ⊤}
+use Rattle.std.specs.List.{AllByRecursion}
+use Rattle.uri_map.specs.declared.peer.Peer.{Peer}
+use Rattle.journal_book.specs.Entries.{Deed, Sends}
+use Rattle.message_layer.specs.Prepared.{IsTicking}
+use Rattle.message_layer.specs.declared.prepared.FirstSending.{FirstSending}
+use Rattle.message_layer.specs.declared.prepared.Ticking.{Ticking}
+use Rattle.message_layer.specs.declared.prepared.Ticking.TheVariants.{Rests, Copies, GivesUp}
+use Rattle.core_steps.specs.State.{PeerLink}
+use Rattle.core_steps.specs.Entering.{Going}
+use Rattle.linked_core.specs.declared.state.Endpoint.{Endpoint}
+
+-- A turn is prepared for each endpoint, in order.
+abbrev pub AreTurns : ℕ → List (List ℕ) → List Endpoint → List Ticking → Type 0
+AreTurns t gone [] [] = ⊤
+AreTurns t gone (x ∷ xs) (k ∷ ks) = IsTicking t gone x.link k × AreTurns t gone xs ks
+AreTurns t gone _ _ = ⊥
+
+-- A first timeout has 32 bits.
+abbrev pub IsTimedFirst : Option FirstSending → Type 0
+IsTimedFirst None = ⊤
+IsTimedFirst (Some f) = f.message.timeout < 2 ^ 32
+
+abbrev pub IsTimed : Ticking → Type 0
+IsTimed (GivesUp token next) = IsTimedFirst next
+IsTimed _ = ⊤
+
+abbrev pub AreTimed : List Ticking → Type 0
+AreTimed ks = AllByRecursion IsTimed ks
+
+-- what a turn sends
+abbrev pub first_of : Peer → Option FirstSending → List Deed
+first_of p None = []
+first_of p (Some f) = Sends p f.datagram (Some f.message.timeout) ∷ []
+
+abbrev pub deeds_of : Peer → Ticking → List Deed
+deeds_of p Rests = []
+deeds_of p (Copies d) = Sends p d None ∷ []
+deeds_of p (GivesUp token next) = first_of p next
+
+abbrev pub going_first : ℕ → Option FirstSending → List Going
+going_first n None = []
+going_first n (Some f) = record { token = f.message.token; number = n } ∷ []
+
+abbrev pub going_of : ℕ → Ticking → List Going
+going_of n (GivesUp token next) = going_first n next
+going_of n _ = []
+
+abbrev pub turns_deeds : List PeerLink → List Ticking → List Deed
+turns_deeds (x ∷ xs) (k ∷ ks) = deeds_of x.peer k ++ turns_deeds xs ks
+turns_deeds _ _ = []
+
+abbrev pub turns_going : ℕ → List PeerLink → List Ticking → List Going
+turns_going n (x ∷ xs) (k ∷ ks) = going_of n k ++ turns_going (n + length (deeds_of x.peer k)) xs ks
+turns_going n _ _ = []

@@ -1,0 +1,68 @@
+//! When something is due.
+
+ghost use Rattle.std.specs.Prelude.{◌≡◌, ◌≤◌, ◌^◌, map};
+ghost use Rattle.std.specs.List.{AllByRecursion};
+ghost use Rattle.core_steps.specs.Due.{earlier, earliest, timer, deadline, next_due};
+ghost use Rattle.core_steps.specs.Steps.{is_past};
+ghost use Rattle.linked_core.specs.Due.{IsSince};
+ghost use Rattle.linked_core.specs.Sound.{IsSound};
+ghost use Rattle.linked_core.specs.States.{state_of, peer_link};
+
+use crate::state::{Endpoint, State};
+use core_steps::Exchange;
+use transformers::Relation;
+
+/// MAX_TRANSMIT_WAIT in milliseconds (RFC 7252 section 4.8.2).
+const WAIT: u64 = 93_000;
+
+/// Whether the exchange has been open for as long as it may.
+pub fn is_past(exchange: &Exchange, moment: u64) -> bool
+    ensures { result ≡ is_past moment exchange.now }
+{
+    moment >= WAIT && exchange.since <= moment - WAIT
+}
+
+/// The earlier of two moments, where there are two.
+fn earlier(a: Option<u64>, b: Option<u64>) -> Option<u64>
+    ensures { result ≡ earlier a b }
+{
+    match (a, b) {
+        (None, b) => b,
+        (Some(a), None) => Some(a),
+        (Some(a), Some(b)) => Some(a.min(b)),
+    }
+}
+
+/// The first timer of the links.
+fn earliest_timer(endpoints: &[Endpoint]) -> Option<u64>
+    ensures { result ≡ earliest timer (map peer_link endpoints.now) }
+{
+    let mut first = None;
+    'each: for x in endpoints {
+        first = earlier(first, x.link.next_due());
+    }
+    first
+}
+
+/// The first moment at which an exchange took too long.
+fn earliest_deadline(exchanges: &[Exchange]) -> Option<u64>
+    requires { AllByRecursion IsSince exchanges.now }
+    ensures { result ≡ earliest deadline exchanges.now }
+{
+    let mut first = None;
+    'each: for e in exchanges {
+        first = earlier(first, Some(e.since + WAIT));
+    }
+    first
+}
+
+/// When a tick has something to do, in a journal that isn't sealed.
+pub fn next_due<R: Relation>(s: &State<R>) -> Option<u64>
+    requires { IsSound s.now }
+    ensures { result ≡ next_due (state_of s.now) }
+{
+    earlier(
+        earliest_timer(&s.endpoints),
+        earliest_deadline(&s.exchanges),
+    )
+}
