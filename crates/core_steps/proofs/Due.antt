@@ -32,7 +32,7 @@ either-came t None b = refl
 either-came t (Some a) None = or-none (leb a t)
 either-came t (Some a) (Some b) = least a b t
 
-any-came : {X : Type 0} (t : ℕ) (f : X → Option ℕ) (xs : List X) → has_come t (earliest f xs) ≡ list_any (λ (x : X). has_come t (f x)) xs
+pub any-came : {X : Type 0} (t : ℕ) (f : X → Option ℕ) (xs : List X) → has_come t (earliest f xs) ≡ list_any (λ (x : X). has_come t (f x)) xs
 any-came t f [] = refl
 any-came t f (x ∷ xs) = either-came t (f x) (earliest f xs) ∙ ap (λ (b : Bool). has_come t (f x) || b) (any-came t f xs)
 

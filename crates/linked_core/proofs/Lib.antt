@@ -27,3 +27,4 @@ pub mod TickTimed
 pub mod TickRoom
 pub mod TickDraft
 pub mod TickSteps
+pub mod TickNext

@@ -9,6 +9,7 @@ ghost use Rattle.whole_history.specs.Justified.{Stands};
 ghost use Rattle.core_steps.specs.Keeping.{start};
 ghost use Rattle.linked_core.specs.Answering.{given_of};
 ghost use Rattle.linked_core.specs.Calls.{now, IsOpened, IsAsked, IsClosed, IsUnknown};
+ghost use Rattle.linked_core.specs.Due.{next_tick, IsNextTick};
 ghost use Rattle.linked_core.specs.Values.{outgoing_of, stepped};
 ghost use Rattle.linked_core.specs.States.{core_of, number_in};
 ghost use Rattle.linked_core.specs.Taking.{IsTaken, IsSent};
@@ -18,7 +19,7 @@ use crate::fault::{AskFault, OpenFault};
 use crate::outgoing::Datagram;
 use crate::room::ENTRIES;
 use crate::state::State;
-use crate::{asking, hearing, opening, taking, ticking};
+use crate::{asking, due, hearing, opening, taking, ticking};
 use ask_model::Mapped;
 use journal_book::Journal;
 use std::alloc::{AllocError, Global};
@@ -164,6 +165,15 @@ impl<R: Relation> Core<R> {
     {
         let moment = self.now(moment);
         ticking::tick(self.alloc, &mut self.state, moment)
+    }
+
+    /// The moment of the next tick that has something to do, if any has: none before it changes the
+    /// core. After the seal, exchanges count where a connection waits for them, and nothing else does.
+    pub fn next_due(&self) -> Option<u64>
+        ensures is { result ≡ next_tick self.now.state }
+        ensures exact { IsNextTick result self.now.state }
+    {
+        due::next_tick(&self.state)
     }
 
     /// The first of the asks whose answers aren't taken yet.

@@ -4,12 +4,13 @@ ghost use Rattle.std.specs.Prelude.{◌≡◌, ◌≤◌, ◌^◌, map};
 ghost use Rattle.std.specs.List.{AllByRecursion};
 ghost use Rattle.core_steps.specs.Due.{earlier, earliest, timer, deadline, next_due};
 ghost use Rattle.core_steps.specs.Steps.{is_past};
-ghost use Rattle.linked_core.specs.Due.{IsSince};
+ghost use Rattle.linked_core.specs.Due.{IsSince, next_late, next_tick};
 ghost use Rattle.linked_core.specs.Sound.{IsSound};
 ghost use Rattle.linked_core.specs.States.{state_of, peer_link};
 
+use crate::exchanges::is_awaited;
 use crate::state::{Endpoint, State};
-use core_steps::Exchange;
+use core_steps::{Conn, Exchange};
 use transformers::Relation;
 
 /// MAX_TRANSMIT_WAIT in milliseconds (RFC 7252 section 4.8.2).
@@ -65,4 +66,30 @@ pub fn next_due<R: Relation>(s: &State<R>) -> Option<u64>
         earliest_timer(&s.endpoints),
         earliest_deadline(&s.exchanges),
     )
+}
+
+/// The first moment at which an exchange took too long for which a connection waits.
+fn earliest_awaited(exchanges: &[Exchange], conns: &[Conn]) -> Option<u64>
+    requires { AllByRecursion IsSince exchanges.now }
+    ensures { result ≡ next_late conns.now exchanges.now }
+{
+    let mut first = None;
+    'each: for e in exchanges {
+        if is_awaited(e, conns) {
+            first = earlier(first, Some(e.since + WAIT));
+        }
+    }
+    first
+}
+
+/// When a tick has something to do: in a sealed journal it answers the asks alone whose exchanges
+/// took too long.
+pub fn next_tick<R: Relation>(s: &State<R>) -> Option<u64>
+    requires { IsSound s.now }
+    ensures { result ≡ next_tick (state_of s.now) }
+{
+    if s.sealed {
+        return earliest_awaited(&s.exchanges, &s.conns);
+    }
+    next_due(s)
 }
