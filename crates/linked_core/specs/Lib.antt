@@ -12,6 +12,7 @@ pub mod Refusing
 pub mod Leads
 pub mod Passing
 pub mod Room
+pub mod Snapshots
 pub mod Sound
 pub mod States
 pub mod Submitting

@@ -10,7 +10,8 @@ ghost use Rattle.core_steps.specs.Keeping.{start};
 ghost use Rattle.linked_core.specs.Answering.{given_of};
 ghost use Rattle.linked_core.specs.Calls.{now, IsOpened, IsAsked, IsClosed, IsUnknown};
 ghost use Rattle.linked_core.specs.Due.{next_tick, IsNextTick};
-ghost use Rattle.linked_core.specs.Values.{outgoing_of, stepped};
+ghost use Rattle.linked_core.specs.Snapshots.{Grows, IsOf, MayRestore};
+ghost use Rattle.linked_core.specs.Values.{CoreValue, outgoing_of, stepped};
 ghost use Rattle.linked_core.specs.States.{core_of, number_in};
 ghost use Rattle.linked_core.specs.Taking.{IsTaken, IsSent};
 
@@ -18,8 +19,9 @@ use crate::answer::{Answer, Ticket};
 use crate::fault::{AskFault, OpenFault};
 use crate::outgoing::Datagram;
 use crate::room::ENTRIES;
+use crate::snapshot::Snapshot;
 use crate::state::State;
-use crate::{asking, due, hearing, opening, taking, ticking};
+use crate::{asking, due, hearing, opening, snapshot, taking, ticking};
 use ask_model::Mapped;
 use journal_book::Journal;
 use std::alloc::{AllocError, Global};
@@ -195,5 +197,22 @@ impl<R: Relation> Core<R> {
         ensures { IsSent (option_map outgoing_of result) self.old self.new }
     {
         self.state.sends.pop_front()
+    }
+
+    /// What the core is.
+    pub fn snapshot(&self) -> Result<Snapshot<R>, AllocError>
+        ensures { IfOk result (λ s. IsOf s self.now) }
+    {
+        let now = snapshot::take_snapshot(self.alloc, &self.state)?;
+        Ok(now)
+    }
+
+    /// Goes back to what the core was, where since then entries were only added. It takes no memory.
+    pub fn restore(&mut self, snapshot: Snapshot<R>)
+        requires { MayRestore snapshot self.old }
+        ensures { (core : CoreValue) → IsOf snapshot core
+            → Grows core.state.entries self.old.state.entries → self.new ≡ core }
+    {
+        snapshot::put_back(&mut self.state, snapshot);
     }
 }
