@@ -14,3 +14,4 @@ pub mod Heard
 pub mod Heeds
 pub mod HeardSteps
 pub mod BeginSound
+pub mod Served

@@ -10,6 +10,7 @@ pub mod Refusing
 pub mod Room
 pub mod Sound
 pub mod States
+pub mod Serving
 pub mod Submitting
 pub mod Taking
 pub mod Values

@@ -22,6 +22,7 @@ mod refusing;
 mod requests;
 mod room;
 mod sealing;
+mod serving;
 mod state;
 mod submitting;
 mod taking;
