@@ -45,3 +45,5 @@ pub mod TickAdds
 pub mod Late
 pub mod Alone
 pub mod InRoom
+pub mod Grown
+pub mod Numbered

@@ -33,7 +33,7 @@ use Rattle.core_steps.proofs.Waiting.{has_id}
 
 -- The connections that are kept are the open ones, in the order of their numbers.
 
-abbrev id_of : Conn → ℕ
+abbrev pub id_of : Conn → ℕ
 id_of x = x.id
 
 ids-pend : (c : ℕ) (p : Option ℕ) (xs : List Conn) → map id_of (map (pend c p) xs) ≡ map id_of xs
@@ -47,7 +47,7 @@ range-more : (a n j : ℕ) → a + n ≡ j → range_with_len a (suc n) ≡ rang
 range-more a zero j e = let same : a ≡ j = omega arith in ap (λ (k : ℕ). k ∷ []) same
 range-more a (suc n) j e = ap (λ (ks : List ℕ). a ∷ ks) (range-more (a + 1) n j (omega arith))
 
-range-below : (a n m : ℕ) → a + n ≤ m → AllByRecursion (λ (k : ℕ). k < m) (range_with_len a n)
+pub range-below : (a n m : ℕ) → a + n ≤ m → AllByRecursion (λ (k : ℕ). k < m) (range_with_len a n)
 range-below a zero m h = tt
 range-below a (suc n) m h = (omega arith, range-below (a + 1) n m (omega arith))
 
@@ -95,7 +95,7 @@ ids-step l t (Asks c a) note may ih = ids-pend c (Some (length l)) (conns_of l) 
 ids-step l t (Answers c k g) note may ih = ids-pend c None (conns_of l) ∙ ih
 ids-step l t d note may ih = ih
 
-open-ids : (l : List Noted) → Legal l → map id_of (conns_of l) ≡ H.open_conns l
+pub open-ids : (l : List Noted) → Legal l → map id_of (conns_of l) ≡ H.open_conns l
 open-ids [] legal = refl
 open-ids (x ∷ older) legal = ids-step older x.written.moment x.written.deed x.note legal.2
     (open-ids older legal.0)

@@ -11,3 +11,4 @@ pub mod Sealing
 pub mod Worked
 pub mod Links
 pub mod Entering
+pub mod Growing

@@ -8,9 +8,10 @@
 //! instead.
 //!
 //! The definitions stand in `specs/`, to be read in this order: `State`, `Reads`, `Steps`, `Laws`;
-//! `Resting`, `Calls`, `Keeping`; `Room`, `Sealing`.
+//! `Resting`, `Calls`, `Keeping`; `Room`, `Sealing`; `Growing`.
 #![tactic(auto)]
 
+mod growing;
 mod kept;
 mod laws;
 mod sealing;

@@ -28,3 +28,4 @@ pub mod TickRoom
 pub mod TickDraft
 pub mod TickSteps
 pub mod TickNext
+pub mod Served

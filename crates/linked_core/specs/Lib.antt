@@ -15,6 +15,7 @@ pub mod Room
 pub mod Snapshots
 pub mod Sound
 pub mod States
+pub mod Serving
 pub mod Submitting
 pub mod Taking
 pub mod Turns

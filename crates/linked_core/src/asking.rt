@@ -28,7 +28,7 @@ use uri_map::Peer;
 const EXCHANGES: usize = 256;
 
 /// Whether the connection is open and waits for no answer.
-fn check_idle(conns: &[Conn], id: u32) -> Result<(), AskFault>
+pub fn check_idle(conns: &[Conn], id: u32) -> Result<(), AskFault>
     ensures ok { OnOk result (HasConn conns.now id None) }
     ensures unknown { result ≡ Err AskFault.Unknown → (p : Option ℕ) → HasConn conns.now id p → ⊥ }
     ensures pending { result ≡ Err AskFault.Pending → (k : ℕ) × HasConn conns.now id (Some k) }

@@ -7,6 +7,9 @@ ghost use Rattle.core_steps.specs.Sealing.{hears_in_room, ticks_in_room};
 ghost use Rattle.std.specs.List.{reduce};
 ghost use Rattle.whole_history.specs.Justified.{Stands};
 ghost use Rattle.core_steps.specs.Keeping.{start};
+ghost use Rattle.std.specs.Prelude.{◌↔◌, None};
+ghost use Rattle.core_steps.specs.Resting.{HasConn};
+ghost use Rattle.linked_core.specs.Serving.{IsFirstTaken, AreBelow, AreOlder};
 ghost use Rattle.linked_core.specs.Answering.{given_of};
 ghost use Rattle.linked_core.specs.Calls.{now, IsOpened, IsAsked, IsClosed, IsUnknown};
 ghost use Rattle.linked_core.specs.Due.{next_tick, IsNextTick};
@@ -21,7 +24,7 @@ use crate::outgoing::Datagram;
 use crate::room::ENTRIES;
 use crate::snapshot::Snapshot;
 use crate::state::State;
-use crate::{asking, due, hearing, opening, snapshot, taking, ticking};
+use crate::{asking, due, hearing, opening, serving, snapshot, taking, ticking};
 use ask_model::Mapped;
 use journal_book::Journal;
 use std::alloc::{AllocError, Global};
@@ -99,7 +102,8 @@ impl<R: Relation> Core<R> {
     /// Opens a connection at this moment, under the next number. At most 256 are open; the first call
     /// that finds no room for it seals the journal.
     pub fn open(&mut self, moment: u64) -> Result<u32, OpenFault>
-        ensures { IsOpened result (now self.old.state.moment moment) self.old self.new }
+        ensures opens { IsOpened result (now self.old.state.moment moment) self.old self.new }
+        ensures above { IfOk result (λ id. AreBelow id self.old.state.conns) }
     {
         let moment = self.now(moment);
         let id = opening::open(&mut self.state, moment)?;
@@ -115,6 +119,13 @@ impl<R: Relation> Core<R> {
     {
         let moment = self.now(moment);
         opening::close(&mut self.state, moment, conn)
+    }
+
+    /// Whether the connection is open and waits for no answer.
+    pub fn is_idle(&self, conn: u32) -> bool
+        ensures { IsTrue result ↔ HasConn self.now.state.conns conn None }
+    {
+        serving::is_idle(self.state.conns.as_slice(), conn)
     }
 
     /// Takes a request of a connection at this moment: it begins an exchange, whose message goes out at
@@ -133,6 +144,7 @@ impl<R: Relation> Core<R> {
             (ask_of (arc_value mapped)) self.old self.new }
         ensures ticket { IfOk result (λ t. (t.conn ≡ conn)
             × (arc_value t.mapped ≡ arc_value mapped)) }
+        ensures older { IfOk result (λ t. AreOlder t.number self.old.untaken) }
     {
         let moment = self.now(moment);
         asking::ask(self.alloc, &mut self.state, moment, word, conn, mapped)
@@ -190,6 +202,13 @@ impl<R: Relation> Core<R> {
         ensures { IsTaken (option_map given_of result) ticket.now.number self.old self.new }
     {
         taking::take_answer(&mut self.state.answers, ticket.number)
+    }
+
+    /// Takes the answer to the first of the asks whose answers aren't taken yet. It takes no memory.
+    pub fn take_first(&mut self) -> Option<Answer<R>>
+        ensures { IsFirstTaken (option_map given_of result) self.old self.new }
+    {
+        serving::take_first(&mut self.state.answers)
     }
 
     /// Takes the first datagram that wasn't taken. It takes no memory.

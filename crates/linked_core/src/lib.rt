@@ -25,6 +25,7 @@ mod refusing;
 mod requests;
 mod room;
 mod sealing;
+mod serving;
 mod snapshot;
 mod state;
 mod submitting;

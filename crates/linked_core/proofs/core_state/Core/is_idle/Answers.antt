@@ -1,0 +1,8 @@
+use Rattle.linked_core.proofs.Served.{idle-once}
+use Rattle.linked_core.proofs.core_state.Core.is_idle.Goals as goal
+
+pub returns : goal.returns
+returns g c =
+    rw (← c.self.view_is)
+    (idle-once _ _ _ _ c.is_idle.result c.args.conn c.self.invariant (rw (c.as_slice.ensures.value) at c.is_idle.ensures.idle)
+    (rw (c.as_slice.ensures.value) at c.is_idle.ensures.other))
