@@ -11,6 +11,7 @@ use Rattle.http_edge.proofs.Readings.{first_on, begins_on}
 use Rattle.http_edge.proofs.Tails.{ends_shorter}
 use Rattle.connection_table.specs.declared.reader.Reader.{Reader}
 use Rattle.connection_table.specs.declared.inbox.Mark.{Mark}
+use Rattle.connection_table.specs.Inlets.{left_by}
 use Rattle.connection_table.specs.Inboxes.{at_mark}
 use Rattle.connection_table.specs.Reads.{IsIdle}
 use Rattle.connection_table.specs.Readers.{text_of, given_of, IsInStep, Rests}
@@ -86,6 +87,14 @@ unread-behind front more n m is (inr x) =
 
 pub expects-behind : (front more : List ℕ) → Expects front → Expects (front ++ more)
 expects-behind front more x = record { head = x.head; behind = x.behind ++ more; begins = begins_on front x.head x.behind more x.begins; asks = x.asks }
+
+-- what an item leaves, where it is the last, or isn't
+
+pub left-last : (i : Item) (rest left : List ℕ) → closes i ≡ true → left ≡ [] → left ≡ left_by i rest
+left-last i rest left last none = rw last none
+
+pub left-more : (i : Item) (rest left : List ℕ) → closes i ≡ false → left ≡ rest → left ≡ left_by i rest
+left-more i rest left more is = rw more is
 
 -- A request is read that isn't the last: the edge holds the rest of what it was given.
 pub record LeftBehind (i : Item) (e : Edge) (given : List ℕ) (n : ℕ) : Type 0 where

@@ -1,5 +1,5 @@
 -- What a table keeps of its rows.
-use Rattle.std.proofs.Common.{◌≡◌, ◌≢◌, ℕ, zero, suc, ◌+◌, ◌<◌, List, Some, [], ◌∷◌, ◌++◌, length, map, take, drop, get_or, inl, inr, Bool, true, false, not, refl, sym, ap, subst, ◌∙◌, arith}
+use Rattle.std.proofs.Common.{◌≡◌, ℕ, zero, suc, ◌+◌, ◌<◌, List, Some, [], ◌∷◌, ◌++◌, length, map, take, drop, get_or, inl, inr, Bool, true, false, not, refl, sym, ap, subst, ◌∙◌, arith}
 use Rattle.std.specs.Prelude.{remove}
 use Rattle.std.specs.List.{All, filter}
 use Rattle.std.proofs.Math.ListN.{set}
@@ -7,9 +7,9 @@ use Rattle.std.proofs.lemmas.Bool.{cases_Bool}
 use Rattle.std.proofs.lemmas.List.Elements.{All-nil, All-cons, All-head, All-tail, All-append, All-push, All-set, All-take, All-drop, All-map, All-filter, All-weaker}
 use Rattle.connection_table.specs.declared.row.Row.{Row}
 use Rattle.connection_table.specs.Inlets.{Inlet, IsSound, AreRising, AreKept}
-use Rattle.connection_table.specs.Rows.{AreInOrder, IsWhole, current_in, marked_in, number_in, current_of, marked_of, settled, put_back}
+use Rattle.connection_table.specs.Rows.{AreInOrder, HasNumber, IsWhole, current_in, marked_in, number_in, current_of, marked_of, settled, put_back}
 use Rattle.connection_table.proofs.Listing.{current-more, current-skip, marked-more, marked-skip}
-use Rattle.connection_table.proofs.Placing.{HasNumber, above-first}
+use Rattle.connection_table.proofs.Placing.{above-first}
 
 -- the order
 

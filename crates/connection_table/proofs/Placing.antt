@@ -1,5 +1,5 @@
 -- A row at its place among those whose numbers rise.
-use Rattle.std.proofs.Common.{◌≡◌, ◌≢◌, ℕ, zero, suc, ◌<◌, List, [], ◌∷◌, inl, inr, Bool, true, false, Option, Some, refl, sym, ap, subst, ◌∙◌, get_or, length, arith}
+use Rattle.std.proofs.Common.{◌≡◌, ◌≢◌, ℕ, zero, suc, ◌<◌, List, [], ◌∷◌, inl, inr, Bool, true, false, Some, refl, sym, ap, subst, ◌∙◌, get_or, length, arith}
 use Rattle.std.specs.Prelude.{option_map, remove}
 use Rattle.std.specs.List.{All, slice_get}
 use Rattle.std.proofs.Math.ListN.{set}
@@ -7,7 +7,7 @@ use Rattle.std.proofs.lemmas.Bool.{cases_Bool}
 use Rattle.std.proofs.lemmas.List.Elements.{All-cons, All-head, All-tail}
 use Rattle.connection_table.specs.declared.row.Row.{Row}
 use Rattle.connection_table.specs.Inlets.{Inlet, inlet_at, without, changed_at}
-use Rattle.connection_table.specs.Rows.{AreInOrder, current_in, marked_in, number_in, current_of, marked_of}
+use Rattle.connection_table.specs.Rows.{AreInOrder, HasNumber, IsClosed, current_in, marked_in, number_in, current_of, marked_of}
 use Rattle.connection_table.proofs.Listing.{current-more, current-skip, marked-more, marked-skip, none-after, found-head, found-later, changed-head, changed-later, without-head, without-later}
 
 same-flag : (b c : Bool) → Some b ≡ Some c → b ≡ c
@@ -15,14 +15,6 @@ same-flag b c e = cc
 
 same-number : (m n : ℕ) → Some m ≡ Some n → m ≡ n
 same-number m n e = cc
-
--- The row at the place has the number.
-abbrev pub HasNumber : List Row → ℕ → ℕ → Type 0
-HasNumber rows i n = option_map number_in (slice_get rows i) ≡ Some n
-
--- It is open, or not.
-abbrev pub IsClosed : List Row → ℕ → Bool → Type 0
-IsClosed rows i b = option_map (λ (r : Row). r.closed) (slice_get rows i) ≡ Some b
 
 abbrev pub IsFresh : List Row → ℕ → Bool → Type 0
 IsFresh rows i b = option_map (λ (r : Row). r.fresh) (slice_get rows i) ≡ Some b

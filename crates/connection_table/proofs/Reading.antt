@@ -1,6 +1,6 @@
 -- What a call on one row does to the connections.
-use Rattle.std.proofs.Common.{◌≡◌, ◌≢◌, ℕ, zero, suc, ◌<◌, ◌++◌, List, [], ◌∷◌, length, get_or, inl, inr, Bool, true, false, Option, Some, None, Result, Ok, Err, OnOk, OnErr, refl, sym, ap, subst, ◌∙◌, arith}
-use Rattle.std.specs.List.{All, slice_get}
+use Rattle.std.proofs.Common.{◌≡◌, ◌≢◌, ℕ, zero, suc, ◌<◌, List, [], ◌∷◌, length, get_or, inl, inr, false, Some, Result, Ok, Err, OnOk, OnErr, refl, sym, ap, subst, ◌∙◌, arith}
+use Rattle.std.specs.List.{All}
 use Rattle.std.proofs.Math.ListN.{set}
 use Rattle.std.proofs.lemmas.Bool.{cases_Bool}
 use Rattle.std.proofs.lemmas.Bool.Decides.{eqb_tells}
@@ -9,11 +9,11 @@ use Rattle.http_edge.specs.Edges.{item}
 use Rattle.connection_table.specs.declared.inbox.Next.{Next}
 use Rattle.connection_table.specs.declared.inbox.Next.TheVariants as N
 use Rattle.connection_table.specs.declared.row.Row.{Row}
-use Rattle.connection_table.specs.Inlets.{Inlet, IsSound, inlet_at, with_inlet, changed_at, extended, appended}
-use Rattle.connection_table.specs.Reads.{Asks, Continues, Settles, Stays, ReadsInlet, ChangesAt, IsAbsent, ReadsOf}
-use Rattle.connection_table.specs.Rows.{AreInOrder, IsWhole, current_in, marked_in, number_in, current_of}
+use Rattle.connection_table.specs.Inlets.{Inlet, IsSound, changed_at, extended, appended}
+use Rattle.connection_table.specs.Reads.{Asks, Continues, Settles, Stays, ReadsInlet, ChangesAt, ReadsOf}
+use Rattle.connection_table.specs.Rows.{AreInOrder, HasNumber, IsClosed, IsWhole, current_in, marked_in, number_in, current_of}
 use Rattle.connection_table.proofs.Listing.{found-none, changed-none}
-use Rattle.connection_table.proofs.Placing.{HasNumber, IsClosed, found-at, put-current}
+use Rattle.connection_table.proofs.Placing.{found-at, put-current}
 use Rattle.connection_table.proofs.Keeping.{order-set, whole-set}
 
 -- The row at the place has the number, and is open.

@@ -1,6 +1,6 @@
 -- Where a binary search over rising numbers comes to.
-use Rattle.std.proofs.Common.{◌≡◌, ◌≢◌, ℕ, zero, suc, ◌<◌, ◌≤◌, List, [], ◌∷◌, length, get_or, inl, inr, Bool, true, false, not, refl, sym, ap, ◌∙◌, ◌⊎◌, ltb, ltb-true, ltb-false, arith}
-use Rattle.std.specs.List.{All, AllWithin, filter}
+use Rattle.std.proofs.Common.{◌≡◌, ◌≢◌, ℕ, zero, suc, ◌<◌, ◌≤◌, List, [], ◌∷◌, length, get_or, inl, inr, true, false, not, refl, sym, ap, ◌∙◌, ◌⊎◌, ltb, ltb-true, ltb-false, arith}
+use Rattle.std.specs.List.{All, filter}
 use Rattle.std.specs.List.Sorted.{IsNonDecreasingBy, IsPartitionPoint}
 use Rattle.std.proofs.lemmas.List.{get_or_default}
 use Rattle.std.proofs.lemmas.List.Elements.{All-map, All-filter}

@@ -1,9 +1,13 @@
 -- The open connections, and the bytes of each that aren't asked yet.
-use Rattle.std.specs.Prelude.{◌≡◌, ⊤, ℕ, ◌+◌, ◌<◌, ◌==◌, ◌&&◌, Bool, true, false, not, nat_lt, length, List, [], ◌∷◌, ◌++◌, map, filter, All, Option, Some, None, if◌then◌else◌}
+use Rattle.std.specs.Prelude.{◌≡◌, ⊤, ℕ, ◌+◌, ◌<◌, ◌==◌, ◌&&◌, Bool, true, false, not, nat_lt}
+use Rattle.std.specs.Prelude.{if◌then◌else◌, length, List, [], ◌∷◌, ◌++◌, map, filter, All}
+use Rattle.std.specs.Prelude.{Option, Some, None}
+use Rattle.http_edge.specs.Reading.{Item, closes}
 use Rattle.http_edge.specs.Edges.{Expects, IsUnread}
 
--- an open connection: its number; the bytes that aren't asked yet; whether its client was told to go on with the
--- request that is next; whether the last request was read, after which there are none; and how many count as unread
+-- An open connection: its number; the bytes that aren't asked yet; whether its client was told to
+-- go on with the request that is next; whether the last request was read, after which there are no
+-- bytes; and how many bytes count as unread.
 pub record Inlet : Type 0 where
   pub number : ℕ
   pub text : List ℕ
@@ -38,10 +42,16 @@ with_inlet y xs = changed_at y.number (λ (x : Inlet). y) xs
 
 -- The bytes come after those that wait; after the last request none are kept.
 abbrev pub extended : List ℕ → Inlet → Inlet
-extended bytes x = if x.closing then x else record x { text = x.text ++ bytes; unread = x.unread + length bytes }
+extended bytes x =
+    if x.closing then x
+    else record x { text = x.text ++ bytes; unread = x.unread + length bytes }
 
 abbrev pub appended : ℕ → List ℕ → List Inlet → List Inlet
 appended n bytes xs = changed_at n (extended bytes) xs
+
+-- what is left after an item: after the last, no bytes
+abbrev pub left_by : Item → List ℕ → List ℕ
+left_by i rest = if closes i then [] else rest
 
 -- So many bytes more would be more than 1,048,576 unread in all. After the last request none count.
 abbrev pub is_full : Inlet → ℕ → Bool
@@ -59,8 +69,8 @@ abbrev pub AreRising : List Inlet → Type 0
 AreRising [] = ⊤
 AreRising (x ∷ xs) = All (λ (y : Inlet). x.number < y.number) xs × AreRising xs
 
--- Who was told to go on was told for the head in front; after the last request there are no bytes; and all bytes
--- count as unread, or where a request is begun none of its head.
+-- Who was told to go on was told for the head in front; after the last request there are no bytes;
+-- and all bytes count as unread, or where a request is begun none of its head.
 pub record IsSound (x : Inlet) : Type 0 where
   pub told : x.told ≡ true → Expects x.text
   pub ended : x.closing ≡ true → x.text ≡ []

@@ -1,13 +1,15 @@
 -- What the bytes of a connection ask next (RFC 9112, sections 2.2 and 9.3.2).
-use Rattle.std.specs.Prelude.{◌≡◌, ◌⊎◌, ℕ, ◌+◌, ◌<◌, true, false, length, List, [], Option, Some, None, Result, Ok, Err, if◌then◌else◌}
+use Rattle.std.specs.Prelude.{◌≡◌, ◌⊎◌, ℕ, ◌+◌, ◌<◌, true, false, if◌then◌else◌, length, List, []}
+use Rattle.std.specs.Prelude.{Some, None, Result, Ok, Err}
 use Rattle.http_edge.specs.declared.memory.Memory.{Memory}
 use Rattle.http_edge.specs.Reading.{Item, First, HasNone, closes}
 use Rattle.http_edge.specs.Edges.{Waits, Expects, item}
 use Rattle.connection_table.specs.declared.inbox.Next.{Next}
 use Rattle.connection_table.specs.declared.inbox.Next.TheVariants as N
-use Rattle.connection_table.specs.Inlets.{Inlet, inlet_at, with_inlet}
+use Rattle.connection_table.specs.Inlets.{Inlet, inlet_at, with_inlet, left_by}
 
--- Nothing of the text can be asked: there is none, no request in it is whole, or the parser can't say more yet.
+-- Nothing of the text can be asked: there is none, no request in it is whole, or the parser can't
+-- say more yet.
 abbrev pub IsIdle : List ℕ → Type 0
 IsIdle text = (text ≡ []) ⊎ (HasNone text ⊎ Waits text)
 
@@ -15,15 +17,17 @@ IsIdle text = (text ≡ []) ⊎ (HasNone text ⊎ Waits text)
 abbrev pub work_of : Inlet → ℕ
 work_of x = length x.text + (if x.closing then 0 else 1)
 
--- what is left after an item: after the last no bytes
-abbrev pub left_by : Item → List ℕ → List ℕ
-left_by i rest = if closes i then [] else rest
-
 abbrev pub inlet_after : ℕ → Item → List ℕ → Inlet
-inlet_after n i rest =
-    record { number = n; text = left_by i rest; told = false; closing = closes i; unread = length (left_by i rest) }
+inlet_after n i rest = record {
+  number = n;
+  text = left_by i rest;
+  told = false;
+  closing = closes i;
+  unread = length (left_by i rest);
+}
 
--- The first request of the text is asked, or the refusal of what stands in its place; its rest is left.
+-- The first request of the text is asked, or the refusal of what stands in its place, and the rest
+-- is left, all of it unread.
 pub record Asks (i : Item) (x y : Inlet) : Type 0 where
   pub rest : List ℕ
   pub goes_on : x.closing ≡ false

@@ -47,15 +47,22 @@ impl Model for Inbox {
     ghost use Rattle.std.specs.Prelude.{◌≡◌, ◌≤◌, true, vec_len};
     ghost use Rattle.http_edge.specs.Edges.{is_told};
     ghost use Rattle.connection_table.specs.Inlets.{IsSound};
-    ghost use Rattle.connection_table.specs.Inboxes.{InboxValue, at_mark};
-    ghost use Rattle.connection_table.specs.Readers.{IsInStep, text_of};
+    ghost use Rattle.connection_table.specs.Inboxes.{InboxValue, inlet_of, at_mark};
+    ghost use Rattle.connection_table.specs.Readers.{IsInStep};
 
     ghost Value = { InboxValue };
 
-    ghost view = { λ i. record { current = record { number = i.number; text = text_of i.reader; told = i.told; closing = i.closing; unread = i.unread }; marked = at_mark i.number i.mark i.reader.bytes.items } };
+    ghost view = { λ i. record {
+      current = inlet_of i.number i.reader i.told i.closing i.unread;
+      marked = at_mark i.number i.mark i.reader.bytes.items;
+    } };
 
-    ghost invariant = { λ i. IsInStep i.reader × IsSound (record { number = i.number; text = text_of i.reader; told = i.told; closing = i.closing; unread = i.unread }) × (is_told i.reader.edge ≡ true → i.told ≡ true)
-        × (i.mark.start ≤ i.mark.end) × (i.mark.end ≤ vec_len i.reader.bytes) × IsSound (at_mark i.number i.mark i.reader.bytes.items) };
+    ghost invariant = { λ i. IsInStep i.reader
+        × IsSound (inlet_of i.number i.reader i.told i.closing i.unread)
+        × (is_told i.reader.edge ≡ true → i.told ≡ true)
+        × (i.mark.start ≤ i.mark.end)
+        × (i.mark.end ≤ vec_len i.reader.bytes)
+        × IsSound (at_mark i.number i.mark i.reader.bytes.items) };
 }
 
 impl Inbox {

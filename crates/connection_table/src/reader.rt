@@ -1,6 +1,9 @@
 //! The bytes of a connection, and how far they were read.
 
-ghost use Rattle.std.specs.Prelude.{◌≡◌, ◌≤◌, ◌<◌, ◌+◌, ◌-◌, ◌++◌, ◌||◌, ◌↔◌, [], true, false, take, drop, vec_len, length, IsTrue, IfOk, IfSome, OnOk, OnErr, Ok, None};
+ghost use Rattle.std.specs.Prelude.{◌≡◌, ◌≤◌, ◌<◌, ◌+◌, ◌-◌, ◌*◌, ◌++◌, ◌||◌, ◌↔◌, [], true, false};
+ghost use Rattle.std.specs.Prelude.{take, drop, vec_len, IsTrue, IfOk, OnOk, OnErr, Ok, None};
+ghost use Rattle.http_edge.specs.Edges.{item};
+ghost use Rattle.http_edge.specs.Reading.{closes as is_last};
 
 use http_edge::{Edge, Incoming, Memory};
 use std::alloc::Global;
@@ -20,7 +23,8 @@ pub struct Reader {
 
 impl Reader {
     ghost use Rattle.http_edge.specs.Edges.{Expects, IsUnread, is_told, unread_len};
-    ghost use Rattle.connection_table.specs.Readers.{IsInStep, Rests, text_of, ReadsNext, Shortens};
+    ghost use Rattle.connection_table.specs.Readers.{IsInStep, Rests, ReadsNext};
+    ghost use Rattle.connection_table.specs.Readers.{text_of, unread_of};
 
     /// No bytes.
     pub fn new(alloc: Global) -> Result<Reader, Memory>
@@ -51,7 +55,7 @@ impl Reader {
 
     /// How many bytes wait unread. What came in of the request begun is read.
     pub fn unread(&self) -> usize
-        ensures len { result ≡ unread_len self.now.edge + (vec_len self.now.bytes - self.now.taken) }
+        ensures len { result ≡ unread_of self.now }
         ensures counts { IsInStep self.now → IsUnread (text_of self.now) result }
     {
         self.edge.unread() + (self.bytes.len() - self.taken)
@@ -62,8 +66,10 @@ impl Reader {
         ensures in_step { IsInStep self.old → IsInStep self.new }
         ensures bytes { self.new.bytes ≡ self.old.bytes }
         ensures start { self.new.start ≡ self.old.start }
-        ensures less { result ≡ true → vec_len self.new.bytes - self.new.taken < vec_len self.old.bytes - self.old.taken }
-        ensures rests { result ≡ false → unread_len self.old.edge < 8192 → self.old.edge.waits ≡ true → Rests self.new }
+        ensures less { result ≡ true →
+            vec_len self.new.bytes - self.new.taken < vec_len self.old.bytes - self.old.taken }
+        ensures rests { result ≡ false → unread_len self.old.edge < 8192 →
+            self.old.edge.waits ≡ true → Rests self.new }
         ensures told { is_told self.new.edge ≡ is_told self.old.edge }
     {
         let n = self.edge.feed(&self.bytes[self.taken..]);
@@ -76,12 +82,12 @@ impl Reader {
         requires { IsInStep self.old }
         ensures in_step { IsInStep self.new }
         ensures bytes { self.new.bytes ≡ self.old.bytes }
-        ensures reads { ReadsNext result (text_of self.old) (text_of self.new) }
-        ensures none { result ≡ Ok None → (self.new.start ≡ self.old.start) × (self.new.taken ≡ self.old.taken) × (unread_len self.new.edge < 8192) × (self.new.edge.waits ≡ true) }
+        ensures reads { ReadsNext result (text_of self.old) self.new }
+        ensures start { result ≡ Ok None → self.new.start ≡ self.old.start }
+        ensures taken { result ≡ Ok None → self.new.taken ≡ self.old.taken }
+        ensures room { result ≡ Ok None → unread_len self.new.edge < 8192 }
+        ensures waits { result ≡ Ok None → self.new.edge.waits ≡ true }
         ensures told { is_told self.new.edge ≡ true → is_told self.old.edge ≡ true }
-        ensures fresh { IfOk result (λ found. IfSome found (λ i. is_told self.new.edge ≡ false)) }
-        ensures shorter { Shortens result (text_of self.old) (text_of self.new) }
-        ensures counted { IfOk result (λ found. IfSome found (λ i. unread_len self.new.edge + (vec_len self.new.bytes - self.new.taken) ≡ vec_len self.new.bytes - self.new.start)) }
     {
         let Some(incoming) = self.edge.next()? else {
             return Ok(None);
@@ -101,12 +107,9 @@ impl Reader {
         requires { IsInStep self.old }
         ensures in_step { IsInStep self.new }
         ensures bytes { self.new.bytes ≡ self.old.bytes }
-        ensures reads { ReadsNext result (text_of self.old) (text_of self.new) }
+        ensures reads { ReadsNext result (text_of self.old) self.new }
         ensures rests { result ≡ Ok None → Rests self.new }
         ensures told { is_told self.new.edge ≡ true → is_told self.old.edge ≡ true }
-        ensures fresh { IfOk result (λ found. IfSome found (λ i. is_told self.new.edge ≡ false)) }
-        ensures shorter { Shortens result (text_of self.old) (text_of self.new) }
-        ensures counted { IfOk result (λ found. IfSome found (λ i. unread_len self.new.edge + (vec_len self.new.bytes - self.new.taken) ≡ vec_len self.new.bytes - self.new.start)) }
     {
         'each: loop {
             if let Some(incoming) = self.next()? {
@@ -126,7 +129,8 @@ impl Reader {
         ensures text { text_of self.new ≡ text_of self.old }
         ensures asks { IsTrue result → Expects (text_of self.old) }
         ensures told { is_told self.new.edge ≡ (result || is_told self.old.edge) }
-        ensures expects { Rests self.old → (is_told self.new.edge ≡ true ↔ Expects (text_of self.new)) }
+        ensures expects { Rests self.old →
+            (is_told self.new.edge ≡ true ↔ Expects (text_of self.new)) }
         ensures rests { Rests self.old → Rests self.new }
     {
         self.edge.wants_continue()
@@ -137,6 +141,7 @@ impl Reader {
         ensures in_step { IsInStep self.old → IsInStep self.new }
         ensures text { text_of self.new ≡ text_of self.old }
         ensures edge { self.new.edge ≡ self.old.edge }
+        ensures few { 2 * self.new.start ≤ vec_len self.new.bytes }
     {
         if self.start > self.bytes.len() - self.start {
             drop_first(&mut self.bytes, self.start);
@@ -160,9 +165,6 @@ impl Reader {
         self.edge.restart();
     }
 }
-
-ghost use Rattle.http_edge.specs.Edges.{item};
-ghost use Rattle.http_edge.specs.Reading.{closes as is_last};
 
 /// Whether nothing is read after it (RFC 9112, section 9.3).
 pub fn closes(incoming: &Incoming) -> bool

@@ -1,7 +1,9 @@
 //! The open connections, by their numbers.
 
-ghost use Rattle.std.specs.Prelude.{◌≡◌, ◌≢◌, ◌<◌, ◌∷◌, ◌++◌, [], None, Some, false, All, map, nat_lt, slice_get, option_map, IfSome, OnOk, OnErr};
-ghost use Rattle.connection_table.specs.Rows.{AreInOrder, current_of, number_in, settled, put_back};
+ghost use Rattle.std.specs.Prelude.{◌≡◌, ◌≢◌, ◌∷◌, ◌++◌, [], None, false, All, map, nat_lt};
+ghost use Rattle.std.specs.Prelude.{IfSome, OnOk, OnErr};
+ghost use Rattle.connection_table.specs.Rows.{AreInOrder, HasNumber, IsClosed, current_of};
+ghost use Rattle.connection_table.specs.Rows.{settled, put_back};
 
 use crate::inbox::{Inbox, Next};
 use crate::row::Row;
@@ -9,7 +11,8 @@ use http_edge::Memory;
 use std::alloc::Global;
 use std::marker::Model;
 
-/// The open connections, and their bytes that aren't asked yet. It can go back to those at its mark.
+/// The open connections, and the bytes of each that aren't asked yet. It can go back to what it
+/// held at its mark.
 #[derive(Drop)]
 pub struct Table {
     alloc: Global,
@@ -23,13 +26,17 @@ impl Model for Table {
 
     ghost Value = { TableValue };
 
-    ghost view = { λ t. record { current = current_of t.rows.items; marked = marked_of t.rows.items } };
+    ghost view = { λ t. record {
+      current = current_of t.rows.items;
+      marked = marked_of t.rows.items;
+    } };
 
     ghost invariant = { λ t. AreInOrder t.rows.items × All IsWhole t.rows.items };
 }
 
 impl Table {
-    ghost use Rattle.connection_table.specs.Inlets.{AreKept, IsAbove, fresh, appended, without, is_full_at};
+    ghost use Rattle.connection_table.specs.Inlets.{AreKept, IsAbove, fresh, appended, without};
+    ghost use Rattle.connection_table.specs.Inlets.{is_full_at};
     ghost use Rattle.connection_table.specs.Reads.{ReadsOf};
 
     /// No connection.
@@ -82,8 +89,8 @@ impl Table {
         }
     }
 
-    /// Whether so many bytes more of the connection would be too many: above 1,048,576 in all that
-    /// wait unread.
+    /// Whether so many bytes more of the connection would be too many: more than 1,048,576 in all
+    /// that wait unread.
     pub fn passes_limit(&self, number: u32, more: usize) -> bool
         ensures { result ≡ is_full_at number more self.now.current }
     {
@@ -95,7 +102,8 @@ impl Table {
 
     /// Puts bytes after those of the connection that wait. After its last request they are dropped.
     pub fn append(&mut self, number: u32, bytes: &[u8]) -> Result<(), Memory>
-        ensures more { OnOk result (self.new.current ≡ appended number bytes.now self.old.current) }
+        ensures more { OnOk result (self.new.current
+            ≡ appended number bytes.now self.old.current) }
         ensures unchanged { OnErr result (self.new.current ≡ self.old.current) }
         ensures marked { self.new.marked ≡ self.old.marked }
     {
@@ -138,8 +146,8 @@ impl Table {
 /// The place of the open connection of that number.
 fn place_of(rows: &[Row], number: u32) -> Option<usize>
     requires { AreInOrder rows.now }
-    ensures number { IfSome result (λ i. option_map number_in (slice_get rows.now i) ≡ Some number) }
-    ensures stays { IfSome result (λ i. option_map (λ r. r.closed) (slice_get rows.now i) ≡ Some false) }
+    ensures number { IfSome result (λ i. HasNumber rows.now i number) }
+    ensures stays { IfSome result (λ i. IsClosed rows.now i false) }
     ensures none { result ≡ None → All (λ x. x.number ≢ number) (current_of rows.now) }
 {
     let place = rows.partition_point(

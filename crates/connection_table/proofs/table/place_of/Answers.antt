@@ -1,5 +1,5 @@
 -- The search finds the place of the number, if it stands anywhere.
-use Rattle.std.proofs.Common.{◌≡◌, ◌<◌, ℕ, length, ltb, ltb-true, ltb-false, rules, sym, ◌∙◌, true, false, arith}
+use Rattle.std.proofs.Common.{length, ltb, ltb-true, ltb-false, rules, sym, ◌∙◌, true, false}
 use Rattle.std.proofs.lemmas.List.Sorted.{IsPartitionedBy-ltb, IsPartitionPoint-from_clause}
 use Rattle.connection_table.specs.declared.row.Row.{Row}
 use Rattle.connection_table.specs.Rows.{number_in}

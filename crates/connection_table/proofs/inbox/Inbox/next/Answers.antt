@@ -1,5 +1,5 @@
 -- Where nothing is read, more is awaited.
-use Rattle.std.proofs.Common.{ℕ, List, ◌≡◌, ◌∙◌, true, Ok, inr, refl, sym, ap, subst}
+use Rattle.std.proofs.Common.{◌≡◌, ◌∙◌, Ok, inr, refl, sym, ap, subst}
 use Rattle.http_edge.specs.Edges.{Expects}
 use Rattle.connection_table.specs.Reads.{IsIdle}
 use Rattle.connection_table.specs.Readers.{text_of}
