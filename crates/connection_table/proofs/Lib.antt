@@ -1,0 +1,6 @@
+pub mod Holding
+pub mod Keeping
+pub mod Listing
+pub mod Placing
+pub mod Reading
+pub mod Searching

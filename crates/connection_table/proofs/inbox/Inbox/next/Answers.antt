@@ -1,0 +1,43 @@
+-- Where nothing is read, more is awaited.
+use Rattle.std.proofs.Common.{◌≡◌, ◌∙◌, Ok, inr, refl, sym, ap, subst}
+use Rattle.http_edge.specs.Edges.{Expects}
+use Rattle.connection_table.specs.Reads.{IsIdle}
+use Rattle.connection_table.specs.Readers.{text_of}
+use Rattle.connection_table.proofs.Holding.{idle-text}
+use Rattle.connection_table.proofs.inbox.Inbox.next.Goals.{else-wants_continue-via-then-wants_continue+else-not-self, else-wants_continue-via-else-wants_continue}
+use Rattle.connection_table.proofs.inbox.Inbox.next.Goals as goal
+
+pub returns-then-not-self-clause-reads : goal.returns-then-not-self-clause-reads
+returns-then-not-self-clause-reads c =
+    let rests = c.in_ok-incoming.ensures.rests (ap (λ o. Ok o) c.in_default.is) in
+    let text_is : text_of c.wants_continue.new.self ≡ text_of c.self.inside.reader = c.wants_continue.ensures.text ∙ (rw (c.in_default.is) at c.in_ok-incoming.ensures.reads) in
+    let idle = subst IsIdle text_is (idle-text c.wants_continue.new.self c.wants_continue.ensures.in_step (c.wants_continue.ensures.rests rests)) in
+    rw (← c.self.view_is) (record {
+      goes_on = c.if-self.false;
+      idle = idle;
+      expects = subst Expects (rw (c.in_default.is) at c.in_ok-incoming.ensures.reads) (c.wants_continue.ensures.asks c.if-wants_continue.true);
+      untold = c.if-not-self.true;
+      left = rw text_is refl;
+    })
+
+pub returns-else-wants_continue-clause-reads : goal.returns-else-wants_continue-clause-reads
+returns-else-wants_continue-clause-reads c =
+    let rests = c.in_ok-incoming.ensures.rests (ap (λ o. Ok o) c.in_default.is) in
+    let text_is : text_of c.wants_continue.new.self ≡ text_of c.self.inside.reader = c.wants_continue.ensures.text ∙ (rw (c.in_default.is) at c.in_ok-incoming.ensures.reads) in
+    let idle = subst IsIdle text_is (idle-text c.wants_continue.new.self c.wants_continue.ensures.in_step (c.wants_continue.ensures.rests rests)) in
+    elim c.else-wants_continue.branch [
+      | else-wants_continue-via-then-wants_continue+else-not-self w ↦
+          rw (← c.self.view_is, w.self-is) (record {
+            why = inr (record { idle = idle; told = λ e. w.if-not-self.false });
+            left = rw text_is refl;
+          })
+      | else-wants_continue-via-else-wants_continue w ↦
+          rw (← c.self.view_is, w.self-is) (record {
+            why = inr (record {
+              idle = idle;
+              told = λ e. c.self.invariant.2 (c.in_ok-incoming.ensures.told
+                  (sym (rw (w.if-wants_continue.false) at c.wants_continue.ensures.told) ∙ (c.wants_continue.ensures.expects rests).1 (subst Expects (sym text_is) e)));
+            });
+            left = rw text_is refl;
+          })
+    ]

@@ -1,0 +1,5 @@
+pub mod Inboxes
+pub mod Inlets
+pub mod Readers
+pub mod Reads
+pub mod Rows
