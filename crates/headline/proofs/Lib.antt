@@ -6,3 +6,4 @@ pub mod Unsent
 pub mod Settling
 pub mod GivenUp
 pub mod Causes
+pub mod Apart

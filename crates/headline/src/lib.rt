@@ -3,4 +3,4 @@
 
 mod laws;
 
-pub use laws::{names_cause, rests_on_replies};
+pub use laws::{answered_in_order, names_cause, rests_on_replies, served_once};
