@@ -32,6 +32,7 @@ use Rattle.headline.proofs.Resting.{answers-ask, reads-own, asked-by, opened-by}
 use Rattle.headline.proofs.Ending.{turn-expired, reset-turn, expired-turn, failed-turn, going-unreplied, reply-listed, rejected-in}
 use Rattle.headline.proofs.Unsent.{Over, unsent-in, none-for-plain, sent-last-none, sent-last-first, never-sent}
 use Rattle.headline.proofs.GivenUp.{given-up-at}
+use Rattle.headline.proofs.Crowded.{crowded-at}
 
 not-late : (t : ℕ) (b : Begun) → late_by t b ≡ true → b.since + max_transmit_wait ≤ t
 not-late t b e = elim (leb_tells (b.since + max_transmit_wait) t) [ inl v ↦ v.1 | inr v ↦ absurd (false≢true (sym v.0 ∙ e)) ]
@@ -74,6 +75,7 @@ module _ (l : List Noted) (n t c k : ℕ) (cause : Cause) (j : ℕ) (legal : Leg
         moment = h.moment;
         request = h.request;
         asked = asked-by l n c k ask (Requests h.request) h.moment h.conn h.ask Plain asked stands h.sense;
+        crowded = crowded-at l k h.moment h.conn h.ask h.request legal stands h.sense;
         unsent = unsent-in l k h.request legal (none-for-plain l k h.conn h.moment h.ask legal stands);
       }
 
@@ -248,7 +250,7 @@ module _ (l : List Noted) (n t c k : ℕ) (cause : Cause) (j : ℕ) (legal : Leg
   caused C.Method h = (subst (λ (j : ℕ). j < n) (sym h.1) ask-before, (h.1, refused C.Method h.2))
   caused C.Media h = (subst (λ (j : ℕ). j < n) (sym h.1) ask-before, (h.1, refused C.Media h.2))
 
-causes-in : (l : List Noted) (n t c k : ℕ) (cause : Cause) (j : ℕ) → Legal l → IsEntry (entries l) n t (Answers c k (Fault cause j))
+pub causes-in : (l : List Noted) (n t c k : ℕ) (cause : Cause) (j : ℕ) → Legal l → IsEntry (entries l) n t (Answers c k (Fault cause j))
     → (j < n) × IsCausedBy (entries l) t c k cause j
 causes-in l n t c k cause j legal e =
     let there = entries-at l n _ e in

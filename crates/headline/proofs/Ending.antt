@@ -280,12 +280,12 @@ pub record RejectedIn (l : List Noted) (o : ℕ) (x : Noted) : Type 0 where
 says-to : (m : Content) (i j : Option ℕ) (u v : Notice) → Says m i u ≡ Says m j v → i ≡ j
 says-to m i j u v e = cc
 
-opening-same : (s t o q : ℕ) (p r : Peer) (b c : List ℕ) (v w : Option ℕ) (m n : Content)
-    → noted s (Sends p b v) (First o m) ≡ noted t (Sends r c w) (First q n) → o ≡ q
-opening-same s t o q p r b c v w m n e = go (ap (λ (x : Noted). x.note) e)
+opening-same : (l : List Noted) (i s t o q : ℕ) (p r : Peer) (m n : Content) → IsFirst l s o i p m → IsFirst l t q i r n → o ≡ q
+opening-same l i s t o q p r m n f g =
+    go (ap (λ (x : Noted). x.note) (at-same l i (noted s (Sends p f.bytes f.timeout) (First o m)) (noted t (Sends r g.bytes g.timeout) (First q n)) f.stands g.stands))
   where
     go : First o m ≡ First q n → o ≡ q
-    go f = cc
+    go h = cc
 
 pub rejected-in : (l : List Noted) (o : ℕ) (x : Noted) → Follows l x.written.moment x.written.deed x.note → turn l o x ≡ Rejected → RejectedIn l o x
 rejected-in l o x may e =
@@ -300,7 +300,7 @@ rejected-in l o x may e =
     let f = as-first l h.peer m h.to by.1 in
     let stands = first-stands l h.to f.0 f.1 in
     let waits = waits-first l o h.to h.waited in
-    let opening : f.0.opening ≡ o = opening-same _ _ _ _ _ _ _ _ _ _ _ _ (at-same l h.to _ _ stands.stands waits.3.stands) in
+    let opening = opening-same l h.to f.0.moment waits.0 f.0.opening o f.0.peer waits.1 f.0.message waits.2 stands waits.3 in
     let own : IsFirst l f.0.moment o h.to f.0.peer f.0.message =
     subst (λ (o : ℕ). IsFirst l f.0.moment o h.to f.0.peer f.0.message) opening stands in
     let none = says.spelled.nothing_else (eqb-same m.code 0 by.0) in

@@ -5,5 +5,8 @@ pub mod Ending
 pub mod Unsent
 pub mod Settling
 pub mod GivenUp
+pub mod Counting
+pub mod Crowded
 pub mod Causes
 pub mod Apart
+pub mod Examples

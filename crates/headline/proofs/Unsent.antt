@@ -106,7 +106,7 @@ sealed-still : (d : Deed) (old : Bool) → old ≡ true → sealed_by d old ≡ 
 sealed-still Seals old h = refl
 sealed-still d old h = h
 
-over-still : (o : ℕ) (x : Noted) (l : List Noted) → Over o l → Over o (x ∷ l)
+pub over-still : (o : ℕ) (x : Noted) (l : List Noted) → Over o l → Over o (x ∷ l)
 over-still o x l (inl h) = inl (ended-still (end_here (length l) (replies l o) (turn l o x)) (length l) (end_of l o) h)
 over-still o x l (inr h) = inr (sealed-still x.written.deed (is_sealed l) h)
 

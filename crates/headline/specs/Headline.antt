@@ -9,10 +9,11 @@ use Rattle.uri_map.specs.declared.peer.Peer.{Peer}
 use Rattle.ask_model.specs.declared.cause.Cause.{Cause}
 use Rattle.ask_model.specs.declared.cause.Cause.TheVariants as C
 use Rattle.ask_model.specs.Requests.{CoapRequest, Came, Sense, Requests, Refuses, request_message}
-use Rattle.journal_book.specs.Entries.{Live, Fault, Deed, Asks, Sends, Hears, Passes, Answers, Written}
+use Rattle.journal_book.specs.Entries.{Grounds, Live, Fault, Deed, Asks, Sends, Hears, Passes, Answers, Written}
 use Rattle.history_laws.specs.Responses.{Response, whole_of}
 use Rattle.history_laws.specs.Confirming.{empty}
-use Rattle.whole_history.specs.Limits.{copy_limit, max_transmit_wait}
+use Rattle.history_laws.specs.Limits.{exchange_limit}
+use Rattle.whole_history.specs.Limits.{copy_limit, max_transmit_wait, mid_lifetime, waiting_limit, mid_limit}
 use Rattle.whole_history.specs.Justified.{Stands}
 
 -- The entry with this number was made at this moment, and says this.
@@ -132,11 +133,50 @@ pub record IsGivenUp (h : List Written) (t : ℕ) (p : Peer) (i : ℕ) (sent : C
 -- The cause of an own answer, at the moment t, to the ask k of the connection c, and the entry n that
 -- it names.
 
--- The ask asks for something, and nothing was sent for it.
+-- at least so many entries of a kind, each another one
+abbrev pub AreApart : List ℕ → Type 0
+AreApart [] = ⊤
+AreApart (n ∷ ns) = (Contains ns n → ⊥) × AreApart ns
+
+pub record AreMany (least : ℕ) (IsOne : ℕ → Type 0) : Type 0 where
+  pub ones : List ℕ
+  pub many : least ≤ length ones
+  pub apart : AreApart ones
+  pub each : (n : ℕ) → Contains ones n → IsOne n
+
+-- Before the ask k, the ask o asked for this, and it wasn't answered.
+pub record IsPending (h : List Written) (k o : ℕ) (q : CoapRequest) : Type 0 where
+  pub before : o < k
+  pub conn : ℕ
+  pub moment : ℕ
+  pub asked : IsAsked h o conn moment (Requests q)
+  pub unanswered : (n t c : ℕ) (g : Grounds) → n < k → IsEntry h n t (Answers c o g) → ⊥
+
+abbrev pub IsPendingAt : List Written → ℕ → Peer → ℕ → Type 0
+IsPendingAt h k p o = (q : CoapRequest) × (q.peer ≡ p) × IsPending h k o q
+
+-- Before the ask k, the entry i first sent a message to the endpoint, whose ID may not be used again at
+-- this moment (RFC 7252 section 4.4).
+pub record IsRecent (h : List Written) (k t : ℕ) (p : Peer) (i : ℕ) : Type 0 where
+  pub before : i < k
+  pub moment : ℕ
+  pub message : Content
+  pub first : IsFirstSending h i moment p message
+  pub recent : t < moment + mid_lifetime
+
+-- There is no room for one request more to this endpoint: 256 are pending, or 64 to it, or there is no
+-- message ID for it besides those that are in use or wait to be used.
+pub data IsCrowded (h : List Written) (k t : ℕ) (p : Peer) : Type 0 where
+  exchanges : AreMany exchange_limit (λ (o : ℕ). (q : CoapRequest) × IsPending h k o q) → IsCrowded h k t p
+  waiting : AreMany waiting_limit (IsPendingAt h k p) → IsCrowded h k t p
+  ids : (used waits : ℕ) → mid_limit ≤ used + waits → AreMany used (IsRecent h k t p) → AreMany waits (IsPendingAt h k p) → IsCrowded h k t p
+
+-- The ask asks for something, there was no room for it, and nothing was sent for it.
 pub record IsTurnedAway (h : List Written) (c k : ℕ) : Type 0 where
   pub moment : ℕ
   pub request : CoapRequest
   pub asked : IsAsked h k c moment (Requests request)
+  pub crowded : IsCrowded h k moment request.peer
   pub unsent : IsUnsent h k request
 
 -- The message for the ask is named, or the ask where nothing was sent. It was asked 93 seconds before

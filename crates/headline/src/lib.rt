@@ -2,5 +2,7 @@
 #![tactic(auto)]
 
 mod laws;
+mod worked;
 
 pub use laws::{answered_in_order, names_cause, rests_on_replies, served_once};
+pub use worked::{not_so, worked_answers, worked_causes};
