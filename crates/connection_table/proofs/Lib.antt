@@ -1,3 +1,4 @@
+pub mod Finding
 pub mod Holding
 pub mod Keeping
 pub mod Listing
