@@ -49,6 +49,27 @@ pub fn hear(core: &mut Core<Nothing>, moment: u64, port: u16, bytes: &[u8]) -> b
     core.heard(moment, 0, server(port), bytes).is_ok()
 }
 
+pub fn tick(core: &mut Core<Nothing>, moment: u64) -> bool {
+    core.tick(moment).is_ok()
+}
+
+/// When the core has to be given a tick.
+pub fn next_due(core: &Core<Nothing>) -> Option<u64> {
+    core.next_due()
+}
+
+/// Closes the connection, and goes back to what was before that; tells whether both were done.
+pub fn close_and_go_back(core: &mut Core<Nothing>, conn: u32) -> bool {
+    let Ok(before) = core.snapshot() else {
+        return false;
+    };
+    let closed = core.close(0, conn);
+    if closed {
+        core.restore(before);
+    }
+    closed
+}
+
 /// The ask whose answer waits first.
 pub fn first_answered(core: &Core<Nothing>) -> Option<u32> {
     core.first_answered()

@@ -1,8 +1,8 @@
-//! Runs of a core over links: what goes out, what waits, and what ends it.
+//! Runs of a core over links: what goes out, what waits, what goes out again, and what ends it.
 
 use crate::linked_calls::{
-    answered, ask, ask_too_much, cause_of, close, entries, first_answered, hear, moment_of,
-    new_core, next_sent, open, responds, sends, take_answer,
+    answered, ask, ask_too_much, cause_of, close, close_and_go_back, entries, first_answered, hear,
+    moment_of, new_core, next_due, next_sent, open, responds, sends, take_answer, tick,
 };
 use crate::sample::Nothing;
 use ask_model::Cause;
@@ -199,4 +199,67 @@ fn sixty_four_messages_wait(rt: HostRuntime) {
     let ticket = asked(&mut core, alloc, 0, 65).expect(&rt, "a ticket");
     // 66 openings, 65 asks, one sending, and this ask
     assert!(rt; fails(&mut core, &ticket, 133, 0, Cause::Busy));
+}
+
+/// A tick at this moment sends the first ask's datagram once more, and nothing else.
+fn copies(core: &mut Core<Nothing>, alloc: Global, moment: u64) -> bool {
+    tick(core, moment) && sends_next(core, alloc, REQUEST) && sends_nothing(core, alloc)
+}
+
+/// A tick at this moment adds no entry.
+fn rests(core: &mut Core<Nothing>, moment: u64) -> bool {
+    let before = entries(core);
+    tick(core, moment) && entries(core) == before
+}
+
+#[test]
+fn a_message_goes_out_five_times(rt: HostRuntime) {
+    let alloc = rt.alloc();
+    let mut core = opened(alloc, 1).expect(&rt, "a connection");
+    let ticket = asked(&mut core, alloc, 0, 0).expect(&rt, "a ticket");
+    assert!(rt; sends_next(&mut core, alloc, REQUEST));
+    // ACK_TIMEOUT doubles with each copy (RFC 7252 section 4.2)
+    assert!(rt; next_due(&core) == Some(2_000));
+    assert!(rt; rests(&mut core, 1_999));
+    assert!(rt; copies(&mut core, alloc, 2_000));
+    assert!(rt; copies(&mut core, alloc, 6_000));
+    assert!(rt; copies(&mut core, alloc, 14_000));
+    assert!(rt; copies(&mut core, alloc, 30_000));
+    assert!(rt; next_due(&core) == Some(62_000));
+    assert!(rt; rests(&mut core, 61_999));
+    assert!(rt; tick(&mut core, 62_000));
+    assert!(rt; sends_nothing(&mut core, alloc));
+    // an opening, the ask and its sending, four ticks with a copy each, and the last tick
+    assert!(rt; fails(&mut core, &ticket, 12, 62_000, Cause::Timeout));
+    assert!(rt; next_due(&core).is_none());
+}
+
+#[test]
+fn a_message_that_never_goes_out(rt: HostRuntime) {
+    let alloc = rt.alloc();
+    let mut core = opened(alloc, 2).expect(&rt, "connections");
+    // the longest timeout: ACK_TIMEOUT times ACK_RANDOM_FACTOR
+    let first = asked(&mut core, alloc, 1_000, 0).expect(&rt, "a ticket");
+    let second = asked(&mut core, alloc, 0, 1).expect(&rt, "a ticket");
+    for moment in [3_000, 9_000, 21_000, 45_000] {
+        assert!(rt; tick(&mut core, moment));
+    }
+    // MAX_TRANSMIT_WAIT (RFC 7252 section 4.8.2)
+    assert!(rt; tick(&mut core, 93_000));
+    assert!(rt; fails(&mut core, &first, 14, 93_000, Cause::Timeout));
+    assert!(rt; fails(&mut core, &second, 15, 93_000, Cause::Timeout));
+}
+
+#[test]
+fn a_closing_is_taken_back(rt: HostRuntime) {
+    let alloc = rt.alloc();
+    let mut core = opened(alloc, 1).expect(&rt, "a connection");
+    let ticket = asked(&mut core, alloc, 0, 0).expect(&rt, "a ticket");
+    assert!(rt; close_and_go_back(&mut core, 0));
+    assert!(rt; entries(&core) == 3);
+    assert!(rt; sends_next(&mut core, alloc, REQUEST));
+    assert!(rt; next_due(&core) == Some(2_000));
+    assert!(rt; tick(&mut core, 93_000));
+    // its connection waits still: after the tick's entry and a copy it is answered
+    assert!(rt; fails(&mut core, &ticket, 5, 93_000, Cause::Timeout));
 }
