@@ -1,14 +1,14 @@
 -- Tokens, message IDs, replies and answers of a journal are apart.
-use Rattle.std.proofs.Common.{◌≡◌, ℕ, zero, suc, ◌+◌, ◌<◌, ◌≤◌, Bool, true, false, cond, eqb, List, [], ◌∷◌, ◌++◌, length, take, Option, Some, refl, sym, ap, subst, ◌∙◌, arith, append_assoc, append-nil}
+use Rattle.std.proofs.Common.{◌≡◌, ℕ, ◌+◌, ◌<◌, ◌≤◌, Bool, true, false, cond, eqb, List, [], ◌∷◌, ◌++◌, length, take, Option, Some, refl, sym, ap, subst, ◌∙◌, arith, append_assoc, append-nil}
 use Rattle.std.specs.List.{Contains}
 use Rattle.coap_codec.specs.Spelling.{Content}
 use Rattle.uri_map.specs.declared.peer.Peer.{Peer}
 use Rattle.journal_book.specs.Entries.{Grounds, Live, Deed, Asks, Sends, Hears, Answers, Written}
-use Rattle.whole_history.specs.Readings.{Noted, Note, First, Says, Notice, entries, at}
+use Rattle.whole_history.specs.Readings.{Noted, First, Says, Notice, entries, at}
 use Rattle.whole_history.specs.Limits.{mid_lifetime}
 use Rattle.whole_history.specs.Connections.{asks_by, asks_of, answers_by, answers_of}
-use Rattle.whole_history.specs.Justified.{Legal, Stands}
-use Rattle.whole_history.specs.Laws.{IsFirst, IsAnswer, IsReplyTo, RestsOn}
+use Rattle.whole_history.specs.Justified.{Stands}
+use Rattle.whole_history.specs.Laws.{IsFirst, IsAnswer, RestsOn}
 use Rattle.whole_history.specs.Worked.{noted}
 use Rattle.whole_history.proofs.Places.{at-same}
 use Rattle.whole_history.proofs.Sendings.{tokens-apart, ids-apart}

@@ -1,9 +1,9 @@
 -- Lists of entries of a kind, each another one.
-use Rattle.std.proofs.Common.{◌≡◌, ℕ, zero, suc, ◌<◌, ◌≤◌, Bool, true, false, cond, inl, inr, List, [], ◌∷◌, ◌++◌, length, map, filter, refl, sym, subst, arith}
+use Rattle.std.proofs.Common.{◌≡◌, ℕ, zero, Bool, true, false, cond, inl, inr, List, [], ◌∷◌, ◌++◌, length, map, filter, refl, sym, subst, arith}
 use Rattle.std.specs.List.{Contains}
 use Rattle.std.proofs.lemmas.List.Elements.{Contains-push_cases}
 use Rattle.whole_history.proofs.Elements.{contains-none, contains-later, first-or-later, filtered-from}
-use Rattle.headline.specs.Headline.{AreApart, AreMany}
+use Rattle.headline.specs.Headline.{AreApart}
 
 pub apart-push : (xs : List ℕ) (y : ℕ) → AreApart xs → (Contains xs y → ⊥) → AreApart (xs ++ y ∷ [])
 apart-push [] y h new = (λ c. contains-none y c, tt)

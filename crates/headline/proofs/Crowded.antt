@@ -1,5 +1,5 @@
 -- That there was no room for an ask.
-use Rattle.std.proofs.Common.{◌≡◌, ℕ, ◌+◌, ◌<◌, ◌≤◌, ◌⊎◌, Bool, true, false, ◌&&◌, eqb, ltb, inl, inr, List, [], ◌∷◌, length, map, filter, Option, Some, None, is_some, refl, sym, ap, subst, ◌∙◌, arith}
+use Rattle.std.proofs.Common.{◌≡◌, ℕ, ◌+◌, ◌<◌, ◌≤◌, ◌⊎◌, Bool, true, false, ◌&&◌, inl, inr, List, [], ◌∷◌, length, map, filter, Option, Some, None, refl, sym, ap, subst, ◌∙◌, arith}
 use Rattle.std.specs.Prelude.{is_none, nat_lt}
 use Rattle.std.specs.List.{Contains}
 use Rattle.std.proofs.lemmas.List.Sums.{length-filter}
@@ -9,27 +9,25 @@ use Rattle.ask_model.specs.declared.cause.Cause.{Cause}
 use Rattle.ask_model.specs.declared.cause.Cause.TheVariants as C
 use Rattle.ask_model.specs.Requests.{CoapRequest, Sense, Requests, Refuses, Ask, same_peer}
 use Rattle.ask_model.proofs.Endpoints.{and-both, same_peer-same}
-use Rattle.journal_book.specs.Entries.{Grounds, Live, Kept, Fault, Deed, Sends, Asks, Answers}
+use Rattle.journal_book.specs.Entries.{Grounds, Live, Kept, Fault, Deed, Sends, Asks}
 use Rattle.history_laws.specs.Limits.{exchange_limit}
 use Rattle.whole_history.specs.Readings.{Noted, Note, Plain, Begins, First, entries, at, before}
 use Rattle.whole_history.specs.Limits.{waiting_limit, mid_limit, mid_lifetime}
 use Rattle.whole_history.specs.Connections.{is_sealed}
 use Rattle.whole_history.specs.Transmissions.{FirstSending, firsts_by, firsts, is_recent, mids_used}
-use Rattle.whole_history.specs.Exchanges.{Begun, begun, opens_by, opened_by, openings, end_of, is_going, open_exchanges, goes_to, is_waiting, waiting as waiting_at, waits_for}
+use Rattle.whole_history.specs.Exchanges.{Begun, begun, opens_by, opened_by, openings, is_going, open_exchanges, goes_to, is_waiting, waiting as waiting_at, waits_for}
 use Rattle.whole_history.specs.Hearing.{has_room}
-use Rattle.whole_history.specs.Justified.{IsTurnedAway, IsRefused, Caused, HasGrounds, AskNote, Follows, Legal}
-use Rattle.whole_history.specs.Laws.{IsFirst}
+use Rattle.whole_history.specs.Justified.{IsRefused, Caused, HasGrounds, AskNote, Follows, Legal}
 use Rattle.whole_history.specs.Worked.{noted}
-use Rattle.whole_history.proofs.Resting.{some-is, none-some}
-use Rattle.whole_history.proofs.Places.{at-below, at-same}
+use Rattle.whole_history.proofs.Places.{at-same}
 use Rattle.whole_history.proofs.Facts.{IsFirst-below, follows-at, at-before, length-before}
-use Rattle.whole_history.proofs.Elements.{contains-none, filtered-from}
+use Rattle.whole_history.proofs.Elements.{filtered-from}
 use Rattle.whole_history.proofs.Outstanding.{is-some}
 use Rattle.whole_history.proofs.Openings.{listed-begun}
 use Rattle.whole_history.proofs.Replies.{firsts-stand}
 use Rattle.whole_history.proofs.Sent.{begun-below, begun-before, asked-for}
-use Rattle.headline.specs.Headline.{IsEntry, AreApart, AreMany, IsPending, IsPendingAt, IsRecent, IsCrowded, exchanges, waiting, ids}
-use Rattle.headline.proofs.Entries.{entries-at, asked-entry, grows, before-twice}
+use Rattle.headline.specs.Headline.{AreApart, AreMany, IsPending, IsPendingAt, IsRecent, IsCrowded, exchanges, waiting, ids}
+use Rattle.headline.proofs.Entries.{asked-entry, grows, before-twice}
 use Rattle.headline.proofs.Sending.{first-entry, first-before}
 use Rattle.headline.proofs.Resting.{answers-ask, reads-own}
 use Rattle.headline.proofs.Unsent.{Over, over-still}

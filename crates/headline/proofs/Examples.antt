@@ -1,5 +1,5 @@
 -- The worked journals, as entries.
-use Rattle.std.proofs.Common.{◌≡◌, ℕ, zero, suc, ◌+◌, ◌*◌, ◌^◌, ◌<◌, ◌≤◌, ◌⊎◌, Bool, true, false, ◌||◌, ◌&&◌, not, eqb, inl, inr, List, [], ◌∷◌, length, Option, Some, None, refl, sym, ap, subst, ◌∙◌, arith}
+use Rattle.std.proofs.Common.{◌≡◌, ℕ, zero, suc, ◌+◌, ◌*◌, ◌^◌, ◌<◌, ◌≤◌, ◌⊎◌, Bool, true, false, ◌||◌, not, eqb, inl, inr, List, [], ◌∷◌, length, Option, Some, None, refl, sym, ap, subst, ◌∙◌, arith}
 use Rattle.std.specs.List.{slice_get, list_all, range_with_len}
 use Rattle.std.proofs.lemmas.Option.{slice_get_within}
 use Rattle.std.proofs.lemmas.Bool.Decides.{eqb_tells}
@@ -9,9 +9,9 @@ use Rattle.coap_codec.proofs.Unique.{spells_one}
 use Rattle.uri_map.specs.declared.peer.Peer.{Peer}
 use Rattle.ask_model.specs.Requests.{CoapRequest}
 use Rattle.ask_model.specs.declared.cause.Cause.TheVariants as C
-use Rattle.journal_book.specs.Entries.{Deed, Asks, Sends, Hears, Passes, Written}
+use Rattle.journal_book.specs.Entries.{Deed, Sends, Hears, Written}
 use Rattle.whole_history.specs.Readings.{entries}
-use Rattle.whole_history.specs.Limits.{copy_limit, max_transmit_wait}
+use Rattle.whole_history.specs.Limits.{copy_limit}
 use Rattle.whole_history.specs.WorkedMessages as M
 use Rattle.whole_history.specs.WorkedEndings as E
 use Rattle.whole_history.specs.WorkedSpoiled as S
@@ -19,7 +19,7 @@ use Rattle.whole_history.proofs.Resting.{some-is, first, second}
 use Rattle.whole_history.proofs.Facts.{eqb-same}
 use Rattle.whole_history.proofs.Messages.{put-spelled, content-spelled, all_answered-holds, given_up-holds}
 use Rattle.whole_history.proofs.Endings.{rejected-holds, timed_out-holds}
-use Rattle.headline.specs.Headline.{IsEntry, AreCopies, IsHeardFor, AreHeardFor, IsGivenUp, RestsOn}
+use Rattle.headline.specs.Headline.{IsEntry, AreCopies, IsHeardFor, AreHeardFor, IsGivenUp}
 use Rattle.headline.specs.Worked.{Answered, TimedOut, Rejected, GivenUp, Crossed, Foreseen, Early}
 use Rattle.headline.proofs.Resting.{rests-in}
 use Rattle.headline.proofs.Causes.{causes-in}

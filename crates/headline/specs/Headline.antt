@@ -37,26 +37,29 @@ pub record IsFirstSending (h : List Written) (i t : ℕ) (p : Peer) (m : Content
 abbrev pub AsksFor : CoapRequest → Content → Type 0
 AsksFor q m = m ≡ request_message q m.mid m.token
 
--- After the ask k, the entry i first sent this message for its request q, to the endpoint of q, under a
--- token that was issued for it: no other message bears it (RFC 7252 section 5.3.1).
-pub record IsSentFor (h : List Written) (k : ℕ) (q : CoapRequest) (i : ℕ) (m : Content) : Type 0 where
+-- After the ask k, the entry i first sent this message for its request q, to the endpoint of q,
+-- under a token that was issued for it: no other message bears it (RFC 7252 section 5.3.1).
+pub record IsSentFor
+    (h : List Written) (k : ℕ) (q : CoapRequest) (i : ℕ) (m : Content) : Type 0 where
   pub after : k < i
   pub moment : ℕ
   pub first : IsFirstSending h i moment q.peer m
   pub asks : AsksFor q m
-  pub issued : (j s : ℕ) (p : Peer) (n : Content) → IsFirstSending h j s p n → n.token ≡ m.token → j ≡ i
+  pub issued : (j s : ℕ) (p : Peer) (n : Content) → IsFirstSending h j s p n
+      → n.token ≡ m.token → j ≡ i
 
--- A response comes in a CON or NON of its own, or in the ACK of the request, which has its message ID
--- (RFC 7252 sections 5.2, 5.3.2).
+-- A response comes in a CON or NON of its own, or in the ACK of the request, which has its message
+-- ID (RFC 7252 sections 5.2, 5.3.2).
 abbrev pub BringsResponse : MsgType → ℕ → ℕ → Type 0
 BringsResponse Con mid sent = ⊤
 BringsResponse Non mid sent = ⊤
 BringsResponse Ack mid sent = mid ≡ sent
 BringsResponse Rst mid sent = ⊥
 
--- The entry j heard this response to a message that was sent for the request q of the ask k: after it,
--- from its endpoint, under its token (RFC 7252 section 5.3.2).
-pub record IsHeardFor (h : List Written) (k : ℕ) (q : CoapRequest) (j : ℕ) (m : Content) : Type 0 where
+-- The entry j heard this response to a message that was sent for the request q of the ask k: after
+-- it, from its endpoint, under its token (RFC 7252 section 5.3.2).
+pub record IsHeardFor
+    (h : List Written) (k : ℕ) (q : CoapRequest) (j : ℕ) (m : Content) : Type 0 where
   pub sending : ℕ
   pub sent : Content
   pub sent_for : IsSentFor h k q sending sent
@@ -91,11 +94,12 @@ pub record RestsOn (h : List Written) (n c k : ℕ) (js : List ℕ) : Type 0 whe
 abbrev pub IsUnsent : List Written → ℕ → CoapRequest → Type 0
 IsUnsent h k q =
     (i : ℕ) (m : Content) → IsSentFor h k q i m
-    → (o c t : ℕ) × (r : CoapRequest) × (o ≢ k) × IsAsked h o c t (Requests r) × IsSentFor h o r i m
+    → (o c t : ℕ) × (r : CoapRequest)
+    × (o ≢ k) × IsAsked h o c t (Requests r) × IsSentFor h o r i m
 
--- The bytes that were sent to the endpoint in the entry i, at the moment t, were sent again in these
--- entries, the newest first, and then at this moment. Each time the timeout was over, which doubles
--- (RFC 7252 section 4.2).
+-- The bytes that were sent to the endpoint in the entry i, at the moment t, were sent again in
+-- these entries, the newest first, the last time at this moment; each time the timeout was over,
+-- which doubles (RFC 7252 section 4.2).
 abbrev pub last_of : ℕ → List ℕ → ℕ
 last_of i [] = i
 last_of i (j ∷ js) = j
@@ -106,12 +110,13 @@ AreCopies h p bytes timeout i t (j ∷ js) last =
     IsEntry h j last (Sends p bytes None) × (last_of i js < j)
     × ((s : ℕ) × (s + timeout * 2 ^ length js ≤ last) × AreCopies h p bytes timeout i t js s)
 
--- An empty ACK or RST with its ID, or its response in an ACK, ends the sending of a message (RFC 7252
--- sections 4.2, 5.2.1).
+-- An empty ACK or RST with its ID, or its response in an ACK, ends the sending of a message
+-- (RFC 7252 sections 4.2, 5.2.1).
 pub data Settles (m sent : Content) : Type 0 where
   confirms : m ≡ empty Ack sent.mid → Settles m sent
   rejects : m ≡ empty Rst sent.mid → Settles m sent
-  piggybacked : m.kind ≡ Ack → m.mid ≡ sent.mid → m.token ≡ sent.token → 32 ≤ m.code → Settles m sent
+  piggybacked : m.kind ≡ Ack → m.mid ≡ sent.mid → m.token ≡ sent.token → 32 ≤ m.code
+      → Settles m sent
 
 -- The message of the entry i was given up by this moment: it was sent again four times
 -- (MAX_RETRANSMIT), and a tick found the timeout after the last over; till then nothing settled it.
@@ -130,8 +135,8 @@ pub record IsGivenUp (h : List Written) (t : ℕ) (p : Peer) (i : ℕ) (sent : C
   pub silent : (j s : ℕ) (bytes : List ℕ) (m : Content) → i < j → j < tick
       → IsEntry h j s (Hears p bytes) → Spells m bytes → Settles m sent → ⊥
 
--- The cause of an own answer, at the moment t, to the ask k of the connection c, and the entry n that
--- it names.
+-- The cause of an own answer, at the moment t, to the ask k of the connection c, and the entry n
+-- that it names.
 
 -- at least so many entries of a kind, each another one
 abbrev pub AreApart : List ℕ → Type 0
@@ -155,8 +160,8 @@ pub record IsPending (h : List Written) (k o : ℕ) (q : CoapRequest) : Type 0 w
 abbrev pub IsPendingAt : List Written → ℕ → Peer → ℕ → Type 0
 IsPendingAt h k p o = (q : CoapRequest) × (q.peer ≡ p) × IsPending h k o q
 
--- Before the ask k, the entry i first sent a message to the endpoint, whose ID may not be used again at
--- this moment (RFC 7252 section 4.4).
+-- Before the ask k, the entry i first sent a message to the endpoint, whose ID may not be used
+-- again at this moment (RFC 7252 section 4.4).
 pub record IsRecent (h : List Written) (k t : ℕ) (p : Peer) (i : ℕ) : Type 0 where
   pub before : i < k
   pub moment : ℕ
@@ -164,12 +169,14 @@ pub record IsRecent (h : List Written) (k t : ℕ) (p : Peer) (i : ℕ) : Type 0
   pub first : IsFirstSending h i moment p message
   pub recent : t < moment + mid_lifetime
 
--- There is no room for one request more to this endpoint: 256 are pending, or 64 to it, or there is no
--- message ID for it besides those that are in use or wait to be used.
+-- There is no room for one request more to this endpoint: 256 are pending, or 64 to it, or there is
+-- no message ID for it besides those that are in use or wait to be used.
 pub data IsCrowded (h : List Written) (k t : ℕ) (p : Peer) : Type 0 where
-  exchanges : AreMany exchange_limit (λ (o : ℕ). (q : CoapRequest) × IsPending h k o q) → IsCrowded h k t p
+  exchanges : AreMany exchange_limit (λ (o : ℕ). (q : CoapRequest) × IsPending h k o q)
+      → IsCrowded h k t p
   waiting : AreMany waiting_limit (IsPendingAt h k p) → IsCrowded h k t p
-  ids : (used waits : ℕ) → mid_limit ≤ used + waits → AreMany used (IsRecent h k t p) → AreMany waits (IsPendingAt h k p) → IsCrowded h k t p
+  ids : (used waits : ℕ) → mid_limit ≤ used + waits → AreMany used (IsRecent h k t p)
+      → AreMany waits (IsPendingAt h k p) → IsCrowded h k t p
 
 -- The ask asks for something, there was no room for it, and nothing was sent for it.
 pub record IsTurnedAway (h : List Written) (c k : ℕ) : Type 0 where
@@ -179,8 +186,8 @@ pub record IsTurnedAway (h : List Written) (c k : ℕ) : Type 0 where
   pub crowded : IsCrowded h k moment request.peer
   pub unsent : IsUnsent h k request
 
--- The message for the ask is named, or the ask where nothing was sent. It was asked 93 seconds before
--- or more (MAX_TRANSMIT_WAIT, RFC 7252 section 4.8.2), or the message was given up.
+-- The message for the ask is named, or the ask where nothing was sent. It was asked 93 seconds
+-- before or more (MAX_TRANSMIT_WAIT, RFC 7252 section 4.8.2), or the message was given up.
 pub record IsTimedOut (h : List Written) (t c k n : ℕ) : Type 0 where
   pub moment : ℕ
   pub request : CoapRequest

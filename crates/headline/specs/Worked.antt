@@ -1,7 +1,6 @@
 -- Worked journals of `whole_history`, as entries: what their answers rest on, and what they don't.
-use Rattle.std.specs.Prelude.{ℕ, List, [], ◌∷◌}
+use Rattle.std.specs.Prelude.{[], ◌∷◌}
 use Rattle.ask_model.specs.declared.cause.Cause.TheVariants as C
-use Rattle.journal_book.specs.Entries.{Written}
 use Rattle.whole_history.specs.Readings.{entries}
 use Rattle.whole_history.specs.WorkedMessages as M
 use Rattle.whole_history.specs.WorkedEndings as E
