@@ -101,9 +101,16 @@ impl<R: Relation> Model for Draft<R> {
 
     ghost Value = { DraftValue };
 
-    ghost view = { λ d. record { next = d.next; entries = map item_of d.parts.entries.items; conns = d.parts.conns.items; sends = map outgoing_of d.parts.sends.items; answers = map given_of d.parts.answers.items } };
+    ghost view = { λ d. record {
+      next = d.next;
+      entries = map item_of d.parts.entries.items;
+      conns = d.parts.conns.items;
+      sends = map outgoing_of d.parts.sends.items;
+      answers = map given_of d.parts.answers.items;
+    } };
 
-    ghost invariant = { λ d. d.bytes ≡ capped (sum_by entry_size (map item_of d.parts.entries.items)) };
+    ghost invariant = { λ d. d.bytes
+        ≡ capped (sum_by entry_size (map item_of d.parts.entries.items)) };
 }
 
 impl<R: Relation> Draft<R> {

@@ -48,7 +48,22 @@ impl<R: Relation> Model for Snapshot<R> {
 
     ghost Value = { SnapshotValue };
 
-    ghost view = { λ s. record { count = s.entries; bytes = s.bytes; tables = record { entries = []; sealed = s.sealed; moment = s.moment; opened = s.opened; issued = s.issued; conns = s.conns.items; exchanges = s.exchanges.items; links = map peer_link s.endpoints.items }; answers = map given_of s.answers.items; unsent = map outgoing_of s.sends.items } };
+    ghost view = { λ s. record {
+      count = s.entries;
+      bytes = s.bytes;
+      tables = record {
+        entries = [];
+        sealed = s.sealed;
+        moment = s.moment;
+        opened = s.opened;
+        issued = s.issued;
+        conns = s.conns.items;
+        exchanges = s.exchanges.items;
+        links = map peer_link s.endpoints.items;
+      };
+      answers = map given_of s.answers.items;
+      unsent = map outgoing_of s.sends.items;
+    } };
 }
 
 /// An equal link to the endpoint, which shares the bytes of its messages.
