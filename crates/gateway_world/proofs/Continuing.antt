@@ -22,8 +22,8 @@ use Rattle.gateway_world.specs.declared.input.Output.{Output}
 use Rattle.gateway_world.specs.declared.input.Output.TheVariants as Out
 use Rattle.gateway_world.specs.declared.connection.Connection.{Connection}
 use Rattle.gateway_world.specs.Inboxes.{Unasked}
-use Rattle.http_mapping.specs.Means.{MeansTold, Means}
-use Rattle.gateway_world.specs.Steps.{continue_text}
+use Rattle.http_mapping.specs.Means.{MeansTold}
+use Rattle.gateway_world.specs.Steps.{MeansGiven, continue_text}
 use Rattle.gateway_world.specs.Rows.{Row, row_of, row_at, AreRising, IsRow, IsOpen, IsFirstAnswered}
 use Rattle.gateway_world.specs.Asks.{Inlet, inlet_of, inbox_at, ReadsNoMore, IsOver, asked_on}
 use Rattle.gateway_world.specs.AskSteps.{LeavesInboxes, StaysOrEnds, AsksNone, AsksOne, AsksOn}
@@ -90,7 +90,7 @@ has-status m (Fails cause) (Fault named n) age a means = (means.told, means.stat
 has-status m (Fails cause) (Live n) age a means = absurd means
 has-status m (Fails cause) (Kept n) age a means = absurd means
 
-pub answer-final : (g : Given) (a : HttpAnswer) (bytes : List ℕ) → Means g a → bytes ≡ answer_text a → is_interim bytes ≡ false
+pub answer-final : (g : Given) (a : HttpAnswer) (bytes : List ℕ) → MeansGiven g a → bytes ≡ answer_text a → is_interim bytes ≡ false
 answer-final g a bytes means spelled =
     let s = has-status g.mapping g.found.told g.found.grounds _ a means in
     ap is_interim spelled ∙ first-digit a ∙ ap (λ (n : ℕ). (48 + n / 100) == 49) s.1 ∙ status-final s.0

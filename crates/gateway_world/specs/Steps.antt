@@ -1,5 +1,5 @@
 -- What steps of a world lead to.
-use Rattle.std.specs.Prelude.{◌≡◌, ℕ, ◌+◌, ◌==◌, Bool, true, false, List, [], ◌∷◌, ◌++◌, length, map, filter, Option, Some, None, codes, flat_map, slice_get, ⊤, if◌then◌else◌}
+use Rattle.std.specs.Prelude.{◌≡◌, ℕ, ◌+◌, ◌-◌, ◌==◌, Bool, true, false, List, [], ◌∷◌, ◌++◌, length, map, filter, Option, Some, None, codes, flat_map, slice_get, ⊤, if◌then◌else◌}
 use Rattle.http_edge.specs.Answers.{answer_text}
 use Rattle.http_edge.specs.declared.answer.HttpAnswer.{HttpAnswer}
 use Rattle.journal_book.specs.Entries.{Written, Deed, Answers}
@@ -53,6 +53,10 @@ pub record Telling : Type 0 where
   pub conn : ℕ
   pub number : ℕ
 
+-- What an HTTP response says of an answer, of which the first reply was heard so long before it was given.
+abbrev pub MeansGiven : Given → HttpAnswer → Type 0
+MeansGiven g a = Means g.mapping g.found (g.moment - g.heard) a
+
 -- The bytes are those of an HTTP response that says what the answer to the connection says that stands in the
 -- history with this number.
 pub record TellsAnswer (h : List Written) (t : Telling) (bytes : List ℕ) : Type 0 where
@@ -61,7 +65,7 @@ pub record TellsAnswer (h : List Written) (t : Telling) (bytes : List ℕ) : Typ
   pub stands : IsGiven h given
   pub conn : stands.conn ≡ t.conn
   pub number : given.number ≡ t.number
-  pub means : Means given answer
+  pub means : MeansGiven given answer
   pub spelled : bytes ≡ answer_text answer
 
 -- What an output tells: a connection that answer, or else to go on with its body; others tell nothing.

@@ -40,7 +40,8 @@ pub fn tell_answer<R: Relation>(
     ensures silent { OnOk result (closed_in outputs.new.items ≡ closed_in outputs.old.items) }
     ensures no_interim { OnOk result (GivesFinal outputs.old.items outputs.new.items) }
 {
-    let rendered = render(alloc, answer)?;
+    let age = answer.moment.saturating_sub(answer.heard);
+    let rendered = render(alloc, &answer.mapped, &answer.finding, age)?;
     let bytes = answer_bytes(alloc, &rendered)?;
     outputs.push(Output::Bytes(number, bytes))?;
     Ok(())

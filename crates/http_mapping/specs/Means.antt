@@ -20,8 +20,7 @@ use Rattle.ask_model.specs.Requests.{Came, Whole, Bad, Sense, Requests, Refuses}
 use Rattle.ask_model.specs.Views.{Mapping}
 use Rattle.journal_book.specs.Entries.{Grounds, Fault}
 use Rattle.history_laws.specs.Responses.{Response}
-use Rattle.exchange_core.specs.Answering.{Given}
-use Rattle.datagram_verdict.specs.Findings.{Told, Tells as TellsOf, Fails}
+use Rattle.datagram_verdict.specs.Findings.{Found, Told, Tells as TellsOf, Fails}
 use Rattle.http_mapping.specs.Located.{located}
 
 -- fields as names and values
@@ -160,6 +159,6 @@ MeansTold mapping (TellsOf w) grounds age a = Shows mapping w age a
 MeansTold mapping (Fails cause) (Fault named number) age a = Tells mapping cause number a
 MeansTold mapping (Fails cause) grounds age a = ⊥
 
--- What an HTTP response says of an answer.
-abbrev pub Means : Given → HttpAnswer → Type 0
-Means g a = MeansTold g.mapping g.found.told g.found.grounds (g.moment - g.heard) a
+-- What an HTTP response says of what a request came to, where the first reply that this rests on is of that age.
+abbrev pub Means : Mapping → Found → ℕ → HttpAnswer → Type 0
+Means mapping found age a = MeansTold mapping found.told found.grounds age a

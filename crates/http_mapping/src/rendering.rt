@@ -3,7 +3,6 @@
 ghost use Rattle.std.specs.Prelude.{ℕ, List, ◌≡◌, ◌<◌, ◌-◌, [], IfOk, if◌then◌else◌};
 ghost use Rattle.http_edge.specs.Answers.{body_bytes};
 ghost use Rattle.ask_model.specs.Views.{came_of, sense_of};
-ghost use Rattle.exchange_core.specs.Answering.{given_of};
 ghost use Rattle.journal_book.specs.Entries.{Fault};
 ghost use Rattle.ask_model.specs.declared.cause.Cause.{Cause as Causes};
 ghost use Rattle.datagram_verdict.specs.Findings.{response_of, Fits, Fails};
@@ -16,27 +15,25 @@ use crate::fields::{
 use ask_model::{Cause, Mapped, Meaning};
 use code_map::{Method, Status, method_of, phrase_of, status_of};
 use datagram_verdict::{Finding, Outcome, Response};
-use exchange_core::Answer;
 use http_edge::{Body, HttpAnswer, Incoming, Memory};
 use journal_book::Grounds;
 use std::alloc::Global;
 use transformers::Relation;
 
-/// The HTTP response that tells an answer. An answer to HEAD has no body, and the Content-Length of
-/// the one to GET.
-pub fn render<R: Relation>(alloc: Global, answer: &Answer<R>) -> Result<HttpAnswer, Memory>
-    ensures means { IfOk result (λ a. Means (given_of answer.now) a) }
+/// The HTTP response that tells what a request came to, where the first reply that this rests on was heard
+/// `age` milliseconds ago. An answer to HEAD has no body, and the Content-Length of the one to GET.
+pub fn render<R: Relation>(
+    alloc: Global,
+    mapped: &Mapped<R>,
+    finding: &Finding,
+    age: u64,
+) -> Result<HttpAnswer, Memory>
+    ensures means { IfOk result (λ a. Means mapped.now finding.now age a) }
     ensures digits { IfOk result (λ a. a.status < 1000) }
 {
-    match answer.finding.outcome() {
-        Outcome::Whole(response) => {
-            let age = answer.moment.saturating_sub(answer.heard);
-            show(alloc, &answer.mapped, response, age)
-        }
-        Outcome::Fault(cause) => {
-            let number = number_named(&answer.finding);
-            tell(alloc, &answer.mapped, *cause, number)
-        }
+    match finding.outcome() {
+        Outcome::Whole(response) => show(alloc, mapped, response, age),
+        Outcome::Fault(cause) => tell(alloc, mapped, *cause, number_named(finding)),
     }
 }
 

@@ -1,5 +1,5 @@
 -- What is written to a client, by the answers that its session was given.
-use Rattle.std.specs.Prelude.{◌≡◌, ◌⊎◌, ⊤, ℕ, List, [], ◌∷◌, ◌++◌, take, codes, Option}
+use Rattle.std.specs.Prelude.{◌≡◌, ◌⊎◌, ⊤, ℕ, ◌-◌, List, [], ◌∷◌, ◌++◌, take, codes, Option}
 use Rattle.std.specs.List.{All, flat_map}
 use Rattle.http_edge.specs.Answers.{answer_text}
 use Rattle.http_edge.specs.declared.answer.HttpAnswer.{HttpAnswer}
@@ -12,9 +12,13 @@ use Rattle.sessions.specs.Devices.{Grown}
 abbrev pub continue_text : List ℕ
 continue_text = codes "HTTP/1.1 100 Continue\r\n\r\n"
 
+-- An HTTP response that means an answer, of which the first reply was heard so long before it was given.
+abbrev pub MeansGiven : Given → HttpAnswer → Type 0
+MeansGiven g a = Means g.mapping g.found (g.moment - g.heard) a
+
 -- The bytes say an answer: they are an HTTP response that means it.
 abbrev pub SaysAnswer : Given → List ℕ → Type 0
-SaysAnswer g bytes = (a : HttpAnswer) × Means g a × (bytes ≡ answer_text a)
+SaysAnswer g bytes = (a : HttpAnswer) × MeansGiven g a × (bytes ≡ answer_text a)
 
 -- a piece of what is written: an interim response, or one that says an answer
 pub data Piece : Type 0 where

@@ -19,7 +19,8 @@ const CONTINUE: &str = "HTTP/1.1 100 Continue\r\n\r\n";
 pub fn bytes_of<R: Relation>(alloc: Global, answer: &Answer<R>) -> Result<Vec<u8>, Memory>
     ensures { IfOk result (λ bytes. SaysAnswer (given_of answer.now) bytes.items) }
 {
-    let rendered = render(alloc, answer)?;
+    let age = answer.moment.saturating_sub(answer.heard);
+    let rendered = render(alloc, &answer.mapped, &answer.finding, age)?;
     let bytes = answer_bytes(alloc, &rendered)?;
     Ok(bytes)
 }

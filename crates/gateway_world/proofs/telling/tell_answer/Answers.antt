@@ -19,7 +19,7 @@ returns-clause-told g c = λ h given conn.
           stands = given;
           conn = conn;
           number = refl;
-          means = c.in_ok-rendered.ensures.means;
+          means = rw (c.deref.ensures, c.saturating_sub-age.ensures) at c.in_ok-rendered.ensures.means;
           spelled = c.in_ok-bytes.ensures;
         },
       );
@@ -28,5 +28,5 @@ returns-clause-told g c = λ h given conn.
 pub returns-clause-no_interim : goal.returns-clause-no_interim
 returns-clause-no_interim g c = record {
   same = λ d. final-one d _ _ (Out.Bytes c.args.number c.in_ok-bytes.bytes) c.in_ok-push.ensures.items
-      (final-to c.args.number d c.in_ok-bytes.bytes.items (answer-final (given_of c.args.answer.now) c.in_ok-rendered.rendered c.in_ok-bytes.bytes.items c.in_ok-rendered.ensures.means c.in_ok-bytes.ensures));
+      (final-to c.args.number d c.in_ok-bytes.bytes.items (answer-final (given_of c.args.answer.now) c.in_ok-rendered.rendered c.in_ok-bytes.bytes.items (rw (c.deref.ensures, c.saturating_sub-age.ensures) at c.in_ok-rendered.ensures.means) c.in_ok-bytes.ensures));
 }
