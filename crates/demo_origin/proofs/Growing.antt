@@ -1,6 +1,6 @@
 -- What observers are told goes out after what was to go out before.
-use Rattle.std.proofs.Common.{◌≡◌, ℕ, zero, suc, List, [], ◌∷◌, ◌++◌, append_assoc, append-nil, slice_get, length, Option, Some, None, Bool, true, false, refl, sym, ap, ◌∙◌}
-use Rattle.demo_origin.specs.Notifying.{Talk, newer, is_busy, TellsNewer, TellsUnless, TellsOf, TellsAt, TellsFirst, TellsAll}
+use Rattle.std.proofs.Common.{◌≡◌, ℕ, zero, suc, List, [], ◌∷◌, ◌++◌, append_assoc, append-nil, slice_get, length, Option, Some, None, Bool, true, false, sym, ap, ◌∙◌}
+use Rattle.demo_origin.specs.Notifying.{Talk, newer, is_busy, TellsNewer, TellsUnless, TellsOf, TellsFirst, TellsAll}
 use Rattle.demo_origin.specs.declared.state.Datagram.{Datagram}
 use Rattle.demo_origin.specs.declared.state.Held.{Held}
 use Rattle.demo_origin.specs.declared.state.Observer.{Observer}

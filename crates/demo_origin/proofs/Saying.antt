@@ -3,7 +3,7 @@ use Rattle.std.proofs.Common.{◌≡◌, ◌⊎◌, inl, inr, ℕ, zero, suc, Li
 use Rattle.std.specs.List.{AllByRecursion}
 use Rattle.demo_origin.specs.Values.{Device}
 use Rattle.demo_origin.specs.Peers.{own_mid}
-use Rattle.demo_origin.specs.Notifying.{Talk, talk_of, notified, newer_by, newer, is_busy, Notifies, TellsNewer, TellsUnless, TellsOf, TellsFirst, TellsAll, Settles}
+use Rattle.demo_origin.specs.Notifying.{Talk, talk_of, notified, newer_by, newer, is_busy, Notifies, TellsNewer, TellsUnless, TellsOf, TellsFirst}
 use Rattle.demo_origin.specs.Told.{IsNotice, SendsNotices, OnlyObserversTold}
 use Rattle.demo_origin.specs.declared.state.Datagram.{Datagram}
 use Rattle.demo_origin.specs.declared.state.Held.{Held}

@@ -1,13 +1,12 @@
 -- Nobody waits in vain, and nobody else is told.
-use Rattle.std.proofs.Common.{◌≡◌, ◌⊎◌, inl, inr, ℕ, zero, suc, ◌+◌, ◌<◌, List, [], ◌∷◌, ◌++◌, set, slice_get, length, length-set, IfSome, Option, Some, None, Bool, true, false, cond, is_some, ◌==◌, ◌||◌, refl, sym, ap, subst, ◌∙◌, arith}
+use Rattle.std.proofs.Common.{◌≡◌, ◌⊎◌, inl, inr, ℕ, zero, suc, ◌<◌, List, [], ◌∷◌, set, slice_get, length, length-set, IfSome, Option, Some, None, Bool, true, false, cond, is_some, ◌==◌, ◌||◌, refl, sym, ap, subst, ◌∙◌, arith}
 use Rattle.std.specs.List.{list_any}
 use Rattle.std.proofs.lemmas.Bool.{and_parts, and_from}
 use Rattle.std.proofs.lemmas.Bool.Decides.{Decides-eqb}
 use Rattle.uri_map.specs.declared.peer.Peer.{Peer}
 use Rattle.demo_origin.specs.Values.{Device}
 use Rattle.demo_origin.specs.Peers.{same_peer, own_mid}
-use Rattle.demo_origin.specs.Notifying.{Talk, talk_of, notified, newer_by, newer, is_waited_for, is_busy, Tells, TellsNewer, TellsUnless, TellsOf, TellsAt, TellsFirst, TellsAll, Settles}
-use Rattle.demo_origin.specs.Origins.{Ticks}
+use Rattle.demo_origin.specs.Notifying.{Talk, talk_of, notified, newer_by, newer, is_waited_for, is_busy, TellsNewer, TellsUnless, TellsOf, TellsFirst, TellsAll}
 use Rattle.demo_origin.specs.Told.{IsTold, AllTold, ObserversTold}
 use Rattle.demo_origin.specs.declared.state.Held.{Held}
 use Rattle.demo_origin.specs.declared.state.Observer.{Observer}

@@ -1,5 +1,5 @@
 -- What a draft stands for, and what calls do that answer or hear first and then tell.
-use Rattle.std.specs.Prelude.{◌≡◌, ℕ, List, [], ◌∷◌, ◌++◌}
+use Rattle.std.specs.Prelude.{ℕ, List, [], ◌∷◌, ◌++◌}
 use Rattle.demo_origin.specs.Values.{Device}
 use Rattle.demo_origin.specs.Peers.{known_after}
 use Rattle.demo_origin.specs.Answers.{Answers}
