@@ -16,8 +16,10 @@ use Rattle.demo_origin.specs.Values.{Device, Relation}
 use Rattle.demo_origin.specs.Peers.{same_peer}
 use Rattle.demo_origin.specs.Arrivals.{is_live, is_repeat, is_full, is_request, arrived_before, arrival_by, arrival}
 use Rattle.demo_origin.specs.Answers.{Reads, ReadsPart, sent, memory_of}
-use Rattle.demo_origin.specs.Blocks.{named_by, part_of, piece_of}
+use Rattle.demo_origin.specs.Blocks.{named_by, part_of}
 use Rattle.demo_origin.specs.Requests.{judged}
+use Rattle.demo_origin.specs.Observing.{wish_of}
+use Rattle.demo_origin.specs.declared.observers.Wish.{Wish}
 use Rattle.demo_origin.specs.Hearing.{asker, piece_after, TakesPiece, Asks, Processes, Takes, HearsRead, HearsBy, Hears}
 use Rattle.demo_origin.specs.Origins.{sent_by}
 use Rattle.demo_origin.specs.Pieces.{holding}
@@ -38,7 +40,7 @@ use Rattle.demo_origin.specs.declared.blocks.Part.{Part}
 use Rattle.demo_origin.specs.declared.blocks.Part.TheVariants.{Whole, Piece, Past}
 use Rattle.demo_origin.specs.declared.uploads.Joined.{Joined}
 use Rattle.demo_origin.specs.declared.uploads.Joined.TheVariants.{Gap, TooLarge, Next, Last}
-use Rattle.demo_origin.proofs.First.{answers_add, executes_adds, finishes_add, repeats, Adds}
+use Rattle.demo_origin.proofs.First.{answers_add, shows_add, executes_adds, finishes_add, repeats, Adds}
 use Rattle.demo_origin.proofs.Repeats.{Keeps, hears, live_before}
 
 -- ---- look-ups
@@ -109,10 +111,10 @@ found_last {X} p xs x none t =
     let one : find p (x ∷ []) ≡ Some x = subst P (sym t) refl in
     find-append p xs (x ∷ []) ∙ ap (λ o. option_or o (find p (x ∷ []))) none ∙ one
 
-grown : {X : Type 0} (xs : List X) (x : X) → xs ≡ xs ++ x ∷ [] → ⊥
-grown {X} xs x e =
+grown : {X : Type 0} (xs : List X) (x : X) (others : List X) → xs ≡ xs ++ x ∷ others → ⊥
+grown {X} xs x others e =
     let n = ap (λ (ys : List X). length ys) e in
-    absurd (omega (arith, n, length-append xs (x ∷ [])))
+    absurd (omega (arith, n, length-append xs (x ∷ others)))
 
 -- ---- a repeat later is one before
 
@@ -158,7 +160,7 @@ steps holds u p mid r (heard t q d taken) old new by s f =
     keeps t u p mid r old new by (hears (nat_lt 2048 (length d)) holds t q d old new taken s) f
 steps holds u p mid r (looked t) old new by s f =
     let P : Device → Type 0 = λ x. Finds u p mid r x in
-    subst P (sym s) (kept t u p mid r old by f)
+    subst P (sym s.is) (kept t u p mid r old by f)
 steps holds u p mid r gave old new by s f =
     let P : Device → Type 0 = λ x. Finds u p mid r x in
     subst P (sym s) (gives u p mid r old.out old f)
@@ -176,17 +178,17 @@ runs holds u p mid r (e ∷ es) old new by s f =
 abbrev AddsOrNot : Asker → Device → Device → Type 0
 AddsOrNot to old new = Adds to old new ⊎ (new ≡ old)
 
-parts : (to : Asker) (held : Held) (part : Part) (old new : Device)
-    → ReadsPart to held part old new → Adds to old new
-parts to held Whole old new h = answers_add to 69 h.0 held.state old new h.2
-parts to held (Piece b) old new h = answers_add to 69 h.0 (piece_of b held.state) old new h.2
-parts to held Past old new h = answers_add to 128 [] [] old new h
+parts : (to : Asker) (i : ℕ) (wish : Wish) (held : Held) (part : Part) (old new : Device)
+    → ReadsPart to i wish held part old new → Adds to old new
+parts to i wish held Whole old new h = shows_add to i wish held None old new h
+parts to i wish held (Piece b) old new h = shows_add to i wish held (Some b) old new h
+parts to i wish held Past old new h = answers_add to 128 [] [] old new h
 
-reads : (to : Asker) (named : Named) (o : Option Held) (old new : Device)
-    → Reads to named o old new → Adds to old new
-reads to named None old new h = absurd h
-reads to named (Some held) old new h =
-    parts to held (part_of named old.block (length held.state)) old new h
+reads : (to : Asker) (i : ℕ) (wish : Wish) (named : Named) (o : Option Held) (old new : Device)
+    → Reads to i wish named o old new → Adds to old new
+reads to i wish named None old new h = absurd h
+reads to i wish named (Some held) old new h =
+    parts to i wish held (part_of named old.block (length held.state)) old new h
 
 pieces : (holds : Relation) (to : Asker) (m : Content) (i : ℕ) (method : Method) (b : Block)
     (j : Joined) (old new : Device) (taken : Option Taken)
@@ -196,6 +198,7 @@ pieces holds to m i method b Gap old new taken h =
     record {
       bytes = a.bytes;
       is = ap (λ (d : Device). d.remembered) h.0.is ∙ a.is;
+      others = a.others;
       out = ap (λ (d : Device). d.out) h.0.is ∙ a.out;
     }
 pieces holds to m i method b TooLarge old new taken h =
@@ -203,11 +206,12 @@ pieces holds to m i method b TooLarge old new taken h =
     record {
       bytes = a.bytes;
       is = ap (λ (d : Device). d.remembered) h.0.is ∙ a.is;
+      others = a.others;
       out = ap (λ (d : Device). d.out) h.0.is ∙ a.out;
     }
 pieces holds to m i method b Next old new taken h =
     let a = answers_add to 95 h.0.options [] (holding to i b m.payload old) new h.0.answers in
-    record { bytes = a.bytes; is = a.is; out = a.out }
+    record { bytes = a.bytes; is = a.is; others = a.others; out = a.out }
 pieces holds to m i method b Last old new taken h =
     finishes_add holds to m i method b old new h.0 h.2
 
@@ -226,7 +230,8 @@ processes holds to m Dropped old new taken h = inr h.0
 processes holds to m (Refused code) old new taken h =
     inl (answers_add to code [] [] old new h.0)
 processes holds to m (Read i) old new taken h =
-    inl (reads to (named_by (values 23 m.options)) (slice_get old.resources i) old new h.0)
+    inl (reads to i (wish_of (values 6 m.options)) (named_by (values 23 m.options))
+    (slice_get old.resources i) old new h.0)
 processes holds to m (Asked i method) old new taken h =
     inl (asks holds to m i method (named_by (values 27 m.options)) old new taken h)
 
@@ -273,12 +278,12 @@ read_as holds t p d m old new taken short e h =
 
 -- a new CON that is answered is remembered with its answer
 first_found : (holds : Relation) (t u : ℕ) (p : Peer) (m : Content) (answer : List ℕ)
-    (old new : Device) → t ≤ u → u < t + 247000
+    (others : List Datagram) (old new : Device) → t ≤ u → u < t + 247000
     → find (is_repeat t p m.mid) old.remembered ≡ None
-    → new.out ≡ old.out ++ record { peer = p; bytes = answer } ∷ []
+    → new.out ≡ old.out ++ record { peer = p; bytes = answer } ∷ others
     → Adds (asker t p m) old new
     → Finds u p m.mid (memory_of (asker t p m) answer) new
-first_found holds t u p m answer old new le lt none goes h =
+first_found holds t u p m answer others old new le lt none goes h =
     let r = memory_of (asker t p m) h.bytes in
     let pass = is_repeat u p m.mid in
     let P : List Remembered → Type 0 = λ rs. find pass rs ≡ Some r in
@@ -294,15 +299,17 @@ first_found holds t u p m answer old new le lt none goes h =
     (found_last pass (filter (is_live t) old.remembered) r front
     (repeats t u p m h.bytes lt)) in
     let to_peer : List ℕ → Datagram = λ xs. record { peer = p; bytes = xs } in
-    let one : to_peer h.bytes ∷ [] ≡ to_peer answer ∷ [] =
-    append_cancel_left old.out (to_peer h.bytes ∷ []) (to_peer answer ∷ [])
+    let one : to_peer h.bytes ∷ h.others ≡ to_peer answer ∷ others =
+    append_cancel_left old.out (to_peer h.bytes ∷ h.others) (to_peer answer ∷ others)
     (sym h.out ∙ goes) in
     let sends : to_peer h.bytes ≡ to_peer answer = cc in
     let same : h.bytes ≡ answer = ap (λ (d : Datagram). d.bytes) sends in
     subst Q same here
 
-same_out : (old new : Device) (x : Datagram) → new ≡ old → new.out ≡ old.out ++ x ∷ [] → ⊥
-same_out old new x e goes = grown old.out x (sym (ap (λ (d : Device). d.out) e) ∙ goes)
+same_out : (old new : Device) (x : Datagram) (others : List Datagram)
+    → new ≡ old → new.out ≡ old.out ++ x ∷ others → ⊥
+same_out old new x others e goes =
+    grown old.out x others (sym (ap (λ (d : Device). d.out) e) ∙ goes)
 
 first_adds : (holds : Relation) (t : ℕ) (p : Peer) (mid : ℕ) (answer : List ℕ) (old new : Device)
     (x : FirstAnswered holds t p mid answer old new)
@@ -316,7 +323,7 @@ first_adds holds t p mid answer old new x none =
     let arrived = new_arrival t p m old x.con.kind_is x.con.request none in
     elim (takes_first holds t p m (is_full t p old) old new x.taken (subst P arrived taken)) [
       | inl h ↦ h
-      | inr e ↦ absurd (same_out old new _ e x.goes)
+      | inr e ↦ absurd (same_out old new _ x.others e x.goes)
     ]
 
 again : (holds : Relation) (u : ℕ) (p : Peer) (mid : ℕ) (r : Remembered) (old new : Device)
@@ -344,7 +351,7 @@ answered_alike holds es old a b new t u p mid answer taken x run by le lt y =
     not_remembered t p m.mid old (subst N (sym x.con.mid_is) x.first) in
     let added = first_adds holds t p mid answer old a x none in
     let found : Finds u p m.mid r a =
-    first_found holds t u p m answer old a le lt none x.goes added in
+    first_found holds t u p m answer x.others old a le lt none x.goes added in
     let later : Finds u p m.mid r b = runs holds u p m.mid r es a b by run found in
     again holds u p mid r b new taken y
     (subst F (x.con.mid_is ∙ sym y.mid_is) later)

@@ -1,5 +1,5 @@
 -- A request is executed the first time that it is heard, and not again while it is remembered.
-use Rattle.std.proofs.Common.{◌≡◌, ℕ, zero, suc, ◌+◌, ◌-◌, ◌<◌, List, [], ◌∷◌, ◌++◌, filter, Contains, Option, Some, None, Result, Ok, Err, IfOk, IsSome, Bool, true, false, cond, nat_lt, length, refl, sym, ap, subst, ◌∙◌, arith}
+use Rattle.std.proofs.Common.{◌≡◌, ℕ, zero, suc, ◌+◌, ◌-◌, ◌<◌, List, [], ◌∷◌, ◌++◌, filter, Contains, Option, Some, None, Result, Ok, Err, IfOk, IsSome, Bool, true, false, cond, nat_lt, length, append_assoc, refl, sym, ap, subst, ◌∙◌, arith}
 use Rattle.std.specs.List.{find}
 use Rattle.std.proofs.lemmas.Bool.{and_from, lt-ltb}
 use Rattle.std.proofs.lemmas.Bool.Decides.{Decides-eqb}
@@ -15,8 +15,8 @@ use Rattle.coap_codec.specs.declared.message.MsgType.{MsgType}
 use Rattle.coap_codec.specs.declared.message.MsgType.TheVariants.{Con, Non, Ack, Rst}
 use Rattle.demo_origin.specs.Values.{Device, Relation}
 use Rattle.demo_origin.specs.Peers.{same_address, same_peer}
-use Rattle.demo_origin.specs.Arrivals.{is_live, is_repeat, is_full, is_request, arrived_before, arrival_of, arrival_by, arrival}
-use Rattle.demo_origin.specs.Answers.{memory_of, Answers}
+use Rattle.demo_origin.specs.Arrivals.{is_live, is_repeat, is_full, is_request, arrived_before, arrival_of, is_heeded, arrival_by, arrival}
+use Rattle.demo_origin.specs.Answers.{memory_of, shown_part, Answers, Shows}
 use Rattle.demo_origin.specs.Requests.{judged}
 use Rattle.coap_codec.specs.Values.{values}
 use Rattle.coap_codec.specs.declared.block.Block.{Block}
@@ -30,11 +30,16 @@ use Rattle.demo_origin.specs.declared.request.Method.{Method}
 use Rattle.demo_origin.specs.Hearing.{asker, piece_after, Finishes, TakesPiece, Asks, Executes, Processes, Takes, HearsRead, HearsBy, Hears}
 use Rattle.demo_origin.specs.Once.{IsRemembered, IsFirst}
 use Rattle.demo_origin.specs.declared.answer.Asker.{Asker}
+use Rattle.demo_origin.specs.Notifying.{talk_of}
+use Rattle.demo_origin.specs.declared.observers.Wish.{Wish}
+use Rattle.demo_origin.specs.declared.state.Datagram.{Datagram}
+use Rattle.demo_origin.specs.declared.state.Held.{Held}
 use Rattle.demo_origin.specs.declared.state.Remembered.{Remembered}
+use Rattle.demo_origin.proofs.Growing.{all_grow}
 use Rattle.demo_origin.specs.declared.fault.Memory.{Memory}
 use Rattle.demo_origin.specs.declared.execution.Taken.{Taken}
 use Rattle.demo_origin.specs.declared.arrival.Arrival.{Arrival}
-use Rattle.demo_origin.specs.declared.arrival.Arrival.TheVariants.{Ignored, Rejected, Repeated, Fresh}
+use Rattle.demo_origin.specs.declared.arrival.Arrival.TheVariants.{Ignored, Rejected, Repeated, Fresh, Acknowledged, Reset}
 use Rattle.demo_origin.specs.declared.judge.Judged.{Judged}
 use Rattle.demo_origin.specs.declared.judge.Judged.TheVariants.{Dropped, Refused, Read, Asked}
 
@@ -105,33 +110,49 @@ of_kind c t p m s e =
     λ b. elim b as P [ true ↦ before_is_none c o (is_full t p s) | false ↦ other c o ] in
     each (is_request m.code) e
 
+acknowledging : (b : Bool) (o : Option Remembered) → cond b Acknowledged Ignored ≡ Fresh → o ≡ None
+acknowledging true o e = cc
+acknowledging false o e = cc
+
+resetting : (b : Bool) (o : Option Remembered) → cond b Reset Ignored ≡ Fresh → o ≡ None
+resetting true o e = cc
+resetting false o e = cc
+
 by_kind : (k : MsgType) (t : ℕ) (p : Peer) (m : Content) (s : Device)
     → arrival_by k t p m s ≡ Fresh → find (is_repeat t p m.mid) s.remembered ≡ None
 by_kind Con t p m s e = of_kind true t p m s e
 by_kind Non t p m s e = of_kind false t p m s e
-by_kind Ack t p m s e = cc
-by_kind Rst t p m s e = cc
+by_kind Ack t p m s e = acknowledging (is_heeded p m s) _ e
+by_kind Rst t p m s e = resetting (is_heeded p m s) _ e
 
 pub is_new : (t : ℕ) (p : Peer) (m : Content) (s : Device)
     → arrival t p m s ≡ Fresh → ¬ IsRemembered t p m.mid s
 is_new t p m s e r =
     none_found (is_repeat t p m.mid) s.remembered r.0 (by_kind m.kind t p m s e) r.1 r.2
 
--- An answer adds what is remembered of its request.
+-- An answer adds what is remembered of its request, and goes out before what observers are told.
 pub record Adds (to : Asker) (old new : Device) : Type 0 where
   pub bytes : List ℕ
   pub is : new.remembered ≡ filter (is_live to.moment) old.remembered ++ memory_of to bytes ∷ []
-  pub out : new.out ≡ old.out ++ record { peer = to.peer; bytes = bytes } ∷ []
+  pub others : List Datagram
+  pub out : new.out ≡ old.out ++ record { peer = to.peer; bytes = bytes } ∷ others
 
 pub executes_adds : (holds : Relation) (to : Asker) (m : Content) (i : ℕ) (method : _)
     (old new : Device) (taken : Taken)
     → Executes holds to m i method old new taken → Adds to old new
-executes_adds holds to m i method old new taken h = record {
-  bytes = h.changes.answers.bytes;
-  is = ap (λ (d : Device). d.remembered) h.changes.is
-      ∙ ap (λ (d : Device). d.remembered) h.changes.answers.is;
-  out = ap (λ (d : Device). d.out) h.changes.is ∙ ap (λ (d : Device). d.out) h.changes.answers.is;
-}
+executes_adds holds to m i method old new taken h =
+    let x = h.changes in
+    let s = x.settles in
+    let d : Datagram = record { peer = to.peer; bytes = x.answers.bytes } in
+    let g = all_grow to.moment x.middle.block x.middle.resources (talk_of x.middle) s.talk s.tells in
+    record {
+      bytes = x.answers.bytes;
+      is = ap (λ (d : Device). d.remembered) s.is ∙ ap (λ (d : Device). d.remembered) x.answers.is;
+      others = g.more;
+      out = ap (λ (d : Device). d.out) s.is ∙ g.is
+          ∙ ap (λ (e : Device). e.out ++ g.more) x.answers.is
+          ∙ append_assoc old.out (d ∷ []) g.more;
+    }
 
 pub answers_add : (to : Asker) (code : ℕ) (options : _) (payload : List ℕ) (old new : Device)
     → Answers to code options payload old new → Adds to old new
@@ -139,7 +160,19 @@ answers_add to code options payload old new h =
     record {
       bytes = h.bytes;
       is = ap (λ (d : Device). d.remembered) h.is;
+      others = [];
       out = ap (λ (d : Device). d.out) h.is;
+    }
+
+pub shows_add : (to : Asker) (i : ℕ) (wish : Wish) (held : Held) (b : Option Block)
+    (old new : Device) → Shows to i wish held b old new → Adds to old new
+shows_add to i wish held b old new h =
+    let a = answers_add to 69 h.options (shown_part b held.state) old h.middle h.answers in
+    record {
+      bytes = a.bytes;
+      is = ap (λ (d : Device). d.remembered) h.is ∙ a.is;
+      others = a.others;
+      out = ap (λ (d : Device). d.out) h.is ∙ a.out;
     }
 
 not_some : (o : Option Taken) → o ≡ None → IsSome o → ⊥
@@ -155,6 +188,7 @@ finishes_add holds to m i method b old new taken h =
     record {
       bytes = a.bytes;
       is = ap (λ (d : Device). d.remembered) h.2 ∙ a.is;
+      others = a.others;
       out = ap (λ (d : Device). d.out) h.2 ∙ a.out;
     }
 
@@ -191,6 +225,8 @@ takes_first : (holds : Relation) (t : ℕ) (p : Peer) (m : Content) (a : Arrival
 takes_first holds t p m Ignored old new taken e h s = absurd (not_some taken h.1 s)
 takes_first holds t p m Rejected old new taken e h s = absurd (not_some taken h.1 s)
 takes_first holds t p m (Repeated answer) old new taken e h s = absurd (not_some taken h.1 s)
+takes_first holds t p m Acknowledged old new taken e h s = absurd (not_some taken h.1 s)
+takes_first holds t p m Reset old new taken e h s = absurd (not_some taken h.1 s)
 takes_first holds t p m Fresh old new taken e h s = (
   processes_adds holds (asker t p m) m (judged m old.resources) old new taken h s,
   is_new t p m old e,

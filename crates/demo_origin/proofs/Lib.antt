@@ -1,6 +1,11 @@
 pub mod Lists
 pub mod Each
 pub mod Entries
+pub mod Growing
+pub mod Watching
+pub mod Saying
+pub mod Due
+pub mod Restoring
 pub mod First
 pub mod Repeats
 pub mod Again

@@ -12,8 +12,10 @@ use Rattle.demo_origin.specs.Values.{Device, Relation}
 use Rattle.demo_origin.specs.Peers.{same_peer}
 use Rattle.demo_origin.specs.Arrivals.{is_live, is_repeat, arrival}
 use Rattle.demo_origin.specs.Answers.{Reads, ReadsPart, memory_of}
+use Rattle.demo_origin.specs.Observing.{wish_of}
+use Rattle.demo_origin.specs.declared.observers.Wish.{Wish}
 use Rattle.coap_codec.specs.Values.{values}
-use Rattle.demo_origin.specs.Blocks.{named_by, part_of, piece_of}
+use Rattle.demo_origin.specs.Blocks.{named_by, part_of}
 use Rattle.demo_origin.specs.declared.blocks.Named.{Named}
 use Rattle.demo_origin.specs.declared.blocks.Part.{Part}
 use Rattle.demo_origin.specs.declared.blocks.Part.TheVariants.{Whole, Piece, Past}
@@ -33,10 +35,10 @@ use Rattle.demo_origin.specs.declared.state.Datagram.{Datagram}
 use Rattle.demo_origin.specs.declared.state.Remembered.{Remembered}
 use Rattle.demo_origin.specs.declared.execution.Taken.{Taken}
 use Rattle.demo_origin.specs.declared.arrival.Arrival.{Arrival}
-use Rattle.demo_origin.specs.declared.arrival.Arrival.TheVariants.{Ignored, Rejected, Repeated, Fresh}
+use Rattle.demo_origin.specs.declared.arrival.Arrival.TheVariants.{Ignored, Rejected, Repeated, Fresh, Acknowledged, Reset}
 use Rattle.demo_origin.specs.declared.judge.Judged.{Judged}
 use Rattle.demo_origin.specs.declared.judge.Judged.TheVariants.{Dropped, Refused, Read, Asked}
-use Rattle.demo_origin.proofs.First.{stays, answers_add, executes_adds, finishes_add, Adds, hears_first}
+use Rattle.demo_origin.proofs.First.{stays, answers_add, shows_add, executes_adds, finishes_add, Adds, hears_first}
 
 -- What is remembered stays, or only what is too old goes and something is added.
 abbrev pub Keeps : ℕ → Device → Device → Type 0
@@ -51,19 +53,18 @@ same t old new e = inl (ap (λ (d : Device). d.remembered) e)
 adds : (to : Asker) (old new : Device) → Adds to old new → Keeps to.moment old new
 adds to old new h = inr (memory_of to h.bytes ∷ [], h.is)
 
-parts : (to : Asker) (held : Held) (part : Part) (old new : Device)
-    → ReadsPart to held part old new → Keeps to.moment old new
-parts to held Whole old new h =
-    adds to old new (answers_add to 69 h.0 held.state old new h.2)
-parts to held (Piece b) old new h =
-    adds to old new (answers_add to 69 h.0 (piece_of b held.state) old new h.2)
-parts to held Past old new h = adds to old new (answers_add to 128 [] [] old new h)
+parts : (to : Asker) (i : ℕ) (wish : Wish) (held : Held) (part : Part) (old new : Device)
+    → ReadsPart to i wish held part old new → Keeps to.moment old new
+parts to i wish held Whole old new h = adds to old new (shows_add to i wish held None old new h)
+parts to i wish held (Piece b) old new h =
+    adds to old new (shows_add to i wish held (Some b) old new h)
+parts to i wish held Past old new h = adds to old new (answers_add to 128 [] [] old new h)
 
-reads : (to : Asker) (named : Named) (o : Option Held) (old new : Device)
-    → Reads to named o old new → Keeps to.moment old new
-reads to named None old new h = absurd h
-reads to named (Some held) old new h =
-    parts to held (part_of named old.block (length held.state)) old new h
+reads : (to : Asker) (i : ℕ) (wish : Wish) (named : Named) (o : Option Held) (old new : Device)
+    → Reads to i wish named o old new → Keeps to.moment old new
+reads to i wish named None old new h = absurd h
+reads to i wish named (Some held) old new h =
+    parts to i wish held (part_of named old.block (length held.state)) old new h
 
 gives_up : (to : Asker) (i code : ℕ) (old new : Device)
     → GivesUp to i code old new → Keeps to.moment old new
@@ -102,7 +103,8 @@ processes holds to m Dropped old new taken h = same to.moment old new h.0
 processes holds to m (Refused code) old new taken h =
     adds to old new (answers_add to code [] [] old new h.0)
 processes holds to m (Read i) old new taken h =
-    reads to (named_by (values 23 m.options)) (slice_get old.resources i) old new h.0
+    reads to i (wish_of (values 6 m.options)) (named_by (values 23 m.options))
+    (slice_get old.resources i) old new h.0
 processes holds to m (Asked i method) old new taken h =
     asks holds to m i method (named_by (values 27 m.options)) old new taken h
 
@@ -112,6 +114,9 @@ takes holds t p m Ignored old new taken h = same t old new h.0
 takes holds t p m Rejected old new taken h = inl (ap (λ (d : Device). d.remembered) h.0)
 takes holds t p m (Repeated answer) old new taken h =
     inl (ap (λ (d : Device). d.remembered) h.0)
+takes holds t p m Acknowledged old new taken h =
+    inl (ap (λ (d : Device). d.remembered) h.0.is)
+takes holds t p m Reset old new taken h = inl (ap (λ (d : Device). d.remembered) h.0.is)
 takes holds t p m Fresh old new taken h =
     processes holds (asker t p m) m (judged m old.resources) old new taken h
 
@@ -166,7 +171,7 @@ steps holds u p mid (heard t q d taken) old new by s r =
     keeps t u p mid old new by (hears (nat_lt 2048 (length d)) holds t q d old new taken s) r
 steps holds u p mid (looked t) old new by s r =
     let P : Device → Type 0 = λ x. IsRemembered u p mid x in
-    subst P (sym s) (
+    subst P (sym s.is) (
       r.0,
       stays (is_live t) old.remembered r.0 (live_before t u p mid r.0 by r.2) r.1,
       r.2,

@@ -1,5 +1,5 @@
 -- What an answer is, and what it leaves (RFC 7252, sections 4.5, 5.2, 5.9 and 5.10).
-use Rattle.std.specs.Prelude.{◌≡◌, ◌<◌, ℕ, List, [], ◌∷◌, ◌++◌, filter, length, Option, Some, None, vec_len, vec_capacity}
+use Rattle.std.specs.Prelude.{◌≡◌, ◌<◌, ℕ, ◌%◌, List, [], ◌∷◌, ◌++◌, filter, length, Option, Some, None, Bool, true, false, vec_len, vec_capacity}
 use Rattle.std.specs.Int.{to_be_bytes, w64}
 use Rattle.std.specs.VecDeque.{deque_len, deque_capacity}
 use Rattle.uri_map.specs.declared.peer.Peer.{Peer}
@@ -12,10 +12,12 @@ use Rattle.demo_origin.specs.Values.{Device}
 use Rattle.demo_origin.specs.Peers.{own_mid, known_after}
 use Rattle.demo_origin.specs.Arrivals.{is_live}
 use Rattle.demo_origin.specs.Blocks.{part_of, piece_of, IsBlockOption}
+use Rattle.demo_origin.specs.Observing.{is_granted, enlisted}
 use Rattle.demo_origin.specs.declared.blocks.Named.{Named}
 use Rattle.demo_origin.specs.declared.blocks.Part.{Part}
 use Rattle.demo_origin.specs.declared.blocks.Part.TheVariants.{Whole, Piece, Past}
 use Rattle.demo_origin.specs.declared.answer.Asker.{Asker}
+use Rattle.demo_origin.specs.declared.observers.Wish.{Wish}
 use Rattle.demo_origin.specs.declared.state.Held.{Held}
 use Rattle.demo_origin.specs.declared.state.State.{State}
 use Rattle.demo_origin.specs.declared.state.Remembered.{Remembered}
@@ -53,7 +55,7 @@ memory_of to bytes = record { peer = to.peer; mid = to.mid; moment = to.moment; 
 -- the answer goes out, and is remembered by its request's ID
 abbrev pub answered : Asker → List ℕ → Device → Device
 answered to bytes s = record s {
-  clients = known_after to.peer to.kind s.clients;
+  clients = known_after to.moment to.peer to.kind s.clients;
   remembered = filter (is_live to.moment) s.remembered ++ memory_of to bytes ∷ [];
   out = s.out ++ record { peer = to.peer; bytes = bytes } ∷ [];
 }
@@ -65,21 +67,33 @@ pub record Answers (to : Asker) (code : ℕ) (options : List Entry) (payload : L
   pub spelled : Spells (answer_to to (own_mid to.peer old.clients) code options payload) bytes
   pub is : new ≡ answered to bytes old
 
--- the options of a state, or a piece of it, that is read: ETag (the version), Content-Format,
--- Max-Age, and Block2 for a piece
-pub record Describes (r : Held) (b : Option Block) (options : List Entry) : Type 0 where
+-- The sequence number of a state is its version modulo 2^24 (RFC 7641, section 4.4).
+abbrev pub IsSequence : Bool → ℕ → List ℕ → Type 0
+IsSequence false version value = value ≡ []
+IsSequence true version value = (uint value ≡ version % 16777216) × IsShortest value
+
+-- an observer is told the sequence number too
+abbrev pub with_observe : Bool → List ℕ → List Entry → List Entry
+with_observe false value others = others
+with_observe true value others = record { number = 6; value = value } ∷ others
+
+-- the options of a state, or a piece of it, that is read or told: ETag (the version), Observe for
+-- an observer, Content-Format, Max-Age, and Block2 for a piece
+pub record Describes (r : Held) (observed : Bool) (b : Option Block) (options : List Entry)
+    : Type 0 where
+  pub observe : List ℕ
   pub format : List ℕ
   pub max_age : List ℕ
   pub block : List Entry
-  pub options_are :
-      options
-      ≡ record { number = 4; value = to_be_bytes w64 r.version }
-      ∷ record { number = 12; value = format }
-      ∷ record { number = 14; value = max_age }
-      ∷ block
+  pub observe_is : IsSequence observed r.version observe
   pub format_is : (uint format ≡ r.format) × IsShortest format
   pub max_age_is : (uint max_age ≡ r.max_age) × IsShortest max_age
   pub block_is : IsBlockOption b block
+  pub options_are :
+      options
+      ≡ record { number = 4; value = to_be_bytes w64 r.version }
+      ∷ with_observe observed observe
+      (record { number = 12; value = format } ∷ record { number = 14; value = max_age } ∷ block)
 
 -- room for an answer, and for what is remembered of it
 pub record HasRoom (s : State) : Type 0 where
@@ -87,17 +101,34 @@ pub record HasRoom (s : State) : Type 0 where
   pub remembered : vec_len s.remembered < vec_capacity s.remembered
   pub out : deque_len s.out < deque_capacity s.out
 
+-- the piece, or all of it
+abbrev pub shown_part : Option Block → List ℕ → List ℕ
+shown_part None state = state
+shown_part (Some b) state = piece_of b state
+
+-- the peer is registered with what it was told of, or no longer, as it asks for
+abbrev pub enlisting : Asker → ℕ → Wish → ℕ → Device → Device
+enlisting to i wish version s =
+    record s { observers = enlisted wish to.peer i to.token version s.observers }
+
+-- The state is answered as it stands, with an Observe where it is registered for.
+pub record Shows (to : Asker) (i : ℕ) (wish : Wish) (held : Held) (b : Option Block)
+    (old new : Device) : Type 0 where
+  pub options : List Entry
+  pub describes :
+      Describes held (is_granted wish to.peer i to.token old.observers) b options
+  pub middle : Device
+  pub answers : Answers to 69 options (shown_part b held.state) old middle
+  pub is : new ≡ enlisting to i wish held.version middle
+
 -- A GET is answered by 2.05 with the state as it stands, or with the piece of it that is asked for;
 -- by 4.00 where it has no such piece.
-abbrev pub ReadsPart : Asker → Held → Part → Device → Device → Type 0
-ReadsPart to held Whole old new =
-    (options : List Entry) × Describes held None options × Answers to 69 options held.state old new
-ReadsPart to held (Piece b) old new =
-    (options : List Entry) × Describes held (Some b) options
-    × Answers to 69 options (piece_of b held.state) old new
-ReadsPart to held Past old new = Answers to 128 [] [] old new
+abbrev pub ReadsPart : Asker → ℕ → Wish → Held → Part → Device → Device → Type 0
+ReadsPart to i wish held Whole old new = Shows to i wish held None old new
+ReadsPart to i wish held (Piece b) old new = Shows to i wish held (Some b) old new
+ReadsPart to i wish held Past old new = Answers to 128 [] [] old new
 
-abbrev pub Reads : Asker → Named → Option Held → Device → Device → Type 0
-Reads to named None old new = ⊥
-Reads to named (Some held) old new =
-    ReadsPart to held (part_of named old.block (length held.state)) old new
+abbrev pub Reads : Asker → ℕ → Wish → Named → Option Held → Device → Device → Type 0
+Reads to i wish named None old new = ⊥
+Reads to i wish named (Some held) old new =
+    ReadsPart to i wish held (part_of named old.block (length held.state)) old new

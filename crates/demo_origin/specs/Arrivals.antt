@@ -7,10 +7,12 @@ use Rattle.coap_codec.specs.declared.message.MsgType.{MsgType}
 use Rattle.coap_codec.specs.declared.message.MsgType.TheVariants.{Con, Non, Ack, Rst}
 use Rattle.demo_origin.specs.Values.{Device}
 use Rattle.demo_origin.specs.Peers.{same_peer, is_client}
+use Rattle.demo_origin.specs.Observing.{is_sent_as, is_observer}
+use Rattle.demo_origin.specs.declared.state.Observer.{Observer}
 use Rattle.demo_origin.specs.declared.state.Client.{Client}
 use Rattle.demo_origin.specs.declared.state.Remembered.{Remembered}
 use Rattle.demo_origin.specs.declared.arrival.Arrival.{Arrival}
-use Rattle.demo_origin.specs.declared.arrival.Arrival.TheVariants.{Ignored, Rejected, Repeated, Fresh}
+use Rattle.demo_origin.specs.declared.arrival.Arrival.TheVariants.{Ignored, Rejected, Repeated, Fresh, Acknowledged, Reset}
 
 -- Within this time messages of a peer with the same ID are one and the same (EXCHANGE_LIFETIME,
 -- section 4.8.2).
@@ -47,15 +49,19 @@ arrival_of confirms t p m s =
     then arrived_before confirms (find (is_repeat t p m.mid) s.remembered) (is_full t p s)
     else (if confirms then Rejected else Ignored)
 
+-- an empty one, with the ID of a notification to the peer that is outstanding
+abbrev pub is_heeded : Peer → Content → Device → Bool
+is_heeded p m s = (m.code == 0) && list_any (is_sent_as p m.mid) s.observers
+
 abbrev pub arrival_by : MsgType → ℕ → Peer → Content → Device → Arrival
 arrival_by Con t p m s = arrival_of true t p m s
 arrival_by Non t p m s = arrival_of false t p m s
-arrival_by Ack t p m s = Ignored
-arrival_by Rst t p m s = Ignored
+arrival_by Ack t p m s = if is_heeded p m s then Acknowledged else Ignored
+arrival_by Rst t p m s = if is_heeded p m s then Reset else Ignored
 
 abbrev pub arrival : ℕ → Peer → Content → Device → Arrival
 arrival t p m s = arrival_by m.kind t p m s
 
--- something of the peer's is remembered
-abbrev pub is_remembered : List Remembered → Client → Bool
-is_remembered rs c = list_any (λ (r : Remembered). same_peer r.peer c.peer) rs
+-- A peer is known as long as a message to it may be remembered, or it is told of changes.
+abbrev pub is_kept : ℕ → List Observer → Client → Bool
+is_kept t os c = nat_lt (t - c.moment) 247000 || list_any (is_observer c.peer) os

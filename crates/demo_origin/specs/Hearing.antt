@@ -20,6 +20,8 @@ use Rattle.demo_origin.specs.declared.uploads.Joined.TheVariants.{Gap, TooLarge,
 use Rattle.demo_origin.specs.Requests.{asked, judged}
 use Rattle.demo_origin.specs.Keeps.{IsKept}
 use Rattle.demo_origin.specs.Answers.{Answers, Reads, sent}
+use Rattle.demo_origin.specs.Observing.{wish_of, acknowledged, rejected}
+use Rattle.demo_origin.specs.Notifying.{Settles}
 use Rattle.demo_origin.specs.declared.answer.Asker.{Asker}
 use Rattle.demo_origin.specs.declared.state.Held.{Held}
 use Rattle.demo_origin.specs.declared.request.Method.{Method}
@@ -27,7 +29,7 @@ use Rattle.demo_origin.specs.declared.request.CoapRequest.{CoapRequest}
 use Rattle.demo_origin.specs.declared.execution.Taken.{Taken}
 use Rattle.demo_origin.specs.declared.execution.Outcome.{Outcome}
 use Rattle.demo_origin.specs.declared.arrival.Arrival.{Arrival}
-use Rattle.demo_origin.specs.declared.arrival.Arrival.TheVariants.{Ignored, Rejected, Repeated, Fresh}
+use Rattle.demo_origin.specs.declared.arrival.Arrival.TheVariants.{Ignored, Rejected, Repeated, Fresh, Acknowledged, Reset}
 use Rattle.demo_origin.specs.declared.judge.Judged.{Judged}
 use Rattle.demo_origin.specs.declared.judge.Judged.TheVariants.{Dropped, Refused, Read, Asked}
 
@@ -57,12 +59,15 @@ taken_from h method code after = record {
 abbrev pub with_resource : ℕ → Held → Device → Device
 with_resource i h s = record s { resources = set s.resources i h }
 
--- the request is answered by the reply, the resource changes, and what was done is told
+-- the resource changes, the request is answered by the reply, the observers are told of the state
+-- as it stands then, and what was done is told
 pub record ChangesHeld (to : Asker) (i : ℕ) (method : Method) (held : Held)
     (after : List ℕ) (reply : Replied) (old new : Device) (taken : Taken) : Type 0 where
   pub middle : Device
-  pub answers : Answers to reply.code [] reply.payload old middle
-  pub is : new ≡ with_resource i (stated held (is_change held.state after reply) after) middle
+  pub answers :
+      Answers to reply.code [] reply.payload
+      (with_resource i (stated held (is_change held.state after reply) after) old) middle
+  pub settles : Settles to.moment middle new
   pub told : taken ≡ taken_from held method reply.code after
 
 abbrev pub Changes : Asker → ℕ → Method → Option Held
@@ -128,7 +133,8 @@ Processes holds to m Dropped old new taken = (new ≡ old) × (taken ≡ None)
 Processes holds to m (Refused code) old new taken =
     Answers to code [] [] old new × (taken ≡ None)
 Processes holds to m (Read i) old new taken =
-    Reads to (named_by (values 23 m.options)) (slice_get old.resources i) old new
+    Reads to i (wish_of (values 6 m.options)) (named_by (values 23 m.options))
+    (slice_get old.resources i) old new
     × (taken ≡ None)
 Processes holds to m (Asked i method) old new taken =
     Asks holds to m i method (named_by (values 27 m.options)) old new taken
@@ -147,6 +153,10 @@ Takes holds t p m (Repeated answer) old new taken =
     (new ≡ sent p answer old) × (taken ≡ None)
 Takes holds t p m Fresh old new taken =
     Processes holds (asker t p m) m (judged m old.resources) old new taken
+Takes holds t p m Acknowledged old new taken =
+    Settles t (acknowledged p m.mid old) new × (taken ≡ None)
+Takes holds t p m Reset old new taken =
+    Settles t (rejected p m.mid old) new × (taken ≡ None)
 
 -- what is no message, but shows four bytes of a CON, is rejected (RFC 7252, section 4.2)
 abbrev pub undecoded : Peer → Option ℕ → Device → Device

@@ -1,13 +1,17 @@
 pub mod Values
 pub mod Peers
+pub mod Observing
 pub mod Arrivals
 pub mod Blocks
 pub mod Requests
 pub mod Keeps
 pub mod Uploads
 pub mod Answers
+pub mod Notifying
 pub mod Pieces
+pub mod Drafts
 pub mod Hearing
 pub mod Origins
+pub mod Told
 pub mod Once
 pub mod Kinds

@@ -9,8 +9,9 @@ use Rattle.demo_origin.specs.Arrivals.{is_repeat, is_request}
 use Rattle.demo_origin.specs.Answers.{sent}
 use Rattle.coap_codec.specs.declared.message.MsgType.TheVariants.{Con}
 use Rattle.demo_origin.specs.Hearing.{Hears}
-use Rattle.demo_origin.specs.Origins.{ticked, sent_out}
+use Rattle.demo_origin.specs.Origins.{Ticks, sent_out}
 use Rattle.demo_origin.specs.declared.state.Remembered.{Remembered}
+use Rattle.demo_origin.specs.declared.state.Datagram.{Datagram}
 use Rattle.demo_origin.specs.declared.execution.Taken.{Taken}
 
 -- At that moment a message of the peer's with that ID is one that was answered before.
@@ -34,7 +35,7 @@ pub data Event : Type 0 where
 -- what a call leaves
 abbrev pub Steps : Relation → Event → Device → Device → Type 0
 Steps holds (heard t p d taken) old new = Hears holds t p d old new taken
-Steps holds (looked t) old new = new ≡ ticked t old
+Steps holds (looked t) old new = Ticks t old new
 Steps holds gave old new = new ≡ (sent_out old).0
 
 -- what calls one after another leave
@@ -79,13 +80,14 @@ pub record HearsCon (holds : Relation) (t : ℕ) (p : Peer) (mid : ℕ) (old new
   pub mid_is : message.mid ≡ mid
   pub hears : Hears holds t p datagram old new taken
 
--- it is a new one, and is answered by that datagram
+-- it is a new one, and is answered by that datagram, before the observers are told of a change
 pub record FirstAnswered (holds : Relation) (t : ℕ) (p : Peer) (mid : ℕ) (answer : List ℕ)
     (old new : Device) : Type 0 where
   pub taken : Option Taken
   pub con : HearsCon holds t p mid old new taken
   pub first : ¬ IsRemembered t p mid old
-  pub goes : new.out ≡ old.out ++ record { peer = p; bytes = answer } ∷ []
+  pub others : List Datagram
+  pub goes : new.out ≡ old.out ++ record { peer = p; bytes = answer } ∷ others
 
 -- A CON that is heard again within 247 s executes nothing, and gets the datagram that answered it
 -- first, whatever is heard between them.

@@ -1,7 +1,8 @@
 -- What is true of every device, and what the calls do that hear nothing.
 use Rattle.std.specs.Prelude.{◌≡◌, ℕ, List, [], ◌∷◌, ◌++◌, length, filter, Contains, Option, Some, None}
 use Rattle.demo_origin.specs.Values.{Device, Relation, seen}
-use Rattle.demo_origin.specs.Arrivals.{is_live, is_remembered}
+use Rattle.demo_origin.specs.Arrivals.{is_live, is_kept}
+use Rattle.demo_origin.specs.Notifying.{Talk, talk_of, with_talk, without_lost, CopiesAll, TellsAll}
 use Rattle.demo_origin.specs.Uploads.{is_from}
 use Rattle.demo_origin.specs.declared.state.Client.{Client}
 use Rattle.demo_origin.specs.Keeps.{AllKeep, KeepsRelation}
@@ -36,6 +37,7 @@ fresh block resources = record {
   clients = [];
   remembered = [];
   uploads = [];
+  observers = [];
   out = [];
 }
 
@@ -52,17 +54,25 @@ held_of r = record {
 abbrev pub with_one : Held → Device → Device
 with_one h s = record s { resources = s.resources ++ h ∷ [] }
 
--- the peers of whom something is remembered
+-- the peers that are known still
 abbrev pub known_at : ℕ → Device → List Client
-known_at t s = filter (is_remembered (filter (is_live t) s.remembered)) s.clients
+known_at t s = filter (is_kept t s.observers) s.clients
 
--- what was answered too long ago is forgotten, and who has nothing else, with the pieces
+-- what was answered too long ago is forgotten, and who isn't known, with the pieces
 abbrev pub ticked : ℕ → Device → Device
 ticked t s = record s {
   clients = known_at t s;
   remembered = filter (is_live t) s.remembered;
   uploads = filter (is_from (known_at t s)) s.uploads;
 }
+
+-- Observers that can't be reached are dropped, copies go out, and what waited for its turn.
+pub record Ticks (t : ℕ) (old new : Device) : Type 0 where
+  pub copied : Talk
+  pub told : Talk
+  pub copies : CopiesAll t old.block old.resources (without_lost t (talk_of old)) copied
+  pub tells : TellsAll t old.block old.resources copied told
+  pub is : new ≡ ticked t (with_talk told old)
 
 abbrev pub sent_by : Device → List Datagram → Device × Option Datagram
 sent_by s [] = (s, None)

@@ -22,7 +22,7 @@ same_peer p q = same_address p.address q.address && (p.port == q.port)
 abbrev pub is_client : Peer → Client → Bool
 is_client p c = same_peer c.peer p
 
--- the message ID of the next answer that isn't piggybacked (RFC 7252, section 5.2)
+-- the message ID of the next message to the peer that isn't piggybacked (RFC 7252, section 5.2)
 abbrev pub own_mid : Peer → List Client → ℕ
 own_mid p clients = option_map_or (λ (c : Client). c.next_mid) (find (is_client p) clients) 0
 
@@ -32,12 +32,16 @@ after_answer Non n = (n + 1) % 65536
 after_answer Ack n = n
 after_answer Rst n = n
 
-abbrev pub stepped : Peer → MsgType → Client → Client
-stepped p kind c =
-    if is_client p c then (record c { next_mid = after_answer kind c.next_mid }) else c
+abbrev pub stepped : ℕ → Peer → MsgType → Client → Client
+stepped t p kind c =
+    if is_client p c
+    then (record c { next_mid = after_answer kind c.next_mid; moment = t }) else c
+
+abbrev pub first_known : ℕ → Peer → MsgType → Client
+first_known t p kind = record { peer = p; next_mid = after_answer kind 0; moment = t }
 
 -- the peers that are known after an answer to a message of that type
-abbrev pub known_after : Peer → MsgType → List Client → List Client
-known_after p kind clients =
-    if list_any (is_client p) clients then map (stepped p kind) clients
-    else (clients ++ record { peer = p; next_mid = after_answer kind 0 } ∷ [])
+abbrev pub known_after : ℕ → Peer → MsgType → List Client → List Client
+known_after t p kind clients =
+    if list_any (is_client p) clients then map (stepped t p kind) clients
+    else (clients ++ first_known t p kind ∷ [])

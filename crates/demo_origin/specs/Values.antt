@@ -4,6 +4,7 @@ use Rattle.demo_origin.specs.declared.state.Held.{Held}
 use Rattle.demo_origin.specs.declared.state.Client.{Client}
 use Rattle.demo_origin.specs.declared.state.Remembered.{Remembered}
 use Rattle.demo_origin.specs.declared.state.Upload.{Upload}
+use Rattle.demo_origin.specs.declared.state.Observer.{Observer}
 use Rattle.demo_origin.specs.declared.state.Datagram.{Datagram}
 use Rattle.demo_origin.specs.declared.state.State.{State}
 use Rattle.demo_origin.specs.declared.request.CoapRequest.{CoapRequest}
@@ -20,6 +21,8 @@ pub record Device : Type 0 where
   pub remembered : List Remembered
   -- the bodies of which some pieces came
   pub uploads : List Upload
+  -- who is told of changes, in the order of their registrations
+  pub observers : List Observer
   -- the datagrams to be given out, in order
   pub out : List Datagram
 
@@ -30,6 +33,7 @@ seen s = record {
   clients = s.clients.items;
   remembered = s.remembered.items;
   uploads = s.uploads.items;
+  observers = s.observers.items;
   out = s.out.items;
 }
 

@@ -8,12 +8,13 @@ ghost use Rattle.coap_codec.specs.Spelling.{Spells, entries};
 ghost use Rattle.coap_codec.specs.Writing.{IsInOrder, IsShort};
 ghost use Rattle.demo_origin.specs.Values.{seen};
 ghost use Rattle.demo_origin.specs.Peers.{is_client, own_mid, after_answer, stepped, known_after};
-ghost use Rattle.demo_origin.specs.Arrivals.{is_live, is_remembered};
+ghost use Rattle.demo_origin.specs.Arrivals.{is_live, is_kept};
 ghost use Rattle.demo_origin.specs.Answers.{answer_kind, answer_mid, answer_to, sent, answered, Answers, HasRoom};
 
-use crate::arrival::{is_known, is_live, is_same_peer};
+use crate::arrival::{EXCHANGE_LIFETIME, is_known, is_live, is_same_peer};
 use crate::fault::{Memory, out_of_memory};
-use crate::state::{Client, Datagram, Remembered, State};
+use crate::observers::is_observer;
+use crate::state::{Client, Datagram, Observer, Remembered, State};
 use coap_codec::{Message, MsgType, Opt, Token, encode};
 use message_layer::Bytes;
 use std::alloc::{AllocError, Global};
@@ -46,8 +47,8 @@ fn client_of<'a>(clients: &'a [Client], peer: &Peer) -> Option<&'a Client>
     clients.iter().find(|c| is_same_peer(&c.peer, peer))
 }
 
-/// The ID that the next NON answer to the peer has.
-fn own_mid(clients: &[Client], peer: &Peer) -> u16
+/// The ID that the next message to the peer has, where it isn't in an ACK.
+pub(crate) fn own_mid(clients: &[Client], peer: &Peer) -> u16
     ensures { result ≡ own_mid peer.now clients.now }
 {
     match client_of(clients, peer) {
@@ -65,37 +66,46 @@ fn after_answer(kind: MsgType, mid: u16) -> u16
     }
 }
 
-fn stepped(c: Client, peer: &Peer, kind: MsgType) -> Client
-    ensures { result ≡ stepped peer.now kind c }
+fn stepped(c: Client, peer: &Peer, kind: MsgType, moment: u64) -> Client
+    ensures { result ≡ stepped moment peer.now kind c }
 {
     if is_same_peer(&c.peer, peer) {
         Client {
             peer: c.peer,
             next_mid: after_answer(kind, c.next_mid),
+            moment,
         }
     } else {
         c
     }
 }
 
-fn step_each(clients: &mut [Client], peer: &Peer, kind: MsgType)
-    ensures { clients.new ≡ map (stepped peer.now kind) clients.old }
+fn step_each(clients: &mut [Client], peer: &Peer, kind: MsgType, moment: u64)
+    ensures { clients.new ≡ map (stepped moment peer.now kind) clients.old }
 {
     'each: for c in clients.iter_mut() {
-        *c = stepped(*c, peer, kind);
+        *c = stepped(*c, peer, kind, moment);
     }
 }
 
-fn know(clients: &mut Vec<Client>, peer: Peer, kind: MsgType)
+/// The next message to the peer has another ID.
+pub(crate) fn step_own(clients: &mut Vec<Client>, peer: &Peer, moment: u64)
+    ensures { clients.new.items ≡ map (stepped moment peer.now MsgType.Non) clients.old.items }
+{
+    step_each(clients, peer, MsgType::Non, moment);
+}
+
+pub(crate) fn know(clients: &mut Vec<Client>, peer: Peer, kind: MsgType, moment: u64)
     requires { vec_len clients.old < vec_capacity clients.old }
-    ensures { clients.new.items ≡ known_after peer kind clients.old.items }
+    ensures { clients.new.items ≡ known_after moment peer kind clients.old.items }
 {
     if is_known(clients, &peer) {
-        step_each(clients, &peer, kind);
+        step_each(clients, &peer, kind, moment);
     } else {
         clients.push_reserved(Client {
             peer,
             next_mid: after_answer(kind, 0),
+            moment,
         });
     }
 }
@@ -109,7 +119,7 @@ pub(crate) fn drop_old(remembered: &mut Vec<Remembered>, moment: u64)
     remembered.retain(|r| is_live(r, moment));
 }
 
-fn remember(remembered: &mut Vec<Remembered>, one: Remembered, moment: u64)
+pub(crate) fn remember(remembered: &mut Vec<Remembered>, one: Remembered, moment: u64)
     requires { vec_len remembered.old < vec_capacity remembered.old }
     ensures { remembered.new.items ≡ filter (is_live moment) remembered.old.items ++ one ∷ [] }
 {
@@ -128,6 +138,7 @@ pub(crate) fn send(s: &mut State, peer: Peer, bytes: Bytes) -> Result<(), AllocE
 
 fn make_room(s: &mut State) -> Result<(), AllocError>
     ensures same { seen s.new ≡ seen s.old }
+    ensures observers { s.new.observers ≡ s.old.observers }
     ensures ok { OnOk result (HasRoom s.new) }
 {
     s.clients.reserve(1)?;
@@ -150,9 +161,10 @@ pub struct Asker {
 pub(crate) fn send_answer(s: &mut State, to: Asker, bytes: Bytes, again: Bytes)
     requires room { HasRoom s.old }
     requires equal { again ≡ bytes }
-    ensures { seen s.new ≡ answered to bytes (seen s.old) }
+    ensures seen { seen s.new ≡ answered to bytes (seen s.old) }
+    ensures observers { s.new.observers ≡ s.old.observers }
 {
-    know(&mut s.clients, to.peer, to.kind);
+    know(&mut s.clients, to.peer, to.kind, to.moment);
     let one = Remembered {
         peer: to.peer,
         mid: to.mid,
@@ -167,7 +179,7 @@ pub(crate) fn send_answer(s: &mut State, to: Asker, bytes: Bytes, again: Bytes)
 }
 
 /// The bytes of an answer.
-fn bytes_of(
+pub(crate) fn bytes_of(
     alloc: Global,
     to: Asker,
     own: u16,
@@ -240,6 +252,7 @@ pub(crate) fn answer(
     ensures ok { OnOk result
         (Answers to code (entries options.items) payload.items (seen s.old) (seen s.new)) }
     ensures err { OnErr result (seen s.new ≡ seen s.old) }
+    ensures observers { s.new.observers ≡ s.old.observers }
 {
     let own = own_mid(&s.clients, &to.peer);
     let bytes = bytes_of(alloc, to, own, code, options, payload)?;
@@ -249,15 +262,15 @@ pub(crate) fn answer(
     Ok(())
 }
 
-fn is_remembered(remembered: &[Remembered], c: &Client) -> bool
-    ensures { result ≡ is_remembered remembered.now c.now }
+fn is_kept(c: &Client, moment: u64, observers: &[Observer]) -> bool
+    ensures { result ≡ is_kept moment observers.now c.now }
 {
-    remembered.iter().any(|r| is_same_peer(&r.peer, &c.peer))
+    moment.saturating_sub(c.moment) < EXCHANGE_LIFETIME || is_observer(observers, &c.peer)
 }
 
-/// Forgets the peers of whom nothing is remembered.
-pub(crate) fn drop_unknown(clients: &mut Vec<Client>, remembered: &[Remembered])
-    ensures { clients.new.items ≡ filter (is_remembered remembered.now) clients.old.items }
+/// Forgets the peers to whom no message may be remembered, and who aren't told of changes.
+pub(crate) fn drop_unknown(clients: &mut Vec<Client>, moment: u64, observers: &[Observer])
+    ensures { clients.new.items ≡ filter (is_kept moment observers.now) clients.old.items }
 {
-    clients.retain(|c| is_remembered(remembered, c));
+    clients.retain(|c| is_kept(c, moment, observers));
 }

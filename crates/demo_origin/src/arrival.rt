@@ -6,9 +6,10 @@ ghost use Rattle.std.specs.Option.{option_map};
 ghost use Rattle.coap_codec.specs.Spelling.{content};
 ghost use Rattle.demo_origin.specs.Values.{seen};
 ghost use Rattle.demo_origin.specs.Peers.{same_address, same_peer, is_client};
-ghost use Rattle.demo_origin.specs.Arrivals.{is_live, is_live_of, is_repeat, is_full, is_request, arrived_before, arrival_of, arrival};
+ghost use Rattle.demo_origin.specs.Arrivals.{is_live, is_live_of, is_repeat, is_full, is_request, arrived_before, arrival_of, is_heeded, arrival};
 
 use crate::fault::Memory;
+use crate::observers::has_sent;
 use crate::state::{Client, Remembered, State};
 use coap_codec::{Message, MsgType};
 use message_layer::Bytes;
@@ -17,7 +18,7 @@ use uri_map::Peer;
 
 /// How long a message ID of a peer's stands for one message, in milliseconds
 /// (EXCHANGE_LIFETIME, RFC 7252 section 4.8.2).
-const EXCHANGE_LIFETIME: u64 = 247_000;
+pub(crate) const EXCHANGE_LIFETIME: u64 = 247_000;
 
 /// How many peers are known.
 const CLIENTS: usize = 256;
@@ -36,6 +37,10 @@ pub enum Arrival {
     Repeated(Bytes),
     /// A request that is to be processed.
     Fresh,
+    /// An ACK of a notification.
+    Acknowledged,
+    /// An RST of a notification.
+    Reset,
 }
 
 fn is_same_address(a: &IpAddr, b: &IpAddr) -> bool
@@ -149,6 +154,13 @@ fn arrival_of(
     }
 }
 
+/// Whether it is an empty message with the ID of a notification that isn't acknowledged.
+fn is_heeded(s: &State, peer: &Peer, m: &Message) -> bool
+    ensures { result ≡ is_heeded peer.now (content m.now) (seen s.now) }
+{
+    m.code == 0 && has_sent(&s.observers, peer, m.mid)
+}
+
 /// What the message is.
 pub(crate) fn arrival_at(
     s: &State,
@@ -161,6 +173,8 @@ pub(crate) fn arrival_at(
     match m.kind {
         MsgType::Con => arrival_of(true, s, moment, peer, m),
         MsgType::Non => arrival_of(false, s, moment, peer, m),
+        MsgType::Ack if is_heeded(s, peer, m) => Ok(Arrival::Acknowledged),
+        MsgType::Rst if is_heeded(s, peer, m) => Ok(Arrival::Reset),
         MsgType::Ack | MsgType::Rst => Ok(Arrival::Ignored),
     }
 }

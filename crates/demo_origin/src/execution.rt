@@ -1,22 +1,23 @@
 //! What a request does to a resource.
 
-ghost use Rattle.std.specs.Prelude.{◌≡◌, ◌≢◌, ◌<◌, length, Some, slice_get, IfOk, IfSome, OnOk, OnErr, []};
+ghost use Rattle.std.specs.Prelude.{◌≡◌, ◌≢◌, ◌<◌, length, slice_get, IfOk, IfSome, OnOk, OnErr, []};
 ghost use Rattle.coap_codec.specs.Spelling.{content};
 ghost use Rattle.demo_origin.specs.Values.{seen};
 ghost use Rattle.demo_origin.specs.Requests.{CanChange, asked};
-ghost use Rattle.demo_origin.specs.Answers.{Answers, Reads, ReadsPart};
+ghost use Rattle.demo_origin.specs.Answers.{Answers, Reads, Shows, shown_part};
 ghost use Rattle.demo_origin.specs.Blocks.{BeginsIn, IsSized};
-ghost use Rattle.demo_origin.specs.declared.blocks.Part.TheVariants as Part;
 ghost use Rattle.demo_origin.specs.Hearing.{is_change, reply_of, stated, taken_from, Changes};
 
 use crate::answer::{Asker, answer};
 use crate::blocks::{Named, Part, part_of, piece_of};
 use crate::fault::Memory;
 use crate::judge::number_in;
-use crate::reading::{described, described_piece};
+use crate::observers::{Wish, enlist, is_granted};
+use crate::reading::described;
 use crate::request::{CoapRequest, Method};
 use crate::segments::Segments;
 use crate::state::{Held, State};
+use crate::telling::answer_and_tell;
 use coap_codec::{Block, Message, number};
 use message_layer::Bytes;
 use std::alloc::Global;
@@ -72,32 +73,42 @@ pub(crate) fn refuse(alloc: Global, s: &mut State, to: Asker, code: u8) -> Resul
     answer(alloc, s, to, code, Vec::new(alloc), Vec::new(alloc))
 }
 
-/// Answers a GET by the whole state of the resource of that number.
-fn read_whole(alloc: Global, s: &mut State, to: Asker, place: usize) -> Result<(), Memory>
-    requires { place < length s.old.resources.items }
-    ensures ok { OnOk result (IfSome (slice_get s.old.resources.items place)
-        (λ h. ReadsPart to h Part.Whole (seen s.old) (seen s.new))) }
-    ensures err { OnErr result (seen s.new ≡ seen s.old) }
+/// The bytes of a piece, or of all.
+fn shown_part(b: Option<Block>, state: &[u8]) -> &[u8]
+    requires { IfSome b (BeginsIn (length state.now)) }
+    ensures { result.now ≡ shown_part b state.now }
 {
-    let held = &s.resources[place];
-    let options = described(alloc, held)?;
-    let payload = Vec::from_slice(alloc, held.state.as_slice())?;
-    answer(alloc, s, to, CONTENT, options, payload)
+    match b {
+        None => state,
+        Some(b) => piece_of(b, state),
+    }
 }
 
-/// Answers a GET by a piece of the state.
-fn read_piece(alloc: Global, s: &mut State, to: Asker, place: usize, b: Block) -> Result<(), Memory>
+/// Answers a GET by the state of the resource of that number, or a piece of it.
+fn show(
+    alloc: Global,
+    s: &mut State,
+    to: Asker,
+    place: usize,
+    wish: Wish,
+    b: Option<Block>,
+) -> Result<(), Memory>
     requires place { place < length s.old.resources.items }
     requires begins { IfSome (slice_get s.old.resources.items place)
-        (λ h. BeginsIn (length h.state) b) }
+        (λ h. IfSome b (BeginsIn (length h.state))) }
     ensures ok { OnOk result (IfSome (slice_get s.old.resources.items place)
-        (λ h. ReadsPart to h (Part.Piece b) (seen s.old) (seen s.new))) }
+        (λ h. Shows to place wish h b (seen s.old) (seen s.new))) }
     ensures err { OnErr result (seen s.new ≡ seen s.old) }
 {
     let held = &s.resources[place];
-    let options = described_piece(alloc, held, b)?;
-    let payload = Vec::from_slice(alloc, piece_of(b, held.state.as_slice()))?;
-    answer(alloc, s, to, CONTENT, options, payload)
+    let version = held.version;
+    let observed = is_granted(wish, &s.observers, &to.peer, place, &to.token);
+    let options = described(alloc, held, observed, b)?;
+    let payload = Vec::from_slice(alloc, shown_part(b, held.state.as_slice()))?;
+    s.observers.reserve(1)?;
+    answer(alloc, s, to, CONTENT, options, payload)?;
+    enlist(&mut s.observers, wish, to.peer, place, to.token, version);
+    Ok(())
 }
 
 /// Answers a GET by what its Block2 asks for of the resource of that number.
@@ -106,17 +117,18 @@ pub(crate) fn read(
     s: &mut State,
     to: Asker,
     place: usize,
+    wish: Wish,
     named: Named,
 ) -> Result<(), Memory>
     requires place { place < length s.old.resources.items }
     requires sized { IsSized named }
-    ensures ok { OnOk result
-        (Reads to named (slice_get s.old.resources.items place) (seen s.old) (seen s.new)) }
+    ensures ok { OnOk result (Reads to place wish named
+        (slice_get s.old.resources.items place) (seen s.old) (seen s.new)) }
     ensures err { OnErr result (seen s.new ≡ seen s.old) }
 {
     match part_of(named, s.block, s.resources[place].state.as_slice().len()) {
-        Part::Whole => read_whole(alloc, s, to, place),
-        Part::Piece(b) => read_piece(alloc, s, to, place, b),
+        Part::Whole => show(alloc, s, to, place, wish, None),
+        Part::Piece(b) => show(alloc, s, to, place, wish, Some(b)),
         Part::Past => refuse(alloc, s, to, BAD_REQUEST),
     }
 }
@@ -139,18 +151,37 @@ fn taken_of(held: &Held, method: Method, outcome: &Outcome) -> Result<Taken, Mem
     })
 }
 
+/// What a resource held before a change.
+#[derive(Drop)]
+struct Before {
+    state: Bytes,
+    version: u64,
+}
+
 /// The resource has that state now.
-fn change(held: &mut Held, changed: bool, after: Bytes)
+fn change(held: &mut Held, changed: bool, after: Bytes) -> Before
     requires { CanChange held.old }
-    ensures { held.new ≡ stated held.old changed after }
+    ensures new { held.new ≡ stated held.old changed after }
+    ensures state { result.state ≡ held.old.state }
+    ensures version { result.version ≡ held.old.version }
 {
-    held.state = after;
+    let version = held.version;
+    let state = std::mem::replace(&mut held.state, after);
     if changed {
         held.version += 1;
     }
+    Before { state, version }
 }
 
-/// Answers a request by what came of it, and changes the resource.
+/// The resource has the state of before again.
+fn restore(held: &mut Held, before: Before)
+    ensures { held.new ≡ record held.old { state = before.state; version = before.version } }
+{
+    held.state = before.state;
+    held.version = before.version;
+}
+
+/// Answers a request by what came of it, changes the resource, and tells its observers.
 pub(crate) fn execute(
     alloc: Global,
     s: &mut State,
@@ -170,7 +201,12 @@ pub(crate) fn execute(
     let held = &s.resources[place];
     let taken = taken_of(held, method, &outcome)?;
     let changed = is_change(&held.state, &outcome);
-    answer(alloc, s, to, outcome.code, Vec::new(alloc), outcome.payload)?;
-    change(&mut s.resources[place], changed, outcome.after);
-    Ok(taken)
+    let before = change(&mut s.resources[place], changed, outcome.after);
+    match answer_and_tell(alloc, s, to, outcome.code, outcome.payload) {
+        Ok(()) => Ok(taken),
+        Err(e) => {
+            restore(&mut s.resources[place], before);
+            Err(e)
+        }
+    }
 }

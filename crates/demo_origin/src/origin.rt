@@ -1,6 +1,6 @@
 //! A demonstration device.
 
-ghost use Rattle.std.specs.Prelude.{◌≡◌, ◌≢◌, ◌<◌, ◌^◌, length, map, [], slice_get, IfOk, IfSome, IsSome, OnOk, OnErr};
+ghost use Rattle.std.specs.Prelude.{◌≡◌, ◌≢◌, ◌<◌, ◌^◌, length, map, [], slice_get, IfOk, IfSome, IsSome, OnOk, OnErr, None};
 ghost use Rattle.coap_codec.specs.Spelling.{content};
 ghost use Rattle.demo_origin.specs.Requests.{CanChange, judged};
 ghost use Rattle.demo_origin.specs.Hearing.{reply_of, Comes, Executes, Finishes, TakesPiece, Asks, Processes, Takes, Hears};
@@ -8,21 +8,26 @@ ghost use Rattle.demo_origin.specs.Blocks.{IsSized};
 ghost use Rattle.demo_origin.specs.Hearing.{piece_after};
 ghost use Rattle.demo_origin.specs.Arrivals.{arrival};
 ghost use Rattle.demo_origin.specs.Keeps.{KeepsRelation};
-ghost use Rattle.demo_origin.specs.Origins.{Sound, EachKeeps, device, count, fresh, held_of, with_one, ticked, sent_out};
+ghost use Rattle.demo_origin.specs.Origins.{Sound, EachKeeps, device, count, fresh, held_of, with_one, Ticks, sent_out};
+ghost use Rattle.demo_origin.specs.Notifying.{least_due};
 ghost use Rattle.demo_origin.specs.Once.{IsFirst};
 
 use crate::answer::{Asker, drop_old, drop_unknown, send};
 use crate::arrival::{Arrival, arrival_at};
 use crate::behaviour::Behaviour;
 use crate::blocks::{BlockSize, Named, named_in};
+use crate::draft::{copied_and_told, take_over};
 use crate::execution::{Outcome, Taken, execute, read, refuse, request_of};
 use crate::fault::Memory;
 use crate::handler::Handler;
 use crate::judge::{Judged, judge};
+use crate::notice::least_due;
+use crate::observers::wish_in;
 use crate::rejection::{reset, reset_undecoded};
 use crate::request::{CoapRequest, Method};
 use crate::resource::Resource;
 use crate::state::{Datagram, Held, State};
+use crate::telling::{acknowledge, reject};
 use crate::uploads::{
     Joined, before_piece, drop_orphans, drop_upload, give_up, judge_piece, keep_piece, upload_of,
     whole_body, with_body,
@@ -84,6 +89,7 @@ impl<H: Behaviour> Origin<H> {
                 clients: Vec::new(alloc),
                 remembered: Vec::new(alloc),
                 uploads: Vec::new(alloc),
+                observers: Vec::new(alloc),
                 out: VecDeque::new(alloc),
             },
             handlers: Vec::new(alloc),
@@ -164,7 +170,8 @@ impl<H: Behaviour> Origin<H> {
             }
             Judged::Read(place) => {
                 let named = named_in(&m, number::BLOCK2);
-                read(self.alloc, &mut self.state, to, place, named)?;
+                let wish = wish_in(&m);
+                read(self.alloc, &mut self.state, to, place, wish, named)?;
                 Ok(None)
             }
             Judged::Asked(place, method) => {
@@ -312,6 +319,14 @@ impl<H: Behaviour> Origin<H> {
                 let taken = self.process(to, m)?;
                 Ok(taken)
             }
+            Arrival::Acknowledged => {
+                acknowledge(self.alloc, &mut self.state, moment, &peer, m.mid)?;
+                Ok(None)
+            }
+            Arrival::Reset => {
+                reject(self.alloc, &mut self.state, moment, &peer, m.mid)?;
+                Ok(None)
+            }
         }
     }
 
@@ -358,15 +373,29 @@ impl<H: Behaviour> Origin<H> {
         self.hear(moment, peer, datagram)
     }
 
-    /// Forgets the requests that were answered 247 s ago, and the peers of whom none is remembered.
-    pub fn tick(&mut self, moment: u64)
+    /// Sends a copy of each notification whose ACK is due, or the newer state in its place, and
+    /// drops the observer that acknowledged none of five. It forgets the requests that were
+    /// answered 247 s ago, and the peers that were sent nothing since and observe nothing.
+    pub fn tick(&mut self, moment: u64) -> Result<(), Memory>
         requires sound { Sound H.holds self.old }
         ensures sound { Sound H.holds self.new }
-        ensures ticked { device self.new ≡ ticked moment (device self.old) }
+        ensures ok { OnOk result (Ticks moment (device self.old) (device self.new)) }
+        ensures err { OnErr result (device self.new ≡ device self.old) }
     {
+        let draft = copied_and_told(self.alloc, &self.state, moment)?;
+        take_over(&mut self.state, draft);
         drop_old(&mut self.state.remembered, moment);
-        drop_unknown(&mut self.state.clients, &self.state.remembered);
+        drop_unknown(&mut self.state.clients, moment, &self.state.observers);
         drop_orphans(&mut self.state.uploads, &self.state.clients);
+        Ok(())
+    }
+
+    /// When the next copy of a notification, or the end of its observer, is due.
+    pub fn next_due(&self) -> Option<u64>
+        requires { Sound H.holds self.now }
+        ensures { result ≡ least_due None (device self.now).observers }
+    {
+        least_due(&self.state.observers)
     }
 
     /// The next datagram to be sent.

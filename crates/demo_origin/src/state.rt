@@ -3,6 +3,7 @@
 use crate::blocks::BlockSize;
 use crate::body::Body;
 use crate::segments::Segments;
+use coap_codec::Token;
 use message_layer::Bytes;
 use std::collections::VecDeque;
 use uri_map::Peer;
@@ -20,11 +21,13 @@ pub struct Held {
     pub version: u64,
 }
 
-/// Who asked, and the message ID that its next NON answer has.
+/// Who asked, the message ID that the next message to it has, where it isn't in an ACK, and when
+/// the last message was sent to it.
 #[derive(Clone, Copy)]
 pub struct Client {
     pub peer: Peer,
     pub next_mid: u16,
+    pub moment: u64,
 }
 
 /// A request that was answered: whose, its ID, when, and the datagram that answered it.
@@ -44,6 +47,27 @@ pub struct Upload {
     pub body: Body,
 }
 
+/// A notification that isn't acknowledged: its message ID and its bytes, when it was sent the last
+/// time, and how often it was sent again (the retransmission counter).
+#[derive(Drop)]
+pub struct Notification {
+    pub mid: u16,
+    pub bytes: Bytes,
+    pub sent: u64,
+    pub copies: u8,
+}
+
+/// Who is told of changes (RFC 7641, section 4.1): whose registration it is, under which token, the
+/// number of its resource, and the version that it was told of.
+#[derive(Drop)]
+pub struct Observer {
+    pub peer: Peer,
+    pub token: Token,
+    pub place: usize,
+    pub told: u64,
+    pub outstanding: Option<Notification>,
+}
+
 /// A datagram to be sent.
 #[derive(Drop)]
 pub struct Datagram {
@@ -60,5 +84,6 @@ pub struct State {
     pub clients: Vec<Client>,
     pub remembered: Vec<Remembered>,
     pub uploads: Vec<Upload>,
+    pub observers: Vec<Observer>,
     pub out: VecDeque<Datagram>,
 }

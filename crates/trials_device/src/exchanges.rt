@@ -54,7 +54,7 @@ fn a_repeated_post_is_executed_once(rt: HostRuntime) {
     assert!(rt; sends(&mut origin, peer(5000), &COUNTED));
 
     // after 247 s the ID stands for a new message
-    origin.tick(247_000);
+    assert!(rt; origin.tick(247_000).is_ok());
     assert_eq!(rt;
         told(&mut origin, 247_000, peer(5000), &POST),
         Did::Executed

@@ -9,6 +9,8 @@ mod devices;
 #[cfg(test)]
 mod exchanges;
 #[cfg(test)]
+mod observers;
+#[cfg(test)]
 mod pieces;
 #[cfg(test)]
 mod refusals;

@@ -5,5 +5,5 @@ use Rattle.demo_origin.proofs.answer.step_each.Given as goal
 abbrev pub invariant-each : goal.invariant-each
 invariant-each l =
     l.clients
-    ≡ map (stepped l.peer l.kind) (take l.c-index l.initial.clients)
+    ≡ map (stepped l.moment l.peer l.kind) (take l.c-index l.initial.clients)
     ++ drop l.c-index l.initial.clients

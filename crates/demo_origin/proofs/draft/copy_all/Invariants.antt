@@ -1,0 +1,8 @@
+use Rattle.demo_origin.specs.Notifying.{CopiesFirst}
+use Rattle.demo_origin.specs.Drafts.{drafted}
+use Rattle.demo_origin.proofs.draft.copy_all.Given as goal
+
+abbrev pub invariant-each : goal.invariant-each
+invariant-each l =
+    CopiesFirst l.moment l.block.szx l.resources l.place (drafted l.initial.draft)
+    (drafted l.draft)

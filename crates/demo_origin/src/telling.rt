@@ -1,0 +1,86 @@
+//! What makes a device tell its observers of the state as it stands.
+
+ghost use Rattle.std.specs.Prelude.{◌≡◌, ◌≢◌, OnOk, OnErr};
+ghost use Rattle.demo_origin.specs.Values.{seen};
+ghost use Rattle.demo_origin.specs.Observing.{acknowledged, rejected};
+ghost use Rattle.demo_origin.specs.Notifying.{Settles};
+ghost use Rattle.demo_origin.specs.Drafts.{AnswersAndTells};
+
+use crate::answer::{Asker, bytes_of, own_mid, remember};
+use crate::draft::{answer_in, draft_of, take_over, tell_all};
+use crate::fault::Memory;
+use crate::observers::{drop_rejecting, relieve_each};
+use crate::state::{Remembered, State};
+use std::alloc::Global;
+use uri_map::Peer;
+
+/// Answers a request, and tells the observers.
+pub(crate) fn answer_and_tell(
+    alloc: Global,
+    s: &mut State,
+    to: Asker,
+    code: u8,
+    payload: Vec<u8>,
+) -> Result<(), Memory>
+    requires { code ≢ 0 }
+    ensures ok { OnOk result
+        (AnswersAndTells to code payload.items (seen s.old) (seen s.new)) }
+    ensures err { OnErr result (seen s.new ≡ seen s.old) }
+    ensures resources { s.new.resources ≡ s.old.resources }
+{
+    let own = own_mid(&s.clients, &to.peer);
+    let bytes = bytes_of(alloc, to, own, code, Vec::new(alloc), payload)?;
+    let again = bytes.share()?;
+    s.remembered.reserve(1)?;
+    let mut draft = draft_of(alloc, s)?;
+    answer_in(&mut draft, to, bytes)?;
+    tell_all(alloc, &mut draft, s.block, &s.resources, to.moment)?;
+    let one = Remembered {
+        peer: to.peer,
+        mid: to.mid,
+        moment: to.moment,
+        answer: again,
+    };
+    remember(&mut s.remembered, one, to.moment);
+    take_over(s, draft);
+    Ok(())
+}
+
+/// The peer acknowledged what it was sent under that ID: it is told of what came since.
+pub(crate) fn acknowledge(
+    alloc: Global,
+    s: &mut State,
+    moment: u64,
+    peer: &Peer,
+    mid: u16,
+) -> Result<(), Memory>
+    ensures ok { OnOk result
+        (Settles moment (acknowledged peer.now mid (seen s.old)) (seen s.new)) }
+    ensures err { OnErr result (seen s.new ≡ seen s.old) }
+    ensures resources { s.new.resources ≡ s.old.resources }
+{
+    let mut draft = draft_of(alloc, s)?;
+    relieve_each(&mut draft.observers, peer, mid);
+    tell_all(alloc, &mut draft, s.block, &s.resources, moment)?;
+    take_over(s, draft);
+    Ok(())
+}
+
+/// The peer rejected what it was sent under that ID: it observes that resource no more.
+pub(crate) fn reject(
+    alloc: Global,
+    s: &mut State,
+    moment: u64,
+    peer: &Peer,
+    mid: u16,
+) -> Result<(), Memory>
+    ensures ok { OnOk result (Settles moment (rejected peer.now mid (seen s.old)) (seen s.new)) }
+    ensures err { OnErr result (seen s.new ≡ seen s.old) }
+    ensures resources { s.new.resources ≡ s.old.resources }
+{
+    let mut draft = draft_of(alloc, s)?;
+    drop_rejecting(&mut draft.observers, peer, mid);
+    tell_all(alloc, &mut draft, s.block, &s.resources, moment)?;
+    take_over(s, draft);
+    Ok(())
+}
