@@ -1,5 +1,5 @@
 -- What a kind does, one of either kind does.
-use Rattle.std.proofs.Common.{◌⊎◌, inl, inr, ℕ, List, Result, Ok, Err}
+use Rattle.std.proofs.Common.{◌⊎◌, inl, inr, ℕ, List, Ok, Err}
 use Rattle.demo_origin.specs.Values.{Replied}
 use Rattle.demo_origin.specs.Keeps.{Answer, Fits}
 
