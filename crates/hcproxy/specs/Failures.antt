@@ -4,6 +4,8 @@ use Rattle.proxy_settings.specs.declared.file.FileFault.{FileFault}
 use Rattle.proxy_settings.specs.declared.file.FileFault.TheVariants as file
 use Rattle.gateway_server.specs.declared.fault.ServeFault.{ServeFault}
 use Rattle.gateway_server.specs.declared.fault.ServeFault.TheVariants as serve
+use Rattle.device_server.specs.declared.fault.DeviceFault.{DeviceFault}
+use Rattle.device_server.specs.declared.fault.DeviceFault.TheVariants as device
 use Rattle.hcproxy.specs.declared.report.Failure.{Failure}
 use Rattle.hcproxy.specs.declared.report.Failure.TheVariants as failure
 use Rattle.hcproxy.specs.declared.replay.ReplayFault.{ReplayFault}
@@ -38,3 +40,10 @@ serve_failure (serve.Clock error) = failure.Device
 serve_failure serve.Thread = failure.Device
 serve_failure serve.Stopped = failure.Device
 serve_failure serve.Memory = failure.Memory
+
+-- The same of the demonstration device.
+abbrev pub device_failure : DeviceFault → Failure
+device_failure (device.Listen address error) = failure.Device
+device_failure (device.Clock error) = failure.Device
+device_failure device.Stopped = failure.Device
+device_failure device.Memory = failure.Memory

@@ -17,6 +17,10 @@ pub enum Command<'a> {
     Serve {
         settings: Option<&'a str>,
     },
+    /// The demonstration device, under the settings of a file or else under those on standard input.
+    Origin {
+        settings: Option<&'a str>,
+    },
     /// Whether a file has settings of the part.
     Check {
         part: Part,
@@ -40,7 +44,10 @@ pub fn command_of(words: &[String]) -> Result<Command<'_>, Hint<'static>> {
         ("serve", [file]) => Ok(Command::Serve {
             settings: Some(file.as_str()),
         }),
-        ("origin", []) => Err(Hint::StillToCome),
+        ("origin", []) => Ok(Command::Origin { settings: None }),
+        ("origin", [file]) => Ok(Command::Origin {
+            settings: Some(file.as_str()),
+        }),
         ("replay", rest) => replay_of(rest).ok_or(Hint::SeeHelp),
         ("check", rest) => check_of(rest).ok_or(Hint::SeeHelp),
         _ => Err(Hint::SeeHelp),

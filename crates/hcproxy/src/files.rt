@@ -5,7 +5,7 @@ ghost use Rattle.proxy_settings.specs.Files.{IsOf};
 
 use crate::report::Report;
 use crate::settings::undone;
-use proxy_settings::{FileFault, Part, Serve, Setup, read_setup};
+use proxy_settings::{Device, FileFault, Part, Serve, Setup, read_setup};
 use std::fs;
 use std::rt::Files;
 
@@ -50,6 +50,23 @@ pub fn serve_on_input<R: Eprint + Input + AllocGlobal>(rt: &R) -> Result<Serve, 
             Ok(serve)
         }
         Setup::Origin(_) => unreachable!(),
+    }
+}
+
+/// The settings of the demonstration device that a file has.
+pub fn device_in<'a, R: Files + AllocGlobal>(rt: &R, path: &'a str) -> Result<Device, Report<'a>> {
+    match setup_in(rt, Part::Origin, path)? {
+        Setup::Origin(device) => Ok(device),
+        Setup::Serve(_) => unreachable!(),
+    }
+}
+
+/// The settings of the demonstration device on standard input.
+pub fn device_on_input<R: Input + AllocGlobal>(rt: &R) -> Result<Device, Report<'static>> {
+    let read = read_setup(rt.alloc(), Part::Origin, rt.reader());
+    match read.map_err(|fault| Report::file(STANDARD_INPUT, fault))? {
+        Setup::Origin(device) => Ok(device),
+        Setup::Serve(_) => unreachable!(),
     }
 }
 

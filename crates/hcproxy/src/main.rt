@@ -1,8 +1,10 @@
 //! The program: `hcproxy serve` runs the gateway, `hcproxy replay` runs a script of inputs through it and
-//! prints what comes out, `hcproxy check` reads a file of settings; `--help` and `--version` tell of it.
+//! prints what comes out, `hcproxy origin` runs a device to try it with, `hcproxy check` reads a file of
+//! settings; `--help` and `--version` tell of it.
 #![tactic(auto)]
 
 mod command;
+mod device;
 mod files;
 mod lines;
 #[cfg(test)]
@@ -26,6 +28,7 @@ mod tests;
 
 use ask_model::Settings;
 use command::{Command, command_of};
+use device::serve_device;
 use files::{serve_in, setup_in, tell_undone};
 use log::Log;
 use proxy_settings::{Part, Setup};
@@ -52,7 +55,8 @@ A gateway from HTTP/1.1 to CoAP.
   replay --settings FILE  .. under the settings of FILE in place of those of a demonstration
   check FILE              says whether FILE has settings of the gateway, or what is wrong at which line
   check --origin FILE     the same of settings of the demonstration device
-  origin                  is still to come
+  origin FILE             runs a CoAP device to try the gateway with, by the settings of FILE, or of
+                          standard input without FILE
   --help, -h              prints this
   --version, -V           prints the version
 
@@ -145,6 +149,7 @@ fn run<
         Command::Help => printed(println!(rt; "{USAGE}\n{HELP}")),
         Command::Version => printed(println!(rt; "{VERSION}")),
         Command::Serve { settings } => Err(serve(rt, settings)),
+        Command::Origin { settings } => Err(serve_device(rt, settings)),
         Command::Check { part, file } => check(&rt, part, file),
         Command::Replay {
             journal,

@@ -1,9 +1,10 @@
 //! Why the program ends without having done what it was asked for.
 
 ghost use Rattle.std.specs.Prelude.{◌≡◌};
-ghost use Rattle.hcproxy.specs.Failures.{exit_status, setup_failure, serve_failure};
+ghost use Rattle.hcproxy.specs.Failures.{exit_status, setup_failure, serve_failure, device_failure};
 
 use crate::replay::{Reason, ReplayFault};
+use device_server::DeviceFault;
 use gateway_server::ServeFault;
 use proxy_settings::FileFault;
 use std::fmt;
@@ -17,8 +18,8 @@ pub enum Failure {
     Usage,
     /// A file has no settings of the part.
     Settings,
-    /// A file of settings can't be read, a text can't be printed, or the gateway's clock, threads or
-    /// sockets fail.
+    /// A file of settings can't be read, a text can't be printed, or the clock, the threads or the
+    /// sockets of the gateway or the device fail.
     Device,
     Memory,
     Replay(ReplayFault),
@@ -63,6 +64,18 @@ impl Failure {
             ServeFault::Memory => Failure::Memory,
         }
     }
+
+    /// What a device that doesn't run is to the program.
+    pub fn of_device(fault: DeviceFault) -> Failure
+        ensures { result ≡ device_failure fault }
+    {
+        match fault {
+            DeviceFault::Listen(_, _) | DeviceFault::Clock(_) | DeviceFault::Stopped => {
+                Failure::Device
+            }
+            DeviceFault::Memory => Failure::Memory,
+        }
+    }
 }
 
 impl fmt::Display for Failure {
@@ -81,22 +94,23 @@ impl fmt::Display for Failure {
 #[derive(Clone, Copy, Debug)]
 pub enum Hint<'a> {
     SeeHelp,
-    StillToCome,
     Because(Reason),
     /// What is wrong with the file of that path.
     File(&'a str, FileFault),
     /// Why the gateway doesn't run, or runs no more.
     Serve(ServeFault),
+    /// Why the demonstration device doesn't run, or runs no more.
+    Origin(DeviceFault),
 }
 
 impl fmt::Display for Hint<'_> {
     fn fmt<W: fmt::Write>(&self, f: &mut fmt::Formatter<W>) -> fmt::Result {
         match self {
             Hint::SeeHelp => write!(f, "hcproxy: --help says more"),
-            Hint::StillToCome => write!(f, "hcproxy: origin is still to come"),
             Hint::Because(reason) => write!(f, "hcproxy: {reason}"),
             Hint::File(path, fault) => write!(f, "hcproxy: {path}: {fault}"),
             Hint::Serve(fault) => write!(f, "hcproxy: {fault}"),
+            Hint::Origin(fault) => write!(f, "hcproxy: {fault}"),
         }
     }
 }
@@ -149,6 +163,18 @@ impl<'a> Report<'a> {
         };
         Report {
             failure: Failure::of_serve(fault),
+            hint,
+        }
+    }
+
+    /// A device that doesn't run, or runs no more.
+    pub fn origin(fault: DeviceFault) -> Report<'a> {
+        let hint = match fault {
+            DeviceFault::Memory => None,
+            _ => Some(Hint::Origin(fault)),
+        };
+        Report {
+            failure: Failure::of_device(fault),
             hint,
         }
     }

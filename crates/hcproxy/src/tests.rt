@@ -253,7 +253,7 @@ fn failed_devices_are_told(rt: HostRuntime) {
 }
 
 /// What a line of words asks for, or None where it is answered by the usage.
-static COMMANDS: [(&str, Option<Command<'static>>); 22] = [
+static COMMANDS: [(&str, Option<Command<'static>>); 24] = [
     ("replay", RUN),
     (
         "replay --journal",
@@ -296,7 +296,14 @@ static COMMANDS: [(&str, Option<Command<'static>>); 22] = [
         }),
     ),
     ("serve a.toml b.toml", None),
-    ("origin", None),
+    ("origin", Some(Command::Origin { settings: None })),
+    (
+        "origin a.toml",
+        Some(Command::Origin {
+            settings: Some("a.toml"),
+        }),
+    ),
+    ("origin a.toml b.toml", None),
     ("replay --journal --journal", None),
     ("replay --settings", None),
     ("replay --settings a.toml b.toml", None),
