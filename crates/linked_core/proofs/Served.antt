@@ -13,6 +13,7 @@ use Rattle.link_history.proofs.Facts.{all-more}
 use Rattle.linked_core.specs.declared.answer.Answer.{Answer}
 use Rattle.linked_core.specs.declared.answer.Ticket.{Ticket}
 use Rattle.linked_core.specs.declared.fault.AskFault.{AskFault}
+use Rattle.linked_core.specs.declared.fault.AskFault.TheVariants as AskFault
 use Rattle.linked_core.specs.Values.{Untaken, Outgoing, CoreValue}
 use Rattle.linked_core.specs.Answering.{Given, IsGiven, given_of}
 use Rattle.linked_core.specs.Calls.{IsAsked}
@@ -74,6 +75,15 @@ sound-first None S bytes room gs gs1 s first = subst (SoundState S bytes room) (
 sound-first (Some g) S bytes room gs gs1 s first = sound-taken S bytes room g.ask gs gs1 s first.2
 
 -- A connection waits for one answer, or for none.
+none-some : (k : ℕ) → None ≡ Some k → ⊥
+none-some k e = cc
+
+waits-once : (S : State) (bytes room : ℕ) (gs : List Given) (c k : ℕ) → SoundState S bytes room gs
+    → HasConn S.conns c None → HasConn S.conns c (Some k) → ⊥
+waits-once S bytes room gs c k s none some =
+    let tell = conns-tell s.kept.kept.reading S c s.kept.kept.rests.reads in
+    none-some k (sym (tell.1 None none).1 ∙ (tell.1 (Some k) some).1)
+
 pub idle-once : (S : State) (bytes room : ℕ) (gs : List Given) (b : Bool) (c : ℕ) → SoundState S bytes room gs
     → (IsTrue b → HasConn S.conns c None)
     → (IsFalse b → ((p : Option ℕ) → HasConn S.conns c p → ⊥) ⊎ ((k : ℕ) × HasConn S.conns c (Some k)))
@@ -81,14 +91,20 @@ pub idle-once : (S : State) (bytes room : ℕ) (gs : List Given) (b : Bool) (c :
 idle-once S bytes room gs true c s idle other = (idle, λ h. refl)
 idle-once S bytes room gs false c s idle other = (idle, λ h. absurd (not-both h (other refl)))
   where
-    none-some : (k : ℕ) → None ≡ Some k → ⊥
-    none-some k e = cc
-
     not-both : HasConn S.conns c None → ((p : Option ℕ) → HasConn S.conns c p → ⊥) ⊎ ((k : ℕ) × HasConn S.conns c (Some k)) → ⊥
     not-both h (inl none) = none None h
-    not-both h (inr asked) =
-        let tell = conns-tell s.kept.kept.reading S c s.kept.kept.rests.reads in
-        none-some asked.0 (sym (tell.1 None h).1 ∙ (tell.1 (Some asked.0) asked.1).1)
+    not-both h (inr asked) = waits-once S bytes room gs c asked.0 s h asked.1
+
+pub pending-waits : {R : Type 0} (r : Result (Ticket R) AskFault) (t word c : ℕ) (a : Ask) (S : State) (bytes room : ℕ)
+    (gs : List Given) (os : List Outgoing) (new : CoreValue)
+    → SoundState S bytes room gs → IsAsked (number_in r) t word c a (core_of S gs os) new
+    → r ≡ Err AskFault.Pending → HasConn S.conns c None → ⊥
+pending-waits (Ok k) t word c a S bytes room gs os new s is e none = absurd cc
+pending-waits (Err AskFault.Pending) t word c a S bytes room gs os new s is e none =
+    waits-once S bytes room gs c is.1.0 s none is.1.1
+pending-waits (Err AskFault.Unknown) t word c a S bytes room gs os new s is e none = is.1 None none
+pending-waits (Err AskFault.Sealed) t word c a S bytes room gs os new s is e none = absurd cc
+pending-waits (Err AskFault.Memory) t word c a S bytes room gs os new s is e none = absurd cc
 
 -- numbers rise
 

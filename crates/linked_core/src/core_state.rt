@@ -1,13 +1,12 @@
 //! The core.
 
-ghost use Rattle.std.specs.Prelude.{◌≡◌, ◌≤◌, ◌^◌, [], IfOk, OnOk, OnErr, IsTrue, IsFalse, option_map, min, map};
+ghost use Rattle.std.specs.Prelude.{◌≡◌, ◌≤◌, ◌^◌, ◌↔◌, [], None, Err, IfOk, OnOk, OnErr, IsTrue, IsFalse, option_map, min, map};
 ghost use Rattle.std.specs.Arc.{arc_value};
 ghost use Rattle.journal_book.specs.Views.{ask_of};
 ghost use Rattle.core_steps.specs.Sealing.{hears_in_room, ticks_in_room};
 ghost use Rattle.std.specs.List.{reduce};
 ghost use Rattle.whole_history.specs.Justified.{Stands};
 ghost use Rattle.core_steps.specs.Keeping.{start};
-ghost use Rattle.std.specs.Prelude.{◌↔◌, None};
 ghost use Rattle.core_steps.specs.Resting.{HasConn};
 ghost use Rattle.linked_core.specs.Serving.{IsFirstTaken, AreBelow, AreOlder};
 ghost use Rattle.linked_core.specs.Answering.{given_of};
@@ -145,6 +144,8 @@ impl<R: Relation> Core<R> {
         ensures ticket { IfOk result (λ t. (t.conn ≡ conn)
             × (arc_value t.mapped ≡ arc_value mapped)) }
         ensures older { IfOk result (λ t. AreOlder t.number self.old.untaken) }
+        ensures waits { result ≡ Err AskFault.Pending
+            → HasConn self.old.state.conns conn None → ⊥ }
     {
         let moment = self.now(moment);
         asking::ask(self.alloc, &mut self.state, moment, word, conn, mapped)
