@@ -1,0 +1,169 @@
+-- What a function of the engine does is acts.
+use Rattle.std.proofs.Common.{◌≡◌, ◌⊎◌, ℕ, suc, ◌<◌, Bool, true, false, length, arith, List, [], ◌∷◌, ◌++◌, Result, Ok, Err, Option, Some, None, inl, inr, refl, sym, ap, subst, ◌∙◌}
+use Rattle.std.specs.Prelude.{OnOk}
+use Rattle.std.proofs.lemmas.List.{append-nil, map_push}
+use Rattle.uri_map.specs.declared.peer.Peer.{Peer}
+use Rattle.ask_model.specs.Requests.{Ask}
+use Rattle.http_edge.specs.Answers.{answer_text}
+use Rattle.http_edge.specs.Reading.{Item}
+use Rattle.core_steps.specs.State.{State}
+use Rattle.core_steps.specs.Sealing.{hears_in_room, ticks_in_room}
+use Rattle.linked_core.specs.declared.fault.OpenFault.TheVariants as Open
+use Rattle.linked_core.specs.declared.fault.AskFault.TheVariants as Fault
+use Rattle.linked_core.specs.Answering.{Given}
+use Rattle.linked_core.specs.Calls.{IsOpened, IsAsked, IsClosed, now}
+use Rattle.linked_core.specs.Taking.{IsTaken, IsSent}
+use Rattle.linked_core.specs.Values.{CoreValue, Outgoing, outgoing_of, stepped}
+use Rattle.connection_table.specs.Inlets.{Inlet, fresh, appended, without as without_inlet}
+use Rattle.connection_table.specs.Reads.{Continues, ChangesAt}
+use Rattle.linked_world.specs.declared.engine.Engine.{Engine}
+use Rattle.linked_world.specs.declared.input.When.{When}
+use Rattle.linked_world.specs.declared.input.Happening.{Happening}
+use Rattle.linked_world.specs.declared.input.Happening.TheVariants as H
+use Rattle.linked_world.specs.declared.input.Output.{Output}
+use Rattle.linked_world.specs.declared.input.Output.TheVariants as Out
+use Rattle.linked_world.specs.Acts.{Act, Opens, TurnsAway, Takes, Hears, Passes, Asks, IsDenied, Sends, Tells, GoesOn, Closes, Leaves, Served, Terms, Does, AsksItem, IsAsking, IsDenying, IsSending, IsTelling, at, came_at, continue_text}
+use Rattle.linked_world.specs.Emissions.{Emission, emissions, emission_of, Says, Goes, Closed, Turned}
+use Rattle.linked_world.specs.Engines.{IsShutting}
+use Rattle.linked_world.specs.Leading.{Leads, LeadsBy, served_of}
+use Rattle.linked_world.specs.Orders.{IsFor, AreFor, AreSends, IsInOrder, BeginsWith, IsTold}
+use Rattle.linked_world.specs.Tellings.{MeansGiven, TellsBytes}
+use Rattle.linked_world.specs.Unasked.{Unasked, unasked_in, taken, TakesItem, TellsToGoOn}
+use Rattle.linked_world.proofs.Lead.{leads-one, leads-none, leads-then, leads-as}
+use Rattle.linked_world.proofs.ReadingOn.{unasked-without, unasked-taken, unasked-opened, tells-on}
+
+-- what follows where a call went well
+pub then-ok : {A E : Type 0} (r : Result A E) (P Q : Type 0) → OnOk r P → (P → Q) → OnOk r Q
+then-ok (Ok x) P Q h f = f h
+then-ok (Err e) P Q h f = tt
+
+-- An act that begins what an input leads to, and gives nothing out.
+pub begins-lead : (M : Terms) (w : When) (a : Act) (P : List Act → Type 0) (old mid new : Served) (before after : List Emission)
+    → Does M w a old [] mid → Leads M w P mid before new after
+    → Leads M w (BeginsWith a P) old before new after
+begins-lead M w a P old mid new before after h k =
+    leads-then M w (λ (xs : List Act). xs ≡ a ∷ []) P (BeginsWith a P) old mid new before before after
+    (λ xs ys e p. record { rest = ys; are = ap (λ (zs : List Act). zs ++ ys) e; then = p })
+    (leads-one M w (λ (xs : List Act). xs ≡ a ∷ []) a old mid before [] before refl h (sym (append-nil before))) k
+
+module _ {R : Type 0} (M : Terms) (w : When) where
+  pub opens-lead : (c : ℕ) (old new : Engine R) (before : List Output)
+      → IsOpened (Ok c) (at w (served_of old)) old.core new.core
+      → new.table.current ≡ old.table.current ++ fresh c ∷ []
+      → LeadsBy M w (IsInOrder H.Open) old before new before
+  opens-lead c old new before opened e =
+      leads-one M w (IsInOrder H.Open) (Opens c) (served_of old) (served_of new) (emissions before) [] (emissions before)
+      (inl (c, refl)) (opened, ap unasked_in e ∙ unasked-opened c old.table.current, refl) (sym (append-nil (emissions before)))
+
+  pub turns-lead : (old new : Engine R) (before after : List Output)
+      → IsOpened (Err Open.Full) (at w (served_of old)) old.core new.core
+      ⊎ IsOpened (Err Open.Sealed) (at w (served_of old)) old.core new.core
+      → new.table.current ≡ old.table.current → emissions after ≡ emissions before ++ Turned ∷ []
+      → LeadsBy M w (IsInOrder H.Open) old before new after
+  turns-lead old new before after opened e added =
+      leads-one M w (IsInOrder H.Open) TurnsAway (served_of old) (served_of new) (emissions before) (Turned ∷ []) (emissions after)
+      (inr refl) (opened, ap unasked_in e, refl) added
+
+  pub sends-lead : (old new : Engine R) (before after : List Output) (d : Outgoing) (o : Output)
+      → emission_of o ≡ Goes d → IsSent (Some d) old.core new.core
+      → new.table.current ≡ old.table.current → after ≡ before ++ o ∷ []
+      → LeadsBy M w AreSends old before new after
+  sends-lead old new before after d o same sent e added =
+      leads-one M w AreSends Sends (served_of old) (served_of new) (emissions before) (Goes d ∷ []) (emissions after)
+      (tt, tt) (record { datagram = d; sent = sent; unasked = ap unasked_in e; given = refl })
+      (ap emissions added ∙ (map_push emission_of before o ∙ ap (λ (x : Emission). emissions before ++ x ∷ []) same))
+
+  pub shuts-lead : (c : ℕ) (old new : Engine R) (before after : List Output) → IsShutting w c old new
+      → emissions after ≡ emissions before ++ Closed c ∷ []
+      → LeadsBy M w (AreFor c) old before new after
+  shuts-lead c old new before after shut added =
+      leads-one M w (AreFor c) (Closes c) (served_of old) (served_of new) (emissions before) (Closed c ∷ []) (emissions after)
+      (refl, tt) (shut.closed, ap unasked_in shut.inlets ∙ unasked-without c old.table.current, refl) added
+
+  pub leaves-lead : (c : ℕ) (old new : Engine R) (before : List Output) → IsShutting w c old new
+      → LeadsBy M w (IsInOrder (H.Close c)) old before new before
+  leaves-lead c old new before shut =
+      leads-one M w (IsInOrder (H.Close c)) (Leaves c) (served_of old) (served_of new) (emissions before) [] (emissions before)
+      (inr refl) (shut.closed, ap unasked_in shut.inlets ∙ unasked-without c old.table.current, refl) (sym (append-nil (emissions before)))
+
+  pub stays-lead : (P : List Act → Type 0) (old new : Engine R) (before after : List Output) → P []
+      → new.core ≡ old.core → unasked_in new.table.current ≡ unasked_in old.table.current
+      → emissions after ≡ emissions before
+      → LeadsBy M w P old before new after
+  stays-lead P old new before after h core same added = record {
+    acts = [];
+    order = h;
+    given = [];
+    done = ((λ i. record { core = core i; unasked = same i }), refl);
+    added = added ∙ sym (append-nil (emissions before));
+  }
+
+  pub goes-on-lead : (c : ℕ) (old new : Engine R) (before after : List Output)
+      → ChangesAt Continues c old.table.current new.table.current → new.core ≡ old.core
+      → emissions after ≡ emissions before ++ Says c continue_text ∷ []
+      → LeadsBy M w (AreFor c) old before new after
+  goes-on-lead c old new before after h core added =
+      leads-one M w (AreFor c) (GoesOn c) (served_of old) (served_of new) (emissions before) (Says c continue_text ∷ []) (emissions after)
+      (refl, tt) (tells-on c old.table.current new.table.current h, core, refl) added
+
+  -- the answer is told, and what follows is done
+  pub tells-lead : (g : Given) (v : CoreValue) (old new : Engine R) (before mid after : List Output)
+      → IsTaken (Some g) g.ask v old.core
+      → (t : TellsBytes g (emissions before) (emissions mid))
+      → M.IsTelling g t.response
+      → LeadsBy M w (AreFor g.conn) old mid new after
+      → Leads M w (IsTold g.conn g.ask) (record { core = v; unasked = unasked_in old.table.current }) (emissions before)
+      (served_of new) (emissions after)
+  tells-lead g v old new before mid after taken t tells k =
+      leads-then M w (λ (xs : List Act). xs ≡ Tells g.conn g.ask ∷ []) (AreFor g.conn) (IsTold g.conn g.ask)
+      (record { core = v; unasked = unasked_in old.table.current }) (served_of old) (served_of new)
+      (emissions before) (emissions mid) (emissions after)
+      (λ xs ys e p. record { rest = ys; are = ap (λ (zs : List Act). zs ++ ys) e; then = p })
+      (leads-one M w (λ (xs : List Act). xs ≡ Tells g.conn g.ask ∷ []) (Tells g.conn g.ask)
+      (record { core = v; unasked = unasked_in old.table.current }) (served_of old)
+      (emissions before) (Says g.conn (answer_text t.response) ∷ []) (emissions mid) refl
+      (record { answer = g; conn = refl; taken = taken; unasked = refl; response = t.response; tells = tells; given = refl })
+      t.added) k
+
+  pub takes-lead : (c : ℕ) (bytes : List ℕ) (old mid new : Engine R) (before after : List Output)
+      → mid.core ≡ old.core → mid.table.current ≡ appended c bytes old.table.current
+      → LeadsBy M w (AreFor c) mid before new after
+      → LeadsBy M w (BeginsWith (Takes c bytes) (AreFor c)) old before new after
+  takes-lead c bytes old mid new before after core e k =
+      begins-lead M w (Takes c bytes) (AreFor c) (served_of old) (served_of mid) (served_of new) (emissions before) (emissions after)
+      (takes-so (ap unasked_in e ∙ unasked-taken c bytes old.table.current), refl) k
+    where
+      takes-so : unasked_in mid.table.current ≡ taken c bytes (unasked_in old.table.current)
+          → served_of mid ≡ record (served_of old) { unasked = taken c bytes (unasked_in old.table.current) }
+      takes-so same = λ i. record { core = core i; unasked = same i }
+
+  pub steps-lead : (a : Act) (S : State) (P : List Act → Type 0) (old mid new : Engine R) (before after : List Output)
+      → (served_of mid ≡ record (served_of old) { core = stepped S old.core } → Does M w a (served_of old) [] (served_of mid))
+      → mid.core ≡ stepped S old.core → mid.table ≡ old.table
+      → LeadsBy M w P mid before new after
+      → LeadsBy M w (BeginsWith a P) old before new after
+  steps-lead a S P old mid new before after does core table k =
+      begins-lead M w a P (served_of old) (served_of mid) (served_of new) (emissions before) (emissions after)
+      (does (λ i. record { core = core i; unasked = unasked_in (table i).current })) k
+
+  -- a client closes its connection, or one that isn't open
+  pub close-lead : (b : Bool) (c : ℕ) (old new : Engine R) (before : List Output)
+      → (b ≡ true → IsShutting w c old new) → (b ≡ false → new ≡ old)
+      → LeadsBy M w (IsInOrder (H.Close c)) old before new before
+  close-lead true c old new before f h = leaves-lead c old new before (f refl)
+  close-lead false c old new before f h =
+      subst (λ (e : Engine R). LeadsBy M w (IsInOrder (H.Close c)) old before e before) (sym (h refl))
+      (leads-none M w (IsInOrder (H.Close c)) (served_of old) (emissions before) (inl refl))
+
+-- the core is as it was
+pub leads-core : (M : Terms) (w : When) (P : List Act → Type 0) (a : Served) (x y : List Emission)
+    (v u : CoreValue) (us : List Unasked) → u ≡ v
+    → Leads M w P a x (record { core = v; unasked = us }) y → Leads M w P a x (record { core = u; unasked = us }) y
+leads-core M w P a x y v u us e h =
+    subst (λ (z : CoreValue). Leads M w P a x (record { core = z; unasked = us }) y) (sym e) h
+
+pub shorter : (d : Outgoing) (xs ys : List Outgoing) → xs ≡ d ∷ ys → length ys < length xs
+shorter d xs ys e = rw e (more (length ys))
+  where
+    more : (n : ℕ) → n < suc n
+    more n = omega arith

@@ -1,0 +1,29 @@
+-- What the engine leads to is what the world does.
+use Rattle.std.proofs.Common.{◌≡◌, ℕ, List, [], sym, subst, refl}
+use Rattle.connection_table.specs.Inlets.{Inlet}
+use Rattle.linked_core.specs.Values.{CoreValue}
+use Rattle.linked_world.specs.declared.input.Input.{Input}
+use Rattle.linked_world.specs.Acts.{Terms}
+use Rattle.linked_world.specs.Emissions.{Emission}
+use Rattle.linked_world.specs.Leading.{Leads}
+use Rattle.linked_world.specs.Orders.{IsInOrder}
+use Rattle.linked_world.specs.Unasked.{unasked_in}
+use Rattle.linked_world.specs.Worlds.{WorldValue, Handles, served_in, counted}
+
+pub handled : (M : Terms) (i : Input) (old : WorldValue) (u : CoreValue) (ys zs : List Inlet) (t : ℕ)
+    (before out : List Emission)
+    → Leads M (record { moment = t; word = i.word }) (IsInOrder i.happening) (served_in old) before
+    (record { core = u; unasked = unasked_in ys }) out
+    → before ≡ [] → zs ≡ ys → t ≡ counted old.moment i.moment
+    → Handles M i old out (record { core = u; inlets = zs; rules = old.rules; moment = t })
+handled M i old u ys zs t before out l none same now = record {
+  acts =
+      subst (λ (x : ℕ). Leads M (record { moment = x; word = i.word }) (IsInOrder i.happening) (served_in old) []
+      (record { core = u; unasked = unasked_in zs }) out) now
+      (subst (λ (xs : List Inlet). Leads M (record { moment = t; word = i.word }) (IsInOrder i.happening) (served_in old) []
+      (record { core = u; unasked = unasked_in xs }) out) (sym same)
+      (subst (λ (b : List Emission). Leads M (record { moment = t; word = i.word }) (IsInOrder i.happening) (served_in old) b
+      (record { core = u; unasked = unasked_in ys }) out) none l));
+  rules = refl;
+  moment = now;
+}

@@ -1,0 +1,11 @@
+pub mod Acting
+pub mod Answering
+pub mod Asking
+pub mod Growth
+pub mod Lead
+pub mod Numbers
+pub mod Order
+pub mod Quiet
+pub mod ReadingOn
+pub mod Untaken
+pub mod Handling

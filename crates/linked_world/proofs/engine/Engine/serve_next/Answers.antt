@@ -1,0 +1,45 @@
+-- What is next is asked, or the client is told to go on, or nothing is asked.
+use Rattle.std.proofs.Common.{◌<◌, ◌≤◌, inr, refl, arith}
+use Rattle.http_edge.specs.Edges.{item}
+use Rattle.connection_table.specs.Inlets.{inlet_at}
+use Rattle.linked_world.specs.Engines.{work_in}
+use Rattle.linked_world.specs.Orders.{AreFor}
+use Rattle.linked_world.proofs.Acting.{goes-on-lead, stays-lead}
+use Rattle.linked_world.proofs.ReadingOn.{takes-item, asks-less, read-told, nothing-same, nothing-read}
+use Rattle.linked_world.proofs.engine.Engine.serve_next.Goals as goal
+
+pub returns-in_ok-ask-in-Request-clause-leads : goal.returns-in_ok-ask-in-Request-clause-leads
+returns-in_ok-ask-in-Request-clause-leads g c =
+    c.in_ok-ask-in-Request.ensures.leads c.args.self.now.table.current
+    (takes-item c.args.number (item c.in-Request.incoming) _ _ (rw (c.in-Request.is) at c.in_ok-incoming.ensures.reads))
+
+pub returns-in_ok-ask-in-Request-clause-goes_on : goal.returns-in_ok-ask-in-Request-clause-goes_on
+returns-in_ok-ask-in-Request-clause-goes_on g c =
+    let lt : work_in (inlet_at c.args.number c.next.new.self.current) < work_in (inlet_at c.args.number c.args.self.now.table.current) =
+    asks-less c.args.number (item c.in-Request.incoming) _ _ (rw (c.in-Request.is) at c.in_ok-incoming.ensures.reads) in
+    let le : work_in (inlet_at c.args.number c.ask.new.self.table.current) ≤ work_in (inlet_at c.args.number c.next.new.self.current) =
+    c.in_ok-ask-in-Request.ensures.less in
+    omega (arith, lt, le)
+
+pub returns-in_ok-tell_continue-in-Continue-clause-leads : goal.returns-in_ok-tell_continue-in-Continue-clause-leads
+returns-in_ok-tell_continue-in-Continue-clause-leads g c =
+    goes-on-lead _ _ c.args.number c.args.self.now (record c.args.self.now { table = c.next.new.self }) c.args.outputs.now.items
+    c.tell_continue.new.outputs.items (rw (c.in-Continue.is) at c.in_ok-incoming.ensures.reads) refl
+    c.in_ok-tell_continue-in-Continue.ensures
+
+pub returns-in_ok-tell_continue-in-Continue-clause-goes_on : goal.returns-in_ok-tell_continue-in-Continue-clause-goes_on
+returns-in_ok-tell_continue-in-Continue-clause-goes_on g c =
+    inr (read-told c.args.number c.args.self.now.table.current c.next.new.self.current
+    (rw (c.in-Continue.is) at c.in_ok-incoming.ensures.reads))
+
+pub returns-in-Nothing-clause-leads : goal.returns-in-Nothing-clause-leads
+returns-in-Nothing-clause-leads g c =
+    stays-lead _ _ (AreFor c.args.number) c.args.self.now (record c.args.self.now { table = c.next.new.self }) c.args.outputs.now.items
+    c.args.outputs.now.items tt refl
+    (nothing-same c.args.number c.args.self.now.table.current c.next.new.self.current c.keeps.ensures.current.numbers
+    (rw (c.in-Nothing.is) at c.in_ok-incoming.ensures.reads)) refl
+
+pub returns-in-Nothing-clause-goes_on : goal.returns-in-Nothing-clause-goes_on
+returns-in-Nothing-clause-goes_on g c =
+    inr (nothing-read c.args.number c.args.self.now.table.current c.next.new.self.current
+    (rw (c.in-Nothing.is) at c.in_ok-incoming.ensures.reads))

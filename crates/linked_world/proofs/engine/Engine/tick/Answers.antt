@@ -1,0 +1,25 @@
+-- Time goes on, and then what that leads to is given out.
+use Rattle.std.proofs.Common.{refl}
+use Rattle.core_steps.specs.Sealing.{ticks_in_room}
+use Rattle.linked_core.specs.Calls.{now}
+use Rattle.linked_world.specs.Acts.{Passes}
+use Rattle.linked_world.specs.Orders.{Delivers}
+use Rattle.linked_world.proofs.Acting.{then-ok, steps-lead}
+use Rattle.linked_world.proofs.Growth.{ticked-grows, back-by, back-then}
+use Rattle.linked_world.proofs.engine.Engine.tick.Goals as goal
+
+pub returns-clause-leads : goal.returns-clause-leads
+returns-clause-leads g c =
+    then-ok c.deliver.result _ _ c.deliver.ensures.leads
+    (λ delivers. steps-lead _ _ Passes
+    (ticks_in_room (now c.args.self.now.core.state.moment c.args.context.when.moment) c.args.self.now.core.state)
+    Delivers c.args.self.now (record c.args.self.now { core = c.tick.new.self }) c.deliver.new.self c.args.outputs.now.items
+    c.deliver.new.outputs.items (λ e. (e, refl)) c.in_ok-tick.ensures.ticks refl delivers)
+
+pub returns-clause-back : goal.returns-clause-back
+returns-clause-back g c =
+    back-then c.args.self.now (record c.args.self.now { core = c.tick.new.self }) c.deliver.new.self
+    (back-by c.args.self.now (record c.args.self.now { core = c.tick.new.self })
+    (ticked-grows (now c.args.self.now.core.state.moment c.args.context.when.moment) c.args.self.now.core c.tick.new.self
+    c.in_ok-tick.ensures.ticks) refl)
+    c.deliver.ensures.back

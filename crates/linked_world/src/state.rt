@@ -1,0 +1,31 @@
+//! What a proxy is.
+
+use crate::engine::Engine;
+use ask_model::Settings;
+use std::marker::Model;
+use std::sync::Arc;
+use transformers::Relation;
+
+/// A proxy with its history. Its type keeps that nothing is left which could be given out, and that
+/// its connections are marked as they are, so that an input can be taken back.
+#[derive(Drop)]
+pub struct World<R: Relation> {
+    pub(crate) settings: Arc<Settings>,
+    pub(crate) engine: Engine<R>,
+    pub(crate) moment: u64,
+}
+
+impl<R: Relation> Model for World<R> {
+    ghost use Rattle.std.specs.Prelude.{◌≤◌, ◌^◌};
+    ghost use Rattle.std.specs.Arc.{arc_value};
+    ghost use Rattle.ask_model.specs.Views.{rules_of};
+    ghost use Rattle.linked_world.specs.Engines.{IsReady};
+    ghost use Rattle.linked_world.specs.Leading.{IsDrained};
+    ghost use Rattle.linked_world.specs.Worlds.{WorldValue};
+
+    ghost Value = { WorldValue };
+
+    ghost view = { λ w. record { core = w.engine.core; inlets = w.engine.table.current; rules = rules_of (arc_value w.settings); moment = w.moment } };
+
+    ghost invariant = { λ w. IsReady w.engine × IsDrained w.engine.core × (w.moment ≤ 2 ^ 62) };
+}

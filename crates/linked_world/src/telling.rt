@@ -1,0 +1,61 @@
+//! What connections are told.
+
+ghost use Rattle.std.specs.Prelude.{[], ◌∷◌, ◌++◌, ◌≡◌, OnOk};
+ghost use Rattle.linked_core.specs.Answering.{given_of};
+ghost use Rattle.linked_world.specs.Acts.{continue_text};
+ghost use Rattle.linked_world.specs.Emissions.{emissions, Says, Closed, Turned};
+ghost use Rattle.linked_world.specs.Tellings.{TellsBytes};
+
+use crate::input::Output;
+use http_edge::{Memory, answer_bytes};
+use http_mapping::render;
+use linked_core::Answer;
+use std::alloc::Global;
+use transformers::Relation;
+
+/// What a client that waits with its body is told (RFC 9110 section 10.1.1).
+const CONTINUE: &str = "HTTP/1.1 100 Continue\r\n\r\n";
+
+/// Tells a client that waits with its body to go on.
+pub fn tell_continue(alloc: Global, number: u32, outputs: &mut Vec<Output>) -> Result<(), Memory>
+    ensures { OnOk result
+        (emissions outputs.new.items ≡ emissions outputs.old.items ++ Says number continue_text ∷ []) }
+{
+    let bytes = Vec::from_slice(alloc, CONTINUE.as_bytes())?;
+    outputs.push(Output::Bytes(number, bytes))?;
+    Ok(())
+}
+
+/// Tells the connection an answer.
+pub fn tell_answer<R: Relation>(
+    alloc: Global,
+    answer: &Answer<R>,
+    outputs: &mut Vec<Output>,
+) -> Result<(), Memory>
+    ensures { OnOk result
+        (TellsBytes (given_of answer.now) (emissions outputs.old.items) (emissions outputs.new.items)) }
+{
+    let age = answer.moment.saturating_sub(answer.heard);
+    let response = render(alloc, &answer.mapped, &answer.finding, age)?;
+    let bytes = answer_bytes(alloc, &response)?;
+    outputs.push(Output::Bytes(answer.conn, bytes))?;
+    Ok(())
+}
+
+/// Tells that the proxy closes the connection.
+pub fn tell_closed(number: u32, outputs: &mut Vec<Output>) -> Result<(), Memory>
+    ensures { OnOk result
+        (emissions outputs.new.items ≡ emissions outputs.old.items ++ Closed number ∷ []) }
+{
+    outputs.push(Output::Closed(number))?;
+    Ok(())
+}
+
+/// Tells that a client is turned away.
+pub fn tell_turned(outputs: &mut Vec<Output>) -> Result<(), Memory>
+    ensures { OnOk result
+        (emissions outputs.new.items ≡ emissions outputs.old.items ++ Turned ∷ []) }
+{
+    outputs.push(Output::Turned)?;
+    Ok(())
+}

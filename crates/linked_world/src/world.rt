@@ -1,0 +1,108 @@
+//! The proxy as one value: inputs in, outputs out.
+
+ghost use Rattle.std.specs.Prelude.{◌≡◌, ◌↔◌, true, IfOk, OnErr, IsErrOf};
+ghost use Rattle.whole_history.specs.Justified.{Stands};
+ghost use Rattle.ask_model.specs.Views.{rules_of};
+ghost use Rattle.linked_world.specs.Emissions.{emissions};
+ghost use Rattle.linked_world.specs.Leading.{IsDrained};
+
+use crate::engine::{Context, Engine};
+use crate::fault::WorldFault;
+use crate::input::{Happening, Input, Output, When};
+use crate::state::World;
+use ask_model::Settings;
+use connection_table::Table;
+use http_edge::Memory;
+use journal_book::Journal;
+use linked_core::Core;
+use std::alloc::Global;
+use std::sync::Arc;
+use transformers::Relation;
+
+/// The last moment: later ones count as this one.
+const LAST_MOMENT: u64 = 1 << 62;
+
+impl<R: Relation> World<R> {
+    ghost use Rattle.linked_world.specs.Worlds.{Handles, is_too_much, new_world, terms_of};
+
+    /// A proxy to which nothing has happened.
+    pub fn new(alloc: Global, settings: Settings) -> Result<World<R>, Memory>
+        ensures { IfOk result (λ w. w ≡ new_world (rules_of settings)) }
+    {
+        let settings = Arc::new(alloc, settings)?;
+        let engine = Engine {
+            alloc,
+            core: Core::new(alloc)?,
+            table: Table::new(alloc),
+        };
+        Ok(World {
+            settings,
+            engine,
+            moment: 0,
+        })
+    }
+
+    /// What happened. One reading of it is legal and at rest.
+    pub fn journal(&self) -> &Journal<R>
+        ensures entries { result.now.entries ≡ self.now.core.state.entries }
+        ensures stands { Stands self.now.core.state.entries }
+    {
+        self.engine.core.journal()
+    }
+
+    /// The moment of the last input, in milliseconds: it never falls, and is at most 2^62.
+    pub fn moment(&self) -> u64
+        ensures { result ≡ self.now.moment }
+    {
+        self.moment
+    }
+
+    /// Takes an input and gives out what it leads to. An input for a connection that isn't open gives
+    /// nothing. One that is refused changes nothing, and can be given again.
+    pub fn input(&mut self, input: Input<'_>) -> Result<Vec<Output>, WorldFault>
+        ensures handles { IfOk result (λ outputs. Handles (terms_of R.holds R.takes self.old.rules)
+            input.entry self.old (emissions outputs.items) self.new) }
+        ensures unchanged { OnErr result (self.new ≡ self.old) }
+        ensures full { is_too_much input.entry.happening self.old.inlets ≡ true
+            ↔ IsErrOf result WorldFault.Backlog }
+        ensures drained { IsDrained self.new.core }
+    {
+        if self.is_too_much(input.happening) {
+            return Err(WorldFault::Backlog);
+        }
+        let moment = self.moment.max(input.moment.min(LAST_MOMENT));
+        let context = Context {
+            when: When {
+                moment,
+                word: input.word,
+            },
+            settings: &self.settings,
+        };
+        let before = self.engine.core.snapshot()?;
+        let mut outputs = Vec::new(self.engine.alloc);
+        match self.engine.step(context, input.happening, &mut outputs) {
+            Ok(()) => {
+                self.engine.table.mark();
+                self.moment = moment;
+                Ok(outputs)
+            }
+            Err(Memory) => {
+                self.engine.core.restore(before);
+                self.engine.table.back();
+                Err(WorldFault::Memory)
+            }
+        }
+    }
+
+    /// Whether more bytes come of a connection than may wait unread.
+    fn is_too_much(&self, happening: Happening<'_>) -> bool
+        ensures { result ≡ is_too_much happening.entry self.now.inlets }
+    {
+        match happening {
+            Happening::Bytes(number, bytes) => {
+                self.engine.table.passes_limit(number, bytes.len())
+            }
+            _ => false,
+        }
+    }
+}
