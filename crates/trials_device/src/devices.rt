@@ -81,16 +81,3 @@ pub fn is_quiet<H: Behaviour>(origin: &mut Origin<H>) -> bool
 {
     origin.take_send().is_none()
 }
-
-/// Gives the device that datagram from so many ports, from 0 on, and answers whether each was answered.
-pub fn register<H: Behaviour>(origin: &mut Origin<H>, count: u16, datagram: &[u8]) -> bool
-    requires { Sound H.holds origin.old }
-    ensures { Sound H.holds origin.new }
-{
-    'each: for port in 0..count {
-        if told(origin, 0, peer(port), datagram) != Did::Nothing || is_quiet(origin) {
-            return false;
-        }
-    }
-    true
-}

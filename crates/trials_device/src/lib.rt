@@ -9,8 +9,6 @@ mod devices;
 #[cfg(test)]
 mod exchanges;
 #[cfg(test)]
-mod observers;
-#[cfg(test)]
 mod pieces;
 #[cfg(test)]
 mod refusals;
