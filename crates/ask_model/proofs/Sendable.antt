@@ -17,7 +17,7 @@ use Rattle.ask_model.specs.declared.cause.Cause.{Cause}
 use Rattle.ask_model.specs.declared.meaning.Meaning.{Meaning}
 use Rattle.ask_model.specs.Requests.{Came, Whole, Bad, Sense, Requests, Refuses}
 use Rattle.ask_model.specs.Views.{Rules, body_of, sense_of}
-use Rattle.ask_model.specs.Maps.{Maps, MapsMethod, MapsWrite, MapsTarget, MapsPeer, MapsBody, Becomes, Untyped, Untypable, typing_of, carried, is_conditional, is_refused_write}
+use Rattle.ask_model.specs.Maps.{Maps, MapsMethod, MapsWrite, MapsTarget, MapsPeer, MapsBody, Becomes, Typing, Untyped, Typed, Routed, Untypable, typing_of, carried, is_conditional, is_refused_write}
 use Rattle.ask_model.specs.Datagrams.{IsSendable}
 use Rattle.ask_model.proofs.Codes.{code_is_not_zero}
 
@@ -29,22 +29,19 @@ carried_short : (m : Method) (r : HttpRequest) → is_refused_write m r ≡ fals
 carried_short m r e = ltb-false 1024 (length (carried m r.body)) (or_parts (writes m && is_conditional r) (nat_lt 1024 (length (carried m r.body))) e).1
 
 module _ (holds : Form → Form → List ℕ → List ℕ → Type 0) (takes : Form → Form → List ℕ → Type 0) where
-  untyped_same : (b : Bool) (body : List ℕ) (format : Option ℕ) (payload : List ℕ) → Becomes holds takes (if b then Untypable else Untyped) body format payload → payload ≡ body
-  untyped_same true body format payload h = absurd h
-  untyped_same false body format payload h = h.1
-
-  becomes_same : (s : Rules) (r : HttpRequest) (body : List ℕ) (format : Option ℕ) (payload : List ℕ) → Becomes holds takes (typing_of s r body) body format payload → payload ≡ body
-  becomes_same s r [] format payload h = h.1
-  becomes_same s r (b ∷ body) format payload h = untyped_same _ (b ∷ body) format payload h
+  -- what a body of one piece becomes goes in one piece
+  becomes_short : (typing : Typing) (body : List ℕ) (format : Option ℕ) (payload : List ℕ) → length body ≤ 1024 → Becomes holds takes typing body format payload → length payload ≤ 1024
+  becomes_short Untyped body format payload short h = omega (arith, ap length h.1, short)
+  becomes_short (Typed n) body format payload short h = omega (arith, ap length h.1, short)
+  becomes_short (Routed from n) body format payload short h = h.2
+  becomes_short Untypable body format payload short h = absurd h
 
   by_body : (s : Rules) (r : HttpRequest) (m : Method) (t : Target) (p : Peer) (sense : Sense) → is_refused_write m r ≡ false → fits (uri_options t) ≡ true → MapsBody holds takes s r m t p sense → IsSendable sense
   by_body s r m t p (Requests q) short within h =
-      let same = becomes_same s r (carried m r.body) q.format q.body h.3 in
-      let len = carried_short m r short in
       record {
         code = λ zero. code_is_not_zero m (sym h.0 ∙ zero);
         target = ap (λ u. fits (uri_options u)) h.1 ∙ within;
-        body = omega (arith, ap length same, len);
+        body = becomes_short (typing_of s r (carried m r.body)) (carried m r.body) q.format q.body (carried_short m r short) h.3;
       }
   by_body s r m t p (Refuses cause status) short within h = tt
 

@@ -32,11 +32,6 @@ pub data Sense : Type 0 where
   Requests : (q : CoapRequest) → Sense
   Refuses : (cause : Cause) → (status : ℕ) → Sense
 
--- a request that came in, and its meaning
-pub record Ask : Type 0 where
-  pub came : Came
-  pub sense : Sense
-
 -- one endpoint (RFC 7252 section 1.2): the same address and port
 abbrev pub same_address : IpAddr → IpAddr → Bool
 same_address (V4 a) (V4 b) = bytes_eq a.octets b.octets

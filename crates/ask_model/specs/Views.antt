@@ -2,6 +2,7 @@
 use Rattle.std.specs.Prelude.{ℕ, List, []}
 use Rattle.uri_map.specs.Peers.{Lines}
 use Rattle.media_map.specs.declared.form.Form.{Form}
+use Rattle.media_map.specs.declared.policy.Policy.{Policy}
 use Rattle.code_map.specs.Methods.{request_code}
 use Rattle.code_map.specs.Statuses.{number_of}
 use Rattle.http_edge.specs.declared.request.Incoming.{Incoming}
@@ -38,12 +39,19 @@ pub record Rules : Type 0 where
   pub base : List ℕ
   pub directory : Lines
   pub observed : List (List ℕ)
+  pub policy : Policy
   pub routes : List (Form × Form)
 
 abbrev pub rules_of : Settings → Rules
-rules_of s = record { base = s.base; directory = s.directory; observed = s.observed; routes = s.routes }
+rules_of s = record { base = s.base; directory = s.directory; observed = s.observed; policy = s.policy; routes = s.routes }
 
--- a request with its meaning, and the rules by which that is its mapping
+-- a request that came in, its meaning, and the rules by which that is its mapping
+pub record Ask : Type 0 where
+  pub came : Came
+  pub sense : Sense
+  pub rules : Rules
+
+-- the same, where it isn't asked yet
 pub record Mapping : Type 0 where
   pub came : Came
   pub sense : Sense

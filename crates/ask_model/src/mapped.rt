@@ -1,9 +1,9 @@
 //! A request with its meaning.
 
-ghost use Rattle.std.specs.Prelude.{◌≡◌, ◌≤◌, length, IfOk, IfSome};
+ghost use Rattle.std.specs.Prelude.{◌≡◌, ◌≤◌, length, option_map, IfOk, IfSome};
 ghost use Rattle.std.specs.Arc.{arc_value};
 ghost use Rattle.ask_model.specs.Views.{came_of, body_of, sense_of, rules_of};
-ghost use Rattle.ask_model.specs.Maps.{Maps};
+ghost use Rattle.ask_model.specs.Maps.{Maps, wanted_of};
 ghost use Rattle.ask_model.specs.Sizes.{came_size, request_limit};
 ghost use Rattle.ask_model.specs.Datagrams.{IsSentFor, asked_peer};
 
@@ -13,18 +13,20 @@ use crate::request::{MAX_REQUEST_LEN, body_in, datagram_of};
 use crate::settings::Settings;
 use coap_codec::Token;
 use http_edge::Incoming;
+use media_map::Wanted;
 use std::alloc::{AllocError, Global};
 use std::marker::{Model, PhantomData};
 use std::sync::Arc;
 use transformers::Relation;
 use uri_map::Peer;
 
-/// A request with its meaning. Its type keeps that the meaning is the request's mapping under the
-/// settings, and that the request counts at most 2 MiB.
+/// A request with its meaning, and with what is wanted of its answer. Its type keeps that these are the
+/// request's mapping under the settings, and that the request counts at most 2 MiB.
 #[derive(Drop)]
 pub struct Mapped<R: Relation> {
     came: Incoming,
     meaning: Meaning,
+    wanted: Option<Wanted>,
     settings: Arc<Settings>,
     relation: PhantomData<R>,
 }
@@ -36,19 +38,25 @@ impl<R: Relation> Model for Mapped<R> {
 
     ghost use Rattle.std.specs.Arc.{arc_value};
     ghost use Rattle.ask_model.specs.Views.{came_of, body_of, sense_of, rules_of};
-    ghost use Rattle.ask_model.specs.Maps.{Maps};
+    ghost use Rattle.ask_model.specs.Maps.{Maps, wanted_of};
     ghost use Rattle.ask_model.specs.Sizes.{came_size, request_limit};
-    ghost use Rattle.std.specs.Prelude.{◌≤◌};
+    ghost use Rattle.std.specs.Prelude.{◌≡◌, ◌≤◌};
 
     ghost view = { λ m. record { came = came_of m.came; sense = sense_of m.meaning (body_of (came_of m.came)); rules = rules_of (arc_value m.settings) } };
 
-    ghost invariant = { λ m. Maps R.holds R.takes (rules_of (arc_value m.settings)) (came_of m.came) (sense_of m.meaning (body_of (came_of m.came))) × (came_size (came_of m.came) ≤ request_limit) };
+    ghost invariant = { λ m. Maps R.holds R.takes (rules_of (arc_value m.settings)) (came_of m.came) (sense_of m.meaning (body_of (came_of m.came))) × (m.wanted ≡ wanted_of (rules_of (arc_value m.settings)) (came_of m.came) (sense_of m.meaning (body_of (came_of m.came)))) × (came_size (came_of m.came) ≤ request_limit) };
 }
 
 impl<R: Relation> Mapped<R> {
-    /// The request with this meaning.
-    pub fn new(came: Incoming, meaning: Meaning, settings: Arc<Settings>) -> Mapped<R>
+    /// The request with this meaning, of whose answer this is wanted.
+    pub fn new(
+        came: Incoming,
+        meaning: Meaning,
+        wanted: Option<Wanted>,
+        settings: Arc<Settings>,
+    ) -> Mapped<R>
         requires maps { Maps R.holds R.takes (rules_of (arc_value settings)) (came_of came) (sense_of meaning (body_of (came_of came))) }
+        requires wanted { wanted ≡ wanted_of (rules_of (arc_value settings)) (came_of came) (sense_of meaning (body_of (came_of came))) }
         requires small { came_size (came_of came) ≤ request_limit }
         ensures came { result.came ≡ came_of came }
         ensures sense { result.sense ≡ sense_of meaning (body_of (came_of came)) }
@@ -57,6 +65,7 @@ impl<R: Relation> Mapped<R> {
         Mapped {
             came,
             meaning,
+            wanted,
             settings,
             relation: PhantomData,
         }
@@ -76,6 +85,14 @@ impl<R: Relation> Mapped<R> {
         ensures maps { Maps R.holds R.takes self.now.rules self.now.came self.now.sense }
     {
         &self.meaning
+    }
+
+    /// What is wanted of its answer: a format, and the media type that the client gets. None where the
+    /// request is refused, and where it takes any.
+    pub fn wanted(&self) -> Option<&Wanted>
+        ensures { option_map (λ w. w.now) result ≡ wanted_of self.now.rules self.now.came self.now.sense }
+    {
+        self.wanted.as_ref()
     }
 
     /// The settings that it was mapped under.

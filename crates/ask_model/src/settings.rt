@@ -1,6 +1,6 @@
 //! The rules that requests are mapped by.
 
-use media_map::Routes;
+use media_map::{Policy, Routes};
 use uri_map::{Directory, Text, Texts};
 
 /// The rules that requests are mapped by.
@@ -12,6 +12,8 @@ pub struct Settings {
     pub directory: Directory,
     /// the names of servers whose resources may be observed (RFC 7641)
     pub observed: Texts,
+    /// how far media types that CoAP doesn't know are taken (RFC 8075 section 6)
+    pub policy: Policy,
     /// between which forms bodies are transformed
     pub routes: Routes,
 }

@@ -1,3 +1,5 @@
 pub mod Limits
 pub mod Located
 pub mod Means
+pub mod Showings
+pub mod Typings

@@ -1,5 +1,6 @@
 -- Which HTTP response tells an answer (RFC 8075, sections 6 and 7).
-use Rattle.std.specs.Prelude.{◌≡◌, ◌≢◌, ℕ, ◌-◌, ◌*◌, ◌/◌, Bool, true, false, not, ◌&&◌, ◌==◌, nat_le, List, [], ◌∷◌, ◌++◌, length, map, Option, Some, None, unwrap_or, codes, decimal, if◌then◌else◌}
+use Rattle.std.specs.Prelude.{◌≡◌, ◌≢◌, ◌⊎◌, ℕ, ◌-◌, ◌*◌, ◌/◌, ◌<◌, Bool, true, false, not, ◌&&◌, ◌==◌, nat_le, List, [], ◌∷◌, ◌++◌, length, map, Option, Some, None, unwrap_or, slice_get, codes, decimal, if◌then◌else◌}
+use Rattle.std.specs.List.{Contains}
 use Rattle.std.specs.Str.{is_utf8}
 use Rattle.hex.specs.Hex.{encode_lower}
 use Rattle.http_edge.specs.Answers.{body_bytes}
@@ -12,13 +13,16 @@ use Rattle.code_map.specs.declared.status.Status.{Status}
 use Rattle.code_map.specs.declared.status.Status.TheVariants.{MethodNotAllowed}
 use Rattle.code_map.specs.Statuses.{number_of, phrase_of}
 use Rattle.code_map.specs.Codes.{status_of}
+use Rattle.media_map.specs.declared.form.Form.{Form}
+use Rattle.media_map.specs.declared.form.Form.TheVariants.{Format, Media}
 use Rattle.media_map.specs.Formats.{media_text}
 use Rattle.ask_model.specs.declared.cause.Cause.{Cause}
-use Rattle.ask_model.specs.declared.cause.Cause.TheVariants.{Busy, Timeout}
+use Rattle.ask_model.specs.declared.cause.Cause.TheVariants.{Busy, Timeout, NotUnderstood}
 use Rattle.ask_model.specs.Causes.{cause_text}
 use Rattle.ask_model.specs.Requests.{Came, Whole, Bad, Sense, Requests, Refuses}
 use Rattle.ask_model.specs.Views.{Mapping}
-use Rattle.journal_book.specs.Entries.{Grounds, Fault}
+use Rattle.ask_model.specs.Maps.{wanted_of}
+use Rattle.journal_book.specs.Entries.{Grounds, Live, Kept, Fault}
 use Rattle.history_laws.specs.Responses.{Response}
 use Rattle.datagram_verdict.specs.Findings.{Found, Told, Tells as TellsOf, Fails}
 use Rattle.http_mapping.specs.Located.{located}
@@ -117,15 +121,15 @@ is_head (Bad kind) = false
 abbrev pub status_for : Response → Status
 status_for w = status_of w.code (not (is_empty w.body))
 
--- The answer shows the response: its status by its code, each field by its rule, in this order, and its
--- body, but to a HEAD (RFC 9110, section 9.3.2).
-pub record Shows (mapping : Mapping) (w : Response) (age : ℕ) (a : HttpAnswer) : Type 0 where
+-- The answer shows the response with this Content-Type and body: its status by its code, each field by its
+-- rule, in this order, and the body, but to a HEAD (RFC 9110, section 9.3.2).
+pub record Shows (mapping : Mapping) (w : Response) (typing : Pairs) (body : List ℕ) (age : ℕ) (a : HttpAnswer) : Type 0 where
   pub status : a.status ≡ number_of (status_for w)
   pub phrase : a.phrase.now ≡ phrase_of (status_for w)
   pub fields : map pair_of a.fields.items
-      ≡ content_type w ++ caching mapping.came w age ++ value_if (codes "Location") (located mapping.rules mapping.sense w)
-      ++ retry_after w ++ connection mapping.came ++ content_length (status_for w) (length w.body)
-  pub body : body_bytes a.body ≡ (if is_head mapping.came then [] else w.body)
+      ≡ typing ++ caching mapping.came w age ++ value_if (codes "Location") (located mapping.rules mapping.sense w)
+      ++ retry_after w ++ connection mapping.came ++ content_length (status_for w) (length body)
+  pub shown : body_bytes a.body ≡ (if is_head mapping.came then [] else body)
 
 -- The status of an error of the proxy's own: of a refusal its own; 503 where the proxy is busy, 504 where
 -- no reply came in time, and else 502 (RFC 9110, section 15.6).
@@ -154,11 +158,49 @@ pub record Tells (mapping : Mapping) (cause : Cause) (number : ℕ) (a : HttpAns
       ++ connection mapping.came ++ content_length told 0
   pub body : body_bytes a.body ≡ []
 
-abbrev pub MeansTold : Mapping → Told → Grounds → ℕ → HttpAnswer → Type 0
-MeansTold mapping (TellsOf w) grounds age a = Shows mapping w age a
-MeansTold mapping (Fails cause) (Fault named number) age a = Tells mapping cause number a
-MeansTold mapping (Fails cause) grounds age a = ⊥
+-- The body of the response is to be transformed: it isn't empty, and one of the routes leads from its format
+-- to the media type that is wanted (RFC 8075, section 6.5).
+pub record IsRouted (routes : List (Form × Form)) (mapping : Mapping) (w : Response) (format : ℕ) (media : List ℕ) : Type 0 where
+  pub filled : is_empty w.body ≡ false
+  pub has_format : w.format ≡ Some format
+  pub accept : ℕ
+  pub wanted : wanted_of mapping.rules mapping.came mapping.sense ≡ Some (record { format = accept; media = media })
+  pub routed : Contains routes (Format format, Media media)
 
--- What an HTTP response says of what a request came to, where the first reply that this rests on is of that age.
-abbrev pub Means : Mapping → Found → ℕ → HttpAnswer → Type 0
-Means mapping found age a = MeansTold mapping found.told found.grounds age a
+-- the number of the last reply that a response rests on
+abbrev pub replies_of : Grounds → List ℕ
+replies_of (Live js) = js
+replies_of (Kept js) = js
+replies_of (Fault cause number) = []
+
+abbrev pub last_reply : Grounds → ℕ
+last_reply grounds = unwrap_or (slice_get (replies_of grounds) (length (replies_of grounds) - 1)) 0
+
+module _ (holds : Form → Form → List ℕ → List ℕ → Type 0) (takes : Form → Form → List ℕ → Type 0) where
+  -- No body can be made of it: its content isn't taken, or it is too large in the other form.
+  abbrev pub FailsTo : Form → Form → List ℕ → Type 0
+  FailsTo from to body =
+      (takes from to body → ⊥) ⊎ ((other : List ℕ) × holds from to body other × (65536 < length other))
+
+module _ (routes : List (Form × Form)) (holds : Form → Form → List ℕ → List ℕ → Type 0) (takes : Form → Form → List ℕ → Type 0) where
+  -- A response whose body is transformed is shown with the other body, under the media type that is wanted. One
+  -- whose body can't be is an error of the proxy's own, which names the last reply.
+  abbrev pub MeansRouted : Mapping → Response → ℕ → List ℕ → ℕ → ℕ → HttpAnswer → Type 0
+  MeansRouted mapping w format media last age a =
+      ((other : List ℕ) × holds (Format format) (Media media) w.body other
+      × Shows mapping w (only (codes "Content-Type") media) other age a)
+      ⊎ (FailsTo holds takes (Format format) (Media media) w.body × Tells mapping NotUnderstood last a)
+
+  abbrev pub MeansWhole : Mapping → Response → ℕ → ℕ → HttpAnswer → Type 0
+  MeansWhole mapping w last age a =
+      (((format : ℕ) (media : List ℕ) → IsRouted routes mapping w format media → ⊥) × Shows mapping w (content_type w) w.body age a)
+      ⊎ ((format : ℕ) × (media : List ℕ) × IsRouted routes mapping w format media × MeansRouted mapping w format media last age a)
+
+  abbrev pub MeansTold : Mapping → Told → Grounds → ℕ → HttpAnswer → Type 0
+  MeansTold mapping (TellsOf w) grounds age a = MeansWhole mapping w (last_reply grounds) age a
+  MeansTold mapping (Fails cause) (Fault named number) age a = Tells mapping cause number a
+  MeansTold mapping (Fails cause) grounds age a = ⊥
+
+  -- What an HTTP response says of what a request came to, where the first reply that this rests on is of that age.
+  abbrev pub Means : Mapping → Found → ℕ → HttpAnswer → Type 0
+  Means mapping found age a = MeansTold mapping found.told found.grounds age a

@@ -13,7 +13,7 @@ use ask_model::{Cause, Mapped};
 use code_map::{Method, Status, method_of};
 use datagram_verdict::Response;
 use http_edge::{Field, Incoming, Memory};
-use media_map::media_of;
+use media_map::{Media, media_of};
 use std::alloc::Global;
 use std::str;
 use transformers::Relation;
@@ -92,6 +92,13 @@ pub fn add_content_type(
         }
         None => Ok(()),
     }
+}
+
+/// The media type that a body was transformed to.
+pub fn add_media(alloc: Global, fields: &mut Vec<Field>, media: &Media) -> Result<(), Memory>
+    ensures { OnOk result (map pair_of fields.new.items ≡ map pair_of fields.old.items ++ only (codes "Content-Type") media.now) }
+{
+    add_text(alloc, fields, "Content-Type", media.as_str())
 }
 
 /// Whether the bytes are UTF-8.

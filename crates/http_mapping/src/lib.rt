@@ -2,13 +2,17 @@
 //!
 //! Its one contract: `map_request` gives a request the one meaning that `Maps` allows, and `render` an HTTP
 //! response that tells the answer as `Means` says, field by field. The proxy's inputs and outputs
-//! (`gateway_world`) stand on it.
+//! (`linked_world`) stand on it.
 #![tactic(auto)]
 
+mod applying;
 mod fields;
 mod location;
 mod mapping;
 mod rendering;
+mod sending;
+mod showing;
+mod typing;
 
 pub use fields::closes;
 pub use mapping::map_request;

@@ -1,6 +1,6 @@
 //! From an HTTP request to its meaning (RFC 8075, section 5).
 
-ghost use Rattle.std.specs.Prelude.{ℕ, List, ◌≡◌, IfOk, if◌then◌else◌};
+ghost use Rattle.std.specs.Prelude.{◌≡◌, None, option_map, IfOk};
 ghost use Rattle.std.specs.Arc.{arc_value};
 ghost use Rattle.uri_map.specs.Naming.{target_at};
 ghost use Rattle.uri_map.specs.Splitting.{origin_form};
@@ -10,37 +10,59 @@ ghost use Rattle.code_map.specs.Statuses.{number_of};
 ghost use Rattle.http_header.specs.Token.{lowercase};
 ghost use Rattle.http_edge.specs.Kinds.{status_of};
 ghost use Rattle.http_edge.specs.Requests.{content};
-ghost use Rattle.ask_model.specs.Views.{Rules, came_of, body_of, sense_of, rules_of, payload_of as payload_in};
-ghost use Rattle.ask_model.specs.Maps.{Maps, MapsMethod, MapsTarget, MapsPeer, MapsBody, has_field, is_conditional as conditional, is_refused_write as refused_write, carried, fault_status, typing_of, Untyped, Untypable};
+ghost use Rattle.transformers.specs.Suits.{Suits};
+ghost use Rattle.ask_model.specs.Requests.{Whole};
+ghost use Rattle.ask_model.specs.Views.{came_of, body_of, sense_of, rules_of};
+ghost use Rattle.ask_model.specs.Maps.{Maps, MapsMethod, MapsTarget, MapsPeer, MapsBody, wanted_of, has_field, is_conditional as conditional, is_refused_write as refused_write, carried, fault_status};
 ghost use Rattle.http_mapping.specs.Limits.{limited};
 
-use ask_model::{Cause, Mapped, Meaning, Payload, REQUEST_LIMIT, Settings, incoming_size};
+use crate::sending::{ONE_MESSAGE, Unsent, sending_of};
+use crate::typing::{typing_of, wanted_by};
+use ask_model::{Cause, Mapped, Meaning, REQUEST_LIMIT, Settings, incoming_size};
 use code_map::{Method, Status, method_of};
 use http_edge::{BadKind, Incoming, Memory, Request};
+use media_map::{MediaFault, Wanted};
 use std::alloc::Global;
 use std::sync::Arc;
-use transformers::Relation;
+use transformers::{Bank, Relation};
 use uri_map::{Peer, Target, UriFault, path_and_query, peer_of, target_of};
 
-/// The most bytes of a body that goes out in one message.
-const ONE_MESSAGE: usize = 1024;
+/// What a request means, and what is wanted of its answer.
+#[derive(Drop)]
+struct Meant {
+    meaning: Meaning,
+    wanted: Option<Wanted>,
+}
+
+/// A refusal, of whose answer nothing is wanted.
+fn refused(cause: Cause, status: Status) -> Meant
+    ensures meaning { result.meaning ≡ Meaning.Refuse cause status }
+    ensures wanted { result.wanted ≡ None }
+{
+    Meant {
+        meaning: Meaning::Refuse(cause, status),
+        wanted: None,
+    }
+}
 
 /// The meaning of what was read from a connection. A request of more than 2 MiB counts as too large
 /// (413); no reader of connections gives one. Of others the refusals are met in this order: method,
-/// conditional write, long body, target, peer, Content-Type.
+/// conditional write, long body, target, peer, Content-Type, what the body becomes, Accept.
 pub fn map_request<R: Relation>(
     alloc: Global,
     settings: &Arc<Settings>,
+    bank: &Bank<R>,
     came: Incoming,
 ) -> Result<Mapped<R>, Memory>
+    requires suits { Suits R.holds R.takes (rules_of (arc_value settings.now)).routes bank.now }
     ensures came { IfOk result (λ m. m.came ≡ limited (came_of came)) }
     ensures rules { IfOk result (λ m. m.rules ≡ rules_of (arc_value settings.now)) }
     ensures maps { IfOk result (λ m. Maps R.holds R.takes (rules_of (arc_value settings.now)) m.came m.sense) }
 {
     let came = within_limit(came);
-    let meaning = meaning_of::<R>(alloc, settings, &came)?;
+    let meant = meant_by(alloc, settings, bank, &came)?;
     let settings = Arc::try_clone(settings)?;
-    Ok(Mapped::new(came, meaning, settings))
+    Ok(Mapped::new(came, meant.meaning, meant.wanted, settings))
 }
 
 /// What came, where it isn't too large.
@@ -55,16 +77,19 @@ fn within_limit(came: Incoming) -> Incoming
 }
 
 /// The meaning of what was read.
-fn meaning_of<R: Relation>(
+fn meant_by<R: Relation>(
     alloc: Global,
     settings: &Settings,
+    bank: &Bank<R>,
     came: &Incoming,
-) -> Result<Meaning, Memory>
-    ensures { IfOk result (λ m. Maps R.holds R.takes (rules_of settings.now) (came_of came.now) (sense_of m (body_of (came_of came.now)))) }
+) -> Result<Meant, Memory>
+    requires suits { Suits R.holds R.takes settings.now.routes bank.now }
+    ensures maps { IfOk result (λ m. Maps R.holds R.takes (rules_of settings.now) (came_of came.now) (sense_of m.meaning (body_of (came_of came.now)))) }
+    ensures wants { IfOk result (λ m. m.wanted ≡ wanted_of (rules_of settings.now) (came_of came.now) (sense_of m.meaning (body_of (came_of came.now)))) }
 {
     match came {
-        Incoming::Bad(kind) => Ok(Meaning::Refuse(Cause::BadHttp, bad_status(*kind))),
-        Incoming::Request(request) => request_meaning::<R>(alloc, settings, request),
+        Incoming::Bad(kind) => Ok(refused(Cause::BadHttp, bad_status(*kind))),
+        Incoming::Request(request) => request_meant(alloc, settings, bank, request),
     }
 }
 
@@ -80,35 +105,41 @@ fn bad_status(kind: BadKind) -> Status
 }
 
 /// The meaning of a request.
-fn request_meaning<R: Relation>(
+fn request_meant<R: Relation>(
     alloc: Global,
     settings: &Settings,
+    bank: &Bank<R>,
     request: &Request,
-) -> Result<Meaning, Memory>
-    ensures { IfOk result (λ m. MapsMethod R.holds R.takes (rules_of settings.now) (content request.now) (method_named request.now.method.items) (sense_of m request.now.body.items)) }
+) -> Result<Meant, Memory>
+    requires suits { Suits R.holds R.takes settings.now.routes bank.now }
+    ensures maps { IfOk result (λ m. MapsMethod R.holds R.takes (rules_of settings.now) (content request.now) (method_named request.now.method.items) (sense_of m.meaning request.now.body.items)) }
+    ensures wants { IfOk result (λ m. m.wanted ≡ wanted_of (rules_of settings.now) (Whole (content request.now)) (sense_of m.meaning request.now.body.items)) }
 {
     match method_of(&request.method) {
         Some(method) if !is_refused_write(request, method) => {
-            target_meaning::<R>(alloc, settings, request, method)
+            target_meant(alloc, settings, bank, request, method)
         }
-        _ => Ok(Meaning::Refuse(Cause::Method, Status::NotImplemented)),
+        _ => Ok(refused(Cause::Method, Status::NotImplemented)),
     }
 }
 
 /// The meaning of a request whose method is mapped. A target in absolute form counts by its path and
 /// query.
-fn target_meaning<R: Relation>(
+fn target_meant<R: Relation>(
     alloc: Global,
     settings: &Settings,
+    bank: &Bank<R>,
     request: &Request,
     method: Method,
-) -> Result<Meaning, Memory>
-    ensures { IfOk result (λ m. MapsTarget R.holds R.takes (rules_of settings.now) (content request.now) method (target_at settings.now.base (origin_form request.now.target.items)) (sense_of m request.now.body.items)) }
+) -> Result<Meant, Memory>
+    requires suits { Suits R.holds R.takes settings.now.routes bank.now }
+    ensures maps { IfOk result (λ m. MapsTarget R.holds R.takes (rules_of settings.now) (content request.now) method (target_at settings.now.base (origin_form request.now.target.items)) (sense_of m.meaning request.now.body.items)) }
+    ensures wants { IfOk result (λ m. m.wanted ≡ wanted_of (rules_of settings.now) (Whole (content request.now)) (sense_of m.meaning request.now.body.items)) }
 {
     match target_of(alloc, settings.base.as_bytes(), named_text(request)) {
-        Ok(target) => Ok(peer_meaning::<R>(settings, request, method, target)),
+        Ok(target) => peer_meant(alloc, settings, bank, request, method, target),
         Err(UriFault::Memory) => Err(Memory),
-        Err(fault) => Ok(Meaning::Refuse(Cause::NoMap, target_status(fault))),
+        Err(fault) => Ok(refused(Cause::NoMap, target_status(fault))),
     }
 }
 
@@ -120,17 +151,21 @@ fn named_text(request: &Request) -> &[u8]
 }
 
 /// The meaning of a request for a target.
-fn peer_meaning<R: Relation>(
+fn peer_meant<R: Relation>(
+    alloc: Global,
     settings: &Settings,
+    bank: &Bank<R>,
     request: &Request,
     method: Method,
     target: Target,
-) -> Meaning
-    ensures { MapsPeer R.holds R.takes (rules_of settings.now) (content request.now) method target (peer_in settings.now.directory target) (sense_of result request.now.body.items) }
+) -> Result<Meant, Memory>
+    requires suits { Suits R.holds R.takes settings.now.routes bank.now }
+    ensures maps { IfOk result (λ m. MapsPeer R.holds R.takes (rules_of settings.now) (content request.now) method target (peer_in settings.now.directory target) (sense_of m.meaning request.now.body.items)) }
+    ensures wants { IfOk result (λ m. m.wanted ≡ wanted_of (rules_of settings.now) (Whole (content request.now)) (sense_of m.meaning request.now.body.items)) }
 {
     match peer_of(&settings.directory, &target) {
-        Some(peer) => body_meaning::<R>(request, method, target, peer),
-        None => Meaning::Refuse(Cause::NoMap, Status::NotImplemented),
+        Some(peer) => body_meant(alloc, settings, bank, request, method, target, peer),
+        None => Ok(refused(Cause::NoMap, Status::NotImplemented)),
     }
 }
 
@@ -147,35 +182,51 @@ fn target_status(fault: UriFault) -> Status
 }
 
 /// The meaning of a request for a target that a peer serves.
-fn body_meaning<R: Relation>(
+fn body_meant<R: Relation>(
+    alloc: Global,
+    settings: &Settings,
+    bank: &Bank<R>,
     request: &Request,
     method: Method,
     target: Target,
     peer: Peer,
-) -> Meaning
-    ensures { (s : Rules) → MapsBody R.holds R.takes s (content request.now) method target peer (sense_of result request.now.body.items) }
+) -> Result<Meant, Memory>
+    requires suits { Suits R.holds R.takes settings.now.routes bank.now }
+    ensures maps { IfOk result (λ m. MapsBody R.holds R.takes (rules_of settings.now) (content request.now) method target peer (sense_of m.meaning request.now.body.items)) }
+    ensures wants { IfOk result (λ m. m.wanted ≡ wanted_of (rules_of settings.now) (Whole (content request.now)) (sense_of m.meaning request.now.body.items)) }
 {
-    if is_typed(request, method) {
-        return Meaning::Refuse(Cause::Media, Status::UnsupportedMediaType);
-    }
-    Meaning::Ask {
-        method,
-        target,
-        peer,
-        accept: None,
-        format: None,
-        payload: payload_of(method),
-    }
+    let body = carried_body(request, method);
+    let typing = typing_of(request, settings, body);
+    let sending = match sending_of(bank, typing, method, body) {
+        Ok(sending) => sending,
+        Err(Unsent::Type) => return Ok(refused(Cause::Media, Status::UnsupportedMediaType)),
+        Err(Unsent::Content) => return Ok(refused(Cause::Media, Status::BadRequest)),
+        Err(Unsent::Long) => return Ok(refused(Cause::Method, Status::NotImplemented)),
+        Err(Unsent::Memory) => return Err(Memory),
+    };
+    let wanted = match wanted_by(alloc, request, settings) {
+        Ok(wanted) => wanted,
+        Err(MediaFault::Memory) => return Err(Memory),
+        Err(_) => return Ok(refused(Cause::Media, Status::NotAcceptable)),
+    };
+    Ok(Meant {
+        meaning: Meaning::Ask {
+            method,
+            target,
+            peer,
+            accept: format_wanted(&wanted),
+            format: sending.format,
+            payload: sending.payload,
+        },
+        wanted,
+    })
 }
 
-/// What goes to the server of a request's body: that of a POST or PUT, and none of other methods.
-fn payload_of(method: Method) -> Payload
-    ensures { (body : List ℕ) → payload_in result body ≡ carried method body }
+/// The format that is asked for.
+fn format_wanted(wanted: &Option<Wanted>) -> Option<u16>
+    ensures { result ≡ option_map (λ w. w.format) wanted.now }
 {
-    match method {
-        Method::Post | Method::Put => Payload::Same,
-        Method::Get | Method::Head | Method::Delete => Payload::Empty,
-    }
+    wanted.as_ref().map(|wanted| wanted.format)
 }
 
 /// The body that goes to the server.
@@ -210,14 +261,4 @@ fn has(request: &Request, name: &'static str) -> bool
     ensures { result ≡ has_field name.now (content request.now) }
 {
     request.fields.contains_key(name)
-}
-
-/// Whether a body goes out under a media type.
-fn is_typed(request: &Request, method: Method) -> bool
-    ensures { (s : Rules) → typing_of s (content request.now) (carried method request.now.body.items) ≡ (if result then Untypable else Untyped) }
-{
-    if carried_body(request, method).is_empty() {
-        return false;
-    }
-    has(request, "content-type")
 }

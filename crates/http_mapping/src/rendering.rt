@@ -1,39 +1,60 @@
 //! From an answer to the HTTP response that tells it (RFC 8075, sections 6 and 7).
 
-ghost use Rattle.std.specs.Prelude.{ℕ, List, ◌≡◌, ◌<◌, ◌-◌, [], IfOk, if◌then◌else◌};
+ghost use Rattle.std.specs.Prelude.{ℕ, List, ◌≡◌, ◌<◌, [], map, IfOk, if◌then◌else◌};
 ghost use Rattle.http_edge.specs.Answers.{body_bytes};
 ghost use Rattle.ask_model.specs.Views.{came_of, sense_of};
 ghost use Rattle.journal_book.specs.Entries.{Fault};
 ghost use Rattle.ask_model.specs.declared.cause.Cause.{Cause as Causes};
 ghost use Rattle.datagram_verdict.specs.Findings.{response_of, Fits, Fails};
-ghost use Rattle.http_mapping.specs.Means.{Means, Shows, Tells, IsOwn, is_head as head, told_status, failure_status as failed};
+ghost use Rattle.transformers.specs.Keeps.{AllKeep, pair_of as forms_of};
+ghost use Rattle.http_mapping.specs.Means.{Means, MeansWhole, Shows, Tells, IsOwn, pair_of, last_reply as last_in, is_head as head, told_status, failure_status as failed};
 
 use crate::fields::{
     add_caching, add_cause, add_connection, add_content_length, add_content_type, add_location,
-    add_retry_after,
+    add_media, add_retry_after,
 };
+use crate::showing::{Showing, showing_of};
 use ask_model::{Cause, Mapped, Meaning};
 use code_map::{Method, Status, method_of, phrase_of, status_of};
 use datagram_verdict::{Finding, Outcome, Response};
-use http_edge::{Body, HttpAnswer, Incoming, Memory};
+use http_edge::{Body, Field, HttpAnswer, Incoming, Memory};
 use journal_book::Grounds;
 use std::alloc::Global;
-use transformers::Relation;
+use transformers::{Bank, Relation};
 
 /// The HTTP response that tells what a request came to, where the first reply that this rests on was heard
-/// `age` milliseconds ago. An answer to HEAD has no body, and the Content-Length of the one to GET.
+/// `age` milliseconds ago. A body that isn't empty is transformed where the bank has a transformer from its format
+/// to the media type that is wanted; one that can't be gives 502. An answer to HEAD has no body, and the Content-Length
+/// of the one to GET.
 pub fn render<R: Relation>(
     alloc: Global,
+    bank: &Bank<R>,
     mapped: &Mapped<R>,
     finding: &Finding,
     age: u64,
 ) -> Result<HttpAnswer, Memory>
-    ensures means { IfOk result (λ a. Means mapped.now finding.now age a) }
+    requires keep { AllKeep R.holds R.takes bank.now.stored.items }
+    ensures means { IfOk result (λ a. Means (map forms_of bank.now.stored.items) R.holds R.takes mapped.now finding.now age a) }
     ensures digits { IfOk result (λ a. a.status < 1000) }
 {
     match finding.outcome() {
-        Outcome::Whole(response) => show(alloc, mapped, response, age),
+        Outcome::Whole(response) => {
+            show_whole(alloc, bank, mapped, response, last_reply(finding), age)
+        }
         Outcome::Fault(cause) => tell(alloc, mapped, *cause, number_named(finding)),
+    }
+}
+
+/// The number of the last reply that a response rests on; 0 where it rests on none.
+fn last_reply(finding: &Finding) -> u32
+    ensures { result ≡ last_in finding.now.grounds }
+{
+    match finding.grounds() {
+        Grounds::Live(numbers) | Grounds::Kept(numbers) => {
+            let numbers = numbers.as_slice();
+            numbers.last().copied().unwrap_or(0)
+        }
+        Grounds::Fault(_, _) => 0,
     }
 }
 
@@ -92,20 +113,55 @@ fn failure_status(cause: Cause) -> Status
     }
 }
 
-/// The answer that shows a response of that age, in milliseconds.
+/// The answer that shows a response of that age, in milliseconds, with its body as it is or transformed.
+fn show_whole<R: Relation>(
+    alloc: Global,
+    bank: &Bank<R>,
+    mapped: &Mapped<R>,
+    response: &Response,
+    last: u32,
+    age: u64,
+) -> Result<HttpAnswer, Memory>
+    requires keep { AllKeep R.holds R.takes bank.now.stored.items }
+    ensures means { IfOk result (λ a. MeansWhole (map forms_of bank.now.stored.items) R.holds R.takes mapped.now (response_of response.now) last age a) }
+    ensures digits { IfOk result (λ a. a.status < 1000) }
+{
+    match showing_of(bank, mapped, response)? {
+        Showing::Same => {
+            let mut fields = Vec::new(alloc);
+            add_content_type(alloc, &mut fields, response)?;
+            show(
+                alloc,
+                mapped,
+                response,
+                fields,
+                response.body.as_slice(),
+                age,
+            )
+        }
+        Showing::Other(media, body) => {
+            let mut fields = Vec::new(alloc);
+            add_media(alloc, &mut fields, media)?;
+            show(alloc, mapped, response, fields, body.as_slice(), age)
+        }
+        Showing::Failed => tell(alloc, mapped, Cause::NotUnderstood, last),
+    }
+}
+
+/// The answer that shows a response of that age with this body, of which the fields tell the type.
 fn show<R: Relation>(
     alloc: Global,
     mapped: &Mapped<R>,
     response: &Response,
+    fields: Vec<Field>,
+    body: &[u8],
     age: u64,
 ) -> Result<HttpAnswer, Memory>
-    ensures shows { IfOk result (λ a. Shows mapped.now (response_of response.now) age a) }
+    ensures shows { IfOk result (λ a. Shows mapped.now (response_of response.now) (map pair_of fields.items) body.now age a) }
     ensures digits { IfOk result (λ a. a.status < 1000) }
 {
-    let body = response.body.as_slice();
-    let status = status_of(response.code, !body.is_empty());
-    let mut fields = Vec::new(alloc);
-    add_content_type(alloc, &mut fields, response)?;
+    let status = status_of(response.code, !response.body.as_slice().is_empty());
+    let mut fields = fields;
     add_caching(alloc, &mut fields, mapped.came(), response, age)?;
     add_location(alloc, &mut fields, mapped, response)?;
     add_retry_after(alloc, &mut fields, response)?;

@@ -1,7 +1,7 @@
 -- An error of the proxy's own is told with its cause, and with the number that its grounds name.
 use Rattle.std.proofs.Common.{◌≡◌, sym}
-use Rattle.datagram_verdict.specs.Findings.{Fails}
-use Rattle.http_mapping.proofs.Faults.{tells_means}
+use Rattle.datagram_verdict.specs.Findings.{Fails, Tells, response_of}
+use Rattle.http_mapping.proofs.Faults.{tells_means, whole_means}
 use Rattle.http_mapping.proofs.rendering.render.Goals as goal
 
 pub returns-in-Fault-clause-means : goal.returns-in-Fault-clause-means
@@ -9,4 +9,11 @@ returns-in-Fault-clause-means g c =
     let f = c.args.finding.now in
     let told : f.told ≡ Fails c.in-Fault.cause = rw c.in-Fault.is at (sym c.outcome.ensures.told) in
     let grounds = c.number_named.ensures c.in-Fault.cause (rw told at c.outcome.ensures.fits) in
-    tells_means c.args.mapped.now f c.args.age c.in-Fault.cause c.number_named.result c.tell.result told grounds c.tell.ensures.tells
+    tells_means _ g.R.Relation.holds g.R.Relation.takes c.args.mapped.now f c.args.age c.in-Fault.cause c.number_named.result c.tell.result told grounds c.tell.ensures.tells
+
+pub returns-in-Whole-clause-means : goal.returns-in-Whole-clause-means
+returns-in-Whole-clause-means g c =
+    let f = c.args.finding.now in
+    let w = response_of c.in-Whole.response in
+    let told : f.told ≡ Tells w = rw c.in-Whole.is at (sym c.outcome.ensures.told) in
+    whole_means _ g.R.Relation.holds g.R.Relation.takes c.args.mapped.now f c.args.age w c.last_reply.result c.show_whole.result told c.last_reply.ensures c.show_whole.ensures.means
