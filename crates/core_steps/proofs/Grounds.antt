@@ -1,6 +1,7 @@
 -- What the answer to the ask of an exchange that has ended rests on.
 use Rattle.std.proofs.Common.{◌≡◌, ℕ, ◌⊎◌, inl, inr, List, Some, None, refl, ◌∙◌}
-use Rattle.ask_model.specs.Requests.{CoapRequest, Ask}
+use Rattle.ask_model.specs.Requests.{CoapRequest}
+use Rattle.ask_model.specs.Views.{Ask}
 use Rattle.ask_model.specs.declared.cause.Cause.TheVariants as C
 use Rattle.journal_book.specs.Entries.{Grounds, Live, Kept, Fault, Asks}
 use Rattle.history_laws.specs.Responses.{Response}

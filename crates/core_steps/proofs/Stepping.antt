@@ -9,7 +9,8 @@ use Rattle.std.proofs.lemmas.List.Sums.{length-filter}
 use Rattle.uri_map.specs.declared.peer.Peer.{Peer}
 use Rattle.ask_model.specs.declared.cause.Cause.{Cause}
 use Rattle.ask_model.specs.declared.cause.Cause.TheVariants as C
-use Rattle.ask_model.specs.Requests.{CoapRequest, Ask, Sense, Requests, Refuses, same_peer}
+use Rattle.ask_model.specs.Requests.{CoapRequest, Sense, Requests, Refuses, same_peer}
+use Rattle.ask_model.specs.Views.{Ask}
 use Rattle.ask_model.proofs.Endpoints.{same_peer-same}
 use Rattle.journal_book.specs.Entries.{Fault, Asks}
 use Rattle.history_laws.specs.Justified.{IsRefusal}

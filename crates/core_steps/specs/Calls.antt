@@ -7,7 +7,8 @@ use Rattle.coap_codec.specs.declared.fault.CodecFault.{CodecFault}
 use Rattle.uri_map.specs.declared.peer.Peer.{Peer}
 use Rattle.ask_model.specs.declared.cause.Cause.{Cause}
 use Rattle.ask_model.specs.declared.cause.Cause.TheVariants as C
-use Rattle.ask_model.specs.Requests.{Ask, Sense, Requests, Refuses}
+use Rattle.ask_model.specs.Requests.{Sense, Requests, Refuses}
+use Rattle.ask_model.specs.Views.{Ask}
 use Rattle.journal_book.specs.Entries.{Grounds, Live, Fault}
 use Rattle.history_laws.specs.Limits.{exchange_limit, datagram_limit}
 use Rattle.history_laws.specs.Responses.{is_whole}

@@ -4,7 +4,8 @@ use Rattle.std.specs.Prelude.{◌≡◌, ℕ, ◌+◌, ◌<◌, ◌≤◌, true,
 use Rattle.std.specs.List.{AllByRecursion}
 use Rattle.coap_codec.specs.Spelling.{Spells}
 use Rattle.uri_map.specs.declared.peer.Peer.{Peer}
-use Rattle.ask_model.specs.Requests.{CoapRequest, Ask, Sense, Requests, Refuses, request_message}
+use Rattle.ask_model.specs.Requests.{CoapRequest, Sense, Requests, Refuses, request_message}
+use Rattle.ask_model.specs.Views.{Ask}
 use Rattle.history_laws.specs.Justified.{IsRefusal}
 use Rattle.history_laws.specs.Numbering.{token_number}
 use Rattle.message_layer.specs.Values.{LinkState}

@@ -3,7 +3,8 @@
 use Rattle.std.specs.Prelude.{◌≡◌, ℕ, ◌<◌, ◌≤◌, true, false, List, ◌∷◌, length, Option, Some, None, is_some}
 use Rattle.coap_codec.specs.Spelling.{Content, Spells}
 use Rattle.uri_map.specs.declared.peer.Peer.{Peer}
-use Rattle.ask_model.specs.Requests.{CoapRequest, Ask, Requests, request_message}
+use Rattle.ask_model.specs.Requests.{CoapRequest, Requests, request_message}
+use Rattle.ask_model.specs.Views.{Ask}
 use Rattle.journal_book.specs.Entries.{Grounds, Opens, Asks, Sends, Hears, Passes, Answers, Shuts, Seals}
 use Rattle.history_laws.specs.Confirming.{Confirmation}
 use Rattle.history_laws.specs.Limits.{datagram_limit}

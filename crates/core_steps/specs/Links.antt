@@ -2,7 +2,8 @@
 -- datagrams that it gives out.
 use Rattle.std.specs.Prelude.{◌≡◌, ℕ, Bool, true, false, not, List, filter, fold, Option, Some, None, if◌then◌else◌, [], ◌∷◌, ◌++◌}
 use Rattle.uri_map.specs.declared.peer.Peer.{Peer}
-use Rattle.ask_model.specs.Requests.{CoapRequest, Ask, same_peer}
+use Rattle.ask_model.specs.Requests.{CoapRequest, same_peer}
+use Rattle.ask_model.specs.Views.{Ask}
 use Rattle.journal_book.specs.Entries.{Deed, Sends, Written}
 use Rattle.message_layer.specs.Values.{LinkState, Told, no_news, response, was_reset}
 use Rattle.message_layer.specs.Calls.{forgotten, expected}

@@ -2,7 +2,8 @@
 use Rattle.std.specs.Prelude.{◌≡◌, ℕ, ◌<◌, false, List, [], ◌∷◌, length, map, Option, Some, None}
 use Rattle.std.specs.List.{AllByRecursion, Contains}
 use Rattle.uri_map.specs.declared.peer.Peer.{Peer}
-use Rattle.ask_model.specs.Requests.{CoapRequest, Ask}
+use Rattle.ask_model.specs.Requests.{CoapRequest}
+use Rattle.ask_model.specs.Views.{Ask}
 use Rattle.history_laws.specs.Numbering.{token_number}
 use Rattle.journal_book.specs.Entries.{Asks}
 use Rattle.message_layer.specs.declared.state.Waiting.{Waiting}

@@ -2,7 +2,8 @@
 use Rattle.std.specs.Prelude.{◌≡◌, ℕ, ◌+◌, ◌<◌, ◌≤◌, true, List, filter, fold, length, Option, Some, None, if◌then◌else◌, ◌++◌, ⊤}
 use Rattle.std.specs.List.{AllByRecursion}
 use Rattle.uri_map.specs.declared.peer.Peer.{Peer}
-use Rattle.ask_model.specs.Requests.{CoapRequest, Ask, Requests}
+use Rattle.ask_model.specs.Requests.{CoapRequest, Requests}
+use Rattle.ask_model.specs.Views.{Ask}
 use Rattle.ask_model.specs.Sizes.{came_size, request_limit}
 use Rattle.journal_book.specs.Entries.{Deed, Answers, Written}
 use Rattle.whole_history.specs.Limits.{max_transmit_wait}

@@ -4,7 +4,8 @@ use Rattle.std.specs.List.{list_any}
 use Rattle.std.specs.Str.{bytes_eq}
 use Rattle.coap_codec.specs.Spelling.{Content}
 use Rattle.uri_map.specs.declared.peer.Peer.{Peer}
-use Rattle.ask_model.specs.Requests.{CoapRequest, Ask}
+use Rattle.ask_model.specs.Requests.{CoapRequest}
+use Rattle.ask_model.specs.Views.{Ask}
 use Rattle.journal_book.specs.Entries.{Grounds, Deed, Opens, Asks, Sends, Hears, Passes, Answers, Shuts, Seals}
 use Rattle.message_layer.specs.Values.{LinkState}
 use Rattle.message_layer.specs.Sending.{first_sent, with_outstanding, with_copy, waits, queued}

@@ -2,7 +2,7 @@
 use Rattle.std.specs.Prelude.{ℕ, ◌+◌, ◌*◌, List, length, Option}
 use Rattle.ask_model.specs.declared.cause.Cause.{Cause}
 use Rattle.uri_map.specs.declared.peer.Peer.{Peer}
-use Rattle.ask_model.specs.Requests.{Ask}
+use Rattle.ask_model.specs.Views.{Ask}
 use Rattle.ask_model.specs.Sizes.{came_size}
 
 -- What an answer rests on. The numbers are those of entries: of the replies just heard, of the replies of

@@ -1,7 +1,6 @@
 -- Entries as plain data.
 use Rattle.std.specs.Arc.{arc_value}
-use Rattle.ask_model.specs.Requests.{Ask}
-use Rattle.ask_model.specs.Views.{Mapping}
+use Rattle.ask_model.specs.Views.{Ask, Mapping}
 use Rattle.journal_book.specs.declared.entry.Grounds.{Grounds as RustGrounds}
 use Rattle.journal_book.specs.declared.entry.Grounds.TheVariants as G
 use Rattle.journal_book.specs.declared.entry.Event.{Event}
@@ -10,7 +9,7 @@ use Rattle.journal_book.specs.declared.entry.Entry.{Entry}
 use Rattle.journal_book.specs.Entries.{Grounds, Live, Kept, Fault, Deed, Opens, Asks, Sends, Hears, Passes, Answers, Shuts, Seals, Written}
 
 abbrev pub ask_of : Mapping → Ask
-ask_of m = record { came = m.came; sense = m.sense }
+ask_of m = record { came = m.came; sense = m.sense; rules = m.rules }
 
 abbrev pub grounds_of : RustGrounds → Grounds
 grounds_of (G.Live js) = Live js

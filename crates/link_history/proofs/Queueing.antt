@@ -6,7 +6,8 @@ use Rattle.std.proofs.lemmas.List.Sums.{length-filter}
 use Rattle.std.proofs.lemmas.Bool.{lt-ltb, ltb-true}
 use Rattle.std.proofs.lemmas.Bool.Decides.{eqb_tells}
 use Rattle.uri_map.specs.declared.peer.Peer.{Peer}
-use Rattle.ask_model.specs.Requests.{CoapRequest, Ask, same_peer}
+use Rattle.ask_model.specs.Requests.{CoapRequest, same_peer}
+use Rattle.ask_model.specs.Views.{Ask}
 use Rattle.ask_model.proofs.Endpoints.{same_peer-itself}
 use Rattle.journal_book.specs.Entries.{Asks}
 use Rattle.message_layer.specs.Mids.{is_in_use, pruned}

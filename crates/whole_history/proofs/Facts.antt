@@ -4,7 +4,7 @@ use Rattle.std.proofs.lemmas.Bool.Decides.{eqb_tells}
 use Rattle.std.proofs.lemmas.Bool.{false≢true}
 use Rattle.coap_codec.specs.Spelling.{Content}
 use Rattle.uri_map.specs.declared.peer.Peer.{Peer}
-use Rattle.ask_model.specs.Requests.{Ask}
+use Rattle.ask_model.specs.Views.{Ask}
 use Rattle.whole_history.specs.Readings.{Noted, at, before}
 use Rattle.whole_history.specs.Justified.{IsAsk, Follows, Legal}
 use Rattle.whole_history.specs.Laws.{IsFirst}

@@ -5,7 +5,7 @@ use Rattle.std.specs.List.{slice_get, list_all, range_with_len, Contains}
 use Rattle.std.proofs.lemmas.Option.{slice_get_within}
 use Rattle.std.proofs.lemmas.Bool.Decides.{eqb_tells}
 use Rattle.std.proofs.lemmas.Bool.{false≢true}
-use Rattle.ask_model.specs.Requests.{Ask}
+use Rattle.ask_model.specs.Views.{Ask}
 use Rattle.journal_book.specs.Entries.{Grounds, Deed, Opens, Asks, Answers, Shuts}
 use Rattle.whole_history.specs.Readings.{Noted, Note}
 use Rattle.whole_history.specs.Connections.{is_open, asks_by, asks_of, answers_by, answers_of, is_sealed, opened_by, opened}

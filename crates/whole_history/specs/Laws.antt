@@ -7,7 +7,8 @@ use Rattle.coap_codec.specs.Spelling.{Content, Spells}
 use Rattle.uri_map.specs.declared.peer.Peer.{Peer}
 use Rattle.ask_model.specs.declared.cause.Cause.{Cause}
 use Rattle.ask_model.specs.declared.cause.Cause.TheVariants as C
-use Rattle.ask_model.specs.Requests.{CoapRequest, Sense, Requests, Refuses, Ask, request_message}
+use Rattle.ask_model.specs.Requests.{CoapRequest, Sense, Requests, Refuses, request_message}
+use Rattle.ask_model.specs.Views.{Ask}
 use Rattle.journal_book.specs.Entries.{Grounds, Live, Fault, Deed, Sends, Hears, Passes, Answers, Shuts}
 use Rattle.history_laws.specs.Confirming.{empty}
 use Rattle.whole_history.specs.Readings.{Noted, Note, First, Copies, Says, Notice, at, before, ticked}

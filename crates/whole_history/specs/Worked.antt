@@ -1,12 +1,13 @@
 -- Worked journals: what the entries of one look like, and the notes of a reading.
-use Rattle.std.specs.Prelude.{ℕ, List, [], ◌∷◌, None, codes}
+use Rattle.std.specs.Prelude.{ℕ, List, [], ◌∷◌, None, codes, false}
 use Rattle.std.specs.declared.net.ip_addr.IpAddr.TheVariants.{V4}
 use Rattle.coap_codec.specs.declared.message.MsgType.{MsgType}
 use Rattle.coap_codec.specs.Spelling.{Entry, Content}
 use Rattle.uri_map.specs.declared.peer.Peer.{Peer}
 use Rattle.uri_map.specs.declared.target.Host.TheVariants.{Name}
 use Rattle.http_edge.specs.declared.request.BadKind.TheVariants.{Syntax}
-use Rattle.ask_model.specs.Requests.{CoapRequest, Bad, Requests, Ask}
+use Rattle.ask_model.specs.Requests.{CoapRequest, Bad, Requests}
+use Rattle.ask_model.specs.Views.{Ask, Rules}
 use Rattle.journal_book.specs.Entries.{Deed}
 use Rattle.whole_history.specs.Readings.{Noted, Note}
 use Rattle.whole_history.specs.Justified.{Legal, AtRest}
@@ -28,9 +29,18 @@ asks method path body = record {
   body = body;
 }
 
--- what came from HTTP doesn't matter here
+-- what came from HTTP, and by which rules it was mapped, doesn't matter here
+abbrev pub no_rules : Rules
+no_rules = record {
+  base = [];
+  directory = record { lines = []; literals = false };
+  observed = [];
+  policy = record { loose = false; pass = false };
+  routes = [];
+}
+
 abbrev pub ask_for : CoapRequest → Ask
-ask_for q = record { came = Bad Syntax; sense = Requests q }
+ask_for q = record { came = Bad Syntax; sense = Requests q; rules = no_rules }
 
 -- the token with this number, and Uri-Host
 abbrev pub token : ℕ → List ℕ
