@@ -1,3 +1,1 @@
-mod Matching
-mod Deciding
-mod Lasts
+mod Telling

@@ -1,6 +1,7 @@
 -- What an ask comes to, as plain data.
-use Rattle.std.specs.Prelude.{◌≡◌, ⊤}
+use Rattle.std.specs.Prelude.{◌≡◌, ℕ, [], ◌∷◌, Option, Some, None, ⊤}
 use Rattle.ask_model.specs.declared.cause.Cause.{Cause}
+use Rattle.ask_model.specs.declared.cause.Cause.TheVariants.{NotUnderstood}
 use Rattle.journal_book.specs.Entries.{Grounds, Live, Kept, Fault}
 use Rattle.history_laws.specs.Responses.{Response}
 use Rattle.datagram_verdict.specs.declared.response.Response.{Response as RustResponse}
@@ -37,3 +38,8 @@ Fits (Tells w) (Live js) = ⊤
 Fits (Tells w) (Kept js) = ⊤
 Fits (Fails cause) (Fault named n) = cause ≡ named
 Fits _ _ = ⊥
+
+-- what the only reply makes known, which the entry with this number bears
+abbrev pub found_by : ℕ → Option Response → Found
+found_by n (Some w) = record { told = Tells w; grounds = Live (n ∷ []) }
+found_by n None = record { told = Fails NotUnderstood; grounds = Fault NotUnderstood n }

@@ -1,3 +1,1 @@
 pub mod Findings
-pub mod Hearing
-pub mod Verdicts

@@ -1,14 +1,18 @@
 //! What an ask comes to, and why.
 
-ghost use Rattle.std.specs.Prelude.{◌≡◌, IfOk};
+ghost use Rattle.std.specs.Prelude.{◌≡◌, ◌∷◌, [], IfOk};
+ghost use Rattle.coap_codec.specs.Spelling.{content};
+ghost use Rattle.ask_model.specs.Requests.{CoapRequest};
 ghost use Rattle.journal_book.specs.Entries.{Live, Fault};
 ghost use Rattle.journal_book.specs.Views.{grounds_of};
-ghost use Rattle.datagram_verdict.specs.Findings.{Tells, Fails, Fits, response_of, told_of};
+ghost use Rattle.history_laws.specs.Responses.{whole_of};
+ghost use Rattle.datagram_verdict.specs.Findings.{Tells, Fails, Fits, response_of, told_of, found_by};
 
-use crate::response::Response;
+use crate::response::{Response, is_whole, response_of};
 use ask_model::Cause;
+use coap_codec::Message;
 use journal_book::{Grounds, Numbers};
-use std::alloc::AllocError;
+use std::alloc::{AllocError, Global};
 use std::marker::Model;
 
 /// What an ask came to.
@@ -94,4 +98,16 @@ fn copy_outcome(outcome: &Outcome) -> Result<Outcome, AllocError>
         Outcome::Whole(response) => Ok(Outcome::Whole(response.copy()?)),
         Outcome::Fault(cause) => Ok(Outcome::Fault(*cause)),
     }
+}
+
+/// What the only reply to an exchange makes known, which the entry with this number bears: a whole
+/// response, whose payload isn't copied, or that it isn't understood.
+pub fn finding_of(alloc: Global, number: u32, m: Message) -> Result<Finding, AllocError>
+    ensures { (q : CoapRequest) → IfOk result (λ f. f ≡ found_by number (whole_of q (content m ∷ []))) }
+{
+    if !is_whole(&m) {
+        return Ok(Finding::fault(Cause::NotUnderstood, number));
+    }
+    let replies = Numbers::from_slice(alloc, &[number])?;
+    Ok(Finding::whole(response_of(alloc, m)?, replies))
 }

@@ -1,5 +1,5 @@
 -- A request is refused for one of the causes that refuse requests.
-use Rattle.std.proofs.Common.{◌≡◌, ℕ, Bool, true, false, List, Option, Some, None, Result, Ok, Err, refl, sym, subst}
+use Rattle.std.proofs.Common.{◌≡◌, ℕ, Bool, true, false, List, Option, Some, None, Result, Ok, Err, inl, inr, sym, subst}
 use Rattle.uri_map.specs.declared.fault.UriFault.{UriFault}
 use Rattle.uri_map.specs.declared.peer.Peer.{Peer}
 use Rattle.uri_map.specs.declared.target.Target.{Target}
@@ -11,21 +11,31 @@ use Rattle.code_map.specs.Methods.{method_named}
 use Rattle.media_map.specs.declared.form.Form.{Form}
 use Rattle.http_edge.specs.Requests.{Content as HttpRequest}
 use Rattle.ask_model.specs.declared.cause.Cause.{Cause}
-use Rattle.ask_model.specs.declared.cause.Cause.TheVariants.{BadHttp, NoMap, Method, Media, Busy, Timeout, Reset, NotUnderstood}
-use Rattle.ask_model.specs.Requests.{Came, Whole, Bad, Ask, Refuses}
+use Rattle.ask_model.specs.Requests.{Came, Whole, Bad, Refuses}
 use Rattle.ask_model.specs.Views.{Rules}
-use Rattle.ask_model.specs.Maps.{Maps, MapsMethod, MapsWrite, MapsTarget, MapsPeer, is_refused_write}
-use Rattle.history_laws.specs.Readings.{Noted}
-use Rattle.history_laws.specs.Justified.{IsRefusal, IsAsk, Caused}
+use Rattle.ask_model.specs.Maps.{Maps, MapsMethod, MapsWrite, MapsTarget, MapsPeer, MapsBody, IsUnsent, Typing, typing_of, carried, is_refused_write}
+use Rattle.history_laws.specs.Justified.{IsRefusal}
 
 same-cause : (c d : Cause) (s t : ℕ) → Refuses c s ≡ Refuses d t → c ≡ d
 same-cause c d s t e = cc
 
 module _ (holds : Form → Form → List ℕ → List ℕ → Type 0) (takes : Form → Form → List ℕ → Type 0) where
+  unsent-refusal : (typing : Typing) (body : List ℕ) (c : Cause) (status : ℕ) → IsUnsent holds takes typing body c status → IsRefusal c
+  unsent-refusal typing body c status h =
+      elim h [ inl u ↦ subst IsRefusal (sym u.0) tt | inr u ↦ subst IsRefusal (sym u.0) tt ]
+
+  body-refusal : (s : Rules) (r : HttpRequest) (m : HttpMethod) (t : Target) (p : Peer) (c : Cause) (status : ℕ)
+      → MapsBody holds takes s r m t p (Refuses c status) → IsRefusal c
+  body-refusal s r m t p c status h =
+      elim h [
+        | inl u ↦ unsent-refusal (typing_of s r (carried m r.body)) (carried m r.body) c status u
+        | inr u ↦ subst IsRefusal (sym u.0) tt
+      ]
+
   peer-refusal : (s : Rules) (r : HttpRequest) (m : HttpMethod) (t : Target) (p : Option Peer) (c : Cause) (status : ℕ)
       → MapsPeer holds takes s r m t p (Refuses c status) → IsRefusal c
   peer-refusal s r m t None c status h = subst IsRefusal (sym (same-cause _ _ _ _ h)) tt
-  peer-refusal s r m t (Some p) c status h = subst IsRefusal (sym h.0) tt
+  peer-refusal s r m t (Some p) c status h = body-refusal s r m t p c status h
 
   target-refusal : (s : Rules) (r : HttpRequest) (m : HttpMethod) (t : Result Target UriFault) (c : Cause) (status : ℕ)
       → MapsTarget holds takes s r m t (Refuses c status) → IsRefusal c
@@ -45,14 +55,3 @@ module _ (holds : Form → Form → List ℕ → List ℕ → Type 0) (takes : F
   pub maps-refusal : (s : Rules) (came : Came) (c : Cause) (status : ℕ) → Maps holds takes s came (Refuses c status) → IsRefusal c
   maps-refusal s (Bad kind) c status h = subst IsRefusal (sym (same-cause _ _ _ _ h)) tt
   maps-refusal s (Whole r) c status h = method-refusal s r (method_named r.method) c status h
-
-pub refusal-caused : (l : List Noted) (t k c : ℕ) (a : Ask) (cause : Cause) (status : ℕ) → IsRefusal cause
-    → IsAsk l k c a → a.sense ≡ Refuses cause status → Caused l t k cause k
-refusal-caused l t k c a BadHttp status r ask sense = (tt, refl, (c, a, status, ask, sense))
-refusal-caused l t k c a NoMap status r ask sense = (tt, refl, (c, a, status, ask, sense))
-refusal-caused l t k c a Method status r ask sense = (tt, refl, (c, a, status, ask, sense))
-refusal-caused l t k c a Media status r ask sense = (tt, refl, (c, a, status, ask, sense))
-refusal-caused l t k c a Busy status r ask sense = absurd r
-refusal-caused l t k c a Timeout status r ask sense = absurd r
-refusal-caused l t k c a Reset status r ask sense = absurd r
-refusal-caused l t k c a NotUnderstood status r ask sense = absurd r

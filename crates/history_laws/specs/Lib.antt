@@ -1,13 +1,5 @@
-pub mod Readings
-pub mod Connections
 pub mod Responses
-pub mod Exchanges
 pub mod Confirming
 pub mod Limits
 pub mod Justified
 pub mod Numbering
-pub mod Remembering
-pub mod Kept
-pub mod Amid
-pub mod Laws
-pub mod Worked

@@ -51,23 +51,7 @@ response_of m =
       body = m.payload;
     }
 
--- how an exchange ends
-pub data Ending : Type 0 where
-  -- its replies are a whole response
-  Whole : (response : Response) → Ending
-  -- the last reply is none that the exchange can go on with
-  NotUnderstood : Ending
-  -- its latest message was rejected by a Reset message
-  Reset : Ending
-  -- it has been open for as long as it may
-  TimedOut : Ending
-
 -- The whole response that the replies to a request are, in order: of one message, its reply.
 abbrev pub whole_of : CoapRequest → List Content → Option Response
 whole_of q (m ∷ []) = if is_whole m then Some (response_of m) else None
 whole_of q _ = None
-
--- how the exchange ends by the last of these replies, if it does
-abbrev pub ends_by_replies : Option Response → Option Ending
-ends_by_replies (Some w) = Some (Whole w)
-ends_by_replies None = Some NotUnderstood

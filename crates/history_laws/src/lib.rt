@@ -1,19 +1,6 @@
-//! What makes the history of a proxy justified.
+//! Words that a history and a core share: what a response says and when replies are one whole response
+//! (RFC 7252 section 5.10, RFC 7959), which ACK or RST answers a datagram (RFC 7252 section 4), the limits
+//! of a journal, which causes refuse a request, and the number that a token bears.
 //!
-//! A history is a list of entries, each with its moment. A reading gives each entry a note: which asks
-//! open an exchange, which sendings are whose, and what the datagrams spell. A history is justified if
-//! some reading is legal, that is, if each of its entries may follow the ones before it.
-//!
-//! The definitions stand in `specs/`, to be read in this order: `Readings`, `Connections`, `Responses`,
-//! `Exchanges`, `Confirming`, `Limits`, `Justified`, and then `Laws`, which says what follows from them.
-//! One contract: those laws hold of every legal reading. A core that keeps its journal justified, and
-//! whoever reads what it did, stand on them.
+//! The definitions stand in `specs/`; what a history is stands in `whole_history`.
 #![tactic(auto)]
-
-pub mod kept;
-mod laws;
-
-pub use laws::{
-    answered_in_order, asked_once, nothing_outrun, open_exactly, replies_fit, sendings_apart,
-    sent_once, worked_journal,
-};

@@ -31,12 +31,8 @@ fn is_sent_as(
 
 /// The ask of the light goes to its server, and is sent so.
 fn light_is_sent_as(alloc: Global, want: &[u8]) -> Result<bool, AllocError> {
-    match light(alloc)? {
-        Some(mapped) => {
-            Ok(goes_to(&mapped, &server(5683)) && is_sent_as(alloc, &mapped, &[0; 8], want)?)
-        }
-        None => Ok(false),
-    }
+    let mapped = light(alloc)?;
+    Ok(goes_to(&mapped, &server(5683)) && is_sent_as(alloc, &mapped, &[0; 8], want)?)
 }
 
 #[test]
@@ -67,6 +63,10 @@ fn has_peer(mapped: &Mapped<Nothing>) -> bool {
     mapped.peer().is_some()
 }
 
+fn wants_nothing(mapped: &Mapped<Nothing>) -> bool {
+    mapped.wanted().is_none()
+}
+
 fn is_sent(alloc: Global, mapped: &Mapped<Nothing>) -> Result<bool, AllocError> {
     Ok(mapped.request(alloc, 0, &Token::new(&[]))?.is_some())
 }
@@ -77,6 +77,7 @@ fn is_refusal(alloc: Global, mapped: &Mapped<Nothing>) -> bool {
         && came_large(mapped)
         && takes_literals(mapped)
         && !has_peer(mapped)
+        && wants_nothing(mapped)
         && is_sent(alloc, mapped) == Ok(false)
 }
 

@@ -2,16 +2,12 @@
 
 use crate::sample::{Nothing, light, server, shared, too_large};
 use ask_model::Cause;
-use exchange_core::{Answer, AskFault, Core, OpenFault, Outcome, Ticket};
 use journal_book::Event;
+use linked_core::{Answer, AskFault, Core, OpenFault, Outcome, Ticket};
 use std::alloc::Global;
 
 pub fn new_core(alloc: Global) -> Option<Core<Nothing>> {
     Core::new(alloc).ok()
-}
-
-pub fn copied(core: &Core<Nothing>) -> Option<Core<Nothing>> {
-    core.copy().ok()
 }
 
 pub fn open(core: &mut Core<Nothing>, moment: u64) -> Result<u32, OpenFault> {
@@ -22,6 +18,11 @@ pub fn close(core: &mut Core<Nothing>, moment: u64, conn: u32) -> bool {
     core.close(moment, conn)
 }
 
+/// Whether the connection is open and waits for no answer.
+pub fn is_idle(core: &Core<Nothing>, conn: u32) -> bool {
+    core.is_idle(conn)
+}
+
 /// Asks for the light, with this random word.
 pub fn ask(
     core: &mut Core<Nothing>,
@@ -30,10 +31,8 @@ pub fn ask(
     word: u64,
     conn: u32,
 ) -> Result<Ticket<Nothing>, AskFault> {
-    match light(alloc) {
-        Ok(Some(mapped)) => core.ask(moment, word, conn, shared(alloc, mapped)?),
-        _ => Err(AskFault::Memory),
-    }
+    let mapped = shared(alloc, light(alloc)?)?;
+    core.ask(moment, word, conn, mapped)
 }
 
 /// Asks what is refused for its size.
@@ -53,12 +52,24 @@ pub fn hear(core: &mut Core<Nothing>, moment: u64, port: u16, bytes: &[u8]) -> b
 }
 
 pub fn tick(core: &mut Core<Nothing>, moment: u64) -> bool {
-    core.tick(moment, 0).is_ok()
+    core.tick(moment).is_ok()
 }
 
 /// When the core has to be given a tick.
 pub fn next_due(core: &Core<Nothing>) -> Option<u64> {
     core.next_due()
+}
+
+/// Closes the connection, and goes back to what was before that; tells whether both were done.
+pub fn close_and_go_back(core: &mut Core<Nothing>, conn: u32) -> bool {
+    let Ok(before) = core.snapshot() else {
+        return false;
+    };
+    let closed = core.close(0, conn);
+    if closed {
+        core.restore(before);
+    }
+    closed
 }
 
 /// The ask whose answer waits first.
@@ -68,6 +79,11 @@ pub fn first_answered(core: &Core<Nothing>) -> Option<u32> {
 
 pub fn take_answer(core: &mut Core<Nothing>, ticket: &Ticket<Nothing>) -> Option<Answer<Nothing>> {
     core.take_answer(ticket)
+}
+
+/// The answer to the first of the asks whose answers aren't taken yet.
+pub fn take_first(core: &mut Core<Nothing>) -> Option<Answer<Nothing>> {
+    core.take_first()
 }
 
 /// The bytes of the datagram that goes out next.

@@ -1,13 +1,11 @@
-//! Trials of the crates of a run, by their public calls alone: what an ask sends, a journal's entries, the
-//! checker of journals, what a datagram is, and the two cores.
+//! Trials of the crates of a run, by their public calls alone: what an ask sends, a journal's entries, what a
+//! reply makes known, and the core.
 //!
 //! What a contract says is proved for every input, and isn't tried here. Tried is what lies outside: datagrams
-//! and journals written out by hand after the standards, printed texts, that each call can succeed, and runs
-//! up to the limits. Nothing stands on this crate, so the crates below it are proved once.
+//! written out by hand after the standards, printed texts, that each call can succeed, and runs up to the
+//! limits. Nothing stands on this crate, so the crates below it are proved once.
 #![tactic(auto)]
 
-#[cfg(test)]
-mod acts;
 #[cfg(test)]
 mod asks;
 #[cfg(test)]
@@ -17,12 +15,6 @@ mod core_runs;
 #[cfg(test)]
 mod entries;
 #[cfg(test)]
-mod judged;
-#[cfg(test)]
-mod linked_calls;
-#[cfg(test)]
-mod linked_runs;
+mod findings;
 #[cfg(test)]
 mod sample;
-#[cfg(test)]
-mod verdicts;

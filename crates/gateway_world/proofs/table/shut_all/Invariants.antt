@@ -1,8 +1,0 @@
--- So far it is done to those that were passed.
-use Rattle.std.proofs.Common.{◌≡◌, ◌++◌, map, take, drop, vec_len}
-use Rattle.gateway_world.specs.Undo.{shut_at}
-use Rattle.gateway_world.proofs.table.shut_all.Given as goal
-
-abbrev pub invariant-each : goal.invariant-each
-invariant-each g l =
-    (l.rows.items ≡ map (shut_at l.number) (take l.place l.initial.rows.items) ++ drop l.place l.initial.rows.items) × (vec_len l.rows ≡ vec_len l.initial.rows)

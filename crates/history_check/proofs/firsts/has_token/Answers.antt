@@ -1,5 +1,0 @@
-use Rattle.history_check.proofs.Along.{history-next}
-use Rattle.history_check.proofs.firsts.has_token.Goals as goal
-
-pub each-preserved : goal.each-preserved
-each-preserved g c = rw (history-next c.args.steps.now c.each.step-index c.step-item.result c.each-test.true c.step-item.is) cc
