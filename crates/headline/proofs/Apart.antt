@@ -37,7 +37,7 @@ ids-once h i j s t p m n stands =
     let b = first-of stands.reading j t p n stands.legal g in
     ids-apart stands.reading s t a.0 i b.0 j p m n stands.legal a.1 b.1 e lt)
 
-answer-at : (l : List Noted) (n t c k : ℕ) (g : Grounds) → IsEntry (entries l) n t (Answers c k g) → IsAnswer l n c k g
+pub answer-at : (l : List Noted) (n t c k : ℕ) (g : Grounds) → IsEntry (entries l) n t (Answers c k g) → IsAnswer l n c k g
 answer-at l n t c k g e =
     let there = entries-at l n _ e in
     record { moment = t; note = there.0; stands = there.1 }

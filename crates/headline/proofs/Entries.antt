@@ -2,7 +2,8 @@
 use Rattle.std.proofs.Common.{◌≡◌, ◌≢◌, ℕ, zero, suc, ◌<◌, ◌≤◌, inl, inr, List, [], ◌∷◌, ◌++◌, length, Some, refl, sym, ap, subst, ◌∙◌, arith, length-append, add-one}
 use Rattle.std.specs.List.{slice_get}
 use Rattle.std.proofs.lemmas.Bool.Decides.{eqb_tells}
-use Rattle.ask_model.specs.Requests.{Sense, Ask}
+use Rattle.ask_model.specs.Requests.{Sense}
+use Rattle.ask_model.specs.Views.{Ask}
 use Rattle.journal_book.specs.Entries.{Deed, Asks, Written}
 use Rattle.whole_history.specs.Readings.{Noted, Note, entries, at, before, newest}
 use Rattle.whole_history.specs.Worked.{noted}
@@ -16,7 +17,7 @@ entries-length [] = refl
 entries-length (x ∷ older) =
     length-append (entries older) (x.written ∷ []) ∙ (add-one (length (entries older)) ∙ ap suc (entries-length older))
 
-got-more : {X : Type 0} (xs ys : List X) (i : ℕ) (x : X) → slice_get xs i ≡ Some x → slice_get (xs ++ ys) i ≡ Some x
+pub got-more : {X : Type 0} (xs ys : List X) (i : ℕ) (x : X) → slice_get xs i ≡ Some x → slice_get (xs ++ ys) i ≡ Some x
 got-more [] ys i x e = absurd cc
 got-more (z ∷ xs) ys zero x e = e
 got-more (z ∷ xs) ys (suc i) x e = got-more xs ys i x e
@@ -66,7 +67,7 @@ entry-keeps x l n t d e = got-more (entries l) (x.written ∷ []) n _ e
 pub asked-entry : (l : List Noted) (k c t : ℕ) (a : Ask) (note : Note) (s : Sense) → at l k ≡ Some (noted t (Asks c a) note) → a.sense ≡ s
     → IsAsked (entries l) k c t s
 asked-entry l k c t a note s e sense =
-    subst (λ (s : Sense). IsAsked (entries l) k c t s) sense (record { came = a.came; stands = at-entries l k _ e })
+    subst (λ (s : Sense). IsAsked (entries l) k c t s) sense (record { came = a.came; rules = a.rules; stands = at-entries l k _ e })
 
 -- what holds of a history before an entry, and stays true as it grows, holds of it all
 pub grows : (P : List Noted → Type 0) → ((x : Noted) (l : List Noted) → P l → P (x ∷ l)) → (l : List Noted) (n : ℕ) → P (before l n) → P l

@@ -9,4 +9,5 @@ pub mod Counting
 pub mod Crowded
 pub mod Causes
 pub mod Apart
+pub mod Turns
 pub mod Examples

@@ -2,7 +2,8 @@
 use Rattle.std.proofs.Common.{◌≡◌, ℕ, zero, ◌<◌, Bool, true, false, cond, inl, inr, List, [], ◌∷◌, ◌++◌, length, Option, Some, None, refl, sym, ap, subst, ◌∙◌, arith}
 use Rattle.std.specs.List.{Contains}
 use Rattle.coap_codec.specs.Spelling.{Content}
-use Rattle.ask_model.specs.Requests.{CoapRequest, Sense, Requests, Ask}
+use Rattle.ask_model.specs.Requests.{CoapRequest, Sense, Requests}
+use Rattle.ask_model.specs.Views.{Ask}
 use Rattle.journal_book.specs.Entries.{Grounds, Live, Deed, Answers, Asks, Hears, Written}
 use Rattle.history_laws.specs.Responses.{Response, response_of, is_whole, whole_of}
 use Rattle.whole_history.specs.Readings.{Noted, Note, Begins, Says, entries, at, before}

@@ -6,7 +6,8 @@ use Rattle.std.proofs.lemmas.Bool.Decides.{eqb_tells, leb_tells}
 use Rattle.std.proofs.lemmas.Bool.{false≢true}
 use Rattle.coap_codec.specs.Spelling.{Content}
 use Rattle.uri_map.specs.declared.peer.Peer.{Peer}
-use Rattle.ask_model.specs.Requests.{CoapRequest, Requests, Ask}
+use Rattle.ask_model.specs.Requests.{CoapRequest, Requests}
+use Rattle.ask_model.specs.Views.{Ask}
 use Rattle.ask_model.proofs.Endpoints.{and-both}
 use Rattle.journal_book.specs.Entries.{Grounds, Deed, Answers, Asks, Sends, Seals}
 use Rattle.whole_history.specs.Readings.{Noted, Note, Plain, Begins, First, entries, at, before}

@@ -4,6 +4,7 @@ use Rattle.std.specs.Prelude.{◌≡◌, ℕ, ◌+◌, ◌<◌, ◌≤◌, List,
 use Rattle.std.specs.List.{Contains}
 use Rattle.coap_codec.specs.Spelling.{Content}
 use Rattle.uri_map.specs.declared.peer.Peer.{Peer}
+use Rattle.ask_model.specs.Views.{Ask}
 use Rattle.journal_book.specs.Entries.{Grounds, Live, Deed, Asks, Answers, Written}
 use Rattle.whole_history.specs.Limits.{mid_lifetime}
 use Rattle.whole_history.specs.Justified.{Stands}
@@ -34,6 +35,19 @@ abbrev pub AnsweredOnce : Type 0
 AnsweredOnce =
     (h : List Written) (i j s t c d k : ℕ) (g e : Grounds) → Stands h
     → IsEntry h i s (Answers c k g) → IsEntry h j t (Answers d k e) → i ≡ j
+
+-- An answer is to an ask of its connection, which stands before it.
+abbrev pub AnswersAnAsk : Type 0
+AnswersAnAsk =
+    (h : List Written) (n t c k : ℕ) (g : Grounds) → Stands h → IsEntry h n t (Answers c k g)
+    → (k < n) × ((s : ℕ) × (a : Ask) × IsEntry h k s (Asks c a))
+
+-- A connection asks again only after its answer: of two answers to it, what the later one is to was
+-- asked after the earlier one (RFC 9112 section 9.3.2).
+abbrev pub AskedInTurn : Type 0
+AskedInTurn =
+    (h : List Written) (i j s t c k o : ℕ) (g e : Grounds) → Stands h
+    → IsEntry h i s (Answers c k g) → IsEntry h j t (Answers c o e) → i < j → i < o
 
 -- the asks of a connection, in order, where the first entry has this number; and the asks that its
 -- answers are to, in order

@@ -9,6 +9,7 @@ use Rattle.uri_map.specs.declared.peer.Peer.{Peer}
 use Rattle.ask_model.specs.declared.cause.Cause.{Cause}
 use Rattle.ask_model.specs.declared.cause.Cause.TheVariants as C
 use Rattle.ask_model.specs.Requests.{CoapRequest, Came, Sense, Requests, Refuses, request_message}
+use Rattle.ask_model.specs.Views.{Rules}
 use Rattle.journal_book.specs.Entries.{Grounds, Live, Fault, Deed, Asks, Sends, Hears, Passes, Answers, Written}
 use Rattle.history_laws.specs.Responses.{Response, whole_of}
 use Rattle.history_laws.specs.Confirming.{empty}
@@ -24,7 +25,8 @@ IsEntry h n t d = slice_get h n ≡ Some (record { moment = t; deed = d })
 -- refusal (RFC 8075 section 5).
 pub record IsAsked (h : List Written) (k c t : ℕ) (sense : Sense) : Type 0 where
   pub came : Came
-  pub stands : IsEntry h k t (Asks c (record { came = came; sense = sense }))
+  pub rules : Rules
+  pub stands : IsEntry h k t (Asks c (record { came = came; sense = sense; rules = rules }))
 
 -- The entry sent this message to this endpoint, for the first time: only then it bears a timeout.
 pub record IsFirstSending (h : List Written) (i t : ℕ) (p : Peer) (m : Content) : Type 0 where

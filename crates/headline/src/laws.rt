@@ -1,7 +1,15 @@
 //! What holds of the entries of every journal that stands, as contracts of functions that do nothing.
 
 ghost use Rattle.headline.specs.Headline.{RestsOnReplies, NamesCause};
-ghost use Rattle.headline.specs.Apart.{TokensOnce, IdsOnce, RepliesOnce, AnsweredOnce, AnsweredInOrder};
+ghost use Rattle.headline.specs.Apart.{
+  TokensOnce,
+  IdsOnce,
+  RepliesOnce,
+  AnsweredOnce,
+  AnswersAnAsk,
+  AskedInTurn,
+  AnsweredInOrder,
+};
 
 /// An answer that isn't the proxy's own rests on one whole response, heard under tokens that were
 /// issued for what its ask means (RFC 7252 section 5.3.2).
@@ -22,8 +30,11 @@ pub fn served_once()
     ensures replies { RepliesOnce }
 {}
 
-/// Each ask is answered at most once, and those of a connection in their order (RFC 9112 section 9.3).
+/// Each ask is answered at most once, and those of a connection in their order, one after another
+/// (RFC 9112 section 9.3).
 pub fn answered_in_order()
     ensures once { AnsweredOnce }
+    ensures asked { AnswersAnAsk }
+    ensures in_turn { AskedInTurn }
     ensures in_order { AnsweredInOrder }
 {}
