@@ -2,9 +2,9 @@
 use Rattle.std.proofs.Common.{◌≡◌, ◌≢◌, ℕ, ◌/◌, ◌^◌, ◌≤◌, Bool, true, false, inr, List, [], length, Some, None, Result, Ok, Err, refl, sym, subst, ◌∙◌, arith}
 use Rattle.std.specs.Prelude.{IfOk, OnOk, drop}
 use Rattle.std.specs.Arc.{arc_value}
-use Rattle.ask_model.specs.Requests.{CoapRequest, Ask, Requests, Refuses}
+use Rattle.ask_model.specs.Requests.{CoapRequest, Requests, Refuses}
+use Rattle.ask_model.specs.Views.{Ask, Mapping}
 use Rattle.ask_model.specs.Sizes.{came_size, request_limit}
-use Rattle.ask_model.specs.Views.{Mapping}
 use Rattle.ask_model.specs.declared.cause.Cause.{Cause}
 use Rattle.history_laws.specs.Numbering.{token_number}
 use Rattle.core_steps.specs.State.{State}

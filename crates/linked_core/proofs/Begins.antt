@@ -4,10 +4,10 @@ use Rattle.std.specs.Prelude.{option_map, sum_by, ◌&&◌}
 use Rattle.std.proofs.lemmas.Bool.Decides.{Decides-ltb}
 use Rattle.coap_codec.specs.Spelling.{Spells}
 use Rattle.uri_map.specs.declared.peer.Peer.{Peer}
-use Rattle.ask_model.specs.Requests.{CoapRequest, Ask, Sense, Requests, Refuses, request_message}
+use Rattle.ask_model.specs.Requests.{CoapRequest, Sense, Requests, Refuses, request_message}
+use Rattle.ask_model.specs.Views.{Ask, Mapping}
 use Rattle.ask_model.specs.Sizes.{capped}
 use Rattle.ask_model.specs.Datagrams.{asked_peer}
-use Rattle.ask_model.specs.Views.{Mapping}
 use Rattle.journal_book.specs.Entries.{Deed, Asks, Seals, Written, entry_size}
 use Rattle.journal_book.specs.Views.{ask_of}
 use Rattle.message_layer.specs.Sending.{waits, IsNext, IsRefused, HasPlace, mids_in_use, submitted}

@@ -96,4 +96,4 @@ pub drafts-answer : (S : State) (ds : List Deed) (g : Given) (d : DraftValue) �
     → Drafts g.moment S (ds ++ Answers g.conn g.ask g.found.grounds ∷ []) (draft_answering g d)
 drafts-answer S ds g d n h =
     drafts-more g.moment S ds (Answers g.conn g.ask g.found.grounds) d (draft_answering g d) h refl refl refl
-    (sym (append-none d.sends)) (map-append untaken_of d.answers (g ∷ []) ∙ ap (λ (k : ℕ). map untaken_of d.answers ++ record { ask = g.ask; number = k } ∷ []) n)
+    (sym (append-none d.sends)) (map-append untaken_of d.answers (g ∷ []) ∙ ap (λ (k : ℕ). map untaken_of d.answers ++ record { conn = g.conn; ask = g.ask; number = k } ∷ []) n)

@@ -4,13 +4,13 @@ use Rattle.std.specs.Prelude.{slice_get, filter, IfSome, ⊤}
 use Rattle.std.specs.List.{find, list_any, AllByRecursion}
 use Rattle.coap_codec.specs.Spelling.{Content, Spells}
 use Rattle.uri_map.specs.declared.peer.Peer.{Peer}
-use Rattle.ask_model.specs.Requests.{CoapRequest, Ask, Sense, Requests}
+use Rattle.ask_model.specs.Requests.{CoapRequest, Sense, Requests}
+use Rattle.ask_model.specs.Views.{Ask}
 use Rattle.ask_model.specs.declared.cause.Cause.TheVariants as C
 use Rattle.journal_book.specs.Entries.{Grounds, Live, Fault, Deed, Opens, Asks, Sends, Hears, Passes, Answers, Shuts, Seals, Written}
 use Rattle.journal_book.specs.Views.{ask_of}
 use Rattle.history_laws.specs.Responses.{is_whole, response_of}
-use Rattle.datagram_verdict.specs.Findings.{Found}
-use Rattle.datagram_verdict.specs.Verdicts.{found_by}
+use Rattle.datagram_verdict.specs.Findings.{Found, found_by}
 use Rattle.message_layer.specs.Values.{LinkValue, Told, no_news, response, timed_out, was_reset, was_dropped, LinkState}
 use Rattle.message_layer.specs.Hearing.{says, listed}
 use Rattle.message_layer.specs.Sending.{IsNext}

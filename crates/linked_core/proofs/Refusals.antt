@@ -1,12 +1,11 @@
 -- Asks that are answered in their own step.
 use Rattle.std.proofs.Common.{◌≡◌, ℕ, suc, ◌+◌, ◌≤◌, Bool, true, false, cond, List, [], ◌∷◌, ◌++◌, length, map, slice_get, Some, None, refl, sym, ap, subst, ◌∙◌, arith}
 use Rattle.ask_model.specs.declared.cause.Cause.{Cause}
-use Rattle.ask_model.specs.Views.{Mapping}
+use Rattle.ask_model.specs.Views.{Mapping, Ask}
 use Rattle.journal_book.specs.Entries.{Grounds, Fault, Deed, Asks, Answers, Written}
 use Rattle.journal_book.specs.Views.{ask_of}
 use Rattle.core_steps.specs.State.{State}
 use Rattle.core_steps.specs.Entering.{refusal_deeds, entered_all}
-use Rattle.ask_model.specs.Requests.{Ask}
 use Rattle.core_steps.specs.State.{pend}
 use Rattle.core_steps.specs.Steps.{seals}
 use Rattle.core_steps.specs.Calls.{Numbers, asked}

@@ -3,7 +3,7 @@ use Rattle.std.proofs.Common.{◌≡◌, ◌≢◌, ◌⊎◌, ℕ, zero, suc, �
 use Rattle.std.specs.Prelude.{option_map, IfSome, IfOk, IsTrue, IsFalse, ◌↔◌}
 use Rattle.std.specs.List.{All, AllByRecursion, Contains, filter, reduce, slice_get}
 use Rattle.std.proofs.lemmas.List.Elements.{All-head, All-tail, recursion_from_All}
-use Rattle.ask_model.specs.Requests.{Ask}
+use Rattle.ask_model.specs.Views.{Ask}
 use Rattle.core_steps.specs.State.{State}
 use Rattle.core_steps.specs.Resting.{HasConn}
 use Rattle.core_steps.proofs.ConnsTell.{conns-tell}

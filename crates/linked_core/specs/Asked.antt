@@ -1,6 +1,7 @@
 -- The ask that an exchange was opened by.
 use Rattle.std.specs.Prelude.{◌≡◌, ℕ, List, Some, slice_get}
-use Rattle.ask_model.specs.Requests.{CoapRequest, Ask, Requests}
+use Rattle.ask_model.specs.Requests.{CoapRequest, Requests}
+use Rattle.ask_model.specs.Views.{Ask}
 use Rattle.journal_book.specs.Entries.{Asks, Written}
 use Rattle.core_steps.specs.declared.kept.Exchange.{Exchange}
 use Rattle.linked_core.specs.Values.{written}

@@ -1,7 +1,8 @@
 -- What each call of a core leaves.
 use Rattle.std.specs.Prelude.{◌≡◌, ◌⊎◌, ℕ, ◌≤◌, ◌<◌, ◌^◌, ◌/◌, min, max, true, false, length, drop, Option, Some, None, Result, Ok, Err}
 use Rattle.coap_codec.specs.Spelling.{Spells}
-use Rattle.ask_model.specs.Requests.{CoapRequest, Ask, Requests, request_message}
+use Rattle.ask_model.specs.Requests.{CoapRequest, Requests, request_message}
+use Rattle.ask_model.specs.Views.{Ask}
 use Rattle.history_laws.specs.Numbering.{token_number}
 use Rattle.core_steps.specs.State.{State}
 use Rattle.core_steps.specs.Steps.{opens, shuts}

@@ -44,7 +44,7 @@ conns_from n [] cs = cs
 conns_from n (d ∷ ds) cs = conns_from (n + 1) ds (conns_after cs n d)
 
 abbrev pub untaken_of : Given → Untaken
-untaken_of g = record { ask = g.ask; number = g.number }
+untaken_of g = record { conn = g.conn; ask = g.ask; number = g.number }
 
 -- What was drafted, after this state and at this moment, is just these deeds, with the datagrams
 -- and answers among them.

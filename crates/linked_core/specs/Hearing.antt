@@ -8,8 +8,7 @@ use Rattle.ask_model.specs.Views.{Mapping}
 use Rattle.journal_book.specs.Entries.{Fault, Deed, Asks, Sends, Hears, Written}
 use Rattle.journal_book.specs.Views.{ask_of}
 use Rattle.history_laws.specs.Responses.{Response, is_whole, response_of}
-use Rattle.datagram_verdict.specs.Findings.{Found, Fails}
-use Rattle.datagram_verdict.specs.Verdicts.{found_by}
+use Rattle.datagram_verdict.specs.Findings.{Found, Fails, found_by}
 use Rattle.message_layer.specs.Values.{LinkState, Told, response, was_reset}
 use Rattle.message_layer.specs.Hearing.{applied, listed}
 use Rattle.message_layer.specs.declared.prepared.FirstSending.{FirstSending}

@@ -1,7 +1,8 @@
 -- Asks that are answered in their own step.
 use Rattle.std.specs.Prelude.{◌≡◌, ℕ, true}
 use Rattle.ask_model.specs.declared.cause.Cause.{Cause}
-use Rattle.ask_model.specs.Requests.{CoapRequest, Ask, Requests}
+use Rattle.ask_model.specs.Requests.{CoapRequest, Requests}
+use Rattle.ask_model.specs.Views.{Ask}
 use Rattle.core_steps.specs.State.{State}
 use Rattle.core_steps.specs.Calls.{Numbers, has_place, asked}
 use Rattle.core_steps.specs.Entering.{refusal_deeds, entered_all}

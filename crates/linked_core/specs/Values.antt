@@ -17,8 +17,9 @@ outgoing_of d = record { peer = d.peer; bytes = arc_value d.bytes }
 abbrev pub written : ℕ → Deed → Written
 written t d = record { moment = t; deed = d }
 
--- an answer that isn't taken yet, by its ask and the number of its own entry
+-- an answer that isn't taken yet: its connection, its ask, and the number of its own entry
 pub record Untaken : Type 0 where
+  pub conn : ℕ
   pub ask : ℕ
   pub number : ℕ
 
@@ -30,7 +31,7 @@ pub record CoreValue : Type 0 where
 
 -- the answers among entries, the first of which has this number
 abbrev pub answered_by : ℕ → Deed → List Untaken
-answered_by n (Answers c k g) = record { ask = k; number = n } ∷ []
+answered_by n (Answers c k g) = record { conn = c; ask = k; number = n } ∷ []
 answered_by n _ = []
 
 abbrev pub answered_in : ℕ → List Written → List Untaken

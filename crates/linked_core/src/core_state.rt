@@ -7,6 +7,7 @@ ghost use Rattle.core_steps.specs.Sealing.{hears_in_room, ticks_in_room};
 ghost use Rattle.std.specs.List.{reduce};
 ghost use Rattle.whole_history.specs.Justified.{Stands};
 ghost use Rattle.core_steps.specs.Keeping.{start};
+ghost use Rattle.core_steps.specs.Room.{KeptInRoom};
 ghost use Rattle.core_steps.specs.Resting.{HasConn};
 ghost use Rattle.linked_core.specs.Serving.{IsFirstTaken, AreBelow, AreOlder};
 ghost use Rattle.linked_core.specs.Answering.{given_of};
@@ -80,10 +81,11 @@ impl<R: Relation> Core<R> {
         })
     }
 
-    /// The journal, one reading of which is legal and at rest.
+    /// The journal, one reading of which is legal and at rest, and says what the core keeps.
     pub fn journal(&self) -> &Journal<R>
         ensures entries { result.now.entries ≡ self.now.state.entries }
         ensures stands { Stands self.now.state.entries }
+        ensures kept { KeptInRoom self.now.state }
     {
         &self.state.journal
     }

@@ -2,7 +2,7 @@
 
 ghost use Rattle.std.specs.Prelude.{◌≡◌, ℕ, Some, slice_get, IfOk};
 ghost use Rattle.std.specs.Arc.{arc_value};
-ghost use Rattle.ask_model.specs.Requests.{Ask};
+ghost use Rattle.ask_model.specs.Views.{Ask};
 ghost use Rattle.journal_book.specs.Entries.{Asks};
 ghost use Rattle.journal_book.specs.Views.{ask_of};
 ghost use Rattle.linked_core.specs.Asked.{IsAskIn};
