@@ -1,0 +1,12 @@
+pub mod Acts
+pub mod Closing
+pub mod Continuing
+pub mod Emissions
+pub mod Going
+pub mod Hearing
+pub mod Orders
+pub mod Resting
+pub mod Tellings
+pub mod Told
+pub mod Unasked
+pub mod Waiting
