@@ -1,35 +1,34 @@
 -- What a function of the engine does is acts.
 use Rattle.std.proofs.Common.{◌≡◌, ◌⊎◌, ℕ, suc, ◌<◌, Bool, true, false, length, arith, List, [], ◌∷◌, ◌++◌, Result, Ok, Err, Option, Some, None, inl, inr, refl, sym, ap, subst, ◌∙◌}
 use Rattle.std.specs.Prelude.{OnOk}
-use Rattle.std.proofs.lemmas.List.{append-nil, map_push}
-use Rattle.uri_map.specs.declared.peer.Peer.{Peer}
-use Rattle.ask_model.specs.Requests.{Ask}
+use Rattle.std.proofs.lemmas.List.{append-nil, append_assoc, map_push}
 use Rattle.http_edge.specs.Answers.{answer_text}
-use Rattle.http_edge.specs.Reading.{Item}
 use Rattle.core_steps.specs.State.{State}
-use Rattle.core_steps.specs.Sealing.{hears_in_room, ticks_in_room}
 use Rattle.linked_core.specs.declared.fault.OpenFault.TheVariants as Open
-use Rattle.linked_core.specs.declared.fault.AskFault.TheVariants as Fault
 use Rattle.linked_core.specs.Answering.{Given}
-use Rattle.linked_core.specs.Calls.{IsOpened, IsAsked, IsClosed, now}
+use Rattle.linked_core.specs.Calls.{IsOpened, IsUnknown}
 use Rattle.linked_core.specs.Taking.{IsTaken, IsSent}
 use Rattle.linked_core.specs.Values.{CoreValue, Outgoing, outgoing_of, stepped}
 use Rattle.connection_table.specs.Inlets.{Inlet, fresh, appended, without as without_inlet}
 use Rattle.connection_table.specs.Reads.{Continues, ChangesAt}
 use Rattle.linked_world.specs.declared.engine.Engine.{Engine}
-use Rattle.linked_world.specs.declared.input.When.{When}
-use Rattle.linked_world.specs.declared.input.Happening.{Happening}
-use Rattle.linked_world.specs.declared.input.Happening.TheVariants as H
-use Rattle.linked_world.specs.declared.input.Output.{Output}
-use Rattle.linked_world.specs.declared.input.Output.TheVariants as Out
-use Rattle.linked_world.specs.Acts.{Act, Opens, TurnsAway, Takes, Hears, Passes, Asks, IsDenied, Sends, Tells, GoesOn, Closes, Leaves, Served, Terms, Does, AsksItem, IsAsking, IsDenying, IsSending, IsTelling, at, came_at, continue_text}
-use Rattle.linked_world.specs.Emissions.{Emission, emissions, emission_of, Says, Goes, Closed, Turned}
-use Rattle.linked_world.specs.Engines.{IsShutting}
+use Rattle.proxy_acts.specs.declared.input.When.{When}
+use Rattle.proxy_acts.specs.declared.input.Happening.{Happening}
+use Rattle.proxy_acts.specs.declared.input.Happening.TheVariants as H
+use Rattle.proxy_acts.specs.declared.input.Output.{Output}
+use Rattle.proxy_acts.specs.declared.input.Output.TheVariants as Out
+use Rattle.proxy_acts.specs.Acts.{Act, Opens, TurnsAway, Takes, Hears, Passes, Sends, Tells, GoesOn, Rests, Leaves, Misses, Served, Terms, Does, IsSending, IsTelling, IsClosing, Ends, RestsAt, at, continue_text}
+use Rattle.proxy_acts.specs.Emissions.{Emission, emissions, emission_of, Says, Goes, Closed, Turned}
+use Rattle.linked_world.specs.Engines.{IsShutting, IsShut, LeadsAfter}
 use Rattle.linked_world.specs.Leading.{Leads, LeadsBy, served_of}
-use Rattle.linked_world.specs.Orders.{IsFor, AreFor, AreSends, IsInOrder, BeginsWith, IsTold}
-use Rattle.linked_world.specs.Tellings.{MeansGiven, TellsBytes}
-use Rattle.linked_world.specs.Unasked.{Unasked, unasked_in, taken, TakesItem, TellsToGoOn}
-use Rattle.linked_world.proofs.Lead.{leads-one, leads-none, leads-then, leads-as}
+use Rattle.proxy_acts.specs.Orders.{AreFor, AreSends, IsInOrder, BeginsWith, IsTelling as TellsOnly, ServesOut}
+use Rattle.http_mapping.specs.Means.{closes}
+use Rattle.proxy_acts.specs.Tellings.{TellsBytes}
+use Rattle.proxy_acts.specs.Unasked.{Unasked, unasked_in, taken}
+use Rattle.linked_world.proofs.Lead.{leads-one, leads-then}
+use Rattle.proxy_acts.specs.Waiting.{IsOpen}
+use Rattle.proxy_acts.proofs.Opened.{conn-open}
+use Rattle.proxy_acts.proofs.Order.{rests-on}
 use Rattle.linked_world.proofs.ReadingOn.{unasked-without, unasked-taken, unasked-opened, tells-on}
 
 -- what follows where a call went well
@@ -45,6 +44,19 @@ begins-lead M w a P old mid new before after h k =
     leads-then M w (λ (xs : List Act). xs ≡ a ∷ []) P (BeginsWith a P) old mid new before before after
     (λ xs ys e p. record { rest = ys; are = ap (λ (zs : List Act). zs ++ ys) e; then = p })
     (leads-one M w (λ (xs : List Act). xs ≡ a ∷ []) a old mid before [] before refl h (sym (append-nil before))) k
+
+module _ {R : Type 0} (w : When) where
+  pub closing-of : (c : ℕ) (old new : Engine R) → IsShutting w c old new → IsClosing w c (served_of old) (served_of new)
+  closing-of c old new shut = (shut.closed, ap unasked_in shut.inlets ∙ unasked-without c old.table.current)
+
+  -- after the answer that isn't the last the connection stays, and after the last it is closed
+  pub stays-after : (c : ℕ) (b : Bool) (old : Engine R) → b ≡ false → Ends w c b (served_of old) [] (served_of old)
+  stays-after c b old e = subst (λ (x : Bool). Ends w c x (served_of old) [] (served_of old)) (sym e) (refl, refl)
+
+  pub ends-after : (c : ℕ) (b : Bool) (old new : Engine R) (before after : List Output) → b ≡ true
+      → IsShut w c old before new after → Ends w c b (served_of old) (Closed c ∷ []) (served_of new)
+  ends-after c b old new before after e s =
+      subst (λ (x : Bool). Ends w c x (served_of old) (Closed c ∷ []) (served_of new)) (sym e) (closing-of c old new s.shuts, refl)
 
 module _ {R : Type 0} (M : Terms) (w : When) where
   pub opens-lead : (c : ℕ) (old new : Engine R) (before : List Output)
@@ -73,18 +85,27 @@ module _ {R : Type 0} (M : Terms) (w : When) where
       (tt, tt) (record { datagram = d; sent = sent; unasked = ap unasked_in e; given = refl })
       (ap emissions added ∙ (map_push emission_of before o ∙ ap (λ (x : Emission). emissions before ++ x ∷ []) same))
 
-  pub shuts-lead : (c : ℕ) (old new : Engine R) (before after : List Output) → IsShutting w c old new
-      → emissions after ≡ emissions before ++ Closed c ∷ []
-      → LeadsBy M w (AreFor c) old before new after
-  shuts-lead c old new before after shut added =
-      leads-one M w (AreFor c) (Closes c) (served_of old) (served_of new) (emissions before) (Closed c ∷ []) (emissions after)
-      (refl, tt) (shut.closed, ap unasked_in shut.inlets ∙ unasked-without c old.table.current, refl) added
-
   pub leaves-lead : (c : ℕ) (old new : Engine R) (before : List Output) → IsShutting w c old new
       → LeadsBy M w (IsInOrder (H.Close c)) old before new before
   leaves-lead c old new before shut =
       leads-one M w (IsInOrder (H.Close c)) (Leaves c) (served_of old) (served_of new) (emissions before) [] (emissions before)
-      (inr refl) (shut.closed, ap unasked_in shut.inlets ∙ unasked-without c old.table.current, refl) (sym (append-nil (emissions before)))
+      (inl refl) (closing-of w c old new shut, refl) (sym (append-nil (emissions before)))
+
+  pub misses-lead : (c : ℕ) (old : Engine R) (before : List Output) → IsUnknown c old.core
+      → LeadsBy M w (IsInOrder (H.Close c)) old before old before
+  misses-lead c old before unknown =
+      leads-one M w (IsInOrder (H.Close c)) (Misses c) (served_of old) (served_of old) (emissions before) [] (emissions before)
+      (inr refl) (refl, refl, unknown) (sym (append-nil (emissions before)))
+
+  -- it was served until nothing more can be asked
+  pub rests-lead : (c : ℕ) (old mid new : Engine R) (before after : List Output) → LeadsBy M w (AreFor c) old before mid after
+      → served_of new ≡ served_of mid → RestsAt c (served_of new)
+      → LeadsBy M w (ServesOut c) old before new after
+  rests-lead c old mid new before after h e rests =
+      leads-then M w (AreFor c) (λ (xs : List Act). xs ≡ Rests c ∷ []) (ServesOut c) (served_of old) (served_of mid) (served_of new)
+      (emissions before) (emissions after) (emissions after) (rests-on c) h
+      (leads-one M w (λ (xs : List Act). xs ≡ Rests c ∷ []) (Rests c) (served_of mid) (served_of new) (emissions after) [] (emissions after)
+      refl (e, refl, subst (RestsAt c) e rests) (sym (append-nil (emissions after))))
 
   pub stays-lead : (P : List Act → Type 0) (old new : Engine R) (before after : List Output) → P []
       → new.core ≡ old.core → unasked_in new.table.current ≡ unasked_in old.table.current
@@ -106,31 +127,40 @@ module _ {R : Type 0} (M : Terms) (w : When) where
       leads-one M w (AreFor c) (GoesOn c) (served_of old) (served_of new) (emissions before) (Says c continue_text ∷ []) (emissions after)
       (refl, tt) (tells-on c old.table.current new.table.current h, core, refl) added
 
-  -- the answer is told, and what follows is done
-  pub tells-lead : (g : Given) (v : CoreValue) (old new : Engine R) (before mid after : List Output)
+  -- the answer is told
+  pub tells-lead : (g : Given) (v : CoreValue) (old new : Engine R) (before mid after : List Output) (rest : List Emission)
       → IsTaken (Some g) g.ask v old.core
-      → (t : TellsBytes g (emissions before) (emissions mid))
-      → M.IsTelling g t.response
-      → LeadsBy M w (AreFor g.conn) old mid new after
-      → Leads M w (IsTold g.conn g.ask) (record { core = v; unasked = unasked_in old.table.current }) (emissions before)
-      (served_of new) (emissions after)
-  tells-lead g v old new before mid after taken t tells k =
-      leads-then M w (λ (xs : List Act). xs ≡ Tells g.conn g.ask ∷ []) (AreFor g.conn) (IsTold g.conn g.ask)
-      (record { core = v; unasked = unasked_in old.table.current }) (served_of old) (served_of new)
-      (emissions before) (emissions mid) (emissions after)
-      (λ xs ys e p. record { rest = ys; are = ap (λ (zs : List Act). zs ++ ys) e; then = p })
-      (leads-one M w (λ (xs : List Act). xs ≡ Tells g.conn g.ask ∷ []) (Tells g.conn g.ask)
-      (record { core = v; unasked = unasked_in old.table.current }) (served_of old)
-      (emissions before) (Says g.conn (answer_text t.response) ∷ []) (emissions mid) refl
-      (record { answer = g; conn = refl; taken = taken; unasked = refl; response = t.response; tells = tells; given = refl })
-      t.added) k
+      → TellsBytes M g (emissions before) (emissions mid)
+      → Ends w g.conn (closes g.mapping.came) (served_of old) rest (served_of new)
+      → emissions after ≡ emissions mid ++ rest
+      → LeadsAfter M w (TellsOnly g.conn g.ask) v old.table.current before new after
+  tells-lead g v old new before mid after rest taken t ends added =
+      leads-one M w (TellsOnly g.conn g.ask) (Tells g.conn g.ask)
+      (record { core = v; unasked = unasked_in old.table.current }) (served_of new)
+      (emissions before) (Says g.conn (answer_text t.response) ∷ rest) (emissions after) refl (
+      record {
+        answer = g;
+        conn = refl;
+        told = served_of old;
+        taken = taken;
+        unasked = refl;
+        response = t.response;
+        tells = t.tells;
+        after = rest;
+        ends = ends;
+        given = refl;
+      }
+      )
+      (added
+      ∙ (ap (λ (es : List Emission). es ++ rest) t.added
+      ∙ append_assoc (emissions before) (Says g.conn (answer_text t.response) ∷ []) rest))
 
   pub takes-lead : (c : ℕ) (bytes : List ℕ) (old mid new : Engine R) (before after : List Output)
       → mid.core ≡ old.core → mid.table.current ≡ appended c bytes old.table.current
-      → LeadsBy M w (AreFor c) mid before new after
-      → LeadsBy M w (BeginsWith (Takes c bytes) (AreFor c)) old before new after
+      → LeadsBy M w (ServesOut c) mid before new after
+      → LeadsBy M w (BeginsWith (Takes c bytes) (ServesOut c)) old before new after
   takes-lead c bytes old mid new before after core e k =
-      begins-lead M w (Takes c bytes) (AreFor c) (served_of old) (served_of mid) (served_of new) (emissions before) (emissions after)
+      begins-lead M w (Takes c bytes) (ServesOut c) (served_of old) (served_of mid) (served_of new) (emissions before) (emissions after)
       (takes-so (ap unasked_in e ∙ unasked-taken c bytes old.table.current), refl) k
     where
       takes-so : unasked_in mid.table.current ≡ taken c bytes (unasked_in old.table.current)
@@ -148,12 +178,16 @@ module _ {R : Type 0} (M : Terms) (w : When) where
 
   -- a client closes its connection, or one that isn't open
   pub close-lead : (b : Bool) (c : ℕ) (old new : Engine R) (before : List Output)
-      → (b ≡ true → IsShutting w c old new) → (b ≡ false → new ≡ old)
+      → (b ≡ true → IsShutting w c old new) → (b ≡ false → (new ≡ old) × IsUnknown c old.core)
       → LeadsBy M w (IsInOrder (H.Close c)) old before new before
   close-lead true c old new before f h = leaves-lead c old new before (f refl)
   close-lead false c old new before f h =
-      subst (λ (e : Engine R). LeadsBy M w (IsInOrder (H.Close c)) old before e before) (sym (h refl))
-      (leads-none M w (IsInOrder (H.Close c)) (served_of old) (emissions before) (inl refl))
+      subst (λ (e : Engine R). LeadsBy M w (IsInOrder (H.Close c)) old before e before) (sym (h refl).0)
+      (misses-lead c old before (h refl).1)
+
+-- a connection that is open is none that there isn't
+pub open-known : (c : ℕ) (v : CoreValue) → IsOpen c v.state.conns → IsUnknown c v → ⊥
+open-known c v o unknown = let h = conn-open c v.state.conns o in unknown h.0 h.1
 
 -- the core is as it was
 pub leads-core : (M : Terms) (w : When) (P : List Act → Type 0) (a : Served) (x y : List Emission)

@@ -4,8 +4,7 @@ use Rattle.std.specs.Prelude.{slice_get, All}
 use Rattle.std.specs.List.{AllByRecursion, filter}
 use Rattle.std.proofs.lemmas.List.{append-nil}
 use Rattle.std.proofs.lemmas.List.Elements.{All-from_recursion}
-use Rattle.ask_model.specs.Requests.{Ask}
-use Rattle.ask_model.specs.Views.{came_of}
+use Rattle.ask_model.specs.Views.{Ask, came_of}
 use Rattle.http_edge.specs.Edges.{item}
 use Rattle.http_edge.specs.Reading.{Item}
 use Rattle.http_edge.specs.declared.request.Incoming.{Incoming}
@@ -24,16 +23,19 @@ use Rattle.linked_core.specs.Values.{CoreValue, Untaken, written}
 use Rattle.journal_book.specs.Views.{ask_of}
 use Rattle.connection_table.specs.Inlets.{Inlet, TableValue, inlet_at, without as without_inlet, IsAbove}
 use Rattle.linked_world.specs.declared.engine.Engine.{Engine}
-use Rattle.linked_world.specs.declared.input.When.{When}
-use Rattle.linked_world.specs.declared.input.Output.{Output}
-use Rattle.linked_world.specs.Acts.{Act, Asks as AsksNext, IsDenied, Served, Terms, IsAsking, IsDenying, at, came_at}
-use Rattle.linked_world.specs.Emissions.{Emission, emissions}
-use Rattle.linked_world.specs.Engines.{IsAskOf, KeepsWaiting, LetsGo, IsSentOut, LeadsAfter, conn_id, inlet_number, work_in}
+use Rattle.proxy_acts.specs.declared.input.When.{When}
+use Rattle.proxy_acts.specs.declared.input.Output.{Output}
+use Rattle.proxy_acts.specs.Acts.{Asks as AsksNext, Denies, Served, Terms, IsAllTold, came_at}
+use Rattle.proxy_acts.specs.Emissions.{Emission, emissions, Closed}
+use Rattle.linked_world.specs.Engines.{IsAskOf, IsShut, KeepsWaiting, LetsGo, IsSentOut, LeadsAfter, inlet_number, work_in}
+use Rattle.proxy_acts.specs.Waiting.{conn_id, IsOpen}
+use Rattle.proxy_acts.proofs.Opened.{asked-open}
 use Rattle.linked_world.specs.Leading.{Leads, LeadsBy, served_of}
-use Rattle.linked_world.specs.Orders.{IsFor, AreFor, AreSends, IsTold}
-use Rattle.linked_world.specs.Unasked.{unasked_in, TakesItem}
+use Rattle.proxy_acts.specs.Orders.{AreFor, AreSends, IsTelling}
+use Rattle.linked_world.proofs.Acting.{closing-of}
+use Rattle.proxy_acts.specs.Unasked.{unasked_in, TakesItem}
 use Rattle.linked_world.proofs.Lead.{leads-one, leads-then, leads-as}
-use Rattle.linked_world.proofs.Order.{sends-for-on, for-on, told-for}
+use Rattle.proxy_acts.proofs.Order.{sends-for-on, for-on, told-for}
 use Rattle.linked_world.proofs.ReadingOn.{gone-without}
 use Rattle.linked_world.proofs.Untaken.{not_to, others-stay, ask-let-go, ask-of}
 
@@ -68,18 +70,20 @@ came-item (In.Bad kind) = refl
 module _ {R : Type 0} (M : Terms) (w : When) where
   pub asks-lead : (c k : ℕ) (ask : Ask) (i : Item) (v : CoreValue) (xs : List Inlet)
       (old mid new : Engine R) (before sent after : List Output)
+      → IsAllTold c v
       → IsAsked (Ok k) (now v.state.moment w.moment) w.word c ask v old.core
       → TakesItem c i (unasked_in xs) (unasked_in old.table.current)
-      → ask.came ≡ came_at i → M.IsMeaning ask.came ask.sense
+      → ask.came ≡ came_at i → M.IsMeaning ask
       → LeadsBy M w AreSends old before mid sent
       → LeadsBy M w (AreFor c) mid sent new after
       → LeadsAfter M w (AreFor c) v xs before new after
-  asks-lead c k ask i v xs old mid new before sent after asked takes came meant sends gives =
+  asks-lead c k ask i v xs old mid new before sent after told asked takes came meant sends gives =
       leads-then M w (AreFor c) (AreFor c) (AreFor c) (record { core = v; unasked = unasked_in xs }) (served_of old)
       (served_of new) (emissions before) (emissions before) (emissions after) (for-on c)
       (leads-one M w (AreFor c) (AsksNext c) (record { core = v; unasked = unasked_in xs }) (served_of old)
       (emissions before) [] (emissions before) (refl, tt) (
         record {
+          told = told;
           ask = ask;
           reads = record { item = i; reads = takes; came = came; meant = meant };
           number = k;
@@ -92,31 +96,32 @@ module _ {R : Type 0} (M : Terms) (w : When) where
 
   pub denies-lead : (c : ℕ) (ask : Ask) (i : Item) (v : CoreValue) (xs : List Inlet)
       (old new : Engine R) (before after : List Output)
+      → IsAllTold c v
       → IsAsked (Err Fault.Sealed) (now v.state.moment w.moment) w.word c ask v old.core
       → TakesItem c i (unasked_in xs) (unasked_in old.table.current)
-      → ask.came ≡ came_at i → M.IsMeaning ask.came ask.sense
-      → LeadsBy M w (AreFor c) old before new after
+      → ask.came ≡ came_at i → M.IsMeaning ask
+      → IsShut w c old before new after
       → LeadsAfter M w (AreFor c) v xs before new after
-  denies-lead c ask i v xs old new before after asked takes came meant shuts =
-      leads-then M w (AreFor c) (AreFor c) (AreFor c) (record { core = v; unasked = unasked_in xs }) (served_of old)
-      (served_of new) (emissions before) (emissions before) (emissions after) (for-on c)
-      (leads-one M w (AreFor c) (IsDenied c) (record { core = v; unasked = unasked_in xs }) (served_of old)
-      (emissions before) [] (emissions before) (refl, tt) (
+  denies-lead c ask i v xs old new before after told asked takes came meant shut =
+      leads-one M w (AreFor c) (Denies c) (record { core = v; unasked = unasked_in xs }) (served_of new)
+      (emissions before) (Closed c ∷ []) (emissions after) (refl, tt) (
+        served_of old,
         record {
+          answered = told;
           ask = ask;
           reads = record { item = i; reads = takes; came = came; meant = meant };
           denied = asked;
         },
+        closing-of w c old new shut.shuts,
         refl,
-      ) (sym (append-nil (emissions before))))
-      shuts
+      ) shut.told
 
   -- an answer that is told at once is its own ask's
   pub given-lead : (c d k : ℕ) (old : Served) (new : Engine R) (before : List Emission) (after : List Output)
-      → d ≡ c → Leads M w (IsTold d k) old before (served_of new) (emissions after)
+      → d ≡ c → Leads M w (IsTelling d k) old before (served_of new) (emissions after)
       → Leads M w (AreFor c) old before (served_of new) (emissions after)
   given-lead c d k old new before after e h =
-      leads-as M w (IsTold d k) (AreFor c) old (served_of new) before (emissions after)
+      leads-as M w (IsTelling d k) (AreFor c) old (served_of new) before (emissions after)
       (λ xs told. subst (λ (n : ℕ). AreFor n xs) e (told-for d k xs told)) h
 
 pub taken-self : (g : Given) (k : ℕ) (old new : CoreValue) → IsTaken (Some g) k old new → IsTaken (Some g) g.ask old new
@@ -152,6 +157,12 @@ ask-stands t word c d k a old asked new e is same =
           (subst (λ (h : List Written). slice_get h k ≡ Some (record { moment = m; deed = Asks f b }))
           (ap (λ (s : State). s.entries) same) stands)) ∙ sym e;
     }
+
+pub ask-open : (t word c d k : ℕ) (a : Ask) (old asked new : CoreValue) → d ≡ c → IsAsked (Ok k) t word c a old asked
+    → new.state ≡ asked.state → IsOpen d new.state.conns
+ask-open t word c d k a old asked new e is same =
+    subst (λ (n : ℕ). IsOpen n new.state.conns) (sym e)
+    (subst (λ (s : State). IsOpen c s.conns) (sym same) (asked-open t word c k a old asked is))
 
 pub ask-waits : (t word c k : ℕ) (a : Ask) (old asked sent new : CoreValue) → IsAsked (Ok k) t word c a old asked
     → AllByRecursion (λ (u : Untaken). u.ask < k) old.untaken → IsSentOut asked sent → LetsGo k sent new

@@ -1,7 +1,7 @@
 -- A core's entries only grow, and an engine can go back.
 use Rattle.std.proofs.Common.{◌≡◌, ◌⊎◌, ℕ, true, List, [], ◌++◌, Result, Ok, Err, inl, inr, refl, sym, ap, ◌∙◌}
 use Rattle.std.proofs.lemmas.List.{append_assoc, append-nil}
-use Rattle.ask_model.specs.Requests.{Ask}
+use Rattle.ask_model.specs.Views.{Ask}
 use Rattle.journal_book.specs.Entries.{Written}
 use Rattle.uri_map.specs.declared.peer.Peer.{Peer}
 use Rattle.core_steps.specs.State.{State}

@@ -2,12 +2,12 @@
 use Rattle.std.proofs.Common.{◌≡◌, ℕ, List, [], sym, subst, refl}
 use Rattle.connection_table.specs.Inlets.{Inlet}
 use Rattle.linked_core.specs.Values.{CoreValue}
-use Rattle.linked_world.specs.declared.input.Input.{Input}
-use Rattle.linked_world.specs.Acts.{Terms}
-use Rattle.linked_world.specs.Emissions.{Emission}
+use Rattle.proxy_acts.specs.declared.input.Input.{Input}
+use Rattle.proxy_acts.specs.Acts.{Terms}
+use Rattle.proxy_acts.specs.Emissions.{Emission}
 use Rattle.linked_world.specs.Leading.{Leads}
-use Rattle.linked_world.specs.Orders.{IsInOrder}
-use Rattle.linked_world.specs.Unasked.{unasked_in}
+use Rattle.proxy_acts.specs.Orders.{IsInOrder}
+use Rattle.proxy_acts.specs.Unasked.{unasked_in}
 use Rattle.linked_world.specs.Worlds.{WorldValue, Handles, served_in, counted}
 
 pub handled : (M : Terms) (i : Input) (old : WorldValue) (u : CoreValue) (ys zs : List Inlet) (t : ℕ)

@@ -1,9 +1,9 @@
 -- Acts that are done one after another.
 use Rattle.std.proofs.Common.{◌≡◌, ℕ, List, [], ◌∷◌, ◌++◌, refl, sym, subst, ap, ◌∙◌}
 use Rattle.std.proofs.lemmas.List.{append_assoc, append-nil}
-use Rattle.linked_world.specs.declared.input.When.{When}
-use Rattle.linked_world.specs.Acts.{Act, Served, Terms, Does, DoesAll}
-use Rattle.linked_world.specs.Emissions.{Emission}
+use Rattle.proxy_acts.specs.declared.input.When.{When}
+use Rattle.proxy_acts.specs.Acts.{Act, Served, Terms, Does, DoesAll}
+use Rattle.proxy_acts.specs.Emissions.{Emission}
 use Rattle.linked_world.specs.Leading.{Leads}
 
 pub does-both : (M : Terms) (w : When) (xs ys : List Act) (a b c : Served) (o p : List Emission)

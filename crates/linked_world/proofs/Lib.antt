@@ -3,9 +3,11 @@ pub mod Answering
 pub mod Asking
 pub mod Growth
 pub mod Lead
-pub mod Numbers
-pub mod Order
+pub mod Numbered
+pub mod Promises
 pub mod Quiet
 pub mod ReadingOn
+pub mod Rendering
 pub mod Untaken
 pub mod Handling
+pub mod Running

@@ -4,7 +4,8 @@ use Rattle.std.proofs.Math.Seq.{drop-append_seam}
 use Rattle.std.proofs.lemmas.List.{append-nil}
 use Rattle.uri_map.specs.declared.peer.Peer.{Peer}
 use Rattle.ask_model.specs.declared.cause.Cause.TheVariants as C
-use Rattle.ask_model.specs.Requests.{CoapRequest, Ask, Sense, Requests, Refuses}
+use Rattle.ask_model.specs.Requests.{CoapRequest, Sense, Requests, Refuses}
+use Rattle.ask_model.specs.Views.{Ask}
 use Rattle.journal_book.specs.Entries.{Opens, Shuts, Seals, Written}
 use Rattle.message_layer.specs.declared.state.Outstanding.{Outstanding}
 use Rattle.message_layer.specs.declared.state.Waiting.{Waiting}
@@ -21,7 +22,7 @@ use Rattle.linked_core.specs.declared.fault.AskFault.TheVariants as Fault
 use Rattle.linked_core.specs.Calls.{IsOpened, IsAsked, IsClosed, AsksSo}
 use Rattle.linked_core.specs.Values.{CoreValue, Untaken, Outgoing, answered_in, sent_in, stepped}
 use Rattle.linked_world.specs.Engines.{KeepsWaiting}
-use Rattle.linked_world.specs.Leading.{IsDrained}
+use Rattle.proxy_acts.specs.Waiting.{IsDrained}
 
 record IsQuiet (S S1 : State) : Type 0 where
   more : List Written

@@ -9,7 +9,7 @@ use Rattle.http_edge.specs.Reading.{Item}
 use Rattle.connection_table.specs.Inlets.{Inlet, inlet_at, fresh, changed_at as inlets_changed_at, with_inlet, extended as inlet_extended, appended, without as without_inlet, AreRising}
 use Rattle.connection_table.specs.Reads.{work_of, Asks, Continues, AwaitsMore, Settles, ChangesAt, IsAbsent}
 use Rattle.linked_world.specs.Engines.{work_in}
-use Rattle.linked_world.specs.Unasked.{Unasked, unasked_of, unasked_in, unasked_at, no_bytes, changed_at, extended, taken, without, left_after, TakesItem, TellsToGoOn, IsReadOut}
+use Rattle.proxy_acts.specs.Unasked.{Unasked, unasked_of, unasked_in, unasked_at, no_bytes, changed_at, extended, taken, without, left_after, TakesItem, TellsToGoOn, IsReadOut}
 
 at-inlet : (b : Bool) (x : Inlet) (o : Option Inlet) (u : Option Unasked) → u ≡ option_map unasked_of o
     → (if b then Some (unasked_of x) else u) ≡ option_map unasked_of (if b then Some x else o)

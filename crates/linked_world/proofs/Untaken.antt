@@ -6,7 +6,7 @@ use Rattle.std.proofs.Math.Seq.{drop-append_seam}
 use Rattle.std.proofs.lemmas.Bool.{eqb-false}
 use Rattle.std.proofs.lemmas.List.{append-nil}
 use Rattle.std.proofs.lemmas.List.Elements.{filter-append}
-use Rattle.ask_model.specs.Requests.{Ask}
+use Rattle.ask_model.specs.Views.{Ask}
 use Rattle.journal_book.specs.Entries.{Deed, Opens, Asks, Sends, Hears, Passes, Answers, Shuts, Seals, Written}
 use Rattle.core_steps.specs.State.{State}
 use Rattle.core_steps.specs.Calls.{Numbers}
@@ -18,7 +18,7 @@ use Rattle.linked_core.specs.Serving.{AreOlder, IsFirst}
 use Rattle.linked_core.specs.Taking.{is_to_other}
 use Rattle.linked_core.specs.Values.{Untaken, CoreValue, answered_by, answered_in, stepped}
 use Rattle.linked_world.specs.Engines.{IsAskOf}
-use Rattle.linked_world.proofs.Order.{all-append, all-as}
+use Rattle.proxy_acts.proofs.Order.{all-append, all-as}
 
 abbrev pub not_to : ℕ → Untaken → Bool
 not_to k u = not (u.ask == k)
@@ -167,10 +167,25 @@ less-more : (b : Bool) (u : Untaken) (n : ℕ) (vs : List Untaken) → length vs
 less-more true u n vs h = omega arith
 less-more false u n vs h = omega arith
 
-pub fewer : (k n : ℕ) (us : List Untaken) → Contains us (record { ask = k; number = n })
+pub fewer : (c k n : ℕ) (us : List Untaken) → Contains us (record { conn = c; ask = k; number = n })
     → length (filter (not_to k) us) < length us
-fewer k n [] (i, lt, e) = absurd (omega (arith, lt))
-fewer k n (u ∷ us) (zero, lt, e) =
+fewer c k n [] (i, lt, e) = absurd (omega (arith, lt))
+fewer c k n (u ∷ us) (zero, lt, e) =
     less-one (u.ask == k) k u (length us) (filter (not_to k) us) refl (ap (λ (v : Untaken). v.ask) e) (at-most k us)
-fewer k n (u ∷ us) (suc i, lt, e) =
-    less-more (not (u.ask == k)) u (length us) (filter (not_to k) us) (fewer k n us (i, omega (arith, lt), e))
+fewer c k n (u ∷ us) (suc i, lt, e) =
+    less-more (not (u.ask == k)) u (length us) (filter (not_to k) us) (fewer c k n us (i, omega (arith, lt), e))
+
+-- what holds of all of them
+
+pub filter-all : (P : Untaken → Type 0) (k : ℕ) (us : List Untaken) → AllByRecursion P us → AllByRecursion P (filter (not_to k) us)
+filter-all P k [] h = tt
+filter-all P k (u ∷ us) h = one (not (u.ask == k)) (filter-all P k us h.1)
+  where
+    one : (b : Bool) → AllByRecursion P (filter (not_to k) us) → AllByRecursion P (cond b (u ∷ filter (not_to k) us) (filter (not_to k) us))
+    one true rest = (h.0, rest)
+    one false rest = rest
+
+pub all-at : (P : Untaken → Type 0) (v : Untaken) (us : List Untaken) → AllByRecursion P us → Contains us v → P v
+all-at P v [] h (i, lt, e) = absurd (omega (arith, lt))
+all-at P v (u ∷ us) h (zero, lt, e) = subst P e h.0
+all-at P v (u ∷ us) h (suc i, lt, e) = all-at P v us h.1 (i, omega (arith, lt), e)

@@ -1,32 +1,28 @@
 -- What is said of an engine, before and after a step.
-use Rattle.std.specs.Prelude.{◌≡◌, ◌⊎◌, ℕ, ◌+◌, ◌==◌, ◌<◌, ◌≤◌, Bool, true, false, not, List, [], ◌++◌, length, map, filter, slice_get, Option, Some, None}
+use Rattle.std.specs.Prelude.{◌≡◌, ℕ, ◌==◌, ◌<◌, Bool, true, false, not, List, [], ◌∷◌, ◌++◌, map, filter, slice_get, Option, Some, None}
 use Rattle.media_map.specs.declared.form.Form.{Form}
-use Rattle.ask_model.specs.Maps.{Maps}
-use Rattle.ask_model.specs.Requests.{Ask}
+use Rattle.ask_model.specs.Views.{Ask}
 use Rattle.journal_book.specs.Entries.{Asks, Written}
-use Rattle.core_steps.specs.declared.kept.Conn.{Conn}
-use Rattle.core_steps.specs.Resting.{HasConn}
-use Rattle.linked_core.specs.Answering.{Given}
 use Rattle.linked_core.specs.Calls.{IsClosed}
 use Rattle.linked_core.specs.Snapshots.{Grows}
 use Rattle.linked_core.specs.Values.{CoreValue, Untaken}
 use Rattle.linked_world.specs.declared.engine.Context.{Context}
 use Rattle.linked_world.specs.declared.engine.Engine.{Engine}
-use Rattle.linked_world.specs.declared.input.When.{When}
-use Rattle.linked_world.specs.declared.input.Output.{Output}
-use Rattle.linked_world.specs.Acts.{Act, Terms, at}
-use Rattle.linked_world.specs.Emissions.{emissions}
-use Rattle.linked_world.specs.Unasked.{Unasked, unasked_in, unasked_at, without, IsReadOut}
+use Rattle.proxy_acts.specs.declared.input.When.{When}
+use Rattle.proxy_acts.specs.declared.input.Output.{Output}
+use Rattle.proxy_acts.specs.Acts.{Act, Terms, at, RestsAt}
+use Rattle.proxy_acts.specs.Emissions.{emissions, Closed}
+use Rattle.proxy_acts.specs.Waiting.{conn_id}
+use Rattle.proxy_acts.specs.Unasked.{unasked_in}
 use Rattle.connection_table.specs.Inlets.{Inlet, inlet_at, without as without_inlet}
 use Rattle.connection_table.specs.Reads.{work_of}
 use Rattle.linked_world.specs.Leading.{Leads, served_of, rules_in}
-use Rattle.linked_world.specs.Tellings.{MeansGiven}
+use Rattle.proxy_acts.specs.Tellings.{terms_of}
 
 -- what requests mean, and which responses tell an answer, by the settings
 abbrev pub terms_in : (Form → Form → List ℕ → List ℕ → Type 0) → (Form → Form → List ℕ → Type 0)
     → Context → Terms
-terms_in holds takes context =
-    record { IsMeaning = Maps holds takes (rules_in context); IsTelling = MeansGiven }
+terms_in holds takes context = terms_of holds takes (rules_in context)
 
 -- The engine can go back from the new to what it was: entries were only added, and what its
 -- connections were marked as stays.
@@ -59,9 +55,6 @@ abbrev pub work_at : {R : Type 0} → ℕ → Engine R → ℕ
 work_at c e = work_in (inlet_at c e.table.current)
 
 -- The connections of the table are those of the core.
-abbrev pub conn_id : Conn → ℕ
-conn_id x = x.id
-
 abbrev pub inlet_number : Inlet → ℕ
 inlet_number x = x.number
 
@@ -88,13 +81,17 @@ LeadsAfter M w P v xs before new after =
     Leads M w P (record { core = v; unasked = unasked_in xs }) (emissions before)
     (served_of new) (emissions after)
 
--- Nothing that the connection's bytes ask can be asked now: it waits for an answer or isn't open, or
--- they ask nothing.
+-- Nothing that the connection's bytes ask can be asked now.
 abbrev pub HasRead : {R : Type 0} → ℕ → Engine R → Type 0
-HasRead c e =
-    (HasConn e.core.state.conns c None → ⊥) ⊎ IsReadOut (unasked_at c (unasked_in e.table.current))
+HasRead c e = RestsAt c (served_of e)
 
 -- There may be more to ask, and less is left; or there isn't.
 abbrev pub GoesOn : {R : Type 0} → Bool → ℕ → Engine R → Engine R → Type 0
 GoesOn true c old new = work_at c new < work_at c old
 GoesOn false c old new = HasRead c new
+
+-- A connection that was open is closed, and told so.
+pub record IsShut {R : Type 0} (w : When) (c : ℕ) (old : Engine R) (before : List Output)
+    (new : Engine R) (after : List Output) : Type 0 where
+  pub shuts : IsShutting w c old new
+  pub told : emissions after ≡ emissions before ++ Closed c ∷ []

@@ -2,14 +2,13 @@
 use Rattle.std.specs.Prelude.{◌≡◌, ℕ, List, [], ◌∷◌, ◌++◌}
 use Rattle.std.specs.Arc.{arc_value}
 use Rattle.ask_model.specs.Views.{Rules, rules_of}
-use Rattle.linked_core.specs.Values.{CoreValue}
 use Rattle.linked_world.specs.declared.engine.Context.{Context}
 use Rattle.linked_world.specs.declared.engine.Engine.{Engine}
-use Rattle.linked_world.specs.declared.input.Output.{Output}
-use Rattle.linked_world.specs.declared.input.When.{When}
-use Rattle.linked_world.specs.Acts.{Act, Served, Terms, DoesAll}
-use Rattle.linked_world.specs.Emissions.{Emission, emissions}
-use Rattle.linked_world.specs.Unasked.{unasked_in}
+use Rattle.proxy_acts.specs.declared.input.Output.{Output}
+use Rattle.proxy_acts.specs.declared.input.When.{When}
+use Rattle.proxy_acts.specs.Acts.{Act, Served, Terms, DoesAll}
+use Rattle.proxy_acts.specs.Emissions.{Emission, emissions}
+use Rattle.proxy_acts.specs.Unasked.{unasked_in}
 
 -- Acts of this kind are done, and what they give out comes after what was given out before.
 pub record Leads (M : Terms) (w : When) (P : List Act → Type 0)
@@ -32,8 +31,3 @@ LeadsBy M w P old before new after =
 -- by what rules requests are mapped
 abbrev pub rules_in : Context → Rules
 rules_in context = rules_of (arc_value context.settings.now)
-
--- Nothing waits to be given out: no datagram, and no answer.
-pub record IsDrained (core : CoreValue) : Type 0 where
-  pub sends : core.unsent ≡ []
-  pub answers : core.untaken ≡ []

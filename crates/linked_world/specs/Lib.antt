@@ -1,9 +1,4 @@
-pub mod Acts
-pub mod Emissions
 pub mod Engines
 pub mod Faults
 pub mod Leading
-pub mod Orders
-pub mod Tellings
-pub mod Unasked
 pub mod Worlds

@@ -1,22 +1,24 @@
 -- What contracts see of a world, and what inputs do to it.
-use Rattle.std.specs.Prelude.{◌≡◌, ℕ, ◌^◌, Bool, false, length, min, max, List, [], ◌∷◌, ◌++◌}
-use Rattle.media_map.specs.declared.form.Form.{Form}
-use Rattle.ask_model.specs.Maps.{Maps}
+use Rattle.std.specs.Prelude.{◌≡◌, ℕ, ◌^◌, Bool, true, false, length, min, max, ⊤, List, [], ◌∷◌, ◌++◌}
 use Rattle.ask_model.specs.Views.{Rules}
+use Rattle.journal_book.specs.Entries.{Written}
 use Rattle.core_steps.specs.Keeping.{start}
 use Rattle.linked_core.specs.States.{core_of}
 use Rattle.linked_core.specs.Values.{CoreValue}
-use Rattle.linked_world.specs.declared.input.Happening.{Happening}
-use Rattle.linked_world.specs.declared.input.Happening.TheVariants as H
-use Rattle.linked_world.specs.declared.input.Input.{Input}
-use Rattle.linked_world.specs.declared.input.When.{When}
-use Rattle.linked_world.specs.Acts.{Served, Terms}
-use Rattle.linked_world.specs.Emissions.{Emission}
+use Rattle.proxy_acts.specs.declared.input.Happening.{Happening}
+use Rattle.proxy_acts.specs.declared.input.Happening.TheVariants as H
+use Rattle.proxy_acts.specs.declared.input.Input.{Input}
+use Rattle.proxy_acts.specs.declared.input.When.{When}
+use Rattle.core_steps.specs.State.{State}
+use Rattle.proxy_acts.specs.Acts.{Served, Terms, at}
+use Rattle.proxy_acts.specs.Hearing.{ShowsWhatCame, DoesWhatIsDue}
+use Rattle.proxy_acts.specs.Resting.{AllRest}
+use Rattle.proxy_acts.specs.Waiting.{IsDrained}
+use Rattle.proxy_acts.specs.Emissions.{Emission}
 use Rattle.connection_table.specs.Inlets.{Inlet, is_full_at}
-use Rattle.linked_world.specs.Tellings.{MeansGiven}
-use Rattle.linked_world.specs.Unasked.{unasked_in}
+use Rattle.proxy_acts.specs.Unasked.{unasked_in}
 use Rattle.linked_world.specs.Leading.{Leads}
-use Rattle.linked_world.specs.Orders.{IsInOrder}
+use Rattle.proxy_acts.specs.Orders.{IsInOrder}
 
 -- a core, its open connections, the rules by which requests are mapped, and the moment of the last input
 pub record WorldValue : Type 0 where
@@ -49,16 +51,47 @@ HandlesAll M (i ∷ is) old out new =
     (mid : WorldValue) × (first : List Emission) × (rest : List Emission)
     × Handles M i old first mid × HandlesAll M is mid rest new × (out ≡ first ++ rest)
 
+-- Between two inputs nothing waits to be given out, and nothing that could be asked.
+pub record IsAtRest (w : WorldValue) : Type 0 where
+  pub drained : IsDrained w.core
+  pub rests : AllRest (served_in w)
+
+-- What came in by an input shows in the entries that it adds; and at a tick all was done that is due.
+abbrev pub DoesDue : Happening → ℕ → State → List Written → Type 0
+DoesDue H.Tick t S more = DoesWhatIsDue t S more
+DoesDue _ t S more = ⊤
+
+pub record Shows (i : Input) (old new : WorldValue) : Type 0 where
+  pub more : List Written
+  pub added : new.core.state.entries ≡ old.core.state.entries ++ more
+  pub shown : ShowsWhatCame i.happening (at (when_in old i) (served_in old)) old.core.state
+      new.core.state more
+  pub due : DoesDue i.happening (at (when_in old i) (served_in old)) old.core.state more
+
 -- a world to which nothing has happened
 abbrev pub new_world : Rules → WorldValue
 new_world rules = record { core = core_of start [] []; inlets = []; rules = rules; moment = 0 }
-
--- what requests mean by these rules, and which responses tell an answer
-abbrev pub terms_of : (Form → Form → List ℕ → List ℕ → Type 0) → (Form → Form → List ℕ → Type 0)
-    → Rules → Terms
-terms_of holds takes rules = record { IsMeaning = Maps holds takes rules; IsTelling = MeansGiven }
 
 -- More bytes come of a connection than may wait unread.
 abbrev pub is_too_much : Happening → List Inlet → Bool
 is_too_much (H.Bytes c bytes) xs = is_full_at c (length bytes.now) xs
 is_too_much _ xs = false
+
+-- Inputs are taken from a world to which nothing has happened on, and this is its journal after them.
+abbrev pub RunsTo : Terms → Rules → List Input → List Emission → List Written → Type 0
+RunsTo M rules is out h =
+    (w : WorldValue) × HandlesAll M is (new_world rules) out w × (h ≡ w.core.state.entries)
+
+-- All inputs before one are taken, and this one brings more bytes than may wait unread.
+pub record IsRefusedAfter (M : Terms) (is : List Input) (old : WorldValue) : Type 0 where
+  pub before : List Input
+  pub input : Input
+  pub after : List Input
+  pub are : is ≡ before ++ input ∷ after
+  pub out : List Emission
+  pub world : WorldValue
+  pub taken : HandlesAll M before old out world
+  pub full : is_too_much input.happening world.inlets ≡ true
+
+abbrev pub IsRefusedIn : Terms → Rules → List Input → Type 0
+IsRefusedIn M rules is = IsRefusedAfter M is (new_world rules)

@@ -4,24 +4,29 @@ ghost use Rattle.std.specs.Prelude.{ℕ, ◌≡◌, ◌≤◌, List, [], true, f
 ghost use Rattle.http_edge.specs.Edges.{item};
 ghost use Rattle.core_steps.specs.Resting.{HasConn};
 ghost use Rattle.linked_core.specs.Answering.{given_of};
+ghost use Rattle.linked_core.specs.Calls.{IsUnknown};
 ghost use Rattle.linked_core.specs.Taking.{IsTaken};
 ghost use Rattle.linked_core.specs.Values.{CoreValue};
-ghost use Rattle.linked_world.specs.Engines.{terms_in, work_at, GoesOn, HasRead, IsAskOf, IsReady, IsSentOut, IsShutting, KeepsWaiting, LeadsAfter, LetsGo, MayGoBack};
+ghost use Rattle.proxy_acts.specs.Acts.{IsAllTold};
+ghost use Rattle.proxy_acts.specs.Waiting.{AreServed, IsOpen};
+ghost use Rattle.linked_world.specs.Engines.{terms_in, work_at, GoesOn, IsAskOf, IsReady, IsSentOut, IsShut, IsShutting, KeepsWaiting, LeadsAfter, LetsGo, MayGoBack};
 ghost use Rattle.connection_table.specs.Inlets.{Inlet};
-ghost use Rattle.linked_world.specs.Unasked.{TakesItem, unasked_in};
-ghost use Rattle.linked_world.specs.Leading.{LeadsBy, IsDrained};
-ghost use Rattle.linked_world.specs.Orders.{AreFor, AreSends, HasTurns, Delivers, IsInOrder, IsTold};
+ghost use Rattle.proxy_acts.specs.Unasked.{TakesItem, unasked_in};
+ghost use Rattle.linked_world.specs.Leading.{LeadsBy, rules_in};
+ghost use Rattle.proxy_acts.specs.Waiting.{IsDrained};
+ghost use Rattle.transformers.specs.Suits.{Suits};
+ghost use Rattle.proxy_acts.specs.Orders.{AreFor, AreSends, HasTurns, Delivers, IsInOrder, IsTelling, ServesOut};
 
-use crate::input::{Happening, Output, When};
 use crate::telling::{tell_answer, tell_closed, tell_continue, tell_turned};
 use ask_model::Settings;
 use connection_table::{Next, Table};
 use http_edge::{Incoming, Memory};
 use http_mapping::{closes, map_request};
 use linked_core::{Answer, AskFault, Core, OpenFault, Ticket};
+use proxy_acts::{Happening, Output, When};
 use std::alloc::Global;
 use std::sync::Arc;
-use transformers::Relation;
+use transformers::{Bank, Relation};
 use uri_map::Peer;
 
 /// What the acts of an input share: when it is, and the settings.
@@ -44,21 +49,24 @@ impl<R: Relation> Engine<R> {
     pub fn step(
         &mut self,
         context: Context<'_>,
+        bank: &Bank<R>,
         happening: Happening<'_>,
         outputs: &mut Vec<Output>,
     ) -> Result<(), Memory>
-        requires { IsReady self.old }
+        requires ready { IsReady self.old }
+        requires drained { IsDrained self.old.core }
+        requires suits { Suits R.holds R.takes (rules_in context).routes bank.now }
         ensures leads { OnOk result (LeadsBy (terms_in R.holds R.takes context.entry)
             context.entry.when (IsInOrder happening.entry)
             self.old outputs.old.items self.new outputs.new.items) }
         ensures back { MayGoBack self.old self.new }
-        ensures drained { OnOk result (IsDrained self.old.core → IsDrained self.new.core) }
+        ensures drained { OnOk result (IsDrained self.new.core) }
     {
         match happening {
             Happening::Open => self.open(context, outputs),
-            Happening::Bytes(number, bytes) => self.bytes(context, number, bytes, outputs),
-            Happening::Datagram(peer, bytes) => self.heard(context, peer, bytes, outputs),
-            Happening::Tick => self.tick(context, outputs),
+            Happening::Bytes(number, bytes) => self.bytes(context, bank, number, bytes, outputs),
+            Happening::Datagram(peer, bytes) => self.heard(context, bank, peer, bytes, outputs),
+            Happening::Tick => self.tick(context, bank, outputs),
             Happening::Close(number) => {
                 self.close(context, number);
                 Ok(())
@@ -68,12 +76,13 @@ impl<R: Relation> Engine<R> {
 
     /// Opens a connection, or turns the client away.
     fn open(&mut self, context: Context<'_>, outputs: &mut Vec<Output>) -> Result<(), Memory>
-        requires { IsReady self.old }
+        requires ready { IsReady self.old }
+        requires drained { IsDrained self.old.core }
         ensures leads { OnOk result (LeadsBy (terms_in R.holds R.takes context.entry)
             context.entry.when (IsInOrder Happening.Open)
             self.old outputs.old.items self.new outputs.new.items) }
         ensures back { MayGoBack self.old self.new }
-        ensures drained { OnOk result (IsDrained self.old.core → IsDrained self.new.core) }
+        ensures drained { OnOk result (IsDrained self.new.core) }
     {
         match self.core.open(context.when.moment) {
             Ok(number) => self.table.insert(number),
@@ -87,28 +96,34 @@ impl<R: Relation> Engine<R> {
     fn bytes(
         &mut self,
         context: Context<'_>,
+        bank: &Bank<R>,
         number: u32,
         bytes: &[u8],
         outputs: &mut Vec<Output>,
     ) -> Result<(), Memory>
+        requires suits { Suits R.holds R.takes (rules_in context).routes bank.now }
+        requires drained { IsDrained self.old.core }
         ensures leads { OnOk result (LeadsBy (terms_in R.holds R.takes context.entry)
             context.entry.when (IsInOrder (Happening.Bytes number bytes.entry))
             self.old outputs.old.items self.new outputs.new.items) }
         ensures back { MayGoBack self.old self.new }
-        ensures drained { OnOk result (IsDrained self.old.core → IsDrained self.new.core) }
+        ensures drained { OnOk result (IsDrained self.new.core) }
     {
         self.table.append(number, bytes)?;
-        self.serve(context, number, outputs)
+        self.serve(context, bank, number, outputs)
     }
 
     /// Takes a datagram, and gives out what it leads to.
     fn heard(
         &mut self,
         context: Context<'_>,
+        bank: &Bank<R>,
         peer: Peer,
         bytes: &[u8],
         outputs: &mut Vec<Output>,
     ) -> Result<(), Memory>
+        requires suits { Suits R.holds R.takes (rules_in context).routes bank.now }
+        requires drained { IsDrained self.old.core }
         ensures leads { OnOk result (LeadsBy (terms_in R.holds R.takes context.entry)
             context.entry.when (IsInOrder (Happening.Datagram peer bytes.entry))
             self.old outputs.old.items self.new outputs.new.items) }
@@ -117,11 +132,19 @@ impl<R: Relation> Engine<R> {
     {
         self.core
             .heard(context.when.moment, context.when.word, peer, bytes)?;
-        self.deliver(context, outputs)
+        self.core.journal();
+        self.deliver(context, bank, outputs)
     }
 
     /// Lets time go on, and gives out what that leads to.
-    fn tick(&mut self, context: Context<'_>, outputs: &mut Vec<Output>) -> Result<(), Memory>
+    fn tick(
+        &mut self,
+        context: Context<'_>,
+        bank: &Bank<R>,
+        outputs: &mut Vec<Output>,
+    ) -> Result<(), Memory>
+        requires suits { Suits R.holds R.takes (rules_in context).routes bank.now }
+        requires drained { IsDrained self.old.core }
         ensures leads { OnOk result (LeadsBy (terms_in R.holds R.takes context.entry)
             context.entry.when (IsInOrder Happening.Tick)
             self.old outputs.old.items self.new outputs.new.items) }
@@ -129,13 +152,14 @@ impl<R: Relation> Engine<R> {
         ensures drained { OnOk result (IsDrained self.new.core) }
     {
         self.core.tick(context.when.moment)?;
-        self.deliver(context, outputs)
+        self.core.journal();
+        self.deliver(context, bank, outputs)
     }
 
     /// Closes the connection. False where it isn't open.
     fn close(&mut self, context: Context<'_>, number: u32) -> bool
         ensures closed { result ≡ true → IsShutting context.entry.when number self.old self.new }
-        ensures unknown { result ≡ false → self.new ≡ self.old }
+        ensures unknown { result ≡ false → (self.new ≡ self.old) × IsUnknown number self.old.core }
         ensures back { MayGoBack self.old self.new }
     {
         let closed = self.core.close(context.when.moment, number);
@@ -147,14 +171,21 @@ impl<R: Relation> Engine<R> {
 
     /// Gives out the datagrams and the answers of a step, the answers in the order of their asks, each
     /// followed by what its connection asks further.
-    fn deliver(&mut self, context: Context<'_>, outputs: &mut Vec<Output>) -> Result<(), Memory>
+    fn deliver(
+        &mut self,
+        context: Context<'_>,
+        bank: &Bank<R>,
+        outputs: &mut Vec<Output>,
+    ) -> Result<(), Memory>
+        requires suits { Suits R.holds R.takes (rules_in context).routes bank.now }
+        requires served { AreServed self.old.core }
         ensures leads { OnOk result (LeadsBy (terms_in R.holds R.takes context.entry)
             context.entry.when Delivers self.old outputs.old.items self.new outputs.new.items) }
         ensures back { MayGoBack self.old self.new }
         ensures drained { OnOk result (IsDrained self.new.core) }
     {
         self.send_all(context, outputs)?;
-        self.answer_all(context, outputs)
+        self.answer_all(context, bank, outputs)
     }
 
     /// Gives out the datagrams that wait.
@@ -172,7 +203,14 @@ impl<R: Relation> Engine<R> {
     }
 
     /// Gives out the answers that wait, in the order of their asks.
-    fn answer_all(&mut self, context: Context<'_>, outputs: &mut Vec<Output>) -> Result<(), Memory>
+    fn answer_all(
+        &mut self,
+        context: Context<'_>,
+        bank: &Bank<R>,
+        outputs: &mut Vec<Output>,
+    ) -> Result<(), Memory>
+        requires suits { Suits R.holds R.takes (rules_in context).routes bank.now }
+        requires served { AreServed self.old.core }
         ensures leads { OnOk result (LeadsBy (terms_in R.holds R.takes context.entry)
             context.entry.when HasTurns self.old outputs.old.items self.new outputs.new.items) }
         ensures back { MayGoBack self.old self.new }
@@ -180,8 +218,8 @@ impl<R: Relation> Engine<R> {
     {
         'each: while let Some(answer) = self.core.take_first() {
             let number = answer.conn;
-            self.tell(context, answer, outputs)?;
-            self.serve(context, number, outputs)?;
+            self.tell(context, bank, answer, outputs)?;
+            self.serve(context, bank, number, outputs)?;
         }
         Ok(())
     }
@@ -190,17 +228,19 @@ impl<R: Relation> Engine<R> {
     fn serve(
         &mut self,
         context: Context<'_>,
+        bank: &Bank<R>,
         number: u32,
         outputs: &mut Vec<Output>,
     ) -> Result<(), Memory>
+        requires suits { Suits R.holds R.takes (rules_in context).routes bank.now }
+        requires told { IsAllTold number self.old.core }
         ensures leads { OnOk result (LeadsBy (terms_in R.holds R.takes context.entry)
-            context.entry.when (AreFor number)
+            context.entry.when (ServesOut number)
             self.old outputs.old.items self.new outputs.new.items) }
         ensures back { MayGoBack self.old self.new }
         ensures waits { OnOk result (KeepsWaiting self.old.core self.new.core) }
-        ensures read { OnOk result (HasRead number self.new) }
     {
-        'each: while self.serve_next(context, number, outputs)? {}
+        'each: while self.serve_next(context, bank, number, outputs)? {}
         Ok(())
     }
 
@@ -208,9 +248,12 @@ impl<R: Relation> Engine<R> {
     fn serve_next(
         &mut self,
         context: Context<'_>,
+        bank: &Bank<R>,
         number: u32,
         outputs: &mut Vec<Output>,
     ) -> Result<bool, Memory>
+        requires suits { Suits R.holds R.takes (rules_in context).routes bank.now }
+        requires told { IsAllTold number self.old.core }
         ensures leads { OnOk result (LeadsBy (terms_in R.holds R.takes context.entry)
             context.entry.when (AreFor number)
             self.old outputs.old.items self.new outputs.new.items) }
@@ -224,7 +267,7 @@ impl<R: Relation> Engine<R> {
         self.table.keeps();
         match self.table.next(number)? {
             Next::Request(incoming) => {
-                self.ask(context, number, incoming, outputs)?;
+                self.ask(context, bank, number, incoming, outputs)?;
                 Ok(true)
             }
             Next::Continue => {
@@ -240,11 +283,14 @@ impl<R: Relation> Engine<R> {
     fn ask(
         &mut self,
         context: Context<'_>,
+        bank: &Bank<R>,
         number: u32,
         incoming: Incoming,
         outputs: &mut Vec<Output>,
     ) -> Result<(), Memory>
-        requires { HasConn self.old.core.state.conns number None }
+        requires suits { Suits R.holds R.takes (rules_in context).routes bank.now }
+        requires idle { HasConn self.old.core.state.conns number None }
+        requires told { IsAllTold number self.old.core }
         ensures leads { (xs : List Inlet) → TakesItem number (item incoming) (unasked_in xs) (unasked_in self.old.table.current)
             → OnOk result (LeadsAfter (terms_in R.holds R.takes context.entry) context.entry.when
             (AreFor number) self.old.core xs outputs.old.items self.new outputs.new.items) }
@@ -252,13 +298,13 @@ impl<R: Relation> Engine<R> {
         ensures waits { OnOk result (KeepsWaiting self.old.core self.new.core) }
         ensures less { OnOk result (work_at number self.new ≤ work_at number self.old) }
     {
-        let mapped = map_request(self.alloc, context.settings, incoming)?;
+        let mapped = map_request(self.alloc, context.settings, bank, incoming)?;
         let mapped = Arc::new(self.alloc, mapped)?;
         let When { moment, word } = context.when;
         match self.core.ask(moment, word, number, mapped) {
             Ok(ticket) => {
                 self.send_all(context, outputs)?;
-                self.give(context, &ticket, outputs)
+                self.give(context, bank, &ticket, outputs)
             }
             Err(AskFault::Sealed) => self.shut(context, number, outputs),
             Err(AskFault::Memory) => Err(Memory),
@@ -271,10 +317,13 @@ impl<R: Relation> Engine<R> {
     fn give(
         &mut self,
         context: Context<'_>,
+        bank: &Bank<R>,
         ticket: &Ticket<R>,
         outputs: &mut Vec<Output>,
     ) -> Result<(), Memory>
-        requires { IsAskOf ticket.now.conn ticket.now.number self.old.core.state.entries }
+        requires suits { Suits R.holds R.takes (rules_in context).routes bank.now }
+        requires of { IsAskOf ticket.now.conn ticket.now.number self.old.core.state.entries }
+        requires conn { IsOpen ticket.now.conn self.old.core.state.conns }
         ensures leads { OnOk result (LeadsBy (terms_in R.holds R.takes context.entry)
             context.entry.when (AreFor ticket.now.conn)
             self.old outputs.old.items self.new outputs.new.items) }
@@ -284,7 +333,7 @@ impl<R: Relation> Engine<R> {
             (work_at ticket.now.conn self.new ≤ work_at ticket.now.conn self.old) }
     {
         match self.core.take_answer(ticket) {
-            Some(answer) => self.tell(context, answer, outputs),
+            Some(answer) => self.tell(context, bank, answer, outputs),
             None => Ok(()),
         }
     }
@@ -293,19 +342,22 @@ impl<R: Relation> Engine<R> {
     fn tell(
         &mut self,
         context: Context<'_>,
+        bank: &Bank<R>,
         answer: Answer<R>,
         outputs: &mut Vec<Output>,
     ) -> Result<(), Memory>
+        requires suits { Suits R.holds R.takes (rules_in context).routes bank.now }
+        requires conn { IsOpen answer.conn self.old.core.state.conns }
         ensures leads { (v : CoreValue) → IsTaken (Some (given_of answer)) answer.ask v self.old.core
             → OnOk result (LeadsAfter (terms_in R.holds R.takes context.entry) context.entry.when
-            (IsTold answer.conn answer.ask) v self.old.table.current outputs.old.items
+            (IsTelling answer.conn answer.ask) v self.old.table.current outputs.old.items
             self.new outputs.new.items) }
         ensures back { MayGoBack self.old self.new }
         ensures waits { OnOk result (KeepsWaiting self.old.core self.new.core) }
         ensures less { OnOk result (work_at answer.conn self.new ≤ work_at answer.conn self.old) }
     {
         let number = answer.conn;
-        tell_answer(self.alloc, &answer, outputs)?;
+        tell_answer(self.alloc, context, bank, &answer, outputs)?;
         if closes(answer.mapped.came()) {
             self.shut(context, number, outputs)
         } else {
@@ -320,16 +372,14 @@ impl<R: Relation> Engine<R> {
         number: u32,
         outputs: &mut Vec<Output>,
     ) -> Result<(), Memory>
-        ensures leads { OnOk result (LeadsBy (terms_in R.holds R.takes context.entry)
-            context.entry.when (AreFor number)
+        requires conn { IsOpen number self.old.core.state.conns }
+        ensures shut { OnOk result (IsShut context.entry.when number
             self.old outputs.old.items self.new outputs.new.items) }
         ensures back { MayGoBack self.old self.new }
-        ensures waits { OnOk result (KeepsWaiting self.old.core self.new.core) }
-        ensures less { OnOk result (work_at number self.new ≤ work_at number self.old) }
     {
-        if self.close(context, number) {
-            tell_closed(number, outputs)?;
+        if !self.close(context, number) {
+            unreachable!();
         }
-        Ok(())
+        tell_closed(number, outputs)
     }
 }

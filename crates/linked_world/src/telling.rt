@@ -2,16 +2,20 @@
 
 ghost use Rattle.std.specs.Prelude.{[], ◌∷◌, ◌++◌, ◌≡◌, OnOk};
 ghost use Rattle.linked_core.specs.Answering.{given_of};
-ghost use Rattle.linked_world.specs.Acts.{continue_text};
-ghost use Rattle.linked_world.specs.Emissions.{emissions, Says, Closed, Turned};
-ghost use Rattle.linked_world.specs.Tellings.{TellsBytes};
+ghost use Rattle.proxy_acts.specs.Acts.{continue_text};
+ghost use Rattle.proxy_acts.specs.Emissions.{emissions, Says, Closed, Turned};
+ghost use Rattle.linked_world.specs.Engines.{terms_in};
+ghost use Rattle.linked_world.specs.Leading.{rules_in};
+ghost use Rattle.proxy_acts.specs.Tellings.{TellsBytes};
+ghost use Rattle.transformers.specs.Suits.{Suits};
 
-use crate::input::Output;
+use crate::engine::Context;
 use http_edge::{Memory, answer_bytes};
 use http_mapping::render;
 use linked_core::Answer;
+use proxy_acts::Output;
 use std::alloc::Global;
-use transformers::Relation;
+use transformers::{Bank, Relation};
 
 /// What a client that waits with its body is told (RFC 9110 section 10.1.1).
 const CONTINUE: &str = "HTTP/1.1 100 Continue\r\n\r\n";
@@ -29,14 +33,17 @@ pub fn tell_continue(alloc: Global, number: u32, outputs: &mut Vec<Output>) -> R
 /// Tells the connection an answer.
 pub fn tell_answer<R: Relation>(
     alloc: Global,
+    context: Context<'_>,
+    bank: &Bank<R>,
     answer: &Answer<R>,
     outputs: &mut Vec<Output>,
 ) -> Result<(), Memory>
-    ensures { OnOk result
-        (TellsBytes (given_of answer.now) (emissions outputs.old.items) (emissions outputs.new.items)) }
+    requires { Suits R.holds R.takes (rules_in context).routes bank.now }
+    ensures { OnOk result (TellsBytes (terms_in R.holds R.takes context.entry)
+        (given_of answer.now) (emissions outputs.old.items) (emissions outputs.new.items)) }
 {
     let age = answer.moment.saturating_sub(answer.heard);
-    let response = render(alloc, &answer.mapped, &answer.finding, age)?;
+    let response = render(alloc, bank, &answer.mapped, &answer.finding, age)?;
     let bytes = answer_bytes(alloc, &response)?;
     outputs.push(Output::Bytes(answer.conn, bytes))?;
     Ok(())

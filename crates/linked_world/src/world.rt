@@ -1,33 +1,38 @@
 //! The proxy as one value: inputs in, outputs out.
 
-ghost use Rattle.std.specs.Prelude.{◌≡◌, ◌↔◌, true, IfOk, OnErr, IsErrOf};
+ghost use Rattle.std.specs.Prelude.{◌≡◌, ◌↔◌, true, IfOk, OnOk, OnErr, IsErrOf};
 ghost use Rattle.whole_history.specs.Justified.{Stands};
 ghost use Rattle.ask_model.specs.Views.{rules_of};
-ghost use Rattle.linked_world.specs.Emissions.{emissions};
-ghost use Rattle.linked_world.specs.Leading.{IsDrained};
+ghost use Rattle.proxy_acts.specs.Emissions.{emissions};
+ghost use Rattle.proxy_acts.specs.Closing.{Closes};
+ghost use Rattle.proxy_acts.specs.Going.{SendsJust};
+ghost use Rattle.proxy_acts.specs.Told.{TellsAll};
 
 use crate::engine::{Context, Engine};
 use crate::fault::WorldFault;
-use crate::input::{Happening, Input, Output, When};
 use crate::state::World;
 use ask_model::Settings;
 use connection_table::Table;
 use http_edge::Memory;
 use journal_book::Journal;
 use linked_core::Core;
+use proxy_acts::{Happening, Input, Output, When};
 use std::alloc::Global;
 use std::sync::Arc;
-use transformers::Relation;
+use transformers::{Bank, Relation};
 
 /// The last moment: later ones count as this one.
 const LAST_MOMENT: u64 = 1 << 62;
 
 impl<R: Relation> World<R> {
-    ghost use Rattle.linked_world.specs.Worlds.{Handles, is_too_much, new_world, terms_of};
+    ghost use Rattle.proxy_acts.specs.Tellings.{terms_of};
+    ghost use Rattle.linked_world.specs.Worlds.{Handles, IsAtRest, Shows, is_too_much, new_world};
+    ghost use Rattle.transformers.specs.Suits.{Suits};
 
     /// A proxy to which nothing has happened.
     pub fn new(alloc: Global, settings: Settings) -> Result<World<R>, Memory>
-        ensures { IfOk result (λ w. w ≡ new_world (rules_of settings)) }
+        ensures is { IfOk result (λ w. w ≡ new_world (rules_of settings)) }
+        ensures rests { IfOk result (λ w. IsAtRest w) }
     {
         let settings = Arc::new(alloc, settings)?;
         let engine = Engine {
@@ -59,13 +64,21 @@ impl<R: Relation> World<R> {
 
     /// Takes an input and gives out what it leads to. An input for a connection that isn't open gives
     /// nothing. One that is refused changes nothing, and can be given again.
-    pub fn input(&mut self, input: Input<'_>) -> Result<Vec<Output>, WorldFault>
+    pub fn input(&mut self, bank: &Bank<R>, input: Input<'_>) -> Result<Vec<Output>, WorldFault>
+        requires suits { Suits R.holds R.takes self.old.rules.routes bank.now }
         ensures handles { IfOk result (λ outputs. Handles (terms_of R.holds R.takes self.old.rules)
             input.entry self.old (emissions outputs.items) self.new) }
         ensures unchanged { OnErr result (self.new ≡ self.old) }
         ensures full { is_too_much input.entry.happening self.old.inlets ≡ true
             ↔ IsErrOf result WorldFault.Backlog }
-        ensures drained { IsDrained self.new.core }
+        ensures told { IfOk result (λ outputs. TellsAll R.holds R.takes self.old.rules self.old.core
+            self.new.core (emissions outputs.items)) }
+        ensures sends { IfOk result (λ outputs. SendsJust self.old.core (emissions outputs.items)
+            self.new.core) }
+        ensures shows { OnOk result (Shows input.entry self.old self.new) }
+        ensures closes { IfOk result (λ outputs. Closes (terms_of R.holds R.takes self.old.rules)
+            input.entry.happening self.old.core.state self.new.core.state (emissions outputs.items)) }
+        ensures rests { IsAtRest self.new }
     {
         if self.is_too_much(input.happening) {
             return Err(WorldFault::Backlog);
@@ -78,10 +91,15 @@ impl<R: Relation> World<R> {
             },
             settings: &self.settings,
         };
+        self.engine.core.journal();
         let before = self.engine.core.snapshot()?;
         let mut outputs = Vec::new(self.engine.alloc);
-        match self.engine.step(context, input.happening, &mut outputs) {
+        match self
+            .engine
+            .step(context, bank, input.happening, &mut outputs)
+        {
             Ok(()) => {
+                self.engine.core.journal();
                 self.engine.table.mark();
                 self.moment = moment;
                 Ok(outputs)

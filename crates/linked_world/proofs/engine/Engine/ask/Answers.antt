@@ -8,12 +8,13 @@ use Rattle.http_edge.specs.Edges.{item}
 use Rattle.linked_core.specs.declared.fault.AskFault.TheVariants as Fault
 use Rattle.linked_core.specs.Calls.{now}
 use Rattle.linked_world.specs.Leading.{rules_in}
-use Rattle.linked_world.specs.Orders.{AreFor}
+use Rattle.proxy_acts.specs.Orders.{AreFor}
+use Rattle.proxy_acts.proofs.Opened.{denied-open}
 use Rattle.linked_world.proofs.Acting.{then-ok}
-use Rattle.linked_world.proofs.Asking.{asks-lead, denies-lead, came-item, ask-stands, ask-waits}
+use Rattle.linked_world.proofs.Asking.{asks-lead, denies-lead, came-item, ask-open, ask-stands, ask-waits, shut-less}
 use Rattle.linked_world.proofs.Growth.{asks-grows, back-by, back-then}
 use Rattle.linked_world.proofs.Lead.{leads-as}
-use Rattle.linked_world.proofs.Quiet.{denied-waits, waits-then}
+use Rattle.linked_world.proofs.Quiet.{closed-waits, denied-waits, waits-then}
 use Rattle.linked_world.proofs.engine.Engine.ask.Goals as goal
 
 pub returns-in_err-send_all-in-Ok-clause-back : goal.returns-in_err-send_all-in-Ok-clause-back
@@ -23,10 +24,21 @@ returns-in_err-send_all-in-Ok-clause-back g c =
     (asks-grows (Ok c.in-Ok.ticket.number) (now c.args.self.now.core.state.moment c.args.context.when.moment) c.args.context.when.word c.args.number (ask_of (arc_value c.in_ok-mapped-2.mapped)) c.args.self.now.core c.ask.new.self c.in-Ok.ensures.asks) refl)
     c.in_err-send_all-in-Ok.ensures.back
 
-pub give-requires : goal.give-requires
-give-requires g c =
+pub give-requires-clause-of : goal.give-requires-clause-of
+give-requires-clause-of g c =
     ask-stands (now c.args.self.now.core.state.moment c.args.context.when.moment) c.args.context.when.word c.args.number c.in-Ok.ticket.conn c.in-Ok.ticket.number (ask_of (arc_value c.in_ok-mapped-2.mapped)) c.args.self.now.core c.ask.new.self
     c.send_all.new.self.core c.in-Ok.ensures.ticket.0 c.in-Ok.ensures.asks c.in_ok-send_all-in-Ok.ensures.sent.state
+
+pub give-requires-clause-conn : goal.give-requires-clause-conn
+give-requires-clause-conn g c =
+    ask-open (now c.args.self.now.core.state.moment c.args.context.when.moment) c.args.context.when.word c.args.number c.in-Ok.ticket.conn c.in-Ok.ticket.number (ask_of (arc_value c.in_ok-mapped-2.mapped)) c.args.self.now.core c.ask.new.self
+    c.send_all.new.self.core c.in-Ok.ensures.ticket.0 c.in-Ok.ensures.asks c.in_ok-send_all-in-Ok.ensures.sent.state
+
+pub shut-requires : goal.shut-requires
+shut-requires g c = record {
+  conn = denied-open (now c.args.self.now.core.state.moment c.args.context.when.moment) c.args.context.when.word c.args.number (ask_of (arc_value c.in_ok-mapped-2.mapped)) c.args.self.now.core c.ask.new.self
+      (rw (c.in-Err-Sealed.field-0-is) at c.in-Err-Sealed.ensures.asks);
+}
 
 pub returns-in_ok-send_all-in-Ok-clause-leads : goal.returns-in_ok-send_all-in-Ok-clause-leads
 returns-in_ok-send_all-in-Ok-clause-leads g c = λ xs takes.
@@ -34,10 +46,13 @@ returns-in_ok-send_all-in-Ok-clause-leads g c = λ xs takes.
     then-ok c.give.result _ _ c.give.ensures.leads
     (λ gives. asks-lead _ _ c.args.number c.in-Ok.ticket.number (ask_of (arc_value c.in_ok-mapped-2.mapped)) (item c.args.incoming)
     c.args.self.now.core xs (record c.args.self.now { core = c.ask.new.self }) c.send_all.new.self c.give.new.self
-    c.args.outputs.now.items c.send_all.new.outputs.items c.give.new.outputs.items c.in-Ok.ensures.asks takes
+    c.args.outputs.now.items c.send_all.new.outputs.items c.give.new.outputs.items c.requires.told c.in-Ok.ensures.asks takes
     (ap (λ (m : Mapping). m.came) held ∙ (c.in_ok-mapped.ensures.came ∙ sym (came-item c.args.incoming)))
-    (subst (λ (m : Mapping). Maps g.R.Relation.holds g.R.Relation.takes (rules_in c.args.context) m.came m.sense) (sym held)
-    c.in_ok-mapped.ensures.maps)
+    record {
+      by = ap (λ (m : Mapping). m.rules) held ∙ c.in_ok-mapped.ensures.rules;
+      maps = subst (λ (m : Mapping). Maps g.R.Relation.holds g.R.Relation.takes (rules_in c.args.context) m.came m.sense) (sym held)
+          c.in_ok-mapped.ensures.maps;
+    }
     c.in_ok-send_all-in-Ok.ensures.leads
     (leads-as _ _ (AreFor c.in-Ok.ticket.conn) (AreFor c.args.number) _ _ _ _
     (λ acts h. subst (λ (n : ℕ). AreFor n acts) c.in-Ok.ensures.ticket.0 h) gives))
@@ -58,13 +73,16 @@ returns-in_ok-send_all-in-Ok-clause-waits g c =
 pub returns-in-Err-Sealed-clause-leads : goal.returns-in-Err-Sealed-clause-leads
 returns-in-Err-Sealed-clause-leads g c = λ xs takes.
     let held = c.in_ok-mapped-2.ensures.ok in
-    then-ok c.shut.result _ _ c.shut.ensures.leads
+    then-ok c.shut.result _ _ c.shut.ensures.shut
     (λ shuts. denies-lead _ _ c.args.number (ask_of (arc_value c.in_ok-mapped-2.mapped)) (item c.args.incoming)
     c.args.self.now.core xs (record c.args.self.now { core = c.ask.new.self }) c.shut.new.self
-    c.args.outputs.now.items c.shut.new.outputs.items (rw (c.in-Err-Sealed.field-0-is) at c.in-Err-Sealed.ensures.asks) takes
+    c.args.outputs.now.items c.shut.new.outputs.items c.requires.told (rw (c.in-Err-Sealed.field-0-is) at c.in-Err-Sealed.ensures.asks) takes
     (ap (λ (m : Mapping). m.came) held ∙ (c.in_ok-mapped.ensures.came ∙ sym (came-item c.args.incoming)))
-    (subst (λ (m : Mapping). Maps g.R.Relation.holds g.R.Relation.takes (rules_in c.args.context) m.came m.sense) (sym held)
-    c.in_ok-mapped.ensures.maps)
+    record {
+      by = ap (λ (m : Mapping). m.rules) held ∙ c.in_ok-mapped.ensures.rules;
+      maps = subst (λ (m : Mapping). Maps g.R.Relation.holds g.R.Relation.takes (rules_in c.args.context) m.came m.sense) (sym held)
+          c.in_ok-mapped.ensures.maps;
+    }
     shuts)
 
 pub returns-in-Err-Sealed-clause-back : goal.returns-in-Err-Sealed-clause-back
@@ -76,6 +94,11 @@ returns-in-Err-Sealed-clause-back g c =
 
 pub returns-in-Err-Sealed-clause-waits : goal.returns-in-Err-Sealed-clause-waits
 returns-in-Err-Sealed-clause-waits g c =
-    then-ok c.shut.result _ _ c.shut.ensures.waits
-    (λ waits. waits-then c.args.self.now.core c.ask.new.self c.shut.new.self.core
-    (denied-waits (now c.args.self.now.core.state.moment c.args.context.when.moment) c.args.context.when.word c.args.number (ask_of (arc_value c.in_ok-mapped-2.mapped)) c.args.self.now.core c.ask.new.self (rw (c.in-Err-Sealed.field-0-is) at c.in-Err-Sealed.ensures.asks)) waits)
+    then-ok c.shut.result _ _ c.shut.ensures.shut
+    (λ shut. waits-then c.args.self.now.core c.ask.new.self c.shut.new.self.core
+    (denied-waits (now c.args.self.now.core.state.moment c.args.context.when.moment) c.args.context.when.word c.args.number (ask_of (arc_value c.in_ok-mapped-2.mapped)) c.args.self.now.core c.ask.new.self (rw (c.in-Err-Sealed.field-0-is) at c.in-Err-Sealed.ensures.asks))
+    (closed-waits _ c.args.number c.ask.new.self c.shut.new.self.core shut.shuts.closed))
+
+pub returns-in-Err-Sealed-clause-less : goal.returns-in-Err-Sealed-clause-less
+returns-in-Err-Sealed-clause-less g c =
+    then-ok c.shut.result _ _ c.shut.ensures.shut (λ shut. shut-less c.args.number _ _ shut.shuts.inlets)

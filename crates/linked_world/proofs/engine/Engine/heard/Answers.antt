@@ -2,9 +2,10 @@
 use Rattle.std.proofs.Common.{refl}
 use Rattle.core_steps.specs.Sealing.{hears_in_room}
 use Rattle.linked_core.specs.Calls.{now}
-use Rattle.linked_world.specs.Acts.{Hears}
-use Rattle.linked_world.specs.Orders.{Delivers}
+use Rattle.proxy_acts.specs.Acts.{Hears}
+use Rattle.proxy_acts.specs.Orders.{Delivers}
 use Rattle.linked_world.proofs.Acting.{then-ok, steps-lead}
+use Rattle.linked_world.proofs.Answering.{heard-served}
 use Rattle.linked_world.proofs.Growth.{heard-grows, back-by, back-then}
 use Rattle.linked_world.proofs.engine.Engine.heard.Goals as goal
 
@@ -14,7 +15,7 @@ returns-clause-leads g c =
     (λ delivers. steps-lead _ _ (Hears c.args.peer c.args.bytes.now)
     (hears_in_room (now c.args.self.now.core.state.moment c.args.context.when.moment) c.args.peer c.args.bytes.now c.args.self.now.core.state)
     Delivers c.args.self.now (record c.args.self.now { core = c.heard.new.self }) c.deliver.new.self c.args.outputs.now.items
-    c.deliver.new.outputs.items (λ e. (e, refl)) c.in_ok-heard.ensures.heard refl delivers)
+    c.deliver.new.outputs.items (λ e. (e, refl, c.requires.drained.answers)) c.in_ok-heard.ensures.heard refl delivers)
 
 pub returns-clause-back : goal.returns-clause-back
 returns-clause-back g c =
@@ -23,3 +24,8 @@ returns-clause-back g c =
     (heard-grows (now c.args.self.now.core.state.moment c.args.context.when.moment) c.args.peer c.args.bytes.now c.args.self.now.core c.heard.new.self
     c.in_ok-heard.ensures.heard) refl)
     c.deliver.ensures.back
+
+pub deliver-requires-clause-served : goal.deliver-requires-clause-served
+deliver-requires-clause-served g c =
+    heard-served (now c.args.self.now.core.state.moment c.args.context.when.moment) c.args.peer c.args.bytes.now c.args.self.now.core c.heard.new.self
+    c.requires.drained.answers c.in_ok-heard.ensures.heard c.journal.ensures.kept.kept

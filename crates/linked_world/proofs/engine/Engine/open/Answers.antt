@@ -6,7 +6,7 @@ use Rattle.linked_world.proofs.engine.Engine.open.Goals as goal
 
 pub insert-requires : goal.insert-requires
 insert-requires g c =
-    above c.in-Ok.number c.args.self.now.table c.args.self.now.core.state.conns c.requires.numbers c.requires.marked c.in-Ok.ensures.above
+    above c.in-Ok.number c.args.self.now.table c.args.self.now.core.state.conns c.requires.ready.numbers c.requires.ready.marked c.in-Ok.ensures.above
 
 pub returns-in-Ok-clause-leads : goal.returns-in-Ok-clause-leads
 returns-in-Ok-clause-leads g c =

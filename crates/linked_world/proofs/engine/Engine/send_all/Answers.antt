@@ -5,10 +5,10 @@ use Rattle.linked_core.specs.declared.outgoing.Datagram.{Datagram}
 use Rattle.linked_core.specs.Taking.{IsSent}
 use Rattle.linked_core.specs.Values.{CoreValue, outgoing_of}
 use Rattle.connection_table.specs.Inlets.{TableValue}
-use Rattle.linked_world.specs.declared.input.Output.TheVariants as Out
-use Rattle.linked_world.specs.Orders.{AreSends}
+use Rattle.proxy_acts.specs.declared.input.Output.TheVariants as Out
+use Rattle.proxy_acts.specs.Orders.{AreSends}
 use Rattle.linked_world.proofs.Lead.{leads-none, leads-then}
-use Rattle.linked_world.proofs.Order.{sends-on}
+use Rattle.proxy_acts.proofs.Order.{sends-on}
 use Rattle.linked_world.proofs.Growth.{back-state}
 use Rattle.linked_world.proofs.Acting.{sends-lead, leads-core, shorter}
 use Rattle.linked_world.proofs.engine.Engine.send_all.Goals as goal

@@ -2,7 +2,7 @@
 use Rattle.std.proofs.Common.{◌≡◌, length}
 use Rattle.linked_world.specs.Engines.{terms_in}
 use Rattle.linked_world.specs.Leading.{LeadsBy}
-use Rattle.linked_world.specs.Orders.{AreSends}
+use Rattle.proxy_acts.specs.Orders.{AreSends}
 use Rattle.linked_world.proofs.engine.Engine.send_all.Given as goal
 
 abbrev pub invariant-each : goal.invariant-each

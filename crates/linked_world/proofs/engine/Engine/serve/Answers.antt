@@ -1,8 +1,12 @@
 -- What is next is asked after what was asked before.
-use Rattle.linked_world.specs.Orders.{AreFor}
+use Rattle.std.proofs.Common.{Bool, refl, subst}
+use Rattle.linked_world.specs.Engines.{GoesOn}
+use Rattle.proxy_acts.specs.Orders.{AreFor}
+use Rattle.linked_world.proofs.Acting.{rests-lead}
+use Rattle.linked_world.proofs.Answering.{still-told}
 use Rattle.linked_world.proofs.Growth.{back-then}
 use Rattle.linked_world.proofs.Lead.{leads-then}
-use Rattle.linked_world.proofs.Order.{for-on}
+use Rattle.proxy_acts.proofs.Order.{for-on}
 use Rattle.linked_world.proofs.Quiet.{waits-then}
 use Rattle.linked_world.proofs.engine.Engine.serve.Goals as goal
 
@@ -16,5 +20,11 @@ each-preserved g c = record {
 
 pub returns-clause-leads : goal.returns-clause-leads
 returns-clause-leads g c =
-    leads-then _ _ (AreFor c.args.number) (AreFor c.args.number) (AreFor c.args.number) _ _ _ _ _ _ (for-on c.args.number)
-    c.each.invariant.leads c.in_ok-serve_next.ensures.leads
+    rests-lead _ _ c.args.number c.args.self.now c.serve_next.new.self c.serve_next.new.self c.args.outputs.now.items
+    c.serve_next.new.outputs.items
+    (leads-then _ _ (AreFor c.args.number) (AreFor c.args.number) (AreFor c.args.number) _ _ _ _ _ _ (for-on c.args.number)
+    c.each.invariant.leads c.in_ok-serve_next.ensures.leads)
+    refl (subst (λ (b : Bool). GoesOn b c.args.number c.each.self c.serve_next.new.self) c.if-branch.false c.in_ok-serve_next.ensures.goes_on)
+
+pub serve_next-requires-clause-told : goal.serve_next-requires-clause-told
+serve_next-requires-clause-told g c = still-told c.args.number c.args.self.now.core c.each.self.core c.requires.told c.each.invariant.waits

@@ -1,7 +1,7 @@
 -- So far acts were done for the connection, and what waited waits.
 use Rattle.linked_world.specs.Engines.{terms_in, work_at, KeepsWaiting, MayGoBack}
 use Rattle.linked_world.specs.Leading.{LeadsBy}
-use Rattle.linked_world.specs.Orders.{AreFor}
+use Rattle.proxy_acts.specs.Orders.{AreFor}
 use Rattle.linked_world.proofs.engine.Engine.serve.Given as goal
 
 abbrev pub invariant-each : goal.invariant-each

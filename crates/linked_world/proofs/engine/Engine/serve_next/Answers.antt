@@ -3,7 +3,7 @@ use Rattle.std.proofs.Common.{◌<◌, ◌≤◌, inr, refl, arith}
 use Rattle.http_edge.specs.Edges.{item}
 use Rattle.connection_table.specs.Inlets.{inlet_at}
 use Rattle.linked_world.specs.Engines.{work_in}
-use Rattle.linked_world.specs.Orders.{AreFor}
+use Rattle.proxy_acts.specs.Orders.{AreFor}
 use Rattle.linked_world.proofs.Acting.{goes-on-lead, stays-lead}
 use Rattle.linked_world.proofs.ReadingOn.{takes-item, asks-less, read-told, nothing-same, nothing-read}
 use Rattle.linked_world.proofs.engine.Engine.serve_next.Goals as goal

@@ -1,13 +1,7 @@
--- The connection is closed, and it is told.
-use Rattle.std.proofs.Common.{refl}
-use Rattle.linked_world.proofs.Acting.{shuts-lead}
-use Rattle.linked_world.proofs.Asking.{shut-less}
+-- The connection is open, so it is closed.
+use Rattle.linked_world.proofs.Acting.{open-known}
 use Rattle.linked_world.proofs.engine.Engine.shut.Goals as goal
 
-pub returns-in_ok-tell_closed-clause-leads : goal.returns-in_ok-tell_closed-clause-leads
-returns-in_ok-tell_closed-clause-leads g c =
-    shuts-lead _ _ c.args.number c.args.self.now c.close.new.self c.args.outputs.now.items c.tell_closed.new.outputs.items
-    (c.if-close.ensures.closed refl) c.in_ok-tell_closed.ensures
-
-pub returns-in_ok-tell_closed-clause-less : goal.returns-in_ok-tell_closed-clause-less
-returns-in_ok-tell_closed-clause-less g c = shut-less c.args.number _ _ (c.if-close.ensures.closed refl).inlets
+pub unreachable-requires : goal.unreachable-requires
+unreachable-requires g c =
+    open-known c.args.number c.args.self.now.core c.requires.conn (c.close.ensures.unknown c.if-not-close.true).1

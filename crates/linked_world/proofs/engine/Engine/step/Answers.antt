@@ -1,9 +1,9 @@
 -- A client closes its connection, or one that isn't open.
 use Rattle.std.proofs.Common.{sym, subst}
-use Rattle.linked_world.specs.declared.input.Happening.{Happening}
+use Rattle.proxy_acts.specs.declared.input.Happening.{Happening}
 use Rattle.linked_world.specs.Engines.{terms_in}
 use Rattle.linked_world.specs.Leading.{LeadsBy}
-use Rattle.linked_world.specs.Orders.{IsInOrder}
+use Rattle.proxy_acts.specs.Orders.{IsInOrder}
 use Rattle.linked_world.proofs.Acting.{close-lead}
 use Rattle.linked_world.proofs.engine.Engine.step.Goals as goal
 

@@ -2,9 +2,10 @@
 use Rattle.std.proofs.Common.{refl}
 use Rattle.core_steps.specs.Sealing.{ticks_in_room}
 use Rattle.linked_core.specs.Calls.{now}
-use Rattle.linked_world.specs.Acts.{Passes}
-use Rattle.linked_world.specs.Orders.{Delivers}
+use Rattle.proxy_acts.specs.Acts.{Passes}
+use Rattle.proxy_acts.specs.Orders.{Delivers}
 use Rattle.linked_world.proofs.Acting.{then-ok, steps-lead}
+use Rattle.linked_world.proofs.Answering.{ticked-served}
 use Rattle.linked_world.proofs.Growth.{ticked-grows, back-by, back-then}
 use Rattle.linked_world.proofs.engine.Engine.tick.Goals as goal
 
@@ -14,7 +15,7 @@ returns-clause-leads g c =
     (λ delivers. steps-lead _ _ Passes
     (ticks_in_room (now c.args.self.now.core.state.moment c.args.context.when.moment) c.args.self.now.core.state)
     Delivers c.args.self.now (record c.args.self.now { core = c.tick.new.self }) c.deliver.new.self c.args.outputs.now.items
-    c.deliver.new.outputs.items (λ e. (e, refl)) c.in_ok-tick.ensures.ticks refl delivers)
+    c.deliver.new.outputs.items (λ e. (e, refl, c.requires.drained.answers)) c.in_ok-tick.ensures.ticks refl delivers)
 
 pub returns-clause-back : goal.returns-clause-back
 returns-clause-back g c =
@@ -23,3 +24,8 @@ returns-clause-back g c =
     (ticked-grows (now c.args.self.now.core.state.moment c.args.context.when.moment) c.args.self.now.core c.tick.new.self
     c.in_ok-tick.ensures.ticks) refl)
     c.deliver.ensures.back
+
+pub deliver-requires-clause-served : goal.deliver-requires-clause-served
+deliver-requires-clause-served g c =
+    ticked-served (now c.args.self.now.core.state.moment c.args.context.when.moment) c.args.self.now.core c.tick.new.self
+    c.requires.drained.answers c.in_ok-tick.ensures.ticks c.journal.ensures.kept.kept
