@@ -1,7 +1,7 @@
 //! The settings that a file has.
 
-ghost use Rattle.std.specs.Prelude.{IfSome, IfOk};
-ghost use Rattle.proxy_settings.specs.Files.{IsFailure, IsReadOf, IsFoundIn, IsOf};
+ghost use Rattle.std.specs.Prelude.{◌≡◌, ◌==◌, ◌≤◌, length, IfSome, IfOk};
+ghost use Rattle.proxy_settings.specs.Files.{IsFailure, IsReadOf, lines_in, line_at, IsLineOf, IsFoundIn, IsOf};
 
 use crate::fault::{Reason, SetupFault};
 use crate::part::{Part, Setup, settings_of};
@@ -94,7 +94,9 @@ fn setup_in(alloc: Global, part: Part, bytes: &[u8]) -> Result<Setup, FileFault>
 }
 
 /// The line that a reason doesn't tell by itself.
-fn place_of(alloc: Global, bytes: &[u8], reason: Reason) -> Option<usize> {
+fn place_of(alloc: Global, bytes: &[u8], reason: Reason) -> Option<usize>
+    ensures { IsLineOf bytes.now result }
+{
     match reason {
         Reason::Syntax(_, _) => None,
         Reason::AtKey(wrong) => line_of(alloc, bytes, &wrong),
@@ -102,7 +104,16 @@ fn place_of(alloc: Global, bytes: &[u8], reason: Reason) -> Option<usize> {
 }
 
 /// The line, counted from 1, of the byte at that place.
-fn line_at(bytes: &[u8], place: usize) -> usize {
-    let ends = bytes.iter().take(place).filter(|b| **b == b'\n').count();
-    ends.saturating_add(1)
+fn line_at(bytes: &[u8], place: usize) -> usize
+    requires { place ≤ length bytes.now }
+    ensures { result ≡ line_at bytes.now place }
+{
+    lines_in(&bytes[..place])
+}
+
+/// How many lines there are; what comes after the last line end is one too.
+fn lines_in(bytes: &[u8]) -> usize
+    ensures { result ≡ lines_in bytes.now }
+{
+    bytes.iter().filter(|b| **b == b'\n').count() + 1
 }

@@ -1,5 +1,8 @@
 //! Where in a text a wrong key stands.
 
+ghost use Rattle.std.specs.Prelude.{◌≡◌, ◌≤◌, ◌+◌, IfSome, length, if◌then◌else◌};
+ghost use Rattle.proxy_settings.specs.Files.{lines_in, IsLineOf};
+
 use crate::fault::{Why, Wrong};
 use crate::name::Name;
 use std::alloc::Global;
@@ -11,13 +14,15 @@ const READS: usize = 64;
 /// The line, counted from 1, in which the text first has what the wrong key is told of: the key with its
 /// value, or for a key that is missing the table that has to have it. None where the key is missing in the
 /// whole text, and where the line isn't found: memory ran out, or values of many lines stand around it.
-pub(crate) fn line_of(alloc: Global, text: &[u8], wrong: &Wrong) -> Option<usize> {
+pub(crate) fn line_of(alloc: Global, text: &[u8], wrong: &Wrong) -> Option<usize>
+    ensures { IsLineOf text.now result }
+{
     if wrong.row.is_none() && wrong.why == Why::Missing {
         return None;
     }
     let ends = line_ends(alloc, text)?;
     let mut search = Search::among(ends.len());
-    for _ in 0..READS {
+    'each: for _ in 0..READS {
         if search.low >= search.high {
             return search.best.checked_add(1);
         }
@@ -31,9 +36,12 @@ pub(crate) fn line_of(alloc: Global, text: &[u8], wrong: &Wrong) -> Option<usize
 }
 
 /// Where the lines of the text end that have a line end.
-fn line_ends(alloc: Global, text: &[u8]) -> Option<Vec<usize>> {
+#[tactic(auto, using(std::proofs::lemmas::List::Sums::count_by_more_no, std::proofs::lemmas::List::Sums::count_by_more_yes))]
+fn line_ends(alloc: Global, text: &[u8]) -> Option<Vec<usize>>
+    ensures { IfSome result (λ ends. length ends.items + 1 ≡ lines_in text.now) }
+{
     let mut ends = Vec::new(alloc);
-    for (i, byte) in text.iter().enumerate() {
+    'each: for (i, byte) in text.iter().enumerate() {
         if *byte == b'\n' {
             ends.push(i.checked_add(1)?).ok()?;
         }
@@ -57,7 +65,9 @@ struct Search {
 
 impl Search {
     /// A search among so many lines. What comes after them has it.
-    fn among(lines: usize) -> Search {
+    fn among(lines: usize) -> Search
+        ensures { result.best ≡ lines }
+    {
         let mut search = Search {
             low: 0,
             high: lines,
@@ -69,7 +79,9 @@ impl Search {
     }
 
     /// The line in the middle is tried next.
-    fn halve(&mut self) {
+    fn halve(&mut self)
+        ensures { self.new.best ≡ self.old.best }
+    {
         self.at = self.middle();
     }
 
@@ -79,7 +91,9 @@ impl Search {
     }
 
     /// The text to the end of the line that was tried has it, or hasn't.
-    fn told(&mut self, there: bool) {
+    fn told(&mut self, there: bool)
+        ensures { self.new.best ≡ (if there then self.old.at else self.old.best) }
+    {
         if there {
             self.best = self.at;
             self.high = self.middle();
@@ -90,7 +104,9 @@ impl Search {
     }
 
     /// The text to the end of the line that was tried can't be read.
-    fn skip(&mut self) {
+    fn skip(&mut self)
+        ensures { self.new.best ≡ self.old.best }
+    {
         self.at = self.at.saturating_add(1);
         if self.at >= self.high {
             self.high = self.middle();

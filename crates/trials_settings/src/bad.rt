@@ -7,7 +7,7 @@ use std::alloc::{AllocError, Global};
 /// What stands in front of each text of the proxy's settings below.
 const PORTS: &str = "listen = '1.2.3.4:5'\nudp = '1.2.3.4:6'\n";
 
-static SERVE: [(&str, &str); 26] = [
+static SERVE: [(&str, &str); 41] = [
     ("colour = 'red'\n", "colour: unknown key"),
     ("'two words\\n' = 1\n", "two?words\\n: unknown key"),
     (
@@ -91,6 +91,60 @@ static SERVE: [(&str, &str); 26] = [
         "[[down]]\nfrom = -1\nto = 'a/b'\nby = 'octets-hex'\n",
         "down[0].from: not a number from 0 to 65535",
     ),
+    ("pass = 'no'\n", "pass: neither true nor false"),
+    (
+        "[[origin]]\nhost = 7\naddress = '::1'\n",
+        "origin[0].host: not a text",
+    ),
+    (
+        "[[origin]]\nhost = 'a'\naddress = 1\n",
+        "origin[0].address: not a text",
+    ),
+    ("[[origin]]\nhost = 'a'\n", "origin[0].address: missing"),
+    (
+        "[[origin]]\nhost = 'a'\naddress = '::1'\nobserve = 'yes'\n",
+        "origin[0].observe: neither true nor false",
+    ),
+    (
+        "[[down]]\nfrom = '60'\nto = 'application/json'\nby = 'cbor-json'\n",
+        "down[0].from: not a whole number",
+    ),
+    (
+        "[[down]]\nto = 'a/b'\nby = 'octets-hex'\n",
+        "down[0].from: missing",
+    ),
+    (
+        "[[down]]\nfrom = 42\nto = 42\nby = 'octets-hex'\n",
+        "down[0].to: not a text",
+    ),
+    (
+        "[[down]]\nfrom = 60\nto = 'application/json'\nby = 3\n",
+        "down[0].by: not a text",
+    ),
+    (
+        "[[down]]\nfrom = 60\nto = 'application/json'\nby = 'json-cbor'\n",
+        "down[0].by: not a way between these two",
+    ),
+    (
+        "[[up]]\nfrom = 'application/json'\nto = 60\n",
+        "up[0].by: missing",
+    ),
+    (
+        "[[up]]\nfrom = 'application/json'\nto = 60\nby = 'json-cbor'\nq = 1\n",
+        "up[0].q: unknown key",
+    ),
+    (
+        "[[up]]\nfrom = 'application/json'\nto = 65536\nby = 'json-cbor'\n",
+        "up[0].to: not a number from 0 to 65535",
+    ),
+    (
+        "[[up]]\nfrom = 'application/json'\nto = 50\nby = 'json-cbor'\n",
+        "up[0].by: not a way between these two",
+    ),
+    (
+        "[[up]]\nfrom = 'text/plain'\nto = 42\nby = 'octets-hex'\n",
+        "up[0].by: not a way between these two",
+    ),
 ];
 
 /// The table, handed out by a call that says nothing of its rows: a loop over it is proved in less time.
@@ -99,7 +153,7 @@ fn serve() -> &'static [(&'static str, &'static str)] {
 }
 
 /// Whole texts, of either part.
-static WHOLE: [(Part, &str, &str); 13] = [
+static WHOLE: [(Part, &str, &str); 23] = [
     (Part::Serve, "", "listen: missing"),
     (Part::Serve, "listen = '1.2.3.4:5'\n", "udp: missing"),
     (
@@ -152,6 +206,52 @@ static WHOLE: [(Part, &str, &str); 13] = [
         Part::Origin,
         "listen = '1.2.3.4:5'\n[[resource]]\npath = 'a'\nkind = 'cell'\nmax_age = 4294967296\n",
         "resource[0].max_age: not a number from 0 to 4294967295",
+    ),
+    (
+        Part::Serve,
+        "listen = '1.2.3.4:5'\nudp = ['1.2.3.4:6']\n",
+        "udp: not a text",
+    ),
+    (Part::Origin, "", "listen: missing"),
+    (
+        Part::Origin,
+        "listen = '1.2.3.4:5'\nblock = -1\n",
+        "block: not a number from 0 to 6",
+    ),
+    (
+        Part::Origin,
+        "listen = '1.2.3.4:5'\nresource = 'a'\n",
+        "resource: not an array of tables",
+    ),
+    (
+        Part::Origin,
+        "listen = '1.2.3.4:5'\n[[resource]]\nkind = 'cell'\n",
+        "resource[0].path: missing",
+    ),
+    (
+        Part::Origin,
+        "listen = '1.2.3.4:5'\n[[resource]]\npath = 'a'\n",
+        "resource[0].kind: missing",
+    ),
+    (
+        Part::Origin,
+        "listen = '1.2.3.4:5'\n[[resource]]\npath = 'a'\nkind = 'cell'\nstate = 1\n",
+        "resource[0].state: not a text",
+    ),
+    (
+        Part::Origin,
+        "listen = '1.2.3.4:5'\n[[resource]]\npath = 'a'\nkind = 'cell'\nformat = 65536\n",
+        "resource[0].format: not a number from 0 to 65535",
+    ),
+    (
+        Part::Origin,
+        "listen = '1.2.3.4:5'\n[[resource]]\npath = 'a'\nkind = 'cell'\nmax_age = '60'\n",
+        "resource[0].max_age: not a whole number",
+    ),
+    (
+        Part::Origin,
+        "listen = '1.2.3.4:5'\n[[resource]]\npath = 'a'\nkind = 'cell'\ncolour = 'red'\n",
+        "resource[0].colour: unknown key",
     ),
 ];
 
