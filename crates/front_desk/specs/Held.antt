@@ -1,6 +1,6 @@
 -- What contracts see of a pass and of a shop.
 use Rattle.std.specs.Prelude.{ℕ, List}
-use Rattle.exchange_core.specs.CoreValue.{CoreValue}
+use Rattle.linked_core.specs.Values.{CoreValue}
 use Rattle.front_desk.specs.Lines.{Line}
 
 -- a pass: its connection, its notes in order, how many asks its share of the ledger counts, and for how many more

@@ -1,6 +1,6 @@
 -- What a session asked, was given and was told, in order.
-use Rattle.std.specs.Prelude.{ℕ, Bool, true, false, List, []}
-use Rattle.exchange_core.specs.Answering.{Given, given_of}
+use Rattle.std.specs.Prelude.{ℕ, Bool, true, false}
+use Rattle.linked_core.specs.Answering.{Given, given_of}
 use Rattle.front_desk.specs.declared.receipt.Receipt.{Receipt}
 use Rattle.front_desk.specs.declared.pass.Note.{Note}
 use Rattle.front_desk.specs.declared.pass.Note.TheVariants as Of

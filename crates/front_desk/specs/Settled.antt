@@ -15,11 +15,12 @@ abbrev pub AsksAt : ℕ → Option Written → Type 0
 AsksAt c None = ⊥
 AsksAt c (Some w) = IsAskOn c w.deed
 
--- The first deed answers the second, as the receipt says: both on one connection, at its moment and on its grounds,
--- and what was asked means the same.
+-- The first deed answers the second, as the receipt says: both on its connection, at its moment and
+-- on its grounds, and what was asked means the same.
 abbrev pub AnswersAs : Slip → ℕ → Deed → Deed → Type 0
 AnswersAs s t (Answers c k g) (Asks d a) =
-    (k ≡ s.number) × (d ≡ c) × (t ≡ s.given.moment) × (g ≡ s.given.found.grounds) × (a.sense ≡ s.given.mapping.sense)
+    (k ≡ s.number) × (c ≡ s.given.conn) × (d ≡ c) × (t ≡ s.given.moment)
+    × (g ≡ s.given.found.grounds) × (a.sense ≡ s.given.mapping.sense)
 AnswersAs s t _ _ = ⊥
 
 abbrev pub AreOf : Slip → Option Written → Option Written → Type 0

@@ -11,8 +11,8 @@ use crate::pass::Pass;
 use crate::receipt::Receipt;
 use crate::shop::Shop;
 use ask_model::Mapped;
-use exchange_core::{Answer, AskFault, Datagram, OpenFault, Ticket};
 use http_edge::Memory;
+use linked_core::{Answer, AskFault, Datagram, OpenFault, Ticket};
 use std::alloc::Global;
 use std::sync::ledger::Ledger;
 use std::sync::{Arc, Condvar, Mutex, Wait};
@@ -46,6 +46,7 @@ fn receipt_of<R: Relation>(ticket: Ticket<R>, answer: Answer<R>) -> Receipt<R>
     Receipt {
         number: ticket.number,
         answer: Answer {
+            conn: answer.conn,
             ask: answer.ask,
             number: answer.number,
             mapped: ticket.mapped,
@@ -106,7 +107,8 @@ impl<R: Relation, C: Clock, L: Ledger> LockedDesk<R, C, L> {
         pass: &mut Pass<R, L>,
         mapped: Arc<Mapped<R>>,
     ) -> Result<Ticket<R>, AskFault>
-        ensures ticket { IfOk result (λ t. (t.conn ≡ pass.old.conn) × (arc_value t.mapped ≡ arc_value mapped)) }
+        ensures ticket { IfOk result (λ t. (t.conn ≡ pass.old.conn)
+            × (arc_value t.mapped ≡ arc_value mapped)) }
         ensures lines { IfOk result (λ t. pass.new.lines ≡ pass.old.lines ++ made t.number ∷ []) }
         ensures places { IfOk result (λ t. 0 < pass.new.places) }
         ensures conn { pass.new.conn ≡ pass.old.conn }
@@ -124,7 +126,8 @@ impl<R: Relation, C: Clock, L: Ledger> LockedDesk<R, C, L> {
     /// Waits for the answer to a ticket. None where the desk was shut. It takes no memory, and no work while
     /// it waits.
     pub fn answer<W: Wait>(&self, rt: &W, ticket: Ticket<R>) -> Option<Receipt<R>>
-        ensures number { IfSome result (λ r. (r.number ≡ ticket.number) × (r.answer.ask ≡ ticket.number)) }
+        ensures number { IfSome result (λ r. (r.number ≡ ticket.number)
+            × (r.answer.ask ≡ ticket.number)) }
         ensures request { IfSome result (λ r. arc_value r.answer.mapped ≡ arc_value ticket.mapped) }
     {
         let bell = self.bells.of(ticket.conn);
@@ -146,7 +149,9 @@ impl<R: Relation, C: Clock, L: Ledger> LockedDesk<R, C, L> {
     /// shut. It takes no memory, and no work while it waits.
     pub fn wait<W: Wait>(&self, rt: &W, pass: &mut Pass<R, L>, ticket: Ticket<R>) -> bool
         requires { 0 < pass.old.places }
-        ensures kept { IsTrue result → ((s : Slip) × (s.number ≡ ticket.number) × (s.given.ask ≡ ticket.number) × (s.given.mapping ≡ arc_value ticket.mapped) × (pass.new.lines ≡ pass.old.lines ++ got s ∷ [])) }
+        ensures kept { IsTrue result → (s : Slip) × (s.number ≡ ticket.number)
+            × (s.given.ask ≡ ticket.number) × (s.given.mapping ≡ arc_value ticket.mapped)
+            × (pass.new.lines ≡ pass.old.lines ++ got s ∷ []) }
         ensures same { IsFalse result → pass.new ≡ pass.old }
         ensures conn { pass.new.conn ≡ pass.old.conn }
     {

@@ -100,6 +100,7 @@ impl<R: Relation, L: Ledger> Pass<R, L> {
     pub(crate) fn make_places(&mut self) -> Result<(), AllocError>
         ensures ok { OnOk result (self.new ≡ record self.old { places = 2 }) }
         ensures err { OnErr result (self.new ≡ self.old) }
+        ensures conn { self.new.conn ≡ self.old.conn }
     {
         self.notes.reserve(2)?;
         self.places = 2;

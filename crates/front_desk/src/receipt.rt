@@ -3,9 +3,8 @@
 ghost use Rattle.std.specs.Prelude.{◌≡◌, IfOk};
 ghost use Rattle.front_desk.specs.Lines.{slip_of};
 
-use exchange_core::Answer;
+use linked_core::Answer;
 use std::alloc::AllocError;
-use std::sync::Arc;
 use transformers::Relation;
 
 /// The answer to an ask.
@@ -23,14 +22,7 @@ impl<R: Relation> Receipt<R> {
     {
         Ok(Receipt {
             number: self.number,
-            answer: Answer {
-                ask: self.answer.ask,
-                number: self.answer.number,
-                mapped: Arc::try_clone(&self.answer.mapped)?,
-                moment: self.answer.moment,
-                heard: self.answer.heard,
-                finding: self.answer.finding.copy()?,
-            },
+            answer: self.answer.copy()?,
         })
     }
 }

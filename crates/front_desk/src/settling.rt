@@ -4,7 +4,7 @@ ghost use Rattle.std.specs.Prelude.{ℕ, ◌≡◌, ◌≢◌, ◌↔◌, ◌==�
 ghost use Rattle.std.specs.List.{All};
 ghost use Rattle.std.specs.Ordering.{nat_cmp};
 ghost use Rattle.std.specs.BTreeSet.{contains};
-ghost use Rattle.history_laws.specs.Justified.{Stands};
+ghost use Rattle.whole_history.specs.Justified.{Stands};
 ghost use Rattle.journal_book.specs.Views.{item_of};
 ghost use Rattle.front_desk.specs.Ledgers.{asks_of};
 ghost use Rattle.front_desk.specs.Lines.{line_of};
@@ -150,15 +150,19 @@ pub fn settle<R: Relation, L: Ledger>(
     shop: Shop<R, L>,
     passes: Vec<Pass<R, L>>,
 ) -> Result<Report, SettleFault>
-    ensures stands { OnOk result (Stands shop.core.entries) }
-    ensures justified { OnOk result (All (IsJustified shop.core.entries) passes.items) }
+    ensures stands { OnOk result (Stands shop.core.state.entries) }
+    ensures justified { OnOk result (All (IsJustified shop.core.state.entries) passes.items) }
     ensures apart { OnOk result (AreApart (answered passes.items)) }
-    ensures whole { OnOk result (asks_of shop.core.entries ≡ sum_by (λ p. p.amount) passes.items) }
-    ensures asks { IfOk result (λ r. r.asks ≡ asks_of shop.core.entries) }
+    ensures whole { OnOk result (asks_of shop.core.state.entries
+        ≡ sum_by (λ p. p.amount) passes.items) }
+    ensures asks { IfOk result (λ r. r.asks ≡ asks_of shop.core.state.entries) }
     ensures answers { IfOk result (λ r. r.answers ≡ length (answered passes.items)) }
-    ensures stranger { (n : ℕ) → result ≡ Err (SettleFault.Stranger n) → IsStranger shop.core.entries passes.items n }
-    ensures repeated { (n : ℕ) → result ≡ Err (SettleFault.Repeated n) → IsRepeated (answered passes.items) n }
-    ensures count { result ≡ Err SettleFault.Count → asks_of shop.core.entries ≢ sum_by (λ p. p.amount) passes.items }
+    ensures stranger { (n : ℕ) → result ≡ Err (SettleFault.Stranger n)
+        → IsStranger shop.core.state.entries passes.items n }
+    ensures repeated { (n : ℕ) → result ≡ Err (SettleFault.Repeated n)
+        → IsRepeated (answered passes.items) n }
+    ensures count { result ≡ Err SettleFault.Count
+        → asks_of shop.core.state.entries ≢ sum_by (λ p. p.amount) passes.items }
 {
     let journal = shop.journal();
     if let Some(number) = stranger_in(journal, &passes) {

@@ -46,10 +46,11 @@ fn answers_as<R: Relation>(receipt: &Receipt<R>, answer: &Entry<R>, ask: &Entry<
             },
             Event::Asked(asker, mapped),
         ) => {
+            let own = *asker == *conn && *conn == receipt.answer.conn;
             let grounds = is_same_grounds(grounds, receipt.answer.finding.grounds());
             let sense = means_same(mapped, &receipt.answer.mapped);
             *number == receipt.number
-                && *asker == *conn
+                && own
                 && answer.moment == receipt.answer.moment
                 && grounds
                 && sense

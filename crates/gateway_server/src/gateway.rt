@@ -7,9 +7,10 @@ use crate::fault::ServeFault;
 use crate::ports::Ports;
 use crate::shared::Shared;
 use ask_model::Settings;
-use exchange_core::OpenFault;
 use front_desk::{LockedDesk, Pass, Shop};
+use linked_core::OpenFault;
 use log::{Log, info, warn};
+use route_bank::Profile;
 use sessions::{tick_loop, udp_loop};
 use std::alloc::Global;
 use std::marker::Brand;
@@ -21,7 +22,6 @@ use std::sync::ledger::{Blank, Ledger};
 use std::sync::{Arc, Wait};
 use std::thread::{self, Threads};
 use std::time::{Duration, Instant};
-use transformers::Relation;
 
 /// How long nothing is taken after a connection couldn't be, in milliseconds.
 const PAUSE: u64 = 50;
@@ -31,11 +31,13 @@ const PARTS: u64 = 4294967295;
 
 /// Runs the gateway at these ports, until the clock or the UDP socket fails. It goes on in threads of its
 /// own, one for each connection; those are cut off when the program ends.
-pub fn run<
-    R: Relation + Send + Sync + 'static,
-    W: Threads + Wait + Log + Clock + RandomSource + Copy + Drop + Send + Sync + 'static,
->(rt: W, alloc: Global, ports: Ports, settings: Settings) -> ServeFault {
-    match run_with::<R, W, Brand>(rt, alloc, ports, settings, Blank::new(PARTS)) {
+pub fn run<W: Threads + Wait + Log + Clock + RandomSource + Copy + Drop + Send + Sync + 'static>(
+    rt: W,
+    alloc: Global,
+    ports: Ports,
+    settings: Settings,
+) -> ServeFault {
+    match run_with::<W, Brand>(rt, alloc, ports, settings, Blank::new(PARTS)) {
         Ok(()) => ServeFault::Stopped,
         Err(fault) => fault,
     }
@@ -43,7 +45,6 @@ pub fn run<
 
 /// Runs the gateway with a ledger of asks.
 fn run_with<
-    R: Relation + Send + Sync + 'static,
     W: Threads + Wait + Log + Clock + RandomSource + Copy + Drop + Send + Sync + 'static,
     L: Ledger + Send + Sync + 'static,
 >(rt: W, alloc: Global, ports: Ports, settings: Settings, blank: Blank) -> Result<(), ServeFault>
@@ -56,7 +57,7 @@ fn run_with<
     };
     let (listen, udp) = (ports.listens_at(), ports.sends_from());
     let Ports { listener, devices } = ports;
-    let shop: Shop<R, L> = Shop::new(alloc, blank)?;
+    let shop: Shop<Profile, L> = Shop::new(alloc, blank)?;
     let desk = LockedDesk::new(alloc, shop, SystemClock::new(rt, begin))?;
     let shared = Shared {
         desk,
@@ -75,14 +76,13 @@ fn run_with<
 
 /// Starts the thread that takes connections, and that of the UDP socket.
 fn start_loops<
-    R: Relation + Send + Sync + 'static,
     W: Threads + Wait + Log + Clock + RandomSource + Copy + Drop + Send + Sync + 'static,
     L: Ledger + Send + Sync + 'static,
 >(
     rt: W,
     alloc: Global,
     listener: TcpListener,
-    shared: &Arc<Shared<R, W, L>>,
+    shared: &Arc<Shared<W, L>>,
 ) -> Result<(), ServeFault> {
     let (mine, theirs) = (Arc::try_clone(shared)?, Arc::try_clone(shared)?);
     let hears = thread::spawn(&rt, move || {
@@ -100,10 +100,9 @@ fn start_loops<
 
 /// Takes connections, and starts a session for each, until the desk is shut.
 fn take_connections<
-    R: Relation + Send + Sync + 'static,
     W: Threads + Wait + Log + Clock + RandomSource + Copy + Drop + Send + Sync + 'static,
     L: Ledger + Send + Sync + 'static,
->(rt: W, alloc: Global, listener: &TcpListener, shared: &Arc<Shared<R, W, L>>) {
+>(rt: W, alloc: Global, listener: &TcpListener, shared: &Arc<Shared<W, L>>) {
     let mut turning_away = false;
     for stream in listener.incoming() {
         if shared.desk.is_shut(&rt) {
@@ -119,16 +118,9 @@ fn take_connections<
 /// Takes a connection, or turns it away, and answers whether it was turned away. The first of some that
 /// follow each other is noted.
 fn take<
-    R: Relation + Send + Sync + 'static,
     W: Threads + Wait + Log + Clock + RandomSource + Copy + Drop + Send + Sync + 'static,
     L: Ledger + Send + Sync + 'static,
->(
-    rt: W,
-    alloc: Global,
-    stream: TcpStream,
-    shared: &Arc<Shared<R, W, L>>,
-    turning_away: bool,
-) -> bool {
+>(rt: W, alloc: Global, stream: TcpStream, shared: &Arc<Shared<W, L>>, turning_away: bool) -> bool {
     let reason = match shared.desk.open(&rt) {
         Ok(pass) => match start_session(rt, alloc, stream, shared, pass) {
             Ok(()) => return false,
@@ -149,15 +141,14 @@ fn take<
 
 /// Starts a session in a thread of its own. Where that can't be, the connection is closed.
 fn start_session<
-    R: Relation + Send + Sync + 'static,
     W: Threads + Wait + Log + Clock + RandomSource + Copy + Drop + Send + Sync + 'static,
     L: Ledger + Send + Sync + 'static,
 >(
     rt: W,
     alloc: Global,
     stream: TcpStream,
-    shared: &Arc<Shared<R, W, L>>,
-    pass: Pass<R, L>,
+    shared: &Arc<Shared<W, L>>,
+    pass: Pass<Profile, L>,
 ) -> Result<(), ServeFault> {
     let number = pass.conn();
     let started = match Arc::try_clone(shared) {

@@ -6,52 +6,79 @@ use crate::ports::DeviceSocket;
 use ask_model::Settings;
 use front_desk::{LockedDesk, Pass};
 use log::{Log, info, warn};
+use route_bank::{Profile, store_for};
 use sessions::{End, Open, serve};
-use std::alloc::Global;
+use std::alloc::{AllocError, Global};
 use std::net::TcpStream;
 use std::random::RandomSource;
 use std::rt::Clock;
 use std::sync::atomic::{AtomicBool, Ordering};
 use std::sync::ledger::Ledger;
 use std::sync::{Arc, Wait};
-use transformers::Relation;
+use transformers::{Bank, Stored};
 
 /// What the threads of the gateway share.
 #[derive(Drop)]
-pub struct Shared<R: Relation, W: Clock + RandomSource + Drop, L: Ledger> {
-    pub desk: LockedDesk<R, SystemClock<W>, L>,
+pub struct Shared<W: Clock + RandomSource + Drop, L: Ledger> {
+    pub desk: LockedDesk<Profile, SystemClock<W>, L>,
     pub devices: DeviceSocket,
     pub settings: Arc<Settings>,
     /// it was noted that the journal is sealed
     pub noted: AtomicBool,
 }
 
-impl<R: Relation, W: Clock + RandomSource + Drop, L: Ledger> Shared<R, W, L> {
+impl<W: Clock + RandomSource + Drop, L: Ledger> Shared<W, L> {
     /// Serves a connection until it ends, and notes how it ended.
     pub fn serve_client<V: Wait + Log + Clock>(
         &self,
         rt: &V,
         alloc: Global,
         stream: TcpStream,
-        pass: Pass<R, L>,
+        pass: Pass<Profile, L>,
     ) {
+        let number = pass.conn();
         let mut client = Client::new(stream);
-        let done = serve(
-            rt,
-            alloc,
-            &mut client,
-            &self.devices,
-            &self.desk,
-            &mut Open,
-            &self.settings,
-            pass,
-        );
-        let (number, end) = (done.pass.conn(), done.end);
+        let end = match self.serve_with_bank(rt, alloc, &mut client, pass) {
+            Ok(end) => end,
+            Err(AllocError) => {
+                self.desk.close(rt, number);
+                End::Memory
+            }
+        };
         info!(rt; target: "hcproxy", "session {number} {end}");
         if end == End::Sealed {
             self.note_sealed(rt);
         }
         client.end(rt);
+    }
+
+    /// Serves a connection with the transformers that the routes of the settings ask for. Each session
+    /// has its own: a bank is seldom more than a few pairs of forms, and what it keeps is known where
+    /// it is made.
+    fn serve_with_bank<V: Wait + Log + Clock>(
+        &self,
+        rt: &V,
+        alloc: Global,
+        client: &mut Client,
+        pass: Pass<Profile, L>,
+    ) -> Result<End, AllocError> {
+        let mut all: Vec<Stored<Profile>> = Vec::new(alloc);
+        'each: for route in self.settings.routes.as_slice() {
+            store_for!(alloc, all, route);
+        }
+        let bank = Bank::new(all);
+        let done = serve(
+            rt,
+            alloc,
+            client,
+            &self.devices,
+            &self.desk,
+            &mut Open,
+            &self.settings,
+            &bank,
+            pass,
+        );
+        Ok(done.end)
     }
 
     /// Notes once that the journal is sealed.

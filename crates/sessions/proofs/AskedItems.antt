@@ -13,7 +13,7 @@ use Rattle.ask_model.specs.Views.{came_of, Mapping}
 use Rattle.http_mapping.specs.Limits.{limited}
 use Rattle.front_desk.specs.Lines.{Line, Slip, made, got, told}
 use Rattle.sessions.specs.Devices.{Grown}
-use Rattle.sessions.specs.Asking.{came_at, ReadsFirst, AreAsksOf, IsUnanswered, AsksFirst, AsksSoFar, IsAskOf, IsAnswered, MayBeAsked, TakesMore}
+use Rattle.sessions.specs.Asking.{came_at, ReadsFirst, AreAsksOf, IsReadOut, AsksFirst, AsksAll, AsksSoFar, IsAskOf, IsAnswered, MayBeAsked, TakesMore}
 use Rattle.sessions.proofs.Joining.{grown_join, grown_none, two_more}
 
 -- What a request brings is what came.
@@ -38,6 +38,9 @@ item_given r e text i same s = subst (λ (x : Result (Option Incoming) Memory). 
 
 pub none_given : (r : Result (Option Incoming) Memory) (e : Edge) (text : List ℕ) → r ≡ Ok None → Steps r e text → Stands e text
 none_given r e text same s = (subst (λ (x : Result (Option Incoming) Memory). Steps x e text) same s).0
+
+pub read_out : (r : Result (Option Incoming) Memory) (e : Edge) (text : List ℕ) → r ≡ Ok None → Steps r e text → IsReadOut text
+read_out r e text same s = (subst (λ (x : Result (Option Incoming) Memory). Steps x e text) same s).1
 
 pub goes_on : (i : Item) (A B : Type 0) → closes i ≡ false → ((closes i ≡ true) × A) ⊎ ((closes i ≡ false) × B) → B
 goes_on i A B e (inl x) = absurd (let f = sym e ∙ x.0 in cc)
@@ -76,10 +79,10 @@ reads_more text rest more [] r = ap (λ (t : List ℕ). t ++ more) r
 reads_more text rest more (i ∷ items) r = (r.0 ++ more, first_on text i r.0 more r.1, reads_more r.0 rest more items r.2, r.3)
 
 -- one item more
-reads_one : (text rest behind : List ℕ) (items : List Item) (i : Item) → ReadsFirst text items rest → AllOpen items → First rest i behind → ReadsFirst text (items ++ i ∷ []) behind
-reads_one text rest behind [] i r goes f = (behind, subst (λ (t : List ℕ). First t i behind) r f, refl, λ e. refl)
-reads_one text rest behind (j ∷ items) i r goes f =
-    (r.0, r.1, reads_one r.0 rest behind items i r.2 goes.1 f, λ last. absurd (differs (sym goes.0 ∙ last)))
+reads_one : (text rest after : List ℕ) (items : List Item) (i : Item) → ReadsFirst text items rest → AllOpen items → First rest i after → ReadsFirst text (items ++ i ∷ []) after
+reads_one text rest after [] i r goes f = (after, subst (λ (t : List ℕ). First t i after) r f, refl, λ e. refl)
+reads_one text rest after (j ∷ items) i r goes f =
+    (r.0, r.1, reads_one r.0 rest after items i r.2 goes.1 f, λ last. absurd (differs (sym goes.0 ∙ last)))
   where
     differs : false ≡ true → ⊥
     differs e = absurd cc
@@ -222,3 +225,33 @@ pub first_most : (M : Came → Sense → Type 0) (a b c : List Line) (f g h : Op
 first_most M a b c f g h d i rest s first quiet (inl same) = first_far M a b c f g h d s ([], quiet) same
 first_most M a b c f g h d i rest s first quiet (inr (inl ask)) = first_ask M a b c f g h d i rest ask.0 s first quiet ask.1
 first_most M a b c f g h d i rest s first quiet (inr (inr x)) = first_one M a b c f g h d i rest s first quiet x
+
+-- The session is finished, since nothing more comes and nothing can be asked of what came.
+pub all_far : (M : Came → Sense → Type 0) (a b : List Line) (f g h : Option (List ℕ)) (d : Edge) → (s : AsksSoFar M a b f g d) → IsReadOut s.rest → Grown g h []
+    → AsksAll M a b f h
+all_far M a b f g h d s out quiet = record {
+  text = s.text;
+  came = subst (Grown f h) (append-nil s.text) (grown_join f g h s.text [] s.came quiet);
+  items = s.items;
+  rest = s.rest;
+  reads = s.reads;
+  all = inr out;
+  gained = s.gained;
+  lines = s.lines;
+  asks = s.asks;
+}
+
+-- It is finished, since the item that was answered closes the connection.
+pub all_one : (M : Came → Sense → Type 0) (a b c : List Line) (f g h : Option (List ℕ)) (d : Edge) (i : Item) (rest : List ℕ) → (s : AsksSoFar M a b f g d) → First s.rest i rest
+    → closes i ≡ true → Grown g h [] → IsAnswered M i b c → AsksAll M a c f h
+all_one M a b c f g h d i rest s first last quiet x = record {
+  text = s.text;
+  came = subst (Grown f h) (append-nil s.text) (grown_join f g h s.text [] s.came quiet);
+  items = s.items ++ i ∷ [];
+  rest = rest;
+  reads = reads_one s.text s.rest rest s.items i s.reads s.goes_on first;
+  all = inl (record { front = s.items; last = i; are = refl; closes_it = last });
+  gained = s.gained ++ (made x.number ∷ got x.slip ∷ []);
+  lines = x.lines ∙ ap (λ (ls : List Line). ls ++ (made x.number ∷ got x.slip ∷ [])) s.lines ∙ append_assoc a s.gained (made x.number ∷ got x.slip ∷ []);
+  asks = asks_one M s.items s.gained i x.number x.slip s.asks (x.own, x.of_item, tt);
+}

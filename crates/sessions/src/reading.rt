@@ -1,6 +1,6 @@
 //! The bytes of a connection, read as requests.
 
-ghost use Rattle.std.specs.Prelude.{◌≡◌, ◌≤◌, ◌+◌, length, vec_len, IfOk, OnOk, OnErr, [], Some, None};
+ghost use Rattle.std.specs.Prelude.{◌≡◌, ◌≤◌, ◌+◌, length, false, Ok, IfOk, OnOk, OnErr, []};
 ghost use Rattle.http_edge.specs.Edges.{Stands, unread_len};
 ghost use Rattle.sessions.specs.Asking.{TakesMore};
 ghost use Rattle.sessions.specs.Devices.{Rises, Grown};
@@ -34,6 +34,7 @@ impl Reading {
     pub fn more<S: Stream>(&mut self, stream: &mut S) -> Result<bool, Failed>
         ensures same { Grown (S.written stream.old) (S.written stream.new) [] }
         ensures takes { TakesMore self.old.edge self.new.edge (S.gave stream.old) (S.gave stream.new) }
+        ensures end { result ≡ Ok false → Grown (S.gave stream.old) (S.gave stream.new) [] }
         ensures ok { OnOk result (S.count stream.new ≡ S.count stream.old) }
         ensures err { OnErr result (Rises (S.count stream.old) (S.count stream.new)) }
     {
@@ -48,6 +49,7 @@ fn read_into<S: Stream>(stream: &mut S, edge: &mut Edge, buffer: &mut [u8]) -> R
     requires { unread_len edge.old + length buffer.old ≤ 8192 }
     ensures same { Grown (S.written stream.old) (S.written stream.new) [] }
     ensures takes { TakesMore edge.old edge.new (S.gave stream.old) (S.gave stream.new) }
+    ensures end { result ≡ Ok 0 → Grown (S.gave stream.old) (S.gave stream.new) [] }
     ensures ok { OnOk result (S.count stream.new ≡ S.count stream.old) }
     ensures err { OnErr result (Rises (S.count stream.old) (S.count stream.new)) }
 {

@@ -1,30 +1,30 @@
 //! What the thread of a connection does.
 
-ghost use Rattle.std.specs.Prelude.{List, ◌≡◌, ◌≢◌, [], Some, None, IfSome};
-ghost use Rattle.front_desk.specs.Lines.{Line};
+ghost use Rattle.std.specs.Prelude.{◌≡◌, ◌≢◌, [], Some, None, IfSome};
 ghost use Rattle.ask_model.specs.Maps.{Maps};
 ghost use Rattle.ask_model.specs.Views.{rules_of};
 ghost use Rattle.http_edge.specs.Edges.{item};
 ghost use Rattle.http_edge.specs.Reading.{closes};
 ghost use Rattle.std.specs.Arc.{arc_value};
-ghost use Rattle.sessions.specs.Asking.{AsksFirst, IsAnswered, MayBeAsked, TakesMore};
+ghost use Rattle.transformers.specs.Suits.{Suits};
+ghost use Rattle.sessions.specs.Asking.{AsksAll, AsksFirst, IsAnswered, MayBeAsked, TakesMore};
 ghost use Rattle.sessions.specs.Devices.{Rises, Grown};
-ghost use Rattle.sessions.specs.Telling.{Serves, ServesMost};
+ghost use Rattle.sessions.specs.Telling.{IsPartly, MayGoOn, MeansGiven, Serves, ServesMost};
 
 use crate::devices::{Gate, Point, Stream, Wire};
 use crate::loops::send_due;
 use crate::reading::Reading;
 use crate::writing::{bytes_of, write_continue};
 use ask_model::Settings;
-use exchange_core::AskFault;
 use front_desk::{Clock, LockedDesk, Pass};
 use http_edge::Incoming;
 use http_mapping::map_request;
+use linked_core::AskFault;
 use std::alloc::Global;
 use std::fmt;
 use std::sync::ledger::Ledger;
 use std::sync::{Arc, Wait};
-use transformers::Relation;
+use transformers::{Bank, Relation};
 
 /// Why a session ended.
 #[derive(Clone, Copy, Debug, PartialEq, Eq)]
@@ -66,8 +66,9 @@ pub struct Done<R: Relation, L: Ledger> {
     pub end: End,
 }
 
-/// Serves a connection until it ends: reads requests, asks each of them once the one before is answered, and
-/// writes the answers. What its ask sends goes out at once.
+/// Serves a connection until it ends: reads requests, asks each of them as soon as the one before
+/// is answered, and writes the answers. What an ask sends goes out at once. A session that is
+/// finished has asked all that came.
 pub fn serve<R: Relation, C: Clock, L: Ledger, S: Stream, N: Wire, G: Gate, W: Wait>(
     rt: &W,
     alloc: Global,
@@ -76,17 +77,28 @@ pub fn serve<R: Relation, C: Clock, L: Ledger, S: Stream, N: Wire, G: Gate, W: W
     desk: &LockedDesk<R, C, L>,
     gate: &mut G,
     settings: &Arc<Settings>,
+    bank: &Bank<R>,
     pass: Pass<R, L>,
 ) -> Done<R, L>
-    ensures written { ServesMost pass.lines result.pass.lines (S.written stream.old) (S.written stream.new) }
-    ensures finished { result.end ≡ End.Finished → Serves pass.lines result.pass.lines (S.written stream.old) (S.written stream.new) }
-    ensures asks { AsksFirst (Maps R.holds R.takes (rules_of (arc_value settings.now))) pass.lines result.pass.lines (S.gave stream.old) (S.gave stream.new) }
+    requires suits { Suits R.holds R.takes (rules_of (arc_value settings.now)).routes bank.now }
+    ensures written { ServesMost (MeansGiven R.holds R.takes (rules_of (arc_value settings.now)))
+        pass.lines result.pass.lines (S.written stream.old) (S.written stream.new) }
+    ensures finished { result.end ≡ End.Finished
+        → Serves (MeansGiven R.holds R.takes (rules_of (arc_value settings.now)))
+        pass.lines result.pass.lines (S.written stream.old) (S.written stream.new) }
+    ensures asks { AsksFirst (Maps R.holds R.takes (rules_of (arc_value settings.now)))
+        pass.lines result.pass.lines (S.gave stream.old) (S.gave stream.new) }
+    ensures all { result.end ≡ End.Finished
+        → AsksAll (Maps R.holds R.takes (rules_of (arc_value settings.now)))
+        pass.lines result.pass.lines (S.gave stream.old) (S.gave stream.new) }
     ensures read_fault { result.end ≡ End.ReadFault → Rises (S.count stream.old) (S.count stream.new) }
     ensures write_fault { result.end ≡ End.WriteFault → Rises (S.count stream.old) (S.count stream.new) }
     ensures held { result.end ≡ End.Held → Rises (G.nays gate.old) (G.nays gate.new) }
 {
     let mut pass = pass;
-    let end = talk(rt, alloc, stream, wire, desk, gate, settings, &mut pass);
+    let end = talk(
+        rt, alloc, stream, wire, desk, gate, settings, bank, &mut pass,
+    );
     desk.close(rt, pass.conn());
     Done { pass, end }
 }
@@ -101,11 +113,20 @@ fn talk<R: Relation, C: Clock, L: Ledger, S: Stream, N: Wire, G: Gate, W: Wait>(
     desk: &LockedDesk<R, C, L>,
     gate: &mut G,
     settings: &Arc<Settings>,
+    bank: &Bank<R>,
     pass: &mut Pass<R, L>,
 ) -> End
-    ensures written { ServesMost pass.old.lines pass.new.lines (S.written stream.old) (S.written stream.new) }
-    ensures finished { result ≡ End.Finished → Serves pass.old.lines pass.new.lines (S.written stream.old) (S.written stream.new) }
-    ensures asks { AsksFirst (Maps R.holds R.takes (rules_of (arc_value settings.now))) pass.old.lines pass.new.lines (S.gave stream.old) (S.gave stream.new) }
+    requires suits { Suits R.holds R.takes (rules_of (arc_value settings.now)).routes bank.now }
+    ensures written { ServesMost (MeansGiven R.holds R.takes (rules_of (arc_value settings.now)))
+        pass.old.lines pass.new.lines (S.written stream.old) (S.written stream.new) }
+    ensures finished { result ≡ End.Finished
+        → Serves (MeansGiven R.holds R.takes (rules_of (arc_value settings.now)))
+        pass.old.lines pass.new.lines (S.written stream.old) (S.written stream.new) }
+    ensures asks { AsksFirst (Maps R.holds R.takes (rules_of (arc_value settings.now)))
+        pass.old.lines pass.new.lines (S.gave stream.old) (S.gave stream.new) }
+    ensures all { result ≡ End.Finished
+        → AsksAll (Maps R.holds R.takes (rules_of (arc_value settings.now)))
+        pass.old.lines pass.new.lines (S.gave stream.old) (S.gave stream.new) }
     ensures read_fault { result ≡ End.ReadFault → Rises (S.count stream.old) (S.count stream.new) }
     ensures write_fault { result ≡ End.WriteFault → Rises (S.count stream.old) (S.count stream.new) }
     ensures held { result ≡ End.Held → Rises (G.nays gate.old) (G.nays gate.new) }
@@ -119,7 +140,7 @@ fn talk<R: Relation, C: Clock, L: Ledger, S: Stream, N: Wire, G: Gate, W: Wait>(
             Ok(Some(incoming)) => {
                 let last = is_last(&incoming);
                 if let Some(end) = turn(
-                    rt, alloc, stream, wire, desk, gate, settings, pass, incoming,
+                    rt, alloc, stream, wire, desk, gate, settings, bank, pass, incoming,
                 ) {
                     return end;
                 }
@@ -149,14 +170,17 @@ fn is_last(incoming: &Incoming) -> bool
 
 /// Reads more, where the client isn't to be told first that it may go on.
 fn read_on<S: Stream>(stream: &mut S, reading: &mut Reading) -> Option<End>
-    ensures none { (lines : List Line) → result ≡ None → Serves lines lines (S.written stream.old) (S.written stream.new) }
-    ensures some { (lines : List Line) → IfSome result (λ end. ServesMost lines lines (S.written stream.old) (S.written stream.new)) }
-    ensures finished { (lines : List Line) → result ≡ Some End.Finished → Serves lines lines (S.written stream.old) (S.written stream.new) }
+    ensures none { result ≡ None → MayGoOn (S.written stream.old) (S.written stream.new) }
+    ensures some { IfSome result (λ end. IsPartly (S.written stream.old) (S.written stream.new)) }
+    ensures finished { result ≡ Some End.Finished
+        → Grown (S.written stream.old) (S.written stream.new) [] }
+    ensures end { result ≡ Some End.Finished → Grown (S.gave stream.old) (S.gave stream.new) [] }
     ensures faults { result ≡ Some End.ReadFault → Rises (S.count stream.old) (S.count stream.new) }
     ensures write_fault { result ≡ Some End.WriteFault → Rises (S.count stream.old) (S.count stream.new) }
     ensures others { result ≢ Some End.Held }
     ensures counted { result ≡ None → S.count stream.new ≡ S.count stream.old }
-    ensures takes { TakesMore reading.old.edge reading.new.edge (S.gave stream.old) (S.gave stream.new) }
+    ensures takes { TakesMore reading.old.edge reading.new.edge
+        (S.gave stream.old) (S.gave stream.new) }
 {
     if reading.edge.wants_continue() {
         return match write_continue(stream) {
@@ -181,21 +205,31 @@ fn turn<R: Relation, C: Clock, L: Ledger, S: Stream, N: Wire, G: Gate, W: Wait>(
     desk: &LockedDesk<R, C, L>,
     gate: &mut G,
     settings: &Arc<Settings>,
+    bank: &Bank<R>,
     pass: &mut Pass<R, L>,
     incoming: Incoming,
 ) -> Option<End>
-    ensures none { result ≡ None → Serves pass.old.lines pass.new.lines (S.written stream.old) (S.written stream.new) }
-    ensures some { IfSome result (λ end. ServesMost pass.old.lines pass.new.lines (S.written stream.old) (S.written stream.new)) }
+    requires suits { Suits R.holds R.takes (rules_of (arc_value settings.now)).routes bank.now }
+    ensures none { result ≡ None
+        → Serves (MeansGiven R.holds R.takes (rules_of (arc_value settings.now)))
+        pass.old.lines pass.new.lines (S.written stream.old) (S.written stream.new) }
+    ensures some { IfSome result (λ end.
+        ServesMost (MeansGiven R.holds R.takes (rules_of (arc_value settings.now)))
+        pass.old.lines pass.new.lines (S.written stream.old) (S.written stream.new)) }
     ensures write_fault { result ≡ Some End.WriteFault → Rises (S.count stream.old) (S.count stream.new) }
     ensures held { result ≡ Some End.Held → Rises (G.nays gate.old) (G.nays gate.new) }
     ensures others { (result ≢ Some End.Finished) × (result ≢ Some End.ReadFault) }
     ensures counted { result ≡ None → S.count stream.new ≡ S.count stream.old }
     ensures passed { result ≡ None → G.nays gate.new ≡ G.nays gate.old }
     ensures quiet { Grown (S.gave stream.old) (S.gave stream.new) [] }
-    ensures answered { result ≡ None → IsAnswered (Maps R.holds R.takes (rules_of (arc_value settings.now))) (item incoming) pass.old.lines pass.new.lines }
-    ensures asked { IfSome result (λ end. MayBeAsked (Maps R.holds R.takes (rules_of (arc_value settings.now))) (item incoming) pass.old.lines pass.new.lines) }
+    ensures answered { result ≡ None
+        → IsAnswered (Maps R.holds R.takes (rules_of (arc_value settings.now)))
+        (item incoming) pass.old.lines pass.new.lines }
+    ensures asked { IfSome result (λ end.
+        MayBeAsked (Maps R.holds R.takes (rules_of (arc_value settings.now)))
+        (item incoming) pass.old.lines pass.new.lines) }
 {
-    let Ok(mapped) = map_request::<R>(alloc, settings, incoming) else {
+    let Ok(mapped) = map_request(alloc, settings, bank, incoming) else {
         return Some(End::Memory);
     };
     let Ok(mapped) = Arc::new(alloc, mapped) else {
@@ -214,7 +248,7 @@ fn turn<R: Relation, C: Clock, L: Ledger, S: Stream, N: Wire, G: Gate, W: Wait>(
     let Some(receipt) = desk.answer(rt, ticket) else {
         return Some(End::Closed);
     };
-    let bytes = bytes_of(alloc, &receipt.answer);
+    let bytes = bytes_of(alloc, bank, &receipt.answer);
     pass.keep(receipt);
     if !gate.pass(Point::Answered, number) {
         return Some(End::Held);

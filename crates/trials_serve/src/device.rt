@@ -21,6 +21,8 @@ pub enum Manner {
     Prompt,
     /// Once the first was asked, and the first itself only once a session was answered.
     FirstLast,
+    /// At once, but the first datagram to them is lost.
+    LosesFirst,
     /// Never.
     Silent,
 }
@@ -74,8 +76,13 @@ pub fn reply_to(
 impl Mail {
     /// What the devices do with a request.
     fn take(&mut self, to: Peer, request: &[u8]) -> Result<(), AllocError> {
-        if self.manner == Manner::Silent {
-            return Ok(());
+        match self.manner {
+            Manner::Silent => return Ok(()),
+            Manner::LosesFirst => {
+                self.manner = Manner::Prompt;
+                return Ok(());
+            }
+            Manner::Prompt | Manner::FirstLast => {}
         }
         let bytes = self.reply(request)?;
         let letter = Letter { from: to, bytes };

@@ -8,8 +8,7 @@ use sessions::{End, Point};
 /// Clients of two threads, and what one journal settles in the end.
 pub struct Trial {
     pub manner: Manner,
-    /// by how many milliseconds the clock goes on at each reading; with none, datagrams are heard in place of
-    /// letting time go on
+    /// by how many milliseconds the clock goes on at each reading
     pub step: u64,
     pub one: &'static [Client],
     pub two: &'static [Client],
@@ -172,6 +171,28 @@ pub fn late() -> &'static Trial {
     &LATE
 }
 
+/// The first datagram is lost on its way to the device, which answers the copy.
+static LOST: Trial = Trial {
+    manner: Manner::LosesFirst,
+    step: 3_000,
+    one: &[Client {
+        sends: &[GET],
+        held_at: None,
+        is_gone: false,
+        gets: IS_ON,
+        end: End::Finished,
+    }],
+    two: &[],
+    settled: Report {
+        asks: 1,
+        answers: 1,
+    },
+};
+
+pub fn lost() -> &'static Trial {
+    &LOST
+}
+
 /// The desk is shut while a session waits.
 static SHUT: Trial = Trial {
     manner: Manner::Silent,
@@ -210,8 +231,16 @@ pub struct Row {
 /// How an RST begins.
 const RST: u8 = 0x70;
 
-/// The light is read and put out; the device forgets who it is.
+/// The device has forgotten who it is; then the light is read and put out.
 static ROWS: [Row; 3] = [
+    Row {
+        method: b"GET",
+        rest: b"/light HTTP/1.1\r\nHost: p\r\n\r\n",
+        code: 1,
+        asked: b"\xb5light",
+        reply: (RST, 0, b""),
+        told: b"HTTP/1.1 502 Bad Gateway\r\nHC-Cause: reset 3\r\nContent-Length: 0\r\n\r\n",
+    },
     Row {
         method: b"GET",
         rest: b"/light HTTP/1.1\r\nHost: p\r\n\r\n",
@@ -227,14 +256,6 @@ static ROWS: [Row; 3] = [
         asked: b"\xb5light\xffoff",
         reply: (ACK, 68, b""),
         told: b"HTTP/1.1 204 No Content\r\n\r\n",
-    },
-    Row {
-        method: b"GET",
-        rest: b"/light HTTP/1.1\r\nHost: p\r\n\r\n",
-        code: 1,
-        asked: b"\xb5light",
-        reply: (RST, 0, b""),
-        told: b"HTTP/1.1 502 Bad Gateway\r\nHC-Cause: reset 11\r\nContent-Length: 0\r\n\r\n",
     },
 ];
 

@@ -2,13 +2,13 @@
 
 ghost use Rattle.std.specs.Prelude.{◌≡◌, ◌-◌, ◌^◌, ◌<◌, IfSome};
 
-use crate::sample::{Nothing, shared_settings};
+use crate::sample::{Nothing, no_bank, shared_settings};
 use crate::threads::{Counter, new_desk};
-use ask_model::{Mapped, Settings};
-use exchange_core::Ticket;
+use ask_model::Mapped;
 use front_desk::{Pass, Receipt, SettleFault, settle};
 use http_edge::{BadKind, Incoming};
 use http_mapping::map_request;
+use linked_core::Ticket;
 use std::alloc::Global;
 use std::marker::Brand;
 use std::sync::ledger::{Blank, Ledger};
@@ -26,8 +26,10 @@ enum Wrong {
 }
 
 /// A request that is refused, and so answered at once.
-fn refused(alloc: Global, settings: &Arc<Settings>) -> Option<Arc<Mapped<Nothing>>> {
-    match map_request::<Nothing>(alloc, settings, Incoming::Bad(BadKind::Syntax)) {
+fn refused(alloc: Global) -> Option<Arc<Mapped<Nothing>>> {
+    let settings = shared_settings(alloc)?;
+    let bank = no_bank(alloc);
+    match map_request(alloc, &settings, &bank, Incoming::Bad(BadKind::Syntax)) {
         Ok(mapped) => Arc::new(alloc, mapped).ok(),
         Err(_) => None,
     }
@@ -42,8 +44,7 @@ fn ask<L: Ledger, W: Wait>(
 ) -> Option<Ticket<Nothing>>
     ensures { IfSome result (λ t. 0 < pass.new.places) }
 {
-    let settings = shared_settings(alloc)?;
-    let mapped = refused(alloc, &settings)?;
+    let mapped = refused(alloc)?;
     desk.ask(rt, pass, mapped).ok()
 }
 

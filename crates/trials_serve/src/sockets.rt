@@ -2,7 +2,7 @@
 
 use crate::device::reply_to;
 use crate::rows::{Row, rows};
-use crate::sample::{Nothing, settings};
+use crate::sample::settings;
 use gateway_server::{Ports, run};
 use log::Log;
 use std::alloc::Global;
@@ -41,7 +41,7 @@ fn start<
     let at = ports.listens_at().ok()?;
     let settings = settings(alloc).ok()?;
     let started = thread::spawn(&rt, move || {
-        let _ = run::<Nothing, W>(rt, alloc, ports, settings);
+        let _ = run(rt, alloc, ports, settings);
     });
     started.is_ok().then_some(at)
 }

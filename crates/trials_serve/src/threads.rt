@@ -4,15 +4,14 @@ ghost use Rattle.std.specs.Prelude.{◌≡◌, ◌-◌, ◌^◌};
 
 use crate::client::{Client, Keeper, Steps, Tape};
 use crate::device::Device;
-use crate::rows::{Trial, crossed, held, late, shut, told};
-use crate::sample::{Nothing, shared_settings};
-use ask_model::Settings;
+use crate::rows::{Trial, crossed, held, late, lost, shut, told};
+use crate::sample::{Nothing, no_bank, shared_settings};
 use front_desk::{LockedDesk, Note, Pass, Shop, settle};
 use sessions::{Done, serve, tick_loop, udp_loop};
 use std::alloc::Global;
 use std::marker::Brand;
+use std::sync::Wait;
 use std::sync::ledger::{Blank, Ledger};
-use std::sync::{Arc, Wait};
 use std::thread;
 use std::thread::Threads;
 
@@ -55,10 +54,11 @@ fn serve_client<L: Ledger, W: Wait>(
     alloc: Global,
     device: &Device,
     desk: &Counter<L>,
-    settings: &Arc<Settings>,
     client: &'static Client,
     pass: Pass<Nothing, L>,
 ) -> Option<Pass<Nothing, L>> {
+    let settings = shared_settings(alloc)?;
+    let bank = no_bank(alloc);
     let mut tape = Tape::of(client);
     let mut gate = Keeper {
         device,
@@ -66,7 +66,7 @@ fn serve_client<L: Ledger, W: Wait>(
         noes: 0,
     };
     let done = serve(
-        rt, alloc, &mut tape, device, desk, &mut gate, settings, pass,
+        rt, alloc, &mut tape, device, desk, &mut gate, &settings, &bank, pass,
     );
     let Done { pass, end } = done;
     if end == client.end && tape.is_done() {
@@ -84,11 +84,10 @@ fn serve_all<L: Ledger, W: Wait>(
     desk: &Counter<L>,
     clients: &'static [Client],
 ) -> Option<Passes<L>> {
-    let settings = shared_settings(alloc)?;
     let mut passes = Vec::new(alloc);
     for client in clients {
         let pass = open_told(rt, desk, passes.last())?;
-        let pass = serve_client(rt, alloc, device, desk, &settings, client, pass)?;
+        let pass = serve_client(rt, alloc, device, desk, client, pass)?;
         passes.push(pass).ok()?;
     }
     Some(passes)
@@ -118,19 +117,18 @@ fn serve_both<L: Ledger + Send + Sync, W: Threads + Wait + Sync>(
     joined(one, two)
 }
 
-/// Lets time go on, or hands in what the devices send.
-fn go_on<L: Ledger, W: Wait + std::rt::Clock>(
+/// Lets time go on, and hands in what the devices send.
+fn go_on<L: Ledger + Send + Sync, W: Threads + Wait + std::rt::Clock + Sync>(
     rt: &W,
     alloc: Global,
     device: &Device,
     desk: &Counter<L>,
-    step: u64,
 ) {
-    if step > 0 {
-        tick_loop(rt, device, desk, TURNS);
-    } else {
-        udp_loop(rt, alloc, device, desk, TURNS);
-    }
+    thread::join(
+        rt,
+        || tick_loop(rt, device, desk, TURNS),
+        || udp_loop(rt, alloc, device, desk, TURNS),
+    );
 }
 
 /// Whether the trial goes as it says.
@@ -148,7 +146,7 @@ fn run<L: Ledger + Send + Sync, W: Threads + Wait + std::rt::Clock + Sync>(
     let (passes, _) = thread::join(
         rt,
         || serve_both(rt, alloc, &device, &desk, trial),
-        || go_on(rt, alloc, &device, &desk, trial.step),
+        || go_on(rt, alloc, &device, &desk),
     );
     let found = settle(alloc, desk.into_shop(), passes?);
     Some(found == Ok(trial.settled))
@@ -180,6 +178,11 @@ fn gates_and_clients_end_sessions(rt: HostRuntime) {
 #[test]
 fn a_silent_device_is_given_up(rt: HostRuntime) {
     assert!(rt; goes(&rt, rt.alloc(), late()));
+}
+
+#[test]
+fn a_lost_datagram_is_sent_again(rt: HostRuntime) {
+    assert!(rt; goes(&rt, rt.alloc(), lost()));
 }
 
 #[test]

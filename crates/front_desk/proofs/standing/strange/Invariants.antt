@@ -1,5 +1,5 @@
 -- What was looked at stands.
-use Rattle.std.proofs.Common.{take, map}
+use Rattle.std.proofs.Common.{take}
 use Rattle.std.specs.List.{All}
 use Rattle.front_desk.specs.Lines.{line_of}
 use Rattle.front_desk.specs.Settled.{HasLine}

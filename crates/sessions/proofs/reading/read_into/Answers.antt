@@ -1,5 +1,5 @@
 -- All that was read is given to the edge.
-use Rattle.std.proofs.Common.{◌≡◌, ◌+◌, ◌≤◌, ℕ, List, length, take, subst, arith}
+use Rattle.std.proofs.Common.{◌+◌, ◌≤◌, length, take, subst, arith}
 use Rattle.http_edge.specs.Edges.{unread_len}
 use Rattle.sessions.specs.Devices.{Grown}
 use Rattle.sessions.proofs.AskedItems.{all_taken}

@@ -1,26 +1,19 @@
--- Nothing is noted, and at most an interim response is written.
-use Rattle.std.proofs.Common.{refl}
+-- What comes in comes after what the edge stands for.
+use Rattle.std.proofs.Common.{inl, inr}
 use Rattle.sessions.proofs.AskedItems.{takes_none}
-use Rattle.sessions.proofs.Joining.{serves_none, serves_interim, cut_none, cut_interim}
 use Rattle.sessions.proofs.session.read_on.Goals as goal
 
 pub returns-in-Ok-clause-none : goal.returns-in-Ok-clause-none
-returns-in-Ok-clause-none g c lines e = serves_interim lines _ _ c.in-Ok.ensures.ok.0
-
-pub returns-in-Err-clause-some : goal.returns-in-Err-clause-some
-returns-in-Err-clause-some g c lines = cut_interim lines lines c.in-Err.ensures.err.0.0 _ _ refl c.in-Err.ensures.err.0.1
+returns-in-Ok-clause-none g c e = inr c.in-Ok.ensures.ok.0
 
 pub returns-in-Ok-true-clause-none : goal.returns-in-Ok-true-clause-none
-returns-in-Ok-true-clause-none g c lines e = serves_none lines lines _ _ refl c.more.ensures.same
+returns-in-Ok-true-clause-none g c e = inl c.more.ensures.same
 
 pub returns-in-Ok-false-clause-some : goal.returns-in-Ok-false-clause-some
-returns-in-Ok-false-clause-some g c lines = cut_none lines lines _ _ refl c.more.ensures.same
-
-pub returns-in-Ok-false-clause-finished : goal.returns-in-Ok-false-clause-finished
-returns-in-Ok-false-clause-finished g c lines e = serves_none lines lines _ _ refl c.more.ensures.same
+returns-in-Ok-false-clause-some g c = (0, c.more.ensures.same)
 
 pub returns-in-Err-more-clause-some : goal.returns-in-Err-more-clause-some
-returns-in-Err-more-clause-some g c lines = cut_none lines lines _ _ refl c.more.ensures.same
+returns-in-Err-more-clause-some g c = (0, c.more.ensures.same)
 
 pub returns-in-Ok-clause-takes : goal.returns-in-Ok-clause-takes
 returns-in-Ok-clause-takes g c = takes_none c.args.reading.now.edge c.wants_continue.new.self _ _ c.wants_continue.ensures.stands c.write_continue.ensures.quiet

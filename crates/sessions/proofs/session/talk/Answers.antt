@@ -1,31 +1,37 @@
 -- What a turn adds is put after what was served before it.
-use Rattle.std.proofs.Common.{◌≡◌, ◌∙◌, [], false, Some, None, Ok, refl, sym}
+use Rattle.std.proofs.Common.{◌≡◌, ◌∙◌, [], true, false, Some, None, Ok, refl, sym, ap}
 use Rattle.http_edge.specs.Edges.{Stands, item}
 use Rattle.http_edge.specs.Reading.{closes}
-use Rattle.sessions.proofs.AskedItems.{item_given, none_given, goes_on, far_none, far_more, far_edge, far_one, first_none, first_far, first_one, first_most}
-use Rattle.sessions.proofs.Joining.{grown_none, serves_none, serves_join, most_join, most_whole}
+use Rattle.sessions.proofs.AskedItems.{item_given, none_given, read_out, goes_on, far_none, far_more, far_edge, far_one, first_none, first_far, first_one, first_most, all_far, all_one}
+use Rattle.sessions.proofs.Joining.{grown_none, serves_none, serves_going, serves_join, most_join, most_whole, cut_interim}
 use Rattle.sessions.proofs.session.talk.Goals as goal
 
 pub returns-in-Some-turn-clause-written : goal.returns-in-Some-turn-clause-written
 returns-in-Some-turn-clause-written g c =
-    most_join c.args.pass.now.lines c.loop.pass.lines _ _ (g.S.Stream.written c.loop.stream) _ c.loop.invariant.4 c.in-Some-turn.ensures.some
+    most_join _ c.args.pass.now.lines c.loop.pass.lines _ _ (g.S.Stream.written c.loop.stream) _ c.loop.invariant.4 c.in-Some-turn.ensures.some
 
 pub returns-then-last-clause-written : goal.returns-then-last-clause-written
 returns-then-last-clause-written g c =
     let w = g.S.Stream.written c.args.stream.now in
     let y = g.S.Stream.written c.turn.new.stream in
-    most_whole c.args.pass.now.lines c.turn.new.pass.lines w y
-    (serves_join c.args.pass.now.lines c.loop.pass.lines c.turn.new.pass.lines w (g.S.Stream.written c.loop.stream) y c.loop.invariant.4
+    most_whole _ c.args.pass.now.lines c.turn.new.pass.lines w y
+    (serves_join _ c.args.pass.now.lines c.loop.pass.lines c.turn.new.pass.lines w (g.S.Stream.written c.loop.stream) y c.loop.invariant.4
     (c.turn.ensures.none c.in_default-turn.is))
 
 pub returns-then-last-clause-finished : goal.returns-then-last-clause-finished
 returns-then-last-clause-finished g c e =
-    serves_join c.args.pass.now.lines c.loop.pass.lines _ _ (g.S.Stream.written c.loop.stream) _ c.loop.invariant.4 (c.turn.ensures.none c.in_default-turn.is)
+    serves_join _ c.args.pass.now.lines c.loop.pass.lines _ _ (g.S.Stream.written c.loop.stream) _ c.loop.invariant.4 (c.turn.ensures.none c.in_default-turn.is)
 
 pub returns-in-Some-read_on-clause-written : goal.returns-in-Some-read_on-clause-written
 returns-in-Some-read_on-clause-written g c =
-    most_join c.args.pass.now.lines c.loop.pass.lines _ _ (g.S.Stream.written c.loop.stream) _ c.loop.invariant.4
-    (c.in-Some-read_on.ensures.some c.loop.pass.lines)
+    let part = c.in-Some-read_on.ensures.some in
+    most_join _ c.args.pass.now.lines c.loop.pass.lines _ _ (g.S.Stream.written c.loop.stream) _ c.loop.invariant.4
+    (cut_interim _ c.loop.pass.lines c.loop.pass.lines part.0 _ _ refl part.1)
+
+pub returns-in-Some-read_on-clause-finished : goal.returns-in-Some-read_on-clause-finished
+returns-in-Some-read_on-clause-finished g c e =
+    serves_join _ c.args.pass.now.lines c.loop.pass.lines _ _ (g.S.Stream.written c.loop.stream) _ c.loop.invariant.4
+    (serves_none _ _ _ _ _ refl (c.read_on.ensures.finished (c.in-Some-read_on.is ∙ ap Some e)))
 
 -- what is asked of what came in
 pub returns-in_default-clause-asks : goal.returns-in_default-clause-asks
@@ -37,7 +43,7 @@ loop-init g c = (
   tt,
   refl,
   refl,
-  serves_none _ _ _ _ refl (grown_none (g.S.Stream.written c.args.stream.now)),
+  serves_none _ _ _ _ _ refl (grown_none (g.S.Stream.written c.args.stream.now)),
   far_none _ _ (g.S.Stream.gave c.args.stream.now) c.in-Ok.reading.edge c.in-Ok.ensures,
 )
 
@@ -71,7 +77,7 @@ loop-preserved-else-last g c =
       tt,
       c.turn.ensures.counted c.in_default-turn.is ∙ c.loop.invariant.2,
       c.turn.ensures.passed c.in_default-turn.is ∙ c.loop.invariant.3,
-      serves_join c.args.pass.now.lines c.loop.pass.lines _ _ (g.S.Stream.written c.loop.stream) _ c.loop.invariant.4 (c.turn.ensures.none c.in_default-turn.is),
+      serves_join _ c.args.pass.now.lines c.loop.pass.lines _ _ (g.S.Stream.written c.loop.stream) _ c.loop.invariant.4 (c.turn.ensures.none c.in_default-turn.is),
       far_one _ _ c.loop.pass.lines _ _ (g.S.Stream.gave c.loop.stream) _ c.loop.reading.edge c.next-in-loop.new.self (item c.in-Ok-Some.incoming) given.0 s given.1 goes
           (goes_on (item c.in-Ok-Some.incoming) _ _ goes given.2) c.turn.ensures.quiet (c.turn.ensures.answered c.in_default-turn.is),
     )
@@ -93,7 +99,25 @@ loop-preserved g c =
       tt,
       c.read_on.ensures.counted c.in_default-read_on.is ∙ c.loop.invariant.2,
       c.loop.invariant.3,
-      serves_join c.args.pass.now.lines c.loop.pass.lines _ _ (g.S.Stream.written c.loop.stream) _ c.loop.invariant.4
-          (c.read_on.ensures.none c.loop.pass.lines c.in_default-read_on.is),
+      serves_join _ c.args.pass.now.lines c.loop.pass.lines _ _ (g.S.Stream.written c.loop.stream) _ c.loop.invariant.4
+          (serves_going _ c.loop.pass.lines _ _ (c.read_on.ensures.none c.in_default-read_on.is)),
       far_more _ _ _ _ (g.S.Stream.gave c.loop.stream) _ c.next-in-loop.new.self _ (far_edge _ _ _ _ _ c.loop.reading.edge c.next-in-loop.new.self s stands) c.read_on.ensures.takes,
     )
+
+-- all that came in is asked
+pub returns-then-last-clause-all : goal.returns-then-last-clause-all
+returns-then-last-clause-all g c f =
+    let s = c.loop.invariant.5 in
+    let e : c.next-in-loop.result ≡ Ok (Some c.in-Ok-Some.incoming) = cc in
+    let given = item_given _ _ s.rest c.in-Ok-Some.incoming e (c.next-in-loop.ensures.steps s.rest s.stands) in
+    let last : closes (item c.in-Ok-Some.incoming) ≡ true = sym c.is_last-last.ensures ∙ c.if-last.true in
+    all_one _ _ c.loop.pass.lines _ _ (g.S.Stream.gave c.loop.stream) _ c.loop.reading.edge (item c.in-Ok-Some.incoming) given.0 s given.1
+    last c.turn.ensures.quiet (c.turn.ensures.answered c.in_default-turn.is)
+
+pub returns-in-Some-read_on-clause-all : goal.returns-in-Some-read_on-clause-all
+returns-in-Some-read_on-clause-all g c f =
+    let s = c.loop.invariant.5 in
+    let e : c.next-in-loop.result ≡ Ok None = cc in
+    let out = read_out _ _ s.rest e (c.next-in-loop.ensures.steps s.rest s.stands) in
+    all_far _ _ c.loop.pass.lines _ (g.S.Stream.gave c.loop.stream) _ c.loop.reading.edge s out
+    (c.read_on.ensures.end (c.in-Some-read_on.is ∙ ap Some f))

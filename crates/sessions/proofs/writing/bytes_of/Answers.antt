@@ -1,5 +1,18 @@
 -- What is rendered means the answer, and these are its bytes.
+use Rattle.std.proofs.Common.{List, ◌-◌, sym, subst}
+use Rattle.std.specs.Arc.{arc_value}
+use Rattle.media_map.specs.declared.form.Form.{Form}
+use Rattle.http_mapping.specs.Means.{Means}
 use Rattle.sessions.proofs.writing.bytes_of.Goals as goal
 
 pub returns : goal.returns
-returns g c = (c.in_ok-rendered.rendered, rw (c.deref.ensures, c.saturating_sub-age.ensures) at c.in_ok-rendered.ensures.means, c.in_ok-bytes.ensures)
+returns g c rules suits =
+    let answer = c.args.answer.now in (
+      c.in_ok-rendered.rendered,
+      subst
+          (λ (routes : List (Form × Form)).
+          Means routes g.R.Relation.holds g.R.Relation.takes (arc_value answer.mapped) answer.finding
+          (answer.moment - answer.heard) c.in_ok-rendered.rendered)
+          (sym suits.routes_are) (rw (c.deref.ensures, c.saturating_sub-age.ensures) at c.in_ok-rendered.ensures.means),
+      c.in_ok-bytes.ensures,
+    )
