@@ -4,7 +4,7 @@ ghost use Rattle.std.specs.Prelude.{IfOk};
 ghost use Rattle.proxy_settings.specs.Files.{IsOf};
 
 use crate::report::Report;
-use crate::settings::undone;
+use crate::settings::asks_to_observe;
 use proxy_settings::{Device, FileFault, Part, Serve, Setup, read_setup};
 use std::fs;
 use std::rt::Files;
@@ -27,7 +27,8 @@ pub fn setup_in<'a, R: Files + AllocGlobal>(
     read.map_err(|fault| Report::file(path, fault))
 }
 
-/// The settings of the gateway that a file has, and what the gateway doesn't follow of them yet is told.
+/// The settings of the gateway that a file has, and what the gateway doesn't follow of them yet is
+/// told.
 pub fn serve_in<'a, R: Eprint + Files + AllocGlobal>(
     rt: &R,
     path: &'a str,
@@ -70,11 +71,9 @@ pub fn device_on_input<R: Input + AllocGlobal>(rt: &R) -> Result<Device, Report<
     }
 }
 
-/// Tells of the keys of settings that the gateway doesn't follow yet.
+/// Tells of what settings ask for that the gateway doesn't do yet.
 pub fn tell_undone<R: Eprint>(rt: &R, path: &str, serve: &Serve) {
-    for (key, asked) in undone(serve) {
-        if asked {
-            let _ = eprintln!(rt; "hcproxy: {path}: {key}: not followed yet");
-        }
+    if asks_to_observe(serve) {
+        let _ = eprintln!(rt; "hcproxy: {path}: observe: not followed yet");
     }
 }

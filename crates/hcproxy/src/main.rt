@@ -4,13 +4,19 @@
 #![tactic(auto)]
 
 mod command;
+#[cfg(test)]
+mod crowd_tests;
 mod device;
 mod files;
 mod lines;
 #[cfg(test)]
+mod media_tests;
+#[cfg(test)]
+mod playing;
+#[cfg(test)]
 mod refused_tests;
-mod relation;
 mod replay;
+mod replaying;
 #[cfg(test)]
 mod reply_tests;
 mod report;
@@ -26,16 +32,14 @@ mod settings;
 #[cfg(test)]
 mod tests;
 
-use ask_model::Settings;
 use command::{Command, command_of};
 use device::serve_device;
-use files::{serve_in, setup_in, tell_undone};
+use files::{setup_in, tell_undone};
 use log::Log;
 use proxy_settings::{Part, Setup};
-use replay::Script;
+use replaying::replay_input;
 use report::{Hint, Report, USAGE};
 use serving::serve;
-use settings::{demonstration, followed};
 use std::alloc::AllocError;
 use std::net::{Net, TcpListener, TcpStream};
 use std::process::ExitCode;
@@ -99,32 +103,6 @@ fn check<'a, R: Print + Eprint + Files + AllocGlobal>(
     Ok(())
 }
 
-/// The settings that a script runs under.
-fn settings_at<'a, R: Eprint + Files + AllocGlobal>(
-    rt: &R,
-    path: Option<&'a str>,
-) -> Result<Settings, Report<'a>> {
-    let alloc = rt.alloc();
-    let Some(path) = path else {
-        return demonstration(alloc).map_err(|fault| Report::replay(fault, None));
-    };
-    followed(alloc, &serve_in(rt, path)?).map_err(out_of_memory)
-}
-
-/// Runs the script on standard input.
-fn replay_input<R: Input + Print + AllocGlobal + Clone + Drop>(
-    rt: &R,
-    settings: Settings,
-    journal: bool,
-) -> Result<(), Report<'static>> {
-    let begun = Script::new(rt.alloc(), settings);
-    let mut script = begun.map_err(|fault| Report::replay(fault, None))?;
-    let mut reader = rt.reader();
-    let mut writer = io::writer(rt);
-    let outcome = script.run(&mut reader, &mut writer, journal);
-    outcome.map_err(|fault| Report::replay(fault, script.reason()))
-}
-
 /// Does what the words ask for.
 fn run<
     'a,
@@ -151,10 +129,7 @@ fn run<
         Command::Serve { settings } => Err(serve(rt, settings)),
         Command::Origin { settings } => Err(serve_device(rt, settings)),
         Command::Check { part, file } => check(&rt, part, file),
-        Command::Replay {
-            journal,
-            settings: path,
-        } => replay_input(&rt, settings_at(&rt, path)?, journal),
+        Command::Replay { journal, settings } => replay_input(rt, settings, journal),
     }
 }
 

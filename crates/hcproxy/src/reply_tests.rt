@@ -1,8 +1,8 @@
 //! Replies of a device, each with the answer that its client is told.
 
-use crate::replay::{ReplayFault, Script, run_lines};
+use crate::playing::{Trouble, run_of};
+use crate::replay::ReplayFault;
 use crate::settings::demonstration;
-use history_check::is_justified;
 use std::alloc::{AllocError, Global};
 
 const GET: &str = "GET /hc/coap://s.example.com/light HTTP/1.1\r\nHost: p\r\n\r\n";
@@ -38,18 +38,14 @@ fn line_of(alloc: Global, answer: &str) -> Result<String, AllocError> {
     format!(in alloc; "\n40 bytes 0 {answer}\n")
 }
 
-/// Whether what the script prints ends so, and the journal is justified.
+/// Whether what the script prints ends so.
 fn ends(alloc: Global, script: &str, last: &str) -> Result<bool, ReplayFault> {
-    let mut out = Vec::new(alloc);
-    let mut reader = script.as_bytes();
-    let mut run = Script::new(alloc, demonstration(alloc)?)?;
-    let ended = run_lines(&mut run, &mut reader, &mut out);
-    let justified = is_justified(alloc, run.journal())?;
-    Ok(ended.is_ok() && justified && out.as_slice().ends_with(last.as_bytes()))
+    let run = run_of(alloc, demonstration(alloc)?, script, false, Trouble::None)?;
+    Ok(run.end.is_ok() && run.printed.as_slice().ends_with(last.as_bytes()))
 }
 
 /// Asks the request at 0, and lets a reply with this code, and these options and payload, be heard at 40.
-/// Whether the answer is told then, and the journal is justified.
+/// Whether the answer is told then.
 fn is_told(
     alloc: Global,
     request: &str,

@@ -7,6 +7,7 @@ use crate::replay::{Reason, ReplayFault};
 use device_server::DeviceFault;
 use gateway_server::ServeFault;
 use proxy_settings::FileFault;
+use std::alloc::{AllocError, AllocFailed};
 use std::fmt;
 
 /// The first line of what `--help` prints, and what wrong arguments are told.
@@ -193,5 +194,17 @@ impl<'a> Report<'a> {
             failure: Failure::Memory,
             hint: None,
         }
+    }
+}
+
+impl From<AllocError> for Report<'_> {
+    fn from(_e: AllocError) -> Self {
+        Report::memory()
+    }
+}
+
+impl<T: Drop> From<AllocFailed<T>> for Report<'_> {
+    fn from(_e: AllocFailed<T>) -> Self {
+        Report::memory()
     }
 }

@@ -2,7 +2,7 @@
 
 ghost use Rattle.std.specs.Prelude.{◌≡◌, ◌++◌, ◌∷◌, IfSome};
 
-use gateway_world::{Happening, Input};
+use linked_world::{Happening, Input};
 use std::alloc::Global;
 use std::{fmt, str};
 use uri_map::{Peer, peer_at};

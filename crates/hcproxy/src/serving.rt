@@ -1,7 +1,6 @@
 //! `hcproxy serve`: the gateway by the settings of a file.
 
 use crate::files::{serve_in, serve_on_input};
-use crate::relation::Unchanged;
 use crate::report::Report;
 use crate::settings::followed;
 use ask_model::Settings;
@@ -15,7 +14,8 @@ use std::sync::Wait;
 use std::thread::Threads;
 use uri_map::Peer;
 
-/// Runs the gateway by the settings of a file, or else by those on standard input, until a device fails.
+/// Runs the gateway by the settings of a file, or else by those on standard input, until a device
+/// fails.
 pub fn serve<
     'a,
     R: Net<Listener = TcpListener, Stream = TcpStream>
@@ -35,9 +35,7 @@ pub fn serve<
         + 'static,
 >(rt: R, path: Option<&'a str>) -> Report<'a> {
     match opened(&rt, path) {
-        Ok((ports, settings)) => {
-            Report::serve(run::<Unchanged, R>(rt, rt.alloc(), ports, settings))
-        }
+        Ok((ports, settings)) => Report::serve(run(rt, rt.alloc(), ports, settings)),
         Err(report) => report,
     }
 }

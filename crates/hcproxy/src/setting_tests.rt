@@ -1,8 +1,9 @@
 //! Files of settings: what the gateway does under them, and what is told of those that are refused.
 
-use crate::replay::{ReplayFault, replay};
+use crate::playing::plays;
+use crate::replay::ReplayFault;
 use crate::report::Report;
-use crate::settings::{followed, undone};
+use crate::settings::{asks_to_observe, followed};
 use proxy_settings::{FileFault, Part, Serve, Setup, read_setup};
 use std::alloc::{AllocError, Global};
 use std::io::{Error, ErrorKind};
@@ -29,10 +30,7 @@ fn serve_of(alloc: Global, text: &str) -> Option<Serve> {
 
 /// The script prints this under the settings.
 fn prints(alloc: Global, serve: &Serve, script: &str, printed: &str) -> Result<bool, ReplayFault> {
-    let settings = followed(alloc, serve)?;
-    let mut out = Vec::new(alloc);
-    replay(alloc, settings, &mut script.as_bytes(), &mut out, false)?;
-    Ok(out.as_slice() == printed.as_bytes())
+    plays(alloc, followed(alloc, serve)?, script, printed)
 }
 
 #[test]
@@ -41,25 +39,80 @@ fn a_script_runs_under_the_settings_of_a_file(rt: HostRuntime) {
     assert!(rt; prints(rt.alloc(), &serve, SCRIPT, PRINTED) == Ok(true));
 }
 
-/// Settings that ask for everything that isn't done yet.
-const UNDONE: &str =
-    "listen = '1.2.3.4:5'\nudp = '1.2.3.4:6'\nloose = true\npass = true\norigin = [{host = 'a', address = '::1'}, {host = 'b', address = '::1', observe = true}]\ndown = [{from = 60, to = 'application/json', by = 'cbor-json'}]\nup = [{from = 'application/json', to = 60, by = 'json-cbor'}]\n";
+/// Settings of files, a script, and what it prints under them.
+static MEDIA: [(&str, &str, &str); 5] = [
+    // Bytes are shown as their hexadecimal digits.
+    (
+        "listen = '1.2.3.4:5'\nudp = '1.2.3.4:6'\norigin = [{host = 's.example.com', address = '192.0.2.1'}]\ndown = [{from = 42, to = 'text/plain', by = 'octets-hex'}]\n",
+        "0 0 open\n0 0 bytes 0 474554202f68632f636f61703a2f2f732e6578616d706c652e636f6d2f7620485454502f312e310d0a486f73743a20700d0a4163636570743a20746578742f706c61696e0d0a0d0a\n10 0 datagram 192.0.2.1:5683 684500000000000000000000c12aff00ff\n",
+        "0 datagram 192.0.2.1:5683 4801000000000000000000003d00732e6578616d706c652e636f6d8176612a\n10 bytes 0 485454502f312e3120323030204f4b0d0a436f6e74656e742d547970653a20746578742f706c61696e0d0a43616368652d436f6e74726f6c3a206d61782d6167653d36300d0a436f6e74656e742d4c656e6774683a20340d0a0d0a30306666\n",
+    ),
+    // Without a route JSON has the format of its own, 50.
+    (
+        "listen = '1.2.3.4:5'\nudp = '1.2.3.4:6'\norigin = [{host = 's.example.com', address = '192.0.2.1'}]\n",
+        "0 0 open\n0 0 bytes 0 505554202f68632f636f61703a2f2f732e6578616d706c652e636f6d2f7620485454502f312e310d0a486f73743a20700d0a436f6e74656e742d547970653a206170706c69636174696f6e2f6a736f6e0d0a436f6e74656e742d4c656e6774683a20370d0a0d0a7b2261223a317d\n",
+        "0 datagram 192.0.2.1:5683 4803000000000000000000003d00732e6578616d706c652e636f6d81761132ff7b2261223a317d\n",
+    ),
+    // A payload by its number is passed on where that is asked for.
+    (
+        "pass = true\nlisten = '1.2.3.4:5'\nudp = '1.2.3.4:6'\norigin = [{host = 's.example.com', address = '192.0.2.1'}]\n",
+        "0 0 open\n0 0 bytes 0 505554202f68632f636f61703a2f2f732e6578616d706c652e636f6d2f7620485454502f312e310d0a486f73743a20700d0a436f6e74656e742d547970653a206170706c69636174696f6e2f636f61702d7061796c6f61643b63663d36300d0a436f6e74656e742d4c656e6774683a20310d0a0d0a78\n",
+        "0 datagram 192.0.2.1:5683 4803000000000000000000003d00732e6578616d706c652e636f6d8176113cff78\n",
+    ),
+    // Loosely, HTML goes as text.
+    (
+        "loose = true\nlisten = '1.2.3.4:5'\nudp = '1.2.3.4:6'\norigin = [{host = 's.example.com', address = '192.0.2.1'}]\n",
+        "0 0 open\n0 0 bytes 0 505554202f68632f636f61703a2f2f732e6578616d706c652e636f6d2f7620485454502f312e310d0a486f73743a20700d0a436f6e74656e742d547970653a20746578742f68746d6c0d0a436f6e74656e742d4c656e6774683a20310d0a0d0a78\n",
+        "0 datagram 192.0.2.1:5683 4803000000000000000000003d00732e6578616d706c652e636f6d817610ff78\n",
+    ),
+    // JSON goes as CBOR along the route of a file.
+    (
+        "listen = '1.2.3.4:5'\nudp = '1.2.3.4:6'\norigin = [{host = 's.example.com', address = '192.0.2.1'}]\nup = [{from = 'application/json', to = 60, by = 'json-cbor'}]\n",
+        "0 0 open\n0 0 bytes 0 505554202f68632f636f61703a2f2f732e6578616d706c652e636f6d2f7620485454502f312e310d0a486f73743a20700d0a436f6e74656e742d547970653a206170706c69636174696f6e2f6a736f6e0d0a436f6e74656e742d4c656e6774683a20370d0a0d0a7b2261223a317d\n",
+        "0 datagram 192.0.2.1:5683 4803000000000000000000003d00732e6578616d706c652e636f6d8176113cffa1616101\n",
+    ),
+];
 
-/// Each thing that isn't done yet is asked for by the settings, or none is.
-fn all_undone(alloc: Global, text: &str, asked: bool) -> Option<bool> {
-    let serve = serve_of(alloc, text)?;
-    for (_, told) in undone(&serve) {
-        if told != asked {
-            return Some(false);
-        }
+/// The table, handed out by a call that says nothing of its rows: a loop over it is proved in less time.
+fn media() -> &'static [(&'static str, &'static str, &'static str)] {
+    &MEDIA
+}
+
+/// The script prints that under the settings of a file with this text.
+fn prints_under(
+    alloc: Global,
+    text: &str,
+    script: &str,
+    printed: &str,
+) -> Result<bool, ReplayFault> {
+    match serve_of(alloc, text) {
+        Some(serve) => prints(alloc, &serve, script, printed),
+        None => Ok(false),
     }
-    Some(true)
 }
 
 #[test]
-fn what_is_not_done_yet_is_told(rt: HostRuntime) {
-    assert!(rt; all_undone(rt.alloc(), OTHER, false) == Some(true));
-    assert!(rt; all_undone(rt.alloc(), UNDONE, true) == Some(true));
+fn a_file_says_what_becomes_of_media_types(rt: HostRuntime) {
+    for &(text, script, printed) in media() {
+        assert!(rt;
+            prints_under(rt.alloc(), text, script, printed) == Ok(true),
+            "{text}"
+        );
+    }
+}
+
+/// The settings ask for observation.
+fn is_observed(alloc: Global, text: &str) -> Option<bool> {
+    let serve = serve_of(alloc, text)?;
+    Some(asks_to_observe(&serve))
+}
+
+#[test]
+fn observation_is_asked_for(rt: HostRuntime) {
+    let observed =
+        "listen = '1.2.3.4:5'\nudp = '1.2.3.4:6'\norigin = [{host = 'a', address = '::1'}, {host = 'b', address = '::1', observe = true}]\n";
+    assert!(rt; is_observed(rt.alloc(), OTHER) == Some(false));
+    assert!(rt; is_observed(rt.alloc(), observed) == Some(true));
 }
 
 /// The lines and the status of a report.

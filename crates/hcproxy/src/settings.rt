@@ -1,18 +1,23 @@
 //! The settings that scripts run under: those of a demonstration, or those of a file.
 
-ghost use Rattle.std.specs.Prelude.{◌≡◌, map, IfOk};
+ghost use Rattle.std.specs.Prelude.{◌≡◌, ◌++◌, map, IfOk, OnOk};
+ghost use Rattle.std.specs.List.{list_any};
 ghost use Rattle.ask_model.specs.Views.{rules_of};
-ghost use Rattle.hcproxy.specs.Rules.{line_of, observed_hosts, rules_in};
+ghost use Rattle.hcproxy.specs.Rules.{line_of, observed_hosts, forms_of, routes_in, rules_in};
 
 use crate::replay::ReplayFault;
 use ask_model::Settings;
-use media_map::Routes;
-use proxy_settings::{Origin, Serve};
+use media_map::{Form, Media, Policy, Routes};
+use proxy_settings::{Origin, Route, Serve};
 use std::alloc::{AllocError, Global};
 use std::net::{IpAddr, Ipv4Addr};
 use uri_map::{Directory, Text, Texts};
 
-/// The base `/hc/`, two devices by name, the second of which may be observed, and devices by address.
+/// The content format of CBOR.
+const CBOR: u16 = 60;
+
+/// The base `/hc/`, two devices by name, the second of which may be observed, devices by address,
+/// and CBOR of devices that clients may have, and send, as JSON.
 pub fn demonstration(alloc: Global) -> Result<Settings, ReplayFault> {
     let mut directory = Directory::new(alloc, true);
     directory.add("s.example.com", IpAddr::V4(Ipv4Addr::new(192, 0, 2, 1)))?;
@@ -23,8 +28,21 @@ pub fn demonstration(alloc: Global) -> Result<Settings, ReplayFault> {
         base: Text::copy_of(alloc, "/hc/")?,
         directory,
         observed,
-        routes: Routes::new(alloc),
+        policy: Policy::default(),
+        routes: demonstration_routes(alloc)?,
     })
+}
+
+/// CBOR to JSON on the way to clients, and JSON to CBOR on the way to devices.
+fn demonstration_routes(alloc: Global) -> Result<Routes, AllocError> {
+    let mut routes = Routes::new(alloc);
+    routes.push(Form::Format(CBOR), json(alloc)?)?;
+    routes.push(json(alloc)?, Form::Format(CBOR))?;
+    Ok(routes)
+}
+
+fn json(alloc: Global) -> Result<Form, AllocError> {
+    Ok(Form::Media(Media::from_str(alloc, "application/json")?))
 }
 
 /// The rules that the settings of a file give the gateway.
@@ -36,7 +54,8 @@ pub fn followed(alloc: Global, serve: &Serve) -> Result<Settings, AllocError>
         base: serve.base.copy()?,
         directory: directory_of(alloc, origins, serve.literals)?,
         observed: observed_of(alloc, origins)?,
-        routes: Routes::new(alloc),
+        policy: serve.policy,
+        routes: routes_of(alloc, serve)?,
     })
 }
 
@@ -64,14 +83,30 @@ fn observed_of(alloc: Global, origins: &[Origin]) -> Result<Texts, AllocError>
     Ok(observed)
 }
 
-/// The keys of settings that ask for something, each with whether it does, which the gateway doesn't do yet.
-pub fn undone(serve: &Serve) -> [(&'static str, bool); 5] {
-    let observes = serve.origins.as_slice().iter().any(|o| o.observe);
-    [
-        ("loose", serve.policy.loose),
-        ("pass", serve.policy.pass),
-        ("observe", observes),
-        ("down", serve.down.len() > 0),
-        ("up", serve.up.len() > 0),
-    ]
+/// Between which forms bodies are transformed, first on the way to clients, then on the way to
+/// devices.
+fn routes_of(alloc: Global, serve: &Serve) -> Result<Routes, AllocError>
+    ensures { IfOk result (λ r. r ≡ routes_in serve.now) }
+{
+    let mut routes = Routes::new(alloc);
+    add_routes(&mut routes, serve.down.as_slice())?;
+    add_routes(&mut routes, serve.up.as_slice())?;
+    Ok(routes)
+}
+
+/// Puts the forms of each of these routes last.
+fn add_routes(routes: &mut Routes, more: &[Route]) -> Result<(), AllocError>
+    ensures { OnOk result (routes.new ≡ routes.old ++ map forms_of more.now) }
+{
+    'each: for route in more {
+        routes.push(route.from.copy()?, route.to.copy()?)?;
+    }
+    Ok(())
+}
+
+/// Whether a device is to be observed, which the gateway doesn't do yet.
+pub fn asks_to_observe(serve: &Serve) -> bool
+    ensures { result ≡ list_any (λ o. o.observe) serve.now.origins }
+{
+    serve.origins.as_slice().iter().any(|o| o.observe)
 }

@@ -1,12 +1,12 @@
 //! Scripts run over memory.
 
 use crate::command::{Command, command_of};
-use crate::replay::{Reason, ReplayFault, Script, replay};
+use crate::playing::{Trouble, run_of};
+use crate::replay::{Reason, ReplayFault};
 use crate::script::LineFault;
 use crate::settings::demonstration;
 use proxy_settings::Part;
 use std::alloc::{AllocError, Global};
-use std::io::{self, ErrorKind, Read, Write};
 
 /// A GET of the resource `light`, as bytes of a connection.
 const GET_LIGHT: &str =
@@ -23,41 +23,6 @@ const REPLY: &str = "40 0 datagram 192.0.2.1:5683 684500000000000000000000c0ff6f
 const TOLD: &str =
     "40 bytes 0 485454502f312e3120323030204f4b0d0a436f6e74656e742d547970653a20746578742f706c61696e3b636861727365743d7574662d380d0a43616368652d436f6e74726f6c3a206d61782d6167653d36300d0a436f6e74656e742d4c656e6774683a20320d0a0d0a6f6e\n";
 
-/// A reader that gives a text in pieces of one byte and then fails, where it is to.
-#[derive(Drop)]
-struct Trickle<'a> {
-    text: &'a [u8],
-    fails: bool,
-}
-
-impl Read for Trickle<'_> {
-    fn read(&mut self, buf: &mut [u8]) -> io::Result<usize> {
-        match (self.text, buf) {
-            ([first, rest @ ..], [place, ..]) => {
-                *place = *first;
-                self.text = rest;
-                Ok(1)
-            }
-            _ if self.fails => Err(io::Error::from(ErrorKind::Other)),
-            _ => Ok(0),
-        }
-    }
-}
-
-/// A writer that takes no byte.
-#[derive(Drop)]
-struct Full;
-
-impl Write for Full {
-    fn write(&mut self, _buf: &[u8]) -> io::Result<usize> {
-        Err(io::Error::from(ErrorKind::StorageFull))
-    }
-
-    fn flush(&mut self) -> io::Result<()> {
-        Ok(())
-    }
-}
-
 /// The script ends so, and prints this.
 fn ends(
     alloc: Global,
@@ -66,13 +31,8 @@ fn ends(
     end: Result<(), ReplayFault>,
     printed: &str,
 ) -> Result<bool, ReplayFault> {
-    let mut out = Vec::new(alloc);
-    let mut reader = Trickle {
-        text: script.as_bytes(),
-        fails: false,
-    };
-    let ended = replay(alloc, demonstration(alloc)?, &mut reader, &mut out, journal);
-    Ok(ended == end && out.as_slice() == printed.as_bytes())
+    let run = run_of(alloc, demonstration(alloc)?, script, journal, Trouble::None)?;
+    Ok(run.end == end && run.printed.as_slice() == printed.as_bytes())
 }
 
 /// The text of several parts.
@@ -227,29 +187,17 @@ fn a_mebibyte_waits_unread_and_no_byte_more(rt: HostRuntime) {
     assert!(rt; more == Ok(true));
 }
 
-/// How a script ends whose reader fails.
-fn unread(alloc: Global) -> Result<(), ReplayFault> {
-    let mut reader = Trickle {
-        text: b"0 0 open\n0 0 op",
-        fails: true,
-    };
-    let mut out = Vec::new(alloc);
-    replay(alloc, demonstration(alloc)?, &mut reader, &mut out, true)
-}
-
-/// How a script ends whose writer takes no byte.
-fn unwritten(alloc: Global) -> Result<(), ReplayFault> {
-    let mut reader = Trickle {
-        text: b"0 0 open\n0 0 open\n",
-        fails: false,
-    };
-    replay(alloc, demonstration(alloc)?, &mut reader, &mut Full, true)
+/// How a script ends on devices with this trouble.
+fn end_on(alloc: Global, script: &str, trouble: Trouble) -> Result<(), ReplayFault> {
+    run_of(alloc, demonstration(alloc)?, script, true, trouble)?.end
 }
 
 #[test]
 fn failed_devices_are_told(rt: HostRuntime) {
-    assert!(rt; unread(rt.alloc()) == Err(ReplayFault::Device));
-    assert!(rt; unwritten(rt.alloc()) == Err(ReplayFault::Device));
+    let unread = end_on(rt.alloc(), "0 0 open\n0 0 op", Trouble::Reading);
+    assert!(rt; unread == Err(ReplayFault::Device));
+    let unwritten = end_on(rt.alloc(), "0 0 open\n0 0 open\n", Trouble::Writing);
+    assert!(rt; unwritten == Err(ReplayFault::Device));
 }
 
 /// What a line of words asks for, or None where it is answered by the usage.
@@ -362,10 +310,9 @@ fn reasons() -> &'static [(&'static str, Reason)] {
 
 /// The first line of the script is refused, and why.
 fn reason_of(alloc: Global, text: &str) -> Result<Option<Reason>, ReplayFault> {
-    let mut script = Script::new(alloc, demonstration(alloc)?)?;
-    let mut out = Vec::new(alloc);
-    match script.run(&mut text.as_bytes(), &mut out, true) {
-        Err(ReplayFault::Line(1)) => Ok(script.reason()),
+    let run = run_of(alloc, demonstration(alloc)?, text, true, Trouble::None)?;
+    match run.end {
+        Err(ReplayFault::Line(1)) => Ok(run.reason),
         _ => Ok(None),
     }
 }

@@ -16,6 +16,18 @@ pub struct Question {
     pub payload: Vec<u8>,
 }
 
+impl Question {
+    /// The same question.
+    pub fn copy(&self, alloc: Global) -> Result<Question, AllocError> {
+        Ok(Question {
+            peer: self.peer,
+            code: self.code,
+            resource: String::from_str(alloc, self.resource.as_str())?,
+            payload: Vec::from_slice(alloc, &self.payload)?,
+        })
+    }
+}
+
 /// What becomes of a request.
 #[derive(Drop)]
 pub enum Fate {
@@ -97,7 +109,7 @@ const HOSTS: [Host; 2] = [("o.example.com", "o.example.com", 2), ("192.0.2.9", "
 
 /// Requests that the proxy refuses by itself: what stands before and behind the version, the status and
 /// the cause (RFC 8075, section 5; RFC 9110).
-const REFUSED: [(&str, &str, u16, &str); 6] = [
+const REFUSED: [(&str, &str, u16, &str); 7] = [
     ("GET /hc/coap:///x", "", 400, "no-map"),
     ("GET /hc/coaps://s.example.com/x", "", 501, "no-map"),
     ("GET /hc/coap://nowhere.example.com/x", "", 501, "no-map"),
@@ -110,8 +122,14 @@ const REFUSED: [(&str, &str, u16, &str); 6] = [
     ),
     (
         "PUT /hc/coap://s.example.com/x",
-        "Content-Type: text/plain\r\nContent-Length: 2\r\n\r\non",
+        "Content-Type: application/coap-payload;cf=60\r\nContent-Length: 2\r\n\r\non",
         415,
+        "media",
+    ),
+    (
+        "GET /hc/coap://s.example.com/x",
+        "Accept: application/coap-payload;cf=60\r\n",
+        406,
         "media",
     ),
 ];

@@ -1,27 +1,20 @@
 //! Devices, and what they do with what they are asked.
 
-use crate::clients::{Outcome, Question, peer};
+use crate::clients::{Question, peer};
 use crate::draws::Draws;
+use crate::exchanges::{ACK as EMPTY_ACK, RST};
 use coap_codec::{Message, Token};
 use std::alloc::{AllocError, Global};
 use std::str;
 use uri_map::Peer;
 
-/// A request that went out to a device.
-#[derive(Drop)]
-pub struct Asked {
-    pub bytes: Vec<u8>,
+/// A request that a device has: the number of its exchange, what it asks, and by which message.
+#[derive(Clone, Copy)]
+pub struct Request<'a> {
+    pub number: usize,
+    pub question: &'a Question,
     pub mid: u16,
     pub token: Token,
-    pub question: Question,
-    /// when it was asked
-    pub since: u64,
-    /// how often it went out again
-    pub copies: u8,
-    /// an empty ACK came to it
-    pub is_confirmed: bool,
-    /// how it ended
-    pub outcome: Option<Outcome>,
 }
 
 /// What a reply of a device shows.
@@ -59,11 +52,6 @@ const CON: u8 = 0x48;
 const NON: u8 = 0x58;
 
 const ACK: u8 = 0x68;
-
-/// The first byte of an empty ACK, and of an RST.
-const EMPTY_ACK: u8 = 0x60;
-
-const RST: u8 = 0x70;
 
 /// The codes of responses, with their statuses (RFC 8075, section 7).
 pub const STATUSES: [(u8, u16); 10] = [
@@ -127,56 +115,44 @@ impl Devices {
         self.mid
     }
 
-    /// Puts on their way what a device does with the request with this number.
+    /// Puts on their way what a device does with the request.
     pub fn react(
         &mut self,
         draws: &mut Draws,
-        number: usize,
-        asked: &Asked,
+        asked: &Request<'_>,
         way: &mut Vec<Parcel>,
     ) -> Result<(), AllocError> {
         match draws.below(15) {
             0 | 1 => return Ok(()),
-            2 => way.push(self.empty(number, asked, RST, Deed::Resets)?)?,
-            3 => way.push(self.confusing(number, asked)?)?,
+            2 => way.push(self.empty(asked, RST, Deed::Resets)?)?,
+            3 => way.push(self.confusing(asked)?)?,
             4 => {
-                way.push(self.empty(number, asked, EMPTY_ACK, Deed::Confirms)?)?;
-                way.push(self.empty(number, asked, RST, Deed::Resets)?)?;
+                way.push(self.empty(asked, EMPTY_ACK, Deed::Confirms)?)?;
+                way.push(self.empty(asked, RST, Deed::Resets)?)?;
             }
-            5 | 6 => way.push(self.empty(number, asked, EMPTY_ACK, Deed::Confirms)?)?,
-            7 | 8 | 9 => way.push(self.flawed(draws, number, asked)?)?,
+            5 | 6 => way.push(self.empty(asked, EMPTY_ACK, Deed::Confirms)?)?,
+            7 | 8 | 9 => way.push(self.flawed(draws, asked)?)?,
             _ => {}
         }
         for _ in 0..draws.below(3) {
-            way.push(self.reply(draws, number, asked)?)?;
+            way.push(self.reply(draws, asked)?)?;
         }
         Ok(())
     }
 
     /// An empty message with the ID of the request.
-    fn empty(
-        &self,
-        number: usize,
-        asked: &Asked,
-        first: u8,
-        deed: Deed,
-    ) -> Result<Parcel, AllocError> {
+    fn empty(&self, asked: &Request<'_>, first: u8, deed: Deed) -> Result<Parcel, AllocError> {
         let [high, low] = asked.mid.to_be_bytes();
         Ok(Parcel {
             peer: asked.question.peer,
             bytes: Vec::from_slice(self.alloc, &[first, 0, high, low])?,
-            exchange: number,
+            exchange: asked.number,
             deed,
         })
     }
 
     /// A reply, of whichever kind.
-    fn reply(
-        &mut self,
-        draws: &mut Draws,
-        number: usize,
-        asked: &Asked,
-    ) -> Result<Parcel, AllocError> {
+    fn reply(&mut self, draws: &mut Draws, asked: &Request<'_>) -> Result<Parcel, AllocError> {
         let kind = draws.pick(ACK, &[ACK, CON, NON]);
         let mid = if kind == ACK {
             asked.mid
@@ -190,13 +166,13 @@ impl Devices {
         Ok(Parcel {
             peer: asked.question.peer,
             bytes,
-            exchange: number,
+            exchange: asked.number,
             deed: Deed::Replies(shown),
         })
     }
 
     /// What is shown: a text that says what was asked, and a tag that no other reply has.
-    fn shown(&mut self, asked: &Asked, code: u8) -> Result<Shown, AllocError> {
+    fn shown(&mut self, asked: &Request<'_>, code: u8) -> Result<Shown, AllocError> {
         self.tag = self.tag.wrapping_add(1);
         let tag = self.tag;
         let Question {
@@ -204,7 +180,7 @@ impl Devices {
             code: method,
             resource,
             ..
-        } = &asked.question;
+        } = asked.question;
         let payload = format!(in self.alloc; "{method} {peer} {resource} {tag}")?;
         Ok(Shown { code, tag, payload })
     }
@@ -235,26 +211,21 @@ impl Devices {
 
     /// A piggybacked reply with a critical option that nobody knows, of number 9 (RFC 7252, sections
     /// 5.4.1 and 5.10).
-    fn confusing(&mut self, number: usize, asked: &Asked) -> Result<Parcel, AllocError> {
+    fn confusing(&mut self, asked: &Request<'_>) -> Result<Parcel, AllocError> {
         let shown = self.shown(asked, 69)?;
         let mut bytes = self.head(ACK, asked.mid, asked.token.as_slice(), &shown)?;
         bytes.push(0x50)?;
         Ok(Parcel {
             peer: asked.question.peer,
             bytes,
-            exchange: number,
+            exchange: asked.number,
             deed: Deed::Confuses,
         })
     }
 
     /// A message that looks like a reply and is none.
-    fn flawed(
-        &mut self,
-        draws: &mut Draws,
-        number: usize,
-        asked: &Asked,
-    ) -> Result<Parcel, AllocError> {
-        let mut parcel = self.reply(draws, number, asked)?;
+    fn flawed(&mut self, draws: &mut Draws, asked: &Request<'_>) -> Result<Parcel, AllocError> {
+        let mut parcel = self.reply(draws, asked)?;
         parcel.deed = Deed::Nothing;
         match draws.below(6) {
             // another token, of the same length

@@ -1,7 +1,7 @@
 //! What a run may get wrong.
 
 use coap_codec::CodecFault;
-use gateway_world::WorldFault;
+use linked_world::WorldFault;
 use std::alloc::{AllocError, AllocFailed};
 
 /// What a run got wrong, or why it wasn't made.
@@ -31,18 +31,22 @@ pub enum Fault {
     Garbled,
     /// a request went out that no client asks
     OtherRequest,
-    /// the request of a client didn't go out
+    /// a request went out while another one to its device waited for its ACK
+    Outstanding,
+    /// a request went out under another token or message ID than is its turn
+    Number,
+    /// a request whose turn it was didn't go out
     Unsent,
-    /// an ACK or RST went out for which nothing was heard
-    Confirmation,
-    /// a token or message ID went out twice
+    /// a request went out again that didn't have to
     Twice,
+    /// a request that had to go out again didn't
+    NoCopy,
+    /// another ACK or RST went out, or none, than what was heard is answered by
+    Confirmation,
+    /// the answers of a step didn't come in the order of what they answer
+    Order,
     /// the journal has other answers than were told
     OtherJournal,
-    /// the checker says that the journal isn't justified
-    Unjustified,
-    /// the checker says that a spoiled journal is justified
-    Overlooked,
 }
 
 impl From<AllocError> for Fault {

@@ -1,8 +1,9 @@
-//! Trials of `gateway_world` and `history_check`, by their public calls: random scripts.
+//! Trials of `linked_world`, by its public calls: random scripts.
 //!
 //! A script has pieces of requests cut anywhere, and replies lost, repeated, reordered, late, flawed or of
-//! somebody else. What comes out has to be what the clients and devices of the script make it, and the journal
-//! has to be justified. Nothing stands on this crate, so the crates below it are proved once.
+//! somebody else. What comes out has to be what the clients and devices of the script make it, and what a model of the
+//! message layer makes of what was asked, heard and waited for. Nothing stands on this crate, so the crates below it
+//! are proved once.
 #![tactic(auto)]
 
 #[cfg(test)]
@@ -12,11 +13,13 @@ mod devices;
 #[cfg(test)]
 mod draws;
 #[cfg(test)]
+mod exchanges;
+#[cfg(test)]
 mod faults;
 #[cfg(test)]
-mod records;
+mod inputs;
 #[cfg(test)]
-mod relation;
+mod records;
 #[cfg(test)]
 mod runs;
 #[cfg(test)]

@@ -1,7 +1,7 @@
 //! The settings that the scripts run under.
 
 use ask_model::Settings;
-use media_map::Routes;
+use media_map::{Policy, Routes};
 use std::alloc::{AllocError, Global};
 use std::net::{IpAddr, Ipv4Addr};
 use uri_map::{Directory, Text, Texts};
@@ -17,6 +17,7 @@ pub fn two_devices(alloc: Global) -> Result<Settings, AllocError> {
         base: Text::copy_of(alloc, "/hc/")?,
         directory,
         observed,
+        policy: Policy::default(),
         routes: Routes::new(alloc),
     })
 }
