@@ -1,10 +1,8 @@
 //! Where the sessions' requests lead.
 
-ghost use Rattle.std.specs.Prelude.{◌≡◌, [], List, IfOk, IfSome};
+ghost use Rattle.std.specs.Prelude.{◌≡◌, [], IfOk, IfSome};
 ghost use Rattle.std.specs.Arc.{arc_value};
-ghost use Rattle.media_map.specs.declared.form.Form.{Form};
 ghost use Rattle.ask_model.specs.Views.{rules_of};
-ghost use Rattle.transformers.specs.Suits.{Suits};
 ghost use Rattle.trials_serve.specs.Nothing.{HoldsNothing, TakesNothing};
 
 use ask_model::Settings;
@@ -12,7 +10,7 @@ use media_map::{Policy, Routes};
 use std::alloc::{AllocError, Global};
 use std::net::{IpAddr, Ipv4Addr};
 use std::sync::Arc;
-use transformers::{Bank, Relation};
+use transformers::Relation;
 use uri_map::{Directory, Text, Texts};
 
 /// A relation that relates nothing.
@@ -24,14 +22,6 @@ impl Relation for Nothing {
     ghost holds = { HoldsNothing };
 
     ghost takes = { TakesNothing };
-}
-
-/// A bank without transformers, which suits settings without routes.
-pub fn no_bank(alloc: Global) -> Bank<Nothing>
-    ensures { (routes : List (Form × Form)) → routes ≡ []
-        → Suits HoldsNothing TakesNothing routes result }
-{
-    Bank::new(Vec::new(alloc))
 }
 
 /// The base `/hc/`, s.example.com at 192.0.2.1, and servers by their addresses. No body is

@@ -2,7 +2,7 @@
 
 ghost use Rattle.std.specs.Prelude.{◌≡◌, ◌-◌, ◌^◌, ◌<◌, IfSome};
 
-use crate::sample::{Nothing, no_bank, shared_settings};
+use crate::sample::{Nothing, shared_settings};
 use crate::threads::{Counter, new_desk};
 use ask_model::Mapped;
 use front_desk::{Pass, Receipt, SettleFault, settle};
@@ -13,6 +13,7 @@ use std::alloc::Global;
 use std::marker::Brand;
 use std::sync::ledger::{Blank, Ledger};
 use std::sync::{Arc, Wait};
+use transformers::Bank;
 
 /// What a session did wrong.
 #[derive(Clone, Copy, PartialEq, Eq)]
@@ -28,7 +29,7 @@ enum Wrong {
 /// A request that is refused, and so answered at once.
 fn refused(alloc: Global) -> Option<Arc<Mapped<Nothing>>> {
     let settings = shared_settings(alloc)?;
-    let bank = no_bank(alloc);
+    let bank: Bank<Nothing> = Bank::new(Vec::new(alloc));
     match map_request(alloc, &settings, &bank, Incoming::Bad(BadKind::Syntax)) {
         Ok(mapped) => Arc::new(alloc, mapped).ok(),
         Err(_) => None,

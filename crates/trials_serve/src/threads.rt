@@ -1,19 +1,23 @@
 //! Sessions in threads, over one desk.
 
-ghost use Rattle.std.specs.Prelude.{◌≡◌, ◌-◌, ◌^◌};
+ghost use Rattle.std.specs.Prelude.{◌≡◌, ◌-◌, ◌^◌, []};
+ghost use Rattle.std.specs.Arc.{arc_value};
+ghost use Rattle.ask_model.specs.Views.{rules_of};
 
 use crate::client::{Client, Keeper, Steps, Tape};
 use crate::device::Device;
 use crate::rows::{Trial, crossed, held, late, lost, shut, told};
-use crate::sample::{Nothing, no_bank, shared_settings};
+use crate::sample::{Nothing, shared_settings};
+use ask_model::Settings;
 use front_desk::{LockedDesk, Note, Pass, Shop, settle};
 use sessions::{Done, serve, tick_loop, udp_loop};
 use std::alloc::Global;
 use std::marker::Brand;
-use std::sync::Wait;
 use std::sync::ledger::{Blank, Ledger};
+use std::sync::{Arc, Wait};
 use std::thread;
 use std::thread::Threads;
+use transformers::Bank;
 
 /// Turns within which all is done.
 const TURNS: u64 = 1_000_000;
@@ -48,6 +52,23 @@ fn open_told<L: Ledger, W: Wait>(
     Some(pass)
 }
 
+/// Serves a connection under settings without routes, so that no bank of transformers is needed.
+fn serve_plainly<L: Ledger, W: Wait>(
+    rt: &W,
+    alloc: Global,
+    device: &Device,
+    desk: &Counter<L>,
+    settings: &Arc<Settings>,
+    tape: &mut Tape,
+    gate: &mut Keeper<'_>,
+    pass: Pass<Nothing, L>,
+) -> Done<Nothing, L>
+    requires { (rules_of (arc_value settings.now)).routes ≡ [] }
+{
+    let bank: Bank<Nothing> = Bank::new(Vec::new(alloc));
+    serve(rt, alloc, tape, device, desk, gate, settings, &bank, pass)
+}
+
 /// Serves a client. What its session leaves is its pass, where its end and what the client got are as wanted.
 fn serve_client<L: Ledger, W: Wait>(
     rt: &W,
@@ -58,15 +79,14 @@ fn serve_client<L: Ledger, W: Wait>(
     pass: Pass<Nothing, L>,
 ) -> Option<Pass<Nothing, L>> {
     let settings = shared_settings(alloc)?;
-    let bank = no_bank(alloc);
     let mut tape = Tape::of(client);
     let mut gate = Keeper {
         device,
         held_at: client.held_at,
         noes: 0,
     };
-    let done = serve(
-        rt, alloc, &mut tape, device, desk, &mut gate, &settings, &bank, pass,
+    let done = serve_plainly(
+        rt, alloc, device, desk, &settings, &mut tape, &mut gate, pass,
     );
     let Done { pass, end } = done;
     if end == client.end && tape.is_done() {
