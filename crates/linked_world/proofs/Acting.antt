@@ -1,5 +1,5 @@
 -- What a function of the engine does is acts.
-use Rattle.std.proofs.Common.{◌≡◌, ◌⊎◌, ℕ, suc, ◌<◌, Bool, true, false, length, arith, List, [], ◌∷◌, ◌++◌, Result, Ok, Err, Option, Some, None, inl, inr, refl, sym, ap, subst, ◌∙◌}
+use Rattle.std.proofs.Common.{◌≡◌, ◌⊎◌, ℕ, suc, ◌<◌, Bool, true, false, length, arith, List, [], ◌∷◌, ◌++◌, Result, Ok, Err, Some, inl, inr, refl, sym, ap, subst, ◌∙◌}
 use Rattle.std.specs.Prelude.{OnOk}
 use Rattle.std.proofs.lemmas.List.{append-nil, append_assoc, map_push}
 use Rattle.http_edge.specs.Answers.{answer_text}
@@ -8,16 +8,14 @@ use Rattle.linked_core.specs.declared.fault.OpenFault.TheVariants as Open
 use Rattle.linked_core.specs.Answering.{Given}
 use Rattle.linked_core.specs.Calls.{IsOpened, IsUnknown}
 use Rattle.linked_core.specs.Taking.{IsTaken, IsSent}
-use Rattle.linked_core.specs.Values.{CoreValue, Outgoing, outgoing_of, stepped}
-use Rattle.connection_table.specs.Inlets.{Inlet, fresh, appended, without as without_inlet}
+use Rattle.linked_core.specs.Values.{CoreValue, Outgoing, stepped}
+use Rattle.connection_table.specs.Inlets.{fresh, appended}
 use Rattle.connection_table.specs.Reads.{Continues, ChangesAt}
 use Rattle.linked_world.specs.declared.engine.Engine.{Engine}
 use Rattle.proxy_acts.specs.declared.input.When.{When}
-use Rattle.proxy_acts.specs.declared.input.Happening.{Happening}
 use Rattle.proxy_acts.specs.declared.input.Happening.TheVariants as H
 use Rattle.proxy_acts.specs.declared.input.Output.{Output}
-use Rattle.proxy_acts.specs.declared.input.Output.TheVariants as Out
-use Rattle.proxy_acts.specs.Acts.{Act, Opens, TurnsAway, Takes, Hears, Passes, Sends, Tells, GoesOn, Rests, Leaves, Misses, Served, Terms, Does, IsSending, IsTelling, IsClosing, Ends, RestsAt, at, continue_text}
+use Rattle.proxy_acts.specs.Acts.{Act, Opens, TurnsAway, Takes, Sends, Tells, GoesOn, Rests, Leaves, Misses, Served, Terms, Does, IsClosing, Ends, RestsAt, at, continue_text}
 use Rattle.proxy_acts.specs.Emissions.{Emission, emissions, emission_of, Says, Goes, Closed, Turned}
 use Rattle.linked_world.specs.Engines.{IsShutting, IsShut, LeadsAfter}
 use Rattle.linked_world.specs.Leading.{Leads, LeadsBy, served_of}

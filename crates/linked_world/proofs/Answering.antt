@@ -17,12 +17,11 @@ use Rattle.linked_world.specs.declared.engine.Engine.{Engine}
 use Rattle.proxy_acts.specs.declared.input.When.{When}
 use Rattle.proxy_acts.specs.declared.input.Output.{Output}
 use Rattle.proxy_acts.specs.Acts.{Act, Terms, IsAllTold}
-use Rattle.proxy_acts.specs.Emissions.{Emission, emissions}
+use Rattle.proxy_acts.specs.Emissions.{emissions}
 use Rattle.linked_world.specs.Engines.{IsSentOut, KeepsWaiting, LeadsAfter, MayGoBack}
 use Rattle.linked_world.specs.Leading.{Leads, LeadsBy, served_of}
-use Rattle.proxy_acts.specs.Orders.{AreFor, ServesOut, IsTelling, AreTurns, HasTurns}
+use Rattle.proxy_acts.specs.Orders.{ServesOut, IsTelling, AreTurns, HasTurns}
 use Rattle.proxy_acts.specs.Waiting.{AreApart, AreServed, IsOpen}
-use Rattle.proxy_acts.specs.Unasked.{unasked_in}
 use Rattle.linked_world.proofs.Growth.{back-none, back-state, back-then}
 use Rattle.linked_world.proofs.Lead.{leads-none, leads-then, leads-as}
 use Rattle.proxy_acts.proofs.Opened.{KeepsOpen, keeps-for, keeps-out, keeps-then}

@@ -1,5 +1,5 @@
 -- An ask, and what it leads to.
-use Rattle.std.proofs.Common.{◌≡◌, ◌≢◌, ℕ, ◌<◌, ◌≤◌, List, [], ◌∷◌, ◌++◌, length, map, Result, Ok, Err, Option, Some, None, refl, sym, ap, subst, ◌∙◌, arith}
+use Rattle.std.proofs.Common.{◌≡◌, ℕ, ◌<◌, ◌≤◌, List, [], ◌∷◌, length, map, Ok, Err, Some, None, refl, sym, ap, subst, ◌∙◌, arith}
 use Rattle.std.specs.Prelude.{slice_get, All}
 use Rattle.std.specs.List.{AllByRecursion, filter}
 use Rattle.std.proofs.lemmas.List.{append-nil}
@@ -16,7 +16,7 @@ use Rattle.core_steps.specs.State.{State}
 use Rattle.core_steps.proofs.Lists.{all-map, all-mapped}
 use Rattle.linked_core.specs.declared.fault.AskFault.TheVariants as Fault
 use Rattle.linked_core.specs.Answering.{Given}
-use Rattle.linked_core.specs.Calls.{IsAsked, AsksSo, now}
+use Rattle.linked_core.specs.Calls.{IsAsked, now}
 use Rattle.linked_core.specs.Serving.{AreBelow}
 use Rattle.linked_core.specs.Taking.{IsTaken}
 use Rattle.linked_core.specs.Values.{CoreValue, Untaken, written}

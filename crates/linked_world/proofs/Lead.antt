@@ -1,5 +1,5 @@
 -- Acts that are done one after another.
-use Rattle.std.proofs.Common.{◌≡◌, ℕ, List, [], ◌∷◌, ◌++◌, refl, sym, subst, ap, ◌∙◌}
+use Rattle.std.proofs.Common.{◌≡◌, List, [], ◌∷◌, ◌++◌, refl, sym, subst, ap, ◌∙◌}
 use Rattle.std.proofs.lemmas.List.{append_assoc, append-nil}
 use Rattle.proxy_acts.specs.declared.input.When.{When}
 use Rattle.proxy_acts.specs.Acts.{Act, Served, Terms, Does, DoesAll}

@@ -1,6 +1,7 @@
 pub mod Acting
 pub mod Answering
 pub mod Asking
+pub mod AskedInRun
 pub mod Growth
 pub mod Lead
 pub mod Numbered

@@ -5,7 +5,6 @@ use Rattle.media_map.specs.declared.form.Form.{Form}
 use Rattle.ask_model.specs.Views.{Rules}
 use Rattle.journal_book.specs.Entries.{Written}
 use Rattle.whole_history.specs.Justified.{Stands}
-use Rattle.core_steps.specs.State.{State}
 use Rattle.core_steps.specs.Room.{KeptInRoom}
 use Rattle.proxy_acts.specs.declared.input.Happening.{Happening}
 use Rattle.proxy_acts.specs.declared.input.Happening.TheVariants as H

@@ -1,5 +1,5 @@
 -- Which answers wait.
-use Rattle.std.proofs.Common.{◌≡◌, ◌≢◌, ℕ, zero, suc, ◌+◌, ◌<◌, ◌≤◌, Bool, true, false, cond, not, eqb, List, [], ◌∷◌, ◌++◌, length, drop, refl, sym, ap, subst, ◌∙◌, arith, eqb-true, eq-eqb}
+use Rattle.std.proofs.Common.{◌≡◌, ◌≢◌, ℕ, zero, suc, ◌+◌, ◌<◌, ◌≤◌, Bool, true, false, cond, not, List, [], ◌∷◌, ◌++◌, length, drop, refl, sym, ap, subst, ◌∙◌, arith, eqb-true, eq-eqb}
 use Rattle.std.specs.Prelude.{◌==◌, slice_get, Some}
 use Rattle.std.specs.List.{AllByRecursion, Contains, filter}
 use Rattle.std.proofs.Math.Seq.{drop-append_seam}
@@ -9,14 +9,13 @@ use Rattle.std.proofs.lemmas.List.Elements.{filter-append}
 use Rattle.ask_model.specs.Views.{Ask}
 use Rattle.journal_book.specs.Entries.{Deed, Opens, Asks, Sends, Hears, Passes, Answers, Shuts, Seals, Written}
 use Rattle.core_steps.specs.State.{State}
-use Rattle.core_steps.specs.Calls.{Numbers}
 use Rattle.core_steps.specs.Growing.{Adds, IsOfAsk}
 use Rattle.core_steps.specs.Sealing.{asks_in_room}
 use Rattle.core_steps.proofs.Grown.{asks-add, asks-answer}
 use Rattle.linked_core.specs.Calls.{AsksSo}
 use Rattle.linked_core.specs.Serving.{AreOlder, IsFirst}
 use Rattle.linked_core.specs.Taking.{is_to_other}
-use Rattle.linked_core.specs.Values.{Untaken, CoreValue, answered_by, answered_in, stepped}
+use Rattle.linked_core.specs.Values.{Untaken, CoreValue, answered_by, answered_in}
 use Rattle.linked_world.specs.Engines.{IsAskOf}
 use Rattle.proxy_acts.proofs.Order.{all-append, all-as}
 

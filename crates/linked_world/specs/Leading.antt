@@ -1,5 +1,5 @@
 -- What a function of the engine leads to.
-use Rattle.std.specs.Prelude.{◌≡◌, ℕ, List, [], ◌∷◌, ◌++◌}
+use Rattle.std.specs.Prelude.{◌≡◌, List, ◌++◌}
 use Rattle.std.specs.Arc.{arc_value}
 use Rattle.ask_model.specs.Views.{Rules, rules_of}
 use Rattle.linked_world.specs.declared.engine.Context.{Context}

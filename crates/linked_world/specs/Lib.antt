@@ -1,3 +1,4 @@
+pub mod Asked
 pub mod Engines
 pub mod Faults
 pub mod Leading

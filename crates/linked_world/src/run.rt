@@ -8,6 +8,7 @@ ghost use Rattle.linked_core.specs.Values.{sent_in};
 ghost use Rattle.proxy_acts.specs.Going.{goes_in};
 ghost use Rattle.proxy_acts.specs.Tellings.{terms_of};
 ghost use Rattle.proxy_acts.specs.Told.{IsToldAnswers};
+ghost use Rattle.linked_world.specs.Asked.{AsksInRun};
 ghost use Rattle.linked_world.specs.Worlds.{HandlesAll, IsAtRest, IsRefusedAfter, IsRefusedIn, RunsTo};
 ghost use Rattle.transformers.specs.Suits.{Suits};
 
@@ -41,6 +42,8 @@ impl<R: Relation> World<R> {
         ensures stands { IfOk result (λ run. Stands run.journal.entries) }
         ensures told { IfOk result (λ run. (c : ℕ) → IsToldAnswers R.holds R.takes
             (rules_of settings) [] run.journal.entries c (emissions run.outputs.items)) }
+        ensures asks { IfOk result (λ run. AsksInRun (terms_of R.holds R.takes (rules_of settings))
+            (rules_of settings) inputs.now run.journal.entries) }
         ensures sends { IfOk result (λ run. goes_in (emissions run.outputs.items)
             ≡ sent_in run.journal.entries) }
         ensures full { result ≡ Err WorldFault.Backlog

@@ -3,6 +3,7 @@
 ghost use Rattle.std.specs.Prelude.{◌≡◌, ◌↔◌, true, IfOk, OnOk, OnErr, IsErrOf};
 ghost use Rattle.whole_history.specs.Justified.{Stands};
 ghost use Rattle.ask_model.specs.Views.{rules_of};
+ghost use Rattle.proxy_acts.specs.Asking.{AllHeed};
 ghost use Rattle.proxy_acts.specs.Emissions.{emissions};
 ghost use Rattle.proxy_acts.specs.Closing.{Closes};
 ghost use Rattle.proxy_acts.specs.Going.{SendsJust};
@@ -25,8 +26,8 @@ use transformers::{Bank, Relation};
 const LAST_MOMENT: u64 = 1 << 62;
 
 impl<R: Relation> World<R> {
-    ghost use Rattle.proxy_acts.specs.Tellings.{terms_of};
-    ghost use Rattle.linked_world.specs.Worlds.{Handles, IsAtRest, Shows, is_too_much, new_world};
+    ghost use Rattle.proxy_acts.specs.Tellings.{IsMapped, terms_of};
+    ghost use Rattle.linked_world.specs.Worlds.{Handles, IsAtRest, Shows, is_too_much, new_world, served_in};
     ghost use Rattle.transformers.specs.Suits.{Suits};
 
     /// A proxy to which nothing has happened.
@@ -73,6 +74,8 @@ impl<R: Relation> World<R> {
             ↔ IsErrOf result WorldFault.Backlog }
         ensures told { IfOk result (λ outputs. TellsAll R.holds R.takes self.old.rules self.old.core
             self.new.core (emissions outputs.items)) }
+        ensures asks { OnOk result (AllHeed (IsMapped R.holds R.takes self.old.rules)
+            input.entry.happening (served_in self.old) (served_in self.new)) }
         ensures sends { IfOk result (λ outputs. SendsJust self.old.core (emissions outputs.items)
             self.new.core) }
         ensures shows { OnOk result (Shows input.entry self.old self.new) }

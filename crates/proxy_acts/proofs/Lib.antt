@@ -1,5 +1,6 @@
 pub mod AnyTerms
 pub mod Apart
+pub mod Asked
 pub mod Awaiting
 pub mod Closings
 pub mod Conns
@@ -7,6 +8,7 @@ pub mod Doing
 pub mod Enters
 pub mod GoingOn
 pub mod Heard
+pub mod Heeding
 pub mod Lost
 pub mod Moves
 pub mod Moving

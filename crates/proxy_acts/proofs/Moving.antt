@@ -76,21 +76,31 @@ pub record Moves (S S1 : State) : Type 0 where
   pub inner : AreInner more
   pub conns : S1.conns ≡ conns_with S.conns (length S.entries) more
   pub awaited : AreAwaited S.conns (length S.entries) more
+  pub opened : S1.opened ≡ S.opened
 
 differ : (b : Bool) → b ≡ false → b ≡ true → ⊥
 differ b e f = cc
 
 pub none : (S : State) → Moves S S
-none S = record { more = []; entries = sym (append-nil S.entries); inner = tt; conns = refl; awaited = tt }
+none S = record {
+  more = [];
+  entries = sym (append-nil S.entries);
+  inner = tt;
+  conns = refl;
+  awaited = tt;
+  opened = refl;
+}
 
 one : (t : ℕ) (d : Deed) (S S1 : State) → S1.entries ≡ S.entries ++ at_moment t d ∷ []
-    → S1.conns ≡ conns_after S.conns (length S.entries) d → IsInner d → IsAwaited S.conns d → Moves S S1
-one t d S S1 entries conns i a = record {
+    → S1.conns ≡ conns_after S.conns (length S.entries) d → S1.opened ≡ S.opened → IsInner d → IsAwaited S.conns d
+    → Moves S S1
+one t d S S1 entries conns opened i a = record {
   more = at_moment t d ∷ [];
   entries = entries;
   inner = (i, tt);
   conns = conns;
   awaited = (a, tt);
+  opened = opened;
 }
 
 both : (S S1 S2 : State) → Moves S S1 → Moves S1 S2 → Moves S S2
@@ -112,6 +122,7 @@ both S S1 S2 a b =
           awaited-both S.conns n a.more b.more a.awaited
           (subst (λ (k : ℕ). AreAwaited (conns_with S.conns n a.more) k b.more) long
           (subst (λ (cs : List Conn). AreAwaited cs (length S1.entries) b.more) a.conns b.awaited));
+      opened = b.opened ∙ a.opened;
     }
 
 either : (b : Bool) (S S1 S2 : State) → Moves S S1 → Moves S S2 → Moves S (cond b S1 S2)
@@ -124,7 +135,7 @@ all-fold f step [] S = none S
 all-fold f step (x ∷ xs) S = both S (f S x) (fold f (f S x) xs) (step S x) (all-fold f step xs (f S x))
 
 seals-move : (t : ℕ) (S : State) → Moves S (seals t S)
-seals-move t S = one t Seals S (seals t S) refl refl refl tt
+seals-move t S = one t Seals S (seals t S) refl refl refl refl tt
 
 next-moves : (t : ℕ) (p : Peer) (S : State) → Moves S (next t p S)
 next-moves t p S = by (link_of S.links p).outstanding (link_of S.links p).waiting
@@ -132,12 +143,12 @@ next-moves t p S = by (link_of S.links p).outstanding (link_of S.links p).waitin
     by : (v : Option Outstanding) (ws : List Waiting) → Moves S (next_by t p v ws S)
     by None [] = none S
     by (Some o) ws = none S
-    by None (w ∷ ws) = one t (Sends p _ _) S (sends_first t p w ws S) refl refl refl tt
+    by None (w ∷ ws) = one t (Sends p _ _) S (sends_first t p w ws S) refl refl refl refl tt
 
 given-moves : (t : ℕ) (p : Peer) (bs : List (List ℕ)) (S : State) → Moves S (given_back t p bs S)
 given-moves t p [] S = none S
 given-moves t p (b ∷ bs) S =
-    both S _ (given_back t p (b ∷ bs) S) (one t (Sends p b None) S _ refl refl refl tt)
+    both S _ (given_back t p (b ∷ bs) S) (one t (Sends p b None) S _ refl refl refl refl tt)
     (given-moves t p bs _)
 
 turn-moves : (t : ℕ) (S : State) (p : Peer) → Moves S (moves t S p)
@@ -146,14 +157,14 @@ turn-moves t S p = by (link_of S.links p).outstanding
     by : (v : Option Outstanding) → Moves S (moves_by t p v S)
     by None = next-moves t p S
     by (Some o) = either (is_due t (Some o)) S (sends_copy t p o S) S
-        (one t (Sends p _ None) S (sends_copy t p o S) refl refl refl tt) (none S)
+        (one t (Sends p _ None) S (sends_copy t p o S) refl refl refl refl tt) (none S)
 
 ends-move : (t : ℕ) (g : Grounds) (e : Exchange) (S : State) → Moves S (ends t g e S)
 ends-move t g e S = by (list_any (waits_on e) S.conns) refl
   where
     by : (b : Bool) → list_any (waits_on e) S.conns ≡ b
         → Moves S (cond b (answers t e.conn e.opening g S) S)
-    by true is = one t (Answers e.conn e.opening g) S (answers t e.conn e.opening g S) refl refl refl
+    by true is = one t (Answers e.conn e.opening g) S (answers t e.conn e.opening g S) refl refl refl refl
         (found-conn e S.conns is)
     by false is = none S
 
@@ -174,7 +185,7 @@ heard-moves t p d S =
     nothing : (bs : List (List ℕ)) → Moves S (given_back t p bs (hears_nothing t p d S))
     nothing bs =
         both S (hears_nothing t p d S) (given_back t p bs (hears_nothing t p d S))
-        (one t (Hears p d) S (hears_nothing t p d S) refl refl refl tt)
+        (one t (Hears p d) S (hears_nothing t p d S) refl refl refl refl tt)
         (given-moves t p bs (hears_nothing t p d S))
 
     new : (m : Content) (v : Verdict) → Moves S (takes_new t p d m v S)
@@ -184,7 +195,7 @@ heard-moves t p d S =
         let S3 = next t p S2 in
         both S S3 (takes_new t p d m v S)
         (both S S2 S3
-        (both S S1 S2 (one t (Hears p d) S S1 refl refl refl tt)
+        (both S S1 S2 (one t (Hears p d) S S1 refl refl refl refl tt)
         (given-moves t p (replies m.mid v.reply) S1))
         (next-moves t p S2))
         (ends-if-move t (grounds_by v.news (length S.entries) m)
@@ -227,7 +238,7 @@ ticked-moves t S =
     let S2 = move_all t S1 in
     either (something_due t S) S (fold (times_out t) S2 (timed_out t S)) S
     (both S S2 (fold (times_out t) S2 (timed_out t S))
-    (both S S1 S2 (one t Passes S S1 refl refl refl tt)
+    (both S S1 S2 (one t Passes S S1 refl refl refl refl tt)
     (all-fold (moves t) (turn-moves t) (map peer_of S1.links) S1))
     (all-end-move t (timed_out t S) S2)) (none S)
 
@@ -283,10 +294,12 @@ pub record Begins (t c : ℕ) (a : Ask) (S S1 : State) : Type 0 where
   pub inner : AreInner rest
   pub conns : S1.conns ≡ conns_with (map (pend c (Some (length S.entries))) S.conns) (length S.entries + 1) rest
   pub awaited : AreAwaited (map (pend c (Some (length S.entries))) S.conns) (length S.entries + 1) rest
+  pub opened : S1.opened ≡ S.opened
 
 begins-by : (t c : ℕ) (a : Ask) (S S1 S2 : State) → S1.entries ≡ S.entries ++ at_moment t (Asks c a) ∷ []
-    → S1.conns ≡ map (pend c (Some (length S.entries))) S.conns → Moves S1 S2 → Begins t c a S S2
-begins-by t c a S S1 S2 entries conns m =
+    → S1.conns ≡ map (pend c (Some (length S.entries))) S.conns → S1.opened ≡ S.opened → Moves S1 S2
+    → Begins t c a S S2
+begins-by t c a S S1 S2 entries conns opened m =
     let n : ℕ = length S.entries in
     let long : length S1.entries ≡ n + 1 =
     ap length entries ∙ length-append S.entries (at_moment t (Asks c a) ∷ []) in
@@ -302,6 +315,7 @@ begins-by t c a S S1 S2 entries conns m =
       awaited =
           subst (λ (k : ℕ). AreAwaited (map (pend c (Some n)) S.conns) k m.more) long
           (subst (λ (cs : List Conn). AreAwaited cs (length S1.entries) m.more) conns m.awaited);
+      opened = m.opened ∙ opened;
     }
 
 asked-begins : (t c : ℕ) (a : Ask) (n : Numbers) (S : State) → HasConn S.conns c None → Begins t c a S (asked t c a n S)
@@ -310,14 +324,14 @@ asked-begins t c a n S idle = sense a.sense
     turned_away : (cause : Cause) → Begins t c a S (refused t c a cause S)
     turned_away cause =
         let k : ℕ = length S.entries in
-        begins-by t c a S (asks t c a S) (refused t c a cause S) refl refl
-        (one t (Answers c k (Fault cause k)) (asks t c a S) (refused t c a cause S) refl refl refl
+        begins-by t c a S (asks t c a S) (refused t c a cause S) refl refl refl
+        (one t (Answers c k (Fault cause k)) (asks t c a S) (refused t c a cause S) refl refl refl refl
         (asks-for c None (Some k) S.conns idle))
 
     begun : (q : CoapRequest) → Begins t c a S (next t q.peer (begins t c a q n.token n.text n.word S))
     begun q =
         let S1 = begins t c a q n.token n.text n.word S in
-        begins-by t c a S S1 (next t q.peer S1) refl refl (next-moves t q.peer S1)
+        begins-by t c a S S1 (next t q.peer S1) refl refl refl (next-moves t q.peer S1)
 
     place : (b : Bool) (S1 S2 : State) → Begins t c a S S1 → Begins t c a S S2 → Begins t c a S (cond b S1 S2)
     place true S1 S2 x y = x

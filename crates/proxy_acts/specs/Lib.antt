@@ -1,4 +1,5 @@
 pub mod Acts
+pub mod Asking
 pub mod Closing
 pub mod Continuing
 pub mod Emissions

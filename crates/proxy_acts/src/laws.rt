@@ -1,5 +1,6 @@
 //! What holds of whatever acts a proxy does, as contracts of functions that do nothing.
 
+ghost use Rattle.proxy_acts.specs.Asking.{InputsAsk};
 ghost use Rattle.proxy_acts.specs.Going.{AllGoOut, AllSendJust};
 ghost use Rattle.proxy_acts.specs.Told.{AllTell};
 
@@ -17,4 +18,11 @@ pub fn datagrams_go_out<R: Relation>()
 /// heard for what its request means by the rules, or is the proxy's own error and names its cause.
 pub fn connections_are_told<R: Relation>()
     ensures { AllTell R.holds R.takes }
+{}
+
+/// Each connection asks just what its bytes spell: at an input the first requests of what waited and
+/// of what comes, in order, as the rules say what they mean; what these leave waits. After its last
+/// request it asks nothing (RFC 9112 sections 2.2 and 9.3.2).
+pub fn connections_ask_what_bytes_spell<R: Relation>()
+    ensures { InputsAsk R.holds R.takes }
 {}

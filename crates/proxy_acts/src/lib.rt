@@ -2,7 +2,8 @@
 //! goes out.
 //!
 //! The definitions stand in `specs/`, to be read in this order: `Unasked`, `Emissions`, `Acts`,
-//! `Orders`, `Tellings`, `Waiting`, `Going`, `Told`, `Resting`, `Hearing`, `Closing`, `Continuing`.
+//! `Orders`, `Tellings`, `Waiting`, `Going`, `Told`, `Asking`, `Resting`, `Hearing`, `Closing`,
+//! `Continuing`.
 //! Whoever shows that an input leads to acts in that order has what holds of all such acts, by the
 //! laws of this crate.
 #![tactic(auto)]
@@ -12,6 +13,6 @@ mod laws;
 mod resting;
 
 pub use input::{Happening, Input, Output, When};
-pub use laws::{connections_are_told, datagrams_go_out};
+pub use laws::{connections_are_told, connections_ask_what_bytes_spell, datagrams_go_out};
 pub use linked_core::Datagram;
 pub use resting::{closings_have_reasons, nothing_is_left, told_to_go_on_once, what_comes_shows};

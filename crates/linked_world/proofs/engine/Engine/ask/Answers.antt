@@ -1,11 +1,10 @@
 -- The ask, what it sends and its answer; or the journal takes it no more, and the connection is closed.
-use Rattle.std.proofs.Common.{ℕ, List, Ok, Err, refl, sym, ap, subst, ◌∙◌}
+use Rattle.std.proofs.Common.{ℕ, Ok, Err, refl, sym, ap, subst, ◌∙◌}
 use Rattle.std.specs.Arc.{arc_value}
 use Rattle.ask_model.specs.Maps.{Maps}
 use Rattle.ask_model.specs.Views.{Mapping}
 use Rattle.journal_book.specs.Views.{ask_of}
 use Rattle.http_edge.specs.Edges.{item}
-use Rattle.linked_core.specs.declared.fault.AskFault.TheVariants as Fault
 use Rattle.linked_core.specs.Calls.{now}
 use Rattle.linked_world.specs.Leading.{rules_in}
 use Rattle.proxy_acts.specs.Orders.{AreFor}

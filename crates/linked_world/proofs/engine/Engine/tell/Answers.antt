@@ -1,5 +1,5 @@
 -- The answer is told, and its connection is closed where it is the last.
-use Rattle.std.proofs.Common.{[], ◌∷◌, ◌++◌, refl, sym, ap, ◌∙◌}
+use Rattle.std.proofs.Common.{[], ◌∷◌, sym, ap, ◌∙◌}
 use Rattle.std.proofs.lemmas.List.{append-nil}
 use Rattle.ask_model.specs.Views.{Mapping}
 use Rattle.http_mapping.specs.Means.{closes as came_closes}

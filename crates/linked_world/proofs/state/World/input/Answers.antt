@@ -1,6 +1,7 @@
 -- An input that is taken leads by acts, of which the promises hold; one that is refused changes nothing.
-use Rattle.std.proofs.Common.{◌≤◌, ◌^◌, refl, ap, ◌∙◌, arith}
+use Rattle.std.proofs.Common.{refl, ap, ◌∙◌, arith}
 use Rattle.proxy_acts.specs.Emissions.{emissions}
+use Rattle.linked_world.proofs.AskedInRun.{heeded}
 use Rattle.linked_world.proofs.Handling.{handled}
 use Rattle.linked_world.proofs.Promises.{kept-back, kept-led, led-tells, led-sends, led-closes, input-shows}
 use Rattle.linked_world.proofs.state.World.input.Goals as goal
@@ -33,6 +34,10 @@ returns-in-Ok-clause-told g c =
     (led-tells g.R.Relation.holds g.R.Relation.takes _ _ _ c.self.inside.engine c.step.new.self _ _ c.in-Ok.ensures.leads
     (ap emissions c.new-outputs.ensures.items) c.self.invariant.1 c.in-Ok.ensures.drained c.journal-in-Ok.ensures.stands
     c.self.invariant.4)
+
+pub returns-in-Ok-clause-asks : goal.returns-in-Ok-clause-asks
+returns-in-Ok-clause-asks g c =
+    heeded g.R.Relation.holds g.R.Relation.takes _ c.args.input _ _ _ (returns-in-Ok-clause-handles g c)
 
 pub returns-in-Ok-clause-sends : goal.returns-in-Ok-clause-sends
 returns-in-Ok-clause-sends g c =
