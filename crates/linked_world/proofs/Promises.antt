@@ -28,7 +28,8 @@ use Rattle.proxy_acts.proofs.Rested.{input-rests}
 use Rattle.proxy_acts.proofs.Shown.{all-tell, all-send-just}
 use Rattle.proxy_acts.proofs.Shutting.{input-closes}
 use Rattle.linked_world.specs.declared.engine.Engine.{Engine}
-use Rattle.linked_world.specs.Engines.{IsReady, inlet_number}
+use Rattle.linked_world.specs.Engines.{inlet_number}
+use Rattle.linked_world.specs.Keeping.{IsKept}
 use Rattle.linked_world.specs.Leading.{LeadsBy, served_of}
 use Rattle.linked_world.proofs.Numbered.{numbers-led}
 use Rattle.linked_world.specs.Worlds.{WorldValue, Handles, Shows, DoesDue, served_in, when_in}
@@ -86,13 +87,9 @@ led-closes M w x old new before after l none told done =
 -- What the type of a world keeps of its engine.
 
 module _ {R : Type 0} (holds : Form → Form → List ℕ → List ℕ → Type 0) (takes : Form → Form → List ℕ → Type 0) (rules : Rules) (m : ℕ) where
-  abbrev pub IsKept : Engine R → Type 0
-  IsKept e =
-      IsReady e × IsDrained e.core × (m ≤ 2 ^ 62) × AllRest (served_of e) × AreMapped holds takes rules e.core.state.entries
-
   -- It is kept where all is as it was.
   pub kept-back : (e f : Engine R) → f.core ≡ e.core → f.table.current ≡ e.table.current → f.table.marked ≡ e.table.marked
-      → IsKept e → IsKept f
+      → IsKept holds takes rules m e → IsKept holds takes rules m f
   kept-back e f core current marked h =
       let served : served_of f ≡ served_of e = λ i. record { core = core i; unasked = unasked_in (current i) } in (
         record {

@@ -1,5 +1,6 @@
 pub mod Asked
 pub mod Engines
 pub mod Faults
+pub mod Keeping
 pub mod Leading
 pub mod Worlds

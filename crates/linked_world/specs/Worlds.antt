@@ -17,15 +17,21 @@ use Rattle.proxy_acts.specs.Waiting.{IsDrained}
 use Rattle.proxy_acts.specs.Emissions.{Emission}
 use Rattle.connection_table.specs.Inlets.{Inlet, is_full_at}
 use Rattle.proxy_acts.specs.Unasked.{unasked_in}
+use Rattle.linked_world.specs.declared.engine.Engine.{Engine}
 use Rattle.linked_world.specs.Leading.{Leads}
 use Rattle.proxy_acts.specs.Orders.{IsInOrder}
 
--- a core, its open connections, the rules by which requests are mapped, and the moment of the last input
+-- a core, its open connections, the rules by which requests are mapped, and the moment of the last
+-- input
 pub record WorldValue : Type 0 where
   pub core : CoreValue
   pub inlets : List Inlet
   pub rules : Rules
   pub moment : ℕ
+
+abbrev pub world_of : {R : Type 0} → Engine R → Rules → ℕ → WorldValue
+world_of e rules moment =
+    record { core = e.core; inlets = e.table.current; rules = rules; moment = moment }
 
 -- A moment below the last one counts as that, and one above 2 ^ 62 as this.
 abbrev pub counted : ℕ → ℕ → ℕ
@@ -38,8 +44,8 @@ abbrev pub when_in : WorldValue → Input → When
 when_in w i = record { moment = counted w.moment i.moment; word = i.word }
 
 -- An input leads from one world to the other, and gives this out.
-pub record Handles (M : Terms) (i : Input) (old : WorldValue) (out : List Emission) (new : WorldValue)
-    : Type 0 where
+pub record Handles (M : Terms) (i : Input) (old : WorldValue) (out : List Emission)
+    (new : WorldValue) : Type 0 where
   pub acts : Leads M (when_in old i) (IsInOrder i.happening) (served_in old) [] (served_in new) out
   pub rules : new.rules ≡ old.rules
   pub moment : new.moment ≡ counted old.moment i.moment
@@ -56,7 +62,8 @@ pub record IsAtRest (w : WorldValue) : Type 0 where
   pub drained : IsDrained w.core
   pub rests : AllRest (served_in w)
 
--- What came in by an input shows in the entries that it adds; and at a tick all was done that is due.
+-- What came in by an input shows in the entries that it adds; and at a tick all was done that is
+-- due.
 abbrev pub DoesDue : Happening → ℕ → State → List Written → Type 0
 DoesDue H.Tick t S more = DoesWhatIsDue t S more
 DoesDue _ t S more = ⊤
@@ -77,7 +84,8 @@ abbrev pub is_too_much : Happening → List Inlet → Bool
 is_too_much (H.Bytes c bytes) xs = is_full_at c (length bytes.now) xs
 is_too_much _ xs = false
 
--- Inputs are taken from a world to which nothing has happened on, and this is its journal after them.
+-- Inputs are taken from a world to which nothing has happened on, and this is its journal after
+-- them.
 abbrev pub RunsTo : Terms → Rules → List Input → List Emission → List Written → Type 0
 RunsTo M rules is out h =
     (w : WorldValue) × HandlesAll M is (new_world rules) out w × (h ≡ w.core.state.entries)

@@ -132,6 +132,7 @@ impl<R: Relation> Engine<R> {
     {
         self.core
             .heard(context.when.moment, context.when.word, peer, bytes)?;
+        // Its contract says that the core keeps to its history.
         self.core.journal();
         self.deliver(context, bank, outputs)
     }
@@ -152,6 +153,7 @@ impl<R: Relation> Engine<R> {
         ensures drained { OnOk result (IsDrained self.new.core) }
     {
         self.core.tick(context.when.moment)?;
+        // Its contract says that the core keeps to its history.
         self.core.journal();
         self.deliver(context, bank, outputs)
     }
@@ -169,8 +171,8 @@ impl<R: Relation> Engine<R> {
         closed
     }
 
-    /// Gives out the datagrams and the answers of a step, the answers in the order of their asks, each
-    /// followed by what its connection asks further.
+    /// Gives out the datagrams and the answers of a step, the answers in the order of their asks,
+    /// each followed by what its connection asks further.
     fn deliver(
         &mut self,
         context: Context<'_>,
@@ -278,8 +280,8 @@ impl<R: Relation> Engine<R> {
         }
     }
 
-    /// Asks what was read of the connection's bytes, and gives out what that leads to. An ask that the
-    /// sealed journal doesn't take closes the connection.
+    /// Asks what was read of the connection's bytes, and gives out what that leads to. An ask that
+    /// the sealed journal doesn't take closes the connection.
     fn ask(
         &mut self,
         context: Context<'_>,
@@ -291,7 +293,8 @@ impl<R: Relation> Engine<R> {
         requires suits { Suits R.holds R.takes (rules_in context).routes bank.now }
         requires idle { HasConn self.old.core.state.conns number None }
         requires told { IsAllTold number self.old.core }
-        ensures leads { (xs : List Inlet) → TakesItem number (item incoming) (unasked_in xs) (unasked_in self.old.table.current)
+        ensures leads { (xs : List Inlet)
+            → TakesItem number (item incoming) (unasked_in xs) (unasked_in self.old.table.current)
             → OnOk result (LeadsAfter (terms_in R.holds R.takes context.entry) context.entry.when
             (AreFor number) self.old.core xs outputs.old.items self.new outputs.new.items) }
         ensures back { MayGoBack self.old self.new }
@@ -348,7 +351,8 @@ impl<R: Relation> Engine<R> {
     ) -> Result<(), Memory>
         requires suits { Suits R.holds R.takes (rules_in context).routes bank.now }
         requires conn { IsOpen answer.conn self.old.core.state.conns }
-        ensures leads { (v : CoreValue) → IsTaken (Some (given_of answer)) answer.ask v self.old.core
+        ensures leads { (v : CoreValue)
+            → IsTaken (Some (given_of answer)) answer.ask v self.old.core
             → OnOk result (LeadsAfter (terms_in R.holds R.takes context.entry) context.entry.when
             (IsTelling answer.conn answer.ask) v self.old.table.current outputs.old.items
             self.new outputs.new.items) }

@@ -1,8 +1,9 @@
-//! From the bytes of HTTP connections and of CoAP datagrams to the bytes of datagrams and of answers.
+//! From the bytes of HTTP connections and of CoAP datagrams to the bytes of datagrams and of
+//! answers.
 //!
-//! Its one contract: an input leads to acts, one after the other, each of them one step of the core or
-//! of the connections with what it gives out, in the order that `proxy_acts` tells;
-//! all that is promised of inputs and of runs follows from these.
+//! Its one contract: an input leads to acts, one after the other, each of them one step of the core
+//! or of the connections with what it gives out, in the order that `proxy_acts` tells; all that is
+//! promised of inputs and of runs follows from these.
 #![tactic(auto)]
 
 mod engine;

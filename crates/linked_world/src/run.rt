@@ -47,7 +47,8 @@ impl<R: Relation> World<R> {
         ensures sends { IfOk result (λ run. goes_in (emissions run.outputs.items)
             ≡ sent_in run.journal.entries) }
         ensures full { result ≡ Err WorldFault.Backlog
-            → IsRefusedIn (terms_of R.holds R.takes (rules_of settings)) (rules_of settings) inputs.now }
+            → IsRefusedIn (terms_of R.holds R.takes (rules_of settings)) (rules_of settings)
+            inputs.now }
     {
         let mut world = World::new(alloc, settings)?;
         let mut outputs = Vec::new(alloc);
@@ -66,8 +67,8 @@ impl<R: Relation> World<R> {
         requires suits { Suits R.holds R.takes self.old.rules.routes bank.now }
         requires untold { outputs.old.items ≡ [] }
         requires rests { IsAtRest self.old }
-        ensures handles { OnOk result (HandlesAll (terms_of R.holds R.takes self.old.rules) inputs.now
-            self.old (emissions outputs.new.items) self.new) }
+        ensures handles { OnOk result (HandlesAll (terms_of R.holds R.takes self.old.rules)
+            inputs.now self.old (emissions outputs.new.items) self.new) }
         ensures rests { OnOk result (IsAtRest self.new) }
         ensures full { result ≡ Err WorldFault.Backlog
             → IsRefusedAfter (terms_of R.holds R.takes self.old.rules) inputs.now self.old }

@@ -6,9 +6,9 @@ use std::marker::Model;
 use std::sync::Arc;
 use transformers::Relation;
 
-/// A proxy with its history. Its type keeps that nothing is left which could be given out or asked, that
-/// all that was asked was mapped by its settings, and that its connections are marked as they are, so
-/// that an input can be taken back.
+/// A proxy with its history. Its type keeps that nothing is left which could be given out or asked,
+/// that all that was asked was mapped by its settings, and that its connections are marked as they
+/// are, so that an input can be taken back.
 #[derive(Drop)]
 pub struct World<R: Relation> {
     pub(crate) settings: Arc<Settings>,
@@ -17,19 +17,15 @@ pub struct World<R: Relation> {
 }
 
 impl<R: Relation> Model for World<R> {
-    ghost use Rattle.std.specs.Prelude.{◌≤◌, ◌^◌};
     ghost use Rattle.std.specs.Arc.{arc_value};
     ghost use Rattle.ask_model.specs.Views.{rules_of};
-    ghost use Rattle.linked_world.specs.Engines.{IsReady};
-    ghost use Rattle.proxy_acts.specs.Waiting.{IsDrained};
-    ghost use Rattle.proxy_acts.specs.Resting.{AllRest};
-    ghost use Rattle.proxy_acts.specs.Tellings.{AreMapped};
-    ghost use Rattle.linked_world.specs.Leading.{served_of};
-    ghost use Rattle.linked_world.specs.Worlds.{WorldValue};
+    ghost use Rattle.linked_world.specs.Keeping.{IsKept};
+    ghost use Rattle.linked_world.specs.Worlds.{WorldValue, world_of};
 
     ghost Value = { WorldValue };
 
-    ghost view = { λ w. record { core = w.engine.core; inlets = w.engine.table.current; rules = rules_of (arc_value w.settings); moment = w.moment } };
+    ghost view = { λ w. world_of w.engine (rules_of (arc_value w.settings)) w.moment };
 
-    ghost invariant = { λ w. IsReady w.engine × IsDrained w.engine.core × (w.moment ≤ 2 ^ 62) × AllRest (served_of w.engine) × AreMapped R.holds R.takes (rules_of (arc_value w.settings)) w.engine.core.state.entries };
+    ghost invariant = { λ w.
+        IsKept R.holds R.takes (rules_of (arc_value w.settings)) w.moment w.engine };
 }

@@ -22,8 +22,8 @@ const CONTINUE: &str = "HTTP/1.1 100 Continue\r\n\r\n";
 
 /// Tells a client that waits with its body to go on.
 pub fn tell_continue(alloc: Global, number: u32, outputs: &mut Vec<Output>) -> Result<(), Memory>
-    ensures { OnOk result
-        (emissions outputs.new.items ≡ emissions outputs.old.items ++ Says number continue_text ∷ []) }
+    ensures { OnOk result (emissions outputs.new.items
+        ≡ emissions outputs.old.items ++ Says number continue_text ∷ []) }
 {
     let bytes = Vec::from_slice(alloc, CONTINUE.as_bytes())?;
     outputs.push(Output::Bytes(number, bytes))?;

@@ -63,8 +63,8 @@ impl<R: Relation> World<R> {
         self.moment
     }
 
-    /// Takes an input and gives out what it leads to. An input for a connection that isn't open gives
-    /// nothing. One that is refused changes nothing, and can be given again.
+    /// Takes an input and gives out what it leads to. An input for a connection that isn't open
+    /// gives nothing. One that is refused changes nothing, and can be given again.
     pub fn input(&mut self, bank: &Bank<R>, input: Input<'_>) -> Result<Vec<Output>, WorldFault>
         requires suits { Suits R.holds R.takes self.old.rules.routes bank.now }
         ensures handles { IfOk result (λ outputs. Handles (terms_of R.holds R.takes self.old.rules)
@@ -80,7 +80,8 @@ impl<R: Relation> World<R> {
             self.new.core) }
         ensures shows { OnOk result (Shows input.entry self.old self.new) }
         ensures closes { IfOk result (λ outputs. Closes (terms_of R.holds R.takes self.old.rules)
-            input.entry.happening self.old.core.state self.new.core.state (emissions outputs.items)) }
+            input.entry.happening self.old.core.state self.new.core.state
+            (emissions outputs.items)) }
         ensures rests { IsAtRest self.new }
     {
         if self.is_too_much(input.happening) {
@@ -94,6 +95,7 @@ impl<R: Relation> World<R> {
             },
             settings: &self.settings,
         };
+        // Its contract says that the core keeps to its history, before the input and after it.
         self.engine.core.journal();
         let before = self.engine.core.snapshot()?;
         let mut outputs = Vec::new(self.engine.alloc);

@@ -153,7 +153,8 @@ Does M w (Denies c) old out new =
 Does M w Sends old out new = IsSending old out new
 Does M w (Tells c k) old out new = IsTelling M w c k old out new
 Does M w (GoesOn c) old out new =
-    TellsToGoOn c old.unasked new.unasked × (new.core ≡ old.core) × (out ≡ Says c continue_text ∷ [])
+    TellsToGoOn c old.unasked new.unasked × (new.core ≡ old.core)
+    × (out ≡ Says c continue_text ∷ [])
 Does M w (Rests c) old out new = (new ≡ old) × (out ≡ []) × RestsAt c old
 Does M w (Leaves c) old out new = IsClosing w c old new × (out ≡ [])
 Does M w (Misses c) old out new = (new ≡ old) × (out ≡ []) × IsUnknown c old.core

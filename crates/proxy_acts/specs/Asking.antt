@@ -42,8 +42,8 @@ abbrev pub brought_by : ℕ → Happening → List ℕ
 brought_by c (H.Bytes d bytes) = if d == c then bytes.now else []
 brought_by c _ = []
 
--- What these items leave of a text waits; or the last of them closes the connection, and nothing more
--- of it is read; or it isn't open any more.
+-- What these items leave of a text waits; or the last of them closes the connection, and nothing
+-- more of it is read; or it isn't open any more.
 abbrev pub IsLeft : List Item → List ℕ → Option Unasked → Type 0
 IsLeft items rest None = ⊤
 IsLeft items rest (Some u) =

@@ -30,7 +30,8 @@ pub record SendsJust (old : CoreValue) (out : List Emission) (new : CoreValue) :
   pub added : new.state.entries ≡ old.state.entries ++ more
   pub sent : goes_in out ≡ sent_in more
 
-module _ (holds : Form → Form → List ℕ → List ℕ → Type 0) (takes : Form → Form → List ℕ → Type 0) where
+module _ (holds : Form → Form → List ℕ → List ℕ → Type 0)
+    (takes : Form → Form → List ℕ → Type 0) where
   abbrev pub AllGoOut : Type 0
   AllGoOut =
       (rules : Rules) (w : When) (acts : List Act)

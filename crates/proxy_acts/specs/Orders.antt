@@ -51,8 +51,8 @@ Rise n (x ∷ xs) m = (n ≤ x.ask) × Rise (x.ask + 1) xs m
 abbrev pub IsTelling : ℕ → ℕ → List Act → Type 0
 IsTelling c k acts = acts ≡ Tells c k ∷ []
 
--- The answers are told in the order of their asks, which are below this number, each followed by what
--- its connection asks further.
+-- The answers are told in the order of their asks, which are below this number, each followed by
+-- what its connection asks further.
 pub record AreTurns (m : ℕ) (acts : List Act) : Type 0 where
   pub turns : List Turn
   pub are : acts ≡ flat_map acts_of turns

@@ -27,9 +27,10 @@ abbrev pub IsHeardFirst : List Written → ℕ → List ℕ → Type 0
 IsHeardFirst h t [] = ⊥
 IsHeardFirst h t (j ∷ js) = (p : Peer) × (bytes : List ℕ) × IsEntry h j t (Hears p bytes)
 
-module _ (holds : Form → Form → List ℕ → List ℕ → Type 0) (takes : Form → Form → List ℕ → Type 0) where
-  -- The response shows, by the tables of RFC 8075, the whole response that the answer in the entry n
-  -- rests on, which is as old at the moment of the answer as its first reply.
+module _ (holds : Form → Form → List ℕ → List ℕ → Type 0)
+    (takes : Form → Form → List ℕ → Type 0) where
+  -- The response shows, by the tables of RFC 8075, the whole response that the answer in the entry
+  -- n rests on, which is as old at the moment of the answer as its first reply.
   pub record ShowsReplies (h : List Written) (n t c k : ℕ) (a : Ask) (js : List ℕ) (r : HttpAnswer)
       : Type 0 where
     pub rests : RestsOn h n c k js
@@ -45,9 +46,10 @@ module _ (holds : Form → Form → List ℕ → List ℕ → Type 0) (takes : F
   ShowsGrounds h n t c k a (Fault cause j) r =
       (j < n) × IsCausedBy h t c k cause j × Tells (mapping_of a) cause j r
 
-  -- The bytes are an HTTP response that tells the answer in the entry n to an ask of the connection:
-  -- to what its request means by the rules.
-  pub record TellsAnswer (rules : Rules) (h : List Written) (c n : ℕ) (bytes : List ℕ) : Type 0 where
+  -- The bytes are an HTTP response that tells the answer in the entry n to an ask of the
+  -- connection: to what its request means by the rules.
+  pub record TellsAnswer (rules : Rules) (h : List Written) (c n : ℕ) (bytes : List ℕ)
+      : Type 0 where
     pub moment : ℕ
     pub number : ℕ
     pub grounds : Grounds
@@ -90,15 +92,16 @@ said_by c _ = []
 abbrev pub said_to : ℕ → List Emission → List (List ℕ)
 said_to c out = flat_map (said_by c) out
 
-module _ (holds : Form → Form → List ℕ → List ℕ → Type 0) (takes : Form → Form → List ℕ → Type 0) where
+module _ (holds : Form → Form → List ℕ → List ℕ → Type 0)
+    (takes : Form → Form → List ℕ → Type 0) where
   abbrev pub IsPiece : Rules → List Written → ℕ → Piece → Type 0
   IsPiece rules h c interim = ⊤
   IsPiece rules h c (final n bytes) = TellsAnswer holds takes rules h c n bytes
 
-  -- After these entries the journal got more, and a connection was told just the answers to it among
-  -- those, each once and in their order, and, in between, that it may go on with a body.
-  pub record IsToldAnswers (rules : Rules) (before more : List Written) (c : ℕ) (out : List Emission)
-      : Type 0 where
+  -- After these entries the journal got more, and a connection was told just the answers to it
+  -- among those, each once and in their order, and, in between, that it may go on with a body.
+  pub record IsToldAnswers (rules : Rules) (before more : List Written) (c : ℕ)
+      (out : List Emission) : Type 0 where
     pub pieces : List Piece
     pub said : said_to c out ≡ map bytes_in pieces
     pub each : AllByRecursion (IsPiece rules (before ++ more) c) pieces

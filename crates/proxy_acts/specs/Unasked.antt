@@ -5,8 +5,9 @@ use Rattle.http_edge.specs.Edges.{Expects}
 use Rattle.connection_table.specs.Inlets.{Inlet}
 use Rattle.connection_table.specs.Reads.{IsIdle}
 
--- An open connection: its number; its bytes that aren't asked yet; whether its client was told to go
--- on with the request that is next; and whether the last request was read, after which there are none.
+-- An open connection: its number; its bytes that aren't asked yet; whether its client was told to
+-- go on with the request that is next; and whether the last request was read, after which there are
+-- none.
 pub record Unasked : Type 0 where
   pub number : ℕ
   pub text : List ℕ
@@ -60,7 +61,8 @@ pub record TakesItem (c : ℕ) (i : Item) (old new : List Unasked) : Type 0 wher
   pub first : First before.text i rest
   pub left : new ≡ changed_at c (λ (x : Unasked). left_after c i rest) old
 
--- The client that waits with its body is told to go on (RFC 9110 section 10.1.1), once for a request.
+-- The client that waits with its body is told to go on (RFC 9110 section 10.1.1), once for a
+-- request.
 pub record TellsToGoOn (c : ℕ) (old new : List Unasked) : Type 0 where
   pub before : Unasked
   pub stands : unasked_at c old ≡ Some before

@@ -20,9 +20,9 @@ pub fn connections_are_told<R: Relation>()
     ensures { AllTell R.holds R.takes }
 {}
 
-/// Each connection asks just what its bytes spell: at an input the first requests of what waited and
-/// of what comes, in order, as the rules say what they mean; what these leave waits. After its last
-/// request it asks nothing (RFC 9112 sections 2.2 and 9.3.2).
+/// Each connection asks just what its bytes spell: at an input the first requests of what waited
+/// and of what comes, in order, as the rules say what they mean; what these leave waits. After its
+/// last request it asks nothing (RFC 9112 sections 2.2 and 9.3.2).
 pub fn connections_ask_what_bytes_spell<R: Relation>()
     ensures { InputsAsk R.holds R.takes }
 {}
