@@ -1,11 +1,15 @@
-//! What devices of one resource do: a counter or a cell.
+//! Devices to try, one with counters and one with a cell, and what they do step by step.
 
-ghost use Rattle.demo_origin.specs.Origins.{Sound};
+ghost use Rattle.std.specs.Prelude.{◌<◌, IfOk};
+ghost use Rattle.demo_origin.specs.Keeps.{KeepsRelation};
 
-use demo_origin::{Behaviour, Origin, Segments};
+use crate::steps::{Step, fails_at};
+use demo_origin::{
+    Behaviour, Call, CoapRequest, Handler, Memory, Origin, Resource, Segments, cell, counter,
+    install,
+};
+use message_layer::Bytes;
 use std::alloc::{AllocError, Global};
-use std::net::{IpAddr, Ipv4Addr};
-use uri_map::Peer;
 
 /// Devices with counters.
 pub struct Counters;
@@ -25,59 +29,95 @@ impl Behaviour for Cells {
     ghost holds = { IsCell };
 }
 
-/// Who asks: 198.51.100.1 at that port.
-pub fn peer(port: u16) -> Peer {
-    Peer {
-        address: IpAddr::V4(Ipv4Addr::new(198, 51, 100, 1)),
-        port,
-    }
-}
-
 /// The path of one segment.
-pub fn path_of(alloc: Global, segment: &[u8]) -> Result<Segments, AllocError> {
+fn path_of(alloc: Global, segment: &[u8]) -> Result<Segments, AllocError> {
     let mut path = Segments::new(alloc);
     path.push(segment)?;
     Ok(path)
 }
 
-/// What the device did with a datagram.
-#[derive(Clone, Copy, PartialEq, Eq, Debug)]
-pub enum Did {
-    /// A handler was asked.
-    Executed,
-    /// None was.
-    Nothing,
-    /// It ran out of memory.
-    NoMemory,
+fn state_of(alloc: Global, state: &[u8]) -> Result<Bytes, AllocError> {
+    Bytes::new(alloc, Vec::from_slice(alloc, state)?)
 }
 
-/// Gives the device a datagram.
-pub fn told<H: Behaviour>(origin: &mut Origin<H>, moment: u64, peer: Peer, datagram: &[u8]) -> Did
-    requires { Sound H.holds origin.old }
-    ensures { Sound H.holds origin.new }
+/// A text that stays fresh for so many seconds.
+fn resource<H: Behaviour>(
+    alloc: Global,
+    segment: &[u8],
+    state: &[u8],
+    max_age: u32,
+    handler: Handler<H>,
+) -> Result<Resource<H>, AllocError>
+    requires { KeepsRelation H.holds handler }
+    ensures { IfOk result (λ r. KeepsRelation H.holds r.handler) }
 {
-    match origin.heard(moment, peer, datagram) {
-        Ok(Some(_)) => Did::Executed,
-        Ok(None) => Did::Nothing,
-        Err(_) => Did::NoMemory,
+    Ok(Resource {
+        path: path_of(alloc, segment)?,
+        format: 0,
+        max_age,
+        state: state_of(alloc, state)?,
+        handler,
+    })
+}
+
+/// The paths of the counters, and their states at first.
+static COUNTERS: [(&[u8], &[u8]); 3] = [(b"c", b""), (b"n", b"9"), (b"m", b"18446744073709551615")];
+
+fn counters_at_first() -> &'static [(&'static [u8], &'static [u8])] {
+    &COUNTERS
+}
+
+fn counters_once(alloc: Global, steps: &[Step]) -> Result<Option<usize>, Memory> {
+    let mut all: Vec<Resource<Counters>> = Vec::new(alloc);
+    'each: for (segment, state) in counters_at_first() {
+        let call: Call = Box::new(alloc, move |state: &[u8], request: &CoapRequest| {
+            counter(alloc, state, request)
+        })?;
+        let resource = resource(alloc, segment, state, 60, Handler::new(call))?;
+        install(&mut all, resource)?;
+    }
+    let mut origin = Origin::new(alloc, 6, all)?;
+    Ok(fails_at(&mut origin, steps))
+}
+
+fn cell_once(
+    alloc: Global,
+    block: u8,
+    state: &[u8],
+    steps: &[Step],
+) -> Result<Option<usize>, Memory>
+    requires { block < 7 }
+{
+    let mut all: Vec<Resource<Cells>> = Vec::new(alloc);
+    let call: Call = Box::new(alloc, move |state: &[u8], request: &CoapRequest| {
+        cell(alloc, state, request)
+    })?;
+    let resource = resource(alloc, b"s", state, 1, Handler::new(call))?;
+    install(&mut all, resource)?;
+    let mut origin = Origin::new(alloc, block, all)?;
+    Ok(fails_at(&mut origin, steps))
+}
+
+/// The number of the first step that a device doesn't do with the counters c, which is empty, n, at
+/// 9, and m, at the last number of 64 bits. It is begun once more where memory was refused.
+pub fn counters_fail_at(alloc: Global, steps: &[Step]) -> Result<Option<usize>, Memory> {
+    match counters_once(alloc, steps) {
+        Err(_) => counters_once(alloc, steps),
+        done => done,
     }
 }
 
-/// Whether the next datagram that it sends is this one, and goes to that peer.
-pub fn sends<H: Behaviour>(origin: &mut Origin<H>, peer: Peer, datagram: &[u8]) -> bool
-    requires { Sound H.holds origin.old }
-    ensures { Sound H.holds origin.new }
+/// The same of a device with the cell s of that state, and with pieces of that size exponent.
+pub fn cell_fails_at(
+    alloc: Global,
+    block: u8,
+    state: &[u8],
+    steps: &[Step],
+) -> Result<Option<usize>, Memory>
+    requires { block < 7 }
 {
-    match origin.take_send() {
-        Some(sent) => sent.peer == peer && sent.bytes.as_slice() == datagram,
-        None => false,
+    match cell_once(alloc, block, state, steps) {
+        Err(_) => cell_once(alloc, block, state, steps),
+        done => done,
     }
-}
-
-/// Whether it has nothing to send.
-pub fn is_quiet<H: Behaviour>(origin: &mut Origin<H>) -> bool
-    requires { Sound H.holds origin.old }
-    ensures { Sound H.holds origin.new }
-{
-    origin.take_send().is_none()
 }
