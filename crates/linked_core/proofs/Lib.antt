@@ -1,10 +1,11 @@
 pub mod Drafting
 pub mod Openings
 pub mod Placing
+pub mod Standing
+pub mod Ordered
 pub mod Stepping
 pub mod Takes
 pub mod Sounding
-pub mod Conns
 pub mod Least
 pub mod Refusals
 pub mod Asks

@@ -13,7 +13,6 @@ use Rattle.link_history.proofs.Facts.{all-more}
 use Rattle.linked_core.specs.declared.answer.Answer.{Answer}
 use Rattle.linked_core.specs.declared.answer.Ticket.{Ticket}
 use Rattle.linked_core.specs.declared.fault.AskFault.{AskFault}
-use Rattle.linked_core.specs.declared.fault.AskFault.TheVariants as AskFault
 use Rattle.linked_core.specs.Values.{Untaken, Outgoing, CoreValue}
 use Rattle.linked_core.specs.Answering.{Given, IsGiven, given_of}
 use Rattle.linked_core.specs.Calls.{IsAsked}

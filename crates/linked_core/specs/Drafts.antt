@@ -1,7 +1,7 @@
 -- What a step adds.
 use Rattle.std.specs.Prelude.{◌≡◌, ℕ, ◌+◌, List, [], ◌∷◌, ◌++◌, length, map, Option, ⊤}
 use Rattle.uri_map.specs.declared.peer.Peer.{Peer}
-use Rattle.journal_book.specs.Entries.{Deed, Sends, Answers, Written}
+use Rattle.journal_book.specs.Entries.{Deed, Opens, Sends, Answers, Written}
 use Rattle.core_steps.specs.declared.kept.Conn.{Conn}
 use Rattle.core_steps.specs.State.{State, conns_after}
 use Rattle.linked_core.specs.Values.{Outgoing, Untaken, written, answered_in, sent_in}
@@ -60,3 +60,8 @@ abbrev pub IsAlone : Deed → Type 0
 IsAlone (Sends p b w) = ⊥
 IsAlone (Answers c k g) = ⊥
 IsAlone _ = ⊤
+
+-- a deed that opens no connection
+abbrev pub OpensNone : Deed → Type 0
+OpensNone (Opens c) = ⊥
+OpensNone _ = ⊤

@@ -11,6 +11,7 @@ pub mod Hearing
 pub mod Refusing
 pub mod Leads
 pub mod Passing
+pub mod Places
 pub mod Room
 pub mod Snapshots
 pub mod Sound

@@ -7,6 +7,7 @@ ghost use Rattle.std.specs.Arc.{arc_value};
 ghost use Rattle.journal_book.specs.Views.{ask_of};
 ghost use Rattle.core_steps.specs.Resting.{HasConn};
 ghost use Rattle.linked_core.specs.Calls.{IsAsked};
+ghost use Rattle.linked_core.specs.Places.{RiseBy, id_of};
 ghost use Rattle.linked_core.specs.Refusing.{MayRefuse, HasNoPlace};
 ghost use Rattle.linked_core.specs.Sound.{IsSound};
 ghost use Rattle.linked_core.specs.States.{state_of, seen, number_in};
@@ -15,6 +16,7 @@ use crate::answer::Ticket;
 use crate::beginning::{Begun, begin};
 use crate::fault::AskFault;
 use crate::numbering::token_of;
+use crate::places::conn_place;
 use crate::refusing::refuse;
 use crate::state::State;
 use ask_model::{Cause, Mapped, Meaning};
@@ -29,21 +31,20 @@ const EXCHANGES: usize = 256;
 
 /// Whether the connection is open and waits for no answer.
 pub fn check_idle(conns: &[Conn], id: u32) -> Result<(), AskFault>
+    requires { RiseBy id_of conns.now }
     ensures ok { OnOk result (HasConn conns.now id None) }
     ensures unknown { result ≡ Err AskFault.Unknown → (p : Option ℕ) → HasConn conns.now id p → ⊥ }
     ensures pending { result ≡ Err AskFault.Pending → (k : ℕ) × HasConn conns.now id (Some k) }
     ensures others { OnErr result ((result ≡ Err AskFault.Unknown)
         ⊎ (result ≡ Err AskFault.Pending)) }
 {
-    'each: for conn in conns {
-        if conn.id == id {
-            return match conn.pending {
-                None => Ok(()),
-                Some(_) => Err(AskFault::Pending),
-            };
-        }
+    match conn_place(conns, id) {
+        Some(place) => match conns[place].pending {
+            None => Ok(()),
+            Some(_) => Err(AskFault::Pending),
+        },
+        None => Err(AskFault::Unknown),
     }
-    Err(AskFault::Unknown)
 }
 
 /// Enters an ask that begins nothing, and answers it by the proxy itself.

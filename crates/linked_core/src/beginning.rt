@@ -12,6 +12,7 @@ ghost use Rattle.core_steps.specs.State.{State as CoreState, link_of};
 ghost use Rattle.core_steps.specs.Resting.{HasConn};
 ghost use Rattle.linked_core.specs.Beginning.{IsRequest, IsTextFor, IsTimely, sent_first, with_exchange, IsBegun, IsBegunBy, IsEntered, MayBegin, exchange_by};
 ghost use Rattle.linked_core.specs.Drafts.{Drafts};
+ghost use Rattle.linked_core.specs.Places.{RiseBy, id_of};
 ghost use Rattle.linked_core.specs.Sound.{IsSound};
 ghost use Rattle.linked_core.specs.States.{state_of, seen, given_in, outgoing, with_draft, HasPlaces, SeesSame};
 ghost use Rattle.linked_core.specs.Submitting.{MaySubmitTo, HasPlaceFor};
@@ -91,6 +92,7 @@ fn draft_ask<R: Relation>(
     sent: &Option<FirstSending>,
 ) -> Result<Draft<R>, AllocError>
     requires few { length s.now.journal.entries ≤ 65536 }
+    requires ordered { RiseBy id_of s.now.conns.items }
     requires timely { IsTimely sent.now }
     ensures drafts { IfOk result (λ d. Drafts moment (state_of s.now)
         (Asks conn (ask_of (arc_value mapped.now)) ∷ sent_first peer sent.now) d) }

@@ -7,10 +7,12 @@ ghost use Rattle.journal_book.specs.Views.{event_of, item_of};
 ghost use Rattle.core_steps.specs.State.{State, pend, conns_after};
 ghost use Rattle.linked_core.specs.Values.{outgoing_of};
 ghost use Rattle.linked_core.specs.Answering.{given_of};
-ghost use Rattle.linked_core.specs.Drafts.{Drafts, IsAlone, empty_draft, draft_with, draft_sending, draft_answering};
+ghost use Rattle.linked_core.specs.Places.{RiseBy, id_of};
+ghost use Rattle.linked_core.specs.Drafts.{Drafts, IsAlone, OpensNone, empty_draft, draft_with, draft_sending, draft_answering};
 
 use crate::answer::Answer;
 use crate::outgoing::Datagram;
+use crate::places::conn_place;
 use ask_model::Bytes;
 use core_steps::Conn;
 use journal_book::{Entry, Event};
@@ -21,52 +23,40 @@ use std::sync::Arc;
 use transformers::Relation;
 use uri_map::Peer;
 
-/// What a connection waits for.
-fn pending_on(conn: Conn, id: u32, pending: Option<u32>) -> Conn
-    ensures { result ≡ pend id pending conn }
-{
-    if conn.id == id {
-        Conn {
-            id: conn.id,
-            pending,
-        }
-    } else {
-        conn
-    }
-}
-
 /// Sets what the connection with this number waits for.
 fn set_pending(conns: &mut [Conn], id: u32, pending: Option<u32>)
+    requires { RiseBy id_of conns.old }
     ensures { conns.new ≡ map (pend id pending) conns.old }
 {
-    'each: for x in conns.iter_mut() {
-        *x = pending_on(*x, id, pending);
+    if let Some(place) = conn_place(conns, id) {
+        conns[place].pending = pending;
     }
 }
 
-/// What an entry with this number does to the connections.
-fn note<R: Relation>(conns: &mut Vec<Conn>, number: u32, event: &Event<R>) -> Result<(), AllocError>
-    ensures { OnOk result (conns.new.items
-        ≡ conns_after conns.old.items number (event_of event.now)) }
+/// What an entry with this number does to the connections, where it opens none.
+fn note<R: Relation>(conns: &mut Vec<Conn>, number: u32, event: &Event<R>)
+    requires ordered { RiseBy id_of conns.old.items }
+    requires opens_none { OpensNone (event_of event.now) }
+    ensures conns { conns.new.items ≡ conns_after conns.old.items number (event_of event.now) }
+    ensures ordered { RiseBy id_of conns.new.items }
 {
     match event {
-        Event::Opened(id) => conns.push(Conn {
-            id: *id,
-            pending: None,
-        })?,
+        Event::Opened(_) => {}
         Event::Asked(conn, _) => set_pending(conns, *conn, Some(number)),
         Event::Answered { conn, .. } => set_pending(conns, *conn, None),
         Event::Shut(id) => drop_conn(conns, *id),
         _ => {}
     }
-    Ok(())
 }
 
 /// Takes out the connection with this number.
 pub fn drop_conn(conns: &mut Vec<Conn>, id: u32)
+    requires { RiseBy id_of conns.old.items }
     ensures { conns.new.items ≡ filter (λ x. not (x.id == id)) conns.old.items }
 {
-    conns.retain(|x| x.id != id);
+    if let Some(place) = conn_place(conns.as_slice(), id) {
+        conns.remove(place);
+    }
 }
 
 /// The entries that a step adds, in order, the connections after them, and the datagrams and the
@@ -98,6 +88,7 @@ impl<R: Relation> Model for Draft<R> {
     ghost use Rattle.linked_core.specs.Values.{outgoing_of};
     ghost use Rattle.linked_core.specs.Answering.{given_of};
     ghost use Rattle.linked_core.specs.Drafts.{DraftValue};
+    ghost use Rattle.linked_core.specs.Places.{RiseBy, id_of};
 
     ghost Value = { DraftValue };
 
@@ -109,13 +100,15 @@ impl<R: Relation> Model for Draft<R> {
       answers = map given_of d.parts.answers.items;
     } };
 
-    ghost invariant = { λ d. d.bytes
-        ≡ capped (sum_by entry_size (map item_of d.parts.entries.items)) };
+    ghost invariant = { λ d. (d.bytes
+        ≡ capped (sum_by entry_size (map item_of d.parts.entries.items)))
+        × RiseBy id_of d.parts.conns.items };
 }
 
 impl<R: Relation> Draft<R> {
     /// Nothing yet, where there are so many entries and these connections.
     pub fn new(alloc: Global, entries: u32, conns: &[Conn]) -> Result<Draft<R>, AllocError>
+        requires { RiseBy id_of conns.now }
         ensures { IfOk result (λ d. d ≡ empty_draft entries conns.now) }
     {
         Ok(Draft {
@@ -154,7 +147,8 @@ impl<R: Relation> Draft<R> {
 
     /// The connections after the entries.
     pub fn conns(&self) -> &[Conn]
-        ensures { result.now ≡ self.now.conns }
+        ensures is { result.now ≡ self.now.conns }
+        ensures ordered { RiseBy id_of result.now }
     {
         self.parts.conns.as_slice()
     }
@@ -185,7 +179,8 @@ impl<R: Relation> Draft<R> {
 
     /// An entry more, which neither sends nor answers.
     pub fn enter(&mut self, entry: Entry<R>) -> Result<(), AllocError>
-        requires { self.old.next < 4294967295 }
+        requires next { self.old.next < 4294967295 }
+        requires opens_none { OpensNone (event_of entry.event) }
         ensures drafts { (S : State) (ds : List Deed) → IsAlone (event_of entry.event)
             → Drafts entry.moment S ds self.old
             → OnOk result (Drafts entry.moment S (ds ++ event_of entry.event ∷ []) self.new) }
@@ -198,12 +193,14 @@ impl<R: Relation> Draft<R> {
 
     /// An entry more.
     fn add(&mut self, entry: Entry<R>) -> Result<(), AllocError>
-        requires { self.old.next < 4294967295 }
+        requires next { self.old.next < 4294967295 }
+        requires opens_none { OpensNone (event_of entry.event) }
         ensures { OnOk result (self.new ≡ draft_with (item_of entry) self.old) }
     {
         let size = entry.size();
-        note(&mut self.parts.conns, self.next, &entry.event)?;
-        self.parts.entries.push_back(entry)?;
+        self.parts.entries.reserve(1)?;
+        note(&mut self.parts.conns, self.next, &entry.event);
+        self.parts.entries.push_back_reserved(entry);
         self.bytes = self.bytes.saturating_add(size);
         self.next += 1;
         Ok(())

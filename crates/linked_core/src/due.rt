@@ -5,6 +5,7 @@ ghost use Rattle.std.specs.List.{AllByRecursion};
 ghost use Rattle.core_steps.specs.Due.{earlier, earliest, timer, deadline, next_due};
 ghost use Rattle.core_steps.specs.Steps.{is_past};
 ghost use Rattle.linked_core.specs.Due.{IsSince, next_late, next_tick};
+ghost use Rattle.linked_core.specs.Places.{RiseBy, id_of};
 ghost use Rattle.linked_core.specs.Sound.{IsSound};
 ghost use Rattle.linked_core.specs.States.{state_of, peer_link};
 
@@ -70,7 +71,8 @@ pub fn next_due<R: Relation>(s: &State<R>) -> Option<u64>
 
 /// The first moment at which an exchange took too long for which a connection waits.
 fn earliest_awaited(exchanges: &[Exchange], conns: &[Conn]) -> Option<u64>
-    requires { AllByRecursion IsSince exchanges.now }
+    requires early { AllByRecursion IsSince exchanges.now }
+    requires ordered { RiseBy id_of conns.now }
     ensures { result ≡ next_late conns.now exchanges.now }
 {
     let mut first = None;

@@ -23,6 +23,7 @@ ghost use Rattle.linked_core.specs.Sound.{IsSound};
 ghost use Rattle.linked_core.specs.Values.{stepped};
 ghost use Rattle.linked_core.specs.Asked.{IsOpenedIn};
 ghost use Rattle.linked_core.specs.Hearing.{exchanges_after, first_number, note_next, tables_after, with_heard, found_in, over_in, heeds, Tells, AddsAnswer, told_by, IsTimed, sent_next, link_deeds, hearing_deeds};
+ghost use Rattle.linked_core.specs.Places.{RiseBy, id_of, number_of};
 ghost use Rattle.linked_core.specs.States.{peer_link, state_of, seen, given_in, outgoing, SeesSame};
 
 use crate::answer::Answer;
@@ -72,6 +73,7 @@ fn ended_token(heeding: &Heeding) -> Option<Token>
 
 /// The exchange that ends.
 fn ended_exchange(exchanges: &[Exchange], over: Option<Token>) -> Option<Exchange>
+    requires { RiseBy number_of exchanges.now }
     ensures { result ≡ ended_in over exchanges.now }
 {
     match over {
@@ -149,7 +151,8 @@ fn draft_first<R: Relation>(
 
 /// Nothing yet, after the entries that there are.
 fn start<R: Relation>(alloc: Global, s: &State<R>) -> Result<Draft<R>, AllocError>
-    requires { length s.now.journal.entries ≤ 65536 }
+    requires few { length s.now.journal.entries ≤ 65536 }
+    requires ordered { RiseBy id_of s.now.conns.items }
     ensures drafts { (t : ℕ) → IfOk result (λ d. Drafts t (state_of s.now) [] d) }
     ensures answers { IfOk result (λ d. d.answers ≡ []) }
 {
@@ -167,6 +170,7 @@ fn draft_link<R: Relation>(
     heeding: &Heeding,
 ) -> Result<Draft<R>, AllocError>
     requires few { length s.now.journal.entries ≤ 65536 }
+    requires ordered { RiseBy id_of s.now.conns.items }
     requires timed { IsTimed heeding.now.next }
     ensures drafts { IfOk result (λ d. Drafts moment (state_of s.now)
         (link_deeds peer datagram.now heeding.now) d) }
@@ -222,6 +226,7 @@ fn draft_told<R: Relation>(
     finding: Option<Finding>,
 ) -> Result<(), AllocError>
     requires next { draft.old.next < 4294967295 }
+    requires ordered { RiseBy id_of s.now.conns.items }
     requires opened { IfSome ended (λ e. IsOpenedIn s.now.journal.entries e) }
     ensures drafts { (S : CoreState) (ds : List Deed) → Drafts moment S ds draft.old
         → OnOk result (Drafts moment S
@@ -249,6 +254,8 @@ fn draft_heard<R: Relation>(
     up: Up,
 ) -> Result<Draft<R>, AllocError>
     requires few { length s.now.journal.entries ≤ 65536 }
+    requires conns { RiseBy id_of s.now.conns.items }
+    requires exchanges { RiseBy number_of s.now.exchanges.items }
     requires timed { IsTimed heeding.now.next }
     requires opened { AllByRecursion (IsOpenedIn s.now.journal.entries) s.now.exchanges.items }
     requires spelled { (m : Content) → told up ≡ response m → Spells m datagram.now }
@@ -267,6 +274,7 @@ fn draft_heard<R: Relation>(
 
 /// The exchange ends that the datagram ends.
 fn end_exchange(exchanges: &mut Vec<Exchange>, heeding: &Heeding)
+    requires { RiseBy number_of exchanges.old.items }
     ensures { exchanges.new.items ≡ filter (is_other (over_in heeding.now)) exchanges.old.items }
 {
     if let Some(token) = ended_token(heeding) {
@@ -276,6 +284,7 @@ fn end_exchange(exchanges: &mut Vec<Exchange>, heeding: &Heeding)
 
 /// The message that goes out next, in the entry with this number, is that of its exchange.
 fn note_next(exchanges: &mut Vec<Exchange>, next: &Option<FirstSending>, number: u32)
+    requires { RiseBy number_of exchanges.old.items }
     ensures { exchanges.new.items ≡ note_next number next.now exchanges.old.items }
 {
     if let Some(first) = next {
@@ -296,7 +305,8 @@ fn first_number(number: u32, heeding: &Heeding) -> u32
 
 /// The exchanges after the datagram, whose own entry has this number.
 fn change_exchanges(exchanges: &mut Vec<Exchange>, heeding: &Heeding, number: u32)
-    requires { number ≤ 65536 }
+    requires few { number ≤ 65536 }
+    requires ordered { RiseBy number_of exchanges.old.items }
     ensures { exchanges.new.items ≡ exchanges_after number heeding.now exchanges.old.items }
 {
     end_exchange(exchanges, heeding);
@@ -338,6 +348,7 @@ fn settle_at(endpoints: &mut Vec<Endpoint>, place: usize, heeding: Heeding, mome
 /// The tables after the datagram.
 fn change_tables<R: Relation>(s: &mut State<R>, place: usize, moment: u64, heeding: Heeding)
     requires few { length s.old.journal.entries ≤ 65536 }
+    requires ordered { RiseBy number_of s.old.exchanges.items }
     requires early { moment ≤ 2 ^ 62 }
     requires place { place < length s.old.endpoints.items }
     requires ready { (e : EndpointValue) → slice_get s.old.endpoints.items place ≡ Some e
@@ -364,6 +375,7 @@ fn add_heard<R: Relation>(
 ) -> Result<(), AllocError>
     requires room { length draft.entries ≤ s.old.journal.room }
     requires few { length s.old.journal.entries ≤ 65536 }
+    requires ordered { RiseBy number_of s.old.exchanges.items }
     requires early { moment ≤ 2 ^ 62 }
     requires place { place < length s.old.endpoints.items }
     requires ready { (e : EndpointValue) → slice_get s.old.endpoints.items place ≡ Some e

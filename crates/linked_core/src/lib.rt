@@ -21,6 +21,7 @@ mod numbering;
 mod opening;
 mod outgoing;
 mod passing;
+mod places;
 mod refusing;
 mod requests;
 mod room;

@@ -5,11 +5,13 @@ ghost use Rattle.ask_model.specs.Sizes.{capped};
 ghost use Rattle.core_steps.specs.Resting.{HasConn};
 ghost use Rattle.core_steps.specs.Steps.{opens, shuts};
 ghost use Rattle.linked_core.specs.Calls.{IsOpened, IsClosed, IsUnknown};
+ghost use Rattle.linked_core.specs.Places.{RiseBy, id_of};
 ghost use Rattle.linked_core.specs.Sound.{IsSound};
 ghost use Rattle.linked_core.specs.States.{state_of, given_in, outgoing, seen};
 
 use crate::draft::drop_conn;
 use crate::fault::OpenFault;
+use crate::places::conn_place;
 use crate::room;
 use crate::sealing::seal;
 use crate::state::State;
@@ -69,20 +71,17 @@ pub fn open<R: Relation>(s: &mut State<R>, moment: u64) -> Result<u32, OpenFault
 
 /// Whether the connection with this number is open.
 fn has_conn(conns: &[Conn], id: u32) -> bool
+    requires { RiseBy id_of conns.now }
     ensures some { IsTrue result → (p : Option ℕ) × HasConn conns.now id p }
     ensures none { IsFalse result → (p : Option ℕ) → HasConn conns.now id p → ⊥ }
 {
-    'each: for x in conns {
-        if x.id == id {
-            return true;
-        }
-    }
-    false
+    conn_place(conns, id).is_some()
 }
 
 /// Takes a connection out, and adds its entry.
 fn take_conn<R: Relation>(s: &mut State<R>, moment: u64, conn: u32)
     requires room { 0 < s.old.journal.room }
+    requires ordered { RiseBy id_of s.old.conns.items }
     ensures state { state_of s.new ≡ shuts moment conn (state_of s.old) }
     ensures room { s.new.journal.room + 1 ≡ s.old.journal.room }
     ensures bytes { s.new.bytes ≡ capped (s.old.bytes + 64) }

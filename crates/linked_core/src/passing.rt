@@ -9,6 +9,7 @@ ghost use Rattle.core_steps.specs.Entering.{all_going, goes_on, gone_tokens, sen
 ghost use Rattle.core_steps.specs.Steps.{is_gone};
 ghost use Rattle.linked_core.specs.Leads.{Leads};
 ghost use Rattle.linked_core.specs.Passing.{moved_on, tick_adds};
+ghost use Rattle.linked_core.specs.Places.{RiseBy, number_of};
 ghost use Rattle.linked_core.specs.Sound.{IsSound};
 ghost use Rattle.linked_core.specs.States.{given_in, outgoing, state_of, HasPlaces, SeesSame};
 ghost use Rattle.linked_core.specs.Turns.{AreTurns};
@@ -60,6 +61,7 @@ fn draft_tick<R: Relation>(
     requires over { over.now ≡ timed_out moment (state_of s.now) }
     requires gone { gone.now ≡ gone_tokens moment (state_of s.now) }
     requires ready { AreTurns moment gone.now s.now.endpoints.items turns.now }
+    requires ordered { RiseBy number_of still.old }
     ensures leads { IfOk result
         (λ d. Leads moment (state_of s.now) (tick_adds moment (state_of s.now)) d) }
     ensures going { OnOk result (still.new ≡ sent_as (all_going moment

@@ -8,6 +8,7 @@ ghost use Rattle.core_steps.specs.Entering.{refusal_deeds};
 ghost use Rattle.core_steps.specs.Sealing.{asks_in_room};
 ghost use Rattle.linked_core.specs.Refusing.{MayRefuse};
 ghost use Rattle.linked_core.specs.Drafts.{Drafts};
+ghost use Rattle.linked_core.specs.Places.{RiseBy, id_of};
 ghost use Rattle.linked_core.specs.Sound.{IsSound};
 ghost use Rattle.linked_core.specs.States.{state_of, seen, refusal_given};
 ghost use Rattle.linked_core.specs.Values.{stepped};
@@ -34,7 +35,8 @@ fn draft_refusal<R: Relation>(
     mapped: &Arc<Mapped<R>>,
     cause: Cause,
 ) -> Result<Draft<R>, AllocError>
-    requires { length s.now.journal.entries ≤ 65536 }
+    requires few { length s.now.journal.entries ≤ 65536 }
+    requires ordered { RiseBy id_of s.now.conns.items }
     ensures drafts { IfOk result (λ d. Drafts moment (state_of s.now)
         (refusal_deeds conn (ask_of (arc_value mapped.now)) cause (state_of s.now)) d) }
     ensures answers { IfOk result (λ d. d.answers

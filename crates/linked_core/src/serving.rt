@@ -3,6 +3,7 @@
 ghost use Rattle.std.specs.Prelude.{ℕ, ◌⊎◌, Option, None, Some, IsTrue, IsFalse, map, option_map};
 ghost use Rattle.core_steps.specs.Resting.{HasConn};
 ghost use Rattle.linked_core.specs.Answering.{given_of};
+ghost use Rattle.linked_core.specs.Places.{RiseBy, id_of};
 ghost use Rattle.linked_core.specs.Serving.{IsFirstOf};
 
 use crate::answer::Answer;
@@ -13,6 +14,7 @@ use transformers::Relation;
 
 /// Whether the connection is open and waits for no answer.
 pub fn is_idle(conns: &[Conn], id: u32) -> bool
+    requires { RiseBy id_of conns.now }
     ensures idle { IsTrue result → HasConn conns.now id None }
     ensures other { IsFalse result → ((p : Option ℕ) → HasConn conns.now id p → ⊥)
         ⊎ ((k : ℕ) × HasConn conns.now id (Some k)) }

@@ -6,6 +6,7 @@ ghost use Rattle.core_steps.specs.Entering.{entered_all, sent_as, link_after};
 ghost use Rattle.message_layer.specs.Calls.{is_among};
 ghost use Rattle.message_layer.specs.Prepared.{IsTicking};
 ghost use Rattle.linked_core.specs.Leads.{Leads};
+ghost use Rattle.linked_core.specs.Places.{RiseBy, number_of};
 ghost use Rattle.linked_core.specs.States.{peer_link};
 ghost use Rattle.linked_core.specs.Turns.{AreTurns, AreTimed, IsTimed, IsTimedFirst, first_of, going_first, deeds_of, going_of, turns_deeds, turns_going};
 
@@ -59,6 +60,7 @@ fn draft_first<R: Relation>(
     moment: u64,
 ) -> Result<(), AllocError>
     requires room { draft.old.next + length (first_of peer next.now) ≤ 4294967295 }
+    requires ordered { RiseBy number_of going.old }
     requires timed { IsTimedFirst next.now }
     ensures leads { (S U : CoreState) → Leads moment S U draft.old
         → OnOk result (Leads moment S (entered_all moment (first_of peer next.now) U) draft.new) }
@@ -85,6 +87,7 @@ fn draft_turn<R: Relation>(
     moment: u64,
 ) -> Result<(), AllocError>
     requires room { draft.old.next + length (deeds_of peer turn.now) ≤ 4294967295 }
+    requires ordered { RiseBy number_of going.old }
     requires timed { IsTimed turn.now }
     ensures leads { (S U : CoreState) → Leads moment S U draft.old
         → OnOk result (Leads moment S (entered_all moment (deeds_of peer turn.now) U) draft.new) }
@@ -111,6 +114,7 @@ pub fn draft_turns<R: Relation>(
 ) -> Result<(), AllocError>
     requires alike { length turns.now ≡ length endpoints.now }
     requires timed { AreTimed turns.now }
+    requires ordered { RiseBy number_of going.old }
     requires room { draft.old.next + length (turns_deeds (map peer_link endpoints.now) turns.now)
         ≤ 4294967295 }
     ensures leads { (S U : CoreState) → Leads moment S U draft.old

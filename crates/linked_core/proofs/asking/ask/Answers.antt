@@ -6,6 +6,7 @@ use Rattle.ask_model.specs.Sizes.{came_size, request_limit}
 use Rattle.ask_model.specs.Views.{Mapping, sense_of, body_of}
 use Rattle.history_laws.proofs.Refusals.{maps-refusal}
 use Rattle.linked_core.specs.States.{state_of}
+use Rattle.linked_core.proofs.Ordered.{conns-ordered}
 use Rattle.linked_core.proofs.Asks.{may-be-refused}
 use Rattle.linked_core.proofs.asking.ask.Goals as goal
 
@@ -19,3 +20,6 @@ turn_away-requires-clause-refused g c =
     may-be-refused c.args.moment c.args.conn _ c.in-Refuse.cause _ (state_of c.args.s.now) c.requires.sound.kept c.if-s.false c.requires.later
     (rw (c.as_slice.ensures.value) at (c.in_ok-check_idle.ensures.ok)) (subst (λ (x : Came). came_size x ≤ request_limit) (ap (λ (x : Mapping). x.came) c.deref.ensures) k.small) sense
     (maps-refusal g.R.Relation.holds g.R.Relation.takes c.deref-2.result.now.rules c.deref-2.result.now.came c.in-Refuse.cause _ maps)
+
+pub check_idle-requires : goal.check_idle-requires
+check_idle-requires g c = rw (c.as_slice.ensures.value) (conns-ordered _ c.requires.sound.kept)

@@ -1,15 +1,15 @@
-use Rattle.std.proofs.Common.{Option, ℕ, add-one, subst}
+use Rattle.std.proofs.Common.{Option, ℕ, refl, subst}
 use Rattle.core_steps.specs.Resting.{HasConn}
-use Rattle.linked_core.proofs.Conns.{conn-at, none-so-far}
+use Rattle.linked_core.proofs.Ordered.{has-only, has-none}
 use Rattle.linked_core.proofs.asking.check_idle.Goals as goal
 
-pub returns-in-None-clause-ok : goal.returns-in-None-clause-ok
-returns-in-None-clause-ok c =
-    subst (λ (p : Option ℕ). HasConn c.args.conns.now c.args.id p) c.in-None.is (conn-at c.args.conns.now c.each.conn-index c.args.id _ c.each-test.true c.if-conn-id.true)
+pub returns-in-None-pending-clause-ok : goal.returns-in-None-pending-clause-ok
+returns-in-None-pending-clause-ok c =
+    subst (λ (p : Option ℕ). HasConn c.args.conns.now c.args.id p) c.in-None-pending.is (has-only c.args.id c.args.conns.now c.in-Some.place _ c.in-Some.ensures.some)
 
-pub returns-in-Some-clause-pending : goal.returns-in-Some-clause-pending
-returns-in-Some-clause-pending c = λ e.
-    (_, subst (λ (p : Option ℕ). HasConn c.args.conns.now c.args.id p) c.in-Some.is (conn-at c.args.conns.now c.each.conn-index c.args.id _ c.each-test.true c.if-conn-id.true))
+pub returns-in-Some-pending-clause-pending : goal.returns-in-Some-pending-clause-pending
+returns-in-Some-pending-clause-pending c = λ e.
+    (_, subst (λ (p : Option ℕ). HasConn c.args.conns.now c.args.id p) c.in-Some-pending.is (has-only c.args.id c.args.conns.now c.in-Some.place _ c.in-Some.ensures.some))
 
-pub each-preserved : goal.each-preserved
-each-preserved c = rw add-one (none-so-far c.args.conns.now c.each.conn-index c.args.id _ c.each-test.true c.each.invariant c.if-conn-id.false)
+pub returns-in-None-clause-unknown : goal.returns-in-None-clause-unknown
+returns-in-None-clause-unknown c = λ e. has-none c.args.id c.args.conns.now (c.in-None.ensures.none refl)

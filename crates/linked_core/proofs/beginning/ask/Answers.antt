@@ -1,5 +1,6 @@
 use Rattle.std.proofs.Common.{refl, arith}
 use Rattle.std.specs.Arc.{arc_value}
+use Rattle.linked_core.proofs.Ordered.{conns-ordered}
 use Rattle.linked_core.proofs.BeginLinks.{link-takes}
 use Rattle.linked_core.proofs.Begins.{timely, sent-next}
 use Rattle.linked_core.proofs.BeginSound.{enters-sound, enters-ok, enters-err, entered-by, exchange-is}
@@ -60,3 +61,6 @@ returns-in-Err-clause-err g c =
     (exchange-is _ _ _ _ _ _ _ _ n c.exchange_of-exchange.ensures) c.requires.waiting c.enter.ensures in
     enters-err c.args.moment c.args.word c.args.conn (arc_value c.args.mapped) c.args.peer c.args.token c.args.text.now c.args.prepared.submission.sent c.in_ok-draft.draft c.args.s.now c.enter.new.s
     c.requires.sound c.requires.begins h next c.in_ok-draft.ensures.answers (Unit {0}) c.in-Err.fault (rw (c.in-Err.is) at i)
+
+pub draft_ask-requires-clause-ordered : goal.draft_ask-requires-clause-ordered
+draft_ask-requires-clause-ordered g c = conns-ordered _ c.requires.sound.kept

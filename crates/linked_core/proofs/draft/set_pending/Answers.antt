@@ -1,6 +1,9 @@
-use Rattle.core_steps.specs.State.{pend}
-use Rattle.message_layer.proofs.Lists.{mapped-set}
+use Rattle.std.proofs.Common.{refl, sym}
+use Rattle.linked_core.proofs.Ordered.{pend-only, pend-nowhere}
 use Rattle.linked_core.proofs.draft.set_pending.Goals as goal
 
-pub each-preserved : goal.each-preserved
-each-preserved c = mapped-set (pend c.args.id c.args.pending) c.args.conns.now _ _ _ _ c.each-test.true c.each.invariant c.pending_on.ensures
+pub returns-in-Some : goal.returns-in-Some
+returns-in-Some c = sym (pend-only c.args.id c.args.pending c.args.conns.now c.in-Some.place _ c.in-Some.ensures.some)
+
+pub returns-in_default : goal.returns-in_default
+returns-in_default c = sym (pend-nowhere c.args.id c.args.pending c.args.conns.now (c.in_default.ensures.none refl))

@@ -1,6 +1,9 @@
-use Rattle.core_steps.specs.Steps.{went_out}
-use Rattle.message_layer.proofs.Lists.{mapped-set}
+use Rattle.std.proofs.Common.{refl, sym}
+use Rattle.linked_core.proofs.Ordered.{out-only, out-nowhere}
 use Rattle.linked_core.proofs.exchanges.note_sending.Goals as goal
 
-pub each-preserved : goal.each-preserved
-each-preserved c = mapped-set (went_out c.args.token.now c.args.number) c.args.exchanges.now _ _ _ _ c.each-test.true c.each.invariant c.sent.ensures
+pub returns-in-Some : goal.returns-in-Some
+returns-in-Some c = sym (out-only c.args.token.now c.args.number c.args.exchanges.now c.in-Some.place _ c.in-Some.ensures.some)
+
+pub returns-in_default : goal.returns-in_default
+returns-in_default c = sym (out-nowhere c.args.token.now c.args.number c.args.exchanges.now (c.in_default.ensures.none refl))

@@ -1,5 +1,6 @@
 use Rattle.std.proofs.Common.{sym, ◌∙◌, arith}
 use Rattle.linked_core.specs.States.{state_of}
+use Rattle.linked_core.proofs.Ordered.{conns-ordered, exchanges-ordered}
 use Rattle.linked_core.proofs.Heard.{next-timed}
 use Rattle.linked_core.proofs.Heeds.{link-at, got-first, first-below, spells, bytes-small}
 use Rattle.linked_core.proofs.HeardSteps.{sound-sealed, seen-sealed, places-left, sound-heard, seen-heard}
@@ -97,3 +98,12 @@ returns-clause-heard g c =
     c.in_ok-draft.draft c.in_ok-draft.ensures.drafts _ _ _ _
     (sym (c.takes.ensures c.args.moment) ∙ c.if-not-takes.false)
     (e.state c.args.peer c.requires.at) e.answers e.sends
+
+pub draft_heard-requires-clause-conns : goal.draft_heard-requires-clause-conns
+draft_heard-requires-clause-conns g c = conns-ordered _ c.requires.sound.kept
+
+pub draft_heard-requires-clause-exchanges : goal.draft_heard-requires-clause-exchanges
+draft_heard-requires-clause-exchanges g c = exchanges-ordered _ c.requires.sound.kept.kept
+
+pub add_heard-requires-clause-ordered : goal.add_heard-requires-clause-ordered
+add_heard-requires-clause-ordered g c = exchanges-ordered _ c.requires.sound.kept.kept

@@ -1,9 +1,8 @@
-use Rattle.std.proofs.Common.{add-one}
-use Rattle.linked_core.proofs.Conns.{conn-at, none-so-far}
+use Rattle.linked_core.proofs.Ordered.{has-found, has-missed}
 use Rattle.linked_core.proofs.opening.has_conn.Goals as goal
 
-pub returns-then-x-id-clause-some : goal.returns-then-x-id-clause-some
-returns-then-x-id-clause-some c = λ so. (_, conn-at c.args.conns.now c.each.x-index c.args.id _ c.each-test.true c.if-x-id.true)
+pub returns-clause-some : goal.returns-clause-some
+returns-clause-some c = has-found c.args.id c.args.conns.now c.conn_place.result c.is_some.result c.is_some.ensures c.conn_place.ensures.some
 
-pub each-preserved : goal.each-preserved
-each-preserved c = rw add-one (none-so-far c.args.conns.now c.each.x-index c.args.id _ c.each-test.true c.each.invariant c.if-x-id.false)
+pub returns-clause-none : goal.returns-clause-none
+returns-clause-none c = has-missed c.args.id c.args.conns.now c.conn_place.result c.is_some.result c.is_some.ensures c.conn_place.ensures.none

@@ -14,6 +14,7 @@ use Rattle.linked_core.specs.Drafts.{DraftValue, empty_draft}
 use Rattle.linked_core.specs.Leads.{Leads}
 use Rattle.linked_core.specs.States.{state_of, peer_link}
 use Rattle.linked_core.specs.Turns.{turns_deeds}
+use Rattle.linked_core.proofs.Ordered.{conns-ordered}
 use Rattle.linked_core.proofs.Openings.{all-opened}
 use Rattle.linked_core.proofs.TickBack.{turns-alike}
 use Rattle.linked_core.proofs.TickDraft.{deeds-are, going-are, leads-next}
@@ -121,3 +122,6 @@ returns-clause-going g c =
     ∙ going-are t S c.args.gone.now c.args.s.now.endpoints.items c.deref-2.result.now
     c.args.turns.now c.deref-2.ensures.value refl q.gone q.ready c.enter.new.self.next
     (length S.entries + 1) c.args.still.now next
+
+pub new-requires : goal.new-requires
+new-requires g c = rw (c.deref.ensures.value) (conns-ordered _ c.requires.sound.kept)

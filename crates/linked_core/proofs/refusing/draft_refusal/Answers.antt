@@ -10,7 +10,7 @@ answer-requires g c =
     let first = rw (c.as_slice.ensures.value) at c.in_ok-draft.ensures in
     let a = c.in_ok-enter.ensures.drafts S [] tt (begins-empty _ _ S _ c.len-number.ensures first) in
     let next = a.next in
-    let few = c.requires in
+    let few = c.requires.few in
     omega (arith, next, few)
 
 pub returns-clause-drafts : goal.returns-clause-drafts

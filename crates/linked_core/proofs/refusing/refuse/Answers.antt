@@ -13,6 +13,7 @@ use Rattle.linked_core.specs.Answering.{Given, IsGiven}
 use Rattle.linked_core.specs.Sound.{SoundState}
 use Rattle.linked_core.specs.States.{state_of, given_in, outgoing, with_draft, core_of}
 use Rattle.linked_core.specs.Values.{Outgoing, stepped}
+use Rattle.linked_core.proofs.Ordered.{conns-ordered}
 use Rattle.linked_core.proofs.Refusals.{asks-entered, asks-sealed, refusal-given-stands, refusal-conns}
 use Rattle.linked_core.proofs.Sounding.{sound-drafted, room-for, sound-seal, first-of, second-of}
 use Rattle.linked_core.proofs.Stepping.{committed, stepped-seal, with-draft, same-core}
@@ -86,3 +87,6 @@ returns-clause-is g c = λ ne n.
     ∙ committed t S U _ d gs _ os _ c.in_ok-draft.ensures.drafts refl
     (e.answers ∙ ap (λ (xs : List Given). xs ++ d.answers) m.answers) (e.sends ∙ ap (λ (xs : List Outgoing). xs ++ d.sends) m.sends)
     ∙ ap (λ (V : State). stepped V (core_of S gs os)) (sym (asks-entered t c.args.conn _ n S U c.requires.unsealed (c.requires.refused.is n) fit))
+
+pub draft_refusal-requires-clause-ordered : goal.draft_refusal-requires-clause-ordered
+draft_refusal-requires-clause-ordered g c = conns-ordered _ c.requires.sound.kept

@@ -4,6 +4,7 @@ use Rattle.core_steps.specs.Steps.{is_past}
 use Rattle.linked_core.specs.Asked.{IsOpenedIn}
 use Rattle.linked_core.specs.Drafts.{DraftValue}
 use Rattle.linked_core.specs.States.{state_of}
+use Rattle.linked_core.proofs.Ordered.{conns-ordered}
 use Rattle.linked_core.proofs.Openings.{all-opened}
 use Rattle.linked_core.proofs.TickSince.{few-exchanges}
 use Rattle.linked_core.proofs.timeouts.draft_late.Goals as goal
@@ -24,3 +25,6 @@ draft_timeouts-requires-clause-asked g c =
     (all-filter (IsOpenedIn c.args.s.now.journal.entries) (is_past c.args.moment)
     c.args.s.now.exchanges.items
     (all-opened (state_of c.args.s.now) c.requires.kept.kept))
+
+pub new-requires : goal.new-requires
+new-requires g c = rw (c.deref-2.ensures.value) (conns-ordered _ c.requires.kept)

@@ -10,6 +10,7 @@ use Rattle.linked_core.specs.Asked.{IsOpenedIn}
 use Rattle.linked_core.specs.Drafts.{DraftValue, empty_draft}
 use Rattle.linked_core.specs.Leads.{Leads}
 use Rattle.linked_core.specs.States.{state_of}
+use Rattle.linked_core.proofs.Ordered.{conns-ordered}
 use Rattle.linked_core.proofs.Openings.{all-opened}
 use Rattle.linked_core.proofs.TickLeads.{leads-none, leads-more}
 use Rattle.linked_core.proofs.TickSince.{few-exchanges}
@@ -50,3 +51,6 @@ returns g c =
     subst (λ (es : List Exchange). Leads t S (fold (times_out t) (entered t Seals S) es)
     c.draft_timeouts.new.draft) past
     (c.in_ok-draft_timeouts.ensures.leads S (entered t Seals S) refl sealed)
+
+pub new-requires : goal.new-requires
+new-requires g c = rw (c.deref-2.ensures.value) (conns-ordered _ c.requires.kept)

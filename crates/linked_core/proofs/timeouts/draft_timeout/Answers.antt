@@ -17,11 +17,11 @@ returns-in_ok-answer-2-clause-leads g c =
     (given_of c.in_ok-answer.answer)) c.next-number.ensures c.in_ok-answer.ensures))
     (λ n k. c.in_ok-answer-2.ensures.drafts S h.deeds n k)
     c.in_ok-answer-2.ensures.answers
-    (sym (ap (list_any (waits_on c.args.exchange.now)) c.conns.ensures) ∙ sym
+    (sym (ap (list_any (waits_on c.args.exchange.now)) c.conns.ensures.is) ∙ sym
     c.if-is_awaited.ensures)
 
 pub returns-else-is_awaited-clause-leads : goal.returns-else-is_awaited-clause-leads
 returns-else-is_awaited-clause-leads g c =
     λ S U e h. leads-still c.args.moment S U c.args.exchange.now c.args.draft.now h
-    (sym (ap (list_any (waits_on c.args.exchange.now)) c.conns.ensures) ∙ sym
+    (sym (ap (list_any (waits_on c.args.exchange.now)) c.conns.ensures.is) ∙ sym
     c.if-is_awaited.ensures)

@@ -1,10 +1,13 @@
-use Rattle.std.proofs.Common.{◌≡◌, ◌+◌, ◌<◌, ◌∷◌, length, map, take, drop, get_or, ap, subst, arith}
+use Rattle.std.proofs.Common.{◌≡◌, ◌+◌, ◌<◌, ◌∷◌, List, length, map, take, drop, get_or, sym, ap, subst, arith}
 use Rattle.core_steps.specs.State.{State}
 use Rattle.core_steps.specs.Entering.{entered_all}
 use Rattle.linked_core.specs.declared.state.Endpoint.{Endpoint}
 use Rattle.linked_core.specs.Leads.{Leads}
+use Rattle.core_steps.specs.declared.kept.Exchange.{Exchange}
+use Rattle.linked_core.specs.Places.{RiseBy, number_of}
 use Rattle.linked_core.specs.States.{peer_link}
-use Rattle.linked_core.specs.Turns.{AreTimed, deeds_of, turns_deeds}
+use Rattle.linked_core.specs.Turns.{AreTimed, deeds_of, going_of, turns_deeds}
+use Rattle.linked_core.proofs.Ordered.{rise-sent}
 use Rattle.linked_core.proofs.TickDue.{drop-at}
 use Rattle.linked_core.proofs.TickTurns.{room-step, going-step, turns-take, entered-two}
 use Rattle.linked_core.proofs.turns.draft_turns.Goals as goal
@@ -27,6 +30,8 @@ each-preserved g c =
     let e = c.in_ok-draft_turn.ensures in
     let timed : AreTimed (k ∷ drop (i + 1) ks) = subst AreTimed left c.each.invariant.timed in
     record {
+      ordered = subst (λ (es : List Exchange). RiseBy number_of es) (sym e.going)
+          (rise-sent (going_of c.each.draft.next k) c.each.going c.each.invariant.ordered);
       timed = timed.1;
       room = room-step c.each.draft.next c.draft_turn.new.draft.next (peer_link x) k
           (map peer_link (drop (i + 1) xs)) (map peer_link (drop i xs)) (drop (i + 1) ks)

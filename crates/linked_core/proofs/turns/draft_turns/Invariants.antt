@@ -2,12 +2,14 @@ use Rattle.std.proofs.Common.{◌≡◌, ◌+◌, ◌≤◌, length, map, take, 
 use Rattle.core_steps.specs.State.{State}
 use Rattle.core_steps.specs.Entering.{entered_all, sent_as}
 use Rattle.linked_core.specs.Leads.{Leads}
+use Rattle.linked_core.specs.Places.{RiseBy, number_of}
 use Rattle.linked_core.specs.States.{peer_link}
 use Rattle.linked_core.specs.Turns.{AreTimed, turns_deeds, turns_going}
 use Rattle.linked_core.proofs.turns.draft_turns.Given as goal
 
 abbrev pub invariant-each : goal.invariant-each
 invariant-each g l = record {
+  ordered : RiseBy number_of l.going;
   timed : AreTimed (drop l.place l.turns);
   room : l.draft.next + length
       (turns_deeds (map peer_link (drop l.place l.endpoints)) (drop l.place l.turns)) ≤ 4294967295;

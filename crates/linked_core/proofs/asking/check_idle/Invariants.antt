@@ -1,6 +1,0 @@
-use Rattle.std.proofs.Common.{ℕ, take, Option}
-use Rattle.core_steps.specs.Resting.{HasConn}
-use Rattle.linked_core.proofs.asking.check_idle.Given as goal
-
-abbrev pub invariant-each : goal.invariant-each
-invariant-each l = (p : Option ℕ) → HasConn (take l.conn-index l.conns) l.id p → ⊥
