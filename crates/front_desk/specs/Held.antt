@@ -3,8 +3,8 @@ use Rattle.std.specs.Prelude.{ℕ, List}
 use Rattle.linked_core.specs.Values.{CoreValue}
 use Rattle.front_desk.specs.Lines.{Line}
 
--- a pass: its connection, its notes in order, how many asks its share of the ledger counts, and for how many more
--- notes it has room
+-- a pass: its connection, its notes in order, how many asks its share of the ledger counts, and for
+-- how many more notes it has room
 pub record Held : Type 0 where
   pub conn : ℕ
   pub lines : List Line

@@ -13,7 +13,8 @@ pub record Slip : Type 0 where
 abbrev pub slip_of : {R : Type 0} → Receipt R → Slip
 slip_of r = record { number = r.number; given = given_of r.answer }
 
--- a note: an ask by the number of its entry, an answer to one, or an answer to an ask of another session
+-- a note: an ask by the number of its entry, an answer to one, or an answer to an ask of another
+-- session
 pub data Line : Type 0 where
   made : (ask : ℕ) → Line
   got : (slip : Slip) → Line

@@ -29,9 +29,11 @@ AreOf s _ _ = ⊥
 
 -- The history has the receipt: its answer at that one's number, for the ask that has the receipt's.
 abbrev pub HasReceipt : List Written → Slip → Type 0
-HasReceipt h s = (s.given.ask ≡ s.number) × AreOf s (slice_get h s.given.number) (slice_get h s.number)
+HasReceipt h s =
+    (s.given.ask ≡ s.number) × AreOf s (slice_get h s.given.number) (slice_get h s.number)
 
--- The history has what is noted on a connection: its own asks, the answers to these, and others' answers.
+-- The history has what is noted on a connection: its own asks, the answers to these, and others'
+-- answers.
 abbrev pub HasLine : List Written → ℕ → Line → Type 0
 HasLine h c (made n) = AsksAt c (slice_get h n)
 HasLine h c (got s) = AsksAt c (slice_get h s.number) × HasReceipt h s
@@ -62,7 +64,21 @@ number_of (made n) = n
 number_of (got s) = s.number
 number_of (told s) = s.number
 
--- The history doesn't justify what one of the sessions noted, which has a note of the ask with this number.
+-- The history lacks one of the notes, which is of the ask with this number.
+abbrev pub Lacks : List Written → ℕ → List Line → ℕ → Type 0
+Lacks h c ls n = (l : Line) × Contains ls l × (number_of l ≡ n) × (HasLine h c l → ⊥)
+
+-- The notes, one of which is of that ask, aren't in order.
+abbrev pub AreOutOfOrder : List Line → ℕ → Type 0
+AreOutOfOrder ls n = (l : Line) × Contains ls l × (number_of l ≡ n) × (AreInOrder ls → ⊥)
+
+-- The history doesn't justify what the session noted, one note of which is of that ask.
+abbrev pub IsUnjustified : List Written → Held → ℕ → Type 0
+IsUnjustified h p n =
+    (l : Line) × Contains p.lines l × (number_of l ≡ n) × (IsJustified h p → ⊥)
+
+-- The history doesn't justify what one of the sessions noted, which has a note of the ask with this
+-- number.
 pub record IsStranger (h : List Written) (ps : List Held) (n : ℕ) : Type 0 where
   pub pass : Held
   pub note : Line

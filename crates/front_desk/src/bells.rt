@@ -10,8 +10,8 @@ use transformers::Relation;
 /// As many as connections may be open.
 const BELLS: usize = 256;
 
-/// One for each of 256 connections that follow each other: an answer wakes its own session, and hardly
-/// another one.
+/// One for each of 256 connections that follow each other: an answer wakes its own session, and
+/// hardly another one.
 #[derive(Drop)]
 pub struct Bells {
     all: Vec<Condvar>,

@@ -2,6 +2,7 @@
 
 ghost use Rattle.std.specs.Prelude.{◌≡◌, ◌+◌, ◌<◌, ◌++◌, ◌∷◌, [], IfOk, IfSome, IsTrue, IsFalse, OnErr};
 ghost use Rattle.std.specs.Arc.{arc_value};
+ghost use Rattle.linked_core.specs.Answering.{given_of};
 ghost use Rattle.front_desk.specs.Lines.{Slip, made, got};
 
 use crate::bells::Bells;
@@ -26,8 +27,8 @@ const LONGEST_REST: u64 = 60_000;
 /// How long one rests at least who had no memory to let time go on, in milliseconds.
 const PAUSE: u64 = 50;
 
-/// A shop and its clock under one lock, which is held for one step at a time, and never from an ask to its
-/// answer. Whenever it is free, one reading of the journal there is legal and at rest.
+/// A shop and its clock under one lock, which is held for one step at a time, and never from an ask
+/// to its answer. Whenever it is free, one reading of the journal there is legal and at rest.
 #[derive(Drop)]
 pub struct LockedDesk<R: Relation, C: Clock, L: Ledger> {
     state: Mutex<DeskState<R, C, L>>,
@@ -40,8 +41,8 @@ pub struct LockedDesk<R: Relation, C: Clock, L: Ledger> {
 /// The receipt of a ticket: its number and its request, and the answer.
 fn receipt_of<R: Relation>(ticket: Ticket<R>, answer: Answer<R>) -> Receipt<R>
     ensures number { result.number ≡ ticket.number }
-    ensures request { arc_value result.answer.mapped ≡ arc_value ticket.mapped }
-    ensures ask { result.answer.ask ≡ answer.ask }
+    ensures given { given_of result.answer
+        ≡ record (given_of answer) { mapping = arc_value ticket.mapped } }
 {
     Receipt {
         number: ticket.number,
@@ -123,8 +124,8 @@ impl<R: Relation, C: Clock, L: Ledger> LockedDesk<R, C, L> {
         ticket
     }
 
-    /// Waits for the answer to a ticket. None where the desk was shut. It takes no memory, and no work while
-    /// it waits.
+    /// Waits for the answer to a ticket. None where the desk was shut. It takes no memory, and no work
+    /// while it waits.
     pub fn answer<W: Wait>(&self, rt: &W, ticket: Ticket<R>) -> Option<Receipt<R>>
         ensures number { IfSome result (λ r. (r.number ≡ ticket.number)
             × (r.answer.ask ≡ ticket.number)) }
@@ -145,8 +146,8 @@ impl<R: Relation, C: Clock, L: Ledger> LockedDesk<R, C, L> {
         unreachable!()
     }
 
-    /// Waits for the answer to a ticket, and puts its receipt last into the pass. False where the desk was
-    /// shut. It takes no memory, and no work while it waits.
+    /// Waits for the answer to a ticket, and puts its receipt last into the pass. False where the desk
+    /// was shut. It takes no memory, and no work while it waits.
     pub fn wait<W: Wait>(&self, rt: &W, pass: &mut Pass<R, L>, ticket: Ticket<R>) -> bool
         requires { 0 < pass.old.places }
         ensures kept { IsTrue result → (s : Slip) × (s.number ≡ ticket.number)
@@ -188,9 +189,9 @@ impl<R: Relation, C: Clock, L: Ledger> LockedDesk<R, C, L> {
         Ok(state.clock.faults() == faults)
     }
 
-    /// Rests until there is something to do for `tick`, or a minute at most; after a tick that memory was
-    /// refused for, so that it is still due, at least for a pause. It takes no work while nothing is due.
-    /// False where the desk was shut.
+    /// Rests until there is something to do for `tick`, or a minute at most; after a tick that memory
+    /// was refused for, so that it is still due, at least for a pause. It takes no work while nothing
+    /// is due. False where the desk was shut.
     pub fn rest<W: Wait + std::rt::Clock>(&self, rt: &W, was_refused: bool) -> bool {
         let least = if was_refused { PAUSE } else { 0 };
         let mut guard = self.state.lock(rt);

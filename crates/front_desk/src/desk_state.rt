@@ -124,8 +124,8 @@ impl<R: Relation, C: Clock, L: Ledger> DeskState<R, C, L> {
         }
     }
 
-    /// How long the one who lets time go on rests, in milliseconds: until there is something to do, and so
-    /// long at least; without end where nothing is open.
+    /// How long the one who lets time go on rests, in milliseconds: until there is something to do,
+    /// and so long at least; without end where nothing is open.
     pub fn rest(&mut self, least: u64) -> Option<u64>
         ensures rests { (moment : ℕ)
             × (result ≡ rest_time (next_tick self.old.shop.core.state) moment least) }

@@ -49,9 +49,16 @@ impl<R: Relation, L: Ledger> Model for Pass<R, L> {
 
     ghost Value = { Held };
 
-    ghost view = { λ p. record { conn = p.conn; lines = map line_of p.notes.items; amount = p.share.amount; places = p.places } };
+    ghost view = { λ p. record {
+      conn = p.conn;
+      lines = map line_of p.notes.items;
+      amount = p.share.amount;
+      places = p.places;
+    } };
 
-    ghost invariant = { λ p. (p.share.parts ≡ 1) × (p.share.amount ≡ count_by is_made (map line_of p.notes.items)) × (p.places ≤ 2) × (vec_len p.notes + p.places ≤ vec_capacity p.notes) };
+    ghost invariant = { λ p. (p.share.parts ≡ 1)
+        × (p.share.amount ≡ count_by is_made (map line_of p.notes.items))
+        × (p.places ≤ 2) × (vec_len p.notes + p.places ≤ vec_capacity p.notes) };
 }
 
 impl<R: Relation, L: Ledger> Pass<R, L> {
@@ -121,7 +128,8 @@ impl<R: Relation, L: Ledger> Pass<R, L> {
         self.places -= 1;
     }
 
-    /// Notes an answer that the session was given. Its place was made by the ask, so this takes no memory.
+    /// Notes an answer that the session was given. Its place was made by the ask, so this takes no
+    /// memory.
     pub fn keep(&mut self, receipt: Receipt<R>)
         requires { 0 < self.old.places }
         ensures lines { self.new.lines ≡ self.old.lines ++ got (slip_of receipt) ∷ [] }
@@ -135,7 +143,8 @@ impl<R: Relation, L: Ledger> Pass<R, L> {
 
     /// Notes an answer that another session was given.
     pub fn told(&mut self, receipt: &Receipt<R>) -> Result<(), AllocError>
-        ensures ok { OnOk result (self.new.lines ≡ self.old.lines ++ told (slip_of receipt.now) ∷ []) }
+        ensures ok { OnOk result (self.new.lines
+            ≡ self.old.lines ++ told (slip_of receipt.now) ∷ []) }
         ensures err { OnErr result (self.new ≡ self.old) }
         ensures conn { self.new.conn ≡ self.old.conn }
         ensures amount { self.new.amount ≡ self.old.amount }

@@ -18,7 +18,8 @@ pub struct Report {
 /// Why the journal doesn't justify what the passes note. The numbers are those of asks.
 #[derive(Clone, Copy, Debug, PartialEq, Eq)]
 pub enum SettleFault {
-    /// A note that doesn't stand in the journal, or an ask before an answer that was noted before it.
+    /// A note that doesn't stand in the journal, or an ask before an answer that was noted before
+    /// it.
     Stranger(u32),
     /// Two receipts of one ask are held.
     Repeated(u32),

@@ -36,7 +36,8 @@ fn stranger_in<R: Relation, L: Ledger>(journal: &Journal<R>, passes: &[Pass<R, L
 
 /// Puts the ask of a note last, where its answer was given.
 fn put_answered<R: Relation>(numbers: &mut Vec<u32>, note: &Note<R>) -> Result<(), AllocError>
-    ensures { OnOk result (numbers.new.items ≡ numbers.old.items ++ answered_by (line_of note.now)) }
+    ensures { OnOk result (numbers.new.items
+        ≡ numbers.old.items ++ answered_by (line_of note.now)) }
 {
     match note {
         Note::Got(receipt) => {
@@ -52,7 +53,8 @@ fn put_all_answered<R: Relation>(
     numbers: &mut Vec<u32>,
     notes: &[Note<R>],
 ) -> Result<(), AllocError>
-    ensures { OnOk result (numbers.new.items ≡ numbers.old.items ++ answered_in (map line_of notes.now)) }
+    ensures { OnOk result (numbers.new.items
+        ≡ numbers.old.items ++ answered_in (map line_of notes.now)) }
 {
     'each: for note in notes {
         put_answered(numbers, note)?;
@@ -77,7 +79,8 @@ fn answered<R: Relation, L: Ledger>(
 /// Whether the set hadn't this number yet, which it gets.
 fn is_new(seen: &mut BTreeSet<u32>, number: u32) -> Result<bool, AllocError>
     ensures new { IfOk result (λ added. added ≡ not (contains nat_cmp seen.old number)) }
-    ensures has { OnOk result ((k : ℕ) → contains nat_cmp seen.new k ≡ (if number == k then true else contains nat_cmp seen.old k)) }
+    ensures has { OnOk result ((k : ℕ) → contains nat_cmp seen.new k
+        ≡ (if number == k then true else contains nat_cmp seen.old k)) }
 {
     Ok(seen.insert(number)?)
 }
@@ -141,10 +144,10 @@ fn is_whole<R: Relation, L: Ledger>(passes: &[Pass<R, L>], asks: u64) -> bool
     }
 }
 
-/// Whether the journal of a shop justifies all that the passes note, and has no ask but theirs. An Ok says
-/// that each answer which a pass was given or told stands in that one journal, at its number, for its ask
-/// and on its grounds, after which come the asks that are noted after it; that no two answers to one ask
-/// were given; and that no pass which asked is missing.
+/// Whether the journal of a shop justifies all that the passes note, and has no ask but theirs. An
+/// Ok says that each answer which a pass was given or told stands in that one journal, at its number,
+/// for its ask and on its grounds, after which come the asks that are noted after it; that no two
+/// answers to one ask were given; and that no pass which asked is missing.
 pub fn settle<R: Relation, L: Ledger>(
     alloc: Global,
     shop: Shop<R, L>,

@@ -1,10 +1,11 @@
 //! Whether a journal has what a session noted, and in that order.
 
 ghost use Rattle.std.specs.Prelude.{◌≡◌, ◌↔◌, None, IfSome, IsTrue, map, slice_get};
-ghost use Rattle.std.specs.List.{All, Contains};
+ghost use Rattle.std.specs.List.{All};
 ghost use Rattle.journal_book.specs.Views.{event_of};
-ghost use Rattle.front_desk.specs.Lines.{Line, slip_of, line_of};
-ghost use Rattle.front_desk.specs.Settled.{IsAskOn, AsksAt, AnswersAs, HasReceipt, HasLine, AreInOrder, IsJustified, number_of};
+ghost use Rattle.front_desk.specs.Lines.{slip_of, line_of};
+ghost use Rattle.front_desk.specs.Settled.{IsAskOn, AsksAt, AnswersAs, HasReceipt, HasLine};
+ghost use Rattle.front_desk.specs.Settled.{AreInOrder, IsJustified, Lacks, AreOutOfOrder, IsUnjustified, number_of};
 ghost use Rattle.front_desk.specs.Running.{next_from};
 
 use crate::pass::{Note, Pass};
@@ -35,7 +36,8 @@ fn asks_at<R: Relation>(journal: &Journal<R>, number: u32, conn: u32) -> bool
 
 /// Whether the first of these entries answers the second, as the receipt says.
 fn answers_as<R: Relation>(receipt: &Receipt<R>, answer: &Entry<R>, ask: &Entry<R>) -> bool
-    ensures { IsTrue result ↔ AnswersAs (slip_of receipt.now) answer.now.moment (event_of answer.now.event) (event_of ask.now.event) }
+    ensures { IsTrue result ↔ AnswersAs (slip_of receipt.now)
+        answer.now.moment (event_of answer.now.event) (event_of ask.now.event) }
 {
     match (&answer.event, &ask.event) {
         (
@@ -103,7 +105,7 @@ fn number_of<R: Relation>(note: &Note<R>) -> u32
 /// The number of the ask of the first note that the journal doesn't have.
 fn strange<R: Relation>(journal: &Journal<R>, conn: u32, notes: &[Note<R>]) -> Option<u32>
     ensures none { result ≡ None → All (HasLine journal.now.entries conn) (map line_of notes.now) }
-    ensures some { IfSome result (λ n. (l : Line) × Contains (map line_of notes.now) l × (number_of l ≡ n) × (HasLine journal.now.entries conn l → ⊥)) }
+    ensures some { IfSome result (Lacks journal.now.entries conn (map line_of notes.now)) }
 {
     'each: for note in notes {
         if !has_line(journal, conn, note) {
@@ -113,8 +115,8 @@ fn strange<R: Relation>(journal: &Journal<R>, conn: u32, notes: &[Note<R>]) -> O
     None
 }
 
-/// From which number on asks come after a note, as before it they come from this one on. None where the
-/// note is an ask that comes earlier.
+/// From which number on asks come after a note, as before it they come from this one on. None where
+/// the note is an ask that comes earlier.
 fn next_from<R: Relation>(note: &Note<R>, from: u64) -> Option<u64>
     ensures { result ≡ next_from (line_of note.now) from }
 {
@@ -135,7 +137,7 @@ fn next_from<R: Relation>(note: &Note<R>, from: u64) -> Option<u64>
 /// The first ask that doesn't come after an answer which stands before it.
 fn early<R: Relation>(notes: &[Note<R>]) -> Option<u32>
     ensures none { result ≡ None → AreInOrder (map line_of notes.now) }
-    ensures some { IfSome result (λ n. (l : Line) × Contains (map line_of notes.now) l × (number_of l ≡ n) × (AreInOrder (map line_of notes.now) → ⊥)) }
+    ensures some { IfSome result (AreOutOfOrder (map line_of notes.now)) }
 {
     let mut from = 0u64;
     'each: for note in notes {
@@ -150,7 +152,7 @@ fn early<R: Relation>(notes: &[Note<R>]) -> Option<u32>
 /// The number of an ask by which the journal doesn't justify what the pass notes.
 pub fn stranger<R: Relation, L: Ledger>(journal: &Journal<R>, pass: &Pass<R, L>) -> Option<u32>
     ensures none { result ≡ None → IsJustified journal.now.entries pass.now }
-    ensures some { IfSome result (λ n. (l : Line) × Contains pass.now.lines l × (number_of l ≡ n) × (IsJustified journal.now.entries pass.now → ⊥)) }
+    ensures some { IfSome result (IsUnjustified journal.now.entries pass.now) }
 {
     match strange(journal, pass.conn(), pass.notes()) {
         Some(number) => Some(number),

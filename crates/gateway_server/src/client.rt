@@ -26,8 +26,8 @@ impl Client {
         Client { stream, faults: 0 }
     }
 
-    /// Ends the connection so that the client still reads what was written: what it sends meanwhile is
-    /// read and dropped (RFC 9112, section 9.6). It takes two seconds at most.
+    /// Ends the connection so that the client still reads what was written: what it sends meanwhile
+    /// is read and dropped (RFC 9112, section 9.6). It takes two seconds at most.
     pub fn end<W: Clock>(&mut self, rt: &W) {
         let time = Duration::from_millis(FAREWELL);
         if self.stream.shutdown(Shutdown::Write).is_err()

@@ -9,8 +9,8 @@ use std::net::{Net, SocketAddr, TcpListener, TcpStream, UdpSocket};
 use std::time::Duration;
 use uri_map::Peer;
 
-/// How long a wait for a datagram lasts, in milliseconds: so long it takes at most until the loop sees
-/// that the desk was shut. A datagram that comes is taken at once.
+/// How long a wait for a datagram lasts, in milliseconds: so long it takes at most until the loop
+/// sees that the desk was shut. A datagram that comes is taken at once.
 const LONGEST_WAIT: u64 = 1000;
 
 /// Where connections are taken, and where datagrams go out and come in.
@@ -87,7 +87,8 @@ fn peer_at(from: SocketAddr) -> Peer {
     }
 }
 
-/// Whether the next receive may succeed: nothing came in time, or what was sent earlier found nobody.
+/// Whether the next receive may succeed: nothing came in time, or what was sent earlier found
+/// nobody.
 fn is_passing(kind: ErrorKind) -> bool {
     matches!(
         kind,

@@ -56,8 +56,8 @@ pub record AsksFirst (IsMeaning : Came → Sense → Type 0) (old new : List Lin
   pub asks : AreAsksOf IsMeaning items gained
   pub unanswered : IsUnanswered last cut
 
--- Nothing more is to be asked: the last request closes the connection, or in the rest none is whole,
--- and the parser can't say more yet.
+-- Nothing more is to be asked: the last request closes the connection, or in the rest none is
+-- whole, and the parser can't say more yet.
 pub record ClosesLast (items : List Item) : Type 0 where
   pub front : List Item
   pub last : Item
@@ -96,7 +96,8 @@ pub record AsksSoFar (IsMeaning : Came → Sense → Type 0) (old new : List Lin
   pub stands : Stands e rest
 
 -- One item's ask and its answer are noted.
-pub record IsAnswered (IsMeaning : Came → Sense → Type 0) (i : Item) (old new : List Line) : Type 0 where
+pub record IsAnswered (IsMeaning : Came → Sense → Type 0) (i : Item)
+    (old new : List Line) : Type 0 where
   pub number : ℕ
   pub slip : Slip
   pub lines : new ≡ old ++ (made number ∷ got slip ∷ [])

@@ -8,7 +8,7 @@ use Rattle.ask_model.specs.Views.{Rules}
 use Rattle.linked_core.specs.Answering.{Given}
 use Rattle.front_desk.specs.Lines.{Line, made, got}
 use Rattle.http_mapping.specs.Means.{Means}
-use Rattle.sessions.specs.Devices.{Grown}
+use Rattle.sessions.specs.Devices.{Grown, GrownPartly}
 
 -- What a client that waits with its body is told (RFC 9110 section 10.1.1).
 abbrev pub continue_text : List ℕ
@@ -20,7 +20,7 @@ MayGoOn before after = Grown before after [] ⊎ Grown before after continue_tex
 
 -- A part of that was written, or all of it, or nothing.
 abbrev pub IsPartly : Option (List ℕ) → Option (List ℕ) → Type 0
-IsPartly before after = (n : ℕ) × Grown before after (take n continue_text)
+IsPartly before after = GrownPartly before after continue_text
 
 -- Which HTTP responses tell an answer by these rules: what it came to is told with the age of the
 -- first reply that it rests on, and transformed along the routes.

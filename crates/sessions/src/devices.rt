@@ -1,7 +1,7 @@
 //! What sessions are given from outside.
 
 ghost use Rattle.std.specs.Prelude.{ℕ, ◌≡◌, ◌≤◌, [], length, take, IfOk, IfSome, OnOk, OnErr, IsTrue, IsFalse};
-ghost use Rattle.sessions.specs.Devices.{Rises, Grown};
+ghost use Rattle.sessions.specs.Devices.{Rises, Grown, GrownPartly};
 
 use uri_map::Peer;
 
@@ -31,7 +31,8 @@ pub trait Stream {
         ensures fits { IfOk result (λ n. n ≤ length buffer.new) }
         ensures length { length buffer.new ≡ length buffer.old }
         ensures same { Grown (written self.old) (written self.new) [] }
-        ensures came { IfOk result (λ n. Grown (gave self.old) (gave self.new) (take n buffer.new)) }
+        ensures came { IfOk result (λ n.
+            Grown (gave self.old) (gave self.new) (take n buffer.new)) }
         ensures none { OnErr result (Grown (gave self.old) (gave self.new) []) }
         ensures ok { OnOk result (count self.new ≡ count self.old) }
         ensures err { OnErr result (Rises (count self.old) (count self.new)) };
@@ -39,8 +40,10 @@ pub trait Stream {
     /// Writes the bytes, or a part of them where it fails.
     fn write(&mut self, bytes: &[u8]) -> Result<(), Failed>
         ensures quiet { Grown (gave self.old) (gave self.new) [] }
-        ensures ok { OnOk result (Grown (written self.old) (written self.new) bytes.now × (count self.new ≡ count self.old)) }
-        ensures err { OnErr result (((n : ℕ) × Grown (written self.old) (written self.new) (take n bytes.now)) × Rises (count self.old) (count self.new)) };
+        ensures ok { OnOk result (Grown (written self.old) (written self.new) bytes.now
+            × (count self.new ≡ count self.old)) }
+        ensures err { OnErr result (GrownPartly (written self.old) (written self.new) bytes.now
+            × Rises (count self.old) (count self.new)) };
 }
 
 /// Where datagrams go and come from.
@@ -48,8 +51,8 @@ pub trait Wire {
     /// Sends a datagram. One that can't be sent is lost.
     fn send(&self, peer: Peer, bytes: &[u8]);
 
-    /// Puts the datagram that comes in a short wait into the buffer, and answers how long it is and who sent
-    /// it.
+    /// Puts the datagram that comes in a short wait into the buffer, and answers how long it is and
+    /// who sent it.
     fn receive(&self, buffer: &mut [u8]) -> Result<Option<(usize, Peer)>, Failed>
         ensures fits { IfOk result (λ o. IfSome o (λ r. r.0 ≤ length buffer.new)) }
         ensures length { length buffer.new ≡ length buffer.old };

@@ -33,7 +33,8 @@ impl Reading {
     /// Reads as much of the connection as the edge has room for. False at its end.
     pub fn more<S: Stream>(&mut self, stream: &mut S) -> Result<bool, Failed>
         ensures same { Grown (S.written stream.old) (S.written stream.new) [] }
-        ensures takes { TakesMore self.old.edge self.new.edge (S.gave stream.old) (S.gave stream.new) }
+        ensures takes { TakesMore self.old.edge self.new.edge
+            (S.gave stream.old) (S.gave stream.new) }
         ensures end { result ≡ Ok false → Grown (S.gave stream.old) (S.gave stream.new) [] }
         ensures ok { OnOk result (S.count stream.new ≡ S.count stream.old) }
         ensures err { OnErr result (Rises (S.count stream.old) (S.count stream.new)) }

@@ -91,8 +91,10 @@ pub fn serve<R: Relation, C: Clock, L: Ledger, S: Stream, N: Wire, G: Gate, W: W
     ensures all { result.end ≡ End.Finished
         → AsksAll (Maps R.holds R.takes (rules_of (arc_value settings.now)))
         pass.lines result.pass.lines (S.gave stream.old) (S.gave stream.new) }
-    ensures read_fault { result.end ≡ End.ReadFault → Rises (S.count stream.old) (S.count stream.new) }
-    ensures write_fault { result.end ≡ End.WriteFault → Rises (S.count stream.old) (S.count stream.new) }
+    ensures read_fault { result.end ≡ End.ReadFault
+        → Rises (S.count stream.old) (S.count stream.new) }
+    ensures write_fault { result.end ≡ End.WriteFault
+        → Rises (S.count stream.old) (S.count stream.new) }
     ensures held { result.end ≡ End.Held → Rises (G.nays gate.old) (G.nays gate.new) }
 {
     let mut pass = pass;
@@ -128,7 +130,8 @@ fn talk<R: Relation, C: Clock, L: Ledger, S: Stream, N: Wire, G: Gate, W: Wait>(
         → AsksAll (Maps R.holds R.takes (rules_of (arc_value settings.now)))
         pass.old.lines pass.new.lines (S.gave stream.old) (S.gave stream.new) }
     ensures read_fault { result ≡ End.ReadFault → Rises (S.count stream.old) (S.count stream.new) }
-    ensures write_fault { result ≡ End.WriteFault → Rises (S.count stream.old) (S.count stream.new) }
+    ensures write_fault { result ≡ End.WriteFault
+        → Rises (S.count stream.old) (S.count stream.new) }
     ensures held { result ≡ End.Held → Rises (G.nays gate.old) (G.nays gate.new) }
 {
     let Ok(mut reading) = Reading::new(alloc) else {
@@ -176,7 +179,8 @@ fn read_on<S: Stream>(stream: &mut S, reading: &mut Reading) -> Option<End>
         → Grown (S.written stream.old) (S.written stream.new) [] }
     ensures end { result ≡ Some End.Finished → Grown (S.gave stream.old) (S.gave stream.new) [] }
     ensures faults { result ≡ Some End.ReadFault → Rises (S.count stream.old) (S.count stream.new) }
-    ensures write_fault { result ≡ Some End.WriteFault → Rises (S.count stream.old) (S.count stream.new) }
+    ensures write_fault { result ≡ Some End.WriteFault
+        → Rises (S.count stream.old) (S.count stream.new) }
     ensures others { result ≢ Some End.Held }
     ensures counted { result ≡ None → S.count stream.new ≡ S.count stream.old }
     ensures takes { TakesMore reading.old.edge reading.new.edge
@@ -216,7 +220,8 @@ fn turn<R: Relation, C: Clock, L: Ledger, S: Stream, N: Wire, G: Gate, W: Wait>(
     ensures some { IfSome result (λ end.
         ServesMost (MeansGiven R.holds R.takes (rules_of (arc_value settings.now)))
         pass.old.lines pass.new.lines (S.written stream.old) (S.written stream.new)) }
-    ensures write_fault { result ≡ Some End.WriteFault → Rises (S.count stream.old) (S.count stream.new) }
+    ensures write_fault { result ≡ Some End.WriteFault
+        → Rises (S.count stream.old) (S.count stream.new) }
     ensures held { result ≡ Some End.Held → Rises (G.nays gate.old) (G.nays gate.new) }
     ensures others { (result ≢ Some End.Finished) × (result ≢ Some End.ReadFault) }
     ensures counted { result ≡ None → S.count stream.new ≡ S.count stream.old }
