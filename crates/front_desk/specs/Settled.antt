@@ -2,6 +2,7 @@
 use Rattle.std.specs.Prelude.{◌≡◌, ◌≢◌, ⊤, ℕ, ◌+◌, ◌<◌, ◌≤◌, List, [], ◌∷◌, Option, Some, None, slice_get}
 use Rattle.std.specs.List.{All, AllPairs, Contains, flat_map}
 use Rattle.journal_book.specs.Entries.{Deed, Asks, Answers, Written}
+use Rattle.linked_core.specs.Answering.{Given, IsFound, CountsFrom}
 use Rattle.front_desk.specs.Held.{Held}
 use Rattle.front_desk.specs.Lines.{Line, Slip, made, got, told}
 
@@ -27,10 +28,18 @@ abbrev pub AreOf : Slip → Option Written → Option Written → Type 0
 AreOf s (Some answer) (Some ask) = AnswersAs s answer.moment answer.deed ask.deed
 AreOf s _ _ = ⊥
 
--- The history has the receipt: its answer at that one's number, for the ask that has the receipt's.
+-- The history shows what an ask came to: its grounds say that, from the moment on that it counts from.
+abbrev pub IsShown : List Written → Given → Type 0
+IsShown h g =
+    IsFound h g.found.told g.found.grounds g.mapping.sense
+    × CountsFrom h g.found.grounds g.moment g.heard
+
+-- The history has the receipt: its answer at that one's number, for the ask that has the receipt's,
+-- and it shows what that came to.
 abbrev pub HasReceipt : List Written → Slip → Type 0
 HasReceipt h s =
     (s.given.ask ≡ s.number) × AreOf s (slice_get h s.given.number) (slice_get h s.number)
+    × IsShown h s.given
 
 -- The history has what is noted on a connection: its own asks, the answers to these, and others'
 -- answers.

@@ -16,6 +16,7 @@ mod report;
 mod same;
 mod settling;
 mod shop;
+mod shown;
 mod standing;
 
 pub use clock::Clock;

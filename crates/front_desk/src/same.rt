@@ -3,8 +3,10 @@
 ghost use Rattle.std.specs.Prelude.{◌≡◌, ◌↔◌, IsTrue};
 ghost use Rattle.ask_model.specs.Views.{came_of, body_of, payload_of};
 ghost use Rattle.journal_book.specs.Views.{grounds_of};
+ghost use Rattle.datagram_verdict.specs.Findings.{response_of};
 
-use ask_model::{Mapped, Meaning, Payload};
+use ask_model::{Bytes, Mapped, Meaning, Payload};
+use datagram_verdict::Response;
 use http_edge::Incoming;
 use journal_book::Grounds;
 use transformers::Relation;
@@ -68,6 +70,55 @@ fn are_same_bytes(a: &[u8], b: &[u8]) -> bool
     ensures { IsTrue result ↔ (a.now ≡ b.now) }
 {
     a == b
+}
+
+/// Whether these are the same values of options.
+fn are_same_values(a: &[Bytes], b: &[Bytes]) -> bool
+    ensures { IsTrue result ↔ (a.now ≡ b.now) }
+{
+    if a.len() != b.len() {
+        return false;
+    }
+    'each: for i in 0..a.len() {
+        if !are_same_bytes(a[i].as_slice(), b[i].as_slice()) {
+            return false;
+        }
+    }
+    true
+}
+
+/// Whether both have the same value of an option, or none.
+fn is_same_value(a: &Option<Bytes>, b: &Option<Bytes>) -> bool
+    ensures { IsTrue result ↔ (a.now ≡ b.now) }
+{
+    match (a, b) {
+        (None, None) => true,
+        (Some(a), Some(b)) => are_same_bytes(a.as_slice(), b.as_slice()),
+        _ => false,
+    }
+}
+
+fn is_same_age(a: Option<u32>, b: Option<u32>) -> bool
+    ensures { IsTrue result ↔ (a ≡ b) }
+{
+    match (a, b) {
+        (None, None) => true,
+        (Some(a), Some(b)) => a == b,
+        _ => false,
+    }
+}
+
+/// Whether these are the same responses.
+pub fn is_same_response(a: &Response, b: &Response) -> bool
+    ensures { IsTrue result ↔ (response_of a.now ≡ response_of b.now) }
+{
+    let format = is_same_format(a.format, b.format);
+    let etag = is_same_value(&a.etag, &b.etag);
+    let max_age = is_same_age(a.max_age, b.max_age);
+    let path = are_same_values(a.location_path.as_slice(), b.location_path.as_slice());
+    let query = are_same_values(a.location_query.as_slice(), b.location_query.as_slice());
+    let body = are_same_bytes(a.body.as_slice(), b.body.as_slice());
+    a.code == b.code && format && etag && max_age && path && query && body
 }
 
 /// The body that came in.

@@ -22,16 +22,22 @@ use std::sync::ledger::Ledger;
 use transformers::Relation;
 
 /// The number of an ask by which the journal doesn't justify what some pass notes.
-fn stranger_in<R: Relation, L: Ledger>(journal: &Journal<R>, passes: &[Pass<R, L>]) -> Option<u32>
-    ensures none { result ≡ None → All (IsJustified journal.now.entries) passes.now }
-    ensures some { IfSome result (λ n. IsStranger journal.now.entries passes.now n) }
+fn stranger_in<R: Relation, L: Ledger>(
+    alloc: Global,
+    journal: &Journal<R>,
+    passes: &[Pass<R, L>],
+) -> Result<Option<u32>, AllocError>
+    ensures none { IfOk result (λ o. o ≡ None
+        → All (IsJustified journal.now.entries) passes.now) }
+    ensures some { IfOk result (λ o. IfSome o
+        (λ n. IsStranger journal.now.entries passes.now n)) }
 {
     'each: for pass in passes {
-        if let Some(number) = stranger(journal, pass) {
-            return Some(number);
+        if let Some(number) = stranger(alloc, journal, pass)? {
+            return Ok(Some(number));
         }
     }
-    None
+    Ok(None)
 }
 
 /// Puts the ask of a note last, where its answer was given.
@@ -146,8 +152,8 @@ fn is_whole<R: Relation, L: Ledger>(passes: &[Pass<R, L>], asks: u64) -> bool
 
 /// Whether the journal of a shop justifies all that the passes note, and has no ask but theirs. An
 /// Ok says that each answer which a pass was given or told stands in that one journal, at its number,
-/// for its ask and on its grounds, after which come the asks that are noted after it; that no two
-/// answers to one ask were given; and that no pass which asked is missing.
+/// for its ask and on its grounds, which say what it tells, and that the asks that are noted after it
+/// come after it; that no two answers to one ask were given; and that no pass which asked is missing.
 pub fn settle<R: Relation, L: Ledger>(
     alloc: Global,
     shop: Shop<R, L>,
@@ -168,7 +174,7 @@ pub fn settle<R: Relation, L: Ledger>(
         → asks_of shop.core.state.entries ≢ sum_by (λ p. p.amount) passes.items }
 {
     let journal = shop.journal();
-    if let Some(number) = stranger_in(journal, &passes) {
+    if let Some(number) = stranger_in(alloc, journal, &passes)? {
         return Err(SettleFault::Stranger(number));
     }
     let numbers = answered(alloc, &passes)?;

@@ -1,6 +1,6 @@
 //! Whether a journal has what a session noted, and in that order.
 
-ghost use Rattle.std.specs.Prelude.{◌≡◌, ◌↔◌, None, IfSome, IsTrue, map, slice_get};
+ghost use Rattle.std.specs.Prelude.{◌≡◌, ◌↔◌, None, IfOk, IfSome, IsTrue, map, slice_get};
 ghost use Rattle.std.specs.List.{All};
 ghost use Rattle.journal_book.specs.Views.{event_of};
 ghost use Rattle.front_desk.specs.Lines.{slip_of, line_of};
@@ -11,7 +11,9 @@ ghost use Rattle.front_desk.specs.Running.{next_from};
 use crate::pass::{Note, Pass};
 use crate::receipt::Receipt;
 use crate::same::{is_same_grounds, means_same};
+use crate::shown::is_shown;
 use journal_book::{Entry, Event, Journal};
+use std::alloc::{AllocError, Global};
 use std::sync::ledger::Ledger;
 use transformers::Relation;
 
@@ -62,32 +64,44 @@ fn answers_as<R: Relation>(receipt: &Receipt<R>, answer: &Entry<R>, ask: &Entry<
 }
 
 /// Whether the journal has the receipt.
-fn has_receipt<R: Relation>(journal: &Journal<R>, receipt: &Receipt<R>) -> bool
-    ensures { IsTrue result ↔ HasReceipt journal.now.entries (slip_of receipt.now) }
+fn has_receipt<R: Relation>(
+    alloc: Global,
+    journal: &Journal<R>,
+    receipt: &Receipt<R>,
+) -> Result<bool, AllocError>
+    ensures { IfOk result (λ has. IsTrue has
+        ↔ HasReceipt journal.now.entries (slip_of receipt.now)) }
 {
     let answer = journal.get(receipt.answer.number as usize);
     let ask = journal.get(receipt.number as usize);
     match (answer, ask) {
         (Some(answer), Some(ask)) => {
             let answers = answers_as(receipt, answer, ask);
-            receipt.answer.ask == receipt.number && answers
+            let shown = is_shown(alloc, journal, &receipt.answer)?;
+            Ok(receipt.answer.ask == receipt.number && answers && shown)
         }
-        _ => false,
+        _ => Ok(false),
     }
 }
 
 /// Whether the journal has what is noted on the connection.
-fn has_line<R: Relation>(journal: &Journal<R>, conn: u32, note: &Note<R>) -> bool
-    ensures { IsTrue result ↔ HasLine journal.now.entries conn (line_of note.now) }
+fn has_line<R: Relation>(
+    alloc: Global,
+    journal: &Journal<R>,
+    conn: u32,
+    note: &Note<R>,
+) -> Result<bool, AllocError>
+    ensures { IfOk result (λ has. IsTrue has
+        ↔ HasLine journal.now.entries conn (line_of note.now)) }
 {
     match note {
-        Note::Asked(number) => asks_at(journal, *number, conn),
+        Note::Asked(number) => Ok(asks_at(journal, *number, conn)),
         Note::Got(receipt) => {
             let own = asks_at(journal, receipt.number, conn);
-            let stands = has_receipt(journal, receipt);
-            own && stands
+            let stands = has_receipt(alloc, journal, receipt)?;
+            Ok(own && stands)
         }
-        Note::Told(receipt) => has_receipt(journal, receipt),
+        Note::Told(receipt) => has_receipt(alloc, journal, receipt),
     }
 }
 
@@ -103,16 +117,23 @@ fn number_of<R: Relation>(note: &Note<R>) -> u32
 }
 
 /// The number of the ask of the first note that the journal doesn't have.
-fn strange<R: Relation>(journal: &Journal<R>, conn: u32, notes: &[Note<R>]) -> Option<u32>
-    ensures none { result ≡ None → All (HasLine journal.now.entries conn) (map line_of notes.now) }
-    ensures some { IfSome result (Lacks journal.now.entries conn (map line_of notes.now)) }
+fn strange<R: Relation>(
+    alloc: Global,
+    journal: &Journal<R>,
+    conn: u32,
+    notes: &[Note<R>],
+) -> Result<Option<u32>, AllocError>
+    ensures none { IfOk result (λ o. o ≡ None
+        → All (HasLine journal.now.entries conn) (map line_of notes.now)) }
+    ensures some { IfOk result (λ o. IfSome o
+        (Lacks journal.now.entries conn (map line_of notes.now))) }
 {
     'each: for note in notes {
-        if !has_line(journal, conn, note) {
-            return Some(number_of(note));
+        if !has_line(alloc, journal, conn, note)? {
+            return Ok(Some(number_of(note)));
         }
     }
-    None
+    Ok(None)
 }
 
 /// From which number on asks come after a note, as before it they come from this one on. None where
@@ -150,12 +171,17 @@ fn early<R: Relation>(notes: &[Note<R>]) -> Option<u32>
 }
 
 /// The number of an ask by which the journal doesn't justify what the pass notes.
-pub fn stranger<R: Relation, L: Ledger>(journal: &Journal<R>, pass: &Pass<R, L>) -> Option<u32>
-    ensures none { result ≡ None → IsJustified journal.now.entries pass.now }
-    ensures some { IfSome result (IsUnjustified journal.now.entries pass.now) }
+pub fn stranger<R: Relation, L: Ledger>(
+    alloc: Global,
+    journal: &Journal<R>,
+    pass: &Pass<R, L>,
+) -> Result<Option<u32>, AllocError>
+    ensures none { IfOk result (λ o. o ≡ None → IsJustified journal.now.entries pass.now) }
+    ensures some { IfOk result (λ o. IfSome o
+        (IsUnjustified journal.now.entries pass.now)) }
 {
-    match strange(journal, pass.conn(), pass.notes()) {
-        Some(number) => Some(number),
-        None => early(pass.notes()),
+    match strange(alloc, journal, pass.conn(), pass.notes())? {
+        Some(number) => Ok(Some(number)),
+        None => Ok(early(pass.notes())),
     }
 }

@@ -10,7 +10,7 @@ pub each-preserved : goal.each-preserved
 each-preserved g c =
     let h = c.args.journal.now.entries in
     All-more (IsJustified h) c.args.passes.now c.each.pass-index c.pass-item.result c.each-test.true c.each.invariant
-    (subst (IsJustified h) c.pass-item.is (c.stranger.ensures.none c.in_default.is))
+    (subst (IsJustified h) c.pass-item.is (c.in_ok-number.ensures.none c.in_default.is))
 
 pub returns-clause-none : goal.returns-clause-none
 returns-clause-none g c e =
