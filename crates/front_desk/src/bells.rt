@@ -40,13 +40,27 @@ impl Bells {
         &self.all[conn as usize % BELLS]
     }
 
-    /// Wakes those who are answered by the entries from this number on.
-    pub fn ring<R: Relation>(&self, journal: &Journal<R>, from: usize) {
+    /// Wakes those who are answered by the entries from this number on, but for the first of them,
+    /// and answers its connection: who is woken while the lock is held has to wait for it once more.
+    pub fn ring<R: Relation>(&self, journal: &Journal<R>, from: usize) -> Option<u32> {
         let entries = journal.entries();
+        let mut first = None;
         'each: for entry in &entries[from.min(entries.len())..] {
             if let Event::Answered { conn, .. } = &entry.event {
-                self.of(*conn).notify_all();
+                if first.is_none() {
+                    first = Some(*conn);
+                } else {
+                    self.of(*conn).notify_all();
+                }
             }
+        }
+        first
+    }
+
+    /// Wakes the one who waits on this connection.
+    pub fn wake(&self, conn: Option<u32>) {
+        if let Some(conn) = conn {
+            self.of(conn).notify_all();
         }
     }
 

@@ -167,26 +167,33 @@ impl<R: Relation, C: Clock, L: Ledger> LockedDesk<R, C, L> {
 
     /// Takes a datagram that came from this peer.
     pub fn heard<W: Wait>(&self, rt: &W, peer: Peer, bytes: &[u8]) -> Result<(), Memory> {
-        let mut guard = self.state.lock(rt);
-        let state = &mut *guard;
-        let from = state.shop.journal().len();
-        state.heard(peer, bytes)?;
-        self.bells.ring(state.shop.journal(), from);
-        if state.is_due_sooner() {
-            self.due.notify_one();
-        }
+        let first = {
+            let mut guard = self.state.lock(rt);
+            let state = &mut *guard;
+            let from = state.shop.journal().len();
+            state.heard(peer, bytes)?;
+            if state.is_due_sooner() {
+                self.due.notify_one();
+            }
+            self.bells.ring(state.shop.journal(), from)
+        };
+        self.bells.wake(first);
         Ok(())
     }
 
     /// Lets time go on. False where the clock failed.
     pub fn tick<W: Wait>(&self, rt: &W) -> Result<bool, Memory> {
-        let mut guard = self.state.lock(rt);
-        let state = &mut *guard;
-        let from = state.shop.journal().len();
-        let faults = state.clock.faults();
-        state.tick()?;
-        self.bells.ring(state.shop.journal(), from);
-        Ok(state.clock.faults() == faults)
+        let (first, ticked) = {
+            let mut guard = self.state.lock(rt);
+            let state = &mut *guard;
+            let from = state.shop.journal().len();
+            let faults = state.clock.faults();
+            state.tick()?;
+            let first = self.bells.ring(state.shop.journal(), from);
+            (first, state.clock.faults() == faults)
+        };
+        self.bells.wake(first);
+        Ok(ticked)
     }
 
     /// Rests until there is something to do for `tick`, or a minute at most; after a tick that memory
