@@ -20,3 +20,5 @@ mod settling;
 mod sockets;
 #[cfg(test)]
 mod threads;
+#[cfg(test)]
+mod together;

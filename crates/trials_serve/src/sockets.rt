@@ -19,12 +19,12 @@ use std::time::Duration;
 const PATIENCE: u64 = 20;
 
 /// A port of this machine that the system chooses.
-fn any_port() -> SocketAddr {
+pub fn any_port() -> SocketAddr {
     SocketAddr::new(IpAddr::V4(Ipv4Addr::LOCALHOST), 0)
 }
 
 /// Starts a gateway, and answers where it takes connections.
-fn start<
+pub fn start<
     W: Threads
         + Wait
         + Log
@@ -55,7 +55,7 @@ fn open_device<W: Net>(rt: &W) -> Option<UdpSocket> {
 }
 
 /// A client's connection to the gateway.
-fn open_client<W: Net<Stream = TcpStream>>(rt: &W, gateway: SocketAddr) -> Option<TcpStream> {
+pub fn open_client<W: Net<Stream = TcpStream>>(rt: &W, gateway: SocketAddr) -> Option<TcpStream> {
     let client = TcpStream::connect(rt, gateway).ok()?;
     let patience = Duration::from_secs(PATIENCE);
     client.set_read_timeout(Some(patience)).ok()?;
