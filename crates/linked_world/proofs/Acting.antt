@@ -15,7 +15,7 @@ use Rattle.linked_world.specs.declared.engine.Engine.{Engine}
 use Rattle.proxy_acts.specs.declared.input.When.{When}
 use Rattle.proxy_acts.specs.declared.input.Happening.TheVariants as H
 use Rattle.proxy_acts.specs.declared.input.Output.{Output}
-use Rattle.proxy_acts.specs.Acts.{Act, Opens, TurnsAway, Takes, Sends, Tells, GoesOn, Rests, Leaves, Misses, Served, Terms, Does, IsClosing, Ends, RestsAt, at, continue_text}
+use Rattle.proxy_acts.specs.Acts.{Act, Opens, TurnsAway, Takes, Sends, Tells, GoesOn, Rests, Leaves, Misses, Served, Terms, Does, IsClosing, Ends, RestsAt, IsNext, at, continue_text}
 use Rattle.proxy_acts.specs.Emissions.{Emission, emissions, emission_of, Says, Goes, Closed, Turned}
 use Rattle.linked_world.specs.Engines.{IsShutting, IsShut, LeadsAfter}
 use Rattle.linked_world.specs.Leading.{Leads, LeadsBy, served_of}
@@ -119,11 +119,11 @@ module _ {R : Type 0} (M : Terms) (w : When) where
 
   pub goes-on-lead : (c : ℕ) (old new : Engine R) (before after : List Output)
       → ChangesAt Continues c old.table.current new.table.current → new.core ≡ old.core
-      → emissions after ≡ emissions before ++ Says c continue_text ∷ []
+      → IsNext c old.core → emissions after ≡ emissions before ++ Says c continue_text ∷ []
       → LeadsBy M w (AreFor c) old before new after
-  goes-on-lead c old new before after h core added =
+  goes-on-lead c old new before after h core next added =
       leads-one M w (AreFor c) (GoesOn c) (served_of old) (served_of new) (emissions before) (Says c continue_text ∷ []) (emissions after)
-      (refl, tt) (tells-on c old.table.current new.table.current h, core, refl) added
+      (refl, tt) (tells-on c old.table.current new.table.current h, core, refl, next) added
 
   -- the answer is told
   pub tells-lead : (g : Given) (v : CoreValue) (old new : Engine R) (before mid after : List Output) (rest : List Emission)

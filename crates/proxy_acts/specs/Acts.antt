@@ -71,6 +71,11 @@ continue_text = codes "HTTP/1.1 100 Continue\r\n\r\n"
 abbrev pub IsAllTold : ℕ → CoreValue → Type 0
 IsAllTold c v = AllByRecursion (λ (u : Untaken). u.conn ≢ c) v.untaken
 
+-- What the connection asks next is its turn: it waits for no answer, and each that came was told.
+pub record IsNext (c : ℕ) (v : CoreValue) : Type 0 where
+  pub idle : HasConn v.state.conns c None
+  pub told : IsAllTold c v
+
 -- What stands first is taken off the connection's text, and it is asked what that means.
 pub record AsksItem (M : Terms) (c : ℕ) (ask : Ask) (old new : Served) : Type 0 where
   pub item : Item
@@ -154,7 +159,7 @@ Does M w Sends old out new = IsSending old out new
 Does M w (Tells c k) old out new = IsTelling M w c k old out new
 Does M w (GoesOn c) old out new =
     TellsToGoOn c old.unasked new.unasked × (new.core ≡ old.core)
-    × (out ≡ Says c continue_text ∷ [])
+    × (out ≡ Says c continue_text ∷ []) × IsNext c old.core
 Does M w (Rests c) old out new = (new ≡ old) × (out ≡ []) × RestsAt c old
 Does M w (Leaves c) old out new = IsClosing w c old new × (out ≡ [])
 Does M w (Misses c) old out new = (new ≡ old) × (out ≡ []) × IsUnknown c old.core

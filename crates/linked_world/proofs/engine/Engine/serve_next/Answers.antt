@@ -25,6 +25,7 @@ pub returns-in_ok-tell_continue-in-Continue-clause-leads : goal.returns-in_ok-te
 returns-in_ok-tell_continue-in-Continue-clause-leads g c =
     goes-on-lead _ _ c.args.number c.args.self.now (record c.args.self.now { table = c.next.new.self }) c.args.outputs.now.items
     c.tell_continue.new.outputs.items (rw (c.in-Continue.is) at c.in_ok-incoming.ensures.reads) refl
+    (record { idle = c.is_idle.ensures.0 c.if-not-is_idle.false; told = c.requires.told })
     c.in_ok-tell_continue-in-Continue.ensures
 
 pub returns-in_ok-tell_continue-in-Continue-clause-goes_on : goal.returns-in_ok-tell_continue-in-Continue-clause-goes_on
