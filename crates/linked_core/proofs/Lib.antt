@@ -3,6 +3,8 @@ pub mod Openings
 pub mod Placing
 pub mod Standing
 pub mod Ordered
+pub mod Hinted
+pub mod Waiting
 pub mod Stepping
 pub mod Takes
 pub mod Sounding
@@ -19,6 +21,7 @@ pub mod TickDue
 pub mod TickExpiring
 pub mod TickLeads
 pub mod TickSince
+pub mod Sinces
 pub mod TickSound
 pub mod TickTurns
 pub mod TickBack

@@ -17,10 +17,10 @@ use Rattle.core_steps.proofs.InRoom.{fits-parts}
 use Rattle.core_steps.proofs.Tables.{entries-length}
 use Rattle.linked_core.specs.Due.{IsSince}
 
-noted-is : (x y : Noted) → Some x ≡ Some y → x ≡ y
+pub noted-is : (x y : Noted) → Some x ≡ Some y → x ≡ y
 noted-is x y e = cc
 
-at-early : (l : List Noted) (n : ℕ) (x : Noted) → Legal l → at l n ≡ Some x
+pub at-early : (l : List Noted) (n : ℕ) (x : Noted) → Legal l → at l n ≡ Some x
     → x.written.moment ≤ newest l
 at-early [] n x legal e = absurd cc
 at-early (y ∷ older) n x legal e = elim (eqb_tells n (length older)) [

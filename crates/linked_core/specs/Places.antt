@@ -1,5 +1,5 @@
 -- Where connections and exchanges stand: each in the order of its numbers.
-use Rattle.std.specs.Prelude.{◌≡◌, ℕ, ◌<◌, Bool, true, false, ◌==◌, List, [], ◌∷◌, zero, suc, ⊤}
+use Rattle.std.specs.Prelude.{◌≡◌, ℕ, ◌<◌, ◌≤◌, Bool, true, false, ◌==◌, List, [], ◌∷◌, zero, suc, ⊤}
 use Rattle.std.specs.List.{AllByRecursion}
 use Rattle.history_laws.specs.Numbering.{token_number}
 use Rattle.core_steps.specs.declared.kept.Conn.{Conn}
@@ -29,3 +29,8 @@ IsOnlyAt q (x ∷ xs) (suc i) = (q x ≡ false) × IsOnlyAt q xs i
 
 abbrev pub has_id : ℕ → Conn → Bool
 has_id c x = x.id == c
+
+-- Each was opened when those before it were, or later.
+abbrev pub OpenLater : List Exchange → Type 0
+OpenLater [] = ⊤
+OpenLater (e ∷ es) = AllByRecursion (λ (f : Exchange). e.since ≤ f.since) es × OpenLater es

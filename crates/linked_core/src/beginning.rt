@@ -1,6 +1,6 @@
 //! Asks that begin an exchange.
 
-ghost use Rattle.std.specs.Prelude.{◌≡◌, ◌≤◌, ◌<◌, ◌+◌, ◌^◌, ◌∷◌, ◌++◌, [], List, None, false, length, vec_len, vec_capacity, sum_by, IfOk, IfErr, OnOk, Ok, Err, Some};
+ghost use Rattle.std.specs.Prelude.{◌≡◌, ◌≤◌, ◌<◌, ◌+◌, ◌^◌, ◌∷◌, ◌++◌, [], List, None, false, length, map, vec_len, vec_capacity, sum_by, IfOk, IfErr, OnOk, Ok, Err, Some};
 ghost use Rattle.std.specs.Arc.{arc_value};
 ghost use Rattle.ask_model.specs.Datagrams.{asked_peer};
 ghost use Rattle.ask_model.specs.Sizes.{capped, came_size, request_limit};
@@ -9,7 +9,9 @@ ghost use Rattle.journal_book.specs.Views.{ask_of};
 ghost use Rattle.message_layer.specs.Prepared.{IsUnnumberedCon};
 ghost use Rattle.message_layer.specs.Sending.{waits, IsSubmitted};
 ghost use Rattle.core_steps.specs.State.{State as CoreState, link_of};
+ghost use Rattle.core_steps.specs.Calls.{peer_of};
 ghost use Rattle.core_steps.specs.Resting.{HasConn};
+ghost use Rattle.core_steps.specs.Room.{AreApart};
 ghost use Rattle.linked_core.specs.Beginning.{IsRequest, IsTextFor, IsTimely, sent_first, with_exchange, IsBegun, IsBegunBy, IsEntered, MayBegin, exchange_by};
 ghost use Rattle.linked_core.specs.Drafts.{Drafts};
 ghost use Rattle.linked_core.specs.Places.{RiseBy, id_of};
@@ -217,6 +219,7 @@ fn prepare<R: Relation>(
 ) -> Result<Prepared, LinkFault>
     requires moment { moment ≤ 2 ^ 62 }
     requires message { IsUnnumberedCon token text.now }
+    requires apart { AreApart (map peer_of (state_of s.old).links) }
     ensures same { SeesSame s.old s.new }
     ensures may { IfOk result (λ x.
         MaySubmitTo moment peer s.new.endpoints.items x.place x.submission) }
@@ -225,7 +228,16 @@ fn prepare<R: Relation>(
     ensures waiting { IfOk result (λ x. x.submission.waiting ≡ waits token text.now word) }
     ensures fault { IsSubmitted moment (link_of (state_of s.old).links peer) result }
 {
-    submitting::prepare(alloc, &mut s.endpoints, peer, token, text, moment, word)
+    submitting::prepare(
+        alloc,
+        &mut s.hints,
+        &mut s.endpoints,
+        peer,
+        token,
+        text,
+        moment,
+        word,
+    )
 }
 
 /// Enters the ask, whose message was prepared.

@@ -19,6 +19,7 @@ ghost use Rattle.linked_core.specs.States.{core_of, number_in};
 ghost use Rattle.linked_core.specs.Taking.{IsTaken, IsSent};
 
 use crate::answer::{Answer, Ticket};
+use crate::endpoints::Hints;
 use crate::fault::{AskFault, OpenFault};
 use crate::outgoing::Datagram;
 use crate::room::ENTRIES;
@@ -61,6 +62,7 @@ impl<R: Relation> Core<R> {
     pub fn new(alloc: Global) -> Result<Core<R>, AllocError>
         ensures { IfOk result (λ c. c ≡ core_of start [] []) }
     {
+        let hints = Hints::new(alloc)?;
         let mut journal = Journal::new(alloc);
         journal.make_room(ENTRIES as usize)?;
         Ok(Core {
@@ -75,6 +77,7 @@ impl<R: Relation> Core<R> {
                 conns: Vec::new(alloc),
                 exchanges: Vec::new(alloc),
                 endpoints: Vec::new(alloc),
+                hints,
                 answers: Vec::new(alloc),
                 sends: VecDeque::new(alloc),
             },

@@ -5,7 +5,7 @@ ghost use Rattle.std.specs.List.{AllByRecursion};
 ghost use Rattle.core_steps.specs.Due.{earlier, earliest, timer, deadline, next_due};
 ghost use Rattle.core_steps.specs.Steps.{is_past};
 ghost use Rattle.linked_core.specs.Due.{IsSince, next_late, next_tick};
-ghost use Rattle.linked_core.specs.Places.{RiseBy, id_of};
+ghost use Rattle.linked_core.specs.Places.{OpenLater, RiseBy, id_of};
 ghost use Rattle.linked_core.specs.Sound.{IsSound};
 ghost use Rattle.linked_core.specs.States.{state_of, peer_link};
 
@@ -46,16 +46,16 @@ fn earliest_timer(endpoints: &[Endpoint]) -> Option<u64>
     first
 }
 
-/// The first moment at which an exchange took too long.
+/// The first moment at which an exchange took too long: the first does, which was opened first.
 fn earliest_deadline(exchanges: &[Exchange]) -> Option<u64>
-    requires { AllByRecursion IsSince exchanges.now }
+    requires early { AllByRecursion IsSince exchanges.now }
+    requires ordered { OpenLater exchanges.now }
     ensures { result ≡ earliest deadline exchanges.now }
 {
-    let mut first = None;
-    'each: for e in exchanges {
-        first = earlier(first, Some(e.since + WAIT));
+    match exchanges {
+        [] => None,
+        [first, ..] => Some(first.since + WAIT),
     }
-    first
 }
 
 /// When a tick has something to do, in a journal that isn't sealed.

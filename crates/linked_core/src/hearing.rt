@@ -28,7 +28,6 @@ ghost use Rattle.linked_core.specs.States.{peer_link, state_of, seen, given_in, 
 
 use crate::answer::Answer;
 use crate::draft::Draft;
-use crate::endpoints::find_endpoint;
 use crate::exchanges;
 use crate::requests::request_of;
 use crate::room::takes;
@@ -447,7 +446,7 @@ pub fn hear<R: Relation>(
     if s.sealed {
         return Ok(());
     }
-    let Some(place) = find_endpoint(&s.endpoints, &peer) else {
+    let Some(place) = s.hints.find(&s.endpoints, &peer) else {
         return Ok(());
     };
     match prepare_at(&mut s.endpoints, place, datagram, moment)? {

@@ -1,6 +1,6 @@
 //! The room of a journal, and what of it is held free.
 
-ghost use Rattle.std.specs.Prelude.{ℕ, ◌≡◌, false, count_by, sum_by};
+ghost use Rattle.std.specs.Prelude.{ℕ, ◌≡◌, ◌≤◌, false, length, count_by, sum_by};
 ghost use Rattle.journal_book.specs.Entries.{entry_size};
 ghost use Rattle.core_steps.specs.Room.{has_asked, fits};
 ghost use Rattle.core_steps.specs.Steps.{opens};
@@ -36,6 +36,18 @@ fn has_room(entries: u64, bytes: u64, conns: u64, pending: u64) -> bool
     entries + conns + pending + 1 <= ENTRIES && bytes + 64 * conns + 90000 * pending + 64 <= BYTES
 }
 
+/// Whether that is so for the connections that wait among these. Where all of them could wait, they
+/// aren't counted.
+fn has_room_for(entries: u64, bytes: u64, count: u64, conns: &[Conn]) -> bool
+    requires { length conns.now ≤ count }
+    ensures { result ≡ fits_by entries bytes count (count_by has_asked conns.now) }
+{
+    if has_room(entries, bytes, count, count) {
+        return true;
+    }
+    has_room(entries, bytes, count, pending_count(conns) as u64)
+}
+
 /// Whether the journal takes what was drafted.
 pub fn takes<R: Relation>(s: &State<R>, draft: &Draft<R>) -> bool
     requires unsealed { s.now.sealed ≡ false }
@@ -45,12 +57,7 @@ pub fn takes<R: Relation>(s: &State<R>, draft: &Draft<R>) -> bool
     let entries = (s.journal.len() as u64).saturating_add(draft.len() as u64);
     let bytes = s.bytes.saturating_add(draft.bytes());
     let conns = draft.conns();
-    has_room(
-        entries,
-        bytes,
-        conns.len() as u64,
-        pending_count(conns) as u64,
-    )
+    has_room_for(entries, bytes, conns.len() as u64, conns)
 }
 
 /// Whether the journal takes one more connection.
@@ -60,10 +67,10 @@ pub fn takes_conn<R: Relation>(s: &State<R>) -> bool
     ensures { (t : ℕ) → result ≡ fits (opens t (state_of s.now)) }
 {
     let conns = s.conns.as_slice();
-    has_room(
+    has_room_for(
         (s.journal.len() as u64).saturating_add(1),
         s.bytes.saturating_add(64),
         (conns.len() as u64).saturating_add(1),
-        pending_count(conns) as u64,
+        conns,
     )
 }

@@ -9,6 +9,7 @@ ghost use Rattle.linked_core.specs.States.{state_of, outgoing, given_in, with_dr
 
 use crate::answer::Answer;
 use crate::draft::Draft;
+use crate::endpoints::Hints;
 use crate::outgoing::Datagram;
 use core_steps::{Conn, Exchange};
 use journal_book::{Entry, Journal};
@@ -41,6 +42,8 @@ pub struct State<R: Relation> {
     pub conns: Vec<Conn>,
     pub exchanges: Vec<Exchange>,
     pub endpoints: Vec<Endpoint>,
+    /// where endpoints were found last
+    pub hints: Hints,
     /// the answers that aren't taken yet
     pub answers: Vec<Answer<R>>,
     /// the datagrams that aren't taken yet

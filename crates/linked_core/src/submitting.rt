@@ -5,6 +5,8 @@ ghost use Rattle.uri_map.specs.declared.peer.Peer.{Peer as PeerValue};
 ghost use Rattle.message_layer.specs.Values.{empty_link};
 ghost use Rattle.message_layer.specs.Sending.{waits, submitted, IsSubmitted};
 ghost use Rattle.message_layer.specs.Prepared.{IsUnnumberedCon, IsSubmission, MaySubmit};
+ghost use Rattle.core_steps.specs.Calls.{peer_of};
+ghost use Rattle.core_steps.specs.Room.{AreApart};
 ghost use Rattle.core_steps.specs.State.{link_of, with_link};
 ghost use Rattle.core_steps.specs.Steps.{given_out};
 ghost use Rattle.linked_core.specs.declared.state.Endpoint.{Endpoint as EndpointValue};
@@ -12,7 +14,7 @@ ghost use Rattle.linked_core.specs.Endpoints.{IsFirstAt, HasNone};
 ghost use Rattle.linked_core.specs.States.{peer_link};
 ghost use Rattle.linked_core.specs.Submitting.{MaySubmitTo, HasPlaceFor, submitted_to, new_link};
 
-use crate::endpoints::find_endpoint;
+use crate::endpoints::Hints;
 use crate::state::Endpoint;
 use coap_codec::Token;
 use message_layer::{Link, LinkFault, Submission};
@@ -136,6 +138,7 @@ fn prepare_new(
 /// asked of it before.
 pub fn prepare(
     alloc: Global,
+    hints: &mut Hints,
     endpoints: &mut Vec<Endpoint>,
     peer: Peer,
     token: Token,
@@ -145,6 +148,7 @@ pub fn prepare(
 ) -> Result<Prepared, LinkFault>
     requires moment { moment ≤ 2 ^ 62 }
     requires message { IsUnnumberedCon token text.now }
+    requires apart { AreApart (map peer_of (map peer_link endpoints.old.items)) }
     ensures same { map peer_link endpoints.new.items ≡ map peer_link endpoints.old.items }
     ensures may { IfOk result (λ x.
         MaySubmitTo moment peer endpoints.new.items x.place x.submission) }
@@ -153,7 +157,7 @@ pub fn prepare(
     ensures waiting { IfOk result (λ x. x.submission.waiting ≡ waits token text.now word) }
     ensures fault { IsSubmitted moment (link_of (map peer_link endpoints.old.items) peer) result }
 {
-    match find_endpoint(endpoints.as_slice(), &peer) {
+    match hints.find(endpoints.as_slice(), &peer) {
         Some(place) => prepare_found(endpoints, place, token, text, moment, word),
         None => prepare_new(alloc, endpoints, token, text, moment, word),
     }

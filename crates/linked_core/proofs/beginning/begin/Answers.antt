@@ -37,3 +37,6 @@ ask-requires-clause-begins g c =
 
 pub ask-requires-clause-waiting : goal.ask-requires-clause-waiting
 ask-requires-clause-waiting g c = rw (c.as_slice.ensures) at c.in-Ok.ensures.waiting
+
+pub prepare-requires-clause-apart : goal.prepare-requires-clause-apart
+prepare-requires-clause-apart g c = c.requires.sound.kept.apart

@@ -44,3 +44,6 @@ returns-in-None-clause-heard g c =
     (dropped-lost c.args.moment c.args.peer c.args.datagram.now S x.0.link.state at
     (subst (λ (o : Option Hearing). IsPreparedFor c.args.moment c.args.datagram.now x.0.link o)
     c.in-None.is (c.in_ok-hearing.ensures.ok x.0 x.1)))
+
+pub find-requires : goal.find-requires
+find-requires g c = rw (c.deref.ensures.value) c.requires.sound.kept.apart

@@ -13,3 +13,6 @@ returns-in-None-clause-fault c =
     subst (λ (u : LinkState). IsSubmitted c.args.moment u c.prepare_new.result)
     (sym (none-of c.args.peer _ (rw (c.as_slice.ensures.value) at (c.in-None.ensures.none refl))))
     c.prepare_new.ensures.fault
+
+pub find-requires : goal.find-requires
+find-requires c = rw (c.as_slice.ensures.value) c.requires.apart
