@@ -28,7 +28,8 @@ abbrev pub AreOf : Slip → Option Written → Option Written → Type 0
 AreOf s (Some answer) (Some ask) = AnswersAs s answer.moment answer.deed ask.deed
 AreOf s _ _ = ⊥
 
--- The history shows what an ask came to: its grounds say that, from the moment on that it counts from.
+-- The history shows what an ask came to: its grounds say that, from the moment on that it counts
+-- from.
 abbrev pub IsShown : List Written → Given → Type 0
 IsShown h g =
     IsFound h g.found.told g.found.grounds g.mapping.sense

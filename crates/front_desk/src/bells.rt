@@ -41,7 +41,8 @@ impl Bells {
     }
 
     /// Wakes those who are answered by the entries from this number on, but for the first of them,
-    /// and answers its connection: who is woken while the lock is held has to wait for it once more.
+    /// and answers its connection: who is woken while the lock is held has to wait for it once
+    /// more.
     pub fn ring<R: Relation>(&self, journal: &Journal<R>, from: usize) -> Option<u32> {
         let entries = journal.entries();
         let mut first = None;

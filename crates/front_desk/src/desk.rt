@@ -124,8 +124,8 @@ impl<R: Relation, C: Clock, L: Ledger> LockedDesk<R, C, L> {
         ticket
     }
 
-    /// Waits for the answer to a ticket. None where the desk was shut. It takes no memory, and no work
-    /// while it waits.
+    /// Waits for the answer to a ticket. None where the desk was shut. It takes no memory, and no
+    /// work while it waits.
     pub fn answer<W: Wait>(&self, rt: &W, ticket: Ticket<R>) -> Option<Receipt<R>>
         ensures number { IfSome result (λ r. (r.number ≡ ticket.number)
             × (r.answer.ask ≡ ticket.number)) }
@@ -146,8 +146,8 @@ impl<R: Relation, C: Clock, L: Ledger> LockedDesk<R, C, L> {
         unreachable!()
     }
 
-    /// Waits for the answer to a ticket, and puts its receipt last into the pass. False where the desk
-    /// was shut. It takes no memory, and no work while it waits.
+    /// Waits for the answer to a ticket, and puts its receipt last into the pass. False where the
+    /// desk was shut. It takes no memory, and no work while it waits.
     pub fn wait<W: Wait>(&self, rt: &W, pass: &mut Pass<R, L>, ticket: Ticket<R>) -> bool
         requires { 0 < pass.old.places }
         ensures kept { IsTrue result → (s : Slip) × (s.number ≡ ticket.number)
@@ -196,9 +196,9 @@ impl<R: Relation, C: Clock, L: Ledger> LockedDesk<R, C, L> {
         Ok(ticked)
     }
 
-    /// Rests until there is something to do for `tick`, or a minute at most; after a tick that memory
-    /// was refused for, so that it is still due, at least for a pause. It takes no work while nothing
-    /// is due. False where the desk was shut.
+    /// Rests until there is something to do for `tick`, or a minute at most; after a tick that
+    /// memory was refused for, so that it is still due, at least for a pause. It takes no work
+    /// while nothing is due. False where the desk was shut.
     pub fn rest<W: Wait + std::rt::Clock>(&self, rt: &W, was_refused: bool) -> bool {
         let least = if was_refused { PAUSE } else { 0 };
         let mut guard = self.state.lock(rt);

@@ -2,8 +2,8 @@
 //!
 //! One contract: a desk gives a session the answer to its own ask, and once; at the end `settle`
 //! tells whether one journal justifies all that the sessions were given. Whenever the lock is free,
-//! one reading of its journal is legal and at rest, since the type of the core that lies there keeps
-//! it. The crate `sessions` stands on it.
+//! one reading of its journal is legal and at rest, since the type of the core that lies there
+//! keeps it. The crate `sessions` stands on it.
 #![tactic(auto)]
 
 mod bells;

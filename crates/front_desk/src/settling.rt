@@ -151,9 +151,10 @@ fn is_whole<R: Relation, L: Ledger>(passes: &[Pass<R, L>], asks: u64) -> bool
 }
 
 /// Whether the journal of a shop justifies all that the passes note, and has no ask but theirs. An
-/// Ok says that each answer which a pass was given or told stands in that one journal, at its number,
-/// for its ask and on its grounds, which say what it tells, and that the asks that are noted after it
-/// come after it; that no two answers to one ask were given; and that no pass which asked is missing.
+/// Ok says that each answer which a pass was given or told stands in that one journal, at its
+/// number, for its ask and on its grounds, which say what it tells, and that the asks that are
+/// noted after it come after it; that no two answers to one ask were given; and that no pass which
+/// asked is missing.
 pub fn settle<R: Relation, L: Ledger>(
     alloc: Global,
     shop: Shop<R, L>,

@@ -29,8 +29,8 @@ const PAUSE: u64 = 50;
 /// How many asks and sessions the ledger of a shop has parts for.
 const PARTS: u64 = 4294967295;
 
-/// Runs the gateway at these ports, until the clock or the UDP socket fails. It goes on in threads of
-/// its own, one for each connection; those are cut off when the program ends.
+/// Runs the gateway at these ports, until the clock or the UDP socket fails. It goes on in threads
+/// of its own, one for each connection; those are cut off when the program ends.
 pub fn run<W: Threads + Wait + Log + Clock + RandomSource + Copy + Drop + Send + Sync + 'static>(
     rt: W,
     alloc: Global,

@@ -2,8 +2,8 @@
 //! connection.
 //!
 //! One contract: its devices keep what sessions are promised of them: a failed read or write is
-//! counted and told, and what is received fits the buffer. What goes out is what the sessions write.
-//! The program `hcproxy` stands on it.
+//! counted and told, and what is received fits the buffer. What goes out is what the sessions
+//! write. The program `hcproxy` stands on it.
 #![tactic(auto)]
 
 mod client;

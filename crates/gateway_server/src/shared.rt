@@ -52,9 +52,9 @@ impl<W: Clock + RandomSource + Drop, L: Ledger> Shared<W, L> {
         client.end(rt);
     }
 
-    /// Serves a connection with the transformers that the routes of the settings ask for. Each session
-    /// has its own: a bank is seldom more than a few pairs of forms, and what it keeps is known where
-    /// it is made.
+    /// Serves a connection with the transformers that the routes of the settings ask for. Each
+    /// session has its own: a bank is seldom more than a few pairs of forms, and what it keeps is
+    /// known where it is made.
     fn serve_with_bank<V: Wait + Log + Clock>(
         &self,
         rt: &V,
