@@ -11,7 +11,7 @@ use Rattle.proxy_acts.specs.Emissions.{Emission}
 use Rattle.proxy_acts.specs.Tellings.{IsMapped, terms_of}
 use Rattle.proxy_acts.specs.Unasked.{Unasked, unasked_at}
 use Rattle.proxy_acts.proofs.Asked.{asked-both, first-then}
-use Rattle.proxy_acts.proofs.Heeding.{input-asks}
+use Rattle.proxy_acts.proofs.Heeded.{input-asks}
 use Rattle.linked_world.specs.Asked.{text_on, OpensAfter, AsksIts, AsksInRun}
 use Rattle.linked_world.specs.Worlds.{WorldValue, Handles, HandlesAll, new_world, served_in, when_in}
 use Rattle.linked_world.proofs.Running.{handles-more}

@@ -1,36 +1,29 @@
--- What each act asks on a connection, and what an input does.
-use Rattle.std.proofs.Common.{◌≡◌, ◌≢◌, ◌⊎◌, inl, inr, ℕ, ◌+◌, ◌≤◌, Bool, true, false, cond, List, [], ◌∷◌, ◌++◌, length, drop, Some, None, Ok, Err, refl, sym, ap, ◌∙◌, subst, arith, eqb-true, eq-eqb}
-use Rattle.std.specs.Prelude.{◌==◌, ⊤, flat_map}
+-- What each act asks on a connection.
+use Rattle.std.proofs.Common.{◌≡◌, ◌≢◌, ◌⊎◌, inl, inr, ℕ, Bool, true, false, cond, List, [], ◌∷◌, ◌++◌, Some, None, Ok, Err, refl, sym, ap, ◌∙◌, subst, eqb-true, eq-eqb}
+use Rattle.std.specs.Prelude.{◌==◌, ⊤}
 use Rattle.std.specs.List.{AllByRecursion}
-use Rattle.std.proofs.Math.Seq.{drop-append_seam}
 use Rattle.std.proofs.lemmas.Bool.{ne_eqb}
 use Rattle.std.proofs.lemmas.List.{append-nil, append_assoc}
 use Rattle.http_edge.specs.Reading.{Item, closes as item_closes}
-use Rattle.media_map.specs.declared.form.Form.{Form}
 use Rattle.ask_model.specs.Views.{Ask}
-use Rattle.journal_book.specs.Entries.{Asks as Asked, Opens as Opened, Written}
+use Rattle.journal_book.specs.Entries.{Asks as Asked, Written}
 use Rattle.http_mapping.specs.Means.{closes}
 use Rattle.core_steps.specs.State.{State}
-use Rattle.core_steps.specs.Steps.{opens, shuts, seals}
+use Rattle.core_steps.specs.Steps.{shuts, seals}
 use Rattle.core_steps.specs.Growing.{at_moment}
 use Rattle.core_steps.specs.Sealing.{opens_in_room, asks_in_room, hears_in_room, ticks_in_room}
 use Rattle.linked_core.specs.declared.fault.OpenFault.TheVariants as Open
 use Rattle.linked_core.specs.Calls.{IsOpened, IsAsked, AsksSo}
 use Rattle.linked_core.specs.Values.{CoreValue}
-use Rattle.proxy_acts.specs.declared.input.Happening.{Happening}
-use Rattle.proxy_acts.specs.declared.input.Happening.TheVariants as H
 use Rattle.proxy_acts.specs.declared.input.When.{When}
 use Rattle.proxy_acts.specs.Acts.{Act, Opens, TurnsAway, Takes, Hears, Passes, Asks, Denies, Sends, Tells, GoesOn, Rests, Leaves, Misses, Served, Terms, IsAsking, IsDenying, IsClosing, Ends, Does, DoesAll, at}
-use Rattle.proxy_acts.specs.Asking.{ReadsFirst, asked_on, brought_by, IsLeft, IsOver, Begins, AreAsked, Heeds, AllHeed, InputsAsk}
+use Rattle.proxy_acts.specs.Asking.{ReadsFirst, asked_on, IsLeft, IsOver, AreAsked}
 use Rattle.proxy_acts.specs.Emissions.{Emission}
-use Rattle.proxy_acts.specs.Orders.{IsFor, ServesOut, IsSends, Turn, acts_of, IsTurn, Delivers, IsInOrder}
-use Rattle.proxy_acts.specs.Tellings.{terms_of}
-use Rattle.proxy_acts.specs.Unasked.{Unasked, unasked_at, no_bytes, without, changed_at, extended, left_after}
-use Rattle.proxy_acts.proofs.Asked.{own-after, own-none, left-same, none-left, added-same, added-none, asked-both, asked-inner, Effect, effect-then}
+use Rattle.proxy_acts.specs.Unasked.{Unasked, unasked_at, without, changed_at, extended, left_after}
+use Rattle.proxy_acts.proofs.Asked.{own-after, own-none, left-same, none-left, asked-both, asked-inner, Effect, effect-then}
 use Rattle.proxy_acts.proofs.Awaiting.{which}
-use Rattle.proxy_acts.proofs.Moving.{Moves, Begins as AsksBegin, hears-move, ticks-move, opens-as, turns-away, asks-begin, denied-is}
+use Rattle.proxy_acts.proofs.Moving.{Moves, Begins as AsksBegin, hears-move, ticks-move, turns-away, asks-begin, denied-is}
 use Rattle.proxy_acts.proofs.Numbers.{at-number, extended-number}
-use Rattle.proxy_acts.proofs.Order.{all-append, all-as, sends-for}
 use Rattle.proxy_acts.proofs.Standing.{same-some, none-some, differ, others-same}
 
 -- steps of a core that ask nothing on a connection
@@ -120,7 +113,7 @@ module _ (P : Ask → Type 0) (c : ℕ) (old new : Served) (s : Silent c old.cor
     gone = λ is. (s.none, e);
   }
 
-abbrev state-of : CoreValue → State
+abbrev pub state-of : CoreValue → State
 state-of v = v.state
 
 closing-effect : (P : Ask → Type 0) (w : When) (c d : ℕ) (old new : Served) → IsClosing w d old new → Effect P c [] old new
@@ -263,7 +256,7 @@ denies-effect M w c d old mid new h k = by (which c d)
 
 -- bytes come in
 
-takes-effect : (P : Ask → Type 0) (c d : ℕ) (bytes : List ℕ) (old new : Served)
+pub takes-effect : (P : Ask → Type 0) (c d : ℕ) (bytes : List ℕ) (old new : Served)
     → new ≡ record old { unasked = changed_at d (extended bytes) old.unasked }
     → Effect P c (cond (d == c) bytes []) old new
 takes-effect P c d bytes old new h = by (d == c) refl
@@ -318,7 +311,7 @@ takes-effect P c d bytes old new h = by (d == c) refl
 
 -- any act but an opening, and bytes that come
 
-abbrev IsPlain : Act → Type 0
+abbrev pub IsPlain : Act → Type 0
 IsPlain (Opens d) = ⊥
 IsPlain (Takes d bytes) = ⊥
 IsPlain _ = ⊤
@@ -404,161 +397,12 @@ plain-effect M w c (Rests d) old out new p h = still-effect M.IsMeaning c old ne
 plain-effect M w c (Leaves d) old out new p h = closing-effect M.IsMeaning w c d old new h.0
 plain-effect M w c (Misses d) old out new p h = still-effect M.IsMeaning c old new h.0
 
-abbrev ArePlain : List Act → Type 0
+abbrev pub ArePlain : List Act → Type 0
 ArePlain acts = AllByRecursion IsPlain acts
 
-all-effect : (M : Terms) (w : When) (c : ℕ) (acts : List Act) (old : Served) (out : List Emission) (new : Served)
+pub all-effect : (M : Terms) (w : When) (c : ℕ) (acts : List Act) (old : Served) (out : List Emission) (new : Served)
     → ArePlain acts → DoesAll M w acts old out new → Effect M.IsMeaning c [] old new
 all-effect M w c [] old out new p h = still-effect M.IsMeaning c old new h.0
 all-effect M w c (a ∷ acts) old out new p h =
     effect-then M.IsMeaning c [] [] old h.0 new (plain-effect M w c a old h.1 h.0 p.0 h.3)
     (all-effect M w c acts h.0 h.2 new p.1 h.4)
-
--- what follows the first act of an input is such
-
-for-plain : (c : ℕ) (a : Act) → IsFor c a → IsPlain a
-for-plain c (Opens d) h = absurd h
-for-plain c TurnsAway h = tt
-for-plain c (Takes d bytes) h = absurd h
-for-plain c (Hears p bytes) h = tt
-for-plain c Passes h = tt
-for-plain c (Asks d) h = tt
-for-plain c (Denies d) h = tt
-for-plain c Sends h = tt
-for-plain c (Tells d k) h = tt
-for-plain c (GoesOn d) h = tt
-for-plain c (Rests d) h = tt
-for-plain c (Leaves d) h = tt
-for-plain c (Misses d) h = tt
-
-out-plain : (c : ℕ) (acts : List Act) → ServesOut c acts → ArePlain acts
-out-plain c acts h =
-    subst ArePlain (sym h.are)
-    (all-append IsPlain h.first (Rests c ∷ []) (all-as (IsFor c) IsPlain h.first (for-plain c) h.for) (tt, tt))
-
-turns-plain : (turns : List Turn) → AllByRecursion IsTurn turns → ArePlain (flat_map acts_of turns)
-turns-plain [] h = tt
-turns-plain (x ∷ turns) h =
-    all-append IsPlain (acts_of x) (flat_map acts_of turns) (tt, out-plain x.conn x.further h.0) (turns-plain turns h.1)
-
-delivers-plain : (acts : List Act) → Delivers acts → ArePlain acts
-delivers-plain acts h =
-    let turns = h.told.1 in
-    subst ArePlain (sym h.are)
-    (all-append IsPlain h.sends h.answers
-    (all-as IsSends IsPlain h.sends (λ a s. for-plain 0 a (sends-for 0 a s)) h.sent)
-    (subst ArePlain (sym turns.are) (turns-plain turns.turns turns.each)))
-
--- a connection opens
-
-opens-heed : (M : Terms) (w : When) (d : ℕ) (old : Served) (out : List Emission) (new : Served) → Does M w (Opens d) old out new
-    → AllHeed M.IsMeaning H.Open old new
-opens-heed M w d old out new h = record {
-  more = at_moment t (Opened old.core.state.opened) ∷ [];
-  added = ap (λ (S : State). S.entries) is;
-  opened = subst (λ (n : ℕ). old.core.state.opened ≤ n) (sym more) (omega arith);
-  each = λ c. record {
-    reads = λ u stood goes. record {
-      items = [];
-      rest = u.text ++ [];
-      reads = refl;
-      asks = tt;
-      left =
-          subst (IsLeft [] (u.text ++ [])) (sym (here c u stood)) (inl (tt, goes, sym (append-nil u.text)));
-    };
-    last = λ u stood closing. (refl, subst IsOver (sym (here c u stood)) closing);
-    gone = λ stood. (refl, opens-now c stood (d == c) refl);
-  };
-}
-  where
-    t : ℕ
-    t = at w old
-
-    is : new.core.state ≡ opens t old.core.state
-    is =
-        ap state-of h.0.1
-        ∙ opens-as t old.core.state (sym (ap (λ (v : CoreValue). v.state.sealed) h.0.1) ∙ h.0.2)
-
-    more : new.core.state.opened ≡ old.core.state.opened + 1
-    more = ap (λ (S : State). S.opened) is
-
-    here : (c : ℕ) (u : Unasked) → unasked_at c old.unasked ≡ Some u → unasked_at c new.unasked ≡ Some u
-    here c u stood = ap (unasked_at c) h.1 ∙ added-same d c old.unasked u stood
-
-    opens-now : (c : ℕ) → unasked_at c old.unasked ≡ None → (b : Bool) → (d == c) ≡ b
-        → (unasked_at c new.unasked ≡ None) ⊎ Begins c H.Open old new
-    opens-now c stood false e =
-        inl (ap (unasked_at c) h.1 ∙ added-none d c old.unasked stood ∙ ap (λ (b : Bool). cond b (Some (no_bytes d)) None) e)
-    opens-now c stood true e =
-        let same : d ≡ c = eqb-true d c e in
-        inr (record {
-          wants = refl;
-          fresh = sym same ∙ h.0.0;
-          opened = more ∙ ap (λ (n : ℕ). n + 1) (sym h.0.0 ∙ same);
-          waits =
-              ap (unasked_at c) h.1 ∙ added-none d c old.unasked stood ∙ ap (λ (b : Bool). cond b (Some (no_bytes d)) None) e
-              ∙ ap (λ (k : ℕ). Some (no_bytes k)) same;
-        })
-
--- an input
-
-same-more : (h a b : List Written) → h ++ a ≡ h ++ b → a ≡ b
-same-more h a b e = sym (drop-append_seam h a) ∙ (ap (drop (length h)) e ∙ drop-append_seam h b)
-
-heeds : (P : Ask → Type 0) (c : ℕ) (x : Happening) (old new : Served) (more : List Written) → (e : Effect P c (brought_by c x) old new)
-    → e.more ≡ more → Heeds P c x old new more
-heeds P c x old new more e same =
-    subst (Heeds P c x old new) same
-    (record { reads = e.reads; last = e.last; gone = λ is. let g = e.gone is in (g.0, inl g.1) })
-
-all-heed : (P : Ask → Type 0) (x : Happening) (old new : Served) → ((c : ℕ) → Effect P c (brought_by c x) old new)
-    → AllHeed P x old new
-all-heed P x old new f = record {
-  more = (f 0).more;
-  added = (f 0).entries;
-  opened = subst (λ (n : ℕ). old.core.state.opened ≤ n) (sym (f 0).opened) (no-less old.core.state.opened);
-  each = λ c.
-      heeds P c x old new (f 0).more (f c)
-      (same-more old.core.state.entries (f c).more (f 0).more (sym (f c).entries ∙ (f 0).entries));
-}
-  where
-    no-less : (n : ℕ) → n ≤ n
-    no-less n = omega arith
-
-pub input-asks : (M : Terms) (w : When) (x : Happening) (acts : List Act) (old : Served) (out : List Emission) (new : Served)
-    → DoesAll M w acts old out new → IsInOrder x acts → AllHeed M.IsMeaning x old new
-input-asks M w H.Open acts old out new h o = by o
-  where
-    by : ((c : ℕ) × (acts ≡ Opens c ∷ [])) ⊎ (acts ≡ TurnsAway ∷ []) → AllHeed M.IsMeaning H.Open old new
-    by (inl one) =
-        let d = subst (λ (xs : List Act). DoesAll M w xs old out new) one.1 h in
-        subst (AllHeed M.IsMeaning H.Open old) (sym d.4.0) (opens-heed M w one.0 old d.1 d.0 d.3)
-    by (inr one) =
-        all-heed M.IsMeaning H.Open old new
-        (λ c. all-effect M w c acts old out new (subst ArePlain (sym one) (tt, tt)) h)
-input-asks M w (H.Bytes d bytes) acts old out new h o =
-    let k = subst (λ (xs : List Act). DoesAll M w xs old out new) o.are h in
-    all-heed M.IsMeaning (H.Bytes d bytes) old new
-    (λ c.
-    subst (λ (came : List ℕ). Effect M.IsMeaning c came old new) (append-nil (cond (d == c) bytes.now []))
-    (effect-then M.IsMeaning c (cond (d == c) bytes.now []) [] old k.0 new
-    (takes-effect M.IsMeaning c d bytes.now old k.0 k.3.0)
-    (all-effect M w c o.rest k.0 k.2 new (out-plain d o.rest o.then) k.4)))
-input-asks M w (H.Datagram p bytes) acts old out new h o =
-    all-heed M.IsMeaning (H.Datagram p bytes) old new
-    (λ c. all-effect M w c acts old out new (subst ArePlain (sym o.are) (tt, delivers-plain o.rest o.then)) h)
-input-asks M w H.Tick acts old out new h o =
-    all-heed M.IsMeaning H.Tick old new
-    (λ c. all-effect M w c acts old out new (subst ArePlain (sym o.are) (tt, delivers-plain o.rest o.then)) h)
-input-asks M w (H.Close d) acts old out new h o = by o
-  where
-    by : (acts ≡ Leaves d ∷ []) ⊎ (acts ≡ Misses d ∷ []) → AllHeed M.IsMeaning (H.Close d) old new
-    by (inl one) =
-        all-heed M.IsMeaning (H.Close d) old new
-        (λ c. all-effect M w c acts old out new (subst ArePlain (sym one) (tt, tt)) h)
-    by (inr one) =
-        all-heed M.IsMeaning (H.Close d) old new
-        (λ c. all-effect M w c acts old out new (subst ArePlain (sym one) (tt, tt)) h)
-
-pub inputs-ask : (holds : Form → Form → List ℕ → List ℕ → Type 0) (takes : Form → Form → List ℕ → Type 0) → InputsAsk holds takes
-inputs-ask holds takes rules w x acts old out new h o = input-asks (terms_of holds takes rules) w x acts old out new h o

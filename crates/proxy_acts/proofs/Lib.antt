@@ -8,6 +8,7 @@ pub mod Doing
 pub mod Enters
 pub mod GoingOn
 pub mod Heard
+pub mod Heeded
 pub mod Heeding
 pub mod Lost
 pub mod Moves

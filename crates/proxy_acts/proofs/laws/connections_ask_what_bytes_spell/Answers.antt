@@ -1,4 +1,4 @@
-use Rattle.proxy_acts.proofs.Heeding.{inputs-ask}
+use Rattle.proxy_acts.proofs.Heeded.{inputs-ask}
 use Rattle.proxy_acts.proofs.laws.connections_ask_what_bytes_spell.Goals as goal
 
 pub returns : goal.returns
