@@ -18,7 +18,7 @@ use Rattle.http_edge.specs.Requests.{Content, content, expects}
 use Rattle.http_edge.specs.Reading.{BeginsWith, TakesBody, NeverTakes, IsRefused, Item, asked, bad, First, HasNone}
 use Rattle.http_edge.specs.Chunks.{BeginsLine, BeginsTrailers, NeverTrailers, RefusedBehind, TakesChunks, FailsChunks}
 use Rattle.http_edge.specs.Bodies.{SoFar, Chunks, BehindLine, NoBody, OpenTrailers, Comes}
-use Rattle.http_edge.specs.Edges.{GoesOn, IsStart, StandsBegun, HeadWaits, TrailersWait, Waits, HasTooMany, Expects, WaitsIn, FillsBegun, FillsIn}
+use Rattle.http_edge.specs.Edges.{GoesOn, IsStart, StandsBegun, HeadWaits, TrailersWait, Waits, HasTooMany, Expects, WaitsIn, Leaves, FillsBegun, FillsIn}
 use Rattle.http_edge.proofs.Chunking.{chunk_on, line_on, line_never, same_line}
 use Rattle.http_edge.proofs.Heading.{head_is_some}
 use Rattle.http_edge.proofs.Lefts.{splits, splits_fail}
@@ -109,16 +109,20 @@ fills (Ok fill.Whole) c left now wants body unread rest text g ok err =
 fills (Ok fill.Wait) c left now wants body unread rest text g ok err =
     let s = ok (framing g.head) g.behind g.body_is in
     let m = moved_on c left now wants body unread rest text g s.0 in
-    (m, waits_by (record c { body = body }) now wants rest text m s.1)
+    (m, waits_by (record c { body = body }) now wants rest text m s.1, inr (record { head = g.head; behind = g.behind; begins = g.begins; left = s.2 }))
 fills (Ok (fill.Bad k)) c left now wants body unread rest text g ok err =
     inr (record { head = g.head; behind = g.behind; begins = g.begins; body = ok (framing g.head) g.behind g.body_is })
 fills (Err m) c left now wants body unread rest text g ok err = moved_on c left now wants body unread rest text g (err (framing g.head) g.behind g.body_is)
 
-pub in_edge : (r : Result Fill Memory) (ended waits : Bool) (b : Begun) (unread text : List ℕ) → ended ≡ false → (waits ≡ true → HasNone text ⊎ Waits text) → FillsBegun r (content b.request) b.left b.wants unread text → FillsIn r ended waits (Some b) unread text
-in_edge (Ok fill.Whole) ended waits b unread text e w x = (refl, x)
-in_edge (Ok fill.Wait) ended waits b unread text e w x = ((e, x.0, w), x.1)
-in_edge (Ok (fill.Bad k)) ended waits b unread text e w x = x
-in_edge (Err m) ended waits b unread text e w x = (e, x, w)
+reads_still : (waits : Bool) (b : Begun) (unread text : List ℕ) → waits ≡ false → waits ≡ true → WaitsIn (Some b) text × Leaves text unread
+reads_still waits b unread text f e = absurd (let differ = sym e ∙ f in cc)
+
+pub in_edge : (r : Result Fill Memory) (ended waits : Bool) (b : Begun) (unread text : List ℕ) → ended ≡ false → waits ≡ false → FillsBegun r (content b.request) b.left b.wants unread text → FillsIn r ended waits (Some b) unread text
+unfolding reads_still
+in_edge (Ok fill.Whole) ended waits b unread text e f x = (refl, x)
+in_edge (Ok fill.Wait) ended waits b unread text e f x = ((e, x.0, reads_still waits b unread text f), x.1, x.2)
+in_edge (Ok (fill.Bad k)) ended waits b unread text e f x = x
+in_edge (Err m) ended waits b unread text e f x = (e, x, reads_still waits b unread text f)
 
 -- where the parser waits, a refusal can only be that of a 65th field or of a target
 
@@ -220,3 +224,10 @@ empty-expects x =
     let some = head_is_some x.head in
     let whole = ap length x.begins.reads.1 ∙ length-append (print_request x.head) x.behind in
     absurd (omega (arith, some, whole))
+
+-- where no head is whole, all is left
+pub head-leaves : (o : Option Begun) (unread text : List ℕ) → o ≡ None → HeadWaits unread → StandsBegun o unread text → HeadWaits text × Leaves text unread
+head-leaves o unread text none w s =
+    let is = text_is o unread text none s in
+    let waits : HeadWaits text = subst HeadWaits (sym is) w in
+    (waits, inl (waits.0, sym is))

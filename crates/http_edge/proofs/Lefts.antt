@@ -1,9 +1,9 @@
 -- A body so far: what its next part does to the text.
-use Rattle.std.proofs.Common.{◌≡◌, inl, inr, ℕ, ◌≤◌, ◌<◌, ◌+◌, ◌-◌, List, [], ◌∷◌, ◌++◌, length, map, take, drop, min, replicate, refl, sym, ap, subst, ◌∙◌, arith, append_assoc}
+use Rattle.std.proofs.Common.{◌≡◌, inl, inr, ℕ, zero, suc, ◌≤◌, ◌<◌, ◌+◌, ◌-◌, List, [], ◌∷◌, ◌++◌, length, map, take, drop, min, replicate, refl, sym, ap, subst, ◌∙◌, arith, append_assoc}
 use Rattle.std.specs.List.{concat}
-use Rattle.std.proofs.lemmas.List.{length-append, append-nil, length-take-le, length-take, length-map, take-append-drop, take-append-le, length-replicate}
+use Rattle.std.proofs.lemmas.List.{length-append, append-nil, length-take-le, length-take, length-map, take-append-drop, take-append-le, length-replicate, drop-drop}
 use Rattle.std.proofs.lemmas.List.Folds.{concat-append}
-use Rattle.std.proofs.Math.Seq.{take-length}
+use Rattle.std.proofs.Math.Seq.{take-length, drop-append_seam}
 use Rattle.httparse.specs.Ascii.{crlf_bytes}
 use Rattle.httparse.specs.Grammar.{ChunkLine, print_chunk_line, print_extension, chunk_size, ReadsChunkLine, HasNoChunkLine, MayBecomeChunkLine, print_section, HasNoSection}
 use Rattle.httparse.specs.Spans.{IsChunkLineAt, IsSectionWithin, IsSectionOf, header_bytes, name_and_value}
@@ -17,7 +17,7 @@ use Rattle.http_edge.specs.Chunks.{BeginsLine, NeverLine, BeginsTrailers, NeverT
 use Rattle.http_edge.specs.Reading.{TakesBody, NeverTakes}
 use Rattle.http_edge.specs.declared.body.Left.{Left}
 use Rattle.http_edge.specs.declared.body.Left.TheVariants.{Line}
-use Rattle.http_edge.specs.Bodies.{SoFar, Chunks, BehindLine, AtLine, InData, AtTrailers, NoBody}
+use Rattle.http_edge.specs.Bodies.{SoFar, Chunks, BehindLine, AtLine, InData, AtTrailers, NoBody, ChunksLeave, BodyLeaves}
 use Rattle.http_edge.proofs.Fronts.{same_length}
 use Rattle.http_edge.proofs.Chunking.{chunk_one, chunk_last, chunk_refused, line_never, same_line}
 
@@ -314,3 +314,45 @@ pub trailers_full : (unread : List ℕ) → length unread ≡ 8192 → HasNoSect
 trailers_full unread size none =
     let whole : take 8192 unread ≡ unread = ap (λ (n : ℕ). take n unread) (sym size) ∙ take-length unread in
     inr (omega (arith, size), subst HasNoSection (sym whole) none)
+
+-- what is left of a body that isn't whole
+
+pub leaves_by : (f : Framing) (t rest : List ℕ) → f ≡ Chunked → ChunksLeave t rest → BodyLeaves f t rest
+leaves_by f t rest e x = subst (λ (g : Framing). BodyLeaves g t rest) (sym e) x
+
+pub line_leaves : (t body unread : List ℕ) → AtLine body unread t → HasNoChunkLine unread → ChunksLeave t unread
+line_leaves t body unread s none =
+    record { chunks = s.0; after = length body; middle = unread; read = s.1; no_more = λ c b x. none x.line x.behind x.begins.reads; left = inl (none, refl) }
+
+pub all_moved : (missing : ℕ) (unread : List ℕ) → length unread ≡ 0 → unread ≡ drop missing unread
+all_moved zero unread none = refl
+all_moved (suc missing) [] none = refl
+all_moved (suc missing) (b ∷ bs) none = absurd (omega (arith, none))
+
+pub data_leaves : (t body unread : List ℕ) (missing : ℕ) → InData missing body unread t → MayEnd missing unread → unread ≡ drop missing unread → ChunksLeave t unread
+data_leaves t body unread missing s may all =
+    let w = s.2 in
+    let behind : drop (length s.1 + missing) (s.1 ++ unread) ≡ unread = sym (drop-drop missing (length s.1) (s.1 ++ unread)) ∙ ap (drop missing) (drop-append_seam s.1 unread) ∙ sym all in
+    record {
+      chunks = w.chunks;
+      after = w.after;
+      middle = w.middle;
+      read = w.read;
+      no_more = λ c b x.
+          let whole = same_line (λ k u. BeginsData (chunk_size k) u c b) w.middle w.line x.line (s.1 ++ unread) x.behind w.begins x.begins x.whole in
+          not_whole missing s.1 unread c b may (subst (λ (n : ℕ). BeginsData n (s.1 ++ unread) c b) w.size_is whole);
+      left = inr (w.line, s.1 ++ unread, w.begins, sym (ap (λ (n : ℕ). drop n (s.1 ++ unread)) w.size_is ∙ behind));
+    }
+
+pub trailers_leave : (t body unread : List ℕ) → AtTrailers body unread t → ChunksLeave t unread
+trailers_leave t body unread w = record {
+  chunks = w.chunks;
+  after = w.after;
+  middle = w.middle;
+  read = w.read;
+  no_more = λ c b x.
+      let some = same_line (λ k u. 0 < chunk_size k) w.middle w.line x.line unread x.behind w.begins x.begins x.some in
+      let size = w.size_is in
+      absurd (omega (arith, some, size));
+  left = inr (w.line, unread, w.begins, sym (ap (λ (n : ℕ). drop n unread) w.size_is));
+}

@@ -8,4 +8,5 @@ pub mod Listing
 pub mod Heading
 pub mod Lefts
 pub mod Edging
+pub mod Leftovers
 pub mod Tails

@@ -1,10 +1,10 @@
 -- How much of a body came in.
-use Rattle.std.specs.Prelude.{◌≡◌, ◌⊎◌, ℕ, ◌+◌, ◌<◌, ◌≤◌, List, [], ◌∷◌, ◌++◌, length}
+use Rattle.std.specs.Prelude.{◌≡◌, ◌⊎◌, ℕ, ◌+◌, ◌<◌, ◌≤◌, List, [], ◌∷◌, ◌++◌, length, drop}
 use Rattle.std.specs.List.{concat}
-use Rattle.httparse.specs.Grammar.{ChunkLine, chunk_size, MayBecomeSection, HasNoSection}
+use Rattle.httparse.specs.Grammar.{ChunkLine, chunk_size, HasNoChunkLine, MayBecomeSection, HasNoSection}
 use Rattle.http_edge.specs.declared.request.BadKind.{BadKind}
 use Rattle.http_edge.specs.declared.framing.Framing.{Framing}
-use Rattle.http_edge.specs.declared.framing.Framing.TheVariants.{Sized, Chunked}
+use Rattle.http_edge.specs.declared.framing.Framing.TheVariants.{Sized, Chunked, Refused}
 use Rattle.http_edge.specs.declared.body.Left.{Left}
 use Rattle.http_edge.specs.declared.body.Left.TheVariants.{Bytes, Line, Data, Trailers}
 use Rattle.http_edge.specs.declared.body.Next.{Next}
@@ -66,15 +66,38 @@ pub record OpenTrailers (text : List ℕ) : Type 0 where
   pub may : MayBecomeSection unread
   pub short : length unread < 8192
 
+-- What is left of a text that begins with no whole chunk: all, where its line isn't whole; or what
+-- stands behind that line and the bytes that it announces, which is an open line end, or trailers.
+abbrev pub ChunkLeaves : List ℕ → List ℕ → Type 0
+ChunkLeaves text rest =
+    (HasNoChunkLine text × (rest ≡ text))
+    ⊎ ((l : ChunkLine) × (behind : List ℕ) × BeginsLine text l behind × (rest ≡ drop (chunk_size l) behind))
+
+-- What is left of a chunked body that isn't whole, behind all whole chunks (RFC 9112, section 7.1).
+pub record ChunksLeave (text rest : List ℕ) : Type 0 where
+  pub chunks : List (List ℕ)
+  pub after : ℕ
+  pub middle : List ℕ
+  pub read : Chunks 0 text chunks middle after
+  pub no_more : (chunk behind : List ℕ) → ¬ (BeginsChunk after middle chunk behind)
+  pub left : ChunkLeaves middle rest
+
+-- What is left of a body so framed that isn't whole: where it has a length, all its bytes are taken
+-- as they come, and none is left (RFC 9112, section 6).
+abbrev pub BodyLeaves : Framing → List ℕ → List ℕ → Type 0
+BodyLeaves (Sized n) text rest = rest ≡ []
+BodyLeaves Chunked text rest = ChunksLeave text rest
+BodyLeaves (Refused k) text rest = ⊥
+
 -- What a step over a text comes to.
 abbrev pub Goes : Framing → Next → Left → List ℕ → List ℕ → List ℕ → Type 0
 Goes f On left body unread text = SoFar f left body unread text
 Goes f Whole left body unread text = TakesBody f text body unread
-Goes f Wait left body unread text = SoFar f left body unread text × (NoBody f text ⊎ ((f ≡ Chunked) × OpenTrailers text))
+Goes f Wait left body unread text = SoFar f left body unread text × (NoBody f text ⊎ ((f ≡ Chunked) × OpenTrailers text)) × BodyLeaves f text unread
 Goes f (Bad kind) left body unread text = NeverTakes f text kind
 
 -- What all steps that there are bytes for come to.
 abbrev pub Comes : Framing → Fill → Left → List ℕ → List ℕ → List ℕ → Type 0
 Comes f filled.Whole left body unread text = TakesBody f text body unread
-Comes f filled.Wait left body unread text = SoFar f left body unread text × (NoBody f text ⊎ ((f ≡ Chunked) × OpenTrailers text))
+Comes f filled.Wait left body unread text = SoFar f left body unread text × (NoBody f text ⊎ ((f ≡ Chunked) × OpenTrailers text)) × BodyLeaves f text unread
 Comes f (filled.Bad kind) left body unread text = NeverTakes f text kind

@@ -18,7 +18,7 @@ use Rattle.http_edge.specs.declared.body.Fill.TheVariants as fill
 use Rattle.http_edge.specs.Framing.{framing}
 use Rattle.http_edge.specs.Requests.{Content, content, content_of, expects}
 use Rattle.http_edge.specs.Reading.{BeginsWith, TakesBody, IsRefused, Item, asked, bad, First, closes, HasNone}
-use Rattle.http_edge.specs.Bodies.{SoFar, OpenTrailers}
+use Rattle.http_edge.specs.Bodies.{SoFar, OpenTrailers, BodyLeaves}
 
 abbrev pub item : Incoming → Item
 item (incoming.Request r) = asked (content r)
@@ -70,9 +70,26 @@ abbrev pub WaitsIn : Option Begun → List ℕ → Type 0
 WaitsIn None text = HeadWaits text
 WaitsIn (Some b) text = HasNone text ⊎ Waits text
 
--- The parts of an open edge stand for the text, and it only waits where nothing can be read.
+-- The text begins with a head, and this is left of the body behind it.
+pub record HeadLeaves (text rest : List ℕ) : Type 0 where
+  pub head : RequestHead
+  pub behind : List ℕ
+  pub begins : BeginsWith text head behind
+  pub left : BodyLeaves (framing head) behind rest
+
+-- What is left of a text of which no item is whole, to be read once more comes: all, where no head
+-- is whole; or what of the body isn't taken.
+abbrev pub Leaves : List ℕ → List ℕ → Type 0
+Leaves text rest = (HasNoRequest text × (rest ≡ text)) ⊎ HeadLeaves text rest
+
+-- So many bytes are left.
+abbrev pub LeavesBytes : List ℕ → ℕ → Type 0
+LeavesBytes text n = (rest : List ℕ) × Leaves text rest × (n ≡ length rest)
+
+-- The parts of an open edge stand for the text; and it only waits where nothing can be read, and
+-- just what is left of the text is unread.
 abbrev pub StandsIn : Bool → Bool → Option Begun → List ℕ → List ℕ → Type 0
-StandsIn ended waits begun unread text = (ended ≡ false) × StandsBegun begun unread text × (waits ≡ true → WaitsIn begun text)
+StandsIn ended waits begun unread text = (ended ≡ false) × StandsBegun begun unread text × (waits ≡ true → WaitsIn begun text × Leaves text unread)
 
 -- The edge is open and stands for the text.
 abbrev pub Stands : Edge → List ℕ → Type 0
@@ -129,14 +146,14 @@ IsWholeIn (Some b) unread text = IsWhole (content b.request) unread text
 -- What filling the body of a request begun does to its text.
 abbrev pub FillsBegun : Result Fill Memory → Content → Left → Bool → List ℕ → List ℕ → Type 0
 FillsBegun (Ok fill.Whole) c left wants unread text = IsWhole c unread text
-FillsBegun (Ok fill.Wait) c left wants unread text = GoesOn c left wants unread text × (HasNone text ⊎ Waits text)
+FillsBegun (Ok fill.Wait) c left wants unread text = GoesOn c left wants unread text × (HasNone text ⊎ Waits text) × Leaves text unread
 FillsBegun (Ok (fill.Bad kind)) c left wants unread text = IsRefused text kind
 FillsBegun (Err m) c left wants unread text = GoesOn c left wants unread text
 
 -- The same of the parts of an edge.
 abbrev pub FillsIn : Result Fill Memory → Bool → Bool → Option Begun → List ℕ → List ℕ → Type 0
 FillsIn (Ok fill.Whole) ended waits begun unread text = IsSome begun × IsWholeIn begun unread text
-FillsIn (Ok fill.Wait) ended waits begun unread text = StandsIn ended waits begun unread text × (HasNone text ⊎ Waits text)
+FillsIn (Ok fill.Wait) ended waits begun unread text = StandsIn ended waits begun unread text × (HasNone text ⊎ Waits text) × Leaves text unread
 FillsIn (Ok (fill.Bad kind)) ended waits begun unread text = IsRefused text kind
 FillsIn (Err m) ended waits begun unread text = StandsIn ended waits begun unread text
 

@@ -31,7 +31,7 @@ pub struct Edge {
 
 impl Edge {
     ghost use Rattle.http_edge.specs.Reading.{closes};
-    ghost use Rattle.http_edge.specs.Edges.{Stands, Expects, item, Steps, Begins, Fills, IsBegun, IsWholeIn, IsAsking, IsUnread, Falls, BeginFalls, BeginCloses, is_told, unread_len, work_left};
+    ghost use Rattle.http_edge.specs.Edges.{Stands, Expects, item, Steps, Begins, Fills, IsBegun, IsWholeIn, IsAsking, IsUnread, Leaves, LeavesBytes, Falls, BeginFalls, BeginCloses, is_told, unread_len, work_left};
     ghost use Rattle.http_edge.specs.Edges as spec;
 
     /// No bytes, and room for 8,192.
@@ -107,6 +107,7 @@ impl Edge {
         ensures len { result ≡ unread_len self.now }
         ensures few { result ≤ 8192 }
         ensures counts { (text : List ℕ) → Stands self.now text → IsUnread text result }
+        ensures exact { self.now.waits ≡ true → (text : List ℕ) → Stands self.now text → LeavesBytes text result }
     {
         self.unread.as_slice().len()
     }
@@ -118,6 +119,7 @@ impl Edge {
         ensures ended { self.old.ended ≡ true → (result ≡ Ok None) × (self.new.ended ≡ true) }
         ensures room { self.old.ended ≡ false → result ≡ Ok None → unread_len self.new < 8192 }
         ensures waits { self.old.ended ≡ false → result ≡ Ok None → self.new.waits ≡ true }
+        ensures left { self.old.ended ≡ false → result ≡ Ok None → (text : List ℕ) → Stands self.new text → Leaves text self.new.unread }
         ensures told { is_told self.new ≡ true → is_told self.old ≡ true }
         ensures fresh { IfOk result (λ found. IfSome found (λ i. closes (item i) ≡ false → is_told self.new ≡ false)) }
         ensures still_told { result ≡ Ok None → is_told self.new ≡ is_told self.old }
@@ -167,12 +169,14 @@ impl Edge {
 
     /// Begins the request at the front, where none is begun.
     fn begin(&mut self) -> Result<Begin, Memory>
-        requires { self.old.ended ≡ false }
+        requires open { self.old.ended ≡ false }
+        requires reads { self.old.waits ≡ false }
         ensures steps { (text : List ℕ) → Stands self.old text → Begins result self.new text }
         ensures told { is_told self.new ≡ is_told self.old }
         ensures less { IfOk result (λ begin. BeginFalls begin (work_left self.old) (work_left self.new)) }
         ensures closing { IfOk result BeginCloses }
         ensures stays_open { result ≡ Ok Begin.Begun → self.new.ended ≡ false }
+        ensures still_reads { result ≡ Ok Begin.Begun → self.new.waits ≡ false }
         ensures begun { result ≡ Ok Begin.Begun → IsBegun self.new }
         ensures room { result ≡ Ok (Begin.Done None) → unread_len self.new < 8192 }
         ensures waits { result ≡ Ok (Begin.Done None) → self.new.waits ≡ true }
@@ -199,6 +203,7 @@ impl Edge {
 
     /// Moves unread bytes into the body that comes in.
     fn fill(&mut self) -> Result<Fill, Memory>
+        requires reads { self.old.waits ≡ false }
         ensures fills { (text : List ℕ) → Stands self.old text → IsBegun self.old → Fills result self.new text }
         ensures told { is_told self.new ≡ is_told self.old }
         ensures less { work_left self.new ≤ work_left self.old }

@@ -3,7 +3,7 @@
 ghost use Rattle.std.specs.Prelude.{◌≡◌, ◌++◌, ℕ, List};
 ghost use Rattle.http_edge.specs.Cuts.{HoweverCut, NoneHeldBack};
 ghost use Rattle.http_edge.specs.Reading.{Item, First, Reads, AllOpen};
-ghost use Rattle.http_edge.specs.Edges.{Waits, HasTooMany};
+ghost use Rattle.http_edge.specs.Edges.{Waits, HasTooMany, Leaves};
 
 /// Two readings of one text are one.
 pub fn reading_is_one()
@@ -29,4 +29,10 @@ pub fn none_held_back()
 /// Where the parser waits though the text is refused, a 65th field has begun or the target is open.
 pub fn waits_only()
     ensures { (text : List ℕ) (i : Item) (rest : List ℕ) → Waits text → First text i rest → HasTooMany text }
+{}
+
+/// What is left of a text of which no request is whole is one: however its bytes were cut, as many
+/// wait unread.
+pub fn unread_is_one()
+    ensures { (text r q : List ℕ) → Leaves text r → Leaves text q → r ≡ q }
 {}

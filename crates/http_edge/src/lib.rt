@@ -23,6 +23,8 @@ mod unread;
 
 pub use answer::{Body, Field, HttpAnswer, answer_bytes};
 pub use edge::Edge;
-pub use laws::{however_cut, none_held_back, reading_goes_on, reading_is_one, waits_only};
+pub use laws::{
+    however_cut, none_held_back, reading_goes_on, reading_is_one, unread_is_one, waits_only,
+};
 pub use memory::Memory;
 pub use request::{BadKind, Incoming, Request, Version};

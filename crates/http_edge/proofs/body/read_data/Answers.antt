@@ -8,7 +8,11 @@ returns-then-is_empty-clause-ok c =
     let none : length c.args.unread.now ≡ 0 = search rules in
     λ f text s.
     let x = law.left_is f c.args.left.now (Data c.args.missing) c.args.body.now.items c.args.unread.now text c.requires.at s in
-    (s, inl (law.none_by f text x.0 (law.data_waits text c.args.body.now.items c.args.unread.now c.args.missing x.1 (law.may_move c.args.missing c.args.unread.now none))))
+    let may = law.may_move c.args.missing c.args.unread.now none in (
+      s,
+      inl (law.none_by f text x.0 (law.data_waits text c.args.body.now.items c.args.unread.now c.args.missing x.1 may)),
+      law.leaves_by f text c.args.unread.now x.0 (law.data_leaves text c.args.body.now.items c.args.unread.now c.args.missing x.1 may (law.all_moved c.args.missing c.args.unread.now none)),
+    )
 
 pub returns-clause-ok : goal.returns-clause-ok
 returns-clause-ok c =

@@ -1,4 +1,4 @@
-use Rattle.std.proofs.Common.{rules, ◌≡◌, inl, ◌≤◌, length, take, drop}
+use Rattle.std.proofs.Common.{rules, ◌≡◌, inl, ◌≤◌, length, take, drop, refl}
 use Rattle.httparse.specs.Ascii.{crlf_bytes}
 use Rattle.http_edge.specs.declared.body.Left.TheVariants.{Data}
 use Rattle.http_edge.specs.declared.request.BadKind.TheVariants.{Syntax}
@@ -20,7 +20,11 @@ returns-then-n-lt2-clause-goes c =
     let same : take c.min-n.result c.args.unread.now ≡ take c.min-n.result crlf_bytes = search rules in
     λ f body text s.
     let x = law.left_is f c.args.left.now (Data 0) body c.args.unread.now text c.requires s in
-    (s, inl (law.none_by f text x.0 (law.data_waits text body c.args.unread.now 0 x.1 (law.may_end c.args.unread.now c.min-n.result all c.if-n-lt2.true same))))
+    let may = law.may_end c.args.unread.now c.min-n.result all c.if-n-lt2.true same in (
+      s,
+      inl (law.none_by f text x.0 (law.data_waits text body c.args.unread.now 0 x.1 may)),
+      law.leaves_by f text c.args.unread.now x.0 (law.data_leaves text body c.args.unread.now 0 x.1 may refl),
+    )
 
 pub returns-clause-goes : goal.returns-clause-goes
 returns-clause-goes c =

@@ -19,7 +19,7 @@ returns-in-Ok-Partial-clause-goes c =
     let short : length c.args.unread.now ≤ 256 = search rules in
     λ f text s.
     let x = law.left_is f c.args.left.now Line c.args.body.now c.args.unread.now text c.requires s in
-    (s, inl (law.none_by f text x.0 (law.line_waits text c.args.body.now c.args.unread.now x.1 none may short)))
+    (s, inl (law.none_by f text x.0 (law.line_waits text c.args.body.now c.args.unread.now x.1 none may short)), law.leaves_by f text c.args.unread.now x.0 (law.line_leaves text c.args.body.now c.args.unread.now x.1 none))
 
 pub returns-in-Err-clause-goes : goal.returns-in-Err-clause-goes
 returns-in-Err-clause-goes c =

@@ -1,5 +1,5 @@
-use Rattle.std.proofs.Common.{rules, ◌≡◌, inl, ◌≤◌, length}
-use Rattle.httparse.specs.Grammar.{HasNoSection}
+use Rattle.std.proofs.Common.{rules, ◌≡◌, inl, inr, ◌≤◌, ◌<◌, length}
+use Rattle.httparse.specs.Grammar.{HasNoSection, MayBecomeSection}
 use Rattle.httparse.specs.Spans.{IsSectionWithin, IsSectionOf, SectionOverflows}
 use Rattle.http_edge.specs.declared.request.BadKind.TheVariants.{Syntax}
 use Rattle.http_edge.proofs.Lefts as law
@@ -24,3 +24,14 @@ pub returns-in-Err-clause-goes : goal.returns-in-Err-clause-goes
 returns-in-Err-clause-goes c =
     let many : SectionOverflows 64 c.args.unread.now = search rules in
     λ f body text s. law.never_by f text Syntax s.0 (law.bad_trailers text body c.args.unread.now s.1 (inl many))
+
+pub returns-else-as_slice-eq-ROOM-clause-goes : goal.returns-else-as_slice-eq-ROOM-clause-goes
+returns-else-as_slice-eq-ROOM-clause-goes c =
+    let none : HasNoSection c.args.unread.now = search rules in
+    let may : MayBecomeSection c.args.unread.now = search rules in
+    let short : length c.args.unread.now < 8192 = search rules in
+    λ f body text s. (
+      s,
+      inr (s.0, record { body = body; unread = c.args.unread.now; at = s.1; none = none; may = may; short = short }),
+      law.leaves_by f text c.args.unread.now s.0 (law.trailers_leave text body c.args.unread.now s.1),
+    )

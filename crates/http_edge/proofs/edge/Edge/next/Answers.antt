@@ -1,6 +1,6 @@
 use Rattle.std.proofs.Common.{rules, ◌⊎◌, ℕ, List, inl, refl, sym, ◌∙◌, None, ◌≡◌}
 use Rattle.http_edge.specs.Reading.{IsRefused, HasNone}
-use Rattle.http_edge.specs.Edges.{Stands, IsBegun, IsWholeIn, Waits}
+use Rattle.http_edge.specs.Edges.{Stands, IsBegun, IsWholeIn, Waits, Leaves}
 use Rattle.http_edge.proofs.Edging as law
 use Rattle.http_edge.proofs.edge.Edge.next.Goals as goal
 
@@ -25,8 +25,8 @@ returns-in-Wait-clause-steps c =
     let begun : (text : List ℕ) → Stands c.args.self.now text → Stands c.begin.new.self text × IsBegun c.begin.new.self = search rules in
     λ text s.
     let b = begun text s in
-    let filled : Stands c.fill.new.self text × (HasNone text ⊎ Waits text) = rw c.in-Wait.is at (c.in_ok-fill.ensures.fills text b.0 b.1) in
-    ((filled.0.0, filled.0.1, λ e. law.waits-begun c.fill.new.self.begun text (c.fill.ensures.begun b.1) filled.1), filled.1)
+    let filled : Stands c.fill.new.self text × (HasNone text ⊎ Waits text) × Leaves text c.fill.new.self.unread = rw c.in-Wait.is at (c.in_ok-fill.ensures.fills text b.0 b.1) in
+    ((filled.0.0, filled.0.1, λ e. (law.waits-begun c.fill.new.self.begun text (c.fill.ensures.begun b.1) filled.1, filled.2)), filled.1)
 
 pub returns-in-Whole-clause-still_told : goal.returns-in-Whole-clause-still_told
 returns-in-Whole-clause-still_told c = λ e.
