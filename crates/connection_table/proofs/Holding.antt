@@ -158,4 +158,4 @@ mark-more n m b more fits =
 -- Where the edge has all bytes and waits, nothing can be asked.
 pub idle-text : (r : Reader) → IsInStep r → Rests r → IsIdle (text_of r)
 idle-text r stands rests =
-    inr (subst (λ (u : List ℕ). HasNone u ⊎ Waits u) (sym (all-given r.bytes.items r.start r.taken r.order rests.0)) (waits-so r.edge.begun (given_of r) (stands.2 rests.1)))
+    inr (subst (λ (u : List ℕ). HasNone u ⊎ Waits u) (sym (all-given r.bytes.items r.start r.taken r.order rests.0)) (waits-so r.edge.begun (given_of r) (stands.2 rests.1).0))

@@ -53,16 +53,20 @@ appended n bytes xs = changed_at n (extended bytes) xs
 abbrev pub left_by : Item → List ℕ → List ℕ
 left_by i rest = if closes i then [] else rest
 
+-- how many bytes wait unread: what its text leaves, where that is read as it comes in; or all
+abbrev pub unread_in : Bool → Inlet → ℕ
+unread_in reads x = if reads then x.unread else length x.text
+
 -- So many bytes more would be more than 1,048,576 unread in all. After the last request none count.
-abbrev pub is_full : Inlet → ℕ → Bool
-is_full x more = not x.closing && nat_lt 1048576 (x.unread + more)
+abbrev pub is_full : Bool → ℕ → Inlet → Bool
+is_full reads more x = not x.closing && nat_lt 1048576 (unread_in reads x + more)
 
-abbrev pub is_full_in : Option Inlet → ℕ → Bool
-is_full_in None more = false
-is_full_in (Some x) more = is_full x more
+abbrev pub is_full_in : Bool → ℕ → Option Inlet → Bool
+is_full_in reads more None = false
+is_full_in reads more (Some x) = is_full reads more x
 
-abbrev pub is_full_at : ℕ → ℕ → List Inlet → Bool
-is_full_at n more xs = is_full_in (inlet_at n xs) more
+abbrev pub is_full_at : ℕ → Bool → ℕ → List Inlet → Bool
+is_full_at n reads more xs = is_full_in reads more (inlet_at n xs)
 
 -- The numbers rise.
 abbrev pub AreRising : List Inlet → Type 0

@@ -3,7 +3,7 @@ use Rattle.std.specs.Prelude.{◌≡◌, ◌⊎◌, ℕ, ◌+◌, ◌<◌, true,
 use Rattle.std.specs.Prelude.{Some, None, Result, Ok, Err}
 use Rattle.http_edge.specs.declared.memory.Memory.{Memory}
 use Rattle.http_edge.specs.Reading.{Item, First, HasNone, closes}
-use Rattle.http_edge.specs.Edges.{Waits, Expects, item}
+use Rattle.http_edge.specs.Edges.{Waits, Expects, LeavesBytes, item}
 use Rattle.connection_table.specs.declared.inbox.Next.{Next}
 use Rattle.connection_table.specs.declared.inbox.Next.TheVariants as N
 use Rattle.connection_table.specs.Inlets.{Inlet, inlet_at, with_inlet, left_by}
@@ -35,18 +35,22 @@ pub record Asks (i : Item) (x y : Inlet) : Type 0 where
   pub left : y ≡ inlet_after x.number i rest
   pub less : work_of y < work_of x
 
--- Nothing can be asked, and the client is told to go on, which it wasn't before.
+-- Nothing can be asked, and the client is told to go on, which it wasn't before. Just the bytes that
+-- the text leaves count as unread.
 pub record Continues (x y : Inlet) : Type 0 where
   pub goes_on : x.closing ≡ false
   pub idle : IsIdle x.text
   pub expects : Expects x.text
   pub untold : x.told ≡ false
+  pub counted : LeavesBytes x.text y.unread
   pub left : y ≡ record x { told = true; unread = y.unread }
 
--- Nothing can be asked, and the client was told to go on where it expects that.
-pub record AwaitsMore (x : Inlet) : Type 0 where
+-- Nothing can be asked, and the client was told to go on where it expects that. Just the bytes that
+-- the text leaves count as unread.
+pub record AwaitsMore (x y : Inlet) : Type 0 where
   pub idle : IsIdle x.text
   pub told : Expects x.text → x.told ≡ true
+  pub counted : LeavesBytes x.text y.unread
 
 -- All stays but the count of the unread.
 abbrev pub Stays : Inlet → Inlet → Type 0
@@ -54,7 +58,7 @@ Stays x y = y ≡ record x { unread = y.unread }
 
 -- The last request was read, or more bytes are awaited.
 pub record Settles (x y : Inlet) : Type 0 where
-  pub why : (x.closing ≡ true) ⊎ AwaitsMore x
+  pub why : (x.closing ≡ true) ⊎ AwaitsMore x y
   pub left : Stays x y
 
 abbrev pub ReadsInlet : Result Next Memory → Inlet → Inlet → Type 0

@@ -100,10 +100,15 @@ impl Inbox {
     }
 
     /// Whether so many bytes more would be too many. Bytes after the last request don't count.
-    pub fn passes_limit(&self, more: usize) -> bool
-        ensures { result ≡ is_full self.now.current more }
+    pub fn passes_limit(&self, reads: bool, more: usize) -> bool
+        ensures { result ≡ is_full reads more self.now.current }
     {
-        !self.closing && (more > UNREAD || self.unread > UNREAD - more)
+        let unread = if reads {
+            self.unread
+        } else {
+            self.reader.len()
+        };
+        !self.closing && (more > UNREAD || unread > UNREAD - more)
     }
 
     /// Puts the bytes after those that wait, unless the last request was read.
@@ -130,7 +135,8 @@ impl Inbox {
             return Ok(Next::Nothing);
         }
         let found = self.reader.read();
-        self.unread = self.reader.unread();
+        let left = self.reader.unread();
+        self.unread = left;
         if let Some(incoming) = found? {
             self.told = false;
             self.closing = closes(&incoming);

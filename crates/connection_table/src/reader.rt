@@ -1,7 +1,7 @@
 //! The bytes of a connection, and how far they were read.
 
 ghost use Rattle.std.specs.Prelude.{◌≡◌, ◌≤◌, ◌<◌, ◌+◌, ◌-◌, ◌*◌, ◌++◌, ◌||◌, ◌↔◌, [], true, false};
-ghost use Rattle.std.specs.Prelude.{take, drop, vec_len, IsTrue, IfOk, OnOk, OnErr, Ok, None};
+ghost use Rattle.std.specs.Prelude.{take, drop, length, vec_len, IsTrue, IfOk, OnOk, OnErr, Ok, None};
 ghost use Rattle.http_edge.specs.Edges.{item};
 ghost use Rattle.http_edge.specs.Reading.{closes as is_last};
 
@@ -22,7 +22,7 @@ pub struct Reader {
 }
 
 impl Reader {
-    ghost use Rattle.http_edge.specs.Edges.{Expects, IsUnread, is_told, unread_len};
+    ghost use Rattle.http_edge.specs.Edges.{Expects, IsUnread, LeavesBytes, is_told, unread_len};
     ghost use Rattle.connection_table.specs.Readers.{IsInStep, Rests, ReadsNext};
     ghost use Rattle.connection_table.specs.Readers.{text_of, unread_of};
 
@@ -57,8 +57,16 @@ impl Reader {
     pub fn unread(&self) -> usize
         ensures len { result ≡ unread_of self.now }
         ensures counts { IsInStep self.now → IsUnread (text_of self.now) result }
+        ensures exact { IsInStep self.now → Rests self.now → LeavesBytes (text_of self.now) result }
     {
         self.edge.unread() + (self.bytes.len() - self.taken)
+    }
+
+    /// How many bytes aren't asked yet.
+    pub fn len(&self) -> usize
+        ensures { result ≡ length (text_of self.now) }
+    {
+        self.bytes.len() - self.start
     }
 
     /// Gives the edge what it has room for. False where it took nothing.

@@ -90,12 +90,13 @@ impl Table {
     }
 
     /// Whether so many bytes more of the connection would be too many: more than 1,048,576 in all
-    /// that wait unread.
-    pub fn passes_limit(&self, number: u32, more: usize) -> bool
-        ensures { result ≡ is_full_at number more self.now.current }
+    /// that wait unread. Where its requests are read as they come in, what the request begun took
+    /// doesn't count; where it waits for an answer, all that came counts.
+    pub fn passes_limit(&self, number: u32, reads: bool, more: usize) -> bool
+        ensures { result ≡ is_full_at number reads more self.now.current }
     {
         match place_of(&self.rows, number) {
-            Some(place) => self.rows[place].inbox.passes_limit(more),
+            Some(place) => self.rows[place].inbox.passes_limit(reads, more),
             None => false,
         }
     }

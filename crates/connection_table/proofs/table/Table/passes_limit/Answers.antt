@@ -14,10 +14,10 @@ returns-in-Some c =
     let rows = c.self.inside.rows.items in
     let a = at-place rows c.deref.result.now c.in-Some.place c.args.number c.deref.ensures.value c.self.invariant.0 c.in-Some.ensures.number c.in-Some.ensures.stays in
     rw (← c.self.view_is)
-    (c.passes_limit.ensures ∙ sym (ap (λ o. is_full_in o c.args.more) (found-at rows c.in-Some.place c.args.number c.index.result.now a.order a.number a.stays c.index.ensures)))
+    (c.passes_limit.ensures ∙ sym (ap (λ o. is_full_in c.args.reads c.args.more o) (found-at rows c.in-Some.place c.args.number c.index.result.now a.order a.number a.stays c.index.ensures)))
 
 pub returns-in-None : goal.returns-in-None
 returns-in-None c =
     let rows = c.self.inside.rows.items in
     let none = subst (λ (rs : List Row). All (λ (x : Inlet). x.number ≢ c.args.number) (current_of rs)) c.deref.ensures.value (c.in-None.ensures.none refl) in
-    rw (← c.self.view_is) (sym (ap (λ o. is_full_in o c.args.more) (found-none c.args.number (current_of rows) none)))
+    rw (← c.self.view_is) (sym (ap (λ o. is_full_in c.args.reads c.args.more o) (found-none c.args.number (current_of rows) none)))
