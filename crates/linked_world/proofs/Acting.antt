@@ -22,11 +22,11 @@ use Rattle.linked_world.specs.Leading.{Leads, LeadsBy, served_of}
 use Rattle.proxy_acts.specs.Orders.{AreFor, AreSends, IsInOrder, BeginsWith, IsTelling as TellsOnly, ServesOut}
 use Rattle.http_mapping.specs.Means.{closes}
 use Rattle.proxy_acts.specs.Tellings.{TellsBytes}
-use Rattle.proxy_acts.specs.Unasked.{Unasked, unasked_in, taken}
+use Rattle.proxy_acts.specs.Unasked.{Unasked, unasked_in, taken, Recounts}
 use Rattle.linked_world.proofs.Lead.{leads-one, leads-then}
 use Rattle.proxy_acts.specs.Waiting.{IsOpen}
 use Rattle.proxy_acts.proofs.Opened.{conn-open}
-use Rattle.proxy_acts.proofs.Order.{rests-on}
+use Rattle.proxy_acts.proofs.Order.{out-on}
 use Rattle.linked_world.proofs.ReadingOn.{unasked-without, unasked-taken, unasked-opened, tells-on}
 
 -- what follows where a call went well
@@ -95,15 +95,21 @@ module _ {R : Type 0} (M : Terms) (w : When) where
       leads-one M w (IsInOrder (H.Close c)) (Misses c) (served_of old) (served_of old) (emissions before) [] (emissions before)
       (inr refl) (refl, refl, unknown) (sym (append-nil (emissions before)))
 
+  -- nothing more can be asked, and only how many bytes count as unread changes
+  pub rests-lead : (c : ℕ) (old new : Engine R) (before : List Output) → new.core ≡ old.core
+      → Recounts c (unasked_in old.table.current) (unasked_in new.table.current) → RestsAt c (served_of new)
+      → LeadsBy M w (ServesOut c) old before new before
+  rests-lead c old new before core counts rests =
+      leads-one M w (ServesOut c) (Rests c) (served_of old) (served_of new) (emissions before) [] (emissions before)
+      (record { first = []; are = refl; for = tt }) (core, refl, counts, rests) (sym (append-nil (emissions before)))
+
   -- it was served until nothing more can be asked
-  pub rests-lead : (c : ℕ) (old mid new : Engine R) (before after : List Output) → LeadsBy M w (AreFor c) old before mid after
-      → served_of new ≡ served_of mid → RestsAt c (served_of new)
+  pub serves-lead : (c : ℕ) (old mid new : Engine R) (before during after : List Output) → LeadsBy M w (AreFor c) old before mid during
+      → LeadsBy M w (ServesOut c) mid during new after
       → LeadsBy M w (ServesOut c) old before new after
-  rests-lead c old mid new before after h e rests =
-      leads-then M w (AreFor c) (λ (xs : List Act). xs ≡ Rests c ∷ []) (ServesOut c) (served_of old) (served_of mid) (served_of new)
-      (emissions before) (emissions after) (emissions after) (rests-on c) h
-      (leads-one M w (λ (xs : List Act). xs ≡ Rests c ∷ []) (Rests c) (served_of mid) (served_of new) (emissions after) [] (emissions after)
-      refl (e, refl, subst (RestsAt c) e rests) (sym (append-nil (emissions after))))
+  serves-lead c old mid new before during after h k =
+      leads-then M w (AreFor c) (ServesOut c) (ServesOut c) (served_of old) (served_of mid) (served_of new)
+      (emissions before) (emissions during) (emissions after) (out-on c) h k
 
   pub stays-lead : (P : List Act → Type 0) (old new : Engine R) (before after : List Output) → P []
       → new.core ≡ old.core → unasked_in new.table.current ≡ unasked_in old.table.current

@@ -6,10 +6,10 @@ use Rattle.std.proofs.lemmas.Bool.{ne_eqb}
 use Rattle.std.proofs.lemmas.List.{map_push}
 use Rattle.std.proofs.lemmas.List.Elements.{recursion_from_All}
 use Rattle.http_edge.specs.Reading.{Item}
-use Rattle.connection_table.specs.Inlets.{Inlet, inlet_at, fresh, changed_at as inlets_changed_at, with_inlet, extended as inlet_extended, appended, without as without_inlet, AreRising}
+use Rattle.connection_table.specs.Inlets.{Inlet, inlet_at, fresh, changed_at as inlets_changed_at, with_inlet, extended as inlet_extended, appended, without as without_inlet}
 use Rattle.connection_table.specs.Reads.{Asks, Continues, AwaitsMore, Settles, ChangesAt, IsAbsent}
 use Rattle.linked_world.specs.Engines.{work_in}
-use Rattle.proxy_acts.specs.Unasked.{Unasked, unasked_of, unasked_in, unasked_at, no_bytes, changed_at, extended, taken, without, left_after, TakesItem, TellsToGoOn, IsReadOut}
+use Rattle.proxy_acts.specs.Unasked.{Unasked, unasked_of, unasked_in, unasked_at, no_bytes, changed_at, extended, taken, without, left_after, TakesItem, TellsToGoOn, Recounted, Recounts, IsReadOut}
 
 at-inlet : (b : Bool) (x : Inlet) (o : Option Inlet) (u : Option Unasked) → u ≡ option_map unasked_of o
     → (if b then Some (unasked_of x) else u) ≡ option_map unasked_of (if b then Some x else o)
@@ -142,49 +142,22 @@ tells-on c xs ys h =
       untold = h.goes.untold;
       expects = h.goes.expects;
       idle = h.goes.idle;
-      left = ap unasked_in h.left ∙ with-changed c h.after (record (unasked_of h.before) { told = true }) xs m (ap unasked_of h.goes.left);
+      unread = h.after.unread;
+      counted = h.goes.counted;
+      left = ap unasked_in h.left ∙ with-changed c h.after (record (unasked_of h.before) { told = true; unread = h.after.unread }) xs m (ap unasked_of h.goes.left);
     }
 
--- where only what counts as unread changes, all stays
+-- only what counts as unread changes
 
-others-stay : (c : ℕ) (f : Inlet → Inlet) (xs : List Inlet) → AllByRecursion (λ (z : Inlet). c < z.number) xs
-    → inlets_changed_at c f xs ≡ xs
-others-stay c f [] h = refl
-others-stay c f (x ∷ xs) h =
-    let lt : c < x.number = h.0 in
-    let no : (x.number == c) ≡ false = ne_eqb x.number c (λ (e : x.number ≡ c). omega arith) in
-    let rest : inlets_changed_at c f xs ≡ xs = others-stay c f xs h.1 in
-    rw (no, rest) refl
-
-stays-one : (t : Bool) (c : ℕ) (x y b : Inlet) (xs : List Inlet) (o : Option Inlet) → (x.number == c) ≡ t
-    → AllByRecursion (λ (z : Inlet). x.number < z.number) xs
-    → unasked_of y ≡ unasked_of b
-    → (o ≡ Some b → unasked_in (inlets_changed_at c (λ (z : Inlet). y) xs) ≡ unasked_in xs)
-    → (if t then Some x else o) ≡ Some b
-    → unasked_in ((if t then y else x) ∷ inlets_changed_at c (λ (z : Inlet). y) xs) ≡ unasked_in (x ∷ xs)
-stays-one true c x y b xs o t above same f e =
-    let n : x.number ≡ c = eqb-true x.number c t in
-    let head : unasked_of y ≡ unasked_of x = same ∙ sym (ap unasked_of (same-some x b e)) in
-    let rest : inlets_changed_at c (λ (z : Inlet). y) xs ≡ xs =
-    others-stay c (λ (z : Inlet). y) xs (subst (λ (k : ℕ). AllByRecursion (λ (z : Inlet). k < z.number) xs) n above) in
-    rw (head, rest) refl
-stays-one false c x y b xs o t above same f e = ap (λ (us : List Unasked). unasked_of x ∷ us) (f e)
-
-stays-so : (c : ℕ) (y b : Inlet) (xs : List Inlet) → AreRising xs → inlet_at c xs ≡ Some b → unasked_of y ≡ unasked_of b
-    → unasked_in (inlets_changed_at c (λ (z : Inlet). y) xs) ≡ unasked_in xs
-stays-so c y b [] rise e same = refl
-stays-so c y b (x ∷ xs) rise e same =
-    stays-one (x.number == c) c x y b xs (inlet_at c xs) refl
-    (recursion_from_All (λ (z : Inlet). x.number < z.number) xs rise.0) same
-    (λ at. stays-so c y b xs rise.1 at same) e
-
-pub unasked-stays : (c : ℕ) (xs ys : List Inlet) → AreRising xs → ChangesAt Settles c xs ys → unasked_in ys ≡ unasked_in xs
-unasked-stays c xs ys rise h =
-    let same : unasked_of h.after ≡ unasked_of h.before = ap unasked_of h.goes.left in
-    let n : h.after.number ≡ c = ap (λ (x : Inlet). x.number) h.goes.left ∙ number-at c xs h.before h.stands in
-    ap unasked_in h.left
-    ∙ subst (λ (k : ℕ). unasked_in (inlets_changed_at k (λ (z : Inlet). h.after) xs) ≡ unasked_in xs) (sym n)
-    (stays-so c h.after h.before xs rise h.stands same)
+settled-counts : (c : ℕ) (xs ys : List Inlet) → ChangesAt Settles c xs ys → Recounted c (unasked_in xs) (unasked_in ys)
+settled-counts c xs ys h =
+    let m : h.after.number ≡ c = ap (λ (x : Inlet). x.number) h.goes.left ∙ number-at c xs h.before h.stands in
+    record {
+      before = unasked_of h.before;
+      stands = stands-at c xs h.before h.stands;
+      unread = h.after.unread;
+      left = ap unasked_in h.left ∙ with-changed c h.after (record (unasked_of h.before) { unread = h.after.unread }) xs m (ap unasked_of h.goes.left);
+    }
 
 -- what is left to read
 
@@ -218,12 +191,12 @@ read-there c y b xs ys n e is out =
 
 settled-out : (x y : Inlet) → Settles x y → IsReadOut (Some (unasked_of y))
 settled-out x y h =
-    let same : unasked_of y ≡ unasked_of x = ap unasked_of h.left in
-    subst (λ (u : Unasked). IsReadOut (Some u)) (sym same) (why-out x h.why)
+    let same : unasked_of y ≡ record (unasked_of x) { unread = y.unread } = ap unasked_of h.left in
+    subst (λ (u : Unasked). IsReadOut (Some u)) (sym same) (why-out h.why)
   where
-    why-out : (z : Inlet) → (z.closing ≡ true) ⊎ AwaitsMore z → IsReadOut (Some (unasked_of z))
-    why-out z (inl e) = inl e
-    why-out z (inr m) = inr (m.idle, m.told)
+    why-out : (x.closing ≡ true) ⊎ AwaitsMore x y → IsReadOut (Some (record (unasked_of x) { unread = y.unread }))
+    why-out (inl e) = inl e
+    why-out (inr m) = inr (m.idle, m.told, m.counted)
 
 pub read-settled : (c : ℕ) (xs ys : List Inlet) → ChangesAt Settles c xs ys → IsReadOut (unasked_at c (unasked_in ys))
 read-settled c xs ys h =
@@ -237,15 +210,15 @@ read-told c xs ys h =
   where
     told-out : (x y : Inlet) → Continues x y → IsReadOut (Some (unasked_of y))
     told-out x y k =
-        let is : unasked_of y ≡ record (unasked_of x) { told = true } = ap unasked_of k.left in
-        subst (λ (u : Unasked). IsReadOut (Some u)) (sym is) (inr (k.idle, λ e. refl))
+        let is : unasked_of y ≡ record (unasked_of x) { told = true; unread = y.unread } = ap unasked_of k.left in
+        subst (λ (u : Unasked). IsReadOut (Some u)) (sym is) (inr (k.idle, (λ e. refl), k.counted))
 
 -- nothing is asked
 
-pub nothing-same : (c : ℕ) (xs ys : List Inlet) → AreRising xs → IsAbsent c xs ys ⊎ ChangesAt Settles c xs ys
-    → unasked_in ys ≡ unasked_in xs
-nothing-same c xs ys rise (inl h) = ap unasked_in h.1
-nothing-same c xs ys rise (inr h) = unasked-stays c xs ys rise h
+pub nothing-counts : (c : ℕ) (xs ys : List Inlet) → IsAbsent c xs ys ⊎ ChangesAt Settles c xs ys
+    → Recounts c (unasked_in xs) (unasked_in ys)
+nothing-counts c xs ys (inl h) = inl (ap unasked_in h.1)
+nothing-counts c xs ys (inr h) = inr (settled-counts c xs ys h)
 
 pub nothing-read : (c : ℕ) (xs ys : List Inlet) → IsAbsent c xs ys ⊎ ChangesAt Settles c xs ys
     → IsReadOut (unasked_at c (unasked_in ys))

@@ -18,7 +18,7 @@ use Rattle.proxy_acts.specs.Told.{IsToldAnswers, TellsAll}
 use Rattle.proxy_acts.proofs.Doing.{did-all}
 use Rattle.proxy_acts.proofs.Moves.{Did, did-aside, did-then, aside-none}
 use Rattle.proxy_acts.proofs.Shown.{did-tell, did-send}
-use Rattle.linked_world.specs.Worlds.{WorldValue, Handles, HandlesAll, IsAtRest, IsRefusedAfter, is_too_much, new_world, served_in, when_in}
+use Rattle.linked_world.specs.Worlds.{WorldValue, Handles, HandlesAll, IsAtRest, IsRefusedAfter, IsTooMuch, new_world, served_in, when_in}
 
 pub take-next : {A : Type 0} (xs : List A) (n : ℕ) (d : A) → n < length xs → take (n + 1) xs ≡ take n xs ++ get_or xs n d ∷ []
 take-next [] n d lt = absurd (omega (arith, lt))
@@ -59,7 +59,7 @@ split-at {A} (x ∷ xs) (suc n) d lt =
     (ap (λ (ys : List A). x ∷ ys) (split-at xs n d (omega (arith, lt))))
 
 pub refused-at : (M : Terms) (is : List Input) (n : ℕ) (d : Input) (a b : WorldValue) (o : List Emission) → n < length is
-    → HandlesAll M (take n is) a o b → is_too_much (get_or is n d).happening b.inlets ≡ true → IsRefusedAfter M is a
+    → HandlesAll M (take n is) a o b → IsTooMuch (get_or is n d).happening (served_in b) → IsRefusedAfter M is a
 refused-at M is n d a b o lt h full = record {
   before = take n is;
   input = get_or is n d;

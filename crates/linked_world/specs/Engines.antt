@@ -1,5 +1,5 @@
 -- What is said of an engine, before and after a step.
-use Rattle.std.specs.Prelude.{◌≡◌, ℕ, ◌==◌, ◌<◌, Bool, true, false, not, List, [], ◌∷◌, ◌++◌, map, filter, slice_get, Option, Some, None}
+use Rattle.std.specs.Prelude.{◌≡◌, ℕ, ◌==◌, ◌<◌, Bool, true, false, not, List, [], ◌∷◌, ◌++◌, map, filter, slice_get, Option, Some, None, ⊤}
 use Rattle.media_map.specs.declared.form.Form.{Form}
 use Rattle.ask_model.specs.Views.{Ask}
 use Rattle.journal_book.specs.Entries.{Asks, Written}
@@ -10,8 +10,9 @@ use Rattle.linked_world.specs.declared.engine.Context.{Context}
 use Rattle.linked_world.specs.declared.engine.Engine.{Engine}
 use Rattle.proxy_acts.specs.declared.input.When.{When}
 use Rattle.proxy_acts.specs.declared.input.Output.{Output}
-use Rattle.proxy_acts.specs.Acts.{Act, Terms, at, RestsAt}
+use Rattle.proxy_acts.specs.Acts.{Act, Terms, at}
 use Rattle.proxy_acts.specs.Emissions.{emissions, Closed}
+use Rattle.proxy_acts.specs.Orders.{AreFor, ServesOut}
 use Rattle.proxy_acts.specs.Waiting.{conn_id}
 use Rattle.proxy_acts.specs.Unasked.{unasked_in}
 use Rattle.connection_table.specs.Inlets.{Inlet, inlet_at, without as without_inlet}
@@ -81,14 +82,15 @@ LeadsAfter M w P v xs before new after =
     Leads M w P (record { core = v; unasked = unasked_in xs }) (emissions before)
     (served_of new) (emissions after)
 
--- Nothing that the connection's bytes ask can be asked now.
-abbrev pub HasRead : {R : Type 0} → ℕ → Engine R → Type 0
-HasRead c e = RestsAt c (served_of e)
+-- What was next is asked, and there may be more to ask; or the connection was served out.
+abbrev pub ServesNext : Bool → ℕ → List Act → Type 0
+ServesNext true c acts = AreFor c acts
+ServesNext false c acts = ServesOut c acts
 
--- There may be more to ask, and less is left; or there isn't.
+-- Where there may be more to ask, less is left.
 abbrev pub GoesOn : {R : Type 0} → Bool → ℕ → Engine R → Engine R → Type 0
 GoesOn true c old new = work_at c new < work_at c old
-GoesOn false c old new = HasRead c new
+GoesOn false c old new = ⊤
 
 -- A connection that was open is closed, and told so.
 pub record IsShut {R : Type 0} (w : When) (c : ℕ) (old : Engine R) (before : List Output)

@@ -1,5 +1,5 @@
 -- What contracts see of a world, and what inputs do to it.
-use Rattle.std.specs.Prelude.{◌≡◌, ℕ, ◌^◌, Bool, true, false, length, min, max, ⊤, List, [], ◌∷◌, ◌++◌}
+use Rattle.std.specs.Prelude.{◌≡◌, ℕ, ◌^◌, length, min, max, ⊤, List, [], ◌∷◌, ◌++◌}
 use Rattle.ask_model.specs.Views.{Rules}
 use Rattle.journal_book.specs.Entries.{Written}
 use Rattle.core_steps.specs.Keeping.{start}
@@ -15,7 +15,8 @@ use Rattle.proxy_acts.specs.Hearing.{ShowsWhatCame, DoesWhatIsDue}
 use Rattle.proxy_acts.specs.Resting.{AllRest}
 use Rattle.proxy_acts.specs.Waiting.{IsDrained}
 use Rattle.proxy_acts.specs.Emissions.{Emission}
-use Rattle.connection_table.specs.Inlets.{Inlet, is_full_at}
+use Rattle.connection_table.specs.Inlets.{Inlet}
+use Rattle.proxy_acts.specs.Backlog.{PassesLimit}
 use Rattle.proxy_acts.specs.Unasked.{unasked_in}
 use Rattle.linked_world.specs.declared.engine.Engine.{Engine}
 use Rattle.linked_world.specs.Leading.{Leads}
@@ -79,10 +80,10 @@ pub record Shows (i : Input) (old new : WorldValue) : Type 0 where
 abbrev pub new_world : Rules → WorldValue
 new_world rules = record { core = core_of start [] []; inlets = []; rules = rules; moment = 0 }
 
--- More bytes come of a connection than may wait unread.
-abbrev pub is_too_much : Happening → List Inlet → Bool
-is_too_much (H.Bytes c bytes) xs = is_full_at c (length bytes.now) xs
-is_too_much _ xs = false
+-- Bytes come of a connection that with those that wait unread are more than 1,048,576.
+abbrev pub IsTooMuch : Happening → Served → Type 0
+IsTooMuch (H.Bytes c bytes) s = PassesLimit c (length bytes.now) s
+IsTooMuch _ s = ⊥
 
 -- Inputs are taken from a world to which nothing has happened on, and this is its journal after
 -- them.
@@ -99,7 +100,7 @@ pub record IsRefusedAfter (M : Terms) (is : List Input) (old : WorldValue) : Typ
   pub out : List Emission
   pub world : WorldValue
   pub taken : HandlesAll M before old out world
-  pub full : is_too_much input.happening world.inlets ≡ true
+  pub full : IsTooMuch input.happening (served_in world)
 
 abbrev pub IsRefusedIn : Terms → Rules → List Input → Type 0
 IsRefusedIn M rules is = IsRefusedAfter M is (new_world rules)

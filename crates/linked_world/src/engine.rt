@@ -9,7 +9,7 @@ ghost use Rattle.linked_core.specs.Taking.{IsTaken};
 ghost use Rattle.linked_core.specs.Values.{CoreValue};
 ghost use Rattle.proxy_acts.specs.Acts.{IsAllTold};
 ghost use Rattle.proxy_acts.specs.Waiting.{AreServed, IsOpen};
-ghost use Rattle.linked_world.specs.Engines.{terms_in, work_at, GoesOn, IsAskOf, IsReady, IsSentOut, IsShut, IsShutting, KeepsWaiting, LeadsAfter, LetsGo, MayGoBack};
+ghost use Rattle.linked_world.specs.Engines.{terms_in, work_at, GoesOn, ServesNext, IsAskOf, IsReady, IsSentOut, IsShut, IsShutting, KeepsWaiting, LeadsAfter, LetsGo, MayGoBack};
 ghost use Rattle.connection_table.specs.Inlets.{Inlet};
 ghost use Rattle.proxy_acts.specs.Unasked.{TakesItem, unasked_in};
 ghost use Rattle.linked_world.specs.Leading.{LeadsBy, rules_in};
@@ -256,8 +256,8 @@ impl<R: Relation> Engine<R> {
     ) -> Result<bool, Memory>
         requires suits { Suits R.holds R.takes (rules_in context).routes bank.now }
         requires told { IsAllTold number self.old.core }
-        ensures leads { OnOk result (LeadsBy (terms_in R.holds R.takes context.entry)
-            context.entry.when (AreFor number)
+        ensures leads { IfOk result (λ more. LeadsBy (terms_in R.holds R.takes context.entry)
+            context.entry.when (ServesNext more number)
             self.old outputs.old.items self.new outputs.new.items) }
         ensures back { MayGoBack self.old self.new }
         ensures waits { OnOk result (KeepsWaiting self.old.core self.new.core) }
@@ -266,7 +266,6 @@ impl<R: Relation> Engine<R> {
         if !self.core.is_idle(number) {
             return Ok(false);
         }
-        self.table.keeps();
         match self.table.next(number)? {
             Next::Request(incoming) => {
                 self.ask(context, bank, number, incoming, outputs)?;

@@ -1,8 +1,9 @@
 //! The proxy as one value: inputs in, outputs out.
 
-ghost use Rattle.std.specs.Prelude.{◌≡◌, ◌↔◌, true, IfOk, OnOk, OnErr, IsErrOf};
+ghost use Rattle.std.specs.Prelude.{◌≡◌, ◌↔◌, IsTrue, IfOk, OnOk, OnErr, IsErrOf};
 ghost use Rattle.whole_history.specs.Justified.{Stands};
 ghost use Rattle.ask_model.specs.Views.{rules_of};
+ghost use Rattle.core_steps.specs.Room.{KeptInRoom};
 ghost use Rattle.proxy_acts.specs.Asking.{AllHeed};
 ghost use Rattle.proxy_acts.specs.Emissions.{emissions};
 ghost use Rattle.proxy_acts.specs.Closing.{Closes};
@@ -27,7 +28,7 @@ const LAST_MOMENT: u64 = 1 << 62;
 
 impl<R: Relation> World<R> {
     ghost use Rattle.proxy_acts.specs.Tellings.{IsMapped, terms_of};
-    ghost use Rattle.linked_world.specs.Worlds.{Handles, IsAtRest, Shows, is_too_much, new_world, served_in};
+    ghost use Rattle.linked_world.specs.Worlds.{Handles, IsAtRest, IsTooMuch, Shows, new_world, served_in};
     ghost use Rattle.transformers.specs.Suits.{Suits};
 
     /// A proxy to which nothing has happened.
@@ -70,7 +71,7 @@ impl<R: Relation> World<R> {
         ensures handles { IfOk result (λ outputs. Handles (terms_of R.holds R.takes self.old.rules)
             input.entry self.old (emissions outputs.items) self.new) }
         ensures unchanged { OnErr result (self.new ≡ self.old) }
-        ensures full { is_too_much input.entry.happening self.old.inlets ≡ true
+        ensures full { IsTooMuch input.entry.happening (served_in self.old)
             ↔ IsErrOf result WorldFault.Backlog }
         ensures told { IfOk result (λ outputs. TellsAll R.holds R.takes self.old.rules self.old.core
             self.new.core (emissions outputs.items)) }
@@ -84,6 +85,8 @@ impl<R: Relation> World<R> {
             (emissions outputs.items)) }
         ensures rests { IsAtRest self.new }
     {
+        // Its contract says that the core keeps to its history, before the input and after it.
+        self.engine.core.journal();
         if self.is_too_much(input.happening) {
             return Err(WorldFault::Backlog);
         }
@@ -95,8 +98,6 @@ impl<R: Relation> World<R> {
             },
             settings: &self.settings,
         };
-        // Its contract says that the core keeps to its history, before the input and after it.
-        self.engine.core.journal();
         let before = self.engine.core.snapshot()?;
         let mut outputs = Vec::new(self.engine.alloc);
         match self
@@ -119,11 +120,15 @@ impl<R: Relation> World<R> {
 
     /// Whether more bytes come of a connection than may wait unread.
     fn is_too_much(&self, happening: Happening<'_>) -> bool
-        ensures { result ≡ is_too_much happening.entry self.now.inlets }
+        requires kept { KeptInRoom self.now.core.state }
+        ensures { IsTrue result ↔ IsTooMuch happening.entry (served_in self.now) }
     {
         match happening {
             Happening::Bytes(number, bytes) => {
-                self.engine.table.passes_limit(number, bytes.len())
+                let reads = self.engine.core.is_idle(number);
+                self.engine
+                    .table
+                    .passes_limit(number, reads, bytes.len())
             }
             _ => false,
         }

@@ -1,7 +1,7 @@
 -- What is done by some terms is done by any.
 use Rattle.std.proofs.Common.{List, [], ◌∷◌}
 use Rattle.proxy_acts.specs.declared.input.When.{When}
-use Rattle.proxy_acts.specs.Acts.{Act, Opens, TurnsAway, Takes, Hears, Passes, Asks, Denies, Sends, Tells, GoesOn, Rests, Leaves, Misses, Served, Terms, AsksItem, Does, DoesAll}
+use Rattle.proxy_acts.specs.Acts.{Act, Opens, TurnsAway, Takes, Hears, Passes, Asks, Denies, Sends, Tells, GoesOn, Rests, Leaves, Misses, Served, Terms, Does, DoesAll}
 use Rattle.proxy_acts.specs.Emissions.{Emission}
 use Rattle.proxy_acts.specs.Resting.{any_terms}
 

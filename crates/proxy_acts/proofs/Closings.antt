@@ -1,5 +1,6 @@
 -- Whom an act closes.
 use Rattle.std.proofs.Common.{◌≡◌, ◌≢◌, ◌⊎◌, inl, inr, ℕ, ◌+◌, Bool, true, false, cond, not, List, [], ◌∷◌, ◌++◌, length, map, Option, Some, None, Err, refl, sym, ap, ◌∙◌, subst, eq-eqb}
+use Rattle.proxy_acts.proofs.Recounting.{recount-at}
 use Rattle.std.specs.Prelude.{◌==◌, ⊤}
 use Rattle.std.specs.List.{AllByRecursion, Contains, filter}
 use Rattle.std.proofs.lemmas.List.{append-nil, append_assoc, append_cancel_left}
@@ -555,13 +556,13 @@ act-closes M w (Tells c k) old out new i h = tells-close M w c k old out new h (
 act-closes M w (GoesOn c) old out new i h =
     subst (ActCloses M old new) (sym h.2)
     (same-closes M old new (Says c continue_text ∷ []) (ap (λ (v : CoreValue). v.state) h.1) (ap (λ (v : CoreValue). v.untaken) h.1)
-    (λ d x e. changed-before c d (λ (x : Unasked). record h.0.before { told = true }) old.unasked x
+    (λ d x e. changed-before c d (λ (x : Unasked). record h.0.before { told = true; unread = h.0.unread }) old.unasked x
     (λ x n. at-number c old.unasked h.0.before h.0.stands)
     (subst (λ (xs : List Unasked). unasked_at d xs ≡ Some x) h.0.left e)) refl (tt, tt) (tt, tt)
     (λ d g. (λ same. g.unasked h.0.before (subst (λ (i : ℕ). unasked_at i old.unasked ≡ Some h.0.before) same h.0.stands), tt)))
 act-closes M w (Rests c) old out new i h =
     subst (ActCloses M old new) (sym h.1)
-    (same-closes M old new [] (ap (λ (s : Served). s.core.state) h.0) (ap (λ (s : Served). s.core.untaken) h.0)
-    (λ d x e. (x, subst (λ (s : Served). unasked_at d s.unasked ≡ Some x) h.0 e)) refl tt tt (λ d g. tt))
+    (same-closes M old new [] (ap (λ (v : CoreValue). v.state) h.0) (ap (λ (v : CoreValue). v.untaken) h.0)
+    (λ d x e. let y = recount-at c d old.unasked new.unasked h.2 x e in (y.0, y.1)) refl tt tt (λ d g. tt))
 act-closes M w (Leaves c) old out new i h = absurd i
 act-closes M w (Misses c) old out new i h = absurd i

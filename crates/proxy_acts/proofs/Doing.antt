@@ -355,7 +355,7 @@ did-act M w (GoesOn c) old out new h =
     (did-aside M old.core new.core (Says c continue_text ∷ []) h.1 (aside-goes-on c))
 did-act M w (Rests c) old out new h =
     subst (λ (out : List Emission). Did M old.core out new.core) (sym h.1)
-    (did-aside M old.core new.core [] (ap (λ (s : Served). s.core) h.0) aside-none)
+    (did-aside M old.core new.core [] h.0 aside-none)
 did-act M w (Leaves c) old out new h =
     subst (λ (out : List Emission). Did M old.core out new.core) (sym h.1)
     (did-closed M (at w old) c old.core new.core [] h.0.0 aside-none)

@@ -137,7 +137,7 @@ goes M w (Tells c k) old out new o h =
     ended false e = goes-same h.told.core.state new.core.state (ap (λ (s : Served). s.core.state) e.0)
 goes M w (GoesOn c) old out new o h =
     goes-same old.core.state new.core.state (ap (λ (v : CoreValue). v.state) h.1)
-goes M w (Rests c) old out new o h = goes-same old.core.state new.core.state (ap (λ (s : Served). s.core.state) h.0)
+goes M w (Rests c) old out new o h = goes-same old.core.state new.core.state (ap (λ (v : CoreValue). v.state) h.0)
 goes M w (Leaves c) old out new o h = closed-goes (at w old) c old.core new.core h.0.0
 goes M w (Misses c) old out new o h = goes-same old.core.state new.core.state (ap (λ (s : Served). s.core.state) h.0)
 

@@ -1,5 +1,6 @@
 -- A client is told to go on once a request.
-use Rattle.std.proofs.Common.{◌≡◌, ◌≢◌, ◌⊎◌, inl, inr, ℕ, ◌+◌, ◌≤◌, Bool, true, false, cond, List, [], ◌∷◌, ◌++◌, Option, Some, None, refl, sym, ap, ◌∙◌, subst, arith, eqb-true, eq-eqb}
+use Rattle.std.proofs.Common.{◌≡◌, ◌≢◌, ◌⊎◌, inl, inr, ℕ, ◌+◌, ◌≤◌, Bool, true, false, cond, List, [], ◌∷◌, ◌++◌, Option, Some, None, refl, sym, ap, ◌∙◌, subst, arith, eqb-true, eq-eqb, length}
+use Rattle.proxy_acts.proofs.Recounting.{recount-at}
 use Rattle.std.specs.Prelude.{◌==◌}
 use Rattle.ask_model.specs.Views.{Ask}
 use Rattle.http_mapping.specs.Means.{closes}
@@ -117,7 +118,7 @@ once M w c (Takes d bytes) old out new h = plain (owed c new) (owed c old)
     kept_told : (x : Unasked) → (extended bytes x).told ≡ x.told
     kept_told x = one x.closing
       where
-        one : (b : Bool) → (cond b x (record x { text = x.text ++ bytes })).told ≡ x.told
+        one : (b : Bool) → (cond b x (record x { text = x.text ++ bytes; unread = x.unread + length bytes })).told ≡ x.told
         one true = refl
         one false = refl
 
@@ -165,7 +166,7 @@ once M w c (GoesOn d) old out new h = by (which c d)
         own : (o : Option Unasked) → unasked_at d new.unasked ≡ o → untold o ≤ 0
         own None f = omega arith
         own (Some x) f =
-            let before = own-before d (λ (z : Unasked). record h.0.before { told = true }) old.unasked x keeps
+            let before = own-before d (λ (z : Unasked). record h.0.before { told = true; unread = h.0.unread }) old.unasked x keeps
             (subst (λ (xs : List Unasked). unasked_at d xs ≡ Some x) h.0.left f) in
             subst (λ (b : Bool). cond b 0 1 ≤ 0) (sym (ap (λ (z : Unasked). z.told) before.2)) (omega arith)
 
@@ -181,11 +182,13 @@ once M w c (GoesOn d) old out new h = by (which c d)
         omega (arith, is, none, one)
     by (inr ne) =
         let is = (counted c d).0 ne in
-        let same = kept c old new (λ x e. sym (others-same d c (λ (z : Unasked). record h.0.before { told = true }) old.unasked ne keeps)
+        let same = kept c old new (λ x e. sym (others-same d c (λ (z : Unasked). record h.0.before { told = true; unread = h.0.unread }) old.unasked ne keeps)
         ∙ subst (λ (xs : List Unasked). unasked_at c xs ≡ Some x) h.0.left e) in
         omega (arith, is, same)
 once M w c (Rests d) old out new h =
-    plain (owed c new) (owed c old) (same-at c old new (ap (λ (s : Served). s.unasked) h.0))
+    plain (owed c new) (owed c old)
+    (told-same (unasked_at c new.unasked) (unasked_at c old.unasked)
+    (λ x e. let y = recount-at d c old.unasked new.unasked h.2 x e in (y.0, y.1, sym (ap (λ (z : Unasked). z.told) y.2))))
 once M w c (Leaves d) old out new h = plain (owed c new) (owed c old) (shut-at w c d old new h.0)
 once M w c (Misses d) old out new h =
     plain (owed c new) (owed c old) (same-at c old new (ap (λ (s : Served). s.unasked) h.0))

@@ -1,5 +1,6 @@
 -- What each act asks on a connection.
-use Rattle.std.proofs.Common.{◌≡◌, ◌≢◌, ◌⊎◌, inl, inr, ℕ, Bool, true, false, cond, List, [], ◌∷◌, ◌++◌, Some, None, Ok, Err, refl, sym, ap, ◌∙◌, subst, eqb-true, eq-eqb}
+use Rattle.std.proofs.Common.{◌≡◌, ◌≢◌, ◌⊎◌, inl, inr, ℕ, Bool, true, false, cond, List, [], ◌∷◌, ◌++◌, Some, None, Ok, Err, refl, sym, ap, ◌∙◌, subst, eqb-true, eq-eqb, ◌+◌, length}
+use Rattle.proxy_acts.proofs.Recounting.{recount-after, recount-none}
 use Rattle.std.specs.Prelude.{◌==◌, ⊤}
 use Rattle.std.specs.List.{AllByRecursion}
 use Rattle.std.proofs.lemmas.Bool.{ne_eqb}
@@ -275,8 +276,8 @@ takes-effect P c d bytes old new h = by (d == c) refl
         ap (unasked_at c) unasked ∙ ap (λ (k : ℕ). unasked_at k (changed_at d (extended bytes) old.unasked)) (sym e)
         ∙ own-after d (extended bytes) old.unasked u number (ap (λ (k : ℕ). unasked_at k old.unasked) e ∙ is)
 
-    goes-on : (u : Unasked) → u.closing ≡ false → extended bytes u ≡ record u { text = u.text ++ bytes }
-    goes-on u f = ap (λ (b : Bool). cond b u (record u { text = u.text ++ bytes })) f
+    goes-on : (u : Unasked) → u.closing ≡ false → extended bytes u ≡ record u { text = u.text ++ bytes; unread = u.unread + length bytes }
+    goes-on u f = ap (λ (b : Bool). cond b u (record u { text = u.text ++ bytes; unread = u.unread + length bytes })) f
 
     by : (b : Bool) → (d == c) ≡ b → Effect P c (cond b bytes []) old new
     by false e =
@@ -300,7 +301,7 @@ takes-effect P c d bytes old new h = by (d == c) refl
           };
           last = λ u stood closing. (
             refl,
-            subst IsOver (sym (at-own is u stood ∙ ap (λ (b : Bool). Some (cond b u (record u { text = u.text ++ bytes }))) closing)) closing,
+            subst IsOver (sym (at-own is u stood ∙ ap (λ (b : Bool). Some (cond b u (record u { text = u.text ++ bytes; unread = u.unread + length bytes }))) closing)) closing,
           );
           gone = λ stood. (
             refl,
@@ -368,7 +369,7 @@ plain-effect M w c (Tells d k) old out new p h =
 plain-effect M w c (GoesOn d) old out new p h = by (which c d)
   where
     f : Unasked → Unasked
-    f x = record h.0.before { told = true }
+    f x = record h.0.before { told = true; unread = h.0.unread }
 
     number : (x : Unasked) → x.number ≡ d → (f x).number ≡ d
     number x e = at-number d old.unasked h.0.before h.0.stands
@@ -393,7 +394,9 @@ plain-effect M w c (GoesOn d) old out new p h = by (which c d)
         (λ is. absurd (none-some h.0.before (sym is ∙ at-own e)))
     by (inr ne) =
         same-effect M.IsMeaning c old new s (ap (unasked_at c) h.0.left ∙ others-same d c f old.unasked ne number)
-plain-effect M w c (Rests d) old out new p h = still-effect M.IsMeaning c old new h.0
+plain-effect M w c (Rests d) old out new p h =
+    kept-effect M.IsMeaning c old new (silent-same c old.core.state new.core.state (ap state-of h.0))
+    (λ u is. recount-after d c old.unasked new.unasked h.2 u is) (λ is. recount-none d c old.unasked new.unasked h.2 is)
 plain-effect M w c (Leaves d) old out new p h = closing-effect M.IsMeaning w c d old new h.0
 plain-effect M w c (Misses d) old out new p h = still-effect M.IsMeaning c old new h.0
 

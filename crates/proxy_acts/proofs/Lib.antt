@@ -14,6 +14,7 @@ pub mod Lost
 pub mod Moves
 pub mod Moving
 pub mod Numbers
+pub mod Recounting
 pub mod Opened
 pub mod Order
 pub mod Rested

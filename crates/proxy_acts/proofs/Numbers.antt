@@ -22,7 +22,7 @@ use Rattle.proxy_acts.specs.Acts.{Act, Opens, TurnsAway, Takes, Hears, Passes, A
 use Rattle.proxy_acts.specs.Emissions.{Emission}
 use Rattle.proxy_acts.specs.Resting.{number_of, IsNumbered}
 use Rattle.proxy_acts.specs.Waiting.{conn_id}
-use Rattle.proxy_acts.specs.Unasked.{Unasked, unasked_at, no_bytes, changed_at, extended, without, left_after}
+use Rattle.proxy_acts.specs.Unasked.{Unasked, unasked_at, no_bytes, changed_at, extended, without, left_after, Recounts}
 
 -- entries by which no connection comes or goes
 
@@ -159,7 +159,7 @@ changed-numbers c f (x ∷ xs) h =
 pub extended-number : (bytes : List ℕ) (x : Unasked) → (extended bytes x).number ≡ x.number
 extended-number bytes x = one x.closing
   where
-    one : (b : Bool) → number_of (if b then x else record x { text = x.text ++ bytes }) ≡ x.number
+    one : (b : Bool) → number_of (if b then x else record x { text = x.text ++ bytes; unread = x.unread + length bytes }) ≡ x.number
     one true = refl
     one false = refl
 
@@ -213,6 +213,14 @@ asks-item-numbers c M a old new r =
     ap (map number_of) r.reads.left
     ∙ changed-numbers c (λ (x : Unasked). left_after c r.item r.reads.rest) old.unasked (λ x e. sym e)
 
+-- only how many bytes count as unread changes
+recount-numbers : (c : ℕ) (old new : List Unasked) → Recounts c old new → map number_of new ≡ map number_of old
+recount-numbers c old new (inl e) = ap (map number_of) e
+recount-numbers c old new (inr r) =
+    ap (map number_of) r.left
+    ∙ changed-numbers c (λ (x : Unasked). record r.before { unread = r.unread }) old
+    (λ x e. at-number c old r.before r.stands ∙ sym e)
+
 ends-numbers : (w : When) (c : ℕ) (b : Bool) (old : Served) (out : List Emission) (new : Served) → Ends w c b old out new
     → IsNumbered old → IsNumbered new
 ends-numbers w c true old out new h n = closed-numbers (at w old) c old new h.0.0 h.0.1 n
@@ -265,10 +273,11 @@ numbered M w (Tells c k) old out new h n =
 numbered M w (GoesOn c) old out new h n =
     numbers-kept old new
     (ap (map number_of) h.0.left
-    ∙ changed-numbers c (λ (x : Unasked). record h.0.before { told = true }) old.unasked
+    ∙ changed-numbers c (λ (x : Unasked). record h.0.before { told = true; unread = h.0.unread }) old.unasked
     (λ x e. at-number c old.unasked h.0.before h.0.stands ∙ sym e))
     (ap (λ (v : CoreValue). map conn_id v.state.conns) h.1) n
-numbered M w (Rests c) old out new h n = subst IsNumbered (sym h.0) n
+numbered M w (Rests c) old out new h n =
+    numbers-kept old new (recount-numbers c old.unasked new.unasked h.2) (ap (λ (v : CoreValue). map conn_id v.state.conns) h.0) n
 numbered M w (Leaves c) old out new h n = closed-numbers (at w old) c old new h.0.0 h.0.1 n
 numbered M w (Misses c) old out new h n = subst IsNumbered (sym h.0) n
 

@@ -145,7 +145,7 @@ keeps-act M w c (Tells d k) old out new f h =
     (keeps-core c old.core h.told.core (ap (λ (v : CoreValue). v.state) h.taken.3))
     (subst (λ (n : ℕ). KeepsOpen n h.told.core new.core) f (keeps-ends w d (closes h.answer.mapping.came) h.told h.after new h.ends))
 keeps-act M w c (GoesOn d) old out new f h = keeps-core c old.core new.core (ap (λ (v : CoreValue). v.state) h.1)
-keeps-act M w c (Rests d) old out new f h = keeps-core c old.core new.core (ap (λ (s : Served). s.core.state) h.0)
+keeps-act M w c (Rests d) old out new f h = keeps-core c old.core new.core (ap (λ (v : CoreValue). v.state) h.0)
 keeps-act M w c (Leaves d) old out new f h = absurd f
 keeps-act M w c (Misses d) old out new f h = absurd f
 

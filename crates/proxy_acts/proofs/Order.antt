@@ -2,7 +2,7 @@
 use Rattle.std.proofs.Common.{◌≡◌, ℕ, ◌+◌, ◌≤◌, List, [], ◌∷◌, ◌++◌, refl, sym, subst, ap, ◌∙◌, arith}
 use Rattle.std.specs.Prelude.{flat_map}
 use Rattle.std.specs.List.{AllByRecursion}
-use Rattle.std.proofs.lemmas.List.{append-nil}
+use Rattle.std.proofs.lemmas.List.{append-nil, append_assoc}
 use Rattle.std.proofs.lemmas.Grind.{flat_map-append}
 use Rattle.proxy_acts.specs.Acts.{Act, Opens, TurnsAway, Takes, Hears, Passes, Asks, Denies, Sends, Tells, GoesOn, Rests, Leaves, Misses}
 use Rattle.proxy_acts.specs.Orders.{IsFor, AreFor, ServesOut, IsSends, AreSends, Turn, acts_of, IsTurn, Rise, IsTelling, AreTurns, HasTurns, BeginsWith, Delivers}
@@ -55,6 +55,13 @@ told-for c k xs e = subst (AreFor c) (sym e) (refl, tt)
 -- it is served until nothing more can be asked
 pub rests-on : (c : ℕ) (xs ys : List Act) → AreFor c xs → ys ≡ Rests c ∷ [] → ServesOut c (xs ++ ys)
 rests-on c xs ys h e = record { first = xs; are = ap (λ (zs : List Act). xs ++ zs) e; for = h }
+
+pub out-on : (c : ℕ) (xs ys : List Act) → AreFor c xs → ServesOut c ys → ServesOut c (xs ++ ys)
+out-on c xs ys h k = record {
+  first = xs ++ k.first;
+  are = ap (λ (zs : List Act). xs ++ zs) k.are ∙ sym (append_assoc xs k.first (Rests c ∷ []));
+  for = for-on c xs k.first h k.for;
+}
 
 -- turns
 

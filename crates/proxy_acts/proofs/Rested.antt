@@ -4,7 +4,7 @@ use Rattle.std.specs.Prelude.{flat_map}
 use Rattle.std.specs.List.{AllByRecursion}
 use Rattle.uri_map.specs.declared.peer.Peer.{Peer}
 use Rattle.http_edge.proofs.Heading.{head_is_some}
-use Rattle.http_edge.specs.Edges.{Expects}
+use Rattle.http_edge.specs.Edges.{Expects, LeavesBytes}
 use Rattle.journal_book.specs.Entries.{Opens as Opened, Asks as Asked}
 use Rattle.headline.specs.Headline.{IsEntry}
 use Rattle.connection_table.specs.Reads.{IsIdle}
@@ -31,7 +31,7 @@ use Rattle.proxy_acts.proofs.Conns.{once-rising, more-open}
 use Rattle.proxy_acts.proofs.Awaiting.{IsToTell, Awaits, AskTheirOwn, entry-more, own-with, told-more, StepsTo, steps-by, which}
 use Rattle.proxy_acts.proofs.Numbers.{numbered}
 use Rattle.proxy_acts.proofs.Standing.{differ, added-at, is-open}
-use Rattle.proxy_acts.proofs.Serving.{IsAny, any-of, Base, LastAt, RestsNow, KeepsAt, last-kept, rests-kept, keeps-steps, base-steps, keeps-shut, gone-shut, base-shut, ServesOne, takes-serve, sends-keep, sends-base, for-serves, acts-serve}
+use Rattle.proxy_acts.proofs.Serving.{IsAny, any-of, Base, LastAt, RestsNow, KeepsAt, last-kept, rests-kept, keeps-steps, base-steps, keeps-shut, gone-shut, base-shut, ServesOne, rests-serve, takes-serve, sends-keep, sends-base, for-serves, acts-serve}
 
 -- One that rests does.
 rests-now : (c : ℕ) (s : Served) → Base s → LastAt c s → RestsAt c s → RestsNow c s
@@ -47,13 +47,14 @@ rests-now c s b l r x e = by r
         let own = b.own c k has in
         inl (record { number = k; moment = own.0; ask = own.1; asked = own.2; such = tt; due = inl has })
 
-    idle : (q : Bool) → x.closing ≡ q → IsIdle x.text → (Expects x.text → x.told ≡ true) → Awaits IsAny c s.core ⊎ AwaitsBytes x
-    idle true t none told = last t
-    idle false t none told = inr (record { goes_on = t; idle = none; told = told })
+    idle : (q : Bool) → x.closing ≡ q → IsIdle x.text → (Expects x.text → x.told ≡ true) → LeavesBytes x.text x.unread
+        → Awaits IsAny c s.core ⊎ AwaitsBytes x
+    idle true t none told counted = last t
+    idle false t none told counted = inr (record { goes_on = t; idle = none; told = told; counted = counted })
 
     out : IsReadOut (Some x) → Awaits IsAny c s.core ⊎ AwaitsBytes x
     out (inl t) = last t
-    out (inr h) = idle x.closing refl h.0 h.1
+    out (inr h) = idle x.closing refl h.0 h.1 h.2
 
     by : RestsAt c s → Awaits IsAny c s.core ⊎ AwaitsBytes x
     by (inl waiting) = let has = is-open c s x b.numbered e in waits has.0 has.1 waiting
@@ -126,18 +127,23 @@ served-out M w c acts old out new so h k =
   where
     rest : (parts : Split M w so.first (Rests c ∷ []) old new) → ButOne c parts.mid → AllServed new
     rest parts b =
-        let last = parts.then_so in
-        let same : new ≡ parts.mid = last.4.0 ∙ last.3.0 in
-        all-same parts.mid new same (record {
-          base = b.base;
-          last = b.last;
+        all-same end new parts.then_so.4.0 (record {
+          base = at_end.base;
+          last = at_end.last;
           rests = λ d. by d (which d c);
         })
       where
-        by : (d : ℕ) → (d ≡ c) ⊎ (d ≢ c) → RestsNow d parts.mid
-        by d (inl e) = subst (λ (k : ℕ). RestsNow k parts.mid) (sym e)
-            (rests-now c parts.mid b.base (b.last c) parts.then_so.3.2)
-        by d (inr ne) = b.rests d ne
+        end : Served
+        end = parts.then_so.0
+
+        at_end : ButOne c parts.then_so.0
+        at_end = serves-but-one c parts.mid parts.then_so.0
+            (rests-serve M w c parts.mid parts.then_so.1 parts.then_so.0 parts.then_so.3 b.base) b
+
+        by : (d : ℕ) → (d ≡ c) ⊎ (d ≢ c) → RestsNow d parts.then_so.0
+        by d (inl e) = subst (λ (k : ℕ). RestsNow k parts.then_so.0) (sym e)
+            (rests-now c parts.then_so.0 at_end.base (at_end.last c) parts.then_so.3.3)
+        by d (inr ne) = at_end.rests d ne
 
 -- the turns of an input
 
@@ -296,6 +302,9 @@ some-text a b e lt = let whole = ap length e ∙ length-append a b in omega (ari
 expects-nothing : Expects [] → ⊥
 expects-nothing x = some-text _ x.behind x.begins.reads.1 (head_is_some x.head)
 
+leaves-nothing : LeavesBytes [] 0
+leaves-nothing = ([], inl ((λ h rest x. some-text _ rest x.1 (head_is_some h)), refl), refl)
+
 opened-rests : (M : Terms) (w : When) (c : ℕ) (old : Served) (out : List Emission) (new : Served)
     → Does M w (Opens c) old out new → new.core.untaken ≡ [] → AllServed old → AllRest new
 opened-rests M w c old out new h none k = record {
@@ -363,6 +372,7 @@ opened-rests M w c old out new h none k = record {
       goes_on = refl;
       idle = inl refl;
       told = λ expects. absurd (expects-nothing expects);
+      counted = leaves-nothing;
     }))
 
 -- an input

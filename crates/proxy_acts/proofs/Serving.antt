@@ -1,5 +1,6 @@
 -- What an act leaves of the connections: its own, and the others.
-use Rattle.std.proofs.Common.{◌≡◌, ◌≢◌, ◌⊎◌, inl, inr, ℕ, Bool, true, false, cond, not, List, [], ◌∷◌, ◌++◌, map, Some, Ok, Err, refl, sym, ap, ◌∙◌, subst}
+use Rattle.std.proofs.Common.{◌≡◌, ◌≢◌, ◌⊎◌, inl, inr, ℕ, Bool, true, false, cond, not, List, [], ◌∷◌, ◌++◌, map, Some, Ok, Err, refl, sym, ap, ◌∙◌, subst, ◌+◌, length}
+use Rattle.proxy_acts.proofs.Recounting.{recount-at, recount-others}
 use Rattle.std.specs.Prelude.{◌==◌, ⊤, nat_lt}
 use Rattle.std.specs.List.{filter}
 use Rattle.http_edge.specs.Reading.{Item, asked, bad, closes as item_closes}
@@ -374,9 +375,29 @@ takes-serve M w c bytes old out new h b =
     still : (x : Unasked) → (extended bytes x).closing ≡ true → x.closing ≡ true
     still x t = by x.closing refl t
       where
-        by : (q : Bool) → x.closing ≡ q → (cond q x (record x { text = x.text ++ bytes })).closing ≡ true → x.closing ≡ true
+        by : (q : Bool) → x.closing ≡ q → (cond q x (record x { text = x.text ++ bytes; unread = x.unread + length bytes })).closing ≡ true → x.closing ≡ true
         by true e t = e
         by false e t = t
+
+-- a connection is read out
+
+pub rests-serve : (M : Terms) (w : When) (c : ℕ) (old : Served) (out : List Emission) (new : Served)
+    → Does M w (Rests c) old out new → Base old → ServesOne c old new
+rests-serve M w c old out new h b = record {
+  base = record {
+    numbered = numbered M w (Rests c) old out new h b.numbered;
+    once = subst (λ (v : CoreValue). StandOnce (map conn_id v.state.conns)) (sym h.0) b.once;
+    own = subst (λ (v : CoreValue). AskTheirOwn v.state.entries v.state.conns) (sym h.0) b.own;
+  };
+  others = λ d ne. record {
+    at_same = λ x e. sym (recount-others c d old.unasked new.unasked h.2 ne) ∙ e;
+    last = λ x. subst (Awaits IsLast d) (sym h.0) x;
+    any = λ x. subst (Awaits IsAny d) (sym h.0) x;
+  };
+  last = λ l x e t.
+      let y = recount-at c c old.unasked new.unasked h.2 x e in
+      subst (Awaits IsLast c) (sym h.0) (l y.0 y.1 (sym (ap (λ (z : Unasked). z.closing) y.2) ∙ t));
+}
 
 -- a datagram goes out
 
@@ -433,7 +454,7 @@ for-serves M w c Sends old out new i h b =
 for-serves M w c (Tells d k) old out new i h b = serves-as c d old new i (tells-serve M w d k old out new h b)
 for-serves M w c (GoesOn d) old out new i h b =
     serves-as c d old new i
-    (bytes-serve w d (λ (x : Unasked). record h.0.before { told = true }) old new
+    (bytes-serve w d (λ (x : Unasked). record h.0.before { told = true; unread = h.0.unread }) old new
     (λ x n. at-number d old.unasked h.0.before h.0.stands)
     (λ x e t. absurd (differ h.0.before.closing t h.0.goes_on)) h.0.left h.1
     (numbered M w (GoesOn d) old out new h b.numbered) b)

@@ -19,7 +19,7 @@ use Rattle.linked_core.specs.Taking.{IsTaken, IsSent}
 use Rattle.linked_core.specs.Values.{CoreValue, Outgoing, Untaken, stepped}
 use Rattle.proxy_acts.specs.declared.input.When.{When}
 use Rattle.proxy_acts.specs.Emissions.{Emission, Says, Goes, Closed, Turned}
-use Rattle.proxy_acts.specs.Unasked.{Unasked, unasked_at, no_bytes, without, taken, TakesItem, TellsToGoOn, IsReadOut}
+use Rattle.proxy_acts.specs.Unasked.{Unasked, unasked_at, no_bytes, without, taken, TakesItem, TellsToGoOn, Recounts, IsReadOut}
 
 -- a core, and the bytes that aren't asked yet of the connections that it serves
 pub record Served : Type 0 where
@@ -48,7 +48,7 @@ pub data Act : Type 0 where
   -- a connection is told the answer to this ask; or to go on with its body
   Tells : ℕ → ℕ → Act
   GoesOn : ℕ → Act
-  -- nothing more of a connection's bytes can be asked now
+  -- nothing more of a connection's bytes can be asked now, and those that wait unread are counted
   Rests : ℕ → Act
   -- the client of a connection closes it; or there is no such connection
   Leaves : ℕ → Act
@@ -160,7 +160,8 @@ Does M w (Tells c k) old out new = IsTelling M w c k old out new
 Does M w (GoesOn c) old out new =
     TellsToGoOn c old.unasked new.unasked × (new.core ≡ old.core)
     × (out ≡ Says c continue_text ∷ []) × IsNext c old.core
-Does M w (Rests c) old out new = (new ≡ old) × (out ≡ []) × RestsAt c old
+Does M w (Rests c) old out new =
+    (new.core ≡ old.core) × (out ≡ []) × Recounts c old.unasked new.unasked × RestsAt c new
 Does M w (Leaves c) old out new = IsClosing w c old new × (out ≡ [])
 Does M w (Misses c) old out new = (new ≡ old) × (out ≡ []) × IsUnknown c old.core
 

@@ -1,5 +1,6 @@
 pub mod Acts
 pub mod Asking
+pub mod Backlog
 pub mod Closing
 pub mod Continuing
 pub mod Emissions

@@ -1,6 +1,6 @@
 -- Between two inputs nothing is left undone.
 use Rattle.std.specs.Prelude.{◌≡◌, ◌⊎◌, ⊤, ℕ, true, false, List, [], map, Some}
-use Rattle.http_edge.specs.Edges.{Expects}
+use Rattle.http_edge.specs.Edges.{Expects, LeavesBytes}
 use Rattle.http_edge.specs.declared.answer.HttpAnswer.{HttpAnswer}
 use Rattle.ask_model.specs.Views.{Ask}
 use Rattle.journal_book.specs.Entries.{Asks}
@@ -42,11 +42,13 @@ pub record AwaitsLast (c : ℕ) (s : Served) : Type 0 where
   pub last : closes asked.ask.came ≡ true
 
 -- Its last request wasn't read, no request in its bytes can be asked, and its client was told to go
--- on where it expects that (RFC 9110 section 10.1.1).
+-- on where it expects that (RFC 9110 section 10.1.1). Just the bytes that its text leaves count as
+-- unread: none that the request begun took.
 pub record AwaitsBytes (x : Unasked) : Type 0 where
   pub goes_on : x.closing ≡ false
   pub idle : IsIdle x.text
   pub told : Expects x.text → x.told ≡ true
+  pub counted : LeavesBytes x.text x.unread
 
 -- Each open connection waits for an answer, or for bytes; and one whose last request was read waits
 -- for the answer to that.

@@ -1,21 +1,28 @@
 -- What of the bytes of connections isn't asked yet.
-use Rattle.std.specs.Prelude.{◌≡◌, ◌⊎◌, ⊤, ℕ, ◌==◌, Bool, true, false, not, if◌then◌else◌, List, [], ◌∷◌, ◌++◌, map, filter, Option, Some, None}
+use Rattle.std.specs.Prelude.{◌≡◌, ◌⊎◌, ⊤, ℕ, ◌+◌, ◌==◌, Bool, true, false, not, if◌then◌else◌, List, [], ◌∷◌, ◌++◌, length, map, filter, Option, Some, None}
 use Rattle.http_edge.specs.Reading.{Item, First, closes}
-use Rattle.http_edge.specs.Edges.{Expects}
+use Rattle.http_edge.specs.Edges.{Expects, LeavesBytes}
 use Rattle.connection_table.specs.Inlets.{Inlet}
 use Rattle.connection_table.specs.Reads.{IsIdle}
 
 -- An open connection: its number; its bytes that aren't asked yet; whether its client was told to
--- go on with the request that is next; and whether the last request was read, after which there are
--- none.
+-- go on with the request that is next; whether the last request was read, after which there are
+-- none; and how many count as unread where they are read as they come in.
 pub record Unasked : Type 0 where
   pub number : ℕ
   pub text : List ℕ
   pub told : Bool
   pub closing : Bool
+  pub unread : ℕ
 
 abbrev pub unasked_of : Inlet → Unasked
-unasked_of x = record { number = x.number; text = x.text; told = x.told; closing = x.closing }
+unasked_of x = record {
+  number = x.number;
+  text = x.text;
+  told = x.told;
+  closing = x.closing;
+  unread = x.unread;
+}
 
 abbrev pub unasked_in : List Inlet → List Unasked
 unasked_in xs = map unasked_of xs
@@ -27,7 +34,7 @@ unasked_at c (x ∷ xs) = if x.number == c then Some x else unasked_at c xs
 
 -- a connection that opens: no bytes came yet
 abbrev pub no_bytes : ℕ → Unasked
-no_bytes c = record { number = c; text = []; told = false; closing = false }
+no_bytes c = record { number = c; text = []; told = false; closing = false; unread = 0 }
 
 abbrev pub without : ℕ → List Unasked → List Unasked
 without c xs = filter (λ (x : Unasked). not (x.number == c)) xs
@@ -38,7 +45,9 @@ changed_at c change xs = map (λ (x : Unasked). if x.number == c then change x e
 
 -- Bytes come after those that wait; after the last request none are kept.
 abbrev pub extended : List ℕ → Unasked → Unasked
-extended bytes x = if x.closing then x else record x { text = x.text ++ bytes }
+extended bytes x =
+    if x.closing then x
+    else record x { text = x.text ++ bytes; unread = x.unread + length bytes }
 
 abbrev pub taken : ℕ → List ℕ → List Unasked → List Unasked
 taken c bytes xs = changed_at c (extended bytes) xs
@@ -50,6 +59,7 @@ left_after c i rest = record {
   text = if closes i then [] else rest;
   told = false;
   closing = closes i;
+  unread = length (if closes i then [] else rest);
 }
 
 -- The item that stands first in the text of the connection is taken off it.
@@ -62,7 +72,7 @@ pub record TakesItem (c : ℕ) (i : Item) (old new : List Unasked) : Type 0 wher
   pub left : new ≡ changed_at c (λ (x : Unasked). left_after c i rest) old
 
 -- The client that waits with its body is told to go on (RFC 9110 section 10.1.1), once for a
--- request.
+-- request. Just the bytes that the text leaves count as unread.
 pub record TellsToGoOn (c : ℕ) (old new : List Unasked) : Type 0 where
   pub before : Unasked
   pub stands : unasked_at c old ≡ Some before
@@ -70,10 +80,25 @@ pub record TellsToGoOn (c : ℕ) (old new : List Unasked) : Type 0 where
   pub untold : before.told ≡ false
   pub expects : Expects before.text
   pub idle : IsIdle before.text
-  pub left : new ≡ changed_at c (λ (x : Unasked). record before { told = true }) old
+  pub unread : ℕ
+  pub counted : LeavesBytes before.text unread
+  pub left :
+      new ≡ changed_at c (λ (x : Unasked). record before { told = true; unread = unread }) old
 
--- Nothing of what the connection's bytes ask is left, nor a client that could be told to go on.
+-- Only how many bytes of the connection count as unread changes.
+pub record Recounted (c : ℕ) (old new : List Unasked) : Type 0 where
+  pub before : Unasked
+  pub stands : unasked_at c old ≡ Some before
+  pub unread : ℕ
+  pub left : new ≡ changed_at c (λ (x : Unasked). record before { unread = unread }) old
+
+abbrev pub Recounts : ℕ → List Unasked → List Unasked → Type 0
+Recounts c old new = (new ≡ old) ⊎ Recounted c old new
+
+-- Nothing of what the connection's bytes ask is left, nor a client that could be told to go on; and
+-- just the bytes that its text leaves count as unread.
 abbrev pub IsReadOut : Option Unasked → Type 0
 IsReadOut None = ⊤
 IsReadOut (Some x) =
-    (x.closing ≡ true) ⊎ (IsIdle x.text × (Expects x.text → x.told ≡ true))
+    (x.closing ≡ true)
+    ⊎ (IsIdle x.text × (Expects x.text → x.told ≡ true) × LeavesBytes x.text x.unread)
