@@ -4,6 +4,7 @@ pub mod Asking
 pub mod AskedInRun
 pub mod Growth
 pub mod Lead
+pub mod Limits
 pub mod Numbered
 pub mod Promises
 pub mod Quiet

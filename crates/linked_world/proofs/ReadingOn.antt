@@ -1,10 +1,7 @@
 -- What of the connections' bytes isn't asked, after what the table does.
-use Rattle.std.proofs.Common.{◌≡◌, ◌⊎◌, ℕ, ◌+◌, ◌<◌, Bool, true, false, cond, List, [], ◌∷◌, ◌++◌, length, Option, Some, None, inl, inr, refl, sym, ap, subst, ◌∙◌, not, arith, eqb-true, eq-eqb}
+use Rattle.std.proofs.Common.{◌≡◌, ◌⊎◌, ℕ, ◌+◌, ◌<◌, Bool, true, false, cond, List, [], ◌∷◌, ◌++◌, length, Option, Some, None, inl, inr, refl, sym, ap, subst, ◌∙◌, not, eqb-true, eq-eqb}
 use Rattle.std.specs.Prelude.{option_map, ◌==◌, if◌then◌else◌}
-use Rattle.std.specs.List.{AllByRecursion}
-use Rattle.std.proofs.lemmas.Bool.{ne_eqb}
 use Rattle.std.proofs.lemmas.List.{map_push}
-use Rattle.std.proofs.lemmas.List.Elements.{recursion_from_All}
 use Rattle.http_edge.specs.Reading.{Item}
 use Rattle.connection_table.specs.Inlets.{Inlet, inlet_at, fresh, changed_at as inlets_changed_at, with_inlet, extended as inlet_extended, appended, without as without_inlet}
 use Rattle.connection_table.specs.Reads.{Asks, Continues, AwaitsMore, Settles, ChangesAt, IsAbsent}

@@ -126,9 +126,7 @@ impl<R: Relation> World<R> {
         match happening {
             Happening::Bytes(number, bytes) => {
                 let reads = self.engine.core.is_idle(number);
-                self.engine
-                    .table
-                    .passes_limit(number, reads, bytes.len())
+                self.engine.table.passes_limit(number, reads, bytes.len())
             }
             _ => false,
         }
