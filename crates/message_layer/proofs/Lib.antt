@@ -12,3 +12,5 @@ pub mod HandsUp
 pub mod Rising
 pub mod Room
 pub mod Preparing
+pub mod Following
+pub mod Ordering

@@ -25,12 +25,12 @@ room_holds s h =
     both (nat_lt 0 s.given.room) _ (lt-ltb 0 s.given.room h.given)
     (both (nat_lt (vec_len s.waiting) (vec_capacity s.waiting)) _ (lt-ltb _ _ h.waiting)
     (both (nat_lt (vec_len s.awaited) (vec_capacity s.awaited)) _ (lt-ltb _ _ h.awaited)
-    (both (nat_lt (vec_len s.heard) (vec_capacity s.heard)) _ (lt-ltb _ _ h.heard)
+    (both s.heard.room _ h.heard
     (le-leb (deque_len s.out + 2) (deque_capacity s.out) h.out))))
 
 pub has_room_gives : (s : State) → has_room s ≡ true → HasRoomToo s
 has_room_gives s e =
-    let heard : Bool = nat_lt (vec_len s.heard) (vec_capacity s.heard) in
+    let heard : Bool = s.heard.room in
     let awaited : Bool = nat_lt (vec_len s.awaited) (vec_capacity s.awaited) in
     let waiting : Bool = nat_lt (vec_len s.waiting) (vec_capacity s.waiting) in
     let given : Bool = nat_lt 0 s.given.room in
@@ -42,6 +42,6 @@ has_room_gives s e =
       given = ltb-true 0 s.given.room (one given (waiting && (awaited && (heard && out))) e);
       waiting = ltb-true (vec_len s.waiting) (vec_capacity s.waiting) (one waiting (awaited && (heard && out)) e2);
       awaited = ltb-true (vec_len s.awaited) (vec_capacity s.awaited) (one awaited (heard && out) e3);
-      heard = ltb-true (vec_len s.heard) (vec_capacity s.heard) (one heard out e4);
+      heard = one heard out e4;
       out = leb-true (deque_len s.out + 2) (deque_capacity s.out) (other heard out e4);
     }

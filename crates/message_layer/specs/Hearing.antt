@@ -1,5 +1,5 @@
 -- What a datagram of the peer's does to a link (RFC 7252, sections 4.2, 4.3, 4.5 and 5.3.2).
-use Rattle.std.specs.Prelude.{ℕ, ◌+◌, ◌-◌, ◌*◌, ◌/◌, ◌%◌, List, [], ◌∷◌, ◌++◌, length, map, filter, count_by, Option, Some, None, Result, Ok, Err, Bool, true, false, nat_lt, ◌==◌, ◌&&◌, if◌then◌else◌}
+use Rattle.std.specs.Prelude.{ℕ, ◌+◌, ◌*◌, ◌/◌, ◌%◌, List, [], ◌∷◌, ◌++◌, length, map, filter, count_by, Option, Some, None, Result, Ok, Err, Bool, true, false, nat_lt, ◌==◌, ◌&&◌, if◌then◌else◌}
 use Rattle.std.specs.List.{list_any, find}
 use Rattle.std.specs.Str.{bytes_eq}
 use Rattle.coap_codec.specs.Spelling.{Content}
@@ -8,6 +8,7 @@ use Rattle.coap_codec.specs.declared.fault.CodecFault.{CodecFault}
 use Rattle.coap_codec.specs.declared.message.MsgType.{MsgType}
 use Rattle.coap_codec.specs.declared.message.MsgType.TheVariants.{Con, Non, Ack, Rst}
 use Rattle.coap_codec.specs.Recognition.{is_rejected}
+pub use Rattle.message_layer.specs.Remembering.{is_fresh, is_repeat}
 use Rattle.message_layer.specs.Values.{LinkState, Told, no_news, response, was_reset, was_dropped}
 use Rattle.message_layer.specs.Sending.{next_sent}
 use Rattle.message_layer.specs.declared.state.Outstanding.{Outstanding}
@@ -18,13 +19,6 @@ use Rattle.message_layer.specs.declared.state.Reply.TheVariants as reply
 use Rattle.message_layer.specs.declared.verdict.News.{News}
 use Rattle.message_layer.specs.declared.verdict.News.TheVariants.{Quiet, Response, Reset, Lost}
 use Rattle.message_layer.specs.declared.verdict.Verdict.{Verdict}
-
--- Within this time messages with the same ID are one and the same (EXCHANGE_LIFETIME, section 4.8.2).
-abbrev pub is_fresh : ℕ → Heard → Bool
-is_fresh t h = nat_lt (t - h.moment) 247000
-
-abbrev pub is_repeat : ℕ → ℕ → Heard → Bool
-is_repeat t mid h = (h.mid == mid) && is_fresh t h
 
 abbrev pub is_awaited : List ℕ → Awaited → Bool
 is_awaited token a = bytes_eq a.token token

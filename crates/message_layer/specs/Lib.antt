@@ -10,3 +10,4 @@ pub mod Answers
 pub mod Laws
 pub mod Mids
 pub mod Prepared
+pub mod Remembering

@@ -1,5 +1,5 @@
 -- What handing in a message and a tick do to a link (RFC 7252, sections 4.2, 4.4 and 4.7).
-use Rattle.std.specs.Prelude.{◌≡◌, ℕ, ◌+◌, ◌*◌, ◌/◌, ◌%◌, ◌^◌, ◌≤◌, ◌<◌, vec_len, vec_capacity, List, [], ◌∷◌, ◌++◌, length, count_by, Result, Ok, Err, slice_set, Option, Some, None, nat_lt, if◌then◌else◌}
+use Rattle.std.specs.Prelude.{◌≡◌, ℕ, ◌+◌, ◌*◌, ◌/◌, ◌%◌, ◌^◌, ◌≤◌, ◌<◌, vec_len, vec_capacity, List, [], ◌∷◌, ◌++◌, length, count_by, Result, Ok, Err, slice_set, Option, Some, None, true, nat_lt, if◌then◌else◌}
 use Rattle.std.specs.VecDeque.{deque_len, deque_capacity}
 use Rattle.message_layer.specs.Mids.{is_in_use, pruned}
 use Rattle.message_layer.specs.Values.{LinkState, Told, no_news, timed_out}
@@ -152,5 +152,5 @@ pub record HasRoomToo (s : State) : Type 0 where
   pub given : 0 < s.given.room
   pub waiting : vec_len s.waiting < vec_capacity s.waiting
   pub awaited : vec_len s.awaited < vec_capacity s.awaited
-  pub heard : vec_len s.heard < vec_capacity s.heard
+  pub heard : s.heard.room ≡ true
   pub out : deque_len s.out + 2 ≤ deque_capacity s.out

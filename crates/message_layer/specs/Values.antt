@@ -28,7 +28,7 @@ pub record LinkState : Type 0 where
   pub out : List (List ℕ)
 
 abbrev pub seen : State → LinkState
-seen s = record { waiting = s.waiting.items; outstanding = s.outstanding; last_mid = s.last_mid; given = s.given.moments; awaited = s.awaited.items; heard = s.heard.items; out = s.out.items }
+seen s = record { waiting = s.waiting.items; outstanding = s.outstanding; last_mid = s.last_mid; given = s.given.moments; awaited = s.awaited.items; heard = s.heard.messages; out = s.out.items }
 
 -- there is room in memory for what one more call adds
 abbrev pub has_room : State → Bool
@@ -36,7 +36,7 @@ has_room s =
     nat_lt 0 s.given.room
     && (nat_lt (vec_len s.waiting) (vec_capacity s.waiting)
     && (nat_lt (vec_len s.awaited) (vec_capacity s.awaited)
-    && (nat_lt (vec_len s.heard) (vec_capacity s.heard)
+    && (s.heard.room
     && nat_le (deque_len s.out + 2) (deque_capacity s.out))))
 
 -- what a link keeps, and whether it has room for what one more call adds

@@ -154,7 +154,7 @@ pub fn copy(alloc: Global, s: &State) -> Result<State, AllocError>
         last_mid: s.last_mid,
         given: s.given.copy(alloc)?,
         awaited: Vec::from_slice(alloc, &s.awaited)?,
-        heard: Vec::from_slice(alloc, &s.heard)?,
+        heard: s.heard.copy(alloc)?,
         out: copy_out(alloc, &s.out)?,
     })
 }

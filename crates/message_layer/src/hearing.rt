@@ -1,19 +1,20 @@
 //! Datagrams of the peer's: what the verdict over them says is done.
 
-ghost use Rattle.std.specs.Prelude.{◌≡◌, ◌<◌, ◌≤◌, ◌+◌, ◌++◌, map, filter, IfOk, OnErr, IsOkUnless, None, true, false, vec_len, vec_capacity};
+ghost use Rattle.std.specs.Prelude.{◌≡◌, ◌<◌, ◌≤◌, ◌+◌, ◌++◌, map, IfOk, OnErr, IsOkUnless, None, true, false, vec_len, vec_capacity};
 ghost use Rattle.std.specs.VecDeque.{deque_len, deque_capacity};
 ghost use Rattle.coap_codec.specs.Spelling.{content};
 ghost use Rattle.message_layer.specs.Values.{seen, shown, told, was_dropped, IsSound};
 ghost use Rattle.message_layer.specs.Sending.{HasRoom, HasRoomToo, IsNextOf};
-ghost use Rattle.message_layer.specs.Hearing.{is_fresh, replies, remembered_in, answered, answered_in, ended, applied, says, reset_for, hears, listed, takes};
+ghost use Rattle.message_layer.specs.Hearing.{replies, remembered_in, answered, answered_in, ended, applied, says, reset_for, hears, listed, takes};
 ghost use Rattle.message_layer.specs.Prepared.{MayHeed, IsMessage, IsOfNone, IsPreparedFor, is_lost, unread_mid, unread_verdict};
 
 use crate::bytes::Bytes;
 use crate::fault::LinkFault;
 use crate::prepared::{FirstSending, Hearing, Heeding};
+use crate::remembered::Remembered;
 use crate::sending;
 use crate::state::{Awaited, Heard, Reply, State, Up};
-use crate::verdict::{EXCHANGE_LIFETIME, IGNORED, News, Verdict, decide, is_same};
+use crate::verdict::{IGNORED, News, Verdict, decide, is_same};
 use coap_codec::{CodecFault, Message, Token, decode};
 use std::alloc::{AllocError, Global};
 use std::collections::VecDeque;
@@ -45,21 +46,12 @@ fn push_reply(out: &mut VecDeque<Bytes>, reply: Option<Bytes>)
     }
 }
 
-fn drop_old(heard: &mut Vec<Heard>, moment: u64)
-    ensures items { heard.new.items ≡ filter (is_fresh moment) heard.old.items }
-    ensures len { vec_len heard.new ≤ vec_len heard.old }
-    ensures capacity { vec_capacity heard.new ≡ vec_capacity heard.old }
-{
-    heard.retain(|h| moment.saturating_sub(h.moment) < EXCHANGE_LIFETIME);
-}
-
-fn remember(heard: &mut Vec<Heard>, remembered: bool, mid: u16, reply: Reply, moment: u64)
-    requires { vec_len heard.old < vec_capacity heard.old }
-    ensures { heard.new.items ≡ remembered_in moment mid reply remembered heard.old.items }
+fn remember(heard: &mut Remembered, remembered: bool, mid: u16, reply: Reply, moment: u64)
+    requires { heard.old.room ≡ true }
+    ensures { heard.new.messages ≡ remembered_in moment mid reply remembered heard.old.messages }
 {
     if remembered {
-        drop_old(heard, moment);
-        heard.push_reserved(Heard { mid, moment, reply });
+        heard.remember(Heard { mid, moment, reply });
     }
 }
 

@@ -12,6 +12,7 @@
 
 mod bytes;
 mod calls;
+mod chains;
 mod fault;
 mod hearing;
 mod laws;
@@ -19,6 +20,7 @@ mod link;
 mod mids;
 mod options;
 mod prepared;
+mod remembered;
 mod sending;
 mod state;
 mod verdict;

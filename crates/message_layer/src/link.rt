@@ -14,6 +14,7 @@ use crate::bytes::Bytes;
 use crate::fault::LinkFault;
 use crate::mids::Mids;
 use crate::prepared::{Hearing, Heeding, Submission, Ticking};
+use crate::remembered::Remembered;
 use crate::state::{State, Up};
 use crate::{calls, hearing, sending};
 use coap_codec::{Message, MsgType, Token};
@@ -53,7 +54,7 @@ impl Link {
                 last_mid: None,
                 given: Mids::new(alloc),
                 awaited: Vec::new(alloc),
-                heard: Vec::new(alloc),
+                heard: Remembered::new(alloc),
                 out: VecDeque::new(alloc),
             },
         }

@@ -136,7 +136,7 @@ pub fn make_room(s: &mut State) -> Result<(), AllocError>
     s.given.reserve()?;
     s.waiting.reserve(1)?;
     s.awaited.reserve(1)?;
-    s.heard.reserve(1)?;
+    s.heard.reserve()?;
     s.out.reserve(2)?;
     Ok(())
 }

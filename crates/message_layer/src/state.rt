@@ -1,9 +1,17 @@
 //! What a link keeps: plain data in the terms of RFC 7252, section 4.
 
+ghost use Rattle.std.specs.Prelude.{◌≡◌};
+ghost use Rattle.message_layer.specs.Remembering.{is_fresh, is_repeat};
+
 use crate::bytes::Bytes;
 use crate::mids::Mids;
+use crate::remembered::Remembered;
 use coap_codec::{Message, Token};
 use std::collections::VecDeque;
+
+/// How long a message ID of the peer's stands for one message, in milliseconds
+/// (EXCHANGE_LIFETIME, RFC 7252 section 4.8.2).
+const EXCHANGE_LIFETIME: u64 = 247_000;
 
 /// A message that was handed in and not yet sent.
 #[derive(Drop)]
@@ -56,6 +64,22 @@ pub struct Heard {
     pub reply: Reply,
 }
 
+impl Heard {
+    /// Its ID still stands for it alone.
+    pub(crate) fn is_fresh(&self, moment: u64) -> bool
+        ensures { result ≡ is_fresh moment self.now }
+    {
+        moment.saturating_sub(self.moment) < EXCHANGE_LIFETIME
+    }
+
+    /// It has this ID, which still stands for it alone.
+    pub(crate) fn is_repeat(&self, mid: u16, moment: u64) -> bool
+        ensures { result ≡ is_repeat moment mid self.now }
+    {
+        self.mid == mid && self.is_fresh(moment)
+    }
+}
+
 /// What a link keeps, and the datagrams that are to be given out.
 #[derive(Drop)]
 pub struct State {
@@ -67,7 +91,8 @@ pub struct State {
     /// When the last message IDs were given, the oldest first.
     pub given: Mids,
     pub awaited: Vec<Awaited>,
-    pub heard: Vec<Heard>,
+    /// The CONs and NONs that were heard last, the oldest first.
+    pub heard: Remembered,
     pub out: VecDeque<Bytes>,
 }
 

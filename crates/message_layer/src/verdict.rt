@@ -1,22 +1,14 @@
 //! What a message of the peer's means for a link: its reply, and whom it concerns.
 
-ghost use Rattle.std.specs.Prelude.{◌≡◌, count_by, true, false};
+ghost use Rattle.std.specs.Prelude.{◌≡◌, true, false};
 ghost use Rattle.std.specs.List.{list_any, find};
-ghost use Rattle.std.specs.Option.{option_copied};
 ghost use Rattle.std.specs.Str.{bytes_eq};
 ghost use Rattle.coap_codec.specs.Spelling.{content};
 ghost use Rattle.message_layer.specs.Values.{seen};
-ghost use Rattle.message_layer.specs.Hearing.{is_fresh, is_repeat, is_awaited, mid_is, is_awaited_by_ack, is_outstanding_under, is_outstanding_as, new_verdict, heard_verdict, ack_verdict, rst_verdict, verdict_of};
+ghost use Rattle.message_layer.specs.Hearing.{is_repeat, is_awaited, mid_is, is_awaited_by_ack, is_outstanding_under, is_outstanding_as, new_verdict, heard_verdict, ack_verdict, rst_verdict, verdict_of};
 
-use crate::state::{Awaited, Heard, Outstanding, Reply, State};
+use crate::state::{Awaited, Outstanding, Reply, State};
 use coap_codec::{Message, MsgType, Token, is_rejected};
-
-/// How long a message ID of the peer's stands for one message, in milliseconds
-/// (EXCHANGE_LIFETIME, RFC 7252 section 4.8.2).
-pub const EXCHANGE_LIFETIME: u64 = 247_000;
-
-/// How many messages of the peer's are remembered.
-const REMEMBERED: usize = 1024;
 
 /// What is to be told of a message.
 #[derive(Clone, Copy)]
@@ -100,21 +92,6 @@ fn has_mid(outstanding: &Option<Outstanding>, mid: u16) -> bool
     }
 }
 
-fn heard_as(heard: &[Heard], mid: u16, moment: u64) -> Option<&Heard>
-    ensures { option_copied result ≡ find (is_repeat moment mid) heard.now }
-{
-    heard.iter().find(|h| h.mid == mid && moment.saturating_sub(h.moment) < EXCHANGE_LIFETIME)
-}
-
-fn fresh_count(heard: &[Heard], moment: u64) -> usize
-    ensures { result ≡ count_by (is_fresh moment) heard.now }
-{
-    heard
-        .iter()
-        .filter(|h| moment.saturating_sub(h.moment) < EXCHANGE_LIFETIME)
-        .count()
-}
-
 /// A CON or NON that was not heard before. A response that is awaited is told, even where it is
 /// rejected; every other message but an empty one is reset.
 fn new_message(s: &State, m: &Message, accepts: Reply, empties: Reply) -> Verdict
@@ -146,9 +123,9 @@ fn new_message(s: &State, m: &Message, accepts: Reply, empties: Reply) -> Verdic
 
 /// A CON or NON: one that was heard before gets the same answer again and is not processed.
 fn own_message(s: &State, m: &Message, confirms: bool, moment: u64) -> Verdict
-    ensures { result ≡ heard_verdict moment (seen s.now) (content m.now) confirms (find (is_repeat moment m.now.mid) s.now.heard.items) }
+    ensures { result ≡ heard_verdict moment (seen s.now) (content m.now) confirms (find (is_repeat moment m.now.mid) s.now.heard.messages) }
 {
-    if let Some(h) = heard_as(&s.heard, m.mid, moment) {
+    if let Some(h) = s.heard.find(m.mid, moment) {
         return Verdict {
             reply: if confirms { h.reply } else { Reply::Nothing },
             remembered: false,
@@ -156,7 +133,7 @@ fn own_message(s: &State, m: &Message, confirms: bool, moment: u64) -> Verdict
             news: News::Quiet,
         };
     }
-    if fresh_count(&s.heard, moment) >= REMEMBERED {
+    if !s.heard.has_free(moment) {
         return Verdict {
             reply: Reply::Nothing,
             remembered: false,

@@ -1,0 +1,204 @@
+//! The messages heard lately, by which a repeated one is known (RFC 7252 section 4.2).
+
+ghost use Rattle.std.specs.Prelude.{◌≡◌, ◌<◌, ◌≤◌, ◌+◌, ◌++◌, ◌∷◌, ◌&&◌, [], length, filter, count_by, nat_lt, nat_le, IfOk, OnOk, true};
+ghost use Rattle.std.specs.VecDeque.{deque_len, deque_capacity};
+ghost use Rattle.std.specs.List.{find};
+ghost use Rattle.std.specs.Option.{option_copied};
+ghost use Rattle.message_layer.specs.Remembering.{is_fresh, is_repeat, AreInOrder, IsChained, begins_old, has_number_room};
+
+use crate::chains::{
+    Chains, chain_if, copied, copy_chains, drop_oldest, find_chained, has_number, make_number_room,
+};
+use crate::state::Heard;
+use std::alloc::{AllocError, Global};
+use std::collections::VecDeque;
+use std::marker::Model;
+
+/// How many messages of the peer's are remembered.
+const REMEMBERED: usize = 1024;
+
+/// The CONs and NONs of the peer's that were heard last, the oldest first.
+///
+/// On a clock that doesn't go back no call looks through them: those that are remembered no more
+/// stand in front, and each is taken away once; and one is found by its ID along a chain. Once it
+/// went back, or there is no number for one more message, they are looked through.
+#[derive(Drop)]
+pub struct Remembered {
+    messages: VecDeque<Heard>,
+    chains: Chains,
+    /// The clock didn't go back between them, and each stands in its chain.
+    orderly: bool,
+    /// Where it didn't, none is later than this.
+    newest: u64,
+}
+
+impl Model for Remembered {
+    ghost use Rattle.std.specs.Prelude.{◌≡◌, ◌&&◌, nat_lt, true};
+    ghost use Rattle.std.specs.VecDeque.{deque_len, deque_capacity};
+    ghost use Rattle.message_layer.specs.Remembering.{MessagesHeard, IsOrderly, has_number_room};
+
+    ghost Value = { MessagesHeard };
+
+    ghost view = { λ m. record { messages = m.messages.items; room = nat_lt (deque_len m.messages) (deque_capacity m.messages) && has_number_room m.chains } };
+
+    ghost invariant = { λ m. m.orderly ≡ true → IsOrderly m.newest m.chains m.messages.items };
+}
+
+/// The message with this ID that is remembered, sought wherever it stands.
+fn find_any(messages: &VecDeque<Heard>, mid: u16, moment: u64) -> Option<&Heard>
+    ensures { option_copied result ≡ find (is_repeat moment mid) messages.now.items }
+{
+    messages.iter().find(|h| h.is_repeat(mid, moment))
+}
+
+/// The oldest one is remembered no more.
+fn has_old_first(messages: &VecDeque<Heard>, moment: u64) -> bool
+    ensures { result ≡ begins_old moment messages.now.items }
+{
+    match messages.front() {
+        None => false,
+        Some(h) => !h.is_fresh(moment),
+    }
+}
+
+/// Forgets those that are remembered no more, which stand in front.
+fn drop_first(chains: &mut Chains, messages: &mut VecDeque<Heard>, moment: u64)
+    requires in_order { AreInOrder messages.old.items }
+    requires chained { IsChained chains.old messages.old.items }
+    ensures messages { messages.new.items ≡ filter (is_fresh moment) messages.old.items }
+    ensures chained { IsChained chains.new messages.new.items }
+    ensures len { deque_len messages.new ≤ deque_len messages.old }
+    ensures capacity { deque_capacity messages.new ≡ deque_capacity messages.old }
+    ensures room { has_number_room chains.old ≡ true → has_number_room chains.new ≡ true }
+{
+    'each: while has_old_first(messages, moment) {
+        drop_oldest(chains, messages);
+    }
+}
+
+/// Forgets those that are remembered no more, wherever they stand.
+fn drop_any(messages: &mut VecDeque<Heard>, moment: u64)
+    ensures messages { messages.new.items ≡ filter (is_fresh moment) messages.old.items }
+    ensures len { deque_len messages.new ≤ deque_len messages.old }
+    ensures capacity { deque_capacity messages.new ≡ deque_capacity messages.old }
+{
+    messages.retain(|h| h.is_fresh(moment));
+}
+
+fn fresh_count(messages: &VecDeque<Heard>, moment: u64) -> usize
+    ensures { result ≡ count_by (is_fresh moment) messages.now.items }
+{
+    messages.iter().filter(|h| h.is_fresh(moment)).count()
+}
+
+/// Where as many stand as are remembered, the oldest of so many says whether one more is.
+fn has_free_last(messages: &VecDeque<Heard>, moment: u64) -> bool
+    requires in_order { AreInOrder messages.now.items }
+    requires many { 1024 ≤ length messages.now.items }
+    ensures { result ≡ nat_lt (count_by (is_fresh moment) messages.now.items) 1024 }
+{
+    !messages[messages.len() - REMEMBERED].is_fresh(moment)
+}
+
+/// They stay in order: the next one comes no earlier, and has a number.
+fn goes_on(orderly: bool, follows: bool, numbered: bool) -> bool
+    ensures { result ≡ (orderly && (follows && numbered)) }
+{
+    orderly && follows && numbered
+}
+
+impl Remembered {
+    pub fn new(alloc: Global) -> Remembered
+        ensures { result.messages ≡ [] }
+    {
+        Remembered {
+            messages: VecDeque::new(alloc),
+            chains: Chains::new(alloc),
+            orderly: true,
+            newest: 0,
+        }
+    }
+
+    /// Room for one more.
+    pub fn reserve(&mut self) -> Result<(), AllocError>
+        ensures same { self.new.messages ≡ self.old.messages }
+        ensures ok { OnOk result (self.new.room ≡ true) }
+    {
+        self.messages.reserve(1)?;
+        make_number_room(&mut self.chains)?;
+        Ok(())
+    }
+
+    /// The message with this ID that is remembered: of several the oldest.
+    pub fn find(&self, mid: u16, moment: u64) -> Option<Heard>
+        ensures { result ≡ find (is_repeat moment mid) self.now.messages }
+    {
+        if self.orderly {
+            return find_chained(&self.chains, &self.messages, mid, moment);
+        }
+        match find_any(&self.messages, mid, moment) {
+            None => None,
+            Some(h) => Some(*h),
+        }
+    }
+
+    /// One more can be remembered.
+    pub fn has_free(&self, moment: u64) -> bool
+        ensures { result ≡ nat_lt (count_by (is_fresh moment) self.now.messages) 1024 }
+    {
+        if self.messages.len() < REMEMBERED {
+            return true;
+        }
+        if self.orderly {
+            return has_free_last(&self.messages, moment);
+        }
+        fresh_count(&self.messages, moment) < REMEMBERED
+    }
+
+    /// Forgets those that are remembered no more.
+    fn drop_old(&mut self, moment: u64)
+        ensures messages { self.new.messages ≡ filter (is_fresh moment) self.old.messages }
+        ensures room { self.old.room ≡ true → self.new.room ≡ true }
+    {
+        if self.orderly {
+            drop_first(&mut self.chains, &mut self.messages, moment);
+        } else {
+            drop_any(&mut self.messages, moment);
+        }
+    }
+
+    fn push_reserved(&mut self, h: Heard)
+        requires { self.old.room ≡ true }
+        ensures { self.new.messages ≡ self.old.messages ++ h ∷ [] }
+    {
+        let follows = self.newest <= h.moment;
+        let numbered = has_number(self.chains.forgotten, self.messages.len());
+        self.orderly = goes_on(self.orderly, follows, numbered);
+        chain_if(self.orderly, &mut self.chains, &self.messages, &h);
+        self.newest = h.moment;
+        self.messages.push_back_reserved(h);
+    }
+
+    /// One more was heard. Those that are remembered no more are forgotten.
+    pub fn remember(&mut self, h: Heard)
+        requires { self.old.room ≡ true }
+        ensures { self.new.messages ≡ filter (is_fresh h.moment) self.old.messages ++ h ∷ [] }
+    {
+        self.drop_old(h.moment);
+        self.push_reserved(h);
+    }
+
+    /// The same again.
+    pub fn copy(&self, alloc: Global) -> Result<Remembered, AllocError>
+        ensures { IfOk result (λ copy. copy.messages ≡ self.now.messages) }
+    {
+        let messages = copied(alloc, &self.messages)?;
+        let chains = copy_chains(alloc, &self.chains)?;
+        Ok(Remembered {
+            messages,
+            chains,
+            orderly: self.orderly,
+            newest: self.newest,
+        })
+    }
+}
