@@ -1,6 +1,6 @@
 //! What lies under the lock of a desk.
 
-ghost use Rattle.std.specs.Prelude.{◌≡◌, ◌⊎◌, ◌<◌, ◌++◌, ◌∷◌, [], ℕ, Option, Ok, Err, IfOk, IfErr, OnOk, OnErr, IsTrue, IsFalse, option_map};
+ghost use Rattle.std.specs.Prelude.{◌≡◌, ◌⊎◌, ◌<◌, ◌++◌, ◌∷◌, [], Ok, Err, IfOk, IfErr, OnOk, OnErr, IsTrue, IsFalse, option_map};
 ghost use Rattle.std.specs.Arc.{arc_value};
 ghost use Rattle.journal_book.specs.Views.{ask_of};
 ghost use Rattle.core_steps.specs.Sealing.{hears_in_room, ticks_in_room};
@@ -37,11 +37,13 @@ pub struct DeskState<R: Relation, C: Clock, L: Ledger> {
 impl<R: Relation, C: Clock, L: Ledger> DeskState<R, C, L> {
     /// Opens a connection.
     pub fn open(&mut self) -> Result<Pass<R, L>, OpenFault>
-        ensures opens { IfOk result (λ p. (t : ℕ) × IsOpened (Ok p.conn)
-            (now self.old.shop.core.state.moment t) self.old.shop.core self.new.shop.core) }
+        ensures opens { IfOk result (λ p. IsOpened (Ok p.conn)
+            (now self.old.shop.core.state.moment (C.time self.new.clock))
+            self.old.shop.core self.new.shop.core) }
         ensures lines { IfOk result (λ p. p.lines ≡ []) }
-        ensures refused { IfErr result (λ fault. ((t : ℕ) × IsOpened (Err fault)
-            (now self.old.shop.core.state.moment t) self.old.shop.core self.new.shop.core)
+        ensures refused { IfErr result (λ fault. IsOpened (Err fault)
+            (now self.old.shop.core.state.moment (C.time self.new.clock))
+            self.old.shop.core self.new.shop.core
             ⊎ (self.old.shop.left ≡ 0)) }
     {
         let moment = self.clock.moment();
@@ -56,16 +58,18 @@ impl<R: Relation, C: Clock, L: Ledger> DeskState<R, C, L> {
     ) -> Result<Ticket<R>, AskFault>
         ensures ticket { IfOk result (λ t. (t.conn ≡ pass.old.conn)
             × (arc_value t.mapped ≡ arc_value mapped)) }
-        ensures asks { IfOk result (λ k. (t : ℕ) × (w : ℕ) × IsAsked (Ok k.number)
-            (now self.old.shop.core.state.moment t) w pass.old.conn (ask_of (arc_value mapped))
+        ensures asks { IfOk result (λ k. IsAsked (Ok k.number)
+            (now self.old.shop.core.state.moment (C.time self.new.clock))
+            (C.drawn self.new.clock) pass.old.conn (ask_of (arc_value mapped))
             self.old.shop.core self.new.shop.core) }
         ensures lines { IfOk result (λ t. pass.new.lines ≡ pass.old.lines ++ made t.number ∷ []) }
         ensures places { IfOk result (λ t. 0 < pass.new.places) }
         ensures conn { pass.new.conn ≡ pass.old.conn }
         ensures none { OnErr result (pass.new.lines ≡ pass.old.lines) }
-        ensures refused { IfErr result (λ fault. ((t : ℕ) × (w : ℕ) × IsAsked (Err fault)
-            (now self.old.shop.core.state.moment t) w pass.old.conn (ask_of (arc_value mapped))
-            self.old.shop.core self.new.shop.core)
+        ensures refused { IfErr result (λ fault. IsAsked (Err fault)
+            (now self.old.shop.core.state.moment (C.time self.new.clock))
+            (C.drawn self.new.clock) pass.old.conn (ask_of (arc_value mapped))
+            self.old.shop.core self.new.shop.core
             ⊎ ((fault ≡ AskFault.Memory) × (self.new.shop ≡ self.old.shop))) }
     {
         let moment = self.clock.moment();
@@ -75,9 +79,9 @@ impl<R: Relation, C: Clock, L: Ledger> DeskState<R, C, L> {
 
     /// Takes a datagram.
     pub fn heard(&mut self, peer: Peer, bytes: &[u8]) -> Result<(), Memory>
-        ensures heard { OnOk result ((t : ℕ) × (self.new.shop.core
-            ≡ stepped (hears_in_room (now self.old.shop.core.state.moment t) peer bytes.now
-            self.old.shop.core.state) self.old.shop.core)) }
+        ensures heard { OnOk result (self.new.shop.core ≡ stepped (hears_in_room
+            (now self.old.shop.core.state.moment (C.time self.new.clock)) peer bytes.now
+            self.old.shop.core.state) self.old.shop.core) }
         ensures memory { OnErr result (self.new.shop ≡ self.old.shop) }
     {
         let moment = self.clock.moment();
@@ -86,9 +90,9 @@ impl<R: Relation, C: Clock, L: Ledger> DeskState<R, C, L> {
 
     /// Lets time go on.
     pub fn tick(&mut self) -> Result<(), Memory>
-        ensures ticks { OnOk result ((t : ℕ) × (self.new.shop.core
-            ≡ stepped (ticks_in_room (now self.old.shop.core.state.moment t)
-            self.old.shop.core.state) self.old.shop.core)) }
+        ensures ticks { OnOk result (self.new.shop.core ≡ stepped (ticks_in_room
+            (now self.old.shop.core.state.moment (C.time self.new.clock))
+            self.old.shop.core.state) self.old.shop.core) }
         ensures memory { OnErr result (self.new.shop ≡ self.old.shop) }
     {
         let moment = self.clock.moment();
@@ -97,8 +101,9 @@ impl<R: Relation, C: Clock, L: Ledger> DeskState<R, C, L> {
 
     /// Closes a connection. False where it isn't open.
     pub fn close(&mut self, conn: u32) -> bool
-        ensures closed { IsTrue result → (t : ℕ) × IsClosed
-            (now self.old.shop.core.state.moment t) conn self.old.shop.core self.new.shop.core }
+        ensures closed { IsTrue result → IsClosed
+            (now self.old.shop.core.state.moment (C.time self.new.clock)) conn
+            self.old.shop.core self.new.shop.core }
         ensures unknown { IsFalse result
             → (self.new.shop ≡ self.old.shop) × IsUnknown conn self.old.shop.core }
     {
@@ -127,8 +132,8 @@ impl<R: Relation, C: Clock, L: Ledger> DeskState<R, C, L> {
     /// How long the one who lets time go on rests, in milliseconds: until there is something to do,
     /// and so long at least; without end where nothing is open.
     pub fn rest(&mut self, least: u64) -> Option<u64>
-        ensures rests { (moment : ℕ)
-            × (result ≡ rest_time (next_tick self.old.shop.core.state) moment least) }
+        ensures rests { result ≡ rest_time (next_tick self.old.shop.core.state)
+            (C.time self.new.clock) least }
         ensures until { self.new.rests_until ≡ rest_until (next_tick self.old.shop.core.state) }
         ensures exact { IsNextTick (next_tick self.old.shop.core.state) self.old.shop.core.state }
         ensures shop { self.new.shop ≡ self.old.shop }

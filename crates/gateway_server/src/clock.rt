@@ -1,6 +1,6 @@
 //! The system's clock.
 
-ghost use Rattle.std.specs.Prelude.{◌≡◌, ◌≤◌};
+ghost use Rattle.std.specs.Prelude.{◌≡◌, ◌<◌, ◌≤◌};
 
 use front_desk::Clock as DeskClock;
 use std::random::RandomSource;
@@ -12,7 +12,10 @@ use std::time::Instant;
 pub struct SystemClock<W: Clock + RandomSource + Drop> {
     rt: W,
     begin: Instant,
+    /// the moment that was read last
     last: u64,
+    /// the word that was given last
+    word: u64,
     faults: u64,
 }
 
@@ -23,6 +26,7 @@ impl<W: Clock + RandomSource + Drop> SystemClock<W> {
             rt,
             begin,
             last: 0,
+            word: 0,
             faults: 0,
         }
     }
@@ -30,6 +34,10 @@ impl<W: Clock + RandomSource + Drop> SystemClock<W> {
 
 impl<W: Clock + RandomSource + Drop> DeskClock for SystemClock<W> {
     ghost count = { λ c. c.faults };
+
+    ghost time = { λ c. c.last };
+
+    ghost drawn = { λ c. c.word };
 
     fn faults(&self) -> u64 {
         self.faults
@@ -48,6 +56,7 @@ impl<W: Clock + RandomSource + Drop> DeskClock for SystemClock<W> {
         if self.rt.fill_bytes(&mut bytes).is_err() {
             self.faults = self.faults.saturating_add(1);
         }
-        u64::from_le_bytes(bytes)
+        self.word = u64::from_le_bytes(bytes);
+        self.word
     }
 }

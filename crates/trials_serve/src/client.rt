@@ -79,6 +79,7 @@ impl Stream for Tape {
 /// A clock that goes on by so many milliseconds at each reading.
 #[derive(Drop)]
 pub struct Steps {
+    /// what it read last
     pub at: u64,
     pub step: u64,
 }
@@ -86,14 +87,17 @@ pub struct Steps {
 impl Clock for Steps {
     ghost count = { λ c. 0 };
 
+    ghost time = { λ c. c.at };
+
+    ghost drawn = { λ c. 0 };
+
     fn faults(&self) -> u64 {
         0
     }
 
     fn moment(&mut self) -> u64 {
-        let at = self.at;
-        self.at = at.saturating_add(self.step);
-        at
+        self.at = self.at.saturating_add(self.step);
+        self.at
     }
 
     fn word(&mut self) -> u64 {
