@@ -1,7 +1,8 @@
 //! Handlers of either kind.
 
+ghost use Rattle.std.specs.Prelude.{IsErrOf};
 ghost use Rattle.demo_origin.specs.Keeps.{Fits};
-ghost use Rattle.device_server.specs.Kinds.{IsEither, IsOf};
+ghost use Rattle.device_server.specs.Kinds.{IsDeclined, IsEither, IsOf};
 
 use demo_origin::{Behaviour, CoapRequest, Refused, Reply, cell, counter};
 use proxy_settings::Kind;
@@ -26,6 +27,7 @@ pub fn answer(
 ) -> Result<(Vec<u8>, Reply), Refused>
     ensures does { Fits (IsOf kind state.now request.now) result }
     ensures either { Fits (IsEither state.now request.now) result }
+    ensures takes { IsErrOf result Refused.Content → IsDeclined kind state.now request.now }
 {
     match kind {
         Kind::Cell => cell(alloc, state, request),

@@ -1,8 +1,8 @@
 //! The demonstration device on a socket of the system: one UDP socket, and one thread.
 //!
-//! One contract: each handler of its resources is that of a cell or that of a counter, and each turn
-//! leaves a device that keeps them. What goes out is what the device gives to be sent.
-//! The program `hcproxy` stands on it.
+//! One contract: each handler of its resources is that of a cell or that of a counter, and each
+//! turn leaves a device that keeps them. What goes out is what the device gives to be sent. The
+//! program `hcproxy` stands on it.
 #![tactic(auto)]
 
 mod clock;

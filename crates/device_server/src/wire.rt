@@ -76,7 +76,8 @@ impl Wire for DevicePort {
     }
 }
 
-/// Whether the next receive may succeed: nothing came in time, or what was sent earlier found nobody.
+/// Whether the next receive may succeed: nothing came in time, or what was sent earlier found
+/// nobody.
 fn is_passing(kind: ErrorKind) -> bool {
     matches!(
         kind,
