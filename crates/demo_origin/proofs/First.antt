@@ -144,7 +144,8 @@ executes_adds holds to m i method old new taken h =
     let x = h.changes in
     let s = x.settles in
     let d : Datagram = record { peer = to.peer; bytes = x.answers.bytes } in
-    let g = all_grow to.moment x.middle.block x.middle.resources (talk_of x.middle) s.talk s.tells in
+    let g =
+    all_grow to.moment x.middle.block x.middle.resources (talk_of x.middle) s.talk s.tells in
     record {
       bytes = x.answers.bytes;
       is = ap (λ (d : Device). d.remembered) s.is ∙ ap (λ (d : Device). d.remembered) x.answers.is;

@@ -148,7 +148,8 @@ turn_newer t szx i rs (Some h) o old new at some x before =
     (let other : slice_get os j ≡ slice_get old.observers j =
     get_other old.observers i j told (λ e. absurd (omega (arith, e, lt))) in
     subst Q (sym other)
-    (stays_told rs old.observers i o told at refl refl (slice_get old.observers j) (before j lt))) in
+    (stays_told rs old.observers i o told at refl refl
+    (slice_get old.observers j) (before j lt))) in
     let last : IfSome (slice_get os i) (IsTold rs os) =
     subst Q (sym (get_set old.observers i o told at)) (inl (no_newer rs o h some)) in
     subst P (sym x.is) (one_more rs i os earlier last)

@@ -84,7 +84,8 @@ newer rs o = newer_by o.told (slice_get rs o.place)
 abbrev pub is_waited_for : Peer → Observer → Bool
 is_waited_for p o = same_peer o.peer p && is_some o.outstanding
 
--- A notification to the peer is outstanding: there is one at a time (NSTART, RFC 7252, section 4.7).
+-- A notification to the peer is outstanding: there is one at a time (NSTART, RFC 7252,
+-- section 4.7).
 abbrev pub is_busy : Peer → List Observer → Bool
 is_busy p os = list_any (is_waited_for p) os
 
@@ -114,7 +115,8 @@ TellsFirst t szx rs (suc n) old new =
 abbrev pub TellsAll : ℕ → ℕ → List Held → Talk → Talk → Type 0
 TellsAll t szx rs old new = TellsFirst t szx rs (length old.observers) old new
 
--- Each observer is told of a newer state: now, or once its peer has acknowledged what is outstanding.
+-- Each observer is told of a newer state: now, or once its peer has acknowledged what is
+-- outstanding.
 pub record Settles (t : ℕ) (old new : Device) : Type 0 where
   pub talk : Talk
   pub tells : TellsAll t old.block old.resources (talk_of old) talk

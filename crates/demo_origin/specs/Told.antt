@@ -1,4 +1,5 @@
--- Each observer is told of each change, or of a newer state; and of nothing else (RFC 7641, section 1.3).
+-- Each observer is told of each change, or of a newer state; and of nothing else (RFC 7641,
+-- section 1.3).
 use Rattle.std.specs.Prelude.{◌≡◌, ◌⊎◌, ℕ, ◌++◌, List, slice_get, IfSome, None, Some, true}
 use Rattle.std.specs.List.{AllByRecursion}
 use Rattle.demo_origin.specs.Values.{Device}

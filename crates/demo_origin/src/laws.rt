@@ -16,14 +16,14 @@ pub fn answered_alike<H: Behaviour>()
     ensures { AnsweredAlike H.holds }
 {}
 
-/// After a change, an ACK or an RST, and after each tick, every observer was told of the state as it
-/// stands, or its peer is yet to acknowledge what it was sent last.
+/// After a change, an ACK or an RST, and after each tick, every observer was told of the state as
+/// it stands, or its peer is yet to acknowledge what it was sent last.
 pub fn observers_told()
     ensures { ObserversTold }
 {}
 
-/// What goes out to observers after a change, an ACK or an RST is, each time, a notification under a
-/// registration that stands, of the state as it stands.
+/// What goes out to observers after a change, an ACK or an RST is, each time, a notification under
+/// a registration that stands, of the state as it stands.
 pub fn only_observers_told()
     ensures { OnlyObserversTold }
 {}

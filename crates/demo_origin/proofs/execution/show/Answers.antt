@@ -6,7 +6,8 @@ use Rattle.demo_origin.proofs.execution.show.Goals as goal
 
 pub returns-clause-ok : goal.returns-clause-ok
 returns-clause-ok c =
-    rw (slice_get_read _ _ c.args.place c.index-held.result.now refl c.requires.place c.index-held.ensures)
+    rw (slice_get_read _ _ c.args.place c.index-held.result.now refl
+    c.requires.place c.index-held.ensures)
     (record {
       options = entries c.in_ok-options.options.items;
       describes = search rules;
