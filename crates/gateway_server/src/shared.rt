@@ -84,7 +84,11 @@ impl<W: Clock + RandomSource + Drop, L: Ledger> Shared<W, L> {
     /// Notes once that the journal is sealed.
     pub fn note_sealed<V: Log>(&self, rt: &V) {
         if !self.noted.swap(true, Ordering::SeqCst) {
-            warn!(rt; target: "hcproxy", "the journal is sealed: no more requests are taken, start the gateway anew");
+            warn!(
+                rt;
+                target: "hcproxy",
+                "the journal is sealed: no more requests are taken, start the gateway anew"
+            );
         }
     }
 }
