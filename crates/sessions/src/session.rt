@@ -106,7 +106,7 @@ pub fn serve<R: Relation, C: Clock, L: Ledger, S: Stream, N: Wire, G: Gate, W: W
 }
 
 /// Reads, asks, waits and writes by turns.
-#[tactic(auto, using(crate::proofs::Joining::serves_join, crate::proofs::Joining::most_join, crate::proofs::Joining::most_whole, crate::proofs::Joining::serves_none, crate::proofs::Joining::cut_none, crate::proofs::Joining::grown_none))]
+#[tactic(auto, using(crate::proofs::Joining::joins))]
 fn talk<R: Relation, C: Clock, L: Ledger, S: Stream, N: Wire, G: Gate, W: Wait>(
     rt: &W,
     alloc: Global,
