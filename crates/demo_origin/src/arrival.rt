@@ -90,7 +90,12 @@ fn answered<'a>(all: &'a [Remembered], moment: u64, peer: &Peer, mid: u16) -> Op
 pub(crate) fn is_known(clients: &[Client], peer: &Peer) -> bool
     ensures { result ≡ list_any (is_client peer.now) clients.now }
 {
-    clients.iter().any(|c| is_same_peer(&c.peer, peer))
+    'each: for c in clients {
+        if is_same_peer(&c.peer, peer) {
+            return true;
+        }
+    }
+    false
 }
 
 fn live_count(all: &[Remembered], moment: u64, peer: &Peer) -> usize

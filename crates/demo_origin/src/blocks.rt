@@ -12,14 +12,14 @@ use coap_codec::{Block, Message, block_of, first_of};
 const MAX_STATE_LEN: usize = 65_536;
 
 /// The size exponent of a device's blocks (RFC 7959, section 2.2).
-#[derive(Clone, Copy, Debug)]
+#[derive(Clone, Copy)]
 pub struct BlockSize {
     pub szx: u8,
     pub ghost small: { szx < 7 },
 }
 
 /// What a message's Block option says (RFC 7959, section 2.2).
-#[derive(Clone, Copy, Debug)]
+#[derive(Clone, Copy)]
 pub enum Named {
     /// There is none.
     Absent,
@@ -30,7 +30,7 @@ pub enum Named {
 }
 
 /// What is wanted of a state.
-#[derive(Clone, Copy, Debug)]
+#[derive(Clone, Copy)]
 pub enum Part {
     /// All of it.
     Whole,

@@ -18,7 +18,7 @@ use coap_codec::{Message, MsgType, Opt, first_of, is_critical, number, uint_of};
 use std::alloc::Global;
 
 /// What is done with a request.
-#[derive(Clone, Copy, PartialEq, Eq, Debug)]
+#[derive(Clone, Copy)]
 pub enum Judged {
     /// It is rejected in silence.
     Dropped,

@@ -16,7 +16,7 @@ use uri_map::Peer;
 const MAX_OBSERVERS: usize = 16;
 
 /// What the Observe of a GET asks for (RFC 7641, section 2).
-#[derive(Clone, Copy, PartialEq, Eq, Debug)]
+#[derive(Clone, Copy)]
 pub enum Wish {
     Register,
     Deregister,

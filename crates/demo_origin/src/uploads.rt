@@ -26,7 +26,7 @@ const MAX_BODY_LEN: usize = 65_536;
 const CONTINUE: u8 = 95;
 
 /// What a piece is to those before it.
-#[derive(Clone, Copy, PartialEq, Eq, Debug)]
+#[derive(Clone, Copy)]
 pub enum Joined {
     /// It doesn't begin where they end.
     Gap,
