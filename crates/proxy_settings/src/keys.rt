@@ -1,6 +1,8 @@
 //! Which keys a table may have.
 
-ghost use Rattle.std.specs.Prelude.{◌≡◌, true, false, OnOk, OnErr};
+ghost use Rattle.std.specs.Prelude.{◌≡◌, true, false, ◌∷◌, [], codes, OnOk, OnErr};
+ghost use Rattle.std.specs.List.{list_any};
+ghost use Rattle.std.specs.Str.{bytes_eq};
 ghost use Rattle.toml.specs.View.{table_view};
 ghost use Rattle.proxy_settings.specs.Keys.{is_key, has_only};
 
@@ -51,16 +53,24 @@ impl Keys {
     }
 }
 
+/// Whether it is a key of where the gateway is, or of its devices.
+fn is_place_key(key: &str) -> bool
+    ensures { result ≡ list_any (bytes_eq key.now)
+        (codes "listen" ∷ codes "udp" ∷ codes "base" ∷ codes "literals" ∷ []) }
+{
+    key == "listen" || key == "udp" || key == "base" || key == "literals"
+}
+
+/// Whether it is a key of how bodies are mapped, or of the lists of tables.
+fn is_other_key(key: &str) -> bool
+    ensures { result ≡ list_any (bytes_eq key.now)
+        (codes "loose" ∷ codes "pass" ∷ codes "origin" ∷ codes "down" ∷ codes "up" ∷ []) }
+{
+    key == "loose" || key == "pass" || key == "origin" || key == "down" || key == "up"
+}
+
 fn is_serve_key(key: &str) -> bool
     ensures { result ≡ is_key Keys.Serve key.now }
 {
-    key == "listen"
-        || key == "udp"
-        || key == "base"
-        || key == "literals"
-        || key == "loose"
-        || key == "pass"
-        || key == "origin"
-        || key == "down"
-        || key == "up"
+    is_place_key(key) || is_other_key(key)
 }

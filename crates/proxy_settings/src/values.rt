@@ -1,7 +1,7 @@
 //! What texts and numbers of a file stand for.
 
-ghost use Rattle.std.specs.Prelude.{◌≡◌, ◌≤◌, IfSome};
-ghost use Rattle.std.specs.List.{list_all};
+ghost use Rattle.std.specs.Prelude.{◌≡◌, ◌==◌, ◌≤◌, codes, IfSome};
+ghost use Rattle.std.specs.List.{list_all, list_any};
 ghost use Rattle.proxy_settings.specs.Values as spec;
 
 use media_map::{Policy, format_of};
@@ -54,11 +54,18 @@ pub(crate) fn address_of(text: &str) -> Option<IpAddr>
     }
 }
 
+/// Whether it is one of the marks that a base may have.
+fn is_base_mark(byte: u8) -> bool
+    ensures { result ≡ list_any (λ c. byte == c) (codes "-._~/") }
+{
+    byte == b'-' || byte == b'.' || byte == b'_' || byte == b'~' || byte == b'/'
+}
+
 #[tactic(auto, unfolding(crate::specs::Values::is_base_byte))]
 fn is_base_byte(byte: u8) -> bool
     ensures { result ≡ spec.is_base_byte byte }
 {
-    byte.is_ascii_alphanumeric() || matches!(byte, b'-' | b'.' | b'_' | b'~' | b'/')
+    byte.is_ascii_alphanumeric() || is_base_mark(byte)
 }
 
 fn are_base_bytes(bytes: &[u8]) -> bool
