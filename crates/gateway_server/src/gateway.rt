@@ -2,7 +2,6 @@
 
 ghost use Rattle.std.specs.Prelude.{◌≡◌, ◌-◌, ◌^◌};
 
-use crate::clock::SystemClock;
 use crate::fault::ServeFault;
 use crate::ports::Ports;
 use crate::shared::Shared;
@@ -22,6 +21,7 @@ use std::sync::ledger::{Blank, Ledger};
 use std::sync::{Arc, Wait};
 use std::thread::{self, Threads};
 use std::time::{Duration, Instant};
+use system_io::SystemClock;
 
 /// How long nothing is taken after a connection couldn't be, in milliseconds.
 const PAUSE: u64 = 50;

@@ -1,8 +1,5 @@
 //! What the threads of the gateway share.
 
-use crate::client::Client;
-use crate::clock::SystemClock;
-use crate::ports::DeviceSocket;
 use ask_model::Settings;
 use front_desk::{LockedDesk, Pass};
 use log::{Log, info, warn};
@@ -15,6 +12,7 @@ use std::rt::Clock;
 use std::sync::atomic::{AtomicBool, Ordering};
 use std::sync::ledger::Ledger;
 use std::sync::{Arc, Wait};
+use system_io::{Client, DeviceSocket, SystemClock};
 use transformers::{Bank, Stored};
 
 /// What the threads of the gateway share.

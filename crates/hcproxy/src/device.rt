@@ -1,7 +1,7 @@
 //! `hcproxy origin`: the demonstration device by the settings of a file.
 
 use crate::files::{device_in, device_on_input};
-use crate::report::Report;
+use command_line::Report;
 use device_server::{DevicePort, run};
 use log::Log;
 use proxy_settings::Device;

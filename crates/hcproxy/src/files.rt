@@ -3,8 +3,7 @@
 ghost use Rattle.std.specs.Prelude.{IfOk};
 ghost use Rattle.proxy_settings.specs.Files.{IsOf};
 
-use crate::report::Report;
-use crate::settings::asks_to_observe;
+use command_line::{Report, asks_to_observe};
 use proxy_settings::{Device, FileFault, Part, Serve, Setup, read_setup};
 use std::fs;
 use std::rt::Files;

@@ -3,42 +3,17 @@
 //! settings; `--help` and `--version` tell of it.
 #![tactic(auto)]
 
-mod command;
-#[cfg(test)]
-mod crowd_tests;
 mod device;
 mod files;
-mod lines;
-#[cfg(test)]
-mod media_tests;
-#[cfg(test)]
-mod playing;
-#[cfg(test)]
-mod refused_tests;
-mod replay;
 mod replaying;
-#[cfg(test)]
-mod reply_tests;
-mod report;
-#[cfg(test)]
-mod row_tests;
-mod script;
-#[cfg(test)]
-mod serve_tests;
 mod serving;
-#[cfg(test)]
-mod setting_tests;
-mod settings;
-#[cfg(test)]
-mod tests;
 
-use command::{Command, command_of};
+use command_line::{Command, Hint, Report, USAGE, command_of};
 use device::serve_device;
 use files::{setup_in, tell_undone};
 use log::Log;
 use proxy_settings::{Part, Setup};
 use replaying::replay_input;
-use report::{Hint, Report, USAGE};
 use serving::serve;
 use std::alloc::AllocError;
 use std::net::{Net, TcpListener, TcpStream};

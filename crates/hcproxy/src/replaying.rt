@@ -5,11 +5,10 @@ ghost use Rattle.ask_model.specs.Views.{rules_of};
 ghost use Rattle.transformers.specs.Suits.{Suits};
 
 use crate::files::serve_in;
-use crate::replay::Script;
-use crate::report::Report;
-use crate::settings::{demonstration, followed};
 use ask_model::Settings;
+use command_line::{Report, demonstration, followed};
 use route_bank::{Profile, store_for};
+use script_runs::Script;
 use std::io;
 use std::rt::Files;
 use transformers::{Bank, Relation, Stored};

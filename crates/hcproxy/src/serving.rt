@@ -1,9 +1,8 @@
 //! `hcproxy serve`: the gateway by the settings of a file.
 
 use crate::files::{serve_in, serve_on_input};
-use crate::report::Report;
-use crate::settings::followed;
 use ask_model::Settings;
+use command_line::{Report, followed};
 use gateway_server::{Ports, run};
 use log::Log;
 use proxy_settings::Serve;

@@ -1,0 +1,18 @@
+//! The command line: what its words ask for, the lines of a script, the rules that settings give, and
+//! how a failure is told.
+//!
+//! The one contract: a failure ends the program with the status that is its own, and the rules that
+//! a run or the gateway goes by are those of the settings.
+#![tactic(auto)]
+
+mod command;
+mod fault;
+mod report;
+mod script;
+mod settings;
+
+pub use command::{Command, command_of};
+pub use fault::{Reason, ReplayFault};
+pub use report::{Failure, Hint, Report, USAGE};
+pub use script::{Line, LineFault, line_of};
+pub use settings::{asks_to_observe, demonstration, followed};

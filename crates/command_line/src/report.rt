@@ -1,0 +1,210 @@
+//! Why the program ends without having done what it was asked for.
+
+ghost use Rattle.std.specs.Prelude.{◌≡◌};
+ghost use Rattle.command_line.specs.Failures.{exit_status, setup_failure, serve_failure, device_failure};
+
+use crate::fault::{Reason, ReplayFault};
+use device_server::DeviceFault;
+use gateway_server::ServeFault;
+use proxy_settings::FileFault;
+use std::alloc::{AllocError, AllocFailed};
+use std::fmt;
+
+/// The first line of what `--help` prints, and what wrong arguments are told.
+pub const USAGE: &str = "usage: hcproxy replay [--journal] | hcproxy serve | hcproxy origin";
+
+/// Why the program ends without having done what it was asked for.
+#[derive(Clone, Copy, Debug, PartialEq, Eq)]
+pub enum Failure {
+    Usage,
+    /// A file has no settings of the part.
+    Settings,
+    /// A file of settings can't be read, a text can't be printed, or the clock, the threads or the
+    /// sockets of the gateway or the device fail.
+    Device,
+    Memory,
+    Replay(ReplayFault),
+}
+
+impl Failure {
+    /// The exit status that tells of it.
+    pub fn status(self) -> u8
+        ensures { result ≡ exit_status self }
+    {
+        match self {
+            Failure::Settings | Failure::Replay(ReplayFault::Line(_)) => 1,
+            Failure::Usage => 2,
+            Failure::Device | Failure::Replay(ReplayFault::Device) => 3,
+            Failure::Memory | Failure::Replay(ReplayFault::Memory) => 3,
+        }
+    }
+
+    /// What a file without settings is to the program.
+    pub fn of_file(fault: FileFault) -> Failure
+        ensures { result ≡ setup_failure fault }
+    {
+        match fault {
+            FileFault::TooLarge | FileFault::NotText(_) | FileFault::Refused(_, _) => {
+                Failure::Settings
+            }
+            FileFault::Unread(_) => Failure::Device,
+            FileFault::Memory => Failure::Memory,
+        }
+    }
+
+    /// What a gateway that doesn't run is to the program.
+    pub fn of_serve(fault: ServeFault) -> Failure
+        ensures { result ≡ serve_failure fault }
+    {
+        match fault {
+            ServeFault::Listen(_, _)
+            | ServeFault::Udp(_, _)
+            | ServeFault::Clock(_)
+            | ServeFault::Thread
+            | ServeFault::Stopped => Failure::Device,
+            ServeFault::Memory => Failure::Memory,
+        }
+    }
+
+    /// What a device that doesn't run is to the program.
+    pub fn of_device(fault: DeviceFault) -> Failure
+        ensures { result ≡ device_failure fault }
+    {
+        match fault {
+            DeviceFault::Listen(_, _) | DeviceFault::Clock(_) | DeviceFault::Stopped => {
+                Failure::Device
+            }
+            DeviceFault::Memory => Failure::Memory,
+        }
+    }
+}
+
+impl fmt::Display for Failure {
+    fn fmt<W: fmt::Write>(&self, f: &mut fmt::Formatter<W>) -> fmt::Result {
+        match self {
+            Failure::Usage => f.write_str(USAGE),
+            Failure::Settings => f.write_str("hcproxy: settings refused"),
+            Failure::Device => f.write_str("hcproxy: device failed"),
+            Failure::Memory => f.write_str("hcproxy: out of memory"),
+            Failure::Replay(fault) => write!(f, "hcproxy: {fault}"),
+        }
+    }
+}
+
+/// What more can be said of a failure.
+#[derive(Clone, Copy, Debug)]
+pub enum Hint<'a> {
+    SeeHelp,
+    Because(Reason),
+    /// What is wrong with the file of that path.
+    File(&'a str, FileFault),
+    /// Why the gateway doesn't run, or runs no more.
+    Serve(ServeFault),
+    /// Why the demonstration device doesn't run, or runs no more.
+    Origin(DeviceFault),
+}
+
+impl fmt::Display for Hint<'_> {
+    fn fmt<W: fmt::Write>(&self, f: &mut fmt::Formatter<W>) -> fmt::Result {
+        match self {
+            Hint::SeeHelp => f.write_str("hcproxy: --help says more"),
+            Hint::Because(reason) => write!(f, "hcproxy: {reason}"),
+            Hint::File(path, fault) => write!(f, "hcproxy: {path}: {fault}"),
+            Hint::Serve(fault) => write!(f, "hcproxy: {fault}"),
+            Hint::Origin(fault) => write!(f, "hcproxy: {fault}"),
+        }
+    }
+}
+
+/// A failure, with a second line where more can be said.
+#[derive(Clone, Copy, Debug)]
+pub struct Report<'a> {
+    pub failure: Failure,
+    pub hint: Option<Hint<'a>>,
+}
+
+impl<'a> Report<'a> {
+    /// Wrong arguments.
+    pub fn usage(hint: Hint<'a>) -> Report<'a> {
+        Report {
+            failure: Failure::Usage,
+            hint: Some(hint),
+        }
+    }
+
+    /// A run that failed.
+    pub fn replay(fault: ReplayFault, reason: Option<Reason>) -> Report<'a> {
+        let hint = match reason {
+            Some(reason) => Some(Hint::Because(reason)),
+            None => None,
+        };
+        Report {
+            failure: Failure::Replay(fault),
+            hint,
+        }
+    }
+
+    /// A file without settings.
+    pub fn file(path: &'a str, fault: FileFault) -> Report<'a> {
+        let hint = match fault {
+            FileFault::Memory => None,
+            _ => Some(Hint::File(path, fault)),
+        };
+        Report {
+            failure: Failure::of_file(fault),
+            hint,
+        }
+    }
+
+    /// A gateway that doesn't run, or runs no more.
+    pub fn serve(fault: ServeFault) -> Report<'a> {
+        let hint = match fault {
+            ServeFault::Memory => None,
+            _ => Some(Hint::Serve(fault)),
+        };
+        Report {
+            failure: Failure::of_serve(fault),
+            hint,
+        }
+    }
+
+    /// A device that doesn't run, or runs no more.
+    pub fn origin(fault: DeviceFault) -> Report<'a> {
+        let hint = match fault {
+            DeviceFault::Memory => None,
+            _ => Some(Hint::Origin(fault)),
+        };
+        Report {
+            failure: Failure::of_device(fault),
+            hint,
+        }
+    }
+
+    /// A text that can't be printed.
+    pub fn unprinted() -> Report<'a> {
+        Report {
+            failure: Failure::Device,
+            hint: Some(Hint::Because(Reason::Output)),
+        }
+    }
+
+    /// Memory ran out.
+    pub fn memory() -> Report<'a> {
+        Report {
+            failure: Failure::Memory,
+            hint: None,
+        }
+    }
+}
+
+impl From<AllocError> for Report<'_> {
+    fn from(_e: AllocError) -> Self {
+        Report::memory()
+    }
+}
+
+impl<T: Drop> From<AllocFailed<T>> for Report<'_> {
+    fn from(_e: AllocFailed<T>) -> Self {
+        Report::memory()
+    }
+}

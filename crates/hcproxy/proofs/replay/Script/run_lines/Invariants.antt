@@ -1,6 +1,0 @@
--- The rules stay.
-use Rattle.std.proofs.Common.{◌≡◌}
-use Rattle.hcproxy.proofs.replay.Script.run_lines.Given as goal
-
-abbrev pub invariant-each : goal.invariant-each
-invariant-each g l = l.self.world.rules ≡ l.initial.self.world.rules

@@ -1,7 +1,0 @@
-use Rattle.std.proofs.Common.{◌≡◌, map, take}
-use Rattle.hcproxy.specs.Rules.{line_of}
-use Rattle.hcproxy.proofs.settings.directory_of.Given as goal
-
-abbrev pub invariant-each : goal.invariant-each
-invariant-each l =
-    (l.directory.lines ≡ map line_of (take l.origin-index l.origins)) × (l.directory.literals ≡ l.literals)

@@ -1,6 +1,0 @@
-use Rattle.std.proofs.Common.{◌≡◌, take}
-use Rattle.hcproxy.specs.Rules.{observed_hosts}
-use Rattle.hcproxy.proofs.settings.observed_of.Given as goal
-
-abbrev pub invariant-each : goal.invariant-each
-invariant-each l = l.observed ≡ observed_hosts (take l.origin-index l.origins)

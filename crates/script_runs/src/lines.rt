@@ -1,0 +1,117 @@
+//! The lines that tell of outputs and of entries.
+
+use command_line::ReplayFault;
+use http_edge::Incoming;
+use journal_book::{Entry, Event, Grounds};
+use linked_world::Output;
+use std::alloc::Global;
+use std::io::{self, Write};
+use transformers::Relation;
+use uri_map::Peer;
+
+/// A failed write is a failed device.
+fn written(outcome: io::Result<()>) -> Result<(), ReplayFault> {
+    outcome.map_err(|_| ReplayFault::Device)
+}
+
+/// Writes `MOMENT bytes CONN HEX`, `MOMENT datagram PEER HEX`, `MOMENT closed CONN` or `MOMENT turned`.
+pub fn write_output<W: Write>(
+    alloc: Global,
+    writer: &mut W,
+    moment: u64,
+    output: &Output,
+) -> Result<(), ReplayFault> {
+    match output {
+        Output::Bytes(connection, bytes) => {
+            let bytes = hex::encode(alloc, bytes.as_slice())?;
+            written(writeln!(writer, "{moment} bytes {connection} {bytes}"))
+        }
+        Output::Datagram(datagram) => {
+            written(write!(writer, "{moment} "))?;
+            let bytes = datagram.bytes.as_slice();
+            write_datagram(alloc, writer, "datagram", datagram.peer, bytes)
+        }
+        Output::Closed(connection) => written(writeln!(writer, "{moment} closed {connection}")),
+        Output::Turned => written(writeln!(writer, "{moment} turned")),
+    }
+}
+
+/// Writes `WORD PEER HEX`.
+fn write_datagram<W: Write>(
+    alloc: Global,
+    writer: &mut W,
+    word: &str,
+    peer: Peer,
+    bytes: &[u8],
+) -> Result<(), ReplayFault> {
+    let bytes = hex::encode(alloc, bytes)?;
+    written(writeln!(writer, "{word} {peer} {bytes}"))
+}
+
+/// Writes `NUMBER MOMENT` and what happened.
+pub fn write_entry<R: Relation, W: Write>(
+    alloc: Global,
+    writer: &mut W,
+    number: usize,
+    entry: &Entry<R>,
+) -> Result<(), ReplayFault> {
+    let moment = entry.moment;
+    written(write!(writer, "{number} {moment} "))?;
+    match &entry.event {
+        Event::Opened(connection) => written(writeln!(writer, "opened {connection}")),
+        Event::Asked(connection, mapped) => write_asked(writer, *connection, mapped.came()),
+        Event::Sent { peer, bytes, .. } => {
+            write_datagram(alloc, writer, "sent", *peer, bytes.as_slice())
+        }
+        Event::Heard { peer, bytes } => {
+            write_datagram(alloc, writer, "heard", *peer, bytes.as_slice())
+        }
+        Event::Passed => written(writeln!(writer, "passed")),
+        Event::Answered { conn, ask, grounds } => {
+            written(write!(writer, "answered {conn} {ask} "))?;
+            write_grounds(writer, grounds)
+        }
+        Event::Shut(connection) => written(writeln!(writer, "shut {connection}")),
+        Event::Sealed => written(writeln!(writer, "sealed")),
+    }
+}
+
+/// Writes `asked CONN METHOD TARGET LENGTH`, or `asked CONN bad` for bytes that are no request.
+fn write_asked<W: Write>(
+    writer: &mut W,
+    connection: u32,
+    came: &Incoming,
+) -> Result<(), ReplayFault> {
+    written(write!(writer, "asked {connection} "))?;
+    match came {
+        Incoming::Bad(_) => written(writeln!(writer, "bad")),
+        Incoming::Request(request) => {
+            written(writer.write_all(request.method.as_slice()))?;
+            written(writer.write_all(b" "))?;
+            written(writer.write_all(request.target.as_slice()))?;
+            let length = request.body.len();
+            written(writeln!(writer, " {length}"))
+        }
+    }
+}
+
+/// Writes `live N,N..`, `kept N,N..` or `fault KIND N`.
+fn write_grounds<W: Write>(writer: &mut W, grounds: &Grounds) -> Result<(), ReplayFault> {
+    match grounds {
+        Grounds::Live(numbers) => write_numbers(writer, "live", numbers.as_slice()),
+        Grounds::Kept(numbers) => write_numbers(writer, "kept", numbers.as_slice()),
+        Grounds::Fault(cause, number) => written(writeln!(writer, "fault {cause} {number}")),
+    }
+}
+
+/// Writes `WORD N,N..`.
+fn write_numbers<W: Write>(writer: &mut W, word: &str, numbers: &[u32]) -> Result<(), ReplayFault> {
+    written(write!(writer, "{word} "))?;
+    for (i, number) in numbers.iter().enumerate() {
+        if i > 0 {
+            written(write!(writer, ","))?;
+        }
+        written(write!(writer, "{number}"))?;
+    }
+    written(writeln!(writer))
+}
