@@ -2,6 +2,7 @@
 use Rattle.std.specs.Prelude.{◌≡◌, ◌⊎◌, ℕ, ◌<◌, ◌≤◌, Bool, true, false, ◌&&◌, ◌||◌, nat_lt, List, [], ◌∷◌, length, map, Option, Some, None, option_map, Result, Ok, Err, codes, if◌then◌else◌}
 use Rattle.std.specs.List.{list_any}
 use Rattle.std.specs.Str.{bytes_eq}
+use Rattle.limits.specs.declared.TheConstants.{MAX_BODY_LEN}
 use Rattle.uri_map.specs.declared.fault.UriFault.{UriFault}
 use Rattle.uri_map.specs.declared.fault.UriFault.TheVariants as Fault
 use Rattle.uri_map.specs.declared.peer.Peer.{Peer}
@@ -124,7 +125,8 @@ module _ (holds : Form → Form → List ℕ → List ℕ → Type 0) (takes : F
   -- No payload can be made of it: the content isn't taken, or it is too large in the other format.
   abbrev pub Fails : Typing → List ℕ → Type 0
   Fails (Routed from n) body =
-      (takes from (Format n) body → ⊥) ⊎ ((payload : List ℕ) × holds from (Format n) body payload × (65536 < length payload))
+      (takes from (Format n) body → ⊥)
+      ⊎ ((payload : List ℕ) × holds from (Format n) body payload × (MAX_BODY_LEN < length payload))
   Fails _ body = ⊥
 
   -- What it becomes needs more than one message.

@@ -13,10 +13,6 @@ abbrev pub came_size : Came → ℕ
 came_size (Whole r) = length r.method + length r.target + sum_by field_size (pairs r.fields) + length r.body
 came_size (Bad kind) = 0
 
--- the most bytes of a request that is asked
-abbrev pub request_limit : ℕ
-request_limit = 2097152
-
 -- the largest number that 64 bits count to, in place of any larger one
 abbrev pub capped : ℕ → ℕ
 capped n = min n (2 ^ 64 - 1)

@@ -19,6 +19,5 @@ pub use cause::Cause;
 pub use mapped::Mapped;
 pub use meaning::{Meaning, Payload};
 pub use peers::is_same_peer;
-pub use request::MAX_REQUEST_LEN;
 pub use settings::Settings;
-pub use size::{REQUEST_LIMIT, incoming_size};
+pub use size::incoming_size;

@@ -2,14 +2,15 @@
 
 ghost use Rattle.std.specs.Prelude.{◌≡◌, ◌≤◌, length, option_map, IfOk, IfSome};
 ghost use Rattle.std.specs.Arc.{arc_value};
+ghost use Rattle.limits.specs.declared.TheConstants.{MAX_MESSAGE_LEN, MAX_REQUEST_SIZE};
 ghost use Rattle.ask_model.specs.Views.{came_of, body_of, sense_of, rules_of};
 ghost use Rattle.ask_model.specs.Maps.{Maps, wanted_of};
-ghost use Rattle.ask_model.specs.Sizes.{came_size, request_limit};
+ghost use Rattle.ask_model.specs.Sizes.{came_size};
 ghost use Rattle.ask_model.specs.Datagrams.{IsSentFor, asked_peer};
 
 use crate::bytes::Bytes;
 use crate::meaning::Meaning;
-use crate::request::{MAX_REQUEST_LEN, body_in, datagram_of};
+use crate::request::{body_in, datagram_of};
 use crate::settings::Settings;
 use coap_codec::Token;
 use http_edge::Incoming;
@@ -39,12 +40,18 @@ impl<R: Relation> Model for Mapped<R> {
     ghost use Rattle.std.specs.Arc.{arc_value};
     ghost use Rattle.ask_model.specs.Views.{came_of, body_of, sense_of, rules_of};
     ghost use Rattle.ask_model.specs.Maps.{Maps, wanted_of};
-    ghost use Rattle.ask_model.specs.Sizes.{came_size, request_limit};
+    ghost use Rattle.ask_model.specs.Sizes.{came_size};
     ghost use Rattle.std.specs.Prelude.{◌≡◌, ◌≤◌};
+    ghost use Rattle.limits.specs.declared.TheConstants.{MAX_REQUEST_SIZE};
 
     ghost view = { λ m. record { came = came_of m.came; sense = sense_of m.meaning (body_of (came_of m.came)); rules = rules_of (arc_value m.settings) } };
 
-    ghost invariant = { λ m. Maps R.holds R.takes (rules_of (arc_value m.settings)) (came_of m.came) (sense_of m.meaning (body_of (came_of m.came))) × (m.wanted ≡ wanted_of (rules_of (arc_value m.settings)) (came_of m.came) (sense_of m.meaning (body_of (came_of m.came)))) × (came_size (came_of m.came) ≤ request_limit) };
+    ghost invariant = { λ m.
+        Maps R.holds R.takes (rules_of (arc_value m.settings)) (came_of m.came)
+        (sense_of m.meaning (body_of (came_of m.came)))
+        × (m.wanted ≡ wanted_of (rules_of (arc_value m.settings)) (came_of m.came)
+        (sense_of m.meaning (body_of (came_of m.came))))
+        × (came_size (came_of m.came) ≤ MAX_REQUEST_SIZE) };
 }
 
 impl<R: Relation> Mapped<R> {
@@ -57,7 +64,7 @@ impl<R: Relation> Mapped<R> {
     ) -> Mapped<R>
         requires maps { Maps R.holds R.takes (rules_of (arc_value settings)) (came_of came) (sense_of meaning (body_of (came_of came))) }
         requires wanted { wanted ≡ wanted_of (rules_of (arc_value settings)) (came_of came) (sense_of meaning (body_of (came_of came))) }
-        requires small { came_size (came_of came) ≤ request_limit }
+        requires small { came_size (came_of came) ≤ MAX_REQUEST_SIZE }
         ensures came { result.came ≡ came_of came }
         ensures sense { result.sense ≡ sense_of meaning (body_of (came_of came)) }
         ensures rules { result.rules ≡ rules_of (arc_value settings) }
@@ -74,7 +81,7 @@ impl<R: Relation> Mapped<R> {
     /// What came in.
     pub fn came(&self) -> &Incoming
         ensures came { came_of result.now ≡ self.now.came }
-        ensures small { came_size self.now.came ≤ request_limit }
+        ensures small { came_size self.now.came ≤ MAX_REQUEST_SIZE }
     {
         &self.came
     }
@@ -121,7 +128,7 @@ impl<R: Relation> Mapped<R> {
         token: &Token,
     ) -> Result<Option<Bytes>, AllocError>
         ensures sent { IfOk result (λ o. IsSentFor self.now.sense mid token.now o) }
-        ensures len { IfOk result (λ o. IfSome o (λ bytes. length bytes ≤ MAX_REQUEST_LEN)) }
+        ensures len { IfOk result (λ o. IfSome o (λ bytes. length bytes ≤ MAX_MESSAGE_LEN)) }
     {
         datagram_of(alloc, self.meaning(), body_in(self.came()), mid, token)
     }

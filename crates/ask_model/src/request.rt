@@ -15,10 +15,6 @@ use http_edge::Incoming;
 use std::alloc::{AllocError, Global};
 use uri_map::{Target, options_of};
 
-/// The most bytes of a request's datagram: 960 of its target's options, 1,024 of its body, and 32 for
-/// the header, the token, the other options and the payload marker.
-pub const MAX_REQUEST_LEN: usize = 2016;
-
 /// What stands in front of a payload (RFC 7252 section 3).
 const PAYLOAD_MARKER: u8 = 0xff;
 

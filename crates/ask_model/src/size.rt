@@ -10,10 +10,6 @@ ghost use Rattle.ask_model.specs.Sizes.{field_size, came_size, capped};
 use http_edge::{Incoming, Request};
 use http_header::HeaderMap;
 
-/// The most bytes of a request that is asked: no reader of connections gives one of more, with its head of
-/// 8,192 bytes and its body of 65,536.
-pub const REQUEST_LIMIT: u64 = 2097152;
-
 /// The bytes of the field lines.
 fn fields_size(fields: &HeaderMap) -> u64
     ensures { result ≡ capped (sum_by field_size (pairs fields.now)) }

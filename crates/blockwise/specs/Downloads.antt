@@ -1,5 +1,6 @@
 -- Which piece may follow those that came, and what they join to.
 use Rattle.std.specs.Prelude.{◌&&◌, ◌≡◌, ◌⊎◌, ◌<◌, IsOk, ℕ, ◌+◌, ◌^◌, Bool, true, false, not, List, [], ◌∷◌, ◌++◌, length, Option, Some, None, Result, Ok, Err, ◌==◌, nat_le, nat_lt, if◌then◌else◌}
+use Rattle.limits.specs.declared.TheConstants.{MAX_BODY_LEN}
 use Rattle.coap_codec.specs.Spelling.{Content}
 use Rattle.coap_codec.specs.declared.block.Block.{Block}
 use Rattle.blockwise.specs.Reading.{block_in, size_of, offset_in}
@@ -45,7 +46,7 @@ fault_of p m =
     if differs p.of m then Some Changed
     else (if not (fits_blocks p (block_in 23 m) (length m.payload)) then Some Size
     else (if not (offset_in (block_in 23 m) == p.len) then Some Gap
-    else (if nat_lt 65536 (p.len + length m.payload) then Some TooLarge else None)))
+    else (if nat_lt MAX_BODY_LEN (p.len + length m.payload) then Some TooLarge else None)))
 
 abbrev pub first_of : Option Representation → Content → Option Representation
 first_of None m = Some (representation_of m)

@@ -1,5 +1,6 @@
 -- Pieces that are one body, one after the other (RFC 7959, section 2).
 use Rattle.std.specs.Prelude.{◌≡◌, ◌≤◌, ◌<◌, ◌↔◌, ℕ, ◌+◌, Bool, true, false, List, [], ◌∷◌, ◌++◌, length, Option, Some, None}
+use Rattle.limits.specs.declared.TheConstants.{MAX_BODY_LEN}
 use Rattle.coap_codec.specs.Spelling.{Content}
 use Rattle.coap_codec.specs.declared.block.Block.{Block}
 use Rattle.coap_codec.specs.Recognition.{class_of}
@@ -49,7 +50,7 @@ payloads (m ∷ ms) = m.payload ++ payloads ms
 pub record AreWhole (m : Content) (ms : List Content) (body : List ℕ) : Type 0 where
   pub following : AreFollowing (representation_of m) 0 6 (m ∷ ms)
   pub join : body ≡ payloads (m ∷ ms)
-  pub short : length body ≤ 65536
+  pub short : length body ≤ MAX_BODY_LEN
 
 abbrev pub DownloadsJoin : Type 0
 DownloadsJoin =
@@ -97,7 +98,7 @@ pub record AreAllOf (body : List ℕ) (parts : List Part) : Type 0 where
 
 abbrev pub UploadsJoin : Type 0
 UploadsJoin =
-    (body : List ℕ) (szx : ℕ) (ms : List Content) → length body ≤ 65536 → szx < 7
+    (body : List ℕ) (szx : ℕ) (ms : List Content) → length body ≤ MAX_BODY_LEN → szx < 7
     → AllGo (begun (length body) szx) ms → AreAllOf body (sent (begun (length body) szx) body ms)
 
 -- what an upload says to the answer after these, by each of which the next piece goes
@@ -117,6 +118,7 @@ UploadsAnswered =
 
 abbrev pub UploadsSucceed : Type 0
 UploadsSucceed =
-    (body : List ℕ) (szx : ℕ) (ms : List Content) (last : Content) → length body ≤ 65536 → szx < 7
+    (body : List ℕ) (szx : ℕ) (ms : List Content) (last : Content)
+    → length body ≤ MAX_BODY_LEN → szx < 7
     → outcome (begun (length body) szx) ms last ≡ Last → class_of last ≡ 2
     → AreAllOf body (sent (begun (length body) szx) body ms)

@@ -1,5 +1,6 @@
 -- The pieces of a body that is sent, and what the answers to them do.
 use Rattle.std.specs.Prelude.{◌<◌, ◌≤◌, ◌≡◌, ◌≢◌, ◌⊎◌, ℕ, ◌+◌, ◌*◌, ◌/◌, Bool, true, false, not, ◌&&◌, ◌||◌, List, length, take, drop, Option, Some, None, ◌==◌, nat_le, nat_lt, if◌then◌else◌}
+use Rattle.limits.specs.declared.TheConstants.{MAX_BODY_LEN}
 use Rattle.coap_codec.specs.Spelling.{Content}
 use Rattle.coap_codec.specs.declared.block.Block.{Block}
 use Rattle.coap_codec.specs.Recognition.{class_of, is_final}
@@ -20,7 +21,7 @@ pub record IsAligned (taken szx : ℕ) : Type 0 where
 
 -- what holds of each
 pub record IsSound (u : UploadValue) : Type 0 where
-  pub len : u.len ≤ 65536
+  pub len : u.len ≤ MAX_BODY_LEN
   pub taken : u.taken ≤ u.len
   pub szx : u.szx < 7
   pub aligned : IsAligned u.taken u.szx

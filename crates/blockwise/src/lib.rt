@@ -28,5 +28,5 @@ pub use fault::BlockFault;
 pub use laws::{downloads_join, uploads_answered, uploads_join, uploads_succeed};
 pub use pieces::{Pieces, Step};
 pub use representation::{EntityTag, Representation};
-pub use sizes::{LARGEST_SZX, MAX_BODY_LEN};
+pub use sizes::LARGEST_SZX;
 pub use upload::{Answered, Piece, Upload};

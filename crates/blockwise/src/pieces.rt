@@ -8,8 +8,9 @@ ghost use Rattle.blockwise.specs.Downloads.{no_pieces, differs, is_sized, is_no_
 use crate::fault::BlockFault;
 use crate::reading::block2_in;
 use crate::representation::Representation;
-use crate::sizes::{LARGEST_SZX, MAX_BODY_LEN, size_of};
+use crate::sizes::{LARGEST_SZX, size_of};
 use coap_codec::{Block, Message};
+use limits::MAX_BODY_LEN;
 use std::marker::Model;
 
 /// What was taken of a representation, in order from its first byte, without the bytes.
@@ -22,13 +23,14 @@ pub struct Pieces {
 
 impl Model for Pieces {
     ghost use Rattle.std.specs.Prelude.{◌≤◌, ◌<◌};
+    ghost use Rattle.limits.specs.declared.TheConstants.{MAX_BODY_LEN};
     ghost use Rattle.blockwise.specs.Downloads.{PiecesValue};
 
     ghost Value = { PiecesValue };
 
     ghost view = { λ p. record { of = p.of; len = p.len; szx = p.szx } };
 
-    ghost invariant = { λ p. (p.len ≤ 65536) × (p.szx < 7) };
+    ghost invariant = { λ p. (p.len ≤ MAX_BODY_LEN) × (p.szx < 7) };
 
     ghost inverse = { λ v. record { of = v.of; len = v.len; szx = v.szx } };
 
@@ -106,7 +108,7 @@ impl Pieces {
     /// How many bytes were taken.
     pub fn len(&self) -> usize
         ensures value { result ≡ self.now.len }
-        ensures few { result ≤ 65536 }
+        ensures few { result ≤ MAX_BODY_LEN }
     {
         self.len
     }

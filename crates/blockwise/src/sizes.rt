@@ -2,9 +2,6 @@
 
 ghost use Rattle.std.specs.Prelude.{◌≡◌, ◌≤◌, ◌<◌, ◌^◌, ◌+◌};
 
-/// The longest body that goes in pieces, in bytes.
-pub const MAX_BODY_LEN: usize = 65536;
-
 /// The size exponent of the largest blocks, of 1,024 bytes (RFC 7959, section 2.2).
 pub const LARGEST_SZX: u8 = 6;
 

@@ -1,6 +1,7 @@
 //! A body that goes in pieces.
 
 ghost use Rattle.std.specs.Prelude.{◌≡◌, ◌≢◌, ◌≤◌, ◌<◌, ◌*◌, ◌^◌, ◌+◌, ◌↔◌, IfSome, length};
+ghost use Rattle.limits.specs.declared.TheConstants.{MAX_BODY_LEN};
 ghost use Rattle.coap_codec.specs.Spelling.{content};
 ghost use Rattle.blockwise.specs.Uploads.{begun, is_last, next_block, next_payload, is_number_of, next_szx, if_final, answer_to, next_of, Continues, Responds};
 
@@ -89,7 +90,7 @@ fn next_szx(block: Option<Block>, szx: u8) -> u8
 impl Upload {
     /// Nothing of the body went yet; its pieces are to go in this size.
     pub fn new(body: &[u8], szx: u8) -> Upload
-        requires len { length body.now ≤ 65536 }
+        requires len { length body.now ≤ MAX_BODY_LEN }
         requires szx { szx < 7 }
         ensures { result ≡ begun (length body.now) szx }
     {

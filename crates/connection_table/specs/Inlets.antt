@@ -2,6 +2,7 @@
 use Rattle.std.specs.Prelude.{◌≡◌, ⊤, ℕ, ◌+◌, ◌<◌, ◌==◌, ◌&&◌, Bool, true, false, not, nat_lt}
 use Rattle.std.specs.Prelude.{if◌then◌else◌, length, List, [], ◌∷◌, ◌++◌, map, filter, All}
 use Rattle.std.specs.Prelude.{Option, Some, None}
+use Rattle.limits.specs.declared.TheConstants.{MAX_UNREAD}
 use Rattle.http_edge.specs.Reading.{Item, closes}
 use Rattle.http_edge.specs.Edges.{Expects, IsUnread}
 
@@ -59,7 +60,7 @@ unread_in reads x = if reads then x.unread else length x.text
 
 -- So many bytes more would be more than 1,048,576 unread in all. After the last request none count.
 abbrev pub is_full : Bool → ℕ → Inlet → Bool
-is_full reads more x = not x.closing && nat_lt 1048576 (unread_in reads x + more)
+is_full reads more x = not x.closing && nat_lt MAX_UNREAD (unread_in reads x + more)
 
 abbrev pub is_full_in : Bool → ℕ → Option Inlet → Bool
 is_full_in reads more None = false

@@ -4,11 +4,9 @@ ghost use Rattle.std.specs.Prelude.{IfOk, OnOk, OnErr};
 
 use crate::reader::{Reader, closes};
 use http_edge::{Incoming, Memory};
+use limits::MAX_UNREAD;
 use std::alloc::Global;
 use std::marker::Model;
-
-/// The most bytes of a connection that wait unread.
-const UNREAD: usize = 1_048_576;
 
 /// What the bytes of a connection ask next.
 #[derive(Drop)]
@@ -108,7 +106,7 @@ impl Inbox {
         } else {
             self.reader.len()
         };
-        !self.closing && (more > UNREAD || unread > UNREAD - more)
+        !self.closing && (more > MAX_UNREAD || unread > MAX_UNREAD - more)
     }
 
     /// Puts the bytes after those that wait, unless the last request was read.

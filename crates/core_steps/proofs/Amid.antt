@@ -6,6 +6,7 @@ use Rattle.std.proofs.lemmas.List.Sums.{count_by-le-length}
 use Rattle.std.proofs.lemmas.Bool.{false≢true}
 use Rattle.ask_model.proofs.Endpoints.{same_peer-itself}
 use Rattle.std.proofs.lemmas.Bool.Decides.{eqb_tells}
+use Rattle.limits.specs.declared.TheConstants.{MAX_MESSAGE_IDS, MAX_TRANSMIT_WAIT}
 use Rattle.coap_codec.specs.Spelling.{Content, Spells, code_of}
 use Rattle.coap_codec.specs.declared.message.MsgType.{MsgType}
 use Rattle.coap_codec.specs.declared.message.MsgType.TheVariants.{Ack, Rst}
@@ -22,7 +23,6 @@ use Rattle.message_layer.specs.declared.state.Reply.{Reply}
 use Rattle.message_layer.specs.declared.state.Reply.TheVariants as R
 use Rattle.message_layer.specs.declared.state.Waiting.{Waiting}
 use Rattle.whole_history.specs.Readings.{Noted, Confirms, ticked}
-use Rattle.whole_history.specs.Limits.{max_transmit_wait, mid_limit}
 use Rattle.whole_history.specs.Transmissions.{mids_used}
 use Rattle.whole_history.specs.Exchanges.{End, end_of, is_waiting}
 use Rattle.whole_history.specs.Confirming.{owed}
@@ -52,7 +52,7 @@ pub record Amid (l : List Noted) (t : ℕ) (S : State) : Type 0 where
   pub before : Before l t S
   pub unsealed : S.sealed ≡ false
   pub mids : (p : Peer) → HasMids (link_of S.links p)
-  pub in_time : AllByRecursion (λ (e : Exchange). ticked l < e.since + max_transmit_wait) S.exchanges
+  pub in_time : AllByRecursion (λ (e : Exchange). ticked l < e.since + MAX_TRANSMIT_WAIT) S.exchanges
 
 abbrev pub RestAt : List Noted → State → Peer → Type 0
 RestAt l S p = LinkRests (ticked l) (link_of S.links p)
@@ -98,17 +98,17 @@ has-sent token i (e ∷ es) k (inl h) = inl (by (is_under token e))
     by false = h
 has-sent token i (e ∷ es) k (inr h) = inr (has-sent token i es k h)
 
-since-sent : (tick : ℕ) (token : List ℕ) (i : ℕ) (e : Exchange) → tick < e.since + max_transmit_wait → tick < (went_out token i e).since + max_transmit_wait
+since-sent : (tick : ℕ) (token : List ℕ) (i : ℕ) (e : Exchange) → tick < e.since + MAX_TRANSMIT_WAIT → tick < (went_out token i e).since + MAX_TRANSMIT_WAIT
 since-sent tick token i e h = by (is_under token e)
   where
-    by : (b : Bool) → tick < (cond b (record e { sending = Some i }) e).since + max_transmit_wait
+    by : (b : Bool) → tick < (cond b (record e { sending = Some i }) e).since + MAX_TRANSMIT_WAIT
     by true = h
     by false = h
 
 pub tick-before : (l : List Noted) (t : ℕ) (S : State) → Before l t S → ticked l ≤ t
 tick-before l t S b = let tick = ticked-newest l b.reads.legal in let later = later-than l t S b in omega (arith, tick, later)
 
-few-used : (l : List Noted) (t : ℕ) (p : Peer) (S : State) (w : Waiting) (ws : List Waiting) → Amid l t S → (link_of S.links p).waiting ≡ w ∷ ws → mids_used l t p < mid_limit
+few-used : (l : List Noted) (t : ℕ) (p : Peer) (S : State) (w : Waiting) (ws : List Waiting) → Amid l t S → (link_of S.links p).waiting ≡ w ∷ ws → mids_used l t p < MAX_MESSAGE_IDS
 few-used l t p S w ws a e =
     let s = link_of S.links p in
     let same : count_by (is_in_use t) s.given ≡ mids_used l t p = (a.before.reads.links_are p).given t (later-than l t S a.before) in
@@ -150,7 +150,7 @@ next-moves l t p S a quiet early = by (link_of S.links p).outstanding (link_of S
                     enough = let enough = (a.mids p).enough in let size : length (link_of S.links p).waiting ≡ length (w ∷ ws) = ap length is in let more = length-append (link_of S.links p).given (t ∷ []) in omega (arith, enough, size, more);
                   })
                   (λ q away. a.mids q);
-              in_time = all-map (went_out w.token (length S.entries)) (λ (e : Exchange). ticked l < e.since + max_transmit_wait) S.exchanges
+              in_time = all-map (went_out w.token (length S.entries)) (λ (e : Exchange). ticked l < e.since + MAX_TRANSMIT_WAIT) S.exchanges
                   (all-more _ _ (λ e h. since-sent (ticked l) w.token (length S.entries) e h) S.exchanges a.in_time);
             };
             quiet = refl;

@@ -4,12 +4,12 @@ use Rattle.std.specs.Prelude.{filter, is_none, ◌&&◌}
 use Rattle.std.specs.List.{list_any}
 use Rattle.std.proofs.lemmas.Bool.{le-leb}
 use Rattle.std.proofs.lemmas.List.{length-map}
+use Rattle.limits.specs.declared.TheConstants.{MAX_DATAGRAM_LEN}
 use Rattle.coap_codec.specs.Spelling.{Content}
 use Rattle.coap_codec.specs.Reading.{message_at}
 use Rattle.coap_codec.specs.declared.fault.CodecFault.{CodecFault}
 use Rattle.uri_map.specs.declared.peer.Peer.{Peer}
 use Rattle.journal_book.specs.Entries.{Grounds, Deed, Hears, Answers}
-use Rattle.history_laws.specs.Limits.{datagram_limit}
 use Rattle.message_layer.specs.Values.{LinkState}
 use Rattle.message_layer.specs.Hearing.{replies, reset_for, verdict_of, applied}
 use Rattle.message_layer.specs.declared.state.Outstanding.{Outstanding}
@@ -214,10 +214,10 @@ idle-heeded t p d mid token v g S come r e n =
 heard-read : (t : ℕ) (p : Peer) (d : List ℕ) (r : Result Content CodecFault) (S : State)
     → Comes t p d S → message_at d ≡ r → heard t p d S ≡ reads_so t p d r S
 heard-read t p d r S come e =
-    ap (λ (b : Bool). cond (b && leb (length d) datagram_limit) (reads_so t p d (message_at d) S) S)
+    ap (λ (b : Bool). cond (b && leb (length d) MAX_DATAGRAM_LEN) (reads_so t p d (message_at d) S) S)
     come.known
     ∙ (ap (λ (b : Bool). cond b (reads_so t p d (message_at d) S) S)
-    (le-leb (length d) datagram_limit come.short)
+    (le-leb (length d) MAX_DATAGRAM_LEN come.short)
     ∙ ap (λ (k : Result Content CodecFault). reads_so t p d k S) e)
 
 taken : (t : ℕ) (p : Peer) (d : List ℕ) (m : Content) (v : Verdict) (news : News) (S : State)

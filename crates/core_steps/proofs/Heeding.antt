@@ -4,6 +4,7 @@ use Rattle.std.specs.Prelude.{filter, find, ◌&&◌, is_some, option_map, count
 use Rattle.std.specs.List.{AllByRecursion, Contains}
 use Rattle.std.proofs.lemmas.Bool.{false≢true, leb-true}
 use Rattle.std.proofs.lemmas.Slice.Eq.{bytes_eq-Decides}
+use Rattle.limits.specs.declared.TheConstants.{MAX_TRANSMIT_WAIT}
 use Rattle.coap_codec.specs.Spelling.{Content, Spells}
 use Rattle.coap_codec.specs.Reading.{message_at}
 use Rattle.coap_codec.specs.declared.fault.CodecFault.{CodecFault}
@@ -28,7 +29,6 @@ use Rattle.message_layer.specs.declared.state.Reply.TheVariants as R
 use Rattle.message_layer.specs.declared.verdict.News.{News}
 use Rattle.message_layer.specs.declared.verdict.News.TheVariants as N
 use Rattle.whole_history.specs.Readings.{Noted, Repeats, Garbled, newest, ticked}
-use Rattle.whole_history.specs.Limits.{max_transmit_wait}
 use Rattle.whole_history.specs.Transmissions.{FirstSending, last_sent}
 use Rattle.whole_history.specs.Confirming.{owed}
 use Rattle.whole_history.specs.Hearing.{is_such, heard_before, repeated, can_be_remembered}
@@ -245,7 +245,7 @@ new-keeps t p d mess S m h spelled none room =
       before = record { reads = made.leads.reads; later = omega arith };
       unsealed = m.unsealed;
       mids = all-links (λ (q : Peer) (u : LinkState). HasMids u) p new S.links (record { small = (m.kept.mids p).small; enough = (m.kept.mids p).enough }) (λ q away. m.kept.mids q);
-      in_time = all-filter (λ (e : Exchange). ticked l < e.since + max_transmit_wait) other S.exchanges rests.in_time;
+      in_time = all-filter (λ (e : Exchange). ticked l < e.since + MAX_TRANSMIT_WAIT) other S.exchanges rests.in_time;
     } in
     let given = given-moves (x ∷ l) t p S1 mess.mid v.reply amid made.owes in
     let S2 = given_back t p (replies mess.mid v.reply) S1 in

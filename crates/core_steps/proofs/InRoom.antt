@@ -6,10 +6,10 @@ use Rattle.std.proofs.Math.Nat.{le-max_left, le-max_right}
 use Rattle.std.proofs.lemmas.Bool.{false≢true}
 use Rattle.std.proofs.lemmas.List.Sums.{sum_by_push}
 use Rattle.std.proofs.lemmas.Bool.Decides.{leb_tells}
+use Rattle.limits.specs.declared.TheConstants.{MAX_TRANSMIT_WAIT}
 use Rattle.ask_model.proofs.Endpoints.{and-both}
 use Rattle.ask_model.specs.Sizes.{came_size}
 use Rattle.journal_book.specs.Entries.{Seals, Written, entry_size}
-use Rattle.whole_history.specs.Limits.{max_transmit_wait}
 use Rattle.whole_history.specs.Readings.{Noted}
 use Rattle.whole_history.specs.Sealing as H
 use Rattle.link_history.proofs.Facts.{all-more}
@@ -254,7 +254,7 @@ pub ticks-promptly : TicksPromptly
 ticks-promptly t S k later = by S.sealed refl
   where
     all-prompt : (S1 : State)
-        → AllByRecursion (λ (e : Exchange). t < e.since + max_transmit_wait) S1.exchanges
+        → AllByRecursion (λ (e : Exchange). t < e.since + MAX_TRANSMIT_WAIT) S1.exchanges
         → (cs : List Conn) → AllByRecursion (IsPrompt t S1.exchanges) cs
     all-prompt S1 a [] = tt
     all-prompt S1 a (x ∷ xs) = (all-more _ _ (λ e h w. h) S1.exchanges a, all-prompt S1 a xs)

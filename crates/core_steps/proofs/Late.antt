@@ -5,9 +5,9 @@ use Rattle.std.specs.List.{AllByRecursion, Contains, list_any}
 use Rattle.std.proofs.lemmas.Bool.{false≢true}
 use Rattle.std.proofs.lemmas.Bool.Decides.{eqb_tells, leb_tells}
 use Rattle.std.proofs.lemmas.List.Elements.{All-contains_itself, recursion_from_All}
+use Rattle.limits.specs.declared.TheConstants.{MAX_TRANSMIT_WAIT}
 use Rattle.ask_model.specs.declared.cause.Cause.TheVariants as C
 use Rattle.journal_book.specs.Entries.{Grounds, Fault}
-use Rattle.whole_history.specs.Limits.{max_transmit_wait}
 use Rattle.whole_history.specs.Readings.{Noted, Begins}
 use Rattle.whole_history.specs.Connections.{is_sealed}
 use Rattle.whole_history.specs.Transmissions.{sent_last}
@@ -202,8 +202,8 @@ prompt-one : (t : ℕ) (x : Conn) (es : List Exchange)
 prompt-one t x [] a = tt
 prompt-one t x (e ∷ es) a = by (is_past t e) refl a (λ h. prompt-one t x es h)
   where
-    before : is_past t e ≡ false → t < e.since + max_transmit_wait
-    before is = elim (leb_tells (e.since + max_transmit_wait) t) [
+    before : is_past t e ≡ false → t < e.since + MAX_TRANSMIT_WAIT
+    before is = elim (leb_tells (e.since + MAX_TRANSMIT_WAIT) t) [
       | inl w ↦ absurd (false≢true (sym is ∙ w.0))
       | inr w ↦ w.1
     ]

@@ -4,6 +4,7 @@ use Rattle.std.specs.Prelude.{◌||◌, filter, fold, unwrap_or}
 use Rattle.std.specs.List.{list_any}
 use Rattle.std.proofs.lemmas.Bool.{false≢true, or_parts, lt-leb, lt-ltb, le-ltb}
 use Rattle.std.proofs.lemmas.Bool.Decides.{eqb_tells, leb_tells}
+use Rattle.limits.specs.declared.TheConstants.{MAX_RETRANSMIT}
 use Rattle.uri_map.specs.declared.peer.Peer.{Peer}
 use Rattle.ask_model.specs.Requests.{same_peer}
 use Rattle.ask_model.specs.declared.cause.Cause.TheVariants as C
@@ -13,7 +14,6 @@ use Rattle.message_layer.specs.Values.{LinkState, no_news}
 use Rattle.message_layer.specs.Sending.{due_of, with_copy, next_by as call_next_by, submitted_by, ticked_by}
 use Rattle.message_layer.specs.declared.state.Outstanding.{Outstanding}
 use Rattle.message_layer.specs.declared.state.Waiting.{Waiting}
-use Rattle.whole_history.specs.Limits.{copy_limit}
 use Rattle.whole_history.specs.Readings.{Noted}
 use Rattle.whole_history.specs.Justified.{Legal}
 use Rattle.whole_history.proofs.Outstanding.{sound}
@@ -117,7 +117,7 @@ all-told t (e ∷ es) S = all-told t es (times_out t S e) ∙ links-told t (Faul
 
 abbrev pub Few : Option Outstanding → Type 0
 Few None = Unit {0}
-Few (Some o) = o.retransmissions ≤ copy_limit
+Few (Some o) = o.retransmissions ≤ MAX_RETRANSMIT
 
 pub tick-same : (t : ℕ) (r : LinkState) (v : Option Outstanding) → r.outstanding ≡ v → Turns v r.waiting → Few v
     → given_out (moved t (record r { outstanding = cond (is_over t v) None v })) ≡ given_out (ticked_by t r v).0

@@ -4,13 +4,13 @@ use Rattle.std.specs.Prelude.{fold, nat_le, ◌||◌}
 use Rattle.std.specs.List.{list_any}
 use Rattle.std.proofs.lemmas.Bool.{false≢true, and_right, le-leb, lt-leb}
 use Rattle.std.proofs.lemmas.Bool.Decides.{eqb_tells, leb_tells}
+use Rattle.limits.specs.declared.TheConstants.{MAX_RETRANSMIT}
 use Rattle.uri_map.specs.declared.peer.Peer.{Peer}
 use Rattle.ask_model.specs.Requests.{same_peer}
 use Rattle.ask_model.proofs.Endpoints.{same_peer-same}
 use Rattle.message_layer.specs.Values.{LinkState}
 use Rattle.message_layer.specs.Sending.{due_of, again, with_copy}
 use Rattle.message_layer.specs.declared.state.Outstanding.{Outstanding}
-use Rattle.whole_history.specs.Limits.{copy_limit}
 use Rattle.whole_history.specs.Readings.{Noted, ticked}
 use Rattle.whole_history.specs.Confirming.{owed}
 use Rattle.whole_history.proofs.Outstanding.{Sound, sound}
@@ -34,7 +34,7 @@ rest-goes tick s h = by s.outstanding h
   where
     by : (v : Option Outstanding) → IsUndue tick v s.waiting → is_over tick v ≡ false
     by None h = refl
-    by (Some o) h = and_right (eqb o.retransmissions copy_limit) (nat_le (due_of o) tick) (lt-leb (due_of o) tick h)
+    by (Some o) h = and_right (eqb o.retransmissions MAX_RETRANSMIT) (nat_le (due_of o) tick) (lt-leb (due_of o) tick h)
 
 -- A copy that is due may be sent, and the next is due later.
 
@@ -44,14 +44,14 @@ due-now t o e = elim (leb_tells (due_of o) t) [ inl w ↦ w.1 | inr w ↦ absurd
 pub not-due : (t : ℕ) (o : Outstanding) → is_due t (Some o) ≡ false → t < due_of o
 not-due t o e = elim (leb_tells (due_of o) t) [ inl w ↦ absurd (false≢true (sym e ∙ w.0)) | inr w ↦ w.1 ]
 
-few-left : (t : ℕ) (o : Outstanding) → o.retransmissions ≤ copy_limit → is_over t (Some o) ≡ false → due_of o ≤ t → o.retransmissions < copy_limit
-few-left t o most over due = elim (eqb_tells o.retransmissions copy_limit) [
+few-left : (t : ℕ) (o : Outstanding) → o.retransmissions ≤ MAX_RETRANSMIT → is_over t (Some o) ≡ false → due_of o ≤ t → o.retransmissions < MAX_RETRANSMIT
+few-left t o most over due = elim (eqb_tells o.retransmissions MAX_RETRANSMIT) [
   | inl w ↦ absurd (false≢true (sym over ∙ rw (w.0) (le-leb (due_of o) t due)))
   | inr w ↦ below w.1
 ]
   where
-    below : (o.retransmissions ≡ copy_limit → ⊥) → o.retransmissions < copy_limit
-    below apart = elim (leb_tells copy_limit o.retransmissions) [
+    below : (o.retransmissions ≡ MAX_RETRANSMIT → ⊥) → o.retransmissions < MAX_RETRANSMIT
+    below apart = elim (leb_tells MAX_RETRANSMIT o.retransmissions) [
       | inl w ↦ let more = w.1 in absurd (apart (omega (arith, more, most)))
       | inr w ↦ w.1
     ]

@@ -3,13 +3,13 @@ use Rattle.std.proofs.Common.{◌≡◌, ℕ, ◌+◌, ◌<◌, Bool, true, fals
 use Rattle.std.proofs.lemmas.Bool.{lt-leb}
 use Rattle.std.specs.Option.{option_map_or}
 use Rattle.std.specs.List.{AllByRecursion, Contains, list_all, range_with_len}
+use Rattle.limits.specs.declared.TheConstants.{MAX_TRANSMIT_WAIT}
 use Rattle.uri_map.specs.declared.peer.Peer.{Peer}
 use Rattle.ask_model.proofs.Endpoints.{same_peer-itself}
 use Rattle.message_layer.specs.declared.state.Waiting.{Waiting}
 use Rattle.message_layer.specs.declared.state.Outstanding.{Outstanding}
 use Rattle.whole_history.specs.Readings.{Noted, ticked}
 use Rattle.whole_history.specs.Connections.{is_open, opened}
-use Rattle.whole_history.specs.Limits.{max_transmit_wait}
 use Rattle.whole_history.specs.Transmissions.{FirstSending, firsts, Transmission, transmission, due, outstanding}
 use Rattle.whole_history.specs.Exchanges.{begun, waits_for, openings, is_going, open_exchanges, is_waiting, waiting}
 use Rattle.whole_history.specs.Justified.{pending, reads, reads_open, is_in_hand, finds_outstanding, is_under_way, is_early, is_done, is_in_time}
@@ -131,8 +131,8 @@ done l S f r there = by (transmission l f.number) refl
 
 -- Open exchanges are in time.
 
-in-time : (l : List Noted) (e : Exchange) → ExchangeIn l e → ticked l < e.since + max_transmit_wait → is_in_time l e.opening ≡ true
-in-time l e h lt = rw (h.opening, lt-leb (e.since + max_transmit_wait) (ticked l) lt) refl
+in-time : (l : List Noted) (e : Exchange) → ExchangeIn l e → ticked l < e.since + MAX_TRANSMIT_WAIT → is_in_time l e.opening ≡ true
+in-time l e h lt = rw (h.opening, lt-leb (e.since + MAX_TRANSMIT_WAIT) (ticked l) lt) refl
 
 pub rests-at-rest : RestsAtRest
 rests-at-rest l S r =
@@ -148,7 +148,7 @@ rests-at-rest l S r =
           (all-more (IsThere l) (λ (f : FirstSending). is_done l f ≡ true) (λ f h. done l S f r h) (firsts l) (all-there l));
       ended = λ sealed.
           open-pass l S (is_in_time l) r.reads
-          (all-more (λ (e : Exchange). OpenIn l e × (ticked l < e.since + max_transmit_wait)) (λ (e : Exchange). is_in_time l e.opening ≡ true)
+          (all-more (λ (e : Exchange). OpenIn l e × (ticked l < e.since + MAX_TRANSMIT_WAIT)) (λ (e : Exchange). is_in_time l e.opening ≡ true)
           (λ e h. in-time l e h.0.0 h.1) S.exchanges
-          (all-both (OpenIn l) (λ (e : Exchange). ticked l < e.since + max_transmit_wait) S.exchanges open_now r.in_time));
+          (all-both (OpenIn l) (λ (e : Exchange). ticked l < e.since + MAX_TRANSMIT_WAIT) S.exchanges open_now r.in_time));
     }

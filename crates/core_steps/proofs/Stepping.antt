@@ -6,6 +6,7 @@ use Rattle.std.specs.List.{AllByRecursion}
 use Rattle.std.proofs.lemmas.Bool.{ltb-true}
 use Rattle.std.proofs.lemmas.Bool.Decides.{eqb_tells}
 use Rattle.std.proofs.lemmas.List.Sums.{length-filter}
+use Rattle.limits.specs.declared.TheConstants.{MAX_MESSAGE_IDS, MAX_TRANSMIT_WAIT}
 use Rattle.uri_map.specs.declared.peer.Peer.{Peer}
 use Rattle.ask_model.specs.declared.cause.Cause.{Cause}
 use Rattle.ask_model.specs.declared.cause.Cause.TheVariants as C
@@ -21,7 +22,6 @@ use Rattle.message_layer.specs.declared.state.Outstanding.{Outstanding}
 use Rattle.message_layer.specs.declared.state.Waiting.{Waiting}
 use Rattle.whole_history.specs.Readings.{Noted, Plain, Begins, at, ticked}
 use Rattle.whole_history.specs.Connections.{is_open, asks_of, answers_of}
-use Rattle.whole_history.specs.Limits.{max_transmit_wait, mid_limit}
 use Rattle.whole_history.specs.Hearing.{has_room}
 use Rattle.whole_history.specs.Justified.{AskNote, Caused, IsRefused, MayCome, pending}
 use Rattle.whole_history.specs.Worked.{noted}
@@ -158,7 +158,7 @@ at-once t c a cause S m h note why =
 
 -- An ask that opens an exchange.
 
-enough-ids : (t : ℕ) (s : LinkState) (w : Waiting) → HasMids s → w.first_mid < 65536 → mids_in_use t s < mid_limit → HasMids (queued t w s)
+enough-ids : (t : ℕ) (s : LinkState) (w : Waiting) → HasMids s → w.first_mid < 65536 → mids_in_use t s < MAX_MESSAGE_IDS → HasMids (queued t w s)
 enough-ids t s w h small few = record {
   small = all-push (λ (v : Waiting). v.first_mid < 65536) s.waiting w h.small small;
   enough = by (ltb (length s.given + length s.waiting) 32768) refl;
@@ -167,7 +167,7 @@ enough-ids t s w h small few = record {
     more : length (s.waiting ++ w ∷ []) ≡ length s.waiting + 1
     more = length-append s.waiting (w ∷ [])
 
-    by : (b : Bool) → ltb (length s.given + length s.waiting) 32768 ≡ b → length (cond b s.given (filter (is_in_use t) s.given)) + length (s.waiting ++ w ∷ []) ≤ mid_limit
+    by : (b : Bool) → ltb (length s.given + length s.waiting) 32768 ≡ b → length (cond b s.given (filter (is_in_use t) s.given)) + length (s.waiting ++ w ∷ []) ≤ MAX_MESSAGE_IDS
     by true e = let less = ltb-true _ _ e in omega (arith, less, more)
     by false e = let count = length-filter (is_in_use t) s.given in omega (arith, few, count, more)
 
@@ -208,12 +208,12 @@ opened-for t c a q n S m h sense numbered place =
     let w = waits n.token n.text n.word in
     let s = queued t w (link_of S.links p) in
     let tick = tick-before l t S b in
-    let few : mids_in_use t (link_of S.links p) < mid_limit = ltb-true _ _ (and-right (ltb (length (link_of S.links p).waiting) 64) _ (and-right (ltb (length S.exchanges) 256) _ place)) in
+    let few : mids_in_use t (link_of S.links p) < MAX_MESSAGE_IDS = ltb-true _ _ (and-right (ltb (length (link_of S.links p).waiting) 64) _ (and-right (ltb (length S.exchanges) 256) _ place)) in
     let amid : Amid (x ∷ l) t S1 = record {
       before = record { reads = made.reads; later = omega arith };
       unsealed = m.unsealed;
       mids = all-links (λ (k : Peer) (u : LinkState). HasMids u) p s S.links (enough-ids t (link_of S.links p) w (m.kept.mids p) (omega arith) few) (λ k away. m.kept.mids k);
-      in_time = all-push (λ (e : Exchange). ticked l < e.since + max_transmit_wait) S.exchanges (exchange_for t c q n.token S) r.in_time (omega (arith, tick));
+      in_time = all-push (λ (e : Exchange). ticked l < e.since + MAX_TRANSMIT_WAIT) S.exchanges (exchange_for t c q n.token S) r.in_time (omega (arith, tick));
     } in
     let early : IsEarly (x ∷ l) S1 p = all-links (λ (k : Peer) (u : LinkState). (o : Outstanding) → u.outstanding ≡ Some o → ticked l < due_of o) p s S.links
     (λ o is. undue (ticked l) (link_of S.links p) o (r.links p) is) (λ k away o is. undue (ticked l) (link_of S.links k) o (r.links k) is) p in

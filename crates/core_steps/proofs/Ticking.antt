@@ -5,6 +5,7 @@ use Rattle.std.specs.List.{AllByRecursion, list_any}
 use Rattle.std.proofs.lemmas.Bool.{false≢true, or_parts, not_from_false}
 use Rattle.std.proofs.lemmas.Bool.Decides.{leb_tells}
 use Rattle.std.proofs.lemmas.List.Sums.{length-filter, count_by-le-length}
+use Rattle.limits.specs.declared.TheConstants.{MAX_TRANSMIT_WAIT}
 use Rattle.uri_map.specs.declared.peer.Peer.{Peer}
 use Rattle.ask_model.specs.Requests.{same_peer}
 use Rattle.ask_model.specs.declared.cause.Cause.TheVariants as C
@@ -12,7 +13,6 @@ use Rattle.journal_book.specs.Entries.{Passes, Fault}
 use Rattle.message_layer.specs.Values.{LinkState, empty_link}
 use Rattle.message_layer.specs.declared.state.Outstanding.{Outstanding}
 use Rattle.message_layer.specs.declared.state.Waiting.{Waiting}
-use Rattle.whole_history.specs.Limits.{max_transmit_wait}
 use Rattle.whole_history.specs.Readings.{Noted, Plain, ticked as at_tick}
 use Rattle.whole_history.specs.Confirming.{owed}
 use Rattle.whole_history.specs.Exchanges.{end_of}
@@ -61,10 +61,10 @@ passed-goes t gone s = by (is_over t s.outstanding) refl
     by true e = refl
     by false e = e
 
-going-in-time : (t : ℕ) (links : List PeerLink) (e : Exchange) → not (expires t links e) ≡ true → t < e.since + max_transmit_wait
+going-in-time : (t : ℕ) (links : List PeerLink) (e : Exchange) → not (expires t links e) ≡ true → t < e.since + MAX_TRANSMIT_WAIT
 going-in-time t links e h =
     let now = or_parts (is_past t e) (is_in_vain t (link_of links e.peer) e) (going (expires t links e) h) in
-    elim (leb_tells (e.since + max_transmit_wait) t) [ inl w ↦ absurd (false≢true (sym now.0 ∙ w.0)) | inr w ↦ w.1 ]
+    elim (leb_tells (e.since + MAX_TRANSMIT_WAIT) t) [ inl w ↦ absurd (false≢true (sym now.0 ∙ w.0)) | inr w ↦ w.1 ]
   where
     going : (b : Bool) → not b ≡ true → b ≡ false
     going true k = absurd (false≢true k)
@@ -86,7 +86,7 @@ passed-ready l t S r unsealed later mids =
         before = record { reads = led.reads; later = omega arith };
         unsealed = unsealed;
         mids = λ p. subst HasMids (sym (link-passed t S p S.links)) (passed-mids t (is_gone t S) (link_of S.links p) (mids p));
-        in_time = all-more _ (λ (e : Exchange). t < e.since + max_transmit_wait) (going-in-time t S.links) (passes t S).exchanges (all-passes (λ (e : Exchange). not (expires t S.links e)) S.exchanges);
+        in_time = all-more _ (λ (e : Exchange). t < e.since + MAX_TRANSMIT_WAIT) (going-in-time t S.links) (passes t S).exchanges (all-passes (λ (e : Exchange). not (expires t S.links e)) S.exchanges);
       };
       quiet = refl;
       tick = refl;
@@ -158,7 +158,7 @@ all-served es cs a = all-more _ (λ (x : Conn). IsServed es x.pending) (λ x h. 
 record Done (t : ℕ) (S : State) : Type 0 where
   kept : Kept S
   links : (p : Peer) → LinkRests t (link_of S.links p)
-  in_time : AllByRecursion (λ (e : Exchange). t < e.since + max_transmit_wait) S.exchanges
+  in_time : AllByRecursion (λ (e : Exchange). t < e.since + MAX_TRANSMIT_WAIT) S.exchanges
 
 all-done : (t : ℕ) (S : State) → MayStep t S → Done t (fold (times_out t) (move_all t (passes t S)) (timed_out t S))
 all-done t S may =
@@ -185,7 +185,7 @@ all-done t S may =
         mids = n.amid.mids;
       };
       links = λ p. subst (λ (k : ℕ). LinkRests k (link_of S3.links p)) tick (n.rest p);
-      in_time = subst (λ (k : ℕ). AllByRecursion (λ (e : Exchange). k < e.since + max_transmit_wait) S3.exchanges) tick n.amid.in_time;
+      in_time = subst (λ (k : ℕ). AllByRecursion (λ (e : Exchange). k < e.since + MAX_TRANSMIT_WAIT) S3.exchanges) tick n.amid.in_time;
     }
 
 pub ticks-keeps : TicksKeeps
@@ -214,7 +214,7 @@ undue-rests t tick s = by s.outstanding
     by None h e = h
     by (Some o) h e = not-due t o e
 
-none-ends : (t : ℕ) (links : List PeerLink) (es : List Exchange) → list_any (expires t links) es ≡ false → AllByRecursion (λ (e : Exchange). t < e.since + max_transmit_wait) es
+none-ends : (t : ℕ) (links : List PeerLink) (es : List Exchange) → list_any (expires t links) es ≡ false → AllByRecursion (λ (e : Exchange). t < e.since + MAX_TRANSMIT_WAIT) es
 none-ends t links [] h = tt
 none-ends t links (e ∷ es) h =
     let both = or_parts (expires t links e) (list_any (expires t links) es) h in

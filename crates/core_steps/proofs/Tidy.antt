@@ -4,6 +4,7 @@ use Rattle.std.specs.Prelude.{not}
 use Rattle.std.specs.List.{AllByRecursion, list_any}
 use Rattle.std.proofs.lemmas.Bool.{or_parts}
 use Rattle.std.proofs.lemmas.List.{length-set}
+use Rattle.limits.specs.declared.TheConstants.{MAX_MESSAGE_LEN}
 use Rattle.uri_map.specs.declared.peer.Peer.{Peer}
 use Rattle.ask_model.specs.Requests.{same_peer}
 use Rattle.message_layer.specs.Values.{LinkState}
@@ -11,7 +12,6 @@ use Rattle.message_layer.specs.Sending.{first_sent, with_outstanding, with_copy,
 use Rattle.message_layer.specs.declared.state.Outstanding.{Outstanding}
 use Rattle.message_layer.specs.declared.state.Waiting.{Waiting}
 use Rattle.message_layer.specs.declared.verdict.Verdict.{Verdict}
-use Rattle.whole_history.specs.Sealing.{message_limit}
 use Rattle.link_history.specs.Steps.{heard_link, is_over, passed_link}
 use Rattle.link_history.proofs.Facts.{all-push, all-filter}
 use Rattle.core_steps.specs.State.{PeerLink, State, link_of, with_link}
@@ -90,7 +90,7 @@ pub short-first : (t : ℕ) (s : LinkState) (w : Waiting) (ws : List Waiting) �
     → (length (first_sent t s.last_mid w).datagram ≤ 2016) × IsShort
     (given_out (with_outstanding s ws (first_sent t s.last_mid w)))
 short-first t s w ws h is =
-    let waiting = subst (AllByRecursion (λ (v : Waiting). length v.datagram ≤ message_limit)) is
+    let waiting = subst (AllByRecursion (λ (v : Waiting). length v.datagram ≤ MAX_MESSAGE_LEN)) is
     h.waiting in
     let mid = (first_sent t s.last_mid w).mid in
     let one = length-set w.datagram 2 (mid / 256) in
@@ -110,7 +110,7 @@ pub short-queued : (t : ℕ) (s : LinkState) (token text : List ℕ) (word : ℕ
     → length text ≤ 2016 → IsShort (queued t (waits token text word) s)
 short-queued t s token text word h short = record {
   outstanding = h.outstanding;
-  waiting = all-push (λ (v : Waiting). length v.datagram ≤ message_limit) s.waiting
+  waiting = all-push (λ (v : Waiting). length v.datagram ≤ MAX_MESSAGE_LEN) s.waiting
       (waits token text word) h.waiting short;
 }
 
@@ -129,7 +129,7 @@ short-passed : (t : ℕ) (gone : List ℕ → Bool) (s : LinkState) → IsShort 
     → IsShort (passed_link t gone s)
 short-passed t gone s h = record {
   outstanding = short-unless (is_over t s.outstanding) s.outstanding h.outstanding;
-  waiting = all-filter (λ (v : Waiting). length v.datagram ≤ message_limit)
+  waiting = all-filter (λ (v : Waiting). length v.datagram ≤ MAX_MESSAGE_LEN)
       (λ (w : Waiting). not (gone w.token)) s.waiting h.waiting;
 }
 

@@ -1,6 +1,7 @@
 -- What each call does: an input, and all that is due because of it.
 use Rattle.std.specs.Prelude.{ℕ, Bool, false, ◌&&◌, ◌||◌, ◌==◌, nat_lt, nat_le, List, [], ◌∷◌, length, map, filter, fold, Option, Some, None, is_some, unwrap_or, Result, Ok, Err, if◌then◌else◌}
 use Rattle.std.specs.List.{find, list_any}
+use Rattle.limits.specs.declared.TheConstants.{MAX_DATAGRAM_LEN, MAX_EXCHANGES, MAX_MESSAGE_IDS, MAX_WAITING}
 use Rattle.coap_codec.specs.Spelling.{Content}
 use Rattle.coap_codec.specs.Reading.{message_at}
 use Rattle.coap_codec.specs.declared.fault.CodecFault.{CodecFault}
@@ -10,7 +11,6 @@ use Rattle.ask_model.specs.declared.cause.Cause.TheVariants as C
 use Rattle.ask_model.specs.Requests.{Sense, Requests, Refuses}
 use Rattle.ask_model.specs.Views.{Ask}
 use Rattle.journal_book.specs.Entries.{Grounds, Live, Fault}
-use Rattle.history_laws.specs.Limits.{exchange_limit, datagram_limit}
 use Rattle.history_laws.specs.Responses.{is_whole}
 use Rattle.message_layer.specs.Values.{LinkState}
 use Rattle.message_layer.specs.Sending.{due_of, mids_in_use}
@@ -22,7 +22,6 @@ use Rattle.message_layer.specs.declared.verdict.News.{News}
 use Rattle.message_layer.specs.declared.verdict.News.TheVariants as N
 use Rattle.message_layer.specs.declared.verdict.Verdict.{Verdict}
 use Rattle.whole_history.specs.Hearing.{is_such}
-use Rattle.whole_history.specs.Limits.{waiting_limit, mid_limit}
 use Rattle.link_history.specs.Steps.{ended_token}
 use Rattle.core_steps.specs.declared.kept.Conn.{Conn}
 use Rattle.core_steps.specs.declared.kept.Exchange.{Exchange}
@@ -46,9 +45,9 @@ refused t c a cause S =
 -- a place among the open exchanges, one among the messages that wait at the endpoint, and an ID
 abbrev pub has_place : ℕ → Peer → State → Bool
 has_place t p S =
-    nat_lt (length S.exchanges) exchange_limit
-    && (nat_lt (length (link_of S.links p).waiting) waiting_limit
-    && nat_lt (mids_in_use t (link_of S.links p)) mid_limit)
+    nat_lt (length S.exchanges) MAX_EXCHANGES
+    && (nat_lt (length (link_of S.links p).waiting) MAX_WAITING
+    && nat_lt (mids_in_use t (link_of S.links p)) MAX_MESSAGE_IDS)
 
 -- what an ask is handed in with: the token and the bytes of its message, and a random word
 pub record Numbers : Type 0 where
@@ -129,7 +128,7 @@ reads_so t p d (Err e) S = given_back t p (resets (reset_for d)) (hears_nothing 
 -- A datagram above 2,048 bytes, or from an endpoint to which nothing was sent, counts as lost.
 abbrev pub heard : ℕ → Peer → List ℕ → State → State
 heard t p d S =
-    if is_some (link_of S.links p).last_mid && nat_le (length d) datagram_limit
+    if is_some (link_of S.links p).last_mid && nat_le (length d) MAX_DATAGRAM_LEN
     then reads_so t p d (message_at d) S else S
 
 -- A tick does what is due, and leaves no entry where nothing is: a copy, an end, or a message given

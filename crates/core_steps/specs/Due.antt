@@ -1,7 +1,7 @@
 -- When a tick has something to do.
 use Rattle.std.specs.Prelude.{◌≡◌, ℕ, ◌+◌, min, Bool, false, nat_le, List, [], ◌∷◌, Option, Some, None, option_map}
+use Rattle.limits.specs.declared.TheConstants.{MAX_TRANSMIT_WAIT}
 use Rattle.message_layer.specs.Sending.{due_of}
-use Rattle.whole_history.specs.Limits.{max_transmit_wait}
 use Rattle.core_steps.specs.declared.kept.Exchange.{Exchange}
 use Rattle.core_steps.specs.State.{PeerLink, State}
 use Rattle.core_steps.specs.Calls.{something_due}
@@ -21,7 +21,7 @@ abbrev pub timer : PeerLink → Option ℕ
 timer x = option_map due_of x.link.outstanding
 
 abbrev pub deadline : Exchange → Option ℕ
-deadline e = Some (e.since + max_transmit_wait)
+deadline e = Some (e.since + MAX_TRANSMIT_WAIT)
 
 abbrev pub next_due : State → Option ℕ
 next_due S = earlier (earliest timer S.links) (earliest deadline S.exchanges)

@@ -2,6 +2,7 @@
 use Rattle.std.specs.Prelude.{◌≡◌, ℕ, ◌+◌, ◌<◌, ◌≤◌, Bool, true, false, not, nat_lt, List, [], ◌∷◌, ◌++◌, length, map, filter, Option, Some, None, option_map, is_some, unwrap_or, Ok, Err, if◌then◌else◌, ⊤}
 use Rattle.std.specs.List.{AllByRecursion, list_any}
 use Rattle.std.specs.Str.{bytes_eq}
+use Rattle.limits.specs.declared.TheConstants.{MAX_DATAGRAM_LEN}
 use Rattle.coap_codec.specs.Spelling.{Content}
 use Rattle.coap_codec.specs.Reading.{message_at}
 use Rattle.coap_codec.specs.declared.fault.CodecFault.{CodecFault}
@@ -11,7 +12,6 @@ use Rattle.ask_model.specs.declared.cause.Cause.TheVariants as C
 use Rattle.ask_model.specs.Requests.{CoapRequest, Requests, Refuses, same_peer}
 use Rattle.ask_model.specs.Views.{Ask}
 use Rattle.journal_book.specs.Entries.{Grounds, Fault, Deed, Asks, Sends, Hears, Passes, Answers}
-use Rattle.history_laws.specs.Limits.{datagram_limit}
 use Rattle.message_layer.specs.Values.{LinkState, was_dropped}
 use Rattle.message_layer.specs.Sending.{due_of, first_sent, waits, submitted, ticked as call_ticked}
 use Rattle.message_layer.specs.Hearing.{ignored, verdict_of, replies, reset_for, applied, hears as call_hears}
@@ -234,7 +234,7 @@ pub record Comes (t : ℕ) (p : Peer) (d : List ℕ) (S : State) : Type 0 where
   pub may : MayStep t S
   pub drained : IsDrained S
   pub known : is_some (link_of S.links p).last_mid ≡ true
-  pub short : length d ≤ datagram_limit
+  pub short : length d ≤ MAX_DATAGRAM_LEN
 
 -- A message is heeded, also one that repeats another.
 abbrev pub MessageEnters : Type 0
@@ -268,7 +268,7 @@ UnknownStays =
 
 abbrev pub LongStays : Type 0
 LongStays =
-    (t : ℕ) (p : Peer) (d : List ℕ) (S : State) → datagram_limit < length d → heard t p d S ≡ S
+    (t : ℕ) (p : Peer) (d : List ℕ) (S : State) → MAX_DATAGRAM_LEN < length d → heard t p d S ≡ S
 
 -- All of this is what the link of the endpoint counts as lost.
 abbrev pub DroppedStays : Type 0

@@ -2,6 +2,7 @@
 -- what the state says.
 use Rattle.std.specs.Prelude.{◌≡◌, ℕ, ◌+◌, ◌<◌, ◌≤◌, true, false, List, [], length, Option, None}
 use Rattle.std.specs.List.{AllByRecursion}
+use Rattle.limits.specs.declared.TheConstants.{MAX_MESSAGE_IDS, MAX_TRANSMIT_WAIT}
 use Rattle.coap_codec.specs.Spelling.{Spells}
 use Rattle.uri_map.specs.declared.peer.Peer.{Peer}
 use Rattle.ask_model.specs.Requests.{CoapRequest, Sense, Requests, Refuses, request_message}
@@ -10,7 +11,6 @@ use Rattle.history_laws.specs.Justified.{IsRefusal}
 use Rattle.history_laws.specs.Numbering.{token_number}
 use Rattle.message_layer.specs.Values.{LinkState}
 use Rattle.message_layer.specs.declared.state.Waiting.{Waiting}
-use Rattle.whole_history.specs.Limits.{max_transmit_wait, mid_limit}
 use Rattle.whole_history.specs.Readings.{Noted}
 use Rattle.whole_history.specs.Sealing.{MaySeal}
 use Rattle.whole_history.specs.Justified.{Stands}
@@ -23,7 +23,7 @@ use Rattle.core_steps.specs.Calls.{Numbers, has_place, asked, heard, ticked}
 -- IDs are two bytes, and there are enough of them for all messages that wait.
 pub record HasMids (s : LinkState) : Type 0 where
   pub small : AllByRecursion (λ (w : Waiting). w.first_mid < 65536) s.waiting
-  pub enough : length s.given + length s.waiting ≤ mid_limit
+  pub enough : length s.given + length s.waiting ≤ MAX_MESSAGE_IDS
 
 -- What holds of a core between two steps.
 pub record Kept (S : State) : Type 0 where
@@ -99,7 +99,7 @@ TicksKeeps = (t : ℕ) (S : State) → MayStep t S → Kept (ticked t S)
 -- After a tick nothing is due at its moment: no copy, no message that waits, no end of an exchange.
 pub record IsDone (t : ℕ) (S : State) : Type 0 where
   pub links : (p : Peer) → LinkRests t (link_of S.links p)
-  pub in_time : AllByRecursion (λ (e : Exchange). t < e.since + max_transmit_wait) S.exchanges
+  pub in_time : AllByRecursion (λ (e : Exchange). t < e.since + MAX_TRANSMIT_WAIT) S.exchanges
 
 abbrev pub TicksDo : Type 0
 TicksDo = (t : ℕ) (S : State) → MayStep t S → IsDone t (ticked t S)

@@ -1,13 +1,13 @@
 -- Where its premise holds, an entry may follow, and the state after it says what the longer history
 -- says.
 use Rattle.std.specs.Prelude.{◌≡◌, ℕ, ◌<◌, ◌≤◌, true, false, List, ◌∷◌, length, Option, Some, None, is_some}
+use Rattle.limits.specs.declared.TheConstants.{MAX_DATAGRAM_LEN, MAX_MESSAGE_IDS, MAX_RETRANSMIT}
 use Rattle.coap_codec.specs.Spelling.{Content, Spells}
 use Rattle.uri_map.specs.declared.peer.Peer.{Peer}
 use Rattle.ask_model.specs.Requests.{CoapRequest, Requests, request_message}
 use Rattle.ask_model.specs.Views.{Ask}
 use Rattle.journal_book.specs.Entries.{Grounds, Opens, Asks, Sends, Hears, Passes, Answers, Shuts, Seals}
 use Rattle.history_laws.specs.Confirming.{Confirmation}
-use Rattle.history_laws.specs.Limits.{datagram_limit}
 use Rattle.history_laws.specs.Numbering.{token_number}
 use Rattle.message_layer.specs.Sending.{due_of, first_sent}
 use Rattle.message_layer.specs.Hearing.{verdict_of, reset_for}
@@ -16,7 +16,6 @@ use Rattle.message_layer.specs.declared.state.Outstanding.{Outstanding}
 use Rattle.message_layer.specs.declared.verdict.Verdict.{Verdict}
 use Rattle.whole_history.specs.Readings.{Noted, Plain, Begins, Confirms, Repeats, Garbled, ticked}
 use Rattle.whole_history.specs.Connections.{is_open, asks_of, answers_of}
-use Rattle.whole_history.specs.Limits.{mid_limit, copy_limit}
 use Rattle.whole_history.specs.Transmissions.{mids_used, last_sent}
 use Rattle.whole_history.specs.Hearing.{repeated, can_be_remembered, has_room}
 use Rattle.whole_history.specs.Confirming.{owed}
@@ -87,7 +86,7 @@ BeginsLeads =
 abbrev pub FirstLeads : Type 0
 FirstLeads =
     (l : List Noted) (t : ℕ) (p : Peer) (w : Waiting) (ws : List Waiting) (S : State)
-    → Before l t S → MaySend l → w.first_mid < 65536 → mids_used l t p < mid_limit
+    → Before l t S → MaySend l → w.first_mid < 65536 → mids_used l t p < MAX_MESSAGE_IDS
     → (link_of S.links p).outstanding ≡ None → (link_of S.links p).waiting ≡ w ∷ ws
     → (o : ℕ) × (m : Content)
     × Leads l (first t p (first_sent t (link_of S.links p).last_mid w) o m) (sends_first t p w ws S)
@@ -97,7 +96,7 @@ abbrev pub CopyLeads : Type 0
 CopyLeads =
     (l : List Noted) (t : ℕ) (p : Peer) (o : Outstanding) (S : State)
     → Before l t S → MaySend l → (link_of S.links p).outstanding ≡ Some o
-    → o.retransmissions < copy_limit → due_of o ≤ ticked l
+    → o.retransmissions < MAX_RETRANSMIT → due_of o ≤ ticked l
     → (i : ℕ) × Leads l (copy t p o i) (sends_copy t p o S)
 
 -- The ACK or RST that is owed is given.
@@ -116,7 +115,7 @@ pub record Heeds (l : List Noted) (x : Noted) (c : Option Confirmation) (S : Sta
 pub record MayHear (l : List Noted) (t : ℕ) (p : Peer) (d : List ℕ) (S : State) : Type 0 where
   pub before : Before l t S
   pub come : MayCome l
-  pub short : length d ≤ datagram_limit
+  pub short : length d ≤ MAX_DATAGRAM_LEN
   pub known : is_some (last_sent l p) ≡ true
 
 abbrev pub verdict_on : ℕ → Peer → Content → State → Verdict

@@ -1,6 +1,7 @@
 -- Between two steps: all that was due is done.
 use Rattle.std.specs.Prelude.{◌≡◌, ◌⊎◌, ℕ, ◌+◌, ◌<◌, List, [], ◌∷◌, Option, Some, None, true, ⊤}
 use Rattle.std.specs.List.{AllByRecursion}
+use Rattle.limits.specs.declared.TheConstants.{MAX_TRANSMIT_WAIT}
 use Rattle.uri_map.specs.declared.peer.Peer.{Peer}
 use Rattle.message_layer.specs.Values.{LinkState}
 use Rattle.message_layer.specs.Sending.{due_of}
@@ -8,7 +9,6 @@ use Rattle.message_layer.specs.declared.state.Outstanding.{Outstanding}
 use Rattle.message_layer.specs.declared.state.Waiting.{Waiting}
 use Rattle.whole_history.specs.Readings.{Noted, ticked}
 use Rattle.whole_history.specs.Connections.{is_open}
-use Rattle.whole_history.specs.Limits.{max_transmit_wait}
 use Rattle.whole_history.specs.Confirming.{owed}
 use Rattle.whole_history.specs.Justified.{pending, AtRest}
 use Rattle.core_steps.specs.declared.kept.Conn.{Conn}
@@ -39,7 +39,7 @@ pub record Rests (l : List Noted) (S : State) : Type 0 where
   pub quiet : owed l ≡ None
   pub links : (p : Peer) → LinkRests (ticked l) (link_of S.links p)
   pub in_time :
-      AllByRecursion (λ (e : Exchange). ticked l < e.since + max_transmit_wait) S.exchanges
+      AllByRecursion (λ (e : Exchange). ticked l < e.since + MAX_TRANSMIT_WAIT) S.exchanges
   pub served : AllByRecursion (λ (x : Conn). IsServed S.exchanges x.pending) S.conns
 
 -- Then the history is at rest.

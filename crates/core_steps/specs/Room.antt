@@ -1,14 +1,13 @@
 -- The room of a journal, and what of it is held free.
 use Rattle.std.specs.Prelude.{◌≡◌, ℕ, ◌+◌, ◌*◌, ◌≤◌, Bool, true, false, ◌&&◌, nat_le, is_some, List, [], ◌∷◌, length, map, sum_by, count_by, Option, Some, None, ⊤}
 use Rattle.std.specs.List.{AllByRecursion, list_any}
+use Rattle.limits.specs.declared.TheConstants.{MAX_ANSWER_SIZE, MAX_ENTRIES, MAX_JOURNAL_LEN, MAX_MESSAGE_LEN}
 use Rattle.uri_map.specs.declared.peer.Peer.{Peer}
 use Rattle.ask_model.specs.Requests.{same_peer}
 use Rattle.journal_book.specs.Entries.{entry_size}
-use Rattle.history_laws.specs.Limits.{entry_limit, byte_limit}
 use Rattle.message_layer.specs.Values.{LinkState}
 use Rattle.message_layer.specs.declared.state.Outstanding.{Outstanding}
 use Rattle.message_layer.specs.declared.state.Waiting.{Waiting}
-use Rattle.whole_history.specs.Sealing.{answer_bytes, message_limit}
 use Rattle.core_steps.specs.declared.kept.Conn.{Conn}
 use Rattle.core_steps.specs.State.{PeerLink, State}
 use Rattle.core_steps.specs.Calls.{peer_of}
@@ -34,20 +33,20 @@ entries_taken S =
 
 abbrev pub bytes_taken : State → ℕ
 bytes_taken S =
-    sum_by entry_size S.entries + 64 * length S.conns + answer_bytes * asks_waiting S
+    sum_by entry_size S.entries + 64 * length S.conns + MAX_ANSWER_SIZE * asks_waiting S
     + 64 * seals_left S.sealed
 
 abbrev pub fits : State → Bool
-fits S = nat_le (entries_taken S) entry_limit && nat_le (bytes_taken S) byte_limit
+fits S = nat_le (entries_taken S) MAX_ENTRIES && nat_le (bytes_taken S) MAX_JOURNAL_LEN
 
 -- The messages that are outstanding or wait are of the length of a request's.
 abbrev pub IsShortOut : Option Outstanding → Type 0
 IsShortOut None = ⊤
-IsShortOut (Some o) = length o.datagram ≤ message_limit
+IsShortOut (Some o) = length o.datagram ≤ MAX_MESSAGE_LEN
 
 pub record IsShort (s : LinkState) : Type 0 where
   pub outstanding : IsShortOut s.outstanding
-  pub waiting : AllByRecursion (λ (w : Waiting). length w.datagram ≤ message_limit) s.waiting
+  pub waiting : AllByRecursion (λ (w : Waiting). length w.datagram ≤ MAX_MESSAGE_LEN) s.waiting
 
 -- Each endpoint has one link.
 abbrev pub AreApart : List Peer → Type 0
@@ -65,5 +64,5 @@ pub record KeptInRoom (S : State) : Type 0 where
 abbrev pub WithinLimits : Type 0
 WithinLimits =
     (S : State) → KeptInRoom S
-    → (length S.entries + length S.conns + asks_waiting S ≤ entry_limit)
-    × (sum_by entry_size S.entries ≤ byte_limit)
+    → (length S.entries + length S.conns + asks_waiting S ≤ MAX_ENTRIES)
+    × (sum_by entry_size S.entries ≤ MAX_JOURNAL_LEN)

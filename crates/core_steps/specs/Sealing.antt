@@ -1,13 +1,12 @@
 -- A step that doesn't fit seals the journal, and is otherwise undone.
 use Rattle.std.specs.Prelude.{◌≡◌, ℕ, ◌+◌, ◌<◌, ◌≤◌, true, List, filter, fold, length, Option, Some, None, if◌then◌else◌, ◌++◌, ⊤}
 use Rattle.std.specs.List.{AllByRecursion}
+use Rattle.limits.specs.declared.TheConstants.{MAX_MESSAGE_LEN, MAX_REQUEST_SIZE, MAX_TRANSMIT_WAIT}
 use Rattle.uri_map.specs.declared.peer.Peer.{Peer}
 use Rattle.ask_model.specs.Requests.{CoapRequest, Requests}
 use Rattle.ask_model.specs.Views.{Ask}
-use Rattle.ask_model.specs.Sizes.{came_size, request_limit}
+use Rattle.ask_model.specs.Sizes.{came_size}
 use Rattle.journal_book.specs.Entries.{Deed, Answers, Written}
-use Rattle.whole_history.specs.Limits.{max_transmit_wait}
-use Rattle.whole_history.specs.Sealing.{message_limit}
 use Rattle.core_steps.specs.declared.kept.Conn.{Conn}
 use Rattle.core_steps.specs.declared.kept.Exchange.{Exchange}
 use Rattle.core_steps.specs.State.{State}
@@ -59,8 +58,8 @@ ShutsInRoom =
 
 -- A request and its message have the sizes that they may.
 pub record IsSized (a : Ask) (n : Numbers) : Type 0 where
-  pub request : came_size a.came ≤ request_limit
-  pub message : length n.text ≤ message_limit
+  pub request : came_size a.came ≤ MAX_REQUEST_SIZE
+  pub message : length n.text ≤ MAX_MESSAGE_LEN
 
 abbrev pub AsksInRoom : Type 0
 AsksInRoom =
@@ -83,7 +82,7 @@ TicksInRoom = (t : ℕ) (S : State) → KeptInRoom S → S.moment ≤ t → Kept
 abbrev pub IsPrompt : ℕ → List Exchange → Conn → Type 0
 IsPrompt t es x =
     AllByRecursion
-    (λ (e : Exchange). x.pending ≡ Some e.opening → t < e.since + max_transmit_wait) es
+    (λ (e : Exchange). x.pending ≡ Some e.opening → t < e.since + MAX_TRANSMIT_WAIT) es
 
 abbrev pub ArePrompt : ℕ → State → Type 0
 ArePrompt t S = AllByRecursion (IsPrompt t S.exchanges) S.conns

@@ -2,6 +2,7 @@
 use Rattle.std.specs.Prelude.{ℕ, ◌+◌, true, Bool, not, ◌&&◌, ◌||◌, nat_le, List, [], ◌∷◌, ◌++◌, length, map, filter, Option, Some, None, is_some, if◌then◌else◌}
 use Rattle.std.specs.List.{list_any}
 use Rattle.std.specs.Str.{bytes_eq}
+use Rattle.limits.specs.declared.TheConstants.{MAX_TRANSMIT_WAIT}
 use Rattle.coap_codec.specs.Spelling.{Content}
 use Rattle.uri_map.specs.declared.peer.Peer.{Peer}
 use Rattle.ask_model.specs.Requests.{CoapRequest}
@@ -12,7 +13,6 @@ use Rattle.message_layer.specs.Sending.{first_sent, with_outstanding, with_copy,
 use Rattle.message_layer.specs.Hearing.{is_outstanding_under, verdict_of}
 use Rattle.message_layer.specs.declared.state.Waiting.{Waiting}
 use Rattle.message_layer.specs.declared.state.Outstanding.{Outstanding}
-use Rattle.whole_history.specs.Limits.{max_transmit_wait}
 use Rattle.link_history.specs.Steps.{ended_token, heard_link, is_over, passed_link}
 use Rattle.core_steps.specs.declared.kept.Exchange.{Exchange}
 use Rattle.core_steps.specs.State.{PeerLink, State, link_of, with_link, conns_after}
@@ -108,7 +108,7 @@ hears t p d m S =
 -- A tick ends the exchanges that have been open for as long as they may, and those whose message
 -- was sent five times in vain.
 abbrev pub is_past : ℕ → Exchange → Bool
-is_past t e = nat_le (e.since + max_transmit_wait) t
+is_past t e = nat_le (e.since + MAX_TRANSMIT_WAIT) t
 
 abbrev pub is_in_vain : ℕ → LinkState → Exchange → Bool
 is_in_vain t s e =

@@ -1,6 +1,7 @@
 -- Whether a message is a request that is to be processed (RFC 7252, sections 4.2, 4.3 and 4.5).
 use Rattle.std.specs.Prelude.{ℕ, ◌-◌, List, length, count_by, Option, Some, None, Bool, true, false, not, nat_lt, nat_le, ◌==◌, ◌&&◌, ◌||◌, if◌then◌else◌}
 use Rattle.std.specs.List.{list_any, find}
+use Rattle.limits.specs.declared.TheConstants.{EXCHANGE_LIFETIME, MAX_CLIENTS, MAX_REMEMBERED}
 use Rattle.uri_map.specs.declared.peer.Peer.{Peer}
 use Rattle.coap_codec.specs.Spelling.{Content}
 use Rattle.coap_codec.specs.declared.message.MsgType.{MsgType}
@@ -17,7 +18,7 @@ use Rattle.demo_origin.specs.declared.arrival.Arrival.TheVariants.{Ignored, Reje
 -- Within this time messages of a peer with the same ID are one and the same (EXCHANGE_LIFETIME,
 -- section 4.8.2).
 abbrev pub is_live : ℕ → Remembered → Bool
-is_live t r = nat_lt (t - r.moment) 247000
+is_live t r = nat_lt (t - r.moment) EXCHANGE_LIFETIME
 
 abbrev pub is_live_of : ℕ → Peer → Remembered → Bool
 is_live_of t p r = same_peer r.peer p && is_live t r
@@ -29,8 +30,8 @@ is_repeat t p mid r = (r.mid == mid) && is_live_of t p r
 -- A further peer after 256 counts as lost, and a further message of a peer's after 1,024.
 abbrev pub is_full : ℕ → Peer → Device → Bool
 is_full t p s =
-    (not (list_any (is_client p) s.clients) && nat_le 256 (length s.clients))
-    || nat_le 1024 (count_by (is_live_of t p) s.remembered)
+    (not (list_any (is_client p) s.clients) && nat_le MAX_CLIENTS (length s.clients))
+    || nat_le MAX_REMEMBERED (count_by (is_live_of t p) s.remembered)
 
 -- Codes 0.01 to 0.31 are those of requests (section 12.1.1).
 abbrev pub is_request : ℕ → Bool
@@ -64,4 +65,4 @@ arrival t p m s = arrival_by m.kind t p m s
 
 -- A peer is known as long as a message to it may be remembered, or it is told of changes.
 abbrev pub is_kept : ℕ → List Observer → Client → Bool
-is_kept t os c = nat_lt (t - c.moment) 247000 || list_any (is_observer c.peer) os
+is_kept t os c = nat_lt (t - c.moment) EXCHANGE_LIFETIME || list_any (is_observer c.peer) os

@@ -1,5 +1,6 @@
 -- Bodies and states in pieces (RFC 7959, sections 2.2 to 2.4).
 use Rattle.std.specs.Prelude.{◌≡◌, ◌<◌, ℕ, ◌+◌, ◌*◌, ◌/◌, ◌%◌, ◌^◌, min, List, [], ◌∷◌, length, take, drop, Option, Some, None, nat_lt, nat_le, ◌==◌, ◌&&◌, if◌then◌else◌}
+use Rattle.limits.specs.declared.TheConstants.{MAX_BODY_LEN}
 use Rattle.coap_codec.specs.Spelling.{Entry}
 use Rattle.coap_codec.specs.Values.{uint, IsBlock, IsShortest}
 use Rattle.coap_codec.specs.declared.block.Block.{Block}
@@ -23,7 +24,7 @@ named_by (v ∷ vs) = named_value v
 abbrev pub part_at : ℕ → ℕ → ℕ → Part
 part_at szx offset len =
     if (offset == 0) && nat_le len (size_of szx) then Whole
-    else (if nat_lt offset (min len 65536) then Piece (record {
+    else (if nat_lt offset (min len MAX_BODY_LEN) then Piece (record {
       num = offset / size_of szx;
       more = nat_lt (offset + size_of szx) len;
       szx = szx;

@@ -1,6 +1,7 @@
 -- What a datagram does to a device.
 use Rattle.std.specs.Prelude.{◌≡◌, ◌⊎◌, ℕ, ◌+◌, ◌/◌, ◌%◌, List, [], ◌∷◌, length, set, slice_get, Option, Some, None, Result, Ok, Err, Bool, true, false, not, ◌||◌, nat_lt, if◌then◌else◌}
 use Rattle.std.specs.Str.{bytes_eq}
+use Rattle.limits.specs.declared.TheConstants.{MAX_DATAGRAM_LEN}
 use Rattle.uri_map.specs.declared.peer.Peer.{Peer}
 use Rattle.coap_codec.specs.Spelling.{Content}
 use Rattle.coap_codec.specs.Reading.{message_at}
@@ -176,4 +177,5 @@ HearsBy true holds t p d old new taken = (new ≡ old) × (taken ≡ None)
 HearsBy false holds t p d old new taken = HearsRead holds t p d (message_at d) old new taken
 
 abbrev pub Hears : Relation → ℕ → Peer → List ℕ → Device → Device → Option Taken → Type 0
-Hears holds t p d old new taken = HearsBy (nat_lt 2048 (length d)) holds t p d old new taken
+Hears holds t p d old new taken =
+    HearsBy (nat_lt MAX_DATAGRAM_LEN (length d)) holds t p d old new taken

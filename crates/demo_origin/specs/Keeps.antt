@@ -4,6 +4,7 @@ use Rattle.std.specs.Borrow.{Bor}
 use Rattle.std.specs.Fn.{Called}
 use Rattle.std.specs.declared.alloc.Global.{Global}
 use Rattle.std.specs.declared.vec.Vec.{Vec}
+use Rattle.limits.specs.declared.TheConstants.{MAX_BODY_LEN}
 use Rattle.demo_origin.specs.Values.{Relation, Replied, replied}
 use Rattle.demo_origin.specs.declared.fault.Refused.{Refused}
 use Rattle.demo_origin.specs.declared.request.CoapRequest.{CoapRequest}
@@ -19,7 +20,7 @@ pub record IsKept (holds : List ℕ → Replied → Type 0) (after : List ℕ) (
   where
     pub kept : holds after reply
     pub code : IsResponseCode reply.code
-    pub short : length after ≤ 65536
+    pub short : length after ≤ MAX_BODY_LEN
 
 -- what a handler answers: the new state and the reply, or that it takes no such request
 abbrev pub Answer : Type 0

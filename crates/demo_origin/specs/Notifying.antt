@@ -1,6 +1,7 @@
 -- What observers are told, and when (RFC 7641, sections 4.2, 4.4 and 4.5; RFC 7252, section 4.2).
 use Rattle.std.specs.Prelude.{◌≡◌, ℕ, zero, suc, ◌+◌, ◌-◌, ◌*◌, ◌^◌, min, List, [], ◌∷◌, ◌++◌, map, filter, take, set, slice_get, length, is_some, Option, Some, None, Bool, true, false, not, nat_lt, nat_le, ◌==◌, ◌&&◌, if◌then◌else◌}
 use Rattle.std.specs.List.{list_any}
+use Rattle.limits.specs.declared.TheConstants.{ACK_TIMEOUT, MAX_RETRANSMIT}
 use Rattle.uri_map.specs.declared.peer.Peer.{Peer}
 use Rattle.coap_codec.specs.Spelling.{Content, Entry, Spells}
 use Rattle.coap_codec.specs.declared.block.Block.{Block}
@@ -126,21 +127,21 @@ pub record Settles (t : ℕ) (old new : Device) : Type 0 where
 
 -- ACK_TIMEOUT is 2 s, and each of the copies, of which there are at most four, doubles it.
 abbrev pub timeout_after : ℕ → ℕ
-timeout_after copies = 2000 * 2 ^ min copies 4
+timeout_after copies = ACK_TIMEOUT * 2 ^ min copies MAX_RETRANSMIT
 
 abbrev pub is_due : ℕ → Notification → Bool
 is_due t n = nat_le (timeout_after n.copies) (t - n.sent)
 
 abbrev pub is_lost : ℕ → Option Notification → Bool
 is_lost t None = false
-is_lost t (Some n) = is_due t n && nat_le 4 n.copies
+is_lost t (Some n) = is_due t n && nat_le MAX_RETRANSMIT n.copies
 
 -- it doesn't wait in vain for the last ACK
 abbrev pub is_reached : ℕ → Observer → Bool
 is_reached t o = not (is_lost t o.outstanding)
 
 abbrev pub is_again : ℕ → Notification → Bool
-is_again t n = is_due t n && nat_lt n.copies 4
+is_again t n = is_due t n && nat_lt n.copies MAX_RETRANSMIT
 
 abbrev pub once_more : ℕ → Notification → Notification
 once_more t n = record n { sent = t; copies = n.copies + 1 }

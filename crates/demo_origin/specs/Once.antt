@@ -1,6 +1,7 @@
 -- At most once: of each message, and over whole runs (RFC 7252, section 4.5).
 use Rattle.std.specs.Prelude.{◌≡◌, ◌<◌, ◌≤◌, ◌+◌, ℕ, List, [], ◌∷◌, ◌++◌, length, Contains, Option, Some, None, true, Ok}
 use Rattle.std.specs.List.{AllByRecursion}
+use Rattle.limits.specs.declared.TheConstants.{EXCHANGE_LIFETIME, MAX_DATAGRAM_LEN}
 use Rattle.uri_map.specs.declared.peer.Peer.{Peer}
 use Rattle.coap_codec.specs.Spelling.{Content}
 use Rattle.coap_codec.specs.Reading.{message_at}
@@ -24,7 +25,7 @@ pub record IsFirst (t : ℕ) (p : Peer) (datagram : List ℕ) (old new : Device)
   pub message : Content
   pub reads : message_at datagram ≡ Ok message
   pub first : ¬ IsRemembered t p message.mid old
-  pub kept : (u : ℕ) → u < t + 247000 → IsRemembered u p message.mid new
+  pub kept : (u : ℕ) → u < t + EXCHANGE_LIFETIME → IsRemembered u p message.mid new
 
 -- a call, with what it heard and told
 pub data Event : Type 0 where
@@ -66,14 +67,14 @@ abbrev pub ExecutedOnce : Relation → Type 0
 ExecutedOnce holds =
     (es : List Event) (old a b new : Device) (t u : ℕ) (p : Peer) (mid : ℕ)
     → Executed holds t p mid old a → Runs holds es a b → AllByRecursion (IsBy u) es
-    → u < t + 247000 → ¬ Executed holds u p mid b new
+    → u < t + EXCHANGE_LIFETIME → ¬ Executed holds u p mid b new
 
 -- a CON request of the peer's with that ID is heard
 pub record HearsCon (holds : Relation) (t : ℕ) (p : Peer) (mid : ℕ) (old new : Device)
     (taken : Option Taken) : Type 0 where
   pub datagram : List ℕ
   pub message : Content
-  pub short : length datagram ≤ 2048
+  pub short : length datagram ≤ MAX_DATAGRAM_LEN
   pub reads : message_at datagram ≡ Ok message
   pub kind_is : message.kind ≡ Con
   pub request : is_request message.code ≡ true
@@ -96,5 +97,5 @@ AnsweredAlike holds =
     (es : List Event) (old a b new : Device) (t u : ℕ) (p : Peer) (mid : ℕ) (answer : List ℕ)
     (taken : Option Taken)
     → FirstAnswered holds t p mid answer old a → Runs holds es a b → AllByRecursion (IsBy u) es
-    → t ≤ u → u < t + 247000 → HearsCon holds u p mid b new taken
+    → t ≤ u → u < t + EXCHANGE_LIFETIME → HearsCon holds u p mid b new taken
     → (new ≡ sent p answer b) × (taken ≡ None)

@@ -1,6 +1,7 @@
 -- Bodies that come in pieces (RFC 7959, sections 2.3 and 2.5).
 use Rattle.std.specs.Prelude.{◌≡◌, ℕ, ◌+◌, ◌*◌, min, List, [], ◌∷◌, ◌++◌, filter, set, slice_get, Option, Some, None, Bool, true, not, nat_lt, ◌==◌, ◌&&◌, if◌then◌else◌}
 use Rattle.std.specs.List.{list_any, position}
+use Rattle.limits.specs.declared.TheConstants.{MAX_BODY_LEN}
 use Rattle.uri_map.specs.declared.peer.Peer.{Peer}
 use Rattle.coap_codec.specs.Spelling.{Content, Entry}
 use Rattle.coap_codec.specs.Values.{uint, IsBlock, IsShortest}
@@ -41,7 +42,7 @@ before_piece b body = if b.num == 0 then [] else body
 abbrev pub joined : Block → ℕ → ℕ → Joined
 joined b len more =
     if b.num * size_of b.szx == len
-    then (if nat_lt 65536 (len + more) then TooLarge else (if b.more then Next else Last))
+    then (if nat_lt MAX_BODY_LEN (len + more) then TooLarge else (if b.more then Next else Last))
     else Gap
 
 -- the body with the piece

@@ -12,19 +12,10 @@ use crate::fault::Memory;
 use crate::observers::has_sent;
 use crate::state::{Client, Remembered, State};
 use coap_codec::{Message, MsgType};
+use limits::{EXCHANGE_LIFETIME, MAX_CLIENTS, MAX_REMEMBERED};
 use message_layer::Bytes;
 use std::net::IpAddr;
 use uri_map::Peer;
-
-/// How long a message ID of a peer's stands for one message, in milliseconds
-/// (EXCHANGE_LIFETIME, RFC 7252 section 4.8.2).
-pub(crate) const EXCHANGE_LIFETIME: u64 = 247_000;
-
-/// How many peers are known.
-const CLIENTS: usize = 256;
-
-/// How many messages of a peer's are remembered.
-const REMEMBERED: usize = 1024;
 
 /// What a message is to a device.
 #[derive(Drop)]
@@ -108,8 +99,8 @@ fn live_count(all: &[Remembered], moment: u64, peer: &Peer) -> usize
 fn is_full(s: &State, moment: u64, peer: &Peer) -> bool
     ensures { result ≡ is_full moment peer.now (seen s.now) }
 {
-    (!is_known(&s.clients, peer) && s.clients.len() >= CLIENTS)
-        || live_count(&s.remembered, moment, peer) >= REMEMBERED
+    (!is_known(&s.clients, peer) && s.clients.len() >= MAX_CLIENTS)
+        || live_count(&s.remembered, moment, peer) >= MAX_REMEMBERED
 }
 
 fn is_request(code: u8) -> bool

@@ -7,9 +7,7 @@ ghost use Rattle.blockwise.specs.Reading.{size_of};
 ghost use Rattle.demo_origin.specs.Blocks.{named_value, named_by, part_at, part_of, piece_of, BeginsIn, IsIn, IsSized};
 
 use coap_codec::{Block, Message, block_of, first_of};
-
-/// The most bytes that a state has.
-const MAX_STATE_LEN: usize = 65_536;
+use limits::MAX_BODY_LEN;
 
 /// The size exponent of a device's blocks (RFC 7959, section 2.2).
 #[derive(Clone, Copy)]
@@ -84,7 +82,7 @@ fn part_at(szx: u8, offset: usize, len: usize) -> Part
     if offset == 0 && len <= size {
         return Part::Whole;
     }
-    if offset < len.min(MAX_STATE_LEN) {
+    if offset < len.min(MAX_BODY_LEN) {
         let num = offset / size;
         return Part::Piece(Block {
             num: num as u32,

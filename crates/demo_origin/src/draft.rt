@@ -3,6 +3,7 @@
 ghost use Rattle.std.specs.Prelude.{◌≡◌, ◌<◌, Some, IfOk, IfSome, OnOk, length, filter, set, slice_get};
 ghost use Rattle.std.specs.List.{list_any};
 ghost use Rattle.std.specs.Option.{option_map};
+ghost use Rattle.limits.specs.declared.TheConstants.{MAX_RETRANSMIT};
 ghost use Rattle.demo_origin.specs.Values.{seen};
 ghost use Rattle.demo_origin.specs.Drafts.{drafted, answering, CopiesAndTells};
 ghost use Rattle.demo_origin.specs.Notifying.{talk_of, with_talk, telling, copying, once_more, is_waited_for, is_busy, newer, Tells, TellsAt, TellsAll, TellsFirst, CopiesAt, CopiesAll, CopiesFirst, CopiesOf, is_reached, without_lost};
@@ -226,7 +227,7 @@ pub(crate) fn tell_all(
 }
 
 fn once_more(n: &Notification, moment: u64) -> Result<Notification, AllocError>
-    requires { n.now.copies < 4 }
+    requires { n.now.copies < MAX_RETRANSMIT }
     ensures { IfOk result (λ again. again ≡ once_more moment n.now) }
 {
     Ok(Notification {

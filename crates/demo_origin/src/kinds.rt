@@ -7,10 +7,8 @@ ghost use Rattle.demo_origin.specs.Kinds.{counted, counted_from, Counts, IsCell,
 
 use crate::fault::Refused;
 use crate::request::{CoapRequest, Method, Reply};
+use limits::MAX_BODY_LEN;
 use std::alloc::Global;
-
-/// The most bytes that a state has.
-const MAX_STATE_LEN: usize = 65_536;
 
 /// The code 2.02.
 const DELETED: u8 = 66;
@@ -41,10 +39,10 @@ fn reply(alloc: Global, code: u8, payload: &[u8], changed: bool) -> Result<Reply
 pub fn cell(alloc: Global, state: &[u8], request: &CoapRequest) -> Result<(Vec<u8>, Reply), Refused>
     ensures does { Fits (IsCell state.now request.now) result }
     ensures takes { IsErrOf result Refused.Content
-        → (65536 < length request.now.body) ⊎ (65536 < length state.now) }
+        → (MAX_BODY_LEN < length request.now.body) ⊎ (MAX_BODY_LEN < length state.now) }
 {
     let body = request.body.as_slice();
-    if body.len() > MAX_STATE_LEN || state.len() > MAX_STATE_LEN {
+    if body.len() > MAX_BODY_LEN || state.len() > MAX_BODY_LEN {
         return Err(Refused::Content);
     }
     match request.method {
@@ -93,7 +91,7 @@ fn counted(state: &[u8]) -> Option<u64>
 
 /// The state and the reply after one more.
 fn count_on(alloc: Global, n: u64, state: &[u8]) -> Result<(Vec<u8>, Reply), Refused>
-    requires { length state.now ≤ 65536 }
+    requires { length state.now ≤ MAX_BODY_LEN }
     ensures does { Fits (Counts (Some n) state.now) result }
     ensures memory { IsOkUnless result Refused.Memory }
 {
@@ -116,9 +114,9 @@ pub fn counter(
 ) -> Result<(Vec<u8>, Reply), Refused>
     ensures does { Fits (IsCounter state.now request.now) result }
     ensures takes { IsErrOf result Refused.Content
-        → (65536 < length state.now) ⊎ (counted state.now ≡ None) }
+        → (MAX_BODY_LEN < length state.now) ⊎ (counted state.now ≡ None) }
 {
-    if state.len() > MAX_STATE_LEN {
+    if state.len() > MAX_BODY_LEN {
         return Err(Refused::Content);
     }
     if request.method != Method::Post {

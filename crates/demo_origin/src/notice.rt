@@ -9,14 +9,12 @@ use crate::fault::{Memory, out_of_memory};
 use crate::reading::described;
 use crate::state::{Held, Notification, Observer};
 use coap_codec::{Block, Message, MsgType, Token, encode};
+use limits::{ACK_TIMEOUT, MAX_RETRANSMIT};
 use message_layer::Bytes;
 use std::alloc::Global;
 
 /// The code 2.05.
 const CONTENT: u8 = 69;
-
-/// How often a notification is sent again (MAX_RETRANSMIT, RFC 7252 section 4.8).
-const MAX_RETRANSMIT: u8 = 4;
 
 /// The first piece of a state that is longer than a block.
 fn opening(block: BlockSize, len: usize) -> Option<Block>
@@ -59,7 +57,7 @@ pub(crate) fn notice(
 }
 
 fn power(n: u8) -> u64
-    requires { n ≤ 4 }
+    requires { n ≤ MAX_RETRANSMIT }
     ensures { result ≡ 2 ^ n }
 {
     match n {
@@ -74,7 +72,7 @@ fn power(n: u8) -> u64
 fn timeout_after(copies: u8) -> u64
     ensures { result ≡ timeout_after copies }
 {
-    2000 * power(copies.min(MAX_RETRANSMIT))
+    ACK_TIMEOUT * power(copies.min(MAX_RETRANSMIT))
 }
 
 fn is_due(n: &Notification, moment: u64) -> bool

@@ -33,6 +33,7 @@ use crate::uploads::{
     whole_body, with_body,
 };
 use coap_codec::{Block, CodecFault, Message, decode, number};
+use limits::MAX_DATAGRAM_LEN;
 use message_layer::Bytes;
 use std::alloc::Global;
 use std::collections::VecDeque;
@@ -46,9 +47,6 @@ const INCOMPLETE: u8 = 136;
 
 /// The code 4.13.
 const TOO_LARGE: u8 = 141;
-
-/// The longest datagram that is read, in bytes.
-const MAX_DATAGRAM: usize = 2048;
 
 /// A device: its resources, each with its handler, and the peers that it talks to.
 ///
@@ -338,7 +336,7 @@ impl<H: Behaviour> Origin<H> {
             Hears H.holds moment peer datagram.now (device self.old) (device self.new) taken) }
         ensures err { OnErr result (device self.new ≡ device self.old) }
     {
-        if datagram.len() > MAX_DATAGRAM {
+        if datagram.len() > MAX_DATAGRAM_LEN {
             return Ok(None);
         }
         match decode(self.alloc, datagram) {

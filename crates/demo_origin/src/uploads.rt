@@ -16,11 +16,9 @@ use crate::fault::Memory;
 use crate::reading::{block_number, number_option};
 use crate::state::{Client, State, Upload};
 use coap_codec::{Block, Message, Opt, number};
+use limits::MAX_BODY_LEN;
 use std::alloc::{AllocError, Global};
 use uri_map::Peer;
-
-/// The most bytes that a body has.
-const MAX_BODY_LEN: usize = 65_536;
 
 /// The code 2.31.
 const CONTINUE: u8 = 95;

@@ -1,11 +1,11 @@
 -- Tokens, message IDs, replies and answers of a journal are apart.
 use Rattle.std.proofs.Common.{◌≡◌, ℕ, ◌+◌, ◌<◌, ◌≤◌, Bool, true, false, cond, eqb, List, [], ◌∷◌, ◌++◌, length, take, Option, Some, refl, sym, ap, subst, ◌∙◌, arith, append_assoc, append-nil}
 use Rattle.std.specs.List.{Contains}
+use Rattle.limits.specs.declared.TheConstants.{MESSAGE_ID_LIFETIME}
 use Rattle.coap_codec.specs.Spelling.{Content}
 use Rattle.uri_map.specs.declared.peer.Peer.{Peer}
 use Rattle.journal_book.specs.Entries.{Grounds, Live, Deed, Asks, Sends, Hears, Answers, Written}
 use Rattle.whole_history.specs.Readings.{Noted, First, Says, Notice, entries, at}
-use Rattle.whole_history.specs.Limits.{mid_lifetime}
 use Rattle.whole_history.specs.Connections.{asks_by, asks_of, answers_by, answers_of}
 use Rattle.whole_history.specs.Justified.{Stands}
 use Rattle.whole_history.specs.Laws.{IsFirst, IsAnswer, RestsOn}
@@ -29,9 +29,9 @@ tokens-once h i j s t p r m n stands =
     tokens-apart stands.reading s t a.0 i b.0 j p r m n stands.legal a.1 b.1 e)
 
 pub ids-once : (h : List Written) (i j s t : ℕ) (p : Peer) (m n : Content) → Stands h → IsFirstSending h i s p m → IsFirstSending h j t p n
-    → m.mid ≡ n.mid → i < j → s + mid_lifetime ≤ t
+    → m.mid ≡ n.mid → i < j → s + MESSAGE_ID_LIFETIME ≤ t
 ids-once h i j s t p m n stands =
-    subst (λ (h : List Written). IsFirstSending h i s p m → IsFirstSending h j t p n → m.mid ≡ n.mid → i < j → s + mid_lifetime ≤ t) stands.entries_are
+    subst (λ (h : List Written). IsFirstSending h i s p m → IsFirstSending h j t p n → m.mid ≡ n.mid → i < j → s + MESSAGE_ID_LIFETIME ≤ t) stands.entries_are
     (λ f g e lt.
     let a = first-of stands.reading i s p m stands.legal f in
     let b = first-of stands.reading j t p n stands.legal g in

@@ -3,6 +3,7 @@ use Rattle.std.proofs.Common.{◌≡◌, ℕ, ◌+◌, ◌<◌, ◌≤◌, ◌�
 use Rattle.std.specs.Prelude.{is_none}
 use Rattle.std.proofs.lemmas.Bool.Decides.{leb_tells}
 use Rattle.std.proofs.lemmas.Bool.{false≢true}
+use Rattle.limits.specs.declared.TheConstants.{MAX_TRANSMIT_WAIT}
 use Rattle.coap_codec.specs.Spelling.{Content}
 use Rattle.uri_map.specs.declared.peer.Peer.{Peer}
 use Rattle.ask_model.specs.Requests.{CoapRequest, Requests, Refuses}
@@ -12,7 +13,6 @@ use Rattle.ask_model.specs.declared.cause.Cause.TheVariants as C
 use Rattle.journal_book.specs.Entries.{Fault, Answers, Hears, Passes, Written}
 use Rattle.history_laws.specs.Responses.{is_whole, whole_of}
 use Rattle.whole_history.specs.Readings.{Noted, Note, Plain, Says, entries, at, before}
-use Rattle.whole_history.specs.Limits.{max_transmit_wait}
 use Rattle.whole_history.specs.Progress.{Reply, NotUnderstood, Reset, TimedOut}
 use Rattle.whole_history.specs.Transmissions.{Transmission, given_up, transmission, sent_last}
 use Rattle.whole_history.specs.Exchanges.{Begun, begun, late_by, is_late, Expired, expires, turn, waits_for, replies}
@@ -35,17 +35,17 @@ use Rattle.headline.proofs.Unsent.{Over, unsent-in, none-for-plain, sent-last-no
 use Rattle.headline.proofs.GivenUp.{given-up-at}
 use Rattle.headline.proofs.Crowded.{crowded-at}
 
-not-late : (t : ℕ) (b : Begun) → late_by t b ≡ true → b.since + max_transmit_wait ≤ t
-not-late t b e = elim (leb_tells (b.since + max_transmit_wait) t) [ inl v ↦ v.1 | inr v ↦ absurd (false≢true (sym v.0 ∙ e)) ]
+not-late : (t : ℕ) (b : Begun) → late_by t b ≡ true → b.since + MAX_TRANSMIT_WAIT ≤ t
+not-late t b e = elim (leb_tells (b.since + MAX_TRANSMIT_WAIT) t) [ inl v ↦ v.1 | inr v ↦ absurd (false≢true (sym v.0 ∙ e)) ]
 
 -- an exchange that is past its end was opened so long ago
-late-since : (l : List Noted) (n k s : ℕ) (b : Begun) → begun l k ≡ Some b → is_late s (begun (before l n) k) ≡ true → b.since + max_transmit_wait ≤ s
+late-since : (l : List Noted) (n k s : ℕ) (b : Begun) → begun l k ≡ Some b → is_late s (begun (before l n) k) ≡ true → b.since + MAX_TRANSMIT_WAIT ≤ s
 late-since l n k s b opened late = go (begun (before l n) k) refl late
   where
-    go : (o : Option Begun) → begun (before l n) k ≡ o → is_late s o ≡ true → b.since + max_transmit_wait ≤ s
+    go : (o : Option Begun) → begun (before l n) k ≡ o → is_late s o ≡ true → b.since + MAX_TRANSMIT_WAIT ≤ s
     go None is h = absurd (false≢true h)
     go (Some a) is h =
-        subst (λ (b : Begun). b.since + max_transmit_wait ≤ s) (some-is a b (sym (begun-before l n k a is) ∙ opened)) (not-late s a h)
+        subst (λ (b : Begun). b.since + MAX_TRANSMIT_WAIT ≤ s) (some-is a b (sym (begun-before l n k a is) ∙ opened)) (not-late s a h)
 
 or-cases : (a b : Bool) → (a || b) ≡ true → (a ≡ true) ⊎ (b ≡ true)
 or-cases true b e = inl refl
@@ -151,7 +151,7 @@ module _ (l : List Noted) (n t c k : ℕ) (cause : Cause) (j : ℕ) (legal : Leg
   IsNamed = (sent_last (before l n) k ≡ Some j) ⊎ ((sent_last (before l n) k ≡ None) × (j ≡ k))
 
   abbrev IsOver : Begun → Type 0
-  IsOver b = (b.since + max_transmit_wait ≤ t) ⊎ ((m : Content) × IsSentFor (entries l) k b.request j m × IsGivenUp (entries l) t b.request.peer j m)
+  IsOver b = (b.since + MAX_TRANSMIT_WAIT ≤ t) ⊎ ((m : Content) × IsSentFor (entries l) k b.request j m × IsGivenUp (entries l) t b.request.peer j m)
 
   -- a tick found the exchange past its end, or its message given up
   expired : (b : Begun) (e : ℕ) → begun l k ≡ Some b → IsNamed → Ends (before l n) k e TimedOut → IsOver b
@@ -190,7 +190,7 @@ module _ (l : List Noted) (n t c k : ℕ) (cause : Cause) (j : ℕ) (legal : Leg
           let soon : IsFirst (before l n) w.0 k i w.1 w.2 =
           first-before (before l n) e w.0 k i w.1 w.2 (subst (λ (v : List Noted). IsFirst v w.0 k i w.1 w.2) (sym twice) w.3) in
           let same : i ≡ j = that-one w.0 i w.1 w.2 first soon named in
-          subst (λ (j : ℕ). (b.since + max_transmit_wait ≤ t) ⊎ ((m : Content) × IsSentFor (entries l) k b.request j m × IsGivenUp (entries l) t b.request.peer j m)) same
+          subst (λ (j : ℕ). (b.since + MAX_TRANSMIT_WAIT ≤ t) ⊎ ((m : Content) × IsSentFor (entries l) k b.request j m × IsGivenUp (entries l) t b.request.peer j m)) same
           (inr (w.2, sent.1, subst (λ (p : Peer). IsGivenUp (entries l) t p i w.2) sent.0 up))
 
       go : (w : Option ℕ) → waits_for (before l e) k ≡ w → (s : ℕ) (note : Note) → s ≤ t → at l e ≡ Some (noted s Passes note)

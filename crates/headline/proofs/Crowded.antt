@@ -4,6 +4,7 @@ use Rattle.std.specs.Prelude.{is_none, nat_lt}
 use Rattle.std.specs.List.{Contains}
 use Rattle.std.proofs.lemmas.List.Sums.{length-filter}
 use Rattle.std.proofs.lemmas.Bool.{false≢true, ltb-true, ltb-false}
+use Rattle.limits.specs.declared.TheConstants.{MAX_EXCHANGES, MAX_MESSAGE_IDS, MAX_WAITING, MESSAGE_ID_LIFETIME}
 use Rattle.uri_map.specs.declared.peer.Peer.{Peer}
 use Rattle.ask_model.specs.declared.cause.Cause.{Cause}
 use Rattle.ask_model.specs.declared.cause.Cause.TheVariants as C
@@ -11,9 +12,7 @@ use Rattle.ask_model.specs.Requests.{CoapRequest, Sense, Requests, Refuses, same
 use Rattle.ask_model.specs.Views.{Ask}
 use Rattle.ask_model.proofs.Endpoints.{and-both, same_peer-same}
 use Rattle.journal_book.specs.Entries.{Grounds, Live, Kept, Fault, Deed, Sends, Asks}
-use Rattle.history_laws.specs.Limits.{exchange_limit}
 use Rattle.whole_history.specs.Readings.{Noted, Note, Plain, Begins, First, entries, at, before}
-use Rattle.whole_history.specs.Limits.{waiting_limit, mid_limit, mid_lifetime}
 use Rattle.whole_history.specs.Connections.{is_sealed}
 use Rattle.whole_history.specs.Transmissions.{FirstSending, firsts_by, firsts, is_recent, mids_used}
 use Rattle.whole_history.specs.Exchanges.{Begun, begun, opens_by, opened_by, openings, is_going, open_exchanges, goes_to, is_waiting, waiting as waiting_at, waits_for}
@@ -176,13 +175,13 @@ module _ (l : List Noted) (k : ℕ) (x : Noted) (legal : Legal l) (here : at l k
             let it = mapped-from (λ (f : FirstSending). f.number) (filter (is_recent t p) fs) i h in
             let both = filtered-from (is_recent t p) fs it.0 it.1 in
             let f : FirstSending = it.0 in
-            let parts = and-both (same_peer f.peer p) (nat_lt t (f.moment + mid_lifetime)) both.1 in
+            let parts = and-both (same_peer f.peer p) (nat_lt t (f.moment + MESSAGE_ID_LIFETIME)) both.1 in
             let stands = firsts-stand (before l k) f both.0 in
             let below = subst (λ (m : ℕ). f.number < m) (length-before l k x here) (IsFirst-below (before l k) f.moment f.opening f.number f.peer f.message stands) in
             let first = first-entry l f.moment f.opening f.number f.peer f.message legal (first-before l k f.moment f.opening f.number f.peer f.message stands) in
             subst (IsRecent (entries l) k t p) it.2
             (subst (λ (p : Peer). IsRecent (entries l) k t p f.number) (same_peer-same f.peer p parts.0)
-            (record { before = below; moment = f.moment; message = f.message; first = first; recent = ltb-true t (f.moment + mid_lifetime) parts.1 }));
+            (record { before = below; moment = f.moment; message = f.message; first = first; recent = ltb-true t (f.moment + MESSAGE_ID_LIFETIME) parts.1 }));
       }
 
 least : (n m : ℕ) → nat_lt n m ≡ false → m ≤ n
@@ -202,12 +201,12 @@ crowded-at l k s c a q legal here sense =
     let b : List Noted = before l k in
     let x : Noted = noted s (Asks c a) Plain in
     let unsealed = follows.0.0 in
-    elim (and-false (nat_lt (length (open_exchanges b)) exchange_limit) _ none) [
-      | inl w ↦ exchanges (fewer _ _ _ (least (length (open_exchanges b)) exchange_limit w) (many-pending l k x legal here unsealed))
-      | inr w ↦ elim (and-false (nat_lt (length (waiting_at b q.peer)) waiting_limit) _ w) [
-        | inl v ↦ waiting (fewer _ _ _ (least (length (waiting_at b q.peer)) waiting_limit v) (many-waiting l k x legal here unsealed q.peer))
+    elim (and-false (nat_lt (length (open_exchanges b)) MAX_EXCHANGES) _ none) [
+      | inl w ↦ exchanges (fewer _ _ _ (least (length (open_exchanges b)) MAX_EXCHANGES w) (many-pending l k x legal here unsealed))
+      | inr w ↦ elim (and-false (nat_lt (length (waiting_at b q.peer)) MAX_WAITING) _ w) [
+        | inl v ↦ waiting (fewer _ _ _ (least (length (waiting_at b q.peer)) MAX_WAITING v) (many-waiting l k x legal here unsealed q.peer))
         | inr v ↦
-            ids (mids_used b s q.peer) (length (waiting_at b q.peer)) (least (mids_used b s q.peer + length (waiting_at b q.peer)) mid_limit v)
+            ids (mids_used b s q.peer) (length (waiting_at b q.peer)) (least (mids_used b s q.peer + length (waiting_at b q.peer)) MAX_MESSAGE_IDS v)
             (many-recent l k x legal here unsealed s q.peer) (many-waiting l k x legal here unsealed q.peer)
       ]
     ]

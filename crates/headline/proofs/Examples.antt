@@ -4,6 +4,7 @@ use Rattle.std.specs.List.{slice_get, list_all, range_with_len}
 use Rattle.std.proofs.lemmas.Option.{slice_get_within}
 use Rattle.std.proofs.lemmas.Bool.Decides.{eqb_tells}
 use Rattle.std.proofs.lemmas.Bool.{false≢true}
+use Rattle.limits.specs.declared.TheConstants.{MAX_RETRANSMIT}
 use Rattle.coap_codec.specs.Spelling.{Content, Spells}
 use Rattle.coap_codec.proofs.Unique.{spells_one}
 use Rattle.uri_map.specs.declared.peer.Peer.{Peer}
@@ -11,7 +12,6 @@ use Rattle.ask_model.specs.Requests.{CoapRequest}
 use Rattle.ask_model.specs.declared.cause.Cause.TheVariants as C
 use Rattle.journal_book.specs.Entries.{Deed, Sends, Hears, Written}
 use Rattle.whole_history.specs.Readings.{entries}
-use Rattle.whole_history.specs.Limits.{copy_limit}
 use Rattle.whole_history.specs.WorkedMessages as M
 use Rattle.whole_history.specs.WorkedEndings as E
 use Rattle.whole_history.specs.WorkedSpoiled as S
@@ -196,10 +196,10 @@ timeout-same t s p r b c w v e = go (ap (λ (x : Written). x.deed) (written-same
     go : Sends p b (Some w) ≡ Sends r c (Some v) → w ≡ v
     go f = cc
 
-too-early : (last w s : ℕ) → 30000 ≡ last → 2000 ≡ w → last + w * 2 ^ copy_limit ≤ s → s ≤ 61999 → ⊥
+too-early : (last w s : ℕ) → 30000 ≡ last → 2000 ≡ w → last + w * 2 ^ MAX_RETRANSMIT ≤ s → s ≤ 61999 → ⊥
 too-early last w s a b due by =
-    let all : 30000 + 2000 * 2 ^ copy_limit ≤ s =
-    subst (λ (w : ℕ). 30000 + w * 2 ^ copy_limit ≤ s) (sym b) (subst (λ (t : ℕ). t + w * 2 ^ copy_limit ≤ s) (sym a) due) in
+    let all : 30000 + 2000 * 2 ^ MAX_RETRANSMIT ≤ s =
+    subst (λ (w : ℕ). 30000 + w * 2 ^ MAX_RETRANSMIT ≤ s) (sym b) (subst (λ (t : ℕ). t + w * 2 ^ MAX_RETRANSMIT ≤ s) (sym a) due) in
     absurd (omega (arith, all, by))
 
 given-up-early : (p : Peer) (m : Content) → IsGivenUp (entries S.timed_out_early) 61999 p 2 m → ⊥
@@ -208,8 +208,8 @@ given-up-early p m g = go g.copies g.four g.last g.again g.due
     timeout : 2000 ≡ g.first.timeout
     timeout = timeout-same 0 g.moment _ p _ g.first.bytes 2000 g.first.timeout g.first.stands
 
-    go : (js : List ℕ) → length js ≡ copy_limit → (last : ℕ) → AreCopies (entries S.timed_out_early) p g.first.bytes g.first.timeout 2 g.moment js last
-        → last + g.first.timeout * 2 ^ copy_limit ≤ g.ticked → ⊥
+    go : (js : List ℕ) → length js ≡ MAX_RETRANSMIT → (last : ℕ) → AreCopies (entries S.timed_out_early) p g.first.bytes g.first.timeout 2 g.moment js last
+        → last + g.first.timeout * 2 ^ MAX_RETRANSMIT ≤ g.ticked → ⊥
     go [] four last h due = absurd (omega (arith, four))
     go (j ∷ js) four last h due =
         let it = last-place p g.first.bytes g.first.timeout g.moment j js last h in

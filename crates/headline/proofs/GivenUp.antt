@@ -2,12 +2,12 @@
 use Rattle.std.proofs.Common.{◌≡◌, ℕ, ◌+◌, ◌*◌, ◌^◌, ◌<◌, ◌≤◌, true, eqb, leb, inl, inr, List, [], ◌∷◌, length, Option, Some, None, sym, ap, subst, ◌∙◌, arith, add-one}
 use Rattle.std.proofs.lemmas.Bool.Decides.{leb_tells}
 use Rattle.std.proofs.lemmas.Bool.{false≢true}
+use Rattle.limits.specs.declared.TheConstants.{MAX_RETRANSMIT}
 use Rattle.coap_codec.specs.Spelling.{Content, Spells}
 use Rattle.uri_map.specs.declared.peer.Peer.{Peer}
 use Rattle.ask_model.proofs.Endpoints.{and-both}
 use Rattle.journal_book.specs.Entries.{Deed, Sends, Hears, Passes}
 use Rattle.whole_history.specs.Readings.{Noted, Note, First, Copies, entries, at, before, ticked}
-use Rattle.whole_history.specs.Limits.{copy_limit}
 use Rattle.whole_history.specs.Transmissions.{Transmission, due, is_given_up, transmission}
 use Rattle.whole_history.specs.Justified.{MayBeFirst, MayBeCopy, Follows, Legal}
 use Rattle.whole_history.specs.Laws.{IsFirst}
@@ -171,8 +171,8 @@ given-up-at l t o i p m e s u note y legal f lt tick way over by =
     let stands = subst (λ (w : Option ℕ). at l i ≡ Some (noted t (Sends p f.bytes w) (First o m))) may.first_wait f.stands in
     let early = at-still l e i _ _ tick lt stands in
     let it = went (before l e) t o i p f.bytes may.wait m y (legal-before l e legal) early way in
-    let both = and-both (eqb y.copies copy_limit) (leb (due y) s) over in
-    let all : y.copies ≡ copy_limit = eqb-same y.copies copy_limit both.0 in
+    let both = and-both (eqb y.copies MAX_RETRANSMIT) (leb (due y) s) over in
+    let all : y.copies ≡ MAX_RETRANSMIT = eqb-same y.copies MAX_RETRANSMIT both.0 in
     let late : due y ≤ s = elim (leb_tells (due y) s) [ inl v ↦ v.1 | inr v ↦ absurd (false≢true (sym v.0 ∙ both.1)) ] in
     let old : IsFirst (before l e) t o i p m = record { bytes = f.bytes; timeout = Some may.wait; stands = early } in
     record {
@@ -186,7 +186,7 @@ given-up-at l t o i p m e s u note y legal f lt tick way over by =
       tick = e;
       ticked = s;
       passes = at-entries l e _ tick;
-      due = subst (λ (w : ℕ). y.last + w * 2 ^ copy_limit ≤ s) it.timeout (subst (λ (c : ℕ). y.last + y.timeout * 2 ^ c ≤ s) all late);
+      due = subst (λ (w : ℕ). y.last + w * 2 ^ MAX_RETRANSMIT ≤ s) it.timeout (subst (λ (c : ℕ). y.last + y.timeout * 2 ^ c ≤ s) all late);
       by = by;
       silent = λ j v b n more less heard spelled settles.
           let there = entries-at l j _ heard in

@@ -2,11 +2,11 @@
 -- alone.
 use Rattle.std.specs.Prelude.{◌≡◌, ℕ, ◌+◌, ◌<◌, ◌≤◌, List, [], ◌∷◌, ◌++◌, length, take, ◌==◌, if◌then◌else◌}
 use Rattle.std.specs.List.{Contains}
+use Rattle.limits.specs.declared.TheConstants.{MESSAGE_ID_LIFETIME}
 use Rattle.coap_codec.specs.Spelling.{Content}
 use Rattle.uri_map.specs.declared.peer.Peer.{Peer}
 use Rattle.ask_model.specs.Views.{Ask}
 use Rattle.journal_book.specs.Entries.{Grounds, Live, Deed, Asks, Answers, Written}
-use Rattle.whole_history.specs.Limits.{mid_lifetime}
 use Rattle.whole_history.specs.Justified.{Stands}
 use Rattle.headline.specs.Headline.{IsEntry, IsFirstSending}
 
@@ -21,7 +21,7 @@ abbrev pub IdsOnce : Type 0
 IdsOnce =
     (h : List Written) (i j s t : ℕ) (p : Peer) (m n : Content) → Stands h
     → IsFirstSending h i s p m → IsFirstSending h j t p n → m.mid ≡ n.mid → i < j
-    → s + mid_lifetime ≤ t
+    → s + MESSAGE_ID_LIFETIME ≤ t
 
 -- No reply is part of the answers to two asks.
 abbrev pub RepliesOnce : Type 0

@@ -2,6 +2,7 @@
 -- alone, which lie oldest first and go by their number from 0.
 use Rattle.std.specs.Prelude.{◌≡◌, ◌≢◌, ◌⊎◌, ℕ, ◌+◌, ◌*◌, ◌^◌, ◌<◌, ◌≤◌, List, [], ◌∷◌, length, slice_get, Some, None, ⊤}
 use Rattle.std.specs.List.{Contains}
+use Rattle.limits.specs.declared.TheConstants.{MAX_EXCHANGES, MAX_MESSAGE_IDS, MAX_RETRANSMIT, MAX_TRANSMIT_WAIT, MAX_WAITING, MESSAGE_ID_LIFETIME}
 use Rattle.coap_codec.specs.declared.message.MsgType.{MsgType}
 use Rattle.coap_codec.specs.declared.message.MsgType.TheVariants.{Con, Non, Ack, Rst}
 use Rattle.coap_codec.specs.Spelling.{Content, Spells}
@@ -13,8 +14,6 @@ use Rattle.ask_model.specs.Views.{Rules}
 use Rattle.journal_book.specs.Entries.{Grounds, Live, Fault, Deed, Asks, Sends, Hears, Passes, Answers, Written}
 use Rattle.history_laws.specs.Responses.{Response, whole_of}
 use Rattle.history_laws.specs.Confirming.{empty}
-use Rattle.history_laws.specs.Limits.{exchange_limit}
-use Rattle.whole_history.specs.Limits.{copy_limit, max_transmit_wait, mid_lifetime, waiting_limit, mid_limit}
 use Rattle.whole_history.specs.Justified.{Stands}
 
 -- The entry with this number was made at this moment, and says this.
@@ -127,12 +126,12 @@ pub record IsGivenUp (h : List Written) (t : ℕ) (p : Peer) (i : ℕ) (sent : C
   pub first : IsFirstSending h i moment p sent
   pub copies : List ℕ
   pub last : ℕ
-  pub four : length copies ≡ copy_limit
+  pub four : length copies ≡ MAX_RETRANSMIT
   pub again : AreCopies h p first.bytes first.timeout i moment copies last
   pub tick : ℕ
   pub ticked : ℕ
   pub passes : IsEntry h tick ticked Passes
-  pub due : last + first.timeout * 2 ^ copy_limit ≤ ticked
+  pub due : last + first.timeout * 2 ^ MAX_RETRANSMIT ≤ ticked
   pub by : ticked ≤ t
   pub silent : (j s : ℕ) (bytes : List ℕ) (m : Content) → i < j → j < tick
       → IsEntry h j s (Hears p bytes) → Spells m bytes → Settles m sent → ⊥
@@ -169,15 +168,15 @@ pub record IsRecent (h : List Written) (k t : ℕ) (p : Peer) (i : ℕ) : Type 0
   pub moment : ℕ
   pub message : Content
   pub first : IsFirstSending h i moment p message
-  pub recent : t < moment + mid_lifetime
+  pub recent : t < moment + MESSAGE_ID_LIFETIME
 
 -- There is no room for one request more to this endpoint: 256 are pending, or 64 to it, or there is
 -- no message ID for it besides those that are in use or wait to be used.
 pub data IsCrowded (h : List Written) (k t : ℕ) (p : Peer) : Type 0 where
-  exchanges : AreMany exchange_limit (λ (o : ℕ). (q : CoapRequest) × IsPending h k o q)
+  exchanges : AreMany MAX_EXCHANGES (λ (o : ℕ). (q : CoapRequest) × IsPending h k o q)
       → IsCrowded h k t p
-  waiting : AreMany waiting_limit (IsPendingAt h k p) → IsCrowded h k t p
-  ids : (used waits : ℕ) → mid_limit ≤ used + waits → AreMany used (IsRecent h k t p)
+  waiting : AreMany MAX_WAITING (IsPendingAt h k p) → IsCrowded h k t p
+  ids : (used waits : ℕ) → MAX_MESSAGE_IDS ≤ used + waits → AreMany used (IsRecent h k t p)
       → AreMany waits (IsPendingAt h k p) → IsCrowded h k t p
 
 -- The ask asks for something, there was no room for it, and nothing was sent for it.
@@ -195,7 +194,7 @@ pub record IsTimedOut (h : List Written) (t c k n : ℕ) : Type 0 where
   pub request : CoapRequest
   pub asked : IsAsked h k c moment (Requests request)
   pub names : ((m : Content) × IsSentFor h k request n m) ⊎ ((n ≡ k) × IsUnsent h k request)
-  pub over : (moment + max_transmit_wait ≤ t)
+  pub over : (moment + MAX_TRANSMIT_WAIT ≤ t)
       ⊎ ((m : Content) × IsSentFor h k request n m × IsGivenUp h t request.peer n m)
 
 -- The entry heard, from the endpoint, an empty RST with the ID of the message for the ask.

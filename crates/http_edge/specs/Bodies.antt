@@ -1,6 +1,7 @@
 -- How much of a body came in.
 use Rattle.std.specs.Prelude.{◌≡◌, ◌⊎◌, ℕ, ◌+◌, ◌<◌, ◌≤◌, List, [], ◌∷◌, ◌++◌, length, drop}
 use Rattle.std.specs.List.{concat}
+use Rattle.limits.specs.declared.TheConstants.{MAX_BODY_LEN}
 use Rattle.httparse.specs.Grammar.{ChunkLine, chunk_size, HasNoChunkLine, MayBecomeSection, HasNoSection}
 use Rattle.http_edge.specs.declared.request.BadKind.{BadKind}
 use Rattle.http_edge.specs.declared.framing.Framing.{Framing}
@@ -28,13 +29,15 @@ pub record BehindLine (text : List ℕ) (size : ℕ) (behind body : List ℕ) : 
   pub read : Chunks 0 text chunks middle after
   pub begins : BeginsLine middle line behind
   pub size_is : chunk_size line ≡ size
-  pub fits : after + size ≤ 65536
+  pub fits : after + size ≤ MAX_BODY_LEN
   pub after_is : after ≡ length body
   pub body_is : body ≡ concat chunks
 
 -- Whole chunks came in.
 abbrev pub AtLine : List ℕ → List ℕ → List ℕ → Type 0
-AtLine body unread text = (chunks : List (List ℕ)) × Chunks 0 text chunks unread (length body) × (length body ≤ 65536) × (body ≡ concat chunks)
+AtLine body unread text =
+    (chunks : List (List ℕ)) × Chunks 0 text chunks unread (length body)
+    × (length body ≤ MAX_BODY_LEN) × (body ≡ concat chunks)
 
 -- Bytes of a chunk came in, and so many of them are missing.
 abbrev pub InData : ℕ → List ℕ → List ℕ → List ℕ → Type 0

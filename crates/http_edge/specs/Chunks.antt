@@ -1,5 +1,6 @@
 -- A chunked body (RFC 9112, section 7.1): chunks, a last one of no bytes, and trailers.
 use Rattle.std.specs.Prelude.{◌≡◌, ◌⊎◌, ℕ, ◌+◌, ◌<◌, ◌≤◌, List, [], ◌∷◌, ◌++◌, length, take}
+use Rattle.limits.specs.declared.TheConstants.{MAX_BODY_LEN}
 use Rattle.httparse.specs.Ascii.{crlf_bytes}
 use Rattle.httparse.specs.Grammar.{ChunkLine, print_chunk_line, chunk_size, ReadsChunkLine, HasNoChunkLine, NeverHasChunkLine, Field, LineEnd, print_section, ReadsSection, HasNoSection}
 use Rattle.httparse.specs.Spans.{SectionOverflows}
@@ -41,7 +42,7 @@ pub record BeginsChunk (before : ℕ) (text bytes rest : List ℕ) : Type 0 wher
   pub behind : List ℕ
   pub begins : BeginsLine text line behind
   pub some : 0 < chunk_size line
-  pub fits : before + chunk_size line ≤ 65536
+  pub fits : before + chunk_size line ≤ MAX_BODY_LEN
   pub whole : BeginsData (chunk_size line) behind bytes rest
 
 -- A text begins with the last chunk and trailers.
@@ -55,9 +56,9 @@ pub record BeginsLast (text rest : List ℕ) : Type 0 where
 -- Why what stands behind a chunk line is refused.
 abbrev pub RefusedBehind : ℕ → ℕ → List ℕ → BadKind → Type 0
 RefusedBehind before size text kind =
-    ((65536 < before + size) × (kind ≡ Large))
-    ⊎ (((0 < size) × (before + size ≤ 65536) × NeverData size text × (kind ≡ Syntax))
-    ⊎ ((size ≡ 0) × (before + size ≤ 65536) × NeverTrailers text × (kind ≡ Syntax)))
+    ((MAX_BODY_LEN < before + size) × (kind ≡ Large))
+    ⊎ (((0 < size) × (before + size ≤ MAX_BODY_LEN) × NeverData size text × (kind ≡ Syntax))
+    ⊎ ((size ≡ 0) × (before + size ≤ MAX_BODY_LEN) × NeverTrailers text × (kind ≡ Syntax)))
 
 pub record RefusedLine (before : ℕ) (text : List ℕ) (kind : BadKind) : Type 0 where
   pub line : ChunkLine

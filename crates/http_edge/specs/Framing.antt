@@ -3,6 +3,7 @@ use Rattle.std.specs.Prelude.{◌≡◌, ℕ, ◌<◌, List, [], ◌∷◌, leng
 use Rattle.std.specs.Char.{is_ascii_digit}
 use Rattle.std.specs.List.{list_all}
 use Rattle.std.specs.Str.Parse.{digits_value}
+use Rattle.limits.specs.declared.TheConstants.{MAX_BODY_LEN}
 use Rattle.httparse.specs.Grammar.{RequestHead}
 use Rattle.httparse.specs.Spans.{name_and_value}
 use Rattle.http_edge.specs.declared.request.BadKind.TheVariants.{Syntax, Large, Coding}
@@ -14,7 +15,7 @@ use Rattle.http_edge.specs.Lists.{same_name, named}
 
 -- The framing by a length.
 abbrev pub within_limit : ℕ → Framing
-within_limit n = if nat_lt 65536 n then Refused Large else Sized n
+within_limit n = if nat_lt MAX_BODY_LEN n then Refused Large else Sized n
 
 -- The framing by a Content-Length with that value, which is to be digits.
 unfoldable pub sized_at : List ℕ → Framing

@@ -11,6 +11,7 @@ use crate::request::BadKind;
 use crate::unread::Unread;
 use httparse::spans::{EMPTY_HEADER_SPAN, parse_headers};
 use httparse::{Status, parse_chunk_size};
+use limits::MAX_BODY_LEN;
 
 /// What of a body is read next.
 #[derive(Clone, Copy)]
@@ -41,9 +42,6 @@ pub enum Fill {
     Wait,
     Bad(BadKind),
 }
-
-/// The most bytes of a body.
-const BODY: usize = 65536;
 
 /// What stands behind a chunk's bytes.
 const LINE_END: [u8; 2] = *b"\r\n";
@@ -166,7 +164,7 @@ fn read_line(left: &mut Left, body: &[u8], unread: &mut Unread) -> Next
     if len > LINE {
         return Next::Bad(BadKind::Syntax);
     }
-    if size > BODY.saturating_sub(body.len()) as u64 {
+    if size > MAX_BODY_LEN.saturating_sub(body.len()) as u64 {
         return Next::Bad(BadKind::Large);
     }
     unread.skip(len);

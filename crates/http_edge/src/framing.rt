@@ -10,6 +10,7 @@ ghost use Rattle.http_edge.specs.Framing as frames;
 use crate::lists::{has_member, is_named};
 use crate::request::BadKind;
 use httparse::spans::HeaderSpan;
+use limits::MAX_BODY_LEN;
 
 /// How many bytes a body has, or why its head is refused.
 #[derive(Clone, Copy, Debug, PartialEq, Eq)]
@@ -82,7 +83,7 @@ fn length_at(digits: &[u8]) -> Framing
         }
         n = (10 * n + usize::from(digit - b'0')).min(65537);
     }
-    if n > 65536 {
+    if n > MAX_BODY_LEN {
         return Framing::Refused(BadKind::Large);
     }
     Framing::Sized(n)

@@ -2,6 +2,7 @@
 use Rattle.std.specs.Prelude.{◌≡◌, ◌≢◌, ◌⊎◌, ℕ, ◌-◌, ◌*◌, ◌/◌, ◌<◌, Bool, true, false, not, ◌&&◌, ◌==◌, nat_le, List, [], ◌∷◌, ◌++◌, length, map, Option, Some, None, unwrap_or, slice_get, codes, decimal, if◌then◌else◌}
 use Rattle.std.specs.List.{Contains}
 use Rattle.std.specs.Str.{is_utf8}
+use Rattle.limits.specs.declared.TheConstants.{MAX_BODY_LEN}
 use Rattle.hex.specs.Hex.{encode_lower}
 use Rattle.http_edge.specs.Answers.{body_bytes}
 use Rattle.http_edge.specs.declared.answer.Field.{Field}
@@ -180,7 +181,8 @@ module _ (holds : Form → Form → List ℕ → List ℕ → Type 0) (takes : F
   -- No body can be made of it: its content isn't taken, or it is too large in the other form.
   abbrev pub FailsTo : Form → Form → List ℕ → Type 0
   FailsTo from to body =
-      (takes from to body → ⊥) ⊎ ((other : List ℕ) × holds from to body other × (65536 < length other))
+      (takes from to body → ⊥)
+      ⊎ ((other : List ℕ) × holds from to body other × (MAX_BODY_LEN < length other))
 
 module _ (routes : List (Form × Form)) (holds : Form → Form → List ℕ → List ℕ → Type 0) (takes : Form → Form → List ℕ → Type 0) where
   -- A response whose body is transformed is shown with the other body, under the media type that is wanted. One

@@ -18,9 +18,10 @@ ghost use Rattle.http_mapping.specs.Limits.{limited};
 
 use crate::sending::{ONE_MESSAGE, Unsent, sending_of};
 use crate::typing::{typing_of, wanted_by};
-use ask_model::{Cause, Mapped, Meaning, REQUEST_LIMIT, Settings, incoming_size};
+use ask_model::{Cause, Mapped, Meaning, Settings, incoming_size};
 use code_map::{Method, Status, method_of};
 use http_edge::{BadKind, Incoming, Memory, Request};
+use limits::MAX_REQUEST_SIZE;
 use media_map::{MediaFault, Wanted};
 use std::alloc::Global;
 use std::sync::Arc;
@@ -69,7 +70,7 @@ pub fn map_request<R: Relation>(
 fn within_limit(came: Incoming) -> Incoming
     ensures { came_of result ≡ limited (came_of came) }
 {
-    if incoming_size(&came) > REQUEST_LIMIT {
+    if incoming_size(&came) > MAX_REQUEST_SIZE {
         Incoming::Bad(BadKind::Large)
     } else {
         came

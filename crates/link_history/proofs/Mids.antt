@@ -5,11 +5,11 @@ use Rattle.std.specs.List.{AllByRecursion, list_any}
 use Rattle.std.proofs.lemmas.Bool.{ltb-false, le-ltb}
 use Rattle.std.proofs.lemmas.List.Sums.{length-filter}
 use Rattle.std.proofs.lemmas.Bool.Decides.{eqb_tells}
+use Rattle.limits.specs.declared.TheConstants.{MESSAGE_ID_LIFETIME}
 use Rattle.uri_map.specs.declared.peer.Peer.{Peer}
 use Rattle.ask_model.specs.Requests.{same_peer}
 use Rattle.journal_book.specs.Entries.{Deed, Sends}
 use Rattle.whole_history.specs.Readings.{Noted, Note, First, newest}
-use Rattle.whole_history.specs.Limits.{mid_lifetime}
 use Rattle.whole_history.specs.Transmissions.{FirstSending, firsts_by, firsts, bears_mid, mids_used}
 use Rattle.whole_history.specs.Justified.{Legal}
 use Rattle.link_history.specs.Agrees.{firsts_to, HasMid, CountUp}
@@ -86,7 +86,7 @@ count-among {X = X} a b (x ∷ xs) = count-cons (λ (x : X). a x && b x) x xs �
 -- A number that runs ahead of the IDs is none of those that were used lately.
 
 abbrev lately : ℕ → FirstSending → Bool
-lately t g = ltb t (g.moment + mid_lifetime)
+lately t g = ltb t (g.moment + MESSAGE_ID_LIFETIME)
 
 abbrev Ahead : ℕ → ℕ → List FirstSending → Type 0
 Ahead d mid [] = Unit {0}
@@ -96,13 +96,13 @@ ahead-on : (d mid : ℕ) (g : FirstSending) (gs : List FirstSending) → mid ≡
 ahead-on d mid g [] e h = tt
 ahead-on d mid g (k ∷ gs) e h = omega (arith, e, h)
 
-none-lately : (t mid s : ℕ) (gs : List FirstSending) → ltb t (s + mid_lifetime) ≡ false → AllByRecursion (λ (g : FirstSending). g.moment ≤ s) gs
+none-lately : (t mid s : ℕ) (gs : List FirstSending) → ltb t (s + MESSAGE_ID_LIFETIME) ≡ false → AllByRecursion (λ (g : FirstSending). g.moment ≤ s) gs
     → list_any (λ (g : FirstSending). lately t g && eqb g.message.mid mid) gs ≡ false
 none-lately t mid s [] old a = refl
 none-lately t mid s (g ∷ gs) old a = rw (over, none-lately t mid s gs old a.1) refl
   where
     over : lately t g ≡ false
-    over = le-ltb t (g.moment + mid_lifetime) (let h = ltb-false t (s + mid_lifetime) old in let e = a.0 in omega (arith, h, e))
+    over = le-ltb t (g.moment + MESSAGE_ID_LIFETIME) (let h = ltb-false t (s + MESSAGE_ID_LIFETIME) old in let e = a.0 in omega (arith, h, e))
 
 other-mid : (m mid d : ℕ) → mid ≡ (m + 1 + d) % 65536 → m < 65536 → d + 1 < 65536 → eqb m mid ≡ false
 other-mid m mid d e small few = elim (eqb_tells m mid) [ inl w ↦ let same = w.1 in absurd (omega (arith, e, small, few, same)) | inr w ↦ w.0 ]

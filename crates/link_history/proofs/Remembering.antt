@@ -5,6 +5,7 @@ use Rattle.std.specs.List.{find}
 use Rattle.std.proofs.lemmas.Bool.{lt-ltb, le-ltb, ltb-true, ltb-false}
 use Rattle.std.proofs.lemmas.Bool.Decides.{eqb_tells}
 use Rattle.std.proofs.lemmas.List.Sums.{length-filter}
+use Rattle.limits.specs.declared.TheConstants.{EXCHANGE_LIFETIME}
 use Rattle.coap_codec.specs.Spelling.{Content}
 use Rattle.uri_map.specs.declared.peer.Peer.{Peer}
 use Rattle.ask_model.proofs.Endpoints.{same_peer-itself}
@@ -15,7 +16,6 @@ use Rattle.message_layer.specs.declared.state.Reply.{Reply}
 use Rattle.message_layer.proofs.Effects.{filter-kept}
 use Rattle.whole_history.specs.Readings.{Noted, Says, Notice, at, newest}
 use Rattle.whole_history.specs.Worked.{noted}
-use Rattle.whole_history.specs.Limits.{exchange_lifetime}
 use Rattle.whole_history.specs.Hearing.{is_such, is_live, heard_before, live_heard}
 use Rattle.whole_history.specs.Confirming.{answered}
 use Rattle.whole_history.proofs.Places.{at-new}
@@ -29,7 +29,7 @@ use Rattle.link_history.proofs.Still.{heard-at, answers_in}
 fresh-before : (t u : ℕ) (h : Heard) → t ≤ u → is_fresh u h ≡ true → is_fresh t h ≡ true
 fresh-before t u h later e = let lt = ltb-true (u - h.moment) 247000 e in lt-ltb (t - h.moment) 247000 (omega (arith, lt, later))
 
-fresh-now : (t u : ℕ) → t ≤ u → ltb (u - t) 247000 ≡ ltb u (t + exchange_lifetime)
+fresh-now : (t u : ℕ) → t ≤ u → ltb (u - t) 247000 ≡ ltb u (t + EXCHANGE_LIFETIME)
 fresh-now t u later = by (ltb u (t + 247000)) refl
   where
     by : (b : Bool) → ltb u (t + 247000) ≡ b → ltb (u - t) 247000 ≡ b

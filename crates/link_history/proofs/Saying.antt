@@ -4,6 +4,7 @@ use Rattle.std.specs.Prelude.{◌&&◌, ◌||◌, not, is_some, option_and_then,
 use Rattle.std.specs.List.{find, list_any}
 use Rattle.std.specs.Str.{bytes_eq}
 use Rattle.std.proofs.lemmas.Bool.{false≢true}
+use Rattle.limits.specs.declared.TheConstants.{MAX_REMEMBERED}
 use Rattle.coap_codec.specs.declared.message.MsgType.{MsgType}
 use Rattle.coap_codec.specs.declared.message.MsgType.TheVariants.{Con, Non, Ack, Rst}
 use Rattle.coap_codec.specs.Spelling.{Content}
@@ -22,7 +23,6 @@ use Rattle.message_layer.specs.declared.verdict.News.TheVariants.{Quiet, Respons
 use Rattle.message_layer.specs.declared.verdict.Verdict.{Verdict}
 use Rattle.message_layer.proofs.AwaitTable.{news-awaited, news-acks, expected-awaited, expected-acks}
 use Rattle.whole_history.specs.Readings.{Noted, Unobserved, newest}
-use Rattle.whole_history.specs.Limits.{heard_limit}
 use Rattle.whole_history.specs.Transmissions.{FirstSending, Transmission, first_at, last_sent, transmission, if_outstanding, outstanding}
 use Rattle.whole_history.specs.Exchanges.{openings, waits_for, awaited, is_waiting, waiting}
 use Rattle.whole_history.specs.Hearing.{is_such, heard_before, live_heard, repeated, can_be_remembered, went_under, went_as, answers_by, answers}
@@ -233,7 +233,7 @@ own-of l t p s m k later legal a kind own such none room confirms accepted empti
     let is_such_one : is_such m.kind ≡ true = ap is_such kind ∙ such in
     let unheard : heard_before l t p m.mid ≡ None = subst (λ (b : Bool). cond b (heard_before l t p m.mid) None ≡ None) is_such_one none in
     let not_found : find (is_repeat t m.mid) s.heard ≡ None = none-before (λ (h : Heard). h.reply) _ (found-reply l t p m.mid s.heard (find (is_repeat t m.mid) s.heard) None refl unheard a.heard later) in
-    let few : ltb (count_by (is_fresh t) s.heard) 1024 ≡ true = ap (λ (n : ℕ). ltb n 1024) (a.heard.live t later) ∙ subst (λ (b : Bool). (not b || ltb (live_heard l t p) heard_limit) ≡ true) is_such_one room in
+    let few : ltb (count_by (is_fresh t) s.heard) 1024 ≡ true = ap (λ (n : ℕ). ltb n 1024) (a.heard.live t later) ∙ subst (λ (b : Bool). (not b || ltb (live_heard l t p) MAX_REMEMBERED) ≡ true) is_such_one room in
     let judged = own-judged l p s m legal a (subst IsOwn (sym kind) own) in
     let for_kind : Judged l p s m (answers_by l p m k (eqb m.code 0) (leb 32 m.code)) (new_verdict s m (accepts k) (empties k)) =
     subst (λ (k : MsgType). Judged l p s m (answers_by l p m k (eqb m.code 0) (leb 32 m.code)) (new_verdict s m (accepts k) (empties k))) kind judged in

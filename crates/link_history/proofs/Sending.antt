@@ -2,6 +2,7 @@
 use Rattle.std.proofs.Common.{◌≡◌, ℕ, ◌<◌, ◌+◌, ◌%◌, ◌⊎◌, inl, inr, Bool, true, false, cond, List, [], ◌∷◌, Option, Some, None, refl, sym, ap, subst, ◌∙◌, arith}
 use Rattle.std.specs.Prelude.{filter, option_map}
 use Rattle.std.specs.List.{AllByRecursion, find}
+use Rattle.limits.specs.declared.TheConstants.{MAX_MESSAGE_IDS}
 use Rattle.coap_codec.specs.Spelling.{Content}
 use Rattle.uri_map.specs.declared.peer.Peer.{Peer}
 use Rattle.ask_model.specs.Requests.{same_peer, request_message}
@@ -11,7 +12,6 @@ use Rattle.message_layer.specs.Sending.{next_mid, first_sent}
 use Rattle.message_layer.specs.declared.state.Waiting.{Waiting}
 use Rattle.message_layer.proofs.Sendings.{sent-spells}
 use Rattle.whole_history.specs.Readings.{Noted}
-use Rattle.whole_history.specs.Limits.{mid_limit}
 use Rattle.whole_history.specs.Transmissions.{FirstSending, firsts, last_sent, mids_used}
 use Rattle.whole_history.specs.Exchanges.{Begun, begun, openings, goes_to, is_waiting, waiting}
 use Rattle.whole_history.specs.Justified.{Legal, MayBeFirst}
@@ -73,7 +73,7 @@ abbrev pub message-of : (l : List Noted) (o : ℕ) (w : Waiting) (a : IsWaitingF
 message-of l o w a last = request_message a.request (next_mid last w.first_mid) w.token
 
 pub may-be-first : (l : List Noted) (t : ℕ) (p : Peer) (s : LinkState) (w : Waiting) (ws : List Waiting) (h : Head l (waiting l p) w ws) → Legal l
-    → Agrees l p s → mids_used l t p < mid_limit → s.outstanding ≡ None
+    → Agrees l p s → mids_used l t p < MAX_MESSAGE_IDS → s.outstanding ≡ None
     → MayBeFirst l t h.opening p (first_sent t s.last_mid w).datagram (message-of l h.opening w h.waits s.last_mid) (Some (first_sent t s.last_mid w).timeout)
 may-be-first l t p s w ws h legal a few free =
     let waits = head-waits l p w ws h in

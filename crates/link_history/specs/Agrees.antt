@@ -1,6 +1,7 @@
 -- What a link keeps of a history: the part of it that concerns its peer.
 use Rattle.std.specs.Prelude.{◌≡◌, ℕ, ◌+◌, ◌%◌, ◌<◌, ◌≤◌, Bool, false, ◌&&◌, List, [], ◌∷◌, length, filter, count_by, Option, Some, None, option_map, ⊤}
 use Rattle.std.specs.List.{list_any, find}
+use Rattle.limits.specs.declared.TheConstants.{ACK_TIMEOUT, LONGEST_ACK_TIMEOUT}
 use Rattle.coap_codec.specs.declared.message.MsgType.{MsgType}
 use Rattle.coap_codec.specs.declared.message.MsgType.TheVariants.{Ack, Rst}
 use Rattle.coap_codec.specs.Spelling.{Spells}
@@ -18,7 +19,6 @@ use Rattle.message_layer.specs.declared.state.Heard.{Heard}
 use Rattle.message_layer.specs.declared.state.Reply.{Reply}
 use Rattle.message_layer.specs.declared.state.Reply.TheVariants as R
 use Rattle.whole_history.specs.Readings.{Noted, First, at, before, newest}
-use Rattle.whole_history.specs.Limits.{least_timeout, greatest_timeout}
 use Rattle.whole_history.specs.Transmissions.{FirstSending, firsts, first_at, last_sent, bears_token, mids_used, Transmission, transmission, outstanding}
 use Rattle.whole_history.specs.Exchanges.{begun, openings, awaited, waiting}
 use Rattle.whole_history.specs.Hearing.{went_under, went_as, heard_before, live_heard}
@@ -67,8 +67,8 @@ pub record IsWaitingFor (l : List Noted) (o : ℕ) (w : Waiting) : Type 0 where
   pub token_size : length w.token ≡ 8
   pub token_apart : bears_token l w.token ≡ false
   pub numbered : token_number w.token ≡ rank l o
-  pub least : least_timeout ≤ w.timeout
-  pub greatest : w.timeout ≤ greatest_timeout
+  pub least : ACK_TIMEOUT ≤ w.timeout
+  pub greatest : w.timeout ≤ LONGEST_ACK_TIMEOUT
 
 abbrev pub WaitIn : List Noted → List ℕ → List Waiting → Type 0
 WaitIn l [] [] = ⊤

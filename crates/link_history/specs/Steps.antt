@@ -1,5 +1,6 @@
 -- What the calls of a link leave in a history.
 use Rattle.std.specs.Prelude.{◌≡◌, ℕ, ◌<◌, ◌≤◌, Bool, true, false, not, ◌&&◌, ◌==◌, nat_le, List, ◌∷◌, length, filter, Option, Some, None, if◌then◌else◌, ⊤}
+use Rattle.limits.specs.declared.TheConstants.{MAX_MESSAGE_IDS, MAX_RETRANSMIT}
 use Rattle.coap_codec.specs.Spelling.{Content, Spells}
 use Rattle.uri_map.specs.declared.peer.Peer.{Peer}
 use Rattle.ask_model.specs.Requests.{CoapRequest, same_peer, request_message}
@@ -20,7 +21,6 @@ use Rattle.message_layer.specs.declared.verdict.News.TheVariants.{Quiet, Respons
 use Rattle.message_layer.specs.declared.verdict.Verdict.{Verdict}
 use Rattle.whole_history.specs.Readings.{Noted, Note, Plain, Begins, First, Copies, Confirms, Says, Repeats, Garbled, Unobserved, newest, ticked}
 use Rattle.whole_history.specs.Connections.{is_sealed}
-use Rattle.whole_history.specs.Limits.{mid_limit, copy_limit}
 use Rattle.whole_history.specs.Transmissions.{FirstSending, first_at, bears_token, mids_used}
 use Rattle.whole_history.specs.Exchanges.{begun, openings, is_late, expires, waits_for, is_waiting, waiting}
 use Rattle.whole_history.specs.Hearing.{went_under, repeated, can_be_remembered, answers}
@@ -70,7 +70,7 @@ abbrev pub CopyFollows : Type 0
 CopyFollows =
     (l : List Noted) (t : ℕ) (p : Peer) (s : LinkState) (o : Outstanding)
     → Before l t p s → MaySend l
-    → s.outstanding ≡ Some o → o.retransmissions < copy_limit → due_of o ≤ ticked l
+    → s.outstanding ≡ Some o → o.retransmissions < MAX_RETRANSMIT → due_of o ≤ ticked l
     → (i : ℕ) × (f : FirstSending) × (first_at l i ≡ Some f) × (same_peer f.peer p ≡ true)
     × Leads l p (copy t p o i) (with_copy t s o)
 
@@ -82,7 +82,7 @@ abbrev pub NextFollows : Type 0
 NextFollows =
     (l : List Noted) (t : ℕ) (p : Peer) (s : LinkState) (w : Waiting) (ws : List Waiting)
     → Before l t p s → MaySend l
-    → w.first_mid < 65536 → mids_used l t p < mid_limit
+    → w.first_mid < 65536 → mids_used l t p < MAX_MESSAGE_IDS
     → s.outstanding ≡ None → s.waiting ≡ w ∷ ws
     → (o : ℕ) × (m : Content) × (is_waiting l p o ≡ true) × IsWaitingFor l o w × (m.token ≡ w.token)
     × Leads l p (first t p (first_sent t s.last_mid w) o m) (with_outstanding s ws (first_sent t s.last_mid w))
@@ -156,7 +156,7 @@ SaysAgrees =
 -- sent any more (RFC 7252 sections 4.2, 4.8.2).
 abbrev pub is_over : ℕ → Option Outstanding → Bool
 is_over t None = false
-is_over t (Some o) = (o.retransmissions == copy_limit) && nat_le (due_of o) t
+is_over t (Some o) = (o.retransmissions == MAX_RETRANSMIT) && nat_le (due_of o) t
 
 abbrev pub passed_link : ℕ → (List ℕ → Bool) → LinkState → LinkState
 passed_link t gone s = record {

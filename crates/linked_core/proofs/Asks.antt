@@ -4,7 +4,7 @@ use Rattle.std.specs.Prelude.{IfOk, OnOk, drop}
 use Rattle.std.specs.Arc.{arc_value}
 use Rattle.ask_model.specs.Requests.{CoapRequest, Requests, Refuses}
 use Rattle.ask_model.specs.Views.{Ask, Mapping}
-use Rattle.ask_model.specs.Sizes.{came_size, request_limit}
+use Rattle.ask_model.specs.Sizes.{came_size}
 use Rattle.ask_model.specs.declared.cause.Cause.{Cause}
 use Rattle.history_laws.specs.Numbering.{token_number}
 use Rattle.core_steps.specs.State.{State}
@@ -18,6 +18,7 @@ use Rattle.core_steps.proofs.InRoom.{asks-in-room}
 use Rattle.std.specs.Prelude.{◌&&◌, nat_lt}
 use Rattle.std.proofs.lemmas.Bool.{false≢true}
 use Rattle.std.proofs.lemmas.Bool.{ltb-true}
+use Rattle.limits.specs.declared.TheConstants.{MAX_REQUEST_SIZE}
 use Rattle.uri_map.specs.declared.peer.Peer.{Peer}
 use Rattle.ask_model.specs.Requests.{Sense}
 use Rattle.ask_model.specs.Datagrams.{asked_peer}
@@ -72,7 +73,7 @@ turned-away (Err F.Pending) t word c a token old new size number random none idl
 
 -- an ask that begins nothing may be refused
 pub may-refuse : (t c : ℕ) (a : Ask) (cause : Cause) (S : State)
-    → KeptInRoom S → S.sealed ≡ false → S.moment ≤ t → HasConn S.conns c None → IsProper a.sense → came_size a.came ≤ request_limit
+    → KeptInRoom S → S.sealed ≡ false → S.moment ≤ t → HasConn S.conns c None → IsProper a.sense → came_size a.came ≤ MAX_REQUEST_SIZE
     → HasNoPlace t a S → ((n : Numbers) → asked t c a n S ≡ entered_all t (refusal_deeds c a cause S) S)
     → MayRefuse t c a cause S
 may-refuse t c a cause S k unsealed later idle proper size none is =
@@ -122,14 +123,14 @@ request-of (Refuses cause status) p e = absurd cc
 
 -- an ask that is busy may be refused
 pub may-be-busy : (t c : ℕ) (a : Ask) (q : CoapRequest) (S : State)
-    → KeptInRoom S → S.sealed ≡ false → S.moment ≤ t → HasConn S.conns c None → came_size a.came ≤ request_limit
+    → KeptInRoom S → S.sealed ≡ false → S.moment ≤ t → HasConn S.conns c None → came_size a.came ≤ MAX_REQUEST_SIZE
     → a.sense ≡ Requests q → has_place t q.peer S ≡ false → MayRefuse t c a C.Busy S
 may-be-busy t c a q S k unsealed later idle size sense full =
     may-refuse t c a C.Busy S k unsealed later idle (subst IsProper (sym sense) tt) size (no-place t a q S sense full)
     (λ n. busy-enters t c a q n S sense full)
 
 pub may-be-refused : (t c : ℕ) (a : Ask) (cause : Cause) (status : ℕ) (S : State)
-    → KeptInRoom S → S.sealed ≡ false → S.moment ≤ t → HasConn S.conns c None → came_size a.came ≤ request_limit
+    → KeptInRoom S → S.sealed ≡ false → S.moment ≤ t → HasConn S.conns c None → came_size a.came ≤ MAX_REQUEST_SIZE
     → a.sense ≡ Refuses cause status → IsRefusal cause → MayRefuse t c a cause S
 may-be-refused t c a cause status S k unsealed later idle size sense proper =
     may-refuse t c a cause S k unsealed later idle (subst IsProper (sym sense) proper) size (refuses-no-place t a cause status S sense)

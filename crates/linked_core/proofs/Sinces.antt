@@ -2,7 +2,7 @@
 use Rattle.std.proofs.Common.{◌≡◌, ℕ, ◌+◌, ◌<◌, ◌≤◌, inl, inr, List, [], ◌∷◌, length, get_or, map, min, Option, Some, refl, sym, ap, ◌∙◌, subst, arith}
 use Rattle.std.specs.List.{AllByRecursion}
 use Rattle.std.proofs.lemmas.Bool.Decides.{eqb_tells}
-use Rattle.whole_history.specs.Limits.{max_transmit_wait}
+use Rattle.limits.specs.declared.TheConstants.{MAX_TRANSMIT_WAIT}
 use Rattle.whole_history.specs.Readings.{Noted, at, newest}
 use Rattle.whole_history.specs.Exchanges.{openings, is_going}
 use Rattle.whole_history.specs.Justified.{Legal}
@@ -65,17 +65,17 @@ open-later S k =
 lesser : (a b : ℕ) → a ≤ b → Some (min a b) ≡ Some a
 lesser a b le = let e : min a b ≡ a = omega (arith, le) in ap Some e
 
-first-before : (a : ℕ) (es : List Exchange) → AllByRecursion (λ (f : Exchange). a ≤ f.since) es → earlier (Some (a + max_transmit_wait)) (earliest deadline es) ≡ Some (a + max_transmit_wait)
+first-before : (a : ℕ) (es : List Exchange) → AllByRecursion (λ (f : Exchange). a ≤ f.since) es → earlier (Some (a + MAX_TRANSMIT_WAIT)) (earliest deadline es) ≡ Some (a + MAX_TRANSMIT_WAIT)
 first-before a [] h = refl
 first-before a (f ∷ fs) h =
     let le = h.0 in
-    sym (earlier-assoc (Some (a + max_transmit_wait)) (deadline f) (earliest deadline fs))
-    ∙ ap (λ (o : Option ℕ). earlier o (earliest deadline fs)) (lesser (a + max_transmit_wait) (f.since + max_transmit_wait) (omega (arith, le)))
+    sym (earlier-assoc (Some (a + MAX_TRANSMIT_WAIT)) (deadline f) (earliest deadline fs))
+    ∙ ap (λ (o : Option ℕ). earlier o (earliest deadline fs)) (lesser (a + MAX_TRANSMIT_WAIT) (f.since + MAX_TRANSMIT_WAIT) (omega (arith, le)))
     ∙ first-before a fs h.1
 
-pub first-due : (e : Exchange) (es : List Exchange) → OpenLater (e ∷ es) → earliest deadline (e ∷ es) ≡ Some (e.since + max_transmit_wait)
+pub first-due : (e : Exchange) (es : List Exchange) → OpenLater (e ∷ es) → earliest deadline (e ∷ es) ≡ Some (e.since + MAX_TRANSMIT_WAIT)
 first-due e es h = first-before e.since es h.0
 
-pub first-late : (es : List Exchange) (d : Exchange) → 1 ≤ length es → OpenLater es → Some ((get_or es 0 d).since + max_transmit_wait) ≡ earliest deadline es
+pub first-late : (es : List Exchange) (d : Exchange) → 1 ≤ length es → OpenLater es → Some ((get_or es 0 d).since + MAX_TRANSMIT_WAIT) ≡ earliest deadline es
 first-late [] d le h = absurd (omega (arith, le))
 first-late (e ∷ es) d le h = sym (first-due e es h)

@@ -1,17 +1,17 @@
 -- Asks that begin an exchange.
 use Rattle.std.specs.Prelude.{◌≡◌, ℕ, ◌+◌, ◌≤◌, ◌<◌, ◌^◌, true, false, List, [], ◌∷◌, ◌++◌, length, sum_by, Option, Some, None, option_map, Result, Ok, Err, ⊤}
 use Rattle.std.specs.Arc.{arc_value}
+use Rattle.limits.specs.declared.TheConstants.{LAST_MOMENT, MAX_MESSAGE_LEN, MAX_REQUEST_SIZE}
 use Rattle.coap_codec.specs.Spelling.{Spells}
 use Rattle.uri_map.specs.declared.peer.Peer.{Peer}
 use Rattle.ask_model.specs.Requests.{CoapRequest, Sense, Requests, Refuses, request_message}
-use Rattle.ask_model.specs.Sizes.{capped, came_size, request_limit}
+use Rattle.ask_model.specs.Sizes.{capped, came_size}
 use Rattle.ask_model.specs.Datagrams.{asked_peer}
 use Rattle.ask_model.specs.Views.{Mapping}
 use Rattle.journal_book.specs.Entries.{Deed, Sends, entry_size}
 use Rattle.journal_book.specs.Views.{ask_of}
 use Rattle.message_layer.specs.declared.prepared.FirstSending.{FirstSending}
 use Rattle.message_layer.specs.declared.state.Waiting.{Waiting}
-use Rattle.whole_history.specs.Sealing.{message_limit}
 use Rattle.core_steps.specs.declared.kept.Exchange.{Exchange}
 use Rattle.core_steps.specs.State.{State}
 use Rattle.core_steps.specs.Steps.{seals}
@@ -38,7 +38,7 @@ pub record IsTextFor (sense : Sense) (token text : List ℕ) : Type 0 where
   pub request : CoapRequest
   pub is : sense ≡ Requests request
   pub spelled : Spells (request_message request 0 token) text
-  pub short : length text ≤ message_limit
+  pub short : length text ≤ MAX_MESSAGE_LEN
 
 -- the message that goes out at once, with its first timeout
 abbrev pub IsTimely : Option FirstSending → Type 0
@@ -77,11 +77,11 @@ pub record MayBegin (t word c : ℕ) (m : Mapping) (p : Peer) (token text : List
     : Type 0 where
   pub unsealed : S.sealed ≡ false
   pub later : S.moment ≤ t
-  pub early : t ≤ 2 ^ 62
+  pub early : t ≤ LAST_MOMENT
   pub idle : HasConn S.conns c None
   pub peer : asked_peer m.sense ≡ Some p
   pub spelled : IsTextFor m.sense token text
-  pub small : came_size m.came ≤ request_limit
+  pub small : came_size m.came ≤ MAX_REQUEST_SIZE
   pub worded : IsWordedBy word (numbers_of token text word) S
   pub place : has_place t p S ≡ true
 

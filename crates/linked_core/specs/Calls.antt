@@ -1,5 +1,6 @@
 -- What each call of a core leaves.
 use Rattle.std.specs.Prelude.{◌≡◌, ◌⊎◌, ℕ, ◌≤◌, ◌<◌, ◌^◌, ◌/◌, min, max, true, false, length, drop, Option, Some, None, Result, Ok, Err}
+use Rattle.limits.specs.declared.TheConstants.{LAST_MOMENT, MAX_CONNECTIONS}
 use Rattle.coap_codec.specs.Spelling.{Spells}
 use Rattle.ask_model.specs.Requests.{CoapRequest, Requests, request_message}
 use Rattle.ask_model.specs.Views.{Ask}
@@ -15,24 +16,23 @@ use Rattle.linked_core.specs.declared.fault.OpenFault.TheVariants as Open
 use Rattle.linked_core.specs.declared.fault.AskFault.{AskFault}
 use Rattle.linked_core.specs.declared.fault.AskFault.TheVariants as Ask
 use Rattle.linked_core.specs.Values.{CoreValue, stepped}
-use Rattle.linked_core.specs.Sound.{conn_limit}
 
 -- The moment that counts: none before the last one, and none above 2 ^ 62.
 abbrev pub now : ℕ → ℕ → ℕ
-now last moment = max last (min moment (2 ^ 62))
+now last moment = max last (min moment LAST_MOMENT)
 
 -- A connection is opened under the next number; or the journal takes it no more; or as many are open
 -- as may be. Where memory is wanted, nothing changes.
 abbrev pub IsOpened : Result ℕ OpenFault → ℕ → CoreValue → CoreValue → Type 0
 IsOpened (Ok id) t old new =
     (id ≡ old.state.opened) × (new ≡ stepped (opens_in_room t old.state) old)
-    × (new.state.sealed ≡ false) × (length old.state.conns < conn_limit)
+    × (new.state.sealed ≡ false) × (length old.state.conns < MAX_CONNECTIONS)
 IsOpened (Err Open.Sealed) t old new =
     (new ≡ stepped (opens_in_room t old.state) old)
-    × (new.state.sealed ≡ true) × (length old.state.conns < conn_limit)
-IsOpened (Err Open.Full) t old new = (new ≡ old) × (conn_limit ≤ length old.state.conns)
+    × (new.state.sealed ≡ true) × (length old.state.conns < MAX_CONNECTIONS)
+IsOpened (Err Open.Full) t old new = (new ≡ old) × (MAX_CONNECTIONS ≤ length old.state.conns)
 IsOpened (Err Open.Memory) t old new =
-    (new ≡ old) × (fits (opens t old.state) ≡ true) × (length old.state.conns < conn_limit)
+    (new ≡ old) × (fits (opens t old.state) ≡ true) × (length old.state.conns < MAX_CONNECTIONS)
 
 -- A connection that is open is shut.
 abbrev pub IsClosed : ℕ → ℕ → CoreValue → CoreValue → Type 0

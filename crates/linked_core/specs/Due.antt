@@ -1,6 +1,7 @@
 -- When a tick has something to do.
 use Rattle.std.specs.Prelude.{◌≡◌, ℕ, ◌<◌, ◌≤◌, ◌^◌, Bool, true, false, List, filter, length, Option, if◌then◌else◌}
 use Rattle.std.specs.List.{list_any}
+use Rattle.limits.specs.declared.TheConstants.{LAST_MOMENT}
 use Rattle.core_steps.specs.declared.kept.Conn.{Conn}
 use Rattle.core_steps.specs.declared.kept.Exchange.{Exchange}
 use Rattle.core_steps.specs.State.{State}
@@ -10,7 +11,7 @@ use Rattle.core_steps.specs.Sealing.{ticks_in_room}
 
 -- The moment at which it was opened is one of a core's.
 abbrev pub IsSince : Exchange → Type 0
-IsSince e = e.since ≤ 2 ^ 62
+IsSince e = e.since ≤ LAST_MOMENT
 
 -- whether a connection waits for the exchange
 abbrev pub is_awaited : List Conn → Exchange → Bool

@@ -1,7 +1,7 @@
 -- What a core was.
 use Rattle.std.specs.Prelude.{◌≡◌, ℕ, List, ◌++◌, length}
+use Rattle.limits.specs.declared.TheConstants.{MAX_ENTRIES}
 use Rattle.journal_book.specs.Entries.{Written}
-use Rattle.history_laws.specs.Limits.{entry_limit}
 use Rattle.core_steps.specs.State.{State}
 use Rattle.linked_core.specs.Values.{CoreValue, Outgoing}
 use Rattle.linked_core.specs.Answering.{Given}
@@ -24,7 +24,7 @@ restored h s = record s.tables { entries = h }
 pub record IsOf (s : SnapshotValue) (core : CoreValue) : Type 0 where
   pub count : s.count ≡ length core.state.entries
   pub shows : core_of (restored core.state.entries s) s.answers s.unsent ≡ core
-  pub sound : SoundState core.state s.bytes entry_limit s.answers
+  pub sound : SoundState core.state s.bytes MAX_ENTRIES s.answers
 
 -- Entries were only added.
 abbrev pub Grows : List Written → List Written → Type 0

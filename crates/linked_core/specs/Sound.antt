@@ -1,8 +1,8 @@
 -- What the type of a core keeps.
 use Rattle.std.specs.Prelude.{◌≡◌, ℕ, ◌+◌, ◌≤◌, ◌^◌, List, length, sum_by}
 use Rattle.std.specs.List.{AllByRecursion}
+use Rattle.limits.specs.declared.TheConstants.{LAST_MOMENT, MAX_CONNECTIONS, MAX_ENTRIES}
 use Rattle.journal_book.specs.Entries.{entry_size}
-use Rattle.history_laws.specs.Limits.{entry_limit}
 use Rattle.core_steps.specs.State.{State}
 use Rattle.core_steps.specs.Room.{KeptInRoom}
 use Rattle.core_steps.specs.Entering.{IsDrained}
@@ -10,19 +10,15 @@ use Rattle.linked_core.specs.declared.state.State.{State as RustState}
 use Rattle.linked_core.specs.Answering.{Given, IsGiven}
 use Rattle.linked_core.specs.States.{state_of, given_in}
 
--- how many connections may be open
-abbrev pub conn_limit : ℕ
-conn_limit = 256
-
 -- A journal that stands within its limits counts so many bytes, and has places for all the entries
 -- that may come; the answers that aren't taken stand in it.
 pub record SoundState (S : State) (bytes room : ℕ) (gs : List Given) : Type 0 where
   pub kept : KeptInRoom S
   pub drained : IsDrained S
-  pub early : S.moment ≤ 2 ^ 62
-  pub few : length S.conns ≤ conn_limit
+  pub early : S.moment ≤ LAST_MOMENT
+  pub few : length S.conns ≤ MAX_CONNECTIONS
   pub count : bytes ≡ sum_by entry_size S.entries
-  pub places : entry_limit ≤ room + length S.entries
+  pub places : MAX_ENTRIES ≤ room + length S.entries
   pub given : AllByRecursion (IsGiven S.entries) gs
 
 abbrev pub IsSound : {R : Type 0} → RustState R → Type 0

@@ -2,8 +2,9 @@
 
 ghost use Rattle.std.specs.Prelude.{ℕ, ◌≡◌, ◌≤◌, ◌^◌, Option, false, OnOk, IfOk, Err, OnErr, ◌⊎◌};
 ghost use Rattle.ask_model.specs.Datagrams.{asked_peer};
-ghost use Rattle.ask_model.specs.Sizes.{came_size, request_limit};
+ghost use Rattle.ask_model.specs.Sizes.{came_size};
 ghost use Rattle.std.specs.Arc.{arc_value};
+ghost use Rattle.limits.specs.declared.TheConstants.{LAST_MOMENT, MAX_REQUEST_SIZE};
 ghost use Rattle.journal_book.specs.Views.{ask_of};
 ghost use Rattle.core_steps.specs.Resting.{HasConn};
 ghost use Rattle.linked_core.specs.Calls.{IsAsked};
@@ -21,13 +22,11 @@ use crate::refusing::refuse;
 use crate::state::State;
 use ask_model::{Cause, Mapped, Meaning};
 use core_steps::Conn;
+use limits::MAX_EXCHANGES;
 use std::alloc::Global;
 use std::sync::Arc;
 use transformers::Relation;
 use uri_map::Peer;
-
-/// Exchanges that may be open.
-const EXCHANGES: usize = 256;
 
 /// Whether the connection is open and waits for no answer.
 pub fn check_idle(conns: &[Conn], id: u32) -> Result<(), AskFault>
@@ -60,7 +59,7 @@ fn turn_away<R: Relation>(
     requires sound { IsSound s.old }
     requires unsealed { s.old.sealed ≡ false }
     requires later { s.old.moment ≤ moment }
-    requires early { moment ≤ 2 ^ 62 }
+    requires early { moment ≤ LAST_MOMENT }
     requires idle { HasConn s.old.conns.items conn None }
     requires refused { MayRefuse moment conn (ask_of (arc_value mapped)) cause (state_of s.old) }
     requires no_place { HasNoPlace moment (ask_of (arc_value mapped)) (state_of s.old) }
@@ -87,16 +86,16 @@ fn ask_peer<R: Relation>(
     requires sound { IsSound s.old }
     requires unsealed { s.old.sealed ≡ false }
     requires later { s.old.moment ≤ moment }
-    requires early { moment ≤ 2 ^ 62 }
+    requires early { moment ≤ LAST_MOMENT }
     requires idle { HasConn s.old.conns.items conn None }
     requires asked { asked_peer (arc_value mapped).sense ≡ Some peer }
-    requires small { came_size (arc_value mapped).came ≤ request_limit }
+    requires small { came_size (arc_value mapped).came ≤ MAX_REQUEST_SIZE }
     ensures sound { IsSound s.new }
     ensures asks { IsAsked (number_in result) moment word conn (ask_of (arc_value mapped))
         (seen s.old) (seen s.new) }
     ensures ticket { IfOk result (λ t. (t.conn ≡ conn) × (arc_value t.mapped ≡ arc_value mapped)) }
 {
-    if s.exchanges.len() >= EXCHANGES {
+    if s.exchanges.len() >= MAX_EXCHANGES {
         return turn_away(alloc, s, moment, word, conn, mapped, Cause::Busy);
     }
     let begun = match begin(alloc, s, moment, word, conn, mapped, peer) {
@@ -120,7 +119,7 @@ pub fn ask<R: Relation>(
 ) -> Result<Ticket<R>, AskFault>
     requires sound { IsSound s.old }
     requires later { s.old.moment ≤ moment }
-    requires early { moment ≤ 2 ^ 62 }
+    requires early { moment ≤ LAST_MOMENT }
     ensures sound { IsSound s.new }
     ensures asks { IsAsked (number_in result) moment word conn (ask_of (arc_value mapped))
         (seen s.old) (seen s.new) }

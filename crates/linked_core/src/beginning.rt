@@ -2,8 +2,9 @@
 
 ghost use Rattle.std.specs.Prelude.{◌≡◌, ◌≤◌, ◌<◌, ◌+◌, ◌^◌, ◌∷◌, ◌++◌, [], List, None, false, length, map, vec_len, vec_capacity, sum_by, IfOk, IfErr, OnOk, Ok, Err, Some};
 ghost use Rattle.std.specs.Arc.{arc_value};
+ghost use Rattle.limits.specs.declared.TheConstants.{LAST_MOMENT, MAX_ENTRIES, MAX_EXCHANGES, MAX_REQUEST_SIZE};
 ghost use Rattle.ask_model.specs.Datagrams.{asked_peer};
-ghost use Rattle.ask_model.specs.Sizes.{capped, came_size, request_limit};
+ghost use Rattle.ask_model.specs.Sizes.{capped, came_size};
 ghost use Rattle.journal_book.specs.Entries.{Deed, Asks, entry_size};
 ghost use Rattle.journal_book.specs.Views.{ask_of};
 ghost use Rattle.message_layer.specs.Prepared.{IsUnnumberedCon};
@@ -54,7 +55,7 @@ fn text_of<R: Relation>(
 ) -> Result<Bytes, AllocError>
     requires { IsRequest mapped.now.sense }
     ensures text { IfOk result (λ text. IsTextFor mapped.now.sense token.now text) }
-    ensures small { came_size mapped.now.came ≤ request_limit }
+    ensures small { came_size mapped.now.came ≤ MAX_REQUEST_SIZE }
 {
     let _came = mapped.came();
     let Some(text) = mapped.request(alloc, 0, token)? else {
@@ -93,7 +94,7 @@ fn draft_ask<R: Relation>(
     peer: Peer,
     sent: &Option<FirstSending>,
 ) -> Result<Draft<R>, AllocError>
-    requires few { length s.now.journal.entries ≤ 65536 }
+    requires few { length s.now.journal.entries ≤ MAX_ENTRIES }
     requires ordered { RiseBy id_of s.now.conns.items }
     requires timely { IsTimely sent.now }
     ensures drafts { IfOk result (λ d. Drafts moment (state_of s.now)
@@ -119,7 +120,7 @@ fn add_exchange<R: Relation>(
     draft: Draft<R>,
     moment: u64,
 )
-    requires early { moment ≤ 2 ^ 62 }
+    requires early { moment ≤ LAST_MOMENT }
     requires few { s.old.issued < 4294967295 }
     requires places { HasPlaces s.old draft }
     requires room { length draft.entries ≤ s.old.journal.room }
@@ -151,7 +152,7 @@ fn exchange_of(
     peer: Peer,
     sent: &Option<FirstSending>,
 ) -> Exchange
-    requires { opening ≤ 65536 }
+    requires { opening ≤ MAX_ENTRIES }
     ensures { result ≡ exchange_by moment conn token peer sent.now opening }
 {
     let sending = match sent {
@@ -191,7 +192,7 @@ fn enter<R: Relation>(
 ) -> Result<(), AskFault>
     requires sound { IsSound s.old }
     requires unsealed { s.old.sealed ≡ false }
-    requires early { moment ≤ 2 ^ 62 }
+    requires early { moment ≤ LAST_MOMENT }
     requires endpoint { HasPlaceFor prepared.place
         (vec_len s.old.endpoints) (vec_capacity s.old.endpoints) }
     requires may { MaySubmitTo moment exchange.peer s.old.endpoints.items
@@ -217,7 +218,7 @@ fn prepare<R: Relation>(
     moment: u64,
     word: u64,
 ) -> Result<Prepared, LinkFault>
-    requires moment { moment ≤ 2 ^ 62 }
+    requires moment { moment ≤ LAST_MOMENT }
     requires message { IsUnnumberedCon token text.now }
     requires apart { AreApart (map peer_of (state_of s.old).links) }
     ensures same { SeesSame s.old s.new }
@@ -296,10 +297,10 @@ pub fn begin<R: Relation>(
     requires sound { IsSound s.old }
     requires unsealed { s.old.sealed ≡ false }
     requires later { s.old.moment ≤ moment }
-    requires early { moment ≤ 2 ^ 62 }
+    requires early { moment ≤ LAST_MOMENT }
     requires asked { asked_peer (arc_value mapped).sense ≡ Some peer }
     requires idle { HasConn s.old.conns.items conn None }
-    requires few { length s.old.exchanges.items < 256 }
+    requires few { length s.old.exchanges.items < MAX_EXCHANGES }
     ensures sound { IsSound s.new }
     ensures begins { IsBegun result moment word conn (arc_value mapped) peer
         (seen s.old) (seen s.new) }

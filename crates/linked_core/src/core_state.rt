@@ -22,12 +22,12 @@ use crate::answer::{Answer, Ticket};
 use crate::endpoints::Hints;
 use crate::fault::{AskFault, OpenFault};
 use crate::outgoing::Datagram;
-use crate::room::ENTRIES;
 use crate::snapshot::Snapshot;
 use crate::state::State;
 use crate::{asking, due, hearing, opening, serving, snapshot, taking, ticking};
 use ask_model::Mapped;
 use journal_book::Journal;
+use limits::{LAST_MOMENT, MAX_ENTRIES};
 use std::alloc::{AllocError, Global};
 use std::collections::VecDeque;
 use std::marker::Model;
@@ -64,7 +64,7 @@ impl<R: Relation> Core<R> {
     {
         let hints = Hints::new(alloc)?;
         let mut journal = Journal::new(alloc);
-        journal.make_room(ENTRIES as usize)?;
+        journal.make_room(MAX_ENTRIES as usize)?;
         Ok(Core {
             alloc,
             state: State {
@@ -98,9 +98,9 @@ impl<R: Relation> Core<R> {
     fn now(&self, moment: u64) -> u64
         ensures is { result ≡ now self.now.state.moment moment }
         ensures later { self.now.state.moment ≤ result }
-        ensures early { result ≤ 2 ^ 62 }
+        ensures early { result ≤ LAST_MOMENT }
     {
-        self.state.moment.max(moment.min(1 << 62))
+        self.state.moment.max(moment.min(LAST_MOMENT))
     }
 
     /// Opens a connection at this moment, under the next number. At most 256 are open; the first call

@@ -12,16 +12,14 @@ ghost use Rattle.linked_core.specs.States.{state_of, peer_link};
 use crate::exchanges::is_awaited;
 use crate::state::{Endpoint, State};
 use core_steps::{Conn, Exchange};
+use limits::MAX_TRANSMIT_WAIT;
 use transformers::Relation;
-
-/// MAX_TRANSMIT_WAIT in milliseconds (RFC 7252 section 4.8.2).
-const WAIT: u64 = 93_000;
 
 /// Whether the exchange has been open for as long as it may.
 pub fn is_past(exchange: &Exchange, moment: u64) -> bool
     ensures { result ≡ is_past moment exchange.now }
 {
-    moment >= WAIT && exchange.since <= moment - WAIT
+    moment >= MAX_TRANSMIT_WAIT && exchange.since <= moment - MAX_TRANSMIT_WAIT
 }
 
 /// The earlier of two moments, where there are two.
@@ -54,7 +52,7 @@ fn earliest_deadline(exchanges: &[Exchange]) -> Option<u64>
 {
     match exchanges {
         [] => None,
-        [first, ..] => Some(first.since + WAIT),
+        [first, ..] => Some(first.since + MAX_TRANSMIT_WAIT),
     }
 }
 
@@ -78,7 +76,7 @@ fn earliest_awaited(exchanges: &[Exchange], conns: &[Conn]) -> Option<u64>
     let mut first = None;
     'each: for e in exchanges {
         if is_awaited(e, conns) {
-            first = earlier(first, Some(e.since + WAIT));
+            first = earlier(first, Some(e.since + MAX_TRANSMIT_WAIT));
         }
     }
     first

@@ -1,6 +1,7 @@
 //! Exchanges that end at a tick.
 
 ghost use Rattle.std.specs.Prelude.{◌≡◌, ◌≤◌, ◌^◌, [], filter, map, IfOk};
+ghost use Rattle.limits.specs.declared.TheConstants.{LAST_MOMENT};
 ghost use Rattle.core_steps.specs.Entering.{token_of};
 ghost use Rattle.core_steps.specs.State.{link_of};
 ghost use Rattle.linked_core.specs.Expiring.{given_up, given_up_at, is_over, is_still, is_that, token_given};
@@ -26,7 +27,7 @@ fn given_up_by(turn: &Ticking) -> Option<Token>
 
 /// The token of the message that the link gives up. The list has no token.
 fn given_up(link: &mut Link, none: &[Token], moment: u64) -> Result<Option<Token>, AllocError>
-    requires moment { moment ≤ 2 ^ 62 }
+    requires moment { moment ≤ LAST_MOMENT }
     requires none { none.now ≡ [] }
     ensures same { link.new.state ≡ link.old.state }
     ensures token { IfOk result (λ o. o ≡ given_up moment link.old.state) }
@@ -43,7 +44,7 @@ fn given_up_all(
     endpoints: &mut [Endpoint],
     moment: u64,
 ) -> Result<Vec<Option<Token>>, AllocError>
-    requires { moment ≤ 2 ^ 62 }
+    requires { moment ≤ LAST_MOMENT }
     ensures same { map peer_link endpoints.new ≡ map peer_link endpoints.old }
     ensures tokens { IfOk result
         (λ v. v.items ≡ map (given_up_at moment) (map peer_link endpoints.old)) }
@@ -144,7 +145,7 @@ pub fn sort_by_end(
     endpoints: &mut [Endpoint],
     moment: u64,
 ) -> Result<Sorted, AllocError>
-    requires { moment ≤ 2 ^ 62 }
+    requires { moment ≤ LAST_MOMENT }
     ensures same { map peer_link endpoints.new ≡ map peer_link endpoints.old }
     ensures over { IfOk result (λ x. x.over.items
         ≡ filter (is_over moment (map peer_link endpoints.old)) exchanges.now) }

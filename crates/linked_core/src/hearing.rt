@@ -7,6 +7,7 @@ ghost use Rattle.linked_core.specs.declared.state.Endpoint.{Endpoint as Endpoint
 ghost use Rattle.linked_core.specs.Answering.{IsGiven};
 ghost use Rattle.linked_core.specs.Endpoints.{IsFirstAt};
 ghost use Rattle.std.specs.Prelude.{ℕ, ◌≡◌, ◌≤◌, ◌<◌, ◌^◌, ◌+◌, ◌∷◌, ◌++◌, [], List, None, Some, false, map, filter, sum_by, length, slice_get, IfOk, IfSome, OnOk, OnErr};
+ghost use Rattle.limits.specs.declared.TheConstants.{LAST_MOMENT, MAX_ENTRIES};
 ghost use Rattle.journal_book.specs.Entries.{Deed, Answers};
 ghost use Rattle.message_layer.specs.Values.{told, response};
 ghost use Rattle.message_layer.specs.Hearing.{listed};
@@ -49,7 +50,7 @@ fn prepare(
     datagram: &[u8],
     moment: u64,
 ) -> Result<Option<Hearing>, AllocError>
-    requires { moment ≤ 2 ^ 62 }
+    requires { moment ≤ LAST_MOMENT }
     ensures same { peer_link endpoint.new ≡ peer_link endpoint.old }
     ensures ok { IfOk result (λ o. IsPreparedFor moment datagram.now endpoint.new.link o) }
 {
@@ -94,7 +95,7 @@ fn finding_in(alloc: Global, number: u32, up: Up) -> Result<Option<Finding>, All
 
 /// The endpoint's link does what was prepared, and gives out nothing by itself.
 fn settle(endpoint: &mut Endpoint, heeding: Heeding, moment: u64)
-    requires early { moment ≤ 2 ^ 62 }
+    requires early { moment ≤ LAST_MOMENT }
     requires ready { MayHeed moment endpoint.old.link heeding }
     ensures peer { endpoint.new.peer ≡ endpoint.old.peer }
     ensures link { endpoint.new.link.state ≡ heeds moment heeding endpoint.old.link.state }
@@ -150,7 +151,7 @@ fn draft_first<R: Relation>(
 
 /// Nothing yet, after the entries that there are.
 fn start<R: Relation>(alloc: Global, s: &State<R>) -> Result<Draft<R>, AllocError>
-    requires few { length s.now.journal.entries ≤ 65536 }
+    requires few { length s.now.journal.entries ≤ MAX_ENTRIES }
     requires ordered { RiseBy id_of s.now.conns.items }
     ensures drafts { (t : ℕ) → IfOk result (λ d. Drafts t (state_of s.now) [] d) }
     ensures answers { IfOk result (λ d. d.answers ≡ []) }
@@ -168,7 +169,7 @@ fn draft_link<R: Relation>(
     datagram: &[u8],
     heeding: &Heeding,
 ) -> Result<Draft<R>, AllocError>
-    requires few { length s.now.journal.entries ≤ 65536 }
+    requires few { length s.now.journal.entries ≤ MAX_ENTRIES }
     requires ordered { RiseBy id_of s.now.conns.items }
     requires timed { IsTimed heeding.now.next }
     ensures drafts { IfOk result (λ d. Drafts moment (state_of s.now)
@@ -252,7 +253,7 @@ fn draft_heard<R: Relation>(
     heeding: &Heeding,
     up: Up,
 ) -> Result<Draft<R>, AllocError>
-    requires few { length s.now.journal.entries ≤ 65536 }
+    requires few { length s.now.journal.entries ≤ MAX_ENTRIES }
     requires conns { RiseBy id_of s.now.conns.items }
     requires exchanges { RiseBy number_of s.now.exchanges.items }
     requires timed { IsTimed heeding.now.next }
@@ -293,7 +294,7 @@ fn note_next(exchanges: &mut Vec<Exchange>, next: &Option<FirstSending>, number:
 
 /// The number of the entry in which the next message goes out, after that of the datagram.
 fn first_number(number: u32, heeding: &Heeding) -> u32
-    requires { number ≤ 65536 }
+    requires { number ≤ MAX_ENTRIES }
     ensures { result ≡ first_number number heeding.now }
 {
     match &heeding.reply {
@@ -304,7 +305,7 @@ fn first_number(number: u32, heeding: &Heeding) -> u32
 
 /// The exchanges after the datagram, whose own entry has this number.
 fn change_exchanges(exchanges: &mut Vec<Exchange>, heeding: &Heeding, number: u32)
-    requires few { number ≤ 65536 }
+    requires few { number ≤ MAX_ENTRIES }
     requires ordered { RiseBy number_of exchanges.old.items }
     ensures { exchanges.new.items ≡ exchanges_after number heeding.now exchanges.old.items }
 {
@@ -320,7 +321,7 @@ fn prepare_at(
     moment: u64,
 ) -> Result<Option<Hearing>, AllocError>
     requires place { place < length endpoints.old.items }
-    requires early { moment ≤ 2 ^ 62 }
+    requires early { moment ≤ LAST_MOMENT }
     ensures same { map peer_link endpoints.new.items ≡ map peer_link endpoints.old.items }
     ensures ok { IfOk result (λ o. (e : EndpointValue)
         → slice_get endpoints.new.items place ≡ Some e
@@ -333,7 +334,7 @@ fn prepare_at(
 /// The link in this place does what was prepared.
 fn settle_at(endpoints: &mut Vec<Endpoint>, place: usize, heeding: Heeding, moment: u64)
     requires place { place < length endpoints.old.items }
-    requires early { moment ≤ 2 ^ 62 }
+    requires early { moment ≤ LAST_MOMENT }
     requires ready { (e : EndpointValue) → slice_get endpoints.old.items place ≡ Some e
         → MayHeed moment e.link heeding }
     ensures { (p : PeerValue) → IsFirstAt p (map peer_link endpoints.old.items) place
@@ -346,9 +347,9 @@ fn settle_at(endpoints: &mut Vec<Endpoint>, place: usize, heeding: Heeding, mome
 
 /// The tables after the datagram.
 fn change_tables<R: Relation>(s: &mut State<R>, place: usize, moment: u64, heeding: Heeding)
-    requires few { length s.old.journal.entries ≤ 65536 }
+    requires few { length s.old.journal.entries ≤ MAX_ENTRIES }
     requires ordered { RiseBy number_of s.old.exchanges.items }
-    requires early { moment ≤ 2 ^ 62 }
+    requires early { moment ≤ LAST_MOMENT }
     requires place { place < length s.old.endpoints.items }
     requires ready { (e : EndpointValue) → slice_get s.old.endpoints.items place ≡ Some e
         → MayHeed moment e.link heeding }
@@ -373,9 +374,9 @@ fn add_heard<R: Relation>(
     draft: Draft<R>,
 ) -> Result<(), AllocError>
     requires room { length draft.entries ≤ s.old.journal.room }
-    requires few { length s.old.journal.entries ≤ 65536 }
+    requires few { length s.old.journal.entries ≤ MAX_ENTRIES }
     requires ordered { RiseBy number_of s.old.exchanges.items }
-    requires early { moment ≤ 2 ^ 62 }
+    requires early { moment ≤ LAST_MOMENT }
     requires place { place < length s.old.endpoints.items }
     requires ready { (e : EndpointValue) → slice_get s.old.endpoints.items place ≡ Some e
         → MayHeed moment e.link heeding }
@@ -407,7 +408,7 @@ fn take<R: Relation>(
     requires sound { IsSound s.old }
     requires unsealed { s.old.sealed ≡ false }
     requires later { s.old.moment ≤ moment }
-    requires early { moment ≤ 2 ^ 62 }
+    requires early { moment ≤ LAST_MOMENT }
     requires at { IsFirstAt peer (map peer_link s.old.endpoints.items) place }
     requires hears { (e : EndpointValue) → slice_get s.old.endpoints.items place ≡ Some e
         → IsHearing moment datagram.now e.link hearing }
@@ -437,7 +438,7 @@ pub fn hear<R: Relation>(
 ) -> Result<(), AllocError>
     requires sound { IsSound s.old }
     requires later { s.old.moment ≤ moment }
-    requires early { moment ≤ 2 ^ 62 }
+    requires early { moment ≤ LAST_MOMENT }
     ensures sound { IsSound s.new }
     ensures heard { OnOk result (seen s.new
         ≡ stepped (hears_in_room moment peer datagram.now (state_of s.old)) (seen s.old)) }

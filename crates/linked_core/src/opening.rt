@@ -1,6 +1,7 @@
 //! Connections: they are opened and closed.
 
 ghost use Rattle.std.specs.Prelude.{ℕ, ◌≡◌, ◌≤◌, ◌<◌, ◌+◌, ◌^◌, Option, IsTrue, IsFalse, vec_len, vec_capacity};
+ghost use Rattle.limits.specs.declared.TheConstants.{LAST_MOMENT};
 ghost use Rattle.ask_model.specs.Sizes.{capped};
 ghost use Rattle.core_steps.specs.Resting.{HasConn};
 ghost use Rattle.core_steps.specs.Steps.{opens, shuts};
@@ -17,10 +18,8 @@ use crate::sealing::seal;
 use crate::state::State;
 use core_steps::Conn;
 use journal_book::{Entry, Event};
+use limits::MAX_CONNECTIONS;
 use transformers::Relation;
-
-/// Connections that may be open.
-const CONNECTIONS: usize = 256;
 
 /// Adds a connection, for which there is a place, and its entry.
 fn add_conn<R: Relation>(s: &mut State<R>, moment: u64) -> u32
@@ -50,11 +49,11 @@ fn add_conn<R: Relation>(s: &mut State<R>, moment: u64) -> u32
 pub fn open<R: Relation>(s: &mut State<R>, moment: u64) -> Result<u32, OpenFault>
     requires sound { IsSound s.old }
     requires later { s.old.moment ≤ moment }
-    requires early { moment ≤ 2 ^ 62 }
+    requires early { moment ≤ LAST_MOMENT }
     ensures sound { IsSound s.new }
     ensures opens { IsOpened result moment (seen s.old) (seen s.new) }
 {
-    if s.conns.len() >= CONNECTIONS {
+    if s.conns.len() >= MAX_CONNECTIONS {
         return Err(OpenFault::Full);
     }
     if s.sealed {
@@ -101,7 +100,7 @@ fn take_conn<R: Relation>(s: &mut State<R>, moment: u64, conn: u32)
 pub fn close<R: Relation>(s: &mut State<R>, moment: u64, conn: u32) -> bool
     requires sound { IsSound s.old }
     requires later { s.old.moment ≤ moment }
-    requires early { moment ≤ 2 ^ 62 }
+    requires early { moment ≤ LAST_MOMENT }
     ensures sound { IsSound s.new }
     ensures closed { IsTrue result → IsClosed moment conn (seen s.old) (seen s.new) }
     ensures unknown { IsFalse result → (seen s.new ≡ seen s.old) × IsUnknown conn (seen s.old) }

@@ -1,6 +1,7 @@
 //! What a tick does, prepared before the core changes.
 
 ghost use Rattle.std.specs.Prelude.{◌≡◌, ◌≤◌, ◌^◌, ◌+◌, ◌++◌, true, false, filter, length, sum_by, IfOk, OnOk};
+ghost use Rattle.limits.specs.declared.TheConstants.{LAST_MOMENT};
 ghost use Rattle.ask_model.specs.Sizes.{capped};
 ghost use Rattle.journal_book.specs.Entries.{entry_size};
 ghost use Rattle.message_layer.specs.Calls.{is_among};
@@ -34,7 +35,7 @@ pub fn sort_at<R: Relation>(
     moment: u64,
 ) -> Result<Sorted, AllocError>
     requires sound { IsSound s.old }
-    requires early { moment ≤ 2 ^ 62 }
+    requires early { moment ≤ LAST_MOMENT }
     ensures same { SeesSame s.old s.new }
     ensures over { IfOk result (λ x. x.over.items ≡ timed_out moment (state_of s.old)) }
     ensures still { IfOk result
@@ -85,7 +86,7 @@ fn prepare_links<R: Relation>(
     moment: u64,
     gone: &[Token],
 ) -> Result<Vec<Ticking>, AllocError>
-    requires { moment ≤ 2 ^ 62 }
+    requires { moment ≤ LAST_MOMENT }
     ensures same { SeesSame s.old s.new }
     ensures ready { IfOk result
         (λ v. AreTurns moment gone.now s.new.endpoints.items v.items) }
@@ -124,7 +125,7 @@ pub fn prepare<R: Relation>(
     requires sound { IsSound s.old }
     requires unsealed { s.old.sealed ≡ false }
     requires later { s.old.moment ≤ moment }
-    requires early { moment ≤ 2 ^ 62 }
+    requires early { moment ≤ LAST_MOMENT }
     requires due { something_due moment (state_of s.old) ≡ true }
     ensures same { SeesSame s.old s.new }
     ensures gone { IfOk result (λ x. x.gone.items ≡ gone_tokens moment (state_of s.old)) }
@@ -150,7 +151,7 @@ pub fn prepare<R: Relation>(
 
 /// Does a tick as it was prepared.
 pub fn pass<R: Relation>(s: &mut State<R>, passing: Passing<R>, moment: u64)
-    requires early { moment ≤ 2 ^ 62 }
+    requires early { moment ≤ LAST_MOMENT }
     requires ready { AreTurns moment passing.gone.items s.old.endpoints.items
         passing.turns.items }
     requires places { HasPlaces s.old passing.draft }

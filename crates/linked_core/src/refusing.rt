@@ -2,6 +2,7 @@
 
 ghost use Rattle.std.specs.Prelude.{◌≡◌, ◌≢◌, ◌≤◌, ◌+◌, ◌^◌, ◌∷◌, [], true, false, length, IfOk, OnOk, Err};
 ghost use Rattle.std.specs.Arc.{arc_value};
+ghost use Rattle.limits.specs.declared.TheConstants.{LAST_MOMENT, MAX_ENTRIES};
 ghost use Rattle.journal_book.specs.Views.{ask_of};
 ghost use Rattle.core_steps.specs.Calls.{Numbers};
 ghost use Rattle.core_steps.specs.Entering.{refusal_deeds};
@@ -35,7 +36,7 @@ fn draft_refusal<R: Relation>(
     mapped: &Arc<Mapped<R>>,
     cause: Cause,
 ) -> Result<Draft<R>, AllocError>
-    requires few { length s.now.journal.entries ≤ 65536 }
+    requires few { length s.now.journal.entries ≤ MAX_ENTRIES }
     requires ordered { RiseBy id_of s.now.conns.items }
     ensures drafts { IfOk result (λ d. Drafts moment (state_of s.now)
         (refusal_deeds conn (ask_of (arc_value mapped.now)) cause (state_of s.now)) d) }
@@ -75,7 +76,7 @@ pub fn refuse<R: Relation>(
     requires sound { IsSound s.old }
     requires unsealed { s.old.sealed ≡ false }
     requires later { s.old.moment ≤ moment }
-    requires early { moment ≤ 2 ^ 62 }
+    requires early { moment ≤ LAST_MOMENT }
     requires refused { MayRefuse moment conn (ask_of (arc_value mapped)) cause (state_of s.old) }
     ensures sound { IsSound s.new }
     ensures ticket { IfOk result (λ t. (t.conn ≡ conn) × (t.number ≡ length s.old.journal.entries)

@@ -10,13 +10,8 @@ ghost use Rattle.linked_core.specs.States.{state_of, with_draft};
 use crate::draft::Draft;
 use crate::state::State;
 use core_steps::Conn;
+use limits::{MAX_ANSWER_SIZE, MAX_ENTRIES, MAX_JOURNAL_LEN};
 use transformers::Relation;
-
-/// The most entries of a journal.
-pub const ENTRIES: u64 = 65536;
-
-/// The most bytes that they count.
-pub const BYTES: u64 = 268_435_456;
 
 /// How many connections wait for an answer.
 fn pending_count(conns: &[Conn]) -> usize
@@ -30,10 +25,15 @@ fn pending_count(conns: &[Conn]) -> usize
 fn has_room(entries: u64, bytes: u64, conns: u64, pending: u64) -> bool
     ensures { result ≡ fits_by entries bytes conns pending }
 {
-    if entries > ENTRIES || conns > ENTRIES || pending > ENTRIES || bytes > BYTES {
+    if entries > MAX_ENTRIES
+        || conns > MAX_ENTRIES
+        || pending > MAX_ENTRIES
+        || bytes > MAX_JOURNAL_LEN
+    {
         return false;
     }
-    entries + conns + pending + 1 <= ENTRIES && bytes + 64 * conns + 90000 * pending + 64 <= BYTES
+    entries + conns + pending + 1 <= MAX_ENTRIES
+        && bytes + 64 * conns + MAX_ANSWER_SIZE * pending + 64 <= MAX_JOURNAL_LEN
 }
 
 /// Whether that is so for the connections that wait among these. Where all of them could wait, they

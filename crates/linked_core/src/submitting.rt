@@ -1,6 +1,7 @@
 //! Messages that are handed in to the links of endpoints.
 
 ghost use Rattle.std.specs.Prelude.{◌≡◌, ◌≤◌, ◌<◌, ◌^◌, ◌∷◌, ◌++◌, [], Some, map, length, slice_get, vec_len, vec_capacity, IfOk};
+ghost use Rattle.limits.specs.declared.TheConstants.{LAST_MOMENT};
 ghost use Rattle.uri_map.specs.declared.peer.Peer.{Peer as PeerValue};
 ghost use Rattle.message_layer.specs.Values.{empty_link};
 ghost use Rattle.message_layer.specs.Sending.{waits, submitted, IsSubmitted};
@@ -45,7 +46,7 @@ fn prepare_at(
     moment: u64,
     word: u64,
 ) -> Result<Submission, LinkFault>
-    requires moment { moment ≤ 2 ^ 62 }
+    requires moment { moment ≤ LAST_MOMENT }
     requires message { IsUnnumberedCon token text.now }
     ensures same { peer_link endpoint.new ≡ peer_link endpoint.old }
     ensures ok { IfOk result (λ x. IsSubmission moment token text.now word endpoint.new.link x) }
@@ -64,7 +65,7 @@ fn prepare_known(
     word: u64,
 ) -> Result<Submission, LinkFault>
     requires place { place < length endpoints.old.items }
-    requires moment { moment ≤ 2 ^ 62 }
+    requires moment { moment ≤ LAST_MOMENT }
     requires message { IsUnnumberedCon token text.now }
     ensures same { map peer_link endpoints.new.items ≡ map peer_link endpoints.old.items }
     ensures ok { IfOk result (λ x. (e : EndpointValue) → slice_get endpoints.new.items place ≡ Some e
@@ -86,7 +87,7 @@ fn prepare_found(
     word: u64,
 ) -> Result<Prepared, LinkFault>
     requires place { place < length endpoints.old.items }
-    requires moment { moment ≤ 2 ^ 62 }
+    requires moment { moment ≤ LAST_MOMENT }
     requires message { IsUnnumberedCon token text.now }
     ensures same { map peer_link endpoints.new.items ≡ map peer_link endpoints.old.items }
     ensures may { (p : PeerValue) → IsFirstAt p (map peer_link endpoints.old.items) place
@@ -115,7 +116,7 @@ fn prepare_new(
     moment: u64,
     word: u64,
 ) -> Result<Prepared, LinkFault>
-    requires moment { moment ≤ 2 ^ 62 }
+    requires moment { moment ≤ LAST_MOMENT }
     requires message { IsUnnumberedCon token text.now }
     ensures same { endpoints.new.items ≡ endpoints.old.items }
     ensures may { (p : PeerValue) → HasNone p (map peer_link endpoints.old.items)
@@ -146,7 +147,7 @@ pub fn prepare(
     moment: u64,
     word: u64,
 ) -> Result<Prepared, LinkFault>
-    requires moment { moment ≤ 2 ^ 62 }
+    requires moment { moment ≤ LAST_MOMENT }
     requires message { IsUnnumberedCon token text.now }
     requires apart { AreApart (map peer_of (map peer_link endpoints.old.items)) }
     ensures same { map peer_link endpoints.new.items ≡ map peer_link endpoints.old.items }
@@ -165,7 +166,7 @@ pub fn prepare(
 
 /// The link takes the message, and gives out nothing by itself.
 fn submit_to(link: &mut Link, submission: Submission, moment: u64)
-    requires early { moment ≤ 2 ^ 62 }
+    requires early { moment ≤ LAST_MOMENT }
     requires ready { MaySubmit moment link.old submission }
     ensures { link.new.state ≡ given_out (submitted moment submission.waiting link.old.state) }
 {
@@ -175,7 +176,7 @@ fn submit_to(link: &mut Link, submission: Submission, moment: u64)
 
 /// The link of the endpoint takes the message.
 fn submit_at(endpoint: &mut Endpoint, submission: Submission, moment: u64)
-    requires early { moment ≤ 2 ^ 62 }
+    requires early { moment ≤ LAST_MOMENT }
     requires ready { MaySubmit moment endpoint.old.link submission }
     ensures peer { endpoint.new.peer ≡ endpoint.old.peer }
     ensures link { endpoint.new.link.state
@@ -187,7 +188,7 @@ fn submit_at(endpoint: &mut Endpoint, submission: Submission, moment: u64)
 /// The link in this place takes the message.
 fn submit_known(endpoints: &mut Vec<Endpoint>, place: usize, submission: Submission, moment: u64)
     requires place { place < length endpoints.old.items }
-    requires early { moment ≤ 2 ^ 62 }
+    requires early { moment ≤ LAST_MOMENT }
     requires ready { (e : EndpointValue) → slice_get endpoints.old.items place ≡ Some e
         → MaySubmit moment e.link submission }
     ensures { (p : PeerValue) → IsFirstAt p (map peer_link endpoints.old.items) place
@@ -206,7 +207,7 @@ fn submit_new(
     moment: u64,
 )
     requires place { vec_len endpoints.old < vec_capacity endpoints.old }
-    requires early { moment ≤ 2 ^ 62 }
+    requires early { moment ≤ LAST_MOMENT }
     requires empty { link.state ≡ empty_link }
     requires ready { MaySubmit moment link submission }
     ensures { map peer_link endpoints.new.items
@@ -219,7 +220,7 @@ fn submit_new(
 
 /// Hands in the message to the endpoint's link, which has not changed since it was prepared.
 pub fn submit(endpoints: &mut Vec<Endpoint>, peer: Peer, prepared: Prepared, moment: u64)
-    requires early { moment ≤ 2 ^ 62 }
+    requires early { moment ≤ LAST_MOMENT }
     requires place { HasPlaceFor prepared.place
         (vec_len endpoints.old) (vec_capacity endpoints.old) }
     requires may { MaySubmitTo moment peer endpoints.old.items prepared.place prepared.submission }

@@ -1,6 +1,7 @@
 //! Ticks: what is due because time passed.
 
 ghost use Rattle.std.specs.Prelude.{◌≡◌, ◌≤◌, ◌^◌, true, false, OnOk, OnErr};
+ghost use Rattle.limits.specs.declared.TheConstants.{LAST_MOMENT};
 ghost use Rattle.core_steps.specs.Calls.{something_due, ticked};
 ghost use Rattle.core_steps.specs.Room.{fits};
 ghost use Rattle.core_steps.specs.Sealing.{late, ticks_in_room};
@@ -22,7 +23,7 @@ fn tick_sealed<R: Relation>(alloc: Global, s: &mut State<R>, moment: u64) -> Res
     requires sound { IsSound s.old }
     requires sealed { s.old.sealed ≡ true }
     requires later { s.old.moment ≤ moment }
-    requires early { moment ≤ 2 ^ 62 }
+    requires early { moment ≤ LAST_MOMENT }
     ensures sound { IsSound s.new }
     ensures ticks { OnOk result (seen s.new ≡ stepped (late moment (state_of s.old)) (seen s.old)) }
     ensures memory { OnErr result (seen s.new ≡ seen s.old) }
@@ -42,7 +43,7 @@ fn tick_full<R: Relation>(alloc: Global, s: &mut State<R>, moment: u64) -> Resul
     requires unsealed { s.old.sealed ≡ false }
     requires full { fits (ticked moment (state_of s.old)) ≡ false }
     requires later { s.old.moment ≤ moment }
-    requires early { moment ≤ 2 ^ 62 }
+    requires early { moment ≤ LAST_MOMENT }
     ensures sound { IsSound s.new }
     ensures ticks { OnOk result
         (seen s.new ≡ stepped (late moment (seals moment (state_of s.old))) (seen s.old)) }
@@ -61,7 +62,7 @@ fn tick_due<R: Relation>(alloc: Global, s: &mut State<R>, moment: u64) -> Result
     requires unsealed { s.old.sealed ≡ false }
     requires due { something_due moment (state_of s.old) ≡ true }
     requires later { s.old.moment ≤ moment }
-    requires early { moment ≤ 2 ^ 62 }
+    requires early { moment ≤ LAST_MOMENT }
     ensures sound { IsSound s.new }
     ensures ticks { OnOk result
         (seen s.new ≡ stepped (ticks_in_room moment (state_of s.old)) (seen s.old)) }
@@ -81,7 +82,7 @@ fn tick_due<R: Relation>(alloc: Global, s: &mut State<R>, moment: u64) -> Result
 pub fn tick<R: Relation>(alloc: Global, s: &mut State<R>, moment: u64) -> Result<(), AllocError>
     requires sound { IsSound s.old }
     requires later { s.old.moment ≤ moment }
-    requires early { moment ≤ 2 ^ 62 }
+    requires early { moment ≤ LAST_MOMENT }
     ensures sound { IsSound s.new }
     ensures ticks { OnOk result
         (seen s.new ≡ stepped (ticks_in_room moment (state_of s.old)) (seen s.old)) }

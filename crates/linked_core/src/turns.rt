@@ -1,6 +1,7 @@
 //! What is due at each endpoint.
 
 ghost use Rattle.std.specs.Prelude.{◌≡◌, ◌≤◌, ◌+◌, ◌^◌, map, length, IfOk, OnOk};
+ghost use Rattle.limits.specs.declared.TheConstants.{LAST_MOMENT};
 ghost use Rattle.core_steps.specs.State.{State as CoreState};
 ghost use Rattle.core_steps.specs.Entering.{entered_all, sent_as, link_after};
 ghost use Rattle.message_layer.specs.Calls.{is_among};
@@ -22,7 +23,7 @@ use uri_map::Peer;
 
 /// Prepares the tick of a link.
 fn prepare_turn(link: &mut Link, moment: u64, gone: &[Token]) -> Result<Ticking, AllocError>
-    requires { moment ≤ 2 ^ 62 }
+    requires { moment ≤ LAST_MOMENT }
     ensures same { link.new.state ≡ link.old.state }
     ensures turn { IfOk result (λ x. IsTicking moment gone.now link.new x) }
 {
@@ -39,7 +40,7 @@ pub fn prepare_turns(
     moment: u64,
     gone: &[Token],
 ) -> Result<Vec<Ticking>, AllocError>
-    requires { moment ≤ 2 ^ 62 }
+    requires { moment ≤ LAST_MOMENT }
     ensures same { map peer_link endpoints.new ≡ map peer_link endpoints.old }
     ensures turns { IfOk result (λ v. AreTurns moment gone.now endpoints.new v.items) }
 {
@@ -131,7 +132,7 @@ pub fn draft_turns<R: Relation>(
 
 /// Does the tick of a link as it was prepared. The link gave out all.
 fn tick_turn(endpoint: &mut Endpoint, turn: Ticking, moment: u64, gone: &[Token])
-    requires moment { moment ≤ 2 ^ 62 }
+    requires moment { moment ≤ LAST_MOMENT }
     requires ready { IsTicking moment gone.now endpoint.old.link turn }
     ensures { peer_link endpoint.new
         ≡ link_after moment (is_among gone.now) (peer_link endpoint.old) }
@@ -142,7 +143,7 @@ fn tick_turn(endpoint: &mut Endpoint, turn: Ticking, moment: u64, gone: &[Token]
 
 /// Does the tick of each link as it was prepared. The links gave out all.
 pub fn tick_turns(endpoints: &mut [Endpoint], turns: Vec<Ticking>, moment: u64, gone: &[Token])
-    requires moment { moment ≤ 2 ^ 62 }
+    requires moment { moment ≤ LAST_MOMENT }
     requires ready { AreTurns moment gone.now endpoints.old turns.items }
     ensures { map peer_link endpoints.new
         ≡ map (link_after moment (is_among gone.now)) (map peer_link endpoints.old) }

@@ -1,5 +1,6 @@
 -- What the type of a world keeps.
 use Rattle.std.specs.Prelude.{ℕ, ◌≤◌, ◌^◌, List}
+use Rattle.limits.specs.declared.TheConstants.{LAST_MOMENT}
 use Rattle.media_map.specs.declared.form.Form.{Form}
 use Rattle.ask_model.specs.Views.{Rules}
 use Rattle.proxy_acts.specs.Resting.{AllRest}
@@ -14,5 +15,5 @@ use Rattle.linked_world.specs.Leading.{served_of}
 abbrev pub IsKept : {R : Type 0} → (Form → Form → List ℕ → List ℕ → Type 0)
     → (Form → Form → List ℕ → Type 0) → Rules → ℕ → Engine R → Type 0
 IsKept holds takes rules m e =
-    IsReady e × IsDrained e.core × (m ≤ 2 ^ 62) × AllRest (served_of e)
+    IsReady e × IsDrained e.core × (m ≤ LAST_MOMENT) × AllRest (served_of e)
     × AreMapped holds takes rules e.core.state.entries

@@ -1,4 +1,5 @@
 -- What contracts see of a world, and what inputs do to it.
+use Rattle.limits.specs.declared.TheConstants.{LAST_MOMENT}
 use Rattle.std.specs.Prelude.{◌≡◌, ℕ, ◌^◌, length, min, max, ⊤, List, [], ◌∷◌, ◌++◌}
 use Rattle.ask_model.specs.Views.{Rules}
 use Rattle.journal_book.specs.Entries.{Written}
@@ -36,7 +37,7 @@ world_of e rules moment =
 
 -- A moment below the last one counts as that, and one above 2 ^ 62 as this.
 abbrev pub counted : ℕ → ℕ → ℕ
-counted last moment = max last (min moment (2 ^ 62))
+counted last moment = max last (min moment LAST_MOMENT)
 
 abbrev pub served_in : WorldValue → Served
 served_in w = record { core = w.core; unasked = unasked_in w.inlets }

@@ -17,14 +17,12 @@ use ask_model::Settings;
 use connection_table::Table;
 use http_edge::Memory;
 use journal_book::Journal;
+use limits::LAST_MOMENT;
 use linked_core::Core;
 use proxy_acts::{Happening, Input, Output, When};
 use std::alloc::Global;
 use std::sync::Arc;
 use transformers::{Bank, Relation};
-
-/// The last moment: later ones count as this one.
-const LAST_MOMENT: u64 = 1 << 62;
 
 impl<R: Relation> World<R> {
     ghost use Rattle.proxy_acts.specs.Tellings.{IsMapped, terms_of};

@@ -1,6 +1,7 @@
 -- What a link answers and tells in a whole run (RFC 7252, sections 4.2, 4.3 and 4.5).
 use Rattle.std.specs.Prelude.{◌≡◌, ◌≢◌, ℕ, ◌+◌, ◌<◌, ◌≤◌, List, [], ◌∷◌, ◌++◌, length, filter, count_by, Option, Some, None, Result, Ok, Err, Bool, true, false, not, ◌⊎◌, nat_lt, ◌==◌, ◌&&◌, if◌then◌else◌}
 use Rattle.std.specs.List.{find, list_any}
+use Rattle.limits.specs.declared.TheConstants.{EXCHANGE_LIFETIME, MAX_DATAGRAM_LEN, MAX_REMEMBERED}
 use Rattle.coap_codec.specs.Spelling.{Content}
 use Rattle.coap_codec.specs.Reading.{message_at}
 use Rattle.coap_codec.specs.declared.fault.CodecFault.{CodecFault}
@@ -50,14 +51,14 @@ pub record IsEmpty (confirms : Bool) (m : Content) (told : Told) (r : Reply) : T
 -- a CON or NON that was not heard before is remembered with its answer
 pub record IsTaken (t : ℕ) (older : List Step) (confirms : Bool) (m : Content) (told : Told) (sent : List (List ℕ)) (before after : List Heard) : Type 0 where
   pub reply : Reply
-  pub room : count_by (is_fresh t) before < 1024
+  pub room : count_by (is_fresh t) before < MAX_REMEMBERED
   pub fits : IsTold older confirms m told reply ⊎ (IsUnmatched older m told reply ⊎ IsEmpty confirms m told reply)
   pub answer : answers sent ≡ replies m.mid reply
   pub memory : after ≡ before ++ record { mid = m.mid; moment = t; reply = reply } ∷ []
 
 -- one more than 1,024 counts as lost
 pub record IsLost (t : ℕ) (told : Told) (sent : List (List ℕ)) (before after : List Heard) : Type 0 where
-  pub full : 1024 ≤ count_by (is_fresh t) before
+  pub full : MAX_REMEMBERED ≤ count_by (is_fresh t) before
   pub says : told ≡ was_dropped
   pub answer : answers sent ≡ []
   pub memory : after ≡ before
@@ -98,14 +99,14 @@ IsRead t older d (Err e) told sent before after = (told ≡ no_news) × IsNotRem
 
 -- a datagram that is too long, or that comes before anything was sent
 pub record IsIgnored (d : List ℕ) (older : List Step) (told : Told) (sent : List (List ℕ)) (before after : List Heard) : Type 0 where
-  pub why : (2048 < length d) ⊎ (transmissions older ≡ [])
+  pub why : (MAX_DATAGRAM_LEN < length d) ⊎ (transmissions older ≡ [])
   pub says : told ≡ was_dropped
   pub answer : answers sent ≡ []
   pub memory : after ≡ before
 
 -- any other is read
 pub record IsProcessed (t : ℕ) (d : List ℕ) (older : List Step) (told : Told) (sent : List (List ℕ)) (before after : List Heard) : Type 0 where
-  pub short : length d ≤ 2048
+  pub short : length d ≤ MAX_DATAGRAM_LEN
   pub begun : transmissions older ≢ []
   pub read : IsRead t older d (message_at d) told sent before after
 
@@ -153,4 +154,5 @@ pub record HearsOwn (x : Step) (m : Content) (told : Told) : Type 0 where
 -- Once a response in a CON or NON was handed up, none with its message ID is for 247 s.
 abbrev pub HandsUpOnce : Type 0
 HandsUpOnce = (later : Step) (between : List Step) (first : Step) (older : List Step) (s : LinkState) → IsRun (later ∷ between ++ first ∷ older) s
-    → (m n : Content) → HearsOwn first m (response m) → HearsOwn later n (response n) → n.mid ≡ m.mid → first.moment + 247000 ≤ later.moment
+    → (m n : Content) → HearsOwn first m (response m) → HearsOwn later n (response n)
+    → n.mid ≡ m.mid → first.moment + EXCHANGE_LIFETIME ≤ later.moment

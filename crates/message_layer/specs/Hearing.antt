@@ -2,6 +2,7 @@
 use Rattle.std.specs.Prelude.{ℕ, ◌+◌, ◌*◌, ◌/◌, ◌%◌, List, [], ◌∷◌, ◌++◌, length, map, filter, count_by, Option, Some, None, Result, Ok, Err, Bool, true, false, nat_lt, ◌==◌, ◌&&◌, if◌then◌else◌}
 use Rattle.std.specs.List.{list_any, find}
 use Rattle.std.specs.Str.{bytes_eq}
+use Rattle.limits.specs.declared.TheConstants.{MAX_DATAGRAM_LEN, MAX_REMEMBERED}
 use Rattle.coap_codec.specs.Spelling.{Content}
 use Rattle.coap_codec.specs.Reading.{message_at}
 use Rattle.coap_codec.specs.declared.fault.CodecFault.{CodecFault}
@@ -56,7 +57,7 @@ new_verdict s m accepts empties =
 abbrev pub heard_verdict : ℕ → LinkState → Content → Bool → Option Heard → Verdict
 heard_verdict t s m confirms (Some h) = record { reply = if confirms then h.reply else reply.Nothing; remembered = false; ends = false; news = Quiet }
 heard_verdict t s m confirms None =
-    if nat_lt (count_by (is_fresh t) s.heard) 1024
+    if nat_lt (count_by (is_fresh t) s.heard) MAX_REMEMBERED
     then new_verdict s m (if confirms then reply.Ack else reply.Nothing) (if confirms then reply.Rst else reply.Nothing)
     else (record { reply = reply.Nothing; remembered = false; ends = false; news = Lost })
 
@@ -149,7 +150,8 @@ hears_read t d s (Err e) = (undecoded (reset_for d) s, no_news)
 
 abbrev pub hears_from : ℕ → List ℕ → LinkState → Option ℕ → LinkState × Told
 hears_from t d s None = (s, was_dropped)
-hears_from t d s (Some mid) = if nat_lt 2048 (length d) then (s, was_dropped) else hears_read t d s (message_at d)
+hears_from t d s (Some mid) =
+    if nat_lt MAX_DATAGRAM_LEN (length d) then (s, was_dropped) else hears_read t d s (message_at d)
 
 -- A datagram above 2,048 bytes, or from a peer to which nothing was sent, counts as lost.
 abbrev pub hears : ℕ → List ℕ → LinkState → LinkState × Told

@@ -1,5 +1,6 @@
 -- What one call sends, by what a link keeps (RFC 7252, section 4.2).
 use Rattle.std.specs.Prelude.{◌≡◌, ℕ, ◌+◌, ◌*◌, ◌<◌, ◌≤◌, List, [], ◌∷◌, ◌++◌, Some, ◌⊎◌}
+use Rattle.limits.specs.declared.TheConstants.{MAX_RETRANSMIT}
 use Rattle.coap_codec.specs.Spelling.{Content, Spells}
 use Rattle.message_layer.specs.Values.{LinkState, Told, no_news, timed_out, IsSound}
 use Rattle.message_layer.specs.Sending.{due_of, again, next_outstanding, ticked, with_mid, unnumbered}
@@ -15,7 +16,7 @@ pub record IsQuiet (t : ℕ) (s : LinkState) (r : LinkState × Told) : Type 0 wh
 pub record IsCopy (t : ℕ) (s : LinkState) (r : LinkState × Told) : Type 0 where
   pub outstanding : Outstanding
   pub was : s.outstanding ≡ Some outstanding
-  pub few : outstanding.retransmissions < 4
+  pub few : outstanding.retransmissions < MAX_RETRANSMIT
   pub due : due_of outstanding ≤ t
   pub is : r.0.outstanding ≡ Some (again t outstanding)
   pub out : r.0.out ≡ s.out ++ outstanding.datagram ∷ []
@@ -25,7 +26,7 @@ pub record IsCopy (t : ℕ) (s : LinkState) (r : LinkState × Told) : Type 0 whe
 pub record IsGivenUp (t : ℕ) (s : LinkState) (r : LinkState × Told) : Type 0 where
   pub outstanding : Outstanding
   pub was : s.outstanding ≡ Some outstanding
-  pub five : outstanding.retransmissions ≡ 4
+  pub five : outstanding.retransmissions ≡ MAX_RETRANSMIT
   pub due : outstanding.sent + 16 * outstanding.timeout ≤ t
   pub is : r.0.outstanding ≡ next_outstanding t s.last_mid s.waiting
   pub says : r.1 ≡ timed_out outstanding.token

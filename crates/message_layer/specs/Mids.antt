@@ -1,6 +1,7 @@
 -- The message IDs that a link gave, by the moments at which it gave them (RFC 7252, section 4.4).
 use Rattle.std.specs.Prelude.{ℕ, ◌+◌, ◌-◌, ◌≤◌, List, [], ◌∷◌, length, filter, Option, Some, None, Bool, false, not, nat_lt, nat_le, if◌then◌else◌}
 use Rattle.std.specs.List.{AllByRecursion}
+use Rattle.limits.specs.declared.TheConstants.{MAX_MESSAGE_IDS, MESSAGE_ID_LIFETIME}
 
 pub record MidsGiven : Type 0 where
   -- when the last ones were given, the oldest first
@@ -12,7 +13,7 @@ pub record MidsGiven : Type 0 where
 
 -- An ID given then is still in use: a message may come until 494 s behind its sending, twice EXCHANGE_LIFETIME.
 abbrev pub is_in_use : ℕ → ℕ → Bool
-is_in_use t given = nat_lt (t - given) 494000
+is_in_use t given = nat_lt (t - given) MESSAGE_ID_LIFETIME
 
 abbrev pub newest_of : Bool → ℕ → Option ℕ
 newest_of rising newest = if rising then Some newest else None
@@ -24,7 +25,8 @@ newest_behind t (Some newest) = if nat_le newest t then Some t else None
 
 -- IDs that are in use no more are forgotten once there are many
 abbrev pub pruned : ℕ → ℕ → List ℕ → List ℕ
-pruned t waiting given = if nat_lt (length given + waiting) 32768 then given else filter (is_in_use t) given
+pruned t waiting given =
+    if nat_lt (length given + waiting) MAX_MESSAGE_IDS then given else filter (is_in_use t) given
 
 -- the oldest one is in use no more
 abbrev pub begins_unused : ℕ → List ℕ → Bool

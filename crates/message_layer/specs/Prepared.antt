@@ -1,6 +1,7 @@
 -- What is prepared for a call, before a link changes.
 use Rattle.std.specs.Prelude.{◌≡◌, ℕ, ◌≤◌, ◌<◌, List, [], ◌∷◌, ◌++◌, length, Option, Some, None, Result, Ok, Err, Bool, true, false, is_some}
 use Rattle.std.specs.Option.{option_map}
+use Rattle.limits.specs.declared.TheConstants.{MAX_DATAGRAM_LEN, MAX_MESSAGE_IDS, MAX_WAITING}
 use Rattle.coap_codec.specs.Spelling.{Content, Spells}
 use Rattle.coap_codec.specs.Reading.{message_at}
 use Rattle.coap_codec.specs.declared.fault.CodecFault.{CodecFault}
@@ -39,8 +40,8 @@ at_once w (Some o) = []
 pub record MaySubmit (t : ℕ) (link : LinkValue) (x : Submission) : Type 0 where
   pub room : link.room ≡ true
   pub sound : IsSoundWaiting x.waiting
-  pub place : length link.state.waiting < 64
-  pub free : mids_in_use t link.state < 32768
+  pub place : length link.state.waiting < MAX_WAITING
+  pub free : mids_in_use t link.state < MAX_MESSAGE_IDS
   pub sent : IsNext t link.state.last_mid (at_once x.waiting link.state.outstanding) x.sent
 
 pub record IsSubmission (t : ℕ) (token text : List ℕ) (word : ℕ)
@@ -97,7 +98,7 @@ IsRead t d s (Err e) h = IsOfNone (reset_for d) h
 pub record IsHearing (t : ℕ) (d : List ℕ) (link : LinkValue) (h : Hearing) : Type 0 where
   pub ready : MayHeed t link h.heeding
   pub known : is_some link.state.last_mid ≡ true
-  pub short : length d ≤ 2048
+  pub short : length d ≤ MAX_DATAGRAM_LEN
   pub is : IsRead t d link.state (message_at d) h
 
 -- nothing is prepared for a datagram that counts as lost

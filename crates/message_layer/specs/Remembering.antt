@@ -3,12 +3,13 @@ use Rattle.std.specs.Prelude.{◌≡◌, ℕ, suc, zero, ◌+◌, ◌-◌, ◌%�
 use Rattle.std.specs.VecDeque.{deque_len, deque_capacity}
 use Rattle.std.specs.List.{AllByRecursion, find}
 use Rattle.std.specs.Option.{option_or}
+use Rattle.limits.specs.declared.TheConstants.{EXCHANGE_LIFETIME}
 use Rattle.message_layer.specs.declared.state.Heard.{Heard}
 use Rattle.message_layer.specs.declared.chains.Chains.{Chains}
 
 -- Within this time messages with the same ID are one and the same (EXCHANGE_LIFETIME, section 4.8.2).
 abbrev pub is_fresh : ℕ → Heard → Bool
-is_fresh t h = nat_lt (t - h.moment) 247000
+is_fresh t h = nat_lt (t - h.moment) EXCHANGE_LIFETIME
 
 abbrev pub is_repeat : ℕ → ℕ → Heard → Bool
 is_repeat t mid h = (h.mid == mid) && is_fresh t h

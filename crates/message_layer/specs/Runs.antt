@@ -1,5 +1,6 @@
 -- Runs of a link: any list of calls, the newest first, with what they were answered and what they put out.
 use Rattle.std.specs.Prelude.{◌≡◌, ℕ, ◌+◌, ◌^◌, ◌≤◌, List, [], ◌∷◌, ◌++◌, map, filter, Option, Bool}
+use Rattle.limits.specs.declared.TheConstants.{LAST_MOMENT, MAX_MESSAGE_IDS}
 use Rattle.coap_codec.specs.Spelling.{Content}
 use Rattle.coap_codec.specs.declared.message.MsgType.TheVariants.{Con}
 use Rattle.message_layer.specs.Values.{LinkState, Told, empty_link, is_con}
@@ -26,7 +27,7 @@ pub record Step : Type 0 where
 -- a message that was taken: there was an ID for it
 pub record Takes (t word : ℕ) (m : Content) (old new : LinkState) : Type 0 where
   pub confirmable : m.kind ≡ Con
-  pub free : mids_in_use t old + 1 ≤ 32768
+  pub free : mids_in_use t old + 1 ≤ MAX_MESSAGE_IDS
   pub submits : Submits t word m old new
 
 -- the value that the call leaves, as its contract says
@@ -52,7 +53,7 @@ Puts refuse sent old new = sent ≡ []
 pub record IsStep (last : ℕ) (x : Step) (old new : LinkState) : Type 0 where
   -- moments never fall
   pub later : last ≤ x.moment
-  pub in_range : x.moment ≤ 2 ^ 62
+  pub in_range : x.moment ≤ LAST_MOMENT
   pub leaves : Leaves x.moment x.call old new
   pub puts : Puts x.call x.sent old new
 

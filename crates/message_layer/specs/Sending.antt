@@ -1,6 +1,7 @@
 -- What handing in a message and a tick do to a link (RFC 7252, sections 4.2, 4.4 and 4.7).
 use Rattle.std.specs.Prelude.{◌≡◌, ℕ, ◌+◌, ◌*◌, ◌/◌, ◌%◌, ◌^◌, ◌≤◌, ◌<◌, vec_len, vec_capacity, List, [], ◌∷◌, ◌++◌, length, count_by, Result, Ok, Err, slice_set, Option, Some, None, true, nat_lt, if◌then◌else◌}
 use Rattle.std.specs.VecDeque.{deque_len, deque_capacity}
+use Rattle.limits.specs.declared.TheConstants.{ACK_TIMEOUT, MAX_MESSAGE_IDS, MAX_RETRANSMIT, MAX_WAITING}
 use Rattle.message_layer.specs.Mids.{is_in_use, pruned}
 use Rattle.message_layer.specs.Values.{LinkState, Told, no_news, timed_out}
 use Rattle.message_layer.specs.declared.state.Waiting.{Waiting}
@@ -17,7 +18,7 @@ with_mid mid datagram = slice_set (slice_set datagram 2 (mid / 256)) 3 (mid % 25
 
 -- The initial timeout by a random word: from ACK_TIMEOUT, 2 s, to that times ACK_RANDOM_FACTOR, 1.5.
 abbrev pub initial_timeout : ℕ → ℕ
-initial_timeout word = 2000 + word % 4294967296 % 1001
+initial_timeout word = ACK_TIMEOUT + word % 4294967296 % 1001
 
 -- The timeout starts at each sending and doubles with each copy.
 abbrev pub due_of : Outstanding → ℕ
@@ -82,7 +83,9 @@ abbrev pub ticked_by : ℕ → LinkState → Option Outstanding → LinkState ×
 ticked_by t s None = (s, no_news)
 ticked_by t s (Some o) =
     if nat_lt t (due_of o) then (s, no_news) else
-    (if nat_lt o.retransmissions 4 then (with_copy t s o, no_news) else (next_sent t s, timed_out o.token))
+    (if nat_lt o.retransmissions MAX_RETRANSMIT
+    then (with_copy t s o, no_news)
+    else (next_sent t s, timed_out o.token))
 
 abbrev pub ticked : ℕ → LinkState → LinkState × Told
 ticked t s = ticked_by t s s.outstanding
@@ -118,11 +121,11 @@ mids_in_use t s = count_by (is_in_use t) s.given + length s.waiting
 
 -- a place in the queue and an ID are free
 abbrev pub HasPlace : ℕ → LinkState → Type 0
-HasPlace t s = (length s.waiting < 64) × (mids_in_use t s < 32768)
+HasPlace t s = (length s.waiting < MAX_WAITING) × (mids_in_use t s < MAX_MESSAGE_IDS)
 
 abbrev pub IsRefused : ℕ → LinkState → LinkFault → Type 0
-IsRefused t s Queue = 64 ≤ length s.waiting
-IsRefused t s Numbers = (length s.waiting < 64) × (32768 ≤ mids_in_use t s)
+IsRefused t s Queue = MAX_WAITING ≤ length s.waiting
+IsRefused t s Numbers = (length s.waiting < MAX_WAITING) × (MAX_MESSAGE_IDS ≤ mids_in_use t s)
 IsRefused t s Memory = HasPlace t s
 
 -- the first reason to refuse a message, exactly

@@ -1,6 +1,7 @@
 -- What a link transmits in a whole run (RFC 7252, sections 4.2, 4.4 and 4.7).
 use Rattle.std.specs.Prelude.{◌≡◌, ℕ, ◌+◌, ◌*◌, ◌%◌, ◌^◌, ◌<◌, ◌≤◌, List, [], ◌∷◌, ◌++◌, length, map, filter, Option, Some, None, ◌⊎◌}
 use Rattle.std.specs.List.{AllByRecursion}
+use Rattle.limits.specs.declared.TheConstants.{ACK_TIMEOUT, LONGEST_ACK_TIMEOUT, MAX_MESSAGE_IDS, MAX_RETRANSMIT, MESSAGE_ID_LIFETIME}
 use Rattle.message_layer.specs.Values.{LinkState, IsSound}
 use Rattle.message_layer.specs.Sending.{due_of, with_mid, unnumbered, initial_timeout}
 use Rattle.message_layer.specs.Mids.{is_in_use}
@@ -55,13 +56,13 @@ recent t ms = length (filter (is_in_use t) (map first_of ms))
 -- A message is sent five times at most, behind all sendings of the messages before, under the next ID; less than 32,768
 -- of these were sent within 494 s.
 pub record IsSent (m : SentMessage) (older : List SentMessage) : Type 0 where
-  pub least : 2000 ≤ m.timeout
-  pub most : m.timeout ≤ 3000
-  pub few : length m.copies ≤ 4
+  pub least : ACK_TIMEOUT ≤ m.timeout
+  pub most : m.timeout ≤ LONGEST_ACK_TIMEOUT
+  pub few : length m.copies ≤ MAX_RETRANSMIT
   pub spaced : IsSpaced m.timeout m.first m.copies
   pub behind : IsBehind m.first older
   pub mid : HasNextMid (mid_of m.datagram) older
-  pub free : recent m.first older < 32768
+  pub free : recent m.first older < MAX_MESSAGE_IDS
 
 -- messages one after another, the newest first
 abbrev pub IsSequence : List SentMessage → Type 0
@@ -172,7 +173,8 @@ RunTransmits = (run : List Step) (s : LinkState) → IsRun run s → Transmits r
 -- No message ID stands in the first sendings of two messages within 494 s.
 abbrev pub MidsApart : Type 0
 MidsApart = (m : SentMessage) (between : List SentMessage) (n : SentMessage) (older : List SentMessage)
-    → IsSequence (m ∷ between ++ n ∷ older) → mid_of m.datagram ≡ mid_of n.datagram → n.first + 494000 ≤ m.first
+    → IsSequence (m ∷ between ++ n ∷ older) → mid_of m.datagram ≡ mid_of n.datagram
+    → n.first + MESSAGE_ID_LIFETIME ≤ m.first
 
 -- Where nothing is outstanding nothing waits: the next message goes out in the step that ends the one before.
 abbrev pub RunKeepsTurn : Type 0

@@ -2,6 +2,7 @@
 use Rattle.std.specs.Prelude.{◌≡◌, ℕ, ◌+◌, ◌/◌, ◌^◌, ◌≤◌, ◌<◌, List, [], ◌∷◌, length, Option, Some, None, Bool, true, false, ◌==◌, ◌&&◌, nat_lt, nat_le, vec_len, vec_capacity}
 use Rattle.std.specs.VecDeque.{deque_len, deque_capacity}
 use Rattle.std.specs.List.{AllByRecursion}
+use Rattle.limits.specs.declared.TheConstants.{ACK_TIMEOUT, LAST_MOMENT, LONGEST_ACK_TIMEOUT, MAX_MESSAGE_IDS, MAX_RETRANSMIT}
 use Rattle.coap_codec.specs.Spelling.{Content, content}
 use Rattle.message_layer.specs.declared.state.Waiting.{Waiting}
 use Rattle.message_layer.specs.declared.state.Outstanding.{Outstanding}
@@ -74,17 +75,17 @@ is_con (first ∷ rest) = first / 16 == 4
 pub record IsSoundWaiting (w : Waiting) : Type 0 where
   pub confirmable : is_con w.datagram ≡ true
   pub header : 4 ≤ length w.datagram
-  pub short : w.timeout ≤ 3000
-  pub long : 2000 ≤ w.timeout
+  pub short : w.timeout ≤ LONGEST_ACK_TIMEOUT
+  pub long : ACK_TIMEOUT ≤ w.timeout
   pub mid : w.first_mid < 65536
 
 -- at most MAX_RETRANSMIT copies
 pub record IsSoundOutstanding (o : Outstanding) : Type 0 where
   pub confirmable : is_con o.datagram ≡ true
-  pub short : o.timeout ≤ 3000
-  pub long : 2000 ≤ o.timeout
-  pub sent : o.sent ≤ 2 ^ 62
-  pub retransmissions : o.retransmissions ≤ 4
+  pub short : o.timeout ≤ LONGEST_ACK_TIMEOUT
+  pub long : ACK_TIMEOUT ≤ o.timeout
+  pub sent : o.sent ≤ LAST_MOMENT
+  pub retransmissions : o.retransmissions ≤ MAX_RETRANSMIT
 
 -- where nothing is outstanding, nothing waits
 abbrev pub IsSoundTurn : Option Outstanding → List Waiting → Type 0
@@ -95,4 +96,4 @@ IsSoundTurn (Some o) ws = IsSoundOutstanding o
 pub record IsSound (s : LinkState) : Type 0 where
   pub turn : IsSoundTurn s.outstanding s.waiting
   pub waiting : AllByRecursion IsSoundWaiting s.waiting
-  pub given : length s.given + length s.waiting ≤ 32768
+  pub given : length s.given + length s.waiting ≤ MAX_MESSAGE_IDS

@@ -16,11 +16,9 @@ use crate::sending;
 use crate::state::{Awaited, Heard, Reply, State, Up};
 use crate::verdict::{IGNORED, News, Verdict, decide, is_same};
 use coap_codec::{CodecFault, Message, Token, decode};
+use limits::MAX_DATAGRAM_LEN;
 use std::alloc::{AllocError, Global};
 use std::collections::VecDeque;
-
-/// The longest datagram that is read, in bytes.
-const MAX_DATAGRAM: usize = 2048;
 
 /// The empty ACK or RST with that ID.
 fn reply_of(alloc: Global, mid: u16, reply: Reply) -> Result<Option<Bytes>, AllocError>
@@ -273,7 +271,7 @@ pub fn prepare_heard(
     ensures ok { IfOk result (λ o. IsPreparedFor moment datagram.now (shown s.new) o) }
     ensures memory { IsOkUnless result LinkFault.Memory }
 {
-    if s.last_mid.is_none() || datagram.len() > MAX_DATAGRAM {
+    if s.last_mid.is_none() || datagram.len() > MAX_DATAGRAM_LEN {
         return Ok(None);
     }
     match decode(alloc, datagram) {

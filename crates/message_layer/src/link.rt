@@ -2,6 +2,7 @@
 
 ghost use Rattle.std.specs.Prelude.{◌≡◌, ◌≤◌, ◌^◌, OnOk, OnErr, IfOk, IsOk, IsOkUnless, true, false};
 ghost use Rattle.std.specs.Option.{option_map};
+ghost use Rattle.limits.specs.declared.TheConstants.{LAST_MOMENT};
 ghost use Rattle.coap_codec.specs.Spelling.{content};
 ghost use Rattle.coap_codec.specs.Writing.{IsEncodable};
 ghost use Rattle.message_layer.specs.Values.{told, empty_link};
@@ -65,7 +66,7 @@ impl Link {
     /// sets the initial timeout and the link's first ID. From the first sending on a response is
     /// awaited under its token.
     pub fn submit(&mut self, m: Message, moment: u64, word: u64) -> Result<(), LinkFault>
-        requires moment { moment ≤ 2 ^ 62 }
+        requires moment { moment ≤ LAST_MOMENT }
         requires confirmable { m.kind ≡ MsgType.Con }
         requires encodable { IsEncodable (content m) }
         ensures ok { OnOk result (Submits moment word (content m) self.old.state self.new.state) }
@@ -85,7 +86,7 @@ impl Link {
         moment: u64,
         word: u64,
     ) -> Result<Submission, LinkFault>
-        requires moment { moment ≤ 2 ^ 62 }
+        requires moment { moment ≤ LAST_MOMENT }
         requires message { IsUnnumberedCon token text.now }
         ensures same { self.new.state ≡ self.old.state }
         ensures ok { IfOk result (λ x. IsSubmission moment token text.now word self.new x) }
@@ -99,7 +100,7 @@ impl Link {
 
     /// Takes a message that was prepared at this moment, and the link has not changed since.
     pub fn submit_prepared(&mut self, x: Submission, moment: u64)
-        requires moment { moment ≤ 2 ^ 62 }
+        requires moment { moment ≤ LAST_MOMENT }
         requires ready { MaySubmit moment self.old x }
         ensures { self.new.state ≡ submitted moment x.waiting self.old.state }
     {
@@ -109,7 +110,7 @@ impl Link {
     /// Prepares a tick, once what bears one of these tokens is neither awaited nor sent any more.
     /// It makes all that `tick_prepared` wants, and changes nothing else.
     pub fn prepare_tick(&mut self, moment: u64, gone: &[Token]) -> Result<Ticking, LinkFault>
-        requires { moment ≤ 2 ^ 62 }
+        requires { moment ≤ LAST_MOMENT }
         ensures same { self.new.state ≡ self.old.state }
         ensures ok { IfOk result (λ x. IsTicking moment gone.now self.new x) }
         ensures memory { IsOkUnless result LinkFault.Memory }
@@ -121,7 +122,7 @@ impl Link {
     /// Takes what bears one of these tokens away, and does the tick that was prepared for them at
     /// this moment.
     pub fn tick_prepared(&mut self, x: Ticking, moment: u64, gone: &[Token]) -> Up
-        requires moment { moment ≤ 2 ^ 62 }
+        requires moment { moment ≤ LAST_MOMENT }
         requires ready { IsTicking moment gone.now self.old x }
         ensures { ticked moment (without gone.now self.old.state) ≡ (self.new.state, told result) }
     {
@@ -131,7 +132,7 @@ impl Link {
     /// Looks at the timer: it sends one copy, or gives up and sends the next message, or does
     /// nothing.
     pub fn tick(&mut self, moment: u64) -> Result<Up, LinkFault>
-        requires { moment ≤ 2 ^ 62 }
+        requires { moment ≤ LAST_MOMENT }
         ensures ok { IfOk result (λ up. ticked moment self.old.state ≡ (self.new.state, told up)) }
         ensures err { OnErr result (self.new.state ≡ self.old.state) }
         ensures memory { IsOkUnless result LinkFault.Memory }
@@ -148,7 +149,7 @@ impl Link {
         datagram: &[u8],
         moment: u64,
     ) -> Result<Option<Hearing>, LinkFault>
-        requires { moment ≤ 2 ^ 62 }
+        requires { moment ≤ LAST_MOMENT }
         ensures same { self.new.state ≡ self.old.state }
         ensures ok { IfOk result (λ o. IsPreparedFor moment datagram.now self.new o) }
         ensures memory { IsOkUnless result LinkFault.Memory }
@@ -159,7 +160,7 @@ impl Link {
 
     /// Does what a datagram makes the link do, as it was prepared at this moment.
     pub fn hear_prepared(&mut self, x: Heeding, moment: u64)
-        requires moment { moment ≤ 2 ^ 62 }
+        requires moment { moment ≤ LAST_MOMENT }
         requires ready { MayHeed moment self.old x }
         ensures { self.new.state ≡ applied moment x.mid x.token x.verdict self.old.state }
     {
@@ -170,7 +171,7 @@ impl Link {
     /// says what it is good for. Where a response or an RST was told, or a message timed out,
     /// its token is awaited until `expect` says otherwise.
     pub fn heard(&mut self, datagram: &[u8], moment: u64) -> Result<Up, LinkFault>
-        requires { moment ≤ 2 ^ 62 }
+        requires { moment ≤ LAST_MOMENT }
         ensures ok { IfOk result (λ up. hears moment datagram.now self.old.state ≡ (self.new.state, told up)) }
         ensures err { OnErr result (self.new.state ≡ self.old.state) }
         ensures memory { IsOkUnless result LinkFault.Memory }

@@ -4,15 +4,10 @@ ghost use Rattle.std.specs.Prelude.{◌≡◌, ◌<◌, ◌≤◌, ◌+◌, ◌+
 ghost use Rattle.std.specs.VecDeque.{deque_len, deque_capacity};
 ghost use Rattle.message_layer.specs.Mids.{AreRising, is_in_use, begins_unused, pruned, newest_behind};
 
+use limits::{MAX_MESSAGE_IDS, MESSAGE_ID_LIFETIME};
 use std::alloc::{AllocError, Global};
 use std::collections::VecDeque;
 use std::marker::Model;
-
-/// How many message IDs may be in use.
-const MAX_MIDS: usize = 32768;
-
-/// How long a message ID is in use, in milliseconds.
-const MID_LIFETIME: u64 = 494_000;
 
 /// The moments at which the last message IDs were given, the oldest first.
 ///
@@ -42,7 +37,7 @@ impl Model for Mids {
 fn is_used(given: u64, moment: u64) -> bool
     ensures { result ≡ is_in_use moment given }
 {
-    moment.saturating_sub(given) < MID_LIFETIME
+    moment.saturating_sub(given) < MESSAGE_ID_LIFETIME
 }
 
 /// The oldest one is in use no more.
@@ -88,9 +83,10 @@ fn count_in_use(moments: &VecDeque<u64>, moment: u64) -> usize
 /// Where as many stand as may be in use, the oldest one alone says whether one is free.
 fn has_free_first(moments: &VecDeque<u64>, waiting: usize, moment: u64) -> bool
     requires rising { AreRising moments.now.items }
-    requires few { length moments.now.items + waiting ≤ 32768 }
-    requires many { 32768 ≤ length moments.now.items + waiting }
-    ensures { IsTrue result ↔ (count_by (is_in_use moment) moments.now.items + waiting < 32768) }
+    requires few { length moments.now.items + waiting ≤ MAX_MESSAGE_IDS }
+    requires many { MAX_MESSAGE_IDS ≤ length moments.now.items + waiting }
+    ensures { IsTrue result
+        ↔ (count_by (is_in_use moment) moments.now.items + waiting < MAX_MESSAGE_IDS) }
 {
     has_unused_first(moments, moment)
 }
@@ -147,26 +143,27 @@ impl Mids {
 
     /// Beside those that are in use, and so many that will be, one more can be given.
     pub fn has_free(&self, waiting: usize, moment: u64) -> bool
-        requires { length self.now.moments + waiting ≤ 32768 }
-        ensures { IsTrue result ↔ (count_by (is_in_use moment) self.now.moments + waiting < 32768) }
+        requires { length self.now.moments + waiting ≤ MAX_MESSAGE_IDS }
+        ensures { IsTrue result
+            ↔ (count_by (is_in_use moment) self.now.moments + waiting < MAX_MESSAGE_IDS) }
     {
-        if self.moments.len() + waiting < MAX_MIDS {
+        if self.moments.len() + waiting < MAX_MESSAGE_IDS {
             return true;
         }
         if self.rising {
             return has_free_first(&self.moments, waiting, moment);
         }
-        count_in_use(&self.moments, moment) + waiting < MAX_MIDS
+        count_in_use(&self.moments, moment) + waiting < MAX_MESSAGE_IDS
     }
 
     /// Forgets those that are in use no more, if there are many.
     pub fn prune(&mut self, waiting: usize, moment: u64)
-        requires { waiting ≤ 32768 }
+        requires { waiting ≤ MAX_MESSAGE_IDS }
         ensures moments { self.new.moments ≡ pruned moment waiting self.old.moments }
         ensures newest { self.new.newest ≡ self.old.newest }
         ensures room { self.old.room ≤ self.new.room }
     {
-        if self.moments.len() + waiting < MAX_MIDS {
+        if self.moments.len() + waiting < MAX_MESSAGE_IDS {
             return;
         }
         if self.rising {

@@ -10,12 +10,10 @@ use crate::chains::{
     Chains, chain_if, copied, copy_chains, drop_oldest, find_chained, has_number, make_number_room,
 };
 use crate::state::Heard;
+use limits::MAX_REMEMBERED;
 use std::alloc::{AllocError, Global};
 use std::collections::VecDeque;
 use std::marker::Model;
-
-/// How many messages of the peer's are remembered.
-const REMEMBERED: usize = 1024;
 
 /// The CONs and NONs of the peer's that were heard last, the oldest first.
 ///
@@ -94,10 +92,10 @@ fn fresh_count(messages: &VecDeque<Heard>, moment: u64) -> usize
 /// Where as many stand as are remembered, the oldest of so many says whether one more is.
 fn has_free_last(messages: &VecDeque<Heard>, moment: u64) -> bool
     requires in_order { AreInOrder messages.now.items }
-    requires many { 1024 ≤ length messages.now.items }
-    ensures { result ≡ nat_lt (count_by (is_fresh moment) messages.now.items) 1024 }
+    requires many { MAX_REMEMBERED ≤ length messages.now.items }
+    ensures { result ≡ nat_lt (count_by (is_fresh moment) messages.now.items) MAX_REMEMBERED }
 {
-    !messages[messages.len() - REMEMBERED].is_fresh(moment)
+    !messages[messages.len() - MAX_REMEMBERED].is_fresh(moment)
 }
 
 /// They stay in order: the next one comes no earlier, and has a number.
@@ -144,15 +142,15 @@ impl Remembered {
 
     /// One more can be remembered.
     pub fn has_free(&self, moment: u64) -> bool
-        ensures { result ≡ nat_lt (count_by (is_fresh moment) self.now.messages) 1024 }
+        ensures { result ≡ nat_lt (count_by (is_fresh moment) self.now.messages) MAX_REMEMBERED }
     {
-        if self.messages.len() < REMEMBERED {
+        if self.messages.len() < MAX_REMEMBERED {
             return true;
         }
         if self.orderly {
             return has_free_last(&self.messages, moment);
         }
-        fresh_count(&self.messages, moment) < REMEMBERED
+        fresh_count(&self.messages, moment) < MAX_REMEMBERED
     }
 
     /// Forgets those that are remembered no more.

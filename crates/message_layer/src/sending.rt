@@ -3,6 +3,7 @@
 ghost use Rattle.std.specs.Prelude.{◌≡◌, ◌<◌, ◌≤◌, ◌+◌, ◌^◌, length, IfOk, OnOk, OnErr, IsTrue, true, ◌↔◌, IsOkUnless, MatchOption, vec_len};
 ghost use Rattle.std.specs.Option.{option_copied, option_map};
 ghost use Rattle.std.specs.List.{AllByRecursion, find};
+ghost use Rattle.limits.specs.declared.TheConstants.{MAX_MESSAGE_IDS};
 ghost use Rattle.coap_codec.specs.Spelling.{content, Spells};
 ghost use Rattle.coap_codec.specs.Writing.{IsEncodable};
 ghost use Rattle.message_layer.specs.Values.{seen, shown, told, has_room, IsSound, IsSoundOutstanding, IsSoundWaiting};
@@ -16,17 +17,12 @@ use crate::fault::LinkFault;
 use crate::prepared::{FirstSending, Submission, Ticking};
 use crate::state::{Awaited, Outstanding, State, Up, Waiting};
 use coap_codec::{Message, MsgType, Token, encode};
+use limits::{ACK_TIMEOUT, MAX_RETRANSMIT, MAX_WAITING};
 use std::alloc::{AllocError, Global};
-
-/// How many messages may wait.
-const MAX_WAITING: usize = 64;
-
-/// How often a message is sent again (RFC 7252 section 4.8).
-const MAX_RETRANSMIT: u8 = 4;
 
 /// Two to the power of the number of copies.
 fn power(retransmissions: u8) -> u64
-    requires { retransmissions ≤ 4 }
+    requires { retransmissions ≤ MAX_RETRANSMIT }
     ensures { result ≡ 2 ^ retransmissions }
 {
     match retransmissions {
@@ -250,8 +246,8 @@ pub fn tick_prepared(s: &mut State, x: Ticking, moment: u64, gone: &[Token]) -> 
 
 /// There is an ID for one more message.
 fn has_mid(s: &State, moment: u64) -> bool
-    requires { length s.now.given.moments + vec_len s.now.waiting ≤ 32768 }
-    ensures { IsTrue result ↔ (mids_in_use moment (seen s.now) < 32768) }
+    requires { length s.now.given.moments + vec_len s.now.waiting ≤ MAX_MESSAGE_IDS }
+    ensures { IsTrue result ↔ (mids_in_use moment (seen s.now) < MAX_MESSAGE_IDS) }
 {
     s.given.has_free(s.waiting.len(), moment)
 }
@@ -259,7 +255,7 @@ fn has_mid(s: &State, moment: u64) -> bool
 fn timeout_of(word: u64) -> u64
     ensures { result ≡ initial_timeout word }
 {
-    2000 + word % 4294967296 % 1001
+    ACK_TIMEOUT + word % 4294967296 % 1001
 }
 
 /// A place in the queue and an ID are free, or which of them is not.

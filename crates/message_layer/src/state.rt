@@ -7,11 +7,8 @@ use crate::bytes::Bytes;
 use crate::mids::Mids;
 use crate::remembered::Remembered;
 use coap_codec::{Message, Token};
+use limits::EXCHANGE_LIFETIME;
 use std::collections::VecDeque;
-
-/// How long a message ID of the peer's stands for one message, in milliseconds
-/// (EXCHANGE_LIFETIME, RFC 7252 section 4.8.2).
-const EXCHANGE_LIFETIME: u64 = 247_000;
 
 /// A message that was handed in and not yet sent.
 #[derive(Drop)]

@@ -3,10 +3,11 @@ use Rattle.std.proofs.Common.{◌≡◌, ◌≢◌, ◌⊎◌, inl, inr, ℕ, Bo
 use Rattle.proxy_acts.proofs.Recounting.{recount-at, recount-others}
 use Rattle.std.specs.Prelude.{◌==◌, ⊤, nat_lt}
 use Rattle.std.specs.List.{filter}
+use Rattle.limits.specs.declared.TheConstants.{MAX_REQUEST_SIZE}
 use Rattle.http_edge.specs.Reading.{Item, asked, bad, closes as item_closes}
 use Rattle.http_edge.specs.declared.request.BadKind.TheVariants.{Large}
 use Rattle.ask_model.specs.Requests.{Whole as WholeRequest, Bad}
-use Rattle.ask_model.specs.Sizes.{came_size, request_limit}
+use Rattle.ask_model.specs.Sizes.{came_size}
 use Rattle.ask_model.specs.Views.{Ask}
 use Rattle.journal_book.specs.Entries.{Asks as Asked}
 use Rattle.journal_book.specs.Views.{ask_of}
@@ -159,12 +160,12 @@ serves-as c d old new e h = subst (λ (k : ℕ). ServesOne k old new) e h
 
 -- The request that is the last is one after which the connection is closed.
 pub last-closes : (i : Item) → item_closes i ≡ true → closes (came_at i) ≡ true
-last-closes (asked r) e = by (nat_lt request_limit (came_size (WholeRequest r)))
+last-closes (asked r) e = by (nat_lt MAX_REQUEST_SIZE (came_size (WholeRequest r)))
   where
     by : (b : Bool) → closes (cond b (Bad Large) (WholeRequest r)) ≡ true
     by true = refl
     by false = e
-last-closes (bad kind) e = by (nat_lt request_limit (came_size (Bad kind)))
+last-closes (bad kind) e = by (nat_lt MAX_REQUEST_SIZE (came_size (Bad kind)))
   where
     by : (b : Bool) → closes (cond b (Bad Large) (Bad kind)) ≡ true
     by true = refl

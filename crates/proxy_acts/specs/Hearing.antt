@@ -2,11 +2,10 @@
 use Rattle.std.specs.Prelude.{◌≡◌, ◌⊎◌, ⊤, ℕ, ◌+◌, ◌≤◌, ◌<◌, Bool, true, false, ◌&&◌, nat_lt}
 use Rattle.std.specs.Prelude.{List, [], ◌∷◌, ◌++◌, length, count_by, Some}
 use Rattle.std.specs.List.{AllByRecursion}
+use Rattle.limits.specs.declared.TheConstants.{EXCHANGE_LIFETIME, MAX_DATAGRAM_LEN, MAX_REMEMBERED}
 use Rattle.uri_map.specs.declared.peer.Peer.{Peer}
 use Rattle.ask_model.specs.Requests.{same_peer}
 use Rattle.journal_book.specs.Entries.{Deed, Sends, Hears, Passes, Written}
-use Rattle.history_laws.specs.Limits.{datagram_limit}
-use Rattle.whole_history.specs.Limits.{heard_limit, exchange_lifetime}
 use Rattle.core_steps.specs.State.{State}
 use Rattle.core_steps.specs.Calls.{something_due}
 use Rattle.core_steps.specs.Growing.{at_moment}
@@ -46,21 +45,21 @@ IsStranger p h = AllByRecursion (λ (w : Written). IsSentElsewhere p w.deed) h
 -- In the last 247 seconds as many datagrams came in from the endpoint as can be remembered (RFC
 -- 7252 section 4.5).
 abbrev pub came_lately : ℕ → Peer → ℕ → Deed → Bool
-came_lately t p s (Hears q bytes) = same_peer q p && nat_lt t (s + exchange_lifetime)
+came_lately t p s (Hears q bytes) = same_peer q p && nat_lt t (s + EXCHANGE_LIFETIME)
 came_lately t p s _ = false
 
 abbrev pub is_recent_from : ℕ → Peer → Written → Bool
 is_recent_from t p w = came_lately t p w.moment w.deed
 
 abbrev pub IsCrowded : ℕ → Peer → List Written → Type 0
-IsCrowded t p h = heard_limit ≤ count_by (is_recent_from t p) h
+IsCrowded t p h = MAX_REMEMBERED ≤ count_by (is_recent_from t p) h
 
 -- Why a datagram is dropped: the journal takes nothing more; no message was ever sent to the
 -- endpoint; it is too long; or no more of the endpoint's can be remembered.
 abbrev pub IsDropped : ℕ → Peer → List ℕ → State → State → Type 0
 IsDropped t p bytes S S1 =
     (S1.sealed ≡ true)
-    ⊎ (IsStranger p S.entries ⊎ ((datagram_limit < length bytes) ⊎ IsCrowded t p S.entries))
+    ⊎ (IsStranger p S.entries ⊎ ((MAX_DATAGRAM_LEN < length bytes) ⊎ IsCrowded t p S.entries))
 
 -- The datagram stands in the entries that it brings, first of them, or was dropped.
 abbrev pub IsHeard : ℕ → Peer → List ℕ → State → State → List Written → Type 0

@@ -8,6 +8,7 @@ use Rattle.std.specs.declared.net.ipv4_addr.Ipv4Addr.{Ipv4Addr}
 use Rattle.std.specs.declared.net.ipv6_addr.Ipv6Addr.{Ipv6Addr}
 use Rattle.std.specs.declared.net.ip_addr.IpAddr.{IpAddr}
 use Rattle.std.specs.declared.net.ip_addr.IpAddr.TheVariants as Ip
+use Rattle.limits.specs.declared.TheConstants.{MAX_BODY_LEN}
 use Rattle.toml.specs.Data.{Data, as_str, as_integer}
 use Rattle.uri_map.specs.declared.peer.Peer.{Peer}
 pub use Rattle.uri_map.specs.Authority.{ipv4_of, ipv6_of}
@@ -95,4 +96,4 @@ kind_at d = option_and_then kind_named (as_str d)
 
 -- at most 65,536 bytes
 abbrev pub is_state : List ℕ → Bool
-is_state text = nat_le (length text) 65536
+is_state text = nat_le (length text) MAX_BODY_LEN

@@ -11,6 +11,7 @@ use crate::by::By;
 use crate::fault::{Why, Wrong};
 use crate::kind::Kind;
 use crate::values::{address_of, is_base, is_host, is_media, up_to};
+use limits::MAX_BODY_LEN;
 use std::net::IpAddr;
 use toml::{Table, Value};
 use uri_map::{Peer, peer_at};
@@ -183,7 +184,7 @@ pub(crate) fn state<'t>(table: &'t Table, key: &str) -> Result<&'t str, Wrong>
         Some(value) => match value.as_str() {
             None => Err(Wrong::at(key, Why::NotText)),
             Some(text) => {
-                if text.len() <= 65536 {
+                if text.len() <= MAX_BODY_LEN {
                     Ok(text)
                 } else {
                     Err(Wrong::at(key, Why::TooLong))

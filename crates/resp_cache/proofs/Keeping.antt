@@ -6,9 +6,10 @@ use Rattle.std.proofs.lemmas.Bool.{cases_lt}
 use Rattle.std.proofs.lemmas.List.Edits.{length-remove}
 use Rattle.std.proofs.lemmas.List.{length-take}
 use Rattle.std.proofs.lemmas.Option.{slice_get_read, slice_get_cases}
+use Rattle.limits.specs.declared.TheConstants.{MAX_STORED}
 use Rattle.cache_key.specs.Keys.{CacheKey}
 use Rattle.resp_cache.specs.Stored.{Stored, is_never_fresh}
-use Rattle.resp_cache.specs.Stores.{is_of, is_of_another, is_fresh_under, others, moved, placed, served, stored_in, store_limit, with_first, IsStore}
+use Rattle.resp_cache.specs.Stores.{is_of, is_of_another, is_fresh_under, others, moved, placed, served, stored_in, with_first, IsStore}
 use Rattle.resp_cache.specs.declared.pair.Pair.{Pair}
 use Rattle.resp_cache.proofs.Lists.{cut_at, find-at, find-nothing, length-filtered, none_dropped, none_passed, take_roomy}
 use Rattle.resp_cache.proofs.Apart.{apart-filtered, apart-placed, apart-taken, others-removed}
@@ -16,31 +17,31 @@ use Rattle.resp_cache.proofs.Apart.{apart-filtered, apart-placed, apart-taken, o
 pub store-filtered : (f : Pair → Bool) (ps : List Pair) → IsStore ps → IsStore (filter f ps)
 store-filtered f ps s = record { few = omega (arith, length-filtered f ps, s.few); apart = apart-filtered f ps s.apart }
 
-pub store-placed : (p : Pair) (ps : List Pair) → IsStore ps → IsStore (take store_limit (p ∷ others p.key ps))
+pub store-placed : (p : Pair) (ps : List Pair) → IsStore ps → IsStore (take MAX_STORED (p ∷ others p.key ps))
 store-placed p ps s = record {
-  few = omega (arith, length-take store_limit (p ∷ others p.key ps));
-  apart = apart-taken store_limit (p ∷ others p.key ps) (apart-placed p ps s.apart);
+  few = omega (arith, length-take MAX_STORED (p ∷ others p.key ps));
+  apart = apart-taken MAX_STORED (p ∷ others p.key ps) (apart-placed p ps s.apart);
 }
 
 -- where a pair was put, or none could be put
-pub store-put : {A E : Type 0} (r : Result A E) (p : Pair) (ps left news : List Pair) → IsStore ps → left ≡ others p.key ps → OnOk r (news ≡ take store_limit (p ∷ left)) → OnErr r (news ≡ left) → IsStore news
+pub store-put : {A E : Type 0} (r : Result A E) (p : Pair) (ps left news : List Pair) → IsStore ps → left ≡ others p.key ps → OnOk r (news ≡ take MAX_STORED (p ∷ left)) → OnErr r (news ≡ left) → IsStore news
 store-put (Ok x) p ps left news s is ok err =
     let P : List Pair → Type 0 = λ xs. IsStore xs in
-    subst P (sym (ok ∙ ap (λ xs. take store_limit (p ∷ xs)) is)) (store-placed p ps s)
+    subst P (sym (ok ∙ ap (λ xs. take MAX_STORED (p ∷ xs)) is)) (store-placed p ps s)
 store-put (Err e) p ps left news s is ok err =
     let P : List Pair → Type 0 = λ xs. IsStore xs in
     subst P (sym (err ∙ is)) (store-filtered (is_of_another p.key) ps s)
 
 -- Nothing has to be cut off from what a filter leaves.
-pub roomy-filtered : (f : Pair → Bool) (ps : List Pair) → IsStore ps → (take store_limit (filter f ps) ≡ filter f ps) × (drop store_limit (filter f ps) ≡ [])
-roomy-filtered f ps s = take_roomy store_limit (filter f ps) ((store-filtered f ps s).few)
+pub roomy-filtered : (f : Pair → Bool) (ps : List Pair) → IsStore ps → (take MAX_STORED (filter f ps) ≡ filter f ps) × (drop MAX_STORED (filter f ps) ≡ [])
+roomy-filtered f ps s = take_roomy MAX_STORED (filter f ps) ((store-filtered f ps s).few)
 
 -- a response that is never fresh
-pub put_never : (key : CacheKey) (stored : Stored) (ps left : List Pair) → IsStore ps → is_never_fresh stored ≡ true → left ≡ others key ps → (left ≡ take store_limit (placed key stored ps)) × ([] ≡ drop store_limit (placed key stored ps))
+pub put_never : (key : CacheKey) (stored : Stored) (ps left : List Pair) → IsStore ps → is_never_fresh stored ≡ true → left ≡ others key ps → (left ≡ take MAX_STORED (placed key stored ps)) × ([] ≡ drop MAX_STORED (placed key stored ps))
 put_never key stored ps left s never is =
     let roomy = roomy-filtered (is_of_another key) ps s in
     let same : placed key stored ps ≡ others key ps = rw never refl in
-    (is ∙ sym (ap (take store_limit) same ∙ roomy.0), sym (ap (drop store_limit) same ∙ roomy.1))
+    (is ∙ sym (ap (take MAX_STORED) same ∙ roomy.0), sym (ap (drop MAX_STORED) same ∙ roomy.1))
 
 -- Where no fewer are left, the key had no pair.
 unknown : (key : CacheKey) (ps : List Pair) → length ps ≤ length (others key ps) → (others key ps ≡ ps) × (find (is_of key) ps ≡ None)
@@ -65,7 +66,7 @@ moved-first ps left news i r s lt read is made =
     let apart : left ≡ others r.key ps = is ∙ others-removed ps i r s.apart lt read in
     let at : slice_get ps i ≡ Some r = slice_get_read ps (length ps) i r refl lt read in
     let list : news ≡ r ∷ others r.key ps = made ∙ ap (λ (qs : List Pair). r ∷ qs) apart in
-    let few : length (r ∷ others r.key ps) ≤ store_limit = omega (arith, length-remove ps i lt, ap length is, ap length apart, s.few) in
+    let few : length (r ∷ others r.key ps) ≤ MAX_STORED = omega (arith, length-remove ps i lt, ap length is, ap length apart, s.few) in
     let store : IsStore (r ∷ others r.key ps) = record { few = few; apart = apart-placed r ps s.apart } in
     let P : List Pair → Type 0 = λ xs. IsStore xs in
     (list ∙ sym (ap (λ (o : Option Pair). with_first o ps) at), subst P (sym list) store)

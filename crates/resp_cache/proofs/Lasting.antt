@@ -5,10 +5,11 @@ use Rattle.std.specs.Option.{option_map, option_to_list}
 use Rattle.std.proofs.lemmas.Bool.{and_parts, and_from, not-true, not_from_false}
 use Rattle.std.proofs.lemmas.List.Elements.{filter-append}
 use Rattle.std.proofs.lemmas.Map.Views.{any-filter_same}
+use Rattle.limits.specs.declared.TheConstants.{MAX_STORED}
 use Rattle.cache_key.specs.Keys.{CacheKey, same_key}
 use Rattle.cache_key.proofs.Told.{keys_decided}
 use Rattle.resp_cache.specs.Stored.{Stored, is_fresh, is_never_fresh}
-use Rattle.resp_cache.specs.Stores.{is_of, is_of_another, is_elsewhere, is_fresh_under, others, moved, placed, with_first, store_limit, KeysApart}
+use Rattle.resp_cache.specs.Stores.{is_of, is_of_another, is_elsewhere, is_fresh_under, others, moved, placed, with_first, KeysApart}
 use Rattle.resp_cache.specs.Uses.{Call, Get, Put, Retire, after, after_all, used_by, used, spares, is_among, TheLastUsedStay}
 use Rattle.resp_cache.specs.declared.pair.Pair.{Pair}
 use Rattle.resp_cache.proofs.Lists.{or_false, find-only, found, fewer, none_narrower, all_filtered, all_parts, take-front}
@@ -126,12 +127,12 @@ put false p keys qs key stored spared used_is s =
     let other : same_key p.key key ≡ false = not-true (same_key p.key key) spared in
     stays-placed p keys qs (record { key = key; stored = stored }) other (other_among p.key key keys (other_way p.key key other) used_is) s
 
-stays-after : (c : Call) (p : Pair) (keys : List CacheKey) (qs : List Pair) → spares p c ≡ true → list_all (is_among (p.key ∷ keys)) (option_to_list (used_by c qs)) ≡ true → length keys < store_limit → Stays p keys qs → Stays p keys (after c qs)
+stays-after : (c : Call) (p : Pair) (keys : List CacheKey) (qs : List Pair) → spares p c ≡ true → list_all (is_among (p.key ∷ keys)) (option_to_list (used_by c qs)) ≡ true → length keys < MAX_STORED → Stays p keys qs → Stays p keys (after c qs)
 stays-after (Get key t) p keys qs spared used_is few s = got (same_key key p.key) p keys qs key t refl used_is s
-stays-after (Put key stored) p keys qs spared used_is few s = stays-taken p keys (placed key stored qs) store_limit few (put (is_never_fresh stored) p keys qs key stored spared used_is s)
+stays-after (Put key stored) p keys qs spared used_is few s = stays-taken p keys (placed key stored qs) MAX_STORED few (put (is_never_fresh stored) p keys qs key stored spared used_is s)
 stays-after (Retire place) p keys qs spared used_is few s = stays-filtered p keys qs (is_elsewhere place) spared s
 
-stays-after_all : (calls : List Call) (p : Pair) (keys : List CacheKey) (qs : List Pair) → list_all (spares p) calls ≡ true → list_all (is_among (p.key ∷ keys)) (used calls qs) ≡ true → length keys < store_limit → Stays p keys qs → Stays p keys (after_all calls qs)
+stays-after_all : (calls : List Call) (p : Pair) (keys : List CacheKey) (qs : List Pair) → list_all (spares p) calls ≡ true → list_all (is_among (p.key ∷ keys)) (used calls qs) ≡ true → length keys < MAX_STORED → Stays p keys qs → Stays p keys (after_all calls qs)
 stays-after_all [] p keys qs spared used_is few s = s
 stays-after_all (c ∷ calls) p keys qs spared used_is few s =
     let a = and_parts (spares p c) (list_all (spares p) calls) spared in

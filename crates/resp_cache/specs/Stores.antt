@@ -1,14 +1,11 @@
 -- The pairs that are kept, the last used first, and what each call makes of them.
 use Rattle.std.specs.Prelude.{◌≡◌, ◌≤◌, ℕ, Bool, false, not, ◌&&◌, List, [], ◌∷◌, filter, find, length, Option, Some, None, option_map, if◌then◌else◌}
 use Rattle.std.specs.List.{list_any}
+use Rattle.limits.specs.declared.TheConstants.{MAX_STORED}
 use Rattle.cache_key.specs.Keys.{CacheKey, same_key, same_place}
 use Rattle.cache_key.specs.declared.place.Place.{Place}
 use Rattle.resp_cache.specs.Stored.{Stored, is_fresh, is_never_fresh}
 use Rattle.resp_cache.specs.declared.pair.Pair.{Pair}
-
--- so many pairs are kept
-abbrev pub store_limit : ℕ
-store_limit = 256
 
 abbrev pub is_of : CacheKey → Pair → Bool
 is_of key p = same_key p.key key
@@ -27,7 +24,7 @@ KeysApart (p ∷ ps) = (list_any (is_of p.key) ps ≡ false) × KeysApart ps
 
 -- At most so many pairs are kept, and one for each key.
 pub record IsStore (ps : List Pair) : Type 0 where
-  pub few : length ps ≤ store_limit
+  pub few : length ps ≤ MAX_STORED
   pub apart : KeysApart ps
 
 abbrev pub is_fresh_under : CacheKey → ℕ → Pair → Bool

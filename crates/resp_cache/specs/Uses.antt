@@ -2,10 +2,11 @@
 use Rattle.std.specs.Prelude.{◌≡◌, ◌<◌, ℕ, Bool, true, List, [], ◌∷◌, ◌++◌, filter, find, length, take, Option, Some, None, option_map, if◌then◌else◌}
 use Rattle.std.specs.List.{list_all, list_any}
 use Rattle.std.specs.Option.{option_to_list}
+use Rattle.limits.specs.declared.TheConstants.{MAX_STORED}
 use Rattle.cache_key.specs.Keys.{CacheKey, same_key}
 use Rattle.cache_key.specs.declared.place.Place.{Place}
 use Rattle.resp_cache.specs.Stored.{Stored, is_fresh, is_never_fresh}
-use Rattle.resp_cache.specs.Stores.{KeysApart, is_elsewhere, is_fresh_under, is_of_another, moved, placed, served, store_limit}
+use Rattle.resp_cache.specs.Stores.{KeysApart, is_elsewhere, is_fresh_under, is_of_another, moved, placed, served}
 use Rattle.resp_cache.specs.declared.pair.Pair.{Pair}
 
 pub data Call : Type 0 where
@@ -16,7 +17,7 @@ pub data Call : Type 0 where
 -- the pairs after a call
 abbrev pub after : Call → List Pair → List Pair
 after (Get key t) ps = moved key t ps
-after (Put key s) ps = take store_limit (placed key s ps)
+after (Put key s) ps = take MAX_STORED (placed key s ps)
 after (Retire place) ps = filter (is_elsewhere place) ps
 
 abbrev pub after_all : List Call → List Pair → List Pair
@@ -50,6 +51,6 @@ TheLastUsedStay =
     → KeysApart (p ∷ ps)
     → list_all (spares p) calls ≡ true
     → list_all (is_among (p.key ∷ others)) (used calls (p ∷ ps)) ≡ true
-    → length others < store_limit
+    → length others < MAX_STORED
     → is_fresh t p.stored ≡ true
     → served p.key t (after_all calls (p ∷ ps)) ≡ Some p.stored

@@ -2,14 +2,12 @@
 
 ghost use Rattle.std.specs.Prelude.{◌≡◌, ◌+◌, ◌<◌, ◌≤◌, ◌∷◌, drop, filter, find, length, position, slice_get, take, vec_capacity, vec_len, IfOk, OnErr, OnOk};
 ghost use Rattle.std.specs.Option.{option_copied, option_to_list};
-ghost use Rattle.resp_cache.specs.Stores.{IsStore, is_elsewhere, is_fresh_under, is_stale_under, others, store_limit, with_first};
+ghost use Rattle.resp_cache.specs.Stores.{IsStore, is_elsewhere, is_fresh_under, is_stale_under, others, with_first};
 
 use crate::pair::Pair;
 use cache_key::{Key, Place};
+use limits::MAX_STORED;
 use std::alloc::{AllocError, Global};
-
-/// How many pairs are kept.
-const LIMIT: usize = 256;
 
 /// The place of the key's pair, if its response is fresh.
 pub fn fresh_place(pairs: &[Pair], key: &Key, moment: u64) -> Option<usize>
@@ -65,13 +63,13 @@ pub fn move_first(pairs: &mut Vec<Pair>, place: usize)
 
 /// Puts a pair in front. Where that is one too many, the last one goes and is answered.
 pub fn put_first(pairs: &mut Vec<Pair>, pair: Pair) -> Result<Option<Pair>, AllocError>
-    requires { length pairs.old.items ≤ store_limit }
-    ensures kept { OnOk result (pairs.new.items ≡ take store_limit (pair ∷ pairs.old.items)) }
-    ensures gone { IfOk result (λ e. option_to_list e ≡ drop store_limit (pair ∷ pairs.old.items)) }
+    requires { length pairs.old.items ≤ MAX_STORED }
+    ensures kept { OnOk result (pairs.new.items ≡ take MAX_STORED (pair ∷ pairs.old.items)) }
+    ensures gone { IfOk result (λ e. option_to_list e ≡ drop MAX_STORED (pair ∷ pairs.old.items)) }
     ensures unchanged { OnErr result (pairs.new.items ≡ pairs.old.items) }
     ensures full { OnErr result (vec_capacity pairs.old ≤ vec_len pairs.old) }
 {
-    let gone = if pairs.len() < LIMIT {
+    let gone = if pairs.len() < MAX_STORED {
         pairs.reserve(1)?;
         None
     } else {

@@ -3,8 +3,9 @@
 ghost use Rattle.std.specs.Prelude.{◌≡◌, ◌==◌, [], drop, filter, find, length, take, IfOk, None, OnErr, OnOk, false};
 ghost use Rattle.std.specs.Borrow.{sem};
 ghost use Rattle.std.specs.Option.{option_copied, option_to_list};
+ghost use Rattle.limits.specs.declared.TheConstants.{MAX_STORED};
 ghost use Rattle.resp_cache.specs.Stored.{is_never_fresh};
-ghost use Rattle.resp_cache.specs.Stores.{IsStore, is_of, is_elsewhere, placed, served, stale_under, store_limit};
+ghost use Rattle.resp_cache.specs.Stores.{IsStore, is_of, is_elsewhere, placed, served, stale_under};
 
 use crate::pair::Pair;
 use crate::pairs::{
@@ -83,9 +84,9 @@ impl Store {
     /// is one too many. A response whose Max-Age is 0 isn't stored, and takes the key's pair out. Memory
     /// may be wanted for a key that has no pair.
     pub fn put(&mut self, key: Key, stored: StoredResponse) -> Result<Option<Pair>, AllocError>
-        ensures kept { OnOk result (self.new ≡ take store_limit (placed key stored self.old)) }
+        ensures kept { OnOk result (self.new ≡ take MAX_STORED (placed key stored self.old)) }
         ensures evicted { IfOk result
-            (λ e. option_to_list e ≡ drop store_limit (placed key stored self.old)) }
+            (λ e. option_to_list e ≡ drop MAX_STORED (placed key stored self.old)) }
         ensures unchanged { OnErr result (self.new ≡ self.old) }
         ensures new_key { OnErr result (find (is_of key) self.old ≡ None) }
         ensures storable { OnErr result (is_never_fresh stored ≡ false) }

@@ -3,6 +3,7 @@ use Rattle.std.specs.Prelude.{◌≡◌, ◌++◌, ◌∷◌, ℕ, List, Contain
 use Rattle.std.specs.Fn.{CalledAt}
 use Rattle.std.specs.declared.alloc.Global.{Global}
 use Rattle.std.specs.declared.vec.Vec.{Vec}
+use Rattle.limits.specs.declared.TheConstants.{MAX_BODY_LEN}
 use Rattle.media_map.specs.declared.form.Form.{Form}
 use Rattle.transformers.specs.declared.apply_fault.ApplyFault.{ApplyFault}
 use Rattle.transformers.specs.declared.apply_fault.ApplyFault.TheVariants as fault
@@ -48,7 +49,7 @@ pub record IsFirstFor {R X : Type 0} {F : X → Type 0} {g : _} (stored : List (
 
 -- a bank's answer, from that of the transformer
 abbrev pub passed_on : Result (Vec ℕ Global) Refused → Result (Option (Vec ℕ Global)) ApplyFault
-passed_on (Ok v) = if ltb 65536 (length v.items) then Err fault.TooLarge else Ok (Some v)
+passed_on (Ok v) = if ltb MAX_BODY_LEN (length v.items) then Err fault.TooLarge else Ok (Some v)
 passed_on (Err Content) = Err fault.Refused
 passed_on (Err Memory) = Err fault.Memory
 

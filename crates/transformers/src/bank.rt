@@ -5,12 +5,11 @@ use crate::apply_fault::ApplyFault;
 use crate::refused::Refused;
 use crate::relation::Relation;
 use crate::stored::Stored;
+use limits::MAX_BODY_LEN;
 use media_map::{Form, Routes};
 use std::alloc::AllocError;
 
 // The most bytes that a transformer's output may have.
-const LARGEST: usize = 65_536;
-
 /// Transformers in order. Of several for one pair the first counts.
 #[derive(Drop)]
 pub struct Bank<R: Relation> {
@@ -45,11 +44,12 @@ impl<R: Relation> Bank<R> {
 
         ensures none { (result ≡ Ok None) ↔ (¬ Contains (map pair_of self.now.stored.items) (from.now, to.now)) }
         ensures holds { IfOk result (λ o. IfSome o (λ v. R.holds from.now to.now input.now v.items)) }
-        ensures small { IfOk result (λ o. IfSome o (λ v. length v.items ≤ 65536)) }
+        ensures small { IfOk result (λ o. IfSome o (λ v. length v.items ≤ MAX_BODY_LEN)) }
 
         // When each fault comes.
         ensures refused { IsErrOf result ApplyFault.Refused → ¬ R.takes from.now to.now input.now }
-        ensures too_large { IsErrOf result ApplyFault.TooLarge → ((v : List ℕ) × R.holds from.now to.now input.now v × (65536 < length v)) }
+        ensures too_large { IsErrOf result ApplyFault.TooLarge
+            → ((v : List ℕ) × R.holds from.now to.now input.now v × (MAX_BODY_LEN < length v)) }
 
         // Any other answer than None is that of the first transformer for the pair.
         ensures first { (¬ (result ≡ Ok None)) → IsFromFirst self.now.stored.items from.now to.now input.now result }
@@ -58,7 +58,7 @@ impl<R: Relation> Bank<R> {
             return Ok(None);
         };
         match first.answer(input) {
-            Ok(v) if v.len() > LARGEST => Err(ApplyFault::TooLarge),
+            Ok(v) if v.len() > MAX_BODY_LEN => Err(ApplyFault::TooLarge),
             Ok(v) => Ok(Some(v)),
             Err(Refused::Content) => Err(ApplyFault::Refused),
             Err(Refused::Memory) => Err(ApplyFault::Memory),

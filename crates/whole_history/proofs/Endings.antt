@@ -1,6 +1,7 @@
 -- The worked journals of how exchanges end.
 use Rattle.std.proofs.Common.{◌≡◌, ℕ, ◌<◌, ◌≤◌, inl, List, refl, lit≤, lit<}
 use Rattle.std.specs.Prelude.{Some}
+use Rattle.limits.specs.declared.TheConstants.{MAX_RETRANSMIT}
 use Rattle.coap_codec.specs.declared.message.MsgType.TheVariants.{Rst}
 use Rattle.coap_codec.specs.Spelling.{Spells}
 use Rattle.coap_codec.specs.Reading.{message_at}
@@ -8,7 +9,6 @@ use Rattle.coap_codec.specs.Reading as X
 use Rattle.journal_book.specs.Entries.{Sends}
 use Rattle.history_laws.specs.Confirming.{empty}
 use Rattle.whole_history.specs.Readings.{Noted, First, at, ticked}
-use Rattle.whole_history.specs.Limits.{copy_limit}
 use Rattle.whole_history.specs.Transmissions.{transmission, due}
 use Rattle.whole_history.specs.Justified.{Legal, MayBeCopy}
 use Rattle.whole_history.specs.Worked.{Holds, noted, server, empty_rst}
@@ -73,7 +73,7 @@ rejected-holds = (legal-rejected, at-rest _ refl)
 
 -- a copy of the GET's message
 get-copy : (l : List Noted) (copies last : ℕ) → at l 2 ≡ Some (noted 0 (Sends server get_bytes (Some 2000)) (First 1 get_message))
-    → transmission l 2 ≡ Some (record { timeout = 2000; copies = copies; last = last }) → copies < copy_limit
+    → transmission l 2 ≡ Some (record { timeout = 2000; copies = copies; last = last }) → copies < MAX_RETRANSMIT
     → due (record { timeout = 2000; copies = copies; last = last }) ≤ ticked l → MayBeCopy l 2 server get_bytes
 get-copy l copies last stands way few late =
     record {

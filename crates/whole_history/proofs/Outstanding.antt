@@ -3,6 +3,7 @@ use Rattle.std.proofs.Common.{◌≡◌, ℕ, ◌<◌, ◌≤◌, ◌⊎◌, Boo
 use Rattle.std.specs.Prelude.{option_map}
 use Rattle.std.proofs.lemmas.Bool.Decides.{eqb_tells}
 use Rattle.std.proofs.lemmas.Bool.{false≢true}
+use Rattle.limits.specs.declared.TheConstants.{MAX_RETRANSMIT}
 use Rattle.coap_codec.specs.Spelling.{Content}
 use Rattle.uri_map.specs.declared.peer.Peer.{Peer}
 use Rattle.ask_model.specs.Requests.{same_peer}
@@ -10,7 +11,6 @@ use Rattle.ask_model.proofs.Endpoints.{same_peer-same, same_peer-itself}
 use Rattle.journal_book.specs.Entries.{Deed, Sends, Hears, Passes}
 use Rattle.whole_history.specs.Readings.{Noted, Note, First, Copies, Says}
 use Rattle.whole_history.specs.Transmissions.{FirstSending, last_sent, Transmission, begun_way, copied_way, given_up, transmission_by, transmission, outstanding}
-use Rattle.whole_history.specs.Limits.{copy_limit}
 use Rattle.whole_history.specs.Justified.{MayBeFirst, MayBeCopy, Follows, Legal}
 use Rattle.whole_history.specs.Laws.{IsFirst}
 use Rattle.whole_history.specs.Worked.{noted}
@@ -136,7 +136,7 @@ one-outstanding l s t o i q j p m n legal f g e h =
 
 -- few copies, and a timeout of two seconds or more
 pub record Sound (y : Transmission) : Type 0 where
-  pub few : y.copies ≤ copy_limit
+  pub few : y.copies ≤ MAX_RETRANSMIT
   pub least : 2000 ≤ y.timeout
 
 may-copy : (x : Noted) (l : List Noted) (t i : ℕ) (p : Peer) (b : List ℕ) (w : Option ℕ) → Follows l x.written.moment x.written.deed x.note
@@ -152,7 +152,7 @@ sound-first l t o p b m w may =
 sound-copy : (l : List Noted) (t i : ℕ) (p : Peer) (b : List ℕ) (y : Transmission) → MayBeCopy l i p b → transmission l i ≡ Some y → Sound y
     → Sound (copied_way t y)
 sound-copy l t i p b y may e h =
-    let few = subst (λ (v : Transmission). v.copies < copy_limit) (some-is _ _ (sym may.is_outstanding ∙ e)) may.few in
+    let few = subst (λ (v : Transmission). v.copies < MAX_RETRANSMIT) (some-is _ _ (sym may.is_outstanding ∙ e)) may.few in
     record { few = omega (arith, few); least = h.least }
 
 pub sound : (l : List Noted) (i : ℕ) (y : Transmission) → Legal l → transmission l i ≡ Some y → Sound y
@@ -166,5 +166,5 @@ sound (x ∷ older) i y legal e =
       | inr (inr v) ↦ sound older i y legal.0 v
     ]
 
-pub few-copies : (l : List Noted) (i : ℕ) (y : Transmission) → Legal l → transmission l i ≡ Some y → y.copies ≤ copy_limit
+pub few-copies : (l : List Noted) (i : ℕ) (y : Transmission) → Legal l → transmission l i ≡ Some y → y.copies ≤ MAX_RETRANSMIT
 few-copies l i y legal e = (sound l i y legal e).few

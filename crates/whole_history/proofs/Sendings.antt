@@ -5,12 +5,12 @@ use Rattle.std.specs.Str.{bytes_eq}
 use Rattle.std.proofs.lemmas.Bool.Decides.{eqb_tells}
 use Rattle.std.proofs.lemmas.Bool.{false≢true, ltb-false}
 use Rattle.std.proofs.lemmas.Slice.Eq.{bytes_eq-Decides}
+use Rattle.limits.specs.declared.TheConstants.{MESSAGE_ID_LIFETIME}
 use Rattle.coap_codec.specs.Spelling.{Content}
 use Rattle.uri_map.specs.declared.peer.Peer.{Peer}
 use Rattle.journal_book.specs.Entries.{Deed, Sends}
 use Rattle.whole_history.specs.Readings.{Noted, Note, First}
 use Rattle.whole_history.specs.Transmissions.{FirstSending, firsts_by, firsts, bears_token, bears_mid, is_recent}
-use Rattle.whole_history.specs.Limits.{mid_lifetime}
 use Rattle.whole_history.specs.Justified.{MayBeFirst, Follows, Legal}
 use Rattle.whole_history.specs.Laws.{IsFirst}
 use Rattle.ask_model.proofs.Endpoints.{same_peer-itself}
@@ -80,17 +80,17 @@ tokens-apart (x ∷ older) s t o i q j p r m n legal f g e =
 
 -- A first sending with this ID, to this peer, less than 494 seconds ago, is found among those that are recent.
 bears-id : (l : List Noted) (s t o i : ℕ) (p : Peer) (m : Content) (mid : ℕ) → IsFirst l s o i p m → m.mid ≡ mid
-    → ltb t (s + mid_lifetime) ≡ true → bears_mid l t p mid ≡ true
+    → ltb t (s + MESSAGE_ID_LIFETIME) ≡ true → bears_mid l t p mid ≡ true
 bears-id l s t o i p m mid f e recent =
     any-first (λ (f : FirstSending). is_recent t p f && (eqb f.message.mid mid)) l s o i p m f
     (rw (same_peer-itself p, recent) (elim (eqb_tells m.mid mid) [ inl w ↦ w.0 | inr w ↦ absurd (w.1 e) ]))
 
-new-id : (b : Bool) (s t : ℕ) → ltb t (s + mid_lifetime) ≡ b → (b ≡ true → ⊥) → s + mid_lifetime ≤ t
+new-id : (b : Bool) (s t : ℕ) → ltb t (s + MESSAGE_ID_LIFETIME) ≡ b → (b ≡ true → ⊥) → s + MESSAGE_ID_LIFETIME ≤ t
 new-id true s t e never = absurd (never refl)
-new-id false s t e never = let h = ltb-false t (s + mid_lifetime) e in omega (arith, h)
+new-id false s t e never = let h = ltb-false t (s + MESSAGE_ID_LIFETIME) e in omega (arith, h)
 
 pub ids-apart : (l : List Noted) (s t o i q j : ℕ) (p : Peer) (m n : Content) → Legal l
-    → IsFirst l s o i p m → IsFirst l t q j p n → m.mid ≡ n.mid → i < j → s + mid_lifetime ≤ t
+    → IsFirst l s o i p m → IsFirst l t q j p n → m.mid ≡ n.mid → i < j → s + MESSAGE_ID_LIFETIME ≤ t
 ids-apart [] s t o i q j p m n legal f g e lt = cc (f.stands)
 ids-apart (x ∷ older) s t o i q j p m n legal f g e lt =
     elim (IsFirst-old x older s o i p m f) [
@@ -101,7 +101,7 @@ ids-apart (x ∷ older) s t o i q j p m n legal f g e lt =
       | inr u ↦ elim (IsFirst-old x older t q j p n g) [
         | inl v ↦
             let apart = (may-be x older t q p _ _ n legal.2 v.1.2).mid_apart in
-            new-id (ltb t (s + mid_lifetime)) s t refl (λ recent. false≢true (sym apart ∙ bears-id older s t o i p m n.mid u e recent))
+            new-id (ltb t (s + MESSAGE_ID_LIFETIME)) s t refl (λ recent. false≢true (sym apart ∙ bears-id older s t o i p m n.mid u e recent))
         | inr v ↦ ids-apart older s t o i q j p m n legal.0 u v e lt
       ]
     ]

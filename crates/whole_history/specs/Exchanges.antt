@@ -2,6 +2,7 @@
 use Rattle.std.specs.Prelude.{ℕ, ◌+◌, Bool, false, ◌&&◌, ◌||◌, List, [], ◌∷◌, ◌++◌, length, filter, filter_map, Option, Some, None, is_none, ◌==◌, nat_le, if◌then◌else◌}
 use Rattle.std.specs.Option.{option_map_or}
 use Rattle.std.specs.List.{list_all}
+use Rattle.limits.specs.declared.TheConstants.{MAX_TRANSMIT_WAIT}
 use Rattle.coap_codec.specs.declared.message.MsgType.{MsgType}
 use Rattle.coap_codec.specs.declared.message.MsgType.TheVariants.{Rst}
 use Rattle.coap_codec.specs.Spelling.{Content}
@@ -9,7 +10,6 @@ use Rattle.uri_map.specs.declared.peer.Peer.{Peer}
 use Rattle.ask_model.specs.Requests.{CoapRequest, same_peer}
 use Rattle.journal_book.specs.Entries.{Deed, Sends, Hears, Passes}
 use Rattle.whole_history.specs.Readings.{Noted, Note, Begins, First, Says}
-use Rattle.whole_history.specs.Limits.{max_transmit_wait}
 use Rattle.whole_history.specs.Progress.{Reply, Ending, Reset, TimedOut, progress, ended_by}
 use Rattle.whole_history.specs.Transmissions.{transmission, given_up}
 
@@ -42,7 +42,7 @@ openings (x ∷ older) = opened_by (length older) (opens_by x.note) (openings ol
 
 -- it has been open for as long as it may
 abbrev pub late_by : ℕ → Begun → Bool
-late_by t b = nat_le (b.since + max_transmit_wait) t
+late_by t b = nat_le (b.since + MAX_TRANSMIT_WAIT) t
 
 abbrev pub is_late : ℕ → Option Begun → Bool
 is_late t b = option_map_or (late_by t) b false

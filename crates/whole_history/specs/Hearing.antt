@@ -1,15 +1,14 @@
 -- What a datagram is: what it repeats, and which first sending it answers.
 use Rattle.std.specs.Prelude.{ℕ, ◌+◌, Bool, true, false, not, ◌&&◌, ◌||◌, List, [], ◌∷◌, ◌++◌, length, find, Option, Some, None, option_map, option_to_list, ◌==◌, nat_le, nat_lt, if◌then◌else◌}
 use Rattle.std.specs.Str.{bytes_eq}
+use Rattle.limits.specs.declared.TheConstants.{EXCHANGE_LIFETIME, MAX_EXCHANGES, MAX_MESSAGE_IDS, MAX_REMEMBERED, MAX_WAITING}
 use Rattle.coap_codec.specs.declared.message.MsgType.{MsgType}
 use Rattle.coap_codec.specs.declared.message.MsgType.TheVariants.{Con, Non, Ack, Rst}
 use Rattle.coap_codec.specs.Spelling.{Content}
 use Rattle.uri_map.specs.declared.peer.Peer.{Peer}
 use Rattle.ask_model.specs.Requests.{CoapRequest, same_peer}
 use Rattle.journal_book.specs.Entries.{Deed, Hears}
-use Rattle.history_laws.specs.Limits.{exchange_limit}
 use Rattle.whole_history.specs.Readings.{Noted, Note, Says, Notice, Unobserved}
-use Rattle.whole_history.specs.Limits.{waiting_limit, mid_limit, heard_limit, exchange_lifetime}
 use Rattle.whole_history.specs.Transmissions.{FirstSending, first_at, outstanding, mids_used}
 use Rattle.whole_history.specs.Exchanges.{open_exchanges, awaited, waiting}
 
@@ -22,7 +21,7 @@ is_such _ = false
 
 abbrev pub is_live : ℕ → Peer → ℕ → Deed → Note → Bool
 is_live t p s (Hears q b) (Says m to notice) =
-    is_such m.kind && (same_peer q p && nat_lt t (s + exchange_lifetime))
+    is_such m.kind && (same_peer q p && nat_lt t (s + EXCHANGE_LIFETIME))
 is_live t p s _ _ = false
 
 abbrev pub bears : ℕ → Note → Bool
@@ -49,7 +48,7 @@ live_heard (x ∷ older) t p =
     else live_heard older t p
 
 abbrev pub can_be_remembered : List Noted → ℕ → Peer → Content → Bool
-can_be_remembered l t p m = not (is_such m.kind) || nat_lt (live_heard l t p) heard_limit
+can_be_remembered l t p m = not (is_such m.kind) || nat_lt (live_heard l t p) MAX_REMEMBERED
 
 -- the first sending with this number went to the peer under the token, or with the ID
 abbrev pub went_under : Peer → List ℕ → Option FirstSending → Bool
@@ -92,6 +91,6 @@ notice_of l t m to = Unobserved
 -- peer, and a message ID.
 abbrev pub has_room : List Noted → ℕ → CoapRequest → Bool
 has_room l t q =
-    nat_lt (length (open_exchanges l)) exchange_limit
-    && (nat_lt (length (waiting l q.peer)) waiting_limit
-    && nat_lt (mids_used l t q.peer + length (waiting l q.peer)) mid_limit)
+    nat_lt (length (open_exchanges l)) MAX_EXCHANGES
+    && (nat_lt (length (waiting l q.peer)) MAX_WAITING
+    && nat_lt (mids_used l t q.peer + length (waiting l q.peer)) MAX_MESSAGE_IDS)

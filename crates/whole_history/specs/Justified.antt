@@ -2,6 +2,7 @@
 use Rattle.std.specs.Prelude.{◌≡◌, ◌⊎◌, ℕ, ◌<◌, ◌≤◌, Bool, true, false, not, ◌||◌, List, [], ◌∷◌, length, slice_get, Option, Some, None, is_some, nat_lt, ⊤}
 use Rattle.std.specs.Option.{option_map_or}
 use Rattle.std.specs.List.{list_all, range_with_len}
+use Rattle.limits.specs.declared.TheConstants.{ACK_TIMEOUT, LONGEST_ACK_TIMEOUT, MAX_DATAGRAM_LEN, MAX_RETRANSMIT}
 use Rattle.coap_codec.specs.Spelling.{Content, Spells}
 use Rattle.uri_map.specs.declared.peer.Peer.{Peer}
 use Rattle.ask_model.specs.Requests.{CoapRequest, Sense, Requests, Refuses}
@@ -11,10 +12,8 @@ use Rattle.ask_model.specs.declared.cause.Cause.TheVariants as C
 use Rattle.journal_book.specs.Entries.{Grounds, Live, Kept, Fault, Deed, Opens, Asks, Sends, Hears, Passes, Answers, Shuts, Seals, Written}
 use Rattle.history_laws.specs.Responses.{Response}
 use Rattle.history_laws.specs.Confirming.{empty, Confirmation}
-use Rattle.history_laws.specs.Limits.{datagram_limit}
 use Rattle.history_laws.specs.Justified.{IsRefusal}
 use Rattle.whole_history.specs.Readings.{Noted, Note, Plain, Begins, First, Copies, Confirms, Says, Repeats, Garbled, entries, at, newest, ticked}
-use Rattle.whole_history.specs.Limits.{least_timeout, greatest_timeout, copy_limit}
 use Rattle.whole_history.specs.Connections.{is_open, asks_of, answers_of, is_sealed, opened}
 use Rattle.whole_history.specs.Progress.{Reply, numbers, Ending, Whole, NotUnderstood, Reset, TimedOut, progress, next_message}
 use Rattle.whole_history.specs.Transmissions.{FirstSending, firsts, sent_last, last_sent, bears_token, bears_mid, Transmission, transmission, due, outstanding}
@@ -115,8 +114,8 @@ pub record MayBeFirst
   pub mid_apart : bears_mid l t p m.mid ≡ false
   pub wait : ℕ
   pub first_wait : timeout ≡ Some wait
-  pub least : least_timeout ≤ wait
-  pub greatest : wait ≤ greatest_timeout
+  pub least : ACK_TIMEOUT ≤ wait
+  pub greatest : wait ≤ LONGEST_ACK_TIMEOUT
 
 -- What a copy owes: the message is outstanding, four copies weren't sent, and a tick saw that one is
 -- due.
@@ -129,7 +128,7 @@ pub record MayBeCopy (l : List Noted) (i : ℕ) (p : Peer) (bytes : List ℕ) : 
   pub stands : at l i
       ≡ Some (record { written = record { moment = moment; deed = Sends p bytes timeout }; note = First opening message })
   pub is_outstanding : transmission l i ≡ Some way
-  pub few : way.copies < copy_limit
+  pub few : way.copies < MAX_RETRANSMIT
   pub is_due : due way ≤ ticked l
 
 -- the ACK or RST that is owed
@@ -224,7 +223,7 @@ Follows l t (Asks c a) note =
 Follows l t (Sends p bytes w) note = (is_sealed l ≡ false) × SentNote l t p bytes w note
 -- It comes from a peer that something was sent to.
 Follows l t (Hears p bytes) note =
-    MayCome l × (length bytes ≤ datagram_limit) × (is_some (last_sent l p) ≡ true)
+    MayCome l × (length bytes ≤ MAX_DATAGRAM_LEN) × (is_some (last_sent l p) ≡ true)
     × HeardNote l t p bytes note
 Follows l t Passes note = MayCome l × IsPlain note
 -- The n-th answer of a connection is to its n-th ask.

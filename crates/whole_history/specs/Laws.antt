@@ -1,6 +1,7 @@
 -- What holds of every legal reading of a history.
 use Rattle.std.specs.Prelude.{◌≡◌, ◌≢◌, ◌↔◌, ◌⊎◌, ℕ, ◌+◌, ◌<◌, ◌≤◌, true, false, List, length, take, Option, Some, None, is_some, ⊤}
 use Rattle.std.specs.List.{Contains}
+use Rattle.limits.specs.declared.TheConstants.{MAX_RETRANSMIT, MESSAGE_ID_LIFETIME}
 use Rattle.coap_codec.specs.declared.message.MsgType.{MsgType}
 use Rattle.coap_codec.specs.declared.message.MsgType.TheVariants.{Con, Non, Ack, Rst}
 use Rattle.coap_codec.specs.Spelling.{Content, Spells}
@@ -12,7 +13,6 @@ use Rattle.ask_model.specs.Views.{Ask}
 use Rattle.journal_book.specs.Entries.{Grounds, Live, Fault, Deed, Sends, Hears, Passes, Answers, Shuts}
 use Rattle.history_laws.specs.Confirming.{empty}
 use Rattle.whole_history.specs.Readings.{Noted, Note, First, Copies, Says, Notice, at, before, ticked}
-use Rattle.whole_history.specs.Limits.{mid_lifetime, copy_limit}
 use Rattle.whole_history.specs.Connections.{is_open, asks_of, answers_of, is_sealed}
 use Rattle.whole_history.specs.Progress.{Reply, Ending}
 use Rattle.whole_history.specs.Transmissions.{FirstSending, Transmission, transmission, due, outstanding}
@@ -36,7 +36,8 @@ TokensApart =
 abbrev pub IdsApart : Type 0
 IdsApart =
     (l : List Noted) (s t o i q j : ℕ) (p : Peer) (m n : Content) → Legal l
-    → IsFirst l s o i p m → IsFirst l t q j p n → m.mid ≡ n.mid → i < j → s + mid_lifetime ≤ t
+    → IsFirst l s o i p m → IsFirst l t q j p n → m.mid ≡ n.mid → i < j
+    → s + MESSAGE_ID_LIFETIME ≤ t
 
 -- The answer with this number is to that ask of the connection, on these grounds.
 pub record IsAnswer (l : List Noted) (n c k : ℕ) (g : Grounds) : Type 0 where
@@ -62,7 +63,9 @@ OneOutstanding =
 
 -- A message is copied four times at most.
 abbrev pub FewCopies : Type 0
-FewCopies = (l : List Noted) (i : ℕ) (way : Transmission) → Legal l → transmission l i ≡ Some way → way.copies ≤ copy_limit
+FewCopies =
+    (l : List Noted) (i : ℕ) (way : Transmission)
+    → Legal l → transmission l i ≡ Some way → way.copies ≤ MAX_RETRANSMIT
 
 -- what a step does after its input
 abbrev pub IsDone : Deed → Type 0

@@ -1,6 +1,5 @@
 pub mod Readings
 pub mod Connections
-pub mod Limits
 pub mod Progress
 pub mod Transmissions
 pub mod Exchanges

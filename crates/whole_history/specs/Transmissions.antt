@@ -2,12 +2,12 @@
 use Rattle.std.specs.Prelude.{ℕ, ◌+◌, ◌*◌, ◌^◌, Bool, false, ◌&&◌, List, [], ◌∷◌, length, count_by, find, Option, Some, None, option_map, option_and_then, unwrap_or, is_some, ◌==◌, nat_le, nat_lt, if◌then◌else◌}
 use Rattle.std.specs.List.{list_any}
 use Rattle.std.specs.Str.{bytes_eq}
+use Rattle.limits.specs.declared.TheConstants.{MAX_RETRANSMIT, MESSAGE_ID_LIFETIME}
 use Rattle.coap_codec.specs.Spelling.{Content}
 use Rattle.uri_map.specs.declared.peer.Peer.{Peer}
 use Rattle.ask_model.specs.Requests.{same_peer}
 use Rattle.journal_book.specs.Entries.{Deed, Sends, Hears, Passes}
 use Rattle.whole_history.specs.Readings.{Noted, Note, First, Copies, Says}
-use Rattle.whole_history.specs.Limits.{copy_limit, mid_lifetime}
 
 -- a first sending, and the exchange whose message it is
 pub record FirstSending : Type 0 where
@@ -46,7 +46,7 @@ bears_token l token = list_any (λ (f : FirstSending). bytes_eq f.message.token 
 -- one to the peer bears the message ID, and went out less than 494 seconds before; how many such ones
 -- went out
 abbrev pub is_recent : ℕ → Peer → FirstSending → Bool
-is_recent t p f = same_peer f.peer p && nat_lt t (f.moment + mid_lifetime)
+is_recent t p f = same_peer f.peer p && nat_lt t (f.moment + MESSAGE_ID_LIFETIME)
 
 abbrev pub bears_mid : List Noted → ℕ → Peer → ℕ → Bool
 bears_mid l t p mid =
@@ -67,7 +67,7 @@ due x = x.last + x.timeout * 2 ^ x.copies
 
 -- the timeout after the fourth copy is over
 abbrev pub is_given_up : ℕ → Transmission → Bool
-is_given_up t x = (x.copies == copy_limit) && nat_le (due x) t
+is_given_up t x = (x.copies == MAX_RETRANSMIT) && nat_le (due x) t
 
 abbrev pub given_up : ℕ → Option Transmission → Bool
 given_up t None = false

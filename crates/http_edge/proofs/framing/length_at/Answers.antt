@@ -14,11 +14,11 @@ each-preserved c = (
   omega (arith, c.min-n.ensures),
 )
 
-pub returns-then-n-gt65536 : goal.returns-then-n-gt65536
-returns-then-n-gt65536 c = law.digits_large c.each.n c.args.digits.now c.each.digit-index _ c.each-test.false c.if-n-gt65536.true c.each.invariant.0
+pub returns-then-n-gt-MAX_BODY_LEN : goal.returns-then-n-gt-MAX_BODY_LEN
+returns-then-n-gt-MAX_BODY_LEN c = law.digits_large c.each.n c.args.digits.now c.each.digit-index _ c.each-test.false c.if-n-gt-MAX_BODY_LEN.true c.each.invariant.0
 
 pub returns : goal.returns
-returns c = law.digits_end c.each.n c.args.digits.now c.each.digit-index _ c.each-test.false c.if-n-gt65536.false c.each.invariant.0
+returns c = law.digits_end c.each.n c.args.digits.now c.each.digit-index _ c.each-test.false c.if-n-gt-MAX_BODY_LEN.false c.each.invariant.0
 
 pub each-init : goal.each-init
 each-init c =

@@ -1,8 +1,9 @@
 use Rattle.std.proofs.Common.{◌≤◌, sym, ap, subst, ◌∙◌}
+use Rattle.limits.specs.declared.TheConstants.{MAX_REQUEST_SIZE}
 use Rattle.ask_model.specs.declared.meaning.Meaning.{Meaning}
 use Rattle.ask_model.specs.Maps.{Maps}
 use Rattle.ask_model.specs.Requests.{Came, Sense}
-use Rattle.ask_model.specs.Sizes.{came_size, request_limit}
+use Rattle.ask_model.specs.Sizes.{came_size}
 use Rattle.ask_model.specs.Views.{Mapping, sense_of, body_of}
 use Rattle.history_laws.proofs.Refusals.{maps-refusal}
 use Rattle.linked_core.specs.States.{state_of}
@@ -18,7 +19,7 @@ turn_away-requires-clause-refused g c =
     let sense = sym (m.sense ∙ d) ∙ ap (λ (x : Meaning). sense_of x (body_of c.deref-2.result.now.came)) c.in-Refuse.is in
     let maps = subst (λ (x : Sense). Maps g.R.Relation.holds g.R.Relation.takes c.deref-2.result.now.rules c.deref-2.result.now.came x) (sym (m.sense) ∙ ap (λ (x : Meaning). sense_of x (body_of c.deref-2.result.now.came)) c.in-Refuse.is) m.maps in
     may-be-refused c.args.moment c.args.conn _ c.in-Refuse.cause _ (state_of c.args.s.now) c.requires.sound.kept c.if-s.false c.requires.later
-    (rw (c.as_slice.ensures.value) at (c.in_ok-check_idle.ensures.ok)) (subst (λ (x : Came). came_size x ≤ request_limit) (ap (λ (x : Mapping). x.came) c.deref.ensures) k.small) sense
+    (rw (c.as_slice.ensures.value) at (c.in_ok-check_idle.ensures.ok)) (subst (λ (x : Came). came_size x ≤ MAX_REQUEST_SIZE) (ap (λ (x : Mapping). x.came) c.deref.ensures) k.small) sense
     (maps-refusal g.R.Relation.holds g.R.Relation.takes c.deref-2.result.now.rules c.deref-2.result.now.came c.in-Refuse.cause _ maps)
 
 pub check_idle-requires : goal.check_idle-requires

@@ -1,6 +1,7 @@
 use Rattle.std.proofs.Common.{◌≤◌, refl, sym, subst}
 use Rattle.std.specs.Arc.{arc_value}
-use Rattle.ask_model.specs.Sizes.{came_size, request_limit}
+use Rattle.limits.specs.declared.TheConstants.{MAX_REQUEST_SIZE}
+use Rattle.ask_model.specs.Sizes.{came_size}
 use Rattle.ask_model.specs.Views.{Mapping}
 use Rattle.core_steps.specs.State.{State}
 use Rattle.linked_core.specs.Beginning.{IsTextFor, MayBegin}
@@ -30,7 +31,7 @@ ask-requires-clause-begins g c =
       idle = c.requires.idle;
       peer = c.requires.asked;
       spelled = subst (λ (m : Mapping). IsTextFor m.sense c.token_of-token.result c.in_ok-text.text) c.deref.ensures c.in_ok-text.ensures.text;
-      small = subst (λ (m : Mapping). came_size m.came ≤ request_limit) c.deref.ensures c.text_of.ensures.small;
+      small = subst (λ (m : Mapping). came_size m.came ≤ MAX_REQUEST_SIZE) c.deref.ensures c.text_of.ensures.small;
       worded = record { word_is = refl; token_size = c.token_of-token.ensures.size; number = c.token_of-token.ensures.number; random = c.token_of-token.ensures.word };
       place = has-place _ _ (state_of c.args.s.now) c.requires.few place;
     })

@@ -22,7 +22,7 @@ returns-clause-sound g c =
     let S : State = state_of c.args.s.now in
     let same = ap (λ (cs : List Conn). opens c.args.moment (record S { conns = cs })) c.in_ok-try_reserve.ensures.items in
     let fit = sym (c.takes_conn.ensures c.args.moment) ∙ c.if-not-takes_conn.false in
-    let few = c.if-len-ge-CONNECTIONS.false in
+    let few = c.if-len-ge-MAX_CONNECTIONS.false in
     let len = c.len.ensures in
     sound-open c.args.moment _ _ _ _ _ _ _ _ c.requires.sound c.if-s.false fit c.requires.later c.requires.early (omega (arith, few, len))
     (e.state ∙ same) e.bytes e.room e.answers

@@ -10,11 +10,11 @@ answer-requires g c =
 
 pub returns-in-Ok-clause-first : goal.returns-in-Ok-clause-first
 returns-in-Ok-clause-first g c =
-    λ _. record { first = c.in-Some.first.now; is_first = c.in-Some.ensures.some; gave = c.answer.result; gives = c.answer.ensures.gives; is = rw c.in-Ok.is (sym (passed_large c.in-Ok.v (omega (arith, c.if-len-gt-LARGEST.true, c.len.ensures, c.in-Ok.v.ok.0)))) }
+    λ _. record { first = c.in-Some.first.now; is_first = c.in-Some.ensures.some; gave = c.answer.result; gives = c.answer.ensures.gives; is = rw c.in-Ok.is (sym (passed_large c.in-Ok.v (omega (arith, c.if-len-gt-MAX_BODY_LEN.true, c.len.ensures, c.in-Ok.v.ok.0)))) }
 
 pub returns-in-Ok-2-clause-first : goal.returns-in-Ok-2-clause-first
 returns-in-Ok-2-clause-first g c =
-    λ _. record { first = c.in-Some.first.now; is_first = c.in-Some.ensures.some; gave = c.answer.result; gives = c.answer.ensures.gives; is = rw (c.in-Ok-2.is, ← c.in-Ok-2.v-is) (sym (passed_small c.in-Ok.v (omega (arith, c.if-len-gt-LARGEST.false, c.len.ensures, c.in-Ok.v.ok.0)))) }
+    λ _. record { first = c.in-Some.first.now; is_first = c.in-Some.ensures.some; gave = c.answer.result; gives = c.answer.ensures.gives; is = rw (c.in-Ok-2.is, ← c.in-Ok-2.v-is) (sym (passed_small c.in-Ok.v (omega (arith, c.if-len-gt-MAX_BODY_LEN.false, c.len.ensures, c.in-Ok.v.ok.0)))) }
 
 pub returns-in-Err-Content-clause-first : goal.returns-in-Err-Content-clause-first
 returns-in-Err-Content-clause-first g c =
