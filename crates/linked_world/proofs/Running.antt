@@ -15,9 +15,8 @@ use Rattle.proxy_acts.specs.Emissions.{Emission, emission_of, emissions}
 use Rattle.proxy_acts.specs.Going.{goes_in, SendsJust}
 use Rattle.proxy_acts.specs.Tellings.{terms_of}
 use Rattle.proxy_acts.specs.Told.{IsToldAnswers, TellsAll}
-use Rattle.proxy_acts.proofs.Doing.{did-all}
-use Rattle.proxy_acts.proofs.Moves.{Did, did-aside, did-then, aside-none}
-use Rattle.proxy_acts.proofs.Shown.{did-tell, did-send}
+use Rattle.proxy_acts.proofs.Pacing.{Paced, paced-then, paced-none, paced-all}
+use Rattle.proxy_acts.proofs.Shown.{paced-tell, did-send}
 use Rattle.linked_world.specs.Worlds.{WorldValue, Handles, HandlesAll, IsAtRest, IsRefusedAfter, IsTooMuch, new_world, served_in, when_in}
 
 pub take-next : {A : Type 0} (xs : List A) (n : ℕ) (d : A) → n < length xs → take (n + 1) xs ≡ take n xs ++ get_or xs n d ∷ []
@@ -84,20 +83,19 @@ joined M is a b xs ys zs e h =
 
 -- what holds of a whole run
 
-handled-did : (M : Terms) (i : Input) (old new : WorldValue) (out : List Emission) → Handles M i old out new
-    → Did M old.core out new.core
-handled-did M i old new out h =
-    subst (λ (es : List Emission). Did M old.core es new.core) (sym h.acts.added)
-    (did-all M (when_in old i) h.acts.acts (served_in old) h.acts.given (served_in new) h.acts.done)
+handled-paced : (M : Terms) (i : Input) (old new : WorldValue) (out : List Emission) → Handles M i old out new
+    → Paced M (served_in old) out (served_in new)
+handled-paced M i old new out h =
+    subst (λ (es : List Emission). Paced M (served_in old) es (served_in new)) (sym h.acts.added)
+    (paced-all M (when_in old i) h.acts.acts (served_in old) h.acts.given (served_in new) h.acts.done)
 
-run-did : (M : Terms) (is : List Input) (old new : WorldValue) (out : List Emission) → HandlesAll M is old out new
-    → Did M old.core out new.core
-run-did M [] old new out h =
-    subst (λ (es : List Emission). Did M old.core es new.core) (sym h.1)
-    (did-aside M old.core new.core [] (ap (λ (w : WorldValue). w.core) h.0) aside-none)
-run-did M (i ∷ is) old new out h =
-    subst (λ (es : List Emission). Did M old.core es new.core) (sym h.5)
-    (did-then M old.core h.0.core new.core h.1 h.2 (handled-did M i old h.0 h.1 h.3) (run-did M is h.0 new h.2 h.4))
+run-paced : (M : Terms) (is : List Input) (old new : WorldValue) (out : List Emission) → HandlesAll M is old out new
+    → Paced M (served_in old) out (served_in new)
+run-paced M [] old new out h = paced-none M (served_in old) out (served_in new) (ap served_in h.0) h.1
+run-paced M (i ∷ is) old new out h =
+    subst (λ (es : List Emission). Paced M (served_in old) es (served_in new)) (sym h.5)
+    (paced-then M (served_in old) (served_in h.0) (served_in new) h.1 h.2 (handled-paced M i old h.0 h.1 h.3)
+    (run-paced M is h.0 new h.2 h.4))
 
 module _ (holds : Form → Form → List ℕ → List ℕ → Type 0) (takes : Form → Form → List ℕ → Type 0) (rules : Rules) where
   pub run-tells : (is : List Input) (old new : WorldValue) (h : List Written) (out : List Emission) → old ≡ new_world rules
@@ -109,7 +107,7 @@ module _ (holds : Form → Form → List ℕ → List ℕ → Type 0) (takes : F
       let from : HandlesAll M is (new_world rules) out new =
       subst (λ (w : WorldValue). HandlesAll (terms_of holds takes w.rules) is w out new) e run in
       let all : TellsAll holds takes rules (core_of start [] []) new.core out =
-      did-tell holds takes rules (core_of start [] []) new.core out (run-did M is (new_world rules) new out from)
+      paced-tell holds takes rules (served_in (new_world rules)) (served_in new) out (run-paced M is (new_world rules) new out from)
       (record { sends = refl; answers = refl }) rests.drained stands tt in
       subst (λ (k : List Written). IsToldAnswers holds takes rules [] k c out) (sym (same ∙ all.added)) (all.told c)
 
@@ -121,5 +119,5 @@ module _ (holds : Form → Form → List ℕ → List ℕ → Type 0) (takes : F
       let from : HandlesAll M is (new_world rules) out new =
       subst (λ (w : WorldValue). HandlesAll (terms_of holds takes w.rules) is w out new) e run in
       let all : SendsJust (core_of start [] []) out new.core =
-      did-send holds takes rules (core_of start [] []) new.core out (run-did M is (new_world rules) new out from) refl rests.drained.sends in
+      did-send holds takes rules (core_of start [] []) new.core out (run-paced M is (new_world rules) new out from).did refl rests.drained.sends in
       all.sent ∙ sym (ap sent_in (same ∙ all.added))

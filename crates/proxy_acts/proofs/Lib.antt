@@ -4,6 +4,7 @@ pub mod Asked
 pub mod Awaiting
 pub mod Closings
 pub mod Conns
+pub mod Counting
 pub mod Doing
 pub mod Enters
 pub mod GoingOn
@@ -14,6 +15,7 @@ pub mod Lost
 pub mod Moves
 pub mod Moving
 pub mod Numbers
+pub mod Pacing
 pub mod Recounting
 pub mod Opened
 pub mod Order

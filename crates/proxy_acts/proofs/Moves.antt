@@ -17,7 +17,8 @@ use Rattle.headline.specs.Headline.{IsEntry}
 use Rattle.headline.proofs.Entries.{got-more}
 use Rattle.headline.proofs.Apart.{answer-once}
 use Rattle.core_steps.specs.State.{State}
-use Rattle.core_steps.specs.Growing.{Adds}
+use Rattle.core_steps.specs.declared.kept.Conn.{Conn}
+use Rattle.core_steps.specs.Growing.{Adds, conns_with}
 use Rattle.linked_core.specs.Values.{CoreValue, Untaken, Outgoing, written, answered_by, answered_in, sent_by, sent_in, stepped}
 use Rattle.linked_core.specs.Answering.{Given, HeardAs, AreHeard, IsFound, CountsFrom, IsGiven}
 use Rattle.linked_core.specs.Drafts.{untaken_of}
@@ -30,6 +31,7 @@ use Rattle.proxy_acts.specs.Told.{Piece, interim, final, bytes_in, answers_in, a
 use Rattle.proxy_acts.specs.Waiting.{AreApart}
 use Rattle.proxy_acts.proofs.Order.{all-append}
 use Rattle.proxy_acts.proofs.Apart.{at-seam}
+use Rattle.proxy_acts.proofs.Moving.{conns-both}
 
 -- what entries send and answer, in two parts
 
@@ -114,6 +116,10 @@ given-more xs ys g h = record {
 
 -- what connections are told
 
+-- Each may be told to go on.
+abbrev pub Whoever : ℕ → Type 0
+Whoever c = ⊤
+
 -- the bytes tell the answer in this entry
 pub record TellsGiven (M : Terms) (h : List Written) (c n : ℕ) (bytes : List ℕ) : Type 0 where
   pub given : Given
@@ -124,15 +130,15 @@ pub record TellsGiven (M : Terms) (h : List Written) (c n : ℕ) (bytes : List �
   pub tells : M.IsTelling given response
   pub text : bytes ≡ answer_text response
 
-abbrev pub IsSaid : Terms → List Written → ℕ → Piece → Type 0
-IsSaid M h c interim = ⊤
-IsSaid M h c (final n bytes) = TellsGiven M h c n bytes
+abbrev pub IsSaid : Terms → (ℕ → Type 0) → List Written → ℕ → Piece → Type 0
+IsSaid M G h c interim = G c
+IsSaid M G h c (final n bytes) = TellsGiven M h c n bytes
 
-pub record ToldIn (M : Terms) (h : List Written) (c n : ℕ) (more : List Written)
+pub record ToldIn (M : Terms) (G : ℕ → Type 0) (h : List Written) (c n : ℕ) (more : List Written)
     (old : List Untaken) (out : List Emission) (new : List Untaken) : Type 0 where
   pub pieces : List Piece
   pub said : said_to c out ≡ map bytes_in pieces
-  pub each : AllByRecursion (IsSaid M h c) pieces
+  pub each : AllByRecursion (IsSaid M G h c) pieces
   pub answers : flat_map answers_in pieces ++ nums c new ≡ nums c old ++ nums c (answered_in n more)
 
 pub record IsAnswerIn (h : List Written) (u : Untaken) : Type 0 where
@@ -145,22 +151,23 @@ pub record Wait (h : List Written) (us : List Untaken) : Type 0 where
   pub apart : AreApart us
   pub answers : AllByRecursion (IsAnswerIn h) us
 
-pub record Did (M : Terms) (old : CoreValue) (out : List Emission) (new : CoreValue) : Type 0 where
+pub record Did (M : Terms) (G : ℕ → Type 0) (old : CoreValue) (out : List Emission) (new : CoreValue) : Type 0 where
   pub more : List Written
   pub added : new.state.entries ≡ old.state.entries ++ more
+  pub conns : new.state.conns ≡ conns_with old.state.conns (length old.state.entries) more
   pub sent : goes_in out ++ new.unsent ≡ old.unsent ++ sent_in more
   pub meant : AreMeant M more
   pub told :
       (h rest : List Written) → Stands h → h ≡ new.state.entries ++ rest → Wait h old.untaken
       → Wait h new.untaken
-      × ((c : ℕ) → ToldIn M h c (length old.state.entries) more old.untaken out new.untaken)
+      × ((c : ℕ) → ToldIn M G h c (length old.state.entries) more old.untaken out new.untaken)
 
 -- one after another
 
-told-then : (M : Terms) (h : List Written) (c n m : ℕ) (xs ys : List Written) (us vs ws : List Untaken) (a b : List Emission)
-    → m ≡ n + length xs → ToldIn M h c n xs us a vs → ToldIn M h c m ys vs b ws
-    → ToldIn M h c n (xs ++ ys) us (a ++ b) ws
-told-then M h c n m xs ys us vs ws a b long x y =
+abbrev pub told-then : (M : Terms) (G : ℕ → Type 0) (h : List Written) (c n m : ℕ) (xs ys : List Written) (us vs ws : List Untaken) (a b : List Emission)
+    → m ≡ n + length xs → ToldIn M G h c n xs us a vs → ToldIn M G h c m ys vs b ws
+    → ToldIn M G h c n (xs ++ ys) us (a ++ b) ws
+told-then M G h c n m xs ys us vs ws a b long x y =
     let p : List ℕ = flat_map answers_in x.pieces in
     let q : List ℕ = flat_map answers_in y.pieces in
     let r : List ℕ = nums c (answered_in n xs) in
@@ -175,7 +182,7 @@ told-then M h c n m xs ys us vs ws a b long x y =
           ∙ (ap (λ (t : List (List ℕ)). t ++ said_to c b) x.said
           ∙ (ap (λ (t : List (List ℕ)). map bytes_in x.pieces ++ t) y.said
           ∙ sym (map-append bytes_in x.pieces y.pieces)));
-      each = all-append (IsSaid M h c) x.pieces y.pieces x.each y.each;
+      each = all-append (IsSaid M G h c) x.pieces y.pieces x.each y.each;
       answers = ap (λ (t : List ℕ). t ++ nums c ws) (flat_map-append answers_in x.pieces y.pieces)
           ∙ (append_assoc p q (nums c ws)
           ∙ (ap (λ (t : List ℕ). p ++ t) y.answers
@@ -185,13 +192,17 @@ told-then M h c n m xs ys us vs ws a b long x y =
           ∙ ap (λ (t : List ℕ). nums c us ++ t) (sym both))))));
     }
 
-pub did-then : (M : Terms) (u v w : CoreValue) (a b : List Emission) → Did M u a v → Did M v b w → Did M u (a ++ b) w
-did-then M u v w a b x y =
+abbrev pub did-then : (M : Terms) (G : ℕ → Type 0) (u v w : CoreValue) (a b : List Emission) → Did M G u a v → Did M G v b w → Did M G u (a ++ b) w
+did-then M G u v w a b x y =
     let long : length v.state.entries ≡ length u.state.entries + length x.more =
     ap length x.added ∙ length-append u.state.entries x.more in
     record {
       more = x.more ++ y.more;
       added = y.added ∙ (ap (λ (h : List Written). h ++ y.more) x.added ∙ append_assoc u.state.entries x.more y.more);
+      conns = y.conns
+          ∙ (ap (λ (cs : List Conn). conns_with cs (length v.state.entries) y.more) x.conns
+          ∙ (ap (λ (k : ℕ). conns_with (conns_with u.state.conns (length u.state.entries) x.more) k y.more) long
+          ∙ sym (conns-both u.state.conns (length u.state.entries) x.more y.more)));
       sent = ap (λ (os : List Outgoing). os ++ w.unsent) (flat_map-append goes_by a b)
           ∙ (append_assoc (goes_in a) (goes_in b) w.unsent
           ∙ (ap (λ (os : List Outgoing). goes_in a ++ os) y.sent
@@ -205,43 +216,43 @@ did-then M u v w a b x y =
           (is ∙ (ap (λ (q : List Written). q ++ rest) y.added ∙ append_assoc v.state.entries y.more rest)) waits in
           let next = y.told h rest stands is first.0 in (
             next.0,
-            λ c. told-then M h c (length u.state.entries) (length v.state.entries) x.more y.more u.untaken v.untaken w.untaken a b
+            λ c. told-then M G h c (length u.state.entries) (length v.state.entries) x.more y.more u.untaken v.untaken w.untaken a b
                 long (first.1 c) (next.1 c),
           );
     }
 
 -- What is given out tells no answer, and no datagram goes out.
 
-abbrev pub IsInterim : Piece → Type 0
-IsInterim interim = ⊤
-IsInterim (final n bytes) = ⊥
+abbrev pub IsInterim : Type 0 → Piece → Type 0
+IsInterim T interim = T
+IsInterim T (final n bytes) = ⊥
 
-pub record SaysAside (c : ℕ) (out : List Emission) : Type 0 where
+pub record SaysAside (G : ℕ → Type 0) (c : ℕ) (out : List Emission) : Type 0 where
   pub pieces : List Piece
   pub said : said_to c out ≡ map bytes_in pieces
-  pub each : AllByRecursion IsInterim pieces
+  pub each : AllByRecursion (IsInterim (G c)) pieces
 
-pub record Aside (out : List Emission) : Type 0 where
+pub record Aside (G : ℕ → Type 0) (out : List Emission) : Type 0 where
   pub none : goes_in out ≡ []
-  pub says : (c : ℕ) → SaysAside c out
+  pub says : (c : ℕ) → SaysAside G c out
 
-pub aside-none : Aside []
-aside-none = record { none = refl; says = λ c. record { pieces = []; said = refl; each = tt } }
+pub aside-none : (G : ℕ → Type 0) → Aside G []
+aside-none G = record { none = refl; says = λ c. record { pieces = []; said = refl; each = tt } }
 
-pub aside-closed : (d : ℕ) → Aside (Closed d ∷ [])
-aside-closed d = record { none = refl; says = λ c. record { pieces = []; said = refl; each = tt } }
+pub aside-closed : (G : ℕ → Type 0) (d : ℕ) → Aside G (Closed d ∷ [])
+aside-closed G d = record { none = refl; says = λ c. record { pieces = []; said = refl; each = tt } }
 
-pub aside-turned : Aside (Turned ∷ [])
-aside-turned = record { none = refl; says = λ c. record { pieces = []; said = refl; each = tt } }
+pub aside-turned : (G : ℕ → Type 0) → Aside G (Turned ∷ [])
+aside-turned G = record { none = refl; says = λ c. record { pieces = []; said = refl; each = tt } }
 
-pub aside-goes-on : (d : ℕ) → Aside (Says d continue_text ∷ [])
-aside-goes-on d = record { none = refl; says = λ c. by c (d == c) refl }
+pub aside-goes-on : (G : ℕ → Type 0) (d : ℕ) → G d → Aside G (Says d continue_text ∷ [])
+aside-goes-on G d g = record { none = refl; says = λ c. by c (d == c) refl }
   where
-    by : (c : ℕ) (b : Bool) → (d == c) ≡ b → SaysAside c (Says d continue_text ∷ [])
+    by : (c : ℕ) (b : Bool) → (d == c) ≡ b → SaysAside G c (Says d continue_text ∷ [])
     by c true e = record {
       pieces = interim ∷ [];
       said = ap (λ (t : Bool). (if t then continue_text ∷ [] else []) ++ []) e;
-      each = (tt, tt);
+      each = (subst G (eqb-true d c e) g, tt);
     }
     by c false e = record {
       pieces = [];
@@ -249,22 +260,23 @@ aside-goes-on d = record { none = refl; says = λ c. by c (d == c) refl }
       each = tt;
     }
 
-aside-said : (M : Terms) (h : List Written) (c : ℕ) (ps : List Piece) → AllByRecursion IsInterim ps → AllByRecursion (IsSaid M h c) ps
-aside-said M h c [] each = tt
-aside-said M h c (interim ∷ ps) each = (tt, aside-said M h c ps each.1)
-aside-said M h c (final n bytes ∷ ps) each = absurd each.0
+aside-said : (M : Terms) (G : ℕ → Type 0) (h : List Written) (c : ℕ) (ps : List Piece) → AllByRecursion (IsInterim (G c)) ps → AllByRecursion (IsSaid M G h c) ps
+aside-said M G h c [] each = tt
+aside-said M G h c (interim ∷ ps) each = (each.0, aside-said M G h c ps each.1)
+aside-said M G h c (final n bytes ∷ ps) each = absurd each.0
 
-aside-answers : (ps : List Piece) → AllByRecursion IsInterim ps → flat_map answers_in ps ≡ []
-aside-answers [] each = refl
-aside-answers (interim ∷ ps) each = aside-answers ps each.1
-aside-answers (final n bytes ∷ ps) each = absurd each.0
+aside-answers : (T : Type 0) (ps : List Piece) → AllByRecursion (IsInterim T) ps → flat_map answers_in ps ≡ []
+aside-answers T [] each = refl
+aside-answers T (interim ∷ ps) each = aside-answers T ps each.1
+aside-answers T (final n bytes ∷ ps) each = absurd each.0
 
 -- the core stays as it is
 
-pub did-aside : (M : Terms) (old new : CoreValue) (out : List Emission) → new ≡ old → Aside out → Did M old out new
-did-aside M old new out e aside = subst (λ (v : CoreValue). Did M old out v) (sym e) (record {
+pub did-aside : (M : Terms) (G : ℕ → Type 0) (old new : CoreValue) (out : List Emission) → new ≡ old → Aside G out → Did M G old out new
+did-aside M G old new out e aside = subst (λ (v : CoreValue). Did M G old out v) (sym e) (record {
   more = [];
   added = sym (append-nil old.state.entries);
+  conns = refl;
   sent = ap (λ (os : List Outgoing). os ++ old.unsent) aside.none ∙ sym (append-nil old.unsent);
   meant = tt;
   told = λ h rest stands is waits. (
@@ -274,8 +286,8 @@ did-aside M old new out e aside = subst (λ (v : CoreValue). Did M old out v) (s
         record {
           pieces = says.pieces;
           said = says.said;
-          each = aside-said M h c says.pieces says.each;
-          answers = ap (λ (ks : List ℕ). ks ++ nums c old.untaken) (aside-answers says.pieces says.each) ∙ sym (append-nil (nums c old.untaken));
+          each = aside-said M G h c says.pieces says.each;
+          answers = ap (λ (ks : List ℕ). ks ++ nums c old.untaken) (aside-answers (G c) says.pieces says.each) ∙ sym (append-nil (nums c old.untaken));
         },
   );
 })
@@ -313,9 +325,9 @@ StaysApart old more =
     (h rest : List Written) → Stands h → h ≡ old.state.entries ++ (more ++ rest) → Wait h old.untaken
     → AreApart (old.untaken ++ answered_in (length old.state.entries) more)
 
-pub did-step : (M : Terms) (t : ℕ) (old new : CoreValue) (S : State) (out : List Emission) → new ≡ stepped S old
-    → (x : Adds t old.state S) → Aside out → AreMeant M x.more → StaysApart old x.more → Did M old out new
-did-step M t old new S out e x aside meant apart =
+pub did-step : (M : Terms) (G : ℕ → Type 0) (t : ℕ) (old new : CoreValue) (S : State) (out : List Emission) → new ≡ stepped S old
+    → (x : Adds t old.state S) → Aside G out → AreMeant M x.more → StaysApart old x.more → Did M G old out new
+did-step M G t old new S out e x aside meant apart =
     let n : ℕ = length old.state.entries in
     let more : drop n S.entries ≡ x.more = ap (drop n) x.entries ∙ drop-append_seam old.state.entries x.more in
     let added : new.state.entries ≡ old.state.entries ++ x.more = ap (λ (v : CoreValue). v.state.entries) e ∙ x.entries in
@@ -326,6 +338,7 @@ did-step M t old new S out e x aside meant apart =
     record {
       more = x.more;
       added = added;
+      conns = ap (λ (v : CoreValue). v.state.conns) e ∙ x.conns;
       sent = ap (λ (os : List Outgoing). os ++ new.unsent) aside.none ∙ unsent;
       meant = meant;
       told = λ h rest stands is waits.
@@ -340,8 +353,8 @@ did-step M t old new S out e x aside meant apart =
                 record {
                   pieces = says.pieces;
                   said = says.said;
-                  each = aside-said M h c says.pieces says.each;
-                  answers = ap (λ (ks : List ℕ). ks ++ nums c new.untaken) (aside-answers says.pieces says.each)
+                  each = aside-said M G h c says.pieces says.each;
+                  answers = ap (λ (ks : List ℕ). ks ++ nums c new.untaken) (aside-answers (G c) says.pieces says.each)
                       ∙ (ap (nums c) waiting ∙ flat_map-append (num_of c) old.untaken (answered_in n x.more));
                 },
           );
@@ -349,13 +362,14 @@ did-step M t old new S out e x aside meant apart =
 
 -- a datagram goes out
 
-pub did-send : (M : Terms) (old new : CoreValue) (d : Outgoing) → IsSent (Some d) old new → Did M old (Goes d ∷ []) new
-did-send M old new d h =
+pub did-send : (M : Terms) (G : ℕ → Type 0) (old new : CoreValue) (d : Outgoing) → IsSent (Some d) old new → Did M G old (Goes d ∷ []) new
+did-send M G old new d h =
     let waiting : new.untaken ≡ old.untaken = ap (λ (v : CoreValue). v.untaken) h.1 in
     let entries : new.state.entries ≡ old.state.entries = ap (λ (v : CoreValue). v.state.entries) h.1 in
     record {
       more = [];
       added = entries ∙ sym (append-nil old.state.entries);
+      conns = ap (λ (v : CoreValue). v.state.conns) h.1;
       sent = sym h.0 ∙ sym (append-nil old.unsent);
       meant = tt;
       told = λ h rest stands is waits. (
@@ -473,14 +487,15 @@ take-nums c k g (u ∷ us) is apart one (suc i, lt, e) =
     ∙ (swap-nums c g u (nums c (filter (not_to k) us)) (λ same. other (sym same))
     ∙ ap (λ (ks : List ℕ). num_of c u ++ ks) (take-nums c k g us is apart.1 one.1 has))
 
-pub did-take : (M : Terms) (old new : CoreValue) (c k : ℕ) (g : Given) (r : HttpAnswer) → g.conn ≡ c → IsTaken (Some g) k old new → M.IsTelling g r
-    → Did M old (Says c (answer_text r) ∷ []) new
-did-take M old new c k g r conn taken tells =
+pub did-take : (M : Terms) (G : ℕ → Type 0) (old new : CoreValue) (c k : ℕ) (g : Given) (r : HttpAnswer) → g.conn ≡ c → IsTaken (Some g) k old new → M.IsTelling g r
+    → Did M G old (Says c (answer_text r) ∷ []) new
+did-take M G old new c k g r conn taken tells =
     let waiting : new.untaken ≡ filter (not_to k) old.untaken = ap (λ (v : CoreValue). v.untaken) taken.3 in
     let entries : new.state.entries ≡ old.state.entries = ap (λ (v : CoreValue). v.state.entries) taken.3 in
     record {
       more = [];
       added = entries ∙ sym (append-nil old.state.entries);
+      conns = ap (λ (v : CoreValue). v.state.conns) taken.3;
       sent = ap (λ (v : CoreValue). v.unsent) taken.3 ∙ sym (append-nil old.unsent);
       meant = tt;
       told = λ h rest stands is waits.
@@ -500,7 +515,7 @@ did-take M old new c k g r conn taken tells =
     }
   where
     told-one : (d : ℕ) (h : List Written) → IsGiven h g → num_of d (untaken_of g) ++ nums d new.untaken ≡ nums d old.untaken
-        → ToldIn M h d (length old.state.entries) [] old.untaken (Says c (answer_text r) ∷ []) new.untaken
+        → ToldIn M G h d (length old.state.entries) [] old.untaken (Says c (answer_text r) ∷ []) new.untaken
     told-one d h given e =
         elim (eqb_tells g.conn d) [
           | inl w ↦

@@ -24,11 +24,12 @@ use Rattle.proxy_acts.specs.Acts.{Act, Served, Terms, DoesAll}
 use Rattle.proxy_acts.specs.Emissions.{Emission}
 use Rattle.proxy_acts.specs.Going.{goes_in, GoesOut, SendsJust}
 use Rattle.proxy_acts.specs.Tellings.{IsMapped, terms_of, IsMeant, AreMeant}
-use Rattle.proxy_acts.specs.Told.{IsHeardFirst, ShowsGrounds, ShowsReplies, TellsAnswer, Piece, interim, final, answers_in, IsPiece, IsToldAnswers, TellsAll}
+use Rattle.proxy_acts.specs.Told.{IsHeardFirst, ShowsGrounds, ShowsReplies, TellsAnswer, Piece, interim, final, answers_in, IsPiece, AreOnce, IsToldAnswers, TellsAll}
 use Rattle.proxy_acts.specs.Waiting.{IsDrained}
 use Rattle.proxy_acts.proofs.Order.{all-append}
-use Rattle.proxy_acts.proofs.Moves.{TellsGiven, IsSaid, ToldIn, Wait, Did, nums, nums-in}
+use Rattle.proxy_acts.proofs.Moves.{Whoever, TellsGiven, IsSaid, ToldIn, Wait, Did, nums, nums-in}
 use Rattle.proxy_acts.proofs.Doing.{did-all}
+use Rattle.proxy_acts.proofs.Pacing.{IsQuiet, flow-once, PacedAt, Paced, paced-all}
 
 -- entries at a place are one
 
@@ -164,7 +165,7 @@ module _ (holds : Form → Form → List ℕ → List ℕ → Type 0) (takes : F
       }
 
   all-pieces : (c : ℕ) (ps : List Piece) → AreMeant (terms_of holds takes rules) h
-      → AllByRecursion (IsSaid (terms_of holds takes rules) h c) ps → AllByRecursion (IsPiece holds takes rules h c) ps
+      → AllByRecursion (IsSaid (terms_of holds takes rules) Whoever h c) ps → AllByRecursion (IsPiece holds takes rules h c) ps
   all-pieces c [] meant each = tt
   all-pieces c (interim ∷ ps) meant each = (tt, all-pieces c ps meant each.1)
   all-pieces c (final n bytes ∷ ps) meant each = (tells-answer c n bytes meant each.0, all-pieces c ps meant each.1)
@@ -181,10 +182,10 @@ module _ (holds : Form → Form → List ℕ → List ℕ → Type 0) (takes : F
   pub all-go-out : (rules : Rules) (w : When) (acts : List Act) (old : Served) (out : List Emission) (new : Served)
       → DoesAll (terms_of holds takes rules) w acts old out new → GoesOut old.core out new.core
   all-go-out rules w acts old out new h =
-      let d : Did (terms_of holds takes rules) old.core out new.core = did-all (terms_of holds takes rules) w acts old out new h in
+      let d : Did (terms_of holds takes rules) Whoever old.core out new.core = did-all (terms_of holds takes rules) w acts old out new h in
       record { more = d.more; added = d.added; sent = d.sent }
 
-  pub did-send : (rules : Rules) (old new : CoreValue) (out : List Emission) → Did (terms_of holds takes rules) old out new
+  pub did-send : (rules : Rules) (old new : CoreValue) (out : List Emission) → Did (terms_of holds takes rules) Whoever old out new
       → old.unsent ≡ [] → new.unsent ≡ [] → SendsJust old out new
   did-send rules old new out d before after = record {
     more = d.more;
@@ -200,12 +201,13 @@ module _ (holds : Form → Form → List ℕ → List ℕ → Type 0) (takes : F
 
   told-just : (c : ℕ) (before more : List Written) (us vs : List Untaken) (out : List Emission) (rules : Rules)
       → us ≡ [] → vs ≡ [] → Stands (before ++ more) → AreMeant (terms_of holds takes rules) (before ++ more)
-      → ToldIn (terms_of holds takes rules) (before ++ more) c (length before) more us out vs
-      → IsToldAnswers holds takes rules before more c out
-  told-just c before more us vs out rules old new stands meant x = record {
+      → (x : ToldIn (terms_of holds takes rules) Whoever (before ++ more) c (length before) more us out vs)
+      → AreOnce x.pieces → IsToldAnswers holds takes rules before more c out
+  told-just c before more us vs out rules old new stands meant x once = record {
     pieces = x.pieces;
     said = x.said;
     each = all-pieces holds takes rules (before ++ more) stands c x.pieces meant x.each;
+    once = once;
     answers = sym (append-nil (flat_map answers_in x.pieces))
         ∙ (ap (λ (zs : List Untaken). flat_map answers_in x.pieces ++ nums c zs) (sym new)
         ∙ (x.answers
@@ -213,23 +215,27 @@ module _ (holds : Form → Form → List ℕ → List ℕ → Type 0) (takes : F
         ∙ sym (nums-in c (length before) more))));
   }
 
-  -- so it is of whatever was done to a core
-  pub did-tell : (rules : Rules) (old new : CoreValue) (out : List Emission) → Did (terms_of holds takes rules) old out new
-      → IsDrained old → IsDrained new → Stands new.state.entries → AreMeant (terms_of holds takes rules) old.state.entries
-      → TellsAll holds takes rules old new out
-  did-tell rules old new out d before after stands mapped =
+  -- so it is of whatever was done
+  pub paced-tell : (rules : Rules) (old new : Served) (out : List Emission) → Paced (terms_of holds takes rules) old out new
+      → IsDrained old.core → IsDrained new.core → Stands new.core.state.entries
+      → AreMeant (terms_of holds takes rules) old.core.state.entries
+      → TellsAll holds takes rules old.core new.core out
+  paced-tell rules old new out p before after stands mapped =
       let M : Terms = terms_of holds takes rules in
-      let stand : Stands (old.state.entries ++ d.more) = subst Stands d.added stands in
-      let meant : AreMeant M (old.state.entries ++ d.more) =
-      all-append (λ (e : Written). IsMeant M e.deed) old.state.entries d.more mapped d.meant in
-      let waits : Wait (old.state.entries ++ d.more) old.untaken =
-      subst (Wait (old.state.entries ++ d.more)) (sym before.answers) (record { apart = tt; answers = tt }) in
-      let told = d.told (old.state.entries ++ d.more) [] stand (sym d.added ∙ sym (append-nil new.state.entries)) waits in
+      let d : Did M Whoever old.core out new.core = p.did in
+      let entries : List Written = old.core.state.entries in
+      let stand : Stands (entries ++ d.more) = subst Stands d.added stands in
+      let meant : AreMeant M (entries ++ d.more) =
+      all-append (λ (e : Written). IsMeant M e.deed) entries d.more mapped d.meant in
+      let waits : Wait (entries ++ d.more) old.core.untaken =
+      subst (Wait (entries ++ d.more)) (sym before.answers) (record { apart = tt; answers = tt }) in
+      let told = p.paced (entries ++ d.more) [] stand (sym d.added ∙ sym (append-nil new.core.state.entries)) waits in
       record {
         more = d.more;
         added = d.added;
         mapped = subst (AreMeant M) (sym d.added) meant;
-        told = λ c. told-just c old.state.entries d.more old.untaken new.untaken out rules before.answers after.answers stand meant (told.1 c);
+        told = λ c. told-just c entries d.more old.core.untaken new.core.untaken out rules before.answers after.answers stand meant
+            (told.1 c).told (flow-once (IsQuiet c old) (IsQuiet c new) (told.1 c).told.pieces (told.1 c).flow);
       }
 
   pub all-tell : (rules : Rules) (w : When) (acts : List Act) (old : Served) (out : List Emission) (new : Served)
@@ -238,4 +244,4 @@ module _ (holds : Form → Form → List ℕ → List ℕ → Type 0) (takes : F
       → AreMeant (terms_of holds takes rules) old.core.state.entries
       → TellsAll holds takes rules old.core new.core out
   all-tell rules w acts old out new h =
-      did-tell rules old.core new.core out (did-all (terms_of holds takes rules) w acts old out new h)
+      paced-tell rules old new out (paced-all (terms_of holds takes rules) w acts old out new h)

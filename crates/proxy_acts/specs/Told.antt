@@ -75,6 +75,18 @@ abbrev pub answers_in : Piece → List ℕ
 answers_in interim = []
 answers_in (final n bytes) = n ∷ []
 
+-- What is told first, if anything is, is an answer.
+abbrev pub IsAnswerFirst : List Piece → Type 0
+IsAnswerFirst [] = ⊤
+IsAnswerFirst (interim ∷ ps) = ⊥
+IsAnswerFirst (final n bytes ∷ ps) = ⊤
+
+-- After it was told to go on it is told so no more before an answer (RFC 9110 section 10.1.1).
+abbrev pub AreOnce : List Piece → Type 0
+AreOnce [] = ⊤
+AreOnce (interim ∷ ps) = IsAnswerFirst ps × AreOnce ps
+AreOnce (final n bytes ∷ ps) = AreOnce ps
+
 -- the numbers of the answers to a connection among entries, the first of which has this number
 abbrev pub answers_by : ℕ → ℕ → Deed → List ℕ
 answers_by c n (Answers d k g) = if d == c then n ∷ [] else []
@@ -99,12 +111,14 @@ module _ (holds : Form → Form → List ℕ → List ℕ → Type 0)
   IsPiece rules h c (final n bytes) = TellsAnswer holds takes rules h c n bytes
 
   -- After these entries the journal got more, and a connection was told just the answers to it
-  -- among those, each once and in their order, and, in between, that it may go on with a body.
+  -- among those, each once and in their order, and, in between, that it may go on with a body, at
+  -- most once before each answer.
   pub record IsToldAnswers (rules : Rules) (before more : List Written) (c : ℕ)
       (out : List Emission) : Type 0 where
     pub pieces : List Piece
     pub said : said_to c out ≡ map bytes_in pieces
     pub each : AllByRecursion (IsPiece rules (before ++ more) c) pieces
+    pub once : AreOnce pieces
     pub answers : flat_map answers_in pieces ≡ answers_to c (length before) more
 
   -- Entries were only added; all that was ever asked was mapped by these rules; and each connection
