@@ -1,11 +1,10 @@
 -- Connections are numbered in the order in which they are opened: what entries tell of that.
-use Rattle.std.proofs.Common.{◌≡◌, ◌≢◌, ◌⊎◌, inl, inr, ℕ, ◌+◌, ◌<◌, Bool, true, false, cond, not, List, [], ◌∷◌, ◌++◌, length, map, Option, Some, None, refl, sym, ap, ◌∙◌, subst, arith, eqb-true, eq-eqb}
-use Rattle.std.specs.Prelude.{◌==◌, ⊤, if◌then◌else◌}
-use Rattle.std.specs.List.{filter, flat_map}
+use Rattle.std.proofs.Common.{◌≡◌, ◌⊎◌, inl, inr, ℕ, ◌+◌, ◌<◌, Bool, true, false, cond, not, List, [], ◌∷◌, ◌++◌, map, Option, Some, None, refl, sym, ap, ◌∙◌, subst, arith, eq-eqb}
+use Rattle.std.specs.Prelude.{◌==◌, ⊤}
+use Rattle.std.specs.List.{filter}
 use Rattle.std.proofs.lemmas.Bool.Decides.{eqb_tells}
 use Rattle.std.proofs.lemmas.Grind.{flat_map-append}
-use Rattle.ask_model.specs.Views.{Ask}
-use Rattle.journal_book.specs.Entries.{Grounds, Deed, Opens, Asks, Sends, Hears, Passes, Answers, Shuts, Seals, Written}
+use Rattle.journal_book.specs.Entries.{Deed, Opens, Asks, Sends, Hears, Passes, Answers, Shuts, Seals, Written}
 use Rattle.whole_history.specs.Readings.{Noted, Note, entries}
 use Rattle.whole_history.specs.Connections.{open_by, is_open, opened_by, opened}
 use Rattle.whole_history.specs.Justified.{Follows, Legal, Stands}
@@ -13,7 +12,7 @@ use Rattle.core_steps.specs.declared.kept.Conn.{Conn}
 use Rattle.core_steps.specs.State.{pend, conns_after}
 use Rattle.core_steps.specs.Resting.{HasConn}
 use Rattle.core_steps.specs.Growing.{conns_with}
-use Rattle.linked_core.specs.Values.{Untaken, answered_by, answered_in}
+use Rattle.linked_core.specs.Values.{answered_by, answered_in}
 use Rattle.proxy_acts.proofs.Moves.{num_of, nums}
 use Rattle.proxy_acts.proofs.Conns.{differ, waited-before, was-open}
 

@@ -1,5 +1,5 @@
 -- A connection that was told to go on is told an answer before it is told so again.
-use Rattle.std.proofs.Common.{◌≡◌, ◌≢◌, ◌⊎◌, inl, inr, ℕ, ◌+◌, Bool, true, false, cond, List, [], ◌∷◌, ◌++◌, length, map, Option, Some, None, Ok, Err, refl, sym, ap, ◌∙◌, subst, append_assoc, append-nil, length-append, eqb-true, eq-eqb}
+use Rattle.std.proofs.Common.{◌≡◌, ◌≢◌, ◌⊎◌, inl, inr, ℕ, ◌+◌, Bool, true, false, cond, List, [], ◌∷◌, ◌++◌, length, map, Some, None, refl, sym, ap, ◌∙◌, subst, append_assoc, append-nil, length-append, eqb-true}
 use Rattle.std.specs.Prelude.{◌==◌, ⊤, ◌<◌}
 use Rattle.std.specs.List.{AllByRecursion, flat_map}
 use Rattle.std.proofs.lemmas.List.{append_cancel_left}
@@ -7,22 +7,21 @@ use Rattle.http_mapping.specs.Means.{closes}
 use Rattle.ask_model.specs.Views.{Ask}
 use Rattle.journal_book.specs.Entries.{Asks as Asked, Shuts, Written}
 use Rattle.whole_history.specs.Justified.{Stands}
-use Rattle.core_steps.specs.State.{State}
 use Rattle.core_steps.specs.Growing.{at_moment, conns_with}
 use Rattle.core_steps.specs.Resting.{HasConn}
 use Rattle.core_steps.specs.Sealing.{asks_in_room}
 use Rattle.linked_core.specs.Values.{CoreValue, Untaken, answered_in}
 use Rattle.proxy_acts.specs.declared.input.When.{When}
 use Rattle.proxy_acts.specs.Acts.{Act, Opens, TurnsAway, Takes, Hears, Passes, Asks, Denies, Sends, Tells, GoesOn, Rests, Leaves, Misses, Served, Terms, AsksItem, IsClosing, Ends, Does, DoesAll, at, continue_text}
-use Rattle.proxy_acts.specs.Emissions.{Emission, Says}
+use Rattle.proxy_acts.specs.Emissions.{Emission}
 use Rattle.proxy_acts.specs.Told.{Piece, interim, final, bytes_in, answers_in, said_to, IsAnswerFirst, AreOnce}
-use Rattle.proxy_acts.specs.Unasked.{Unasked, unasked_at, no_bytes, without, changed_at, extended, left_after, TellsToGoOn, Recounts}
+use Rattle.proxy_acts.specs.Unasked.{Unasked, unasked_at, no_bytes, changed_at, extended, left_after, Recounts}
 use Rattle.proxy_acts.proofs.Asked.{own-after, left-same}
 use Rattle.proxy_acts.proofs.Awaiting.{which}
 use Rattle.proxy_acts.proofs.Conns.{differ}
 use Rattle.proxy_acts.proofs.Counting.{count, count-both, count-more, AreCounted, counted-rest, counted-first, stands-counted, NoneIdle, first-empty, none-with, HasEnough, enough-after, enough-with}
 use Rattle.proxy_acts.proofs.Doing.{did-act, did-denied}
-use Rattle.proxy_acts.proofs.Moves.{Whoever, IsSaid, ToldIn, Wait, Did, num_of, nums, did-then, told-then}
+use Rattle.proxy_acts.proofs.Moves.{Whoever, IsSaid, ToldIn, Wait, Did, nums, did-then, told-then}
 use Rattle.proxy_acts.proofs.Moving.{Moves, Begins, asks-begin}
 use Rattle.proxy_acts.proofs.Numbers.{at-number, extended-number}
 use Rattle.proxy_acts.proofs.Standing.{same-some, others-same}

@@ -29,7 +29,7 @@ use Rattle.proxy_acts.specs.Waiting.{IsDrained}
 use Rattle.proxy_acts.proofs.Order.{all-append}
 use Rattle.proxy_acts.proofs.Moves.{Whoever, TellsGiven, IsSaid, ToldIn, Wait, Did, nums, nums-in}
 use Rattle.proxy_acts.proofs.Doing.{did-all}
-use Rattle.proxy_acts.proofs.Pacing.{IsQuiet, flow-once, PacedAt, Paced, paced-all}
+use Rattle.proxy_acts.proofs.Pacing.{IsQuiet, flow-once, Paced, paced-all}
 
 -- entries at a place are one
 
