@@ -1,5 +1,6 @@
 -- How many bytes of a connection wait unread, and when more are too many.
 use Rattle.std.specs.Prelude.{◌≡◌, ◌⊎◌, ℕ, ◌+◌, ◌<◌, false, length, None, Some}
+use Rattle.limits.specs.declared.TheConstants.{MAX_UNREAD}
 use Rattle.http_edge.specs.Edges.{LeavesBytes}
 use Rattle.core_steps.specs.Resting.{HasConn}
 use Rattle.proxy_acts.specs.Acts.{Served}
@@ -20,4 +21,4 @@ pub record PassesLimit (c more : ℕ) (s : Served) : Type 0 where
   pub goes_on : waits.closing ≡ false
   pub unread : ℕ
   pub counts : WaitUnread c waits s unread
-  pub many : 1048576 < unread + more
+  pub many : MAX_UNREAD < unread + more
