@@ -1,5 +1,5 @@
-//! The command line: what its words ask for, the lines of a script, the rules that settings give, and
-//! how a failure is told.
+//! The command line: what its words ask for, the lines of a script, the rules that settings give,
+//! and how a failure is told.
 //!
 //! The one contract: a failure ends the program with the status that is its own, and the rules that
 //! a run or the gateway goes by are those of the settings.

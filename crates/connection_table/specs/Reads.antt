@@ -35,8 +35,8 @@ pub record Asks (i : Item) (x y : Inlet) : Type 0 where
   pub left : y ≡ inlet_after x.number i rest
   pub less : work_of y < work_of x
 
--- Nothing can be asked, and the client is told to go on, which it wasn't before. Just the bytes that
--- the text leaves count as unread.
+-- Nothing can be asked, and the client is told to go on, which it wasn't before. Just the bytes
+-- that the text leaves count as unread.
 pub record Continues (x y : Inlet) : Type 0 where
   pub goes_on : x.closing ≡ false
   pub idle : IsIdle x.text

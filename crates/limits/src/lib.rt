@@ -48,8 +48,8 @@ pub const MAX_CONNECTIONS: usize = 256;
 /// How many exchanges are open.
 pub const MAX_EXCHANGES: usize = 256;
 
-/// The longest message that asks a device: 960 bytes of its target's options, 1,024 of its body, and
-/// 32 for the header, the token, the other options and the payload marker.
+/// The longest message that asks a device: 960 bytes of its target's options, 1,024 of its body,
+/// and 32 for the header, the token, the other options and the payload marker.
 pub const MAX_MESSAGE_LEN: usize = 2016;
 
 /// What the entry of an answer counts, whatever it tells.

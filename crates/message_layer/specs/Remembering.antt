@@ -7,7 +7,8 @@ use Rattle.limits.specs.declared.TheConstants.{EXCHANGE_LIFETIME}
 use Rattle.message_layer.specs.declared.state.Heard.{Heard}
 use Rattle.message_layer.specs.declared.chains.Chains.{Chains}
 
--- Within this time messages with the same ID are one and the same (EXCHANGE_LIFETIME, section 4.8.2).
+-- Within this time messages with the same ID are one and the same (EXCHANGE_LIFETIME, RFC 7252,
+-- section 4.8.2).
 abbrev pub is_fresh : ℕ → Heard → Bool
 is_fresh t h = nat_lt (t - h.moment) EXCHANGE_LIFETIME
 
@@ -43,8 +44,9 @@ abbrev pub last_place : ℕ → List Heard → ℕ
 last_place c [] = 0
 last_place c (h ∷ rest) = place_beside c h (last_place c rest)
 
--- Messages are numbered in order, from one after those that were forgotten. A number that is not above these names none.
--- Each chain is known by the number of its last message, and each message by that of the one before it in its chain.
+-- Messages are numbered in order, from one after those that were forgotten. A number that is not
+-- above these names none. Each chain is known by the number of its last message, and each message
+-- by that of the one before it in its chain.
 pub record AreChained (forgotten : ℕ) (before last : List ℕ) (messages : List Heard) : Type 0 where
   pub few : forgotten + length messages < 2 ^ 32
   pub as_many : length before ≡ length messages
@@ -68,7 +70,8 @@ has_number_room x = nat_lt (deque_len x.before) (deque_capacity x.before) && nat
 abbrev pub chosen : ℕ → ℕ → Heard → Option Heard → Option Heard
 chosen t mid h found = if is_repeat t mid h then Some h else found
 
--- A chain was followed back to this number: the first repeat is among so many first messages, or else it was found.
+-- A chain was followed back to this number: the first repeat is among so many first messages, or
+-- else it was found.
 pub record IsFollowed (x : Chains) (messages : List Heard) (t mid number : ℕ) (found : Option Heard) : Type 0 where
   pub left : ℕ
   pub within : left ≤ length messages
