@@ -1,14 +1,12 @@
 -- What is drafted for a datagram is what the step says.
-use Rattle.std.proofs.Common.{◌≡◌, ℕ, ◌+◌, ◌≤◌, inl, inr, Bool, true, false, cond, List, [], ◌∷◌, ◌++◌, length, map, Option, Some, None, refl, sym, ap, subst, ◌∙◌, arith, append_assoc, length-append}
+use Rattle.std.proofs.Common.{◌≡◌, ℕ, ◌+◌, ◌≤◌, Bool, true, false, cond, List, [], ◌∷◌, ◌++◌, length, map, Option, Some, None, refl, sym, ap, subst, ◌∙◌, arith, length-append}
 use Rattle.std.specs.Prelude.{slice_get, filter, IfSome, ⊤}
 use Rattle.std.specs.List.{find, list_any, AllByRecursion}
 use Rattle.coap_codec.specs.Spelling.{Content, Spells}
 use Rattle.uri_map.specs.declared.peer.Peer.{Peer}
 use Rattle.ask_model.specs.Requests.{CoapRequest, Sense, Requests}
-use Rattle.ask_model.specs.Views.{Ask}
 use Rattle.ask_model.specs.declared.cause.Cause.TheVariants as C
 use Rattle.journal_book.specs.Entries.{Grounds, Live, Fault, Deed, Opens, Asks, Sends, Hears, Passes, Answers, Shuts, Seals, Written}
-use Rattle.journal_book.specs.Views.{ask_of}
 use Rattle.history_laws.specs.Responses.{is_whole, response_of}
 use Rattle.datagram_verdict.specs.Findings.{Found, found_by}
 use Rattle.message_layer.specs.Values.{LinkValue, Told, no_news, response, timed_out, was_reset, was_dropped, LinkState}
@@ -24,19 +22,22 @@ use Rattle.link_history.specs.Steps.{ended_token}
 use Rattle.core_steps.specs.declared.kept.Conn.{Conn}
 use Rattle.core_steps.specs.declared.kept.Exchange.{Exchange}
 use Rattle.core_steps.specs.State.{State, link_of, pend, conns_after}
-use Rattle.core_steps.specs.Steps.{is_under, is_other}
+use Rattle.core_steps.specs.Steps.{entered, is_under, is_other}
 use Rattle.core_steps.specs.Calls.{waits_on, ended_in, grounds_by}
-use Rattle.core_steps.specs.Entering.{first_deeds, in_turn, going_as, sent_as, told_deeds, told_if, confirm}
+use Rattle.core_steps.specs.Entering.{entered_all, first_deeds, in_turn, going_as, sent_as, told_deeds, told_if, confirm}
 use Rattle.core_steps.specs.Keeping.{Kept}
 use Rattle.whole_history.specs.Exchanges.{waiting}
 use Rattle.link_history.specs.Agrees.{WaitIn}
-use Rattle.linked_core.specs.Answering.{Given, HeardAs, IsFound, CountsFrom, IsGiven}
+use Rattle.linked_core.specs.Answering.{HeardAs, IsFound, CountsFrom, IsGiven}
 use Rattle.linked_core.specs.Asked.{IsOpenedIn}
 use Rattle.linked_core.specs.Drafts.{DraftValue, Drafts, conns_from}
-use Rattle.linked_core.specs.Hearing.{found_in, whole_in, answer_to, AddsAnswer, told_by, IsTimed, sent_next, note_next, link_deeds, over_in, hearing_deeds}
+use Rattle.linked_core.specs.declared.ending.Ended.{Ended}
+use Rattle.linked_core.specs.Ending.{EndsIn, finished}
+use Rattle.linked_core.specs.Leads.{Leads}
+use Rattle.linked_core.specs.Hearing.{found_in, whole_in, ended_by, told_by, IsTimed, sent_next, note_next, link_deeds, over_in, hearing_deeds}
 use Rattle.linked_core.specs.Values.{written}
-use Rattle.linked_core.proofs.Drafting.{map-append, length-map}
-use Rattle.linked_core.proofs.Openings.{found-holds, got-more, got-last}
+use Rattle.linked_core.proofs.Drafting.{length-map}
+use Rattle.linked_core.proofs.Openings.{found-holds, got-last}
 
 -- what ends is told on the grounds of the step
 
@@ -118,7 +119,7 @@ next-timed t p S link x h at k =
     by true (Some f) (w ∷ ws) next none (o ∷ os) a =
         let e = next refl in let s = a.0.greatest in rw (e.0) (omega (arith, s))
 
--- the answer stands in the entries
+-- what ends, ends as the entries say
 
 found-same : (f g : Found) → Some f ≡ Some g → f ≡ g
 found-same f g e = cc
@@ -145,95 +146,126 @@ found-stands h n t no_news q f hear e = absurd (found-none f e)
 found-stands h n t (timed_out token) q f hear e = absurd (found-none f e)
 found-stands h n t was_dropped q f hear e = absurd (found-none f e)
 
-written-same : (v w : Written) → Some v ≡ Some w → v ≡ w
-written-same v w e = cc
+-- The datagram stands first among what is drafted.
+heard-first : (h : List Written) (t : ℕ) (p : Peer) (d : List ℕ) (x : Heeding)
+    → slice_get (h ++ map (written t) (link_deeds p d x)) (length h)
+    ≡ Some (written t (Hears p d))
+heard-first h t p d x = got-last h (written t (Hears p d)) _
 
-asks-same : (c : ℕ) (a b : Ask) → Asks c a ≡ Asks c b → a ≡ b
-asks-same c a b e = cc
-
-ask-same : (t u c : ℕ) (a b : Ask) → Some (written t (Asks c a)) ≡ Some (written u (Asks c b)) → a
-    ≡ b
-ask-same t u c a b e =
-    asks-same c a b (ap (λ (w : Written). w.deed)
-    (written-same (written t (Asks c a)) (written u (Asks c b)) e))
-
-pub given-told : (h : List Written) (S : State) (t : ℕ) (p : Peer) (d : List ℕ) (x : Heeding)
-    (told : Told)
-    (ended : Option Exchange) (found : Option Found) (d0 d1 : DraftValue)
-    → h ≡ S.entries → d0.answers ≡ []
-    → Drafts t S (link_deeds p d x) d0
-    → Drafts t S (link_deeds p d x ++ told_by ended found S.conns) d1
-    → AddsAnswer h t ended found S.conns d0 d1
-    → ((e : Exchange) → ended ≡ Some e → IsOpenedIn h e)
-    → found ≡ found_in (length h) told
+pub ended-so : (h : List Written) (t : ℕ) (p : Peer) (d : List ℕ) (x : Heeding) (told : Told)
+    (ended : Option Exchange) (found : Option Found) (drafted : List Written)
+    → drafted ≡ map (written t) (link_deeds p d x)
+    → IfSome ended (IsOpenedIn h) → found ≡ found_in (length h) told
     → ((m : Content) → told ≡ response m → Spells m d)
-    → AllByRecursion (IsGiven (h ++ d1.entries)) d1.answers
-given-told h S t p d x told ended found d0 d1 same none a b (inl w) opened is spelled =
-    subst (AllByRecursion (IsGiven (h ++ d1.entries))) (sym (w ∙ none)) tt
-given-told h S t p d x told ended found d0 d1 same none a b
-    (inr (e, f, over, was, waits, tells)) opened is spelled =
-    subst (AllByRecursion (IsGiven (h ++ d1.entries)))
-    (sym (tells.answers ∙ ap (λ (gs : List Given). gs ++ g ∷ []) none)) (given, tt)
+    → AllByRecursion (EndsIn h drafted t) (ended_by ended found)
+ended-so h t p d x told None found drafted es opened is spelled = tt
+ended-so h t p d x told (Some e) None drafted es opened is spelled = tt
+ended-so h t p d x told (Some e) (Some f) drafted es opened is spelled =
+    (record { opened = opened; found = holds.0; counts = holds.1 }, tt)
   where
-    g : Given
-    g = answer_to t d0.next e f tells.mapping
-
-    last : Deed
-    last = Answers e.conn e.opening f.grounds
-
-    ds : List Deed
-    ds = link_deeds p d x
-
-    o : IsOpenedIn h e
-    o = opened e over
-
-    deeds : told_by ended found S.conns ≡ last ∷ []
-    deeds = rw (over, was, waits) refl
-
-    entries : d1.entries ≡ map (written t) ds ++ written t last ∷ []
-    entries = b.entries ∙ ap (λ (xs : List Deed). map (written t) (ds ++ xs)) deeds
-        ∙ map-append (written t) ds (last ∷ [])
-
-    whole : h ++ d1.entries ≡ (h ++ map (written t) ds) ++ written t last ∷ []
-    whole = ap (λ (ws : List Written). h ++ ws) entries
-        ∙ sym (append_assoc h (map (written t) ds) (written t last ∷ []))
-
-    place : d0.next ≡ length (h ++ map (written t) ds)
-    place =
-        let k = a.next in
-        let l : length h ≡ length S.entries = ap (λ (ws : List Written). length ws) same in
-        let m = length-append h (map (written t) ds) in
-        let n = length-map (written t) ds in
-        omega (arith, k, l, m, n)
-
-    first : slice_get (h ++ d1.entries) (length h) ≡ Some (written t (Hears p d))
-    first =
-        ap (λ (ws : List Written). slice_get (h ++ ws) (length h)) entries
-        ∙ got-last h (written t (Hears p d)) _
-
-    sense : tells.mapping.sense ≡ Requests o.request
-    sense =
-        ap (λ (v : Ask). v.sense) (ask-same tells.asked e.since e.conn
-        (ask_of tells.mapping) o.ask (sym tells.stands ∙ o.stands))
-        ∙ o.sense
-
-    hear : (m : Content) → told ≡ response m → HeardAs (h ++ d1.entries) (length h) t m
-    hear m r = record { peer = p; bytes = d; stands = first; spelled = spelled m r }
-
-    holds : Holds (h ++ d1.entries) t (Requests o.request) f
-    holds = found-stands (h ++ d1.entries) (length h) t told o.request f hear (sym is ∙ was)
-
-    given : IsGiven (h ++ d1.entries) g
-    given = record {
-      asked = tells.asked;
-      ask_stands = got-more h d1.entries e.opening _ tells.stands;
-      stands =
-          ap (λ (ws : List Written). slice_get ws d0.next) whole
-          ∙ (ap (λ (k : ℕ). slice_get ((h ++ map (written t) ds) ++ written t last ∷ []) k) place
-          ∙ got-last (h ++ map (written t) ds) (written t last) []);
-      found = subst (IsFound (h ++ d1.entries) f.told f.grounds) (sym sense) holds.0;
-      counts = holds.1;
+    hear : (m : Content) → told ≡ response m → HeardAs (h ++ drafted) (length h) t m
+    hear m r = record {
+      peer = p;
+      bytes = d;
+      stands = subst (λ (ws : List Written). slice_get (h ++ ws) (length h)
+          ≡ Some (written t (Hears p d))) (sym es) (heard-first h t p d x);
+      spelled = spelled m r;
     }
+
+    holds : Holds (h ++ drafted) t (Requests opened.request) f
+    holds = found-stands (h ++ drafted) (length h) t told opened.request f hear (sym is)
+
+-- what the link says leaves the connections
+confirmed-conns : (t : ℕ) (p : Peer) (bs : List (List ℕ)) (ds : List Deed) (S : State)
+    → (entered_all t (map (confirm p) bs ++ ds) S).conns
+    ≡ (entered_all t ds (entered_all t (map (confirm p) bs) S)).conns
+confirmed-conns t p [] ds S = refl
+confirmed-conns t p (b ∷ bs) ds S = confirmed-conns t p bs ds (entered t (confirm p b) S)
+
+confirms-none : (t : ℕ) (p : Peer) (bs : List (List ℕ)) (S : State)
+    → (entered_all t (map (confirm p) bs) S).conns ≡ S.conns
+confirms-none t p [] S = refl
+confirms-none t p (b ∷ bs) S = confirms-none t p bs (entered t (confirm p b) S)
+
+next-none : (t : ℕ) (p : Peer) (v : Option FirstSending) (S : State)
+    → (entered_all t (sent_next p v) S).conns ≡ S.conns
+next-none t p None S = refl
+next-none t p (Some x) S = refl
+
+link-conns : (t : ℕ) (p : Peer) (d : List ℕ) (x : Heeding) (S : State)
+    → (entered_all t (link_deeds p d x) S).conns ≡ S.conns
+link-conns t p d x S =
+    let S1 = entered t (Hears p d) S in
+    confirmed-conns t p (listed x.reply) (sent_next p x.next) S1
+    ∙ next-none t p x.next (entered_all t (map (confirm p) (listed x.reply)) S1)
+    ∙ confirms-none t p (listed x.reply) S1
+
+entered-join : (t : ℕ) (xs ys : List Deed) (S : State)
+    → entered_all t (xs ++ ys) S ≡ entered_all t ys (entered_all t xs S)
+entered-join t [] ys S = refl
+entered-join t (x ∷ xs) ys S = entered-join t xs ys (entered t x S)
+
+-- What ends is told as the deeds say.
+told-ends : (t : ℕ) (ended : Option Exchange) (found : Option Found) (U : State)
+    → finished t (ended_by ended found) U ≡ entered_all t (told_by ended found U.conns) U
+told-ends t None found U = refl
+told-ends t (Some e) None U = refl
+told-ends t (Some e) (Some f) U = by (list_any (waits_on e) U.conns)
+  where
+    by : (b : Bool) → cond b (entered t (Answers e.conn e.opening f.grounds) U) U
+        ≡ entered_all t (cond b (Answers e.conn e.opening f.grounds ∷ []) []) U
+    by true = refl
+    by false = refl
+
+pub ends-told : (t : ℕ) (p : Peer) (d : List ℕ) (x : Heeding) (ended : Option Exchange)
+    (found : Option Found) (S : State)
+    → finished t (ended_by ended found) (entered_all t (link_deeds p d x) S)
+    ≡ entered_all t (link_deeds p d x ++ told_by ended found S.conns) S
+ends-told t p d x ended found S =
+    let U = entered_all t (link_deeds p d x) S in
+    told-ends t ended found U
+    ∙ ap (λ (cs : List Conn). entered_all t (told_by ended found cs) U) (link-conns t p d x S)
+    ∙ sym (entered-join t (link_deeds p d x) (told_by ended found S.conns) S)
+
+pub heard-leads : (t : ℕ) (p : Peer) (d : List ℕ) (x : Heeding) (told : Told) (S : State)
+    (xs : List Ended) (d0 d1 : DraftValue)
+    → Drafts t S (link_deeds p d x) d0 → d0.answers ≡ []
+    → xs ≡ ended_by (ended_in (over_in x) S.exchanges) (found_in (length S.entries) told)
+    → ((U : State) → Leads t S U d0 → Leads t S (finished t xs U) d1)
+    → Leads t S (entered_all t (hearing_deeds p d x told S) S) d1
+heard-leads t p d x told S xs d0 d1 drafts none are more =
+    let U = entered_all t (link_deeds p d x) S in
+    let first : Leads t S U d0 = record {
+      deeds = link_deeds p d x;
+      drafts = drafts;
+      is = refl;
+      given = subst (AllByRecursion (IsGiven (S.entries ++ d0.entries))) (sym none) tt;
+    } in
+    subst (λ (V : State). Leads t S V d1)
+    (ap (λ (ys : List Ended). finished t ys U) are
+    ∙ ends-told t p d x (ended_in (over_in x) S.exchanges) (found_in (length S.entries) told) S)
+    (more U first)
+
+-- how many there are
+next-short : (p : Peer) (v : Option FirstSending) → length (sent_next p v) ≤ 1
+next-short p None = omega arith
+next-short p (Some x) = omega arith
+
+pub reply-few : (p : Peer) (v : Option (List ℕ)) → length (map (confirm p) (listed v)) ≤ 1
+reply-few p None = omega arith
+reply-few p (Some b) = omega arith
+
+pub link-few : (p : Peer) (d : List ℕ) (x : Heeding) → length (link_deeds p d x) ≤ 3
+link-few p d x =
+    let r = reply-few p x.reply in
+    let n = next-short p x.next in
+    let l = length-append (map (confirm p) (listed x.reply)) (sent_next p x.next) in
+    omega (arith, r, n, l)
+
+pub ended-few : (e : Option Exchange) (f : Option Found) → length (ended_by e f) ≤ 1
+ended-few None f = omega arith
+ended-few (Some e) None = omega arith
+ended-few (Some e) (Some f) = omega arith
 
 -- what holds of all exchanges holds of the one that ends
 
@@ -316,7 +348,3 @@ hearing-few p d x told S =
           (confirms-few p (listed x.reply)) (next-few p x.next),
     )
     (told-few (ended_in (over_in x) S.exchanges) (found_in (length S.entries) told) S.conns)
-
-pub reply-few : (p : Peer) (v : Option (List ℕ)) → length (map (confirm p) (listed v)) ≤ 1
-reply-few p None = omega arith
-reply-few p (Some b) = omega arith

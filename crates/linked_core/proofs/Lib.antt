@@ -20,6 +20,7 @@ pub mod BeginSound
 pub mod TickDue
 pub mod TickExpiring
 pub mod TickLeads
+pub mod Endings
 pub mod TickSince
 pub mod Sinces
 pub mod TickSound

@@ -1,24 +1,20 @@
 -- Where a draft leads, one entry after another.
-use Rattle.std.proofs.Common.{◌≡◌, ℕ, ◌+◌, ◌<◌, suc, zero, cond, Bool, true, false, List, [], ◌∷◌, ◌++◌, length, take, get_or, Option, Some, refl, sym, ap, subst, ◌∙◌, arith, append_assoc, length-append}
-use Rattle.std.specs.Prelude.{slice_get, fold}
-use Rattle.std.specs.List.{AllByRecursion, list_any}
+use Rattle.std.proofs.Common.{◌≡◌, ℕ, ◌+◌, ◌<◌, suc, zero, List, [], ◌∷◌, ◌++◌, length, take, get_or, Option, refl, sym, ap, subst, ◌∙◌, arith, append_assoc, length-append}
+use Rattle.std.specs.Prelude.{fold}
+use Rattle.std.specs.List.{AllByRecursion}
 use Rattle.uri_map.specs.declared.peer.Peer.{Peer}
-use Rattle.journal_book.specs.Entries.{Deed, Sends, Answers, Written}
-use Rattle.link_history.proofs.Facts.{all-push}
-use Rattle.core_steps.specs.declared.kept.Exchange.{Exchange}
+use Rattle.journal_book.specs.Entries.{Deed, Sends, Written}
 use Rattle.core_steps.specs.State.{State, conns_after}
 use Rattle.core_steps.specs.Steps.{entered}
-use Rattle.core_steps.specs.Calls.{waits_on, times_out}
-use Rattle.core_steps.specs.Entering.{entered_all, timeout_of}
+use Rattle.core_steps.specs.Entering.{entered_all}
 use Rattle.linked_core.specs.Values.{written}
-use Rattle.linked_core.specs.Answering.{Given, IsGiven}
+use Rattle.linked_core.specs.Answering.{IsGiven}
 use Rattle.linked_core.specs.Drafts.{DraftValue, Drafts, conns_from, empty_draft}
-use Rattle.linked_core.specs.Leads.{Leads, IsTimeout, timeout_given}
-use Rattle.linked_core.proofs.Drafting.{map-append, drafts-none, length-map}
-use Rattle.linked_core.proofs.Openings.{got-more, got-last}
+use Rattle.linked_core.specs.Leads.{Leads}
+use Rattle.linked_core.proofs.Drafting.{map-append, drafts-none}
 use Rattle.linked_core.proofs.Stepping.{given-stay}
 
-entered-push : (t : ℕ) (ds : List Deed) (x : Deed) (S : State)
+pub entered-push : (t : ℕ) (ds : List Deed) (x : Deed) (S : State)
     → entered_all t (ds ++ x ∷ []) S ≡ entered t x (entered_all t ds S)
 entered-push t [] x S = refl
 entered-push t (d ∷ ds) x S = entered-push t ds x (entered t d S)
@@ -40,7 +36,7 @@ pub leads-none : (t : ℕ) (S : State) → Leads t S S (empty_draft (length S.en
 leads-none t S = record { deeds = []; drafts = drafts-none t S; is = refl; given = tt }
 
 -- the entries after one more
-longer : (t : ℕ) (S : State) (ds : List Deed) (x : Deed) (d e : DraftValue) → Drafts t S ds d
+pub longer : (t : ℕ) (S : State) (ds : List Deed) (x : Deed) (d e : DraftValue) → Drafts t S ds d
     → Drafts t S (ds ++ x ∷ []) e
     → S.entries ++ e.entries ≡ (S.entries ++ d.entries) ++ written t x ∷ []
 longer t S ds x d e a b =
@@ -73,66 +69,6 @@ pub leads-send : (t : ℕ) (S U : State) (p : Peer) (b b' : List ℕ) (w : Optio
 leads-send t S U p b b' w d e h is more same =
     subst (λ (v : List ℕ). Leads t S (entered t (Sends p v w) U) e) is
     (leads-more t S U (Sends p b w) d e h more same)
-
--- the answer to an ask whose exchange took too long
-pub leads-timeout : (t : ℕ) (S U : State) (x : Exchange) (g : Given) (d e : DraftValue) (h : Leads t
-    S U d)
-    → IsTimeout S.entries t d.next x g
-    → (g.number ≡ d.next → Drafts g.moment S h.deeds d → Drafts g.moment S
-    (h.deeds ++ Answers g.conn g.ask g.found.grounds ∷ []) e)
-    → e.answers ≡ d.answers ++ g ∷ [] → list_any (waits_on x) d.conns ≡ true
-    → Leads t S (times_out t U x) e
-leads-timeout t S U x g d e h is more answers waits =
-    let n = d.next in
-    let made = timeout_given t n x is.mapping in
-    let w : Deed = Answers x.conn x.opening (timeout_of x) in
-    let drafts : Drafts t S (h.deeds ++ w ∷ []) e =
-    subst (λ (v : Given). Drafts v.moment S (h.deeds ++ Answers v.conn v.ask v.found.grounds ∷ [])
-    e) is.is
-    (more (ap (λ (v : Given). v.number) is.is)
-    (subst (λ (k : ℕ). Drafts k S h.deeds d) (sym (ap (λ (v : Given). v.moment) is.is))
-    h.drafts)) in
-    let all : S.entries ++ e.entries ≡ (S.entries ++ d.entries) ++ written t w ∷ [] = longer t S
-    h.deeds w d e h.drafts drafts in
-    let place : length (S.entries ++ d.entries) ≡ n =
-    length-append S.entries d.entries ∙ ap (λ (k : ℕ). length S.entries + k)
-    (ap length h.drafts.entries ∙ length-map (written t) h.deeds) ∙ sym h.drafts.next in
-    let one : IsGiven ((S.entries ++ d.entries) ++ written t w ∷ []) made = record {
-      asked = x.since;
-      ask_stands = got-more (S.entries ++ d.entries) (written t w ∷ []) x.opening _
-          (got-more S.entries d.entries x.opening _ is.stands);
-      stands = subst
-          (λ (k : ℕ). slice_get ((S.entries ++ d.entries) ++ written t w ∷ []) k ≡ Some
-          (written t w)) place (got-last (S.entries ++ d.entries) (written t w) []);
-      found = refl;
-      counts = refl;
-    } in
-    let old : AllByRecursion (IsGiven ((S.entries ++ d.entries) ++ written t w ∷ []))
-    d.answers = given-stay (S.entries ++ d.entries) (written t w ∷ []) d.answers h.given in
-    let both : AllByRecursion (IsGiven ((S.entries ++ d.entries) ++ written t w ∷ []))
-    (d.answers ++ made ∷ []) =
-    all-push (IsGiven ((S.entries ++ d.entries) ++ written t w ∷ [])) d.answers made old one in
-    record {
-      deeds = h.deeds ++ w ∷ [];
-      drafts = drafts;
-      is = entered-push t h.deeds w S ∙ ap (entered t w) h.is
-          ∙ ap (λ (b : Bool). cond b (entered t w U) U)
-          (sym (ap (list_any (waits_on x)) (sym (leads-conns t S U d h)) ∙ waits));
-      given = subst (AllByRecursion (IsGiven (S.entries ++ e.entries)))
-          (sym (answers ∙ ap (λ (v : Given). d.answers ++ v ∷ []) is.is))
-          (subst (λ (es : List Written). AllByRecursion (IsGiven es) (d.answers ++ made ∷ []))
-          (sym all) both);
-    }
-
--- nobody waits for it
-pub leads-still : (t : ℕ) (S U : State) (x : Exchange) (d : DraftValue) → Leads t S U d
-    → list_any (waits_on x) d.conns ≡ false
-    → Leads t S (times_out t U x) d
-leads-still t S U x d h none =
-    let w : Deed = Answers x.conn x.opening (timeout_of x) in
-    let e : U ≡ times_out t U x = ap (λ (b : Bool). cond b (entered t w U) U)
-    (sym (ap (list_any (waits_on x)) (sym (leads-conns t S U d h)) ∙ none)) in
-    subst (λ (V : State). Leads t S V d) e h
 
 -- one element more of a fold
 pub fold-take : {A B : Type 0} (f : B → A → B) (b : B) (xs : List A) (i : ℕ) (x : A) → i < length xs

@@ -1,12 +1,9 @@
 -- What a datagram leaves of a core.
-use Rattle.std.specs.Prelude.{◌≡◌, ◌⊎◌, ℕ, ◌+◌, ◌<◌, true, List, [], ◌∷◌, ◌++◌, length, map, filter, Option, Some, None, slice_get, if◌then◌else◌, ⊤}
-use Rattle.std.specs.List.{list_any}
+use Rattle.std.specs.Prelude.{ℕ, ◌+◌, ◌<◌, List, [], ◌∷◌, ◌++◌, length, map, filter, Option, Some, None, if◌then◌else◌, ⊤}
 use Rattle.coap_codec.specs.Spelling.{Content}
 use Rattle.uri_map.specs.declared.peer.Peer.{Peer}
 use Rattle.ask_model.specs.declared.cause.Cause.TheVariants.{Reset}
-use Rattle.ask_model.specs.Views.{Mapping}
-use Rattle.journal_book.specs.Entries.{Fault, Deed, Asks, Sends, Hears, Written}
-use Rattle.journal_book.specs.Views.{ask_of}
+use Rattle.journal_book.specs.Entries.{Fault, Deed, Sends, Hears}
 use Rattle.history_laws.specs.Responses.{Response, is_whole, response_of}
 use Rattle.datagram_verdict.specs.Findings.{Found, Fails, found_by}
 use Rattle.message_layer.specs.Values.{LinkState, Told, response, was_reset}
@@ -17,14 +14,13 @@ use Rattle.link_history.specs.Steps.{ended_token}
 use Rattle.core_steps.specs.declared.kept.Conn.{Conn}
 use Rattle.core_steps.specs.declared.kept.Exchange.{Exchange}
 use Rattle.core_steps.specs.State.{State, link_of, with_link}
-use Rattle.core_steps.specs.Calls.{waits_on, ended_in}
+use Rattle.core_steps.specs.Calls.{ended_in}
 use Rattle.core_steps.specs.Steps.{given_out, went_out, is_other}
 use Rattle.core_steps.specs.Links.{awaits_no_more}
 use Rattle.core_steps.specs.Entering.{entered_all, confirm, told_deeds}
-use Rattle.linked_core.specs.Answering.{Given}
+use Rattle.linked_core.specs.declared.ending.Ended.{Ended}
 use Rattle.linked_core.specs.Drafts.{DraftValue}
 use Rattle.linked_core.specs.States.{with_draft}
-use Rattle.linked_core.specs.Values.{written}
 
 -- the whole response that a message is
 abbrev pub whole_in : Content → Option Response
@@ -56,38 +52,15 @@ first_number n x = n + 1 + length (listed x.reply)
 abbrev pub exchanges_after : ℕ → Heeding → List Exchange → List Exchange
 exchanges_after n x es = note_next (first_number n x) x.next (filter (is_other (over_in x)) es)
 
--- The ask of this exchange is answered so, under this number.
-abbrev pub answer_to : ℕ → ℕ → Exchange → Found → Mapping → Given
-answer_to t n e f m = record {
-  conn = e.conn;
-  ask = e.opening;
-  number = n;
-  moment = t;
-  heard = t;
-  mapping = m;
-  found = f;
-}
-
--- One answer more: to the ask of this exchange, which stands.
-pub record Tells (h : List Written) (t : ℕ) (e : Exchange) (f : Found)
-    (old new : DraftValue) : Type 0 where
-  pub asked : ℕ
-  pub mapping : Mapping
-  pub stands : slice_get h e.opening ≡ Some (written asked (Asks e.conn (ask_of mapping)))
-  pub answers : new.answers ≡ old.answers ++ answer_to t old.next e f mapping ∷ []
+-- the exchange that ends, if any, with what is found
+abbrev pub ended_by : Option Exchange → Option Found → List Ended
+ended_by (Some e) (Some f) = record { exchange = e; finding = f } ∷ []
+ended_by _ _ = []
 
 -- What ends is told to the connection that waits on it.
 abbrev pub told_by : Option Exchange → Option Found → List Conn → List Deed
 told_by (Some e) (Some f) cs = told_deeds f.grounds e cs
 told_by _ _ cs = []
-
--- one answer more, if any
-abbrev pub AddsAnswer : List Written → ℕ → Option Exchange → Option Found → List Conn
-    → DraftValue → DraftValue → Type 0
-AddsAnswer h t ended found cs old new =
-    (new.answers ≡ old.answers)
-    ⊎ ((e : Exchange) × (f : Found) × (ended ≡ Some e) × (found ≡ Some f)
-    × (list_any (waits_on e) cs ≡ true) × Tells h t e f old new)
 
 -- the message that goes out next, with its first timeout
 abbrev pub IsTimed : Option FirstSending → Type 0

@@ -4,6 +4,7 @@ pub mod Beginning
 pub mod Calls
 pub mod Drafts
 pub mod Due
+pub mod Ending
 pub mod Endpoints
 pub mod Expiring
 pub mod Faults

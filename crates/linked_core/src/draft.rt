@@ -6,7 +6,7 @@ ghost use Rattle.journal_book.specs.Entries.{Deed, Sends, Answers, entry_size};
 ghost use Rattle.journal_book.specs.Views.{event_of, item_of};
 ghost use Rattle.core_steps.specs.State.{State, pend, conns_after};
 ghost use Rattle.linked_core.specs.Values.{outgoing_of};
-ghost use Rattle.linked_core.specs.Answering.{given_of};
+ghost use Rattle.linked_core.specs.Answering.{given_of, answer_entry};
 ghost use Rattle.linked_core.specs.Places.{RiseBy, id_of};
 ghost use Rattle.linked_core.specs.Drafts.{Drafts, IsAlone, OpensNone, empty_draft, draft_with, draft_sending, draft_answering};
 
@@ -258,6 +258,8 @@ impl<R: Relation> Draft<R> {
             (ds ++ Answers answer.conn answer.ask answer.finding.grounds ∷ []) self.new) }
         ensures answers { OnOk result (self.new.answers
             ≡ self.old.answers ++ given_of answer ∷ []) }
+        ensures entries { OnOk result (self.new.entries
+            ≡ self.old.entries ++ answer_entry (given_of answer) ∷ []) }
         ensures next { OnOk result (self.new.next ≡ self.old.next + 1) }
     {
         self.add_answer(answer)?;

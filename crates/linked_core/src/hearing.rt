@@ -8,7 +8,7 @@ ghost use Rattle.linked_core.specs.Answering.{IsGiven};
 ghost use Rattle.linked_core.specs.Endpoints.{IsFirstAt};
 ghost use Rattle.std.specs.Prelude.{ℕ, ◌≡◌, ◌≤◌, ◌<◌, ◌^◌, ◌+◌, ◌∷◌, ◌++◌, [], List, None, Some, false, map, filter, sum_by, length, slice_get, IfOk, IfSome, OnOk, OnErr};
 ghost use Rattle.limits.specs.declared.TheConstants.{LAST_MOMENT, MAX_ENTRIES};
-ghost use Rattle.journal_book.specs.Entries.{Deed, Answers};
+ghost use Rattle.journal_book.specs.Entries.{Deed};
 ghost use Rattle.message_layer.specs.Values.{told, response};
 ghost use Rattle.message_layer.specs.Hearing.{listed};
 ghost use Rattle.message_layer.specs.Prepared.{IsPreparedFor, IsHearing, MayHeed};
@@ -23,14 +23,13 @@ ghost use Rattle.linked_core.specs.Drafts.{Drafts};
 ghost use Rattle.linked_core.specs.Sound.{IsSound};
 ghost use Rattle.linked_core.specs.Values.{stepped};
 ghost use Rattle.linked_core.specs.Asked.{IsOpenedIn};
-ghost use Rattle.linked_core.specs.Hearing.{exchanges_after, first_number, note_next, tables_after, with_heard, found_in, over_in, heeds, Tells, AddsAnswer, told_by, IsTimed, sent_next, link_deeds, hearing_deeds};
+ghost use Rattle.linked_core.specs.Hearing.{exchanges_after, first_number, note_next, tables_after, with_heard, found_in, over_in, heeds, ended_by, IsTimed, sent_next, link_deeds, hearing_deeds};
 ghost use Rattle.linked_core.specs.Places.{RiseBy, id_of, number_of};
 ghost use Rattle.linked_core.specs.States.{peer_link, state_of, seen, given_in, outgoing, SeesSame};
 
-use crate::answer::Answer;
 use crate::draft::Draft;
+use crate::ending::{Ended, draft_ends};
 use crate::exchanges;
-use crate::requests::request_of;
 use crate::room::takes;
 use crate::sealing::seal;
 use crate::state::{Endpoint, State, commit, make_places};
@@ -38,9 +37,10 @@ use ask_model::{Bytes as Whole, Cause};
 use coap_codec::Token;
 use core_steps::Exchange;
 use datagram_verdict::{Finding, finding_of};
-use journal_book::{Entry, Event, Journal};
+use journal_book::{Entry, Event};
 use message_layer::{Bytes, FirstSending, Hearing, Heeding, News, Up};
 use std::alloc::{AllocError, Global};
+use std::collections::VecDeque;
 use transformers::Relation;
 use uri_map::Peer;
 
@@ -187,60 +187,26 @@ fn draft_link<R: Relation>(
     Ok(draft)
 }
 
-/// The ask of the exchange is answered.
-fn draft_answer<R: Relation>(
-    journal: &Journal<R>,
-    draft: &mut Draft<R>,
-    moment: u64,
-    exchange: &Exchange,
-    finding: Finding,
-) -> Result<(), AllocError>
-    requires next { draft.old.next < 4294967295 }
-    requires opened { IsOpenedIn journal.now.entries exchange.now }
-    ensures drafts { (S : CoreState) (ds : List Deed) → Drafts moment S ds draft.old
-        → OnOk result (Drafts moment S
-        (ds ++ Answers exchange.now.conn exchange.now.opening finding.grounds ∷ []) draft.new) }
-    ensures tells { OnOk result
-        (Tells journal.now.entries moment exchange.now finding draft.old draft.new) }
+/// The exchange that the datagram in the entry with this number ends, if any, and what its ask comes
+/// to.
+fn ended_by(
+    alloc: Global,
+    exchanges: &[Exchange],
+    number: u32,
+    heeding: &Heeding,
+    up: Up,
+) -> Result<VecDeque<Ended>, AllocError>
+    requires { RiseBy number_of exchanges.now }
+    ensures { IfOk result (λ v. v.items
+        ≡ ended_by (ended_in (over_in heeding.now) exchanges.now) (found_in number (told up))) }
 {
-    let mapped = request_of(journal, exchange.opening)?;
-    let number = draft.next();
-    draft.answer(Answer {
-        conn: exchange.conn,
-        ask: exchange.opening,
-        number,
-        mapped,
-        moment,
-        heard: moment,
-        finding,
-    })?;
-    Ok(())
-}
-
-/// Where an exchange ends, its connection is answered, if it waits still.
-fn draft_told<R: Relation>(
-    s: &State<R>,
-    draft: &mut Draft<R>,
-    moment: u64,
-    ended: Option<Exchange>,
-    finding: Option<Finding>,
-) -> Result<(), AllocError>
-    requires next { draft.old.next < 4294967295 }
-    requires ordered { RiseBy id_of s.now.conns.items }
-    requires opened { IfSome ended (λ e. IsOpenedIn s.now.journal.entries e) }
-    ensures drafts { (S : CoreState) (ds : List Deed) → Drafts moment S ds draft.old
-        → OnOk result (Drafts moment S
-        (ds ++ told_by ended finding s.now.conns.items) draft.new) }
-    ensures adds { OnOk result
-        (AddsAnswer s.now.journal.entries moment ended finding s.now.conns.items
-        draft.old draft.new) }
-{
-    if let (Some(exchange), Some(finding)) = (ended, finding) {
-        if exchanges::is_awaited(&exchange, &s.conns) {
-            draft_answer(&s.journal, draft, moment, &exchange, finding)?;
-        }
+    let mut ended = VecDeque::new(alloc);
+    let exchange = ended_exchange(exchanges, ended_token(heeding));
+    let finding = finding_in(alloc, number, up)?;
+    if let (Some(exchange), Some(finding)) = (exchange, finding) {
+        ended.push_back(Ended { exchange, finding })?;
     }
-    Ok(())
+    Ok(ended)
 }
 
 /// All that the datagram brings.
@@ -266,9 +232,8 @@ fn draft_heard<R: Relation>(
 {
     let number = s.journal.len() as u32;
     let mut draft = draft_link(alloc, s, moment, peer, datagram, heeding)?;
-    let ended = ended_exchange(&s.exchanges, ended_token(heeding));
-    let finding = finding_in(alloc, number, up)?;
-    draft_told(s, &mut draft, moment, ended, finding)?;
+    let ended = ended_by(alloc, &s.exchanges, number, heeding, up)?;
+    draft_ends(&mut draft, &s.journal, ended, moment)?;
     Ok(draft)
 }
 

@@ -12,6 +12,7 @@ mod beginning;
 mod core_state;
 mod draft;
 mod due;
+mod ending;
 mod endpoints;
 mod exchanges;
 mod expiring;

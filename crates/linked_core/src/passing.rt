@@ -75,7 +75,7 @@ fn draft_tick<R: Relation>(
         event: Event::Passed,
     })?;
     draft_turns(&mut draft, still, &s.endpoints, turns, moment)?;
-    draft_timeouts(&mut draft, &s.journal, over, moment)?;
+    draft_timeouts(alloc, &mut draft, &s.journal, over, moment)?;
     Ok(draft)
 }
 

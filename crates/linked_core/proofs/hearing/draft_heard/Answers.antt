@@ -1,54 +1,58 @@
-use Rattle.std.proofs.Common.{◌≡◌, ℕ, ◌++◌, Option, sym, ap, ◌∙◌, subst, refl, rules}
-use Rattle.std.specs.Prelude.{IfSome}
-use Rattle.datagram_verdict.specs.Findings.{Found}
+use Rattle.std.proofs.Common.{◌≡◌, ◌≤◌, ℕ, length, ap, ◌∙◌, refl, arith}
 use Rattle.message_layer.specs.Values.{told}
-use Rattle.core_steps.specs.declared.kept.Exchange.{Exchange}
+use Rattle.core_steps.specs.State.{State}
 use Rattle.core_steps.specs.Calls.{ended_in}
 use Rattle.linked_core.specs.Asked.{IsOpenedIn}
-use Rattle.linked_core.specs.Drafts.{Drafts}
-use Rattle.linked_core.specs.Hearing.{found_in, over_in, told_by, link_deeds}
+use Rattle.linked_core.specs.Hearing.{found_in, over_in, ended_by, hearing_deeds}
 use Rattle.linked_core.specs.States.{state_of}
-use Rattle.linked_core.proofs.Heard.{ended-is, if-ended, given-told}
+use Rattle.linked_core.proofs.Endings.{leads-drafts}
+use Rattle.linked_core.proofs.Heard.{if-ended, ended-so, link-few, ended-few, heard-leads}
 use Rattle.linked_core.proofs.hearing.draft_heard.Goals as goal
 
-pub draft_told-requires-clause-opened : goal.draft_told-requires-clause-opened
-draft_told-requires-clause-opened g c =
-    let over : c.ended_exchange-ended.result ≡ ended_in
-    (over_in c.args.heeding.now) c.args.s.now.exchanges.items = search rules in
-    subst (λ (v : Option Exchange). IfSome v (IsOpenedIn c.args.s.now.journal.entries)) (sym over)
-    (if-ended (IsOpenedIn c.args.s.now.journal.entries)
-    (over_in c.args.heeding.now) c.args.s.now.exchanges.items c.requires.opened)
+pub draft_ends-requires-clause-room : goal.draft_ends-requires-clause-room
+draft_ends-requires-clause-room g c =
+    let next = c.in_ok-draft.ensures.drafts.next in
+    let few = c.requires.few in
+    let link = link-few c.args.peer c.args.datagram.now c.args.heeding.now in
+    let ended : length c.in_ok-ended.ended.items ≤ 1 = rw (c.in_ok-ended.ensures)
+    (ended-few (ended_in (over_in c.args.heeding.now) c.deref.result.now)
+    (found_in c.len-number.result (told c.args.up))) in
+    omega (arith, next, few, link, ended)
+
+pub draft_ends-requires-clause-ends : goal.draft_ends-requires-clause-ends
+draft_ends-requires-clause-ends g c =
+    let h = c.args.s.now.journal.entries in
+    rw (c.in_ok-ended.ensures)
+    (ended-so h c.args.moment c.args.peer c.args.datagram.now c.args.heeding.now (told c.args.up)
+    _ _ c.in_ok-draft.draft.entries c.in_ok-draft.ensures.drafts.entries
+    (if-ended (IsOpenedIn h) (over_in c.args.heeding.now) _
+    (rw (c.deref.ensures.value) c.requires.opened))
+    (ap (λ (k : ℕ). found_in k (told c.args.up)) c.len-number.ensures) c.requires.spelled)
 
 pub returns-clause-drafts : goal.returns-clause-drafts
 returns-clause-drafts g c =
-    let S = state_of c.args.s.now in
-    let ds = link_deeds c.args.peer c.args.datagram.now c.args.heeding.now in
-    let over : c.ended_exchange-ended.result ≡ ended_in
-    (over_in c.args.heeding.now) c.args.s.now.exchanges.items = search rules in
-    let found = c.in_ok-finding.ensures ∙ ap (λ (k : ℕ). found_in k (told c.args.up))
-    c.len-number.ensures in
-    let two = c.in_ok-draft_told.ensures.drafts S ds c.in_ok-draft.ensures.drafts in
-    subst (λ (v : Option Found). Drafts c.args.moment S
-    (ds ++ told_by (ended_in (over_in c.args.heeding.now) c.args.s.now.exchanges.items) v
-    c.args.s.now.conns.items) c.draft_told.new.draft) found
-    (subst (λ (v : Option Exchange). Drafts c.args.moment S
-    (ds ++ told_by v c.in_ok-finding.finding c.args.s.now.conns.items) c.draft_told.new.draft)
-    over two)
+    let t = c.args.moment in
+    let S : State = state_of c.args.s.now in
+    let x = c.args.heeding.now in
+    let are : c.in_ok-ended.ended.items ≡ ended_by (ended_in (over_in x) S.exchanges)
+    (found_in (length S.entries) (told c.args.up)) =
+    c.in_ok-ended.ensures ∙ rw (c.deref.ensures.value, c.len-number.ensures) refl in
+    leads-drafts t S (hearing_deeds c.args.peer c.args.datagram.now x (told c.args.up) S)
+    c.draft_ends.new.draft
+    (heard-leads t c.args.peer c.args.datagram.now x (told c.args.up) S c.in_ok-ended.ended.items
+    c.in_ok-draft.draft c.draft_ends.new.draft c.in_ok-draft.ensures.drafts
+    c.in_ok-draft.ensures.answers are
+    (λ U h. c.in_ok-draft_ends.ensures.leads S U refl h))
 
 pub returns-clause-given : goal.returns-clause-given
 returns-clause-given g c =
-    let S = state_of c.args.s.now in
-    let ds = link_deeds c.args.peer c.args.datagram.now c.args.heeding.now in
-    let found = c.in_ok-finding.ensures ∙ ap (λ (k : ℕ). found_in k (told c.args.up))
-    c.len-number.ensures in
-    let over : c.ended_exchange-ended.result ≡ ended_in
-    (over_in c.args.heeding.now) c.args.s.now.exchanges.items = search rules in
-    let two = c.in_ok-draft_told.ensures.drafts S ds c.in_ok-draft.ensures.drafts in
-    given-told c.args.s.now.journal.entries S c.args.moment c.args.peer c.args.datagram.now
-    c.args.heeding.now (told c.args.up)
-    _ _ _ _ refl c.in_ok-draft.ensures.answers c.in_ok-draft.ensures.drafts two
-    c.in_ok-draft_told.ensures.adds
-    (λ e k. ended-is (IsOpenedIn c.args.s.now.journal.entries)
-    (over_in c.args.heeding.now) c.args.s.now.exchanges.items e
-    (sym over ∙ k) c.requires.opened)
-    found c.requires.spelled
+    let t = c.args.moment in
+    let S : State = state_of c.args.s.now in
+    let x = c.args.heeding.now in
+    let are : c.in_ok-ended.ended.items ≡ ended_by (ended_in (over_in x) S.exchanges)
+    (found_in (length S.entries) (told c.args.up)) =
+    c.in_ok-ended.ensures ∙ rw (c.deref.ensures.value, c.len-number.ensures) refl in
+    (heard-leads t c.args.peer c.args.datagram.now x (told c.args.up) S c.in_ok-ended.ended.items
+    c.in_ok-draft.draft c.draft_ends.new.draft c.in_ok-draft.ensures.drafts
+    c.in_ok-draft.ensures.answers are
+    (λ U h. c.in_ok-draft_ends.ensures.leads S U refl h)).given
