@@ -22,7 +22,8 @@ use Rattle.linked_core.specs.declared.fault.AskFault.{AskFault}
 use Rattle.linked_core.specs.declared.fault.AskFault.TheVariants as Ask
 use Rattle.linked_core.specs.declared.state.State.{State as RustState}
 use Rattle.linked_core.specs.Answering.{Given}
-use Rattle.linked_core.specs.Beginning.{IsTextFor, sent_first, exchange_by, with_exchange, Leaves, MayBegin, IsEntered, IsBegunBy}
+use Rattle.linked_core.specs.Beginning.{IsTextFor, exchange_by, with_exchange, Leaves, MayBegin, IsEntered, IsBegunBy}
+use Rattle.linked_core.specs.Sending.{sent_first}
 use Rattle.linked_core.specs.Drafts.{DraftValue, Drafts}
 use Rattle.linked_core.specs.Sound.{SoundState, IsSound}
 use Rattle.linked_core.specs.States.{state_of, given_in, outgoing, seen, core_of, with_draft, SeesSame}

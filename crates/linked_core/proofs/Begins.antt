@@ -32,7 +32,8 @@ use Rattle.core_steps.proofs.Begun.{begins-enter}
 use Rattle.core_steps.proofs.InRoom.{asks-in-room}
 use Rattle.core_steps.proofs.TickEnters.{stays-drained}
 use Rattle.linked_core.specs.Answering.{Given}
-use Rattle.linked_core.specs.Beginning.{IsRequest, IsTimely, sent_first, exchange_by, with_exchange, numbers_of, MayBegin, IsBegunBy}
+use Rattle.linked_core.specs.Beginning.{IsRequest, exchange_by, with_exchange, numbers_of, MayBegin, IsBegunBy}
+use Rattle.linked_core.specs.Sending.{IsTimed, sent_first}
 use Rattle.linked_core.specs.declared.fault.AskFault.TheVariants as Ask
 use Rattle.linked_core.specs.Calls.{IsSpelled}
 use Rattle.linked_core.specs.Drafts.{DraftValue, Drafts, conns_from, empty_draft, draft_with}
@@ -56,12 +57,12 @@ goes-at-once t n p last w (Some o) None next = (refl, refl)
 goes-at-once t n p last w (Some o) (Some x) next = absurd next
 
 timely-by : (t : ℕ) (last : Option ℕ) (w : Waiting) (v : Option Outstanding)
-    (sent : Option FirstSending) → w.timeout ≤ 3000 → IsNext t last (next_list w v) sent → IsTimely sent
+    (sent : Option FirstSending) → w.timeout ≤ 3000 → IsNext t last (next_list w v) sent → IsTimed sent
 timely-by t last w v None short next = tt
 timely-by t last w None (Some x) short next = rw (next.0) (omega (arith, short))
 timely-by t last w (Some o) (Some x) short next = absurd next
 
-pub timely : (t : ℕ) (p : Peer) (xs : List PeerLink) (x : Submission) → LinkTakes t p xs x → IsTimely x.sent
+pub timely : (t : ℕ) (p : Peer) (xs : List PeerLink) (x : Submission) → LinkTakes t p xs x → IsTimed x.sent
 timely t p xs x k =
     timely-by t k.link.state.last_mid x.waiting k.link.state.outstanding x.sent k.may.sound.short k.may.sent
 

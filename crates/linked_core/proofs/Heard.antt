@@ -34,7 +34,8 @@ use Rattle.linked_core.specs.Drafts.{DraftValue, Drafts, conns_from}
 use Rattle.linked_core.specs.declared.ending.Ended.{Ended}
 use Rattle.linked_core.specs.Ending.{EndsIn, finished}
 use Rattle.linked_core.specs.Leads.{Leads}
-use Rattle.linked_core.specs.Hearing.{found_in, whole_in, ended_by, told_by, IsTimed, sent_next, note_next, link_deeds, over_in, hearing_deeds}
+use Rattle.linked_core.specs.Hearing.{found_in, whole_in, ended_by, told_by, note_next, link_deeds, over_in, hearing_deeds}
+use Rattle.linked_core.specs.Sending.{IsTimed, sent_first}
 use Rattle.linked_core.specs.Values.{written}
 use Rattle.linked_core.proofs.Drafting.{length-map}
 use Rattle.linked_core.proofs.Openings.{found-holds, got-last}
@@ -73,14 +74,14 @@ told-same n m (N.Reset of) token es cs = by (find (is_under of) es)
 -- the message that goes out next is the one that has its turn
 
 pub next-deeds : (t : ℕ) (p : Peer) (link : LinkValue) (x : Heeding) → MayHeed t link x
-    → sent_next p x.next ≡ first_deeds t p link.state.last_mid
+    → sent_first p x.next ≡ first_deeds t p link.state.last_mid
     (in_turn x.verdict.ends link.state.waiting)
 next-deeds t p link x h = by x.verdict.ends x.next link.state.waiting h.next h.none
   where
     by : (b : Bool) (n : Option FirstSending) (ws : List Waiting)
         → (b ≡ true → IsNext t link.state.last_mid ws n) → (b ≡ false → n ≡ None)
-        → sent_next p n ≡ first_deeds t p link.state.last_mid (in_turn b ws)
-    by false n ws next none = ap (sent_next p) (none refl)
+        → sent_first p n ≡ first_deeds t p link.state.last_mid (in_turn b ws)
+    by false n ws next none = ap (sent_first p) (none refl)
     by true None [] next none = refl
     by true (Some f) [] next none = absurd (next refl)
     by true None (w ∷ ws) next none = absurd (next refl)
@@ -188,7 +189,7 @@ confirms-none t p [] S = refl
 confirms-none t p (b ∷ bs) S = confirms-none t p bs (entered t (confirm p b) S)
 
 next-none : (t : ℕ) (p : Peer) (v : Option FirstSending) (S : State)
-    → (entered_all t (sent_next p v) S).conns ≡ S.conns
+    → (entered_all t (sent_first p v) S).conns ≡ S.conns
 next-none t p None S = refl
 next-none t p (Some x) S = refl
 
@@ -196,7 +197,7 @@ link-conns : (t : ℕ) (p : Peer) (d : List ℕ) (x : Heeding) (S : State)
     → (entered_all t (link_deeds p d x) S).conns ≡ S.conns
 link-conns t p d x S =
     let S1 = entered t (Hears p d) S in
-    confirmed-conns t p (listed x.reply) (sent_next p x.next) S1
+    confirmed-conns t p (listed x.reply) (sent_first p x.next) S1
     ∙ next-none t p x.next (entered_all t (map (confirm p) (listed x.reply)) S1)
     ∙ confirms-none t p (listed x.reply) S1
 
@@ -247,7 +248,7 @@ heard-leads t p d x told S xs d0 d1 drafts none are more =
     (more U first)
 
 -- how many there are
-next-short : (p : Peer) (v : Option FirstSending) → length (sent_next p v) ≤ 1
+next-short : (p : Peer) (v : Option FirstSending) → length (sent_first p v) ≤ 1
 next-short p None = omega arith
 next-short p (Some x) = omega arith
 
@@ -259,7 +260,7 @@ pub link-few : (p : Peer) (d : List ℕ) (x : Heeding) → length (link_deeds p 
 link-few p d x =
     let r = reply-few p x.reply in
     let n = next-short p x.next in
-    let l = length-append (map (confirm p) (listed x.reply)) (sent_next p x.next) in
+    let l = length-append (map (confirm p) (listed x.reply)) (sent_first p x.next) in
     omega (arith, r, n, l)
 
 pub ended-few : (e : Option Exchange) (f : Option Found) → length (ended_by e f) ≤ 1
@@ -324,7 +325,7 @@ confirms-few : (p : Peer) (bs : List (List ℕ)) → AllByRecursion IsNoConn (ma
 confirms-few p [] = tt
 confirms-few p (b ∷ bs) = (tt, confirms-few p bs)
 
-next-few : (p : Peer) (v : Option FirstSending) → AllByRecursion IsNoConn (sent_next p v)
+next-few : (p : Peer) (v : Option FirstSending) → AllByRecursion IsNoConn (sent_first p v)
 next-few p None = tt
 next-few p (Some x) = (tt, tt)
 
@@ -344,7 +345,7 @@ hearing-few p d x told S =
     all-joined (link_deeds p d x) (told_by (ended_in (over_in x) S.exchanges)
     (found_in (length S.entries) told) S.conns) (
       tt,
-      all-joined (map (confirm p) (listed x.reply)) (sent_next p x.next)
+      all-joined (map (confirm p) (listed x.reply)) (sent_first p x.next)
           (confirms-few p (listed x.reply)) (next-few p x.next),
     )
     (told-few (ended_in (over_in x) S.exchanges) (found_in (length S.entries) told) S.conns)

@@ -29,7 +29,8 @@ use Rattle.core_steps.proofs.Heeded.{message-enters, garbled-enters}
 use Rattle.linked_core.specs.declared.state.Endpoint.{Endpoint}
 use Rattle.linked_core.specs.Endpoints.{IsFirstAt, HasNone}
 use Rattle.linked_core.specs.States.{peer_link}
-use Rattle.linked_core.specs.Hearing.{found_in, told_by, sent_next, note_next, over_in, link_deeds, hearing_deeds, heeds, exchanges_after, first_number, hearing_state}
+use Rattle.linked_core.specs.Hearing.{found_in, told_by, note_next, over_in, link_deeds, hearing_deeds, heeds, exchanges_after, first_number, hearing_state}
+use Rattle.linked_core.specs.Sending.{sent_first}
 use Rattle.linked_core.proofs.Heard.{told-same, next-deeds, next-noted}
 
 -- the place of the endpoint
@@ -111,7 +112,7 @@ module _ (t : ℕ) (p : Peer) (d : List ℕ) (S : State) (link : LinkValue) (x :
       → heeded t p d x.mid x.token x.verdict g S ≡ hearing_state t p d x told S
   heeded-so told g h at same =
       let s = link_of S.links p in
-      let next : sent_next p x.next ≡ first_deeds t p s.last_mid
+      let next : sent_first p x.next ≡ first_deeds t p s.last_mid
       (in_turn x.verdict.ends s.waiting) =
       next-deeds t p link x h ∙ ap (λ (u : LinkState). first_deeds t p u.last_mid
       (in_turn x.verdict.ends u.waiting)) at in
@@ -125,10 +126,10 @@ module _ (t : ℕ) (p : Peer) (d : List ℕ) (S : State) (link : LinkValue) (x :
       S.conns)) =
       ap (λ (ds : List Deed). link_deeds p d x ++ ds) same
       ∙ (ap (λ (ds : List Deed). Hears p d ∷ ds)
-      (append_assoc (map (confirm p) (listed x.reply)) (sent_next p x.next)
+      (append_assoc (map (confirm p) (listed x.reply)) (sent_first p x.next)
       (told_if g ended S.conns))
       ∙ (ap (λ (bs : List (List ℕ)). Hears p d ∷
-      (map (confirm p) bs ++ (sent_next p x.next ++ told_if g ended S.conns))) h.reply
+      (map (confirm p) bs ++ (sent_first p x.next ++ told_if g ended S.conns))) h.reply
       ∙ ap (λ (ds : List Deed). Hears p d ∷ (map (confirm p) (replies x.mid x.verdict.reply) ++
       (ds ++ told_if g ended S.conns))) next)) in
       let number : first_number n x ≡ n + 1 + length (replies x.mid x.verdict.reply) =

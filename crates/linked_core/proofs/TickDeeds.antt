@@ -16,7 +16,8 @@ use Rattle.message_layer.specs.declared.state.Waiting.{Waiting}
 use Rattle.core_steps.specs.Entering.{Going, going_as, first_deeds, in_turn, link_deeds, link_going, all_deeds, all_going, turn_deeds, rid}
 use Rattle.linked_core.specs.declared.state.Endpoint.{Endpoint}
 use Rattle.linked_core.specs.States.{peer_link}
-use Rattle.linked_core.specs.Turns.{AreTurns, first_of, deeds_of, going_first, going_of, turns_deeds, turns_going}
+use Rattle.linked_core.specs.Turns.{AreTurns, deeds_of, going_first, going_of, turns_deeds, turns_going}
+use Rattle.linked_core.specs.Sending.{sent_first}
 
 news-apart : (token : List ℕ) → no_news ≡ timed_out token → ⊥
 news-apart token e = cc
@@ -35,7 +36,7 @@ longer xs d e =
 
 -- the message that goes out next is the one that waits first
 next-same : (t : ℕ) (p : Peer) (last : Option ℕ) (ws : List Waiting) (next : Option FirstSending)
-    → IsNext t last ws next → first_of p next ≡ first_deeds t p last (in_turn true ws)
+    → IsNext t last ws next → sent_first p next ≡ first_deeds t p last (in_turn true ws)
 next-same t p last [] None h = refl
 next-same t p last [] (Some f) h = absurd h
 next-same t p last (w ∷ ws) None h = absurd h
@@ -105,7 +106,7 @@ gives-so t p s (Some o) token next is e =
     by : (a b : Bool)
         → ◌≡◌ {A = LinkState × Told} (cond a (s, no_news)
         (cond b (with_copy t s o, no_news) (next_sent t s, timed_out o.token))) (next_sent t s, timed_out token)
-        → (first_of p next ≡ cond a [] (cond b (Sends p o.datagram None ∷ [])
+        → (sent_first p next ≡ cond a [] (cond b (Sends p o.datagram None ∷ [])
         (first_deeds t p s.last_mid (in_turn true s.waiting))))
         × ((n : ℕ) → going_first n next
         ≡ going_as n (cond a None (cond b None (in_turn true s.waiting))))

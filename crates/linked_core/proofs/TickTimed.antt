@@ -30,7 +30,8 @@ use Rattle.core_steps.proofs.Passed.{moved-put}
 use Rattle.linked_core.specs.declared.state.Endpoint.{Endpoint}
 use Rattle.linked_core.specs.Passing.{tick_adds}
 use Rattle.linked_core.specs.States.{peer_link}
-use Rattle.linked_core.specs.Turns.{AreTurns, AreTimed, IsTimed, IsTimedFirst}
+use Rattle.linked_core.specs.Turns.{AreTurns, AreTimed, IsTimedTurn}
+use Rattle.linked_core.specs.Sending.{IsTimed}
 
 abbrev InTime : LinkState → Type 0
 InTime s = AllByRecursion (λ (w : Waiting). w.timeout < 2 ^ 32) s.waiting
@@ -76,14 +77,14 @@ all-timed (x ∷ xs) once h = (
 
 first-timed : (t : ℕ) (last : Option ℕ) (ws : List Waiting) (next : Option FirstSending)
     → AllByRecursion (λ (w : Waiting). w.timeout < 2 ^ 32) ws → IsNext t last ws next
-    → IsTimedFirst next
+    → IsTimed next
 first-timed t last ws None a h = tt
 first-timed t last [] (Some f) a h = absurd h
 first-timed t last (w ∷ ws) (Some f) a h =
     subst (λ (o : Outstanding). o.timeout < 2 ^ 32) (sym h.0) a.0
 
 turn-timed : (t : ℕ) (s : LinkState) (room : Bool) (k : Ticking) → InTime s → IsTick t s room k
-    → IsTimed k
+    → IsTimedTurn k
 turn-timed t s room Rests a h = tt
 turn-timed t s room (Copies d) a h = tt
 turn-timed t s room (GivesUp token next) a h = first-timed t s.last_mid s.waiting next a h.sent

@@ -40,15 +40,6 @@ pub record IsTextFor (sense : Sense) (token text : List ℕ) : Type 0 where
   pub spelled : Spells (request_message request 0 token) text
   pub short : length text ≤ MAX_MESSAGE_LEN
 
--- the message that goes out at once, with its first timeout
-abbrev pub IsTimely : Option FirstSending → Type 0
-IsTimely None = ⊤
-IsTimely (Some x) = x.message.timeout < 4294967296
-
-abbrev pub sent_first : Peer → Option FirstSending → List Deed
-sent_first p None = []
-sent_first p (Some x) = Sends p x.datagram (Some x.message.timeout) ∷ []
-
 -- the exchange that the ask with this number opens
 abbrev pub exchange_by : ℕ → ℕ → List ℕ → Peer → Option FirstSending → ℕ → Exchange
 exchange_by t c token p sent n = record {

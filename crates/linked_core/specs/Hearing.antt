@@ -19,6 +19,7 @@ use Rattle.core_steps.specs.Steps.{given_out, went_out, is_other}
 use Rattle.core_steps.specs.Links.{awaits_no_more}
 use Rattle.core_steps.specs.Entering.{entered_all, confirm, told_deeds}
 use Rattle.linked_core.specs.declared.ending.Ended.{Ended}
+use Rattle.linked_core.specs.Sending.{sent_first}
 use Rattle.linked_core.specs.Drafts.{DraftValue}
 use Rattle.linked_core.specs.States.{with_draft}
 
@@ -62,18 +63,9 @@ abbrev pub told_by : Option Exchange → Option Found → List Conn → List Dee
 told_by (Some e) (Some f) cs = told_deeds f.grounds e cs
 told_by _ _ cs = []
 
--- the message that goes out next, with its first timeout
-abbrev pub IsTimed : Option FirstSending → Type 0
-IsTimed None = ⊤
-IsTimed (Some x) = x.message.timeout < 4294967296
-
-abbrev pub sent_next : Peer → Option FirstSending → List Deed
-sent_next p None = []
-sent_next p (Some x) = Sends p x.datagram (Some x.message.timeout) ∷ []
-
 -- what the link says: the datagram came, it is answered, and the next message goes out
 abbrev pub link_deeds : Peer → List ℕ → Heeding → List Deed
-link_deeds p d x = Hears p d ∷ (map (confirm p) (listed x.reply) ++ sent_next p x.next)
+link_deeds p d x = Hears p d ∷ (map (confirm p) (listed x.reply) ++ sent_first p x.next)
 
 -- all that the datagram brings
 abbrev pub hearing_deeds : Peer → List ℕ → Heeding → Told → State → List Deed

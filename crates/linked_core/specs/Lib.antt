@@ -17,6 +17,7 @@ pub mod Room
 pub mod Snapshots
 pub mod Sound
 pub mod States
+pub mod Sending
 pub mod Serving
 pub mod Submitting
 pub mod Taking

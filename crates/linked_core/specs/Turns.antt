@@ -1,5 +1,5 @@
 -- What is prepared for a tick at each endpoint.
-use Rattle.std.specs.Prelude.{ℕ, ◌+◌, ◌^◌, ◌<◌, List, [], ◌∷◌, ◌++◌, length, Option, Some, None, ⊤}
+use Rattle.std.specs.Prelude.{ℕ, ◌+◌, List, [], ◌∷◌, ◌++◌, length, Option, Some, None, ⊤}
 use Rattle.std.specs.List.{AllByRecursion}
 use Rattle.uri_map.specs.declared.peer.Peer.{Peer}
 use Rattle.journal_book.specs.Entries.{Deed, Sends}
@@ -10,6 +10,7 @@ use Rattle.message_layer.specs.declared.prepared.Ticking.TheVariants.{Rests, Cop
 use Rattle.core_steps.specs.State.{PeerLink}
 use Rattle.core_steps.specs.Entering.{Going}
 use Rattle.linked_core.specs.declared.state.Endpoint.{Endpoint}
+use Rattle.linked_core.specs.Sending.{IsTimed, sent_first}
 
 -- A turn is prepared for each endpoint, in order.
 abbrev pub AreTurns : ℕ → List (List ℕ) → List Endpoint → List Ticking → Type 0
@@ -17,27 +18,18 @@ AreTurns t gone [] [] = ⊤
 AreTurns t gone (x ∷ xs) (k ∷ ks) = IsTicking t gone x.link k × AreTurns t gone xs ks
 AreTurns t gone _ _ = ⊥
 
--- A first timeout has 32 bits.
-abbrev pub IsTimedFirst : Option FirstSending → Type 0
-IsTimedFirst None = ⊤
-IsTimedFirst (Some f) = f.message.timeout < 2 ^ 32
-
-abbrev pub IsTimed : Ticking → Type 0
-IsTimed (GivesUp token next) = IsTimedFirst next
-IsTimed _ = ⊤
+abbrev pub IsTimedTurn : Ticking → Type 0
+IsTimedTurn (GivesUp token next) = IsTimed next
+IsTimedTurn _ = ⊤
 
 abbrev pub AreTimed : List Ticking → Type 0
-AreTimed ks = AllByRecursion IsTimed ks
+AreTimed ks = AllByRecursion IsTimedTurn ks
 
 -- what a turn sends
-abbrev pub first_of : Peer → Option FirstSending → List Deed
-first_of p None = []
-first_of p (Some f) = Sends p f.datagram (Some f.message.timeout) ∷ []
-
 abbrev pub deeds_of : Peer → Ticking → List Deed
 deeds_of p Rests = []
 deeds_of p (Copies d) = Sends p d None ∷ []
-deeds_of p (GivesUp token next) = first_of p next
+deeds_of p (GivesUp token next) = sent_first p next
 
 abbrev pub going_first : ℕ → Option FirstSending → List Going
 going_first n None = []

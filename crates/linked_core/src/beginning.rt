@@ -13,7 +13,8 @@ ghost use Rattle.core_steps.specs.State.{State as CoreState, link_of};
 ghost use Rattle.core_steps.specs.Calls.{peer_of};
 ghost use Rattle.core_steps.specs.Resting.{HasConn};
 ghost use Rattle.core_steps.specs.Room.{AreApart};
-ghost use Rattle.linked_core.specs.Beginning.{IsRequest, IsTextFor, IsTimely, sent_first, with_exchange, IsBegun, IsBegunBy, IsEntered, MayBegin, exchange_by};
+ghost use Rattle.linked_core.specs.Beginning.{IsRequest, IsTextFor, with_exchange, IsBegun, IsBegunBy, IsEntered, MayBegin, exchange_by};
+ghost use Rattle.linked_core.specs.Sending.{IsTimed, sent_first};
 ghost use Rattle.linked_core.specs.Drafts.{Drafts};
 ghost use Rattle.linked_core.specs.Places.{RiseBy, id_of};
 ghost use Rattle.linked_core.specs.Sound.{IsSound};
@@ -26,6 +27,7 @@ use crate::fault::AskFault;
 use crate::numbering::token_of;
 use crate::room;
 use crate::sealing::seal;
+use crate::sending::draft_first;
 use crate::state::{State, commit, make_places};
 use crate::submitting::{self, Prepared};
 use ask_model::{Bytes, Mapped};
@@ -64,26 +66,6 @@ fn text_of<R: Relation>(
     Ok(text)
 }
 
-/// A message goes out for the first time.
-fn draft_first<R: Relation>(
-    draft: &mut Draft<R>,
-    moment: u64,
-    peer: Peer,
-    sent: &Option<FirstSending>,
-) -> Result<(), AllocError>
-    requires next { draft.old.next < 4294967295 }
-    requires timely { IsTimely sent.now }
-    ensures drafts { (S : CoreState) (ds : List Deed) → Drafts moment S ds draft.old
-        → OnOk result (Drafts moment S (ds ++ sent_first peer sent.now) draft.new) }
-    ensures answers { OnOk result (draft.new.answers ≡ draft.old.answers) }
-{
-    if let Some(first) = sent {
-        let timeout = first.message.timeout as u32;
-        draft.send(moment, peer, first.datagram.as_slice(), Some(timeout))?;
-    }
-    Ok(())
-}
-
 /// The ask of a connection, and its message where that goes out at once.
 fn draft_ask<R: Relation>(
     alloc: Global,
@@ -96,7 +78,7 @@ fn draft_ask<R: Relation>(
 ) -> Result<Draft<R>, AllocError>
     requires few { length s.now.journal.entries ≤ MAX_ENTRIES }
     requires ordered { RiseBy id_of s.now.conns.items }
-    requires timely { IsTimely sent.now }
+    requires timely { IsTimed sent.now }
     ensures drafts { IfOk result (λ d. Drafts moment (state_of s.now)
         (Asks conn (ask_of (arc_value mapped.now)) ∷ sent_first peer sent.now) d) }
     ensures answers { IfOk result (λ d. d.answers ≡ []) }

@@ -23,7 +23,8 @@ ghost use Rattle.linked_core.specs.Drafts.{Drafts};
 ghost use Rattle.linked_core.specs.Sound.{IsSound};
 ghost use Rattle.linked_core.specs.Values.{stepped};
 ghost use Rattle.linked_core.specs.Asked.{IsOpenedIn};
-ghost use Rattle.linked_core.specs.Hearing.{exchanges_after, first_number, note_next, tables_after, with_heard, found_in, over_in, heeds, ended_by, IsTimed, sent_next, link_deeds, hearing_deeds};
+ghost use Rattle.linked_core.specs.Hearing.{exchanges_after, first_number, note_next, tables_after, with_heard, found_in, over_in, heeds, ended_by, link_deeds, hearing_deeds};
+ghost use Rattle.linked_core.specs.Sending.{IsTimed, sent_first};
 ghost use Rattle.linked_core.specs.Places.{RiseBy, id_of, number_of};
 ghost use Rattle.linked_core.specs.States.{peer_link, state_of, seen, given_in, outgoing, SeesSame};
 
@@ -32,6 +33,7 @@ use crate::ending::{Ended, draft_ends};
 use crate::exchanges;
 use crate::room::takes;
 use crate::sealing::seal;
+use crate::sending::draft_first;
 use crate::state::{Endpoint, State, commit, make_places};
 use ask_model::{Bytes as Whole, Cause};
 use coap_codec::Token;
@@ -125,26 +127,6 @@ fn draft_reply<R: Relation>(
 {
     if let Some(bytes) = reply {
         draft.send(moment, peer, bytes.as_slice(), None)?;
-    }
-    Ok(())
-}
-
-/// The next message goes out for the first time.
-fn draft_first<R: Relation>(
-    draft: &mut Draft<R>,
-    moment: u64,
-    peer: Peer,
-    next: &Option<FirstSending>,
-) -> Result<(), AllocError>
-    requires next { draft.old.next < 4294967295 }
-    requires timed { IsTimed next.now }
-    ensures drafts { (S : CoreState) (ds : List Deed) → Drafts moment S ds draft.old
-        → OnOk result (Drafts moment S (ds ++ sent_next peer next.now) draft.new) }
-    ensures answers { OnOk result (draft.new.answers ≡ draft.old.answers) }
-{
-    if let Some(first) = next {
-        let timeout = first.message.timeout as u32;
-        draft.send(moment, peer, first.datagram.as_slice(), Some(timeout))?;
     }
     Ok(())
 }

@@ -27,6 +27,7 @@ mod refusing;
 mod requests;
 mod room;
 mod sealing;
+mod sending;
 mod serving;
 mod snapshot;
 mod state;

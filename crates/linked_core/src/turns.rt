@@ -9,7 +9,8 @@ ghost use Rattle.message_layer.specs.Prepared.{IsTicking};
 ghost use Rattle.linked_core.specs.Leads.{Leads};
 ghost use Rattle.linked_core.specs.Places.{RiseBy, number_of};
 ghost use Rattle.linked_core.specs.States.{peer_link};
-ghost use Rattle.linked_core.specs.Turns.{AreTurns, AreTimed, IsTimed, IsTimedFirst, first_of, going_first, deeds_of, going_of, turns_deeds, turns_going};
+ghost use Rattle.linked_core.specs.Turns.{AreTurns, AreTimed, IsTimedTurn, going_first, deeds_of, going_of, turns_deeds, turns_going};
+ghost use Rattle.linked_core.specs.Sending.{IsTimed, sent_first};
 
 use crate::draft::Draft;
 use crate::exchanges::note_sending;
@@ -60,13 +61,13 @@ fn draft_first<R: Relation>(
     next: &Option<FirstSending>,
     moment: u64,
 ) -> Result<(), AllocError>
-    requires room { draft.old.next + length (first_of peer next.now) ≤ 4294967295 }
+    requires room { draft.old.next + length (sent_first peer next.now) ≤ 4294967295 }
     requires ordered { RiseBy number_of going.old }
-    requires timed { IsTimedFirst next.now }
+    requires timed { IsTimed next.now }
     ensures leads { (S U : CoreState) → Leads moment S U draft.old
-        → OnOk result (Leads moment S (entered_all moment (first_of peer next.now) U) draft.new) }
+        → OnOk result (Leads moment S (entered_all moment (sent_first peer next.now) U) draft.new) }
     ensures next { OnOk result
-        (draft.new.next ≡ draft.old.next + length (first_of peer next.now)) }
+        (draft.new.next ≡ draft.old.next + length (sent_first peer next.now)) }
     ensures going { OnOk result
         (going.new ≡ sent_as (going_first draft.old.next next.now) going.old) }
 {
@@ -89,7 +90,7 @@ fn draft_turn<R: Relation>(
 ) -> Result<(), AllocError>
     requires room { draft.old.next + length (deeds_of peer turn.now) ≤ 4294967295 }
     requires ordered { RiseBy number_of going.old }
-    requires timed { IsTimed turn.now }
+    requires timed { IsTimedTurn turn.now }
     ensures leads { (S U : CoreState) → Leads moment S U draft.old
         → OnOk result (Leads moment S (entered_all moment (deeds_of peer turn.now) U) draft.new) }
     ensures next { OnOk result

@@ -2,7 +2,7 @@ use Rattle.std.proofs.Common.{[], ◌∷◌, subst, arith}
 use Rattle.ask_model.specs.Views.{Mapping}
 use Rattle.journal_book.specs.Entries.{Asks}
 use Rattle.journal_book.specs.Views.{ask_of}
-use Rattle.linked_core.specs.Beginning.{sent_first}
+use Rattle.linked_core.specs.Sending.{sent_first}
 use Rattle.linked_core.specs.Drafts.{Drafts}
 use Rattle.linked_core.specs.States.{state_of}
 use Rattle.linked_core.proofs.Refusals.{begins-empty}

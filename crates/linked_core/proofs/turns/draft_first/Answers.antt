@@ -1,10 +1,10 @@
 use Rattle.std.proofs.Common.{subst, arith}
-use Rattle.linked_core.specs.Turns.{IsTimedFirst}
+use Rattle.linked_core.specs.Sending.{IsTimed}
 use Rattle.linked_core.proofs.TickLeads.{leads-send}
 use Rattle.linked_core.proofs.turns.draft_first.Goals as goal
 
 pub overflow_cast-timeout : goal.overflow_cast-timeout
-overflow_cast-timeout g c = let h = subst IsTimedFirst c.in-Some.is c.requires.timed in omega
+overflow_cast-timeout g c = let h = subst IsTimed c.in-Some.is c.requires.timed in omega
     (arith, h)
 
 pub returns-in_ok-send-clause-leads : goal.returns-in_ok-send-clause-leads
