@@ -78,6 +78,14 @@ Reads text (i ∷ items) rest =
     (behind : List ℕ) × First text i behind
     × (((closes i ≡ true) × (items ≡ []) × (rest ≡ behind)) ⊎ ((closes i ≡ false) × Reads behind items rest))
 
+-- The text begins with these items, each where the one before it ends, and this is left. After one
+-- that closes the connection none is read.
+abbrev pub ReadsFirst : List ℕ → List Item → List ℕ → Type 0
+ReadsFirst text [] rest = rest ≡ text
+ReadsFirst text (i ∷ items) rest =
+    (after : List ℕ) × First text i after × ReadsFirst after items rest
+    × (closes i ≡ true → items ≡ [])
+
 -- Each item leaves the connection open.
 abbrev pub AllOpen : List Item → Type 0
 AllOpen [] = ⊤

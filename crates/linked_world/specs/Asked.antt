@@ -1,11 +1,11 @@
 -- What connections ask in a whole run.
 use Rattle.std.specs.Prelude.{◌≡◌, ◌⊎◌, ℕ, List, [], ◌∷◌, ◌++◌}
-use Rattle.http_edge.specs.Reading.{Item}
+use Rattle.http_edge.specs.Reading.{Item, ReadsFirst}
 use Rattle.ask_model.specs.Views.{Rules}
 use Rattle.journal_book.specs.Entries.{Written}
 use Rattle.proxy_acts.specs.declared.input.Input.{Input}
 use Rattle.proxy_acts.specs.Acts.{Terms}
-use Rattle.proxy_acts.specs.Asking.{ReadsFirst, AreAsked, Begins, asked_on, brought_by}
+use Rattle.proxy_acts.specs.Asking.{AreAsked, Begins, asked_on, brought_by}
 use Rattle.proxy_acts.specs.Emissions.{Emission}
 use Rattle.linked_world.specs.Worlds.{WorldValue, Handles, HandlesAll, new_world, served_in}
 

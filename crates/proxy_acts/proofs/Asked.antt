@@ -3,12 +3,12 @@ use Rattle.std.proofs.Common.{◌≡◌, ◌≢◌, inl, inr, ℕ, Bool, true, f
 use Rattle.std.specs.Prelude.{◌==◌}
 use Rattle.std.proofs.lemmas.Bool.{ne_eqb}
 use Rattle.std.proofs.lemmas.List.{append-nil, append_assoc}
-use Rattle.http_edge.specs.Reading.{Item, AllOpen, closes}
+use Rattle.http_edge.specs.Reading.{ReadsFirst, Item, AllOpen, closes}
 use Rattle.http_edge.proofs.Readings.{first_on}
 use Rattle.ask_model.specs.Views.{Ask}
 use Rattle.journal_book.specs.Entries.{Deed, Opens, Asks, Sends, Hears, Passes, Answers, Shuts, Seals, Written}
 use Rattle.proxy_acts.specs.Acts.{Served}
-use Rattle.proxy_acts.specs.Asking.{ReadsFirst, closes_last, asked_by, asked_on, IsLeft, IsOver, AreAsked, AsksFirst}
+use Rattle.proxy_acts.specs.Asking.{closes_last, asked_by, asked_on, IsLeft, IsOver, AreAsked, AsksFirst}
 use Rattle.proxy_acts.specs.Unasked.{Unasked, unasked_at, no_bytes, without, changed_at}
 use Rattle.proxy_acts.proofs.Moving.{IsInner, AreInner}
 use Rattle.proxy_acts.proofs.Standing.{same-some, none-some, differ, own-gone}

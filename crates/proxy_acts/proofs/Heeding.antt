@@ -5,7 +5,7 @@ use Rattle.std.specs.Prelude.{◌==◌, ⊤}
 use Rattle.std.specs.List.{AllByRecursion}
 use Rattle.std.proofs.lemmas.Bool.{ne_eqb}
 use Rattle.std.proofs.lemmas.List.{append-nil, append_assoc}
-use Rattle.http_edge.specs.Reading.{Item, closes as item_closes}
+use Rattle.http_edge.specs.Reading.{ReadsFirst, Item, closes as item_closes}
 use Rattle.ask_model.specs.Views.{Ask}
 use Rattle.journal_book.specs.Entries.{Asks as Asked, Written}
 use Rattle.http_mapping.specs.Means.{closes}
@@ -18,7 +18,7 @@ use Rattle.linked_core.specs.Calls.{IsOpened, IsAsked, AsksSo}
 use Rattle.linked_core.specs.Values.{CoreValue}
 use Rattle.proxy_acts.specs.declared.input.When.{When}
 use Rattle.proxy_acts.specs.Acts.{Act, Opens, TurnsAway, Takes, Hears, Passes, Asks, Denies, Sends, Tells, GoesOn, Rests, Leaves, Misses, Served, Terms, IsAsking, IsDenying, IsClosing, Ends, Does, DoesAll, at}
-use Rattle.proxy_acts.specs.Asking.{ReadsFirst, asked_on, IsLeft, IsOver, AreAsked}
+use Rattle.proxy_acts.specs.Asking.{asked_on, IsLeft, IsOver, AreAsked}
 use Rattle.proxy_acts.specs.Emissions.{Emission}
 use Rattle.proxy_acts.specs.Unasked.{Unasked, unasked_at, without, changed_at, extended, left_after}
 use Rattle.proxy_acts.proofs.Asked.{own-after, own-none, left-same, none-left, asked-both, asked-inner, Effect, effect-then}

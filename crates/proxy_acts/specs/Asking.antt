@@ -2,7 +2,7 @@
 -- each with its meaning (RFC 9112 sections 2.2 and 9.3.2).
 use Rattle.std.specs.Prelude.{◌≡◌, ◌⊎◌, ⊤, ℕ, ◌+◌, ◌≤◌, ◌==◌, Bool, true, false, if◌then◌else◌}
 use Rattle.std.specs.Prelude.{List, [], ◌∷◌, ◌++◌, Option, Some, None}
-use Rattle.http_edge.specs.Reading.{Item, First, AllOpen, closes}
+use Rattle.http_edge.specs.Reading.{Item, ReadsFirst, AllOpen, closes}
 use Rattle.media_map.specs.declared.form.Form.{Form}
 use Rattle.ask_model.specs.Views.{Ask, Rules}
 use Rattle.journal_book.specs.Entries.{Deed, Asks, Written}
@@ -14,14 +14,6 @@ use Rattle.proxy_acts.specs.Emissions.{Emission}
 use Rattle.proxy_acts.specs.Orders.{IsInOrder}
 use Rattle.proxy_acts.specs.Tellings.{IsMapped, terms_of}
 use Rattle.proxy_acts.specs.Unasked.{Unasked, unasked_at, no_bytes}
-
--- The text begins with these items, each where the one before it ends, and this is left. After one
--- that closes the connection none is read.
-abbrev pub ReadsFirst : List ℕ → List Item → List ℕ → Type 0
-ReadsFirst text [] rest = rest ≡ text
-ReadsFirst text (i ∷ items) rest =
-    (after : List ℕ) × First text i after × ReadsFirst after items rest
-    × (closes i ≡ true → items ≡ [])
 
 abbrev pub closes_last : List Item → Bool
 closes_last [] = false

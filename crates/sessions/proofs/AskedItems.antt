@@ -6,14 +6,14 @@ use Rattle.http_edge.specs.declared.memory.Memory.{Memory}
 use Rattle.http_edge.specs.declared.request.Incoming.{Incoming}
 use Rattle.http_edge.specs.declared.request.Incoming.TheVariants as In
 use Rattle.http_edge.specs.Edges.{Stands, Steps, item}
-use Rattle.http_edge.specs.Reading.{Item, First, closes, AllOpen}
+use Rattle.http_edge.specs.Reading.{ReadsFirst, Item, First, closes, AllOpen}
 use Rattle.http_edge.proofs.Readings.{first_on}
 use Rattle.ask_model.specs.Requests.{Came, Sense}
 use Rattle.ask_model.specs.Views.{came_of, Mapping}
 use Rattle.http_mapping.specs.Limits.{limited}
 use Rattle.front_desk.specs.Lines.{Line, Slip, made, got, told}
 use Rattle.sessions.specs.Devices.{Grown}
-use Rattle.sessions.specs.Asking.{came_at, ReadsFirst, AreAsksOf, IsReadOut, AsksFirst, AsksAll, AsksSoFar, IsAskOf, IsAnswered, MayBeAsked, TakesMore}
+use Rattle.sessions.specs.Asking.{came_at, AreAsksOf, IsReadOut, AsksFirst, AsksAll, AsksSoFar, IsAskOf, IsAnswered, MayBeAsked, TakesMore}
 use Rattle.sessions.proofs.Joining.{grown_join, grown_none, two_more}
 
 -- What a request brings is what came.

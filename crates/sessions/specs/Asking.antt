@@ -2,7 +2,7 @@
 use Rattle.std.specs.Prelude.{◌≡◌, ◌⊎◌, ⊤, ℕ, true, List, [], ◌∷◌, ◌++◌, Option}
 use Rattle.http_edge.specs.declared.edge.Edge.{Edge}
 use Rattle.http_edge.specs.Edges.{Stands, Waits}
-use Rattle.http_edge.specs.Reading.{Item, asked, bad, First, HasNone, closes, AllOpen}
+use Rattle.http_edge.specs.Reading.{Item, asked, bad, HasNone, ReadsFirst, closes, AllOpen}
 use Rattle.ask_model.specs.Requests.{Came, Whole, Bad, Sense}
 use Rattle.ask_model.specs.Views.{Mapping}
 use Rattle.http_mapping.specs.Limits.{limited}
@@ -18,14 +18,6 @@ came_at (bad kind) = limited (Bad kind)
 pub record IsAskOf (IsMeaning : Came → Sense → Type 0) (i : Item) (m : Mapping) : Type 0 where
   pub came : m.came ≡ came_at i
   pub meant : IsMeaning m.came m.sense
-
--- The text begins with these items, one after the other, and goes on with the rest; after one that
--- closes the connection nothing is read.
-abbrev pub ReadsFirst : List ℕ → List Item → List ℕ → Type 0
-ReadsFirst text [] rest = rest ≡ text
-ReadsFirst text (i ∷ items) rest =
-    (after : List ℕ) × First text i after × ReadsFirst after items rest
-    × (closes i ≡ true → items ≡ [])
 
 -- The notes are, in order, an ask of each item and its answer.
 abbrev pub AreAsksOf : (Came → Sense → Type 0) → List Item → List Line → Type 0
