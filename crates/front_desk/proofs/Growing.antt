@@ -23,7 +23,8 @@ use Rattle.linked_core.specs.declared.fault.OpenFault.{OpenFault}
 use Rattle.linked_core.specs.declared.fault.OpenFault.TheVariants as Open
 use Rattle.linked_core.specs.declared.fault.AskFault.{AskFault}
 use Rattle.linked_core.specs.Calls.{IsOpened, IsAsked, IsClosed, IsUnknown, AsksSo}
-use Rattle.linked_core.specs.Taking.{IsSent}
+use Rattle.linked_core.specs.Answering.{Given}
+use Rattle.linked_core.specs.Taking.{IsSent, IsTaken}
 use Rattle.linked_core.specs.Values.{CoreValue, Outgoing, sent_by, sent_in, stepped}
 use Rattle.front_desk.specs.Ledgers.{asker, asks_of}
 use Rattle.front_desk.specs.Sending.{AreUnsent}
@@ -275,3 +276,13 @@ pub sent-same : (b : ℕ) (d : Option Outgoing) (old new : CoreValue) → IsSent
     → asks_of new.state.entries ≡ b
 sent-same b None old new h e = ap (λ (v : CoreValue). asks_of v.state.entries) h.1 ∙ e
 sent-same b (Some d) old new h e = ap (λ (v : CoreValue). asks_of v.state.entries) h.1 ∙ e
+
+-- An answer is taken.
+pub taken-step : (r : Option Given) (k : ℕ) (old new : CoreValue) → IsTaken r k old new → IsStep 0 old new
+taken-step None k old new h = step-same old new h.0
+taken-step (Some g) k old new h = record {
+  more = [];
+  entries = ap (λ (v : CoreValue). v.state.entries) h.3 ∙ sym (append-nil old.state.entries);
+  asks = refl;
+  unsent = ap (λ (v : CoreValue). v.unsent) h.3 ∙ sym (append-nil old.unsent);
+}

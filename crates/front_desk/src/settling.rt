@@ -150,6 +150,42 @@ fn is_whole<R: Relation, L: Ledger>(passes: &[Pass<R, L>], asks: u64) -> bool
     }
 }
 
+/// Whether the journal justifies all that the passes note, and has no ask but theirs.
+fn settled<R: Relation, L: Ledger>(
+    alloc: Global,
+    journal: &Journal<R>,
+    passes: &[Pass<R, L>],
+) -> Result<Report, SettleFault>
+    ensures justified { OnOk result (All (IsJustified journal.now.entries) passes.now) }
+    ensures apart { OnOk result (AreApart (answered passes.now)) }
+    ensures whole { OnOk result (asks_of journal.now.entries
+        ≡ sum_by (λ p. p.amount) passes.now) }
+    ensures asks { IfOk result (λ r. r.asks ≡ asks_of journal.now.entries) }
+    ensures answers { IfOk result (λ r. r.answers ≡ length (answered passes.now)) }
+    ensures stranger { (n : ℕ) → result ≡ Err (SettleFault.Stranger n)
+        → IsStranger journal.now.entries passes.now n }
+    ensures repeated { (n : ℕ) → result ≡ Err (SettleFault.Repeated n)
+        → IsRepeated (answered passes.now) n }
+    ensures count { result ≡ Err SettleFault.Count
+        → asks_of journal.now.entries ≢ sum_by (λ p. p.amount) passes.now }
+{
+    if let Some(number) = stranger_in(alloc, journal, passes)? {
+        return Err(SettleFault::Stranger(number));
+    }
+    let numbers = answered(alloc, passes)?;
+    if let Some(number) = repeated(alloc, &numbers)? {
+        return Err(SettleFault::Repeated(number));
+    }
+    let asks = count_asks(journal);
+    if !is_whole(passes, asks) {
+        return Err(SettleFault::Count);
+    }
+    Ok(Report {
+        asks,
+        answers: numbers.len() as u64,
+    })
+}
+
 /// Whether the journal of a shop justifies all that the passes note, and has no ask but theirs. An
 /// Ok says that each answer which a pass was given or told stands in that one journal, at its
 /// number, for its ask and on its grounds, which say what it tells, and that the asks that are
@@ -174,20 +210,5 @@ pub fn settle<R: Relation, L: Ledger>(
     ensures count { result ≡ Err SettleFault.Count
         → asks_of shop.core.state.entries ≢ sum_by (λ p. p.amount) passes.items }
 {
-    let journal = shop.journal();
-    if let Some(number) = stranger_in(alloc, journal, &passes)? {
-        return Err(SettleFault::Stranger(number));
-    }
-    let numbers = answered(alloc, &passes)?;
-    if let Some(number) = repeated(alloc, &numbers)? {
-        return Err(SettleFault::Repeated(number));
-    }
-    let asks = count_asks(journal);
-    if !is_whole(&passes, asks) {
-        return Err(SettleFault::Count);
-    }
-    Ok(Report {
-        asks,
-        answers: numbers.len() as u64,
-    })
+    settled(alloc, shop.journal(), &passes)
 }

@@ -168,6 +168,3 @@ module _ (T : Given → HttpAnswer → Type 0) where
     cut = (0, refl);
     grown = grown_none x;
   }
-
--- what a session's turns are put together by
-pub ruleset joins = (serves_join, most_join, most_whole, serves_none, cut_none, grown_none)

@@ -1,2 +1,3 @@
 pub mod AskedItems
 pub mod Joining
+mod Ends

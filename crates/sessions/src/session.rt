@@ -106,7 +106,6 @@ pub fn serve<R: Relation, C: Clock, L: Ledger, S: Stream, N: Wire, G: Gate, W: W
 }
 
 /// Reads, asks, waits and writes by turns.
-#[tactic(auto, using(crate::proofs::Joining::joins))]
 fn talk<R: Relation, C: Clock, L: Ledger, S: Stream, N: Wire, G: Gate, W: Wait>(
     rt: &W,
     alloc: Global,
@@ -200,7 +199,6 @@ fn read_on<S: Stream>(stream: &mut S, reading: &mut Reading) -> Option<End>
 }
 
 /// Serves one request.
-#[tactic(auto, using(crate::proofs::Joining::grown_none))]
 fn turn<R: Relation, C: Clock, L: Ledger, S: Stream, N: Wire, G: Gate, W: Wait>(
     rt: &W,
     alloc: Global,

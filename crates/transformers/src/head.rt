@@ -3,7 +3,7 @@ ghost use Rattle.std.specs.Option.{option_map};
 ghost use Rattle.transformers.specs.Item.{argument_at, byte_at, eight_at, four_at, head_at, major_of, two_at};
 
 /// The major types of CBOR that are taken (RFC 8949 section 3.1).
-#[derive(Clone, Copy, PartialEq, Eq, Debug)]
+#[derive(Clone, Copy)]
 pub enum Major {
     Unsigned,
     Negative,

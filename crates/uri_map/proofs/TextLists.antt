@@ -54,6 +54,16 @@ pub ok_is_utf8 : (part : Part) (piece : List ℕ) → IsOk (text_at part piece) 
 unfolding text_at
 ok_is_utf8 part piece ok = IsUtf8-from_is_utf8 _ (chosen_ok (well_escaped piece) (is_utf8 (percent_decode piece)) (not (is_refused part (percent_decode piece))) _ _ ok)
 
+only_decoded : (x y z : Bool) (text : List ℕ) (f : UriFault) → IsOk (if x && y && z then Ok text else failed f) → (if x && y && z then Ok text else failed f) ≡ Ok text
+only_decoded true true true text f ok = refl
+only_decoded true true false text f ok = absurd cc
+only_decoded true false z text f ok = absurd cc
+only_decoded false y z text f ok = absurd cc
+
+pub ok_is_decoded : (part : Part) (piece : List ℕ) → IsOk (text_at part piece) → text_at part piece ≡ Ok (percent_decode piece)
+unfolding text_at
+ok_is_decoded part piece ok = only_decoded (well_escaped piece) (is_utf8 (percent_decode piece)) (not (is_refused part (percent_decode piece))) _ _ ok
+
 pub text_good : (part : Part) (piece : List ℕ) → well_escaped piece ≡ true → is_utf8 (percent_decode piece) ≡ true → is_refused part (percent_decode piece) ≡ false → text_at part piece ≡ Ok (percent_decode piece)
 unfolding text_at
 text_good part piece good utf8 taken = rw (good, utf8, taken) refl

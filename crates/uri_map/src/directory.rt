@@ -11,14 +11,14 @@ use std::marker::Model;
 use std::net::IpAddr;
 
 /// A name in lower case, and its address.
-#[derive(Debug, Drop)]
+#[derive(Drop)]
 pub struct Listed {
     pub name: Text,
     pub address: IpAddr,
 }
 
 /// The addresses of names, and whether addresses that stand in targets are taken as they are.
-#[derive(Debug, Drop)]
+#[derive(Drop)]
 pub struct Directory {
     literals: bool,
     listed: Vec<Listed>,

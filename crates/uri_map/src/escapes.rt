@@ -15,7 +15,7 @@ use crate::utf8::is_utf8;
 use percent_encoding::percent_decode;
 
 /// A part of a target that is split into values.
-#[derive(Clone, Copy, Debug)]
+#[derive(Clone, Copy)]
 pub(crate) enum Part {
     /// Segments between `/`.
     Path,

@@ -6,7 +6,7 @@ ghost use Rattle.uri_map.specs.Marks.{ends};
 ghost use Rattle.uri_map.specs.Splitting.{from_first};
 
 /// A kind of bytes at which a part of a target ends.
-#[derive(Clone, Copy, Debug)]
+#[derive(Clone, Copy)]
 pub(crate) enum Mark {
     /// This byte.
     Byte(u8),

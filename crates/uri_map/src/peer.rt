@@ -10,7 +10,7 @@ use std::net::{IpAddr, Ipv6Addr};
 
 /// The address and UDP port of a CoAP endpoint. Written `192.0.2.1:5683` or
 /// `[2001:db8:0:0:0:0:0:1]:5683`, with all eight groups.
-#[derive(Clone, Copy, Debug, PartialEq, Eq, PartialOrd, Ord, Hash)]
+#[derive(Clone, Copy, Debug, PartialEq, Eq)]
 pub struct Peer {
     pub address: IpAddr,
     pub port: u16,

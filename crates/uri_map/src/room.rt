@@ -22,7 +22,7 @@ pub(crate) const OPTIONS_LIMIT: usize = 960;
 pub(crate) const URI_HOST: u16 = 3;
 
 /// What is left of the room for options, behind one of the number.
-#[derive(Clone, Copy, Debug)]
+#[derive(Clone, Copy)]
 pub(crate) struct Room {
     number: u16,
     left: usize,

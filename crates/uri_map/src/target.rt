@@ -7,7 +7,7 @@ use std::alloc::AllocError;
 use std::net::{Ipv4Addr, Ipv6Addr};
 
 /// The host of a resource.
-#[derive(Debug, Drop, PartialEq, Eq)]
+#[derive(Drop, PartialEq, Eq)]
 pub enum Host {
     /// A registered name, in lower case, of 1 to 255 bytes. It is not the text of an IPv4 address.
     Name(Text),
@@ -19,7 +19,7 @@ pub enum Host {
 
 /// A resource of a CoAP server: its host, its UDP port, and the values of its Uri-Path and Uri-Query
 /// options in order (RFC 7252, section 6.4).
-#[derive(Debug, Drop, PartialEq, Eq)]
+#[derive(Drop, PartialEq, Eq)]
 pub struct Target {
     pub host: Host,
     pub port: u16,
