@@ -104,12 +104,12 @@ fn show(
         (λ h. Shows to place wish h b (seen s.old) (seen s.new))) }
     ensures err { OnErr result (seen s.new ≡ seen s.old) }
 {
+    s.observers.reserve(1)?;
     let held = &s.resources[place];
     let version = held.version;
     let observed = is_granted(wish, &s.observers, &to.peer, place, &to.token);
-    let options = described(alloc, held, observed, b)?;
     let payload = Vec::from_slice(alloc, shown_part(b, held.state.as_slice()))?;
-    s.observers.reserve(1)?;
+    let options = described(alloc, held, observed, b)?;
     answer(alloc, s, to, CONTENT, options, payload)?;
     enlist(&mut s.observers, wish, to.peer, place, to.token, version);
     Ok(())

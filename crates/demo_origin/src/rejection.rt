@@ -12,12 +12,11 @@ use message_layer::Bytes;
 use std::alloc::{AllocError, Global};
 use uri_map::Peer;
 
-/// The RST with that ID.
-fn rst(alloc: Global, mid: u16) -> Result<Bytes, AllocError>
-    ensures { IfOk result (λ b. b ≡ rst mid) }
+/// The bytes of the RST with that ID.
+fn rst(mid: u16) -> [u8; 4]
+    ensures { result ≡ rst mid }
 {
-    let bytes = Vec::from_slice(alloc, &[0x70, 0, (mid / 256) as u8, (mid % 256) as u8])?;
-    Bytes::new(alloc, bytes)
+    [0x70, 0, (mid / 256) as u8, (mid % 256) as u8]
 }
 
 /// Answers a message by an RST with its ID.
@@ -25,7 +24,8 @@ pub(crate) fn reset(alloc: Global, s: &mut State, peer: Peer, mid: u16) -> Resul
     ensures ok { OnOk result (seen s.new ≡ sent peer (rst mid) (seen s.old)) }
     ensures err { OnErr result (seen s.new ≡ seen s.old) }
 {
-    let bytes = rst(alloc, mid)?;
+    let bytes = Vec::from_slice(alloc, &rst(mid))?;
+    let bytes = Bytes::new(alloc, bytes)?;
     send(s, peer, bytes)
 }
 
