@@ -1,5 +1,5 @@
 -- What holds of each element holds of each of one more.
-use Rattle.std.proofs.Common.{◌≡◌, zero, suc, List, [], ◌∷◌, ◌++◌, Contains, inl, inr, refl, sym, arith, subst}
+use Rattle.std.proofs.Common.{◌≡◌, ◌+◌, zero, suc, List, [], ◌∷◌, ◌++◌, length, length-append, Contains, inl, inr, refl, sym, ap, ◌∙◌, arith, subst}
 use Rattle.std.proofs.lemmas.List.Elements.{Contains-append_cases, Contains-append_right}
 
 single : {Y : Type 0} (z y : Y) → Contains (z ∷ []) y → z ≡ y
@@ -13,6 +13,10 @@ each_more {X} P xs ys s is all one t c =
     let Q : List X → Type 0 = λ zs. Contains zs t in
     elim (Contains-append_cases xs (s ∷ []) t (subst Q is c))
     [ inl a ↦ all t a | inr b ↦ subst P (single s t b) one ]
+
+-- one more makes a list longer by one
+pub longer : {X : Type 0} (xs ys : List X) (x : X) → ys ≡ xs ++ x ∷ [] → length ys ≡ length xs + 1
+longer {X} xs ys x is = ap (λ (l : List X). length l) is ∙ length-append xs (x ∷ [])
 
 -- what comes next is one of all
 pub next_among : {X : Type 0} (before rest all next : List X) (x : X)

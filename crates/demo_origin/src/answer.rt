@@ -1,6 +1,6 @@
 //! Answers: how they are sent and remembered.
 
-ghost use Rattle.std.specs.Prelude.{◌≡◌, ◌≢◌, ◌<◌, ◌≤◌, ◌+◌, ◌∷◌, ◌++◌, [], map, filter, IfOk, OnOk, OnErr, vec_len, vec_capacity};
+ghost use Rattle.std.specs.Prelude.{◌≡◌, ◌≢◌, ◌<◌, ◌≤◌, ◌+◌, ◌%◌, ◌∷◌, ◌++◌, [], map, filter, IfOk, OnOk, OnErr, vec_len, vec_capacity};
 ghost use Rattle.std.specs.List.{find, AllByRecursion};
 ghost use Rattle.std.specs.Option.{option_map};
 ghost use Rattle.std.specs.VecDeque.{deque_len, deque_capacity};
@@ -45,7 +45,12 @@ pub(crate) fn answer_mid(kind: MsgType, mid: u16, own: u16) -> u16
 fn client_of<'a>(clients: &'a [Client], peer: &Peer) -> Option<&'a Client>
     ensures { option_map (λ c. c.now) result ≡ find (is_client peer.now) clients.now }
 {
-    clients.iter().find(|c| is_same_peer(&c.peer, peer))
+    'each: for c in clients {
+        if is_same_peer(&c.peer, peer) {
+            return Some(c);
+        }
+    }
+    None
 }
 
 /// The ID that the next message to the peer has, where it isn't in an ACK.
@@ -58,11 +63,18 @@ pub(crate) fn own_mid(clients: &[Client], peer: &Peer) -> u16
     }
 }
 
+/// The message ID that comes after.
+fn next_mid(mid: u16) -> u16
+    ensures { result ≡ (mid + 1) % 65536 }
+{
+    mid.wrapping_add(1)
+}
+
 fn after_answer(kind: MsgType, mid: u16) -> u16
     ensures { result ≡ after_answer kind mid }
 {
     match kind {
-        MsgType::Non => mid.wrapping_add(1),
+        MsgType::Non => next_mid(mid),
         _ => mid,
     }
 }
@@ -231,10 +243,10 @@ pub(crate) fn prepared(
         Spells (answer_to to own code (entries options.items) payload.items) r.bytes) }
     ensures equal { IfOk result (λ r. r.again ≡ r.bytes) }
 {
+    make_room(s)?;
     let own = own_mid(&s.clients, &to.peer);
     let bytes = bytes_of(alloc, to, own, code, options, payload)?;
     let again = bytes.share()?;
-    make_room(s)?;
     Ok(Ready { bytes, again })
 }
 
@@ -255,10 +267,10 @@ pub(crate) fn answer(
     ensures err { OnErr result (seen s.new ≡ seen s.old) }
     ensures observers { s.new.observers ≡ s.old.observers }
 {
+    make_room(s)?;
     let own = own_mid(&s.clients, &to.peer);
     let bytes = bytes_of(alloc, to, own, code, options, payload)?;
     let again = bytes.share()?;
-    make_room(s)?;
     send_answer(s, to, bytes, again);
     Ok(())
 }

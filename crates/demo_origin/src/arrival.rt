@@ -74,7 +74,12 @@ fn is_repeat(r: &Remembered, moment: u64, peer: &Peer, mid: u16) -> bool
 fn answered<'a>(all: &'a [Remembered], moment: u64, peer: &Peer, mid: u16) -> Option<&'a Remembered>
     ensures { option_map (λ r. r.now) result ≡ find (is_repeat moment peer.now mid) all.now }
 {
-    all.iter().find(|r| is_repeat(r, moment, peer, mid))
+    'each: for r in all {
+        if is_repeat(r, moment, peer, mid) {
+            return Some(r);
+        }
+    }
+    None
 }
 
 /// Whether the peer is known.

@@ -30,9 +30,10 @@ pub(crate) struct Draft {
 fn copy_notification(n: &Notification) -> Result<Notification, AllocError>
     ensures { IfOk result (λ copy. copy ≡ n.now) }
 {
+    let bytes = n.bytes.share()?;
     Ok(Notification {
         mid: n.mid,
-        bytes: n.bytes.share()?,
+        bytes,
         sent: n.sent,
         copies: n.copies,
     })
@@ -43,7 +44,10 @@ fn copy_outstanding(n: &Option<Notification>) -> Result<Option<Notification>, Al
 {
     match n {
         None => Ok(None),
-        Some(n) => Ok(Some(copy_notification(n)?)),
+        Some(n) => {
+            let copy = copy_notification(n)?;
+            Ok(Some(copy))
+        }
     }
 }
 
@@ -169,7 +173,12 @@ fn is_waited_for(o: &Observer, peer: &Peer) -> bool
 fn is_busy(observers: &[Observer], peer: &Peer) -> bool
     ensures { result ≡ is_busy peer.now observers.now }
 {
-    observers.iter().any(|o| is_waited_for(o, peer))
+    'each: for o in observers {
+        if is_waited_for(o, peer) {
+            return true;
+        }
+    }
+    false
 }
 
 /// The resource, where its state is another one than the observer was told of.
@@ -230,9 +239,10 @@ fn once_more(n: &Notification, moment: u64) -> Result<Notification, AllocError>
     requires { n.now.copies < MAX_RETRANSMIT }
     ensures { IfOk result (λ again. again ≡ once_more moment n.now) }
 {
+    let bytes = n.bytes.share()?;
     Ok(Notification {
         mid: n.mid,
-        bytes: n.bytes.share()?,
+        bytes,
         sent: moment,
         copies: n.copies + 1,
     })

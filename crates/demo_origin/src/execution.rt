@@ -21,6 +21,7 @@ use crate::telling::answer_and_tell;
 use coap_codec::{Block, Message, number};
 use message_layer::Bytes;
 use std::alloc::Global;
+use std::mem::replace;
 
 /// The code 2.05.
 const CONTENT: u8 = 69;
@@ -49,18 +50,21 @@ pub struct Outcome {
 }
 
 /// What the handler is asked.
-pub(crate) fn request_of(alloc: Global, m: Message, method: Method) -> Result<CoapRequest, Memory>
-    ensures { IfOk result (λ r. r ≡ asked method (content m)) }
+pub(crate) fn request_of(
+    alloc: Global,
+    m: &mut Message,
+    method: Method,
+) -> Result<CoapRequest, Memory>
+    ensures { IfOk result (λ r. r ≡ asked method (content m.old)) }
 {
-    let query = Segments::of(alloc, &m, number::URI_QUERY)?;
-    let format = number_in(&m, number::CONTENT_FORMAT);
-    let accept = number_in(&m, number::ACCEPT);
+    let body = Bytes::new(alloc, replace(&mut m.payload, Vec::new(alloc)))?;
+    let query = Segments::of(alloc, m, number::URI_QUERY)?;
     Ok(CoapRequest {
         method,
         query,
-        format,
-        accept,
-        body: Bytes::new(alloc, m.payload)?,
+        format: number_in(m, number::CONTENT_FORMAT),
+        accept: number_in(m, number::ACCEPT),
+        body,
     })
 }
 
@@ -100,12 +104,12 @@ fn show(
         (λ h. Shows to place wish h b (seen s.old) (seen s.new))) }
     ensures err { OnErr result (seen s.new ≡ seen s.old) }
 {
+    s.observers.reserve(1)?;
     let held = &s.resources[place];
     let version = held.version;
     let observed = is_granted(wish, &s.observers, &to.peer, place, &to.token);
-    let options = described(alloc, held, observed, b)?;
     let payload = Vec::from_slice(alloc, shown_part(b, held.state.as_slice()))?;
-    s.observers.reserve(1)?;
+    let options = described(alloc, held, observed, b)?;
     answer(alloc, s, to, CONTENT, options, payload)?;
     enlist(&mut s.observers, wish, to.peer, place, to.token, version);
     Ok(())
@@ -166,7 +170,7 @@ fn change(held: &mut Held, changed: bool, after: Bytes) -> Before
     ensures version { result.version ≡ held.old.version }
 {
     let version = held.version;
-    let state = std::mem::replace(&mut held.state, after);
+    let state = replace(&mut held.state, after);
     if changed {
         held.version += 1;
     }

@@ -31,7 +31,7 @@ impl Display for Memory {
 }
 
 /// Why a handler gave no state.
-#[derive(Clone, Copy, PartialEq, Eq, Debug)]
+#[derive(Clone, Copy, Debug)]
 pub enum Refused {
     /// It takes no such request: the device answers 5.00, and the state stays.
     Content,

@@ -47,7 +47,12 @@ fn is_recognised(o: &Opt) -> bool
 fn all_recognised(options: &[Opt]) -> bool
     ensures { result ≡ list_all (λ o. is_recognised (entry o)) options.now }
 {
-    options.iter().all(|o| is_recognised(o))
+    'each: for o in options {
+        if !is_recognised(o) {
+            return false;
+        }
+    }
+    true
 }
 
 fn is_once(options: &[Opt], number: u16) -> bool

@@ -61,7 +61,12 @@ fn is_entry(o: &Observer, peer: &Peer, place: usize, token: &Token) -> bool
 fn has_entry(observers: &[Observer], peer: &Peer, place: usize, token: &Token) -> bool
     ensures { result ≡ list_any (is_entry peer.now place token.now) observers.now }
 {
-    observers.iter().any(|o| is_entry(o, peer, place, token))
+    'each: for o in observers {
+        if is_entry(o, peer, place, token) {
+            return true;
+        }
+    }
+    false
 }
 
 fn has_place(observers: &[Observer], place: usize) -> bool
@@ -143,7 +148,12 @@ fn is_sent_as(o: &Observer, peer: &Peer, mid: u16) -> bool
 pub(crate) fn has_sent(observers: &[Observer], peer: &Peer, mid: u16) -> bool
     ensures { result ≡ list_any (is_sent_as peer.now mid) observers.now }
 {
-    observers.iter().any(|o| is_sent_as(o, peer, mid))
+    'each: for o in observers {
+        if is_sent_as(o, peer, mid) {
+            return true;
+        }
+    }
+    false
 }
 
 fn relieve(o: &mut Observer, peer: &Peer, mid: u16)
@@ -174,5 +184,10 @@ pub(crate) fn drop_rejecting(observers: &mut Vec<Observer>, peer: &Peer, mid: u1
 pub(crate) fn is_observer(observers: &[Observer], peer: &Peer) -> bool
     ensures { result ≡ list_any (is_observer peer.now) observers.now }
 {
-    observers.iter().any(|o| is_same_peer(&o.peer, peer))
+    'each: for o in observers {
+        if is_same_peer(&o.peer, peer) {
+            return true;
+        }
+    }
+    false
 }

@@ -2,7 +2,7 @@
 
 ghost use Rattle.std.specs.Prelude.{◌≡◌, ◌≢◌, ◌<◌, ◌^◌, length, map, [], slice_get, IfOk, IfSome, IsSome, OnOk, OnErr, None};
 ghost use Rattle.coap_codec.specs.Spelling.{content};
-ghost use Rattle.demo_origin.specs.Requests.{CanChange, judged};
+ghost use Rattle.demo_origin.specs.Requests.{CanChange, asked, judged};
 ghost use Rattle.demo_origin.specs.Hearing.{reply_of, Comes, Executes, Finishes, TakesPiece, Asks, Processes, Takes, Hears};
 ghost use Rattle.demo_origin.specs.Blocks.{IsSized};
 ghost use Rattle.demo_origin.specs.Hearing.{piece_after};
@@ -30,7 +30,7 @@ use crate::state::{Datagram, Held, State};
 use crate::telling::{acknowledge, reject};
 use crate::uploads::{
     Joined, before_piece, drop_orphans, drop_upload, give_up, judge_piece, keep_piece, upload_of,
-    whole_body, with_body,
+    whole_body,
 };
 use coap_codec::{Block, CodecFault, Message, decode, number};
 use limits::MAX_DATAGRAM_LEN;
@@ -126,11 +126,23 @@ impl<H: Behaviour> Origin<H> {
         handler.outcome(self.alloc, held, request)
     }
 
+    /// What comes of a message that asks for the resource of that number.
+    fn outcome_of(&self, m: &mut Message, place: usize, method: Method) -> Result<Outcome, Memory>
+        requires sound { Sound H.holds self.now }
+        requires place { place < count self.now }
+        ensures comes { IfOk result (λ o. IfSome (slice_get self.now.state.resources.items place)
+            (λ h. Comes H.holds h.state (asked method (content m.old)) o.after (reply_of o))) }
+        ensures code { IfOk result (λ o. o.code ≢ 0) }
+    {
+        let request = request_of(self.alloc, m, method)?;
+        self.outcome(place, &request)
+    }
+
     /// Executes a request.
     fn execute(
         &mut self,
         to: Asker,
-        m: Message,
+        m: &mut Message,
         place: usize,
         method: Method,
     ) -> Result<Taken, Memory>
@@ -138,44 +150,41 @@ impl<H: Behaviour> Origin<H> {
         requires place { place < count self.old }
         requires version { IfSome (slice_get self.old.state.resources.items place) CanChange }
         ensures ok { IfOk result (λ taken.
-            Executes H.holds to (content m) place method
+            Executes H.holds to (content m.old) place method
             (device self.old) (device self.new) taken) }
         ensures err { OnErr result (device self.new ≡ device self.old) }
         ensures handlers { self.new.handlers ≡ self.old.handlers }
         ensures resources { count self.new ≡ count self.old }
     {
-        let request = request_of(self.alloc, m, method)?;
-        let outcome = self.outcome(place, &request)?;
-        let taken = execute(self.alloc, &mut self.state, to, place, method, outcome)?;
-        Ok(taken)
+        let outcome = self.outcome_of(m, place, method)?;
+        execute(self.alloc, &mut self.state, to, place, method, outcome)
     }
 
     /// Processes a request that wasn't answered before.
-    fn process(&mut self, to: Asker, m: Message) -> Result<Option<Taken>, Memory>
+    fn process(&mut self, to: Asker, m: &mut Message) -> Result<Option<Taken>, Memory>
         requires sound { Sound H.holds self.old }
-        ensures ok { IfOk result (λ taken. let asked = content m in
+        ensures ok { IfOk result (λ taken. let asked = content m.old in
             Processes H.holds to asked (judged asked self.old.state.resources.items)
             (device self.old) (device self.new) taken) }
         ensures err { OnErr result (device self.new ≡ device self.old) }
         ensures handlers { self.new.handlers ≡ self.old.handlers }
         ensures resources { count self.new ≡ count self.old }
     {
-        match judge(self.alloc, &m, &self.state.resources)? {
+        match judge(self.alloc, m, &self.state.resources)? {
             Judged::Dropped => Ok(None),
             Judged::Refused(code) => {
                 refuse(self.alloc, &mut self.state, to, code)?;
                 Ok(None)
             }
             Judged::Read(place) => {
-                let named = named_in(&m, number::BLOCK2);
-                let wish = wish_in(&m);
+                let named = named_in(m, number::BLOCK2);
+                let wish = wish_in(m);
                 read(self.alloc, &mut self.state, to, place, wish, named)?;
                 Ok(None)
             }
             Judged::Asked(place, method) => {
-                let named = named_in(&m, number::BLOCK1);
-                let taken = self.ask(to, m, place, method, named)?;
-                Ok(taken)
+                let named = named_in(m, number::BLOCK1);
+                self.ask(to, m, place, method, named)
             }
         }
     }
@@ -184,7 +193,7 @@ impl<H: Behaviour> Origin<H> {
     fn ask(
         &mut self,
         to: Asker,
-        m: Message,
+        m: &mut Message,
         place: usize,
         method: Method,
         named: Named,
@@ -194,7 +203,7 @@ impl<H: Behaviour> Origin<H> {
         requires version { IfSome (slice_get self.old.state.resources.items place) CanChange }
         requires sized { IsSized named }
         ensures ok { IfOk result (λ taken.
-            Asks H.holds to (content m) place method named
+            Asks H.holds to (content m.old) place method named
             (device self.old) (device self.new) taken) }
         ensures err { OnErr result (device self.new ≡ device self.old) }
         ensures handlers { self.new.handlers ≡ self.old.handlers }
@@ -217,7 +226,7 @@ impl<H: Behaviour> Origin<H> {
     fn take_piece(
         &mut self,
         to: Asker,
-        m: Message,
+        m: &mut Message,
         place: usize,
         method: Method,
         b: Block,
@@ -227,7 +236,7 @@ impl<H: Behaviour> Origin<H> {
         requires version { IfSome (slice_get self.old.state.resources.items place) CanChange }
         requires szx { b.szx < 7 }
         requires num { b.num < 2 ^ 20 }
-        ensures ok { IfOk result (λ taken. let asked = content m in
+        ensures ok { IfOk result (λ taken. let asked = content m.old in
             TakesPiece H.holds to asked place method b
             (piece_after to.peer place b asked (device self.old))
             (device self.old) (device self.new) taken) }
@@ -247,7 +256,7 @@ impl<H: Behaviour> Origin<H> {
                 Ok(None)
             }
             Joined::Next => {
-                keep_piece(self.alloc, &mut self.state, to, place, b, m.payload)?;
+                keep_piece(self.alloc, &mut self.state, to, place, b, m)?;
                 Ok(None)
             }
             Joined::Last => {
@@ -261,7 +270,7 @@ impl<H: Behaviour> Origin<H> {
     fn finish(
         &mut self,
         to: Asker,
-        m: Message,
+        m: &mut Message,
         place: usize,
         method: Method,
         b: Block,
@@ -270,7 +279,7 @@ impl<H: Behaviour> Origin<H> {
         requires place { place < count self.old }
         requires version { IfSome (slice_get self.old.state.resources.items place) CanChange }
         ensures ok { IfOk result (λ taken.
-            Finishes H.holds to (content m) place method b
+            Finishes H.holds to (content m.old) place method b
             (device self.old) (device self.new) taken) }
         ensures err { OnErr result (device self.new ≡ device self.old) }
         ensures handlers { self.new.handlers ≡ self.old.handlers }
@@ -279,27 +288,26 @@ impl<H: Behaviour> Origin<H> {
         let k = upload_of(&self.state.uploads, &to.peer, place);
         let before = before_piece(&self.state.uploads, k, b);
         let body = whole_body(self.alloc, before, &m.payload)?;
-        let m = with_body(m, body);
+        m.payload = body;
         let taken = self.execute(to, m, place, method)?;
         drop_upload(&mut self.state.uploads, &to.peer, place);
         Ok(taken)
     }
 
     /// Takes a message.
-    fn take(&mut self, moment: u64, peer: Peer, m: Message) -> Result<Option<Taken>, Memory>
+    fn take(&mut self, moment: u64, peer: Peer, m: &mut Message) -> Result<Option<Taken>, Memory>
         requires sound { Sound H.holds self.old }
-        ensures ok { IfOk result (λ taken. let came = content m in
+        ensures ok { IfOk result (λ taken. let came = content m.old in
             Takes H.holds moment peer came (arrival moment peer came (device self.old))
             (device self.old) (device self.new) taken) }
         ensures err { OnErr result (device self.new ≡ device self.old) }
         ensures handlers { self.new.handlers ≡ self.old.handlers }
         ensures resources { count self.new ≡ count self.old }
     {
-        match arrival_at(&self.state, moment, &peer, &m)? {
+        match arrival_at(&self.state, moment, &peer, m)? {
             Arrival::Ignored => Ok(None),
             Arrival::Rejected => {
-                let bytes = reset(self.alloc, m.mid)?;
-                send(&mut self.state, peer, bytes)?;
+                reset(self.alloc, &mut self.state, peer, m.mid)?;
                 Ok(None)
             }
             Arrival::Repeated(answer) => {
@@ -314,8 +322,7 @@ impl<H: Behaviour> Origin<H> {
                     mid: m.mid,
                     token: m.token,
                 };
-                let taken = self.process(to, m)?;
-                Ok(taken)
+                self.process(to, m)
             }
             Arrival::Acknowledged => {
                 acknowledge(self.alloc, &mut self.state, moment, &peer, m.mid)?;
@@ -340,10 +347,7 @@ impl<H: Behaviour> Origin<H> {
             return Ok(None);
         }
         match decode(self.alloc, datagram) {
-            Ok(m) => {
-                let taken = self.take(moment, peer, m)?;
-                Ok(taken)
-            }
+            Ok(mut m) => self.take(moment, peer, &mut m),
             Err(CodecFault::Memory) => Err(Memory::Memory),
             Err(_) => {
                 reset_undecoded(self.alloc, &mut self.state, peer, datagram)?;

@@ -3,6 +3,7 @@
 ghost use Rattle.std.specs.Prelude.{◌≡◌, IfOk, OnOk, OnErr};
 ghost use Rattle.message_layer.specs.Hearing.{reset_for};
 ghost use Rattle.demo_origin.specs.Values.{seen};
+ghost use Rattle.demo_origin.specs.Answers.{sent};
 ghost use Rattle.demo_origin.specs.Hearing.{rst, undecoded};
 
 use crate::answer::send;
@@ -11,12 +12,21 @@ use message_layer::Bytes;
 use std::alloc::{AllocError, Global};
 use uri_map::Peer;
 
-/// The RST with that ID.
-pub(crate) fn reset(alloc: Global, mid: u16) -> Result<Bytes, AllocError>
-    ensures { IfOk result (λ b. b ≡ rst mid) }
+/// The bytes of the RST with that ID.
+fn rst(mid: u16) -> [u8; 4]
+    ensures { result ≡ rst mid }
 {
-    let bytes = Vec::from_slice(alloc, &[0x70, 0, (mid / 256) as u8, (mid % 256) as u8])?;
-    Bytes::new(alloc, bytes)
+    [0x70, 0, (mid / 256) as u8, (mid % 256) as u8]
+}
+
+/// Answers a message by an RST with its ID.
+pub(crate) fn reset(alloc: Global, s: &mut State, peer: Peer, mid: u16) -> Result<(), AllocError>
+    ensures ok { OnOk result (seen s.new ≡ sent peer (rst mid) (seen s.old)) }
+    ensures err { OnErr result (seen s.new ≡ seen s.old) }
+{
+    let bytes = Vec::from_slice(alloc, &rst(mid))?;
+    let bytes = Bytes::new(alloc, bytes)?;
+    send(s, peer, bytes)
 }
 
 /// The ID of a CON that is no message, where it shows one.
@@ -45,9 +55,8 @@ pub(crate) fn reset_undecoded(
     ensures ok { OnOk result (seen s.new ≡ undecoded peer (reset_for datagram.now) (seen s.old)) }
     ensures err { OnErr result (seen s.new ≡ seen s.old) }
 {
-    if let Some(mid) = mid_to_reset(datagram) {
-        let bytes = reset(alloc, mid)?;
-        send(s, peer, bytes)?;
+    match mid_to_reset(datagram) {
+        Some(mid) => reset(alloc, s, peer, mid),
+        None => Ok(()),
     }
-    Ok(())
 }

@@ -4,7 +4,7 @@ use crate::segments::Segments;
 use message_layer::Bytes;
 
 /// The methods that handlers are asked for (RFC 7252, section 5.8). A GET is answered without them.
-#[derive(Clone, Copy, PartialEq, Eq, Debug)]
+#[derive(Clone, Copy, PartialEq, Eq)]
 pub enum Method {
     Post,
     Put,

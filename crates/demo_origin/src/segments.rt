@@ -1,6 +1,6 @@
 //! The segments of a path, and the arguments of a query.
 
-ghost use Rattle.std.specs.Prelude.{◌≡◌, IfOk};
+ghost use Rattle.std.specs.Prelude.{◌≡◌, map, IfOk};
 ghost use Rattle.coap_codec.specs.Spelling.{entries};
 ghost use Rattle.coap_codec.specs.Values.{values};
 
@@ -10,7 +10,7 @@ use std::alloc::{AllocError, Global};
 use std::marker::Model;
 
 /// The value of a Uri-Path or Uri-Query option. Contracts see its bytes.
-#[derive(Debug, Drop)]
+#[derive(Drop)]
 pub struct Segment {
     bytes: Vec<u8>,
 }
@@ -56,7 +56,7 @@ impl PartialEq for Segment {
 }
 
 /// Segments in order. Contracts see the list of their bytes.
-#[derive(Debug, Drop)]
+#[derive(Drop)]
 pub struct Segments {
     items: Vec<Segment>,
 }
@@ -115,8 +115,15 @@ impl Segments {
         ensures { IfOk result (λ s. s ≡ values number (entries m.now.options.items)) }
     {
         let values = values_of(alloc, m, number).map_err(out_of_memory)?;
+        let segments = Segments::copies_of(alloc, &values)?;
+        Ok(segments)
+    }
+
+    fn copies_of(alloc: Global, values: &[&[u8]]) -> Result<Segments, AllocError>
+        ensures { IfOk result (λ s. s ≡ map (λ value. value.now) values.now) }
+    {
         let mut items = Vec::new(alloc);
-        'each: for value in &values {
+        'each: for value in values {
             items.push(Segment::copy_of(alloc, value)?)?;
         }
         Ok(Segments { items })

@@ -3,16 +3,34 @@
 ghost use Rattle.std.specs.Prelude.{◌≡◌, ◌≢◌, OnOk, OnErr};
 ghost use Rattle.demo_origin.specs.Values.{seen};
 ghost use Rattle.demo_origin.specs.Observing.{acknowledged, rejected};
-ghost use Rattle.demo_origin.specs.Notifying.{Settles};
-ghost use Rattle.demo_origin.specs.Drafts.{AnswersAndTells};
+ghost use Rattle.demo_origin.specs.Notifying.{Settles, TellsAll};
+ghost use Rattle.demo_origin.specs.Drafts.{AnswersAndTells, answering, drafted};
 
 use crate::answer::{Asker, bytes_of, own_mid, remember};
-use crate::draft::{answer_in, draft_of, take_over, tell_all};
+use crate::draft::{Draft, answer_in, draft_of, take_over, tell_all};
 use crate::fault::Memory;
 use crate::observers::{drop_rejecting, relieve_each};
 use crate::state::{Remembered, State};
+use message_layer::Bytes;
 use std::alloc::Global;
 use uri_map::Peer;
+
+/// Answers a request in a draft, and tells the observers.
+fn draft_answer(
+    alloc: Global,
+    draft: &mut Draft,
+    s: &State,
+    to: Asker,
+    bytes: Bytes,
+) -> Result<(), Memory>
+    ensures { OnOk result (TellsAll to.moment s.now.block.szx s.now.resources.items
+        (answering to bytes (drafted draft.old)) (drafted draft.new)) }
+{
+    let moment = to.moment;
+    answer_in(draft, to, bytes)?;
+    tell_all(alloc, draft, s.block, &s.resources, moment)?;
+    Ok(())
+}
 
 /// Answers a request, and tells the observers.
 pub(crate) fn answer_and_tell(
@@ -28,13 +46,12 @@ pub(crate) fn answer_and_tell(
     ensures err { OnErr result (seen s.new ≡ seen s.old) }
     ensures resources { s.new.resources ≡ s.old.resources }
 {
+    s.remembered.reserve(1)?;
     let own = own_mid(&s.clients, &to.peer);
     let bytes = bytes_of(alloc, to, own, code, Vec::new(alloc), payload)?;
     let again = bytes.share()?;
-    s.remembered.reserve(1)?;
     let mut draft = draft_of(alloc, s)?;
-    answer_in(&mut draft, to, bytes)?;
-    tell_all(alloc, &mut draft, s.block, &s.resources, to.moment)?;
+    draft_answer(alloc, &mut draft, s, to, bytes)?;
     let one = Remembered {
         peer: to.peer,
         mid: to.mid,

@@ -2,9 +2,9 @@
 
 ghost use Rattle.std.specs.Prelude.{◌≡◌, ◌≢◌, ◌<◌, ◌≤◌, ◌+◌, ◌*◌, ◌^◌, ◌++◌, ◌∷◌, [], length, filter, OnOk, OnErr, IfOk, Some};
 ghost use Rattle.std.specs.List.{AllByRecursion};
-ghost use Rattle.coap_codec.specs.Spelling.{content, entries};
+ghost use Rattle.coap_codec.specs.Spelling.{entries};
 ghost use Rattle.coap_codec.specs.Writing.{IsInOrder, IsShort};
-ghost use Rattle.demo_origin.specs.Uploads.{is_of, is_from, upload_of, body_in, body_at, before_piece, joined, going_on, put_at, others, with_body, AsksForMore};
+ghost use Rattle.demo_origin.specs.Uploads.{is_of, is_from, upload_of, body_in, body_at, before_piece, joined, going_on, put_at, others, AsksForMore};
 ghost use Rattle.demo_origin.specs.Pieces.{KeepsPiece, GivesUp};
 ghost use Rattle.demo_origin.specs.Values.{seen};
 
@@ -18,6 +18,7 @@ use crate::state::{Client, State, Upload};
 use coap_codec::{Block, Message, Opt, number};
 use limits::MAX_BODY_LEN;
 use std::alloc::{AllocError, Global};
+use std::mem::replace;
 use uri_map::Peer;
 
 /// The code 2.31.
@@ -153,16 +154,17 @@ pub(crate) fn keep_piece(
     to: Asker,
     place: usize,
     b: Block,
-    payload: Vec<u8>,
+    m: &mut Message,
 ) -> Result<(), Memory>
     requires szx { b.szx < 7 }
     requires num { b.num < 2 ^ 20 }
-    ensures ok { OnOk result (KeepsPiece to place b payload.items (seen s.old) (seen s.new)) }
+    ensures ok { OnOk result (KeepsPiece to place b m.old.payload.items (seen s.old) (seen s.new)) }
     ensures err { OnErr result (seen s.new ≡ seen s.old) }
 {
     let options = asking_for_more(alloc, b, s.block)?;
     let Ready { bytes, again } = prepared(alloc, s, to, CONTINUE, options, Vec::new(alloc))?;
     let k = upload_of(&s.uploads, &to.peer, place);
+    let payload = replace(&mut m.payload, Vec::new(alloc));
     put_at(&mut s.uploads, to.peer, place, k, b, payload)?;
     send_answer(s, to, bytes, again);
     Ok(())
@@ -203,20 +205,6 @@ pub(crate) fn whole_body(
     let mut whole = Vec::from_slice(alloc, before)?;
     whole.extend_from_slice(payload)?;
     Ok(whole)
-}
-
-/// The same message with that body.
-pub(crate) fn with_body(m: Message, body: Vec<u8>) -> Message
-    ensures { content result ≡ with_body body.items (content m) }
-{
-    Message {
-        kind: m.kind,
-        code: m.code,
-        mid: m.mid,
-        token: m.token,
-        options: m.options,
-        payload: body,
-    }
 }
 
 /// Forgets what came from peers that aren't known.

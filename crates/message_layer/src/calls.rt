@@ -54,7 +54,12 @@ pub fn expect(s: &mut State, token: &Token, on: bool) -> Result<(), AllocError>
 pub fn is_among(tokens: &[Token], token: &Token) -> bool
     ensures { result ≡ is_among tokens.now token.now }
 {
-    tokens.iter().any(|other| is_same(token, other))
+    'each: for other in tokens {
+        if is_same(token, other) {
+            return true;
+        }
+    }
+    false
 }
 
 fn drop_gone_waiting(waiting: &mut Vec<Waiting>, gone: &[Token])

@@ -1,6 +1,6 @@
 //! Datagrams of the peer's: what the verdict over them says is done.
 
-ghost use Rattle.std.specs.Prelude.{◌≡◌, ◌<◌, ◌≤◌, ◌+◌, ◌++◌, map, IfOk, OnErr, IsOkUnless, None, true, false, vec_len, vec_capacity};
+ghost use Rattle.std.specs.Prelude.{◌≡◌, ◌<◌, ◌≤◌, ◌+◌, ◌/◌, ◌%◌, ◌++◌, ◌∷◌, [], map, IfOk, OnErr, IsOkUnless, None, true, false, vec_len, vec_capacity};
 ghost use Rattle.std.specs.VecDeque.{deque_len, deque_capacity};
 ghost use Rattle.coap_codec.specs.Spelling.{content};
 ghost use Rattle.message_layer.specs.Values.{seen, shown, told, was_dropped, IsSound};
@@ -20,17 +20,23 @@ use limits::MAX_DATAGRAM_LEN;
 use std::alloc::{AllocError, Global};
 use std::collections::VecDeque;
 
+/// The message of that first byte and that ID, with no code and no token.
+fn empty(alloc: Global, first: u8, mid: u16) -> Result<Option<Bytes>, AllocError>
+    ensures { IfOk result (λ o. listed o ≡ (first ∷ 0 ∷ (mid / 256) ∷ (mid % 256) ∷ []) ∷ []) }
+{
+    let items = Vec::from_slice(alloc, &[first, 0, (mid / 256) as u8, (mid % 256) as u8])?;
+    Ok(Some(Bytes::new(alloc, items)?))
+}
+
 /// The empty ACK or RST with that ID.
 fn reply_of(alloc: Global, mid: u16, reply: Reply) -> Result<Option<Bytes>, AllocError>
     ensures { IfOk result (λ o. listed o ≡ replies mid reply) }
 {
-    let first = match reply {
-        Reply::Nothing => return Ok(None),
-        Reply::Ack => 0x60,
-        Reply::Rst => 0x70,
-    };
-    let items = Vec::from_slice(alloc, &[first, 0, (mid / 256) as u8, (mid % 256) as u8])?;
-    Ok(Some(Bytes::new(alloc, items)?))
+    match reply {
+        Reply::Nothing => Ok(None),
+        Reply::Ack => empty(alloc, 0x60, mid),
+        Reply::Rst => empty(alloc, 0x70, mid),
+    }
 }
 
 fn push_reply(out: &mut VecDeque<Bytes>, reply: Option<Bytes>)

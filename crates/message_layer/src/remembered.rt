@@ -3,7 +3,6 @@
 ghost use Rattle.std.specs.Prelude.{◌≡◌, ◌<◌, ◌≤◌, ◌+◌, ◌++◌, ◌∷◌, ◌&&◌, [], length, filter, count_by, nat_lt, nat_le, IfOk, OnOk, true};
 ghost use Rattle.std.specs.VecDeque.{deque_len, deque_capacity};
 ghost use Rattle.std.specs.List.{find};
-ghost use Rattle.std.specs.Option.{option_copied};
 ghost use Rattle.message_layer.specs.Remembering.{is_fresh, is_repeat, AreInOrder, IsChained, begins_old, has_number_room};
 
 use crate::chains::{
@@ -43,10 +42,16 @@ impl Model for Remembered {
 }
 
 /// The message with this ID that is remembered, sought wherever it stands.
-fn find_any(messages: &VecDeque<Heard>, mid: u16, moment: u64) -> Option<&Heard>
-    ensures { option_copied result ≡ find (is_repeat moment mid) messages.now.items }
+fn find_any(messages: &VecDeque<Heard>, mid: u16, moment: u64) -> Option<Heard>
+    ensures { result ≡ find (is_repeat moment mid) messages.now.items }
 {
-    messages.iter().find(|h| h.is_repeat(mid, moment))
+    'each: for i in 0..messages.len() {
+        let h = messages[i];
+        if h.is_repeat(mid, moment) {
+            return Some(h);
+        }
+    }
+    None
 }
 
 /// The oldest one is remembered no more.
@@ -134,10 +139,7 @@ impl Remembered {
         if self.orderly {
             return find_chained(&self.chains, &self.messages, mid, moment);
         }
-        match find_any(&self.messages, mid, moment) {
-            None => None,
-            Some(h) => Some(*h),
-        }
+        find_any(&self.messages, mid, moment)
     }
 
     /// One more can be remembered.

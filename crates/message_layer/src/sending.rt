@@ -101,7 +101,12 @@ pub fn prepared(
 fn first_without<'a>(waiting: &'a [Waiting], gone: &[Token]) -> Option<&'a Waiting>
     ensures { option_copied result ≡ find (waits_on (is_among gone.now)) waiting.now }
 {
-    waiting.iter().find(|w| !calls::is_among(gone, &w.token))
+    'each: for w in waiting {
+        if !calls::is_among(gone, &w.token) {
+            return Some(w);
+        }
+    }
+    None
 }
 
 /// The message that goes out next, if one waits that has no token of these.
@@ -272,6 +277,18 @@ pub fn check(s: &State, moment: u64) -> Result<(), LinkFault>
     Ok(())
 }
 
+/// The message's bytes.
+fn bytes_of(alloc: Global, m: &Message) -> Result<Bytes, LinkFault>
+    requires { IsEncodable (content m.now) }
+    ensures ok { IfOk result (λ text. Spells (content m.now) text) }
+    ensures memory { IsOkUnless result LinkFault.Memory }
+{
+    match encode(alloc, m) {
+        Ok(text) => Ok(Bytes::new(alloc, text)?),
+        Err(_) => Err(LinkFault::Memory),
+    }
+}
+
 /// The message's bytes, under ID 0.
 fn text_of(alloc: Global, m: Message) -> Result<Bytes, LinkFault>
     requires encodable { IsEncodable (content m) }
@@ -280,10 +297,7 @@ fn text_of(alloc: Global, m: Message) -> Result<Bytes, LinkFault>
 {
     let mut m = m;
     m.mid = 0;
-    match encode(alloc, &m) {
-        Ok(text) => Ok(Bytes::new(alloc, text)?),
-        Err(_) => Err(LinkFault::Memory),
-    }
+    bytes_of(alloc, &m)
 }
 
 /// The first sending of a message that is handed in, where nothing is outstanding.

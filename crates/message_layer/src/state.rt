@@ -46,7 +46,7 @@ pub struct Awaited {
 }
 
 /// What answers a message, beside a response: nothing, or an empty ACK or RST with its ID.
-#[derive(Clone, Copy, Debug, PartialEq, Eq)]
+#[derive(Clone, Copy)]
 pub enum Reply {
     Nothing,
     Ack,
@@ -94,7 +94,7 @@ pub struct State {
 }
 
 /// What a datagram or a tick brings.
-#[derive(Debug, Drop)]
+#[derive(Drop)]
 pub enum Up {
     Nothing,
     /// A response under a token that is awaited.

@@ -4,7 +4,7 @@ ghost use Rattle.std.specs.Prelude.{◌≡◌};
 ghost use Rattle.proxy_settings.specs.Values.{by_named};
 
 /// What transforms the bodies of a route.
-#[derive(Clone, Copy, Debug, PartialEq, Eq)]
+#[derive(Clone, Copy, Debug)]
 pub enum By {
     /// CBOR to JSON: `cbor-json`.
     CborJson,

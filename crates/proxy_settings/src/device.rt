@@ -17,7 +17,7 @@ use toml::Table;
 use uri_map::Peer;
 
 /// The settings of the demonstration device.
-#[derive(Debug, Drop)]
+#[derive(Drop)]
 pub struct Device {
     /// Where CoAP messages are taken: `listen`.
     pub listen: Peer,

@@ -57,7 +57,7 @@ impl fmt::Display for Why {
 }
 
 /// A key that is wrong, and in which table of an array of tables it stands, counted from 0.
-#[derive(Clone, Copy, Debug, PartialEq, Eq)]
+#[derive(Clone, Copy, Debug)]
 pub struct Wrong {
     pub row: Option<(Name, usize)>,
     pub key: Name,
@@ -95,7 +95,7 @@ impl fmt::Display for Wrong {
 }
 
 /// What is wrong with a text, in one line.
-#[derive(Clone, Copy, Debug, PartialEq, Eq)]
+#[derive(Clone, Copy, Debug)]
 pub enum Reason {
     /// It is no TOML: at which line, counted from 1, and why.
     Syntax(usize, toml::de::Error),
@@ -113,7 +113,7 @@ impl fmt::Display for Reason {
 }
 
 /// Why a text gives no settings.
-#[derive(Clone, Copy, Debug, PartialEq, Eq)]
+#[derive(Clone, Copy, Debug)]
 pub enum SetupFault {
     /// The text is refused.
     Refused(Reason),

@@ -1,16 +1,16 @@
 //! Which keys a table may have.
 
-ghost use Rattle.std.specs.Prelude.{◌≡◌, true, false, ◌∷◌, [], codes, OnOk, OnErr};
+ghost use Rattle.std.specs.Prelude.{◌≡◌, true, false, map, OnOk, OnErr};
 ghost use Rattle.std.specs.List.{list_any};
 ghost use Rattle.std.specs.Str.{bytes_eq};
 ghost use Rattle.toml.specs.View.{table_view};
-ghost use Rattle.proxy_settings.specs.Keys.{is_key, has_only};
+ghost use Rattle.proxy_settings.specs.Keys.{keys_of, is_key, has_only};
 
 use crate::fault::{Why, Wrong};
 use toml::Table;
 
 /// The tables of a file.
-#[derive(Clone, Copy, Debug, PartialEq, Eq)]
+#[derive(Clone, Copy)]
 pub(crate) enum Keys {
     Serve,
     Origin,
@@ -20,23 +20,26 @@ pub(crate) enum Keys {
 }
 
 impl Keys {
+    /// The keys that the table may have.
+    fn names(self) -> &'static [&'static str]
+        ensures { map (λ name. name.now) result.now ≡ keys_of self }
+    {
+        match self {
+            Keys::Serve => &[
+                "listen", "udp", "base", "literals", "loose", "pass", "origin", "down", "up",
+            ],
+            Keys::Origin => &["host", "address", "observe"],
+            Keys::Route => &["from", "to", "by"],
+            Keys::Device => &["listen", "block", "resource"],
+            Keys::Resource => &["path", "kind", "state", "format", "max_age"],
+        }
+    }
+
     /// Whether the table may have the key.
     fn knows(self, key: &str) -> bool
         ensures { result ≡ is_key self key.now }
     {
-        match self {
-            Keys::Serve => is_serve_key(key),
-            Keys::Origin => key == "host" || key == "address" || key == "observe",
-            Keys::Route => key == "from" || key == "to" || key == "by",
-            Keys::Device => key == "listen" || key == "block" || key == "resource",
-            Keys::Resource => {
-                key == "path"
-                    || key == "kind"
-                    || key == "state"
-                    || key == "format"
-                    || key == "max_age"
-            }
-        }
+        is_among(self.names(), key)
     }
 
     /// Refuses a table with another key.
@@ -53,24 +56,13 @@ impl Keys {
     }
 }
 
-/// Whether it is a key of where the gateway is, or of its devices.
-fn is_place_key(key: &str) -> bool
-    ensures { result ≡ list_any (bytes_eq key.now)
-        (codes "listen" ∷ codes "udp" ∷ codes "base" ∷ codes "literals" ∷ []) }
+fn is_among(names: &[&str], key: &str) -> bool
+    ensures { result ≡ list_any (bytes_eq key.now) (map (λ name. name.now) names.now) }
 {
-    key == "listen" || key == "udp" || key == "base" || key == "literals"
-}
-
-/// Whether it is a key of how bodies are mapped, or of the lists of tables.
-fn is_other_key(key: &str) -> bool
-    ensures { result ≡ list_any (bytes_eq key.now)
-        (codes "loose" ∷ codes "pass" ∷ codes "origin" ∷ codes "down" ∷ codes "up" ∷ []) }
-{
-    key == "loose" || key == "pass" || key == "origin" || key == "down" || key == "up"
-}
-
-fn is_serve_key(key: &str) -> bool
-    ensures { result ≡ is_key Keys.Serve key.now }
-{
-    is_place_key(key) || is_other_key(key)
+    'each: for name in names {
+        if key == *name {
+            return true;
+        }
+    }
+    false
 }

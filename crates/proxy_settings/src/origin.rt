@@ -17,7 +17,7 @@ use toml::Table;
 use uri_map::Text;
 
 /// A device behind the proxy: `[[origin]]`.
-#[derive(Debug, Drop)]
+#[derive(Drop)]
 pub struct Origin {
     /// Its name, in lower case.
     pub host: Text,

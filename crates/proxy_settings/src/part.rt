@@ -22,7 +22,7 @@ pub enum Part {
 }
 
 /// The settings of a part.
-#[derive(Debug, Drop)]
+#[derive(Drop)]
 pub enum Setup {
     Serve(Serve),
     Origin(Device),

@@ -51,7 +51,7 @@ fn line_ends(alloc: Global, text: &[u8]) -> Option<Vec<usize>>
 
 /// A search for the first line, counted from 0, such that the text to its end has something. A text that ends
 /// within a statement can't be read, and its line is passed over.
-#[derive(Drop)]
+#[derive(Clone, Copy)]
 struct Search {
     /// The first line that may be it.
     low: usize,

@@ -17,7 +17,7 @@ use toml::Table;
 use uri_map::Text;
 
 /// A resource of the demonstration device: `[[resource]]`.
-#[derive(Debug, Drop)]
+#[derive(Drop)]
 pub struct Resource {
     /// Its path: the values of its Uri-Path options with `/` between them.
     pub path: Text,

@@ -17,7 +17,7 @@ use toml::Table;
 
 /// A pair of forms, and what transforms bodies of the first into bodies of the second: `[[down]]` or
 /// `[[up]]`.
-#[derive(Debug, Drop)]
+#[derive(Drop)]
 pub struct Route {
     pub from: Form,
     pub to: Form,
@@ -25,7 +25,7 @@ pub struct Route {
 }
 
 /// Which way bodies go.
-#[derive(Clone, Copy, Debug, PartialEq, Eq)]
+#[derive(Clone, Copy)]
 pub(crate) enum Way {
     /// From a device to a client.
     Down,

@@ -19,7 +19,7 @@ use toml::Table;
 use uri_map::{Peer, Text};
 
 /// The settings of the proxy.
-#[derive(Debug, Drop)]
+#[derive(Drop)]
 pub struct Serve {
     /// Where HTTP connections are taken: `listen`.
     pub listen: Peer,

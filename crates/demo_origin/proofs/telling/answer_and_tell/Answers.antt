@@ -10,7 +10,7 @@ returns-clause-ok c =
       middle = answered c.args.to c.in_ok-bytes.bytes (seen c.args.s.now);
       answers = record { bytes = c.in_ok-bytes.bytes; spelled = search rules; is = refl };
       settles = record {
-        talk = drafted c.tell_all.new.draft;
+        talk = drafted c.draft_answer.new.draft;
         tells = search rules;
         is = search rules;
       };

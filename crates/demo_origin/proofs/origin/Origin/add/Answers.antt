@@ -1,12 +1,12 @@
-use Rattle.std.proofs.Common.{length, length-append, ap, arith}
+use Rattle.std.proofs.Common.{arith}
 use Rattle.demo_origin.specs.Keeps.{KeepsRelation}
-use Rattle.demo_origin.proofs.Each.{each_more}
+use Rattle.demo_origin.proofs.Each.{each_more, longer}
 use Rattle.demo_origin.proofs.origin.Origin.add.Goals as goal
 
 pub returns-clause-sound : goal.returns-clause-sound
 returns-clause-sound g c =
-    let a = simp length-append at (ap length c.in_ok-push.ensures.items) in
-    let b = simp length-append at (ap length c.in_ok-push-2.ensures.items) in
+    let a = longer _ _ _ c.in_ok-push.ensures.items in
+    let b = longer _ _ _ c.in_ok-push-2.ensures.items in
     record {
       keep = record {
         each = each_more (λ s. KeepsRelation g.H.Behaviour.holds s) _ _ _

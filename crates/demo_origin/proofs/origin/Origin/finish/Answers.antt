@@ -1,5 +1,5 @@
 use Rattle.std.proofs.Common.{◌≡◌, ℕ, List, ◌++◌, Option, refl, ap, subst, ◌∙◌}
-use Rattle.coap_codec.specs.Spelling.{Content, content}
+use Rattle.coap_codec.specs.Spelling.{content}
 use Rattle.demo_origin.specs.Origins.{device}
 use Rattle.demo_origin.specs.Hearing.{Executes}
 use Rattle.demo_origin.specs.Uploads.{upload_of, body_at, before_piece, with_piece, with_body}
@@ -21,17 +21,15 @@ returns-clause-ok g c =
     c.deref-2.ensures.value
     ∙ ap (λ (o : Option ℕ). before_piece b (body_at o all)) k in
     let whole : c.in_ok-body.body.items
-    ≡ with_piece p i b c.args.m.payload.items (device c.args.self.now) =
+    ≡ with_piece p i b c.args.m.now.payload.items (device c.args.self.now) =
     c.in_ok-body.ensures
     ∙ ap (λ (xs : List ℕ). xs ++ c.deref-3.result.now) came
     ∙ ap (λ (ys : List ℕ). before_piece b (body_at (upload_of p i all) all) ++ ys)
     c.deref-3.ensures.value in
-    let asked = c.with_body-m.ensures
-    ∙ ap (λ (xs : List ℕ). with_body xs (content c.args.m)) whole in
-    let P : Content → Type 0 = λ m.
-    Executes g.H.Behaviour.holds c.args.to m i c.args.method (device c.args.self.now)
-    (device c.execute.new.self) c.in_ok-taken.taken in (
+    let P : List ℕ → Type 0 = λ body.
+    Executes g.H.Behaviour.holds c.args.to (with_body body (content c.args.m.now)) i c.args.method
+    (device c.args.self.now) (device c.execute.new.self) c.in_ok-taken.taken in (
       device c.execute.new.self,
-      subst P asked c.in_ok-taken.ensures.ok,
+      subst P whole c.in_ok-taken.ensures.ok,
       rw c.drop_upload.ensures refl,
     )
