@@ -4,9 +4,8 @@ ghost use Rattle.std.specs.Prelude.{◌≡◌};
 ghost use Rattle.command_line.specs.Failures.{exit_status, setup_failure, serve_failure, device_failure};
 
 use crate::fault::{Reason, ReplayFault};
-use device_server::DeviceFault;
-use gateway_server::ServeFault;
 use proxy_settings::FileFault;
+use server_faults::{DeviceFault, ServeFault};
 use std::alloc::{AllocError, AllocFailed};
 use std::fmt;
 

@@ -2,7 +2,6 @@
 
 ghost use Rattle.std.specs.Prelude.{◌≡◌, ◌-◌, ◌^◌};
 
-use crate::fault::ServeFault;
 use crate::ports::Ports;
 use crate::shared::Shared;
 use ask_model::Settings;
@@ -10,6 +9,7 @@ use front_desk::{LockedDesk, Pass, Shop};
 use linked_core::OpenFault;
 use log::{Log, info, warn};
 use route_bank::Profile;
+use server_faults::ServeFault;
 use sessions::{tick_loop, udp_loop};
 use std::alloc::Global;
 use std::marker::Brand;

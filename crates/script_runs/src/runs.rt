@@ -4,6 +4,7 @@ ghost use Rattle.std.specs.Prelude.{◌≡◌, IfOk};
 ghost use Rattle.transformers.specs.Suits.{Suits};
 ghost use Rattle.ask_model.specs.Views.{rules_of};
 
+use crate::inputs::input_of;
 use crate::lines::{write_entry, write_output};
 use ask_model::Settings;
 use command_line::{LineFault, Reason, ReplayFault, line_of};
@@ -116,7 +117,7 @@ impl<R: Relation> Script<R> {
             Err(LineFault::Memory) => return Err(ReplayFault::Memory),
             Err(fault) => return Err(self.refuse(self.lines, Reason::Line(fault))),
         };
-        let outputs = match self.world.input(bank, line.input()) {
+        let outputs = match self.world.input(bank, input_of(&line)) {
             Ok(outputs) => outputs,
             Err(WorldFault::Backlog) => return Err(self.refuse(self.lines, Reason::Backlog)),
             Err(WorldFault::Memory) => return Err(ReplayFault::Memory),
