@@ -7,7 +7,7 @@ use std::{fmt, str};
 use uri_map::{Peer, peer_at};
 
 /// Why a line is no input.
-#[derive(Clone, Copy, Debug, PartialEq, Eq)]
+#[derive(Clone, Copy, PartialEq, Eq)]
 pub enum LineFault {
     /// It isn't `MOMENT WORD EVENT`.
     Form,
