@@ -2,10 +2,10 @@
 use Rattle.std.specs.Prelude.{ℕ}
 use Rattle.proxy_settings.specs.declared.file.FileFault.{FileFault}
 use Rattle.proxy_settings.specs.declared.file.FileFault.TheVariants as file
-use Rattle.gateway_server.specs.declared.fault.ServeFault.{ServeFault}
-use Rattle.gateway_server.specs.declared.fault.ServeFault.TheVariants as serve
-use Rattle.device_server.specs.declared.fault.DeviceFault.{DeviceFault}
-use Rattle.device_server.specs.declared.fault.DeviceFault.TheVariants as device
+use Rattle.server_faults.specs.declared.gateway.ServeFault.{ServeFault}
+use Rattle.server_faults.specs.declared.gateway.ServeFault.TheVariants as serve
+use Rattle.server_faults.specs.declared.device.DeviceFault.{DeviceFault}
+use Rattle.server_faults.specs.declared.device.DeviceFault.TheVariants as device
 use Rattle.command_line.specs.declared.report.Failure.{Failure}
 use Rattle.command_line.specs.declared.report.Failure.TheVariants as failure
 use Rattle.command_line.specs.declared.fault.ReplayFault.{ReplayFault}

@@ -4,7 +4,7 @@ use crate::report::Hint;
 use proxy_settings::Part;
 
 /// What the arguments ask for. A file is named by its path.
-#[derive(Clone, Copy, Debug, PartialEq, Eq)]
+#[derive(Clone, Copy, PartialEq, Eq)]
 pub enum Command<'a> {
     Help,
     Version,

@@ -26,7 +26,7 @@ impl fmt::Display for ReplayFault {
 }
 
 /// What more can be said of a fault.
-#[derive(Clone, Copy, Debug, PartialEq, Eq)]
+#[derive(Clone, Copy, PartialEq, Eq)]
 pub enum Reason {
     /// The line is no input.
     Line(LineFault),

@@ -14,5 +14,5 @@ mod settings;
 pub use command::{Command, command_of};
 pub use fault::{Reason, ReplayFault};
 pub use report::{Failure, Hint, Report, USAGE};
-pub use script::{Line, LineFault, line_of};
+pub use script::{Event, Line, LineFault, line_of};
 pub use settings::{asks_to_observe, demonstration, followed};

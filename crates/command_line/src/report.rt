@@ -4,9 +4,8 @@ ghost use Rattle.std.specs.Prelude.{◌≡◌};
 ghost use Rattle.command_line.specs.Failures.{exit_status, setup_failure, serve_failure, device_failure};
 
 use crate::fault::{Reason, ReplayFault};
-use device_server::DeviceFault;
-use gateway_server::ServeFault;
 use proxy_settings::FileFault;
+use server_faults::{DeviceFault, ServeFault};
 use std::alloc::{AllocError, AllocFailed};
 use std::fmt;
 
@@ -14,7 +13,7 @@ use std::fmt;
 pub const USAGE: &str = "usage: hcproxy replay [--journal] | hcproxy serve | hcproxy origin";
 
 /// Why the program ends without having done what it was asked for.
-#[derive(Clone, Copy, Debug, PartialEq, Eq)]
+#[derive(Clone, Copy)]
 pub enum Failure {
     Usage,
     /// A file has no settings of the part.
@@ -92,7 +91,7 @@ impl fmt::Display for Failure {
 }
 
 /// What more can be said of a failure.
-#[derive(Clone, Copy, Debug)]
+#[derive(Clone, Copy)]
 pub enum Hint<'a> {
     SeeHelp,
     Because(Reason),
@@ -117,7 +116,7 @@ impl fmt::Display for Hint<'_> {
 }
 
 /// A failure, with a second line where more can be said.
-#[derive(Clone, Copy, Debug)]
+#[derive(Clone, Copy)]
 pub struct Report<'a> {
     pub failure: Failure,
     pub hint: Option<Hint<'a>>,

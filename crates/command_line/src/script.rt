@@ -2,13 +2,12 @@
 
 ghost use Rattle.std.specs.Prelude.{◌≡◌, ◌++◌, ◌∷◌, IfSome};
 
-use linked_world::{Happening, Input};
 use std::alloc::Global;
 use std::{fmt, str};
 use uri_map::{Peer, peer_at};
 
 /// Why a line is no input.
-#[derive(Clone, Copy, Debug, PartialEq, Eq)]
+#[derive(Clone, Copy, PartialEq, Eq)]
 pub enum LineFault {
     /// It isn't `MOMENT WORD EVENT`.
     Form,
@@ -40,40 +39,27 @@ impl fmt::Display for LineFault {
     }
 }
 
-/// An event, with the bytes that a line gives it.
+/// What happens, with the bytes that the line gives it.
 #[derive(Drop)]
-enum Event {
+pub enum Event {
+    /// A client wants a connection.
     Open,
+    /// Bytes of the connection came in.
     Bytes(u32, Vec<u8>),
+    /// A datagram came in from the endpoint.
     Datagram(Peer, Vec<u8>),
+    /// Time went on.
     Tick,
+    /// The client closed the connection.
     Close(u32),
 }
 
 /// A line of a script.
 #[derive(Drop)]
 pub struct Line {
-    moment: u64,
-    word: u64,
-    event: Event,
-}
-
-impl Line {
-    /// The input that the line gives.
-    pub fn input(&self) -> Input<'_> {
-        let happening = match &self.event {
-            Event::Open => Happening::Open,
-            Event::Bytes(connection, bytes) => Happening::Bytes(*connection, bytes),
-            Event::Datagram(peer, bytes) => Happening::Datagram(*peer, bytes),
-            Event::Tick => Happening::Tick,
-            Event::Close(connection) => Happening::Close(*connection),
-        };
-        Input {
-            moment: self.moment,
-            word: self.word,
-            happening,
-        }
-    }
+    pub moment: u64,
+    pub word: u64,
+    pub event: Event,
 }
 
 /// Reads a line, which stands here without its line end.

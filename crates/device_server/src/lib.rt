@@ -6,15 +6,14 @@
 #![tactic(auto)]
 
 mod clock;
-mod fault;
 mod kinds;
 mod server;
 mod turns;
 mod wire;
 
 pub use clock::{Clock, SystemClock};
-pub use fault::DeviceFault;
 pub use kinds::{Kinds, answer};
 pub use server::run;
+pub use server_faults::DeviceFault;
 pub use turns::{serve, turn};
 pub use wire::{DevicePort, Failed, Wire};

@@ -3,14 +3,14 @@
 ghost use Rattle.std.specs.Prelude.{◌≡◌, IfOk};
 
 use crate::clock::SystemClock;
-use crate::fault::DeviceFault;
 use crate::kinds::{Kinds, answer};
 use crate::turns::serve;
 use crate::wire::DevicePort;
-use demo_origin::{Call, CoapRequest, Handler, Origin, Resource, Segments, install};
+use demo_origin::{Call, CoapRequest, Handler, Memory, Origin, Resource, Segments, install};
 use log::{Log, info};
 use message_layer::Bytes;
 use proxy_settings::Device;
+use server_faults::DeviceFault;
 use std::alloc::{AllocError, Global};
 use std::rt::Clock;
 use std::time::Instant;
@@ -70,7 +70,10 @@ fn run_with<W: Log + Clock + Copy + Drop>(
         };
         install(&mut all, resource)?;
     }
-    let mut origin = Origin::new(alloc, device.block.min(MAX_SZX), all)?;
+    let mut origin = match Origin::new(alloc, device.block.min(MAX_SZX), all) {
+        Ok(origin) => origin,
+        Err(Memory::Memory) => return Err(DeviceFault::Memory),
+    };
     if let Ok(at) = port.listens_at() {
         info!(&rt; target: "hcproxy", "takes messages at {at}");
     }

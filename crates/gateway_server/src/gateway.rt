@@ -2,7 +2,6 @@
 
 ghost use Rattle.std.specs.Prelude.{◌≡◌, ◌-◌, ◌^◌};
 
-use crate::fault::ServeFault;
 use crate::ports::Ports;
 use crate::shared::Shared;
 use ask_model::Settings;
@@ -10,13 +9,13 @@ use front_desk::{LockedDesk, Pass, Shop};
 use linked_core::OpenFault;
 use log::{Log, info, warn};
 use route_bank::Profile;
+use server_faults::ServeFault;
 use sessions::{tick_loop, udp_loop};
 use std::alloc::Global;
 use std::marker::Brand;
-use std::net::{TcpListener, TcpStream};
+use std::net::{SocketAddr, TcpListener, TcpStream};
 use std::random::RandomSource;
 use std::rt::Clock;
-use std::sync::atomic::AtomicBool;
 use std::sync::ledger::{Blank, Ledger};
 use std::sync::{Arc, Wait};
 use std::thread::{self, Threads};
@@ -51,27 +50,39 @@ fn run_with<
     requires name { blank.name ≡ L.name }
     requires parts { (blank.parts ≡ L.parts) × (blank.parts ≡ 2 ^ 32 - 1) }
 {
+    let settings = Arc::new(alloc, settings)?;
+    let desk: LockedDesk<Profile, SystemClock<W>, L> = desk_of(rt, alloc, blank)?;
+    let (listen, udp) = (ports.listens_at(), ports.sends_from());
+    let Ports { listener, devices } = ports;
+    let shared = Arc::new(alloc, Shared::new(desk, devices, settings))?;
+    start_loops(rt, alloc, listener, &shared)?;
+    if let (Ok(listen), Ok(udp)) = (listen, udp) {
+        note_ports(&rt, listen, udp);
+    }
+    tick_loop(&rt, &shared.devices, &shared.desk, u64::MAX);
+    Ok(())
+}
+
+/// A desk that counts time from now, at which nothing was asked yet.
+fn desk_of<W: Clock + RandomSource + Drop, L: Ledger>(
+    rt: W,
+    alloc: Global,
+    blank: Blank,
+) -> Result<LockedDesk<Profile, SystemClock<W>, L>, ServeFault>
+    requires name { blank.name ≡ L.name }
+    requires parts { (blank.parts ≡ L.parts) × (blank.parts ≡ 2 ^ 32 - 1) }
+{
     let begin = match Instant::now(&rt) {
         Ok(begin) => begin,
         Err(error) => return Err(ServeFault::Clock(error)),
     };
-    let (listen, udp) = (ports.listens_at(), ports.sends_from());
-    let Ports { listener, devices } = ports;
-    let shop: Shop<Profile, L> = Shop::new(alloc, blank)?;
-    let desk = LockedDesk::new(alloc, shop, SystemClock::new(rt, begin))?;
-    let shared = Shared {
-        desk,
-        devices,
-        settings: Arc::new(alloc, settings)?,
-        noted: AtomicBool::new(false),
-    };
-    let shared = Arc::new(alloc, shared)?;
-    start_loops(rt, alloc, listener, &shared)?;
-    if let (Ok(listen), Ok(udp)) = (listen, udp) {
-        info!(&rt; target: "hcproxy", "takes connections at {listen}, sends from {udp}");
-    }
-    tick_loop(&rt, &shared.devices, &shared.desk, u64::MAX);
-    Ok(())
+    let shop = Shop::new(alloc, blank)?;
+    Ok(LockedDesk::new(alloc, shop, SystemClock::new(rt, begin))?)
+}
+
+/// Notes where the gateway is found.
+fn note_ports<W: Log>(rt: &W, listen: SocketAddr, udp: SocketAddr) {
+    info!(rt; target: "hcproxy", "takes connections at {listen}, sends from {udp}");
 }
 
 /// Starts the thread that takes connections, and that of the UDP socket.
@@ -121,25 +132,44 @@ fn take<
     W: Threads + Wait + Log + Clock + RandomSource + Copy + Drop + Send + Sync + 'static,
     L: Ledger + Send + Sync + 'static,
 >(rt: W, alloc: Global, stream: TcpStream, shared: &Arc<Shared<W, L>>, turning_away: bool) -> bool {
-    let reason = match shared.desk.open(&rt) {
-        Ok(pass) => match start_session(rt, alloc, stream, shared, pass) {
-            Ok(()) => return false,
-            Err(_) => "no thread or no memory for it",
-        },
+    let Some(pass) = pass_for(&rt, shared, turning_away) else {
+        return true;
+    };
+    let started = start_session(rt, alloc, stream, shared, pass);
+    if !started && !turning_away {
+        note_turned(&rt, "no thread or no memory for it");
+    }
+    !started
+}
+
+/// The pass of one more connection, where it may be opened. Why it may not is noted.
+fn pass_for<W: Wait + Log + Clock + RandomSource + Drop, L: Ledger>(
+    rt: &W,
+    shared: &Shared<W, L>,
+    turning_away: bool,
+) -> Option<Pass<Profile, L>> {
+    let reason = match shared.desk.open(rt) {
+        Ok(pass) => return Some(pass),
         Err(OpenFault::Sealed) => {
-            shared.note_sealed(&rt);
-            return true;
+            shared.note_sealed(rt);
+            return None;
         }
         Err(OpenFault::Full) => "256 connections are open",
         Err(OpenFault::Memory) => "no memory for it",
     };
     if !turning_away {
-        warn!(&rt; target: "hcproxy", "a connection is turned away: {reason}");
+        note_turned(rt, reason);
     }
-    true
+    None
 }
 
-/// Starts a session in a thread of its own. Where that can't be, the connection is closed.
+/// Notes that a connection isn't taken.
+fn note_turned<W: Log>(rt: &W, reason: &str) {
+    warn!(rt; target: "hcproxy", "a connection is turned away: {reason}");
+}
+
+/// Starts a session in a thread of its own, and answers whether it could. Where it couldn't, the
+/// connection is closed.
 fn start_session<
     W: Threads + Wait + Log + Clock + RandomSource + Copy + Drop + Send + Sync + 'static,
     L: Ledger + Send + Sync + 'static,
@@ -149,15 +179,14 @@ fn start_session<
     stream: TcpStream,
     shared: &Arc<Shared<W, L>>,
     pass: Pass<Profile, L>,
-) -> Result<(), ServeFault> {
+) -> bool {
     let number = pass.conn();
     let started = match Arc::try_clone(shared) {
         Ok(mine) => thread::spawn(&rt, move || mine.serve_client(&rt, alloc, stream, pass)).is_ok(),
         Err(_) => false,
     };
-    if started {
-        return Ok(());
+    if !started {
+        shared.desk.close(&rt, number);
     }
-    shared.desk.close(&rt, number);
-    Err(ServeFault::Thread)
+    started
 }

@@ -4,11 +4,10 @@
 //! What goes out is what the sessions write. The program `hcproxy` stands on it.
 #![tactic(auto)]
 
-mod fault;
 mod gateway;
 mod ports;
 mod shared;
 
-pub use fault::ServeFault;
 pub use gateway::run;
 pub use ports::Ports;
+pub use server_faults::ServeFault;

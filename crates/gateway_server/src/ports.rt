@@ -1,6 +1,6 @@
 //! The sockets that clients and devices find the gateway at.
 
-use crate::fault::ServeFault;
+use server_faults::ServeFault;
 use std::io;
 use std::net::{Net, SocketAddr, TcpListener, TcpStream};
 use system_io::DeviceSocket;

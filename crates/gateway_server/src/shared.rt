@@ -26,6 +26,20 @@ pub struct Shared<W: Clock + RandomSource + Drop, L: Ledger> {
 }
 
 impl<W: Clock + RandomSource + Drop, L: Ledger> Shared<W, L> {
+    /// What the threads share when they start.
+    pub fn new(
+        desk: LockedDesk<Profile, SystemClock<W>, L>,
+        devices: DeviceSocket,
+        settings: Arc<Settings>,
+    ) -> Shared<W, L> {
+        Shared {
+            desk,
+            devices,
+            settings,
+            noted: AtomicBool::new(false),
+        }
+    }
+
     /// Serves a connection until it ends, and notes how it ended.
     pub fn serve_client<V: Wait + Log + Clock>(
         &self,
@@ -43,11 +57,16 @@ impl<W: Clock + RandomSource + Drop, L: Ledger> Shared<W, L> {
                 End::Memory
             }
         };
+        self.note_end(rt, number, end);
+        client.end(rt);
+    }
+
+    /// Notes how a session ended.
+    fn note_end<V: Log>(&self, rt: &V, number: u32, end: End) {
         info!(rt; target: "hcproxy", "session {number} {end}");
         if end == End::Sealed {
             self.note_sealed(rt);
         }
-        client.end(rt);
     }
 
     /// Serves a connection with the transformers that the routes of the settings ask for. Each

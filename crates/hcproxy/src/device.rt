@@ -1,6 +1,6 @@
 //! `hcproxy origin`: the demonstration device by the settings of a file.
 
-use crate::files::{device_in, device_on_input};
+use crate::files::device_at;
 use command_line::Report;
 use device_server::{DevicePort, run};
 use log::Log;
@@ -25,10 +25,7 @@ fn opened<'a, R: Net + Input + Files + AllocGlobal>(
     rt: &R,
     path: Option<&'a str>,
 ) -> Result<(DevicePort, Device), Report<'a>> {
-    let device = match path {
-        Some(path) => device_in(rt, path)?,
-        None => device_on_input(rt)?,
-    };
+    let device = device_at(rt, path)?;
     let at = SocketAddr::new(device.listen.address, device.listen.port);
     match DevicePort::bind(rt, at) {
         Ok(port) => Ok((port, device)),

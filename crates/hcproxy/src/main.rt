@@ -10,12 +10,11 @@ mod serving;
 
 use command_line::{Command, Hint, Report, USAGE, command_of};
 use device::serve_device;
-use files::{setup_in, tell_undone};
+use files::{setup_at, tell_undone};
 use log::Log;
 use proxy_settings::{Part, Setup};
 use replaying::replay_input;
 use serving::serve;
-use std::alloc::AllocError;
 use std::net::{Net, TcpListener, TcpStream};
 use std::process::ExitCode;
 use std::random::RandomSource;
@@ -50,27 +49,26 @@ const VERSION: &str = "hcproxy 0.1.0";
 /// Reads the words after the program's name.
 fn words<R: Env + AllocGlobal>(rt: &R) -> Result<Vec<String>, Report<'static>> {
     match env::args(rt) {
-        Ok(args) => args.skip(1).collect(rt.alloc()).map_err(out_of_memory),
+        Ok(args) => Ok(args.skip(1).collect(rt.alloc())?),
         Err(_) => Err(Report::usage(Hint::SeeHelp)),
     }
 }
 
-fn out_of_memory(_error: AllocError) -> Report<'static> {
-    Report::memory()
-}
-
 /// A write of a text that failed is told as a failed device.
 fn printed(outcome: io::Result<()>) -> Result<(), Report<'static>> {
-    outcome.map_err(|_| Report::unprinted())
+    match outcome {
+        Ok(()) => Ok(()),
+        Err(_) => Err(Report::unprinted()),
+    }
 }
 
 /// Says whether a file has settings.
-fn check<'a, R: Print + Eprint + Files + AllocGlobal>(
+fn check<'a, R: Input + Print + Eprint + Files + AllocGlobal>(
     rt: &R,
     part: Part,
     path: &'a str,
 ) -> Result<(), Report<'a>> {
-    let setup = setup_in(rt, part, path)?;
+    let setup = setup_at(rt, part, Some(path))?;
     printed(println!(rt; "settings ok"))?;
     if let Setup::Serve(serve) = &setup {
         tell_undone(rt, path, serve);

@@ -1,6 +1,6 @@
 //! `hcproxy serve`: the gateway by the settings of a file.
 
-use crate::files::{serve_in, serve_on_input};
+use crate::files::serve_at;
 use ask_model::Settings;
 use command_line::{Report, followed};
 use gateway_server::{Ports, run};
@@ -44,10 +44,7 @@ fn opened<
     'a,
     R: Net<Listener = TcpListener, Stream = TcpStream> + Input + Eprint + Files + AllocGlobal,
 >(rt: &R, path: Option<&'a str>) -> Result<(Ports, Settings), Report<'a>> {
-    let serve = match path {
-        Some(path) => serve_in(rt, path)?,
-        None => serve_on_input(rt)?,
-    };
+    let serve = serve_at(rt, path)?;
     let ports = ports_of(rt, &serve)?;
     match followed(rt.alloc(), &serve) {
         Ok(settings) => Ok((ports, settings)),

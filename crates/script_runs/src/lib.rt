@@ -4,8 +4,10 @@
 //! The one contract: a run goes by the rules of its settings, from its first line to its last.
 #![tactic(auto)]
 
+mod inputs;
 mod lines;
 mod runs;
 
+pub use inputs::input_of;
 pub use lines::{write_entry, write_output};
 pub use runs::{Script, replay};

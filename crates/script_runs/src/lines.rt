@@ -14,6 +14,19 @@ fn written(outcome: io::Result<()>) -> Result<(), ReplayFault> {
     outcome.map_err(|_| ReplayFault::Device)
 }
 
+/// Writes what an input gave out at that moment.
+pub(crate) fn write_outputs<W: Write>(
+    alloc: Global,
+    writer: &mut W,
+    moment: u64,
+    outputs: &[Output],
+) -> Result<(), ReplayFault> {
+    for output in outputs {
+        write_output(alloc, writer, moment, output)?;
+    }
+    Ok(())
+}
+
 /// Writes `MOMENT bytes CONN HEX`, `MOMENT datagram PEER HEX`, `MOMENT closed CONN` or `MOMENT turned`.
 pub fn write_output<W: Write>(
     alloc: Global,

@@ -4,14 +4,16 @@ ghost use Rattle.std.specs.Prelude.{◌≡◌, IfOk};
 ghost use Rattle.transformers.specs.Suits.{Suits};
 ghost use Rattle.ask_model.specs.Views.{rules_of};
 
-use crate::lines::{write_entry, write_output};
+use crate::inputs::input_of;
+use crate::lines::{write_entry, write_outputs};
 use ask_model::Settings;
-use command_line::{LineFault, Reason, ReplayFault, line_of};
+use command_line::{Line, LineFault, Reason, ReplayFault, Report, line_of};
 use journal_book::Journal;
 use linked_world::{World, WorldFault};
+use route_bank::{Profile, store_for};
 use std::alloc::Global;
 use std::io::{ErrorKind, Read, Write};
-use transformers::{Bank, Relation};
+use transformers::{Bank, Relation, Stored};
 
 /// How often a script is read at most.
 const READS: u64 = 1 << 32;
@@ -111,20 +113,28 @@ impl<R: Relation> Script<R> {
         if self.line.is_empty() {
             return Ok(());
         }
-        let line = match line_of(self.alloc, &self.line) {
-            Ok(line) => line,
-            Err(LineFault::Memory) => return Err(ReplayFault::Memory),
-            Err(fault) => return Err(self.refuse(self.lines, Reason::Line(fault))),
-        };
-        let outputs = match self.world.input(bank, line.input()) {
-            Ok(outputs) => outputs,
-            Err(WorldFault::Backlog) => return Err(self.refuse(self.lines, Reason::Backlog)),
-            Err(WorldFault::Memory) => return Err(ReplayFault::Memory),
-        };
-        for output in &outputs {
-            write_output(self.alloc, writer, self.world.moment(), output)?;
+        match line_of(self.alloc, &self.line) {
+            Ok(line) => self.give(bank, &line, writer),
+            Err(LineFault::Memory) => Err(ReplayFault::Memory),
+            Err(fault) => Err(self.refuse(self.lines, Reason::Line(fault))),
         }
-        Ok(())
+    }
+
+    /// Gives the world the input of a line, and writes what comes out.
+    fn give<W: Write>(
+        &mut self,
+        bank: &Bank<R>,
+        line: &Line,
+        writer: &mut W,
+    ) -> Result<(), ReplayFault>
+        requires { Suits R.holds R.takes self.old.world.rules.routes bank.now }
+        ensures { self.new.world.rules ≡ self.old.world.rules }
+    {
+        match self.world.input(bank, input_of(line)) {
+            Ok(outputs) => write_outputs(self.alloc, writer, self.world.moment(), &outputs),
+            Err(WorldFault::Backlog) => Err(self.refuse(self.lines, Reason::Backlog)),
+            Err(WorldFault::Memory) => Err(ReplayFault::Memory),
+        }
     }
 
     /// Refuses a line that has no end.
@@ -217,16 +227,37 @@ impl<R: Relation> Script<R> {
     }
 }
 
-/// Runs a script under the settings, whose pairs are those of the bank, as `Script::run` does.
-pub fn replay<R: Relation, I: Read, W: Write>(
+/// Runs a script under the settings with the transformers that their routes ask for, as
+/// `Script::run` does, and tells why it ended.
+pub fn replay<I: Read, W: Write>(
+    alloc: Global,
+    settings: Settings,
+    reader: &mut I,
+    writer: &mut W,
+    journal: bool,
+) -> Result<(), Report<'static>> {
+    let mut all: Vec<Stored<Profile>> = Vec::new(alloc);
+    'each: for route in settings.routes.as_slice() {
+        store_for!(alloc, all, route);
+    }
+    replay_with(alloc, settings, &Bank::new(all), reader, writer, journal)
+}
+
+/// Runs a script with a bank that suits the settings.
+fn replay_with<R: Relation, I: Read, W: Write>(
     alloc: Global,
     settings: Settings,
     bank: &Bank<R>,
     reader: &mut I,
     writer: &mut W,
     journal: bool,
-) -> Result<(), ReplayFault>
+) -> Result<(), Report<'static>>
     requires { Suits R.holds R.takes (rules_of settings).routes bank.now }
 {
-    Script::new(alloc, settings)?.run(bank, reader, writer, journal)
+    let mut script = match Script::new(alloc, settings) {
+        Ok(script) => script,
+        Err(fault) => return Err(Report::replay(fault, None)),
+    };
+    let outcome = script.run(bank, reader, writer, journal);
+    outcome.map_err(|fault| Report::replay(fault, script.reason()))
 }

@@ -10,7 +10,7 @@ use ask_model::Settings;
 use command_line::{Line, LineFault, ReplayFault, demonstration, line_of};
 use linked_world::{Output, World, WorldFault};
 use route_bank::{Profile, store_for};
-use script_runs::write_output;
+use script_runs::{input_of, write_output};
 use std::alloc::Global;
 use transformers::{Bank, Relation, Stored};
 
@@ -23,8 +23,8 @@ fn give<R: Relation>(
     requires { Suits R.holds R.takes world.old.rules.routes bank.now }
     ensures { world.new.rules ≡ world.old.rules }
 {
-    match world.input(bank, line.input()) {
-        Err(WorldFault::Memory) => world.input(bank, line.input()),
+    match world.input(bank, input_of(line)) {
+        Err(WorldFault::Memory) => world.input(bank, input_of(line)),
         given => given,
     }
 }

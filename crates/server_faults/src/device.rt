@@ -1,6 +1,5 @@
 //! Why the device doesn't run, or runs no more.
 
-use demo_origin::Memory;
 use std::alloc::{AllocError, AllocFailed};
 use std::error::Error;
 use std::net::SocketAddr;
@@ -39,12 +38,6 @@ impl From<AllocError> for DeviceFault {
 
 impl<T: Drop> From<AllocFailed<T>> for DeviceFault {
     fn from(_e: AllocFailed<T>) -> DeviceFault {
-        DeviceFault::Memory
-    }
-}
-
-impl From<Memory> for DeviceFault {
-    fn from(_e: Memory) -> DeviceFault {
         DeviceFault::Memory
     }
 }
