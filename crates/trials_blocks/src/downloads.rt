@@ -1,6 +1,7 @@
 //! Bodies that come in pieces.
 
 use crate::responses::{CONTENT, begins_text, bytes_from, response};
+use crate::telling::check;
 use blockwise::{BlockFault, Download, Pieces, Progress, Step};
 use coap_codec::{Block, CodecFault, Message, block_to, number};
 use std::alloc::Global;
@@ -19,7 +20,7 @@ pub fn piece(
 }
 
 /// What a download said to a piece.
-#[derive(Clone, Copy, Debug, PartialEq, Eq)]
+#[derive(Clone, Copy, PartialEq, Eq)]
 pub enum Said {
     Next(Block),
     /// The whole body has this length, and the bytes that a text has from its start.
@@ -127,15 +128,9 @@ static FAULTS: [(BlockFault, &str); 5] = [
     (BlockFault::Memory, "out of memory"),
 ];
 
-/// The table, handed out by a call that says nothing of its rows: a loop over it is proved in less
-/// time.
-fn faults() -> &'static [(BlockFault, &'static str)] {
-    &FAULTS
-}
-
 #[test]
 fn faults_in_words(rt: HostRuntime) {
-    for &(fault, words) in faults() {
-        assert!(rt; fault_is(rt.alloc(), fault, words), "{words}");
+    for &(fault, words) in &FAULTS {
+        check(&rt, words, fault_is(rt.alloc(), fault, words));
     }
 }

@@ -14,4 +14,6 @@ mod responses;
 #[cfg(test)]
 mod rows;
 #[cfg(test)]
+mod telling;
+#[cfg(test)]
 mod uploads;

@@ -1,6 +1,7 @@
 //! A call that memory was refused is made once more; until then nothing has changed.
 
 use crate::downloads::{Said, asks, piece, said_by};
+use crate::telling::check;
 use blockwise::{BlockFault, Download};
 use coap_codec::{CodecFault, Message};
 use std::alloc::Global;
@@ -34,14 +35,24 @@ fn copied(download: &Download) -> Result<Download, BlockFault> {
     }
 }
 
+/// The download says this to the piece.
+fn says(alloc: Global, download: &mut Download, block2: &[u8], said: Said) -> bool {
+    takes(alloc, download, block2) == Ok(said)
+}
+
+/// The last piece makes the whole.
+fn ends(alloc: Global, download: &mut Download) -> bool {
+    says(alloc, download, &[0x20], Said::Whole(48))
+}
+
 /// With any one allocation refused, a download of three pieces comes whole.
 #[test]
 fn memory_refused_once(rt: HostRuntime) {
     let alloc = rt.alloc();
     let mut download = Download::first(alloc);
-    assert!(rt; takes(alloc, &mut download, &[0x08]) == Ok(asks(1)));
-    assert!(rt; takes(alloc, &mut download, &[0x18]) == Ok(asks(2)));
+    check(&rt, 0, says(alloc, &mut download, &[0x08], asks(1)));
+    check(&rt, 1, says(alloc, &mut download, &[0x18], asks(2)));
     let mut copy = copied(&download).expect(&rt, "a copy");
-    assert!(rt; takes(alloc, &mut copy, &[0x20]) == Ok(Said::Whole(48)));
-    assert!(rt; takes(alloc, &mut download, &[0x20]) == Ok(Said::Whole(48)));
+    check(&rt, "the copy", ends(alloc, &mut copy));
+    check(&rt, "the download", ends(alloc, &mut download));
 }

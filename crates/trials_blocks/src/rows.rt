@@ -2,6 +2,7 @@
 
 use crate::downloads::{Said, said_by};
 use crate::responses::bytes_from;
+use crate::telling::check;
 use blockwise::{BlockFault, Download};
 use coap_codec::{Block, CodecFault, block_to, decode};
 use std::alloc::Global;
@@ -56,24 +57,20 @@ static ANEW: [Row; 3] = [
     (4, 2, 0x20, 8, Said::Whole(40)),
 ];
 
-fn changed() -> &'static [Row] {
-    &CHANGED
-}
-
-fn anew() -> &'static [Row] {
-    &ANEW
-}
-
 #[test]
 fn download_begun_anew(rt: HostRuntime) {
     let alloc = rt.alloc();
     let mut download = Download::first(alloc);
-    assert!(rt; download.is_empty());
-    assert!(rt; hears_all(alloc, &mut download, changed()));
-    assert!(rt; download.len() == 16);
+    check(&rt, "at first", download.is_empty());
+    check(
+        &rt,
+        "another ETag",
+        hears_all(alloc, &mut download, &CHANGED),
+    );
+    check(&rt, "one piece", download.len() == 16);
     let mut download = Download::first(alloc);
-    assert!(rt; hears_all(alloc, &mut download, anew()));
-    assert!(rt; download.is_empty());
+    check(&rt, "anew", hears_all(alloc, &mut download, &ANEW));
+    check(&rt, "at last", download.is_empty());
 }
 
 /// The value of the Block2 by which the second piece is asked for.
@@ -104,7 +101,7 @@ fn changes_after(alloc: Global, id: u8) -> bool {
 #[test]
 fn download_of_four_changes(rt: HostRuntime) {
     for id in [0u8, 2, 4, 6] {
-        assert!(rt; changes_after(rt.alloc(), id), "{id}");
+        check(&rt, id, changes_after(rt.alloc(), id));
     }
 }
 
@@ -117,10 +114,6 @@ static REFUSED: [Row; 5] = [
     (4, 1, 0x20, 16, Said::Refused(BlockFault::Gap)),
 ];
 
-fn refused() -> &'static [Row] {
-    &REFUSED
-}
-
 /// The last piece, with so many bytes, makes so many.
 fn ends(alloc: Global, download: &mut Download, len: usize, whole: usize) -> bool {
     hears(alloc, download, &(5, 1, 0x10, len, Said::Whole(whole))) == Ok(true)
@@ -130,8 +123,8 @@ fn ends(alloc: Global, download: &mut Download, len: usize, whole: usize) -> boo
 fn refusals(rt: HostRuntime) {
     let alloc = rt.alloc();
     let mut download = Download::first(alloc);
-    assert!(rt; hears_all(alloc, &mut download, refused()));
+    check(&rt, "refused", hears_all(alloc, &mut download, &REFUSED));
     let mut copy = download.copy().expect(&rt, "memory");
-    assert!(rt; ends(alloc, &mut copy, 4, 20));
-    assert!(rt; ends(alloc, &mut download, 16, 32));
+    check(&rt, "the copy", ends(alloc, &mut copy, 4, 20));
+    check(&rt, "the download", ends(alloc, &mut download, 16, 32));
 }

@@ -3,6 +3,7 @@
 ghost use Rattle.std.specs.Prelude.{◌<◌, ◌^◌, IfSome};
 
 use crate::responses::{CHANGED, CONTINUE, INCOMPLETE, TOO_LARGE, bytes_from, empty, response};
+use crate::telling::check;
 use blockwise::{Answered, LARGEST_SZX, Upload};
 use coap_codec::{Block, CodecFault, Message, block_to, decode, number};
 use std::alloc::Global;
@@ -16,7 +17,7 @@ struct Trial {
 }
 
 /// What an answer bears.
-#[derive(Clone, Copy, Debug)]
+#[derive(Clone, Copy)]
 enum Bears {
     Nothing,
     /// A Block1 of this value.
@@ -99,56 +100,64 @@ fn uploads(alloc: Global, len: usize, turns: &[Turn]) -> Result<bool, CodecFault
     Ok(all_go(alloc, &mut t, turns)? && t.upload.is_last() == (t.went == t.body))
 }
 
-/// A server asks for smaller pieces in its first answer.
-static SMALLER: [Turn; 7] = [
+/// The length of a body, and how its pieces go.
+type Series = (usize, &'static [Turn]);
+
+static SERIES: [Series; 4] = [
+    // A server asks for smaller pieces in its first answer.
     (
-        Some(0x0e),
+        2500,
+        &[
+            (
+                Some(0x0e),
+                1024,
+                (CONTINUE, Bears::Block1(0x0c), Answered::Next),
+            ),
+            (Some(0x4c), 256, (CONTINUE, Bears::Nothing, Answered::Next)),
+            (Some(0x5c), 256, (CONTINUE, Bears::Nothing, Answered::Next)),
+            (Some(0x6c), 256, (CONTINUE, Bears::Nothing, Answered::Next)),
+            (Some(0x7c), 256, (CONTINUE, Bears::Nothing, Answered::Next)),
+            (Some(0x8c), 256, (CONTINUE, Bears::Nothing, Answered::Next)),
+            (Some(0x94), 196, (CHANGED, Bears::Nothing, Answered::Last)),
+        ],
+    ),
+    // The same, and it loses some: the third piece is answered 4.08.
+    (
+        2500,
+        &[
+            (
+                Some(0x0e),
+                1024,
+                (CONTINUE, Bears::Block1(0x0c), Answered::Next),
+            ),
+            (Some(0x4c), 256, (CONTINUE, Bears::Nothing, Answered::Next)),
+            (
+                Some(0x5c),
+                256,
+                (INCOMPLETE, Bears::Nothing, Answered::Wrong),
+            ),
+            (Some(0x5c), 256, (CHANGED, Bears::Nothing, Answered::Wrong)),
+        ],
+    ),
+    // What fits into one message.
+    (
         1024,
-        (CONTINUE, Bears::Block1(0x0c), Answered::Next),
+        &[(None, 1024, (CHANGED, Bears::Nothing, Answered::Last))],
     ),
-    (Some(0x4c), 256, (CONTINUE, Bears::Nothing, Answered::Next)),
-    (Some(0x5c), 256, (CONTINUE, Bears::Nothing, Answered::Next)),
-    (Some(0x6c), 256, (CONTINUE, Bears::Nothing, Answered::Next)),
-    (Some(0x7c), 256, (CONTINUE, Bears::Nothing, Answered::Next)),
-    (Some(0x8c), 256, (CONTINUE, Bears::Nothing, Answered::Next)),
-    (Some(0x94), 196, (CHANGED, Bears::Nothing, Answered::Last)),
-];
-
-/// The same, and it loses some: the third piece is answered 4.08.
-static LOST: [Turn; 4] = [
+    // A byte more.
     (
-        Some(0x0e),
-        1024,
-        (CONTINUE, Bears::Block1(0x0c), Answered::Next),
+        1025,
+        &[
+            (Some(0x0e), 1024, (CONTINUE, Bears::Nothing, Answered::Next)),
+            (Some(0x16), 1, (CHANGED, Bears::Nothing, Answered::Last)),
+        ],
     ),
-    (Some(0x4c), 256, (CONTINUE, Bears::Nothing, Answered::Next)),
-    (
-        Some(0x5c),
-        256,
-        (INCOMPLETE, Bears::Nothing, Answered::Wrong),
-    ),
-    (Some(0x5c), 256, (CHANGED, Bears::Nothing, Answered::Wrong)),
 ];
-
-/// What fits into one message.
-static ONE: [Turn; 1] = [(None, 1024, (CHANGED, Bears::Nothing, Answered::Last))];
-
-/// A byte more.
-static TWO: [Turn; 2] = [
-    (Some(0x0e), 1024, (CONTINUE, Bears::Nothing, Answered::Next)),
-    (Some(0x16), 1, (CHANGED, Bears::Nothing, Answered::Last)),
-];
-
-/// The series, handed out by a call that says nothing of them: a loop over them is proved in less
-/// time.
-fn series() -> [(usize, &'static [Turn]); 4] {
-    [(2500, &SMALLER), (2500, &LOST), (1024, &ONE), (1025, &TWO)]
-}
 
 #[test]
 fn pieces_go(rt: HostRuntime) {
-    for (len, turns) in series() {
-        assert!(rt; uploads(rt.alloc(), len, turns) == Ok(true), "{len}");
+    for &(len, turns) in &SERIES {
+        check(&rt, len, uploads(rt.alloc(), len, turns) == Ok(true));
     }
 }
 
@@ -185,19 +194,8 @@ static TO_THE_FIRST: [Answer; 15] = [
     (TOO_LARGE, Bears::Block2(0x16, 3), Answered::Wrong),
 ];
 
-fn to_the_first() -> &'static [Answer] {
-    &TO_THE_FIRST
-}
-
 fn is_first(alloc: Global, answer: Answer) -> bool {
     uploads(alloc, 1025, &[(Some(0x0e), 1024, answer)]) == Ok(true)
-}
-
-#[test]
-fn answers_to_the_first(rt: HostRuntime) {
-    for &answer in to_the_first() {
-        assert!(rt; is_first(rt.alloc(), answer), "{answer:?}");
-    }
 }
 
 /// The answer to the last piece names that piece or none, in any size, and says no more: else its
@@ -212,21 +210,10 @@ static TO_THE_LAST: [Answer; 7] = [
     (CHANGED, Bears::Block1(0x26), Answered::Wrong),
 ];
 
-fn to_the_last() -> &'static [Answer] {
-    &TO_THE_LAST
-}
-
 fn is_last(alloc: Global, answer: Answer) -> bool {
     let first = (CONTINUE, Bears::Nothing, Answered::Next);
     let turns = [(Some(0x0e), 1024, first), (Some(0x16), 1, answer)];
     uploads(alloc, 1025, &turns) == Ok(true)
-}
-
-#[test]
-fn answers_to_the_last(rt: HostRuntime) {
-    for &answer in to_the_last() {
-        assert!(rt; is_last(rt.alloc(), answer), "{answer:?}");
-    }
 }
 
 /// What a body that went whole may be answered, in one piece. It has the number 0.
@@ -245,17 +232,20 @@ static TO_THE_WHOLE: [Answer; 12] = [
     (CHANGED, Bears::Block2(0x16, 3), Answered::Wrong),
 ];
 
-fn to_the_whole() -> &'static [Answer] {
-    &TO_THE_WHOLE
-}
-
 fn is_only(alloc: Global, answer: Answer) -> bool {
     uploads(alloc, 7, &[(None, 7, answer)]) == Ok(true)
 }
 
+/// What fails is told by the number of its row.
 #[test]
-fn answers_to_the_whole(rt: HostRuntime) {
-    for &answer in to_the_whole() {
-        assert!(rt; is_only(rt.alloc(), answer), "{answer:?}");
+fn answers(rt: HostRuntime) {
+    for (row, &answer) in TO_THE_FIRST.iter().enumerate() {
+        check(&rt, ("to the first", row), is_first(rt.alloc(), answer));
+    }
+    for (row, &answer) in TO_THE_LAST.iter().enumerate() {
+        check(&rt, ("to the last", row), is_last(rt.alloc(), answer));
+    }
+    for (row, &answer) in TO_THE_WHOLE.iter().enumerate() {
+        check(&rt, ("to the whole", row), is_only(rt.alloc(), answer));
     }
 }

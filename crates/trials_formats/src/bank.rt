@@ -3,6 +3,7 @@
 ghost use Rattle.transformers.specs.Keeps.{AllKeep};
 ghost use Rattle.trials_formats.specs.Formats.{FormatsHold, FormatsTake};
 
+use crate::telling::{check, is_written};
 use media_map::Form;
 use std::alloc::Global;
 use transformers::{
@@ -73,15 +74,15 @@ fn count_of_routes(bank: &Bank<Formats>) -> Option<usize> {
 fn converts(bank: &Bank<Formats>) -> bool
     requires keeps { AllKeep FormatsHold FormatsTake bank.now.stored.items }
 {
-    let item = [0xa1, 0x61, 0x61, 0x01];
-    makes(bank, &CBOR, &JSON, &item, b"{\"a\":1}") && makes(bank, &JSON, &CBOR, b"{\"a\":1}", &item)
+    let (item, json) = (b"\xa1\x61\x61\x01", b"{\"a\":1}");
+    makes(bank, &CBOR, &JSON, item, json) && makes(bank, &JSON, &CBOR, json, item)
 }
 
 /// A number that isn't whole is refused.
 fn refuses_half(bank: &Bank<Formats>) -> bool
     requires keeps { AllKeep FormatsHold FormatsTake bank.now.stored.items }
 {
-    fault_of(bank, &CBOR, &JSON, &[0xf9, 0x3c, 0x00]) == Some(ApplyFault::Refused)
+    fault_of(bank, &CBOR, &JSON, b"\xf9\x3c\x00") == Some(ApplyFault::Refused)
 }
 
 #[test]
@@ -94,10 +95,10 @@ fn several_kinds(rt: HostRuntime) {
     store(&mut all, Stored::new(JSON, CBOR, to_cbor)).expect(&rt, "memory");
     let bank = Bank::new(all);
 
-    assert!(rt; count_of_routes(&bank) == Some(2));
-    assert!(rt; converts(&bank));
-    assert!(rt; refuses_half(&bank));
-    assert!(rt; has_none(&bank, &JSON, &TEXT, b"1"));
+    check(&rt, "two routes", count_of_routes(&bank) == Some(2));
+    check(&rt, "a map", converts(&bank));
+    check(&rt, "half", refuses_half(&bank));
+    check(&rt, "no pair", has_none(&bank, &JSON, &TEXT, b"1"));
 }
 
 /// So many octets are the most that make an output, of this length.
@@ -121,30 +122,37 @@ fn largest(rt: HostRuntime) {
     store(&mut all, Stored::new(CBOR, JSON, no_memory)).expect(&rt, "memory");
     let bank = Bank::new(all);
 
-    assert!(rt; is_most(alloc, &bank, 32_768, 65_536) == Some(true));
-    assert!(rt; fault_of(&bank, &CBOR, &JSON, &[0x01]) == Some(ApplyFault::Memory));
+    check(
+        &rt,
+        "the most",
+        is_most(alloc, &bank, 32_768, 65_536) == Some(true),
+    );
+    check(
+        &rt,
+        "memory",
+        fault_of(&bank, &CBOR, &JSON, b"\x01") == Some(ApplyFault::Memory),
+    );
 }
 
-fn fault_is(alloc: Global, fault: ApplyFault, words: &str) -> bool {
-    match format!(in alloc; "{fault}") {
-        Ok(text) => text.as_str() == words,
-        Err(_) => false,
-    }
-}
-
-fn refusal_is(alloc: Global, refused: Refused, words: &str) -> bool {
-    match format!(in alloc; "{refused}") {
-        Ok(text) => text.as_str() == words,
-        Err(_) => false,
-    }
-}
+static FAULTS: [(ApplyFault, &str); 3] = [
+    (ApplyFault::Refused, "content refused"),
+    (ApplyFault::TooLarge, "output too large"),
+    (ApplyFault::Memory, "out of memory"),
+];
 
 #[test]
 fn faults_in_words(rt: HostRuntime) {
-    let alloc = rt.alloc();
-    assert!(rt; fault_is(alloc, ApplyFault::Refused, "content refused"));
-    assert!(rt; fault_is(alloc, ApplyFault::TooLarge, "output too large"));
-    assert!(rt; fault_is(alloc, ApplyFault::Memory, "out of memory"));
-    assert!(rt; refusal_is(alloc, Refused::Content, "content refused"));
-    assert!(rt; refusal_is(alloc, Refused::Memory, "out of memory"));
+    for (fault, words) in &FAULTS {
+        check(&rt, *words, is_written(rt.alloc(), fault, words));
+    }
+    check(
+        &rt,
+        "content",
+        is_written(rt.alloc(), &Refused::Content, "content refused"),
+    );
+    check(
+        &rt,
+        "memory",
+        is_written(rt.alloc(), &Refused::Memory, "out of memory"),
+    );
 }

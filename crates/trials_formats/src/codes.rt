@@ -1,10 +1,12 @@
 //! Methods, and the statuses of response codes (RFC 8075, table 2).
 
+use crate::telling::{check, is_written};
 use code_map::{Method, Status, is_passed_on, method_of, phrase_of, status_of};
-use std::alloc::Global;
 
 /// A method's name, the method, its code, and whether it writes.
-static METHODS: [(&[u8], Method, u8, bool); 5] = [
+type MethodRow = (&'static [u8], Method, u8, bool);
+
+static METHODS: [MethodRow; 5] = [
     (b"GET", Method::Get, 1, false),
     (b"HEAD", Method::Head, 1, false),
     (b"POST", Method::Post, 2, true),
@@ -12,40 +14,34 @@ static METHODS: [(&[u8], Method, u8, bool); 5] = [
     (b"DELETE", Method::Delete, 4, true),
 ];
 
-fn methods() -> &'static [(&'static [u8], Method, u8, bool)] {
-    &METHODS
-}
-
-/// The name is the method's, and the method has this code, and writes or doesn't.
-fn is_method(name: &[u8], method: Method, code: u8, writes: bool) -> bool {
+fn is_method(row: &MethodRow) -> bool {
+    let &(name, method, code, writes) = row;
     method_of(name) == Some(method)
         && method.name().as_bytes() == name
         && method.code() == code
         && method.is_write() == writes
 }
 
-fn is_no_method(name: &[u8]) -> bool {
-    method_of(name).is_none()
-}
-
-fn method_is(alloc: Global, method: Method, words: &str) -> bool {
-    match format!(in alloc; "{method}") {
-        Ok(text) => text.as_str() == words,
-        Err(_) => false,
-    }
-}
-
 #[test]
 fn methods_by_name(rt: HostRuntime) {
-    for &(name, method, code, writes) in methods() {
-        assert!(rt; is_method(name, method, code, writes), "{method:?}");
+    for row in &METHODS {
+        check(&rt, row.1, is_method(row));
     }
-    assert!(rt; is_no_method(b"Get") && is_no_method(b"PATCH"));
-    assert!(rt; method_is(rt.alloc(), Method::Delete, "DELETE"));
+}
+
+static NO_METHODS: [&[u8]; 2] = [b"Get", b"PATCH"];
+
+#[test]
+fn other_names(rt: HostRuntime) {
+    for &name in &NO_METHODS {
+        check(&rt, name, method_of(name).is_none());
+    }
 }
 
 /// The code of c.dd, the status of a response without a payload, and its phrase.
-static STATUSES: [(u8, u8, u16, &str); 22] = [
+type StatusRow = (u8, u8, u16, &'static str);
+
+static STATUSES: [StatusRow; 22] = [
     (2, 1, 201, "Created"),
     (2, 2, 204, "No Content"),
     (2, 4, 204, "No Content"),
@@ -70,13 +66,9 @@ static STATUSES: [(u8, u8, u16, &str); 22] = [
     (5, 5, 502, "Bad Gateway"),
 ];
 
-/// The table, handed out by a call that says nothing of its rows: a loop over it is proved in less time.
-fn statuses() -> &'static [(u8, u8, u16, &'static str)] {
-    &STATUSES
-}
-
-/// The code c.dd is passed on, with this status and this phrase.
-fn is_told(class: u8, detail: u8, number: u16, phrase: &str) -> bool {
+/// The code is passed on, with this status and this phrase.
+fn is_told(row: &StatusRow) -> bool {
+    let &(class, detail, number, phrase) = row;
     let code = (class % 8) * 32 + detail % 32;
     let status = status_of(code, false);
     status.number() == number
@@ -84,34 +76,44 @@ fn is_told(class: u8, detail: u8, number: u16, phrase: &str) -> bool {
         && is_passed_on(code)
 }
 
-/// The number of the status of a response with a payload.
-fn with_payload(code: u8) -> u16 {
-    status_of(code, true).number()
+#[test]
+fn statuses_by_code(rt: HostRuntime) {
+    for row in &STATUSES {
+        check(&rt, row, is_told(row));
+    }
 }
 
-/// 2.02 and 2.04 with a payload.
-fn payloads_are_told() -> bool {
-    with_payload(66) == 200 && with_payload(68) == 200
+/// A code, the status of a response with a payload, and whether it is passed on: 2.02 and 2.04; 2.31, which is
+/// no final answer, and 7.00, which is no response.
+static PAYLOADS: [(u8, u16, bool); 4] = [
+    (66, 200, true),
+    (68, 200, true),
+    (95, 502, false),
+    (224, 502, false),
+];
+
+fn is_told_with_payload(&(code, number, passed_on): &(u8, u16, bool)) -> bool {
+    status_of(code, true).number() == number && is_passed_on(code) == passed_on
 }
 
-/// The code isn't passed on: 2.31 is no final answer, and 7.00 no response.
-fn is_kept(code: u8) -> bool {
-    with_payload(code) == 502 && !is_passed_on(code)
-}
-
-fn status_is(alloc: Global, status: Status, words: &str) -> bool {
-    match format!(in alloc; "{status}") {
-        Ok(text) => text.as_str() == words,
-        Err(_) => false,
+#[test]
+fn statuses_with_payload(rt: HostRuntime) {
+    for row in &PAYLOADS {
+        check(&rt, row, is_told_with_payload(row));
     }
 }
 
 #[test]
-fn statuses_by_code(rt: HostRuntime) {
-    for &(class, detail, number, phrase) in statuses() {
-        assert!(rt; is_told(class, detail, number, phrase), "{class}.{detail}");
-    }
-    assert!(rt; payloads_are_told());
-    assert!(rt; is_kept(95) && is_kept(224));
-    assert!(rt; status_is(rt.alloc(), Status::UriTooLong, "414 URI Too Long"));
+fn in_words(rt: HostRuntime) {
+    let alloc = rt.alloc();
+    check(
+        &rt,
+        "a method",
+        is_written(alloc, &Method::Delete, "DELETE"),
+    );
+    check(
+        &rt,
+        "a status",
+        is_written(alloc, &Status::UriTooLong, "414 URI Too Long"),
+    );
 }

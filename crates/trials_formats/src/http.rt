@@ -1,9 +1,10 @@
 //! Requests as they are read from a connection, and answers as they are written (RFC 9112).
 
+use crate::telling::{check, is_written};
 use http_edge::{
     BadKind, Body, Edge, Field, HttpAnswer, Incoming, Memory, Request, Version, answer_bytes,
 };
-use std::alloc::Global;
+use std::alloc::{AllocError, Global};
 use std::sync::Arc;
 
 /// Feeds a piece. Like `next`, it passes on nothing of what the edge promises: a trial over it is proved in
@@ -17,39 +18,38 @@ fn next(edge: &mut Edge) -> Result<Option<Incoming>, Memory> {
     edge.next()
 }
 
+/// Writes these parts one after another.
+fn write_parts(out: &mut Vec<u8>, parts: &[&[u8]]) -> Result<(), Memory> {
+    for part in parts {
+        out.extend_from_slice(part)?;
+    }
+    Ok(())
+}
+
 /// A request, in brackets: its method, target, body and, where it closes the connection, a `!`.
 fn write_request(out: &mut Vec<u8>, request: &Request) -> Result<(), Memory> {
-    out.extend_from_slice(b"[")?;
-    out.extend_from_slice(&request.method)?;
-    out.extend_from_slice(b" ")?;
-    out.extend_from_slice(&request.target)?;
-    out.extend_from_slice(b" ")?;
-    out.extend_from_slice(&request.body)?;
-    out.extend_from_slice(if request.close { b"!]" } else { b"]" })?;
-    Ok(())
+    let end: &[u8] = if request.close { b"!]" } else { b"]" };
+    let (method, target, body) = (&request.method, &request.target, &request.body);
+    write_parts(out, &[b"[", method, b" ", target, b" ", body, end])
 }
 
 /// A request, or a refusal by its status.
 fn write_item(out: &mut Vec<u8>, item: &Incoming) -> Result<(), Memory> {
-    let status: &[u8] = match item {
-        Incoming::Request(request) => return write_request(out, request),
-        Incoming::Bad(BadKind::Syntax) => b"[400]",
-        Incoming::Bad(BadKind::Large) => b"[413]",
-        Incoming::Bad(BadKind::Coding) => b"[501]",
-    };
-    out.extend_from_slice(status)?;
-    Ok(())
+    match item {
+        Incoming::Request(request) => write_request(out, request),
+        Incoming::Bad(BadKind::Syntax) => write_parts(out, &[b"[400]"]),
+        Incoming::Bad(BadKind::Large) => write_parts(out, &[b"[413]"]),
+        Incoming::Bad(BadKind::Coding) => write_parts(out, &[b"[501]"]),
+    }
 }
 
 /// What the edge gives next; and where nothing is left and 100 Continue is due, a `?`.
 fn report_one(edge: &mut Edge, out: &mut Vec<u8>) -> Result<(), Memory> {
-    if let Some(item) = next(edge)? {
-        return write_item(out, &item);
+    match next(edge)? {
+        Some(item) => write_item(out, &item),
+        None if edge.wants_continue() => write_parts(out, &[b"[?]"]),
+        None => Ok(()),
     }
-    if edge.wants_continue() {
-        out.extend_from_slice(b"[?]")?;
-    }
-    Ok(())
 }
 
 /// What the edge gives, each in brackets.
@@ -60,44 +60,46 @@ fn report(edge: &mut Edge, out: &mut Vec<u8>) -> Result<(), Memory> {
     Ok(())
 }
 
-/// Feeds a piece, and reports what is given then.
-pub fn read_on(edge: &mut Edge, out: &mut Vec<u8>, piece: &[u8]) -> Result<(), Memory> {
-    feed(edge, piece);
-    report(edge, out)
-}
-
-/// Feeds a piece in parts that fit, and reports what is given after each.
-fn read_parts(edge: &mut Edge, out: &mut Vec<u8>, piece: &[u8]) -> Result<(), Memory> {
-    for part in piece.chunks(4096) {
-        read_on(edge, out, part)?;
+/// Feeds a piece in parts of at most so many bytes, and reports what is given after each.
+fn read_on(edge: &mut Edge, out: &mut Vec<u8>, piece: &[u8], len: usize) -> Result<(), Memory> {
+    for part in piece.chunks(len.max(1)) {
+        feed(edge, part);
+        report(edge, out)?;
     }
     Ok(())
 }
 
-/// What is read of the pieces, each fed in parts that fit.
-pub fn read(alloc: Global, pieces: &[&[u8]]) -> Result<Vec<u8>, Memory> {
-    let mut out = Vec::new(alloc);
-    let mut edge = Edge::new(alloc)?;
+/// The same for each of the pieces.
+fn read_all(
+    edge: &mut Edge,
+    out: &mut Vec<u8>,
+    pieces: &[&[u8]],
+    len: usize,
+) -> Result<(), Memory> {
     for piece in pieces {
-        read_parts(&mut edge, &mut out, piece)?;
+        read_on(edge, out, piece, len)?;
     }
-    Ok(out)
+    Ok(())
 }
 
-/// What is read of a text with so many equal parts in it.
-pub fn filled(
-    alloc: Global,
-    front: &[u8],
-    part: &[u8],
-    count: usize,
-    back: &[u8],
-) -> Result<Vec<u8>, Memory> {
-    let mut text = Vec::from_slice(alloc, front)?;
-    for _ in 0..count {
-        text.extend_from_slice(part)?;
-    }
-    text.extend_from_slice(back)?;
-    Ok(text)
+/// What is read of the pieces by an edge of their own.
+fn read_anew(alloc: Global, out: &mut Vec<u8>, pieces: &[&[u8]], len: usize) -> Result<(), Memory> {
+    let mut edge = Edge::new(alloc)?;
+    read_all(&mut edge, out, pieces, len)
+}
+
+/// The length of a part that fits.
+const FITS: usize = 4096;
+
+/// This is read of the pieces, each fed in parts of at most so many bytes.
+pub fn reads_by(alloc: Global, pieces: &[&[u8]], len: usize, want: &[u8]) -> bool {
+    let mut out = Vec::new(alloc);
+    read_anew(alloc, &mut out, pieces, len).is_ok() && out.as_slice() == want
+}
+
+/// This is read of the pieces.
+pub fn reads(alloc: Global, pieces: &[&[u8]], want: &[u8]) -> bool {
+    reads_by(alloc, pieces, FITS, want)
 }
 
 /// What is given of a connection's bytes: how a body is framed, and lengths of 0 to 65,536 bytes.
@@ -168,26 +170,24 @@ static FRAMINGS: [(&[u8], &[u8]); 16] = [
     ),
 ];
 
-/// The table, handed out by a call that says nothing of its rows: a loop over it is proved in less time.
-fn framing_rows() -> &'static [(&'static [u8], &'static [u8])] {
-    &FRAMINGS
-}
-
-/// This is read of the text.
-fn reads(alloc: Global, text: &[u8], want: &[u8]) -> Result<bool, Memory> {
-    Ok(read(alloc, &[text])?.as_slice() == want)
-}
-
 #[test]
 fn framings(rt: HostRuntime) {
-    for &(text, want) in framing_rows() {
-        assert!(rt; reads(rt.alloc(), text, want) == Ok(true), "{want:?}");
+    for &(text, want) in &FRAMINGS {
+        check(&rt, want, reads(rt.alloc(), &[text], want));
     }
 }
 
 /// A text in front, a part and how often it follows, what ends it, and what is given: a head has at most
 /// 8,191 bytes and 64 fields, a chunk's line 256 bytes.
-static LIMITS: [(&[u8], &[u8], usize, &[u8], &[u8]); 9] = [
+type LimitRow = (
+    &'static [u8],
+    &'static [u8],
+    usize,
+    &'static [u8],
+    &'static [u8],
+);
+
+static LIMITS: [LimitRow; 9] = [
     (b"", b"a", 8191, b"", b""),
     (b"", b"a", 8192, b"", b"[400]"),
     (
@@ -241,68 +241,67 @@ static LIMITS: [(&[u8], &[u8], usize, &[u8], &[u8]); 9] = [
     ),
 ];
 
-/// The same.
-fn limit_rows() -> &'static [(
-    &'static [u8],
-    &'static [u8],
-    usize,
-    &'static [u8],
-    &'static [u8],
-)] {
-    &LIMITS
+/// A text with so many equal parts in it.
+pub fn filled(
+    alloc: Global,
+    front: &[u8],
+    part: &[u8],
+    count: usize,
+    back: &[u8],
+) -> Result<Vec<u8>, AllocError> {
+    let mut text = Vec::from_slice(alloc, front)?;
+    for _ in 0..count {
+        text.extend_from_slice(part)?;
+    }
+    text.extend_from_slice(back)?;
+    Ok(text)
 }
 
-/// This is read of a text with so many equal parts in it.
-fn reads_filled(
-    alloc: Global,
-    (front, part, count, back): (&[u8], &[u8], usize, &[u8]),
-    want: &[u8],
-) -> Result<bool, Memory> {
-    let text = filled(alloc, front, part, count, back)?;
-    reads(alloc, &text, want)
+fn keeps_limit(alloc: Global, row: &LimitRow) -> bool {
+    let &(front, part, count, back, want) = row;
+    match filled(alloc, front, part, count, back) {
+        Ok(text) => reads(alloc, &[&text], want),
+        Err(AllocError) => false,
+    }
 }
 
 #[test]
 fn limits(rt: HostRuntime) {
-    for &(front, part, count, back, want) in limit_rows() {
-        let is_read = reads_filled(rt.alloc(), (front, part, count, back), want);
-        assert!(rt; is_read == Ok(true), "{count}");
+    for row in &LIMITS {
+        check(&rt, row.2, keeps_limit(rt.alloc(), row));
     }
 }
 
 /// Reads on with a copy alone.
 fn copy_reads_on(edge: &Edge, out: &mut Vec<u8>, piece: &[u8]) -> Result<(), Memory> {
     let mut copy = edge.copy()?;
-    read_on(&mut copy, out, piece)
+    read_on(&mut copy, out, piece, FITS)
 }
 
 /// A copy reads the rest of a request, and the edge another one after a restart.
-fn read_by_two(alloc: Global) -> Result<Vec<u8>, Memory> {
-    let mut out = Vec::new(alloc);
-    let mut edge = Edge::new(alloc)?;
+fn read_by_two(edge: &mut Edge, out: &mut Vec<u8>) -> Result<(), Memory> {
     let begun = b"PUT /a HTTP/1.1\r\nHost: p\r\nContent-Length: 3\r\n\r\nof";
-    read_on(&mut edge, &mut out, begun)?;
-    copy_reads_on(&edge, &mut out, b"f")?;
+    read_on(edge, out, begun, FITS)?;
+    copy_reads_on(edge, out, b"f")?;
     edge.restart();
-    read_on(&mut edge, &mut out, b"GET /b HTTP/1.1\r\nHost: p\r\n\r\n")?;
-    Ok(out)
+    read_on(edge, out, b"GET /b HTTP/1.1\r\nHost: p\r\n\r\n", FITS)
 }
 
 /// A copy reads on by itself, and a restart forgets what was fed.
 #[test]
 fn copies_and_restarts(rt: HostRuntime) {
-    let out = read_by_two(rt.alloc()).expect(&rt, "memory");
-    assert_eq!(rt; out.as_slice(), b"[PUT /a off][GET /b ]".as_slice());
-}
-
-/// A copy of the request that a text begins with.
-fn copy_of_request(alloc: Global, text: &[u8]) -> Option<Request> {
-    let mut edge = Edge::new(alloc).ok()?;
-    feed(&mut edge, text);
-    match next(&mut edge) {
-        Ok(Some(Incoming::Request(request))) => request.copy().ok(),
-        _ => None,
-    }
+    let mut out = Vec::new(rt.alloc());
+    let mut edge = new_edge(rt.alloc()).expect(&rt, "memory");
+    check(
+        &rt,
+        "both are read",
+        read_by_two(&mut edge, &mut out).is_ok(),
+    );
+    check(
+        &rt,
+        "what is read",
+        out.as_slice() == b"[PUT /a off][GET /b ]".as_slice(),
+    );
 }
 
 fn count_of_accepts(request: &Request) -> usize {
@@ -314,73 +313,95 @@ fn has_three_fields(request: &Request, version: Version) -> bool {
     request.version == version && request.fields.len() == 3 && count_of_accepts(request) == 2
 }
 
-/// The same of a copy of the request that the text begins with.
-fn begins_with_three(alloc: Global, text: &[u8], version: Version) -> bool {
-    match copy_of_request(alloc, text) {
-        Some(copy) => has_three_fields(&copy, version),
-        None => false,
+/// A copy of the request that is given has them.
+fn gives_three_fields(item: &Incoming, version: Version) -> bool {
+    let Incoming::Request(request) = item else {
+        return false;
+    };
+    match request.copy() {
+        Ok(copy) => has_three_fields(&copy, version),
+        Err(_) => false,
+    }
+}
+
+/// The edge gives it next.
+fn gives_next(edge: &mut Edge, version: Version) -> bool {
+    match next(edge) {
+        Ok(Some(item)) => gives_three_fields(&item, version),
+        _ => false,
     }
 }
 
 #[test]
 fn fields_in_order(rt: HostRuntime) {
-    let text = b"GET / HTTP/1.1\r\nAccept: a\r\nHost: p\r\nACCEPT:  b \r\n\r\n";
-    assert!(rt; begins_with_three(rt.alloc(), text, Version::Http11));
+    let mut edge = new_edge(rt.alloc()).expect(&rt, "memory");
+    feed(
+        &mut edge,
+        b"GET / HTTP/1.1\r\nAccept: a\r\nHost: p\r\nACCEPT:  b \r\n\r\n",
+    );
+    assert!(rt; gives_next(&mut edge, Version::Http11));
 }
 
-#[test]
-fn answers(rt: HostRuntime) {
-    let alloc = rt.alloc();
+static FIELDS: [(&str, &str); 3] = [
+    ("Content-Type", "text/plain;charset=utf-8"),
+    ("Cache-Control", "max-age=60"),
+    ("Content-Length", "2"),
+];
+
+fn field(alloc: Global, name: &'static str, value: &str) -> Result<Field, AllocError> {
+    let value = Vec::from_slice(alloc, value.as_bytes())?;
+    Ok(Field { name, value })
+}
+
+fn fields(alloc: Global) -> Result<Vec<Field>, AllocError> {
     let mut fields = Vec::new(alloc);
-    for (name, value) in [
-        ("Content-Type", "text/plain;charset=utf-8"),
-        ("Cache-Control", "max-age=60"),
-        ("Content-Length", "2"),
-    ] {
-        let value = Vec::from_slice(alloc, value.as_bytes()).expect(&rt, "memory");
-        fields.push(Field { name, value }).expect(&rt, "memory");
+    for &(name, value) in &FIELDS {
+        fields.push(field(alloc, name, value)?)?;
     }
-    let body = Vec::from_slice(alloc, b"on").expect(&rt, "memory");
-    let body = Arc::new(alloc, body).expect(&rt, "memory");
+    Ok(fields)
+}
+
+fn shared(alloc: Global, bytes: &[u8]) -> Result<Arc<Vec<u8>>, AllocError> {
+    Ok(Arc::new(alloc, Vec::from_slice(alloc, bytes)?)?)
+}
+
+/// The bytes of a 200 with these fields and this body.
+fn ok_bytes(alloc: Global, fields: Vec<Field>, body: Arc<Vec<u8>>) -> Result<Vec<u8>, Memory> {
     let answer = HttpAnswer {
         status: 200,
         phrase: "OK",
         fields,
         body: Body::Shared(body),
     };
-    let bytes = answer_bytes(alloc, &answer).expect(&rt, "memory");
+    answer_bytes(alloc, &answer)
+}
+
+#[test]
+fn answers(rt: HostRuntime) {
+    let fields = fields(rt.alloc()).expect(&rt, "memory");
+    let body = shared(rt.alloc(), b"on").expect(&rt, "memory");
+    let bytes = ok_bytes(rt.alloc(), fields, body).expect(&rt, "memory");
     let want =
         b"HTTP/1.1 200 OK\r\nContent-Type: text/plain;charset=utf-8\r\nCache-Control: max-age=60\r\nContent-Length: 2\r\n\r\non";
     assert!(rt; bytes.as_slice() == want.as_slice());
 }
 
-fn refusal_is(alloc: Global, kind: BadKind, words: &str) -> bool {
-    match format!(in alloc; "{kind}") {
-        Ok(text) => text.as_str() == words,
-        Err(_) => false,
-    }
-}
-
-fn memory_is(alloc: Global, words: &str) -> bool {
-    match format!(in alloc; "{}", Memory) {
-        Ok(text) => text.as_str() == words,
-        Err(_) => false,
-    }
-}
+static REFUSALS: [(BadKind, &str); 3] = [
+    (BadKind::Syntax, "not an HTTP request"),
+    (BadKind::Large, "a body above 65536 bytes"),
+    (BadKind::Coding, "a transfer coding other than chunked"),
+];
 
 #[test]
 fn refusals_in_words(rt: HostRuntime) {
-    let alloc = rt.alloc();
-    assert!(rt; refusal_is(alloc, BadKind::Syntax, "not an HTTP request"));
-    assert!(rt; refusal_is(alloc, BadKind::Large, "a body above 65536 bytes"));
-    assert!(rt;
-        refusal_is(
-            alloc,
-            BadKind::Coding,
-            "a transfer coding other than chunked"
-        )
+    for (kind, words) in &REFUSALS {
+        check(&rt, *words, is_written(rt.alloc(), kind, words));
+    }
+    check(
+        &rt,
+        "memory",
+        is_written(rt.alloc(), &Memory, "out of memory"),
     );
-    assert!(rt; memory_is(alloc, "out of memory"));
 }
 
 /// The method, the target and the body of the request are these.
@@ -394,21 +415,30 @@ fn has_two_fields(request: &Request) -> bool {
     request.fields.len() == 2 && request.fields.contains_key("host")
 }
 
-/// The request is this PUT, with two fields.
-fn is_put(request: &Request, target: &[u8], body: &[u8]) -> bool {
-    asks(request, b"PUT", target, body) && has_two_fields(request) && !request.close
+/// What is given is this PUT, with two fields.
+fn is_put(item: &Incoming, target: &[u8], body: &[u8]) -> bool {
+    match item {
+        Incoming::Request(request) => {
+            asks(request, b"PUT", target, body) && has_two_fields(request) && !request.close
+        }
+        Incoming::Bad(_) => false,
+    }
+}
+
+/// What is given after so many is the next of the two.
+fn is_next(item: &Incoming, given: u8) -> bool {
+    match given {
+        0 => is_put(item, b"/a", b"off"),
+        1 => is_put(item, b"/b", b"on"),
+        _ => false,
+    }
 }
 
 /// How many requests are given after one more call, which gives the next of the two, or nothing where both
 /// are given, or is refused memory.
 fn given_then(edge: &mut Edge, given: u8) -> Option<u8> {
     match next(edge) {
-        Ok(Some(Incoming::Request(request))) => match given {
-            0 => is_put(&request, b"/a", b"off").then_some(1),
-            1 => is_put(&request, b"/b", b"on").then_some(2),
-            _ => None,
-        },
-        Ok(Some(Incoming::Bad(_))) => None,
+        Ok(Some(item)) => is_next(&item, given).then_some(given.wrapping_add(1)),
         Ok(None) => (given == 2).then_some(given),
         Err(Memory) => Some(given),
     }

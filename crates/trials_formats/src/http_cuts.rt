@@ -1,34 +1,24 @@
 //! Requests are read the same however their bytes are cut.
 
-use crate::http::{filled, read, read_on};
-use http_edge::{Edge, Memory};
-use std::alloc::Global;
+use crate::http::{filled, reads, reads_by};
+use crate::telling::check;
+use std::alloc::{AllocError, Global};
 use std::ops::Range;
 
-/// This is read of the pieces.
-fn reads(alloc: Global, pieces: &[&[u8]], want: &[u8]) -> Result<bool, Memory> {
-    Ok(read(alloc, pieces)?.as_slice() == want)
-}
-
-/// What is read of the text byte by byte.
-fn read_by_bytes(alloc: Global, text: &[u8]) -> Result<Vec<u8>, Memory> {
-    let mut out = Vec::new(alloc);
-    let mut edge = Edge::new(alloc)?;
-    for byte in text.chunks(1) {
-        read_on(&mut edge, &mut out, byte)?;
+/// The text is read so at every cut into two pieces.
+fn reads_in_two(alloc: Global, text: &[u8], want: &[u8]) -> bool {
+    for at in 0..text.len() {
+        let (front, back) = text.split_at(at);
+        if !reads(alloc, &[front, back], want) {
+            return false;
+        }
     }
-    Ok(out)
+    true
 }
 
 /// The text is read so at every cut into two pieces, and byte by byte.
-fn reads_in_two(alloc: Global, text: &[u8], want: &[u8]) -> Result<bool, Memory> {
-    for at in 0..text.len() {
-        let (front, back) = text.split_at(at);
-        if !reads(alloc, &[front, back], want)? {
-            return Ok(false);
-        }
-    }
-    Ok(read_by_bytes(alloc, text)?.as_slice() == want)
+fn reads_cut(alloc: Global, text: &[u8], want: &[u8]) -> bool {
+    reads_in_two(alloc, text, want) && reads_by(alloc, &[text], 1, want)
 }
 
 /// What is given of a text, however it is cut.
@@ -62,37 +52,26 @@ static READ: [(&[u8], &[u8]); 9] = [
     ),
 ];
 
-/// The table, handed out by a call that says nothing of its rows: a loop over it is proved in less time.
-fn read_rows() -> &'static [(&'static [u8], &'static [u8])] {
-    &READ
-}
-
 #[test]
 fn cut_once(rt: HostRuntime) {
-    for &(text, want) in read_rows() {
-        let is_read = reads_in_two(rt.alloc(), text, want).expect(&rt, "memory");
-        assert!(rt; is_read, "{want:?}");
+    for &(text, want) in &READ {
+        check(&rt, want, reads_cut(rt.alloc(), text, want));
     }
 }
 
 /// The text is read so at each pair of cuts outside the range.
-fn reads_in_three(
-    alloc: Global,
-    text: &[u8],
-    range: Range<usize>,
-    want: &[u8],
-) -> Result<bool, Memory> {
+fn reads_in_three(alloc: Global, text: &[u8], range: Range<usize>, want: &[u8]) -> bool {
     for first in 0..text.len() {
         for second in first..text.len() {
             if !range.contains(&first) && !range.contains(&second) {
                 let pieces = [&text[..first], &text[first..second], &text[second..]];
-                if !reads(alloc, &pieces, want)? {
-                    return Ok(false);
+                if !reads(alloc, &pieces, want) {
+                    return false;
                 }
             }
         }
     }
-    Ok(true)
+    true
 }
 
 /// What is given of a text, however it is cut into three.
@@ -115,21 +94,15 @@ static READ_IN_THREE: [(&[u8], &[u8]); 4] = [
     ),
 ];
 
-/// The same.
-fn read_in_three_rows() -> &'static [(&'static [u8], &'static [u8])] {
-    &READ_IN_THREE
-}
-
 #[test]
 fn cut_twice(rt: HostRuntime) {
-    for &(text, want) in read_in_three_rows() {
-        let is_read = reads_in_three(rt.alloc(), text, 0..0, want).expect(&rt, "memory");
-        assert!(rt; is_read, "{want:?}");
+    for &(text, want) in &READ_IN_THREE {
+        check(&rt, want, reads_in_three(rt.alloc(), text, 0..0, want));
     }
 }
 
 /// The client is told to go on at each pair of cuts of which one lies after the head.
-fn continues(alloc: Global, text: &[u8], head: usize) -> Result<bool, Memory> {
+fn continues(alloc: Global, text: &[u8], head: usize) -> bool {
     for first in 0..text.len() {
         for second in first..text.len() {
             let pieces = [&text[..first], &text[first..second], &text[second..]];
@@ -138,35 +111,38 @@ fn continues(alloc: Global, text: &[u8], head: usize) -> Result<bool, Memory> {
             } else {
                 b"[PUT /light off]"
             };
-            if !reads(alloc, &pieces, want)? {
-                return Ok(false);
+            if !reads(alloc, &pieces, want) {
+                return false;
             }
         }
     }
-    Ok(true)
+    true
 }
 
 /// The client is told to go on where a piece ends after the head and before the body's end.
 #[test]
 fn cuts_that_continue(rt: HostRuntime) {
-    let head =
-        b"PUT /light HTTP/1.1\r\nHost: p\r\nExpect: 100-continue\r\nContent-Length: 3\r\n\r\n";
-    let text = filled(rt.alloc(), head, b"", 0, b"off").expect(&rt, "memory");
-    assert!(rt; continues(rt.alloc(), &text, head.len()).expect(&rt, "memory"));
+    let text =
+        b"PUT /light HTTP/1.1\r\nHost: p\r\nExpect: 100-continue\r\nContent-Length: 3\r\n\r\noff";
+    assert!(rt; continues(rt.alloc(), text, text.len() - 3));
 }
 
-/// This is read of a chunk with so many equal bytes in its line. The cuts in the midst of them are left out.
-fn reads_line(alloc: Global, count: usize, want: &[u8]) -> Result<bool, Memory> {
+/// How many equal bytes a chunk has in its line, and what is read: a line of 256 bytes is read, and one of 257
+/// is refused.
+static CHUNK_LINES: [(usize, &[u8]); 2] = [(252, b"[PUT /light off]"), (253, b"[400]")];
+
+/// This is read of the chunk. The cuts in the midst of the equal bytes are left out.
+fn reads_line(alloc: Global, count: usize, want: &[u8]) -> bool {
     let head = b"PUT /light HTTP/1.1\r\nHost: p\r\nTransfer-Encoding: chunked\r\n\r\n3;";
-    let text = filled(alloc, head, b"a", count, b"\r\noff\r\n0\r\n\r\n")?;
-    reads_in_three(alloc, &text, 80..300, want)
+    match filled(alloc, head, b"a", count, b"\r\noff\r\n0\r\n\r\n") {
+        Ok(text) => reads_in_three(alloc, &text, 80..300, want),
+        Err(AllocError) => false,
+    }
 }
 
-/// A chunk's line of 256 bytes is read, and one of 257 is refused.
 #[test]
 fn cuts_in_a_chunk_line(rt: HostRuntime) {
-    let most = reads_line(rt.alloc(), 252, b"[PUT /light off]").expect(&rt, "memory");
-    assert!(rt; most);
-    let more = reads_line(rt.alloc(), 253, b"[400]").expect(&rt, "memory");
-    assert!(rt; more);
+    for &(count, want) in &CHUNK_LINES {
+        check(&rt, count, reads_line(rt.alloc(), count, want));
+    }
 }

@@ -1,5 +1,6 @@
 //! Examples of RFC 8949, appendix A, and inputs at the limits.
 
+use crate::telling::check;
 use std::alloc::Global;
 use transformers::{Refused, cbor_json, json_cbor, octets_hex};
 
@@ -49,11 +50,6 @@ static INSIDE: [(&str, &str); 37] = [
     ),
     ("82f6a0", "[null,{}]"),
 ];
-
-/// The table, handed out by a call that says nothing of its rows: a loop over it is proved in less time.
-fn inside() -> &'static [(&'static str, &'static str)] {
-    &INSIDE
-}
 
 // Items that aren't taken: other kinds, keys that aren't text, items of unknown length, and items that aren't well formed.
 static OUTSIDE: [&str; 62] = [
@@ -121,11 +117,6 @@ static OUTSIDE: [&str; 62] = [
     "9bffffffffffffffff00",
 ];
 
-/// The same.
-fn outside() -> &'static [&'static str] {
-    &OUTSIDE
-}
-
 // Items with heads that are longer than they have to be, or with keys out of order.
 static LONG: [(&str, &str); 6] = [
     ("1817", "17"),
@@ -136,35 +127,26 @@ static LONG: [(&str, &str); 6] = [
     ("a2616202616101", "a2616101616202"),
 ];
 
-/// The same.
-fn long_rows() -> &'static [(&'static str, &'static str)] {
-    &LONG
-}
-
 // JSON that isn't taken.
-static REFUSED: [&str; 16] = [
-    "",
-    "1.5",
-    "{\"a\":1.5}",
-    "-0",
-    "1e2",
-    "18446744073709551616",
-    "-9223372036854775809",
-    "[1,[2.5]]",
-    "{\"a\":{\"b\":0.1}}",
-    "nul",
-    "1 2",
-    "[1",
-    "{\"a\"}",
-    "\"\\ud800\"",
-    "[1,]",
-    "'a'",
+static REFUSED: [&[u8]; 17] = [
+    b"",
+    b"1.5",
+    b"{\"a\":1.5}",
+    b"-0",
+    b"1e2",
+    b"18446744073709551616",
+    b"-9223372036854775809",
+    b"[1,[2.5]]",
+    b"{\"a\":{\"b\":0.1}}",
+    b"nul",
+    b"1 2",
+    b"[1",
+    b"{\"a\"}",
+    b"\"\\ud800\"",
+    b"[1,]",
+    b"'a'",
+    b"\"\xff\"",
 ];
-
-/// The same.
-fn refused() -> &'static [&'static str] {
-    &REFUSED
-}
 
 // The bytes of an item.
 fn bytes_of(alloc: Global, item: &str) -> Option<Vec<u8>> {
@@ -198,67 +180,66 @@ fn makes_both(alloc: Global, item: &str, json: &str) -> bool {
 
 #[test]
 fn items_inside(rt: HostRuntime) {
-    for &(item, json) in inside() {
-        assert!(rt; makes_both(rt.alloc(), item, json), "{item}");
+    for &(item, json) in &INSIDE {
+        check(&rt, item, makes_both(rt.alloc(), item, json));
     }
 }
 
-fn item_fault(alloc: Global, item: &[u8]) -> Option<Refused> {
-    cbor_json(alloc, item).err()
+fn is_item_refused(alloc: Global, item: &[u8]) -> bool {
+    cbor_json(alloc, item).err() == Some(Refused::Content)
 }
 
-fn json_fault(alloc: Global, json: &[u8]) -> Option<Refused> {
-    json_cbor(alloc, json).err()
+fn is_json_refused(alloc: Global, json: &[u8]) -> bool {
+    json_cbor(alloc, json).err() == Some(Refused::Content)
 }
 
 fn is_outside(alloc: Global, item: &str) -> bool {
     match bytes_of(alloc, item) {
-        Some(item) => item_fault(alloc, &item) == Some(Refused::Content),
+        Some(item) => is_item_refused(alloc, &item),
         None => false,
     }
 }
 
 #[test]
 fn items_outside(rt: HostRuntime) {
-    for &item in outside() {
-        assert!(rt; is_outside(rt.alloc(), item), "{item}");
+    for &item in &OUTSIDE {
+        check(&rt, item, is_outside(rt.alloc(), item));
     }
 }
 
-// The item that is made of the JSON that is made of an item.
-fn shortened(alloc: Global, item: &str) -> Option<Vec<u8>> {
-    let item = bytes_of(alloc, item)?;
-    let json = cbor_json(alloc, &item).ok()?;
-    json_cbor(alloc, &json).ok()
+// The item that is made of the JSON that is made of the item is this one.
+fn is_shortened(alloc: Global, item: &[u8], short: &[u8]) -> bool {
+    match cbor_json(alloc, item) {
+        Ok(json) => makes_item(alloc, &json, short),
+        Err(_) => false,
+    }
 }
 
 fn has_short(alloc: Global, long: &str, short: &str) -> bool {
-    match (shortened(alloc, long), bytes_of(alloc, short)) {
-        (Some(made), Some(short)) => made.as_slice() == short.as_slice(),
+    match (bytes_of(alloc, long), bytes_of(alloc, short)) {
+        (Some(long), Some(short)) => is_shortened(alloc, &long, &short),
         _ => false,
     }
 }
 
 #[test]
 fn long_heads(rt: HostRuntime) {
-    for &(long, short) in long_rows() {
-        assert!(rt; has_short(rt.alloc(), long, short), "{long}");
+    for &(long, short) in &LONG {
+        check(&rt, long, has_short(rt.alloc(), long, short));
     }
 }
 
 #[test]
 fn json_refused(rt: HostRuntime) {
-    for &json in refused() {
-        let fault = json_fault(rt.alloc(), json.as_bytes());
-        assert!(rt; fault == Some(Refused::Content), "{json}");
+    for &json in &REFUSED {
+        check(&rt, json, is_json_refused(rt.alloc(), json));
     }
-    assert!(rt; json_fault(rt.alloc(), &[0x22, 0xff, 0x22]) == Some(Refused::Content));
 }
 
 #[test]
 fn equal_keys(rt: HostRuntime) {
-    let item = [0xa2, 0x61, 0x61, 0x03, 0x61, 0x62, 0x02];
-    assert!(rt; makes_item(rt.alloc(), b"{\"a\":1,\"b\":2,\"a\":3}", &item));
+    let item = b"\xa2\x61\x61\x03\x61\x62\x02";
+    assert!(rt; makes_item(rt.alloc(), b"{\"a\":1,\"b\":2,\"a\":3}", item));
 }
 
 // An empty array within so many others, as an item.
@@ -283,12 +264,17 @@ fn nesting(rt: HostRuntime) {
     let alloc = rt.alloc();
     let item = nested_item(alloc, 31).expect(&rt, "memory");
     let json = nested_json(alloc, 31).expect(&rt, "memory");
-    assert!(rt; makes_json(alloc, &item, &json));
-    assert!(rt; makes_item(alloc, &json, &item));
+    check(&rt, "JSON", makes_json(alloc, &item, &json));
+    check(&rt, "an item", makes_item(alloc, &json, &item));
+}
+
+#[test]
+fn nesting_too_deep(rt: HostRuntime) {
+    let alloc = rt.alloc();
     let item = nested_item(alloc, 32).expect(&rt, "memory");
     let json = nested_json(alloc, 32).expect(&rt, "memory");
-    assert!(rt; item_fault(alloc, &item) == Some(Refused::Content));
-    assert!(rt; json_fault(alloc, &json) == Some(Refused::Content));
+    check(&rt, "an item", is_item_refused(alloc, &item));
+    check(&rt, "JSON", is_json_refused(alloc, &json));
 }
 
 fn has_digits(alloc: Global, octets: &[u8], want: &[u8]) -> bool {
@@ -300,6 +286,10 @@ fn has_digits(alloc: Global, octets: &[u8], want: &[u8]) -> bool {
 
 #[test]
 fn hexadecimal(rt: HostRuntime) {
-    assert!(rt; has_digits(rt.alloc(), &[0x00, 0xff, 0x1a], b"00ff1a"));
-    assert!(rt; has_digits(rt.alloc(), &[], b""));
+    check(
+        &rt,
+        "three octets",
+        has_digits(rt.alloc(), b"\x00\xff\x1a", b"00ff1a"),
+    );
+    check(&rt, "none", has_digits(rt.alloc(), b"", b""));
 }

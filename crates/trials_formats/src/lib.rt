@@ -29,3 +29,5 @@ mod messages;
 mod responses;
 #[cfg(test)]
 mod targets;
+#[cfg(test)]
+mod telling;

@@ -1,6 +1,7 @@
 ghost use Rattle.std.specs.Prelude.{◌≡◌, []};
 ghost use Rattle.coap_codec.specs.Spelling.{content};
 
+use crate::telling::check;
 use coap_codec::{Message, MsgType, Token};
 use message_layer::{Fitness, Link, LinkFault, Up, judge};
 use std::alloc::Global;
@@ -113,44 +114,78 @@ fn sends_copies(link: &mut Link, copy: &[u8], times: &[(u32, u32)]) -> bool {
     true
 }
 
-#[test]
-fn copies_of_the_longest_timeout(rt: HostRuntime) {
-    let alloc = rt.alloc();
+/// A random word, and the datagram that is sent with it; the moments at which its copies go out, and when it is
+/// given up, each with the millisecond before.
+type Run = (u64, &'static [u8], [(u32, u32); 4], (u32, u32));
+
+static RUNS: [Run; 2] = [
+    // the longest timeout
+    (
+        1000,
+        b"\x41\x01\x03\xe8\x07",
+        [(2999, 3000), (8999, 9000), (20999, 21000), (44999, 45000)],
+        (92999, 93000),
+    ),
+    // the shortest one
+    (
+        0,
+        b"\x41\x01\0\0\x07",
+        [(1999, 2000), (5999, 6000), (13999, 14000), (29999, 30000)],
+        (61999, 62000),
+    ),
+];
+
+fn is_run(alloc: Global, run: &Run) -> bool {
+    let (word, datagram, times, (before, end)) = run;
     let mut link = Link::new(alloc);
-    let datagram = [0x41, 1, 3, 0xe8, 7];
-    let times = [(2999, 3000), (8999, 9000), (20999, 21000), (44999, 45000)];
-    assert!(rt; submit(&mut link, alloc, Token::new(&[7]), 0, 1000).is_ok());
-    assert!(rt; sends_next(&mut link, &datagram));
-    assert!(rt; sends_copies(&mut link, &datagram, &times));
-    assert!(rt; gives_up(&mut link, 92999, 93000));
+    submit(&mut link, alloc, Token::new(&[7]), 0, *word).is_ok()
+        && sends_next(&mut link, datagram)
+        && sends_copies(&mut link, datagram, times)
+        && gives_up(&mut link, *before, *end)
 }
 
 #[test]
-fn copies_of_the_shortest_timeout(rt: HostRuntime) {
-    let alloc = rt.alloc();
-    let mut link = Link::new(alloc);
-    let datagram = [0x41, 1, 0, 0, 7];
-    let times = [(1999, 2000), (5999, 6000), (13999, 14000), (29999, 30000)];
-    assert!(rt; submit(&mut link, alloc, Token::new(&[7]), 0, 0).is_ok());
-    assert!(rt; sends_next(&mut link, &datagram));
-    assert!(rt; sends_copies(&mut link, &datagram, &times));
-    assert!(rt; gives_up(&mut link, 61999, 62000));
+fn copies_of_a_message(rt: HostRuntime) {
+    for run in &RUNS {
+        check(&rt, run.0, is_run(rt.alloc(), run));
+    }
+}
+
+/// A message is sent, and 64 more are handed in.
+fn fills(link: &mut Link, alloc: Global) -> bool {
+    for n in 0..65u8 {
+        if submit(link, alloc, Token::new(&[n]), 0, 0).is_err() {
+            return false;
+        }
+    }
+    true
+}
+
+/// One more has no place, until one is forgotten.
+fn is_full(link: &mut Link, alloc: Global, last: Token) -> bool {
+    let refused = submit(link, alloc, last, 0, 0) == Err(LinkFault::Queue);
+    link.forget(&Token::new(&[3]));
+    refused && submit(link, alloc, last, 0, 0).is_ok()
+}
+
+/// The second message goes out once the first is acknowledged.
+fn goes_on(link: &mut Link) -> bool {
+    !sends_nothing(link)
+        && hear(link, &[0x60, 0, 0, 0], 0).is_some()
+        && sends_next(link, &[0x41, 1, 0, 1, 1])
 }
 
 #[test]
 fn queue(rt: HostRuntime) {
     let alloc = rt.alloc();
     let mut link = Link::new(alloc);
-    for n in 0..65u8 {
-        assert!(rt; submit(&mut link, alloc, Token::new(&[n]), 0, 0).is_ok());
-    }
-    let last = Token::new(&[65]);
-    assert!(rt; submit(&mut link, alloc, last, 0, 0) == Err(LinkFault::Queue));
-    link.forget(&Token::new(&[3]));
-    assert!(rt; submit(&mut link, alloc, last, 0, 0).is_ok());
-    assert!(rt; !sends_nothing(&mut link));
-    assert!(rt; hear(&mut link, &[0x60, 0, 0, 0], 0).is_some());
-    assert!(rt; sends_next(&mut link, &[0x41, 1, 0, 1, 1]));
+    check(&rt, "64 wait", fills(&mut link, alloc));
+    check(
+        &rt,
+        "one more",
+        is_full(&mut link, alloc, Token::new(&[65])),
+    );
+    check(&rt, "the second", goes_on(&mut link));
 }
 
 /// The message ID that goes out next.
@@ -174,6 +209,13 @@ fn goes_round(link: &mut Link, alloc: Global, token: Token, moment: u32) -> bool
         && link.expect(&token, false).is_ok()
 }
 
+/// No ID is free until this moment; then the next one is given.
+fn is_used_up(link: &mut Link, alloc: Global, token: Token) -> bool {
+    submit(link, alloc, token, 493999, 0) == Err(LinkFault::Numbers)
+        && submit(link, alloc, token, 494000, 0).is_ok()
+        && sends_next(link, &[0x41, 1, 0x7f, 0xff, 9])
+}
+
 #[test]
 fn numbers(rt: HostRuntime) {
     let alloc = rt.alloc();
@@ -182,9 +224,7 @@ fn numbers(rt: HostRuntime) {
     for _ in 0..32768u32 {
         assert!(rt; goes_round(&mut link, alloc, token, 0));
     }
-    assert!(rt; submit(&mut link, alloc, token, 493999, 0) == Err(LinkFault::Numbers));
-    assert!(rt; submit(&mut link, alloc, token, 494000, 0).is_ok());
-    assert!(rt; sends_next(&mut link, &[0x41, 1, 0x7f, 0xff, 9]));
+    check(&rt, "no ID", is_used_up(&mut link, alloc, token));
 }
 
 /// Where nearly all IDs are in use all the time, each is taken as soon as it is free.
@@ -211,18 +251,27 @@ fn answers_ping(link: &mut Link, mid: u16) -> bool {
     hear(link, &[0x40, 0, high, low], 0).is_some() && sends_next(link, &[0x70, 0, high, low])
 }
 
+/// The last ID is remembered, and the one before 1,024 others isn't.
+fn remembers(link: &mut Link) -> bool {
+    hear(link, &[0x40, 0, 4, 0], 246999) == Some(Said::Dropped)
+        && sends_nothing(link)
+        && hear(link, &[0x40, 0, 0, 5], 246999) == Some(Said::Nothing)
+        && !sends_nothing(link)
+}
+
+/// The last ID is forgotten at this moment.
+fn forgets(link: &mut Link) -> bool {
+    hear(link, &[0x40, 0, 4, 0], 247000) == Some(Said::Nothing) && !sends_nothing(link)
+}
+
 #[test]
 fn remembered(rt: HostRuntime) {
     let mut link = one_sent(rt.alloc(), Token::new(&[9])).expect(&rt, "a GET goes out");
     for mid in 0..1024u16 {
         assert!(rt; answers_ping(&mut link, mid));
     }
-    assert!(rt; hear(&mut link, &[0x40, 0, 4, 0], 246999) == Some(Said::Dropped));
-    assert!(rt; sends_nothing(&mut link));
-    assert!(rt; hear(&mut link, &[0x40, 0, 0, 5], 246999) == Some(Said::Nothing));
-    assert!(rt; !sends_nothing(&mut link));
-    assert!(rt; hear(&mut link, &[0x40, 0, 4, 0], 247000) == Some(Said::Nothing));
-    assert!(rt; !sends_nothing(&mut link));
+    check(&rt, "remembered", remembers(&mut link));
+    check(&rt, "forgotten", forgets(&mut link));
 }
 
 /// What is heard is answered so, or not at all.
@@ -239,19 +288,29 @@ fn answers(alloc: Global, heard: &[u8], answer: Option<&[u8]>) -> bool {
     }
 }
 
+/// What is heard, and how it is answered.
+type Heard = (&'static [u8], Option<&'static [u8]>);
+
+static MALFORMED: [Heard; 9] = [
+    (&[0x40, 1, 0], None),
+    (&[0x80, 1, 0, 0], None),
+    (&[0x49, 1, 0, 7], Some(&[0x70, 0, 0, 7])),
+    (&[0x48, 0x45, 0, 7], Some(&[0x70, 0, 0, 7])),
+    (&[0x40, 0x45, 0, 7, 0xff], Some(&[0x70, 0, 0, 7])),
+    (&[0x50, 0x45, 0, 7, 0xf0], None),
+    (&[0x41, 0, 0, 7, 0xaa], Some(&[0x70, 0, 0, 7])),
+    (
+        &[0x40, 0x45, 0, 7, 0xe0, 0xff, 0xff],
+        Some(&[0x70, 0, 0, 7]),
+    ),
+    (&[0x40, 0, 0, 9], Some(&[0x70, 0, 0, 9])),
+];
+
 #[test]
 fn malformed(rt: HostRuntime) {
-    let alloc = rt.alloc();
-    assert!(rt; answers(alloc, &[0x40, 1, 0], None));
-    assert!(rt; answers(alloc, &[0x80, 1, 0, 0], None));
-    assert!(rt; answers(alloc, &[0x49, 1, 0, 7], Some(&[0x70, 0, 0, 7])));
-    assert!(rt; answers(alloc, &[0x48, 0x45, 0, 7], Some(&[0x70, 0, 0, 7])));
-    assert!(rt; answers(alloc, &[0x40, 0x45, 0, 7, 0xff], Some(&[0x70, 0, 0, 7])));
-    assert!(rt; answers(alloc, &[0x50, 0x45, 0, 7, 0xf0], None));
-    assert!(rt; answers(alloc, &[0x41, 0, 0, 7, 0xaa], Some(&[0x70, 0, 0, 7])));
-    let long_number = [0x40, 0x45, 0, 7, 0xe0, 0xff, 0xff];
-    assert!(rt; answers(alloc, &long_number, Some(&[0x70, 0, 0, 7])));
-    assert!(rt; answers(alloc, &[0x40, 0, 0, 9], Some(&[0x70, 0, 0, 9])));
+    for &(heard, answer) in &MALFORMED {
+        check(&rt, heard, answers(rt.alloc(), heard, answer));
+    }
 }
 
 /// A second message goes out when the first is acknowledged.
@@ -280,19 +339,27 @@ fn is_reset(link: &mut Link) -> bool {
 fn separate(rt: HostRuntime) {
     let alloc = rt.alloc();
     let mut link = one_sent(alloc, Token::new(&[9])).expect(&rt, "a GET goes out");
-    assert!(rt; sends_second(&mut link, alloc));
-    assert!(rt; tells_separate(&mut link));
+    check(&rt, "a second message", sends_second(&mut link, alloc));
+    check(&rt, "a separate response", tells_separate(&mut link));
     let mut copy = link.copy().expect(&rt, "memory");
-    assert!(rt; is_reset(&mut link));
-    assert!(rt; link.next_due().is_none());
-    assert!(rt; copy.next_due() == Some(2100));
-    assert!(rt; is_reset(&mut copy));
+    check(&rt, "a reset", is_reset(&mut link));
+    check(&rt, "nothing is due", link.next_due().is_none());
+    check(&rt, "the copy is due", copy.next_due() == Some(2100));
+    check(&rt, "a reset of the copy", is_reset(&mut copy));
 }
 
 #[test]
 fn rejected(rt: HostRuntime) {
     let mut link = one_sent(rt.alloc(), Token::new(&[9])).expect(&rt, "a GET goes out");
     let response = [0x41, 0x45, 0x43, 0x21, 9, 0x90];
-    assert!(rt; hear_response(&mut link, &response, 10) == Some(Fitness::Rejected));
-    assert!(rt; sends_next(&mut link, &[0x70, 0, 0x43, 0x21]));
+    check(
+        &rt,
+        "a rejected response",
+        hear_response(&mut link, &response, 10) == Some(Fitness::Rejected),
+    );
+    check(
+        &rt,
+        "a Reset message",
+        sends_next(&mut link, &[0x70, 0, 0x43, 0x21]),
+    );
 }

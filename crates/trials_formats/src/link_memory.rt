@@ -1,6 +1,7 @@
 //! A call that memory was refused is made once more; until then the link is as before.
 
 use crate::link::{Said, hear, said_by, sends, submit, tick};
+use crate::telling::check;
 use coap_codec::Token;
 use message_layer::{Link, LinkFault};
 use std::alloc::Global;
@@ -110,15 +111,23 @@ fn hears_expected(link: &mut Link) -> bool {
 fn memory_refused_once(rt: HostRuntime) {
     let alloc = rt.alloc();
     let mut link = Link::new(alloc);
-    assert!(rt; sends_two(&mut link, alloc));
-    assert!(rt; hears_three(&mut link));
-    assert!(rt; hears_expected(&mut link));
-    assert!(rt; submits(&mut link, alloc, Token::new(&[7])));
+    check(&rt, "two messages", sends_two(&mut link, alloc));
+    check(&rt, "three datagrams", hears_three(&mut link));
+    check(&rt, "an expected token", hears_expected(&mut link));
+    check(
+        &rt,
+        "a third message",
+        submits(&mut link, alloc, Token::new(&[7])),
+    );
     let mut copy = copies(&link).expect(&rt, "a copy");
     for moment in [4100, 8100, 16100, 32100] {
         assert!(rt; sends_at(&mut link, moment, Said::Nothing, &[0x41, 1, 0, 1, 8]));
     }
-    assert!(rt; sends_at(&mut link, 64100, Said::TimedOut, &[0x41, 1, 0, 2, 7]));
+    check(
+        &rt,
+        "the second is given up",
+        sends_at(&mut link, 64100, Said::TimedOut, &[0x41, 1, 0, 2, 7]),
+    );
     assert!(rt;
         answers(
             &mut copy,

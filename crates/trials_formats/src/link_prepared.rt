@@ -1,6 +1,7 @@
 //! The calls of a link in two phases: first what may want memory is prepared, then it is done.
 
 use crate::link::{Said, hear, request, said_by, sends, tick};
+use crate::telling::check;
 use coap_codec::{Token, encode};
 use message_layer::{Bytes, FirstSending, Hearing, Link, Ticking};
 use std::alloc::Global;
@@ -111,14 +112,30 @@ fn gives_up(link: &mut Link, alloc: Global) -> bool {
 fn in_two_phases(rt: HostRuntime) {
     let alloc = rt.alloc();
     let mut link = Link::new(alloc);
-    assert!(rt; hears(&mut link, &[0x40, 0, 0, 1], 0, None, None) == Some(Said::Dropped));
-    assert!(rt; sends_first(&mut link, alloc));
-    assert!(rt; tells_response(&mut link));
-    assert!(rt; gives_up(&mut link, alloc));
+    check(
+        &rt,
+        "before a sending",
+        hears(&mut link, &[0x40, 0, 0, 1], 0, None, None) == Some(Said::Dropped),
+    );
+    check(&rt, "the first message", sends_first(&mut link, alloc));
+    check(&rt, "a response", tells_response(&mut link));
+    check(&rt, "the next message", gives_up(&mut link, alloc));
     link.clear_out();
-    assert!(rt; link.take_send().is_none());
+    check(&rt, "cleared", link.take_send().is_none());
     // what is gone is awaited no more, and what was sent is
-    assert!(rt; hear(&mut link, &[0x41, 0x45, 0x43, 0x21, 6], 64200) == Some(Said::Nothing));
-    assert!(rt; sends(&mut link, &[0x70, 0, 0x43, 0x21]));
-    assert!(rt; hear(&mut link, &[0x41, 0x45, 0x43, 0x22, 5], 64200) == Some(Said::Response));
+    check(
+        &rt,
+        "what is gone",
+        hear(&mut link, &[0x41, 0x45, 0x43, 0x21, 6], 64200) == Some(Said::Nothing),
+    );
+    check(
+        &rt,
+        "a Reset message",
+        sends(&mut link, &[0x70, 0, 0x43, 0x21]),
+    );
+    check(
+        &rt,
+        "what was sent",
+        hear(&mut link, &[0x41, 0x45, 0x43, 0x22, 5], 64200) == Some(Said::Response),
+    );
 }

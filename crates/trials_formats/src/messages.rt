@@ -2,12 +2,13 @@
 
 ghost use Rattle.std.specs.Prelude.{◌^◌, ◌<◌};
 
+use crate::telling::{check, is_written};
 use coap_codec::{
-    Block, CodecFault, Message, MsgType, Opt, OptionDefinition, Token, block_of, block_to, decode,
-    definition, encode, first_of, is_allowed_in_response, is_critical, is_encodable, is_unsafe,
-    no_cache_key, number, uint_of, uint_to, values_of,
+    Block, CodecFault, Message, MsgType, Opt, Token, block_of, block_to, decode, definition,
+    encode, first_of, is_allowed_in_response, is_critical, is_encodable, is_unsafe, no_cache_key,
+    number, uint_of, uint_to, values_of,
 };
-use std::alloc::{AllocError, Global};
+use std::alloc::Global;
 
 /// A message, its option where it has one, and its bytes.
 struct Vector {
@@ -87,11 +88,6 @@ static VECTORS: [Vector; 7] = [
     },
 ];
 
-/// The table, handed out by a call that says nothing of its rows: a loop over it is proved in less time.
-fn vector_rows() -> &'static [Vector] {
-    &VECTORS
-}
-
 fn message_of(alloc: Global, row: &Vector) -> Result<Message, CodecFault> {
     if row.token.len() > 8 {
         return Err(CodecFault::TokenLength);
@@ -122,17 +118,24 @@ fn reads_as(alloc: Global, bytes: &[u8], m: &Message) -> bool {
 }
 
 /// The message is written as these bytes, and they are read as it.
-fn is_vector(alloc: Global, row: &Vector) -> Result<bool, CodecFault> {
-    let m = message_of(alloc, row)?;
-    let bytes = encoded(alloc, &m);
-    Ok(bytes.as_deref() == Some(row.bytes) && reads_as(alloc, row.bytes, &m))
+fn is_written_so(alloc: Global, m: &Message, bytes: &[u8]) -> bool {
+    match encoded(alloc, m) {
+        Some(written) => written.as_slice() == bytes && reads_as(alloc, bytes, m),
+        None => false,
+    }
+}
+
+fn is_vector(alloc: Global, row: &Vector) -> bool {
+    match message_of(alloc, row) {
+        Ok(m) => is_written_so(alloc, &m, row.bytes),
+        Err(_) => false,
+    }
 }
 
 #[test]
 fn vectors(rt: HostRuntime) {
-    for row in vector_rows() {
-        let is_met = is_vector(rt.alloc(), row).expect(&rt, "a message");
-        assert!(rt; is_met, "{:?}", row.bytes);
+    for row in &VECTORS {
+        check(&rt, row.bytes, is_vector(rt.alloc(), row));
     }
 }
 
@@ -144,10 +147,6 @@ static LENGTHS: [(usize, &[u8]); 5] = [
     (269, b"\x40\x01\0\0\x1e\0\0\x07"),
     (1034, b"\x40\x01\0\0\x1e\x02\xfd\x07"),
 ];
-
-fn length_rows() -> &'static [(usize, &'static [u8])] {
-    &LENGTHS
-}
 
 /// A message with an option of so many bytes.
 fn with_value(alloc: Global, len: usize) -> Result<Message, CodecFault> {
@@ -165,12 +164,19 @@ fn begins(alloc: Global, m: &Message, want: &[u8]) -> bool {
     }
 }
 
+/// The message with an option of so many bytes begins so.
+fn has_head(alloc: Global, len: usize, want: &[u8]) -> bool {
+    match with_value(alloc, len) {
+        Ok(m) => begins(alloc, &m, want),
+        Err(_) => false,
+    }
+}
+
 /// The head of an option by the length of its value.
 #[test]
 fn lengths(rt: HostRuntime) {
-    for &(len, want) in length_rows() {
-        let m = with_value(rt.alloc(), len).expect(&rt, "memory");
-        assert!(rt; begins(rt.alloc(), &m, want), "{len}");
+    for &(len, want) in &LENGTHS {
+        check(&rt, len, has_head(rt.alloc(), len, want));
     }
 }
 
@@ -193,15 +199,14 @@ static FAULTS: [(&[u8], CodecFault); 13] = [
     (b"\x40\x45\0\x07\x11a\x0f\xff", CodecFault::Reserved),
 ];
 
-fn fault_rows() -> &'static [(&'static [u8], CodecFault)] {
-    &FAULTS
+fn has_fault(alloc: Global, bytes: &[u8], fault: CodecFault) -> bool {
+    decode(alloc, bytes).err() == Some(fault)
 }
 
 #[test]
 fn faults(rt: HostRuntime) {
-    for &(bytes, fault) in fault_rows() {
-        let found = decode(rt.alloc(), bytes).err();
-        assert_eq!(rt; found, Some(fault), "{bytes:?}");
+    for &(bytes, fault) in &FAULTS {
+        check(&rt, bytes, has_fault(rt.alloc(), bytes, fault));
     }
 }
 
@@ -213,69 +218,96 @@ static NUMBERS: [(u32, &[u8]); 4] = [
     (0xffff_ffff, b"\xff\xff\xff\xff"),
 ];
 
-fn number_rows() -> &'static [(u32, &'static [u8])] {
-    &NUMBERS
-}
-
-fn is_number(alloc: Global, n: u32, want: &[u8]) -> Result<bool, CodecFault> {
-    Ok(uint_to(alloc, n)?.as_slice() == want)
-}
-
-/// The block has this size, and these bytes, which are read as it.
-fn is_block(alloc: Global, block: Block, size: usize, want: &[u8]) -> Result<bool, CodecFault>
-    requires num { block.num < 2 ^ 20 }
-    requires szx { block.szx < 7 }
-{
-    let bytes = block_to(alloc, block)?;
-    Ok(bytes.as_slice() == want && block_of(want) == Some(block) && block.size() == size)
+fn is_number(alloc: Global, n: u32, want: &[u8]) -> bool {
+    match uint_to(alloc, n) {
+        Ok(bytes) => bytes.as_slice() == want,
+        Err(_) => false,
+    }
 }
 
 #[test]
-fn numbers_and_blocks(rt: HostRuntime) {
-    let alloc = rt.alloc();
-    assert!(rt; uint_of(&[0, 0, 1, 2]) == 258);
-    for &(n, want) in number_rows() {
-        assert!(rt; is_number(alloc, n, want).expect(&rt, "memory"), "{n}");
+fn numbers(rt: HostRuntime) {
+    for &(n, want) in &NUMBERS {
+        check(&rt, n, is_number(rt.alloc(), n, want));
     }
+    check(&rt, "leading zeros", uint_of(&[0, 0, 1, 2]) == 258);
+}
+
+/// The block has these bytes.
+fn is_block(alloc: Global, block: Block, want: &[u8]) -> bool
+    requires num { block.num < 2 ^ 20 }
+    requires szx { block.szx < 7 }
+{
+    match block_to(alloc, block) {
+        Ok(bytes) => bytes.as_slice() == want,
+        Err(_) => false,
+    }
+}
+
+#[test]
+fn blocks(rt: HostRuntime) {
     let second = Block {
         num: 1,
         more: true,
         szx: 6,
     };
-    assert!(rt; is_block(alloc, second, 1024, b"\x1e").expect(&rt, "memory"));
-    assert!(rt; block_of(&[7]).is_none());
+    check(&rt, "written", is_block(rt.alloc(), second, b"\x1e"));
+    check(&rt, "read", block_of(b"\x1e") == Some(second));
+    check(&rt, "its size", second.size() == 1024);
+    check(&rt, "a size of 7", block_of(b"\x07").is_none());
 }
 
-/// A message, and its copy, which is the same.
-fn copied(alloc: Global, bytes: &[u8]) -> Result<Option<Message>, CodecFault> {
-    let m = decode(alloc, bytes)?;
-    let n = m.copy(alloc)?;
-    Ok(if n == m { Some(n) } else { None })
+/// The values are these two, and no others.
+fn are_two(values: &[&[u8]], one: &[u8], other: &[u8]) -> bool {
+    match values {
+        [first, second] => *first == one && *second == other,
+        _ => false,
+    }
 }
 
 /// The message has these two values of an ETag, and no others.
-fn has_tags(alloc: Global, m: &Message, one: &[u8], other: &[u8]) -> Result<bool, CodecFault> {
-    let values = values_of(alloc, m, number::ETAG)?;
-    Ok(match values.as_slice() {
-        [first, second] => *first == one && *second == other,
-        _ => false,
-    })
+fn has_tags(alloc: Global, m: &Message, one: &[u8], other: &[u8]) -> bool {
+    match values_of(alloc, m, number::ETAG) {
+        Ok(values) => are_two(&values, one, other),
+        Err(_) => false,
+    }
+}
+
+/// The message has the token `t`, and the ETags `a` and `bc`.
+fn is_tagged(alloc: Global, m: &Message) -> bool {
+    m.token.as_slice() == b"t".as_slice()
+        && m.token.len() == 1
+        && !m.token.is_empty()
+        && first_of(m, number::ETAG) == Some(b"a".as_slice())
+        && has_tags(alloc, m, b"a", b"bc")
+}
+
+/// The same of a copy of the message, which is the message again.
+fn is_copied(alloc: Global, m: &Message) -> bool {
+    match m.copy(alloc) {
+        Ok(copy) => copy == *m && is_tagged(alloc, &copy),
+        Err(_) => false,
+    }
+}
+
+/// The same of the message of these bytes.
+fn is_copied_when_read(alloc: Global, bytes: &[u8]) -> bool {
+    match decode(alloc, bytes) {
+        Ok(m) => is_copied(alloc, &m),
+        Err(_) => false,
+    }
 }
 
 #[test]
 fn copies_and_values(rt: HostRuntime) {
-    let alloc = rt.alloc();
-    let copy = copied(alloc, b"\x51\x02\0\x01t\x41a\x02bc\xffx").expect(&rt, "memory");
-    let n = copy.expect(&rt, "the same");
-    assert!(rt; n.token.as_slice() == b"t".as_slice());
-    assert!(rt; n.token.len() == 1 && !n.token.is_empty());
-    assert!(rt; first_of(&n, number::ETAG) == Some(b"a".as_slice()));
-    assert!(rt; has_tags(alloc, &n, b"a", b"bc").expect(&rt, "memory"));
+    assert!(rt; is_copied_when_read(rt.alloc(), b"\x51\x02\0\x01t\x41a\x02bc\xffx"));
 }
 
 /// RFC 7252, table 4, RFC 7641 and RFC 7959: an option's number, whether it is critical, and whether it is
 /// unsafe to forward.
-static OPTIONS: [(u16, bool, bool); 19] = [
+type OptionRow = (u16, bool, bool);
+
+static OPTIONS: [OptionRow; 19] = [
     (1, true, false),
     (3, true, true),
     (4, false, false),
@@ -297,12 +329,9 @@ static OPTIONS: [(u16, bool, bool); 19] = [
     (60, false, false),
 ];
 
-fn option_rows() -> &'static [(u16, bool, bool)] {
-    &OPTIONS
-}
-
 /// The option is defined so.
-fn is_option(number: u16, critical: bool, unsafe_to_forward: bool) -> bool {
+fn is_option(row: &OptionRow) -> bool {
+    let &(number, critical, unsafe_to_forward) = row;
     definition(number).is_some()
         && is_critical(number) == critical
         && is_unsafe(number) == unsafe_to_forward
@@ -321,39 +350,35 @@ fn count_of_options() -> u8 {
 
 #[test]
 fn option_table(rt: HostRuntime) {
-    for &(number, critical, unsafe_to_forward) in option_rows() {
-        assert!(rt; is_option(number, critical, unsafe_to_forward), "{number}");
+    for row in &OPTIONS {
+        check(&rt, row, is_option(row));
     }
-    assert!(rt; count_of_options() == 19);
+    check(&rt, "no others", count_of_options() == 19);
 }
 
-fn name_is(alloc: Global, definition: OptionDefinition, want: &str) -> bool {
-    match format!(in alloc; "{}", definition.name) {
-        Ok(text) => text.as_str() == want,
-        Err(_) => false,
-    }
-}
-
-fn fault_is(alloc: Global, fault: CodecFault, words: &str) -> bool {
-    match format!(in alloc; "{fault}") {
-        Ok(text) => text.as_str() == words,
-        Err(_) => false,
+/// Size1 is named so, is no part of a cache key, and has at most four bytes.
+fn is_size1(alloc: Global) -> bool {
+    match definition(number::SIZE1) {
+        Some(it) => {
+            is_written(alloc, &it.name, "Size1")
+                && it.no_cache_key
+                && it.allows_len(4)
+                && !it.allows_len(5)
+        }
+        None => false,
     }
 }
 
 #[test]
 fn one_option(rt: HostRuntime) {
-    let size1 = definition(number::SIZE1).expect(&rt, "Size1");
-    assert!(rt; name_is(rt.alloc(), size1, "Size1"));
-    assert!(rt; size1.no_cache_key && size1.allows_len(4) && !size1.allows_len(5));
-    assert!(rt; is_allowed_in_response(number::MAX_AGE));
-    assert!(rt; !is_allowed_in_response(number::URI_PATH));
-    assert!(rt; no_cache_key(0x1c) && !no_cache_key(0x1e));
-    assert!(rt;
-        fault_is(
-            rt.alloc(),
-            CodecFault::TokenLength,
-            "a token length above 8"
-        )
+    check(&rt, "Size1", is_size1(rt.alloc()));
+    check(&rt, "Max-Age", is_allowed_in_response(number::MAX_AGE));
+    check(&rt, "Uri-Path", !is_allowed_in_response(number::URI_PATH));
+    check(&rt, "NoCacheKey", no_cache_key(0x1c) && !no_cache_key(0x1e));
+    let words = "a token length above 8";
+    check(
+        &rt,
+        "a fault",
+        is_written(rt.alloc(), &CodecFault::TokenLength, words),
     );
 }

@@ -1,5 +1,6 @@
 //! What a response is good for, faults in words, and shared bytes.
 
+use crate::telling::{check, is_written};
 use coap_codec::{Message, MsgType, Opt, Token};
 use message_layer::{Bytes, Fitness, LinkFault, judge};
 use std::alloc::Global;
@@ -33,7 +34,9 @@ fn judged_code(alloc: Global, code: u8) -> Option<Fitness> {
 }
 
 /// An option of a response, and what the response is good for.
-static OPTIONS: [(u16, &[u8], Fitness); 7] = [
+type Row = (u16, &'static [u8], Fitness);
+
+static OPTIONS: [Row; 7] = [
     (23, &[6], Fitness::Fits),
     (23, &[7], Fitness::Rejected),
     (27, &[0, 0, 0, 0], Fitness::Rejected),
@@ -45,48 +48,51 @@ static OPTIONS: [(u16, &[u8], Fitness); 7] = [
     (16, &[], Fitness::Fits),
 ];
 
-/// The table, handed out by a call that says nothing of its rows: a loop over it is proved in less time.
-fn option_rows() -> &'static [(u16, &'static [u8], Fitness)] {
-    &OPTIONS
+fn is_judged(alloc: Global, row: &Row) -> bool {
+    judged(alloc, row.0, row.1) == Some(row.2)
 }
 
 #[test]
 fn options_of_responses(rt: HostRuntime) {
-    for &(number, value, fitness) in option_rows() {
-        assert!(rt;
-            judged(rt.alloc(), number, value) == Some(fitness),
-            "{number}"
-        );
+    for row in &OPTIONS {
+        check(&rt, row.0, is_judged(rt.alloc(), row));
     }
-    assert!(rt; judged_twice(rt.alloc(), 23, &[6]) == Some(Fitness::Rejected));
+    check(
+        &rt,
+        "twice",
+        judged_twice(rt.alloc(), 23, b"\x06") == Some(Fitness::Rejected),
+    );
 }
 
 #[test]
 fn codes_of_responses(rt: HostRuntime) {
     let alloc = rt.alloc();
-    assert!(rt; judged_code(alloc, 96) == Some(Fitness::NotUnderstood));
-    assert!(rt; judged_code(alloc, 192) == Some(Fitness::Rejected));
+    check(
+        &rt,
+        "3.00",
+        judged_code(alloc, 96) == Some(Fitness::NotUnderstood),
+    );
+    check(
+        &rt,
+        "6.00",
+        judged_code(alloc, 192) == Some(Fitness::Rejected),
+    );
 }
 
-fn fault_is(alloc: Global, fault: LinkFault, words: &str) -> bool {
-    match format!(in alloc; "{fault}") {
-        Ok(text) => text.as_str() == words,
-        Err(_) => false,
-    }
-}
+static FAULTS: [(LinkFault, &str); 3] = [
+    (LinkFault::Queue, "64 messages wait for this peer"),
+    (
+        LinkFault::Numbers,
+        "32,768 message IDs of this peer are in use",
+    ),
+    (LinkFault::Memory, "out of memory"),
+];
 
 #[test]
 fn faults_in_words(rt: HostRuntime) {
-    let alloc = rt.alloc();
-    assert!(rt; fault_is(alloc, LinkFault::Queue, "64 messages wait for this peer"));
-    assert!(rt;
-        fault_is(
-            alloc,
-            LinkFault::Numbers,
-            "32,768 message IDs of this peer are in use"
-        )
-    );
-    assert!(rt; fault_is(alloc, LinkFault::Memory, "out of memory"));
+    for (fault, words) in &FAULTS {
+        check(&rt, *words, is_written(rt.alloc(), fault, words));
+    }
 }
 
 fn bytes_of(alloc: Global, items: &[u8]) -> Option<Bytes> {
@@ -94,10 +100,16 @@ fn bytes_of(alloc: Global, items: &[u8]) -> Option<Bytes> {
     Bytes::new(alloc, items).ok()
 }
 
+/// The bytes are these, and so are those that share them.
+fn shares(bytes: &Bytes, want: &[u8]) -> bool {
+    match bytes.share() {
+        Ok(again) => again.as_slice() == want && bytes.as_slice() == want,
+        Err(_) => false,
+    }
+}
+
 #[test]
 fn shared_bytes(rt: HostRuntime) {
-    let bytes = bytes_of(rt.alloc(), &[1, 2, 3]).expect(&rt, "memory");
-    let again = bytes.share().expect(&rt, "memory");
-    assert!(rt; again.as_slice() == bytes.as_slice());
-    assert!(rt; again.as_slice() == [1, 2, 3].as_slice());
+    let bytes = bytes_of(rt.alloc(), b"\x01\x02\x03").expect(&rt, "memory");
+    assert!(rt; shares(&bytes, b"\x01\x02\x03"));
 }

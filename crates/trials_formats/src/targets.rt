@@ -1,8 +1,10 @@
 //! Targets of requests, and where they lead (RFC 7252, section 6; RFC 8075, section 5).
 
+use crate::telling::{check, is_written};
 use coap_codec::Opt;
 use std::alloc::{AllocError, Global};
 use std::net::{IpAddr, Ipv4Addr, Ipv6Addr};
+use std::process::Abort;
 use uri_map::{
     Directory, Host, Peer, Target, Text, UriFault, hosting_of, options_of, path_and_query, peer_at,
     peer_of, target_of,
@@ -48,21 +50,24 @@ fn named(alloc: Global, text: &[u8]) -> Result<String, AllocError> {
     }
 }
 
-/// The first text of the rows that names something else.
-fn first_wrong(
-    alloc: Global,
-    rows: &'static [(&'static [u8], &'static str)],
-) -> Result<Option<&'static [u8]>, AllocError> {
-    for &(text, want) in rows {
-        if named(alloc, text)?.as_str() != want {
-            return Ok(Some(text));
-        }
+/// A text, and what it names.
+type Row = (&'static [u8], &'static str);
+
+fn is_named(alloc: Global, row: &Row) -> bool {
+    match named(alloc, row.0) {
+        Ok(text) => text.as_str() == row.1,
+        Err(AllocError) => false,
     }
-    Ok(None)
+}
+
+fn check_named(rt: &impl Abort, alloc: Global, rows: &[Row]) {
+    for row in rows {
+        check(rt, row.0, is_named(alloc, row));
+    }
 }
 
 /// Below the base or not, and schemes.
-static BASES: [(&[u8], &str); 16] = [
+static BASES: [Row; 16] = [
     // RFC 8075, section 5.3: the default mapping, here below /hc/.
     (
         b"/hc/coap://s.example.com/light",
@@ -98,12 +103,7 @@ static BASES: [(&[u8], &str); 16] = [
     (b"*", "OtherBase"),
 ];
 
-/// The table, handed out by a call that says nothing of its rows: a loop over it is proved in less time.
-fn bases() -> &'static [(&'static [u8], &'static str)] {
-    &BASES
-}
-
-static AUTHORITIES: [(&[u8], &str); 34] = [
+static AUTHORITIES: [Row; 34] = [
     (b"/hc/h:61616", "h 61616"),
     (b"/hc/h:00080", "h 80"),
     (b"/hc/h:65535", "h 65535"),
@@ -143,12 +143,7 @@ static AUTHORITIES: [(&[u8], &str); 34] = [
     (b"/hc/%5Bfoo%5D", "[foo] 5683"),
 ];
 
-/// The same.
-fn authorities() -> &'static [(&'static [u8], &'static str)] {
-    &AUTHORITIES
-}
-
-static PATHS_AND_QUERIES: [(&[u8], &str); 24] = [
+static PATHS_AND_QUERIES: [Row; 24] = [
     (b"/hc/h/", "h 5683"),
     (b"/hc/h//", "h 5683 / /"),
     (b"/hc/h/a/", "h 5683 /a /"),
@@ -178,17 +173,11 @@ static PATHS_AND_QUERIES: [(&[u8], &str); 24] = [
     (b"/hc/h/%?x", "Escape"),
 ];
 
-/// The same.
-fn paths_and_queries() -> &'static [(&'static [u8], &'static str)] {
-    &PATHS_AND_QUERIES
-}
-
 #[test]
 fn named_targets(rt: HostRuntime) {
-    let alloc = rt.alloc();
-    assert_eq!(rt; first_wrong(alloc, bases()), Ok(None));
-    assert_eq!(rt; first_wrong(alloc, authorities()), Ok(None));
-    assert_eq!(rt; first_wrong(alloc, paths_and_queries()), Ok(None));
+    check_named(&rt, rt.alloc(), &BASES);
+    check_named(&rt, rt.alloc(), &AUTHORITIES);
+    check_named(&rt, rt.alloc(), &PATHS_AND_QUERIES);
 }
 
 /// The target `/hc/192.0.2.1` with `pieces` segments of `len` bytes each, and what follows.
@@ -204,25 +193,32 @@ fn segments(alloc: Global, pieces: usize, len: usize, rest: &[u8]) -> Result<Vec
     Ok(text)
 }
 
-/// The fault of that target, or none.
-fn fault_of(alloc: Global, pieces: usize, len: usize, rest: &[u8]) -> Option<UriFault> {
-    match segments(alloc, pieces, len, rest) {
-        Ok(text) => read(alloc, &text).err(),
-        Err(AllocError) => Some(UriFault::Memory),
+/// Segments and their length, what follows, and the fault of that target.
+type LimitRow = (usize, usize, &'static [u8], Option<UriFault>);
+
+static LIMITS: [LimitRow; 5] = [
+    // A value has at most 255 bytes.
+    (1, 255, b"", None),
+    (1, 256, b"", Some(UriFault::TooLong)),
+    // 80 options of 12 bytes each are 960 bytes; an option more is too many.
+    (80, 11, b"", None),
+    (81, 11, b"", Some(UriFault::TooLong)),
+    // A bad escape is told before a value that is too long.
+    (1, 256, b"?%", Some(UriFault::Escape)),
+];
+
+fn has_fault(alloc: Global, row: &LimitRow) -> bool {
+    match segments(alloc, row.0, row.1, row.2) {
+        Ok(text) => read(alloc, &text).err() == row.3,
+        Err(AllocError) => false,
     }
 }
 
 #[test]
 fn limits(rt: HostRuntime) {
-    let alloc = rt.alloc();
-    // A value has at most 255 bytes.
-    assert!(rt; fault_of(alloc, 1, 255, b"").is_none());
-    assert!(rt; fault_of(alloc, 1, 256, b"") == Some(UriFault::TooLong));
-    // 80 options of 12 bytes each are 960 bytes; an option more is too many.
-    assert!(rt; fault_of(alloc, 80, 11, b"").is_none());
-    assert!(rt; fault_of(alloc, 81, 11, b"") == Some(UriFault::TooLong));
-    // A bad escape is told before a value that is too long.
-    assert!(rt; fault_of(alloc, 1, 256, b"?%") == Some(UriFault::Escape));
+    for row in &LIMITS {
+        check(&rt, row.0, has_fault(rt.alloc(), row));
+    }
 }
 
 /// A target, and its text as it is hosted.
@@ -247,10 +243,6 @@ static HOSTED: [(&[u8], &[u8]); 9] = [
     (b"/hc/h?a%26b/c?d", b"/hc/coap://h?a%26b%2Fc%3Fd"),
 ];
 
-fn hosted_rows() -> &'static [(&'static [u8], &'static [u8])] {
-    &HOSTED
-}
-
 /// The text names the target.
 fn names(alloc: Global, text: &[u8], target: &Target) -> bool {
     match read(alloc, text) {
@@ -267,16 +259,23 @@ fn hosts(alloc: Global, target: &Target, want: &[u8]) -> bool {
     }
 }
 
-/// A copy of the target of the text is hosted so.
-fn is_hosted(alloc: Global, text: &[u8], want: &[u8]) -> Result<bool, UriFault> {
-    let target = read(alloc, text)?.copy()?;
-    Ok(hosts(alloc, &target, want))
+/// A copy of the target that the text names.
+fn copied(alloc: Global, text: &[u8]) -> Result<Target, UriFault> {
+    Ok(read(alloc, text)?.copy()?)
+}
+
+/// The copy is hosted so.
+fn is_hosted(alloc: Global, text: &[u8], want: &[u8]) -> bool {
+    match copied(alloc, text) {
+        Ok(target) => hosts(alloc, &target, want),
+        Err(_) => false,
+    }
 }
 
 #[test]
 fn hosted_again(rt: HostRuntime) {
-    for &(text, want) in hosted_rows() {
-        assert!(rt; is_hosted(rt.alloc(), text, want) == Ok(true), "{text:?}");
+    for &(text, want) in &HOSTED {
+        check(&rt, text, is_hosted(rt.alloc(), text, want));
     }
 }
 
@@ -286,8 +285,11 @@ fn options(alloc: Global, text: &[u8]) -> Result<Vec<Opt>, UriFault> {
     Ok(options_of(alloc, &target)?)
 }
 
-/// The options of `s.example.com:61616/a//b?x&y`, by their numbers.
-static OPTIONS: [(u16, &[u8]); 6] = [
+/// An option's number and value.
+type OptionRow = (u16, &'static [u8]);
+
+/// The options of `s.example.com:61616/a//b?x&y`.
+static OPTIONS: [OptionRow; 6] = [
     (3, b"s.example.com"),
     (11, b"a"),
     (11, b""),
@@ -296,25 +298,22 @@ static OPTIONS: [(u16, &[u8]); 6] = [
     (15, b"y"),
 ];
 
-fn option_rows() -> &'static [(u16, &'static [u8])] {
-    &OPTIONS
-}
-
-fn is_option(option: &Opt, row: &(u16, &'static [u8])) -> bool {
+fn is_option(option: &Opt, row: &OptionRow) -> bool {
     option.number == row.0 && option.value.as_slice() == row.1
 }
 
 /// The options are those of the rows.
-fn are_options(options: &[Opt], rows: &[(u16, &'static [u8])]) -> bool {
+fn are_options(options: &[Opt], rows: &[OptionRow]) -> bool {
+    for (option, row) in options.iter().zip(rows) {
+        if !is_option(option, row) {
+            return false;
+        }
+    }
     options.len() == rows.len()
-        && options
-            .iter()
-            .zip(rows)
-            .all(|(option, row)| is_option(option, row))
 }
 
 /// The text names a target with these options.
-fn has_options(alloc: Global, text: &[u8], rows: &[(u16, &'static [u8])]) -> bool {
+fn has_options(alloc: Global, text: &[u8], rows: &[OptionRow]) -> bool {
     match options(alloc, text) {
         Ok(given) => are_options(&given, rows),
         Err(_) => false,
@@ -324,12 +323,18 @@ fn has_options(alloc: Global, text: &[u8], rows: &[(u16, &'static [u8])]) -> boo
 #[test]
 fn options_of_a_target(rt: HostRuntime) {
     let text = b"/hc/s.example.com:61616/a//b?x&y";
-    assert!(rt; has_options(rt.alloc(), text, option_rows()));
-    assert!(rt; has_options(rt.alloc(), b"/hc/192.0.2.1", &[]));
+    check(&rt, "a name", has_options(rt.alloc(), text, &OPTIONS));
+    check(
+        &rt,
+        "an address",
+        has_options(rt.alloc(), b"/hc/192.0.2.1", &[]),
+    );
 }
 
 /// A directory with two servers of one name.
-fn lamps(alloc: Global, first: IpAddr, second: IpAddr) -> Result<Directory, AllocError> {
+fn lamps(alloc: Global) -> Result<Directory, AllocError> {
+    let first = IpAddr::V4(Ipv4Addr::new(192, 0, 2, 1));
+    let second = IpAddr::V6(Ipv6Addr::new(0x2001, 0xdb8, 0, 0, 0, 0, 0, 1));
     let mut directory = Directory::new(alloc, false);
     directory.add("Lamp.Example", first)?;
     directory.add("lamp.example", second)?;
@@ -342,32 +347,50 @@ fn peer(alloc: Global, directory: &Directory, text: &[u8]) -> Result<Option<Peer
     Ok(peer_of(directory, &target))
 }
 
-/// The text leads there.
-fn leads(alloc: Global, directory: &Directory, text: &[u8], address: IpAddr, port: u16) -> bool {
-    peer(alloc, directory, text) == Ok(Some(Peer { address, port }))
+/// The text leads to this peer, or names a target that leads nowhere.
+fn leads(alloc: Global, directory: &Directory, text: &[u8], want: Option<&str>) -> bool {
+    match (peer(alloc, directory, text), want) {
+        (Ok(Some(peer)), Some(want)) => is_written(alloc, &peer, want),
+        (Ok(None), None) => true,
+        _ => false,
+    }
 }
 
-/// The text names a target that leads nowhere.
-fn leads_nowhere(alloc: Global, directory: &Directory, text: &[u8]) -> bool {
-    peer(alloc, directory, text) == Ok(None)
+/// Names lead to the first of their addresses, and addresses nowhere.
+fn leads_by_names(alloc: Global, directory: &Directory) -> bool {
+    !directory.literals()
+        && leads(
+            alloc,
+            directory,
+            b"/hc/LAMP.example:80",
+            Some("192.0.2.1:80"),
+        )
+        && leads(alloc, directory, b"/hc/%5B2001:db8::1%5D", None)
+}
+
+/// Addresses are taken as they are, and names lead nowhere.
+fn leads_by_addresses(alloc: Global, directory: &Directory) -> bool {
+    let address = "[2001:db8:0:0:0:0:0:1]:5683";
+    leads(alloc, directory, b"/hc/%5B2001:db8::1%5D", Some(address))
+        && leads(alloc, directory, b"/hc/LAMP.example:80", None)
 }
 
 #[test]
 fn peers(rt: HostRuntime) {
     let alloc = rt.alloc();
-    let first = IpAddr::V4(Ipv4Addr::new(192, 0, 2, 1));
-    let second = IpAddr::V6(Ipv6Addr::new(0x2001, 0xdb8, 0, 0, 0, 0, 0, 1));
-    let directory = lamps(alloc, first, second).expect(&rt, "memory");
-    assert!(rt; !directory.literals());
-    assert!(rt; leads(alloc, &directory, b"/hc/LAMP.example:80", first, 80));
-    assert!(rt; leads_nowhere(alloc, &directory, b"/hc/%5B2001:db8::1%5D"));
-    let taking = Directory::new(alloc, true);
-    assert!(rt; leads(alloc, &taking, b"/hc/%5B2001:db8::1%5D", second, 5683));
-    assert!(rt; leads_nowhere(alloc, &taking, b"/hc/LAMP.example:80"));
+    let lamps = lamps(alloc).expect(&rt, "memory");
+    check(&rt, "names", leads_by_names(alloc, &lamps));
+    check(
+        &rt,
+        "addresses",
+        leads_by_addresses(alloc, &Directory::new(alloc, true)),
+    );
 }
 
 /// The text of a peer, and how it is written.
-static WRITTEN: [(&[u8], Option<&str>); 10] = [
+type PeerRow = (&'static [u8], Option<&'static str>);
+
+static WRITTEN: [PeerRow; 10] = [
     (b"192.0.2.1:5683", Some("192.0.2.1:5683")),
     (b"[2001:db8::1]:5683", Some("[2001:db8:0:0:0:0:0:1]:5683")),
     (
@@ -383,27 +406,19 @@ static WRITTEN: [(&[u8], Option<&str>); 10] = [
     (b"[fe80::1%1]:5683", None),
 ];
 
-fn written_rows() -> &'static [(&'static [u8], Option<&'static str>)] {
-    &WRITTEN
-}
-
-fn peer_is(alloc: Global, peer: Peer, want: &str) -> Result<bool, AllocError> {
-    Ok(format!(in alloc; "{peer}")?.as_str() == want)
-}
-
 /// The peer of the text is written so, or there is none.
-fn is_written(alloc: Global, text: &[u8], want: Option<&str>) -> Result<bool, AllocError> {
-    match (peer_at(text), want) {
-        (Some(peer), Some(want)) => peer_is(alloc, peer, want),
-        (None, None) => Ok(true),
-        _ => Ok(false),
+fn is_peer(alloc: Global, row: &PeerRow) -> bool {
+    match (peer_at(row.0), row.1) {
+        (Some(peer), Some(want)) => is_written(alloc, &peer, want),
+        (None, None) => true,
+        _ => false,
     }
 }
 
 #[test]
 fn peers_written(rt: HostRuntime) {
-    for &(text, want) in written_rows() {
-        assert!(rt; is_written(rt.alloc(), text, want) == Ok(true), "{text:?}");
+    for row in &WRITTEN {
+        check(&rt, row.0, is_peer(rt.alloc(), row));
     }
 }
 
@@ -419,55 +434,25 @@ static FORMS: [(&[u8], &[u8]); 8] = [
     (b"*", b"*"),
 ];
 
-fn form_rows() -> &'static [(&'static [u8], &'static [u8])] {
-    &FORMS
-}
-
 #[test]
 fn absolute_form(rt: HostRuntime) {
-    for &(text, want) in form_rows() {
-        assert_eq!(rt; path_and_query(text), want);
+    for &(text, want) in &FORMS {
+        check(&rt, text, path_and_query(text) == want);
     }
 }
 
-fn fault_is(alloc: Global, fault: UriFault, words: &str) -> bool {
-    match format!(in alloc; "{fault}") {
-        Ok(text) => text.as_str() == words,
-        Err(_) => false,
-    }
-}
+static FAULTS: [(UriFault, &str); 6] = [
+    (UriFault::OtherBase, "the target is not below the base"),
+    (UriFault::Scheme, "the scheme is not coap"),
+    (UriFault::Authority, "the host or the port is malformed"),
+    (UriFault::Escape, "the path or the query is malformed"),
+    (UriFault::TooLong, "the path or the query is too long"),
+    (UriFault::Memory, "out of memory"),
+];
 
 #[test]
 fn faults_in_words(rt: HostRuntime) {
-    let alloc = rt.alloc();
-    assert!(rt;
-        fault_is(
-            alloc,
-            UriFault::OtherBase,
-            "the target is not below the base"
-        )
-    );
-    assert!(rt; fault_is(alloc, UriFault::Scheme, "the scheme is not coap"));
-    assert!(rt;
-        fault_is(
-            alloc,
-            UriFault::Authority,
-            "the host or the port is malformed"
-        )
-    );
-    assert!(rt;
-        fault_is(
-            alloc,
-            UriFault::Escape,
-            "the path or the query is malformed"
-        )
-    );
-    assert!(rt;
-        fault_is(
-            alloc,
-            UriFault::TooLong,
-            "the path or the query is too long"
-        )
-    );
-    assert!(rt; fault_is(alloc, UriFault::Memory, "out of memory"));
+    for (fault, words) in &FAULTS {
+        check(&rt, *words, is_written(rt.alloc(), fault, words));
+    }
 }

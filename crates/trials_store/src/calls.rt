@@ -1,7 +1,9 @@
 //! Each call once.
 
-use crate::samples::{key, key_of, place, puts, response, serves};
-use resp_cache::{Pair, Store, the_last_used_stay};
+use crate::samples::{is_missing, is_served, key, key_of, place, puts, response};
+use crate::telling::check;
+use cache_key::Place;
+use resp_cache::{Pair, Store, StoredResponse, the_last_used_stay};
 use std::alloc::{AllocError, Global};
 
 /// A store with a response of `light`, and one of `door` used after it.
@@ -13,48 +15,66 @@ fn two_places(alloc: Global) -> Result<Store, AllocError> {
     Ok(store)
 }
 
+/// The response `on`, heard at 40, which rests on the entry 3.
+fn is_told(stored: &StoredResponse) -> bool {
+    stored.heard() == 40
+        && stored.list() == [3].as_slice()
+        && stored.response().body.as_slice() == b"on".as_slice()
+}
+
+/// It is fresh for nine seconds from then.
+fn is_fresh_for_nine(stored: &StoredResponse) -> bool {
+    stored.is_fresh(9039) && !stored.is_fresh(9040) && !stored.is_never_fresh()
+}
+
 #[test]
 fn what_is_stored_is_told(rt: HostRuntime) {
-    let alloc = rt.alloc();
-    let stored = response(alloc, 40, Some(9)).expect(&rt, "memory");
+    let stored = response(rt.alloc(), 40, Some(9)).expect(&rt, "memory");
     let shared = stored.share().expect(&rt, "memory");
-    assert!(rt; shared.heard() == 40);
-    assert!(rt; matches!(shared.list(), [3]));
-    assert!(rt; shared.response().body.as_slice() == b"on".as_slice());
-    assert!(rt; shared.is_fresh(9039));
-    assert!(rt; !shared.is_fresh(9040));
-    assert!(rt; !shared.is_never_fresh());
+    check(&rt, "what was stored", is_told(&shared));
+    check(&rt, "until when", is_fresh_for_nine(&shared));
+}
+
+fn retire(store: &mut Store, place: &Place) {
+    store.retire(place);
 }
 
 #[test]
 fn a_write_takes_its_place_alone(rt: HostRuntime) {
     let alloc = rt.alloc();
+    let door = place(alloc, "door").expect(&rt, "memory");
     let mut store = two_places(alloc).expect(&rt, "memory");
-    store.retire(&place(alloc, "door").expect(&rt, "memory"));
-    assert!(rt; store.len() == 1);
-    assert!(rt; serves(&mut store, alloc, 0).expect(&rt, "memory"));
+    retire(&mut store, &door);
+    check(&rt, "one is left", store.len() == 1);
+    check(&rt, "the other", is_served(&mut store, alloc, 0));
 }
 
 #[test]
 fn a_copy_stands_by_itself(rt: HostRuntime) {
     let alloc = rt.alloc();
+    let light = place(alloc, "light").expect(&rt, "memory");
     let mut store = two_places(alloc).expect(&rt, "memory");
     let mut copy = store.copy().expect(&rt, "memory");
-    store.retire(&place(alloc, "light").expect(&rt, "memory"));
-    assert!(rt; copy.len() == 2);
-    assert!(rt; serves(&mut copy, alloc, 0).expect(&rt, "memory"));
-    assert!(rt; !serves(&mut store, alloc, 0).expect(&rt, "memory"));
+    retire(&mut store, &light);
+    check(&rt, "the copy's length", copy.len() == 2);
+    check(&rt, "in the copy", is_served(&mut copy, alloc, 0));
+    check(&rt, "in the store", is_missing(&mut store, alloc, 0));
+}
+
+/// What is shared is the pair again, heard at 5.
+fn is_shared(pair: &Pair) -> bool {
+    match pair.share() {
+        Ok(shared) => shared.key.is_same(&pair.key) && shared.stored.heard() == 5,
+        Err(AllocError) => false,
+    }
 }
 
 #[test]
 fn a_pair_is_shared(rt: HostRuntime) {
-    let alloc = rt.alloc();
     let pair = Pair {
-        key: key(alloc, 0).expect(&rt, "memory"),
-        stored: response(alloc, 5, None).expect(&rt, "memory"),
+        key: key(rt.alloc(), 0).expect(&rt, "memory"),
+        stored: response(rt.alloc(), 5, None).expect(&rt, "memory"),
     };
-    let shared = pair.share().expect(&rt, "memory");
-    assert!(rt; shared.key.is_same(&pair.key));
-    assert!(rt; shared.stored.heard() == 5);
+    assert!(rt; is_shared(&pair));
     the_last_used_stay();
 }

@@ -1,6 +1,8 @@
 //! Until when a response is served.
 
 use crate::samples::{key, key_of, response};
+use crate::telling::check;
+use cache_key::Key;
 use resp_cache::Store;
 use std::alloc::{AllocError, Global};
 
@@ -11,43 +13,67 @@ fn store_of(alloc: Global, heard: u64, max_age: Option<u32>) -> Result<Store, Al
     Ok(store)
 }
 
-#[test]
-fn a_second_after_1000_ends_at_2000(rt: HostRuntime) {
-    let alloc = rt.alloc();
-    let mut store = store_of(alloc, 1000, Some(1)).expect(&rt, "memory");
-    let key = key(alloc, 0).expect(&rt, "memory");
-    assert!(rt; store.get(&key, 1999).is_some());
-    assert!(rt; store.stale(&key, 1999).is_none());
-    assert!(rt; store.get(&key, 2000).is_none());
-    assert!(rt; store.stale(&key, 2000).is_some());
+/// Whether it is served at this moment as what is fresh, or else is there as what is stale.
+fn is_fresh(store: &mut Store, key: &Key, moment: u64) -> Option<bool> {
+    match (
+        store.get(key, moment).is_some(),
+        store.stale(key, moment).is_some(),
+    ) {
+        (true, false) => Some(true),
+        (false, true) => Some(false),
+        _ => None,
+    }
+}
+
+/// When a response was heard, its Max-Age, and moments with whether it is fresh then.
+type Row = (u64, Option<u32>, &'static [(u64, bool)]);
+
+static ROWS: [Row; 3] = [
+    (1000, Some(1), &[(1999, true), (2000, false)]),
+    // Without Max-Age it is a minute.
+    (0, None, &[(59_999, true), (60_000, false)]),
+    // The last moments count.
+    (u64::MAX - 1, Some(u32::MAX), &[(0, true), (u64::MAX, true)]),
+];
+
+fn ages(store: &mut Store, key: &Key, moments: &[(u64, bool)]) -> bool {
+    for (moment, fresh) in moments {
+        if is_fresh(store, key, *moment) != Some(*fresh) {
+            return false;
+        }
+    }
+    true
+}
+
+fn is_row(alloc: Global, row: &Row) -> Result<bool, AllocError> {
+    let key = key(alloc, 0)?;
+    let mut store = store_of(alloc, row.0, row.1)?;
+    Ok(ages(&mut store, &key, row.2))
 }
 
 #[test]
-fn without_max_age_it_is_a_minute(rt: HostRuntime) {
-    let alloc = rt.alloc();
-    let mut store = store_of(alloc, 0, None).expect(&rt, "memory");
-    let key = key(alloc, 0).expect(&rt, "memory");
-    assert!(rt; store.get(&key, 59_999).is_some());
-    assert!(rt; store.get(&key, 60_000).is_none());
+fn a_response_ages(rt: HostRuntime) {
+    for row in &ROWS {
+        check(&rt, row.1, is_row(rt.alloc(), row) == Ok(true));
+    }
 }
 
-#[test]
-fn the_last_moments_count(rt: HostRuntime) {
-    let alloc = rt.alloc();
-    let mut store = store_of(alloc, u64::MAX - 1, Some(u32::MAX)).expect(&rt, "memory");
-    let key = key(alloc, 0).expect(&rt, "memory");
-    assert!(rt; store.get(&key, 0).is_some());
-    assert!(rt; store.get(&key, u64::MAX).is_some());
+/// Puts what is never fresh. Nothing is let go.
+fn puts_never(store: &mut Store, alloc: Global) -> Result<bool, AllocError> {
+    let gone = store.put(key(alloc, 0)?, response(alloc, 10, Some(0))?)?;
+    Ok(gone.is_none())
 }
 
 #[test]
 fn max_age_0_takes_the_pair_out(rt: HostRuntime) {
     let alloc = rt.alloc();
     let mut store = store_of(alloc, 0, None).expect(&rt, "memory");
-    let never = response(alloc, 10, Some(0)).expect(&rt, "memory");
-    let gone = store.put(key(alloc, 0).expect(&rt, "memory"), never);
-    assert!(rt; gone.expect(&rt, "memory").is_none());
-    assert!(rt; store.is_empty());
+    check(
+        &rt,
+        "nothing goes",
+        puts_never(&mut store, alloc) == Ok(true),
+    );
+    check(&rt, "nothing stays", store.is_empty());
 }
 
 #[test]

@@ -15,3 +15,5 @@ mod freshness;
 mod memory;
 #[cfg(test)]
 mod samples;
+#[cfg(test)]
+mod telling;

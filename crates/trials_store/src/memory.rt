@@ -2,9 +2,10 @@
 //! one allocation of a run refused, it goes as it would have gone.
 
 use crate::samples::{key, response};
+use crate::telling::check;
 use cache_key::Key;
 use resp_cache::{Store, StoredResponse};
-use std::alloc::Global;
+use std::alloc::{AllocError, Global};
 
 fn one_key(alloc: Global, accept: u16) -> Option<Key> {
     match key(alloc, accept) {
@@ -20,18 +21,25 @@ fn one_response(alloc: Global) -> Option<StoredResponse> {
     }
 }
 
+fn put(store: &mut Store, key: &Key, response: &StoredResponse) -> Result<(), AllocError> {
+    store.put(key.share()?, response.share()?)?;
+    Ok(())
+}
+
 /// Puts the response under the key. Nothing of it stays where memory is refused.
-fn puts(store: &mut Store, key: &Key, response: &StoredResponse) -> Option<()> {
+fn puts(store: &mut Store, key: &Key, response: &StoredResponse) -> bool {
     let before = store.len();
-    let put = store.put(key.share().ok()?, response.share().ok()?);
-    if put.is_ok() {
-        return Some(());
+    if put(store, key, response).is_ok() {
+        return true;
     }
-    if store.len() != before || store.get(key, 1).is_some() {
-        return None;
-    }
-    store.put(key.share().ok()?, response.share().ok()?).ok()?;
-    Some(())
+    store.len() == before && store.get(key, 1).is_none() && put(store, key, response).is_ok()
+}
+
+/// The key is served, until its place is written.
+fn leaves(store: &mut Store, key: &Key) -> bool {
+    let served = store.get(key, 1).is_some();
+    store.retire(key.place());
+    served && store.is_empty()
 }
 
 fn copied(store: &Store) -> Option<Store> {
@@ -48,12 +56,10 @@ fn memory_refused_once(rt: HostRuntime) {
     let second = one_key(alloc, 1).expect(&rt, "a key");
     let response = one_response(alloc).expect(&rt, "a response");
     let mut store = Store::new(alloc);
-    assert!(rt; puts(&mut store, &first, &response).is_some());
-    assert!(rt; puts(&mut store, &second, &response).is_some());
-    assert!(rt; puts(&mut store, &first, &response).is_some());
+    check(&rt, 0, puts(&mut store, &first, &response));
+    check(&rt, 1, puts(&mut store, &second, &response));
+    check(&rt, "0 again", puts(&mut store, &first, &response));
     let copy = copied(&store).expect(&rt, "a copy");
-    assert!(rt; copy.len() == 2);
-    assert!(rt; store.get(&second, 1).is_some());
-    store.retire(second.place());
-    assert!(rt; store.is_empty());
+    check(&rt, "both", copy.len() == 2);
+    check(&rt, "what stays", leaves(&mut store, &second));
 }

@@ -69,7 +69,15 @@ pub fn puts(store: &mut Store, alloc: Global, accept: u16) -> Result<bool, Alloc
 }
 
 /// Whether the key with this Accept is served.
-pub fn serves(store: &mut Store, alloc: Global, accept: u16) -> Result<bool, AllocError> {
+fn serves(store: &mut Store, alloc: Global, accept: u16) -> Result<bool, AllocError> {
     let key = key(alloc, accept)?;
     Ok(store.get(&key, 1).is_some())
+}
+
+pub fn is_served(store: &mut Store, alloc: Global, accept: u16) -> bool {
+    serves(store, alloc, accept) == Ok(true)
+}
+
+pub fn is_missing(store: &mut Store, alloc: Global, accept: u16) -> bool {
+    serves(store, alloc, accept) == Ok(false)
 }

@@ -1,7 +1,9 @@
 //! Keys and places.
 
 use crate::samples::{device, key, target};
+use crate::telling::check;
 use cache_key::{Key, Place, keys_match_requests, keys_told_apart, places_told_apart};
+use std::alloc::{AllocError, Global};
 
 #[test]
 fn a_key_is_shared(rt: HostRuntime) {
@@ -16,20 +18,23 @@ fn another_format_is_another_key_of_the_place(rt: HostRuntime) {
     let target = target(alloc, "t").expect(&rt, "memory");
     let any = Key::of(alloc, device(), &target, None).expect(&rt, "memory");
     let text = Key::of(alloc, device(), &target, Some(0)).expect(&rt, "memory");
-    assert!(rt; !any.is_same(&text));
-    assert!(rt; any.place().is_same(text.place()));
+    check(&rt, "the keys", !any.is_same(&text));
+    check(&rt, "the place", any.place().is_same(text.place()));
     keys_told_apart();
     keys_match_requests();
 }
 
+/// The place of a target of the device.
+fn place(alloc: Global, segment: &str) -> Result<Place, AllocError> {
+    Place::of(device(), &target(alloc, segment)?)
+}
+
 #[test]
 fn another_path_is_another_place(rt: HostRuntime) {
-    let alloc = rt.alloc();
-    let read = target(alloc, "t").expect(&rt, "memory");
-    let written = target(alloc, "u").expect(&rt, "memory");
-    let place = Place::of(device(), &read).expect(&rt, "memory");
-    let other = Place::of(device(), &written).expect(&rt, "memory");
-    assert!(rt; place.is_same(&place.copy().expect(&rt, "memory")));
-    assert!(rt; !place.is_same(&other));
+    let read = place(rt.alloc(), "t").expect(&rt, "memory");
+    let written = place(rt.alloc(), "u").expect(&rt, "memory");
+    let copy = read.copy().expect(&rt, "memory");
+    check(&rt, "a copy", read.is_same(&copy));
+    check(&rt, "another", !read.is_same(&written));
     places_told_apart();
 }

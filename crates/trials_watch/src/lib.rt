@@ -18,4 +18,6 @@ mod numbers;
 #[cfg(test)]
 mod samples;
 #[cfg(test)]
+mod telling;
+#[cfg(test)]
 mod times;

@@ -1,36 +1,64 @@
 //! How many watches may stand.
 
 use crate::samples::{token, watched};
+use crate::telling::check;
 use observe_share::{Watch, WatchFault};
 use std::alloc::Global;
 
 /// Registers a watch under the token that ends so.
 fn register(watch: &mut Watch, alloc: Global, last: u8) -> Result<(), WatchFault> {
-    let Ok(registration) = watched(alloc, "t", last, 0) else {
-        return Err(WatchFault::Memory);
-    };
-    watch.register(registration)
+    match watched(alloc, "t", last, 0) {
+        Ok(registration) => watch.register(registration),
+        Err(_) => Err(WatchFault::Memory),
+    }
+}
+
+/// Registers watches under the tokens that end in 0 to 63.
+fn fill(watch: &mut Watch, alloc: Global) -> Result<(), WatchFault> {
+    for last in 0..64u8 {
+        register(watch, alloc, last)?;
+    }
+    Ok(())
+}
+
+fn is_under(watch: &Watch, last: u8) -> bool {
+    watch.under(&token(last)).is_some()
 }
 
 #[test]
 fn the_sixty_fifth_is_refused(rt: HostRuntime) {
     let alloc = rt.alloc();
     let mut watch = Watch::new(alloc);
-    assert!(rt; watch.is_empty());
-    for last in 0..64u8 {
-        assert!(rt; register(&mut watch, alloc, last).is_ok());
+    check(&rt, "at first", watch.is_empty());
+    check(&rt, "64", fill(&mut watch, alloc) == Ok(()));
+    check(
+        &rt,
+        "one more",
+        register(&mut watch, alloc, 64) == Err(WatchFault::Full),
+    );
+    check(&rt, "they stand", watch.len() == 64);
+    check(&rt, "the last", is_under(&watch, 63));
+    check(&rt, "the refused", !is_under(&watch, 64));
+}
+
+fn fault_is(alloc: Global, fault: WatchFault, words: &str) -> bool {
+    match format!(in alloc; "{fault}") {
+        Ok(text) => text.as_str() == words,
+        Err(_) => false,
     }
-    assert!(rt; register(&mut watch, alloc, 64) == Err(WatchFault::Full));
-    assert!(rt; watch.len() == 64);
-    assert!(rt; watch.under(&token(63)).is_some());
-    assert!(rt; watch.under(&token(64)).is_none());
 }
 
 #[test]
 fn faults_are_told(rt: HostRuntime) {
     let alloc = rt.alloc();
-    let full = format!(in alloc; "{}", WatchFault::Full).expect(&rt, "memory");
-    let memory = format!(in alloc; "{}", WatchFault::Memory).expect(&rt, "memory");
-    assert!(rt; full.as_str() == "64 resources are watched");
-    assert!(rt; memory.as_str() == "out of memory");
+    check(
+        &rt,
+        "full",
+        fault_is(alloc, WatchFault::Full, "64 resources are watched"),
+    );
+    check(
+        &rt,
+        "memory",
+        fault_is(alloc, WatchFault::Memory, "out of memory"),
+    );
 }

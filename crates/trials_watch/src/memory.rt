@@ -2,6 +2,7 @@
 //! one allocation of a run refused, it goes as it would have gone.
 
 use crate::samples::{device, key, target, token, watched};
+use crate::telling::check;
 use cache_key::{Key, Place};
 use observe_share::{Notice, Notified, Registration, Watch, WatchFault};
 use std::alloc::Global;
@@ -78,7 +79,7 @@ fn three_of_six(alloc: Global) -> Option<Watch> {
 fn memory_refused_once(rt: HostRuntime) {
     let watch = three_of_six(rt.alloc()).expect(&rt, "watches");
     let copy = copied(&watch).expect(&rt, "a copy");
-    assert!(rt; watch.len() == 3);
-    assert!(rt; copy.len() == 3);
-    assert!(rt; copy.next_due() == Some(120_000));
+    check(&rt, "the watches", watch.len() == 3);
+    check(&rt, "the copy", copy.len() == 3);
+    check(&rt, "what is due", copy.next_due() == Some(120_000));
 }

@@ -1,25 +1,34 @@
 //! Which of two numbers is the newer (RFC 7641, section 3.4), worked out by hand.
 
+use crate::telling::check;
 use observe_share::{newer, newest_wins};
 
-#[test]
-fn numbers_go_round(rt: HostRuntime) {
-    assert!(rt; newer(16_777_215, 0, 0, 1));
-    assert!(rt; !newer(0, 0, 16_777_215, 1));
+/// A number and when it came, another and when that came, and whether that is newer.
+type Row = (u32, u64, u32, u64, bool);
+
+static ROWS: [Row; 9] = [
+    // They go round.
+    (16_777_215, 0, 0, 1, true),
+    (0, 0, 16_777_215, 1, false),
+    // Half of the numbers is too far.
+    (0, 0, 8_388_607, 1, true),
+    (0, 0, 8_388_608, 1, false),
+    (8_388_608, 0, 0, 1, false),
+    (8_388_609, 0, 0, 1, true),
+    // An equal number counts after 128 s.
+    (5, 0, 5, 128_000, false),
+    (5, 0, 5, 128_001, true),
+    (5, u64::MAX, 5, 0, false),
+];
+
+fn is_row(&(first, came, second, later, is): &Row) -> bool {
+    newer(first, came, second, later) == is
 }
 
 #[test]
-fn half_of_the_numbers_is_too_far(rt: HostRuntime) {
-    assert!(rt; newer(0, 0, 8_388_607, 1));
-    assert!(rt; !newer(0, 0, 8_388_608, 1));
-    assert!(rt; !newer(8_388_608, 0, 0, 1));
-    assert!(rt; newer(8_388_609, 0, 0, 1));
-}
-
-#[test]
-fn an_equal_number_counts_after_128_s(rt: HostRuntime) {
-    assert!(rt; !newer(5, 0, 5, 128_000));
-    assert!(rt; newer(5, 0, 5, 128_001));
-    assert!(rt; !newer(5, u64::MAX, 5, 0));
+fn numbers_are_told_apart(rt: HostRuntime) {
+    for row in &ROWS {
+        check(&rt, row, is_row(row));
+    }
     newest_wins();
 }

@@ -1,6 +1,7 @@
 //! How long a watch stands, and what else ends it.
 
 use crate::samples::{device, key, target, watched};
+use crate::telling::check;
 use cache_key::Place;
 use observe_share::Watch;
 use std::alloc::Global;
@@ -13,28 +14,52 @@ fn two_watches(alloc: Global) -> Option<Watch> {
     Some(watch)
 }
 
+/// So many watches end at this moment, and the next is due then.
+fn ends(watch: &mut Watch, moment: u64, count: usize, due: Option<u64>) -> bool {
+    watch.idle(moment) == count && watch.next_due() == due
+}
+
+/// The key of this segment was asked for at this moment.
+fn touch(watch: &mut Watch, alloc: Global, segment: &str, moment: u64) -> Option<()> {
+    watch.touched(&key(alloc, segment).ok()?, moment);
+    Some(())
+}
+
 #[test]
 fn a_watch_stands_for_two_minutes(rt: HostRuntime) {
     let alloc = rt.alloc();
     let mut watch = two_watches(alloc).expect(&rt, "memory");
-    watch.touched(&key(alloc, "u").expect(&rt, "memory"), 5000);
-    assert!(rt; watch.next_due() == Some(120_000));
-    assert!(rt; watch.idle(119_999) == 0);
-    assert!(rt; watch.idle(120_000) == 1);
-    assert!(rt; watch.next_due() == Some(125_000));
-    assert!(rt; watch.idle(125_000) == 1);
-    assert!(rt; watch.next_due().is_none());
+    check(
+        &rt,
+        "touched",
+        touch(&mut watch, alloc, "u", 5000).is_some(),
+    );
+    check(&rt, 0, watch.next_due() == Some(120_000));
+    check(&rt, 119_999, ends(&mut watch, 119_999, 0, Some(120_000)));
+    check(&rt, 120_000, ends(&mut watch, 120_000, 1, Some(125_000)));
+    check(&rt, 125_000, ends(&mut watch, 125_000, 1, None));
 }
 
 #[test]
 fn a_watch_of_the_last_moments_is_never_due(rt: HostRuntime) {
     let alloc = rt.alloc();
     let mut watch = two_watches(alloc).expect(&rt, "memory");
-    watch.touched(&key(alloc, "t").expect(&rt, "memory"), u64::MAX);
-    watch.touched(&key(alloc, "u").expect(&rt, "memory"), u64::MAX - 120_000);
-    assert!(rt; watch.next_due() == Some(u64::MAX));
-    assert!(rt; watch.idle(u64::MAX) == 1);
-    assert!(rt; watch.next_due().is_none());
+    let t = touch(&mut watch, alloc, "t", u64::MAX);
+    let u = touch(&mut watch, alloc, "u", u64::MAX - 120_000);
+    check(&rt, "touched", t.is_some() && u.is_some());
+    check(&rt, "the first", watch.next_due() == Some(u64::MAX));
+    check(&rt, "the last", ends(&mut watch, u64::MAX, 1, None));
+}
+
+fn forget(watch: &mut Watch, alloc: Global, segment: &str) -> Option<()> {
+    watch.forget(&key(alloc, segment).ok()?);
+    Some(())
+}
+
+fn retire(watch: &mut Watch, alloc: Global, segment: &str) -> Option<()> {
+    let written = target(alloc, segment).ok()?;
+    watch.retire(&Place::of(device(), &written).ok()?);
+    Some(())
 }
 
 #[test]
@@ -42,10 +67,9 @@ fn a_write_and_an_ask_end_watches(rt: HostRuntime) {
     let alloc = rt.alloc();
     let mut watch = two_watches(alloc).expect(&rt, "memory");
     let before = watch.copy().expect(&rt, "memory");
-    watch.forget(&key(alloc, "t").expect(&rt, "memory"));
-    assert!(rt; watch.len() == 1);
-    let written = target(alloc, "u").expect(&rt, "memory");
-    watch.retire(&Place::of(device(), &written).expect(&rt, "memory"));
-    assert!(rt; watch.is_empty());
-    assert!(rt; before.len() == 2);
+    check(&rt, "an ask", forget(&mut watch, alloc, "t").is_some());
+    check(&rt, "one is left", watch.len() == 1);
+    check(&rt, "a write", retire(&mut watch, alloc, "u").is_some());
+    check(&rt, "none is left", watch.is_empty());
+    check(&rt, "the copy", before.len() == 2);
 }
