@@ -23,13 +23,25 @@ use uri_map::Peer;
 
 /// A request with its meaning, and with what is wanted of its answer. Its type keeps that these are the
 /// request's mapping under the settings, and that the request counts at most 2 MiB.
-#[derive(Drop)]
 pub struct Mapped<R: Relation> {
     came: Incoming,
     meaning: Meaning,
     wanted: Option<Wanted>,
     settings: Arc<Settings>,
     relation: PhantomData<R>,
+}
+
+/// As derived; but written here, how all that it has is dropped is proved in this crate alone.
+impl<R: Relation> Drop for Mapped<R> {
+    fn drop(self) {
+        let Mapped {
+            came: _,
+            meaning: _,
+            wanted: _,
+            settings: _,
+            relation: _,
+        } = self;
+    }
 }
 
 impl<R: Relation> Model for Mapped<R> {

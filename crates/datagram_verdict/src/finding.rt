@@ -25,10 +25,19 @@ pub enum Outcome {
 }
 
 /// What an ask came to, with its grounds. Its type keeps that they fit.
-#[derive(Drop)]
 pub struct Finding {
     outcome: Outcome,
     grounds: Grounds,
+}
+
+/// As derived; but written here, how all that it has is dropped is proved in this crate alone.
+impl Drop for Finding {
+    fn drop(self) {
+        let Finding {
+            outcome: _,
+            grounds: _,
+        } = self;
+    }
 }
 
 impl Model for Finding {

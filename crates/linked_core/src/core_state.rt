@@ -38,10 +38,16 @@ use uri_map::Peer;
 /// A proxy's journal, what is open, and what isn't taken yet. Its type keeps that one reading of the
 /// journal is legal and at rest, that what is kept is what that reading says, and that room is held
 /// free for what has to come.
-#[derive(Drop)]
 pub struct Core<R: Relation> {
     alloc: Global,
     state: State<R>,
+}
+
+/// As derived; but written here, how all that it has is dropped is proved in this crate alone.
+impl<R: Relation> Drop for Core<R> {
+    fn drop(self) {
+        let Core { alloc: _, state: _ } = self;
+    }
 }
 
 impl<R: Relation> Model for Core<R> {
