@@ -26,8 +26,8 @@ fn are_read(alloc: Global) -> Result<bool, SetupFault> {
 /// The same, once more where memory was refused.
 fn are_read_again(alloc: Global) -> bool {
     match are_read(alloc) {
-        Err(SetupFault::Memory) => are_read(alloc) == Ok(true),
-        read => read == Ok(true),
+        Err(SetupFault::Memory) => are_read(alloc).unwrap_or(false),
+        read => read.unwrap_or(false),
     }
 }
 
