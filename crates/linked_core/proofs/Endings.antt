@@ -2,6 +2,7 @@
 use Rattle.std.proofs.Common.{◌≡◌, ℕ, ◌+◌, cond, Bool, true, false, List, [], ◌∷◌, ◌++◌, length, map, Some, refl, sym, ap, subst, ◌∙◌, append_assoc, length-append}
 use Rattle.std.specs.Prelude.{slice_get, fold}
 use Rattle.std.specs.List.{AllByRecursion, list_any}
+use Rattle.std.proofs.lemmas.List.{append_cancel_left}
 use Rattle.ask_model.specs.Requests.{Sense, Requests}
 use Rattle.ask_model.specs.Views.{Ask}
 use Rattle.journal_book.specs.Entries.{Deed, Asks, Answers, Written}
@@ -142,10 +143,6 @@ late-end h more t (e ∷ es) a =
     (record { opened = a.0; found = refl; counts = refl }, late-end h more t es a.1)
 
 -- What leads to the state that some deeds leave has drafted just these.
-same-rest : {X : Type 0} (xs ys zs : List X) → xs ++ ys ≡ xs ++ zs → ys ≡ zs
-same-rest [] ys zs e = e
-same-rest (x ∷ xs) ys zs e = same-rest xs ys zs cc
-
 same-deeds : (t : ℕ) (ds es : List Deed) → map (written t) ds ≡ map (written t) es → ds ≡ es
 same-deeds t [] [] e = refl
 same-deeds t [] (x ∷ es) e = absurd cc
@@ -163,4 +160,4 @@ leads-drafts t S ds d h =
     sym (entered-entries t h.deeds S) ∙ ap (λ (V : State). V.entries) h.is
     ∙ entered-entries t ds S in
     subst (λ (es : List Deed). Drafts t S es d)
-    (same-deeds t h.deeds ds (same-rest S.entries _ _ all)) h.drafts
+    (same-deeds t h.deeds ds (append_cancel_left S.entries _ _ all)) h.drafts
