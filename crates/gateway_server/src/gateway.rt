@@ -5,8 +5,9 @@ ghost use Rattle.std.specs.Prelude.{◌≡◌, ◌-◌, ◌^◌};
 use crate::ports::Ports;
 use crate::shared::Shared;
 use ask_model::Settings;
-use front_desk::{LockedDesk, Pass, Shop};
-use linked_core::OpenFault;
+use exchange_core::OpenFault;
+use gateway_desk::{LockedDesk, Pass, Shop};
+use gateway_system::SystemClock;
 use log::{Log, info, warn};
 use route_bank::Profile;
 use server_faults::ServeFault;
@@ -20,7 +21,6 @@ use std::sync::ledger::{Blank, Ledger};
 use std::sync::{Arc, Wait};
 use std::thread::{self, Threads};
 use std::time::{Duration, Instant};
-use system_io::SystemClock;
 
 /// How long nothing is taken after a connection couldn't be, in milliseconds.
 const PAUSE: u64 = 50;

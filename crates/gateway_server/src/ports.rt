@@ -1,9 +1,9 @@
 //! The sockets that clients and devices find the gateway at.
 
+use gateway_system::DeviceSocket;
 use server_faults::ServeFault;
 use std::io;
 use std::net::{Net, SocketAddr, TcpListener, TcpStream};
-use system_io::DeviceSocket;
 
 /// Where connections are taken, and where datagrams go out and come in.
 #[derive(Drop)]

@@ -1,7 +1,8 @@
 //! What the threads of the gateway share.
 
 use ask_model::Settings;
-use front_desk::{LockedDesk, Pass};
+use gateway_desk::{LockedDesk, Pass};
+use gateway_system::{Client, DeviceSocket, SystemClock};
 use log::{Log, info, warn};
 use route_bank::{Profile, store_for};
 use sessions::{End, Open, serve};
@@ -12,7 +13,6 @@ use std::rt::Clock;
 use std::sync::atomic::{AtomicBool, Ordering};
 use std::sync::ledger::Ledger;
 use std::sync::{Arc, Wait};
-use system_io::{Client, DeviceSocket, SystemClock};
 use transformers::{Bank, Stored};
 
 /// What the threads of the gateway share.

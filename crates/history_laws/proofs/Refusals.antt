@@ -14,7 +14,7 @@ use Rattle.ask_model.specs.declared.cause.Cause.{Cause}
 use Rattle.ask_model.specs.Requests.{Came, Whole, Bad, Refuses}
 use Rattle.ask_model.specs.Views.{Rules}
 use Rattle.ask_model.specs.Maps.{Maps, MapsMethod, MapsWrite, MapsTarget, MapsPeer, MapsBody, IsUnsent, Typing, typing_of, carried, is_refused_write}
-use Rattle.history_laws.specs.Justified.{IsRefusal}
+use Rattle.history_laws.specs.Causes.{IsRefusal}
 
 same-cause : (c d : Cause) (s t : ℕ) → Refuses c s ≡ Refuses d t → c ≡ d
 same-cause c d s t e = cc

@@ -1,33 +1,35 @@
 -- Which ACK or RST a datagram is answered by (RFC 7252 sections 4.2, 4.3, 4.5).
-use Rattle.std.specs.Prelude.{ℕ, ◌+◌, ◌*◌, ◌/◌, Bool, not, ◌&&◌, List, [], ◌∷◌, Option, Some, None, ◌==◌, if◌then◌else◌}
+use Rattle.std.specs.Prelude.{List, [], ◌∷◌, Option, Some, None, is_some, ◌==◌}
 use Rattle.coap_codec.specs.declared.message.MsgType.{MsgType}
-use Rattle.coap_codec.specs.declared.message.MsgType.TheVariants.{Con, Non, Ack, Rst}
-use Rattle.coap_codec.specs.Spelling.{Content}
-use Rattle.uri_map.specs.declared.peer.Peer.{Peer}
+use Rattle.coap_codec.specs.declared.message.MsgType.TheVariants.{Con}
+use Rattle.coap_codec.specs.Recognition.{is_rejected}
+use Rattle.journal_book.specs.Entries.{Deed, Hears}
+use Rattle.history_laws.specs.Confirmations.{answer_by, Confirmation, given, rejects_bytes}
+use Rattle.history_laws.specs.Readings.{Noted, Note, Says, Repeats, Garbled, at}
 
--- an empty message (RFC 7252 section 4.1)
-abbrev pub empty : MsgType → ℕ → Content
-empty kind mid = record { kind = kind; code = 0; mid = mid; token = []; options = []; payload = [] }
+-- The kind of the message that answers what repeats no other: a CON is acknowledged where it answers
+-- a first sending and can be processed.
+abbrev pub answered : Note → Option MsgType
+answered (Says m to notice) = answer_by m.kind (is_some to) (is_rejected m) (m.code == 0)
+answered _ = None
 
--- The kind of the message that answers one that is no repeat. A CON is acknowledged where it is a response
--- that is matched, and rejected by a RST where it is any other message or can't be processed; a NON is
--- rejected likewise, but for an empty one.
-abbrev pub answer_by : MsgType → Bool → Bool → Bool → Option MsgType
-answer_by Con matched rejected vain = if matched && not rejected then Some Ack else Some Rst
-answer_by Non matched rejected vain = if matched then (if rejected then Some Rst else None) else (if vain then None else Some Rst)
-answer_by _ matched rejected vain = None
+abbrev pub answered_as : Option Noted → Option MsgType
+answered_as None = None
+answered_as (Some x) = answered x.note
 
--- what is given: to whom, of which kind, and with which ID
-pub record Confirmation : Type 0 where
-  pub peer : Peer
-  pub kind : MsgType
-  pub mid : ℕ
+-- A repeated CON is answered as the message that it repeats was, and a repeated NON not at all.
+abbrev pub answered_again : MsgType → Option MsgType → Option MsgType
+answered_again Con first = first
+answered_again _ first = None
 
-abbrev pub given : Peer → ℕ → Option MsgType → Option Confirmation
-given p mid None = None
-given p mid (Some kind) = Some (record { peer = p; kind = kind; mid = mid })
+-- what the datagram, heard after this history, asks for
+abbrev pub owed_by : List Noted → Deed → Note → Option Confirmation
+owed_by l (Hears p b) (Says m to notice) = given p m.mid (answered (Says m to notice))
+owed_by l (Hears p b) (Repeats m j) = given p m.mid (answered_again m.kind (answered_as (at l j)))
+owed_by l (Hears p b) Garbled = rejects_bytes p b
+owed_by l _ _ = None
 
--- A datagram that is no message, but begins as a CON does, is rejected (RFC 7252 section 4.2).
-abbrev pub rejects_bytes : Peer → List ℕ → Option Confirmation
-rejects_bytes p (first ∷ code ∷ high ∷ low ∷ more) = if first / 16 == 4 then given p (256 * high + low) (Some Rst) else None
-rejects_bytes p _ = None
+-- what the newest entry asks for
+abbrev pub owed : List Noted → Option Confirmation
+owed [] = None
+owed (x ∷ older) = owed_by older x.written.deed x.note

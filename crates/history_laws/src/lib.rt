@@ -1,6 +1,24 @@
-//! Words that a history and a core share: what a response says and when replies are one whole response
-//! (RFC 7252 section 5.10, RFC 7959), which ACK or RST answers a datagram (RFC 7252 section 4), the limits
-//! of a journal, which causes refuse a request, and the number that a token bears.
+//! What makes the whole history of a proxy justified, with its messages on their way: copies, one
+//! outstanding message a peer, message IDs, repeats (RFC 7252 section 4).
 //!
-//! The definitions stand in `specs/`; what a history is stands in `whole_history`.
+//! A history is a list of entries, each with its moment. A reading gives each entry a note, which says
+//! what the entry is: the request of an exchange, whose message is sent, what a datagram answers or
+//! repeats. A history is justified if some reading is legal, that is, if each of its entries may follow
+//! the ones before it, and an input comes only where all that was due is done.
+//!
+//! The definitions stand in `specs/`, to be read in this order. What a history and a core share:
+//! `Responses`, when replies are one whole response, and what it says (RFC 7252 section 5.10, RFC 7959);
+//! `Confirmations`, which ACK or RST answers a datagram; `Causes`, which causes refuse a request;
+//! `Numbering`, the number that a token bears. What a history is: `Readings`, `Connections`, `Progress`,
+//! `Transmissions`, `Exchanges`, `Hearing`, `Confirming`, `Sealing`, `Justified`; then the worked journals,
+//! and `Laws`, which says what follows.
 #![tactic(auto)]
+
+mod laws;
+mod worked;
+
+pub use laws::{
+    answered_in_order, asked_once, one_outstanding, open_exactly, replies_fit, rests_on_its_own,
+    sendings_apart,
+};
+pub use worked::{spoiled_answers, spoiled_sendings, worked_endings, worked_messages};

@@ -6,7 +6,7 @@ use Rattle.journal_book.specs.Entries.{Fault}
 use Rattle.ask_model.specs.Views.{Mapping}
 use Rattle.media_map.specs.declared.form.Form.{Form}
 use Rattle.history_laws.specs.Responses.{Response}
-use Rattle.datagram_verdict.specs.Findings.{Found, Tells as TellsOf, Fails}
+use Rattle.reply_reading.specs.Findings.{Found, Tells as TellsOf, Fails}
 use Rattle.http_mapping.specs.Means.{Means, MeansWhole, Tells, last_reply}
 
 pub tells_means : {E : Type 0} (routes : List (Form × Form)) (holds : Form → Form → List ℕ → List ℕ → Type 0) (takes : Form → Form → List ℕ → Type 0) (m : Mapping) (f : Found) (age : ℕ) (cause : Cause) (n : ℕ) (r : Result HttpAnswer E)

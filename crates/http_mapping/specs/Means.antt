@@ -25,7 +25,7 @@ use Rattle.ask_model.specs.Views.{Mapping}
 use Rattle.ask_model.specs.Maps.{wanted_of}
 use Rattle.journal_book.specs.Entries.{Grounds, Live, Kept, Fault}
 use Rattle.history_laws.specs.Responses.{Response}
-use Rattle.datagram_verdict.specs.Findings.{Found, Told, Tells as TellsOf, Fails}
+use Rattle.reply_reading.specs.Findings.{Found, Told, Tells as TellsOf, Fails}
 use Rattle.http_mapping.specs.Located.{located}
 
 -- fields as names and values

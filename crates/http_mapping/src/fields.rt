@@ -5,15 +5,15 @@ ghost use Rattle.std.specs.Str.{is_utf8};
 ghost use Rattle.http_mapping.specs.Means.{pair_of, only, content_type, cache_control, entity_tag, is_read, caching, value_if, retry_after, connection, content_length, closes as closing, seconds_left as left_of};
 ghost use Rattle.ask_model.specs.Causes.{cause_text};
 ghost use Rattle.ask_model.specs.Views.{came_of};
-ghost use Rattle.datagram_verdict.specs.Findings.{response_of};
+ghost use Rattle.reply_reading.specs.Findings.{response_of};
 ghost use Rattle.http_mapping.specs.Located.{located};
 
 use crate::location::location_of;
 use ask_model::{Cause, Mapped};
 use code_map::{Method, Status, method_of};
-use datagram_verdict::Response;
 use http_edge::{Field, Incoming, Memory};
 use media_map::{Media, media_of};
+use reply_reading::Response;
 use std::alloc::Global;
 use std::str;
 use transformers::Relation;

@@ -2,7 +2,7 @@
 //!
 //! Its one contract: `map_request` gives a request the one meaning that `Maps` allows, and `render` an HTTP
 //! response that tells the answer as `Means` says, field by field. The proxy's inputs and outputs
-//! (`linked_world`) stand on it.
+//! (`gateway_world`) stand on it.
 #![tactic(auto)]
 
 mod applying;

@@ -4,13 +4,13 @@ ghost use Rattle.std.specs.Prelude.{◌≡◌, IfOk, option_map, is_ok, true};
 ghost use Rattle.std.specs.List.{list_all};
 ghost use Rattle.std.specs.Str.{is_utf8};
 ghost use Rattle.uri_map.specs.Naming.{target_at};
-ghost use Rattle.datagram_verdict.specs.Findings.{response_of};
+ghost use Rattle.reply_reading.specs.Findings.{response_of};
 ghost use Rattle.http_mapping.specs.Located as spec;
 
 use crate::fields::is_text;
 use ask_model::{Bytes, Mapped, Meaning};
-use datagram_verdict::Response;
 use http_edge::Memory;
+use reply_reading::Response;
 use std::alloc::Global;
 use std::str::from_utf8;
 use transformers::Relation;

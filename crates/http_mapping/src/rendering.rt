@@ -5,7 +5,7 @@ ghost use Rattle.http_edge.specs.Answers.{body_bytes};
 ghost use Rattle.ask_model.specs.Views.{came_of, sense_of};
 ghost use Rattle.journal_book.specs.Entries.{Fault};
 ghost use Rattle.ask_model.specs.declared.cause.Cause.{Cause as Causes};
-ghost use Rattle.datagram_verdict.specs.Findings.{response_of, Fits, Fails};
+ghost use Rattle.reply_reading.specs.Findings.{response_of, Fits, Fails};
 ghost use Rattle.transformers.specs.Keeps.{AllKeep, pair_of as forms_of};
 ghost use Rattle.http_mapping.specs.Means.{Means, MeansWhole, Shows, Tells, IsOwn, pair_of, last_reply as last_in, is_head as head, told_status, failure_status as failed};
 
@@ -16,9 +16,9 @@ use crate::fields::{
 use crate::showing::{Showing, showing_of};
 use ask_model::{Cause, Mapped, Meaning};
 use code_map::{Method, Status, method_of, phrase_of, status_of};
-use datagram_verdict::{Finding, Outcome, Response};
 use http_edge::{Body, Field, HttpAnswer, Incoming, Memory};
 use journal_book::Grounds;
+use reply_reading::{Finding, Outcome, Response};
 use std::alloc::Global;
 use transformers::{Bank, Relation};
 

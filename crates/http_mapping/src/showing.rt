@@ -3,14 +3,14 @@
 ghost use Rattle.std.specs.Prelude.{◌≡◌, ◌==◌, length, map, false, Some, IfOk};
 ghost use Rattle.transformers.specs.Keeps.{AllKeep, pair_of};
 ghost use Rattle.ask_model.specs.Maps.{wanted_of};
-ghost use Rattle.datagram_verdict.specs.Findings.{response_of};
+ghost use Rattle.reply_reading.specs.Findings.{response_of};
 ghost use Rattle.http_mapping.specs.Showings.{IsShowing};
 
 use crate::applying::{Made, applied};
 use ask_model::Mapped;
-use datagram_verdict::Response;
 use http_edge::Memory;
 use media_map::{Form, Media, Wanted};
+use reply_reading::Response;
 use transformers::{Bank, Relation};
 
 /// What becomes of a body.

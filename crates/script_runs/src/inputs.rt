@@ -1,7 +1,7 @@
 //! The inputs that lines give.
 
 use command_line::{Event, Line};
-use linked_world::{Happening, Input};
+use gateway_world::{Happening, Input};
 
 /// The input that a line gives.
 pub fn input_of(line: &Line) -> Input<'_> {

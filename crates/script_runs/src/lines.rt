@@ -1,9 +1,9 @@
 //! The lines that tell of outputs and of entries.
 
 use command_line::ReplayFault;
+use gateway_world::Output;
 use http_edge::Incoming;
 use journal_book::{Entry, Event, Grounds};
-use linked_world::Output;
 use std::alloc::Global;
 use std::io::{self, Write};
 use transformers::Relation;

@@ -11,7 +11,7 @@ use Rattle.http_edge.proofs.Readings.{first_on}
 use Rattle.ask_model.specs.Requests.{Came, Sense}
 use Rattle.ask_model.specs.Views.{came_of, Mapping}
 use Rattle.http_mapping.specs.Limits.{limited}
-use Rattle.front_desk.specs.Lines.{Line, Slip, made, got, told}
+use Rattle.gateway_desk.specs.Lines.{Line, Slip, made, got, told}
 use Rattle.sessions.specs.Devices.{Grown}
 use Rattle.sessions.specs.Asking.{came_at, AreAsksOf, IsReadOut, AsksFirst, AsksAll, AsksSoFar, IsAskOf, IsAnswered, MayBeAsked, TakesMore}
 use Rattle.sessions.proofs.Joining.{grown_join, grown_none, two_more}

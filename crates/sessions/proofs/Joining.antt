@@ -5,8 +5,8 @@ use Rattle.std.proofs.lemmas.Grind.{flat_map-append}
 use Rattle.std.proofs.lemmas.List.{append-nil, append_assoc}
 use Rattle.std.proofs.lemmas.List.Elements.{All-append}
 use Rattle.http_edge.specs.declared.answer.HttpAnswer.{HttpAnswer}
-use Rattle.linked_core.specs.Answering.{Given}
-use Rattle.front_desk.specs.Lines.{Line, Slip, made, got, told}
+use Rattle.exchange_core.specs.Answering.{Given}
+use Rattle.gateway_desk.specs.Lines.{Line, Slip, made, got, told}
 use Rattle.sessions.specs.Devices.{Grown}
 use Rattle.sessions.specs.Telling.{continue_text, MayGoOn, SaysAnswer, Piece, interim, final, IsPiece, bytes_in, said_in, AreTurns, given_by, Serves, ServesMost}
 

@@ -6,7 +6,7 @@ use Rattle.http_edge.specs.Reading.{Item, asked, bad, HasNone, ReadsFirst, close
 use Rattle.ask_model.specs.Requests.{Came, Whole, Bad, Sense}
 use Rattle.ask_model.specs.Views.{Mapping}
 use Rattle.http_mapping.specs.Limits.{limited}
-use Rattle.front_desk.specs.Lines.{Line, Slip, made, got}
+use Rattle.gateway_desk.specs.Lines.{Line, Slip, made, got}
 use Rattle.sessions.specs.Devices.{Grown}
 
 -- what an item of a text brings: a request, too large a one, or bytes that are none

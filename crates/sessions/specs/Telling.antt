@@ -5,8 +5,8 @@ use Rattle.http_edge.specs.Answers.{answer_text}
 use Rattle.http_edge.specs.declared.answer.HttpAnswer.{HttpAnswer}
 use Rattle.media_map.specs.declared.form.Form.{Form}
 use Rattle.ask_model.specs.Views.{Rules}
-use Rattle.linked_core.specs.Answering.{Given}
-use Rattle.front_desk.specs.Lines.{Line, made, got}
+use Rattle.exchange_core.specs.Answering.{Given}
+use Rattle.gateway_desk.specs.Lines.{Line, made, got}
 use Rattle.http_mapping.specs.Means.{Means}
 use Rattle.sessions.specs.Devices.{Grown, GrownPartly}
 

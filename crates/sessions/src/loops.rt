@@ -1,7 +1,7 @@
 //! The loops beside the sessions.
 
 use crate::devices::Wire;
-use front_desk::{Clock, LockedDesk};
+use gateway_desk::{Clock, LockedDesk};
 use std::alloc::Global;
 use std::sync::Wait;
 use std::sync::ledger::Ledger;

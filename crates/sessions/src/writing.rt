@@ -4,14 +4,14 @@ ghost use Rattle.std.specs.Prelude.{◌≡◌, [], IfOk, OnOk, OnErr};
 ghost use Rattle.transformers.specs.Keeps.{AllKeep};
 ghost use Rattle.transformers.specs.Suits.{Suits};
 ghost use Rattle.ask_model.specs.Views.{Rules};
-ghost use Rattle.linked_core.specs.Answering.{given_of};
+ghost use Rattle.exchange_core.specs.Answering.{given_of};
 ghost use Rattle.sessions.specs.Devices.{Rises, Grown};
 ghost use Rattle.sessions.specs.Telling.{IsPartly, MeansGiven, SaysAnswer, continue_text};
 
 use crate::devices::{Failed, Stream};
+use exchange_core::Answer;
 use http_edge::{Memory, answer_bytes};
 use http_mapping::render;
-use linked_core::Answer;
 use std::alloc::Global;
 use transformers::{Bank, Relation};
 

@@ -8,7 +8,7 @@ ghost use Rattle.transformers.specs.Suits.{Suits};
 use crate::row_tests::{BOTH_LATE, COPIED, EXPECT, LAST, PIPELINED, Row};
 use ask_model::Settings;
 use command_line::{Line, LineFault, ReplayFault, demonstration, line_of};
-use linked_world::{Output, World, WorldFault};
+use gateway_world::{Output, World, WorldFault};
 use route_bank::{Profile, store_for};
 use script_runs::{input_of, write_output};
 use std::alloc::Global;

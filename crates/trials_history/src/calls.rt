@@ -2,8 +2,8 @@
 
 use crate::sample::{Nothing, light, server, shared, too_large};
 use ask_model::Cause;
+use exchange_core::{Answer, AskFault, Core, OpenFault, Outcome, Ticket};
 use journal_book::Event;
-use linked_core::{Answer, AskFault, Core, OpenFault, Outcome, Ticket};
 use std::alloc::Global;
 
 pub fn new_core(alloc: Global) -> Option<Core<Nothing>> {

@@ -7,7 +7,7 @@ use crate::calls::{
 };
 use crate::sample::Nothing;
 use ask_model::Cause;
-use linked_core::{AskFault, Core, OpenFault, Ticket};
+use exchange_core::{AskFault, Core, OpenFault, Ticket};
 use std::alloc::Global;
 
 /// The datagram that carries the first ask.

@@ -2,8 +2,8 @@
 
 use ask_model::Cause;
 use coap_codec::decode;
-use datagram_verdict::{Finding, Outcome, Response, finding_of};
 use journal_book::Grounds;
+use reply_reading::{Finding, Outcome, Response, finding_of};
 use std::alloc::Global;
 
 /// What the datagram makes known as the only reply, which the entry with the number 4 bears.

@@ -1,7 +1,7 @@
 //! A client, its connection, its gate and the clock, in memory.
 
 use crate::device::Device;
-use front_desk::Clock;
+use gateway_desk::Clock;
 use sessions::{End, Failed, Gate, Point, Stream};
 
 /// A client: what it sends, piece by piece, where its session is held, and what becomes of it.

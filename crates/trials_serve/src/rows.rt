@@ -2,7 +2,7 @@
 
 use crate::client::Client;
 use crate::device::{ACK, Manner};
-use front_desk::Report;
+use gateway_desk::Report;
 use sessions::{End, Point};
 
 /// Clients of two threads, and what one journal settles in the end.

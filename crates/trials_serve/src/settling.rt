@@ -5,10 +5,10 @@ ghost use Rattle.std.specs.Prelude.{◌≡◌, ◌-◌, ◌^◌, ◌<◌, IfSome
 use crate::sample::{Nothing, shared_settings};
 use crate::threads::{Counter, new_desk};
 use ask_model::Mapped;
-use front_desk::{Pass, Receipt, SettleFault, settle};
+use exchange_core::Ticket;
+use gateway_desk::{Pass, Receipt, SettleFault, settle};
 use http_edge::{BadKind, Incoming};
 use http_mapping::map_request;
-use linked_core::Ticket;
 use std::alloc::Global;
 use std::marker::Brand;
 use std::sync::ledger::{Blank, Ledger};

@@ -9,7 +9,7 @@ use crate::device::Device;
 use crate::rows::{Trial, crossed, held, late, lost, shut, told};
 use crate::sample::{Nothing, shared_settings};
 use ask_model::Settings;
-use front_desk::{LockedDesk, Note, Pass, Shop, settle};
+use gateway_desk::{LockedDesk, Note, Pass, Shop, settle};
 use sessions::{Done, serve, tick_loop, udp_loop};
 use std::alloc::Global;
 use std::marker::Brand;

@@ -1,7 +1,7 @@
 //! What a run may get wrong.
 
 use coap_codec::CodecFault;
-use linked_world::WorldFault;
+use gateway_world::WorldFault;
 use std::alloc::{AllocError, AllocFailed};
 
 /// What a run got wrong, or why it wasn't made.

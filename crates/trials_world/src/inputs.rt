@@ -1,6 +1,6 @@
 //! Inputs of a world, before they are given.
 
-use linked_world::{Happening, Input};
+use gateway_world::{Happening, Input};
 use std::alloc::{AllocError, Global};
 use uri_map::Peer;
 

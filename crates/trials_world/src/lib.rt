@@ -1,4 +1,4 @@
-//! Trials of `linked_world`, by its public calls: random scripts.
+//! Trials of `gateway_world`, by its public calls: random scripts.
 //!
 //! A script has pieces of requests cut anywhere, and replies lost, repeated, reordered, late, flawed or of
 //! somebody else. What comes out has to be what the clients and devices of the script make it, and what a model of the

@@ -8,7 +8,7 @@ use crate::faults::Fault;
 use crate::inputs::{Event, Line};
 use crate::telling::{is_own, is_shown};
 use coap_codec::{Message, MsgType, decode};
-use linked_world::Output;
+use gateway_world::Output;
 use std::alloc::Global;
 use uri_map::Peer;
 

@@ -12,7 +12,7 @@ use crate::records::is_recorded;
 use crate::runs::Run;
 use crate::settings::two_devices;
 use ask_model::Settings;
-use linked_world::World;
+use gateway_world::World;
 use route_bank::{Profile, store_for};
 use std::alloc::{AllocError, Global};
 use std::ops::Range;

@@ -2,7 +2,7 @@ use Rattle.std.proofs.Common.{◌≡◌, true, false, ◌==◌, nat_le, length, 
 use Rattle.std.proofs.lemmas.Bool.{le-leb}
 use Rattle.std.specs.Str.{is_utf8}
 use Rattle.media_map.specs.Formats.{media_text}
-use Rattle.datagram_verdict.specs.Findings.{response_of}
+use Rattle.reply_reading.specs.Findings.{response_of}
 use Rattle.http_mapping.proofs.Rules.{content_type_of_format, content_type_of_text}
 use Rattle.http_mapping.proofs.fields.add_content_type.Goals as goal
 

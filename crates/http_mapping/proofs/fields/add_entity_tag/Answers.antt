@@ -1,6 +1,6 @@
 use Rattle.std.proofs.Common.{◌≡◌, ◌∷◌, ◌++◌, [], string_bytes}
 use Rattle.hex.specs.Hex.{encode_lower}
-use Rattle.datagram_verdict.specs.Findings.{response_of}
+use Rattle.reply_reading.specs.Findings.{response_of}
 use Rattle.http_mapping.proofs.Rules.{entity_tag_of}
 use Rattle.http_mapping.proofs.fields.add_entity_tag.Goals as goal
 

@@ -1,5 +1,5 @@
 use Rattle.std.proofs.Common.{◌≡◌, ◌++◌, codes, decimal, string_bytes}
-use Rattle.datagram_verdict.specs.Findings.{response_of}
+use Rattle.reply_reading.specs.Findings.{response_of}
 use Rattle.http_mapping.specs.Means.{seconds_left}
 use Rattle.http_mapping.proofs.Rules.{cache_control_of}
 use Rattle.http_mapping.proofs.fields.add_freshness.Goals as goal

@@ -1,6 +1,6 @@
 -- An error of the proxy's own is told with its cause, and with the number that its grounds name.
 use Rattle.std.proofs.Common.{◌≡◌, sym}
-use Rattle.datagram_verdict.specs.Findings.{Fails, Tells, response_of}
+use Rattle.reply_reading.specs.Findings.{Fails, Tells, response_of}
 use Rattle.http_mapping.proofs.Faults.{tells_means, whole_means}
 use Rattle.http_mapping.proofs.rendering.render.Goals as goal
 

@@ -1,5 +1,5 @@
 -- What the bank makes of the body tells what becomes of it.
-use Rattle.datagram_verdict.specs.Findings.{response_of}
+use Rattle.reply_reading.specs.Findings.{response_of}
 use Rattle.http_mapping.proofs.Applies.{made_bytes, made_nothing, made_failed}
 use Rattle.http_mapping.proofs.Shown.{shows_same, shows_other, shows_failed}
 use Rattle.http_mapping.proofs.showing.showing_along.Goals as goal

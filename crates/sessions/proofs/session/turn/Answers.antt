@@ -3,7 +3,7 @@ use Rattle.std.proofs.Common.{ℕ, inl, inr, refl, subst, ◌∙◌}
 use Rattle.std.specs.Arc.{arc_value}
 use Rattle.http_edge.specs.Edges.{item}
 use Rattle.ask_model.specs.Views.{rules_of}
-use Rattle.front_desk.specs.Lines.{slip_of}
+use Rattle.gateway_desk.specs.Lines.{slip_of}
 use Rattle.sessions.proofs.AskedItems.{ask_of, is_answered}
 use Rattle.sessions.specs.Devices.{Rises}
 use Rattle.sessions.proofs.Ends.{some_no_none, none_no_some, write_no_read, held_no_read, write_no_held, held_no_write, memory_other, sealed_other, closed_other}

@@ -1,5 +1,5 @@
 use Rattle.std.proofs.Common.{ap}
-use Rattle.linked_core.specs.Values.{CoreValue}
+use Rattle.exchange_core.specs.Values.{CoreValue}
 use Rattle.trials_history.proofs.calls.close_and_go_back.Goals as goal
 
 pub restore-requires : goal.restore-requires

@@ -1,8 +1,0 @@
--- So far it is done to those that were passed.
-use Rattle.std.proofs.Common.{◌≡◌, ◌++◌, map, take, drop, vec_len}
-use Rattle.connection_table.specs.Rows.{put_back}
-use Rattle.connection_table.proofs.table.back_all.Given as goal
-
-abbrev pub invariant-each : goal.invariant-each
-invariant-each l =
-    (l.rows.items ≡ map put_back (take l.place l.initial.rows.items) ++ drop l.place l.initial.rows.items) × (vec_len l.rows ≡ vec_len l.initial.rows)

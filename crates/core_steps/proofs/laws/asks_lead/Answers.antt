@@ -1,9 +1,0 @@
-use Rattle.core_steps.proofs.Quiet.{asks-leads}
-use Rattle.core_steps.proofs.Begins.{begins-leads}
-use Rattle.core_steps.proofs.laws.asks_lead.Goals as goal
-
-pub returns-clause-refused : goal.returns-clause-refused
-returns-clause-refused c = asks-leads
-
-pub returns-clause-begins : goal.returns-clause-begins
-returns-clause-begins c = begins-leads

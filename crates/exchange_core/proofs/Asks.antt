@@ -1,0 +1,137 @@
+-- What an ask is answered with.
+use Rattle.std.proofs.Common.{◌≡◌, ◌≢◌, ℕ, ◌/◌, ◌^◌, ◌≤◌, Bool, true, false, inr, List, [], length, Some, None, Result, Ok, Err, refl, sym, subst, ◌∙◌, arith}
+use Rattle.std.specs.Prelude.{IfOk, OnOk, drop}
+use Rattle.std.specs.Arc.{arc_value}
+use Rattle.ask_model.specs.Requests.{CoapRequest, Requests, Refuses}
+use Rattle.ask_model.specs.Views.{Ask, Mapping}
+use Rattle.ask_model.specs.Sizes.{came_size}
+use Rattle.ask_model.specs.declared.cause.Cause.{Cause}
+use Rattle.history_laws.specs.Numbering.{token_number}
+use Rattle.exchange_model.specs.State.{State}
+use Rattle.exchange_model.specs.Resting.{HasConn}
+use Rattle.exchange_model.specs.Calls.{Numbers, has_place, asked}
+use Rattle.exchange_model.specs.Keeping.{IsProper}
+use Rattle.exchange_model.specs.Room.{KeptInRoom}
+use Rattle.exchange_model.specs.Entering.{refusal_deeds, entered_all}
+use Rattle.exchange_model.specs.Sealing.{in_room, asks_in_room}
+use Rattle.exchange_model.proofs.InRoom.{asks-in-room}
+use Rattle.std.specs.Prelude.{◌&&◌, nat_lt}
+use Rattle.std.proofs.lemmas.Bool.{false≢true}
+use Rattle.std.proofs.lemmas.Bool.{ltb-true}
+use Rattle.limits.specs.declared.TheConstants.{MAX_REQUEST_SIZE}
+use Rattle.uri_map.specs.declared.peer.Peer.{Peer}
+use Rattle.ask_model.specs.Requests.{Sense}
+use Rattle.ask_model.specs.Datagrams.{asked_peer}
+use Rattle.ask_model.specs.declared.cause.Cause.TheVariants as C
+use Rattle.history_laws.specs.Causes.{IsRefusal}
+use Rattle.message_layer.specs.Sending.{mids_in_use}
+use Rattle.exchange_model.specs.State.{link_of}
+use Rattle.exchange_model.proofs.Begun.{refusals-enter, busy-enters}
+use Rattle.exchange_core.specs.declared.answer.Ticket.{Ticket}
+use Rattle.exchange_core.specs.declared.fault.AskFault.{AskFault}
+use Rattle.exchange_core.specs.declared.fault.AskFault.TheVariants as F
+use Rattle.exchange_core.specs.Values.{CoreValue, stepped}
+use Rattle.exchange_core.specs.Calls.{AsksSo, IsAsked}
+use Rattle.exchange_core.specs.Refusing.{MayRefuse, HasNoPlace}
+use Rattle.exchange_core.specs.States.{number_in}
+use Rattle.exchange_core.proofs.Sounding.{second-of}
+
+-- an ask that is answered at once, whose message would go under this token
+away : (t word c : ℕ) (a : Ask) (token : List ℕ) (old new : CoreValue)
+    → length token ≡ 8 → token_number token ≡ old.state.issued → token_number (drop 4 token) ≡ word / 2 ^ 32
+    → HasNoPlace t a old.state → HasConn old.state.conns c None
+    → ((n : Numbers) → new ≡ stepped (asks_in_room t c a n old.state) old)
+    → AsksSo t word c a old new
+away t word c a token old new size number random none idle is =
+    let n : Numbers = record { token = token; text = []; word = word } in
+    record {
+      numbers = n;
+      worded = record { word_is = refl; token_size = size; number = number; random = random };
+      spelled = λ q s p. absurd (none q s p);
+      idle = idle;
+      is = is n;
+    }
+
+pub turned-away : {R : Type 0} (r : Result (Ticket R) AskFault) (t word c : ℕ) (a : Ask) (token : List ℕ) (old new : CoreValue)
+    → length token ≡ 8 → token_number token ≡ old.state.issued → token_number (drop 4 token) ≡ word / 2 ^ 32
+    → HasNoPlace t a old.state → HasConn old.state.conns c None → old.state.sealed ≡ false
+    → IfOk r (λ (k : Ticket R). k.number ≡ length old.state.entries)
+    → OnOk r (new.state.sealed ≡ false)
+    → (r ≡ Err F.Sealed → new.state.sealed ≡ true)
+    → (r ≢ Err F.Memory → (n : Numbers) → new ≡ stepped (asks_in_room t c a n old.state) old)
+    → (r ≡ Err F.Memory → new ≡ old)
+    → (r ≢ Err F.Unknown) × (r ≢ Err F.Pending)
+    → IsAsked (number_in r) t word c a old new
+turned-away (Ok k) t word c a token old new size number random none idle unsealed ticket free sealed is memory others =
+    (ticket, free, away t word c a token old new size number random none idle (is (λ e. absurd cc)))
+turned-away (Err F.Sealed) t word c a token old new size number random none idle unsealed ticket free sealed is memory others =
+    (sealed refl, idle, inr (away t word c a token old new size number random none idle (is (λ e. absurd cc))))
+turned-away (Err F.Memory) t word c a token old new size number random none idle unsealed ticket free sealed is memory others =
+    (memory refl, unsealed, idle)
+turned-away (Err F.Unknown) t word c a token old new size number random none idle unsealed ticket free sealed is memory others = absurd (others.0 refl)
+turned-away (Err F.Pending) t word c a token old new size number random none idle unsealed ticket free sealed is memory others = absurd (others.1 refl)
+
+-- an ask that begins nothing may be refused
+pub may-refuse : (t c : ℕ) (a : Ask) (cause : Cause) (S : State)
+    → KeptInRoom S → S.sealed ≡ false → S.moment ≤ t → HasConn S.conns c None → IsProper a.sense → came_size a.came ≤ MAX_REQUEST_SIZE
+    → HasNoPlace t a S → ((n : Numbers) → asked t c a n S ≡ entered_all t (refusal_deeds c a cause S) S)
+    → MayRefuse t c a cause S
+may-refuse t c a cause S k unsealed later idle proper size none is =
+    let n : Numbers = record { token = []; text = []; word = 0 } in
+    let kept = asks-in-room t c a n S k later idle proper (λ q s p. absurd (none q s p)) (record { request = size; message = omega arith }) in
+    record {
+      is = is;
+      kept = subst (λ (U : State). KeptInRoom (in_room t U S)) (is n) (second-of S.sealed S (in_room t (asked t c a n S) S) unsealed kept);
+    }
+
+pub ticket-number : {R : Type 0} (r : Result (Ticket R) AskFault) (c n : ℕ) (m : Mapping)
+    → IfOk r (λ (k : Ticket R). (k.conn ≡ c) × (k.number ≡ n) × (arc_value k.mapped ≡ m)) → IfOk r (λ (k : Ticket R). k.number ≡ n)
+ticket-number (Ok k) c n m e = e.1
+ticket-number (Err f) c n m e = e
+
+-- There is no place where as many exchanges are open as may be.
+
+limit-and : (n : ℕ) (b v : Bool) → nat_lt n 256 ≡ v → 256 ≤ n → (nat_lt n 256 && b) ≡ false
+limit-and n b true e full = absurd (let lt = ltb-true n 256 e in omega (arith, lt, full))
+limit-and n b false e full = rw (e) refl
+
+pub full-no-place : (t : ℕ) (p : Peer) (S : State) → 256 ≤ length S.exchanges → has_place t p S ≡ false
+full-no-place t p S full =
+    limit-and (length S.exchanges) (nat_lt (length (link_of S.links p).waiting) 64 && nat_lt (mids_in_use t (link_of S.links p)) 32768) _ refl full
+
+same-request : (q r : CoapRequest) → Requests q ≡ Requests r → q ≡ r
+same-request q r e = cc
+
+pub no-place : (t : ℕ) (a : Ask) (q : CoapRequest) (S : State) → a.sense ≡ Requests q → has_place t q.peer S ≡ false → HasNoPlace t a S
+no-place t a q S sense full = λ r is place.
+    let same = same-request q r (sym sense ∙ is) in
+    false≢true (sym full ∙ subst (λ (x : CoapRequest). has_place t x.peer S ≡ true) (sym same) place)
+
+pub refuses-no-place : (t : ℕ) (a : Ask) (cause : Cause) (status : ℕ) (S : State) → a.sense ≡ Refuses cause status → HasNoPlace t a S
+refuses-no-place t a cause status S sense = λ r is place. never (sym sense ∙ is)
+  where
+    never : {q : CoapRequest} → Refuses cause status ≡ Requests q → ⊥
+    never e = absurd cc
+
+-- what is asked of a server
+pub request-of : (s : Sense) (p : Peer) → asked_peer s ≡ Some p → (q : CoapRequest) × (s ≡ Requests q) × (q.peer ≡ p)
+request-of (Requests q) p e = (q, refl, some-same q.peer p e)
+  where
+    some-same : (a b : Peer) → Some a ≡ Some b → a ≡ b
+    some-same a b f = cc
+request-of (Refuses cause status) p e = absurd cc
+
+-- an ask that is busy may be refused
+pub may-be-busy : (t c : ℕ) (a : Ask) (q : CoapRequest) (S : State)
+    → KeptInRoom S → S.sealed ≡ false → S.moment ≤ t → HasConn S.conns c None → came_size a.came ≤ MAX_REQUEST_SIZE
+    → a.sense ≡ Requests q → has_place t q.peer S ≡ false → MayRefuse t c a C.Busy S
+may-be-busy t c a q S k unsealed later idle size sense full =
+    may-refuse t c a C.Busy S k unsealed later idle (subst IsProper (sym sense) tt) size (no-place t a q S sense full)
+    (λ n. busy-enters t c a q n S sense full)
+
+pub may-be-refused : (t c : ℕ) (a : Ask) (cause : Cause) (status : ℕ) (S : State)
+    → KeptInRoom S → S.sealed ≡ false → S.moment ≤ t → HasConn S.conns c None → came_size a.came ≤ MAX_REQUEST_SIZE
+    → a.sense ≡ Refuses cause status → IsRefusal cause → MayRefuse t c a cause S
+may-be-refused t c a cause status S k unsealed later idle size sense proper =
+    may-refuse t c a cause S k unsealed later idle (subst IsProper (sym sense) proper) size (refuses-no-place t a cause status S sense)
+    (λ n. refusals-enter t c a n cause status S sense)

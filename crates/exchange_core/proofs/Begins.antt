@@ -1,0 +1,274 @@
+-- An ask that begins an exchange leaves what the step says.
+use Rattle.std.proofs.Common.{◌≡◌, ℕ, ◌+◌, ◌≤◌, ◌<◌, Bool, true, false, cond, ltb, List, [], ◌∷◌, ◌++◌, length, Option, Some, None, Ok, Err, refl, sym, ap, subst, ◌∙◌, arith}
+use Rattle.std.specs.Prelude.{option_map, sum_by, ◌&&◌}
+use Rattle.std.proofs.lemmas.Bool.Decides.{Decides-ltb}
+use Rattle.coap_codec.specs.Spelling.{Spells}
+use Rattle.uri_map.specs.declared.peer.Peer.{Peer}
+use Rattle.ask_model.specs.Requests.{CoapRequest, Sense, Requests, Refuses, request_message}
+use Rattle.ask_model.specs.Views.{Ask, Mapping}
+use Rattle.ask_model.specs.Sizes.{capped}
+use Rattle.ask_model.specs.Datagrams.{asked_peer}
+use Rattle.journal_book.specs.Entries.{Deed, Asks, Seals, Written, entry_size}
+use Rattle.journal_book.specs.Views.{ask_of}
+use Rattle.message_layer.specs.Sending.{waits, IsNext, IsRefused, HasPlace, mids_in_use, submitted}
+use Rattle.message_layer.specs.Prepared.{at_once as next_list}
+use Rattle.message_layer.specs.declared.fault.LinkFault.{LinkFault}
+use Rattle.message_layer.specs.declared.fault.LinkFault.TheVariants as L
+use Rattle.message_layer.specs.declared.prepared.FirstSending.{FirstSending}
+use Rattle.message_layer.specs.declared.prepared.Submission.{Submission}
+use Rattle.message_layer.specs.declared.state.Outstanding.{Outstanding}
+use Rattle.message_layer.specs.declared.state.Waiting.{Waiting}
+use Rattle.message_layer.specs.Values.{LinkState}
+use Rattle.exchange_model.specs.declared.kept.Conn.{Conn}
+use Rattle.exchange_model.specs.declared.kept.Exchange.{Exchange}
+use Rattle.exchange_model.specs.State.{PeerLink, State, link_of, with_link}
+use Rattle.exchange_model.specs.Steps.{given_out, seals}
+use Rattle.exchange_model.specs.Calls.{Numbers, asked, has_place}
+use Rattle.exchange_model.specs.Keeping.{IsProper, IsNumbered}
+use Rattle.exchange_model.specs.Room.{fits, KeptInRoom}
+use Rattle.exchange_model.specs.Sealing.{asks_in_room}
+use Rattle.exchange_model.specs.Entering.{entered_all, at_once, begin_deeds, begun, begun_exchange, first_deeds, IsDrained}
+use Rattle.exchange_model.proofs.Begun.{begins-enter}
+use Rattle.exchange_model.proofs.InRoom.{asks-in-room}
+use Rattle.exchange_model.proofs.TickEnters.{stays-drained}
+use Rattle.exchange_core.specs.Answering.{Given}
+use Rattle.exchange_core.specs.Beginning.{IsRequest, exchange_by, with_exchange, numbers_of, MayBegin, IsBegunBy}
+use Rattle.exchange_core.specs.Sending.{IsTimed, sent_first}
+use Rattle.exchange_core.specs.declared.fault.AskFault.TheVariants as Ask
+use Rattle.exchange_core.specs.Calls.{IsSpelled}
+use Rattle.exchange_core.specs.Drafts.{DraftValue, Drafts, conns_from, empty_draft, draft_with}
+use Rattle.exchange_core.specs.Sound.{SoundState}
+use Rattle.exchange_core.specs.States.{with_draft, core_of}
+use Rattle.exchange_core.specs.Values.{Outgoing, written, stepped}
+use Rattle.exchange_core.proofs.BeginLinks.{LinkTakes}
+use Rattle.exchange_core.proofs.Drafting.{append-none, drafts-none, drafts-alone, length-map}
+use Rattle.exchange_core.proofs.Sounding.{first-of, second-of, sound-more, sound-seal}
+use Rattle.exchange_core.proofs.Stepping.{with-draft, entered-entries, committed}
+
+-- what goes out at once
+
+goes-at-once : (t n : ℕ) (p : Peer) (last : Option ℕ) (w : Waiting) (v : Option Outstanding)
+    (sent : Option FirstSending) → IsNext t last (next_list w v) sent
+    → (sent_first p sent ≡ first_deeds t p last (at_once w v))
+    × (option_map (λ (x : FirstSending). n + 1) sent ≡ option_map (λ (x : Waiting). n + 1) (at_once w v))
+goes-at-once t n p last w None None next = absurd next
+goes-at-once t n p last w None (Some x) next = (rw (next.1, next.0) refl, refl)
+goes-at-once t n p last w (Some o) None next = (refl, refl)
+goes-at-once t n p last w (Some o) (Some x) next = absurd next
+
+timely-by : (t : ℕ) (last : Option ℕ) (w : Waiting) (v : Option Outstanding)
+    (sent : Option FirstSending) → w.timeout ≤ 3000 → IsNext t last (next_list w v) sent → IsTimed sent
+timely-by t last w v None short next = tt
+timely-by t last w None (Some x) short next = rw (next.0) (omega (arith, short))
+timely-by t last w (Some o) (Some x) short next = absurd next
+
+pub timely : (t : ℕ) (p : Peer) (xs : List PeerLink) (x : Submission) → LinkTakes t p xs x → IsTimed x.sent
+timely t p xs x k =
+    timely-by t k.link.state.last_mid x.waiting k.link.state.outstanding x.sent k.may.sound.short k.may.sent
+
+pub sent-next : (t : ℕ) (p : Peer) (xs : List PeerLink) (x : Submission) (w : Waiting) → LinkTakes t p xs x → x.waiting ≡ w
+    → IsNext t (link_of xs p).last_mid (next_list w (link_of xs p).outstanding) x.sent
+sent-next t p xs x w k same =
+    subst (λ (u : Waiting). IsNext t (link_of xs p).last_mid (next_list u (link_of xs p).outstanding) x.sent) same
+    (subst (λ (s : LinkState). IsNext t s.last_mid (next_list x.waiting s.outstanding) x.sent) k.is k.may.sent)
+
+-- a place
+
+less-true : (x y : ℕ) → x < y → ltb x y ≡ true
+less-true x y lt = (Decides-ltb x y).1 lt
+
+less-false : (x y : ℕ) → y ≤ x → ltb x y ≡ false
+less-false x y le = by (ltb x y) refl
+  where
+    by : (b : Bool) → ltb x y ≡ b → b ≡ false
+    by true e = let lt = (Decides-ltb x y).0 e in absurd (omega (arith, lt, le))
+    by false e = refl
+
+all-three : (a b c : Bool) → a ≡ true → b ≡ true → c ≡ true → (a && (b && c)) ≡ true
+all-three a b c e f g = rw (e, f, g) refl
+
+not-second : (a b c : Bool) → b ≡ false → (a && (b && c)) ≡ false
+not-second true b c e = rw (e) refl
+not-second false b c e = refl
+
+not-third : (a b c : Bool) → c ≡ false → (a && (b && c)) ≡ false
+not-third true true c e = e
+not-third true false c e = refl
+not-third false b c e = refl
+
+pub no-place : (t : ℕ) (p : Peer) (S : State) (e : LinkFault) → (e ≡ L.Memory → ⊥)
+    → IsRefused t (link_of S.links p) e → has_place t p S ≡ false
+no-place t p S L.Queue other r = not-second _ _ _ (less-false (length (link_of S.links p).waiting) 64 r)
+no-place t p S L.Numbers other r = not-third _ _ _ (less-false (mids_in_use t (link_of S.links p)) 32768 r.1)
+no-place t p S L.Memory other r = absurd (other refl)
+
+pub has-place : (t : ℕ) (p : Peer) (S : State) → length S.exchanges < 256
+    → HasPlace t (link_of S.links p) → has_place t p S ≡ true
+has-place t p S few h =
+    all-three _ _ _ (less-true (length S.exchanges) 256 few) (less-true (length (link_of S.links p).waiting) 64 h.0)
+    (less-true (mids_in_use t (link_of S.links p)) 32768 h.1)
+
+-- the request
+
+request-of : (q r : CoapRequest) → Requests q ≡ Requests r → q ≡ r
+request-of q r e = cc
+
+peer-same : (q : CoapRequest) (p : Peer) → Some q.peer ≡ Some p → q.peer ≡ p
+peer-same q p e = cc
+
+pub is-request : (s : Sense) (p : Peer) → asked_peer s ≡ Some p → IsRequest s
+is-request (Requests q) p e = tt
+is-request (Refuses cause status) p e = absurd cc
+
+-- which of three states it is
+room-taken : (b c : Bool) (x y z : State) → b ≡ false → c ≡ true → cond b x (cond c y z) ≡ y
+room-taken b c x y z e f = rw (e, f) refl
+
+room-sealed : (b c : Bool) (x y z : State) → b ≡ false → c ≡ false → cond b x (cond c y z) ≡ z
+room-sealed b c x y z e f = rw (e, f) refl
+
+-- as many connections are open as before
+conns-stay : (n : ℕ) (c : ℕ) (a : Ask) (p : Peer) (sent : Option FirstSending) (cs : List Conn)
+    → length (conns_from n (Asks c a ∷ sent_first p sent) cs) ≡ length cs
+conns-stay n c a p None cs = length-map _ cs
+conns-stay n c a p (Some x) cs = length-map _ cs
+
+module _ (t word c : ℕ) (m : Mapping) (p : Peer) (token text : List ℕ) (S : State) where
+  abbrev a : Ask
+  a = ask_of m
+
+  abbrev n : Numbers
+  n = numbers_of token text word
+
+  abbrev w : Waiting
+  w = waits token text word
+
+  asked-is : (bytes room : ℕ) (gs : List Given) → SoundState S bytes room gs
+      → (b : MayBegin t word c m p token text S)
+      → asked t c a n S ≡ begun t c a b.spelled.request n S
+  asked-is bytes room gs s b =
+      let q = b.spelled.request in
+      let same : q.peer ≡ p = peer-same q p (ap asked_peer (sym b.spelled.is) ∙ b.peer) in
+      begins-enter t c a q n S
+      (record { kept = s.kept.kept; unsealed = b.unsealed; later = b.later }) s.drained
+      (record { spelled = b.spelled.spelled; token_size = b.worded.token_size; number = b.worded.number })
+      b.spelled.is (subst (λ (z : Peer). has_place t z S ≡ true) (sym same) b.place)
+
+  in-room : (bytes room : ℕ) (gs : List Given) → SoundState S bytes room gs
+      → MayBegin t word c m p token text S → KeptInRoom (asks_in_room t c a n S)
+  in-room bytes room gs s b =
+      let q = b.spelled.request in
+      let numbered : IsNumbered q n S = record { spelled = b.spelled.spelled; token_size = b.worded.token_size; number = b.worded.number } in
+      asks-in-room t c a n S s.kept b.later b.idle (subst IsProper (sym b.spelled.is) tt)
+      (λ r e h. subst (λ (z : CoapRequest). IsNumbered z n S) (request-of q r (sym b.spelled.is ∙ e)) numbered)
+      (record { request = b.small; message = b.spelled.short })
+
+  spelled-so : MayBegin t word c m p token text S → IsSpelled t a n S
+  spelled-so b = λ r e h. subst (λ (z : CoapRequest). Spells (request_message z 0 token) text) (request-of b.spelled.request r (sym b.spelled.is ∙ e)) b.spelled.spelled
+
+  module _ (sent : Option FirstSending) (d : DraftValue) where
+    abbrev ds : List Deed
+    ds = Asks c a ∷ sent_first p sent
+
+    abbrev S1 : State
+    S1 = with_exchange t (exchange_by t c token p sent (length S.entries)) w (with_draft t d S)
+
+    begun-at : (q : CoapRequest) → Drafts t S (Asks c a ∷ sent_first q.peer sent) d
+        → IsNext t (link_of S.links q.peer).last_mid (next_list w (link_of S.links q.peer).outstanding) sent
+        → with_exchange t (exchange_by t c token q.peer sent (length S.entries)) w (with_draft t d S) ≡ begun t c a q n S
+    begun-at q h next =
+        let s = link_of S.links q.peer in
+        let both = goes-at-once t (length S.entries) q.peer s.last_mid w s.outstanding sent next in
+        let links = with_link q.peer (given_out (submitted t w s)) S.links in
+        let draft : with_draft t d S ≡ entered_all t (begin_deeds t c a q n S) S =
+        with-draft t S (Asks c a) (sent_first q.peer sent) d h ∙ ap (λ (xs : List Deed). entered_all t (Asks c a ∷ xs) S) both.0 in
+        let e = exchange_by t c token q.peer sent (length S.entries) in
+        let ex : e ≡ begun_exchange t c q n S = ap (λ (v : Option ℕ). record e { sending = v }) both.1 in
+        ap (λ (U : State). record U { issued = S.issued + 1; exchanges = S.exchanges ++ e ∷ []; links = links }) draft
+        ∙ ap (λ (x : Exchange). record (entered_all t (begin_deeds t c a q n S) S) { issued = S.issued + 1; exchanges = S.exchanges ++ x ∷ []; links = links }) ex
+
+    begun-is : (b : MayBegin t word c m p token text S) → Drafts t S ds d
+        → IsNext t (link_of S.links p).last_mid (next_list w (link_of S.links p).outstanding) sent
+        → S1 ≡ begun t c a b.spelled.request n S
+    begun-is b h next =
+        let q = b.spelled.request in
+        let same : q.peer ≡ p = peer-same q p (ap asked_peer (sym b.spelled.is) ∙ b.peer) in
+        subst (λ (z : Peer). Drafts t S (Asks c a ∷ sent_first z sent) d
+        → IsNext t (link_of S.links z).last_mid (next_list w (link_of S.links z).outstanding) sent
+        → with_exchange t (exchange_by t c token z sent (length S.entries)) w (with_draft t d S) ≡ begun t c a q n S)
+        same (begun-at q) h next
+
+    module _ (bytes room : ℕ) (gs : List Given) (os : List Outgoing) (s : SoundState S bytes room gs)
+        (b : MayBegin t word c m p token text S) (h : Drafts t S ds d)
+        (next : IsNext t (link_of S.links p).last_mid (next_list w (link_of S.links p).outstanding) sent)
+        (none : d.answers ≡ []) where
+      is : S1 ≡ asked t c a n S
+      is = begun-is b h next ∙ sym (asked-is bytes room gs s b)
+
+      fit-same : fits (asked t c a n S) ≡ fits (with_draft t d S)
+      fit-same = ap fits (sym is)
+
+      rests : KeptInRoom (cond S.sealed S (cond (fits (asked t c a n S)) (asked t c a n S) (seals t S)))
+      rests = in-room bytes room gs s b
+
+      pub sound-begun : (S2 : State) (bytes1 room1 : ℕ) (gs1 : List Given) → fits (with_draft t d S) ≡ true → S2 ≡ S1
+          → bytes1 ≡ capped (bytes + capped (sum_by entry_size d.entries)) → room1 + length d.entries ≡ room → gs1 ≡ gs ++ d.answers
+          → SoundState S2 bytes1 room1 gs1
+      sound-begun S2 bytes1 room1 gs1 fit at bs rs gave =
+          let kept : KeptInRoom (asked t c a n S) =
+          first-of (fits (asked t c a n S)) (asked t c a n S) (seals t S) (fit-same ∙ fit)
+          (second-of S.sealed S (cond (fits (asked t c a n S)) (asked t c a n S) (seals t S)) b.unsealed rests) in
+          let drained : IsDrained S1 = subst IsDrained (sym (begun-is b h next)) ((stays-drained t S s.drained).0 c a b.spelled.request n) in
+          let few : length d.conns ≡ length S.conns = ap (λ (cs : List Conn). length cs) h.conns ∙ conns-stay (length S.entries) c a p sent S.conns in
+          let most = s.few in
+          subst (λ (U : State). SoundState U bytes1 room1 gs1) (sym at)
+          (sound-more S S1 bytes bytes1 room room1 gs gs1 [] d.entries s (subst KeptInRoom (sym is) kept) drained b.early
+          (omega (arith, few, most)) refl bs rs (gave ∙ ap (λ (xs : List Given). gs ++ xs) none) tt)
+
+      pub begun-so : (S2 : State) (gs1 : List Given) (os1 : List Outgoing) → fits (with_draft t d S) ≡ true → S2 ≡ S1
+          → gs1 ≡ gs ++ d.answers → os1 ≡ os ++ d.sends
+          → IsBegunBy (Ok (length S.entries)) t word c m (core_of S gs os) (core_of S2 gs1 os1)
+      begun-so S2 gs1 os1 fit at gave sends =
+          let whole : core_of S1 gs1 os1 ≡ stepped S1 (core_of S gs os) =
+          committed t S S1 ds d gs gs1 os os1 h (ap (λ (es : List Written). S.entries ++ es) h.entries ∙ sym (entered-entries t ds S)) gave sends in
+          let room-is : asks_in_room t c a n S ≡ S1 =
+          room-taken S.sealed (fits (asked t c a n S)) S (asked t c a n S) (seals t S) b.unsealed (fit-same ∙ fit) ∙ sym is in
+          subst (λ (U : State). IsBegunBy (Ok (length S.entries)) t word c m (core_of S gs os) (core_of U gs1 os1)) (sym at) (
+            refl,
+            b.unsealed,
+            record {
+              numbers = n;
+              worded = b.worded;
+              spelled = spelled-so b;
+              idle = b.idle;
+              is = whole ∙ ap (λ (U : State). stepped U (core_of S gs os)) (sym room-is);
+            },
+          )
+
+      pub sound-sealed : (S2 : State) (bytes1 room1 : ℕ) (gs1 : List Given) → fits (with_draft t d S) ≡ false → S2 ≡ seals t S
+          → bytes1 ≡ capped (bytes + 64) → room1 + 1 ≡ room → gs1 ≡ gs → SoundState S2 bytes1 room1 gs1
+      sound-sealed S2 bytes1 room1 gs1 fit at bs rs gave =
+          sound-seal t S S2 bytes bytes1 room room1 gs gs1 s
+          (second-of (fits (asked t c a n S)) (asked t c a n S) (seals t S) (fit-same ∙ fit)
+          (second-of S.sealed S (cond (fits (asked t c a n S)) (asked t c a n S) (seals t S)) b.unsealed rests)) b.early at bs rs gave
+
+      pub sealed-so : (S2 : State) (gs1 : List Given) (os1 : List Outgoing) → fits (with_draft t d S) ≡ false → S2 ≡ seals t S
+          → gs1 ≡ gs → os1 ≡ os
+          → IsBegunBy (Err Ask.Sealed) t word c m (core_of S gs os) (core_of S2 gs1 os1)
+      sealed-so S2 gs1 os1 fit at gave sends =
+          let d0 = draft_with (written t Seals) (empty_draft (length S.entries) S.conns) in
+          let whole : core_of (seals t S) gs os ≡ stepped (seals t S) (core_of S gs os) =
+          committed t S (seals t S) (Seals ∷ []) d0 gs gs os os (drafts-alone t S [] Seals _ tt (drafts-none t S)) refl
+          (sym (append-none gs)) (sym (append-none os)) in
+          let room-is : asks_in_room t c a n S ≡ seals t S =
+          room-sealed S.sealed (fits (asked t c a n S)) S (asked t c a n S) (seals t S) b.unsealed (fit-same ∙ fit) in
+          rw (at, gave, sends) (
+            refl,
+            record {
+              numbers = n;
+              worded = b.worded;
+              spelled = spelled-so b;
+              idle = b.idle;
+              is = whole ∙ ap (λ (U : State). stepped U (core_of S gs os)) (sym room-is);
+            },
+          )

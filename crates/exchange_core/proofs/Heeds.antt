@@ -1,0 +1,274 @@
+-- What is drafted and changed for a datagram is what the step leaves.
+use Rattle.std.proofs.Common.{◌≡◌, ℕ, zero, suc, ◌+◌, ◌<◌, true, false, List, [], ◌∷◌, ◌++◌, length, map, get_or, Option, Some, None, Result, Ok, Err, refl, sym, ap, subst, ◌∙◌, arith, append_assoc}
+use Rattle.std.specs.Prelude.{slice_get, slice_set, filter, is_some}
+use Rattle.std.specs.List.{AllByRecursion}
+use Rattle.coap_codec.specs.Spelling.{Content, Spells}
+use Rattle.coap_codec.specs.Reading.{message_at}
+use Rattle.coap_codec.specs.declared.fault.CodecFault.{CodecFault}
+use Rattle.coap_codec.proofs.Bytes.{IsBytes}
+use Rattle.coap_codec.proofs.Takes.{message_takes}
+use Rattle.uri_map.specs.declared.peer.Peer.{Peer}
+use Rattle.ask_model.specs.declared.cause.Cause.TheVariants.{Reset}
+use Rattle.journal_book.specs.Entries.{Grounds, Fault, Deed, Hears}
+use Rattle.message_layer.specs.Values.{LinkState, LinkValue, Told, told, no_news, response}
+use Rattle.message_layer.specs.Hearing.{says, replies, listed, reset_for, verdict_of}
+use Rattle.message_layer.specs.Prepared.{MayHeed, IsHearing, IsRead, is_lost, unread_verdict, unread_mid}
+use Rattle.message_layer.specs.declared.prepared.Heeding.{Heeding}
+use Rattle.message_layer.specs.declared.prepared.Hearing.{Hearing}
+use Rattle.message_layer.specs.declared.verdict.News.{News}
+use Rattle.message_layer.specs.declared.verdict.News.TheVariants as N
+use Rattle.message_layer.specs.declared.verdict.Verdict.{Verdict}
+use Rattle.history_links.specs.Steps.{ended_token}
+use Rattle.exchange_model.specs.declared.kept.Conn.{Conn}
+use Rattle.exchange_model.specs.declared.kept.Exchange.{Exchange}
+use Rattle.exchange_model.specs.State.{PeerLink, State, link_of, with_link}
+use Rattle.exchange_model.specs.Steps.{is_other}
+use Rattle.exchange_model.specs.Calls.{ended_in, grounds_by, heard}
+use Rattle.exchange_model.specs.Entering.{entered_all, first_deeds, in_turn, going_as, sent_as, told_if, confirm, heeded, garbled, IsMid, Comes}
+use Rattle.exchange_model.proofs.Heeded.{message-enters, garbled-enters}
+use Rattle.exchange_core.specs.declared.state.Endpoint.{Endpoint}
+use Rattle.exchange_core.specs.Endpoints.{IsFirstAt, HasNone}
+use Rattle.exchange_core.specs.States.{peer_link}
+use Rattle.exchange_core.specs.Hearing.{found_in, told_by, note_next, over_in, link_deeds, hearing_deeds, heeds, exchanges_after, first_number, hearing_state}
+use Rattle.exchange_core.specs.Sending.{sent_first}
+use Rattle.exchange_core.proofs.Heard.{told-same, next-deeds, next-noted}
+
+-- the place of the endpoint
+
+pub link-at : (p : Peer) (xs : List Endpoint) (i : ℕ) (e : Endpoint)
+    → IsFirstAt p (map peer_link xs) i
+    → slice_get xs i ≡ Some e → link_of (map peer_link xs) p ≡ e.link.state
+link-at p [] i e f g = absurd f
+link-at p (x ∷ xs) zero e f g =
+    let same : x ≡ e = cc in rw (f) (ap (λ (v : Endpoint). v.link.state) same)
+link-at p (x ∷ xs) (suc i) e f g = rw (f.0) (link-at p xs i e f.1 g)
+
+pub links-set : (p : Peer) (xs : List Endpoint) (i : ℕ) (e x : Endpoint)
+    → IsFirstAt p (map peer_link xs) i
+    → e.peer ≡ (get_or xs i x).peer
+    → map peer_link (slice_set xs i e) ≡ with_link p e.link.state (map peer_link xs)
+links-set p [] i e x f same = absurd f
+links-set p (y ∷ ys) zero e x f same = rw (f, same) refl
+links-set p (y ∷ ys) (suc i) e x f same =
+    rw (f.0) (ap (λ (zs : List PeerLink). peer_link y ∷ zs) (links-set p ys i e x f.1 same))
+
+pub links-same : (xs : List Endpoint) (i : ℕ) (e x : Endpoint) → peer_link e
+    ≡ peer_link (get_or xs i x)
+    → map peer_link (slice_set xs i e) ≡ map peer_link xs
+links-same [] i e x same = refl
+links-same (y ∷ ys) zero e x same = ap (λ (z : PeerLink). z ∷ map peer_link ys) same
+links-same (y ∷ ys) (suc i) e x same = ap (λ (zs : List PeerLink). peer_link y ∷ zs)
+    (links-same ys i e x same)
+
+pub got-or : {X : Type 0} (xs : List X) (i : ℕ) (x : X) → i < length xs → slice_get xs i
+    ≡ Some (get_or xs i x)
+got-or [] i x lt = absurd (omega (arith, lt))
+got-or (y ∷ ys) zero x lt = refl
+got-or (y ∷ ys) (suc i) x lt = got-or ys i x (omega (arith, lt))
+
+pub set-there : {X : Type 0} (xs : List X) (i : ℕ) (x e : X) → i < length xs
+    → slice_get (slice_set xs i x) i ≡ Some e → x ≡ e
+set-there [] i x e lt g = absurd (omega (arith, lt))
+set-there (y ∷ ys) zero x e lt g = cc
+set-there (y ∷ ys) (suc i) x e lt g = set-there ys i x e (omega (arith, lt)) g
+
+pub got-there : {X : Type 0} (xs : List X) (i : ℕ) (x e : X) → slice_get xs i ≡ Some e
+    → get_or xs i x ≡ e
+got-there [] i x e g = absurd cc
+got-there (y ∷ ys) zero x e g = cc
+got-there (y ∷ ys) (suc i) x e g = got-there ys i x e g
+
+pub got-first : (p : Peer) (xs : List Endpoint) (i : ℕ) → IsFirstAt p (map peer_link xs) i
+    → (e : Endpoint) × (slice_get xs i ≡ Some e)
+got-first p [] i f = absurd f
+got-first p (x ∷ xs) zero f = (x, refl)
+got-first p (x ∷ xs) (suc i) f = got-first p xs i f.1
+
+pub none-at : (p : Peer) (xs : List Endpoint) → HasNone p (map peer_link xs)
+    → is_some (link_of (map peer_link xs) p).last_mid ≡ false
+none-at p [] h = refl
+none-at p (x ∷ xs) h = rw (h.0) (none-at p xs h.1)
+
+pub first-below : (p : Peer) (xs : List Endpoint) (i : ℕ) → IsFirstAt p (map peer_link xs) i
+    → i < length xs
+first-below p [] i f = absurd f
+first-below p (x ∷ xs) zero f = omega arith
+first-below p (x ∷ xs) (suc i) f = let ih = first-below p xs i f.1 in omega (arith, ih)
+
+-- what the link and the tables say is what the step says
+
+module _ (t : ℕ) (p : Peer) (d : List ℕ) (S : State) (link : LinkValue) (x : Heeding) where
+  abbrev over : Option (List ℕ)
+  over = over_in x
+
+  abbrev ended : Option Exchange
+  ended = ended_in over S.exchanges
+
+  abbrev n : ℕ
+  n = length S.entries
+
+  pub heeded-so : (told : Told) (g : Grounds) → MayHeed t link x → link.state ≡ link_of S.links p
+      → told_by ended (found_in n told) S.conns ≡ told_if g ended S.conns
+      → heeded t p d x.mid x.token x.verdict g S ≡ hearing_state t p d x told S
+  heeded-so told g h at same =
+      let s = link_of S.links p in
+      let next : sent_first p x.next ≡ first_deeds t p s.last_mid
+      (in_turn x.verdict.ends s.waiting) =
+      next-deeds t p link x h ∙ ap (λ (u : LinkState). first_deeds t p u.last_mid
+      (in_turn x.verdict.ends u.waiting)) at in
+      let noted : (k : ℕ) (es : List Exchange) → note_next k x.next es
+      ≡ sent_as (going_as k (in_turn x.verdict.ends s.waiting)) es =
+      λ k es. next-noted t k link x es h ∙ ap (λ (u : LinkState). sent_as
+      (going_as k (in_turn x.verdict.ends u.waiting)) es) at in
+      let deeds : hearing_deeds p d x told S
+      ≡ Hears p d ∷ (map (confirm p) (replies x.mid x.verdict.reply)
+      ++ (first_deeds t p s.last_mid (in_turn x.verdict.ends s.waiting) ++ told_if g ended
+      S.conns)) =
+      ap (λ (ds : List Deed). link_deeds p d x ++ ds) same
+      ∙ (ap (λ (ds : List Deed). Hears p d ∷ ds)
+      (append_assoc (map (confirm p) (listed x.reply)) (sent_first p x.next)
+      (told_if g ended S.conns))
+      ∙ (ap (λ (bs : List (List ℕ)). Hears p d ∷
+      (map (confirm p) bs ++ (sent_first p x.next ++ told_if g ended S.conns))) h.reply
+      ∙ ap (λ (ds : List Deed). Hears p d ∷ (map (confirm p) (replies x.mid x.verdict.reply) ++
+      (ds ++ told_if g ended S.conns))) next)) in
+      let number : first_number n x ≡ n + 1 + length (replies x.mid x.verdict.reply) =
+      ap (λ (bs : List (List ℕ)). n + 1 + length bs) h.reply in
+      let es = filter (is_other over) S.exchanges in
+      let exchanges : exchanges_after n x S.exchanges
+      ≡ sent_as (going_as (n + 1 + length (replies x.mid x.verdict.reply))
+      (in_turn x.verdict.ends s.waiting)) es =
+      ap (λ (k : ℕ). note_next k x.next es) number
+      ∙ noted (n + 1 + length (replies x.mid x.verdict.reply)) es in
+      sym (ap (λ (ds : List Deed). record (entered_all t ds S) {
+        exchanges = exchanges_after n x S.exchanges;
+        links = with_link p
+            (heeds t x s) S.links;
+      }) deeds
+      ∙ ap (λ (fs : List Exchange). record (entered_all t
+      (Hears p d ∷ (map (confirm p) (replies x.mid x.verdict.reply)
+      ++ (first_deeds t p s.last_mid (in_turn x.verdict.ends s.waiting) ++ told_if g ended
+      S.conns))) S) { exchanges = fs; links = with_link p (heeds t x s) S.links }) exchanges)
+
+not-lost : (v : News) → is_lost v ≡ false → v ≡ N.Lost → ⊥
+not-lost v e f = true-false (sym (ap is_lost f) ∙ e)
+  where
+    true-false : true ≡ false → ⊥
+    true-false k = cc
+
+message-is : (t : ℕ) (p : Peer) (d : List ℕ) (S : State) (m : Content) (x : Heeding)
+    (g : News → ℕ → Grounds)
+    → x.mid ≡ m.mid → x.token ≡ m.token → x.verdict ≡ verdict_of t (link_of S.links p) m
+    → heeded t p d m.mid m.token (verdict_of t (link_of S.links p) m)
+    (g (verdict_of t (link_of S.links p) m).news (length S.entries)) S
+    ≡ heeded t p d x.mid x.token x.verdict (g x.verdict.news (length S.entries)) S
+message-is t p d S m x g mid token verdict =
+    sym (ap (λ (k : ℕ). heeded t p d k x.token x.verdict (g x.verdict.news (length S.entries)) S)
+    mid
+    ∙ (ap (λ (k : List ℕ). heeded t p d m.mid k x.verdict (g x.verdict.news (length S.entries)) S)
+    token
+    ∙ ap (λ (v : Verdict). heeded t p d m.mid m.token v (g v.news (length S.entries)) S) verdict))
+
+none-is : (t : ℕ) (p : Peer) (d : List ℕ) (S : State) (k : Option ℕ) (x : Heeding) (g : Grounds)
+    → x.verdict ≡ unread_verdict k → heeded t p d x.mid x.token (garbled k) g S
+    ≡ heeded t p d x.mid x.token x.verdict g S
+none-is t p d S None x g e = ap (λ (v : Verdict). heeded t p d x.mid x.token v g S) (sym e)
+none-is t p d S (Some mid) x g e = ap (λ (v : Verdict). heeded t p d x.mid x.token v g S) (sym e)
+
+mid-is : (k : Option ℕ) (mid : ℕ) → mid ≡ unread_mid k → IsMid k mid
+mid-is None mid e = tt
+mid-is (Some n) mid e = e
+
+quiet : (k : Option ℕ) → (unread_verdict k).news ≡ N.Quiet
+quiet None = refl
+quiet (Some mid) = refl
+
+nothing-told : (v : News) (token : List ℕ) (n : ℕ) (told : Told) (g : Grounds)
+    (es : List Exchange) (cs : List Conn) → v ≡ N.Quiet
+    → told_by (ended_in (ended_token v token) es) (found_in n told) cs
+    ≡ told_if g (ended_in (ended_token v token) es) cs
+nothing-told v token n told g es cs e = rw (e) refl
+
+-- The step leaves what was drafted, and the tables after it.
+pub record HeardSo (t : ℕ) (p : Peer) (d : List ℕ) (x : Heeding) (told : Told)
+    (S : State) : Type 0 where
+  pub grounds : Grounds
+  pub is : heard t p d S ≡ heeded t p d x.mid x.token x.verdict grounds S
+  pub so : heeded t p d x.mid x.token x.verdict grounds S ≡ hearing_state t p d x told S
+
+pub heard-so : (t : ℕ) (p : Peer) (d : List ℕ) (S : State) (link : LinkValue) (h : Hearing)
+    → Comes t p d S → IsHearing t d link h → link.state ≡ link_of S.links p
+    → HeardSo t p d h.heeding (told h.up) S
+heard-so t p d S link h come i at = by (message_at d) refl i.is
+  where
+    x : Heeding
+    x = h.heeding
+
+    n : ℕ
+    n = length S.entries
+
+    over : Option (List ℕ)
+    over = over_in x
+
+    by : (r : Result Content CodecFault) → message_at d ≡ r → IsRead t d link.state r h
+        → HeardSo t p d x (told h.up) S
+    by (Ok m) is read =
+        let verdict : x.verdict ≡ verdict_of t (link_of S.links p) m =
+        read.verdict ∙ ap (λ (u : LinkState). verdict_of t u m) at in
+        let same : told_by (ended_in over S.exchanges) (found_in n (told h.up)) S.conns
+        ≡ told_if (grounds_by x.verdict.news n m) (ended_in over S.exchanges) S.conns =
+        ap (λ (u : Told). told_by (ended_in over S.exchanges) (found_in n u) S.conns) read.up
+        ∙ told-same n m x.verdict.news x.token S.exchanges S.conns in
+        record {
+          grounds = grounds_by x.verdict.news n m;
+          is =
+              message-enters t p d m S come is
+              (λ e. not-lost x.verdict.news read.kept (ap (λ (v : Verdict). v.news) verdict ∙ e))
+              ∙ message-is t p d S m x (λ v k. grounds_by v k m) read.mid read.token verdict;
+          so = heeded-so t p d S link x (told h.up) (grounds_by x.verdict.news n m) i.ready at same;
+        }
+    by (Err e) is read =
+        let g : Grounds = Fault Reset 0 in
+        record {
+          grounds = g;
+          is =
+              garbled-enters t p d e x.mid x.token g S come is
+              (mid-is (reset_for d) x.mid read.mid_is)
+              ∙ none-is t p d S (reset_for d) x g read.verdict;
+          so =
+              heeded-so t p d S link x (told h.up) g i.ready at
+              (nothing-told x.verdict.news x.token n (told h.up) g S.exchanges S.conns
+              (ap (λ (v : Verdict). v.news) read.verdict ∙ quiet (reset_for d)));
+        }
+
+-- a response that is told is what the datagram spells
+
+is-bytes : (d : List ℕ) → AllByRecursion (λ (b : ℕ). b < 256) d → IsBytes d
+is-bytes [] a = tt
+is-bytes (b ∷ d) a = (a.0, is-bytes d a.1)
+
+said : (v : News) (k m : Content) → says v k ≡ response m → k ≡ m
+said N.Response k m e = cc
+said N.Quiet k m e = absurd cc
+said (N.Reset token) k m e = absurd cc
+said N.Lost k m e = absurd cc
+
+nothing-said : (m : Content) → no_news ≡ response m → ⊥
+nothing-said m e = cc
+
+pub spells : (t : ℕ) (d : List ℕ) (link : LinkValue) (h : Hearing) (m : Content)
+    → IsHearing t d link h → AllByRecursion (λ (b : ℕ). b < 256) d → told h.up ≡ response m
+    → Spells m d
+spells t d link h m i bytes e = by (message_at d) refl i.is
+  where
+    by : (r : Result Content CodecFault) → message_at d ≡ r → IsRead t d link.state r h → Spells m d
+    by (Ok k) is read =
+        subst (λ (v : Content). Spells v d) (said h.heeding.verdict.news k m (sym read.up ∙ e))
+        (message_takes d k (is-bytes d bytes) is)
+    by (Err f) is read = absurd (nothing-said m (sym read.up ∙ e))
+
+-- each byte of a datagram is one
+pub bytes-small : (d : List ℕ) → ((i : ℕ) → get_or d i 0 < 256)
+    → AllByRecursion (λ (b : ℕ). b < 256) d
+bytes-small [] h = tt
+bytes-small (b ∷ d) h = (h 0, bytes-small d (λ i. h (suc i)))

@@ -1,0 +1,82 @@
+-- Asks that are answered in their own step.
+use Rattle.std.proofs.Common.{◌≡◌, ℕ, suc, ◌+◌, ◌≤◌, Bool, true, false, cond, List, [], ◌∷◌, ◌++◌, length, map, slice_get, Some, None, refl, sym, ap, subst, ◌∙◌, arith}
+use Rattle.ask_model.specs.declared.cause.Cause.{Cause}
+use Rattle.ask_model.specs.Views.{Mapping, Ask}
+use Rattle.journal_book.specs.Entries.{Grounds, Fault, Deed, Asks, Answers, Written}
+use Rattle.journal_book.specs.Views.{ask_of}
+use Rattle.exchange_model.specs.State.{State}
+use Rattle.exchange_model.specs.Entering.{refusal_deeds, entered_all}
+use Rattle.exchange_model.specs.State.{pend}
+use Rattle.exchange_model.specs.Steps.{seals}
+use Rattle.exchange_model.specs.Calls.{Numbers, asked}
+use Rattle.exchange_model.specs.Room.{fits}
+use Rattle.exchange_model.specs.Sealing.{in_room, asks_in_room}
+use Rattle.exchange_core.proofs.Stepping.{entered-entries}
+use Rattle.exchange_core.specs.Values.{written}
+use Rattle.exchange_core.specs.Answering.{IsGiven}
+use Rattle.exchange_core.specs.Drafts.{DraftValue, Drafts, empty_draft}
+use Rattle.exchange_core.specs.States.{refusal_given}
+use Rattle.exchange_core.proofs.Drafting.{drafts-none, length-map}
+
+pub begins-empty : (t n : ℕ) (S : State) (d : DraftValue) → n ≡ length S.entries → d ≡ empty_draft n S.conns → Drafts t S [] d
+begins-empty t n S d len e =
+    subst (λ (x : DraftValue). Drafts t S [] x) (sym (e ∙ ap (λ (k : ℕ). empty_draft k S.conns) len)) (drafts-none t S)
+
+pub refusal-drafted : (t c n : ℕ) (S : State) (m m1 : Mapping) (cause : Cause) (g : Grounds) (d0 d1 d2 : DraftValue)
+    → n ≡ length S.entries → d0 ≡ empty_draft n S.conns → m1 ≡ m → g ≡ Fault cause n
+    → (Drafts t S [] d0 → Drafts t S (Asks c (ask_of m1) ∷ []) d1)
+    → (n + 1 ≡ d1.next → Drafts t S (Asks c (ask_of m1) ∷ []) d1 → Drafts t S (Asks c (ask_of m1) ∷ Answers c n g ∷ []) d2)
+    → Drafts t S (refusal_deeds c (ask_of m) cause S) d2
+refusal-drafted t c n S m m1 cause g d0 d1 d2 len e same grounds one two =
+    let a = one (begins-empty t n S d0 len e) in
+    let next : n + 1 ≡ d1.next = let k = a.next in omega (arith, k, len) in
+    let b = two next a in
+    let whole : Asks c (ask_of m1) ∷ Answers c n g ∷ [] ≡ refusal_deeds c (ask_of m) cause S = rw (same, grounds, len) refl in
+    subst (λ (ds : List Deed). Drafts t S ds d2) whole b
+
+-- an ask in its room
+
+pub cond-false : (b : Bool) (x y : State) → b ≡ false → cond b x y ≡ y
+cond-false true x y e = absurd cc
+cond-false false x y e = refl
+
+pub cond-true : (b : Bool) (x y : State) → b ≡ true → cond b x y ≡ x
+cond-true true x y e = refl
+cond-true false x y e = absurd cc
+
+pub asks-entered : (t c : ℕ) (a : Ask) (n : Numbers) (S U : State) → S.sealed ≡ false → asked t c a n S ≡ U → fits U ≡ true → asks_in_room t c a n S ≡ U
+asks-entered t c a n S U unsealed is fit =
+    cond-false S.sealed S (in_room t (asked t c a n S) S) unsealed
+    ∙ (ap (λ (V : State). in_room t V S) is ∙ cond-true (fits U) U (seals t S) fit)
+
+pub asks-sealed : (t c : ℕ) (a : Ask) (n : Numbers) (S U : State) → S.sealed ≡ false → asked t c a n S ≡ U → fits U ≡ false → asks_in_room t c a n S ≡ seals t S
+asks-sealed t c a n S U unsealed is fit =
+    cond-false S.sealed S (in_room t (asked t c a n S) S) unsealed
+    ∙ (ap (λ (V : State). in_room t V S) is ∙ cond-false (fits U) U (seals t S) fit)
+
+-- the answer stands in the journal
+
+refusal-there : (xs : List Written) (u v : Written) → (slice_get (xs ++ u ∷ v ∷ []) (length xs) ≡ Some u) × (slice_get (xs ++ u ∷ v ∷ []) (length xs + 1) ≡ Some v)
+refusal-there [] u v = (refl, refl)
+refusal-there (x ∷ xs) u v =
+    let ih = refusal-there xs u v in
+    let e : suc (length xs) + 1 ≡ suc (length xs + 1) = omega arith in
+    (ih.0, subst (λ (k : ℕ). slice_get (x ∷ (xs ++ u ∷ v ∷ [])) k ≡ Some v) (sym e) ih.1)
+
+pub refusal-given-stands : (t c : ℕ) (S : State) (m : Mapping) (cause : Cause)
+    → IsGiven (entered_all t (refusal_deeds c (ask_of m) cause S) S).entries (refusal_given (length S.entries) t c m cause)
+refusal-given-stands t c S m cause =
+    let n = length S.entries in
+    let there = refusal-there S.entries (written t (Asks c (ask_of m))) (written t (Answers c n (Fault cause n))) in
+    let es = entered-entries t (refusal_deeds c (ask_of m) cause S) S in
+    subst (λ (h : List Written). IsGiven h (refusal_given n t c m cause)) (sym es)
+    (record { asked = t; ask_stands = there.0; stands = there.1; found = refl; counts = refl })
+
+pub refusal-conns : (t c : ℕ) (S : State) (a : Ask) (cause : Cause) → length (entered_all t (refusal_deeds c a cause S) S).conns ≤ length S.conns
+refusal-conns t c S a cause =
+    let one = length-map (pend c (Some (length S.entries))) S.conns in
+    let two = length-map (pend c None) (map (pend c (Some (length S.entries))) S.conns) in
+    omega (arith, one, two)
+
+pub next-of : (t : ℕ) (S : State) (ds : List Deed) (d : DraftValue) → Drafts t S ds d → length S.entries ≤ 65536 → length ds ≤ 1024 → d.next ≤ 66560
+next-of t S ds d h few short = let n = h.next in omega (arith, n, few, short)

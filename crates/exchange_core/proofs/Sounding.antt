@@ -1,0 +1,179 @@
+-- What the type of a core keeps, after entries have come.
+use Rattle.std.proofs.Common.{◌≡◌, ℕ, ◌+◌, ◌-◌, ◌^◌, ◌≤◌, ◌<◌, min, Bool, true, false, cond, List, [], ◌∷◌, ◌++◌, length, Option, None, refl, sym, ap, subst, ◌∙◌, arith, length-append}
+use Rattle.std.specs.Prelude.{sum_by}
+use Rattle.std.specs.List.{AllByRecursion}
+use Rattle.std.specs.Prelude.{not}
+use Rattle.std.proofs.Common.{eqb}
+use Rattle.std.proofs.lemmas.List.Sums.{sum_by-append, length-filter, count_by-le-length}
+use Rattle.ask_model.specs.Sizes.{capped}
+use Rattle.journal_book.specs.Entries.{Deed, Opens, Asks, Sends, Hears, Passes, Answers, Shuts, Seals, Written, entry_size}
+use Rattle.history_laws.specs.Readings.{Noted, entries}
+use Rattle.history_laws.specs.Connections.{opened_by, opened}
+use Rattle.exchange_model.specs.declared.kept.Conn.{Conn}
+use Rattle.exchange_model.specs.State.{State}
+use Rattle.exchange_model.specs.Room.{asks_waiting, KeptInRoom}
+use Rattle.exchange_model.specs.Entering.{IsDrained}
+use Rattle.exchange_model.specs.Resting.{HasConn}
+use Rattle.exchange_model.specs.Steps.{opens, shuts, seals}
+use Rattle.exchange_model.proofs.Tables.{entries-length}
+use Rattle.exchange_model.specs.Room.{fits}
+use Rattle.exchange_model.specs.declared.kept.Exchange.{Exchange}
+use Rattle.exchange_model.specs.State.{PeerLink}
+use Rattle.exchange_model.specs.Entering.{entered_all}
+use Rattle.exchange_core.specs.Drafts.{DraftValue, Drafts}
+use Rattle.exchange_core.specs.States.{with_draft}
+use Rattle.exchange_model.proofs.InRoom.{fits-parts, start-in-room, within-limits, opens-in-room, shuts-in-room}
+use Rattle.exchange_core.specs.Answering.{Given, IsGiven}
+use Rattle.exchange_core.specs.Sound.{SoundState}
+use Rattle.exchange_core.proofs.Drafting.{append-none}
+use Rattle.exchange_core.proofs.Stepping.{given-stay, given-join, entered-entries}
+
+-- small counts are what they are
+pub small-count : (b m top : ℕ) → b + m ≤ 268435456 → 268435456 ≤ top → min (b + min m top) top ≡ b + m
+small-count b m top small large = omega arith
+
+pub sound-more : (S S1 : State) (bytes bytes1 room room1 : ℕ) (gs gs1 more : List Given) (ws : List Written)
+    → SoundState S bytes room gs → KeptInRoom S1 → IsDrained S1 → S1.moment ≤ 2 ^ 62 → length S1.conns ≤ 256
+    → S1.entries ≡ S.entries ++ ws → bytes1 ≡ capped (bytes + capped (sum_by entry_size ws)) → room1 + length ws ≡ room
+    → gs1 ≡ gs ++ more → AllByRecursion (IsGiven S1.entries) more
+    → SoundState S1 bytes1 room1 gs1
+sound-more S S1 bytes bytes1 room room1 gs gs1 more ws s kept drained early few es bs rs gave given =
+    let sums : sum_by entry_size S1.entries ≡ sum_by entry_size S.entries + sum_by entry_size ws = ap (sum_by entry_size) es ∙ sum_by-append entry_size S.entries ws in
+    let limits = within-limits S1 kept in
+    let small : bytes + sum_by entry_size ws ≤ 268435456 = let c = s.count in let l = limits.1 in omega (arith, c, l, sums) in
+    let len : length S1.entries ≡ length S.entries + length ws = ap (λ (xs : List Written). length xs) es ∙ length-append S.entries ws in
+    record {
+      kept = kept;
+      drained = drained;
+      early = early;
+      few = few;
+      count = bs ∙ small-count bytes (sum_by entry_size ws) (2 ^ 64 - 1) small (omega arith) ∙ (let c = s.count in omega (arith, c, sums));
+      places = let p = s.places in omega (arith, p, len, rs);
+      given = subst (AllByRecursion (IsGiven S1.entries)) (sym gave)
+          (given-join S1.entries gs more
+          (subst (λ (h : List Written). AllByRecursion (IsGiven h) gs) (sym es) (given-stay S.entries ws gs s.given)) given);
+    }
+
+-- there is a place for each Shut, and for the seal
+pub place-left : (S : State) (bytes room : ℕ) (gs : List Given) → SoundState S bytes room gs
+    → length S.entries + length S.conns + asks_waiting S ≤ 65536
+place-left S bytes room gs s = (within-limits S s.kept).0
+
+-- as many connections were opened as there are entries, at most
+opened-once : (d : Deed) (n : ℕ) → opened_by d n ≤ n + 1
+opened-once (Opens c) n = omega arith
+opened-once (Asks c a) n = omega arith
+opened-once (Sends p b w) n = omega arith
+opened-once (Hears p b) n = omega arith
+opened-once Passes n = omega arith
+opened-once (Answers c k g) n = omega arith
+opened-once (Shuts c) n = omega arith
+opened-once Seals n = omega arith
+
+opened-few : (l : List Noted) → opened l ≤ length l
+opened-few [] = omega arith
+opened-few (x ∷ older) = let ih = opened-few older in let one = opened-once x.written.deed (opened older) in omega (arith, ih, one)
+
+pub opened-below : (S : State) (bytes room : ℕ) (gs : List Given) → SoundState S bytes room gs → S.opened < 4294967295
+opened-below S bytes room gs s =
+    let r = s.kept.kept.rests.reads in
+    let few = opened-few s.kept.kept.reading in
+    let is = r.opened_are in
+    let len = entries-length s.kept.kept.reading in
+    let same : length (entries s.kept.kept.reading) ≡ length S.entries = ap (λ (xs : List Written). length xs) r.entries_are in
+    let left = place-left S bytes room gs s in
+    omega (arith, few, is, len, same, left)
+
+-- one entry more, which is no answer
+one-more : (S S1 : State) (bytes bytes1 room room1 : ℕ) (gs gs1 : List Given) (w : Written)
+    → SoundState S bytes room gs → KeptInRoom S1 → IsDrained S1 → S1.moment ≤ 2 ^ 62 → length S1.conns ≤ 256
+    → S1.entries ≡ S.entries ++ w ∷ [] → entry_size w ≡ 64 → bytes1 ≡ capped (bytes + 64) → room1 + 1 ≡ room → gs1 ≡ gs
+    → SoundState S1 bytes1 room1 gs1
+one-more S S1 bytes bytes1 room room1 gs gs1 w s kept drained early few es size bs rs same =
+    let sum : sum_by entry_size (w ∷ []) ≡ 64 = omega (arith, size) in
+    sound-more S S1 bytes bytes1 room room1 gs gs1 [] (w ∷ []) s kept drained early few es
+    (bs ∙ ap (λ (k : ℕ). capped (bytes + capped k)) (sym sum)) rs (same ∙ sym (append-none gs)) tt
+
+-- which of two states it is
+pub second-of : (b : Bool) (x y : State) → b ≡ false → KeptInRoom (cond b x y) → KeptInRoom y
+second-of true x y e k = absurd cc
+second-of false x y e k = k
+
+pub first-of : (b : Bool) (x y : State) → b ≡ true → KeptInRoom (cond b x y) → KeptInRoom x
+first-of true x y e k = k
+first-of false x y e k = absurd cc
+
+pub sound-open : (t : ℕ) (S S1 : State) (bytes bytes1 room room1 : ℕ) (gs gs1 : List Given)
+    → SoundState S bytes room gs → S.sealed ≡ false → fits (opens t S) ≡ true → S.moment ≤ t → t ≤ 2 ^ 62 → length S.conns < 256
+    → S1 ≡ opens t S → bytes1 ≡ capped (bytes + 64) → room1 + 1 ≡ room → gs1 ≡ gs
+    → SoundState S1 bytes1 room1 gs1
+sound-open t S S1 bytes bytes1 room room1 gs gs1 s unsealed fit later early few is bs rs same =
+    let kept : KeptInRoom (opens t S) =
+    first-of (fits (opens t S)) (opens t S) (seals t S) fit
+    (second-of S.sealed S (cond (fits (opens t S)) (opens t S) (seals t S)) unsealed (opens-in-room t S s.kept later)) in
+    let d = s.drained in
+    let len : length (opens t S).conns ≡ length S.conns + 1 = length-append S.conns (record { id = S.opened; pending = None } ∷ []) in
+    subst (λ (U : State). SoundState U bytes1 room1 gs1) (sym is)
+    (one-more S (opens t S) bytes bytes1 room room1 gs gs1 _ s kept (record { once = d.once; out = d.out }) early (omega (arith, len, few)) refl refl bs rs same)
+
+pub sound-seal : (t : ℕ) (S S1 : State) (bytes bytes1 room room1 : ℕ) (gs gs1 : List Given)
+    → SoundState S bytes room gs → KeptInRoom (seals t S) → t ≤ 2 ^ 62
+    → S1 ≡ seals t S → bytes1 ≡ capped (bytes + 64) → room1 + 1 ≡ room → gs1 ≡ gs
+    → SoundState S1 bytes1 room1 gs1
+sound-seal t S S1 bytes bytes1 room room1 gs gs1 s kept early is bs rs same =
+    let d = s.drained in
+    let few = s.few in
+    subst (λ (U : State). SoundState U bytes1 room1 gs1) (sym is)
+    (one-more S (seals t S) bytes bytes1 room room1 gs gs1 _ s kept (record { once = d.once; out = d.out }) early few refl refl bs rs same)
+
+pub unopened : (t : ℕ) (S : State) → KeptInRoom S → S.sealed ≡ false → fits (opens t S) ≡ false → S.moment ≤ t → KeptInRoom (seals t S)
+unopened t S k unsealed fit later =
+    second-of (fits (opens t S)) (opens t S) (seals t S) fit
+    (second-of S.sealed S (cond (fits (opens t S)) (opens t S) (seals t S)) unsealed (opens-in-room t S k later))
+
+pub sound-shut : (t c : ℕ) (p : Option ℕ) (S S1 : State) (bytes bytes1 room room1 : ℕ) (gs gs1 : List Given)
+    → SoundState S bytes room gs → HasConn S.conns c p → S.moment ≤ t → t ≤ 2 ^ 62
+    → S1 ≡ shuts t c S → bytes1 ≡ capped (bytes + 64) → room1 + 1 ≡ room → gs1 ≡ gs
+    → SoundState S1 bytes1 room1 gs1
+sound-shut t c p S S1 bytes bytes1 room room1 gs gs1 s has later early is bs rs same =
+    let d = s.drained in
+    let few = s.few in
+    let less = length-filter (λ (x : Conn). not (eqb x.id c)) S.conns in
+    let most = count_by-le-length (λ (x : Conn). not (eqb x.id c)) S.conns in
+    subst (λ (U : State). SoundState U bytes1 room1 gs1) (sym is)
+    (one-more S (shuts t c S) bytes bytes1 room room1 gs gs1 _ s (shuts-in-room t c p S s.kept later has) (record { once = d.once; out = d.out }) early (omega (arith, less, few, most)) refl refl bs rs same)
+
+-- a core with no entry
+pub sound-start : (h : List Written) (cs : List Conn) (es : List Exchange) (xs : List PeerLink) (gs : List Given) (room : ℕ)
+    → h ≡ [] → cs ≡ [] → es ≡ [] → xs ≡ [] → gs ≡ [] → 65536 ≤ room
+    → SoundState (record { entries = h; sealed = false; moment = 0; opened = 0; issued = 0; conns = cs; exchanges = es; links = xs }) 0 room gs
+sound-start h cs es xs gs room a b c d e large =
+    rw (a, b, c, d, e) (record {
+      kept = start-in-room;
+      drained = record { once = tt; out = tt };
+      early = omega arith;
+      few = omega arith;
+      count = refl;
+      places = omega (arith, large);
+      given = tt;
+    })
+
+-- what was drafted has come, and no connection was opened by it
+pub sound-drafted : (t : ℕ) (S S1 : State) (bytes bytes1 room room1 : ℕ) (gs gs1 : List Given) (ds : List Deed) (d : DraftValue)
+    → SoundState S bytes room gs → Drafts t S ds d → S1.entries ≡ (entered_all t ds S).entries → S1.moment ≤ 2 ^ 62 → length S1.conns ≤ length S.conns
+    → KeptInRoom S1 → IsDrained S1 → bytes1 ≡ capped (bytes + capped (sum_by entry_size d.entries)) → room1 + length d.entries ≡ room
+    → gs1 ≡ gs ++ d.answers → AllByRecursion (IsGiven S1.entries) d.answers
+    → SoundState S1 bytes1 room1 gs1
+sound-drafted t S S1 bytes bytes1 room room1 gs gs1 ds d s h es early conns kept drained bs rs gave given =
+    let few = s.few in
+    sound-more S S1 bytes bytes1 room room1 gs gs1 d.answers d.entries s kept drained early (omega (arith, conns, few))
+    (es ∙ entered-entries t ds S ∙ ap (λ (ws : List Written). S.entries ++ ws) (sym h.entries)) bs rs gave given
+
+-- there are places for what fits
+pub room-for : (t : ℕ) (S : State) (bytes room : ℕ) (gs : List Given) (d : DraftValue) → SoundState S bytes room gs → fits (with_draft t d S) ≡ true
+    → length d.entries ≤ room
+room-for t S bytes room gs d s fit =
+    let p = s.places in
+    let e = (fits-parts (with_draft t d S) fit).0 in
+    let len = length-append S.entries d.entries in
+    omega (arith, p, e, len)

@@ -1,0 +1,124 @@
+-- What a step leaves of a core.
+use Rattle.std.proofs.Common.{◌≡◌, ℕ, zero, suc, ◌+◌, List, [], ◌∷◌, ◌++◌, length, map, drop, slice_get, Some, refl, sym, ap, ◌∙◌, append_assoc, length-append}
+use Rattle.std.specs.List.{AllByRecursion}
+use Rattle.coap_codec.specs.Spelling.{Content}
+use Rattle.ask_model.specs.Requests.{Sense, Requests, Refuses}
+use Rattle.journal_book.specs.Entries.{Grounds, Live, Kept, Fault, Seals, Deed, Written}
+use Rattle.reply_reading.specs.Findings.{Told, Tells, Fails}
+use Rattle.exchange_model.specs.declared.kept.Conn.{Conn}
+use Rattle.exchange_model.specs.State.{State}
+use Rattle.exchange_model.specs.Steps.{entered, seals}
+use Rattle.exchange_model.specs.Entering.{entered_all}
+use Rattle.exchange_core.specs.Values.{Outgoing, written, answered_in, sent_in, stepped}
+use Rattle.exchange_core.specs.Answering.{Given, HeardAs, AreHeard, IsFound, CountsFrom, IsGiven}
+use Rattle.exchange_core.specs.Drafts.{DraftValue, Drafts, conns_from, untaken_of}
+use Rattle.exchange_core.specs.States.{with_draft, core_of}
+use Rattle.exchange_core.proofs.Drafting.{map-append, append-none}
+
+-- entries in one piece
+
+joined : (t : ℕ) (S : State) (es fs : List Written) (cs ds : List Conn) → es ≡ fs → cs ≡ ds
+    → (record S { entries = es; conns = cs; moment = t }) ≡ (record S { entries = fs; conns = ds; moment = t })
+joined t S es fs cs ds e c = rw (e, c) refl
+
+entered-is : (t : ℕ) (x : Deed) (xs : List Deed) (S : State)
+    → entered_all t (x ∷ xs) S
+    ≡ (record S { entries = S.entries ++ map (written t) (x ∷ xs); conns = conns_from (length S.entries) (x ∷ xs) S.conns; moment = t })
+entered-is t x [] S = refl
+entered-is t x (y ∷ ys) S =
+    let S1 = entered t x S in
+    let len : length S1.entries ≡ length S.entries + 1 = length-append S.entries (written t x ∷ []) in
+    entered-is t y ys S1
+    ∙ joined t S _ _ _ _ (append_assoc S.entries (written t x ∷ []) (map (written t) (y ∷ ys)))
+    (ap (λ (k : ℕ). conns_from k (y ∷ ys) S1.conns) len)
+
+pub with-draft : (t : ℕ) (S : State) (x : Deed) (xs : List Deed) (d : DraftValue) → Drafts t S (x ∷ xs) d
+    → with_draft t d S ≡ entered_all t (x ∷ xs) S
+with-draft t S x xs d h =
+    joined t S _ _ _ _ (ap (λ es. S.entries ++ es) h.entries) h.conns ∙ sym (entered-is t x xs S)
+
+pub entered-entries : (t : ℕ) (ds : List Deed) (S : State) → (entered_all t ds S).entries ≡ S.entries ++ map (written t) ds
+entered-entries t [] S = sym (append-none S.entries)
+entered-entries t (x ∷ xs) S =
+    entered-entries t xs (entered t x S) ∙ append_assoc S.entries (written t x ∷ []) (map (written t) xs)
+
+-- a core after a step
+
+drop-front : {X : Type 0} (xs ys : List X) → drop (length xs) (xs ++ ys) ≡ ys
+drop-front [] ys = refl
+drop-front (x ∷ xs) ys = drop-front xs ys
+
+pub committed : (t : ℕ) (S S1 : State) (ds : List Deed) (d : DraftValue) (gs gs1 : List Given) (os os1 : List Outgoing)
+    → Drafts t S ds d → S1.entries ≡ (entered_all t ds S).entries → gs1 ≡ gs ++ d.answers → os1 ≡ os ++ d.sends
+    → core_of S1 gs1 os1 ≡ stepped S1 (core_of S gs os)
+committed t S S1 ds d gs gs1 os os1 h entries answers sends =
+    let more : drop (length S.entries) S1.entries ≡ map (written t) ds =
+    ap (drop (length S.entries)) (entries ∙ entered-entries t ds S) ∙ drop-front S.entries (map (written t) ds) in
+    let a : map untaken_of gs1 ≡ map untaken_of gs ++ answered_in (length S.entries) (map (written t) ds) =
+    ap (map untaken_of) answers ∙ map-append untaken_of gs d.answers ∙ ap (λ ns. map untaken_of gs ++ ns) h.answers in
+    let o : os1 ≡ os ++ sent_in (map (written t) ds) = sends ∙ ap (λ xs. os ++ xs) h.sends in
+    rw (more, a, o) refl
+
+-- a core whose journal is sealed
+pub stepped-seal : (t : ℕ) (S : State) (gs : List Given) (os : List Outgoing) → core_of (seals t S) gs os ≡ stepped (seals t S) (core_of S gs os)
+stepped-seal t S gs os =
+    rw (drop-front S.entries (written t Seals ∷ []), append-none (map untaken_of gs), append-none os) refl
+
+drop-all : {X : Type 0} (xs : List X) → drop (length xs) xs ≡ []
+drop-all [] = refl
+drop-all (x ∷ xs) = drop-all xs
+
+pub stepped-same : (S : State) (gs : List Given) (os : List Outgoing) → stepped S (core_of S gs os) ≡ core_of S gs os
+stepped-same S gs os = rw (drop-all S.entries, append-none (map untaken_of gs), append-none os) refl
+
+-- answers stand in a journal that grows
+
+pub slice-front : {X : Type 0} (xs ys : List X) (i : ℕ) (v : X) → slice_get xs i ≡ Some v → slice_get (xs ++ ys) i ≡ Some v
+slice-front [] ys i v e = absurd cc
+slice-front (x ∷ xs) ys zero v e = e
+slice-front (x ∷ xs) ys (suc i) v e = slice-front xs ys i v e
+
+heard-stays : (h more : List Written) (j t : ℕ) (m : Content) → HeardAs h j t m → HeardAs (h ++ more) j t m
+heard-stays h more j t m a = record { peer = a.peer; bytes = a.bytes; stands = slice-front h more j _ a.stands; spelled = a.spelled }
+
+all-heard-stay : (h more : List Written) (js : List ℕ) (ms : List Content) → AreHeard h js ms → AreHeard (h ++ more) js ms
+all-heard-stay h more [] [] a = tt
+all-heard-stay h more [] (m ∷ ms) a = absurd a
+all-heard-stay h more (j ∷ js) [] a = absurd a
+all-heard-stay h more (j ∷ js) (m ∷ ms) a = ((a.0.0, heard-stays h more j a.0.0 m a.0.1), all-heard-stay h more js ms a.1)
+
+pub found-stays : (h more : List Written) (told : Told) (g : Grounds) (s : Sense) → IsFound h told g s → IsFound (h ++ more) told g s
+found-stays h more (Tells w) (Live js) (Requests q) f = (f.0, all-heard-stay h more js f.0 f.1, f.2)
+found-stays h more (Tells w) (Live js) (Refuses cause status) f = absurd f
+found-stays h more (Tells w) (Kept js) s f = absurd f
+found-stays h more (Tells w) (Fault cause n) s f = absurd f
+found-stays h more (Fails cause) (Live js) s f = absurd f
+found-stays h more (Fails cause) (Kept js) s f = absurd f
+found-stays h more (Fails cause) (Fault named n) s f = f
+
+pub counts-stay : (h more : List Written) (g : Grounds) (t heard : ℕ) → CountsFrom h g t heard → CountsFrom (h ++ more) g t heard
+counts-stay h more (Live []) t heard c = c
+counts-stay h more (Live (j ∷ js)) t heard c = (c.0, heard-stays h more j heard c.0 c.1)
+counts-stay h more (Kept js) t heard c = c
+counts-stay h more (Fault cause n) t heard c = c
+
+pub is-given-stays : (h more : List Written) (g : Given) → IsGiven h g → IsGiven (h ++ more) g
+is-given-stays h more g i = record {
+  asked = i.asked;
+  ask_stands = slice-front h more g.ask _ i.ask_stands;
+  stands = slice-front h more g.number _ i.stands;
+  found = found-stays h more g.found.told g.found.grounds g.mapping.sense i.found;
+  counts = counts-stay h more g.found.grounds g.moment g.heard i.counts;
+}
+
+pub given-stay : (h more : List Written) (gs : List Given) → AllByRecursion (IsGiven h) gs → AllByRecursion (IsGiven (h ++ more)) gs
+given-stay h more [] a = tt
+given-stay h more (g ∷ gs) a = (is-given-stays h more g a.0, given-stay h more gs a.1)
+
+pub given-join : (h : List Written) (gs hs : List Given) → AllByRecursion (IsGiven h) gs → AllByRecursion (IsGiven h) hs → AllByRecursion (IsGiven h) (gs ++ hs)
+given-join h [] hs a b = b
+given-join h (g ∷ gs) hs a b = (a.0, given-join h gs hs a.1 b)
+
+-- the same parts make the same core
+pub same-core : (S T : State) (gs hs : List Given) (os ps : List Outgoing) → S ≡ T → gs ≡ hs → os ≡ ps → core_of S gs os ≡ core_of T hs ps
+same-core S T gs hs os ps a b c = rw (a, b, c) refl

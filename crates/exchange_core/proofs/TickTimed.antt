@@ -1,0 +1,143 @@
+-- The timeouts of the first sendings, how many entries a tick adds, and what it leaves.
+use Rattle.std.proofs.Common.{◌≡◌, ℕ, ◌+◌, ◌<◌, ◌^◌, Bool, true, false, cond, List, [], ◌∷◌, length, map, Option, Some, None, refl, sym, ap, subst, ◌∙◌, arith}
+use Rattle.std.specs.Prelude.{filter, fold}
+use Rattle.std.specs.List.{AllByRecursion, list_any}
+use Rattle.std.proofs.lemmas.Bool.{false≢true}
+use Rattle.uri_map.specs.declared.peer.Peer.{Peer}
+use Rattle.ask_model.specs.Requests.{same_peer}
+use Rattle.ask_model.proofs.Endpoints.{same_peer-same, same_peer-itself}
+use Rattle.journal_book.specs.Entries.{Passes, Answers}
+use Rattle.message_layer.specs.Values.{LinkState, empty_link}
+use Rattle.message_layer.specs.Sending.{IsNext}
+use Rattle.message_layer.specs.Prepared.{IsTick}
+use Rattle.message_layer.specs.Calls.{without}
+use Rattle.message_layer.specs.declared.prepared.FirstSending.{FirstSending}
+use Rattle.message_layer.specs.declared.prepared.Ticking.{Ticking}
+use Rattle.message_layer.specs.declared.prepared.Ticking.TheVariants.{Rests, Copies, GivesUp}
+use Rattle.message_layer.specs.declared.state.Outstanding.{Outstanding}
+use Rattle.message_layer.specs.declared.state.Waiting.{Waiting}
+use Rattle.history_links.specs.Agrees.{WaitIn}
+use Rattle.history_links.proofs.Facts.{all-filter}
+use Rattle.history_laws.specs.Exchanges.{waiting}
+use Rattle.history_laws.specs.Readings.{Noted}
+use Rattle.exchange_model.specs.declared.kept.Exchange.{Exchange}
+use Rattle.exchange_model.specs.State.{PeerLink, State, link_of}
+use Rattle.exchange_model.specs.Steps.{entered, passes, is_gone}
+use Rattle.exchange_model.specs.Calls.{waits_on, times_out, timed_out, something_due, move_all, ticked}
+use Rattle.exchange_model.specs.Entering.{entered_all, timeout_of, sent_as, all_deeds, all_going, goes_on, link_after, StandsOnce, IsDrained}
+use Rattle.exchange_model.specs.Keeping.{Kept, MayStep}
+use Rattle.exchange_model.proofs.Passed.{moved-put}
+use Rattle.exchange_core.specs.declared.state.Endpoint.{Endpoint}
+use Rattle.exchange_core.specs.Passing.{tick_adds}
+use Rattle.exchange_core.specs.States.{peer_link}
+use Rattle.exchange_core.specs.Turns.{AreTurns, AreTimed, IsTimedTurn}
+use Rattle.exchange_core.specs.Sending.{IsTimed}
+
+abbrev InTime : LinkState → Type 0
+InTime s = AllByRecursion (λ (w : Waiting). w.timeout < 2 ^ 32) s.waiting
+
+wait-timed : (l : List Noted) (os : List ℕ) (ws : List Waiting) → WaitIn l os ws
+    → AllByRecursion (λ (w : Waiting). w.timeout < 2 ^ 32) ws
+wait-timed l [] [] a = tt
+wait-timed l (o ∷ os) [] a = absurd a
+wait-timed l [] (w ∷ ws) a = absurd a
+wait-timed l (o ∷ os) (w ∷ ws) a =
+    let s = a.0.greatest in (omega (arith, s), wait-timed l os ws a.1)
+
+link-timed : (S : State) → Kept S → (p : Peer) → InTime (link_of S.links p)
+link-timed S k p = wait-timed k.reading (waiting k.reading p) (link_of S.links p).waiting
+    (k.rests.reads.links_are p).waits
+
+-- Each link is the one of its own endpoint.
+gone-link : (q p : Peer) (ys : List PeerLink)
+    → AllByRecursion (λ (y : PeerLink). same_peer q y.peer ≡ false) ys → same_peer q p ≡ true
+    → link_of ys p ≡ empty_link
+gone-link q p [] a e = refl
+gone-link q p (y ∷ ys) a e = by (same_peer y.peer p) refl (gone-link q p ys a.1 e)
+  where
+    by : (b : Bool) → same_peer y.peer p ≡ b → link_of ys p ≡ empty_link
+        → cond b y.link (link_of ys p) ≡ empty_link
+    by true f rest =
+        absurd (false≢true (sym a.0 ∙ ap (same_peer q) (same_peer-same y.peer p f) ∙ e))
+    by false f rest = rest
+
+all-timed : (xs : List PeerLink) → StandsOnce xs → ((p : Peer) → InTime (link_of xs p))
+    → AllByRecursion (λ (x : PeerLink). InTime x.link) xs
+all-timed [] once h = tt
+all-timed (x ∷ xs) once h = (
+  subst (λ (b : Bool). InTime (cond b x.link (link_of xs x.peer))) (same_peer-itself x.peer)
+      (h x.peer),
+  all-timed xs once.1 (λ p. rest p (same_peer x.peer p) refl (h p)),
+)
+  where
+    rest : (p : Peer) (b : Bool) → same_peer x.peer p ≡ b → InTime (cond b x.link (link_of xs p))
+        → InTime (link_of xs p)
+    rest p true e k = subst InTime (sym (gone-link x.peer p xs once.0 e)) tt
+    rest p false e k = k
+
+first-timed : (t : ℕ) (last : Option ℕ) (ws : List Waiting) (next : Option FirstSending)
+    → AllByRecursion (λ (w : Waiting). w.timeout < 2 ^ 32) ws → IsNext t last ws next
+    → IsTimed next
+first-timed t last ws None a h = tt
+first-timed t last [] (Some f) a h = absurd h
+first-timed t last (w ∷ ws) (Some f) a h =
+    subst (λ (o : Outstanding). o.timeout < 2 ^ 32) (sym h.0) a.0
+
+turn-timed : (t : ℕ) (s : LinkState) (room : Bool) (k : Ticking) → InTime s → IsTick t s room k
+    → IsTimedTurn k
+turn-timed t s room Rests a h = tt
+turn-timed t s room (Copies d) a h = tt
+turn-timed t s room (GivesUp token next) a h = first-timed t s.last_mid s.waiting next a h.sent
+
+turns-timed : (t : ℕ) (gone : List (List ℕ)) (xs : List Endpoint) (ks : List Ticking)
+    → AllByRecursion (λ (x : PeerLink). InTime x.link) (map peer_link xs)
+    → AreTurns t gone xs ks → AreTimed ks
+turns-timed t gone [] [] a h = tt
+turns-timed t gone [] (k ∷ ks) a h = absurd h
+turns-timed t gone (x ∷ xs) [] a h = absurd h
+turns-timed t gone (x ∷ xs) (k ∷ ks) a h = (
+  turn-timed t (without gone x.link.state) x.link.room k
+      (all-filter (λ (w : Waiting). w.timeout < 2 ^ 32) _ x.link.state.waiting a.0) h.0,
+  turns-timed t gone xs ks a.1 h.1,
+)
+
+pub are-timed : (t : ℕ) (gone : List (List ℕ)) (xs : List Endpoint) (ks : List Ticking) (S : State)
+    → S.links ≡ map peer_link xs → Kept S → IsDrained S → AreTurns t gone xs ks → AreTimed ks
+are-timed t gone xs ks S is k drained h =
+    turns-timed t gone xs ks
+    (subst (AllByRecursion (λ (x : PeerLink). InTime x.link)) is
+    (all-timed S.links drained.once (link-timed S k))) h
+
+-- Answers leave the exchanges and the links.
+one-put : (t : ℕ) (e : Exchange) (es : List Exchange) (xs : List PeerLink) (S : State)
+    → times_out t (record S { exchanges = es; links = xs }) e
+    ≡ (record (times_out t S e) { exchanges = es; links = xs })
+one-put t e es xs S = by (list_any (waits_on e) S.conns)
+  where
+    by : (b : Bool)
+        → cond b (entered t (Answers e.conn e.opening (timeout_of e))
+        (record S { exchanges = es; links = xs })) (record S { exchanges = es; links = xs })
+        ≡ (let S1 = cond b (entered t (Answers e.conn e.opening (timeout_of e)) S) S in
+        record S1 { exchanges = es; links = xs })
+    by true = refl
+    by false = refl
+
+still-put : (t : ℕ) (l es : List Exchange) (xs : List PeerLink) (S : State)
+    → fold (times_out t) (record S { exchanges = es; links = xs }) l
+    ≡ (let S1 = fold (times_out t) S l in record S1 { exchanges = es; links = xs })
+still-put t [] es xs S = refl
+still-put t (e ∷ l) es xs S =
+    ap (λ (V : State). fold (times_out t) V l) (one-put t e es xs S)
+    ∙ still-put t l es xs (times_out t S e)
+
+pub ticked-is : (t : ℕ) (S : State) → MayStep t S → IsDrained S → something_due t S ≡ true
+    → ticked t S ≡ (let U = tick_adds t S in record U {
+      exchanges = sent_as (all_going t (is_gone t S) (length S.entries + 1) S.links)
+          (filter (goes_on t S) S.exchanges);
+      links = map (link_after t (is_gone t S)) S.links;
+    })
+ticked-is t S may drained due =
+    ap (λ (b : Bool). cond b (fold (times_out t) (move_all t (passes t S)) (timed_out t S)) S) due
+    ∙ ap (λ (V : State). fold (times_out t) V (timed_out t S)) (moved-put t S may drained)
+    ∙ still-put t (timed_out t S) _ _
+    (entered_all t (Passes ∷ all_deeds t (is_gone t S) S.links) S)

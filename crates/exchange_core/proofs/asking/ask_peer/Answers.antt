@@ -1,0 +1,31 @@
+use Rattle.std.proofs.Common.{◌≡◌, false, sym, ap, subst, arith}
+use Rattle.uri_map.specs.declared.peer.Peer.{Peer}
+use Rattle.exchange_model.specs.Calls.{has_place}
+use Rattle.std.specs.Arc.{arc_value}
+use Rattle.ask_model.specs.Views.{Mapping}
+use Rattle.ask_model.specs.declared.cause.Cause.TheVariants as C
+use Rattle.journal_book.specs.Views.{ask_of}
+use Rattle.exchange_model.specs.State.{State}
+use Rattle.exchange_core.specs.Refusing.{MayRefuse}
+use Rattle.exchange_core.specs.Values.{CoreValue}
+use Rattle.exchange_core.specs.States.{state_of}
+use Rattle.exchange_core.proofs.Asks.{full-no-place, may-be-busy, request-of}
+use Rattle.exchange_core.proofs.asking.ask_peer.Goals as goal
+
+pub turn_away-requires-clause-refused : goal.turn_away-requires-clause-refused
+turn_away-requires-clause-refused g c =
+    let r = request-of _ _ c.requires.asked in
+    let test = c.if-len-ge-MAX_EXCHANGES.true in
+    let len = c.len.ensures in
+    may-be-busy c.args.moment c.args.conn _ r.0 (state_of c.args.s.now) c.requires.sound.kept c.requires.unsealed c.requires.later c.requires.idle c.requires.small r.1
+    (full-no-place c.args.moment r.0.peer (state_of c.args.s.now) (omega (arith, test, len)))
+
+pub turn_away-requires-in-Busy-clause-refused : goal.turn_away-requires-in-Busy-clause-refused
+turn_away-requires-in-Busy-clause-refused g c =
+    let r = request-of _ _ c.requires.asked in
+    let e = rw (c.in-Busy.is) at c.in-Ok.ensures.begins in
+    let same = ap (λ (v : CoreValue). v.state) e.0 in
+    subst (λ (S : State). MayRefuse c.args.moment c.args.conn (ask_of (arc_value c.in-Busy.mapped)) C.Busy S) (sym same)
+    (subst (λ (m : Mapping). MayRefuse c.args.moment c.args.conn (ask_of m) C.Busy (state_of c.args.s.now)) (sym e.2)
+    (may-be-busy c.args.moment c.args.conn _ r.0 (state_of c.args.s.now) c.requires.sound.kept c.requires.unsealed c.requires.later c.requires.idle c.requires.small r.1
+    (subst (λ (p : Peer). has_place c.args.moment p (state_of c.args.s.now) ≡ false) (sym r.2) e.1)))

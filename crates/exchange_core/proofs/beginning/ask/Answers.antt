@@ -1,0 +1,66 @@
+use Rattle.std.proofs.Common.{refl, arith}
+use Rattle.std.specs.Arc.{arc_value}
+use Rattle.exchange_core.proofs.Ordered.{conns-ordered}
+use Rattle.exchange_core.proofs.BeginLinks.{link-takes}
+use Rattle.exchange_core.proofs.Begins.{timely, sent-next}
+use Rattle.exchange_core.proofs.BeginSound.{enters-sound, enters-ok, enters-err, entered-by, exchange-is}
+use Rattle.exchange_core.proofs.Sounding.{place-left}
+use Rattle.exchange_core.proofs.beginning.ask.Goals as goal
+
+pub draft_ask-requires-clause-timely : goal.draft_ask-requires-clause-timely
+draft_ask-requires-clause-timely g c = timely c.args.moment c.args.peer _ c.args.prepared.submission (link-takes _ _ _ _ _ c.requires.may)
+
+pub exchange_of-exchange-requires : goal.exchange_of-exchange-requires
+exchange_of-exchange-requires g c =
+    let left = place-left _ _ _ _ c.requires.sound in
+    let n = c.len-number.ensures in
+    omega (arith, left, n)
+
+pub returns-in-Ok-clause-sound : goal.returns-in-Ok-clause-sound
+returns-in-Ok-clause-sound g c =
+    let n = c.len-number.ensures in
+    let k = link-takes _ _ _ _ _ c.requires.may in
+    let next = sent-next _ _ _ _ _ k c.requires.waiting in
+    let h = c.in_ok-draft.ensures.drafts in
+    let i = entered-by c.enter.result _ _ _ _ _ c.in_ok-draft.draft c.args.s.now c.enter.new.s
+    (exchange-is _ _ _ _ _ _ _ _ n c.exchange_of-exchange.ensures) c.requires.waiting c.enter.ensures in
+    enters-sound c.args.moment c.args.word c.args.conn (arc_value c.args.mapped) c.args.peer c.args.token c.args.text.now c.args.prepared.submission.sent c.in_ok-draft.draft c.args.s.now c.enter.new.s
+    c.requires.sound c.requires.begins h next c.in_ok-draft.ensures.answers c.enter.result i
+
+pub returns-in-Err-clause-sound : goal.returns-in-Err-clause-sound
+returns-in-Err-clause-sound g c =
+    let n = c.len-number.ensures in
+    let k = link-takes _ _ _ _ _ c.requires.may in
+    let next = sent-next _ _ _ _ _ k c.requires.waiting in
+    let h = c.in_ok-draft.ensures.drafts in
+    let i = entered-by c.enter.result _ _ _ _ _ c.in_ok-draft.draft c.args.s.now c.enter.new.s
+    (exchange-is _ _ _ _ _ _ _ _ n c.exchange_of-exchange.ensures) c.requires.waiting c.enter.ensures in
+    enters-sound c.args.moment c.args.word c.args.conn (arc_value c.args.mapped) c.args.peer c.args.token c.args.text.now c.args.prepared.submission.sent c.in_ok-draft.draft c.args.s.now c.enter.new.s
+    c.requires.sound c.requires.begins h next c.in_ok-draft.ensures.answers c.enter.result i
+
+pub returns-in-Ok-clause-ok : goal.returns-in-Ok-clause-ok
+returns-in-Ok-clause-ok g c =
+    let n = c.len-number.ensures in
+    let k = link-takes _ _ _ _ _ c.requires.may in
+    let next = sent-next _ _ _ _ _ k c.requires.waiting in
+    let h = c.in_ok-draft.ensures.drafts in
+    let i = entered-by c.enter.result _ _ _ _ _ c.in_ok-draft.draft c.args.s.now c.enter.new.s
+    (exchange-is _ _ _ _ _ _ _ _ n c.exchange_of-exchange.ensures) c.requires.waiting c.enter.ensures in
+    let b =
+    enters-ok c.args.moment c.args.word c.args.conn (arc_value c.args.mapped) c.args.peer c.args.token c.args.text.now c.args.prepared.submission.sent c.in_ok-draft.draft c.args.s.now c.enter.new.s
+    c.requires.sound c.requires.begins h next c.in_ok-draft.ensures.answers c.in-Ok.field-0 (rw (c.in-Ok.is) at i) in
+    (refl, refl, (n, b.1, b.2))
+
+pub returns-in-Err-clause-err : goal.returns-in-Err-clause-err
+returns-in-Err-clause-err g c =
+    let n = c.len-number.ensures in
+    let k = link-takes _ _ _ _ _ c.requires.may in
+    let next = sent-next _ _ _ _ _ k c.requires.waiting in
+    let h = c.in_ok-draft.ensures.drafts in
+    let i = entered-by c.enter.result _ _ _ _ _ c.in_ok-draft.draft c.args.s.now c.enter.new.s
+    (exchange-is _ _ _ _ _ _ _ _ n c.exchange_of-exchange.ensures) c.requires.waiting c.enter.ensures in
+    enters-err c.args.moment c.args.word c.args.conn (arc_value c.args.mapped) c.args.peer c.args.token c.args.text.now c.args.prepared.submission.sent c.in_ok-draft.draft c.args.s.now c.enter.new.s
+    c.requires.sound c.requires.begins h next c.in_ok-draft.ensures.answers (Unit {0}) c.in-Err.fault (rw (c.in-Err.is) at i)
+
+pub draft_ask-requires-clause-ordered : goal.draft_ask-requires-clause-ordered
+draft_ask-requires-clause-ordered g c = conns-ordered _ c.requires.sound.kept

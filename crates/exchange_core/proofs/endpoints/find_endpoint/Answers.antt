@@ -1,0 +1,11 @@
+use Rattle.std.proofs.Common.{sym, ◌∙◌, add-one}
+use Rattle.exchange_core.proofs.Placing.{first-at, none-more}
+use Rattle.exchange_core.proofs.endpoints.find_endpoint.Goals as goal
+
+pub returns-then-is_same_peer-clause-some : goal.returns-then-is_same_peer-clause-some
+returns-then-is_same_peer-clause-some c =
+    first-at c.args.peer.now c.args.endpoints.now c.each.place c.index-endpoints-place.result c.each-test.true c.each.invariant (sym c.is_same_peer.ensures ∙ c.if-is_same_peer.true)
+
+pub each-preserved : goal.each-preserved
+each-preserved c =
+    rw (add-one) (none-more c.args.peer.now c.args.endpoints.now c.each.place c.index-endpoints-place.result c.each-test.true c.each.invariant (sym c.is_same_peer.ensures ∙ c.if-is_same_peer.false))

@@ -1,0 +1,21 @@
+use Rattle.std.proofs.Common.{refl, sym, ◌∙◌, arith}
+use Rattle.exchange_model.specs.Steps.{is_under}
+use Rattle.exchange_core.specs.Places.{IsOnlyAt, IsNowhere}
+use Rattle.exchange_core.proofs.Standing.{filter-only, filter-none}
+use Rattle.exchange_core.proofs.exchanges.drop_exchange.Goals as goal
+
+pub remove-requires : goal.remove-requires
+remove-requires c =
+    let below = c.in-Some.ensures.below in
+    let len = c.as_slice.ensures.len in
+    omega (arith, below, len)
+
+pub returns-in-Some : goal.returns-in-Some
+returns-in-Some c =
+    let at : IsOnlyAt (is_under c.args.token.now) c.args.exchanges.now.items c.in-Some.place = rw (c.as_slice.ensures.value) at c.in-Some.ensures.some in
+    c.remove.ensures.items ∙ sym (filter-only (is_under c.args.token.now) c.args.exchanges.now.items c.in-Some.place at)
+
+pub returns-in_default : goal.returns-in_default
+returns-in_default c =
+    let none : IsNowhere (is_under c.args.token.now) c.args.exchanges.now.items = rw (c.as_slice.ensures.value) at (c.in_default.ensures.none refl) in
+    sym (filter-none (is_under c.args.token.now) c.args.exchanges.now.items none)

@@ -1,0 +1,70 @@
+-- Answers, as plain data.
+use Rattle.std.specs.Prelude.{◌≡◌, ℕ, List, [], ◌∷◌, Some, slice_get, ⊤}
+use Rattle.std.specs.Arc.{arc_value}
+use Rattle.coap_codec.specs.Spelling.{Content, Spells}
+use Rattle.uri_map.specs.declared.peer.Peer.{Peer}
+use Rattle.ask_model.specs.Requests.{Sense, Requests}
+use Rattle.ask_model.specs.Views.{Mapping}
+use Rattle.journal_book.specs.Entries.{Grounds, Live, Fault, Asks, Hears, Answers, Written}
+use Rattle.journal_book.specs.Views.{ask_of}
+use Rattle.history_laws.specs.Responses.{whole_of}
+use Rattle.reply_reading.specs.Findings.{Found, Told, Tells, Fails}
+use Rattle.exchange_core.specs.declared.answer.Answer.{Answer}
+use Rattle.exchange_core.specs.Values.{written}
+
+pub record Given : Type 0 where
+  pub conn : ℕ
+  pub ask : ℕ
+  pub number : ℕ
+  pub moment : ℕ
+  pub heard : ℕ
+  pub mapping : Mapping
+  pub found : Found
+
+abbrev pub given_of : {R : Type 0} → Answer R → Given
+given_of a = record {
+  conn = a.conn;
+  ask = a.ask;
+  number = a.number;
+  moment = a.moment;
+  heard = a.heard;
+  mapping = arc_value a.mapped;
+  found = a.finding;
+}
+
+-- its entry
+abbrev pub answer_entry : Given → Written
+answer_entry g = written g.moment (Answers g.conn g.ask g.found.grounds)
+
+-- The entry with this number was heard at this moment, and spells this message.
+pub record HeardAs (h : List Written) (j t : ℕ) (m : Content) : Type 0 where
+  pub peer : Peer
+  pub bytes : List ℕ
+  pub stands : slice_get h j ≡ Some (written t (Hears peer bytes))
+  pub spelled : Spells m bytes
+
+-- In order, the entries with these numbers spell these messages.
+abbrev pub AreHeard : List Written → List ℕ → List Content → Type 0
+AreHeard h [] [] = ⊤
+AreHeard h (j ∷ js) (m ∷ ms) = ((t : ℕ) × HeardAs h j t m) × AreHeard h js ms
+AreHeard h _ _ = ⊥
+
+-- What an ask came to is what its grounds say: the whole response that the replies are, or the cause.
+abbrev pub IsFound : List Written → Told → Grounds → Sense → Type 0
+IsFound h (Tells w) (Live js) (Requests q) =
+    (ms : List Content) × AreHeard h js ms × (whole_of q ms ≡ Some w)
+IsFound h (Fails cause) (Fault named n) sense = cause ≡ named
+IsFound h _ _ _ = ⊥
+
+-- It counts from the moment at which its first reply was heard, or else at which it was given.
+abbrev pub CountsFrom : List Written → Grounds → ℕ → ℕ → Type 0
+CountsFrom h (Live (j ∷ js)) t heard = (m : Content) × HeardAs h j heard m
+CountsFrom h _ t heard = heard ≡ t
+
+-- The entries have the ask, by this connection, and its answer on these grounds.
+pub record IsGiven (h : List Written) (g : Given) : Type 0 where
+  pub asked : ℕ
+  pub ask_stands : slice_get h g.ask ≡ Some (written asked (Asks g.conn (ask_of g.mapping)))
+  pub stands : slice_get h g.number ≡ Some (answer_entry g)
+  pub found : IsFound h g.found.told g.found.grounds g.mapping.sense
+  pub counts : CountsFrom h g.found.grounds g.moment g.heard

@@ -1,0 +1,126 @@
+-- Asks that begin an exchange.
+use Rattle.std.specs.Prelude.{◌≡◌, ℕ, ◌+◌, ◌≤◌, ◌<◌, ◌^◌, true, false, List, [], ◌∷◌, ◌++◌, length, sum_by, Option, Some, None, option_map, Result, Ok, Err, ⊤}
+use Rattle.std.specs.Arc.{arc_value}
+use Rattle.limits.specs.declared.TheConstants.{LAST_MOMENT, MAX_MESSAGE_LEN, MAX_REQUEST_SIZE}
+use Rattle.coap_codec.specs.Spelling.{Spells}
+use Rattle.uri_map.specs.declared.peer.Peer.{Peer}
+use Rattle.ask_model.specs.Requests.{CoapRequest, Sense, Requests, Refuses, request_message}
+use Rattle.ask_model.specs.Sizes.{capped, came_size}
+use Rattle.ask_model.specs.Datagrams.{asked_peer}
+use Rattle.ask_model.specs.Views.{Mapping}
+use Rattle.journal_book.specs.Entries.{Deed, Sends, entry_size}
+use Rattle.journal_book.specs.Views.{ask_of}
+use Rattle.message_layer.specs.declared.prepared.FirstSending.{FirstSending}
+use Rattle.message_layer.specs.declared.state.Waiting.{Waiting}
+use Rattle.exchange_model.specs.declared.kept.Exchange.{Exchange}
+use Rattle.exchange_model.specs.State.{State}
+use Rattle.exchange_model.specs.Steps.{seals}
+use Rattle.exchange_model.specs.Calls.{Numbers, has_place}
+use Rattle.exchange_model.specs.Resting.{HasConn}
+use Rattle.exchange_model.specs.Room.{fits}
+use Rattle.exchange_core.specs.declared.beginning.Begun.{Begun}
+use Rattle.exchange_core.specs.declared.beginning.Begun.TheVariants.{Asked, Busy}
+use Rattle.exchange_core.specs.declared.fault.AskFault.{AskFault}
+use Rattle.exchange_core.specs.declared.fault.AskFault.TheVariants as Ask
+use Rattle.exchange_core.specs.declared.state.State.{State as RustState}
+use Rattle.exchange_core.specs.Calls.{IsWordedBy, AsksSo}
+use Rattle.exchange_core.specs.Drafts.{DraftValue}
+use Rattle.exchange_core.specs.States.{state_of, given_in, outgoing, with_draft, SeesSame}
+use Rattle.exchange_core.specs.Submitting.{submitted_to}
+use Rattle.exchange_core.specs.Values.{CoreValue}
+
+abbrev pub IsRequest : Sense → Type 0
+IsRequest (Requests q) = ⊤
+IsRequest (Refuses cause status) = ⊥
+
+-- the message of a request, spelled under ID 0
+pub record IsTextFor (sense : Sense) (token text : List ℕ) : Type 0 where
+  pub request : CoapRequest
+  pub is : sense ≡ Requests request
+  pub spelled : Spells (request_message request 0 token) text
+  pub short : length text ≤ MAX_MESSAGE_LEN
+
+-- the exchange that the ask with this number opens
+abbrev pub exchange_by : ℕ → ℕ → List ℕ → Peer → Option FirstSending → ℕ → Exchange
+exchange_by t c token p sent n = record {
+  opening = n;
+  token = token;
+  since = t;
+  peer = p;
+  conn = c;
+  sending = option_map (λ (x : FirstSending). n + 1) sent;
+}
+
+-- one exchange more, whose message was handed in under the next token
+abbrev pub with_exchange : ℕ → Exchange → Waiting → State → State
+with_exchange t e w S = record S {
+  issued = S.issued + 1;
+  exchanges = S.exchanges ++ e ∷ [];
+  links = submitted_to e.peer t w S.links;
+}
+
+abbrev pub numbers_of : List ℕ → List ℕ → ℕ → Numbers
+numbers_of token text word = record { token = token; text = text; word = word }
+
+-- There is a place for the ask of a connection that waits for nothing, and its message is spelled
+-- under the next token.
+pub record MayBegin (t word c : ℕ) (m : Mapping) (p : Peer) (token text : List ℕ) (S : State)
+    : Type 0 where
+  pub unsealed : S.sealed ≡ false
+  pub later : S.moment ≤ t
+  pub early : t ≤ LAST_MOMENT
+  pub idle : HasConn S.conns c None
+  pub peer : asked_peer m.sense ≡ Some p
+  pub spelled : IsTextFor m.sense token text
+  pub small : came_size m.came ≤ MAX_REQUEST_SIZE
+  pub worded : IsWordedBy word (numbers_of token text word) S
+  pub place : has_place t p S ≡ true
+
+-- The state is this one, after so many entries more, of so many bytes.
+pub record Leaves {R : Type 0} (S : State) (d : DraftValue) (old new : RustState R) : Type 0 where
+  pub state : state_of new ≡ S
+  pub bytes : new.bytes ≡ capped (old.bytes + capped (sum_by entry_size d.entries))
+  pub room : new.journal.room + length d.entries ≡ old.journal.room
+  pub answers : given_in new ≡ given_in old ++ d.answers
+  pub sends : outgoing new ≡ outgoing old ++ d.sends
+
+pub record LeavesSealed {R : Type 0} (t : ℕ) (old new : RustState R) : Type 0 where
+  pub state : state_of new ≡ seals t (state_of old)
+  pub bytes : new.bytes ≡ capped (old.bytes + 64)
+  pub room : new.journal.room + 1 ≡ old.journal.room
+  pub answers : given_in new ≡ given_in old
+  pub sends : outgoing new ≡ outgoing old
+
+-- What was drafted is entered with its exchange where there is room for it; else the journal is
+-- sealed. Where memory is wanted, nothing changes.
+abbrev pub IsEntered : {R X : Type 0} → Result X AskFault → ℕ → Exchange → Waiting → DraftValue
+    → RustState R → RustState R → Type 0
+IsEntered (Ok x) t e w d old new =
+    (fits (with_draft t d (state_of old)) ≡ true)
+    × Leaves (with_exchange t e w (with_draft t d (state_of old))) d old new
+IsEntered (Err Ask.Sealed) t e w d old new =
+    (fits (with_draft t d (state_of old)) ≡ false) × LeavesSealed t old new
+IsEntered (Err Ask.Memory) t e w d old new = SeesSame old new
+IsEntered (Err Ask.Unknown) t e w d old new = ⊥
+IsEntered (Err Ask.Pending) t e w d old new = ⊥
+
+-- An ask is entered under the next number, and its exchange begins; or there is no place for it; or
+-- the journal takes it no more. Where memory is wanted, nothing changes.
+abbrev pub IsBegunBy : Result ℕ AskFault → ℕ → ℕ → ℕ → Mapping → CoreValue → CoreValue → Type 0
+IsBegunBy (Ok k) t word c m old new =
+    (k ≡ length old.state.entries) × (new.state.sealed ≡ false)
+    × AsksSo t word c (ask_of m) old new
+IsBegunBy (Err Ask.Sealed) t word c m old new =
+    (new.state.sealed ≡ true) × AsksSo t word c (ask_of m) old new
+IsBegunBy (Err Ask.Memory) t word c m old new = new ≡ old
+IsBegunBy (Err Ask.Unknown) t word c m old new = ⊥
+IsBegunBy (Err Ask.Pending) t word c m old new = ⊥
+
+abbrev pub IsBegun : {R : Type 0} → Result (Begun R) AskFault → ℕ → ℕ → ℕ → Mapping → Peer
+    → CoreValue → CoreValue → Type 0
+IsBegun (Ok (Asked ticket)) t word c m p old new =
+    (ticket.conn ≡ c) × (arc_value ticket.mapped ≡ m)
+    × IsBegunBy (Ok ticket.number) t word c m old new
+IsBegun (Ok (Busy mapped)) t word c m p old new =
+    (new ≡ old) × (has_place t p old.state ≡ false) × (arc_value mapped ≡ m)
+IsBegun (Err e) t word c m p old new = IsBegunBy (Err e) t word c m old new

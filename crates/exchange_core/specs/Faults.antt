@@ -1,0 +1,17 @@
+-- What is printed of a fault.
+use Rattle.std.specs.Prelude.{ℕ, List, codes}
+use Rattle.exchange_core.specs.declared.fault.OpenFault.{OpenFault}
+use Rattle.exchange_core.specs.declared.fault.OpenFault.TheVariants as Open
+use Rattle.exchange_core.specs.declared.fault.AskFault.{AskFault}
+use Rattle.exchange_core.specs.declared.fault.AskFault.TheVariants as Ask
+
+abbrev pub opening_text : OpenFault → List ℕ
+opening_text Open.Full = codes "as many connections are open as may be"
+opening_text Open.Sealed = codes "the journal is sealed"
+opening_text Open.Memory = codes "out of memory"
+
+abbrev pub asking_text : AskFault → List ℕ
+asking_text Ask.Unknown = codes "no such connection is open"
+asking_text Ask.Pending = codes "the connection waits for an answer"
+asking_text Ask.Sealed = codes "the journal is sealed"
+asking_text Ask.Memory = codes "out of memory"

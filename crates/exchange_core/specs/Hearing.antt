@@ -1,0 +1,92 @@
+-- What a datagram leaves of a core.
+use Rattle.std.specs.Prelude.{ℕ, ◌+◌, ◌<◌, List, [], ◌∷◌, ◌++◌, length, map, filter, Option, Some, None, if◌then◌else◌, ⊤}
+use Rattle.coap_codec.specs.Spelling.{Content}
+use Rattle.uri_map.specs.declared.peer.Peer.{Peer}
+use Rattle.ask_model.specs.declared.cause.Cause.TheVariants.{Reset}
+use Rattle.journal_book.specs.Entries.{Fault, Deed, Sends, Hears}
+use Rattle.history_laws.specs.Responses.{Response, is_whole, response_of}
+use Rattle.reply_reading.specs.Findings.{Found, Fails, found_by}
+use Rattle.message_layer.specs.Values.{LinkState, Told, response, was_reset}
+use Rattle.message_layer.specs.Hearing.{applied, listed}
+use Rattle.message_layer.specs.declared.prepared.FirstSending.{FirstSending}
+use Rattle.message_layer.specs.declared.prepared.Heeding.{Heeding}
+use Rattle.history_links.specs.Steps.{ended_token}
+use Rattle.exchange_model.specs.declared.kept.Conn.{Conn}
+use Rattle.exchange_model.specs.declared.kept.Exchange.{Exchange}
+use Rattle.exchange_model.specs.State.{State, link_of, with_link}
+use Rattle.exchange_model.specs.Calls.{ended_in}
+use Rattle.exchange_model.specs.Steps.{given_out, went_out, is_other}
+use Rattle.exchange_model.specs.Links.{awaits_no_more}
+use Rattle.exchange_model.specs.Entering.{entered_all, confirm, told_deeds}
+use Rattle.exchange_core.specs.declared.ending.Ended.{Ended}
+use Rattle.exchange_core.specs.Sending.{sent_first}
+use Rattle.exchange_core.specs.Drafts.{DraftValue}
+use Rattle.exchange_core.specs.States.{with_draft}
+
+-- the whole response that a message is
+abbrev pub whole_in : Content → Option Response
+whole_in m = if is_whole m then Some (response_of m) else None
+
+-- what is found by what a link tells of the datagram in the entry with this number
+abbrev pub found_in : ℕ → Told → Option Found
+found_in n (response m) = Some (found_by n (whole_in m))
+found_in n (was_reset token) = Some (record { told = Fails Reset; grounds = Fault Reset n })
+found_in n _ = None
+
+-- the token under which nothing is awaited any more
+abbrev pub over_in : Heeding → Option (List ℕ)
+over_in x = ended_token x.verdict.news x.token
+
+-- the link of the endpoint after the datagram, which gave out all
+abbrev pub heeds : ℕ → Heeding → LinkState → LinkState
+heeds t x s = given_out (awaits_no_more (over_in x) (applied t x.mid x.token x.verdict s))
+
+-- the exchanges after it: one may end, and the message of another went out in the entry with this
+-- number
+abbrev pub note_next : ℕ → Option FirstSending → List Exchange → List Exchange
+note_next n None es = es
+note_next n (Some x) es = map (went_out x.message.token n) es
+
+abbrev pub first_number : ℕ → Heeding → ℕ
+first_number n x = n + 1 + length (listed x.reply)
+
+abbrev pub exchanges_after : ℕ → Heeding → List Exchange → List Exchange
+exchanges_after n x es = note_next (first_number n x) x.next (filter (is_other (over_in x)) es)
+
+-- the exchange that ends, if any, with what is found
+abbrev pub ended_by : Option Exchange → Option Found → List Ended
+ended_by (Some e) (Some f) = record { exchange = e; finding = f } ∷ []
+ended_by _ _ = []
+
+-- What ends is told to the connection that waits on it.
+abbrev pub told_by : Option Exchange → Option Found → List Conn → List Deed
+told_by (Some e) (Some f) cs = told_deeds f.grounds e cs
+told_by _ _ cs = []
+
+-- what the link says: the datagram came, it is answered, and the next message goes out
+abbrev pub link_deeds : Peer → List ℕ → Heeding → List Deed
+link_deeds p d x = Hears p d ∷ (map (confirm p) (listed x.reply) ++ sent_first p x.next)
+
+-- all that the datagram brings
+abbrev pub hearing_deeds : Peer → List ℕ → Heeding → Told → State → List Deed
+hearing_deeds p d x told S =
+    link_deeds p d x
+    ++ told_by (ended_in (over_in x) S.exchanges) (found_in (length S.entries) told) S.conns
+
+-- the state after it
+abbrev pub hearing_state : ℕ → Peer → List ℕ → Heeding → Told → State → State
+hearing_state t p d x told S =
+    let S1 = entered_all t (hearing_deeds p d x told S) S in record S1 {
+      exchanges = exchanges_after (length S.entries) x S.exchanges;
+      links = with_link p (heeds t x (link_of S.links p)) S.links;
+    }
+
+-- the tables after it, and then what was drafted for it
+abbrev pub tables_after : ℕ → Peer → Heeding → State → State
+tables_after t p x S = record S {
+  exchanges = exchanges_after (length S.entries) x S.exchanges;
+  links = with_link p (heeds t x (link_of S.links p)) S.links;
+}
+
+abbrev pub with_heard : ℕ → Peer → Heeding → DraftValue → State → State
+with_heard t p x d S = with_draft t d (tables_after t p x S)

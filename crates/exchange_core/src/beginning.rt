@@ -1,0 +1,304 @@
+//! Asks that begin an exchange.
+
+ghost use Rattle.std.specs.Prelude.{◌≡◌, ◌≤◌, ◌<◌, ◌+◌, ◌^◌, ◌∷◌, ◌++◌, [], List, None, false, length, map, vec_len, vec_capacity, sum_by, IfOk, IfErr, OnOk, Ok, Err, Some};
+ghost use Rattle.std.specs.Arc.{arc_value};
+ghost use Rattle.limits.specs.declared.TheConstants.{LAST_MOMENT, MAX_ENTRIES, MAX_EXCHANGES, MAX_REQUEST_SIZE};
+ghost use Rattle.ask_model.specs.Datagrams.{asked_peer};
+ghost use Rattle.ask_model.specs.Sizes.{capped, came_size};
+ghost use Rattle.journal_book.specs.Entries.{Deed, Asks, entry_size};
+ghost use Rattle.journal_book.specs.Views.{ask_of};
+ghost use Rattle.message_layer.specs.Prepared.{IsUnnumberedCon};
+ghost use Rattle.message_layer.specs.Sending.{waits, IsSubmitted};
+ghost use Rattle.exchange_model.specs.State.{State as CoreState, link_of};
+ghost use Rattle.exchange_model.specs.Calls.{peer_of};
+ghost use Rattle.exchange_model.specs.Resting.{HasConn};
+ghost use Rattle.exchange_model.specs.Room.{AreApart};
+ghost use Rattle.exchange_core.specs.Beginning.{IsRequest, IsTextFor, with_exchange, IsBegun, IsBegunBy, IsEntered, MayBegin, exchange_by};
+ghost use Rattle.exchange_core.specs.Sending.{IsTimed, sent_first};
+ghost use Rattle.exchange_core.specs.Drafts.{Drafts};
+ghost use Rattle.exchange_core.specs.Places.{RiseBy, id_of};
+ghost use Rattle.exchange_core.specs.Sound.{IsSound};
+ghost use Rattle.exchange_core.specs.States.{state_of, seen, given_in, outgoing, with_draft, HasPlaces, SeesSame};
+ghost use Rattle.exchange_core.specs.Submitting.{MaySubmitTo, HasPlaceFor};
+
+use crate::answer::Ticket;
+use crate::draft::Draft;
+use crate::fault::AskFault;
+use crate::numbering::token_of;
+use crate::room;
+use crate::sealing::seal;
+use crate::sending::draft_first;
+use crate::state::{State, commit, make_places};
+use crate::submitting::{self, Prepared};
+use ask_model::{Bytes, Mapped};
+use coap_codec::Token;
+use exchange_model::Exchange;
+use journal_book::{Entry, Event};
+use message_layer::{FirstSending, LinkFault};
+use std::alloc::{AllocError, Global};
+use std::sync::Arc;
+use transformers::Relation;
+use uri_map::Peer;
+
+/// What an ask comes to.
+#[derive(Drop)]
+pub enum Begun<R: Relation> {
+    /// It is entered, and its exchange is open.
+    Asked(Ticket<R>),
+    /// Its endpoint has no place for one more message. This is the request again.
+    Busy(Arc<Mapped<R>>),
+}
+
+/// The message of a request under message ID 0, which its link sets when it goes out.
+fn text_of<R: Relation>(
+    alloc: Global,
+    mapped: &Mapped<R>,
+    token: &Token,
+) -> Result<Bytes, AllocError>
+    requires { IsRequest mapped.now.sense }
+    ensures text { IfOk result (λ text. IsTextFor mapped.now.sense token.now text) }
+    ensures small { came_size mapped.now.came ≤ MAX_REQUEST_SIZE }
+{
+    let _came = mapped.came();
+    let Some(text) = mapped.request(alloc, 0, token)? else {
+        unreachable!()
+    };
+    Ok(text)
+}
+
+/// The ask of a connection, and its message where that goes out at once.
+fn draft_ask<R: Relation>(
+    alloc: Global,
+    s: &State<R>,
+    moment: u64,
+    conn: u32,
+    mapped: &Arc<Mapped<R>>,
+    peer: Peer,
+    sent: &Option<FirstSending>,
+) -> Result<Draft<R>, AllocError>
+    requires few { length s.now.journal.entries ≤ MAX_ENTRIES }
+    requires ordered { RiseBy id_of s.now.conns.items }
+    requires timely { IsTimed sent.now }
+    ensures drafts { IfOk result (λ d. Drafts moment (state_of s.now)
+        (Asks conn (ask_of (arc_value mapped.now)) ∷ sent_first peer sent.now) d) }
+    ensures answers { IfOk result (λ d. d.answers ≡ []) }
+{
+    let asked = Arc::try_clone(mapped)?;
+    let number = s.journal.len() as u32;
+    let mut draft = Draft::new(alloc, number, s.conns.as_slice())?;
+    draft.enter(Entry {
+        moment,
+        event: Event::Asked(conn, asked),
+    })?;
+    draft_first(&mut draft, moment, peer, sent)?;
+    Ok(draft)
+}
+
+/// Opens the exchange, hands in its message, and adds what was drafted.
+fn add_exchange<R: Relation>(
+    s: &mut State<R>,
+    exchange: Exchange,
+    prepared: Prepared,
+    draft: Draft<R>,
+    moment: u64,
+)
+    requires early { moment ≤ LAST_MOMENT }
+    requires few { s.old.issued < 4294967295 }
+    requires places { HasPlaces s.old draft }
+    requires room { length draft.entries ≤ s.old.journal.room }
+    requires exchange { vec_len s.old.exchanges < vec_capacity s.old.exchanges }
+    requires endpoint { HasPlaceFor prepared.place
+        (vec_len s.old.endpoints) (vec_capacity s.old.endpoints) }
+    requires may { MaySubmitTo moment exchange.peer s.old.endpoints.items
+        prepared.place prepared.submission }
+    ensures state { state_of s.new ≡ with_exchange moment exchange prepared.submission.waiting
+        (with_draft moment draft (state_of s.old)) }
+    ensures bytes { s.new.bytes ≡ capped (s.old.bytes + capped (sum_by entry_size draft.entries)) }
+    ensures room { s.new.journal.room + length draft.entries ≡ s.old.journal.room }
+    ensures answers { given_in s.new ≡ given_in s.old ++ draft.answers }
+    ensures sends { outgoing s.new ≡ outgoing s.old ++ draft.sends }
+{
+    let peer = exchange.peer;
+    s.exchanges.push_reserved(exchange);
+    s.issued += 1;
+    submitting::submit(&mut s.endpoints, peer, prepared, moment);
+    commit(s, draft, moment);
+}
+
+/// The exchange that the ask with this number opens, whose message goes out at once where it is sent.
+fn exchange_of(
+    opening: u32,
+    moment: u64,
+    conn: u32,
+    token: Token,
+    peer: Peer,
+    sent: &Option<FirstSending>,
+) -> Exchange
+    requires { opening ≤ MAX_ENTRIES }
+    ensures { result ≡ exchange_by moment conn token peer sent.now opening }
+{
+    let sending = match sent {
+        Some(_) => Some(opening + 1),
+        None => None,
+    };
+    Exchange {
+        opening,
+        token,
+        since: moment,
+        peer,
+        conn,
+        sending,
+    }
+}
+
+/// Makes places for what was drafted, and for one exchange more.
+fn make_all_places<R: Relation>(s: &mut State<R>, draft: &Draft<R>) -> Result<(), AllocError>
+    ensures same { SeesSame s.old s.new }
+    ensures endpoints { s.new.endpoints ≡ s.old.endpoints }
+    ensures places { OnOk result (HasPlaces s.new draft.now) }
+    ensures exchange { OnOk result (vec_len s.new.exchanges < vec_capacity s.new.exchanges) }
+{
+    make_places(s, draft)?;
+    s.exchanges.try_reserve(1)?;
+    Ok(())
+}
+
+/// Enters what was drafted, with its exchange and its message, or seals the journal where there is
+/// no room for it.
+fn enter<R: Relation>(
+    s: &mut State<R>,
+    exchange: Exchange,
+    prepared: Prepared,
+    draft: Draft<R>,
+    moment: u64,
+) -> Result<(), AskFault>
+    requires sound { IsSound s.old }
+    requires unsealed { s.old.sealed ≡ false }
+    requires early { moment ≤ LAST_MOMENT }
+    requires endpoint { HasPlaceFor prepared.place
+        (vec_len s.old.endpoints) (vec_capacity s.old.endpoints) }
+    requires may { MaySubmitTo moment exchange.peer s.old.endpoints.items
+        prepared.place prepared.submission }
+    ensures { IsEntered result moment exchange prepared.submission.waiting draft s.old s.new }
+{
+    if !room::takes(s, &draft) {
+        seal(s, moment);
+        return Err(AskFault::Sealed);
+    }
+    make_all_places(s, &draft)?;
+    add_exchange(s, exchange, prepared, draft, moment);
+    Ok(())
+}
+
+/// Prepares that the endpoint's link takes a message.
+fn prepare<R: Relation>(
+    alloc: Global,
+    s: &mut State<R>,
+    peer: Peer,
+    token: Token,
+    text: &[u8],
+    moment: u64,
+    word: u64,
+) -> Result<Prepared, LinkFault>
+    requires moment { moment ≤ LAST_MOMENT }
+    requires message { IsUnnumberedCon token text.now }
+    requires apart { AreApart (map peer_of (state_of s.old).links) }
+    ensures same { SeesSame s.old s.new }
+    ensures may { IfOk result (λ x.
+        MaySubmitTo moment peer s.new.endpoints.items x.place x.submission) }
+    ensures endpoint { IfOk result (λ x.
+        HasPlaceFor x.place (vec_len s.new.endpoints) (vec_capacity s.new.endpoints)) }
+    ensures waiting { IfOk result (λ x. x.submission.waiting ≡ waits token text.now word) }
+    ensures fault { IsSubmitted moment (link_of (state_of s.old).links peer) result }
+{
+    submitting::prepare(
+        alloc,
+        &mut s.hints,
+        &mut s.endpoints,
+        peer,
+        token,
+        text,
+        moment,
+        word,
+    )
+}
+
+/// Enters the ask, whose message was prepared.
+fn ask<R: Relation>(
+    alloc: Global,
+    s: &mut State<R>,
+    moment: u64,
+    word: u64,
+    conn: u32,
+    mapped: Arc<Mapped<R>>,
+    peer: Peer,
+    token: Token,
+    text: &Bytes,
+    prepared: Prepared,
+) -> Result<Ticket<R>, AskFault>
+    requires sound { IsSound s.old }
+    requires begins { MayBegin moment word conn (arc_value mapped) peer token text.now
+        (state_of s.old) }
+    requires endpoint { HasPlaceFor prepared.place
+        (vec_len s.old.endpoints) (vec_capacity s.old.endpoints) }
+    requires may { MaySubmitTo moment peer s.old.endpoints.items
+        prepared.place prepared.submission }
+    requires waiting { prepared.submission.waiting ≡ waits token text.now word }
+    ensures sound { IsSound s.new }
+    ensures ok { IfOk result (λ x. (x.conn ≡ conn) × (arc_value x.mapped ≡ arc_value mapped)
+        × IsBegunBy (Ok x.number) moment word conn (arc_value mapped) (seen s.old) (seen s.new)) }
+    ensures err { IfErr result (λ e.
+        IsBegunBy (Err e) moment word conn (arc_value mapped) (seen s.old) (seen s.new)) }
+{
+    let sent = &prepared.submission.sent;
+    let draft = draft_ask(alloc, s, moment, conn, &mapped, peer, sent)?;
+    let number = s.journal.len() as u32;
+    let exchange = exchange_of(number, moment, conn, token, peer, sent);
+    match enter(s, exchange, prepared, draft, moment) {
+        Ok(()) => Ok(Ticket {
+            conn,
+            number,
+            mapped,
+        }),
+        Err(fault) => Err(fault),
+    }
+}
+
+/// Begins the exchange of a request from a connection that waits for nothing, where fewer than 256
+/// are open. Its message goes out at once, or waits for its turn at its endpoint. The random word
+/// makes its token, its first timeout, and the endpoint's first message ID.
+pub fn begin<R: Relation>(
+    alloc: Global,
+    s: &mut State<R>,
+    moment: u64,
+    word: u64,
+    conn: u32,
+    mapped: Arc<Mapped<R>>,
+    peer: Peer,
+) -> Result<Begun<R>, AskFault>
+    requires sound { IsSound s.old }
+    requires unsealed { s.old.sealed ≡ false }
+    requires later { s.old.moment ≤ moment }
+    requires early { moment ≤ LAST_MOMENT }
+    requires asked { asked_peer (arc_value mapped).sense ≡ Some peer }
+    requires idle { HasConn s.old.conns.items conn None }
+    requires few { length s.old.exchanges.items < MAX_EXCHANGES }
+    ensures sound { IsSound s.new }
+    ensures begins { IsBegun result moment word conn (arc_value mapped) peer
+        (seen s.old) (seen s.new) }
+{
+    let token = token_of(s.issued, word);
+    let text = text_of(alloc, &mapped, &token)?;
+    match prepare(alloc, s, peer, token, text.as_slice(), moment, word) {
+        Ok(prepared) => {
+            match ask(
+                alloc, s, moment, word, conn, mapped, peer, token, &text, prepared,
+            ) {
+                Ok(ticket) => Ok(Begun::Asked(ticket)),
+                Err(fault) => Err(fault),
+            }
+        }
+        Err(LinkFault::Memory) => Err(AskFault::Memory),
+        Err(_) => Ok(Begun::Busy(mapped)),
+    }
+}

@@ -1,0 +1,113 @@
+//! Connections: they are opened and closed.
+
+ghost use Rattle.std.specs.Prelude.{ℕ, ◌≡◌, ◌≤◌, ◌<◌, ◌+◌, ◌^◌, Option, IsTrue, IsFalse, vec_len, vec_capacity};
+ghost use Rattle.limits.specs.declared.TheConstants.{LAST_MOMENT};
+ghost use Rattle.ask_model.specs.Sizes.{capped};
+ghost use Rattle.exchange_model.specs.Resting.{HasConn};
+ghost use Rattle.exchange_model.specs.Steps.{opens, shuts};
+ghost use Rattle.exchange_core.specs.Calls.{IsOpened, IsClosed, IsUnknown};
+ghost use Rattle.exchange_core.specs.Places.{RiseBy, id_of};
+ghost use Rattle.exchange_core.specs.Sound.{IsSound};
+ghost use Rattle.exchange_core.specs.States.{state_of, given_in, outgoing, seen};
+
+use crate::draft::drop_conn;
+use crate::fault::OpenFault;
+use crate::places::conn_place;
+use crate::room;
+use crate::sealing::seal;
+use crate::state::State;
+use exchange_model::Conn;
+use journal_book::{Entry, Event};
+use limits::MAX_CONNECTIONS;
+use transformers::Relation;
+
+/// Adds a connection, for which there is a place, and its entry.
+fn add_conn<R: Relation>(s: &mut State<R>, moment: u64) -> u32
+    requires room { 0 < s.old.journal.room }
+    requires place { vec_len s.old.conns < vec_capacity s.old.conns }
+    requires few { s.old.opened < 4294967295 }
+    ensures id { result ≡ s.old.opened }
+    ensures state { state_of s.new ≡ opens moment (state_of s.old) }
+    ensures room { s.new.journal.room + 1 ≡ s.old.journal.room }
+    ensures bytes { s.new.bytes ≡ capped (s.old.bytes + 64) }
+    ensures answers { given_in s.new ≡ given_in s.old }
+    ensures sends { outgoing s.new ≡ outgoing s.old }
+{
+    let id = s.opened;
+    s.journal.add(Entry {
+        moment,
+        event: Event::Opened(id),
+    });
+    s.conns.push_reserved(Conn { id, pending: None });
+    s.opened = id + 1;
+    s.bytes = s.bytes.saturating_add(64);
+    s.moment = moment;
+    id
+}
+
+/// Opens a connection at this moment.
+pub fn open<R: Relation>(s: &mut State<R>, moment: u64) -> Result<u32, OpenFault>
+    requires sound { IsSound s.old }
+    requires later { s.old.moment ≤ moment }
+    requires early { moment ≤ LAST_MOMENT }
+    ensures sound { IsSound s.new }
+    ensures opens { IsOpened result moment (seen s.old) (seen s.new) }
+{
+    if s.conns.len() >= MAX_CONNECTIONS {
+        return Err(OpenFault::Full);
+    }
+    if s.sealed {
+        return Err(OpenFault::Sealed);
+    }
+    if !room::takes_conn(s) {
+        seal(s, moment);
+        return Err(OpenFault::Sealed);
+    }
+    s.conns.try_reserve(1)?;
+    let id = add_conn(s, moment);
+    Ok(id)
+}
+
+/// Whether the connection with this number is open.
+fn has_conn(conns: &[Conn], id: u32) -> bool
+    requires { RiseBy id_of conns.now }
+    ensures some { IsTrue result → (p : Option ℕ) × HasConn conns.now id p }
+    ensures none { IsFalse result → (p : Option ℕ) → HasConn conns.now id p → ⊥ }
+{
+    conn_place(conns, id).is_some()
+}
+
+/// Takes a connection out, and adds its entry.
+fn take_conn<R: Relation>(s: &mut State<R>, moment: u64, conn: u32)
+    requires room { 0 < s.old.journal.room }
+    requires ordered { RiseBy id_of s.old.conns.items }
+    ensures state { state_of s.new ≡ shuts moment conn (state_of s.old) }
+    ensures room { s.new.journal.room + 1 ≡ s.old.journal.room }
+    ensures bytes { s.new.bytes ≡ capped (s.old.bytes + 64) }
+    ensures answers { given_in s.new ≡ given_in s.old }
+    ensures sends { outgoing s.new ≡ outgoing s.old }
+{
+    s.journal.add(Entry {
+        moment,
+        event: Event::Shut(conn),
+    });
+    drop_conn(&mut s.conns, conn);
+    s.bytes = s.bytes.saturating_add(64);
+    s.moment = moment;
+}
+
+/// Closes a connection at this moment, and tells whether it was open.
+pub fn close<R: Relation>(s: &mut State<R>, moment: u64, conn: u32) -> bool
+    requires sound { IsSound s.old }
+    requires later { s.old.moment ≤ moment }
+    requires early { moment ≤ LAST_MOMENT }
+    ensures sound { IsSound s.new }
+    ensures closed { IsTrue result → IsClosed moment conn (seen s.old) (seen s.new) }
+    ensures unknown { IsFalse result → (seen s.new ≡ seen s.old) × IsUnknown conn (seen s.old) }
+{
+    if !has_conn(s.conns.as_slice(), conn) {
+        return false;
+    }
+    take_conn(s, moment, conn);
+    true
+}

@@ -1,0 +1,176 @@
+//! What a tick does, prepared before the core changes.
+
+ghost use Rattle.std.specs.Prelude.{◌≡◌, ◌≤◌, ◌^◌, ◌+◌, ◌++◌, true, false, filter, length, sum_by, IfOk, OnOk};
+ghost use Rattle.limits.specs.declared.TheConstants.{LAST_MOMENT};
+ghost use Rattle.ask_model.specs.Sizes.{capped};
+ghost use Rattle.journal_book.specs.Entries.{entry_size};
+ghost use Rattle.message_layer.specs.Calls.{is_among};
+ghost use Rattle.exchange_model.specs.Calls.{something_due, timed_out};
+ghost use Rattle.exchange_model.specs.Entering.{all_going, goes_on, gone_tokens, sent_as};
+ghost use Rattle.exchange_model.specs.Steps.{is_gone};
+ghost use Rattle.exchange_core.specs.Leads.{Leads};
+ghost use Rattle.exchange_core.specs.Passing.{moved_on, tick_adds};
+ghost use Rattle.exchange_core.specs.Places.{RiseBy, number_of};
+ghost use Rattle.exchange_core.specs.Sound.{IsSound};
+ghost use Rattle.exchange_core.specs.States.{given_in, outgoing, state_of, HasPlaces, SeesSame};
+ghost use Rattle.exchange_core.specs.Turns.{AreTurns};
+
+use crate::draft::Draft;
+use crate::due::next_due;
+use crate::expiring::{Sorted, sort_by_end, tokens_of};
+use crate::state::{self, State};
+use crate::timeouts::draft_timeouts;
+use crate::turns::{draft_turns, prepare_turns, tick_turns};
+use coap_codec::Token;
+use exchange_model::Exchange;
+use journal_book::{Entry, Event};
+use message_layer::Ticking;
+use std::alloc::{AllocError, Global};
+use transformers::Relation;
+
+/// The exchanges that end at this moment, and those that go on.
+pub fn sort_at<R: Relation>(
+    alloc: Global,
+    s: &mut State<R>,
+    moment: u64,
+) -> Result<Sorted, AllocError>
+    requires sound { IsSound s.old }
+    requires early { moment ≤ LAST_MOMENT }
+    ensures same { SeesSame s.old s.new }
+    ensures over { IfOk result (λ x. x.over.items ≡ timed_out moment (state_of s.old)) }
+    ensures still { IfOk result
+        (λ x. x.still.items ≡ filter (goes_on moment (state_of s.old)) s.old.exchanges.items) }
+{
+    sort_by_end(alloc, &s.exchanges, &mut s.endpoints, moment)
+}
+
+/// Drafts what a tick does that has something to do, and notes the first sendings at the
+/// exchanges that go on.
+fn draft_tick<R: Relation>(
+    alloc: Global,
+    s: &State<R>,
+    over: &[Exchange],
+    still: &mut [Exchange],
+    turns: &[Ticking],
+    moment: u64,
+    gone: &[Token],
+) -> Result<Draft<R>, AllocError>
+    requires sound { IsSound s.now }
+    requires unsealed { s.now.sealed ≡ false }
+    requires later { s.now.moment ≤ moment }
+    requires due { something_due moment (state_of s.now) ≡ true }
+    requires over { over.now ≡ timed_out moment (state_of s.now) }
+    requires gone { gone.now ≡ gone_tokens moment (state_of s.now) }
+    requires ready { AreTurns moment gone.now s.now.endpoints.items turns.now }
+    requires ordered { RiseBy number_of still.old }
+    ensures leads { IfOk result
+        (λ d. Leads moment (state_of s.now) (tick_adds moment (state_of s.now)) d) }
+    ensures going { OnOk result (still.new ≡ sent_as (all_going moment
+        (is_gone moment (state_of s.now)) (length s.now.journal.entries + 1)
+        (state_of s.now).links) still.old) }
+{
+    let mut draft = Draft::new(alloc, s.journal.len() as u32, &s.conns)?;
+    draft.enter(Entry {
+        moment,
+        event: Event::Passed,
+    })?;
+    draft_turns(&mut draft, still, &s.endpoints, turns, moment)?;
+    draft_timeouts(alloc, &mut draft, &s.journal, over, moment)?;
+    Ok(draft)
+}
+
+/// Prepares the tick of each link.
+fn prepare_links<R: Relation>(
+    alloc: Global,
+    s: &mut State<R>,
+    moment: u64,
+    gone: &[Token],
+) -> Result<Vec<Ticking>, AllocError>
+    requires { moment ≤ LAST_MOMENT }
+    ensures same { SeesSame s.old s.new }
+    ensures ready { IfOk result
+        (λ v. AreTurns moment gone.now s.new.endpoints.items v.items) }
+{
+    prepare_turns(alloc, &mut s.endpoints, moment, gone)
+}
+
+/// Whether a tick has something to do at this moment.
+pub fn is_due<R: Relation>(s: &State<R>, moment: u64) -> bool
+    requires { IsSound s.now }
+    ensures { result ≡ something_due moment (state_of s.now) }
+{
+    match next_due(s) {
+        Some(due) => due <= moment,
+        None => false,
+    }
+}
+
+/// What is prepared for a tick that has something to do.
+#[derive(Drop)]
+pub struct Passing<R: Relation> {
+    /// the tokens of the exchanges that end
+    pub gone: Vec<Token>,
+    pub turns: Vec<Ticking>,
+    /// the exchanges that go on
+    pub still: Vec<Exchange>,
+    pub draft: Draft<R>,
+}
+
+/// Prepares a tick that has something to do.
+pub fn prepare<R: Relation>(
+    alloc: Global,
+    s: &mut State<R>,
+    moment: u64,
+) -> Result<Passing<R>, AllocError>
+    requires sound { IsSound s.old }
+    requires unsealed { s.old.sealed ≡ false }
+    requires later { s.old.moment ≤ moment }
+    requires early { moment ≤ LAST_MOMENT }
+    requires due { something_due moment (state_of s.old) ≡ true }
+    ensures same { SeesSame s.old s.new }
+    ensures gone { IfOk result (λ x. x.gone.items ≡ gone_tokens moment (state_of s.old)) }
+    ensures ready { IfOk result
+        (λ x. AreTurns moment x.gone.items s.new.endpoints.items x.turns.items) }
+    ensures still { IfOk result (λ x. x.still.items ≡ sent_as (all_going moment
+        (is_gone moment (state_of s.old)) (length s.old.journal.entries + 1)
+        (state_of s.old).links) (filter (goes_on moment (state_of s.old)) s.old.exchanges.items)) }
+    ensures leads { IfOk result
+        (λ x. Leads moment (state_of s.old) (tick_adds moment (state_of s.old)) x.draft) }
+{
+    let Sorted { over, mut still } = sort_at(alloc, s, moment)?;
+    let gone = tokens_of(alloc, &over)?;
+    let turns = prepare_links(alloc, s, moment, &gone)?;
+    let draft = draft_tick(alloc, s, &over, &mut still, &turns, moment, &gone)?;
+    Ok(Passing {
+        gone,
+        turns,
+        still,
+        draft,
+    })
+}
+
+/// Does a tick as it was prepared.
+pub fn pass<R: Relation>(s: &mut State<R>, passing: Passing<R>, moment: u64)
+    requires early { moment ≤ LAST_MOMENT }
+    requires ready { AreTurns moment passing.gone.items s.old.endpoints.items
+        passing.turns.items }
+    requires places { HasPlaces s.old passing.draft }
+    requires room { length passing.draft.entries ≤ s.old.journal.room }
+    ensures state { state_of s.new ≡ moved_on moment (is_among passing.gone.items)
+        passing.still.items passing.draft (state_of s.old) }
+    ensures bytes { s.new.bytes
+        ≡ capped (s.old.bytes + capped (sum_by entry_size passing.draft.entries)) }
+    ensures room { s.new.journal.room + length passing.draft.entries ≡ s.old.journal.room }
+    ensures answers { given_in s.new ≡ given_in s.old ++ passing.draft.answers }
+    ensures sends { outgoing s.new ≡ outgoing s.old ++ passing.draft.sends }
+{
+    let Passing {
+        gone,
+        turns,
+        still,
+        draft,
+    } = passing;
+    tick_turns(&mut s.endpoints, turns, moment, &gone);
+    s.exchanges = still;
+    state::commit(s, draft, moment);
+}

@@ -1,0 +1,76 @@
+//! The room of a journal, and what of it is held free.
+
+ghost use Rattle.std.specs.Prelude.{ℕ, ◌≡◌, ◌≤◌, false, length, count_by, sum_by};
+ghost use Rattle.journal_book.specs.Entries.{entry_size};
+ghost use Rattle.exchange_model.specs.Room.{has_asked, fits};
+ghost use Rattle.exchange_model.specs.Steps.{opens};
+ghost use Rattle.exchange_core.specs.Room.{fits_by};
+ghost use Rattle.exchange_core.specs.States.{state_of, with_draft};
+
+use crate::draft::Draft;
+use crate::state::State;
+use exchange_model::Conn;
+use limits::{MAX_ANSWER_SIZE, MAX_ENTRIES, MAX_JOURNAL_LEN};
+use transformers::Relation;
+
+/// How many connections wait for an answer.
+fn pending_count(conns: &[Conn]) -> usize
+    ensures { result ≡ count_by has_asked conns.now }
+{
+    conns.iter().filter(|x| x.pending.is_some()).count()
+}
+
+/// Whether so many entries that count so many bytes are within the limits, with what is held free
+/// for so many connections, as many of which wait for an answer, and for the seal.
+fn has_room(entries: u64, bytes: u64, conns: u64, pending: u64) -> bool
+    ensures { result ≡ fits_by entries bytes conns pending }
+{
+    if entries > MAX_ENTRIES
+        || conns > MAX_ENTRIES
+        || pending > MAX_ENTRIES
+        || bytes > MAX_JOURNAL_LEN
+    {
+        return false;
+    }
+    entries + conns + pending + 1 <= MAX_ENTRIES
+        && bytes + 64 * conns + MAX_ANSWER_SIZE * pending + 64 <= MAX_JOURNAL_LEN
+}
+
+/// Whether that is so for the connections that wait among these. Where all of them could wait, they
+/// aren't counted.
+fn has_room_for(entries: u64, bytes: u64, count: u64, conns: &[Conn]) -> bool
+    requires { length conns.now ≤ count }
+    ensures { result ≡ fits_by entries bytes count (count_by has_asked conns.now) }
+{
+    if has_room(entries, bytes, count, count) {
+        return true;
+    }
+    has_room(entries, bytes, count, pending_count(conns) as u64)
+}
+
+/// Whether the journal takes what was drafted.
+pub fn takes<R: Relation>(s: &State<R>, draft: &Draft<R>) -> bool
+    requires unsealed { s.now.sealed ≡ false }
+    requires count { s.now.bytes ≡ sum_by entry_size s.now.journal.entries }
+    ensures { (t : ℕ) → result ≡ fits (with_draft t draft.now (state_of s.now)) }
+{
+    let entries = (s.journal.len() as u64).saturating_add(draft.len() as u64);
+    let bytes = s.bytes.saturating_add(draft.bytes());
+    let conns = draft.conns();
+    has_room_for(entries, bytes, conns.len() as u64, conns)
+}
+
+/// Whether the journal takes one more connection.
+pub fn takes_conn<R: Relation>(s: &State<R>) -> bool
+    requires unsealed { s.now.sealed ≡ false }
+    requires count { s.now.bytes ≡ sum_by entry_size s.now.journal.entries }
+    ensures { (t : ℕ) → result ≡ fits (opens t (state_of s.now)) }
+{
+    let conns = s.conns.as_slice();
+    has_room_for(
+        (s.journal.len() as u64).saturating_add(1),
+        s.bytes.saturating_add(64),
+        (conns.len() as u64).saturating_add(1),
+        conns,
+    )
+}

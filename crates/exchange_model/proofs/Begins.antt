@@ -1,0 +1,167 @@
+-- An ask opens an exchange.
+use Rattle.std.proofs.Common.{◌≡◌, ℕ, zero, suc, ◌+◌, ◌<◌, ◌⊎◌, inl, inr, Bool, true, false, cond, List, [], ◌∷◌, ◌++◌, length, map, refl, sym, ap, subst, ◌∙◌, arith, length-append}
+use Rattle.std.specs.Prelude.{filter, is_none, ◌||◌}
+use Rattle.std.specs.List.{AllByRecursion, Contains, list_any}
+use Rattle.std.specs.Str.{bytes_eq}
+use Rattle.std.proofs.lemmas.Slice.Eq.{bytes_eq-Decides}
+use Rattle.uri_map.specs.declared.peer.Peer.{Peer}
+use Rattle.journal_book.specs.Entries.{Asks, Written}
+use Rattle.history_laws.specs.Numbering.{token_number}
+use Rattle.message_layer.specs.Values.{LinkState}
+use Rattle.message_layer.specs.Sending.{waits, queued}
+use Rattle.message_layer.specs.declared.state.Waiting.{Waiting}
+use Rattle.history_laws.specs.Readings.{Noted, Begins}
+use Rattle.history_laws.specs.Transmissions.{FirstSending, firsts, bears_token}
+use Rattle.history_laws.specs.Exchanges.{openings, is_going}
+use Rattle.history_laws.specs.Justified.{Follows, AskNote}
+use Rattle.history_laws.specs.Worked.{noted}
+use Rattle.history_laws.proofs.Elements.{contains-none, first-or-later}
+use Rattle.history_laws.proofs.Facts.{eqb-itself}
+use Rattle.history_laws.proofs.Places.{at-new, before-new}
+use Rattle.history_links.specs.Agrees.{WaitIn, IsWaitingFor, Agrees}
+use Rattle.history_links.proofs.Facts.{all-more, all-push}
+use Rattle.history_links.proofs.OtherPeers.{ask-elsewhere}
+use Rattle.history_links.proofs.Queueing.{queued-agrees}
+use Rattle.history_links.proofs.Ranks.{rank-below}
+use Rattle.history_links.proofs.Unbegun.{unbegun, not-yet}
+use Rattle.exchange_model.specs.declared.kept.Exchange.{Exchange}
+use Rattle.exchange_model.specs.State.{PeerLink, State, link_of, with_link}
+use Rattle.exchange_model.specs.Reads.{ExchangeIn, WaitsUnder, opening_of, Reads}
+use Rattle.exchange_model.specs.Steps.{exchange_for}
+use Rattle.exchange_model.specs.Laws.{BeginsLeads}
+use Rattle.exchange_model.proofs.Lists.{all-both}
+use Rattle.exchange_model.proofs.Tables.{entries-length, exchange-stays, all-links}
+use Rattle.exchange_model.proofs.Silent.{later-than, link-before}
+
+-- lists
+
+pub filter-push : {X : Type 0} (f : X → Bool) (xs : List X) (y : X) → f y ≡ true → filter f (xs ++ y ∷ []) ≡ filter f xs ++ y ∷ []
+filter-push f [] y e = rw (e) refl
+filter-push {X = X} f (x ∷ xs) y e = by (f x) (filter-push f xs y e)
+  where
+    by : (b : Bool) → filter f (xs ++ y ∷ []) ≡ filter f xs ++ y ∷ [] → cond b (x ∷ filter f (xs ++ y ∷ [])) (filter f (xs ++ y ∷ [])) ≡ cond b (x ∷ filter f xs) (filter f xs) ++ y ∷ []
+    by true h = rw (h) refl
+    by false h = h
+
+pub map-push : {X Y : Type 0} (f : X → Y) (xs : List X) (y : X) → map f (xs ++ y ∷ []) ≡ map f xs ++ f y ∷ []
+map-push f [] y = refl
+map-push f (x ∷ xs) y = ap (λ (v : List _). f x ∷ v) (map-push f xs y)
+
+pub contains-push : {X : Type 0} (xs : List X) (y v : X) → Contains (xs ++ y ∷ []) v → Contains xs v ⊎ (y ≡ v)
+contains-push [] y v h = elim (first-or-later y [] v h) [ inl e ↦ inr e | inr w ↦ absurd (contains-none v w) ]
+contains-push (x ∷ xs) y v h = elim (first-or-later x (xs ++ y ∷ []) v h) [
+  | inl e ↦ inl (zero, omega arith, e)
+  | inr w ↦ elim (contains-push xs y v w) [ inl k ↦ inl (suc k.0, let lt = k.1 in omega arith, k.2) | inr e ↦ inr e ]
+]
+
+-- what waits has a number that was issued
+
+pub waits-for-one : (l : List Noted) (os : List ℕ) (ws : List Waiting) (v : Waiting) → WaitIn l os ws → Contains ws v → (o : ℕ) × IsWaitingFor l o v
+waits-for-one l os [] v a h = absurd (contains-none v h)
+waits-for-one l [] (w ∷ ws) v a h = absurd a
+waits-for-one l (o ∷ os) (w ∷ ws) v a h = elim (first-or-later w ws v h) [
+  | inl e ↦ (o, subst (IsWaitingFor l o) e a.0)
+  | inr k ↦ waits-for-one l os ws v a.1 k
+]
+
+below-issued : (l : List Noted) (S : State) (p : Peer) (v : Waiting) → Reads l S → Contains (link_of S.links p).waiting v → token_number v.token < S.issued
+below-issued l S p v r h =
+    let one = waits-for-one l _ (link_of S.links p).waiting v (r.links_are p).waits h in
+    let less = rank-below l one.0 _ one.1.opening in
+    let number = one.1.numbered in
+    let issued = r.issued_are in
+    omega (arith, less, number, issued)
+
+-- What holds of the waiting messages of the new link holds of all.
+pub waits-with : (p : Peer) (s : LinkState) (links : List PeerLink) (es : List Exchange)
+    → AllByRecursion (λ (e : Exchange). e.peer ≡ p → WaitsUnder s.waiting e) es
+    → AllByRecursion (λ (e : Exchange). WaitsUnder (link_of links e.peer).waiting e) es
+    → AllByRecursion (λ (e : Exchange). WaitsUnder (link_of (with_link p s links) e.peer).waiting e) es
+waits-with p s links [] new old = tt
+waits-with p s links (e ∷ es) new old = (
+  all-links (λ (q : Peer) (v : LinkState). e.peer ≡ q → WaitsUnder v.waiting e) p s links new.0
+      (λ q other at_q. subst (λ (r : Peer). WaitsUnder (link_of links r).waiting e) at_q old.0) e.peer refl,
+  waits-with p s links es new.1 old.1,
+)
+
+-- a token with the next number is borne by nothing
+unborne : (token : List ℕ) (n : ℕ) → token_number token ≡ n → (fs : List FirstSending) → AllByRecursion (λ (f : FirstSending). token_number f.message.token < n) fs
+    → list_any (λ (f : FirstSending). bytes_eq f.message.token token) fs ≡ false
+unborne token n e [] a = refl
+unborne token n e (f ∷ fs) a = by (bytes_eq f.message.token token) refl (unborne token n e fs a.1)
+  where
+    by : (b : Bool) → bytes_eq f.message.token token ≡ b → list_any (λ (g : FirstSending). bytes_eq g.message.token token) fs ≡ false
+        → (b || list_any (λ (g : FirstSending). bytes_eq g.message.token token) fs) ≡ false
+    by true h ih = let same = ap token_number ((bytes_eq-Decides f.message.token token).0 h) in let less = a.0 in absurd (omega (arith, same, less, e))
+    by false h ih = ih
+
+pub begins-leads : BeginsLeads
+begins-leads l t c a q token text word S b may who sense room spelled size number =
+    let r = b.reads in
+    let later = later-than l t S b in
+    let x = noted t (Asks c a) (Begins q) in
+    let n = x ∷ l in
+    let e = exchange_for t c q token S in
+    let w = waits token text word in
+    let here : length S.entries ≡ length l = ap length (sym r.entries_are) ∙ entries-length l in
+    let note : AskNote l t a.sense (Begins q) = rw (sense) (refl, room) in
+    let follows : Follows l t (Asks c a) (Begins q) = (may, who.open_now, who.idle, note) in
+    let none = unbegun l (length l) r.legal (not-yet l) in
+    let fresh : bears_token l token ≡ false = unborne token S.issued number (firsts l) r.tokens_are in
+    let link = link-before l t S b in
+    let s = queued t w (link_of S.links q.peer) in
+    let kept = all-both (ExchangeIn l) _ S.exchanges r.exchanges_are r.waiting_are in
+    record {
+      follows = follows;
+      reads = record {
+        entries_are = ap (λ (es : List Written). es ++ record { moment = t; deed = Asks c a } ∷ []) r.entries_are;
+        legal = (r.legal, later, follows);
+        sealed_is = r.sealed_is;
+        moment_is = refl;
+        opened_are = r.opened_are;
+        issued_are = length-append (openings l) (length l ∷ []) ∙ ap (λ (k : ℕ). k + 1) r.issued_are;
+        conns_are = rw (r.conns_are, here) refl;
+        keys = filter-push (is_going n) (openings l) (length l) (ap is_none none.1)
+            ∙ (ap (λ (os : List ℕ). os ++ length l ∷ []) r.keys
+            ∙ (ap (λ (k : ℕ). map opening_of S.exchanges ++ k ∷ []) (sym here) ∙ sym (map-push opening_of S.exchanges e)));
+        exchanges_are = all-push (ExchangeIn n) S.exchanges e (all-more (ExchangeIn l) (ExchangeIn n) (λ y h. exchange-stays x l y (λ k. k) refl h) S.exchanges r.exchanges_are)
+            (subst (λ (k : ℕ). ExchangeIn n (record e { opening = k })) (sym here) (record {
+              request = q;
+              opening = rw (eqb-itself (length l)) refl;
+              peer = refl;
+              number = ap (λ (v : List Noted). length (openings v)) (before-new x l) ∙ (r.issued_are ∙ sym number);
+              sending = none.0;
+              sent = fresh;
+              ask = a;
+              stands = at-new x l;
+            }));
+        tokens_are = all-more _ (λ (f : FirstSending). token_number f.message.token < S.issued + 1) (λ f h. omega (arith, h)) (firsts l) r.tokens_are;
+        waiting_are = waits-with q.peer s S.links (S.exchanges ++ e ∷ [])
+            (all-push (λ (y : Exchange). y.peer ≡ q.peer → WaitsUnder s.waiting y) S.exchanges e (all-more _ _ (λ y h at_q. old y h at_q) S.exchanges kept) (λ at_q. new))
+            (all-push (λ (y : Exchange). WaitsUnder (link_of S.links y.peer).waiting y) S.exchanges e r.waiting_are (λ v h same. absurd (above v h same)));
+        links_are = all-links (λ (p : Peer) (v : LinkState). Agrees n p v) q.peer s S.links
+            (queued-agrees l t q.peer (link_of S.links q.peer) c a q token text word (link q.peer) refl spelled size fresh (number ∙ sym r.issued_are))
+            (λ p other. ask-elsewhere l t p (link_of S.links p) c a q (link p) other);
+      };
+    }
+  where
+    above : (v : Waiting) → Contains (link_of S.links q.peer).waiting v → token_number v.token ≡ token_number token → ⊥
+    above v h same = let less = below-issued l S q.peer v b.reads h in omega (arith, less, same, number)
+
+    old : (y : Exchange) → ExchangeIn l y × WaitsUnder (link_of S.links y.peer).waiting y → y.peer ≡ q.peer
+        → WaitsUnder ((link_of S.links q.peer).waiting ++ waits token text word ∷ []) y
+    old y h at_q v has same = elim (contains-push (link_of S.links q.peer).waiting (waits token text word) v has) [
+      | inl k ↦ h.1 v (subst (λ (p : Peer). Contains (link_of S.links p).waiting v) (sym at_q) k) same
+      | inr e ↦
+          let less = rank-below l y.opening _ h.0.opening in
+          let mine = h.0.number in
+          let issued = b.reads.issued_are in
+          let is = ap (λ (u : Waiting). token_number u.token) e in
+          absurd (omega (arith, less, mine, issued, is, same, number))
+    ]
+
+    new : WaitsUnder ((link_of S.links q.peer).waiting ++ waits token text word ∷ []) (exchange_for t c q token S)
+    new v has same = elim (contains-push (link_of S.links q.peer).waiting (waits token text word) v has) [
+      | inl k ↦ absurd (above v k same)
+      | inr e ↦ ap (λ (u : Waiting). u.token) (sym e)
+    ]

@@ -1,0 +1,125 @@
+-- What an ask leaves.
+use Rattle.std.proofs.Common.{◌≡◌, ℕ, ◌+◌, Bool, true, false, cond, List, [], ◌∷◌, ◌++◌, length, map, Option, Some, None, refl, ap, ◌∙◌, arith, length-append}
+use Rattle.std.specs.Prelude.{is_none, option_map}
+use Rattle.std.specs.List.{AllByRecursion}
+use Rattle.std.specs.Str.{bytes_eq}
+use Rattle.std.proofs.lemmas.Slice.Eq.{bytes_eq-Decides}
+use Rattle.ask_model.specs.declared.cause.Cause.TheVariants as C
+use Rattle.ask_model.specs.Requests.{Sense}
+use Rattle.journal_book.specs.Entries.{Deed, Asks}
+use Rattle.history_laws.specs.Numbering.{token_number}
+use Rattle.message_layer.specs.Values.{LinkState}
+use Rattle.message_layer.specs.Sending.{waits, queued, submitted}
+use Rattle.message_layer.specs.declared.state.Outstanding.{Outstanding}
+use Rattle.message_layer.specs.declared.state.Waiting.{Waiting}
+use Rattle.history_links.proofs.Facts.{all-more}
+use Rattle.history_links.proofs.Ranks.{rank-below}
+use Rattle.exchange_model.specs.declared.kept.Exchange.{Exchange}
+use Rattle.exchange_model.specs.State.{PeerLink, State, link_of, with_link}
+use Rattle.exchange_model.specs.Reads.{ExchangeIn}
+use Rattle.exchange_model.specs.Steps.{exchange_for, begins, entered, given_out, is_under, went_out}
+use Rattle.exchange_model.specs.Calls.{asked_by, refused, next}
+use Rattle.exchange_model.specs.Entering.{going_as, sent_as, first_deeds, in_turn, at_once, begun, BeginsEnter, RefusalsEnter, BusyEnters}
+use Rattle.exchange_model.proofs.Begins.{map-push}
+use Rattle.exchange_model.proofs.Entered.{put, framed, next-put, turn_of, out-at}
+use Rattle.exchange_model.proofs.LinksHeard.{Turns, turns}
+
+pub refusals-enter : RefusalsEnter
+refusals-enter t c a n cause status S e = ap (λ (z : Sense). asked_by z t c a n S) e
+
+pub busy-enters : BusyEnters
+busy-enters t c a q n S e full =
+    ap (λ (z : Sense). asked_by z t c a n S) e
+    ∙ ap (λ (b : Bool). cond b (next t q.peer (begins t c a q n.token n.text n.word S))
+    (refused t c a C.Busy S)) full
+
+-- No exchange but the new one has its token.
+itself : (token : List ℕ) → bytes_eq token token ≡ true
+itself token = (bytes_eq-Decides token token).1 refl
+
+not-under : (token : List ℕ) (i : ℕ) (e : Exchange) → is_under token e ≡ false
+    → went_out token i e ≡ e
+not-under token i e h = ap (λ (b : Bool). cond b (record e { sending = Some i }) e) h
+
+others-stay : (token : List ℕ) (i : ℕ) (es : List Exchange)
+    → AllByRecursion (λ (e : Exchange). is_under token e ≡ false) es
+    → map (went_out token i) es ≡ es
+others-stay token i [] a = refl
+others-stay token i (e ∷ es) a =
+    ap (λ (x : Exchange). x ∷ map (went_out token i) es) (not-under token i e a.0)
+    ∙ ap (λ (xs : List Exchange). e ∷ xs) (others-stay token i es a.1)
+
+new-sent : (w : Waiting) (i : ℕ) (v : Option Outstanding) (es : List Exchange) (e : Exchange)
+    → e.token ≡ w.token → e.sending ≡ None
+    → AllByRecursion (λ (x : Exchange). is_under w.token x ≡ false) es
+    → sent_as (going_as i (at_once w v)) (es ++ e ∷ []) ≡ es
+    ++ record e { sending = option_map (λ (x : Waiting). i) (at_once w v) } ∷ []
+new-sent w i (Some o) es e same unsent a =
+    ap (λ (s : Option ℕ). es ++ record e { sending = s } ∷ []) unsent
+new-sent w i None es e same unsent a =
+    map-push (went_out w.token i) es e
+    ∙ (ap (λ (xs : List Exchange). xs ++ went_out w.token i e ∷ []) (others-stay w.token i es a)
+    ∙ ap (λ (b : Bool). es ++ cond b (record e { sending = Some i }) e ∷ [])
+    (ap (λ (k : List ℕ). bytes_eq k w.token) same ∙ itself w.token))
+
+-- where nothing is outstanding nothing else waits
+turn-at-once : (w : Waiting) (v : Option Outstanding) (ws : List Waiting) → Turns v ws
+    → in_turn (is_none v) (ws ++ w ∷ []) ≡ at_once w v
+turn-at-once w (Some o) ws h = refl
+turn-at-once w None ws h = ap (λ (us : List Waiting). in_turn true (us ++ w ∷ [])) h
+
+pub begins-enter : BeginsEnter
+begins-enter t c a q n S may drained numbered sense place =
+    ap (λ (z : Sense). asked_by z t c a n S) sense
+    ∙ (ap (λ (b : Bool). cond b (next t q.peer S1) (refused t c a C.Busy S)) place
+    ∙ (next-put t q.peer s1 S.links S1 refl (out-at q.peer S.links drained.out)
+    ∙ (ap (λ (x : Option Waiting). put t (first_deeds t q.peer s.last_mid x)
+    (sent_as (going_as (length S1.entries) x) S1.exchanges) links S1) turn
+    ∙ (ap (λ (i : ℕ). put t ds (sent_as (going_as i up) S1.exchanges) links S1)
+    (length-append S.entries (record { moment = t; deed = Asks c a } ∷ []))
+    ∙ (ap (λ (es : List Exchange). put t ds es links S1)
+    (new-sent w (length S.entries + 1) s.outstanding S.exchanges
+    (exchange_for t c q n.token S) refl refl fresh)
+    ∙ ap (λ (U : State). record U { exchanges = (begun t c a q n S).exchanges; links = links })
+    (framed t ds (S.issued + 1) S1.exchanges S1.links (entered t (Asks c a) S)))))))
+  where
+    s : LinkState
+    s = link_of S.links q.peer
+
+    w : Waiting
+    w = waits n.token n.text n.word
+
+    s1 : LinkState
+    s1 = queued t w s
+
+    S1 : State
+    S1 = begins t c a q n.token n.text n.word S
+
+    up : Option Waiting
+    up = at_once w s.outstanding
+
+    ds : List Deed
+    ds = first_deeds t q.peer s.last_mid up
+
+    links : List PeerLink
+    links = with_link q.peer (given_out (submitted t w s)) S.links
+
+    turn : turn_of s1 ≡ up
+    turn = turn-at-once w s.outstanding s.waiting
+        (turns _ s.outstanding s.waiting (may.kept.rests.links q.peer))
+
+    other : (e : Exchange) → ExchangeIn may.kept.reading e → (b : Bool)
+        → bytes_eq e.token n.token ≡ b → b ≡ false
+    other e h false k = refl
+    other e h true k =
+        let same = ap token_number ((bytes_eq-Decides e.token n.token).0 k) in
+        let less = rank-below may.kept.reading e.opening _ h.opening in
+        let mine = h.number in
+        let issued = may.kept.rests.reads.issued_are in
+        let next = numbered.number in
+        absurd (omega (arith, same, less, mine, issued, next))
+
+    fresh : AllByRecursion (λ (e : Exchange). is_under n.token e ≡ false) S.exchanges
+    fresh = all-more (ExchangeIn may.kept.reading) (λ (e : Exchange). is_under n.token e ≡ false)
+        (λ e h. other e h (bytes_eq e.token n.token) refl) S.exchanges
+        may.kept.rests.reads.exchanges_are

@@ -1,0 +1,190 @@
+-- What each call takes of a journal's room.
+use Rattle.std.proofs.Common.{◌≡◌, ℕ, ◌+◌, ◌≤◌, Bool, true, false, cond, leb, inl, inr, List, [], ◌∷◌, length, map, Option, Some, None, Result, Ok, Err, refl, ap, ◌∙◌, arith, length-append}
+use Rattle.std.specs.Prelude.{count_by, is_some, ◌&&◌}
+use Rattle.std.proofs.lemmas.Bool.{leb-true}
+use Rattle.std.proofs.lemmas.List.{length-map}
+use Rattle.std.proofs.lemmas.Bool.Decides.{eqb_tells}
+use Rattle.coap_codec.specs.Spelling.{Content}
+use Rattle.coap_codec.specs.Reading.{message_at}
+use Rattle.coap_codec.specs.declared.fault.CodecFault.{CodecFault}
+use Rattle.uri_map.specs.declared.peer.Peer.{Peer}
+use Rattle.ask_model.specs.declared.cause.Cause.{Cause}
+use Rattle.ask_model.specs.declared.cause.Cause.TheVariants as C
+use Rattle.ask_model.specs.Requests.{CoapRequest, Sense, Requests, Refuses}
+use Rattle.ask_model.specs.Views.{Ask}
+use Rattle.ask_model.specs.Sizes.{came_size}
+use Rattle.history_laws.specs.Responses.{is_whole}
+use Rattle.journal_book.specs.Entries.{Live, Fault, grounds_size}
+use Rattle.message_layer.specs.Hearing.{reset_for, replies, verdict_of}
+use Rattle.message_layer.specs.declared.state.Reply.{Reply}
+use Rattle.message_layer.specs.declared.state.Reply.TheVariants as R
+use Rattle.message_layer.specs.declared.verdict.News.{News}
+use Rattle.message_layer.specs.declared.verdict.News.TheVariants as N
+use Rattle.message_layer.specs.declared.verdict.Verdict.{Verdict}
+use Rattle.history_laws.specs.Readings.{Noted}
+use Rattle.history_links.specs.Steps.{ended_token}
+use Rattle.exchange_model.specs.declared.kept.Conn.{Conn}
+use Rattle.exchange_model.specs.State.{State, link_of, pend}
+use Rattle.exchange_model.specs.Reads.{Reads}
+use Rattle.exchange_model.specs.Steps.{opens, asks, begins, hears, hears_nothing}
+use Rattle.exchange_model.specs.Resting.{HasConn}
+use Rattle.exchange_model.specs.Calls.{Numbers, next, refused, has_place, asked_by, asked, given_back, ended_in, grounds_by, takes_new, takes_by, repeats, resets, reads_so, heard}
+use Rattle.exchange_model.specs.Room.{has_asked}
+use Rattle.exchange_model.proofs.Adding.{Adds, stays, both-add, at-most, counted, still-adds, given-adds, next-adds, answers-adds, ends-if-adds}
+use Rattle.exchange_model.proofs.Tallies.{id-once}
+use Rattle.exchange_model.proofs.Tidy.{Tidy, short-link, tidy-with, short-queued, short-heard}
+use Rattle.exchange_model.proofs.Waiting.{opens-none, asks-more}
+
+pub opens-adds : (t : ℕ) (S : State) → Tidy S.links → Adds 2 128 S (opens t S)
+opens-adds t S h =
+    let all = length-append S.conns (record { id = S.opened; pending = None } ∷ []) in
+    let none = opens-none S.opened S.conns in
+    counted 2 128 S (opens t S) _ refl refl h (omega (arith, all, none)) (omega (arith, all, none))
+
+-- An ask, its message and its answer.
+
+has-asked : (c n : ℕ) (p : Option ℕ) (cs : List Conn) → HasConn cs c p
+    → HasConn (map (pend c (Some n)) cs) c (Some n)
+has-asked c n p [] h = absurd h
+has-asked c n p (x ∷ xs) (inr h) = inr (has-asked c n p xs h)
+has-asked c n p (x ∷ xs) (inl h) = inl
+    (elim (eqb_tells x.id c) [ inl w ↦ rw (w.0) (h.0, refl) | inr w ↦ absurd (w.1 h.0) ])
+
+asks-counts : (l : List Noted) (t c : ℕ) (a : Ask) (S S1 : State) → Reads l S
+    → S1.entries ≡ (asks t c a S).entries → S1.sealed ≡ S.sealed → S1.conns ≡ (asks t c a S).conns
+    → Tidy S1.links
+    → Adds 2 (90064 + came_size a.came) S S1
+asks-counts l t c a S S1 r is same conns tidy =
+    let all = ap (λ (cs : List Conn). length cs) conns ∙ length-map S.conns
+    (pend c (Some (length S.entries))) in
+    let waiting = ap (count_by has_asked) conns in
+    let more = asks-more c (length S.entries) S.conns in
+    let once = id-once l S c r in
+    counted 2 (90064 + came_size a.came) S S1 _ is same tidy
+    (omega (arith, all, waiting, more, once)) (omega (arith, all, waiting, more, once))
+
+refused-adds : (l : List Noted) (t c : ℕ) (a : Ask) (cause : Cause) (S : State) → Reads l S
+    → Tidy S.links → HasConn S.conns c None
+    → Adds 2 (90064 + came_size a.came) S (refused t c a cause S)
+refused-adds l t c a cause S r h has =
+    let one = asks-counts l t c a S (asks t c a S) r refl refl refl h in
+    let two = answers-adds t c (length S.entries) (Fault cause (length S.entries)) (asks t c a S) h
+    (has-asked c (length S.entries) None S.conns has) (omega arith) in
+    at-most 2 (90064 + came_size a.came + 0) 2 (90064 + came_size a.came) S (refused t c a cause S)
+    (omega arith) (omega arith)
+    (both-add 2 (90064 + came_size a.came) 0 0 S (asks t c a S) (refused t c a cause S) one two)
+
+begun-adds : (l : List Noted) (t c : ℕ) (a : Ask) (q : CoapRequest) (n : Numbers) (S : State)
+    → Reads l S → Tidy S.links → length n.text ≤ 2016
+    → Adds 3 (92144 + came_size a.came) S (next t q.peer (begins t c a q n.token n.text n.word S))
+begun-adds l t c a q n S r h short =
+    let S1 = begins t c a q n.token n.text n.word S in
+    let tidy = tidy-with q.peer _ S.links h
+    (short-queued t (link_of S.links q.peer) n.token n.text n.word
+    (short-link S.links q.peer h.short) short) in
+    let one = asks-counts l t c a S S1 r refl refl refl tidy in
+    let two = next-adds t q.peer S1 tidy in
+    at-most 3 (90064 + came_size a.came + 2080) 3 (92144 + came_size a.came) S (next t q.peer S1)
+    (omega arith) (omega arith)
+    (both-add 2 (90064 + came_size a.came) 1 2080 S S1 (next t q.peer S1) one two)
+
+pub asked-adds : (l : List Noted) (t c : ℕ) (a : Ask) (n : Numbers) (S : State) → Reads l S
+    → Tidy S.links → HasConn S.conns c None → length n.text ≤ 2016
+    → Adds 3 (92144 + came_size a.came) S (asked t c a n S)
+asked-adds l t c a n S r h has short = by a.sense
+  where
+    turned_away : (cause : Cause) → Adds 3 (92144 + came_size a.came) S (refused t c a cause S)
+    turned_away cause = at-most 2 (90064 + came_size a.came) 3 (92144 + came_size a.came) S
+        (refused t c a cause S) (omega arith) (omega arith) (refused-adds l t c a cause S r h has)
+
+    by : (s : Sense) → Adds 3 (92144 + came_size a.came) S (asked_by s t c a n S)
+    by (Refuses cause status) = turned_away cause
+    by (Requests q) = place (has_place t q.peer S)
+      where
+        place : (b : Bool)
+            → Adds 3 (92144 + came_size a.came) S
+            (cond b (next t q.peer (begins t c a q n.token n.text n.word S))
+            (refused t c a C.Busy S))
+        place true = begun-adds l t c a q n S r h short
+        place false = turned_away C.Busy
+
+-- A datagram, its ACK or RST, the next message, and an answer.
+
+grounds-small : (news : News) (n : ℕ) (m : Content) → grounds_size (grounds_by news n m) ≤ 4
+grounds-small news n m = by news
+  where
+    either : (b : Bool) → grounds_size (cond b (Live (n ∷ [])) (Fault C.NotUnderstood n)) ≤ 4
+    either true = omega arith
+    either false = omega arith
+
+    by : (news : News) → grounds_size (grounds_by news n m) ≤ 4
+    by (N.Reset token) = omega arith
+    by N.Quiet = either (is_whole m)
+    by N.Response = either (is_whole m)
+    by N.Lost = either (is_whole m)
+
+nothing-adds : (t : ℕ) (p : Peer) (d : List ℕ) (S : State) → Tidy S.links → length d ≤ 2048
+    → Adds 1 2112 S (hears_nothing t p d S)
+nothing-adds t p d S h short = still-adds 2112 S (hears_nothing t p d S) _ refl refl refl h
+    (omega (arith, short))
+
+answered-adds : (t : ℕ) (p : Peer) (d : List ℕ) (mid : ℕ) (r : Reply) (S : State) → Tidy S.links
+    → length d ≤ 2048 → Adds 3 4260 S (given_back t p (replies mid r) (hears_nothing t p d S))
+answered-adds t p d mid r S h short =
+    let one = nothing-adds t p d S h short in
+    at-most 2 2180 3 4260 S _ (omega arith) (omega arith)
+    (both-add 1 2112 1 68 S (hears_nothing t p d S) _ one
+    (given-adds t p mid r (hears_nothing t p d S) h))
+
+new-adds : (t : ℕ) (p : Peer) (d : List ℕ) (m : Content) (v : Verdict) (S : State) → Tidy S.links
+    → length d ≤ 2048 → Adds 3 4260 S (takes_new t p d m v S)
+new-adds t p d m v S h short =
+    let S1 = hears t p d m S in
+    let tidy = tidy-with p _ S.links h
+    (short-heard t m.mid m.token (verdict_of t (link_of S.links p) m) (link_of S.links p)
+    (short-link S.links p h.short)) in
+    let one = still-adds 2112 S S1 _ refl refl refl tidy (omega (arith, short)) in
+    let S2 = given_back t p (replies m.mid v.reply) S1 in
+    let two = given-adds t p m.mid v.reply S1 tidy in
+    let S3 = next t p S2 in
+    let three = next-adds t p S2 two.tidy in
+    let g = grounds_by v.news (length S.entries) m in
+    let four = ends-if-adds t g (ended_in (ended_token v.news m.token) S.exchanges) S3 three.tidy
+    (grounds-small v.news (length S.entries) m) in
+    at-most 3 4260 3 4260 S _ (omega arith) (omega arith)
+    (both-add 3 4260 0 0 S S3 _
+    (both-add 2 2180 1 2080 S S2 S3 (both-add 1 2112 1 68 S S1 S2 one two) three) four)
+
+pub heard-adds : (t : ℕ) (p : Peer) (d : List ℕ) (S : State) → Tidy S.links
+    → Adds 3 4260 S (heard t p d S)
+heard-adds t p d S h = by (is_some (link_of S.links p).last_mid) (leb (length d) 2048) refl
+  where
+    new : length d ≤ 2048 → (m : Content) (v : Verdict) (news : News)
+        → Adds 3 4260 S (takes_by t p d m v news S)
+    new short m v N.Lost = stays 3 4260 S h
+    new short m v N.Quiet = new-adds t p d m v S h short
+    new short m v N.Response = new-adds t p d m v S h short
+    new short m v (N.Reset token) = new-adds t p d m v S h short
+
+    message : length d ≤ 2048 → (m : Content) (v : Verdict) (b : Bool)
+        → Adds 3 4260 S
+        (cond b (given_back t p (replies m.mid v.reply) (hears_nothing t p d S))
+        (takes_by t p d m v v.news S))
+    message short m v true = answered-adds t p d m.mid v.reply S h short
+    message short m v false = new short m v v.news
+
+    reset : length d ≤ 2048 → (v : Option ℕ)
+        → Adds 3 4260 S (given_back t p (resets v) (hears_nothing t p d S))
+    reset short None = answered-adds t p d 0 R.Nothing S h short
+    reset short (Some mid) = answered-adds t p d mid R.Rst S h short
+
+    read : length d ≤ 2048 → (r : Result Content CodecFault) → Adds 3 4260 S (reads_so t p d r S)
+    read short (Ok m) = message short m (verdict_of t (link_of S.links p) m)
+        (repeats t (link_of S.links p) m)
+    read short (Err e) = reset short (reset_for d)
+
+    by : (b c : Bool) → leb (length d) 2048 ≡ c
+        → Adds 3 4260 S (cond (b && c) (reads_so t p d (message_at d) S) S)
+    by true true is = read (leb-true _ _ is) (message_at d)
+    by true false is = stays 3 4260 S h
+    by false c is = stays 3 4260 S h

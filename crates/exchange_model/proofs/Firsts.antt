@@ -1,0 +1,165 @@
+-- The message that waits first goes out.
+use Rattle.std.proofs.Common.{◌≡◌, ℕ, zero, ◌<◌, ◌⊎◌, inl, inr, Bool, true, false, cond, eqb, List, [], ◌∷◌, ◌++◌, length, map, Option, Some, refl, sym, ap, subst, ◌∙◌, arith}
+use Rattle.std.specs.Prelude.{is_none}
+use Rattle.std.specs.List.{AllByRecursion, Contains}
+use Rattle.std.specs.Str.{bytes_eq}
+use Rattle.std.proofs.lemmas.Bool.{false≢true, cases_lt}
+use Rattle.std.proofs.lemmas.Bool.Decides.{eqb_tells}
+use Rattle.std.proofs.lemmas.Slice.Eq.{bytes_eq-Decides}
+use Rattle.coap_codec.specs.Spelling.{Content}
+use Rattle.uri_map.specs.declared.peer.Peer.{Peer}
+use Rattle.ask_model.specs.Requests.{same_peer}
+use Rattle.ask_model.proofs.Endpoints.{same_peer-same}
+use Rattle.journal_book.specs.Entries.{Sends, Written}
+use Rattle.history_laws.specs.Numbering.{token_number}
+use Rattle.message_layer.specs.Values.{LinkState}
+use Rattle.message_layer.specs.Sending.{first_sent, with_outstanding}
+use Rattle.message_layer.specs.declared.state.Waiting.{Waiting}
+use Rattle.history_laws.specs.Readings.{Noted}
+use Rattle.history_laws.specs.Transmissions.{FirstSending, bears_token}
+use Rattle.history_laws.specs.Exchanges.{Begun, begun, goes_to, openings, is_going, is_waiting, waits_for}
+use Rattle.history_laws.proofs.Elements.{contains-later}
+use Rattle.history_laws.proofs.Facts.{eqb-itself}
+use Rattle.history_laws.proofs.Places.{at-keeps}
+use Rattle.history_laws.proofs.Resting.{first as and-left}
+use Rattle.history_laws.proofs.Sent.{begun-keeps}
+use Rattle.history_links.specs.Agrees.{rank, IsWaitingFor, Agrees}
+use Rattle.history_links.proofs.Facts.{all-more}
+use Rattle.history_links.proofs.Nexts.{next-follows}
+use Rattle.history_links.proofs.OtherPeers.{send-elsewhere}
+use Rattle.history_links.proofs.Ranks.{rank-keeps, rank-below, rank-apart}
+use Rattle.history_links.proofs.Sent.{sent, ends-sent, waits-sent}
+use Rattle.history_links.proofs.Still.{filter-same}
+use Rattle.exchange_model.specs.declared.kept.Exchange.{Exchange}
+use Rattle.exchange_model.specs.State.{link_of}
+use Rattle.exchange_model.specs.Reads.{ExchangeIn, WaitsUnder, opening_of}
+use Rattle.exchange_model.specs.Steps.{given_out, is_under, went_out}
+use Rattle.exchange_model.specs.Laws.{FirstLeads}
+use Rattle.exchange_model.proofs.Begins.{waits-with}
+use Rattle.exchange_model.proofs.Lists.{all-map, all-both}
+use Rattle.exchange_model.proofs.Silent.{later-than, link-before}
+use Rattle.exchange_model.proofs.Tables.{given-agrees, entries-length, exchange-stays, all-links}
+
+-- Two openings with one rank are one.
+pub one-rank : (l : List Noted) (o q : ℕ) (b c : Begun) → begun l o ≡ Some b → begun l q ≡ Some c → rank l o ≡ rank l q → o ≡ q
+one-rank l o q b c e f same = elim (eqb_tells o q) [
+  | inl w ↦ w.1
+  | inr w ↦ elim (less o q w.1) [
+    | inl lt ↦ let apart = rank-apart l o q b c e f lt in absurd (omega (arith, apart, same))
+    | inr lt ↦ let apart = rank-apart l q o c b f e lt in absurd (omega (arith, apart, same))
+  ]
+]
+  where
+    less : (a b : ℕ) → (a ≡ b → ⊥) → (a < b) ⊎ (b < a)
+    less a b apart = elim (cases_lt a b) [
+      | inl lt ↦ inl lt
+      | inr ge ↦ elim (cases_lt b a) [ inl lt ↦ inr lt | inr le ↦ absurd (apart (omega (arith, ge, le))) ]
+    ]
+
+keys-kept : (token : List ℕ) (i : ℕ) (es : List Exchange) → map opening_of es ≡ map opening_of (map (went_out token i) es)
+keys-kept token i [] = refl
+keys-kept token i (e ∷ es) = rw (← keys-kept token i es) (ap (λ (o : ℕ). o ∷ map opening_of es) (by (is_under token e)))
+  where
+    by : (b : Bool) → e.opening ≡ (cond b (record e { sending = Some i }) e).opening
+    by true = refl
+    by false = refl
+
+-- what is kept of an exchange after it
+mine : (l : List Noted) (t : ℕ) (p : Peer) (bytes : List ℕ) (timeout : Option ℕ) (o : ℕ) (m : Content) (w : Waiting)
+    → is_waiting l p o ≡ true → (a : IsWaitingFor l o w) → m.token ≡ w.token → (e : Exchange) → ExchangeIn l e → (e.peer ≡ p → token_number w.token ≡ token_number e.token → w.token ≡ e.token)
+    → (b : Bool) → bytes_eq e.token w.token ≡ b → ExchangeIn (sent t p bytes timeout o m ∷ l) (cond b (record e { sending = Some (length l) }) e)
+mine l t p bytes timeout o m w waits a token e h under true is =
+    let same : e.token ≡ w.token = (bytes_eq-Decides e.token w.token).0 is in
+    let at : o ≡ e.opening = one-rank l o e.opening _ _ a.opening h.opening (sym a.numbered ∙ (ap token_number (sym same) ∙ sym h.number)) in
+    let x = sent t p bytes timeout o m in
+    let f : FirstSending = record { number = length l; moment = t; opening = o; peer = p; message = m } in
+    let goes : goes_to p (begun l e.opening) ≡ true = subst (λ (k : ℕ). goes_to p (begun l k) ≡ true) at (and-left (goes_to p (begun l o)) _ waits) in
+    let peer : same_peer h.request.peer p ≡ true = subst (λ (v : Option Begun). goes_to p v ≡ true) h.opening goes in
+    record {
+      request = h.request;
+      opening = begun-keeps x l e.opening _ h.opening;
+      peer = h.peer;
+      number = rank-keeps x l e.opening _ h.opening ∙ h.number;
+      sending = waits-sent l t p bytes timeout o m e.opening ∙ ap (λ (k : ℕ). cond (eqb o k) (Some (length l)) (waits_for l k)) (sym at) ∙ rw (eqb-itself o) refl;
+      sent = (f, rw (eqb-itself (length l)) refl, sym (same_peer-same h.request.peer p peer) ∙ h.peer, token ∙ sym same);
+      ask = h.ask;
+      stands = at-keeps x l e.opening _ h.stands;
+    }
+mine l t p bytes timeout o m w waits a token e h under false is =
+    let x = sent t p bytes timeout o m in
+    exchange-stays x l e unborne (waits-sent l t p bytes timeout o m e.opening ∙ rw (other) refl) h
+  where
+    peer-of : o ≡ e.opening → e.peer ≡ p
+    peer-of at =
+        let goes : goes_to p (begun l e.opening) ≡ true = subst (λ (k : ℕ). goes_to p (begun l k) ≡ true) at (and-left (goes_to p (begun l o)) _ waits) in
+        let peer : same_peer h.request.peer p ≡ true = subst (λ (v : Option Begun). goes_to p v ≡ true) h.opening goes in
+        sym h.peer ∙ same_peer-same h.request.peer p peer
+
+    differs : w.token ≡ e.token → ⊥
+    differs same = false≢true (sym is ∙ (bytes_eq-Decides e.token w.token).1 (sym same))
+
+    other : eqb o e.opening ≡ false
+    other = elim (eqb_tells o e.opening) [
+      | inl v ↦ absurd (differs (under (peer-of v.1) (a.numbered ∙ (ap (rank l) v.1 ∙ h.number))))
+      | inr v ↦ v.0
+    ]
+
+    apart : (b : Bool) → bytes_eq m.token e.token ≡ b → b ≡ false
+    apart true q = absurd (differs (sym token ∙ (bytes_eq-Decides m.token e.token).0 q))
+    apart false q = refl
+
+    unborne : bears_token l e.token ≡ false → bears_token (sent t p bytes timeout o m ∷ l) e.token ≡ false
+    unborne q = rw (apart (bytes_eq m.token e.token) refl) q
+
+pub first-leads : FirstLeads
+first-leads l t p w ws S b q small few free is =
+    let r = b.reads in
+    let later = later-than l t S b in
+    let link = link-before l t S b in
+    let made = next-follows l t p (link_of S.links p) w ws (link p) q small few free is in
+    let o = made.0 in
+    let m = made.1 in
+    let v = first_sent t (link_of S.links p).last_mid w in
+    let x = sent t p v.datagram (Some v.timeout) o m in
+    let n = x ∷ l in
+    let s = given_out (with_outstanding (link_of S.links p) ws v) in
+    let here : length S.entries ≡ length l = ap length (sym r.entries_are) ∙ entries-length l in
+    let kept = all-both (ExchangeIn l) _ S.exchanges r.exchanges_are r.waiting_are in (
+      o,
+      m,
+      record {
+        follows = made.5.follows;
+        reads = record {
+          entries_are = ap (λ (es : List Written). es ++ record { moment = t; deed = Sends p v.datagram (Some v.timeout) } ∷ []) r.entries_are;
+          legal = (r.legal, later, made.5.follows);
+          sealed_is = r.sealed_is;
+          moment_is = refl;
+          opened_are = r.opened_are;
+          issued_are = r.issued_are;
+          conns_are = r.conns_are;
+          keys = filter-same (is_going n) (is_going l) (λ k. ap is_none (ends-sent l t p v.datagram (Some v.timeout) o m k)) (openings l) ∙ (r.keys ∙ keys-kept w.token (length S.entries) S.exchanges);
+          exchanges_are = subst (λ (k : ℕ). AllByRecursion (ExchangeIn n) (map (went_out w.token k) S.exchanges)) (sym here)
+              (all-map (went_out w.token (length l)) (ExchangeIn n) S.exchanges
+              (all-more _ _ (λ e h. mine l t p v.datagram (Some v.timeout) o m w made.2 made.3 made.4 e h.0 (first-waits e h.1) (bytes_eq e.token w.token) refl) S.exchanges kept));
+          tokens_are = (let less = rank-below l o _ made.3.opening in let number = made.3.numbered in let issued = r.issued_are in let token = ap token_number made.4 in omega (arith, less, number, issued, token), r.tokens_are);
+          waiting_are = waits-with p s S.links (map (went_out w.token (length S.entries)) S.exchanges)
+              (all-map (went_out w.token (length S.entries)) _ S.exchanges (all-more _ _ (λ e h. fewer e h (is_under w.token e)) S.exchanges r.waiting_are))
+              (all-map (went_out w.token (length S.entries)) _ S.exchanges (all-more _ _ (λ e h. same e h (is_under w.token e)) S.exchanges r.waiting_are));
+          links_are = all-links (λ (k : Peer) (u : LinkState). Agrees n k u) p s S.links (given-agrees n p (with_outstanding (link_of S.links p) ws v) made.5.agrees)
+              (λ k other. send-elsewhere l t k p (link_of S.links k) v.datagram (Some v.timeout) o m w (link k) other made.2 made.3 made.4);
+        };
+      },
+    )
+  where
+    first-waits : (e : Exchange) → WaitsUnder (link_of S.links e.peer).waiting e → e.peer ≡ p → token_number w.token ≡ token_number e.token → w.token ≡ e.token
+    first-waits e h at_p number = h w (subst (λ (k : List Waiting). Contains k w) (sym (subst (λ (k : Peer). (link_of S.links k).waiting ≡ w ∷ ws) (sym at_p) is)) (zero, omega arith, refl)) number
+
+    fewer : (e : Exchange) → WaitsUnder (link_of S.links e.peer).waiting e → (c : Bool)
+        → (cond c (record e { sending = Some (length S.entries) }) e).peer ≡ p → WaitsUnder ws (cond c (record e { sending = Some (length S.entries) }) e)
+    fewer e h true at_p u has number = h u (subst (λ (k : List Waiting). Contains k u) (sym (subst (λ (k : Peer). (link_of S.links k).waiting ≡ w ∷ ws) (sym at_p) is)) (contains-later w ws u has)) number
+    fewer e h false at_p u has number = h u (subst (λ (k : List Waiting). Contains k u) (sym (subst (λ (k : Peer). (link_of S.links k).waiting ≡ w ∷ ws) (sym at_p) is)) (contains-later w ws u has)) number
+
+    same : (e : Exchange) → WaitsUnder (link_of S.links e.peer).waiting e → (c : Bool)
+        → WaitsUnder (link_of S.links (cond c (record e { sending = Some (length S.entries) }) e).peer).waiting (cond c (record e { sending = Some (length S.entries) }) e)
+    same e h true = h
+    same e h false = h

@@ -1,0 +1,315 @@
+-- Each call adds to the journal, and the connections follow.
+use Rattle.std.proofs.Common.{◌≡◌, ◌⊎◌, inl, inr, ℕ, ◌+◌, Bool, true, false, cond, List, [], ◌∷◌, ◌++◌, length, Option, Some, None, Result, Ok, Err, refl, sym, ap, ◌∙◌, subst, arith, length-append}
+use Rattle.std.specs.Prelude.{◌&&◌, fold, filter, map, is_some, nat_le, ⊤}
+use Rattle.std.specs.List.{AllByRecursion, list_any}
+use Rattle.std.proofs.lemmas.List.{append-nil, append_assoc, append_cancel_left}
+use Rattle.coap_codec.specs.Spelling.{Content}
+use Rattle.coap_codec.specs.Reading.{message_at}
+use Rattle.coap_codec.specs.declared.fault.CodecFault.{CodecFault}
+use Rattle.uri_map.specs.declared.peer.Peer.{Peer}
+use Rattle.ask_model.specs.declared.cause.Cause.{Cause}
+use Rattle.ask_model.specs.declared.cause.Cause.TheVariants as C
+use Rattle.ask_model.specs.Requests.{CoapRequest, Sense, Requests, Refuses}
+use Rattle.ask_model.specs.Views.{Ask}
+use Rattle.journal_book.specs.Entries.{Grounds, Fault, Deed, Opens, Asks, Sends, Hears, Passes, Answers, Shuts, Seals, Written}
+use Rattle.message_layer.specs.Hearing.{replies, reset_for, verdict_of}
+use Rattle.message_layer.specs.declared.state.Outstanding.{Outstanding}
+use Rattle.message_layer.specs.declared.state.Waiting.{Waiting}
+use Rattle.message_layer.specs.declared.verdict.News.{News}
+use Rattle.message_layer.specs.declared.verdict.News.TheVariants as N
+use Rattle.message_layer.specs.declared.verdict.Verdict.{Verdict}
+use Rattle.history_links.proofs.Facts.{all-more}
+use Rattle.history_links.specs.Steps.{ended_token}
+use Rattle.exchange_model.specs.declared.kept.Conn.{Conn}
+use Rattle.exchange_model.specs.declared.kept.Exchange.{Exchange}
+use Rattle.exchange_model.specs.State.{State, link_of, conns_after}
+use Rattle.exchange_model.specs.Steps.{opens, asks, answers, shuts, seals, begins, hears, hears_nothing, sends_first, sends_copy, is_past, passes}
+use Rattle.exchange_model.specs.Calls.{Numbers, next_by, next, refused, has_place, asked_by, asked, given_back, waits_on, ends, ends_if, ended_in, grounds_by, takes_new, takes_by, repeats, resets, reads_so, heard, is_due, moves_by, moves, move_all, peer_of, timed_out, times_out, something_due, ticked}
+use Rattle.exchange_model.specs.Room.{fits}
+use Rattle.exchange_model.specs.Sealing.{in_room, if_unsealed, opens_in_room, asks_in_room, hears_in_room, late, ticks_in_room}
+use Rattle.exchange_model.specs.Growing.{conns_with, Adds, OpensAdd, ShutsAdd, SealsAdd, AsksAdd, HearsAdd, LateAdds, TicksAdd, at_moment, OpensAlone, IsOfAsk, AsksAnswer, by_client, HearsAnswer, TicksAnswer}
+
+conns-both : (cs : List Conn) (n : ℕ) (xs ys : List Written)
+    → conns_with cs n (xs ++ ys) ≡ conns_with (conns_with cs n xs) (n + length xs) ys
+conns-both cs n [] ys = let e : n ≡ n + 0 = omega arith in ap (λ (k : ℕ). conns_with cs k ys) e
+conns-both cs n (x ∷ xs) ys =
+    let e : n + 1 + length xs ≡ n + length (x ∷ xs) = omega arith in
+    conns-both (conns_after cs n x.deed) (n + 1) xs ys
+    ∙ ap (λ (k : ℕ). conns_with (conns_with (conns_after cs n x.deed) (n + 1) xs) k ys) e
+
+-- A step adds entries that are such.
+record Such (t : ℕ) (P : Deed → Type 0) (S S1 : State) : Type 0 where
+  more : List Written
+  entries : S1.entries ≡ S.entries ++ more
+  are : AllByRecursion (λ (w : Written). (w.moment ≡ t) × P w.deed) more
+  conns : S1.conns ≡ conns_with S.conns (length S.entries) more
+
+all-both-lists : (Q : Written → Type 0) (xs ys : List Written)
+    → AllByRecursion Q xs → AllByRecursion Q ys → AllByRecursion Q (xs ++ ys)
+all-both-lists Q [] ys a b = b
+all-both-lists Q (x ∷ xs) ys a b = (a.0, all-both-lists Q xs ys a.1 b)
+
+module _ (t : ℕ) (P : Deed → Type 0) where
+  none : (S : State) → Such t P S S
+  none S = record { more = []; entries = sym (append-nil S.entries); are = tt; conns = refl }
+
+  one : (d : Deed) (S S1 : State) → S1.entries ≡ S.entries ++ at_moment t d ∷ []
+      → S1.conns ≡ conns_after S.conns (length S.entries) d → P d → Such t P S S1
+  one d S S1 entries conns p = record {
+    more = at_moment t d ∷ [];
+    entries = entries;
+    are = ((refl, p), tt);
+    conns = conns;
+  }
+
+  both : (S S1 S2 : State) → Such t P S S1 → Such t P S1 S2 → Such t P S S2
+  both S S1 S2 a b =
+      let long = ap length a.entries ∙ length-append S.entries a.more in
+      record {
+        more = a.more ++ b.more;
+        entries =
+            b.entries ∙ ap (λ (es : List Written). es ++ b.more) a.entries
+            ∙ append_assoc S.entries a.more b.more;
+        are = all-both-lists (λ (w : Written). (w.moment ≡ t) × P w.deed) a.more b.more a.are b.are;
+        conns =
+            b.conns ∙ ap (λ (cs : List Conn). conns_with cs (length S1.entries) b.more) a.conns
+            ∙ ap (λ (k : ℕ). conns_with (conns_with S.conns (length S.entries) a.more) k b.more) long
+            ∙ sym (conns-both S.conns (length S.entries) a.more b.more);
+      }
+
+  either : (b : Bool) (S S1 S2 : State) → Such t P S S1 → Such t P S S2
+      → Such t P S (cond b S1 S2)
+  either true S S1 S2 x y = x
+  either false S S1 S2 x y = y
+
+  all-fold : {X : Type 0} (f : State → X → State) → ((S : State) (x : X) → Such t P S (f S x))
+      → (xs : List X) (S : State) → Such t P S (fold f S xs)
+  all-fold f step [] S = none S
+  all-fold f step (x ∷ xs) S =
+      both S (f S x) (fold f (f S x) xs) (step S x) (all-fold f step xs (f S x))
+
+  in-room : (S S1 : State) → P Seals → Such t P S S1 → Such t P S (in_room t S1 S)
+  in-room S S1 p x = either (fits S1) S S1 (seals t S) x (one Seals S (seals t S) refl refl p)
+
+  unsealed : (S S1 : State) → P Seals → Such t P S S1 → Such t P S (if_unsealed t S1 S)
+  unsealed S S1 p x = either S.sealed S S (in_room t S1 S) (none S) (in-room S S1 p x)
+
+  module _ (sends : (p : Peer) (bytes : List ℕ) (timeout : Option ℕ) → P (Sends p bytes timeout)) where
+    next-such : (p : Peer) (S : State) → Such t P S (next t p S)
+    next-such p S = by (link_of S.links p).outstanding (link_of S.links p).waiting
+      where
+        by : (v : Option Outstanding) (ws : List Waiting) → Such t P S (next_by t p v ws S)
+        by None [] = none S
+        by (Some o) ws = none S
+        by None (w ∷ ws) = one (Sends p _ _) S (sends_first t p w ws S) refl refl (sends p _ _)
+
+    given-such : (p : Peer) (bs : List (List ℕ)) (S : State) → Such t P S (given_back t p bs S)
+    given-such p [] S = none S
+    given-such p (b ∷ bs) S =
+        both S _ (given_back t p (b ∷ bs) S) (one (Sends p b None) S _ refl refl (sends p b None))
+        (given-such p bs _)
+
+    moves-such : (S : State) (p : Peer) → Such t P S (moves t S p)
+    moves-such S p = by (link_of S.links p).outstanding
+      where
+        by : (v : Option Outstanding) → Such t P S (moves_by t p v S)
+        by None = next-such p S
+        by (Some o) = either (is_due t (Some o)) S (sends_copy t p o S) S
+            (one (Sends p _ None) S (sends_copy t p o S) refl refl (sends p _ None)) (none S)
+
+  module _ (answer : (c k : ℕ) (g : Grounds) → P (Answers c k g)) where
+    ends-such : (g : Grounds) (e : Exchange) (S : State) → Such t P S (ends t g e S)
+    ends-such g e S = either (list_any (waits_on e) S.conns) S (answers t e.conn e.opening g S) S
+        (one (Answers e.conn e.opening g) S _ refl refl (answer e.conn e.opening g)) (none S)
+
+    ends-if-such : (g : Grounds) (v : Option Exchange) (S : State) → Such t P S (ends_if t g v S)
+    ends-if-such g None S = none S
+    ends-if-such g (Some e) S = ends-such g e S
+
+    all-end-such : (es : List Exchange) (S : State) → Such t P S (fold (times_out t) S es)
+    all-end-such es S = all-fold (times_out t) (λ S e. ends-such _ e S) es S
+
+-- An ask.
+
+asked-such : (t c : ℕ) (a : Ask) (n : Numbers) (S : State)
+    → Such t (IsOfAsk (length S.entries) c a) S (asked t c a n S)
+asked-such t c a n S = by (IsOfAsk (length S.entries) c a) (refl, refl) (λ g. (refl, refl))
+    (λ p bytes timeout. tt) a.sense
+  where
+    by : (P : Deed → Type 0) → P (Asks c a) → ((g : Grounds) → P (Answers c (length S.entries) g))
+        → ((p : Peer) (bytes : List ℕ) (timeout : Option ℕ) → P (Sends p bytes timeout))
+        → (s : Sense) → Such t P S (asked_by s t c a n S)
+    by P ask answer sends s = sense s
+      where
+        turned_away : (cause : Cause) → Such t P S (refused t c a cause S)
+        turned_away cause =
+            both t P S (asks t c a S) (refused t c a cause S)
+            (one t P (Asks c a) S (asks t c a S) refl refl ask)
+            (one t P (Answers c (length S.entries) (Fault cause (length S.entries))) (asks t c a S)
+            (refused t c a cause S) refl refl (answer (Fault cause (length S.entries))))
+
+        begun : (q : CoapRequest)
+            → Such t P S (next t q.peer (begins t c a q n.token n.text n.word S))
+        begun q =
+            let S1 = begins t c a q n.token n.text n.word S in
+            both t P S S1 (next t q.peer S1) (one t P (Asks c a) S S1 refl refl ask)
+            (next-such t P sends q.peer S1)
+
+        sense : (s : Sense) → Such t P S (asked_by s t c a n S)
+        sense (Refuses cause status) = turned_away cause
+        sense (Requests q) = either t P (has_place t q.peer S)
+            S (next t q.peer (begins t c a q n.token n.text n.word S)) (refused t c a C.Busy S)
+            (begun q) (turned_away C.Busy)
+
+asks-such : (t c : ℕ) (a : Ask) (n : Numbers) (S : State)
+    → Such t (IsOfAsk (length S.entries) c a) S (asks_in_room t c a n S)
+asks-such t c a n S = unsealed t _ S (asked t c a n S) tt (asked-such t c a n S)
+
+-- A datagram, and a tick.
+
+abbrev Inner : Deed → Type 0
+Inner d = by_client d ≡ false
+
+sends-inner : (p : Peer) (bytes : List ℕ) (timeout : Option ℕ) → Inner (Sends p bytes timeout)
+sends-inner p bytes timeout = refl
+
+answer-inner : (c k : ℕ) (g : Grounds) → Inner (Answers c k g)
+answer-inner c k g = refl
+
+heard-such : (t : ℕ) (p : Peer) (d : List ℕ) (S : State) → Such t Inner S (heard t p d S)
+heard-such t p d S =
+    either t Inner (is_some (link_of S.links p).last_mid && nat_le (length d) 2048) S
+    (reads_so t p d (message_at d) S) S (read (message_at d)) (none t Inner S)
+  where
+    nothing : (bs : List (List ℕ)) → Such t Inner S (given_back t p bs (hears_nothing t p d S))
+    nothing bs =
+        both t Inner S (hears_nothing t p d S) (given_back t p bs (hears_nothing t p d S))
+        (one t Inner (Hears p d) S (hears_nothing t p d S) refl refl refl)
+        (given-such t Inner sends-inner p bs (hears_nothing t p d S))
+
+    new : (m : Content) (v : Verdict) → Such t Inner S (takes_new t p d m v S)
+    new m v =
+        let S1 = hears t p d m S in
+        let S2 = given_back t p (replies m.mid v.reply) S1 in
+        let S3 = next t p S2 in
+        both t Inner S S3 (takes_new t p d m v S)
+        (both t Inner S S2 S3
+        (both t Inner S S1 S2 (one t Inner (Hears p d) S S1 refl refl refl)
+        (given-such t Inner sends-inner p (replies m.mid v.reply) S1))
+        (next-such t Inner sends-inner p S2))
+        (ends-if-such t Inner answer-inner (grounds_by v.news (length S.entries) m)
+        (ended_in (ended_token v.news m.token) S.exchanges) S3)
+
+    taken : (m : Content) (v : Verdict) (news : News) → Such t Inner S (takes_by t p d m v news S)
+    taken m v N.Lost = none t Inner S
+    taken m v N.Quiet = new m v
+    taken m v N.Response = new m v
+    taken m v (N.Reset token) = new m v
+
+    message : (m : Content) (v : Verdict)
+        → Such t Inner S
+        (cond (repeats t (link_of S.links p) m)
+        (given_back t p (replies m.mid v.reply) (hears_nothing t p d S))
+        (takes_by t p d m v v.news S))
+    message m v = either t Inner (repeats t (link_of S.links p) m) S _ _
+        (nothing (replies m.mid v.reply)) (taken m v v.news)
+
+    read : (r : Result Content CodecFault) → Such t Inner S (reads_so t p d r S)
+    read (Ok m) = message m (verdict_of t (link_of S.links p) m)
+    read (Err e) = nothing (resets (reset_for d))
+
+hears-such : (t : ℕ) (p : Peer) (d : List ℕ) (S : State) → Such t Inner S (hears_in_room t p d S)
+hears-such t p d S = unsealed t Inner S (heard t p d S) refl (heard-such t p d S)
+
+late-such : (t : ℕ) (S : State) → Such t Inner S (late t S)
+late-such t S = all-end-such t Inner answer-inner (filter (is_past t) S.exchanges) S
+
+ticked-such : (t : ℕ) (S : State) → Such t Inner S (ticked t S)
+ticked-such t S =
+    let S1 = passes t S in
+    let S2 = move_all t S1 in
+    either t Inner (something_due t S) S (fold (times_out t) S2 (timed_out t S)) S
+    (both t Inner S S2 (fold (times_out t) S2 (timed_out t S))
+    (both t Inner S S1 S2 (one t Inner Passes S S1 refl refl refl)
+    (all-fold t Inner (moves t) (moves-such t Inner sends-inner) (map peer_of S1.links) S1))
+    (all-end-such t Inner answer-inner (timed_out t S) S2)) (none t Inner S)
+
+ticks-such : (t : ℕ) (S : State) → Such t Inner S (ticks_in_room t S)
+ticks-such t S =
+    either t Inner S.sealed S (late t S) _ (late-such t S)
+    (either t Inner (fits (ticked t S)) S (ticked t S) (late t (seals t S)) (ticked-such t S)
+    (both t Inner S (seals t S) (late t (seals t S))
+    (one t Inner Seals S (seals t S) refl refl refl) (late-such t (seals t S))))
+
+-- What is added is the same, however it is said.
+
+adds-such : (t : ℕ) (P : Deed → Type 0) (S S1 : State) → Such t P S S1 → Adds t S S1
+adds-such t P S S1 a = record {
+  more = a.more;
+  entries = a.entries;
+  at = all-more (λ (w : Written). (w.moment ≡ t) × P w.deed) (λ (w : Written). w.moment ≡ t)
+      (λ w h. h.0) a.more a.are;
+  conns = a.conns;
+}
+
+all-such : (t : ℕ) (P : Deed → Type 0) (S S1 : State) → Such t P S S1 → (x : Adds t S S1)
+    → AllByRecursion (λ (w : Written). P w.deed) x.more
+all-such t P S S1 a x =
+    subst (λ (ws : List Written). AllByRecursion (λ (w : Written). P w.deed) ws)
+    (append_cancel_left S.entries a.more x.more (sym a.entries ∙ x.entries))
+    (all-more (λ (w : Written). (w.moment ≡ t) × P w.deed) (λ (w : Written). P w.deed)
+    (λ w h. h.1) a.more a.are)
+
+abbrev Any : Deed → Type 0
+Any d = ⊤
+
+pub opens-add : OpensAdd
+opens-add t S = adds-such t Any S (opens_in_room t S)
+    (unsealed t Any S (opens t S) tt (one t Any (Opens S.opened) S (opens t S) refl refl tt))
+
+pub shuts-add : ShutsAdd
+shuts-add t c S = adds-such t Any S (shuts t c S) (one t Any (Shuts c) S (shuts t c S) refl refl tt)
+
+pub seals-add : SealsAdd
+seals-add t S = adds-such t Any S (seals t S) (one t Any Seals S (seals t S) refl refl tt)
+
+pub asks-add : AsksAdd
+asks-add t c a n S = adds-such t _ S (asks_in_room t c a n S) (asks-such t c a n S)
+
+pub hears-add : HearsAdd
+hears-add t p d S = adds-such t Inner S (hears_in_room t p d S) (hears-such t p d S)
+
+pub late-adds : LateAdds
+late-adds t S = adds-such t Inner S (late t S) (late-such t S)
+
+pub ticks-add : TicksAdd
+ticks-add t S = adds-such t Inner S (ticks_in_room t S) (ticks-such t S)
+
+pub asks-answer : AsksAnswer
+asks-answer t c a n S x = all-such t _ S (asks_in_room t c a n S) (asks-such t c a n S) x
+
+pub hears-answer : HearsAnswer
+hears-answer t p d S x = all-such t Inner S (hears_in_room t p d S) (hears-such t p d S) x
+
+pub ticks-answer : TicksAnswer
+ticks-answer t S x = all-such t Inner S (ticks_in_room t S) (ticks-such t S) x
+
+abbrev OpenedBy : ℕ → State → List Written → Type 0
+OpenedBy t S more =
+    (more ≡ []) ⊎ ((more ≡ at_moment t (Opens S.opened) ∷ []) ⊎ (more ≡ at_moment t Seals ∷ []))
+
+pub opens-alone : OpensAlone
+opens-alone t S x = sealed S.sealed x.more x.entries
+  where
+    tail : (ws more : List Written) → S.entries ++ ws ≡ S.entries ++ more → more ≡ ws
+    tail ws more e = sym (append_cancel_left S.entries ws more e)
+
+    fit : (b : Bool) (more : List Written)
+        → (cond b (opens t S) (seals t S)).entries ≡ S.entries ++ more → OpenedBy t S more
+    fit true more e = inr (inl (tail (at_moment t (Opens S.opened) ∷ []) more e))
+    fit false more e = inr (inr (tail (at_moment t Seals ∷ []) more e))
+
+    sealed : (b : Bool) (more : List Written)
+        → (cond b S (in_room t (opens t S) S)).entries ≡ S.entries ++ more → OpenedBy t S more
+    sealed true more e = inl (tail [] more (append-nil S.entries ∙ e))
+    sealed false more e = fit (fits (opens t S)) more e

@@ -1,0 +1,261 @@
+-- A message that is new ends the exchange that it answers.
+use Rattle.std.proofs.Common.{◌≡◌, ℕ, inl, inr, Bool, true, false, cond, eqb, List, [], ◌∷◌, ◌++◌, length, map, Option, Some, None, refl, sym, ap, subst, ◌∙◌}
+use Rattle.std.specs.Prelude.{filter, find, is_some, not, ◌&&◌, ◌||◌}
+use Rattle.std.specs.List.{AllByRecursion, Contains, list_any, filter_map, cons_option}
+use Rattle.std.specs.Str.{bytes_eq}
+use Rattle.std.proofs.lemmas.Bool.{false≢true}
+use Rattle.std.proofs.lemmas.Bool.Decides.{eqb_tells}
+use Rattle.std.proofs.lemmas.Slice.Eq.{bytes_eq-Decides}
+use Rattle.coap_codec.specs.Spelling.{Content}
+use Rattle.uri_map.specs.declared.peer.Peer.{Peer}
+use Rattle.ask_model.specs.Requests.{same_peer}
+use Rattle.ask_model.proofs.Endpoints.{same_peer-same}
+use Rattle.journal_book.specs.Entries.{Hears, Written}
+use Rattle.message_layer.specs.Values.{LinkState}
+use Rattle.message_layer.specs.Hearing.{verdict_of}
+use Rattle.history_laws.specs.Readings.{Noted}
+use Rattle.history_laws.specs.Transmissions.{FirstSending, firsts, first_at, bears_token}
+use Rattle.history_laws.specs.Exchanges.{begun, openings, is_going, open_exchanges, waits_for, awaited}
+use Rattle.history_laws.specs.Hearing.{went_under, answers}
+use Rattle.history_laws.specs.Justified.{Follows, Legal}
+use Rattle.history_laws.proofs.Elements.{contains-none, first-or-later}
+use Rattle.history_laws.proofs.Facts.{eqb-itself}
+use Rattle.history_laws.proofs.Openings.{begun-listed}
+use Rattle.history_links.specs.Agrees.{Agrees}
+use Rattle.history_links.specs.Steps.{ended_token, heard_link, heard}
+use Rattle.history_links.proofs.Facts.{all-more, all-filter, all-passes}
+use Rattle.history_links.proofs.HeardElsewhere.{says-elsewhere}
+use Rattle.history_links.proofs.Judging.{Judged, is_ended}
+use Rattle.history_links.proofs.Replying.{hit, ends_what, waits-after, going-after}
+use Rattle.history_links.proofs.Saying.{judge, says-agrees}
+use Rattle.history_links.proofs.Still.{filter-same}
+use Rattle.history_links.proofs.Tokens.{one-token}
+use Rattle.exchange_model.specs.declared.kept.Exchange.{Exchange}
+use Rattle.exchange_model.specs.State.{link_of}
+use Rattle.exchange_model.specs.Reads.{IsSentUnder, ExchangeIn, WaitsUnder, opening_of}
+use Rattle.exchange_model.specs.Steps.{is_other}
+use Rattle.exchange_model.specs.Laws.{HearsLeads}
+use Rattle.exchange_model.proofs.Begins.{waits-with}
+use Rattle.exchange_model.proofs.Borne.{IsBorne, ended-borne, answers-peer}
+use Rattle.exchange_model.proofs.Lists.{all-both}
+use Rattle.exchange_model.proofs.Silent.{later-than, link-before}
+use Rattle.exchange_model.proofs.Tables.{entries-length, exchange-stays, all-links}
+
+-- lists
+
+pub filter-map : {X Y : Type 0} (q : Y → Bool) (f : X → Y) (xs : List X) → filter q (map f xs) ≡ map f (filter (λ (x : X). q (f x)) xs)
+filter-map q f [] = refl
+filter-map {X = X} q f (x ∷ xs) = by (q (f x)) (filter-map q f xs)
+  where
+    by : (b : Bool) → filter q (map f xs) ≡ map f (filter (λ (y : X). q (f y)) xs)
+        → cond b (f x ∷ filter q (map f xs)) (filter q (map f xs)) ≡ map f (cond b (x ∷ filter (λ (y : X). q (f y)) xs) (filter (λ (y : X). q (f y)) xs))
+    by true h = ap (λ (v : List _). f x ∷ v) h
+    by false h = h
+
+pub filter-by : {X : Type 0} (p q : X → Bool) (xs : List X) → AllByRecursion (λ (x : X). p x ≡ q x) xs → filter p xs ≡ filter q xs
+filter-by p q [] a = refl
+filter-by p q (x ∷ xs) a = rw (a.0, filter-by p q xs a.1) refl
+
+pub filter-both : {X : Type 0} (f g : X → Bool) (xs : List X) → filter (λ (x : X). f x && g x) xs ≡ filter f (filter g xs)
+filter-both f g [] = refl
+filter-both {X = X} f g (x ∷ xs) = by (f x) refl (g x) (filter-both f g xs)
+  where
+    by : (a : Bool) → f x ≡ a → (b : Bool) → filter (λ (y : X). f y && g y) xs ≡ filter f (filter g xs)
+        → cond (a && b) (x ∷ filter (λ (y : X). f y && g y) xs) (filter (λ (y : X). f y && g y) xs) ≡ filter f (cond b (x ∷ filter g xs) (filter g xs))
+    by true is true h = rw (is, h) refl
+    by true is false h = h
+    by false is true h = rw (is) h
+    by false is false h = h
+
+among-awaited : (waits : ℕ → Option ℕ) (i o : ℕ) → waits o ≡ Some i → (os : List ℕ) → list_any (eqb o) os ≡ true → list_any (eqb i) (filter_map waits os) ≡ true
+among-awaited waits i o is [] e = absurd (false≢true e)
+among-awaited waits i o is (q ∷ os) e = elim (eqb_tells o q) [
+  | inl w ↦
+      let here : waits q ≡ Some i = subst (λ (k : ℕ). waits k ≡ Some i) w.1 is in
+      rw (here) (rw (eqb-itself i) refl)
+  | inr w ↦ by (waits q) (among-awaited waits i o is os (subst (λ (b : Bool). (b || list_any (eqb o) os) ≡ true) w.0 e))
+]
+  where
+    or-right : (a b : Bool) → b ≡ true → (a || b) ≡ true
+    or-right true b e = refl
+    or-right false b e = e
+
+    by : (v : Option ℕ) → list_any (eqb i) (filter_map waits os) ≡ true → list_any (eqb i) (cons_option v (filter_map waits os)) ≡ true
+    by None h = h
+    by (Some j) h = or-right (eqb i j) _ h
+
+-- first sendings
+
+bears-it : (f : FirstSending) (token : List ℕ) (fs : List FirstSending) (i : ℕ) → find (λ (g : FirstSending). eqb g.number i) fs ≡ Some f → f.message.token ≡ token
+    → list_any (λ (g : FirstSending). bytes_eq g.message.token token) fs ≡ true
+bears-it f token [] i e same = absurd cc
+bears-it f token (g ∷ fs) i e same = by (eqb g.number i) e (λ h. bears-it f token fs i h same)
+  where
+    or-right : (a b : Bool) → b ≡ true → (a || b) ≡ true
+    or-right true b e = refl
+    or-right false b e = e
+
+    is-it : (x : FirstSending) → Some x ≡ Some f → x ≡ f
+    is-it x e = cc
+
+    by : (b : Bool) → cond b (Some g) (find (λ (k : FirstSending). eqb k.number i) fs) ≡ Some f
+        → (find (λ (k : FirstSending). eqb k.number i) fs ≡ Some f → list_any (λ (k : FirstSending). bytes_eq k.message.token token) fs ≡ true)
+        → (bytes_eq g.message.token token || list_any (λ (k : FirstSending). bytes_eq k.message.token token) fs) ≡ true
+    by true e ih = rw ((bytes_eq-Decides g.message.token token).1 (ap (λ (k : FirstSending). k.message.token) (is-it g e) ∙ same)) refl
+    by false e ih = or-right (bytes_eq g.message.token token) _ (ih e)
+
+pub borne-bears : (l : List Noted) (f : FirstSending) (token : List ℕ) (i : ℕ) → first_at l i ≡ Some f → f.message.token ≡ token → bears_token l token ≡ true
+borne-bears l f token i is same = bears-it f token (firsts l) i is same
+
+some-first : (f g : FirstSending) → Some f ≡ Some g → f ≡ g
+some-first f g e = cc
+
+bytes_eq-itself : (a : List ℕ) → bytes_eq a a ≡ true
+bytes_eq-itself a = (bytes_eq-Decides a a).1 refl
+
+begun-some : (l : List Noted) (e : Exchange) → ExchangeIn l e → is_some (begun l e.opening) ≡ true
+begun-some l e h = rw (h.opening) refl
+
+contained : (xs : List ℕ) (n : ℕ) → Contains xs n → list_any (eqb n) xs ≡ true
+contained [] n h = absurd (contains-none n h)
+contained (x ∷ xs) n h = elim (first-or-later x xs n h) [
+  | inl e ↦ rw (e) (rw (eqb-itself n) refl)
+  | inr w ↦ or-right (eqb n x) _ (contained xs n w)
+]
+  where
+    or-right : (a b : Bool) → b ≡ true → (a || b) ≡ true
+    or-right true b e = refl
+    or-right false b e = e
+
+is-listed : (l : List Noted) (o : ℕ) → is_some (begun l o) ≡ true → list_any (eqb o) (openings l) ≡ true
+is-listed l o e = contained (openings l) o (begun-listed l o e)
+
+-- what is ended
+
+ended-other : (ended : Option (List ℕ)) (e : Exchange) → not (is_ended ended e.token) ≡ is_other ended e
+ended-other None e = refl
+ended-other (Some of) e = refl
+
+-- The entry ends an exchange just where its link says that its token is awaited no more.
+pub ends-kept : (l : List Noted) (t : ℕ) (p : Peer) (s : LinkState) (m : Content) → Legal l → Agrees l p s → Judged l p s m (answers l p m) (verdict_of t s m)
+    → (e : Exchange) → ExchangeIn l e → (v : Option ℕ) → e.sending ≡ v → waits_for l e.opening ≡ v → IsSentUnder l e.peer e.token v
+    → not (hit (answers l p m) m v) ≡ is_other (ended_token (verdict_of t s m).news m.token) e
+ends-kept l t p s m legal agrees judged e h None sending waits under = sym (by (ended_token (verdict_of t s m).news m.token) refl)
+  where
+    of-borne : (of : List ℕ) → IsBorne l p of → e.token ≡ of → ⊥
+    of-borne of b same = false≢true (sym under ∙ borne-bears l b.first e.token b.number b.is (b.token_is ∙ sym same))
+
+    by : (ended : Option (List ℕ)) → ended_token (verdict_of t s m).news m.token ≡ ended → is_other ended e ≡ true
+    by None k = refl
+    by (Some of) k = other (bytes_eq e.token of) refl
+      where
+        other : (b : Bool) → bytes_eq e.token of ≡ b → not b ≡ true
+        other true same = absurd (of-borne of (ended-borne l t p s m of m.kind agrees k) ((bytes_eq-Decides e.token of).0 same))
+        other false same = refl
+ends-kept l t p s m legal agrees judged e h (Some i) sending waits under = by (same_peer e.peer p) refl
+  where
+    f : FirstSending
+    f = under.0
+
+    went : same_peer e.peer p ≡ true → went_under p e.token (first_at l i) ≡ true
+    went at_p = rw (under.1, under.2, under.3, at_p, bytes_eq-itself e.token) refl
+
+    listed : list_any (eqb i) (awaited l) ≡ true
+    listed = among-awaited (waits_for l) i e.opening waits (openings l) (is-listed l e.opening (begun-some l e h))
+
+    other-borne : (of : List ℕ) → same_peer e.peer p ≡ false → IsBorne l p of → e.token ≡ of → ⊥
+    other-borne of away b same =
+        let one = one-token l i b.number f b.first legal under.1 b.is (under.3 ∙ (same ∙ sym b.token_is)) in
+        let first : f ≡ b.first = some-first f b.first (sym under.1 ∙ (ap (first_at l) one ∙ b.is)) in
+        let peer : same_peer f.peer p ≡ true = subst (λ (g : FirstSending). same_peer g.peer p ≡ true) (sym first) b.peer in
+        false≢true (sym away ∙ subst (λ (q : Peer). same_peer q p ≡ true) under.2 peer)
+
+    away-other : same_peer e.peer p ≡ false → (ended : Option (List ℕ)) → ended_token (verdict_of t s m).news m.token ≡ ended → is_other ended e ≡ true
+    away-other away None k = refl
+    away-other away (Some of) k = other (bytes_eq e.token of) refl
+      where
+        other : (b : Bool) → bytes_eq e.token of ≡ b → not b ≡ true
+        other true same = absurd (other-borne of away (ended-borne l t p s m of m.kind agrees k) ((bytes_eq-Decides e.token of).0 same))
+        other false same = refl
+
+    away-to : same_peer e.peer p ≡ false → (to : Option ℕ) → answers l p m ≡ to → ends_what to m i ≡ false
+    away-to away None k = refl
+    away-to away (Some j) k = elim (eqb_tells j i) [
+      | inl w ↦
+          let peer = answers-peer l p m j f k (ap (first_at l) w.1 ∙ under.1) in
+          absurd (false≢true (sym away ∙ subst (λ (q : Peer). same_peer q p ≡ true) under.2 peer))
+      | inr w ↦ rw (w.0) refl
+    ]
+
+    by : (b : Bool) → same_peer e.peer p ≡ b → not (ends_what (answers l p m) m i) ≡ is_other (ended_token (verdict_of t s m).news m.token) e
+    by true at_p = ap not (judged.awaits i e.token listed (went at_p)) ∙ ended-other (ended_token (verdict_of t s m).news m.token) e
+    by false away = ap not (away-to away (answers l p m) refl) ∙ sym (away-other away (ended_token (verdict_of t s m).news m.token) refl)
+
+-- the exchanges after it
+
+not-true : (b : Bool) → not b ≡ true → b ≡ false
+not-true true e = absurd (false≢true e)
+not-true false e = refl
+
+stay-waiting : (b : Bool) (v : Option ℕ) → b ≡ false → cond b None v ≡ v
+stay-waiting true v e = absurd (false≢true (sym e))
+stay-waiting false v e = refl
+
+kept-one : (l : List Noted) (t : ℕ) (p : Peer) (s : LinkState) (d : List ℕ) (m : Content) → Legal l → Agrees l p s → Judged l p s m (answers l p m) (verdict_of t s m)
+    → (e : Exchange) → ExchangeIn l e × (is_other (ended_token (verdict_of t s m).news m.token) e ≡ true) → ExchangeIn (heard l t p d m ∷ l) e
+kept-one l t p s d m legal agrees judged e h =
+    let stays = not-true (hit (answers l p m) m (waits_for l e.opening)) (subst (λ (v : Option ℕ). not (hit (answers l p m) m v) ≡ true) (sym h.0.sending)
+    (ends-kept l t p s m legal agrees judged e h.0 e.sending refl h.0.sending h.0.sent ∙ h.1)) in
+    exchange-stays (heard l t p d m) l e (λ k. k) (waits-after l t p d m (answers l p m) e.opening ∙ stay-waiting (hit (answers l p m) m (waits_for l e.opening)) (waits_for l e.opening) stays) h.0
+
+open-after : (l : List Noted) (t : ℕ) (p : Peer) (s : LinkState) (d : List ℕ) (m : Content) (es : List Exchange) → Legal l → Agrees l p s → Judged l p s m (answers l p m) (verdict_of t s m)
+    → AllByRecursion (ExchangeIn l) es → open_exchanges l ≡ map opening_of es
+    → open_exchanges (heard l t p d m ∷ l) ≡ map opening_of (filter (is_other (ended_token (verdict_of t s m).news m.token)) es)
+open-after l t p s d m es legal agrees judged kept keys =
+    let stays = λ (o : ℕ). not (hit (answers l p m) m (waits_for l o)) in
+    filter-same (is_going (heard l t p d m ∷ l)) (λ (o : ℕ). stays o && is_going l o) (going-after l t p d m (answers l p m)) (openings l)
+    ∙ (filter-both stays (is_going l) (openings l)
+    ∙ (ap (filter stays) keys
+    ∙ (filter-map stays opening_of es
+    ∙ ap (map opening_of) (filter-by (λ (e : Exchange). stays e.opening) (is_other (ended_token (verdict_of t s m).news m.token)) es
+    (all-more (ExchangeIn l) _ (λ e h. ap (λ (v : Option ℕ). not (hit (answers l p m) m v)) h.sending ∙ ends-kept l t p s m legal agrees judged e h e.sending refl h.sending h.sent) es kept)))))
+
+pub hears-leads : HearsLeads
+hears-leads l t p d m S h spelled none room =
+    let b = h.before in
+    let r = b.reads in
+    let later = later-than l t S b in
+    let link = link-before l t S b in
+    let s = link_of S.links p in
+    let x = heard l t p d m in
+    let judged = judge l t p s m m.kind later r.legal (r.links_are p) refl none room in
+    let said = says-agrees l t p s d m (link p) none room in
+    let follows : Follows l t x.written.deed x.note = (h.come, h.short, h.known, record { spelled = spelled; unheard = none; remembered = room; says = refl }) in
+    let new = heard_link t m.mid m.token (verdict_of t s m) s in
+    let other = is_other (ended_token (verdict_of t s m).news m.token) in
+    let here : length S.entries ≡ length l = ap length (sym r.entries_are) ∙ entries-length l in
+    record {
+      leads = record {
+        follows = follows;
+        reads = record {
+          entries_are = ap (λ (es : List Written). es ++ record { moment = t; deed = Hears p d } ∷ []) r.entries_are;
+          legal = (r.legal, later, follows);
+          sealed_is = r.sealed_is;
+          moment_is = refl;
+          opened_are = r.opened_are;
+          issued_are = r.issued_are;
+          conns_are = r.conns_are;
+          keys = open-after l t p s d m S.exchanges r.legal (r.links_are p) judged r.exchanges_are r.keys;
+          exchanges_are = all-more _ (ExchangeIn (x ∷ l)) (kept-one l t p s d m r.legal (r.links_are p) judged) (filter other S.exchanges)
+              (all-both (ExchangeIn l) _ (filter other S.exchanges) (all-filter (ExchangeIn l) other S.exchanges r.exchanges_are) (all-passes other S.exchanges));
+          tokens_are = r.tokens_are;
+          waiting_are = waits-with p new S.links (filter other S.exchanges)
+              (all-more _ _ (λ e k at_p. subst (λ (q : Peer). WaitsUnder (link_of S.links q).waiting e) at_p k) (filter other S.exchanges) (all-filter (λ (e : Exchange). WaitsUnder (link_of S.links e.peer).waiting e) other S.exchanges r.waiting_are))
+              (all-filter (λ (e : Exchange). WaitsUnder (link_of S.links e.peer).waiting e) other S.exchanges r.waiting_are);
+          links_are = all-links (λ (q : Peer) (v : LinkState). Agrees (x ∷ l) q v) p new S.links said.agrees
+              (λ q away. says-elsewhere l t q p (link_of S.links q) d m (answers l p m) (link q) away
+              (λ i f to first. subst (λ (k : Peer). same_peer k q ≡ false) (sym (same_peer-same f.peer p (answers-peer l p m i f to first))) away));
+        };
+      };
+      owes = said.owes;
+    }

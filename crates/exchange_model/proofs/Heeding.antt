@@ -1,0 +1,367 @@
+-- A datagram that is heard: a step keeps what holds between steps.
+use Rattle.std.proofs.Common.{◌≡◌, ℕ, zero, ◌+◌, ◌<◌, ◌≤◌, ◌⊎◌, inl, inr, Bool, true, false, cond, ltb, leb, List, [], ◌∷◌, length, Option, Some, None, Result, Ok, Err, refl, sym, ap, subst, ◌∙◌, arith}
+use Rattle.std.specs.Prelude.{filter, find, ◌&&◌, is_some, option_map, count_by}
+use Rattle.std.specs.List.{AllByRecursion, Contains}
+use Rattle.std.proofs.lemmas.Bool.{false≢true, leb-true}
+use Rattle.std.proofs.lemmas.Slice.Eq.{bytes_eq-Decides}
+use Rattle.limits.specs.declared.TheConstants.{MAX_TRANSMIT_WAIT}
+use Rattle.coap_codec.specs.Spelling.{Content, Spells}
+use Rattle.coap_codec.specs.Reading.{message_at}
+use Rattle.coap_codec.specs.declared.fault.CodecFault.{CodecFault}
+use Rattle.coap_codec.specs.declared.message.MsgType.{MsgType}
+use Rattle.coap_codec.specs.declared.message.MsgType.TheVariants.{Con, Non, Ack, Rst}
+use Rattle.coap_codec.proofs.Again.{message_again}
+use Rattle.coap_codec.proofs.Bytes.{IsBytes}
+use Rattle.coap_codec.proofs.Takes.{message_takes}
+use Rattle.uri_map.specs.declared.peer.Peer.{Peer}
+use Rattle.ask_model.specs.Requests.{same_peer}
+use Rattle.ask_model.proofs.Endpoints.{same_peer-same}
+use Rattle.journal_book.specs.Entries.{Hears}
+use Rattle.history_laws.specs.Numbering.{token_number}
+use Rattle.message_layer.specs.Values.{LinkState}
+use Rattle.message_layer.specs.Sending.{due_of}
+use Rattle.message_layer.specs.Hearing.{is_fresh, is_repeat, replies, reset_for, heard_verdict, verdict_by, verdict_of}
+use Rattle.message_layer.specs.declared.state.Heard.{Heard}
+use Rattle.message_layer.specs.declared.state.Outstanding.{Outstanding}
+use Rattle.message_layer.specs.declared.state.Waiting.{Waiting}
+use Rattle.message_layer.specs.declared.state.Reply.{Reply}
+use Rattle.message_layer.specs.declared.state.Reply.TheVariants as R
+use Rattle.message_layer.specs.declared.verdict.News.{News}
+use Rattle.message_layer.specs.declared.verdict.News.TheVariants as N
+use Rattle.history_laws.specs.Readings.{Noted, Repeats, Garbled, newest, ticked}
+use Rattle.history_laws.specs.Transmissions.{FirstSending, last_sent}
+use Rattle.history_laws.specs.Confirming.{owed}
+use Rattle.history_laws.specs.Hearing.{is_such, heard_before, repeated, can_be_remembered}
+use Rattle.history_laws.specs.Worked.{noted}
+use Rattle.history_laws.proofs.Elements.{contains-none, contains-later, first-or-later, find-some}
+use Rattle.history_laws.proofs.Resting.{first as and-left, second as and-right}
+use Rattle.history_links.specs.Agrees.{due, Agrees}
+use Rattle.history_links.specs.Steps.{ended_token, heard_link, heard as heard_entry, reset}
+use Rattle.history_links.proofs.Facts.{all-more, all-filter}
+use Rattle.history_links.proofs.Remembering.{none-before}
+use Rattle.exchange_model.specs.declared.kept.Conn.{Conn}
+use Rattle.exchange_model.specs.declared.kept.Exchange.{Exchange}
+use Rattle.exchange_model.specs.State.{State, link_of}
+use Rattle.exchange_model.specs.Reads.{ExchangeIn}
+use Rattle.exchange_model.specs.Steps.{is_under, is_other, hears, hears_nothing}
+use Rattle.exchange_model.specs.Resting.{IsUndue, LinkRests, HasExchange, IsServed}
+use Rattle.exchange_model.specs.Laws.{Before, MayHear, Heeds}
+use Rattle.exchange_model.specs.Calls.{next, given_back, ended_in, ends_if, grounds_by, takes_new, takes_by, repeats, resets, reads_so}
+use Rattle.exchange_model.specs.Keeping.{HasMids, Kept, MayStep, HearsKeeps}
+use Rattle.exchange_model.proofs.Amid.{Amid, Moved, RestAt, IsEarly, next-moves, given-moves}
+use Rattle.exchange_model.proofs.Ending.{ServedWith, ends-told}
+use Rattle.exchange_model.proofs.Expiring.{all-of}
+use Rattle.exchange_model.proofs.Firsts.{one-rank}
+use Rattle.exchange_model.proofs.Grounds.{IsOver, over-moves, both-go}
+use Rattle.exchange_model.proofs.Hearing.{hears-leads}
+use Rattle.exchange_model.proofs.Over.{heard-over, not-false}
+use Rattle.exchange_model.proofs.Quiet.{repeats-leads, garbled-leads}
+use Rattle.exchange_model.proofs.Silent.{later-than}
+use Rattle.exchange_model.proofs.Stepping.{may-come, before-step}
+use Rattle.exchange_model.proofs.Tables.{all-links, link-same, link-other}
+
+is-some-of : {X Y : Type 0} (f : X → Y) (v : Option X) (u : Option Y) → u ≡ option_map f v → is_some u ≡ true → is_some v ≡ true
+is-some-of f None u e h = subst (λ (k : Option _). is_some k ≡ true) e h
+is-some-of f (Some x) u e h = refl
+
+may-hear : (t : ℕ) (p : Peer) (d : List ℕ) (S : State) (m : MayStep t S) → is_some (link_of S.links p).last_mid ≡ true → leb (length d) 2048 ≡ true → MayHear m.kept.reading t p d S
+may-hear t p d S m known short = record {
+  before = before-step t S m;
+  come = may-come t S m;
+  short = leb-true _ _ short;
+  known = is-some-of (λ (f : FirstSending). f.message.mid) (last_sent m.kept.reading p) (link_of S.links p).last_mid (m.kept.rests.reads.links_are p).last known;
+}
+
+-- What is nothing new is answered, and that is all.
+answered-only : (t : ℕ) (p : Peer) (S S1 : State) (x : Noted) (mid : ℕ) (r : Reply) (m : MayStep t S) → Before (x ∷ m.kept.reading) t S1 → S1.sealed ≡ false → S1.links ≡ S.links
+    → S1.exchanges ≡ S.exchanges → S1.conns ≡ S.conns → ticked (x ∷ m.kept.reading) ≡ ticked m.kept.reading → owed (x ∷ m.kept.reading) ≡ due p mid r
+    → Kept (given_back t p (replies mid r) S1)
+answered-only t p S S1 x mid r m b unsealed links exchanges conns tick owes =
+    let l = m.kept.reading in
+    let rests = m.kept.rests in
+    let amid : Amid (x ∷ l) t S1 = record {
+      before = b;
+      unsealed = unsealed;
+      mids = λ q. rw (links) (m.kept.mids q);
+      in_time = rw (exchanges, tick) rests.in_time;
+    } in
+    let made = given-moves (x ∷ l) t p S1 mid r amid owes in
+    let n = made.0 in
+    let S2 = given_back t p (replies mid r) S1 in
+    record {
+      reading = n;
+      rests = record {
+        reads = made.1.amid.before.reads;
+        quiet = made.1.quiet;
+        links = λ q. rw (made.1.goes.tick, tick) (subst (LinkRests (ticked l)) (sym (same-link q n made.1 made.2 (same_peer p q) refl ∙ ap (λ (v : List _). link_of v q) links)) (rests.links q));
+        in_time = made.1.amid.in_time;
+        served = subst (λ (cs : List Conn). AllByRecursion (λ (y : Conn). IsServed S2.exchanges y.pending) cs) (sym (made.1.conns ∙ conns))
+            (all-more _ _ (λ y h. still y.pending n made.1 h) S.conns rests.served);
+      };
+      mids = made.1.amid.mids;
+    }
+  where
+    same-link : (q : Peer) (n : List Noted) → Moved (x ∷ m.kept.reading) t p S1 n (given_back t p (replies mid r) S1) → link_of (given_back t p (replies mid r) S1).links p ≡ link_of S1.links p
+        → (v : Bool) → same_peer p q ≡ v → link_of (given_back t p (replies mid r) S1).links q ≡ link_of S1.links q
+    same-link q n moved here true is = subst (λ (k : Peer). link_of (given_back t p (replies mid r) S1).links k ≡ link_of S1.links k) (same_peer-same p q is) here
+    same-link q n moved here false is = moved.others q is
+
+    still : (v : Option ℕ) (n : List Noted) → Moved (x ∷ m.kept.reading) t p S1 n (given_back t p (replies mid r) S1) → IsServed S.exchanges v → IsServed (given_back t p (replies mid r) S1).exchanges v
+    still None n moved h = tt
+    still (Some k) n moved h = moved.has k (rw (exchanges) h)
+
+-- It repeats one, or is new, or is lost.
+
+is-some-one : {X : Type 0} (v : Option X) → is_some v ≡ true → (x : X) × (v ≡ Some x)
+is-some-one None h = absurd (false≢true h)
+is-some-one (Some x) h = (x, refl)
+
+repeats-so : (l : List Noted) (t : ℕ) (p : Peer) (s : LinkState) (m : Content) → Agrees l p s → newest l ≤ t → repeats t s m ≡ true → (j : ℕ) × (repeated l t p m ≡ Some j)
+repeats-so l t p s m a later e = by (heard_before l t p m.mid) refl
+  where
+    such : is_such m.kind ≡ true
+    such = and-left (is_such m.kind) _ e
+
+    h : (x : Heard) × (find (is_repeat t m.mid) s.heard ≡ Some x)
+    h = is-some-one _ (and-right (is_such m.kind) _ e)
+
+    some-none : (r : Reply) → Some r ≡ None → ⊥
+    some-none r k = cc
+
+    by : (v : Option ℕ) → heard_before l t p m.mid ≡ v → (j : ℕ) × (repeated l t p m ≡ Some j)
+    by (Some j) is = (j, rw (such) is)
+    by None is = absurd (some-none h.0.reply (sym (ap (option_map (λ (k : Heard). k.reply)) h.1) ∙ (a.heard.repeats t m.mid later ∙ ap (option_map _) is)))
+
+lost-or-new : (l : List Noted) (t : ℕ) (p : Peer) (s : LinkState) (m : Content) (k : MsgType) → m.kind ≡ k → Agrees l p s → newest l ≤ t → repeats t s m ≡ false
+    → ((verdict_by t s m k).news ≡ N.Lost) ⊎ ((repeated l t p m ≡ None) × (can_be_remembered l t p m ≡ true))
+lost-or-new l t p s m k is a later e = by k is
+  where
+    unrepeated : is_such m.kind ≡ true → find (is_repeat t m.mid) s.heard ≡ None
+    unrepeated such = none (find (is_repeat t m.mid) s.heard) (subst (λ (b : Bool). (b && is_some (find (is_repeat t m.mid) s.heard)) ≡ false) such e)
+      where
+        none : (v : Option Heard) → is_some v ≡ false → v ≡ None
+        none None h = refl
+        none (Some x) h = absurd (false≢true (sym h))
+
+    unheard : is_such m.kind ≡ true → heard_before l t p m.mid ≡ None
+    unheard such = none-before _ _ (sym (a.heard.repeats t m.mid later) ∙ ap (option_map _) (unrepeated such))
+
+    own : (confirms : Bool) → is_such m.kind ≡ true → ((heard_verdict t s m confirms (find (is_repeat t m.mid) s.heard)).news ≡ N.Lost) ⊎ ((repeated l t p m ≡ None) × (can_be_remembered l t p m ≡ true))
+    own confirms such = room (ltb (count_by (is_fresh t) s.heard) 1024) refl
+      where
+        room : (b : Bool) → ltb (count_by (is_fresh t) s.heard) 1024 ≡ b → ((heard_verdict t s m confirms (find (is_repeat t m.mid) s.heard)).news ≡ N.Lost) ⊎ ((repeated l t p m ≡ None) × (can_be_remembered l t p m ≡ true))
+        room true h = inr (rw (such) (unheard such), rw (such) (ap (λ (n : ℕ). ltb n 1024) (sym (a.heard.live t later)) ∙ h))
+        room false h = inl (rw (unrepeated such, h) refl)
+
+    by : (k : MsgType) → m.kind ≡ k → ((verdict_by t s m k).news ≡ N.Lost) ⊎ ((repeated l t p m ≡ None) × (can_be_remembered l t p m ≡ true))
+    by Con is = own true (ap is_such is)
+    by Non is = own false (ap is_such is)
+    by Ack is = inr (rw (is) refl, rw (is) refl)
+    by Rst is = inr (rw (is) refl, rw (is) refl)
+
+-- A message that is new.
+
+has-part : (q : Exchange → Bool) (es : List Exchange) (k : ℕ) → HasExchange es k → HasExchange (filter q es) k ⊎ ((e : Exchange) × Contains es e × (q e ≡ false) × (e.opening ≡ k))
+has-part q [] k h = absurd h
+has-part q (e ∷ es) k (inl h) = by (q e) refl
+  where
+    by : (b : Bool) → q e ≡ b → HasExchange (cond b (e ∷ filter q es) (filter q es)) k ⊎ ((y : Exchange) × Contains (e ∷ es) y × (q y ≡ false) × (y.opening ≡ k))
+    by true is = inl (inl h)
+    by false is = inr (e, (zero, omega arith, refl), is, h)
+has-part q (e ∷ es) k (inr h) = elim (has-part q es k h) [
+  | inl w ↦ inl (by (q e) w)
+  | inr w ↦ inr (w.0, contains-later e es w.0 w.1, w.2, w.3)
+]
+  where
+    by : (b : Bool) → HasExchange (filter q es) k → HasExchange (cond b (e ∷ filter q es) (filter q es)) k
+    by true w = inr w
+    by false w = w
+
+abbrev over-list : Option Exchange → List Exchange
+over-list None = []
+over-list (Some e) = e ∷ []
+
+find-none : {X : Type 0} (q : X → Bool) (xs : List X) (x : X) → find q xs ≡ None → Contains xs x → q x ≡ true → ⊥
+find-none q [] x e h is = contains-none x h
+find-none {X = X} q (y ∷ ys) x e h is = elim (first-or-later y ys x h) [
+  | inl w ↦ some-none y (sym (ap (λ (b : Bool). cond b (Some y) (find q ys)) (ap q w ∙ is)) ∙ e)
+  | inr w ↦ by (q y) e (λ k. find-none q ys x k w is)
+]
+  where
+    some-none : (y : X) → Some y ≡ None → ⊥
+    some-none y k = cc
+
+    by : (b : Bool) → cond b (Some y) (find q ys) ≡ None → (find q ys ≡ None → ⊥) → ⊥
+    by true k ih = some-none y k
+    by false k ih = ih k
+
+only : (es : List Exchange) (v : Option ℕ) → IsServed es v ⊎ IsServed [] v → IsServed es v
+only es None h = tt
+only es (Some k) (inl h) = h
+only es (Some k) (inr h) = absurd h
+
+is-bytes : (d : List ℕ) → AllByRecursion (λ (b : ℕ). b < 256) d → IsBytes d
+is-bytes [] a = tt
+is-bytes (b ∷ d) a = (a.0, is-bytes d a.1)
+
+-- who waits, waits for what is open still, or for what has just ended
+served-part : (l : List Noted) (S : State) (ended : Option (List ℕ)) → AllByRecursion (ExchangeIn l) S.exchanges → (k : ℕ) → HasExchange S.exchanges k
+    → HasExchange (filter (is_other ended) S.exchanges) k ⊎ HasExchange (over-list (ended_in ended S.exchanges)) k
+served-part l S ended all k h = elim (has-part (is_other ended) S.exchanges k h) [ inl w ↦ inl w | inr w ↦ inr (by ended w.0 w.1 w.2 w.3) ]
+  where
+    by : (of : Option (List ℕ)) (e : Exchange) → Contains S.exchanges e → is_other of e ≡ false → e.opening ≡ k → HasExchange (over-list (ended_in of S.exchanges)) k
+    by None e has is at = absurd (false≢true (sym is))
+    by (Some token) e has is at = found (find (is_under token) S.exchanges) refl
+      where
+        under : is_under token e ≡ true
+        under = not-false (is_under token e) is
+
+        found : (v : Option Exchange) → find (is_under token) S.exchanges ≡ v → HasExchange (over-list v) k
+        found None f = absurd (find-none (is_under token) S.exchanges e f has under)
+        found (Some g) f =
+            let first = find-some (is_under token) S.exchanges g f in
+            let mine = all-of (ExchangeIn l) S.exchanges e all has in
+            let its = all-of (ExchangeIn l) S.exchanges g all first.0 in
+            let same : g.token ≡ e.token = (bytes_eq-Decides g.token token).0 first.1 ∙ sym ((bytes_eq-Decides e.token token).0 under) in
+            inl (one-rank l g.opening e.opening _ _ its.opening mine.opening (its.number ∙ (ap token_number same ∙ sym mine.number)) ∙ at)
+
+early-after : (tick : ℕ) (ends : Bool) (v : Option Outstanding) (ws : List Waiting) (o : Outstanding) → IsUndue tick v ws → cond ends None v ≡ Some o → tick < due_of o
+early-after tick true v ws o h e = cc
+early-after tick false v ws o h e = subst (λ (k : Option Outstanding). IsUndue tick k ws) e h
+
+new-keeps : (t : ℕ) (p : Peer) (d : List ℕ) (mess : Content) (S : State) (m : MayStep t S) → MayHear m.kept.reading t p d S → Spells mess d → repeated m.kept.reading t p mess ≡ None
+    → can_be_remembered m.kept.reading t p mess ≡ true → Kept (takes_new t p d mess (verdict_of t (link_of S.links p) mess) S)
+new-keeps t p d mess S m h spelled none room =
+    let l = m.kept.reading in
+    let rests = m.kept.rests in
+    let s = link_of S.links p in
+    let v = verdict_of t s mess in
+    let x = heard_entry l t p d mess in
+    let made = hears-leads l t p d mess S h spelled none room in
+    let S1 = hears t p d mess S in
+    let new = heard_link t mess.mid mess.token v s in
+    let other = is_other (ended_token v.news mess.token) in
+    let amid : Amid (x ∷ l) t S1 = record {
+      before = record { reads = made.leads.reads; later = omega arith };
+      unsealed = m.unsealed;
+      mids = all-links (λ (q : Peer) (u : LinkState). HasMids u) p new S.links (record { small = (m.kept.mids p).small; enough = (m.kept.mids p).enough }) (λ q away. m.kept.mids q);
+      in_time = all-filter (λ (e : Exchange). ticked l < e.since + MAX_TRANSMIT_WAIT) other S.exchanges rests.in_time;
+    } in
+    let given = given-moves (x ∷ l) t p S1 mess.mid v.reply amid made.owes in
+    let S2 = given_back t p (replies mess.mid v.reply) S1 in
+    let here : link_of S2.links p ≡ new = given.2 ∙ link-same p new S.links in
+    let early : IsEarly given.0 S2 p = λ o is. subst (λ (k : ℕ). k < due_of o) (sym given.1.goes.tick)
+    (early-after (ticked l) v.ends s.outstanding s.waiting o (rests.links p) (sym (ap (λ (u : LinkState). u.outstanding) here) ∙ is)) in
+    let moved = next-moves given.0 t p S2 given.1.amid given.1.quiet early in
+    let S3 = next t p S2 in
+    let goes = both-go (x ∷ l) given.0 moved.0 given.1.goes moved.1.goes in
+    let rest : (q : Peer) → RestAt moved.0 S3 q = λ q. all-rest q moved.0 S3 moved.2 goes.tick (λ away. moved.1.others q away ∙ (given.1.others q away ∙ link-other p q new away S.links)) (same_peer p q) refl in
+    let served : ServedWith S3.exchanges (over-list (ended_in (ended_token v.news mess.token) S.exchanges)) S3.conns =
+    subst (λ (cs : List Conn). ServedWith S3.exchanges (over-list (ended_in (ended_token v.news mess.token) S.exchanges)) cs) (sym (moved.1.conns ∙ given.1.conns))
+    (all-more _ _ (λ y k. still S3.exchanges y.pending (λ j w. moved.1.has j (given.1.has j w)) k) S.conns rests.served) in
+    told moved.0 S3 (ended_in (ended_token v.news mess.token) S.exchanges) refl moved.1.amid moved.1.quiet rest served
+    (λ e is. over-moves (x ∷ l) moved.0 e _ goes (heard-over l t p d mess S h none room e is))
+  where
+    all-rest : (q : Peer) (n : List Noted) (S3 : State) → RestAt n S3 p → ticked n ≡ ticked m.kept.reading → (same_peer p q ≡ false → link_of S3.links q ≡ link_of S.links q)
+        → (b : Bool) → same_peer p q ≡ b → RestAt n S3 q
+    all-rest q n S3 rest tick others true is = subst (RestAt n S3) (same_peer-same p q is) rest
+    all-rest q n S3 rest tick others false is = rw (others is, tick) (m.kept.rests.links q)
+
+    still : (es : List Exchange) (v : Option ℕ) → ((k : ℕ) → HasExchange (filter (is_other (ended_token (verdict_of t (link_of S.links p) mess).news mess.token)) S.exchanges) k → HasExchange es k)
+        → IsServed S.exchanges v → IsServed es v ⊎ IsServed (over-list (ended_in (ended_token (verdict_of t (link_of S.links p) mess).news mess.token) S.exchanges)) v
+    still es None has h = inl tt
+    still es (Some k) has h = elim (served-part m.kept.reading S (ended_token (verdict_of t (link_of S.links p) mess).news mess.token) m.kept.rests.reads.exchanges_are k h) [
+      | inl w ↦ inl (has k w)
+      | inr w ↦ inr w
+    ]
+
+    told : (n : List Noted) (S3 : State) (v : Option Exchange) → ended_in (ended_token (verdict_of t (link_of S.links p) mess).news mess.token) S.exchanges ≡ v → Amid n t S3 → owed n ≡ None → ((q : Peer) → RestAt n S3 q)
+        → ServedWith S3.exchanges (over-list v) S3.conns
+        → ((e : Exchange) → ended_in (ended_token (verdict_of t (link_of S.links p) mess).news mess.token) S.exchanges ≡ Some e → IsOver n e (grounds_by (verdict_of t (link_of S.links p) mess).news (length S.entries) mess))
+        → Kept (ends_if t (grounds_by (verdict_of t (link_of S.links p) mess).news (length S.entries) mess) v S3)
+    told n S3 None is amid quiet rest served over = record {
+      reading = n;
+      rests = record { reads = amid.before.reads; quiet = quiet; links = rest; in_time = amid.in_time; served = all-more _ _ (λ y k. only S3.exchanges y.pending k) S3.conns served };
+      mids = amid.mids;
+    }
+    told n S3 (Some e) is amid quiet rest served over =
+        let made = ends-told n t S3 e [] (grounds_by (verdict_of t (link_of S.links p) mess).news (length S.entries) mess) amid quiet rest served (over e is) in
+        record {
+          reading = made.0;
+          rests = record { reads = made.1.amid.before.reads; quiet = made.1.quiet; links = made.1.rest; in_time = made.1.amid.in_time; served = all-more _ _ (λ y k. only _ y.pending k) _ made.1.served };
+          mids = made.1.amid.mids;
+        }
+
+pub hears-keeps : HearsKeeps
+hears-keeps t p d S m bytes = by (is_some (link_of S.links p).last_mid) refl (leb (length d) 2048) refl
+  where
+    l : List Noted
+    l = m.kept.reading
+
+    s : LinkState
+    s = link_of S.links p
+
+    later : newest l ≤ t
+    later = later-than l t S (before-step t S m)
+
+    agrees : Agrees l p s
+    agrees = m.kept.rests.reads.links_are p
+
+    err-ok : (e : CodecFault) (k : Content) → message_at d ≡ Err e → message_at d ≡ Ok k → ⊥
+    err-ok e k f g = apart (sym f ∙ g)
+      where
+        apart : Err e ≡ Ok k → ⊥
+        apart h = cc
+
+    garbled : MayHear l t p d S → (e : CodecFault) → message_at d ≡ Err e → Kept (given_back t p (resets (reset_for d)) (hears_nothing t p d S))
+    garbled h e is = with (reset_for d) refl
+      where
+        made : Heeds l (noted t (Hears p d) Garbled) (reset p (reset_for d)) (hears_nothing t p d S)
+        made = garbled-leads l t p d S h (λ k spelled. err-ok e k is (message_again k d spelled))
+
+        with : (v : Option ℕ) → reset_for d ≡ v → Kept (given_back t p (resets v) (hears_nothing t p d S))
+        with None none = answered-only t p S (hears_nothing t p d S) (noted t (Hears p d) Garbled) 0 R.Nothing m (record { reads = made.leads.reads; later = omega arith }) m.unsealed refl refl refl refl
+            (made.owes ∙ ap (reset p) none)
+        with (Some mid) some = answered-only t p S (hears_nothing t p d S) (noted t (Hears p d) Garbled) mid R.Rst m (record { reads = made.leads.reads; later = omega arith }) m.unsealed refl refl refl refl
+            (made.owes ∙ ap (reset p) some)
+
+    again : MayHear l t p d S → (k : Content) → Spells k d → repeats t s k ≡ true → Kept (given_back t p (replies k.mid (verdict_of t s k).reply) (hears_nothing t p d S))
+    again h k spelled e =
+        let j = repeats-so l t p s k agrees later e in
+        let made = repeats-leads l t p d k j.0 S h spelled j.1 in
+        answered-only t p S (hears_nothing t p d S) (noted t (Hears p d) (Repeats k j.0)) k.mid (verdict_of t s k).reply m (record { reads = made.leads.reads; later = omega arith }) m.unsealed refl refl refl refl made.owes
+
+    fresh : MayHear l t p d S → (k : Content) → Spells k d → repeats t s k ≡ false → ((verdict_of t s k).news ≡ N.Lost → ⊥) → Kept (takes_new t p d k (verdict_of t s k) S)
+    fresh h k spelled e kept = elim (lost-or-new l t p s k k.kind refl agrees later e) [
+      | inl w ↦ absurd (kept w)
+      | inr w ↦ new-keeps t p d k S m h spelled w.0 w.1
+    ]
+
+    new : MayHear l t p d S → (k : Content) → Spells k d → repeats t s k ≡ false → (news : News) → (verdict_of t s k).news ≡ news → Kept (takes_by t p d k (verdict_of t s k) news S)
+    new h k spelled e N.Lost is = m.kept
+    new h k spelled e N.Quiet is = fresh h k spelled e (λ w. quiet-lost (sym is ∙ w))
+      where
+        quiet-lost : N.Quiet ≡ N.Lost → ⊥
+        quiet-lost w = cc
+    new h k spelled e N.Response is = fresh h k spelled e (λ w. response-lost (sym is ∙ w))
+      where
+        response-lost : N.Response ≡ N.Lost → ⊥
+        response-lost w = cc
+    new h k spelled e (N.Reset token) is = fresh h k spelled e (λ w. reset-lost (sym is ∙ w))
+      where
+        reset-lost : N.Reset token ≡ N.Lost → ⊥
+        reset-lost w = cc
+
+    message : MayHear l t p d S → (k : Content) → Spells k d → (b : Bool) → repeats t s k ≡ b
+        → Kept (cond b (given_back t p (replies k.mid (verdict_of t s k).reply) (hears_nothing t p d S)) (takes_by t p d k (verdict_of t s k) (verdict_of t s k).news S))
+    message h k spelled true e = again h k spelled e
+    message h k spelled false e = new h k spelled e (verdict_of t s k).news refl
+
+    read : MayHear l t p d S → (r : Result Content CodecFault) → message_at d ≡ r → Kept (reads_so t p d r S)
+    read h (Ok k) is = message h k (message_takes d k (is-bytes d bytes) is) (repeats t s k) refl
+    read h (Err e) is = garbled h e is
+
+    by : (b : Bool) → is_some (link_of S.links p).last_mid ≡ b → (c : Bool) → leb (length d) 2048 ≡ c → Kept (cond (b && c) (reads_so t p d (message_at d) S) S)
+    by true known true short = read (may-hear t p d S m known short) (message_at d) refl
+    by true known false long = m.kept
+    by false none c any = m.kept

@@ -1,0 +1,189 @@
+-- How an exchange has ended that a message ends.
+use Rattle.std.proofs.Common.{◌≡◌, ℕ, zero, map, inl, inr, Bool, true, false, cond, eqb, ltb, leb, List, [], ◌∷◌, length, Option, Some, None, refl, sym, ap, subst, ◌∙◌, arith}
+use Rattle.std.specs.Prelude.{find, not, ◌&&◌, count_by}
+use Rattle.std.specs.List.{Contains, list_any}
+use Rattle.std.proofs.lemmas.Bool.{false≢true}
+use Rattle.std.proofs.lemmas.Bool.Decides.{eqb_tells}
+use Rattle.coap_codec.specs.Spelling.{Content}
+use Rattle.coap_codec.specs.declared.message.MsgType.{MsgType}
+use Rattle.coap_codec.specs.declared.message.MsgType.TheVariants.{Con, Non, Ack, Rst}
+use Rattle.uri_map.specs.declared.peer.Peer.{Peer}
+use Rattle.ask_model.specs.declared.cause.Cause.TheVariants as C
+use Rattle.journal_book.specs.Entries.{Live, Fault}
+use Rattle.history_laws.specs.Responses.{is_whole, response_of}
+use Rattle.message_layer.specs.Values.{LinkState}
+use Rattle.message_layer.specs.Hearing.{is_fresh, is_repeat, is_awaited, is_awaited_by_ack, new_verdict, heard_verdict, ack_verdict, rst_verdict, verdict_by, verdict_of}
+use Rattle.message_layer.specs.declared.state.Heard.{Heard}
+use Rattle.message_layer.specs.declared.state.Outstanding.{Outstanding}
+use Rattle.message_layer.specs.declared.state.Reply.{Reply as LinkReply}
+use Rattle.message_layer.specs.declared.verdict.News.{News}
+use Rattle.message_layer.specs.declared.verdict.News.TheVariants as N
+use Rattle.message_layer.specs.declared.verdict.Verdict.{Verdict}
+use Rattle.history_laws.specs.Readings.{Noted}
+use Rattle.history_laws.specs.Progress.{Reply, Ending, Whole, NotUnderstood, Reset}
+use Rattle.history_laws.specs.Exchanges.{Turn, Replied, Rejected, answered_by, turn, waits_for, replies, end_here, end_of, open_exchanges}
+use Rattle.history_laws.specs.Hearing.{repeated, can_be_remembered, answers}
+use Rattle.history_laws.specs.Justified.{Ends}
+use Rattle.history_laws.proofs.Elements.{contains-none, contains-later, first-or-later, find-some}
+use Rattle.history_laws.proofs.Facts.{eqb-itself}
+use Rattle.history_laws.proofs.Openings.{open-exactly}
+use Rattle.history_laws.proofs.Places.{at-keeps}
+use Rattle.history_laws.proofs.Resting.{first as and-left, second as and-right}
+use Rattle.history_links.specs.Steps.{ended_token, heard}
+use Rattle.history_links.proofs.Facts.{unreplied}
+use Rattle.history_links.proofs.Replying.{is_to, ends_by, hit}
+use Rattle.history_links.proofs.Saying.{judge}
+use Rattle.exchange_model.specs.declared.kept.Exchange.{Exchange}
+use Rattle.exchange_model.specs.State.{State, link_of}
+use Rattle.exchange_model.specs.Reads.{ExchangeIn, opening_of}
+use Rattle.exchange_model.specs.Steps.{is_under, is_other}
+use Rattle.exchange_model.specs.Calls.{ended_in, grounds_by}
+use Rattle.exchange_model.specs.Laws.{Before, MayHear}
+use Rattle.exchange_model.proofs.Borne.{split}
+use Rattle.exchange_model.proofs.Expiring.{all-of}
+use Rattle.exchange_model.proofs.Grounds.{GroundsOf, IsOver}
+use Rattle.exchange_model.proofs.Hearing.{ends-kept}
+use Rattle.exchange_model.proofs.Silent.{later-than}
+use Rattle.exchange_model.proofs.Tables.{entries-length}
+
+-- which news ends an exchange: a Reset of an RST, and of any other message a response
+
+abbrev NotReset : News → Type 0
+NotReset N.Quiet = Unit {0}
+NotReset N.Response = Unit {0}
+NotReset (N.Reset of) = ⊥
+NotReset N.Lost = Unit {0}
+
+either : (b : Bool) (x y : Verdict) → NotReset x.news → NotReset y.news → NotReset (cond b x y).news
+either true x y p q = p
+either false x y p q = q
+
+either-news : (b : Bool) → NotReset (cond b N.Response N.Quiet)
+either-news true = tt
+either-news false = tt
+
+new-news : (s : LinkState) (m : Content) (r e : LinkReply) → NotReset (new_verdict s m r e).news
+new-news s m r e = either (eqb m.code 0) _ _ tt (either (ltb 31 m.code && list_any (is_awaited m.token) s.awaited) _ _ tt tt)
+
+heard-news : (t : ℕ) (s : LinkState) (m : Content) (confirms : Bool) (v : Option Heard) → NotReset (heard_verdict t s m confirms v).news
+heard-news t s m confirms (Some h) = tt
+heard-news t s m confirms None = either (ltb (count_by (is_fresh t) s.heard) 1024) _ _ (new-news s m _ _) tt
+
+ack-news : (s : LinkState) (m : Content) → NotReset (ack_verdict s m).news
+ack-news s m = either (eqb m.code 0) _ _ tt (either (ltb 31 m.code) _ _ (either-news (list_any (is_awaited_by_ack m.mid m.token) s.awaited)) tt)
+
+response-only : (news : News) (token of : List ℕ) → NotReset news → ended_token news token ≡ Some of → news ≡ N.Response
+response-only N.Quiet token of h e = absurd cc
+response-only N.Response token of h e = refl
+response-only (N.Reset k) token of h e = absurd h
+response-only N.Lost token of h e = absurd cc
+
+reset-only : (m : Content) (v : Option Outstanding) (token of : List ℕ) → ended_token (rst_verdict m v).news token ≡ Some of → (k : List ℕ) × ((rst_verdict m v).news ≡ N.Reset k)
+reset-only m None token of e = absurd cc
+reset-only m (Some o) token of e = elim (split ((eqb m.code 0) && (eqb o.mid m.mid)) _ _ token of e) [
+  | inl w ↦ (o.token, rw (w.0) refl)
+  | inr w ↦ absurd (nothing w.1)
+]
+  where
+    nothing : None ≡ Some of → ⊥
+    nothing h = cc
+
+-- how it ends
+
+ends-now : (l : List Noted) (o : ℕ) (x : Noted) (u : Turn) (how : Ending) → turn l o x ≡ u → end_of l o ≡ None → end_here (length l) (replies l o) u ≡ Some how → Ends (x ∷ l) o (length l) how
+ends-now l o x u how is going here = rw (is, going, here) refl
+
+turn-now : (l : List Noted) (t : ℕ) (p : Peer) (d : List ℕ) (m : Content) (o i : ℕ) → waits_for l o ≡ Some i → answers l p m ≡ Some i → turn l o (heard l t p d m) ≡ answered_by i m m.kind
+turn-now l t p d m o i waits is = rw (is, waits, eqb-itself i) refl
+
+is-to-it : (to : Option ℕ) (i : ℕ) → is_to to i ≡ true → to ≡ Some i
+is-to-it None i e = absurd (false≢true e)
+is-to-it (Some j) i e = elim (eqb_tells j i) [ inl w ↦ ap Some w.1 | inr w ↦ absurd (false≢true (sym w.0 ∙ e)) ]
+
+reply-of : ℕ → ℕ → Content → Reply
+reply-of n i m = record { number = n; sending = i; message = m }
+
+by-reply : (l : List Noted) (t : ℕ) (p : Peer) (d : List ℕ) (m : Content) (o i : ℕ) → turn l o (heard l t p d m) ≡ Replied i m → end_of l o ≡ None → (b : Bool) → is_whole m ≡ b
+    → GroundsOf (heard l t p d m ∷ l) o (cond b (Live (length l ∷ [])) (Fault C.NotUnderstood (length l)))
+unfolding reply-of
+by-reply l t p d m o i turned going true is =
+    let none = unreplied l o going in
+    (length l, response_of m, reply-of (length l) i m ∷ [], ends-now l o (heard l t p d m) (Replied i m) (Whole (response_of m) (reply-of (length l) i m ∷ [])) turned going (rw (none, is) refl), refl)
+by-reply l t p d m o i turned going false is =
+    let none = unreplied l o going in
+    ends-now l o (heard l t p d m) (Replied i m) NotUnderstood turned going (rw (none, is) refl)
+
+by-kind : (l : List Noted) (t : ℕ) (p : Peer) (d : List ℕ) (m : Content) (o i : ℕ) (s : LinkState) (of : List ℕ) (k : MsgType) → m.kind ≡ k → waits_for l o ≡ Some i → answers l p m ≡ Some i
+    → ends_by m.kind m.code ≡ true → end_of l o ≡ None → ended_token (verdict_by t s m k).news m.token ≡ Some of
+    → GroundsOf (heard l t p d m ∷ l) o (grounds_by (verdict_by t s m k).news (length l) m)
+by-kind l t p d m o i s of Rst kind waits to ends going ended =
+    let turned = turn-now l t p d m o i waits to ∙ ap (answered_by i m) kind in
+    let news = reset-only m s.outstanding m.token of ended in
+    subst (λ (n : News). GroundsOf (heard l t p d m ∷ l) o (grounds_by n (length l) m)) (sym news.1) (ends-now l o (heard l t p d m) Rejected Reset turned going refl)
+by-kind l t p d m o i s of Con kind waits to ends going ended =
+    let response : leb 32 m.code ≡ true = subst (λ (k : MsgType). ends_by k m.code ≡ true) kind ends in
+    let turned : turn l o (heard l t p d m) ≡ Replied i m = turn-now l t p d m o i waits to ∙ (ap (answered_by i m) kind ∙ rw (response) refl) in
+    let news = response-only (verdict_by t s m Con).news m.token of (heard-news t s m true (find (is_repeat t m.mid) s.heard)) ended in
+    subst (λ (n : News). GroundsOf (heard l t p d m ∷ l) o (grounds_by n (length l) m)) (sym news) (by-reply l t p d m o i turned going (is_whole m) refl)
+by-kind l t p d m o i s of Non kind waits to ends going ended =
+    let response : leb 32 m.code ≡ true = subst (λ (k : MsgType). ends_by k m.code ≡ true) kind ends in
+    let turned : turn l o (heard l t p d m) ≡ Replied i m = turn-now l t p d m o i waits to ∙ (ap (answered_by i m) kind ∙ rw (response) refl) in
+    let news = response-only (verdict_by t s m Non).news m.token of (heard-news t s m false (find (is_repeat t m.mid) s.heard)) ended in
+    subst (λ (n : News). GroundsOf (heard l t p d m ∷ l) o (grounds_by n (length l) m)) (sym news) (by-reply l t p d m o i turned going (is_whole m) refl)
+by-kind l t p d m o i s of Ack kind waits to ends going ended =
+    let response : leb 32 m.code ≡ true = subst (λ (k : MsgType). ends_by k m.code ≡ true) kind ends in
+    let turned : turn l o (heard l t p d m) ≡ Replied i m = turn-now l t p d m o i waits to ∙ (ap (answered_by i m) kind ∙ rw (response) refl) in
+    let news = response-only (verdict_by t s m Ack).news m.token of (ack-news s m) ended in
+    subst (λ (n : News). GroundsOf (heard l t p d m ∷ l) o (grounds_by n (length l) m)) (sym news) (by-reply l t p d m o i turned going (is_whole m) refl)
+
+contains-map : {X Y : Type 0} (f : X → Y) (xs : List X) (x : X) → Contains xs x → Contains (map f xs) (f x)
+contains-map f [] x h = absurd (contains-none x h)
+contains-map f (y ∷ ys) x h = elim (first-or-later y ys x h) [
+  | inl e ↦ (zero, omega arith, ap f e)
+  | inr w ↦ contains-later (f y) (map f ys) (f x) (contains-map f ys x w)
+]
+
+pub not-false : (b : Bool) → not b ≡ false → b ≡ true
+not-false true e = refl
+not-false false e = absurd (false≢true (sym e))
+
+-- a kept exchange is open
+pub kept-open : (l : List Noted) (S : State) (e : Exchange) → Before l S.moment S → Contains S.exchanges e → end_of l e.opening ≡ None
+kept-open l S e b has =
+    let r = b.reads in
+    let listed : Contains (open_exchanges l) e.opening = subst (λ (os : List ℕ). Contains os e.opening) (sym r.keys) (contains-map opening_of S.exchanges e has) in
+    ((open-exactly l e.opening).0 listed).1
+
+pub heard-over : (l : List Noted) (t : ℕ) (p : Peer) (d : List ℕ) (m : Content) (S : State) → MayHear l t p d S → repeated l t p m ≡ None → can_be_remembered l t p m ≡ true
+    → (e : Exchange) → ended_in (ended_token (verdict_of t (link_of S.links p) m).news m.token) S.exchanges ≡ Some e
+    → IsOver (heard l t p d m ∷ l) e (grounds_by (verdict_of t (link_of S.links p) m).news (length S.entries) m)
+heard-over l t p d m S h none room e is = by (ended_token (verdict_of t (link_of S.links p) m).news m.token) refl is
+  where
+    here : length S.entries ≡ length l
+    here = ap length (sym h.before.reads.entries_are) ∙ entries-length l
+
+    made : (of : List ℕ) → ended_token (verdict_of t (link_of S.links p) m).news m.token ≡ Some of → Contains S.exchanges e → is_under of e ≡ true → (a : ExchangeIn l e)
+        → (v : Option ℕ) → e.sending ≡ v → hit (answers l p m) m v ≡ true → IsOver (heard l t p d m ∷ l) e (grounds_by (verdict_of t (link_of S.links p) m).news (length S.entries) m)
+    made of ended has under a None sending hits = absurd (false≢true hits)
+    made of ended has under a (Some i) sending hits =
+        let to = is-to-it (answers l p m) i (and-left (is_to (answers l p m) i) _ hits) in
+        let ends = and-right (is_to (answers l p m) i) _ hits in
+        let going = kept-open l S e (record { reads = h.before.reads; later = omega arith }) has in
+        record {
+          request = a.request;
+          ask = a.ask;
+          stands = at-keeps (heard l t p d m) l e.opening _ a.stands;
+          grounds = subst (λ (n : ℕ). GroundsOf (heard l t p d m ∷ l) e.opening (grounds_by (verdict_of t (link_of S.links p) m).news n m)) (sym here)
+              (by-kind l t p d m e.opening i (link_of S.links p) of m.kind refl (a.sending ∙ sending) to ends going ended);
+        }
+
+    by : (ended : Option (List ℕ)) → ended_token (verdict_of t (link_of S.links p) m).news m.token ≡ ended → ended_in ended S.exchanges ≡ Some e
+        → IsOver (heard l t p d m ∷ l) e (grounds_by (verdict_of t (link_of S.links p) m).news (length S.entries) m)
+    by None ended found = absurd cc
+    by (Some of) ended found =
+        let first = find-some (is_under of) S.exchanges e found in
+        let a = all-of (ExchangeIn l) S.exchanges e h.before.reads.exchanges_are first.0 in
+        let judged = judge l t p (link_of S.links p) m m.kind (later-than l t S h.before) h.before.reads.legal (h.before.reads.links_are p) refl none room in
+        let kept = ends-kept l t p (link_of S.links p) m h.before.reads.legal (h.before.reads.links_are p) judged e a e.sending refl a.sending a.sent in
+        let other : is_other (ended_token (verdict_of t (link_of S.links p) m).news m.token) e ≡ false = rw (ended, first.1) refl in
+        made of ended first.0 first.1 a e.sending refl (not-false (hit (answers l p m) m e.sending) (kept ∙ other))

@@ -1,0 +1,152 @@
+-- A tick ends what took too long.
+use Rattle.std.proofs.Common.{◌≡◌, ℕ, Bool, true, false, cond, List, [], ◌∷◌, ◌++◌, map, Option, Some, None, refl, sym, ap, subst, ◌∙◌}
+use Rattle.std.specs.Prelude.{filter, not, is_none, ◌&&◌}
+use Rattle.std.specs.List.{AllByRecursion, Contains}
+use Rattle.std.proofs.lemmas.Bool.{false≢true}
+use Rattle.std.proofs.lemmas.List.Elements.{All-contains_itself, recursion_from_All}
+use Rattle.uri_map.specs.declared.peer.Peer.{Peer}
+use Rattle.ask_model.specs.Requests.{same_peer}
+use Rattle.ask_model.proofs.Endpoints.{same_peer-same}
+use Rattle.journal_book.specs.Entries.{Passes, Written}
+use Rattle.message_layer.specs.Values.{LinkState}
+use Rattle.message_layer.specs.declared.state.Waiting.{Waiting}
+use Rattle.history_laws.specs.Readings.{Noted, Plain}
+use Rattle.history_laws.specs.Exchanges.{Begun, begun, is_late, expires as ends_at, waits_for, goes_to, is_going, is_waiting, waiting, openings, open_exchanges}
+use Rattle.history_laws.specs.Hearing.{went_under}
+use Rattle.history_laws.specs.Transmissions.{FirstSending, first_at}
+use Rattle.history_laws.specs.Worked.{noted}
+use Rattle.history_laws.proofs.Elements.{contains-filter, filtered-from}
+use Rattle.history_laws.proofs.Resting.{first as and-left, some-is}
+use Rattle.history_links.specs.Agrees.{rank, IsWaitingFor, WaitIn, Agrees}
+use Rattle.history_links.specs.Steps.{passed_link, EndWaiting, EndTokens}
+use Rattle.history_links.proofs.Facts.{all-more, all-filter, all-passes, waiting-goes, waiting-unsent}
+use Rattle.history_links.proofs.Judging.{token-found}
+use Rattle.history_links.proofs.Passing.{waits-passed, going-passed, pass-agrees}
+use Rattle.history_links.proofs.Still.{filter-same}
+use Rattle.exchange_model.specs.declared.kept.Exchange.{Exchange}
+use Rattle.exchange_model.specs.State.{PeerLink, State, link_of}
+use Rattle.exchange_model.specs.Reads.{IsSentUnder, ExchangeIn, WaitsUnder, opening_of, Reads}
+use Rattle.exchange_model.specs.Steps.{expires, is_gone, passed}
+use Rattle.exchange_model.specs.Laws.{PassesLeads}
+use Rattle.exchange_model.proofs.Expiring.{expires-alike, awaited-open, all-of, kept-at, gone-of}
+use Rattle.exchange_model.proofs.Hearing.{filter-map, filter-by, filter-both}
+use Rattle.exchange_model.proofs.Lists.{all-both}
+use Rattle.exchange_model.proofs.Silent.{later-than, link-before}
+use Rattle.exchange_model.proofs.Tables.{exchange-stays}
+
+abbrev ticked_at : ℕ → Noted
+ticked_at t = noted t Passes Plain
+
+-- what the history and the state keep
+
+abbrev goes_on : List Noted → ℕ → ℕ → Bool
+goes_on l t o = not (ends_at l o t (waits_for l o))
+
+abbrev stays : ℕ → State → Exchange → Bool
+stays t S e = not (expires t S.links e)
+
+open-passed : (l : List Noted) (t : ℕ) (S : State) → Reads l S → open_exchanges (ticked_at t ∷ l) ≡ map opening_of (filter (stays t S) S.exchanges)
+open-passed l t S r =
+    filter-same (is_going (ticked_at t ∷ l)) (λ (o : ℕ). goes_on l t o && is_going l o) (going-passed l t) (openings l)
+    ∙ (filter-both (goes_on l t) (is_going l) (openings l)
+    ∙ (ap (filter (goes_on l t)) r.keys
+    ∙ (filter-map (goes_on l t) opening_of S.exchanges
+    ∙ ap (map opening_of) (filter-by (λ (e : Exchange). goes_on l t e.opening) (stays t S) S.exchanges
+    (all-more (ExchangeIn l) _ (λ e a. ap not (sym (expires-alike l t S.links e r.legal r.links_are a))) S.exchanges r.exchanges_are)))))
+
+exchange-kept : (l : List Noted) (t : ℕ) (S : State) → Reads l S → (e : Exchange) → ExchangeIn l e × (stays t S e ≡ true) → ExchangeIn (ticked_at t ∷ l) e
+exchange-kept l t S r e a =
+    exchange-stays (ticked_at t) l e (λ h. h)
+    (waits-passed l t e.opening ∙ ap (λ (b : Bool). cond b None (waits_for l e.opening)) (sym (expires-alike l t S.links e r.legal r.links_are a.0) ∙ is-false (expires t S.links e) a.1)) a.0
+  where
+    is-false : (b : Bool) → not b ≡ true → b ≡ false
+    is-false true h = absurd (false≢true h)
+    is-false false h = refl
+
+-- what is kept of a link
+
+pub link-passed : (t : ℕ) (S : State) (p : Peer) (xs : List PeerLink) → link_of (map (passed t S) xs) p ≡ passed_link t (is_gone t S) (link_of xs p)
+link-passed t S p [] = refl
+link-passed t S p (x ∷ xs) = by (same_peer x.peer p) (link-passed t S p xs)
+  where
+    by : (b : Bool) → link_of (map (passed t S) xs) p ≡ passed_link t (is_gone t S) (link_of xs p)
+        → cond b (passed_link t (is_gone t S) x.link) (link_of (map (passed t S) xs) p) ≡ passed_link t (is_gone t S) (cond b x.link (link_of xs p))
+    by true h = refl
+    by false h = h
+
+-- The tokens that are gone are those of what is awaited and ends.
+awaited-ends : (l : List Noted) (t : ℕ) (S : State) (p : Peer) → Reads l S → (o i : ℕ) (token : List ℕ) → waits_for l o ≡ Some i
+    → went_under p token (first_at l i) ≡ true → ends_at l o t (Some i) ≡ is_gone t S token
+awaited-ends l t S p r o i token waits under =
+    let k = kept-at l S o r (awaited-open l o i r.legal waits) in
+    let e = k.0 in
+    let sending : e.sending ≡ Some i = sym k.3.sending ∙ (ap (waits_for l) k.2 ∙ waits) in
+    let sent : IsSentUnder l e.peer e.token (Some i) = subst (IsSentUnder l e.peer e.token) sending k.3.sent in
+    let found = token-found p token (first_at l i) under in
+    let same : sent.0 ≡ found.0 = some-is _ _ (sym sent.1 ∙ found.1) in
+    let tokens : e.token ≡ token = sym sent.3 ∙ (ap (λ (f : FirstSending). f.message.token) same ∙ found.2) in
+    ap (ends_at l o t) (sym waits) ∙ gone-of l t S e o token r k.1 k.2 tokens
+
+-- They are those of what waits and ends, too.
+waiting-ends : (l : List Noted) (t : ℕ) (S : State) (p : Peer) → Reads l S → (o : ℕ) (w : Waiting) → Contains (waiting l p) o → Contains (link_of S.links p).waiting w
+    → IsWaitingFor l o w → is_late t (begun l o) ≡ is_gone t S w.token
+waiting-ends l t S p r o w ho hw a =
+    let waits = filtered-from (is_waiting l p) (openings l) o ho in
+    let k = kept-at l S o r (contains-filter (is_going l) (openings l) o waits.0 (ap is_none (waiting-goes l p o waits.1))) in
+    let e = k.0 in
+    let opening : begun l o ≡ Some (record { since = e.since; request = k.3.request }) = subst (λ (q : ℕ). begun l q ≡ Some (record { since = e.since; request = k.3.request })) k.2 k.3.opening in
+    let goes : same_peer k.3.request.peer p ≡ true = subst (λ (b : Option Begun). goes_to p b ≡ true) opening (and-left (goes_to p (begun l o)) _ waits.1) in
+    let peer : e.peer ≡ p = sym k.3.peer ∙ same_peer-same k.3.request.peer p goes in
+    let under : WaitsUnder (link_of S.links p).waiting e =
+    subst (λ (q : Peer). WaitsUnder (link_of S.links q).waiting e) peer (all-of (λ (x : Exchange). WaitsUnder (link_of S.links x.peer).waiting x) S.exchanges e r.waiting_are k.1) in
+    let tokens = under w hw (a.numbered ∙ (ap (rank l) (sym k.2) ∙ k.3.number)) in
+    ap (ends_at l o t) (sym (waiting-unsent l p o waits.1)) ∙ gone-of l t S e o w.token r k.1 k.2 (sym tokens)
+
+all-end : (l : List Noted) (t : ℕ) (gone : List ℕ → Bool) (P : ℕ → Type 0) (Q : Waiting → Type 0)
+    → ((o : ℕ) (w : Waiting) → P o → Q w → IsWaitingFor l o w → is_late t (begun l o) ≡ gone w.token)
+    → (os : List ℕ) (ws : List Waiting) → AllByRecursion P os → AllByRecursion Q ws → WaitIn l os ws → EndWaiting l t gone os ws
+all-end l t gone P Q one [] [] a b i = tt
+all-end l t gone P Q one [] (w ∷ ws) a b i = tt
+all-end l t gone P Q one (o ∷ os) [] a b i = tt
+all-end l t gone P Q one (o ∷ os) (w ∷ ws) a b i = (one o w a.0 b.0 i.0, all-end l t gone P Q one os ws a.1 b.1 i.1)
+
+among-itself : {X : Type 0} (xs : List X) → AllByRecursion (Contains xs) xs
+among-itself xs = recursion_from_All (Contains xs) xs (All-contains_itself xs)
+
+end-tokens : (l : List Noted) (t : ℕ) (S : State) (p : Peer) → Reads l S → EndTokens l t p (link_of S.links p) (is_gone t S)
+end-tokens l t S p r = record {
+  awaited = awaited-ends l t S p r;
+  waiting = all-end l t (is_gone t S) (Contains (waiting l p)) (Contains (link_of S.links p).waiting) (waiting-ends l t S p r) (waiting l p) (link_of S.links p).waiting
+      (among-itself (waiting l p)) (among-itself (link_of S.links p).waiting) (r.links_are p).waits;
+}
+
+fewer-wait : (t : ℕ) (S : State) (e : Exchange) → WaitsUnder (link_of S.links e.peer).waiting e → WaitsUnder (link_of (map (passed t S) S.links) e.peer).waiting e
+fewer-wait t S e under =
+    subst (λ (s : LinkState). WaitsUnder s.waiting e) (sym (link-passed t S e.peer S.links))
+    (λ w h. under w ((filtered-from (λ (v : Waiting). not (is_gone t S v.token)) (link_of S.links e.peer).waiting w h).0))
+
+pub passes-leads : PassesLeads
+passes-leads l t S b may =
+    let r = b.reads in
+    let n = ticked_at t ∷ l in
+    let later = later-than l t S b in
+    let kept = filter (stays t S) S.exchanges in
+    record {
+      follows = (may, tt);
+      reads = record {
+        entries_are = ap (λ (es : List Written). es ++ record { moment = t; deed = Passes } ∷ []) r.entries_are;
+        legal = (r.legal, later, (may, tt));
+        sealed_is = r.sealed_is;
+        moment_is = refl;
+        opened_are = r.opened_are;
+        issued_are = r.issued_are;
+        conns_are = r.conns_are;
+        keys = open-passed l t S r;
+        exchanges_are = all-more _ (ExchangeIn n) (exchange-kept l t S r) kept
+            (all-both (ExchangeIn l) _ kept (all-filter (ExchangeIn l) (stays t S) S.exchanges r.exchanges_are) (all-passes (stays t S) S.exchanges));
+        tokens_are = r.tokens_are;
+        waiting_are = all-more _ _ (fewer-wait t S) kept (all-filter (λ (e : Exchange). WaitsUnder (link_of S.links e.peer).waiting e) (stays t S) S.exchanges r.waiting_are);
+        links_are = λ p. subst (Agrees n p) (sym (link-passed t S p S.links))
+            (pass-agrees l t p (link_of S.links p) (is_gone t S) (link-before l t S b p) (end-tokens l t S p r));
+      };
+    }

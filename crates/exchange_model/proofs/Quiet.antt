@@ -1,0 +1,71 @@
+-- Asks that open nothing, ACKs and RSTs, copies, and what is heard and is nothing new.
+use Rattle.std.proofs.Common.{◌≡◌, true, false, ◌∷◌, None, refl, sym, subst, ◌∙◌}
+use Rattle.uri_map.specs.declared.peer.Peer.{Peer}
+use Rattle.ask_model.specs.Requests.{same_peer}
+use Rattle.ask_model.proofs.Endpoints.{same_peer-same}
+use Rattle.journal_book.specs.Entries.{Asks, Sends, Hears}
+use Rattle.message_layer.specs.Values.{LinkState}
+use Rattle.message_layer.specs.Sending.{with_copy}
+use Rattle.history_laws.specs.Readings.{Plain, Copies, Confirms, Repeats, Garbled}
+use Rattle.history_laws.specs.Transmissions.{FirstSending}
+use Rattle.history_laws.specs.Justified.{Follows}
+use Rattle.history_links.specs.Agrees.{Agrees}
+use Rattle.history_links.specs.Steps.{copy}
+use Rattle.history_links.proofs.Copying.{still-copy, copy-follows}
+use Rattle.history_links.proofs.OtherPeers.{copy-elsewhere}
+use Rattle.history_links.proofs.Repeating.{repeat-agrees, garbled-agrees}
+use Rattle.exchange_model.specs.State.{link_of, with_link}
+use Rattle.exchange_model.specs.Steps.{given_out}
+use Rattle.exchange_model.specs.Laws.{AsksLeads, CopyLeads, ConfirmsLeads, RepeatsLeads, GarbledLeads}
+use Rattle.exchange_model.proofs.Tables.{still-reads, all-links, given-agrees}
+use Rattle.exchange_model.proofs.Silent.{later-than, link-before, silent-reads}
+
+pub asks-leads : AsksLeads
+asks-leads l t c a S b may who note =
+    let follows : Follows l t (Asks c a) Plain = (may, who.open_now, who.idle, note) in
+    record { follows = follows; reads = silent-reads l t (Asks c a) Plain S b tt follows }
+
+pub confirms-leads : ConfirmsLeads
+confirms-leads l t p bytes S b unsealed owes =
+    let follows : Follows l t (Sends p bytes None) Confirms = (b.reads.sealed_is ∙ unsealed, (refl, owes)) in
+    record { follows = follows; reads = silent-reads l t (Sends p bytes None) Confirms S b tt follows }
+
+pub repeats-leads : RepeatsLeads
+repeats-leads l t p d m j S h spelled again =
+    let b = h.before in
+    let link = link-before l t S b p in
+    let follows : Follows l t (Hears p d) (Repeats m j) = (h.come, h.short, h.known, (spelled, again)) in
+    record {
+      leads = record { follows = follows; reads = silent-reads l t (Hears p d) (Repeats m j) S b tt follows };
+      owes = (repeat-agrees l t p (link_of S.links p) d m j link again).owes;
+    }
+
+pub garbled-leads : GarbledLeads
+garbled-leads l t p d S h none =
+    let b = h.before in
+    let link = link-before l t S b p in
+    let follows : Follows l t (Hears p d) Garbled = (h.come, h.short, h.known, none) in
+    record {
+      leads = record { follows = follows; reads = silent-reads l t (Hears p d) Garbled S b tt follows };
+      owes = (garbled-agrees l t p (link_of S.links p) d link).owes;
+    }
+
+other-peer : (f : FirstSending) (p q : Peer) → same_peer f.peer p ≡ true → same_peer p q ≡ false → same_peer f.peer q ≡ false
+other-peer f p q is other = subst (λ (r : Peer). same_peer r q ≡ false) (sym (same_peer-same f.peer p is)) other
+
+pub copy-leads : CopyLeads
+copy-leads l t p o S b q is few due =
+    let later = later-than l t S b in
+    let link = link-before l t S b in
+    let made = copy-follows l t p (link_of S.links p) o (link p) q is few due in
+    let i = made.0 in
+    let s = given_out (with_copy t (link_of S.links p) o) in (
+      i,
+      record {
+        follows = made.4.follows;
+        reads = still-reads l t (Sends p o.datagram None) (Copies i) S (with_link p s S.links) b.reads later made.4.follows (still-copy l t p o.datagram i later)
+            (all-links (λ (r : Peer) (v : LinkState). v.waiting ≡ (link_of S.links r).waiting) p s S.links refl (λ r other. refl))
+            (all-links (λ (r : Peer) (v : LinkState). Agrees (copy t p o i ∷ l) r v) p s S.links (given-agrees (copy t p o i ∷ l) p (with_copy t (link_of S.links p) o) made.4.agrees)
+            (λ r other. copy-elsewhere l t r p (link_of S.links r) o.datagram i made.1 (link r) made.2 (other-peer made.1 p r made.3 other)));
+      },
+    )

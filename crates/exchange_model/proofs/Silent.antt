@@ -1,0 +1,57 @@
+-- Entries that are nothing to any exchange or link.
+use Rattle.std.proofs.Common.{ℕ, ◌≤◌, List, ◌∷◌, refl, sym, subst}
+use Rattle.uri_map.specs.declared.peer.Peer.{Peer}
+use Rattle.journal_book.specs.Entries.{Deed, Opens, Answers, Shuts, Seals}
+use Rattle.history_laws.specs.Readings.{Noted, Note, Plain, newest}
+use Rattle.history_laws.specs.Justified.{Follows}
+use Rattle.history_laws.specs.Worked.{noted}
+use Rattle.history_links.specs.Steps.{IsSilent, Before as LinkBefore}
+use Rattle.history_links.proofs.Silence.{still, silent-agrees}
+use Rattle.exchange_model.specs.State.{State, link_of}
+use Rattle.exchange_model.specs.Reads.{Reads}
+use Rattle.exchange_model.specs.Steps.{entered}
+use Rattle.exchange_model.specs.Laws.{Before, OpensLeads, ShutsLeads, SealsLeads, AnswersLeads}
+use Rattle.history_laws.specs.Connections.{sealed_by, opened_by}
+use Rattle.exchange_model.proofs.Tables.{still-reads}
+
+pub later-than : (l : List Noted) (t : ℕ) (S : State) → Before l t S → newest l ≤ t
+later-than l t S b = subst (λ (n : ℕ). n ≤ t) (sym b.reads.moment_is) b.later
+
+pub link-before : (l : List Noted) (t : ℕ) (S : State) → Before l t S → (p : Peer) → LinkBefore l t p (link_of S.links p)
+link-before l t S b p = record { legal = b.reads.legal; later = later-than l t S b; agrees = b.reads.links_are p }
+
+pub silent-reads : (l : List Noted) (t : ℕ) (d : Deed) (note : Note) (S : State) → Before l t S → IsSilent d note → Follows l t d note
+    → Reads (noted t d note ∷ l) (record {
+      entries = (entered t d S).entries;
+      sealed = sealed_by d S.sealed;
+      moment = t;
+      opened = opened_by d S.opened;
+      issued = S.issued;
+      conns = (entered t d S).conns;
+      exchanges = S.exchanges;
+      links = S.links;
+    })
+silent-reads l t d note S b silent follows =
+    let later = later-than l t S b in
+    still-reads l t d note S S.links b.reads later follows (still l t d note later silent) (λ p. refl)
+    (λ p. silent-agrees l t p (link_of S.links p) d note (link-before l t S b p) silent)
+
+pub opens-leads : OpensLeads
+opens-leads l t S b may =
+    let follows : Follows l t (Opens S.opened) Plain = (may, sym b.reads.opened_are, tt) in
+    record { follows = follows; reads = silent-reads l t (Opens S.opened) Plain S b tt follows }
+
+pub shuts-leads : ShutsLeads
+shuts-leads l t c S b quiet is =
+    let follows : Follows l t (Shuts c) Plain = (quiet, is, tt) in
+    record { follows = follows; reads = silent-reads l t (Shuts c) Plain S b tt follows }
+
+pub seals-leads : SealsLeads
+seals-leads l t S b may full =
+    let follows : Follows l t Seals Plain = (may, full, tt) in
+    record { follows = follows; reads = silent-reads l t Seals Plain S b tt follows }
+
+pub answers-leads : AnswersLeads
+answers-leads l t c k g S b quiet is next grounds =
+    let follows : Follows l t (Answers c k g) Plain = (quiet, is, next, grounds, tt) in
+    record { follows = follows; reads = silent-reads l t (Answers c k g) Plain S b tt follows }

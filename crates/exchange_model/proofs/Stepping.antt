@@ -1,0 +1,289 @@
+-- A connection opened or shut, the seal, an ask: a step keeps what holds between steps.
+use Rattle.std.proofs.Common.{◌≡◌, ℕ, suc, ◌+◌, ◌<◌, ◌≤◌, inl, inr, Bool, true, false, cond, eqb, ltb, List, [], ◌∷◌, ◌++◌, length, map, Option, Some, None, refl, sym, ap, subst, ◌∙◌, arith, length-append}
+use Rattle.std.proofs.lemmas.List.{length-map}
+use Rattle.std.specs.Prelude.{filter, not}
+use Rattle.std.specs.List.{AllByRecursion}
+use Rattle.std.proofs.lemmas.Bool.{ltb-true}
+use Rattle.std.proofs.lemmas.Bool.Decides.{eqb_tells}
+use Rattle.std.proofs.lemmas.List.Sums.{length-filter}
+use Rattle.limits.specs.declared.TheConstants.{MAX_MESSAGE_IDS, MAX_TRANSMIT_WAIT}
+use Rattle.uri_map.specs.declared.peer.Peer.{Peer}
+use Rattle.ask_model.specs.declared.cause.Cause.{Cause}
+use Rattle.ask_model.specs.declared.cause.Cause.TheVariants as C
+use Rattle.ask_model.specs.Requests.{CoapRequest, Sense, Requests, Refuses, same_peer}
+use Rattle.ask_model.specs.Views.{Ask}
+use Rattle.ask_model.proofs.Endpoints.{same_peer-same}
+use Rattle.journal_book.specs.Entries.{Fault, Asks}
+use Rattle.history_laws.specs.Causes.{IsRefusal}
+use Rattle.message_layer.specs.Values.{LinkState}
+use Rattle.message_layer.specs.Mids.{is_in_use}
+use Rattle.message_layer.specs.Sending.{due_of, mids_in_use, waits, queued}
+use Rattle.message_layer.specs.declared.state.Outstanding.{Outstanding}
+use Rattle.message_layer.specs.declared.state.Waiting.{Waiting}
+use Rattle.history_laws.specs.Readings.{Noted, Plain, Begins, at, ticked}
+use Rattle.history_laws.specs.Connections.{is_open, asks_of, answers_of}
+use Rattle.history_laws.specs.Hearing.{has_room}
+use Rattle.history_laws.specs.Justified.{AskNote, Caused, IsRefused, MayCome, pending}
+use Rattle.history_laws.specs.Worked.{noted}
+use Rattle.history_laws.proofs.Facts.{eqb-itself}
+use Rattle.history_laws.proofs.Places.{at-new}
+use Rattle.history_laws.proofs.Resting.{second as and-right}
+use Rattle.history_links.specs.Agrees.{WaitIn}
+use Rattle.history_links.proofs.Facts.{all-more, all-push, all-filter}
+use Rattle.exchange_model.specs.declared.kept.Conn.{Conn}
+use Rattle.exchange_model.specs.declared.kept.Exchange.{Exchange}
+use Rattle.exchange_model.specs.State.{State, link_of, pend}
+use Rattle.exchange_model.specs.Reads.{opening_of}
+use Rattle.exchange_model.specs.Steps.{asks, begins, exchange_for}
+use Rattle.exchange_model.specs.Resting.{IsUndue, LinkRests, HasExchange, IsServed, HasConn, Rests}
+use Rattle.exchange_model.specs.Calls.{Numbers, next, refused, has_place, asked_by}
+use Rattle.exchange_model.specs.Keeping.{StartKeeps, HasMids, Kept, MayStep, KeptStands, OpensKeeps, ShutsKeeps, SealsKeeps, IsProper, IsNumbered, AsksKeeps}
+use Rattle.exchange_model.specs.Laws.{Before, MayAsk}
+use Rattle.exchange_model.proofs.Amid.{Amid, Moved, RestAt, IsEarly, tick-before, next-moves}
+use Rattle.exchange_model.proofs.Begins.{begins-leads}
+use Rattle.exchange_model.proofs.Conns.{PendingIn, ConnIn, conns-open, slice_get-push}
+use Rattle.exchange_model.proofs.ConnsTell.{conns-tell}
+use Rattle.exchange_model.proofs.Ending.{conn-of}
+use Rattle.exchange_model.proofs.Lists.{all-map}
+use Rattle.exchange_model.proofs.Quiet.{asks-leads}
+use Rattle.exchange_model.proofs.Resting.{rests-at-rest}
+use Rattle.exchange_model.proofs.Silent.{opens-leads, shuts-leads, seals-leads, answers-leads, later-than}
+use Rattle.exchange_model.proofs.Tables.{entries-length, link-other, all-links}
+
+pub kept-stands : KeptStands
+kept-stands S k = record { reading = k.reading; entries_are = k.rests.reads.entries_are; legal = k.rests.reads.legal; at_rest = rests-at-rest k.reading S k.rests }
+
+pub may-come : (t : ℕ) (S : State) (m : MayStep t S) → MayCome m.kept.reading
+may-come t S m = (m.kept.rests.reads.sealed_is ∙ m.unsealed, rests-at-rest m.kept.reading S m.kept.rests)
+
+pub before-step : (t : ℕ) (S : State) (m : MayStep t S) → Before m.kept.reading t S
+before-step t S m = record { reads = m.kept.rests.reads; later = m.later }
+
+-- connections and the seal
+
+pub opens-keeps : OpensKeeps
+opens-keeps t S m =
+    let r = m.kept.rests in
+    let made = opens-leads m.kept.reading t S (before-step t S m) (may-come t S m) in
+    record {
+      reading = _;
+      rests = record { reads = made.reads; quiet = refl; links = r.links; in_time = r.in_time; served = all-push (λ (x : Conn). IsServed S.exchanges x.pending) S.conns _ r.served tt };
+      mids = m.kept.mids;
+    }
+
+pub shuts-keeps : ShutsKeeps
+shuts-keeps t c p S k later h =
+    let r = k.rests in
+    let told = (conns-tell k.reading S c r.reads).1 p h in
+    let made = shuts-leads k.reading t c S (record { reads = r.reads; later = later }) r.quiet told.0 in
+    record {
+      reading = _;
+      rests = record { reads = made.reads; quiet = refl; links = r.links; in_time = r.in_time; served = all-filter (λ (x : Conn). IsServed S.exchanges x.pending) (λ (x : Conn). not (eqb x.id c)) S.conns r.served };
+      mids = k.mids;
+    }
+
+pub seals-keeps : SealsKeeps
+seals-keeps t S m full =
+    let r = m.kept.rests in
+    let made = seals-leads m.kept.reading t S (before-step t S m) (may-come t S m) full in
+    record { reading = _; rests = record { reads = made.reads; quiet = refl; links = r.links; in_time = r.in_time; served = r.served }; mids = m.kept.mids }
+
+-- the connection that asks
+
+may-ask : (l : List Noted) (S : State) (c : ℕ) → Rests l S → HasConn S.conns c None → MayAsk l c
+may-ask l S c r h =
+    let all = subst (AllByRecursion (ConnIn l)) r.reads.conns_are (conns-open l r.reads.legal) in
+    let x = conn-of (ConnIn l) S.conns c None all h in
+    by x.0 x.0.pending x.1 x.2 refl x.3
+  where
+    by : (x : Conn) (v : Option ℕ) → ConnIn l x → x.id ≡ c → x.pending ≡ v → x.pending ≡ None → MayAsk l c
+    by x v i id is none =
+        record {
+          open_now = subst (λ (k : ℕ). is_open l k ≡ true) id i.open_now;
+          idle = subst (λ (k : ℕ). length (asks_of l k) ≡ length (answers_of l k)) id (subst (PendingIn l x.id) none i.waits);
+        }
+
+-- there is room in the history where there is a place in the state
+
+as-many : (l : List Noted) (os : List ℕ) (ws : List Waiting) → WaitIn l os ws → length os ≡ length ws
+as-many l [] [] a = refl
+as-many l [] (w ∷ ws) a = absurd a
+as-many l (o ∷ os) [] a = absurd a
+as-many l (o ∷ os) (w ∷ ws) a = ap suc (as-many l os ws a.1)
+
+pub room-same : (l : List Noted) (t : ℕ) (q : CoapRequest) (S : State) → Before l t S → has_room l t q ≡ has_place t q.peer S
+room-same l t q S b =
+    let r = b.reads in
+    let agrees = r.links_are q.peer in
+    rw (r.keys, length-map S.exchanges opening_of, as-many l _ _ agrees.waits, ← agrees.given t (later-than l t S b)) refl
+
+-- An ask that is answered at once.
+
+caused : (l : List Noted) (t k : ℕ) (cause : Cause) → IsRefusal cause → IsRefused l k cause → Caused l t k cause k
+caused l t k C.Busy is a = absurd is
+caused l t k C.Timeout is a = absurd is
+caused l t k C.Reset is a = absurd is
+caused l t k C.NotUnderstood is a = absurd is
+caused l t k cause is a = (is, refl, a)
+
+served-again : (es : List Exchange) (c n : ℕ) (x : Conn) → IsServed es x.pending → IsServed es (pend c None (pend c (Some n) x)).pending
+served-again es c n x h = elim (eqb_tells x.id c) [ inl w ↦ rw (w.0, w.0) tt | inr w ↦ rw (w.0, w.0) h ]
+
+at-once : (t c : ℕ) (a : Ask) (cause : Cause) (S : State) (m : MayStep t S) → HasConn S.conns c None → AskNote m.kept.reading t a.sense Plain
+    → ((l : List Noted) (k : ℕ) → at l k ≡ Some (noted t (Asks c a) Plain) → Caused l t k cause k) → Kept (refused t c a cause S)
+at-once t c a cause S m h note why =
+    let l = m.kept.reading in
+    let r = m.kept.rests in
+    let who = may-ask l S c r h in
+    let first = asks-leads l t c a S (before-step t S m) (may-come t S m) who note in
+    let x = noted t (Asks c a) Plain in
+    let here : length S.entries ≡ length l = ap length (sym r.reads.entries_are) ∙ entries-length l in
+    let turn : pending (x ∷ l) c ≡ Some (length S.entries) = rw (eqb-itself c, here) (slice_get-push (asks_of l c) (length l) _ who.idle) in
+    let stands : at (x ∷ l) (length S.entries) ≡ Some x = subst (λ (k : ℕ). at (x ∷ l) k ≡ Some x) (sym here) (at-new x l) in
+    let made = answers-leads (x ∷ l) t c (length S.entries) (Fault cause (length S.entries)) (asks t c a S)
+    (record { reads = first.reads; later = omega arith }) refl who.open_now turn (why (x ∷ l) (length S.entries) stands) in
+    record {
+      reading = _;
+      rests = record {
+        reads = made.reads;
+        quiet = refl;
+        links = r.links;
+        in_time = r.in_time;
+        served = all-map (pend c None) (λ (y : Conn). IsServed S.exchanges y.pending) (map (pend c (Some (length S.entries))) S.conns)
+            (all-map (pend c (Some (length S.entries))) (λ (y : Conn). IsServed S.exchanges (pend c None y).pending) S.conns
+            (all-more _ _ (λ y k. served-again S.exchanges c (length S.entries) y k) S.conns r.served));
+      };
+      mids = m.kept.mids;
+    }
+
+-- An ask that opens an exchange.
+
+enough-ids : (t : ℕ) (s : LinkState) (w : Waiting) → HasMids s → w.first_mid < 65536 → mids_in_use t s < MAX_MESSAGE_IDS → HasMids (queued t w s)
+enough-ids t s w h small few = record {
+  small = all-push (λ (v : Waiting). v.first_mid < 65536) s.waiting w h.small small;
+  enough = by (ltb (length s.given + length s.waiting) 32768) refl;
+}
+  where
+    more : length (s.waiting ++ w ∷ []) ≡ length s.waiting + 1
+    more = length-append s.waiting (w ∷ [])
+
+    by : (b : Bool) → ltb (length s.given + length s.waiting) 32768 ≡ b → length (cond b s.given (filter (is_in_use t) s.given)) + length (s.waiting ++ w ∷ []) ≤ MAX_MESSAGE_IDS
+    by true e = let less = ltb-true _ _ e in omega (arith, less, more)
+    by false e = let count = length-filter (is_in_use t) s.given in omega (arith, few, count, more)
+
+served-new : (es : List Exchange) (e : Exchange) (c : ℕ) (x : Conn) → IsServed es x.pending → IsServed (es ++ e ∷ []) (pend c (Some e.opening) x).pending
+served-new es e c x h = elim (eqb_tells x.id c) [ inl w ↦ rw (w.0) (has-new es e) | inr w ↦ rw (w.0) (by x.pending h) ]
+  where
+    has-new : (es : List Exchange) (e : Exchange) → HasExchange (es ++ e ∷ []) e.opening
+    has-new [] e = inl refl
+    has-new (y ∷ es) e = inr (has-new es e)
+
+    by : (v : Option ℕ) → IsServed es v → IsServed (es ++ e ∷ []) v
+    by None h = tt
+    by (Some k) h = has-old es k h
+      where
+        has-old : (es : List Exchange) (k : ℕ) → HasExchange es k → HasExchange (es ++ e ∷ []) k
+        has-old [] k h = absurd h
+        has-old (y ∷ es) k (inl h) = inl h
+        has-old (y ∷ es) k (inr h) = inr (has-old es k h)
+
+served-kept : (es fs : List Exchange) → ((k : ℕ) → HasExchange es k → HasExchange fs k) → (cs : List Conn) → AllByRecursion (λ (x : Conn). IsServed es x.pending) cs
+    → AllByRecursion (λ (x : Conn). IsServed fs x.pending) cs
+served-kept es fs more cs a = all-more _ _ (λ x h. by x.pending h) cs a
+  where
+    by : (v : Option ℕ) → IsServed es v → IsServed fs v
+    by None h = tt
+    by (Some k) h = more k h
+
+opened-for : (t c : ℕ) (a : Ask) (q : CoapRequest) (n : Numbers) (S : State) (m : MayStep t S) → HasConn S.conns c None → a.sense ≡ Requests q → IsNumbered q n S
+    → has_place t q.peer S ≡ true → Kept (next t q.peer (begins t c a q n.token n.text n.word S))
+opened-for t c a q n S m h sense numbered place =
+    let l = m.kept.reading in
+    let r = m.kept.rests in
+    let p = q.peer in
+    let b = before-step t S m in
+    let made = begins-leads l t c a q n.token n.text n.word S b (may-come t S m) (may-ask l S c r h) sense (room-same l t q S b ∙ place) numbered.spelled numbered.token_size numbered.number in
+    let x = noted t (Asks c a) (Begins q) in
+    let S1 = begins t c a q n.token n.text n.word S in
+    let w = waits n.token n.text n.word in
+    let s = queued t w (link_of S.links p) in
+    let tick = tick-before l t S b in
+    let few : mids_in_use t (link_of S.links p) < MAX_MESSAGE_IDS = ltb-true _ _ (and-right (ltb (length (link_of S.links p).waiting) 64) _ (and-right (ltb (length S.exchanges) 256) _ place)) in
+    let amid : Amid (x ∷ l) t S1 = record {
+      before = record { reads = made.reads; later = omega arith };
+      unsealed = m.unsealed;
+      mids = all-links (λ (k : Peer) (u : LinkState). HasMids u) p s S.links (enough-ids t (link_of S.links p) w (m.kept.mids p) (omega arith) few) (λ k away. m.kept.mids k);
+      in_time = all-push (λ (e : Exchange). ticked l < e.since + MAX_TRANSMIT_WAIT) S.exchanges (exchange_for t c q n.token S) r.in_time (omega (arith, tick));
+    } in
+    let early : IsEarly (x ∷ l) S1 p = all-links (λ (k : Peer) (u : LinkState). (o : Outstanding) → u.outstanding ≡ Some o → ticked l < due_of o) p s S.links
+    (λ o is. undue (ticked l) (link_of S.links p) o (r.links p) is) (λ k away o is. undue (ticked l) (link_of S.links k) o (r.links k) is) p in
+    let moved = next-moves (x ∷ l) t p S1 amid refl early in
+    record {
+      reading = moved.0;
+      rests = record {
+        reads = moved.1.amid.before.reads;
+        quiet = moved.1.quiet;
+        links = λ k. by k moved.0 moved.1 moved.2 (same_peer p k) refl;
+        in_time = moved.1.amid.in_time;
+        served = subst (λ (cs : List Conn). AllByRecursion (λ (y : Conn). IsServed (next t p S1).exchanges y.pending) cs) (sym moved.1.conns)
+            (served-kept S1.exchanges (next t p S1).exchanges moved.1.has S1.conns
+            (all-map (pend c (Some (length S.entries))) (λ (y : Conn). IsServed S1.exchanges y.pending) S.conns
+            (all-more _ _ (λ y k. served-new S.exchanges (exchange_for t c q n.token S) c y k) S.conns r.served)));
+      };
+      mids = moved.1.amid.mids;
+    }
+  where
+    undue : (tick : ℕ) (s : LinkState) (o : Outstanding) → LinkRests tick s → s.outstanding ≡ Some o → tick < due_of o
+    undue tick s o h is = subst (λ (v : Option Outstanding). IsUndue tick v s.waiting) is h
+
+    by : (k : Peer) (n1 : List Noted) → Moved (noted t (Asks c a) (Begins q) ∷ m.kept.reading) t q.peer (begins t c a q n.token n.text n.word S) n1 (next t q.peer (begins t c a q n.token n.text n.word S))
+        → RestAt n1 (next t q.peer (begins t c a q n.token n.text n.word S)) q.peer → (v : Bool) → same_peer q.peer k ≡ v
+        → RestAt n1 (next t q.peer (begins t c a q n.token n.text n.word S)) k
+    by k n1 moved rest true is = subst (RestAt n1 (next t q.peer (begins t c a q n.token n.text n.word S))) (same_peer-same q.peer k is) rest
+    by k n1 moved rest false is =
+        let same = moved.others k is ∙ link-other q.peer k (queued t (waits n.token n.text n.word) (link_of S.links q.peer)) is S.links in
+        rw (same, moved.goes.tick) (m.kept.rests.links k)
+
+pub asks-keeps : AsksKeeps
+asks-keeps t c a n S m h proper numbered = by a.sense refl
+  where
+    refusal : (cause : Cause) (status : ℕ) → a.sense ≡ Refuses cause status → IsRefusal cause
+    refusal cause status is = subst IsProper is proper
+
+    by : (s : Sense) → a.sense ≡ s → Kept (asked_by s t c a n S)
+    by (Refuses cause status) is = at-once t c a cause S m h (rw (is) tt)
+        (λ l k stands. caused l t k cause (refusal cause status is) (record { conn = c; ask = a; status = status; asked = record { moment = t; note = Plain; stands = stands }; sense = is }))
+    by (Requests q) is = place (has_place t q.peer S) refl
+      where
+        place : (v : Bool) → has_place t q.peer S ≡ v → Kept (cond v (next t q.peer (begins t c a q n.token n.text n.word S)) (refused t c a C.Busy S))
+        place true e = opened-for t c a q n S m h is (numbered q is e) e
+        place false e = at-once t c a C.Busy S m h (rw (is) (room-same m.kept.reading t q S (before-step t S m) ∙ e))
+            (λ l k stands. (refl, record { moment = t; conn = c; ask = a; request = q; stands = stands; sense = is }))
+
+-- before the first step
+
+pub start-keeps : StartKeeps
+start-keeps = record {
+  reading = [];
+  rests = record {
+    reads = record {
+      entries_are = refl;
+      legal = tt;
+      sealed_is = refl;
+      moment_is = refl;
+      opened_are = refl;
+      issued_are = refl;
+      conns_are = refl;
+      keys = refl;
+      exchanges_are = tt;
+      tokens_are = tt;
+      waiting_are = tt;
+      links_are = λ p. record { turn = refl; last = refl; count_up = tt; given = λ t later. refl; waits = tt; awaits = λ token. refl; acks = λ mid token. refl; heard = record { repeats = λ t mid later. refl; live = λ t later. refl } };
+    };
+    quiet = refl;
+    links = λ p. refl;
+    in_time = tt;
+    served = tt;
+  };
+  mids = λ p. record { small = tt; enough = omega arith };
+}

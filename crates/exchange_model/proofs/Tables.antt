@@ -1,0 +1,152 @@
+-- What an entry leaves of what a state keeps.
+use Rattle.std.proofs.Common.{◌≡◌, ℕ, ◌<◌, ◌≤◌, Bool, true, false, cond, eqb, inl, inr, List, [], ◌∷◌, ◌++◌, length, Option, Some, None, refl, sym, ap, subst, ◌∙◌, arith, length-append}
+use Rattle.std.specs.Prelude.{find, is_none}
+use Rattle.std.proofs.lemmas.Bool.Decides.{eqb_tells}
+use Rattle.uri_map.specs.declared.peer.Peer.{Peer}
+use Rattle.ask_model.specs.Requests.{same_peer}
+use Rattle.ask_model.proofs.Endpoints.{same_peer-same, same_peer-itself}
+use Rattle.journal_book.specs.Entries.{Deed, Sends, Written}
+use Rattle.message_layer.specs.Values.{LinkState}
+use Rattle.history_laws.specs.Readings.{Noted, Note, First, entries, newest}
+use Rattle.history_laws.specs.Connections.{sealed_by, opened_by}
+use Rattle.history_laws.specs.Transmissions.{FirstSending, firsts_by, firsts, first_at, bears_token}
+use Rattle.history_laws.specs.Exchanges.{openings, waits_for, is_going, open_exchanges}
+use Rattle.history_laws.specs.Justified.{Follows}
+use Rattle.history_laws.specs.Worked.{noted}
+use Rattle.history_laws.proofs.Facts.{IsFirst-below}
+use Rattle.history_laws.proofs.Places.{at-keeps}
+use Rattle.history_laws.proofs.Replies.{first-stands}
+use Rattle.history_laws.proofs.Sent.{begun-keeps}
+use Rattle.history_links.specs.Agrees.{Agrees}
+use Rattle.history_links.proofs.Facts.{all-more}
+use Rattle.history_links.proofs.Ranks.{rank-keeps}
+use Rattle.history_links.proofs.Still.{Still, filter-same, first_at-still}
+use Rattle.exchange_model.specs.declared.kept.Exchange.{Exchange}
+use Rattle.exchange_model.specs.State.{PeerLink, State, link_of, with_link, conns_after}
+use Rattle.exchange_model.specs.Steps.{given_out}
+use Rattle.exchange_model.specs.Reads.{IsSentUnder, ExchangeIn, WaitsUnder, Reads}
+
+-- entries
+
+pub entries-length : (l : List Noted) → length (entries l) ≡ length l
+entries-length [] = refl
+entries-length (x ∷ older) =
+    let ih = entries-length older in
+    let more = length-append (entries older) (x.written ∷ []) in
+    omega (arith, ih, more)
+
+-- first sendings stay
+
+stays-by : (n t : ℕ) (d : Deed) (note : Note) (old : List FirstSending) (i : ℕ) (f : FirstSending) → i < n
+    → find (λ (g : FirstSending). eqb g.number i) old ≡ Some f → find (λ (g : FirstSending). eqb g.number i) (firsts_by n t d note old) ≡ Some f
+stays-by n t (Sends p b w) (First o m) old i f lt e = elim (eqb_tells n i) [ inl v ↦ let same = v.1 in absurd (omega (arith, lt, same)) | inr v ↦ rw (v.0) e ]
+stays-by n t d note old i f lt e = e
+
+pub first-below : (l : List Noted) (i : ℕ) (f : FirstSending) → first_at l i ≡ Some f → i < length l
+first-below l i f e = IsFirst-below l f.moment f.opening i f.peer f.message (first-stands l i f e)
+
+pub first-stays : (x : Noted) (l : List Noted) (i : ℕ) (f : FirstSending) → first_at l i ≡ Some f → first_at (x ∷ l) i ≡ Some f
+first-stays x l i f e = stays-by (length l) x.written.moment x.written.deed x.note (firsts l) i f (first-below l i f e) e
+
+-- exchanges
+
+pub under-stays : (x : Noted) (l : List Noted) (p : Peer) (token : List ℕ) (s : Option ℕ) → (bears_token l token ≡ false → bears_token (x ∷ l) token ≡ false)
+    → IsSentUnder l p token s → IsSentUnder (x ∷ l) p token s
+under-stays x l p token None unborne a = unborne a
+under-stays x l p token (Some i) unborne a = (a.0, first-stays x l i a.0 a.1, a.2, a.3)
+
+-- An entry after which an exchange waits for what it waited for leaves what is kept of it.
+pub exchange-stays : (x : Noted) (l : List Noted) (e : Exchange) → (bears_token l e.token ≡ false → bears_token (x ∷ l) e.token ≡ false)
+    → waits_for (x ∷ l) e.opening ≡ waits_for l e.opening → ExchangeIn l e → ExchangeIn (x ∷ l) e
+exchange-stays x l e unborne same a = record {
+  request = a.request;
+  opening = begun-keeps x l e.opening _ a.opening;
+  peer = a.peer;
+  number = rank-keeps x l e.opening _ a.opening ∙ a.number;
+  sending = same ∙ a.sending;
+  sent = under-stays x l e.peer e.token e.sending unborne a.sent;
+  ask = a.ask;
+  stands = at-keeps x l e.opening _ a.stands;
+}
+
+-- Nor does one that is nothing to any exchange.
+under-still : (l n : List Noted) (p : Peer) (token : List ℕ) (s : Option ℕ) → Still l n → IsSentUnder l p token s → IsSentUnder n p token s
+under-still l n p token None still a = rw (still.firsts_are) a
+under-still l n p token (Some i) still a = (a.0, first_at-still l n still i ∙ a.1, a.2, a.3)
+
+exchange-still : (l n : List Noted) → Still l n → (e : Exchange) → ExchangeIn l e → ExchangeIn n e
+exchange-still l n still e a = record {
+  request = a.request;
+  opening = still.begun_are e.opening ∙ a.opening;
+  peer = a.peer;
+  number = still.ranks_are e.opening a.opening ∙ a.number;
+  sending = still.waits_are e.opening ∙ a.sending;
+  sent = under-still l n e.peer e.token e.sending still a.sent;
+  ask = a.ask;
+  stands = still.stands e.opening _ a.stands;
+}
+
+open-still : (l n : List Noted) → Still l n → open_exchanges n ≡ open_exchanges l
+open-still l n still = rw (still.openings_are) (filter-same (is_going n) (is_going l) (λ o. ap is_none (still.ends_are o)) (openings l))
+
+-- the tables after an entry that is nothing to any exchange: links may have changed, but not what waits
+pub still-reads : (l : List Noted) (t : ℕ) (d : Deed) (note : Note) (S : State) (links : List PeerLink) → Reads l S → newest l ≤ t → Follows l t d note
+    → Still l (noted t d note ∷ l) → ((p : Peer) → (link_of links p).waiting ≡ (link_of S.links p).waiting) → ((p : Peer) → Agrees (noted t d note ∷ l) p (link_of links p))
+    → Reads (noted t d note ∷ l) (record {
+      entries = S.entries ++ record { moment = t; deed = d } ∷ [];
+      sealed = sealed_by d S.sealed;
+      moment = t;
+      opened = opened_by d S.opened;
+      issued = S.issued;
+      conns = conns_after S.conns (length S.entries) d;
+      exchanges = S.exchanges;
+      links = links;
+    })
+still-reads l t d note S links r later follows still waiting agrees =
+    let n = noted t d note ∷ l in record {
+      entries_are = ap (λ (es : List Written). es ++ record { moment = t; deed = d } ∷ []) r.entries_are;
+      legal = (r.legal, later, follows);
+      sealed_is = ap (sealed_by d) r.sealed_is;
+      moment_is = refl;
+      opened_are = ap (opened_by d) r.opened_are;
+      issued_are = ap length still.openings_are ∙ r.issued_are;
+      conns_are = rw (r.conns_are, sym (entries-length l), r.entries_are) refl;
+      keys = open-still l n still ∙ r.keys;
+      exchanges_are = all-more (ExchangeIn l) (ExchangeIn n) (exchange-still l n still) S.exchanges r.exchanges_are;
+      tokens_are = rw (still.firsts_are) r.tokens_are;
+      waiting_are = all-more _ (λ (e : Exchange). WaitsUnder (link_of links e.peer).waiting e) (λ e h. rw (waiting e.peer) h) S.exchanges r.waiting_are;
+      links_are = agrees;
+    }
+
+-- links
+
+pub link-same : (p : Peer) (s : LinkState) (xs : List PeerLink) → link_of (with_link p s xs) p ≡ s
+link-same p s [] = rw (same_peer-itself p) refl
+link-same p s (x ∷ xs) = by (same_peer x.peer p) refl (link-same p s xs)
+  where
+    by : (b : Bool) → same_peer x.peer p ≡ b → link_of (with_link p s xs) p ≡ s
+        → link_of (cond b (record { peer = x.peer; link = s } ∷ xs) (x ∷ with_link p s xs)) p ≡ s
+    by true e ih = rw (e) refl
+    by false e ih = rw (e) ih
+
+pub link-other : (p q : Peer) (s : LinkState) → same_peer p q ≡ false → (xs : List PeerLink) → link_of (with_link p s xs) q ≡ link_of xs q
+link-other p q s other [] = rw (other) refl
+link-other p q s other (x ∷ xs) = by (same_peer x.peer p) refl (link-other p q s other xs)
+  where
+    by : (b : Bool) → same_peer x.peer p ≡ b → link_of (with_link p s xs) q ≡ link_of xs q
+        → link_of (cond b (record { peer = x.peer; link = s } ∷ xs) (x ∷ with_link p s xs)) q ≡ link_of (x ∷ xs) q
+    by true e ih = let at_q : same_peer x.peer q ≡ false = subst (λ (r : Peer). same_peer r q ≡ false) (sym (same_peer-same x.peer p e)) other in rw (at_q) refl
+    by false e ih = rw (ih) refl
+
+-- What holds of the new link of an endpoint and of the links of the others holds of all.
+pub all-links : (P : Peer → LinkState → Type 0) (p : Peer) (s : LinkState) (xs : List PeerLink) → P p s
+    → ((q : Peer) → same_peer p q ≡ false → P q (link_of xs q)) → (q : Peer) → P q (link_of (with_link p s xs) q)
+all-links P p s xs here others q = by (same_peer p q) refl
+  where
+    by : (b : Bool) → same_peer p q ≡ b → P q (link_of (with_link p s xs) q)
+    by true e = subst (λ (r : Peer). P r (link_of (with_link p s xs) r)) (same_peer-same p q e) (subst (P p) (sym (link-same p s xs)) here)
+    by false e = subst (P q) (sym (link-other p q s e xs)) (others q e)
+
+-- What a link gives out is nothing to what it keeps of a history.
+pub given-agrees : (l : List Noted) (p : Peer) (s : LinkState) → Agrees l p s → Agrees l p (given_out s)
+given-agrees l p s a = record { turn = a.turn; last = a.last; count_up = a.count_up; given = a.given; waits = a.waits; awaits = a.awaits; acks = a.acks; heard = a.heard }

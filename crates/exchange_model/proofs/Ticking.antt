@@ -1,0 +1,238 @@
+-- A tick keeps that the journal stands, and that the state says what it says.
+use Rattle.std.proofs.Common.{◌≡◌, ℕ, ◌+◌, ◌<◌, ◌≤◌, ◌⊎◌, Bool, true, false, cond, not, inl, inr, List, [], ◌∷◌, map, Option, Some, None, refl, sym, subst, ◌∙◌, arith}
+use Rattle.std.specs.Prelude.{◌||◌, fold, filter, unwrap_or, is_none}
+use Rattle.std.specs.List.{AllByRecursion, list_any}
+use Rattle.std.proofs.lemmas.Bool.{false≢true, or_parts, not_from_false}
+use Rattle.std.proofs.lemmas.Bool.Decides.{leb_tells}
+use Rattle.std.proofs.lemmas.List.Sums.{length-filter, count_by-le-length}
+use Rattle.limits.specs.declared.TheConstants.{MAX_TRANSMIT_WAIT}
+use Rattle.uri_map.specs.declared.peer.Peer.{Peer}
+use Rattle.ask_model.specs.Requests.{same_peer}
+use Rattle.ask_model.specs.declared.cause.Cause.TheVariants as C
+use Rattle.journal_book.specs.Entries.{Passes, Fault}
+use Rattle.message_layer.specs.Values.{LinkState, empty_link}
+use Rattle.message_layer.specs.declared.state.Outstanding.{Outstanding}
+use Rattle.message_layer.specs.declared.state.Waiting.{Waiting}
+use Rattle.history_laws.specs.Readings.{Noted, Plain, ticked as at_tick}
+use Rattle.history_laws.specs.Confirming.{owed}
+use Rattle.history_laws.specs.Exchanges.{end_of}
+use Rattle.history_laws.specs.Worked.{noted}
+use Rattle.history_links.specs.Steps.{is_over, passed_link}
+use Rattle.history_links.proofs.Facts.{all-more, all-filter, all-passes}
+use Rattle.exchange_model.specs.declared.kept.Conn.{Conn}
+use Rattle.exchange_model.specs.declared.kept.Exchange.{Exchange}
+use Rattle.exchange_model.specs.State.{PeerLink, State, link_of}
+use Rattle.exchange_model.specs.Resting.{IsUndue, LinkRests, HasExchange, IsServed, Rests}
+use Rattle.exchange_model.specs.Steps.{is_past, is_in_vain, expires, is_gone, passes}
+use Rattle.exchange_model.specs.Keeping.{HasMids, Kept, MayStep, TicksKeeps, IsDone, TicksDo}
+use Rattle.exchange_model.specs.Laws.{Before}
+use Rattle.exchange_model.specs.Calls.{is_due, link_due, something_due, peer_of, move_all, timed_out, times_out}
+use Rattle.exchange_model.proofs.Amid.{Amid, RestAt}
+use Rattle.exchange_model.proofs.Ending.{ServedWith, Told, ends-told}
+use Rattle.exchange_model.proofs.Expiring.{expires-alike}
+use Rattle.exchange_model.proofs.Grounds.{IsOver, same-goes, both-go, over-moves}
+use Rattle.exchange_model.proofs.Lists.{all-both}
+use Rattle.exchange_model.proofs.Moving.{not-due, is_among, Ready, all-moved}
+use Rattle.exchange_model.proofs.TimingOut.{passed-over}
+use Rattle.exchange_model.proofs.Passing.{link-passed, passes-leads}
+use Rattle.exchange_model.proofs.Resting.{OpenIn, open-ones, rests-at-rest}
+
+abbrev passed_by : ℕ → List Noted → List Noted
+passed_by t l = noted t Passes Plain ∷ l
+
+-- an exchange that a tick ended, as it is told
+abbrev IsTimedOut : List Noted → Exchange → Type 0
+IsTimedOut l e = IsOver l e (Fault C.Timeout (unwrap_or e.sending e.opening))
+
+-- After the entry nothing is given up, and what goes on is in time.
+
+passed-mids : (t : ℕ) (gone : List ℕ → Bool) (s : LinkState) → HasMids s → HasMids (passed_link t gone s)
+passed-mids t gone s h =
+    let goes = λ (w : Waiting). not (gone w.token) in
+    let same = length-filter goes s.waiting in
+    let fewer = count_by-le-length goes s.waiting in
+    let enough = h.enough in
+    record { small = all-filter (λ (w : Waiting). w.first_mid < 65536) goes s.waiting h.small; enough = omega (arith, same, fewer, enough) }
+
+passed-goes : (t : ℕ) (gone : List ℕ → Bool) (s : LinkState) → is_over t (passed_link t gone s).outstanding ≡ false
+passed-goes t gone s = by (is_over t s.outstanding) refl
+  where
+    by : (b : Bool) → is_over t s.outstanding ≡ b → is_over t (cond b None s.outstanding) ≡ false
+    by true e = refl
+    by false e = e
+
+going-in-time : (t : ℕ) (links : List PeerLink) (e : Exchange) → not (expires t links e) ≡ true → t < e.since + MAX_TRANSMIT_WAIT
+going-in-time t links e h =
+    let now = or_parts (is_past t e) (is_in_vain t (link_of links e.peer) e) (going (expires t links e) h) in
+    elim (leb_tells (e.since + MAX_TRANSMIT_WAIT) t) [ inl w ↦ absurd (false≢true (sym now.0 ∙ w.0)) | inr w ↦ w.1 ]
+  where
+    going : (b : Bool) → not b ≡ true → b ≡ false
+    going true k = absurd (false≢true k)
+    going false k = refl
+
+-- an endpoint without a link
+pub unlinked : (xs : List PeerLink) (p : Peer) → is_among (map peer_of xs) p ≡ false → link_of xs p ≡ empty_link
+unlinked [] p h = refl
+unlinked (x ∷ xs) p h =
+    let away = or_parts (same_peer x.peer p) (is_among (map peer_of xs) p) h in
+    rw (away.0) (unlinked xs p away.1)
+
+pub passed-ready : (l : List Noted) (t : ℕ) (S : State) → Rests l S → S.sealed ≡ false → S.moment ≤ t → ((p : Peer) → HasMids (link_of S.links p))
+    → Ready (map peer_of (passes t S).links) (passed_by t l) t (passes t S)
+passed-ready l t S r unsealed later mids =
+    let led = passes-leads l t S (record { reads = r.reads; later = later }) (r.reads.sealed_is ∙ unsealed, rests-at-rest l S r) in
+    record {
+      amid = record {
+        before = record { reads = led.reads; later = omega arith };
+        unsealed = unsealed;
+        mids = λ p. subst HasMids (sym (link-passed t S p S.links)) (passed-mids t (is_gone t S) (link_of S.links p) (mids p));
+        in_time = all-more _ (λ (e : Exchange). t < e.since + MAX_TRANSMIT_WAIT) (going-in-time t S.links) (passes t S).exchanges (all-passes (λ (e : Exchange). not (expires t S.links e)) S.exchanges);
+      };
+      quiet = refl;
+      tick = refl;
+      goes = λ p. subst (λ (s : LinkState). is_over t s.outstanding ≡ false) (sym (link-passed t S p S.links)) (passed-goes t (is_gone t S) (link_of S.links p));
+      rest = λ p away. rested p (unlinked (passes t S).links p away);
+    }
+  where
+    rested : (p : Peer) → link_of (passes t S).links p ≡ empty_link → RestAt (passed_by t l) (passes t S) p
+    rested p e = rw (e) refl
+
+-- Those that end are over, and each that a connection waits for goes on or ends.
+
+ended-over : (l : List Noted) (t : ℕ) (S : State) → Before l t S → AllByRecursion (IsTimedOut (passed_by t l)) (filter (expires t S.links) S.exchanges)
+ended-over l t S b =
+    let q = expires t S.links in
+    all-more (λ (e : Exchange). OpenIn l e × (q e ≡ true)) (IsTimedOut (passed_by t l)) one (filter q S.exchanges)
+    (all-both (OpenIn l) (λ (e : Exchange). q e ≡ true) (filter q S.exchanges) (all-filter (OpenIn l) q S.exchanges (open-ones l S b.reads)) (all-passes q S.exchanges))
+  where
+    none-of : {X : Type 0} (v : Option X) → is_none v ≡ true → v ≡ None
+    none-of None k = refl
+    none-of (Some x) k = absurd (false≢true k)
+
+    one : (e : Exchange) → OpenIn l e × (expires t S.links e ≡ true) → IsTimedOut (passed_by t l) e
+    one e h = passed-over l t e h.0.0 (none-of (end_of l e.opening) h.0.1) (sym (expires-alike l t S.links e b.reads.legal b.reads.links_are h.0.0) ∙ h.1)
+
+goes-or-ends : (q : Exchange → Bool) (es : List Exchange) (k : ℕ) → HasExchange es k → HasExchange (filter (λ (e : Exchange). not (q e)) es) k ⊎ HasExchange (filter q es) k
+goes-or-ends q [] k h = absurd h
+goes-or-ends q (e ∷ es) k (inl h) = by (q e)
+  where
+    by : (b : Bool) → HasExchange (cond (not b) (e ∷ filter (λ (x : Exchange). not (q x)) es) (filter (λ (x : Exchange). not (q x)) es)) k ⊎ HasExchange (cond b (e ∷ filter q es) (filter q es)) k
+    by true = inr (inl h)
+    by false = inl (inl h)
+goes-or-ends q (e ∷ es) k (inr h) = by (q e) (goes-or-ends q es k h)
+  where
+    by : (b : Bool) → HasExchange (filter (λ (x : Exchange). not (q x)) es) k ⊎ HasExchange (filter q es) k
+        → HasExchange (cond (not b) (e ∷ filter (λ (x : Exchange). not (q x)) es) (filter (λ (x : Exchange). not (q x)) es)) k ⊎ HasExchange (cond b (e ∷ filter q es) (filter q es)) k
+    by true (inl w) = inl w
+    by true (inr w) = inr (inr w)
+    by false (inl w) = inl (inr w)
+    by false (inr w) = inr w
+
+served-either : (S S1 : State) (q : Exchange → Bool) → ((k : ℕ) → HasExchange (filter (λ (e : Exchange). not (q e)) S.exchanges) k → HasExchange S1.exchanges k)
+    → (p : Option ℕ) → IsServed S.exchanges p → IsServed S1.exchanges p ⊎ IsServed (filter q S.exchanges) p
+served-either S S1 q has None h = inl tt
+served-either S S1 q has (Some k) h = elim (goes-or-ends q S.exchanges k h) [ inl w ↦ inl (has k w) | inr w ↦ inr w ]
+
+-- Who waits for them is told.
+all-told : (es : List Exchange) (l : List Noted) (t : ℕ) (S : State) → Amid l t S → owed l ≡ None → ((p : Peer) → RestAt l S p) → ServedWith S.exchanges es S.conns
+    → AllByRecursion (IsTimedOut l) es → (n : List Noted) × Told l t S [] n (fold (times_out t) S es)
+all-told [] l t S a quiet rest served over = (l, record { goes = same-goes l; amid = a; quiet = quiet; rest = rest; served = served })
+all-told (e ∷ es) l t S a quiet rest served over =
+    let one = ends-told l t S e es (Fault C.Timeout (unwrap_or e.sending e.opening)) a quiet rest served over.0 in
+    let m = one.1 in
+    let still = all-more (IsTimedOut l) (IsTimedOut one.0) (λ x h. over-moves l one.0 x (Fault C.Timeout (unwrap_or x.sending x.opening)) m.goes h) es over.1 in
+    let more = all-told es one.0 t (times_out t S e) m.amid m.quiet m.rest m.served still in
+    let a = more.1 in
+    (more.0, record { goes = both-go l one.0 more.0 m.goes a.goes; amid = a.amid; quiet = a.quiet; rest = a.rest; served = a.served })
+
+-- nobody waits for what has ended
+all-served : (es : List Exchange) (cs : List Conn) → ServedWith es [] cs → AllByRecursion (λ (x : Conn). IsServed es x.pending) cs
+all-served es cs a = all-more _ (λ (x : Conn). IsServed es x.pending) (λ x h. one x.pending h) cs a
+  where
+    one : (p : Option ℕ) → IsServed es p ⊎ IsServed [] p → IsServed es p
+    one p (inl h) = h
+    one None (inr h) = tt
+    one (Some k) (inr h) = absurd h
+
+-- what a tick leaves at which something is due
+record Done (t : ℕ) (S : State) : Type 0 where
+  kept : Kept S
+  links : (p : Peer) → LinkRests t (link_of S.links p)
+  in_time : AllByRecursion (λ (e : Exchange). t < e.since + MAX_TRANSMIT_WAIT) S.exchanges
+
+all-done : (t : ℕ) (S : State) → MayStep t S → Done t (fold (times_out t) (move_all t (passes t S)) (timed_out t S))
+all-done t S may =
+    let l = may.kept.reading in
+    let r = may.kept.rests in
+    let S1 = passes t S in
+    let es = timed_out t S in
+    let moved = all-moved (map peer_of S1.links) (passed_by t l) t S1 (passed-ready l t S r may.unsealed may.later may.kept.mids) in
+    let m = moved.1 in
+    let S2 = move_all t S1 in
+    let served : ServedWith S2.exchanges es S2.conns =
+    subst (ServedWith S2.exchanges es) (sym m.conns)
+    (all-more _ _ (λ (x : Conn) h. served-either S S2 (expires t S.links) m.has x.pending h) S.conns r.served) in
+    let over = all-more (IsTimedOut (passed_by t l)) (IsTimedOut moved.0) (λ x h. over-moves (passed_by t l) moved.0 x (Fault C.Timeout (unwrap_or x.sending x.opening)) m.goes h) es
+    (ended-over l t S (record { reads = r.reads; later = may.later })) in
+    let told = all-told es moved.0 t S2 m.amid m.quiet m.rest served over in
+    let n = told.1 in
+    let S3 = fold (times_out t) S2 es in
+    let tick = n.goes.tick ∙ m.goes.tick in
+    record {
+      kept = record {
+        reading = told.0;
+        rests = record { reads = n.amid.before.reads; quiet = n.quiet; links = n.rest; in_time = n.amid.in_time; served = all-served S3.exchanges S3.conns n.served };
+        mids = n.amid.mids;
+      };
+      links = λ p. subst (λ (k : ℕ). LinkRests k (link_of S3.links p)) tick (n.rest p);
+      in_time = subst (λ (k : ℕ). AllByRecursion (λ (e : Exchange). k < e.since + MAX_TRANSMIT_WAIT) S3.exchanges) tick n.amid.in_time;
+    }
+
+pub ticks-keeps : TicksKeeps
+ticks-keeps t S may = by (something_due t S)
+  where
+    by : (b : Bool) → Kept (cond b (fold (times_out t) (move_all t (passes t S)) (timed_out t S)) S)
+    by true = (all-done t S may).kept
+    by false = may.kept
+
+-- Where it leaves no entry nothing was due.
+
+pub undue-link : (t : ℕ) (xs : List PeerLink) → list_any (link_due t) xs ≡ false → (p : Peer) → is_due t (link_of xs p).outstanding ≡ false
+undue-link t [] h p = refl
+undue-link t (x ∷ xs) h p =
+    let both = or_parts (link_due t x) (list_any (link_due t) xs) h in
+    by (same_peer x.peer p) both.0 (undue-link t xs both.1 p)
+  where
+    by : (b : Bool) → link_due t x ≡ false → is_due t (link_of xs p).outstanding ≡ false → is_due t (cond b x.link (link_of xs p)).outstanding ≡ false
+    by true here later = here
+    by false here later = later
+
+undue-rests : (t tick : ℕ) (s : LinkState) → LinkRests tick s → is_due t s.outstanding ≡ false → LinkRests t s
+undue-rests t tick s = by s.outstanding
+  where
+    by : (v : Option Outstanding) → IsUndue tick v s.waiting → is_due t v ≡ false → IsUndue t v s.waiting
+    by None h e = h
+    by (Some o) h e = not-due t o e
+
+none-ends : (t : ℕ) (links : List PeerLink) (es : List Exchange) → list_any (expires t links) es ≡ false → AllByRecursion (λ (e : Exchange). t < e.since + MAX_TRANSMIT_WAIT) es
+none-ends t links [] h = tt
+none-ends t links (e ∷ es) h =
+    let both = or_parts (expires t links e) (list_any (expires t links) es) h in
+    (going-in-time t links e (not_from_false (expires t links e) both.0), none-ends t links es both.1)
+
+pub ticks-do : TicksDo
+ticks-do t S may = by (something_due t S) refl
+  where
+    parts : (a b : Bool) → (a || b) ≡ false → (a ≡ false) × (b ≡ false)
+    parts true b e = absurd (false≢true (sym e))
+    parts false b e = (refl, e)
+
+    by : (b : Bool) → something_due t S ≡ b → IsDone t (cond b (fold (times_out t) (move_all t (passes t S)) (timed_out t S)) S)
+    by true e = let done = all-done t S may in record { links = done.links; in_time = done.in_time }
+    by false e =
+        let none = parts (list_any (link_due t) S.links) (list_any (expires t S.links) S.exchanges) e in
+        let r = may.kept.rests in
+        record {
+          links = λ p. undue-rests t (at_tick may.kept.reading) (link_of S.links p) (r.links p) (undue-link t S.links none.0 p);
+          in_time = none-ends t S.links S.exchanges none.1;
+        }

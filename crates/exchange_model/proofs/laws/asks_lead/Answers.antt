@@ -1,0 +1,9 @@
+use Rattle.exchange_model.proofs.Quiet.{asks-leads}
+use Rattle.exchange_model.proofs.Begins.{begins-leads}
+use Rattle.exchange_model.proofs.laws.asks_lead.Goals as goal
+
+pub returns-clause-refused : goal.returns-clause-refused
+returns-clause-refused c = asks-leads
+
+pub returns-clause-begins : goal.returns-clause-begins
+returns-clause-begins c = begins-leads

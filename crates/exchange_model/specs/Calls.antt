@@ -1,0 +1,170 @@
+-- What each call does: an input, and all that is due because of it.
+use Rattle.std.specs.Prelude.{ℕ, Bool, false, ◌&&◌, ◌||◌, ◌==◌, nat_lt, nat_le, List, [], ◌∷◌, length, map, filter, fold, Option, Some, None, is_some, unwrap_or, Result, Ok, Err, if◌then◌else◌}
+use Rattle.std.specs.List.{find, list_any}
+use Rattle.limits.specs.declared.TheConstants.{MAX_DATAGRAM_LEN, MAX_EXCHANGES, MAX_MESSAGE_IDS, MAX_WAITING}
+use Rattle.coap_codec.specs.Spelling.{Content}
+use Rattle.coap_codec.specs.Reading.{message_at}
+use Rattle.coap_codec.specs.declared.fault.CodecFault.{CodecFault}
+use Rattle.uri_map.specs.declared.peer.Peer.{Peer}
+use Rattle.ask_model.specs.declared.cause.Cause.{Cause}
+use Rattle.ask_model.specs.declared.cause.Cause.TheVariants as C
+use Rattle.ask_model.specs.Requests.{Sense, Requests, Refuses}
+use Rattle.ask_model.specs.Views.{Ask}
+use Rattle.journal_book.specs.Entries.{Grounds, Live, Fault}
+use Rattle.history_laws.specs.Responses.{is_whole}
+use Rattle.message_layer.specs.Values.{LinkState}
+use Rattle.message_layer.specs.Sending.{due_of, mids_in_use}
+use Rattle.message_layer.specs.Hearing.{is_repeat, replies, reset_for, verdict_of}
+use Rattle.message_layer.specs.declared.state.Outstanding.{Outstanding}
+use Rattle.message_layer.specs.declared.state.Reply.TheVariants as R
+use Rattle.message_layer.specs.declared.state.Waiting.{Waiting}
+use Rattle.message_layer.specs.declared.verdict.News.{News}
+use Rattle.message_layer.specs.declared.verdict.News.TheVariants as N
+use Rattle.message_layer.specs.declared.verdict.Verdict.{Verdict}
+use Rattle.history_laws.specs.Hearing.{is_such}
+use Rattle.history_links.specs.Steps.{ended_token}
+use Rattle.exchange_model.specs.declared.kept.Conn.{Conn}
+use Rattle.exchange_model.specs.declared.kept.Exchange.{Exchange}
+use Rattle.exchange_model.specs.State.{PeerLink, State, link_of}
+use Rattle.exchange_model.specs.Steps.{asks, answers, begins, confirms, hears_nothing, hears, sends_first, sends_copy, is_under, expires, passes}
+
+-- The message that waits first goes out where nothing is outstanding (RFC 7252 section 4.7).
+abbrev pub next_by : ℕ → Peer → Option Outstanding → List Waiting → State → State
+next_by t p None (w ∷ ws) S = sends_first t p w ws S
+next_by t p None [] S = S
+next_by t p (Some o) ws S = S
+
+abbrev pub next : ℕ → Peer → State → State
+next t p S = next_by t p (link_of S.links p).outstanding (link_of S.links p).waiting S
+
+-- An ask that is refused, or for which there is no place, is answered in its own step.
+abbrev pub refused : ℕ → ℕ → Ask → Cause → State → State
+refused t c a cause S =
+    answers t c (length S.entries) (Fault cause (length S.entries)) (asks t c a S)
+
+-- a place among the open exchanges, one among the messages that wait at the endpoint, and an ID
+abbrev pub has_place : ℕ → Peer → State → Bool
+has_place t p S =
+    nat_lt (length S.exchanges) MAX_EXCHANGES
+    && (nat_lt (length (link_of S.links p).waiting) MAX_WAITING
+    && nat_lt (mids_in_use t (link_of S.links p)) MAX_MESSAGE_IDS)
+
+-- what an ask is handed in with: the token and the bytes of its message, and a random word
+pub record Numbers : Type 0 where
+  pub token : List ℕ
+  pub text : List ℕ
+  pub word : ℕ
+
+abbrev pub asked_by : Sense → ℕ → ℕ → Ask → Numbers → State → State
+asked_by (Refuses cause status) t c a n S = refused t c a cause S
+asked_by (Requests q) t c a n S =
+    if has_place t q.peer S then next t q.peer (begins t c a q n.token n.text n.word S)
+    else refused t c a C.Busy S
+
+abbrev pub asked : ℕ → ℕ → Ask → Numbers → State → State
+asked t c a n S = asked_by a.sense t c a n S
+
+-- ACKs and RSTs are given
+abbrev pub given_back : ℕ → Peer → List (List ℕ) → State → State
+given_back t p [] S = S
+given_back t p (b ∷ bs) S = given_back t p bs (confirms t p b S)
+
+-- An exchange ends on these grounds: the connection whose ask opened it is answered, where it waits
+-- still.
+abbrev pub is_pending : ℕ → Option ℕ → Bool
+is_pending k None = false
+is_pending k (Some j) = j == k
+
+abbrev pub waits_on : Exchange → Conn → Bool
+waits_on e x = (x.id == e.conn) && is_pending e.opening x.pending
+
+abbrev pub ends : ℕ → Grounds → Exchange → State → State
+ends t g e S = if list_any (waits_on e) S.conns then answers t e.conn e.opening g S else S
+
+abbrev pub ends_if : ℕ → Grounds → Option Exchange → State → State
+ends_if t g None S = S
+ends_if t g (Some e) S = ends t g e S
+
+-- what a message ends, and on which grounds: the reply with this number, or the Reset
+abbrev pub ended_in : Option (List ℕ) → List Exchange → Option Exchange
+ended_in None es = None
+ended_in (Some token) es = find (is_under token) es
+
+abbrev pub grounds_by : News → ℕ → Content → Grounds
+grounds_by (N.Reset token) n m = Fault C.Reset n
+grounds_by news n m = if is_whole m then Live (n ∷ []) else Fault C.NotUnderstood n
+
+-- A message that is new: it is answered, the next one of the proxy goes out, and what it ends is
+-- told.
+abbrev pub takes_new : ℕ → Peer → List ℕ → Content → Verdict → State → State
+takes_new t p d m v S =
+    ends_if t (grounds_by v.news (length S.entries) m)
+    (ended_in (ended_token v.news m.token) S.exchanges)
+    (next t p (given_back t p (replies m.mid v.reply) (hears t p d m S)))
+
+-- where 1,024 are remembered one more counts as lost, and is no entry
+abbrev pub takes_by : ℕ → Peer → List ℕ → Content → Verdict → News → State → State
+takes_by t p d m v N.Lost S = S
+takes_by t p d m v news S = takes_new t p d m v S
+
+-- one that repeats another is answered as that one was
+abbrev pub repeats : ℕ → LinkState → Content → Bool
+repeats t s m = is_such m.kind && is_some (find (is_repeat t m.mid) s.heard)
+
+abbrev pub takes : ℕ → Peer → List ℕ → Content → Verdict → State → State
+takes t p d m v S =
+    if repeats t (link_of S.links p) m
+    then given_back t p (replies m.mid v.reply) (hears_nothing t p d S)
+    else takes_by t p d m v v.news S
+
+abbrev pub resets : Option ℕ → List (List ℕ)
+resets None = []
+resets (Some mid) = replies mid R.Rst
+
+abbrev pub reads_so : ℕ → Peer → List ℕ → Result Content CodecFault → State → State
+reads_so t p d (Ok m) S = takes t p d m (verdict_of t (link_of S.links p) m) S
+reads_so t p d (Err e) S = given_back t p (resets (reset_for d)) (hears_nothing t p d S)
+
+-- A datagram above 2,048 bytes, or from an endpoint to which nothing was sent, counts as lost.
+abbrev pub heard : ℕ → Peer → List ℕ → State → State
+heard t p d S =
+    if is_some (link_of S.links p).last_mid && nat_le (length d) MAX_DATAGRAM_LEN
+    then reads_so t p d (message_at d) S else S
+
+-- A tick does what is due, and leaves no entry where nothing is: a copy, an end, or a message given
+-- up.
+abbrev pub is_due : ℕ → Option Outstanding → Bool
+is_due t None = false
+is_due t (Some o) = nat_le (due_of o) t
+
+abbrev pub link_due : ℕ → PeerLink → Bool
+link_due t x = is_due t x.link.outstanding
+
+abbrev pub something_due : ℕ → State → Bool
+something_due t S =
+    list_any (link_due t) S.links || list_any (expires t S.links) S.exchanges
+
+-- At each endpoint a copy goes out that is due, or the next message where one was given up.
+abbrev pub moves_by : ℕ → Peer → Option Outstanding → State → State
+moves_by t p None S = next t p S
+moves_by t p (Some o) S = if is_due t (Some o) then sends_copy t p o S else S
+
+abbrev pub moves : ℕ → State → Peer → State
+moves t S p = moves_by t p (link_of S.links p).outstanding S
+
+abbrev pub peer_of : PeerLink → Peer
+peer_of x = x.peer
+
+abbrev pub move_all : ℕ → State → State
+move_all t S = fold (moves t) S (map peer_of S.links)
+
+-- The exchanges that end are told, in the order in which they were opened.
+abbrev pub timed_out : ℕ → State → List Exchange
+timed_out t S = filter (expires t S.links) S.exchanges
+
+abbrev pub times_out : ℕ → State → Exchange → State
+times_out t S e = ends t (Fault C.Timeout (unwrap_or e.sending e.opening)) e S
+
+abbrev pub ticked : ℕ → State → State
+ticked t S =
+    if something_due t S then fold (times_out t) (move_all t (passes t S)) (timed_out t S) else S

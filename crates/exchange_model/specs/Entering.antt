@@ -1,0 +1,309 @@
+-- What each call leaves, in one piece: the entries that it adds, in order, and each table after it.
+use Rattle.std.specs.Prelude.{◌≡◌, ℕ, ◌+◌, ◌<◌, ◌≤◌, Bool, true, false, not, nat_lt, List, [], ◌∷◌, ◌++◌, length, map, filter, Option, Some, None, option_map, is_some, unwrap_or, Ok, Err, if◌then◌else◌, ⊤}
+use Rattle.std.specs.List.{AllByRecursion, list_any}
+use Rattle.std.specs.Str.{bytes_eq}
+use Rattle.limits.specs.declared.TheConstants.{MAX_DATAGRAM_LEN}
+use Rattle.coap_codec.specs.Spelling.{Content}
+use Rattle.coap_codec.specs.Reading.{message_at}
+use Rattle.coap_codec.specs.declared.fault.CodecFault.{CodecFault}
+use Rattle.uri_map.specs.declared.peer.Peer.{Peer}
+use Rattle.ask_model.specs.declared.cause.Cause.{Cause}
+use Rattle.ask_model.specs.declared.cause.Cause.TheVariants as C
+use Rattle.ask_model.specs.Requests.{CoapRequest, Requests, Refuses, same_peer}
+use Rattle.ask_model.specs.Views.{Ask}
+use Rattle.journal_book.specs.Entries.{Grounds, Fault, Deed, Asks, Sends, Hears, Passes, Answers}
+use Rattle.message_layer.specs.Values.{LinkState, was_dropped}
+use Rattle.message_layer.specs.Sending.{due_of, first_sent, waits, submitted, ticked as call_ticked}
+use Rattle.message_layer.specs.Hearing.{ignored, verdict_of, replies, reset_for, applied, hears as call_hears}
+use Rattle.message_layer.specs.declared.state.Outstanding.{Outstanding}
+use Rattle.message_layer.specs.declared.state.Reply.TheVariants as R
+use Rattle.message_layer.specs.declared.state.Waiting.{Waiting}
+use Rattle.message_layer.specs.declared.verdict.News.TheVariants as N
+use Rattle.message_layer.specs.declared.verdict.Verdict.{Verdict}
+use Rattle.history_links.specs.Steps.{ended_token}
+use Rattle.exchange_model.specs.declared.kept.Conn.{Conn}
+use Rattle.exchange_model.specs.declared.kept.Exchange.{Exchange}
+use Rattle.exchange_model.specs.State.{PeerLink, State, link_of, with_link}
+use Rattle.exchange_model.specs.Steps.{entered, exchange_for, given_out, went_out, is_other, expires, is_gone}
+use Rattle.exchange_model.specs.Calls.{Numbers, has_place, asked, waits_on, ended_in, grounds_by, heard, something_due, timed_out, ticked}
+use Rattle.exchange_model.specs.Keeping.{MayStep, IsNumbered}
+use Rattle.exchange_model.specs.Links.{awaits_no_more, rid_of}
+
+-- entries one after another
+abbrev pub entered_all : ℕ → List Deed → State → State
+entered_all t [] S = S
+entered_all t (d ∷ ds) S = entered_all t ds (entered t d S)
+
+-- a message that goes out for the first time: its token, and the number of the entry
+pub record Going : Type 0 where
+  pub token : List ℕ
+  pub number : ℕ
+
+abbrev pub going_as : ℕ → Option Waiting → List Going
+going_as i None = []
+going_as i (Some w) = record { token = w.token; number = i } ∷ []
+
+-- The exchange of each that went out keeps the number of that entry.
+abbrev pub sent_as : List Going → List Exchange → List Exchange
+sent_as [] es = es
+sent_as (g ∷ gs) es = sent_as gs (map (went_out g.token g.number) es)
+
+abbrev pub first_deeds : ℕ → Peer → Option ℕ → Option Waiting → List Deed
+first_deeds t p last_mid None = []
+first_deeds t p last_mid (Some w) =
+    let o = first_sent t last_mid w in Sends p o.datagram (Some o.timeout) ∷ []
+
+-- the message that waits first, where it has its turn
+abbrev pub in_turn : Bool → List Waiting → Option Waiting
+in_turn false ws = None
+in_turn true [] = None
+in_turn true (w ∷ ws) = Some w
+
+-- An ask that begins an exchange: its message goes out at once where nothing is outstanding at its
+-- endpoint (RFC 7252 section 4.7).
+abbrev pub at_once : Waiting → Option Outstanding → Option Waiting
+at_once w None = Some w
+at_once w (Some o) = None
+
+abbrev pub begin_deeds : ℕ → ℕ → Ask → CoapRequest → Numbers → State → List Deed
+begin_deeds t c a q n S =
+    let s = link_of S.links q.peer in let w = waits n.token n.text n.word in
+    Asks c a ∷ first_deeds t q.peer s.last_mid (at_once w s.outstanding)
+
+abbrev pub begun_exchange : ℕ → ℕ → CoapRequest → Numbers → State → Exchange
+begun_exchange t c q n S =
+    let w = at_once (waits n.token n.text n.word) (link_of S.links q.peer).outstanding in
+    let e = exchange_for t c q n.token S in record e {
+      sending = option_map (λ (x : Waiting). length S.entries + 1) w;
+    }
+
+abbrev pub begun : ℕ → ℕ → Ask → CoapRequest → Numbers → State → State
+begun t c a q n S =
+    let s = link_of S.links q.peer in let w = waits n.token n.text n.word in
+    let S1 = entered_all t (begin_deeds t c a q n S) S in record S1 {
+      issued = S.issued + 1;
+      exchanges = S.exchanges ++ begun_exchange t c q n S ∷ [];
+      links = with_link q.peer (given_out (submitted t w s)) S.links;
+    }
+
+-- one that is refused, or for which there is no place
+abbrev pub refusal_deeds : ℕ → Ask → Cause → State → List Deed
+refusal_deeds c a cause S =
+    Asks c a ∷ Answers c (length S.entries) (Fault cause (length S.entries)) ∷ []
+
+-- What ends is told to the connection that waits on it.
+abbrev pub told_deeds : Grounds → Exchange → List Conn → List Deed
+told_deeds g e cs = if list_any (waits_on e) cs then Answers e.conn e.opening g ∷ [] else []
+
+abbrev pub told_if : Grounds → Option Exchange → List Conn → List Deed
+told_if g None cs = []
+told_if g (Some e) cs = told_deeds g e cs
+
+-- A datagram with this ID and token, heeded as the verdict says: it is answered, the next message
+-- goes out where it ends what was outstanding, and the exchange that it ends is told.
+abbrev pub confirm : Peer → List ℕ → Deed
+confirm p bytes = Sends p bytes None
+
+abbrev pub heard_deeds : ℕ → Peer → List ℕ → ℕ → List ℕ → Verdict → Grounds → State → List Deed
+heard_deeds t p d mid token v g S =
+    let s = link_of S.links p in
+    Hears p d ∷ (map (confirm p) (replies mid v.reply)
+    ++ (first_deeds t p s.last_mid (in_turn v.ends s.waiting)
+    ++ told_if g (ended_in (ended_token v.news token) S.exchanges) S.conns))
+
+abbrev pub heard_going : Peer → ℕ → Verdict → State → List Going
+heard_going p mid v S =
+    going_as (length S.entries + 1 + length (replies mid v.reply))
+    (in_turn v.ends (link_of S.links p).waiting)
+
+abbrev pub heeded : ℕ → Peer → List ℕ → ℕ → List ℕ → Verdict → Grounds → State → State
+heeded t p d mid token v g S =
+    let s = link_of S.links p in let over = ended_token v.news token in
+    let S1 = entered_all t (heard_deeds t p d mid token v g S) S in record S1 {
+      exchanges = sent_as (heard_going p mid v S) (filter (is_other over) S.exchanges);
+      links = with_link p (given_out (awaits_no_more over (applied t mid token v s))) S.links;
+    }
+
+-- What is no message is reset where it has the ID of a CON, and is nothing else.
+abbrev pub garbled : Option ℕ → Verdict
+garbled None = ignored
+garbled (Some mid) = record { reply = R.Rst; remembered = false; ends = false; news = N.Quiet }
+
+abbrev pub IsMid : Option ℕ → ℕ → Type 0
+IsMid None mid = ⊤
+IsMid (Some n) mid = mid ≡ n
+
+-- A tick sends at a link a copy that is due, or the next message where one is given up that was
+-- sent five times.
+abbrev pub link_deeds : ℕ → Peer → LinkState → Option Outstanding → List Deed
+link_deeds t p s None = []
+link_deeds t p s (Some o) =
+    if nat_lt t (due_of o) then [] else
+    (if nat_lt o.retransmissions 4 then Sends p o.datagram None ∷ []
+    else first_deeds t p s.last_mid (in_turn true s.waiting))
+
+abbrev pub link_going : ℕ → LinkState → Option Outstanding → Option Waiting
+link_going t s None = None
+link_going t s (Some o) =
+    if nat_lt t (due_of o) then None else
+    (if nat_lt o.retransmissions 4 then None else in_turn true s.waiting)
+
+-- a link without what bears the token of an exchange that ends
+abbrev pub rid : (List ℕ → Bool) → PeerLink → LinkState
+rid gone x = rid_of gone x.link
+
+abbrev pub turn_deeds : ℕ → (List ℕ → Bool) → PeerLink → List Deed
+turn_deeds t gone x = link_deeds t x.peer (rid gone x) x.link.outstanding
+
+-- at each link, in order
+abbrev pub all_deeds : ℕ → (List ℕ → Bool) → List PeerLink → List Deed
+all_deeds t gone [] = []
+all_deeds t gone (x ∷ xs) = turn_deeds t gone x ++ all_deeds t gone xs
+
+-- the next entry has this number
+abbrev pub all_going : ℕ → (List ℕ → Bool) → ℕ → List PeerLink → List Going
+all_going t gone i [] = []
+all_going t gone i (x ∷ xs) =
+    going_as i (link_going t (rid gone x) x.link.outstanding)
+    ++ all_going t gone (i + length (turn_deeds t gone x)) xs
+
+abbrev pub link_after : ℕ → (List ℕ → Bool) → PeerLink → PeerLink
+link_after t gone x = record {
+  peer = x.peer;
+  link = given_out (call_ticked t (rid gone x)).0;
+}
+
+-- The exchanges that end are told, in the order in which they were opened.
+abbrev pub timeout_of : Exchange → Grounds
+timeout_of e = Fault C.Timeout (unwrap_or e.sending e.opening)
+
+abbrev pub over_deeds : List Exchange → List Conn → List Deed
+over_deeds [] cs = []
+over_deeds (e ∷ es) cs = told_deeds (timeout_of e) e cs ++ over_deeds es cs
+
+abbrev pub tick_deeds : ℕ → State → List Deed
+tick_deeds t S =
+    Passes ∷ (all_deeds t (is_gone t S) S.links ++ over_deeds (timed_out t S) S.conns)
+
+abbrev pub goes_on : ℕ → State → Exchange → Bool
+goes_on t S e = not (expires t S.links e)
+
+abbrev pub passed_by : ℕ → State → State
+passed_by t S =
+    let gone = is_gone t S in let S1 = entered_all t (tick_deeds t S) S in record S1 {
+      exchanges =
+          sent_as (all_going t gone (length S.entries + 1) S.links)
+          (filter (goes_on t S) S.exchanges);
+      links = map (link_after t gone) S.links;
+    }
+
+-- Each endpoint has one link.
+abbrev pub StandsOnce : List PeerLink → Type 0
+StandsOnce [] = ⊤
+StandsOnce (x ∷ xs) =
+    AllByRecursion (λ (y : PeerLink). same_peer x.peer y.peer ≡ false) xs × StandsOnce xs
+
+-- Between two calls each link's datagrams were given out.
+pub record IsDrained (S : State) : Type 0 where
+  pub once : StandsOnce S.links
+  pub out : AllByRecursion (λ (x : PeerLink). x.link.out ≡ []) S.links
+
+-- An ask that begins an exchange leaves just that.
+abbrev pub BeginsEnter : Type 0
+BeginsEnter =
+    (t c : ℕ) (a : Ask) (q : CoapRequest) (n : Numbers) (S : State)
+    → MayStep t S → IsDrained S → IsNumbered q n S
+    → a.sense ≡ Requests q → has_place t q.peer S ≡ true
+    → asked t c a n S ≡ begun t c a q n S
+
+-- Any other is answered at once.
+abbrev pub RefusalsEnter : Type 0
+RefusalsEnter =
+    (t c : ℕ) (a : Ask) (n : Numbers) (cause : Cause) (status : ℕ) (S : State)
+    → a.sense ≡ Refuses cause status
+    → asked t c a n S ≡ entered_all t (refusal_deeds c a cause S) S
+
+abbrev pub BusyEnters : Type 0
+BusyEnters =
+    (t c : ℕ) (a : Ask) (q : CoapRequest) (n : Numbers) (S : State)
+    → a.sense ≡ Requests q → has_place t q.peer S ≡ false
+    → asked t c a n S ≡ entered_all t (refusal_deeds c a C.Busy S) S
+
+-- a datagram of at most 2,048 bytes, from an endpoint to which something was sent
+pub record Comes (t : ℕ) (p : Peer) (d : List ℕ) (S : State) : Type 0 where
+  pub may : MayStep t S
+  pub drained : IsDrained S
+  pub known : is_some (link_of S.links p).last_mid ≡ true
+  pub short : length d ≤ MAX_DATAGRAM_LEN
+
+-- A message is heeded, also one that repeats another.
+abbrev pub MessageEnters : Type 0
+MessageEnters =
+    (t : ℕ) (p : Peer) (d : List ℕ) (m : Content) (S : State)
+    → Comes t p d S → message_at d ≡ Ok m
+    → let v = verdict_of t (link_of S.links p) m in
+    (v.news ≡ N.Lost → ⊥)
+    → heard t p d S
+    ≡ heeded t p d m.mid m.token v (grounds_by v.news (length S.entries) m) S
+
+-- So is what is no message, whatever its token and grounds.
+abbrev pub GarbledEnters : Type 0
+GarbledEnters =
+    (t : ℕ) (p : Peer) (d : List ℕ) (e : CodecFault) (mid : ℕ) (token : List ℕ) (g : Grounds)
+    (S : State)
+    → Comes t p d S → message_at d ≡ Err e → IsMid (reset_for d) mid
+    → heard t p d S ≡ heeded t p d mid token (garbled (reset_for d)) g S
+
+-- Where 1,024 are remembered one more is lost, as what is too long or from elsewhere.
+abbrev pub LostStays : Type 0
+LostStays =
+    (t : ℕ) (p : Peer) (d : List ℕ) (m : Content) (S : State)
+    → message_at d ≡ Ok m → (verdict_of t (link_of S.links p) m).news ≡ N.Lost
+    → heard t p d S ≡ S
+
+abbrev pub UnknownStays : Type 0
+UnknownStays =
+    (t : ℕ) (p : Peer) (d : List ℕ) (S : State)
+    → is_some (link_of S.links p).last_mid ≡ false → heard t p d S ≡ S
+
+abbrev pub LongStays : Type 0
+LongStays =
+    (t : ℕ) (p : Peer) (d : List ℕ) (S : State) → MAX_DATAGRAM_LEN < length d → heard t p d S ≡ S
+
+-- All of this is what the link of the endpoint counts as lost.
+abbrev pub DroppedStays : Type 0
+DroppedStays =
+    (t : ℕ) (p : Peer) (d : List ℕ) (S : State)
+    → (call_hears t d (link_of S.links p)).1 ≡ was_dropped → heard t p d S ≡ S
+
+-- A tick leaves just that, where something is due; and nothing else.
+abbrev pub TicksEnter : Type 0
+TicksEnter =
+    (t : ℕ) (S : State) → MayStep t S → IsDrained S → something_due t S ≡ true
+    → ticked t S ≡ passed_by t S
+
+abbrev pub TickStays : Type 0
+TickStays = (t : ℕ) (S : State) → something_due t S ≡ false → ticked t S ≡ S
+
+-- What is gone is what bears the token of an exchange that ends then.
+abbrev pub token_of : Exchange → List ℕ
+token_of e = e.token
+
+abbrev pub gone_tokens : ℕ → State → List (List ℕ)
+gone_tokens t S = map token_of (timed_out t S)
+
+abbrev pub is_one_of : List (List ℕ) → List ℕ → Bool
+is_one_of tokens token = list_any (bytes_eq token) tokens
+
+abbrev pub GoneTokens : Type 0
+GoneTokens = (t : ℕ) (S : State) → is_gone t S ≡ is_one_of (gone_tokens t S)
+
+-- Each of these leaves a state whose links gave out all.
+abbrev pub StaysDrained : Type 0
+StaysDrained =
+    (t : ℕ) (S : State) → IsDrained S
+    → ((c : ℕ) (a : Ask) (q : CoapRequest) (n : Numbers) → IsDrained (begun t c a q n S))
+    × ((p : Peer) (d : List ℕ) (mid : ℕ) (token : List ℕ) (v : Verdict) (g : Grounds)
+    → IsDrained (heeded t p d mid token v g S))
+    × IsDrained (passed_by t S)
+    × ((ds : List Deed) → IsDrained (entered_all t ds S))

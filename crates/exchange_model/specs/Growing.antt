@@ -1,0 +1,100 @@
+-- What each call adds to the journal, each entry at its moment, and what that does to the
+-- connections.
+use Rattle.std.specs.Prelude.{◌≡◌, ◌⊎◌, ℕ, ◌+◌, ◌<◌, Bool, true, false, List, [], ◌∷◌, ◌++◌, length, ⊤}
+use Rattle.std.specs.List.{AllByRecursion}
+use Rattle.uri_map.specs.declared.peer.Peer.{Peer}
+use Rattle.ask_model.specs.Views.{Ask}
+use Rattle.journal_book.specs.Entries.{Deed, Opens, Asks, Sends, Answers, Shuts, Seals, Written}
+use Rattle.exchange_model.specs.declared.kept.Conn.{Conn}
+use Rattle.exchange_model.specs.State.{State, conns_after}
+use Rattle.exchange_model.specs.Steps.{shuts, seals}
+use Rattle.exchange_model.specs.Calls.{Numbers}
+use Rattle.exchange_model.specs.Room.{KeptInRoom}
+use Rattle.exchange_model.specs.Sealing.{opens_in_room, asks_in_room, hears_in_room, late, ticks_in_room}
+
+-- what entries do to the connections, the first of which has this number
+abbrev pub conns_with : List Conn → ℕ → List Written → List Conn
+conns_with cs n [] = cs
+conns_with cs n (w ∷ ws) = conns_with (conns_after cs n w.deed) (n + 1) ws
+
+-- A step at this moment adds to the journal, and the connections follow from what it adds.
+pub record Adds (t : ℕ) (S S1 : State) : Type 0 where
+  pub more : List Written
+  pub entries : S1.entries ≡ S.entries ++ more
+  pub at : AllByRecursion (λ (w : Written). w.moment ≡ t) more
+  pub conns : S1.conns ≡ conns_with S.conns (length S.entries) more
+
+abbrev pub OpensAdd : Type 0
+OpensAdd = (t : ℕ) (S : State) → Adds t S (opens_in_room t S)
+
+abbrev pub ShutsAdd : Type 0
+ShutsAdd = (t c : ℕ) (S : State) → Adds t S (shuts t c S)
+
+abbrev pub SealsAdd : Type 0
+SealsAdd = (t : ℕ) (S : State) → Adds t S (seals t S)
+
+abbrev pub AsksAdd : Type 0
+AsksAdd = (t c : ℕ) (a : Ask) (n : Numbers) (S : State) → Adds t S (asks_in_room t c a n S)
+
+abbrev pub HearsAdd : Type 0
+HearsAdd = (t : ℕ) (p : Peer) (d : List ℕ) (S : State) → Adds t S (hears_in_room t p d S)
+
+abbrev pub LateAdds : Type 0
+LateAdds = (t : ℕ) (S : State) → Adds t S (late t S)
+
+abbrev pub TicksAdd : Type 0
+TicksAdd = (t : ℕ) (S : State) → Adds t S (ticks_in_room t S)
+
+-- an entry
+abbrev pub at_moment : ℕ → Deed → Written
+at_moment t d = record { moment = t; deed = d }
+
+-- Opening adds nothing, or the connection, or the seal.
+abbrev pub OpensAlone : Type 0
+OpensAlone =
+    (t : ℕ) (S : State) (x : Adds t S (opens_in_room t S))
+    → (x.more ≡ [])
+    ⊎ ((x.more ≡ at_moment t (Opens S.opened) ∷ []) ⊎ (x.more ≡ at_moment t Seals ∷ []))
+
+-- An ask of a connection, under this number, adds itself, messages, its own answer, or the seal.
+abbrev pub IsOfAsk : ℕ → ℕ → Ask → Deed → Type 0
+IsOfAsk k c a (Asks d b) = (d ≡ c) × (b ≡ a)
+IsOfAsk k c a (Sends p bytes timeout) = ⊤
+IsOfAsk k c a (Answers d j g) = (d ≡ c) × (j ≡ k)
+IsOfAsk k c a Seals = ⊤
+IsOfAsk k c a _ = ⊥
+
+abbrev pub AsksAnswer : Type 0
+AsksAnswer =
+    (t c : ℕ) (a : Ask) (n : Numbers) (S : State) (x : Adds t S (asks_in_room t c a n S))
+    → AllByRecursion (λ (w : Written). IsOfAsk (length S.entries) c a w.deed) x.more
+
+-- What is heard, and a tick, add nothing that a client does.
+abbrev pub by_client : Deed → Bool
+by_client (Opens c) = true
+by_client (Asks c a) = true
+by_client (Shuts c) = true
+by_client _ = false
+
+abbrev pub HasNoClient : List Written → Type 0
+HasNoClient ws = AllByRecursion (λ (w : Written). by_client w.deed ≡ false) ws
+
+abbrev pub HearsAnswer : Type 0
+HearsAnswer =
+    (t : ℕ) (p : Peer) (d : List ℕ) (S : State) (x : Adds t S (hears_in_room t p d S))
+    → HasNoClient x.more
+
+abbrev pub TicksAnswer : Type 0
+TicksAnswer = (t : ℕ) (S : State) (x : Adds t S (ticks_in_room t S)) → HasNoClient x.more
+
+-- The connections stand in the order in which they were opened, each under a number of its own.
+abbrev pub ConnsBelow : Type 0
+ConnsBelow =
+    (S : State) → KeptInRoom S → AllByRecursion (λ (x : Conn). x.id < S.opened) S.conns
+
+abbrev pub Rise : List Conn → Type 0
+Rise [] = ⊤
+Rise (x ∷ xs) = AllByRecursion (λ (y : Conn). x.id < y.id) xs × Rise xs
+
+abbrev pub ConnsRise : Type 0
+ConnsRise = (S : State) → KeptInRoom S → Rise S.conns

@@ -1,0 +1,105 @@
+-- The law of the steps: between two of them one reading of the journal is legal, at rest, and says
+-- what the state says.
+use Rattle.std.specs.Prelude.{◌≡◌, ℕ, ◌+◌, ◌<◌, ◌≤◌, true, false, List, [], length, Option, None}
+use Rattle.std.specs.List.{AllByRecursion}
+use Rattle.limits.specs.declared.TheConstants.{MAX_MESSAGE_IDS, MAX_TRANSMIT_WAIT}
+use Rattle.coap_codec.specs.Spelling.{Spells}
+use Rattle.uri_map.specs.declared.peer.Peer.{Peer}
+use Rattle.ask_model.specs.Requests.{CoapRequest, Sense, Requests, Refuses, request_message}
+use Rattle.ask_model.specs.Views.{Ask}
+use Rattle.history_laws.specs.Causes.{IsRefusal}
+use Rattle.history_laws.specs.Numbering.{token_number}
+use Rattle.message_layer.specs.Values.{LinkState}
+use Rattle.message_layer.specs.declared.state.Waiting.{Waiting}
+use Rattle.history_laws.specs.Readings.{Noted}
+use Rattle.history_laws.specs.Sealing.{MaySeal}
+use Rattle.history_laws.specs.Justified.{Stands}
+use Rattle.exchange_model.specs.declared.kept.Exchange.{Exchange}
+use Rattle.exchange_model.specs.State.{State, link_of}
+use Rattle.exchange_model.specs.Steps.{opens, shuts, seals}
+use Rattle.exchange_model.specs.Resting.{LinkRests, Rests, HasConn}
+use Rattle.exchange_model.specs.Calls.{Numbers, has_place, asked, heard, ticked}
+
+-- IDs are two bytes, and there are enough of them for all messages that wait.
+pub record HasMids (s : LinkState) : Type 0 where
+  pub small : AllByRecursion (λ (w : Waiting). w.first_mid < 65536) s.waiting
+  pub enough : length s.given + length s.waiting ≤ MAX_MESSAGE_IDS
+
+-- What holds of a core between two steps.
+pub record Kept (S : State) : Type 0 where
+  pub reading : List Noted
+  pub rests : Rests reading S
+  pub mids : (p : Peer) → HasMids (link_of S.links p)
+
+-- a core before its first step
+abbrev pub start : State
+start = record {
+  entries = [];
+  sealed = false;
+  moment = 0;
+  opened = 0;
+  issued = 0;
+  conns = [];
+  exchanges = [];
+  links = [];
+}
+
+abbrev pub StartKeeps : Type 0
+StartKeeps = Kept start
+
+-- before an input at this moment: the journal isn't sealed
+pub record MayStep (t : ℕ) (S : State) : Type 0 where
+  pub kept : Kept S
+  pub unsealed : S.sealed ≡ false
+  pub later : S.moment ≤ t
+
+-- The journal stands.
+abbrev pub KeptStands : Type 0
+KeptStands = (S : State) → Kept S → Stands S.entries
+
+abbrev pub OpensKeeps : Type 0
+OpensKeeps = (t : ℕ) (S : State) → MayStep t S → Kept (opens t S)
+
+-- A connection may be shut in a sealed journal too.
+abbrev pub ShutsKeeps : Type 0
+ShutsKeeps =
+    (t c : ℕ) (p : Option ℕ) (S : State) → Kept S → S.moment ≤ t → HasConn S.conns c p
+    → Kept (shuts t c S)
+
+abbrev pub SealsKeeps : Type 0
+SealsKeeps =
+    (t : ℕ) (S : State) → (m : MayStep t S) → MaySeal m.kept.reading → Kept (seals t S)
+
+-- What an ask is refused for is a refusal.
+abbrev pub IsProper : Sense → Type 0
+IsProper (Requests q) = Unit {0}
+IsProper (Refuses cause status) = IsRefusal cause
+
+-- Its message is spelled under the next token.
+pub record IsNumbered (q : CoapRequest) (n : Numbers) (S : State) : Type 0 where
+  pub spelled : Spells (request_message q 0 n.token) n.text
+  pub token_size : length n.token ≡ 8
+  pub number : token_number n.token ≡ S.issued
+
+abbrev pub AsksKeeps : Type 0
+AsksKeeps =
+    (t c : ℕ) (a : Ask) (n : Numbers) (S : State)
+    → MayStep t S → HasConn S.conns c None → IsProper a.sense
+    → ((q : CoapRequest) → a.sense ≡ Requests q → has_place t q.peer S ≡ true → IsNumbered q n S)
+    → Kept (asked t c a n S)
+
+abbrev pub HearsKeeps : Type 0
+HearsKeeps =
+    (t : ℕ) (p : Peer) (d : List ℕ) (S : State)
+    → MayStep t S → AllByRecursion (λ (b : ℕ). b < 256) d → Kept (heard t p d S)
+
+abbrev pub TicksKeeps : Type 0
+TicksKeeps = (t : ℕ) (S : State) → MayStep t S → Kept (ticked t S)
+
+-- After a tick nothing is due at its moment: no copy, no message that waits, no end of an exchange.
+pub record IsDone (t : ℕ) (S : State) : Type 0 where
+  pub links : (p : Peer) → LinkRests t (link_of S.links p)
+  pub in_time : AllByRecursion (λ (e : Exchange). t < e.since + MAX_TRANSMIT_WAIT) S.exchanges
+
+abbrev pub TicksDo : Type 0
+TicksDo = (t : ℕ) (S : State) → MayStep t S → IsDone t (ticked t S)

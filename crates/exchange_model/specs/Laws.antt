@@ -1,0 +1,147 @@
+-- Where its premise holds, an entry may follow, and the state after it says what the longer history
+-- says.
+use Rattle.std.specs.Prelude.{◌≡◌, ℕ, ◌<◌, ◌≤◌, true, false, List, ◌∷◌, length, Option, Some, None, is_some}
+use Rattle.limits.specs.declared.TheConstants.{MAX_DATAGRAM_LEN, MAX_MESSAGE_IDS, MAX_RETRANSMIT}
+use Rattle.coap_codec.specs.Spelling.{Content, Spells}
+use Rattle.uri_map.specs.declared.peer.Peer.{Peer}
+use Rattle.ask_model.specs.Requests.{CoapRequest, Requests, request_message}
+use Rattle.ask_model.specs.Views.{Ask}
+use Rattle.journal_book.specs.Entries.{Grounds, Opens, Asks, Sends, Hears, Passes, Answers, Shuts, Seals}
+use Rattle.history_laws.specs.Confirmations.{Confirmation}
+use Rattle.history_laws.specs.Numbering.{token_number}
+use Rattle.message_layer.specs.Sending.{due_of, first_sent}
+use Rattle.message_layer.specs.Hearing.{verdict_of, reset_for}
+use Rattle.message_layer.specs.declared.state.Waiting.{Waiting}
+use Rattle.message_layer.specs.declared.state.Outstanding.{Outstanding}
+use Rattle.message_layer.specs.declared.verdict.Verdict.{Verdict}
+use Rattle.history_laws.specs.Readings.{Noted, Plain, Begins, Confirms, Repeats, Garbled, ticked}
+use Rattle.history_laws.specs.Connections.{is_open, asks_of, answers_of}
+use Rattle.history_laws.specs.Transmissions.{mids_used, last_sent}
+use Rattle.history_laws.specs.Hearing.{repeated, can_be_remembered, has_room}
+use Rattle.history_laws.specs.Confirming.{owed}
+use Rattle.history_laws.specs.Sealing.{MaySeal}
+use Rattle.history_laws.specs.Justified.{HasGrounds, AskNote, pending, MayConfirm, MayCome, Follows}
+use Rattle.history_laws.specs.Worked.{noted}
+use Rattle.history_links.specs.Agrees.{due}
+use Rattle.history_links.specs.Steps.{MaySend, copy, first, heard, reset}
+use Rattle.exchange_model.specs.State.{State, link_of}
+use Rattle.exchange_model.specs.Reads.{Reads}
+use Rattle.exchange_model.specs.Steps.{opens, asks, answers, shuts, seals, begins, confirms, hears_nothing, sends_first, sends_copy, hears, passes}
+
+-- an open connection that waits for no answer
+pub record MayAsk (l : List Noted) (c : ℕ) : Type 0 where
+  pub open_now : is_open l c ≡ true
+  pub idle : length (asks_of l c) ≡ length (answers_of l c)
+
+-- before an entry at this moment
+pub record Before (l : List Noted) (t : ℕ) (S : State) : Type 0 where
+  pub reads : Reads l S
+  pub later : S.moment ≤ t
+
+-- the entry may follow, and this is the state after it
+pub record Leads (l : List Noted) (x : Noted) (S : State) : Type 0 where
+  pub follows : Follows l x.written.moment x.written.deed x.note
+  pub reads : Reads (x ∷ l) S
+
+abbrev pub OpensLeads : Type 0
+OpensLeads =
+    (l : List Noted) (t : ℕ) (S : State) → Before l t S → MayCome l
+    → Leads l (noted t (Opens S.opened) Plain) (opens t S)
+
+-- A connection is shut at any time, but before an ACK or RST that is owed.
+abbrev pub ShutsLeads : Type 0
+ShutsLeads =
+    (l : List Noted) (t c : ℕ) (S : State) → Before l t S → owed l ≡ None → is_open l c ≡ true
+    → Leads l (noted t (Shuts c) Plain) (shuts t c S)
+
+abbrev pub SealsLeads : Type 0
+SealsLeads =
+    (l : List Noted) (t : ℕ) (S : State) → Before l t S → MayCome l → MaySeal l
+    → Leads l (noted t Seals Plain) (seals t S)
+
+abbrev pub AnswersLeads : Type 0
+AnswersLeads =
+    (l : List Noted) (t c k : ℕ) (g : Grounds) (S : State)
+    → Before l t S → owed l ≡ None → is_open l c ≡ true → pending l c ≡ Some k → HasGrounds l t k g
+    → Leads l (noted t (Answers c k g) Plain) (answers t c k g S)
+
+-- An ask that is refused, or for which there is no room, opens nothing.
+abbrev pub AsksLeads : Type 0
+AsksLeads =
+    (l : List Noted) (t c : ℕ) (a : Ask) (S : State)
+    → Before l t S → MayCome l → MayAsk l c → AskNote l t a.sense Plain
+    → Leads l (noted t (Asks c a) Plain) (asks t c a S)
+
+-- Any other opens an exchange, and its message waits last.
+abbrev pub BeginsLeads : Type 0
+BeginsLeads =
+    (l : List Noted) (t c : ℕ) (a : Ask) (q : CoapRequest) (token text : List ℕ) (word : ℕ)
+    (S : State)
+    → Before l t S → MayCome l → MayAsk l c
+    → a.sense ≡ Requests q → has_room l t q ≡ true → Spells (request_message q 0 token) text
+    → length token ≡ 8 → token_number token ≡ S.issued
+    → Leads l (noted t (Asks c a) (Begins q)) (begins t c a q token text word S)
+
+-- The message that waits first at an endpoint goes out where nothing is outstanding there.
+abbrev pub FirstLeads : Type 0
+FirstLeads =
+    (l : List Noted) (t : ℕ) (p : Peer) (w : Waiting) (ws : List Waiting) (S : State)
+    → Before l t S → MaySend l → w.first_mid < 65536 → mids_used l t p < MAX_MESSAGE_IDS
+    → (link_of S.links p).outstanding ≡ None → (link_of S.links p).waiting ≡ w ∷ ws
+    → (o : ℕ) × (m : Content)
+    × Leads l (first t p (first_sent t (link_of S.links p).last_mid w) o m) (sends_first t p w ws S)
+
+-- A copy goes out once it is due.
+abbrev pub CopyLeads : Type 0
+CopyLeads =
+    (l : List Noted) (t : ℕ) (p : Peer) (o : Outstanding) (S : State)
+    → Before l t S → MaySend l → (link_of S.links p).outstanding ≡ Some o
+    → o.retransmissions < MAX_RETRANSMIT → due_of o ≤ ticked l
+    → (i : ℕ) × Leads l (copy t p o i) (sends_copy t p o S)
+
+-- The ACK or RST that is owed is given.
+abbrev pub ConfirmsLeads : Type 0
+ConfirmsLeads =
+    (l : List Noted) (t : ℕ) (p : Peer) (bytes : List ℕ) (S : State)
+    → Before l t S → S.sealed ≡ false → MayConfirm l p bytes
+    → Leads l (noted t (Sends p bytes None) Confirms) (confirms t p bytes S)
+
+-- What is heard asks for just what the link answers.
+pub record Heeds (l : List Noted) (x : Noted) (c : Option Confirmation) (S : State) : Type 0 where
+  pub leads : Leads l x S
+  pub owes : owed (x ∷ l) ≡ c
+
+-- a datagram from an endpoint that something was sent to
+pub record MayHear (l : List Noted) (t : ℕ) (p : Peer) (d : List ℕ) (S : State) : Type 0 where
+  pub before : Before l t S
+  pub come : MayCome l
+  pub short : length d ≤ MAX_DATAGRAM_LEN
+  pub known : is_some (last_sent l p) ≡ true
+
+abbrev pub verdict_on : ℕ → Peer → Content → State → Verdict
+verdict_on t p m S = verdict_of t (link_of S.links p) m
+
+abbrev pub RepeatsLeads : Type 0
+RepeatsLeads =
+    (l : List Noted) (t : ℕ) (p : Peer) (d : List ℕ) (m : Content) (j : ℕ) (S : State)
+    → MayHear l t p d S → Spells m d → repeated l t p m ≡ Some j
+    → Heeds l (noted t (Hears p d) (Repeats m j)) (due p m.mid (verdict_on t p m S).reply)
+    (hears_nothing t p d S)
+
+abbrev pub GarbledLeads : Type 0
+GarbledLeads =
+    (l : List Noted) (t : ℕ) (p : Peer) (d : List ℕ) (S : State)
+    → MayHear l t p d S → ((m : Content) → Spells m d → ⊥)
+    → Heeds l (noted t (Hears p d) Garbled) (reset p (reset_for d)) (hears_nothing t p d S)
+
+abbrev pub HearsLeads : Type 0
+HearsLeads =
+    (l : List Noted) (t : ℕ) (p : Peer) (d : List ℕ) (m : Content) (S : State)
+    → MayHear l t p d S → Spells m d → repeated l t p m ≡ None → can_be_remembered l t p m ≡ true
+    → Heeds l (heard l t p d m) (due p m.mid (verdict_on t p m S).reply) (hears t p d m S)
+
+-- A tick ends what took too long.
+abbrev pub PassesLeads : Type 0
+PassesLeads =
+    (l : List Noted) (t : ℕ) (S : State) → Before l t S → MayCome l
+    → Leads l (noted t Passes Plain) (passes t S)

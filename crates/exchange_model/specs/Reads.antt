@@ -1,0 +1,66 @@
+-- A state says what a history says.
+use Rattle.std.specs.Prelude.{◌≡◌, ℕ, ◌<◌, false, List, [], ◌∷◌, length, map, Option, Some, None}
+use Rattle.std.specs.List.{AllByRecursion, Contains}
+use Rattle.uri_map.specs.declared.peer.Peer.{Peer}
+use Rattle.ask_model.specs.Requests.{CoapRequest}
+use Rattle.ask_model.specs.Views.{Ask}
+use Rattle.history_laws.specs.Numbering.{token_number}
+use Rattle.journal_book.specs.Entries.{Asks}
+use Rattle.message_layer.specs.declared.state.Waiting.{Waiting}
+use Rattle.history_laws.specs.Readings.{Noted, Begins, entries, at, newest}
+use Rattle.history_laws.specs.Connections.{is_sealed, opened}
+use Rattle.history_laws.specs.Transmissions.{FirstSending, firsts, first_at, bears_token}
+use Rattle.history_laws.specs.Exchanges.{begun, openings, waits_for, open_exchanges}
+use Rattle.history_laws.specs.Justified.{Legal}
+use Rattle.history_laws.specs.Worked.{noted}
+use Rattle.history_links.specs.Agrees.{rank, Agrees}
+use Rattle.exchange_model.specs.declared.kept.Conn.{Conn}
+use Rattle.exchange_model.specs.declared.kept.Exchange.{Exchange}
+use Rattle.exchange_model.specs.State.{State, link_of, conns_after}
+
+-- the connections that are open, each with its ask that waits
+abbrev pub conns_of : List Noted → List Conn
+conns_of [] = []
+conns_of (x ∷ older) = conns_after (conns_of older) (length older) x.written.deed
+
+-- Its message went out under its token, or nothing did.
+abbrev pub IsSentUnder : List Noted → Peer → List ℕ → Option ℕ → Type 0
+IsSentUnder l p token None = bears_token l token ≡ false
+IsSentUnder l p token (Some i) =
+    (f : FirstSending) × (first_at l i ≡ Some f) × (f.peer ≡ p) × (f.message.token ≡ token)
+
+-- What is kept of an exchange is what the history says of it.
+pub record ExchangeIn (l : List Noted) (e : Exchange) : Type 0 where
+  pub request : CoapRequest
+  pub opening : begun l e.opening ≡ Some (record { since = e.since; request = request })
+  pub peer : request.peer ≡ e.peer
+  pub number : rank l e.opening ≡ token_number e.token
+  pub sending : waits_for l e.opening ≡ e.sending
+  pub sent : IsSentUnder l e.peer e.token e.sending
+  pub ask : Ask
+  pub stands : at l e.opening ≡ Some (noted e.since (Asks e.conn ask) (Begins request))
+
+-- A message that waits under its number waits under its token.
+abbrev pub WaitsUnder : List Waiting → Exchange → Type 0
+WaitsUnder ws e =
+    (w : Waiting) → Contains ws w → token_number w.token ≡ token_number e.token → w.token ≡ e.token
+
+abbrev pub opening_of : Exchange → ℕ
+opening_of e = e.opening
+
+-- The state says what a legal reading of its entries says.
+pub record Reads (l : List Noted) (S : State) : Type 0 where
+  pub entries_are : entries l ≡ S.entries
+  pub legal : Legal l
+  pub sealed_is : is_sealed l ≡ S.sealed
+  pub moment_is : newest l ≡ S.moment
+  pub opened_are : opened l ≡ S.opened
+  pub issued_are : length (openings l) ≡ S.issued
+  pub conns_are : conns_of l ≡ S.conns
+  pub keys : open_exchanges l ≡ map opening_of S.exchanges
+  pub exchanges_are : AllByRecursion (ExchangeIn l) S.exchanges
+  pub tokens_are :
+      AllByRecursion (λ (f : FirstSending). token_number f.message.token < S.issued) (firsts l)
+  pub waiting_are :
+      AllByRecursion (λ (e : Exchange). WaitsUnder (link_of S.links e.peer).waiting e) S.exchanges
+  pub links_are : (p : Peer) → Agrees l p (link_of S.links p)

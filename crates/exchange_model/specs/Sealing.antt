@@ -1,0 +1,109 @@
+-- A step that doesn't fit seals the journal, and is otherwise undone.
+use Rattle.std.specs.Prelude.{◌≡◌, ℕ, ◌+◌, ◌<◌, ◌≤◌, true, List, filter, fold, length, Option, Some, None, if◌then◌else◌, ◌++◌, ⊤}
+use Rattle.std.specs.List.{AllByRecursion}
+use Rattle.limits.specs.declared.TheConstants.{MAX_MESSAGE_LEN, MAX_REQUEST_SIZE, MAX_TRANSMIT_WAIT}
+use Rattle.uri_map.specs.declared.peer.Peer.{Peer}
+use Rattle.ask_model.specs.Requests.{CoapRequest, Requests}
+use Rattle.ask_model.specs.Views.{Ask}
+use Rattle.ask_model.specs.Sizes.{came_size}
+use Rattle.journal_book.specs.Entries.{Deed, Answers, Written}
+use Rattle.exchange_model.specs.declared.kept.Conn.{Conn}
+use Rattle.exchange_model.specs.declared.kept.Exchange.{Exchange}
+use Rattle.exchange_model.specs.State.{State}
+use Rattle.exchange_model.specs.Steps.{opens, shuts, seals, is_past}
+use Rattle.exchange_model.specs.Resting.{HasConn}
+use Rattle.exchange_model.specs.Calls.{Numbers, has_place, asked, heard, times_out, ticked}
+use Rattle.exchange_model.specs.Keeping.{start, IsProper, IsNumbered}
+use Rattle.exchange_model.specs.Room.{fits, KeptInRoom}
+
+-- a step from one state to another
+abbrev pub in_room : ℕ → State → State → State
+in_room t new old = if fits new then new else seals t old
+
+-- After the seal nothing is opened, asked or heard.
+abbrev pub if_unsealed : ℕ → State → State → State
+if_unsealed t new old = if old.sealed then old else in_room t new old
+
+abbrev pub opens_in_room : ℕ → State → State
+opens_in_room t S = if_unsealed t (opens t S) S
+
+abbrev pub asks_in_room : ℕ → ℕ → Ask → Numbers → State → State
+asks_in_room t c a n S = if_unsealed t (asked t c a n S) S
+
+abbrev pub hears_in_room : ℕ → Peer → List ℕ → State → State
+hears_in_room t p d S = if_unsealed t (heard t p d S) S
+
+-- A tick of a sealed core answers the asks whose exchanges have been open for as long as they may,
+-- in the order in which they were opened.
+abbrev pub late : ℕ → State → State
+late t S = fold (times_out t) S (filter (is_past t) S.exchanges)
+
+abbrev pub ticks_in_room : ℕ → State → State
+ticks_in_room t S =
+    if S.sealed then late t S else
+    (let new = ticked t S in if fits new then new else late t (seals t S))
+
+-- Each call keeps that the journal stands and is within its limits.
+abbrev pub StartInRoom : Type 0
+StartInRoom = KeptInRoom start
+
+abbrev pub OpensInRoom : Type 0
+OpensInRoom = (t : ℕ) (S : State) → KeptInRoom S → S.moment ≤ t → KeptInRoom (opens_in_room t S)
+
+-- A connection may be shut in a sealed journal too, and what it needs was held free.
+abbrev pub ShutsInRoom : Type 0
+ShutsInRoom =
+    (t c : ℕ) (p : Option ℕ) (S : State)
+    → KeptInRoom S → S.moment ≤ t → HasConn S.conns c p → KeptInRoom (shuts t c S)
+
+-- A request and its message have the sizes that they may.
+pub record IsSized (a : Ask) (n : Numbers) : Type 0 where
+  pub request : came_size a.came ≤ MAX_REQUEST_SIZE
+  pub message : length n.text ≤ MAX_MESSAGE_LEN
+
+abbrev pub AsksInRoom : Type 0
+AsksInRoom =
+    (t c : ℕ) (a : Ask) (n : Numbers) (S : State)
+    → KeptInRoom S → S.moment ≤ t → HasConn S.conns c None → IsProper a.sense
+    → ((q : CoapRequest) → a.sense ≡ Requests q → has_place t q.peer S ≡ true → IsNumbered q n S)
+    → IsSized a n
+    → KeptInRoom (asks_in_room t c a n S)
+
+abbrev pub HearsInRoom : Type 0
+HearsInRoom =
+    (t : ℕ) (p : Peer) (d : List ℕ) (S : State)
+    → KeptInRoom S → S.moment ≤ t → AllByRecursion (λ (b : ℕ). b < 256) d
+    → KeptInRoom (hears_in_room t p d S)
+
+abbrev pub TicksInRoom : Type 0
+TicksInRoom = (t : ℕ) (S : State) → KeptInRoom S → S.moment ≤ t → KeptInRoom (ticks_in_room t S)
+
+-- After a tick, sealed or not, nobody waits for an exchange that is past.
+abbrev pub IsPrompt : ℕ → List Exchange → Conn → Type 0
+IsPrompt t es x =
+    AllByRecursion
+    (λ (e : Exchange). x.pending ≡ Some e.opening → t < e.since + MAX_TRANSMIT_WAIT) es
+
+abbrev pub ArePrompt : ℕ → State → Type 0
+ArePrompt t S = AllByRecursion (IsPrompt t S.exchanges) S.conns
+
+abbrev pub TicksPromptly : Type 0
+TicksPromptly = (t : ℕ) (S : State) → KeptInRoom S → S.moment ≤ t → ArePrompt t (ticks_in_room t S)
+
+-- After the seal a tick adds answers alone, and changes nothing but who waits.
+abbrev pub IsAnswer : Deed → Type 0
+IsAnswer (Answers c k g) = ⊤
+IsAnswer _ = ⊥
+
+pub record AnswersAlone (S S1 : State) : Type 0 where
+  pub answers : List Written
+  pub entries : S1.entries ≡ S.entries ++ answers
+  pub are : AllByRecursion (λ (w : Written). IsAnswer w.deed) answers
+  pub sealed : S1.sealed ≡ S.sealed
+  pub opened : S1.opened ≡ S.opened
+  pub issued : S1.issued ≡ S.issued
+  pub exchanges : S1.exchanges ≡ S.exchanges
+  pub links : S1.links ≡ S.links
+
+abbrev pub SealedAnswers : Type 0
+SealedAnswers = (t : ℕ) (S : State) → S.sealed ≡ true → AnswersAlone S (ticks_in_room t S)

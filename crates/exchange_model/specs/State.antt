@@ -1,0 +1,49 @@
+-- What a core keeps.
+use Rattle.std.specs.Prelude.{ℕ, Bool, not, ◌==◌, List, [], ◌∷◌, ◌++◌, map, filter, Option, Some, None, if◌then◌else◌}
+use Rattle.uri_map.specs.declared.peer.Peer.{Peer}
+use Rattle.ask_model.specs.Requests.{same_peer}
+use Rattle.journal_book.specs.Entries.{Deed, Opens, Asks, Answers, Shuts, Written}
+use Rattle.message_layer.specs.Values.{LinkState, empty_link}
+use Rattle.exchange_model.specs.declared.kept.Conn.{Conn}
+use Rattle.exchange_model.specs.declared.kept.Exchange.{Exchange}
+
+-- the messages between the proxy and one endpoint
+pub record PeerLink : Type 0 where
+  pub peer : Peer
+  pub link : LinkState
+
+pub record State : Type 0 where
+  -- the journal, and whether it is sealed
+  pub entries : List Written
+  pub sealed : Bool
+  -- the moment of its last entry
+  pub moment : ℕ
+  -- how many connections were opened, and tokens issued
+  pub opened : ℕ
+  pub issued : ℕ
+  -- what is open, in order
+  pub conns : List Conn
+  pub exchanges : List Exchange
+  -- the endpoints, in the order in which they were first asked for something
+  pub links : List PeerLink
+
+-- the link of an endpoint: an empty one before anything was asked of it
+abbrev pub link_of : List PeerLink → Peer → LinkState
+link_of [] p = empty_link
+link_of (x ∷ xs) p = if same_peer x.peer p then x.link else link_of xs p
+
+abbrev pub with_link : Peer → LinkState → List PeerLink → List PeerLink
+with_link p s [] = record { peer = p; link = s } ∷ []
+with_link p s (x ∷ xs) =
+    if same_peer x.peer p then record { peer = x.peer; link = s } ∷ xs else x ∷ with_link p s xs
+
+-- what an entry does to the connections: an ask makes its own wait, and the answer ends that
+abbrev pub pend : ℕ → Option ℕ → Conn → Conn
+pend c p x = if x.id == c then record x { pending = p } else x
+
+abbrev pub conns_after : List Conn → ℕ → Deed → List Conn
+conns_after cs n (Opens c) = cs ++ record { id = c; pending = None } ∷ []
+conns_after cs n (Asks c a) = map (pend c (Some n)) cs
+conns_after cs n (Answers c k g) = map (pend c None) cs
+conns_after cs n (Shuts c) = filter (λ (x : Conn). not (x.id == c)) cs
+conns_after cs n _ = cs

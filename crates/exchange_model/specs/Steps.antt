@@ -1,0 +1,132 @@
+-- What each kind of entry does to a state.
+use Rattle.std.specs.Prelude.{ℕ, ◌+◌, true, Bool, not, ◌&&◌, ◌||◌, nat_le, List, [], ◌∷◌, ◌++◌, length, map, filter, Option, Some, None, is_some, if◌then◌else◌}
+use Rattle.std.specs.List.{list_any}
+use Rattle.std.specs.Str.{bytes_eq}
+use Rattle.limits.specs.declared.TheConstants.{MAX_TRANSMIT_WAIT}
+use Rattle.coap_codec.specs.Spelling.{Content}
+use Rattle.uri_map.specs.declared.peer.Peer.{Peer}
+use Rattle.ask_model.specs.Requests.{CoapRequest}
+use Rattle.ask_model.specs.Views.{Ask}
+use Rattle.journal_book.specs.Entries.{Grounds, Deed, Opens, Asks, Sends, Hears, Passes, Answers, Shuts, Seals}
+use Rattle.message_layer.specs.Values.{LinkState}
+use Rattle.message_layer.specs.Sending.{first_sent, with_outstanding, with_copy, waits, queued}
+use Rattle.message_layer.specs.Hearing.{is_outstanding_under, verdict_of}
+use Rattle.message_layer.specs.declared.state.Waiting.{Waiting}
+use Rattle.message_layer.specs.declared.state.Outstanding.{Outstanding}
+use Rattle.history_links.specs.Steps.{ended_token, heard_link, is_over, passed_link}
+use Rattle.exchange_model.specs.declared.kept.Exchange.{Exchange}
+use Rattle.exchange_model.specs.State.{PeerLink, State, link_of, with_link, conns_after}
+
+-- one entry more, and what it does to the connections
+abbrev pub entered : ℕ → Deed → State → State
+entered t d S = record S {
+  entries = S.entries ++ record { moment = t; deed = d } ∷ [];
+  moment = t;
+  conns = conns_after S.conns (length S.entries) d;
+}
+
+-- the next connection is opened
+abbrev pub opens : ℕ → State → State
+opens t S = let S1 = entered t (Opens S.opened) S in record S1 { opened = S.opened + 1 }
+
+-- an ask that opens nothing; an answer; a connection is shut; the journal is sealed
+abbrev pub asks : ℕ → ℕ → Ask → State → State
+asks t c a S = entered t (Asks c a) S
+
+abbrev pub answers : ℕ → ℕ → ℕ → Grounds → State → State
+answers t c k g S = entered t (Answers c k g) S
+
+abbrev pub shuts : ℕ → ℕ → State → State
+shuts t c S = entered t (Shuts c) S
+
+abbrev pub seals : ℕ → State → State
+seals t S = let S1 = entered t Seals S in record S1 { sealed = true }
+
+-- an ask opens an exchange, and its message waits last at its endpoint, under the next token
+abbrev pub exchange_for : ℕ → ℕ → CoapRequest → List ℕ → State → Exchange
+exchange_for t c q token S = record {
+  opening = length S.entries;
+  token = token;
+  since = t;
+  peer = q.peer;
+  conn = c;
+  sending = None;
+}
+
+abbrev pub begins : ℕ → ℕ → Ask → CoapRequest → List ℕ → List ℕ → ℕ → State → State
+begins t c a q token text word S = let S1 = entered t (Asks c a) S in record S1 {
+  issued = S.issued + 1;
+  exchanges = S.exchanges ++ exchange_for t c q token S ∷ [];
+  links = with_link q.peer (queued t (waits token text word) (link_of S.links q.peer)) S.links;
+}
+
+-- an ACK or RST, and what is heard and is nothing new, leave all else as it is
+abbrev pub confirms : ℕ → Peer → List ℕ → State → State
+confirms t p bytes S = entered t (Sends p bytes None) S
+
+abbrev pub hears_nothing : ℕ → Peer → List ℕ → State → State
+hears_nothing t p d S = entered t (Hears p d) S
+
+-- a link whose datagrams were given out
+abbrev pub given_out : LinkState → LinkState
+given_out s = record s { out = [] }
+
+-- the message that waits first at an endpoint goes out
+abbrev pub is_under : List ℕ → Exchange → Bool
+is_under token e = bytes_eq e.token token
+
+abbrev pub went_out : List ℕ → ℕ → Exchange → Exchange
+went_out token i e = if is_under token e then record e { sending = Some i } else e
+
+abbrev pub sends_first : ℕ → Peer → Waiting → List Waiting → State → State
+sends_first t p w ws S =
+    let s = link_of S.links p in let o = first_sent t s.last_mid w in
+    let S1 = entered t (Sends p o.datagram (Some o.timeout)) S in record S1 {
+      exchanges = map (went_out w.token (length S.entries)) S.exchanges;
+      links = with_link p (given_out (with_outstanding s ws o)) S.links;
+    }
+
+-- the message that is outstanding at an endpoint goes out once more
+abbrev pub sends_copy : ℕ → Peer → Outstanding → State → State
+sends_copy t p o S = let S1 = entered t (Sends p o.datagram None) S in record S1 {
+  links = with_link p (given_out (with_copy t (link_of S.links p) o)) S.links;
+}
+
+-- A message that is new ends the exchange whose token its link says is awaited no more.
+abbrev pub is_other : Option (List ℕ) → Exchange → Bool
+is_other None e = true
+is_other (Some token) e = not (is_under token e)
+
+abbrev pub hears : ℕ → Peer → List ℕ → Content → State → State
+hears t p d m S =
+    let s = link_of S.links p in let v = verdict_of t s m in
+    let S1 = entered t (Hears p d) S in record S1 {
+      exchanges = filter (is_other (ended_token v.news m.token)) S.exchanges;
+      links = with_link p (heard_link t m.mid m.token v s) S.links;
+    }
+
+-- A tick ends the exchanges that have been open for as long as they may, and those whose message
+-- was sent five times in vain.
+abbrev pub is_past : ℕ → Exchange → Bool
+is_past t e = nat_le (e.since + MAX_TRANSMIT_WAIT) t
+
+abbrev pub is_in_vain : ℕ → LinkState → Exchange → Bool
+is_in_vain t s e =
+    is_some e.sending && (is_outstanding_under e.token s.outstanding && is_over t s.outstanding)
+
+abbrev pub expires : ℕ → List PeerLink → Exchange → Bool
+expires t links e = is_past t e || is_in_vain t (link_of links e.peer) e
+
+-- the token of one that ends
+abbrev pub is_gone : ℕ → State → List ℕ → Bool
+is_gone t S token =
+    list_any (λ (e : Exchange). is_under token e && expires t S.links e) S.exchanges
+
+abbrev pub passed : ℕ → State → PeerLink → PeerLink
+passed t S x = record { peer = x.peer; link = passed_link t (is_gone t S) x.link }
+
+abbrev pub passes : ℕ → State → State
+passes t S = let S1 = entered t Passes S in record S1 {
+  exchanges = filter (λ (e : Exchange). not (expires t S.links e)) S.exchanges;
+  links = map (passed t S) S.links;
+}

@@ -1,0 +1,43 @@
+//! What each call adds to the journal, as contracts of functions that do nothing.
+
+ghost use Rattle.exchange_model.specs.Growing.{
+  OpensAdd,
+  ShutsAdd,
+  SealsAdd,
+  AsksAdd,
+  HearsAdd,
+  LateAdds,
+  TicksAdd,
+  OpensAlone,
+  AsksAnswer,
+  HearsAnswer,
+  TicksAnswer,
+  ConnsBelow,
+  ConnsRise,
+};
+
+/// A call adds entries at its moment, and the connections follow from them.
+pub fn calls_add()
+    ensures opens { OpensAdd }
+    ensures shuts { ShutsAdd }
+    ensures seals { SealsAdd }
+    ensures asks { AsksAdd }
+    ensures hears { HearsAdd }
+    ensures late { LateAdds }
+    ensures ticks { TicksAdd }
+{}
+
+/// Opening adds the connection or the seal at most; an ask adds itself, and answers no other ask; a
+/// datagram that is heard, and a tick, neither open nor ask nor shut.
+pub fn calls_add_their_own()
+    ensures opens { OpensAlone }
+    ensures asks { AsksAnswer }
+    ensures hears { HearsAnswer }
+    ensures ticks { TicksAnswer }
+{}
+
+/// The connections stand in the order of their numbers, each below the next number.
+pub fn connections_rise()
+    ensures below { ConnsBelow }
+    ensures rise { ConnsRise }
+{}

@@ -1,0 +1,33 @@
+//! That the journal stays within its limits, as contracts of functions that do nothing.
+
+ghost use Rattle.exchange_model.specs.Room.{WithinLimits};
+ghost use Rattle.exchange_model.specs.Sealing.{
+  StartInRoom,
+  OpensInRoom,
+  ShutsInRoom,
+  AsksInRoom,
+  HearsInRoom,
+  TicksInRoom,
+  TicksPromptly,
+  SealedAnswers,
+};
+
+/// A journal has 65,536 entries and 256 MiB at most, with what has to come, and each call keeps
+/// this: one that doesn't fit seals it and does nothing else, and after that a connection may be
+/// shut still.
+pub fn calls_keep_room()
+    ensures start { StartInRoom }
+    ensures within { WithinLimits }
+    ensures opens { OpensInRoom }
+    ensures shuts { ShutsInRoom }
+    ensures asks { AsksInRoom }
+    ensures hears { HearsInRoom }
+{}
+
+/// So does a tick, sealed or not, after which nobody waits for an exchange that has been open for
+/// as long as it may (RFC 7252 section 4.8.2). After the seal it adds answers alone.
+pub fn ticks_keep_room()
+    ensures keeps { TicksInRoom }
+    ensures promptly { TicksPromptly }
+    ensures sealed { SealedAnswers }
+{}

@@ -1,6 +1,0 @@
--- Those that were looked at are the same.
-use Rattle.std.proofs.Common.{◌≡◌, take}
-use Rattle.front_desk.proofs.same.are_same_values.Given as goal
-
-abbrev pub invariant-each : goal.invariant-each
-invariant-each l = take l.i l.a ≡ take l.i l.b

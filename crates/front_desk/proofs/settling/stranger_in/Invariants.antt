@@ -1,8 +1,0 @@
--- What was looked at is justified.
-use Rattle.std.proofs.Common.{take}
-use Rattle.std.specs.List.{All}
-use Rattle.front_desk.specs.Settled.{IsJustified}
-use Rattle.front_desk.proofs.settling.stranger_in.Given as goal
-
-abbrev pub invariant-each : goal.invariant-each
-invariant-each g l = All (IsJustified l.journal.entries) (take l.pass-index l.passes)

@@ -1,0 +1,14 @@
+-- One more is passed.
+use Rattle.std.proofs.Common.{◌<◌, length, arith}
+use Rattle.gateway_connections.specs.Rows.{put_back}
+use Rattle.gateway_connections.proofs.Keeping.{each-one}
+use Rattle.gateway_connections.proofs.table.back_all.Goals as goal
+
+pub each-preserved : goal.each-preserved
+each-preserved c =
+    let rows = c.args.rows.now in
+    let test = c.each-test.true in
+    let len = c.len-place-end.ensures in
+    let ok = rows.ok.0 in
+    let lt : c.each.place < length rows.items = omega (arith, test, len, ok) in
+    (each-one put_back rows.items c.each.place c.each.rows.items c.index_mut.result.now c.back.new.self lt c.each.invariant.0 c.index_mut.ensures.value c.back.ensures, c.each.invariant.1)

@@ -1,0 +1,189 @@
+//! The open connections, by their numbers.
+
+ghost use Rattle.std.specs.Prelude.{◌≡◌, ◌≢◌, ◌∷◌, ◌++◌, [], None, false, All, map, nat_lt};
+ghost use Rattle.std.specs.Prelude.{IfSome, OnOk, OnErr};
+ghost use Rattle.gateway_connections.specs.Rows.{AreInOrder, HasNumber, IsClosed, current_of};
+ghost use Rattle.gateway_connections.specs.Rows.{settled, put_back};
+
+use crate::inbox::{Inbox, Next};
+use crate::row::Row;
+use http_edge::Memory;
+use std::alloc::Global;
+use std::marker::Model;
+
+/// The open connections, and the bytes of each that aren't asked yet. It can go back to what it
+/// held at its mark.
+pub struct Table {
+    alloc: Global,
+    rows: Vec<Row>,
+}
+
+/// As derived; but written here, how all that it has is dropped is proved in this crate alone.
+impl Drop for Table {
+    fn drop(self) {
+        let Table { alloc: _, rows: _ } = self;
+    }
+}
+
+impl Model for Table {
+    ghost use Rattle.std.specs.Prelude.{All};
+    ghost use Rattle.gateway_connections.specs.Inlets.{TableValue};
+    ghost use Rattle.gateway_connections.specs.Rows.{AreInOrder, IsWhole, current_of, marked_of};
+
+    ghost Value = { TableValue };
+
+    ghost view = { λ t. record {
+      current = current_of t.rows.items;
+      marked = marked_of t.rows.items;
+    } };
+
+    ghost invariant = { λ t. AreInOrder t.rows.items × All IsWhole t.rows.items };
+}
+
+impl Table {
+    ghost use Rattle.gateway_connections.specs.Inlets.{AreKept, IsAbove, fresh, appended, without};
+    ghost use Rattle.gateway_connections.specs.Inlets.{is_full_at};
+    ghost use Rattle.gateway_connections.specs.Reads.{ReadsOf};
+
+    /// No connection.
+    pub fn new(alloc: Global) -> Table
+        ensures current { result.current ≡ [] }
+        ensures marked { result.marked ≡ [] }
+    {
+        Table {
+            alloc,
+            rows: Vec::new(alloc),
+        }
+    }
+
+    /// What every table keeps. It does nothing.
+    pub fn keeps(&self)
+        ensures current { AreKept self.now.current }
+        ensures marked { AreKept self.now.marked }
+    {
+        let _rows = &self.rows;
+    }
+
+    /// Opens a connection, which has a number above all others.
+    pub fn insert(&mut self, number: u32) -> Result<(), Memory>
+        requires { IsAbove number self.old }
+        ensures opened { OnOk result (self.new.current ≡ self.old.current ++ fresh number ∷ []) }
+        ensures unchanged { OnErr result (self.new.current ≡ self.old.current) }
+        ensures marked { self.new.marked ≡ self.old.marked }
+    {
+        self.rows.try_reserve(1)?;
+        let inbox = Inbox::new(self.alloc, number)?;
+        self.rows.push_reserved(Row {
+            inbox,
+            fresh: true,
+            closed: false,
+        });
+        Ok(())
+    }
+
+    /// Takes the connection out. It takes no memory.
+    pub fn remove(&mut self, number: u32)
+        ensures current { self.new.current ≡ without number self.old.current }
+        ensures marked { self.new.marked ≡ self.old.marked }
+    {
+        if let Some(place) = place_of(&self.rows, number) {
+            if self.rows[place].fresh {
+                let _row = self.rows.remove(place);
+            } else {
+                self.rows[place].closed = true;
+            }
+        }
+    }
+
+    /// Whether so many bytes more of the connection would be too many: more than 1,048,576 in all
+    /// that wait unread. Where its requests are read as they come in, what the request begun took
+    /// doesn't count; where it waits for an answer, all that came counts.
+    pub fn passes_limit(&self, number: u32, reads: bool, more: usize) -> bool
+        ensures { result ≡ is_full_at number reads more self.now.current }
+    {
+        match place_of(&self.rows, number) {
+            Some(place) => self.rows[place].inbox.passes_limit(reads, more),
+            None => false,
+        }
+    }
+
+    /// Puts bytes after those of the connection that wait. After its last request they are dropped.
+    pub fn append(&mut self, number: u32, bytes: &[u8]) -> Result<(), Memory>
+        ensures more { OnOk result (self.new.current
+            ≡ appended number bytes.now self.old.current) }
+        ensures unchanged { OnErr result (self.new.current ≡ self.old.current) }
+        ensures marked { self.new.marked ≡ self.old.marked }
+    {
+        match place_of(&self.rows, number) {
+            Some(place) => self.rows[place].inbox.append(bytes),
+            None => Ok(()),
+        }
+    }
+
+    /// What the bytes of the connection ask next.
+    pub fn next(&mut self, number: u32) -> Result<Next, Memory>
+        ensures reads { ReadsOf number result self.old.current self.new.current }
+        ensures marked { self.new.marked ≡ self.old.marked }
+    {
+        match place_of(&self.rows, number) {
+            Some(place) => self.rows[place].inbox.next(),
+            None => Ok(Next::Nothing),
+        }
+    }
+
+    /// Marks the connections as they are, and lets the bytes go that were asked.
+    pub fn mark(&mut self)
+        ensures current { self.new.current ≡ self.old.current }
+        ensures marked { self.new.marked ≡ self.old.current }
+    {
+        self.rows.retain(|row| !row.closed);
+        mark_all(&mut self.rows);
+    }
+
+    /// Goes back to the connections at the mark. It takes no memory.
+    pub fn back(&mut self)
+        ensures current { self.new.current ≡ self.old.marked }
+        ensures marked { self.new.marked ≡ self.old.marked }
+    {
+        self.rows.retain(|row| !row.fresh);
+        back_all(&mut self.rows);
+    }
+}
+
+/// The place of the open connection of that number.
+fn place_of(rows: &[Row], number: u32) -> Option<usize>
+    requires { AreInOrder rows.now }
+    ensures number { IfSome result (λ i. HasNumber rows.now i number) }
+    ensures stays { IfSome result (λ i. IsClosed rows.now i false) }
+    ensures none { result ≡ None → All (λ x. x.number ≢ number) (current_of rows.now) }
+{
+    let place = rows.partition_point(
+        |row: &Row| -> bool
+            ensures { result ≡ nat_lt row.now.inbox.current.number number }
+        { row.inbox.number() < number },
+    );
+    let row = rows.get(place)?;
+    if row.inbox.number() == number && !row.closed {
+        Some(place)
+    } else {
+        None
+    }
+}
+
+/// Marks each.
+fn mark_all(rows: &mut Vec<Row>)
+    ensures { rows.new.items ≡ map settled rows.old.items }
+{
+    'each: for place in 0..rows.len() {
+        rows[place].mark();
+    }
+}
+
+/// Takes each back to the mark.
+fn back_all(rows: &mut Vec<Row>)
+    ensures { rows.new.items ≡ map put_back rows.old.items }
+{
+    'each: for place in 0..rows.len() {
+        rows[place].back();
+    }
+}

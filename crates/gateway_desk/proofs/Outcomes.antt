@@ -1,0 +1,156 @@
+-- What a journal's entries show of what an ask came to.
+use Rattle.std.proofs.Common.{◌≡◌, ◌↔◌, ◌≤◌, ◌<◌, ℕ, Bool, IsTrue, List, [], ◌∷◌, length, get_or, Option, Some, None, Result, Ok, Err, IfOk, refl, sym, ap, subst, ◌∙◌, arith}
+use Rattle.coap_codec.specs.Spelling.{Content, Spells}
+use Rattle.uri_map.specs.declared.peer.Peer.{Peer}
+use Rattle.ask_model.specs.declared.cause.Cause.{Cause}
+use Rattle.ask_model.specs.Requests.{CoapRequest, Sense, Requests}
+use Rattle.journal_book.specs.Entries.{Grounds, Hears, Written, Live}
+use Rattle.history_laws.specs.Responses.{Response, whole_of}
+use Rattle.reply_reading.specs.Findings.{Told, Tells, Fails, found_by}
+use Rattle.exchange_core.specs.Values.{written}
+use Rattle.exchange_core.specs.Answering.{HeardAs, AreHeard, IsFound, CountsFrom}
+use Rattle.gateway_desk.specs.Shown.{HearsAt, HearsNone, Says, IsSaidAt}
+
+some-same : {X : Type 0} (x y : X) → Some x ≡ Some y → x ≡ y
+some-same x y e = cc
+
+tells-same : (v w : Response) → Tells v ≡ Tells w → v ≡ w
+tells-same v w e = cc
+
+hears-same : (p o : Peer) (a b : List ℕ) → Hears p a ≡ Hears o b → a ≡ b
+hears-same p o a b e = cc
+
+-- a finding tells a response just where the message is one
+
+pub found-tells : (n : ℕ) (o : Option Response) (w : Response) → (found_by n o).told ≡ Tells w → o ≡ Some w
+found-tells n (Some v) w e = ap Some (tells-same v w e)
+found-tells n None w e = absurd cc
+
+pub found-said : (n : ℕ) (o : Option Response) (v w : Response)
+    → (found_by n o).told ≡ Tells v → (v ≡ w) ↔ (o ≡ Some w)
+found-said n o v w e =
+    let is = found-tells n o v e in
+    ((λ same. is ∙ ap Some same), (λ said. some-same v w (sym is ∙ said)))
+
+pub found-fails : (n : ℕ) (o : Option Response) (cause : Cause) (w : Response)
+    → (found_by n o).told ≡ Fails cause → o ≡ Some w → ⊥
+found-fails n (Some v) cause w e same = absurd cc
+found-fails n None cause w e same = absurd cc
+
+-- one entry bears one moment and the same bytes
+
+heard-moment : (h : List Written) (n t u : ℕ) (m k : Content) → HeardAs h n t m → HeardAs h n u k → t ≡ u
+heard-moment h n t u m k a b =
+    ap (λ (w : Written). w.moment) (some-same (written t (Hears a.peer a.bytes))
+    (written u (Hears b.peer b.bytes)) (sym a.stands ∙ b.stands))
+
+heard-bytes : (h : List Written) (n t : ℕ) (m : Content) (bytes : List ℕ) → HearsAt h n t bytes
+    → (a : HeardAs h n t m) → a.bytes ≡ bytes
+heard-bytes h n t m bytes x a =
+    hears-same a.peer x.0 a.bytes bytes (ap (λ (w : Written). w.deed)
+    (some-same (written t (Hears a.peer a.bytes)) (written t (Hears x.0 bytes)) (sym a.stands ∙ x.1)))
+
+-- what its bytes say it says, and without bytes nothing
+
+pub heard-says : (h : List Written) (n t : ℕ) (q : CoapRequest) (w : Response) (bytes : List ℕ)
+    → HearsAt h n t bytes → Says q bytes w ↔ IsSaidAt h n t q w
+heard-says h n t q w bytes x = (to, from)
+  where
+    to : Says q bytes w → IsSaidAt h n t q w
+    to s = (s.0, record { peer = x.0; bytes = bytes; stands = x.1; spelled = s.1 }, s.2)
+
+    from : IsSaidAt h n t q w → Says q bytes w
+    from s = (s.0, subst (Spells s.0) (heard-bytes h n t s.0 bytes x s.1) s.1.spelled, s.2)
+
+pub unheard-says : (h : List Written) (n t : ℕ) (q : CoapRequest) (w : Response)
+    → HearsNone h n t → IsSaidAt h n t q w → ⊥
+unheard-says h n t q w none s = none s.1.bytes (s.1.peer, s.1.stands)
+
+-- A response that rests on one entry is shown just where that says it, at the moment from which it counts.
+
+pub said-shown : (h : List Written) (n t heard : ℕ) (q : CoapRequest) (w : Response)
+    → IsSaidAt h n heard q w
+    ↔ (IsFound h (Tells w) (Live (n ∷ [])) (Requests q) × CountsFrom h (Live (n ∷ [])) t heard)
+said-shown h n t heard q w = (to, λ f. from f.0.0 f.0.1 f.0.2 f.1.0 f.1.1)
+  where
+    to : IsSaidAt h n heard q w
+        → IsFound h (Tells w) (Live (n ∷ [])) (Requests q) × CountsFrom h (Live (n ∷ [])) t heard
+    to s = ((s.0 ∷ [], ((heard, s.1), tt), s.2), (s.0, s.1))
+
+    from : (ms : List Content) → AreHeard h (n ∷ []) ms → whole_of q ms ≡ Some w
+        → (k : Content) → HeardAs h n heard k → IsSaidAt h n heard q w
+    from [] a e k b = absurd a
+    from (m ∷ []) a e k b =
+        (m, subst (λ i. HeardAs h n i m) (heard-moment h n a.0.0 heard m k a.0.1 b) a.0.1, e)
+    from (m ∷ l ∷ ms) a e k b = absurd a.1
+
+-- a list of one
+pub one-of : (xs : List ℕ) (d : ℕ) → 1 ≤ length xs → length xs < 2 → xs ≡ get_or xs 0 d ∷ []
+one-of [] d least most = absurd (omega arith)
+one-of (x ∷ []) d least most = refl
+one-of (x ∷ y ∷ xs) d least most = absurd (omega arith)
+
+-- none rests on another number of entries
+pub not-one : (h : List Written) (js : List ℕ) (q : CoapRequest) (w : Response)
+    → ((n : ℕ) → js ≡ n ∷ [] → ⊥) → IsFound h (Tells w) (Live js) (Requests q) → ⊥
+not-one h js q w other f = by js other f.0 f.1 f.2
+  where
+    by : (js : List ℕ) → ((n : ℕ) → js ≡ n ∷ [] → ⊥) → (ms : List Content) → AreHeard h js ms
+        → whole_of q ms ≡ Some w → ⊥
+    by [] other [] a e = absurd cc
+    by [] other (m ∷ ms) a e = absurd a
+    by (n ∷ []) other ms a e = other n refl
+    by (n ∷ k ∷ js) other [] a e = absurd a
+    by (n ∷ k ∷ js) other (m ∷ []) a e = absurd a.1
+    by (n ∷ k ∷ js) other (m ∷ l ∷ ms) a e = absurd cc
+
+-- what a look at bytes, at an entry and at an answer tells
+
+pub says-so : {E : Type 0} (r : Result Bool E) (q : CoapRequest) (bytes : List ℕ) (w : Response) (m : Content)
+    → Spells m bytes → ((k : Content) → Spells k bytes → m ≡ k)
+    → IfOk r (λ is. IsTrue is ↔ (whole_of q (m ∷ []) ≡ Some w))
+    → IfOk r (λ is. IsTrue is ↔ Says q bytes w)
+says-so (Ok b) q bytes w m s only p = (
+  λ is. (m, s, p.0 is),
+  λ x. p.1 (subst (λ k. whole_of q (k ∷ []) ≡ Some w) (sym (only x.0 x.1)) x.2),
+)
+says-so (Err e) q bytes w m s only p = p
+
+pub is-said : {E : Type 0} (r : Result Bool E) (h : List Written) (n t : ℕ) (q : CoapRequest) (w : Response)
+    (bytes : List ℕ) → HearsAt h n t bytes → IfOk r (λ is. IsTrue is ↔ Says q bytes w)
+    → IfOk r (λ is. IsTrue is ↔ IsSaidAt h n t q w)
+is-said (Ok b) h n t q w bytes x p =
+    let same = heard-says h n t q w bytes x in ((λ is. same.0 (p.0 is)), (λ s. p.1 (same.1 s)))
+is-said (Err e) h n t q w bytes x p = p
+
+abbrev Shows : List Written → Told → Grounds → Sense → ℕ → ℕ → Type 0
+Shows h told grounds sense t heard = IsFound h told grounds sense × CountsFrom h grounds t heard
+
+one-shows : {E : Type 0} (r : Result Bool E) (h : List Written) (n t heard : ℕ) (q : CoapRequest) (w : Response)
+    → IfOk r (λ is. IsTrue is ↔ IsSaidAt h n heard q w)
+    → IfOk r (λ is. IsTrue is ↔ Shows h (Tells w) (Live (n ∷ [])) (Requests q) t heard)
+one-shows (Ok b) h n t heard q w p =
+    let same = said-shown h n t heard q w in ((λ is. same.0 (p.0 is)), (λ s. p.1 (same.1 s)))
+one-shows (Err e) h n t heard q w p = p
+
+pub shows-so : {E : Type 0} (r : Result Bool E) (h : List Written) (n t heard : ℕ) (q : CoapRequest) (w : Response)
+    (told : Told) (grounds : Grounds) (sense : Sense)
+    → Tells w ≡ told → Live (n ∷ []) ≡ grounds → Requests q ≡ sense
+    → IfOk r (λ is. IsTrue is ↔ IsSaidAt h n heard q w)
+    → IfOk r (λ is. IsTrue is ↔ (IsFound h told grounds sense × CountsFrom h grounds t heard))
+shows-so r h n t heard q w told grounds sense a b c p =
+    subst (λ x. IfOk r (λ is. IsTrue is ↔ Shows h x grounds sense t heard)) a
+    (subst (λ x. IfOk r (λ is. IsTrue is ↔ Shows h (Tells w) x sense t heard)) b
+    (subst (λ x. IfOk r (λ is. IsTrue is ↔ Shows h (Tells w) (Live (n ∷ [])) x t heard)) c
+    (one-shows r h n t heard q w p)))
+
+pub shows-none : (h : List Written) (js : List ℕ) (q : CoapRequest) (w : Response)
+    (told : Told) (grounds : Grounds) (sense : Sense)
+    → Tells w ≡ told → Live js ≡ grounds → Requests q ≡ sense → 2 ≤ length js
+    → IsFound h told grounds sense → ⊥
+shows-none h js q w told grounds sense a b c more f =
+    not-one h js q w
+    (λ n e. let one : length js ≡ 1 = ap length e in absurd (omega arith))
+    (subst (λ x. IsFound h (Tells w) (Live js) x) (sym c)
+    (subst (λ x. IsFound h (Tells w) x sense) (sym b)
+    (subst (λ x. IsFound h x grounds sense) (sym a) f)))

@@ -1,0 +1,250 @@
+//! The desk: a shop that sessions share under one lock.
+
+ghost use Rattle.std.specs.Prelude.{◌≡◌, ◌+◌, ◌<◌, ◌++◌, ◌∷◌, [], IfOk, IfSome, IsTrue, IsFalse, OnErr};
+ghost use Rattle.std.specs.Arc.{arc_value};
+ghost use Rattle.exchange_core.specs.Answering.{given_of};
+ghost use Rattle.gateway_desk.specs.Lines.{Slip, made, got};
+
+use crate::bells::Bells;
+use crate::clock::Clock;
+use crate::desk_state::DeskState;
+use crate::pass::Pass;
+use crate::receipt::Receipt;
+use crate::shop::Shop;
+use ask_model::Mapped;
+use exchange_core::{Answer, AskFault, Datagram, OpenFault, Ticket};
+use http_edge::Memory;
+use std::alloc::Global;
+use std::sync::ledger::Ledger;
+use std::sync::{Arc, Condvar, Mutex, Wait};
+use std::time::Duration;
+use transformers::Relation;
+use uri_map::Peer;
+
+/// How long one rests at most who lets time go on, in milliseconds.
+const LONGEST_REST: u64 = 60_000;
+
+/// How long one rests at least who had no memory to let time go on, in milliseconds.
+const PAUSE: u64 = 50;
+
+/// A shop and its clock under one lock, which is held for one step at a time, and never from an ask
+/// to its answer. Whenever it is free, one reading of the journal there is legal and at rest.
+#[derive(Drop)]
+pub struct LockedDesk<R: Relation, C: Clock, L: Ledger> {
+    state: Mutex<DeskState<R, C, L>>,
+    /// wake those who wait for an answer
+    bells: Bells,
+    /// wakes the one who lets time go on
+    due: Condvar,
+}
+
+/// The receipt of a ticket: its number and its request, and the answer.
+fn receipt_of<R: Relation>(ticket: Ticket<R>, answer: Answer<R>) -> Receipt<R>
+    ensures number { result.number ≡ ticket.number }
+    ensures given { given_of result.answer
+        ≡ record (given_of answer) { mapping = arc_value ticket.mapped } }
+{
+    Receipt {
+        number: ticket.number,
+        answer: Answer {
+            conn: answer.conn,
+            ask: answer.ask,
+            number: answer.number,
+            mapped: ticket.mapped,
+            moment: answer.moment,
+            heard: answer.heard,
+            finding: answer.finding,
+        },
+    }
+}
+
+impl<R: Relation, C: Clock, L: Ledger> LockedDesk<R, C, L> {
+    /// A desk over a shop and a clock.
+    pub fn new(alloc: Global, shop: Shop<R, L>, clock: C) -> Result<LockedDesk<R, C, L>, Memory> {
+        Ok(LockedDesk {
+            state: Mutex::new(DeskState {
+                shop,
+                clock,
+                shut: false,
+                rests_until: 0,
+            }),
+            bells: Bells::new(alloc)?,
+            due: Condvar::new(),
+        })
+    }
+
+    /// The shop, once the threads that shared it have ended.
+    pub fn into_shop(self) -> Shop<R, L> {
+        let LockedDesk {
+            state,
+            bells: _,
+            due: _,
+        } = self;
+        let DeskState {
+            shop,
+            clock: _,
+            shut: _,
+            rests_until: _,
+        } = state.into_inner();
+        shop
+    }
+
+    /// Opens a connection. A desk that was shut answers that its journal is sealed.
+    pub fn open<W: Wait>(&self, rt: &W) -> Result<Pass<R, L>, OpenFault>
+        ensures { IfOk result (λ p. p.lines ≡ []) }
+    {
+        let mut guard = self.state.lock(rt);
+        let state = &mut *guard;
+        if state.shut {
+            return Err(OpenFault::Sealed);
+        }
+        state.open()
+    }
+
+    /// Asks on the connection of a pass, and notes the ask there.
+    pub fn ask<W: Wait>(
+        &self,
+        rt: &W,
+        pass: &mut Pass<R, L>,
+        mapped: Arc<Mapped<R>>,
+    ) -> Result<Ticket<R>, AskFault>
+        ensures ticket { IfOk result (λ t. (t.conn ≡ pass.old.conn)
+            × (arc_value t.mapped ≡ arc_value mapped)) }
+        ensures lines { IfOk result (λ t. pass.new.lines ≡ pass.old.lines ++ made t.number ∷ []) }
+        ensures places { IfOk result (λ t. 0 < pass.new.places) }
+        ensures conn { pass.new.conn ≡ pass.old.conn }
+        ensures none { OnErr result (pass.new.lines ≡ pass.old.lines) }
+    {
+        let mut guard = self.state.lock(rt);
+        let state = &mut *guard;
+        let ticket = state.ask(pass, mapped);
+        if state.is_due_sooner() {
+            self.due.notify_one();
+        }
+        ticket
+    }
+
+    /// Waits for the answer to a ticket. None where the desk was shut. It takes no memory, and no
+    /// work while it waits.
+    pub fn answer<W: Wait>(&self, rt: &W, ticket: Ticket<R>) -> Option<Receipt<R>>
+        ensures number { IfSome result (λ r. (r.number ≡ ticket.number)
+            × (r.answer.ask ≡ ticket.number)) }
+        ensures request { IfSome result (λ r. arc_value r.answer.mapped ≡ arc_value ticket.mapped) }
+    {
+        let bell = self.bells.of(ticket.conn);
+        let mut guard = self.state.lock(rt);
+        for _ in rt.forever() {
+            let state = &mut *guard;
+            if let Some(answer) = state.collect(&ticket) {
+                return Some(receipt_of(ticket, answer));
+            }
+            if state.shut {
+                return None;
+            }
+            guard = bell.wait(rt, guard);
+        }
+        unreachable!()
+    }
+
+    /// Waits for the answer to a ticket, and puts its receipt last into the pass. False where the
+    /// desk was shut. It takes no memory, and no work while it waits.
+    pub fn wait<W: Wait>(&self, rt: &W, pass: &mut Pass<R, L>, ticket: Ticket<R>) -> bool
+        requires { 0 < pass.old.places }
+        ensures kept { IsTrue result → (s : Slip) × (s.number ≡ ticket.number)
+            × (s.given.ask ≡ ticket.number) × (s.given.mapping ≡ arc_value ticket.mapped)
+            × (pass.new.lines ≡ pass.old.lines ++ got s ∷ []) }
+        ensures same { IsFalse result → pass.new ≡ pass.old }
+        ensures conn { pass.new.conn ≡ pass.old.conn }
+    {
+        match self.answer(rt, ticket) {
+            Some(receipt) => {
+                pass.keep(receipt);
+                true
+            }
+            None => false,
+        }
+    }
+
+    /// Takes a datagram that came from this peer.
+    pub fn heard<W: Wait>(&self, rt: &W, peer: Peer, bytes: &[u8]) -> Result<(), Memory> {
+        let first = {
+            let mut guard = self.state.lock(rt);
+            let state = &mut *guard;
+            let from = state.shop.journal().len();
+            state.heard(peer, bytes)?;
+            if state.is_due_sooner() {
+                self.due.notify_one();
+            }
+            self.bells.ring(state.shop.journal(), from)
+        };
+        self.bells.wake(first);
+        Ok(())
+    }
+
+    /// Lets time go on. False where the clock failed.
+    pub fn tick<W: Wait>(&self, rt: &W) -> Result<bool, Memory> {
+        let (first, ticked) = {
+            let mut guard = self.state.lock(rt);
+            let state = &mut *guard;
+            let from = state.shop.journal().len();
+            let faults = state.clock.faults();
+            state.tick()?;
+            let first = self.bells.ring(state.shop.journal(), from);
+            (first, state.clock.faults() == faults)
+        };
+        self.bells.wake(first);
+        Ok(ticked)
+    }
+
+    /// Rests until there is something to do for `tick`, or a minute at most; after a tick that
+    /// memory was refused for, so that it is still due, at least for a pause. It takes no work
+    /// while nothing is due. False where the desk was shut.
+    pub fn rest<W: Wait + std::rt::Clock>(&self, rt: &W, was_refused: bool) -> bool {
+        let least = if was_refused { PAUSE } else { 0 };
+        let mut guard = self.state.lock(rt);
+        let state = &mut *guard;
+        if state.shut {
+            return false;
+        }
+        match state.rest(least) {
+            Some(0) => {}
+            Some(time) => {
+                let time = Duration::from_millis(time.min(LONGEST_REST));
+                let (_guard, _) = self.due.wait_timeout(rt, guard, time);
+            }
+            None => {
+                let _guard = self.due.wait(rt, guard);
+            }
+        }
+        true
+    }
+
+    /// Takes the first datagram that isn't sent yet.
+    pub fn take_send<W: Wait>(&self, rt: &W) -> Option<Datagram> {
+        let mut guard = self.state.lock(rt);
+        let state = &mut *guard;
+        state.shop.take_send()
+    }
+
+    /// Closes a connection. False where it isn't open.
+    pub fn close<W: Wait>(&self, rt: &W, conn: u32) -> bool {
+        let mut guard = self.state.lock(rt);
+        let state = &mut *guard;
+        state.close(conn)
+    }
+
+    /// Lets sessions wait no more, for good.
+    pub fn shut<W: Wait>(&self, rt: &W) {
+        let mut guard = self.state.lock(rt);
+        let state = &mut *guard;
+        state.shut = true;
+        self.bells.ring_all();
+        self.due.notify_all();
+    }
+
+    /// Whether the desk was shut.
+    pub fn is_shut<W: Wait>(&self, rt: &W) -> bool {
+        let guard = self.state.lock(rt);
+        guard.shut
+    }
+}

@@ -1,0 +1,153 @@
+//! What lies under the lock of a desk.
+
+ghost use Rattle.std.specs.Prelude.{◌≡◌, ◌⊎◌, ◌<◌, ◌++◌, ◌∷◌, [], Ok, Err, IfOk, IfErr, OnOk, OnErr, IsTrue, IsFalse, option_map};
+ghost use Rattle.std.specs.Arc.{arc_value};
+ghost use Rattle.journal_book.specs.Views.{ask_of};
+ghost use Rattle.exchange_model.specs.Sealing.{hears_in_room, ticks_in_room};
+ghost use Rattle.exchange_core.specs.Answering.{given_of};
+ghost use Rattle.exchange_core.specs.Calls.{now, IsOpened, IsAsked, IsClosed, IsUnknown};
+ghost use Rattle.exchange_core.specs.Due.{next_tick, IsNextTick};
+ghost use Rattle.exchange_core.specs.Taking.{IsTaken};
+ghost use Rattle.exchange_core.specs.Values.{stepped};
+ghost use Rattle.gateway_desk.specs.Lines.{made};
+ghost use Rattle.gateway_desk.specs.Resting.{rest_time, rest_until, is_sooner};
+
+use crate::clock::Clock;
+use crate::pass::Pass;
+use crate::shop::Shop;
+use ask_model::Mapped;
+use exchange_core::{Answer, AskFault, OpenFault, Ticket};
+use http_edge::Memory;
+use std::sync::Arc;
+use std::sync::ledger::Ledger;
+use transformers::Relation;
+use uri_map::Peer;
+
+/// A shop with its clock: each step is made at the clock's moment, with the clock's word.
+#[derive(Drop)]
+pub struct DeskState<R: Relation, C: Clock, L: Ledger> {
+    pub shop: Shop<R, L>,
+    pub clock: C,
+    /// sessions wait no more
+    pub shut: bool,
+    /// until when the one who lets time go on rests, in milliseconds
+    pub rests_until: u64,
+}
+
+impl<R: Relation, C: Clock, L: Ledger> DeskState<R, C, L> {
+    /// Opens a connection.
+    pub fn open(&mut self) -> Result<Pass<R, L>, OpenFault>
+        ensures opens { IfOk result (λ p. IsOpened (Ok p.conn)
+            (now self.old.shop.core.state.moment (C.time self.new.clock))
+            self.old.shop.core self.new.shop.core) }
+        ensures lines { IfOk result (λ p. p.lines ≡ []) }
+        ensures refused { IfErr result (λ fault. IsOpened (Err fault)
+            (now self.old.shop.core.state.moment (C.time self.new.clock))
+            self.old.shop.core self.new.shop.core
+            ⊎ (self.old.shop.left ≡ 0)) }
+    {
+        let moment = self.clock.moment();
+        self.shop.open(moment)
+    }
+
+    /// Asks on the connection of a pass.
+    pub fn ask(
+        &mut self,
+        pass: &mut Pass<R, L>,
+        mapped: Arc<Mapped<R>>,
+    ) -> Result<Ticket<R>, AskFault>
+        ensures ticket { IfOk result (λ t. (t.conn ≡ pass.old.conn)
+            × (arc_value t.mapped ≡ arc_value mapped)) }
+        ensures asks { IfOk result (λ k. IsAsked (Ok k.number)
+            (now self.old.shop.core.state.moment (C.time self.new.clock))
+            (C.drawn self.new.clock) pass.old.conn (ask_of (arc_value mapped))
+            self.old.shop.core self.new.shop.core) }
+        ensures lines { IfOk result (λ t. pass.new.lines ≡ pass.old.lines ++ made t.number ∷ []) }
+        ensures places { IfOk result (λ t. 0 < pass.new.places) }
+        ensures conn { pass.new.conn ≡ pass.old.conn }
+        ensures none { OnErr result (pass.new.lines ≡ pass.old.lines) }
+        ensures refused { IfErr result (λ fault. IsAsked (Err fault)
+            (now self.old.shop.core.state.moment (C.time self.new.clock))
+            (C.drawn self.new.clock) pass.old.conn (ask_of (arc_value mapped))
+            self.old.shop.core self.new.shop.core
+            ⊎ ((fault ≡ AskFault.Memory) × (self.new.shop ≡ self.old.shop))) }
+    {
+        let moment = self.clock.moment();
+        let word = self.clock.word();
+        self.shop.ask(moment, word, pass, mapped)
+    }
+
+    /// Takes a datagram.
+    pub fn heard(&mut self, peer: Peer, bytes: &[u8]) -> Result<(), Memory>
+        ensures heard { OnOk result (self.new.shop.core ≡ stepped (hears_in_room
+            (now self.old.shop.core.state.moment (C.time self.new.clock)) peer bytes.now
+            self.old.shop.core.state) self.old.shop.core) }
+        ensures memory { OnErr result (self.new.shop ≡ self.old.shop) }
+    {
+        let moment = self.clock.moment();
+        self.shop.heard(moment, peer, bytes)
+    }
+
+    /// Lets time go on.
+    pub fn tick(&mut self) -> Result<(), Memory>
+        ensures ticks { OnOk result (self.new.shop.core ≡ stepped (ticks_in_room
+            (now self.old.shop.core.state.moment (C.time self.new.clock))
+            self.old.shop.core.state) self.old.shop.core) }
+        ensures memory { OnErr result (self.new.shop ≡ self.old.shop) }
+    {
+        let moment = self.clock.moment();
+        self.shop.tick(moment)
+    }
+
+    /// Closes a connection. False where it isn't open.
+    pub fn close(&mut self, conn: u32) -> bool
+        ensures closed { IsTrue result → IsClosed
+            (now self.old.shop.core.state.moment (C.time self.new.clock)) conn
+            self.old.shop.core self.new.shop.core }
+        ensures unknown { IsFalse result
+            → (self.new.shop ≡ self.old.shop) × IsUnknown conn self.old.shop.core }
+    {
+        let moment = self.clock.moment();
+        self.shop.close(moment, conn)
+    }
+
+    /// Takes the answer to a ticket.
+    pub fn collect(&mut self, ticket: &Ticket<R>) -> Option<Answer<R>>
+        ensures { IsTaken (option_map given_of result) ticket.now.number
+            self.old.shop.core self.new.shop.core }
+    {
+        self.shop.take_answer(ticket)
+    }
+
+    /// Whether the one who lets time go on has to be woken, since there is something to do sooner.
+    pub fn is_due_sooner(&self) -> bool
+        ensures { result ≡ is_sooner (next_tick self.now.shop.core.state) self.now.rests_until }
+    {
+        match self.shop.next_due() {
+            Some(due) => due < self.rests_until,
+            None => false,
+        }
+    }
+
+    /// How long the one who lets time go on rests, in milliseconds: until there is something to do,
+    /// and so long at least; without end where nothing is open.
+    pub fn rest(&mut self, least: u64) -> Option<u64>
+        ensures rests { result ≡ rest_time (next_tick self.old.shop.core.state)
+            (C.time self.new.clock) least }
+        ensures until { self.new.rests_until ≡ rest_until (next_tick self.old.shop.core.state) }
+        ensures exact { IsNextTick (next_tick self.old.shop.core.state) self.old.shop.core.state }
+        ensures shop { self.new.shop ≡ self.old.shop }
+    {
+        let moment = self.clock.moment();
+        match self.shop.next_due() {
+            Some(due) => {
+                self.rests_until = due;
+                Some(due.saturating_sub(moment).max(least))
+            }
+            None => {
+                self.rests_until = u64::MAX;
+                None
+            }
+        }
+    }
+}

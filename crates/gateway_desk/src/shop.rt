@@ -1,0 +1,206 @@
+//! The core that sessions share, beside the book of their asks.
+
+ghost use Rattle.std.specs.Prelude.{◌≡◌, ◌⊎◌, ◌+◌, ◌-◌, ◌<◌, ◌^◌, ◌++◌, ◌∷◌, [], Ok, Err, IfOk, IfErr, OnOk, OnErr, IsTrue, IsFalse, option_map};
+ghost use Rattle.std.specs.Arc.{arc_value};
+ghost use Rattle.journal_book.specs.Views.{ask_of};
+ghost use Rattle.history_laws.specs.Justified.{Stands};
+ghost use Rattle.exchange_model.specs.Keeping.{start};
+ghost use Rattle.exchange_model.specs.Sealing.{hears_in_room, ticks_in_room};
+ghost use Rattle.exchange_core.specs.Answering.{given_of};
+ghost use Rattle.exchange_core.specs.Calls.{now, IsOpened, IsAsked, IsClosed, IsUnknown};
+ghost use Rattle.exchange_core.specs.Due.{next_tick, IsNextTick};
+ghost use Rattle.exchange_core.specs.Serving.{AreBelow, AreOlder};
+ghost use Rattle.exchange_core.specs.States.{core_of};
+ghost use Rattle.exchange_core.specs.Taking.{IsTaken, IsSent};
+ghost use Rattle.exchange_core.specs.Values.{outgoing_of, stepped};
+ghost use Rattle.gateway_desk.specs.Lines.{made};
+ghost use Rattle.gateway_desk.specs.Sending.{AreUnsent};
+
+use crate::pass::Pass;
+use ask_model::Mapped;
+use exchange_core::{Answer, AskFault, Core, Datagram, OpenFault, Ticket};
+use http_edge::Memory;
+use journal_book::Journal;
+use std::alloc::Global;
+use std::marker::Model;
+use std::sync::Arc;
+use std::sync::ledger::{Blank, Book, Ledger, Share};
+use transformers::Relation;
+use uri_map::Peer;
+
+/// A core, and the book of the ledger of asks. Its type keeps that the journal has as many asks as
+/// the book counts, and so as many as the shares of all passes; and that what waits to be sent are
+/// the last of the datagrams that the journal sends.
+#[derive(Drop)]
+pub struct Shop<R: Relation, L: Ledger> {
+    alloc: Global,
+    core: Core<R>,
+    book: Book<L>,
+    rest: Share<L>,
+    /// how many more passes it gives
+    left: u32,
+}
+
+impl<R: Relation, L: Ledger> Model for Shop<R, L> {
+    ghost use Rattle.std.specs.Prelude.{◌≡◌};
+    ghost use Rattle.gateway_desk.specs.Held.{ShopValue};
+    ghost use Rattle.gateway_desk.specs.Ledgers.{asks_of};
+    ghost use Rattle.gateway_desk.specs.Sending.{AreUnsent};
+
+    ghost Value = { ShopValue };
+
+    ghost view = { λ s. record { core = s.core; left = s.left } };
+
+    ghost invariant = { λ s. (asks_of s.core.state.entries ≡ s.book.total)
+        × AreUnsent s.core.state.entries s.core.unsent
+        × (s.rest.amount ≡ 0) × (s.rest.parts ≡ s.left) };
+}
+
+impl<R: Relation, L: Ledger> Shop<R, L> {
+    /// A shop to which nothing has happened.
+    pub fn new(alloc: Global, blank: Blank) -> Result<Shop<R, L>, Memory>
+        requires name { blank.name ≡ L.name }
+        requires parts { (blank.parts ≡ L.parts) × (blank.parts ≡ 2 ^ 32 - 1) }
+        ensures core { IfOk result (λ s. s.core ≡ core_of start [] []) }
+        ensures left { IfOk result (λ s. s.left ≡ 2 ^ 32 - 1) }
+    {
+        let core = Core::new(alloc)?;
+        let (book, rest) = blank.open::<L>();
+        Ok(Shop {
+            alloc,
+            core,
+            book,
+            rest,
+            left: 4294967295,
+        })
+    }
+
+    /// What happened. One reading of it is legal and at rest.
+    pub fn journal(&self) -> &Journal<R>
+        ensures entries { result.now.entries ≡ self.now.core.state.entries }
+        ensures stands { Stands self.now.core.state.entries }
+    {
+        self.core.journal()
+    }
+
+    /// Opens a connection. It is full where the core is, and where 2^32 - 1 passes were given.
+    pub fn open(&mut self, moment: u64) -> Result<Pass<R, L>, OpenFault>
+        ensures opens { IfOk result (λ p. IsOpened (Ok p.conn)
+            (now self.old.core.state.moment moment) self.old.core self.new.core) }
+        ensures above { IfOk result (λ p. AreBelow p.conn self.old.core.state.conns) }
+        ensures lines { IfOk result (λ p. p.lines ≡ []) }
+        ensures amount { IfOk result (λ p. p.amount ≡ 0) }
+        ensures left { IfOk result (λ p. self.new.left + 1 ≡ self.old.left) }
+        ensures none_left { self.old.left ≡ 0
+            → (result ≡ Err OpenFault.Full) × (self.new ≡ self.old) }
+        ensures refused { IfErr result (λ fault. IsOpened (Err fault)
+            (now self.old.core.state.moment moment) self.old.core self.new.core
+            ⊎ (self.old.left ≡ 0)) }
+        ensures kept { OnErr result (self.new.left ≡ self.old.left) }
+    {
+        if self.left == 0 {
+            return Err(OpenFault::Full);
+        }
+        let conn = self.core.open(moment)?;
+        let share = self.rest.split_off(1, 0);
+        self.left -= 1;
+        Ok(Pass::new(self.alloc, conn, share))
+    }
+
+    /// Asks on the connection of a pass, and notes the ask there. It makes the places of the ask's
+    /// note and of its receipt's.
+    pub fn ask(
+        &mut self,
+        moment: u64,
+        word: u64,
+        pass: &mut Pass<R, L>,
+        mapped: Arc<Mapped<R>>,
+    ) -> Result<Ticket<R>, AskFault>
+        ensures ticket { IfOk result (λ t. (t.conn ≡ pass.old.conn)
+            × (arc_value t.mapped ≡ arc_value mapped)) }
+        ensures asks { IfOk result (λ t. IsAsked (Ok t.number)
+            (now self.old.core.state.moment moment) word pass.old.conn
+            (ask_of (arc_value mapped)) self.old.core self.new.core) }
+        ensures older { IfOk result (λ t. AreOlder t.number self.old.core.untaken) }
+        ensures refused { IfErr result (λ fault. IsAsked (Err fault)
+            (now self.old.core.state.moment moment) word pass.old.conn
+            (ask_of (arc_value mapped)) self.old.core self.new.core
+            ⊎ ((fault ≡ AskFault.Memory) × (self.new ≡ self.old))) }
+        ensures lines { IfOk result (λ t. pass.new.lines ≡ pass.old.lines ++ made t.number ∷ []) }
+        ensures amount { IfOk result (λ t. pass.new.amount ≡ pass.old.amount + 1) }
+        ensures places { IfOk result (λ t. 0 < pass.new.places) }
+        ensures conn { pass.new.conn ≡ pass.old.conn }
+        ensures none { OnErr result (pass.new.lines ≡ pass.old.lines) }
+        ensures left { self.new.left ≡ self.old.left }
+    {
+        if pass.make_places().is_err() {
+            return Err(AskFault::Memory);
+        }
+        let ticket = self.core.ask(moment, word, pass.conn(), mapped)?;
+        pass.count(&mut self.book, ticket.number);
+        Ok(ticket)
+    }
+
+    /// Takes a datagram that came from this peer.
+    pub fn heard(&mut self, moment: u64, peer: Peer, bytes: &[u8]) -> Result<(), Memory>
+        ensures heard { OnOk result (self.new.core
+            ≡ stepped (hears_in_room (now self.old.core.state.moment moment) peer bytes.now
+            self.old.core.state) self.old.core) }
+        ensures memory { OnErr result (self.new ≡ self.old) }
+        ensures left { self.new.left ≡ self.old.left }
+    {
+        // the core makes nothing of the word
+        self.core.heard(moment, 0, peer, bytes)?;
+        Ok(())
+    }
+
+    /// Lets time go on: copies go out, messages that were sent in vain are given up, and asks are
+    /// answered that waited too long.
+    pub fn tick(&mut self, moment: u64) -> Result<(), Memory>
+        ensures ticks { OnOk result (self.new.core
+            ≡ stepped (ticks_in_room (now self.old.core.state.moment moment) self.old.core.state)
+            self.old.core) }
+        ensures memory { OnErr result (self.new ≡ self.old) }
+        ensures left { self.new.left ≡ self.old.left }
+    {
+        self.core.tick(moment)?;
+        Ok(())
+    }
+
+    /// Closes a connection. False where it isn't open.
+    pub fn close(&mut self, moment: u64, conn: u32) -> bool
+        ensures closed { IsTrue result
+            → IsClosed (now self.old.core.state.moment moment) conn self.old.core self.new.core }
+        ensures unknown { IsFalse result
+            → (self.new ≡ self.old) × IsUnknown conn self.old.core }
+        ensures left { self.new.left ≡ self.old.left }
+    {
+        self.core.close(moment, conn)
+    }
+
+    /// Takes the answer to an ask, which is given once, and stands in the journal with its grounds.
+    pub fn take_answer(&mut self, ticket: &Ticket<R>) -> Option<Answer<R>>
+        ensures taken { IsTaken (option_map given_of result) ticket.now.number
+            self.old.core self.new.core }
+        ensures left { self.new.left ≡ self.old.left }
+    {
+        self.core.take_answer(ticket)
+    }
+
+    /// Takes the first datagram that isn't sent yet.
+    pub fn take_send(&mut self) -> Option<Datagram>
+        ensures sent { IsSent (option_map outgoing_of result) self.old.core self.new.core }
+        ensures unsent { AreUnsent self.old.core.state.entries self.old.core.unsent }
+        ensures left { self.new.left ≡ self.old.left }
+    {
+        self.core.take_send()
+    }
+
+    /// The moment of the next tick that has something to do, if any has.
+    pub fn next_due(&self) -> Option<u64>
+        ensures is { result ≡ next_tick self.now.core.state }
+        ensures exact { IsNextTick result self.now.core.state }
+    {
+        self.core.next_due()
+    }
+}

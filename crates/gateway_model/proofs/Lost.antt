@@ -1,0 +1,142 @@
+-- Why a datagram was dropped, of the entries.
+use Rattle.std.proofs.Common.{◌≡◌, ◌⊎◌, inl, inr, ℕ, ◌+◌, ◌≤◌, ◌<◌, Bool, true, false, cond, List, [], ◌∷◌, ◌++◌, length, Option, Some, None, refl, sym, ◌∙◌, subst, arith}
+use Rattle.std.specs.Prelude.{◌&&◌, count_by, find, option_map}
+use Rattle.std.specs.List.{AllByRecursion}
+use Rattle.uri_map.specs.declared.peer.Peer.{Peer}
+use Rattle.ask_model.specs.Requests.{same_peer}
+use Rattle.journal_book.specs.Entries.{Deed, Opens, Asks, Sends, Hears, Passes, Answers, Shuts, Seals, Written}
+use Rattle.history_laws.specs.Hearing.{is_such, is_live, live_heard}
+use Rattle.history_laws.specs.Justified.{Legal, Follows}
+use Rattle.history_laws.specs.Readings.{Noted, Note, Plain, Begins, First, Copies, Confirms, Says, Repeats, Garbled, entries, newest}
+use Rattle.history_laws.specs.Transmissions.{FirstSending, firsts, firsts_by, last_sent}
+use Rattle.exchange_model.specs.Reads.{Reads}
+use Rattle.exchange_model.specs.Room.{KeptInRoom}
+use Rattle.exchange_model.specs.State.{State}
+use Rattle.exchange_model.proofs.Counting.{one, count-cons}
+use Rattle.gateway_model.specs.Hearing.{IsSentElsewhere, IsStranger, IsCrowded, came_lately, is_recent_from}
+use Rattle.gateway_model.proofs.Heard.{WhyLost}
+
+all-push : (P : Written → Type 0) (ws : List Written) (w : Written) → AllByRecursion P ws → P w → AllByRecursion P (ws ++ w ∷ [])
+all-push P [] w h p = (p, tt)
+all-push P (x ∷ ws) w h p = (h.0, all-push P ws w h.1 p)
+
+-- Where nothing was sent to the endpoint for the first time, no entry is such a sending.
+
+not-found : (b : Bool) (f : FirstSending) (o : Option FirstSending) → cond b (Some f) o ≡ None → (b ≡ false) × (o ≡ None)
+not-found true f o e = absurd cc
+not-found false f o e = (refl, e)
+
+abbrev found_to : Peer → List FirstSending → Option FirstSending
+found_to p fs = find (λ (f : FirstSending). same_peer f.peer p) fs
+
+sent-by : (l : List Noted) (n t : ℕ) (p : Peer) (d : Deed) (note : Note) (old : List FirstSending) → Follows l t d note
+    → found_to p (firsts_by n t d note old) ≡ None → IsSentElsewhere p d × (found_to p old ≡ None)
+sent-by l n t p (Opens c) note old f e = (tt, e)
+sent-by l n t p (Asks c a) note old f e = (tt, e)
+sent-by l n t p (Sends q b None) Plain old f e = (tt, e)
+sent-by l n t p (Sends q b None) (Begins r) old f e = (tt, e)
+sent-by l n t p (Sends q b None) (First o m) old f e =
+    let parts = not-found (same_peer q p) (record { number = n; moment = t; opening = o; peer = q; message = m }) (found_to p old) e in
+    (tt, parts.1)
+sent-by l n t p (Sends q b None) (Copies i) old f e = (tt, e)
+sent-by l n t p (Sends q b None) Confirms old f e = (tt, e)
+sent-by l n t p (Sends q b None) (Says m to notice) old f e = (tt, e)
+sent-by l n t p (Sends q b None) (Repeats m j) old f e = (tt, e)
+sent-by l n t p (Sends q b None) Garbled old f e = (tt, e)
+sent-by l n t p (Sends q b (Some w)) Plain old f e = absurd f.1
+sent-by l n t p (Sends q b (Some w)) (Begins r) old f e = absurd f.1
+sent-by l n t p (Sends q b (Some w)) (First o m) old f e =
+    not-found (same_peer q p) (record { number = n; moment = t; opening = o; peer = q; message = m }) (found_to p old) e
+sent-by l n t p (Sends q b (Some w)) (Copies i) old f e = absurd (some-none w f.1.1)
+  where
+    some-none : (k : ℕ) → Some k ≡ None → ⊥
+    some-none k e = cc
+sent-by l n t p (Sends q b (Some w)) Confirms old f e = absurd (some-none w f.1.0)
+  where
+    some-none : (k : ℕ) → Some k ≡ None → ⊥
+    some-none k e = cc
+sent-by l n t p (Sends q b (Some w)) (Says m to notice) old f e = absurd f.1
+sent-by l n t p (Sends q b (Some w)) (Repeats m j) old f e = absurd f.1
+sent-by l n t p (Sends q b (Some w)) Garbled old f e = absurd f.1
+sent-by l n t p (Hears q b) note old f e = (tt, e)
+sent-by l n t p Passes note old f e = (tt, e)
+sent-by l n t p (Answers c k g) note old f e = (tt, e)
+sent-by l n t p (Shuts c) note old f e = (tt, e)
+sent-by l n t p Seals note old f e = (tt, e)
+
+pub strange : (l : List Noted) (p : Peer) → Legal l → last_sent l p ≡ None → IsStranger p (entries l)
+strange [] p h e = tt
+strange (x ∷ l) p h e =
+    let so = sent-by l _ x.written.moment p x.written.deed x.note (firsts l) h.2 e in
+    all-push (λ (w : Written). IsSentElsewhere p w.deed) (entries l) x.written (strange l p h.0 so.1) so.0
+
+-- What can be repeated came in lately.
+
+live-came : (t s : ℕ) (p : Peer) (d : Deed) (note : Note) → is_live t p s d note ≡ true → came_lately t p s d ≡ true
+live-came t s p (Opens c) note e = absurd cc
+live-came t s p (Asks c a) note e = absurd cc
+live-came t s p (Sends q b w) note e = absurd cc
+live-came t s p (Hears q b) (Says m to notice) e = both (is_such m.kind) _ e
+  where
+    both : (x y : Bool) → (x && y) ≡ true → y ≡ true
+    both true y e = e
+    both false y e = absurd cc
+live-came t s p (Hears q b) Plain e = absurd cc
+live-came t s p (Hears q b) (Begins r) e = absurd cc
+live-came t s p (Hears q b) (First o m) e = absurd cc
+live-came t s p (Hears q b) (Copies i) e = absurd cc
+live-came t s p (Hears q b) Confirms e = absurd cc
+live-came t s p (Hears q b) (Repeats m j) e = absurd cc
+live-came t s p (Hears q b) Garbled e = absurd cc
+live-came t s p Passes note e = absurd cc
+live-came t s p (Answers c k g) note e = absurd cc
+live-came t s p (Shuts c) note e = absurd cc
+live-came t s p Seals note e = absurd cc
+
+count-push : (f : Written → Bool) (ws : List Written) (w : Written) → count_by f (ws ++ w ∷ []) ≡ count_by f ws + one (f w)
+count-push f [] w = let here = count-cons f w [] in omega (arith, here)
+count-push f (x ∷ ws) w =
+    let ih = count-push f ws w in
+    let long = count-cons f x (ws ++ w ∷ []) in
+    let short = count-cons f x ws in
+    omega (arith, ih, long, short)
+
+more-if : (a b : Bool) (n m : ℕ) → (a ≡ true → b ≡ true) → n ≤ m → cond a (n + 1) n ≤ m + one b
+more-if true true n m f le = omega arith
+more-if true false n m f le = absurd (differ (f refl))
+  where
+    differ : false ≡ true → ⊥
+    differ e = cc
+more-if false true n m f le = omega arith
+more-if false false n m f le = omega arith
+
+pub lately : (t : ℕ) (p : Peer) (l : List Noted) → live_heard l t p ≤ count_by (is_recent_from t p) (entries l)
+lately t p [] = omega arith
+lately t p (x ∷ l) =
+    let push = count-push (is_recent_from t p) (entries l) x.written in
+    rw push (more-if (is_live t p x.written.moment x.written.deed x.note) (is_recent_from t p x.written)
+    (live_heard l t p) (count_by (is_recent_from t p) (entries l))
+    (live-came t x.written.moment p x.written.deed x.note) (lately t p l))
+
+-- What the core keeps of the endpoint is what the entries say.
+
+map-none : (o : Option FirstSending) → option_map (λ (f : FirstSending). f.message.mid) o ≡ None → o ≡ None
+map-none None e = refl
+map-none (Some f) e = absurd cc
+
+pub why-dropped : (t : ℕ) (p : Peer) (d : List ℕ) (S : State) → KeptInRoom S → S.moment ≤ t → WhyLost t p d S
+    → IsStranger p S.entries ⊎ ((2048 < length d) ⊎ IsCrowded t p S.entries)
+why-dropped t p d S kept le why =
+    by kept.kept.reading kept.kept.rests.reads why
+  where
+    by : (l : List Noted) → Reads l S → WhyLost t p d S
+        → IsStranger p S.entries ⊎ ((2048 < length d) ⊎ IsCrowded t p S.entries)
+    by l r (inl unknown) =
+        inl (subst (IsStranger p) r.entries_are (strange l p r.legal (map-none (last_sent l p) (sym (r.links_are p).last ∙ unknown))))
+    by l r (inr (inl long)) = inr (inl long)
+    by l r (inr (inr many)) =
+        let time : newest l ≤ t = subst (λ (n : ℕ). n ≤ t) (sym r.moment_is) le in
+        let live = (r.links_are p).heard.live t time in
+        let most = lately t p l in
+        let all : 1024 ≤ count_by (is_recent_from t p) (entries l) = omega (arith, many, live, most) in
+        inr (inr (subst (IsCrowded t p) r.entries_are all))

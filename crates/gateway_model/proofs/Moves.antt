@@ -1,0 +1,542 @@
+-- What each step of a core gives out, what it adds to the journal, and what waits after it.
+use Rattle.std.proofs.Common.{◌≡◌, ◌≢◌, ℕ, zero, suc, ◌+◌, Bool, true, false, cond, not, inl, inr, List, [], ◌∷◌, ◌++◌, length, drop, map, Some, refl, sym, ap, subst, ◌∙◌, arith, append_assoc, append-nil, length-append, eqb-true, eq-eqb}
+use Rattle.std.specs.Prelude.{◌==◌, ⊤, if◌then◌else◌}
+use Rattle.std.specs.List.{AllByRecursion, Contains, filter, flat_map, slice_get}
+use Rattle.std.proofs.Math.Seq.{drop-append_seam}
+use Rattle.std.proofs.lemmas.Bool.Decides.{eqb_tells}
+use Rattle.std.proofs.lemmas.List.{map-append}
+use Rattle.std.proofs.lemmas.Grind.{flat_map-append}
+use Rattle.coap_codec.specs.Spelling.{Content}
+use Rattle.ask_model.specs.Requests.{Sense, Requests, Refuses}
+use Rattle.http_edge.specs.Answers.{answer_text}
+use Rattle.http_edge.specs.declared.answer.HttpAnswer.{HttpAnswer}
+use Rattle.journal_book.specs.Entries.{Grounds, Live, Kept, Fault, Deed, Opens, Asks, Sends, Hears, Passes, Answers, Shuts, Seals, Written}
+use Rattle.reply_reading.specs.Findings.{Told, Tells as TellsOf, Fails}
+use Rattle.history_laws.specs.Justified.{Stands}
+use Rattle.history_claims.specs.Headline.{IsEntry}
+use Rattle.history_claims.proofs.Entries.{got-more}
+use Rattle.history_claims.proofs.Apart.{answer-once}
+use Rattle.exchange_model.specs.State.{State}
+use Rattle.exchange_model.specs.declared.kept.Conn.{Conn}
+use Rattle.exchange_model.specs.Growing.{Adds, conns_with}
+use Rattle.exchange_core.specs.Values.{CoreValue, Untaken, Outgoing, written, answered_by, answered_in, sent_by, sent_in, stepped}
+use Rattle.exchange_core.specs.Answering.{Given, HeardAs, AreHeard, IsFound, CountsFrom, IsGiven}
+use Rattle.exchange_core.specs.Drafts.{untaken_of}
+use Rattle.exchange_core.specs.Taking.{IsTaken, IsSent}
+use Rattle.gateway_model.specs.Acts.{Terms, continue_text}
+use Rattle.gateway_model.specs.Emissions.{Emission, Says, Goes, Closed, Turned}
+use Rattle.gateway_model.specs.Going.{goes_in, goes_by}
+use Rattle.gateway_model.specs.Tellings.{IsMeant, AreMeant}
+use Rattle.gateway_model.specs.Told.{Piece, interim, final, bytes_in, answers_in, answers_by, answers_to, said_by, said_to}
+use Rattle.gateway_model.specs.Waiting.{AreApart}
+use Rattle.gateway_model.proofs.Order.{all-append}
+use Rattle.gateway_model.proofs.Apart.{at-seam}
+use Rattle.gateway_model.proofs.Moving.{conns-both}
+
+-- what entries send and answer, in two parts
+
+pub sent-both : (xs ys : List Written) → sent_in (xs ++ ys) ≡ sent_in xs ++ sent_in ys
+sent-both [] ys = refl
+sent-both (x ∷ xs) ys =
+    ap (λ (os : List Outgoing). sent_by x.deed ++ os) (sent-both xs ys)
+    ∙ sym (append_assoc (sent_by x.deed) (sent_in xs) (sent_in ys))
+
+pub answered-both : (n : ℕ) (xs ys : List Written)
+    → answered_in n (xs ++ ys) ≡ answered_in n xs ++ answered_in (n + length xs) ys
+answered-both n [] ys = let e : n ≡ n + 0 = omega arith in ap (λ (k : ℕ). answered_in k ys) e
+answered-both n (x ∷ xs) ys =
+    let e : n + 1 + length xs ≡ n + suc (length xs) = omega arith in
+    ap (λ (us : List Untaken). answered_by n x.deed ++ us) (answered-both (n + 1) xs ys)
+    ∙ (sym (append_assoc (answered_by n x.deed) (answered_in (n + 1) xs) (answered_in (n + 1 + length xs) ys))
+    ∙ ap (λ (k : ℕ). (answered_by n x.deed ++ answered_in (n + 1) xs) ++ answered_in k ys) e)
+
+-- the numbers of a connection's answers
+abbrev pub num_of : ℕ → Untaken → List ℕ
+num_of c u = if u.conn == c then u.number ∷ [] else []
+
+abbrev pub nums : ℕ → List Untaken → List ℕ
+nums c us = flat_map (num_of c) us
+
+nums-by : (c n : ℕ) (d : Deed) → answers_by c n d ≡ nums c (answered_by n d)
+nums-by c n (Answers d k g) = sym (append-nil (if d == c then n ∷ [] else []))
+nums-by c n (Opens d) = refl
+nums-by c n (Asks d a) = refl
+nums-by c n (Sends p b w) = refl
+nums-by c n (Hears p b) = refl
+nums-by c n Passes = refl
+nums-by c n (Shuts d) = refl
+nums-by c n Seals = refl
+
+pub nums-in : (c n : ℕ) (ws : List Written) → answers_to c n ws ≡ nums c (answered_in n ws)
+nums-in c n [] = refl
+nums-in c n (w ∷ ws) =
+    ap (λ (ks : List ℕ). ks ++ answers_to c (n + 1) ws) (nums-by c n w.deed)
+    ∙ (ap (λ (ks : List ℕ). nums c (answered_by n w.deed) ++ ks) (nums-in c (n + 1) ws)
+    ∙ sym (flat_map-append (num_of c) (answered_by n w.deed) (answered_in (n + 1) ws)))
+
+-- facts of entries stay as they grow
+
+heard-more : (xs ys : List Written) (j t : ℕ) (m : Content) → HeardAs xs j t m → HeardAs (xs ++ ys) j t m
+heard-more xs ys j t m h = record {
+  peer = h.peer;
+  bytes = h.bytes;
+  stands = got-more xs ys j _ h.stands;
+  spelled = h.spelled;
+}
+
+all-heard-more : (xs ys : List Written) (js : List ℕ) (ms : List Content) → AreHeard xs js ms → AreHeard (xs ++ ys) js ms
+all-heard-more xs ys [] [] h = tt
+all-heard-more xs ys (j ∷ js) (m ∷ ms) h = ((h.0.0, heard-more xs ys j h.0.0 m h.0.1), all-heard-more xs ys js ms h.1)
+all-heard-more xs ys [] (m ∷ ms) h = absurd h
+all-heard-more xs ys (j ∷ js) [] h = absurd h
+
+found-more : (xs ys : List Written) (told : Told) (g : Grounds) (s : Sense) → IsFound xs told g s → IsFound (xs ++ ys) told g s
+found-more xs ys (TellsOf w) (Live js) (Requests q) h = (h.0, all-heard-more xs ys js h.0 h.1, h.2)
+found-more xs ys (TellsOf w) (Live js) (Refuses cause status) h = absurd h
+found-more xs ys (TellsOf w) (Kept js) s h = absurd h
+found-more xs ys (TellsOf w) (Fault cause n) s h = absurd h
+found-more xs ys (Fails cause) (Fault named n) s h = h
+found-more xs ys (Fails cause) (Live js) s h = absurd h
+found-more xs ys (Fails cause) (Kept js) s h = absurd h
+
+counts-more : (xs ys : List Written) (g : Grounds) (t heard : ℕ) → CountsFrom xs g t heard → CountsFrom (xs ++ ys) g t heard
+counts-more xs ys (Live (j ∷ js)) t heard h = (h.0, heard-more xs ys j heard h.0 h.1)
+counts-more xs ys (Live []) t heard h = h
+counts-more xs ys (Kept js) t heard h = h
+counts-more xs ys (Fault cause n) t heard h = h
+
+pub given-more : (xs ys : List Written) (g : Given) → IsGiven xs g → IsGiven (xs ++ ys) g
+given-more xs ys g h = record {
+  asked = h.asked;
+  ask_stands = got-more xs ys g.ask _ h.ask_stands;
+  stands = got-more xs ys g.number _ h.stands;
+  found = found-more xs ys g.found.told g.found.grounds g.mapping.sense h.found;
+  counts = counts-more xs ys g.found.grounds g.moment g.heard h.counts;
+}
+
+-- what connections are told
+
+-- Each may be told to go on.
+abbrev pub Whoever : ℕ → Type 0
+Whoever c = ⊤
+
+-- the bytes tell the answer in this entry
+pub record TellsGiven (M : Terms) (h : List Written) (c n : ℕ) (bytes : List ℕ) : Type 0 where
+  pub given : Given
+  pub conn : given.conn ≡ c
+  pub number : given.number ≡ n
+  pub is : IsGiven h given
+  pub response : HttpAnswer
+  pub tells : M.IsTelling given response
+  pub text : bytes ≡ answer_text response
+
+abbrev pub IsSaid : Terms → (ℕ → Type 0) → List Written → ℕ → Piece → Type 0
+IsSaid M G h c interim = G c
+IsSaid M G h c (final n bytes) = TellsGiven M h c n bytes
+
+pub record ToldIn (M : Terms) (G : ℕ → Type 0) (h : List Written) (c n : ℕ) (more : List Written)
+    (old : List Untaken) (out : List Emission) (new : List Untaken) : Type 0 where
+  pub pieces : List Piece
+  pub said : said_to c out ≡ map bytes_in pieces
+  pub each : AllByRecursion (IsSaid M G h c) pieces
+  pub answers : flat_map answers_in pieces ++ nums c new ≡ nums c old ++ nums c (answered_in n more)
+
+pub record IsAnswerIn (h : List Written) (u : Untaken) : Type 0 where
+  pub moment : ℕ
+  pub grounds : Grounds
+  pub stands : IsEntry h u.number moment (Answers u.conn u.ask grounds)
+
+-- The answers wait that are entries, one at most for a connection.
+pub record Wait (h : List Written) (us : List Untaken) : Type 0 where
+  pub apart : AreApart us
+  pub answers : AllByRecursion (IsAnswerIn h) us
+
+pub record Did (M : Terms) (G : ℕ → Type 0) (old : CoreValue) (out : List Emission) (new : CoreValue) : Type 0 where
+  pub more : List Written
+  pub added : new.state.entries ≡ old.state.entries ++ more
+  pub conns : new.state.conns ≡ conns_with old.state.conns (length old.state.entries) more
+  pub sent : goes_in out ++ new.unsent ≡ old.unsent ++ sent_in more
+  pub meant : AreMeant M more
+  pub told :
+      (h rest : List Written) → Stands h → h ≡ new.state.entries ++ rest → Wait h old.untaken
+      → Wait h new.untaken
+      × ((c : ℕ) → ToldIn M G h c (length old.state.entries) more old.untaken out new.untaken)
+
+-- one after another
+
+abbrev pub told-then : (M : Terms) (G : ℕ → Type 0) (h : List Written) (c n m : ℕ) (xs ys : List Written) (us vs ws : List Untaken) (a b : List Emission)
+    → m ≡ n + length xs → ToldIn M G h c n xs us a vs → ToldIn M G h c m ys vs b ws
+    → ToldIn M G h c n (xs ++ ys) us (a ++ b) ws
+told-then M G h c n m xs ys us vs ws a b long x y =
+    let p : List ℕ = flat_map answers_in x.pieces in
+    let q : List ℕ = flat_map answers_in y.pieces in
+    let r : List ℕ = nums c (answered_in n xs) in
+    let s : List ℕ = nums c (answered_in m ys) in
+    let both : nums c (answered_in n (xs ++ ys)) ≡ r ++ s =
+    ap (nums c) (answered-both n xs ys)
+    ∙ (flat_map-append (num_of c) (answered_in n xs) (answered_in (n + length xs) ys)
+    ∙ ap (λ (k : ℕ). r ++ nums c (answered_in k ys)) (sym long)) in
+    record {
+      pieces = x.pieces ++ y.pieces;
+      said = flat_map-append (said_by c) a b
+          ∙ (ap (λ (t : List (List ℕ)). t ++ said_to c b) x.said
+          ∙ (ap (λ (t : List (List ℕ)). map bytes_in x.pieces ++ t) y.said
+          ∙ sym (map-append bytes_in x.pieces y.pieces)));
+      each = all-append (IsSaid M G h c) x.pieces y.pieces x.each y.each;
+      answers = ap (λ (t : List ℕ). t ++ nums c ws) (flat_map-append answers_in x.pieces y.pieces)
+          ∙ (append_assoc p q (nums c ws)
+          ∙ (ap (λ (t : List ℕ). p ++ t) y.answers
+          ∙ (sym (append_assoc p (nums c vs) s)
+          ∙ (ap (λ (t : List ℕ). t ++ s) x.answers
+          ∙ (append_assoc (nums c us) r s
+          ∙ ap (λ (t : List ℕ). nums c us ++ t) (sym both))))));
+    }
+
+abbrev pub did-then : (M : Terms) (G : ℕ → Type 0) (u v w : CoreValue) (a b : List Emission) → Did M G u a v → Did M G v b w → Did M G u (a ++ b) w
+did-then M G u v w a b x y =
+    let long : length v.state.entries ≡ length u.state.entries + length x.more =
+    ap length x.added ∙ length-append u.state.entries x.more in
+    record {
+      more = x.more ++ y.more;
+      added = y.added ∙ (ap (λ (h : List Written). h ++ y.more) x.added ∙ append_assoc u.state.entries x.more y.more);
+      conns = y.conns
+          ∙ (ap (λ (cs : List Conn). conns_with cs (length v.state.entries) y.more) x.conns
+          ∙ (ap (λ (k : ℕ). conns_with (conns_with u.state.conns (length u.state.entries) x.more) k y.more) long
+          ∙ sym (conns-both u.state.conns (length u.state.entries) x.more y.more)));
+      sent = ap (λ (os : List Outgoing). os ++ w.unsent) (flat_map-append goes_by a b)
+          ∙ (append_assoc (goes_in a) (goes_in b) w.unsent
+          ∙ (ap (λ (os : List Outgoing). goes_in a ++ os) y.sent
+          ∙ (sym (append_assoc (goes_in a) v.unsent (sent_in y.more))
+          ∙ (ap (λ (os : List Outgoing). os ++ sent_in y.more) x.sent
+          ∙ (append_assoc u.unsent (sent_in x.more) (sent_in y.more)
+          ∙ ap (λ (os : List Outgoing). u.unsent ++ os) (sym (sent-both x.more y.more)))))));
+      meant = all-append (λ (e : Written). IsMeant M e.deed) x.more y.more x.meant y.meant;
+      told = λ h rest stands is waits.
+          let first = x.told h (y.more ++ rest) stands
+          (is ∙ (ap (λ (q : List Written). q ++ rest) y.added ∙ append_assoc v.state.entries y.more rest)) waits in
+          let next = y.told h rest stands is first.0 in (
+            next.0,
+            λ c. told-then M G h c (length u.state.entries) (length v.state.entries) x.more y.more u.untaken v.untaken w.untaken a b
+                long (first.1 c) (next.1 c),
+          );
+    }
+
+-- What is given out tells no answer, and no datagram goes out.
+
+abbrev pub IsInterim : Type 0 → Piece → Type 0
+IsInterim T interim = T
+IsInterim T (final n bytes) = ⊥
+
+pub record SaysAside (G : ℕ → Type 0) (c : ℕ) (out : List Emission) : Type 0 where
+  pub pieces : List Piece
+  pub said : said_to c out ≡ map bytes_in pieces
+  pub each : AllByRecursion (IsInterim (G c)) pieces
+
+pub record Aside (G : ℕ → Type 0) (out : List Emission) : Type 0 where
+  pub none : goes_in out ≡ []
+  pub says : (c : ℕ) → SaysAside G c out
+
+pub aside-none : (G : ℕ → Type 0) → Aside G []
+aside-none G = record { none = refl; says = λ c. record { pieces = []; said = refl; each = tt } }
+
+pub aside-closed : (G : ℕ → Type 0) (d : ℕ) → Aside G (Closed d ∷ [])
+aside-closed G d = record { none = refl; says = λ c. record { pieces = []; said = refl; each = tt } }
+
+pub aside-turned : (G : ℕ → Type 0) → Aside G (Turned ∷ [])
+aside-turned G = record { none = refl; says = λ c. record { pieces = []; said = refl; each = tt } }
+
+pub aside-goes-on : (G : ℕ → Type 0) (d : ℕ) → G d → Aside G (Says d continue_text ∷ [])
+aside-goes-on G d g = record { none = refl; says = λ c. by c (d == c) refl }
+  where
+    by : (c : ℕ) (b : Bool) → (d == c) ≡ b → SaysAside G c (Says d continue_text ∷ [])
+    by c true e = record {
+      pieces = interim ∷ [];
+      said = ap (λ (t : Bool). (if t then continue_text ∷ [] else []) ++ []) e;
+      each = (subst G (eqb-true d c e) g, tt);
+    }
+    by c false e = record {
+      pieces = [];
+      said = ap (λ (t : Bool). (if t then continue_text ∷ [] else []) ++ []) e;
+      each = tt;
+    }
+
+aside-said : (M : Terms) (G : ℕ → Type 0) (h : List Written) (c : ℕ) (ps : List Piece) → AllByRecursion (IsInterim (G c)) ps → AllByRecursion (IsSaid M G h c) ps
+aside-said M G h c [] each = tt
+aside-said M G h c (interim ∷ ps) each = (each.0, aside-said M G h c ps each.1)
+aside-said M G h c (final n bytes ∷ ps) each = absurd each.0
+
+aside-answers : (T : Type 0) (ps : List Piece) → AllByRecursion (IsInterim T) ps → flat_map answers_in ps ≡ []
+aside-answers T [] each = refl
+aside-answers T (interim ∷ ps) each = aside-answers T ps each.1
+aside-answers T (final n bytes ∷ ps) each = absurd each.0
+
+-- the core stays as it is
+
+pub did-aside : (M : Terms) (G : ℕ → Type 0) (old new : CoreValue) (out : List Emission) → new ≡ old → Aside G out → Did M G old out new
+did-aside M G old new out e aside = subst (λ (v : CoreValue). Did M G old out v) (sym e) (record {
+  more = [];
+  added = sym (append-nil old.state.entries);
+  conns = refl;
+  sent = ap (λ (os : List Outgoing). os ++ old.unsent) aside.none ∙ sym (append-nil old.unsent);
+  meant = tt;
+  told = λ h rest stands is waits. (
+    waits,
+    λ c.
+        let says = aside.says c in
+        record {
+          pieces = says.pieces;
+          said = says.said;
+          each = aside-said M G h c says.pieces says.each;
+          answers = ap (λ (ks : List ℕ). ks ++ nums c old.untaken) (aside-answers (G c) says.pieces says.each) ∙ sym (append-nil (nums c old.untaken));
+        },
+  );
+})
+
+-- it does a step
+
+answers-in : (h front ws rest : List Written) → h ≡ front ++ (ws ++ rest)
+    → AllByRecursion (IsAnswerIn h) (answered_in (length front) ws)
+answers-in h front [] rest is = tt
+answers-in h front (w ∷ ws) rest is =
+    all-append (IsAnswerIn h) (answered_by (length front) w.deed) (answered_in (length front + 1) ws)
+    (here w.deed refl)
+    (subst (λ (n : ℕ). AllByRecursion (IsAnswerIn h) (answered_in n ws)) (length-append front (w ∷ []))
+    (answers-in h (front ++ w ∷ []) ws rest (is ∙ sym (append_assoc front (w ∷ []) (ws ++ rest)))))
+  where
+    there : slice_get h (length front) ≡ Some w
+    there = ap (λ (q : List Written). slice_get q (length front)) is ∙ at-seam front w (ws ++ rest)
+
+    here : (d : Deed) → w.deed ≡ d → AllByRecursion (IsAnswerIn h) (answered_by (length front) d)
+    here (Answers c k g) e = (
+      record { moment = w.moment; grounds = g; stands = there ∙ ap (λ (d : Deed). Some (written w.moment d)) e },
+      tt,
+    )
+    here (Opens c) e = tt
+    here (Asks c a) e = tt
+    here (Sends p b t) e = tt
+    here (Hears p b) e = tt
+    here Passes e = tt
+    here (Shuts c) e = tt
+    here Seals e = tt
+
+-- The answers that it adds and those that wait are of different connections.
+abbrev pub StaysApart : CoreValue → List Written → Type 0
+StaysApart old more =
+    (h rest : List Written) → Stands h → h ≡ old.state.entries ++ (more ++ rest) → Wait h old.untaken
+    → AreApart (old.untaken ++ answered_in (length old.state.entries) more)
+
+pub did-step : (M : Terms) (G : ℕ → Type 0) (t : ℕ) (old new : CoreValue) (S : State) (out : List Emission) → new ≡ stepped S old
+    → (x : Adds t old.state S) → Aside G out → AreMeant M x.more → StaysApart old x.more → Did M G old out new
+did-step M G t old new S out e x aside meant apart =
+    let n : ℕ = length old.state.entries in
+    let more : drop n S.entries ≡ x.more = ap (drop n) x.entries ∙ drop-append_seam old.state.entries x.more in
+    let added : new.state.entries ≡ old.state.entries ++ x.more = ap (λ (v : CoreValue). v.state.entries) e ∙ x.entries in
+    let waiting : new.untaken ≡ old.untaken ++ answered_in n x.more =
+    ap (λ (v : CoreValue). v.untaken) e ∙ ap (λ (ws : List Written). old.untaken ++ answered_in n ws) more in
+    let unsent : new.unsent ≡ old.unsent ++ sent_in x.more =
+    ap (λ (v : CoreValue). v.unsent) e ∙ ap (λ (ws : List Written). old.unsent ++ sent_in ws) more in
+    record {
+      more = x.more;
+      added = added;
+      conns = ap (λ (v : CoreValue). v.state.conns) e ∙ x.conns;
+      sent = ap (λ (os : List Outgoing). os ++ new.unsent) aside.none ∙ unsent;
+      meant = meant;
+      told = λ h rest stands is waits.
+          let all : h ≡ old.state.entries ++ (x.more ++ rest) =
+          is ∙ (ap (λ (q : List Written). q ++ rest) added ∙ append_assoc old.state.entries x.more rest) in (
+            subst (Wait h) (sym waiting) (record {
+              apart = apart h rest stands all waits;
+              answers = all-append (IsAnswerIn h) old.untaken (answered_in n x.more) waits.answers (answers-in h old.state.entries x.more rest all);
+            }),
+            λ c.
+                let says = aside.says c in
+                record {
+                  pieces = says.pieces;
+                  said = says.said;
+                  each = aside-said M G h c says.pieces says.each;
+                  answers = ap (λ (ks : List ℕ). ks ++ nums c new.untaken) (aside-answers (G c) says.pieces says.each)
+                      ∙ (ap (nums c) waiting ∙ flat_map-append (num_of c) old.untaken (answered_in n x.more));
+                },
+          );
+    }
+
+-- a datagram goes out
+
+pub did-send : (M : Terms) (G : ℕ → Type 0) (old new : CoreValue) (d : Outgoing) → IsSent (Some d) old new → Did M G old (Goes d ∷ []) new
+did-send M G old new d h =
+    let waiting : new.untaken ≡ old.untaken = ap (λ (v : CoreValue). v.untaken) h.1 in
+    let entries : new.state.entries ≡ old.state.entries = ap (λ (v : CoreValue). v.state.entries) h.1 in
+    record {
+      more = [];
+      added = entries ∙ sym (append-nil old.state.entries);
+      conns = ap (λ (v : CoreValue). v.state.conns) h.1;
+      sent = sym h.0 ∙ sym (append-nil old.unsent);
+      meant = tt;
+      told = λ h rest stands is waits. (
+        subst (Wait h) (sym waiting) waits,
+        λ c. record {
+          pieces = [];
+          said = refl;
+          each = tt;
+          answers = ap (nums c) waiting ∙ sym (append-nil (nums c old.untaken));
+        },
+      );
+    }
+
+-- an answer is taken
+
+abbrev pub not_to : ℕ → Untaken → Bool
+not_to k u = not (u.ask == k)
+
+all-one : (P : Untaken → Type 0) (b : Bool) (u : Untaken) (us : List Untaken) → P u → AllByRecursion P us → AllByRecursion P (cond b (u ∷ us) us)
+all-one P true u us p h = (p, h)
+all-one P false u us p h = h
+
+all-filter : (P : Untaken → Type 0) (f : Untaken → Bool) (us : List Untaken) → AllByRecursion P us → AllByRecursion P (filter f us)
+all-filter P f [] h = tt
+all-filter P f (u ∷ us) h = all-one P (f u) u (filter f us) h.0 (all-filter P f us h.1)
+
+apart-one : (b : Bool) (u : Untaken) (us : List Untaken) → AllByRecursion (λ (v : Untaken). u.conn ≢ v.conn) us → AreApart us → AreApart (cond b (u ∷ us) us)
+apart-one true u us p h = (p, h)
+apart-one false u us p h = h
+
+apart-filter : (f : Untaken → Bool) (us : List Untaken) → AreApart us → AreApart (filter f us)
+apart-filter f [] h = tt
+apart-filter f (u ∷ us) h =
+    apart-one (f u) u (filter f us) (all-filter (λ (v : Untaken). u.conn ≢ v.conn) f us h.0) (apart-filter f us h.1)
+
+-- an ask has one answer, which is to its connection
+abbrev IsOneOf : ℕ → ℕ → Untaken → Type 0
+IsOneOf c k u = u.ask ≡ k → u.conn ≡ c
+
+written-same : (v w : Written) → Some v ≡ Some w → v ≡ w
+written-same v w e = cc
+
+conn-same : (c d k o : ℕ) (g e : Grounds) → Answers c k g ≡ Answers d o e → c ≡ d
+conn-same c d k o g e f = cc
+
+deed-same : (t s : ℕ) (c d k o : ℕ) (g e : Grounds) → Some (written t (Answers c k g)) ≡ Some (written s (Answers d o e)) → c ≡ d
+deed-same t s c d k o g e f =
+    conn-same c d k o g e (ap (λ (w : Written). w.deed) (written-same (written t (Answers c k g)) (written s (Answers d o e)) f))
+
+one-of : (h : List Written) (g : Given) → Stands h → IsGiven h g → (u : Untaken) → IsAnswerIn h u → IsOneOf g.conn g.ask u
+one-of h g stands is u a same =
+    let there : IsEntry h u.number a.moment (Answers u.conn g.ask a.grounds) =
+    subst (λ (k : ℕ). IsEntry h u.number a.moment (Answers u.conn k a.grounds)) same a.stands in
+    let place : u.number ≡ g.number =
+    answer-once h u.number g.number a.moment g.moment u.conn g.conn g.ask a.grounds g.found.grounds stands there is.stands in
+    deed-same a.moment g.moment u.conn g.conn g.ask g.ask a.grounds g.found.grounds
+    (sym there ∙ (ap (slice_get h) place ∙ is.stands))
+
+all-as-one : (h : List Written) (g : Given) → Stands h → IsGiven h g → (us : List Untaken) → AllByRecursion (IsAnswerIn h) us
+    → AllByRecursion (IsOneOf g.conn g.ask) us
+all-as-one h g stands is [] a = tt
+all-as-one h g stands is (u ∷ us) a = (one-of h g stands is u a.0, all-as-one h g stands is us a.1)
+
+stay-one : (b : Bool) (k : ℕ) (u : Untaken) (us vs : List Untaken) → (u.ask == k) ≡ b → (u.ask ≢ k) → vs ≡ us
+    → cond (not b) (u ∷ vs) vs ≡ u ∷ us
+stay-one true k u us vs t ne e = absurd (ne (eqb-true u.ask k t))
+stay-one false k u us vs t ne e = ap (λ (ws : List Untaken). u ∷ ws) e
+
+go-one : (b : Bool) (k : ℕ) (u : Untaken) (vs : List Untaken) → (u.ask == k) ≡ b → u.ask ≡ k → cond (not b) (u ∷ vs) vs ≡ vs
+go-one true k u vs t is = refl
+go-one false k u vs t is = absurd (differ (u.ask == k) t (eq-eqb u.ask k is))
+  where
+    differ : (b : Bool) → b ≡ false → b ≡ true → ⊥
+    differ b f t = cc
+
+-- those of other connections stay
+others-stay : (c k : ℕ) (us : List Untaken) → AllByRecursion (λ (v : Untaken). c ≢ v.conn) us → AllByRecursion (IsOneOf c k) us
+    → filter (not_to k) us ≡ us
+others-stay c k [] h one = refl
+others-stay c k (u ∷ us) h one =
+    stay-one (u.ask == k) k u us (filter (not_to k) us) refl (λ e. h.0 (sym (one.0 e))) (others-stay c k us h.1 one.1)
+
+contained : (P : Untaken → Type 0) (us : List Untaken) (u : Untaken) → AllByRecursion P us → Contains us u → P u
+contained P [] u h has = absurd (omega (arith, has.1))
+contained P (v ∷ us) u h (zero, lt, e) = subst P e h.0
+contained P (v ∷ us) u h (suc i, lt, e) = contained P us u h.1 (i, omega (arith, lt), e)
+
+num-other : (c : ℕ) (u : Untaken) → u.conn ≢ c → num_of c u ≡ []
+num-other c u ne = elim (eqb_tells u.conn c) [ inl w ↦ absurd (ne w.1) | inr w ↦ rw (w.0) refl ]
+
+swap-nums : (c : ℕ) (u v : Untaken) (ks : List ℕ) → u.conn ≢ v.conn → num_of c u ++ (num_of c v ++ ks) ≡ num_of c v ++ (num_of c u ++ ks)
+swap-nums c u v ks ne =
+    elim (eqb_tells u.conn c) [
+      | inl w ↦ rw (num-other c v (λ e. ne (w.1 ∙ sym e))) refl
+      | inr w ↦ rw (num-other c u w.1) refl
+    ]
+
+-- What is taken is what waits of its connection, and of the others all stays.
+take-nums : (c k : ℕ) (g : Untaken) (us : List Untaken) → g.ask ≡ k → AreApart us → AllByRecursion (IsOneOf g.conn k) us → Contains us g
+    → num_of c g ++ nums c (filter (not_to k) us) ≡ nums c us
+take-nums c k g [] is apart one has = absurd (omega (arith, has.1))
+take-nums c k g (u ∷ us) is apart one (zero, lt, e) =
+    let same : u.ask ≡ k = ap (λ (v : Untaken). v.ask) e ∙ is in
+    let rest : filter (not_to k) us ≡ us =
+    others-stay g.conn k us (subst (λ (v : Untaken). AllByRecursion (λ (z : Untaken). v.conn ≢ z.conn) us) e apart.0) one.1 in
+    ap (λ (v : Untaken). num_of c v ++ nums c (filter (not_to k) (u ∷ us))) (sym e)
+    ∙ (ap (λ (vs : List Untaken). num_of c u ++ nums c vs) (go-one (u.ask == k) k u (filter (not_to k) us) refl same)
+    ∙ ap (λ (vs : List Untaken). num_of c u ++ nums c vs) rest)
+take-nums c k g (u ∷ us) is apart one (suc i, lt, e) =
+    let has : Contains us g = (i, omega (arith, lt), e) in
+    let other : u.conn ≢ g.conn = contained (λ (v : Untaken). u.conn ≢ v.conn) us g apart.0 has in
+    let ne : u.ask ≢ k = λ same. other (one.0 same) in
+    ap (λ (vs : List Untaken). num_of c g ++ nums c vs)
+    (stay-one (u.ask == k) k u (filter (not_to k) us) (filter (not_to k) us) refl ne refl)
+    ∙ (swap-nums c g u (nums c (filter (not_to k) us)) (λ same. other (sym same))
+    ∙ ap (λ (ks : List ℕ). num_of c u ++ ks) (take-nums c k g us is apart.1 one.1 has))
+
+pub did-take : (M : Terms) (G : ℕ → Type 0) (old new : CoreValue) (c k : ℕ) (g : Given) (r : HttpAnswer) → g.conn ≡ c → IsTaken (Some g) k old new → M.IsTelling g r
+    → Did M G old (Says c (answer_text r) ∷ []) new
+did-take M G old new c k g r conn taken tells =
+    let waiting : new.untaken ≡ filter (not_to k) old.untaken = ap (λ (v : CoreValue). v.untaken) taken.3 in
+    let entries : new.state.entries ≡ old.state.entries = ap (λ (v : CoreValue). v.state.entries) taken.3 in
+    record {
+      more = [];
+      added = entries ∙ sym (append-nil old.state.entries);
+      conns = ap (λ (v : CoreValue). v.state.conns) taken.3;
+      sent = ap (λ (v : CoreValue). v.unsent) taken.3 ∙ sym (append-nil old.unsent);
+      meant = tt;
+      told = λ h rest stands is waits.
+          let given : IsGiven h g =
+          subst (λ (q : List Written). IsGiven q g) (sym (is ∙ ap (λ (q : List Written). q ++ rest) entries)) (given-more old.state.entries rest g taken.2) in
+          let one : AllByRecursion (IsOneOf g.conn k) old.untaken =
+          subst (λ (j : ℕ). AllByRecursion (IsOneOf g.conn j) old.untaken) taken.0 (all-as-one h g stands given old.untaken waits.answers) in (
+            subst (Wait h) (sym waiting) (record {
+              apart = apart-filter (not_to k) old.untaken waits.apart;
+              answers = all-filter (IsAnswerIn h) (not_to k) old.untaken waits.answers;
+            }),
+            λ d.
+                told-one d h given
+                (ap (λ (us : List Untaken). num_of d (untaken_of g) ++ nums d us) waiting
+                ∙ take-nums d k (untaken_of g) old.untaken taken.0 waits.apart one taken.1),
+          );
+    }
+  where
+    told-one : (d : ℕ) (h : List Written) → IsGiven h g → num_of d (untaken_of g) ++ nums d new.untaken ≡ nums d old.untaken
+        → ToldIn M G h d (length old.state.entries) [] old.untaken (Says c (answer_text r) ∷ []) new.untaken
+    told-one d h given e =
+        elim (eqb_tells g.conn d) [
+          | inl w ↦
+              let to : (c == d) ≡ true = ap (λ (x : ℕ). x == d) (sym conn) ∙ w.0 in
+              record {
+                pieces = final g.number (answer_text r) ∷ [];
+                said = ap (λ (b : Bool). (if b then answer_text r ∷ [] else []) ++ []) to;
+                each = (
+                  record { given = g; conn = w.1; number = refl; is = given; response = r; tells = tells; text = refl },
+                  tt,
+                );
+                answers = ap (λ (b : Bool). (if b then g.number ∷ [] else []) ++ nums d new.untaken) (sym (w.0))
+                    ∙ (e ∙ sym (append-nil (nums d old.untaken)));
+              }
+          | inr w ↦
+              let to : (c == d) ≡ false = ap (λ (x : ℕ). x == d) (sym conn) ∙ w.0 in
+              record {
+                pieces = [];
+                said = ap (λ (b : Bool). (if b then answer_text r ∷ [] else []) ++ []) to;
+                each = tt;
+                answers = ap (λ (b : Bool). (if b then g.number ∷ [] else []) ++ nums d new.untaken) (sym (w.0))
+                    ∙ (e ∙ sym (append-nil (nums d old.untaken)));
+              }
+        ]

@@ -1,0 +1,98 @@
+-- Acts in order.
+use Rattle.std.proofs.Common.{◌≡◌, ℕ, ◌+◌, ◌≤◌, List, [], ◌∷◌, ◌++◌, refl, sym, subst, ap, ◌∙◌, arith}
+use Rattle.std.specs.Prelude.{flat_map}
+use Rattle.std.specs.List.{AllByRecursion}
+use Rattle.std.proofs.lemmas.List.{append-nil, append_assoc}
+use Rattle.std.proofs.lemmas.Grind.{flat_map-append}
+use Rattle.gateway_model.specs.Acts.{Act, Opens, TurnsAway, Takes, Hears, Passes, Asks, Denies, Sends, Tells, GoesOn, Rests, Leaves, Misses}
+use Rattle.gateway_model.specs.Orders.{IsFor, AreFor, ServesOut, IsSends, AreSends, Turn, acts_of, IsTurn, Rise, IsTelling, AreTurns, HasTurns, BeginsWith, Delivers}
+
+pub all-append : {A : Type 0} (P : A → Type 0) (xs ys : List A)
+    → AllByRecursion P xs → AllByRecursion P ys → AllByRecursion P (xs ++ ys)
+all-append P [] ys h k = k
+all-append P (x ∷ xs) ys h k = (h.0, all-append P xs ys h.1 k)
+
+pub all-as : {A : Type 0} (P Q : A → Type 0) (xs : List A)
+    → ((x : A) → P x → Q x) → AllByRecursion P xs → AllByRecursion Q xs
+all-as P Q [] f h = h
+all-as P Q (x ∷ xs) f h = (f x h.0, all-as P Q xs f h.1)
+
+pub sends-for : (c : ℕ) (a : Act) → IsSends a → IsFor c a
+sends-for c (Opens d) h = absurd h
+sends-for c TurnsAway h = absurd h
+sends-for c (Takes d bytes) h = absurd h
+sends-for c (Hears p bytes) h = absurd h
+sends-for c Passes h = absurd h
+sends-for c (Asks d) h = absurd h
+sends-for c (Denies d) h = absurd h
+sends-for c Sends h = tt
+sends-for c (Tells d k) h = absurd h
+sends-for c (GoesOn d) h = absurd h
+sends-for c (Rests d) h = absurd h
+sends-for c (Leaves d) h = absurd h
+sends-for c (Misses d) h = absurd h
+
+pub sends-are-for : (c : ℕ) (xs : List Act) → AreSends xs → AreFor c xs
+sends-are-for c xs h = all-as IsSends (IsFor c) xs (sends-for c) h
+
+pub sends-on : (xs ys : List Act) → AreSends xs → AreSends ys → AreSends (xs ++ ys)
+sends-on xs ys h k = all-append IsSends xs ys h k
+
+pub for-on : (c : ℕ) (xs ys : List Act) → AreFor c xs → AreFor c ys → AreFor c (xs ++ ys)
+for-on c xs ys h k = all-append (IsFor c) xs ys h k
+
+pub sends-for-on : (c : ℕ) (xs ys : List Act) → AreSends xs → AreFor c ys → AreFor c (xs ++ ys)
+sends-for-on c xs ys h k = for-on c xs ys (sends-are-for c xs h) k
+
+pub begins-on : (a : Act) (P : List Act → Type 0) (xs ys : List Act) → xs ≡ a ∷ [] → P ys
+    → BeginsWith a P (xs ++ ys)
+begins-on a P xs ys e k = record { rest = ys; are = ap (λ (zs : List Act). zs ++ ys) e; then = k }
+
+-- what is told is done for its connection
+pub told-for : (c k : ℕ) (xs : List Act) → IsTelling c k xs → AreFor c xs
+told-for c k xs e = subst (AreFor c) (sym e) (refl, tt)
+
+-- it is served until nothing more can be asked
+pub rests-on : (c : ℕ) (xs ys : List Act) → AreFor c xs → ys ≡ Rests c ∷ [] → ServesOut c (xs ++ ys)
+rests-on c xs ys h e = record { first = xs; are = ap (λ (zs : List Act). xs ++ zs) e; for = h }
+
+pub out-on : (c : ℕ) (xs ys : List Act) → AreFor c xs → ServesOut c ys → ServesOut c (xs ++ ys)
+out-on c xs ys h k = record {
+  first = xs ++ k.first;
+  are = ap (λ (zs : List Act). xs ++ zs) k.are ∙ sym (append_assoc xs k.first (Rests c ∷ []));
+  for = for-on c xs k.first h k.for;
+}
+
+-- turns
+
+rise-to : (n k : ℕ) (turns : List Turn) (m : ℕ) (x : Turn) → Rise n turns m → m ≤ x.ask → Rise n (turns ++ x ∷ []) (x.ask + 1)
+rise-to n k [] m x h le = (trans-le n m x.ask h le, refl-le (x.ask + 1))
+  where
+    trans-le : (a b c : ℕ) → a ≤ b → b ≤ c → a ≤ c
+    trans-le a b c h k = omega arith
+
+    refl-le : (a : ℕ) → a ≤ a
+    refl-le a = omega arith
+rise-to n k (y ∷ turns) m x h le = (h.0, rise-to (y.ask + 1) k turns m x h.1 le)
+
+pub no-turns : AreTurns 0 []
+no-turns = record { turns = []; are = refl; each = tt; rise = zero-le }
+  where
+    zero-le : 0 ≤ 0
+    zero-le = omega arith
+
+pub turns-on : (m c k : ℕ) (xs ys zs : List Act) → m ≤ k → AreTurns m xs → IsTelling c k ys → ServesOut c zs
+    → AreTurns (k + 1) (xs ++ (ys ++ zs))
+turns-on m c k xs ys zs le h e f =
+    let x : Turn = record { conn = c; ask = k; further = zs } in
+    record {
+      turns = h.turns ++ x ∷ [];
+      are = ap (λ (vs : List Act). vs ++ (ys ++ zs)) h.are
+          ∙ (ap (λ (vs : List Act). flat_map acts_of h.turns ++ vs) (ap (λ (vs : List Act). vs ++ zs) e ∙ sym (append-nil (acts_of x)))
+          ∙ sym (flat_map-append acts_of h.turns (x ∷ [])));
+      each = all-append IsTurn h.turns (x ∷ []) h.each (f, tt);
+      rise = rise-to 0 0 h.turns m x h.rise le;
+    }
+
+pub delivers-on : (xs ys : List Act) → AreSends xs → HasTurns ys → Delivers (xs ++ ys)
+delivers-on xs ys h k = record { sends = xs; answers = ys; are = refl; sent = h; told = k }

@@ -1,0 +1,247 @@
+-- What a connection is told of an answer is what the entries say of it.
+use Rattle.std.proofs.Common.{◌≡◌, ℕ, zero, suc, ◌-◌, List, [], ◌∷◌, ◌++◌, length, Some, refl, sym, ap, subst, ◌∙◌, append-nil}
+use Rattle.std.specs.List.{AllByRecursion, flat_map, slice_get}
+use Rattle.coap_codec.specs.Spelling.{Content, Spells}
+use Rattle.coap_codec.proofs.Unique.{spells_one}
+use Rattle.uri_map.specs.declared.peer.Peer.{Peer}
+use Rattle.media_map.specs.declared.form.Form.{Form}
+use Rattle.http_edge.specs.declared.answer.HttpAnswer.{HttpAnswer}
+use Rattle.ask_model.specs.Requests.{CoapRequest, Sense, Requests, Refuses}
+use Rattle.ask_model.specs.Views.{Ask, Rules}
+use Rattle.journal_book.specs.Entries.{Grounds, Live, Kept, Fault, Asks, Hears, Answers, Written}
+use Rattle.journal_book.specs.Views.{ask_of}
+use Rattle.history_laws.specs.Responses.{Response, whole_of}
+use Rattle.reply_reading.specs.Findings.{Told, Tells as TellsOf, Fails}
+use Rattle.http_mapping.specs.Means.{Tells, MeansWhole, MeansTold, last_reply}
+use Rattle.history_laws.specs.Justified.{Stands}
+use Rattle.history_claims.specs.Headline.{IsEntry, IsHeardFor, AreHeardFor, RestsOn}
+use Rattle.history_claims.proofs.Resting.{rests-on-replies}
+use Rattle.history_claims.proofs.Causes.{names-cause}
+use Rattle.exchange_core.specs.Values.{CoreValue, Untaken, Outgoing, written, answered_in, sent_in}
+use Rattle.exchange_core.specs.Answering.{Given, HeardAs, AreHeard, IsFound, CountsFrom}
+use Rattle.gateway_model.specs.declared.input.When.{When}
+use Rattle.gateway_model.specs.Acts.{Act, Served, Terms, DoesAll}
+use Rattle.gateway_model.specs.Emissions.{Emission}
+use Rattle.gateway_model.specs.Going.{goes_in, GoesOut, SendsJust}
+use Rattle.gateway_model.specs.Tellings.{IsMapped, terms_of, IsMeant, AreMeant}
+use Rattle.gateway_model.specs.Told.{IsHeardFirst, ShowsGrounds, ShowsReplies, TellsAnswer, Piece, interim, final, answers_in, IsPiece, AreOnce, IsToldAnswers, TellsAll}
+use Rattle.gateway_model.specs.Waiting.{IsDrained}
+use Rattle.gateway_model.proofs.Order.{all-append}
+use Rattle.gateway_model.proofs.Moves.{Whoever, TellsGiven, IsSaid, ToldIn, Wait, Did, nums, nums-in}
+use Rattle.gateway_model.proofs.Doing.{did-all}
+use Rattle.gateway_model.proofs.Pacing.{IsQuiet, flow-once, Paced, paced-all}
+
+-- entries at a place are one
+
+written-same : (v w : Written) → Some v ≡ Some w → v ≡ w
+written-same v w e = cc
+
+bytes-same : (p r : Peer) (a b : List ℕ) → Hears p a ≡ Hears r b → a ≡ b
+bytes-same p r a b e = cc
+
+ask-same : (c d : ℕ) (a b : Ask) → Asks c a ≡ Asks d b → a ≡ b
+ask-same c d a b e = cc
+
+hears-same : (t s : ℕ) (p r : Peer) (a b : List ℕ) → Some (written t (Hears p a)) ≡ Some (written s (Hears r b)) → a ≡ b
+hears-same t s p r a b e =
+    bytes-same p r a b (ap (λ (w : Written). w.deed) (written-same (written t (Hears p a)) (written s (Hears r b)) e))
+
+asks-same : (t s c d : ℕ) (a b : Ask) → Some (written t (Asks c a)) ≡ Some (written s (Asks d b)) → a ≡ b
+asks-same t s c d a b e =
+    ask-same c d a b (ap (λ (w : Written). w.deed) (written-same (written t (Asks c a)) (written s (Asks d b)) e))
+
+some-same : {X : Type 0} (x y : X) → Some x ≡ Some y → x ≡ y
+some-same x y e = cc
+
+request-same : (q r : CoapRequest) → Requests q ≡ Requests r → q ≡ r
+request-same q r e = cc
+
+-- the messages that entries spell are one list
+
+message-same : (h : List Written) (k j t : ℕ) (q : CoapRequest) (m n : Content) → IsHeardFor h k q j m → HeardAs h j t n → m ≡ n
+message-same h k j t q m n a b =
+    let same : a.bytes ≡ b.bytes =
+    hears-same a.moment t q.peer b.peer a.bytes b.bytes (sym a.heard ∙ b.stands) in
+    spells_one m n b.bytes (subst (Spells m) same a.spelled) b.spelled
+
+messages-same : (h : List Written) (k : ℕ) (q : CoapRequest) (js : List ℕ) (ms ns : List Content)
+    → AreHeardFor h k q js ms → AreHeard h js ns → ms ≡ ns
+messages-same h k q [] [] [] a b = refl
+messages-same h k q [] [] (n ∷ ns) a b = absurd b
+messages-same h k q [] (m ∷ ms) ns a b = absurd a
+messages-same h k q (j ∷ js) [] ns a b = absurd a
+messages-same h k q (j ∷ js) (m ∷ ms) [] a b = absurd b
+messages-same h k q (j ∷ js) (m ∷ ms) (n ∷ ns) a b =
+    ap (λ (x : Content). x ∷ ms) (message-same h k j b.0.0 q m n a.0 b.0.1)
+    ∙ ap (λ (xs : List Content). n ∷ xs) (messages-same h k q js ms ns a.1 b.1)
+
+-- each ask of the entries is meant so
+meant-at : (M : Terms) (h : List Written) (k t c : ℕ) (a : Ask) → AreMeant M h → slice_get h k ≡ Some (written t (Asks c a)) → M.IsMeaning a
+meant-at M [] k t c a meant e = absurd cc
+meant-at M (w ∷ h) zero t c a meant e =
+    subst (λ (v : Written). IsMeant M v.deed) (written-same w (written t (Asks c a)) e) meant.0
+meant-at M (w ∷ h) (suc k) t c a meant e = meant-at M h k t c a meant.1 e
+
+module _ (holds : Form → Form → List ℕ → List ℕ → Type 0) (takes : Form → Form → List ℕ → Type 0) (rules : Rules)
+    (h : List Written) (stands : Stands h) where
+  -- the first reply was heard then
+  heard-first : (js : List ℕ) (t heard : ℕ) (q : CoapRequest) (ms : List Content) (w : Response) → AreHeard h js ms
+      → whole_of q ms ≡ Some w → CountsFrom h (Live js) t heard → IsHeardFirst h heard js
+  heard-first [] t heard q [] w a e counts = absurd (none-some e)
+    where
+      none-some : whole_of q [] ≡ Some w → ⊥
+      none-some e = cc
+  heard-first [] t heard q (m ∷ ms) w a e counts = absurd a
+  heard-first (j ∷ js) t heard q ms w a e counts = (counts.1.peer, counts.1.bytes, counts.1.stands)
+
+  shows-live : (n c : ℕ) (g : Given) (r : HttpAnswer) (js : List ℕ) (w : Response) (q : CoapRequest) (asked : ℕ)
+      → slice_get h g.ask ≡ Some (written asked (Asks c (ask_of g.mapping)))
+      → g.mapping.rules ≡ rules → g.mapping.sense ≡ Requests q
+      → IsEntry h n g.moment (Answers c g.ask (Live js))
+      → (ms : List Content) → AreHeard h js ms → whole_of q ms ≡ Some w → CountsFrom h (Live js) g.moment g.heard
+      → MeansWhole rules.routes holds takes g.mapping w (last_reply (Live js)) (g.moment - g.heard) r
+      → ShowsReplies holds takes h n g.moment c g.ask (ask_of g.mapping) js r
+  shows-live n c g r js w q asked ask by sense answered ms heard whole counts means =
+      let rests : RestsOn h n c g.ask js = rests-on-replies h n g.moment c g.ask js stands answered in
+      let one = asks-same rests.moment asked c c _ _ (sym rests.asked.stands ∙ ask) in
+      let request : rests.request ≡ q = request-same rests.request q (ap (λ (a : Ask). a.sense) one ∙ sense) in
+      let messages : rests.messages ≡ ms = messages-same h g.ask rests.request js rests.messages ms rests.heard heard in
+      let response : rests.response ≡ w =
+      some-same rests.response w
+      (sym rests.whole
+      ∙ (ap (λ (q : CoapRequest). whole_of q rests.messages) request
+      ∙ (ap (whole_of q) messages ∙ whole))) in
+      record {
+        rests = rests;
+        since = g.heard;
+        first = heard-first js g.moment g.heard q ms w heard whole counts;
+        shows = subst (λ (v : Response). MeansWhole g.mapping.rules.routes holds takes g.mapping v (last_reply (Live js)) (g.moment - g.heard) r) (sym response)
+            (subst (λ (s : Rules). MeansWhole s.routes holds takes g.mapping w (last_reply (Live js)) (g.moment - g.heard) r) (sym by) means);
+      }
+
+  shows-grounds : (n c : ℕ) (g : Given) (r : HttpAnswer) (asked : ℕ)
+      → slice_get h g.ask ≡ Some (written asked (Asks c (ask_of g.mapping)))
+      → g.mapping.rules ≡ rules
+      → (told : Told) (grounds : Grounds) (sense : Sense) → g.mapping.sense ≡ sense
+      → IsEntry h n g.moment (Answers c g.ask grounds)
+      → IsFound h told grounds sense → CountsFrom h grounds g.moment g.heard
+      → MeansTold rules.routes holds takes g.mapping told grounds (g.moment - g.heard) r
+      → ShowsGrounds holds takes h n g.moment c g.ask (ask_of g.mapping) grounds r
+  shows-grounds n c g r asked ask by (TellsOf w) (Live js) (Requests q) sense answered found counts means =
+      shows-live n c g r js w q asked ask by sense answered found.0 found.1 found.2 counts means
+  shows-grounds n c g r asked ask by (TellsOf w) (Live js) (Refuses cause status) sense answered found counts means = absurd found
+  shows-grounds n c g r asked ask by (TellsOf w) (Kept js) s sense answered found counts means = absurd found
+  shows-grounds n c g r asked ask by (TellsOf w) (Fault cause j) s sense answered found counts means = absurd found
+  shows-grounds n c g r asked ask by (Fails cause) (Live js) s sense answered found counts means = absurd found
+  shows-grounds n c g r asked ask by (Fails cause) (Kept js) s sense answered found counts means = absurd found
+  shows-grounds n c g r asked ask by (Fails cause) (Fault named j) s sense answered found counts means =
+      let names = names-cause h n g.moment c g.ask named j stands answered in
+      (names.0, names.1, subst (λ (x : _). Tells g.mapping x j r) found means)
+
+  tells-answer : (c n : ℕ) (bytes : List ℕ) → AreMeant (terms_of holds takes rules) h
+      → TellsGiven (terms_of holds takes rules) h c n bytes → TellsAnswer holds takes rules h c n bytes
+  tells-answer c n bytes meant x =
+      let g : Given = x.given in
+      let ask : slice_get h g.ask ≡ Some (written x.is.asked (Asks c (ask_of g.mapping))) =
+      subst (λ (d : ℕ). slice_get h g.ask ≡ Some (written x.is.asked (Asks d (ask_of g.mapping)))) x.conn x.is.ask_stands in
+      let answered : IsEntry h n g.moment (Answers c g.ask g.found.grounds) =
+      subst (λ (d : ℕ). IsEntry h n g.moment (Answers d g.ask g.found.grounds)) x.conn
+      (subst (λ (i : ℕ). IsEntry h i g.moment (Answers g.conn g.ask g.found.grounds)) x.number x.is.stands) in
+      let mapped : IsMapped holds takes rules (ask_of g.mapping) =
+      meant-at (terms_of holds takes rules) h g.ask x.is.asked c (ask_of g.mapping) meant ask in
+      record {
+        moment = g.moment;
+        number = g.ask;
+        grounds = g.found.grounds;
+        answered = answered;
+        before = x.is.asked;
+        ask = ask_of g.mapping;
+        asked = ask;
+        mapped = mapped;
+        response = x.response;
+        shows = shows-grounds n c g x.response x.is.asked ask mapped.by g.found.told g.found.grounds g.mapping.sense refl
+            answered x.is.found x.is.counts x.tells;
+        text = x.text;
+      }
+
+  all-pieces : (c : ℕ) (ps : List Piece) → AreMeant (terms_of holds takes rules) h
+      → AllByRecursion (IsSaid (terms_of holds takes rules) Whoever h c) ps → AllByRecursion (IsPiece holds takes rules h c) ps
+  all-pieces c [] meant each = tt
+  all-pieces c (interim ∷ ps) meant each = (tt, all-pieces c ps meant each.1)
+  all-pieces c (final n bytes ∷ ps) meant each = (tells-answer c n bytes meant each.0, all-pieces c ps meant each.1)
+
+-- the laws
+
+just-sent : (out after before more : List Outgoing) → before ≡ [] → after ≡ [] → out ++ after ≡ before ++ more → out ≡ more
+just-sent out after before more old new e =
+    sym (append-nil out)
+    ∙ (ap (λ (os : List Outgoing). out ++ os) (sym new)
+    ∙ (e ∙ ap (λ (os : List Outgoing). os ++ more) old))
+
+module _ (holds : Form → Form → List ℕ → List ℕ → Type 0) (takes : Form → Form → List ℕ → Type 0) where
+  pub all-go-out : (rules : Rules) (w : When) (acts : List Act) (old : Served) (out : List Emission) (new : Served)
+      → DoesAll (terms_of holds takes rules) w acts old out new → GoesOut old.core out new.core
+  all-go-out rules w acts old out new h =
+      let d : Did (terms_of holds takes rules) Whoever old.core out new.core = did-all (terms_of holds takes rules) w acts old out new h in
+      record { more = d.more; added = d.added; sent = d.sent }
+
+  pub did-send : (rules : Rules) (old new : CoreValue) (out : List Emission) → Did (terms_of holds takes rules) Whoever old out new
+      → old.unsent ≡ [] → new.unsent ≡ [] → SendsJust old out new
+  did-send rules old new out d before after = record {
+    more = d.more;
+    added = d.added;
+    sent = just-sent (goes_in out) new.unsent old.unsent (sent_in d.more) before after d.sent;
+  }
+
+  pub all-send-just : (rules : Rules) (w : When) (acts : List Act) (old : Served) (out : List Emission) (new : Served)
+      → DoesAll (terms_of holds takes rules) w acts old out new → old.core.unsent ≡ [] → new.core.unsent ≡ []
+      → SendsJust old.core out new.core
+  all-send-just rules w acts old out new h =
+      did-send rules old.core new.core out (did-all (terms_of holds takes rules) w acts old out new h)
+
+  told-just : (c : ℕ) (before more : List Written) (us vs : List Untaken) (out : List Emission) (rules : Rules)
+      → us ≡ [] → vs ≡ [] → Stands (before ++ more) → AreMeant (terms_of holds takes rules) (before ++ more)
+      → (x : ToldIn (terms_of holds takes rules) Whoever (before ++ more) c (length before) more us out vs)
+      → AreOnce x.pieces → IsToldAnswers holds takes rules before more c out
+  told-just c before more us vs out rules old new stands meant x once = record {
+    pieces = x.pieces;
+    said = x.said;
+    each = all-pieces holds takes rules (before ++ more) stands c x.pieces meant x.each;
+    once = once;
+    answers = sym (append-nil (flat_map answers_in x.pieces))
+        ∙ (ap (λ (zs : List Untaken). flat_map answers_in x.pieces ++ nums c zs) (sym new)
+        ∙ (x.answers
+        ∙ (ap (λ (zs : List Untaken). nums c zs ++ nums c (answered_in (length before) more)) old
+        ∙ sym (nums-in c (length before) more))));
+  }
+
+  -- so it is of whatever was done
+  pub paced-tell : (rules : Rules) (old new : Served) (out : List Emission) → Paced (terms_of holds takes rules) old out new
+      → IsDrained old.core → IsDrained new.core → Stands new.core.state.entries
+      → AreMeant (terms_of holds takes rules) old.core.state.entries
+      → TellsAll holds takes rules old.core new.core out
+  paced-tell rules old new out p before after stands mapped =
+      let M : Terms = terms_of holds takes rules in
+      let d : Did M Whoever old.core out new.core = p.did in
+      let entries : List Written = old.core.state.entries in
+      let stand : Stands (entries ++ d.more) = subst Stands d.added stands in
+      let meant : AreMeant M (entries ++ d.more) =
+      all-append (λ (e : Written). IsMeant M e.deed) entries d.more mapped d.meant in
+      let waits : Wait (entries ++ d.more) old.core.untaken =
+      subst (Wait (entries ++ d.more)) (sym before.answers) (record { apart = tt; answers = tt }) in
+      let told = p.paced (entries ++ d.more) [] stand (sym d.added ∙ sym (append-nil new.core.state.entries)) waits in
+      record {
+        more = d.more;
+        added = d.added;
+        mapped = subst (AreMeant M) (sym d.added) meant;
+        told = λ c. told-just c entries d.more old.core.untaken new.core.untaken out rules before.answers after.answers stand meant
+            (told.1 c).told (flow-once (IsQuiet c old) (IsQuiet c new) (told.1 c).told.pieces (told.1 c).flow);
+      }
+
+  pub all-tell : (rules : Rules) (w : When) (acts : List Act) (old : Served) (out : List Emission) (new : Served)
+      → DoesAll (terms_of holds takes rules) w acts old out new
+      → IsDrained old.core → IsDrained new.core → Stands new.core.state.entries
+      → AreMeant (terms_of holds takes rules) old.core.state.entries
+      → TellsAll holds takes rules old.core new.core out
+  all-tell rules w acts old out new h =
+      paced-tell rules old new out (paced-all (terms_of holds takes rules) w acts old out new h)

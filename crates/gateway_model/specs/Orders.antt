@@ -1,0 +1,84 @@
+-- In which order an input's acts are done.
+use Rattle.std.specs.Prelude.{◌≡◌, ◌⊎◌, ℕ, ◌+◌, ◌≤◌, ⊤, List, [], ◌∷◌, ◌++◌, flat_map}
+use Rattle.std.specs.List.{AllByRecursion}
+use Rattle.gateway_model.specs.declared.input.Happening.{Happening}
+use Rattle.gateway_model.specs.declared.input.Happening.TheVariants as H
+use Rattle.gateway_model.specs.Acts.{Act, Opens, TurnsAway, Takes, Hears, Passes, Asks, Denies, Sends, Tells, GoesOn, Rests, Leaves, Misses}
+
+-- It is done for this connection: it is asked for or told; or a datagram goes out.
+abbrev pub IsFor : ℕ → Act → Type 0
+IsFor c (Asks d) = d ≡ c
+IsFor c (Denies d) = d ≡ c
+IsFor c Sends = ⊤
+IsFor c (Tells d k) = d ≡ c
+IsFor c (GoesOn d) = d ≡ c
+IsFor c _ = ⊥
+
+abbrev pub AreFor : ℕ → List Act → Type 0
+AreFor c acts = AllByRecursion (IsFor c) acts
+
+-- The connection is served until nothing more can be asked.
+pub record ServesOut (c : ℕ) (acts : List Act) : Type 0 where
+  pub first : List Act
+  pub are : acts ≡ first ++ Rests c ∷ []
+  pub for : AreFor c first
+
+abbrev pub IsSends : Act → Type 0
+IsSends Sends = ⊤
+IsSends _ = ⊥
+
+abbrev pub AreSends : List Act → Type 0
+AreSends acts = AllByRecursion IsSends acts
+
+-- a connection is told the answer to an ask, and what it asks further is done
+pub record Turn : Type 0 where
+  pub conn : ℕ
+  pub ask : ℕ
+  pub further : List Act
+
+abbrev pub acts_of : Turn → List Act
+acts_of x = Tells x.conn x.ask ∷ x.further
+
+abbrev pub IsTurn : Turn → Type 0
+IsTurn x = ServesOut x.conn x.further
+
+-- The asks rise, all of them from the first number on and below the last.
+abbrev pub Rise : ℕ → List Turn → ℕ → Type 0
+Rise n [] m = n ≤ m
+Rise n (x ∷ xs) m = (n ≤ x.ask) × Rise (x.ask + 1) xs m
+
+-- The connection is told the answer to the ask.
+abbrev pub IsTelling : ℕ → ℕ → List Act → Type 0
+IsTelling c k acts = acts ≡ Tells c k ∷ []
+
+-- The answers are told in the order of their asks, which are below this number, each followed by
+-- what its connection asks further.
+pub record AreTurns (m : ℕ) (acts : List Act) : Type 0 where
+  pub turns : List Turn
+  pub are : acts ≡ flat_map acts_of turns
+  pub each : AllByRecursion IsTurn turns
+  pub rise : Rise 0 turns m
+
+abbrev pub HasTurns : List Act → Type 0
+HasTurns acts = (m : ℕ) × AreTurns m acts
+
+-- The datagrams of the step go out first.
+pub record Delivers (acts : List Act) : Type 0 where
+  pub sends : List Act
+  pub answers : List Act
+  pub are : acts ≡ sends ++ answers
+  pub sent : AreSends sends
+  pub told : HasTurns answers
+
+pub record BeginsWith (a : Act) (P : List Act → Type 0) (acts : List Act) : Type 0 where
+  pub rest : List Act
+  pub are : acts ≡ a ∷ rest
+  pub then : P rest
+
+-- What an input leads to.
+abbrev pub IsInOrder : Happening → List Act → Type 0
+IsInOrder H.Open acts = ((c : ℕ) × (acts ≡ Opens c ∷ [])) ⊎ (acts ≡ TurnsAway ∷ [])
+IsInOrder (H.Bytes c bytes) acts = BeginsWith (Takes c bytes.now) (ServesOut c) acts
+IsInOrder (H.Datagram p bytes) acts = BeginsWith (Hears p bytes.now) Delivers acts
+IsInOrder H.Tick acts = BeginsWith Passes Delivers acts
+IsInOrder (H.Close c) acts = (acts ≡ Leaves c ∷ []) ⊎ (acts ≡ Misses c ∷ [])

@@ -1,0 +1,140 @@
+-- What connections are told, said of the entries of the journal alone: each answer shows one whole
+-- response that was heard for just what its request means, or is the proxy's own error and names
+-- its cause.
+use Rattle.std.specs.Prelude.{◌≡◌, ℕ, ◌+◌, ◌-◌, ◌<◌, ⊤, ◌==◌, if◌then◌else◌, List, [], ◌∷◌, ◌++◌, length, map, flat_map}
+use Rattle.std.specs.List.{AllByRecursion}
+use Rattle.uri_map.specs.declared.peer.Peer.{Peer}
+use Rattle.media_map.specs.declared.form.Form.{Form}
+use Rattle.http_edge.specs.Answers.{answer_text}
+use Rattle.http_edge.specs.declared.answer.HttpAnswer.{HttpAnswer}
+use Rattle.ask_model.specs.Views.{Ask, Mapping, Rules}
+use Rattle.journal_book.specs.Entries.{Grounds, Live, Kept, Fault, Deed, Asks, Hears, Answers, Written}
+use Rattle.http_mapping.specs.Means.{MeansWhole, Tells, last_reply}
+use Rattle.history_laws.specs.Justified.{Stands}
+use Rattle.history_claims.specs.Headline.{IsEntry, RestsOn, IsCausedBy}
+use Rattle.exchange_core.specs.Values.{CoreValue}
+use Rattle.gateway_model.specs.declared.input.When.{When}
+use Rattle.gateway_model.specs.Acts.{Act, Served, DoesAll, continue_text}
+use Rattle.gateway_model.specs.Emissions.{Emission, Says}
+use Rattle.gateway_model.specs.Tellings.{IsMapped, AreMapped, terms_of}
+use Rattle.gateway_model.specs.Waiting.{IsDrained}
+
+abbrev pub mapping_of : Ask → Mapping
+mapping_of a = record { came = a.came; sense = a.sense; rules = a.rules }
+
+-- These replies begin with one that was heard at this moment.
+abbrev pub IsHeardFirst : List Written → ℕ → List ℕ → Type 0
+IsHeardFirst h t [] = ⊥
+IsHeardFirst h t (j ∷ js) = (p : Peer) × (bytes : List ℕ) × IsEntry h j t (Hears p bytes)
+
+module _ (holds : Form → Form → List ℕ → List ℕ → Type 0)
+    (takes : Form → Form → List ℕ → Type 0) where
+  -- The response shows, by the tables of RFC 8075, the whole response that the answer in the entry
+  -- n rests on, which is as old at the moment of the answer as its first reply.
+  pub record ShowsReplies (h : List Written) (n t c k : ℕ) (a : Ask) (js : List ℕ) (r : HttpAnswer)
+      : Type 0 where
+    pub rests : RestsOn h n c k js
+    pub since : ℕ
+    pub first : IsHeardFirst h since js
+    pub shows : MeansWhole a.rules.routes holds takes (mapping_of a) rests.response
+        (last_reply (Live js)) (t - since) r
+
+  -- So it does; or it is the proxy's own error, which names its cause in the history.
+  abbrev pub ShowsGrounds : List Written → ℕ → ℕ → ℕ → ℕ → Ask → Grounds → HttpAnswer → Type 0
+  ShowsGrounds h n t c k a (Live js) r = ShowsReplies h n t c k a js r
+  ShowsGrounds h n t c k a (Kept js) r = ⊥
+  ShowsGrounds h n t c k a (Fault cause j) r =
+      (j < n) × IsCausedBy h t c k cause j × Tells (mapping_of a) cause j r
+
+  -- The bytes are an HTTP response that tells the answer in the entry n to an ask of the
+  -- connection: to what its request means by the rules.
+  pub record TellsAnswer (rules : Rules) (h : List Written) (c n : ℕ) (bytes : List ℕ)
+      : Type 0 where
+    pub moment : ℕ
+    pub number : ℕ
+    pub grounds : Grounds
+    pub answered : IsEntry h n moment (Answers c number grounds)
+    pub before : ℕ
+    pub ask : Ask
+    pub asked : IsEntry h number before (Asks c ask)
+    pub mapped : IsMapped holds takes rules ask
+    pub response : HttpAnswer
+    pub shows : ShowsGrounds h n moment c number ask grounds response
+    pub text : bytes ≡ answer_text response
+
+-- a piece of what a connection is told: that it may go on with its body, or the answer of an entry
+pub data Piece : Type 0 where
+  interim : Piece
+  final : (number : ℕ) → (bytes : List ℕ) → Piece
+
+abbrev pub bytes_in : Piece → List ℕ
+bytes_in interim = continue_text
+bytes_in (final n bytes) = bytes
+
+abbrev pub answers_in : Piece → List ℕ
+answers_in interim = []
+answers_in (final n bytes) = n ∷ []
+
+-- What is told first, if anything is, is an answer.
+abbrev pub IsAnswerFirst : List Piece → Type 0
+IsAnswerFirst [] = ⊤
+IsAnswerFirst (interim ∷ ps) = ⊥
+IsAnswerFirst (final n bytes ∷ ps) = ⊤
+
+-- After it was told to go on it is told so no more before an answer (RFC 9110 section 10.1.1).
+abbrev pub AreOnce : List Piece → Type 0
+AreOnce [] = ⊤
+AreOnce (interim ∷ ps) = IsAnswerFirst ps × AreOnce ps
+AreOnce (final n bytes ∷ ps) = AreOnce ps
+
+-- the numbers of the answers to a connection among entries, the first of which has this number
+abbrev pub answers_by : ℕ → ℕ → Deed → List ℕ
+answers_by c n (Answers d k g) = if d == c then n ∷ [] else []
+answers_by c n _ = []
+
+abbrev pub answers_to : ℕ → ℕ → List Written → List ℕ
+answers_to c n [] = []
+answers_to c n (w ∷ ws) = answers_by c n w.deed ++ answers_to c (n + 1) ws
+
+-- the byte strings that a connection gets, in order
+abbrev pub said_by : ℕ → Emission → List (List ℕ)
+said_by c (Says d bytes) = if d == c then bytes ∷ [] else []
+said_by c _ = []
+
+abbrev pub said_to : ℕ → List Emission → List (List ℕ)
+said_to c out = flat_map (said_by c) out
+
+module _ (holds : Form → Form → List ℕ → List ℕ → Type 0)
+    (takes : Form → Form → List ℕ → Type 0) where
+  abbrev pub IsPiece : Rules → List Written → ℕ → Piece → Type 0
+  IsPiece rules h c interim = ⊤
+  IsPiece rules h c (final n bytes) = TellsAnswer holds takes rules h c n bytes
+
+  -- After these entries the journal got more, and a connection was told just the answers to it
+  -- among those, each once and in their order, and, in between, that it may go on with a body, at
+  -- most once before each answer.
+  pub record IsToldAnswers (rules : Rules) (before more : List Written) (c : ℕ)
+      (out : List Emission) : Type 0 where
+    pub pieces : List Piece
+    pub said : said_to c out ≡ map bytes_in pieces
+    pub each : AllByRecursion (IsPiece rules (before ++ more) c) pieces
+    pub once : AreOnce pieces
+    pub answers : flat_map answers_in pieces ≡ answers_to c (length before) more
+
+  -- Entries were only added; all that was ever asked was mapped by these rules; and each connection
+  -- was told just the answers to it among the new entries.
+  pub record TellsAll (rules : Rules) (old new : CoreValue) (out : List Emission) : Type 0 where
+    pub more : List Written
+    pub added : new.state.entries ≡ old.state.entries ++ more
+    pub mapped : AreMapped holds takes rules new.state.entries
+    pub told : (c : ℕ) → IsToldAnswers rules old.state.entries more c out
+
+  -- From nothing that waits to nothing that waits, so it is, where the journal stands.
+  abbrev pub AllTell : Type 0
+  AllTell =
+      (rules : Rules) (w : When) (acts : List Act)
+      (old : Served) (out : List Emission) (new : Served)
+      → DoesAll (terms_of holds takes rules) w acts old out new
+      → IsDrained old.core → IsDrained new.core → Stands new.core.state.entries
+      → AreMapped holds takes rules old.core.state.entries
+      → TellsAll rules old.core new.core out

@@ -1,0 +1,47 @@
+//! What goes into a world, and what comes out.
+
+pub use exchange_core::Datagram;
+use uri_map::Peer;
+
+/// What happens.
+#[derive(Clone, Copy)]
+pub enum Happening<'a> {
+    /// A client wants a connection.
+    Open,
+    /// Bytes of the connection came in.
+    Bytes(u32, &'a [u8]),
+    /// A datagram came in from the endpoint.
+    Datagram(Peer, &'a [u8]),
+    /// Time went on.
+    Tick,
+    /// The client closed the connection.
+    Close(u32),
+}
+
+/// When it happens: a moment in milliseconds, and 64 random bits.
+#[derive(Clone, Copy)]
+pub struct When {
+    pub moment: u64,
+    pub word: u64,
+}
+
+/// One input: what happens, and when.
+#[derive(Clone, Copy)]
+pub struct Input<'a> {
+    pub moment: u64,
+    pub word: u64,
+    pub happening: Happening<'a>,
+}
+
+/// What a world gives out.
+#[derive(Drop)]
+pub enum Output {
+    /// Bytes for the connection.
+    Bytes(u32, Vec<u8>),
+    /// A datagram that goes out.
+    Datagram(Datagram),
+    /// The proxy closes the connection.
+    Closed(u32),
+    /// No connection was opened: 256 are open, or the journal takes nothing more.
+    Turned,
+}

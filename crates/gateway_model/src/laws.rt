@@ -1,0 +1,28 @@
+//! What holds of whatever acts a proxy does, as contracts of functions that do nothing.
+
+ghost use Rattle.gateway_model.specs.Asking.{InputsAsk};
+ghost use Rattle.gateway_model.specs.Going.{AllGoOut, AllSendJust};
+ghost use Rattle.gateway_model.specs.Told.{AllTell};
+
+use transformers::Relation;
+
+/// The datagrams of the new entries go out after those that waited, each once and in their order;
+/// entries are only added.
+pub fn datagrams_go_out<R: Relation>()
+    ensures all { AllGoOut R.holds R.takes }
+    ensures just { AllSendJust R.holds R.takes }
+{}
+
+/// Where nothing waits before and after, and the journal stands, each connection is told just the
+/// answers to it among the new entries, in their order. Each shows one whole response that was
+/// heard for what its request means by the rules, or is the proxy's own error and names its cause.
+pub fn connections_are_told<R: Relation>()
+    ensures { AllTell R.holds R.takes }
+{}
+
+/// Each connection asks just what its bytes spell: at an input the first requests of what waited
+/// and of what comes, in order, as the rules say what they mean; what these leave waits. After its
+/// last request it asks nothing (RFC 9112 sections 2.2 and 9.3.2).
+pub fn connections_ask_what_bytes_spell<R: Relation>()
+    ensures { InputsAsk R.holds R.takes }
+{}

@@ -1,0 +1,207 @@
+-- What a function of the engine does is acts.
+use Rattle.std.proofs.Common.{◌≡◌, ◌⊎◌, ℕ, suc, ◌<◌, Bool, true, false, length, arith, List, [], ◌∷◌, ◌++◌, Result, Ok, Err, Some, inl, inr, refl, sym, ap, subst, ◌∙◌}
+use Rattle.std.specs.Prelude.{OnOk}
+use Rattle.std.proofs.lemmas.List.{append-nil, append_assoc, map_push}
+use Rattle.http_edge.specs.Answers.{answer_text}
+use Rattle.exchange_model.specs.State.{State}
+use Rattle.exchange_core.specs.declared.fault.OpenFault.TheVariants as Open
+use Rattle.exchange_core.specs.Answering.{Given}
+use Rattle.exchange_core.specs.Calls.{IsOpened, IsUnknown}
+use Rattle.exchange_core.specs.Taking.{IsTaken, IsSent}
+use Rattle.exchange_core.specs.Values.{CoreValue, Outgoing, stepped}
+use Rattle.gateway_connections.specs.Inlets.{fresh, appended}
+use Rattle.gateway_connections.specs.Reads.{Continues, ChangesAt}
+use Rattle.gateway_world.specs.declared.engine.Engine.{Engine}
+use Rattle.gateway_model.specs.declared.input.When.{When}
+use Rattle.gateway_model.specs.declared.input.Happening.TheVariants as H
+use Rattle.gateway_model.specs.declared.input.Output.{Output}
+use Rattle.gateway_model.specs.Acts.{Act, Opens, TurnsAway, Takes, Sends, Tells, GoesOn, Rests, Leaves, Misses, Served, Terms, Does, IsClosing, Ends, RestsAt, IsNext, at, continue_text}
+use Rattle.gateway_model.specs.Emissions.{Emission, emissions, emission_of, Says, Goes, Closed, Turned}
+use Rattle.gateway_world.specs.Engines.{IsShutting, IsShut, LeadsAfter}
+use Rattle.gateway_world.specs.Leading.{Leads, LeadsBy, served_of}
+use Rattle.gateway_model.specs.Orders.{AreFor, AreSends, IsInOrder, BeginsWith, IsTelling as TellsOnly, ServesOut}
+use Rattle.http_mapping.specs.Means.{closes}
+use Rattle.gateway_model.specs.Tellings.{TellsBytes}
+use Rattle.gateway_model.specs.Unasked.{Unasked, unasked_in, taken, Recounts}
+use Rattle.gateway_world.proofs.Lead.{leads-one, leads-then}
+use Rattle.gateway_model.specs.Waiting.{IsOpen}
+use Rattle.gateway_model.proofs.Opened.{conn-open}
+use Rattle.gateway_model.proofs.Order.{out-on}
+use Rattle.gateway_world.proofs.ReadingOn.{unasked-without, unasked-taken, unasked-opened, tells-on}
+
+-- what follows where a call went well
+pub then-ok : {A E : Type 0} (r : Result A E) (P Q : Type 0) → OnOk r P → (P → Q) → OnOk r Q
+then-ok (Ok x) P Q h f = f h
+then-ok (Err e) P Q h f = tt
+
+-- An act that begins what an input leads to, and gives nothing out.
+pub begins-lead : (M : Terms) (w : When) (a : Act) (P : List Act → Type 0) (old mid new : Served) (before after : List Emission)
+    → Does M w a old [] mid → Leads M w P mid before new after
+    → Leads M w (BeginsWith a P) old before new after
+begins-lead M w a P old mid new before after h k =
+    leads-then M w (λ (xs : List Act). xs ≡ a ∷ []) P (BeginsWith a P) old mid new before before after
+    (λ xs ys e p. record { rest = ys; are = ap (λ (zs : List Act). zs ++ ys) e; then = p })
+    (leads-one M w (λ (xs : List Act). xs ≡ a ∷ []) a old mid before [] before refl h (sym (append-nil before))) k
+
+module _ {R : Type 0} (w : When) where
+  pub closing-of : (c : ℕ) (old new : Engine R) → IsShutting w c old new → IsClosing w c (served_of old) (served_of new)
+  closing-of c old new shut = (shut.closed, ap unasked_in shut.inlets ∙ unasked-without c old.table.current)
+
+  -- after the answer that isn't the last the connection stays, and after the last it is closed
+  pub stays-after : (c : ℕ) (b : Bool) (old : Engine R) → b ≡ false → Ends w c b (served_of old) [] (served_of old)
+  stays-after c b old e = subst (λ (x : Bool). Ends w c x (served_of old) [] (served_of old)) (sym e) (refl, refl)
+
+  pub ends-after : (c : ℕ) (b : Bool) (old new : Engine R) (before after : List Output) → b ≡ true
+      → IsShut w c old before new after → Ends w c b (served_of old) (Closed c ∷ []) (served_of new)
+  ends-after c b old new before after e s =
+      subst (λ (x : Bool). Ends w c x (served_of old) (Closed c ∷ []) (served_of new)) (sym e) (closing-of c old new s.shuts, refl)
+
+module _ {R : Type 0} (M : Terms) (w : When) where
+  pub opens-lead : (c : ℕ) (old new : Engine R) (before : List Output)
+      → IsOpened (Ok c) (at w (served_of old)) old.core new.core
+      → new.table.current ≡ old.table.current ++ fresh c ∷ []
+      → LeadsBy M w (IsInOrder H.Open) old before new before
+  opens-lead c old new before opened e =
+      leads-one M w (IsInOrder H.Open) (Opens c) (served_of old) (served_of new) (emissions before) [] (emissions before)
+      (inl (c, refl)) (opened, ap unasked_in e ∙ unasked-opened c old.table.current, refl) (sym (append-nil (emissions before)))
+
+  pub turns-lead : (old new : Engine R) (before after : List Output)
+      → IsOpened (Err Open.Full) (at w (served_of old)) old.core new.core
+      ⊎ IsOpened (Err Open.Sealed) (at w (served_of old)) old.core new.core
+      → new.table.current ≡ old.table.current → emissions after ≡ emissions before ++ Turned ∷ []
+      → LeadsBy M w (IsInOrder H.Open) old before new after
+  turns-lead old new before after opened e added =
+      leads-one M w (IsInOrder H.Open) TurnsAway (served_of old) (served_of new) (emissions before) (Turned ∷ []) (emissions after)
+      (inr refl) (opened, ap unasked_in e, refl) added
+
+  pub sends-lead : (old new : Engine R) (before after : List Output) (d : Outgoing) (o : Output)
+      → emission_of o ≡ Goes d → IsSent (Some d) old.core new.core
+      → new.table.current ≡ old.table.current → after ≡ before ++ o ∷ []
+      → LeadsBy M w AreSends old before new after
+  sends-lead old new before after d o same sent e added =
+      leads-one M w AreSends Sends (served_of old) (served_of new) (emissions before) (Goes d ∷ []) (emissions after)
+      (tt, tt) (record { datagram = d; sent = sent; unasked = ap unasked_in e; given = refl })
+      (ap emissions added ∙ (map_push emission_of before o ∙ ap (λ (x : Emission). emissions before ++ x ∷ []) same))
+
+  pub leaves-lead : (c : ℕ) (old new : Engine R) (before : List Output) → IsShutting w c old new
+      → LeadsBy M w (IsInOrder (H.Close c)) old before new before
+  leaves-lead c old new before shut =
+      leads-one M w (IsInOrder (H.Close c)) (Leaves c) (served_of old) (served_of new) (emissions before) [] (emissions before)
+      (inl refl) (closing-of w c old new shut, refl) (sym (append-nil (emissions before)))
+
+  pub misses-lead : (c : ℕ) (old : Engine R) (before : List Output) → IsUnknown c old.core
+      → LeadsBy M w (IsInOrder (H.Close c)) old before old before
+  misses-lead c old before unknown =
+      leads-one M w (IsInOrder (H.Close c)) (Misses c) (served_of old) (served_of old) (emissions before) [] (emissions before)
+      (inr refl) (refl, refl, unknown) (sym (append-nil (emissions before)))
+
+  -- nothing more can be asked, and only how many bytes count as unread changes
+  pub rests-lead : (c : ℕ) (old new : Engine R) (before : List Output) → new.core ≡ old.core
+      → Recounts c (unasked_in old.table.current) (unasked_in new.table.current) → RestsAt c (served_of new)
+      → LeadsBy M w (ServesOut c) old before new before
+  rests-lead c old new before core counts rests =
+      leads-one M w (ServesOut c) (Rests c) (served_of old) (served_of new) (emissions before) [] (emissions before)
+      (record { first = []; are = refl; for = tt }) (core, refl, counts, rests) (sym (append-nil (emissions before)))
+
+  -- it was served until nothing more can be asked
+  pub serves-lead : (c : ℕ) (old mid new : Engine R) (before during after : List Output) → LeadsBy M w (AreFor c) old before mid during
+      → LeadsBy M w (ServesOut c) mid during new after
+      → LeadsBy M w (ServesOut c) old before new after
+  serves-lead c old mid new before during after h k =
+      leads-then M w (AreFor c) (ServesOut c) (ServesOut c) (served_of old) (served_of mid) (served_of new)
+      (emissions before) (emissions during) (emissions after) (out-on c) h k
+
+  pub stays-lead : (P : List Act → Type 0) (old new : Engine R) (before after : List Output) → P []
+      → new.core ≡ old.core → unasked_in new.table.current ≡ unasked_in old.table.current
+      → emissions after ≡ emissions before
+      → LeadsBy M w P old before new after
+  stays-lead P old new before after h core same added = record {
+    acts = [];
+    order = h;
+    given = [];
+    done = ((λ i. record { core = core i; unasked = same i }), refl);
+    added = added ∙ sym (append-nil (emissions before));
+  }
+
+  pub goes-on-lead : (c : ℕ) (old new : Engine R) (before after : List Output)
+      → ChangesAt Continues c old.table.current new.table.current → new.core ≡ old.core
+      → IsNext c old.core → emissions after ≡ emissions before ++ Says c continue_text ∷ []
+      → LeadsBy M w (AreFor c) old before new after
+  goes-on-lead c old new before after h core next added =
+      leads-one M w (AreFor c) (GoesOn c) (served_of old) (served_of new) (emissions before) (Says c continue_text ∷ []) (emissions after)
+      (refl, tt) (tells-on c old.table.current new.table.current h, core, refl, next) added
+
+  -- the answer is told
+  pub tells-lead : (g : Given) (v : CoreValue) (old new : Engine R) (before mid after : List Output) (rest : List Emission)
+      → IsTaken (Some g) g.ask v old.core
+      → TellsBytes M g (emissions before) (emissions mid)
+      → Ends w g.conn (closes g.mapping.came) (served_of old) rest (served_of new)
+      → emissions after ≡ emissions mid ++ rest
+      → LeadsAfter M w (TellsOnly g.conn g.ask) v old.table.current before new after
+  tells-lead g v old new before mid after rest taken t ends added =
+      leads-one M w (TellsOnly g.conn g.ask) (Tells g.conn g.ask)
+      (record { core = v; unasked = unasked_in old.table.current }) (served_of new)
+      (emissions before) (Says g.conn (answer_text t.response) ∷ rest) (emissions after) refl (
+      record {
+        answer = g;
+        conn = refl;
+        told = served_of old;
+        taken = taken;
+        unasked = refl;
+        response = t.response;
+        tells = t.tells;
+        after = rest;
+        ends = ends;
+        given = refl;
+      }
+      )
+      (added
+      ∙ (ap (λ (es : List Emission). es ++ rest) t.added
+      ∙ append_assoc (emissions before) (Says g.conn (answer_text t.response) ∷ []) rest))
+
+  pub takes-lead : (c : ℕ) (bytes : List ℕ) (old mid new : Engine R) (before after : List Output)
+      → mid.core ≡ old.core → mid.table.current ≡ appended c bytes old.table.current
+      → LeadsBy M w (ServesOut c) mid before new after
+      → LeadsBy M w (BeginsWith (Takes c bytes) (ServesOut c)) old before new after
+  takes-lead c bytes old mid new before after core e k =
+      begins-lead M w (Takes c bytes) (ServesOut c) (served_of old) (served_of mid) (served_of new) (emissions before) (emissions after)
+      (takes-so (ap unasked_in e ∙ unasked-taken c bytes old.table.current), refl) k
+    where
+      takes-so : unasked_in mid.table.current ≡ taken c bytes (unasked_in old.table.current)
+          → served_of mid ≡ record (served_of old) { unasked = taken c bytes (unasked_in old.table.current) }
+      takes-so same = λ i. record { core = core i; unasked = same i }
+
+  pub steps-lead : (a : Act) (S : State) (P : List Act → Type 0) (old mid new : Engine R) (before after : List Output)
+      → (served_of mid ≡ record (served_of old) { core = stepped S old.core } → Does M w a (served_of old) [] (served_of mid))
+      → mid.core ≡ stepped S old.core → mid.table ≡ old.table
+      → LeadsBy M w P mid before new after
+      → LeadsBy M w (BeginsWith a P) old before new after
+  steps-lead a S P old mid new before after does core table k =
+      begins-lead M w a P (served_of old) (served_of mid) (served_of new) (emissions before) (emissions after)
+      (does (λ i. record { core = core i; unasked = unasked_in (table i).current })) k
+
+  -- a client closes its connection, or one that isn't open
+  pub close-lead : (b : Bool) (c : ℕ) (old new : Engine R) (before : List Output)
+      → (b ≡ true → IsShutting w c old new) → (b ≡ false → (new ≡ old) × IsUnknown c old.core)
+      → LeadsBy M w (IsInOrder (H.Close c)) old before new before
+  close-lead true c old new before f h = leaves-lead c old new before (f refl)
+  close-lead false c old new before f h =
+      subst (λ (e : Engine R). LeadsBy M w (IsInOrder (H.Close c)) old before e before) (sym (h refl).0)
+      (misses-lead c old before (h refl).1)
+
+-- a connection that is open is none that there isn't
+pub open-known : (c : ℕ) (v : CoreValue) → IsOpen c v.state.conns → IsUnknown c v → ⊥
+open-known c v o unknown = let h = conn-open c v.state.conns o in unknown h.0 h.1
+
+-- the core is as it was
+pub leads-core : (M : Terms) (w : When) (P : List Act → Type 0) (a : Served) (x y : List Emission)
+    (v u : CoreValue) (us : List Unasked) → u ≡ v
+    → Leads M w P a x (record { core = v; unasked = us }) y → Leads M w P a x (record { core = u; unasked = us }) y
+leads-core M w P a x y v u us e h =
+    subst (λ (z : CoreValue). Leads M w P a x (record { core = z; unasked = us }) y) (sym e) h
+
+pub shorter : (d : Outgoing) (xs ys : List Outgoing) → xs ≡ d ∷ ys → length ys < length xs
+shorter d xs ys e = rw e (more (length ys))
+  where
+    more : (n : ℕ) → n < suc n
+    more n = omega arith

@@ -1,0 +1,13 @@
+-- So far the first answers were told.
+use Rattle.std.proofs.Common.{length}
+use Rattle.gateway_world.specs.Engines.{terms_in}
+use Rattle.gateway_world.proofs.Answering.{Answered}
+use Rattle.gateway_world.proofs.engine.Engine.answer_all.Given as goal
+
+abbrev pub invariant-each : goal.invariant-each
+invariant-each g l =
+    Answered (terms_in g.R.Relation.holds g.R.Relation.takes l.context) l.context.when
+    l.initial.self l.initial.outputs.items l.self l.outputs.items
+
+abbrev pub decreases-each : goal.decreases-each
+decreases-each g l = length l.self.core.untaken

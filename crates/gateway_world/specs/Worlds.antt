@@ -1,0 +1,107 @@
+-- What contracts see of a world, and what inputs do to it.
+use Rattle.limits.specs.declared.TheConstants.{LAST_MOMENT}
+use Rattle.std.specs.Prelude.{◌≡◌, ℕ, ◌^◌, length, min, max, ⊤, List, [], ◌∷◌, ◌++◌}
+use Rattle.ask_model.specs.Views.{Rules}
+use Rattle.journal_book.specs.Entries.{Written}
+use Rattle.exchange_model.specs.Keeping.{start}
+use Rattle.exchange_core.specs.States.{core_of}
+use Rattle.exchange_core.specs.Values.{CoreValue}
+use Rattle.gateway_model.specs.declared.input.Happening.{Happening}
+use Rattle.gateway_model.specs.declared.input.Happening.TheVariants as H
+use Rattle.gateway_model.specs.declared.input.Input.{Input}
+use Rattle.gateway_model.specs.declared.input.When.{When}
+use Rattle.exchange_model.specs.State.{State}
+use Rattle.gateway_model.specs.Acts.{Served, Terms, at}
+use Rattle.gateway_model.specs.Hearing.{ShowsWhatCame, DoesWhatIsDue}
+use Rattle.gateway_model.specs.Resting.{AllRest}
+use Rattle.gateway_model.specs.Waiting.{IsDrained}
+use Rattle.gateway_model.specs.Emissions.{Emission}
+use Rattle.gateway_connections.specs.Inlets.{Inlet}
+use Rattle.gateway_model.specs.Backlog.{PassesLimit}
+use Rattle.gateway_model.specs.Unasked.{unasked_in}
+use Rattle.gateway_world.specs.declared.engine.Engine.{Engine}
+use Rattle.gateway_world.specs.Leading.{Leads}
+use Rattle.gateway_model.specs.Orders.{IsInOrder}
+
+-- a core, its open connections, the rules by which requests are mapped, and the moment of the last
+-- input
+pub record WorldValue : Type 0 where
+  pub core : CoreValue
+  pub inlets : List Inlet
+  pub rules : Rules
+  pub moment : ℕ
+
+abbrev pub world_of : {R : Type 0} → Engine R → Rules → ℕ → WorldValue
+world_of e rules moment =
+    record { core = e.core; inlets = e.table.current; rules = rules; moment = moment }
+
+-- A moment below the last one counts as that, and one above 2 ^ 62 as this.
+abbrev pub counted : ℕ → ℕ → ℕ
+counted last moment = max last (min moment LAST_MOMENT)
+
+abbrev pub served_in : WorldValue → Served
+served_in w = record { core = w.core; unasked = unasked_in w.inlets }
+
+abbrev pub when_in : WorldValue → Input → When
+when_in w i = record { moment = counted w.moment i.moment; word = i.word }
+
+-- An input leads from one world to the other, and gives this out.
+pub record Handles (M : Terms) (i : Input) (old : WorldValue) (out : List Emission)
+    (new : WorldValue) : Type 0 where
+  pub acts : Leads M (when_in old i) (IsInOrder i.happening) (served_in old) [] (served_in new) out
+  pub rules : new.rules ≡ old.rules
+  pub moment : new.moment ≡ counted old.moment i.moment
+
+-- Inputs do, one after another.
+abbrev pub HandlesAll : Terms → List Input → WorldValue → List Emission → WorldValue → Type 0
+HandlesAll M [] old out new = (new ≡ old) × (out ≡ [])
+HandlesAll M (i ∷ is) old out new =
+    (mid : WorldValue) × (first : List Emission) × (rest : List Emission)
+    × Handles M i old first mid × HandlesAll M is mid rest new × (out ≡ first ++ rest)
+
+-- Between two inputs nothing waits to be given out, and nothing that could be asked.
+pub record IsAtRest (w : WorldValue) : Type 0 where
+  pub drained : IsDrained w.core
+  pub rests : AllRest (served_in w)
+
+-- What came in by an input shows in the entries that it adds; and at a tick all was done that is
+-- due.
+abbrev pub DoesDue : Happening → ℕ → State → List Written → Type 0
+DoesDue H.Tick t S more = DoesWhatIsDue t S more
+DoesDue _ t S more = ⊤
+
+pub record Shows (i : Input) (old new : WorldValue) : Type 0 where
+  pub more : List Written
+  pub added : new.core.state.entries ≡ old.core.state.entries ++ more
+  pub shown : ShowsWhatCame i.happening (at (when_in old i) (served_in old)) old.core.state
+      new.core.state more
+  pub due : DoesDue i.happening (at (when_in old i) (served_in old)) old.core.state more
+
+-- a world to which nothing has happened
+abbrev pub new_world : Rules → WorldValue
+new_world rules = record { core = core_of start [] []; inlets = []; rules = rules; moment = 0 }
+
+-- Bytes come of a connection that with those that wait unread are more than 1,048,576.
+abbrev pub IsTooMuch : Happening → Served → Type 0
+IsTooMuch (H.Bytes c bytes) s = PassesLimit c (length bytes.now) s
+IsTooMuch _ s = ⊥
+
+-- Inputs are taken from a world to which nothing has happened on, and this is its journal after
+-- them.
+abbrev pub RunsTo : Terms → Rules → List Input → List Emission → List Written → Type 0
+RunsTo M rules is out h =
+    (w : WorldValue) × HandlesAll M is (new_world rules) out w × (h ≡ w.core.state.entries)
+
+-- All inputs before one are taken, and this one brings more bytes than may wait unread.
+pub record IsRefusedAfter (M : Terms) (is : List Input) (old : WorldValue) : Type 0 where
+  pub before : List Input
+  pub input : Input
+  pub after : List Input
+  pub are : is ≡ before ++ input ∷ after
+  pub out : List Emission
+  pub world : WorldValue
+  pub taken : HandlesAll M before old out world
+  pub full : IsTooMuch input.happening (served_in world)
+
+abbrev pub IsRefusedIn : Terms → Rules → List Input → Type 0
+IsRefusedIn M rules is = IsRefusedAfter M is (new_world rules)

@@ -1,0 +1,19 @@
+//! From the bytes of HTTP connections and of CoAP datagrams to the bytes of datagrams and of
+//! answers.
+//!
+//! Its one contract: an input leads to acts, one after the other, each of them one step of the core
+//! or of the connections with what it gives out, in the order that `gateway_model` tells; all that is
+//! promised of inputs and of runs follows from these.
+#![tactic(auto)]
+
+mod engine;
+mod fault;
+mod run;
+mod state;
+mod telling;
+mod world;
+
+pub use fault::WorldFault;
+pub use gateway_model::{Datagram, Happening, Input, Output, When};
+pub use run::Run;
+pub use state::World;

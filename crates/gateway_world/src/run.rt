@@ -1,0 +1,82 @@
+//! Whole runs of inputs.
+
+ghost use Rattle.std.specs.Prelude.{◌≡◌, ℕ, [], Err, IfOk, OnOk};
+ghost use Rattle.history_laws.specs.Justified.{Stands};
+ghost use Rattle.ask_model.specs.Views.{rules_of};
+ghost use Rattle.gateway_model.specs.Emissions.{emissions};
+ghost use Rattle.exchange_core.specs.Values.{sent_in};
+ghost use Rattle.gateway_model.specs.Going.{goes_in};
+ghost use Rattle.gateway_model.specs.Tellings.{terms_of};
+ghost use Rattle.gateway_model.specs.Told.{IsToldAnswers};
+ghost use Rattle.gateway_world.specs.Asked.{AsksInRun};
+ghost use Rattle.gateway_world.specs.Worlds.{HandlesAll, IsAtRest, IsRefusedAfter, IsRefusedIn, RunsTo};
+ghost use Rattle.transformers.specs.Suits.{Suits};
+
+use crate::fault::WorldFault;
+use crate::state::World;
+use ask_model::Settings;
+use gateway_model::{Input, Output};
+use journal_book::Journal;
+use std::alloc::Global;
+use transformers::{Bank, Relation};
+
+/// What a run gave out, and what happened in it.
+#[derive(Drop)]
+pub struct Run<R: Relation> {
+    /// The outputs of each input, in order.
+    pub outputs: Vec<Output>,
+    pub journal: Journal<R>,
+}
+
+impl<R: Relation> World<R> {
+    /// Takes all inputs, in order, and answers the first refusal of one.
+    pub fn run(
+        alloc: Global,
+        settings: Settings,
+        bank: &Bank<R>,
+        inputs: &[Input<'_>],
+    ) -> Result<Run<R>, WorldFault>
+        requires suits { Suits R.holds R.takes (rules_of settings).routes bank.now }
+        ensures handles { IfOk result (λ run. RunsTo (terms_of R.holds R.takes (rules_of settings))
+            (rules_of settings) inputs.now (emissions run.outputs.items) run.journal.entries) }
+        ensures stands { IfOk result (λ run. Stands run.journal.entries) }
+        ensures told { IfOk result (λ run. (c : ℕ) → IsToldAnswers R.holds R.takes
+            (rules_of settings) [] run.journal.entries c (emissions run.outputs.items)) }
+        ensures asks { IfOk result (λ run. AsksInRun (terms_of R.holds R.takes (rules_of settings))
+            (rules_of settings) inputs.now run.journal.entries) }
+        ensures sends { IfOk result (λ run. goes_in (emissions run.outputs.items)
+            ≡ sent_in run.journal.entries) }
+        ensures full { result ≡ Err WorldFault.Backlog
+            → IsRefusedIn (terms_of R.holds R.takes (rules_of settings)) (rules_of settings)
+            inputs.now }
+    {
+        let mut world = World::new(alloc, settings)?;
+        let mut outputs = Vec::new(alloc);
+        world.take_all(bank, inputs, &mut outputs)?;
+        let journal = world.journal().copy()?;
+        Ok(Run { outputs, journal })
+    }
+
+    /// Takes all inputs, in order, and answers the first refusal of one.
+    fn take_all(
+        &mut self,
+        bank: &Bank<R>,
+        inputs: &[Input<'_>],
+        outputs: &mut Vec<Output>,
+    ) -> Result<(), WorldFault>
+        requires suits { Suits R.holds R.takes self.old.rules.routes bank.now }
+        requires untold { outputs.old.items ≡ [] }
+        requires rests { IsAtRest self.old }
+        ensures handles { OnOk result (HandlesAll (terms_of R.holds R.takes self.old.rules)
+            inputs.now self.old (emissions outputs.new.items) self.new) }
+        ensures rests { OnOk result (IsAtRest self.new) }
+        ensures full { result ≡ Err WorldFault.Backlog
+            → IsRefusedAfter (terms_of R.holds R.takes self.old.rules) inputs.now self.old }
+    {
+        'each: for input in inputs {
+            let mut more = self.input(bank, *input)?;
+            outputs.append(&mut more)?;
+        }
+        Ok(())
+    }
+}

@@ -1,0 +1,132 @@
+//! The proxy as one value: inputs in, outputs out.
+
+ghost use Rattle.std.specs.Prelude.{◌≡◌, ◌↔◌, IsTrue, IfOk, OnOk, OnErr, IsErrOf};
+ghost use Rattle.history_laws.specs.Justified.{Stands};
+ghost use Rattle.ask_model.specs.Views.{rules_of};
+ghost use Rattle.exchange_model.specs.Room.{KeptInRoom};
+ghost use Rattle.gateway_model.specs.Asking.{AllHeed};
+ghost use Rattle.gateway_model.specs.Emissions.{emissions};
+ghost use Rattle.gateway_model.specs.Closing.{Closes};
+ghost use Rattle.gateway_model.specs.Going.{SendsJust};
+ghost use Rattle.gateway_model.specs.Told.{TellsAll};
+
+use crate::engine::{Context, Engine};
+use crate::fault::WorldFault;
+use crate::state::World;
+use ask_model::Settings;
+use exchange_core::Core;
+use gateway_connections::Table;
+use gateway_model::{Happening, Input, Output, When};
+use http_edge::Memory;
+use journal_book::Journal;
+use limits::LAST_MOMENT;
+use std::alloc::Global;
+use std::sync::Arc;
+use transformers::{Bank, Relation};
+
+impl<R: Relation> World<R> {
+    ghost use Rattle.gateway_model.specs.Tellings.{IsMapped, terms_of};
+    ghost use Rattle.gateway_world.specs.Worlds.{Handles, IsAtRest, IsTooMuch, Shows, new_world, served_in};
+    ghost use Rattle.transformers.specs.Suits.{Suits};
+
+    /// A proxy to which nothing has happened.
+    pub fn new(alloc: Global, settings: Settings) -> Result<World<R>, Memory>
+        ensures is { IfOk result (λ w. w ≡ new_world (rules_of settings)) }
+        ensures rests { IfOk result (λ w. IsAtRest w) }
+    {
+        let settings = Arc::new(alloc, settings)?;
+        let engine = Engine {
+            alloc,
+            core: Core::new(alloc)?,
+            table: Table::new(alloc),
+        };
+        Ok(World {
+            settings,
+            engine,
+            moment: 0,
+        })
+    }
+
+    /// What happened. One reading of it is legal and at rest.
+    pub fn journal(&self) -> &Journal<R>
+        ensures entries { result.now.entries ≡ self.now.core.state.entries }
+        ensures stands { Stands self.now.core.state.entries }
+    {
+        self.engine.core.journal()
+    }
+
+    /// The moment of the last input, in milliseconds: it never falls, and is at most 2^62.
+    pub fn moment(&self) -> u64
+        ensures { result ≡ self.now.moment }
+    {
+        self.moment
+    }
+
+    /// Takes an input and gives out what it leads to. An input for a connection that isn't open
+    /// gives nothing. One that is refused changes nothing, and can be given again.
+    pub fn input(&mut self, bank: &Bank<R>, input: Input<'_>) -> Result<Vec<Output>, WorldFault>
+        requires suits { Suits R.holds R.takes self.old.rules.routes bank.now }
+        ensures handles { IfOk result (λ outputs. Handles (terms_of R.holds R.takes self.old.rules)
+            input.entry self.old (emissions outputs.items) self.new) }
+        ensures unchanged { OnErr result (self.new ≡ self.old) }
+        ensures full { IsTooMuch input.entry.happening (served_in self.old)
+            ↔ IsErrOf result WorldFault.Backlog }
+        ensures told { IfOk result (λ outputs. TellsAll R.holds R.takes self.old.rules self.old.core
+            self.new.core (emissions outputs.items)) }
+        ensures asks { OnOk result (AllHeed (IsMapped R.holds R.takes self.old.rules)
+            input.entry.happening (served_in self.old) (served_in self.new)) }
+        ensures sends { IfOk result (λ outputs. SendsJust self.old.core (emissions outputs.items)
+            self.new.core) }
+        ensures shows { OnOk result (Shows input.entry self.old self.new) }
+        ensures closes { IfOk result (λ outputs. Closes (terms_of R.holds R.takes self.old.rules)
+            input.entry.happening self.old.core.state self.new.core.state
+            (emissions outputs.items)) }
+        ensures rests { IsAtRest self.new }
+    {
+        // Its contract says that the core keeps to its history, before the input and after it.
+        self.engine.core.journal();
+        if self.is_too_much(input.happening) {
+            return Err(WorldFault::Backlog);
+        }
+        let moment = self.moment.max(input.moment.min(LAST_MOMENT));
+        let context = Context {
+            when: When {
+                moment,
+                word: input.word,
+            },
+            settings: &self.settings,
+        };
+        let before = self.engine.core.snapshot()?;
+        let mut outputs = Vec::new(self.engine.alloc);
+        match self
+            .engine
+            .step(context, bank, input.happening, &mut outputs)
+        {
+            Ok(()) => {
+                self.engine.core.journal();
+                self.engine.table.mark();
+                self.moment = moment;
+                Ok(outputs)
+            }
+            Err(Memory) => {
+                self.engine.core.restore(before);
+                self.engine.table.back();
+                Err(WorldFault::Memory)
+            }
+        }
+    }
+
+    /// Whether more bytes come of a connection than may wait unread.
+    fn is_too_much(&self, happening: Happening<'_>) -> bool
+        requires kept { KeptInRoom self.now.core.state }
+        ensures { IsTrue result ↔ IsTooMuch happening.entry (served_in self.now) }
+    {
+        match happening {
+            Happening::Bytes(number, bytes) => {
+                let reads = self.engine.core.is_idle(number);
+                self.engine.table.passes_limit(number, reads, bytes.len())
+            }
+            _ => false,
+        }
+    }
+}

@@ -1,0 +1,265 @@
+-- An own answer names its cause.
+use Rattle.std.proofs.Common.{◌≡◌, ℕ, ◌+◌, ◌<◌, ◌≤◌, ◌⊎◌, Bool, true, false, ◌||◌, inl, inr, List, [], ◌∷◌, length, Option, Some, None, refl, sym, ap, subst, ◌∙◌, arith}
+use Rattle.std.specs.Prelude.{is_none}
+use Rattle.std.proofs.lemmas.Bool.Decides.{leb_tells}
+use Rattle.std.proofs.lemmas.Bool.{false≢true}
+use Rattle.limits.specs.declared.TheConstants.{MAX_TRANSMIT_WAIT}
+use Rattle.coap_codec.specs.Spelling.{Content}
+use Rattle.uri_map.specs.declared.peer.Peer.{Peer}
+use Rattle.ask_model.specs.Requests.{CoapRequest, Requests, Refuses}
+use Rattle.ask_model.specs.Views.{Ask}
+use Rattle.ask_model.specs.declared.cause.Cause.{Cause}
+use Rattle.ask_model.specs.declared.cause.Cause.TheVariants as C
+use Rattle.journal_book.specs.Entries.{Fault, Answers, Hears, Passes, Written}
+use Rattle.history_laws.specs.Responses.{is_whole, whole_of}
+use Rattle.history_laws.specs.Readings.{Noted, Note, Plain, Says, entries, at, before}
+use Rattle.history_laws.specs.Progress.{Reply, NotUnderstood, Reset, TimedOut}
+use Rattle.history_laws.specs.Transmissions.{Transmission, given_up, transmission, sent_last}
+use Rattle.history_laws.specs.Exchanges.{Begun, begun, late_by, is_late, Expired, expires, turn, waits_for, replies}
+use Rattle.history_laws.specs.Justified.{IsAsk, IsTurnedAway as WasTurnedAway, IsRefused as WasRefused, IsOverdue, Caused, Ends, reads, Legal, Stands}
+use Rattle.history_laws.specs.Laws.{IsFirst}
+use Rattle.history_laws.specs.Worked.{noted}
+use Rattle.history_laws.proofs.Resting.{some-is}
+use Rattle.history_laws.proofs.Places.{at-below}
+use Rattle.history_laws.proofs.Facts.{follows-at, legal-before, at-before, length-before}
+use Rattle.history_laws.proofs.Openings.{ends-first}
+use Rattle.history_laws.proofs.Turns.{waits-first}
+use Rattle.history_laws.proofs.Replies.{replies-fit}
+use Rattle.history_laws.proofs.Sent.{begun-before, sent-once}
+use Rattle.history_claims.specs.Headline.{IsEntry, IsSentFor, IsUnsent, IsTurnedAway, IsTimedOut, IsGivenUp, IsReset, IsNotUnderstood, IsRefused, IsCausedBy}
+use Rattle.history_claims.proofs.Entries.{at-entries, entries-at, at-newest, newest-before, before-twice}
+use Rattle.history_claims.proofs.Sending.{first-before, sent-as, heard-in}
+use Rattle.history_claims.proofs.Resting.{answers-ask, reads-own, asked-by, opened-by}
+use Rattle.history_claims.proofs.Ending.{turn-expired, reset-turn, expired-turn, failed-turn, going-unreplied, reply-listed, rejected-in}
+use Rattle.history_claims.proofs.Unsent.{Over, unsent-in, none-for-plain, sent-last-none, sent-last-first, never-sent}
+use Rattle.history_claims.proofs.GivenUp.{given-up-at}
+use Rattle.history_claims.proofs.Crowded.{crowded-at}
+
+not-late : (t : ℕ) (b : Begun) → late_by t b ≡ true → b.since + MAX_TRANSMIT_WAIT ≤ t
+not-late t b e = elim (leb_tells (b.since + MAX_TRANSMIT_WAIT) t) [ inl v ↦ v.1 | inr v ↦ absurd (false≢true (sym v.0 ∙ e)) ]
+
+-- an exchange that is past its end was opened so long ago
+late-since : (l : List Noted) (n k s : ℕ) (b : Begun) → begun l k ≡ Some b → is_late s (begun (before l n) k) ≡ true → b.since + MAX_TRANSMIT_WAIT ≤ s
+late-since l n k s b opened late = go (begun (before l n) k) refl late
+  where
+    go : (o : Option Begun) → begun (before l n) k ≡ o → is_late s o ≡ true → b.since + MAX_TRANSMIT_WAIT ≤ s
+    go None is h = absurd (false≢true h)
+    go (Some a) is h =
+        subst (λ (b : Begun). b.since + MAX_TRANSMIT_WAIT ≤ s) (some-is a b (sym (begun-before l n k a is) ∙ opened)) (not-late s a h)
+
+or-cases : (a b : Bool) → (a || b) ≡ true → (a ≡ true) ⊎ (b ≡ true)
+or-cases true b e = inl refl
+or-cases false b e = inr e
+
+whole-none : (q : CoapRequest) (m : Content) → is_whole m ≡ false → whole_of q (m ∷ []) ≡ None
+whole-none q m e = rw e refl
+
+-- an answer that stands, with what it answers
+module _ (l : List Noted) (n t c k : ℕ) (cause : Cause) (j : ℕ) (legal : Legal l) (note : Note)
+    (here : at l n ≡ Some (noted t (Answers c k (Fault cause j)) note)) (ask : Ask) (asked : IsAsk (before l n) k c ask) where
+  len : length (before l n) ≡ n
+  len = length-before l n _ here
+
+  below : (i : ℕ) (x : Noted) → at (before l n) i ≡ Some x → i < n
+  below i x e = subst (λ (m : ℕ). i < m) len (at-below (before l n) i x e)
+
+  earlier : (i : ℕ) (x : Noted) → at (before l n) i ≡ Some x → x.written.moment ≤ t
+  earlier i x e =
+      let a = at-newest (before l n) i x (legal-before l n legal) e in
+      let b = newest-before l n _ legal here in
+      omega (arith, a, b)
+
+  turned-away : WasTurnedAway (before l n) k → IsTurnedAway (entries l) c k
+  turned-away h =
+      let stands = at-before l n k _ h.stands in
+      record {
+        moment = h.moment;
+        request = h.request;
+        asked = asked-by l n c k ask (Requests h.request) h.moment h.conn h.ask Plain asked stands h.sense;
+        crowded = crowded-at l k h.moment h.conn h.ask h.request legal stands h.sense;
+        unsent = unsent-in l k h.request legal (none-for-plain l k h.conn h.moment h.ask legal stands);
+      }
+
+  refused : (cause : Cause) → WasRefused (before l n) k cause → IsRefused (entries l) c k cause
+  refused cause h =
+      record {
+        moment = h.asked.moment;
+        status = h.status;
+        asked = asked-by l n c k ask (Refuses cause h.status) h.asked.moment h.conn h.ask h.asked.note asked (at-before l n k _ h.asked.stands) h.sense;
+      }
+
+  ask-before : k < n
+  ask-before = below k _ asked.stands
+
+  -- how the exchange ended stands in an entry before
+  reset : (o : ℕ) → reads (before l n) k ≡ Some o → Ends (before l n) o j Reset → (j < n) × IsReset (entries l) c k j
+  reset o e h =
+      let x = opened-by l n c k o ask legal asked e in
+      let own : o ≡ k = sym (reads-own (before l n) k o e) in
+      let end = ends-first (before l n) k j Reset (subst (λ (o : ℕ). Ends (before l n) o j Reset) own h) in
+      let y : Noted = end.0 in
+      let late = before (before l n) j in
+      let u = reset-turn (turn late k y) j (replies late k) end.3 in
+      let it = rejected-in late k y (follows-at (before l n) j y (legal-before l n legal) end.1) u in
+      let first = first-before l n _ k _ _ _ (first-before (before l n) j it.sent_at k it.sending it.peer it.sent it.first) in
+      let sent = sent-as l it.sent_at k it.sending it.peer it.sent x.exchange legal x.opened first in (
+        below j y end.1,
+        record {
+          moment = x.exchange.since;
+          request = x.exchange.request;
+          asked = x.asked;
+          sending = it.sending;
+          sent = it.sent;
+          sent_for = sent.1;
+          after = subst (λ (m : ℕ). it.sending < m) (length-before (before l n) j y end.1) (at-below late it.sending _ it.first.stands);
+          reset = y.written.moment;
+          bytes = it.bytes;
+          heard = at-entries l j _
+              (subst (λ (p : Peer). at l j ≡ Some (noted y.written.moment (Hears p it.bytes) (Says it.message (Some it.sending) it.notice))) sent.0
+              (at-before l n j y end.1 ∙ ap (λ (v : Noted). Some v) it.entry));
+          spelled = it.spelled;
+        },
+      )
+
+  not-understood : (o : ℕ) → reads (before l n) k ≡ Some o → Ends (before l n) o j NotUnderstood → (j < n) × IsNotUnderstood (entries l) c k j
+  not-understood o e h =
+      let x = opened-by l n c k o ask legal asked e in
+      let own : o ≡ k = sym (reads-own (before l n) k o e) in
+      let end = ends-first (before l n) k j NotUnderstood (subst (λ (o : ℕ). Ends (before l n) o j NotUnderstood) own h) in
+      let y : Noted = end.0 in
+      let late = before (before l n) j in
+      let it = failed-turn (turn late k y) j (replies late k) (going-unreplied late k end.2) end.3 in
+      let r : Reply = record { number = j; sending = it.sending; message = it.message } in
+      let has = reply-listed (before l n) j k it.sending it.message y end.1 it.is in
+      let fits = replies-fit (before l n) k r (legal-before l n legal) has in (
+        below j y end.1,
+        record {
+          moment = x.exchange.since;
+          request = x.exchange.request;
+          asked = x.asked;
+          message = it.message;
+          heard = heard-in l n k r x.exchange legal x.opened fits;
+          fails = whole-none x.exchange.request it.message it.fails;
+        },
+      )
+
+  -- the message for the ask, or none
+  abbrev Named : CoapRequest → Type 0
+  Named q = ((m : Content) × IsSentFor (entries l) k q j m) ⊎ ((j ≡ k) × IsUnsent (entries l) k q)
+
+  abbrev IsNamed : Type 0
+  IsNamed = (sent_last (before l n) k ≡ Some j) ⊎ ((sent_last (before l n) k ≡ None) × (j ≡ k))
+
+  abbrev IsOver : Begun → Type 0
+  IsOver b = (b.since + MAX_TRANSMIT_WAIT ≤ t) ⊎ ((m : Content) × IsSentFor (entries l) k b.request j m × IsGivenUp (entries l) t b.request.peer j m)
+
+  -- a tick found the exchange past its end, or its message given up
+  expired : (b : Begun) (e : ℕ) → begun l k ≡ Some b → IsNamed → Ends (before l n) k e TimedOut → IsOver b
+  expired b e opened named h =
+      let end = ends-first (before l n) k e TimedOut h in
+      let y : Noted = end.0 in
+      let s : ℕ = y.written.moment in
+      let early : s ≤ t = earlier e y end.1 in
+      let u : turn (before l e) k y ≡ Expired =
+      subst (λ (v : List Noted). turn v k y ≡ Expired) twice (expired-turn (turn (before (before l n) e) k y) e (replies (before (before l n) e) k) end.3) in
+      let it = turn-expired (before l e) k y u in
+      let tick = at-before l n e y end.1 ∙ ap (λ (v : Noted). Some v) it.entry in
+      go (waits_for (before l e) k) refl s y.note early tick it.over
+    where
+      by-late : (s : ℕ) → s ≤ t → is_late s (begun (before l e) k) ≡ true → IsOver b
+      by-late s early late = let since = late-since l e k s b opened late in inl (omega (arith, since, early))
+
+      that-one : (s i : ℕ) (p : Peer) (m : Content) → IsFirst l s k i p m → IsFirst (before l n) s k i p m → IsNamed → i ≡ j
+      that-one s i p m first soon (inl some) =
+          let f = sent-last-first (before l n) k j some in
+          sent-once l s f.0 k i j p f.1 m f.2 legal first (first-before l n f.0 k j f.1 f.2 f.3)
+      that-one s i p m first soon (inr none) = absurd (sent-last-none (before l n) s k i p m none.0 soon)
+
+      twice : before (before l n) e ≡ before l e
+      twice = let end = ends-first (before l n) k e TimedOut h in before-twice l n e _ here (below e end.0 end.1)
+
+      by-tick : (i s : ℕ) (note : Note) → s ≤ t → at l e ≡ Some (noted s Passes note) → waits_for (before l e) k ≡ Some i
+          → (y : Option Transmission) → transmission (before l e) i ≡ y → given_up s y ≡ true → IsOver b
+      by-tick i s note early tick waits None is over = absurd (false≢true over)
+      by-tick i s note early tick waits (Some y) is over =
+          let w = waits-first (before l e) k i waits in
+          let first : IsFirst l w.0 k i w.1 w.2 = first-before l e w.0 k i w.1 w.2 w.3 in
+          let lt = subst (λ (m : ℕ). i < m) (length-before l e _ tick) (at-below (before l e) i _ w.3.stands) in
+          let up = given-up-at l w.0 k i w.1 w.2 e s t note y legal first lt tick is over early in
+          let sent = sent-as l w.0 k i w.1 w.2 b legal opened first in
+          let soon : IsFirst (before l n) w.0 k i w.1 w.2 =
+          first-before (before l n) e w.0 k i w.1 w.2 (subst (λ (v : List Noted). IsFirst v w.0 k i w.1 w.2) (sym twice) w.3) in
+          let same : i ≡ j = that-one w.0 i w.1 w.2 first soon named in
+          subst (λ (j : ℕ). (b.since + MAX_TRANSMIT_WAIT ≤ t) ⊎ ((m : Content) × IsSentFor (entries l) k b.request j m × IsGivenUp (entries l) t b.request.peer j m)) same
+          (inr (w.2, sent.1, subst (λ (p : Peer). IsGivenUp (entries l) t p i w.2) sent.0 up))
+
+      go : (w : Option ℕ) → waits_for (before l e) k ≡ w → (s : ℕ) (note : Note) → s ≤ t → at l e ≡ Some (noted s Passes note)
+          → expires (before l e) k s w ≡ true → IsOver b
+      go None is s note early tick over = by-late s early over
+      go (Some i) is s note early tick over =
+          elim (or-cases (is_late s (begun (before l e) k)) (given_up s (transmission (before l e) i)) over) [
+            | inl late ↦ by-late s early late
+            | inr up ↦ by-tick i s note early tick is (transmission (before l e) i) refl up
+          ]
+
+  names : (b : Begun) → begun l k ≡ Some b → ((s i : ℕ) (p : Peer) (m : Content) → sent_last (before l n) k ≡ None → IsFirst l s k i p m → ⊥) → IsNamed
+      → (j < n) × Named b.request
+  names b opened never (inl some) =
+      let f = sent-last-first (before l n) k j some in
+      let sent = sent-as l f.0 k j f.1 f.2 b legal opened (first-before l n f.0 k j f.1 f.2 f.3) in
+      (below j _ f.3.stands, inl (f.2, sent.1))
+  names b opened never (inr none) = (
+    subst (λ (j : ℕ). j < n) (sym none.1) ask-before,
+    inr (none.1, unsent-in l k b.request legal (λ s i p m f. never s i p m none.0 f)),
+  )
+
+  timed-out : (o : ℕ) → reads (before l n) k ≡ Some o → IsNamed → ((e : ℕ) × Ends (before l n) k e TimedOut) ⊎ IsOverdue (before l n) t k
+      → (j < n) × IsTimedOut (entries l) t c k j
+  timed-out o e named how =
+      let x = opened-by l n c k o ask legal asked e in
+      let gone : Over k (before l n) = over how in
+      let it = names x.exchange x.opened (λ s i p m none f. never-sent l n t c k (Fault cause j) note legal here gone none s i p m f) named in (
+        it.0,
+        record {
+          moment = x.exchange.since;
+          request = x.exchange.request;
+          asked = x.asked;
+          names = it.1;
+          over = late x.exchange x.opened how;
+        },
+      )
+    where
+      over : ((e : ℕ) × Ends (before l n) k e TimedOut) ⊎ IsOverdue (before l n) t k → Over k (before l n)
+      over (inl end) = inl (ap is_none end.1)
+      over (inr due) = inr due.0
+
+      late : (b : Begun) → begun l k ≡ Some b → ((e : ℕ) × Ends (before l n) k e TimedOut) ⊎ IsOverdue (before l n) t k → IsOver b
+      late b opened (inl end) = expired b end.0 opened named end.1
+      late b opened (inr due) = inl (late-since l n k t b opened due.2)
+
+  caused : (cause : Cause) → Caused (before l n) t k cause j → (j < n) × IsCausedBy (entries l) t c k cause j
+  caused C.Busy h = (subst (λ (j : ℕ). j < n) (sym h.0) ask-before, (h.0, turned-away h.1))
+  caused C.Timeout h =
+      let own : h.0 ≡ k = sym (reads-own (before l n) k h.0 h.1) in
+      timed-out h.0 h.1
+      (subst (λ (o : ℕ). (sent_last (before l n) o ≡ Some j) ⊎ ((sent_last (before l n) o ≡ None) × (j ≡ k))) own h.2)
+      (subst (λ (o : ℕ). ((e : ℕ) × Ends (before l n) o e TimedOut) ⊎ IsOverdue (before l n) t o) own h.3)
+  caused C.Reset h = reset h.0 h.1 h.2
+  caused C.NotUnderstood h = not-understood h.0 h.1 h.2
+  caused C.BadHttp h = (subst (λ (j : ℕ). j < n) (sym h.1) ask-before, (h.1, refused C.BadHttp h.2))
+  caused C.NoMap h = (subst (λ (j : ℕ). j < n) (sym h.1) ask-before, (h.1, refused C.NoMap h.2))
+  caused C.Method h = (subst (λ (j : ℕ). j < n) (sym h.1) ask-before, (h.1, refused C.Method h.2))
+  caused C.Media h = (subst (λ (j : ℕ). j < n) (sym h.1) ask-before, (h.1, refused C.Media h.2))
+
+pub causes-in : (l : List Noted) (n t c k : ℕ) (cause : Cause) (j : ℕ) → Legal l → IsEntry (entries l) n t (Answers c k (Fault cause j))
+    → (j < n) × IsCausedBy (entries l) t c k cause j
+causes-in l n t c k cause j legal e =
+    let there = entries-at l n _ e in
+    let it = answers-ask l n t c k (Fault cause j) legal e in
+    caused l n t c k cause j legal there.0 there.1 it.0.ask it.0.asked cause it.0.grounds
+
+pub names-cause : (h : List Written) (n t c k : ℕ) (cause : Cause) (j : ℕ) → Stands h → IsEntry h n t (Answers c k (Fault cause j))
+    → (j < n) × IsCausedBy h t c k cause j
+names-cause h n t c k cause j s =
+    subst (λ (h : List Written). IsEntry h n t (Answers c k (Fault cause j)) → (j < n) × IsCausedBy h t c k cause j) s.entries_are
+    (causes-in s.reading n t c k cause j s.legal)

@@ -1,0 +1,212 @@
+-- That there was no room for an ask.
+use Rattle.std.proofs.Common.{◌≡◌, ℕ, ◌+◌, ◌<◌, ◌≤◌, ◌⊎◌, Bool, true, false, ◌&&◌, inl, inr, List, [], ◌∷◌, length, map, filter, Option, Some, None, refl, sym, ap, subst, ◌∙◌, arith}
+use Rattle.std.specs.Prelude.{is_none, nat_lt}
+use Rattle.std.specs.List.{Contains}
+use Rattle.std.proofs.lemmas.List.Sums.{length-filter}
+use Rattle.std.proofs.lemmas.Bool.{false≢true, ltb-true, ltb-false}
+use Rattle.limits.specs.declared.TheConstants.{MAX_EXCHANGES, MAX_MESSAGE_IDS, MAX_WAITING, MESSAGE_ID_LIFETIME}
+use Rattle.uri_map.specs.declared.peer.Peer.{Peer}
+use Rattle.ask_model.specs.declared.cause.Cause.{Cause}
+use Rattle.ask_model.specs.declared.cause.Cause.TheVariants as C
+use Rattle.ask_model.specs.Requests.{CoapRequest, Sense, Requests, Refuses, same_peer}
+use Rattle.ask_model.specs.Views.{Ask}
+use Rattle.ask_model.proofs.Endpoints.{and-both, same_peer-same}
+use Rattle.journal_book.specs.Entries.{Grounds, Live, Kept, Fault, Deed, Sends, Asks}
+use Rattle.history_laws.specs.Readings.{Noted, Note, Plain, Begins, First, entries, at, before}
+use Rattle.history_laws.specs.Connections.{is_sealed}
+use Rattle.history_laws.specs.Transmissions.{FirstSending, firsts_by, firsts, is_recent, mids_used}
+use Rattle.history_laws.specs.Exchanges.{Begun, begun, opens_by, opened_by, openings, is_going, open_exchanges, goes_to, is_waiting, waiting as waiting_at, waits_for}
+use Rattle.history_laws.specs.Hearing.{has_room}
+use Rattle.history_laws.specs.Justified.{IsRefused, Caused, HasGrounds, AskNote, Follows, Legal}
+use Rattle.history_laws.specs.Worked.{noted}
+use Rattle.history_laws.proofs.Places.{at-same}
+use Rattle.history_laws.proofs.Facts.{IsFirst-below, follows-at, at-before, length-before}
+use Rattle.history_laws.proofs.Elements.{filtered-from}
+use Rattle.history_laws.proofs.Outstanding.{is-some}
+use Rattle.history_laws.proofs.Openings.{listed-begun}
+use Rattle.history_laws.proofs.Replies.{firsts-stand}
+use Rattle.history_laws.proofs.Sent.{begun-below, begun-before, asked-for}
+use Rattle.history_claims.specs.Headline.{AreApart, AreMany, IsPending, IsPendingAt, IsRecent, IsCrowded, exchanges, waiting, ids}
+use Rattle.history_claims.proofs.Entries.{asked-entry, grows, before-twice}
+use Rattle.history_claims.proofs.Sending.{first-entry, first-before}
+use Rattle.history_claims.proofs.Resting.{answers-ask, reads-own}
+use Rattle.history_claims.proofs.Unsent.{Over, over-still}
+use Rattle.history_claims.proofs.Counting.{apart-push, mapped-from, apart-filter, apart-filtered, length-map}
+
+-- An ask that opened an exchange is answered only when that is over.
+plain-begins : (s t : ℕ) (c d : ℕ) (a b : Ask) (q : CoapRequest) → noted s (Asks c a) Plain ≡ noted t (Asks d b) (Begins q) → ⊥
+plain-begins s t c d a b q e = go (ap (λ (x : Noted). x.note) e)
+  where
+    go : Plain ≡ Begins q → ⊥
+    go f = cc
+
+senses : (s t : ℕ) (c d : ℕ) (a b : Ask) (u v : Note) → noted s (Asks c a) u ≡ noted t (Asks d b) v → a.sense ≡ b.sense
+senses s t c d a b u v e = go (ap (λ (x : Noted). x.written.deed) e)
+  where
+    asks-same : Asks c a ≡ Asks d b → a ≡ b
+    asks-same f = cc
+
+    go : Asks c a ≡ Asks d b → a.sense ≡ b.sense
+    go f = ap (λ (a : Ask). a.sense) (asks-same f)
+
+asks-something : (q : CoapRequest) (cause : Cause) (status : ℕ) → Refuses cause status ≡ Requests q → ⊥
+asks-something q cause status e = cc
+
+module _ (l : List Noted) (n o s d : ℕ) (b : Ask) (q : CoapRequest) (stands : at l o ≡ Some (noted s (Asks d b) (Begins q))) (sense : b.sense ≡ Requests q) where
+  not-refused : (cause : Cause) → IsRefused (before l n) o cause → ⊥
+  not-refused cause h =
+      let same = at-same l o _ _ (at-before l n o _ h.asked.stands) stands in
+      asks-something q cause h.status (sym h.sense ∙ (senses h.asked.moment s h.conn d h.ask b h.asked.note (Begins q) same ∙ sense))
+
+  over-cause : (t j : ℕ) (cause : Cause) → Caused (before l n) t o cause j → Over o (before l n)
+  over-cause t j C.Busy h = absurd (plain-begins h.1.moment s h.1.conn d h.1.ask b q (at-same l o _ _ (at-before l n o _ h.1.stands) stands))
+  over-cause t j C.Timeout h =
+      subst (λ (o : ℕ). Over o (before l n)) (sym (reads-own (before l n) o h.0 h.1))
+      (elim (h.3) [ inl end ↦ inl (ap is_none end.1) | inr due ↦ inr due.0 ])
+  over-cause t j C.Reset h = subst (λ (o : ℕ). Over o (before l n)) (sym (reads-own (before l n) o h.0 h.1)) (inl (ap is_none h.2))
+  over-cause t j C.NotUnderstood h = subst (λ (o : ℕ). Over o (before l n)) (sym (reads-own (before l n) o h.0 h.1)) (inl (ap is_none h.2))
+  over-cause t j C.BadHttp h = absurd (not-refused C.BadHttp h.2)
+  over-cause t j C.NoMap h = absurd (not-refused C.NoMap h.2)
+  over-cause t j C.Method h = absurd (not-refused C.Method h.2)
+  over-cause t j C.Media h = absurd (not-refused C.Media h.2)
+
+  over-grounds : (t : ℕ) (g : Grounds) → HasGrounds (before l n) t o g → Over o (before l n)
+  over-grounds t (Live js) h = subst (λ (o : ℕ). Over o (before l n)) (sym (reads-own (before l n) o h.0 h.4)) (inl (ap is_none h.5))
+  over-grounds t (Kept js) h = absurd h
+  over-grounds t (Fault cause j) h = over-cause t j cause h
+
+not-going : (l : List Noted) (o : ℕ) → is_sealed l ≡ false → is_going l o ≡ true → Over o l → ⊥
+not-going l o unsealed going (inl h) = false≢true (sym h ∙ going)
+not-going l o unsealed going (inr h) = false≢true (sym unsealed ∙ h)
+
+-- an exchange that goes on is that of an ask which wasn't answered
+pending-is : (l : List Noted) (k o : ℕ) (x : Noted) → Legal l → at l k ≡ Some x → is_sealed (before l k) ≡ false → is_going (before l k) o ≡ true
+    → (b : Begun) → begun (before l k) o ≡ Some b → IsPending (entries l) k o b.request
+pending-is l k o x legal here unsealed going b opened =
+    let ask = asked-for l o b legal (begun-before l k o b opened) in
+    record {
+      before = subst (λ (m : ℕ). o < m) (length-before l k x here) (begun-below (before l k) o b opened);
+      conn = ask.conn;
+      moment = b.since;
+      asked = asked-entry l o ask.conn b.since ask.ask (Begins b.request) (Requests b.request) ask.stands ask.sense;
+      unanswered = λ n t c g lt e.
+          let it = answers-ask l n t c o g legal e in
+          let over = over-grounds l n o b.since ask.conn ask.ask b.request ask.stands ask.sense t g it.0.grounds in
+          let twice = before-twice l k n x here lt in
+          not-going (before l k) o unsealed going (grows (Over o) (over-still o) (before l k) n (subst (Over o) (sym twice) over));
+    }
+
+openings-below : (l : List Noted) (o : ℕ) → Contains (openings l) o → o < length l
+openings-below l o h = let b = is-some (begun l o) (listed-begun l o h) in begun-below l o b.0 b.1
+
+openings-step : (n : ℕ) (q : Option CoapRequest) (os : List ℕ) → AreApart os → (Contains os n → ⊥) → AreApart (opened_by n q os)
+openings-step n None os h new = h
+openings-step n (Some q) os h new = apart-push os n h new
+
+openings-apart : (l : List Noted) → AreApart (openings l)
+openings-apart [] = tt
+openings-apart (x ∷ older) =
+    openings-step (length older) (opens_by x.note) (openings older) (openings-apart older)
+    (λ h. let below = openings-below older (length older) h in absurd (omega (arith, below)))
+
+numbers-below : (l : List Noted) (n : ℕ) → Contains (map (λ (f : FirstSending). f.number) (firsts l)) n → n < length l
+numbers-below l n h =
+    let it = mapped-from (λ (f : FirstSending). f.number) (firsts l) n h in
+    subst (λ (n : ℕ). n < length l) it.2 (IsFirst-below l it.0.moment it.0.opening it.0.number it.0.peer it.0.message (firsts-stand l it.0 it.1))
+
+abbrev numbers_of : List FirstSending → List ℕ
+numbers_of fs = map (λ (f : FirstSending). f.number) fs
+
+numbers-step : (n t : ℕ) (d : Deed) (note : Note) (old : List FirstSending) → AreApart (numbers_of old) → (Contains (numbers_of old) n → ⊥)
+    → AreApart (numbers_of (firsts_by n t d note old))
+numbers-step n t (Sends p b w) (First o m) old h new = (new, h)
+numbers-step n t d note old h new = h
+
+numbers-apart : (l : List Noted) → AreApart (numbers_of (firsts l))
+numbers-apart [] = tt
+numbers-apart (x ∷ older) =
+    numbers-step (length older) x.written.moment x.written.deed x.note (firsts older) (numbers-apart older)
+    (λ h. let below = numbers-below older (length older) h in absurd (omega (arith, below)))
+
+goes-is : (p : Peer) (b : Option Begun) → goes_to p b ≡ true → (a : Begun) × (b ≡ Some a) × (a.request.peer ≡ p)
+goes-is p None e = absurd (false≢true e)
+goes-is p (Some b) e = (b, refl, same_peer-same b.request.peer p e)
+
+and-false : (a b : Bool) → (a && b) ≡ false → (a ≡ false) ⊎ (b ≡ false)
+and-false true b e = inr e
+and-false false b e = inl refl
+
+module _ (l : List Noted) (k : ℕ) (x : Noted) (legal : Legal l) (here : at l k ≡ Some x) (unsealed : is_sealed (before l k) ≡ false) where
+  many-pending : AreMany (length (open_exchanges (before l k))) (λ (o : ℕ). (q : CoapRequest) × IsPending (entries l) k o q)
+  many-pending =
+      record {
+        ones = open_exchanges (before l k);
+        many = omega arith;
+        apart = apart-filtered (is_going (before l k)) (openings (before l k)) (openings-apart (before l k));
+        each = λ o h.
+            let both = filtered-from (is_going (before l k)) (openings (before l k)) o h in
+            let b = is-some (begun (before l k) o) (listed-begun (before l k) o both.0) in
+            (b.0.request, pending-is l k o x legal here unsealed both.1 b.0 b.1);
+      }
+
+  many-waiting : (p : Peer) → AreMany (length (waiting_at (before l k) p)) (IsPendingAt (entries l) k p)
+  many-waiting p =
+      record {
+        ones = waiting_at (before l k) p;
+        many = omega arith;
+        apart = apart-filtered (is_waiting (before l k) p) (openings (before l k)) (openings-apart (before l k));
+        each = λ o h.
+            let both = filtered-from (is_waiting (before l k) p) (openings (before l k)) o h in
+            let parts = and-both (goes_to p (begun (before l k) o)) (is_going (before l k) o && is_none (waits_for (before l k) o)) both.1 in
+            let b = goes-is p (begun (before l k) o) parts.0 in
+            let going = and-both (is_going (before l k) o) (is_none (waits_for (before l k) o)) parts.1 in
+            (b.0.request, b.2, pending-is l k o x legal here unsealed going.0 b.0 b.1);
+      }
+
+  many-recent : (t : ℕ) (p : Peer) → AreMany (mids_used (before l k) t p) (IsRecent (entries l) k t p)
+  many-recent t p =
+      let fs : List FirstSending = firsts (before l k) in
+      let count = length-map (λ (f : FirstSending). f.number) (filter (is_recent t p) fs) ∙ length-filter (is_recent t p) fs in
+      record {
+        ones = numbers_of (filter (is_recent t p) fs);
+        many = omega (arith, count);
+        apart = apart-filter (λ (f : FirstSending). f.number) (is_recent t p) fs (numbers-apart (before l k));
+        each = λ i h.
+            let it = mapped-from (λ (f : FirstSending). f.number) (filter (is_recent t p) fs) i h in
+            let both = filtered-from (is_recent t p) fs it.0 it.1 in
+            let f : FirstSending = it.0 in
+            let parts = and-both (same_peer f.peer p) (nat_lt t (f.moment + MESSAGE_ID_LIFETIME)) both.1 in
+            let stands = firsts-stand (before l k) f both.0 in
+            let below = subst (λ (m : ℕ). f.number < m) (length-before l k x here) (IsFirst-below (before l k) f.moment f.opening f.number f.peer f.message stands) in
+            let first = first-entry l f.moment f.opening f.number f.peer f.message legal (first-before l k f.moment f.opening f.number f.peer f.message stands) in
+            subst (IsRecent (entries l) k t p) it.2
+            (subst (λ (p : Peer). IsRecent (entries l) k t p f.number) (same_peer-same f.peer p parts.0)
+            (record { before = below; moment = f.moment; message = f.message; first = first; recent = ltb-true t (f.moment + MESSAGE_ID_LIFETIME) parts.1 }));
+      }
+
+least : (n m : ℕ) → nat_lt n m ≡ false → m ≤ n
+least n m e = let h = ltb-false n m e in omega (arith, h)
+
+fewer : (a b : ℕ) (IsOne : ℕ → Type 0) → a ≤ b → AreMany b IsOne → AreMany a IsOne
+fewer a b IsOne le h = let many = h.many in record { ones = h.ones; many = omega (arith, le, many); apart = h.apart; each = h.each }
+
+note-plain : (l : List Noted) (t : ℕ) (s : Sense) (q : CoapRequest) → s ≡ Requests q → AskNote l t s Plain → has_room l t q ≡ false
+note-plain l t s q is h = subst (λ (s : Sense). AskNote l t s Plain) is h
+
+pub crowded-at : (l : List Noted) (k s c : ℕ) (a : Ask) (q : CoapRequest) → Legal l → at l k ≡ Some (noted s (Asks c a) Plain) → a.sense ≡ Requests q
+    → IsCrowded (entries l) k s q.peer
+crowded-at l k s c a q legal here sense =
+    let follows : Follows (before l k) s (Asks c a) Plain = follows-at l k _ legal here in
+    let none = note-plain (before l k) s a.sense q sense follows.3 in
+    let b : List Noted = before l k in
+    let x : Noted = noted s (Asks c a) Plain in
+    let unsealed = follows.0.0 in
+    elim (and-false (nat_lt (length (open_exchanges b)) MAX_EXCHANGES) _ none) [
+      | inl w ↦ exchanges (fewer _ _ _ (least (length (open_exchanges b)) MAX_EXCHANGES w) (many-pending l k x legal here unsealed))
+      | inr w ↦ elim (and-false (nat_lt (length (waiting_at b q.peer)) MAX_WAITING) _ w) [
+        | inl v ↦ waiting (fewer _ _ _ (least (length (waiting_at b q.peer)) MAX_WAITING v) (many-waiting l k x legal here unsealed q.peer))
+        | inr v ↦
+            ids (mids_used b s q.peer) (length (waiting_at b q.peer)) (least (mids_used b s q.peer + length (waiting_at b q.peer)) MAX_MESSAGE_IDS v)
+            (many-recent l k x legal here unsealed s q.peer) (many-waiting l k x legal here unsealed q.peer)
+      ]
+    ]

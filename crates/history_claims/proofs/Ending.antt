@@ -1,0 +1,319 @@
+-- How exchanges end: by which entry, and what that entry is.
+use Rattle.std.proofs.Common.{◌≡◌, ℕ, Bool, true, false, cond, eqb, leb, inl, inr, List, [], ◌∷◌, ◌++◌, length, Option, Some, None, refl, sym, ap, subst, ◌∙◌}
+use Rattle.std.specs.List.{Contains}
+use Rattle.std.proofs.lemmas.List.Elements.{Contains-append_left, Contains-push}
+use Rattle.std.proofs.lemmas.Bool.Decides.{eqb_tells}
+use Rattle.std.proofs.lemmas.Bool.{false≢true}
+use Rattle.coap_codec.specs.declared.message.MsgType.{MsgType}
+use Rattle.coap_codec.specs.declared.message.MsgType.TheVariants.{Con, Non, Ack, Rst}
+use Rattle.coap_codec.specs.Spelling.{Entry, Content, Spells}
+use Rattle.uri_map.specs.declared.peer.Peer.{Peer}
+use Rattle.ask_model.specs.Requests.{same_peer}
+use Rattle.ask_model.proofs.Endpoints.{and-both, same_peer-same}
+use Rattle.journal_book.specs.Entries.{Deed, Sends, Hears, Passes}
+use Rattle.history_laws.specs.Responses.{is_whole, response_of}
+use Rattle.history_laws.specs.Confirmations.{empty}
+use Rattle.history_laws.specs.Readings.{Noted, Note, First, Says, Notice, at, before}
+use Rattle.history_laws.specs.Progress.{Reply, Ending, Whole, NotUnderstood, Reset, TimedOut, replied, progress, ended_by}
+use Rattle.history_laws.specs.Transmissions.{FirstSending, first_at}
+use Rattle.history_laws.specs.Exchanges.{Turn, Nothing, Sent, Replied, Rejected, Expired, expires, answered_by, heard_turn, turn_by, turn, waits_for, replies_by, replies, End, end_here, end_by, or_else, end_of}
+use Rattle.history_laws.specs.Hearing.{went_as, is_as, open_at, answers_by, answers}
+use Rattle.history_laws.specs.Justified.{MaySay, Follows}
+use Rattle.history_laws.specs.Laws.{IsFirst}
+use Rattle.history_laws.specs.Worked.{noted}
+use Rattle.history_laws.proofs.Resting.{some-is, none-is, none-some}
+use Rattle.history_laws.proofs.Places.{at-same}
+use Rattle.history_laws.proofs.Facts.{eqb-same}
+use Rattle.history_laws.proofs.Elements.{find-some}
+use Rattle.history_laws.proofs.Turns.{waits-first}
+use Rattle.history_laws.proofs.Replies.{first-stands}
+use Rattle.history_laws.proofs.Sent.{progress-more}
+
+-- an entry that rejects what an exchange waits for
+pub record RejectedTurn (l : List Noted) (o : ℕ) (x : Noted) : Type 0 where
+  pub peer : Peer
+  pub bytes : List ℕ
+  pub message : Content
+  pub to : ℕ
+  pub notice : Notice
+  pub entry : x ≡ noted x.written.moment (Hears peer bytes) (Says message (Some to) notice)
+  pub waited : waits_for l o ≡ Some to
+  pub reset : message.kind ≡ Rst
+
+not-rejected : (i : ℕ) (m : Content) (b : Bool) → cond b (Replied i m) Nothing ≡ Rejected → ⊥
+not-rejected i m true e = cc
+not-rejected i m false e = cc
+
+answered-rejects : (i : ℕ) (m : Content) (k : MsgType) → answered_by i m k ≡ Rejected → k ≡ Rst
+answered-rejects i m Con e = absurd (not-rejected i m (leb 32 m.code) e)
+answered-rejects i m Non e = absurd (not-rejected i m (leb 32 m.code) e)
+answered-rejects i m Ack e = absurd (not-rejected i m (leb 32 m.code) e)
+answered-rejects i m Rst e = refl
+
+nothing-rejects : Nothing ≡ Rejected → ⊥
+nothing-rejects e = cc
+
+heard-rejects : (l : List Noted) (o t : ℕ) (p : Peer) (b : List ℕ) (j : ℕ) (m : Content) (notice : Notice) (waits : Option ℕ)
+    → waits_for l o ≡ waits → heard_turn j m waits ≡ Rejected → RejectedTurn l o (noted t (Hears p b) (Says m (Some j) notice))
+heard-rejects l o t p b j m notice None is e = absurd (nothing-rejects e)
+heard-rejects l o t p b j m notice (Some w) is e =
+    elim (eqb_tells w j) [
+      | inl u ↦ record {
+        peer = p;
+        bytes = b;
+        message = m;
+        to = j;
+        notice = notice;
+        entry = refl;
+        waited = is ∙ ap (λ (v : ℕ). Some v) u.1;
+        reset = answered-rejects j m m.kind (rw (u.0) at e);
+      }
+      | inr u ↦ absurd (nothing-rejects (rw (u.0) at e))
+    ]
+
+sent-rejects : (n : ℕ) (b : Bool) → cond b (Sent n) Nothing ≡ Rejected → ⊥
+sent-rejects n true e = cc
+sent-rejects n false e = cc
+
+expired-rejects : (b : Bool) → cond b Expired Nothing ≡ Rejected → ⊥
+expired-rejects true e = cc
+expired-rejects false e = cc
+
+rejected-step : (l : List Noted) (o t : ℕ) (d : Deed) (note : Note) → turn_by l o t d note (waits_for l o) ≡ Rejected → RejectedTurn l o (noted t d note)
+rejected-step l o t (Sends p b w) (First q m) e = absurd (sent-rejects (length l) (eqb q o) e)
+rejected-step l o t (Hears p b) (Says m (Some j) notice) e = heard-rejects l o t p b j m notice (waits_for l o) refl e
+rejected-step l o t Passes note e = absurd (expired-rejects (expires l o t (waits_for l o)) e)
+rejected-step l o t d note e = absurd (nothing-rejects e)
+
+pub turn-rejected : (l : List Noted) (o : ℕ) (x : Noted) → turn l o x ≡ Rejected → RejectedTurn l o x
+turn-rejected l o x e = rejected-step l o x.written.moment x.written.deed x.note e
+
+-- a tick at which an exchange expires
+pub record ExpiredTurn (l : List Noted) (o : ℕ) (x : Noted) : Type 0 where
+  pub entry : x ≡ noted x.written.moment Passes x.note
+  pub over : expires l o x.written.moment (waits_for l o) ≡ true
+
+nothing-expires : Nothing ≡ Expired → ⊥
+nothing-expires e = cc
+
+answered-expires : (i : ℕ) (m : Content) (k : MsgType) → answered_by i m k ≡ Expired → ⊥
+answered-expires i m Con e = go (leb 32 m.code) e
+  where
+    go : (b : Bool) → cond b (Replied i m) Nothing ≡ Expired → ⊥
+    go true e = cc
+    go false e = cc
+answered-expires i m Non e = go (leb 32 m.code) e
+  where
+    go : (b : Bool) → cond b (Replied i m) Nothing ≡ Expired → ⊥
+    go true e = cc
+    go false e = cc
+answered-expires i m Ack e = go (leb 32 m.code) e
+  where
+    go : (b : Bool) → cond b (Replied i m) Nothing ≡ Expired → ⊥
+    go true e = cc
+    go false e = cc
+answered-expires i m Rst e = cc
+
+heard-expires : (i : ℕ) (m : Content) (waits : Option ℕ) → heard_turn i m waits ≡ Expired → ⊥
+heard-expires i m None e = nothing-expires e
+heard-expires i m (Some w) e =
+    elim (eqb_tells w i) [
+      | inl u ↦ answered-expires i m m.kind (rw (u.0) at e)
+      | inr u ↦ nothing-expires (rw (u.0) at e)
+    ]
+
+sent-expires : (n : ℕ) (b : Bool) → cond b (Sent n) Nothing ≡ Expired → ⊥
+sent-expires n true e = cc
+sent-expires n false e = cc
+
+expired-over : (b : Bool) → cond b Expired Nothing ≡ Expired → b ≡ true
+expired-over true e = refl
+expired-over false e = absurd (nothing-expires e)
+
+expired-step : (l : List Noted) (o t : ℕ) (d : Deed) (note : Note) → turn_by l o t d note (waits_for l o) ≡ Expired → ExpiredTurn l o (noted t d note)
+expired-step l o t (Sends p b w) (First q m) e = absurd (sent-expires (length l) (eqb q o) e)
+expired-step l o t (Hears p b) (Says m (Some j) notice) e = absurd (heard-expires j m (waits_for l o) e)
+expired-step l o t Passes note e = record { entry = refl; over = expired-over (expires l o t (waits_for l o)) e }
+expired-step l o t d note e = absurd (nothing-expires e)
+
+pub turn-expired : (l : List Noted) (o : ℕ) (x : Noted) → turn l o x ≡ Expired → ExpiredTurn l o x
+turn-expired l o x e = expired-step l o x.written.moment x.written.deed x.note e
+
+-- how an exchange ends by a reply
+ended-first : (r : Reply) (rs : List Reply) → ended_by (progress (r ∷ rs)) ≡ Some (replied r)
+ended-first r rs = ap ended_by (progress-more r rs)
+
+first-in : (rs : List Reply) (r : Reply) → (x : Reply) × (ended_by (progress (rs ++ r ∷ [])) ≡ Some (replied x))
+first-in [] r = (r, refl)
+first-in (x ∷ rs) r = (x, ended-first x (rs ++ r ∷ []))
+
+abbrev ByReply : Ending → Type 0
+ByReply Reset = ⊥
+ByReply TimedOut = ⊥
+ByReply how = Unit {0}
+
+by-whole : (b : Bool) (r : Reply) → ByReply (cond b (Whole (response_of r.message) (r ∷ [])) NotUnderstood)
+by-whole true r = tt
+by-whole false r = tt
+
+by-reply : (rs : List Reply) (r : Reply) (how : Ending) → ended_by (progress (rs ++ r ∷ [])) ≡ Some how → ByReply how
+by-reply rs r how e =
+    let it = first-in rs r in
+    subst ByReply (some-is (replied it.0) how (sym it.1 ∙ e)) (by-whole (is_whole it.0.message) it.0)
+
+pub reset-turn : (u : Turn) (n : ℕ) (rs : List Reply) → end_here n rs u ≡ Some Reset → u ≡ Rejected
+reset-turn (Replied i m) n rs e = absurd (by-reply rs (record { number = n; sending = i; message = m }) Reset e)
+reset-turn Rejected n rs e = refl
+reset-turn Expired n rs e = absurd cc
+reset-turn Nothing n rs e = absurd cc
+reset-turn (Sent i) n rs e = absurd cc
+
+pub expired-turn : (u : Turn) (n : ℕ) (rs : List Reply) → end_here n rs u ≡ Some TimedOut → u ≡ Expired
+expired-turn (Replied i m) n rs e = absurd (by-reply rs (record { number = n; sending = i; message = m }) TimedOut e)
+expired-turn Rejected n rs e = absurd cc
+expired-turn Expired n rs e = refl
+expired-turn Nothing n rs e = absurd cc
+expired-turn (Sent i) n rs e = absurd cc
+
+-- a reply that isn't understood is no whole response
+pub record FailedTurn (u : Turn) : Type 0 where
+  pub sending : ℕ
+  pub message : Content
+  pub is : u ≡ Replied sending message
+  pub fails : is_whole message ≡ false
+
+not-whole : (b : Bool) (r : Reply) → cond b (Whole (response_of r.message) (r ∷ [])) NotUnderstood ≡ NotUnderstood → b ≡ false
+not-whole true r e = absurd cc
+not-whole false r e = refl
+
+pub failed-turn : (u : Turn) (n : ℕ) (rs : List Reply) → rs ≡ [] → end_here n rs u ≡ Some NotUnderstood → FailedTurn u
+failed-turn (Replied i m) n rs none e =
+    let r : Reply = record { number = n; sending = i; message = m } in
+    let alone : ended_by (progress (r ∷ [])) ≡ Some NotUnderstood =
+    subst (λ (rs : List Reply). ended_by (progress (rs ++ r ∷ [])) ≡ Some NotUnderstood) none e in
+    record { sending = i; message = m; is = refl; fails = not-whole (is_whole m) r (some-is (replied r) NotUnderstood alone) }
+failed-turn Rejected n rs none e = absurd cc
+failed-turn Expired n rs none e = absurd cc
+failed-turn Nothing n rs none e = absurd cc
+failed-turn (Sent i) n rs none e = absurd cc
+
+-- an exchange that goes on has no reply yet
+else-some : (old : Option End) (x : End) → or_else old x ≡ None → ⊥
+else-some None x e = none-is x e
+else-some (Some y) x e = none-is y e
+
+unreplied-step : (u : Turn) (n : ℕ) (rs : List Reply) (old : Option End) → (old ≡ None → rs ≡ []) → end_by (end_here n rs u) n old ≡ None
+    → replies_by n u rs ≡ []
+unreplied-step (Replied i m) n rs old ih e =
+    let it = first-in rs (record { number = n; sending = i; message = m }) in
+    absurd (else-some old (record { number = n; how = replied it.0 }) (subst (λ (how : Option Ending). end_by how n old ≡ None) it.1 e))
+unreplied-step Rejected n rs old ih e = absurd (else-some old (record { number = n; how = Reset }) e)
+unreplied-step Expired n rs old ih e = absurd (else-some old (record { number = n; how = TimedOut }) e)
+unreplied-step Nothing n rs old ih e = ih e
+unreplied-step (Sent i) n rs old ih e = ih e
+
+pub going-unreplied : (l : List Noted) (o : ℕ) → end_of l o ≡ None → replies l o ≡ []
+going-unreplied [] o e = refl
+going-unreplied (x ∷ older) o e =
+    unreplied-step (turn older o x) (length older) (replies older o) (end_of older o) (going-unreplied older o) e
+
+-- a reply is among the replies from then on
+replies-more : (u : Turn) (n : ℕ) (rs : List Reply) (r : Reply) → Contains rs r → Contains (replies_by n u rs) r
+replies-more (Replied i m) n rs r h = Contains-append_left rs _ r h
+replies-more Rejected n rs r h = h
+replies-more Expired n rs r h = h
+replies-more Nothing n rs r h = h
+replies-more (Sent i) n rs r h = h
+
+pub reply-listed : (l : List Noted) (n o i : ℕ) (m : Content) (x : Noted) → at l n ≡ Some x → turn (before l n) o x ≡ Replied i m
+    → Contains (replies l o) (record { number = n; sending = i; message = m })
+reply-listed [] n o i m x e w = absurd cc
+reply-listed (y ∷ older) n o i m x e w =
+    elim (eqb_tells n (length older)) [
+      | inl u ↦
+          let same : y ≡ x = some-is y x (rw (u.0) at e) in
+          let here : turn older o y ≡ Replied i m = subst (λ (v : Noted). turn older o v ≡ Replied i m) (sym same) (rw (u.0) at w) in
+          let r : Reply = record { number = length older; sending = i; message = m } in
+          subst (λ (n : ℕ). Contains (replies (y ∷ older) o) (record { number = n; sending = i; message = m })) (sym u.1)
+          (subst (λ (v : Turn). Contains (replies_by (length older) v (replies older o)) r) (sym here) (Contains-push (replies older o) r))
+      | inr u ↦
+          replies-more (turn older o y) (length older) (replies older o) _
+          (reply-listed older n o i m x (rw (u.0) at e) (rw (u.0) at w))
+    ]
+
+-- what a Reset message rejects went to its peer, and has its ID
+rst-answers : (l : List Noted) (p : Peer) (m : Content) (i : ℕ) (vain response : Bool) → answers_by l p m Rst vain response ≡ Some i
+    → (vain ≡ true) × (is_as l p m i ≡ true)
+rst-answers l p m i true true e = (refl, (find-some (is_as l p m) (open_at l p) i e).1)
+rst-answers l p m i true false e = (refl, (find-some (is_as l p m) (open_at l p) i e).1)
+rst-answers l p m i false true e = absurd (none-some i e)
+rst-answers l p m i false false e = absurd (none-some i e)
+
+pub as-first : (l : List Noted) (p : Peer) (m : Content) (i : ℕ) → is_as l p m i ≡ true
+    → (f : FirstSending) × (first_at l i ≡ Some f) × (f.peer ≡ p) × (f.message.mid ≡ m.mid)
+as-first l p m i e = go (first_at l i) refl e
+  where
+    go : (o : Option FirstSending) → first_at l i ≡ o → went_as p m.mid o ≡ true
+        → (f : FirstSending) × (first_at l i ≡ Some f) × (f.peer ≡ p) × (f.message.mid ≡ m.mid)
+    go None is h = absurd (false≢true h)
+    go (Some f) is h =
+        let both = and-both (same_peer f.peer p) (eqb f.message.mid m.mid) h in
+        (f, is, same_peer-same f.peer p both.0, eqb-same f.message.mid m.mid both.1)
+
+empty-parts : (m : Content) (k : MsgType) (c : ℕ) (token : List ℕ) (options : List Entry) (payload : List ℕ)
+    → m.kind ≡ k → m.code ≡ c → m.token ≡ token → m.options ≡ options → m.payload ≡ payload
+    → m ≡ record { kind = k; code = c; mid = m.mid; token = token; options = options; payload = payload }
+empty-parts m k c token options payload e1 e2 e3 e4 e5 = rw (← e1, ← e2, ← e3, ← e4, ← e5) refl
+
+pub record RejectedIn (l : List Noted) (o : ℕ) (x : Noted) : Type 0 where
+  pub sent_at : ℕ
+  pub sending : ℕ
+  pub peer : Peer
+  pub sent : Content
+  pub first : IsFirst l sent_at o sending peer sent
+  pub bytes : List ℕ
+  pub message : Content
+  pub notice : Notice
+  pub entry : x ≡ noted x.written.moment (Hears peer bytes) (Says message (Some sending) notice)
+  pub spelled : Spells (empty Rst sent.mid) bytes
+
+says-to : (m : Content) (i j : Option ℕ) (u v : Notice) → Says m i u ≡ Says m j v → i ≡ j
+says-to m i j u v e = cc
+
+opening-same : (l : List Noted) (i s t o q : ℕ) (p r : Peer) (m n : Content) → IsFirst l s o i p m → IsFirst l t q i r n → o ≡ q
+opening-same l i s t o q p r m n f g =
+    go (ap (λ (x : Noted). x.note) (at-same l i (noted s (Sends p f.bytes f.timeout) (First o m)) (noted t (Sends r g.bytes g.timeout) (First q n)) f.stands g.stands))
+  where
+    go : First o m ≡ First q n → o ≡ q
+    go h = cc
+
+pub rejected-in : (l : List Noted) (o : ℕ) (x : Noted) → Follows l x.written.moment x.written.deed x.note → turn l o x ≡ Rejected → RejectedIn l o x
+rejected-in l o x may e =
+    let h = turn-rejected l o x e in
+    let m = h.message in
+    let follows : Follows l x.written.moment (Hears h.peer h.bytes) (Says m (Some h.to) h.notice) =
+    subst (λ (v : Noted). Follows l v.written.moment v.written.deed v.note) h.entry may in
+    let says : MaySay l x.written.moment h.peer h.bytes (Says m (Some h.to) h.notice) m = follows.3 in
+    let found : answers l h.peer m ≡ Some h.to = sym (says-to m (Some h.to) _ _ _ says.says) in
+    let by = rst-answers l h.peer m h.to (eqb m.code 0) (leb 32 m.code)
+    (subst (λ (k : MsgType). answers_by l h.peer m k (eqb m.code 0) (leb 32 m.code) ≡ Some h.to) h.reset found) in
+    let f = as-first l h.peer m h.to by.1 in
+    let stands = first-stands l h.to f.0 f.1 in
+    let waits = waits-first l o h.to h.waited in
+    let opening = opening-same l h.to f.0.moment waits.0 f.0.opening o f.0.peer waits.1 f.0.message waits.2 stands waits.3 in
+    let own : IsFirst l f.0.moment o h.to f.0.peer f.0.message =
+    subst (λ (o : ℕ). IsFirst l f.0.moment o h.to f.0.peer f.0.message) opening stands in
+    let none = says.spelled.nothing_else (eqb-same m.code 0 by.0) in
+    let is : m ≡ empty Rst m.mid = empty-parts m Rst 0 [] [] [] h.reset (eqb-same m.code 0 by.0) none.0 none.1 none.2 in
+    record {
+      sent_at = f.0.moment;
+      sending = h.to;
+      peer = h.peer;
+      sent = f.0.message;
+      first = subst (λ (p : Peer). IsFirst l f.0.moment o h.to p f.0.message) f.2 own;
+      bytes = h.bytes;
+      message = m;
+      notice = h.notice;
+      entry = h.entry;
+      spelled = subst (λ (n : ℕ). Spells (empty Rst n) h.bytes) (sym f.3) (subst (λ (m : Content). Spells m h.bytes) is says.spelled);
+    }

@@ -1,0 +1,230 @@
+-- The worked journals, as entries.
+use Rattle.std.proofs.Common.{◌≡◌, ℕ, zero, suc, ◌+◌, ◌*◌, ◌^◌, ◌<◌, ◌≤◌, ◌⊎◌, Bool, true, false, ◌||◌, not, eqb, inl, inr, List, [], ◌∷◌, length, Option, Some, None, refl, sym, ap, subst, ◌∙◌, arith}
+use Rattle.std.specs.List.{slice_get, list_all, range_with_len}
+use Rattle.std.proofs.lemmas.Option.{slice_get_within}
+use Rattle.std.proofs.lemmas.Bool.Decides.{eqb_tells}
+use Rattle.std.proofs.lemmas.Bool.{false≢true}
+use Rattle.limits.specs.declared.TheConstants.{MAX_RETRANSMIT}
+use Rattle.coap_codec.specs.Spelling.{Content, Spells}
+use Rattle.coap_codec.proofs.Unique.{spells_one}
+use Rattle.uri_map.specs.declared.peer.Peer.{Peer}
+use Rattle.ask_model.specs.Requests.{CoapRequest}
+use Rattle.ask_model.specs.declared.cause.Cause.TheVariants as C
+use Rattle.journal_book.specs.Entries.{Deed, Sends, Hears, Written}
+use Rattle.history_laws.specs.Readings.{entries}
+use Rattle.history_laws.specs.WorkedMessages as M
+use Rattle.history_laws.specs.WorkedEndings as E
+use Rattle.history_laws.specs.WorkedSpoiled as S
+use Rattle.history_laws.proofs.Resting.{some-is, first, second}
+use Rattle.history_laws.proofs.Facts.{eqb-same}
+use Rattle.history_laws.proofs.Messages.{put-spelled, content-spelled, all_answered-holds, given_up-holds}
+use Rattle.history_laws.proofs.Endings.{rejected-holds, timed_out-holds}
+use Rattle.history_claims.specs.Headline.{IsEntry, AreCopies, IsHeardFor, AreHeardFor, IsGivenUp}
+use Rattle.history_claims.specs.Worked.{Answered, TimedOut, Rejected, GivenUp, Crossed, Foreseen, Early}
+use Rattle.history_claims.proofs.Resting.{rests-in}
+use Rattle.history_claims.proofs.Causes.{causes-in}
+
+pub answered : Answered
+answered = (
+  rests-in M.all_answered 11 5000 0 1 (9 ∷ []) all_answered-holds.0 refl,
+  rests-in M.all_answered 17 5300 1 4 (16 ∷ []) all_answered-holds.0 refl,
+)
+
+pub timed-out : TimedOut
+timed-out = (
+  (causes-in M.given_up 7 93500 0 1 C.Timeout 2 given_up-holds.0 refl).1,
+  (causes-in M.given_up 8 93500 1 4 C.Timeout 4 given_up-holds.0 refl).1,
+)
+
+pub rejected : Rejected
+rejected = (causes-in E.rejected 9 700 1 4 C.Reset 8 rejected-holds.0 refl).1
+
+pub given-up : GivenUp
+given-up = (causes-in E.timed_out 14 62000 0 1 C.Timeout 2 timed_out-holds.0 refl).1
+
+-- not so
+
+pub foreseen : Foreseen
+foreseen h = let late = h.before 16 (zero, omega arith, refl) in absurd (omega (arith, late))
+
+-- which entries of a list are first sendings, and which are copies
+abbrev is_first : Deed → Bool
+is_first (Sends p b (Some w)) = true
+is_first d = false
+
+abbrev is_copy : Deed → Bool
+is_copy (Sends p b None) = true
+is_copy d = false
+
+abbrev passes_in : (Deed → Bool) → Option Written → Bool
+passes_in g None = false
+passes_in g (Some e) = g e.deed
+
+abbrev lies_in : List ℕ → ℕ → Bool
+lies_in [] j = false
+lies_in (n ∷ ns) j = eqb j n || lies_in ns j
+
+abbrev lies_so : (Deed → Bool) → List Written → List ℕ → ℕ → Bool
+lies_so g h ns j = not (passes_in g (slice_get h j)) || lies_in ns j
+
+range-passes : (g : ℕ → Bool) (a n c : ℕ) → list_all g (range_with_len a n) ≡ true → a ≤ c → c < a + n → g c ≡ true
+range-passes g a zero c e low high = absurd (omega (arith, low, high))
+range-passes g a (suc n) c e low high =
+    elim (eqb_tells a c) [
+      | inl w ↦ subst (λ (c : ℕ). g c ≡ true) w.1 (first (g a) (list_all g (range_with_len (a + 1) n)) e)
+      | inr w ↦ let other = w.1 in
+          range-passes g (a + 1) n c (second (g a) (list_all g (range_with_len (a + 1) n)) e) (omega (arith, low, other)) (omega (arith, high))
+    ]
+
+places : (g : Deed → Bool) (h : List Written) (ns : List ℕ) (len j t : ℕ) (d : Deed) → length h ≡ len → list_all (lies_so g h ns) (range_with_len 0 len) ≡ true
+    → IsEntry h j t d → g d ≡ true → lies_in ns j ≡ true
+places g h ns len j t d size all e is =
+    let within = slice_get_within h j _ e in
+    let so = range-passes (lies_so g h ns) 0 len j all (omega arith) (omega (arith, within, size)) in
+    subst (λ (b : Bool). (not b || lies_in ns j) ≡ true) (ap (passes_in g) e ∙ is) so
+
+or-cases : (a b : Bool) → (a || b) ≡ true → (a ≡ true) ⊎ (b ≡ true)
+or-cases true b e = inl refl
+or-cases false b e = inr e
+
+abbrev entry_of : ℕ → Deed → Written
+entry_of t d = record { moment = t; deed = d }
+
+-- the response to the GET came under the GET's token
+texts : (t s : ℕ) (p r : Peer) (b c : List ℕ) (w v : Option ℕ)
+    → Some (entry_of t (Sends p b w)) ≡ Some (entry_of s (Sends r c v)) → b ≡ c
+texts t s p r b c w v e = go (ap (λ (x : Written). x.deed) (written-same _ _ e))
+  where
+    written-same : (x y : Written) → Some x ≡ Some y → x ≡ y
+    written-same x y f = cc
+
+    go : Sends p b w ≡ Sends r c v → b ≡ c
+    go f = cc
+
+heard-texts : (t s : ℕ) (p r : Peer) (b c : List ℕ)
+    → Some (entry_of t (Hears p b)) ≡ Some (entry_of s (Hears r c)) → b ≡ c
+heard-texts t s p r b c e = go (ap (λ (x : Written). x.deed) (written-same _ _ e))
+  where
+    written-same : (x y : Written) → Some x ≡ Some y → x ≡ y
+    written-same x y f = cc
+
+    go : Hears p b ≡ Hears r c → b ≡ c
+    go f = cc
+
+abbrev fourth : List ℕ → ℕ
+fourth (a ∷ b ∷ c ∷ d ∷ more) = d
+fourth bytes = 0
+
+crossed-heard : (q : CoapRequest) (m : Content) → IsHeardFor (entries S.crossed) 4 q 9 m → ⊥
+crossed-heard q m h =
+    let after = h.sent_for.after in
+    let before = h.after in
+    let lies = places is_first (entries S.crossed) (2 ∷ 8 ∷ []) 13 h.sending _ _ refl refl h.sent_for.first.stands refl in
+    elim (or-cases (eqb h.sending 2) _ lies) [
+      | inl w ↦ let place = eqb-same h.sending 2 w in absurd (omega (arith, place, after))
+      | inr w ↦ elim (or-cases (eqb h.sending 8) false w) [
+        | inl v ↦ go (eqb-same h.sending 8 v)
+        | inr v ↦ false≢true v
+      ]
+    ]
+  where
+    go : h.sending ≡ 8 → ⊥
+    go place =
+        let f = h.sent_for.first in
+        let text : M.put_bytes ≡ f.bytes =
+        texts 2100 h.sent_for.moment _ q.peer M.put_bytes f.bytes _ (Some f.timeout)
+        (subst (λ (i : ℕ). IsEntry (entries S.crossed) i h.sent_for.moment (Sends q.peer f.bytes (Some f.timeout))) place f.stands) in
+        let sent = spells_one h.sent M.put_message f.bytes f.spelled (subst (Spells M.put_message) text put-spelled) in
+        let datagram : M.content_bytes ≡ h.bytes = heard-texts 5000 h.moment _ q.peer M.content_bytes h.bytes h.heard in
+        let said = spells_one m M.content_message h.bytes h.spelled (subst (Spells M.content_message) datagram content-spelled) in
+        let tokens : M.content_message.token ≡ M.put_message.token =
+        sym (ap (λ (m : Content). m.token) said) ∙ (h.token ∙ ap (λ (m : Content). m.token) sent) in
+        let numbers : 0 ≡ 1 = ap fourth tokens in
+        absurd (omega (arith, numbers))
+
+pub crossed : Crossed
+crossed h = go h.messages h.heard
+  where
+    go : (ms : List Content) → AreHeardFor (entries S.crossed) 4 h.request (9 ∷ []) ms → ⊥
+    go [] heard = absurd heard
+    go (m ∷ ms) heard = crossed-heard h.request m heard.0
+
+-- four copies lie where they lie
+copy-places : (j t : ℕ) (p : Peer) (b : List ℕ) → IsEntry (entries S.timed_out_early) j t (Sends p b None) → lies_in (6 ∷ 8 ∷ 10 ∷ 12 ∷ []) j ≡ true
+copy-places j t p b e = places is_copy (entries S.timed_out_early) (6 ∷ 8 ∷ 10 ∷ 12 ∷ []) 15 j t (Sends p b None) refl refl e refl
+
+copy-one-of : (j : ℕ) → lies_in (6 ∷ 8 ∷ 10 ∷ 12 ∷ []) j ≡ true → (m : ℕ) × (j ≡ 2 * m) × (3 ≤ m) × (m ≤ 6)
+copy-one-of j e =
+    elim (or-cases (eqb j 6) _ e) [
+      | inl w ↦ (3, eqb-same j 6 w, omega arith, omega arith)
+      | inr e1 ↦ elim (or-cases (eqb j 8) _ e1) [
+        | inl w ↦ (4, eqb-same j 8 w, omega arith, omega arith)
+        | inr e2 ↦ elim (or-cases (eqb j 10) _ e2) [
+          | inl w ↦ (5, eqb-same j 10 w, omega arith, omega arith)
+          | inr e3 ↦ elim (or-cases (eqb j 12) false e3) [
+            | inl w ↦ (6, eqb-same j 12 w, omega arith, omega arith)
+            | inr e4 ↦ absurd (false≢true e4)
+          ]
+        ]
+      ]
+    ]
+
+last-place : (p : Peer) (b : List ℕ) (w t : ℕ) (j : ℕ) (js : List ℕ) (last : ℕ) → AreCopies (entries S.timed_out_early) p b w 2 t (j ∷ js) last
+    → (m : ℕ) × (j ≡ 2 * m) × (3 + length js ≤ m) × (m ≤ 6)
+last-place p b w t j [] last h = copy-one-of j (copy-places j last p b h.0)
+last-place p b w t j (i ∷ js) last h =
+    let more = last-place p b w t i js h.2.0 h.2.2 in
+    let it = copy-one-of j (copy-places j last p b h.0) in
+    let m : ℕ = it.0 in
+    let n : ℕ = more.0 in
+    let lt = h.1 in
+    let a = it.1 in
+    let b = more.1 in
+    let c = more.2 in
+    (m, a, omega (arith, a, b, c, lt), it.3)
+
+moment-same : (t s : ℕ) (d e : Deed) → Some (entry_of t d) ≡ Some (entry_of s e) → t ≡ s
+moment-same t s d e f = ap (λ (x : Written). x.moment) (some-is _ _ f)
+
+timeout-same : (t s : ℕ) (p r : Peer) (b c : List ℕ) (w v : ℕ)
+    → Some (entry_of t (Sends p b (Some w))) ≡ Some (entry_of s (Sends r c (Some v))) → w ≡ v
+timeout-same t s p r b c w v e = go (ap (λ (x : Written). x.deed) (written-same _ _ e))
+  where
+    written-same : (x y : Written) → Some x ≡ Some y → x ≡ y
+    written-same x y f = cc
+
+    go : Sends p b (Some w) ≡ Sends r c (Some v) → w ≡ v
+    go f = cc
+
+too-early : (last w s : ℕ) → 30000 ≡ last → 2000 ≡ w → last + w * 2 ^ MAX_RETRANSMIT ≤ s → s ≤ 61999 → ⊥
+too-early last w s a b due by =
+    let all : 30000 + 2000 * 2 ^ MAX_RETRANSMIT ≤ s =
+    subst (λ (w : ℕ). 30000 + w * 2 ^ MAX_RETRANSMIT ≤ s) (sym b) (subst (λ (t : ℕ). t + w * 2 ^ MAX_RETRANSMIT ≤ s) (sym a) due) in
+    absurd (omega (arith, all, by))
+
+given-up-early : (p : Peer) (m : Content) → IsGivenUp (entries S.timed_out_early) 61999 p 2 m → ⊥
+given-up-early p m g = go g.copies g.four g.last g.again g.due
+  where
+    timeout : 2000 ≡ g.first.timeout
+    timeout = timeout-same 0 g.moment _ p _ g.first.bytes 2000 g.first.timeout g.first.stands
+
+    go : (js : List ℕ) → length js ≡ MAX_RETRANSMIT → (last : ℕ) → AreCopies (entries S.timed_out_early) p g.first.bytes g.first.timeout 2 g.moment js last
+        → last + g.first.timeout * 2 ^ MAX_RETRANSMIT ≤ g.ticked → ⊥
+    go [] four last h due = absurd (omega (arith, four))
+    go (j ∷ js) four last h due =
+        let it = last-place p g.first.bytes g.first.timeout g.moment j js last h in
+        let a = it.1 in
+        let b = it.2 in
+        let c = it.3 in
+        let place : j ≡ 12 = omega (arith, a, b, c, four) in
+        let stands = subst (λ (j : ℕ). IsEntry (entries S.timed_out_early) j last (Sends p g.first.bytes None)) place h.0 in
+        too-early last g.first.timeout g.ticked (moment-same 30000 last _ _ stands) timeout due g.by
+
+pub early : Early
+early h =
+    elim (h.over) [
+      | inl w ↦
+          let asked : 0 ≡ h.moment = moment-same 0 h.moment _ _ h.asked.stands in
+          absurd (omega (arith, w, asked))
+      | inr w ↦ given-up-early h.request.peer w.0 w.2
+    ]

@@ -1,0 +1,176 @@
+-- An answer that isn't the proxy's own rests on a whole response to its ask.
+use Rattle.std.proofs.Common.{◌≡◌, ℕ, zero, ◌<◌, Bool, true, false, cond, inl, inr, List, [], ◌∷◌, ◌++◌, length, Option, Some, None, refl, sym, ap, subst, ◌∙◌, arith}
+use Rattle.std.specs.List.{Contains}
+use Rattle.coap_codec.specs.Spelling.{Content}
+use Rattle.ask_model.specs.Requests.{CoapRequest, Sense, Requests}
+use Rattle.ask_model.specs.Views.{Ask}
+use Rattle.journal_book.specs.Entries.{Grounds, Live, Deed, Answers, Asks, Hears, Written}
+use Rattle.history_laws.specs.Responses.{Response, response_of, is_whole, whole_of}
+use Rattle.history_laws.specs.Readings.{Noted, Note, Begins, Says, entries, at, before}
+use Rattle.history_laws.specs.Progress.{Reply, numbers, Ending, Whole, NotUnderstood, progress, ended_by}
+use Rattle.history_laws.specs.Exchanges.{Begun, begun, Turn, Nothing, Sent, Replied, Rejected, Expired, turn, replies, end_here}
+use Rattle.history_laws.specs.Justified.{IsAsk, Ends as EndsAs, reads_by, reads_in, reads, HasGrounds, Follows, Legal, Stands}
+use Rattle.history_laws.specs.Laws.{IsReplyTo}
+use Rattle.history_laws.specs.Worked.{noted}
+use Rattle.history_laws.proofs.Resting.{none-some}
+use Rattle.history_laws.proofs.Places.{at-below, at-same}
+use Rattle.history_laws.proofs.Facts.{follows-at, legal-before, at-before, length-before}
+use Rattle.history_laws.proofs.Elements.{contains-none, first-or-later}
+use Rattle.history_laws.proofs.Answering.{asks-stand}
+use Rattle.history_laws.proofs.Openings.{ends-first}
+use Rattle.history_laws.proofs.Replies.{replies-fit}
+use Rattle.history_laws.proofs.Sent.{progress-more, asked-for, opening-begun}
+use Rattle.history_laws.proofs.Basis.{made-of}
+use Rattle.history_claims.specs.Headline.{IsEntry, IsAsked, RestsOn}
+use Rattle.history_claims.proofs.Entries.{entries-at, asked-entry}
+use Rattle.history_claims.proofs.Sending.{heard-in}
+
+-- an ask reads what it opened
+reads-note : (k o : ℕ) (n : Note) → reads_by k n ≡ Some o → k ≡ o
+reads-note k o (Begins q) e = cc
+reads-note k o n e = cc
+
+pub reads-own : (l : List Noted) (k o : ℕ) → reads l k ≡ Some o → k ≡ o
+reads-own l k o e = go (at l k) e
+  where
+    go : (x : Option Noted) → reads_in k x ≡ Some o → k ≡ o
+    go None f = cc
+    go (Some x) f = reads-note k o x.note f
+
+-- the ask of an answer is its connection's
+pub record AnswersAsk (l : List Noted) (n t c k : ℕ) (g : Grounds) : Type 0 where
+  pub grounds : HasGrounds (before l n) t k g
+  pub ask : Ask
+  pub asked : IsAsk (before l n) k c ask
+
+answered : (l : List Noted) (n t c k : ℕ) (g : Grounds) (note : Note) → Follows (before l n) t (Answers c k g) note → AnswersAsk l n t c k g
+answered l n t c k g note f =
+    let ask = asks-stand (before l n) c _ k f.2 in
+    record { grounds = f.3; ask = ask.0; asked = ask.1 }
+
+pub answers-ask : (l : List Noted) (n t c k : ℕ) (g : Grounds) → Legal l → IsEntry (entries l) n t (Answers c k g)
+    → AnswersAsk l n t c k g × (length (before l n) ≡ n)
+answers-ask l n t c k g legal e =
+    let there = entries-at l n _ e in
+    (answered l n t c k g there.0 (follows-at l n _ legal there.1), length-before l n _ there.1)
+
+-- an ask that opened an exchange asked for its request, by the connection that is answered
+conns-same : (s t c d : ℕ) (a b : Ask) (u v : Note) → noted s (Asks c a) u ≡ noted t (Asks d b) v → c ≡ d
+conns-same s t c d a b u v e = go (ap (λ (x : Noted). x.written.deed) e)
+  where
+    go : Asks c a ≡ Asks d b → c ≡ d
+    go f = cc
+
+pub asked-by : (l : List Noted) (n c k : ℕ) (a : Ask) (sense : Sense) (s d : ℕ) (b : Ask) (note : Note) → IsAsk (before l n) k c a
+    → at l k ≡ Some (noted s (Asks d b) note) → b.sense ≡ sense → IsAsked (entries l) k c s sense
+asked-by l n c k a sense s d b note ask there is =
+    let same : d ≡ c = conns-same s ask.moment d c b a note ask.note (at-same l k _ _ there (at-before l n k _ ask.stands)) in
+    subst (λ (c : ℕ). IsAsked (entries l) k c s sense) same (asked-entry l k d s b note sense there is)
+
+-- what an ask reads, it opened
+pub record Opened (l : List Noted) (n c k : ℕ) : Type 0 where
+  pub exchange : Begun
+  pub opened : begun l k ≡ Some exchange
+  pub asked : IsAsked (entries l) k c exchange.since (Requests exchange.request)
+
+begins : (l : List Noted) (k o : ℕ) → reads l k ≡ Some o → (t : ℕ) × (d : Deed) × (q : CoapRequest) × (at l k ≡ Some (noted t d (Begins q)))
+begins l k o e = go (at l k) refl e
+  where
+    noted-as : (x : Noted) (note : Note) → x.note ≡ note → at l k ≡ Some x → reads_by k note ≡ Some o
+        → (t : ℕ) × (d : Deed) × (q : CoapRequest) × (at l k ≡ Some (noted t d (Begins q)))
+    noted-as x (Begins q) same is f =
+        (x.written.moment, x.written.deed, q, is ∙ ap (λ (note : Note). Some (noted x.written.moment x.written.deed note)) same)
+    noted-as x note same is f = absurd (none-some o f)
+
+    go : (x : Option Noted) → at l k ≡ x → reads_in k x ≡ Some o → (t : ℕ) × (d : Deed) × (q : CoapRequest) × (at l k ≡ Some (noted t d (Begins q)))
+    go None is f = absurd (none-some o f)
+    go (Some x) is f = noted-as x x.note refl is f
+
+pub opened-by : (l : List Noted) (n c k o : ℕ) (a : Ask) → Legal l → IsAsk (before l n) k c a → reads (before l n) k ≡ Some o → Opened l n c k
+opened-by l n c k o a legal ask e =
+    let it = begins (before l n) k o e in
+    let b : Begun = record { since = it.0; request = it.2 } in
+    let opened = opening-begun l k it.0 it.1 it.2 (at-before l n k _ it.3) in
+    let stands = asked-for l k b legal opened in
+    record {
+      exchange = b;
+      opened = opened;
+      asked = asked-by l n c k a (Requests it.2) it.0 stands.conn stands.ask (Begins it.2) ask stands.stands stands.sense;
+    }
+
+-- a whole response is one reply
+record Made (ws : List Reply) (w : Response) : Type 0 where
+  reply : Reply
+  alone : ws ≡ reply ∷ []
+  whole : is_whole reply.message ≡ true
+  response : w ≡ response_of reply.message
+
+ending-same : (x y : Ending) → Some x ≡ Some y → x ≡ y
+ending-same x y e = cc
+
+made-replied : (b : Bool) (r : Reply) (w : Response) (ws : List Reply) → is_whole r.message ≡ b
+    → cond b (Whole (response_of r.message) (r ∷ [])) NotUnderstood ≡ Whole w ws → Made ws w
+made-replied true r w ws is e = record { reply = r; alone = list; whole = is; response = said }
+  where
+    list : ws ≡ r ∷ []
+    list = cc
+
+    said : w ≡ response_of r.message
+    said = cc
+made-replied false r w ws is e = absurd cc
+
+made-progress : (rs : List Reply) (w : Response) (ws : List Reply) → ended_by (progress rs) ≡ Some (Whole w ws) → Made ws w
+made-progress [] w ws e = absurd cc
+made-progress (r ∷ rs) w ws e =
+    made-replied (is_whole r.message) r w ws refl (ending-same _ _ (sym (ap ended_by (progress-more r rs)) ∙ e))
+
+made-turn : (u : Turn) (n : ℕ) (rs : List Reply) (w : Response) (ws : List Reply) → end_here n rs u ≡ Some (Whole w ws) → Made ws w
+made-turn (Replied i m) n rs w ws e = made-progress (rs ++ record { number = n; sending = i; message = m } ∷ []) w ws e
+made-turn Rejected n rs w ws e = absurd cc
+made-turn Expired n rs w ws e = absurd cc
+made-turn Nothing n rs w ws e = absurd cc
+made-turn (Sent i) n rs w ws e = absurd cc
+
+made : (l : List Noted) (o e : ℕ) (w : Response) (ws : List Reply) → EndsAs l o e (Whole w ws) → Made ws w
+made l o e w ws h =
+    let it = ends-first l o e (Whole w ws) h in
+    made-turn (turn (before l e) o it.0) e (replies (before l e) o) w ws it.3
+
+whole-one : (q : CoapRequest) (m : Content) → is_whole m ≡ true → whole_of q (m ∷ []) ≡ Some (response_of m)
+whole-one q m e = rw e refl
+
+only-one : (j n i : ℕ) → n < i → Contains (n ∷ []) j → j < i
+only-one j n i lt h =
+    elim (first-or-later n [] j h) [ inl w ↦ subst (λ (j : ℕ). j < i) w lt | inr w ↦ absurd (contains-none j w) ]
+
+pub rests-in : (l : List Noted) (n t c k : ℕ) (js : List ℕ) → Legal l → IsEntry (entries l) n t (Answers c k (Live js)) → RestsOn (entries l) n c k js
+rests-in l n t c k js legal e =
+    let it = answers-ask l n t c k (Live js) legal e in
+    let h : HasGrounds (before l n) t k (Live js) = it.0.grounds in
+    let o : ℕ = h.0 in
+    let m = made (before l n) o h.1 h.2 h.3 h.5 in
+    let r : Reply = m.reply in
+    let has = made-of (before l n) o h.1 h.2 h.3 r h.5 (subst (λ (ws : List Reply). Contains ws r) (sym m.alone) (zero, omega arith, refl)) in
+    let own : k ≡ o = reads-own (before l n) k o h.4 in
+    let fits = replies-fit (before l n) o r (legal-before l n legal) has in
+    let x = opened-by l n c k o it.0.ask legal it.0.asked h.4 in
+    let fit = subst (λ (o : ℕ). IsReplyTo (before l n) o r) (sym own) fits in
+    let heard = heard-in l n k r x.exchange legal x.opened fit in
+    let below = subst (λ (i : ℕ). r.number < i) it.1 (at-below (before l n) r.number (noted fits.moment (Hears fits.peer fits.bytes) (Says r.message (Some r.sending) fits.notice)) fits.heard) in
+    let list : r.number ∷ [] ≡ js = sym (h.6 ∙ ap numbers m.alone) in
+    subst (λ (js : List ℕ). RestsOn (entries l) n c k js) list
+    (record {
+      moment = x.exchange.since;
+      request = x.exchange.request;
+      asked = x.asked;
+      messages = r.message ∷ [];
+      heard = (heard, tt);
+      before = λ j in_it. only-one j r.number n below in_it;
+      response = response_of r.message;
+      whole = whole-one x.exchange.request r.message m.whole;
+    })
+
+pub rests-on-replies : (h : List Written) (n t c k : ℕ) (js : List ℕ) → Stands h → IsEntry h n t (Answers c k (Live js)) → RestsOn h n c k js
+rests-on-replies h n t c k js s =
+    subst (λ (h : List Written). IsEntry h n t (Answers c k (Live js)) → RestsOn h n c k js) s.entries_are
+    (rests-in s.reading n t c k js s.legal)

@@ -1,0 +1,168 @@
+-- What settles a message ends its sending.
+use Rattle.std.proofs.Common.{◌≡◌, ℕ, Bool, true, false, cond, ◌&&◌, ◌||◌, eqb, leb, inl, inr, List, [], ◌∷◌, ◌++◌, Option, Some, None, refl, sym, ap, subst, ◌∙◌, arith}
+use Rattle.std.specs.Prelude.{find, option_map, option_to_list}
+use Rattle.std.specs.List.{list_any}
+use Rattle.std.specs.Str.{bytes_eq}
+use Rattle.std.proofs.lemmas.Bool.Decides.{leb_tells}
+use Rattle.std.proofs.lemmas.Bool.{false≢true}
+use Rattle.std.proofs.lemmas.Slice.Eq.{bytes_eq-Decides}
+use Rattle.coap_codec.specs.declared.message.MsgType.{MsgType}
+use Rattle.coap_codec.specs.declared.message.MsgType.TheVariants.{Ack, Rst}
+use Rattle.coap_codec.specs.Spelling.{Content, Spells}
+use Rattle.coap_codec.proofs.Unique.{spells_one}
+use Rattle.uri_map.specs.declared.peer.Peer.{Peer}
+use Rattle.ask_model.specs.Requests.{same_peer}
+use Rattle.ask_model.proofs.Endpoints.{and-both, same_peer-itself}
+use Rattle.journal_book.specs.Entries.{Sends, Hears}
+use Rattle.history_laws.specs.Confirmations.{empty}
+use Rattle.history_laws.specs.Readings.{Noted, Note, First, Says, Repeats, Garbled, Notice}
+use Rattle.history_laws.specs.Transmissions.{FirstSending, firsts, first_at, Transmission, transmission, outstanding}
+use Rattle.history_laws.specs.Exchanges.{awaited}
+use Rattle.history_laws.specs.Hearing.{is_such, heard_before, repeated, went_under, went_as, is_under, is_as, open_at, answers_by, answers}
+use Rattle.history_laws.specs.Justified.{MaySay, Follows, Legal}
+use Rattle.history_laws.specs.Laws.{IsFirst}
+use Rattle.history_laws.specs.Worked.{noted}
+use Rattle.history_laws.proofs.Resting.{none-some}
+use Rattle.history_laws.proofs.Places.{at-same}
+use Rattle.history_laws.proofs.Facts.{eqb-itself}
+use Rattle.history_laws.proofs.Elements.{find-some}
+use Rattle.history_laws.proofs.Sendings.{any-first, tokens-apart}
+use Rattle.history_laws.proofs.Outstanding.{outstanding-last}
+use Rattle.history_laws.proofs.Replies.{first-stands}
+use Rattle.history_claims.specs.Headline.{Settles, confirms, rejects, piggybacked}
+use Rattle.history_claims.proofs.Unsent.{find-any}
+
+-- what is outstanding at a peer
+open-is : (l : List Noted) (t o i : ℕ) (p : Peer) (m : Content) (y : Transmission) → Legal l → IsFirst l t o i p m → transmission l i ≡ Some y
+    → open_at l p ≡ i ∷ []
+open-is l t o i p m y legal f e =
+    let last = outstanding-last l t o i p m y legal f e in
+    let g : FirstSending = last.0 in
+    let on_way : transmission l g.number ≡ Some y = subst (λ (i : ℕ). transmission l i ≡ Some y) (sym last.2) e in
+    let found : outstanding l p ≡ Some g = rw (last.1, on_way) refl in
+    ap (λ (f : Option FirstSending). option_to_list (option_map (λ (f : FirstSending). f.number) f)) found
+    ∙ ap (λ (i : ℕ). i ∷ []) last.2
+
+-- a first sending is found by its number
+parts-same : (s t o q : ℕ) (p r : Peer) (m n : Content) (l : List Noted) (i : ℕ) → IsFirst l s o i p m → IsFirst l t q i r n → (p ≡ r) × (m ≡ n)
+parts-same s t o q p r m n l i f g =
+    let e = at-same l i _ _ f.stands g.stands in
+    (peers (ap (λ (x : Noted). x.written.deed) e), messages (ap (λ (x : Noted). x.note) e))
+  where
+    peers : Sends p f.bytes f.timeout ≡ Sends r g.bytes g.timeout → p ≡ r
+    peers h = cc
+
+    messages : First o m ≡ First q n → m ≡ n
+    messages h = cc
+
+record FoundAt (l : List Noted) (i : ℕ) (p : Peer) (m : Content) : Type 0 where
+  sending : FirstSending
+  is : first_at l i ≡ Some sending
+  peer : sending.peer ≡ p
+  message : sending.message ≡ m
+
+found-at : (l : List Noted) (t o i : ℕ) (p : Peer) (m : Content) → IsFirst l t o i p m → FoundAt l i p m
+found-at l t o i p m f =
+    let it = find-any (λ (f : FirstSending). eqb f.number i) (firsts l) (any-first (λ (f : FirstSending). eqb f.number i) l t o i p m f (eqb-itself i)) in
+    let g = first-stands l i it.0 it.1 in
+    let same = parts-same it.0.moment t it.0.opening o it.0.peer p it.0.message m l i g f in
+    record { sending = it.0; is = it.1; peer = same.0; message = same.1 }
+
+as-true : (l : List Noted) (p : Peer) (m n : Content) (i : ℕ) → FoundAt l i p m → n.mid ≡ m.mid → is_as l p n i ≡ true
+as-true l p m n i f e =
+    subst (λ (o : Option FirstSending). went_as p n.mid o ≡ true) (sym f.is)
+    (rw (f.peer, same_peer-itself p, f.message, e) (eqb-itself m.mid))
+
+under-true : (l : List Noted) (p : Peer) (m n : Content) (i : ℕ) → FoundAt l i p m → n.token ≡ m.token → is_under l p n i ≡ true
+under-true l p m n i f e =
+    subst (λ (o : Option FirstSending). went_under p n.token o ≡ true) (sym f.is)
+    (rw (f.peer, same_peer-itself p, f.message) ((bytes_eq-Decides m.token n.token).1 (sym e)))
+
+-- what is found under a token is the message that bears it
+under-is : (l : List Noted) (t o i j : ℕ) (p : Peer) (m n : Content) → Legal l → IsFirst l t o i p m → n.token ≡ m.token → is_under l p n j ≡ true → j ≡ i
+under-is l t o i j p m n legal f e h = go (first_at l j) refl h
+  where
+    go : (x : Option FirstSending) → first_at l j ≡ x → went_under p n.token x ≡ true → j ≡ i
+    go None is h = absurd (false≢true h)
+    go (Some g) is h =
+        let both = and-both (same_peer g.peer p) (bytes_eq g.message.token n.token) h in
+        let token : g.message.token ≡ n.token = (bytes_eq-Decides g.message.token n.token).0 both.1 in
+        tokens-apart l g.moment t g.opening j o i g.peer p g.message m legal (first-stands l j g is) f (token ∙ e)
+
+any-last : (p : ℕ → Bool) (xs : List ℕ) (i : ℕ) → p i ≡ true → list_any p (xs ++ i ∷ []) ≡ true
+any-last p [] i e = rw e refl
+any-last p (x ∷ xs) i e = go (p x) (any-last p xs i e)
+  where
+    go : (b : Bool) → list_any p (xs ++ i ∷ []) ≡ true → (b || list_any p (xs ++ i ∷ [])) ≡ true
+    go true h = refl
+    go false h = h
+
+find-here : (p : ℕ → Bool) (i : ℕ) → p i ≡ true → find p (i ∷ []) ≡ Some i
+find-here p i e = rw e refl
+
+module _ (l : List Noted) (t o i : ℕ) (p : Peer) (m : Content) (y : Transmission) (legal : Legal l) (f : IsFirst l t o i p m) (e : transmission l i ≡ Some y) where
+  among-open : (n : Content) → n.mid ≡ m.mid → find (is_as l p n) (open_at l p) ≡ Some i
+  among-open n same =
+      subst (λ (js : List ℕ). find (is_as l p n) js ≡ Some i) (sym (open-is l t o i p m y legal f e))
+      (find-here (is_as l p n) i (as-true l p m n i (found-at l t o i p m f) same))
+
+  abbrev Both : Content → ℕ → Bool
+  Both n j = is_under l p n j && is_as l p n j
+
+  among-awaited : (n : Content) → n.mid ≡ m.mid → n.token ≡ m.token → find (Both n) (awaited l ++ open_at l p) ≡ Some i
+  among-awaited n same token =
+      let at = found-at l t o i p m f in
+      let passes : Both n i ≡ true = rw (under-true l p m n i at token) (as-true l p m n i at same) in
+      let any : list_any (Both n) (awaited l ++ open_at l p) ≡ true =
+      subst (λ (js : List ℕ). list_any (Both n) (awaited l ++ js) ≡ true) (sym (open-is l t o i p m y legal f e)) (any-last (Both n) (awaited l) i passes) in
+      let it = find-any (Both n) (awaited l ++ open_at l p) any in
+      let has = (find-some (Both n) (awaited l ++ open_at l p) it.0 it.1).1 in
+      let own = under-is l t o i it.0 p m n legal f token (and-both (is_under l p n it.0) (is_as l p n it.0) has).0 in
+      it.1 ∙ ap (λ (j : ℕ). Some j) own
+
+  by-ack : (n : Content) → n.mid ≡ m.mid → n.token ≡ m.token → (vain : Bool) → answers_by l p n Ack vain true ≡ Some i
+  by-ack n same token true = among-awaited n same token
+  by-ack n same token false = among-awaited n same token
+
+  settling : (n : Content) → Settles n m → answers l p n ≡ Some i
+  settling n (confirms is) =
+      subst (λ (n : Content). answers l p n ≡ Some i) (sym is) (among-open (empty Ack m.mid) refl)
+  settling n (rejects is) =
+      subst (λ (n : Content). answers l p n ≡ Some i) (sym is) (among-open (empty Rst m.mid) refl)
+  settling n (piggybacked kind mid token response) =
+      let many : leb 32 n.code ≡ true = elim (leb_tells 32 n.code) [ inl v ↦ v.0 | inr v ↦ let a = v.1 in absurd (omega (arith, a, response)) ] in
+      subst (λ (k : MsgType). answers_by l p n k (eqb n.code 0) (leb 32 n.code) ≡ Some i) (sym kind)
+      (subst (λ (b : Bool). answers_by l p n Ack (eqb n.code 0) b ≡ Some i) (sym many) (by-ack n mid token (eqb n.code 0)))
+
+-- no CON and no NON settles a message
+settles-none : (n m : Content) → Settles n m → is_such n.kind ≡ false
+settles-none n m (confirms is) = ap (λ (n : Content). is_such n.kind) is
+settles-none n m (rejects is) = ap (λ (n : Content). is_such n.kind) is
+settles-none n m (piggybacked kind mid token response) = ap is_such kind
+
+no-repeat : (l : List Noted) (s : ℕ) (p : Peer) (n m : Content) (j : ℕ) → Settles n m → repeated l s p n ≡ Some j → ⊥
+no-repeat l s p n m j settles e =
+    none-some j (subst (λ (b : Bool). cond b (heard_before l s p n.mid) None ≡ Some j) (settles-none n m settles) e)
+
+said-to : (l : List Noted) (s i : ℕ) (p : Peer) (b : List ℕ) (n : Content) (to : Option ℕ) (notice : Notice) (y : Transmission) → to ≡ Some i
+    → transmission (noted s (Hears p b) (Says n to notice) ∷ l) i ≡ Some y → ⊥
+said-to l s i p b n to notice y is e =
+    none-some y (rw (eqb-itself i) at (subst (λ (to : Option ℕ). transmission (noted s (Hears p b) (Says n to notice) ∷ l) i ≡ Some y) is e))
+
+says-to : (n m : Content) (i j : Option ℕ) (u v : Notice) → Says n i u ≡ Says m j v → i ≡ j
+says-to n m i j u v e = cc
+
+-- After it the message is no longer outstanding.
+pub settled : (l : List Noted) (t o i : ℕ) (p : Peer) (m : Content) (y z : Transmission) (s : ℕ) (b : List ℕ) (note : Note) (n : Content)
+    → Legal l → IsFirst l t o i p m → transmission l i ≡ Some y → Follows l s (Hears p b) note → Spells n b → Settles n m
+    → transmission (noted s (Hears p b) note ∷ l) i ≡ Some z → ⊥
+settled l t o i p m y z s b (Says k to notice) n legal f e may spelled settles after =
+    let says : MaySay l s p b (Says k to notice) k = may.3 in
+    let same : k ≡ n = spells_one k n b says.spelled spelled in
+    let found : answers l p k ≡ Some i = subst (λ (n : Content). answers l p n ≡ Some i) (sym same) (settling l t o i p m y legal f e n settles) in
+    said-to l s i p b k to notice z (says-to k k to _ notice _ says.says ∙ found) after
+settled l t o i p m y z s b (Repeats k j) n legal f e may spelled settles after =
+    let same : k ≡ n = spells_one k n b may.3.0 spelled in
+    no-repeat l s p n m j settles (subst (λ (n : Content). repeated l s p n ≡ Some j) same may.3.1)
+settled l t o i p m y z s b Garbled n legal f e may spelled settles after = may.3 n spelled
+settled l t o i p m y z s b note n legal f e may spelled settles after = absurd may.3

@@ -1,0 +1,144 @@
+-- That nothing was sent for an ask; and which message was.
+use Rattle.std.proofs.Common.{◌≡◌, ℕ, ◌⊎◌, Bool, true, false, cond, eqb, ◌||◌, inl, inr, List, [], ◌∷◌, length, Option, Some, None, refl, sym, ap, subst, ◌∙◌, arith}
+use Rattle.std.specs.Prelude.{find, option_map, is_none}
+use Rattle.std.specs.List.{list_any}
+use Rattle.std.proofs.lemmas.Bool.Decides.{eqb_tells, leb_tells}
+use Rattle.std.proofs.lemmas.Bool.{false≢true}
+use Rattle.coap_codec.specs.Spelling.{Content}
+use Rattle.uri_map.specs.declared.peer.Peer.{Peer}
+use Rattle.ask_model.specs.Requests.{CoapRequest, Requests}
+use Rattle.ask_model.specs.Views.{Ask}
+use Rattle.ask_model.proofs.Endpoints.{and-both}
+use Rattle.journal_book.specs.Entries.{Grounds, Deed, Answers, Asks, Sends, Seals}
+use Rattle.history_laws.specs.Readings.{Noted, Note, Plain, Begins, First, entries, at, before}
+use Rattle.history_laws.specs.Connections.{is_sealed, sealed_by}
+use Rattle.history_laws.specs.Progress.{Ending}
+use Rattle.history_laws.specs.Transmissions.{FirstSending, firsts, sent_last}
+use Rattle.history_laws.specs.Exchanges.{begun, end_of, end_here, end_by, End, turn, replies, goes_to, is_going, waits_for}
+use Rattle.history_laws.specs.Justified.{MayBeFirst, Follows, Legal}
+use Rattle.history_laws.specs.Laws.{IsFirst}
+use Rattle.history_laws.specs.Worked.{noted}
+use Rattle.history_laws.proofs.Resting.{none-is, none-some, some-is}
+use Rattle.history_laws.proofs.Places.{at-same}
+use Rattle.history_laws.proofs.Facts.{follows-at, eqb-same, eqb-itself}
+use Rattle.history_laws.proofs.Elements.{find-some}
+use Rattle.history_laws.proofs.Sendings.{any-first}
+use Rattle.history_laws.proofs.Replies.{firsts-stand}
+use Rattle.history_laws.proofs.Sent.{asked-for, begun-opening}
+use Rattle.history_claims.specs.Headline.{IsUnsent}
+use Rattle.history_claims.proofs.Entries.{asked-entry, grows, before-twice, at-still}
+use Rattle.history_claims.proofs.Sending.{first-of, sent-in}
+
+-- Where no first sending is that of the ask's exchange, each is that of another.
+pub unsent-in : (l : List Noted) (k : ℕ) (q : CoapRequest) → Legal l → ((t i : ℕ) (p : Peer) (m : Content) → IsFirst l t k i p m → ⊥)
+    → IsUnsent (entries l) k q
+unsent-in l k q legal none i m sent =
+    let first = first-of l i sent.moment q.peer m legal sent.first in
+    let o : ℕ = first.0 in
+    let it = sent-in l sent.moment o i q.peer m legal first.1 in
+    let ask = asked-for l o it.exchange legal it.opened in
+    let r : CoapRequest = it.exchange.request in (
+      o,
+      ask.conn,
+      it.exchange.since,
+      r,
+      λ same. none sent.moment i q.peer m (subst (λ (o : ℕ). IsFirst l sent.moment o i q.peer m) same first.1),
+      asked-entry l o ask.conn it.exchange.since ask.ask (Begins r) (Requests r) ask.stands ask.sense,
+      it.sent_for,
+    )
+
+-- an ask that opened nothing has none
+pub none-for-plain : (l : List Noted) (k c s : ℕ) (a : Ask) → Legal l → at l k ≡ Some (noted s (Asks c a) Plain)
+    → (t i : ℕ) (p : Peer) (m : Content) → IsFirst l t k i p m → ⊥
+none-for-plain l k c s a legal e t i p m f =
+    let it = sent-in l t k i p m legal f in
+    let opening = begun-opening l k it.exchange it.opened in
+    other it.exchange.request (ap (λ (x : Noted). x.note) (at-same l k _ _ e opening.1))
+  where
+    other : (q : CoapRequest) → Plain ≡ Begins q → ⊥
+    other q f = cc
+
+-- the latest first sending of an exchange
+pub find-any : {X : Type 0} (p : X → Bool) (xs : List X) → list_any p xs ≡ true → (x : X) × (find p xs ≡ Some x)
+find-any p [] h = absurd (false≢true h)
+find-any {X = X} p (x ∷ xs) h = go (p x) (find-any p xs) h
+  where
+    go : (b : Bool) → (list_any p xs ≡ true → (y : X) × (find p xs ≡ Some y)) → (b || list_any p xs) ≡ true
+        → (y : X) × (cond b (Some x) (find p xs) ≡ Some y)
+    go true ih e = (x, refl)
+    go false ih e = ih e
+
+map-none : {X Y : Type 0} (f : X → Y) (o : Option X) → option_map f o ≡ None → o ≡ None
+map-none f None e = refl
+map-none f (Some x) e = absurd (none-is (f x) e)
+
+pub sent-last-none : (l : List Noted) (t o i : ℕ) (p : Peer) (m : Content) → sent_last l o ≡ None → IsFirst l t o i p m → ⊥
+sent-last-none l t o i p m e f =
+    let it = find-any (λ (f : FirstSending). eqb f.opening o) (firsts l)
+    (any-first (λ (f : FirstSending). eqb f.opening o) l t o i p m f (eqb-itself o)) in
+    none-some it.0 (sym (map-none (λ (f : FirstSending). f.number) _ e) ∙ it.1)
+
+pub sent-last-first : (l : List Noted) (o i : ℕ) → sent_last l o ≡ Some i → (t : ℕ) × (p : Peer) × (m : Content) × IsFirst l t o i p m
+sent-last-first l o i e = go (find (λ (f : FirstSending). eqb f.opening o) (firsts l)) refl e
+  where
+    go : (f : Option FirstSending) → find (λ (f : FirstSending). eqb f.opening o) (firsts l) ≡ f → option_map (λ (f : FirstSending). f.number) f ≡ Some i
+        → (t : ℕ) × (p : Peer) × (m : Content) × IsFirst l t o i p m
+    go None is h = absurd (none-some i h)
+    go (Some f) is h =
+        let it = find-some (λ (f : FirstSending). eqb f.opening o) (firsts l) f is in
+        let first = firsts-stand l f it.0 in (
+          f.moment,
+          f.peer,
+          f.message,
+          subst (λ (i : ℕ). IsFirst l f.moment o i f.peer f.message) (some-is f.number i h)
+              (subst (λ (o : ℕ). IsFirst l f.moment o f.number f.peer f.message) (eqb-same f.opening o it.1) first),
+        )
+
+-- Nothing is sent for an exchange that has ended, nor in a sealed journal.
+abbrev pub Over : ℕ → List Noted → Type 0
+Over o l = (is_none (end_of l o) ≡ false) ⊎ (is_sealed l ≡ true)
+
+ended-still : (how : Option Ending) (n : ℕ) (old : Option End) → is_none old ≡ false → is_none (end_by how n old) ≡ false
+ended-still None n old h = h
+ended-still (Some w) n None h = absurd (false≢true (sym h))
+ended-still (Some w) n (Some f) h = refl
+
+sealed-still : (d : Deed) (old : Bool) → old ≡ true → sealed_by d old ≡ true
+sealed-still Seals old h = refl
+sealed-still d old h = h
+
+pub over-still : (o : ℕ) (x : Noted) (l : List Noted) → Over o l → Over o (x ∷ l)
+over-still o x l (inl h) = inl (ended-still (end_here (length l) (replies l o) (turn l o x)) (length l) (end_of l o) h)
+over-still o x l (inr h) = inr (sealed-still x.written.deed (is_sealed l) h)
+
+not-over : (l : List Noted) (t o : ℕ) (p : Peer) (b : List ℕ) (w : Option ℕ) (m : Content) → Over o l → Follows l t (Sends p b w) (First o m) → ⊥
+not-over l t o p b w m (inl h) f =
+    let may : MayBeFirst l t o p b m w = f.1.1 in
+    let going = and-both (is_going l o) (is_none (waits_for l o)) (and-both (goes_to p (begun l o)) _ may.waits).1 in
+    false≢true (sym h ∙ going.0)
+not-over l t o p b w m (inr h) f = false≢true (sym f.0 ∙ h)
+
+deeds : (s t : ℕ) (p : Peer) (b : List ℕ) (w : Option ℕ) (c k : ℕ) (g : Grounds) (u v : Note) → noted s (Sends p b w) u ≡ noted t (Answers c k g) v → ⊥
+deeds s t p b w c k g u v e = go (ap (λ (x : Noted). x.written.deed) e)
+  where
+    go : Sends p b w ≡ Answers c k g → ⊥
+    go f = cc
+
+-- Where nothing was sent for an exchange before the answer, and it was over, nothing is sent at all.
+pub never-sent : (l : List Noted) (n t c k : ℕ) (g : Grounds) (note : Note) → Legal l → at l n ≡ Some (noted t (Answers c k g) note)
+    → Over k (before l n) → sent_last (before l n) k ≡ None → (s i : ℕ) (p : Peer) (m : Content) → IsFirst l s k i p m → ⊥
+never-sent l n t c k g note legal here over none s i p m f =
+    elim (leb_tells n i) [
+      | inl w ↦ elim (eqb_tells n i) [
+        | inl u ↦ deeds s t p f.bytes f.timeout c k g _ _ (at-same l i _ _ f.stands (subst (λ (n : ℕ). at l n ≡ Some (noted t (Answers c k g) note)) u.1 here))
+        | inr u ↦
+            let le = w.1 in
+            let not = u.1 in
+            let twice = before-twice l i n _ f.stands (omega (arith, le, not)) in
+            let still = grows (Over k) (over-still k) (before l i) n (subst (Over k) (sym twice) over) in
+            not-over (before l i) s k p f.bytes f.timeout m still (follows-at l i _ legal f.stands)
+      ]
+      | inr w ↦
+          sent-last-none (before l n) s k i p m none
+          (record { bytes = f.bytes; timeout = f.timeout; stands = at-still l n i _ _ here w.1 f.stands })
+    ]

@@ -1,0 +1,35 @@
+-- Worked journals of `history_laws`, as entries: what their answers rest on, and what they don't.
+use Rattle.std.specs.Prelude.{[], ◌∷◌}
+use Rattle.ask_model.specs.declared.cause.Cause.TheVariants as C
+use Rattle.history_laws.specs.Readings.{entries}
+use Rattle.history_laws.specs.WorkedMessages as M
+use Rattle.history_laws.specs.WorkedEndings as E
+use Rattle.history_laws.specs.WorkedSpoiled as S
+use Rattle.history_claims.specs.Headline.{RestsOn, IsCausedBy}
+
+-- The GET's answer rests on the response of entry 9, and the PUT's on that of entry 16.
+abbrev pub Answered : Type 0
+Answered = RestsOn (entries M.all_answered) 11 0 1 (9 ∷ []) × RestsOn (entries M.all_answered) 17 1 4 (16 ∷ [])
+
+-- After 93 seconds the GET's message is named, and the PUT itself, since it was never sent.
+abbrev pub TimedOut : Type 0
+TimedOut = IsCausedBy (entries M.given_up) 93500 0 1 C.Timeout 2 × IsCausedBy (entries M.given_up) 93500 1 4 C.Timeout 4
+
+-- A Reset message is named, and a message that was sent five times.
+abbrev pub Rejected : Type 0
+Rejected = IsCausedBy (entries E.rejected) 700 1 4 C.Reset 8
+
+abbrev pub GivenUp : Type 0
+GivenUp = IsCausedBy (entries E.timed_out) 62000 0 1 C.Timeout 2
+
+-- Not so: the PUT answered by the response to the GET, which came under its token.
+abbrev pub Crossed : Type 0
+Crossed = RestsOn (entries S.crossed) 12 1 4 (9 ∷ []) → ⊥
+
+-- Not so: an answer on what is heard after it.
+abbrev pub Foreseen : Type 0
+Foreseen = RestsOn (entries M.all_answered) 11 1 4 (16 ∷ []) → ⊥
+
+-- Not so: a message given up a millisecond before the timeout after its fourth copy is over.
+abbrev pub Early : Type 0
+Early = IsCausedBy (entries S.timed_out_early) 61999 0 1 C.Timeout 2 → ⊥

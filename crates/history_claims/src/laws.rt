@@ -1,0 +1,40 @@
+//! What holds of the entries of every journal that stands, as contracts of functions that do nothing.
+
+ghost use Rattle.history_claims.specs.Headline.{RestsOnReplies, NamesCause};
+ghost use Rattle.history_claims.specs.Apart.{
+  TokensOnce,
+  IdsOnce,
+  RepliesOnce,
+  AnsweredOnce,
+  AnswersAnAsk,
+  AskedInTurn,
+  AnsweredInOrder,
+};
+
+/// An answer that isn't the proxy's own rests on one whole response, heard under tokens that were
+/// issued for what its ask means (RFC 7252 section 5.3.2).
+pub fn rests_on_replies()
+    ensures { RestsOnReplies }
+{}
+
+/// Every other answer names its cause, and the entry that shows it.
+pub fn names_cause()
+    ensures { NamesCause }
+{}
+
+/// Tokens, message IDs and replies serve once: a token one message, an ID one of those to an endpoint
+/// in 494 seconds, a reply the answer to one ask (RFC 7252 sections 4.4, 5.3.1).
+pub fn served_once()
+    ensures tokens { TokensOnce }
+    ensures ids { IdsOnce }
+    ensures replies { RepliesOnce }
+{}
+
+/// Each ask is answered at most once, and those of a connection in their order, one after another
+/// (RFC 9112 section 9.3).
+pub fn answered_in_order()
+    ensures once { AnsweredOnce }
+    ensures asked { AnswersAnAsk }
+    ensures in_turn { AskedInTurn }
+    ensures in_order { AnsweredInOrder }
+{}

@@ -1,0 +1,31 @@
+//! Worked journals: what their answers rest on and name, and what they don't.
+
+ghost use Rattle.history_claims.specs.Worked.{
+  Answered,
+  TimedOut,
+  Rejected,
+  GivenUp,
+  Crossed,
+  Foreseen,
+  Early,
+};
+
+/// A separate response, and one in an ACK.
+pub fn worked_answers()
+    ensures { Answered }
+{}
+
+/// A deadline with and without a message, a Reset message, and five sendings with no reply.
+pub fn worked_causes()
+    ensures timed_out { TimedOut }
+    ensures rejected { Rejected }
+    ensures given_up { GivenUp }
+{}
+
+/// What an answer may not rest on or name: the response to another request, what comes after it, a
+/// deadline before its time.
+pub fn not_so()
+    ensures crossed { Crossed }
+    ensures foreseen { Foreseen }
+    ensures early { Early }
+{}

@@ -1,0 +1,164 @@
+-- Each ask opens one exchange or none, and each sending is for an ask or for a datagram.
+use Rattle.std.proofs.Common.{◌≡◌, ℕ, ◌<◌, ◌⊎◌, inl, inr, List, Option, Some, None, refl, sym, ap, subst, ◌∙◌}
+use Rattle.coap_codec.specs.Spelling.{Content}
+use Rattle.uri_map.specs.declared.peer.Peer.{Peer}
+use Rattle.ask_model.specs.Requests.{CoapRequest, Sense, Requests, Refuses}
+use Rattle.ask_model.specs.Views.{Ask}
+use Rattle.ask_model.specs.declared.cause.Cause.{Cause}
+use Rattle.ask_model.specs.declared.cause.Cause.TheVariants.{BadHttp, NoMap, Method, Media, Busy, Timeout, Reset, NotUnderstood}
+use Rattle.journal_book.specs.Entries.{Grounds, Live, Kept, Fault, Asks, Sends, Hears, Answers}
+use Rattle.history_laws.specs.Readings.{Noted, Note, Plain, Begins, First, Copies, Confirms, at, before}
+use Rattle.history_laws.specs.Exchanges.{Begun, begun}
+use Rattle.history_laws.specs.Justified.{IsAsk, reads_by, reads_in, reads, IsTurnedAway, IsRefused, Caused, HasGrounds, AskNote, MayBeCopy, MayConfirm, Follows, Legal}
+use Rattle.history_laws.specs.Laws.{OpensNone, OpensFor, IsAskSent, IsConfirmation}
+use Rattle.history_laws.specs.Worked.{noted}
+use Rattle.history_laws.proofs.Places.{at-below, at-same}
+use Rattle.history_laws.proofs.Facts.{follows-at, at-before, length-before}
+use Rattle.history_laws.proofs.Sent.{begun-opening, opening-begun, asked-for, sent-for, sent-once}
+use Rattle.history_laws.proofs.Confirmed.{owed-to}
+
+-- An ask without an exchange is answered for one cause only.
+abbrev own_cause : Sense → Cause
+own_cause (Requests q) = Busy
+own_cause (Refuses cause status) = cause
+
+ask-same : (m s c d : ℕ) (a b : Ask) (u v : Note) → noted m (Asks c a) u ≡ noted s (Asks d b) v → a ≡ b
+ask-same m s c d a b u v e = asks (ap (λ (x : Noted). x.written.deed) e)
+  where
+    asks : Asks c a ≡ Asks d b → a ≡ b
+    asks f = cc
+
+module _ (l : List Noted) (k c m : ℕ) (a : Ask) (stands : at l k ≡ Some (noted m (Asks c a) Plain)) where
+  reads-none : (n o : ℕ) → reads (before l n) k ≡ Some o → ⊥
+  reads-none n o r = go (at (before l n) k) refl r
+    where
+      none : None ≡ Some o → ⊥
+      none e = cc
+
+      go : (x : Option Noted) → at (before l n) k ≡ x → reads_in k x ≡ Some o → ⊥
+      go None is e = none e
+      go (Some x) is e =
+          none (subst (λ (v : Noted). reads_by k v.note ≡ Some o) (at-same l k x (noted m (Asks c a) Plain) (at-before l n k x is) stands) e)
+
+  that-ask : (n d s : ℕ) (b : Ask) (u : Note) → at (before l n) k ≡ Some (noted s (Asks d b) u) → b ≡ a
+  that-ask n d s b u h = ask-same s m d c b a u Plain (at-same l k _ _ (at-before l n k _ h) stands)
+
+  own-turned : (n j : ℕ) → j ≡ k → IsTurnedAway (before l n) k → (Busy ≡ own_cause a.sense) × (j ≡ k)
+  own-turned n j e h =
+      (sym (ap own_cause h.sense) ∙ ap (λ (v : Ask). own_cause v.sense) (that-ask n h.conn h.moment h.ask Plain h.stands), e)
+
+  own-refusal : (n j : ℕ) (cause : Cause) → j ≡ k → IsRefused (before l n) k cause → (cause ≡ own_cause a.sense) × (j ≡ k)
+  own-refusal n j cause e h =
+      (sym (ap own_cause h.sense) ∙ ap (λ (v : Ask). own_cause v.sense) (that-ask n h.conn h.asked.moment h.ask h.asked.note h.asked.stands), e)
+
+  own-caused : (n t j : ℕ) (cause : Cause) → Caused (before l n) t k cause j → (cause ≡ own_cause a.sense) × (j ≡ k)
+  own-caused n t j Busy h = own-turned n j h.0 h.1
+  own-caused n t j Timeout h = absurd (reads-none n h.0 h.1)
+  own-caused n t j Reset h = absurd (reads-none n h.0 h.1)
+  own-caused n t j NotUnderstood h = absurd (reads-none n h.0 h.1)
+  own-caused n t j BadHttp h = own-refusal n j BadHttp h.1 h.2
+  own-caused n t j NoMap h = own-refusal n j NoMap h.1 h.2
+  own-caused n t j Method h = own-refusal n j Method h.1 h.2
+  own-caused n t j Media h = own-refusal n j Media h.1 h.2
+
+  own-grounds : (n t : ℕ) (g : Grounds) → HasGrounds (before l n) t k g → g ≡ Fault (own_cause a.sense) k
+  own-grounds n t (Live js) h = absurd (reads-none n h.0 h.4)
+  own-grounds n t (Kept js) h = absurd h
+  own-grounds n t (Fault cause j) h =
+      let own = own-caused n t j cause h in
+      ap (λ (v : Cause). Fault v j) own.0 ∙ ap (λ (i : ℕ). Fault (own_cause a.sense) i) own.1
+
+  none-opened : begun l k ≡ None
+  none-opened = go (begun l k) refl
+    where
+      plain : (q : CoapRequest) → Plain ≡ Begins q → ⊥
+      plain q e = cc
+
+      go : (b : Option Begun) → begun l k ≡ b → b ≡ None
+      go None e = refl
+      go (Some b) e =
+          let h = begun-opening l k b e in
+          absurd (plain b.request (ap (λ (v : Noted). v.note) (at-same l k _ _ stands h.1)))
+
+  opens-none : (cause : Cause) → own_cause a.sense ≡ cause → Legal l → OpensNone l k cause
+  opens-none cause e legal =
+      record {
+        unopened = none-opened;
+        unsent = λ t i p s f. none-is (sym none-opened ∙ (sent-for l t k i p s legal f).opened);
+        answered = λ n d g h.
+            own-grounds n h.moment g (grounds-of (before l n) h.moment d g h.note (follows-at l n _ legal h.stands))
+            ∙ ap (λ (v : Cause). Fault v k) e;
+      }
+    where
+      none-is : {b : Begun} → None ≡ Some b → ⊥
+      none-is f = cc
+
+      grounds-of : (b : List Noted) (t d : ℕ) (g : Grounds) (note : Note) → Follows b t (Answers d k g) note → HasGrounds b t k g
+      grounds-of b t d g note f = f.3
+
+opened : (l : List Noted) (k c m : ℕ) (a : Ask) (s : Sense) (note : Note) → a.sense ≡ s → Legal l
+    → at l k ≡ Some (noted m (Asks c a) note) → AskNote (before l k) m s note → OpensFor l m k s
+opened l k c m a (Requests q) (Begins r) e legal stands h =
+    inl (record {
+      since = m;
+      opened = opening-begun l k m (Asks c a) q (subst (λ (v : CoapRequest). at l k ≡ Some (noted m (Asks c a) (Begins v))) h.0 stands);
+      room = h.1;
+      once = λ s t i j p r x y f g. sent-once l s t k i j p r x y legal f g;
+    })
+opened l k c m a (Requests q) Plain e legal stands h = inr (opens-none l k c m a stands Busy (ap own_cause e) legal, h)
+opened l k c m a (Refuses cause status) Plain e legal stands h = opens-none l k c m a stands cause (ap own_cause e) legal
+opened l k c m a s note e legal stands h = absurd h
+
+pub asked-once : (l : List Noted) (k c : ℕ) (a : Ask) → Legal l → (h : IsAsk l k c a) → OpensFor l h.moment k a.sense
+asked-once l k c a legal h = opened l k c h.moment a a.sense h.note refl legal h.stands (follows-at l k _ legal h.stands).3
+
+ask-sent : (l : List Noted) (i t : ℕ) (p : Peer) (b : List ℕ) (w : Option ℕ) (o : ℕ) (m : Content) → Legal l
+    → at l i ≡ Some (noted t (Sends p b w) (First o m)) → IsAskSent l i p b
+ask-sent l i t p b w o m legal e =
+    let it = sent-for l t o i p m legal (record { bytes = b; timeout = w; stands = e }) in
+    let ask = asked-for l o it.exchange legal it.opened in
+    record {
+      ask = o;
+      conn = ask.conn;
+      asked = ask.ask;
+      request = it.exchange.request;
+      message = m;
+      moment = t;
+      timeout = w;
+      stands = e;
+      after = it.after;
+      asks = record { moment = it.exchange.since; note = Begins it.exchange.request; stands = ask.stands };
+      sense = ask.sense;
+      peer = it.peer;
+      carries = it.carries;
+      spelled = it.spelled;
+    }
+
+pub nothing-else-sent : (l : List Noted) (i t : ℕ) (p : Peer) (bytes : List ℕ) (w : Option ℕ) (note : Note) → Legal l
+    → at l i ≡ Some (noted t (Sends p bytes w) note)
+    → IsAskSent l i p bytes ⊎ (((j : ℕ) × (j < i) × IsAskSent l j p bytes) ⊎ IsConfirmation l i p bytes)
+nothing-else-sent l i t p b w note legal e = go note e (follows-at l i _ legal e)
+  where
+    go : (note : Note) → at l i ≡ Some (noted t (Sends p b w) note) → Follows (before l i) t (Sends p b w) note
+        → IsAskSent l i p b ⊎ (((j : ℕ) × (j < i) × IsAskSent l j p b) ⊎ IsConfirmation l i p b)
+    go (First o m) e f = inl (ask-sent l i t p b w o m legal e)
+    go (Copies j) e f =
+        let copy : MayBeCopy (before l i) j p b = f.1.2 in
+        let below = subst (λ (n : ℕ). j < n) (length-before l i _ e) (at-below (before l i) j _ copy.stands) in
+        inr (inl (j, below, ask-sent l j copy.moment p b copy.timeout copy.opening copy.message legal (at-before l i j _ copy.stands)))
+    go Confirms e f =
+        let it : MayConfirm (before l i) p b = f.1.1 in
+        let due = owed-to (before l i) it.confirmation it.is_owed in
+        inr (inr (record {
+          kind = it.confirmation.kind;
+          mid = it.confirmation.mid;
+          ack_or_rst = due.ack_or_rst;
+          spelled = it.spelled;
+          heard = due.heard;
+          just_before = due.just_before ∙ length-before l i _ e;
+          moment = due.moment;
+          datagram = due.datagram;
+          note = due.note;
+          stands = subst (λ (v : Peer). at l due.heard ≡ Some (noted due.moment (Hears v due.datagram) due.note)) (sym it.peer) (at-before l i due.heard _ due.stands);
+        }))
+    go note e f = absurd f.1

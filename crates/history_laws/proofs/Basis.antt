@@ -1,0 +1,173 @@
+-- What an answer rests on: replies to its own ask, sent for after it.
+use Rattle.std.proofs.Common.{◌≡◌, ℕ, zero, suc, ◌<◌, Bool, true, false, cond, inl, inr, List, [], ◌∷◌, ◌++◌, length, Option, Some, None, refl, sym, ap, subst, ◌∙◌, arith}
+use Rattle.std.specs.List.{Contains}
+use Rattle.std.proofs.lemmas.List.Elements.{Contains-append_left}
+use Rattle.ask_model.specs.Requests.{CoapRequest, Requests, request_message}
+use Rattle.ask_model.specs.Views.{Ask}
+use Rattle.coap_codec.specs.Spelling.{Content}
+use Rattle.uri_map.specs.declared.peer.Peer.{Peer}
+use Rattle.journal_book.specs.Entries.{Grounds, Live, Answers}
+use Rattle.history_laws.specs.Responses.{Response, response_of, is_whole}
+use Rattle.history_laws.specs.Readings.{Noted, Note, Begins, at}
+use Rattle.history_laws.specs.Progress.{Reply, numbers, Ending, Whole, NotUnderstood, Reset, TimedOut, progress, ended_by}
+use Rattle.history_laws.specs.Exchanges.{Turn, Nothing, Sent, Replied, Rejected, Expired, turn, replies_by, replies, End, end_here, end_by, end_of}
+use Rattle.history_laws.specs.Justified.{IsAsk, Ends as EndsAs, reads_by, reads_in, reads, HasGrounds, Follows, Legal}
+use Rattle.history_laws.specs.Laws.{IsFirst, IsReplyTo, IsAnswer, RestsOn, IsWriteEnd}
+use Rattle.history_laws.proofs.Elements.{contains-none, first-or-later}
+use Rattle.history_laws.proofs.Facts.{IsAsk-keeps, IsFirst-keeps}
+use Rattle.history_laws.proofs.Answering.{IsAnswer-old}
+use Rattle.history_laws.proofs.Replies.{IsReplyTo-keeps, replies-fit}
+use Rattle.history_laws.proofs.Sent.{progress-more, asked-for, sent-for}
+
+ending-same : (x y : Ending) → Some x ≡ Some y → x ≡ y
+ending-same x y e = cc
+
+-- a whole response is made of replies to its exchange
+whole-of : (b : Bool) (u w : Response) (r x : Reply) (ws : List Reply) → cond b (Whole u (r ∷ [])) NotUnderstood ≡ Whole w ws → Contains ws x → r ≡ x
+whole-of true u w r x ws e h =
+    elim (first-or-later r [] x (subst (λ (ws : List Reply). Contains ws x) (sym (same (r ∷ []) ws e)) h)) [
+      | inl v ↦ v
+      | inr v ↦ absurd (contains-none x v)
+    ]
+  where
+    same : (rs ws : List Reply) → Whole u rs ≡ Whole w ws → rs ≡ ws
+    same rs ws f = cc
+whole-of false u w r x ws e h = cc
+
+progress-whole : (rs : List Reply) (w : Response) (ws : List Reply) (x : Reply) → ended_by (progress rs) ≡ Some (Whole w ws) → Contains ws x → Contains rs x
+progress-whole [] w ws x e h = cc
+progress-whole (r ∷ rs) w ws x e h =
+    let how = ending-same _ _ (sym (ap ended_by (progress-more r rs)) ∙ e) in
+    (zero, omega arith, whole-of (is_whole r.message) (response_of r.message) w r x ws how h)
+
+abbrev IsMade : Option End → ℕ → Response → List Reply → Type 0
+IsMade old e w ws = old ≡ Some (record { number = e; how = Whole w ws })
+
+abbrev ending : ℕ → Ending → End
+ending n how = record { number = n; how = how }
+
+end-how : (k how : Ending) (n e : ℕ) → Some (ending n k) ≡ Some (ending e how) → k ≡ how
+end-how k how n e f = ap (λ (x : End). x.how) (end-same _ _ f)
+  where
+    end-same : (x y : End) → Some x ≡ Some y → x ≡ y
+    end-same x y g = cc
+
+made-step : (u : Turn) (n e : ℕ) (rs : List Reply) (old : Option End) (w : Response) (ws : List Reply) (x : Reply)
+    → (IsMade old e w ws → Contains rs x) → IsMade (end_by (end_here n rs u) n old) e w ws → Contains ws x → Contains (replies_by n u rs) x
+made-step Nothing n e rs old w ws x ih h has = ih h
+made-step (Sent i) n e rs old w ws x ih h has = ih h
+made-step (Replied i m) n e rs old w ws x ih h has = go (ended_by (progress (rs ++ r ∷ []))) refl old refl h
+  where
+    r : Reply
+    r = record { number = n; sending = i; message = m }
+
+    go : (how : Option Ending) → ended_by (progress (rs ++ r ∷ [])) ≡ how → (o : Option End) → old ≡ o → IsMade (end_by how n o) e w ws
+        → Contains (rs ++ r ∷ []) x
+    go None is o was h = Contains-append_left rs (r ∷ []) x (ih (was ∙ h))
+    go (Some how) is (Some f) was h = Contains-append_left rs (r ∷ []) x (ih (was ∙ h))
+    go (Some how) is None was h =
+        progress-whole (rs ++ r ∷ []) w ws x (is ∙ ap (λ (v : Ending). Some v) (end-how how (Whole w ws) n e h)) has
+made-step Rejected n e rs None w ws x ih h has = absurd (other (end-how Reset (Whole w ws) n e h))
+  where
+    other : Reset ≡ Whole w ws → ⊥
+    other f = cc
+made-step Rejected n e rs (Some f) w ws x ih h has = ih h
+made-step Expired n e rs None w ws x ih h has = absurd (other (end-how TimedOut (Whole w ws) n e h))
+  where
+    other : TimedOut ≡ Whole w ws → ⊥
+    other f = cc
+made-step Expired n e rs (Some f) w ws x ih h has = ih h
+
+pub made-of : (l : List Noted) (o e : ℕ) (w : Response) (ws : List Reply) (x : Reply) → EndsAs l o e (Whole w ws) → Contains ws x → Contains (replies l o) x
+made-of [] o e w ws x h has = cc
+made-of (y ∷ older) o e w ws x h has =
+    made-step (turn older o y) (length older) e (replies older o) (end_of older o) w ws x
+    (λ f. made-of older o e w ws x f has) h has
+
+number-of : (rs : List Reply) (j : ℕ) → Contains (numbers rs) j → (r : Reply) × Contains rs r × (r.number ≡ j)
+number-of [] j h = absurd (omega (arith, h.1))
+number-of (r ∷ rs) j (zero, lt, e) = (r, (zero, omega arith, refl), e)
+number-of (r ∷ rs) j (suc i, lt, e) =
+    let h = number-of rs j (i, omega arith, e) in
+    let place = h.1 in
+    (h.0, (suc place.0, let b = place.1 in omega arith, place.2), h.2)
+
+-- an ask reads what it opened
+reads-note : (k o : ℕ) (n : Note) → reads_by k n ≡ Some o → k ≡ o
+reads-note k o (Begins q) e = cc
+reads-note k o n e = cc
+
+reads-own : (l : List Noted) (k o : ℕ) → reads l k ≡ Some o → k ≡ o
+reads-own l k o e = go (at l k) e
+  where
+    go : (x : Option Noted) → reads_in k x ≡ Some o → k ≡ o
+    go None f = cc
+    go (Some x) f = reads-note k o x.note f
+
+RestsOn-keeps : (x : Noted) (l : List Noted) (k j : ℕ) → RestsOn l k j → RestsOn (x ∷ l) k j
+RestsOn-keeps x l k j h =
+    record {
+      conn = h.conn;
+      ask = h.ask;
+      request = h.request;
+      asked = IsAsk-keeps x l k _ _ h.asked;
+      sense = h.sense;
+      reply = h.reply;
+      number = h.number;
+      fits = IsReplyTo-keeps x l k h.reply h.fits;
+      after = h.after;
+      moment = h.moment;
+      mid = h.mid;
+      token = h.token;
+      first = IsFirst-keeps x l _ k _ _ _ h.first;
+    }
+
+rests-own : (l : List Noted) (k : ℕ) (r : Reply) → Legal l → Contains (replies l k) r → RestsOn l k r.number
+rests-own l k r legal has =
+    let fits = replies-fit l k r legal has in
+    let sent = sent-for l fits.sent_at k r.sending fits.peer fits.sent legal fits.first in
+    let ask = asked-for l k sent.exchange legal sent.opened in
+    let q : CoapRequest = sent.exchange.request in
+    record {
+      conn = ask.conn;
+      ask = ask.ask;
+      request = q;
+      asked = record { moment = sent.exchange.since; note = Begins q; stands = ask.stands };
+      sense = ask.sense;
+      reply = r;
+      number = refl;
+      fits = fits;
+      after = sent.after;
+      moment = fits.sent_at;
+      mid = fits.sent.mid;
+      token = fits.sent.token;
+      first = subst (λ (p : Peer). IsFirst l fits.sent_at k r.sending p (request_message q fits.sent.mid fits.sent.token)) sent.peer
+          (subst (λ (m : Content). IsFirst l fits.sent_at k r.sending fits.peer m) sent.carries fits.first);
+    }
+
+rests-on : (l : List Noted) (t k j : ℕ) (js : List ℕ) → Legal l → HasGrounds l t k (Live js) → Contains js j → RestsOn l k j
+rests-on l t k j js legal h has =
+    let it = number-of h.3 j (subst (λ (js : List ℕ). Contains js j) h.6 has) in
+    let own : Contains (replies l k) it.0 =
+    subst (λ (o : ℕ). Contains (replies l o) it.0) (sym (reads-own l k h.0 h.4)) (made-of l h.0 h.1 h.2 h.3 it.0 h.5 it.1) in
+    subst (RestsOn l k) it.2 (rests-own l k it.0 legal own)
+
+grounds-of : (l : List Noted) (t c k : ℕ) (g : Grounds) (note : Note) → Follows l t (Answers c k g) note → HasGrounds l t k g
+grounds-of l t c k g note f = f.3
+
+pub rests-on-its-own : (l : List Noted) (n c k j : ℕ) (js : List ℕ) → Legal l → IsAnswer l n c k (Live js) → Contains js j → RestsOn l k j
+rests-on-its-own [] n c k j js legal a has = cc (a.stands)
+rests-on-its-own (x ∷ older) n c k j js legal a has =
+    elim (IsAnswer-old x older n c k (Live js) a) [
+      | inl w ↦
+          let follows = subst (λ (v : Noted). Follows older v.written.moment v.written.deed v.note) w.1.2 legal.2 in
+          RestsOn-keeps x older k j (rests-on older w.1.0 k j js legal.0 (grounds-of older w.1.0 c k (Live js) w.1.1 follows) has)
+      | inr w ↦ RestsOn-keeps x older k j (rests-on-its-own older n c k j js legal.0 w has)
+    ]
+
+pub nothing-outrun : (l : List Noted) (n c k j e : ℕ) (js : List ℕ) (a : Ask) (q : CoapRequest) → Legal l → IsAnswer l n c k (Live js) → Contains js j
+    → IsAsk l k c a → a.sense ≡ Requests q → q.method ≡ 1 → IsWriteEnd l q.peer q.target.path e → e < k
+    → (o : ℕ) × (r : Reply) × IsReplyTo l o r × (r.number ≡ j) × (e < r.sending)
+nothing-outrun l n c k j e js a q legal answer has ask sense get write lt =
+    let h = rests-on-its-own l n c k j js legal answer has in
+    (k, h.reply, h.fits, h.number, let b = h.after in omega arith)

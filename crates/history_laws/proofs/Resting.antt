@@ -1,0 +1,82 @@
+-- A history is at rest where its tests say so.
+use Rattle.std.proofs.Common.{◌≡◌, Bool, true, false, ◌&&◌, List, Option, Some, None, refl}
+use Rattle.std.specs.Prelude.{is_none}
+use Rattle.std.specs.List.{list_all, range_with_len}
+use Rattle.std.proofs.lemmas.Bool.{false≢true}
+use Rattle.history_laws.specs.Readings.{Noted}
+use Rattle.history_laws.specs.Connections.{is_sealed, opened}
+use Rattle.history_laws.specs.Transmissions.{firsts}
+use Rattle.history_laws.specs.Exchanges.{open_exchanges}
+use Rattle.history_laws.specs.Confirming.{owed}
+use Rattle.history_laws.specs.Justified.{AtRest, MayCome, is_in_hand, is_under_way, is_done, is_in_time}
+
+pub first : (a b : Bool) → (a && b) ≡ true → a ≡ true
+first true b e = refl
+first false b e = absurd (false≢true e)
+
+pub second : (a b : Bool) → (a && b) ≡ true → b ≡ true
+second true b e = e
+second false b e = absurd (false≢true e)
+
+none : {X : Type 0} (o : Option X) → is_none o ≡ true → o ≡ None
+none None e = refl
+none (Some x) e = absurd (false≢true e)
+
+pub record Each (a b c d e : Bool) : Type 0 where
+  pub waits : a ≡ true
+  pub given : b ≡ true
+  pub sent : c ≡ true
+  pub copied : d ≡ true
+  pub ended : e ≡ true
+
+each : (a b c d e : Bool) → (a && (b && (c && (d && e)))) ≡ true → Each a b c d e
+each a b c d e h =
+    let h1 = second a (b && (c && (d && e))) h in
+    let h2 = second b (c && (d && e)) h1 in
+    let h3 = second c (d && e) h2 in
+    record {
+      waits = first a _ h;
+      given = first b _ h1;
+      sent = first c _ h2;
+      copied = first d e h3;
+      ended = second d e h3;
+    }
+
+-- the tests, one for each part
+abbrev pub in_hand : List Noted → Bool
+in_hand l = list_all (is_in_hand l) (range_with_len 0 (opened l))
+
+abbrev pub under_way : List Noted → Bool
+under_way l = list_all (is_under_way l) (open_exchanges l)
+
+abbrev pub all_copied : List Noted → Bool
+all_copied l = list_all (is_done l) (firsts l)
+
+abbrev pub none_late : List Noted → Bool
+none_late l = list_all (is_in_time l) (open_exchanges l)
+
+abbrev pub rests : List Noted → Bool
+rests l = in_hand l && (is_none (owed l) && (under_way l && (all_copied l && none_late l)))
+
+pub at-rest : (l : List Noted) → rests l ≡ true → AtRest l
+at-rest l e =
+    let h = each (in_hand l) (is_none (owed l)) (under_way l) (all_copied l) (none_late l) e in
+    record {
+      waits = h.waits;
+      given = λ s. none (owed l) h.given;
+      sent = λ s. h.sent;
+      copied = λ s. h.copied;
+      ended = λ s. h.ended;
+    }
+
+pub may-come : (l : List Noted) → is_sealed l ≡ false → rests l ≡ true → MayCome l
+may-come l s e = (s, at-rest l e)
+
+pub some-is : {X : Type 0} (x y : X) → Some x ≡ Some y → x ≡ y
+some-is x y e = cc
+
+pub none-is : {X : Type 0} (x : X) → Some x ≡ None → ⊥
+none-is x e = cc
+
+pub none-some : {X : Type 0} (x : X) → None ≡ Some x → ⊥
+none-some x e = cc

@@ -1,0 +1,210 @@
+-- What a first sending asks, and of whom; an exchange has one.
+use Rattle.std.proofs.Common.{◌≡◌, ℕ, ◌<◌, ◌⊎◌, Bool, true, false, ◌&&◌, eqb, inl, inr, List, [], ◌∷◌, ◌++◌, length, Option, Some, None, is_some, refl, sym, ap, subst, ◌∙◌, arith}
+use Rattle.std.specs.Prelude.{fold, is_none}
+use Rattle.std.proofs.lemmas.Bool.Decides.{eqb_tells}
+use Rattle.std.proofs.lemmas.Bool.{false≢true}
+use Rattle.coap_codec.specs.Spelling.{Content, Spells}
+use Rattle.uri_map.specs.declared.peer.Peer.{Peer}
+use Rattle.ask_model.specs.Requests.{CoapRequest, Sense, Requests, Refuses, request_message}
+use Rattle.ask_model.specs.Views.{Ask}
+use Rattle.ask_model.proofs.Endpoints.{and-both}
+use Rattle.journal_book.specs.Entries.{Deed, Opens, Asks, Sends, Hears, Passes, Answers, Shuts, Seals}
+use Rattle.history_laws.specs.Readings.{Noted, Note, Begins, First, at, before}
+use Rattle.history_laws.specs.Progress.{Reply, Progress, Asks as StillAsks, Ends, Ending, Reset, TimedOut, step, replied, progress, ended_by, next_message}
+use Rattle.history_laws.specs.Exchanges.{Begun, opens_by, begun_by, begun, Turn, Nothing, Sent, Replied, Rejected, Expired, turn, waits_by, waits_for, replies, End, end_here, end_by, end_of, goes_to}
+use Rattle.history_laws.specs.Justified.{AskNote, MayBeFirst, Follows, Legal}
+use Rattle.history_laws.specs.Laws.{IsFirst}
+use Rattle.history_laws.specs.Worked.{noted}
+use Rattle.history_laws.proofs.Resting.{some-is}
+use Rattle.history_laws.proofs.Places.{at-cases, at-new, at-below, at-keeps}
+use Rattle.history_laws.proofs.Facts.{follows-at, at-before, length-before, eqb-same, eqb-itself}
+use Rattle.history_laws.proofs.Sendings.{IsFirst-old, may-be}
+
+-- the entry that opened an exchange
+abbrev pub Opening : List Noted → ℕ → Begun → Type 0
+Opening l o b = (d : Deed) × (at l o ≡ Some (noted b.since d (Begins b.request)))
+
+Opening-keeps : (x : Noted) (l : List Noted) (o : ℕ) (b : Begun) → Opening l o b → Opening (x ∷ l) o b
+Opening-keeps x l o b h = (h.0, at-keeps x l o _ h.1)
+
+opens-begins : (n : Note) (q : CoapRequest) → opens_by n ≡ Some q → n ≡ Begins q
+opens-begins (Begins r) q e = ap Begins (some-is r q e)
+opens-begins n q e = cc
+
+opening-step : (l : List Noted) (o t : ℕ) (d : Deed) (note : Note) (b : Begun) → (begun l o ≡ Some b → Opening l o b)
+    → (asked : Option CoapRequest) → opens_by note ≡ asked → (here : Bool) → eqb (length l) o ≡ here
+    → begun_by asked here t (begun l o) ≡ Some b → Opening (noted t d note ∷ l) o b
+opening-step l o t d note b ih (Some q) is true same e =
+    let made : record { since = t; request = q } ≡ b = some-is _ _ e in
+    let stands : at (noted t d note ∷ l) o ≡ Some (noted t d (Begins q)) =
+    subst (λ (o : ℕ). at (noted t d note ∷ l) o ≡ Some (noted t d (Begins q))) (eqb-same (length l) o same)
+    (at-new (noted t d note) l ∙ ap (λ (n : Note). Some (noted t d n)) (opens-begins note q is)) in
+    subst (Opening (noted t d note ∷ l) o) made (d, stands)
+opening-step l o t d note b ih (Some q) is false same e = Opening-keeps (noted t d note) l o b (ih e)
+opening-step l o t d note b ih None is true same e = Opening-keeps (noted t d note) l o b (ih e)
+opening-step l o t d note b ih None is false same e = Opening-keeps (noted t d note) l o b (ih e)
+
+pub begun-opening : (l : List Noted) (o : ℕ) (b : Begun) → begun l o ≡ Some b → Opening l o b
+begun-opening [] o b e = cc
+begun-opening (x ∷ older) o b e =
+    opening-step older o x.written.moment x.written.deed x.note b (begun-opening older o b)
+    (opens_by x.note) refl (eqb (length older) o) refl e
+
+pub begun-below : (l : List Noted) (o : ℕ) (b : Begun) → begun l o ≡ Some b → o < length l
+begun-below l o b e = let h = begun-opening l o b e in at-below l o _ h.1
+
+not-here : (asked : Option CoapRequest) (t : ℕ) (old : Option Begun) → begun_by asked false t old ≡ old
+not-here None t old = refl
+not-here (Some q) t old = refl
+
+pub begun-keeps : (x : Noted) (l : List Noted) (o : ℕ) (b : Begun) → begun l o ≡ Some b → begun (x ∷ l) o ≡ Some b
+begun-keeps x l o b e =
+    let below = begun-below l o b e in
+    elim (eqb_tells (length l) o) [ inl w ↦ let a = w.1 in absurd (omega (arith, a, below)) | inr w ↦ rw (w.0) (not-here (opens_by x.note) x.written.moment (begun l o) ∙ e) ]
+
+pub opening-begun : (l : List Noted) (o t : ℕ) (d : Deed) (q : CoapRequest) → at l o ≡ Some (noted t d (Begins q))
+    → begun l o ≡ Some (record { since = t; request = q })
+opening-begun [] o t d q e = cc
+opening-begun (x ∷ older) o t d q e =
+    elim (at-cases x older o) [
+      | inl w ↦
+          let is : x ≡ noted t d (Begins q) = some-is _ _ (sym w.1 ∙ e) in
+          let made : begun (noted t d (Begins q) ∷ older) (length older) ≡ Some (record { since = t; request = q }) =
+          rw (eqb-itself (length older)) refl in
+          subst (λ (x : Noted). begun (x ∷ older) o ≡ Some (record { since = t; request = q })) (sym is)
+          (subst (λ (o : ℕ). begun (noted t d (Begins q) ∷ older) o ≡ Some (record { since = t; request = q })) (sym w.0) made)
+      | inr w ↦ begun-keeps x older o _ (opening-begun older o t d q (sym w.1 ∙ e))
+    ]
+
+pub begun-before : (l : List Noted) (n o : ℕ) (b : Begun) → begun (before l n) o ≡ Some b → begun l o ≡ Some b
+begun-before l n o b e =
+    let h = begun-opening (before l n) o b e in
+    opening-begun l o b.since h.0 b.request (at-before l n o _ h.1)
+
+-- what opens an exchange is an ask for it
+begins-ask : (l : List Noted) (t : ℕ) (d : Deed) (q : CoapRequest) → Follows l t d (Begins q)
+    → (c : ℕ) × (a : Ask) × (d ≡ Asks c a) × (a.sense ≡ Requests q)
+begins-ask l t (Asks c a) q f = (c, a, refl, sense a.sense f.3)
+  where
+    sense : (s : Sense) → AskNote l t s (Begins q) → s ≡ Requests q
+    sense (Requests r) h = ap Requests (sym h.0)
+    sense (Refuses cause status) h = absurd h
+begins-ask l t (Opens c) q f = absurd f.2
+begins-ask l t (Sends p b w) q f = absurd f.1
+begins-ask l t (Hears p b) q f = absurd f.3
+begins-ask l t Passes q f = absurd f.1
+begins-ask l t (Answers c k g) q f = absurd f.4
+begins-ask l t (Shuts c) q f = absurd f.2
+begins-ask l t Seals q f = absurd f.2
+
+pub record AskedFor (l : List Noted) (o : ℕ) (b : Begun) : Type 0 where
+  pub conn : ℕ
+  pub ask : Ask
+  pub stands : at l o ≡ Some (noted b.since (Asks conn ask) (Begins b.request))
+  pub sense : ask.sense ≡ Requests b.request
+
+pub asked-for : (l : List Noted) (o : ℕ) (b : Begun) → Legal l → begun l o ≡ Some b → AskedFor l o b
+asked-for l o b legal e =
+    let h = begun-opening l o b e in
+    let it = begins-ask (before l o) b.since h.0 b.request (follows-at l o _ legal h.1) in
+    record {
+      conn = it.0;
+      ask = it.1;
+      stands = subst (λ (d : Deed). at l o ≡ Some (noted b.since d (Begins b.request))) it.2 h.1;
+      sense = it.3;
+    }
+
+-- a first sending asks what its exchange was opened for, of the peer that it is for
+pub record SentFor (l : List Noted) (o i : ℕ) (p : Peer) (m : Content) (bytes : List ℕ) : Type 0 where
+  pub exchange : Begun
+  pub opened : begun l o ≡ Some exchange
+  pub after : o < i
+  pub peer : p ≡ exchange.request.peer
+  pub carries : m ≡ request_message exchange.request m.mid m.token
+  pub spelled : Spells m bytes
+
+next-is : (q : CoapRequest) (w : Progress) (mid : ℕ) (token : List ℕ) (m : Content) → next_message q w mid token ≡ Some m → m ≡ request_message q mid token
+next-is q StillAsks mid token m e = sym (some-is _ _ e)
+next-is q (Ends how) mid token m e = cc
+
+pub sent-for : (l : List Noted) (t o i : ℕ) (p : Peer) (m : Content) → Legal l → (f : IsFirst l t o i p m) → SentFor l o i p m f.bytes
+sent-for l t o i p m legal f =
+    let may : MayBeFirst (before l i) t o p f.bytes m f.timeout = (follows-at l i _ legal f.stands).1.1 in
+    let below = begun-below (before l i) o _ may.opening in
+    record {
+      exchange = record { since = may.since; request = may.request };
+      opened = begun-before l i o _ may.opening;
+      after = subst (λ (n : ℕ). o < n) (length-before l i _ f.stands) below;
+      peer = may.peer;
+      carries = next-is may.request (progress (replies (before l i) o)) m.mid m.token m may.message;
+      spelled = may.spelled;
+    }
+
+-- A reply ends its exchange.
+stay : (how : Ending) (rs : List Reply) → fold step (Ends how) rs ≡ Ends how
+stay how [] = refl
+stay how (r ∷ rs) = stay how rs
+
+pub progress-more : (r : Reply) (rs : List Reply) → progress (r ∷ rs) ≡ Ends (replied r)
+progress-more r rs = stay (replied r) rs
+
+progress-ends : (rs : List Reply) (r : Reply) → is_some (ended_by (progress (rs ++ r ∷ []))) ≡ true
+progress-ends [] r = refl
+progress-ends (s ∷ rs) r = ap (λ (w : Progress). is_some (ended_by w)) (progress-more s (rs ++ r ∷ []))
+
+-- after its first sending an exchange waits for the reply, or has ended
+abbrev Past : Option ℕ → Option End → Type 0
+Past w e = (is_some w ≡ true) ⊎ (is_none e ≡ false)
+
+ended : (how : Option Ending) (n : ℕ) (e : Option End) → is_some how ≡ true → is_none (end_by how n e) ≡ false
+ended None n e h = absurd (false≢true h)
+ended (Some how) n None h = refl
+ended (Some how) n (Some f) h = refl
+
+past-step : (u : Turn) (n : ℕ) (rs : List Reply) (w : Option ℕ) (e : Option End) → Past w e → Past (waits_by u w) (end_by (end_here n rs u) n e)
+past-step Nothing n rs w e h = h
+past-step (Sent i) n rs w e h = inl refl
+past-step (Replied i m) n rs w e h =
+    let r : Reply = record { number = n; sending = i; message = m } in
+    inr (ended (ended_by (progress (rs ++ r ∷ []))) n e (progress-ends rs r))
+past-step Rejected n rs w e h = inr (ended (Some Reset) n e refl)
+past-step Expired n rs w e h = inr (ended (Some TimedOut) n e refl)
+
+past-new : (l : List Noted) (t o : ℕ) (p : Peer) (b : List ℕ) (w : Option ℕ) (m : Content)
+    → is_some (waits_for (noted t (Sends p b w) (First o m) ∷ l) o) ≡ true
+past-new l t o p b w m = rw (eqb-itself o) refl
+
+past : (l : List Noted) (t o i : ℕ) (p : Peer) (m : Content) → IsFirst l t o i p m → Past (waits_for l o) (end_of l o)
+past [] t o i p m f = cc (f.stands)
+past (x ∷ older) t o i p m f =
+    elim (IsFirst-old x older t o i p m f) [
+      | inl u ↦ inl (subst (λ (v : Noted). is_some (waits_for (v ∷ older) o) ≡ true) (sym u.1.2) (past-new older t o p u.1.0 u.1.1 m))
+      | inr u ↦ past-step (turn older o x) (length older) (replies older o) (waits_for older o) (end_of older o) (past older t o i p m u)
+    ]
+
+not-past : (w : Option ℕ) (e : Option End) → Past w e → (is_none e && is_none w) ≡ true → ⊥
+not-past None e (inl h) g = false≢true h
+not-past (Some i) None (inl h) g = false≢true g
+not-past (Some i) (Some f) (inl h) g = false≢true g
+not-past w None (inr h) g = false≢true (sym h)
+not-past w (Some f) (inr h) g = false≢true g
+
+first-once : (l : List Noted) (s t o i : ℕ) (p r : Peer) (b : List ℕ) (w : Option ℕ) (m n : Content) → IsFirst l s o i p m
+    → MayBeFirst l t o r b n w → ⊥
+first-once l s t o i p r b w m n f may =
+    not-past (waits_for l o) (end_of l o) (past l s o i p m f)
+    (and-both (goes_to r (begun l o)) (is_none (end_of l o) && is_none (waits_for l o)) may.waits).1
+
+pub sent-once : (l : List Noted) (s t o i j : ℕ) (p r : Peer) (m n : Content) → Legal l → IsFirst l s o i p m → IsFirst l t o j r n → i ≡ j
+sent-once [] s t o i j p r m n legal f g = cc (f.stands)
+sent-once (x ∷ older) s t o i j p r m n legal f g =
+    elim (IsFirst-old x older s o i p m f) [
+      | inl u ↦ elim (IsFirst-old x older t o j r n g) [
+        | inl v ↦ u.0 ∙ sym v.0
+        | inr v ↦ absurd (first-once older t s o j r p _ _ n m v (may-be x older s o p u.1.0 u.1.1 m legal.2 u.1.2))
+      ]
+      | inr u ↦ elim (IsFirst-old x older t o j r n g) [
+        | inl v ↦ absurd (first-once older s t o i p r _ _ m n u (may-be x older t o r v.1.0 v.1.1 n legal.2 v.1.2))
+        | inr v ↦ sent-once older s t o i j p r m n legal.0 u v
+      ]
+    ]

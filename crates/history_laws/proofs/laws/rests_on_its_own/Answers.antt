@@ -1,0 +1,8 @@
+use Rattle.history_laws.proofs.Basis.{rests-on-its-own, nothing-outrun}
+use Rattle.history_laws.proofs.laws.rests_on_its_own.Goals as goal
+
+pub returns-clause-own : goal.returns-clause-own
+returns-clause-own c = rests-on-its-own
+
+pub returns-clause-outrun : goal.returns-clause-outrun
+returns-clause-outrun c = nothing-outrun

@@ -1,0 +1,167 @@
+-- What the history says of an exchange, by the number of the entry that opened it.
+use Rattle.std.specs.Prelude.{ℕ, ◌+◌, Bool, false, ◌&&◌, ◌||◌, List, [], ◌∷◌, ◌++◌, length, filter, filter_map, Option, Some, None, is_none, ◌==◌, nat_le, if◌then◌else◌}
+use Rattle.std.specs.Option.{option_map_or}
+use Rattle.std.specs.List.{list_all}
+use Rattle.limits.specs.declared.TheConstants.{MAX_TRANSMIT_WAIT}
+use Rattle.coap_codec.specs.declared.message.MsgType.{MsgType}
+use Rattle.coap_codec.specs.declared.message.MsgType.TheVariants.{Rst}
+use Rattle.coap_codec.specs.Spelling.{Content}
+use Rattle.uri_map.specs.declared.peer.Peer.{Peer}
+use Rattle.ask_model.specs.Requests.{CoapRequest, same_peer}
+use Rattle.journal_book.specs.Entries.{Deed, Sends, Hears, Passes}
+use Rattle.history_laws.specs.Readings.{Noted, Note, Begins, First, Says}
+use Rattle.history_laws.specs.Progress.{Reply, Ending, Reset, TimedOut, progress, ended_by}
+use Rattle.history_laws.specs.Transmissions.{transmission, given_up}
+
+-- when it was opened, and for what
+pub record Begun : Type 0 where
+  pub since : ℕ
+  pub request : CoapRequest
+
+abbrev pub opens_by : Note → Option CoapRequest
+opens_by (Begins q) = Some q
+opens_by _ = None
+
+abbrev pub begun_by : Option CoapRequest → Bool → ℕ → Option Begun → Option Begun
+begun_by None here t old = old
+begun_by (Some q) here t old = if here then Some (record { since = t; request = q }) else old
+
+abbrev pub begun : List Noted → ℕ → Option Begun
+begun [] o = None
+begun (x ∷ older) o =
+    begun_by (opens_by x.note) (length older == o) x.written.moment (begun older o)
+
+-- the openings, in order
+abbrev pub opened_by : ℕ → Option CoapRequest → List ℕ → List ℕ
+opened_by n (Some q) old = old ++ n ∷ []
+opened_by n None old = old
+
+abbrev pub openings : List Noted → List ℕ
+openings [] = []
+openings (x ∷ older) = opened_by (length older) (opens_by x.note) (openings older)
+
+-- it has been open for as long as it may
+abbrev pub late_by : ℕ → Begun → Bool
+late_by t b = nat_le (b.since + MAX_TRANSMIT_WAIT) t
+
+abbrev pub is_late : ℕ → Option Begun → Bool
+is_late t b = option_map_or (late_by t) b false
+
+-- what an entry is to an exchange
+pub data Turn : Type 0 where
+  Nothing : Turn
+  -- the first sending of its next message
+  Sent : (sending : ℕ) → Turn
+  -- a reply to it
+  Replied : (sending : ℕ) → (message : Content) → Turn
+  -- a Reset message to it
+  Rejected : Turn
+  -- its latest message is given up, or it has been open for as long as it may
+  Expired : Turn
+
+-- What answers its latest message is a turn of it: all but an empty ACK.
+abbrev pub answered_by : ℕ → Content → MsgType → Turn
+answered_by i m Rst = Rejected
+answered_by i m kind = if nat_le 32 m.code then Replied i m else Nothing
+
+abbrev pub heard_turn : ℕ → Content → Option ℕ → Turn
+heard_turn i m None = Nothing
+heard_turn i m (Some waits) = if waits == i then answered_by i m m.kind else Nothing
+
+abbrev pub expires : List Noted → ℕ → ℕ → Option ℕ → Bool
+expires l o t None = is_late t (begun l o)
+expires l o t (Some i) = is_late t (begun l o) || given_up t (transmission l i)
+
+abbrev pub turn_by : List Noted → ℕ → ℕ → Deed → Note → Option ℕ → Turn
+turn_by l o t (Sends p b w) (First q m) waits = if q == o then Sent (length l) else Nothing
+turn_by l o t (Hears p b) (Says m (Some i) notice) waits = heard_turn i m waits
+turn_by l o t Passes note waits = if expires l o t waits then Expired else Nothing
+turn_by l o t _ _ waits = Nothing
+
+-- the first sending of the exchange that waits for a reply: none once it has ended
+abbrev pub waits_by : Turn → Option ℕ → Option ℕ
+waits_by (Sent i) old = Some i
+waits_by (Replied i m) old = None
+waits_by Rejected old = None
+waits_by Expired old = None
+waits_by Nothing old = old
+
+abbrev pub waits_step : List Noted → ℕ → Noted → Option ℕ → Option ℕ
+waits_step l o x old = waits_by (turn_by l o x.written.moment x.written.deed x.note old) old
+
+abbrev pub waits_for : List Noted → ℕ → Option ℕ
+waits_for [] o = None
+waits_for (x ∷ older) o = waits_step older o x (waits_for older o)
+
+-- what the entry is to the exchange, after this history
+abbrev pub turn : List Noted → ℕ → Noted → Turn
+turn l o x = turn_by l o x.written.moment x.written.deed x.note (waits_for l o)
+
+-- the replies to the exchange, in order
+abbrev pub replies_by : ℕ → Turn → List Reply → List Reply
+replies_by n (Replied i m) old = old ++ record { number = n; sending = i; message = m } ∷ []
+replies_by n _ old = old
+
+abbrev pub replies : List Noted → ℕ → List Reply
+replies [] o = []
+replies (x ∷ older) o = replies_by (length older) (turn older o x) (replies older o)
+
+-- the entry that ended it, and how: the first that does
+pub record End : Type 0 where
+  pub number : ℕ
+  pub how : Ending
+
+-- how the exchange ends by this turn of the entry with this number, if it does
+abbrev pub end_here : ℕ → List Reply → Turn → Option Ending
+end_here n rs (Replied i m) =
+    ended_by (progress (rs ++ record { number = n; sending = i; message = m } ∷ []))
+end_here n rs Rejected = Some Reset
+end_here n rs Expired = Some TimedOut
+end_here n rs _ = None
+
+abbrev pub or_else : Option End → End → Option End
+or_else (Some e) other = Some e
+or_else None other = Some other
+
+abbrev pub end_by : Option Ending → ℕ → Option End → Option End
+end_by None n old = old
+end_by (Some how) n old = or_else old (record { number = n; how = how })
+
+abbrev pub end_of : List Noted → ℕ → Option End
+end_of [] o = None
+end_of (x ∷ older) o =
+    end_by (end_here (length older) (replies older o) (turn older o x))
+    (length older) (end_of older o)
+
+abbrev pub is_going : List Noted → ℕ → Bool
+is_going l o = is_none (end_of l o)
+
+-- the exchanges that are open, in the order of their openings
+abbrev pub open_exchanges : List Noted → List ℕ
+open_exchanges l = filter (is_going l) (openings l)
+
+-- the first sendings that a reply is awaited to
+abbrev pub awaited : List Noted → List ℕ
+awaited l = filter_map (waits_for l) (openings l)
+
+-- An exchange waits at its peer while its next message isn't sent: since its opening, or its last
+-- reply.
+abbrev pub goes_to : Peer → Option Begun → Bool
+goes_to p b = option_map_or (λ (b : Begun). same_peer b.request.peer p) b false
+
+abbrev pub is_waiting : List Noted → Peer → ℕ → Bool
+is_waiting l p o = goes_to p (begun l o) && (is_going l o && is_none (waits_for l o))
+
+abbrev pub waiting : List Noted → Peer → List ℕ
+waiting l p = filter (is_waiting l p) (openings l)
+
+abbrev pub submitted_by : ℕ → List Reply → ℕ
+submitted_by o [] = o
+submitted_by o (r ∷ rs) = submitted_by r.number rs
+
+abbrev pub submitted : List Noted → ℕ → ℕ
+submitted l o = submitted_by o (replies l o)
+
+-- It is first come, first served.
+abbrev pub is_first_waiting : List Noted → Peer → ℕ → Bool
+is_first_waiting l p o = list_all (λ (q : ℕ). nat_le (submitted l o) (submitted l q)) (waiting l p)

@@ -1,0 +1,96 @@
+-- What a datagram is: what it repeats, and which first sending it answers.
+use Rattle.std.specs.Prelude.{ℕ, ◌+◌, Bool, true, false, not, ◌&&◌, ◌||◌, List, [], ◌∷◌, ◌++◌, length, find, Option, Some, None, option_map, option_to_list, ◌==◌, nat_le, nat_lt, if◌then◌else◌}
+use Rattle.std.specs.Str.{bytes_eq}
+use Rattle.limits.specs.declared.TheConstants.{EXCHANGE_LIFETIME, MAX_EXCHANGES, MAX_MESSAGE_IDS, MAX_REMEMBERED, MAX_WAITING}
+use Rattle.coap_codec.specs.declared.message.MsgType.{MsgType}
+use Rattle.coap_codec.specs.declared.message.MsgType.TheVariants.{Con, Non, Ack, Rst}
+use Rattle.coap_codec.specs.Spelling.{Content}
+use Rattle.uri_map.specs.declared.peer.Peer.{Peer}
+use Rattle.ask_model.specs.Requests.{CoapRequest, same_peer}
+use Rattle.journal_book.specs.Entries.{Deed, Hears}
+use Rattle.history_laws.specs.Readings.{Noted, Note, Says, Notice, Unobserved}
+use Rattle.history_laws.specs.Transmissions.{FirstSending, first_at, outstanding, mids_used}
+use Rattle.history_laws.specs.Exchanges.{open_exchanges, awaited, waiting}
+
+-- A CON or NON that is heard at this moment, from this peer and with this ID, repeats one that was
+-- heard less than EXCHANGE_LIFETIME before and repeats none (RFC 7252 section 4.5).
+abbrev pub is_such : MsgType → Bool
+is_such Con = true
+is_such Non = true
+is_such _ = false
+
+abbrev pub is_live : ℕ → Peer → ℕ → Deed → Note → Bool
+is_live t p s (Hears q b) (Says m to notice) =
+    is_such m.kind && (same_peer q p && nat_lt t (s + EXCHANGE_LIFETIME))
+is_live t p s _ _ = false
+
+abbrev pub bears : ℕ → Note → Bool
+bears mid (Says m to notice) = m.mid == mid
+bears mid _ = false
+
+abbrev pub is_like : ℕ → Peer → ℕ → Noted → Bool
+is_like t p mid x = is_live t p x.written.moment x.written.deed x.note && bears mid x.note
+
+abbrev pub heard_before : List Noted → ℕ → Peer → ℕ → Option ℕ
+heard_before [] t p mid = None
+heard_before (x ∷ older) t p mid =
+    if is_like t p mid x then Some (length older) else heard_before older t p mid
+
+abbrev pub repeated : List Noted → ℕ → Peer → Content → Option ℕ
+repeated l t p m = if is_such m.kind then heard_before l t p m.mid else None
+
+-- How many from the peer may be repeated; a new CON or NON is taken only where it can be
+-- remembered too.
+abbrev pub live_heard : List Noted → ℕ → Peer → ℕ
+live_heard [] t p = 0
+live_heard (x ∷ older) t p =
+    if is_live t p x.written.moment x.written.deed x.note then live_heard older t p + 1
+    else live_heard older t p
+
+abbrev pub can_be_remembered : List Noted → ℕ → Peer → Content → Bool
+can_be_remembered l t p m = not (is_such m.kind) || nat_lt (live_heard l t p) MAX_REMEMBERED
+
+-- the first sending with this number went to the peer under the token, or with the ID
+abbrev pub went_under : Peer → List ℕ → Option FirstSending → Bool
+went_under p token None = false
+went_under p token (Some f) = same_peer f.peer p && bytes_eq f.message.token token
+
+abbrev pub went_as : Peer → ℕ → Option FirstSending → Bool
+went_as p mid None = false
+went_as p mid (Some f) = same_peer f.peer p && (f.message.mid == mid)
+
+abbrev pub is_under : List Noted → Peer → Content → ℕ → Bool
+is_under l p m i = went_under p m.token (first_at l i)
+
+abbrev pub is_as : List Noted → Peer → Content → ℕ → Bool
+is_as l p m i = went_as p m.mid (first_at l i)
+
+abbrev pub open_at : List Noted → Peer → List ℕ
+open_at l p = option_to_list (option_map (λ (f : FirstSending). f.number) (outstanding l p))
+
+-- The first sending that a message answers, by its kind, and whether it is empty or a response. A
+-- response bears the token; in an ACK it bears the ID too, and so does an empty ACK or RST (RFC 7252
+-- sections 4.2, 5.3.2).
+abbrev pub answers_by : List Noted → Peer → Content → MsgType → Bool → Bool → Option ℕ
+answers_by l p m Con empty true = find (is_under l p m) (awaited l)
+answers_by l p m Non empty true = find (is_under l p m) (awaited l)
+answers_by l p m Ack empty true =
+    find (λ (i : ℕ). is_under l p m i && is_as l p m i) (awaited l ++ open_at l p)
+answers_by l p m Ack true response = find (is_as l p m) (open_at l p)
+answers_by l p m Rst true response = find (is_as l p m) (open_at l p)
+answers_by l p m kind empty response = None
+
+abbrev pub answers : List Noted → Peer → Content → Option ℕ
+answers l p m = answers_by l p m m.kind (m.code == 0) (nat_le 32 m.code)
+
+-- what it is to the observation of its resource
+abbrev pub notice_of : List Noted → ℕ → Content → Option ℕ → Notice
+notice_of l t m to = Unobserved
+
+-- There is room for one exchange more: a place among the open ones, one among those that wait at its
+-- peer, and a message ID.
+abbrev pub has_room : List Noted → ℕ → CoapRequest → Bool
+has_room l t q =
+    nat_lt (length (open_exchanges l)) MAX_EXCHANGES
+    && (nat_lt (length (waiting l q.peer)) MAX_WAITING
+    && nat_lt (mids_used l t q.peer + length (waiting l q.peer)) MAX_MESSAGE_IDS)

@@ -1,0 +1,253 @@
+-- What holds of every legal reading of a history.
+use Rattle.std.specs.Prelude.{◌≡◌, ◌≢◌, ◌↔◌, ◌⊎◌, ℕ, ◌+◌, ◌<◌, ◌≤◌, true, false, List, length, take, Option, Some, None, is_some, ⊤}
+use Rattle.std.specs.List.{Contains}
+use Rattle.limits.specs.declared.TheConstants.{MAX_RETRANSMIT, MESSAGE_ID_LIFETIME}
+use Rattle.coap_codec.specs.declared.message.MsgType.{MsgType}
+use Rattle.coap_codec.specs.declared.message.MsgType.TheVariants.{Con, Non, Ack, Rst}
+use Rattle.coap_codec.specs.Spelling.{Content, Spells}
+use Rattle.uri_map.specs.declared.peer.Peer.{Peer}
+use Rattle.ask_model.specs.declared.cause.Cause.{Cause}
+use Rattle.ask_model.specs.declared.cause.Cause.TheVariants as C
+use Rattle.ask_model.specs.Requests.{CoapRequest, Sense, Requests, Refuses, request_message}
+use Rattle.ask_model.specs.Views.{Ask}
+use Rattle.journal_book.specs.Entries.{Grounds, Live, Fault, Deed, Sends, Hears, Passes, Answers, Shuts}
+use Rattle.history_laws.specs.Confirmations.{empty}
+use Rattle.history_laws.specs.Readings.{Noted, Note, First, Copies, Says, Notice, at, before, ticked}
+use Rattle.history_laws.specs.Connections.{is_open, asks_of, answers_of, is_sealed}
+use Rattle.history_laws.specs.Progress.{Reply, Ending}
+use Rattle.history_laws.specs.Transmissions.{FirstSending, Transmission, transmission, due, outstanding}
+use Rattle.history_laws.specs.Exchanges.{Begun, begun, turn, waits_for, replies, end_here, end_of, open_exchanges}
+use Rattle.history_laws.specs.Hearing.{repeated, has_room}
+use Rattle.history_laws.specs.Justified.{IsAsk, Ends, reads, Legal, AtRest}
+
+-- The entry with this number is a first sending of the exchange, at this moment: of this message, to this peer.
+pub record IsFirst (l : List Noted) (t o i : ℕ) (p : Peer) (m : Content) : Type 0 where
+  pub bytes : List ℕ
+  pub timeout : Option ℕ
+  pub stands : at l i ≡ Some (record { written = record { moment = t; deed = Sends p bytes timeout }; note = First o m })
+
+-- A token is borne by one first sending.
+abbrev pub TokensApart : Type 0
+TokensApart =
+    (l : List Noted) (s t o i q j : ℕ) (p r : Peer) (m n : Content) → Legal l
+    → IsFirst l s o i p m → IsFirst l t q j r n → m.token ≡ n.token → i ≡ j
+
+-- To one peer, a message ID is borne by one first sending in 494 seconds.
+abbrev pub IdsApart : Type 0
+IdsApart =
+    (l : List Noted) (s t o i q j : ℕ) (p : Peer) (m n : Content) → Legal l
+    → IsFirst l s o i p m → IsFirst l t q j p n → m.mid ≡ n.mid → i < j
+    → s + MESSAGE_ID_LIFETIME ≤ t
+
+-- The answer with this number is to that ask of the connection, on these grounds.
+pub record IsAnswer (l : List Noted) (n c k : ℕ) (g : Grounds) : Type 0 where
+  pub moment : ℕ
+  pub note : Note
+  pub stands : at l n ≡ Some (record { written = record { moment = moment; deed = Answers c k g }; note = note })
+
+-- A connection's answers are to its first asks, in their order.
+abbrev pub AnsweredInOrder : Type 0
+AnsweredInOrder = (l : List Noted) (c : ℕ) → Legal l → answers_of l c ≡ take (length (answers_of l c)) (asks_of l c)
+
+-- An ask is answered at most once.
+abbrev pub AnsweredOnce : Type 0
+AnsweredOnce =
+    (l : List Noted) (i j c d k : ℕ) (g h : Grounds) → Legal l
+    → IsAnswer l i c k g → IsAnswer l j d k h → (i ≡ j) × (c ≡ d)
+
+-- To one peer, one message is outstanding.
+abbrev pub OneOutstanding : Type 0
+OneOutstanding =
+    (l : List Noted) (s t o i q j : ℕ) (p : Peer) (m n : Content) → Legal l → IsFirst l s o i p m → IsFirst l t q j p n
+    → is_some (transmission l i) ≡ true → is_some (transmission l j) ≡ true → i ≡ j
+
+-- A message is copied four times at most.
+abbrev pub FewCopies : Type 0
+FewCopies =
+    (l : List Noted) (i : ℕ) (way : Transmission)
+    → Legal l → transmission l i ≡ Some way → way.copies ≤ MAX_RETRANSMIT
+
+-- what a step does after its input
+abbrev pub IsDone : Deed → Type 0
+IsDone (Sends p b w) = ⊤
+IsDone (Answers c k g) = ⊤
+IsDone (Shuts c) = ⊤
+IsDone _ = ⊥
+
+-- The copy with this number goes out in the step of the first tick that finds it due: the tick before that one came
+-- too early.
+pub record IsInTime (l : List Noted) (n i : ℕ) : Type 0 where
+  pub way : Transmission
+  pub is_outstanding : transmission (before l n) i ≡ Some way
+  pub tick : ℕ
+  pub moment : ℕ
+  pub note : Note
+  pub stands : at l tick ≡ Some (record { written = record { moment = moment; deed = Passes }; note = note })
+  pub is_due : due way ≤ moment
+  pub first : ticked (before l tick) < due way
+  pub earlier : tick < n
+  pub same_step : (j : ℕ) (x : Noted) → tick < j → j < n → at l j ≡ Some x → IsDone x.written.deed
+
+abbrev pub CopiedInTime : Type 0
+CopiedInTime =
+    (l : List Noted) (n t i : ℕ) (p : Peer) (bytes : List ℕ) (w : Option ℕ) → Legal l
+    → at l n ≡ Some (record { written = record { moment = t; deed = Sends p bytes w }; note = Copies i }) → IsInTime l n i
+
+-- At rest, nothing that is outstanding was due at the last tick: its copy is out, or it is given up.
+abbrev pub NoneLeft : Type 0
+NoneLeft =
+    (l : List Noted) (i : ℕ) (way : Transmission) → AtRest l → is_sealed l ≡ false
+    → transmission l i ≡ Some way → ticked l < due way
+
+-- The open exchanges are just those that were opened and have not ended.
+abbrev pub OpenExactly : Type 0
+OpenExactly =
+    (l : List Noted) (o : ℕ) → Contains (open_exchanges l) o ↔ (is_some (begun l o) ≡ true) × (end_of l o ≡ None)
+
+-- An exchange ends at the first entry that ends it, and in the way of that entry.
+abbrev pub EndsFirst : Type 0
+EndsFirst =
+    (l : List Noted) (o e : ℕ) (how : Ending) → Ends l o e how
+    → (x : Noted) × (at l e ≡ Some x) × (end_of (before l e) o ≡ None)
+    × (end_here e (replies (before l e) o) (turn (before l e) o x) ≡ Some how)
+
+-- a piggybacked response has the ID of the request, a separate one any, and a RST is no response
+abbrev pub IsReplyKind : MsgType → ℕ → ℕ → Type 0
+IsReplyKind Con mid sent = ⊤
+IsReplyKind Non mid sent = ⊤
+IsReplyKind Ack mid sent = mid ≡ sent
+IsReplyKind Rst mid sent = ⊥
+
+-- The reply was heard after that first sending of the exchange, from the peer that it went to, is a response with
+-- its token, and no repeat.
+pub record IsReplyTo (l : List Noted) (o : ℕ) (r : Reply) : Type 0 where
+  pub peer : Peer
+  pub sent : Content
+  pub sent_at : ℕ
+  pub first : IsFirst l sent_at o r.sending peer sent
+  pub moment : ℕ
+  pub bytes : List ℕ
+  pub notice : Notice
+  pub heard : at l r.number ≡ Some (record { written = record { moment = moment; deed = Hears peer bytes }; note = Says r.message (Some r.sending) notice })
+  pub spelled : Spells r.message bytes
+  pub after : r.sending < r.number
+  pub token : r.message.token ≡ sent.token
+  pub response : 32 ≤ r.message.code
+  pub kind : IsReplyKind r.message.kind r.message.mid sent.mid
+  pub unheard : repeated (before l r.number) moment peer r.message ≡ None
+
+abbrev pub RepliesFit : Type 0
+RepliesFit = (l : List Noted) (o : ℕ) (r : Reply) → Legal l → Contains (replies l o) r → IsReplyTo l o r
+
+-- The entry with this number is a reply to the exchange that the ask opened, and came to a message that asks just
+-- what the ask means, sent after it.
+pub record RestsOn (l : List Noted) (k j : ℕ) : Type 0 where
+  pub conn : ℕ
+  pub ask : Ask
+  pub request : CoapRequest
+  pub asked : IsAsk l k conn ask
+  pub sense : ask.sense ≡ Requests request
+  pub reply : Reply
+  pub number : reply.number ≡ j
+  pub fits : IsReplyTo l k reply
+  pub after : k < reply.sending
+  pub moment : ℕ
+  pub mid : ℕ
+  pub token : List ℕ
+  pub first : IsFirst l moment k reply.sending request.peer (request_message request mid token)
+
+-- An answer rests on replies to its own ask alone.
+abbrev pub RestsOnItsOwn : Type 0
+RestsOnItsOwn =
+    (l : List Noted) (n c k j : ℕ) (js : List ℕ) → Legal l → IsAnswer l n c k (Live js) → Contains js j → RestsOn l k j
+
+-- The exchange of a request that isn't a GET ended at this entry: what was read of the resource before may be out
+-- of date from here on.
+pub record IsWriteEnd (l : List Noted) (p : Peer) (path : List (List ℕ)) (e : ℕ) : Type 0 where
+  pub opening : ℕ
+  pub write : Begun
+  pub opened : begun l opening ≡ Some write
+  pub changes : write.request.method ≢ 1
+  pub place : (write.request.peer ≡ p) × (write.request.target.path ≡ path)
+  pub how : Ending
+  pub ended : Ends l opening e how
+
+-- No answer to a GET rests on a token that was issued before the end of a write to its resource, where that lies
+-- before the ask.
+abbrev pub NothingOutrun : Type 0
+NothingOutrun =
+    (l : List Noted) (n c k j e : ℕ) (js : List ℕ) (a : Ask) (q : CoapRequest) → Legal l → IsAnswer l n c k (Live js) → Contains js j
+    → IsAsk l k c a → a.sense ≡ Requests q → q.method ≡ 1 → IsWriteEnd l q.peer q.target.path e → e < k
+    → (o : ℕ) × (r : Reply) × IsReplyTo l o r × (r.number ≡ j) × (e < r.sending)
+
+-- The ask opened an exchange for this request, and there was room; it has at most one first sending.
+pub record OpensOne (l : List Noted) (k : ℕ) (q : CoapRequest) : Type 0 where
+  pub since : ℕ
+  pub opened : begun l k ≡ Some (record { since = since; request = q })
+  pub room : has_room (before l k) since q ≡ true
+  pub once : (s t i j : ℕ) (p r : Peer) (m n : Content) → IsFirst l s k i p m → IsFirst l t k j r n → i ≡ j
+
+-- The ask opened no exchange, nothing is sent for it, and its answer is the proxy's own, for this cause.
+pub record OpensNone (l : List Noted) (k : ℕ) (cause : Cause) : Type 0 where
+  pub unopened : begun l k ≡ None
+  pub unsent : (t i : ℕ) (p : Peer) (m : Content) → IsFirst l t k i p m → ⊥
+  pub answered : (n c : ℕ) (g : Grounds) → IsAnswer l n c k g → g ≡ Fault cause k
+
+-- An ask for something opens one exchange, or none where there is no room; a refused one opens none.
+abbrev pub OpensFor : List Noted → ℕ → ℕ → Sense → Type 0
+OpensFor l t k (Requests q) = OpensOne l k q ⊎ (OpensNone l k C.Busy × (has_room (before l k) t q ≡ false))
+OpensFor l t k (Refuses cause status) = OpensNone l k cause
+
+abbrev pub AskedOnce : Type 0
+AskedOnce = (l : List Noted) (k c : ℕ) (a : Ask) → Legal l → (h : IsAsk l k c a) → OpensFor l h.moment k a.sense
+
+-- At rest, the message of an open exchange waits for its reply, or to be sent after the one that is outstanding at
+-- its peer.
+abbrev pub SentAtOnce : Type 0
+SentAtOnce =
+    (l : List Noted) (o : ℕ) (b : Begun) → AtRest l → is_sealed l ≡ false → begun l o ≡ Some b → end_of l o ≡ None
+    → ((i : ℕ) × (waits_for l o ≡ Some i)) ⊎ ((f : FirstSending) × (outstanding l b.request.peer ≡ Some f))
+
+-- At rest, an ask that opened no exchange and whose connection is open is answered.
+abbrev pub AnsweredAtOnce : Type 0
+AnsweredAtOnce =
+    (l : List Noted) (k c : ℕ) (a : Ask) → Legal l → AtRest l → is_open l c ≡ true → IsAsk l k c a → reads l k ≡ None
+    → (n : ℕ) × (g : Grounds) × IsAnswer l n c k g
+
+-- The entry with this number sends these bytes to this peer, as the first sending of the exchange of an ask before
+-- it, and they spell what that asks for.
+pub record IsAskSent (l : List Noted) (i : ℕ) (p : Peer) (bytes : List ℕ) : Type 0 where
+  pub ask : ℕ
+  pub conn : ℕ
+  pub asked : Ask
+  pub request : CoapRequest
+  pub message : Content
+  pub moment : ℕ
+  pub timeout : Option ℕ
+  pub stands : at l i ≡ Some (record { written = record { moment = moment; deed = Sends p bytes timeout }; note = First ask message })
+  pub after : ask < i
+  pub asks : IsAsk l ask conn asked
+  pub sense : asked.sense ≡ Requests request
+  pub peer : p ≡ request.peer
+  pub carries : message ≡ request_message request message.mid message.token
+  pub spelled : Spells message bytes
+
+-- These bytes are an empty ACK or RST to the peer of the datagram that was heard just before.
+pub record IsConfirmation (l : List Noted) (i : ℕ) (p : Peer) (bytes : List ℕ) : Type 0 where
+  pub kind : MsgType
+  pub mid : ℕ
+  pub ack_or_rst : (kind ≡ Ack) ⊎ (kind ≡ Rst)
+  pub spelled : Spells (empty kind mid) bytes
+  pub heard : ℕ
+  pub just_before : heard + 1 ≡ i
+  pub moment : ℕ
+  pub datagram : List ℕ
+  pub note : Note
+  pub stands : at l heard ≡ Some (record { written = record { moment = moment; deed = Hears p datagram }; note = note })
+
+-- Each sending is a first one that an ask asks for, equals one before it, or is an ACK or RST.
+abbrev pub NothingElseSent : Type 0
+NothingElseSent =
+    (l : List Noted) (i t : ℕ) (p : Peer) (bytes : List ℕ) (w : Option ℕ) (note : Note) → Legal l
+    → at l i ≡ Some (record { written = record { moment = t; deed = Sends p bytes w }; note = note })
+    → IsAskSent l i p bytes ⊎ (((j : ℕ) × (j < i) × IsAskSent l j p bytes) ⊎ IsConfirmation l i p bytes)

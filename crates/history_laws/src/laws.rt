@@ -1,0 +1,74 @@
+//! What holds of every legal reading of a history, as contracts of functions that do nothing.
+
+ghost use Rattle.history_laws.specs.Laws.{
+  TokensApart,
+  IdsApart,
+  AnsweredInOrder,
+  AnsweredOnce,
+  OneOutstanding,
+  FewCopies,
+  CopiedInTime,
+  NoneLeft,
+  OpenExactly,
+  EndsFirst,
+  RepliesFit,
+  RestsOnItsOwn,
+  NothingOutrun,
+  AskedOnce,
+  SentAtOnce,
+  AnsweredAtOnce,
+  NothingElseSent,
+};
+
+/// Tokens and message IDs keep the proxy's messages apart (RFC 7252 sections 4.4, 5.3.1): a token is
+/// borne by one first sending of all, and an ID by one of those to a peer in 494 seconds.
+pub fn sendings_apart()
+    ensures tokens { TokensApart }
+    ensures ids { IdsApart }
+{}
+
+/// Each ask is answered at most once, and those of a connection in their order (RFC 9112 section 9.3).
+pub fn answered_in_order()
+    ensures in_order { AnsweredInOrder }
+    ensures once { AnsweredOnce }
+{}
+
+/// To one peer one message is outstanding (NSTART, RFC 7252 section 4.7). It is copied four times at
+/// most, and each copy goes out in the step of the first tick that finds it due (section 4.2).
+pub fn one_outstanding()
+    ensures one { OneOutstanding }
+    ensures few { FewCopies }
+    ensures in_time { CopiedInTime }
+    ensures none_left { NoneLeft }
+{}
+
+/// An exchange is open exactly if it was opened and has not ended, and it ends at the first entry that
+/// ends it.
+pub fn open_exactly()
+    ensures open_ones { OpenExactly }
+    ensures first { EndsFirst }
+{}
+
+/// A reply came after the first sending that it replies to, from its peer, under its token, and is no
+/// repeat (RFC 7252 sections 4.5, 5.3.2).
+pub fn replies_fit()
+    ensures { RepliesFit }
+{}
+
+/// An answer rests on replies to its own ask alone, which came to messages that ask just what it means,
+/// sent after it; so no answer to a GET is older than a write to its resource that had ended when it was
+/// asked.
+pub fn rests_on_its_own()
+    ensures own { RestsOnItsOwn }
+    ensures outrun { NothingOutrun }
+{}
+
+/// Each ask opens one exchange with one message, which goes out once (RFC 7252 section 4.5 is why no
+/// request may go twice) and waits only while another is outstanding at its peer; or it opens none and
+/// is answered in its own step. Nothing else is sent but equal copies, ACKs and RSTs.
+pub fn asked_once()
+    ensures asked { AskedOnce }
+    ensures sent { SentAtOnce }
+    ensures answered { AnsweredAtOnce }
+    ensures nothing_else { NothingElseSent }
+{}

@@ -1,0 +1,40 @@
+//! Worked journals: each is legal and at rest, or, where it is spoiled in one entry, not legal.
+
+ghost use Rattle.history_laws.specs.Worked.{Holds, Refused};
+ghost use Rattle.history_laws.specs.WorkedEndings as E;
+ghost use Rattle.history_laws.specs.WorkedMessages as M;
+ghost use Rattle.history_laws.specs.WorkedSpoiled as S;
+
+/// Copies, an empty ACK, a separate response, its repeat, a message that waits, deadlines.
+pub fn worked_messages()
+    ensures answered { Holds M.all_answered }
+    ensures given_up { Holds M.given_up }
+    ensures copied_early { Refused M.copied_early }
+    ensures not_waited { Refused M.not_waited }
+    ensures not_acknowledged { Refused M.not_acknowledged }
+    ensures not_copied { Refused M.not_copied }
+{}
+
+/// A response in a NON, a Reset message, and five sendings with no reply.
+pub fn worked_endings()
+    ensures rejected { Holds E.rejected }
+    ensures timed_out { Holds E.timed_out }
+{}
+
+/// What goes out wrongly: too often, under another or a used message ID, or before its turn.
+pub fn spoiled_sendings()
+    ensures sixth { Refused S.sent_six_times }
+    ensures renumbered { Refused S.renumbered }
+    ensures overtaken { Refused S.overtaken }
+    ensures used_again { Refused S.used_again }
+{}
+
+/// What is heard or answered wrongly: a repeat as a new message, a Reset message after an ACK, a 504
+/// too early, a reply to another request. And a journal that is sealed where there is room.
+pub fn spoiled_answers()
+    ensures heard_as_new { Refused S.heard_as_new }
+    ensures rejected_late { Refused S.rejected_late }
+    ensures timed_out_early { Refused S.timed_out_early }
+    ensures crossed { Refused S.crossed }
+    ensures sealed_early { Refused S.sealed_early }
+{}

@@ -1,0 +1,183 @@
+-- After the message that waits first is sent, the link agrees.
+use Rattle.std.proofs.Common.{◌≡◌, ℕ, ◌<◌, ◌≤◌, ◌+◌, Bool, true, false, cond, eqb, inl, inr, List, [], ◌∷◌, ◌++◌, length, Option, Some, None, refl, sym, ap, subst, ◌∙◌, arith}
+use Rattle.std.specs.Prelude.{count_by, ◌&&◌, ◌||◌, option_and_then}
+use Rattle.std.specs.List.{AllByRecursion, list_any}
+use Rattle.std.specs.Str.{bytes_eq}
+use Rattle.std.proofs.lemmas.List.Folds.{list_any-append}
+use Rattle.std.proofs.lemmas.Bool.Decides.{eqb_tells}
+use Rattle.std.proofs.lemmas.Slice.Eq.{bytes_eq-Decides}
+use Rattle.coap_codec.specs.Spelling.{Content}
+use Rattle.uri_map.specs.declared.peer.Peer.{Peer}
+use Rattle.ask_model.proofs.Endpoints.{same_peer-itself}
+use Rattle.history_laws.specs.Numbering.{token_number}
+use Rattle.message_layer.specs.Mids.{is_in_use}
+use Rattle.message_layer.specs.Hearing.{is_awaited, is_awaited_by_ack}
+use Rattle.message_layer.specs.Sending.{first_sent}
+use Rattle.message_layer.specs.declared.state.Waiting.{Waiting}
+use Rattle.message_layer.specs.declared.state.Awaited.{Awaited}
+use Rattle.message_layer.specs.declared.state.Outstanding.{Outstanding}
+use Rattle.history_laws.specs.Readings.{Noted, First, newest}
+use Rattle.history_laws.specs.Transmissions.{FirstSending, firsts, first_at, last_sent, if_outstanding, is_recent, mids_used, transmission}
+use Rattle.history_laws.specs.Exchanges.{openings, waits_for, awaited, is_waiting, waiting}
+use Rattle.history_laws.specs.Hearing.{went_under, went_as}
+use Rattle.history_laws.proofs.Places.{at-new}
+use Rattle.history_links.specs.Agrees.{rank, way_of, IsOut, firsts_to, CountUp, IsWaitingFor, WaitIn, awaits, awaits_ack}
+use Rattle.history_links.specs.Steps.{NextFollows}
+use Rattle.history_links.proofs.Facts.{Rising, rising-filter, openings-rising, waits-below, waiting-unsent}
+use Rattle.history_links.proofs.Mids.{count-cons}
+use Rattle.history_links.proofs.Ranks.{rank-keeps, rank-apart}
+use Rattle.history_laws.proofs.Facts.{eqb-itself}
+use Rattle.history_links.proofs.Still.{waits-one, heard-still}
+use Rattle.history_links.proofs.Copying.{is-outstanding, unheard-sent}
+use Rattle.history_links.proofs.Sending.{head, head-waits, has-next, next-small, message-of, may-be-first}
+use Rattle.history_links.proofs.Sent.{sent, taken-away, waiting-sent, not-waiting, waits-sent, one-awaited, is-among, count-push, in-use-recent}
+
+-- those that wait still
+
+other-token : (a b : List ℕ) → token_number a < token_number b → bytes_eq a b ≡ false
+other-token a b lt = by (bytes_eq a b) refl
+  where
+    by : (v : Bool) → bytes_eq a b ≡ v → v ≡ false
+    by true e = let same = ap token_number ((bytes_eq-Decides a b).0 e) in absurd (omega (arith, lt, same))
+    by false e = refl
+
+still-waits : (l : List Noted) (t : ℕ) (p r : Peer) (b : List ℕ) (w : Option ℕ) (o : ℕ) (v : Waiting) (mine : IsWaitingFor l o v) (m : Content) → m.token ≡ v.token
+    → (os : List ℕ) (ws : List Waiting) → AllByRecursion (λ (q : ℕ). o < q) os → WaitIn l os ws → WaitIn (sent t p b w o m ∷ l) os ws
+still-waits l t p r b w o v mine m e [] [] a i = i
+still-waits l t p r b w o v mine m e [] (x ∷ ws) a i = i
+still-waits l t p r b w o v mine m e (q ∷ os) [] a i = i
+still-waits l t p r b w o v mine m e (q ∷ os) (x ∷ ws) a i =
+    let less : rank l o < rank l q = rank-apart l o q _ _ mine.opening i.0.opening a.0 in
+    let numbers : token_number m.token < token_number x.token =
+    let d = ap token_number e in let f = mine.numbered in let g = i.0.numbered in omega (arith, less, d, f, g) in (
+      waits-one l (sent t p b w o m ∷ l) q x (λ k c e. (e, rank-keeps (sent t p b w o m) l k c e)) (λ e. rw (other-token m.token x.token numbers) e) i.0,
+      still-waits l t p r b w o v mine m e os ws a.1 i.1,
+    )
+
+-- the history after it, and what it says
+
+abbrev pub first-of : (l : List Noted) (t o : ℕ) (p : Peer) (m : Content) → FirstSending
+first-of l t o p m = record { number = length l; moment = t; opening = o; peer = p; message = m }
+
+last-sent : (l : List Noted) (t : ℕ) (p : Peer) (b : List ℕ) (w : Option ℕ) (o : ℕ) (m : Content)
+    → last_sent (sent t p b w o m ∷ l) p ≡ Some (record { number = length l; moment = t; opening = o; peer = p; message = m })
+last-sent l t p b w o m = rw (same_peer-itself p) refl
+
+sent-out : (l : List Noted) (t : ℕ) (p : Peer) (m : Content) (o : ℕ) (x : Outstanding) → x.token ≡ m.token → x.mid ≡ m.mid → x.sent ≡ t → x.retransmissions ≡ 0
+    → IsOut (sent t p x.datagram (Some x.timeout) o m ∷ l) p x
+sent-out l t p m o x token mid moment none =
+    let n = sent t p x.datagram (Some x.timeout) o m ∷ l in
+    let way : transmission n (length l) ≡ Some (way_of x) = rw (eqb-itself (length l), moment, none) refl in
+    let f : FirstSending = record { number = length l; moment = t; opening = o; peer = p; message = m } in
+    record {
+      first = f;
+      timeout = Some x.timeout;
+      stands = at-new (sent t p x.datagram (Some x.timeout) o m) l;
+      is = subst (λ (v : Option FirstSending). option_and_then (if_outstanding n) v ≡ Some f) (sym (last-sent l t p x.datagram (Some x.timeout) o m)) (is-outstanding n f (way_of x) way);
+      way = way;
+      token = sym token;
+      mid = sym mid;
+    }
+
+counts-up : (l : List Noted) (t : ℕ) (p : Peer) (b : List ℕ) (w : Option ℕ) (o : ℕ) (m : Content) → CountUp (first-of l t o p m ∷ firsts_to l p)
+    → CountUp (firsts_to (sent t p b w o m ∷ l) p)
+counts-up l t p b w o m c = rw (same_peer-itself p) c
+
+recent-now : (l : List Noted) (t u : ℕ) (p : Peer) (o : ℕ) (m : Content) → t ≤ u
+    → is_recent u p (record { number = length l; moment = t; opening = o; peer = p; message = m }) ≡ is_in_use u t
+recent-now l t u p o m later = rw (same_peer-itself p) (sym (in-use-recent u t later))
+
+given-more : (l : List Noted) (t : ℕ) (p : Peer) (b : List ℕ) (w : Option ℕ) (o : ℕ) (m : Content) (given : List ℕ) → newest l ≤ t
+    → ((u : ℕ) → newest l ≤ u → count_by (is_in_use u) given ≡ mids_used l u p)
+    → (u : ℕ) → t ≤ u → count_by (is_in_use u) (given ++ t ∷ []) ≡ mids_used (sent t p b w o m ∷ l) u p
+given-more l t p b w o m given earlier a u later =
+    let f : FirstSending = record { number = length l; moment = t; opening = o; peer = p; message = m } in
+    count-push (is_in_use u) given t
+    ∙ (ap (λ (n : ℕ). cond (is_in_use u t) (1 + n) n) (a u (omega (arith, earlier, later)))
+    ∙ (ap (λ (c : Bool). cond c (1 + mids_used l u p) (mids_used l u p)) (sym (recent-now l t u p o m later))
+    ∙ sym (count-cons (is_recent u p) f (firsts l))))
+
+-- first sendings before it are found as they were
+older-first : (l : List Noted) (t : ℕ) (p : Peer) (b : List ℕ) (w : Option ℕ) (o : ℕ) (m : Content) (i : ℕ) → i < length l
+    → first_at (sent t p b w o m ∷ l) i ≡ first_at l i
+older-first l t p b w o m i lt = elim (eqb_tells (length l) i) [ inl e ↦ let same = e.1 in absurd (omega (arith, lt, same)) | inr e ↦ rw (e.0) refl ]
+
+newer-first : (l : List Noted) (t : ℕ) (p : Peer) (b : List ℕ) (w : Option ℕ) (o : ℕ) (m : Content)
+    → first_at (sent t p b w o m ∷ l) (length l) ≡ Some (record { number = length l; moment = t; opening = o; peer = p; message = m })
+newer-first l t p b w o m = rw (eqb-itself (length l)) refl
+
+or-none : (a : Bool) → (a || false) ≡ a
+or-none true = refl
+or-none false = refl
+
+and-turn : (a b : Bool) → (a && b) ≡ (b && a)
+and-turn true true = refl
+and-turn true false = refl
+and-turn false true = refl
+and-turn false false = refl
+
+-- what the link awaits more
+more-awaited : (test : Awaited → Bool) (awaited : List Awaited) (a : Awaited) → list_any test (awaited ++ a ∷ []) ≡ (list_any test awaited || test a)
+more-awaited test awaited a = list_any-append test awaited (a ∷ []) ∙ ap (λ (v : Bool). list_any test awaited || v) (or-none (test a))
+
+awaits-more : (l : List Noted) (t : ℕ) (p : Peer) (b : List ℕ) (w : Option ℕ) (o : ℕ) (m : Content) (others : List ℕ) → waiting l p ≡ o ∷ others
+    → is_waiting l p o ≡ true → (token : List ℕ) → awaits (sent t p b w o m ∷ l) p token ≡ (awaits l p token || bytes_eq m.token token)
+awaits-more l t p b w o m others e waits token =
+    let n = sent t p b w o m ∷ l in
+    one-awaited (λ (i : ℕ). went_under p token (first_at n i)) (λ (i : ℕ). went_under p token (first_at l i)) (waits_for n) (waits_for l) o (length l)
+    (waits-sent l t p b w o m) (waiting-unsent l p o waits)
+    (λ q i h. ap (went_under p token) (older-first l t p b w o m i (waits-below l q i h))) (openings l)
+    ∙ rw (is-among (is_waiting l p) o others (openings l) e, newer-first l t p b w o m, same_peer-itself p) refl
+
+acks-more : (l : List Noted) (t : ℕ) (p : Peer) (b : List ℕ) (w : Option ℕ) (o : ℕ) (m : Content) (others : List ℕ) → waiting l p ≡ o ∷ others
+    → is_waiting l p o ≡ true → (mid : ℕ) (token : List ℕ)
+    → awaits_ack (sent t p b w o m ∷ l) p mid token ≡ (awaits_ack l p mid token || (bytes_eq m.token token && eqb m.mid mid))
+acks-more l t p b w o m others e waits mid token =
+    let n = sent t p b w o m ∷ l in
+    one-awaited (λ (i : ℕ). went_under p token (first_at n i) && went_as p mid (first_at n i)) (λ (i : ℕ). went_under p token (first_at l i) && went_as p mid (first_at l i))
+    (waits_for n) (waits_for l) o (length l) (waits-sent l t p b w o m) (waiting-unsent l p o waits)
+    (λ q i h. ap (λ (f : Option FirstSending). went_under p token f && went_as p mid f) (older-first l t p b w o m i (waits-below l q i h))) (openings l)
+    ∙ rw (is-among (is_waiting l p) o others (openings l) e, newer-first l t p b w o m, same_peer-itself p) refl
+
+pub next-follows : NextFollows
+next-follows l t p s w ws b q small few free e =
+    let legal = b.legal in
+    let later = b.later in
+    let a = b.agrees in
+    let h = head l p s w ws a e in
+    let o = h.opening in
+    let m = message-of l o w h.waits s.last_mid in
+    let x = first_sent t s.last_mid w in
+    let waits = head-waits l p w ws h in
+    let rising : Rising (o ∷ h.others) = subst Rising h.is (rising-filter (is_waiting l p) (openings l) (openings-rising l)) in
+    let n = sent t p x.datagram (Some x.timeout) o m ∷ l in
+    let still : waiting n p ≡ h.others =
+    taken-away (is_waiting n p) (is_waiting l p) o h.others (waiting-sent l t p p x.datagram (Some x.timeout) o m)
+    (not-waiting l t p p x.datagram (Some x.timeout) o m) (openings l) (openings-rising l) h.is in (
+      o,
+      m,
+      waits,
+      h.waits,
+      refl,
+      record {
+        follows = (q.unsealed, (q.quiet, may-be-first l t p s w ws h legal a few free));
+        agrees = record {
+          turn = sent-out l t p m o x refl refl refl refl;
+          last = sym (ap (λ (v : Option FirstSending). option_mid v) (last-sent l t p x.datagram (Some x.timeout) o m));
+          count_up = counts-up l t p x.datagram (Some x.timeout) o m (next-small s.last_mid w.first_mid small, has-next l p s.last_mid w.first_mid a.last, a.count_up);
+          given = given-more l t p x.datagram (Some x.timeout) o m s.given later a.given;
+          waits = subst (λ (v : List ℕ). WaitIn n v ws) (sym still) (still-waits l t p p x.datagram (Some x.timeout) o w h.waits m refl h.others ws rising.0 h.more);
+          awaits = λ token. more-awaited (is_awaited token) s.awaited _ ∙ (ap (λ (v : Bool). v || bytes_eq w.token token) (a.awaits token) ∙ sym (awaits-more l t p x.datagram (Some x.timeout) o m h.others h.is waits token));
+          acks = λ mid token.
+              more-awaited (is_awaited_by_ack mid token) s.awaited _
+              ∙ (ap (λ (v : Bool). v || (eqb m.mid mid && bytes_eq w.token token)) (a.acks mid token)
+              ∙ (ap (λ (v : Bool). awaits_ack l p mid token || v) (and-turn (eqb m.mid mid) (bytes_eq w.token token))
+              ∙ sym (acks-more l t p x.datagram (Some x.timeout) o m h.others h.is waits mid token)));
+          heard = heard-still l n p s.heard (unheard-sent l t p p x.datagram (Some x.timeout) (First o m) later) a.heard;
+        };
+      },
+    )
+  where
+    option_mid : Option FirstSending → Option ℕ
+    option_mid None = None
+    option_mid (Some f) = Some f.message.mid

@@ -1,0 +1,161 @@
+-- An ask that opens an exchange puts its message behind those that wait.
+use Rattle.std.proofs.Common.{◌≡◌, ℕ, ◌<◌, ◌≤◌, ◌+◌, ◌-◌, Bool, true, false, cond, ltb, inl, inr, List, [], ◌∷◌, ◌++◌, length, Option, Some, None, refl, sym, ap, subst, ◌∙◌, arith}
+use Rattle.std.specs.Prelude.{filter, count_by, option_and_then}
+use Rattle.std.specs.List.{AllByRecursion, filter_map}
+use Rattle.std.proofs.lemmas.List.Sums.{length-filter}
+use Rattle.std.proofs.lemmas.Bool.{lt-ltb, ltb-true}
+use Rattle.std.proofs.lemmas.Bool.Decides.{eqb_tells}
+use Rattle.uri_map.specs.declared.peer.Peer.{Peer}
+use Rattle.ask_model.specs.Requests.{CoapRequest, same_peer}
+use Rattle.ask_model.specs.Views.{Ask}
+use Rattle.ask_model.proofs.Endpoints.{same_peer-itself}
+use Rattle.journal_book.specs.Entries.{Asks}
+use Rattle.message_layer.specs.Mids.{is_in_use, pruned}
+use Rattle.message_layer.specs.Sending.{waits}
+use Rattle.message_layer.specs.declared.state.Waiting.{Waiting}
+use Rattle.message_layer.specs.declared.state.Outstanding.{Outstanding}
+use Rattle.message_layer.proofs.Effects.{filter-kept}
+use Rattle.history_laws.specs.Readings.{Noted, Begins, at}
+use Rattle.history_laws.specs.Worked.{noted}
+use Rattle.history_laws.specs.Transmissions.{FirstSending, firsts, if_outstanding, transmission, last_sent}
+use Rattle.history_laws.specs.Exchanges.{begun, openings, waits_for, awaited, is_waiting, waiting}
+use Rattle.history_laws.specs.Justified.{Legal}
+use Rattle.history_laws.proofs.Places.{at-keeps, before-new}
+use Rattle.history_links.specs.Agrees.{TurnIn, IsWaitingFor, WaitIn}
+use Rattle.history_links.specs.Steps.{QueuedAgrees}
+use Rattle.history_links.proofs.Facts.{openings-below, all-more}
+use Rattle.history_laws.proofs.Sent.{begun-below}
+use Rattle.history_links.proofs.Ranks.{rank-keeps}
+use Rattle.history_laws.proofs.Facts.{eqb-itself}
+use Rattle.history_links.proofs.Still.{waits-all, heard-at, heard-still}
+use Rattle.history_links.proofs.Unbegun.{unbegun, not-yet}
+
+-- lists with one more
+
+filter-push : (f : ℕ → Bool) (xs : List ℕ) (x : ℕ) → f x ≡ true → filter f (xs ++ x ∷ []) ≡ filter f xs ++ x ∷ []
+filter-push f [] x e = rw (e) refl
+filter-push f (y ∷ xs) x e = by (f y) (filter-push f xs x e)
+  where
+    by : (b : Bool) → filter f (xs ++ x ∷ []) ≡ filter f xs ++ x ∷ [] → cond b (y ∷ filter f (xs ++ x ∷ [])) (filter f (xs ++ x ∷ [])) ≡ cond b (y ∷ filter f xs) (filter f xs) ++ x ∷ []
+    by true h = rw (h) refl
+    by false h = h
+
+pub filter-on : (f g : ℕ → Bool) (xs : List ℕ) → AllByRecursion (λ (x : ℕ). f x ≡ g x) xs → filter f xs ≡ filter g xs
+filter-on f g [] a = refl
+filter-on f g (x ∷ xs) a = rw (a.0, filter-on f g xs a.1) refl
+
+none-more : (f : ℕ → Option ℕ) (xs : List ℕ) (x : ℕ) → f x ≡ None → filter_map f (xs ++ x ∷ []) ≡ filter_map f xs
+none-more f [] x e = rw (e) refl
+none-more f (y ∷ xs) x e = by (f y) refl (none-more f xs x e)
+  where
+    by : (v : Option ℕ) → f y ≡ v → filter_map f (xs ++ x ∷ []) ≡ filter_map f xs → filter_map f (y ∷ xs ++ x ∷ []) ≡ filter_map f (y ∷ xs)
+    by None e h = rw (e) h
+    by (Some i) e h = rw (e, h) refl
+
+-- what is outstanding stays
+
+turn-by : (l n : List Noted) (last : Option FirstSending) → ((i : ℕ) → transmission n i ≡ transmission l i)
+    → option_and_then (if_outstanding n) last ≡ option_and_then (if_outstanding l) last
+turn-by l n None same = refl
+turn-by l n (Some f) same = rw (same f.number) refl
+
+pub turn-kept : (l n : List Noted) (p : Peer) (o : Option Outstanding) → ((i : ℕ) (x : Noted) → at l i ≡ Some x → at n i ≡ Some x) → firsts n ≡ firsts l
+    → ((i : ℕ) → transmission n i ≡ transmission l i) → TurnIn l p o → TurnIn n p o
+turn-kept l n p None stands firsts_are same a = rw (firsts_are) (turn-by l n (last_sent l p) same ∙ a)
+turn-kept l n p (Some o) stands firsts_are same a = record {
+  first = a.first;
+  timeout = a.timeout;
+  stands = stands a.first.number _ a.stands;
+  is = rw (firsts_are) (turn-by l n (last_sent l p) same ∙ a.is);
+  way = same a.first.number ∙ a.way;
+  token = a.token;
+  mid = a.mid;
+}
+
+-- moments of IDs that are in use no more
+
+still-in-use : (t u g : ℕ) → t ≤ u → is_in_use u g ≡ true → is_in_use t g ≡ true
+still-in-use t u g later e = let h = ltb-true (u - g) 494000 e in lt-ltb (t - g) 494000 (omega (arith, h, later))
+
+pub pruned-count : (t u n : ℕ) (given : List ℕ) → t ≤ u → count_by (is_in_use u) (pruned t n given) ≡ count_by (is_in_use u) given
+pruned-count t u n given later = by (ltb (length given + n) 32768)
+  where
+    by : (b : Bool) → count_by (is_in_use u) (cond b given (filter (is_in_use t) given)) ≡ count_by (is_in_use u) given
+    by true = refl
+    by false =
+        sym (length-filter (is_in_use u) (filter (is_in_use t) given))
+        ∙ (ap length (filter-kept (is_in_use u) (is_in_use t) (λ g e. still-in-use t u g later e) given) ∙ length-filter (is_in_use u) given)
+
+-- an ask that opens an exchange
+
+abbrev pub asked : ℕ → ℕ → Ask → CoapRequest → Noted
+asked t c a q = noted t (Asks c a) (Begins q)
+
+begun-other : (l : List Noted) (t c : ℕ) (a : Ask) (q : CoapRequest) (o : ℕ) → o < length l → begun (asked t c a q ∷ l) o ≡ begun l o
+begun-other l t c a q o lt = elim (eqb_tells (length l) o) [ inl e ↦ let same = e.1 in absurd (omega (arith, lt, same)) | inr e ↦ rw (e.0) refl ]
+
+pub begun-here : (l : List Noted) (t c : ℕ) (a : Ask) (q : CoapRequest) → begun (asked t c a q ∷ l) (length l) ≡ Some (record { since = t; request = q })
+begun-here l t c a q = rw (eqb-itself (length l)) refl
+
+pub others-wait : (l : List Noted) (t c : ℕ) (a : Ask) (q : CoapRequest) (p : Peer) (o : ℕ) → o < length l → is_waiting (asked t c a q ∷ l) p o ≡ is_waiting l p o
+others-wait l t c a q p o lt = rw (begun-other l t c a q o lt) refl
+
+it-waits : (l : List Noted) (t c : ℕ) (a : Ask) (q : CoapRequest) (p : Peer) → Legal l → q.peer ≡ p → is_waiting (asked t c a q ∷ l) p (length l) ≡ true
+it-waits l t c a q p legal to =
+    let none = unbegun l (length l) legal (not-yet l) in
+    let peer : same_peer q.peer p ≡ true = subst (λ (r : Peer). same_peer q.peer r ≡ true) to (same_peer-itself q.peer) in
+    rw (begun-here l t c a q, none.0, none.1) (rw (peer) refl)
+
+pub waits-more : (l : List Noted) (t c : ℕ) (a : Ask) (q : CoapRequest) (p : Peer) → Legal l → q.peer ≡ p → waiting (asked t c a q ∷ l) p ≡ waiting l p ++ length l ∷ []
+waits-more l t c a q p legal to =
+    let n = asked t c a q ∷ l in
+    filter-push (is_waiting n p) (openings l) (length l) (it-waits l t c a q p legal to)
+    ∙ ap (λ (v : List ℕ). v ++ length l ∷ [])
+    (filter-on (is_waiting n p) (is_waiting l p) (openings l) (all-more (λ (o : ℕ). o < length l) (λ (o : ℕ). is_waiting n p o ≡ is_waiting l p o) (others-wait l t c a q p) (openings l) (openings-below l)))
+
+wait-push : (n : List Noted) (os : List ℕ) (ws : List Waiting) (o : ℕ) (w : Waiting) → WaitIn n os ws → IsWaitingFor n o w → WaitIn n (os ++ o ∷ []) (ws ++ w ∷ [])
+wait-push n [] [] o w a i = (i, tt)
+wait-push n [] (v ∷ ws) o w a i = absurd a
+wait-push n (q ∷ os) [] o w a i = absurd a
+wait-push n (q ∷ os) (v ∷ ws) o w a i = (a.0, wait-push n os ws o w a.1 i)
+
+pub waits-on : (l : List Noted) (t c : ℕ) (a : Ask) (q : CoapRequest) (os : List ℕ) (ws : List Waiting) → WaitIn l os ws → WaitIn (asked t c a q ∷ l) os ws
+waits-on l t c a q os ws i =
+    waits-all l (asked t c a q ∷ l) (λ o b e. (begun-other l t c a q o (begun-below l o b e) ∙ e, rank-keeps (asked t c a q) l o b e)) refl os ws i
+
+pub awaited-same : (l : List Noted) (t c : ℕ) (a : Ask) (q : CoapRequest) → Legal l → awaited (asked t c a q ∷ l) ≡ awaited l
+awaited-same l t c a q legal = none-more (waits_for l) (openings l) (length l) (unbegun l (length l) legal (not-yet l)).0
+
+pub queued-agrees : QueuedAgrees
+queued-agrees l t p s c a q token text word b to spelled size apart number =
+    let legal = b.legal in
+    let later = b.later in
+    let g = b.agrees in
+    let n = asked t c a q ∷ l in
+    let w = waits token text word in
+    record {
+      turn = turn-kept l n p s.outstanding (λ i x e. at-keeps (asked t c a q) l i x e) refl (λ i. refl) g.turn;
+      last = g.last;
+      count_up = g.count_up;
+      given = λ u after. pruned-count t u (length s.waiting) s.given after ∙ g.given u (omega (arith, later, after));
+      waits = subst (λ (v : List ℕ). WaitIn n v (s.waiting ++ w ∷ [])) (sym (waits-more l t c a q p legal to))
+          (wait-push n (waiting l p) s.waiting (length l) w (waits-on l t c a q (waiting l p) s.waiting g.waits) record {
+            since = t;
+            request = q;
+            opening = begun-here l t c a q;
+            spelled = spelled;
+            token_size = size;
+            token_apart = apart;
+            numbered = number ∙ sym (ap (λ (h : List Noted). length (openings h)) (before-new (asked t c a q) l));
+            least = omega arith;
+            greatest = omega arith;
+          });
+      awaits = λ token. g.awaits token ∙ sym (rw (awaited-same l t c a q legal) refl);
+      acks = λ mid token. g.acks mid token ∙ sym (rw (awaited-same l t c a q legal) refl);
+      heard = heard-still l n p s.heard (record {
+        later = later;
+        before = λ u mid. refl;
+        live = λ u. refl;
+        below = λ u mid j e. heard-at (asked t c a q) l u p mid j e;
+      }) g.heard;
+    }

@@ -1,0 +1,256 @@
+-- After a new message, the link agrees, and it answers what the message asks for.
+use Rattle.std.proofs.Common.{◌≡◌, ℕ, ◌≤◌, Bool, true, false, cond, eqb, leb, ltb, List, [], ◌∷◌, Option, Some, None, refl, sym, ap, subst, ◌∙◌, arith}
+use Rattle.std.specs.Prelude.{◌&&◌, ◌||◌, not, is_some, option_and_then, count_by}
+use Rattle.std.specs.List.{find, list_any}
+use Rattle.std.specs.Str.{bytes_eq}
+use Rattle.std.proofs.lemmas.Bool.{false≢true}
+use Rattle.limits.specs.declared.TheConstants.{MAX_REMEMBERED}
+use Rattle.coap_codec.specs.declared.message.MsgType.{MsgType}
+use Rattle.coap_codec.specs.declared.message.MsgType.TheVariants.{Con, Non, Ack, Rst}
+use Rattle.coap_codec.specs.Spelling.{Content}
+use Rattle.coap_codec.specs.Recognition.{is_rejected}
+use Rattle.uri_map.specs.declared.peer.Peer.{Peer}
+use Rattle.history_laws.specs.Confirmations.{answer_by}
+use Rattle.message_layer.specs.Values.{LinkState}
+use Rattle.message_layer.specs.Hearing.{is_fresh, is_repeat, is_awaited, is_awaited_by_ack, answered_in, remembered_in, new_verdict, heard_verdict, verdict_by, verdict_of}
+use Rattle.message_layer.specs.declared.state.Heard.{Heard}
+use Rattle.message_layer.specs.declared.state.Awaited.{Awaited}
+use Rattle.message_layer.specs.declared.state.Outstanding.{Outstanding}
+use Rattle.message_layer.specs.declared.state.Waiting.{Waiting}
+use Rattle.message_layer.specs.declared.state.Reply.TheVariants as R
+use Rattle.message_layer.specs.declared.verdict.News.{News}
+use Rattle.message_layer.specs.declared.verdict.News.TheVariants.{Quiet, Response, Reset, Lost}
+use Rattle.message_layer.specs.declared.verdict.Verdict.{Verdict}
+use Rattle.message_layer.proofs.AwaitTable.{news-awaited, news-acks, expected-awaited, expected-acks}
+use Rattle.history_laws.specs.Readings.{Noted, Unobserved, newest}
+use Rattle.history_laws.specs.Transmissions.{FirstSending, Transmission, first_at, last_sent, transmission, if_outstanding, outstanding}
+use Rattle.history_laws.specs.Exchanges.{openings, waits_for, awaited, is_waiting, waiting}
+use Rattle.history_laws.specs.Hearing.{is_such, heard_before, live_heard, repeated, can_be_remembered, went_under, went_as, answers_by, answers}
+use Rattle.history_laws.specs.Justified.{Legal}
+use Rattle.history_laws.proofs.Places.{at-keeps}
+use Rattle.history_links.specs.Agrees.{way_of, due, IsOut, TurnIn, WaitIn, HeardIn, Agrees}
+use Rattle.history_links.specs.Steps.{ended_token, unawaited, heard_link, SaysAgrees}
+use Rattle.history_laws.proofs.Resting.{first as and-left}
+use Rattle.history_links.proofs.Ranks.{rank-keeps}
+use Rattle.history_laws.proofs.Facts.{eqb-itself}
+use Rattle.history_links.proofs.Still.{waits-all, filter-same, heard-at, heard-still}
+use Rattle.history_links.proofs.Copying.{is-last, is-outstanding}
+use Rattle.history_links.proofs.Repeating.{due-given, confirming-by, found-reply}
+use Rattle.history_links.proofs.Remembering.{remembers, none-before}
+use Rattle.history_links.proofs.Replying.{says, is_to, ends_what, way-after, waits-after, waiting-after, awaited-after}
+use Rattle.history_links.proofs.Judging.{is_ended, Judged}
+use Rattle.history_links.proofs.OwnMessages.{IsOwn, accepts, empties, own-judged}
+use Rattle.history_links.proofs.Acknowledgements.{ack-judged, rst-judged}
+
+-- who is awaited
+
+or-last : (b x : Bool) → cond b false x ≡ (not b && x)
+or-last true x = refl
+or-last false x = refl
+
+pub link-awaits : (news : News) (m : Content) (token : List ℕ) (xs : List Awaited)
+    → list_any (is_awaited token) (unawaited (ended_token news m.token) (answered_in m.token news xs)) ≡ (not (is_ended (ended_token news m.token) token) && list_any (is_awaited token) xs)
+link-awaits Quiet m token xs = refl
+link-awaits Lost m token xs = refl
+link-awaits Response m token xs =
+    expected-awaited m.token token false (answered_in m.token Response xs)
+    ∙ (ap (cond (bytes_eq token m.token) false) (news-awaited Response m token xs) ∙ or-last (bytes_eq token m.token) (list_any (is_awaited token) xs))
+link-awaits (Reset of) m token xs = expected-awaited of token false xs ∙ or-last (bytes_eq token of) (list_any (is_awaited token) xs)
+
+pub link-acks : (news : News) (m : Content) (mid : ℕ) (token : List ℕ) (xs : List Awaited)
+    → list_any (is_awaited_by_ack mid token) (unawaited (ended_token news m.token) (answered_in m.token news xs))
+    ≡ (not (is_ended (ended_token news m.token) token) && list_any (is_awaited_by_ack mid token) xs)
+link-acks Quiet m mid token xs = refl
+link-acks Lost m mid token xs = refl
+link-acks Response m mid token xs =
+    expected-acks m.token token mid false (answered_in m.token Response xs)
+    ∙ (ap (λ (v : Bool). v && not (bytes_eq token m.token)) (news-acks Response m mid token xs) ∙ by (list_any (is_awaited_by_ack mid token) xs) (bytes_eq token m.token))
+  where
+    by : (x b : Bool) → ((x && not b) && not b) ≡ (not b && x)
+    by true true = refl
+    by true false = refl
+    by false true = refl
+    by false false = refl
+link-acks (Reset of) m mid token xs = expected-acks of token mid false xs ∙ by (list_any (is_awaited_by_ack mid token) xs) (bytes_eq token of)
+  where
+    by : (x b : Bool) → (x && not b) ≡ (not b && x)
+    by true true = refl
+    by true false = refl
+    by false true = refl
+    by false false = refl
+
+-- A test that is the same for all that pass another can be asked once.
+pub asked-once : (f g : ℕ → Bool) (c : Bool) (xs : List ℕ) → ((i : ℕ) → list_any (eqb i) xs ≡ true → f i ≡ true → g i ≡ c)
+    → list_any (λ (i : ℕ). not (g i) && f i) xs ≡ (not c && list_any f xs)
+asked-once f g c [] same = by c
+  where
+    by : (c : Bool) → false ≡ (not c && false)
+    by true = refl
+    by false = refl
+asked-once f g c (x ∷ xs) same = by (f x) refl (asked-once f g c xs (λ i e h. same i (or-right (eqb i x) _ e) h))
+  where
+    or-right : (a b : Bool) → b ≡ true → (a || b) ≡ true
+    or-right true b e = refl
+    or-right false b e = e
+
+    and-false : (b : Bool) → (b && false) ≡ false
+    and-false true = refl
+    and-false false = refl
+
+    here : (a b : Bool) → a ≡ true → (a || b) ≡ true
+    here true b e = refl
+    here false b e = absurd (false≢true e)
+
+    taken : (c r : Bool) → ((not c && true) || (not c && r)) ≡ (not c && true)
+    taken true r = refl
+    taken false r = refl
+
+    by : (b : Bool) → f x ≡ b → list_any (λ (i : ℕ). not (g i) && f i) xs ≡ (not c && list_any f xs)
+        → ((not (g x) && f x) || list_any (λ (i : ℕ). not (g i) && f i) xs) ≡ (not c && (f x || list_any f xs))
+    by true e ih = rw (e, same x (here (eqb x x) _ (eqb-itself x)) e, ih) (taken c (list_any f xs))
+    by false e ih = rw (e, ih, and-false (not (g x))) refl
+
+-- what waits, and what is outstanding
+
+pub waits-on : (l : List Noted) (t : ℕ) (p : Peer) (d : List ℕ) (m : Content) (to : Option ℕ) (os : List ℕ) (ws : List Waiting) → WaitIn l os ws → WaitIn (says t p d m to ∷ l) os ws
+waits-on l t p d m to os ws i = waits-all l (says t p d m to ∷ l) (λ o b e. (e, rank-keeps (says t p d m to) l o b e)) refl os ws i
+
+pub none-out : (l n : List Noted) (last : Option FirstSending) → ((i : ℕ) → transmission l i ≡ None → transmission n i ≡ None)
+    → option_and_then (if_outstanding l) last ≡ None → option_and_then (if_outstanding n) last ≡ None
+none-out l n None gone e = refl
+none-out l n (Some f) gone e = by (transmission l f.number) refl (transmission n f.number) refl
+  where
+    some-none : Some f ≡ None → ⊥
+    some-none e = cc
+
+    by : (v : Option Transmission) → transmission l f.number ≡ v → (w : Option Transmission) → transmission n f.number ≡ w → if_outstanding n f ≡ None
+    by None h None k = rw (k) refl
+    by None h (Some y) k = absurd (not-both (sym k ∙ gone f.number h))
+      where
+        not-both : Some y ≡ None → ⊥
+        not-both e = cc
+    by (Some x) h w k = absurd (some-none (sym (is-out h) ∙ e))
+      where
+        is-out : transmission l f.number ≡ Some x → if_outstanding l f ≡ Some f
+        is-out h = rw (h) refl
+
+turn-after : (l : List Noted) (t : ℕ) (p : Peer) (s : LinkState) (d : List ℕ) (m : Content) (to : Option ℕ) (v : Verdict) → Judged l p s m to v → Agrees l p s
+    → TurnIn (says t p d m to ∷ l) p (cond v.ends None s.outstanding)
+turn-after l t p s d m to v j a = by s.outstanding refl a.turn
+  where
+    gone : (i : ℕ) → transmission l i ≡ None → transmission (says t p d m to ∷ l) i ≡ None
+    gone i e = way-after l t p d m to i ∙ rw (e) (both (is_to to i))
+      where
+        both : (b : Bool) → cond {A = Option Transmission} b None None ≡ None
+        both true = refl
+        both false = refl
+
+    over : outstanding l p ≡ None → outstanding (says t p d m to ∷ l) p ≡ None
+    over e = none-out l (says t p d m to ∷ l) (last_sent l p) gone e
+
+    last : (o : Outstanding) (b : IsOut l p o) → last_sent l p ≡ Some b.first
+    last o b = is-last l p (last_sent l p) b.first b.is
+
+    given_up : (o : Outstanding) (b : IsOut l p o) → is_to to b.first.number ≡ true → outstanding (says t p d m to ∷ l) p ≡ None
+    given_up o b e =
+        let none : transmission (says t p d m to ∷ l) b.first.number ≡ None = way-after l t p d m to b.first.number ∙ rw (e) refl in
+        subst (λ (w : Option FirstSending). option_and_then (if_outstanding (says t p d m to ∷ l)) w ≡ None) (sym (last o b)) (rw (none) refl)
+
+    goes_on : (o : Outstanding) (b : IsOut l p o) → is_to to b.first.number ≡ false → IsOut (says t p d m to ∷ l) p o
+    goes_on o b e =
+        let way : transmission (says t p d m to ∷ l) b.first.number ≡ Some (way_of o) = way-after l t p d m to b.first.number ∙ rw (e) b.way in
+        record {
+          first = b.first;
+          timeout = b.timeout;
+          stands = at-keeps (says t p d m to) l b.first.number _ b.stands;
+          is = subst (λ (w : Option FirstSending). option_and_then (if_outstanding (says t p d m to ∷ l)) w ≡ Some b.first) (sym (last o b)) (is-outstanding (says t p d m to ∷ l) b.first (way_of o) way);
+          way = way;
+          token = b.token;
+          mid = b.mid;
+        }
+
+    ends : (e : Bool) (o : Outstanding) (b : IsOut l p o) → e ≡ is_to to b.first.number → TurnIn (says t p d m to ∷ l) p (cond e None (Some o))
+    ends true o b e = given_up o b (sym e)
+    ends false o b e = goes_on o b (sym e)
+
+    none : (e : Bool) → outstanding (says t p d m to ∷ l) p ≡ None → TurnIn (says t p d m to ∷ l) p (cond e None None)
+    none true h = h
+    none false h = h
+
+    by : (o : Option Outstanding) → s.outstanding ≡ o → TurnIn l p o → TurnIn (says t p d m to ∷ l) p (cond v.ends None o)
+    by None is b = none v.ends (over b)
+    by (Some o) is b = ends v.ends o b (j.ends o b is)
+
+heard-after : (l : List Noted) (t : ℕ) (p : Peer) (s : LinkState) (d : List ℕ) (m : Content) (to : Option ℕ) (v : Verdict) → newest l ≤ t → Judged l p s m to v → HeardIn l p s.heard
+    → repeated l t p m ≡ None → HeardIn (says t p d m to ∷ l) p (remembered_in t m.mid v.reply v.remembered s.heard)
+heard-after l t p s d m to v later j h none = by (is_such m.kind) refl
+  where
+    by : (b : Bool) → is_such m.kind ≡ b → HeardIn (says t p d m to ∷ l) p (remembered_in t m.mid v.reply v.remembered s.heard)
+    by true e =
+        let unheard : heard_before l t p m.mid ≡ None = subst (λ (b : Bool). cond b (heard_before l t p m.mid) None ≡ None) e none in
+        subst (λ (b : Bool). HeardIn (says t p d m to ∷ l) p (remembered_in t m.mid v.reply b s.heard)) (sym (j.remembered ∙ e))
+        (remembers l t p d m to Unobserved v.reply s.heard later h e unheard j.reply)
+    by false e =
+        subst (λ (b : Bool). HeardIn (says t p d m to ∷ l) p (remembered_in t m.mid v.reply b s.heard)) (sym (j.remembered ∙ e))
+        (heard-still l (says t p d m to ∷ l) p s.heard (record {
+          later = later;
+          before = λ u mid. rw (e) refl;
+          live = λ u. rw (e) refl;
+          below = λ u mid i f. heard-at (says t p d m to) l u p mid i f;
+        }) h)
+
+pub after-judged : (l : List Noted) (t : ℕ) (p : Peer) (s : LinkState) (d : List ℕ) (m : Content) (to : Option ℕ) (v : Verdict) → newest l ≤ t → Judged l p s m to v → Agrees l p s
+    → repeated l t p m ≡ None → Agrees (says t p d m to ∷ l) p (heard_link t m.mid m.token v s)
+after-judged l t p s d m to v later j a none =
+    let n = says t p d m to ∷ l in
+    record {
+      turn = turn-after l t p s d m to v j a;
+      last = a.last;
+      count_up = a.count_up;
+      given = λ u after. a.given u (omega (arith, later, after));
+      waits = subst (λ (w : List ℕ). WaitIn n w s.waiting) (sym (filter-same (is_waiting n p) (is_waiting l p) (waiting-after l t p p d m to) (openings l)))
+          (waits-on l t p d m to (waiting l p) s.waiting a.waits);
+      awaits = λ token.
+          link-awaits v.news m token s.awaited
+          ∙ (ap (λ (b : Bool). not (is_ended (ended_token v.news m.token) token) && b) (a.awaits token)
+          ∙ (sym (asked-once (λ (i : ℕ). went_under p token (first_at l i)) (ends_what to m) (is_ended (ended_token v.news m.token) token) (awaited l) (λ i e h. j.awaits i token e h))
+          ∙ sym (awaited-after (λ (i : ℕ). went_under p token (first_at l i)) to m (waits_for n) (waits_for l) (waits-after l t p d m to) (openings l))));
+      acks = λ mid token.
+          link-acks v.news m mid token s.awaited
+          ∙ (ap (λ (b : Bool). not (is_ended (ended_token v.news m.token) token) && b) (a.acks mid token)
+          ∙ (sym (asked-once (λ (i : ℕ). went_under p token (first_at l i) && went_as p mid (first_at l i)) (ends_what to m) (is_ended (ended_token v.news m.token) token) (awaited l)
+          (λ i e h. j.awaits i token e (and-left (went_under p token (first_at l i)) _ h)))
+          ∙ sym (awaited-after (λ (i : ℕ). went_under p token (first_at l i) && went_as p mid (first_at l i)) to m (waits_for n) (waits_for l) (waits-after l t p d m to) (openings l))));
+      heard = heard-after l t p s d m to v later j a.heard none;
+    }
+
+-- what is judged of each kind
+
+own-of : (l : List Noted) (t : ℕ) (p : Peer) (s : LinkState) (m : Content) (k : MsgType) → newest l ≤ t → Legal l → Agrees l p s → m.kind ≡ k → IsOwn k → is_such k ≡ true
+    → repeated l t p m ≡ None → can_be_remembered l t p m ≡ true → (confirms : Bool) → accepts k ≡ cond confirms R.Ack R.Nothing → empties k ≡ cond confirms R.Rst R.Nothing
+    → Judged l p s m (answers_by l p m k (eqb m.code 0) (leb 32 m.code)) (heard_verdict t s m confirms (find (is_repeat t m.mid) s.heard))
+own-of l t p s m k later legal a kind own such none room confirms accepted emptied =
+    let is_such_one : is_such m.kind ≡ true = ap is_such kind ∙ such in
+    let unheard : heard_before l t p m.mid ≡ None = subst (λ (b : Bool). cond b (heard_before l t p m.mid) None ≡ None) is_such_one none in
+    let not_found : find (is_repeat t m.mid) s.heard ≡ None = none-before (λ (h : Heard). h.reply) _ (found-reply l t p m.mid s.heard (find (is_repeat t m.mid) s.heard) None refl unheard a.heard later) in
+    let few : ltb (count_by (is_fresh t) s.heard) 1024 ≡ true = ap (λ (n : ℕ). ltb n 1024) (a.heard.live t later) ∙ subst (λ (b : Bool). (not b || ltb (live_heard l t p) MAX_REMEMBERED) ≡ true) is_such_one room in
+    let judged = own-judged l p s m legal a (subst IsOwn (sym kind) own) in
+    let for_kind : Judged l p s m (answers_by l p m k (eqb m.code 0) (leb 32 m.code)) (new_verdict s m (accepts k) (empties k)) =
+    subst (λ (k : MsgType). Judged l p s m (answers_by l p m k (eqb m.code 0) (leb 32 m.code)) (new_verdict s m (accepts k) (empties k))) kind judged in
+    rw (not_found, few, ← accepted, ← emptied) for_kind
+
+pub judge : (l : List Noted) (t : ℕ) (p : Peer) (s : LinkState) (m : Content) (k : MsgType) → newest l ≤ t → Legal l → Agrees l p s → m.kind ≡ k
+    → repeated l t p m ≡ None → can_be_remembered l t p m ≡ true
+    → Judged l p s m (answers_by l p m k (eqb m.code 0) (leb 32 m.code)) (verdict_by t s m k)
+judge l t p s m Con later legal a kind none room = own-of l t p s m Con later legal a kind tt refl none room true refl refl
+judge l t p s m Non later legal a kind none room = own-of l t p s m Non later legal a kind tt refl none room false refl refl
+judge l t p s m Ack later legal a kind none room = ack-judged l p s m legal a kind
+judge l t p s m Rst later legal a kind none room = rst-judged l p s m legal a kind
+
+pub says-agrees : SaysAgrees
+says-agrees l t p s d m b none room =
+    let judged = judge l t p s m m.kind b.later b.legal b.agrees refl none room in
+    record {
+      agrees = after-judged l t p s d m (answers l p m) (verdict_of t s m) b.later judged b.agrees none;
+      owes = sym (ap (due p m.mid) judged.reply ∙ due-given p m.mid (answer_by m.kind (is_some (answers l p m)) (is_rejected m) (eqb m.code 0)) (confirming-by m.kind (is_some (answers l p m)) (is_rejected m) (eqb m.code 0)));
+    }

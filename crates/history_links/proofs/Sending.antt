@@ -1,0 +1,101 @@
+-- The message that waits first may follow, where nothing is outstanding.
+use Rattle.std.proofs.Common.{◌≡◌, ℕ, ◌<◌, ◌+◌, ◌%◌, ◌⊎◌, inl, inr, Bool, true, false, cond, List, [], ◌∷◌, Option, Some, None, refl, sym, ap, subst, ◌∙◌, arith}
+use Rattle.std.specs.Prelude.{filter, option_map}
+use Rattle.std.specs.List.{AllByRecursion, find}
+use Rattle.limits.specs.declared.TheConstants.{MAX_MESSAGE_IDS}
+use Rattle.coap_codec.specs.Spelling.{Content}
+use Rattle.uri_map.specs.declared.peer.Peer.{Peer}
+use Rattle.ask_model.specs.Requests.{same_peer, request_message}
+use Rattle.ask_model.proofs.Endpoints.{same_peer-same}
+use Rattle.message_layer.specs.Values.{LinkState}
+use Rattle.message_layer.specs.Sending.{next_mid, first_sent}
+use Rattle.message_layer.specs.declared.state.Waiting.{Waiting}
+use Rattle.message_layer.proofs.Sendings.{sent-spells}
+use Rattle.history_laws.specs.Readings.{Noted}
+use Rattle.history_laws.specs.Transmissions.{FirstSending, firsts, last_sent, mids_used}
+use Rattle.history_laws.specs.Exchanges.{Begun, begun, openings, goes_to, is_waiting, waiting}
+use Rattle.history_laws.specs.Justified.{Legal, MayBeFirst}
+use Rattle.history_links.specs.Agrees.{TurnIn, firsts_to, HasMid, IsWaitingFor, WaitIn, Agrees}
+use Rattle.history_laws.proofs.Resting.{first as and-left}
+use Rattle.history_links.proofs.Facts.{all-passes, waiting-goes, unreplied, first-waiting}
+use Rattle.history_links.proofs.Mids.{mid-apart}
+
+-- the first that waits
+
+pub record Head (l : List Noted) (os : List ℕ) (w : Waiting) (ws : List Waiting) : Type 0 where
+  pub opening : ℕ
+  pub others : List ℕ
+  pub is : os ≡ opening ∷ others
+  pub waits : IsWaitingFor l opening w
+  pub more : WaitIn l others ws
+
+head-of : (l : List Noted) (os : List ℕ) (w : Waiting) (ws : List Waiting) → WaitIn l os (w ∷ ws) → Head l os w ws
+head-of l [] w ws a = absurd a
+head-of l (o ∷ os) w ws a = record { opening = o; others = os; is = refl; waits = a.0; more = a.1 }
+
+pub head : (l : List Noted) (p : Peer) (s : LinkState) (w : Waiting) (ws : List Waiting) → Agrees l p s → s.waiting ≡ w ∷ ws → Head l (waiting l p) w ws
+head l p s w ws a e = head-of l (waiting l p) w ws (subst (WaitIn l (waiting l p)) e a.waits)
+
+pub head-waits : (l : List Noted) (p : Peer) (w : Waiting) (ws : List Waiting) (h : Head l (waiting l p) w ws) → is_waiting l p h.opening ≡ true
+head-waits l p w ws h =
+    let all : AllByRecursion (λ (q : ℕ). is_waiting l p q ≡ true) (h.opening ∷ h.others) =
+    subst (λ (v : List ℕ). AllByRecursion (λ (q : ℕ). is_waiting l p q ≡ true) v) h.is (all-passes (is_waiting l p) (openings l)) in
+    all.0
+
+-- its ID is the next one
+
+pub found : {X : Type 0} (q : X → Bool) (xs : List X) → ((filter q xs ≡ []) × (find q xs ≡ None)) ⊎ ((x : X) × (ys : List X) × (filter q xs ≡ x ∷ ys) × (find q xs ≡ Some x))
+found q [] = inl (refl, refl)
+found {X = X} q (x ∷ xs) = by (q x) (found q xs)
+  where
+    by : (b : Bool) → ((filter q xs ≡ []) × (find q xs ≡ None)) ⊎ ((y : X) × (ys : List X) × (filter q xs ≡ y ∷ ys) × (find q xs ≡ Some y))
+        → ((cond b (x ∷ filter q xs) (filter q xs) ≡ []) × (cond b (Some x) (find q xs) ≡ None)) ⊎ ((y : X) × (ys : List X) × (cond b (x ∷ filter q xs) (filter q xs) ≡ y ∷ ys) × (cond b (Some x) (find q xs) ≡ Some y))
+    by true h = inr (x, filter q xs, refl, refl)
+    by false h = h
+
+pub has-next : (l : List Noted) (p : Peer) (last : Option ℕ) (first : ℕ) → last ≡ option_map (λ (f : FirstSending). f.message.mid) (last_sent l p)
+    → HasMid (next_mid last first) (firsts_to l p)
+has-next l p last first e =
+    elim (found (λ (f : FirstSending). same_peer f.peer p) (firsts l)) [
+      | inl w ↦ subst (HasMid (next_mid last first)) (sym w.0) tt
+      | inr w ↦ subst (HasMid (next_mid last first)) (sym w.2) (by w.0 (e ∙ ap (option_map (λ (f : FirstSending). f.message.mid)) w.3))
+    ]
+  where
+    by : (f : FirstSending) → last ≡ Some f.message.mid → next_mid last first ≡ (f.message.mid + 1) % 65536
+    by f e = ap (λ (v : Option ℕ). next_mid v first) e
+
+pub next-small : (last : Option ℕ) (first : ℕ) → first < 65536 → next_mid last first < 65536
+next-small None first h = h
+next-small (Some m) first h = omega arith
+
+-- the message that is sent
+abbrev pub message-of : (l : List Noted) (o : ℕ) (w : Waiting) (a : IsWaitingFor l o w) (last : Option ℕ) → Content
+message-of l o w a last = request_message a.request (next_mid last w.first_mid) w.token
+
+pub may-be-first : (l : List Noted) (t : ℕ) (p : Peer) (s : LinkState) (w : Waiting) (ws : List Waiting) (h : Head l (waiting l p) w ws) → Legal l
+    → Agrees l p s → mids_used l t p < MAX_MESSAGE_IDS → s.outstanding ≡ None
+    → MayBeFirst l t h.opening p (first_sent t s.last_mid w).datagram (message-of l h.opening w h.waits s.last_mid) (Some (first_sent t s.last_mid w).timeout)
+may-be-first l t p s w ws h legal a few free =
+    let waits = head-waits l p w ws h in
+    let goes : goes_to p (begun l h.opening) ≡ true = and-left (goes_to p (begun l h.opening)) _ waits in
+    let peer : same_peer h.waits.request.peer p ≡ true = subst (λ (v : Option Begun). goes_to p v ≡ true) h.waits.opening goes in
+    let mid = next_mid s.last_mid w.first_mid in
+    let message = message-of l h.opening w h.waits s.last_mid in
+    record {
+      since = h.waits.since;
+      request = h.waits.request;
+      opening = h.waits.opening;
+      waits = waits;
+      first = first-waiting l p h.opening h.others h.is;
+      free = subst (TurnIn l p) free a.turn;
+      peer = sym (same_peer-same h.waits.request.peer p peer);
+      message = rw (unreplied l h.opening (waiting-goes l p h.opening waits)) refl;
+      spelled = sent-spells message w.datagram mid h.waits.spelled;
+      token_size = h.waits.token_size;
+      token_apart = h.waits.token_apart;
+      mid_apart = mid-apart l t p mid legal a.count_up (has-next l p s.last_mid w.first_mid a.last) few;
+      wait = w.timeout;
+      first_wait = refl;
+      least = h.waits.least;
+      greatest = h.waits.greatest;
+    }

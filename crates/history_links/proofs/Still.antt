@@ -1,0 +1,165 @@
+-- What an entry that leaves a peer alone leaves of what a link keeps.
+use Rattle.std.proofs.Common.{◌≡◌, ℕ, ◌≤◌, ◌<◌, Bool, inl, inr, length, arith, true, false, ◌&&◌, List, [], ◌∷◌, Option, Some, None, refl, sym, ap, subst, ◌∙◌, cond}
+use Rattle.std.specs.Prelude.{filter, option_map}
+use Rattle.std.specs.List.{list_any, filter_map}
+use Rattle.uri_map.specs.declared.peer.Peer.{Peer}
+use Rattle.message_layer.specs.Values.{LinkState}
+use Rattle.message_layer.specs.declared.state.Waiting.{Waiting}
+use Rattle.message_layer.specs.declared.state.Heard.{Heard}
+use Rattle.message_layer.specs.declared.state.Reply.{Reply}
+use Rattle.history_laws.specs.Readings.{Noted, at, newest}
+use Rattle.history_laws.specs.Transmissions.{bears_token, firsts, first_at}
+use Rattle.history_laws.specs.Exchanges.{Begun, begun, openings, waits_for, end_of, awaited, is_waiting, waiting}
+use Rattle.history_laws.specs.Hearing.{went_under, went_as, is_like, heard_before, live_heard}
+use Rattle.history_laws.specs.Confirming.{answered_as}
+use Rattle.history_laws.proofs.Places.{at-cases, at-keeps}
+use Rattle.history_links.proofs.Ranks.{rank-keeps}
+use Rattle.history_links.specs.Agrees.{IsWaitingFor, rank, TurnIn, WaitIn, reply_of, awaits, awaits_ack, HeardIn, Agrees}
+
+pub filter-same : {X : Type 0} (p q : X → Bool) → ((x : X) → p x ≡ q x) → (xs : List X) → filter p xs ≡ filter q xs
+filter-same p q same [] = refl
+filter-same p q same (x ∷ xs) = rw (same x, filter-same p q same xs) refl
+
+pub filter_map-same : {X Y : Type 0} (f g : X → Option Y) → ((x : X) → f x ≡ g x) → (xs : List X) → filter_map f xs ≡ filter_map g xs
+filter_map-same f g same [] = refl
+filter_map-same f g same (x ∷ xs) = rw (same x, filter_map-same f g same xs) refl
+
+-- The newer history says of first sendings, exchanges and messages on their way what the older one says.
+pub record Still (l n : List Noted) : Type 0 where
+  pub later : newest l ≤ newest n
+  pub stands : (i : ℕ) (x : Noted) → at l i ≡ Some x → at n i ≡ Some x
+  pub firsts_are : firsts n ≡ firsts l
+  pub openings_are : openings n ≡ openings l
+  pub ranks_are : (o : ℕ) {b : Begun} → begun l o ≡ Some b → rank n o ≡ rank l o
+  pub begun_are : (o : ℕ) → begun n o ≡ begun l o
+  pub waits_are : (o : ℕ) → waits_for n o ≡ waits_for l o
+  pub ends_are : (o : ℕ) → end_of n o ≡ end_of l o
+
+pub first_at-still : (l n : List Noted) → Still l n → (i : ℕ) → first_at n i ≡ first_at l i
+first_at-still l n e i = rw (e.firsts_are) refl
+
+pub awaited-still : (l n : List Noted) → Still l n → awaited n ≡ awaited l
+awaited-still l n e = rw (e.openings_are) (filter_map-same (waits_for n) (waits_for l) e.waits_are (openings l))
+
+pub is_waiting-still : (l n : List Noted) → Still l n → (p : Peer) (o : ℕ) → is_waiting n p o ≡ is_waiting l p o
+is_waiting-still l n e p o = rw (e.begun_are o, e.waits_are o, e.ends_are o) refl
+
+pub waiting-still : (l n : List Noted) → Still l n → (p : Peer) → waiting n p ≡ waiting l p
+waiting-still l n e p = rw (e.openings_are) (filter-same (is_waiting n p) (is_waiting l p) (is_waiting-still l n e p) (openings l))
+
+-- Who waits for a first sending waits for the same one.
+abbrev pub Keeps : List Noted → List Noted → Type 0
+Keeps l n = (o : ℕ) (b : Begun) → begun l o ≡ Some b → (begun n o ≡ Some b) × (rank n o ≡ rank l o)
+
+pub waits-one : (l n : List Noted) (o : ℕ) (w : Waiting) → Keeps l n → (bears_token l w.token ≡ false → bears_token n w.token ≡ false)
+    → IsWaitingFor l o w → IsWaitingFor n o w
+waits-one l n o w keeps apart a =
+    let same = keeps o (record { since = a.since; request = a.request }) a.opening in
+    record {
+      since = a.since;
+      request = a.request;
+      opening = same.0;
+      spelled = a.spelled;
+      token_size = a.token_size;
+      token_apart = apart a.token_apart;
+      numbered = a.numbered ∙ sym same.1;
+      least = a.least;
+      greatest = a.greatest;
+    }
+
+pub waits-all : (l n : List Noted) → Keeps l n → firsts n ≡ firsts l → (os : List ℕ) (ws : List Waiting) → WaitIn l os ws → WaitIn n os ws
+waits-all l n keeps same [] [] a = a
+waits-all l n keeps same [] (w ∷ ws) a = a
+waits-all l n keeps same (o ∷ os) [] a = a
+waits-all l n keeps same (o ∷ os) (w ∷ ws) a = (waits-one l n o w keeps (λ e. rw (same) e) a.0, waits-all l n keeps same os ws a.1)
+
+keeps-still : (l n : List Noted) → Still l n → Keeps l n
+keeps-still l n e o b h = (e.begun_are o ∙ h, e.ranks_are o h)
+
+-- One entry more leaves what it says, where it leaves these.
+pub still-by : (x : Noted) (l : List Noted) → newest l ≤ x.written.moment → firsts (x ∷ l) ≡ firsts l → openings (x ∷ l) ≡ openings l
+    → ((o : ℕ) → begun (x ∷ l) o ≡ begun l o) → ((o : ℕ) → waits_for (x ∷ l) o ≡ waits_for l o) → ((o : ℕ) → end_of (x ∷ l) o ≡ end_of l o) → Still l (x ∷ l)
+still-by x l later firsts_are openings_are begun_are waits_are ends_are = record {
+  later = later;
+  stands = λ i y e. at-keeps x l i y e;
+  firsts_are = firsts_are;
+  openings_are = openings_are;
+  ranks_are = λ o {b} e. rank-keeps x l o b e;
+  begun_are = begun_are;
+  waits_are = waits_are;
+  ends_are = ends_are;
+}
+
+-- It says of what was heard from the peer what the older one says.
+pub record SameHeard (l n : List Noted) (p : Peer) : Type 0 where
+  pub later : newest l ≤ newest n
+  pub before : (t mid : ℕ) → heard_before n t p mid ≡ heard_before l t p mid
+  pub live : (t : ℕ) → live_heard n t p ≡ live_heard l t p
+  pub below : (t mid j : ℕ) → heard_before l t p mid ≡ Some j → at n j ≡ at l j
+
+pub list_any-same : {X : Type 0} (p q : X → Bool) → ((x : X) → p x ≡ q x) → (xs : List X) → list_any p xs ≡ list_any q xs
+list_any-same p q same [] = refl
+list_any-same p q same (x ∷ xs) = rw (same x, list_any-same p q same xs) refl
+
+-- What was heard before stands among the entries.
+below : (x : Noted) (l : List Noted) (t : ℕ) (p : Peer) (mid j : ℕ) (b : Bool) → is_like t p mid x ≡ b
+    → ((k : ℕ) → heard_before l t p mid ≡ Some k → k < length l) → heard_before (x ∷ l) t p mid ≡ Some j → j < length (x ∷ l)
+below x l t p mid j true e ih h =
+    let is : Some (length l) ≡ Some j = subst (λ (b : Bool). cond b (Some (length l)) (heard_before l t p mid) ≡ Some j) e h in
+    let same : length l ≡ j = cc in
+    omega (arith, same)
+below x l t p mid j false e ih h =
+    let is : heard_before l t p mid ≡ Some j = subst (λ (b : Bool). cond b (Some (length l)) (heard_before l t p mid) ≡ Some j) e h in
+    let lt = ih j is in
+    omega (arith, lt)
+
+pub heard-below : (l : List Noted) (t : ℕ) (p : Peer) (mid j : ℕ) → heard_before l t p mid ≡ Some j → j < length l
+heard-below [] t p mid j e = cc
+heard-below (x ∷ older) t p mid j e = below x older t p mid j (is_like t p mid x) refl (λ k. heard-below older t p mid k) e
+
+pub heard-at : (x : Noted) (l : List Noted) (t : ℕ) (p : Peer) (mid j : ℕ) → heard_before l t p mid ≡ Some j → at (x ∷ l) j ≡ at l j
+heard-at x l t p mid j e =
+    let lt = heard-below l t p mid j e in
+    elim (at-cases x l j) [ inl w ↦ let same = w.0 in absurd (omega (arith, same, lt)) | inr w ↦ w.1 ]
+
+-- the answers to what is heard again
+abbrev pub answers_in : List Noted → ℕ → Reply
+answers_in l j = reply_of (answered_as (at l j))
+
+found-same : (l n : List Noted) (found : Option ℕ) → ((j : ℕ) → found ≡ Some j → at n j ≡ at l j)
+    → option_map (answers_in n) found ≡ option_map (answers_in l) found
+found-same l n None same = refl
+found-same l n (Some j) same = rw (same j refl) refl
+
+pub heard-still : (l n : List Noted) (p : Peer) (heard : List Heard) → SameHeard l n p → HeardIn l p heard → HeardIn n p heard
+heard-still l n p heard e a = record {
+  repeats = λ t mid later.
+      a.repeats t mid (let h = e.later in omega (arith, h, later))
+      ∙ (sym (found-same l n (heard_before l t p mid) (e.below t mid))
+      ∙ ap (option_map (answers_in n)) (sym (e.before t mid)));
+  live = λ t later. a.live t (let h = e.later in omega (arith, h, later)) ∙ sym (e.live t);
+}
+
+-- Where the link keeps its other tables too, it agrees still.
+pub rest-still : (l n : List Noted) (p : Peer) (s r : LinkState) → Still l n → SameHeard l n p → Agrees l p s → TurnIn n p r.outstanding
+    → r.waiting ≡ s.waiting → r.last_mid ≡ s.last_mid → r.given ≡ s.given → r.awaited ≡ s.awaited → r.heard ≡ s.heard → Agrees n p r
+rest-still l n p s r e h a turn waiting_is last_is given_is awaited_is heard_is = record {
+  turn = turn;
+  last = last_is ∙ (a.last ∙ rw (e.firsts_are) refl);
+  count_up = rw (e.firsts_are) a.count_up;
+  given = λ t later. rw (given_is, e.firsts_are) (a.given t (let g = e.later in omega (arith, g, later)));
+  waits = rw (waiting_is, waiting-still l n e p) (waits-all l n (keeps-still l n e) e.firsts_are (waiting l p) s.waiting a.waits);
+  awaits = λ token. rw (awaited_is) (a.awaits token ∙ sym (awaits-still l n e p token));
+  acks = λ mid token. rw (awaited_is) (a.acks mid token ∙ sym (acks-still l n e p mid token));
+  heard = rw (heard_is) (heard-still l n p s.heard h a.heard);
+}
+  where
+    awaits-still : (l n : List Noted) → Still l n → (p : Peer) (token : List ℕ) → awaits n p token ≡ awaits l p token
+    awaits-still l n e p token =
+        rw (awaited-still l n e)
+        (list_any-same (λ (i : ℕ). went_under p token (first_at n i)) (λ (i : ℕ). went_under p token (first_at l i)) (λ i. rw (first_at-still l n e i) refl) (awaited l))
+
+    acks-still : (l n : List Noted) → Still l n → (p : Peer) (mid : ℕ) (token : List ℕ) → awaits_ack n p mid token ≡ awaits_ack l p mid token
+    acks-still l n e p mid token =
+        rw (awaited-still l n e)
+        (list_any-same (λ (i : ℕ). went_under p token (first_at n i) && went_as p mid (first_at n i)) (λ (i : ℕ). went_under p token (first_at l i) && went_as p mid (first_at l i)) (λ i. rw (first_at-still l n e i) refl) (awaited l))

@@ -1,0 +1,113 @@
+-- What a link keeps of a history: the part of it that concerns its peer.
+use Rattle.std.specs.Prelude.{◌≡◌, ℕ, ◌+◌, ◌%◌, ◌<◌, ◌≤◌, Bool, false, ◌&&◌, List, [], ◌∷◌, length, filter, count_by, Option, Some, None, option_map, ⊤}
+use Rattle.std.specs.List.{list_any, find}
+use Rattle.limits.specs.declared.TheConstants.{ACK_TIMEOUT, LONGEST_ACK_TIMEOUT}
+use Rattle.coap_codec.specs.declared.message.MsgType.{MsgType}
+use Rattle.coap_codec.specs.declared.message.MsgType.TheVariants.{Ack, Rst}
+use Rattle.coap_codec.specs.Spelling.{Spells}
+use Rattle.uri_map.specs.declared.peer.Peer.{Peer}
+use Rattle.ask_model.specs.Requests.{CoapRequest, same_peer, request_message}
+use Rattle.journal_book.specs.Entries.{Sends}
+use Rattle.history_laws.specs.Numbering.{token_number}
+use Rattle.history_laws.specs.Confirmations.{Confirmation, given}
+use Rattle.message_layer.specs.Values.{LinkState}
+use Rattle.message_layer.specs.Mids.{is_in_use}
+use Rattle.message_layer.specs.Hearing.{is_fresh, is_repeat, is_awaited, is_awaited_by_ack}
+use Rattle.message_layer.specs.declared.state.Waiting.{Waiting}
+use Rattle.message_layer.specs.declared.state.Outstanding.{Outstanding}
+use Rattle.message_layer.specs.declared.state.Heard.{Heard}
+use Rattle.message_layer.specs.declared.state.Reply.{Reply}
+use Rattle.message_layer.specs.declared.state.Reply.TheVariants as R
+use Rattle.history_laws.specs.Readings.{Noted, First, at, before, newest}
+use Rattle.history_laws.specs.Transmissions.{FirstSending, firsts, first_at, last_sent, bears_token, mids_used, Transmission, transmission, outstanding}
+use Rattle.history_laws.specs.Exchanges.{begun, openings, awaited, waiting}
+use Rattle.history_laws.specs.Hearing.{went_under, went_as, heard_before, live_heard}
+use Rattle.history_laws.specs.Confirming.{answered_as}
+
+-- the timer of an outstanding message
+abbrev pub way_of : Outstanding → Transmission
+way_of o = record { timeout = o.timeout; copies = o.retransmissions; last = o.sent }
+
+-- What is outstanding at the peer is this: its bytes, its token and ID, and its timer.
+pub record IsOut (l : List Noted) (p : Peer) (o : Outstanding) : Type 0 where
+  pub first : FirstSending
+  pub timeout : Option ℕ
+  pub stands : at l first.number ≡ Some (record { written = record { moment = first.moment; deed = Sends p o.datagram timeout }; note = First first.opening first.message })
+  pub is : outstanding l p ≡ Some first
+  pub way : transmission l first.number ≡ Some (way_of o)
+  pub token : first.message.token ≡ o.token
+  pub mid : first.message.mid ≡ o.mid
+
+abbrev pub TurnIn : List Noted → Peer → Option Outstanding → Type 0
+TurnIn l p None = outstanding l p ≡ None
+TurnIn l p (Some o) = IsOut l p o
+
+-- the first sendings to the peer, the newest first, whose IDs count up by one (RFC 7252 section 4.4)
+abbrev pub firsts_to : List Noted → Peer → List FirstSending
+firsts_to l p = filter (λ (f : FirstSending). same_peer f.peer p) (firsts l)
+
+abbrev pub HasMid : ℕ → List FirstSending → Type 0
+HasMid mid [] = ⊤
+HasMid mid (f ∷ older) = mid ≡ (f.message.mid + 1) % 65536
+
+abbrev pub CountUp : List FirstSending → Type 0
+CountUp [] = ⊤
+CountUp (f ∷ older) = (f.message.mid < 65536) × HasMid f.message.mid older × CountUp older
+
+-- A token begins with how many exchanges were opened before its own.
+abbrev pub rank : List Noted → ℕ → ℕ
+rank l o = length (openings (before l o))
+
+-- the message of an exchange that waits
+pub record IsWaitingFor (l : List Noted) (o : ℕ) (w : Waiting) : Type 0 where
+  pub since : ℕ
+  pub request : CoapRequest
+  pub opening : begun l o ≡ Some (record { since = since; request = request })
+  pub spelled : Spells (request_message request 0 w.token) w.datagram
+  pub token_size : length w.token ≡ 8
+  pub token_apart : bears_token l w.token ≡ false
+  pub numbered : token_number w.token ≡ rank l o
+  pub least : ACK_TIMEOUT ≤ w.timeout
+  pub greatest : w.timeout ≤ LONGEST_ACK_TIMEOUT
+
+abbrev pub WaitIn : List Noted → List ℕ → List Waiting → Type 0
+WaitIn l [] [] = ⊤
+WaitIn l (o ∷ os) (w ∷ ws) = IsWaitingFor l o w × WaitIn l os ws
+WaitIn l _ _ = ⊥
+
+-- a first sending that a reply is awaited to went under the token, or under it and with the ID
+abbrev pub awaits : List Noted → Peer → List ℕ → Bool
+awaits l p token = list_any (λ (i : ℕ). went_under p token (first_at l i)) (awaited l)
+
+abbrev pub awaits_ack : List Noted → Peer → ℕ → List ℕ → Bool
+awaits_ack l p mid token = list_any (λ (i : ℕ). went_under p token (first_at l i) && went_as p mid (first_at l i)) (awaited l)
+
+-- how a datagram was answered, by the kind of the message
+abbrev pub reply_of : Option MsgType → Reply
+reply_of (Some Ack) = R.Ack
+reply_of (Some Rst) = R.Rst
+reply_of _ = R.Nothing
+
+-- the ACK or RST with this ID that a link gives the peer
+abbrev pub due : Peer → ℕ → Reply → Option Confirmation
+due p mid R.Nothing = None
+due p mid R.Ack = given p mid (Some Ack)
+due p mid R.Rst = given p mid (Some Rst)
+
+-- From now on a link tells repeats as the history does, and how they are answered.
+pub record HeardIn (l : List Noted) (p : Peer) (heard : List Heard) : Type 0 where
+  pub repeats : (t mid : ℕ) → newest l ≤ t
+      → option_map (λ (h : Heard). h.reply) (find (is_repeat t mid) heard)
+      ≡ option_map (λ (j : ℕ). reply_of (answered_as (at l j))) (heard_before l t p mid)
+  pub live : (t : ℕ) → newest l ≤ t → count_by (is_fresh t) heard ≡ live_heard l t p
+
+-- The link keeps what the history says of its peer.
+pub record Agrees (l : List Noted) (p : Peer) (s : LinkState) : Type 0 where
+  pub turn : TurnIn l p s.outstanding
+  pub last : s.last_mid ≡ option_map (λ (f : FirstSending). f.message.mid) (last_sent l p)
+  pub count_up : CountUp (firsts_to l p)
+  pub given : (t : ℕ) → newest l ≤ t → count_by (is_in_use t) s.given ≡ mids_used l t p
+  pub waits : WaitIn l (waiting l p) s.waiting
+  pub awaits : (token : List ℕ) → list_any (is_awaited token) s.awaited ≡ awaits l p token
+  pub acks : (mid : ℕ) (token : List ℕ) → list_any (is_awaited_by_ack mid token) s.awaited ≡ awaits_ack l p mid token
+  pub heard : HeardIn l p s.heard

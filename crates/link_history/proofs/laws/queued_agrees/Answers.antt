@@ -1,5 +1,0 @@
-use Rattle.link_history.proofs.Queueing.{queued-agrees}
-use Rattle.link_history.proofs.laws.queued_agrees.Goals as goal
-
-pub returns : goal.returns
-returns c = queued-agrees

@@ -1,8 +1,0 @@
-use Rattle.link_history.proofs.Repeating.{repeat-agrees, garbled-agrees}
-use Rattle.link_history.proofs.laws.unchanged_by.Goals as goal
-
-pub returns-clause-repeats : goal.returns-clause-repeats
-returns-clause-repeats c = repeat-agrees
-
-pub returns-clause-garbled : goal.returns-clause-garbled
-returns-clause-garbled c = garbled-agrees

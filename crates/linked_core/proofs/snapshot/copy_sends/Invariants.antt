@@ -1,6 +1,0 @@
-use Rattle.std.proofs.Common.{◌≡◌, map, take}
-use Rattle.linked_core.specs.Values.{outgoing_of}
-use Rattle.linked_core.proofs.snapshot.copy_sends.Given as goal
-
-abbrev pub invariant-each : goal.invariant-each
-invariant-each l = map outgoing_of l.copy.items ≡ map outgoing_of (take l.i l.sends.items)

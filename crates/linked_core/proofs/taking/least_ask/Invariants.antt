@@ -1,6 +1,0 @@
-use Rattle.std.proofs.Common.{◌≡◌, map, take, min}
-use Rattle.std.specs.List.{reduce}
-use Rattle.linked_core.proofs.taking.least_ask.Given as goal
-
-abbrev pub invariant-each : goal.invariant-each
-invariant-each g l = l.least ≡ reduce min (map (λ a. a.ask) (take l.answer-index l.answers))

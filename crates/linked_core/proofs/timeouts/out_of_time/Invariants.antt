@@ -1,6 +1,0 @@
-use Rattle.std.proofs.Common.{◌≡◌, map, take}
-use Rattle.linked_core.specs.Ending.{out_of_time}
-use Rattle.linked_core.proofs.timeouts.out_of_time.Given as goal
-
-abbrev pub invariant-each : goal.invariant-each
-invariant-each l = l.ended.items ≡ map out_of_time (take l.e-index l.exchanges)

@@ -1,7 +1,0 @@
--- The connection is open, so it is closed.
-use Rattle.linked_world.proofs.Acting.{open-known}
-use Rattle.linked_world.proofs.engine.Engine.shut.Goals as goal
-
-pub unreachable-requires : goal.unreachable-requires
-unreachable-requires g c =
-    open-known c.args.number c.args.self.now.core c.requires.conn (c.close.ensures.unknown c.if-not-close.true).1

@@ -1,5 +1,0 @@
-use Rattle.proxy_acts.proofs.Shown.{all-tell}
-use Rattle.proxy_acts.proofs.laws.connections_are_told.Goals as goal
-
-pub returns : goal.returns
-returns g c = all-tell g.R.Relation.holds g.R.Relation.takes

@@ -1,5 +1,0 @@
-use Rattle.proxy_acts.proofs.Heeded.{inputs-ask}
-use Rattle.proxy_acts.proofs.laws.connections_ask_what_bytes_spell.Goals as goal
-
-pub returns : goal.returns
-returns g c = inputs-ask g.R.Relation.holds g.R.Relation.takes

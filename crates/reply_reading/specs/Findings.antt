@@ -1,0 +1,45 @@
+-- What an ask comes to, as plain data.
+use Rattle.std.specs.Prelude.{◌≡◌, ℕ, [], ◌∷◌, Option, Some, None, ⊤}
+use Rattle.ask_model.specs.declared.cause.Cause.{Cause}
+use Rattle.ask_model.specs.declared.cause.Cause.TheVariants.{NotUnderstood}
+use Rattle.journal_book.specs.Entries.{Grounds, Live, Kept, Fault}
+use Rattle.history_laws.specs.Responses.{Response}
+use Rattle.reply_reading.specs.declared.response.Response.{Response as RustResponse}
+use Rattle.reply_reading.specs.declared.finding.Outcome.{Outcome}
+use Rattle.reply_reading.specs.declared.finding.Outcome.TheVariants as O
+
+-- what an ask came to: a response, or an error of the proxy's own
+pub data Told : Type 0 where
+  Tells : (response : Response) → Told
+  Fails : (cause : Cause) → Told
+
+abbrev pub response_of : RustResponse → Response
+response_of r = record {
+  code = r.code;
+  format = r.format;
+  etag = r.etag;
+  max_age = r.max_age;
+  location_path = r.location_path.items;
+  location_query = r.location_query.items;
+  body = r.body;
+}
+
+abbrev pub told_of : Outcome → Told
+told_of (O.Whole r) = Tells (response_of r)
+told_of (O.Fault cause) = Fails cause
+
+pub record Found : Type 0 where
+  pub told : Told
+  pub grounds : Grounds
+
+-- A response rests on replies, and an error of the proxy's own names its cause.
+abbrev pub Fits : Told → Grounds → Type 0
+Fits (Tells w) (Live js) = ⊤
+Fits (Tells w) (Kept js) = ⊤
+Fits (Fails cause) (Fault named n) = cause ≡ named
+Fits _ _ = ⊥
+
+-- what the only reply makes known, which the entry with this number bears
+abbrev pub found_by : ℕ → Option Response → Found
+found_by n (Some w) = record { told = Tells w; grounds = Live (n ∷ []) }
+found_by n None = record { told = Fails NotUnderstood; grounds = Fault NotUnderstood n }

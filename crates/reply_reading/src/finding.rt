@@ -1,0 +1,122 @@
+//! What an ask comes to, and why.
+
+ghost use Rattle.std.specs.Prelude.{◌≡◌, ◌∷◌, [], IfOk};
+ghost use Rattle.coap_codec.specs.Spelling.{content};
+ghost use Rattle.ask_model.specs.Requests.{CoapRequest};
+ghost use Rattle.journal_book.specs.Entries.{Live, Fault};
+ghost use Rattle.journal_book.specs.Views.{grounds_of};
+ghost use Rattle.history_laws.specs.Responses.{whole_of};
+ghost use Rattle.reply_reading.specs.Findings.{Tells, Fails, Fits, response_of, told_of, found_by};
+
+use crate::response::{Response, is_whole, response_of};
+use ask_model::Cause;
+use coap_codec::Message;
+use journal_book::{Grounds, Numbers};
+use std::alloc::{AllocError, Global};
+use std::marker::Model;
+
+/// What an ask came to.
+#[derive(Drop)]
+pub enum Outcome {
+    /// a response
+    Whole(Response),
+    /// an error of the proxy's own, and why
+    Fault(Cause),
+}
+
+/// What an ask came to, with its grounds. Its type keeps that they fit.
+pub struct Finding {
+    outcome: Outcome,
+    grounds: Grounds,
+}
+
+/// As derived; but written here, how all that it has is dropped is proved in this crate alone.
+impl Drop for Finding {
+    fn drop(self) {
+        let Finding {
+            outcome: _,
+            grounds: _,
+        } = self;
+    }
+}
+
+impl Model for Finding {
+    ghost use Rattle.journal_book.specs.Views.{grounds_of};
+    ghost use Rattle.reply_reading.specs.Findings.{Found, Fits, told_of};
+
+    ghost Value = { Found };
+
+    ghost view = { λ f. record { told = told_of f.outcome; grounds = grounds_of f.grounds } };
+
+    ghost invariant = { λ f. Fits (told_of f.outcome) (grounds_of f.grounds) };
+}
+
+impl Finding {
+    /// An error of the proxy's own, which names an entry.
+    pub fn fault(cause: Cause, number: u32) -> Finding
+        ensures { result ≡ record { told = Fails cause; grounds = Fault cause number } }
+    {
+        Finding {
+            outcome: Outcome::Fault(cause),
+            grounds: Grounds::Fault(cause, number),
+        }
+    }
+
+    /// A response that rests on the replies in these entries.
+    pub fn whole(response: Response, replies: Numbers) -> Finding
+        ensures { result ≡ record { told = Tells (response_of response); grounds = Live replies } }
+    {
+        Finding {
+            outcome: Outcome::Whole(response),
+            grounds: Grounds::Live(replies),
+        }
+    }
+
+    /// An equal value.
+    pub fn copy(&self) -> Result<Finding, AllocError>
+        ensures { IfOk result (λ f. f ≡ self.now) }
+    {
+        Ok(Finding {
+            outcome: copy_outcome(&self.outcome)?,
+            grounds: self.grounds.copy()?,
+        })
+    }
+
+    /// What the ask came to.
+    pub fn outcome(&self) -> &Outcome
+        ensures told { told_of result.now ≡ self.now.told }
+        ensures fits { Fits self.now.told self.now.grounds }
+    {
+        &self.outcome
+    }
+
+    /// What that rests on.
+    pub fn grounds(&self) -> &Grounds
+        ensures grounds { grounds_of result.now ≡ self.now.grounds }
+        ensures fits { Fits self.now.told self.now.grounds }
+    {
+        &self.grounds
+    }
+}
+
+/// An equal outcome.
+fn copy_outcome(outcome: &Outcome) -> Result<Outcome, AllocError>
+    ensures { IfOk result (λ o. told_of o ≡ told_of outcome.now) }
+{
+    match outcome {
+        Outcome::Whole(response) => Ok(Outcome::Whole(response.copy()?)),
+        Outcome::Fault(cause) => Ok(Outcome::Fault(*cause)),
+    }
+}
+
+/// What the only reply to an exchange makes known, which the entry with this number bears: a whole
+/// response, whose payload isn't copied, or that it isn't understood.
+pub fn finding_of(alloc: Global, number: u32, m: Message) -> Result<Finding, AllocError>
+    ensures { (q : CoapRequest) → IfOk result (λ f. f ≡ found_by number (whole_of q (content m ∷ []))) }
+{
+    if !is_whole(&m) {
+        return Ok(Finding::fault(Cause::NotUnderstood, number));
+    }
+    let replies = Numbers::from_slice(alloc, &[number])?;
+    Ok(Finding::whole(response_of(alloc, m)?, replies))
+}

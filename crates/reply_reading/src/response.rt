@@ -1,0 +1,146 @@
+//! The whole response that a message is.
+
+ghost use Rattle.std.specs.Prelude.{◌≡◌, [], ◌∷◌, IfOk, Some, None, is_some, if◌then◌else◌, option_map};
+ghost use Rattle.coap_codec.specs.Spelling.{content};
+ghost use Rattle.coap_codec.specs.Values.{uint};
+ghost use Rattle.ask_model.specs.Requests.{CoapRequest};
+ghost use Rattle.coap_codec.specs.Recognition.{value_of, values_of};
+ghost use Rattle.history_laws.specs.Responses.{whole_of, response_of as said_by};
+ghost use Rattle.reply_reading.specs.Findings.{response_of};
+
+use crate::reading::{answers_all, is_final, is_in_one_piece, value_of};
+use ask_model::Bytes;
+use coap_codec::{Message, is_defined, is_forwardable, number, uint_of};
+use std::alloc::{AllocError, Global};
+
+/// The whole response of a CoAP server (RFC 7252 section 5.10).
+#[derive(Drop)]
+pub struct Response {
+    pub code: u8,
+    /// its Content-Format
+    pub format: Option<u16>,
+    pub etag: Option<Bytes>,
+    /// in seconds
+    pub max_age: Option<u32>,
+    /// the values of its Location-Path options, of those that are defined
+    pub location_path: Vec<Bytes>,
+    /// the values of its Location-Query options, of those that are defined
+    pub location_query: Vec<Bytes>,
+    pub body: Bytes,
+}
+
+/// Equal values of options.
+fn copy_values(alloc: Global, values: &[Bytes]) -> Result<Vec<Bytes>, AllocError>
+    ensures { IfOk result (λ copy. copy.items ≡ values.now) }
+{
+    let mut copy = Vec::new(alloc);
+    'each: for value in values {
+        copy.push(value.copy()?)?;
+    }
+    Ok(copy)
+}
+
+/// An equal value of an option, if there is one.
+fn copy_value(value: &Option<Bytes>) -> Result<Option<Bytes>, AllocError>
+    ensures { IfOk result (λ copy. copy ≡ value.now) }
+{
+    match value {
+        Some(value) => Ok(Some(value.copy()?)),
+        None => Ok(None),
+    }
+}
+
+impl Response {
+    /// An equal response.
+    pub fn copy(&self) -> Result<Response, AllocError>
+        ensures { IfOk result (λ r. response_of r ≡ response_of self.now) }
+    {
+        let alloc = *self.location_path.allocator();
+        Ok(Response {
+            code: self.code,
+            format: self.format,
+            etag: copy_value(&self.etag)?,
+            max_age: self.max_age,
+            location_path: copy_values(alloc, &self.location_path)?,
+            location_query: copy_values(alloc, &self.location_query)?,
+            body: self.body.copy()?,
+        })
+    }
+}
+
+/// Whether the message, as the only reply, is a whole response.
+pub fn is_whole(m: &Message) -> bool
+    ensures decides { (q : CoapRequest) → result ≡ is_some (whole_of q (content m.now ∷ [])) }
+    ensures whole { (q : CoapRequest) → whole_of q (content m.now ∷ []) ≡ (if result then Some (said_by (content m.now)) else None) }
+{
+    is_forwardable(&m.options) && is_final(m) && answers_all(m) && is_in_one_piece(m)
+}
+
+/// Its Content-Format.
+fn format_of(m: &Message) -> Option<u16>
+    ensures { result ≡ option_map uint (value_of 12 (content m.now)) }
+{
+    match value_of(m, number::CONTENT_FORMAT) {
+        Some(value) => Some(uint_of(value) as u16),
+        None => None,
+    }
+}
+
+/// Its Max-Age, in seconds.
+fn max_age_of(m: &Message) -> Option<u32>
+    ensures { result ≡ option_map uint (value_of 14 (content m.now)) }
+{
+    match value_of(m, number::MAX_AGE) {
+        Some(value) => Some(uint_of(value)),
+        None => None,
+    }
+}
+
+/// Its ETag.
+fn etag_of(alloc: Global, m: &Message) -> Result<Option<Bytes>, AllocError>
+    ensures { IfOk result (λ etag. etag ≡ value_of 4 (content m.now)) }
+{
+    match value_of(m, number::ETAG) {
+        Some(value) => Ok(Some(Bytes::from_slice(alloc, value)?)),
+        None => Ok(None),
+    }
+}
+
+/// Copies of the values of its options of this number that are defined, in order.
+fn copies_of(alloc: Global, m: &Message, number: u16) -> Result<Vec<Bytes>, AllocError>
+    ensures { IfOk result (λ v. v.items ≡ values_of number (content m.now)) }
+{
+    let mut copies = Vec::new(alloc);
+    'each: for o in &m.options {
+        if o.number == number && is_defined(o) {
+            let value = Bytes::from_slice(alloc, &o.value)?;
+            copies.push(value)?;
+        }
+    }
+    Ok(copies)
+}
+
+/// Its payload.
+fn body_of(m: Message) -> Bytes
+    ensures { result ≡ m.payload.items }
+{
+    Bytes::of(m.payload)
+}
+
+/// What the message says as a response. Its payload becomes the body and isn't copied.
+pub fn response_of(alloc: Global, m: Message) -> Result<Response, AllocError>
+    ensures { IfOk result (λ r. response_of r ≡ said_by (content m)) }
+{
+    let etag = etag_of(alloc, &m)?;
+    let location_path = copies_of(alloc, &m, number::LOCATION_PATH)?;
+    let location_query = copies_of(alloc, &m, number::LOCATION_QUERY)?;
+    Ok(Response {
+        code: m.code,
+        format: format_of(&m),
+        etag,
+        max_age: max_age_of(&m),
+        location_path,
+        location_query,
+        body: body_of(m),
+    })
+}

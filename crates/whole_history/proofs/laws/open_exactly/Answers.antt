@@ -1,8 +1,0 @@
-use Rattle.whole_history.proofs.Openings.{open-exactly, ends-first}
-use Rattle.whole_history.proofs.laws.open_exactly.Goals as goal
-
-pub returns-clause-open_ones : goal.returns-clause-open_ones
-returns-clause-open_ones c = open-exactly
-
-pub returns-clause-first : goal.returns-clause-first
-returns-clause-first c = ends-first

@@ -1,8 +1,0 @@
-use Rattle.whole_history.proofs.Basis.{rests-on-its-own, nothing-outrun}
-use Rattle.whole_history.proofs.laws.rests_on_its_own.Goals as goal
-
-pub returns-clause-own : goal.returns-clause-own
-returns-clause-own c = rests-on-its-own
-
-pub returns-clause-outrun : goal.returns-clause-outrun
-returns-clause-outrun c = nothing-outrun
