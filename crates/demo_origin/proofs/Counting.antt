@@ -15,16 +15,6 @@ digit_taken n c k cs e =
     ] in
     each test e
 
-pub digit_refused : (n c : ℕ) (cs : List ℕ) → counted_from n (c ∷ []) ≡ None
-    → counted_from n (c ∷ cs) ≡ None
-digit_refused n c cs e =
-    let v = 10 * n + (c - 48) in
-    let test = (nat_le 48 c && nat_le c 57) && nat_le v 18446744073709551615 in
-    let P : Bool → Type 0 = λ b.
-    cond b (Some v) None ≡ None → cond b (counted_from v cs) None ≡ None in
-    let each : (b : Bool) → P b = λ b. elim b as P [ true ↦ λ h. cc | false ↦ λ h. refl ] in
-    each test e
-
 pub at_place : (xs : List ℕ) (i : ℕ) → i < length xs
     → drop i xs ≡ get_or xs i 0 ∷ drop (suc i) xs
 at_place [] i lt = absurd (omega arith)
@@ -37,10 +27,3 @@ pub goes_on : (n k i : ℕ) (xs : List ℕ) (total : Option ℕ) → i < length 
 goes_on n k i xs total lt e h =
     sym (digit_taken n (get_or xs i 0) k (drop (suc i) xs) e)
     ∙ ap (λ (ys : List ℕ). counted_from n ys) (sym (at_place xs i lt)) ∙ h
-
-pub stops : (n i : ℕ) (xs : List ℕ) (total : Option ℕ) → i < length xs
-    → counted_from n (get_or xs i 0 ∷ []) ≡ None → counted_from n (drop i xs) ≡ total
-    → total ≡ None
-stops n i xs total lt e h =
-    sym h ∙ ap (λ (ys : List ℕ). counted_from n ys) (at_place xs i lt)
-    ∙ digit_refused n (get_or xs i 0) (drop (suc i) xs) e

@@ -66,11 +66,6 @@ pub pushed : (p : Peer) (s : LinkState) (xs : List PeerLink) → HasNone p xs
 pushed p s [] h = refl
 pushed p s (x ∷ xs) h = rw (h.0) (ap (λ (zs : List PeerLink). x ∷ zs) (pushed p s xs h.1))
 
-pub map-last : (xs : List Endpoint) (x : Endpoint)
-    → map peer_link (xs ++ x ∷ []) ≡ map peer_link xs ++ peer_link x ∷ []
-map-last [] x = refl
-map-last (y ∷ ys) x = ap (λ (zs : List PeerLink). peer_link y ∷ zs) (map-last ys x)
-
 -- the link that takes it is the endpoint's
 pub record LinkTakes (t : ℕ) (p : Peer) (xs : List PeerLink) (x : Submission) : Type 0 where
   pub link : LinkValue

@@ -72,12 +72,6 @@ set-there [] i x e lt g = absurd (omega (arith, lt))
 set-there (y ∷ ys) zero x e lt g = cc
 set-there (y ∷ ys) (suc i) x e lt g = set-there ys i x e (omega (arith, lt)) g
 
-pub got-there : {X : Type 0} (xs : List X) (i : ℕ) (x e : X) → slice_get xs i ≡ Some e
-    → get_or xs i x ≡ e
-got-there [] i x e g = absurd cc
-got-there (y ∷ ys) zero x e g = cc
-got-there (y ∷ ys) (suc i) x e g = got-there ys i x e g
-
 pub got-first : (p : Peer) (xs : List Endpoint) (i : ℕ) → IsFirstAt p (map peer_link xs) i
     → (e : Endpoint) × (slice_get xs i ≡ Some e)
 got-first p [] i f = absurd f

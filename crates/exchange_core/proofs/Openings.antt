@@ -76,13 +76,6 @@ opened-in l S e r x = record {
       (follows-at l e.opening _ r.legal x.stands).3;
 }
 
--- the ask of an exchange that is found
-pub asks-at : (S : State) (p : Exchange → Bool) (e : Exchange) → Kept S
-    → find p S.exchanges ≡ Some e → IsOpenedIn S.entries e
-asks-at S p e k f =
-    let r = k.rests.reads in
-    opened-in k.reading S e r (found-holds p (ExchangeIn k.reading) S.exchanges e f r.exchanges_are)
-
 -- of each of them
 pub all-opened : (S : State) → Kept S → AllByRecursion (IsOpenedIn S.entries) S.exchanges
 all-opened S k = all (S.exchanges) k.rests.reads.exchanges_are

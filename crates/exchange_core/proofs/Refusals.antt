@@ -77,6 +77,3 @@ refusal-conns t c S a cause =
     let one = length-map (pend c (Some (length S.entries))) S.conns in
     let two = length-map (pend c None) (map (pend c (Some (length S.entries))) S.conns) in
     omega (arith, one, two)
-
-pub next-of : (t : ℕ) (S : State) (ds : List Deed) (d : DraftValue) → Drafts t S ds d → length S.entries ≤ 65536 → length ds ≤ 1024 → d.next ≤ 66560
-next-of t S ds d h few short = let n = h.next in omega (arith, n, few, short)

@@ -49,10 +49,6 @@ first-of (Some a) k xs gs1 least some none others =
       subst (λ (n : ℕ). gs1 ≡ filter (λ (h : Given). not (eqb h.ask n)) (map given_of xs)) same others,
     )
 
-pub first-none : {R : Type 0} (xs : List (Answer R)) → None ≡ reduce min (map (λ (a : Answer R). a.ask) xs) → map given_of xs ≡ []
-first-none [] is = refl
-first-none (x ∷ xs) is = absurd cc
-
 pub first-taken : {R : Type 0} (r : Option (Answer R)) (S : State) (gs gs1 : List Given) (os : List Outgoing)
     → AllByRecursion (IsGiven S.entries) gs → IsFirstOf (option_map given_of r) gs gs1
     → IsFirstTaken (option_map given_of r) (core_of S gs os) (core_of S gs1 os)

@@ -99,11 +99,6 @@ only-at n t q (z ∷ zs) (suc i) x tells order lt at_it so =
     let here : n (get_or zs i x) ≡ t = ap n (sym at_it) ∙ tells x so in
     (other n t q z tells (λ e. absurd (omega (arith, below, here, e))), only-at n t q zs i x tells order.1 inside at_it so)
 
-pub only-below : {X : Type 0} (q : X → Bool) (xs : List X) (i : ℕ) → IsOnlyAt q xs i → i < length xs
-only-below q [] i h = absurd h
-only-below q (x ∷ xs) zero h = omega arith
-only-below q (x ∷ xs) (suc i) h = let lt = only-below q xs i h.1 in omega (arith, lt)
-
 pub only-is : {X : Type 0} (q : X → Bool) (xs : List X) (i : ℕ) (d : X) → IsOnlyAt q xs i → q (get_or xs i d) ≡ true
 only-is q [] i d h = absurd h
 only-is q (x ∷ xs) zero d h = h.0

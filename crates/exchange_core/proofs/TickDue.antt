@@ -1,10 +1,6 @@
 -- The earliest of several moments; and each exchange was opened at a moment of the core's.
-use Rattle.std.proofs.Common.{◌≡◌, ℕ, suc, zero, ◌+◌, ◌<◌, ◌≤◌, min, List, [], ◌∷◌, length, drop, get_or, Option, Some, None, refl, sym, ap, ◌∙◌, arith}
-use Rattle.exchange_model.specs.Due.{earlier, earliest}
-
-pub earlier-none : (a : Option ℕ) → earlier a None ≡ a
-earlier-none None = refl
-earlier-none (Some a) = refl
+use Rattle.std.proofs.Common.{◌≡◌, ℕ, suc, zero, ◌+◌, ◌<◌, min, List, [], ◌∷◌, length, drop, get_or, Option, Some, None, refl, sym, ap, ◌∙◌, arith}
+use Rattle.exchange_model.specs.Due.{earlier}
 
 pub earlier-assoc : (a b c : Option ℕ) → earlier (earlier a b) c ≡ earlier a (earlier b c)
 earlier-assoc None b c = refl
@@ -21,15 +17,3 @@ drop-at (y ∷ ys) zero x lt is = ap (λ z. z ∷ ys) (sym is)
 drop-at (y ∷ ys) (suc i) x lt is =
     let e : suc i + 1 ≡ suc (i + 1) = omega arith in
     drop-at ys i x (omega (arith, lt)) is ∙ ap (λ (k : ℕ). x ∷ drop k (y ∷ ys)) (sym e)
-
-pub drop-end : {X : Type 0} (xs : List X) (i : ℕ) → length xs ≤ i → drop i xs ≡ []
-drop-end [] zero le = refl
-drop-end [] (suc i) le = refl
-drop-end (x ∷ xs) zero le = absurd (omega (arith, le))
-drop-end (x ∷ xs) (suc i) le = drop-end xs i (omega (arith, le))
-
-pub earliest-on : {X : Type 0} (f : X → Option ℕ) (a r : Option ℕ) (x : X) (xs ys : List X)
-    → ys ≡ x ∷ xs
-    → r ≡ earlier a (f x) → earlier r (earliest f xs) ≡ earlier a (earliest f ys)
-earliest-on f a r x xs ys is e = ap (λ (b : Option ℕ). earlier b (earliest f xs)) e ∙ earlier-assoc
-    a (f x) (earliest f xs) ∙ ap (λ zs. earlier a (earliest f zs)) (sym is)

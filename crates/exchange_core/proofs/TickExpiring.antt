@@ -1,14 +1,9 @@
 -- What is given up at each link.
-use Rattle.std.proofs.Common.{◌≡◌, ℕ, suc, zero, ◌+◌, ◌<◌, cond, Bool, true, false, List, [], ◌∷◌, ◌++◌, length, map, take, get_or, set, Option, Some, None, refl, sym, ap, ◌∙◌, arith}
-use Rattle.std.specs.Prelude.{nat_lt}
+use Rattle.std.proofs.Common.{◌≡◌, ℕ, suc, zero, ◌+◌, ◌<◌, List, [], ◌∷◌, ◌++◌, length, map, take, get_or, set, refl, sym, ap, ◌∙◌, arith}
 use Rattle.uri_map.specs.declared.peer.Peer.{Peer}
-use Rattle.message_layer.specs.Values.{LinkState, Told, no_news, timed_out, empty_link}
-use Rattle.message_layer.specs.Calls.{without}
-use Rattle.message_layer.specs.Sending.{ticked_by, due_of, with_copy, next_sent}
-use Rattle.message_layer.specs.declared.state.Outstanding.{Outstanding}
+use Rattle.message_layer.specs.Values.{LinkState, empty_link}
 use Rattle.exchange_model.specs.State.{PeerLink, link_of}
 use Rattle.exchange_core.specs.Endpoints.{HasNone, IsFirstAt}
-use Rattle.exchange_core.specs.Expiring.{given_up_by, given_up}
 
 -- an element that shows as before is set
 pub map-set : {A B : Type 0} (f : A → B) (xs : List A) (i : ℕ) (r d : A) → f r ≡ f (get_or xs i d)
@@ -49,22 +44,3 @@ first-below g p (x ∷ xs) (suc i) a = let ih = first-below g p xs i a.1 in omeg
 pub none-link : (p : Peer) (xs : List PeerLink) → HasNone p xs → link_of xs p ≡ empty_link
 none-link p [] a = refl
 none-link p (x ∷ xs) a = rw (a.0) (none-link p xs a.1)
-
--- it tells the same whatever waits
-told-alike : (t : ℕ) (v : Option Outstanding) (s u : LinkState)
-    → (ticked_by t s v).1 ≡ (ticked_by t u v).1
-told-alike t None s u = refl
-told-alike t (Some o) s u = by (nat_lt t (due_of o)) (nat_lt o.retransmissions 4)
-  where
-    by : (a b : Bool)
-        → (let x : LinkState × Told = cond a (s, no_news)
-        (cond b (with_copy t s o, no_news) (next_sent t s, timed_out o.token)) in x.1)
-        ≡ (let x : LinkState × Told = cond a (u, no_news)
-        (cond b (with_copy t u o, no_news) (next_sent t u, timed_out o.token)) in x.1)
-    by true b = refl
-    by false true = refl
-    by false false = refl
-
-pub given-up-without : (t : ℕ) (tokens : List (List ℕ)) (s : LinkState)
-    → given_up t (without tokens s) ≡ given_up t s
-given-up-without t tokens s = ap given_up_by (told-alike t s.outstanding (without tokens s) s)

@@ -1,6 +1,5 @@
 -- Where a draft leads, one entry after another.
-use Rattle.std.proofs.Common.{◌≡◌, ℕ, ◌+◌, ◌<◌, suc, zero, List, [], ◌∷◌, ◌++◌, length, take, get_or, Option, refl, sym, ap, subst, ◌∙◌, arith, append_assoc, length-append}
-use Rattle.std.specs.Prelude.{fold}
+use Rattle.std.proofs.Common.{◌≡◌, ℕ, ◌+◌, List, [], ◌∷◌, ◌++◌, length, Option, refl, sym, ap, subst, ◌∙◌, append_assoc, length-append}
 use Rattle.std.specs.List.{AllByRecursion}
 use Rattle.uri_map.specs.declared.peer.Peer.{Peer}
 use Rattle.journal_book.specs.Entries.{Deed, Sends, Written}
@@ -69,13 +68,3 @@ pub leads-send : (t : ℕ) (S U : State) (p : Peer) (b b' : List ℕ) (w : Optio
 leads-send t S U p b b' w d e h is more same =
     subst (λ (v : List ℕ). Leads t S (entered t (Sends p v w) U) e) is
     (leads-more t S U (Sends p b w) d e h more same)
-
--- one element more of a fold
-pub fold-take : {A B : Type 0} (f : B → A → B) (b : B) (xs : List A) (i : ℕ) (x : A) → i < length xs
-    → x ≡ get_or xs i x
-    → fold f b (take (i + 1) xs) ≡ f (fold f b (take i xs)) x
-fold-take f b [] i x lt is = absurd (omega (arith, lt))
-fold-take f b (y ∷ ys) zero x lt is = ap (f b) (sym is)
-fold-take f b (y ∷ ys) (suc i) x lt is =
-    let e : suc i + 1 ≡ suc (i + 1) = omega arith in
-    ap (λ (k : ℕ). fold f b (take k (y ∷ ys))) e ∙ fold-take f (f b y) ys i x (omega (arith, lt)) is

@@ -1,5 +1,5 @@
 -- What a core keeps after a draft that leads from one state to another.
-use Rattle.std.proofs.Common.{◌≡◌, ℕ, suc, ◌+◌, ◌^◌, ◌≤◌, ◌<◌, cond, Bool, true, false, List, [], ◌∷◌, ◌++◌, length, map, refl, sym, ap, subst, ◌∙◌, arith, length-append}
+use Rattle.std.proofs.Common.{◌≡◌, ℕ, ◌+◌, ◌^◌, ◌≤◌, ◌<◌, cond, Bool, true, false, List, [], ◌∷◌, ◌++◌, length, refl, sym, ap, subst, ◌∙◌, arith, length-append}
 use Rattle.std.specs.Prelude.{sum_by, fold, filter}
 use Rattle.std.specs.List.{AllByRecursion, list_any}
 use Rattle.ask_model.specs.Sizes.{capped}
@@ -14,7 +14,7 @@ use Rattle.exchange_model.specs.Room.{fits, KeptInRoom}
 use Rattle.exchange_model.specs.Sealing.{late}
 use Rattle.exchange_model.proofs.InRoom.{ticks-in-room, within-limits}
 use Rattle.exchange_model.proofs.TickEnters.{stays-drained}
-use Rattle.exchange_core.specs.Values.{Outgoing, written, stepped}
+use Rattle.exchange_core.specs.Values.{Outgoing, stepped}
 use Rattle.exchange_core.specs.Answering.{Given, IsGiven}
 use Rattle.exchange_core.specs.Drafts.{DraftValue, Drafts}
 use Rattle.exchange_core.specs.Leads.{Leads}
@@ -116,17 +116,6 @@ late-in-room t S k later sealed =
     subst (λ (b : Bool). KeptInRoom
     (cond b (late t S) (cond (fits (ticked t S)) (ticked t S) (late t (seals t S))))) sealed
     (ticks-in-room t S k later)
-
--- nothing is drafted
-pub leads-nothing : (t : ℕ) (S U : State) (d : DraftValue) → Leads t S U d → length d.entries ≡ 0
-    → S ≡ U
-leads-nothing t S U d h none = by h.deeds h.drafts h.is
-  where
-    by : (ds : List Deed) → Drafts t S ds d → entered_all t ds S ≡ U → S ≡ U
-    by [] a e = e
-    by (x ∷ xs) a e =
-        let some : length d.entries ≡ suc (length (map (written t) xs)) = ap length a.entries in
-        absurd (omega (arith, some, none))
 
 -- What leads to a state of this moment is that state.
 pub leads-at : (t : ℕ) (S U : State) (d : DraftValue) → Leads t S U d → U.moment ≡ t

@@ -7,13 +7,13 @@ use Rattle.exchange_model.specs.declared.kept.Exchange.{Exchange}
 use Rattle.exchange_model.specs.State.{State}
 use Rattle.exchange_model.specs.Steps.{entered, seals, passes, is_gone}
 use Rattle.exchange_model.specs.Calls.{times_out, timed_out, something_due, move_all, peer_of, ticked}
-use Rattle.exchange_model.specs.Entering.{entered_all, all_deeds, all_going, sent_as, goes_on, gone_tokens, link_after, IsDrained}
+use Rattle.exchange_model.specs.Entering.{entered_all, all_deeds, all_going, sent_as, goes_on, gone_tokens, link_after, moved_by, IsDrained}
 use Rattle.exchange_model.specs.Keeping.{MayStep}
 use Rattle.exchange_model.specs.Room.{fits, KeptInRoom}
 use Rattle.exchange_model.specs.Sealing.{late, ticks_in_room}
 use Rattle.exchange_model.proofs.InRoom.{ticks-in-room}
 use Rattle.exchange_model.proofs.Passed.{moved-conns}
-use Rattle.exchange_model.proofs.TickEnters.{ticks-enter, stays-drained}
+use Rattle.exchange_model.proofs.TickEnters.{stays-drained}
 use Rattle.exchange_core.specs.Drafts.{DraftValue}
 use Rattle.exchange_core.specs.Leads.{Leads}
 use Rattle.exchange_core.specs.Passing.{moved_on, tick_adds}
@@ -83,7 +83,10 @@ module _ (t : ℕ) (S : State) (may : MayStep t S) (drained : IsDrained S)
 
   pub tick-drained : IsDrained (ticked t S)
   tick-drained =
-      subst IsDrained (sym (ticks-enter t S may drained due)) ((stays-drained t S drained).2)
+      subst IsDrained (sym (ticked-is t S may drained due)) (record { once = x.once; out = x.out })
+    where
+      x : IsDrained (moved_by t S)
+      x = (stays-drained t S drained).2
 
   module _ (d : DraftValue) (h : Leads t S (tick_adds t S) d) where
     pub tick-fits : fits (with_draft t d S) ≡ fits (ticked t S)

@@ -22,11 +22,11 @@ use Rattle.history_laws.specs.Exchanges.{waiting}
 use Rattle.history_laws.specs.Readings.{Noted}
 use Rattle.exchange_model.specs.declared.kept.Exchange.{Exchange}
 use Rattle.exchange_model.specs.State.{PeerLink, State, link_of}
-use Rattle.exchange_model.specs.Steps.{entered, passes, is_gone}
-use Rattle.exchange_model.specs.Calls.{waits_on, times_out, timed_out, something_due, move_all, ticked}
+use Rattle.exchange_model.specs.Steps.{entered, is_gone}
+use Rattle.exchange_model.specs.Calls.{waits_on, times_out, timed_out, something_due, ticked}
 use Rattle.exchange_model.specs.Entering.{entered_all, timeout_of, sent_as, all_deeds, all_going, goes_on, link_after, StandsOnce, IsDrained}
 use Rattle.exchange_model.specs.Keeping.{Kept, MayStep}
-use Rattle.exchange_model.proofs.Passed.{moved-put}
+use Rattle.exchange_model.proofs.TickEnters.{ticks-enter}
 use Rattle.exchange_core.specs.declared.state.Endpoint.{Endpoint}
 use Rattle.exchange_core.specs.Passing.{tick_adds}
 use Rattle.exchange_core.specs.States.{peer_link}
@@ -137,7 +137,6 @@ pub ticked-is : (t : ℕ) (S : State) → MayStep t S → IsDrained S → someth
       links = map (link_after t (is_gone t S)) S.links;
     })
 ticked-is t S may drained due =
-    ap (λ (b : Bool). cond b (fold (times_out t) (move_all t (passes t S)) (timed_out t S)) S) due
-    ∙ ap (λ (V : State). fold (times_out t) V (timed_out t S)) (moved-put t S may drained)
+    ticks-enter t S may drained due
     ∙ still-put t (timed_out t S) _ _
     (entered_all t (Passes ∷ all_deeds t (is_gone t S) S.links) S)

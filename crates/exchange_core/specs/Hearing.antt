@@ -1,9 +1,9 @@
 -- What a datagram leaves of a core.
-use Rattle.std.specs.Prelude.{ℕ, ◌+◌, ◌<◌, List, [], ◌∷◌, ◌++◌, length, map, filter, Option, Some, None, if◌then◌else◌, ⊤}
+use Rattle.std.specs.Prelude.{ℕ, ◌+◌, List, [], ◌∷◌, ◌++◌, length, map, filter, Option, Some, None, if◌then◌else◌}
 use Rattle.coap_codec.specs.Spelling.{Content}
 use Rattle.uri_map.specs.declared.peer.Peer.{Peer}
 use Rattle.ask_model.specs.declared.cause.Cause.TheVariants.{Reset}
-use Rattle.journal_book.specs.Entries.{Fault, Deed, Sends, Hears}
+use Rattle.journal_book.specs.Entries.{Fault, Deed, Hears}
 use Rattle.history_laws.specs.Responses.{Response, is_whole, response_of}
 use Rattle.reply_reading.specs.Findings.{Found, Fails, found_by}
 use Rattle.message_layer.specs.Values.{LinkState, Told, response, was_reset}
@@ -16,8 +16,7 @@ use Rattle.exchange_model.specs.declared.kept.Exchange.{Exchange}
 use Rattle.exchange_model.specs.State.{State, link_of, with_link}
 use Rattle.exchange_model.specs.Calls.{ended_in}
 use Rattle.exchange_model.specs.Steps.{given_out, went_out, is_other}
-use Rattle.exchange_model.specs.Links.{awaits_no_more}
-use Rattle.exchange_model.specs.Entering.{entered_all, confirm, told_deeds}
+use Rattle.exchange_model.specs.Entering.{awaits_no_more, entered_all, confirm, told_deeds}
 use Rattle.exchange_core.specs.declared.ending.Ended.{Ended}
 use Rattle.exchange_core.specs.Sending.{sent_first}
 use Rattle.exchange_core.specs.Drafts.{DraftValue}

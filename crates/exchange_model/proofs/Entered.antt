@@ -16,8 +16,8 @@ use Rattle.exchange_model.specs.State.{PeerLink, State, link_of, with_link}
 use Rattle.exchange_model.specs.Steps.{entered, given_out, went_out}
 use Rattle.exchange_model.specs.Calls.{next_by, next}
 use Rattle.exchange_model.specs.Entering.{entered_all, Going, going_as, sent_as, first_deeds, in_turn}
-use Rattle.exchange_model.proofs.Links.{turned}
 use Rattle.exchange_model.proofs.Tables.{link-same}
+use Rattle.exchange_model.proofs.LinksHeard.{turned}
 
 -- entries, and two tables after them
 abbrev pub put : ℕ → List Deed → List Exchange → List PeerLink → State → State

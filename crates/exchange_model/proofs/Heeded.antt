@@ -24,12 +24,10 @@ use Rattle.exchange_model.specs.declared.kept.Exchange.{Exchange}
 use Rattle.exchange_model.specs.State.{PeerLink, State, link_of, with_link}
 use Rattle.exchange_model.specs.Steps.{given_out, answers, hears, hears_nothing, confirms, is_other}
 use Rattle.exchange_model.specs.Calls.{next_by, next, given_back, waits_on, ends_if, ended_in, grounds_by, takes_new, takes_by, repeats, resets, reads_so, heard}
-use Rattle.exchange_model.specs.Links.{awaits_no_more}
-use Rattle.exchange_model.specs.Entering.{going_as, sent_as, first_deeds, in_turn, told_if, confirm, heeded, garbled, IsMid, Comes, MessageEnters, GarbledEnters}
+use Rattle.exchange_model.specs.Entering.{awaits_no_more, going_as, sent_as, first_deeds, in_turn, told_if, confirm, heeded, garbled, IsMid, Comes, MessageEnters, GarbledEnters}
 use Rattle.exchange_model.proofs.Entered.{put, after, next-put, entries-more, link-there, out-at, given-itself}
 use Rattle.exchange_model.proofs.Idle.{repeat-idle}
-use Rattle.exchange_model.proofs.Links.{turned}
-use Rattle.exchange_model.proofs.LinksHeard.{Turns, turns, links-given, without-is, heard-turned, new-unborne}
+use Rattle.exchange_model.proofs.LinksHeard.{turned, Turns, turns, links-given, without-is, heard-turned, new-unborne}
 
 -- one deed of the step after another
 

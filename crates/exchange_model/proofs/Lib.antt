@@ -21,14 +21,10 @@ pub mod Moving
 pub mod TimingOut
 pub mod Ticking
 pub mod Running
-pub mod Links
 pub mod Idle
 pub mod LinksHeard
 pub mod LinksTicked
 pub mod Due
-pub mod Dropping
-pub mod LinksOut
-pub mod LinksSent
 pub mod Entered
 pub mod Begun
 pub mod Heeded

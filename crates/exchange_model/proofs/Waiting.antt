@@ -33,26 +33,6 @@ asks-more c n (x ∷ xs) =
     let here = one-asks c n x in
     omega (arith, ih, new, old, id, here)
 
--- an ask that is answered at once
-
-one-refused : (c n : ℕ) (x : Conn)
-    → one (has_asked (pend c None (pend c (Some n) x))) ≤ one (has_asked x)
-one-refused c n x = elim (eqb_tells x.id c) [
-  | inl w ↦ rw (w.0, w.0) (omega arith)
-  | inr w ↦ rw (w.0, w.0) (omega arith)
-]
-
-pub refuses-none : (c n : ℕ) (xs : List Conn)
-    → count_by has_asked (map (pend c None) (map (pend c (Some n)) xs)) ≤ count_by has_asked xs
-refuses-none c n [] = omega arith
-refuses-none c n (x ∷ xs) =
-    let ih = refuses-none c n xs in
-    let new = count-cons has_asked (pend c None (pend c (Some n) x))
-    (map (pend c None) (map (pend c (Some n)) xs)) in
-    let old = count-cons has_asked x xs in
-    let here = one-refused c n x in
-    omega (arith, ih, new, old, here)
-
 -- an answer
 
 one-answers : (c : ℕ) (x : Conn) → one (has_asked (pend c None x)) ≤ one (has_asked x)

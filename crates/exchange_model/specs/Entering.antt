@@ -1,5 +1,5 @@
 -- What each call leaves, in one piece: the entries that it adds, in order, and each table after it.
-use Rattle.std.specs.Prelude.{◌≡◌, ℕ, ◌+◌, ◌<◌, ◌≤◌, Bool, true, false, not, nat_lt, List, [], ◌∷◌, ◌++◌, length, map, filter, Option, Some, None, option_map, is_some, unwrap_or, Ok, Err, if◌then◌else◌, ⊤}
+use Rattle.std.specs.Prelude.{◌≡◌, ℕ, ◌+◌, ◌<◌, ◌≤◌, Bool, true, false, not, nat_lt, List, [], ◌∷◌, ◌++◌, length, map, filter, fold, Option, Some, None, option_map, is_some, unwrap_or, Ok, Err, if◌then◌else◌, ⊤}
 use Rattle.std.specs.List.{AllByRecursion, list_any}
 use Rattle.std.specs.Str.{bytes_eq}
 use Rattle.limits.specs.declared.TheConstants.{MAX_DATAGRAM_LEN}
@@ -13,8 +13,10 @@ use Rattle.ask_model.specs.Requests.{CoapRequest, Requests, Refuses, same_peer}
 use Rattle.ask_model.specs.Views.{Ask}
 use Rattle.journal_book.specs.Entries.{Grounds, Fault, Deed, Asks, Sends, Hears, Passes, Answers}
 use Rattle.message_layer.specs.Values.{LinkState, was_dropped}
+use Rattle.message_layer.specs.Calls.{expected}
 use Rattle.message_layer.specs.Sending.{due_of, first_sent, waits, submitted, ticked as call_ticked}
 use Rattle.message_layer.specs.Hearing.{ignored, verdict_of, replies, reset_for, applied, hears as call_hears}
+use Rattle.message_layer.specs.declared.state.Awaited.{Awaited}
 use Rattle.message_layer.specs.declared.state.Outstanding.{Outstanding}
 use Rattle.message_layer.specs.declared.state.Reply.TheVariants as R
 use Rattle.message_layer.specs.declared.state.Waiting.{Waiting}
@@ -25,9 +27,8 @@ use Rattle.exchange_model.specs.declared.kept.Conn.{Conn}
 use Rattle.exchange_model.specs.declared.kept.Exchange.{Exchange}
 use Rattle.exchange_model.specs.State.{PeerLink, State, link_of, with_link}
 use Rattle.exchange_model.specs.Steps.{entered, exchange_for, given_out, went_out, is_other, expires, is_gone}
-use Rattle.exchange_model.specs.Calls.{Numbers, has_place, asked, waits_on, ended_in, grounds_by, heard, something_due, timed_out, ticked}
+use Rattle.exchange_model.specs.Calls.{Numbers, has_place, asked, waits_on, ended_in, grounds_by, heard, something_due, times_out, timed_out, ticked}
 use Rattle.exchange_model.specs.Keeping.{MayStep, IsNumbered}
-use Rattle.exchange_model.specs.Links.{awaits_no_more, rid_of}
 
 -- entries one after another
 abbrev pub entered_all : ℕ → List Deed → State → State
@@ -116,6 +117,11 @@ heard_going p mid v S =
     going_as (length S.entries + 1 + length (replies mid v.reply))
     (in_turn v.ends (link_of S.links p).waiting)
 
+-- The token under which nothing is awaited any more is that of an exchange that ends.
+abbrev pub awaits_no_more : Option (List ℕ) → LinkState → LinkState
+awaits_no_more None s = s
+awaits_no_more (Some token) s = expected token false s
+
 abbrev pub heeded : ℕ → Peer → List ℕ → ℕ → List ℕ → Verdict → Grounds → State → State
 heeded t p d mid token v g S =
     let s = link_of S.links p in let over = ended_token v.news token in
@@ -148,7 +154,13 @@ link_going t s (Some o) =
     if nat_lt t (due_of o) then None else
     (if nat_lt o.retransmissions 4 then None else in_turn true s.waiting)
 
--- a link without what bears the token of an exchange that ends
+-- What bears the token of an exchange that ends is neither awaited nor sent any more.
+abbrev pub rid_of : (List ℕ → Bool) → LinkState → LinkState
+rid_of gone s = record s {
+  waiting = filter (λ (w : Waiting). not (gone w.token)) s.waiting;
+  awaited = filter (λ (a : Awaited). not (gone a.token)) s.awaited;
+}
+
 abbrev pub rid : (List ℕ → Bool) → PeerLink → LinkState
 rid gone x = rid_of gone x.link
 
@@ -177,20 +189,14 @@ link_after t gone x = record {
 abbrev pub timeout_of : Exchange → Grounds
 timeout_of e = Fault C.Timeout (unwrap_or e.sending e.opening)
 
-abbrev pub over_deeds : List Exchange → List Conn → List Deed
-over_deeds [] cs = []
-over_deeds (e ∷ es) cs = told_deeds (timeout_of e) e cs ++ over_deeds es cs
-
-abbrev pub tick_deeds : ℕ → State → List Deed
-tick_deeds t S =
-    Passes ∷ (all_deeds t (is_gone t S) S.links ++ over_deeds (timed_out t S) S.conns)
-
 abbrev pub goes_on : ℕ → State → Exchange → Bool
 goes_on t S e = not (expires t S.links e)
 
-abbrev pub passed_by : ℕ → State → State
-passed_by t S =
-    let gone = is_gone t S in let S1 = entered_all t (tick_deeds t S) S in record S1 {
+-- A tick enters what is sent at each link, which each turns then; the exchanges that end go.
+abbrev pub moved_by : ℕ → State → State
+moved_by t S =
+    let gone = is_gone t S in
+    let S1 = entered_all t (Passes ∷ all_deeds t gone S.links) S in record S1 {
       exchanges =
           sent_as (all_going t gone (length S.entries + 1) S.links)
           (filter (goes_on t S) S.exchanges);
@@ -276,11 +282,12 @@ DroppedStays =
     (t : ℕ) (p : Peer) (d : List ℕ) (S : State)
     → (call_hears t d (link_of S.links p)).1 ≡ was_dropped → heard t p d S ≡ S
 
--- A tick leaves just that, where something is due; and nothing else.
+-- A tick leaves just that, and tells those who wait for what ends, where something is due; else
+-- nothing changes.
 abbrev pub TicksEnter : Type 0
 TicksEnter =
     (t : ℕ) (S : State) → MayStep t S → IsDrained S → something_due t S ≡ true
-    → ticked t S ≡ passed_by t S
+    → ticked t S ≡ fold (times_out t) (moved_by t S) (timed_out t S)
 
 abbrev pub TickStays : Type 0
 TickStays = (t : ℕ) (S : State) → something_due t S ≡ false → ticked t S ≡ S
@@ -305,5 +312,5 @@ StaysDrained =
     → ((c : ℕ) (a : Ask) (q : CoapRequest) (n : Numbers) → IsDrained (begun t c a q n S))
     × ((p : Peer) (d : List ℕ) (mid : ℕ) (token : List ℕ) (v : Verdict) (g : Grounds)
     → IsDrained (heeded t p d mid token v g S))
-    × IsDrained (passed_by t S)
+    × IsDrained (moved_by t S)
     × ((ds : List Deed) → IsDrained (entered_all t ds S))

@@ -9,6 +9,5 @@ pub mod Keeping
 pub mod Room
 pub mod Sealing
 pub mod Worked
-pub mod Links
 pub mod Entering
 pub mod Growing

@@ -44,18 +44,6 @@ ghost use Rattle.exchange_model.specs.Entering.{
   GoneTokens,
   StaysDrained,
 };
-ghost use Rattle.exchange_model.specs.Links.{
-  SubmitsOut,
-  HearsOut,
-  TicksOut,
-  SubmitsLink,
-  SubmitsOne,
-  HearsLink,
-  HearsOne,
-  DropsLink,
-  TicksLink,
-  NoneTicks,
-};
 
 /// A connection may be opened and shut, an ask answered on its grounds, and the journal sealed
 /// where it is as good as full.
@@ -128,20 +116,6 @@ pub fn ticking_keeps()
 pub fn worked_runs()
     ensures answered { AnsweredRun }
     ensures given_up { GivenUpRun }
-{}
-
-/// What a link is after a call of the message layer is what the step makes of it (RFC 7252 section 4).
-pub fn links_follow()
-    ensures submits { SubmitsLink }
-    ensures submits_one { SubmitsOne }
-    ensures hears { HearsLink }
-    ensures hears_one { HearsOne }
-    ensures drops { DropsLink }
-    ensures ticks { TicksLink }
-    ensures none_ticks { NoneTicks }
-    ensures submits_out { SubmitsOut }
-    ensures hears_out { HearsOut }
-    ensures ticks_out { TicksOut }
 {}
 
 /// What an ask leaves: the entries that it adds, in order, and each table after it.

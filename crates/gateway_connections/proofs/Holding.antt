@@ -36,13 +36,6 @@ given-len b s t le fits =
     let long = length-drop s b in
     length-take-le (t - s) (drop s b) (omega (arith, long, fits))
 
--- Bytes that come after don't change what it was given.
-pub given-more : (b more : List ℕ) (s t : ℕ) → s ≤ t → t ≤ length b → take (t - s) (drop s (b ++ more)) ≡ take (t - s) (drop s b)
-given-more b more s t le fits =
-    let long = length-drop s b in
-    let inside : s ≤ length b = omega (arith, le, fits) in
-    ap (take (t - s)) (drop-append-le s b more inside) ∙ take-append-le (t - s) (drop s b) more (omega (arith, long, fits))
-
 -- what it takes then stands after
 pub given-fed : (b v : List ℕ) (s t n : ℕ) → v ≡ b → s ≤ t → take ((t + n) - s) (drop s b) ≡ take (t - s) (drop s b) ++ take n (take (length v - t) (drop t v))
 given-fed b v s t n same le =

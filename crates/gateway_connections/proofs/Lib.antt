@@ -1,4 +1,3 @@
-pub mod Finding
 pub mod Holding
 pub mod Keeping
 pub mod Listing

@@ -1,4 +1,3 @@
-pub mod AnyTerms
 pub mod Apart
 pub mod Asked
 pub mod Awaiting

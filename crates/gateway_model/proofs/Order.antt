@@ -1,11 +1,11 @@
 -- Acts in order.
-use Rattle.std.proofs.Common.{◌≡◌, ℕ, ◌+◌, ◌≤◌, List, [], ◌∷◌, ◌++◌, refl, sym, subst, ap, ◌∙◌, arith}
+use Rattle.std.proofs.Common.{ℕ, ◌+◌, ◌≤◌, List, [], ◌∷◌, ◌++◌, refl, sym, subst, ap, ◌∙◌, arith}
 use Rattle.std.specs.Prelude.{flat_map}
 use Rattle.std.specs.List.{AllByRecursion}
 use Rattle.std.proofs.lemmas.List.{append-nil, append_assoc}
 use Rattle.std.proofs.lemmas.Grind.{flat_map-append}
 use Rattle.gateway_model.specs.Acts.{Act, Opens, TurnsAway, Takes, Hears, Passes, Asks, Denies, Sends, Tells, GoesOn, Rests, Leaves, Misses}
-use Rattle.gateway_model.specs.Orders.{IsFor, AreFor, ServesOut, IsSends, AreSends, Turn, acts_of, IsTurn, Rise, IsTelling, AreTurns, HasTurns, BeginsWith, Delivers}
+use Rattle.gateway_model.specs.Orders.{IsFor, AreFor, ServesOut, IsSends, AreSends, Turn, acts_of, IsTurn, Rise, IsTelling, AreTurns, HasTurns, Delivers}
 
 pub all-append : {A : Type 0} (P : A → Type 0) (xs ys : List A)
     → AllByRecursion P xs → AllByRecursion P ys → AllByRecursion P (xs ++ ys)
@@ -44,17 +44,9 @@ for-on c xs ys h k = all-append (IsFor c) xs ys h k
 pub sends-for-on : (c : ℕ) (xs ys : List Act) → AreSends xs → AreFor c ys → AreFor c (xs ++ ys)
 sends-for-on c xs ys h k = for-on c xs ys (sends-are-for c xs h) k
 
-pub begins-on : (a : Act) (P : List Act → Type 0) (xs ys : List Act) → xs ≡ a ∷ [] → P ys
-    → BeginsWith a P (xs ++ ys)
-begins-on a P xs ys e k = record { rest = ys; are = ap (λ (zs : List Act). zs ++ ys) e; then = k }
-
 -- what is told is done for its connection
 pub told-for : (c k : ℕ) (xs : List Act) → IsTelling c k xs → AreFor c xs
 told-for c k xs e = subst (AreFor c) (sym e) (refl, tt)
-
--- it is served until nothing more can be asked
-pub rests-on : (c : ℕ) (xs ys : List Act) → AreFor c xs → ys ≡ Rests c ∷ [] → ServesOut c (xs ++ ys)
-rests-on c xs ys h e = record { first = xs; are = ap (λ (zs : List Act). xs ++ zs) e; for = h }
 
 pub out-on : (c : ℕ) (xs ys : List Act) → AreFor c xs → ServesOut c ys → ServesOut c (xs ++ ys)
 out-on c xs ys h k = record {

@@ -49,13 +49,6 @@ any-find {X = X} q (x ∷ xs) = by (q x) (any-find q xs)
     by true h = refl
     by false h = h
 
-pub none-found : {X : Type 0} (q : X → Bool) (xs : List X) → list_any q xs ≡ false → find q xs ≡ None
-none-found {X = X} q xs e = by (find q xs) (sym (any-find q xs) ∙ e)
-  where
-    by : (v : Option X) → is_some v ≡ false → v ≡ None
-    by None e = refl
-    by (Some x) e = absurd (false≢true (sym e))
-
 -- what is in a list and passes makes the test true of the list
 pub among : (q : ℕ → Bool) (i : ℕ) (xs : List ℕ) → list_any (eqb i) xs ≡ true → q i ≡ true → list_any q xs ≡ true
 among q i [] e f = absurd (false≢true e)

@@ -1,6 +1,6 @@
 -- What an edge does to the text that it stands for.
-use Rattle.std.proofs.Common.{◌≡◌, ◌⊎◌, ◌&&◌, not, inl, inr, ℕ, ◌≤◌, ◌<◌, ◌+◌, List, [], ◌∷◌, ◌++◌, length, refl, sym, ap, subst, ◌∙◌, arith, append_assoc, length-append, Bool, true, false, Option, Some, None, IsSome, Result, Ok, Err, IfOk, OnErr}
-use Rattle.httparse.specs.Grammar.{RequestHead, print_request, ChunkLine, chunk_size, HasNoSection}
+use Rattle.std.proofs.Common.{◌≡◌, ◌⊎◌, ◌&&◌, not, inl, inr, ℕ, ◌≤◌, ◌<◌, ◌+◌, List, [], ◌∷◌, ◌++◌, length, refl, sym, ap, subst, ◌∙◌, arith, append_assoc, Bool, true, false, Option, Some, None, IsSome, Result, Ok, Err, IfOk, OnErr}
+use Rattle.httparse.specs.Grammar.{RequestHead, ChunkLine, chunk_size, HasNoSection}
 use Rattle.httparse.specs.Spans.{RequestOverflows, SectionOverflows}
 use Rattle.http_edge.specs.declared.memory.Memory.{Memory}
 use Rattle.http_edge.specs.declared.request.BadKind.{BadKind}
@@ -20,7 +20,6 @@ use Rattle.http_edge.specs.Chunks.{BeginsLine, BeginsTrailers, NeverTrailers, Re
 use Rattle.http_edge.specs.Bodies.{SoFar, Chunks, BehindLine, NoBody, OpenTrailers, Comes}
 use Rattle.http_edge.specs.Edges.{GoesOn, IsStart, StandsBegun, HeadWaits, TrailersWait, Waits, HasTooMany, Expects, WaitsIn, Leaves, FillsBegun, FillsIn}
 use Rattle.http_edge.proofs.Chunking.{chunk_on, line_on, line_never, same_line}
-use Rattle.http_edge.proofs.Heading.{head_is_some}
 use Rattle.http_edge.proofs.Lefts.{splits, splits_fail}
 use Rattle.http_edge.proofs.Readings.{same_head, begins_on, never_and_begins}
 
@@ -199,15 +198,6 @@ pub waits-begun : (o : Option Begun) (text : List ℕ) → IsSome o → HasNone 
 waits-begun None text some w = absurd cc
 waits-begun (Some b) text some w = w
 
-pub waits-unbegun : (o : Option Begun) (text : List ℕ) → o ≡ None → HeadWaits text → WaitsIn o text
-waits-unbegun o text none w = rw none w
-
--- where no head is whole, nothing is expected
-pub expects-none : (o : Option Begun) (text : List ℕ) → o ≡ None → WaitsIn o text → Expects text → ⊥
-expects-none o text none w x =
-    let head : HeadWaits text = subst (λ (u : Option Begun). WaitsIn u text) none w in
-    head.0 x.head x.behind x.begins.reads
-
 -- the request begun asks for it
 pub expected : (c : Content) (left : Left) (wants : Bool) (unread text : List ℕ) → GoesOn c left wants unread text → wants ≡ true → Expects text
 expected c left wants unread text g so = record { head = g.head; behind = g.behind; begins = g.begins; asks = sym g.wants_is ∙ so }
@@ -217,17 +207,3 @@ pub told-before : (wants told : Bool) → (wants && not told) ≡ false → want
 told-before wants true either so = refl
 told-before true false either so = absurd cc
 told-before false false either so = absurd cc
-
--- no head, and so none that asks for it, begins nothing
-pub empty-expects : Expects [] → ⊥
-empty-expects x =
-    let some = head_is_some x.head in
-    let whole = ap length x.begins.reads.1 ∙ length-append (print_request x.head) x.behind in
-    absurd (omega (arith, some, whole))
-
--- where no head is whole, all is left
-pub head-leaves : (o : Option Begun) (unread text : List ℕ) → o ≡ None → HeadWaits unread → StandsBegun o unread text → HeadWaits text × Leaves text unread
-head-leaves o unread text none w s =
-    let is = text_is o unread text none s in
-    let waits : HeadWaits text = subst HeadWaits (sym is) w in
-    (waits, inl (waits.0, sym is))

@@ -29,7 +29,3 @@ one_put begun all new values rest v text total e same put_is so_far =
     let step = put begun all v.bytes (map (λ v. v.bytes) rest) in
     let now : with_values begun all (map (λ v. v.bytes) (v ∷ rest)) ≡ total = rw e at so_far in
     rw (put_is, same) (sym step ∙ now)
-
-pub all_put : (begun : Bool) (all total : List ℕ) (values : List FieldValue) → values ≡ [] → with_values begun all (map (λ v. v.bytes) values) ≡ total → all ≡ total
-all_put true all total values e so_far = let now : all ++ [] ≡ total = rw e at so_far in sym (append-nil all) ∙ now
-all_put false all total values e so_far = let now : all ++ [] ≡ total = rw e at so_far in sym (append-nil all) ∙ now

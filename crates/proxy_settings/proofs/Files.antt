@@ -10,13 +10,10 @@ use Rattle.proxy_settings.specs.declared.fault.Reason.{Reason}
 use Rattle.proxy_settings.specs.declared.fault.SetupFault.{SetupFault}
 use Rattle.proxy_settings.specs.declared.fault.SetupFault.TheVariants as Fault
 use Rattle.proxy_settings.specs.declared.part.Part.{Part}
-use Rattle.proxy_settings.specs.declared.part.Part.TheVariants as part
 use Rattle.proxy_settings.specs.declared.part.Setup.{Setup}
-use Rattle.proxy_settings.specs.declared.part.Setup.TheVariants as setup
-use Rattle.toml.specs.Data.{Members}
-use Rattle.proxy_settings.specs.Setups.{StandsFor, IsSetup}
+use Rattle.proxy_settings.specs.Setups.{StandsFor}
 use Rattle.proxy_settings.specs.Steps.{Finds}
-use Rattle.proxy_settings.specs.Files.{IsFailure, IsReadOf, IsOf}
+use Rattle.proxy_settings.specs.Files.{IsFailure, IsReadOf}
 
 -- A failure says nothing of the bytes.
 failure : {V : Type 0} (items : V → List ℕ) (bytes : List ℕ) (e : FileFault) → IsFailure e → IsReadOf items bytes (Err e)
@@ -25,11 +22,6 @@ failure items bytes TooLarge h = absurd h
 failure items bytes (NotText line) h = h
 failure items bytes (Refused line reason) h = h
 failure items bytes Memory h = tt
-
-pub failure_known : {V : Type 0} (items : V → List ℕ) (known : Option (List ℕ)) (e : FileFault) → IsFailure e
-    → IfSome known (λ bytes. IsReadOf items bytes (Err e))
-failure_known items None e h = tt
-failure_known items (Some bytes) e h = failure items bytes e h
 
 -- What fits was read whole.
 fits : (limit : ℕ) (read bytes : List ℕ) → read ≡ [] ++ take (limit + 1) bytes → length read ≤ limit
@@ -65,13 +57,3 @@ refused which text bytes fault reason same is none s stands =
     let told : Finds {X = Setup} (Err (Fault.Refused reason)) (StandsFor which text) =
     subst (λ f. Finds {X = Setup} (Err f) (StandsFor which text)) is none in
     told s (subst (λ t. StandsFor which t s) (sym same) stands)
-
-is_of : (which : Part) (t : Members) (s : Setup) → IsSetup which t s → IsOf which s
-is_of part.Serve t (setup.Serve s) is = tt
-is_of part.Serve t (setup.Origin d) is = is
-is_of part.Origin t (setup.Serve s) is = is
-is_of part.Origin t (setup.Origin d) is = tt
-
--- Settings that a text stands for are those of the part.
-pub of_part : (which : Part) (text : List ℕ) (s : Setup) → StandsFor which text s → IsOf which s
-of_part which text s stands = is_of which stands.table s stands.settings

@@ -16,9 +16,6 @@ pub record Completes {A : Type 0} (IsRow : Members → A → Type 0) (whole rest
   pub back : (more : List A) → AreTables IsRow rest more → AreTables IsRow whole (rows ++ more)
   pub forth : (all : List A) → AreTables IsRow whole all → (more : List A) × AreTables IsRow rest more
 
-pub at_start : {A : Type 0} (IsRow : Members → A → Type 0) (whole : Items) → Completes IsRow whole whole []
-at_start IsRow whole = record { back = λ more h. h; forth = λ all h. (all, h) }
-
 -- the first row, and the others
 pub first_row : {A : Type 0} (IsRow : Members → A → Type 0) (d : Data) (ds : Items) (rows : List A) → AreTables IsRow (item d ds) rows → (x : A) × IsTable IsRow d x
 first_row IsRow d ds [] h = absurd h
@@ -59,9 +56,6 @@ rows_done IsRow whole rows h = h.back [] tt
 -- Rows were found so far.
 abbrev pub Checked : {A : Type 0} → (Members → A → Type 0) → Items → Items → Type 0
 Checked {A} IsRow whole rest = (rows : List A) × Completes IsRow whole rest rows
-
-pub checked_start : {A : Type 0} (IsRow : Members → A → Type 0) (whole : Items) → Checked IsRow whole whole
-checked_start IsRow whole = ([], at_start IsRow whole)
 
 pub checked_more : {A : Type 0} (IsRow : Members → A → Type 0) (vs : List Value) (i : ℕ) (v : Value)
     → i < length vs → get_or vs i v ≡ v → (x : A) × IsTable IsRow (view v) x

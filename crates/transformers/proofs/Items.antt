@@ -96,6 +96,3 @@ pub map_refused : (levels n : ℕ) (bytes : List ℕ) → 0 < levels → many_at
     → body_at (inner_of levels) Map n bytes ≡ None
 unfolding map_at
 map_refused levels n bytes lt e = rw (inner_is levels lt, e) refl
-
-pub no_level : (major : Major) (levels n : ℕ) (bytes : List ℕ) → levels ≡ 0 → body_at (inner_of levels) Array n bytes ≡ None
-no_level major levels n bytes e = rw e refl

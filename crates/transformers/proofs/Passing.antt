@@ -264,7 +264,3 @@ taken_rest bytes rest h = whole_some (item_at 32 bytes) rest h
 pub taken_none : (bytes : List ℕ) → IsBehind true (item_at 32 bytes) None → is_some (denoted bytes) ≡ false
 unfolding denoted
 taken_none bytes h = whole_none (item_at 32 bytes) h
-
-pub nothing_there : {A : Type 0} (o : Option A) → is_some o ≡ false → o ≡ None
-nothing_there (Some x) e = absurd (true≢false e)
-nothing_there None e = refl

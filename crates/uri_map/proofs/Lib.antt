@@ -1,6 +1,5 @@
 pub mod Addresses
 pub mod Characters
-pub mod Digits
 pub mod Pieces
 pub mod TextLists
 pub mod Lowering

@@ -1,19 +1,11 @@
 -- A name that is read byte by byte.
-use Rattle.std.proofs.Common.{◌≡◌, ℕ, ◌<◌, ◌≤◌, ◌+◌, false, true, List, [], ◌∷◌, ◌++◌, length, refl, sym, ap, ◌∙◌, append-nil, arith}
-use Rattle.std.specs.Char.{to_ascii_lowercase}
+use Rattle.std.proofs.Common.{◌≡◌, ℕ, ◌≤◌, ◌+◌, false, true, List, [], ◌++◌, length, refl, sym, ap, ◌∙◌, append-nil, arith}
 use Rattle.std.specs.Str.{str_to_ascii_lowercase, is_utf8}
-use Rattle.std.proofs.lemmas.List.{length-append, length-map}
 use Rattle.std.proofs.lemmas.Bool.{le-leb}
 use Rattle.uri_map.specs.Authority.{is_name}
 
 pub all_read : (name rest total : List ℕ) → rest ≡ [] → name ++ str_to_ascii_lowercase rest ≡ total → name ≡ total
 all_read name rest total none read = sym (append-nil name) ∙ (rw none at read)
-
-pub too_long : (name rest others total : List ℕ) (b : ℕ) → rest ≡ b ∷ others → name ++ str_to_ascii_lowercase rest ≡ total → length name ≡ 255 → is_name total ≡ false
-too_long name rest others total b more read long =
-    let size : length total ≡ length name + length rest = sym (ap length read) ∙ length-append name (str_to_ascii_lowercase rest) ∙ ap (λ n. length name + n) (length-map rest to_ascii_lowercase) in
-    let above : 255 < length total = omega (arith, ap length more) in
-    grind (arith, above)
 
 pub no_bytes : (name total : List ℕ) → name ≡ total → length name ≡ 0 → is_name total ≡ false
 no_bytes name total same none = let size : length total ≡ 0 = sym (ap length same) ∙ none in grind (arith, size)

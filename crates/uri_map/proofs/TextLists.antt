@@ -22,10 +22,6 @@ failed f = Err f
 abbrev done : List (List ℕ) → Result (List (List ℕ)) UriFault
 done x = Ok x
 
-pub same_start : (all : Result (List (List ℕ)) UriFault) → SameFault all all
-same_start (Ok x) = ([], refl)
-same_start (Err e) = ([], refl)
-
 with_more : (front : List (List ℕ)) (text : List ℕ) (rest : Result (List (List ℕ)) UriFault) → with_front front (rest >>= λ texts. Ok (text ∷ texts)) ≡ with_front (front ++ text ∷ []) rest
 with_more front text (Ok x) = ap done (simp append_assoc)
 with_more front text (Err e) = refl
@@ -34,16 +30,6 @@ pub same_goes_on : (part : Part) (piece text : List ℕ) (others : List (List �
 same_goes_on part piece text others pieces all e read (front, same) =
     let step : texts_at part pieces ≡ (texts_at part others >>= λ texts. Ok (text ∷ texts)) = rw (e, read) refl in
     (front ++ text ∷ [], same ∙ ap (with_front front) step ∙ with_more front text (texts_at part others))
-
-pub same_stops : (part : Part) (piece : List ℕ) (others : List (List ℕ)) (pieces : List (List ℕ)) (all : Result (List (List ℕ)) UriFault) (f : UriFault) → pieces ≡ piece ∷ others → text_at part piece ≡ Err f → SameFault (texts_at part pieces) all → all ≡ Err f
-same_stops part piece others pieces all f e fault (front, same) =
-    let step : texts_at part pieces ≡ Err f = rw (e, fault) refl in
-    same ∙ ap (with_front front) step
-
-pub same_ends : (part : Part) (pieces : List (List ℕ)) (all : Result (List (List ℕ)) UriFault) → pieces ≡ [] → SameFault (texts_at part pieces) all → (texts : List (List ℕ)) × (all ≡ Ok texts)
-same_ends part pieces all e (front, same) =
-    let step : texts_at part pieces ≡ Ok [] = rw e refl in
-    (front ++ [], same ∙ ap (with_front front) step)
 
 chosen_ok : (x y z : Bool) (text : List ℕ) (f : UriFault) → IsOk (if x && y && z then Ok text else failed f) → y ≡ true
 chosen_ok true true z text f ok = refl
