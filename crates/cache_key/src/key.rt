@@ -2,9 +2,12 @@
 
 ghost use Rattle.std.specs.Prelude.{◌≡◌, IfOk};
 ghost use Rattle.cache_key.specs.Keys.{key_of, same_host, same_key};
+ghost use Rattle.cache_key.specs.Order.{key_cmp};
 
+use crate::order::{cmp_hosts, cmp_texts};
 use crate::place::Place;
 use std::alloc::{AllocError, Global};
+use std::cmp::Ordering;
 use std::marker::Model;
 use std::sync::Arc;
 use uri_map::{Host, Peer, Target, Texts};
@@ -87,6 +90,19 @@ impl Key {
             && is_same_host(&self.parts.host, &other.parts.host)
             && self.parts.query == other.parts.query
             && self.parts.accept == other.parts.accept
+    }
+
+    /// Which of the two stands first in an index: by the place, and then by the host, the query and
+    /// the Accept. The keys of a place stand together.
+    pub fn total_cmp(&self, other: &Key) -> Ordering
+        ensures { result ≡ key_cmp self.now other.now }
+    {
+        let (a, b) = (&self.parts, &other.parts);
+        a.place
+            .total_cmp(&b.place)
+            .then(cmp_hosts(&a.host, &b.host))
+            .then(cmp_texts(a.query.as_slice(), b.query.as_slice()))
+            .then(a.accept.cmp(&b.accept))
     }
 
     /// The same key once more, which isn't copied.

@@ -2,7 +2,8 @@
 //! changes (section 5.9.2).
 //!
 //! The one contract: two keys, and two places, pass for the same exactly where they are equal, so
-//! that definitions may speak of equal ones. Two GETs have one key exactly where a response to one
+//! that definitions may speak of equal ones. Both have a total order besides, for indexes
+//! (`keys_in_order`). Two GETs have one key exactly where a response to one
 //! may answer the other: they ask the same server with equal options (`keys_match_requests`). The
 //! watches (`observe_share`) stand on it, and so will the store of responses. A key is made once for
 //! each request; its copies share it.
@@ -10,8 +11,11 @@
 
 mod key;
 mod laws;
+mod order;
 mod place;
 
 pub use key::Key;
-pub use laws::{keys_match_requests, keys_told_apart, places_told_apart};
+pub use laws::{
+    keys_in_order, keys_match_requests, keys_told_apart, places_in_order, places_told_apart,
+};
 pub use place::Place;

@@ -2,8 +2,11 @@
 
 ghost use Rattle.std.specs.Prelude.{◌≡◌, IfOk};
 ghost use Rattle.cache_key.specs.Keys.{place_of, same_address, same_place};
+ghost use Rattle.cache_key.specs.Order.{place_cmp};
 
+use crate::order::{cmp_addresses, cmp_texts};
 use std::alloc::AllocError;
+use std::cmp::Ordering;
 use std::net::IpAddr;
 use uri_map::{Peer, Target, Texts};
 
@@ -46,6 +49,15 @@ impl Place {
         is_same_address(&self.peer.address, &other.peer.address)
             && self.peer.port == other.peer.port
             && self.path == other.path
+    }
+
+    /// Which of the two stands first in an index: by the peer, and then by the path.
+    pub fn total_cmp(&self, other: &Place) -> Ordering
+        ensures { result ≡ place_cmp self.now other.now }
+    {
+        cmp_addresses(&self.peer.address, &other.peer.address)
+            .then(self.peer.port.cmp(&other.peer.port))
+            .then(cmp_texts(self.path.as_slice(), other.path.as_slice()))
     }
 
     /// A copy of the place.

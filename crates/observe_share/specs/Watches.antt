@@ -10,6 +10,14 @@ use Rattle.observe_share.specs.declared.notice.Notified.{Notified}
 use Rattle.observe_share.specs.declared.notice.Notified.TheVariants.{Unknown, Older, Updated, Ended}
 use Rattle.observe_share.specs.Newer.{newer}
 
+-- the watches in the order of their registration, and whether one more takes no memory
+pub record WatchValue : Type 0 where
+  pub standing : List Registration
+  pub room : Bool
+
+abbrev pub with_room : WatchValue → WatchValue
+with_room w = record w { room = true }
+
 -- it came for the request that had this token
 abbrev pub is_under : List ℕ → Registration → Bool
 is_under token r = bytes_eq r.token token
@@ -37,6 +45,11 @@ abbrev pub counts_for : Notice → ℕ → Registration → Bool
 counts_for (Update v) t r = newer r.version r.moment v t
 counts_for (Other (Some v)) t r = newer r.version r.moment v t
 counts_for (Other None) t r = true
+
+-- the watch, if the notice counts for it
+abbrev pub if_counts : Notice → ℕ → Option Registration → Option Registration
+if_counts n t None = None
+if_counts n t (Some r) = if counts_for n t r then Some r else None
 
 -- what a notice that counts makes of its watch
 abbrev pub counted : Notice → ℕ → Registration → Option Registration

@@ -3,7 +3,7 @@
 ghost use Rattle.std.specs.Prelude.{◌≡◌};
 ghost use Rattle.observe_share.specs.declared.fault.WatchFault.TheVariants.{Memory};
 
-use std::alloc::AllocFailed;
+use std::alloc::{AllocError, AllocFailed};
 use std::error::Error;
 use std::fmt;
 use std::fmt::{Display, Formatter, Write};
@@ -27,6 +27,14 @@ impl Display for WatchFault {
 }
 
 impl Error for WatchFault {}
+
+impl From<AllocError> for WatchFault {
+    ghost from_gives = { λ _ e. e ≡ Memory };
+
+    fn from(_e: AllocError) -> WatchFault {
+        WatchFault::Memory
+    }
+}
 
 impl<T: Drop> From<AllocFailed<T>> for WatchFault {
     ghost from_gives = { λ _ e. e ≡ Memory };

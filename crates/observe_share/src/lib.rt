@@ -3,7 +3,8 @@
 //! The one contract: a watch holds the number and the moment of the newest notification that came
 //! under its token, and no more than 64 stand. `newer` is the formula of RFC 7641 section 3.4, and
 //! `newest_wins` says what it is good for: of notifications that came in any order, the last one
-//! sent is the one that is kept. Who shares one observation among many readers is to stand on it;
+//! sent is the one that is kept. Only a registration wants memory, and room for it can be made
+//! before (`Watch::make_room`). Who shares one observation among many readers is to stand on it;
 //! the program doesn't use it yet.
 #![tactic(auto)]
 

@@ -1,9 +1,9 @@
 //! The watches that stand.
 
-ghost use Rattle.std.specs.Prelude.{◌≡◌, ◌==◌, ◌≤◌, ◌+◌, ◌∷◌, ◌++◌, ◌↔◌, [], map, length, All, Any, OnOk, OnErr, IfOk, IfNone, IfSome, IsErrOf};
+ghost use Rattle.std.specs.Prelude.{◌≡◌, ◌==◌, ◌≤◌, ◌<◌, ◌+◌, ◌∷◌, ◌++◌, ◌↔◌, [], map, length, true, false, vec_capacity, All, Any, OnOk, OnErr, IfOk, IfNone, IfSome, IsErrOf};
 ghost use Rattle.std.specs.Option.{option_copied};
 ghost use Rattle.std.specs.List.{position, find};
-ghost use Rattle.observe_share.specs.Watches.{is_under, is_of, is_at, is_idle, without, asked_at, counts_for, noticed, told_of, notice_tells};
+ghost use Rattle.observe_share.specs.Watches.{is_under, is_of, is_at, is_idle, with_room, without, asked_at, counts_for, if_counts, noticed, told_of, notice_tells};
 ghost use Rattle.observe_share.specs.Due.{IsNextDue};
 ghost use Rattle.observe_share.specs.declared.fault.WatchFault.{WatchFault};
 
@@ -26,12 +26,15 @@ pub struct Watch {
 }
 
 impl Model for Watch {
-    ghost use Rattle.std.specs.Prelude.{List, length, ◌≤◌};
-    ghost use Rattle.observe_share.specs.declared.registration.Registration.{Registration};
+    ghost use Rattle.std.specs.Prelude.{length, nat_lt, vec_capacity, vec_len, ◌≤◌};
+    ghost use Rattle.observe_share.specs.Watches.{WatchValue};
 
-    ghost Value = { List Registration };
+    ghost Value = { WatchValue };
 
-    ghost view = { λ w. w.standing.items };
+    ghost view = { λ w. record {
+      standing = w.standing.items;
+      room = nat_lt (vec_len w.standing) (vec_capacity w.standing);
+    } };
 
     ghost invariant = { λ w. length w.standing.items ≤ 64 };
 }
@@ -83,6 +86,7 @@ fn first_asked(standing: &[Registration]) -> Option<u64>
 fn drop_key(standing: &mut Vec<Registration>, key: &Key)
     ensures items { standing.new.items ≡ without (is_of key.now) standing.old.items }
     ensures fewer { length standing.new.items ≤ length standing.old.items }
+    ensures capacity { vec_capacity standing.new ≡ vec_capacity standing.old }
 {
     standing.retain(|r| !r.key.is_same(key));
 }
@@ -90,6 +94,7 @@ fn drop_key(standing: &mut Vec<Registration>, key: &Key)
 fn drop_place(standing: &mut Vec<Registration>, place: &Place)
     ensures items { standing.new.items ≡ without (is_at place.now) standing.old.items }
     ensures fewer { length standing.new.items ≤ length standing.old.items }
+    ensures capacity { vec_capacity standing.new ≡ vec_capacity standing.old }
 {
     standing.retain(|r| !r.key.place().is_same(place));
 }
@@ -97,6 +102,7 @@ fn drop_place(standing: &mut Vec<Registration>, place: &Place)
 fn drop_idle(standing: &mut Vec<Registration>, moment: u64)
     ensures items { standing.new.items ≡ without (is_idle moment) standing.old.items }
     ensures fewer { length standing.new.items ≤ length standing.old.items }
+    ensures capacity { vec_capacity standing.new ≡ vec_capacity standing.old }
 {
     standing.retain(|r| !r.is_idle(moment));
 }
@@ -104,7 +110,7 @@ fn drop_idle(standing: &mut Vec<Registration>, moment: u64)
 impl Watch {
     /// No watches.
     pub fn new(alloc: Global) -> Watch
-        ensures { result ≡ [] }
+        ensures { result.standing ≡ [] }
     {
         Watch {
             standing: Vec::new(alloc),
@@ -113,44 +119,82 @@ impl Watch {
 
     /// How many stand.
     pub fn len(&self) -> usize
-        ensures count { result ≡ length self.now }
-        ensures few { length self.now ≤ 64 }
+        ensures count { result ≡ length self.now.standing }
+        ensures few { length self.now.standing ≤ 64 }
     {
         self.standing.len()
     }
 
     /// Whether none stands.
     pub fn is_empty(&self) -> bool
-        ensures { result ≡ (length self.now == 0) }
+        ensures { result ≡ (length self.now.standing == 0) }
     {
         self.standing.is_empty()
     }
 
-    /// One more watch. A watch of its key that stands is to be forgotten first.
+    /// Makes room for one more watch, so that registering it takes no memory.
+    pub fn make_room(&mut self) -> Result<(), AllocError>
+        ensures ok { OnOk result (self.new ≡ with_room self.old) }
+        ensures unchanged { OnErr result (self.new ≡ self.old) }
+        ensures wanted { OnErr result (self.old.room ≡ false) }
+    {
+        self.standing.reserve(1)
+    }
+
+    /// One more watch, for which there is room. A watch of its key that stands is to be forgotten
+    /// first.
+    pub fn register_in_room(&mut self, registration: Registration)
+        requires few { length self.old.standing < 64 }
+        requires room { self.old.room ≡ true }
+        ensures { self.new.standing ≡ self.old.standing ++ registration ∷ [] }
+    {
+        if self.standing.push(registration).is_err() {
+            unreachable!()
+        }
+    }
+
+    /// One more watch, as `register_in_room` does, where room may still have to be made.
     pub fn register(&mut self, registration: Registration) -> Result<(), WatchFault>
-        ensures ok { OnOk result (self.new ≡ self.old ++ registration ∷ []) }
+        ensures ok { OnOk result (self.new.standing ≡ self.old.standing ++ registration ∷ []) }
         ensures err { OnErr result (self.new ≡ self.old) }
-        ensures full { IsErrOf result WatchFault.Full ↔ (64 ≤ length self.old) }
+        ensures full { IsErrOf result WatchFault.Full ↔ (64 ≤ length self.old.standing) }
+        ensures memory { IsErrOf result WatchFault.Memory → self.old.room ≡ false }
     {
         if self.standing.len() >= LIMIT {
             return Err(WatchFault::Full);
         }
-        self.standing.push(registration)?;
+        self.make_room()?;
+        self.register_in_room(registration);
         Ok(())
     }
 
     /// The watch under this token.
     pub fn under(&self, token: &Token) -> Option<&Registration>
-        ensures { option_copied result ≡ find (is_under token.now) self.now }
+        ensures { option_copied result ≡ find (is_under token.now) self.now.standing }
     {
         self.standing.iter().find(|r| has_token(r, token))
+    }
+
+    /// The watch for which this notice counts, if one does. Nothing changes.
+    pub fn counting(&self, token: &Token, notice: Notice, moment: u64) -> Option<&Registration>
+        ensures { option_copied result
+            ≡ if_counts notice moment (find (is_under token.now) self.now.standing) }
+    {
+        let r = self.under(token)?;
+        if counts(notice, moment, r) {
+            Some(r)
+        } else {
+            None
+        }
     }
 
     /// What came under this token, at this moment. Where it counts, the watch holds its number and
     /// moment from then on, or ends.
     pub fn notified(&mut self, token: &Token, notice: Notice, moment: u64) -> Notified
-        ensures watches { self.new ≡ noticed token.now notice moment self.old }
-        ensures told { told_of result ≡ notice_tells notice moment (find (is_under token.now) self.old) }
+        ensures watches { self.new.standing ≡ noticed token.now notice moment self.old.standing }
+        ensures told { told_of result
+            ≡ notice_tells notice moment (find (is_under token.now) self.old.standing) }
+        ensures room { self.old.room ≡ true → self.new.room ≡ true }
     {
         let Some(place) = place_under(&self.standing, token) else {
             return Notified::Unknown;
@@ -169,21 +213,24 @@ impl Watch {
 
     /// The key was asked for at this moment.
     pub fn touched(&mut self, key: &Key, moment: u64)
-        ensures { self.new ≡ map (asked_at key.now moment) self.old }
+        ensures watches { self.new.standing ≡ map (asked_at key.now moment) self.old.standing }
+        ensures room { self.new.room ≡ self.old.room }
     {
         touch(&mut self.standing, key, moment);
     }
 
     /// The watches of this key are forgotten, since an exchange is opened for it.
     pub fn forget(&mut self, key: &Key)
-        ensures { self.new ≡ without (is_of key.now) self.old }
+        ensures watches { self.new.standing ≡ without (is_of key.now) self.old.standing }
+        ensures room { self.old.room ≡ true → self.new.room ≡ true }
     {
         drop_key(&mut self.standing, key);
     }
 
     /// The watches of this place are forgotten, since a write to it ended.
     pub fn retire(&mut self, place: &Place)
-        ensures { self.new ≡ without (is_at place.now) self.old }
+        ensures watches { self.new.standing ≡ without (is_at place.now) self.old.standing }
+        ensures room { self.old.room ≡ true → self.new.room ≡ true }
     {
         drop_place(&mut self.standing, place);
     }
@@ -191,8 +238,9 @@ impl Watch {
     /// The watches for whose keys nobody asked in the last 120,000 ms are forgotten; how many these
     /// are.
     pub fn idle(&mut self, moment: u64) -> usize
-        ensures watches { self.new ≡ without (is_idle moment) self.old }
-        ensures count { result + length self.new ≡ length self.old }
+        ensures watches { self.new.standing ≡ without (is_idle moment) self.old.standing }
+        ensures count { result + length self.new.standing ≡ length self.old.standing }
+        ensures room { self.old.room ≡ true → self.new.room ≡ true }
     {
         let before = self.standing.len();
         drop_idle(&mut self.standing, moment);
@@ -201,14 +249,14 @@ impl Watch {
 
     /// The least moment at which `idle` forgets a watch; None where there is none.
     pub fn next_due(&self) -> Option<u64>
-        ensures { IsNextDue self.now result }
+        ensures { IsNextDue self.now.standing result }
     {
         first_asked(&self.standing)?.checked_add(IDLE)
     }
 
     /// The same watches, which share their keys.
     pub fn copy(&self) -> Result<Watch, AllocError>
-        ensures { IfOk result (λ w. w ≡ self.now) }
+        ensures { IfOk result (λ w. w.standing ≡ self.now.standing) }
     {
         let mut standing = Vec::new(*self.standing.allocator());
         'each: for r in &self.standing {

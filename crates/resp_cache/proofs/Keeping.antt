@@ -1,17 +1,18 @@
 -- What calls leave is a store.
-use Rattle.std.proofs.Common.{◌≡◌, ℕ, suc, ◌+◌, ◌<◌, ◌≤◌, List, [], ◌∷◌, ◌++◌, length, filter, Bool, true, false, Option, Some, None, MatchOption, Result, Ok, Err, OnOk, OnErr, refl, ap, sym, subst, ◌∙◌, get_or, take, drop, arith, inl, inr, length-append}
+use Rattle.std.proofs.Common.{◌≡◌, ℕ, suc, ◌+◌, ◌<◌, ◌≤◌, List, [], ◌∷◌, ◌++◌, length, filter, Bool, true, false, Option, Some, None, MatchOption, Result, Ok, Err, OnErr, refl, ap, sym, subst, ◌∙◌, get_or, take, drop, arith, inl, inr, length-append}
 use Rattle.std.specs.List.{position, find, remove, list_any, slice_get}
 use Rattle.std.specs.Option.{option_to_list}
-use Rattle.std.proofs.lemmas.Bool.{cases_lt}
+use Rattle.std.proofs.lemmas.Bool.{cases_lt, false≢true}
 use Rattle.std.proofs.lemmas.List.Edits.{length-remove}
 use Rattle.std.proofs.lemmas.List.{length-take}
 use Rattle.std.proofs.lemmas.Option.{slice_get_read, slice_get_cases}
 use Rattle.limits.specs.declared.TheConstants.{MAX_STORED}
 use Rattle.cache_key.specs.Keys.{CacheKey}
 use Rattle.resp_cache.specs.Stored.{Stored, is_never_fresh}
-use Rattle.resp_cache.specs.Stores.{is_of, is_of_another, is_fresh_under, others, moved, placed, served, stored_in, with_first, IsStore}
+use Rattle.resp_cache.specs.Stores.{is_of, is_of_another, is_fresh_under, others, moved, placed, served, stored_in, with_first, has_room, IsStore}
 use Rattle.resp_cache.specs.declared.pair.Pair.{Pair}
 use Rattle.resp_cache.proofs.Lists.{cut_at, find-at, find-nothing, length-filtered, none_dropped, none_passed, take_roomy}
+use Rattle.resp_cache.proofs.Room.{room_by}
 use Rattle.resp_cache.proofs.Apart.{apart-filtered, apart-placed, apart-taken, others-removed}
 
 pub store-filtered : (f : Pair → Bool) (ps : List Pair) → IsStore ps → IsStore (filter f ps)
@@ -23,14 +24,10 @@ store-placed p ps s = record {
   apart = apart-taken MAX_STORED (p ∷ others p.key ps) (apart-placed p ps s.apart);
 }
 
--- where a pair was put, or none could be put
-pub store-put : {A E : Type 0} (r : Result A E) (p : Pair) (ps left news : List Pair) → IsStore ps → left ≡ others p.key ps → OnOk r (news ≡ take MAX_STORED (p ∷ left)) → OnErr r (news ≡ left) → IsStore news
-store-put (Ok x) p ps left news s is ok err =
+pub store-put : (p : Pair) (ps left news : List Pair) → IsStore ps → left ≡ others p.key ps → news ≡ take MAX_STORED (p ∷ left) → IsStore news
+store-put p ps left news s is made =
     let P : List Pair → Type 0 = λ xs. IsStore xs in
-    subst P (sym (ok ∙ ap (λ xs. take MAX_STORED (p ∷ xs)) is)) (store-placed p ps s)
-store-put (Err e) p ps left news s is ok err =
-    let P : List Pair → Type 0 = λ xs. IsStore xs in
-    subst P (sym (err ∙ is)) (store-filtered (is_of_another p.key) ps s)
+    subst P (sym (made ∙ ap (λ xs. take MAX_STORED (p ∷ xs)) is)) (store-placed p ps s)
 
 -- Nothing has to be cut off from what a filter leaves.
 pub roomy-filtered : (f : Pair → Bool) (ps : List Pair) → IsStore ps → (take MAX_STORED (filter f ps) ≡ filter f ps) × (drop MAX_STORED (filter f ps) ≡ [])
@@ -50,15 +47,18 @@ unknown key ps all =
     (none_dropped (is_of key) ps none, find-nothing (is_of key) ps none)
 
 -- What takes a pair out leaves room, so room is wanted for a key alone that had no pair.
-pub put_refused : {A E : Type 0} (r : Result A E) (key : CacheKey) (ps left news : List Pair) (len room : ℕ) → left ≡ others key ps → (length left < length ps → len < room) → OnErr r (room ≤ len) → OnErr r (news ≡ left) → OnErr r (news ≡ ps) × OnErr r (find (is_of key) ps ≡ None)
-put_refused (Ok x) key ps left news len room is fits full same = (tt, tt)
-put_refused (Err e) key ps left news len room is fits full same =
+pub put_refused : (key : CacheKey) (ps left news : List Pair) (len cap : ℕ) → left ≡ others key ps → (length left < length ps → len < cap) → has_room len cap ≡ false → news ≡ left → (news ≡ ps) × (find (is_of key) ps ≡ None)
+put_refused key ps left news len cap is fits narrow same =
     elim (cases_lt (length left) (length ps)) [
-      | inl fewer ↦ absurd (let narrow : room ≤ len = full in omega (arith, fits fewer, narrow))
+      | inl fewer ↦ absurd (false≢true (sym narrow ∙ room_by len cap (inl (fits fewer))))
       | inr all ↦
           let h = unknown key ps (omega (arith, all, ap length is)) in
           (same ∙ (is ∙ h.0), h.1)
     ]
+
+pub on_err : {A E : Type 0} {X : Type 0} (r : Result A E) → X → OnErr r X
+on_err (Ok a) x = tt
+on_err (Err e) x = x
 
 -- a pair that comes to the front
 pub moved-first : (ps left news : List Pair) (i : ℕ) (r : Pair) → IsStore ps → i < length ps → r ≡ get_or ps i r → left ≡ remove ps i → news ≡ r ∷ left → (news ≡ with_first (slice_get ps i) ps) × IsStore news

@@ -1,3 +1,4 @@
+pub mod Room
 pub mod Lists
 pub mod Apart
 pub mod Keeping

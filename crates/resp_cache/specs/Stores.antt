@@ -1,5 +1,5 @@
 -- The pairs that are kept, the last used first, and what each call makes of them.
-use Rattle.std.specs.Prelude.{◌≡◌, ◌≤◌, ℕ, Bool, false, not, ◌&&◌, List, [], ◌∷◌, filter, find, length, Option, Some, None, option_map, if◌then◌else◌}
+use Rattle.std.specs.Prelude.{◌≡◌, ◌≤◌, ℕ, Bool, true, false, not, ◌&&◌, ◌||◌, nat_lt, nat_le, List, [], ◌∷◌, filter, find, length, Option, Some, None, option_map, if◌then◌else◌}
 use Rattle.std.specs.List.{list_any}
 use Rattle.limits.specs.declared.TheConstants.{MAX_STORED}
 use Rattle.cache_key.specs.Keys.{CacheKey, same_key, same_place}
@@ -27,6 +27,18 @@ pub record IsStore (ps : List Pair) : Type 0 where
   pub few : length ps ≤ MAX_STORED
   pub apart : KeysApart ps
 
+-- the pairs, and whether one more can be put without memory
+pub record StoreValue : Type 0 where
+  pub pairs : List Pair
+  pub room : Bool
+
+-- where so many stand in a vector of this capacity; one too many takes the place of the last one
+abbrev pub has_room : ℕ → ℕ → Bool
+has_room len capacity = nat_lt len capacity || nat_le MAX_STORED len
+
+abbrev pub with_room : StoreValue → StoreValue
+with_room s = record s { room = true }
+
 abbrev pub is_fresh_under : CacheKey → ℕ → Pair → Bool
 is_fresh_under key t p = is_of key p && is_fresh t p.stored
 
@@ -51,6 +63,9 @@ with_first (Some p) ps = p ∷ others p.key ps
 
 abbrev pub moved : CacheKey → ℕ → List Pair → List Pair
 moved key t ps = with_first (find (is_fresh_under key t) ps) ps
+
+abbrev pub with_moved : CacheKey → ℕ → StoreValue → StoreValue
+with_moved key t s = record s { pairs = moved key t s.pairs }
 
 -- A response is put in front, in place of the key's own. One that is never fresh isn't put.
 abbrev pub placed : CacheKey → Stored → List Pair → List Pair

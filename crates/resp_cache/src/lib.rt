@@ -6,7 +6,10 @@
 //! stays while fewer than 256 other keys are used after it (`the_last_used_stay`).
 //!
 //! A response is made once: the store, its copies and all who are given it share it. Clauses speak
-//! of that list alone, and not of how the pairs are found. The proxy doesn't use the store yet.
+//! of that list, and of whether there is room for one more pair, and not of how the pairs are
+//! found. What can fail is done before: a look (`Store::fresh`) changes nothing, room is made, and
+//! then `put_in_room`, `get`, `take_out` and `retire` can't fail. The proxy doesn't use the store
+//! yet.
 #![tactic(auto)]
 
 mod bytes;

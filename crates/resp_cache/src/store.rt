@@ -1,15 +1,16 @@
 //! The store.
 
-ghost use Rattle.std.specs.Prelude.{◌≡◌, ◌==◌, [], drop, filter, find, length, take, IfOk, None, OnErr, OnOk, false};
+ghost use Rattle.std.specs.Prelude.{◌≡◌, ◌==◌, [], drop, filter, find, length, take, IfOk, None, OnErr, OnOk, true, false};
 ghost use Rattle.std.specs.Borrow.{sem};
 ghost use Rattle.std.specs.Option.{option_copied, option_to_list};
 ghost use Rattle.limits.specs.declared.TheConstants.{MAX_STORED};
 ghost use Rattle.resp_cache.specs.Stored.{is_never_fresh};
-ghost use Rattle.resp_cache.specs.Stores.{IsStore, is_of, is_elsewhere, placed, served, stale_under};
+ghost use Rattle.resp_cache.specs.Stores.{IsStore, is_of, is_elsewhere, others, placed, served, stale_under, with_room};
 
 use crate::pair::Pair;
 use crate::pairs::{
-    drop_key, drop_place, fresh_place, move_first, put_first, share_pairs, stale_pair,
+    drop_key, drop_place, fresh_pair, fresh_place, make_room, move_first, put_first, share_pairs,
+    stale_pair,
 };
 use crate::stored::StoredResponse;
 use cache_key::{Key, Place};
@@ -23,13 +24,15 @@ pub struct Store {
 }
 
 impl Model for Store {
-    ghost use Rattle.std.specs.Prelude.{List};
-    ghost use Rattle.resp_cache.specs.declared.pair.Pair.{Pair};
-    ghost use Rattle.resp_cache.specs.Stores.{IsStore};
+    ghost use Rattle.std.specs.Prelude.{vec_capacity, vec_len};
+    ghost use Rattle.resp_cache.specs.Stores.{IsStore, StoreValue, has_room};
 
-    ghost Value = { List Pair };
+    ghost Value = { StoreValue };
 
-    ghost view = { λ s. s.pairs.items };
+    ghost view = { λ s. record {
+      pairs = s.pairs.items;
+      room = has_room (vec_len s.pairs) (vec_capacity s.pairs);
+    } };
 
     ghost invariant = { λ s. IsStore s.pairs.items };
 }
@@ -39,7 +42,7 @@ impl Store {
 
     /// No pairs.
     pub fn new(alloc: Global) -> Store
-        ensures { result ≡ [] }
+        ensures { result.pairs ≡ [] }
     {
         Store {
             pairs: Vec::new(alloc),
@@ -48,24 +51,32 @@ impl Store {
 
     /// How many pairs there are.
     pub fn len(&self) -> usize
-        ensures count { result ≡ length self.now }
-        ensures store { IsStore self.now }
+        ensures count { result ≡ length self.now.pairs }
+        ensures store { IsStore self.now.pairs }
     {
         self.pairs.len()
     }
 
     /// Whether there is none.
     pub fn is_empty(&self) -> bool
-        ensures { result ≡ (length self.now == 0) }
+        ensures { result ≡ (length self.now.pairs == 0) }
     {
         self.pairs.is_empty()
+    }
+
+    /// The key's response, if it is fresh at this moment in milliseconds. Nothing changes.
+    pub fn fresh(&self, key: &Key, moment: u64) -> Option<&StoredResponse>
+        ensures { option_copied result ≡ served key.now moment self.now.pairs }
+    {
+        let pair = fresh_pair(&self.pairs, key, moment)?;
+        Some(&pair.stored)
     }
 
     /// The key's response, if it is fresh at this moment in milliseconds. Its pair is the first one
     /// then, and else nothing changes.
     pub fn get(&mut self, key: &Key, moment: u64) -> Option<&StoredResponse>
         ensures* moves { sem 𝓛 (EndsServed self.entry key.now moment) }
-        ensures value { option_copied result ≡ served key.now moment self.old }
+        ensures value { option_copied result ≡ served key.now moment self.old.pairs }
     {
         let place = fresh_place(&self.pairs, key, moment)?;
         move_first(&mut self.pairs, place);
@@ -74,21 +85,46 @@ impl Store {
 
     /// The key's response, if it isn't fresh any more.
     pub fn stale(&self, key: &Key, moment: u64) -> Option<&StoredResponse>
-        ensures { option_copied result ≡ stale_under key.now moment self.now }
+        ensures { option_copied result ≡ stale_under key.now moment self.now.pairs }
     {
         let pair = stale_pair(&self.pairs, key, moment)?;
         Some(&pair.stored)
     }
 
-    /// Puts a response in front, in place of the key's own, and answers the pair that goes where there
-    /// is one too many. A response whose Max-Age is 0 isn't stored, and takes the key's pair out. Memory
-    /// may be wanted for a key that has no pair.
-    pub fn put(&mut self, key: Key, stored: StoredResponse) -> Result<Option<Pair>, AllocError>
-        ensures kept { OnOk result (self.new ≡ take MAX_STORED (placed key stored self.old)) }
-        ensures evicted { IfOk result
-            (λ e. option_to_list e ≡ drop MAX_STORED (placed key stored self.old)) }
+    /// Makes room for one more response, so that putting it takes no memory.
+    pub fn make_room(&mut self) -> Result<(), AllocError>
+        ensures ok { OnOk result (self.new ≡ with_room self.old) }
         ensures unchanged { OnErr result (self.new ≡ self.old) }
-        ensures new_key { OnErr result (find (is_of key) self.old ≡ None) }
+        ensures wanted { OnErr result (self.old.room ≡ false) }
+    {
+        make_room(&mut self.pairs)
+    }
+
+    /// Puts a response in front, in place of the key's own, and answers the pair that goes where
+    /// there is one too many. A response whose Max-Age is 0 isn't stored, and takes the key's pair
+    /// out.
+    pub fn put_in_room(&mut self, key: Key, stored: StoredResponse) -> Option<Pair>
+        requires { self.old.room ≡ true }
+        ensures kept { self.new.pairs ≡ take MAX_STORED (placed key stored self.old.pairs) }
+        ensures evicted { option_to_list result
+            ≡ drop MAX_STORED (placed key stored self.old.pairs) }
+    {
+        drop_key(&mut self.pairs, &key);
+        if stored.is_never_fresh() {
+            return None;
+        }
+        put_first(&mut self.pairs, Pair { key, stored })
+    }
+
+    /// Puts a response as `put_in_room` does, where room may still have to be made. Memory may be
+    /// wanted for a key that has no pair.
+    pub fn put(&mut self, key: Key, stored: StoredResponse) -> Result<Option<Pair>, AllocError>
+        ensures kept { OnOk result
+            (self.new.pairs ≡ take MAX_STORED (placed key stored self.old.pairs)) }
+        ensures evicted { IfOk result
+            (λ e. option_to_list e ≡ drop MAX_STORED (placed key stored self.old.pairs)) }
+        ensures unchanged { OnErr result (self.new ≡ self.old) }
+        ensures new_key { OnErr result (find (is_of key) self.old.pairs ≡ None) }
         ensures storable { OnErr result (is_never_fresh stored ≡ false) }
     {
         // Where the key has a pair, this leaves room for the new one.
@@ -96,19 +132,29 @@ impl Store {
         if stored.is_never_fresh() {
             return Ok(None);
         }
-        put_first(&mut self.pairs, Pair { key, stored })
+        make_room(&mut self.pairs)?;
+        Ok(put_first(&mut self.pairs, Pair { key, stored }))
+    }
+
+    /// Takes out the key's response, fresh or not.
+    pub fn take_out(&mut self, key: &Key)
+        ensures pairs { self.new.pairs ≡ others key.now self.old.pairs }
+        ensures room { self.old.room ≡ true → self.new.room ≡ true }
+    {
+        drop_key(&mut self.pairs, key);
     }
 
     /// Takes out the responses of this place, since a write to it ended.
     pub fn retire(&mut self, place: &Place)
-        ensures { self.new ≡ filter (is_elsewhere place.now) self.old }
+        ensures pairs { self.new.pairs ≡ filter (is_elsewhere place.now) self.old.pairs }
+        ensures room { self.old.room ≡ true → self.new.room ≡ true }
     {
         drop_place(&mut self.pairs, place);
     }
 
     /// The same pairs, which share their keys and responses.
     pub fn copy(&self) -> Result<Store, AllocError>
-        ensures { IfOk result (λ s. s ≡ self.now) }
+        ensures { IfOk result (λ s. s.pairs ≡ self.now.pairs) }
     {
         let alloc = *self.pairs.allocator();
         Ok(Store {

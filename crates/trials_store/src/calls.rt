@@ -78,3 +78,38 @@ fn a_pair_is_shared(rt: HostRuntime) {
     assert!(rt; is_shared(&pair));
     the_last_used_stay();
 }
+
+/// Puts a response under the key, where room was made before.
+fn puts_in_room(store: &mut Store, alloc: Global, segment: &str) -> Result<bool, AllocError> {
+    let key = key_of(alloc, segment, None)?;
+    let stored = response(alloc, 0, None)?;
+    store.make_room()?;
+    Ok(store.put_in_room(key, stored).is_none())
+}
+
+/// It is there until it is taken out, and a look leaves all as it was.
+fn is_taken_out(store: &mut Store, alloc: Global, segment: &str) -> Result<bool, AllocError> {
+    let key = key_of(alloc, segment, None)?;
+    let fresh = store.fresh(&key, 59_999).is_some();
+    let stale = store.fresh(&key, 60_000).is_none();
+    store.take_out(&key);
+    Ok(fresh && stale && store.fresh(&key, 0).is_none())
+}
+
+#[test]
+fn put_in_room_and_taken_out(rt: HostRuntime) {
+    let alloc = rt.alloc();
+    let mut store = two_places(alloc).expect(&rt, "memory");
+    check(
+        &rt,
+        "put",
+        puts_in_room(&mut store, alloc, "lock") == Ok(true),
+    );
+    check(&rt, "three", store.len() == 3);
+    check(
+        &rt,
+        "taken out",
+        is_taken_out(&mut store, alloc, "lock") == Ok(true),
+    );
+    check(&rt, "two", store.len() == 2);
+}

@@ -2,7 +2,7 @@
 
 use crate::samples::{token, watched};
 use crate::telling::check;
-use observe_share::{Watch, WatchFault};
+use observe_share::{Notice, Watch, WatchFault};
 use std::alloc::Global;
 
 /// Registers a watch under the token that ends so.
@@ -39,6 +39,38 @@ fn the_sixty_fifth_is_refused(rt: HostRuntime) {
     check(&rt, "they stand", watch.len() == 64);
     check(&rt, "the last", is_under(&watch, 63));
     check(&rt, "the refused", !is_under(&watch, 64));
+}
+
+/// Registers a watch under the token that ends so, where room was made before.
+fn registers_in_room(watch: &mut Watch, alloc: Global, last: u8) -> bool {
+    let Ok(registration) = watched(alloc, "t", last, 0) else {
+        return false;
+    };
+    if watch.len() >= 64 || watch.make_room().is_err() {
+        return false;
+    }
+    watch.register_in_room(registration);
+    true
+}
+
+/// A notification with this number counts at 20.
+fn counts(watch: &Watch, version: u32) -> bool {
+    watch
+        .counting(&token(1), Notice::Update(version), 20)
+        .is_some()
+}
+
+#[test]
+fn a_look_changes_nothing(rt: HostRuntime) {
+    let alloc = rt.alloc();
+    let mut watch = Watch::new(alloc);
+    check(&rt, "in room", registers_in_room(&mut watch, alloc, 1));
+    check(&rt, "a newer one", counts(&watch, 1));
+    check(
+        &rt,
+        "the same again",
+        counts(&watch, 1) && !counts(&watch, 0),
+    );
 }
 
 fn fault_is(alloc: Global, fault: WatchFault, words: &str) -> bool {

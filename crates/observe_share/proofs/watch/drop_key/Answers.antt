@@ -7,4 +7,4 @@ use Rattle.observe_share.proofs.watch.drop_key.Goals as goal
 pub returns : goal.returns
 returns c =
     let same = filter_same _ (λ r. not (is_of c.args.key.now r)) _ (λ x b f' k. search rules) _ _ c.retain.ensures.filtered in
-    record { items = same; fewer = rw same (length-filtered _ _) }
+    record { items = same; fewer = rw same (length-filtered _ _); capacity = c.retain.ensures.capacity }
