@@ -8,6 +8,7 @@ use proxy_settings::FileFault;
 use server_faults::{DeviceFault, ServeFault};
 use std::alloc::{AllocError, AllocFailed};
 use std::fmt;
+use std::io::ErrorKind;
 
 /// The first line of what `--help` prints, and what wrong arguments are told.
 pub const USAGE: &str = "usage: hcproxy replay [--journal] | hcproxy serve | hcproxy origin";
@@ -95,6 +96,8 @@ impl fmt::Display for Failure {
 pub enum Hint<'a> {
     SeeHelp,
     Because(Reason),
+    /// There is no file of that path.
+    NoFile(&'a str),
     /// What is wrong with the file of that path.
     File(&'a str, FileFault),
     /// Why the gateway doesn't run, or runs no more.
@@ -108,6 +111,7 @@ impl fmt::Display for Hint<'_> {
         match self {
             Hint::SeeHelp => f.write_str("hcproxy: --help says more"),
             Hint::Because(reason) => write!(f, "hcproxy: {reason}"),
+            Hint::NoFile(path) => write!(f, "hcproxy: {path}: no such file"),
             Hint::File(path, fault) => write!(f, "hcproxy: {path}: {fault}"),
             Hint::Serve(fault) => write!(f, "hcproxy: {fault}"),
             Hint::Origin(fault) => write!(f, "hcproxy: {fault}"),
@@ -147,6 +151,9 @@ impl<'a> Report<'a> {
     pub fn file(path: &'a str, fault: FileFault) -> Report<'a> {
         let hint = match fault {
             FileFault::Memory => None,
+            FileFault::Unread(error) if error.kind() == ErrorKind::NotFound => {
+                Some(Hint::NoFile(path))
+            }
             _ => Some(Hint::File(path, fault)),
         };
         Report {
@@ -192,6 +199,20 @@ impl<'a> Report<'a> {
         Report {
             failure: Failure::Memory,
             hint: None,
+        }
+    }
+}
+
+/// A line for the failure and one for what more can be said of it. A file that isn't there needs but one.
+impl fmt::Display for Report<'_> {
+    fn fmt<W: fmt::Write>(&self, f: &mut fmt::Formatter<W>) -> fmt::Result {
+        match self.hint {
+            Some(Hint::NoFile(_)) | None => {}
+            Some(_) => write!(f, "{}\n", self.failure)?,
+        }
+        match self.hint {
+            Some(hint) => write!(f, "{hint}"),
+            None => write!(f, "{}", self.failure),
         }
     }
 }

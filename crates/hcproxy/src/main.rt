@@ -108,10 +108,7 @@ fn run<
 
 /// Tells why the program ends, and answers the exit status.
 fn tell<R: Eprint>(rt: &R, report: Report<'_>) -> u8 {
-    let _ = eprintln!(rt; "{}", report.failure);
-    if let Some(hint) = report.hint {
-        let _ = eprintln!(rt; "{hint}");
-    }
+    let _ = eprintln!(rt; "{report}");
     report.failure.status()
 }
 

@@ -115,11 +115,7 @@ fn observation_is_asked_for(rt: HostRuntime) {
 
 /// The lines and the status of a report.
 pub fn told(alloc: Global, report: Report<'_>) -> Result<String, AllocError> {
-    let (failure, status) = (report.failure, report.failure.status());
-    match report.hint {
-        Some(hint) => format!(in alloc; "{failure}\n{hint}\n{status}"),
-        None => format!(in alloc; "{failure}\n{status}"),
-    }
+    format!(in alloc; "{report}\n{}", report.failure.status())
 }
 
 /// The file `a.toml` with this fault is told so.
@@ -151,8 +147,10 @@ fn refused_settings_are_told(rt: HostRuntime) {
 #[test]
 fn files_that_cannot_be_read_are_told(rt: HostRuntime) {
     let alloc = rt.alloc();
-    let unread = FileFault::Unread(Error::from(ErrorKind::NotFound));
-    let lines = "hcproxy: device failed\nhcproxy: a.toml: entity not found\n3";
-    assert!(rt; is_told(alloc, unread, lines));
+    let absent = FileFault::Unread(Error::from(ErrorKind::NotFound));
+    assert!(rt; is_told(alloc, absent, "hcproxy: a.toml: no such file\n3"));
+    let locked = FileFault::Unread(Error::from(ErrorKind::PermissionDenied));
+    let lines = "hcproxy: device failed\nhcproxy: a.toml: permission denied\n3";
+    assert!(rt; is_told(alloc, locked, lines));
     assert!(rt; is_told(alloc, FileFault::Memory, "hcproxy: out of memory\n3"));
 }
