@@ -2,6 +2,7 @@
 
 use crate::report::Hint;
 use proxy_settings::Part;
+use uri_map::{Peer, peer_at};
 
 /// What the arguments ask for. A file is named by its path.
 #[derive(Clone, Copy, PartialEq, Eq)]
@@ -12,6 +13,11 @@ pub enum Command<'a> {
     Replay {
         journal: bool,
         settings: Option<&'a str>,
+    },
+    /// The gateway, and a device to try it with, under settings of their own. Connections are taken at
+    /// the address, where one is named.
+    Demo {
+        listen: Option<Peer>,
     },
     /// The gateway, under the settings of a file or else under those on standard input.
     Serve {
@@ -40,6 +46,11 @@ pub fn command_of(words: &[String]) -> Result<Command<'_>, Hint<'static>> {
     };
     match (name.as_str(), rest) {
         ("--version" | "-V", []) => Ok(Command::Version),
+        ("demo", []) => Ok(Command::Demo { listen: None }),
+        ("demo", [at]) => match peer_at(at.as_bytes()) {
+            Some(peer) => Ok(Command::Demo { listen: Some(peer) }),
+            None => Err(Hint::SeeHelp),
+        },
         ("serve", []) => Ok(Command::Serve { settings: None }),
         ("serve", [file]) => Ok(Command::Serve {
             settings: Some(file.as_str()),

@@ -6,12 +6,14 @@
 #![tactic(auto)]
 
 mod command;
+mod demo;
 mod fault;
 mod report;
 mod script;
 mod settings;
 
 pub use command::{Command, command_of};
+pub use demo::{COAP_PORT, DEVICE, Demonstration, GATEWAY, WEB_PORT, loopback};
 pub use fault::{Reason, ReplayFault};
 pub use report::{Failure, Hint, Report, USAGE};
 pub use script::{Event, Line, LineFault, line_of};

@@ -5,6 +5,7 @@ ghost use Rattle.proxy_settings.specs.Files.{IsOf};
 
 use command_line::{Report, asks_to_observe};
 use proxy_settings::{Device, FileFault, Part, Serve, Setup, read_setup};
+use std::alloc::Global;
 use std::fs;
 use std::rt::Files;
 
@@ -65,6 +66,16 @@ pub fn device_at<'a, R: Input + Files + AllocGlobal>(
     match setup_at(rt, Part::Origin, path)? {
         Setup::Origin(device) => Ok(device),
         Setup::Serve(_) => unreachable!(),
+    }
+}
+
+/// The settings of the part that are written here as a file has them.
+pub fn setup_in(alloc: Global, part: Part, text: &str) -> Result<Setup, Report<'static>>
+    ensures { IfOk result (IsOf part) }
+{
+    match read_setup(alloc, part, text.as_bytes()) {
+        Ok(setup) => Ok(setup),
+        Err(fault) => Err(Report::file("demo", fault)),
     }
 }
 

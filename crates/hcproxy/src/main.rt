@@ -1,14 +1,16 @@
-//! The program: `hcproxy serve` runs the gateway, `hcproxy replay` runs a script of inputs through it and
-//! prints what comes out, `hcproxy origin` runs a device to try it with, `hcproxy check` reads a file of
-//! settings; `--help` and `--version` tell of it.
+//! The program: `hcproxy demo` shows the gateway at work, `hcproxy serve` runs it, `hcproxy replay` runs a
+//! script of inputs through it and prints what comes out, `hcproxy origin` runs a device to try it with,
+//! `hcproxy check` reads a file of settings; `--help` and `--version` tell of it.
 #![tactic(auto)]
 
+mod demo;
 mod device;
 mod files;
 mod replaying;
 mod serving;
 
 use command_line::{Command, Hint, Report, USAGE, command_of};
+use demo::run_demo;
 use device::serve_device;
 use files::{setup_at, tell_undone};
 use log::Log;
@@ -27,6 +29,9 @@ use std::{env, io};
 const HELP: &str = "
 A gateway from HTTP/1.1 to CoAP.
 
+  demo                    runs the gateway and a device to try it with, on this machine alone, and prints
+                          what to try
+  demo ADDRESS:PORT       .. and takes connections there
   serve FILE              runs the gateway by the settings of FILE, or of standard input without FILE
   replay                  runs the script on standard input through the gateway, and prints what goes out
   replay --journal        .. and then the entries of the journal
@@ -99,6 +104,7 @@ fn run<
     match command_of(words).map_err(Report::usage)? {
         Command::Help => printed(println!(rt; "{USAGE}\n{HELP}")),
         Command::Version => printed(println!(rt; "{VERSION}")),
+        Command::Demo { listen } => Err(run_demo(rt, listen)),
         Command::Serve { settings } => Err(serve(rt, settings)),
         Command::Origin { settings } => Err(serve_device(rt, settings)),
         Command::Check { part, file } => check(&rt, part, file),

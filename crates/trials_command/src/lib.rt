@@ -5,6 +5,8 @@
 #[cfg(test)]
 mod crowd_tests;
 #[cfg(test)]
+mod demo_tests;
+#[cfg(test)]
 mod media_tests;
 #[cfg(test)]
 mod playing;
