@@ -74,7 +74,7 @@ Try, in another terminal:
   curl -i -X PUT -H Content-Type: -d on http://{web}/hc/coap://{device}/lamp
       changes it: 204 No Content, and from then on it is on
   curl -i -X POST http://{web}/hc/coap://{device}/visits
-      counts one more: 200 OK, and how many there were
+      counts one more: 200 OK, and how many there are now
 
 Both run until this is ended, with Ctrl-C."
         )
