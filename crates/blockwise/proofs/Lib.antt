@@ -3,3 +3,4 @@ pub mod Blocks
 pub mod Answering
 pub mod Sent
 pub mod Fetching
+pub mod Judging

@@ -1,5 +1,5 @@
 -- Which piece may follow those that came, and what they join to.
-use Rattle.std.specs.Prelude.{◌&&◌, ◌≡◌, ◌⊎◌, ◌<◌, IsOk, ℕ, ◌+◌, ◌^◌, Bool, true, false, not, List, [], ◌∷◌, ◌++◌, length, Option, Some, None, Result, Ok, Err, ◌==◌, nat_le, nat_lt, if◌then◌else◌}
+use Rattle.std.specs.Prelude.{◌&&◌, ◌||◌, ◌≡◌, ◌⊎◌, ◌<◌, IsOk, ℕ, ◌+◌, ◌^◌, Bool, true, false, not, List, [], ◌∷◌, ◌++◌, length, Option, Some, None, Result, Ok, Err, ◌==◌, nat_le, nat_lt, if◌then◌else◌}
 use Rattle.limits.specs.declared.TheConstants.{MAX_BODY_LEN}
 use Rattle.coap_codec.specs.Spelling.{Content}
 use Rattle.coap_codec.specs.declared.block.Block.{Block}
@@ -71,16 +71,27 @@ abbrev pub step_of : Option Block → Step
 step_of None = Last
 step_of (Some b) = if b.more then Next (next_block b) else Last
 
+abbrev pub Judged : Type 0
+Judged = Result Step BlockFault
+
+abbrev pub judged_by : Option BlockFault → Step → Judged
+judged_by (Some fault) step = Err fault
+judged_by None step = Ok step
+
+-- whether it may be the next piece, and what comes after it
+abbrev pub judged : PiecesValue → Content → Judged
+judged p m = judged_by (fault_of p m) (step_of (block_in 23 m))
+
 abbrev pub Added : Type 0
 Added = Result (PiecesValue × Step) BlockFault
 
-abbrev pub adds_by : Option BlockFault → PiecesValue → Content → Added
-adds_by (Some fault) p m = Err fault
-adds_by None p m = Ok (with_piece p m, step_of (block_in 23 m))
+abbrev pub adds_by : Judged → PiecesValue → Added
+adds_by (Err fault) p = Err fault
+adds_by (Ok step) p = Ok (p, step)
 
 -- what one more piece makes of those before it
 abbrev pub adds : PiecesValue → Content → Added
-adds p m = adds_by (fault_of p m) p m
+adds p m = adds_by (judged p m) (with_piece p m)
 
 -- A Block option can say it.
 abbrev pub IsSayable : Block → Type 0
@@ -101,6 +112,16 @@ nothing = record { of = None; bytes = []; szx = 6 }
 
 abbrev pub pieces_of : DownloadValue → PiecesValue
 pieces_of d = record { of = d.of; len = length d.bytes; szx = d.szx }
+
+-- a download as it is held, where so many more bytes want no memory
+pub record HeldDownload : Type 0 where
+  pub download : DownloadValue
+  pub room : ℕ
+
+-- A piece of so many bytes wants no memory: there is room, or no bytes came yet, and its own are
+-- moved in.
+abbrev pub has_room : ℕ → HeldDownload → Bool
+has_room len h = (length h.download.bytes == 0) || nat_le len h.room
 
 -- what is told of a piece, without where it lies in memory
 pub data Told : Type 0 where

@@ -1,8 +1,8 @@
 //! A body that comes in pieces.
 
-ghost use Rattle.std.specs.Prelude.{◌≡◌, ◌≢◌, ◌++◌, ◌↔◌, [], length, IsTrue, OnOk, IfOk, IfErr, Ok, OnErr, IsOkUnless};
+ghost use Rattle.std.specs.Prelude.{◌≡◌, ◌≢◌, ◌≤◌, ◌+◌, ◌++◌, ◌⊎◌, ◌↔◌, [], length, IsTrue, OnOk, IfOk, IfErr, Ok, OnErr, IsOkUnless, true, false, vec_len, vec_capacity};
 ghost use Rattle.coap_codec.specs.Spelling.{content};
-ghost use Rattle.blockwise.specs.Downloads.{nothing, takes, told, IsRefused, NextCanBeAsked};
+ghost use Rattle.blockwise.specs.Downloads.{nothing, pieces_of, judged, takes, told, has_room, IsRefused, CanBeAsked, NextCanBeAsked};
 
 use crate::fault::BlockFault;
 use crate::pieces::{Pieces, Step};
@@ -18,12 +18,15 @@ pub struct Download {
 }
 
 impl Model for Download {
-    ghost use Rattle.std.specs.Prelude.{◌≡◌, length};
-    ghost use Rattle.blockwise.specs.Downloads.{DownloadValue};
+    ghost use Rattle.std.specs.Prelude.{◌≡◌, ◌-◌, length, vec_capacity, vec_len};
+    ghost use Rattle.blockwise.specs.Downloads.{HeldDownload};
 
-    ghost Value = { DownloadValue };
+    ghost Value = { HeldDownload };
 
-    ghost view = { λ d. record { of = d.pieces.of; bytes = d.bytes.items; szx = d.pieces.szx } };
+    ghost view = { λ d. record {
+      download = record { of = d.pieces.of; bytes = d.bytes.items; szx = d.pieces.szx };
+      room = vec_capacity d.bytes - vec_len d.bytes;
+    } };
 
     ghost invariant = { λ d. d.pieces.len ≡ length d.bytes.items };
 }
@@ -37,24 +40,32 @@ pub enum Progress {
     Whole(Vec<u8>),
 }
 
-/// Puts the bytes after those that there are. The first ones aren't copied.
-fn join(bytes: &mut Vec<u8>, more: Vec<u8>) -> Result<(), AllocError>
-    ensures ok { OnOk result (bytes.new.items ≡ bytes.old.items ++ more.items) }
-    ensures err { OnErr result (bytes.new.items ≡ bytes.old.items) }
-    ensures later { OnErr result (bytes.old.items ≢ []) }
+/// Puts the bytes after those that there are, for which there is room. The first ones aren't
+/// copied.
+fn join(bytes: &mut Vec<u8>, more: Vec<u8>)
+    requires { (bytes.old.items ≡ []) ⊎ (vec_len bytes.old + vec_len more ≤ vec_capacity bytes.old) }
+    ensures { bytes.new.items ≡ bytes.old.items ++ more.items }
 {
     if bytes.is_empty() {
         *bytes = more;
     } else {
-        bytes.extend_from_slice(&more)?;
+        extend(bytes, &more);
     }
-    Ok(())
+}
+
+fn extend(bytes: &mut Vec<u8>, more: &[u8])
+    requires { vec_len bytes.old + length more.now ≤ vec_capacity bytes.old }
+    ensures { bytes.new.items ≡ bytes.old.items ++ more.now }
+{
+    match bytes.extend_from_slice(more) {
+        Ok(()) | Err(_) => {}
+    }
 }
 
 impl Download {
     /// A download of which nothing came yet: its first message asks without Block2.
     pub fn first(alloc: Global) -> Download
-        ensures { result ≡ nothing }
+        ensures { result.download ≡ nothing }
     {
         Download {
             pieces: Pieces::none(),
@@ -64,46 +75,81 @@ impl Download {
 
     /// How many bytes came.
     pub fn len(&self) -> usize
-        ensures { result ≡ length self.now.bytes }
+        ensures { result ≡ length self.now.download.bytes }
     {
         self.bytes.len()
     }
 
     /// Whether no bytes came.
     pub fn is_empty(&self) -> bool
-        ensures { IsTrue result ↔ (self.now.bytes ≡ []) }
+        ensures { IsTrue result ↔ (self.now.download.bytes ≡ []) }
     {
         self.bytes.is_empty()
     }
 
-    /// Takes one more piece and keeps its bytes; those of the first one are moved in, and want no memory.
-    /// After the last one the download is as a new one.
-    pub fn add(&mut self, m: Message) -> Result<Progress, BlockFault>
-        ensures ok { IfOk result (λ p. takes self.old (content m) ≡ Ok (self.new, told p)) }
-        ensures asked { IfOk result NextCanBeAsked }
-        ensures err { IfErr result (λ fault. IsRefused fault (takes self.old (content m))) }
-        ensures first { self.old.bytes ≡ [] → IfErr result (λ fault. fault ≢ BlockFault.Memory) }
-        ensures same { OnErr result (self.new ≡ self.old) }
+    /// Whether the message is the next piece, and what comes after it, or the first reason why it
+    /// isn't. It takes no memory, and nothing changes.
+    pub fn judge(&self, m: &Message) -> Result<Step, BlockFault>
+        ensures judged { result ≡ judged (pieces_of self.now.download) (content m.now) }
+        ensures asked { IfOk result CanBeAsked }
+        ensures free { IfErr result (λ fault. fault ≢ BlockFault.Memory) }
     {
-        let mut pieces = self.pieces;
-        let step = pieces.add(&m)?;
-        join(&mut self.bytes, m.payload)?;
+        self.pieces.judge(m)
+    }
+
+    /// Makes room for a piece of so many bytes, so that adding it takes no memory. Those of the
+    /// first one are moved in, and want none.
+    pub fn make_room(&mut self, len: usize) -> Result<(), AllocError>
+        ensures download { self.new.download ≡ self.old.download }
+        ensures room { OnOk result (has_room len self.new ≡ true) }
+        ensures unchanged { OnErr result (self.new ≡ self.old) }
+        ensures wanted { OnErr result (has_room len self.old ≡ false) }
+    {
+        if !self.bytes.is_empty() {
+            self.bytes.reserve(len)?;
+        }
+        Ok(())
+    }
+
+    /// Takes a piece that was judged to be the next one, which this comes after, and keeps its
+    /// bytes. After the last one the download is as a new one.
+    pub fn add_in_room(&mut self, m: Message, step: Step) -> Progress
+        requires judged { judged (pieces_of self.old.download) (content m) ≡ Ok step }
+        requires room { has_room (length m.payload.items) self.old ≡ true }
+        ensures takes { takes self.old.download (content m) ≡ Ok (self.new.download, told result) }
+        ensures asked { CanBeAsked step → NextCanBeAsked result }
+    {
+        self.pieces.advance(&m);
+        join(&mut self.bytes, m.payload);
         match step {
-            Step::Next(block) => {
-                self.pieces = pieces;
-                Ok(Progress::Next(block))
-            }
+            Step::Next(block) => Progress::Next(block),
             Step::Last => {
                 let alloc = *self.bytes.allocator();
                 self.pieces = Pieces::none();
-                Ok(Progress::Whole(std::mem::replace(&mut self.bytes, Vec::new(alloc))))
+                Progress::Whole(std::mem::replace(&mut self.bytes, Vec::new(alloc)))
             }
         }
     }
 
+    /// Judges a message, and takes it where it is the next piece. Memory may be wanted for a later
+    /// one than the first.
+    pub fn add(&mut self, m: Message) -> Result<Progress, BlockFault>
+        ensures ok { IfOk result
+            (λ p. takes self.old.download (content m) ≡ Ok (self.new.download, told p)) }
+        ensures asked { IfOk result NextCanBeAsked }
+        ensures err { IfErr result (λ fault. IsRefused fault (takes self.old.download (content m))) }
+        ensures first { self.old.download.bytes ≡ []
+            → IfErr result (λ fault. fault ≢ BlockFault.Memory) }
+        ensures same { OnErr result (self.new ≡ self.old) }
+    {
+        let step = self.judge(&m)?;
+        self.make_room(m.payload.len())?;
+        Ok(self.add_in_room(m, step))
+    }
+
     /// The same pieces once more, with a copy of their bytes.
     pub fn copy(&self) -> Result<Download, BlockFault>
-        ensures ok { IfOk result (λ d. d ≡ self.now) }
+        ensures ok { IfOk result (λ d. d.download ≡ self.now.download) }
         ensures memory { IsOkUnless result BlockFault.Memory }
     {
         Ok(Download {

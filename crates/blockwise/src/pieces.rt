@@ -1,9 +1,9 @@
 //! Which piece may follow: what is known of those before it, without their bytes.
 
-ghost use Rattle.std.specs.Prelude.{◌≡◌, ◌≢◌, ◌≤◌, ◌<◌, ◌+◌, ◌^◌, ◌↔◌, IsTrue, length, OnOk, IfOk, IfErr, IfSome, OnErr, Ok, Err};
+ghost use Rattle.std.specs.Prelude.{◌≡◌, ◌≢◌, ◌≤◌, ◌<◌, ◌+◌, ◌^◌, ◌↔◌, IsTrue, length, OnOk, IfOk, IfErr, IfSome, IsOk, OnErr, Ok, Err};
 ghost use Rattle.coap_codec.specs.Spelling.{content};
 ghost use Rattle.blockwise.specs.Reading.{offset_in};
-ghost use Rattle.blockwise.specs.Downloads.{no_pieces, differs, is_sized, is_no_larger, adds, CanBeAsked};
+ghost use Rattle.blockwise.specs.Downloads.{no_pieces, differs, is_sized, is_no_larger, first_of, last_szx, judged, with_piece, adds, CanBeAsked};
 
 use crate::fault::BlockFault;
 use crate::reading::block2_in;
@@ -86,6 +86,24 @@ fn offset_in(block: Option<Block>) -> usize
     }
 }
 
+fn first_of(of: Option<Representation>, m: &Message) -> Option<Representation>
+    ensures { result ≡ first_of of (content m.now) }
+{
+    match of {
+        Some(first) => Some(first),
+        None => Some(Representation::of(m)),
+    }
+}
+
+fn last_szx(block: Option<Block>, szx: u8) -> u8
+    ensures { result ≡ last_szx block szx }
+{
+    match block {
+        Some(block) => block.szx,
+        None => szx,
+    }
+}
+
 impl Pieces {
     /// No pieces: the first one is to be asked for, without Block2.
     pub fn none() -> Pieces
@@ -120,15 +138,14 @@ impl Pieces {
         self.len == 0
     }
 
-    /// Takes one more piece, and no memory. After the last one the next body is for other `Pieces`.
+    /// Whether the message is the next piece, and what comes after it, or the first reason why it
+    /// isn't. It takes no memory, and nothing changes.
     #[tactic(auto, using(crate::proofs::WholeBlocks::few_blocks))]
-    pub fn add(&mut self, m: &Message) -> Result<Step, BlockFault>
-        ensures ok { IfOk result (λ step. adds self.old (content m.now) ≡ Ok (self.new, step)) }
-        ensures len { OnOk result (self.new.len ≡ self.old.len + length m.now.payload.items) }
+    pub fn judge(&self, m: &Message) -> Result<Step, BlockFault>
+        ensures judged { result ≡ judged self.now (content m.now) }
+        ensures short { OnOk result (self.now.len + length m.now.payload.items ≤ MAX_BODY_LEN) }
         ensures asked { IfOk result CanBeAsked }
-        ensures err { IfErr result (λ fault. adds self.old (content m.now) ≡ Err fault) }
         ensures free { IfErr result (λ fault. fault ≢ BlockFault.Memory) }
-        ensures same { OnErr result (self.new ≡ self.old) }
     {
         if is_changed(self.of, m) {
             return Err(BlockFault::Changed);
@@ -144,24 +161,39 @@ impl Pieces {
         if len > MAX_BODY_LEN - self.len {
             return Err(BlockFault::TooLarge);
         }
-        if self.of.is_none() {
-            self.of = Some(Representation::of(m));
-        }
-        self.len += len;
         match block {
-            Some(block) => {
-                self.szx = block.szx;
-                if block.more {
-                    Ok(Step::Next(Block {
-                        num: block.num + 1,
-                        more: false,
-                        szx: block.szx,
-                    }))
-                } else {
-                    Ok(Step::Last)
-                }
-            }
-            None => Ok(Step::Last),
+            Some(block) if block.more => Ok(Step::Next(Block {
+                num: block.num + 1,
+                more: false,
+                szx: block.szx,
+            })),
+            Some(_) | None => Ok(Step::Last),
         }
+    }
+
+    /// Takes a piece that was judged to be the next one, and no memory.
+    #[tactic(auto, using(crate::proofs::Judging::judged_short))]
+    pub fn advance(&mut self, m: &Message)
+        requires judged { IsOk (judged self.old (content m.now)) }
+        ensures { self.new ≡ with_piece self.old (content m.now) }
+    {
+        self.of = first_of(self.of, m);
+        self.len += m.payload.len();
+        self.szx = last_szx(block2_in(m), self.szx);
+    }
+
+    /// Judges a message, and takes it if it is the next piece. After the last one the next body is
+    /// for other `Pieces`.
+    pub fn add(&mut self, m: &Message) -> Result<Step, BlockFault>
+        ensures ok { IfOk result (λ step. adds self.old (content m.now) ≡ Ok (self.new, step)) }
+        ensures len { OnOk result (self.new.len ≡ self.old.len + length m.now.payload.items) }
+        ensures asked { IfOk result CanBeAsked }
+        ensures err { IfErr result (λ fault. adds self.old (content m.now) ≡ Err fault) }
+        ensures free { IfErr result (λ fault. fault ≢ BlockFault.Memory) }
+        ensures same { OnErr result (self.new ≡ self.old) }
+    {
+        let step = self.judge(m)?;
+        self.advance(m);
+        Ok(step)
     }
 }

@@ -153,15 +153,12 @@ impl Upload {
         }
     }
 
-    /// Takes the answer to the piece. After `Next` the piece counts as taken; else nothing changes.
+    /// What the answer to the piece means. Nothing changes.
     #[tactic(auto, using(crate::proofs::Answering::next_is, crate::proofs::Answering::last_is))]
-    pub fn answered(&mut self, m: &Message) -> Answered
-        ensures answer { result ≡ answer_to self.old (content m.now) }
-        ensures next { (result ≡ Answered.Next) ↔ Continues self.old (content m.now) }
-        ensures last { (result ≡ Answered.Last) ↔ Responds self.old (content m.now) }
-        ensures taken { result ≡ Answered.Next → self.new ≡ next_of self.old (content m.now) }
-        ensures same { result ≢ Answered.Next → self.new ≡ self.old }
-        ensures len { self.new.len ≡ self.old.len }
+    pub fn judge(&self, m: &Message) -> Answered
+        ensures answer { result ≡ answer_to self.now (content m.now) }
+        ensures next { (result ≡ Answered.Next) ↔ Continues self.now (content m.now) }
+        ensures last { (result ≡ Answered.Last) ↔ Responds self.now (content m.now) }
     {
         let block = block1_in(m);
         let size = size_of(self.szx);
@@ -171,11 +168,34 @@ impl Upload {
         if self.is_last() {
             return if_final(is_whole_response(m) && !goes_on(block));
         }
-        if m.code != CONTINUE {
-            return if_final(is_whole_response(m) && m.code / 32 != 2);
+        if m.code == CONTINUE {
+            return Answered::Next;
         }
-        self.taken += size;
-        self.szx = next_szx(block, self.szx);
-        Answered::Next
+        if_final(is_whole_response(m) && m.code / 32 != 2)
+    }
+
+    /// The piece counts as taken, by an answer that was judged so.
+    pub fn advance(&mut self, m: &Message)
+        requires { Continues self.old (content m.now) }
+        ensures { self.new ≡ next_of self.old (content m.now) }
+    {
+        self.taken += size_of(self.szx);
+        self.szx = next_szx(block1_in(m), self.szx);
+    }
+
+    /// Judges the answer to the piece. After `Next` the piece counts as taken; else nothing changes.
+    pub fn answered(&mut self, m: &Message) -> Answered
+        ensures answer { result ≡ answer_to self.old (content m.now) }
+        ensures next { (result ≡ Answered.Next) ↔ Continues self.old (content m.now) }
+        ensures last { (result ≡ Answered.Last) ↔ Responds self.old (content m.now) }
+        ensures taken { result ≡ Answered.Next → self.new ≡ next_of self.old (content m.now) }
+        ensures same { result ≢ Answered.Next → self.new ≡ self.old }
+        ensures len { self.new.len ≡ self.old.len }
+    {
+        let answered = self.judge(m);
+        if let Answered::Next = answered {
+            self.advance(m);
+        }
+        answered
     }
 }

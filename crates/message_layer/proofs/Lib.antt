@@ -14,3 +14,4 @@ pub mod Room
 pub mod Preparing
 pub mod Following
 pub mod Ordering
+pub mod After

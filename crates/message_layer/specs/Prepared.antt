@@ -1,5 +1,5 @@
 -- What is prepared for a call, before a link changes.
-use Rattle.std.specs.Prelude.{◌≡◌, ℕ, ◌≤◌, ◌<◌, List, [], ◌∷◌, ◌++◌, length, Option, Some, None, Result, Ok, Err, Bool, true, false, is_some}
+use Rattle.std.specs.Prelude.{◌≡◌, ℕ, ◌≤◌, ◌<◌, List, [], ◌∷◌, ◌++◌, length, Option, Some, None, Result, Ok, Err, Bool, true, false, not, is_some}
 use Rattle.std.specs.Option.{option_map}
 use Rattle.limits.specs.declared.TheConstants.{MAX_DATAGRAM_LEN, MAX_MESSAGE_IDS, MAX_WAITING}
 use Rattle.coap_codec.specs.Spelling.{Content, Spells}
@@ -7,7 +7,7 @@ use Rattle.coap_codec.specs.Reading.{message_at}
 use Rattle.coap_codec.specs.declared.fault.CodecFault.{CodecFault}
 use Rattle.coap_codec.specs.declared.message.MsgType.TheVariants.{Con}
 use Rattle.message_layer.specs.Values.{LinkState, LinkValue, IsSoundWaiting, told, no_news, timed_out, was_dropped}
-use Rattle.message_layer.specs.Sending.{waits, mids_in_use, IsNext, IsNextOf, again, next_sent, ticked}
+use Rattle.message_layer.specs.Sending.{waits, mids_in_use, IsNext, IsNextOf, again, next_sent, ticked, submitted}
 use Rattle.message_layer.specs.Hearing.{verdict_of, ignored, says, replies, listed, applied, takes, reset_for, hears}
 use Rattle.message_layer.specs.Calls.{without}
 use Rattle.message_layer.specs.declared.state.Waiting.{Waiting}
@@ -55,6 +55,35 @@ pub record MayHeed (t : ℕ) (link : LinkValue) (x : Heeding) : Type 0 where
   pub reply : listed x.reply ≡ replies x.mid x.verdict.reply
   pub next : x.verdict.ends ≡ true → IsNextOf t link.state x.next
   pub none : x.verdict.ends ≡ false → x.next ≡ None
+
+-- the link as the datagram leaves it
+abbrev pub heeded : ℕ → Heeding → LinkState → LinkState
+heeded t x s = applied t x.mid x.token x.verdict s
+
+-- ... with the room that there is for this datagram and one message after it
+abbrev pub link_after : ℕ → Heeding → LinkValue → LinkValue
+link_after t x link = record { state = heeded t x link.state; room = link.room }
+
+-- a message may be taken after a datagram, if one is
+abbrev pub MayFollow : ℕ → LinkValue → Heeding → Option Submission → Type 0
+MayFollow t link x None = Unit {0}
+MayFollow t link x (Some more) = MaySubmit t (link_after t x link) more
+
+-- the message is taken, if there is one
+abbrev pub followed : ℕ → Option Submission → LinkState → LinkState
+followed t None s = s
+followed t (Some more) s = submitted t more.waiting s
+
+-- so many messages are sent
+abbrev pub sendings : Option FirstSending → ℕ
+sendings None = 0
+sendings (Some first) = 1
+
+-- nothing is outstanding: what was has ended, or nothing was, and no other message was sent
+abbrev pub is_free : Option FirstSending → Bool → Option Outstanding → Bool
+is_free None true o = true
+is_free None false o = not (is_some o)
+is_free (Some first) ends o = false
 
 abbrev pub is_lost : News → Bool
 is_lost Quiet = false

@@ -112,7 +112,10 @@ fn prepared_if(
 fn end_if(s: &mut State, ends: bool, next: Option<FirstSending>, moment: u64)
     requires room { HasRoom s.old }
     requires next { ends ≡ true → IsNextOf moment (seen s.old) next }
-    ensures { seen s.new ≡ ended moment ends (seen s.old) }
+    ensures state { seen s.new ≡ ended moment ends (seen s.old) }
+    ensures room { next ≡ None → HasRoom s.new }
+    ensures len { vec_len s.new.waiting ≤ vec_len s.old.waiting }
+    ensures capacity { vec_capacity s.new.waiting ≡ vec_capacity s.old.waiting }
 {
     if ends {
         sending::send_next(s, next, moment);
@@ -151,7 +154,9 @@ fn prepare_heeding(
 pub fn heed(s: &mut State, x: Heeding, moment: u64)
     requires room { HasRoomToo s.old }
     requires ready { MayHeed moment (shown s.old) x }
-    ensures { seen s.new ≡ applied moment x.mid x.token x.verdict (seen s.old) }
+    ensures state { seen s.new ≡ applied moment x.mid x.token x.verdict (seen s.old) }
+    ensures room { x.next ≡ None → HasRoom s.new }
+    ensures waiting { vec_len s.new.waiting < vec_capacity s.new.waiting }
 {
     let Heeding {
         mid,

@@ -3,7 +3,7 @@
 
 ghost use Rattle.message_layer.specs.Transmissions.{RunTransmits, MidsApart, RunKeepsTurn};
 ghost use Rattle.message_layer.specs.Answers.{RunAnswers, HandsUpOnce};
-ghost use Rattle.message_layer.specs.Laws.{TickSends, HeardSends, SentSpells};
+ghost use Rattle.message_layer.specs.Laws.{TickSends, HeardSends, SentSpells, TakesAfter};
 ghost use Rattle.message_layer.specs.Prepared.{HearsAsPrepared};
 
 /// Over any run, the CONs that go out are the sendings of messages one after another: each at
@@ -55,4 +55,10 @@ pub fn sent_spells()
 /// What was prepared for a datagram is what hearing it does and tells.
 pub fn hears_as_prepared()
     ensures { HearsAsPrepared }
+{}
+
+/// A message that is taken after a datagram waits behind all that waited before it, and only then
+/// the one that waits first has its turn.
+pub fn takes_after()
+    ensures { TakesAfter }
 {}

@@ -18,6 +18,7 @@ mod hearing;
 mod laws;
 mod link;
 mod mids;
+mod more;
 mod options;
 mod prepared;
 mod remembered;
@@ -29,7 +30,7 @@ pub use bytes::Bytes;
 pub use fault::LinkFault;
 pub use laws::{
     hands_up_once, heard_sends, hears_as_prepared, mids_apart, run_answers, run_keeps_turn,
-    run_transmits, sent_spells, tick_sends,
+    run_transmits, sent_spells, takes_after, tick_sends,
 };
 pub use link::Link;
 pub use options::{Fitness, judge};

@@ -9,7 +9,7 @@ ghost use Rattle.message_layer.specs.Values.{told, empty_link};
 ghost use Rattle.message_layer.specs.Sending.{ticked, submitted, Submits, IsSubmitted, due_of};
 ghost use Rattle.message_layer.specs.Hearing.{hears, applied};
 ghost use Rattle.message_layer.specs.Calls.{forgotten, expected, sent_out, without, out_empty};
-ghost use Rattle.message_layer.specs.Prepared.{IsUnnumberedCon, IsSubmission, MaySubmit, MayHeed, IsPreparedFor, IsTicking};
+ghost use Rattle.message_layer.specs.Prepared.{IsUnnumberedCon, IsSubmission, MaySubmit, MayHeed, MayFollow, IsPreparedFor, IsTicking, link_after, followed, heeded};
 
 use crate::bytes::Bytes;
 use crate::fault::LinkFault;
@@ -17,7 +17,7 @@ use crate::mids::Mids;
 use crate::prepared::{Hearing, Heeding, Submission, Ticking};
 use crate::remembered::Remembered;
 use crate::state::{State, Up};
-use crate::{calls, hearing, sending};
+use crate::{calls, hearing, more, sending};
 use coap_codec::{Message, MsgType, Token};
 use std::alloc::Global;
 use std::collections::VecDeque;
@@ -170,7 +170,43 @@ impl Link {
         requires ready { MayHeed moment self.old x }
         ensures { self.new.state ≡ applied moment x.mid x.token x.verdict self.old.state }
     {
-        hearing::heed(&mut self.state, x, moment);
+        self.hear_with_more_prepared(x, None, moment);
+    }
+
+    /// Prepares that a message is taken after a datagram that was prepared at this moment: one
+    /// that is spelled already, as a CON under message ID 0. It waits behind all that waits once
+    /// the datagram was heard, and is sent at once where nothing is outstanding then. The room for
+    /// both is there.
+    pub fn prepare_more(
+        &self,
+        x: &Heeding,
+        token: Token,
+        text: &[u8],
+        moment: u64,
+        word: u64,
+    ) -> Result<Submission, LinkFault>
+        requires moment { moment ≤ LAST_MOMENT }
+        requires ready { MayHeed moment self.now x.now }
+        requires message { IsUnnumberedCon token text.now }
+        ensures ok { IfOk result
+            (λ more. IsSubmission moment token text.now word (link_after moment x.now self.now) more) }
+        ensures fault { IsSubmitted moment (heeded moment x.now self.now.state) result }
+    {
+        more::check_more(&self.state, x, moment)?;
+        let text = Bytes::new(self.alloc, Vec::from_slice(self.alloc, text)?)?;
+        let more = more::prepare_more(self.alloc, &self.state, x, token, text, moment, word)?;
+        Ok(more)
+    }
+
+    /// Does what a datagram makes the link do, and takes the message that was prepared after it,
+    /// if there is one.
+    pub fn hear_with_more_prepared(&mut self, x: Heeding, more: Option<Submission>, moment: u64)
+        requires moment { moment ≤ LAST_MOMENT }
+        requires ready { MayHeed moment self.old x }
+        requires more { MayFollow moment self.old x more }
+        ensures { self.new.state ≡ followed moment more (heeded moment x self.old.state) }
+    {
+        more::heed_with(&mut self.state, x, more, moment);
     }
 
     /// Takes a datagram of the peer's. A response is told even where it is rejected: `judge`

@@ -1,9 +1,9 @@
 //! Sending: messages that are handed in, their copies, and the end of what is outstanding.
 
-ghost use Rattle.std.specs.Prelude.{◌≡◌, ◌<◌, ◌≤◌, ◌+◌, ◌^◌, length, IfOk, OnOk, OnErr, IsTrue, true, ◌↔◌, IsOkUnless, MatchOption, vec_len};
+ghost use Rattle.std.specs.Prelude.{◌≡◌, ◌<◌, ◌≤◌, ◌+◌, ◌^◌, length, IfOk, OnOk, OnErr, IsTrue, true, ◌↔◌, IsOkUnless, MatchOption, None, is_some, vec_len, vec_capacity};
 ghost use Rattle.std.specs.Option.{option_copied, option_map};
 ghost use Rattle.std.specs.List.{AllByRecursion, find};
-ghost use Rattle.limits.specs.declared.TheConstants.{MAX_MESSAGE_IDS};
+ghost use Rattle.limits.specs.declared.TheConstants.{MAX_MESSAGE_IDS, MAX_WAITING};
 ghost use Rattle.coap_codec.specs.Spelling.{content, Spells};
 ghost use Rattle.coap_codec.specs.Writing.{IsEncodable};
 ghost use Rattle.message_layer.specs.Values.{seen, shown, told, has_room, IsSound, IsSoundOutstanding, IsSoundWaiting};
@@ -52,7 +52,7 @@ fn mid_after(last_mid: Option<u16>, first_mid: u16) -> u16
 }
 
 /// The message as it is when it is sent, and its bytes once more.
-fn launch(
+pub fn launch(
     alloc: Global,
     w: &Waiting,
     last_mid: Option<u16>,
@@ -145,7 +145,9 @@ pub fn make_room(s: &mut State) -> Result<(), AllocError>
 fn send_first(s: &mut State, first: FirstSending)
     requires room { HasRoom s.old }
     requires copy { first.datagram ≡ first.message.datagram }
-    ensures { seen s.new ≡ with_outstanding (seen s.old) s.old.waiting.items first.message }
+    ensures state { seen s.new ≡ with_outstanding (seen s.old) s.old.waiting.items first.message }
+    ensures len { vec_len s.new.waiting ≡ vec_len s.old.waiting }
+    ensures capacity { vec_capacity s.new.waiting ≡ vec_capacity s.old.waiting }
 {
     let FirstSending { message, datagram } = first;
     s.last_mid = Some(message.mid);
@@ -162,7 +164,10 @@ fn send_first(s: &mut State, first: FirstSending)
 pub fn send_next(s: &mut State, next: Option<FirstSending>, moment: u64)
     requires room { HasRoom s.old }
     requires next { IsNextOf moment (seen s.old) next }
-    ensures { seen s.new ≡ next_sent moment (seen s.old) }
+    ensures state { seen s.new ≡ next_sent moment (seen s.old) }
+    ensures room { next ≡ None → HasRoom s.new }
+    ensures len { vec_len s.new.waiting ≤ vec_len s.old.waiting }
+    ensures capacity { vec_capacity s.new.waiting ≡ vec_capacity s.old.waiting }
 {
     match next {
         None => s.outstanding = None,
@@ -250,7 +255,7 @@ pub fn tick_prepared(s: &mut State, x: Ticking, moment: u64, gone: &[Token]) -> 
 }
 
 /// There is an ID for one more message.
-fn has_mid(s: &State, moment: u64) -> bool
+pub fn has_mid(s: &State, moment: u64) -> bool
     requires { length s.now.given.moments + vec_len s.now.waiting ≤ MAX_MESSAGE_IDS }
     ensures { IsTrue result ↔ (mids_in_use moment (seen s.now) < MAX_MESSAGE_IDS) }
 {
@@ -261,6 +266,18 @@ fn timeout_of(word: u64) -> u64
     ensures { result ≡ initial_timeout word }
 {
     ACK_TIMEOUT + word % 4294967296 % 1001
+}
+
+/// A message that is handed in, as it waits for its turn.
+pub fn waiting_of(token: Token, text: Bytes, word: u64) -> Waiting
+    ensures { result ≡ waits token text word }
+{
+    Waiting {
+        token,
+        datagram: text,
+        timeout: timeout_of(word),
+        first_mid: (word % 65536) as u16,
+    }
 }
 
 /// A place in the queue and an ID are free, or which of them is not.
@@ -333,15 +350,27 @@ pub fn prepare_submit(
     ensures same { seen s.new ≡ seen s.old }
     ensures ok { IfOk result (λ x. IsSubmission moment token text word (shown s.new) x) }
 {
-    let waiting = Waiting {
-        token,
-        datagram: text,
-        timeout: timeout_of(word),
-        first_mid: (word % 65536) as u16,
-    };
+    let waiting = waiting_of(token, text, word);
     let sent = sent_at_once(alloc, &waiting, s, moment)?;
     make_room(s)?;
     Ok(Submission { waiting, sent })
+}
+
+/// Takes a message, where there is room for it, and for its sending if it is sent at once.
+pub fn take(s: &mut State, x: Submission, moment: u64)
+    requires sound { IsSound (seen s.old) }
+    requires waiting { vec_len s.old.waiting < vec_capacity s.old.waiting }
+    requires room { is_some x.sent ≡ true → HasRoom s.old }
+    requires place { length s.old.waiting.items < MAX_WAITING }
+    requires sent { IsNext moment s.old.last_mid (at_once x.waiting s.old.outstanding) x.sent }
+    ensures { seen s.new ≡ submitted moment x.waiting (seen s.old) }
+{
+    let Submission { waiting, sent } = x;
+    s.given.prune(s.waiting.len(), moment);
+    match sent {
+        None => s.waiting.push_reserved(waiting),
+        Some(first) => send_first(s, first),
+    }
 }
 
 /// Takes a message.
@@ -351,12 +380,7 @@ pub fn submit_prepared(s: &mut State, x: Submission, moment: u64)
     requires ready { MaySubmit moment (shown s.old) x }
     ensures { seen s.new ≡ submitted moment x.waiting (seen s.old) }
 {
-    let Submission { waiting, sent } = x;
-    s.given.prune(s.waiting.len(), moment);
-    match sent {
-        None => s.waiting.push_reserved(waiting),
-        Some(first) => send_first(s, first),
-    }
+    take(s, x, moment);
 }
 
 /// Takes a message to be sent.

@@ -1,9 +1,9 @@
 //! A call that memory was refused is made once more; until then the link is as before.
 
-use crate::link::{Said, hear, said_by, sends, submit, tick};
+use crate::link::{Said, hear, request, said_by, sends, submit, tick};
 use crate::telling::check;
-use coap_codec::Token;
-use message_layer::{Link, LinkFault};
+use coap_codec::{Token, encode};
+use message_layer::{Hearing, Link, LinkFault};
 use std::alloc::Global;
 
 /// Memory was refused, and the link is as before.
@@ -136,5 +136,72 @@ fn memory_refused_once(rt: HostRuntime) {
             Said::Reset,
             &[0x41, 1, 0, 2, 7]
         )
+    );
+}
+
+/// Hears the datagram, and takes a GET after it.
+fn goes_on_once(
+    link: &mut Link,
+    alloc: Global,
+    datagram: &[u8],
+    token: Token,
+) -> Result<Said, LinkFault> {
+    let Ok(text) = encode(alloc, &request(alloc, token)) else {
+        return Err(LinkFault::Memory);
+    };
+    let Some(hearing) = link.prepare_heard(datagram, 100)? else {
+        return Ok(Said::Dropped);
+    };
+    let Hearing { heeding, up } = hearing;
+    let more = link.prepare_more(&heeding, token, &text, 100, 0)?;
+    link.hear_with_more_prepared(heeding, Some(more), 100);
+    Ok(said_by(&up))
+}
+
+fn goes_on(link: &mut Link, alloc: Global, datagram: &[u8], token: Token) -> Option<Said> {
+    let due = link.next_due();
+    let fault = match goes_on_once(link, alloc, datagram, token) {
+        Ok(said) => return Some(said),
+        Err(fault) => fault,
+    };
+    if !is_as_before(link, due, fault) {
+        return None;
+    }
+    goes_on_once(link, alloc, datagram, token).ok()
+}
+
+/// A message that follows a reply is sent at once where none waits, and else after it.
+#[test]
+fn memory_refused_to_what_follows(rt: HostRuntime) {
+    let alloc = rt.alloc();
+    let mut link = Link::new(alloc);
+    assert!(rt;
+        submits(&mut link, alloc, Token::new(&[9])) && sends(&mut link, &[0x41, 1, 0, 0, 9])
+    );
+    let reply = goes_on(&mut link, alloc, &[0x61, 0x45, 0, 0, 9], Token::new(&[8]));
+    check(&rt, "a reply", reply == Some(Said::Response));
+    check(
+        &rt,
+        "the message after it",
+        sends(&mut link, &[0x41, 1, 0, 1, 8]),
+    );
+    check(
+        &rt,
+        "one waits",
+        submits(&mut link, alloc, Token::new(&[7])),
+    );
+    let ack = goes_on(&mut link, alloc, &[0x60, 0, 0, 1], Token::new(&[6]));
+    check(&rt, "an ACK", ack == Some(Said::Nothing));
+    check(&rt, "what waited", sends(&mut link, &[0x41, 1, 0, 2, 7]));
+    check(
+        &rt,
+        "the last one",
+        answers(
+            &mut link,
+            &[0x60, 0, 0, 2],
+            200,
+            Said::Nothing,
+            &[0x41, 1, 0, 3, 6],
+        ),
     );
 }

@@ -11,4 +11,4 @@ returns-in-Some-clause-ok c =
     ap (λ (s : LinkState). hears c.args.moment c.args.datagram.now s) (sym made.same)
     ∙ (hears-as-prepared c.args.moment c.args.datagram.now (shown c.prepare_heard.new.s)
     c.in-Some.hearing (rw c.in-Some.is at made.ok)
-    ∙ ap with_up (sym c.heed.ensures))
+    ∙ ap with_up (sym c.heed.ensures.state))
