@@ -9,7 +9,7 @@ use crate::uint::{uint_of, uint_to};
 use std::alloc::Global;
 
 /// Which part of a body a message carries or asks for (RFC 7959, section 2.2).
-#[derive(Clone, Copy, Debug, PartialEq, Eq, Hash)]
+#[derive(Clone, Copy, Debug, PartialEq, Eq)]
 pub struct Block {
     /// The number of the block, counted from 0, below 2^20.
     pub num: u32,

@@ -10,7 +10,7 @@ use std::fmt;
 /// Why bytes are no message: the first fault in reading order (RFC 7252, section 3).
 ///
 /// `Memory` is no fault of the bytes. It is answered only where they have none.
-#[derive(Clone, Copy, Debug, PartialEq, Eq, Hash)]
+#[derive(Clone, Copy, Debug, PartialEq, Eq)]
 pub enum CodecFault {
     /// Fewer than the four bytes of a header.
     Short = 1,

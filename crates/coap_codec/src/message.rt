@@ -9,7 +9,7 @@ use crate::token::Token;
 use std::alloc::Global;
 
 /// The type of a message (RFC 7252, sections 4.2 and 4.3).
-#[derive(Clone, Copy, Debug, PartialEq, Eq, Hash)]
+#[derive(Clone, Copy, Debug, PartialEq, Eq)]
 pub enum MsgType {
     /// Confirmable: it is sent again until it is acknowledged.
     Con = 0,

@@ -8,7 +8,7 @@ use crate::number;
 use std::fmt;
 
 /// The name of an option.
-#[derive(Clone, Copy, Debug, PartialEq, Eq, Hash)]
+#[derive(Clone, Copy, Debug, PartialEq, Eq)]
 pub enum OptionName {
     IfMatch,
     UriHost,
@@ -58,7 +58,7 @@ impl fmt::Display for OptionName {
 }
 
 /// How often an option counts in one message.
-#[derive(Clone, Copy, Debug, PartialEq, Eq, Hash)]
+#[derive(Clone, Copy, Debug, PartialEq, Eq)]
 pub enum Occurrence {
     /// It has no meaning there.
     Never,
@@ -69,7 +69,7 @@ pub enum Occurrence {
 }
 
 /// A row of the table of options (RFC 7252, section 5.10).
-#[derive(Clone, Copy, Debug, PartialEq, Eq, Hash)]
+#[derive(Clone, Copy, Debug, PartialEq, Eq)]
 pub struct OptionDefinition {
     /// The option number.
     pub number: u16,

@@ -6,7 +6,7 @@ ghost use Rattle.code_map.specs.Methods.{method_named, name_of, request_code, wr
 use std::fmt;
 
 /// An HTTP method that CoAP has too (RFC 7252 section 10.2). Those not here are refused with 501.
-#[derive(Clone, Copy, Debug, PartialEq, Eq, PartialOrd, Ord, Hash)]
+#[derive(Clone, Copy, Debug, PartialEq, Eq)]
 pub enum Method {
     Get,
     Head,

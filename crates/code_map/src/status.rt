@@ -7,7 +7,7 @@ ghost use Rattle.code_map.specs.Codes.{status_of as status, passed_on};
 use std::fmt;
 
 /// The status of an HTTP answer: a number with its phrase.
-#[derive(Clone, Copy, Debug, PartialEq, Eq, PartialOrd, Ord, Hash)]
+#[derive(Clone, Copy, Debug, PartialEq, Eq)]
 pub enum Status {
     /// 200
     Okay,
