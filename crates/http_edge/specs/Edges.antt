@@ -198,7 +198,7 @@ abbrev pub BeginFalls : Begin → ℕ → ℕ → Type 0
 BeginFalls (begin.Done result) old new = Falls result old new
 BeginFalls begin.Begun old new = new ≤ old
 
--- An item behind which nothing is begun closes the connection.
+-- An item after which nothing is begun closes the connection.
 abbrev pub BeginCloses : Begin → Type 0
 BeginCloses (begin.Done (Some i)) = closes (item i) ≡ true
 BeginCloses _ = ⊤

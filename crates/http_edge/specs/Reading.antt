@@ -62,7 +62,7 @@ abbrev pub First : List ℕ → Item → List ℕ → Type 0
 First text (asked r) rest = Spells text r rest
 First text (bad kind) rest = IsRefused text kind × (rest ≡ text)
 
--- Nothing is read behind it.
+-- Nothing is read after it.
 abbrev pub closes : Item → Bool
 closes (asked r) = r.close
 closes (bad kind) = true

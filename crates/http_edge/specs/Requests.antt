@@ -38,7 +38,7 @@ version_of minor = if minor == 0 then Http10 else Http11
 abbrev pub fields_from : List (List ℕ × List ℕ) → List (List ℕ × List FieldValue)
 fields_from fields = append_all [] (map (λ f. (lowercase f.0, plain_value f.1)) fields)
 
--- The connection is closed behind the answer (RFC 9112, section 9.3).
+-- The connection is closed after the answer (RFC 9112, section 9.3).
 abbrev pub closes_of : ℕ → List (List ℕ × List ℕ) → Bool
 closes_of minor fields = (minor == 0) || lists (codes "connection") (codes "close") fields
 

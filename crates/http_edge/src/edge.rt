@@ -113,7 +113,7 @@ impl Edge {
     }
 
     /// The next request, or the refusal of what stands in its place. None where more bytes are
-    /// needed, behind a refusal, and behind a request that closes the connection.
+    /// needed, after a refusal, and after a request that closes the connection.
     pub fn next(&mut self) -> Result<Option<Incoming>, Memory>
         ensures steps { (text : List ℕ) → Stands self.old text → Steps result self.new text }
         ensures ended { self.old.ended ≡ true → (result ≡ Ok None) × (self.new.ended ≡ true) }
@@ -147,7 +147,7 @@ impl Edge {
     }
 
     /// The request begun waits for `100 Continue`: true once for a request (RFC 9110, section
-    /// 10.1.1). Ask behind a `next` that answered None.
+    /// 10.1.1). Ask after a `next` that answered None.
     pub fn wants_continue(&mut self) -> bool
         ensures asks { (text : List ℕ) → Stands self.old text → (IsTrue result ↔ IsAsking self.old text) }
         ensures told { is_told self.new ≡ (result || is_told self.old) }

@@ -3,7 +3,7 @@
 //! The contract: each item that an `Edge` gives is the next one that the bytes fed to it spell, however
 //! they were cut (`however_cut`, `none_held_back`). What bytes spell is said by `Reads` of
 //! `specs/Reading.antt`, which knows nothing of pieces. Refusals come first one first, in the order of
-//! `specs/Framing.antt`, and behind one nothing more is read. Where an open edge gives nothing it has
+//! `specs/Framing.antt`, and after one nothing more is read. Where an open edge gives nothing it has
 //! room for more bytes, so no connection stops at a full one.
 //!
 //! The mapping of requests stands on it, and so does the gateway that feeds connections.

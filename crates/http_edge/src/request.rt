@@ -63,7 +63,7 @@ pub struct Request {
     pub fields: HeaderMap,
     /// At most 65,536 bytes, without the framing.
     pub body: Vec<u8>,
-    /// The connection is closed behind the answer.
+    /// The connection is closed after the answer.
     pub close: bool,
 }
 
@@ -90,6 +90,6 @@ impl Request {
 #[derive(Drop)]
 pub enum Incoming {
     Request(Request),
-    /// Behind it nothing more is read.
+    /// After it nothing more is read.
     Bad(BadKind),
 }

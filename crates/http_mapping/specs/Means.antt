@@ -98,7 +98,7 @@ seconds_if name (Some n) = only name (decimal n)
 abbrev pub retry_after : Response → Pairs
 retry_after w = when (w.code == 163) (seconds_if (codes "Retry-After") w.max_age)
 
--- Connection, where the connection is closed behind the answer (RFC 9112, section 9.6)
+-- Connection, where the connection is closed after the answer (RFC 9112, section 9.6)
 abbrev pub closes : Came → Bool
 closes (Whole r) = r.close
 closes (Bad kind) = true

@@ -215,7 +215,7 @@ pub fn add_retry_after(
     }
 }
 
-/// Says that the connection is closed behind the answer, where it is (RFC 9112, section 9.6).
+/// Says that the connection is closed after the answer, where it is (RFC 9112, section 9.6).
 pub fn add_connection(alloc: Global, fields: &mut Vec<Field>, came: &Incoming) -> Result<(), Memory>
     ensures { OnOk result (map pair_of fields.new.items ≡ map pair_of fields.old.items ++ connection (came_of came.now)) }
 {
@@ -225,7 +225,7 @@ pub fn add_connection(alloc: Global, fields: &mut Vec<Field>, came: &Incoming) -
     Ok(())
 }
 
-/// Whether the connection is closed behind the answer to what was read.
+/// Whether the connection is closed after the answer to what was read.
 pub fn closes(incoming: &Incoming) -> bool
     ensures { result ≡ closing (came_of incoming.now) }
 {

@@ -87,7 +87,7 @@ verdict-ends t s m Non o d e n f = heard-ends t s m false (find (is_repeat t m.m
 verdict-ends t s m Ack o d e n f = ack-ends s m o d e n f
 verdict-ends t s m Rst o d e n f = rw e (rst-ends m o d n)
 
--- behind what was heard
+-- after what was heard
 pub left-fits : (t : ℕ) (s : LinkState) (m : Content) (o : Option Outstanding) (last : Option (List ℕ)) → s.outstanding ≡ o → IsOutstanding o last
     → let v = verdict_of t s m in (v.ends ≡ true → heard_by (says v.news m) (Ok m) last ≡ None) × (v.ends ≡ false → heard_by (says v.news m) (Ok m) last ≡ last)
 left-fits t s m None None e h = (λ g. refl, λ g. refl)

@@ -82,7 +82,7 @@ in_use-fits t given = rw (length-filter (is_in_use t) given) (count_by-le-length
 in_use-push : (u t : ℕ) (given : List ℕ) → in_use u (given ++ t ∷ []) ≡ in_use u given + in_use u (t ∷ [])
 in_use-push u t given = rw (filter-append (is_in_use u) given (t ∷ [])) (length-append _ _)
 
--- a link that goes on from the old one behind answers alone
+-- a link that goes on from the old one after answers alone
 pub record GoesOn (t : ℕ) (old s : LinkState) (answers : List (List ℕ)) : Type 0 where
   pub last : s.last_mid ≡ old.last_mid
   pub given : (u : ℕ) → t ≤ u → in_use u s.given ≡ in_use u old.given

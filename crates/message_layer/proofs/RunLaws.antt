@@ -75,7 +75,7 @@ step-effect last x old new h i = by x.call i.leaves i.puts
         taken (y ∷ ys) = quiet-rests x.moment old _ x.sent refl refl refl p old.waiting refl
     by refuse e p = (old.waiting, refl, quiet-rests x.moment old new x.sent (rw e refl) (rw e refl) (rw e refl) p old.waiting (rw e refl))
 
--- behind a tick nothing is due
+-- after a tick nothing is due
 abbrev NotYet : ℕ → Option Outstanding → Type 0
 NotYet t None = Unit {0}
 NotYet t (Some o) = t < due_of o
@@ -204,7 +204,7 @@ first-latest timeout first (t ∷ earlier) s =
     let before : first ≤ latest first earlier = first-latest timeout first earlier s.1 in
     omega (arith, before, s.0)
 
--- a tick behind the copies
+-- a tick after the copies
 copies-tick : (t : ℕ) (ts : List ℕ) (timeout first : ℕ) (copies : List ℕ) → IsSpaced timeout first copies → latest first copies ≤ t → ArePrompt ts timeout first copies → ArePrompt (t ∷ ts) timeout first copies
 copies-tick t ts timeout first [] s late p = tt
 copies-tick t ts timeout first (c ∷ earlier) s late p = ((inr late, p.0), copies-tick t ts timeout first earlier s.1 (omega (arith, late, s.0)) p.1)

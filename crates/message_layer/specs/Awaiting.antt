@@ -54,7 +54,7 @@ firsts_by (expect token on) sent = filter is_con sent
 firsts_by (take_send d) sent = filter is_con sent
 firsts_by refuse sent = filter is_con sent
 
--- whether a response under the token is awaited behind the call, by whether it was before
+-- whether a response under the token is awaited after the call, by whether it was before
 abbrev pub expects_by : List ℕ → Call → Bool → Bool
 expects_by token (submit m word) before = before
 expects_by token (hear d told) before = before

@@ -24,7 +24,7 @@ pub record IsCopy (t : ℕ) (s : LinkState) (r : LinkState × Told) : Type 0 whe
   pub out : r.0.out ≡ s.out ++ outstanding.datagram ∷ []
   pub says : r.1 ≡ no_news
 
--- given up behind the fifth timeout: the next message has its turn
+-- given up after the fifth timeout: the next message has its turn
 pub record IsGivenUp (t : ℕ) (s : LinkState) (r : LinkState × Told) : Type 0 where
   pub outstanding : Outstanding
   pub was : s.outstanding ≡ Some outstanding

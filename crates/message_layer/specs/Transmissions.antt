@@ -53,7 +53,7 @@ first_of m = m.first
 abbrev pub recent : ℕ → List SentMessage → ℕ
 recent t ms = length (filter (is_in_use t) (map first_of ms))
 
--- A message is sent five times at most, behind all sendings of the messages before, under the next ID; less than 32,768
+-- A message is sent five times at most, after all sendings of the messages before, under the next ID; less than 32,768
 -- of these were sent within 494 s.
 pub record IsSent (m : SentMessage) (older : List SentMessage) : Type 0 where
   pub least : ACK_TIMEOUT ≤ m.timeout

@@ -18,7 +18,7 @@ pub fn mids_apart()
     ensures { MidsApart }
 {}
 
-/// Behind any run nothing waits where nothing is outstanding.
+/// After any run nothing waits where nothing is outstanding.
 pub fn run_keeps_turn()
     ensures { RunKeepsTurn }
 {}
@@ -36,7 +36,7 @@ pub fn hands_up_once()
     ensures { HandsUpOnce }
 {}
 
-/// A tick does nothing before the timeout is over, then sends an equal copy, and behind four of
+/// A tick does nothing before the timeout is over, then sends an equal copy, and after four of
 /// them gives up.
 pub fn tick_sends()
     ensures { TickSends }

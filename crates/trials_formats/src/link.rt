@@ -234,7 +234,7 @@ fn numbers_that_come_free(rt: HostRuntime) {
     let mut link = Link::new(alloc);
     let token = Token::new(&[9]);
     for n in 0..98304u32 {
-        // 494,040 ms behind the ID that was given 32,768 ago
+        // 494,040 ms after the ID that was given 32,768 ago
         assert!(rt; goes_round(&mut link, alloc, token, 15 * n + n / 13));
     }
 }

@@ -47,7 +47,7 @@ pub struct Planned {
     /// the client waits with its body to be told to go on
     pub waits: bool,
     pub is_head: bool,
-    /// the connection is closed behind its answer
+    /// the connection is closed after its answer
     pub is_last: bool,
     pub fate: Fate,
 }

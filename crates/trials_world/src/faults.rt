@@ -25,7 +25,7 @@ pub enum Fault {
     Unanswered,
     /// a client was told to go on that doesn't wait, or one that waits wasn't
     Continue,
-    /// a connection was closed that goes on, or goes on behind its last answer
+    /// a connection was closed that goes on, or goes on after its last answer
     Closing,
     /// what went out is no message
     Garbled,

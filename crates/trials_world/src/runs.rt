@@ -413,7 +413,7 @@ fn go_on(client: &mut Client) -> Result<(), Fault> {
     Ok(())
 }
 
-/// Behind each input the client has all that it is owed.
+/// After each input the client has all that it is owed.
 fn is_served(client: &Client, asked: &[Asked]) -> Result<(), Fault> {
     if !client.is_open {
         return Ok(());
