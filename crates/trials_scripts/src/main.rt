@@ -5,6 +5,9 @@
 //! that is asked for, and why the run ended where it was refused.
 #![tactic(auto)]
 
+ghost use Rattle.proxy_settings.specs.Files.{IsOf};
+ghost use Rattle.std.specs.Prelude.{IfOk};
+
 use ask_model::Settings;
 use command_line::{Report, demonstration, followed};
 use proxy_settings::{FileFault, Part, Setup, read_setup};
@@ -42,15 +45,21 @@ fn row_of(line: &str) -> Row<'_> {
     row
 }
 
+/// What a file has settings of: the part.
+fn read<R: Files + AllocGlobal>(rt: &R, part: Part, path: &str) -> Result<Setup, FileFault>
+    ensures { IfOk result (IsOf part) }
+{
+    match fs::open(rt, path) {
+        Ok(file) => read_setup(rt.alloc(), part, file),
+        Err(error) => Err(FileFault::Unread(error)),
+    }
+}
+
 /// The settings of a file.
 fn settings_in<'a, R: Files + AllocGlobal>(rt: &R, path: &'a str) -> Result<Settings, Report<'a>> {
-    let setup = match fs::open(rt, path) {
-        Ok(file) => read_setup(rt.alloc(), Part::Serve, file),
-        Err(error) => Err(FileFault::Unread(error)),
-    };
-    match setup {
+    match read(rt, Part::Serve, path) {
         Ok(Setup::Serve(serve)) => Ok(followed(rt.alloc(), &serve)?),
-        Ok(Setup::Origin(_)) => Err(Report::memory()),
+        Ok(Setup::Origin(_)) => unreachable!(),
         Err(fault) => Err(Report::file(path, fault)),
     }
 }
