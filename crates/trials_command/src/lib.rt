@@ -1,21 +1,16 @@
-//! Trials of `command_line`, by its public calls: scripts run over memory, with what they print, and
-//! settings of files. Nothing stands on this crate, so the crates below it are proved once.
+//! Trials of `command_line` and of `script_runs`, by their public calls: what words ask for, what failures are told,
+//! and scripts whose memory is refused. What scripts print is tried by `trials_scripts`. Nothing stands on this crate,
+//! so the crates below it are proved once.
 #![tactic(auto)]
 
 #[cfg(test)]
-mod crowd_tests;
-#[cfg(test)]
 mod demo_tests;
 #[cfg(test)]
-mod media_tests;
-#[cfg(test)]
-mod playing;
+mod devices;
 #[cfg(test)]
 mod refused_tests;
 #[cfg(test)]
-mod reply_tests;
-#[cfg(test)]
-mod row_tests;
+mod rows;
 #[cfg(test)]
 mod serve_tests;
 #[cfg(test)]

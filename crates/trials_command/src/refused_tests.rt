@@ -5,7 +5,7 @@ ghost use Rattle.std.specs.Prelude.{◌≡◌};
 ghost use Rattle.ask_model.specs.Views.{rules_of};
 ghost use Rattle.transformers.specs.Suits.{Suits};
 
-use crate::row_tests::{BOTH_LATE, COPIED, EXPECT, LAST, PIPELINED, Row};
+use crate::rows::{BOTH_LATE, COPIED, EXPECT, LAST, PIPELINED, Row};
 use ask_model::Settings;
 use command_line::{Line, LineFault, ReplayFault, demonstration, line_of};
 use gateway_world::{Output, World, WorldFault};

@@ -1,7 +1,0 @@
--- The transformers so far stand for the routes so far.
-use Rattle.std.proofs.Common.{take}
-use Rattle.route_bank.specs.Profiles.{StandFor}
-use Rattle.trials_world.proofs.scripts.run_of.Given as goal
-
-abbrev pub invariant-each : goal.invariant-each
-invariant-each l = StandFor (take l.route-index l.route-items) l.all.items
