@@ -1,6 +1,6 @@
 -- What an input asks on a connection.
 use Rattle.std.proofs.Common.{◌≡◌, ◌⊎◌, inl, inr, ℕ, ◌+◌, ◌≤◌, Bool, true, false, cond, List, [], ◌∷◌, ◌++◌, length, drop, Some, None, refl, sym, ap, ◌∙◌, subst, arith, eqb-true}
-use Rattle.std.specs.Prelude.{◌==◌, flat_map}
+use Rattle.std.specs.Prelude.{⊤, ◌==◌, flat_map}
 use Rattle.std.specs.List.{AllByRecursion}
 use Rattle.std.proofs.Math.Seq.{drop-append_seam}
 use Rattle.std.proofs.lemmas.List.{append-nil}
@@ -16,7 +16,7 @@ use Rattle.gateway_model.specs.declared.input.Happening.TheVariants as H
 use Rattle.gateway_model.specs.declared.input.When.{When}
 use Rattle.gateway_model.specs.Acts.{Act, Opens, TurnsAway, Takes, Hears, Passes, Asks, Denies, Sends, Tells, GoesOn, Rests, Leaves, Misses, Served, Terms, Does, DoesAll, at}
 use Rattle.gateway_model.specs.Asking.{brought_by, IsLeft, IsOver, Begins, Heeds, AllHeed, InputsAsk}
-use Rattle.gateway_model.specs.Emissions.{Emission}
+use Rattle.gateway_model.specs.Emissions.{Emission, Turned}
 use Rattle.gateway_model.specs.Orders.{IsFor, ServesOut, IsSends, Turn, acts_of, IsTurn, Delivers, IsInOrder}
 use Rattle.gateway_model.specs.Tellings.{terms_of}
 use Rattle.gateway_model.specs.Unasked.{Unasked, unasked_at, no_bytes}
@@ -170,6 +170,73 @@ input-asks M w (H.Close d) acts old out new h o = by o
     by (inr one) =
         all-heed M.IsMeaning (H.Close d) old new
         (λ c. all-effect M w c acts old out new (subst ArePlain (sym one) (tt, tt)) h)
+
+-- how many connections have opened, after an input
+
+abbrev wants : Happening → Type 0
+wants H.Open = ⊤
+wants _ = ⊥
+
+abbrev pub CountsOpened : Happening → List Emission → ℕ → ℕ → Type 0
+CountsOpened x out n m =
+    ((x ≡ H.Open) × (out ≡ []) × (m ≡ n + 1))
+    ⊎ (((x ≡ H.Open) × (out ≡ Turned ∷ []) × (m ≡ n)) ⊎ ((x ≡ H.Open → ⊥) × (m ≡ n)))
+
+module _ (M : Terms) (w : When) where
+  opens-counted : (d : ℕ) (old : Served) (out : List Emission) (new : Served) → Does M w (Opens d) old out new
+      → new.core.state.opened ≡ old.core.state.opened + 1
+  opens-counted d old out new h =
+      let t = at w old in
+      ap (λ (S : State). S.opened)
+      (ap state-of h.0.1 ∙ opens-as t old.core.state (sym (ap (λ (v : CoreValue). v.state.sealed) h.0.1) ∙ h.0.2))
+
+  plain-counted : (acts : List Act) (old : Served) (out : List Emission) (new : Served) → DoesAll M w acts old out new
+      → ArePlain acts → new.core.state.opened ≡ old.core.state.opened
+  plain-counted acts old out new h plain = (all-effect M w 0 acts old out new plain h).opened
+
+  pub input-counts : (x : Happening) (acts : List Act) (old : Served) (out : List Emission) (new : Served)
+      → DoesAll M w acts old out new → IsInOrder x acts
+      → CountsOpened x out old.core.state.opened new.core.state.opened
+  input-counts H.Open acts old out new h o = by o
+    where
+      by : ((c : ℕ) × (acts ≡ Opens c ∷ [])) ⊎ (acts ≡ TurnsAway ∷ [])
+          → CountsOpened H.Open out old.core.state.opened new.core.state.opened
+      by (inl one) =
+          let d = subst (λ (xs : List Act). DoesAll M w xs old out new) one.1 h in
+          inl (
+            refl,
+            d.5 ∙ (ap (λ (es : List Emission). es ++ d.2) d.3.2 ∙ d.4.1),
+            ap (λ (s : Served). s.core.state.opened) d.4.0 ∙ opens-counted one.0 old d.1 d.0 d.3,
+          )
+      by (inr one) =
+          let d = subst (λ (xs : List Act). DoesAll M w xs old out new) one h in
+          inr (inl (
+            refl,
+            d.5 ∙ (ap (λ (es : List Emission). es ++ d.2) d.3.2 ∙ ap (λ (es : List Emission). Turned ∷ es) d.4.1),
+            plain-counted acts old out new h (subst ArePlain (sym one) (tt, tt)),
+          ))
+  input-counts (H.Bytes d bytes) acts old out new h o =
+      let k = subst (λ (xs : List Act). DoesAll M w xs old out new) o.are h in
+      inr (inr (
+        λ e. subst wants (sym e) tt,
+        plain-counted o.rest k.0 k.2 new k.4 (out-plain d o.rest o.then)
+            ∙ (takes-effect M.IsMeaning 0 d bytes.now old k.0 k.3.0).opened,
+      ))
+  input-counts (H.Datagram p bytes) acts old out new h o =
+      inr (inr (
+        λ e. subst wants (sym e) tt,
+        plain-counted acts old out new h (subst ArePlain (sym o.are) (tt, delivers-plain o.rest o.then)),
+      ))
+  input-counts H.Tick acts old out new h o =
+      inr (inr (
+        λ e. subst wants (sym e) tt,
+        plain-counted acts old out new h (subst ArePlain (sym o.are) (tt, delivers-plain o.rest o.then)),
+      ))
+  input-counts (H.Close d) acts old out new h o = inr (inr (λ e. subst wants (sym e) tt, by o))
+    where
+      by : (acts ≡ Leaves d ∷ []) ⊎ (acts ≡ Misses d ∷ []) → new.core.state.opened ≡ old.core.state.opened
+      by (inl one) = plain-counted acts old out new h (subst ArePlain (sym one) (tt, tt))
+      by (inr one) = plain-counted acts old out new h (subst ArePlain (sym one) (tt, tt))
 
 pub inputs-ask : (holds : Form → Form → List ℕ → List ℕ → Type 0) (takes : Form → Form → List ℕ → Type 0) → InputsAsk holds takes
 inputs-ask holds takes rules w x acts old out new h o = input-asks (terms_of holds takes rules) w x acts old out new h o

@@ -115,9 +115,11 @@ abbrev pub Ends : When → ℕ → Bool → Served → List Emission → Served 
 Ends w c true old out new = IsClosing w c old new × (out ≡ Closed c ∷ [])
 Ends w c false old out new = (new ≡ old) × (out ≡ [])
 
--- The answer to the ask is taken, and its connection gets the bytes of a response that tells it.
+-- The answer to the ask is taken, and its connection gets the bytes of a response that tells it. No
+-- datagram waits then: those of the step went out before.
 pub record IsTelling (M : Terms) (w : When) (c k : ℕ) (old : Served) (out : List Emission)
     (new : Served) : Type 0 where
+  pub sent : old.core.unsent ≡ []
   pub answer : Given
   pub conn : answer.conn ≡ c
   pub told : Served

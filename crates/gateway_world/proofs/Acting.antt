@@ -133,16 +133,17 @@ module _ {R : Type 0} (M : Terms) (w : When) where
 
   -- the answer is told
   pub tells-lead : (g : Given) (v : CoreValue) (old new : Engine R) (before mid after : List Output) (rest : List Emission)
-      → IsTaken (Some g) g.ask v old.core
+      → IsTaken (Some g) g.ask v old.core → old.core.unsent ≡ []
       → TellsBytes M g (emissions before) (emissions mid)
       → Ends w g.conn (closes g.mapping.came) (served_of old) rest (served_of new)
       → emissions after ≡ emissions mid ++ rest
       → LeadsAfter M w (TellsOnly g.conn g.ask) v old.table.current before new after
-  tells-lead g v old new before mid after rest taken t ends added =
+  tells-lead g v old new before mid after rest taken sent t ends added =
       leads-one M w (TellsOnly g.conn g.ask) (Tells g.conn g.ask)
       (record { core = v; unasked = unasked_in old.table.current }) (served_of new)
       (emissions before) (Says g.conn (answer_text t.response) ∷ rest) (emissions after) refl (
       record {
+        sent = sym (ap (λ (u : CoreValue). u.unsent) taken.3) ∙ sent;
         answer = g;
         conn = refl;
         told = served_of old;

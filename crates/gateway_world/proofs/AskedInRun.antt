@@ -1,149 +1,226 @@
 -- What connections ask, input after input.
-use Rattle.std.proofs.Common.{◌≡◌, ◌⊎◌, inl, inr, ℕ, ◌<◌, List, [], ◌∷◌, ◌++◌, Option, None, refl, sym, ap, ◌∙◌, subst, arith}
+use Rattle.std.proofs.Common.{◌≡◌, ◌⊎◌, inl, inr, ℕ, ◌+◌, ◌<◌, ◌≤◌, Bool, true, false, List, [], ◌∷◌, ◌++◌, Option, None, Some, refl, sym, ap, ◌∙◌, subst, arith}
+use Rattle.std.specs.Prelude.{if◌then◌else◌, nat_lt}
+use Rattle.std.specs.List.{AllByRecursion}
+use Rattle.std.proofs.lemmas.Bool.{lt-ltb, le-ltb}
 use Rattle.std.proofs.lemmas.List.{append-nil, append_assoc}
+use borrow.Author.Tests.{ltb-true, ltb-false}
 use Rattle.media_map.specs.declared.form.Form.{Form}
 use Rattle.ask_model.specs.Views.{Ask, Rules}
 use Rattle.journal_book.specs.Entries.{Written}
+use Rattle.exchange_model.specs.State.{State}
+use Rattle.gateway_model.specs.declared.input.Happening.{Happening}
+use Rattle.gateway_model.specs.declared.input.Happening.TheVariants as H
 use Rattle.gateway_model.specs.declared.input.Input.{Input}
 use Rattle.gateway_model.specs.Acts.{Terms}
-use Rattle.gateway_model.specs.Asking.{IsLeft, AreAsked, AsksFirst, Heeds, AllHeed, Begins, asked_on, brought_by}
-use Rattle.gateway_model.specs.Emissions.{Emission}
+use Rattle.gateway_model.specs.Asking.{AreAsked, AsksFirst, IsLeft, Heeds, AllHeed, Begins, asked_on, brought_by}
+use Rattle.gateway_model.specs.Closing.{Closes, IsNoTurn}
+use Rattle.gateway_model.specs.Emissions.{Emission, Says, Goes, Closed, Turned}
 use Rattle.gateway_model.specs.Tellings.{IsMapped, terms_of}
-use Rattle.gateway_model.specs.Unasked.{Unasked, unasked_at}
+use Rattle.gateway_model.specs.Unasked.{Unasked, unasked_at, no_bytes}
 use Rattle.gateway_model.proofs.Asked.{asked-both, first-then}
-use Rattle.gateway_model.proofs.Heeded.{input-asks}
-use Rattle.gateway_world.specs.Asked.{text_on, OpensAfter, AsksIts, AsksInRun}
-use Rattle.gateway_world.specs.Worlds.{WorldValue, Handles, HandlesAll, new_world, served_in, when_in}
-use Rattle.gateway_world.proofs.Running.{handles-more}
-
-asked-so : (M : Terms) (i : Input) (old new : WorldValue) (out : List Emission) → Handles M i old out new
-    → AllHeed M.IsMeaning i.happening (served_in old) (served_in new)
-asked-so M i old new out h =
-    input-asks M (when_in old i) i.happening h.acts.acts (served_in old) h.acts.given (served_in new) h.acts.done h.acts.order
+use Rattle.gateway_model.proofs.Heeded.{CountsOpened, input-asks, input-counts}
+use Rattle.gateway_world.specs.Asked.{turned_in, MayOpen, turned_by, AreOpened, opened_by, text_on, AsksIts, AsksInRun}
+use Rattle.gateway_world.specs.Inputs.{Takes, TakesAll}
+use Rattle.gateway_world.specs.Worlds.{WorldValue, Handles, new_world, served_in, when_in}
 
 pub heeded : (holds : Form → Form → List ℕ → List ℕ → Type 0) (takes : Form → Form → List ℕ → Type 0) (rules : Rules)
     (i : Input) (old new : WorldValue) (out : List Emission) → Handles (terms_of holds takes rules) i old out new
     → AllHeed (IsMapped holds takes rules) i.happening (served_in old) (served_in new)
-heeded holds takes rules i old new out h = asked-so (terms_of holds takes rules) i old new out h
+heeded holds takes rules i old new out h =
+    input-asks (terms_of holds takes rules) (when_in old i) i.happening h.acts.acts (served_in old) h.acts.given (served_in new) h.acts.done h.acts.order
 
-text-more : (c : ℕ) (is : List Input) (i : Input) → text_on c (is ++ i ∷ []) ≡ text_on c is ++ brought_by c i.happening
-text-more c [] i = append-nil (brought_by c i.happening)
-text-more c (x ∷ is) i =
-    ap (λ (t : List ℕ). brought_by c x.happening ++ t) (text-more c is i)
-    ∙ sym (append_assoc (brought_by c x.happening) (text_on c is) (brought_by c i.happening))
+-- which input opens a connection, and at which one is turned away
 
-abbrev waiting : ℕ → WorldValue → Option Unasked
-waiting c w = unasked_at c (served_in w).unasked
+turned-both : (a b : List Emission) → turned_in (a ++ b) ≡ turned_in a + turned_in b
+turned-both [] b = let same : turned_in b ≡ 0 + turned_in b = omega arith in same
+turned-both (Says c x ∷ a) b = turned-both a b
+turned-both (Goes d ∷ a) b = turned-both a b
+turned-both (Closed c ∷ a) b = turned-both a b
+turned-both (Turned ∷ a) b = let e = turned-both a b in omega (arith, e)
 
-module _ (M : Terms) (rules : Rules) (c : ℕ) where
-  -- A connection that opened asks of its text so far, the rest of which waits.
-  record SoFar (is : List Input) (w : WorldValue) : Type 0 where
-    before : List Input
-    input : Input
-    after : List Input
-    are : is ≡ before ++ input ∷ after
-    opens : OpensAfter M rules c before input
-    first : AsksFirst M.IsMeaning c (text_on c after) w.core.state.entries (waiting c w)
-    opened : c < w.core.state.opened
+none-turned : (out : List Emission) → AllByRecursion IsNoTurn out → turned_in out ≡ 0
+none-turned [] h = refl
+none-turned (Says c x ∷ out) h = none-turned out h.1
+none-turned (Goes d ∷ out) h = none-turned out h.1
+none-turned (Closed c ∷ out) h = none-turned out h.1
+none-turned (Turned ∷ out) h = absurd h.0
 
-  abbrev AsksNone : WorldValue → Type 0
-  AsksNone w = (asked_on c w.core.state.entries ≡ []) × (waiting c w ≡ None)
+-- Whether a connection opens at the input.
+record Opening (x : Happening) (out : List Emission) (n m : ℕ) : Type 0 where
+  opens : Bool
+  may : MayOpen opens x
+  turned : turned_in out ≡ turned_by opens x
+  counts : m ≡ opened_by opens n
 
-  abbrev Far : List Input → WorldValue → Type 0
-  Far is w = AsksNone w ⊎ SoFar is w
+other : (M : Terms) (x : Happening) (S S1 : State) (out : List Emission) (n m : ℕ) → (x ≡ H.Open → ⊥)
+    → Closes M x S S1 out → m ≡ n → Opening x out n m
+other M H.Open S S1 out n m never k e = absurd (never refl)
+other M (H.Bytes c bytes) S S1 out n m never k e = record { opens = false; may = tt; turned = none-turned out k.turned; counts = e }
+other M (H.Datagram p bytes) S S1 out n m never k e = record { opens = false; may = tt; turned = none-turned out k.turned; counts = e }
+other M H.Tick S S1 out n m never k e = record { opens = false; may = tt; turned = none-turned out k.turned; counts = e }
+other M (H.Close c) S S1 out n m never k e = record { opens = false; may = tt; turned = ap turned_in k; counts = e }
 
-  module _ (is : List Input) (i : Input) (a b : WorldValue) (o p : List Emission)
-      (all : HandlesAll M is (new_world rules) o a) (one : Handles M i a p b) where
-    heed : AllHeed M.IsMeaning i.happening (served_in a) (served_in b)
-    heed = asked-so M i a b p one
+opening : (M : Terms) (x : Happening) (S S1 : State) (out : List Emission) (n m : ℕ) → CountsOpened x out n m
+    → Closes M x S S1 out → Opening x out n m
+opening M x S S1 out n m (inl o) k = record { opens = true; may = o.0; turned = ap turned_in o.1; counts = o.2 }
+opening M x S S1 out n m (inr (inl o)) k =
+    record { opens = false; may = tt; turned = ap turned_in o.1 ∙ sym (ap (turned_by false) o.0); counts = o.2 }
+opening M x S S1 out n m (inr (inr o)) k = other M x S S1 out n m o.0 k o.1
 
-    own : Heeds M.IsMeaning c i.happening (served_in a) (served_in b) heed.more
+less-or-not : (a b : ℕ) → (a < b) ⊎ (b ≤ a)
+less-or-not a b = by (nat_lt a b) refl
+  where
+    by : (t : Bool) → nat_lt a b ≡ t → (a < b) ⊎ (b ≤ a)
+    by true e = inl (ltb-true a b e)
+    by false e = inr (ltb-false a b e)
+
+is-less : (a b : ℕ) → a < b → nat_lt a b ≡ true
+is-less a b lt = lt-ltb a b lt
+
+is-not-less : (a b : ℕ) → b ≤ a → nat_lt a b ≡ false
+is-not-less a b le = le-ltb a b le
+
+grows-by : (b : Bool) (n : ℕ) → n ≤ opened_by b n
+grows-by true n = omega arith
+grows-by false n = omega arith
+
+module _ (P : Ask → Type 0) (c : ℕ) where
+  -- A connection that opened asks of its text so far, the rest of which waits; one that didn't asks nothing.
+  record IsFresh (text : List ℕ) (n : ℕ) (w : WorldValue) : Type 0 where
+    empty : text ≡ []
+    above : n ≤ c
+    quiet : asked_on c w.core.state.entries ≡ []
+    none : unasked_at c (served_in w).unasked ≡ None
+
+  abbrev Far : List ℕ → ℕ → WorldValue → Type 0
+  Far text n w =
+      IsFresh text n w ⊎ ((c < n) × AsksFirst P c text w.core.state.entries (unasked_at c (served_in w).unasked))
+
+  module _ (x : Happening) (a b : WorldValue) (heed : AllHeed P x (served_in a) (served_in b)) (t : Bool)
+      (counts : b.core.state.opened ≡ opened_by t a.core.state.opened) where
+    own : Heeds P c x (served_in a) (served_in b) heed.more
     own = heed.each c
 
-    quiet : asked_on c a.core.state.entries ≡ [] → asked_on c heed.more ≡ [] → asked_on c b.core.state.entries ≡ []
-    quiet e f =
-        ap (asked_on c) heed.added ∙ asked-both c a.core.state.entries heed.more
-        ∙ ap (λ (ks : List Ask). ks ++ asked_on c heed.more) e ∙ f
+    abbrev q : Option Unasked
+    q = unasked_at c (served_in b).unasked
 
-    begun : asked_on c b.core.state.entries ≡ [] → Begins c i.happening (served_in a) (served_in b) → SoFar (is ++ i ∷ []) b
-    begun none begins = record {
-      before = is;
-      input = i;
-      after = [];
-      are = refl;
-      opens = record { out = o; old = a; taken = all; given = p; new = b; handled = one; begins = begins };
-      first = record {
-        items = [];
-        rest = [];
-        reads = refl;
-        asks = subst (AreAsked M.IsMeaning []) (sym none) tt;
-        left = subst (IsLeft [] []) (sym begins.waits) (inl (tt, refl, refl));
-      };
-      opened = let e = begins.opened in omega (arith, e);
+    starts : (text : List ℕ) → text ≡ [] → asked_on c b.core.state.entries ≡ []
+        → ((rest : List ℕ) → rest ≡ [] → IsLeft [] rest q) → AsksFirst P c text b.core.state.entries q
+    starts text e none left = record {
+      items = [];
+      rest = text;
+      reads = refl;
+      asks = subst (AreAsked P []) (sym none) tt;
+      left = left text e;
     }
 
-    goes : SoFar is a → SoFar (is ++ i ∷ []) b
-    goes s = record {
-      before = s.before;
-      input = s.input;
-      after = s.after ++ i ∷ [];
-      are = ap (λ (xs : List Input). xs ++ i ∷ []) s.are ∙ append_assoc s.before (s.input ∷ s.after) (i ∷ []);
-      opens = s.opens;
-      first =
-          subst (λ (t : List ℕ). AsksFirst M.IsMeaning c t b.core.state.entries (waiting c b)) (sym (text-more c s.after i))
-          (subst (λ (h : List Written). AsksFirst M.IsMeaning c (text_on c s.after ++ brought_by c i.happening) h (waiting c b))
-          (sym heed.added)
-          (first-then M.IsMeaning c (brought_by c i.happening) a.core.state.entries heed.more (waiting c a) (waiting c b)
-          own.reads own.last (λ e. let g = own.gone e in (g.0, again g.1)) (text_on c s.after) s.first));
-      opened = let e = heed.opened in let lt = s.opened in omega (arith, e, lt);
-    }
+    fresh : (text : List ℕ) → text ≡ [] → a.core.state.opened ≤ c → asked_on c a.core.state.entries ≡ []
+        → (asked_on c heed.more ≡ []) × ((q ≡ None) ⊎ Begins c x (served_in a) (served_in b)) → Far text b.core.state.opened b
+    fresh text e le quiet g = by g.1
       where
-        again : (waiting c b ≡ None) ⊎ Begins c i.happening (served_in a) (served_in b) → waiting c b ≡ None
+        still : asked_on c b.core.state.entries ≡ []
+        still =
+            ap (asked_on c) heed.added ∙ asked-both c a.core.state.entries heed.more
+            ∙ ap (λ (ks : List Ask). ks ++ asked_on c heed.more) quiet ∙ g.0
+
+        by : (q ≡ None) ⊎ Begins c x (served_in a) (served_in b) → Far text b.core.state.opened b
+        by (inl none) = on (less-or-not c b.core.state.opened)
+          where
+            on : (c < b.core.state.opened) ⊎ (b.core.state.opened ≤ c) → Far text b.core.state.opened b
+            on (inl lt) = inr (lt, starts text e still (λ rest f. subst (IsLeft [] rest) (sym none) tt))
+            on (inr more) = inl (record { empty = e; above = more; quiet = still; none = none })
+        by (inr begins) =
+            inr (
+              (let o = begins.opened in omega (arith, o)),
+              starts text e still (λ rest f. subst (IsLeft [] rest) (sym begins.waits) (inl (tt, refl, sym f))),
+            )
+
+    farther : (text : List ℕ) → Far text a.core.state.opened a
+        → Far (text ++ (if nat_lt c a.core.state.opened then brought_by c x else [])) b.core.state.opened b
+    farther text (inl f) =
+        fresh _
+        (ap (λ (v : Bool). text ++ (if v then brought_by c x else [])) (is-not-less c a.core.state.opened f.above) ∙ (append-nil text ∙ f.empty))
+        f.above f.quiet (own.gone f.none)
+    farther text (inr s) =
+        inr (
+          (let lt = s.0 in let more = grows-by t a.core.state.opened in omega (arith, lt, more, counts)),
+          subst (λ (v : Bool). AsksFirst P c (text ++ (if v then brought_by c x else [])) b.core.state.entries q)
+              (sym (is-less c a.core.state.opened s.0))
+              (subst (λ (h : List Written). AsksFirst P c (text ++ brought_by c x) h q) (sym heed.added)
+              (first-then P c (brought_by c x) a.core.state.entries heed.more (unasked_at c (served_in a).unasked) q
+              own.reads own.last (λ e. let g = own.gone e in (g.0, again g.1)) text s.1)),
+        )
+      where
+        again : (q ≡ None) ⊎ Begins c x (served_in a) (served_in b) → q ≡ None
         again (inl e) = e
-        again (inr begins) = absurd (let e = begins.fresh in let lt = s.opened in omega (arith, e, lt))
+        again (inr begins) = absurd (let e = begins.fresh in let lt = s.0 in omega (arith, e, lt))
 
-    farther : Far is a → Far (is ++ i ∷ []) b
-    farther (inl n) = by (own.gone n.1)
-      where
-        by : (asked_on c heed.more ≡ []) × ((waiting c b ≡ None) ⊎ Begins c i.happening (served_in a) (served_in b))
-            → Far (is ++ i ∷ []) b
-        by (e, inl none) = inl (quiet n.0 e, none)
-        by (e, inr begins) = inr (begun (quiet n.0 e) begins)
-    farther (inr s) = inr (goes s)
+  far-asks : (text : List ℕ) (n : ℕ) (w : WorldValue) → Far text n w → AsksIts P c text w.core.state.entries
+  far-asks text n w (inl f) =
+      record { items = []; rest = text; reads = refl; asks = subst (AreAsked P []) (sym f.quiet) tt }
+  far-asks text n w (inr s) = record { items = s.1.items; rest = s.1.rest; reads = s.1.reads; asks = s.1.asks }
 
-  all-far : (done is : List Input) (a b : WorldValue) (o p : List Emission) → HandlesAll M done (new_world rules) o a
-      → HandlesAll M is a p b → Far done a → Far (done ++ is) b
-  all-far done [] a b o p h k far =
-      subst (λ (xs : List Input). Far xs b) (sym (append-nil done)) (subst (Far done) (sym k.0) far)
-  all-far done (i ∷ is) a b o p h k far =
-      subst (λ (xs : List Input). Far xs b) (append_assoc done (i ∷ []) is)
-      (all-far (done ++ i ∷ []) is k.0 b (o ++ k.1) k.2 (handles-more M done i (new_world rules) a k.0 o k.1 h k.3) k.4
-      (farther done i a k.0 o k.1 h k.3 far))
+module _ (holds : Form → Form → List ℕ → List ℕ → Type 0) (takes : Form → Form → List ℕ → Type 0) (rules : Rules) where
+  abbrev P : Ask → Type 0
+  P = IsMapped holds takes rules
 
-  far-asks : (is : List Input) (w : WorldValue) → Far is w → (asked_on c w.core.state.entries ≡ []) ⊎ AsksIts M rules c is w.core.state.entries
-  far-asks is w (inl n) = inl n.0
-  far-asks is w (inr s) = inr (record {
-    before = s.before;
-    input = s.input;
-    after = s.after;
-    are = s.are;
-    opens = s.opens;
-    items = s.first.items;
-    rest = s.first.rest;
-    reads = s.first.reads;
-    asks = s.first.asks;
-  })
+  record Goes-far (is : List Input) (a b : WorldValue) (out : List Emission) : Type 0 where
+    opened : List Bool
+    are : AreOpened opened is (turned_in out)
+    each : (c : ℕ) (text : List ℕ) → Far P c text a.core.state.opened a
+        → Far P c (text ++ text_on c a.core.state.opened opened is) b.core.state.opened b
 
-pub asks-all : (M : Terms) (rules : Rules) (is : List Input) (w : WorldValue) (out : List Emission)
-    → HandlesAll M is (new_world rules) out w → AsksInRun M rules is w.core.state.entries
-asks-all M rules is w out h c =
-    far-asks M rules c is w (all-far M rules c [] is (new_world rules) w [] out (refl, refl) h (inl (refl, refl)))
+  goes-far : (is : List Input) (a b : WorldValue) (out : List Emission) → a.rules ≡ rules → TakesAll holds takes is a out b
+      → Goes-far is a b out
+  goes-far [] a b out e h = record {
+    opened = [];
+    are = ap turned_in h.1;
+    each = λ c text far.
+        subst (λ (w : WorldValue). Far P c (text ++ []) w.core.state.opened w) (sym h.0)
+        (subst (λ (t : List ℕ). Far P c t a.core.state.opened a) (sym (append-nil text)) far);
+  }
+  goes-far (i ∷ is) a b out e h =
+      let M : Terms = terms_of holds takes rules in
+      let k : Takes holds takes i a h.1 h.0 = h.3 in
+      let acts = k.handles.acts in
+      let o : Opening i.happening h.1 a.core.state.opened h.0.core.state.opened =
+      opening (terms_of holds takes a.rules) i.happening a.core.state h.0.core.state h.1 a.core.state.opened h.0.core.state.opened
+      (subst (λ (es : List Emission). CountsOpened i.happening es a.core.state.opened h.0.core.state.opened) (sym acts.added)
+      (input-counts (terms_of holds takes a.rules) (when_in a i) i.happening acts.acts (served_in a) acts.given (served_in h.0) acts.done acts.order))
+      k.closes in
+      let r : Goes-far is h.0 b h.2 = goes-far is h.0 b h.2 (k.handles.rules ∙ e) h.4 in
+      let heed : AllHeed P i.happening (served_in a) (served_in h.0) =
+      subst (λ (s : Rules). AllHeed (IsMapped holds takes s) i.happening (served_in a) (served_in h.0)) e k.asks in
+      record {
+        opened = o.opens ∷ r.opened;
+        are = (
+          turned_in h.2,
+          o.may,
+          r.are,
+          ap turned_in h.5 ∙ (turned-both h.1 h.2 ∙ ap (λ (n : ℕ). n + turned_in h.2) o.turned),
+        );
+        each = λ c text far.
+            let came : List ℕ = if nat_lt c a.core.state.opened then brought_by c i.happening else [] in
+            subst (λ (t : List ℕ). Far P c t b.core.state.opened b)
+            (append_assoc text came (text_on c (opened_by o.opens a.core.state.opened) r.opened is))
+            (subst (λ (n : ℕ). Far P c ((text ++ came) ++ text_on c n r.opened is) b.core.state.opened b) o.counts
+            (r.each c (text ++ came) (farther P c i.happening a h.0 heed o.opens o.counts text far)));
+      }
 
-pub run-asks : (holds : Form → Form → List ℕ → List ℕ → Type 0) (takes : Form → Form → List ℕ → Type 0) (rules : Rules)
-    (is : List Input) (old new : WorldValue) (h : List Written) (out : List Emission) → old ≡ new_world rules
-    → HandlesAll (terms_of holds takes old.rules) is old out new → h ≡ new.core.state.entries
-    → AsksInRun (terms_of holds takes rules) rules is h
-run-asks holds takes rules is old new h out e run same =
-    subst (AsksInRun (terms_of holds takes rules) rules is) (sym same)
-    (asks-all (terms_of holds takes rules) rules is new out
-    (subst (λ (w : WorldValue). HandlesAll (terms_of holds takes w.rules) is w out new) e run))
+  pub run-asks : (is : List Input) (old new : WorldValue) (h : List Written) (out : List Emission) → old ≡ new_world rules
+      → TakesAll holds takes is old out new → h ≡ new.core.state.entries → AsksInRun P is out h
+  run-asks is old new h out e run same =
+      let far : Goes-far is (new_world rules) new out =
+      goes-far is (new_world rules) new out refl (subst (λ (w : WorldValue). TakesAll holds takes is w out new) e run) in
+      record {
+        opened = far.opened;
+        are = far.are;
+        each = λ c.
+            subst (AsksIts P c (text_on c 0 far.opened is)) (sym same)
+            (far-asks P c (text_on c 0 far.opened is) new.core.state.opened new
+            (far.each c [] (inl (record { empty = refl; above = zero-least c; quiet = refl; none = refl }))));
+      }
+    where
+      zero-least : (c : ℕ) → 0 ≤ c
+      zero-least c = omega arith

@@ -17,7 +17,8 @@ use Rattle.gateway_model.specs.Tellings.{terms_of}
 use Rattle.gateway_model.specs.Told.{IsToldAnswers, TellsAll}
 use Rattle.gateway_model.proofs.Pacing.{Paced, paced-then, paced-none, paced-all}
 use Rattle.gateway_model.proofs.Shown.{paced-tell, did-send}
-use Rattle.gateway_world.specs.Worlds.{WorldValue, Handles, HandlesAll, IsAtRest, IsRefusedAfter, IsTooMuch, new_world, served_in, when_in}
+use Rattle.gateway_world.specs.Inputs.{Takes, TakesAll, IsRefusedAfter}
+use Rattle.gateway_world.specs.Worlds.{WorldValue, Handles, IsAtRest, IsTooMuch, new_world, served_in, when_in}
 
 pub take-next : {A : Type 0} (xs : List A) (n : ℕ) (d : A) → n < length xs → take (n + 1) xs ≡ take n xs ++ get_or xs n d ∷ []
 take-next [] n d lt = absurd (omega (arith, lt))
@@ -27,27 +28,45 @@ take-next {A} (x ∷ xs) (suc n) d lt =
     subst (λ (m : ℕ). take m (x ∷ xs) ≡ x ∷ (take n xs ++ get_or xs n d ∷ [])) (sym place)
     (ap (λ (ys : List A). x ∷ ys) (take-next xs n d (omega (arith, lt))))
 
-pub handles-more : (M : Terms) (is : List Input) (i : Input) (a b c : WorldValue) (o p : List Emission)
-    → HandlesAll M is a o b → Handles M i b p c → HandlesAll M (is ++ i ∷ []) a (o ++ p) c
-handles-more M [] i a b c o p h k =
-    (c, p, [], subst (λ (w : WorldValue). Handles M i w p c) h.0 k, (refl, refl), ap (λ (q : List Emission). q ++ p) h.1 ∙ sym (append-nil p))
-handles-more M (x ∷ is) i a b c o p h k = (
-  h.0,
-  h.1,
-  h.2 ++ p,
-  h.3,
-  handles-more M is i h.0 b c h.2 p h.4 k,
-  ap (λ (q : List Emission). q ++ p) h.5 ∙ append_assoc h.1 h.2 p,
-)
+-- inputs are handled one after another
+abbrev pub HandlesAll : Terms → List Input → WorldValue → List Emission → WorldValue → Type 0
+HandlesAll M [] old out new = (new ≡ old) × (out ≡ [])
+HandlesAll M (i ∷ is) old out new =
+    (mid : WorldValue) × (first : List Emission) × (rest : List Emission)
+    × Handles M i old first mid × HandlesAll M is mid rest new × (out ≡ first ++ rest)
 
-pub handles-next : (M : Terms) (is : List Input) (n : ℕ) (d : Input) (a b c : WorldValue) (o p : List Emission) → n < length is
-    → HandlesAll M (take n is) a o b → Handles M (get_or is n d) b p c → HandlesAll M (take (n + 1) is) a (o ++ p) c
-handles-next M is n d a b c o p lt h k =
-    rw (take-next is n d lt) (handles-more M (take n is) (get_or is n d) a b c o p h k)
+module _ (holds : Form → Form → List ℕ → List ℕ → Type 0) (takes : Form → Form → List ℕ → Type 0) where
+  pub takes-more : (is : List Input) (i : Input) (a b c : WorldValue) (o p : List Emission)
+      → TakesAll holds takes is a o b → Takes holds takes i b p c → TakesAll holds takes (is ++ i ∷ []) a (o ++ p) c
+  takes-more [] i a b c o p h k =
+      (c, p, [], subst (λ (w : WorldValue). Takes holds takes i w p c) h.0 k, (refl, refl), ap (λ (q : List Emission). q ++ p) h.1 ∙ sym (append-nil p))
+  takes-more (x ∷ is) i a b c o p h k = (
+    h.0,
+    h.1,
+    h.2 ++ p,
+    h.3,
+    takes-more is i h.0 b c h.2 p h.4 k,
+    ap (λ (q : List Emission). q ++ p) h.5 ∙ append_assoc h.1 h.2 p,
+  )
 
-pub handles-all : (M : Terms) (is : List Input) (n : ℕ) (a b : WorldValue) (o : List Emission) → length is ≤ n
-    → HandlesAll M (take n is) a o b → HandlesAll M is a o b
-handles-all M is n a b o le h = subst (λ (xs : List Input). HandlesAll M xs a o b) (take_all n is le) h
+  pub takes-next : (is : List Input) (n : ℕ) (d : Input) (a b c : WorldValue) (o p : List Emission) → n < length is
+      → TakesAll holds takes (take n is) a o b → Takes holds takes (get_or is n d) b p c
+      → TakesAll holds takes (take (n + 1) is) a (o ++ p) c
+  takes-next is n d a b c o p lt h k =
+      rw (take-next is n d lt) (takes-more (take n is) (get_or is n d) a b c o p h k)
+
+  -- What was taken was handled, by the rules from before.
+  pub handled-all : (rules : Rules) (is : List Input) (old new : WorldValue) (out : List Emission) → old.rules ≡ rules
+      → TakesAll holds takes is old out new → HandlesAll (terms_of holds takes rules) is old out new
+  handled-all rules [] old new out e h = h
+  handled-all rules (i ∷ is) old new out e h = (
+    h.0,
+    h.1,
+    h.2,
+    subst (λ (r : Rules). Handles (terms_of holds takes r) i old h.1 h.0) e h.3.handles,
+    handled-all rules is h.0 new h.2 (h.3.handles.rules ∙ e) h.4,
+    h.5,
+  )
 
 split-at : {A : Type 0} (xs : List A) (n : ℕ) (d : A) → n < length xs → xs ≡ take n xs ++ get_or xs n d ∷ drop (n + 1) xs
 split-at [] n d lt = absurd (omega (arith, lt))
@@ -57,9 +76,11 @@ split-at {A} (x ∷ xs) (suc n) d lt =
     subst (λ (m : ℕ). x ∷ xs ≡ x ∷ (take n xs ++ get_or xs n d ∷ drop m (x ∷ xs))) (sym place)
     (ap (λ (ys : List A). x ∷ ys) (split-at xs n d (omega (arith, lt))))
 
-pub refused-at : (M : Terms) (is : List Input) (n : ℕ) (d : Input) (a b : WorldValue) (o : List Emission) → n < length is
-    → HandlesAll M (take n is) a o b → IsTooMuch (get_or is n d).happening (served_in b) → IsRefusedAfter M is a
-refused-at M is n d a b o lt h full = record {
+pub refused-at : (holds : Form → Form → List ℕ → List ℕ → Type 0) (takes : Form → Form → List ℕ → Type 0)
+    (is : List Input) (n : ℕ) (d : Input) (a b : WorldValue) (o : List Emission) → n < length is
+    → TakesAll holds takes (take n is) a o b → IsTooMuch (get_or is n d).happening (served_in b)
+    → IsRefusedAfter holds takes is a
+refused-at holds takes is n d a b o lt h full = record {
   before = take n is;
   input = get_or is n d;
   after = drop (n + 1) is;
@@ -76,10 +97,11 @@ emitted-both : (xs ys : List Output) → emissions (xs ++ ys) ≡ emissions xs +
 emitted-both [] ys = refl
 emitted-both (x ∷ xs) ys = ap (λ (es : List Emission). emission_of x ∷ es) (emitted-both xs ys)
 
-pub joined : (M : Terms) (is : List Input) (a b : WorldValue) (xs ys zs : List Output) → zs ≡ xs ++ ys
-    → HandlesAll M is a (emissions xs ++ emissions ys) b → HandlesAll M is a (emissions zs) b
-joined M is a b xs ys zs e h =
-    subst (λ (es : List Emission). HandlesAll M is a es b) (sym (ap emissions e ∙ emitted-both xs ys)) h
+pub joined : (holds : Form → Form → List ℕ → List ℕ → Type 0) (takes : Form → Form → List ℕ → Type 0)
+    (is : List Input) (a b : WorldValue) (xs ys zs : List Output) → zs ≡ xs ++ ys
+    → TakesAll holds takes is a (emissions xs ++ emissions ys) b → TakesAll holds takes is a (emissions zs) b
+joined holds takes is a b xs ys zs e h =
+    subst (λ (es : List Emission). TakesAll holds takes is a es b) (sym (ap emissions e ∙ emitted-both xs ys)) h
 
 -- what holds of a whole run
 
@@ -99,25 +121,27 @@ run-paced M (i ∷ is) old new out h =
 
 module _ (holds : Form → Form → List ℕ → List ℕ → Type 0) (takes : Form → Form → List ℕ → Type 0) (rules : Rules) where
   pub run-tells : (is : List Input) (old new : WorldValue) (h : List Written) (out : List Emission) → old ≡ new_world rules
-      → HandlesAll (terms_of holds takes old.rules) is old out new → IsAtRest new → Stands new.core.state.entries
+      → TakesAll holds takes is old out new → IsAtRest new → Stands new.core.state.entries
       → h ≡ new.core.state.entries
       → (c : ℕ) → IsToldAnswers holds takes rules [] h c out
   run-tells is old new h out e run rests stands same c =
       let M : Terms = terms_of holds takes rules in
       let from : HandlesAll M is (new_world rules) out new =
-      subst (λ (w : WorldValue). HandlesAll (terms_of holds takes w.rules) is w out new) e run in
+      handled-all holds takes rules is (new_world rules) new out refl
+      (subst (λ (w : WorldValue). TakesAll holds takes is w out new) e run) in
       let all : TellsAll holds takes rules (core_of start [] []) new.core out =
       paced-tell holds takes rules (served_in (new_world rules)) (served_in new) out (run-paced M is (new_world rules) new out from)
       (record { sends = refl; answers = refl }) rests.drained stands tt in
       subst (λ (k : List Written). IsToldAnswers holds takes rules [] k c out) (sym (same ∙ all.added)) (all.told c)
 
   pub run-sends : (is : List Input) (old new : WorldValue) (h : List Written) (out : List Emission) → old ≡ new_world rules
-      → HandlesAll (terms_of holds takes old.rules) is old out new → IsAtRest new → h ≡ new.core.state.entries
+      → TakesAll holds takes is old out new → IsAtRest new → h ≡ new.core.state.entries
       → goes_in out ≡ sent_in h
   run-sends is old new h out e run rests same =
       let M : Terms = terms_of holds takes rules in
       let from : HandlesAll M is (new_world rules) out new =
-      subst (λ (w : WorldValue). HandlesAll (terms_of holds takes w.rules) is w out new) e run in
+      handled-all holds takes rules is (new_world rules) new out refl
+      (subst (λ (w : WorldValue). TakesAll holds takes is w out new) e run) in
       let all : SendsJust (core_of start [] []) out new.core =
       did-send holds takes rules (core_of start [] []) new.core out (run-paced M is (new_world rules) new out from).did refl rests.drained.sends in
       all.sent ∙ sym (ap sent_in (same ∙ all.added))

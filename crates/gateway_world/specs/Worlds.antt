@@ -52,13 +52,6 @@ pub record Handles (M : Terms) (i : Input) (old : WorldValue) (out : List Emissi
   pub rules : new.rules ≡ old.rules
   pub moment : new.moment ≡ counted old.moment i.moment
 
--- Inputs do, one after another.
-abbrev pub HandlesAll : Terms → List Input → WorldValue → List Emission → WorldValue → Type 0
-HandlesAll M [] old out new = (new ≡ old) × (out ≡ [])
-HandlesAll M (i ∷ is) old out new =
-    (mid : WorldValue) × (first : List Emission) × (rest : List Emission)
-    × Handles M i old first mid × HandlesAll M is mid rest new × (out ≡ first ++ rest)
-
 -- Between two inputs nothing waits to be given out, and nothing that could be asked.
 pub record IsAtRest (w : WorldValue) : Type 0 where
   pub drained : IsDrained w.core
@@ -85,23 +78,3 @@ new_world rules = record { core = core_of start [] []; inlets = []; rules = rule
 abbrev pub IsTooMuch : Happening → Served → Type 0
 IsTooMuch (H.Bytes c bytes) s = PassesLimit c (length bytes.now) s
 IsTooMuch _ s = ⊥
-
--- Inputs are taken from a world to which nothing has happened on, and this is its journal after
--- them.
-abbrev pub RunsTo : Terms → Rules → List Input → List Emission → List Written → Type 0
-RunsTo M rules is out h =
-    (w : WorldValue) × HandlesAll M is (new_world rules) out w × (h ≡ w.core.state.entries)
-
--- All inputs before one are taken, and this one brings more bytes than may wait unread.
-pub record IsRefusedAfter (M : Terms) (is : List Input) (old : WorldValue) : Type 0 where
-  pub before : List Input
-  pub input : Input
-  pub after : List Input
-  pub are : is ≡ before ++ input ∷ after
-  pub out : List Emission
-  pub world : WorldValue
-  pub taken : HandlesAll M before old out world
-  pub full : IsTooMuch input.happening (served_in world)
-
-abbrev pub IsRefusedIn : Terms → Rules → List Input → Type 0
-IsRefusedIn M rules is = IsRefusedAfter M is (new_world rules)

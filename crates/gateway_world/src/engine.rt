@@ -213,10 +213,11 @@ impl<R: Relation> Engine<R> {
     ) -> Result<(), Memory>
         requires suits { Suits R.holds R.takes (rules_in context).routes bank.now }
         requires served { AreServed self.old.core }
+        requires sent { self.old.core.unsent ≡ [] }
         ensures leads { OnOk result (LeadsBy (terms_in R.holds R.takes context.entry)
             context.entry.when HasTurns self.old outputs.old.items self.new outputs.new.items) }
         ensures back { MayGoBack self.old self.new }
-        ensures drained { OnOk result (self.old.core.unsent ≡ [] → IsDrained self.new.core) }
+        ensures drained { OnOk result (IsDrained self.new.core) }
     {
         'each: while let Some(answer) = self.core.take_first() {
             let number = answer.conn;
@@ -326,6 +327,7 @@ impl<R: Relation> Engine<R> {
         requires suits { Suits R.holds R.takes (rules_in context).routes bank.now }
         requires of { IsAskOf ticket.now.conn ticket.now.number self.old.core.state.entries }
         requires conn { IsOpen ticket.now.conn self.old.core.state.conns }
+        requires sent { self.old.core.unsent ≡ [] }
         ensures leads { OnOk result (LeadsBy (terms_in R.holds R.takes context.entry)
             context.entry.when (AreFor ticket.now.conn)
             self.old outputs.old.items self.new outputs.new.items) }
@@ -350,6 +352,7 @@ impl<R: Relation> Engine<R> {
     ) -> Result<(), Memory>
         requires suits { Suits R.holds R.takes (rules_in context).routes bank.now }
         requires conn { IsOpen answer.conn self.old.core.state.conns }
+        requires sent { self.old.core.unsent ≡ [] }
         ensures leads { (v : CoreValue)
             → IsTaken (Some (given_of answer)) answer.ask v self.old.core
             → OnOk result (LeadsAfter (terms_in R.holds R.takes context.entry) context.entry.when

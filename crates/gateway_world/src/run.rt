@@ -6,10 +6,11 @@ ghost use Rattle.ask_model.specs.Views.{rules_of};
 ghost use Rattle.gateway_model.specs.Emissions.{emissions};
 ghost use Rattle.exchange_core.specs.Values.{sent_in};
 ghost use Rattle.gateway_model.specs.Going.{goes_in};
-ghost use Rattle.gateway_model.specs.Tellings.{terms_of};
+ghost use Rattle.gateway_model.specs.Tellings.{IsMapped};
 ghost use Rattle.gateway_model.specs.Told.{IsToldAnswers};
 ghost use Rattle.gateway_world.specs.Asked.{AsksInRun};
-ghost use Rattle.gateway_world.specs.Worlds.{HandlesAll, IsAtRest, IsRefusedAfter, IsRefusedIn, RunsTo};
+ghost use Rattle.gateway_world.specs.Inputs.{IsRefusedAfter, RunsTo, TakesAll};
+ghost use Rattle.gateway_world.specs.Worlds.{IsAtRest, new_world};
 ghost use Rattle.transformers.specs.Suits.{Suits};
 
 use crate::fault::WorldFault;
@@ -37,18 +38,17 @@ impl<R: Relation> World<R> {
         inputs: &[Input<'_>],
     ) -> Result<Run<R>, WorldFault>
         requires suits { Suits R.holds R.takes (rules_of settings).routes bank.now }
-        ensures handles { IfOk result (λ run. RunsTo (terms_of R.holds R.takes (rules_of settings))
-            (rules_of settings) inputs.now (emissions run.outputs.items) run.journal.entries) }
+        ensures takes { IfOk result (λ run. RunsTo R.holds R.takes (rules_of settings) inputs.now
+            (emissions run.outputs.items) run.journal.entries) }
         ensures stands { IfOk result (λ run. Stands run.journal.entries) }
         ensures told { IfOk result (λ run. (c : ℕ) → IsToldAnswers R.holds R.takes
             (rules_of settings) [] run.journal.entries c (emissions run.outputs.items)) }
-        ensures asks { IfOk result (λ run. AsksInRun (terms_of R.holds R.takes (rules_of settings))
-            (rules_of settings) inputs.now run.journal.entries) }
+        ensures asks { IfOk result (λ run. AsksInRun (IsMapped R.holds R.takes (rules_of settings))
+            inputs.now (emissions run.outputs.items) run.journal.entries) }
         ensures sends { IfOk result (λ run. goes_in (emissions run.outputs.items)
             ≡ sent_in run.journal.entries) }
         ensures full { result ≡ Err WorldFault.Backlog
-            → IsRefusedIn (terms_of R.holds R.takes (rules_of settings)) (rules_of settings)
-            inputs.now }
+            → IsRefusedAfter R.holds R.takes inputs.now (new_world (rules_of settings)) }
     {
         let mut world = World::new(alloc, settings)?;
         let mut outputs = Vec::new(alloc);
@@ -67,11 +67,11 @@ impl<R: Relation> World<R> {
         requires suits { Suits R.holds R.takes self.old.rules.routes bank.now }
         requires untold { outputs.old.items ≡ [] }
         requires rests { IsAtRest self.old }
-        ensures handles { OnOk result (HandlesAll (terms_of R.holds R.takes self.old.rules)
-            inputs.now self.old (emissions outputs.new.items) self.new) }
+        ensures takes { OnOk result (TakesAll R.holds R.takes inputs.now self.old
+            (emissions outputs.new.items) self.new) }
         ensures rests { OnOk result (IsAtRest self.new) }
         ensures full { result ≡ Err WorldFault.Backlog
-            → IsRefusedAfter (terms_of R.holds R.takes self.old.rules) inputs.now self.old }
+            → IsRefusedAfter R.holds R.takes inputs.now self.old }
     {
         'each: for input in inputs {
             let mut more = self.input(bank, *input)?;

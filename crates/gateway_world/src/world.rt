@@ -4,11 +4,7 @@ ghost use Rattle.std.specs.Prelude.{◌≡◌, ◌↔◌, IsTrue, IfOk, OnOk, On
 ghost use Rattle.history_laws.specs.Justified.{Stands};
 ghost use Rattle.ask_model.specs.Views.{rules_of};
 ghost use Rattle.exchange_model.specs.Room.{KeptInRoom};
-ghost use Rattle.gateway_model.specs.Asking.{AllHeed};
 ghost use Rattle.gateway_model.specs.Emissions.{emissions};
-ghost use Rattle.gateway_model.specs.Closing.{Closes};
-ghost use Rattle.gateway_model.specs.Going.{SendsJust};
-ghost use Rattle.gateway_model.specs.Told.{TellsAll};
 
 use crate::engine::{Context, Engine};
 use crate::fault::WorldFault;
@@ -25,8 +21,8 @@ use std::sync::Arc;
 use transformers::{Bank, Relation};
 
 impl<R: Relation> World<R> {
-    ghost use Rattle.gateway_model.specs.Tellings.{IsMapped, terms_of};
-    ghost use Rattle.gateway_world.specs.Worlds.{Handles, IsAtRest, IsTooMuch, Shows, new_world, served_in};
+    ghost use Rattle.gateway_world.specs.Inputs.{Takes};
+    ghost use Rattle.gateway_world.specs.Worlds.{IsAtRest, IsTooMuch, new_world, served_in};
     ghost use Rattle.transformers.specs.Suits.{Suits};
 
     /// A proxy to which nothing has happened.
@@ -66,21 +62,11 @@ impl<R: Relation> World<R> {
     /// gives nothing. One that is refused changes nothing, and can be given again.
     pub fn input(&mut self, bank: &Bank<R>, input: Input<'_>) -> Result<Vec<Output>, WorldFault>
         requires suits { Suits R.holds R.takes self.old.rules.routes bank.now }
-        ensures handles { IfOk result (λ outputs. Handles (terms_of R.holds R.takes self.old.rules)
-            input.entry self.old (emissions outputs.items) self.new) }
+        ensures takes { IfOk result (λ outputs. Takes R.holds R.takes input.entry self.old
+            (emissions outputs.items) self.new) }
         ensures unchanged { OnErr result (self.new ≡ self.old) }
         ensures full { IsTooMuch input.entry.happening (served_in self.old)
             ↔ IsErrOf result WorldFault.Backlog }
-        ensures told { IfOk result (λ outputs. TellsAll R.holds R.takes self.old.rules self.old.core
-            self.new.core (emissions outputs.items)) }
-        ensures asks { OnOk result (AllHeed (IsMapped R.holds R.takes self.old.rules)
-            input.entry.happening (served_in self.old) (served_in self.new)) }
-        ensures sends { IfOk result (λ outputs. SendsJust self.old.core (emissions outputs.items)
-            self.new.core) }
-        ensures shows { OnOk result (Shows input.entry self.old self.new) }
-        ensures closes { IfOk result (λ outputs. Closes (terms_of R.holds R.takes self.old.rules)
-            input.entry.happening self.old.core.state self.new.core.state
-            (emissions outputs.items)) }
         ensures rests { IsAtRest self.new }
     {
         // Its contract says that the core keeps to its history, before the input and after it.

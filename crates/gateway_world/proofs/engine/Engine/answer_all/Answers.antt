@@ -1,6 +1,7 @@
 -- The first answer is told after those before it.
-use Rattle.std.proofs.Common.{refl}
+use Rattle.std.proofs.Common.{refl, ap, ◌∙◌}
 use Rattle.exchange_core.specs.Answering.{given_of}
+use Rattle.exchange_core.specs.Values.{CoreValue}
 use Rattle.gateway_world.proofs.Answering.{answered-none, answered-on, answered-fewer, first-open, first-told}
 use Rattle.gateway_world.proofs.engine.Engine.answer_all.Goals as goal
 
@@ -27,3 +28,7 @@ pub serve-requires-clause-told : goal.serve-requires-clause-told
 serve-requires-clause-told g c =
     first-told (given_of c.in-Some.answer) c.each.self.core c.take_first.new.self c.tell.new.self.core c.each.invariant.served
     c.in-Some.ensures c.in_ok-tell.ensures.waits
+
+pub tell-requires-clause-sent : goal.tell-requires-clause-sent
+tell-requires-clause-sent g c =
+    ap (λ (v : CoreValue). v.unsent) c.in-Some.ensures.0.3 ∙ c.each.invariant.unsent c.requires.sent

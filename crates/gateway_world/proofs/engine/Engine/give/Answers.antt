@@ -1,5 +1,5 @@
 -- The answer to the ask is told, which is its connection's.
-use Rattle.std.proofs.Common.{ℕ, ◌≤◌, sym, subst}
+use Rattle.std.proofs.Common.{ℕ, ◌≤◌, sym, ap, ◌∙◌, subst}
 use Rattle.gateway_connections.specs.Inlets.{inlet_at}
 use Rattle.gateway_world.specs.Engines.{work_in}
 use Rattle.exchange_core.specs.Answering.{given_of}
@@ -38,3 +38,6 @@ tell-requires-clause-conn g c =
     subst (λ (n : ℕ). IsOpen n c.take_answer.new.self.state.conns)
     (sym (taken-conn a c.args.ticket.now.conn c.args.ticket.now.number _ _ c.in-Some.ensures c.requires.of))
     (subst (λ (v : CoreValue). IsOpen c.args.ticket.now.conn v.state.conns) (sym c.in-Some.ensures.3) c.requires.conn)
+
+pub tell-requires-clause-sent : goal.tell-requires-clause-sent
+tell-requires-clause-sent g c = ap (λ (v : CoreValue). v.unsent) c.in-Some.ensures.3 ∙ c.requires.sent

@@ -14,7 +14,7 @@ pub returns-then-closes-clause-leads : goal.returns-then-closes-clause-leads
 returns-then-closes-clause-leads g c = λ v taken.
     then-ok c.shut.result _ _ c.shut.ensures.shut
     (λ shut. tells-lead _ c.args.context.when (given_of c.args.answer) v c.args.self.now c.shut.new.self c.args.outputs.now.items
-    c.tell_answer.new.outputs.items c.shut.new.outputs.items (Closed c.args.answer.conn ∷ []) taken c.in_ok-tell_answer.ensures
+    c.tell_answer.new.outputs.items c.shut.new.outputs.items (Closed c.args.answer.conn ∷ []) taken c.requires.sent c.in_ok-tell_answer.ensures
     (ends-after c.args.context.when c.args.answer.conn _ c.args.self.now c.shut.new.self c.tell_answer.new.outputs.items c.shut.new.outputs.items
     (ap came_closes (sym (c.came.ensures.came ∙ ap (λ (m : Mapping). m.came) c.deref.ensures)) ∙ (sym c.closes.ensures ∙ c.if-closes.true)) shut)
     shut.told)
@@ -31,6 +31,6 @@ returns-then-closes-clause-less g c =
 pub returns-clause-leads : goal.returns-clause-leads
 returns-clause-leads g c = λ v taken.
     tells-lead _ c.args.context.when (given_of c.args.answer) v c.args.self.now c.args.self.now c.args.outputs.now.items
-    c.tell_answer.new.outputs.items c.tell_answer.new.outputs.items [] taken c.in_ok-tell_answer.ensures
+    c.tell_answer.new.outputs.items c.tell_answer.new.outputs.items [] taken c.requires.sent c.in_ok-tell_answer.ensures
     (stays-after c.args.context.when c.args.answer.conn _ c.args.self.now (ap came_closes (sym (c.came.ensures.came ∙ ap (λ (m : Mapping). m.came) c.deref.ensures)) ∙ (sym c.closes.ensures ∙ c.if-closes.false)))
     (sym (append-nil (emissions c.tell_answer.new.outputs.items)))

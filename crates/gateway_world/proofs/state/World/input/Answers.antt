@@ -1,6 +1,10 @@
 -- An input that is taken leads by acts, of which the promises hold; one that is refused changes nothing.
-use Rattle.std.proofs.Common.{refl, ap, ◌∙◌, arith}
+use Rattle.std.proofs.Common.{Bool, true, false, refl, sym, ap, ◌∙◌, subst, arith}
+use Rattle.std.specs.Prelude.{⊤}
+use Rattle.std.specs.Arc.{arc_value}
+use Rattle.ask_model.specs.Views.{rules_of}
 use Rattle.gateway_model.specs.Emissions.{emissions}
+use Rattle.gateway_world.specs.Worlds.{world_of}
 use Rattle.gateway_world.proofs.AskedInRun.{heeded}
 use Rattle.gateway_world.proofs.Handling.{handled}
 use Rattle.gateway_world.proofs.Promises.{kept-back, kept-led, led-tells, led-sends, led-closes, input-shows}
@@ -21,44 +25,41 @@ invariant_of-self-in-Err-1 g c =
     (c.back.ensures.marked ∙ c.in-Err.ensures.back.marked)
     c.self.invariant
 
-pub returns-in-Ok-clause-handles : goal.returns-in-Ok-clause-handles
-returns-in-Ok-clause-handles g c =
-    rw (← c.self.view_is)
-    (handled _ c.args.input _ _ _ _ _ _ _ c.in-Ok.ensures.leads (ap emissions c.new-outputs.ensures.items)
-    c.mark.ensures.current
-    (let a = c.max-moment.ensures in let b = c.min.ensures in omega (arith, a, b)))
+abbrev IsOff : Bool → Type 0
+IsOff true = ⊥
+IsOff false = ⊤
 
-pub returns-in-Ok-clause-told : goal.returns-in-Ok-clause-told
-returns-in-Ok-clause-told g c =
-    rw (← c.self.view_is)
-    (led-tells g.R.Relation.holds g.R.Relation.takes _ _ _ c.self.inside.engine c.step.new.self _ _ c.in-Ok.ensures.leads
-    (ap emissions c.new-outputs.ensures.items) c.self.invariant.1 c.in-Ok.ensures.drained c.journal-in-Ok.ensures.stands
-    c.self.invariant.4)
-
-pub returns-in-Ok-clause-asks : goal.returns-in-Ok-clause-asks
-returns-in-Ok-clause-asks g c =
-    heeded g.R.Relation.holds g.R.Relation.takes _ c.args.input _ _ _ (returns-in-Ok-clause-handles g c)
-
-pub returns-in-Ok-clause-sends : goal.returns-in-Ok-clause-sends
-returns-in-Ok-clause-sends g c =
-    rw (← c.self.view_is)
-    (led-sends g.R.Relation.holds g.R.Relation.takes _ _ _ c.self.inside.engine c.step.new.self _ _ c.in-Ok.ensures.leads
-    (ap emissions c.new-outputs.ensures.items) c.self.invariant.1 c.in-Ok.ensures.drained)
-
-pub returns-in-Ok-clause-closes : goal.returns-in-Ok-clause-closes
-returns-in-Ok-clause-closes g c =
-    rw (← c.self.view_is)
-    (led-closes _ _ _ c.self.inside.engine c.step.new.self _ _ c.in-Ok.ensures.leads
-    (ap emissions c.new-outputs.ensures.items) c.self.invariant.1.answers c.in-Ok.ensures.drained.answers)
-
-pub returns-in-Ok-clause-shows : goal.returns-in-Ok-clause-shows
-returns-in-Ok-clause-shows g c =
-    rw (← c.self.view_is)
-    (input-shows _ c.args.input _ _ _
-    (handled _ c.args.input _ _ _ _ _ _ _ c.in-Ok.ensures.leads (ap emissions c.new-outputs.ensures.items)
-    c.mark.ensures.current
-    (let a = c.max-moment.ensures in let b = c.min.ensures in omega (arith, a, b)))
-    c.journal.ensures.kept)
+pub returns-in-Ok-clause-takes : goal.returns-in-Ok-clause-takes
+returns-in-Ok-clause-takes g c =
+    let none = ap emissions c.new-outputs.ensures.items in
+    let kept = invariant_of-self g c in
+    record {
+      room = λ full. subst IsOff (c.is_too_much.ensures.1 full) (subst IsOff (sym c.if-is_too_much.false) tt);
+      handles = rw (← c.self.view_is)
+          (handled _ c.args.input _ _ _ _ _ _ _ c.in-Ok.ensures.leads none c.mark.ensures.current
+          (let a = c.max-moment.ensures in let b = c.min.ensures in omega (arith, a, b)));
+      told = rw (← c.self.view_is)
+          (led-tells g.R.Relation.holds g.R.Relation.takes _ _ _ c.self.inside.engine c.step.new.self _ _ c.in-Ok.ensures.leads
+          none c.self.invariant.1 c.in-Ok.ensures.drained c.journal-in-Ok.ensures.stands c.self.invariant.4);
+      asks = rw (← c.self.view_is)
+          (heeded g.R.Relation.holds g.R.Relation.takes _ c.args.input _ _ _
+          (handled _ c.args.input
+          (world_of c.self.inside.engine (rules_of (arc_value c.self.inside.settings)) c.self.inside.moment)
+          _ _ _ c.max-moment.result _ _ c.in-Ok.ensures.leads none c.mark.ensures.current
+          (let a = c.max-moment.ensures in let b = c.min.ensures in omega (arith, a, b))));
+      sends = rw (← c.self.view_is)
+          (led-sends g.R.Relation.holds g.R.Relation.takes _ _ _ c.self.inside.engine c.step.new.self _ _ c.in-Ok.ensures.leads
+          none c.self.invariant.1 c.in-Ok.ensures.drained);
+      shows = rw (← c.self.view_is)
+          (input-shows _ c.args.input _ _ _
+          (handled _ c.args.input _ _ _ _ _ _ _ c.in-Ok.ensures.leads none c.mark.ensures.current
+          (let a = c.max-moment.ensures in let b = c.min.ensures in omega (arith, a, b)))
+          c.journal.ensures.kept);
+      closes = rw (← c.self.view_is)
+          (led-closes _ _ _ c.self.inside.engine c.step.new.self _ _ c.in-Ok.ensures.leads
+          none c.self.invariant.1.answers c.in-Ok.ensures.drained.answers);
+      rests = record { drained = kept.1; rests = kept.3 };
+    }
 
 pub returns-in-Ok-clause-rests : goal.returns-in-Ok-clause-rests
 returns-in-Ok-clause-rests g c = let k = invariant_of-self g c in record { drained = k.1; rests = k.3 }

@@ -8,19 +8,19 @@ pub returns-clause-told : goal.returns-clause-told
 returns-clause-told g c =
     run-tells g.R.Relation.holds g.R.Relation.takes _ c.args.inputs.now c.in_ok-world.world c.take_all.new.self c.in_ok-journal.journal.entries
     (emissions c.take_all.new.outputs.items)
-    c.in_ok-world.ensures.is c.in_ok-take_all.ensures.handles c.in_ok-take_all.ensures.rests c.journal.ensures.stands
+    c.in_ok-world.ensures.is c.in_ok-take_all.ensures.takes c.in_ok-take_all.ensures.rests c.journal.ensures.stands
     (rw (c.in_ok-journal.ensures) c.journal.ensures.entries)
 
 pub returns-clause-asks : goal.returns-clause-asks
 returns-clause-asks g c =
     run-asks g.R.Relation.holds g.R.Relation.takes _ c.args.inputs.now c.in_ok-world.world c.take_all.new.self c.in_ok-journal.journal.entries
     (emissions c.take_all.new.outputs.items)
-    c.in_ok-world.ensures.is c.in_ok-take_all.ensures.handles
+    c.in_ok-world.ensures.is c.in_ok-take_all.ensures.takes
     (rw (c.in_ok-journal.ensures) c.journal.ensures.entries)
 
 pub returns-clause-sends : goal.returns-clause-sends
 returns-clause-sends g c =
     run-sends g.R.Relation.holds g.R.Relation.takes _ c.args.inputs.now c.in_ok-world.world c.take_all.new.self c.in_ok-journal.journal.entries
     (emissions c.take_all.new.outputs.items)
-    c.in_ok-world.ensures.is c.in_ok-take_all.ensures.handles c.in_ok-take_all.ensures.rests
+    c.in_ok-world.ensures.is c.in_ok-take_all.ensures.takes c.in_ok-take_all.ensures.rests
     (rw (c.in_ok-journal.ensures) c.journal.ensures.entries)

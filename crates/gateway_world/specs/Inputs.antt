@@ -1,0 +1,54 @@
+-- What is promised of an input that is taken, and of inputs that are taken one after another.
+use Rattle.std.specs.Prelude.{◌≡◌, ℕ, List, [], ◌∷◌, ◌++◌}
+use Rattle.media_map.specs.declared.form.Form.{Form}
+use Rattle.ask_model.specs.Views.{Rules}
+use Rattle.journal_book.specs.Entries.{Written}
+use Rattle.gateway_model.specs.declared.input.Input.{Input}
+use Rattle.gateway_model.specs.Asking.{AllHeed}
+use Rattle.gateway_model.specs.Closing.{Closes}
+use Rattle.gateway_model.specs.Emissions.{Emission}
+use Rattle.gateway_model.specs.Going.{SendsJust}
+use Rattle.gateway_model.specs.Tellings.{IsMapped, terms_of}
+use Rattle.gateway_model.specs.Told.{TellsAll}
+use Rattle.gateway_world.specs.Worlds.{WorldValue, Handles, IsAtRest, IsTooMuch, Shows, new_world, served_in}
+
+module _ (holds : Form → Form → List ℕ → List ℕ → Type 0)
+    (takes : Form → Form → List ℕ → Type 0) where
+  -- An input is taken that doesn't bring too much. What it leads to are acts in order; what is told,
+  -- asked and sent is what the new entries say; what came in shows in these; who is closed has a
+  -- reason; and after it nothing waits.
+  pub record Takes (i : Input) (old : WorldValue) (out : List Emission) (new : WorldValue)
+      : Type 0 where
+    pub room : IsTooMuch i.happening (served_in old) → ⊥
+    pub handles : Handles (terms_of holds takes old.rules) i old out new
+    pub told : TellsAll holds takes old.rules old.core new.core out
+    pub asks :
+        AllHeed (IsMapped holds takes old.rules) i.happening (served_in old) (served_in new)
+    pub sends : SendsJust old.core out new.core
+    pub shows : Shows i old new
+    pub closes :
+        Closes (terms_of holds takes old.rules) i.happening old.core.state new.core.state out
+    pub rests : IsAtRest new
+
+  -- Inputs are, one after another.
+  abbrev pub TakesAll : List Input → WorldValue → List Emission → WorldValue → Type 0
+  TakesAll [] old out new = (new ≡ old) × (out ≡ [])
+  TakesAll (i ∷ is) old out new =
+      (mid : WorldValue) × (first : List Emission) × (rest : List Emission)
+      × Takes i old first mid × TakesAll is mid rest new × (out ≡ first ++ rest)
+
+  -- They are from a world to which nothing has happened on, and this is its journal after them.
+  abbrev pub RunsTo : Rules → List Input → List Emission → List Written → Type 0
+  RunsTo rules is out h =
+      (w : WorldValue) × TakesAll is (new_world rules) out w × (h ≡ w.core.state.entries)
+
+  -- All inputs before one are taken, and this one brings more bytes than may wait unread.
+  pub record IsRefusedAfter (is : List Input) (old : WorldValue) : Type 0 where
+    pub before : List Input
+    pub input : Input
+    pub after : List Input
+    pub are : is ≡ before ++ input ∷ after
+    pub out : List Emission
+    pub world : WorldValue
+    pub taken : TakesAll before old out world
+    pub full : IsTooMuch input.happening (served_in world)
