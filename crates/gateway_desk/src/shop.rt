@@ -5,6 +5,7 @@ ghost use Rattle.std.specs.Arc.{arc_value};
 ghost use Rattle.journal_book.specs.Views.{ask_of};
 ghost use Rattle.history_laws.specs.Justified.{Stands};
 ghost use Rattle.exchange_model.specs.Keeping.{start};
+ghost use Rattle.exchange_model.specs.Room.{KeptInRoom};
 ghost use Rattle.exchange_model.specs.Sealing.{hears_in_room, ticks_in_room};
 ghost use Rattle.exchange_core.specs.Answering.{given_of};
 ghost use Rattle.exchange_core.specs.Calls.{now, IsOpened, IsAsked, IsClosed, IsUnknown};
@@ -75,10 +76,11 @@ impl<R: Relation, L: Ledger> Shop<R, L> {
         })
     }
 
-    /// What happened. One reading of it is legal and at rest.
+    /// What happened. One reading of it is legal and at rest, and says what the core keeps.
     pub fn journal(&self) -> &Journal<R>
         ensures entries { result.now.entries ≡ self.now.core.state.entries }
         ensures stands { Stands self.now.core.state.entries }
+        ensures kept { KeptInRoom self.now.core.state }
     {
         self.core.journal()
     }
