@@ -7,7 +7,7 @@ ghost use Rattle.gateway_desk.specs.Lines.{Slip, made, got};
 
 use crate::bells::Bells;
 use crate::clock::Clock;
-use crate::desk_state::DeskState;
+use crate::desk_state::{ClosedPass, DeskState};
 use crate::pass::Pass;
 use crate::receipt::Receipt;
 use crate::shop::Shop;
@@ -226,11 +226,23 @@ impl<R: Relation, C: Clock, L: Ledger> LockedDesk<R, C, L> {
         state.shop.take_send()
     }
 
-    /// Closes a connection. False where it isn't open.
-    pub fn close<W: Wait>(&self, rt: &W, conn: u32) -> bool {
+    /// Closes the connection of a pass, where it is open.
+    pub fn close<W: Wait>(&self, rt: &W, pass: Pass<R, L>) -> ClosedPass<R, L>
+        ensures conn { result.conn ≡ pass.conn }
+        ensures lines { result.lines ≡ pass.lines }
+        ensures amount { result.amount ≡ pass.amount }
+    {
         let mut guard = self.state.lock(rt);
         let state = &mut *guard;
-        state.close(conn)
+        state.close(pass)
+    }
+
+    /// Closes the connection of a pass that is lost, since no session could be started for it.
+    /// False where it isn't open.
+    pub fn close_lost<W: Wait>(&self, rt: &W, conn: u32) -> bool {
+        let mut guard = self.state.lock(rt);
+        let state = &mut *guard;
+        state.close_of(conn)
     }
 
     /// Lets sessions wait no more, for good.

@@ -18,6 +18,7 @@ use crate::shop::Shop;
 use ask_model::Mapped;
 use exchange_core::{Answer, AskFault, OpenFault, Ticket};
 use http_edge::Memory;
+use std::marker::Model;
 use std::sync::Arc;
 use std::sync::ledger::Ledger;
 use transformers::Relation;
@@ -32,6 +33,31 @@ pub struct DeskState<R: Relation, C: Clock, L: Ledger> {
     pub shut: bool,
     /// until when the one who lets time go on rests, in milliseconds
     pub rests_until: u64,
+}
+
+/// What is left of a pass whose connection was closed. Closing it makes one, and nothing else.
+#[derive(Drop)]
+pub struct ClosedPass<R: Relation, L: Ledger> {
+    pass: Pass<R, L>,
+}
+
+impl<R: Relation, L: Ledger> Model for ClosedPass<R, L> {
+    ghost use Rattle.gateway_desk.specs.Held.{Held};
+
+    ghost Value = { Held };
+
+    ghost view = { λ c. c.pass };
+}
+
+impl<R: Relation, L: Ledger> ClosedPass<R, L> {
+    /// The pass, with which `settle` tells whether what it notes is justified.
+    pub fn into_pass(self) -> Pass<R, L>
+        ensures lines { result.lines ≡ self.lines }
+        ensures amount { result.amount ≡ self.amount }
+    {
+        let ClosedPass { pass } = self;
+        pass
+    }
 }
 
 impl<R: Relation, C: Clock, L: Ledger> DeskState<R, C, L> {
@@ -99,8 +125,22 @@ impl<R: Relation, C: Clock, L: Ledger> DeskState<R, C, L> {
         self.shop.tick(moment)
     }
 
+    /// Closes the connection of a pass, where it is open.
+    pub fn close(&mut self, pass: Pass<R, L>) -> ClosedPass<R, L>
+        ensures closes { IsClosed
+            (now self.old.shop.core.state.moment (C.time self.new.clock)) pass.conn
+            self.old.shop.core self.new.shop.core
+            ⊎ ((self.new.shop ≡ self.old.shop) × IsUnknown pass.conn self.old.shop.core) }
+        ensures conn { result.conn ≡ pass.conn }
+        ensures lines { result.lines ≡ pass.lines }
+        ensures amount { result.amount ≡ pass.amount }
+    {
+        self.close_of(pass.conn());
+        ClosedPass { pass }
+    }
+
     /// Closes a connection. False where it isn't open.
-    pub fn close(&mut self, conn: u32) -> bool
+    pub fn close_of(&mut self, conn: u32) -> bool
         ensures closed { IsTrue result → IsClosed
             (now self.old.shop.core.state.moment (C.time self.new.clock)) conn
             self.old.shop.core self.new.shop.core }

@@ -21,6 +21,7 @@ mod standing;
 
 pub use clock::Clock;
 pub use desk::LockedDesk;
+pub use desk_state::ClosedPass;
 pub use pass::{Note, Pass};
 pub use receipt::Receipt;
 pub use report::{Report, SettleFault};

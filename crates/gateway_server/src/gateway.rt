@@ -186,7 +186,7 @@ fn start_session<
         Err(_) => false,
     };
     if !started {
-        shared.desk.close(&rt, number);
+        shared.desk.close_lost(&rt, number);
     }
     started
 }

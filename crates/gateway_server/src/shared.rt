@@ -53,7 +53,7 @@ impl<W: Clock + RandomSource + Drop, L: Ledger> Shared<W, L> {
         let end = match self.serve_with_bank(rt, alloc, &mut client, pass) {
             Ok(end) => end,
             Err(AllocError) => {
-                self.desk.close(rt, number);
+                self.desk.close_lost(rt, number);
                 End::Memory
             }
         };

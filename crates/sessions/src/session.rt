@@ -17,7 +17,7 @@ use crate::reading::Reading;
 use crate::writing::{bytes_of, write_continue};
 use ask_model::Settings;
 use exchange_core::AskFault;
-use gateway_desk::{Clock, LockedDesk, Pass};
+use gateway_desk::{Clock, ClosedPass, LockedDesk, Pass};
 use http_edge::Incoming;
 use http_mapping::map_request;
 use std::alloc::Global;
@@ -59,10 +59,10 @@ impl fmt::Display for End {
     }
 }
 
-/// What is left of a session.
+/// What is left of a session, whose connection is closed at the desk.
 #[derive(Drop)]
 pub struct Done<R: Relation, L: Ledger> {
-    pub pass: Pass<R, L>,
+    pub pass: ClosedPass<R, L>,
     pub end: End,
 }
 
@@ -101,8 +101,10 @@ pub fn serve<R: Relation, C: Clock, L: Ledger, S: Stream, N: Wire, G: Gate, W: W
     let end = talk(
         rt, alloc, stream, wire, desk, gate, settings, bank, &mut pass,
     );
-    desk.close(rt, pass.conn());
-    Done { pass, end }
+    Done {
+        pass: desk.close(rt, pass),
+        end,
+    }
 }
 
 /// Reads, asks, waits and writes by turns.

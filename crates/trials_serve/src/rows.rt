@@ -228,6 +228,32 @@ pub struct Row {
     pub told: &'static [u8],
 }
 
+/// A client that says nothing and goes.
+static LEAVER: Client = Client {
+    sends: &[],
+    held_at: None,
+    is_gone: false,
+    gets: b"",
+    end: End::Finished,
+};
+
+pub fn leaver() -> &'static Client {
+    &LEAVER
+}
+
+/// A client that speaks another protocol.
+static STRANGER: Client = Client {
+    sends: &[b"\x16\x03\x01"],
+    held_at: None,
+    is_gone: false,
+    gets: b"HTTP/1.1 400 Bad Request\r\nHC-Cause: bad-http 601\r\nConnection: close\r\nContent-Length: 0\r\n\r\n",
+    end: End::Finished,
+};
+
+pub fn stranger() -> &'static Client {
+    &STRANGER
+}
+
 /// How an RST begins.
 const RST: u8 = 0x70;
 

@@ -5,8 +5,8 @@ ghost use Rattle.std.specs.Arc.{arc_value};
 ghost use Rattle.ask_model.specs.Views.{rules_of};
 
 use crate::client::{Client, Keeper, Steps, Tape};
-use crate::device::Device;
-use crate::rows::{Trial, crossed, held, late, lost, shut, told};
+use crate::device::{Device, Manner};
+use crate::rows::{Trial, crossed, held, late, leaver, lost, shut, stranger, told};
 use crate::sample::{Nothing, shared_settings};
 use ask_model::Settings;
 use gateway_desk::{LockedDesk, Note, Pass, Shop, settle};
@@ -21,6 +21,9 @@ use transformers::Bank;
 
 /// Turns within which all is done.
 const TURNS: u64 = 1_000_000;
+
+/// More sessions than may be open at once, which are 256.
+const SESSIONS: u32 = 300;
 
 /// A desk that sessions of these trials share.
 pub type Counter<L> = LockedDesk<Nothing, Steps, L>;
@@ -90,7 +93,7 @@ fn serve_client<L: Ledger, W: Wait>(
     );
     let Done { pass, end } = done;
     if end == client.end && tape.is_done() {
-        Some(pass)
+        Some(pass.into_pass())
     } else {
         None
     }
@@ -180,6 +183,27 @@ fn goes<W: Threads + Wait + std::rt::Clock + Sync>(
     run::<Brand, W>(rt, alloc, Blank::new(4294967295), trial) == Some(true)
 }
 
+/// Serves more clients one after the other than may be open at once, while the first connection stays open, and
+/// then a request on that one.
+fn follow<L: Ledger, W: Wait>(rt: &W, alloc: Global, blank: Blank) -> Option<bool>
+    requires name { blank.name ≡ L.name }
+    requires parts { (blank.parts ≡ L.parts) × (blank.parts ≡ 2 ^ 32 - 1) }
+{
+    let desk: Counter<L> = new_desk(alloc, blank, 0)?;
+    let device = Device::new(alloc, Manner::Silent);
+    let first = desk.open(rt).ok()?;
+    for _ in 0..SESSIONS {
+        let pass = desk.open(rt).ok()?;
+        serve_client(rt, alloc, &device, &desk, leaver(), pass)?;
+    }
+    let first = serve_client(rt, alloc, &device, &desk, stranger(), first)?;
+    Some(first.made() == 1)
+}
+
+fn follow_each_other<W: Wait>(rt: &W, alloc: Global) -> bool {
+    follow::<Brand, W>(rt, alloc, Blank::new(4294967295)) == Some(true)
+}
+
 #[test]
 fn the_first_device_answers_last(rt: HostRuntime) {
     assert!(rt; goes(&rt, rt.alloc(), crossed()));
@@ -208,4 +232,9 @@ fn a_lost_datagram_is_sent_again(rt: HostRuntime) {
 #[test]
 fn who_waits_is_woken_by_the_shutting(rt: HostRuntime) {
     assert!(rt; goes(&rt, rt.alloc(), shut()));
+}
+
+#[test]
+fn a_session_ends_its_own_connection(rt: HostRuntime) {
+    assert!(rt; follow_each_other(&rt, rt.alloc()));
 }
