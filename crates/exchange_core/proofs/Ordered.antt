@@ -4,13 +4,11 @@ use Rattle.std.specs.Prelude.{IfSome, IsTrue, IsFalse, is_some}
 use Rattle.std.specs.List.{AllByRecursion}
 use Rattle.std.proofs.Math.ListN.{set}
 use Rattle.std.proofs.lemmas.Bool.{eqb-true, eq-eqb, false≢true}
-use Rattle.std.proofs.lemmas.Bool.Decides.{eqb_tells}
 use Rattle.std.proofs.lemmas.Slice.Eq.{bytes_eq-Decides}
 use Rattle.history_laws.specs.Numbering.{token_number}
 use Rattle.history_laws.specs.Readings.{Noted}
 use Rattle.history_laws.specs.Exchanges.{openings, is_going}
-use Rattle.history_links.proofs.Facts.{Rising, rising-filter, openings-rising}
-use Rattle.history_links.proofs.Ranks.{rank-apart}
+use Rattle.history_links.proofs.CallerLemmas.{openings-rising, rank-apart, Rising, rising-filter}
 use Rattle.exchange_model.specs.declared.kept.Conn.{Conn}
 use Rattle.exchange_model.specs.declared.kept.Exchange.{Exchange}
 use Rattle.exchange_model.specs.Calls.{waits_on}
@@ -22,7 +20,7 @@ use Rattle.exchange_model.specs.Reads.{ExchangeIn, opening_of}
 use Rattle.exchange_model.specs.Growing.{Rise}
 use Rattle.exchange_model.specs.Keeping.{Kept}
 use Rattle.exchange_model.specs.Room.{KeptInRoom}
-use Rattle.exchange_model.proofs.Numbered.{conns-rise}
+use Rattle.exchange_model.proofs.CallerLemmas.{conns-rise, not-under}
 use Rattle.exchange_core.specs.Places.{RiseBy, IsNowhere, IsOnlyAt, id_of, number_of, has_id}
 use Rattle.exchange_core.proofs.Standing.{Tells, rise-map, map-none, map-only, only-is}
 
@@ -30,9 +28,6 @@ use Rattle.exchange_core.proofs.Standing.{Tells, rise-map, map-none, map-only, o
 
 pub id-tells : (c : ℕ) → Tells id_of c (has_id c)
 id-tells c x e = eqb-true x.id c e
-
-pub neq-eqb : (a b : ℕ) → a ≢ b → eqb a b ≡ false
-neq-eqb a b apart = elim (eqb_tells a b) [ inl w ↦ absurd (apart w.1) | inr w ↦ w.0 ]
 
 pub token-tells : (token : List ℕ) (t : ℕ) → t ≡ token_number token → Tells number_of t (is_under token)
 token-tells token t is e h = ap token_number ((bytes_eq-Decides e.token token).0 h) ∙ sym is
@@ -97,9 +92,6 @@ rise-pend c p cs r = rise-map id_of (pend c p) cs (id-stays c p) r
 other-pend : (c : ℕ) (p : Option ℕ) (x : Conn) → has_id c x ≡ false → pend c p x ≡ x
 other-pend c p x e = rw e refl
 
-other-out : (token : List ℕ) (i : ℕ) (e : Exchange) → is_under token e ≡ false → went_out token i e ≡ e
-other-out token i e h = rw h refl
-
 pub pend-nowhere : (c : ℕ) (p : Option ℕ) (cs : List Conn) → IsNowhere (has_id c) cs → map (pend c p) cs ≡ cs
 pend-nowhere c p cs h = map-none (has_id c) (pend c p) cs (other-pend c p) h
 
@@ -108,10 +100,10 @@ pend-only c p cs i d h = map-only (has_id c) (pend c p) cs i d (other-pend c p) 
     ∙ ap (set cs i) (ap (λ (b : Bool). cond b (record (get_or cs i d) { pending = p }) (get_or cs i d)) (only-is (has_id c) cs i d h))
 
 pub out-nowhere : (token : List ℕ) (n : ℕ) (es : List Exchange) → IsNowhere (is_under token) es → map (went_out token n) es ≡ es
-out-nowhere token n es h = map-none (is_under token) (went_out token n) es (other-out token n) h
+out-nowhere token n es h = map-none (is_under token) (went_out token n) es (not-under token n) h
 
 pub out-only : (token : List ℕ) (n : ℕ) (es : List Exchange) (i : ℕ) (d : Exchange) → IsOnlyAt (is_under token) es i → map (went_out token n) es ≡ set es i (record (get_or es i d) { sending = Some n })
-out-only token n es i d h = map-only (is_under token) (went_out token n) es i d (other-out token n) h
+out-only token n es i d h = map-only (is_under token) (went_out token n) es i d (not-under token n) h
     ∙ ap (set es i) (ap (λ (b : Bool). cond b (record (get_or es i d) { sending = Some n }) (get_or es i d)) (only-is (is_under token) es i d h))
 
 -- who waits on an exchange has its connection's number

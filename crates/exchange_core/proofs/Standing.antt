@@ -5,7 +5,7 @@ use Rattle.std.specs.List.{AllByRecursion, find, list_any}
 use Rattle.std.specs.List.Sorted.{IsNonDecreasingBy, IsPartitionPoint}
 use Rattle.std.proofs.Math.ListN.{set}
 use Rattle.std.proofs.lemmas.Bool.{cases_Bool}
-use Rattle.history_links.proofs.Facts.{all-more, all-filter}
+use Rattle.history_laws.proofs.CallerLemmas.{all-filter, all-more}
 use Rattle.exchange_core.specs.Places.{RiseBy, IsNowhere, IsOnlyAt}
 
 three : (a b : ℕ) → (a < b) ⊎ ((a ≡ b) ⊎ (b < a))
