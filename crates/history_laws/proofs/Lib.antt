@@ -13,6 +13,7 @@ pub mod Openings
 pub mod Turns
 pub mod Replies
 pub mod Sent
+pub mod Ended
 pub mod Basis
 pub mod Confirmed
 pub mod Asked
