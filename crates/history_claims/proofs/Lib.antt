@@ -1,9 +1,12 @@
 pub mod Entries
 pub mod Sending
-pub mod Resting
-pub mod Ending
 pub mod Unsent
 pub mod Settling
+pub mod Repeats
+pub mod Waiting
+pub mod Resting
+pub mod Ending
+pub mod Hands
 pub mod GivenUp
 pub mod Counting
 pub mod Crowded
@@ -11,3 +14,4 @@ pub mod Causes
 pub mod Apart
 pub mod Turns
 pub mod Examples
+pub mod Refused

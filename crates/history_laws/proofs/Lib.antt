@@ -19,4 +19,5 @@ pub mod Confirmed
 pub mod Asked
 pub mod Settled
 pub mod Endings
+pub mod Late
 pub mod Spoiled

@@ -30,7 +30,7 @@ each-passes g (y ∷ ys) x e h =
       | inr w ↦ each-passes g ys x (second (g y) (list_all g ys) e) w
     ]
 
-range-passes : (g : ℕ → Bool) (a n c : ℕ) → list_all g (range_with_len a n) ≡ true → a ≤ c → c < a + n → g c ≡ true
+pub range-passes : (g : ℕ → Bool) (a n c : ℕ) → list_all g (range_with_len a n) ≡ true → a ≤ c → c < a + n → g c ≡ true
 range-passes g a zero c e low high = absurd (omega (arith, low, high))
 range-passes g a (suc n) c e low high =
     elim (eqb_tells a c) [
@@ -49,7 +49,7 @@ open-step older c t (Shuts e) note ih may h =
     elim (eqb_tells e c) [ inl w ↦ absurd (false≢true (rw (w.0) at h)) | inr w ↦ ih (rw (w.0) at h) ]
 open-step older c t d note ih may h = ih h
 
-open-below : (l : List Noted) → Legal l → (c : ℕ) → is_open l c ≡ true → c < opened l
+pub open-below : (l : List Noted) → Legal l → (c : ℕ) → is_open l c ≡ true → c < opened l
 open-below [] legal c e = absurd (false≢true e)
 open-below (x ∷ older) legal c e =
     open-step older c x.written.moment x.written.deed x.note (open-below older legal.0 c) legal.2 e
@@ -59,7 +59,7 @@ slice_get-push : {X : Type 0} (xs : List X) (y : X) → slice_get (xs ++ y ∷ [
 slice_get-push [] y = refl
 slice_get-push (x ∷ xs) y = slice_get-push xs y
 
-ask-listed : (l : List Noted) (k c : ℕ) (a : Ask) → IsAsk l k c a → (i : ℕ) × (slice_get (asks_of l c) i ≡ Some k)
+pub ask-listed : (l : List Noted) (k c : ℕ) (a : Ask) → IsAsk l k c a → (i : ℕ) × (slice_get (asks_of l c) i ≡ Some k)
 ask-listed [] k c a h = cc (h.stands)
 ask-listed (x ∷ older) k c a h =
     elim (at-old x older k _ h.stands) [
@@ -86,7 +86,7 @@ few-step l c t (Answers e k g) note may h =
     elim (eqb_tells e c) [ inl w ↦ rw (w.0) (omega (arith, h, length-append (answers_of l c) (k ∷ []))) | inr w ↦ rw (w.0) h ]
 few-step l c t d note may h = h
 
-few-waiting : (l : List Noted) (c : ℕ) → Legal l → length (asks_of l c) ≤ length (answers_of l c) + 1
+pub few-waiting : (l : List Noted) (c : ℕ) → Legal l → length (asks_of l c) ≤ length (answers_of l c) + 1
 few-waiting [] c legal = omega arith
 few-waiting (x ∷ older) c legal = few-step older c x.written.moment x.written.deed x.note legal.2 (few-waiting older c legal.0)
 
