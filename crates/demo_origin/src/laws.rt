@@ -7,13 +7,13 @@ use crate::behaviour::Behaviour;
 
 /// While a message is remembered it is executed at most once, whatever is heard after it.
 pub fn executed_once<H: Behaviour>()
-    ensures { ExecutedOnce H.holds }
+    ensures { ExecutedOnce H.relation }
 {}
 
 /// A CON that is sent again within 247 s gets the datagram that answered it first, and executes
 /// nothing, whatever is heard between them.
 pub fn answered_alike<H: Behaviour>()
-    ensures { AnsweredAlike H.holds }
+    ensures { AnsweredAlike H.relation }
 {}
 
 /// After a change, an ACK or an RST, and after each tick, every observer was told of the state as

@@ -26,8 +26,8 @@ fn wait_until(due: Option<u64>, moment: u64) -> u64
 
 /// Sends all that the device gives to be sent.
 fn send_all<H: Behaviour, L: Wire>(origin: &mut Origin<H>, wire: &L)
-    requires { Sound H.holds origin.old }
-    ensures { Sound H.holds origin.new }
+    requires { Sound H.relation origin.old }
+    ensures { Sound H.relation origin.new }
 {
     'each: for _ in 0..u64::MAX {
         match origin.take_send() {
@@ -44,9 +44,9 @@ fn hear<H: Behaviour>(
     received: Option<(usize, Peer)>,
     buffer: &[u8],
 )
-    requires sound { Sound H.holds origin.old }
+    requires sound { Sound H.relation origin.old }
     requires fits { IfSome received (λ r. r.0 ≤ length buffer.now) }
-    ensures { Sound H.holds origin.new }
+    ensures { Sound H.relation origin.new }
 {
     match received {
         Some((count, peer)) => {
@@ -64,8 +64,8 @@ pub fn turn<H: Behaviour, L: Wire, C: Clock>(
     clock: &C,
     buffer: &mut [u8],
 ) -> Result<(), Failed>
-    requires { Sound H.holds origin.old }
-    ensures sound { Sound H.holds origin.new }
+    requires { Sound H.relation origin.old }
+    ensures sound { Sound H.relation origin.new }
     ensures length { length buffer.new ≡ length buffer.old }
 {
     let moment = clock.moment()?;
@@ -85,8 +85,8 @@ pub fn serve<H: Behaviour, L: Wire, C: Clock>(
     clock: &C,
     turns: u64,
 ) -> Result<(), Failed>
-    requires { Sound H.holds origin.old }
-    ensures { Sound H.holds origin.new }
+    requires { Sound H.relation origin.old }
+    ensures { Sound H.relation origin.new }
 {
     let mut buffer = [0u8; BUFFER_LEN];
     'each: for _ in 0..turns {

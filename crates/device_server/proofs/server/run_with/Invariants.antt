@@ -1,6 +1,6 @@
 use Rattle.demo_origin.specs.Origins.{EachKeeps}
-use Rattle.device_server.specs.Kinds.{IsEither}
+use Rattle.device_server.specs.Kinds.{kinds}
 use Rattle.device_server.proofs.server.run_with.Given as goal
 
 abbrev pub invariant-each : goal.invariant-each
-invariant-each g l = EachKeeps IsEither l.all.items
+invariant-each g l = EachKeeps kinds l.all.items
