@@ -83,7 +83,7 @@ none_weaker {X} p q (x ∷ xs) h none =
     ] in
     each (q x) refl none
 
-found_is : {X : Type 0} (p : X → Bool) (xs : List X) (x : X)
+pub found_is : {X : Type 0} (p : X → Bool) (xs : List X) (x : X)
     → find p xs ≡ Some x → Contains xs x × (p x ≡ true)
 found_is p [] x e = cc
 found_is {X} p (y ∷ ys) x e =

@@ -86,7 +86,7 @@ repeats t u p m answer lt =
     (and_from _ _ (peer_itself p) (lt-ltb (u - t) 247000 (omega arith)))
 
 -- What is new was not remembered.
-again_is_old : (c : Bool) (answer : Option (List ℕ)) → heard_again c answer ≡ Fresh → ⊥
+pub again_is_old : (c : Bool) (answer : Option (List ℕ)) → heard_again c answer ≡ Fresh → ⊥
 again_is_old true (Some bytes) e = cc
 again_is_old true None e = cc
 again_is_old false (Some bytes) e = cc

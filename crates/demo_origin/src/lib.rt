@@ -42,7 +42,10 @@ pub use fault::{Memory, Refused};
 pub use handler::{Boxed, Call, Handler};
 pub use judge::Judged;
 pub use kinds::{cell, counter};
-pub use laws::{answered_alike, executed_once, observers_told, only_observers_told};
+pub use laws::{
+    answered_alike, answers_are_made, executed_once, last_piece_executes, observers_told,
+    only_observers_told, versions_tell,
+};
 pub use observers::Wish;
 pub use origin::Origin;
 pub use request::{CoapRequest, Method, Reply};
