@@ -45,7 +45,7 @@ pub fn versions_tell<H: Behaviour>()
 /// Whatever a device gives out, once it heard nothing before, was made by a call: an RST for what
 /// was heard, an answer to the request that was heard, of the state as it stood then, or a
 /// notification under a registration that stood. Success answers a POST, PUT or DELETE only where
-/// it was executed, and 2.31 where the piece wasn't the last.
+/// it was executed, save for 2.31, which asks for more after a piece that isn't the last.
 pub fn answers_are_made<H: Behaviour>()
     ensures { AnswersAreMade H.relation }
 {}
