@@ -1,7 +1,6 @@
 pub mod Drafting
 pub mod Openings
 pub mod Placing
-pub mod Standing
 pub mod Ordered
 pub mod Hinted
 pub mod Waiting

@@ -25,7 +25,7 @@ state_of s = record {
   opened = s.opened;
   issued = s.issued;
   conns = s.conns.items;
-  exchanges = s.exchanges.items;
+  exchanges = s.exchanges.exchanges;
   links = map peer_link s.endpoints.items;
 }
 

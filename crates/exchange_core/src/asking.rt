@@ -8,7 +8,8 @@ ghost use Rattle.limits.specs.declared.TheConstants.{LAST_MOMENT, MAX_REQUEST_SI
 ghost use Rattle.journal_book.specs.Views.{ask_of};
 ghost use Rattle.exchange_model.specs.Resting.{HasConn};
 ghost use Rattle.exchange_core.specs.Calls.{IsAsked};
-ghost use Rattle.exchange_core.specs.Places.{RiseBy, id_of};
+ghost use Rattle.exchange_core.specs.Places.{id_of};
+ghost use Rattle.exchange_table.specs.Places.{RiseBy};
 ghost use Rattle.exchange_core.specs.Refusing.{MayRefuse, HasNoPlace};
 ghost use Rattle.exchange_core.specs.Sound.{IsSound};
 ghost use Rattle.exchange_core.specs.States.{state_of, seen, number_in};
@@ -95,7 +96,7 @@ fn ask_peer<R: Relation>(
         (seen s.old) (seen s.new) }
     ensures ticket { IfOk result (λ t. (t.conn ≡ conn) × (arc_value t.mapped ≡ arc_value mapped)) }
 {
-    if s.exchanges.len() >= MAX_EXCHANGES {
+    if s.exchanges.as_slice().len() >= MAX_EXCHANGES {
         return turn_away(alloc, s, moment, word, conn, mapped, Cause::Busy);
     }
     let begun = match begin(alloc, s, moment, word, conn, mapped, peer) {

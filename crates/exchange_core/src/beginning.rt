@@ -1,6 +1,6 @@
 //! Asks that begin an exchange.
 
-ghost use Rattle.std.specs.Prelude.{◌≡◌, ◌≤◌, ◌<◌, ◌+◌, ◌^◌, ◌∷◌, ◌++◌, [], List, None, false, length, map, vec_len, vec_capacity, sum_by, IfOk, IfErr, OnOk, Ok, Err, Some};
+ghost use Rattle.std.specs.Prelude.{◌≡◌, ◌≤◌, ◌<◌, ◌+◌, ◌^◌, ◌∷◌, ◌++◌, [], List, None, true, false, length, map, vec_len, vec_capacity, sum_by, IfOk, IfErr, OnOk, Ok, Err, Some};
 ghost use Rattle.std.specs.Arc.{arc_value};
 ghost use Rattle.limits.specs.declared.TheConstants.{LAST_MOMENT, MAX_ENTRIES, MAX_EXCHANGES, MAX_REQUEST_SIZE};
 ghost use Rattle.ask_model.specs.Datagrams.{asked_peer};
@@ -16,7 +16,9 @@ ghost use Rattle.exchange_model.specs.Room.{AreApart};
 ghost use Rattle.exchange_core.specs.Beginning.{IsRequest, IsTextFor, with_exchange, IsBegun, IsBegunBy, IsEntered, MayBegin, exchange_by};
 ghost use Rattle.exchange_core.specs.Sending.{IsTimed, sent_first};
 ghost use Rattle.exchange_core.specs.Drafts.{Drafts};
-ghost use Rattle.exchange_core.specs.Places.{RiseBy, id_of};
+ghost use Rattle.exchange_core.specs.Places.{id_of};
+ghost use Rattle.exchange_table.specs.Places.{RiseBy};
+ghost use Rattle.exchange_table.specs.Tables.{IsLatest};
 ghost use Rattle.exchange_core.specs.Sound.{IsSound};
 ghost use Rattle.exchange_core.specs.States.{state_of, seen, given_in, outgoing, with_draft, HasPlaces, SeesSame};
 ghost use Rattle.exchange_core.specs.Submitting.{MaySubmitTo, HasPlaceFor};
@@ -106,7 +108,8 @@ fn add_exchange<R: Relation>(
     requires few { s.old.issued < 4294967295 }
     requires places { HasPlaces s.old draft }
     requires room { length draft.entries ≤ s.old.journal.room }
-    requires exchange { vec_len s.old.exchanges < vec_capacity s.old.exchanges }
+    requires exchange { s.old.exchanges.room ≡ true }
+    requires latest { IsLatest exchange s.old.exchanges.exchanges }
     requires endpoint { HasPlaceFor prepared.place
         (vec_len s.old.endpoints) (vec_capacity s.old.endpoints) }
     requires may { MaySubmitTo moment exchange.peer s.old.endpoints.items
@@ -119,7 +122,7 @@ fn add_exchange<R: Relation>(
     ensures sends { outgoing s.new ≡ outgoing s.old ++ draft.sends }
 {
     let peer = exchange.peer;
-    s.exchanges.push_reserved(exchange);
+    s.exchanges.push_in_room(exchange);
     s.issued += 1;
     submitting::submit(&mut s.endpoints, peer, prepared, moment);
     commit(s, draft, moment);
@@ -156,10 +159,10 @@ fn make_all_places<R: Relation>(s: &mut State<R>, draft: &Draft<R>) -> Result<()
     ensures same { SeesSame s.old s.new }
     ensures endpoints { s.new.endpoints ≡ s.old.endpoints }
     ensures places { OnOk result (HasPlaces s.new draft.now) }
-    ensures exchange { OnOk result (vec_len s.new.exchanges < vec_capacity s.new.exchanges) }
+    ensures exchange { OnOk result (s.new.exchanges.room ≡ true) }
 {
     make_places(s, draft)?;
-    s.exchanges.try_reserve(1)?;
+    s.exchanges.make_room()?;
     Ok(())
 }
 
@@ -174,6 +177,7 @@ fn enter<R: Relation>(
 ) -> Result<(), AskFault>
     requires sound { IsSound s.old }
     requires unsealed { s.old.sealed ≡ false }
+    requires latest { IsLatest exchange s.old.exchanges.exchanges }
     requires early { moment ≤ LAST_MOMENT }
     requires endpoint { HasPlaceFor prepared.place
         (vec_len s.old.endpoints) (vec_capacity s.old.endpoints) }
@@ -282,7 +286,7 @@ pub fn begin<R: Relation>(
     requires early { moment ≤ LAST_MOMENT }
     requires asked { asked_peer (arc_value mapped).sense ≡ Some peer }
     requires idle { HasConn s.old.conns.items conn None }
-    requires few { length s.old.exchanges.items < MAX_EXCHANGES }
+    requires few { length s.old.exchanges.exchanges < MAX_EXCHANGES }
     ensures sound { IsSound s.new }
     ensures begins { IsBegun result moment word conn (arc_value mapped) peer
         (seen s.old) (seen s.new) }

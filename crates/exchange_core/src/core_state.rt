@@ -26,6 +26,7 @@ use crate::snapshot::Snapshot;
 use crate::state::State;
 use crate::{asking, due, hearing, opening, serving, snapshot, taking, ticking};
 use ask_model::Mapped;
+use exchange_table::Exchanges;
 use journal_book::Journal;
 use limits::{LAST_MOMENT, MAX_ENTRIES};
 use std::alloc::{AllocError, Global};
@@ -81,7 +82,7 @@ impl<R: Relation> Core<R> {
                 opened: 0,
                 issued: 0,
                 conns: Vec::new(alloc),
-                exchanges: Vec::new(alloc),
+                exchanges: Exchanges::new(alloc),
                 endpoints: Vec::new(alloc),
                 hints,
                 answers: Vec::new(alloc),

@@ -7,7 +7,8 @@ ghost use Rattle.journal_book.specs.Views.{event_of, item_of};
 ghost use Rattle.exchange_model.specs.State.{State, pend, conns_after};
 ghost use Rattle.exchange_core.specs.Values.{outgoing_of};
 ghost use Rattle.exchange_core.specs.Answering.{given_of, answer_entry};
-ghost use Rattle.exchange_core.specs.Places.{RiseBy, id_of};
+ghost use Rattle.exchange_core.specs.Places.{id_of};
+ghost use Rattle.exchange_table.specs.Places.{RiseBy};
 ghost use Rattle.exchange_core.specs.Drafts.{Drafts, IsAlone, OpensNone, empty_draft, draft_with, draft_sending, draft_answering};
 
 use crate::answer::Answer;
@@ -88,7 +89,8 @@ impl<R: Relation> Model for Draft<R> {
     ghost use Rattle.exchange_core.specs.Values.{outgoing_of};
     ghost use Rattle.exchange_core.specs.Answering.{given_of};
     ghost use Rattle.exchange_core.specs.Drafts.{DraftValue};
-    ghost use Rattle.exchange_core.specs.Places.{RiseBy, id_of};
+    ghost use Rattle.exchange_core.specs.Places.{id_of};
+    ghost use Rattle.exchange_table.specs.Places.{RiseBy};
 
     ghost Value = { DraftValue };
 

@@ -5,7 +5,8 @@ ghost use Rattle.std.specs.List.{AllByRecursion};
 ghost use Rattle.exchange_model.specs.Due.{earlier, earliest, timer, deadline, next_due};
 ghost use Rattle.exchange_model.specs.Steps.{is_past};
 ghost use Rattle.exchange_core.specs.Due.{IsSince, next_late, next_tick};
-ghost use Rattle.exchange_core.specs.Places.{OpenLater, RiseBy, id_of};
+ghost use Rattle.exchange_core.specs.Places.{OpenLater, id_of};
+ghost use Rattle.exchange_table.specs.Places.{RiseBy};
 ghost use Rattle.exchange_core.specs.Sound.{IsSound};
 ghost use Rattle.exchange_core.specs.States.{state_of, peer_link};
 
@@ -63,7 +64,7 @@ pub fn next_due<R: Relation>(s: &State<R>) -> Option<u64>
 {
     earlier(
         earliest_timer(&s.endpoints),
-        earliest_deadline(&s.exchanges),
+        earliest_deadline(s.exchanges.as_slice()),
     )
 }
 
@@ -89,7 +90,7 @@ pub fn next_tick<R: Relation>(s: &State<R>) -> Option<u64>
     ensures { result ≡ next_tick (state_of s.now) }
 {
     if s.sealed {
-        return earliest_awaited(&s.exchanges, &s.conns);
+        return earliest_awaited(s.exchanges.as_slice(), &s.conns);
     }
     next_due(s)
 }

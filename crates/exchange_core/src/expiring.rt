@@ -12,6 +12,7 @@ use crate::endpoints::find_endpoint;
 use crate::state::Endpoint;
 use coap_codec::Token;
 use exchange_model::Exchange;
+use exchange_table::Exchanges;
 use message_layer::{Link, Ticking};
 use std::alloc::{AllocError, Global};
 
@@ -108,23 +109,22 @@ pub struct Sorted {
     /// those that end
     pub over: Vec<Exchange>,
     /// those that go on
-    pub still: Vec<Exchange>,
+    pub still: Exchanges,
 }
 
 /// The exchanges that end, and those that go on.
-fn sort_exchanges(
+fn sort_rows(
     alloc: Global,
     exchanges: &[Exchange],
     endpoints: &[Endpoint],
     tokens: &[Option<Token>],
     moment: u64,
-) -> Result<Sorted, AllocError>
+) -> Result<(Vec<Exchange>, Vec<Exchange>), AllocError>
     requires { tokens.now ≡ map (given_up_at moment) (map peer_link endpoints.now) }
     ensures over { IfOk result
-        (λ x. x.over.items ≡ filter (is_over moment (map peer_link endpoints.now)) exchanges.now) }
+        (λ x. x.0.items ≡ filter (is_over moment (map peer_link endpoints.now)) exchanges.now) }
     ensures still { IfOk result
-        (λ x. x.still.items
-        ≡ filter (is_still moment (map peer_link endpoints.now)) exchanges.now) }
+        (λ x. x.1.items ≡ filter (is_still moment (map peer_link endpoints.now)) exchanges.now) }
 {
     let mut over = Vec::new(alloc);
     let mut still = Vec::new(alloc);
@@ -135,25 +135,27 @@ fn sort_exchanges(
             still.push(*e)?;
         }
     }
-    Ok(Sorted { over, still })
+    Ok((over, still))
 }
 
 /// The exchanges that end at this moment, and those that go on.
 pub fn sort_by_end(
     alloc: Global,
-    exchanges: &[Exchange],
+    exchanges: &Exchanges,
     endpoints: &mut [Endpoint],
     moment: u64,
 ) -> Result<Sorted, AllocError>
     requires { moment ≤ LAST_MOMENT }
     ensures same { map peer_link endpoints.new ≡ map peer_link endpoints.old }
     ensures over { IfOk result (λ x. x.over.items
-        ≡ filter (is_over moment (map peer_link endpoints.old)) exchanges.now) }
-    ensures still { IfOk result (λ x. x.still.items
-        ≡ filter (is_still moment (map peer_link endpoints.old)) exchanges.now) }
+        ≡ filter (is_over moment (map peer_link endpoints.old)) exchanges.now.exchanges) }
+    ensures still { IfOk result (λ x. x.still.exchanges
+        ≡ filter (is_still moment (map peer_link endpoints.old)) exchanges.now.exchanges) }
 {
     let tokens = given_up_all(alloc, endpoints, moment)?;
-    sort_exchanges(alloc, exchanges, endpoints, &tokens, moment)
+    let (over, still) = sort_rows(alloc, exchanges.as_slice(), endpoints, &tokens, moment)?;
+    let still = exchanges.part(alloc, still)?;
+    Ok(Sorted { over, still })
 }
 
 /// The tokens of exchanges.

@@ -25,12 +25,12 @@ ghost use Rattle.exchange_core.specs.Values.{stepped};
 ghost use Rattle.exchange_core.specs.Asked.{IsOpenedIn};
 ghost use Rattle.exchange_core.specs.Hearing.{exchanges_after, first_number, note_next, tables_after, with_heard, found_in, over_in, heeds, ended_by, link_deeds, hearing_deeds};
 ghost use Rattle.exchange_core.specs.Sending.{IsTimed, sent_first};
-ghost use Rattle.exchange_core.specs.Places.{RiseBy, id_of, number_of};
+ghost use Rattle.exchange_core.specs.Places.{id_of};
+ghost use Rattle.exchange_table.specs.Places.{RiseBy};
 ghost use Rattle.exchange_core.specs.States.{peer_link, state_of, seen, given_in, outgoing, SeesSame};
 
 use crate::draft::Draft;
 use crate::ending::{Ended, draft_ends};
-use crate::exchanges;
 use crate::room::takes;
 use crate::sealing::seal;
 use crate::sending::draft_first;
@@ -38,6 +38,7 @@ use crate::state::{Endpoint, State, commit, make_places};
 use ask_model::{Bytes as Whole, Cause};
 use coap_codec::Token;
 use exchange_model::Exchange;
+use exchange_table::Exchanges;
 use journal_book::{Entry, Event};
 use message_layer::{Bytes, FirstSending, Hearing, Heeding, News, Up};
 use reply_reading::{Finding, finding_of};
@@ -74,12 +75,11 @@ fn ended_token(heeding: &Heeding) -> Option<Token>
 }
 
 /// The exchange that ends.
-fn ended_exchange(exchanges: &[Exchange], over: Option<Token>) -> Option<Exchange>
-    requires { RiseBy number_of exchanges.now }
-    ensures { result ≡ ended_in over exchanges.now }
+fn ended_exchange(exchanges: &Exchanges, over: Option<Token>) -> Option<Exchange>
+    ensures { result ≡ ended_in over exchanges.now.exchanges }
 {
     match over {
-        Some(token) => exchanges::find_exchange(exchanges, &token).copied(),
+        Some(token) => exchanges.find(&token).copied(),
         None => None,
     }
 }
@@ -173,14 +173,13 @@ fn draft_link<R: Relation>(
 /// to.
 fn ended_by(
     alloc: Global,
-    exchanges: &[Exchange],
+    exchanges: &Exchanges,
     number: u32,
     heeding: &Heeding,
     up: Up,
 ) -> Result<VecDeque<Ended>, AllocError>
-    requires { RiseBy number_of exchanges.now }
     ensures { IfOk result (λ v. v.items
-        ≡ ended_by (ended_in (over_in heeding.now) exchanges.now) (found_in number (told up))) }
+        ≡ ended_by (ended_in (over_in heeding.now) exchanges.now.exchanges) (found_in number (told up))) }
 {
     let mut ended = VecDeque::new(alloc);
     let exchange = ended_exchange(exchanges, ended_token(heeding));
@@ -203,9 +202,9 @@ fn draft_heard<R: Relation>(
 ) -> Result<Draft<R>, AllocError>
     requires few { length s.now.journal.entries ≤ MAX_ENTRIES }
     requires conns { RiseBy id_of s.now.conns.items }
-    requires exchanges { RiseBy number_of s.now.exchanges.items }
     requires timed { IsTimed heeding.now.next }
-    requires opened { AllByRecursion (IsOpenedIn s.now.journal.entries) s.now.exchanges.items }
+    requires opened { AllByRecursion (IsOpenedIn s.now.journal.entries)
+        s.now.exchanges.exchanges }
     requires spelled { (m : Content) → told up ≡ response m → Spells m datagram.now }
     ensures drafts { IfOk result (λ d. Drafts moment (state_of s.now)
         (hearing_deeds peer datagram.now heeding.now (told up) (state_of s.now)) d) }
@@ -220,22 +219,21 @@ fn draft_heard<R: Relation>(
 }
 
 /// The exchange ends that the datagram ends.
-fn end_exchange(exchanges: &mut Vec<Exchange>, heeding: &Heeding)
-    requires { RiseBy number_of exchanges.old.items }
-    ensures { exchanges.new.items ≡ filter (is_other (over_in heeding.now)) exchanges.old.items }
+fn end_exchange(exchanges: &mut Exchanges, heeding: &Heeding)
+    ensures { exchanges.new.exchanges
+        ≡ filter (is_other (over_in heeding.now)) exchanges.old.exchanges }
 {
     if let Some(token) = ended_token(heeding) {
-        exchanges::drop_exchange(exchanges, &token);
+        exchanges.remove(&token);
     }
 }
 
 /// The message that goes out next, in the entry with this number, is that of its exchange.
-fn note_next(exchanges: &mut Vec<Exchange>, next: &Option<FirstSending>, number: u32)
-    requires { RiseBy number_of exchanges.old.items }
-    ensures { exchanges.new.items ≡ note_next number next.now exchanges.old.items }
+fn note_next(exchanges: &mut Exchanges, next: &Option<FirstSending>, number: u32)
+    ensures { exchanges.new.exchanges ≡ note_next number next.now exchanges.old.exchanges }
 {
     if let Some(first) = next {
-        exchanges::note_sending(exchanges, &first.message.token, number);
+        exchanges.note_sending(&first.message.token, number);
     }
 }
 
@@ -251,10 +249,10 @@ fn first_number(number: u32, heeding: &Heeding) -> u32
 }
 
 /// The exchanges after the datagram, whose own entry has this number.
-fn change_exchanges(exchanges: &mut Vec<Exchange>, heeding: &Heeding, number: u32)
+fn change_exchanges(exchanges: &mut Exchanges, heeding: &Heeding, number: u32)
     requires few { number ≤ MAX_ENTRIES }
-    requires ordered { RiseBy number_of exchanges.old.items }
-    ensures { exchanges.new.items ≡ exchanges_after number heeding.now exchanges.old.items }
+    ensures { exchanges.new.exchanges
+        ≡ exchanges_after number heeding.now exchanges.old.exchanges }
 {
     end_exchange(exchanges, heeding);
     note_next(exchanges, &heeding.next, first_number(number, heeding));
@@ -295,7 +293,6 @@ fn settle_at(endpoints: &mut Vec<Endpoint>, place: usize, heeding: Heeding, mome
 /// The tables after the datagram.
 fn change_tables<R: Relation>(s: &mut State<R>, place: usize, moment: u64, heeding: Heeding)
     requires few { length s.old.journal.entries ≤ MAX_ENTRIES }
-    requires ordered { RiseBy number_of s.old.exchanges.items }
     requires early { moment ≤ LAST_MOMENT }
     requires place { place < length s.old.endpoints.items }
     requires ready { (e : EndpointValue) → slice_get s.old.endpoints.items place ≡ Some e
@@ -322,7 +319,6 @@ fn add_heard<R: Relation>(
 ) -> Result<(), AllocError>
     requires room { length draft.entries ≤ s.old.journal.room }
     requires few { length s.old.journal.entries ≤ MAX_ENTRIES }
-    requires ordered { RiseBy number_of s.old.exchanges.items }
     requires early { moment ≤ LAST_MOMENT }
     requires place { place < length s.old.endpoints.items }
     requires ready { (e : EndpointValue) → slice_get s.old.endpoints.items place ≡ Some e

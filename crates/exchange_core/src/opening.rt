@@ -6,7 +6,8 @@ ghost use Rattle.ask_model.specs.Sizes.{capped};
 ghost use Rattle.exchange_model.specs.Resting.{HasConn};
 ghost use Rattle.exchange_model.specs.Steps.{opens, shuts};
 ghost use Rattle.exchange_core.specs.Calls.{IsOpened, IsClosed, IsUnknown};
-ghost use Rattle.exchange_core.specs.Places.{RiseBy, id_of};
+ghost use Rattle.exchange_core.specs.Places.{id_of};
+ghost use Rattle.exchange_table.specs.Places.{RiseBy};
 ghost use Rattle.exchange_core.specs.Sound.{IsSound};
 ghost use Rattle.exchange_core.specs.States.{state_of, given_in, outgoing, seen};
 

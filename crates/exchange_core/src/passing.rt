@@ -10,7 +10,6 @@ ghost use Rattle.exchange_model.specs.Entering.{all_going, goes_on, gone_tokens,
 ghost use Rattle.exchange_model.specs.Steps.{is_gone};
 ghost use Rattle.exchange_core.specs.Leads.{Leads};
 ghost use Rattle.exchange_core.specs.Passing.{moved_on, tick_adds};
-ghost use Rattle.exchange_core.specs.Places.{RiseBy, number_of};
 ghost use Rattle.exchange_core.specs.Sound.{IsSound};
 ghost use Rattle.exchange_core.specs.States.{given_in, outgoing, state_of, HasPlaces, SeesSame};
 ghost use Rattle.exchange_core.specs.Turns.{AreTurns};
@@ -23,6 +22,7 @@ use crate::timeouts::draft_timeouts;
 use crate::turns::{draft_turns, prepare_turns, tick_turns};
 use coap_codec::Token;
 use exchange_model::Exchange;
+use exchange_table::Exchanges;
 use journal_book::{Entry, Event};
 use message_layer::Ticking;
 use std::alloc::{AllocError, Global};
@@ -39,7 +39,8 @@ pub fn sort_at<R: Relation>(
     ensures same { SeesSame s.old s.new }
     ensures over { IfOk result (λ x. x.over.items ≡ timed_out moment (state_of s.old)) }
     ensures still { IfOk result
-        (λ x. x.still.items ≡ filter (goes_on moment (state_of s.old)) s.old.exchanges.items) }
+        (λ x. x.still.exchanges
+        ≡ filter (goes_on moment (state_of s.old)) s.old.exchanges.exchanges) }
 {
     sort_by_end(alloc, &s.exchanges, &mut s.endpoints, moment)
 }
@@ -50,7 +51,7 @@ fn draft_tick<R: Relation>(
     alloc: Global,
     s: &State<R>,
     over: &[Exchange],
-    still: &mut [Exchange],
+    still: &mut Exchanges,
     turns: &[Ticking],
     moment: u64,
     gone: &[Token],
@@ -62,12 +63,11 @@ fn draft_tick<R: Relation>(
     requires over { over.now ≡ timed_out moment (state_of s.now) }
     requires gone { gone.now ≡ gone_tokens moment (state_of s.now) }
     requires ready { AreTurns moment gone.now s.now.endpoints.items turns.now }
-    requires ordered { RiseBy number_of still.old }
     ensures leads { IfOk result
         (λ d. Leads moment (state_of s.now) (tick_adds moment (state_of s.now)) d) }
-    ensures going { OnOk result (still.new ≡ sent_as (all_going moment
+    ensures going { OnOk result (still.new.exchanges ≡ sent_as (all_going moment
         (is_gone moment (state_of s.now)) (length s.now.journal.entries + 1)
-        (state_of s.now).links) still.old) }
+        (state_of s.now).links) still.old.exchanges) }
 {
     let mut draft = Draft::new(alloc, s.journal.len() as u32, &s.conns)?;
     draft.enter(Entry {
@@ -112,7 +112,7 @@ pub struct Passing<R: Relation> {
     pub gone: Vec<Token>,
     pub turns: Vec<Ticking>,
     /// the exchanges that go on
-    pub still: Vec<Exchange>,
+    pub still: Exchanges,
     pub draft: Draft<R>,
 }
 
@@ -131,9 +131,10 @@ pub fn prepare<R: Relation>(
     ensures gone { IfOk result (λ x. x.gone.items ≡ gone_tokens moment (state_of s.old)) }
     ensures ready { IfOk result
         (λ x. AreTurns moment x.gone.items s.new.endpoints.items x.turns.items) }
-    ensures still { IfOk result (λ x. x.still.items ≡ sent_as (all_going moment
+    ensures still { IfOk result (λ x. x.still.exchanges ≡ sent_as (all_going moment
         (is_gone moment (state_of s.old)) (length s.old.journal.entries + 1)
-        (state_of s.old).links) (filter (goes_on moment (state_of s.old)) s.old.exchanges.items)) }
+        (state_of s.old).links)
+        (filter (goes_on moment (state_of s.old)) s.old.exchanges.exchanges)) }
     ensures leads { IfOk result
         (λ x. Leads moment (state_of s.old) (tick_adds moment (state_of s.old)) x.draft) }
 {
@@ -157,7 +158,7 @@ pub fn pass<R: Relation>(s: &mut State<R>, passing: Passing<R>, moment: u64)
     requires places { HasPlaces s.old passing.draft }
     requires room { length passing.draft.entries ≤ s.old.journal.room }
     ensures state { state_of s.new ≡ moved_on moment (is_among passing.gone.items)
-        passing.still.items passing.draft (state_of s.old) }
+        passing.still.exchanges passing.draft (state_of s.old) }
     ensures bytes { s.new.bytes
         ≡ capped (s.old.bytes + capped (sum_by entry_size passing.draft.entries)) }
     ensures room { s.new.journal.room + length passing.draft.entries ≡ s.old.journal.room }

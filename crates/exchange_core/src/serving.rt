@@ -3,7 +3,8 @@
 ghost use Rattle.std.specs.Prelude.{ℕ, ◌⊎◌, Option, None, Some, IsTrue, IsFalse, map, option_map};
 ghost use Rattle.exchange_model.specs.Resting.{HasConn};
 ghost use Rattle.exchange_core.specs.Answering.{given_of};
-ghost use Rattle.exchange_core.specs.Places.{RiseBy, id_of};
+ghost use Rattle.exchange_core.specs.Places.{id_of};
+ghost use Rattle.exchange_table.specs.Places.{RiseBy};
 ghost use Rattle.exchange_core.specs.Serving.{IsFirstOf};
 
 use crate::answer::Answer;

@@ -15,7 +15,8 @@ ghost use Rattle.exchange_core.specs.Values.{outgoing_of};
 use crate::answer::Answer;
 use crate::outgoing::Datagram;
 use crate::state::{Endpoint, State};
-use exchange_model::{Conn, Exchange};
+use exchange_model::Conn;
+use exchange_table::Exchanges;
 use std::alloc::{AllocError, Global};
 use std::collections::VecDeque;
 use std::marker::Model;
@@ -33,7 +34,7 @@ pub struct Snapshot<R: Relation> {
     opened: u32,
     issued: u32,
     conns: Vec<Conn>,
-    exchanges: Vec<Exchange>,
+    exchanges: Exchanges,
     endpoints: Vec<Endpoint>,
     answers: Vec<Answer<R>>,
     sends: VecDeque<Datagram>,
@@ -58,7 +59,7 @@ impl<R: Relation> Model for Snapshot<R> {
         opened = s.opened;
         issued = s.issued;
         conns = s.conns.items;
-        exchanges = s.exchanges.items;
+        exchanges = s.exchanges.exchanges;
         links = map peer_link s.endpoints.items;
       };
       answers = map given_of s.answers.items;
@@ -132,7 +133,7 @@ pub fn take_snapshot<R: Relation>(alloc: Global, s: &State<R>) -> Result<Snapsho
         opened: s.opened,
         issued: s.issued,
         conns: Vec::from_slice(alloc, &s.conns)?,
-        exchanges: Vec::from_slice(alloc, &s.exchanges)?,
+        exchanges: s.exchanges.copy(alloc)?,
         endpoints: copy_endpoints(alloc, &s.endpoints)?,
         answers: copy_answers(alloc, &s.answers)?,
         sends: copy_sends(alloc, &s.sends)?,

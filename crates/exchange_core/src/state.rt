@@ -11,7 +11,8 @@ use crate::answer::Answer;
 use crate::draft::Draft;
 use crate::endpoints::Hints;
 use crate::outgoing::Datagram;
-use exchange_model::{Conn, Exchange};
+use exchange_model::Conn;
+use exchange_table::Exchanges;
 use journal_book::{Entry, Journal};
 use message_layer::Link;
 use std::alloc::AllocError;
@@ -40,7 +41,7 @@ pub struct State<R: Relation> {
     /// how many tokens were issued
     pub issued: u32,
     pub conns: Vec<Conn>,
-    pub exchanges: Vec<Exchange>,
+    pub exchanges: Exchanges,
     pub endpoints: Vec<Endpoint>,
     /// where endpoints were found last
     pub hints: Hints,

@@ -83,7 +83,7 @@ pub fn draft_late<R: Relation>(
     requires { IsSound s.now }
     ensures { IfOk result (λ d. Leads moment (state_of s.now) (late moment (state_of s.now)) d) }
 {
-    let past = past_exchanges(alloc, &s.exchanges, moment)?;
+    let past = past_exchanges(alloc, s.exchanges.as_slice(), moment)?;
     let mut draft = Draft::new(alloc, s.journal.len() as u32, &s.conns)?;
     draft_timeouts(alloc, &mut draft, &s.journal, &past, moment)?;
     Ok(draft)
@@ -99,7 +99,7 @@ pub fn draft_sealing<R: Relation>(
     ensures { IfOk result (λ d. Leads moment (state_of s.now)
         (late moment (entered moment Seals (state_of s.now))) d) }
 {
-    let past = past_exchanges(alloc, &s.exchanges, moment)?;
+    let past = past_exchanges(alloc, s.exchanges.as_slice(), moment)?;
     let mut draft = Draft::new(alloc, s.journal.len() as u32, &s.conns)?;
     draft.enter(Entry {
         moment,

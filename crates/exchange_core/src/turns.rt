@@ -7,16 +7,14 @@ ghost use Rattle.exchange_model.specs.Entering.{entered_all, sent_as, link_after
 ghost use Rattle.message_layer.specs.Calls.{is_among};
 ghost use Rattle.message_layer.specs.Prepared.{IsTicking};
 ghost use Rattle.exchange_core.specs.Leads.{Leads};
-ghost use Rattle.exchange_core.specs.Places.{RiseBy, number_of};
 ghost use Rattle.exchange_core.specs.States.{peer_link};
 ghost use Rattle.exchange_core.specs.Turns.{AreTurns, AreTimed, IsTimedTurn, going_first, deeds_of, going_of, turns_deeds, turns_going};
 ghost use Rattle.exchange_core.specs.Sending.{IsTimed, sent_first};
 
 use crate::draft::Draft;
-use crate::exchanges::note_sending;
 use crate::state::Endpoint;
 use coap_codec::Token;
-use exchange_model::Exchange;
+use exchange_table::Exchanges;
 use message_layer::{FirstSending, Link, Ticking};
 use std::alloc::{AllocError, Global};
 use transformers::Relation;
@@ -56,26 +54,25 @@ pub fn prepare_turns(
 /// Drafts a first sending, and notes it.
 fn draft_first<R: Relation>(
     draft: &mut Draft<R>,
-    going: &mut [Exchange],
+    going: &mut Exchanges,
     peer: Peer,
     next: &Option<FirstSending>,
     moment: u64,
 ) -> Result<(), AllocError>
     requires room { draft.old.next + length (sent_first peer next.now) ≤ 4294967295 }
-    requires ordered { RiseBy number_of going.old }
     requires timed { IsTimed next.now }
     ensures leads { (S U : CoreState) → Leads moment S U draft.old
         → OnOk result (Leads moment S (entered_all moment (sent_first peer next.now) U) draft.new) }
     ensures next { OnOk result
         (draft.new.next ≡ draft.old.next + length (sent_first peer next.now)) }
     ensures going { OnOk result
-        (going.new ≡ sent_as (going_first draft.old.next next.now) going.old) }
+        (going.new.exchanges ≡ sent_as (going_first draft.old.next next.now) going.old.exchanges) }
 {
     if let Some(first) = next {
         let number = draft.next();
         let timeout = first.message.timeout as u32;
         draft.send(moment, peer, first.datagram.as_slice(), Some(timeout))?;
-        note_sending(going, &first.message.token, number);
+        going.note_sending(&first.message.token, number);
     }
     Ok(())
 }
@@ -83,20 +80,19 @@ fn draft_first<R: Relation>(
 /// Drafts what a turn sends, and notes a first sending.
 fn draft_turn<R: Relation>(
     draft: &mut Draft<R>,
-    going: &mut [Exchange],
+    going: &mut Exchanges,
     peer: Peer,
     turn: &Ticking,
     moment: u64,
 ) -> Result<(), AllocError>
     requires room { draft.old.next + length (deeds_of peer turn.now) ≤ 4294967295 }
-    requires ordered { RiseBy number_of going.old }
     requires timed { IsTimedTurn turn.now }
     ensures leads { (S U : CoreState) → Leads moment S U draft.old
         → OnOk result (Leads moment S (entered_all moment (deeds_of peer turn.now) U) draft.new) }
     ensures next { OnOk result
         (draft.new.next ≡ draft.old.next + length (deeds_of peer turn.now)) }
     ensures going { OnOk result
-        (going.new ≡ sent_as (going_of draft.old.next turn.now) going.old) }
+        (going.new.exchanges ≡ sent_as (going_of draft.old.next turn.now) going.old.exchanges) }
 {
     match turn {
         Ticking::Rests => {}
@@ -109,21 +105,21 @@ fn draft_turn<R: Relation>(
 /// Drafts what the turns send, in order, and notes the first sendings.
 pub fn draft_turns<R: Relation>(
     draft: &mut Draft<R>,
-    going: &mut [Exchange],
+    going: &mut Exchanges,
     endpoints: &[Endpoint],
     turns: &[Ticking],
     moment: u64,
 ) -> Result<(), AllocError>
     requires alike { length turns.now ≡ length endpoints.now }
     requires timed { AreTimed turns.now }
-    requires ordered { RiseBy number_of going.old }
     requires room { draft.old.next + length (turns_deeds (map peer_link endpoints.now) turns.now)
         ≤ 4294967295 }
     ensures leads { (S U : CoreState) → Leads moment S U draft.old
         → OnOk result (Leads moment S
         (entered_all moment (turns_deeds (map peer_link endpoints.now) turns.now) U) draft.new) }
-    ensures going { OnOk result (going.new
-        ≡ sent_as (turns_going draft.old.next (map peer_link endpoints.now) turns.now) going.old) }
+    ensures going { OnOk result (going.new.exchanges
+        ≡ sent_as (turns_going draft.old.next (map peer_link endpoints.now) turns.now)
+        going.old.exchanges) }
 {
     'each: for place in 0..endpoints.len() {
         draft_turn(draft, going, endpoints[place].peer, &turns[place], moment)?;

@@ -1,4 +1,4 @@
-use Rattle.std.proofs.Common.{◌≡◌, false, sym, ap, subst, arith}
+use Rattle.std.proofs.Common.{◌≡◌, false, sym, ap, subst, arith, length}
 use Rattle.uri_map.specs.declared.peer.Peer.{Peer}
 use Rattle.exchange_model.specs.Calls.{has_place}
 use Rattle.std.specs.Arc.{arc_value}
@@ -15,8 +15,8 @@ use Rattle.exchange_core.proofs.asking.ask_peer.Goals as goal
 pub turn_away-requires-clause-refused : goal.turn_away-requires-clause-refused
 turn_away-requires-clause-refused g c =
     let r = request-of _ _ c.requires.asked in
-    let test = c.if-len-ge-MAX_EXCHANGES.true in
-    let len = c.len.ensures in
+    let test = c.if-as_slice-ge-MAX_EXCHANGES.true in
+    let len = ap length c.as_slice.ensures.all in
     may-be-busy c.args.moment c.args.conn _ r.0 (state_of c.args.s.now) c.requires.sound.kept c.requires.unsealed c.requires.later c.requires.idle c.requires.small r.1
     (full-no-place c.args.moment r.0.peer (state_of c.args.s.now) (omega (arith, test, len)))
 

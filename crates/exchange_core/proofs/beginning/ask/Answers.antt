@@ -1,6 +1,8 @@
-use Rattle.std.proofs.Common.{refl, arith}
+use Rattle.std.proofs.Common.{refl, ap, ◌∙◌, arith}
 use Rattle.std.specs.Arc.{arc_value}
-use Rattle.exchange_core.proofs.Ordered.{conns-ordered}
+use Rattle.exchange_table.specs.Tables.{number_of, opening_of}
+use Rattle.exchange_core.specs.States.{state_of}
+use Rattle.exchange_core.proofs.Ordered.{conns-ordered, latest}
 use Rattle.exchange_core.proofs.BeginLinks.{link-takes}
 use Rattle.exchange_core.proofs.Begins.{timely, sent-next}
 use Rattle.exchange_core.proofs.BeginSound.{enters-sound, enters-ok, enters-err, entered-by, exchange-is}
@@ -64,3 +66,9 @@ returns-in-Err-clause-err g c =
 
 pub draft_ask-requires-clause-ordered : goal.draft_ask-requires-clause-ordered
 draft_ask-requires-clause-ordered g c = conns-ordered _ c.requires.sound.kept
+
+pub enter-requires-clause-latest : goal.enter-requires-clause-latest
+enter-requires-clause-latest g c =
+    latest (state_of c.args.s.now) c.exchange_of-exchange.result c.requires.sound.kept.kept
+    (ap opening_of c.exchange_of-exchange.ensures ∙ c.len-number.ensures)
+    (ap number_of c.exchange_of-exchange.ensures ∙ c.requires.begins.worded.number)

@@ -1,10 +1,11 @@
 use Rattle.std.proofs.Common.{◌≡◌, List, Some, None, length, map, not, eqb, sym, ap, subst, ◌∙◌, arith}
 use Rattle.exchange_model.specs.declared.kept.Conn.{Conn}
 use Rattle.exchange_model.specs.State.{pend}
-use Rattle.exchange_core.specs.Places.{RiseBy, id_of}
+use Rattle.exchange_core.specs.Places.{id_of}
+use Rattle.exchange_table.specs.Places.{RiseBy}
 use Rattle.exchange_core.proofs.Drafting.{length-map}
 use Rattle.exchange_core.proofs.Ordered.{rise-pend}
-use Rattle.exchange_core.proofs.Standing.{put-back, rise-filter}
+use Rattle.exchange_table.proofs.Standing.{put-back, rise-filter}
 use Rattle.exchange_core.proofs.draft.note.Goals as goal
 
 pub returns-in-Asked-clause-ordered : goal.returns-in-Asked-clause-ordered

@@ -3,9 +3,9 @@ use Rattle.exchange_core.proofs.TickSince.{all-since}
 use Rattle.exchange_core.proofs.due.next_due.Goals as goal
 
 pub earliest_deadline-requires-clause-early : goal.earliest_deadline-requires-clause-early
-earliest_deadline-requires-clause-early g c = rw (c.deref-2.ensures.value)
+earliest_deadline-requires-clause-early g c = rw (c.as_slice.ensures.all)
     (all-since _ c.requires.kept.kept c.requires.early)
 
 pub earliest_deadline-requires-clause-ordered : goal.earliest_deadline-requires-clause-ordered
-earliest_deadline-requires-clause-ordered g c = rw (c.deref-2.ensures.value)
+earliest_deadline-requires-clause-ordered g c = rw (c.as_slice.ensures.all)
     (open-later _ c.requires.kept.kept)

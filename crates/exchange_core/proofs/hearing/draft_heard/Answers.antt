@@ -15,7 +15,7 @@ draft_ends-requires-clause-room g c =
     let few = c.requires.few in
     let link = link-few c.args.peer c.args.datagram.now c.args.heeding.now in
     let ended : length c.in_ok-ended.ended.items ≤ 1 = rw (c.in_ok-ended.ensures)
-    (ended-few (ended_in (over_in c.args.heeding.now) c.deref.result.now)
+    (ended-few (ended_in (over_in c.args.heeding.now) c.args.s.now.exchanges.exchanges)
     (found_in c.len-number.result (told c.args.up))) in
     omega (arith, next, few, link, ended)
 
@@ -26,7 +26,7 @@ draft_ends-requires-clause-ends g c =
     (ended-so h c.args.moment c.args.peer c.args.datagram.now c.args.heeding.now (told c.args.up)
     _ _ c.in_ok-draft.draft.entries c.in_ok-draft.ensures.drafts.entries
     (if-ended (IsOpenedIn h) (over_in c.args.heeding.now) _
-    (rw (c.deref.ensures.value) c.requires.opened))
+    c.requires.opened)
     (ap (λ (k : ℕ). found_in k (told c.args.up)) c.len-number.ensures) c.requires.spelled)
 
 pub returns-clause-drafts : goal.returns-clause-drafts
@@ -36,7 +36,7 @@ returns-clause-drafts g c =
     let x = c.args.heeding.now in
     let are : c.in_ok-ended.ended.items ≡ ended_by (ended_in (over_in x) S.exchanges)
     (found_in (length S.entries) (told c.args.up)) =
-    c.in_ok-ended.ensures ∙ rw (c.deref.ensures.value, c.len-number.ensures) refl in
+    c.in_ok-ended.ensures ∙ rw (c.len-number.ensures) refl in
     leads-drafts t S (hearing_deeds c.args.peer c.args.datagram.now x (told c.args.up) S)
     c.draft_ends.new.draft
     (heard-leads t c.args.peer c.args.datagram.now x (told c.args.up) S c.in_ok-ended.ended.items
@@ -51,7 +51,7 @@ returns-clause-given g c =
     let x = c.args.heeding.now in
     let are : c.in_ok-ended.ended.items ≡ ended_by (ended_in (over_in x) S.exchanges)
     (found_in (length S.entries) (told c.args.up)) =
-    c.in_ok-ended.ensures ∙ rw (c.deref.ensures.value, c.len-number.ensures) refl in
+    c.in_ok-ended.ensures ∙ rw (c.len-number.ensures) refl in
     (heard-leads t c.args.peer c.args.datagram.now x (told c.args.up) S c.in_ok-ended.ended.items
     c.in_ok-draft.draft c.draft_ends.new.draft c.in_ok-draft.ensures.drafts
     c.in_ok-draft.ensures.answers are

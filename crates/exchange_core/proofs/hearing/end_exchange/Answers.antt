@@ -6,6 +6,6 @@ use Rattle.exchange_core.proofs.hearing.end_exchange.Goals as goal
 
 pub returns-in_default : goal.returns-in_default
 returns-in_default c =
-    sym (ap (λ (v : Option (List ℕ)). filter (is_other v) c.args.exchanges.now.items)
+    sym (ap (λ (v : Option (List ℕ)). filter (is_other v) c.args.exchanges.now.exchanges)
     (sym c.ended_token.ensures ∙ c.in_default.is)
-    ∙ all-others c.args.exchanges.now.items)
+    ∙ all-others c.args.exchanges.now.exchanges)

@@ -1,6 +1,6 @@
 use Rattle.std.proofs.Common.{sym, ◌∙◌, arith}
 use Rattle.exchange_core.specs.States.{state_of}
-use Rattle.exchange_core.proofs.Ordered.{conns-ordered, exchanges-ordered}
+use Rattle.exchange_core.proofs.Ordered.{conns-ordered}
 use Rattle.exchange_core.proofs.Heard.{next-timed}
 use Rattle.exchange_core.proofs.Heeds.{link-at, got-first, first-below, spells, bytes-small}
 use Rattle.exchange_core.proofs.HeardSteps.{sound-sealed, seen-sealed, places-left, sound-heard, seen-heard}
@@ -101,9 +101,3 @@ returns-clause-heard g c =
 
 pub draft_heard-requires-clause-conns : goal.draft_heard-requires-clause-conns
 draft_heard-requires-clause-conns g c = conns-ordered _ c.requires.sound.kept
-
-pub draft_heard-requires-clause-exchanges : goal.draft_heard-requires-clause-exchanges
-draft_heard-requires-clause-exchanges g c = exchanges-ordered _ c.requires.sound.kept.kept
-
-pub add_heard-requires-clause-ordered : goal.add_heard-requires-clause-ordered
-add_heard-requires-clause-ordered g c = exchanges-ordered _ c.requires.sound.kept.kept

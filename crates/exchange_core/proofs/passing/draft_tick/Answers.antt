@@ -57,7 +57,7 @@ draft_timeouts-requires-clause-asked g c =
     let S : State = state_of c.args.s.now in
     subst (AllByRecursion (IsOpenedIn c.args.s.now.journal.entries)) (sym c.requires.over)
     (all-filter (IsOpenedIn c.args.s.now.journal.entries) (expires c.args.moment S.links)
-    c.args.s.now.exchanges.items (all-opened S c.requires.sound.kept.kept))
+    c.args.s.now.exchanges.exchanges (all-opened S c.requires.sound.kept.kept))
 
 pub draft_timeouts-requires-clause-room : goal.draft_timeouts-requires-clause-room
 draft_timeouts-requires-clause-room g c =
@@ -121,7 +121,7 @@ returns-clause-going g c =
     c.in_ok-draft_turns.ensures.going
     ∙ going-are t S c.args.gone.now c.args.s.now.endpoints.items c.deref-2.result.now
     c.args.turns.now c.deref-2.ensures.value refl q.gone q.ready c.enter.new.self.next
-    (length S.entries + 1) c.args.still.now next
+    (length S.entries + 1) c.args.still.now.exchanges next
 
 pub new-requires : goal.new-requires
 new-requires g c = rw (c.deref.ensures.value) (conns-ordered _ c.requires.sound.kept)

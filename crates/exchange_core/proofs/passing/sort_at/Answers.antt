@@ -13,9 +13,7 @@ returns-clause-over g c =
     let t = c.args.moment in
     let S : State = state_of c.args.s.now in
     subst (λ (es : List Exchange). IfOk c.sort_by_end.result (λ (x : Sorted). x.over.items ≡ es))
-    (ap (λ (es : List Exchange). filter (is_over t (map peer_link c.deref_mut.result.now)) es)
-    c.deref.ensures.value
-    ∙ ap (λ (xs : List PeerLink). filter (is_over t xs) S.exchanges)
+    (ap (λ (xs : List PeerLink). filter (is_over t xs) S.exchanges)
     (ap (map peer_link) c.deref_mut.ensures.value)
     ∙ over-same t S c.requires.sound.kept.kept)
     c.sort_by_end.ensures.over
@@ -25,10 +23,8 @@ returns-clause-still g c =
     let t = c.args.moment in
     let S : State = state_of c.args.s.now in
     subst (λ (es : List Exchange).
-    IfOk c.sort_by_end.result (λ (x : Sorted). x.still.items ≡ es))
-    (ap (λ (es : List Exchange). filter (is_still t (map peer_link c.deref_mut.result.now)) es)
-    c.deref.ensures.value
-    ∙ ap (λ (xs : List PeerLink). filter (is_still t xs) S.exchanges)
+    IfOk c.sort_by_end.result (λ (x : Sorted). x.still.exchanges ≡ es))
+    (ap (λ (xs : List PeerLink). filter (is_still t xs) S.exchanges)
     (ap (map peer_link) c.deref_mut.ensures.value)
     ∙ still-same t S c.requires.sound.kept.kept)
     c.sort_by_end.ensures.still

@@ -3,8 +3,8 @@ use Rattle.std.proofs.lemmas.Bool.{eq-eqb}
 use Rattle.std.proofs.lemmas.List.Sorted.{IsPartitionedBy-ltb, IsPartitionPoint-from_clause}
 use Rattle.exchange_model.specs.declared.kept.Conn.{Conn}
 use Rattle.exchange_core.specs.Places.{id_of, has_id}
-use Rattle.exchange_core.proofs.Standing.{non-decreasing, none-past, none-there, only-at}
-use Rattle.exchange_core.proofs.Ordered.{id-tells, neq-eqb}
+use Rattle.exchange_table.proofs.Standing.{neq-eqb, non-decreasing, none-past, none-there, only-at}
+use Rattle.exchange_core.proofs.Ordered.{id-tells}
 use Rattle.exchange_core.proofs.places.conn_place.Goals as goal
 
 pub returns-in_err-conn-clause-none : goal.returns-in_err-conn-clause-none

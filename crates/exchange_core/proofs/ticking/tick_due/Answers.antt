@@ -126,8 +126,8 @@ returns-clause-sound g c =
     ∙ sym (c.takes.ensures t) ∙ c.if-not-takes.false in
     let is : state_of c.pass.new.s ≡ V =
     c.pass.ensures.state
-    ∙ ap (moved_on t (is_among p.gone.items) p.still.items d) (there.state ∙ same.state)
-    ∙ tick-moved t S may q.sound.drained q.due d made.leads p.gone.items p.still.items made.gone
+    ∙ ap (moved_on t (is_among p.gone.items) p.still.exchanges d) (there.state ∙ same.state)
+    ∙ tick-moved t S may q.sound.drained q.due d made.leads p.gone.items p.still.exchanges made.gone
     made.still in
     subst (λ (W : State). SoundState W c.pass.new.s.bytes c.pass.new.s.journal.room
     (given_in c.pass.new.s)) (sym is)
@@ -159,8 +159,8 @@ returns-clause-ticks g c =
     ∙ sym (c.takes.ensures t) ∙ c.if-not-takes.false in
     let is : state_of c.pass.new.s ≡ V =
     c.pass.ensures.state
-    ∙ ap (moved_on t (is_among p.gone.items) p.still.items d) (there.state ∙ same.state)
-    ∙ tick-moved t S may q.sound.drained q.due d made.leads p.gone.items p.still.items made.gone
+    ∙ ap (moved_on t (is_among p.gone.items) p.still.exchanges d) (there.state ∙ same.state)
+    ∙ tick-moved t S may q.sound.drained q.due d made.leads p.gone.items p.still.exchanges made.gone
     made.still in
     ap (λ (W : State). core_of W (given_in c.pass.new.s) (outgoing c.pass.new.s)) is
     ∙ leads-stepped t S (tick_adds t S) V d (given_in c.args.s.now) (given_in c.pass.new.s)

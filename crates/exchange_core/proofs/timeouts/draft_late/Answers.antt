@@ -15,16 +15,16 @@ draft_timeouts-requires-clause-room g c =
     let entries : length c.args.s.now.journal.entries ≤ 65536 = few.0 in
     let next : c.in_ok-draft.draft.next ≡ length c.args.s.now.journal.entries = ap
     (λ (d : DraftValue). d.next) c.in_ok-draft.ensures ∙ c.len.ensures in
-    let past : length c.deref-3.result.now ≤ 65536 = rw
-    (c.deref-3.ensures.value, c.in_ok-past.ensures, c.deref.ensures.value) few.1 in
+    let past : length c.deref-2.result.now ≤ 65536 = rw
+    (c.deref-2.ensures.value, c.in_ok-past.ensures, c.as_slice.ensures.all) few.1 in
     omega (arith, entries, next, past)
 
 pub draft_timeouts-requires-clause-asked : goal.draft_timeouts-requires-clause-asked
 draft_timeouts-requires-clause-asked g c =
-    rw (c.deref-3.ensures.value, c.in_ok-past.ensures, c.deref.ensures.value)
+    rw (c.deref-2.ensures.value, c.in_ok-past.ensures, c.as_slice.ensures.all)
     (all-filter (IsOpenedIn c.args.s.now.journal.entries) (is_past c.args.moment)
-    c.args.s.now.exchanges.items
+    c.args.s.now.exchanges.exchanges
     (all-opened (state_of c.args.s.now) c.requires.kept.kept))
 
 pub new-requires : goal.new-requires
-new-requires g c = rw (c.deref-2.ensures.value) (conns-ordered _ c.requires.kept)
+new-requires g c = rw (c.deref.ensures.value) (conns-ordered _ c.requires.kept)

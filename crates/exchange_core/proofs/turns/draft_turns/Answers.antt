@@ -1,13 +1,10 @@
-use Rattle.std.proofs.Common.{◌≡◌, ◌+◌, ◌<◌, ◌∷◌, List, length, map, take, drop, get_or, sym, ap, subst, arith}
+use Rattle.std.proofs.Common.{◌≡◌, ◌+◌, ◌<◌, ◌∷◌, length, map, take, drop, get_or, ap, subst, arith}
 use Rattle.exchange_model.specs.State.{State}
 use Rattle.exchange_model.specs.Entering.{entered_all}
 use Rattle.exchange_core.specs.declared.state.Endpoint.{Endpoint}
 use Rattle.exchange_core.specs.Leads.{Leads}
-use Rattle.exchange_model.specs.declared.kept.Exchange.{Exchange}
-use Rattle.exchange_core.specs.Places.{RiseBy, number_of}
 use Rattle.exchange_core.specs.States.{peer_link}
-use Rattle.exchange_core.specs.Turns.{AreTimed, deeds_of, going_of, turns_deeds}
-use Rattle.exchange_core.proofs.Ordered.{rise-sent}
+use Rattle.exchange_core.specs.Turns.{AreTimed, deeds_of, turns_deeds}
 use Rattle.exchange_core.proofs.TickDue.{drop-at}
 use Rattle.exchange_core.proofs.TickTurns.{room-step, going-step, turns-take, entered-two}
 use Rattle.exchange_core.proofs.turns.draft_turns.Goals as goal
@@ -30,8 +27,6 @@ each-preserved g c =
     let e = c.in_ok-draft_turn.ensures in
     let timed : AreTimed (k ∷ drop (i + 1) ks) = subst AreTimed left c.each.invariant.timed in
     record {
-      ordered = subst (λ (es : List Exchange). RiseBy number_of es) (sym e.going)
-          (rise-sent (going_of c.each.draft.next k) c.each.going c.each.invariant.ordered);
       timed = timed.1;
       room = room-step c.each.draft.next c.draft_turn.new.draft.next (peer_link x) k
           (map peer_link (drop (i + 1) xs)) (map peer_link (drop i xs)) (drop (i + 1) ks)
@@ -47,5 +42,5 @@ each-preserved g c =
       going = going-step c.each.draft.next c.draft_turn.new.draft.next (peer_link x) k
           (map peer_link (drop (i + 1) xs)) (map peer_link (drop i xs)) (drop (i + 1) ks)
           (drop i ks) links left e.next
-          c.each.going c.draft_turn.new.going _ e.going c.each.invariant.going;
+          c.each.going.exchanges c.draft_turn.new.going.exchanges _ e.going c.each.invariant.going;
     }

@@ -2,7 +2,7 @@ use Rattle.std.proofs.Common.{◌≡◌, ◌++◌, map, drop}
 use Rattle.std.specs.Prelude.{filter}
 use Rattle.exchange_core.specs.Expiring.{is_over, is_still}
 use Rattle.exchange_core.specs.States.{peer_link}
-use Rattle.exchange_core.proofs.expiring.sort_exchanges.Given as goal
+use Rattle.exchange_core.proofs.expiring.sort_rows.Given as goal
 
 abbrev pub invariant-each : goal.invariant-each
 invariant-each l = record {

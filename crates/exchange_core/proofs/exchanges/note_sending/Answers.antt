@@ -1,9 +1,0 @@
-use Rattle.std.proofs.Common.{refl, sym}
-use Rattle.exchange_core.proofs.Ordered.{out-only, out-nowhere}
-use Rattle.exchange_core.proofs.exchanges.note_sending.Goals as goal
-
-pub returns-in-Some : goal.returns-in-Some
-returns-in-Some c = sym (out-only c.args.token.now c.args.number c.args.exchanges.now c.in-Some.place _ c.in-Some.ensures.some)
-
-pub returns-in_default : goal.returns-in_default
-returns-in_default c = sym (out-nowhere c.args.token.now c.args.number c.args.exchanges.now (c.in_default.ensures.none refl))

@@ -1,0 +1,404 @@
+-- What an index knows of its exchanges, and that it stays one.
+use Rattle.std.proofs.Common.{◌≡◌, ◌≢◌, ℕ, zero, suc, ◌<◌, Bool, true, false, not, cond, eqb, List, [], ◌∷◌, ◌++◌, length, map, get_or, Option, Some, None, option_map, inl, inr, refl, sym, ap, subst, ◌∙◌, ◌&&◌, ◌||◌, arith}
+use Rattle.std.specs.Prelude.{filter, is_some, IfSome}
+use Rattle.std.specs.List.{AllByRecursion, find, list_any}
+use Rattle.std.proofs.Math.ListN.{set}
+use Rattle.std.proofs.lemmas.Bool.{cases_Bool, eqb-true, eq-eqb, false≢true}
+use Rattle.std.proofs.lemmas.Bool.Decides.{eqb_tells}
+use Rattle.std.proofs.lemmas.Slice.Eq.{bytes_eq-Decides}
+use Rattle.history_laws.specs.Numbering.{token_number}
+use Rattle.history_links.proofs.Facts.{all-more, all-filter, all-push}
+use Rattle.exchange_model.specs.declared.kept.Exchange.{Exchange}
+use Rattle.exchange_model.specs.Steps.{is_other, is_under, went_out}
+use Rattle.exchange_table.specs.declared.index.Named.{Named}
+use Rattle.exchange_table.specs.Places.{RiseBy, IsNowhere, IsOnlyAt}
+use Rattle.exchange_table.specs.Tables.{IsIndexed, IsLatest, has_number, is_named, is_opened_at, is_opened_in, name_of, opening_in, opening_under, number_in, number_of, opening_of}
+use Rattle.exchange_table.proofs.Standing.{all-at, map-none, map-only, any-none, any-only, only-is, rise-filter, rise-map}
+
+-- lists
+
+some-is : {X : Type 0} (a b : X) → Some a ≡ Some b → a ≡ b
+some-is a b e = ap (by a) e
+  where
+    by : {X : Type 0} → X → Option X → X
+    by d None = d
+    by d (Some x) = x
+
+none-some : {X : Type 0} (a : X) → None ≡ Some a → ⊥
+none-some a e = subst by e tt
+  where
+    by : {X : Type 0} → Option X → Type 0
+    by None = Unit {0}
+    by (Some x) = ⊥
+
+each-so : {X : Type 0} {P : X → Type 0} (Q : X → Type 0) (xs : List X) → AllByRecursion P xs → ((x : X) → P x → Q x) → AllByRecursion Q xs
+each-so {P = P} Q xs a more = all-more P Q more xs a
+
+both-hold : {X : Type 0} (P Q : X → Type 0) (xs : List X) → AllByRecursion P xs → AllByRecursion Q xs → AllByRecursion (λ x. P x × Q x) xs
+both-hold P Q [] p q = tt
+both-hold P Q (x ∷ xs) p q = ((p.0, q.0), both-hold P Q xs p.1 q.1)
+
+filter-if : {X : Type 0} (P : X → Type 0) (q : X → Bool) (xs : List X) → AllByRecursion (λ x. q x ≡ true → P x) xs → AllByRecursion P (filter q xs)
+filter-if P q [] a = tt
+filter-if {X = X} P q (x ∷ xs) a = by (q x) refl (filter-if P q xs a.1)
+  where
+    by : (b : Bool) → q x ≡ b → AllByRecursion P (filter q xs) → AllByRecursion P (cond b (x ∷ filter q xs) (filter q xs))
+    by true is h = (a.0 is, h)
+    by false is h = h
+
+map-all : {X Y : Type 0} (P : Y → Type 0) (f : X → Y) (xs : List X) → AllByRecursion (λ x. P (f x)) xs → AllByRecursion P (map f xs)
+map-all P f [] a = tt
+map-all P f (x ∷ xs) a = (a.0, map-all P f xs a.1)
+
+pub length-map : {X Y : Type 0} (f : X → Y) (xs : List X) → length (map f xs) ≡ length xs
+length-map f [] = refl
+length-map f (x ∷ xs) = ap suc (length-map f xs)
+
+find-filter : {X : Type 0} (p q : X → Bool) (xs : List X) (y : X) → find p xs ≡ Some y → q y ≡ true → find p (filter q xs) ≡ Some y
+find-filter p q [] y e h = e
+find-filter {X = X} p q (x ∷ xs) y e h = by (p x) (q x) refl refl e (λ f. find-filter p q xs y f h)
+  where
+    by : (b c : Bool) → p x ≡ b → q x ≡ c → cond b (Some x) (find p xs) ≡ Some y
+        → (find p xs ≡ Some y → find p (filter q xs) ≡ Some y) → find p (cond c (x ∷ filter q xs) (filter q xs)) ≡ Some y
+    by true true is keeps e f = rw is e
+    by true false is keeps e f = absurd (false≢true (sym keeps ∙ ap q (some-is x y e) ∙ h))
+    by false true is keeps e f = rw is (f e)
+    by false false is keeps e f = f e
+
+or-first : (b c : Bool) → b ≡ true → (b || c) ≡ true
+or-first true c e = refl
+or-first false c e = absurd (false≢true e)
+
+or-second : (b c : Bool) → c ≡ true → (b || c) ≡ true
+or-second true c e = refl
+or-second false c e = e
+
+any-if : {X : Type 0} (p q : X → Bool) (xs : List X) → AllByRecursion (λ x. p x ≡ true → q x ≡ true) xs → list_any p xs ≡ true → list_any q xs ≡ true
+any-if p q [] a e = e
+any-if {X = X} p q (x ∷ xs) a e = by (p x) refl e (any-if p q xs a.1)
+  where
+    by : (b : Bool) → p x ≡ b → (b || list_any p xs) ≡ true → (list_any p xs ≡ true → list_any q xs ≡ true) → (q x || list_any q xs) ≡ true
+    by true is h f = or-first (q x) (list_any q xs) (a.0 is)
+    by false is h f = or-second (q x) (list_any q xs) (f h)
+
+any-filter : {X : Type 0} (p q : X → Bool) (xs : List X) → AllByRecursion (λ x. p x ≡ true → q x ≡ true) xs → list_any p xs ≡ true → list_any p (filter q xs) ≡ true
+any-filter p q [] a e = e
+any-filter {X = X} p q (x ∷ xs) a e = by (p x) (q x) refl refl e (any-filter p q xs a.1)
+  where
+    by : (b c : Bool) → p x ≡ b → q x ≡ c → (b || list_any p xs) ≡ true → (list_any p xs ≡ true → list_any p (filter q xs) ≡ true)
+        → list_any p (cond c (x ∷ filter q xs) (filter q xs)) ≡ true
+    by true true is keeps h f = or-first (p x) (list_any p (filter q xs)) is
+    by true false is keeps h f = absurd (false≢true (sym keeps ∙ a.0 is))
+    by false true is keeps h f = or-second (p x) (list_any p (filter q xs)) (f h)
+    by false false is keeps h f = f h
+
+any-map : {X : Type 0} (p : X → Bool) (f : X → X) (xs : List X) → ((x : X) → p x ≡ p (f x)) → list_any p xs ≡ true → list_any p (map f xs) ≡ true
+any-map p f [] same e = e
+any-map p f (x ∷ xs) same e = by (p x) (same x) e (any-map p f xs same)
+  where
+    by : (b : Bool) → b ≡ p (f x) → (b || list_any p xs) ≡ true → (list_any p xs ≡ true → list_any p (map f xs) ≡ true) → (p (f x) || list_any p (map f xs)) ≡ true
+    by true is h g = or-first (p (f x)) (list_any p (map f xs)) (sym is)
+    by false is h g = or-second (p (f x)) (list_any p (map f xs)) (g h)
+
+any-push : {X : Type 0} (p : X → Bool) (xs : List X) (y : X) → list_any p xs ≡ true → list_any p (xs ++ y ∷ []) ≡ true
+any-push p [] y e = absurd (false≢true e)
+any-push p (x ∷ xs) y e = by (p x) e (any-push p xs y)
+  where
+    by : (b : Bool) → (b || list_any p xs) ≡ true → (list_any p xs ≡ true → list_any p (xs ++ y ∷ []) ≡ true) → (b || list_any p (xs ++ y ∷ [])) ≡ true
+    by true h f = refl
+    by false h f = f h
+
+any-last : {X : Type 0} (p : X → Bool) (xs : List X) (y : X) → p y ≡ true → list_any p (xs ++ y ∷ []) ≡ true
+any-last p [] y e = or-first (p y) false e
+any-last p (x ∷ xs) y e = or-second (p x) (list_any p (xs ++ y ∷ [])) (any-last p xs y e)
+
+find-push : {X : Type 0} (p : X → Bool) (xs : List X) (x y : X) → find p xs ≡ Some x → find p (xs ++ y ∷ []) ≡ Some x
+find-push p [] x y e = absurd (none-some x e)
+find-push p (z ∷ zs) x y e = by (p z) e (find-push p zs x y)
+  where
+    by : (b : Bool) → cond b (Some z) (find p zs) ≡ Some x → (find p zs ≡ Some x → find p (zs ++ y ∷ []) ≡ Some x) → cond b (Some z) (find p (zs ++ y ∷ [])) ≡ Some x
+    by true h f = h
+    by false h f = f h
+
+find-last : {X : Type 0} (p : X → Bool) (xs : List X) (y : X) → IsNowhere p xs → p y ≡ true → find p (xs ++ y ∷ []) ≡ Some y
+find-last p [] y none e = rw e refl
+find-last p (x ∷ xs) y none e = rw none.0 (find-last p xs y none.1 e)
+
+pub rise-push : {X : Type 0} (n : X → ℕ) (xs : List X) (y : X) → RiseBy n xs → AllByRecursion (λ x. n x < n y) xs → RiseBy n (xs ++ y ∷ [])
+rise-push n [] y r above = (tt, tt)
+rise-push n (x ∷ xs) y r above = (all-push (λ z. n x < n z) xs y r.0 above.0, rise-push n xs y r.1 above.1)
+
+same-as : (a b : ℕ) → a ≡ b → eqb a b ≡ true
+same-as a b e = eq-eqb a b e
+
+-- Under a token stands what bears its number.
+under-number : (token : List ℕ) (e : Exchange) → is_under token e ≡ true → number_of e ≡ token_number token
+under-number token e h = ap token_number ((bytes_eq-Decides e.token token).0 h)
+
+named-number : (x : Named) (e : Exchange) → is_named x e ≡ true → number_of e ≡ x.number
+named-number x e h = by (is_opened_at x.opening e) h
+  where
+    by : (b : Bool) → (b && eqb (number_of e) x.number) ≡ true → number_of e ≡ x.number
+    by true k = eqb-true (number_of e) x.number k
+    by false k = absurd (false≢true k)
+
+named-opening : (x : Named) (e : Exchange) → is_named x e ≡ true → e.opening ≡ x.opening
+named-opening x e h = by (is_opened_at x.opening e) refl h
+  where
+    by : (b : Bool) → is_opened_at x.opening e ≡ b → (b && eqb (number_of e) x.number) ≡ true → e.opening ≡ x.opening
+    by true is k = eqb-true e.opening x.opening is
+    by false is k = absurd (false≢true k)
+
+names-it : (e : Exchange) → is_named (name_of e) e ≡ true
+names-it e = rw (same-as e.opening e.opening refl) (same-as (number_of e) (number_of e) refl)
+
+-- Whatever passes a test that tells an opening is the one that was opened there.
+
+abbrev pub Tells-opening : (Exchange → Bool) → ℕ → List Exchange → Type 0
+Tells-opening q o es = AllByRecursion (λ (e : Exchange). q e ≡ true → e.opening ≡ o) es
+
+not-opened : (q : Exchange → Bool) (o : ℕ) (e : Exchange) → (q e ≡ true → e.opening ≡ o) → is_opened_at o e ≡ false → q e ≡ false
+not-opened q o e tells other = elim (cases_Bool (q e)) [ inl h ↦ absurd (false≢true (sym other ∙ same-as e.opening o (tells h))) | inr h ↦ h ]
+
+pub none-opened : (q : Exchange → Bool) (o : ℕ) (es : List Exchange) → Tells-opening q o es → IsNowhere (is_opened_at o) es → IsNowhere q es
+none-opened q o [] tells none = tt
+none-opened q o (e ∷ es) tells none = (not-opened q o e tells.0 none.0, none-opened q o es tells.1 none.1)
+
+pub only-opened : (q : Exchange → Bool) (o : ℕ) (es : List Exchange) (i : ℕ) (d : Exchange) → Tells-opening q o es → IsOnlyAt (is_opened_at o) es i
+    → q (get_or es i d) ≡ true → IsOnlyAt q es i
+only-opened q o [] i d tells only so = absurd only
+only-opened q o (e ∷ es) zero d tells only so = (so, none-opened q o es tells.1 only.1)
+only-opened q o (e ∷ es) (suc i) d tells only so = (not-opened q o e tells.0 only.0, only-opened q o es i d tells.1 only.1 so)
+
+pub other-opened : (q : Exchange → Bool) (o : ℕ) (es : List Exchange) (i : ℕ) (d : Exchange) → Tells-opening q o es → IsOnlyAt (is_opened_at o) es i
+    → q (get_or es i d) ≡ false → IsNowhere q es
+other-opened q o [] i d tells only so = absurd only
+other-opened q o (e ∷ es) zero d tells only so = (so, none-opened q o es tells.1 only.1)
+other-opened q o (e ∷ es) (suc i) d tells only so = (not-opened q o e tells.0 only.0, other-opened q o es i d tells.1 only.1 so)
+
+pub opened-any : (o : ℕ) (es : List Exchange) (found : Option ℕ) → IfSome found (IsOnlyAt (is_opened_at o) es) → (found ≡ None → IsNowhere (is_opened_at o) es)
+    → is_some found ≡ list_any (is_opened_at o) es
+opened-any o es None some none = sym (any-none (is_opened_at o) (is_opened_at o) es (λ x h. h) (none refl))
+opened-any o [] (Some i) some none = absurd some
+opened-any o (e ∷ es) (Some i) some none = sym (any-only (is_opened_at o) (is_opened_at o) (e ∷ es) i e (λ x h. h) some ∙ only-is (is_opened_at o) (e ∷ es) i e some)
+
+-- An index tells where what is under a token was opened.
+
+abbrev Found : List Named → Exchange → Type 0
+Found names e = find (has_number (number_of e)) names ≡ Some (name_of e)
+
+named-at : (es : List Exchange) (names : List Named) (token : List ℕ) (e : Exchange) → find (has_number (number_of e)) names ≡ Some (name_of e) → is_under token e ≡ true
+    → opening_under (token_number token) names ≡ Some e.opening
+named-at es names token e found under = ap (λ n. opening_under n names) (sym (under-number token e under)) ∙ ap (option_map opening_in) found
+
+pub under-tells : (es : List Exchange) (names : List Named) (token : List ℕ) (o : ℕ) → IsIndexed es names
+    → Some o ≡ opening_under (token_number token) names → Tells-opening (is_under token) o es
+under-tells es names token o indexed is =
+    each-so (λ (e : Exchange). is_under token e ≡ true → e.opening ≡ o) es indexed.each
+    (λ (e : Exchange) (found : Found names e) (under : is_under token e ≡ true). some-is e.opening o (sym (named-at es names token e found under) ∙ sym is))
+
+pub under-none : (es : List Exchange) (names : List Named) (token : List ℕ) → IsIndexed es names
+    → None ≡ opening_under (token_number token) names → IsNowhere (is_under token) es
+under-none es names token indexed none =
+    each-so (λ (e : Exchange). is_under token e ≡ false) es indexed.each (λ (e : Exchange) (found : Found names e). elim (cases_Bool (is_under token e)) [
+      | inl under ↦ absurd (none-some e.opening (none ∙ named-at es names token e found under))
+      | inr h ↦ h
+    ])
+
+-- one more
+
+number-below : (n : ℕ) (x : Named) (fs : List Exchange) → AllByRecursion (λ (f : Exchange). number_of f < n) fs → list_any (is_named x) fs ≡ true → x.number < n
+number-below n x [] a h = absurd (false≢true h)
+number-below n x (f ∷ fs) a h = by (is_named x f) refl h (number-below n x fs a.1)
+  where
+    by : (b : Bool) → is_named x f ≡ b → (b || list_any (is_named x) fs) ≡ true → (list_any (is_named x) fs ≡ true → x.number < n) → x.number < n
+    by true is k g = let same = named-number x f is in let lt = a.0 in omega (arith, same, lt)
+    by false is k g = g k
+
+pub index-push : (es : List Exchange) (names : List Named) (e : Exchange) → IsIndexed es names → IsLatest e es
+    → IsIndexed (es ++ e ∷ []) (names ++ name_of e ∷ [])
+index-push es names e indexed latest = record {
+  openings = rise-push opening_of es e indexed.openings latest.opening;
+  numbers = rise-push number_in names (name_of e) indexed.numbers (lower names indexed.none_beside);
+  each = all-push _ es e
+      (all-more _ _ (λ (f : Exchange) found. find-push (has_number (number_of f)) names (name_of f) (name_of e) found) es indexed.each)
+      (find-last (has_number (number_of e)) names (name_of e) (nowhere names (lower names indexed.none_beside)) (same-as (number_of e) (number_of e) refl));
+  none_beside = all-push _ names (name_of e)
+      (all-more _ _ (λ (x : Named) named. any-push (is_named x) es e named) names indexed.none_beside)
+      (any-last (is_named (name_of e)) es e (names-it e));
+}
+  where
+    lower : (xs : List Named) → AllByRecursion (λ (x : Named). list_any (is_named x) es ≡ true) xs → AllByRecursion (λ (x : Named). number_in x < number_in (name_of e)) xs
+    lower xs a = all-more _ _ (λ (x : Named) h. number-below (number_of e) x es latest.token h) xs a
+
+    nowhere : (xs : List Named) → AllByRecursion (λ (x : Named). number_in x < number_in (name_of e)) xs → IsNowhere (has_number (number_of e)) xs
+    nowhere xs a = all-more _ _ (λ (x : Named) lt. elim (eqb_tells x.number (number_of e)) [ inl w ↦ absurd (let same = w.1 in omega (arith, same, lt)) | inr w ↦ w.0 ]) xs a
+
+-- the same ones, changed otherwise than by token and opening
+
+pub index-map : (f : Exchange → Exchange) (es : List Exchange) (names : List Named) → ((e : Exchange) → name_of (f e) ≡ name_of e) → IsIndexed es names
+    → IsIndexed (map f es) names
+index-map f es names same indexed = record {
+  openings = rise-map opening_of f es (λ e. ap (λ (x : Named). x.opening) (same e)) indexed.openings;
+  numbers = indexed.numbers;
+  each = map-all _ f es (all-more _ _ (λ (e : Exchange) found.
+      ap (λ n. find (has_number n) names) (ap (λ (x : Named). x.number) (same e)) ∙ found ∙ ap Some (sym (same e))) es indexed.each);
+  none_beside = all-more _ _ (λ (x : Named) named.
+      any-map (is_named x) f es (λ e. ap (λ (y : Named). eqb y.opening x.opening && eqb y.number x.number) (sym (same e))) named) names indexed.none_beside;
+}
+
+other-out : (token : List ℕ) (i : ℕ) (e : Exchange) → is_under token e ≡ false → went_out token i e ≡ e
+other-out token i e h = rw h refl
+
+pub out-nowhere : (token : List ℕ) (n : ℕ) (es : List Exchange) → IsNowhere (is_under token) es → map (went_out token n) es ≡ es
+out-nowhere token n es h = map-none (is_under token) (went_out token n) es (other-out token n) h
+
+pub out-only : (token : List ℕ) (n : ℕ) (es : List Exchange) (i : ℕ) (d : Exchange) → IsOnlyAt (is_under token) es i → map (went_out token n) es ≡ set es i (record (get_or es i d) { sending = Some n })
+out-only token n es i d h = map-only (is_under token) (went_out token n) es i d (other-out token n) h
+    ∙ ap (set es i) (ap (λ (b : Bool). cond b (record (get_or es i d) { sending = Some n }) (get_or es i d)) (only-is (is_under token) es i d h))
+
+pub out-names : (token : List ℕ) (i : ℕ) (e : Exchange) → name_of (went_out token i e) ≡ name_of e
+out-names token i e = by (is_under token e)
+  where
+    by : (b : Bool) → name_of (cond b (record e { sending = Some i }) e) ≡ name_of e
+    by true = refl
+    by false = refl
+
+-- one less
+
+others-apart : (q : Exchange → Bool) (es : List Exchange) (i : ℕ) (d : Exchange) → RiseBy opening_of es → IsOnlyAt q es i → i < length es
+    → AllByRecursion (λ (e : Exchange). q e ≡ false → e.opening ≢ (get_or es i d).opening) es
+others-apart q [] i d rise only lt = tt
+others-apart q (e ∷ es) zero d rise only lt = (
+  λ other is. absurd (false≢true (sym other ∙ only.0)),
+  all-more (λ (f : Exchange). e.opening < f.opening) (λ (f : Exchange). q f ≡ false → f.opening ≢ e.opening) (λ (f : Exchange) less other is. absurd (omega (arith, less, is))) es rise.0,
+)
+others-apart q (e ∷ es) (suc i) d rise only lt =
+    let inside : i < length es = omega (arith, lt) in
+    let less : e.opening < (get_or es i d).opening = all-at (λ (f : Exchange). e.opening < f.opening) es i d rise.0 inside in
+    (λ other is. absurd (omega (arith, less, is)), others-apart q es i d rise.1 only.1 inside)
+
+pub index-remove : (es : List Exchange) (names : List Named) (token : List ℕ) (i : ℕ) (d : Exchange) → IsIndexed es names → IsOnlyAt (is_under token) es i → i < length es
+    → IsIndexed (filter (is_other (Some token)) es) (filter (λ x. not (has_number (token_number token) x)) names)
+index-remove es names token i d indexed only lt = record {
+  openings = rise-filter opening_of (is_other (Some token)) es indexed.openings;
+  numbers = rise-filter number_in (λ (x : Named). not (has_number n x)) names indexed.numbers;
+  each = filter-if (Found left) (is_other (Some token)) es (each-so (λ (e : Exchange). is_other (Some token) e ≡ true → Found left e) es
+      (both-hold (Found names) (λ (e : Exchange). is_under token e ≡ false → e.opening ≢ r.opening) es indexed.each (others-apart (is_under token) es i d indexed.openings only lt))
+      (λ (e : Exchange) (both : Found names e × (is_under token e ≡ false → e.opening ≢ r.opening)) (other : is_other (Some token) e ≡ true).
+      find-filter (has_number (number_of e)) (λ (x : Named). not (has_number n x)) names (name_of e) both.0 (unequal (number_of e) (apart e both.0 (both.1 (is-not e other))))));
+  none_beside = filter-if (λ (x : Named). list_any (is_named x) some ≡ true) (λ (x : Named). not (has_number n x)) names
+      (each-so (λ (x : Named). not (has_number n x) ≡ true → list_any (is_named x) some ≡ true) names indexed.none_beside
+      (λ (x : Named) (named : list_any (is_named x) es ≡ true) (other : not (has_number n x) ≡ true).
+      any-filter (is_named x) (is_other (Some token)) es (all-of {P = λ (e : Exchange). is_named x e ≡ true → is_other (Some token) e ≡ true} es
+      (λ (e : Exchange) (is : is_named x e ≡ true). not-under e (λ same. eqb-not x.number n other (sym (named-number x e is) ∙ same)))) named));
+}
+  where
+    left : List Named
+    left = filter (λ (x : Named). not (has_number (token_number token) x)) names
+
+    some : List Exchange
+    some = filter (is_other (Some token)) es
+
+    n : ℕ
+    n = token_number token
+
+    r : Exchange
+    r = get_or es i d
+
+    under : is_under token r ≡ true
+    under = only-is (is_under token) es i d only
+
+    found : find (has_number n) names ≡ Some (name_of r)
+    found = ap (λ m. find (has_number m) names) (sym (under-number token r under)) ∙ all-at (λ (e : Exchange). find (has_number (number_of e)) names ≡ Some (name_of e)) es i d indexed.each lt
+
+    is-not : (e : Exchange) → is_other (Some token) e ≡ true → is_under token e ≡ false
+    is-not e h = by (is_under token e) h
+      where
+        by : (b : Bool) → not b ≡ true → b ≡ false
+        by true k = absurd (false≢true k)
+        by false k = refl
+
+    not-under : (e : Exchange) → number_of e ≢ n → is_other (Some token) e ≡ true
+    not-under e differs = by (is_under token e) refl
+      where
+        by : (b : Bool) → is_under token e ≡ b → not b ≡ true
+        by true is = absurd (differs (under-number token e is))
+        by false is = refl
+
+    apart : (e : Exchange) → find (has_number (number_of e)) names ≡ Some (name_of e) → e.opening ≢ r.opening → number_of e ≢ n
+    apart e at other same = other (ap (λ (x : Named). x.opening) (some-is (name_of e) (name_of r) (sym at ∙ ap (λ m. find (has_number m) names) same ∙ found)))
+
+    unequal : (m : ℕ) → m ≢ n → not (eqb m n) ≡ true
+    unequal m differs = elim (eqb_tells m n) [ inl w ↦ absurd (differs w.1) | inr w ↦ ap not w.0 ]
+
+    eqb-not : (a b : ℕ) → not (eqb a b) ≡ true → a ≢ b
+    eqb-not a b h e = false≢true (sym (ap not (same-as a b e)) ∙ h)
+
+    all-of : {X : Type 0} {P : X → Type 0} (xs : List X) → ((x : X) → P x) → AllByRecursion P xs
+    all-of [] f = tt
+    all-of (x ∷ xs) f = (f x, all-of xs f)
+
+-- some of them
+
+opened-among : (q : Exchange → Bool) (es : List Exchange) (o n : ℕ) → list_any q es ≡ true → AllByRecursion (λ (e : Exchange). n < e.opening) es
+    → ((e : Exchange) → q e ≡ true → e.opening ≡ o) → n < o
+opened-among q [] o n h above tells = absurd (false≢true h)
+opened-among q (e ∷ es) o n h above tells = by (q e) refl h (λ k. opened-among q es o n k above.1 tells)
+  where
+    by : (b : Bool) → q e ≡ b → (b || list_any q es) ≡ true → (list_any q es ≡ true → n < o) → n < o
+    by true is k f = let same = tells e is in let lt = above.0 in omega (arith, same, lt)
+    by false is k f = f k
+
+-- Of what was opened in one entry there is one.
+one-opened : (x : Named) (es : List Exchange) → RiseBy opening_of es → list_any (is_named x) es ≡ true
+    → AllByRecursion (λ (e : Exchange). is_opened_at x.opening e ≡ true → is_named x e ≡ true) es
+one-opened x [] rise h = tt
+one-opened x (e ∷ es) rise h = by (is_named x e) refl h (one-opened x es rise.1)
+  where
+    Ones : List Exchange → Type 0
+    Ones fs = AllByRecursion (λ (f : Exchange). is_opened_at x.opening f ≡ true → is_named x f ≡ true) fs
+
+    by : (b : Bool) → is_named x e ≡ b → (b || list_any (is_named x) es) ≡ true → (list_any (is_named x) es ≡ true → Ones es) → Ones (e ∷ es)
+    by true is k g = (
+      λ at. is,
+      all-more (λ (f : Exchange). e.opening < f.opening) (λ (f : Exchange). is_opened_at x.opening f ≡ true → is_named x f ≡ true) (λ (f : Exchange) less at. absurd (let here = named-opening x e is in let there = eqb-true f.opening x.opening at in omega (arith, less, here, there))) es rise.0,
+    )
+    by false is k g = (
+      λ at. absurd (let here = eqb-true e.opening x.opening at in let lt : e.opening < x.opening = opened-among (is_named x) es x.opening e.opening k rise.0 (named-opening x) in omega (arith, here, lt)),
+      g k,
+    )
+
+each-opened : (es : List Exchange) → AllByRecursion (λ (e : Exchange). is_opened_in es (name_of e) ≡ true) es
+each-opened [] = tt
+each-opened (e ∷ es) = (
+  or-first (is_opened_at e.opening e) (list_any (is_opened_at e.opening) es) (same-as e.opening e.opening refl),
+  all-more _ _ (λ (f : Exchange) h. or-second (is_opened_at f.opening e) (list_any (is_opened_at f.opening) es) h) es (each-opened es),
+)
+
+pub index-part : (keeps : Exchange → Bool) (es : List Exchange) (names : List Named) → IsIndexed es names
+    → IsIndexed (filter keeps es) (filter (is_opened_in (filter keeps es)) names)
+index-part keeps es names indexed = record {
+  openings = rise-filter opening_of keeps es indexed.openings;
+  numbers = rise-filter number_in (is_opened_in some) names indexed.numbers;
+  each = all-more (λ (e : Exchange). (find (has_number (number_of e)) names ≡ Some (name_of e)) × (is_opened_in some (name_of e) ≡ true))
+      (λ (e : Exchange). find (has_number (number_of e)) (filter (is_opened_in some) names) ≡ Some (name_of e))
+      (λ (e : Exchange) both. find-filter (has_number (number_of e)) (is_opened_in some) names (name_of e) both.0 both.1)
+      some (both-hold (λ (e : Exchange). find (has_number (number_of e)) names ≡ Some (name_of e)) (λ (e : Exchange). is_opened_in some (name_of e) ≡ true) some
+      (all-filter (λ (e : Exchange). find (has_number (number_of e)) names ≡ Some (name_of e)) keeps es indexed.each) (each-opened some));
+  none_beside = filter-if (λ (x : Named). list_any (is_named x) some ≡ true) (is_opened_in some) names
+      (each-so (λ (x : Named). is_opened_in some x ≡ true → list_any (is_named x) some ≡ true) names indexed.none_beside
+      (λ (x : Named) (named : list_any (is_named x) es ≡ true) (opened : is_opened_in some x ≡ true).
+      any-if (is_opened_at x.opening) (is_named x) some
+      (all-filter (λ (e : Exchange). is_opened_at x.opening e ≡ true → is_named x e ≡ true) keeps es (one-opened x es indexed.openings named)) opened));
+}
+  where
+    some : List Exchange
+    some = filter keeps es
+
+pub rows-part : (keeps : Exchange → Bool) (es : List Exchange) (names : List Named) (rows : List Exchange) (named : List Named) → IsIndexed es names
+    → rows ≡ filter keeps es → named ≡ filter (is_opened_in rows) names → IsIndexed rows named
+rows-part keeps es names rows named indexed is are = rw (are, is) (index-part keeps es names indexed)
+
+pub index-none : IsIndexed [] []
+index-none = record { openings = tt; numbers = tt; each = tt; none_beside = tt }

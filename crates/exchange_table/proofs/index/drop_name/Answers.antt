@@ -1,0 +1,21 @@
+use Rattle.std.proofs.Common.{refl, sym, ◌∙◌, arith}
+use Rattle.exchange_table.specs.Places.{IsOnlyAt, IsNowhere}
+use Rattle.exchange_table.specs.Tables.{has_number}
+use Rattle.exchange_table.proofs.Standing.{filter-only, filter-none}
+use Rattle.exchange_table.proofs.index.drop_name.Goals as goal
+
+pub remove-requires : goal.remove-requires
+remove-requires c =
+    let below = c.in-Some.ensures.below in
+    let len = c.as_slice.ensures.len in
+    omega (arith, below, len)
+
+pub returns-in-Some : goal.returns-in-Some
+returns-in-Some c =
+    let at : IsOnlyAt (has_number c.args.number) c.args.names.now.items c.in-Some.place = rw (c.as_slice.ensures.value) at c.in-Some.ensures.some in
+    c.remove.ensures.items ∙ sym (filter-only (has_number c.args.number) c.args.names.now.items c.in-Some.place at)
+
+pub returns-in_default : goal.returns-in_default
+returns-in_default c =
+    let none : IsNowhere (has_number c.args.number) c.args.names.now.items = rw (c.as_slice.ensures.value) at (c.in_default.ensures.none refl) in
+    sym (filter-none (has_number c.args.number) c.args.names.now.items none)

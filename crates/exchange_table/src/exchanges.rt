@@ -1,0 +1,132 @@
+//! The table of open exchanges.
+
+ghost use Rattle.std.specs.Prelude.{◌≡◌, ◌∷◌, ◌++◌, [], Bool, Some, true, filter, find, length, map, IfOk, OnOk};
+ghost use Rattle.std.specs.Option.{option_copied};
+ghost use Rattle.exchange_model.specs.declared.kept.Exchange.{Exchange as Row};
+ghost use Rattle.exchange_model.specs.Steps.{is_other, is_under, went_out};
+ghost use Rattle.exchange_table.specs.Tables.{IsIndexed, IsLatest, is_opened_at};
+
+use crate::index::{self, Named};
+use crate::rows;
+use coap_codec::Token;
+use exchange_model::Exchange;
+use std::alloc::{AllocError, Global};
+use std::marker::Model;
+
+/// The open exchanges, in the order of their openings.
+#[derive(Drop)]
+pub struct Exchanges {
+    rows: Vec<Exchange>,
+    /// the same ones, in the order in which the tokens of their latest messages were issued
+    names: Vec<Named>,
+}
+
+impl Model for Exchanges {
+    ghost use Rattle.std.specs.Prelude.{vec_capacity, vec_len};
+    ghost use Rattle.exchange_table.specs.Tables.{IsIndexed, TableValue, has_room};
+
+    ghost Value = { TableValue };
+
+    ghost view = { λ t. record {
+      exchanges = t.rows.items;
+      room = has_room (vec_len t.rows) (vec_capacity t.rows)
+          (vec_len t.names) (vec_capacity t.names);
+    } };
+
+    ghost invariant = { λ t. IsIndexed t.rows.items t.names.items };
+}
+
+impl Exchanges {
+    ghost use Rattle.exchange_table.specs.Places.{RiseBy};
+    ghost use Rattle.exchange_table.specs.Tables.{opening_of};
+
+    /// No exchange is open.
+    pub fn new(alloc: Global) -> Exchanges
+        ensures { result.exchanges ≡ [] }
+    {
+        Exchanges {
+            rows: Vec::new(alloc),
+            names: Vec::new(alloc),
+        }
+    }
+
+    /// All of them, in the order of their openings.
+    pub fn as_slice(&self) -> &[Exchange]
+        ensures all { result.now ≡ self.now.exchanges }
+        ensures ordered { RiseBy opening_of self.now.exchanges }
+    {
+        &self.rows
+    }
+
+    /// The exchange whose latest message goes under the token.
+    pub fn find(&self, token: &Token) -> Option<&Exchange>
+        ensures { option_copied result ≡ find (is_under token.now) self.now.exchanges }
+    {
+        rows::row_under(&self.rows, &self.names, token)
+    }
+
+    /// The exchange that the entry with this number opened.
+    pub fn at(&self, opening: u32) -> Option<&Exchange>
+        ensures { option_copied result ≡ find (is_opened_at opening) self.now.exchanges }
+    {
+        rows::row_opened(&self.rows, opening)
+    }
+
+    /// Makes room for one more, so that opening it takes no memory.
+    pub fn make_room(&mut self) -> Result<(), AllocError>
+        ensures same { self.new.exchanges ≡ self.old.exchanges }
+        ensures room { OnOk result (self.new.room ≡ true) }
+    {
+        self.rows.try_reserve(1)?;
+        self.names.try_reserve(1)?;
+        Ok(())
+    }
+
+    /// Opens an exchange after all others, under a token that was issued after theirs.
+    pub fn push_in_room(&mut self, exchange: Exchange)
+        requires room { self.old.room ≡ true }
+        requires latest { IsLatest exchange self.old.exchanges }
+        ensures { self.new.exchanges ≡ self.old.exchanges ++ exchange ∷ [] }
+    {
+        self.names.push_reserved(Named {
+            number: index::number_of(&exchange.token),
+            opening: exchange.opening,
+        });
+        self.rows.push_reserved(exchange);
+    }
+
+    /// Notes that the message under the token went out, in the entry with this number.
+    pub fn note_sending(&mut self, token: &Token, number: u32)
+        ensures exchanges { self.new.exchanges
+            ≡ map (went_out token.now number) self.old.exchanges }
+        ensures room { self.new.room ≡ self.old.room }
+    {
+        rows::note_sending(&mut self.rows, &self.names, token, number);
+    }
+
+    /// Takes out the exchange whose latest message goes under the token.
+    pub fn remove(&mut self, token: &Token)
+        ensures { self.new.exchanges ≡ filter (is_other (Some token.now)) self.old.exchanges }
+    {
+        rows::remove(&mut self.rows, &mut self.names, token);
+    }
+
+    /// The table of those of its exchanges that are given, in order.
+    pub fn part(&self, alloc: Global, rows: Vec<Exchange>) -> Result<Exchanges, AllocError>
+        requires { (keeps : Row → Bool) × (rows.items ≡ filter keeps self.now.exchanges) }
+        ensures { IfOk result (λ t. t.exchanges ≡ rows.items) }
+    {
+        let names = index::names_of_rows(alloc, &self.names, &rows)?;
+        Ok(Exchanges { rows, names })
+    }
+
+    /// The same exchanges.
+    pub fn copy(&self, alloc: Global) -> Result<Exchanges, AllocError>
+        ensures { IfOk result (λ t. t.exchanges ≡ self.now.exchanges) }
+    {
+        Ok(Exchanges {
+            rows: Vec::from_slice(alloc, &self.rows)?,
+            names: Vec::from_slice(alloc, &self.names)?,
+        })
+    }
+}

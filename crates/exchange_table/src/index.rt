@@ -1,0 +1,87 @@
+//! The index of the tokens of latest messages.
+
+ghost use Rattle.std.specs.Prelude.{◌≡◌, ◌<◌, None, IfSome, IfOk, filter, length, nat_lt, not};
+ghost use Rattle.history_laws.specs.Numbering.{token_number};
+ghost use Rattle.exchange_table.specs.Places.{RiseBy, IsOnlyAt, IsNowhere};
+ghost use Rattle.exchange_table.specs.Tables.{has_number, is_opened_in, number_in, opening_of, opening_under};
+
+use crate::places::is_opened;
+use coap_codec::Token;
+use exchange_model::Exchange;
+use std::alloc::{AllocError, Global};
+
+/// Which of the tokens that were issued an exchange's latest message goes under.
+#[derive(Clone, Copy)]
+pub struct Named {
+    /// how many tokens were issued before it
+    pub number: u32,
+    /// the number of the entry that opened the exchange
+    pub opening: u32,
+}
+
+/// How many tokens were issued before it, as its first bytes say.
+pub fn number_of(token: &Token) -> u32
+    ensures { result ≡ token_number token.now }
+{
+    match token.as_slice() {
+        [a, b, c, d, ..] => u32::from_be_bytes([*a, *b, *c, *d]),
+        _ => 0,
+    }
+}
+
+/// The place of the name with this number.
+fn name_place(names: &[Named], number: u32) -> Option<usize>
+    requires { RiseBy number_in names.now }
+    ensures below { IfSome result (λ i. i < length names.now) }
+    ensures some { IfSome result (IsOnlyAt (has_number number) names.now) }
+    ensures none { result ≡ None → IsNowhere (has_number number) names.now }
+{
+    let place = names.partition_point(
+        |name: &Named| -> bool
+            ensures { result ≡ nat_lt name.now.number number }
+        { name.number < number },
+    );
+    let name = names.get(place)?;
+    if name.number == number {
+        Some(place)
+    } else {
+        None
+    }
+}
+
+/// The number of the entry that opened the exchange whose token has this number.
+pub fn named_opening(names: &[Named], number: u32) -> Option<u32>
+    requires { RiseBy number_in names.now }
+    ensures { result ≡ opening_under number names.now }
+{
+    let place = name_place(names, number)?;
+    Some(names[place].opening)
+}
+
+/// Takes out the name with this number.
+pub fn drop_name(names: &mut Vec<Named>, number: u32)
+    requires { RiseBy number_in names.old.items }
+    ensures { names.new.items ≡ filter (λ x. not (has_number number x)) names.old.items }
+{
+    if let Some(place) = name_place(names.as_slice(), number) {
+        names.remove(place);
+    }
+}
+
+/// The names of those exchanges that are among the rows.
+pub fn names_of_rows(
+    alloc: Global,
+    names: &[Named],
+    rows: &[Exchange],
+) -> Result<Vec<Named>, AllocError>
+    requires { RiseBy opening_of rows.now }
+    ensures { IfOk result (λ v. v.items ≡ filter (is_opened_in rows.now) names.now) }
+{
+    let mut some = Vec::new(alloc);
+    'each: for name in names {
+        if is_opened(rows, name.opening) {
+            some.push(*name)?;
+        }
+    }
+    Ok(some)
+}

@@ -1,0 +1,15 @@
+//! The open exchanges, in the order of their openings.
+//!
+//! One contract: a table is the list of its exchanges, whatever stands behind it. An exchange is found
+//! by the token of its latest message through an index of its own, so that tokens needn't rise as
+//! openings do: an exchange of several messages has a new token for each.
+//!
+//! The definitions stand in `specs/`, to be read in this order: `Places`, `Tables`.
+#![tactic(auto)]
+
+mod exchanges;
+mod index;
+mod places;
+mod rows;
+
+pub use exchanges::Exchanges;
