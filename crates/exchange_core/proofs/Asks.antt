@@ -14,7 +14,7 @@ use Rattle.exchange_model.specs.Keeping.{IsProper}
 use Rattle.exchange_model.specs.Room.{KeptInRoom}
 use Rattle.exchange_model.specs.Entering.{refusal_deeds, entered_all}
 use Rattle.exchange_model.specs.Sealing.{in_room, asks_in_room}
-use Rattle.exchange_model.proofs.InRoom.{asks-in-room}
+use Rattle.exchange_model.proofs.CallerLemmas.{asks-in-room, busy-enters, refusals-enter}
 use Rattle.std.specs.Prelude.{◌&&◌, nat_lt}
 use Rattle.std.proofs.lemmas.Bool.{false≢true}
 use Rattle.std.proofs.lemmas.Bool.{ltb-true}
@@ -24,9 +24,9 @@ use Rattle.ask_model.specs.Requests.{Sense}
 use Rattle.ask_model.specs.Datagrams.{asked_peer}
 use Rattle.ask_model.specs.declared.cause.Cause.TheVariants as C
 use Rattle.history_laws.specs.Causes.{IsRefusal}
+use Rattle.history_laws.proofs.CallerLemmas.{some-is}
 use Rattle.message_layer.specs.Sending.{mids_in_use}
 use Rattle.exchange_model.specs.State.{link_of}
-use Rattle.exchange_model.proofs.Begun.{refusals-enter, busy-enters}
 use Rattle.exchange_core.specs.declared.answer.Ticket.{Ticket}
 use Rattle.exchange_core.specs.declared.fault.AskFault.{AskFault}
 use Rattle.exchange_core.specs.declared.fault.AskFault.TheVariants as F
@@ -115,10 +115,7 @@ refuses-no-place t a cause status S sense = λ r is place. never (sym sense ∙ 
 
 -- what is asked of a server
 pub request-of : (s : Sense) (p : Peer) → asked_peer s ≡ Some p → (q : CoapRequest) × (s ≡ Requests q) × (q.peer ≡ p)
-request-of (Requests q) p e = (q, refl, some-same q.peer p e)
-  where
-    some-same : (a b : Peer) → Some a ≡ Some b → a ≡ b
-    some-same a b f = cc
+request-of (Requests q) p e = (q, refl, some-is q.peer p e)
 request-of (Refuses cause status) p e = absurd cc
 
 -- an ask that is busy may be refused

@@ -34,11 +34,6 @@ links-same [] i e x same = refl
 links-same (y ∷ ys) zero e x same = ap (λ (z : PeerLink). z ∷ map peer_link ys) same
 links-same (y ∷ ys) (suc i) e x same = ap (λ (zs : List PeerLink). peer_link y ∷ zs) (links-same ys i e x same)
 
-pub got-or : {X : Type 0} (xs : List X) (i : ℕ) (x : X) → i < length xs → slice_get xs i ≡ Some (get_or xs i x)
-got-or [] i x lt = absurd (omega (arith, lt))
-got-or (y ∷ ys) zero x lt = refl
-got-or (y ∷ ys) (suc i) x lt = got-or ys i x (omega (arith, lt))
-
 pub set-there : {X : Type 0} (xs : List X) (i : ℕ) (x e : X) → i < length xs → slice_get (slice_set xs i x) i ≡ Some e → x ≡ e
 set-there [] i x e lt g = absurd (omega (arith, lt))
 set-there (y ∷ ys) zero x e lt g = cc

@@ -13,11 +13,11 @@ use Rattle.message_layer.specs.declared.prepared.FirstSending.{FirstSending}
 use Rattle.message_layer.specs.declared.state.Waiting.{Waiting}
 use Rattle.history_laws.specs.Readings.{Noted, entries}
 use Rattle.history_laws.specs.Exchanges.{openings, opened_by, opens_by}
+use Rattle.history_laws.proofs.CallerLemmas.{entries-length}
 use Rattle.exchange_model.specs.declared.kept.Exchange.{Exchange}
 use Rattle.exchange_model.specs.State.{State, link_of}
 use Rattle.exchange_model.specs.Room.{fits, asks_waiting, seals_left}
-use Rattle.exchange_model.proofs.InRoom.{fits-parts}
-use Rattle.exchange_model.proofs.Tables.{entries-length}
+use Rattle.exchange_model.proofs.CallerLemmas.{fits-parts}
 use Rattle.exchange_core.specs.declared.fault.AskFault.{AskFault}
 use Rattle.exchange_core.specs.declared.fault.AskFault.TheVariants as Ask
 use Rattle.exchange_core.specs.declared.state.State.{State as RustState}
@@ -36,7 +36,7 @@ opened-more : (n : ℕ) (v : Option CoapRequest) (old : List ℕ) → length (op
 opened-more n None old = omega arith
 opened-more n (Some q) old = let e = length-append old (n ∷ []) in omega (arith, e)
 
-openings-few : (l : List Noted) → length (openings l) ≤ length l
+pub openings-few : (l : List Noted) → length (openings l) ≤ length l
 openings-few [] = omega arith
 openings-few (x ∷ older) =
     let ih = openings-few older in

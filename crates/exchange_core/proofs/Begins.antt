@@ -1,7 +1,8 @@
 -- An ask that begins an exchange leaves what the step says.
-use Rattle.std.proofs.Common.{◌≡◌, ℕ, ◌+◌, ◌≤◌, ◌<◌, Bool, true, false, cond, ltb, List, [], ◌∷◌, ◌++◌, length, Option, Some, None, Ok, Err, refl, sym, ap, subst, ◌∙◌, arith}
+use Rattle.std.proofs.Common.{◌≡◌, ℕ, ◌+◌, ◌≤◌, ◌<◌, Bool, true, false, cond, List, [], ◌∷◌, ◌++◌, length, Option, Some, None, Ok, Err, refl, sym, ap, subst, ◌∙◌, arith, append-nil}
 use Rattle.std.specs.Prelude.{option_map, sum_by, ◌&&◌}
-use Rattle.std.proofs.lemmas.Bool.Decides.{Decides-ltb}
+use Rattle.std.proofs.lemmas.List.{length-map}
+use Rattle.std.proofs.lemmas.Bool.{lt-ltb}
 use Rattle.coap_codec.specs.Spelling.{Spells}
 use Rattle.uri_map.specs.declared.peer.Peer.{Peer}
 use Rattle.ask_model.specs.Requests.{CoapRequest, Sense, Requests, Refuses, request_message}
@@ -10,9 +11,8 @@ use Rattle.ask_model.specs.Sizes.{capped}
 use Rattle.ask_model.specs.Datagrams.{asked_peer}
 use Rattle.journal_book.specs.Entries.{Deed, Asks, Seals, Written, entry_size}
 use Rattle.journal_book.specs.Views.{ask_of}
-use Rattle.message_layer.specs.Sending.{waits, IsNext, IsRefused, HasPlace, mids_in_use, submitted}
+use Rattle.message_layer.specs.Sending.{waits, IsNext, HasPlace, mids_in_use, submitted}
 use Rattle.message_layer.specs.Prepared.{at_once as next_list}
-use Rattle.message_layer.specs.declared.fault.LinkFault.{LinkFault}
 use Rattle.message_layer.specs.declared.fault.LinkFault.TheVariants as L
 use Rattle.message_layer.specs.declared.prepared.FirstSending.{FirstSending}
 use Rattle.message_layer.specs.declared.prepared.Submission.{Submission}
@@ -28,9 +28,7 @@ use Rattle.exchange_model.specs.Keeping.{IsProper, IsNumbered}
 use Rattle.exchange_model.specs.Room.{fits, KeptInRoom}
 use Rattle.exchange_model.specs.Sealing.{asks_in_room}
 use Rattle.exchange_model.specs.Entering.{entered_all, at_once, begin_deeds, begun, begun_exchange, first_deeds, IsDrained}
-use Rattle.exchange_model.proofs.Begun.{begins-enter}
-use Rattle.exchange_model.proofs.InRoom.{asks-in-room}
-use Rattle.exchange_model.proofs.TickEnters.{stays-drained}
+use Rattle.exchange_model.proofs.CallerLemmas.{asks-in-room, begins-enter, stays-drained}
 use Rattle.exchange_core.specs.Answering.{Given}
 use Rattle.exchange_core.specs.Beginning.{IsRequest, exchange_by, with_exchange, numbers_of, MayBegin, IsBegunBy}
 use Rattle.exchange_core.specs.Sending.{IsTimed, sent_first}
@@ -41,7 +39,7 @@ use Rattle.exchange_core.specs.Sound.{SoundState}
 use Rattle.exchange_core.specs.States.{with_draft, core_of}
 use Rattle.exchange_core.specs.Values.{Outgoing, written, stepped}
 use Rattle.exchange_core.proofs.BeginLinks.{LinkTakes}
-use Rattle.exchange_core.proofs.Drafting.{append-none, drafts-none, drafts-alone, length-map}
+use Rattle.exchange_core.proofs.Drafting.{drafts-none, drafts-alone}
 use Rattle.exchange_core.proofs.Sounding.{first-of, second-of, sound-more, sound-seal}
 use Rattle.exchange_core.proofs.Stepping.{with-draft, entered-entries, committed}
 
@@ -74,39 +72,14 @@ sent-next t p xs x w k same =
 
 -- a place
 
-less-true : (x y : ℕ) → x < y → ltb x y ≡ true
-less-true x y lt = (Decides-ltb x y).1 lt
-
-less-false : (x y : ℕ) → y ≤ x → ltb x y ≡ false
-less-false x y le = by (ltb x y) refl
-  where
-    by : (b : Bool) → ltb x y ≡ b → b ≡ false
-    by true e = let lt = (Decides-ltb x y).0 e in absurd (omega (arith, lt, le))
-    by false e = refl
-
 all-three : (a b c : Bool) → a ≡ true → b ≡ true → c ≡ true → (a && (b && c)) ≡ true
 all-three a b c e f g = rw (e, f, g) refl
-
-not-second : (a b c : Bool) → b ≡ false → (a && (b && c)) ≡ false
-not-second true b c e = rw (e) refl
-not-second false b c e = refl
-
-not-third : (a b c : Bool) → c ≡ false → (a && (b && c)) ≡ false
-not-third true true c e = e
-not-third true false c e = refl
-not-third false b c e = refl
-
-pub no-place : (t : ℕ) (p : Peer) (S : State) (e : LinkFault) → (e ≡ L.Memory → ⊥)
-    → IsRefused t (link_of S.links p) e → has_place t p S ≡ false
-no-place t p S L.Queue other r = not-second _ _ _ (less-false (length (link_of S.links p).waiting) 64 r)
-no-place t p S L.Numbers other r = not-third _ _ _ (less-false (mids_in_use t (link_of S.links p)) 32768 r.1)
-no-place t p S L.Memory other r = absurd (other refl)
 
 pub has-place : (t : ℕ) (p : Peer) (S : State) → length S.exchanges < 256
     → HasPlace t (link_of S.links p) → has_place t p S ≡ true
 has-place t p S few h =
-    all-three _ _ _ (less-true (length S.exchanges) 256 few) (less-true (length (link_of S.links p).waiting) 64 h.0)
-    (less-true (mids_in_use t (link_of S.links p)) 32768 h.1)
+    all-three _ _ _ (lt-ltb (length S.exchanges) 256 few) (lt-ltb (length (link_of S.links p).waiting) 64 h.0)
+    (lt-ltb (mids_in_use t (link_of S.links p)) 32768 h.1)
 
 -- the request
 
@@ -130,8 +103,8 @@ room-sealed b c x y z e f = rw (e, f) refl
 -- as many connections are open as before
 conns-stay : (n : ℕ) (c : ℕ) (a : Ask) (p : Peer) (sent : Option FirstSending) (cs : List Conn)
     → length (conns_from n (Asks c a ∷ sent_first p sent) cs) ≡ length cs
-conns-stay n c a p None cs = length-map _ cs
-conns-stay n c a p (Some x) cs = length-map _ cs
+conns-stay n c a p None cs = length-map cs _
+conns-stay n c a p (Some x) cs = length-map cs _
 
 module _ (t word c : ℕ) (m : Mapping) (p : Peer) (token text : List ℕ) (S : State) where
   abbrev a : Ask
@@ -259,7 +232,7 @@ module _ (t word c : ℕ) (m : Mapping) (p : Peer) (token text : List ℕ) (S : 
           let d0 = draft_with (written t Seals) (empty_draft (length S.entries) S.conns) in
           let whole : core_of (seals t S) gs os ≡ stepped (seals t S) (core_of S gs os) =
           committed t S (seals t S) (Seals ∷ []) d0 gs gs os os (drafts-alone t S [] Seals _ tt (drafts-none t S)) refl
-          (sym (append-none gs)) (sym (append-none os)) in
+          (sym (append-nil gs)) (sym (append-nil os)) in
           let room-is : asks_in_room t c a n S ≡ seals t S =
           room-sealed S.sealed (fits (asked t c a n S)) S (asked t c a n S) (seals t S) b.unsealed (fit-same ∙ fit) in
           rw (at, gave, sends) (

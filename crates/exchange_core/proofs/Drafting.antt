@@ -1,5 +1,6 @@
 -- What is drafted, one entry after another.
-use Rattle.std.proofs.Common.{◌≡◌, ℕ, ◌+◌, suc, List, [], ◌∷◌, ◌++◌, length, map, Option, refl, sym, ap, ◌∙◌, arith, append_assoc, length-append}
+use Rattle.std.proofs.Common.{◌≡◌, ℕ, ◌+◌, suc, List, [], ◌∷◌, ◌++◌, length, map, Option, refl, sym, ap, ◌∙◌, arith, append_assoc, length-append, append-nil}
+use Rattle.std.proofs.lemmas.List.{map-append, length-map}
 use Rattle.uri_map.specs.declared.peer.Peer.{Peer}
 use Rattle.journal_book.specs.Entries.{Deed, Opens, Asks, Sends, Hears, Passes, Answers, Shuts, Seals, Written}
 use Rattle.exchange_model.specs.declared.kept.Conn.{Conn}
@@ -7,14 +8,6 @@ use Rattle.exchange_model.specs.State.{State, conns_after}
 use Rattle.exchange_core.specs.Values.{Outgoing, Untaken, written, answered_by, answered_in, sent_by, sent_in}
 use Rattle.exchange_core.specs.Answering.{Given}
 use Rattle.exchange_core.specs.Drafts.{DraftValue, Drafts, IsAlone, empty_draft, draft_with, draft_sending, draft_answering, conns_from, untaken_of}
-
-pub map-append : {A B : Type 0} (f : A → B) (xs ys : List A) → map f (xs ++ ys) ≡ map f xs ++ map f ys
-map-append f [] ys = refl
-map-append f (x ∷ xs) ys = ap (λ zs. f x ∷ zs) (map-append f xs ys)
-
-pub append-none : {A : Type 0} (xs : List A) → xs ++ [] ≡ xs
-append-none [] = refl
-append-none (x ∷ xs) = ap (λ zs. x ∷ zs) (append-none xs)
 
 pub sent-append : (xs ys : List Written) → sent_in (xs ++ ys) ≡ sent_in xs ++ sent_in ys
 sent-append [] ys = refl
@@ -33,10 +26,6 @@ conns-push n (x ∷ ds) d cs =
     let e : (n + 1) + length ds ≡ n + suc (length ds) = omega arith in
     conns-push (n + 1) ds d (conns_after cs n x) ∙ ap (λ (k : ℕ). conns_after (conns_from (n + 1) ds (conns_after cs n x)) k d) e
 
-pub length-map : {A B : Type 0} (f : A → B) (xs : List A) → length (map f xs) ≡ length xs
-length-map f [] = refl
-length-map f (x ∷ xs) = ap suc (length-map f xs)
-
 pub drafts-none : (t : ℕ) (S : State) → Drafts t S [] (empty_draft (length S.entries) S.conns)
 drafts-none t S = record { next = omega arith; entries = refl; conns = refl; sends = refl; answers = refl }
 
@@ -54,33 +43,33 @@ drafts-more t S ds x d e h next entries conns sends answers =
       entries = entries ∙ ap (λ zs. zs ++ written t x ∷ []) h.entries ∙ sym all;
       conns = conns ∙ ap (λ cs. conns_after cs d.next x) h.conns ∙ ap (λ (k : ℕ). conns_after (conns_from n ds S.conns) k x) h.next ∙ sym (conns-push n ds x S.conns);
       sends = sends ∙ ap (λ zs. zs ++ sent_by x) h.sends
-          ∙ (let one : sent_by x ≡ sent_in (written t x ∷ []) = sym (append-none (sent_by x)) in
+          ∙ (let one : sent_by x ≡ sent_in (written t x ∷ []) = sym (append-nil (sent_by x)) in
           ap (λ zs. sent_in (map (written t) ds) ++ zs) one ∙ sym (sent-append (map (written t) ds) (written t x ∷ [])) ∙ ap sent_in (sym all));
       answers = answers ∙ ap (λ zs. zs ++ answered_by d.next x) h.answers
-          ∙ (let at : d.next ≡ n + length (map (written t) ds) = h.next ∙ ap (λ (k : ℕ). n + k) (sym (length-map (written t) ds)) in
-          let one : answered_by d.next x ≡ answered_in (n + length (map (written t) ds)) (written t x ∷ []) = ap (λ (k : ℕ). answered_by k x) at ∙ sym (append-none (answered_by (n + length (map (written t) ds)) x)) in
+          ∙ (let at : d.next ≡ n + length (map (written t) ds) = h.next ∙ ap (λ (k : ℕ). n + k) (sym (length-map ds (written t))) in
+          let one : answered_by d.next x ≡ answered_in (n + length (map (written t) ds)) (written t x ∷ []) = ap (λ (k : ℕ). answered_by k x) at ∙ sym (append-nil (answered_by (n + length (map (written t) ds)) x)) in
           ap (λ zs. answered_in n (map (written t) ds) ++ zs) one ∙ sym (answered-append n (map (written t) ds) (written t x ∷ [])) ∙ ap (answered_in n) (sym all));
     }
 
 alone-sends : (x : Deed) (xs : List Outgoing) → IsAlone x → xs ≡ xs ++ sent_by x
 alone-sends (Sends p b w) xs a = absurd a
 alone-sends (Answers c k g) xs a = absurd a
-alone-sends (Opens c) xs a = sym (append-none xs)
-alone-sends (Asks c k) xs a = sym (append-none xs)
-alone-sends (Hears p b) xs a = sym (append-none xs)
-alone-sends Passes xs a = sym (append-none xs)
-alone-sends (Shuts c) xs a = sym (append-none xs)
-alone-sends Seals xs a = sym (append-none xs)
+alone-sends (Opens c) xs a = sym (append-nil xs)
+alone-sends (Asks c k) xs a = sym (append-nil xs)
+alone-sends (Hears p b) xs a = sym (append-nil xs)
+alone-sends Passes xs a = sym (append-nil xs)
+alone-sends (Shuts c) xs a = sym (append-nil xs)
+alone-sends Seals xs a = sym (append-nil xs)
 
 alone-answers : (x : Deed) (n : ℕ) (xs : List Untaken) → IsAlone x → xs ≡ xs ++ answered_by n x
 alone-answers (Sends p b w) n xs a = absurd a
 alone-answers (Answers c k g) n xs a = absurd a
-alone-answers (Opens c) n xs a = sym (append-none xs)
-alone-answers (Asks c k) n xs a = sym (append-none xs)
-alone-answers (Hears p b) n xs a = sym (append-none xs)
-alone-answers Passes n xs a = sym (append-none xs)
-alone-answers (Shuts c) n xs a = sym (append-none xs)
-alone-answers Seals n xs a = sym (append-none xs)
+alone-answers (Opens c) n xs a = sym (append-nil xs)
+alone-answers (Asks c k) n xs a = sym (append-nil xs)
+alone-answers (Hears p b) n xs a = sym (append-nil xs)
+alone-answers Passes n xs a = sym (append-nil xs)
+alone-answers (Shuts c) n xs a = sym (append-nil xs)
+alone-answers Seals n xs a = sym (append-nil xs)
 
 pub drafts-alone : (t : ℕ) (S : State) (ds : List Deed) (x : Deed) (d : DraftValue) → IsAlone x → Drafts t S ds d
     → Drafts t S (ds ++ x ∷ []) (draft_with (written t x) d)
@@ -90,10 +79,10 @@ drafts-alone t S ds x d a h =
 pub drafts-send : (t : ℕ) (S : State) (ds : List Deed) (p : Peer) (b : List ℕ) (w : Option ℕ) (d : DraftValue) → Drafts t S ds d
     → Drafts t S (ds ++ Sends p b w ∷ []) (draft_sending t p b w d)
 drafts-send t S ds p b w d h =
-    drafts-more t S ds (Sends p b w) d (draft_sending t p b w d) h refl refl refl refl (sym (append-none (map untaken_of d.answers)))
+    drafts-more t S ds (Sends p b w) d (draft_sending t p b w d) h refl refl refl refl (sym (append-nil (map untaken_of d.answers)))
 
 pub drafts-answer : (S : State) (ds : List Deed) (g : Given) (d : DraftValue) → g.number ≡ d.next → Drafts g.moment S ds d
     → Drafts g.moment S (ds ++ Answers g.conn g.ask g.found.grounds ∷ []) (draft_answering g d)
 drafts-answer S ds g d n h =
     drafts-more g.moment S ds (Answers g.conn g.ask g.found.grounds) d (draft_answering g d) h refl refl refl
-    (sym (append-none d.sends)) (map-append untaken_of d.answers (g ∷ []) ∙ ap (λ (k : ℕ). map untaken_of d.answers ++ record { conn = g.conn; ask = g.ask; number = k } ∷ []) n)
+    (sym (append-nil d.sends)) (map-append untaken_of d.answers (g ∷ []) ∙ ap (λ (k : ℕ). map untaken_of d.answers ++ record { conn = g.conn; ask = g.ask; number = k } ∷ []) n)

@@ -2,12 +2,12 @@
 use Rattle.std.proofs.Common.{◌≡◌, ℕ, ◌+◌, cond, Bool, true, false, List, [], ◌∷◌, ◌++◌, length, map, Some, refl, sym, ap, subst, ◌∙◌, append_assoc, length-append}
 use Rattle.std.specs.Prelude.{slice_get, fold}
 use Rattle.std.specs.List.{AllByRecursion, list_any}
-use Rattle.std.proofs.lemmas.List.{append_cancel_left}
-use Rattle.ask_model.specs.Requests.{Sense, Requests}
+use Rattle.std.proofs.lemmas.List.{append_cancel_left, length-map}
+use Rattle.history_laws.proofs.CallerLemmas.{all-push, got-last, got-more, some-is}
+use Rattle.ask_model.specs.Requests.{Requests}
 use Rattle.ask_model.specs.Views.{Ask}
 use Rattle.journal_book.specs.Entries.{Deed, Asks, Answers, Written}
 use Rattle.journal_book.specs.Views.{ask_of}
-use Rattle.history_links.proofs.Facts.{all-push}
 use Rattle.exchange_model.specs.declared.kept.Exchange.{Exchange}
 use Rattle.exchange_model.specs.State.{State}
 use Rattle.exchange_model.specs.Steps.{entered}
@@ -20,13 +20,8 @@ use Rattle.exchange_core.specs.Asked.{IsOpenedIn}
 use Rattle.exchange_core.specs.Drafts.{DraftValue, Drafts}
 use Rattle.exchange_core.specs.Ending.{EndsIn, IsAnswerTo, finished, finishes, given_to, out_of_time}
 use Rattle.exchange_core.specs.Leads.{Leads}
-use Rattle.exchange_core.proofs.Drafting.{length-map}
-use Rattle.exchange_core.proofs.Openings.{got-more, got-last}
 use Rattle.exchange_core.proofs.Stepping.{entered-entries, found-stays, counts-stay, given-stay}
 use Rattle.exchange_core.proofs.TickLeads.{entered-push, leads-conns, longer}
-
-written-same : (v w : Written) → Some v ≡ Some w → v ≡ w
-written-same v w e = cc
 
 asks-same : (c : ℕ) (a b : Ask) → Asks c a ≡ Asks c b → a ≡ b
 asks-same c a b e = cc
@@ -35,7 +30,7 @@ asks-same c a b e = cc
 ask-same : (t c : ℕ) (a b : Ask) → Some (written t (Asks c a)) ≡ Some (written t (Asks c b)) → a ≡ b
 ask-same t c a b e =
     asks-same c a b (ap (λ (w : Written). w.deed)
-    (written-same (written t (Asks c a)) (written t (Asks c b)) e))
+    (some-is (written t (Asks c a)) (written t (Asks c b)) e))
 
 -- What ends is answered: to whoever waits for it.
 pub leads-ended : (t : ℕ) (S U : State) (x : Ended) (g : Given) (d e : DraftValue)
@@ -80,7 +75,7 @@ leads-ended t S U x g d e h ends is more answers waits = record {
     place : length (S.entries ++ d.entries) ≡ d.next
     place =
         length-append S.entries d.entries ∙ ap (λ (k : ℕ). length S.entries + k)
-        (ap length h.drafts.entries ∙ length-map (written t) h.deeds) ∙ sym h.drafts.next
+        (ap length h.drafts.entries ∙ (length-map h.deeds (written t))) ∙ sym h.drafts.next
 
     sense : is.mapping.sense ≡ Requests ends.opened.request
     sense =

@@ -1,7 +1,8 @@
 -- What is drafted for a datagram is what the step says.
 use Rattle.std.proofs.Common.{◌≡◌, ℕ, ◌+◌, ◌≤◌, Bool, true, false, cond, List, [], ◌∷◌, ◌++◌, length, map, Option, Some, None, refl, sym, ap, subst, ◌∙◌, arith, length-append}
-use Rattle.std.specs.Prelude.{slice_get, filter, IfSome, ⊤}
+use Rattle.std.specs.Prelude.{slice_get, IfSome, ⊤}
 use Rattle.std.specs.List.{find, list_any, AllByRecursion}
+use Rattle.std.proofs.lemmas.List.{length-map}
 use Rattle.coap_codec.specs.Spelling.{Content, Spells}
 use Rattle.uri_map.specs.declared.peer.Peer.{Peer}
 use Rattle.ask_model.specs.Requests.{CoapRequest, Sense, Requests}
@@ -22,11 +23,13 @@ use Rattle.history_links.specs.Steps.{ended_token}
 use Rattle.exchange_model.specs.declared.kept.Conn.{Conn}
 use Rattle.exchange_model.specs.declared.kept.Exchange.{Exchange}
 use Rattle.exchange_model.specs.State.{State, link_of, pend, conns_after}
-use Rattle.exchange_model.specs.Steps.{entered, is_under, is_other}
+use Rattle.exchange_model.specs.Steps.{entered, is_under}
 use Rattle.exchange_model.specs.Calls.{waits_on, ended_in, grounds_by}
 use Rattle.exchange_model.specs.Entering.{entered_all, first_deeds, in_turn, going_as, sent_as, told_deeds, told_if, confirm}
 use Rattle.exchange_model.specs.Keeping.{Kept}
+use Rattle.exchange_model.proofs.CallerLemmas.{entered-both}
 use Rattle.history_laws.specs.Exchanges.{waiting}
+use Rattle.history_laws.proofs.CallerLemmas.{all-of, find-some, got-last, none-some, some-is}
 use Rattle.history_links.specs.Agrees.{WaitIn}
 use Rattle.exchange_core.specs.Answering.{HeardAs, IsFound, CountsFrom, IsGiven}
 use Rattle.exchange_core.specs.Asked.{IsOpenedIn}
@@ -37,8 +40,6 @@ use Rattle.exchange_core.specs.Leads.{Leads}
 use Rattle.exchange_core.specs.Hearing.{found_in, whole_in, ended_by, told_by, note_next, link_deeds, over_in, hearing_deeds}
 use Rattle.exchange_core.specs.Sending.{IsTimed, sent_first}
 use Rattle.exchange_core.specs.Values.{written}
-use Rattle.exchange_core.proofs.Drafting.{length-map}
-use Rattle.exchange_core.proofs.Openings.{found-holds, got-last}
 
 -- what ends is told on the grounds of the step
 
@@ -122,12 +123,6 @@ next-timed t p S link x h at k =
 
 -- what ends, ends as the entries say
 
-found-same : (f g : Found) → Some f ≡ Some g → f ≡ g
-found-same f g e = cc
-
-found-none : (f : Found) → None ≡ Some f → ⊥
-found-none f e = cc
-
 abbrev Holds : List Written → ℕ → Sense → Found → Type 0
 Holds h t s f = IsFound h f.told f.grounds s × CountsFrom h f.grounds t t
 
@@ -135,17 +130,17 @@ found-stands : (h : List Written) (n t : ℕ) (told : Told) (q : CoapRequest) (f
     → ((m : Content) → told ≡ response m → HeardAs h n t m) → found_in n told ≡ Some f
     → Holds h t (Requests q) f
 found-stands h n t (response m) q f hear e =
-    subst (Holds h t (Requests q)) (found-same _ f e) (by (is_whole m) refl)
+    subst (Holds h t (Requests q)) (some-is _ f e) (by (is_whole m) refl)
   where
     by : (b : Bool) → is_whole m ≡ b
         → Holds h t (Requests q) (found_by n (cond b (Some (response_of m)) None))
     by true w = ((m ∷ [], ((t, hear m refl), tt), rw (w) refl), (m, hear m refl))
     by false w = (refl, refl)
 found-stands h n t (was_reset token) q f hear e =
-    subst (Holds h t (Requests q)) (found-same _ f e) (refl, refl)
-found-stands h n t no_news q f hear e = absurd (found-none f e)
-found-stands h n t (timed_out token) q f hear e = absurd (found-none f e)
-found-stands h n t was_dropped q f hear e = absurd (found-none f e)
+    subst (Holds h t (Requests q)) (some-is _ f e) (refl, refl)
+found-stands h n t no_news q f hear e = absurd (none-some f e)
+found-stands h n t (timed_out token) q f hear e = absurd (none-some f e)
+found-stands h n t was_dropped q f hear e = absurd (none-some f e)
 
 -- The datagram stands first among what is drafted.
 heard-first : (h : List Written) (t : ℕ) (p : Peer) (d : List ℕ) (x : Heeding)
@@ -201,11 +196,6 @@ link-conns t p d x S =
     ∙ next-none t p x.next (entered_all t (map (confirm p) (listed x.reply)) S1)
     ∙ confirms-none t p (listed x.reply) S1
 
-entered-join : (t : ℕ) (xs ys : List Deed) (S : State)
-    → entered_all t (xs ++ ys) S ≡ entered_all t ys (entered_all t xs S)
-entered-join t [] ys S = refl
-entered-join t (x ∷ xs) ys S = entered-join t xs ys (entered t x S)
-
 -- What ends is told as the deeds say.
 told-ends : (t : ℕ) (ended : Option Exchange) (found : Option Found) (U : State)
     → finished t (ended_by ended found) U ≡ entered_all t (told_by ended found U.conns) U
@@ -226,7 +216,7 @@ ends-told t p d x ended found S =
     let U = entered_all t (link_deeds p d x) S in
     told-ends t ended found U
     ∙ ap (λ (cs : List Conn). entered_all t (told_by ended found cs) U) (link-conns t p d x S)
-    ∙ sym (entered-join t (link_deeds p d x) (told_by ended found S.conns) S)
+    ∙ sym (entered-both t (link_deeds p d x) (told_by ended found S.conns) S)
 
 pub heard-leads : (t : ℕ) (p : Peer) (d : List ℕ) (x : Heeding) (told : Told) (S : State)
     (xs : List Ended) (d0 d1 : DraftValue)
@@ -273,10 +263,7 @@ ended-few (Some e) (Some f) = omega arith
 pub ended-is : (P : Exchange → Type 0) (over : Option (List ℕ)) (es : List Exchange) (e : Exchange)
     → ended_in over es ≡ Some e → AllByRecursion P es → P e
 ended-is P None es e f a = absurd (none-some e f)
-  where
-    none-some : (x : Exchange) → None ≡ Some x → ⊥
-    none-some x k = cc
-ended-is P (Some token) es e f a = found-holds (is_under token) P es e f a
+ended-is P (Some token) es e f a = all-of P es e a (find-some (is_under token) es e f).0
 
 pub if-ended : (P : Exchange → Type 0) (over : Option (List ℕ)) (es : List Exchange)
     → AllByRecursion P es → IfSome (ended_in over es) P
@@ -285,10 +272,6 @@ if-ended P over es a = by (ended_in over es) refl
     by : (v : Option Exchange) → ended_in over es ≡ v → IfSome v P
     by None f = tt
     by (Some e) f = ended-is P over es e f a
-
-pub all-others : (es : List Exchange) → filter (is_other None) es ≡ es
-all-others [] = refl
-all-others (e ∷ es) = ap (λ (xs : List Exchange). e ∷ xs) (all-others es)
 
 -- no connection comes or goes
 
@@ -300,11 +283,11 @@ IsNoConn _ = ⊤
 conns-one : (d : Deed) (n : ℕ) (cs : List Conn) → IsNoConn d
     → length (conns_after cs n d) ≤ length cs
 conns-one (Opens c) n cs h = absurd h
-conns-one (Asks c a) n cs h = let e = length-map (pend c (Some n)) cs in omega (arith, e)
+conns-one (Asks c a) n cs h = let e = (length-map cs (pend c (Some n))) in omega (arith, e)
 conns-one (Sends p b w) n cs h = omega arith
 conns-one (Hears p b) n cs h = omega arith
 conns-one Passes n cs h = omega arith
-conns-one (Answers c k g) n cs h = let e = length-map (pend c None) cs in omega (arith, e)
+conns-one (Answers c k g) n cs h = let e = (length-map cs (pend c None)) in omega (arith, e)
 conns-one (Shuts c) n cs h = absurd h
 conns-one Seals n cs h = omega arith
 

@@ -1,5 +1,5 @@
 -- A step that hears a datagram.
-use Rattle.std.proofs.Common.{◌≡◌, ℕ, ◌+◌, ◌<◌, ◌≤◌, ◌^◌, Bool, true, false, cond, List, [], ◌∷◌, ◌++◌, length, refl, sym, ap, subst, ◌∙◌, arith, length-append}
+use Rattle.std.proofs.Common.{◌≡◌, ℕ, ◌+◌, ◌<◌, ◌≤◌, ◌^◌, Bool, true, false, cond, List, [], ◌∷◌, ◌++◌, length, refl, sym, ap, subst, ◌∙◌, arith, length-append, append-nil}
 use Rattle.std.specs.Prelude.{is_some, sum_by}
 use Rattle.std.specs.List.{AllByRecursion}
 use Rattle.uri_map.specs.declared.peer.Peer.{Peer}
@@ -15,16 +15,14 @@ use Rattle.exchange_model.specs.Calls.{heard}
 use Rattle.exchange_model.specs.Room.{fits, KeptInRoom}
 use Rattle.exchange_model.specs.Sealing.{hears_in_room}
 use Rattle.exchange_model.specs.Entering.{entered_all, IsDrained, Comes}
-use Rattle.exchange_model.proofs.Dropped.{dropped-stays}
-use Rattle.exchange_model.proofs.InRoom.{hears-in-room, within-limits}
-use Rattle.exchange_model.proofs.TickEnters.{stays-drained}
+use Rattle.exchange_model.proofs.CallerLemmas.{dropped-stays, hears-in-room, stays-drained, within-limits}
 use Rattle.exchange_core.specs.Answering.{Given, IsGiven}
 use Rattle.exchange_core.specs.Drafts.{DraftValue, Drafts, empty_draft}
 use Rattle.exchange_core.specs.Hearing.{hearing_deeds, exchanges_after, heeds, with_heard}
 use Rattle.exchange_core.specs.Sound.{SoundState}
 use Rattle.exchange_core.specs.States.{with_draft, core_of}
 use Rattle.exchange_core.specs.Values.{Outgoing, stepped}
-use Rattle.exchange_core.proofs.Drafting.{append-none, drafts-none, drafts-alone}
+use Rattle.exchange_core.proofs.Drafting.{drafts-none, drafts-alone}
 use Rattle.exchange_core.proofs.Heard.{conns-few, hearing-few}
 use Rattle.exchange_core.proofs.Heeds.{HeardSo, heard-so}
 use Rattle.exchange_core.proofs.Sounding.{sound-more, sound-seal}
@@ -123,7 +121,7 @@ module _ (t : ℕ) (p : Peer) (d : List ℕ) (S : State) (link : LinkValue) (h :
   seen-sealed S1 gs1 os os1 full is same sent =
       committed t S S1 (Seals ∷ []) _ gs gs1 os os1
       (drafts-alone t S [] Seals (empty_draft (length S.entries) S.conns) tt (drafts-none t S))
-      (ap (λ (U : State). U.entries) is) (same ∙ sym (append-none gs)) (sent ∙ sym (append-none os))
+      (ap (λ (U : State). U.entries) is) (same ∙ sym (append-nil gs)) (sent ∙ sym (append-nil os))
       ∙ ap (λ (U : State). stepped U (core_of S gs os)) (is ∙ sym (out-of-room full))
 
   pub places-left : fits (with_draft t dv S) ≡ true → length dv.entries ≤ room

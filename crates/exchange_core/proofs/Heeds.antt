@@ -1,11 +1,10 @@
 -- What is drafted and changed for a datagram is what the step leaves.
 use Rattle.std.proofs.Common.{◌≡◌, ℕ, zero, suc, ◌+◌, ◌<◌, true, false, List, [], ◌∷◌, ◌++◌, length, map, get_or, Option, Some, None, Result, Ok, Err, refl, sym, ap, subst, ◌∙◌, arith, append_assoc}
-use Rattle.std.specs.Prelude.{slice_get, slice_set, filter, is_some}
+use Rattle.std.specs.Prelude.{slice_get, filter, is_some}
 use Rattle.std.specs.List.{AllByRecursion}
 use Rattle.coap_codec.specs.Spelling.{Content, Spells}
 use Rattle.coap_codec.specs.Reading.{message_at}
 use Rattle.coap_codec.specs.declared.fault.CodecFault.{CodecFault}
-use Rattle.coap_codec.proofs.Bytes.{IsBytes}
 use Rattle.coap_codec.proofs.Takes.{message_takes}
 use Rattle.uri_map.specs.declared.peer.Peer.{Peer}
 use Rattle.ask_model.specs.declared.cause.Cause.TheVariants.{Reset}
@@ -21,13 +20,13 @@ use Rattle.message_layer.specs.declared.verdict.Verdict.{Verdict}
 use Rattle.history_links.specs.Steps.{ended_token}
 use Rattle.exchange_model.specs.declared.kept.Conn.{Conn}
 use Rattle.exchange_model.specs.declared.kept.Exchange.{Exchange}
-use Rattle.exchange_model.specs.State.{PeerLink, State, link_of, with_link}
+use Rattle.exchange_model.specs.State.{State, link_of, with_link}
 use Rattle.exchange_model.specs.Steps.{is_other}
 use Rattle.exchange_model.specs.Calls.{ended_in, grounds_by, heard}
 use Rattle.exchange_model.specs.Entering.{entered_all, first_deeds, in_turn, going_as, sent_as, told_if, confirm, heeded, garbled, IsMid, Comes}
-use Rattle.exchange_model.proofs.Heeded.{message-enters, garbled-enters}
+use Rattle.exchange_model.proofs.CallerLemmas.{garbled-enters, is-bytes, message-enters}
 use Rattle.exchange_core.specs.declared.state.Endpoint.{Endpoint}
-use Rattle.exchange_core.specs.Endpoints.{IsFirstAt, HasNone}
+use Rattle.exchange_core.specs.Endpoints.{HasNone}
 use Rattle.exchange_core.specs.States.{peer_link}
 use Rattle.exchange_core.specs.Hearing.{found_in, told_by, note_next, over_in, link_deeds, hearing_deeds, heeds, exchanges_after, first_number, hearing_state}
 use Rattle.exchange_core.specs.Sending.{sent_first}
@@ -35,59 +34,16 @@ use Rattle.exchange_core.proofs.Heard.{told-same, next-deeds, next-noted}
 
 -- the place of the endpoint
 
-pub link-at : (p : Peer) (xs : List Endpoint) (i : ℕ) (e : Endpoint)
-    → IsFirstAt p (map peer_link xs) i
-    → slice_get xs i ≡ Some e → link_of (map peer_link xs) p ≡ e.link.state
-link-at p [] i e f g = absurd f
-link-at p (x ∷ xs) zero e f g =
-    let same : x ≡ e = cc in rw (f) (ap (λ (v : Endpoint). v.link.state) same)
-link-at p (x ∷ xs) (suc i) e f g = rw (f.0) (link-at p xs i e f.1 g)
-
-pub links-set : (p : Peer) (xs : List Endpoint) (i : ℕ) (e x : Endpoint)
-    → IsFirstAt p (map peer_link xs) i
-    → e.peer ≡ (get_or xs i x).peer
-    → map peer_link (slice_set xs i e) ≡ with_link p e.link.state (map peer_link xs)
-links-set p [] i e x f same = absurd f
-links-set p (y ∷ ys) zero e x f same = rw (f, same) refl
-links-set p (y ∷ ys) (suc i) e x f same =
-    rw (f.0) (ap (λ (zs : List PeerLink). peer_link y ∷ zs) (links-set p ys i e x f.1 same))
-
-pub links-same : (xs : List Endpoint) (i : ℕ) (e x : Endpoint) → peer_link e
-    ≡ peer_link (get_or xs i x)
-    → map peer_link (slice_set xs i e) ≡ map peer_link xs
-links-same [] i e x same = refl
-links-same (y ∷ ys) zero e x same = ap (λ (z : PeerLink). z ∷ map peer_link ys) same
-links-same (y ∷ ys) (suc i) e x same = ap (λ (zs : List PeerLink). peer_link y ∷ zs)
-    (links-same ys i e x same)
-
 pub got-or : {X : Type 0} (xs : List X) (i : ℕ) (x : X) → i < length xs → slice_get xs i
     ≡ Some (get_or xs i x)
 got-or [] i x lt = absurd (omega (arith, lt))
 got-or (y ∷ ys) zero x lt = refl
 got-or (y ∷ ys) (suc i) x lt = got-or ys i x (omega (arith, lt))
 
-pub set-there : {X : Type 0} (xs : List X) (i : ℕ) (x e : X) → i < length xs
-    → slice_get (slice_set xs i x) i ≡ Some e → x ≡ e
-set-there [] i x e lt g = absurd (omega (arith, lt))
-set-there (y ∷ ys) zero x e lt g = cc
-set-there (y ∷ ys) (suc i) x e lt g = set-there ys i x e (omega (arith, lt)) g
-
-pub got-first : (p : Peer) (xs : List Endpoint) (i : ℕ) → IsFirstAt p (map peer_link xs) i
-    → (e : Endpoint) × (slice_get xs i ≡ Some e)
-got-first p [] i f = absurd f
-got-first p (x ∷ xs) zero f = (x, refl)
-got-first p (x ∷ xs) (suc i) f = got-first p xs i f.1
-
 pub none-at : (p : Peer) (xs : List Endpoint) → HasNone p (map peer_link xs)
     → is_some (link_of (map peer_link xs) p).last_mid ≡ false
 none-at p [] h = refl
 none-at p (x ∷ xs) h = rw (h.0) (none-at p xs h.1)
-
-pub first-below : (p : Peer) (xs : List Endpoint) (i : ℕ) → IsFirstAt p (map peer_link xs) i
-    → i < length xs
-first-below p [] i f = absurd f
-first-below p (x ∷ xs) zero f = omega arith
-first-below p (x ∷ xs) (suc i) f = let ih = first-below p xs i f.1 in omega (arith, ih)
 
 -- what the link and the tables say is what the step says
 
@@ -236,10 +192,6 @@ heard-so t p d S link h come i at = by (message_at d) refl i.is
         }
 
 -- a response that is told is what the datagram spells
-
-is-bytes : (d : List ℕ) → AllByRecursion (λ (b : ℕ). b < 256) d → IsBytes d
-is-bytes [] a = tt
-is-bytes (b ∷ d) a = (a.0, is-bytes d a.1)
 
 said : (v : News) (k m : Content) → says v k ≡ response m → k ≡ m
 said N.Response k m e = cc

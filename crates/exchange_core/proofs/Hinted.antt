@@ -1,8 +1,9 @@
 -- An endpoint has one link: so it stands first where it stands.
-use Rattle.std.proofs.Common.{◌≡◌, ℕ, zero, suc, Bool, true, false, List, [], ◌∷◌, map, Some, inl, inr, refl, sym, ap, ◌∙◌}
+use Rattle.std.proofs.Common.{◌≡◌, ℕ, zero, suc, Bool, true, List, [], ◌∷◌, map, Some, inl, inr, refl, sym, ap, ◌∙◌}
 use Rattle.std.specs.Prelude.{slice_get, option_map, ◌||◌}
 use Rattle.std.specs.List.{list_any}
-use Rattle.std.proofs.lemmas.Bool.{cases_Bool, false≢true}
+use Rattle.std.proofs.lemmas.Bool.{cases_Bool, false≢true, or_right}
+use Rattle.std.proofs.lemmas.Option.{same_Some}
 use Rattle.uri_map.specs.declared.peer.Peer.{Peer}
 use Rattle.ask_model.specs.Requests.{same_peer}
 use Rattle.ask_model.proofs.Endpoints.{same_peer-same}
@@ -15,24 +16,17 @@ use Rattle.exchange_core.specs.States.{peer_link}
 abbrev IsThere : Peer → List Endpoint → ℕ → Type 0
 IsThere p xs i = option_map (λ (x : Endpoint). same_peer x.peer p) (slice_get xs i) ≡ Some true
 
-same-flag : (b c : Bool) → Some b ≡ Some c → b ≡ c
-same-flag b c e = cc
-
 -- one of them is in this place, so that the first is none
 found-any : (p q : Peer) (xs : List Endpoint) (i : ℕ) → q ≡ p → IsThere p xs i → list_any (λ (r : Peer). same_peer r q) (map peer_of (map peer_link xs)) ≡ true
 found-any p q [] i e h = absurd cc
 found-any p q (x ∷ xs) zero e h =
     ap (λ (b : Bool). b || list_any (λ (r : Peer). same_peer r q) (map peer_of (map peer_link xs)))
-    (ap (same_peer x.peer) e ∙ same-flag (same_peer x.peer p) true h)
-found-any p q (x ∷ xs) (suc i) e h = rw (found-any p q xs i e h) (or-true (same_peer x.peer q))
-  where
-    or-true : (b : Bool) → (b || true) ≡ true
-    or-true true = refl
-    or-true false = refl
+    (ap (same_peer x.peer) e ∙ same_Some (same_peer x.peer p) true h)
+found-any p q (x ∷ xs) (suc i) e h = rw (found-any p q xs i e h) (or_right (same_peer x.peer q) true refl)
 
 pub first-apart : (p : Peer) (xs : List Endpoint) (i : ℕ) → AreApart (map peer_of (map peer_link xs)) → IsThere p xs i → IsFirstAt p (map peer_link xs) i
 first-apart p [] i apart h = absurd cc
-first-apart p (x ∷ xs) zero apart h = same-flag (same_peer x.peer p) true h
+first-apart p (x ∷ xs) zero apart h = same_Some (same_peer x.peer p) true h
 first-apart p (x ∷ xs) (suc i) apart h = (
   elim (cases_Bool (same_peer x.peer p)) [
     | inl so ↦ absurd (false≢true (sym apart.0 ∙ found-any p x.peer xs i (same_peer-same x.peer p so) h))

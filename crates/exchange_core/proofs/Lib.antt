@@ -1,35 +1,36 @@
-pub mod Drafting
-pub mod Openings
-pub mod Placing
-pub mod Ordered
-pub mod Hinted
-pub mod Waiting
-pub mod Stepping
-pub mod Takes
-pub mod Sounding
-pub mod Least
-pub mod Refusals
-pub mod Asks
-pub mod BeginLinks
-pub mod Begins
-pub mod Heard
-pub mod Heeds
-pub mod HeardSteps
-pub mod BeginSound
-pub mod TickDue
-pub mod TickExpiring
-pub mod TickLeads
-pub mod Endings
-pub mod TickSince
-pub mod Sinces
-pub mod TickSound
-pub mod TickTurns
-pub mod TickBack
-pub mod TickEnds
-pub mod TickDeeds
-pub mod TickTimed
-pub mod TickRoom
-pub mod TickDraft
-pub mod TickSteps
-pub mod TickNext
-pub mod Served
+pub mod CallerLemmas
+mod Drafting
+mod Openings
+mod Placing
+mod Ordered
+mod Hinted
+mod Waiting
+mod Stepping
+mod Takes
+mod Sounding
+mod Least
+mod Refusals
+mod Asks
+mod BeginLinks
+mod Begins
+mod Heard
+mod Heeds
+mod HeardSteps
+mod BeginSound
+mod TickDue
+mod TickExpiring
+mod TickLeads
+mod Endings
+mod TickSince
+mod Sinces
+mod TickSound
+mod TickTurns
+mod TickBack
+mod TickEnds
+mod TickDeeds
+mod TickTimed
+mod TickRoom
+mod TickDraft
+mod TickSteps
+mod TickNext
+mod Served

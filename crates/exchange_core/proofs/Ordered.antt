@@ -5,9 +5,8 @@ use Rattle.std.proofs.Math.ListN.{set}
 use Rattle.std.proofs.lemmas.Bool.{eqb-true, eq-eqb, false≢true}
 use Rattle.history_laws.specs.Numbering.{token_number}
 use Rattle.history_laws.specs.Readings.{Noted}
-use Rattle.history_laws.proofs.Sent.{begun-below}
-use Rattle.history_links.proofs.Facts.{all-more}
-use Rattle.history_links.proofs.Ranks.{rank-below}
+use Rattle.history_laws.proofs.CallerLemmas.{all-more, begun-below, entries-length}
+use Rattle.history_links.proofs.CallerLemmas.{rank-below}
 use Rattle.exchange_model.specs.declared.kept.Conn.{Conn}
 use Rattle.exchange_model.specs.declared.kept.Exchange.{Exchange}
 use Rattle.exchange_model.specs.Calls.{waits_on}
@@ -17,12 +16,11 @@ use Rattle.exchange_model.specs.Reads.{ExchangeIn, Reads}
 use Rattle.exchange_model.specs.Growing.{Rise}
 use Rattle.exchange_model.specs.Keeping.{Kept}
 use Rattle.exchange_model.specs.Room.{KeptInRoom}
-use Rattle.exchange_model.proofs.Numbered.{conns-rise}
-use Rattle.exchange_model.proofs.Tables.{entries-length}
+use Rattle.exchange_model.proofs.CallerLemmas.{conns-rise}
 use Rattle.exchange_core.specs.Places.{id_of, has_id}
 use Rattle.exchange_table.specs.Places.{RiseBy, IsNowhere, IsOnlyAt}
 use Rattle.exchange_table.specs.Tables.{IsLatest}
-use Rattle.exchange_table.proofs.Standing.{Tells, rise-map, map-none, map-only, only-is}
+use Rattle.exchange_table.proofs.CallerLemmas.{Tells, rise-map, map-none, map-only, only-is}
 
 -- what passes a test bears the number
 

@@ -1,5 +1,6 @@
 -- Asks that are answered in their own step.
 use Rattle.std.proofs.Common.{◌≡◌, ℕ, suc, ◌+◌, ◌≤◌, Bool, true, false, cond, List, [], ◌∷◌, ◌++◌, length, map, slice_get, Some, None, refl, sym, ap, subst, ◌∙◌, arith}
+use Rattle.std.proofs.lemmas.List.{length-map}
 use Rattle.ask_model.specs.declared.cause.Cause.{Cause}
 use Rattle.ask_model.specs.Views.{Mapping, Ask}
 use Rattle.journal_book.specs.Entries.{Grounds, Fault, Deed, Asks, Answers, Written}
@@ -16,7 +17,7 @@ use Rattle.exchange_core.specs.Values.{written}
 use Rattle.exchange_core.specs.Answering.{IsGiven}
 use Rattle.exchange_core.specs.Drafts.{DraftValue, Drafts, empty_draft}
 use Rattle.exchange_core.specs.States.{refusal_given}
-use Rattle.exchange_core.proofs.Drafting.{drafts-none, length-map}
+use Rattle.exchange_core.proofs.Drafting.{drafts-none}
 
 pub begins-empty : (t n : ℕ) (S : State) (d : DraftValue) → n ≡ length S.entries → d ≡ empty_draft n S.conns → Drafts t S [] d
 begins-empty t n S d len e =
@@ -74,6 +75,6 @@ refusal-given-stands t c S m cause =
 
 pub refusal-conns : (t c : ℕ) (S : State) (a : Ask) (cause : Cause) → length (entered_all t (refusal_deeds c a cause S) S).conns ≤ length S.conns
 refusal-conns t c S a cause =
-    let one = length-map (pend c (Some (length S.entries))) S.conns in
-    let two = length-map (pend c None) (map (pend c (Some (length S.entries))) S.conns) in
+    let one = length-map S.conns (pend c (Some (length S.entries))) in
+    let two = length-map (map (pend c (Some (length S.entries))) S.conns) (pend c None) in
     omega (arith, one, two)

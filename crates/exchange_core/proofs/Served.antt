@@ -1,15 +1,14 @@
 -- The first answer is taken, and numbers rise.
 use Rattle.std.proofs.Common.{◌≡◌, ◌≢◌, ◌⊎◌, ℕ, zero, suc, ◌<◌, ◌≤◌, Bool, true, false, inl, inr, min, not, eqb, List, [], ◌∷◌, length, map, Option, Some, None, Result, Ok, Err, refl, sym, ap, ◌∙◌, subst, arith}
 use Rattle.std.specs.Prelude.{option_map, IfSome, IfOk, IsTrue, IsFalse, ◌↔◌}
-use Rattle.std.specs.List.{All, AllByRecursion, Contains, filter, reduce, slice_get}
+use Rattle.std.specs.List.{All, AllByRecursion, Contains, filter, reduce}
 use Rattle.std.proofs.lemmas.List.Elements.{All-head, All-tail, recursion_from_All}
+use Rattle.std.proofs.lemmas.Option.{none-some, slice_get_within}
+use Rattle.history_laws.proofs.CallerLemmas.{all-more}
 use Rattle.ask_model.specs.Views.{Ask}
 use Rattle.exchange_model.specs.State.{State}
 use Rattle.exchange_model.specs.Resting.{HasConn}
-use Rattle.exchange_model.proofs.ConnsTell.{conns-tell}
-use Rattle.exchange_model.proofs.Lists.{all-map}
-use Rattle.exchange_model.proofs.Numbered.{conns-below}
-use Rattle.history_links.proofs.Facts.{all-more}
+use Rattle.exchange_model.proofs.CallerLemmas.{all-map, conns-below, conns-tell}
 use Rattle.exchange_core.specs.declared.answer.Answer.{Answer}
 use Rattle.exchange_core.specs.declared.answer.Ticket.{Ticket}
 use Rattle.exchange_core.specs.declared.fault.AskFault.{AskFault}
@@ -70,9 +69,6 @@ sound-first None S bytes room gs gs1 s first = subst (SoundState S bytes room) (
 sound-first (Some g) S bytes room gs gs1 s first = sound-taken S bytes room g.ask gs gs1 s first.2
 
 -- A connection waits for one answer, or for none.
-none-some : (k : ℕ) → None ≡ Some k → ⊥
-none-some k e = cc
-
 waits-once : (S : State) (bytes room : ℕ) (gs : List Given) (c k : ℕ) → SoundState S bytes room gs
     → HasConn S.conns c None → HasConn S.conns c (Some k) → ⊥
 waits-once S bytes room gs c k s none some =
@@ -106,11 +102,6 @@ pending-waits (Err AskFault.Memory) t word c a S bytes room gs os new s is e non
 pub below-opened : (id : ℕ) (S : State) (bytes room : ℕ) (gs : List Given) → SoundState S bytes room gs → id ≡ S.opened → AreBelow id S.conns
 below-opened id S bytes room gs s is = subst (λ (n : ℕ). AreBelow n S.conns) (sym is) (conns-below S s.kept)
 
-stands-below : {X : Type 0} (xs : List X) (i : ℕ) (x : X) → slice_get xs i ≡ Some x → i < length xs
-stands-below [] i x e = absurd cc
-stands-below (y ∷ ys) zero x e = omega arith
-stands-below (y ∷ ys) (suc i) x e = let lt = stands-below ys i x e in omega (arith, lt)
-
 pub older-than : {R : Type 0} (r : Result (Ticket R) AskFault) (t word c : ℕ) (a : Ask) (S : State) (gs : List Given) (os : List Outgoing) (new : CoreValue)
     → AllByRecursion (IsGiven S.entries) gs → IsAsked (number_in r) t word c a (core_of S gs os) new
     → IfOk r (λ (k : Ticket R). AreOlder k.number (map untaken_of gs))
@@ -118,5 +109,5 @@ older-than (Ok k) t word c a S gs os new all is =
     subst (λ (n : ℕ). AreOlder n (map untaken_of gs)) (sym is.0)
     (all-map untaken_of (λ (u : Untaken). u.ask < length S.entries) gs
     (all-more (IsGiven S.entries) (λ (g : Given). g.ask < length S.entries)
-    (λ g given. stands-below S.entries g.ask _ given.ask_stands) gs all))
+    (λ g given. slice_get_within S.entries g.ask _ given.ask_stands) gs all))
 older-than (Err e) t word c a S gs os new all is = tt

@@ -6,7 +6,8 @@ use Rattle.limits.specs.declared.TheConstants.{MAX_TRANSMIT_WAIT}
 use Rattle.history_laws.specs.Readings.{Noted, at, newest}
 use Rattle.history_laws.specs.Exchanges.{openings, is_going}
 use Rattle.history_laws.specs.Justified.{Legal}
-use Rattle.history_links.proofs.Facts.{Rising, rising-filter, openings-rising}
+use Rattle.history_laws.proofs.CallerLemmas.{at-below, at-newest, some-is}
+use Rattle.history_links.proofs.CallerLemmas.{openings-rising, Rising, rising-filter}
 use Rattle.exchange_model.specs.declared.kept.Exchange.{Exchange}
 use Rattle.exchange_model.specs.State.{State}
 use Rattle.exchange_model.specs.Reads.{ExchangeIn, opening_of}
@@ -14,27 +15,19 @@ use Rattle.exchange_model.specs.Due.{earlier, earliest, deadline}
 use Rattle.exchange_model.specs.Keeping.{Kept}
 use Rattle.exchange_core.specs.Places.{OpenLater}
 use Rattle.exchange_core.proofs.TickDue.{earlier-assoc}
-use Rattle.exchange_core.proofs.TickSince.{at-early, noted-is}
-
-at-below : (l : List Noted) (n : ℕ) (x : Noted) → at l n ≡ Some x → n < length l
-at-below [] n x e = absurd cc
-at-below (y ∷ older) n x e = elim (eqb_tells n (length older)) [
-  | inl w ↦ let same = w.1 in omega (arith, same)
-  | inr w ↦ let ih = at-below older n x (rw (w.0) at e) in omega (arith, ih)
-]
 
 at-later : (l : List Noted) (n m : ℕ) (x y : Noted) → Legal l → at l n ≡ Some x → at l m ≡ Some y → n < m → x.written.moment ≤ y.written.moment
 at-later [] n m x y legal e f lt = absurd cc
 at-later (z ∷ older) n m x y legal e f lt = elim (eqb_tells m (length older)) [
   | inl w ↦
-      let same = noted-is z y (rw (w.0) at f) in
+      let same = some-is z y (rw (w.0) at f) in
       let mine : z.written.moment ≡ y.written.moment = ap (λ (v : Noted). v.written.moment) same in
       let last = w.1 in
       let later : newest older ≤ z.written.moment = legal.1 in
       elim (eqb_tells n (length older)) [
         | inl v ↦ let here = v.1 in absurd (omega (arith, here, last, lt))
         | inr v ↦
-            let before : x.written.moment ≤ newest older = at-early older n x legal.0 (rw (v.0) at e) in
+            let before : x.written.moment ≤ newest older = at-newest older n x legal.0 (rw (v.0) at e) in
             omega (arith, before, later, mine)
       ]
   | inr w ↦

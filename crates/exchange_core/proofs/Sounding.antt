@@ -1,5 +1,5 @@
 -- What the type of a core keeps, after entries have come.
-use Rattle.std.proofs.Common.{◌≡◌, ℕ, ◌+◌, ◌-◌, ◌^◌, ◌≤◌, ◌<◌, min, Bool, true, false, cond, List, [], ◌∷◌, ◌++◌, length, Option, None, refl, sym, ap, subst, ◌∙◌, arith, length-append}
+use Rattle.std.proofs.Common.{◌≡◌, ℕ, ◌+◌, ◌-◌, ◌^◌, ◌≤◌, ◌<◌, min, Bool, true, false, cond, List, [], ◌∷◌, ◌++◌, length, Option, None, refl, sym, ap, subst, ◌∙◌, arith, length-append, append-nil}
 use Rattle.std.specs.Prelude.{sum_by}
 use Rattle.std.specs.List.{AllByRecursion}
 use Rattle.std.specs.Prelude.{not}
@@ -9,23 +9,22 @@ use Rattle.ask_model.specs.Sizes.{capped}
 use Rattle.journal_book.specs.Entries.{Deed, Opens, Asks, Sends, Hears, Passes, Answers, Shuts, Seals, Written, entry_size}
 use Rattle.history_laws.specs.Readings.{Noted, entries}
 use Rattle.history_laws.specs.Connections.{opened_by, opened}
+use Rattle.history_laws.proofs.CallerLemmas.{entries-length}
 use Rattle.exchange_model.specs.declared.kept.Conn.{Conn}
 use Rattle.exchange_model.specs.State.{State}
 use Rattle.exchange_model.specs.Room.{asks_waiting, KeptInRoom}
 use Rattle.exchange_model.specs.Entering.{IsDrained}
 use Rattle.exchange_model.specs.Resting.{HasConn}
 use Rattle.exchange_model.specs.Steps.{opens, shuts, seals}
-use Rattle.exchange_model.proofs.Tables.{entries-length}
 use Rattle.exchange_model.specs.Room.{fits}
 use Rattle.exchange_model.specs.declared.kept.Exchange.{Exchange}
 use Rattle.exchange_model.specs.State.{PeerLink}
 use Rattle.exchange_model.specs.Entering.{entered_all}
 use Rattle.exchange_core.specs.Drafts.{DraftValue, Drafts}
 use Rattle.exchange_core.specs.States.{with_draft}
-use Rattle.exchange_model.proofs.InRoom.{fits-parts, start-in-room, within-limits, opens-in-room, shuts-in-room}
+use Rattle.exchange_model.proofs.CallerLemmas.{fits-parts, opens-in-room, shuts-in-room, start-in-room, within-limits}
 use Rattle.exchange_core.specs.Answering.{Given, IsGiven}
 use Rattle.exchange_core.specs.Sound.{SoundState}
-use Rattle.exchange_core.proofs.Drafting.{append-none}
 use Rattle.exchange_core.proofs.Stepping.{given-stay, given-join, entered-entries}
 
 -- small counts are what they are
@@ -92,7 +91,7 @@ one-more : (S S1 : State) (bytes bytes1 room room1 : ℕ) (gs gs1 : List Given) 
 one-more S S1 bytes bytes1 room room1 gs gs1 w s kept drained early few es size bs rs same =
     let sum : sum_by entry_size (w ∷ []) ≡ 64 = omega (arith, size) in
     sound-more S S1 bytes bytes1 room room1 gs gs1 [] (w ∷ []) s kept drained early few es
-    (bs ∙ ap (λ (k : ℕ). capped (bytes + capped k)) (sym sum)) rs (same ∙ sym (append-none gs)) tt
+    (bs ∙ ap (λ (k : ℕ). capped (bytes + capped k)) (sym sum)) rs (same ∙ sym (append-nil gs)) tt
 
 -- which of two states it is
 pub second-of : (b : Bool) (x y : State) → b ≡ false → KeptInRoom (cond b x y) → KeptInRoom y

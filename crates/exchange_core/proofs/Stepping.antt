@@ -1,6 +1,8 @@
 -- What a step leaves of a core.
-use Rattle.std.proofs.Common.{◌≡◌, ℕ, zero, suc, ◌+◌, List, [], ◌∷◌, ◌++◌, length, map, drop, slice_get, Some, refl, sym, ap, ◌∙◌, append_assoc, length-append}
+use Rattle.std.proofs.Common.{◌≡◌, ℕ, ◌+◌, List, [], ◌∷◌, ◌++◌, length, map, drop, refl, sym, ap, ◌∙◌, append_assoc, length-append, append-nil, drop_at, arith}
 use Rattle.std.specs.List.{AllByRecursion}
+use Rattle.std.proofs.lemmas.List.{map-append, drop_all}
+use Rattle.history_laws.proofs.CallerLemmas.{got-more}
 use Rattle.coap_codec.specs.Spelling.{Content}
 use Rattle.ask_model.specs.Requests.{Sense, Requests, Refuses}
 use Rattle.journal_book.specs.Entries.{Grounds, Live, Kept, Fault, Seals, Deed, Written}
@@ -13,7 +15,6 @@ use Rattle.exchange_core.specs.Values.{Outgoing, written, answered_in, sent_in, 
 use Rattle.exchange_core.specs.Answering.{Given, HeardAs, AreHeard, IsFound, CountsFrom, IsGiven}
 use Rattle.exchange_core.specs.Drafts.{DraftValue, Drafts, conns_from, untaken_of}
 use Rattle.exchange_core.specs.States.{with_draft, core_of}
-use Rattle.exchange_core.proofs.Drafting.{map-append, append-none}
 
 -- entries in one piece
 
@@ -38,22 +39,18 @@ with-draft t S x xs d h =
     joined t S _ _ _ _ (ap (λ es. S.entries ++ es) h.entries) h.conns ∙ sym (entered-is t x xs S)
 
 pub entered-entries : (t : ℕ) (ds : List Deed) (S : State) → (entered_all t ds S).entries ≡ S.entries ++ map (written t) ds
-entered-entries t [] S = sym (append-none S.entries)
+entered-entries t [] S = sym (append-nil S.entries)
 entered-entries t (x ∷ xs) S =
     entered-entries t xs (entered t x S) ∙ append_assoc S.entries (written t x ∷ []) (map (written t) xs)
 
 -- a core after a step
-
-drop-front : {X : Type 0} (xs ys : List X) → drop (length xs) (xs ++ ys) ≡ ys
-drop-front [] ys = refl
-drop-front (x ∷ xs) ys = drop-front xs ys
 
 pub committed : (t : ℕ) (S S1 : State) (ds : List Deed) (d : DraftValue) (gs gs1 : List Given) (os os1 : List Outgoing)
     → Drafts t S ds d → S1.entries ≡ (entered_all t ds S).entries → gs1 ≡ gs ++ d.answers → os1 ≡ os ++ d.sends
     → core_of S1 gs1 os1 ≡ stepped S1 (core_of S gs os)
 committed t S S1 ds d gs gs1 os os1 h entries answers sends =
     let more : drop (length S.entries) S1.entries ≡ map (written t) ds =
-    ap (drop (length S.entries)) (entries ∙ entered-entries t ds S) ∙ drop-front S.entries (map (written t) ds) in
+    ap (drop (length S.entries)) (entries ∙ entered-entries t ds S) ∙ (drop_at S.entries (map (written t) ds) (length S.entries) refl) in
     let a : map untaken_of gs1 ≡ map untaken_of gs ++ answered_in (length S.entries) (map (written t) ds) =
     ap (map untaken_of) answers ∙ map-append untaken_of gs d.answers ∙ ap (λ ns. map untaken_of gs ++ ns) h.answers in
     let o : os1 ≡ os ++ sent_in (map (written t) ds) = sends ∙ ap (λ xs. os ++ xs) h.sends in
@@ -62,26 +59,17 @@ committed t S S1 ds d gs gs1 os os1 h entries answers sends =
 -- a core whose journal is sealed
 pub stepped-seal : (t : ℕ) (S : State) (gs : List Given) (os : List Outgoing) → core_of (seals t S) gs os ≡ stepped (seals t S) (core_of S gs os)
 stepped-seal t S gs os =
-    rw (drop-front S.entries (written t Seals ∷ []), append-none (map untaken_of gs), append-none os) refl
-
-drop-all : {X : Type 0} (xs : List X) → drop (length xs) xs ≡ []
-drop-all [] = refl
-drop-all (x ∷ xs) = drop-all xs
+    rw ((drop_at S.entries (written t Seals ∷ []) (length S.entries) refl), append-nil (map untaken_of gs), append-nil os) refl
 
 pub stepped-same : (S : State) (gs : List Given) (os : List Outgoing) → stepped S (core_of S gs os) ≡ core_of S gs os
-stepped-same S gs os = rw (drop-all S.entries, append-none (map untaken_of gs), append-none os) refl
+stepped-same S gs os = rw ((drop_all (length S.entries) S.entries (omega arith)), append-nil (map untaken_of gs), append-nil os) refl
 
 -- answers stand in a journal that grows
 
-pub slice-front : {X : Type 0} (xs ys : List X) (i : ℕ) (v : X) → slice_get xs i ≡ Some v → slice_get (xs ++ ys) i ≡ Some v
-slice-front [] ys i v e = absurd cc
-slice-front (x ∷ xs) ys zero v e = e
-slice-front (x ∷ xs) ys (suc i) v e = slice-front xs ys i v e
+pub heard-stays : (h more : List Written) (j t : ℕ) (m : Content) → HeardAs h j t m → HeardAs (h ++ more) j t m
+heard-stays h more j t m a = record { peer = a.peer; bytes = a.bytes; stands = got-more h more j _ a.stands; spelled = a.spelled }
 
-heard-stays : (h more : List Written) (j t : ℕ) (m : Content) → HeardAs h j t m → HeardAs (h ++ more) j t m
-heard-stays h more j t m a = record { peer = a.peer; bytes = a.bytes; stands = slice-front h more j _ a.stands; spelled = a.spelled }
-
-all-heard-stay : (h more : List Written) (js : List ℕ) (ms : List Content) → AreHeard h js ms → AreHeard (h ++ more) js ms
+pub all-heard-stay : (h more : List Written) (js : List ℕ) (ms : List Content) → AreHeard h js ms → AreHeard (h ++ more) js ms
 all-heard-stay h more [] [] a = tt
 all-heard-stay h more [] (m ∷ ms) a = absurd a
 all-heard-stay h more (j ∷ js) [] a = absurd a
@@ -105,8 +93,8 @@ counts-stay h more (Fault cause n) t heard c = c
 pub is-given-stays : (h more : List Written) (g : Given) → IsGiven h g → IsGiven (h ++ more) g
 is-given-stays h more g i = record {
   asked = i.asked;
-  ask_stands = slice-front h more g.ask _ i.ask_stands;
-  stands = slice-front h more g.number _ i.stands;
+  ask_stands = got-more h more g.ask _ i.ask_stands;
+  stands = got-more h more g.number _ i.stands;
   found = found-stays h more g.found.told g.found.grounds g.mapping.sense i.found;
   counts = counts-stay h more g.found.grounds g.moment g.heard i.counts;
 }

@@ -12,6 +12,9 @@ use Rattle.exchange_core.specs.Taking.{IsTaken, is_to_other}
 use Rattle.std.specs.List.{All, AllByRecursion, Contains, filter, remove, slice_get}
 use Rattle.std.proofs.lemmas.List.Elements.{All-nil, All-cons, All-head, All-tail}
 use Rattle.std.proofs.lemmas.Bool.Decides.{eqb_tells}
+use Rattle.std.proofs.lemmas.List.{length-map}
+use Rattle.std.proofs.lemmas.Option.{same_Some}
+use Rattle.history_laws.proofs.CallerLemmas.{all-of}
 
 -- the place of the first with this key is one of the list, and bears the key
 pub place-below : {X : Type 0} (key : X → ℕ) (xs : List X) (i n : ℕ) → option_map key (slice_get xs i) ≡ Some n → i < length xs
@@ -29,23 +32,16 @@ get_or-map f [] i d = refl
 get_or-map f (x ∷ xs) zero d = refl
 get_or-map f (x ∷ xs) (suc i) d = get_or-map f xs i d
 
-map-length : {X Y : Type 0} (f : X → Y) (xs : List X) → length (map f xs) ≡ length xs
-map-length f [] = refl
-map-length f (x ∷ xs) = ap suc (map-length f xs)
-
 -- what was taken out stood in the list
 pub there : {X Y : Type 0} (f : X → Y) (xs : List X) (i : ℕ) (a : X) → i < length xs → a ≡ get_or xs i a → Contains (map f xs) (f a)
-there f xs i a lt e = (i, rw (map-length f xs) lt, get_or-map f xs i a ∙ ap f (sym e))
+there f xs i a lt e = (i, rw (length-map xs f) lt, get_or-map f xs i a ∙ ap f (sym e))
 
 -- none with this key is left, and the others stay: the one taken out first, then all
 pub left : {X : Type 0} (key : X → ℕ) (xs : List X) (i n : ℕ) → option_map key (slice_get xs i) ≡ Some n
     → filter (λ (x : X). not (eqb (key x) n)) (remove xs i) ≡ filter (λ (x : X). not (eqb (key x) n)) xs
 left key [] i n e = absurd cc
 left {X} key (x ∷ xs) zero n e =
-    elim (eqb_tells (key x) n) [ inl u ↦ rw (u.0) refl | inr u ↦ absurd (u.1 (some-same (key x) n e)) ]
-  where
-    some-same : (a b : ℕ) → Some a ≡ Some b → a ≡ b
-    some-same a b f = cc
+    elim (eqb_tells (key x) n) [ inl u ↦ rw (u.0) refl | inr u ↦ absurd (u.1 (same_Some (key x) n e)) ]
 left {X} key (x ∷ xs) (suc i) n e =
     let rest = left key xs i n e in
     elim (eqb_tells (key x) n) [ inl u ↦ rw (u.0) rest | inr u ↦ rw (u.0) (ap (λ (ys : List X). x ∷ ys) rest) ]
@@ -73,12 +69,6 @@ none-of {X} {Y} f key (x ∷ xs) n all =
     All-cons (λ (y : Y). key y ≢ n) (f x) (map f xs) (All-head (λ (x : X). key (f x) ≢ n) x xs all)
     (none-of f key xs n (All-tail (λ (x : X). key (f x) ≢ n) x xs all))
 
--- what holds of each holds of one of them
-pub each-one : {X : Type 0} (P : X → Type 0) (xs : List X) (x : X) → AllByRecursion P xs → Contains xs x → P x
-each-one P [] x all c = absurd (omega (arith, c.1))
-each-one P (y ∷ ys) x all (zero, lt, e) = subst P e all.0
-each-one P (y ∷ ys) x all (suc i, lt, e) = each-one P ys x all.1 (i, omega (arith, lt), e)
-
 pub asks-same : {R : Type 0} (xs : List (Answer R)) → map (λ (a : Answer R). a.ask) xs ≡ map (λ (u : Untaken). u.ask) (map untaken_of (map given_of xs))
 asks-same [] = refl
 asks-same (x ∷ xs) = ap (λ (ks : List ℕ). x.ask ∷ ks) (asks-same xs)
@@ -103,7 +93,7 @@ taken (Some a) k S gs gs1 os all some none others =
     let has = some.1 in (
       some.0,
       there untaken_of gs has.0 (given_of a) has.1 (sym has.2),
-      each-one (IsGiven S.entries) gs (given_of a) all has,
+      all-of (IsGiven S.entries) gs (given_of a) all has,
       ap (λ (hs : List Given). core_of S hs os) others ∙ ap (λ (us : List Untaken). record { state = S; untaken = us; unsent = os }) (map-filter untaken_of (λ (u : Untaken). u.ask) gs k),
     )
 

@@ -63,16 +63,3 @@ done-back f (y ∷ ys) (suc i) r d lt e =
     ap (λ (xs : List PeerLink). f (peer_link y) ∷ xs) (done-back f ys i r d (omega (arith, lt)) e)
     ∙ ap (λ (m : ℕ). map f (map peer_link (take m (y ∷ ys))) ++ map peer_link (drop m (y ∷ ys)))
     (sym n)
-
-pub take-whole : {X : Type 0} (xs : List X) → take (length xs) xs ≡ xs
-take-whole [] = refl
-take-whole (x ∷ xs) = ap (λ ys. x ∷ ys) (take-whole xs)
-
-pub drop-whole : {X : Type 0} (xs : List X) → drop (length xs) xs ≡ []
-drop-whole [] = refl
-drop-whole (x ∷ xs) = drop-whole xs
-
-pub length-set : {X : Type 0} (xs : List X) (i : ℕ) (r : X) → length (set xs i r) ≡ length xs
-length-set [] i r = refl
-length-set (x ∷ xs) zero r = refl
-length-set (x ∷ xs) (suc i) r = ap (λ (n : ℕ). suc n) (length-set xs i r)

@@ -2,6 +2,7 @@
 use Rattle.std.proofs.Common.{◌≡◌, ℕ, ◌+◌, Bool, true, false, cond, List, [], ◌∷◌, ◌++◌, length, map, Option, Some, None, refl, sym, ap, ◌∙◌, arith, length-append}
 use Rattle.std.specs.Prelude.{nat_lt}
 use Rattle.std.specs.Option.{option_map}
+use Rattle.std.proofs.lemmas.Option.{none-some, same_Some}
 use Rattle.uri_map.specs.declared.peer.Peer.{Peer}
 use Rattle.journal_book.specs.Entries.{Deed, Sends}
 use Rattle.message_layer.specs.Values.{LinkState, Told, no_news, timed_out}
@@ -21,12 +22,6 @@ use Rattle.exchange_core.specs.Sending.{sent_first}
 
 news-apart : (token : List ℕ) → no_news ≡ timed_out token → ⊥
 news-apart token e = cc
-
-none-some : (d : List ℕ) → None ≡ Some d → ⊥
-none-some d e = cc
-
-some-same : (d e : List ℕ) → Some d ≡ Some e → d ≡ e
-some-same d e h = cc
 
 -- A copy adds to what goes out.
 longer : (xs : List (List ℕ)) (d : List ℕ) → xs ++ d ∷ [] ≡ xs → ⊥
@@ -90,7 +85,7 @@ copies-so t p s (Some o) d is e = by (nat_lt t (due_of o)) (nat_lt o.retransmiss
     by true b h =
         absurd (longer s.out d (sym (ap (λ (x : LinkState × Told). x.0.out) h)))
     by false true h =
-        (ap (λ (b : List ℕ). Sends p b None ∷ []) (sym (some-same o.datagram d is)), λ n. refl)
+        (ap (λ (b : List ℕ). Sends p b None ∷ []) (sym (same_Some o.datagram d is)), λ n. refl)
     by false false h =
         absurd (news-apart o.token (sym (ap (λ (x : LinkState × Told). x.1) h)))
 

@@ -1,5 +1,6 @@
 -- What the prepared turns send, in the words of the step.
 use Rattle.std.proofs.Common.{◌≡◌, ℕ, ◌+◌, Bool, List, length, map, sym, ap, ◌∙◌, length-append}
+use Rattle.std.proofs.lemmas.List.{length-map}
 use Rattle.journal_book.specs.Entries.{Deed}
 use Rattle.message_layer.specs.Calls.{is_among}
 use Rattle.message_layer.specs.declared.prepared.Ticking.{Ticking}
@@ -7,16 +8,14 @@ use Rattle.exchange_model.specs.declared.kept.Exchange.{Exchange}
 use Rattle.exchange_model.specs.State.{State}
 use Rattle.exchange_model.specs.Steps.{is_gone}
 use Rattle.exchange_model.specs.Entering.{Going, entered_all, all_deeds, all_going, sent_as, gone_tokens}
-use Rattle.exchange_model.proofs.Dropped.{gone-tokens}
+use Rattle.exchange_model.proofs.CallerLemmas.{entries-more, gone-tokens}
 use Rattle.exchange_core.specs.declared.state.Endpoint.{Endpoint}
 use Rattle.exchange_core.specs.Drafts.{DraftValue}
 use Rattle.exchange_core.specs.Leads.{Leads}
 use Rattle.exchange_core.specs.States.{peer_link}
 use Rattle.exchange_core.specs.Turns.{AreTurns, turns_deeds, turns_going}
 use Rattle.exchange_core.specs.Values.{written}
-use Rattle.exchange_core.proofs.Drafting.{length-map}
 use Rattle.exchange_core.proofs.TickDeeds.{deeds-same, going-same}
-use Rattle.exchange_core.proofs.TickRoom.{entered-length}
 use Rattle.exchange_core.proofs.TickSound.{leads-entries}
 
 pub gone-is : (t : ℕ) (S : State) (gone : List (List ℕ)) → gone ≡ gone_tokens t S
@@ -52,5 +51,5 @@ leads-next t S ds d h =
     let one : length (entered_all t ds S).entries ≡ length S.entries + length h.deeds =
     ap length (leads-entries t S (entered_all t ds S) d h) ∙ length-append S.entries d.entries
     ∙ ap (λ (n : ℕ). length S.entries + n)
-    (ap length h.drafts.entries ∙ length-map (written t) h.deeds) in
-    next ∙ sym one ∙ entered-length t ds S
+    (ap length h.drafts.entries ∙ (length-map h.deeds (written t))) in
+    next ∙ sym one ∙ entries-more t ds S

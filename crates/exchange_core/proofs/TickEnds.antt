@@ -1,5 +1,5 @@
 -- The exchanges that end at a tick are those that the step ends.
-use Rattle.std.proofs.Common.{◌≡◌, ℕ, ◌<◌, ◌≤◌, inl, inr, Bool, true, false, not, List, Option, Some, None, refl, ap, arith}
+use Rattle.std.proofs.Common.{◌≡◌, ℕ, inl, inr, Bool, true, false, not, List, Option, Some, None, refl, ap, arith}
 use Rattle.std.specs.Prelude.{filter, is_some, ◌&&◌, ◌||◌}
 use Rattle.std.specs.Str.{bytes_eq}
 use Rattle.std.proofs.lemmas.Bool.{lt-ltb, le-ltb}
@@ -15,7 +15,7 @@ use Rattle.exchange_model.specs.Steps.{is_past, expires}
 use Rattle.exchange_model.specs.Calls.{timed_out}
 use Rattle.exchange_model.specs.Entering.{goes_on}
 use Rattle.exchange_model.specs.Keeping.{Kept}
-use Rattle.exchange_model.proofs.LinksTicked.{Few, few-copies}
+use Rattle.exchange_model.proofs.CallerLemmas.{below, Few, few-copies}
 use Rattle.exchange_core.specs.Expiring.{given_up_by, is_that, is_over, is_still}
 
 and-true : (b : Bool) → b ≡ (b && true)
@@ -25,12 +25,6 @@ and-true false = refl
 and-false : (b : Bool) → false ≡ (b && false)
 and-false true = refl
 and-false false = refl
-
-below : (n : ℕ) → n ≤ 4 → (n ≡ 4 → ⊥) → n < 4
-below n few apart = elim (leb_tells 4 n) [
-  | inl w ↦ let more = w.1 in absurd (apart (omega (arith, more, few)))
-  | inr w ↦ w.1
-]
 
 -- What was sent five times, and is due, is given up.
 given-vain : (t : ℕ) (s : LinkState) (token : List ℕ) (v : Option Outstanding) → Few v

@@ -1,9 +1,9 @@
 -- What is given up at each link.
 use Rattle.std.proofs.Common.{◌≡◌, ℕ, suc, zero, ◌+◌, ◌<◌, List, [], ◌∷◌, ◌++◌, length, map, take, get_or, set, refl, sym, ap, ◌∙◌, arith}
 use Rattle.uri_map.specs.declared.peer.Peer.{Peer}
-use Rattle.message_layer.specs.Values.{LinkState, empty_link}
+use Rattle.message_layer.specs.Values.{LinkState}
 use Rattle.exchange_model.specs.State.{PeerLink, link_of}
-use Rattle.exchange_core.specs.Endpoints.{HasNone, IsFirstAt}
+use Rattle.exchange_core.specs.Endpoints.{IsFirstAt}
 
 -- an element that shows as before is set
 pub map-set : {A B : Type 0} (f : A → B) (xs : List A) (i : ℕ) (r d : A) → f r ≡ f (get_or xs i d)
@@ -40,7 +40,3 @@ pub first-below : {C : Type 0} (g : PeerLink → C) (p : Peer) (xs : List PeerLi
 first-below g p [] i a = absurd a
 first-below g p (x ∷ xs) zero a = omega arith
 first-below g p (x ∷ xs) (suc i) a = let ih = first-below g p xs i a.1 in omega (arith, ih)
-
-pub none-link : (p : Peer) (xs : List PeerLink) → HasNone p xs → link_of xs p ≡ empty_link
-none-link p [] a = refl
-none-link p (x ∷ xs) a = rw (a.0) (none-link p xs a.1)

@@ -1,6 +1,7 @@
 -- Where a draft leads, one entry after another.
 use Rattle.std.proofs.Common.{◌≡◌, ℕ, ◌+◌, List, [], ◌∷◌, ◌++◌, length, Option, refl, sym, ap, subst, ◌∙◌, append_assoc, length-append}
 use Rattle.std.specs.List.{AllByRecursion}
+use Rattle.std.proofs.lemmas.List.{map-append}
 use Rattle.uri_map.specs.declared.peer.Peer.{Peer}
 use Rattle.journal_book.specs.Entries.{Deed, Sends, Written}
 use Rattle.exchange_model.specs.State.{State, conns_after}
@@ -10,7 +11,7 @@ use Rattle.exchange_core.specs.Values.{written}
 use Rattle.exchange_core.specs.Answering.{IsGiven}
 use Rattle.exchange_core.specs.Drafts.{DraftValue, Drafts, conns_from, empty_draft}
 use Rattle.exchange_core.specs.Leads.{Leads}
-use Rattle.exchange_core.proofs.Drafting.{map-append, drafts-none}
+use Rattle.exchange_core.proofs.Drafting.{drafts-none}
 use Rattle.exchange_core.proofs.Stepping.{given-stay}
 
 pub entered-push : (t : ℕ) (ds : List Deed) (x : Deed) (S : State)

@@ -14,11 +14,11 @@ use Rattle.exchange_model.specs.Entering.{entered_all, timeout_of, all_deeds, Is
 use Rattle.exchange_model.specs.Keeping.{MayStep}
 use Rattle.exchange_model.specs.Room.{fits, KeptInRoom}
 use Rattle.exchange_model.specs.Sealing.{late, ticks_in_room}
-use Rattle.exchange_model.proofs.Due.{any-came, next-due}
+use Rattle.exchange_model.proofs.CallerLemmas.{any-came, entries-more, next-due}
 use Rattle.exchange_core.specs.Due.{is_awaited, next_late, next_tick, IsNextTick}
 use Rattle.exchange_core.specs.Passing.{tick_adds}
 use Rattle.exchange_core.specs.Values.{written}
-use Rattle.exchange_core.proofs.TickRoom.{all-longer, entered-length}
+use Rattle.exchange_core.proofs.TickRoom.{all-longer}
 use Rattle.exchange_core.proofs.TickSteps.{when-sealed, when-fits, when-full, when-none, tick-entries}
 
 -- After the seal something is due where an exchange is past for which a connection waits.
@@ -91,7 +91,7 @@ due-adds t S k drained unsealed later due = by (fits (ticked t S)) refl
         let may : MayStep t S = record { kept = k.kept; unsealed = unsealed; later = later } in
         let ds = all_deeds t (is_gone t S) S.links in
         let first : length (entered_all t (Passes ∷ ds) S).entries
-        ≡ length S.entries + suc (length ds) = entered-length t (Passes ∷ ds) S in
+        ≡ length S.entries + suc (length ds) = entries-more t (Passes ∷ ds) S in
         let rest : length (entered_all t (Passes ∷ ds) S).entries
         ≤ length (tick_adds t S).entries =
         all-longer t (timed_out t S) (entered_all t (Passes ∷ ds) S) in

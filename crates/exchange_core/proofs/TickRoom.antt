@@ -1,11 +1,13 @@
 -- How many entries a tick adds.
-use Rattle.std.proofs.Common.{◌≡◌, ℕ, ◌+◌, ◌≤◌, suc, Bool, true, false, cond, List, [], ◌∷◌, length, map, ap, ◌∙◌, arith, length-append}
-use Rattle.std.specs.Prelude.{count_by, fold}
+use Rattle.std.proofs.Common.{◌≡◌, ℕ, ◌+◌, ◌≤◌, suc, Bool, true, false, cond, List, [], ◌∷◌, length, ap, arith, length-append}
+use Rattle.std.specs.Prelude.{fold}
 use Rattle.std.specs.List.{list_any}
+use Rattle.std.proofs.lemmas.List.Sums.{count_by-le-length}
 use Rattle.journal_book.specs.Entries.{Deed, Opens, Asks, Sends, Hears, Passes, Answers, Shuts, Seals}
 use Rattle.history_laws.specs.Readings.{Noted, Note, Plain, Begins, First, Copies, Confirms, Says, Repeats, Garbled, entries}
 use Rattle.history_laws.specs.Transmissions.{firsts, firsts_by}
 use Rattle.history_laws.specs.Sealing.{outstanding_count}
+use Rattle.history_laws.proofs.CallerLemmas.{entries-length}
 use Rattle.exchange_model.specs.declared.kept.Exchange.{Exchange}
 use Rattle.exchange_model.specs.State.{State}
 use Rattle.exchange_model.specs.Steps.{entered, is_gone}
@@ -13,29 +15,10 @@ use Rattle.exchange_model.specs.Calls.{waits_on, times_out, timed_out, something
 use Rattle.exchange_model.specs.Entering.{entered_all, timeout_of, all_deeds, IsDrained}
 use Rattle.exchange_model.specs.Keeping.{MayStep}
 use Rattle.exchange_model.specs.Room.{KeptInRoom, entries_taken}
-use Rattle.exchange_model.proofs.Counting.{count-cons}
-use Rattle.exchange_model.proofs.InRoom.{fits-parts}
-use Rattle.exchange_model.proofs.Tables.{entries-length}
-use Rattle.exchange_model.proofs.Tallies.{busy-count}
-use Rattle.exchange_model.proofs.TickAdds.{ticked-adds}
+use Rattle.exchange_model.proofs.CallerLemmas.{busy-count, entries-more, fits-parts, ticked-adds}
 use Rattle.exchange_core.specs.Passing.{tick_adds}
 use Rattle.exchange_core.specs.Values.{written}
-use Rattle.exchange_core.proofs.Drafting.{length-map}
-use Rattle.exchange_core.proofs.Stepping.{entered-entries}
 use Rattle.exchange_core.proofs.TickTimed.{ticked-is}
-
--- no more are counted than there are
-few-counted : {X : Type 0} (p : X → Bool) (xs : List X) → count_by p xs ≤ length xs
-few-counted p [] = omega arith
-few-counted p (x ∷ xs) =
-    let c = count-cons p x xs in
-    let ih = few-counted p xs in
-    let one = at-most (p x) in
-    omega (arith, c, ih, one)
-  where
-    at-most : (b : Bool) → cond b 1 0 ≤ 1
-    at-most true = omega arith
-    at-most false = omega arith
 
 few-firsts : (l : List Noted) → length (firsts l) ≤ length l
 few-firsts [] = omega arith
@@ -80,12 +63,6 @@ all-longer t (e ∷ es) S =
     let rest = all-longer t es (times_out t S e) in
     omega (arith, one, rest)
 
-pub entered-length : (t : ℕ) (ds : List Deed) (S : State)
-    → length (entered_all t ds S).entries ≡ length S.entries + length ds
-entered-length t ds S =
-    ap length (entered-entries t ds S) ∙ length-append S.entries (map (written t) ds)
-    ∙ ap (λ (n : ℕ). length S.entries + n) (length-map (written t) ds)
-
 pub few-deeds : (t : ℕ) (S : State) → KeptInRoom S → MayStep t S → IsDrained S
     → something_due t S ≡ true
     → length S.entries + length (all_deeds t (is_gone t S) S.links) ≤ 131072
@@ -96,7 +73,7 @@ few-deeds t S k may drained due =
     let adds = (ticked-adds t _ S (record { short = k.short; apart = k.apart })
     k.kept.rests.links).entries in
     let busy = busy-count l S r k.apart in
-    let few : outstanding_count l ≤ length (firsts l) = few-counted _ (firsts l) in
+    let few : outstanding_count l ≤ length (firsts l) = count_by-le-length _ (firsts l) in
     let firsts = few-firsts l in
     let count : length (entries l) ≡ length l = entries-length l in
     let all : length (entries l) ≡ length S.entries = ap length r.entries_are in
@@ -106,5 +83,5 @@ few-deeds t S k may drained due =
     ≤ length (tick_adds t S).entries = all-longer t (timed_out t S) _ in
     let here : length (entered_all t (Passes ∷ all_deeds t (is_gone t S) S.links) S).entries
     ≡ length S.entries + suc (length (all_deeds t (is_gone t S) S.links)) =
-    entered-length t (Passes ∷ all_deeds t (is_gone t S) S.links) S in
+    entries-more t (Passes ∷ all_deeds t (is_gone t S) S.links) S in
     omega (arith, limit, adds, busy, few, firsts, count, all, is, longer, here)

@@ -1,7 +1,8 @@
 -- What a core keeps after a draft that leads from one state to another.
-use Rattle.std.proofs.Common.{◌≡◌, ℕ, ◌+◌, ◌^◌, ◌≤◌, ◌<◌, cond, Bool, true, false, List, [], ◌∷◌, ◌++◌, length, refl, sym, ap, subst, ◌∙◌, arith, length-append}
+use Rattle.std.proofs.Common.{◌≡◌, ℕ, ◌+◌, ◌^◌, ◌≤◌, ◌<◌, cond, Bool, true, false, List, [], ◌∷◌, ◌++◌, length, refl, sym, ap, subst, ◌∙◌, arith, length-append, append-nil}
 use Rattle.std.specs.Prelude.{sum_by, fold, filter}
 use Rattle.std.specs.List.{AllByRecursion, list_any}
+use Rattle.std.proofs.lemmas.List.{length-map}
 use Rattle.ask_model.specs.Sizes.{capped}
 use Rattle.journal_book.specs.Entries.{Deed, Answers, Seals, Written, entry_size}
 use Rattle.exchange_model.specs.declared.kept.Conn.{Conn}
@@ -12,15 +13,13 @@ use Rattle.exchange_model.specs.Calls.{waits_on, times_out, ticked}
 use Rattle.exchange_model.specs.Entering.{entered_all, timeout_of, StandsOnce, IsDrained}
 use Rattle.exchange_model.specs.Room.{fits, KeptInRoom}
 use Rattle.exchange_model.specs.Sealing.{late}
-use Rattle.exchange_model.proofs.InRoom.{ticks-in-room, within-limits}
-use Rattle.exchange_model.proofs.TickEnters.{stays-drained}
+use Rattle.exchange_model.proofs.CallerLemmas.{stays-drained, ticks-in-room, within-limits}
 use Rattle.exchange_core.specs.Values.{Outgoing, stepped}
 use Rattle.exchange_core.specs.Answering.{Given, IsGiven}
 use Rattle.exchange_core.specs.Drafts.{DraftValue, Drafts}
 use Rattle.exchange_core.specs.Leads.{Leads}
 use Rattle.exchange_core.specs.Sound.{SoundState}
 use Rattle.exchange_core.specs.States.{with_draft, core_of}
-use Rattle.exchange_core.proofs.Drafting.{length-map, append-none}
 use Rattle.exchange_core.proofs.Sounding.{sound-more}
 use Rattle.exchange_core.proofs.Stepping.{with-draft, entered-entries, committed}
 
@@ -99,7 +98,7 @@ one-open t e S = by (list_any (waits_on e) S.conns)
     by : (b : Bool)
         → length (cond b (entered t (Answers e.conn e.opening (timeout_of e)) S) S).conns ≡ length
         S.conns
-    by true = length-map (pend e.conn _) S.conns
+    by true = length-map S.conns (pend e.conn _)
     by false = refl
 
 pub still-open : (t : ℕ) (es : List Exchange) (S : State)
@@ -128,7 +127,7 @@ leads-at t S U d h at = by h.deeds h.drafts h.is
         ap (λ (es : List Written). record S
         { entries = S.entries ++ es; conns = d.conns; moment = t }) a.entries
         ∙ ap (λ (es : List Written). record S { entries = es; conns = d.conns; moment = t })
-        (append-none S.entries)
+        (append-nil S.entries)
         ∙ ap (λ (cs : List Conn). record S { conns = cs; moment = t }) a.conns
         ∙ ap (λ (k : ℕ). record S { moment = k }) (sym before) ∙ e
     by (x ∷ xs) a e = with-draft t S x xs d a ∙ e

@@ -11,9 +11,7 @@ use Rattle.exchange_model.specs.Entering.{entered_all, all_deeds, all_going, sen
 use Rattle.exchange_model.specs.Keeping.{MayStep}
 use Rattle.exchange_model.specs.Room.{fits, KeptInRoom}
 use Rattle.exchange_model.specs.Sealing.{late, ticks_in_room}
-use Rattle.exchange_model.proofs.InRoom.{ticks-in-room}
-use Rattle.exchange_model.proofs.Passed.{moved-conns}
-use Rattle.exchange_model.proofs.TickEnters.{stays-drained}
+use Rattle.exchange_model.proofs.CallerLemmas.{moved-conns, stays-drained, ticks-in-room}
 use Rattle.exchange_core.specs.Drafts.{DraftValue}
 use Rattle.exchange_core.specs.Leads.{Leads}
 use Rattle.exchange_core.specs.Passing.{moved_on, tick_adds}

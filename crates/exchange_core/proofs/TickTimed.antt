@@ -17,16 +17,16 @@ use Rattle.message_layer.specs.declared.prepared.Ticking.TheVariants.{Rests, Cop
 use Rattle.message_layer.specs.declared.state.Outstanding.{Outstanding}
 use Rattle.message_layer.specs.declared.state.Waiting.{Waiting}
 use Rattle.history_links.specs.Agrees.{WaitIn}
-use Rattle.history_links.proofs.Facts.{all-filter}
 use Rattle.history_laws.specs.Exchanges.{waiting}
 use Rattle.history_laws.specs.Readings.{Noted}
+use Rattle.history_laws.proofs.CallerLemmas.{all-filter}
 use Rattle.exchange_model.specs.declared.kept.Exchange.{Exchange}
 use Rattle.exchange_model.specs.State.{PeerLink, State, link_of}
 use Rattle.exchange_model.specs.Steps.{entered, is_gone}
 use Rattle.exchange_model.specs.Calls.{waits_on, times_out, timed_out, something_due, ticked}
 use Rattle.exchange_model.specs.Entering.{entered_all, timeout_of, sent_as, all_deeds, all_going, goes_on, link_after, StandsOnce, IsDrained}
 use Rattle.exchange_model.specs.Keeping.{Kept, MayStep}
-use Rattle.exchange_model.proofs.TickEnters.{ticks-enter}
+use Rattle.exchange_model.proofs.CallerLemmas.{ticks-enter}
 use Rattle.exchange_core.specs.declared.state.Endpoint.{Endpoint}
 use Rattle.exchange_core.specs.Passing.{tick_adds}
 use Rattle.exchange_core.specs.States.{peer_link}

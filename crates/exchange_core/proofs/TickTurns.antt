@@ -7,7 +7,7 @@ use Rattle.exchange_model.specs.declared.kept.Exchange.{Exchange}
 use Rattle.exchange_model.specs.State.{PeerLink, State}
 use Rattle.exchange_model.specs.Steps.{entered}
 use Rattle.exchange_model.specs.Entering.{entered_all, sent_as}
-use Rattle.exchange_model.proofs.Entered.{sent-both}
+use Rattle.exchange_model.proofs.CallerLemmas.{sent-both}
 use Rattle.exchange_core.specs.declared.state.Endpoint.{Endpoint}
 use Rattle.exchange_core.specs.States.{peer_link}
 use Rattle.exchange_core.specs.Turns.{AreTurns, deeds_of, going_of, turns_deeds, turns_going}

@@ -28,12 +28,9 @@ use Rattle.history_laws.specs.Exchanges.{End, end_of, is_waiting}
 use Rattle.history_laws.specs.Confirming.{owed}
 use Rattle.history_laws.specs.Justified.{MayConfirm}
 use Rattle.history_laws.specs.Worked.{noted}
-use Rattle.history_laws.proofs.Copying.{ticked-newest}
-use Rattle.history_laws.proofs.Places.{at-keeps}
-use Rattle.history_laws.proofs.Resting.{some-is}
+use Rattle.history_laws.proofs.CallerLemmas.{all-more, at-keeps, some-is, ticked-newest}
 use Rattle.history_links.specs.Agrees.{due}
-use Rattle.history_links.proofs.Facts.{all-more, waiting-goes}
-use Rattle.history_links.proofs.Sent.{sent, ends-sent}
+use Rattle.history_links.proofs.CallerLemmas.{ends-sent, sent, waiting-goes}
 use Rattle.exchange_model.specs.declared.kept.Exchange.{Exchange}
 use Rattle.exchange_model.specs.State.{State, link_of}
 use Rattle.exchange_model.specs.Steps.{given_out, is_under, went_out, confirms}

@@ -1,9 +1,11 @@
 -- An ask opens an exchange.
-use Rattle.std.proofs.Common.{◌≡◌, ℕ, zero, suc, ◌+◌, ◌<◌, ◌⊎◌, inl, inr, Bool, true, false, cond, List, [], ◌∷◌, ◌++◌, length, map, refl, sym, ap, subst, ◌∙◌, arith, length-append}
-use Rattle.std.specs.Prelude.{filter, is_none, ◌||◌}
+use Rattle.std.proofs.Common.{◌≡◌, ℕ, ◌+◌, ◌<◌, inl, inr, Bool, true, false, List, [], ◌∷◌, ◌++◌, length, map, refl, sym, ap, subst, ◌∙◌, arith, length-append}
+use Rattle.std.specs.Prelude.{is_none, ◌||◌}
 use Rattle.std.specs.List.{AllByRecursion, Contains, list_any}
 use Rattle.std.specs.Str.{bytes_eq}
 use Rattle.std.proofs.lemmas.Slice.Eq.{bytes_eq-Decides}
+use Rattle.std.proofs.lemmas.List.{map_push}
+use Rattle.std.proofs.lemmas.List.Elements.{Contains-push_cases}
 use Rattle.uri_map.specs.declared.peer.Peer.{Peer}
 use Rattle.journal_book.specs.Entries.{Asks, Written}
 use Rattle.history_laws.specs.Numbering.{token_number}
@@ -15,44 +17,19 @@ use Rattle.history_laws.specs.Transmissions.{FirstSending, firsts, bears_token}
 use Rattle.history_laws.specs.Exchanges.{openings, is_going}
 use Rattle.history_laws.specs.Justified.{Follows, AskNote}
 use Rattle.history_laws.specs.Worked.{noted}
-use Rattle.history_laws.proofs.Elements.{contains-none, first-or-later}
-use Rattle.history_laws.proofs.Facts.{eqb-itself}
-use Rattle.history_laws.proofs.Places.{at-new, before-new}
+use Rattle.history_laws.proofs.CallerLemmas.{all-more, all-push, at-new, before-new, contains-none, entries-length, eqb-itself, filter-push, first-or-later}
 use Rattle.history_links.specs.Agrees.{WaitIn, IsWaitingFor, Agrees}
-use Rattle.history_links.proofs.Facts.{all-more, all-push}
-use Rattle.history_links.proofs.OtherPeers.{ask-elsewhere}
-use Rattle.history_links.proofs.Queueing.{queued-agrees}
-use Rattle.history_links.proofs.Ranks.{rank-below}
-use Rattle.history_links.proofs.Unbegun.{unbegun, not-yet}
+use Rattle.history_links.proofs.CallerLemmas.{ask-elsewhere, not-yet, queued-agrees, rank-below, unbegun}
 use Rattle.exchange_model.specs.declared.kept.Exchange.{Exchange}
 use Rattle.exchange_model.specs.State.{PeerLink, State, link_of, with_link}
 use Rattle.exchange_model.specs.Reads.{ExchangeIn, WaitsUnder, opening_of, Reads}
 use Rattle.exchange_model.specs.Steps.{exchange_for}
 use Rattle.exchange_model.specs.Laws.{BeginsLeads}
 use Rattle.exchange_model.proofs.Lists.{all-both}
-use Rattle.exchange_model.proofs.Tables.{entries-length, exchange-stays, all-links}
+use Rattle.exchange_model.proofs.Tables.{exchange-stays, all-links}
 use Rattle.exchange_model.proofs.Silent.{later-than, link-before}
 
 -- lists
-
-pub filter-push : {X : Type 0} (f : X → Bool) (xs : List X) (y : X) → f y ≡ true → filter f (xs ++ y ∷ []) ≡ filter f xs ++ y ∷ []
-filter-push f [] y e = rw (e) refl
-filter-push {X = X} f (x ∷ xs) y e = by (f x) (filter-push f xs y e)
-  where
-    by : (b : Bool) → filter f (xs ++ y ∷ []) ≡ filter f xs ++ y ∷ [] → cond b (x ∷ filter f (xs ++ y ∷ [])) (filter f (xs ++ y ∷ [])) ≡ cond b (x ∷ filter f xs) (filter f xs) ++ y ∷ []
-    by true h = rw (h) refl
-    by false h = h
-
-pub map-push : {X Y : Type 0} (f : X → Y) (xs : List X) (y : X) → map f (xs ++ y ∷ []) ≡ map f xs ++ f y ∷ []
-map-push f [] y = refl
-map-push f (x ∷ xs) y = ap (λ (v : List _). f x ∷ v) (map-push f xs y)
-
-pub contains-push : {X : Type 0} (xs : List X) (y v : X) → Contains (xs ++ y ∷ []) v → Contains xs v ⊎ (y ≡ v)
-contains-push [] y v h = elim (first-or-later y [] v h) [ inl e ↦ inr e | inr w ↦ absurd (contains-none v w) ]
-contains-push (x ∷ xs) y v h = elim (first-or-later x (xs ++ y ∷ []) v h) [
-  | inl e ↦ inl (zero, omega arith, e)
-  | inr w ↦ elim (contains-push xs y v w) [ inl k ↦ inl (suc k.0, let lt = k.1 in omega arith, k.2) | inr e ↦ inr e ]
-]
 
 -- what waits has a number that was issued
 
@@ -123,7 +100,7 @@ begins-leads l t c a q token text word S b may who sense room spelled size numbe
         conns_are = rw (r.conns_are, here) refl;
         keys = filter-push (is_going n) (openings l) (length l) (ap is_none none.1)
             ∙ (ap (λ (os : List ℕ). os ++ length l ∷ []) r.keys
-            ∙ (ap (λ (k : ℕ). map opening_of S.exchanges ++ k ∷ []) (sym here) ∙ sym (map-push opening_of S.exchanges e)));
+            ∙ (ap (λ (k : ℕ). map opening_of S.exchanges ++ k ∷ []) (sym here) ∙ sym (map_push opening_of S.exchanges e)));
         exchanges_are = all-push (ExchangeIn n) S.exchanges e (all-more (ExchangeIn l) (ExchangeIn n) (λ y h. exchange-stays x l y (λ k. k) refl h) S.exchanges r.exchanges_are)
             (subst (λ (k : ℕ). ExchangeIn n (record e { opening = k })) (sym here) (record {
               request = q;
@@ -150,7 +127,7 @@ begins-leads l t c a q token text word S b may who sense room spelled size numbe
 
     old : (y : Exchange) → ExchangeIn l y × WaitsUnder (link_of S.links y.peer).waiting y → y.peer ≡ q.peer
         → WaitsUnder ((link_of S.links q.peer).waiting ++ waits token text word ∷ []) y
-    old y h at_q v has same = elim (contains-push (link_of S.links q.peer).waiting (waits token text word) v has) [
+    old y h at_q v has same = elim (Contains-push_cases (link_of S.links q.peer).waiting (waits token text word) v has) [
       | inl k ↦ h.1 v (subst (λ (p : Peer). Contains (link_of S.links p).waiting v) (sym at_q) k) same
       | inr e ↦
           let less = rank-below l y.opening _ h.0.opening in
@@ -161,7 +138,7 @@ begins-leads l t c a q token text word S b may who sense room spelled size numbe
     ]
 
     new : WaitsUnder ((link_of S.links q.peer).waiting ++ waits token text word ∷ []) (exchange_for t c q token S)
-    new v has same = elim (contains-push (link_of S.links q.peer).waiting (waits token text word) v has) [
+    new v has same = elim (Contains-push_cases (link_of S.links q.peer).waiting (waits token text word) v has) [
       | inl k ↦ absurd (above v k same)
       | inr e ↦ ap (λ (u : Waiting). u.token) (sym e)
     ]

@@ -4,23 +4,23 @@ use Rattle.std.specs.Prelude.{is_none, option_map}
 use Rattle.std.specs.List.{AllByRecursion}
 use Rattle.std.specs.Str.{bytes_eq}
 use Rattle.std.proofs.lemmas.Slice.Eq.{bytes_eq-Decides}
+use Rattle.std.proofs.lemmas.List.{map_push}
 use Rattle.ask_model.specs.declared.cause.Cause.TheVariants as C
 use Rattle.ask_model.specs.Requests.{Sense}
 use Rattle.journal_book.specs.Entries.{Deed, Asks}
 use Rattle.history_laws.specs.Numbering.{token_number}
+use Rattle.history_laws.proofs.CallerLemmas.{all-more}
 use Rattle.message_layer.specs.Values.{LinkState}
 use Rattle.message_layer.specs.Sending.{waits, queued, submitted}
 use Rattle.message_layer.specs.declared.state.Outstanding.{Outstanding}
 use Rattle.message_layer.specs.declared.state.Waiting.{Waiting}
-use Rattle.history_links.proofs.Facts.{all-more}
-use Rattle.history_links.proofs.Ranks.{rank-below}
+use Rattle.history_links.proofs.CallerLemmas.{rank-below}
 use Rattle.exchange_model.specs.declared.kept.Exchange.{Exchange}
 use Rattle.exchange_model.specs.State.{PeerLink, State, link_of, with_link}
 use Rattle.exchange_model.specs.Reads.{ExchangeIn}
 use Rattle.exchange_model.specs.Steps.{exchange_for, begins, entered, given_out, is_under, went_out}
 use Rattle.exchange_model.specs.Calls.{asked_by, refused, next}
 use Rattle.exchange_model.specs.Entering.{going_as, sent_as, first_deeds, in_turn, at_once, begun, BeginsEnter, RefusalsEnter, BusyEnters}
-use Rattle.exchange_model.proofs.Begins.{map-push}
 use Rattle.exchange_model.proofs.Entered.{put, framed, next-put, turn_of, out-at}
 use Rattle.exchange_model.proofs.LinksHeard.{Turns, turns}
 
@@ -37,7 +37,7 @@ busy-enters t c a q n S e full =
 itself : (token : List ℕ) → bytes_eq token token ≡ true
 itself token = (bytes_eq-Decides token token).1 refl
 
-not-under : (token : List ℕ) (i : ℕ) (e : Exchange) → is_under token e ≡ false
+pub not-under : (token : List ℕ) (i : ℕ) (e : Exchange) → is_under token e ≡ false
     → went_out token i e ≡ e
 not-under token i e h = ap (λ (b : Bool). cond b (record e { sending = Some i }) e) h
 
@@ -57,7 +57,7 @@ new-sent : (w : Waiting) (i : ℕ) (v : Option Outstanding) (es : List Exchange)
 new-sent w i (Some o) es e same unsent a =
     ap (λ (s : Option ℕ). es ++ record e { sending = s } ∷ []) unsent
 new-sent w i None es e same unsent a =
-    map-push (went_out w.token i) es e
+    map_push (went_out w.token i) es e
     ∙ (ap (λ (xs : List Exchange). xs ++ went_out w.token i e ∷ []) (others-stay w.token i es a)
     ∙ ap (λ (b : Bool). es ++ cond b (record e { sending = Some i }) e ∷ [])
     (ap (λ (k : List ℕ). bytes_eq k w.token) same ∙ itself w.token))

@@ -1,8 +1,8 @@
 -- The token that a new message ends was sent to its endpoint.
-use Rattle.std.proofs.Common.{◌≡◌, ℕ, ◌⊎◌, inl, inr, Bool, true, false, cond, eqb, ltb, leb, List, [], ◌∷◌, ◌++◌, Option, Some, None, refl, sym, subst, ◌∙◌}
-use Rattle.std.specs.Prelude.{◌&&◌, ◌||◌, count_by}
+use Rattle.std.proofs.Common.{◌≡◌, ℕ, ◌⊎◌, inl, inr, Bool, true, false, cond, eqb, ltb, leb, List, ◌++◌, Option, Some, None, refl, sym, subst, ◌∙◌}
+use Rattle.std.specs.Prelude.{◌&&◌, count_by}
 use Rattle.std.specs.List.{find, list_any}
-use Rattle.std.proofs.lemmas.Bool.{false≢true}
+use Rattle.std.proofs.lemmas.Option.{same_Some}
 use Rattle.coap_codec.specs.Spelling.{Content}
 use Rattle.coap_codec.specs.declared.message.MsgType.{MsgType}
 use Rattle.coap_codec.specs.declared.message.MsgType.TheVariants.{Con, Non, Ack, Rst}
@@ -19,11 +19,10 @@ use Rattle.history_laws.specs.Readings.{Noted}
 use Rattle.history_laws.specs.Transmissions.{FirstSending, first_at}
 use Rattle.history_laws.specs.Exchanges.{awaited}
 use Rattle.history_laws.specs.Hearing.{went_under, went_as, is_under, is_as, open_at, answers_by, answers}
-use Rattle.history_laws.proofs.Resting.{first as and-left, second as and-right}
+use Rattle.history_laws.proofs.CallerLemmas.{and-left, and-right, find-any, find-some}
 use Rattle.history_links.specs.Agrees.{TurnIn, Agrees}
 use Rattle.history_links.specs.Steps.{ended_token}
-use Rattle.history_links.proofs.Judging.{token-found, out-first, out-peer}
-use Rattle.history_links.proofs.Tokens.{find-passes}
+use Rattle.history_links.proofs.CallerLemmas.{out-first, out-peer, token-found}
 
 -- a first sending to the endpoint bears it
 pub record IsBorne (l : List Noted) (p : Peer) (token : List ℕ) : Type 0 where
@@ -34,12 +33,7 @@ pub record IsBorne (l : List Noted) (p : Peer) (token : List ℕ) : Type 0 where
   pub token_is : first.message.token ≡ token
 
 pub any-one : {X : Type 0} (q : X → Bool) (xs : List X) → list_any q xs ≡ true → (x : X) × (q x ≡ true)
-any-one q [] e = absurd (false≢true e)
-any-one {X = X} q (x ∷ xs) e = by (q x) refl (any-one q xs) e
-  where
-    by : (b : Bool) → q x ≡ b → (list_any q xs ≡ true → (y : X) × (q y ≡ true)) → (b || list_any q xs) ≡ true → (y : X) × (q y ≡ true)
-    by true is ih e = (x, is)
-    by false is ih e = ih e
+any-one q xs e = let it = find-any q xs e in (it.0, (find-some q xs it.0 it.1).1)
 
 pub under-borne : (l : List Noted) (p : Peer) (token : List ℕ) (i : ℕ) → went_under p token (first_at l i) ≡ true → IsBorne l p token
 under-borne l p token i e =
@@ -52,13 +46,10 @@ under-borne l p token i e =
       token_is = f.2;
     }
 
-some-same : (a b : List ℕ) → Some a ≡ Some b → a ≡ b
-some-same a b e = cc
-
 if-awaited : (l : List Noted) (p : Peer) (s : LinkState) (m : Content) (of : List ℕ) → Agrees l p s → list_any (is_awaited m.token) s.awaited ≡ true → Some m.token ≡ Some of → IsBorne l p of
 if-awaited l p s m of a e same =
     let one = any-one (λ (i : ℕ). went_under p m.token (first_at l i)) (awaited l) (sym (a.awaits m.token) ∙ e) in
-    subst (IsBorne l p) (some-same m.token of same) (under-borne l p m.token one.0 one.1)
+    subst (IsBorne l p) (same_Some m.token of same) (under-borne l p m.token one.0 one.1)
 
 pub split : (c : Bool) (x y : Verdict) (token of : List ℕ) → ended_token (cond c x y).news token ≡ Some of
     → ((c ≡ true) × (ended_token x.news token ≡ Some of)) ⊎ ((c ≡ false) × (ended_token y.news token ≡ Some of))
@@ -93,7 +84,7 @@ if-acked : (l : List Noted) (p : Peer) (s : LinkState) (m : Content) (of : List 
 if-acked l p s m of a false e h = absurd cc
 if-acked l p s m of a true e h =
     let one = any-one (λ (i : ℕ). went_under p m.token (first_at l i) && went_as p m.mid (first_at l i)) (awaited l) (sym (a.acks m.mid m.token) ∙ e) in
-    subst (IsBorne l p) (some-same m.token of h) (under-borne l p m.token one.0 (and-left (went_under p m.token (first_at l one.0)) _ one.1))
+    subst (IsBorne l p) (same_Some m.token of h) (under-borne l p m.token one.0 (and-left (went_under p m.token (first_at l one.0)) _ one.1))
 
 ack-borne : (l : List Noted) (p : Peer) (s : LinkState) (m : Content) (of : List ℕ) → Agrees l p s → ended_token (ack_verdict s m).news m.token ≡ Some of → IsBorne l p of
 ack-borne l p s m of a h = elim (split (eqb m.code 0) _ _ m.token of h) [
@@ -110,7 +101,7 @@ ack-borne l p s m of a h = elim (split (eqb m.code 0) _ _ m.token of h) [
 rst-borne : (l : List Noted) (p : Peer) (m : Content) (of : List ℕ) (v : Option Outstanding) → TurnIn l p v → ended_token (rst_verdict m v).news m.token ≡ Some of → IsBorne l p of
 rst-borne l p m of None a h = absurd cc
 rst-borne l p m of (Some o) a h = elim (split ((eqb m.code 0) && (eqb o.mid m.mid)) _ _ m.token of h) [
-  | inl w ↦ record { number = a.first.number; first = a.first; is = out-first l p o a; peer = out-peer l p o a; token_is = a.token ∙ some-same o.token of w.1 }
+  | inl w ↦ record { number = a.first.number; first = a.first; is = out-first l p o a; peer = out-peer l p o a; token_is = a.token ∙ same_Some o.token of w.1 }
   | inr w ↦ absurd (nothing w.1)
 ]
   where
@@ -134,14 +125,14 @@ under-peer p token v f is e = and-left (same_peer f.peer p) _ (subst (λ (u : Op
 
 answers-what : (l : List Noted) (p : Peer) (m : Content) (k : MsgType) (empty response : Bool) (i : ℕ) → answers_by l p m k empty response ≡ Some i
     → (is_under l p m i ≡ true) ⊎ (is_as l p m i ≡ true)
-answers-what l p m Con empty true i e = inl (find-passes (is_under l p m) (awaited l) i e)
+answers-what l p m Con empty true i e = inl ((find-some (is_under l p m) (awaited l) i e).1)
 answers-what l p m Con empty false i e = absurd cc
-answers-what l p m Non empty true i e = inl (find-passes (is_under l p m) (awaited l) i e)
+answers-what l p m Non empty true i e = inl ((find-some (is_under l p m) (awaited l) i e).1)
 answers-what l p m Non empty false i e = absurd cc
-answers-what l p m Ack empty true i e = inl (and-left (is_under l p m i) _ (find-passes (λ (j : ℕ). is_under l p m j && is_as l p m j) (awaited l ++ open_at l p) i e))
-answers-what l p m Ack true false i e = inr (find-passes (is_as l p m) (open_at l p) i e)
+answers-what l p m Ack empty true i e = inl (and-left (is_under l p m i) _ ((find-some (λ (j : ℕ). is_under l p m j && is_as l p m j) (awaited l ++ open_at l p) i e).1))
+answers-what l p m Ack true false i e = inr ((find-some (is_as l p m) (open_at l p) i e).1)
 answers-what l p m Ack false false i e = absurd cc
-answers-what l p m Rst true response i e = inr (find-passes (is_as l p m) (open_at l p) i e)
+answers-what l p m Rst true response i e = inr ((find-some (is_as l p m) (open_at l p) i e).1)
 answers-what l p m Rst false response i e = absurd cc
 
 pub answers-peer : (l : List Noted) (p : Peer) (m : Content) (i : ℕ) (f : FirstSending) → answers l p m ≡ Some i → first_at l i ≡ Some f → same_peer f.peer p ≡ true

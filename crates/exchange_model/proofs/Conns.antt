@@ -1,16 +1,16 @@
 -- A connection that is kept is open, and waits for its oldest ask that isn't answered.
-use Rattle.std.proofs.Common.{◌≡◌, ◌≢◌, ℕ, ◌+◌, ◌<◌, ◌≤◌, Bool, true, false, not, ◌||◌, eqb, inl, inr, List, [], ◌∷◌, ◌++◌, length, filter, slice_get, Option, Some, None, refl, sym, ap, subst, ◌∙◌, arith, length-append}
+use Rattle.std.proofs.Common.{◌≡◌, ◌≢◌, ℕ, ◌+◌, ◌<◌, ◌≤◌, Bool, true, false, not, eqb, inl, inr, List, [], ◌∷◌, ◌++◌, length, filter, slice_get, Option, Some, None, refl, sym, ap, subst, ◌∙◌, arith, length-append}
 use Rattle.std.specs.List.{AllByRecursion}
 use Rattle.std.proofs.lemmas.Option.{slice_get_within}
 use Rattle.std.proofs.lemmas.Bool.Decides.{eqb_tells}
-use Rattle.std.proofs.lemmas.Bool.{false≢true}
+use Rattle.std.proofs.lemmas.Bool.{false≢true, or_right, not-true}
 use Rattle.ask_model.specs.Views.{Ask}
 use Rattle.journal_book.specs.Entries.{Grounds, Deed, Opens, Asks, Answers, Shuts}
 use Rattle.history_laws.specs.Readings.{Noted, Note}
 use Rattle.history_laws.specs.Connections.{is_open, asks_of, answers_of, opened_by, opened}
 use Rattle.history_laws.specs.Justified.{pending, Follows, Legal}
 use Rattle.history_laws.specs.Worked.{noted}
-use Rattle.history_links.proofs.Facts.{all-more, all-push, all-filter, all-passes}
+use Rattle.history_laws.proofs.CallerLemmas.{all-filter, all-more, all-passes, all-push, open-below}
 use Rattle.exchange_model.specs.declared.kept.Conn.{Conn}
 use Rattle.exchange_model.specs.State.{pend}
 use Rattle.exchange_model.specs.Reads.{conns_of}
@@ -25,21 +25,7 @@ pub record ConnIn (l : List Noted) (x : Conn) : Type 0 where
   pub open_now : is_open l x.id ≡ true
   pub waits : PendingIn l x.id x.pending
 
-open-step : (older : List Noted) (c t : ℕ) (d : Deed) (note : Note) → (is_open older c ≡ true → c < opened older)
-    → Follows older t d note → is_open (noted t d note ∷ older) c ≡ true → c < opened_by d (opened older)
-open-step older c t (Opens e) note ih may h =
-    let here = may.1 in
-    elim (eqb_tells e c) [ inl w ↦ omega arith | inr w ↦ let r = ih (rw (w.0) at h) in omega arith ]
-open-step older c t (Shuts e) note ih may h =
-    elim (eqb_tells e c) [ inl w ↦ absurd (false≢true (rw (w.0) at h)) | inr w ↦ let r = ih (rw (w.0) at h) in omega arith ]
-open-step older c t d note ih may h = ih h
-
--- a connection is known by a number below
-pub is_open-below : (l : List Noted) → Legal l → (c : ℕ) → is_open l c ≡ true → c < opened l
-is_open-below [] legal c e = absurd (false≢true e)
-is_open-below (x ∷ older) legal c e =
-    open-step older c x.written.moment x.written.deed x.note (is_open-below older legal.0 c) legal.2 e
-
+-- nothing was asked or answered on a connection
 abbrev NothingOf : List Noted → ℕ → Type 0
 NothingOf l c = (asks_of l c ≡ []) × (answers_of l c ≡ [])
 
@@ -50,10 +36,10 @@ opened-more d n = omega arith
 asked-step : (older : List Noted) (c t : ℕ) (d : Deed) (note : Note) → Legal older → opened_by d (opened older) ≤ c
     → NothingOf older c → Follows older t d note → NothingOf (noted t d note ∷ older) c
 asked-step older c t (Asks e a) note legal lt ih may =
-    let b = is_open-below older legal e may.1 in
+    let b = open-below older legal e may.1 in
     elim (eqb_tells e c) [ inl w ↦ absurd (omega arith) | inr w ↦ rw (w.0) ih ]
 asked-step older c t (Answers e k g) note legal lt ih may =
-    let b = is_open-below older legal e may.1 in
+    let b = open-below older legal e may.1 in
     elim (eqb_tells e c) [ inl w ↦ absurd (omega arith) | inr w ↦ rw (w.0) ih ]
 asked-step older c t d note legal lt ih may = ih
 
@@ -78,10 +64,6 @@ conn-keeps x' l x e f g h = record { open_now = e ∙ h.open_now; waits = waits 
     waits : (p : Option ℕ) → PendingIn l x.id p → PendingIn (x' ∷ l) x.id p
     waits None w = ap length f ∙ w ∙ sym (ap length g)
     waits (Some k) w = rw (f, g) w
-
-or-true : (b : Bool) → (b || true) ≡ true
-or-true true = refl
-or-true false = refl
 
 turned : (a b : ℕ) → a ≢ b → eqb b a ≡ false
 turned a b e = elim (eqb_tells b a) [ inl u ↦ absurd (e (sym u.1)) | inr u ↦ u.0 ]
@@ -125,10 +107,6 @@ answered-conn l t c k g note may x w =
       | inr e ↦ let other = turned x.id c e.1 in rw (e.0) (conn-keeps (noted t (Answers c k g) note) l x refl refl (rw other refl) w)
     ]
 
-not-is : (b : Bool) → not b ≡ true → b ≡ false
-not-is true e = cc
-not-is false e = refl
-
 -- the connections after an entry
 conns-step : (l : List Noted) (t : ℕ) (d : Deed) (note : Note) → Legal l → Follows l t d note
     → AllByRecursion (ConnIn l) (conns_of l) → AllByRecursion (ConnIn (noted t d note ∷ l)) (conns_of (noted t d note ∷ l))
@@ -137,7 +115,7 @@ conns-step l t (Opens c) note legal may h =
     let none = none-asked l legal c (omega arith) in
     all-push (ConnIn (noted t (Opens c) note ∷ l)) (conns_of l) (record { id = c; pending = None })
     (all-more (ConnIn l) (ConnIn (noted t (Opens c) note ∷ l))
-    (λ x w. record { open_now = rw (w.open_now) (or-true (eqb c x.id)); waits = w.waits }) (conns_of l) h)
+    (λ x w. record { open_now = rw (w.open_now) (or_right (eqb c x.id) true refl); waits = w.waits }) (conns_of l) h)
     (record {
       open_now = elim (eqb_tells c c) [ inl w ↦ rw (w.0) refl | inr w ↦ absurd (w.1 refl) ];
       waits = ap length none.0 ∙ sym (ap length none.1);
@@ -152,7 +130,7 @@ conns-step l t (Shuts c) note legal may h =
     let stays : Conn → Bool = λ x. not (eqb x.id c) in
     let left : List Conn = filter stays (conns_of l) in
     all-more (λ (x : Conn). ConnIn l x × (stays x ≡ true)) (ConnIn (noted t (Shuts c) note ∷ l))
-    (λ x w. let other = turned x.id c (apart x.id (not-is (eqb x.id c) w.1)) in conn-keeps (noted t (Shuts c) note) l x (rw other refl) refl refl w.0)
+    (λ x w. let other = turned x.id c (apart x.id (not-true (eqb x.id c) w.1)) in conn-keeps (noted t (Shuts c) note) l x (rw other refl) refl refl w.0)
     left (all-both (ConnIn l) (λ (x : Conn). stays x ≡ true) left (all-filter (ConnIn l) stays (conns_of l) h) (all-passes stays (conns_of l)))
   where
     apart : (a : ℕ) → eqb a c ≡ false → a ≢ c

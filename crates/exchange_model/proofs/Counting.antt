@@ -1,13 +1,12 @@
 -- How many elements of a list pass a test.
-use Rattle.std.proofs.Common.{◌≡◌, ℕ, ◌+◌, ◌≤◌, Bool, true, false, cond, inl, inr, List, [], ◌∷◌, map, refl, sym, ap, subst, ◌∙◌, arith}
+use Rattle.std.proofs.Common.{◌≡◌, ℕ, ◌+◌, ◌≤◌, Bool, true, false, cond, List, [], ◌∷◌, map, refl, sym, ap, subst, ◌∙◌, arith}
 use Rattle.std.specs.Prelude.{count_by, filter, ◌&&◌, ◌||◌}
-use Rattle.std.specs.List.{AllByRecursion, Contains, list_any}
+use Rattle.std.specs.List.{AllByRecursion, list_any}
 use Rattle.std.proofs.lemmas.Bool.{false≢true, or_parts}
 use Rattle.std.proofs.lemmas.List.Sums.{sum_by-cons}
 use Rattle.uri_map.specs.declared.peer.Peer.{Peer}
 use Rattle.ask_model.specs.Requests.{same_peer}
 use Rattle.ask_model.proofs.Endpoints.{same_peer-same, same_peer-itself}
-use Rattle.history_laws.proofs.Elements.{contains-none, first-or-later}
 use Rattle.exchange_model.specs.Room.{AreApart}
 
 abbrev pub one : Bool → ℕ
@@ -89,18 +88,6 @@ count-filter p q (x ∷ xs) = by (q x) (count-filter p q xs)
     by false ih =
         let b = count-cons p x xs in
         omega (arith, ih, b)
-
-pub any-of : {X : Type 0} (q : X → Bool) (xs : List X) (x : X) → Contains xs x → q x ≡ true
-    → list_any q xs ≡ true
-any-of q [] x h e = absurd (contains-none x h)
-any-of q (y ∷ ys) x h e = elim (first-or-later y ys x h) [
-  | inl w ↦ rw (w, e) refl
-  | inr w ↦ by (q y) (any-of q ys x w e)
-]
-  where
-    by : (b : Bool) → list_any q ys ≡ true → (b || list_any q ys) ≡ true
-    by true ih = refl
-    by false ih = ih
 
 -- endpoints that are apart
 

@@ -11,9 +11,7 @@ use Rattle.history_laws.specs.Readings.{Noted, Note, Plain, Begins, at}
 use Rattle.history_laws.specs.Connections.{answers_of}
 use Rattle.history_laws.specs.Confirming.{owed}
 use Rattle.history_laws.specs.Worked.{noted}
-use Rattle.history_laws.proofs.Answering.{asks-stand}
-use Rattle.history_laws.proofs.Facts.{eqb-itself}
-use Rattle.history_laws.proofs.Places.{at-keeps, at-same}
+use Rattle.history_laws.proofs.CallerLemmas.{asks-stand, at-keeps, at-same, eqb-itself}
 use Rattle.exchange_model.specs.declared.kept.Conn.{Conn}
 use Rattle.exchange_model.specs.declared.kept.Exchange.{Exchange}
 use Rattle.exchange_model.specs.State.{State, pend}

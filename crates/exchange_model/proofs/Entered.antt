@@ -35,7 +35,7 @@ apart : (t : ℕ) (ds : List Deed) (es : List Exchange) (xs : List PeerLink) (S 
 apart t [] es xs S = refl
 apart t (d ∷ ds) es xs S = apart t ds es xs (entered t d S)
 
-entered-both : (t : ℕ) (ds fs : List Deed) (S : State)
+pub entered-both : (t : ℕ) (ds fs : List Deed) (S : State)
     → entered_all t (ds ++ fs) S ≡ entered_all t fs (entered_all t ds S)
 entered-both t [] fs S = refl
 entered-both t (d ∷ ds) fs S = entered-both t ds fs (entered t d S)

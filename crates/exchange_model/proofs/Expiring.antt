@@ -1,10 +1,9 @@
 -- Which exchanges a tick ends: a state tells just what the history tells.
-use Rattle.std.proofs.Common.{◌≡◌, ℕ, zero, ◌⊎◌, arith, Bool, true, false, inl, inr, List, [], ◌∷◌, length, map, Option, Some, None, is_some, refl, sym, ap, subst, ◌∙◌}
+use Rattle.std.proofs.Common.{◌≡◌, ℕ, ◌⊎◌, Bool, true, false, inl, inr, List, [], ◌∷◌, length, Option, Some, None, is_some, refl, sym, ap, subst, ◌∙◌}
 use Rattle.std.specs.Prelude.{◌&&◌, ◌||◌, option_and_then}
 use Rattle.std.specs.List.{AllByRecursion, Contains, list_any}
 use Rattle.std.specs.Str.{bytes_eq}
 use Rattle.std.proofs.lemmas.Bool.{false≢true}
-use Rattle.std.proofs.lemmas.List.Elements.{All-contains, All-from_recursion}
 use Rattle.std.proofs.lemmas.Slice.Eq.{bytes_eq-Decides}
 use Rattle.uri_map.specs.declared.peer.Peer.{Peer}
 use Rattle.history_laws.specs.Numbering.{token_number}
@@ -14,20 +13,10 @@ use Rattle.history_laws.specs.Readings.{Noted}
 use Rattle.history_laws.specs.Transmissions.{FirstSending, first_at, Transmission, transmission, given_up, if_outstanding, outstanding}
 use Rattle.history_laws.specs.Exchanges.{begun, is_late, expires as ends_at, waits_for, Turn, Sent, Replied, Rejected, Expired, Nothing, turn, waits_by, replies, end_here, end_by, end_of, open_exchanges}
 use Rattle.history_laws.specs.Justified.{Follows, Legal}
-use Rattle.history_laws.proofs.Elements.{contains-none, contains-later, first-or-later}
-use Rattle.history_laws.proofs.Openings.{open-exactly}
-use Rattle.history_laws.proofs.Outstanding.{outstanding-last}
-use Rattle.history_laws.proofs.Replies.{first-stands}
-use Rattle.history_laws.proofs.Resting.{some-is, none-is}
-use Rattle.history_laws.proofs.Sendings.{may-be}
-use Rattle.history_laws.proofs.Sent.{sent-for}
-use Rattle.history_laws.proofs.Turns.{turn-sent, waits-first}
+use Rattle.history_laws.proofs.CallerLemmas.{all-more, all-of, contains-mapped, contains-none, first-or-later, first-stands, may-be, none-is, open-exactly, outstanding-last, sent-for, some-is, turn-sent, waits-first}
 use Rattle.history_links.specs.Agrees.{way_of, TurnIn, Agrees}
 use Rattle.history_links.specs.Steps.{is_over}
-use Rattle.history_links.proofs.Copying.{is-outstanding}
-use Rattle.history_links.proofs.Facts.{all-more, waiting-goes}
-use Rattle.history_links.proofs.Judging.{out-first}
-use Rattle.history_links.proofs.Tokens.{one-token}
+use Rattle.history_links.proofs.CallerLemmas.{is-outstanding, one-token, out-first, waiting-goes}
 use Rattle.exchange_model.specs.declared.kept.Exchange.{Exchange}
 use Rattle.exchange_model.specs.State.{PeerLink, State, link_of}
 use Rattle.exchange_model.specs.Reads.{IsSentUnder, ExchangeIn, opening_of, Reads}
@@ -120,16 +109,6 @@ awaited-open l o i legal e =
     (open-exactly l o).1 (ap is_some s.opened, waits-going l o i legal e)
 
 -- the exchange that is open with this number
-
-pub contains-mapped : {X Y : Type 0} (f : X → Y) (xs : List X) (y : Y) → Contains (map f xs) y → (x : X) × Contains xs x × (f x ≡ y)
-contains-mapped f [] y h = absurd (contains-none y h)
-contains-mapped f (x ∷ xs) y h = elim (first-or-later (f x) (map f xs) y h) [
-  | inl e ↦ (x, (zero, omega arith, refl), e)
-  | inr k ↦ let rest = contains-mapped f xs y k in (rest.0, contains-later x xs rest.0 rest.1, rest.2)
-]
-
-pub all-of : {X : Type 0} (P : X → Type 0) (xs : List X) (x : X) → AllByRecursion P xs → Contains xs x → P x
-all-of P xs x a h = All-contains P xs x (All-from_recursion P xs a) h
 
 pub kept-at : (l : List Noted) (S : State) (o : ℕ) → Reads l S → Contains (open_exchanges l) o
     → (e : Exchange) × Contains S.exchanges e × (e.opening ≡ o) × ExchangeIn l e

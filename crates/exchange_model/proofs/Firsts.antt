@@ -6,6 +6,7 @@ use Rattle.std.specs.Str.{bytes_eq}
 use Rattle.std.proofs.lemmas.Bool.{false≢true, cases_lt}
 use Rattle.std.proofs.lemmas.Bool.Decides.{eqb_tells}
 use Rattle.std.proofs.lemmas.Slice.Eq.{bytes_eq-Decides}
+use Rattle.std.proofs.lemmas.List.Elements.{filter_agree}
 use Rattle.coap_codec.specs.Spelling.{Content}
 use Rattle.uri_map.specs.declared.peer.Peer.{Peer}
 use Rattle.ask_model.specs.Requests.{same_peer}
@@ -18,18 +19,9 @@ use Rattle.message_layer.specs.declared.state.Waiting.{Waiting}
 use Rattle.history_laws.specs.Readings.{Noted}
 use Rattle.history_laws.specs.Transmissions.{FirstSending, bears_token}
 use Rattle.history_laws.specs.Exchanges.{Begun, begun, goes_to, openings, is_going, is_waiting, waits_for}
-use Rattle.history_laws.proofs.Elements.{contains-later}
-use Rattle.history_laws.proofs.Facts.{eqb-itself}
-use Rattle.history_laws.proofs.Places.{at-keeps}
-use Rattle.history_laws.proofs.Resting.{first as and-left}
-use Rattle.history_laws.proofs.Sent.{begun-keeps}
+use Rattle.history_laws.proofs.CallerLemmas.{all-more, and-left, at-keeps, begun-keeps, contains-later, entries-length, eqb-itself}
 use Rattle.history_links.specs.Agrees.{rank, IsWaitingFor, Agrees}
-use Rattle.history_links.proofs.Facts.{all-more}
-use Rattle.history_links.proofs.Nexts.{next-follows}
-use Rattle.history_links.proofs.OtherPeers.{send-elsewhere}
-use Rattle.history_links.proofs.Ranks.{rank-keeps, rank-below, rank-apart}
-use Rattle.history_links.proofs.Sent.{sent, ends-sent, waits-sent}
-use Rattle.history_links.proofs.Still.{filter-same}
+use Rattle.history_links.proofs.CallerLemmas.{ends-sent, next-follows, rank-apart, rank-below, rank-keeps, send-elsewhere, sent, waits-sent}
 use Rattle.exchange_model.specs.declared.kept.Exchange.{Exchange}
 use Rattle.exchange_model.specs.State.{link_of}
 use Rattle.exchange_model.specs.Reads.{ExchangeIn, WaitsUnder, opening_of}
@@ -38,7 +30,7 @@ use Rattle.exchange_model.specs.Laws.{FirstLeads}
 use Rattle.exchange_model.proofs.Begins.{waits-with}
 use Rattle.exchange_model.proofs.Lists.{all-map, all-both}
 use Rattle.exchange_model.proofs.Silent.{later-than, link-before}
-use Rattle.exchange_model.proofs.Tables.{given-agrees, entries-length, exchange-stays, all-links}
+use Rattle.exchange_model.proofs.Tables.{given-agrees, exchange-stays, all-links}
 
 -- Two openings with one rank are one.
 pub one-rank : (l : List Noted) (o q : ℕ) (b c : Begun) → begun l o ≡ Some b → begun l q ≡ Some c → rank l o ≡ rank l q → o ≡ q
@@ -137,7 +129,7 @@ first-leads l t p w ws S b q small few free is =
           opened_are = r.opened_are;
           issued_are = r.issued_are;
           conns_are = r.conns_are;
-          keys = filter-same (is_going n) (is_going l) (λ k. ap is_none (ends-sent l t p v.datagram (Some v.timeout) o m k)) (openings l) ∙ (r.keys ∙ keys-kept w.token (length S.entries) S.exchanges);
+          keys = filter_agree (is_going n) (is_going l) (λ k. ap is_none (ends-sent l t p v.datagram (Some v.timeout) o m k)) (openings l) ∙ (r.keys ∙ keys-kept w.token (length S.entries) S.exchanges);
           exchanges_are = subst (λ (k : ℕ). AllByRecursion (ExchangeIn n) (map (went_out w.token k) S.exchanges)) (sym here)
               (all-map (went_out w.token (length l)) (ExchangeIn n) S.exchanges
               (all-more _ _ (λ e h. mine l t p v.datagram (Some v.timeout) o m w made.2 made.3 made.4 e h.0 (first-waits e h.1) (bytes_eq e.token w.token) refl) S.exchanges kept));

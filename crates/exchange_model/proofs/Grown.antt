@@ -3,6 +3,7 @@ use Rattle.std.proofs.Common.{◌≡◌, ◌⊎◌, inl, inr, ℕ, ◌+◌, Bool
 use Rattle.std.specs.Prelude.{◌&&◌, fold, filter, map, is_some, nat_le, ⊤}
 use Rattle.std.specs.List.{AllByRecursion, list_any}
 use Rattle.std.proofs.lemmas.List.{append-nil, append_assoc, append_cancel_left}
+use Rattle.history_laws.proofs.CallerLemmas.{all-more}
 use Rattle.coap_codec.specs.Spelling.{Content}
 use Rattle.coap_codec.specs.Reading.{message_at}
 use Rattle.coap_codec.specs.declared.fault.CodecFault.{CodecFault}
@@ -18,7 +19,6 @@ use Rattle.message_layer.specs.declared.state.Waiting.{Waiting}
 use Rattle.message_layer.specs.declared.verdict.News.{News}
 use Rattle.message_layer.specs.declared.verdict.News.TheVariants as N
 use Rattle.message_layer.specs.declared.verdict.Verdict.{Verdict}
-use Rattle.history_links.proofs.Facts.{all-more}
 use Rattle.history_links.specs.Steps.{ended_token}
 use Rattle.exchange_model.specs.declared.kept.Conn.{Conn}
 use Rattle.exchange_model.specs.declared.kept.Exchange.{Exchange}
@@ -29,7 +29,7 @@ use Rattle.exchange_model.specs.Room.{fits}
 use Rattle.exchange_model.specs.Sealing.{in_room, if_unsealed, opens_in_room, asks_in_room, hears_in_room, late, ticks_in_room}
 use Rattle.exchange_model.specs.Growing.{conns_with, Adds, OpensAdd, ShutsAdd, SealsAdd, AsksAdd, HearsAdd, LateAdds, TicksAdd, at_moment, OpensAlone, IsOfAsk, AsksAnswer, by_client, HearsAnswer, TicksAnswer}
 
-conns-both : (cs : List Conn) (n : ℕ) (xs ys : List Written)
+pub conns-both : (cs : List Conn) (n : ℕ) (xs ys : List Written)
     → conns_with cs n (xs ++ ys) ≡ conns_with (conns_with cs n xs) (n + length xs) ys
 conns-both cs n [] ys = let e : n ≡ n + 0 = omega arith in ap (λ (k : ℕ). conns_with cs k ys) e
 conns-both cs n (x ∷ xs) ys =

@@ -3,9 +3,10 @@ use Rattle.std.proofs.Common.{◌≡◌, ℕ, inl, inr, Bool, true, false, cond,
 use Rattle.std.specs.Prelude.{filter, find, is_some, not, ◌&&◌, ◌||◌}
 use Rattle.std.specs.List.{AllByRecursion, Contains, list_any, filter_map, cons_option}
 use Rattle.std.specs.Str.{bytes_eq}
-use Rattle.std.proofs.lemmas.Bool.{false≢true}
+use Rattle.std.proofs.lemmas.Bool.{false≢true, or_right, not-true}
 use Rattle.std.proofs.lemmas.Bool.Decides.{eqb_tells}
 use Rattle.std.proofs.lemmas.Slice.Eq.{bytes_eq-Decides}
+use Rattle.std.proofs.lemmas.List.Elements.{filter_agree}
 use Rattle.coap_codec.specs.Spelling.{Content}
 use Rattle.uri_map.specs.declared.peer.Peer.{Peer}
 use Rattle.ask_model.specs.Requests.{same_peer}
@@ -18,18 +19,10 @@ use Rattle.history_laws.specs.Transmissions.{FirstSending, firsts, first_at, bea
 use Rattle.history_laws.specs.Exchanges.{begun, openings, is_going, open_exchanges, waits_for, awaited}
 use Rattle.history_laws.specs.Hearing.{went_under, answers}
 use Rattle.history_laws.specs.Justified.{Follows, Legal}
-use Rattle.history_laws.proofs.Elements.{contains-none, first-or-later}
-use Rattle.history_laws.proofs.Facts.{eqb-itself}
-use Rattle.history_laws.proofs.Openings.{begun-listed}
+use Rattle.history_laws.proofs.CallerLemmas.{all-filter, all-more, all-passes, any-of, begun-listed, entries-length, eqb-itself, filter-by, some-is}
 use Rattle.history_links.specs.Agrees.{Agrees}
 use Rattle.history_links.specs.Steps.{ended_token, heard_link, heard}
-use Rattle.history_links.proofs.Facts.{all-more, all-filter, all-passes}
-use Rattle.history_links.proofs.HeardElsewhere.{says-elsewhere}
-use Rattle.history_links.proofs.Judging.{Judged, is_ended}
-use Rattle.history_links.proofs.Replying.{hit, ends_what, waits-after, going-after}
-use Rattle.history_links.proofs.Saying.{judge, says-agrees}
-use Rattle.history_links.proofs.Still.{filter-same}
-use Rattle.history_links.proofs.Tokens.{one-token}
+use Rattle.history_links.proofs.CallerLemmas.{ends_what, going-after, hit, is_ended, judge, Judged, one-token, says-agrees, says-elsewhere, waits-after}
 use Rattle.exchange_model.specs.declared.kept.Exchange.{Exchange}
 use Rattle.exchange_model.specs.State.{link_of}
 use Rattle.exchange_model.specs.Reads.{IsSentUnder, ExchangeIn, WaitsUnder, opening_of}
@@ -39,7 +32,7 @@ use Rattle.exchange_model.proofs.Begins.{waits-with}
 use Rattle.exchange_model.proofs.Borne.{IsBorne, ended-borne, answers-peer}
 use Rattle.exchange_model.proofs.Lists.{all-both}
 use Rattle.exchange_model.proofs.Silent.{later-than, link-before}
-use Rattle.exchange_model.proofs.Tables.{entries-length, exchange-stays, all-links}
+use Rattle.exchange_model.proofs.Tables.{exchange-stays, all-links}
 
 -- lists
 
@@ -51,10 +44,6 @@ filter-map {X = X} q f (x ∷ xs) = by (q (f x)) (filter-map q f xs)
         → cond b (f x ∷ filter q (map f xs)) (filter q (map f xs)) ≡ map f (cond b (x ∷ filter (λ (y : X). q (f y)) xs) (filter (λ (y : X). q (f y)) xs))
     by true h = ap (λ (v : List _). f x ∷ v) h
     by false h = h
-
-pub filter-by : {X : Type 0} (p q : X → Bool) (xs : List X) → AllByRecursion (λ (x : X). p x ≡ q x) xs → filter p xs ≡ filter q xs
-filter-by p q [] a = refl
-filter-by p q (x ∷ xs) a = rw (a.0, filter-by p q xs a.1) refl
 
 pub filter-both : {X : Type 0} (f g : X → Bool) (xs : List X) → filter (λ (x : X). f x && g x) xs ≡ filter f (filter g xs)
 filter-both f g [] = refl
@@ -76,13 +65,9 @@ among-awaited waits i o is (q ∷ os) e = elim (eqb_tells o q) [
   | inr w ↦ by (waits q) (among-awaited waits i o is os (subst (λ (b : Bool). (b || list_any (eqb o) os) ≡ true) w.0 e))
 ]
   where
-    or-right : (a b : Bool) → b ≡ true → (a || b) ≡ true
-    or-right true b e = refl
-    or-right false b e = e
-
     by : (v : Option ℕ) → list_any (eqb i) (filter_map waits os) ≡ true → list_any (eqb i) (cons_option v (filter_map waits os)) ≡ true
     by None h = h
-    by (Some j) h = or-right (eqb i j) _ h
+    by (Some j) h = or_right (eqb i j) _ h
 
 -- first sendings
 
@@ -91,10 +76,6 @@ bears-it : (f : FirstSending) (token : List ℕ) (fs : List FirstSending) (i : �
 bears-it f token [] i e same = absurd cc
 bears-it f token (g ∷ fs) i e same = by (eqb g.number i) e (λ h. bears-it f token fs i h same)
   where
-    or-right : (a b : Bool) → b ≡ true → (a || b) ≡ true
-    or-right true b e = refl
-    or-right false b e = e
-
     is-it : (x : FirstSending) → Some x ≡ Some f → x ≡ f
     is-it x e = cc
 
@@ -102,13 +83,10 @@ bears-it f token (g ∷ fs) i e same = by (eqb g.number i) e (λ h. bears-it f t
         → (find (λ (k : FirstSending). eqb k.number i) fs ≡ Some f → list_any (λ (k : FirstSending). bytes_eq k.message.token token) fs ≡ true)
         → (bytes_eq g.message.token token || list_any (λ (k : FirstSending). bytes_eq k.message.token token) fs) ≡ true
     by true e ih = rw ((bytes_eq-Decides g.message.token token).1 (ap (λ (k : FirstSending). k.message.token) (is-it g e) ∙ same)) refl
-    by false e ih = or-right (bytes_eq g.message.token token) _ (ih e)
+    by false e ih = or_right (bytes_eq g.message.token token) _ (ih e)
 
 pub borne-bears : (l : List Noted) (f : FirstSending) (token : List ℕ) (i : ℕ) → first_at l i ≡ Some f → f.message.token ≡ token → bears_token l token ≡ true
 borne-bears l f token i is same = bears-it f token (firsts l) i is same
-
-some-first : (f g : FirstSending) → Some f ≡ Some g → f ≡ g
-some-first f g e = cc
 
 bytes_eq-itself : (a : List ℕ) → bytes_eq a a ≡ true
 bytes_eq-itself a = (bytes_eq-Decides a a).1 refl
@@ -117,15 +95,7 @@ begun-some : (l : List Noted) (e : Exchange) → ExchangeIn l e → is_some (beg
 begun-some l e h = rw (h.opening) refl
 
 contained : (xs : List ℕ) (n : ℕ) → Contains xs n → list_any (eqb n) xs ≡ true
-contained [] n h = absurd (contains-none n h)
-contained (x ∷ xs) n h = elim (first-or-later x xs n h) [
-  | inl e ↦ rw (e) (rw (eqb-itself n) refl)
-  | inr w ↦ or-right (eqb n x) _ (contained xs n w)
-]
-  where
-    or-right : (a b : Bool) → b ≡ true → (a || b) ≡ true
-    or-right true b e = refl
-    or-right false b e = e
+contained xs n h = any-of (eqb n) xs n h (eqb-itself n)
 
 is-listed : (l : List Noted) (o : ℕ) → is_some (begun l o) ≡ true → list_any (eqb o) (openings l) ≡ true
 is-listed l o e = contained (openings l) o (begun-listed l o e)
@@ -166,7 +136,7 @@ ends-kept l t p s m legal agrees judged e h (Some i) sending waits under = by (s
     other-borne : (of : List ℕ) → same_peer e.peer p ≡ false → IsBorne l p of → e.token ≡ of → ⊥
     other-borne of away b same =
         let one = one-token l i b.number f b.first legal under.1 b.is (under.3 ∙ (same ∙ sym b.token_is)) in
-        let first : f ≡ b.first = some-first f b.first (sym under.1 ∙ (ap (first_at l) one ∙ b.is)) in
+        let first : f ≡ b.first = some-is f b.first (sym under.1 ∙ (ap (first_at l) one ∙ b.is)) in
         let peer : same_peer f.peer p ≡ true = subst (λ (g : FirstSending). same_peer g.peer p ≡ true) (sym first) b.peer in
         false≢true (sym away ∙ subst (λ (q : Peer). same_peer q p ≡ true) under.2 peer)
 
@@ -193,10 +163,6 @@ ends-kept l t p s m legal agrees judged e h (Some i) sending waits under = by (s
 
 -- the exchanges after it
 
-not-true : (b : Bool) → not b ≡ true → b ≡ false
-not-true true e = absurd (false≢true e)
-not-true false e = refl
-
 stay-waiting : (b : Bool) (v : Option ℕ) → b ≡ false → cond b None v ≡ v
 stay-waiting true v e = absurd (false≢true (sym e))
 stay-waiting false v e = refl
@@ -213,7 +179,7 @@ open-after : (l : List Noted) (t : ℕ) (p : Peer) (s : LinkState) (d : List ℕ
     → open_exchanges (heard l t p d m ∷ l) ≡ map opening_of (filter (is_other (ended_token (verdict_of t s m).news m.token)) es)
 open-after l t p s d m es legal agrees judged kept keys =
     let stays = λ (o : ℕ). not (hit (answers l p m) m (waits_for l o)) in
-    filter-same (is_going (heard l t p d m ∷ l)) (λ (o : ℕ). stays o && is_going l o) (going-after l t p d m (answers l p m)) (openings l)
+    filter_agree (is_going (heard l t p d m ∷ l)) (λ (o : ℕ). stays o && is_going l o) (going-after l t p d m (answers l p m)) (openings l)
     ∙ (filter-both stays (is_going l) (openings l)
     ∙ (ap (filter stays) keys
     ∙ (filter-map stays opening_of es

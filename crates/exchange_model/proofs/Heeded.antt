@@ -176,7 +176,7 @@ new-heeded t p d m S come =
 
 -- What is nothing new leaves all but the entries.
 
-all-others : (es : List Exchange) → filter (is_other None) es ≡ es
+pub all-others : (es : List Exchange) → filter (is_other None) es ≡ es
 all-others [] = refl
 all-others (e ∷ es) = ap (λ (xs : List Exchange). e ∷ xs) (all-others es)
 

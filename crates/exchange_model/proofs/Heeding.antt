@@ -2,8 +2,9 @@
 use Rattle.std.proofs.Common.{◌≡◌, ℕ, zero, ◌+◌, ◌<◌, ◌≤◌, ◌⊎◌, inl, inr, Bool, true, false, cond, ltb, leb, List, [], ◌∷◌, length, Option, Some, None, Result, Ok, Err, refl, sym, ap, subst, ◌∙◌, arith}
 use Rattle.std.specs.Prelude.{filter, find, ◌&&◌, is_some, option_map, count_by}
 use Rattle.std.specs.List.{AllByRecursion, Contains}
-use Rattle.std.proofs.lemmas.Bool.{false≢true, leb-true}
+use Rattle.std.proofs.lemmas.Bool.{false≢true, leb-true, not-false}
 use Rattle.std.proofs.lemmas.Slice.Eq.{bytes_eq-Decides}
+use Rattle.std.proofs.lemmas.Option.{none-some}
 use Rattle.limits.specs.declared.TheConstants.{MAX_TRANSMIT_WAIT}
 use Rattle.coap_codec.specs.Spelling.{Content, Spells}
 use Rattle.coap_codec.specs.Reading.{message_at}
@@ -33,12 +34,10 @@ use Rattle.history_laws.specs.Transmissions.{FirstSending, last_sent}
 use Rattle.history_laws.specs.Confirming.{owed}
 use Rattle.history_laws.specs.Hearing.{is_such, heard_before, repeated, can_be_remembered}
 use Rattle.history_laws.specs.Worked.{noted}
-use Rattle.history_laws.proofs.Elements.{contains-none, contains-later, first-or-later, find-some}
-use Rattle.history_laws.proofs.Resting.{first as and-left, second as and-right}
+use Rattle.history_laws.proofs.CallerLemmas.{all-filter, all-more, all-of, and-left, and-right, any-of, contains-later, find-any, find-some, is-some}
 use Rattle.history_links.specs.Agrees.{due, Agrees}
 use Rattle.history_links.specs.Steps.{ended_token, heard_link, heard as heard_entry, reset}
-use Rattle.history_links.proofs.Facts.{all-more, all-filter}
-use Rattle.history_links.proofs.Remembering.{none-before}
+use Rattle.history_links.proofs.CallerLemmas.{none-before}
 use Rattle.exchange_model.specs.declared.kept.Conn.{Conn}
 use Rattle.exchange_model.specs.declared.kept.Exchange.{Exchange}
 use Rattle.exchange_model.specs.State.{State, link_of}
@@ -50,11 +49,10 @@ use Rattle.exchange_model.specs.Calls.{next, given_back, ended_in, ends_if, grou
 use Rattle.exchange_model.specs.Keeping.{HasMids, Kept, MayStep, HearsKeeps}
 use Rattle.exchange_model.proofs.Amid.{Amid, Moved, RestAt, IsEarly, next-moves, given-moves}
 use Rattle.exchange_model.proofs.Ending.{ServedWith, ends-told}
-use Rattle.exchange_model.proofs.Expiring.{all-of}
 use Rattle.exchange_model.proofs.Firsts.{one-rank}
 use Rattle.exchange_model.proofs.Grounds.{IsOver, over-moves, both-go}
 use Rattle.exchange_model.proofs.Hearing.{hears-leads}
-use Rattle.exchange_model.proofs.Over.{heard-over, not-false}
+use Rattle.exchange_model.proofs.Over.{heard-over}
 use Rattle.exchange_model.proofs.Quiet.{repeats-leads, garbled-leads}
 use Rattle.exchange_model.proofs.Silent.{later-than}
 use Rattle.exchange_model.proofs.Stepping.{may-come, before-step}
@@ -112,10 +110,6 @@ answered-only t p S S1 x mid r m b unsealed links exchanges conns tick owes =
 
 -- It repeats one, or is new, or is lost.
 
-is-some-one : {X : Type 0} (v : Option X) → is_some v ≡ true → (x : X) × (v ≡ Some x)
-is-some-one None h = absurd (false≢true h)
-is-some-one (Some x) h = (x, refl)
-
 repeats-so : (l : List Noted) (t : ℕ) (p : Peer) (s : LinkState) (m : Content) → Agrees l p s → newest l ≤ t → repeats t s m ≡ true → (j : ℕ) × (repeated l t p m ≡ Some j)
 repeats-so l t p s m a later e = by (heard_before l t p m.mid) refl
   where
@@ -123,7 +117,7 @@ repeats-so l t p s m a later e = by (heard_before l t p m.mid) refl
     such = and-left (is_such m.kind) _ e
 
     h : (x : Heard) × (find (is_repeat t m.mid) s.heard ≡ Some x)
-    h = is-some-one _ (and-right (is_such m.kind) _ e)
+    h = is-some _ (and-right (is_such m.kind) _ e)
 
     some-none : (r : Reply) → Some r ≡ None → ⊥
     some-none r k = cc
@@ -182,25 +176,14 @@ over-list None = []
 over-list (Some e) = e ∷ []
 
 find-none : {X : Type 0} (q : X → Bool) (xs : List X) (x : X) → find q xs ≡ None → Contains xs x → q x ≡ true → ⊥
-find-none q [] x e h is = contains-none x h
-find-none {X = X} q (y ∷ ys) x e h is = elim (first-or-later y ys x h) [
-  | inl w ↦ some-none y (sym (ap (λ (b : Bool). cond b (Some y) (find q ys)) (ap q w ∙ is)) ∙ e)
-  | inr w ↦ by (q y) e (λ k. find-none q ys x k w is)
-]
-  where
-    some-none : (y : X) → Some y ≡ None → ⊥
-    some-none y k = cc
-
-    by : (b : Bool) → cond b (Some y) (find q ys) ≡ None → (find q ys ≡ None → ⊥) → ⊥
-    by true k ih = some-none y k
-    by false k ih = ih k
+find-none q xs x e h is = let it = find-any q xs (any-of q xs x h is) in none-some it.0 (sym e ∙ it.1)
 
 only : (es : List Exchange) (v : Option ℕ) → IsServed es v ⊎ IsServed [] v → IsServed es v
 only es None h = tt
 only es (Some k) (inl h) = h
 only es (Some k) (inr h) = absurd h
 
-is-bytes : (d : List ℕ) → AllByRecursion (λ (b : ℕ). b < 256) d → IsBytes d
+pub is-bytes : (d : List ℕ) → AllByRecursion (λ (b : ℕ). b < 256) d → IsBytes d
 is-bytes [] a = tt
 is-bytes (b ∷ d) a = (a.0, is-bytes d a.1)
 

@@ -12,7 +12,7 @@ use Rattle.ask_model.specs.Sizes.{came_size}
 use Rattle.journal_book.specs.Entries.{Seals, Written, entry_size}
 use Rattle.history_laws.specs.Readings.{Noted}
 use Rattle.history_laws.specs.Sealing as H
-use Rattle.history_links.proofs.Facts.{all-more}
+use Rattle.history_laws.proofs.CallerLemmas.{all-more}
 use Rattle.exchange_model.specs.declared.kept.Conn.{Conn}
 use Rattle.exchange_model.specs.declared.kept.Exchange.{Exchange}
 use Rattle.exchange_model.specs.State.{State}

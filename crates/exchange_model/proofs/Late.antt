@@ -1,6 +1,6 @@
 -- A tick of a sealed core: who waits for an exchange that is past is answered.
 use Rattle.std.proofs.Common.{◌≡◌, ◌⊎◌, ℕ, ◌+◌, ◌<◌, ◌≤◌, Bool, true, false, cond, inl, inr, List, [], ◌∷◌, Option, Some, None, refl, sym, subst, ◌∙◌, arith}
-use Rattle.std.specs.Prelude.{filter, fold, is_none, unwrap_or}
+use Rattle.std.specs.Prelude.{filter, fold, unwrap_or}
 use Rattle.std.specs.List.{AllByRecursion, Contains, list_any}
 use Rattle.std.proofs.lemmas.Bool.{false≢true}
 use Rattle.std.proofs.lemmas.Bool.Decides.{eqb_tells, leb_tells}
@@ -13,7 +13,7 @@ use Rattle.history_laws.specs.Connections.{is_sealed}
 use Rattle.history_laws.specs.Transmissions.{sent_last}
 use Rattle.history_laws.specs.Exchanges.{end_of, is_late, begun}
 use Rattle.history_laws.specs.Justified.{HasGrounds}
-use Rattle.history_links.proofs.Facts.{all-more, all-filter, all-passes}
+use Rattle.history_laws.proofs.CallerLemmas.{all-filter, all-more, all-of, all-passes, none-of, none-some}
 use Rattle.exchange_model.specs.declared.kept.Conn.{Conn}
 use Rattle.exchange_model.specs.declared.kept.Exchange.{Exchange}
 use Rattle.exchange_model.specs.State.{State, pend}
@@ -24,7 +24,6 @@ use Rattle.exchange_model.specs.Keeping.{Kept}
 use Rattle.exchange_model.specs.Sealing.{late, IsPrompt, ArePrompt}
 use Rattle.exchange_model.proofs.ConnsTell.{conns-tell}
 use Rattle.exchange_model.proofs.Ending.{all-conns, reader-is, found-conn, none-waits}
-use Rattle.exchange_model.proofs.Expiring.{all-of}
 use Rattle.exchange_model.proofs.Lists.{all-map, all-both}
 use Rattle.exchange_model.proofs.Resting.{OpenIn, open-ones}
 use Rattle.exchange_model.proofs.Silent.{answers-leads}
@@ -45,10 +44,6 @@ overdue l t e a sealed past =
       inr (sealed, going, late_now),
     )
   where
-    none-of : {X : Type 0} (v : Option X) → is_none v ≡ true → v ≡ None
-    none-of None k = refl
-    none-of (Some x) k = absurd (false≢true k)
-
     named : (s : Option ℕ) → sent_last l e.opening ≡ s
         → (sent_last l e.opening ≡ Some
         (unwrap_or s e.opening)) ⊎ ((sent_last l e.opening ≡ None) × (unwrap_or s
@@ -59,9 +54,6 @@ overdue l t e a sealed past =
 -- No connection waits for the exchange.
 abbrev IsFree : List Conn → Exchange → Type 0
 IsFree cs e = AllByRecursion (λ (x : Conn). x.pending ≡ Some e.opening → ⊥) cs
-
-none-some : (k : ℕ) → None ≡ Some k → ⊥
-none-some k e = cc
 
 free-pend : (c k : ℕ) (x : Conn) → (x.pending ≡ Some k → x.id ≡ c)
     → (pend c None x).pending ≡ Some k → ⊥

@@ -1,45 +1,46 @@
-pub mod Lists
-pub mod Tables
-pub mod Silent
-pub mod Quiet
-pub mod Begins
-pub mod Firsts
-pub mod Borne
-pub mod Hearing
-pub mod Conns
-pub mod ConnsTell
-pub mod Resting
-pub mod Grounds
-pub mod Amid
-pub mod Ending
-pub mod Expiring
-pub mod Passing
-pub mod Stepping
-pub mod Heeding
-pub mod Over
-pub mod Moving
-pub mod TimingOut
-pub mod Ticking
-pub mod Running
-pub mod Idle
-pub mod LinksHeard
-pub mod LinksTicked
-pub mod Due
-pub mod Entered
-pub mod Begun
-pub mod Heeded
-pub mod Passed
-pub mod TickEnters
-pub mod Dropped
-pub mod Counting
-pub mod Waiting
-pub mod Tallies
-pub mod Tidy
-pub mod Adding
-pub mod Calling
-pub mod TickAdds
-pub mod Late
-pub mod Alone
-pub mod InRoom
-pub mod Grown
-pub mod Numbered
+pub mod CallerLemmas
+mod Lists
+mod Tables
+mod Silent
+mod Quiet
+mod Begins
+mod Firsts
+mod Borne
+mod Hearing
+mod Conns
+mod ConnsTell
+mod Resting
+mod Grounds
+mod Amid
+mod Ending
+mod Expiring
+mod Passing
+mod Stepping
+mod Heeding
+mod Over
+mod Moving
+mod TimingOut
+mod Ticking
+mod Running
+mod Idle
+mod LinksHeard
+mod LinksTicked
+mod Due
+mod Entered
+mod Begun
+mod Heeded
+mod Passed
+mod TickEnters
+mod Dropped
+mod Counting
+mod Waiting
+mod Tallies
+mod Tidy
+mod Adding
+mod Calling
+mod TickAdds
+mod Late
+mod Alone
+mod InRoom
+mod Grown
+mod Numbered

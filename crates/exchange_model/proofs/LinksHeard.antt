@@ -1,6 +1,5 @@
 -- What hearing a datagram makes of a link, as the step does it.
 use Rattle.std.proofs.Common.{◌≡◌, ℕ, Bool, true, false, cond, not, ltb, leb, inl, inr, List, [], ◌∷◌, ◌++◌, Option, Some, None, refl, sym, ap, ◌∙◌}
-use Rattle.std.specs.Prelude.{filter}
 use Rattle.std.specs.Str.{bytes_eq}
 use Rattle.std.proofs.lemmas.Bool.{false≢true, lt-ltb, le-ltb}
 use Rattle.std.proofs.lemmas.Bool.Decides.{leb_tells}
@@ -18,6 +17,7 @@ use Rattle.message_layer.specs.declared.verdict.Verdict.{Verdict}
 use Rattle.history_laws.specs.Readings.{Noted}
 use Rattle.history_laws.specs.Transmissions.{bears_token}
 use Rattle.history_laws.specs.Exchanges.{waiting}
+use Rattle.history_laws.proofs.CallerLemmas.{filter-push}
 use Rattle.history_links.specs.Agrees.{WaitIn, Agrees}
 use Rattle.history_links.specs.Steps.{ended_token, unawaited, heard_link}
 use Rattle.exchange_model.specs.State.{State}
@@ -36,14 +36,6 @@ links-given t p (b ∷ bs) S = links-given t p bs _
 
 -- Nothing is awaited any more under the token of what ends, whether the next message goes out before or
 -- after that.
-
-filter-push : {X : Type 0} (q : X → Bool) (xs : List X) (x : X) → q x ≡ true → filter q (xs ++ x ∷ []) ≡ filter q xs ++ x ∷ []
-filter-push q [] x e = rw (e) refl
-filter-push {X = X} q (y ∷ ys) x e = by (q y) (filter-push q ys x e)
-  where
-    by : (b : Bool) → filter q (ys ++ x ∷ []) ≡ filter q ys ++ x ∷ [] → cond b (y ∷ filter q (ys ++ x ∷ [])) (filter q (ys ++ x ∷ [])) ≡ cond b (y ∷ filter q ys) (filter q ys) ++ x ∷ []
-    by true ih = ap (λ (zs : List X). y ∷ zs) ih
-    by false ih = ih
 
 -- no message that waits bears it
 abbrev pub Unborne : Option (List ℕ) → List Waiting → Type 0

@@ -11,7 +11,7 @@ use Rattle.message_layer.specs.declared.state.Outstanding.{Outstanding}
 use Rattle.message_layer.specs.declared.state.Waiting.{Waiting}
 use Rattle.history_laws.specs.Readings.{Noted}
 use Rattle.history_laws.specs.Justified.{Legal}
-use Rattle.history_laws.proofs.Outstanding.{sound}
+use Rattle.history_laws.proofs.CallerLemmas.{sound}
 use Rattle.history_links.specs.Agrees.{way_of, TurnIn}
 use Rattle.history_links.specs.Steps.{is_over}
 use Rattle.exchange_model.specs.Steps.{given_out}

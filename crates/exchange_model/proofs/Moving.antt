@@ -13,9 +13,7 @@ use Rattle.message_layer.specs.Sending.{due_of, again, with_copy}
 use Rattle.message_layer.specs.declared.state.Outstanding.{Outstanding}
 use Rattle.history_laws.specs.Readings.{Noted, ticked}
 use Rattle.history_laws.specs.Confirming.{owed}
-use Rattle.history_laws.proofs.Outstanding.{Sound, sound}
-use Rattle.history_laws.proofs.Places.{at-keeps}
-use Rattle.history_laws.proofs.Resting.{none-some}
+use Rattle.history_laws.proofs.CallerLemmas.{at-keeps, none-some, Sound, sound}
 use Rattle.history_links.specs.Agrees.{way_of, IsOut, TurnIn}
 use Rattle.history_links.specs.Steps.{copy, is_over}
 use Rattle.exchange_model.specs.State.{State, link_of}

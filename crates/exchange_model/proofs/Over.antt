@@ -1,8 +1,8 @@
 -- How an exchange has ended that a message ends.
-use Rattle.std.proofs.Common.{◌≡◌, ℕ, zero, map, inl, inr, Bool, true, false, cond, eqb, ltb, leb, List, [], ◌∷◌, length, Option, Some, None, refl, sym, ap, subst, ◌∙◌, arith}
-use Rattle.std.specs.Prelude.{find, not, ◌&&◌, count_by}
+use Rattle.std.proofs.Common.{◌≡◌, ℕ, inl, inr, Bool, true, false, cond, eqb, ltb, leb, List, [], ◌∷◌, length, Option, Some, None, refl, sym, ap, subst, ◌∙◌, arith}
+use Rattle.std.specs.Prelude.{find, ◌&&◌, count_by}
 use Rattle.std.specs.List.{Contains, list_any}
-use Rattle.std.proofs.lemmas.Bool.{false≢true}
+use Rattle.std.proofs.lemmas.Bool.{false≢true, not-false}
 use Rattle.std.proofs.lemmas.Bool.Decides.{eqb_tells}
 use Rattle.coap_codec.specs.Spelling.{Content}
 use Rattle.coap_codec.specs.declared.message.MsgType.{MsgType}
@@ -24,15 +24,9 @@ use Rattle.history_laws.specs.Progress.{Reply, Ending, Whole, NotUnderstood, Res
 use Rattle.history_laws.specs.Exchanges.{Turn, Replied, Rejected, answered_by, turn, waits_for, replies, end_here, end_of, open_exchanges}
 use Rattle.history_laws.specs.Hearing.{repeated, can_be_remembered, answers}
 use Rattle.history_laws.specs.Justified.{Ends}
-use Rattle.history_laws.proofs.Elements.{contains-none, contains-later, first-or-later, find-some}
-use Rattle.history_laws.proofs.Facts.{eqb-itself}
-use Rattle.history_laws.proofs.Openings.{open-exactly}
-use Rattle.history_laws.proofs.Places.{at-keeps}
-use Rattle.history_laws.proofs.Resting.{first as and-left, second as and-right}
+use Rattle.history_laws.proofs.CallerLemmas.{all-of, and-left, and-right, at-keeps, contains-map, entries-length, eqb-itself, find-some, open-exactly}
 use Rattle.history_links.specs.Steps.{ended_token, heard}
-use Rattle.history_links.proofs.Facts.{unreplied}
-use Rattle.history_links.proofs.Replying.{is_to, ends_by, hit}
-use Rattle.history_links.proofs.Saying.{judge}
+use Rattle.history_links.proofs.CallerLemmas.{ends_by, hit, is_to, judge, unreplied}
 use Rattle.exchange_model.specs.declared.kept.Exchange.{Exchange}
 use Rattle.exchange_model.specs.State.{State, link_of}
 use Rattle.exchange_model.specs.Reads.{ExchangeIn, opening_of}
@@ -40,11 +34,9 @@ use Rattle.exchange_model.specs.Steps.{is_under, is_other}
 use Rattle.exchange_model.specs.Calls.{ended_in, grounds_by}
 use Rattle.exchange_model.specs.Laws.{Before, MayHear}
 use Rattle.exchange_model.proofs.Borne.{split}
-use Rattle.exchange_model.proofs.Expiring.{all-of}
 use Rattle.exchange_model.proofs.Grounds.{GroundsOf, IsOver}
 use Rattle.exchange_model.proofs.Hearing.{ends-kept}
 use Rattle.exchange_model.proofs.Silent.{later-than}
-use Rattle.exchange_model.proofs.Tables.{entries-length}
 
 -- which news ends an exchange: a Reset of an RST, and of any other message a response
 
@@ -135,17 +127,6 @@ by-kind l t p d m o i s of Ack kind waits to ends going ended =
     let turned : turn l o (heard l t p d m) ≡ Replied i m = turn-now l t p d m o i waits to ∙ (ap (answered_by i m) kind ∙ rw (response) refl) in
     let news = response-only (verdict_by t s m Ack).news m.token of (ack-news s m) ended in
     subst (λ (n : News). GroundsOf (heard l t p d m ∷ l) o (grounds_by n (length l) m)) (sym news) (by-reply l t p d m o i turned going (is_whole m) refl)
-
-contains-map : {X Y : Type 0} (f : X → Y) (xs : List X) (x : X) → Contains xs x → Contains (map f xs) (f x)
-contains-map f [] x h = absurd (contains-none x h)
-contains-map f (y ∷ ys) x h = elim (first-or-later y ys x h) [
-  | inl e ↦ (zero, omega arith, ap f e)
-  | inr w ↦ contains-later (f y) (map f ys) (f x) (contains-map f ys x w)
-]
-
-pub not-false : (b : Bool) → not b ≡ false → b ≡ true
-not-false true e = refl
-not-false false e = absurd (false≢true (sym e))
 
 -- a kept exchange is open
 pub kept-open : (l : List Noted) (S : State) (e : Exchange) → Before l S.moment S → Contains S.exchanges e → end_of l e.opening ≡ None

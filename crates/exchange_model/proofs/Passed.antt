@@ -4,6 +4,7 @@ use Rattle.std.specs.Prelude.{filter, fold, is_none}
 use Rattle.std.specs.List.{AllByRecursion}
 use Rattle.std.proofs.lemmas.Bool.{lt-ltb, le-ltb}
 use Rattle.std.proofs.lemmas.Bool.Decides.{eqb_tells, leb_tells}
+use Rattle.history_laws.proofs.CallerLemmas.{all-more, all-push}
 use Rattle.uri_map.specs.declared.peer.Peer.{Peer}
 use Rattle.ask_model.specs.Requests.{same_peer}
 use Rattle.ask_model.proofs.Endpoints.{same_peer-itself}
@@ -13,7 +14,6 @@ use Rattle.message_layer.specs.Sending.{due_of, with_copy, submitted_by}
 use Rattle.message_layer.specs.declared.state.Outstanding.{Outstanding}
 use Rattle.message_layer.specs.declared.state.Waiting.{Waiting}
 use Rattle.history_links.specs.Steps.{is_over}
-use Rattle.history_links.proofs.Facts.{all-more, all-push}
 use Rattle.exchange_model.specs.declared.kept.Exchange.{Exchange}
 use Rattle.exchange_model.specs.State.{PeerLink, State, link_of, with_link}
 use Rattle.exchange_model.specs.Steps.{given_out, sends_copy, passed, passes, is_gone}
@@ -194,7 +194,7 @@ all-put t (y ∷ ys) done S =
 
 -- What a link sends at its own tick.
 
-below : (n : ℕ) → n ≤ 4 → (n ≡ 4 → ⊥) → n < 4
+pub below : (n : ℕ) → n ≤ 4 → (n ≡ 4 → ⊥) → n < 4
 below n few apart = elim (leb_tells 4 n) [
   | inl w ↦ let more = w.1 in absurd (apart (omega (arith, more, few)))
   | inr w ↦ w.1

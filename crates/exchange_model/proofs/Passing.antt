@@ -2,8 +2,8 @@
 use Rattle.std.proofs.Common.{◌≡◌, ℕ, Bool, true, false, cond, List, [], ◌∷◌, ◌++◌, map, Option, Some, None, refl, sym, ap, subst, ◌∙◌}
 use Rattle.std.specs.Prelude.{filter, not, is_none, ◌&&◌}
 use Rattle.std.specs.List.{AllByRecursion, Contains}
-use Rattle.std.proofs.lemmas.Bool.{false≢true}
-use Rattle.std.proofs.lemmas.List.Elements.{All-contains_itself, recursion_from_All}
+use Rattle.std.proofs.lemmas.Bool.{not-true}
+use Rattle.std.proofs.lemmas.List.Elements.{All-contains_itself, recursion_from_All, filter_agree}
 use Rattle.uri_map.specs.declared.peer.Peer.{Peer}
 use Rattle.ask_model.specs.Requests.{same_peer}
 use Rattle.ask_model.proofs.Endpoints.{same_peer-same}
@@ -15,21 +15,17 @@ use Rattle.history_laws.specs.Exchanges.{Begun, begun, is_late, expires as ends_
 use Rattle.history_laws.specs.Hearing.{went_under}
 use Rattle.history_laws.specs.Transmissions.{FirstSending, first_at}
 use Rattle.history_laws.specs.Worked.{noted}
-use Rattle.history_laws.proofs.Elements.{contains-filter, filtered-from}
-use Rattle.history_laws.proofs.Resting.{first as and-left, some-is}
+use Rattle.history_laws.proofs.CallerLemmas.{all-filter, all-more, all-of, all-passes, and-left, contains-filter, filter-by, filtered-from, some-is}
 use Rattle.history_links.specs.Agrees.{rank, IsWaitingFor, WaitIn, Agrees}
 use Rattle.history_links.specs.Steps.{passed_link, EndWaiting, EndTokens}
-use Rattle.history_links.proofs.Facts.{all-more, all-filter, all-passes, waiting-goes, waiting-unsent}
-use Rattle.history_links.proofs.Judging.{token-found}
-use Rattle.history_links.proofs.Passing.{waits-passed, going-passed, pass-agrees}
-use Rattle.history_links.proofs.Still.{filter-same}
+use Rattle.history_links.proofs.CallerLemmas.{going-passed, pass-agrees, token-found, waiting-goes, waiting-unsent, waits-passed}
 use Rattle.exchange_model.specs.declared.kept.Exchange.{Exchange}
 use Rattle.exchange_model.specs.State.{PeerLink, State, link_of}
 use Rattle.exchange_model.specs.Reads.{IsSentUnder, ExchangeIn, WaitsUnder, opening_of, Reads}
 use Rattle.exchange_model.specs.Steps.{expires, is_gone, passed}
 use Rattle.exchange_model.specs.Laws.{PassesLeads}
-use Rattle.exchange_model.proofs.Expiring.{expires-alike, awaited-open, all-of, kept-at, gone-of}
-use Rattle.exchange_model.proofs.Hearing.{filter-map, filter-by, filter-both}
+use Rattle.exchange_model.proofs.Expiring.{expires-alike, awaited-open, kept-at, gone-of}
+use Rattle.exchange_model.proofs.Hearing.{filter-map, filter-both}
 use Rattle.exchange_model.proofs.Lists.{all-both}
 use Rattle.exchange_model.proofs.Silent.{later-than, link-before}
 use Rattle.exchange_model.proofs.Tables.{exchange-stays}
@@ -47,7 +43,7 @@ stays t S e = not (expires t S.links e)
 
 open-passed : (l : List Noted) (t : ℕ) (S : State) → Reads l S → open_exchanges (ticked_at t ∷ l) ≡ map opening_of (filter (stays t S) S.exchanges)
 open-passed l t S r =
-    filter-same (is_going (ticked_at t ∷ l)) (λ (o : ℕ). goes_on l t o && is_going l o) (going-passed l t) (openings l)
+    filter_agree (is_going (ticked_at t ∷ l)) (λ (o : ℕ). goes_on l t o && is_going l o) (going-passed l t) (openings l)
     ∙ (filter-both (goes_on l t) (is_going l) (openings l)
     ∙ (ap (filter (goes_on l t)) r.keys
     ∙ (filter-map (goes_on l t) opening_of S.exchanges
@@ -57,11 +53,7 @@ open-passed l t S r =
 exchange-kept : (l : List Noted) (t : ℕ) (S : State) → Reads l S → (e : Exchange) → ExchangeIn l e × (stays t S e ≡ true) → ExchangeIn (ticked_at t ∷ l) e
 exchange-kept l t S r e a =
     exchange-stays (ticked_at t) l e (λ h. h)
-    (waits-passed l t e.opening ∙ ap (λ (b : Bool). cond b None (waits_for l e.opening)) (sym (expires-alike l t S.links e r.legal r.links_are a.0) ∙ is-false (expires t S.links e) a.1)) a.0
-  where
-    is-false : (b : Bool) → not b ≡ true → b ≡ false
-    is-false true h = absurd (false≢true h)
-    is-false false h = refl
+    (waits-passed l t e.opening ∙ ap (λ (b : Bool). cond b None (waits_for l e.opening)) (sym (expires-alike l t S.links e r.legal r.links_are a.0) ∙ not-true (expires t S.links e) a.1)) a.0
 
 -- what is kept of a link
 

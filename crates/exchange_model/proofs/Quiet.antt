@@ -11,9 +11,7 @@ use Rattle.history_laws.specs.Transmissions.{FirstSending}
 use Rattle.history_laws.specs.Justified.{Follows}
 use Rattle.history_links.specs.Agrees.{Agrees}
 use Rattle.history_links.specs.Steps.{copy}
-use Rattle.history_links.proofs.Copying.{still-copy, copy-follows}
-use Rattle.history_links.proofs.OtherPeers.{copy-elsewhere}
-use Rattle.history_links.proofs.Repeating.{repeat-agrees, garbled-agrees}
+use Rattle.history_links.proofs.CallerLemmas.{copy-elsewhere, copy-follows, garbled-agrees, repeat-agrees, still-copy}
 use Rattle.exchange_model.specs.State.{link_of, with_link}
 use Rattle.exchange_model.specs.Steps.{given_out}
 use Rattle.exchange_model.specs.Laws.{AsksLeads, CopyLeads, ConfirmsLeads, RepeatsLeads, GarbledLeads}

@@ -13,13 +13,9 @@ use Rattle.history_laws.specs.Connections.{is_open, opened}
 use Rattle.history_laws.specs.Transmissions.{FirstSending, firsts, Transmission, transmission, due, outstanding}
 use Rattle.history_laws.specs.Exchanges.{begun, waits_for, openings, is_going, open_exchanges, is_waiting, waiting}
 use Rattle.history_laws.specs.Justified.{pending, reads, reads_open, is_in_hand, finds_outstanding, is_under_way, is_early, is_done, is_in_time}
-use Rattle.history_laws.proofs.Resting.{some-is, none-some}
-use Rattle.history_laws.proofs.Elements.{contains-none, contains-filter}
-use Rattle.history_laws.proofs.Openings.{begun-listed}
-use Rattle.history_laws.proofs.Outstanding.{outstanding-last}
+use Rattle.history_laws.proofs.CallerLemmas.{all-more, all-passes, begun-listed, contains-filter, contains-none, none-some, outstanding-last, some-is}
 use Rattle.history_links.specs.Agrees.{way_of, TurnIn, WaitIn}
-use Rattle.history_links.proofs.Facts.{all-more, all-passes}
-use Rattle.history_links.proofs.Tokens.{IsThere, all-there, is-first}
+use Rattle.history_links.proofs.CallerLemmas.{all-there, is-first, IsThere}
 use Rattle.exchange_model.specs.declared.kept.Conn.{Conn}
 use Rattle.exchange_model.specs.declared.kept.Exchange.{Exchange}
 use Rattle.exchange_model.specs.State.{State, link_of}

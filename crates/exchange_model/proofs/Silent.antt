@@ -6,7 +6,7 @@ use Rattle.history_laws.specs.Readings.{Noted, Note, Plain, newest}
 use Rattle.history_laws.specs.Justified.{Follows}
 use Rattle.history_laws.specs.Worked.{noted}
 use Rattle.history_links.specs.Steps.{IsSilent, Before as LinkBefore}
-use Rattle.history_links.proofs.Silence.{still, silent-agrees}
+use Rattle.history_links.proofs.CallerLemmas.{silent-agrees, still}
 use Rattle.exchange_model.specs.State.{State, link_of}
 use Rattle.exchange_model.specs.Reads.{Reads}
 use Rattle.exchange_model.specs.Steps.{entered}

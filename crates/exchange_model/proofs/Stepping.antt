@@ -25,11 +25,8 @@ use Rattle.history_laws.specs.Connections.{is_open, asks_of, answers_of}
 use Rattle.history_laws.specs.Hearing.{has_room}
 use Rattle.history_laws.specs.Justified.{AskNote, Caused, IsRefused, MayCome, pending}
 use Rattle.history_laws.specs.Worked.{noted}
-use Rattle.history_laws.proofs.Facts.{eqb-itself}
-use Rattle.history_laws.proofs.Places.{at-new}
-use Rattle.history_laws.proofs.Resting.{second as and-right}
+use Rattle.history_laws.proofs.CallerLemmas.{all-filter, all-more, all-push, and-right, at-new, entries-length, eqb-itself}
 use Rattle.history_links.specs.Agrees.{WaitIn}
-use Rattle.history_links.proofs.Facts.{all-more, all-push, all-filter}
 use Rattle.exchange_model.specs.declared.kept.Conn.{Conn}
 use Rattle.exchange_model.specs.declared.kept.Exchange.{Exchange}
 use Rattle.exchange_model.specs.State.{State, link_of, pend}
@@ -48,7 +45,7 @@ use Rattle.exchange_model.proofs.Lists.{all-map}
 use Rattle.exchange_model.proofs.Quiet.{asks-leads}
 use Rattle.exchange_model.proofs.Resting.{rests-at-rest}
 use Rattle.exchange_model.proofs.Silent.{opens-leads, shuts-leads, seals-leads, answers-leads, later-than}
-use Rattle.exchange_model.proofs.Tables.{entries-length, link-other, all-links}
+use Rattle.exchange_model.proofs.Tables.{link-other, all-links}
 
 pub kept-stands : KeptStands
 kept-stands S k = record { reading = k.reading; entries_are = k.rests.reads.entries_are; legal = k.rests.reads.legal; at_rest = rests-at-rest k.reading S k.rests }

@@ -1,7 +1,8 @@
 -- What an entry leaves of what a state keeps.
-use Rattle.std.proofs.Common.{◌≡◌, ℕ, ◌<◌, ◌≤◌, Bool, true, false, cond, eqb, inl, inr, List, [], ◌∷◌, ◌++◌, length, Option, Some, None, refl, sym, ap, subst, ◌∙◌, arith, length-append}
+use Rattle.std.proofs.Common.{◌≡◌, ℕ, ◌<◌, ◌≤◌, Bool, true, false, cond, eqb, inl, inr, List, [], ◌∷◌, ◌++◌, length, Option, Some, None, refl, sym, ap, subst, ◌∙◌, arith}
 use Rattle.std.specs.Prelude.{find, is_none}
 use Rattle.std.proofs.lemmas.Bool.Decides.{eqb_tells}
+use Rattle.std.proofs.lemmas.List.Elements.{filter_agree}
 use Rattle.uri_map.specs.declared.peer.Peer.{Peer}
 use Rattle.ask_model.specs.Requests.{same_peer}
 use Rattle.ask_model.proofs.Endpoints.{same_peer-same, same_peer-itself}
@@ -13,27 +14,15 @@ use Rattle.history_laws.specs.Transmissions.{FirstSending, firsts_by, firsts, fi
 use Rattle.history_laws.specs.Exchanges.{openings, waits_for, is_going, open_exchanges}
 use Rattle.history_laws.specs.Justified.{Follows}
 use Rattle.history_laws.specs.Worked.{noted}
-use Rattle.history_laws.proofs.Facts.{IsFirst-below}
-use Rattle.history_laws.proofs.Places.{at-keeps}
-use Rattle.history_laws.proofs.Replies.{first-stands}
-use Rattle.history_laws.proofs.Sent.{begun-keeps}
+use Rattle.history_laws.proofs.CallerLemmas.{all-more, at-keeps, begun-keeps, entries-length, first-stands, IsFirst-below}
 use Rattle.history_links.specs.Agrees.{Agrees}
-use Rattle.history_links.proofs.Facts.{all-more}
-use Rattle.history_links.proofs.Ranks.{rank-keeps}
-use Rattle.history_links.proofs.Still.{Still, filter-same, first_at-still}
+use Rattle.history_links.proofs.CallerLemmas.{first_at-still, rank-keeps, Still}
 use Rattle.exchange_model.specs.declared.kept.Exchange.{Exchange}
 use Rattle.exchange_model.specs.State.{PeerLink, State, link_of, with_link, conns_after}
 use Rattle.exchange_model.specs.Steps.{given_out}
 use Rattle.exchange_model.specs.Reads.{IsSentUnder, ExchangeIn, WaitsUnder, Reads}
 
 -- entries
-
-pub entries-length : (l : List Noted) → length (entries l) ≡ length l
-entries-length [] = refl
-entries-length (x ∷ older) =
-    let ih = entries-length older in
-    let more = length-append (entries older) (x.written ∷ []) in
-    omega (arith, ih, more)
 
 -- first sendings stay
 
@@ -87,7 +76,7 @@ exchange-still l n still e a = record {
 }
 
 open-still : (l n : List Noted) → Still l n → open_exchanges n ≡ open_exchanges l
-open-still l n still = rw (still.openings_are) (filter-same (is_going n) (is_going l) (λ o. ap is_none (still.ends_are o)) (openings l))
+open-still l n still = rw (still.openings_are) (filter_agree (is_going n) (is_going l) (λ o. ap is_none (still.ends_are o)) (openings l))
 
 -- the tables after an entry that is nothing to any exchange: links may have changed, but not what waits
 pub still-reads : (l : List Noted) (t : ℕ) (d : Deed) (note : Note) (S : State) (links : List PeerLink) → Reads l S → newest l ≤ t → Follows l t d note

@@ -3,7 +3,7 @@ use Rattle.std.proofs.Common.{◌≡◌, ℕ, zero, suc, ◌+◌, ◌<◌, ◌�
 use Rattle.std.specs.Prelude.{count_by, filter, is_some, option_and_then, ◌&&◌, ◌||◌}
 use Rattle.std.specs.List.{AllByRecursion, list_any, range_with_len}
 use Rattle.std.proofs.lemmas.List.{length-map, map-append}
-use Rattle.std.proofs.lemmas.List.Elements.{filter-append}
+use Rattle.std.proofs.lemmas.List.Elements.{filter-append, filter_agree}
 use Rattle.std.proofs.lemmas.Bool.{false≢true}
 use Rattle.std.proofs.lemmas.Bool.Decides.{eqb_tells, leb_tells}
 use Rattle.uri_map.specs.declared.peer.Peer.{Peer}
@@ -16,19 +16,16 @@ use Rattle.history_laws.specs.Transmissions.{FirstSending, firsts, is_outstandin
 use Rattle.history_laws.specs.Sealing as H
 use Rattle.history_laws.specs.Justified.{Follows, Legal}
 use Rattle.history_laws.specs.Worked.{noted}
-use Rattle.history_laws.proofs.Elements.{find-some}
-use Rattle.history_laws.proofs.Facts.{eqb-itself}
+use Rattle.history_laws.proofs.CallerLemmas.{all-more, any-of, eqb-itself, filter-by, find-some}
 use Rattle.history_links.specs.Agrees.{TurnIn}
-use Rattle.history_links.proofs.Facts.{all-more}
-use Rattle.history_links.proofs.Still.{filter-same}
 use Rattle.exchange_model.specs.declared.kept.Conn.{Conn}
 use Rattle.exchange_model.specs.State.{PeerLink, State, link_of, pend}
 use Rattle.exchange_model.specs.Reads.{conns_of, Reads}
 use Rattle.exchange_model.specs.Calls.{peer_of}
 use Rattle.exchange_model.specs.Room.{has_asked, asks_waiting, AreApart}
 use Rattle.exchange_model.proofs.Conns.{PendingIn, ConnIn, conns-open}
-use Rattle.exchange_model.proofs.Counting.{one, count-cons, count-map, count-alike, count-more, count-filter, any-of, one-each}
-use Rattle.exchange_model.proofs.Hearing.{filter-map, filter-by, filter-both}
+use Rattle.exchange_model.proofs.Counting.{one, count-cons, count-map, count-alike, count-more, count-filter, one-each}
+use Rattle.exchange_model.proofs.Hearing.{filter-map, filter-both}
 use Rattle.exchange_model.proofs.Waiting.{has_id}
 
 -- The connections that are kept are the open ones, in the order of their numbers.
@@ -88,7 +85,7 @@ ids-step l t (Opens c) note may ih =
 ids-step l t (Shuts c) note may ih =
     sym (filter-map (λ (k : ℕ). not (eqb k c)) id_of (conns_of l))
     ∙ ap (filter (λ (k : ℕ). not (eqb k c))) ih
-    ∙ filter-same (λ (k : ℕ). not (eqb k c)) (λ (k : ℕ). not (eqb c k)) (λ k. ap not (turned k c))
+    ∙ filter_agree (λ (k : ℕ). not (eqb k c)) (λ (k : ℕ). not (eqb c k)) (λ k. ap not (turned k c))
     (H.open_conns l)
     ∙ sym (filter-both (λ (k : ℕ). not (eqb c k)) (is_open l) (range_with_len 0 (opened l)))
 ids-step l t (Asks c a) note may ih = ids-pend c (Some (length l)) (conns_of l) ∙ ih

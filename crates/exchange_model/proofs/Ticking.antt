@@ -1,8 +1,8 @@
 -- A tick keeps that the journal stands, and that the state says what it says.
 use Rattle.std.proofs.Common.{◌≡◌, ℕ, ◌+◌, ◌<◌, ◌≤◌, ◌⊎◌, Bool, true, false, cond, not, inl, inr, List, [], ◌∷◌, map, Option, Some, None, refl, sym, subst, ◌∙◌, arith}
-use Rattle.std.specs.Prelude.{◌||◌, fold, filter, unwrap_or, is_none}
+use Rattle.std.specs.Prelude.{fold, filter, unwrap_or}
 use Rattle.std.specs.List.{AllByRecursion, list_any}
-use Rattle.std.proofs.lemmas.Bool.{false≢true, or_parts, not_from_false}
+use Rattle.std.proofs.lemmas.Bool.{false≢true, or_parts, not_from_false, not-true}
 use Rattle.std.proofs.lemmas.Bool.Decides.{leb_tells}
 use Rattle.std.proofs.lemmas.List.Sums.{length-filter, count_by-le-length}
 use Rattle.limits.specs.declared.TheConstants.{MAX_TRANSMIT_WAIT}
@@ -17,8 +17,8 @@ use Rattle.history_laws.specs.Readings.{Noted, Plain, ticked as at_tick}
 use Rattle.history_laws.specs.Confirming.{owed}
 use Rattle.history_laws.specs.Exchanges.{end_of}
 use Rattle.history_laws.specs.Worked.{noted}
+use Rattle.history_laws.proofs.CallerLemmas.{all-filter, all-more, all-passes, none-of}
 use Rattle.history_links.specs.Steps.{is_over, passed_link}
-use Rattle.history_links.proofs.Facts.{all-more, all-filter, all-passes}
 use Rattle.exchange_model.specs.declared.kept.Conn.{Conn}
 use Rattle.exchange_model.specs.declared.kept.Exchange.{Exchange}
 use Rattle.exchange_model.specs.State.{PeerLink, State, link_of}
@@ -63,12 +63,8 @@ passed-goes t gone s = by (is_over t s.outstanding) refl
 
 going-in-time : (t : ℕ) (links : List PeerLink) (e : Exchange) → not (expires t links e) ≡ true → t < e.since + MAX_TRANSMIT_WAIT
 going-in-time t links e h =
-    let now = or_parts (is_past t e) (is_in_vain t (link_of links e.peer) e) (going (expires t links e) h) in
+    let now = or_parts (is_past t e) (is_in_vain t (link_of links e.peer) e) (not-true (expires t links e) h) in
     elim (leb_tells (e.since + MAX_TRANSMIT_WAIT) t) [ inl w ↦ absurd (false≢true (sym now.0 ∙ w.0)) | inr w ↦ w.1 ]
-  where
-    going : (b : Bool) → not b ≡ true → b ≡ false
-    going true k = absurd (false≢true k)
-    going false k = refl
 
 -- an endpoint without a link
 pub unlinked : (xs : List PeerLink) (p : Peer) → is_among (map peer_of xs) p ≡ false → link_of xs p ≡ empty_link
@@ -105,10 +101,6 @@ ended-over l t S b =
     all-more (λ (e : Exchange). OpenIn l e × (q e ≡ true)) (IsTimedOut (passed_by t l)) one (filter q S.exchanges)
     (all-both (OpenIn l) (λ (e : Exchange). q e ≡ true) (filter q S.exchanges) (all-filter (OpenIn l) q S.exchanges (open-ones l S b.reads)) (all-passes q S.exchanges))
   where
-    none-of : {X : Type 0} (v : Option X) → is_none v ≡ true → v ≡ None
-    none-of None k = refl
-    none-of (Some x) k = absurd (false≢true k)
-
     one : (e : Exchange) → OpenIn l e × (expires t S.links e ≡ true) → IsTimedOut (passed_by t l) e
     one e h = passed-over l t e h.0.0 (none-of (end_of l e.opening) h.0.1) (sym (expires-alike l t S.links e b.reads.legal b.reads.links_are h.0.0) ∙ h.1)
 
@@ -223,14 +215,10 @@ none-ends t links (e ∷ es) h =
 pub ticks-do : TicksDo
 ticks-do t S may = by (something_due t S) refl
   where
-    parts : (a b : Bool) → (a || b) ≡ false → (a ≡ false) × (b ≡ false)
-    parts true b e = absurd (false≢true (sym e))
-    parts false b e = (refl, e)
-
     by : (b : Bool) → something_due t S ≡ b → IsDone t (cond b (fold (times_out t) (move_all t (passes t S)) (timed_out t S)) S)
     by true e = let done = all-done t S may in record { links = done.links; in_time = done.in_time }
     by false e =
-        let none = parts (list_any (link_due t) S.links) (list_any (expires t S.links) S.exchanges) e in
+        let none = or_parts (list_any (link_due t) S.links) (list_any (expires t S.links) S.exchanges) e in
         let r = may.kept.rests in
         record {
           links = λ p. undue-rests t (at_tick may.kept.reading) (link_of S.links p) (r.links p) (undue-link t S.links none.0 p);

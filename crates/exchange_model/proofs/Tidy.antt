@@ -4,6 +4,7 @@ use Rattle.std.specs.Prelude.{not}
 use Rattle.std.specs.List.{AllByRecursion, list_any}
 use Rattle.std.proofs.lemmas.Bool.{or_parts}
 use Rattle.std.proofs.lemmas.List.{length-set}
+use Rattle.history_laws.proofs.CallerLemmas.{all-filter, all-push}
 use Rattle.limits.specs.declared.TheConstants.{MAX_MESSAGE_LEN}
 use Rattle.uri_map.specs.declared.peer.Peer.{Peer}
 use Rattle.ask_model.specs.Requests.{same_peer}
@@ -13,7 +14,6 @@ use Rattle.message_layer.specs.declared.state.Outstanding.{Outstanding}
 use Rattle.message_layer.specs.declared.state.Waiting.{Waiting}
 use Rattle.message_layer.specs.declared.verdict.Verdict.{Verdict}
 use Rattle.history_links.specs.Steps.{heard_link, is_over, passed_link}
-use Rattle.history_links.proofs.Facts.{all-push, all-filter}
 use Rattle.exchange_model.specs.State.{PeerLink, State, link_of, with_link}
 use Rattle.exchange_model.specs.Steps.{given_out, is_gone, passed}
 use Rattle.exchange_model.specs.Calls.{peer_of}

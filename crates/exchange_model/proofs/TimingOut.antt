@@ -5,24 +5,18 @@ use Rattle.std.proofs.lemmas.Bool.Decides.{eqb_tells}
 use Rattle.ask_model.specs.declared.cause.Cause.TheVariants as C
 use Rattle.journal_book.specs.Entries.{Deed, Sends, Hears, Passes, Fault}
 use Rattle.history_laws.specs.Readings.{Noted, Note, Plain, First, Says}
-use Rattle.history_laws.specs.Progress.{Reply, Ending, TimedOut}
+use Rattle.history_laws.specs.Progress.{Reply, TimedOut}
 use Rattle.history_laws.specs.Transmissions.{sent_last}
-use Rattle.history_laws.specs.Exchanges.{Turn, Nothing, Sent, Replied, Rejected, Expired, expires as ends_at, turn, waits_by, waits_for, replies, End, end_here, end_by, end_of}
+use Rattle.history_laws.specs.Exchanges.{Turn, Nothing, Sent, Replied, Rejected, Expired, expires as ends_at, turn, waits_by, waits_for, replies, end_here, end_of}
 use Rattle.history_laws.specs.Justified.{Ends}
 use Rattle.history_laws.specs.Worked.{noted}
-use Rattle.history_laws.proofs.Places.{at-keeps}
-use Rattle.history_laws.proofs.Turns.{turn-sent}
-use Rattle.history_links.proofs.Facts.{unreplied}
+use Rattle.history_laws.proofs.CallerLemmas.{at-keeps, turn-sent}
+use Rattle.history_links.proofs.CallerLemmas.{none-by, unreplied}
 use Rattle.exchange_model.specs.declared.kept.Exchange.{Exchange}
 use Rattle.exchange_model.specs.Reads.{ExchangeIn}
 use Rattle.exchange_model.proofs.Grounds.{IsOver}
 
 -- What an open exchange waits for was sent last.
-
-before-end : (how : Option Ending) (n : ℕ) (old : Option End) → end_by how n old ≡ None → (how ≡ None) × (old ≡ None)
-before-end None n old e = (refl, e)
-before-end (Some how) n (Some old) e = cc
-before-end (Some how) n None e = cc
 
 still-waits : (n : ℕ) (rs : List Reply) (u : Turn) (old : Option ℕ) → rs ≡ [] → ((j : ℕ) → u ≡ Sent j → ⊥) → end_here n rs u ≡ None → old ≡ waits_by u old
 still-waits n rs (Sent j) old empty unsent e = absurd (unsent j refl)
@@ -55,7 +49,7 @@ alike-step l o t d note empty ih e = ih
 pub sent-alike : (l : List Noted) (o : ℕ) → end_of l o ≡ None → sent_last l o ≡ waits_for l o
 sent-alike [] o e = refl
 sent-alike (x ∷ older) o e =
-    let both = before-end (end_here (length older) (replies older o) (turn older o x)) (length older) (end_of older o) e in
+    let both = none-by (end_here (length older) (replies older o) (turn older o x)) (length older) (end_of older o) e in
     alike-step older o x.written.moment x.written.deed x.note (unreplied older o both.1) (sent-alike older o both.1) both.0
 
 -- It ends at the tick, and what was sent last is named, or its ask.

@@ -7,7 +7,8 @@ use Rattle.std.proofs.lemmas.Bool.{cases_Bool, eqb-true, eq-eqb, false≢true}
 use Rattle.std.proofs.lemmas.Bool.Decides.{eqb_tells}
 use Rattle.std.proofs.lemmas.Slice.Eq.{bytes_eq-Decides}
 use Rattle.history_laws.specs.Numbering.{token_number}
-use Rattle.history_links.proofs.Facts.{all-more, all-filter, all-push}
+use Rattle.history_laws.proofs.CallerLemmas.{all-more, all-filter, all-push}
+use Rattle.exchange_model.proofs.CallerLemmas.{not-under}
 use Rattle.exchange_model.specs.declared.kept.Exchange.{Exchange}
 use Rattle.exchange_model.specs.Steps.{is_other, is_under, went_out}
 use Rattle.exchange_table.specs.declared.index.Named.{Named}
@@ -49,10 +50,6 @@ filter-if {X = X} P q (x ∷ xs) a = by (q x) refl (filter-if P q xs a.1)
 map-all : {X Y : Type 0} (P : Y → Type 0) (f : X → Y) (xs : List X) → AllByRecursion (λ x. P (f x)) xs → AllByRecursion P (map f xs)
 map-all P f [] a = tt
 map-all P f (x ∷ xs) a = (a.0, map-all P f xs a.1)
-
-pub length-map : {X Y : Type 0} (f : X → Y) (xs : List X) → length (map f xs) ≡ length xs
-length-map f [] = refl
-length-map f (x ∷ xs) = ap suc (length-map f xs)
 
 find-filter : {X : Type 0} (p q : X → Bool) (xs : List X) (y : X) → find p xs ≡ Some y → q y ≡ true → find p (filter q xs) ≡ Some y
 find-filter p q [] y e h = e
@@ -247,14 +244,11 @@ index-map f es names same indexed = record {
       any-map (is_named x) f es (λ e. ap (λ (y : Named). eqb y.opening x.opening && eqb y.number x.number) (sym (same e))) named) names indexed.none_beside;
 }
 
-other-out : (token : List ℕ) (i : ℕ) (e : Exchange) → is_under token e ≡ false → went_out token i e ≡ e
-other-out token i e h = rw h refl
-
 pub out-nowhere : (token : List ℕ) (n : ℕ) (es : List Exchange) → IsNowhere (is_under token) es → map (went_out token n) es ≡ es
-out-nowhere token n es h = map-none (is_under token) (went_out token n) es (other-out token n) h
+out-nowhere token n es h = map-none (is_under token) (went_out token n) es (not-under token n) h
 
 pub out-only : (token : List ℕ) (n : ℕ) (es : List Exchange) (i : ℕ) (d : Exchange) → IsOnlyAt (is_under token) es i → map (went_out token n) es ≡ set es i (record (get_or es i d) { sending = Some n })
-out-only token n es i d h = map-only (is_under token) (went_out token n) es i d (other-out token n) h
+out-only token n es i d h = map-only (is_under token) (went_out token n) es i d (not-under token n) h
     ∙ ap (set es i) (ap (λ (b : Bool). cond b (record (get_or es i d) { sending = Some n }) (get_or es i d)) (only-is (is_under token) es i d h))
 
 pub out-names : (token : List ℕ) (i : ℕ) (e : Exchange) → name_of (went_out token i e) ≡ name_of e

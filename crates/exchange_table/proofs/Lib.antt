@@ -1,2 +1,3 @@
-pub mod Standing
-pub mod Indexed
+pub mod CallerLemmas
+mod Standing
+mod Indexed

@@ -1,12 +1,11 @@
 -- One among those whose numbers rise: where a search comes to, and what is made of the list there.
-use Rattle.std.proofs.Common.{◌≡◌, ◌≢◌, ℕ, zero, suc, ◌<◌, ◌≤◌, Bool, true, false, not, cond, List, [], ◌∷◌, ◌++◌, length, map, take, drop, get_or, Some, None, inl, inr, refl, sym, ap, subst, ◌∙◌, ◌⊎◌, ◌||◌, ltb, ltb-true, ltb-false, eqb, arith}
+use Rattle.std.proofs.Common.{◌≡◌, ◌≢◌, ℕ, zero, suc, ◌<◌, ◌≤◌, Bool, true, false, not, cond, List, [], ◌∷◌, ◌++◌, length, map, take, drop, get_or, Some, None, inl, inr, refl, sym, ap, subst, ◌∙◌, ◌⊎◌, ◌||◌, ltb, ltb-true, ltb-false, arith}
 use Rattle.std.specs.Prelude.{filter, remove}
 use Rattle.std.specs.List.{AllByRecursion, find, list_any}
 use Rattle.std.specs.List.Sorted.{IsNonDecreasingBy, IsPartitionPoint}
 use Rattle.std.proofs.Math.ListN.{set}
 use Rattle.std.proofs.lemmas.Bool.{cases_Bool}
-use Rattle.std.proofs.lemmas.Bool.Decides.{eqb_tells}
-use Rattle.history_links.proofs.Facts.{all-more, all-filter}
+use Rattle.history_laws.proofs.CallerLemmas.{all-filter, all-more}
 use Rattle.exchange_table.specs.Places.{RiseBy, IsNowhere, IsOnlyAt}
 
 three : (a b : ℕ) → (a < b) ⊎ ((a ≡ b) ⊎ (b < a))
@@ -176,6 +175,3 @@ all-back (x ∷ xs) (y ∷ ys) e = ap (λ zs. x ∷ zs) (all-back xs ys (omega (
 
 pub put-back : {X : Type 0} (xs ys : List X) (n : ℕ) → length xs ≡ length ys → n ≡ length ys → take n (xs ++ drop (length xs) ys) ≡ xs
 put-back xs ys n e len = ap (λ (k : ℕ). take k (xs ++ drop (length xs) ys)) len ∙ all-back xs ys e
-
-pub neq-eqb : (a b : ℕ) → a ≢ b → eqb a b ≡ false
-neq-eqb a b apart = elim (eqb_tells a b) [ inl w ↦ absurd (apart w.1) | inr w ↦ w.0 ]

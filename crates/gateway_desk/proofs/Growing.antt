@@ -18,14 +18,15 @@ use Rattle.exchange_model.specs.Calls.{Numbers, next_by, next, refused, has_plac
 use Rattle.exchange_model.specs.Growing.{HasNoClient, by_client, at_moment}
 use Rattle.exchange_model.specs.Room.{fits}
 use Rattle.exchange_model.specs.Sealing.{opens_in_room, asks_in_room, hears_in_room, ticks_in_room}
-use Rattle.exchange_model.proofs.Grown.{opens-add, hears-add, ticks-add, opens-alone, hears-answer, ticks-answer}
+use Rattle.exchange_model.proofs.CallerLemmas.{hears-add, hears-answer, opens-add, opens-alone, ticks-add, ticks-answer}
 use Rattle.exchange_core.specs.declared.fault.OpenFault.{OpenFault}
 use Rattle.exchange_core.specs.declared.fault.OpenFault.TheVariants as Open
 use Rattle.exchange_core.specs.declared.fault.AskFault.{AskFault}
 use Rattle.exchange_core.specs.Calls.{IsOpened, IsAsked, IsClosed, IsUnknown, AsksSo}
 use Rattle.exchange_core.specs.Answering.{Given}
 use Rattle.exchange_core.specs.Taking.{IsSent, IsTaken}
-use Rattle.exchange_core.specs.Values.{CoreValue, Outgoing, sent_by, sent_in, stepped}
+use Rattle.exchange_core.specs.Values.{CoreValue, Outgoing, sent_in, stepped}
+use Rattle.exchange_core.proofs.CallerLemmas.{sent-append}
 use Rattle.gateway_desk.specs.Ledgers.{asker, asks_of}
 use Rattle.gateway_desk.specs.Sending.{AreUnsent}
 
@@ -35,12 +36,6 @@ asks-append : (xs ys : List Written) → asks_of (xs ++ ys) ≡ asks_of xs + ask
 asks-append xs ys =
     ap length (flat_map-append (λ (w : Written). asker w.deed) xs ys)
     ∙ length-append (flat_map (λ (w : Written). asker w.deed) xs) (flat_map (λ (w : Written). asker w.deed) ys)
-
-sent-append : (xs ys : List Written) → sent_in (xs ++ ys) ≡ sent_in xs ++ sent_in ys
-sent-append [] ys = refl
-sent-append (x ∷ xs) ys =
-    ap (λ (os : List Outgoing). sent_by x.deed ++ os) (sent-append xs ys)
-    ∙ sym (append_assoc (sent_by x.deed) (sent_in xs) (sent_in ys))
 
 no-asker : (d : Deed) → by_client d ≡ false → asker d ≡ []
 no-asker (Opens c) h = refl

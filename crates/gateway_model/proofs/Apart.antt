@@ -1,26 +1,23 @@
 -- The answers that a step gives wait for different connections, which are open.
 use Rattle.std.proofs.Common.{◌≡◌, ◌≢◌, ℕ, zero, suc, ◌+◌, ◌<◌, ◌≤◌, Bool, true, false, eqb, inl, inr, List, [], ◌∷◌, ◌++◌, length, drop, Option, Some, refl, sym, ap, subst, ◌∙◌, arith, append_assoc, append-nil, length-append}
-use Rattle.std.specs.Prelude.{◌||◌}
 use Rattle.std.specs.List.{AllByRecursion, slice_get}
 use Rattle.std.proofs.lemmas.Option.{slice_get_within}
 use Rattle.std.proofs.Math.Seq.{drop-append_seam}
 use Rattle.std.proofs.lemmas.Bool.Decides.{eqb_tells}
+use Rattle.std.proofs.lemmas.Bool.{or_right}
 use Rattle.journal_book.specs.Entries.{Grounds, Deed, Opens, Asks, Sends, Hears, Passes, Answers, Shuts, Seals, Written}
 use Rattle.history_laws.specs.Readings.{Noted, Note, entries, at, before}
 use Rattle.history_laws.specs.Connections.{is_open, open_by}
 use Rattle.history_laws.specs.Justified.{Follows, Legal, Stands, pending}
-use Rattle.history_laws.proofs.Places.{at-below, at-new}
-use Rattle.history_laws.proofs.Facts.{follows-at}
+use Rattle.history_laws.proofs.CallerLemmas.{at-below, at-entries, at-new, follows-at, some-is}
 use Rattle.history_claims.specs.Headline.{IsEntry}
-use Rattle.history_claims.proofs.Entries.{entries-at, at-entries, entry-keeps}
-use Rattle.history_claims.proofs.Turns.{answers-an-ask, asked-in-turn}
+use Rattle.history_claims.proofs.CallerLemmas.{answers-an-ask, asked-in-turn, entries-at, entry-keeps}
 use Rattle.exchange_model.specs.declared.kept.Conn.{Conn}
 use Rattle.exchange_model.specs.State.{State}
 use Rattle.exchange_model.specs.Resting.{HasConn}
 use Rattle.exchange_model.specs.Keeping.{Kept}
 use Rattle.exchange_model.specs.Growing.{Adds, by_client, HasNoClient}
-use Rattle.exchange_model.proofs.ConnsTell.{conns-tell}
-use Rattle.exchange_model.proofs.Stepping.{kept-stands}
+use Rattle.exchange_model.proofs.CallerLemmas.{conns-tell, kept-stands}
 use Rattle.exchange_core.specs.Values.{CoreValue, Untaken, written, answered_by, answered_in, stepped}
 use Rattle.gateway_model.specs.Waiting.{IsOpen, AreApart, AreServed}
 use Rattle.gateway_model.proofs.Order.{all-append}
@@ -31,9 +28,6 @@ pub at-seam : (front : List Written) (w : Written) (ws : List Written) → slice
 at-seam [] w ws = refl
 at-seam (x ∷ front) w ws = at-seam front w ws
 
-written-same : (v w : Written) → Some v ≡ Some w → v ≡ w
-written-same v w e = cc
-
 -- Entries that no client made have no ask among them, and shut nothing.
 abbrev IsNone : List Written → ℕ → ℕ → Type 0
 IsNone h i m = (j s : ℕ) (d : Deed) → i ≤ j → j < m → IsEntry h j s d → by_client d ≡ false
@@ -42,7 +36,7 @@ none-inside : (more rest : List Written) → HasNoClient more → (j s : ℕ) (d
     → by_client d ≡ false
 none-inside [] rest free j s d lt e = absurd (omega (arith, lt))
 none-inside (w ∷ more) rest free zero s d lt e =
-    subst (λ (v : Written). by_client v.deed ≡ false) (written-same w (written s d) e) free.0
+    subst (λ (v : Written). by_client v.deed ≡ false) (some-is w (written s d) e) free.0
 none-inside (w ∷ more) rest free (suc j) s d lt e = none-inside more rest free.1 j s d (omega (arith, lt)) e
 
 none-after : (old more rest : List Written) → HasNoClient more
@@ -147,11 +141,7 @@ apart-answers h old more rest stands is free = apart-in h stands old more rest i
 -- a connection that is answered is open, until it is shut
 
 open-still : (c : ℕ) (d : Deed) (old : Bool) → (d ≡ Shuts c → ⊥) → old ≡ true → open_by c d old ≡ true
-open-still c (Opens d) old not e = rw e (either (eqb d c))
-  where
-    either : (b : Bool) → (b || true) ≡ true
-    either true = refl
-    either false = refl
+open-still c (Opens d) old not e = rw e (or_right (eqb d c) true refl)
 open-still c (Shuts d) old not e =
     elim (eqb_tells d c) [
       | inl w ↦ absurd (not (ap Shuts w.1))
@@ -171,7 +161,7 @@ open-after [] n c k g t note e open_then free = absurd cc
 open-after (y ∷ older) n c k g t note e open_then free =
     elim (eqb_tells n (length older)) [
       | inl w ↦
-          let same : y ≡ record { written = written t (Answers c k g); note = note } = noted-same y _ (rw (w.0) at e) in
+          let same : y ≡ record { written = written t (Answers c k g); note = note } = some-is y _ (rw (w.0) at e) in
           let was : is_open older c ≡ true = rw (w.0) at open_then in
           subst (λ (v : Noted). open_by c v.written.deed (is_open older c) ≡ true) (sym same) was
       | inr w ↦
@@ -184,9 +174,6 @@ open-after (y ∷ older) n c k g t note e open_then free =
           (open-after older n c k g t note there was (λ j s lt f. free j s lt (entry-keeps y older j s (Shuts c) f)))
     ]
   where
-    noted-same : (x z : Noted) → Some x ≡ Some z → x ≡ z
-    noted-same x z f = cc
-
     newest : y.written.deed ≡ Shuts c
         → at (y ∷ older) (length older) ≡ Some (record { written = written y.written.moment (Shuts c); note = y.note })
     newest shut = at-new y older ∙ ap (λ (d : Deed). Some (record { written = written y.written.moment d; note = y.note })) shut

@@ -1,8 +1,9 @@
 -- What is asked on a connection, in parts: texts that are read, and entries that ask.
 use Rattle.std.proofs.Common.{◌≡◌, ◌≢◌, inl, inr, ℕ, Bool, true, false, cond, not, List, [], ◌∷◌, ◌++◌, Option, Some, None, refl, sym, ap, ◌∙◌, subst, eqb-true, eq-eqb}
 use Rattle.std.specs.Prelude.{◌==◌}
-use Rattle.std.proofs.lemmas.Bool.{ne_eqb}
+use Rattle.std.proofs.lemmas.Bool.{ne_eqb, both_ways}
 use Rattle.std.proofs.lemmas.List.{append-nil, append_assoc}
+use Rattle.history_laws.proofs.CallerLemmas.{none-some, some-is}
 use Rattle.http_edge.specs.Reading.{ReadsFirst, Item, AllOpen, closes}
 use Rattle.http_edge.proofs.Readings.{first_on}
 use Rattle.ask_model.specs.Views.{Ask}
@@ -11,7 +12,7 @@ use Rattle.gateway_model.specs.Acts.{Served}
 use Rattle.gateway_model.specs.Asking.{closes_last, asked_by, asked_on, IsLeft, IsOver, AreAsked, AsksFirst}
 use Rattle.gateway_model.specs.Unasked.{Unasked, unasked_at, no_bytes, without, changed_at}
 use Rattle.gateway_model.proofs.Moving.{IsInner, AreInner}
-use Rattle.gateway_model.proofs.Standing.{same-some, none-some, differ, own-gone}
+use Rattle.gateway_model.proofs.Standing.{own-gone}
 
 -- what stands at a connection, after its own change or another's
 
@@ -30,7 +31,7 @@ own-after c f (y ∷ ys) x h e = by (y.number == c) refl e (own-after c f ys x h
     by true t e ih =
         let n : y.number ≡ c = eqb-true y.number c t in
         let m : ((f y).number == c) ≡ true = eq-eqb (f y).number c (h y n) in
-        rw m (ap (λ (z : Unasked). Some (f z)) (same-some y x e))
+        rw m (ap (λ (z : Unasked). Some (f z)) (some-is y x e))
     by false t e ih = rw t (ih e)
 
 pub own-none : (c : ℕ) (f : Unasked → Unasked) (xs : List Unasked)
@@ -99,7 +100,7 @@ pub reads-on : (text rest end : List ℕ) (xs ys : List Item) → ReadsFirst tex
     → ReadsFirst text (xs ++ ys) end
 reads-on text rest end [] ys r goes next = subst (λ (t : List ℕ). ReadsFirst t ys end) r next
 reads-on text rest end (i ∷ xs) ys r goes next =
-    (r.0, r.1, reads-on r.0 rest end xs ys r.2 goes.1 next, λ last. absurd (differ (closes i) last goes.0))
+    (r.0, r.1, reads-on r.0 rest end xs ys r.2 goes.1 next, λ last. absurd (both_ways (closes i) goes.0 last))
 
 pub open-both : (xs ys : List Item) → AllOpen xs → AllOpen ys → AllOpen (xs ++ ys)
 open-both [] ys a b = b

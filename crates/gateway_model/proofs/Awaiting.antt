@@ -1,9 +1,11 @@
 -- Connections that wait for an answer, or for being told one, as a core steps.
-use Rattle.std.proofs.Common.{◌≡◌, ◌≢◌, ◌⊎◌, inl, inr, ℕ, zero, suc, ◌+◌, Bool, true, false, cond, not, List, [], ◌∷◌, ◌++◌, length, map, drop, Option, Some, None, refl, sym, ap, ◌∙◌, subst, length-append, eqb-true, eq-eqb}
-use Rattle.std.specs.Prelude.{◌==◌, if◌then◌else◌, slice_get}
+use Rattle.std.proofs.Common.{◌≡◌, ◌≢◌, ◌⊎◌, inl, inr, ℕ, ◌+◌, Bool, true, false, cond, not, List, [], ◌∷◌, ◌++◌, length, map, drop, Some, None, refl, sym, ap, ◌∙◌, subst, length-append, eqb-true, eq-eqb}
+use Rattle.std.specs.Prelude.{◌==◌}
 use Rattle.std.specs.List.{AllByRecursion, filter}
 use Rattle.std.proofs.Math.Seq.{drop-append_seam}
 use Rattle.std.proofs.lemmas.List.{append-nil, append_assoc}
+use Rattle.std.proofs.lemmas.Bool.{both_ways}
+use Rattle.history_laws.proofs.CallerLemmas.{got-last, got-more, none-some, some-is}
 use Rattle.ask_model.specs.Views.{Ask}
 use Rattle.journal_book.specs.Entries.{Deed, Opens, Asks, Sends, Hears, Passes, Answers, Shuts, Seals, Written}
 use Rattle.history_claims.specs.Headline.{IsEntry}
@@ -15,7 +17,8 @@ use Rattle.exchange_model.specs.Steps.{shuts}
 use Rattle.exchange_core.specs.Values.{Untaken, CoreValue, answered_by, answered_in, stepped}
 use Rattle.gateway_model.specs.Waiting.{conn_id}
 use Rattle.gateway_model.proofs.Moving.{IsAwaited, AreAwaited, IsInner, AreInner, Moves, Begins, asks-for}
-use Rattle.gateway_model.proofs.Conns.{StandOnce, none-some, same-some, differ, same-conn, others-wait, waited-before, others-open, was-open, was-waiting}
+use Rattle.gateway_model.proofs.Conns.{StandOnce, same-conn, others-wait, waited-before, others-open, was-open, was-waiting}
+use Rattle.gateway_model.proofs.Numbers.{pend-ids}
 
 -- an answer to this ask of the connection waits to be told
 abbrev pub IsToTell : List Untaken → ℕ → ℕ → Type 0
@@ -37,15 +40,6 @@ AskTheirOwn h cs = (c k : ℕ) → HasConn cs c (Some k) → (t : ℕ) × (a : A
 
 -- what stands among entries
 
-got-more : {X : Type 0} (xs ys : List X) (i : ℕ) (x : X) → slice_get xs i ≡ Some x → slice_get (xs ++ ys) i ≡ Some x
-got-more [] ys i x e = absurd cc
-got-more (z ∷ xs) ys zero x e = e
-got-more (z ∷ xs) ys (suc i) x e = got-more xs ys i x e
-
-got-last : {X : Type 0} (xs : List X) (y : X) (ys : List X) → slice_get (xs ++ y ∷ ys) (length xs) ≡ Some y
-got-last [] y ys = refl
-got-last (x ∷ xs) y ys = got-last xs y ys
-
 pub entry-more : (h g : List Written) (k t : ℕ) (d : Deed) → IsEntry h k t d → IsEntry (h ++ g) k t d
 entry-more h g k t d e = got-more h g k (at_moment t d) e
 
@@ -55,11 +49,8 @@ entry-last h g t d = got-last h (at_moment t d) g
 pub same-entry : (h : List Written) (k t u c d : ℕ) (a b : Ask) → IsEntry h k t (Asks c a) → IsEntry h k u (Asks d b)
     → (c ≡ d) × (a ≡ b)
 same-entry h k t u c d a b e f =
-    same-ask c d a b (ap (λ (w : Written). w.deed) (same-written (at_moment t (Asks c a)) (at_moment u (Asks d b)) (sym e ∙ f)))
+    same-ask c d a b (ap (λ (w : Written). w.deed) (some-is (at_moment t (Asks c a)) (at_moment u (Asks d b)) (sym e ∙ f)))
   where
-    same-written : (x y : Written) → Some x ≡ Some y → x ≡ y
-    same-written x y e = cc
-
     same-ask : (c d : ℕ) (a b : Ask) → Asks c a ≡ Asks d b → (c ≡ d) × (a ≡ b)
     same-ask c d a b e = (cc, cc)
 
@@ -73,7 +64,7 @@ own-after h cs t (Asks x a) own c k has = by (waited-before x c (Some (length h)
     by : ((c ≡ x) × (Some (length h) ≡ Some k)) ⊎ HasConn cs c (Some k)
         → (u : ℕ) × (b : Ask) × IsEntry (h ++ at_moment t (Asks x a) ∷ []) k u (Asks c b)
     by (inl e) =
-        let same : length h ≡ k = same-some (length h) k e.1 in
+        let same : length h ≡ k = some-is (length h) k e.1 in
         let stands : IsEntry (h ++ at_moment t (Asks x a) ∷ []) k t (Asks x a) =
         subst (λ (i : ℕ). IsEntry (h ++ at_moment t (Asks x a) ∷ []) i t (Asks x a)) same (entry-last h [] t (Asks x a)) in
         (t, a, subst (λ (z : ℕ). IsEntry (h ++ at_moment t (Asks x a) ∷ []) k t (Asks z a)) (sym e.0) stands)
@@ -116,17 +107,6 @@ pub told-after : (us vs : List Untaken) (c k : ℕ) → IsToTell vs c k → IsTo
 told-after [] vs c k h = h
 told-after (u ∷ us) vs c k h = inr (told-after us vs c k h)
 
-pend-one : (b : Bool) (x : Conn) (p : Option ℕ) → conn_id (if b then record x { pending = p } else x) ≡ conn_id x
-pend-one true x p = refl
-pend-one false x p = refl
-
-pend-ids : (c : ℕ) (p : Option ℕ) (cs : List Conn) → map conn_id (map (pend c p) cs) ≡ map conn_id cs
-pend-ids c p [] = refl
-pend-ids c p (x ∷ xs) =
-    let head : conn_id (pend c p x) ≡ conn_id x = pend-one (x.id == c) x p in
-    let rest : map conn_id (map (pend c p) xs) ≡ map conn_id xs = pend-ids c p xs in
-    rw (head, rest) refl
-
 inner-ids : (cs : List Conn) (n : ℕ) (d : Deed) → IsInner d → map conn_id (conns_after cs n d) ≡ map conn_id cs
 inner-ids cs n (Opens c) h = absurd cc
 inner-ids cs n (Asks c a) h = absurd cc
@@ -143,7 +123,7 @@ which c d = by (c == d) refl
   where
     by : (b : Bool) → (c == d) ≡ b → (c ≡ d) ⊎ (c ≢ d)
     by true e = inl (eqb-true c d e)
-    by false e = inr (λ same. differ (c == d) (eq-eqb c d same) e)
+    by false e = inr (λ same. (both_ways (c == d) e (eq-eqb c d same)))
 
 due-after : (d k n : ℕ) (cs : List Conn) (x : Deed) → StandOnce (map conn_id cs) → IsInner x → IsAwaited cs x
     → HasConn cs d (Some k) → HasConn (conns_after cs n x) d (Some k) ⊎ IsToTell (answered_by n x) d k
@@ -157,7 +137,7 @@ due-after d k n cs (Answers c j g) o i a h = by (which d c)
     by : (d ≡ c) ⊎ (d ≢ c) → HasConn (map (pend c None) cs) d (Some k) ⊎ IsToTell (record { conn = c; ask = j; number = n } ∷ []) d k
     by (inl e) =
         let own : HasConn cs d (Some j) = subst (λ (z : ℕ). HasConn cs z (Some j)) (sym e) a in
-        inr (inl (sym e, same-some j k (same-conn d (Some j) (Some k) cs o own h)))
+        inr (inl (sym e, some-is j k (same-conn d (Some j) (Some k) cs o own h)))
     by (inr ne) = inl (others-wait c d None (Some k) cs ne h)
 due-after d k n cs (Shuts c) o i a h = absurd cc
 due-after d k n cs Seals o i a h = inl h

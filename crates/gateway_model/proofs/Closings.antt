@@ -4,6 +4,7 @@ use Rattle.gateway_model.proofs.Recounting.{recount-at}
 use Rattle.std.specs.Prelude.{◌==◌, ⊤}
 use Rattle.std.specs.List.{AllByRecursion, Contains, filter}
 use Rattle.std.proofs.lemmas.List.{append-nil, append_assoc, append_cancel_left}
+use Rattle.std.proofs.lemmas.Bool.{both_ways}
 use Rattle.http_edge.specs.Answers.{answer_text}
 use Rattle.ask_model.specs.Views.{Ask}
 use Rattle.journal_book.specs.Entries.{Deed, Opens as Opened, Asks as Asked, Sends as Sent, Hears as Heard, Passes as Passed, Answers, Shuts, Seals, Written}
@@ -17,7 +18,7 @@ use Rattle.exchange_model.specs.Calls.{heard}
 use Rattle.exchange_model.specs.Resting.{HasConn}
 use Rattle.exchange_model.specs.Growing.{Adds, at_moment, IsOfAsk}
 use Rattle.exchange_model.specs.Sealing.{asks_in_room, hears_in_room, ticks_in_room}
-use Rattle.exchange_model.proofs.Grown.{asks-add, asks-answer}
+use Rattle.exchange_model.proofs.CallerLemmas.{asks-add, asks-answer}
 use Rattle.exchange_core.specs.declared.fault.AskFault.TheVariants as AskFault
 use Rattle.exchange_core.specs.Calls.{IsAsked, AsksSo}
 use Rattle.exchange_core.specs.Drafts.{untaken_of}
@@ -79,9 +80,6 @@ pub record ActCloses (M : Terms) (old new : Served) (out : List Emission) : Type
       → IsEntry (new.core.state.entries ++ later) k t (Asked c a) → closes a.came ≡ true
       → IsToTell new.core.untaken c k ⊎ Contains (closed_in out) c
   pub answered : AllByRecursion (λ (w : Written). IsToldBy new.core.untaken w.deed) more
-
-differ : (b : Bool) → b ≡ true → b ≡ false → ⊥
-differ b e f = cc
 
 -- acts after which all stays but bytes
 
@@ -232,7 +230,7 @@ asks-close M w c old new h sealed =
 not-left : (b : Bool) (c : ℕ) (p : Option ℕ) (x : Conn) (ys : List Conn) → (x.id == c) ≡ b → (HasConn ys c p → ⊥)
     → HasConn (cond (not b) (x ∷ ys) ys) c p → ⊥
 not-left true c p x ys t f h = f h
-not-left false c p x ys t f (inl h) = differ (x.id == c) (eq-eqb x.id c h.0) t
+not-left false c p x ys t f (inl h) = (both_ways (x.id == c) t (eq-eqb x.id c h.0))
 not-left false c p x ys t f (inr h) = f h
 
 shut-out : (c : ℕ) (p : Option ℕ) (cs : List Conn) → HasConn (filter (λ (x : Conn). not (x.id == c)) cs) c p → ⊥
@@ -513,7 +511,7 @@ tells-close M w c k old out new h sealed = subst (ActCloses M old new) (sym h.gi
             let long : new.core.state.entries ++ later ≡ old.core.state.entries ++ ([] ++ later) =
             ap (λ (es : List Written). es ++ later) (still_entries new ends.0) ∙ append_assoc old.core.state.entries [] later in
             let own = own_ask d j u a later same (subst (λ (es : List Written). IsEntry es j u (Asked d a)) long e) in
-            absurd (differ (closes h.answer.mapping.came) (sym (ap (λ (b : Ask). closes b.came) own.1) ∙ last) t)
+            absurd (both_ways (closes h.answer.mapping.came) t (sym (ap (λ (b : Ask). closes b.came) own.1) ∙ last))
 
 -- each act of an input but those of openings and closes
 

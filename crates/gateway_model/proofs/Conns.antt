@@ -2,6 +2,7 @@
 use Rattle.std.proofs.Common.{◌≡◌, ◌≢◌, ◌⊎◌, inl, inr, ℕ, ◌<◌, Bool, true, false, cond, not, List, [], ◌∷◌, ◌++◌, map, Option, Some, None, refl, sym, ◌∙◌, arith, eqb-true}
 use Rattle.std.specs.Prelude.{◌==◌, ⊤}
 use Rattle.std.specs.List.{AllByRecursion, filter}
+use Rattle.history_laws.proofs.CallerLemmas.{none-some}
 use Rattle.exchange_model.specs.declared.kept.Conn.{Conn}
 use Rattle.exchange_model.specs.State.{pend}
 use Rattle.exchange_model.specs.Resting.{HasConn}
@@ -12,15 +13,6 @@ use Rattle.gateway_model.specs.Waiting.{conn_id}
 abbrev pub StandOnce : List ℕ → Type 0
 StandOnce [] = ⊤
 StandOnce (x ∷ xs) = AllByRecursion (λ (y : ℕ). x ≢ y) xs × StandOnce xs
-
-pub none-some : (k : ℕ) → None ≡ Some k → ⊥
-none-some k e = cc
-
-pub same-some : (j k : ℕ) → Some j ≡ Some k → j ≡ k
-same-some j k e = cc
-
-pub differ : (b : Bool) → b ≡ true → b ≡ false → ⊥
-differ b e f = cc
 
 -- connections with numbers of their own
 

@@ -2,19 +2,20 @@
 use Rattle.std.proofs.Common.{◌≡◌, ◌⊎◌, inl, inr, ℕ, ◌+◌, ◌<◌, Bool, true, false, cond, not, List, [], ◌∷◌, ◌++◌, map, Option, Some, None, refl, sym, ap, ◌∙◌, subst, arith, eq-eqb}
 use Rattle.std.specs.Prelude.{◌==◌, ⊤}
 use Rattle.std.specs.List.{filter}
-use Rattle.std.proofs.lemmas.Bool.Decides.{eqb_tells}
 use Rattle.std.proofs.lemmas.Grind.{flat_map-append}
+use Rattle.std.proofs.lemmas.Bool.{both_ways}
 use Rattle.journal_book.specs.Entries.{Deed, Opens, Asks, Sends, Hears, Passes, Answers, Shuts, Seals, Written}
 use Rattle.history_laws.specs.Readings.{Noted, Note, entries}
-use Rattle.history_laws.specs.Connections.{open_by, is_open, opened_by, opened}
+use Rattle.history_laws.specs.Connections.{opened_by, opened}
 use Rattle.history_laws.specs.Justified.{Follows, Legal, Stands}
+use Rattle.history_laws.proofs.CallerLemmas.{open-below}
 use Rattle.exchange_model.specs.declared.kept.Conn.{Conn}
 use Rattle.exchange_model.specs.State.{pend, conns_after}
 use Rattle.exchange_model.specs.Resting.{HasConn}
 use Rattle.exchange_model.specs.Growing.{conns_with}
 use Rattle.exchange_core.specs.Values.{answered_by, answered_in}
 use Rattle.gateway_model.proofs.Moves.{num_of, nums}
-use Rattle.gateway_model.proofs.Conns.{differ, waited-before, was-open}
+use Rattle.gateway_model.proofs.Conns.{waited-before, was-open}
 
 abbrev pub count : ℕ → List Written → ℕ
 count n [] = n
@@ -60,21 +61,6 @@ pub counted-first : (n : ℕ) (xs ys : List Written) → AreCounted n (xs ++ ys)
 counted-first n [] ys a = tt
 counted-first n (x ∷ xs) ys a = (a.0, counted-first (opened_by x.deed n) xs ys a.1)
 
--- an open connection has a number below how many were opened
-below-step : (older : List Noted) (c t : ℕ) (d : Deed) (note : Note) → (is_open older c ≡ true → c < opened older)
-    → Follows older t d note → open_by c d (is_open older c) ≡ true → c < opened_by d (opened older)
-below-step older c t (Opens e) note ih may h =
-    let here = may.1 in
-    elim (eqb_tells e c) [ inl w ↦ let a = w.1 in omega (arith, a, here) | inr w ↦ let r = ih (rw (w.0) at h) in omega (arith, r) ]
-below-step older c t (Shuts e) note ih may h =
-    elim (eqb_tells e c) [ inl w ↦ absurd (differ false (rw (w.0) at h) refl) | inr w ↦ ih (rw (w.0) at h) ]
-below-step older c t d note ih may h = ih h
-
-below : (l : List Noted) → Legal l → (c : ℕ) → is_open l c ≡ true → c < opened l
-below [] legal c e = absurd (differ false e refl)
-below (x ∷ older) legal c e =
-    below-step older c x.written.moment x.written.deed x.note (below older legal.0 c) legal.2 e
-
 count-is : (l : List Noted) → count 0 (entries l) ≡ opened l
 count-is [] = refl
 count-is (x ∷ older) =
@@ -83,8 +69,8 @@ count-is (x ∷ older) =
 counted-one : (older : List Noted) (t : ℕ) (d : Deed) (note : Note) → Legal older → Follows older t d note
     → IsCounted (opened older) d
 counted-one older t (Opens c) note legal may = may.1
-counted-one older t (Asks c a) note legal may = below older legal c may.1
-counted-one older t (Shuts c) note legal may = below older legal c may.1
+counted-one older t (Asks c a) note legal may = open-below older legal c may.1
+counted-one older t (Shuts c) note legal may = open-below older legal c may.1
 counted-one older t (Sends p b w) note legal may = tt
 counted-one older t (Hears p b) note legal may = tt
 counted-one older t Passes note legal may = tt
@@ -186,7 +172,7 @@ asked-none c k (x ∷ xs) (inl h) = by (x.id == c) refl h
     by : (b : Bool) → (x.id == c) ≡ b
         → ((cond b (record x { pending = Some k }) x).id ≡ c) × ((cond b (record x { pending = Some k }) x).pending ≡ None) → ⊥
     by true t h = some-none k h.1
-    by false t h = differ (x.id == c) (eq-eqb x.id c h.0) t
+    by false t h = (both_ways (x.id == c) t (eq-eqb x.id c h.0))
 asked-none c k (x ∷ xs) (inr h) = asked-none c k xs h
 
 shut-none : (c : ℕ) (cs : List Conn) → HasConn (filter (λ (x : Conn). not (x.id == c)) cs) c None → ⊥
@@ -196,7 +182,7 @@ shut-none c (x ∷ xs) h = by (x.id == c) refl (shut-none c xs) h
     by : (b : Bool) → (x.id == c) ≡ b → (HasConn (filter (λ (x : Conn). not (x.id == c)) xs) c None → ⊥)
         → HasConn (cond (not b) (x ∷ filter (λ (x : Conn). not (x.id == c)) xs) (filter (λ (x : Conn). not (x.id == c)) xs)) c None → ⊥
     by true t ih h = ih h
-    by false t ih (inl h) = differ (x.id == c) (eq-eqb x.id c h.0) t
+    by false t ih (inl h) = (both_ways (x.id == c) t (eq-eqb x.id c h.0))
     by false t ih (inr h) = ih h
 
 enough-below : (c n : ℕ) (d : Deed) → IsCounted n d → IsEnough c d → c < n

@@ -1,26 +1,21 @@
 -- Each act of a proxy gives out, adds and leaves what it may; and so do all of them.
-use Rattle.std.proofs.Common.{◌≡◌, ◌≢◌, ℕ, ◌+◌, ◌<◌, Bool, true, false, cond, ◌⊎◌, inl, inr, List, [], ◌∷◌, ◌++◌, length, Option, Some, None, Err, refl, sym, ap, subst, ◌∙◌, arith, append_assoc, append-nil, length-append}
+use Rattle.std.proofs.Common.{◌≡◌, ◌≢◌, ℕ, ◌+◌, ◌<◌, Bool, true, false, ◌⊎◌, inl, inr, List, [], ◌∷◌, ◌++◌, length, Some, Err, refl, sym, ap, subst, ◌∙◌, arith, append_assoc, append-nil, length-append}
 use Rattle.std.specs.List.{AllByRecursion, slice_get}
 use Rattle.std.proofs.lemmas.List.{append_cancel_left}
-use Rattle.uri_map.specs.declared.peer.Peer.{Peer}
 use Rattle.http_mapping.specs.Means.{closes}
 use Rattle.http_edge.specs.Answers.{answer_text}
 use Rattle.ask_model.specs.Views.{Ask}
-use Rattle.ask_model.specs.Requests.{Sense, Requests, Refuses}
 use Rattle.ask_model.specs.declared.cause.Cause.TheVariants as C
 use Rattle.journal_book.specs.Entries.{Grounds, Deed, Opens as Opened, Asks as Asked, Sends as Sent, Hears as Heard, Passes as Passed, Answers, Shuts, Seals, Written}
-use Rattle.message_layer.specs.declared.state.Outstanding.{Outstanding}
-use Rattle.message_layer.specs.declared.state.Waiting.{Waiting}
 use Rattle.history_laws.specs.Justified.{Stands}
 use Rattle.history_claims.specs.Headline.{IsEntry}
-use Rattle.history_claims.proofs.Apart.{answer-once}
-use Rattle.exchange_model.specs.State.{State, link_of}
-use Rattle.exchange_model.specs.Steps.{shuts, seals, begins}
-use Rattle.exchange_model.specs.Calls.{Numbers, next_by, next, refused, has_place, asked_by, asked}
+use Rattle.history_claims.proofs.CallerLemmas.{answer-once}
+use Rattle.exchange_model.specs.State.{State}
+use Rattle.exchange_model.specs.Steps.{shuts}
+use Rattle.exchange_model.specs.Calls.{Numbers, asked}
 use Rattle.exchange_model.specs.Growing.{Adds, at_moment, IsOfAsk, by_client, HasNoClient}
-use Rattle.exchange_model.specs.Room.{fits}
-use Rattle.exchange_model.specs.Sealing.{in_room, opens_in_room, asks_in_room, hears_in_room, ticks_in_room}
-use Rattle.exchange_model.proofs.Grown.{opens-add, asks-add, hears-add, ticks-add, opens-alone, asks-answer, hears-answer, ticks-answer}
+use Rattle.exchange_model.specs.Sealing.{opens_in_room, asks_in_room, hears_in_room, ticks_in_room}
+use Rattle.exchange_model.proofs.CallerLemmas.{asks-add, asks-answer, hears-add, hears-answer, opens-add, opens-alone, ticks-add, ticks-answer}
 use Rattle.exchange_core.specs.declared.fault.OpenFault.TheVariants as Open
 use Rattle.exchange_core.specs.declared.fault.AskFault.TheVariants as Fault
 use Rattle.exchange_core.specs.Calls.{IsOpened, IsAsked, IsClosed, AsksSo}
@@ -33,6 +28,7 @@ use Rattle.gateway_model.specs.Waiting.{AreApart}
 use Rattle.gateway_model.proofs.Order.{all-append, all-as}
 use Rattle.gateway_model.proofs.Apart.{at-seam, apart-answers}
 use Rattle.gateway_model.proofs.Moves.{Whoever, Did, did-then, Aside, aside-none, aside-closed, aside-turned, aside-goes-on, did-aside, did-step, did-send, did-take}
+use Rattle.gateway_model.proofs.Moving.{denied-is}
 
 -- a step that answers nothing
 
@@ -238,22 +234,6 @@ did-asks M G t word c a old new so meant told =
 
 -- an ask that the journal doesn't take adds the seal at most
 
-next-sealed : (t : ℕ) (p : Peer) (o : Option Outstanding) (ws : List Waiting) (S : State) → (next_by t p o ws S).sealed ≡ S.sealed
-next-sealed t p None (w ∷ ws) S = refl
-next-sealed t p None [] S = refl
-next-sealed t p (Some o) ws S = refl
-
-one-sealed : (b : Bool) (x y : State) (s : Bool) → x.sealed ≡ s → y.sealed ≡ s → (cond b x y).sealed ≡ s
-one-sealed true x y s e f = e
-one-sealed false x y s e f = f
-
-by-sealed : (sense : Sense) (t c : ℕ) (a : Ask) (n : Numbers) (S : State) → (asked_by sense t c a n S).sealed ≡ S.sealed
-by-sealed (Refuses cause status) t c a n S = refl
-by-sealed (Requests q) t c a n S =
-    let B : State = begins t c a q n.token n.text n.word S in
-    one-sealed (has_place t q.peer S) (next t q.peer B) (refused t c a C.Busy S) S.sealed
-    (next-sealed t q.peer (link_of B.links q.peer).outstanding (link_of B.links q.peer).waiting B) refl
-
 record SealsAtMost (t : ℕ) (S S1 : State) : Type 0 where
   more : List Written
   entries : S1.entries ≡ S.entries ++ more
@@ -261,20 +241,10 @@ record SealsAtMost (t : ℕ) (S S1 : State) : Type 0 where
 
 denied-adds : (t c : ℕ) (a : Ask) (n : Numbers) (S : State) → (asks_in_room t c a n S).sealed ≡ true
     → SealsAtMost t S (asks_in_room t c a n S)
-denied-adds t c a n S e = by-seal S.sealed refl e
-  where
-    differ : false ≡ true → ⊥
-    differ e = cc
-
-    fit : S.sealed ≡ false → (b : Bool) → (cond b (asked t c a n S) (seals t S)).sealed ≡ true
-        → SealsAtMost t S (cond b (asked t c a n S) (seals t S))
-    fit f true e = absurd (differ (sym (by-sealed a.sense t c a n S ∙ f) ∙ e))
-    fit f false e = record { more = at_moment t Seals ∷ []; entries = refl; are = inr refl }
-
-    by-seal : (b : Bool) → S.sealed ≡ b → (cond b S (in_room t (asked t c a n S) S)).sealed ≡ true
-        → SealsAtMost t S (cond b S (in_room t (asked t c a n S) S))
-    by-seal true s e = record { more = []; entries = sym (append-nil S.entries); are = inl refl }
-    by-seal false s e = fit s (fits (asked t c a n S)) e
+denied-adds t c a n S e = elim (denied-is t c a n S e) [
+  | inl same ↦ subst (SealsAtMost t S) (sym same) (record { more = []; entries = sym (append-nil S.entries); are = inl refl })
+  | inr seal ↦ subst (SealsAtMost t S) (sym seal) (record { more = at_moment t Seals ∷ []; entries = refl; are = inr refl })
+]
 
 pub did-denied : (M : Terms) (G : ℕ → Type 0) (t word c : ℕ) (a : Ask) (old new : CoreValue) → IsAsked (Err Fault.Sealed) t word c a old new → M.IsMeaning a
     → Did M G old [] new

@@ -3,6 +3,7 @@ use Rattle.std.proofs.Common.{◌≡◌, ◌⊎◌, inl, inr, ℕ, ◌≤◌, Bo
 use Rattle.std.specs.Prelude.{⊤, max, flat_map}
 use Rattle.std.specs.List.{AllByRecursion, Contains}
 use Rattle.std.proofs.lemmas.List.{append-nil}
+use Rattle.std.proofs.lemmas.Bool.{both_ways}
 use Rattle.uri_map.specs.declared.peer.Peer.{Peer}
 use Rattle.ask_model.specs.Views.{Ask}
 use Rattle.journal_book.specs.Entries.{Hears as Heard, Passes as Passed, Deed, Written}
@@ -14,7 +15,7 @@ use Rattle.exchange_model.specs.Growing.{at_moment}
 use Rattle.exchange_model.specs.Keeping.{IsDone}
 use Rattle.exchange_model.specs.Room.{fits, KeptInRoom}
 use Rattle.exchange_model.specs.Sealing.{in_room, if_unsealed, opens_in_room, asks_in_room, hears_in_room, late, ticks_in_room, ArePrompt}
-use Rattle.exchange_model.proofs.InRoom.{ticks-promptly}
+use Rattle.exchange_model.proofs.CallerLemmas.{ticks-promptly}
 use Rattle.exchange_core.specs.declared.fault.OpenFault.TheVariants as Open
 use Rattle.exchange_core.specs.declared.fault.AskFault.TheVariants as AskFault
 use Rattle.exchange_core.specs.Calls.{IsOpened, IsAsked, IsClosed, AsksSo}
@@ -26,12 +27,12 @@ use Rattle.gateway_model.specs.declared.input.When.{When}
 use Rattle.gateway_model.specs.Acts.{Act, Opens, TurnsAway, Takes, Hears, Passes, Asks, Denies, Sends, Tells, GoesOn, Rests, Leaves, Misses, Served, Terms, Ends, Does, DoesAll, at}
 use Rattle.gateway_model.specs.Emissions.{Emission}
 use Rattle.gateway_model.specs.Hearing.{AreUnheard, BeginsBy, IsDropped, ShowsWhatCame, InputsShow, DoesWhatIsDue, TicksShow}
-use Rattle.gateway_model.specs.Orders.{IsFor, ServesOut, IsSends, AreSends, Turn, acts_of, IsTurn, Delivers, IsInOrder}
+use Rattle.gateway_model.specs.Orders.{IsSends, AreSends, Turn, acts_of, Delivers, IsInOrder}
 use Rattle.gateway_model.specs.Resting.{any_terms}
 use Rattle.gateway_model.proofs.Awaiting.{told-of}
 use Rattle.gateway_model.proofs.Heard.{IsLost, Unheard, none, both, shuts-unheard, opens-unheard, asks-unheard, ticks-unheard, late-sealed, Firstly, firstly-then, ticks-first, hears-first}
 use Rattle.gateway_model.proofs.Lost.{why-dropped}
-use Rattle.gateway_model.proofs.Order.{all-append, all-as}
+use Rattle.gateway_model.proofs.Order.{Each, each-out, each-delivers}
 use Rattle.gateway_model.proofs.Rested.{split-acts}
 
 -- A state goes on with no datagram that came in, and a sealed one stays sealed.
@@ -149,56 +150,11 @@ goes-all M w (a ∷ acts) old out new o h =
     (goes-all M w acts h.0 h.2 new o.1 h.4)
 
 -- what follows the first act of an input is such
-
-for-other : (c : ℕ) (a : Act) → IsFor c a → IsOther a
-for-other c (Opens d) h = absurd h
-for-other c TurnsAway h = absurd h
-for-other c (Takes d bytes) h = absurd h
-for-other c (Hears p bytes) h = absurd h
-for-other c Passes h = absurd h
-for-other c (Asks d) h = tt
-for-other c (Denies d) h = tt
-for-other c Sends h = tt
-for-other c (Tells d k) h = tt
-for-other c (GoesOn d) h = tt
-for-other c (Rests d) h = absurd h
-for-other c (Leaves d) h = absurd h
-for-other c (Misses d) h = absurd h
-
-sends-other : (a : Act) → IsSends a → IsOther a
-sends-other (Opens d) h = absurd h
-sends-other TurnsAway h = absurd h
-sends-other (Takes d bytes) h = absurd h
-sends-other (Hears p bytes) h = absurd h
-sends-other Passes h = absurd h
-sends-other (Asks d) h = absurd h
-sends-other (Denies d) h = absurd h
-sends-other Sends h = tt
-sends-other (Tells d k) h = absurd h
-sends-other (GoesOn d) h = absurd h
-sends-other (Rests d) h = absurd h
-sends-other (Leaves d) h = absurd h
-sends-other (Misses d) h = absurd h
+each-other : Each IsOther
+each-other = record { asks = λ c. tt; denies = λ c. tt; sends = tt; tells = λ c k. tt; goes_on = λ c. tt; rests = λ c. tt }
 
 abbrev AreOther : List Act → Type 0
 AreOther acts = AllByRecursion IsOther acts
-
-out-other : (c : ℕ) (acts : List Act) → ServesOut c acts → AreOther acts
-out-other c acts h =
-    subst AreOther (sym h.are)
-    (all-append IsOther h.first (Rests c ∷ []) (all-as (IsFor c) IsOther h.first (for-other c) h.for) (tt, tt))
-
-turns-other : (turns : List Turn) → AllByRecursion IsTurn turns → AreOther (flat_map acts_of turns)
-turns-other [] h = tt
-turns-other (x ∷ turns) h =
-    all-append IsOther (acts_of x) (flat_map acts_of turns) (tt, out-other x.conn x.further h.0) (turns-other turns h.1)
-
-delivers-other : (acts : List Act) → Delivers acts → AreOther acts
-delivers-other acts h =
-    let turns = h.told.1 in
-    subst AreOther (sym h.are)
-    (all-append IsOther h.sends h.answers (all-as IsSends IsOther h.sends sends-other h.sent)
-    (subst AreOther (sym turns.are) (turns-other turns.turns turns.each)))
 
 -- an input
 
@@ -233,12 +189,12 @@ input-shows M w H.Open acts old out new h o kept = by o
         (goes-all M w acts old out new (subst AreOther (sym one) (tt, tt)) h)
 input-shows M w (H.Bytes c bytes) acts old out new h o kept =
     shows-none old.core.state new.core.state
-    (goes-all M w acts old out new (subst AreOther (sym o.are) (tt, out-other c o.rest o.then)) h)
+    (goes-all M w acts old out new (subst AreOther (sym o.are) (tt, each-out IsOther each-other c o.rest o.then)) h)
 input-shows M w (H.Datagram p bytes) acts old out new h o kept =
     let d = subst (λ (xs : List Act). DoesAll M w xs old out new) o.are h in
     let S : State = old.core.state in
     let heard : d.0.core.state ≡ hears_in_room (at w old) p bytes.now S = ap (λ (s : Served). s.core.state) d.3.0 in
-    let rest : GoesSo d.0.core.state new.core.state = goes-all M w o.rest d.0 d.2 new (delivers-other o.rest o.then) d.4 in
+    let rest : GoesSo d.0.core.state new.core.state = goes-all M w o.rest d.0 d.2 new (each-delivers IsOther each-other o.rest o.then) d.4 in
     by d.0.core.state rest
     (subst
     (λ (X : State). Firstly (at w old) (Heard p bytes.now) S X ⊎ (Unheard S X × IsLost (at w old) p bytes.now S X))
@@ -261,7 +217,7 @@ input-shows M w (H.Datagram p bytes) acts old out new h o kept =
         )
 input-shows M w H.Tick acts old out new h o kept =
     shows-none old.core.state new.core.state
-    (goes-all M w acts old out new (subst AreOther (sym o.are) (tt, delivers-other o.rest o.then)) h)
+    (goes-all M w acts old out new (subst AreOther (sym o.are) (tt, each-delivers IsOther each-other o.rest o.then)) h)
 input-shows M w (H.Close c) acts old out new h o kept = by o
   where
     by : (acts ≡ Leaves c ∷ []) ⊎ (acts ≡ Misses c ∷ []) → Shows old.core.state new.core.state AreUnheard
@@ -324,7 +280,7 @@ tick-shows M w acts old out new h o kept =
     let d = subst (λ (xs : List Act). DoesAll M w xs old out new) o.are h in
     let le : old.core.state.moment ≤ at w old = later old.core.state.moment _ in
     let ticked : d.0.core.state ≡ ticks_in_room (at w old) old.core.state = ap (λ (s : Served). s.core.state) d.3.0 in
-    let rest : GoesSo d.0.core.state new.core.state = goes-all M w o.rest d.0 d.2 new (delivers-other o.rest o.then) d.4 in
+    let rest : GoesSo d.0.core.state new.core.state = goes-all M w o.rest d.0 d.2 new (each-delivers IsOther each-other o.rest o.then) d.4 in
     by (ticks-promptly (at w old) old.core.state kept le)
     (subst (λ (X : State). GoesSo X new.core.state) ticked rest)
     (λ e. delivers-none M w o.rest d.0 d.2 new o.then (nothing d.0.core (ap (λ (s : Served). s.core) d.3.0) d.3.2 e) d.4
@@ -337,9 +293,6 @@ tick-shows M w acts old out new h o kept =
         told-of old.core.state old.core u [] (is ∙ ap (λ (S : State). stepped S old.core) e) (sym (append-nil old.core.state.entries))
         ∙ (append-nil old.core.untaken ∙ none)
 
-    differ : (b : Bool) → b ≡ true → b ≡ false → ⊥
-    differ b e f = cc
-
     due : ArePrompt (at w old) (ticks_in_room (at w old) old.core.state) → GoesSo (ticks_in_room (at w old) old.core.state) new.core.state
         → IsDone (at w old) (ticks_in_room (at w old) old.core.state)
         → (something_due (at w old) old.core.state ≡ true → Firstly (at w old) Passed old.core.state (ticks_in_room (at w old) old.core.state))
@@ -349,11 +302,11 @@ tick-shows M w acts old out new h o kept =
     due prompt rest done f g true e =
         let s = shows-first (at w old) Passed old.core.state new.core.state
         (firstly-then (at w old) Passed old.core.state (ticks_in_room (at w old) old.core.state) new.core.state (f e) rest.unheard) in
-        (s.0, s.1, (prompt, inr (done, λ t. s.2, λ t. absurd (differ (something_due (at w old) old.core.state) e t))))
+        (s.0, s.1, (prompt, inr (done, λ t. s.2, λ t. absurd (both_ways (something_due (at w old) old.core.state) t e))))
     due prompt rest done f g false e = (
       [],
       ap (λ (S : State). S.entries) (g e) ∙ sym (append-nil old.core.state.entries),
-      (prompt, inr (done, λ t. absurd (differ (something_due (at w old) old.core.state) t e), λ t. refl)),
+      (prompt, inr (done, λ t. absurd (both_ways (something_due (at w old) old.core.state) e t), λ t. refl)),
     )
 
     by : ArePrompt (at w old) (ticks_in_room (at w old) old.core.state) → GoesSo (ticks_in_room (at w old) old.core.state) new.core.state

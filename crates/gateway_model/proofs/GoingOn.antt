@@ -2,6 +2,7 @@
 use Rattle.std.proofs.Common.{◌≡◌, ◌≢◌, ◌⊎◌, inl, inr, ℕ, ◌+◌, ◌≤◌, Bool, true, false, cond, List, [], ◌∷◌, ◌++◌, Option, Some, None, refl, sym, ap, ◌∙◌, subst, arith, eqb-true, eq-eqb, length}
 use Rattle.gateway_model.proofs.Recounting.{recount-at}
 use Rattle.std.specs.Prelude.{◌==◌}
+use Rattle.std.proofs.lemmas.Bool.{both_ways}
 use Rattle.ask_model.specs.Views.{Ask}
 use Rattle.http_mapping.specs.Means.{closes}
 use Rattle.gateway_model.specs.declared.input.When.{When}
@@ -88,10 +89,7 @@ counted c d = by (d == c) refl
   where
     by : (b : Bool) → (d == c) ≡ b → ((c ≢ d) → cond {A = ℕ} b 1 0 ≡ 0) × ((c ≡ d) → cond {A = ℕ} b 1 0 ≡ 1)
     by true t = (λ ne. absurd (ne (sym (eqb-true d c t))), λ e. refl)
-    by false t = (λ ne. refl, λ e. absurd (differ (d == c) (eq-eqb d c (sym e)) t))
-      where
-        differ : (b : Bool) → b ≡ true → b ≡ false → ⊥
-        differ b e f = cc
+    by false t = (λ ne. refl, λ e. absurd (both_ways (d == c) t (eq-eqb d c (sym e))))
 
 once : (M : Terms) (w : When) (c : ℕ) (a : Act) (old : Served) (out : List Emission) (new : Served)
     → Does M w a old out new → IsOnce c a old new

@@ -34,7 +34,7 @@ use Rattle.exchange_model.specs.Growing.{at_moment}
 use Rattle.exchange_model.specs.Keeping.{IsDone}
 use Rattle.exchange_model.specs.Room.{fits, KeptInRoom}
 use Rattle.exchange_model.specs.Sealing.{in_room, opens_in_room, asks_in_room, hears_in_room, late, ticks_in_room}
-use Rattle.exchange_model.proofs.Ticking.{ticks-do}
+use Rattle.exchange_model.proofs.CallerLemmas.{ticks-do}
 use Rattle.gateway_model.specs.Hearing.{IsUnheard, AreUnheard}
 
 -- what the core keeps tells why a datagram is dropped

@@ -1,7 +1,6 @@
 -- What an input asks on a connection.
 use Rattle.std.proofs.Common.{◌≡◌, ◌⊎◌, inl, inr, ℕ, ◌+◌, ◌≤◌, Bool, true, false, cond, List, [], ◌∷◌, ◌++◌, length, drop, Some, None, refl, sym, ap, ◌∙◌, subst, arith, eqb-true}
-use Rattle.std.specs.Prelude.{⊤, ◌==◌, flat_map}
-use Rattle.std.specs.List.{AllByRecursion}
+use Rattle.std.specs.Prelude.{⊤, ◌==◌}
 use Rattle.std.proofs.Math.Seq.{drop-append_seam}
 use Rattle.std.proofs.lemmas.List.{append-nil}
 use Rattle.media_map.specs.declared.form.Form.{Form}
@@ -14,51 +13,20 @@ use Rattle.exchange_core.specs.Values.{CoreValue}
 use Rattle.gateway_model.specs.declared.input.Happening.{Happening}
 use Rattle.gateway_model.specs.declared.input.Happening.TheVariants as H
 use Rattle.gateway_model.specs.declared.input.When.{When}
-use Rattle.gateway_model.specs.Acts.{Act, Opens, TurnsAway, Takes, Hears, Passes, Asks, Denies, Sends, Tells, GoesOn, Rests, Leaves, Misses, Served, Terms, Does, DoesAll, at}
+use Rattle.gateway_model.specs.Acts.{Act, Opens, TurnsAway, Leaves, Misses, Served, Terms, Does, DoesAll, at}
 use Rattle.gateway_model.specs.Asking.{brought_by, IsLeft, IsOver, Begins, Heeds, AllHeed, InputsAsk}
 use Rattle.gateway_model.specs.Emissions.{Emission, Turned}
-use Rattle.gateway_model.specs.Orders.{IsFor, ServesOut, IsSends, Turn, acts_of, IsTurn, Delivers, IsInOrder}
+use Rattle.gateway_model.specs.Orders.{IsInOrder}
 use Rattle.gateway_model.specs.Tellings.{terms_of}
 use Rattle.gateway_model.specs.Unasked.{Unasked, unasked_at, no_bytes}
 use Rattle.gateway_model.proofs.Asked.{added-same, added-none, Effect, effect-then}
 use Rattle.gateway_model.proofs.Moving.{opens-as}
-use Rattle.gateway_model.proofs.Order.{all-append, all-as, sends-for}
+use Rattle.gateway_model.proofs.Order.{Each, each-out, each-delivers}
 use Rattle.gateway_model.proofs.Heeding.{IsPlain, ArePlain, all-effect, takes-effect, state-of}
 
 -- what follows the first act of an input is such
-
-for-plain : (c : ℕ) (a : Act) → IsFor c a → IsPlain a
-for-plain c (Opens d) h = absurd h
-for-plain c TurnsAway h = tt
-for-plain c (Takes d bytes) h = absurd h
-for-plain c (Hears p bytes) h = tt
-for-plain c Passes h = tt
-for-plain c (Asks d) h = tt
-for-plain c (Denies d) h = tt
-for-plain c Sends h = tt
-for-plain c (Tells d k) h = tt
-for-plain c (GoesOn d) h = tt
-for-plain c (Rests d) h = tt
-for-plain c (Leaves d) h = tt
-for-plain c (Misses d) h = tt
-
-out-plain : (c : ℕ) (acts : List Act) → ServesOut c acts → ArePlain acts
-out-plain c acts h =
-    subst ArePlain (sym h.are)
-    (all-append IsPlain h.first (Rests c ∷ []) (all-as (IsFor c) IsPlain h.first (for-plain c) h.for) (tt, tt))
-
-turns-plain : (turns : List Turn) → AllByRecursion IsTurn turns → ArePlain (flat_map acts_of turns)
-turns-plain [] h = tt
-turns-plain (x ∷ turns) h =
-    all-append IsPlain (acts_of x) (flat_map acts_of turns) (tt, out-plain x.conn x.further h.0) (turns-plain turns h.1)
-
-delivers-plain : (acts : List Act) → Delivers acts → ArePlain acts
-delivers-plain acts h =
-    let turns = h.told.1 in
-    subst ArePlain (sym h.are)
-    (all-append IsPlain h.sends h.answers
-    (all-as IsSends IsPlain h.sends (λ a s. for-plain 0 a (sends-for 0 a s)) h.sent)
-    (subst ArePlain (sym turns.are) (turns-plain turns.turns turns.each)))
+each-plain : Each IsPlain
+each-plain = record { asks = λ c. tt; denies = λ c. tt; sends = tt; tells = λ c k. tt; goes_on = λ c. tt; rests = λ c. tt }
 
 -- a connection opens
 
@@ -154,13 +122,13 @@ input-asks M w (H.Bytes d bytes) acts old out new h o =
     subst (λ (came : List ℕ). Effect M.IsMeaning c came old new) (append-nil (cond (d == c) bytes.now []))
     (effect-then M.IsMeaning c (cond (d == c) bytes.now []) [] old k.0 new
     (takes-effect M.IsMeaning c d bytes.now old k.0 k.3.0)
-    (all-effect M w c o.rest k.0 k.2 new (out-plain d o.rest o.then) k.4)))
+    (all-effect M w c o.rest k.0 k.2 new (each-out IsPlain each-plain d o.rest o.then) k.4)))
 input-asks M w (H.Datagram p bytes) acts old out new h o =
     all-heed M.IsMeaning (H.Datagram p bytes) old new
-    (λ c. all-effect M w c acts old out new (subst ArePlain (sym o.are) (tt, delivers-plain o.rest o.then)) h)
+    (λ c. all-effect M w c acts old out new (subst ArePlain (sym o.are) (tt, each-delivers IsPlain each-plain o.rest o.then)) h)
 input-asks M w H.Tick acts old out new h o =
     all-heed M.IsMeaning H.Tick old new
-    (λ c. all-effect M w c acts old out new (subst ArePlain (sym o.are) (tt, delivers-plain o.rest o.then)) h)
+    (λ c. all-effect M w c acts old out new (subst ArePlain (sym o.are) (tt, each-delivers IsPlain each-plain o.rest o.then)) h)
 input-asks M w (H.Close d) acts old out new h o = by o
   where
     by : (acts ≡ Leaves d ∷ []) ⊎ (acts ≡ Misses d ∷ []) → AllHeed M.IsMeaning (H.Close d) old new
@@ -219,18 +187,18 @@ module _ (M : Terms) (w : When) where
       let k = subst (λ (xs : List Act). DoesAll M w xs old out new) o.are h in
       inr (inr (
         λ e. subst wants (sym e) tt,
-        plain-counted o.rest k.0 k.2 new k.4 (out-plain d o.rest o.then)
+        plain-counted o.rest k.0 k.2 new k.4 (each-out IsPlain each-plain d o.rest o.then)
             ∙ (takes-effect M.IsMeaning 0 d bytes.now old k.0 k.3.0).opened,
       ))
   input-counts (H.Datagram p bytes) acts old out new h o =
       inr (inr (
         λ e. subst wants (sym e) tt,
-        plain-counted acts old out new h (subst ArePlain (sym o.are) (tt, delivers-plain o.rest o.then)),
+        plain-counted acts old out new h (subst ArePlain (sym o.are) (tt, each-delivers IsPlain each-plain o.rest o.then)),
       ))
   input-counts H.Tick acts old out new h o =
       inr (inr (
         λ e. subst wants (sym e) tt,
-        plain-counted acts old out new h (subst ArePlain (sym o.are) (tt, delivers-plain o.rest o.then)),
+        plain-counted acts old out new h (subst ArePlain (sym o.are) (tt, each-delivers IsPlain each-plain o.rest o.then)),
       ))
   input-counts (H.Close d) acts old out new h o = inr (inr (λ e. subst wants (sym e) tt, by o))
     where

@@ -3,8 +3,9 @@ use Rattle.std.proofs.Common.{◌≡◌, ◌≢◌, ◌⊎◌, inl, inr, ℕ, Bo
 use Rattle.gateway_model.proofs.Recounting.{recount-after, recount-none}
 use Rattle.std.specs.Prelude.{◌==◌, ⊤}
 use Rattle.std.specs.List.{AllByRecursion}
-use Rattle.std.proofs.lemmas.Bool.{ne_eqb}
+use Rattle.std.proofs.lemmas.Bool.{ne_eqb, both_ways}
 use Rattle.std.proofs.lemmas.List.{append-nil, append_assoc}
+use Rattle.history_laws.proofs.CallerLemmas.{none-some, some-is}
 use Rattle.http_edge.specs.Reading.{ReadsFirst, Item, closes as item_closes}
 use Rattle.ask_model.specs.Views.{Ask}
 use Rattle.journal_book.specs.Entries.{Asks as Asked, Written}
@@ -25,7 +26,7 @@ use Rattle.gateway_model.proofs.Asked.{own-after, own-none, left-same, none-left
 use Rattle.gateway_model.proofs.Awaiting.{which}
 use Rattle.gateway_model.proofs.Moving.{Moves, Begins as AsksBegin, hears-move, ticks-move, turns-away, asks-begin, denied-is}
 use Rattle.gateway_model.proofs.Numbers.{at-number, extended-number}
-use Rattle.gateway_model.proofs.Standing.{same-some, none-some, differ, others-same}
+use Rattle.gateway_model.proofs.Standing.{others-same}
 
 -- steps of a core that ask nothing on a connection
 
@@ -141,7 +142,7 @@ begun-at t word d k a v u h =
   where
     by : (S : State) → S.sealed ≡ false → AsksBegin t d a v.state S ⊎ (Moves v.state S × (S.sealed ≡ true)) → AsksBegin t d a v.state S
     by S e (inl b) = b
-    by S e (inr m) = absurd (differ S.sealed m.1 e)
+    by S e (inr m) = absurd (both_ways S.sealed e m.1)
 
 asks-effect : (M : Terms) (w : When) (c d : ℕ) (old new : Served) → IsAsking M w d old new → Effect M.IsMeaning c [] old new
 asks-effect M w c d old new h = by (which c d)
@@ -185,7 +186,7 @@ asks-effect M w c d old new h = by (which c d)
 
     was : c ≡ d → (u : Unasked) → unasked_at c old.unasked ≡ Some u → u ≡ h.reads.reads.before
     was e u is =
-        same-some u h.reads.reads.before
+        some-is u h.reads.reads.before
         (sym is ∙ ap (λ (k : ℕ). unasked_at k old.unasked) e ∙ h.reads.reads.stands)
 
     own : c ≡ d → Effect M.IsMeaning c [] old new
@@ -206,7 +207,7 @@ asks-effect M w c d old new h = by (which c d)
         left = subst (IsLeft (i ∷ []) r) (sym (now e)) (left (item_closes i) refl);
       };
       last = λ u is closing.
-          absurd (differ h.reads.reads.before.closing (sym (ap (λ (x : Unasked). x.closing) (was e u is)) ∙ closing) h.reads.reads.goes_on);
+          absurd (both_ways h.reads.reads.before.closing h.reads.reads.goes_on (sym (ap (λ (x : Unasked). x.closing) (was e u is)) ∙ closing));
       gone = λ is.
           absurd (none-some h.reads.reads.before
           (sym is ∙ ap (λ (k : ℕ). unasked_at k old.unasked) e ∙ h.reads.reads.stands));
@@ -283,7 +284,7 @@ takes-effect P c d bytes old new h = by (d == c) refl
     by false e =
         same-effect P c old new s
         (ap (unasked_at c) unasked
-        ∙ others-same d c (extended bytes) old.unasked (λ q. differ (d == c) (eq-eqb d c (sym q)) e) number)
+        ∙ others-same d c (extended bytes) old.unasked (λ q. (both_ways (d == c) e (eq-eqb d c (sym q)))) number)
     by true e =
         let is : d ≡ c = eqb-true d c e in
         record {
@@ -389,7 +390,7 @@ plain-effect M w c (GoesOn d) old out new p h = by (which c d)
     by (inl e) =
         kept-effect M.IsMeaning c old new s
         (λ u is.
-        let same : u ≡ h.0.before = same-some u h.0.before (sym is ∙ at-own e) in
+        let same : u ≡ h.0.before = some-is u h.0.before (sym is ∙ at-own e) in
         (f h.0.before, now e, ap (λ (x : Unasked). x.closing) (sym same), ap (λ (x : Unasked). x.text) (sym same)))
         (λ is. absurd (none-some h.0.before (sym is ∙ at-own e)))
     by (inr ne) =

@@ -1,26 +1,27 @@
-pub mod Apart
-pub mod Asked
-pub mod Awaiting
-pub mod Closings
-pub mod Conns
-pub mod Counting
-pub mod Doing
-pub mod Enters
-pub mod GoingOn
-pub mod Heard
-pub mod Heeded
-pub mod Heeding
-pub mod Lost
-pub mod Moves
-pub mod Moving
-pub mod Numbers
-pub mod Pacing
-pub mod Recounting
-pub mod Opened
-pub mod Order
-pub mod Rested
-pub mod Serving
-pub mod Shown
-pub mod Shutting
-pub mod Standing
-pub mod Untold
+pub mod CallerLemmas
+mod Apart
+mod Asked
+mod Awaiting
+mod Closings
+mod Conns
+mod Counting
+mod Doing
+mod Enters
+mod GoingOn
+mod Heard
+mod Heeded
+mod Heeding
+mod Lost
+mod Moves
+mod Moving
+mod Numbers
+mod Pacing
+mod Recounting
+mod Opened
+mod Order
+mod Rested
+mod Serving
+mod Shown
+mod Shutting
+mod Standing
+mod Untold

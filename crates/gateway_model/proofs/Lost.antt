@@ -1,6 +1,6 @@
 -- Why a datagram was dropped, of the entries.
 use Rattle.std.proofs.Common.{◌≡◌, ◌⊎◌, inl, inr, ℕ, ◌+◌, ◌≤◌, ◌<◌, Bool, true, false, cond, List, [], ◌∷◌, ◌++◌, length, Option, Some, None, refl, sym, ◌∙◌, subst, arith}
-use Rattle.std.specs.Prelude.{◌&&◌, count_by, find, option_map}
+use Rattle.std.specs.Prelude.{count_by, find, option_map}
 use Rattle.std.specs.List.{AllByRecursion}
 use Rattle.uri_map.specs.declared.peer.Peer.{Peer}
 use Rattle.ask_model.specs.Requests.{same_peer}
@@ -9,10 +9,11 @@ use Rattle.history_laws.specs.Hearing.{is_such, is_live, live_heard}
 use Rattle.history_laws.specs.Justified.{Legal, Follows}
 use Rattle.history_laws.specs.Readings.{Noted, Note, Plain, Begins, First, Copies, Confirms, Says, Repeats, Garbled, entries, newest}
 use Rattle.history_laws.specs.Transmissions.{FirstSending, firsts, firsts_by, last_sent}
+use Rattle.history_laws.proofs.CallerLemmas.{and-right}
 use Rattle.exchange_model.specs.Reads.{Reads}
 use Rattle.exchange_model.specs.Room.{KeptInRoom}
 use Rattle.exchange_model.specs.State.{State}
-use Rattle.exchange_model.proofs.Counting.{one, count-cons}
+use Rattle.exchange_model.proofs.CallerLemmas.{count-cons, one}
 use Rattle.gateway_model.specs.Hearing.{IsSentElsewhere, IsStranger, IsCrowded, came_lately, is_recent_from}
 use Rattle.gateway_model.proofs.Heard.{WhyLost}
 
@@ -76,11 +77,7 @@ live-came : (t s : ℕ) (p : Peer) (d : Deed) (note : Note) → is_live t p s d 
 live-came t s p (Opens c) note e = absurd cc
 live-came t s p (Asks c a) note e = absurd cc
 live-came t s p (Sends q b w) note e = absurd cc
-live-came t s p (Hears q b) (Says m to notice) e = both (is_such m.kind) _ e
-  where
-    both : (x y : Bool) → (x && y) ≡ true → y ≡ true
-    both true y e = e
-    both false y e = absurd cc
+live-came t s p (Hears q b) (Says m to notice) e = and-right (is_such m.kind) _ e
 live-came t s p (Hears q b) Plain e = absurd cc
 live-came t s p (Hears q b) (Begins r) e = absurd cc
 live-came t s p (Hears q b) (First o m) e = absurd cc

@@ -6,23 +6,23 @@ use Rattle.std.proofs.Math.Seq.{drop-append_seam}
 use Rattle.std.proofs.lemmas.Bool.Decides.{eqb_tells}
 use Rattle.std.proofs.lemmas.List.{map-append}
 use Rattle.std.proofs.lemmas.Grind.{flat_map-append}
-use Rattle.coap_codec.specs.Spelling.{Content}
-use Rattle.ask_model.specs.Requests.{Sense, Requests, Refuses}
+use Rattle.std.proofs.lemmas.Bool.{both_ways}
 use Rattle.http_edge.specs.Answers.{answer_text}
 use Rattle.http_edge.specs.declared.answer.HttpAnswer.{HttpAnswer}
-use Rattle.journal_book.specs.Entries.{Grounds, Live, Kept, Fault, Deed, Opens, Asks, Sends, Hears, Passes, Answers, Shuts, Seals, Written}
-use Rattle.reply_reading.specs.Findings.{Told, Tells as TellsOf, Fails}
+use Rattle.journal_book.specs.Entries.{Grounds, Deed, Opens, Asks, Sends, Hears, Passes, Answers, Shuts, Seals, Written}
 use Rattle.history_laws.specs.Justified.{Stands}
+use Rattle.history_laws.proofs.CallerLemmas.{some-is}
 use Rattle.history_claims.specs.Headline.{IsEntry}
-use Rattle.history_claims.proofs.Entries.{got-more}
-use Rattle.history_claims.proofs.Apart.{answer-once}
+use Rattle.history_claims.proofs.CallerLemmas.{answer-once}
 use Rattle.exchange_model.specs.State.{State}
 use Rattle.exchange_model.specs.declared.kept.Conn.{Conn}
 use Rattle.exchange_model.specs.Growing.{Adds, conns_with}
-use Rattle.exchange_core.specs.Values.{CoreValue, Untaken, Outgoing, written, answered_by, answered_in, sent_by, sent_in, stepped}
-use Rattle.exchange_core.specs.Answering.{Given, HeardAs, AreHeard, IsFound, CountsFrom, IsGiven}
+use Rattle.exchange_model.proofs.CallerLemmas.{conns-both}
+use Rattle.exchange_core.specs.Values.{CoreValue, Untaken, Outgoing, written, answered_by, answered_in, sent_in, stepped}
+use Rattle.exchange_core.specs.Answering.{Given, IsGiven}
 use Rattle.exchange_core.specs.Drafts.{untaken_of}
 use Rattle.exchange_core.specs.Taking.{IsTaken, IsSent}
+use Rattle.exchange_core.proofs.CallerLemmas.{answered-append, is-given-stays, sent-append}
 use Rattle.gateway_model.specs.Acts.{Terms, continue_text}
 use Rattle.gateway_model.specs.Emissions.{Emission, Says, Goes, Closed, Turned}
 use Rattle.gateway_model.specs.Going.{goes_in, goes_by}
@@ -31,24 +31,8 @@ use Rattle.gateway_model.specs.Told.{Piece, interim, final, bytes_in, answers_in
 use Rattle.gateway_model.specs.Waiting.{AreApart}
 use Rattle.gateway_model.proofs.Order.{all-append}
 use Rattle.gateway_model.proofs.Apart.{at-seam}
-use Rattle.gateway_model.proofs.Moving.{conns-both}
 
 -- what entries send and answer, in two parts
-
-pub sent-both : (xs ys : List Written) → sent_in (xs ++ ys) ≡ sent_in xs ++ sent_in ys
-sent-both [] ys = refl
-sent-both (x ∷ xs) ys =
-    ap (λ (os : List Outgoing). sent_by x.deed ++ os) (sent-both xs ys)
-    ∙ sym (append_assoc (sent_by x.deed) (sent_in xs) (sent_in ys))
-
-pub answered-both : (n : ℕ) (xs ys : List Written)
-    → answered_in n (xs ++ ys) ≡ answered_in n xs ++ answered_in (n + length xs) ys
-answered-both n [] ys = let e : n ≡ n + 0 = omega arith in ap (λ (k : ℕ). answered_in k ys) e
-answered-both n (x ∷ xs) ys =
-    let e : n + 1 + length xs ≡ n + suc (length xs) = omega arith in
-    ap (λ (us : List Untaken). answered_by n x.deed ++ us) (answered-both (n + 1) xs ys)
-    ∙ (sym (append_assoc (answered_by n x.deed) (answered_in (n + 1) xs) (answered_in (n + 1 + length xs) ys))
-    ∙ ap (λ (k : ℕ). (answered_by n x.deed ++ answered_in (n + 1) xs) ++ answered_in k ys) e)
 
 -- the numbers of a connection's answers
 abbrev pub num_of : ℕ → Untaken → List ℕ
@@ -75,44 +59,6 @@ nums-in c n (w ∷ ws) =
     ∙ sym (flat_map-append (num_of c) (answered_by n w.deed) (answered_in (n + 1) ws)))
 
 -- facts of entries stay as they grow
-
-heard-more : (xs ys : List Written) (j t : ℕ) (m : Content) → HeardAs xs j t m → HeardAs (xs ++ ys) j t m
-heard-more xs ys j t m h = record {
-  peer = h.peer;
-  bytes = h.bytes;
-  stands = got-more xs ys j _ h.stands;
-  spelled = h.spelled;
-}
-
-all-heard-more : (xs ys : List Written) (js : List ℕ) (ms : List Content) → AreHeard xs js ms → AreHeard (xs ++ ys) js ms
-all-heard-more xs ys [] [] h = tt
-all-heard-more xs ys (j ∷ js) (m ∷ ms) h = ((h.0.0, heard-more xs ys j h.0.0 m h.0.1), all-heard-more xs ys js ms h.1)
-all-heard-more xs ys [] (m ∷ ms) h = absurd h
-all-heard-more xs ys (j ∷ js) [] h = absurd h
-
-found-more : (xs ys : List Written) (told : Told) (g : Grounds) (s : Sense) → IsFound xs told g s → IsFound (xs ++ ys) told g s
-found-more xs ys (TellsOf w) (Live js) (Requests q) h = (h.0, all-heard-more xs ys js h.0 h.1, h.2)
-found-more xs ys (TellsOf w) (Live js) (Refuses cause status) h = absurd h
-found-more xs ys (TellsOf w) (Kept js) s h = absurd h
-found-more xs ys (TellsOf w) (Fault cause n) s h = absurd h
-found-more xs ys (Fails cause) (Fault named n) s h = h
-found-more xs ys (Fails cause) (Live js) s h = absurd h
-found-more xs ys (Fails cause) (Kept js) s h = absurd h
-
-counts-more : (xs ys : List Written) (g : Grounds) (t heard : ℕ) → CountsFrom xs g t heard → CountsFrom (xs ++ ys) g t heard
-counts-more xs ys (Live (j ∷ js)) t heard h = (h.0, heard-more xs ys j heard h.0 h.1)
-counts-more xs ys (Live []) t heard h = h
-counts-more xs ys (Kept js) t heard h = h
-counts-more xs ys (Fault cause n) t heard h = h
-
-pub given-more : (xs ys : List Written) (g : Given) → IsGiven xs g → IsGiven (xs ++ ys) g
-given-more xs ys g h = record {
-  asked = h.asked;
-  ask_stands = got-more xs ys g.ask _ h.ask_stands;
-  stands = got-more xs ys g.number _ h.stands;
-  found = found-more xs ys g.found.told g.found.grounds g.mapping.sense h.found;
-  counts = counts-more xs ys g.found.grounds g.moment g.heard h.counts;
-}
 
 -- what connections are told
 
@@ -173,7 +119,7 @@ told-then M G h c n m xs ys us vs ws a b long x y =
     let r : List ℕ = nums c (answered_in n xs) in
     let s : List ℕ = nums c (answered_in m ys) in
     let both : nums c (answered_in n (xs ++ ys)) ≡ r ++ s =
-    ap (nums c) (answered-both n xs ys)
+    ap (nums c) (answered-append n xs ys)
     ∙ (flat_map-append (num_of c) (answered_in n xs) (answered_in (n + length xs) ys)
     ∙ ap (λ (k : ℕ). r ++ nums c (answered_in k ys)) (sym long)) in
     record {
@@ -209,7 +155,7 @@ did-then M G u v w a b x y =
           ∙ (sym (append_assoc (goes_in a) v.unsent (sent_in y.more))
           ∙ (ap (λ (os : List Outgoing). os ++ sent_in y.more) x.sent
           ∙ (append_assoc u.unsent (sent_in x.more) (sent_in y.more)
-          ∙ ap (λ (os : List Outgoing). u.unsent ++ os) (sym (sent-both x.more y.more)))))));
+          ∙ ap (λ (os : List Outgoing). u.unsent ++ os) (sym (sent-append x.more y.more)))))));
       meant = all-append (λ (e : Written). IsMeant M e.deed) x.more y.more x.meant y.meant;
       told = λ h rest stands is waits.
           let first = x.told h (y.more ++ rest) stands
@@ -409,15 +355,12 @@ apart-filter f (u ∷ us) h =
 abbrev IsOneOf : ℕ → ℕ → Untaken → Type 0
 IsOneOf c k u = u.ask ≡ k → u.conn ≡ c
 
-written-same : (v w : Written) → Some v ≡ Some w → v ≡ w
-written-same v w e = cc
-
 conn-same : (c d k o : ℕ) (g e : Grounds) → Answers c k g ≡ Answers d o e → c ≡ d
 conn-same c d k o g e f = cc
 
 deed-same : (t s : ℕ) (c d k o : ℕ) (g e : Grounds) → Some (written t (Answers c k g)) ≡ Some (written s (Answers d o e)) → c ≡ d
 deed-same t s c d k o g e f =
-    conn-same c d k o g e (ap (λ (w : Written). w.deed) (written-same (written t (Answers c k g)) (written s (Answers d o e)) f))
+    conn-same c d k o g e (ap (λ (w : Written). w.deed) (some-is (written t (Answers c k g)) (written s (Answers d o e)) f))
 
 one-of : (h : List Written) (g : Given) → Stands h → IsGiven h g → (u : Untaken) → IsAnswerIn h u → IsOneOf g.conn g.ask u
 one-of h g stands is u a same =
@@ -433,17 +376,14 @@ all-as-one : (h : List Written) (g : Given) → Stands h → IsGiven h g → (us
 all-as-one h g stands is [] a = tt
 all-as-one h g stands is (u ∷ us) a = (one-of h g stands is u a.0, all-as-one h g stands is us a.1)
 
-stay-one : (b : Bool) (k : ℕ) (u : Untaken) (us vs : List Untaken) → (u.ask == k) ≡ b → (u.ask ≢ k) → vs ≡ us
+pub stay-one : (b : Bool) (k : ℕ) (u : Untaken) (us vs : List Untaken) → (u.ask == k) ≡ b → (u.ask ≢ k) → vs ≡ us
     → cond (not b) (u ∷ vs) vs ≡ u ∷ us
 stay-one true k u us vs t ne e = absurd (ne (eqb-true u.ask k t))
 stay-one false k u us vs t ne e = ap (λ (ws : List Untaken). u ∷ ws) e
 
 go-one : (b : Bool) (k : ℕ) (u : Untaken) (vs : List Untaken) → (u.ask == k) ≡ b → u.ask ≡ k → cond (not b) (u ∷ vs) vs ≡ vs
 go-one true k u vs t is = refl
-go-one false k u vs t is = absurd (differ (u.ask == k) t (eq-eqb u.ask k is))
-  where
-    differ : (b : Bool) → b ≡ false → b ≡ true → ⊥
-    differ b f t = cc
+go-one false k u vs t is = absurd (both_ways (u.ask == k) t (eq-eqb u.ask k is))
 
 -- those of other connections stay
 others-stay : (c k : ℕ) (us : List Untaken) → AllByRecursion (λ (v : Untaken). c ≢ v.conn) us → AllByRecursion (IsOneOf c k) us
@@ -500,7 +440,7 @@ did-take M G old new c k g r conn taken tells =
       meant = tt;
       told = λ h rest stands is waits.
           let given : IsGiven h g =
-          subst (λ (q : List Written). IsGiven q g) (sym (is ∙ ap (λ (q : List Written). q ++ rest) entries)) (given-more old.state.entries rest g taken.2) in
+          subst (λ (q : List Written). IsGiven q g) (sym (is ∙ ap (λ (q : List Written). q ++ rest) entries)) (is-given-stays old.state.entries rest g taken.2) in
           let one : AllByRecursion (IsOneOf g.conn k) old.untaken =
           subst (λ (j : ℕ). AllByRecursion (IsOneOf g.conn j) old.untaken) taken.0 (all-as-one h g stands given old.untaken waits.answers) in (
             subst (Wait h) (sym waiting) (record {

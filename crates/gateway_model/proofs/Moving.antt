@@ -3,6 +3,7 @@ use Rattle.std.proofs.Common.{◌≡◌, ◌⊎◌, inl, inr, ℕ, ◌+◌, Bool
 use Rattle.std.specs.Prelude.{◌&&◌, fold, filter, map, is_some, nat_le, ⊤, ◌==◌}
 use Rattle.std.specs.List.{AllByRecursion, list_any}
 use Rattle.std.proofs.lemmas.List.{append-nil, append_assoc}
+use Rattle.std.proofs.lemmas.Bool.{both_ways}
 use Rattle.coap_codec.specs.Spelling.{Content}
 use Rattle.coap_codec.specs.Reading.{message_at}
 use Rattle.coap_codec.specs.declared.fault.CodecFault.{CodecFault}
@@ -28,7 +29,7 @@ use Rattle.exchange_model.specs.Calls.{Numbers, next_by, next, refused, has_plac
 use Rattle.exchange_model.specs.Growing.{conns_with, at_moment, by_client}
 use Rattle.exchange_model.specs.Room.{fits}
 use Rattle.exchange_model.specs.Sealing.{in_room, opens_in_room, asks_in_room, hears_in_room, late, ticks_in_room}
-use Rattle.exchange_model.proofs.Ending.{found-conn}
+use Rattle.exchange_model.proofs.CallerLemmas.{conns-both, found-conn}
 
 -- An answer is to the ask that its connection waits for.
 abbrev pub IsAwaited : List Conn → Deed → Type 0
@@ -45,14 +46,6 @@ IsInner d = by_client d ≡ false
 
 abbrev pub AreInner : List Written → Type 0
 AreInner ws = AllByRecursion (λ (w : Written). IsInner w.deed) ws
-
-pub conns-both : (cs : List Conn) (n : ℕ) (xs ys : List Written)
-    → conns_with cs n (xs ++ ys) ≡ conns_with (conns_with cs n xs) (n + length xs) ys
-conns-both cs n [] ys = let e : n ≡ n + 0 = omega arith in ap (λ (k : ℕ). conns_with cs k ys) e
-conns-both cs n (x ∷ xs) ys =
-    let e : n + 1 + length xs ≡ n + length (x ∷ xs) = omega arith in
-    conns-both (conns_after cs n x.deed) (n + 1) xs ys
-    ∙ ap (λ (k : ℕ). conns_with (conns_with (conns_after cs n x.deed) (n + 1) xs) k ys) e
 
 awaited-both : (cs : List Conn) (n : ℕ) (xs ys : List Written) → AreAwaited cs n xs
     → AreAwaited (conns_with cs n xs) (n + length xs) ys → AreAwaited cs n (xs ++ ys)
@@ -77,9 +70,6 @@ pub record Moves (S S1 : State) : Type 0 where
   pub conns : S1.conns ≡ conns_with S.conns (length S.entries) more
   pub awaited : AreAwaited S.conns (length S.entries) more
   pub opened : S1.opened ≡ S.opened
-
-differ : (b : Bool) → b ≡ false → b ≡ true → ⊥
-differ b e f = cc
 
 pub none : (S : State) → Moves S S
 none S = record {
@@ -255,11 +245,11 @@ opens-as t S e = by S.sealed refl e
   where
     fit : (b : Bool) → (cond b (opens t S) (seals t S)).sealed ≡ false → cond b (opens t S) (seals t S) ≡ opens t S
     fit true e = refl
-    fit false e = absurd (differ true e refl)
+    fit false e = absurd (both_ways true e refl)
 
     by : (b : Bool) → S.sealed ≡ b → (cond b S (in_room t (opens t S) S)).sealed ≡ false
         → cond b S (in_room t (opens t S) S) ≡ opens t S
-    by true s e = absurd (differ S.sealed e s)
+    by true s e = absurd (both_ways S.sealed e s)
     by false s e = fit (fits (opens t S)) e
 
 pub turns-away : (t : ℕ) (S : State) → (opens_in_room t S).sealed ≡ true → Moves S (opens_in_room t S)
@@ -267,7 +257,7 @@ turns-away t S e = by S.sealed refl e
   where
     fit : S.sealed ≡ false → (b : Bool) → (cond b (opens t S) (seals t S)).sealed ≡ true
         → Moves S (cond b (opens t S) (seals t S))
-    fit s true e = absurd (differ S.sealed s e)
+    fit s true e = absurd (both_ways S.sealed s e)
     fit s false e = seals-move t S
 
     by : (b : Bool) → S.sealed ≡ b → (cond b S (in_room t (opens t S) S)).sealed ≡ true
@@ -382,7 +372,7 @@ denied-is t c a n S e = by S.sealed refl e
   where
     fit : S.sealed ≡ false → (b : Bool) → (cond b (asked t c a n S) (seals t S)).sealed ≡ true
         → (cond b (asked t c a n S) (seals t S) ≡ S) ⊎ (cond b (asked t c a n S) (seals t S) ≡ seals t S)
-    fit f true e = absurd (differ (asked t c a n S).sealed (asked-sealed a.sense t c a n S ∙ f) e)
+    fit f true e = absurd (both_ways (asked t c a n S).sealed (asked-sealed a.sense t c a n S ∙ f) e)
     fit f false e = inr refl
 
     by : (b : Bool) → S.sealed ≡ b → (cond b S (in_room t (asked t c a n S) S)).sealed ≡ true

@@ -3,6 +3,7 @@ use Rattle.std.proofs.Common.{◌≡◌, ◌⊎◌, ℕ, ◌+◌, Bool, true, fa
 use Rattle.std.specs.Prelude.{◌==◌, if◌then◌else◌, ⊤}
 use Rattle.std.specs.List.{AllByRecursion, filter}
 use Rattle.std.proofs.lemmas.List.{map_push}
+use Rattle.history_laws.proofs.CallerLemmas.{none-some, some-is}
 use Rattle.ask_model.specs.Views.{Ask}
 use Rattle.http_mapping.specs.Means.{closes}
 use Rattle.journal_book.specs.Entries.{Deed, Opens as Opened, Asks as Asked, Sends as Sent, Hears as Heard, Passes as Passed, Answers, Shuts, Seals, Written}
@@ -12,7 +13,7 @@ use Rattle.exchange_model.specs.Steps.{opens, seals}
 use Rattle.exchange_model.specs.Growing.{Adds, conns_with, IsOfAsk, by_client, HasNoClient}
 use Rattle.exchange_model.specs.Room.{fits}
 use Rattle.exchange_model.specs.Sealing.{in_room, opens_in_room, asks_in_room, hears_in_room, ticks_in_room}
-use Rattle.exchange_model.proofs.Grown.{asks-add, hears-add, ticks-add, asks-answer, hears-answer, ticks-answer}
+use Rattle.exchange_model.proofs.CallerLemmas.{asks-add, asks-answer, hears-add, hears-answer, ticks-add, ticks-answer}
 use Rattle.exchange_core.specs.declared.fault.OpenFault.TheVariants as Open
 use Rattle.exchange_core.specs.declared.fault.AskFault.TheVariants as Fault
 use Rattle.exchange_core.specs.Calls.{IsOpened, IsAsked, IsClosed, AsksSo}
@@ -26,11 +27,11 @@ use Rattle.gateway_model.specs.Unasked.{Unasked, unasked_at, no_bytes, changed_a
 
 -- entries by which no connection comes or goes
 
-pend-one : (b : Bool) (x : Conn) (p : Option ℕ) → conn_id (if b then record x { pending = p } else x) ≡ conn_id x
+pub pend-one : (b : Bool) (x : Conn) (p : Option ℕ) → conn_id (if b then record x { pending = p } else x) ≡ conn_id x
 pend-one true x p = refl
 pend-one false x p = refl
 
-pend-ids : (c : ℕ) (p : Option ℕ) (cs : List Conn) → map conn_id (map (pend c p) cs) ≡ map conn_id cs
+pub pend-ids : (c : ℕ) (p : Option ℕ) (cs : List Conn) → map conn_id (map (pend c p) cs) ≡ map conn_id cs
 pend-ids c p [] = refl
 pend-ids c p (x ∷ cs) =
     let head : conn_id (pend c p x) ≡ conn_id x = pend-one (x.id == c) x p in
@@ -163,15 +164,9 @@ extended-number bytes x = one x.closing
     one true = refl
     one false = refl
 
-same-some : (x y : Unasked) → Some x ≡ Some y → x ≡ y
-same-some x y e = cc
-
-none-some : (x : Unasked) → None ≡ Some x → ⊥
-none-some x e = cc
-
 at-one : (b : Bool) (c : ℕ) (x y : Unasked) (o : Option Unasked) → (x.number == c) ≡ b
     → (o ≡ Some y → y.number ≡ c) → (if b then Some x else o) ≡ Some y → y.number ≡ c
-at-one true c x y o t f e = subst (λ (z : Unasked). z.number ≡ c) (same-some x y e) (eqb-true x.number c t)
+at-one true c x y o t f e = subst (λ (z : Unasked). z.number ≡ c) (some-is x y e) (eqb-true x.number c t)
 at-one false c x y o t f e = f e
 
 pub at-number : (c : ℕ) (xs : List Unasked) (y : Unasked) → unasked_at c xs ≡ Some y → y.number ≡ c

@@ -1,7 +1,8 @@
 -- Acts for one connection leave the others open.
-use Rattle.std.proofs.Common.{◌≡◌, ◌≢◌, ℕ, zero, suc, ◌<◌, Bool, true, false, cond, not, List, [], ◌∷◌, length, map, None, Ok, Err, inl, inr, refl, sym, ap, subst, ◌∙◌, arith, eqb-true}
+use Rattle.std.proofs.Common.{◌≡◌, ◌≢◌, ℕ, zero, suc, ◌<◌, Bool, true, false, not, List, [], ◌∷◌, length, map, None, Ok, Err, inl, inr, refl, sym, ap, subst, arith, eqb-true}
 use Rattle.std.specs.Prelude.{Option, ◌==◌, ⊤}
 use Rattle.std.specs.List.{AllByRecursion, Contains, filter}
+use Rattle.history_laws.proofs.CallerLemmas.{contains-filter}
 use Rattle.ask_model.specs.Views.{Ask}
 use Rattle.http_mapping.specs.Means.{closes}
 use Rattle.exchange_model.specs.declared.kept.Conn.{Conn}
@@ -69,17 +70,6 @@ keeps-core c old new e = keeps-ids c old new (ap (λ (s : State). map conn_id s.
 pub keeps-then : (c : ℕ) (x y z : CoreValue) → KeepsOpen c x y → KeepsOpen c y z → KeepsOpen c x z
 keeps-then c x y z h k d ne o = k d ne (h d ne o)
 
-kept-one : (b : Bool) (k d : ℕ) (ks js : List ℕ) → (k ≡ d → b ≡ true) → k ≡ d → Contains (cond b (k ∷ js) js) d
-kept-one true k d ks js f e = here k d js e
-kept-one false k d ks js f e = absurd (differ (f e))
-  where
-    differ : false ≡ true → ⊥
-    differ x = cc
-
-kept-more : (b : Bool) (k d : ℕ) (js : List ℕ) → Contains js d → Contains (cond b (k ∷ js) js) d
-kept-more true k d js h = there k d js h
-kept-more false k d js h = h
-
 not-it : (k c : ℕ) → k ≢ c → not (k == c) ≡ true
 not-it k c ne = by (k == c) refl
   where
@@ -88,12 +78,7 @@ not-it k c ne = by (k == c) refl
     by false t = refl
 
 kept-in : (c d : ℕ) (ks : List ℕ) → d ≢ c → Contains ks d → Contains (filter (λ (k : ℕ). not (k == c)) ks) d
-kept-in c d [] ne (i, lt, e) = absurd (omega (arith, lt))
-kept-in c d (k ∷ ks) ne (zero, lt, e) =
-    kept-one (not (k == c)) k d ks (filter (λ (j : ℕ). not (j == c)) ks)
-    (λ same. not-it k c (λ (f : k ≡ c). ne (sym same ∙ f))) e
-kept-in c d (k ∷ ks) ne (suc i, lt, e) =
-    kept-more (not (k == c)) k d (filter (λ (j : ℕ). not (j == c)) ks) (kept-in c d ks ne (i, omega (arith, lt), e))
+kept-in c d ks ne h = contains-filter (λ (k : ℕ). not (k == c)) ks d h (not-it d c ne)
 
 keeps-closed : (t c : ℕ) (old new : CoreValue) → IsClosed t c old new → KeepsOpen c old new
 keeps-closed t c old new h d ne o =

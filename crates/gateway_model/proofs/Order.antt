@@ -88,3 +88,45 @@ turns-on m c k xs ys zs le h e f =
 
 pub delivers-on : (xs ys : List Act) → AreSends xs → HasTurns ys → Delivers (xs ++ ys)
 delivers-on xs ys h k = record { sends = xs; answers = ys; are = refl; sent = h; told = k }
+
+-- What each act for a connection has, and each end of it, all acts that follow an input's first have.
+pub record Each (P : Act → Type 0) : Type 0 where
+  pub asks : (c : ℕ) → P (Asks c)
+  pub denies : (c : ℕ) → P (Denies c)
+  pub sends : P Sends
+  pub tells : (c k : ℕ) → P (Tells c k)
+  pub goes_on : (c : ℕ) → P (GoesOn c)
+  pub rests : (c : ℕ) → P (Rests c)
+
+module _ (P : Act → Type 0) (each : Each P) where
+  each-for : (c : ℕ) (a : Act) → IsFor c a → P a
+  each-for c (Opens d) h = absurd h
+  each-for c TurnsAway h = absurd h
+  each-for c (Takes d bytes) h = absurd h
+  each-for c (Hears p bytes) h = absurd h
+  each-for c Passes h = absurd h
+  each-for c (Asks d) h = each.asks d
+  each-for c (Denies d) h = each.denies d
+  each-for c Sends h = each.sends
+  each-for c (Tells d k) h = each.tells d k
+  each-for c (GoesOn d) h = each.goes_on d
+  each-for c (Rests d) h = absurd h
+  each-for c (Leaves d) h = absurd h
+  each-for c (Misses d) h = absurd h
+
+  pub each-out : (c : ℕ) (acts : List Act) → ServesOut c acts → AllByRecursion P acts
+  each-out c acts h =
+      subst (AllByRecursion P) (sym h.are)
+      (all-append P h.first (Rests c ∷ []) (all-as (IsFor c) P h.first (each-for c) h.for) (each.rests c, tt))
+
+  each-turns : (turns : List Turn) → AllByRecursion IsTurn turns → AllByRecursion P (flat_map acts_of turns)
+  each-turns [] h = tt
+  each-turns (x ∷ turns) h =
+      all-append P (acts_of x) (flat_map acts_of turns) (each.tells x.conn x.ask, each-out x.conn x.further h.0) (each-turns turns h.1)
+
+  pub each-delivers : (acts : List Act) → Delivers acts → AllByRecursion P acts
+  each-delivers acts h =
+      let turns = h.told.1 in
+      subst (AllByRecursion P) (sym h.are)
+      (all-append P h.sends h.answers (all-as IsSends P h.sends (λ a s. each-for 0 a (sends-for 0 a s)) h.sent)
+      (subst (AllByRecursion P) (sym turns.are) (each-turns turns.turns turns.each)))

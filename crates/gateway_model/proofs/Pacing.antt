@@ -3,10 +3,12 @@ use Rattle.std.proofs.Common.{◌≡◌, ◌≢◌, ◌⊎◌, inl, inr, ℕ, �
 use Rattle.std.specs.Prelude.{◌==◌, ⊤, ◌<◌}
 use Rattle.std.specs.List.{AllByRecursion, flat_map}
 use Rattle.std.proofs.lemmas.List.{append_cancel_left}
+use Rattle.std.proofs.lemmas.Bool.{both_ways}
 use Rattle.http_mapping.specs.Means.{closes}
 use Rattle.ask_model.specs.Views.{Ask}
 use Rattle.journal_book.specs.Entries.{Asks as Asked, Shuts, Written}
 use Rattle.history_laws.specs.Justified.{Stands}
+use Rattle.history_laws.proofs.CallerLemmas.{some-is}
 use Rattle.exchange_model.specs.Growing.{at_moment, conns_with}
 use Rattle.exchange_model.specs.Resting.{HasConn}
 use Rattle.exchange_model.specs.Sealing.{asks_in_room}
@@ -18,13 +20,12 @@ use Rattle.gateway_model.specs.Told.{Piece, interim, final, bytes_in, answers_in
 use Rattle.gateway_model.specs.Unasked.{Unasked, unasked_at, no_bytes, changed_at, extended, left_after, Recounts}
 use Rattle.gateway_model.proofs.Asked.{own-after, left-same}
 use Rattle.gateway_model.proofs.Awaiting.{which}
-use Rattle.gateway_model.proofs.Conns.{differ}
 use Rattle.gateway_model.proofs.Counting.{count, count-both, count-more, AreCounted, counted-rest, counted-first, stands-counted, NoneIdle, first-empty, none-with, HasEnough, enough-after, enough-with}
 use Rattle.gateway_model.proofs.Doing.{did-act, did-denied}
 use Rattle.gateway_model.proofs.Moves.{Whoever, IsSaid, ToldIn, Wait, Did, nums, did-then, told-then}
 use Rattle.gateway_model.proofs.Moving.{Moves, Begins, asks-begin}
 use Rattle.gateway_model.proofs.Numbers.{at-number, extended-number}
-use Rattle.gateway_model.proofs.Standing.{same-some, others-same}
+use Rattle.gateway_model.proofs.Standing.{others-same}
 
 -- From a state to another it is told these pieces: where it may not be told to go on at first, an
 -- answer comes before that; and so after it was told to.
@@ -161,7 +162,7 @@ told-on M w c (Asks d) old out new h q = by (which c d)
       has = inl (sym same);
     }
     entered same (inr m) =
-        absurd (differ new.core.state.sealed (ap (λ (v : CoreValue). v.state.sealed) h.0.asked.2.is ∙ m.1) h.0.asked.1)
+        absurd (both_ways new.core.state.sealed h.0.asked.1 (ap (λ (v : CoreValue). v.state.sealed) h.0.asked.2.is ∙ m.1))
 
     by : (c ≡ d) ⊎ (c ≢ d) → IsToldSo c new ⊎ Enough c old new
     by (inl same) =
@@ -225,7 +226,7 @@ told-on M w c (Rests d) old out new h q = by h.2
     by (inr r) =
         told-changed c d (λ (z : Unasked). record r.before { unread = r.unread }) old new r.left
         (λ z n. at-number d old.unasked r.before r.stands)
-        (λ x same e t. ap (λ (z : Unasked). z.told) (same-some r.before x (sym r.stands ∙ e)) ∙ t) q
+        (λ x same e t. ap (λ (z : Unasked). z.told) (some-is r.before x (sym r.stands ∙ e)) ∙ t) q
 told-on M w c (Leaves d) old out new h q = told-closed w c d old new h.0 q
 told-on M w c (Misses d) old out new h q = told-same c old new (ap (λ (s : Served). s.unasked) h.0) q
 
@@ -298,7 +299,7 @@ goes M w c old out new h = (
   where
     no : IsQuiet c old → ⊥
     no (inl x) =
-        differ h.0.before.told (ap (λ (z : Unasked). z.told) (same-some h.0.before x.0 (sym h.0.stands ∙ x.1)) ∙ x.2) h.0.untold
+        (both_ways h.0.before.told h.0.untold (ap (λ (z : Unasked). z.told) (some-is h.0.before x.0 (sym h.0.stands ∙ x.1)) ∙ x.2))
     no (inr (inl x)) = x.1 h.3.idle
     no (inr (inr x)) = x (none-waits c old.core.untaken h.3.told)
 

@@ -1,10 +1,11 @@
 -- Where only how many bytes of a connection count as unread changes, all else of it stays.
 use Rattle.std.proofs.Common.{◌≡◌, ◌≢◌, ◌⊎◌, inl, inr, ℕ, List, Some, None, refl, sym, ap, ◌∙◌, subst}
+use Rattle.history_laws.proofs.CallerLemmas.{none-some, some-is}
 use Rattle.gateway_model.specs.Unasked.{Unasked, unasked_at, Recounted, Recounts}
 use Rattle.gateway_model.proofs.Asked.{own-after}
 use Rattle.gateway_model.proofs.Awaiting.{which}
 use Rattle.gateway_model.proofs.Numbers.{at-number}
-use Rattle.gateway_model.proofs.Standing.{same-some, none-some, others-same}
+use Rattle.gateway_model.proofs.Standing.{others-same}
 
 abbrev recounted : Unasked → ℕ → Unasked → Unasked
 recounted before n x = record before { unread = n }
@@ -34,7 +35,7 @@ recount-at c d old new (inr r) x is = by (which d c)
     by : (d ≡ c) ⊎ (d ≢ c) → (y : Unasked) × (unasked_at d old ≡ Some y) × (x ≡ record y { unread = x.unread })
     by (inl same) =
         let here : unasked_at c new ≡ Some x = subst (λ (k : ℕ). unasked_at k new ≡ Some x) same is in
-        let e : x ≡ record r.before { unread = r.unread } = same-some x (record r.before { unread = r.unread }) (sym here ∙ own-now c old new r) in (
+        let e : x ≡ record r.before { unread = r.unread } = some-is x (record r.before { unread = r.unread }) (sym here ∙ own-now c old new r) in (
           r.before,
           subst (λ (k : ℕ). unasked_at k old ≡ Some r.before) (sym same) r.stands,
           e ∙ ap (λ (n : ℕ). record r.before { unread = n }) (sym (ap (λ (z : Unasked). z.unread) e)),
@@ -50,7 +51,7 @@ recount-after c d old new (inr r) u is = by (which d c)
     by : (d ≡ c) ⊎ (d ≢ c) → (v : Unasked) × (unasked_at d new ≡ Some v) × (v.closing ≡ u.closing) × (v.text ≡ u.text)
     by (inl same) =
         let here : unasked_at c old ≡ Some u = subst (λ (k : ℕ). unasked_at k old ≡ Some u) same is in
-        let e : r.before ≡ u = same-some r.before u (sym r.stands ∙ here) in (
+        let e : r.before ≡ u = some-is r.before u (sym r.stands ∙ here) in (
           record r.before { unread = r.unread },
           subst (λ (k : ℕ). unasked_at k new ≡ Some (record r.before { unread = r.unread })) (sym same) (own-now c old new r),
           ap (λ (z : Unasked). z.closing) e,

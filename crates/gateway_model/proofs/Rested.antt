@@ -2,6 +2,7 @@
 use Rattle.std.proofs.Common.{◌≡◌, ◌≢◌, ◌⊎◌, inl, inr, ℕ, ◌<◌, Bool, true, false, List, [], ◌∷◌, ◌++◌, length, Option, Some, None, Err, refl, sym, ap, ◌∙◌, subst, arith, length-append}
 use Rattle.std.specs.Prelude.{flat_map}
 use Rattle.std.specs.List.{AllByRecursion}
+use Rattle.std.proofs.lemmas.Bool.{both_ways}
 use Rattle.uri_map.specs.declared.peer.Peer.{Peer}
 use Rattle.http_edge.proofs.Heading.{head_is_some}
 use Rattle.http_edge.specs.Edges.{Expects, LeavesBytes}
@@ -14,7 +15,7 @@ use Rattle.exchange_model.specs.Resting.{HasConn}
 use Rattle.exchange_model.specs.Room.{KeptInRoom}
 use Rattle.exchange_model.specs.Growing.{at_moment}
 use Rattle.exchange_model.specs.Sealing.{opens_in_room, hears_in_room, ticks_in_room}
-use Rattle.exchange_model.proofs.Numbered.{conns-rise}
+use Rattle.exchange_model.proofs.CallerLemmas.{conns-rise}
 use Rattle.exchange_core.specs.declared.fault.OpenFault.TheVariants as Open
 use Rattle.exchange_core.specs.Calls.{IsOpened}
 use Rattle.exchange_core.specs.Values.{CoreValue, Untaken, stepped}
@@ -30,7 +31,7 @@ use Rattle.gateway_model.proofs.Moving.{opens-as, turns-away, hears-move, ticks-
 use Rattle.gateway_model.proofs.Conns.{once-rising, more-open}
 use Rattle.gateway_model.proofs.Awaiting.{IsToTell, Awaits, AskTheirOwn, entry-more, own-with, told-more, StepsTo, steps-by, which}
 use Rattle.gateway_model.proofs.Numbers.{numbered}
-use Rattle.gateway_model.proofs.Standing.{differ, added-at, is-open}
+use Rattle.gateway_model.proofs.Standing.{added-at, is-open}
 use Rattle.gateway_model.proofs.Serving.{IsAny, any-of, Base, LastAt, RestsNow, KeepsAt, last-kept, rests-kept, keeps-steps, base-steps, keeps-shut, gone-shut, base-shut, ServesOne, rests-serve, takes-serve, sends-keep, sends-base, for-serves, acts-serve}
 
 -- One that rests does.
@@ -360,7 +361,7 @@ opened-rests M w c old out new h none k = record {
           };
           last = y.such;
         }
-    last d x (inr e) closing = absurd (differ x.closing closing (ap (λ (z : Unasked). z.closing) e))
+    last d x (inr e) closing = absurd (both_ways x.closing (ap (λ (z : Unasked). z.closing) e) closing)
 
     rests : (d : ℕ) (x : Unasked) → (unasked_at d old.unasked ≡ Some x) ⊎ (x ≡ no_bytes c) → AwaitsAnswer d new ⊎ AwaitsBytes x
     rests d x (inl e) = by (k.rests d x e)

@@ -3,6 +3,7 @@ use Rattle.std.proofs.Common.{◌≡◌, ◌≢◌, ◌⊎◌, inl, inr, ℕ, Bo
 use Rattle.gateway_model.proofs.Recounting.{recount-at, recount-others}
 use Rattle.std.specs.Prelude.{◌==◌, ⊤, nat_lt}
 use Rattle.std.specs.List.{filter}
+use Rattle.std.proofs.lemmas.Bool.{both_ways}
 use Rattle.limits.specs.declared.TheConstants.{MAX_REQUEST_SIZE}
 use Rattle.http_edge.specs.Reading.{Item, asked, bad, closes as item_closes}
 use Rattle.http_edge.specs.declared.request.BadKind.TheVariants.{Large}
@@ -30,7 +31,7 @@ use Rattle.gateway_model.proofs.Moving.{Moves, Begins, asks-begin}
 use Rattle.gateway_model.proofs.Conns.{StandOnce}
 use Rattle.gateway_model.proofs.Awaiting.{IsToTell, Awaits, AskTheirOwn, same-entry, StepsTo, steps-by, steps-own, steps-once, steps-await, AsksTo, asks-by, asks-once, asks-own, asks-others, asks-await, shut-await, shut-own, shut-once, taken-await}
 use Rattle.gateway_model.proofs.Numbers.{at-number, extended-number, closed-numbers, numbered}
-use Rattle.gateway_model.proofs.Standing.{differ, others-same, own-before, others-left, own-gone}
+use Rattle.gateway_model.proofs.Standing.{others-same, own-before, others-left, own-gone}
 
 abbrev pub IsLast : Ask → Type 0
 IsLast a = closes a.came ≡ true
@@ -196,7 +197,7 @@ asks-to t word c k a v u h =
   where
     by : (S : State) → S.sealed ≡ false → Begins t c a v.state S ⊎ (Moves v.state S × (S.sealed ≡ true)) → Begins t c a v.state S
     by S e (inl b) = b
-    by S e (inr m) = absurd (differ S.sealed m.1 e)
+    by S e (inr m) = absurd (both_ways S.sealed e m.1)
 
 pub asks-serve : (M : Terms) (w : When) (c : ℕ) (old new : Served) → IsAsking M w c old new → IsNumbered new → Base old → ServesOne c old new
 asks-serve M w c old new h n b =
@@ -337,8 +338,7 @@ tells-serve M w c k old out new h b =
         subst (λ (xs : List Unasked). unasked_at c xs ≡ Some x) (ap (λ (s : Served). s.unasked) ends.0 ∙ h.unasked) e in
         let y : Awaits IsLast c old.core = l x there closing in
         subst (λ (s : Served). Awaits IsLast c s.core) (sym ends.0)
-        (stays IsLast c y (λ e. differ (closes h.answer.mapping.came)
-        (sym (ap (λ (a : Ask). closes a.came) (is_own IsLast c y e).1) ∙ y.such) t))
+        (stays IsLast c y (λ e. (both_ways (closes h.answer.mapping.came) t (sym (ap (λ (a : Ask). closes a.came) (is_own IsLast c y e).1) ∙ y.such))))
 
 -- bytes come, or the client is told to go on
 
@@ -457,7 +457,7 @@ for-serves M w c (GoesOn d) old out new i h b =
     serves-as c d old new i
     (bytes-serve w d (λ (x : Unasked). record h.0.before { told = true; unread = h.0.unread }) old new
     (λ x n. at-number d old.unasked h.0.before h.0.stands)
-    (λ x e t. absurd (differ h.0.before.closing t h.0.goes_on)) h.0.left h.1
+    (λ x e t. absurd (both_ways h.0.before.closing h.0.goes_on t)) h.0.left h.1
     (numbered M w (GoesOn d) old out new h b.numbered) b)
 for-serves M w c (Rests d) old out new i h b = absurd i
 for-serves M w c (Leaves d) old out new i h b = absurd i

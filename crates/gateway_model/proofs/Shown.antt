@@ -14,9 +14,9 @@ use Rattle.history_laws.specs.Responses.{Response, whole_of}
 use Rattle.reply_reading.specs.Findings.{Told, Tells as TellsOf, Fails}
 use Rattle.http_mapping.specs.Means.{Tells, MeansWhole, MeansTold, last_reply}
 use Rattle.history_laws.specs.Justified.{Stands}
+use Rattle.history_laws.proofs.CallerLemmas.{some-is}
 use Rattle.history_claims.specs.Headline.{IsEntry, IsHeardFor, AreHeardFor, RestsOn}
-use Rattle.history_claims.proofs.Resting.{rests-on-replies}
-use Rattle.history_claims.proofs.Causes.{names-cause}
+use Rattle.history_claims.proofs.CallerLemmas.{names-cause, rests-on-replies}
 use Rattle.exchange_core.specs.Values.{CoreValue, Untaken, Outgoing, written, answered_in, sent_in}
 use Rattle.exchange_core.specs.Answering.{Given, HeardAs, AreHeard, IsFound, CountsFrom}
 use Rattle.gateway_model.specs.declared.input.When.{When}
@@ -33,9 +33,6 @@ use Rattle.gateway_model.proofs.Pacing.{IsQuiet, flow-once, Paced, paced-all}
 
 -- entries at a place are one
 
-written-same : (v w : Written) → Some v ≡ Some w → v ≡ w
-written-same v w e = cc
-
 bytes-same : (p r : Peer) (a b : List ℕ) → Hears p a ≡ Hears r b → a ≡ b
 bytes-same p r a b e = cc
 
@@ -44,14 +41,11 @@ ask-same c d a b e = cc
 
 hears-same : (t s : ℕ) (p r : Peer) (a b : List ℕ) → Some (written t (Hears p a)) ≡ Some (written s (Hears r b)) → a ≡ b
 hears-same t s p r a b e =
-    bytes-same p r a b (ap (λ (w : Written). w.deed) (written-same (written t (Hears p a)) (written s (Hears r b)) e))
+    bytes-same p r a b (ap (λ (w : Written). w.deed) (some-is (written t (Hears p a)) (written s (Hears r b)) e))
 
 asks-same : (t s c d : ℕ) (a b : Ask) → Some (written t (Asks c a)) ≡ Some (written s (Asks d b)) → a ≡ b
 asks-same t s c d a b e =
-    ask-same c d a b (ap (λ (w : Written). w.deed) (written-same (written t (Asks c a)) (written s (Asks d b)) e))
-
-some-same : {X : Type 0} (x y : X) → Some x ≡ Some y → x ≡ y
-some-same x y e = cc
+    ask-same c d a b (ap (λ (w : Written). w.deed) (some-is (written t (Asks c a)) (written s (Asks d b)) e))
 
 request-same : (q r : CoapRequest) → Requests q ≡ Requests r → q ≡ r
 request-same q r e = cc
@@ -79,7 +73,7 @@ messages-same h k q (j ∷ js) (m ∷ ms) (n ∷ ns) a b =
 meant-at : (M : Terms) (h : List Written) (k t c : ℕ) (a : Ask) → AreMeant M h → slice_get h k ≡ Some (written t (Asks c a)) → M.IsMeaning a
 meant-at M [] k t c a meant e = absurd cc
 meant-at M (w ∷ h) zero t c a meant e =
-    subst (λ (v : Written). IsMeant M v.deed) (written-same w (written t (Asks c a)) e) meant.0
+    subst (λ (v : Written). IsMeant M v.deed) (some-is w (written t (Asks c a)) e) meant.0
 meant-at M (w ∷ h) (suc k) t c a meant e = meant-at M h k t c a meant.1 e
 
 module _ (holds : Form → Form → List ℕ → List ℕ → Type 0) (takes : Form → Form → List ℕ → Type 0) (rules : Rules)
@@ -107,7 +101,7 @@ module _ (holds : Form → Form → List ℕ → List ℕ → Type 0) (takes : F
       let request : rests.request ≡ q = request-same rests.request q (ap (λ (a : Ask). a.sense) one ∙ sense) in
       let messages : rests.messages ≡ ms = messages-same h g.ask rests.request js rests.messages ms rests.heard heard in
       let response : rests.response ≡ w =
-      some-same rests.response w
+      some-is rests.response w
       (sym rests.whole
       ∙ (ap (λ (q : CoapRequest). whole_of q rests.messages) request
       ∙ (ap (whole_of q) messages ∙ whole))) in

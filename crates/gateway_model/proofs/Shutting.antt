@@ -1,9 +1,10 @@
 -- Whom an input closes.
-use Rattle.std.proofs.Common.{◌≡◌, ◌⊎◌, inl, inr, ℕ, zero, suc, true, List, [], ◌∷◌, ◌++◌, Option, Some, None, refl, sym, ap, ◌∙◌, subst, arith}
-use Rattle.std.specs.Prelude.{⊤, flat_map}
+use Rattle.std.proofs.Common.{◌≡◌, ◌⊎◌, inl, inr, ℕ, true, List, [], ◌∷◌, ◌++◌, Option, Some, None, refl, sym, ap, ◌∙◌, subst}
+use Rattle.std.specs.Prelude.{⊤}
 use Rattle.std.specs.List.{AllByRecursion, Contains}
 use Rattle.std.proofs.lemmas.Grind.{flat_map-append}
 use Rattle.std.proofs.lemmas.List.{append-nil, append_assoc}
+use Rattle.std.proofs.lemmas.List.Elements.{Contains-append_left, Contains-append_right}
 use Rattle.ask_model.specs.Views.{Ask}
 use Rattle.journal_book.specs.Entries.{Deed, Opens as Opened, Asks as Asked, Sends as Sent, Hears as Heard, Passes as Passed, Answers, Shuts, Seals, Written}
 use Rattle.journal_book.specs.Views.{ask_of}
@@ -14,16 +15,15 @@ use Rattle.exchange_core.specs.Values.{Untaken}
 use Rattle.gateway_model.specs.declared.input.Happening.{Happening}
 use Rattle.gateway_model.specs.declared.input.Happening.TheVariants as H
 use Rattle.gateway_model.specs.declared.input.When.{When}
-use Rattle.gateway_model.specs.Acts.{Act, Opens, TurnsAway, Takes, Hears, Passes, Asks, Denies, Sends, Tells, GoesOn, Rests, Leaves, Misses, Served, Terms, DoesAll}
+use Rattle.gateway_model.specs.Acts.{Act, Opens, TurnsAway, Leaves, Misses, Served, Terms, DoesAll}
 use Rattle.gateway_model.specs.Closing.{closed_by, closed_in, shut_by, shut_in, IsNotTo, StayClosed, IsLastAnswer, IsClosedFor, AreClosedFor, ClosesAfter, IsNoTurn, ClosesJust, Closes, InputsClose}
 use Rattle.gateway_model.specs.Emissions.{Emission, Says, Goes, Closed, Turned}
-use Rattle.gateway_model.specs.Orders.{IsFor, ServesOut, IsSends, Turn, acts_of, IsTurn, Delivers, IsInOrder}
+use Rattle.gateway_model.specs.Orders.{IsInOrder}
 use Rattle.gateway_model.specs.Resting.{any_terms}
 use Rattle.gateway_model.specs.Waiting.{AreApart}
 use Rattle.gateway_model.proofs.Awaiting.{IsToTell, entry-more}
 use Rattle.gateway_model.proofs.Closings.{IsPlain, Gone, Form, ActCloses, IsServing, act-closes}
-use Rattle.gateway_model.proofs.Opened.{here, there}
-use Rattle.gateway_model.proofs.Order.{all-append, all-as}
+use Rattle.gateway_model.proofs.Order.{all-append, all-as, Each, each-out, each-delivers}
 use Rattle.gateway_model.proofs.Untold.{IsToldBy}
 
 -- An answer of these entries was told, or waits; and after a last one its connection is closed.
@@ -60,15 +60,6 @@ none-close M old new out e f = subst (AllClose M old new) (sym f) (subst (λ (s 
   told = λ c k t a later told stands last. inl told;
   settled = tt;
 }))
-
-in-first : {X : Type 0} (xs ys : List X) (x : X) → Contains xs x → Contains (xs ++ ys) x
-in-first [] ys x (i, lt, e) = absurd (omega (arith, lt))
-in-first (z ∷ xs) ys x (zero, lt, e) = here z x (xs ++ ys) e
-in-first (z ∷ xs) ys x (suc i, lt, e) = there z x (xs ++ ys) (in-first xs ys x (i, omega (arith, lt), e))
-
-in-rest : {X : Type 0} (xs ys : List X) (x : X) → Contains ys x → Contains (xs ++ ys) x
-in-rest [] ys x h = h
-in-rest (z ∷ xs) ys x h = there z x (xs ++ ys) (in-rest xs ys x h)
 
 shut-append : (xs ys : List Written) → shut_in (xs ++ ys) ≡ shut_in xs ++ shut_in ys
 shut-append [] ys = refl
@@ -145,10 +136,10 @@ later-told M mid new xs ys k c j t a later stands last (inl told) = by (k.told c
     by : IsToTell new.core.untaken c j ⊎ Contains (closed_in ys) c → IsToTell new.core.untaken c j ⊎ Contains (closed_in (xs ++ ys)) c
     by (inl h) = inl h
     by (inr h) = inr (subst (λ (ks : List ℕ). Contains ks c) (sym (flat_map-append closed_by xs ys))
-        (in-rest (closed_in xs) (closed_in ys) c h))
+        (Contains-append_right (closed_in xs) (closed_in ys) c h))
 later-told M mid new xs ys k c j t a later stands last (inr h) =
     inr (subst (λ (ks : List ℕ). Contains ks c) (sym (flat_map-append closed_by xs ys))
-    (in-first (closed_in xs) (closed_in ys) c h))
+    (Contains-append_left (closed_in xs) (closed_in ys) c h))
 
 settled-first : (M : Terms) (mid new : Served) (xs ys : List Emission) → AllClose M mid new ys → (d : Deed) → IsToldBy mid.core.untaken d
     → IsSettled new (xs ++ ys) d
@@ -172,7 +163,7 @@ settled-rest new xs ys (Answers c j g) h = λ t a later stands last. by (h t a l
     by : IsToTell new.core.untaken c j ⊎ Contains (closed_in ys) c → IsToTell new.core.untaken c j ⊎ Contains (closed_in (xs ++ ys)) c
     by (inl k) = inl k
     by (inr k) = inr (subst (λ (ks : List ℕ). Contains ks c) (sym (flat_map-append closed_by xs ys))
-        (in-rest (closed_in xs) (closed_in ys) c k))
+        (Contains-append_right (closed_in xs) (closed_in ys) c k))
 settled-rest new xs ys (Shuts c) h = tt
 settled-rest new xs ys Seals h = tt
 
@@ -212,56 +203,11 @@ all-close M w (a ∷ acts) old out new i h =
     (closes-then M old h.0 new h.1 h.2 (act-closes M w a old h.1 h.0 i.0 h.3) (all-close M w acts h.0 h.2 new i.1 h.4))
 
 -- the acts of an input
-
-for-serving : (c : ℕ) (a : Act) → IsFor c a → IsServing a
-for-serving c (Opens d) h = absurd h
-for-serving c TurnsAway h = absurd h
-for-serving c (Takes d bytes) h = absurd h
-for-serving c (Hears p bytes) h = absurd h
-for-serving c Passes h = absurd h
-for-serving c (Asks d) h = tt
-for-serving c (Denies d) h = tt
-for-serving c Sends h = tt
-for-serving c (Tells d k) h = tt
-for-serving c (GoesOn d) h = tt
-for-serving c (Rests d) h = absurd h
-for-serving c (Leaves d) h = absurd h
-for-serving c (Misses d) h = absurd h
-
-sends-serving : (a : Act) → IsSends a → IsServing a
-sends-serving (Opens d) h = absurd h
-sends-serving TurnsAway h = absurd h
-sends-serving (Takes d bytes) h = absurd h
-sends-serving (Hears p bytes) h = absurd h
-sends-serving Passes h = absurd h
-sends-serving (Asks d) h = absurd h
-sends-serving (Denies d) h = absurd h
-sends-serving Sends h = tt
-sends-serving (Tells d k) h = absurd h
-sends-serving (GoesOn d) h = absurd h
-sends-serving (Rests d) h = absurd h
-sends-serving (Leaves d) h = absurd h
-sends-serving (Misses d) h = absurd h
+each-serving : Each IsServing
+each-serving = record { asks = λ c. tt; denies = λ c. tt; sends = tt; tells = λ c k. tt; goes_on = λ c. tt; rests = λ c. tt }
 
 abbrev AreServing : List Act → Type 0
 AreServing acts = AllByRecursion IsServing acts
-
-out-serving : (c : ℕ) (acts : List Act) → ServesOut c acts → AreServing acts
-out-serving c acts h =
-    subst AreServing (sym h.are)
-    (all-append IsServing h.first (Rests c ∷ []) (all-as (IsFor c) IsServing h.first (for-serving c) h.for) (tt, tt))
-
-turns-serving : (turns : List Turn) → AllByRecursion IsTurn turns → AreServing (flat_map acts_of turns)
-turns-serving [] h = tt
-turns-serving (x ∷ turns) h =
-    all-append IsServing (acts_of x) (flat_map acts_of turns) (tt, out-serving x.conn x.further h.0) (turns-serving turns h.1)
-
-delivers-serving : (acts : List Act) → Delivers acts → AreServing acts
-delivers-serving acts h =
-    let turns = h.told.1 in
-    subst AreServing (sym h.are)
-    (all-append IsServing h.sends h.answers (all-as IsSends IsServing h.sends sends-serving h.sent)
-    (subst AreServing (sym turns.are) (turns-serving turns.turns turns.each)))
 
 settled-closes : (new : Served) (out : List Emission) → new.core.untaken ≡ [] → (d : Deed) → IsSettled new out d
     → ClosesAfter new.core.state.entries out d
@@ -309,11 +255,11 @@ input-closes M w H.Open acts old out new h o before after = by o
         let d = subst (λ (xs : List Act). DoesAll M w xs old out new) one h in
         inr (d.5 ∙ (ap (λ (ys : List Emission). ys ++ d.2) d.3.2 ∙ ap (λ (ys : List Emission). Turned ∷ ys) d.4.1))
 input-closes M w (H.Bytes c bytes) acts old out new h o before after =
-    closes-just M w acts old out new (subst AreServing (sym o.are) (tt, out-serving c o.rest o.then)) h before after
+    closes-just M w acts old out new (subst AreServing (sym o.are) (tt, each-out IsServing each-serving c o.rest o.then)) h before after
 input-closes M w (H.Datagram p bytes) acts old out new h o before after =
-    closes-just M w acts old out new (subst AreServing (sym o.are) (tt, delivers-serving o.rest o.then)) h before after
+    closes-just M w acts old out new (subst AreServing (sym o.are) (tt, each-delivers IsServing each-serving o.rest o.then)) h before after
 input-closes M w H.Tick acts old out new h o before after =
-    closes-just M w acts old out new (subst AreServing (sym o.are) (tt, delivers-serving o.rest o.then)) h before after
+    closes-just M w acts old out new (subst AreServing (sym o.are) (tt, each-delivers IsServing each-serving o.rest o.then)) h before after
 input-closes M w (H.Close c) acts old out new h o before after = by o
   where
     by : (acts ≡ Leaves c ∷ []) ⊎ (acts ≡ Misses c ∷ []) → out ≡ []

@@ -1,7 +1,8 @@
 -- Which bytes stand at a connection, after what is done for it or for another.
 use Rattle.std.proofs.Common.{◌≡◌, ◌≢◌, ◌⊎◌, inl, inr, ℕ, Bool, true, false, cond, not, List, [], ◌∷◌, ◌++◌, map, Option, Some, None, refl, sym, ap, ◌∙◌, subst, eqb-true, eq-eqb}
 use Rattle.std.specs.Prelude.{◌==◌, if◌then◌else◌}
-use Rattle.std.proofs.lemmas.Bool.{ne_eqb}
+use Rattle.std.proofs.lemmas.Bool.{ne_eqb, both_ways}
+use Rattle.history_laws.proofs.CallerLemmas.{none-some, some-is}
 use Rattle.exchange_model.specs.declared.kept.Conn.{Conn}
 use Rattle.exchange_model.specs.Resting.{HasConn}
 use Rattle.gateway_model.specs.Acts.{Served}
@@ -10,15 +11,6 @@ use Rattle.gateway_model.specs.Unasked.{Unasked, unasked_at, no_bytes, without, 
 use Rattle.gateway_model.specs.Waiting.{conn_id}
 
 -- what stands at a connection
-
-pub same-some : (x y : Unasked) → Some x ≡ Some y → x ≡ y
-same-some x y e = cc
-
-pub none-some : (x : Unasked) → None ≡ Some x → ⊥
-none-some x e = cc
-
-pub differ : (b : Bool) → b ≡ true → b ≡ false → ⊥
-differ b e f = cc
 
 pub others-same : (c d : ℕ) (f : Unasked → Unasked) (xs : List Unasked) → d ≢ c
     → ((x : Unasked) → x.number ≡ c → (f x).number ≡ c) → unasked_at d (changed_at c f xs) ≡ unasked_at d xs
@@ -47,7 +39,7 @@ own-before c f (x ∷ xs) y h e = by (x.number == c) refl e (own-before c f xs y
         let n : x.number ≡ c = eqb-true x.number c t in
         let m : ((f x).number == c) ≡ true = eq-eqb (f x).number c (h x n) in
         let is : Some (f x) ≡ Some y = rw m at e in
-        (x, rw t refl, sym (same-some (f x) y is))
+        (x, rw t refl, sym (some-is (f x) y is))
     by false t e ih =
         let later : unasked_at c (changed_at c f xs) ≡ Some y = rw t at e in
         let found = ih later in
@@ -71,7 +63,7 @@ others-left c d (x ∷ xs) y ne e =
   where
     by : (b : Bool) → (x.number == c) ≡ b → not b ≡ false → (x.number == d) ≡ false
     by true t h = ne_eqb x.number d (λ q. ne (sym q ∙ eqb-true x.number c t))
-    by false t h = absurd (differ true refl h)
+    by false t h = absurd (both_ways true h refl)
 
 pub gone-one : (b : Bool) (c : ℕ) (x y : Unasked) (ys : List Unasked) → (x.number == c) ≡ b → (unasked_at c ys ≡ Some y → ⊥)
     → unasked_at c (cond (not b) (x ∷ ys) ys) ≡ Some y → ⊥
@@ -87,7 +79,7 @@ pub added-at : (c d : ℕ) (xs : List Unasked) (y : Unasked) → unasked_at d (x
 added-at c d [] y e = by (c == d) e
   where
     by : (b : Bool) → cond b (Some (no_bytes c)) None ≡ Some y → (None ≡ Some y) ⊎ (y ≡ no_bytes c)
-    by true e = inr (sym (same-some (no_bytes c) y e))
+    by true e = inr (sym (some-is (no_bytes c) y e))
     by false e = inl e
 added-at c d (x ∷ xs) y e = by (x.number == d) e (added-at c d xs y)
   where

@@ -2,6 +2,8 @@
 use Rattle.std.proofs.Common.{◌≡◌, ◌≢◌, inl, inr, ℕ, zero, suc, ◌+◌, Bool, true, false, cond, not, List, [], ◌∷◌, ◌++◌, map, Option, Some, None, refl, sym, ap, ◌∙◌, subst, arith, eq-eqb}
 use Rattle.std.specs.Prelude.{◌==◌, ⊤}
 use Rattle.std.specs.List.{AllByRecursion, Contains, filter}
+use Rattle.std.proofs.lemmas.Bool.{both_ways}
+use Rattle.history_laws.proofs.CallerLemmas.{all-of, none-some}
 use Rattle.ask_model.specs.Views.{Ask}
 use Rattle.journal_book.specs.Entries.{Deed, Opens, Asks, Sends, Hears, Passes, Answers, Shuts, Seals, Written}
 use Rattle.exchange_model.specs.declared.kept.Conn.{Conn}
@@ -22,16 +24,10 @@ AreToOthers c us = AllByRecursion (λ (u : Untaken). u.conn ≢ c) us
 abbrev pub WaitsNot : ℕ → List Conn → Type 0
 WaitsNot c cs = (k : ℕ) → HasConn cs c (Some k) → ⊥
 
-differ : (b : Bool) → b ≡ true → b ≡ false → ⊥
-differ b e f = cc
-
-none-some : (k : ℕ) → None ≡ Some k → ⊥
-none-some k e = cc
-
 pended-one : (b : Bool) (c : ℕ) (p q : Option ℕ) (x : Conn) → (x.id == c) ≡ b
     → (cond b (record x { pending = p }) x).id ≡ c → (cond b (record x { pending = p }) x).pending ≡ q → p ≡ q
 pended-one true c p q x t e f = f
-pended-one false c p q x t e f = absurd (differ (x.id == c) (eq-eqb x.id c e) t)
+pended-one false c p q x t e f = absurd (both_ways (x.id == c) t (eq-eqb x.id c e))
 
 pended-so : (c : ℕ) (p q : Option ℕ) (cs : List Conn) → HasConn (map (pend c p) cs) c q → p ≡ q
 pended-so c p q [] h = absurd h
@@ -153,19 +149,14 @@ left-apart k (u ∷ us) h =
     kept-apart (not (u.ask == k)) u (filter (λ (u : Untaken). not (u.ask == k)) us)
     (left-all (λ (v : Untaken). u.conn ≢ v.conn) k us h.0) (left-apart k us h.1)
 
-all-at : (P : Untaken → Type 0) (us : List Untaken) (v : Untaken) → AllByRecursion P us → Contains us v → P v
-all-at P [] v h (i, lt, e) = absurd (omega (arith, lt))
-all-at P (u ∷ us) v h (zero, lt, e) = subst P e h.0
-all-at P (u ∷ us) v h (suc i, lt, e) = all-at P us v h.1 (i, omega (arith, lt), e)
-
 -- who is told is among those who are to be
 pub told-one : (c : ℕ) (us : List Untaken) (v : Untaken) → AreToOthers c us → Contains us v → v.conn ≢ c
-told-one c us v h there = all-at (λ (u : Untaken). u.conn ≢ c) us v h there
+told-one c us v h there = all-of (λ (u : Untaken). u.conn ≢ c) us v h there
 
 gone-head : (b : Bool) (k c : ℕ) (u : Untaken) (vs : List Untaken) → (u.ask == k) ≡ b → u.ask ≡ k → AreToOthers c vs
     → AreToOthers c (cond (not b) (u ∷ vs) vs)
 gone-head true k c u vs t e h = h
-gone-head false k c u vs t e h = absurd (differ (u.ask == k) (eq-eqb u.ask k e) t)
+gone-head false k c u vs t e h = absurd (both_ways (u.ask == k) t (eq-eqb u.ask k e))
 
 -- Once it is told, no other waits for its connection.
 pub told-apart : (us : List Untaken) (v : Untaken) → AreApart us → Contains us v
@@ -179,7 +170,7 @@ told-apart (u ∷ us) v h (zero, lt, e) =
 told-apart (u ∷ us) v h (suc i, lt, e) =
     let later : Contains us v = (i, omega (arith, lt), e) in
     kept-all (λ (w : Untaken). w.conn ≢ v.conn) (not (u.ask == v.ask)) u (filter (λ (u : Untaken). not (u.ask == v.ask)) us)
-    (all-at (λ (w : Untaken). u.conn ≢ w.conn) us v h.0 later) (told-apart us v h.1 later)
+    (all-of (λ (w : Untaken). u.conn ≢ w.conn) us v h.0 later) (told-apart us v h.1 later)
 
 -- each answer that an entry gives waits to be told
 

@@ -25,8 +25,7 @@ use Rattle.gateway_model.specs.Tellings.{TellsBytes}
 use Rattle.gateway_model.specs.Unasked.{Unasked, unasked_in, taken, Recounts}
 use Rattle.gateway_world.proofs.Lead.{leads-one, leads-then}
 use Rattle.gateway_model.specs.Waiting.{IsOpen}
-use Rattle.gateway_model.proofs.Opened.{conn-open}
-use Rattle.gateway_model.proofs.Order.{out-on}
+use Rattle.gateway_model.proofs.CallerLemmas.{conn-open, out-on}
 use Rattle.gateway_world.proofs.ReadingOn.{unasked-without, unasked-taken, unasked-opened, tells-on}
 
 -- what follows where a call went well

@@ -2,6 +2,7 @@
 use Rattle.std.proofs.Common.{◌≡◌, ◌≢◌, Bool, true, false, cond, not, eq-eqb, ℕ, zero, suc, ◌+◌, ◌<◌, ◌≤◌, List, [], ◌∷◌, ◌++◌, length, Some, refl, sym, ap, subst, ◌∙◌, arith}
 use Rattle.std.specs.Prelude.{◌==◌}
 use Rattle.std.specs.List.{AllByRecursion, Contains, filter}
+use Rattle.std.proofs.lemmas.Bool.{both_ways}
 use Rattle.exchange_core.specs.Answering.{Given}
 use Rattle.exchange_core.specs.Serving.{IsFirst, IsFirstTaken}
 use Rattle.uri_map.specs.declared.peer.Peer.{Peer}
@@ -9,9 +10,9 @@ use Rattle.exchange_model.specs.Growing.{Adds}
 use Rattle.exchange_model.specs.State.{State}
 use Rattle.exchange_model.specs.Keeping.{Kept}
 use Rattle.exchange_model.specs.Sealing.{hears_in_room, ticks_in_room}
-use Rattle.exchange_model.proofs.Grown.{hears-add, ticks-add, hears-answer, ticks-answer}
+use Rattle.exchange_model.proofs.CallerLemmas.{hears-add, hears-answer, ticks-add, ticks-answer}
 use Rattle.exchange_core.specs.Values.{CoreValue, Untaken, stepped}
-use Rattle.gateway_model.proofs.Apart.{served-after}
+use Rattle.gateway_model.proofs.CallerLemmas.{all-as, keeps-for, keeps-out, keeps-then, KeepsOpen, no-turns, served-after, told-for, turns-on}
 use Rattle.gateway_connections.specs.Inlets.{Inlet, TableValue}
 use Rattle.gateway_world.specs.declared.engine.Engine.{Engine}
 use Rattle.gateway_model.specs.declared.input.When.{When}
@@ -24,8 +25,6 @@ use Rattle.gateway_model.specs.Orders.{ServesOut, IsTelling, AreTurns, HasTurns}
 use Rattle.gateway_model.specs.Waiting.{AreApart, AreServed, IsOpen}
 use Rattle.gateway_world.proofs.Growth.{back-none, back-state, back-then}
 use Rattle.gateway_world.proofs.Lead.{leads-none, leads-then, leads-as}
-use Rattle.gateway_model.proofs.Opened.{KeepsOpen, keeps-for, keeps-out, keeps-then}
-use Rattle.gateway_model.proofs.Order.{all-as, no-turns, turns-on, told-for}
 use Rattle.gateway_world.proofs.Untaken.{not_to, rest-after, fewer, filter-all, all-at}
 
 -- So far answers to asks below the number were told, and those that wait are to later ones.
@@ -76,13 +75,10 @@ others-apart c k n (u ∷ us) h (zero, lt, e) =
     (all-as (λ (x : Untaken). u.conn ≢ x.conn) (λ (x : Untaken). x.conn ≢ c) (filter (not_to k) us)
     (λ x ne same. ne (ap (λ (v : Untaken). v.conn) e ∙ sym same)) (filter-all (λ (x : Untaken). u.conn ≢ x.conn) k us h.0))
   where
-    differ : (b : Bool) → b ≡ false → b ≡ true → ⊥
-    differ b f t = cc
-
     first-gone : (b : Bool) → (u.ask == k) ≡ b → u.ask ≡ k → AllByRecursion (λ (x : Untaken). x.conn ≢ c) (filter (not_to k) us)
         → AllByRecursion (λ (x : Untaken). x.conn ≢ c) (cond (not b) (u ∷ filter (not_to k) us) (filter (not_to k) us))
     first-gone true t is rest = rest
-    first-gone false t is rest = absurd (differ (u.ask == k) t (eq-eqb u.ask k is))
+    first-gone false t is rest = absurd (both_ways (u.ask == k) t (eq-eqb u.ask k is))
 others-apart c k n (u ∷ us) h (suc i, lt, e) =
     let has : Contains us (record { conn = c; ask = k; number = n }) = (i, omega (arith, lt), e) in
     more (not (u.ask == k)) (apart-both u (record { conn = c; ask = k; number = n }) us h.0 has) (others-apart c k n us h.1 has)

@@ -1,5 +1,5 @@
 -- What connections ask, input after input.
-use Rattle.std.proofs.Common.{◌≡◌, ◌⊎◌, inl, inr, ℕ, ◌+◌, ◌<◌, ◌≤◌, Bool, true, false, List, [], ◌∷◌, ◌++◌, Option, None, Some, refl, sym, ap, ◌∙◌, subst, arith}
+use Rattle.std.proofs.Common.{◌≡◌, ◌⊎◌, inl, inr, ℕ, ◌+◌, ◌<◌, ◌≤◌, Bool, true, false, List, [], ◌∷◌, ◌++◌, Option, None, refl, sym, ap, ◌∙◌, subst, arith}
 use Rattle.std.specs.Prelude.{if◌then◌else◌, nat_lt}
 use Rattle.std.specs.List.{AllByRecursion}
 use Rattle.std.proofs.lemmas.Bool.{lt-ltb, le-ltb}
@@ -17,9 +17,8 @@ use Rattle.gateway_model.specs.Asking.{AreAsked, AsksFirst, IsLeft, Heeds, AllHe
 use Rattle.gateway_model.specs.Closing.{Closes, IsNoTurn}
 use Rattle.gateway_model.specs.Emissions.{Emission, Says, Goes, Closed, Turned}
 use Rattle.gateway_model.specs.Tellings.{IsMapped, terms_of}
-use Rattle.gateway_model.specs.Unasked.{Unasked, unasked_at, no_bytes}
-use Rattle.gateway_model.proofs.Asked.{asked-both, first-then}
-use Rattle.gateway_model.proofs.Heeded.{CountsOpened, input-asks, input-counts}
+use Rattle.gateway_model.specs.Unasked.{Unasked, unasked_at}
+use Rattle.gateway_model.proofs.CallerLemmas.{asked-both, CountsOpened, first-then, input-asks, input-counts}
 use Rattle.gateway_world.specs.Asked.{turned_in, MayOpen, turned_by, AreOpened, opened_by, text_on, AsksIts, AsksInRun}
 use Rattle.gateway_world.specs.Inputs.{Takes, TakesAll}
 use Rattle.gateway_world.specs.Worlds.{WorldValue, Handles, new_world, served_in, when_in}

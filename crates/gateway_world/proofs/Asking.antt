@@ -13,7 +13,7 @@ use Rattle.http_mapping.specs.Limits.{limited}
 use Rattle.journal_book.specs.Entries.{Asks, Written}
 use Rattle.exchange_model.specs.declared.kept.Conn.{Conn}
 use Rattle.exchange_model.specs.State.{State}
-use Rattle.exchange_model.proofs.Lists.{all-map, all-mapped}
+use Rattle.exchange_model.proofs.CallerLemmas.{all-map, all-mapped}
 use Rattle.exchange_core.specs.declared.fault.AskFault.TheVariants as Fault
 use Rattle.exchange_core.specs.Answering.{Given}
 use Rattle.exchange_core.specs.Calls.{IsAsked, now}
@@ -29,13 +29,12 @@ use Rattle.gateway_model.specs.Acts.{Asks as AsksNext, Denies, Served, Terms, Is
 use Rattle.gateway_model.specs.Emissions.{Emission, emissions, Closed}
 use Rattle.gateway_world.specs.Engines.{IsAskOf, IsShut, KeepsWaiting, LetsGo, IsSentOut, LeadsAfter, inlet_number, work_in}
 use Rattle.gateway_model.specs.Waiting.{conn_id, IsOpen}
-use Rattle.gateway_model.proofs.Opened.{asked-open}
+use Rattle.gateway_model.proofs.CallerLemmas.{asked-open, for-on, sends-for-on, told-for}
 use Rattle.gateway_world.specs.Leading.{Leads, LeadsBy, served_of}
 use Rattle.gateway_model.specs.Orders.{AreFor, AreSends, IsTelling}
 use Rattle.gateway_world.proofs.Acting.{closing-of}
 use Rattle.gateway_model.specs.Unasked.{unasked_in, TakesItem}
 use Rattle.gateway_world.proofs.Lead.{leads-one, leads-then, leads-as}
-use Rattle.gateway_model.proofs.Order.{sends-for-on, for-on, told-for}
 use Rattle.gateway_world.proofs.ReadingOn.{gone-without}
 use Rattle.gateway_world.proofs.Untaken.{not_to, others-stay, ask-let-go, ask-of}
 

@@ -7,12 +7,11 @@ use Rattle.uri_map.specs.declared.peer.Peer.{Peer}
 use Rattle.exchange_model.specs.State.{State}
 use Rattle.exchange_model.specs.Growing.{Adds}
 use Rattle.exchange_model.specs.Sealing.{hears_in_room, ticks_in_room}
-use Rattle.exchange_model.proofs.Grown.{opens-add, shuts-add, asks-add, hears-add, ticks-add}
-use Rattle.exchange_core.specs.declared.fault.OpenFault.{OpenFault}
+use Rattle.exchange_model.proofs.CallerLemmas.{asks-add, hears-add, ticks-add}
 use Rattle.exchange_core.specs.declared.fault.OpenFault.TheVariants as Open
 use Rattle.exchange_core.specs.declared.fault.AskFault.{AskFault}
 use Rattle.exchange_core.specs.declared.fault.AskFault.TheVariants as Fault
-use Rattle.exchange_core.specs.Calls.{IsOpened, IsAsked, IsClosed, AsksSo}
+use Rattle.exchange_core.specs.Calls.{IsAsked, AsksSo}
 use Rattle.exchange_core.specs.Snapshots.{Grows}
 use Rattle.exchange_core.specs.Values.{CoreValue, stepped}
 use Rattle.gateway_world.specs.declared.engine.Engine.{Engine}
@@ -31,17 +30,6 @@ grows-then a b c h k =
 grows-to : (t : ℕ) (old new : CoreValue) (S : State) → new ≡ stepped S old → Adds t old.state S
     → Grows old.state.entries new.state.entries
 grows-to t old new S e a = (a.more, ap (λ (v : CoreValue). v.state.entries) e ∙ a.entries)
-
-pub opened-grows : (r : Result ℕ OpenFault) (t : ℕ) (old new : CoreValue) → IsOpened r t old new
-    → Grows old.state.entries new.state.entries
-opened-grows (Ok c) t old new h = grows-to t old new _ h.1 (opens-add t old.state)
-opened-grows (Err Open.Sealed) t old new h = grows-to t old new _ h.0 (opens-add t old.state)
-opened-grows (Err Open.Full) t old new h = grows-same old new h.0
-opened-grows (Err Open.Memory) t old new h = grows-same old new h.0
-
-pub closed-grows : (t c : ℕ) (old new : CoreValue) → IsClosed t c old new
-    → Grows old.state.entries new.state.entries
-closed-grows t c old new h = grows-to t old new _ h.1 (shuts-add t c old.state)
 
 asked-grows : (t word c : ℕ) (a : Ask) (old new : CoreValue) → AsksSo t word c a old new
     → Grows old.state.entries new.state.entries

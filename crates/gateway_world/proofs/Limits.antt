@@ -1,7 +1,8 @@
 -- The table's count says when more bytes of a connection are too many.
 use Rattle.std.proofs.Common.{◌≡◌, ◌⊎◌, inl, inr, ℕ, ◌+◌, ◌<◌, Bool, true, false, not, ◌&&◌, nat_lt, IsTrue, List, length, map, Option, Some, None, refl, sym, ap, subst, ◌∙◌}
 use Rattle.std.specs.Prelude.{◌↔◌, option_map}
-use Rattle.std.proofs.lemmas.Bool.{ltb-true, lt-ltb}
+use Rattle.std.proofs.lemmas.Bool.{ltb-true, lt-ltb, both_ways}
+use Rattle.history_laws.proofs.CallerLemmas.{none-some, some-is}
 use Rattle.http_edge.specs.Edges.{LeavesBytes}
 use Rattle.http_edge.proofs.Leftovers.{left_is_one}
 use Rattle.exchange_model.specs.Resting.{HasConn}
@@ -12,8 +13,7 @@ use Rattle.gateway_model.specs.Backlog.{WaitUnread, PassesLimit}
 use Rattle.gateway_model.specs.Resting.{AwaitsAnswer, AwaitsBytes, AllRest}
 use Rattle.gateway_model.specs.Unasked.{Unasked, unasked_of, unasked_in}
 use Rattle.gateway_model.specs.Waiting.{conn_id}
-use Rattle.gateway_model.proofs.Conns.{StandOnce, same-conn}
-use Rattle.gateway_model.proofs.Standing.{same-some, none-some, differ}
+use Rattle.gateway_model.proofs.CallerLemmas.{same-conn, StandOnce}
 use Rattle.gateway_world.proofs.ReadingOn.{unasked-at, stands-at}
 
 one-leaves : (text : List ℕ) (n m : ℕ) → LeavesBytes text n → LeavesBytes text m → n ≡ m
@@ -28,24 +28,21 @@ module _ (c n : ℕ) (v : CoreValue) (xs : List Inlet) (once : StandOnce (map co
   read-out : (x : Inlet) → inlet_at c xs ≡ Some x → HasConn v.state.conns c None → LeavesBytes x.text x.unread
   read-out x e has = by (rest.rests c (unasked_of x) (stands-at c xs x e))
     where
-      none-waits : (k : ℕ) → None ≡ Some k → ⊥
-      none-waits k e = absurd cc
-
       by : AwaitsAnswer c (record { core = v; unasked = unasked_in xs }) ⊎ AwaitsBytes (unasked_of x) → LeavesBytes x.text x.unread
-      by (inl a) = absurd (none-waits a.0 (same-conn c None (Some a.0) v.state.conns once has a.1))
+      by (inl a) = absurd (none-some a.0 (same-conn c None (Some a.0) v.state.conns once has a.1))
       by (inr y) = y.counted
 
   counts : (reads : Bool) (x : Inlet) → inlet_at c xs ≡ Some x → (IsTrue reads ↔ HasConn v.state.conns c None)
       → WaitUnread c (unasked_of x) (record { core = v; unasked = unasked_in xs }) (unread_in reads x)
   counts true x e w = let has = w.0 refl in inr (has, read-out x e has)
-  counts false x e w = inl ((λ has. differ false (w.1 has) refl), refl)
+  counts false x e w = inl ((λ has. (both_ways false refl (w.1 has))), refl)
 
   counted : (reads : Bool) (x : Inlet) (k : ℕ) → inlet_at c xs ≡ Some x → (IsTrue reads ↔ HasConn v.state.conns c None)
       → WaitUnread c (unasked_of x) (record { core = v; unasked = unasked_in xs }) k → unread_in reads x ≡ k
   counted true x k e w (inl h) = absurd (h.0 (w.0 refl))
   counted true x k e w (inr h) = one-leaves x.text x.unread k (read-out x e h.0) h.1
   counted false x k e w (inl h) = sym h.1
-  counted false x k e w (inr h) = absurd (differ false (w.1 h.0) refl)
+  counted false x k e w (inr h) = absurd (both_ways false refl (w.1 h.0))
 
   fills : (reads : Bool) (o : Option Inlet) → inlet_at c xs ≡ o → (IsTrue reads ↔ HasConn v.state.conns c None)
       → is_full_in reads n o ≡ true → PassesLimit c n (record { core = v; unasked = unasked_in xs })
@@ -69,7 +66,7 @@ module _ (c n : ℕ) (v : CoreValue) (xs : List Inlet) (once : StandOnce (map co
       → PassesLimit c n (record { core = v; unasked = unasked_in xs }) → is_full_in reads n o ≡ true
   passes reads None e w p = absurd (none-some p.waits (sym (unasked-at c xs ∙ ap (option_map unasked_of) e) ∙ p.stands))
   passes reads (Some x) e w p =
-      let same : unasked_of x ≡ p.waits = same-some (unasked_of x) p.waits (sym (stands-at c xs x e) ∙ p.stands) in
+      let same : unasked_of x ≡ p.waits = some-is (unasked_of x) p.waits (sym (stands-at c xs x e) ∙ p.stands) in
       let stays : x.closing ≡ false = ap (λ (u : Unasked). u.closing) same ∙ p.goes_on in
       let is : unread_in reads x ≡ p.unread = counted reads x p.unread e w
       (subst (λ (u : Unasked). WaitUnread c u (record { core = v; unasked = unasked_in xs }) p.unread) (sym same) p.counts) in

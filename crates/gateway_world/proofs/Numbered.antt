@@ -8,7 +8,7 @@ use Rattle.gateway_model.specs.Emissions.{Emission}
 use Rattle.gateway_model.specs.Unasked.{unasked_in}
 use Rattle.gateway_model.specs.Waiting.{conn_id}
 use Rattle.gateway_model.specs.Resting.{number_of}
-use Rattle.gateway_model.proofs.Numbers.{numbered-all}
+use Rattle.gateway_model.proofs.CallerLemmas.{numbered-all}
 use Rattle.gateway_world.specs.Engines.{inlet_number}
 use Rattle.gateway_world.specs.Leading.{Leads}
 

@@ -23,10 +23,7 @@ use Rattle.gateway_model.specs.Resting.{AllRest}
 use Rattle.gateway_model.specs.Tellings.{terms_of, AreMapped}
 use Rattle.gateway_model.specs.Told.{TellsAll}
 use Rattle.gateway_model.specs.Waiting.{IsDrained, conn_id}
-use Rattle.gateway_model.proofs.Enters.{input-shows as acts-show, tick-shows}
-use Rattle.gateway_model.proofs.Rested.{input-rests}
-use Rattle.gateway_model.proofs.Shown.{all-tell, all-send-just}
-use Rattle.gateway_model.proofs.Shutting.{input-closes}
+use Rattle.gateway_model.proofs.CallerLemmas.{all-send-just, all-tell, input-closes, input-rests, input-shows as acts-show, tick-shows}
 use Rattle.gateway_world.specs.declared.engine.Engine.{Engine}
 use Rattle.gateway_world.specs.Engines.{inlet_number}
 use Rattle.gateway_world.specs.Keeping.{IsKept}

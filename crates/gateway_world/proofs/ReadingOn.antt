@@ -2,6 +2,7 @@
 use Rattle.std.proofs.Common.{◌≡◌, ◌⊎◌, ℕ, ◌+◌, ◌<◌, Bool, true, false, cond, List, [], ◌∷◌, ◌++◌, length, Option, Some, None, inl, inr, refl, sym, ap, subst, ◌∙◌, not, eqb-true, eq-eqb}
 use Rattle.std.specs.Prelude.{option_map, ◌==◌, if◌then◌else◌}
 use Rattle.std.proofs.lemmas.List.{map_push}
+use Rattle.history_laws.proofs.CallerLemmas.{none-some, some-is}
 use Rattle.http_edge.specs.Reading.{Item}
 use Rattle.gateway_connections.specs.Inlets.{Inlet, inlet_at, fresh, changed_at as inlets_changed_at, with_inlet, extended as inlet_extended, appended, without as without_inlet}
 use Rattle.gateway_connections.specs.Reads.{Asks, Continues, AwaitsMore, Settles, ChangesAt, IsAbsent}
@@ -68,16 +69,10 @@ unasked-opened c xs = map_push unasked_of xs (fresh c)
 
 -- the connection that is read
 
-same-some : (x y : Inlet) → Some x ≡ Some y → x ≡ y
-same-some x y e = cc
-
-none-some : (x : Inlet) → None ≡ Some x → ⊥
-none-some x e = cc
-
 number-one : (b : Bool) (c : ℕ) (x y : Inlet) (o : Option Inlet) → (x.number == c) ≡ b
     → (o ≡ Some y → y.number ≡ c) → (if b then Some x else o) ≡ Some y → y.number ≡ c
 number-one true c x y o t f e =
-    subst (λ (z : Inlet). z.number ≡ c) (same-some x y e) (eqb-true x.number c t)
+    subst (λ (z : Inlet). z.number ≡ c) (some-is x y e) (eqb-true x.number c t)
 number-one false c x y o t f e = f e
 
 pub number-at : (c : ℕ) (xs : List Inlet) (y : Inlet) → inlet_at c xs ≡ Some y → y.number ≡ c

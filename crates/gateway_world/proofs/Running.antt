@@ -1,6 +1,6 @@
 -- Inputs are taken one after another.
-use Rattle.std.proofs.Common.{◌≡◌, ℕ, zero, suc, ◌+◌, ◌<◌, ◌≤◌, List, [], ◌∷◌, ◌++◌, length, take, drop, get_or, refl, sym, ap, subst, ◌∙◌, arith}
-use Rattle.std.proofs.lemmas.List.{append-nil, append_assoc, take_all}
+use Rattle.std.proofs.Common.{◌≡◌, ℕ, ◌+◌, ◌<◌, List, [], ◌∷◌, ◌++◌, length, take, drop, get_or, refl, sym, ap, subst, ◌∙◌, take-append-drop}
+use Rattle.std.proofs.lemmas.List.{append-nil, append_assoc, take_more, drop_more}
 use Rattle.media_map.specs.declared.form.Form.{Form}
 use Rattle.ask_model.specs.Views.{Rules}
 use Rattle.journal_book.specs.Entries.{Written}
@@ -15,18 +15,9 @@ use Rattle.gateway_model.specs.Emissions.{Emission, emission_of, emissions}
 use Rattle.gateway_model.specs.Going.{goes_in, SendsJust}
 use Rattle.gateway_model.specs.Tellings.{terms_of}
 use Rattle.gateway_model.specs.Told.{IsToldAnswers, TellsAll}
-use Rattle.gateway_model.proofs.Pacing.{Paced, paced-then, paced-none, paced-all}
-use Rattle.gateway_model.proofs.Shown.{paced-tell, did-send}
+use Rattle.gateway_model.proofs.CallerLemmas.{did-send, Paced, paced-all, paced-none, paced-tell, paced-then}
 use Rattle.gateway_world.specs.Inputs.{Takes, TakesAll, IsRefusedAfter}
 use Rattle.gateway_world.specs.Worlds.{WorldValue, Handles, IsAtRest, IsTooMuch, new_world, served_in, when_in}
-
-pub take-next : {A : Type 0} (xs : List A) (n : ℕ) (d : A) → n < length xs → take (n + 1) xs ≡ take n xs ++ get_or xs n d ∷ []
-take-next [] n d lt = absurd (omega (arith, lt))
-take-next (x ∷ xs) zero d lt = refl
-take-next {A} (x ∷ xs) (suc n) d lt =
-    let place : suc n + 1 ≡ suc (n + 1) = omega arith in
-    subst (λ (m : ℕ). take m (x ∷ xs) ≡ x ∷ (take n xs ++ get_or xs n d ∷ [])) (sym place)
-    (ap (λ (ys : List A). x ∷ ys) (take-next xs n d (omega (arith, lt))))
 
 -- inputs are handled one after another
 abbrev pub HandlesAll : Terms → List Input → WorldValue → List Emission → WorldValue → Type 0
@@ -53,7 +44,7 @@ module _ (holds : Form → Form → List ℕ → List ℕ → Type 0) (takes : F
       → TakesAll holds takes (take n is) a o b → Takes holds takes (get_or is n d) b p c
       → TakesAll holds takes (take (n + 1) is) a (o ++ p) c
   takes-next is n d a b c o p lt h k =
-      rw (take-next is n d lt) (takes-more (take n is) (get_or is n d) a b c o p h k)
+      rw (take_more is n d lt) (takes-more (take n is) (get_or is n d) a b c o p h k)
 
   -- What was taken was handled, by the rules from before.
   pub handled-all : (rules : Rules) (is : List Input) (old new : WorldValue) (out : List Emission) → old.rules ≡ rules
@@ -69,12 +60,7 @@ module _ (holds : Form → Form → List ℕ → List ℕ → Type 0) (takes : F
   )
 
 split-at : {A : Type 0} (xs : List A) (n : ℕ) (d : A) → n < length xs → xs ≡ take n xs ++ get_or xs n d ∷ drop (n + 1) xs
-split-at [] n d lt = absurd (omega (arith, lt))
-split-at (x ∷ xs) zero d lt = refl
-split-at {A} (x ∷ xs) (suc n) d lt =
-    let place : suc n + 1 ≡ suc (n + 1) = omega arith in
-    subst (λ (m : ℕ). x ∷ xs ≡ x ∷ (take n xs ++ get_or xs n d ∷ drop m (x ∷ xs))) (sym place)
-    (ap (λ (ys : List A). x ∷ ys) (split-at xs n d (omega (arith, lt))))
+split-at {A} xs n d lt = sym (take-append-drop n xs) ∙ ap (λ (ys : List A). take n xs ++ ys) (drop_more xs n d lt)
 
 pub refused-at : (holds : Form → Form → List ℕ → List ℕ → Type 0) (takes : Form → Form → List ℕ → Type 0)
     (is : List Input) (n : ℕ) (d : Input) (a b : WorldValue) (o : List Emission) → n < length is

@@ -1,31 +1,27 @@
 -- Which answers wait.
-use Rattle.std.proofs.Common.{◌≡◌, ◌≢◌, ℕ, zero, suc, ◌+◌, ◌<◌, ◌≤◌, Bool, true, false, cond, not, List, [], ◌∷◌, ◌++◌, length, drop, refl, sym, ap, subst, ◌∙◌, arith, eqb-true, eq-eqb}
+use Rattle.std.proofs.Common.{◌≡◌, ◌≢◌, ℕ, zero, suc, ◌+◌, ◌<◌, ◌≤◌, Bool, true, false, cond, not, List, [], ◌∷◌, ◌++◌, length, drop, refl, sym, ap, subst, ◌∙◌, arith, eq-eqb}
 use Rattle.std.specs.Prelude.{◌==◌, slice_get, Some}
 use Rattle.std.specs.List.{AllByRecursion, Contains, filter}
 use Rattle.std.proofs.Math.Seq.{drop-append_seam}
-use Rattle.std.proofs.lemmas.Bool.{eqb-false}
+use Rattle.std.proofs.lemmas.Bool.{eqb-false, both_ways}
 use Rattle.std.proofs.lemmas.List.{append-nil}
 use Rattle.std.proofs.lemmas.List.Elements.{filter-append}
+use Rattle.history_laws.proofs.CallerLemmas.{some-is}
 use Rattle.ask_model.specs.Views.{Ask}
 use Rattle.journal_book.specs.Entries.{Deed, Opens, Asks, Sends, Hears, Passes, Answers, Shuts, Seals, Written}
 use Rattle.exchange_model.specs.State.{State}
 use Rattle.exchange_model.specs.Growing.{Adds, IsOfAsk}
 use Rattle.exchange_model.specs.Sealing.{asks_in_room}
-use Rattle.exchange_model.proofs.Grown.{asks-add, asks-answer}
+use Rattle.exchange_model.proofs.CallerLemmas.{asks-add, asks-answer}
 use Rattle.exchange_core.specs.Calls.{AsksSo}
 use Rattle.exchange_core.specs.Serving.{AreOlder, IsFirst}
 use Rattle.exchange_core.specs.Taking.{is_to_other}
 use Rattle.exchange_core.specs.Values.{Untaken, CoreValue, answered_by, answered_in}
 use Rattle.gateway_world.specs.Engines.{IsAskOf}
-use Rattle.gateway_model.proofs.Order.{all-append, all-as}
+use Rattle.gateway_model.proofs.CallerLemmas.{all-append, all-as, stay-one}
 
 abbrev pub not_to : ℕ → Untaken → Bool
 not_to k u = not (u.ask == k)
-
-stay-one : (b : Bool) (k : ℕ) (u : Untaken) (us vs : List Untaken) → (u.ask == k) ≡ b → (u.ask ≢ k) → vs ≡ us
-    → cond (not b) (u ∷ vs) vs ≡ u ∷ us
-stay-one true k u us vs t ne e = absurd (ne (eqb-true u.ask k t))
-stay-one false k u us vs t ne e = ap (λ (ws : List Untaken). u ∷ ws) e
 
 -- none of them is to the ask
 pub others-stay : (k : ℕ) (us : List Untaken) → AllByRecursion (is_to_other k) us → filter (not_to k) us ≡ us
@@ -42,10 +38,7 @@ older-others k us h = all-as (λ (u : Untaken). u.ask < k) (is_to_other k) us (�
 go-one : (b : Bool) (k : ℕ) (u : Untaken) (vs : List Untaken) → (u.ask == k) ≡ b → u.ask ≡ k → vs ≡ []
     → cond (not b) (u ∷ vs) vs ≡ []
 go-one true k u vs t is e = e
-go-one false k u vs t is e = absurd (differ (u.ask == k) t (eq-eqb u.ask k is))
-  where
-    differ : (b : Bool) → b ≡ false → b ≡ true → ⊥
-    differ b f t = cc
+go-one false k u vs t is e = absurd (both_ways (u.ask == k) t (eq-eqb u.ask k is))
 
 -- all of them are
 pub own-go : (k : ℕ) (us : List Untaken) → AllByRecursion (λ (u : Untaken). u.ask ≡ k) us → filter (not_to k) us ≡ []
@@ -104,10 +97,7 @@ stands-in c [] [] w all e = absurd (none-some w e)
   where
     none-some : (z : Written) → slice_get [] 0 ≡ Some z → ⊥
     none-some z e = cc
-stands-in c [] (x ∷ ws) w all e = subst (IsAskBy c) (same-some x w e) all.0
-  where
-    same-some : (y z : Written) → Some y ≡ Some z → y ≡ z
-    same-some y z e = cc
+stands-in c [] (x ∷ ws) w all e = subst (IsAskBy c) (some-is x w e) all.0
 stands-in c (y ∷ h) ws w all e = stands-in c h ws w all e
 
 by-deed : (k c : ℕ) (a : Ask) (w : Written) → IsOfAsk k c a w.deed → IsAskBy c w
@@ -136,10 +126,7 @@ rest-one true k u us t le h = h
 rest-one false k u us t le h = (above (u.ask == k) refl, h)
   where
     above : (b : Bool) → (u.ask == k) ≡ b → k + 1 ≤ u.ask
-    above true s = absurd (differ (u.ask == k) t s)
-      where
-        differ : (b : Bool) → b ≡ false → b ≡ true → ⊥
-        differ b f t = cc
+    above true s = absurd (both_ways (u.ask == k) t s)
     above false s = let ne : u.ask ≢ k = eqb-false u.ask k s in omega arith
 
 pub rest-after : (k : ℕ) (us : List Untaken) → IsFirst k us → IsFirst (k + 1) (filter (not_to k) us)
@@ -157,10 +144,7 @@ at-most k (u ∷ us) = at-most-one (not (u.ask == k)) u (length us) (filter (not
 less-one : (b : Bool) (k : ℕ) (u : Untaken) (n : ℕ) (vs : List Untaken) → (u.ask == k) ≡ b → u.ask ≡ k → length vs ≤ n
     → length (cond (not b) (u ∷ vs) vs) < suc n
 less-one true k u n vs t is h = omega arith
-less-one false k u n vs t is h = absurd (differ (u.ask == k) t (eq-eqb u.ask k is))
-  where
-    differ : (b : Bool) → b ≡ false → b ≡ true → ⊥
-    differ b f t = cc
+less-one false k u n vs t is h = absurd (both_ways (u.ask == k) t (eq-eqb u.ask k is))
 
 less-more : (b : Bool) (u : Untaken) (n : ℕ) (vs : List Untaken) → length vs < n → length (cond b (u ∷ vs) vs) < suc n
 less-more true u n vs h = omega arith

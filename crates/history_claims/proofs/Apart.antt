@@ -10,13 +10,10 @@ use Rattle.history_laws.specs.Connections.{asks_by, asks_of, answers_by, answers
 use Rattle.history_laws.specs.Justified.{Stands}
 use Rattle.history_laws.specs.Laws.{IsFirst, IsAnswer, RestsOn}
 use Rattle.history_laws.specs.Worked.{noted}
-use Rattle.history_laws.proofs.Places.{at-same}
-use Rattle.history_laws.proofs.Sendings.{tokens-apart, ids-apart}
-use Rattle.history_laws.proofs.Answering.{answered-once, answered-in-order}
-use Rattle.history_laws.proofs.Basis.{rests-on-its-own}
+use Rattle.history_laws.proofs.CallerLemmas.{answered-in-order, answered-once, at-same, entries-length, ids-apart, rests-on-its-own, tokens-apart}
 use Rattle.history_claims.specs.Headline.{IsEntry, IsFirstSending}
 use Rattle.history_claims.specs.Apart.{asked_by, asked, answered_by, answered}
-use Rattle.history_claims.proofs.Entries.{entries-at, entries-length}
+use Rattle.history_claims.proofs.Entries.{entries-at}
 use Rattle.history_claims.proofs.Sending.{first-of}
 
 pub tokens-once : (h : List Written) (i j s t : ℕ) (p r : Peer) (m n : Content) → Stands h → IsFirstSending h i s p m → IsFirstSending h j t r n

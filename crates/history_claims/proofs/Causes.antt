@@ -1,8 +1,8 @@
 -- An own answer names its cause.
-use Rattle.std.proofs.Common.{◌≡◌, ℕ, ◌+◌, ◌<◌, ◌≤◌, ◌⊎◌, Bool, true, false, ◌||◌, inl, inr, List, [], ◌∷◌, length, Option, Some, None, refl, sym, ap, subst, ◌∙◌, arith}
+use Rattle.std.proofs.Common.{◌≡◌, ℕ, ◌+◌, ◌<◌, ◌≤◌, ◌⊎◌, true, false, inl, inr, List, [], ◌∷◌, length, Option, Some, None, refl, sym, ap, subst, ◌∙◌, arith}
 use Rattle.std.specs.Prelude.{is_none}
 use Rattle.std.proofs.lemmas.Bool.Decides.{leb_tells}
-use Rattle.std.proofs.lemmas.Bool.{false≢true}
+use Rattle.std.proofs.lemmas.Bool.{false≢true, or_cases}
 use Rattle.limits.specs.declared.TheConstants.{MAX_TRANSMIT_WAIT}
 use Rattle.coap_codec.specs.Spelling.{Content}
 use Rattle.uri_map.specs.declared.peer.Peer.{Peer}
@@ -19,17 +19,11 @@ use Rattle.history_laws.specs.Exchanges.{Begun, begun, late_by, is_late, Expired
 use Rattle.history_laws.specs.Justified.{IsAsk, IsTurnedAway as WasTurnedAway, IsRefused as WasRefused, IsOverdue, Caused, Ends, reads, Legal, Stands}
 use Rattle.history_laws.specs.Laws.{IsFirst}
 use Rattle.history_laws.specs.Worked.{noted}
-use Rattle.history_laws.proofs.Resting.{some-is}
-use Rattle.history_laws.proofs.Places.{at-below}
-use Rattle.history_laws.proofs.Facts.{follows-at, legal-before, at-before, length-before}
-use Rattle.history_laws.proofs.Openings.{ends-first}
-use Rattle.history_laws.proofs.Turns.{waits-first}
-use Rattle.history_laws.proofs.Replies.{replies-fit}
-use Rattle.history_laws.proofs.Sent.{begun-before, sent-once}
+use Rattle.history_laws.proofs.CallerLemmas.{at-before, at-below, at-entries, at-newest, before-twice, begun-before, ends-first, follows-at, legal-before, length-before, reads-own, replies-fit, sent-once, some-is, waits-first}
 use Rattle.history_claims.specs.Headline.{IsEntry, IsSentFor, IsUnsent, IsTurnedAway, IsTimedOut, IsGivenUp, IsReset, IsNotUnderstood, IsRefused, IsCausedBy}
-use Rattle.history_claims.proofs.Entries.{at-entries, entries-at, at-newest, newest-before, before-twice}
+use Rattle.history_claims.proofs.Entries.{entries-at, newest-before}
 use Rattle.history_claims.proofs.Sending.{first-before, sent-as, heard-in}
-use Rattle.history_claims.proofs.Resting.{answers-ask, reads-own, asked-by, opened-by}
+use Rattle.history_claims.proofs.Resting.{answers-ask, asked-by, opened-by}
 use Rattle.history_claims.proofs.Ending.{turn-expired, reset-turn, expired-turn, failed-turn, going-unreplied, reply-listed, rejected-in}
 use Rattle.history_claims.proofs.Unsent.{Over, unsent-in, none-for-plain, sent-last-none, sent-last-first, never-sent}
 use Rattle.history_claims.proofs.GivenUp.{given-up-at}
@@ -46,10 +40,6 @@ late-since l n k s b opened late = go (begun (before l n) k) refl late
     go None is h = absurd (false≢true h)
     go (Some a) is h =
         subst (λ (b : Begun). b.since + MAX_TRANSMIT_WAIT ≤ s) (some-is a b (sym (begun-before l n k a is) ∙ opened)) (not-late s a h)
-
-or-cases : (a b : Bool) → (a || b) ≡ true → (a ≡ true) ⊎ (b ≡ true)
-or-cases true b e = inl refl
-or-cases false b e = inr e
 
 whole-none : (q : CoapRequest) (m : Content) → is_whole m ≡ false → whole_of q (m ∷ []) ≡ None
 whole-none q m e = rw e refl
@@ -197,7 +187,7 @@ module _ (l : List Noted) (n t c k : ℕ) (cause : Cause) (j : ℕ) (legal : Leg
           → expires (before l e) k s w ≡ true → IsOver b
       go None is s note early tick over = by-late s early over
       go (Some i) is s note early tick over =
-          elim (or-cases (is_late s (begun (before l e) k)) (given_up s (transmission (before l e) i)) over) [
+          elim (or_cases (is_late s (begun (before l e) k)) (given_up s (transmission (before l e) i)) over) [
             | inl late ↦ by-late s early late
             | inr up ↦ by-tick i s note early tick is (transmission (before l e) i) refl up
           ]

@@ -1,9 +1,10 @@
 -- That there was no room for an ask.
-use Rattle.std.proofs.Common.{◌≡◌, ℕ, ◌+◌, ◌<◌, ◌≤◌, ◌⊎◌, Bool, true, false, ◌&&◌, inl, inr, List, [], ◌∷◌, length, map, filter, Option, Some, None, refl, sym, ap, subst, ◌∙◌, arith}
+use Rattle.std.proofs.Common.{◌≡◌, ℕ, ◌+◌, ◌<◌, ◌≤◌, true, false, ◌&&◌, inl, inr, List, [], ◌∷◌, length, map, filter, Option, Some, None, refl, sym, ap, subst, ◌∙◌, arith}
 use Rattle.std.specs.Prelude.{is_none, nat_lt}
 use Rattle.std.specs.List.{Contains}
 use Rattle.std.proofs.lemmas.List.Sums.{length-filter}
-use Rattle.std.proofs.lemmas.Bool.{false≢true, ltb-true, ltb-false}
+use Rattle.std.proofs.lemmas.Bool.{false≢true, ltb-true, ltb-false, and_cases}
+use Rattle.std.proofs.lemmas.List.{length-map}
 use Rattle.limits.specs.declared.TheConstants.{MAX_EXCHANGES, MAX_MESSAGE_IDS, MAX_WAITING, MESSAGE_ID_LIFETIME}
 use Rattle.uri_map.specs.declared.peer.Peer.{Peer}
 use Rattle.ask_model.specs.declared.cause.Cause.{Cause}
@@ -19,19 +20,13 @@ use Rattle.history_laws.specs.Exchanges.{Begun, begun, opens_by, opened_by, open
 use Rattle.history_laws.specs.Hearing.{has_room}
 use Rattle.history_laws.specs.Justified.{IsRefused, Caused, HasGrounds, AskNote, Follows, Legal}
 use Rattle.history_laws.specs.Worked.{noted}
-use Rattle.history_laws.proofs.Places.{at-same}
-use Rattle.history_laws.proofs.Facts.{IsFirst-below, follows-at, at-before, length-before}
-use Rattle.history_laws.proofs.Elements.{filtered-from}
-use Rattle.history_laws.proofs.Outstanding.{is-some}
-use Rattle.history_laws.proofs.Openings.{listed-begun}
-use Rattle.history_laws.proofs.Replies.{firsts-stand}
-use Rattle.history_laws.proofs.Sent.{begun-below, begun-before, asked-for}
+use Rattle.history_laws.proofs.CallerLemmas.{asked-for, at-before, at-same, before-twice, begun-before, begun-below, contains-mapped, filtered-from, firsts-stand, follows-at, is-some, IsFirst-below, length-before, listed-begun, reads-own}
 use Rattle.history_claims.specs.Headline.{AreApart, AreMany, IsPending, IsPendingAt, IsRecent, IsCrowded, exchanges, waiting, ids}
-use Rattle.history_claims.proofs.Entries.{asked-entry, grows, before-twice}
+use Rattle.history_claims.proofs.Entries.{asked-entry, grows}
 use Rattle.history_claims.proofs.Sending.{first-entry, first-before}
-use Rattle.history_claims.proofs.Resting.{answers-ask, reads-own}
+use Rattle.history_claims.proofs.Resting.{answers-ask}
 use Rattle.history_claims.proofs.Unsent.{Over, over-still}
-use Rattle.history_claims.proofs.Counting.{apart-push, mapped-from, apart-filter, apart-filtered, length-map}
+use Rattle.history_claims.proofs.Counting.{apart-push, apart-filter, apart-filtered}
 
 -- An ask that opened an exchange is answered only when that is over.
 plain-begins : (s t : ℕ) (c d : ℕ) (a b : Ask) (q : CoapRequest) → noted s (Asks c a) Plain ≡ noted t (Asks d b) (Begins q) → ⊥
@@ -111,7 +106,7 @@ openings-apart (x ∷ older) =
 
 numbers-below : (l : List Noted) (n : ℕ) → Contains (map (λ (f : FirstSending). f.number) (firsts l)) n → n < length l
 numbers-below l n h =
-    let it = mapped-from (λ (f : FirstSending). f.number) (firsts l) n h in
+    let it = contains-mapped (λ (f : FirstSending). f.number) (firsts l) n h in
     subst (λ (n : ℕ). n < length l) it.2 (IsFirst-below l it.0.moment it.0.opening it.0.number it.0.peer it.0.message (firsts-stand l it.0 it.1))
 
 abbrev numbers_of : List FirstSending → List ℕ
@@ -131,10 +126,6 @@ numbers-apart (x ∷ older) =
 goes-is : (p : Peer) (b : Option Begun) → goes_to p b ≡ true → (a : Begun) × (b ≡ Some a) × (a.request.peer ≡ p)
 goes-is p None e = absurd (false≢true e)
 goes-is p (Some b) e = (b, refl, same_peer-same b.request.peer p e)
-
-and-false : (a b : Bool) → (a && b) ≡ false → (a ≡ false) ⊎ (b ≡ false)
-and-false true b e = inr e
-and-false false b e = inl refl
 
 module _ (l : List Noted) (k : ℕ) (x : Noted) (legal : Legal l) (here : at l k ≡ Some x) (unsealed : is_sealed (before l k) ≡ false) where
   many-pending : AreMany (length (open_exchanges (before l k))) (λ (o : ℕ). (q : CoapRequest) × IsPending (entries l) k o q)
@@ -166,13 +157,13 @@ module _ (l : List Noted) (k : ℕ) (x : Noted) (legal : Legal l) (here : at l k
   many-recent : (t : ℕ) (p : Peer) → AreMany (mids_used (before l k) t p) (IsRecent (entries l) k t p)
   many-recent t p =
       let fs : List FirstSending = firsts (before l k) in
-      let count = length-map (λ (f : FirstSending). f.number) (filter (is_recent t p) fs) ∙ length-filter (is_recent t p) fs in
+      let count = (length-map (filter (is_recent t p) fs) (λ (f : FirstSending). f.number)) ∙ length-filter (is_recent t p) fs in
       record {
         ones = numbers_of (filter (is_recent t p) fs);
         many = omega (arith, count);
         apart = apart-filter (λ (f : FirstSending). f.number) (is_recent t p) fs (numbers-apart (before l k));
         each = λ i h.
-            let it = mapped-from (λ (f : FirstSending). f.number) (filter (is_recent t p) fs) i h in
+            let it = contains-mapped (λ (f : FirstSending). f.number) (filter (is_recent t p) fs) i h in
             let both = filtered-from (is_recent t p) fs it.0 it.1 in
             let f : FirstSending = it.0 in
             let parts = and-both (same_peer f.peer p) (nat_lt t (f.moment + MESSAGE_ID_LIFETIME)) both.1 in
@@ -201,9 +192,9 @@ crowded-at l k s c a q legal here sense =
     let b : List Noted = before l k in
     let x : Noted = noted s (Asks c a) Plain in
     let unsealed = follows.0.0 in
-    elim (and-false (nat_lt (length (open_exchanges b)) MAX_EXCHANGES) _ none) [
+    elim (and_cases (nat_lt (length (open_exchanges b)) MAX_EXCHANGES) _ none) [
       | inl w ↦ exchanges (fewer _ _ _ (least (length (open_exchanges b)) MAX_EXCHANGES w) (many-pending l k x legal here unsealed))
-      | inr w ↦ elim (and-false (nat_lt (length (waiting_at b q.peer)) MAX_WAITING) _ w) [
+      | inr w ↦ elim (and_cases (nat_lt (length (waiting_at b q.peer)) MAX_WAITING) _ w) [
         | inl v ↦ waiting (fewer _ _ _ (least (length (waiting_at b q.peer)) MAX_WAITING v) (many-waiting l k x legal here unsealed q.peer))
         | inr v ↦
             ids (mids_used b s q.peer) (length (waiting_at b q.peer)) (least (mids_used b s q.peer + length (waiting_at b q.peer)) MAX_MESSAGE_IDS v)

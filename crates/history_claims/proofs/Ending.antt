@@ -21,13 +21,7 @@ use Rattle.history_laws.specs.Hearing.{went_as, is_as, open_at, answers_by, answ
 use Rattle.history_laws.specs.Justified.{MaySay, Follows}
 use Rattle.history_laws.specs.Laws.{IsFirst}
 use Rattle.history_laws.specs.Worked.{noted}
-use Rattle.history_laws.proofs.Resting.{some-is, none-is, none-some}
-use Rattle.history_laws.proofs.Places.{at-same}
-use Rattle.history_laws.proofs.Facts.{eqb-same}
-use Rattle.history_laws.proofs.Elements.{find-some}
-use Rattle.history_laws.proofs.Turns.{waits-first}
-use Rattle.history_laws.proofs.Replies.{first-stands}
-use Rattle.history_laws.proofs.Sent.{progress-more}
+use Rattle.history_laws.proofs.CallerLemmas.{at-same, eqb-same, find-some, first-stands, none-is, none-some, progress-more, some-is, waits-first}
 
 -- an entry that rejects what an exchange waits for
 pub record RejectedTurn (l : List Noted) (o : ℕ) (x : Noted) : Type 0 where

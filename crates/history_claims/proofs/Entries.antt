@@ -1,5 +1,5 @@
 -- What stands in a reading stands among its entries, and the other way round.
-use Rattle.std.proofs.Common.{◌≡◌, ◌≢◌, ℕ, zero, suc, ◌<◌, ◌≤◌, inl, inr, List, [], ◌∷◌, ◌++◌, length, Some, refl, sym, ap, subst, ◌∙◌, arith, length-append, add-one}
+use Rattle.std.proofs.Common.{◌≡◌, ◌≢◌, ℕ, zero, suc, ◌≤◌, inl, inr, List, [], ◌∷◌, ◌++◌, length, Some, refl, sym, ap, subst, ◌∙◌}
 use Rattle.std.specs.List.{slice_get}
 use Rattle.std.proofs.lemmas.Bool.Decides.{eqb_tells}
 use Rattle.ask_model.specs.Requests.{Sense}
@@ -8,41 +8,14 @@ use Rattle.journal_book.specs.Entries.{Deed, Asks, Written}
 use Rattle.history_laws.specs.Readings.{Noted, Note, entries, at, before, newest}
 use Rattle.history_laws.specs.Worked.{noted}
 use Rattle.history_laws.specs.Justified.{Legal}
-use Rattle.history_laws.proofs.Resting.{some-is}
-use Rattle.history_laws.proofs.Places.{at-old, at-below, before-new, before-keeps}
+use Rattle.history_laws.proofs.CallerLemmas.{at-entries, entries-length, got-last, got-more, some-is}
 use Rattle.history_claims.specs.Headline.{IsEntry, IsAsked}
-
-pub entries-length : (l : List Noted) → length (entries l) ≡ length l
-entries-length [] = refl
-entries-length (x ∷ older) =
-    length-append (entries older) (x.written ∷ []) ∙ (add-one (length (entries older)) ∙ ap suc (entries-length older))
-
-pub got-more : {X : Type 0} (xs ys : List X) (i : ℕ) (x : X) → slice_get xs i ≡ Some x → slice_get (xs ++ ys) i ≡ Some x
-got-more [] ys i x e = absurd cc
-got-more (z ∷ xs) ys zero x e = e
-got-more (z ∷ xs) ys (suc i) x e = got-more xs ys i x e
-
-got-last : {X : Type 0} (xs : List X) (y : X) → slice_get (xs ++ y ∷ []) (length xs) ≡ Some y
-got-last [] y = refl
-got-last (x ∷ xs) y = got-last xs y
 
 got-less : {X : Type 0} (xs : List X) (y : X) (n : ℕ) (x : X) → n ≢ length xs → slice_get (xs ++ y ∷ []) n ≡ Some x → slice_get xs n ≡ Some x
 got-less [] y zero x not e = absurd (not refl)
 got-less [] y (suc n) x not e = absurd cc
 got-less (z ∷ xs) y zero x not e = e
 got-less (z ∷ xs) y (suc n) x not e = got-less xs y n x (λ same. not (ap suc same)) e
-
-pub at-entries : (l : List Noted) (n : ℕ) (x : Noted) → at l n ≡ Some x → slice_get (entries l) n ≡ Some x.written
-at-entries [] n x e = absurd cc
-at-entries (y ∷ older) n x e =
-    elim (eqb_tells n (length older)) [
-      | inl w ↦
-          let same = some-is y x (rw (w.0) at e) in
-          let place : n ≡ length (entries older) = w.1 ∙ sym (entries-length older) in
-          subst (λ (k : ℕ). slice_get (entries older ++ y.written ∷ []) k ≡ Some x.written) (sym place)
-          (got-last (entries older) y.written ∙ ap (λ (v : Noted). Some v.written) same)
-      | inr w ↦ got-more (entries older) (y.written ∷ []) n x.written (at-entries older n x (rw (w.0) at e))
-    ]
 
 pub entries-at : (l : List Noted) (n : ℕ) (w : Written) → slice_get (entries l) n ≡ Some w
     → (note : Note) × (at l n ≡ Some (record { written = w; note = note }))
@@ -53,7 +26,7 @@ entries-at (y ∷ older) n w e =
           let place : n ≡ length (entries older) = u.1 ∙ sym (entries-length older) in
           let here : slice_get (entries older ++ y.written ∷ []) (length (entries older)) ≡ Some w =
           subst (λ (k : ℕ). slice_get (entries older ++ y.written ∷ []) k ≡ Some w) place e in
-          let same : y.written ≡ w = some-is y.written w (sym (got-last (entries older) y.written) ∙ here) in
+          let same : y.written ≡ w = some-is y.written w (sym (got-last (entries older) y.written []) ∙ here) in
           (y.note, rw (u.0) (ap (λ (v : Written). Some (record { written = v; note = y.note })) same))
       | inr u ↦
           let old = entries-at older n w (got-less (entries older) y.written n w (λ same. u.1 (same ∙ entries-length older)) e) in
@@ -79,40 +52,10 @@ grows P keeps (x ∷ older) n h =
     ]
 
 -- moments never fall
-pub at-newest : (l : List Noted) (n : ℕ) (x : Noted) → Legal l → at l n ≡ Some x → x.written.moment ≤ newest l
-at-newest [] n x legal e = absurd cc
-at-newest (y ∷ older) n x legal e =
-    elim (at-old y older n x e) [
-      | inl w ↦ subst (λ (v : Noted). v.written.moment ≤ y.written.moment) w.1 (omega arith)
-      | inr w ↦ let old = at-newest older n x legal.0 w in let step = legal.1 in omega (arith, old, step)
-    ]
-
 pub newest-before : (l : List Noted) (n : ℕ) (x : Noted) → Legal l → at l n ≡ Some x → newest (before l n) ≤ x.written.moment
 newest-before [] n x legal e = absurd cc
 newest-before (y ∷ older) n x legal e =
     elim (eqb_tells n (length older)) [
       | inl w ↦ rw (w.0) (subst (λ (v : Noted). newest older ≤ v.written.moment) (some-is y x (rw (w.0) at e)) legal.1)
       | inr w ↦ rw (w.0) (newest-before older n x legal.0 (rw (w.0) at e))
-    ]
-
-pub before-twice : (l : List Noted) (n k : ℕ) (x : Noted) → at l n ≡ Some x → k < n → before (before l n) k ≡ before l k
-before-twice [] n k x e lt = absurd cc
-before-twice (y ∷ older) n k x e lt =
-    elim (at-old y older n x e) [
-      | inl w ↦ rw (w.0, before-new y older, before-keeps y older k (let a = w.0 in omega (arith, a, lt))) refl
-      | inr w ↦
-          let below = at-below older n x w in
-          rw (before-keeps y older n below, before-keeps y older k (omega (arith, below, lt))) (before-twice older n k x w lt)
-    ]
-
-pub at-still : (l : List Noted) (n j : ℕ) (x y : Noted) → at l n ≡ Some x → j < n → at l j ≡ Some y → at (before l n) j ≡ Some y
-at-still [] n j x y e lt f = absurd cc
-at-still (z ∷ older) n j x y e lt f =
-    let below = at-below (z ∷ older) n x e in
-    elim (at-old z older j y f) [
-      | inl w ↦ let a = w.0 in absurd (omega (arith, a, lt, below))
-      | inr old ↦ elim (at-old z older n x e) [
-        | inl w ↦ rw (w.0, before-new z older) old
-        | inr w ↦ rw (before-keeps z older n (at-below older n x w)) (at-still older n j x y w lt old)
-      ]
     ]

@@ -1,9 +1,8 @@
 -- The worked journals, as entries.
-use Rattle.std.proofs.Common.{◌≡◌, ℕ, zero, suc, ◌+◌, ◌*◌, ◌^◌, ◌<◌, ◌≤◌, ◌⊎◌, Bool, true, false, ◌||◌, not, eqb, inl, inr, List, [], ◌∷◌, length, Option, Some, None, refl, sym, ap, subst, ◌∙◌, arith}
+use Rattle.std.proofs.Common.{◌≡◌, ℕ, zero, ◌+◌, ◌*◌, ◌^◌, ◌≤◌, Bool, true, false, ◌||◌, not, eqb, inl, inr, List, [], ◌∷◌, length, Option, Some, None, refl, sym, ap, subst, ◌∙◌, arith}
 use Rattle.std.specs.List.{slice_get, list_all, range_with_len}
 use Rattle.std.proofs.lemmas.Option.{slice_get_within}
-use Rattle.std.proofs.lemmas.Bool.Decides.{eqb_tells}
-use Rattle.std.proofs.lemmas.Bool.{false≢true}
+use Rattle.std.proofs.lemmas.Bool.{false≢true, or_cases}
 use Rattle.limits.specs.declared.TheConstants.{MAX_RETRANSMIT}
 use Rattle.coap_codec.specs.Spelling.{Content, Spells}
 use Rattle.coap_codec.proofs.Unique.{spells_one}
@@ -15,10 +14,7 @@ use Rattle.history_laws.specs.Readings.{entries}
 use Rattle.history_laws.specs.WorkedMessages as M
 use Rattle.history_laws.specs.WorkedEndings as E
 use Rattle.history_laws.specs.WorkedSpoiled as S
-use Rattle.history_laws.proofs.Resting.{some-is, first, second}
-use Rattle.history_laws.proofs.Facts.{eqb-same}
-use Rattle.history_laws.proofs.Messages.{put-spelled, content-spelled, all_answered-holds, given_up-holds}
-use Rattle.history_laws.proofs.Endings.{rejected-holds, timed_out-holds}
+use Rattle.history_laws.proofs.CallerLemmas.{all_answered-holds, content-spelled, eqb-same, given_up-holds, put-spelled, range-passes, rejected-holds, some-is, timed_out-holds}
 use Rattle.history_claims.specs.Headline.{IsEntry, AreCopies, IsHeardFor, AreHeardFor, IsGivenUp}
 use Rattle.history_claims.specs.Worked.{Answered, TimedOut, Rejected, GivenUp, Crossed, Foreseen, Early}
 use Rattle.history_claims.proofs.Resting.{rests-in}
@@ -67,15 +63,6 @@ lies_in (n ∷ ns) j = eqb j n || lies_in ns j
 abbrev lies_so : (Deed → Bool) → List Written → List ℕ → ℕ → Bool
 lies_so g h ns j = not (passes_in g (slice_get h j)) || lies_in ns j
 
-range-passes : (g : ℕ → Bool) (a n c : ℕ) → list_all g (range_with_len a n) ≡ true → a ≤ c → c < a + n → g c ≡ true
-range-passes g a zero c e low high = absurd (omega (arith, low, high))
-range-passes g a (suc n) c e low high =
-    elim (eqb_tells a c) [
-      | inl w ↦ subst (λ (c : ℕ). g c ≡ true) w.1 (first (g a) (list_all g (range_with_len (a + 1) n)) e)
-      | inr w ↦ let other = w.1 in
-          range-passes g (a + 1) n c (second (g a) (list_all g (range_with_len (a + 1) n)) e) (omega (arith, low, other)) (omega (arith, high))
-    ]
-
 places : (g : Deed → Bool) (h : List Written) (ns : List ℕ) (len j t : ℕ) (d : Deed) → length h ≡ len → list_all (lies_so g h ns) (range_with_len 0 len) ≡ true
     → IsEntry h j t d → g d ≡ true → lies_in ns j ≡ true
 places g h ns len j t d size all e is =
@@ -83,31 +70,21 @@ places g h ns len j t d size all e is =
     let so = range-passes (lies_so g h ns) 0 len j all (omega arith) (omega (arith, within, size)) in
     subst (λ (b : Bool). (not b || lies_in ns j) ≡ true) (ap (passes_in g) e ∙ is) so
 
-or-cases : (a b : Bool) → (a || b) ≡ true → (a ≡ true) ⊎ (b ≡ true)
-or-cases true b e = inl refl
-or-cases false b e = inr e
-
 abbrev entry_of : ℕ → Deed → Written
 entry_of t d = record { moment = t; deed = d }
 
 -- the response to the GET came under the GET's token
 texts : (t s : ℕ) (p r : Peer) (b c : List ℕ) (w v : Option ℕ)
     → Some (entry_of t (Sends p b w)) ≡ Some (entry_of s (Sends r c v)) → b ≡ c
-texts t s p r b c w v e = go (ap (λ (x : Written). x.deed) (written-same _ _ e))
+texts t s p r b c w v e = go (ap (λ (x : Written). x.deed) (some-is _ _ e))
   where
-    written-same : (x y : Written) → Some x ≡ Some y → x ≡ y
-    written-same x y f = cc
-
     go : Sends p b w ≡ Sends r c v → b ≡ c
     go f = cc
 
 heard-texts : (t s : ℕ) (p r : Peer) (b c : List ℕ)
     → Some (entry_of t (Hears p b)) ≡ Some (entry_of s (Hears r c)) → b ≡ c
-heard-texts t s p r b c e = go (ap (λ (x : Written). x.deed) (written-same _ _ e))
+heard-texts t s p r b c e = go (ap (λ (x : Written). x.deed) (some-is _ _ e))
   where
-    written-same : (x y : Written) → Some x ≡ Some y → x ≡ y
-    written-same x y f = cc
-
     go : Hears p b ≡ Hears r c → b ≡ c
     go f = cc
 
@@ -120,9 +97,9 @@ crossed-heard q m h =
     let after = h.sent_for.after in
     let before = h.after in
     let lies = places is_first (entries S.crossed) (2 ∷ 8 ∷ []) 13 h.sending _ _ refl refl h.sent_for.first.stands refl in
-    elim (or-cases (eqb h.sending 2) _ lies) [
+    elim (or_cases (eqb h.sending 2) _ lies) [
       | inl w ↦ let place = eqb-same h.sending 2 w in absurd (omega (arith, place, after))
-      | inr w ↦ elim (or-cases (eqb h.sending 8) false w) [
+      | inr w ↦ elim (or_cases (eqb h.sending 8) false w) [
         | inl v ↦ go (eqb-same h.sending 8 v)
         | inr v ↦ false≢true v
       ]
@@ -155,13 +132,13 @@ copy-places j t p b e = places is_copy (entries S.timed_out_early) (6 ∷ 8 ∷ 
 
 copy-one-of : (j : ℕ) → lies_in (6 ∷ 8 ∷ 10 ∷ 12 ∷ []) j ≡ true → (m : ℕ) × (j ≡ 2 * m) × (3 ≤ m) × (m ≤ 6)
 copy-one-of j e =
-    elim (or-cases (eqb j 6) _ e) [
+    elim (or_cases (eqb j 6) _ e) [
       | inl w ↦ (3, eqb-same j 6 w, omega arith, omega arith)
-      | inr e1 ↦ elim (or-cases (eqb j 8) _ e1) [
+      | inr e1 ↦ elim (or_cases (eqb j 8) _ e1) [
         | inl w ↦ (4, eqb-same j 8 w, omega arith, omega arith)
-        | inr e2 ↦ elim (or-cases (eqb j 10) _ e2) [
+        | inr e2 ↦ elim (or_cases (eqb j 10) _ e2) [
           | inl w ↦ (5, eqb-same j 10 w, omega arith, omega arith)
-          | inr e3 ↦ elim (or-cases (eqb j 12) false e3) [
+          | inr e3 ↦ elim (or_cases (eqb j 12) false e3) [
             | inl w ↦ (6, eqb-same j 12 w, omega arith, omega arith)
             | inr e4 ↦ absurd (false≢true e4)
           ]
@@ -188,11 +165,8 @@ moment-same t s d e f = ap (λ (x : Written). x.moment) (some-is _ _ f)
 
 timeout-same : (t s : ℕ) (p r : Peer) (b c : List ℕ) (w v : ℕ)
     → Some (entry_of t (Sends p b (Some w))) ≡ Some (entry_of s (Sends r c (Some v))) → w ≡ v
-timeout-same t s p r b c w v e = go (ap (λ (x : Written). x.deed) (written-same _ _ e))
+timeout-same t s p r b c w v e = go (ap (λ (x : Written). x.deed) (some-is _ _ e))
   where
-    written-same : (x y : Written) → Some x ≡ Some y → x ≡ y
-    written-same x y f = cc
-
     go : Sends p b (Some w) ≡ Sends r c (Some v) → w ≡ v
     go f = cc
 

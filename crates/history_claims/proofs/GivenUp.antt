@@ -12,13 +12,9 @@ use Rattle.history_laws.specs.Transmissions.{Transmission, due, is_given_up, tra
 use Rattle.history_laws.specs.Justified.{MayBeFirst, MayBeCopy, Follows, Legal}
 use Rattle.history_laws.specs.Laws.{IsFirst}
 use Rattle.history_laws.specs.Worked.{noted}
-use Rattle.history_laws.proofs.Resting.{some-is, none-some}
-use Rattle.history_laws.proofs.Places.{at-new, at-below, at-old, at-same}
-use Rattle.history_laws.proofs.Facts.{follows-at, legal-before, eqb-same, eqb-itself}
-use Rattle.history_laws.proofs.Outstanding.{way-cases}
-use Rattle.history_laws.proofs.Copying.{ticked-newest}
+use Rattle.history_laws.proofs.CallerLemmas.{at-below, at-entries, at-new, at-old, at-same, at-still, eqb-itself, eqb-same, follows-at, legal-before, none-some, some-is, ticked-newest, way-cases}
 use Rattle.history_claims.specs.Headline.{IsEntry, last_of, AreCopies, Settles, IsGivenUp}
-use Rattle.history_claims.proofs.Entries.{at-entries, entries-at, entry-keeps, grows, at-still}
+use Rattle.history_claims.proofs.Entries.{entries-at, entry-keeps, grows}
 use Rattle.history_claims.proofs.Settling.{settled}
 
 pub copies-keep : (x : Noted) (l : List Noted) (p : Peer) (b : List ℕ) (w i t : ℕ) (js : List ℕ) (last : ℕ) → AreCopies (entries l) p b w i t js last

@@ -1,13 +1,14 @@
-pub mod Entries
-pub mod Sending
-pub mod Resting
-pub mod Ending
-pub mod Unsent
-pub mod Settling
-pub mod GivenUp
-pub mod Counting
-pub mod Crowded
-pub mod Causes
-pub mod Apart
-pub mod Turns
-pub mod Examples
+pub mod CallerLemmas
+mod Entries
+mod Sending
+mod Resting
+mod Ending
+mod Unsent
+mod Settling
+mod GivenUp
+mod Counting
+mod Crowded
+mod Causes
+mod Apart
+mod Turns
+mod Examples

@@ -7,35 +7,15 @@ use Rattle.ask_model.specs.Views.{Ask}
 use Rattle.journal_book.specs.Entries.{Grounds, Live, Deed, Answers, Asks, Hears, Written}
 use Rattle.history_laws.specs.Responses.{Response, response_of, is_whole, whole_of}
 use Rattle.history_laws.specs.Readings.{Noted, Note, Begins, Says, entries, at, before}
-use Rattle.history_laws.specs.Progress.{Reply, numbers, Ending, Whole, NotUnderstood, progress, ended_by}
+use Rattle.history_laws.specs.Progress.{Reply, numbers, Whole, NotUnderstood, progress, ended_by}
 use Rattle.history_laws.specs.Exchanges.{Begun, begun, Turn, Nothing, Sent, Replied, Rejected, Expired, turn, replies, end_here}
 use Rattle.history_laws.specs.Justified.{IsAsk, Ends as EndsAs, reads_by, reads_in, reads, HasGrounds, Follows, Legal, Stands}
 use Rattle.history_laws.specs.Laws.{IsReplyTo}
 use Rattle.history_laws.specs.Worked.{noted}
-use Rattle.history_laws.proofs.Resting.{none-some}
-use Rattle.history_laws.proofs.Places.{at-below, at-same}
-use Rattle.history_laws.proofs.Facts.{follows-at, legal-before, at-before, length-before}
-use Rattle.history_laws.proofs.Elements.{contains-none, first-or-later}
-use Rattle.history_laws.proofs.Answering.{asks-stand}
-use Rattle.history_laws.proofs.Openings.{ends-first}
-use Rattle.history_laws.proofs.Replies.{replies-fit}
-use Rattle.history_laws.proofs.Sent.{progress-more, asked-for, opening-begun}
-use Rattle.history_laws.proofs.Basis.{made-of}
+use Rattle.history_laws.proofs.CallerLemmas.{asked-for, asks-stand, at-before, at-below, at-same, contains-none, ends-first, first-or-later, follows-at, legal-before, length-before, made-of, none-some, opening-begun, progress-more, reads-own, replies-fit, some-is}
 use Rattle.history_claims.specs.Headline.{IsEntry, IsAsked, RestsOn}
 use Rattle.history_claims.proofs.Entries.{entries-at, asked-entry}
 use Rattle.history_claims.proofs.Sending.{heard-in}
-
--- an ask reads what it opened
-reads-note : (k o : ℕ) (n : Note) → reads_by k n ≡ Some o → k ≡ o
-reads-note k o (Begins q) e = cc
-reads-note k o n e = cc
-
-pub reads-own : (l : List Noted) (k o : ℕ) → reads l k ≡ Some o → k ≡ o
-reads-own l k o e = go (at l k) e
-  where
-    go : (x : Option Noted) → reads_in k x ≡ Some o → k ≡ o
-    go None f = cc
-    go (Some x) f = reads-note k o x.note f
 
 -- the ask of an answer is its connection's
 pub record AnswersAsk (l : List Noted) (n t c k : ℕ) (g : Grounds) : Type 0 where
@@ -105,9 +85,6 @@ record Made (ws : List Reply) (w : Response) : Type 0 where
   whole : is_whole reply.message ≡ true
   response : w ≡ response_of reply.message
 
-ending-same : (x y : Ending) → Some x ≡ Some y → x ≡ y
-ending-same x y e = cc
-
 made-replied : (b : Bool) (r : Reply) (w : Response) (ws : List Reply) → is_whole r.message ≡ b
     → cond b (Whole (response_of r.message) (r ∷ [])) NotUnderstood ≡ Whole w ws → Made ws w
 made-replied true r w ws is e = record { reply = r; alone = list; whole = is; response = said }
@@ -122,7 +99,7 @@ made-replied false r w ws is e = absurd cc
 made-progress : (rs : List Reply) (w : Response) (ws : List Reply) → ended_by (progress rs) ≡ Some (Whole w ws) → Made ws w
 made-progress [] w ws e = absurd cc
 made-progress (r ∷ rs) w ws e =
-    made-replied (is_whole r.message) r w ws refl (ending-same _ _ (sym (ap ended_by (progress-more r rs)) ∙ e))
+    made-replied (is_whole r.message) r w ws refl (some-is _ _ (sym (ap ended_by (progress-more r rs)) ∙ e))
 
 made-turn : (u : Turn) (n : ℕ) (rs : List Reply) (w : Response) (ws : List Reply) → end_here n rs u ≡ Some (Whole w ws) → Made ws w
 made-turn (Replied i m) n rs w ws e = made-progress (rs ++ record { number = n; sending = i; message = m } ∷ []) w ws e

@@ -12,12 +12,9 @@ use Rattle.history_laws.specs.Exchanges.{Begun, begun}
 use Rattle.history_laws.specs.Justified.{MayBeFirst, Follows, Legal}
 use Rattle.history_laws.specs.Laws.{IsFirst, IsReplyKind, IsReplyTo}
 use Rattle.history_laws.specs.Worked.{noted}
-use Rattle.history_laws.proofs.Resting.{some-is, none-some}
-use Rattle.history_laws.proofs.Facts.{follows-at, at-before}
-use Rattle.history_laws.proofs.Sendings.{tokens-apart}
-use Rattle.history_laws.proofs.Sent.{sent-for}
+use Rattle.history_laws.proofs.CallerLemmas.{at-before, at-entries, follows-at, none-some, sent-for, some-is, tokens-apart}
 use Rattle.history_claims.specs.Headline.{IsFirstSending, IsSentFor, BringsResponse, IsHeardFor}
-use Rattle.history_claims.proofs.Entries.{at-entries, entries-at}
+use Rattle.history_claims.proofs.Entries.{entries-at}
 
 -- a sending with a timeout is a first one, of the message that it spells
 first-note : (l : List Noted) (t : ℕ) (p : Peer) (b : List ℕ) (w : ℕ) (note : Note) → Follows l t (Sends p b (Some w)) note

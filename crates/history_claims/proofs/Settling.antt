@@ -1,11 +1,12 @@
 -- What settles a message ends its sending.
-use Rattle.std.proofs.Common.{◌≡◌, ℕ, Bool, true, false, cond, ◌&&◌, ◌||◌, eqb, leb, inl, inr, List, [], ◌∷◌, ◌++◌, Option, Some, None, refl, sym, ap, subst, ◌∙◌, arith}
+use Rattle.std.proofs.Common.{◌≡◌, ℕ, Bool, true, false, cond, ◌&&◌, eqb, leb, inl, inr, List, [], ◌∷◌, ◌++◌, Option, Some, None, refl, sym, ap, subst, ◌∙◌, arith}
 use Rattle.std.specs.Prelude.{find, option_map, option_to_list}
 use Rattle.std.specs.List.{list_any}
 use Rattle.std.specs.Str.{bytes_eq}
 use Rattle.std.proofs.lemmas.Bool.Decides.{leb_tells}
-use Rattle.std.proofs.lemmas.Bool.{false≢true}
+use Rattle.std.proofs.lemmas.Bool.{false≢true, or_right}
 use Rattle.std.proofs.lemmas.Slice.Eq.{bytes_eq-Decides}
+use Rattle.std.proofs.lemmas.List.Folds.{list_any-append}
 use Rattle.coap_codec.specs.declared.message.MsgType.{MsgType}
 use Rattle.coap_codec.specs.declared.message.MsgType.TheVariants.{Ack, Rst}
 use Rattle.coap_codec.specs.Spelling.{Content, Spells}
@@ -22,15 +23,8 @@ use Rattle.history_laws.specs.Hearing.{is_such, heard_before, repeated, went_und
 use Rattle.history_laws.specs.Justified.{MaySay, Follows, Legal}
 use Rattle.history_laws.specs.Laws.{IsFirst}
 use Rattle.history_laws.specs.Worked.{noted}
-use Rattle.history_laws.proofs.Resting.{none-some}
-use Rattle.history_laws.proofs.Places.{at-same}
-use Rattle.history_laws.proofs.Facts.{eqb-itself}
-use Rattle.history_laws.proofs.Elements.{find-some}
-use Rattle.history_laws.proofs.Sendings.{any-first, tokens-apart}
-use Rattle.history_laws.proofs.Outstanding.{outstanding-last}
-use Rattle.history_laws.proofs.Replies.{first-stands}
+use Rattle.history_laws.proofs.CallerLemmas.{any-first, at-same, eqb-itself, find-any, find-some, first-stands, none-some, outstanding-last, tokens-apart}
 use Rattle.history_claims.specs.Headline.{Settles, confirms, rejects, piggybacked}
-use Rattle.history_claims.proofs.Unsent.{find-any}
 
 -- what is outstanding at a peer
 open-is : (l : List Noted) (t o i : ℕ) (p : Peer) (m : Content) (y : Transmission) → Legal l → IsFirst l t o i p m → transmission l i ≡ Some y
@@ -90,12 +84,7 @@ under-is l t o i j p m n legal f e h = go (first_at l j) refl h
         tokens-apart l g.moment t g.opening j o i g.peer p g.message m legal (first-stands l j g is) f (token ∙ e)
 
 any-last : (p : ℕ → Bool) (xs : List ℕ) (i : ℕ) → p i ≡ true → list_any p (xs ++ i ∷ []) ≡ true
-any-last p [] i e = rw e refl
-any-last p (x ∷ xs) i e = go (p x) (any-last p xs i e)
-  where
-    go : (b : Bool) → list_any p (xs ++ i ∷ []) ≡ true → (b || list_any p (xs ++ i ∷ [])) ≡ true
-    go true h = refl
-    go false h = h
+any-last p xs i e = list_any-append p xs (i ∷ []) ∙ or_right (list_any p xs) _ (rw e refl)
 
 find-here : (p : ℕ → Bool) (i : ℕ) → p i ≡ true → find p (i ∷ []) ≡ Some i
 find-here p i e = rw e refl

@@ -10,11 +10,8 @@ use Rattle.history_laws.specs.Connections.{asks_by, asks_of, answers_by, answers
 use Rattle.history_laws.specs.Justified.{Follows, Legal, Stands}
 use Rattle.history_laws.specs.Laws.{IsAnswer}
 use Rattle.history_laws.specs.Worked.{noted}
-use Rattle.history_laws.proofs.Places.{at-below}
-use Rattle.history_laws.proofs.Facts.{follows-at, legal-before, at-before}
-use Rattle.history_laws.proofs.Answering.{push-cases, IsAnswer-old}
+use Rattle.history_laws.proofs.CallerLemmas.{at-before, at-below, at-entries, at-still, follows-at, IsAnswer-old, legal-before, next-ask, push-cases}
 use Rattle.history_claims.specs.Headline.{IsEntry}
-use Rattle.history_claims.proofs.Entries.{at-entries, at-still}
 use Rattle.history_claims.proofs.Resting.{answers-ask}
 use Rattle.history_claims.proofs.Apart.{answer-at}
 
@@ -100,10 +97,6 @@ unanswered-after (x ∷ older) n c k p o g legal h le e =
         (new-answer older t c k g note p o (few-asks older c legal.0))
 
 -- so asks come in turn
-
-next-ask : (l : List Noted) (t c k : ℕ) (g : Grounds) (note : Note) → Follows l t (Answers c k g) note
-    → slice_get (asks_of l c) (length (answers_of l c)) ≡ Some k
-next-ask l t c k g note may = may.2
 
 turn-in : (l : List Noted) (i j s t c k o : ℕ) (g e : Grounds) → Legal l
     → IsEntry (entries l) i s (Answers c k g) → IsEntry (entries l) j t (Answers c o e) → i < j → i < o

@@ -1,7 +1,6 @@
 -- That nothing was sent for an ask; and which message was.
-use Rattle.std.proofs.Common.{◌≡◌, ℕ, ◌⊎◌, Bool, true, false, cond, eqb, ◌||◌, inl, inr, List, [], ◌∷◌, length, Option, Some, None, refl, sym, ap, subst, ◌∙◌, arith}
+use Rattle.std.proofs.Common.{◌≡◌, ℕ, ◌⊎◌, Bool, true, false, eqb, inl, inr, List, ◌∷◌, length, Option, Some, None, refl, sym, ap, subst, ◌∙◌, arith}
 use Rattle.std.specs.Prelude.{find, option_map, is_none}
-use Rattle.std.specs.List.{list_any}
 use Rattle.std.proofs.lemmas.Bool.Decides.{eqb_tells, leb_tells}
 use Rattle.std.proofs.lemmas.Bool.{false≢true}
 use Rattle.coap_codec.specs.Spelling.{Content}
@@ -18,15 +17,9 @@ use Rattle.history_laws.specs.Exchanges.{begun, end_of, end_here, end_by, End, t
 use Rattle.history_laws.specs.Justified.{MayBeFirst, Follows, Legal}
 use Rattle.history_laws.specs.Laws.{IsFirst}
 use Rattle.history_laws.specs.Worked.{noted}
-use Rattle.history_laws.proofs.Resting.{none-is, none-some, some-is}
-use Rattle.history_laws.proofs.Places.{at-same}
-use Rattle.history_laws.proofs.Facts.{follows-at, eqb-same, eqb-itself}
-use Rattle.history_laws.proofs.Elements.{find-some}
-use Rattle.history_laws.proofs.Sendings.{any-first}
-use Rattle.history_laws.proofs.Replies.{firsts-stand}
-use Rattle.history_laws.proofs.Sent.{asked-for, begun-opening}
+use Rattle.history_laws.proofs.CallerLemmas.{any-first, asked-for, at-same, at-still, before-twice, begun-opening, eqb-itself, eqb-same, find-any, find-some, firsts-stand, follows-at, none-is, none-some, some-is}
 use Rattle.history_claims.specs.Headline.{IsUnsent}
-use Rattle.history_claims.proofs.Entries.{asked-entry, grows, before-twice, at-still}
+use Rattle.history_claims.proofs.Entries.{asked-entry, grows}
 use Rattle.history_claims.proofs.Sending.{first-of, sent-in}
 
 -- Where no first sending is that of the ask's exchange, each is that of another.
@@ -59,15 +52,6 @@ none-for-plain l k c s a legal e t i p m f =
     other q f = cc
 
 -- the latest first sending of an exchange
-pub find-any : {X : Type 0} (p : X → Bool) (xs : List X) → list_any p xs ≡ true → (x : X) × (find p xs ≡ Some x)
-find-any p [] h = absurd (false≢true h)
-find-any {X = X} p (x ∷ xs) h = go (p x) (find-any p xs) h
-  where
-    go : (b : Bool) → (list_any p xs ≡ true → (y : X) × (find p xs ≡ Some y)) → (b || list_any p xs) ≡ true
-        → (y : X) × (cond b (Some x) (find p xs) ≡ Some y)
-    go true ih e = (x, refl)
-    go false ih e = ih e
-
 map-none : {X Y : Type 0} (f : X → Y) (o : Option X) → option_map f o ≡ None → o ≡ None
 map-none f None e = refl
 map-none f (Some x) e = absurd (none-is (f x) e)

@@ -3,6 +3,7 @@ use Rattle.std.proofs.Common.{◌≡◌, ℕ, zero, suc, ◌<◌, ◌≤◌, ◌
 use Rattle.std.specs.List.{slice_get}
 use Rattle.std.proofs.lemmas.Option.{slice_get_within}
 use Rattle.std.proofs.lemmas.Bool.Decides.{eqb_tells}
+use Rattle.std.proofs.lemmas.List.{take-append-le}
 use Rattle.ask_model.specs.Views.{Ask}
 use Rattle.journal_book.specs.Entries.{Grounds, Deed, Asks, Answers}
 use Rattle.history_laws.specs.Readings.{Noted, Note, at}
@@ -12,6 +13,8 @@ use Rattle.history_laws.specs.Laws.{IsAnswer}
 use Rattle.history_laws.specs.Worked.{noted}
 use Rattle.history_laws.proofs.Places.{at-new, at-below, at-old, at-same}
 use Rattle.history_laws.proofs.Facts.{IsAsk-keeps}
+use Rattle.history_laws.proofs.Elements.{got-more}
+use Rattle.history_laws.proofs.Resting.{some-is}
 
 -- an element of a list with one more
 pub push-cases : (xs : List ℕ) (y i k : ℕ) → slice_get (xs ++ y ∷ []) i ≡ Some k → (slice_get xs i ≡ Some k) ⊎ ((i ≡ length xs) × (y ≡ k))
@@ -20,22 +23,9 @@ push-cases [] y (suc i) k e = cc
 push-cases (x ∷ xs) y zero k e = inl e
 push-cases (x ∷ xs) y (suc i) k e = elim (push-cases xs y i k e) [ inl w ↦ inl w | inr w ↦ inr (ap suc w.0, w.1) ]
 
-push-old : (xs : List ℕ) (y i k : ℕ) → slice_get xs i ≡ Some k → slice_get (xs ++ y ∷ []) i ≡ Some k
-push-old [] y i k e = cc
-push-old (x ∷ xs) y zero k e = e
-push-old (x ∷ xs) y (suc i) k e = push-old xs y i k e
-
-take-within : (xs : List ℕ) (y n : ℕ) → n ≤ length xs → take n (xs ++ y ∷ []) ≡ take n xs
-take-within xs y zero h = refl
-take-within [] y (suc n) h = absurd (omega arith)
-take-within (x ∷ xs) y (suc n) h = ap (λ (zs : List ℕ). x ∷ zs) (take-within xs y n (omega arith))
-
 take-one-more : (xs : List ℕ) (n k : ℕ) → slice_get xs n ≡ Some k → take (suc n) xs ≡ take n xs ++ k ∷ []
 take-one-more [] n k e = cc
-take-one-more (x ∷ xs) zero k e = ap (λ (x : ℕ). x ∷ []) (some-same x k e)
-  where
-    some-same : (x y : ℕ) → Some x ≡ Some y → x ≡ y
-    some-same x y g = cc
+take-one-more (x ∷ xs) zero k e = ap (λ (x : ℕ). x ∷ []) (some-is x k e)
 take-one-more (x ∷ xs) (suc n) k e = ap (λ (zs : List ℕ). x ∷ zs) (take-one-more xs n k e)
 
 -- what stands among the asks of a connection is an ask of it
@@ -94,7 +84,7 @@ asks-once (x ∷ older) c i j k g h = asks-step older c x.written.deed i j k (λ
 
 pub asks-keep : (l : List Noted) (c : ℕ) (d : Deed) (i k : ℕ) → slice_get (asks_of l c) i ≡ Some k → slice_get (asks_by c (length l) d (asks_of l c)) i ≡ Some k
 asks-keep l c (Asks e a) i k h =
-    elim (eqb_tells e c) [ inl w ↦ rw (w.0) (push-old (asks_of l c) (length l) i k h) | inr w ↦ rw (w.0) h ]
+    elim (eqb_tells e c) [ inl w ↦ rw (w.0) (got-more (asks_of l c) ((length l) ∷ []) i k h) | inr w ↦ rw (w.0) h ]
 asks-keep l c d i k h = h
 
 more-answers : (l : List Noted) (c : ℕ) (d : Deed) → length (answers_of l c) ≤ length (answers_by c d (answers_of l c))
@@ -124,7 +114,7 @@ IsAnswer-old x l n c k g f =
       | inr w ↦ inr (record { moment = f.moment; note = f.note; stands = w })
     ]
 
-next-ask : (l : List Noted) (t c k : ℕ) (g : Grounds) (note : Note) → Follows l t (Answers c k g) note
+pub next-ask : (l : List Noted) (t c k : ℕ) (g : Grounds) (note : Note) → Follows l t (Answers c k g) note
     → slice_get (asks_of l c) (length (answers_of l c)) ≡ Some k
 next-ask l t c k g note f = f.2
 
@@ -186,7 +176,7 @@ in-order-step : (l : List Noted) (c t : ℕ) (d : Deed) (note : Note) → Follow
     × (length (answers_by c d (answers_of l c)) ≤ length (asks_by c (length l) d (asks_of l c)))
 in-order-step l c t (Asks e a) note may ih le =
     elim (eqb_tells e c) [
-      | inl w ↦ rw (w.0) (ih ∙ sym (take-within (asks_of l c) (length l) _ le), omega (arith, length-append (asks_of l c) (length l ∷ [])))
+      | inl w ↦ rw (w.0) (ih ∙ sym (take-append-le _ (asks_of l c) ((length l) ∷ []) le), omega (arith, length-append (asks_of l c) (length l ∷ [])))
       | inr w ↦ rw (w.0) (ih, le)
     ]
 in-order-step l c t (Answers e k g) note may ih le =

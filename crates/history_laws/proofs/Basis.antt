@@ -18,9 +18,7 @@ use Rattle.history_laws.proofs.Facts.{IsAsk-keeps, IsFirst-keeps}
 use Rattle.history_laws.proofs.Answering.{IsAnswer-old}
 use Rattle.history_laws.proofs.Replies.{IsReplyTo-keeps, replies-fit}
 use Rattle.history_laws.proofs.Sent.{progress-more, asked-for, sent-for}
-
-ending-same : (x y : Ending) → Some x ≡ Some y → x ≡ y
-ending-same x y e = cc
+use Rattle.history_laws.proofs.Resting.{some-is}
 
 -- a whole response is made of replies to its exchange
 whole-of : (b : Bool) (u w : Response) (r x : Reply) (ws : List Reply) → cond b (Whole u (r ∷ [])) NotUnderstood ≡ Whole w ws → Contains ws x → r ≡ x
@@ -37,7 +35,7 @@ whole-of false u w r x ws e h = cc
 progress-whole : (rs : List Reply) (w : Response) (ws : List Reply) (x : Reply) → ended_by (progress rs) ≡ Some (Whole w ws) → Contains ws x → Contains rs x
 progress-whole [] w ws x e h = cc
 progress-whole (r ∷ rs) w ws x e h =
-    let how = ending-same _ _ (sym (ap ended_by (progress-more r rs)) ∙ e) in
+    let how = some-is _ _ (sym (ap ended_by (progress-more r rs)) ∙ e) in
     (zero, omega arith, whole-of (is_whole r.message) (response_of r.message) w r x ws how h)
 
 abbrev IsMade : Option End → ℕ → Response → List Reply → Type 0
@@ -47,10 +45,7 @@ abbrev ending : ℕ → Ending → End
 ending n how = record { number = n; how = how }
 
 end-how : (k how : Ending) (n e : ℕ) → Some (ending n k) ≡ Some (ending e how) → k ≡ how
-end-how k how n e f = ap (λ (x : End). x.how) (end-same _ _ f)
-  where
-    end-same : (x y : End) → Some x ≡ Some y → x ≡ y
-    end-same x y g = cc
+end-how k how n e f = ap (λ (x : End). x.how) (some-is _ _ f)
 
 made-step : (u : Turn) (n e : ℕ) (rs : List Reply) (old : Option End) (w : Response) (ws : List Reply) (x : Reply)
     → (IsMade old e w ws → Contains rs x) → IsMade (end_by (end_here n rs u) n old) e w ws → Contains ws x → Contains (replies_by n u rs) x
@@ -97,7 +92,7 @@ reads-note : (k o : ℕ) (n : Note) → reads_by k n ≡ Some o → k ≡ o
 reads-note k o (Begins q) e = cc
 reads-note k o n e = cc
 
-reads-own : (l : List Noted) (k o : ℕ) → reads l k ≡ Some o → k ≡ o
+pub reads-own : (l : List Noted) (k o : ℕ) → reads l k ≡ Some o → k ≡ o
 reads-own l k o e = go (at l k) e
   where
     go : (x : Option Noted) → reads_in k x ≡ Some o → k ≡ o

@@ -11,6 +11,7 @@ use Rattle.history_laws.specs.Readings.{Noted, Note, Says, Repeats, Garbled, at}
 use Rattle.history_laws.specs.Confirming.{answered, answered_as, answered_again, owed_by, owed}
 use Rattle.history_laws.specs.Worked.{noted}
 use Rattle.history_laws.proofs.Places.{at-new}
+use Rattle.history_laws.proofs.Resting.{some-is}
 
 abbrev Confirms : Option MsgType → Type 0
 Confirms None = ⊤
@@ -44,11 +45,8 @@ again Rst first h = tt
 given-is : (p : Peer) (mid : ℕ) (k : Option MsgType) (c : Confirmation) → Confirms k → given p mid k ≡ Some c → (p ≡ c.peer) × Confirms (Some c.kind)
 given-is p mid None c f e = cc
 given-is p mid (Some k) c f e =
-    let same : record { peer = p; kind = k; mid = mid } ≡ c = some-same _ _ e in
+    let same : record { peer = p; kind = k; mid = mid } ≡ c = some-is _ _ e in
     (ap (λ (v : Confirmation). v.peer) same, subst (λ (v : Confirmation). Confirms (Some v.kind)) same f)
-  where
-    some-same : (x y : Confirmation) → Some x ≡ Some y → x ≡ y
-    some-same x y g = cc
 
 rejects-is : (p : Peer) (b : List ℕ) (c : Confirmation) → rejects_bytes p b ≡ Some c → (p ≡ c.peer) × Confirms (Some c.kind)
 rejects-is p (first ∷ code ∷ high ∷ low ∷ more) c e = go (eqb (first / 16) 4) _ e

@@ -11,7 +11,7 @@ use Rattle.history_laws.specs.Transmissions.{FirstSending, firsts_by, firsts, Tr
 use Rattle.history_laws.specs.Justified.{MayCome, is_early, is_done, AtRest, Legal, MayBeCopy}
 use Rattle.history_laws.specs.Laws.{IsDone, IsInTime}
 use Rattle.history_laws.specs.Worked.{noted}
-use Rattle.history_laws.proofs.Resting.{first, second, none-some}
+use Rattle.history_laws.proofs.Resting.{and-left, and-right, none-some}
 use Rattle.history_laws.proofs.Places.{at-new, at-keeps, at-below, at-old, before-keeps, before-new}
 use Rattle.history_laws.proofs.Facts.{follows-at, legal-before, at-before, length-before}
 use Rattle.history_laws.proofs.Outstanding.{way-cases, Sound, sound}
@@ -19,7 +19,7 @@ use Rattle.history_laws.proofs.Outstanding.{way-cases, Sound, sound}
 -- What passes for all first sendings did so before.
 all-fewer : (f : FirstSending → Bool) (n t : ℕ) (d : Deed) (note : Note) (old : List FirstSending)
     → list_all f (firsts_by n t d note old) ≡ true → list_all f old ≡ true
-all-fewer f n t (Sends p b w) (First o m) old h = second _ _ h
+all-fewer f n t (Sends p b w) (First o m) old h = and-right _ _ h
 all-fewer f n t d note old h = h
 
 -- What is outstanding was sent, so that it passes.
@@ -32,7 +32,7 @@ all-first f (x ∷ older) i y h e =
       | inl v ↦ (
         record { number = length older; moment = x.written.moment; opening = v.opening; peer = v.peer; message = v.message },
         v.here,
-        first _ (list_all f (firsts older)) (subst (λ (z : Noted). list_all f (firsts (z ∷ older)) ≡ true) v.entry h),
+        and-left _ (list_all f (firsts older)) (subst (λ (z : Noted). list_all f (firsts (z ∷ older)) ≡ true) v.entry h),
       )
       | inr (inl v) ↦ all-first f older i v.way fewer v.was
       | inr (inr v) ↦ all-first f older i y fewer v
@@ -157,7 +157,7 @@ tick-for [] i y legal e h = absurd (none-some y e)
 tick-for (x ∷ older) i y legal e h =
     tick-step older x.written.moment x.written.deed x.note i y legal (λ z f g. tick-for older i z legal.0 f g) e h
 
-before-twice : (l : List Noted) (n k : ℕ) (x : Noted) → at l n ≡ Some x → k < n → before (before l n) k ≡ before l k
+pub before-twice : (l : List Noted) (n k : ℕ) (x : Noted) → at l n ≡ Some x → k < n → before (before l n) k ≡ before l k
 before-twice [] n k x e lt = cc
 before-twice (y ∷ older) n k x e lt =
     elim (at-old y older n x e) [
@@ -167,7 +167,7 @@ before-twice (y ∷ older) n k x e lt =
           rw (before-keeps y older n below, before-keeps y older k (omega (arith, below, lt))) (before-twice older n k x w lt)
     ]
 
-at-still : (l : List Noted) (n j : ℕ) (x y : Noted) → at l n ≡ Some x → j < n → at l j ≡ Some y → at (before l n) j ≡ Some y
+pub at-still : (l : List Noted) (n j : ℕ) (x y : Noted) → at l n ≡ Some x → j < n → at l j ≡ Some y → at (before l n) j ≡ Some y
 at-still [] n j x y e lt f = cc
 at-still (z ∷ older) n j x y e lt f =
     let below = at-below (z ∷ older) n x e in

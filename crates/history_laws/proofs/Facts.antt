@@ -9,6 +9,7 @@ use Rattle.history_laws.specs.Readings.{Noted, at, before}
 use Rattle.history_laws.specs.Justified.{IsAsk, Follows, Legal}
 use Rattle.history_laws.specs.Laws.{IsFirst}
 use Rattle.history_laws.proofs.Places.{at-below, at-keeps}
+use Rattle.history_laws.proofs.Resting.{some-is}
 
 pub IsAsk-keeps : (x : Noted) (l : List Noted) (k c : ℕ) (a : Ask) → IsAsk l k c a → IsAsk (x ∷ l) k c a
 IsAsk-keeps x l k c a f = record { moment = f.moment; note = f.note; stands = at-keeps x l k _ f.stands }
@@ -19,16 +20,13 @@ IsFirst-keeps x l t o i p m f = record { bytes = f.bytes; timeout = f.timeout; s
 pub IsFirst-below : (l : List Noted) (t o i : ℕ) (p : Peer) (m : Content) → IsFirst l t o i p m → i < length l
 IsFirst-below l t o i p m f = at-below l i _ f.stands
 
-noted-same : (x y : Noted) → Some x ≡ Some y → x ≡ y
-noted-same x y e = cc
-
 -- each entry might follow those before it
 pub follows-at : (l : List Noted) (n : ℕ) (x : Noted) → Legal l → at l n ≡ Some x → Follows (before l n) x.written.moment x.written.deed x.note
 follows-at [] n x legal e = cc
 follows-at (y ∷ older) n x legal e =
     elim (eqb_tells n (length older)) [
       | inl w ↦
-          let same = noted-same y x (rw (w.0) at e) in
+          let same = some-is y x (rw (w.0) at e) in
           rw (w.0) (subst (λ (v : Noted). Follows older v.written.moment v.written.deed v.note) same legal.2)
       | inr w ↦ rw (w.0) (follows-at older n x legal.0 (rw (w.0) at e))
     ]

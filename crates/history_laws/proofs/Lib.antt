@@ -1,21 +1,22 @@
-pub mod Refusals
-pub mod Resting
-pub mod Spelled
-pub mod Messages
-pub mod Places
-pub mod Sendings
-pub mod Facts
-pub mod Answering
-pub mod Outstanding
-pub mod Copying
-pub mod Elements
-pub mod Openings
-pub mod Turns
-pub mod Replies
-pub mod Sent
-pub mod Basis
-pub mod Confirmed
-pub mod Asked
-pub mod Settled
-pub mod Endings
-pub mod Spoiled
+pub mod CallerLemmas
+mod Refusals
+mod Resting
+mod Spelled
+mod Messages
+mod Places
+mod Sendings
+mod Facts
+mod Answering
+mod Outstanding
+mod Copying
+mod Elements
+mod Openings
+mod Turns
+mod Replies
+mod Sent
+mod Basis
+mod Confirmed
+mod Asked
+mod Settled
+mod Endings
+mod Spoiled

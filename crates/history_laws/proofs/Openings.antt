@@ -12,6 +12,7 @@ use Rattle.history_laws.specs.Justified.{Ends}
 use Rattle.history_laws.proofs.Places.{at-new, at-keeps, at-below, before-keeps, before-new}
 use Rattle.history_laws.proofs.Facts.{eqb-same, eqb-itself}
 use Rattle.history_laws.proofs.Elements.{contains-none, contains-filter, filtered-from}
+use Rattle.history_laws.proofs.Resting.{some-is}
 
 begun-step : (n o t : ℕ) (asked : Option CoapRequest) (old : Option Begun) (os : List ℕ) (b : Bool) → eqb n o ≡ b
     → (is_some old ≡ true → Contains os o) → is_some (begun_by asked b t old) ≡ true → Contains (opened_by n asked os) o
@@ -72,16 +73,13 @@ EndsAt-new x l o how none ends =
     let b = before-new x l in
     (x, at-new x l, rw b none, rw b ends)
 
-end-same : (f g : End) → Some f ≡ Some g → f ≡ g
-end-same f g r = cc
-
 ends-step : (x : Noted) (l : List Noted) (o e : ℕ) (how : Ending) → (Ends l o e how → EndsAt l o e how)
     → (u : Option Ending) → end_here (length l) (replies l o) (turn l o x) ≡ u
     → (old : Option End) → end_of l o ≡ old → end_by u (length l) old ≡ Some (record { number = e; how = how }) → EndsAt (x ∷ l) o e how
 ends-step x l o e how ih None w old v r = EndsAt-keeps x l o e how (ih (v ∙ r))
 ends-step x l o e how ih (Some k) w None v r =
-    let n : length l ≡ e = ap (λ (f : End). f.number) (end-same _ _ r) in
-    let same : k ≡ how = ap (λ (f : End). f.how) (end-same _ _ r) in
+    let n : length l ≡ e = ap (λ (f : End). f.number) (some-is _ _ r) in
+    let same : k ≡ how = ap (λ (f : End). f.how) (some-is _ _ r) in
     subst (λ (e : ℕ). EndsAt (x ∷ l) o e how) n (EndsAt-new x l o how v (rw (← same) w))
 ends-step x l o e how ih (Some k) w (Some f) v r = EndsAt-keeps x l o e how (ih (v ∙ r))
 

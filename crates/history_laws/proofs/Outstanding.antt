@@ -2,7 +2,6 @@
 use Rattle.std.proofs.Common.{◌≡◌, ℕ, ◌<◌, ◌≤◌, ◌⊎◌, Bool, true, false, cond, inl, inr, List, [], ◌∷◌, length, Option, Some, None, is_some, refl, sym, ap, subst, ◌∙◌, arith}
 use Rattle.std.specs.Prelude.{option_map}
 use Rattle.std.proofs.lemmas.Bool.Decides.{eqb_tells}
-use Rattle.std.proofs.lemmas.Bool.{false≢true}
 use Rattle.limits.specs.declared.TheConstants.{MAX_RETRANSMIT}
 use Rattle.coap_codec.specs.Spelling.{Content}
 use Rattle.uri_map.specs.declared.peer.Peer.{Peer}
@@ -17,6 +16,7 @@ use Rattle.history_laws.specs.Worked.{noted}
 use Rattle.history_laws.proofs.Resting.{some-is, none-is, none-some}
 use Rattle.history_laws.proofs.Facts.{IsFirst-below}
 use Rattle.history_laws.proofs.Sendings.{IsFirst-old, may-be}
+use Rattle.history_laws.proofs.Elements.{is-some}
 
 -- how a message came to be outstanding: by its first sending, by a copy, or before
 pub record WayBegun (x : Noted) (l : List Noted) (i : ℕ) (y : Transmission) : Type 0 where
@@ -73,10 +73,6 @@ way-step l t d note i y e = inr (inr e)
 
 pub way-cases : (x : Noted) (l : List Noted) (i : ℕ) (y : Transmission) → transmission (x ∷ l) i ≡ Some y → Way x l i y
 way-cases x l i y e = way-step l x.written.moment x.written.deed x.note i y e
-
-pub is-some : {X : Type 0} (o : Option X) → is_some o ≡ true → (x : X) × (o ≡ Some x)
-is-some None e = absurd (false≢true e)
-is-some (Some x) e = (x, refl)
 
 -- the last that was sent to the peer has this number
 abbrev pub IsLast : List Noted → Peer → ℕ → Type 0

@@ -10,17 +10,17 @@ use Rattle.history_laws.specs.Exchanges.{open_exchanges}
 use Rattle.history_laws.specs.Confirming.{owed}
 use Rattle.history_laws.specs.Justified.{AtRest, MayCome, is_in_hand, is_under_way, is_done, is_in_time}
 
-pub first : (a b : Bool) → (a && b) ≡ true → a ≡ true
-first true b e = refl
-first false b e = absurd (false≢true e)
+pub and-left : (a b : Bool) → (a && b) ≡ true → a ≡ true
+and-left true b e = refl
+and-left false b e = absurd (false≢true e)
 
-pub second : (a b : Bool) → (a && b) ≡ true → b ≡ true
-second true b e = e
-second false b e = absurd (false≢true e)
+pub and-right : (a b : Bool) → (a && b) ≡ true → b ≡ true
+and-right true b e = e
+and-right false b e = absurd (false≢true e)
 
-none : {X : Type 0} (o : Option X) → is_none o ≡ true → o ≡ None
-none None e = refl
-none (Some x) e = absurd (false≢true e)
+pub none-of : {X : Type 0} (o : Option X) → is_none o ≡ true → o ≡ None
+none-of None e = refl
+none-of (Some x) e = absurd (false≢true e)
 
 pub record Each (a b c d e : Bool) : Type 0 where
   pub waits : a ≡ true
@@ -31,15 +31,15 @@ pub record Each (a b c d e : Bool) : Type 0 where
 
 each : (a b c d e : Bool) → (a && (b && (c && (d && e)))) ≡ true → Each a b c d e
 each a b c d e h =
-    let h1 = second a (b && (c && (d && e))) h in
-    let h2 = second b (c && (d && e)) h1 in
-    let h3 = second c (d && e) h2 in
+    let h1 = and-right a (b && (c && (d && e))) h in
+    let h2 = and-right b (c && (d && e)) h1 in
+    let h3 = and-right c (d && e) h2 in
     record {
-      waits = first a _ h;
-      given = first b _ h1;
-      sent = first c _ h2;
-      copied = first d e h3;
-      ended = second d e h3;
+      waits = and-left a _ h;
+      given = and-left b _ h1;
+      sent = and-left c _ h2;
+      copied = and-left d e h3;
+      ended = and-right d e h3;
     }
 
 -- the tests, one for each part
@@ -63,7 +63,7 @@ at-rest l e =
     let h = each (in_hand l) (is_none (owed l)) (under_way l) (all_copied l) (none_late l) e in
     record {
       waits = h.waits;
-      given = λ s. none (owed l) h.given;
+      given = λ s. none-of (owed l) h.given;
       sent = λ s. h.sent;
       copied = λ s. h.copied;
       ended = λ s. h.ended;

@@ -1,9 +1,9 @@
 -- First sendings: tokens and IDs of their own, and one outstanding at each peer.
-use Rattle.std.proofs.Common.{◌≡◌, ℕ, ◌+◌, ◌<◌, ◌≤◌, ◌⊎◌, Bool, true, false, ◌||◌, ◌&&◌, eqb, ltb, inl, inr, List, [], ◌∷◌, length, Option, refl, sym, subst, ◌∙◌, arith}
+use Rattle.std.proofs.Common.{◌≡◌, ℕ, ◌+◌, ◌<◌, ◌≤◌, ◌⊎◌, Bool, true, false, ◌&&◌, eqb, ltb, inl, inr, List, [], ◌∷◌, length, Option, refl, sym, subst, ◌∙◌, arith}
 use Rattle.std.specs.List.{list_any}
 use Rattle.std.specs.Str.{bytes_eq}
 use Rattle.std.proofs.lemmas.Bool.Decides.{eqb_tells}
-use Rattle.std.proofs.lemmas.Bool.{false≢true, ltb-false}
+use Rattle.std.proofs.lemmas.Bool.{false≢true, ltb-false, or_right, or_left}
 use Rattle.std.proofs.lemmas.Slice.Eq.{bytes_eq-Decides}
 use Rattle.limits.specs.declared.TheConstants.{MESSAGE_ID_LIFETIME}
 use Rattle.coap_codec.specs.Spelling.{Content}
@@ -26,18 +26,10 @@ IsFirst-old x l t o i p m f =
       | inr w ↦ inr (record { bytes = f.bytes; timeout = f.timeout; stands = w })
     ]
 
-or-right : (a b : Bool) → b ≡ true → (a || b) ≡ true
-or-right true b e = refl
-or-right false b e = e
-
-or-left : (a b : Bool) → a ≡ true → (a || b) ≡ true
-or-left true b e = refl
-or-left false b e = absurd (false≢true e)
-
 -- What passes a test among the first sendings does so still.
 any-more : (f : FirstSending → Bool) (n t : ℕ) (d : Deed) (note : Note) (old : List FirstSending)
     → list_any f old ≡ true → list_any f (firsts_by n t d note old) ≡ true
-any-more f n t (Sends p b w) (First o m) old h = or-right (f (record { number = n; moment = t; opening = o; peer = p; message = m })) _ h
+any-more f n t (Sends p b w) (First o m) old h = or_right (f (record { number = n; moment = t; opening = o; peer = p; message = m })) _ h
 any-more f n t (Sends p b w) note old h = h
 any-more f n t d note old h = h
 
@@ -48,7 +40,7 @@ any-first f (x ∷ older) t o i p m s e =
     elim (IsFirst-old x older t o i p m s) [
       | inl u ↦
           let e' = subst (λ (i : ℕ). f (record { number = i; moment = t; opening = o; peer = p; message = m }) ≡ true) u.0 e in
-          subst (λ (v : Noted). list_any f (firsts (v ∷ older)) ≡ true) (sym u.1.2) (or-left _ _ e')
+          subst (λ (v : Noted). list_any f (firsts (v ∷ older)) ≡ true) (sym u.1.2) (or_left _ _ e')
       | inr u ↦ any-more f (length older) x.written.moment x.written.deed x.note (firsts older) (any-first f older t o i p m u e)
     ]
 

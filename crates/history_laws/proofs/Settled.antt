@@ -1,10 +1,12 @@
 -- At rest, an open exchange is under way, and an ask that opened none is answered.
-use Rattle.std.proofs.Common.{◌≡◌, ℕ, zero, suc, ◌+◌, ◌<◌, ◌≤◌, ◌⊎◌, Bool, true, false, not, ◌||◌, inl, inr, List, [], ◌∷◌, ◌++◌, length, take, Option, Some, None, is_some, refl, sym, ap, subst, arith, length-append}
+use Rattle.std.proofs.Common.{◌≡◌, ℕ, zero, suc, ◌+◌, ◌<◌, ◌≤◌, ◌⊎◌, Bool, true, false, not, ◌||◌, inl, inr, List, [], ◌∷◌, length, take, Option, Some, None, is_some, refl, sym, ap, subst, arith, length-append}
 use Rattle.std.specs.Option.{option_map_or}
 use Rattle.std.specs.List.{slice_get, list_all, range_with_len, Contains}
 use Rattle.std.proofs.lemmas.Option.{slice_get_within}
 use Rattle.std.proofs.lemmas.Bool.Decides.{eqb_tells}
 use Rattle.std.proofs.lemmas.Bool.{false≢true}
+use Rattle.std.proofs.lemmas.List.Elements.{All-contains}
+use Rattle.std.proofs.lemmas.List.Sums.{AllPass-from_list_all}
 use Rattle.ask_model.specs.Views.{Ask}
 use Rattle.journal_book.specs.Entries.{Grounds, Deed, Opens, Asks, Answers, Shuts}
 use Rattle.history_laws.specs.Readings.{Noted, Note}
@@ -14,29 +16,25 @@ use Rattle.history_laws.specs.Exchanges.{Begun, begun, waits_for, end_of, open_e
 use Rattle.history_laws.specs.Justified.{IsAsk, reads, reads_open, pending, is_in_hand, finds_outstanding, is_under_way, Follows, Legal, AtRest}
 use Rattle.history_laws.specs.Laws.{IsAnswer}
 use Rattle.history_laws.specs.Worked.{noted}
-use Rattle.history_laws.proofs.Resting.{first, second}
+use Rattle.history_laws.proofs.Resting.{and-left, and-right}
 use Rattle.history_laws.proofs.Places.{at-new, at-keeps, at-old}
 use Rattle.history_laws.proofs.Facts.{eqb-itself}
-use Rattle.history_laws.proofs.Elements.{contains-none, first-or-later}
+use Rattle.history_laws.proofs.Elements.{got-last}
 use Rattle.history_laws.proofs.Answering.{push-cases, asks-keep, answered-in-order}
 use Rattle.history_laws.proofs.Openings.{open-exactly}
 
 -- what passes for all passes for each
-each-passes : (g : ℕ → Bool) (xs : List ℕ) (x : ℕ) → list_all g xs ≡ true → Contains xs x → g x ≡ true
-each-passes g [] x e h = absurd (contains-none x h)
-each-passes g (y ∷ ys) x e h =
-    elim (first-or-later y ys x h) [
-      | inl w ↦ subst (λ (z : ℕ). g z ≡ true) w (first (g y) (list_all g ys) e)
-      | inr w ↦ each-passes g ys x (second (g y) (list_all g ys) e) w
-    ]
 
-range-passes : (g : ℕ → Bool) (a n c : ℕ) → list_all g (range_with_len a n) ≡ true → a ≤ c → c < a + n → g c ≡ true
+each-passes : (g : ℕ → Bool) (xs : List ℕ) (x : ℕ) → list_all g xs ≡ true → Contains xs x → g x ≡ true
+each-passes g xs x e h = All-contains (λ (y : ℕ). g y ≡ true) xs x (AllPass-from_list_all g xs e) h
+
+pub range-passes : (g : ℕ → Bool) (a n c : ℕ) → list_all g (range_with_len a n) ≡ true → a ≤ c → c < a + n → g c ≡ true
 range-passes g a zero c e low high = absurd (omega (arith, low, high))
 range-passes g a (suc n) c e low high =
     elim (eqb_tells a c) [
-      | inl w ↦ subst (λ (c : ℕ). g c ≡ true) w.1 (first (g a) (list_all g (range_with_len (a + 1) n)) e)
+      | inl w ↦ subst (λ (c : ℕ). g c ≡ true) w.1 (and-left (g a) (list_all g (range_with_len (a + 1) n)) e)
       | inr w ↦ let other = w.1 in
-          range-passes g (a + 1) n c (second (g a) (list_all g (range_with_len (a + 1) n)) e) (omega (arith, low, other)) (omega (arith, high))
+          range-passes g (a + 1) n c (and-right (g a) (list_all g (range_with_len (a + 1) n)) e) (omega (arith, low, other)) (omega (arith, high))
     ]
 
 -- a connection that is open has a number below how many were opened
@@ -49,16 +47,12 @@ open-step older c t (Shuts e) note ih may h =
     elim (eqb_tells e c) [ inl w ↦ absurd (false≢true (rw (w.0) at h)) | inr w ↦ ih (rw (w.0) at h) ]
 open-step older c t d note ih may h = ih h
 
-open-below : (l : List Noted) → Legal l → (c : ℕ) → is_open l c ≡ true → c < opened l
+pub open-below : (l : List Noted) → Legal l → (c : ℕ) → is_open l c ≡ true → c < opened l
 open-below [] legal c e = absurd (false≢true e)
 open-below (x ∷ older) legal c e =
     open-step older c x.written.moment x.written.deed x.note (open-below older legal.0 c) legal.2 e
 
 -- an ask is among those of its connection
-slice_get-push : {X : Type 0} (xs : List X) (y : X) → slice_get (xs ++ y ∷ []) (length xs) ≡ Some y
-slice_get-push [] y = refl
-slice_get-push (x ∷ xs) y = slice_get-push xs y
-
 ask-listed : (l : List Noted) (k c : ℕ) (a : Ask) → IsAsk l k c a → (i : ℕ) × (slice_get (asks_of l c) i ≡ Some k)
 ask-listed [] k c a h = cc (h.stands)
 ask-listed (x ∷ older) k c a h =
@@ -70,7 +64,7 @@ ask-listed (x ∷ older) k c a h =
     ]
   where
     here : (l : List Noted) (c : ℕ) (a : Ask) → slice_get (asks_by c (length l) (Asks c a) (asks_of l c)) (length (asks_of l c)) ≡ Some (length l)
-    here l c a = rw (eqb-itself c) (slice_get-push (asks_of l c) (length l))
+    here l c a = rw (eqb-itself c) (got-last (asks_of l c) (length l) [])
 
 -- at most one ask of a connection isn't answered
 few-step : (l : List Noted) (c t : ℕ) (d : Deed) (note : Note) → Follows l t d note → length (asks_of l c) ≤ length (answers_of l c) + 1

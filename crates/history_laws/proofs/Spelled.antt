@@ -7,11 +7,11 @@ use Rattle.coap_codec.specs.Spelling.{Content, Spells}
 use Rattle.coap_codec.specs.Reading.{message_at}
 use Rattle.coap_codec.proofs.Bytes.{IsBytes}
 use Rattle.coap_codec.proofs.Takes.{message_takes}
-use Rattle.history_laws.proofs.Resting.{first, second}
+use Rattle.history_laws.proofs.Resting.{and-left, and-right}
 
 are_bytes : (bytes : List ℕ) → list_all (λ (b : ℕ). nat_lt b 256) bytes ≡ true → IsBytes bytes
 are_bytes [] e = tt
-are_bytes (b ∷ bytes) e = (ltb-true _ _ (first _ _ e), are_bytes bytes (second _ _ e))
+are_bytes (b ∷ bytes) e = (ltb-true _ _ (and-left _ _ e), are_bytes bytes (and-right _ _ e))
 
 pub spelled : (bytes : List ℕ) (m : Content) → list_all (λ (b : ℕ). nat_lt b 256) bytes ≡ true → message_at bytes ≡ Ok m → Spells m bytes
 spelled bytes m small e = message_takes bytes m (are_bytes bytes small) e

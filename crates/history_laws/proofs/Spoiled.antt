@@ -12,7 +12,7 @@ use Rattle.history_laws.specs.Worked.{Refused, noted}
 use Rattle.history_laws.specs.WorkedEndings.{copied_out}
 use Rattle.history_laws.specs.WorkedMessages.{answered}
 use Rattle.history_laws.specs.WorkedSpoiled.{sent_six_times, timed_out_early, renumbered, overtaken, used_again, heard_as_new, rejected_late, crossed, sealed_early}
-use Rattle.history_laws.proofs.Resting.{none-is, none-some}
+use Rattle.history_laws.proofs.Resting.{none-is, none-some, some-is}
 
 pub sent_six_times-refused : Refused sent_six_times
 sent_six_times-refused h = none-some _ h.2.1.2.is_outstanding
@@ -21,12 +21,9 @@ sent_six_times-refused h = none-some _ h.2.1.2.is_outstanding
 not-ended : (l : List Noted) (o e : ℕ) (how : Ending) → end_of l o ≡ None → Ends l o e how → ⊥
 not-ended l o e how going h = none-some _ (sym going ∙ h)
 
-same-number : (i j : ℕ) → Some i ≡ Some j → i ≡ j
-same-number i j e = cc
-
 pub timed_out_early-refused : Refused timed_out_early
 timed_out_early-refused h =
-    let o = same-number 1 h.2.3.0 h.2.3.1 in
+    let o = some-is 1 h.2.3.0 h.2.3.1 in
     elim (h.2.3.3) [
       | inl w ↦ not-ended (noted 61999 Passes Plain ∷ copied_out) h.2.3.0 w.0 _ (subst (λ (o : ℕ). end_of (noted 61999 Passes Plain ∷ copied_out) o ≡ None) o refl) w.1
       | inr w ↦ false≢true w.0
@@ -65,7 +62,7 @@ rejected_late-refused h = none-is _ (says-to _ _ _ _ _ h.2.3.says)
 
 pub crossed-refused : Refused crossed
 crossed-refused h =
-    let o = same-number 4 h.2.3.0 h.2.3.4 in
+    let o = some-is 4 h.2.3.0 h.2.3.4 in
     not-ended answered h.2.3.0 h.2.3.1 _ (subst (λ (o : ℕ). end_of answered o ≡ None) o refl) h.2.3.5
 
 pub sealed_early-refused : Refused sealed_early

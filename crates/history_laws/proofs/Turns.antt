@@ -13,6 +13,7 @@ use Rattle.history_laws.specs.Laws.{IsFirst}
 use Rattle.history_laws.specs.Worked.{noted}
 use Rattle.history_laws.proofs.Places.{at-new}
 use Rattle.history_laws.proofs.Facts.{IsFirst-keeps}
+use Rattle.history_laws.proofs.Resting.{some-is}
 
 abbrev pub NotRst : MsgType → Type 0
 NotRst Rst = ⊥
@@ -57,7 +58,7 @@ nothing-sends j e = cc
 nothing-replies : (j : ℕ) (n : Content) → Nothing ≡ Replied j n → ⊥
 nothing-replies j n e = cc
 
-heard-sends : (i : ℕ) (m : Content) (waits : Option ℕ) (j : ℕ) → heard_turn i m waits ≡ Sent j → ⊥
+pub heard-sends : (i : ℕ) (m : Content) (waits : Option ℕ) (j : ℕ) → heard_turn i m waits ≡ Sent j → ⊥
 heard-sends i m None j e = cc
 heard-sends i m (Some w) j e =
     elim (eqb_tells w i) [
@@ -162,12 +163,9 @@ waits-new x l o i h =
     subst (WaitsIn (x ∷ l) o) h.here
     (x.written.moment, h.peer, h.message, record { bytes = h.bytes; timeout = h.timeout; stands = at-new x l ∙ ap (λ (v : Noted). Some v) h.entry })
 
-number-same : (i j : ℕ) → Some i ≡ Some j → i ≡ j
-number-same i j e = cc
-
 waits-step : (x : Noted) (l : List Noted) (o i : ℕ) → (waits_for l o ≡ Some i → WaitsIn l o i)
     → (u : Turn) → turn l o x ≡ u → waits_by u (waits_for l o) ≡ Some i → WaitsIn (x ∷ l) o i
-waits-step x l o i ih (Sent j) w e = subst (WaitsIn (x ∷ l) o) (number-same j i e) (waits-new x l o j (turn-sent l o x j w))
+waits-step x l o i ih (Sent j) w e = subst (WaitsIn (x ∷ l) o) (some-is j i e) (waits-new x l o j (turn-sent l o x j w))
 waits-step x l o i ih Nothing w e = WaitsIn-keeps x l o i (ih e)
 waits-step x l o i ih (Replied j m) w e = cc
 waits-step x l o i ih Rejected w e = cc

@@ -1,10 +1,10 @@
 -- How a link and the history judge an ACK and a RST.
 use Rattle.std.proofs.Common.{◌≡◌, ℕ, Bool, true, false, cond, eqb, leb, List, [], ◌∷◌, ◌++◌, Option, Some, None, inl, inr, refl, sym, ap, subst, ◌∙◌}
-use Rattle.std.specs.Prelude.{◌&&◌, ◌||◌, is_some}
+use Rattle.std.specs.Prelude.{◌&&◌, is_some}
 use Rattle.std.specs.List.{find, list_any}
 use Rattle.std.specs.Str.{bytes_eq}
 use Rattle.std.proofs.lemmas.List.Folds.{list_any-append}
-use Rattle.std.proofs.lemmas.Bool.{false≢true}
+use Rattle.std.proofs.lemmas.Bool.{false≢true, or_right}
 use Rattle.std.proofs.lemmas.Bool.Decides.{eqb_tells}
 use Rattle.std.proofs.lemmas.Slice.Eq.{bytes_eq-Decides}
 use Rattle.coap_codec.specs.declared.message.MsgType.TheVariants.{Ack, Rst}
@@ -25,11 +25,10 @@ use Rattle.history_laws.specs.Hearing.{is_such, went_under, is_under, is_as, ope
 use Rattle.history_laws.specs.Justified.{Legal}
 use Rattle.history_links.specs.Agrees.{reply_of, IsOut, TurnIn, Agrees}
 use Rattle.history_links.specs.Steps.{ended_token}
-use Rattle.history_laws.proofs.Resting.{first as and-left}
+use Rattle.history_laws.proofs.CallerLemmas.{and-left, any-find, eqb-itself, find-some, some-is}
 use Rattle.history_links.proofs.Replying.{is_to, ends_by, ends_what}
-use Rattle.history_links.proofs.Tokens.{find-passes}
-use Rattle.history_laws.proofs.Facts.{eqb-itself}
-use Rattle.history_links.proofs.Judging.{is_ended, Judged, any-find, among, one-under, out-under, out-as, out-open, ends-under, quiet, empty-code}
+use Rattle.history_links.proofs.Judging.{is_ended, Judged, among, one-under, out-under, out-as, out-open, ends-under, quiet, empty-code}
+use Rattle.history_links.proofs.Facts.{and-turn}
 
 -- the one that is looked for by its ID
 as-open : (l : List Noted) (p : Peer) (m : Content) (o : Outstanding) (b : IsOut l p o) → is_to (find (is_as l p m) (open_at l p)) b.first.number ≡ eqb o.mid m.mid
@@ -49,10 +48,10 @@ one-found q xs k there one = by (q k) refl (find q xs) refl
   where
     by : (b : Bool) → q k ≡ b → (v : Option ℕ) → find q xs ≡ v → is_to v k ≡ b
     by true e None f = absurd (false≢true (sym (any-find q xs ∙ ap (λ (v : Option ℕ). is_some v) f) ∙ among q k xs there e))
-    by true e (Some i) f = let same = one i (find-passes q xs i f) e in elim (eqb_tells i k) [ inl w ↦ w.0 | inr w ↦ absurd (w.1 same) ]
+    by true e (Some i) f = let same = one i ((find-some q xs i f).1) e in elim (eqb_tells i k) [ inl w ↦ w.0 | inr w ↦ absurd (w.1 same) ]
     by false e None f = refl
     by false e (Some i) f = elim (eqb_tells i k) [
-      | inl w ↦ absurd (false≢true (sym e ∙ subst (λ (j : ℕ). q j ≡ true) w.1 (find-passes q xs i f)))
+      | inl w ↦ absurd (false≢true (sym e ∙ subst (λ (j : ℕ). q j ≡ true) w.1 ((find-some q xs i f).1)))
       | inr w ↦ w.0
     ]
 
@@ -85,18 +84,8 @@ ack-judged l p s m legal a kind =
     as-out o b None e = cc
     as-out o b (Some w) e = ap (is_outstanding_as m.mid) e ∙ sym (as-open l p m o b)
 
-    and-turn : (x y : Bool) → (x && y) ≡ (y && x)
-    and-turn true true = refl
-    and-turn true false = refl
-    and-turn false true = refl
-    and-turn false false = refl
-
-    or-true : (x : Bool) → (x || (true || false)) ≡ true
-    or-true true = refl
-    or-true false = refl
-
     there : (o : Outstanding) (b : IsOut l p o) → list_any (eqb b.first.number) (awaited l ++ open_at l p) ≡ true
-    there o b = rw (out-open l p o b) (list_any-append (eqb b.first.number) (awaited l) (b.first.number ∷ []) ∙ rw (eqb-itself b.first.number) (or-true (list_any (eqb b.first.number) (awaited l))))
+    there o b = rw (out-open l p o b) (list_any-append (eqb b.first.number) (awaited l) (b.first.number ∷ []) ∙ rw (eqb-itself b.first.number) (or_right (list_any (eqb b.first.number) (awaited l)) true refl))
 
     under-of : (i : ℕ) → passes l p m i ≡ true → went_under p m.token (first_at l i) ≡ true
     under-of i e = and-left (is_under l p m i) (is_as l p m i) e
@@ -114,10 +103,10 @@ ack-judged l p s m legal a kind =
         → (i : ℕ) (token : List ℕ) → list_any (eqb i) (awaited l) ≡ true → went_under p token (first_at l i) ≡ true
         → ends_what v m i ≡ is_ended (ended_token (cond c Response Quiet) m.token) token
     judged true e None f r i token h k = absurd (false≢true (sym (any-find (passes l p m) (awaited l ++ open_at l p) ∙ ap (λ (v : Option ℕ). is_some v) f) ∙ (list_any-append (passes l p m) (awaited l) (open_at l p) ∙ rw (e) refl)))
-    judged true e (Some j) f r i token h k = ends-under l p m j m.token legal (ends-if ∙ r) (under-of j (find-passes (passes l p m) (awaited l ++ open_at l p) j f)) i token k
+    judged true e (Some j) f r i token h k = ends-under l p m j m.token legal (ends-if ∙ r) (under-of j ((find-some (passes l p m) (awaited l ++ open_at l p) j f).1)) i token k
     judged false e None f r i token h k = refl
     judged false e (Some j) f r i token h k = elim (eqb_tells j i) [
-      | inl w ↦ absurd (false≢true (sym e ∙ among (passes l p m) i (awaited l) h (subst (λ (n : ℕ). passes l p m n ≡ true) w.1 (find-passes (passes l p m) (awaited l ++ open_at l p) j f))))
+      | inl w ↦ absurd (false≢true (sym e ∙ among (passes l p m) i (awaited l) h (subst (λ (n : ℕ). passes l p m n ≡ true) w.1 ((find-some (passes l p m) (awaited l ++ open_at l p) j f).1))))
       | inr w ↦ rw (w.0) refl
     ]
 
@@ -177,12 +166,6 @@ rst-judged l p s m legal a kind =
     none-open : outstanding l p ≡ None → open_at l p ≡ []
     none-open e = rw (e) refl
 
-    some-none : (o : Outstanding) → None ≡ Some o → ⊥
-    some-none o e = cc
-
-    same-out : (w o : Outstanding) → Some w ≡ Some o → w ≡ o
-    same-out w o e = cc
-
     nothing : Judged l p s m None ignored
     nothing = record {
       ends = λ o b h. refl;
@@ -194,7 +177,7 @@ rst-judged l p s m legal a kind =
     matched : (o : Outstanding) (b : IsOut l p o) → s.outstanding ≡ Some o → (v : Bool) → eqb o.mid m.mid ≡ v
         → Judged l p s m (cond v (Some b.first.number) None) (cond v (record { reply = R.Nothing; remembered = false; ends = true; news = Reset o.token }) ignored)
     matched o b is true e = record {
-      ends = λ x c h. sym (ap (λ (f : FirstSending). eqb b.first.number f.number) (same-first c (same-out o x (sym is ∙ h))) ∙ eqb-itself b.first.number);
+      ends = λ x c h. sym (ap (λ (f : FirstSending). eqb b.first.number f.number) (same-first c (some-is o x (sym is ∙ h))) ∙ eqb-itself b.first.number);
       awaits = λ i token h k. ends-under l p m b.first.number o.token legal ends-always (out-under l p o b o.token ∙ itself o.token) i token k;
       reply = silent true (is_rejected m) (eqb m.code 0);
       remembered = forgotten;
@@ -204,10 +187,7 @@ rst-judged l p s m legal a kind =
         itself t = (bytes_eq-Decides t t).1 refl
 
         same-first : {x : Outstanding} (c : IsOut l p x) → o ≡ x → c.first ≡ b.first
-        same-first c e = some-same c.first b.first (sym c.is ∙ b.is)
-          where
-            some-same : (f g : FirstSending) → Some f ≡ Some g → f ≡ g
-            some-same f g e = cc
+        same-first c e = some-is c.first b.first (sym c.is ∙ b.is)
     matched o b is false e = nothing
 
     by : (e : Bool) (v : Option Outstanding) → s.outstanding ≡ v → TurnIn l p v

@@ -10,11 +10,10 @@ use Rattle.history_laws.specs.Readings.{Noted, Note, Copies, newest, ticked}
 use Rattle.history_laws.specs.Transmissions.{FirstSending, Transmission, transmission, copied_way, if_outstanding, firsts, last_sent}
 use Rattle.history_laws.specs.Justified.{MayBeCopy}
 use Rattle.history_laws.specs.Worked.{noted}
-use Rattle.history_laws.proofs.Places.{at-keeps}
+use Rattle.history_laws.proofs.CallerLemmas.{at-keeps, eqb-itself, find-some}
 use Rattle.history_links.specs.Agrees.{way_of, IsOut, TurnIn}
 use Rattle.history_links.specs.Steps.{copy, CopyFollows}
-use Rattle.history_laws.proofs.Facts.{eqb-itself}
-use Rattle.history_links.proofs.Tokens.{find-passes, found-first}
+use Rattle.history_links.proofs.Tokens.{found-first}
 use Rattle.history_links.proofs.Still.{Still, still-by, SameHeard, rest-still, heard-at}
 
 pub still-copy : (l : List Noted) (t : ℕ) (p : Peer) (b : List ℕ) (i : ℕ) → newest l ≤ t → Still l (noted t (Sends p b None) (Copies i) ∷ l)
@@ -86,7 +85,7 @@ copy-follows l t p s o b q is few due =
       i,
       out.first,
       found-first l (λ (f : FirstSending). same_peer f.peer p) out.first last,
-      find-passes (λ (f : FirstSending). same_peer f.peer p) (firsts l) out.first last,
+      (find-some (λ (f : FirstSending). same_peer f.peer p) (firsts l) out.first last).1,
       record {
         follows = (q.unsealed, (q.quiet, refl, may-copy l p o out few due));
         agrees = rest-still l (copy t p o i ∷ l) p s (with_copy t s o) (still-copy l t p o.datagram i b.later) (unheard-sent l t p p o.datagram None (Copies i) b.later) b.agrees

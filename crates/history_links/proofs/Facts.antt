@@ -1,48 +1,21 @@
 -- Facts of histories: openings rise, what is awaited was sent, and what goes on has no reply.
 use Rattle.std.proofs.Common.{◌≡◌, ℕ, ◌<◌, ◌≤◌, ◌+◌, ◌⊎◌, inl, inr, Bool, true, false, cond, eqb, leb, List, [], ◌∷◌, ◌++◌, length, Option, Some, None, refl, sym, subst, ◌∙◌, arith}
-use Rattle.std.specs.Prelude.{filter, is_none, ◌&&◌}
+use Rattle.std.specs.Prelude.{filter, ◌&&◌}
 use Rattle.std.specs.List.{AllByRecursion, list_all}
-use Rattle.std.proofs.lemmas.Bool.{false≢true, le-leb}
-use Rattle.coap_codec.specs.Spelling.{Content}
-use Rattle.coap_codec.specs.declared.message.MsgType.{MsgType}
-use Rattle.coap_codec.specs.declared.message.MsgType.TheVariants.{Con, Non, Ack, Rst}
+use Rattle.std.proofs.lemmas.Bool.{le-leb, and_from}
 use Rattle.uri_map.specs.declared.peer.Peer.{Peer}
 use Rattle.ask_model.specs.Requests.{CoapRequest}
 use Rattle.journal_book.specs.Entries.{Deed, Sends, Hears, Passes}
 use Rattle.history_laws.specs.Readings.{Noted, Note, First, Says}
-use Rattle.history_laws.proofs.Resting.{first as and-left, second as and-right}
+use Rattle.history_laws.proofs.CallerLemmas.{all-filter, all-more, all-passes, all-push, and-left, and-right, heard-sends, none-of}
 use Rattle.history_laws.specs.Progress.{Ending, Reply, progress, ended_by, replied}
-use Rattle.history_laws.specs.Exchanges.{opened_by, opens_by, openings, Turn, Nothing, Sent, Replied, Rejected, Expired, answered_by, heard_turn, expires, turn_by, turn, waits_by, waits_for, replies_by, replies, End, end_here, end_by, end_of, is_going, is_waiting, waiting, submitted, is_first_waiting, goes_to, begun}
+use Rattle.history_laws.specs.Exchanges.{opened_by, opens_by, openings, Turn, Nothing, Sent, Replied, Rejected, Expired, expires, turn_by, turn, waits_by, waits_for, replies_by, replies, End, end_here, end_by, end_of, is_going, is_waiting, waiting, submitted, is_first_waiting, goes_to, begun}
 
 -- lists of numbers that rise
 
 abbrev pub Rising : List ℕ → Type 0
 Rising [] = Unit {0}
 Rising (n ∷ ns) = AllByRecursion (λ (m : ℕ). n < m) ns × Rising ns
-
-pub all-more : {X : Type 0} (P Q : X → Type 0) → ((x : X) → P x → Q x) → (xs : List X) → AllByRecursion P xs → AllByRecursion Q xs
-all-more P Q more [] a = a
-all-more P Q more (x ∷ xs) a = (more x a.0, all-more P Q more xs a.1)
-
-pub all-push : {X : Type 0} (P : X → Type 0) (xs : List X) (x : X) → AllByRecursion P xs → P x → AllByRecursion P (xs ++ x ∷ [])
-all-push P [] x a h = (h, tt)
-all-push P (y ∷ xs) x a h = (a.0, all-push P xs x a.1 h)
-
-pub all-filter : {X : Type 0} (P : X → Type 0) (q : X → Bool) (xs : List X) → AllByRecursion P xs → AllByRecursion P (filter q xs)
-all-filter P q [] a = a
-all-filter P q (x ∷ xs) a = by (q x) (all-filter P q xs a.1)
-  where
-    by : (b : Bool) → AllByRecursion P (filter q xs) → AllByRecursion P (cond b (x ∷ filter q xs) (filter q xs))
-    by true h = (a.0, h)
-    by false h = h
-
-pub all-passes : {X : Type 0} (q : X → Bool) (xs : List X) → AllByRecursion (λ (x : X). q x ≡ true) (filter q xs)
-all-passes {X = X} q [] = tt
-all-passes {X = X} q (x ∷ xs) = by (q x) refl (all-passes q xs)
-  where
-    by : (b : Bool) → q x ≡ b → AllByRecursion (λ (y : X). q y ≡ true) (filter q xs) → AllByRecursion (λ (y : X). q y ≡ true) (cond b (x ∷ filter q xs) (filter q xs))
-    by true e h = (e, h)
-    by false e h = h
 
 pub rising-push : (ns : List ℕ) (n : ℕ) → Rising ns → AllByRecursion (λ (m : ℕ). m < n) ns → Rising (ns ++ n ∷ [])
 rising-push [] n r a = (tt, tt)
@@ -78,39 +51,13 @@ openings-rising (x ∷ older) = opened-rising (length older) (opens_by x.note) (
 
 -- What is awaited was sent.
 
-kind-unsent : (i : ℕ) (m : Content) (k : MsgType) (j : ℕ) → answered_by i m k ≡ Sent j → ⊥
-kind-unsent i m Rst j e = cc
-kind-unsent i m Con j e = by (leb 32 m.code) e
-  where
-    by : (b : Bool) → cond b (Replied i m) Nothing ≡ Sent j → ⊥
-    by true e = cc
-    by false e = cc
-kind-unsent i m Non j e = by (leb 32 m.code) e
-  where
-    by : (b : Bool) → cond b (Replied i m) Nothing ≡ Sent j → ⊥
-    by true e = cc
-    by false e = cc
-kind-unsent i m Ack j e = by (leb 32 m.code) e
-  where
-    by : (b : Bool) → cond b (Replied i m) Nothing ≡ Sent j → ⊥
-    by true e = cc
-    by false e = cc
-
-heard-unsent : (i : ℕ) (m : Content) (w : Option ℕ) (j : ℕ) → heard_turn i m w ≡ Sent j → ⊥
-heard-unsent i m None j e = cc
-heard-unsent i m (Some k) j e = by (eqb k i) e
-  where
-    by : (b : Bool) → cond b (answered_by i m m.kind) Nothing ≡ Sent j → ⊥
-    by true e = kind-unsent i m m.kind j e
-    by false e = cc
-
 sent-here : (l : List Noted) (o t : ℕ) (d : Deed) (note : Note) (w : Option ℕ) (j : ℕ) → turn_by l o t d note w ≡ Sent j → j ≡ length l
 sent-here l o t (Sends p b u) (First q m) w j e = by (eqb q o) e
   where
     by : (c : Bool) → cond c (Sent (length l)) Nothing ≡ Sent j → j ≡ length l
     by true e = cc
     by false e = cc
-sent-here l o t (Hears p b) (Says m (Some i) notice) w j e = absurd (heard-unsent i m w j e)
+sent-here l o t (Hears p b) (Says m (Some i) notice) w j e = absurd (heard-sends i m w j e)
 sent-here l o t Passes note w j e = by (expires l o t w) e
   where
     by : (c : Bool) → cond c Expired Nothing ≡ Sent j → j ≡ length l
@@ -135,7 +82,7 @@ waits-below (x ∷ older) o i e =
 
 -- What goes on has no reply: the first one ends it.
 
-none-by : (how : Option Ending) (n : ℕ) (old : Option End) → end_by how n old ≡ None → (how ≡ None) × (old ≡ None)
+pub none-by : (how : Option Ending) (n : ℕ) (old : Option End) → end_by how n old ≡ None → (how ≡ None) × (old ≡ None)
 none-by None n old e = (refl, e)
 none-by (Some how) n (Some old) e = cc
 none-by (Some how) n None e = cc
@@ -159,18 +106,17 @@ unreplied (x ∷ older) o e =
 
 -- who waits
 
-and-both : {a b : Bool} → a ≡ true → b ≡ true → (a && b) ≡ true
-and-both d e = rw (d, e) refl
-
-is-none : {X : Type 0} (o : Option X) → is_none o ≡ true → o ≡ None
-is-none None e = refl
-is-none (Some x) e = absurd (false≢true e)
+pub and-turn : (a b : Bool) → (a && b) ≡ (b && a)
+and-turn true true = refl
+and-turn true false = refl
+and-turn false true = refl
+and-turn false false = refl
 
 pub waiting-goes : (l : List Noted) (p : Peer) (o : ℕ) → is_waiting l p o ≡ true → end_of l o ≡ None
-waiting-goes l p o e = is-none (end_of l o) (and-left (is_going l o) _ (and-right (goes_to p (begun l o)) _ e))
+waiting-goes l p o e = none-of (end_of l o) (and-left (is_going l o) _ (and-right (goes_to p (begun l o)) _ e))
 
 pub waiting-unsent : (l : List Noted) (p : Peer) (o : ℕ) → is_waiting l p o ≡ true → waits_for l o ≡ None
-waiting-unsent l p o e = is-none (waits_for l o) (and-right (is_going l o) _ (and-right (goes_to p (begun l o)) _ e))
+waiting-unsent l p o e = none-of (waits_for l o) (and-right (is_going l o) _ (and-right (goes_to p (begun l o)) _ e))
 
 pub submitted-opening : (l : List Noted) (p : Peer) (o : ℕ) → is_waiting l p o ≡ true → submitted l o ≡ o
 submitted-opening l p o e = rw (unreplied l o (waiting-goes l p o e)) refl
@@ -178,7 +124,7 @@ submitted-opening l p o e = rw (unreplied l o (waiting-goes l p o e)) refl
 no-earlier : (l : List Noted) (p : Peer) (o : ℕ) (os : List ℕ) → is_waiting l p o ≡ true → AllByRecursion (λ (q : ℕ). is_waiting l p q ≡ true) os
     → AllByRecursion (λ (q : ℕ). o ≤ q) os → list_all (λ (q : ℕ). leb (submitted l o) (submitted l q)) os ≡ true
 no-earlier l p o [] w ws a = refl
-no-earlier l p o (q ∷ os) w ws a = and-both (here (submitted-opening l p o w) (submitted-opening l p q ws.0)) (no-earlier l p o os w ws.1 a.1)
+no-earlier l p o (q ∷ os) w ws a = and_from _ _ (here (submitted-opening l p o w) (submitted-opening l p q ws.0)) (no-earlier l p o os w ws.1 a.1)
   where
     here : submitted l o ≡ o → submitted l q ≡ q → leb (submitted l o) (submitted l q) ≡ true
     here d e = rw (d, e) (le-leb o q a.0)

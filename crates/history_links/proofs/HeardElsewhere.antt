@@ -3,6 +3,7 @@ use Rattle.std.proofs.Common.{◌≡◌, ℕ, Bool, true, false, eqb, inl, inr, 
 use Rattle.std.specs.Prelude.{◌&&◌}
 use Rattle.std.proofs.lemmas.Bool.{false≢true}
 use Rattle.std.proofs.lemmas.Bool.Decides.{eqb_tells}
+use Rattle.std.proofs.lemmas.List.Elements.{filter_agree}
 use Rattle.coap_codec.specs.Spelling.{Content}
 use Rattle.uri_map.specs.declared.peer.Peer.{Peer}
 use Rattle.ask_model.specs.Requests.{same_peer}
@@ -11,11 +12,10 @@ use Rattle.history_laws.specs.Readings.{Noted, Says, Unobserved}
 use Rattle.history_laws.specs.Transmissions.{FirstSending, first_at, last_sent}
 use Rattle.history_laws.specs.Exchanges.{openings, waits_for, awaited, is_waiting, waiting}
 use Rattle.history_laws.specs.Hearing.{is_such, is_live, went_under, went_as}
-use Rattle.history_laws.proofs.Places.{at-keeps}
+use Rattle.history_laws.proofs.CallerLemmas.{and-left, at-keeps}
 use Rattle.history_links.specs.Agrees.{WaitIn}
 use Rattle.history_links.specs.Steps.{SaysElsewhere}
-use Rattle.history_laws.proofs.Resting.{first as and-left}
-use Rattle.history_links.proofs.Still.{filter-same, heard-at, heard-still}
+use Rattle.history_links.proofs.Still.{heard-at, heard-still}
 use Rattle.history_links.proofs.Replying.{says, is_to, ends_by, ends_what, way-after, waits-after, waiting-after, awaited-after}
 use Rattle.history_links.proofs.Judging.{token-found}
 use Rattle.history_links.proofs.Saying.{asked-once, waits-on}
@@ -65,7 +65,7 @@ says-elsewhere l t p r s d m to b e other =
       last = a.last;
       count_up = a.count_up;
       given = λ u after. a.given u (let later = b.later in omega (arith, later, after));
-      waits = subst (λ (w : List ℕ). WaitIn n w s.waiting) (sym (filter-same (is_waiting n p) (is_waiting l p) (waiting-after l t r p d m to) (openings l)))
+      waits = subst (λ (w : List ℕ). WaitIn n w s.waiting) (sym (filter_agree (is_waiting n p) (is_waiting l p) (waiting-after l t r p d m to) (openings l)))
           (waits-on l t r d m to (waiting l p) s.waiting a.waits);
       awaits = λ token.
           a.awaits token

@@ -1,11 +1,12 @@
 -- A link and the history judge a new message alike.
-use Rattle.std.proofs.Common.{◌≡◌, ℕ, Bool, true, false, cond, eqb, leb, List, [], ◌∷◌, Option, Some, None, inl, inr, refl, sym, subst, ◌∙◌}
-use Rattle.std.specs.Prelude.{◌&&◌, ◌||◌, is_some}
-use Rattle.std.specs.List.{find, list_any}
+use Rattle.std.proofs.Common.{◌≡◌, ℕ, Bool, true, false, eqb, leb, List, [], ◌∷◌, Option, Some, None, inl, inr, refl, sym, subst, ◌∙◌}
+use Rattle.std.specs.Prelude.{◌&&◌, is_some}
+use Rattle.std.specs.List.{list_any}
 use Rattle.std.specs.Str.{bytes_eq}
-use Rattle.std.proofs.lemmas.Bool.{false≢true}
+use Rattle.std.proofs.lemmas.Bool.{false≢true, and_right, eqb-true}
 use Rattle.std.proofs.lemmas.Bool.Decides.{eqb_tells}
 use Rattle.std.proofs.lemmas.Slice.Eq.{bytes_eq-Decides}
+use Rattle.std.proofs.lemmas.Map.Views.{Contains-from_any}
 use Rattle.coap_codec.specs.Spelling.{Content}
 use Rattle.coap_codec.specs.Recognition.{is_rejected}
 use Rattle.uri_map.specs.declared.peer.Peer.{Peer}
@@ -21,10 +22,10 @@ use Rattle.history_laws.specs.Hearing.{is_such, went_under, went_as, open_at}
 use Rattle.history_laws.specs.Justified.{Legal}
 use Rattle.history_links.specs.Agrees.{reply_of, IsOut}
 use Rattle.history_links.specs.Steps.{ended_token}
-use Rattle.history_laws.proofs.Resting.{first as and-left, second as and-right}
+use Rattle.history_laws.proofs.CallerLemmas.{and-left, and-right, any-of, find-some}
 use Rattle.history_links.proofs.Copying.{is-last}
 use Rattle.history_links.proofs.Replying.{is_to, ends_by, ends_what}
-use Rattle.history_links.proofs.Tokens.{find-passes, one-token, found-first}
+use Rattle.history_links.proofs.Tokens.{one-token, found-first}
 
 abbrev pub is_ended : Option (List ℕ) → List ℕ → Bool
 is_ended None token = false
@@ -41,25 +42,9 @@ pub record Judged (l : List Noted) (p : Peer) (s : LinkState) (m : Content) (to 
 
 -- lists
 
-pub any-find : {X : Type 0} (q : X → Bool) (xs : List X) → list_any q xs ≡ is_some (find q xs)
-any-find q [] = refl
-any-find {X = X} q (x ∷ xs) = by (q x) (any-find q xs)
-  where
-    by : (b : Bool) → list_any q xs ≡ is_some (find q xs) → (b || list_any q xs) ≡ is_some (cond b (Some x) (find q xs))
-    by true h = refl
-    by false h = h
-
 -- what is in a list and passes makes the test true of the list
 pub among : (q : ℕ → Bool) (i : ℕ) (xs : List ℕ) → list_any (eqb i) xs ≡ true → q i ≡ true → list_any q xs ≡ true
-among q i [] e f = absurd (false≢true e)
-among q i (x ∷ xs) e f = elim (eqb_tells i x) [
-  | inl w ↦ rw (subst (λ (k : ℕ). q k ≡ true) w.1 f) refl
-  | inr w ↦ or-right (q x) (list_any q xs) (among q i xs (subst (λ (b : Bool). (b || list_any (eqb i) xs) ≡ true) w.0 e) f)
-]
-  where
-    or-right : (a b : Bool) → b ≡ true → (a || b) ≡ true
-    or-right true b e = refl
-    or-right false b e = e
+among q i xs e f = any-of q xs i (Contains-from_any eqb-true i xs e) f
 
 -- tokens
 
@@ -79,7 +64,7 @@ pub out-first : (l : List Noted) (p : Peer) (o : Outstanding) (a : IsOut l p o) 
 out-first l p o a = found-first l (λ (f : FirstSending). same_peer f.peer p) a.first (is-last l p (last_sent l p) a.first a.is)
 
 pub out-peer : (l : List Noted) (p : Peer) (o : Outstanding) (a : IsOut l p o) → same_peer a.first.peer p ≡ true
-out-peer l p o a = find-passes (λ (f : FirstSending). same_peer f.peer p) (firsts l) a.first (is-last l p (last_sent l p) a.first a.is)
+out-peer l p o a = (find-some (λ (f : FirstSending). same_peer f.peer p) (firsts l) a.first (is-last l p (last_sent l p) a.first a.is)).1
 
 pub out-under : (l : List Noted) (p : Peer) (o : Outstanding) (a : IsOut l p o) (token : List ℕ) → went_under p token (first_at l a.first.number) ≡ bytes_eq o.token token
 out-under l p o a token = rw (out-first l p o a, out-peer l p o a, a.token) refl
@@ -126,8 +111,4 @@ ends-under l p m i of legal ends e j token f =
     and-true false = refl
 
 pub quiet : (to : Option ℕ) (m : Content) (i : ℕ) → ends_by m.kind m.code ≡ false → ends_what to m i ≡ false
-quiet to m i e = rw (e) (and-false (is_to to i))
-  where
-    and-false : (b : Bool) → (b && false) ≡ false
-    and-false true = refl
-    and-false false = refl
+quiet to m i e = rw (e) (and_right (is_to to i) false refl)

@@ -1,22 +1,23 @@
-pub mod Facts
-pub mod Mids
-pub mod Ranks
-pub mod Still
-pub mod Copying
-pub mod Sending
-pub mod Sent
-pub mod Nexts
-pub mod Unbegun
-pub mod Queueing
-pub mod Silence
-pub mod Repeating
-pub mod OtherPeers
-pub mod Remembering
-pub mod Replying
-pub mod Tokens
-pub mod Judging
-pub mod OwnMessages
-pub mod Acknowledgements
-pub mod Saying
-pub mod Passing
-pub mod HeardElsewhere
+pub mod CallerLemmas
+mod Facts
+mod Mids
+mod Ranks
+mod Still
+mod Copying
+mod Sending
+mod Sent
+mod Nexts
+mod Unbegun
+mod Queueing
+mod Silence
+mod Repeating
+mod OtherPeers
+mod Remembering
+mod Replying
+mod Tokens
+mod Judging
+mod OwnMessages
+mod Acknowledgements
+mod Saying
+mod Passing
+mod HeardElsewhere

@@ -12,8 +12,8 @@ use Rattle.journal_book.specs.Entries.{Deed, Sends}
 use Rattle.history_laws.specs.Readings.{Noted, Note, First, newest}
 use Rattle.history_laws.specs.Transmissions.{FirstSending, firsts_by, firsts, bears_mid, mids_used}
 use Rattle.history_laws.specs.Justified.{Legal}
+use Rattle.history_laws.proofs.CallerLemmas.{all-filter, all-more}
 use Rattle.history_links.specs.Agrees.{firsts_to, HasMid, CountUp}
-use Rattle.history_links.proofs.Facts.{all-more, all-filter}
 
 -- first sendings are later, the newer they are
 

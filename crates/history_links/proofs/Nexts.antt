@@ -1,10 +1,9 @@
 -- After the message that waits first is sent, the link agrees.
-use Rattle.std.proofs.Common.{◌≡◌, ℕ, ◌<◌, ◌≤◌, ◌+◌, Bool, true, false, cond, eqb, inl, inr, List, [], ◌∷◌, ◌++◌, length, Option, Some, None, refl, sym, ap, subst, ◌∙◌, arith}
+use Rattle.std.proofs.Common.{◌≡◌, ℕ, ◌<◌, ◌≤◌, ◌+◌, Bool, true, false, cond, eqb, List, [], ◌∷◌, ◌++◌, length, Option, Some, None, refl, sym, ap, subst, ◌∙◌, arith}
 use Rattle.std.specs.Prelude.{count_by, ◌&&◌, ◌||◌, option_and_then}
 use Rattle.std.specs.List.{AllByRecursion, list_any}
 use Rattle.std.specs.Str.{bytes_eq}
 use Rattle.std.proofs.lemmas.List.Folds.{list_any-append}
-use Rattle.std.proofs.lemmas.Bool.Decides.{eqb_tells}
 use Rattle.std.proofs.lemmas.Slice.Eq.{bytes_eq-Decides}
 use Rattle.coap_codec.specs.Spelling.{Content}
 use Rattle.uri_map.specs.declared.peer.Peer.{Peer}
@@ -20,17 +19,17 @@ use Rattle.history_laws.specs.Readings.{Noted, First, newest}
 use Rattle.history_laws.specs.Transmissions.{FirstSending, firsts, first_at, last_sent, if_outstanding, is_recent, mids_used, transmission}
 use Rattle.history_laws.specs.Exchanges.{openings, waits_for, awaited, is_waiting, waiting}
 use Rattle.history_laws.specs.Hearing.{went_under, went_as}
-use Rattle.history_laws.proofs.Places.{at-new}
+use Rattle.history_laws.proofs.CallerLemmas.{at-new, eqb-itself}
 use Rattle.history_links.specs.Agrees.{rank, way_of, IsOut, firsts_to, CountUp, IsWaitingFor, WaitIn, awaits, awaits_ack}
 use Rattle.history_links.specs.Steps.{NextFollows}
-use Rattle.history_links.proofs.Facts.{Rising, rising-filter, openings-rising, waits-below, waiting-unsent}
+use Rattle.history_links.proofs.Facts.{Rising, rising-filter, openings-rising, waits-below, waiting-unsent, and-turn}
 use Rattle.history_links.proofs.Mids.{count-cons}
 use Rattle.history_links.proofs.Ranks.{rank-keeps, rank-apart}
-use Rattle.history_laws.proofs.Facts.{eqb-itself}
 use Rattle.history_links.proofs.Still.{waits-one, heard-still}
 use Rattle.history_links.proofs.Copying.{is-outstanding, unheard-sent}
 use Rattle.history_links.proofs.Sending.{head, head-waits, has-next, next-small, message-of, may-be-first}
 use Rattle.history_links.proofs.Sent.{sent, taken-away, waiting-sent, not-waiting, waits-sent, one-awaited, is-among, count-push, in-use-recent}
+use Rattle.history_links.proofs.OtherPeers.{first-other}
 
 -- those that wait still
 
@@ -97,11 +96,7 @@ given-more l t p b w o m given earlier a u later =
     ∙ (ap (λ (c : Bool). cond c (1 + mids_used l u p) (mids_used l u p)) (sym (recent-now l t u p o m later))
     ∙ sym (count-cons (is_recent u p) f (firsts l))))
 
--- first sendings before it are found as they were
-older-first : (l : List Noted) (t : ℕ) (p : Peer) (b : List ℕ) (w : Option ℕ) (o : ℕ) (m : Content) (i : ℕ) → i < length l
-    → first_at (sent t p b w o m ∷ l) i ≡ first_at l i
-older-first l t p b w o m i lt = elim (eqb_tells (length l) i) [ inl e ↦ let same = e.1 in absurd (omega (arith, lt, same)) | inr e ↦ rw (e.0) refl ]
-
+-- the newest first sending is found by its number
 newer-first : (l : List Noted) (t : ℕ) (p : Peer) (b : List ℕ) (w : Option ℕ) (o : ℕ) (m : Content)
     → first_at (sent t p b w o m ∷ l) (length l) ≡ Some (record { number = length l; moment = t; opening = o; peer = p; message = m })
 newer-first l t p b w o m = rw (eqb-itself (length l)) refl
@@ -109,12 +104,6 @@ newer-first l t p b w o m = rw (eqb-itself (length l)) refl
 or-none : (a : Bool) → (a || false) ≡ a
 or-none true = refl
 or-none false = refl
-
-and-turn : (a b : Bool) → (a && b) ≡ (b && a)
-and-turn true true = refl
-and-turn true false = refl
-and-turn false true = refl
-and-turn false false = refl
 
 -- what the link awaits more
 more-awaited : (test : Awaited → Bool) (awaited : List Awaited) (a : Awaited) → list_any test (awaited ++ a ∷ []) ≡ (list_any test awaited || test a)
@@ -126,7 +115,7 @@ awaits-more l t p b w o m others e waits token =
     let n = sent t p b w o m ∷ l in
     one-awaited (λ (i : ℕ). went_under p token (first_at n i)) (λ (i : ℕ). went_under p token (first_at l i)) (waits_for n) (waits_for l) o (length l)
     (waits-sent l t p b w o m) (waiting-unsent l p o waits)
-    (λ q i h. ap (went_under p token) (older-first l t p b w o m i (waits-below l q i h))) (openings l)
+    (λ q i h. ap (went_under p token) (first-other l t p b w o m i (waits-below l q i h))) (openings l)
     ∙ rw (is-among (is_waiting l p) o others (openings l) e, newer-first l t p b w o m, same_peer-itself p) refl
 
 acks-more : (l : List Noted) (t : ℕ) (p : Peer) (b : List ℕ) (w : Option ℕ) (o : ℕ) (m : Content) (others : List ℕ) → waiting l p ≡ o ∷ others
@@ -136,7 +125,7 @@ acks-more l t p b w o m others e waits mid token =
     let n = sent t p b w o m ∷ l in
     one-awaited (λ (i : ℕ). went_under p token (first_at n i) && went_as p mid (first_at n i)) (λ (i : ℕ). went_under p token (first_at l i) && went_as p mid (first_at l i))
     (waits_for n) (waits_for l) o (length l) (waits-sent l t p b w o m) (waiting-unsent l p o waits)
-    (λ q i h. ap (λ (f : Option FirstSending). went_under p token f && went_as p mid f) (older-first l t p b w o m i (waits-below l q i h))) (openings l)
+    (λ q i h. ap (λ (f : Option FirstSending). went_under p token f && went_as p mid f) (first-other l t p b w o m i (waits-below l q i h))) (openings l)
     ∙ rw (is-among (is_waiting l p) o others (openings l) e, newer-first l t p b w o m, same_peer-itself p) refl
 
 pub next-follows : NextFollows

@@ -1,11 +1,12 @@
 -- What the messages of one peer leave of the link to another.
-use Rattle.std.proofs.Common.{◌≡◌, ℕ, ◌<◌, ◌≤◌, Bool, true, false, cond, eqb, ltb, inl, inr, List, [], ◌∷◌, ◌++◌, length, Option, Some, None, refl, sym, ap, subst, ◌∙◌, arith}
+use Rattle.std.proofs.Common.{◌≡◌, ℕ, ◌<◌, ◌≤◌, Bool, true, false, eqb, ltb, inl, inr, List, [], ◌∷◌, ◌++◌, length, Option, Some, None, refl, sym, ap, subst, ◌∙◌, arith, append-nil}
 use Rattle.std.specs.Prelude.{filter, ◌&&◌, ◌||◌, option_and_then, option_map}
 use Rattle.std.specs.List.{AllByRecursion, list_any}
 use Rattle.std.specs.Str.{bytes_eq}
 use Rattle.std.proofs.lemmas.Bool.{false≢true, ltb-true, ltb-false}
 use Rattle.std.proofs.lemmas.Slice.Eq.{bytes_eq-Decides}
 use Rattle.std.proofs.lemmas.Bool.Decides.{eqb_tells}
+use Rattle.std.proofs.lemmas.List.Elements.{filter_agree, filter-append}
 use Rattle.coap_codec.specs.Spelling.{Content}
 use Rattle.uri_map.specs.declared.peer.Peer.{Peer}
 use Rattle.ask_model.specs.Requests.{CoapRequest, same_peer}
@@ -22,25 +23,23 @@ use Rattle.history_laws.specs.Transmissions.{FirstSending, firsts, first_at, las
 use Rattle.history_laws.specs.Exchanges.{Begun, begun, openings, goes_to, waits_for, is_waiting, waiting}
 use Rattle.history_laws.specs.Hearing.{went_under, went_as}
 use Rattle.history_laws.specs.Justified.{Legal}
-use Rattle.history_laws.proofs.Places.{at-below, at-keeps}
+use Rattle.history_laws.proofs.CallerLemmas.{all-more, all-of, all-passes, and-left, at-below, at-keeps, eqb-itself, filter-by, find-some, some-is}
 use Rattle.history_links.specs.Agrees.{rank, TurnIn, IsWaitingFor, WaitIn, awaits, awaits_ack, Agrees}
 use Rattle.history_links.specs.Steps.{AskElsewhere, FirstElsewhere, CopyElsewhere}
-use Rattle.history_laws.proofs.Resting.{first as and-left}
-use Rattle.history_links.proofs.Facts.{all-more, all-passes, openings-below, waits-below, waiting-unsent}
+use Rattle.history_links.proofs.Facts.{openings-below, waits-below, waiting-unsent}
 use Rattle.history_links.proofs.Mids.{count-cons}
 use Rattle.history_links.proofs.Ranks.{rank-keeps, rank-apart}
-use Rattle.history_laws.proofs.Facts.{eqb-itself}
-use Rattle.history_links.proofs.Still.{waits-one, filter-same, heard-at, heard-still, rest-still}
+use Rattle.history_links.proofs.Still.{waits-one, heard-at, heard-still, rest-still}
 use Rattle.history_links.proofs.Copying.{is-last, still-copy, unheard-sent}
 use Rattle.history_links.proofs.Sent.{sent, waits-sent, waiting-sent, not-waiting, one-awaited}
-use Rattle.history_links.proofs.Tokens.{IsThere, all-there, find-all, find-passes, found-first}
-use Rattle.history_links.proofs.Queueing.{asked, begun-here, others-wait, filter-on, waits-on, awaited-same, turn-kept}
+use Rattle.history_links.proofs.Tokens.{IsThere, all-there, found-first}
+use Rattle.history_links.proofs.Queueing.{asked, begun-here, others-wait, waits-on, awaited-same, turn-kept}
 
 -- what is outstanding
 
 pub last-number : (l : List Noted) (p : Peer) (f : FirstSending) → last_sent l p ≡ Some f → f.number < length l
 last-number l p f e =
-    let there = find-all (IsThere l) (λ (f : FirstSending). same_peer f.peer p) (firsts l) f (all-there l) e in
+    let there = all-of (IsThere l) (firsts l) f (all-there l) (find-some (λ (f : FirstSending). same_peer f.peer p) (firsts l) f e).0 in
     at-below l f.number _ there.stands
 
 older-way : (l : List Noted) (t : ℕ) (r : Peer) (b : List ℕ) (w : Option ℕ) (o : ℕ) (m : Content) (i : ℕ) → i < length l
@@ -134,7 +133,7 @@ mids-other : (l : List Noted) (t u : ℕ) (p r : Peer) (b : List ℕ) (w : Optio
 mids-other l t u p r b w o m e =
     count-cons (is_recent u p) (record { number = length l; moment = t; opening = o; peer = r; message = m }) (firsts l) ∙ rw (e) refl
 
-first-other : (l : List Noted) (t : ℕ) (r : Peer) (b : List ℕ) (w : Option ℕ) (o : ℕ) (m : Content) (i : ℕ) → i < length l
+pub first-other : (l : List Noted) (t : ℕ) (r : Peer) (b : List ℕ) (w : Option ℕ) (o : ℕ) (m : Content) (i : ℕ) → i < length l
     → first_at (sent t r b w o m ∷ l) i ≡ first_at l i
 first-other l t r b w o m i lt = elim (eqb_tells (length l) i) [ inl e ↦ let same = e.1 in absurd (omega (arith, lt, same)) | inr e ↦ rw (e.0) refl ]
 
@@ -177,7 +176,7 @@ first-elsewhere l t p r s b u o m w later a other waits mine token =
       last = a.last ∙ sym (ap (λ (v : Option FirstSending). option_map (λ (f : FirstSending). f.message.mid) v) (last-other l t p r b u o m other));
       count_up = rw (other) a.count_up;
       given = λ v after. a.given v (omega (arith, later, after)) ∙ sym (mids-other l t v p r b u o m other);
-      waits = subst (λ (os : List ℕ). WaitIn n os s.waiting) (sym (filter-same (is_waiting n p) (is_waiting l p) (waiting-other l t p r b u o m waits other) (openings l)))
+      waits = subst (λ (os : List ℕ). WaitIn n os s.waiting) (sym (filter_agree (is_waiting n p) (is_waiting l p) (waiting-other l t p r b u o m waits other) (openings l)))
           (waits-other l t p r b u o m w mine token (goes-elsewhere l p r o waits other) (waiting l p) s.waiting (all-passes (is_waiting l p) (openings l)) a.waits);
       awaits = λ v. a.awaits v ∙ sym (awaits-other l t p r b u o m waits other v);
       acks = λ mid v. a.acks mid v ∙ sym (acks-other l t p r b u o m waits other mid v);
@@ -187,12 +186,7 @@ first-elsewhere l t p r s b u o m w later a other waits mine token =
 -- an ask that opens an exchange with another peer
 
 no-push : (f : ℕ → Bool) (xs : List ℕ) (x : ℕ) → f x ≡ false → filter f (xs ++ x ∷ []) ≡ filter f xs
-no-push f [] x e = rw (e) refl
-no-push f (y ∷ xs) x e = by (f y) (no-push f xs x e)
-  where
-    by : (b : Bool) → filter f (xs ++ x ∷ []) ≡ filter f xs → cond b (y ∷ filter f (xs ++ x ∷ [])) (filter f (xs ++ x ∷ [])) ≡ cond b (y ∷ filter f xs) (filter f xs)
-    by true h = rw (h) refl
-    by false h = h
+no-push f xs x e = filter-append f xs (x ∷ []) ∙ rw e (append-nil (filter f xs))
 
 not-here : (l : List Noted) (t c : ℕ) (a : Ask) (q : CoapRequest) (p : Peer) → same_peer q.peer p ≡ false → is_waiting (asked t c a q ∷ l) p (length l) ≡ false
 not-here l t c a q p e = rw (begun-here l t c a q) (rw (e) refl)
@@ -201,7 +195,7 @@ waiting-elsewhere : (l : List Noted) (t c : ℕ) (a : Ask) (q : CoapRequest) (p 
 waiting-elsewhere l t c a q p e =
     let n = asked t c a q ∷ l in
     no-push (is_waiting n p) (openings l) (length l) (not-here l t c a q p e)
-    ∙ filter-on (is_waiting n p) (is_waiting l p) (openings l) (all-more (λ (o : ℕ). o < length l) (λ (o : ℕ). is_waiting n p o ≡ is_waiting l p o) (others-wait l t c a q p) (openings l) (openings-below l))
+    ∙ filter-by (is_waiting n p) (is_waiting l p) (openings l) (all-more (λ (o : ℕ). o < length l) (λ (o : ℕ). is_waiting n p o ≡ is_waiting l p o) (others-wait l t c a q p) (openings l) (openings-below l))
 
 pub asked-elsewhere : (l : List Noted) (t : ℕ) (p : Peer) (s : LinkState) (c : ℕ) (a : Ask) (q : CoapRequest) → Legal l → newest l ≤ t → Agrees l p s
     → same_peer q.peer p ≡ false → Agrees (asked t c a q ∷ l) p s
@@ -227,17 +221,14 @@ asked-elsewhere l t p s c a q legal later g e =
 
 pub number-differs : (l : List Noted) (p : Peer) (i : ℕ) (g f : FirstSending) → first_at l i ≡ Some g → same_peer g.peer p ≡ false → last_sent l p ≡ Some f → eqb i f.number ≡ false
 number-differs l p i g f e other last =
-    let mine = find-passes (λ (f : FirstSending). same_peer f.peer p) (firsts l) f last in
+    let mine = (find-some (λ (f : FirstSending). same_peer f.peer p) (firsts l) f last).1 in
     let found = found-first l (λ (f : FirstSending). same_peer f.peer p) f last in
     elim (eqb_tells i f.number) [
       | inl w ↦
-          let same : g ≡ f = some-same g f (sym e ∙ (ap (first_at l) w.1 ∙ found)) in
+          let same : g ≡ f = some-is g f (sym e ∙ (ap (first_at l) w.1 ∙ found)) in
           absurd (false≢true (sym other ∙ subst (λ (h : FirstSending). same_peer h.peer p ≡ true) (sym same) mine))
       | inr w ↦ w.0
     ]
-  where
-    some-same : (x y : FirstSending) → Some x ≡ Some y → x ≡ y
-    some-same x y e = cc
 
 pub nothing-found : (l : List Noted) (p : Peer) (i : ℕ) (f : FirstSending) → first_at l i ≡ None → last_sent l p ≡ Some f → eqb i f.number ≡ false
 nothing-found l p i f e last =

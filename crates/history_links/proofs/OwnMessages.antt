@@ -20,10 +20,10 @@ use Rattle.history_laws.specs.Transmissions.{first_at}
 use Rattle.history_laws.specs.Exchanges.{awaited}
 use Rattle.history_laws.specs.Hearing.{is_such, went_under, is_under, answers_by}
 use Rattle.history_laws.specs.Justified.{Legal}
+use Rattle.history_laws.proofs.CallerLemmas.{any-find, find-some}
 use Rattle.history_links.specs.Agrees.{reply_of, IsOut, Agrees}
 use Rattle.history_links.proofs.Replying.{ends_by}
-use Rattle.history_links.proofs.Tokens.{find-passes}
-use Rattle.history_links.proofs.Judging.{Judged, any-find, out-under, same-under, ends-under, empty-code}
+use Rattle.history_links.proofs.Judging.{Judged, out-under, same-under, ends-under, empty-code}
 
 -- A CON or NON.
 
@@ -123,7 +123,7 @@ own-judged l p s m legal a own =
       remembered = own-such m.kind own;
     })
     by false e true f (Some i) g =
-        let under = find-passes (is_under l p m) (awaited l) i g in
+        let under = (find-some (is_under l p m) (awaited l) i g).1 in
         rw (tells i g) (record {
           ends = λ o b h. outstanding i under o b s.outstanding h;
           awaits = λ j token h k. ends-under l p m i m.token legal (own-ends m.kind m.code own ∙ f) under j token k;

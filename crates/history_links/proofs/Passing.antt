@@ -6,6 +6,7 @@ use Rattle.std.specs.Str.{bytes_eq}
 use Rattle.std.proofs.lemmas.Bool.{false≢true}
 use Rattle.std.proofs.lemmas.Map.Views.{any-filter_same}
 use Rattle.std.proofs.lemmas.Slice.Eq.{bytes_eq-Decides}
+use Rattle.std.proofs.lemmas.List.Elements.{filter_agree}
 use Rattle.uri_map.specs.declared.peer.Peer.{Peer}
 use Rattle.journal_book.specs.Entries.{Passes}
 use Rattle.message_layer.specs.Hearing.{is_awaited, mid_is, is_awaited_by_ack}
@@ -18,13 +19,12 @@ use Rattle.history_laws.specs.Progress.{Reply}
 use Rattle.history_laws.specs.Transmissions.{FirstSending, first_at, last_sent, transmission, if_outstanding}
 use Rattle.history_laws.specs.Exchanges.{begun, is_late, Expired, Nothing, expires, waits_by, waits_for, End, end_here, end_by, end_of, replies, is_going, goes_to, is_waiting, waiting, openings}
 use Rattle.history_laws.specs.Hearing.{went_under, went_as}
-use Rattle.history_laws.proofs.Places.{at-keeps}
+use Rattle.history_laws.proofs.CallerLemmas.{and-left, and-right, at-keeps}
 use Rattle.history_links.specs.Agrees.{way_of, TurnIn, IsWaitingFor, WaitIn}
 use Rattle.history_links.specs.Steps.{is_over, EndWaiting, PassAgrees}
-use Rattle.history_laws.proofs.Resting.{first as and-left, second as and-right}
 use Rattle.history_links.proofs.Ranks.{rank-keeps}
 use Rattle.history_links.proofs.Copying.{is-last, is-outstanding}
-use Rattle.history_links.proofs.Still.{waits-one, filter-same, heard-at, heard-still}
+use Rattle.history_links.proofs.Still.{waits-one, heard-at, heard-still}
 use Rattle.history_links.proofs.Saying.{none-out}
 
 abbrev ticked_at : ℕ → Noted
@@ -179,7 +179,7 @@ pass-agrees l t p s gone b e =
       count_up = a.count_up;
       given = λ u after. a.given u (let later = b.later in omega (arith, later, after));
       waits = subst (λ (os : List ℕ). WaitIn n os (filter (λ (w : Waiting). not (gone w.token)) s.waiting))
-          (sym (filter-same (is_waiting n p) (λ (o : ℕ). is_waiting l p o && not (is_late t (begun l o))) (waiting-passed l t p) (openings l)
+          (sym (filter_agree (is_waiting n p) (λ (o : ℕ). is_waiting l p o && not (is_late t (begun l o))) (waiting-passed l t p) (openings l)
           ∙ filter-twice (is_waiting l p) (λ (o : ℕ). not (is_late t (begun l o))) (openings l)))
           (waits-on l t gone (waiting l p) s.waiting a.waits e.waiting);
       awaits = λ token.

@@ -1,10 +1,11 @@
 -- An ask that opens an exchange puts its message behind those that wait.
-use Rattle.std.proofs.Common.{◌≡◌, ℕ, ◌<◌, ◌≤◌, ◌+◌, ◌-◌, Bool, true, false, cond, ltb, inl, inr, List, [], ◌∷◌, ◌++◌, length, Option, Some, None, refl, sym, ap, subst, ◌∙◌, arith}
+use Rattle.std.proofs.Common.{◌≡◌, ℕ, ◌<◌, ◌≤◌, ◌+◌, ◌-◌, Bool, true, false, cond, ltb, inl, inr, List, [], ◌∷◌, ◌++◌, length, Option, Some, None, refl, sym, ap, subst, ◌∙◌, arith, append-nil}
 use Rattle.std.specs.Prelude.{filter, count_by, option_and_then}
-use Rattle.std.specs.List.{AllByRecursion, filter_map}
+use Rattle.std.specs.List.{filter_map}
 use Rattle.std.proofs.lemmas.List.Sums.{length-filter}
 use Rattle.std.proofs.lemmas.Bool.{lt-ltb, ltb-true}
 use Rattle.std.proofs.lemmas.Bool.Decides.{eqb_tells}
+use Rattle.std.proofs.lemmas.List.Elements.{filter_map-append}
 use Rattle.uri_map.specs.declared.peer.Peer.{Peer}
 use Rattle.ask_model.specs.Requests.{CoapRequest, same_peer}
 use Rattle.ask_model.specs.Views.{Ask}
@@ -20,37 +21,18 @@ use Rattle.history_laws.specs.Worked.{noted}
 use Rattle.history_laws.specs.Transmissions.{FirstSending, firsts, if_outstanding, transmission, last_sent}
 use Rattle.history_laws.specs.Exchanges.{begun, openings, waits_for, awaited, is_waiting, waiting}
 use Rattle.history_laws.specs.Justified.{Legal}
-use Rattle.history_laws.proofs.Places.{at-keeps, before-new}
+use Rattle.history_laws.proofs.CallerLemmas.{all-more, at-keeps, before-new, begun-below, eqb-itself, filter-by, filter-push}
 use Rattle.history_links.specs.Agrees.{TurnIn, IsWaitingFor, WaitIn}
 use Rattle.history_links.specs.Steps.{QueuedAgrees}
-use Rattle.history_links.proofs.Facts.{openings-below, all-more}
-use Rattle.history_laws.proofs.Sent.{begun-below}
+use Rattle.history_links.proofs.Facts.{openings-below}
 use Rattle.history_links.proofs.Ranks.{rank-keeps}
-use Rattle.history_laws.proofs.Facts.{eqb-itself}
 use Rattle.history_links.proofs.Still.{waits-all, heard-at, heard-still}
 use Rattle.history_links.proofs.Unbegun.{unbegun, not-yet}
 
 -- lists with one more
 
-filter-push : (f : ℕ → Bool) (xs : List ℕ) (x : ℕ) → f x ≡ true → filter f (xs ++ x ∷ []) ≡ filter f xs ++ x ∷ []
-filter-push f [] x e = rw (e) refl
-filter-push f (y ∷ xs) x e = by (f y) (filter-push f xs x e)
-  where
-    by : (b : Bool) → filter f (xs ++ x ∷ []) ≡ filter f xs ++ x ∷ [] → cond b (y ∷ filter f (xs ++ x ∷ [])) (filter f (xs ++ x ∷ [])) ≡ cond b (y ∷ filter f xs) (filter f xs) ++ x ∷ []
-    by true h = rw (h) refl
-    by false h = h
-
-pub filter-on : (f g : ℕ → Bool) (xs : List ℕ) → AllByRecursion (λ (x : ℕ). f x ≡ g x) xs → filter f xs ≡ filter g xs
-filter-on f g [] a = refl
-filter-on f g (x ∷ xs) a = rw (a.0, filter-on f g xs a.1) refl
-
 none-more : (f : ℕ → Option ℕ) (xs : List ℕ) (x : ℕ) → f x ≡ None → filter_map f (xs ++ x ∷ []) ≡ filter_map f xs
-none-more f [] x e = rw (e) refl
-none-more f (y ∷ xs) x e = by (f y) refl (none-more f xs x e)
-  where
-    by : (v : Option ℕ) → f y ≡ v → filter_map f (xs ++ x ∷ []) ≡ filter_map f xs → filter_map f (y ∷ xs ++ x ∷ []) ≡ filter_map f (y ∷ xs)
-    by None e h = rw (e) h
-    by (Some i) e h = rw (e, h) refl
+none-more f xs x e = filter_map-append f xs (x ∷ []) ∙ rw e (append-nil (filter_map f xs))
 
 -- what is outstanding stays
 
@@ -111,7 +93,7 @@ waits-more l t c a q p legal to =
     let n = asked t c a q ∷ l in
     filter-push (is_waiting n p) (openings l) (length l) (it-waits l t c a q p legal to)
     ∙ ap (λ (v : List ℕ). v ++ length l ∷ [])
-    (filter-on (is_waiting n p) (is_waiting l p) (openings l) (all-more (λ (o : ℕ). o < length l) (λ (o : ℕ). is_waiting n p o ≡ is_waiting l p o) (others-wait l t c a q p) (openings l) (openings-below l)))
+    (filter-by (is_waiting n p) (is_waiting l p) (openings l) (all-more (λ (o : ℕ). o < length l) (λ (o : ℕ). is_waiting n p o ≡ is_waiting l p o) (others-wait l t c a q p) (openings l) (openings-below l)))
 
 wait-push : (n : List Noted) (os : List ℕ) (ws : List Waiting) (o : ℕ) (w : Waiting) → WaitIn n os ws → IsWaitingFor n o w → WaitIn n (os ++ o ∷ []) (ws ++ w ∷ [])
 wait-push n [] [] o w a i = (i, tt)

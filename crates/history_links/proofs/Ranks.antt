@@ -4,8 +4,7 @@ use Rattle.std.proofs.lemmas.Bool.Decides.{eqb_tells}
 use Rattle.ask_model.specs.Requests.{CoapRequest}
 use Rattle.history_laws.specs.Readings.{Noted, before}
 use Rattle.history_laws.specs.Exchanges.{Begun, begun_by, begun, opens_by, opened_by, openings}
-use Rattle.history_laws.proofs.Places.{before-keeps, before-new}
-use Rattle.history_laws.proofs.Sent.{begun-below}
+use Rattle.history_laws.proofs.CallerLemmas.{before-keeps, before-new, begun-below}
 use Rattle.history_links.specs.Agrees.{rank}
 
 begun-old : (q : Option CoapRequest) (t : ℕ) (old : Option Begun) (b : Begun) → begun_by q false t old ≡ Some b → old ≡ Some b

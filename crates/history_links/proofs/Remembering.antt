@@ -2,9 +2,11 @@
 use Rattle.std.proofs.Common.{◌≡◌, ℕ, ◌≤◌, ◌+◌, ◌-◌, Bool, true, false, cond, eqb, ltb, List, [], ◌∷◌, ◌++◌, length, Option, Some, None, inl, inr, refl, sym, ap, subst, ◌∙◌, arith}
 use Rattle.std.specs.Prelude.{option_map, filter, count_by, ◌&&◌}
 use Rattle.std.specs.List.{find}
-use Rattle.std.proofs.lemmas.Bool.{lt-ltb, le-ltb, ltb-true, ltb-false}
+use Rattle.std.proofs.lemmas.Bool.{lt-ltb, le-ltb, ltb-true, ltb-false, and_from}
 use Rattle.std.proofs.lemmas.Bool.Decides.{eqb_tells}
 use Rattle.std.proofs.lemmas.List.Sums.{length-filter}
+use Rattle.std.proofs.lemmas.List.Folds.{find-append}
+use Rattle.std.specs.Option.{option_or}
 use Rattle.limits.specs.declared.TheConstants.{EXCHANGE_LIFETIME}
 use Rattle.coap_codec.specs.Spelling.{Content}
 use Rattle.uri_map.specs.declared.peer.Peer.{Peer}
@@ -18,9 +20,8 @@ use Rattle.history_laws.specs.Readings.{Noted, Says, Notice, at, newest}
 use Rattle.history_laws.specs.Worked.{noted}
 use Rattle.history_laws.specs.Hearing.{is_such, is_live, heard_before, live_heard}
 use Rattle.history_laws.specs.Confirming.{answered}
-use Rattle.history_laws.proofs.Places.{at-new}
+use Rattle.history_laws.proofs.CallerLemmas.{and-left, and-right, at-new}
 use Rattle.history_links.specs.Agrees.{reply_of, HeardIn}
-use Rattle.history_laws.proofs.Resting.{first as and-left, second as and-right}
 use Rattle.history_links.proofs.Sent.{count-push}
 use Rattle.history_links.proofs.Still.{heard-at, answers_in}
 
@@ -50,20 +51,8 @@ find-kept {X = X} q k h (x ∷ xs) = by (k x) (q x) refl refl (find-kept q k h x
         false-true e = cc
     by false false e f ih = ih
 
--- the first that passes, or else the last one
-or_last : {X : Type 0} → Option X → Option X → Option X
-or_last None other = other
-or_last (Some x) other = Some x
-
-find-push : {X : Type 0} (q : X → Bool) (xs : List X) (x : X) → find q (xs ++ x ∷ []) ≡ or_last (find q xs) (cond (q x) (Some x) None)
-unfolding or_last
-find-push q [] x = refl
-find-push {X = X} q (y ∷ xs) x = by (q y) (find-push q xs x)
-  where
-    by : (b : Bool) → find q (xs ++ x ∷ []) ≡ or_last (find q xs) (cond (q x) (Some x) None)
-        → cond b (Some y) (find q (xs ++ x ∷ [])) ≡ or_last (cond b (Some y) (find q xs)) (cond (q x) (Some x) None)
-    by true ih = refl
-    by false ih = ih
+find-push : {X : Type 0} (q : X → Bool) (xs : List X) (x : X) → find q (xs ++ x ∷ []) ≡ option_or (find q xs) (cond (q x) (Some x) None)
+find-push q xs x = find-append q xs (x ∷ [])
 
 pub none-before : {X Y : Type 0} (f : X → Y) (v : Option X) → option_map f v ≡ None → v ≡ None
 none-before f None e = refl
@@ -82,11 +71,8 @@ none-later t u mid (h ∷ heard) later e = by (is_repeat t mid h) refl e (none-l
         false-true : false ≡ true → ⊥
         false-true e = cc
 
-        both : {a b : Bool} → a ≡ true → b ≡ true → (a && b) ≡ true
-        both d e = rw (d, e) refl
-
         also : (c : Bool) → is_repeat u mid h ≡ c → cond c (Some h) (find (is_repeat u mid) heard) ≡ None
-        also true g = absurd (false-true (sym f ∙ both (and-left (eqb h.mid mid) (is_fresh u h) g) (fresh-before t u h later (and-right (eqb h.mid mid) (is_fresh u h) g))))
+        also true g = absurd (false-true (sym f ∙ (and_from _ _ (and-left (eqb h.mid mid) (is_fresh u h) g) (fresh-before t u h later (and-right (eqb h.mid mid) (is_fresh u h) g)))))
         also false g = ih e
 
 -- the new one
@@ -99,9 +85,8 @@ remembered-reply : (l : List Noted) (t u mid : ℕ) (p : Peer) (d : List ℕ) (m
     → is_such m.kind ≡ true → t ≤ u → r ≡ reply_of (answered (Says m to notice))
     → (eqb m.mid mid ≡ true → old ≡ None)
     → option_map (λ (h : Heard). h.reply) old ≡ option_map (answers_in l) (heard_before l u p mid)
-    → option_map (λ (h : Heard). h.reply) (or_last old (cond (eqb m.mid mid && ltb (u - t) 247000) (Some (record { mid = m.mid; moment = t; reply = r })) None))
+    → option_map (λ (h : Heard). h.reply) (option_or old (cond (eqb m.mid mid && ltb (u - t) 247000) (Some (record { mid = m.mid; moment = t; reply = r })) None))
     ≡ option_map (answers_in (noted t (Hears p d) (Says m to notice) ∷ l)) (heard_before (noted t (Hears p d) (Says m to notice) ∷ l) u p mid)
-unfolding or_last
 remembered-reply l t u mid p d m to notice r old such later reply none same =
     let x = noted t (Hears p d) (Says m to notice) in
     let live = says-live t u p d m to notice such later in
@@ -115,13 +100,13 @@ remembered-reply l t u mid p d m to notice r old such later reply none same =
     unchanged : option_map (answers_in l) (heard_before l u p mid) ≡ option_map (answers_in (noted t (Hears p d) (Says m to notice) ∷ l)) (heard_before l u p mid)
     unchanged = older (heard_before l u p mid) (λ j e. heard-at (noted t (Hears p d) (Says m to notice)) l u p mid j e)
 
-    or-none : (v : Option Heard) → or_last v None ≡ v
+    or-none : (v : Option Heard) → option_or v None ≡ v
     or-none None = refl
     or-none (Some h) = refl
 
     by : (a b : Bool) → eqb m.mid mid ≡ a → is_live u p t (Hears p d) (Says m to notice) ≡ b → (old : Option Heard) → (a ≡ true → old ≡ None)
         → option_map (λ (h : Heard). h.reply) old ≡ option_map (answers_in l) (heard_before l u p mid)
-        → option_map (λ (h : Heard). h.reply) (or_last old (cond (a && b) (Some (record { mid = m.mid; moment = t; reply = r })) None))
+        → option_map (λ (h : Heard). h.reply) (option_or old (cond (a && b) (Some (record { mid = m.mid; moment = t; reply = r })) None))
         ≡ option_map (answers_in (noted t (Hears p d) (Says m to notice) ∷ l)) (heard_before (noted t (Hears p d) (Says m to notice) ∷ l) u p mid)
     by true true e f old none same =
         rw (none refl, e, f, at-new (noted t (Hears p d) (Says m to notice)) l, reply) refl
@@ -146,7 +131,7 @@ pub remembers : (l : List Noted) (t : ℕ) (p : Peer) (d : List ℕ) (m : Conten
 remembers l t p d m to notice r heard after h such none reply = record {
   repeats = λ u mid later.
       ap (option_map (λ (h : Heard). h.reply)) (find-push (is_repeat u mid) (filter (is_fresh t) heard) new
-      ∙ ap (λ (v : Option Heard). or_last v (cond (eqb m.mid mid && ltb (u - t) 247000) (Some new) None))
+      ∙ ap (λ (v : Option Heard). option_or v (cond (eqb m.mid mid && ltb (u - t) 247000) (Some new) None))
       (find-kept (is_repeat u mid) (is_fresh t) (λ g e. fresh-before t u g later (and-right (eqb g.mid mid) (is_fresh u g) e)) heard))
       ∙ remembered-reply l t u mid p d m to notice r (find (is_repeat u mid) heard) such later reply
       (λ same. none-later t u mid heard later (none-before (λ (h : Heard). h.reply) (find (is_repeat t mid) heard) (unheard mid same)))

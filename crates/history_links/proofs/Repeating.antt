@@ -12,10 +12,10 @@ use Rattle.history_laws.specs.Confirmations.{answer_by, given, rejects_bytes}
 use Rattle.message_layer.specs.Values.{LinkState}
 use Rattle.message_layer.specs.Hearing.{is_repeat, heard_verdict, verdict_by, reset_for}
 use Rattle.message_layer.specs.declared.state.Heard.{Heard}
-use Rattle.message_layer.specs.declared.state.Reply.{Reply}
 use Rattle.history_laws.specs.Readings.{Noted, Note, Plain, Begins, First, Copies, Confirms, Says, Repeats, Garbled, at, newest}
 use Rattle.history_laws.specs.Hearing.{is_such, heard_before}
 use Rattle.history_laws.specs.Confirming.{answered, answered_as, answered_again}
+use Rattle.history_laws.proofs.CallerLemmas.{some-is}
 use Rattle.history_links.specs.Agrees.{reply_of, due, HeardIn, Agrees}
 use Rattle.history_links.specs.Steps.{RepeatAgrees, reset, GarbledAgrees}
 use Rattle.history_links.proofs.Silence.{silent-agrees}
@@ -70,10 +70,7 @@ found-reply l t p mid heard v w e f h later = ap (option_map (λ (h : Heard). h.
 again-con : (l : List Noted) (t : ℕ) (p : Peer) (s : LinkState) (m : Content) (j : ℕ) (v : Option Heard)
     → option_map (λ (h : Heard). h.reply) v ≡ Some (answers_in l j) → due p m.mid (heard_verdict t s m true v).reply ≡ given p m.mid (answered_as (at l j))
 again-con l t p s m j None e = cc
-again-con l t p s m j (Some h) e = ap (due p m.mid) (same h.reply (answers_in l j) e) ∙ due-given p m.mid (answered_as (at l j)) (confirming-as (at l j))
-  where
-    same : (a b : Reply) → Some a ≡ Some b → a ≡ b
-    same a b e = cc
+again-con l t p s m j (Some h) e = ap (due p m.mid) (some-is h.reply (answers_in l j) e) ∙ due-given p m.mid (answered_as (at l j)) (confirming-as (at l j))
 
 again-non : (t : ℕ) (p : Peer) (s : LinkState) (m : Content) (j : ℕ) (l : List Noted) (v : Option Heard)
     → option_map (λ (h : Heard). h.reply) v ≡ Some (answers_in l j) → due p m.mid (heard_verdict t s m false v).reply ≡ None

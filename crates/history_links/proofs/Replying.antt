@@ -3,6 +3,7 @@ use Rattle.std.proofs.Common.{◌≡◌, ℕ, Bool, true, false, cond, eqb, leb,
 use Rattle.std.specs.Prelude.{fold, ◌&&◌, not, is_none, is_some}
 use Rattle.std.specs.List.{list_any, filter_map}
 use Rattle.std.proofs.lemmas.Bool.Decides.{eqb_tells}
+use Rattle.std.proofs.lemmas.Bool.{and_right}
 use Rattle.coap_codec.specs.declared.message.MsgType.{MsgType}
 use Rattle.coap_codec.specs.declared.message.MsgType.TheVariants.{Con, Non, Ack, Rst}
 use Rattle.coap_codec.specs.Spelling.{Content}
@@ -112,12 +113,8 @@ pub waiting-after : (l : List Noted) (t : ℕ) (p r : Peer) (d : List ℕ) (m : 
 waiting-after l t p r d m to q =
     rw (going-after l t p d m to q, waits-after l t p d m to q) (by (goes_to r (begun l q)) (is_going l q) (waits_for l q))
   where
-    and-none : (b : Bool) → (b && false) ≡ false
-    and-none true = refl
-    and-none false = refl
-
     gone : (g v : Bool) (i : ℕ) (h : Bool) → (g && ((not h && v) && is_none (cond h None (Some i)))) ≡ (g && (v && false))
-    gone true v i true = sym (and-none v)
+    gone true v i true = sym (and_right v false refl)
     gone true v i false = refl
     gone false v i h = refl
 

@@ -3,7 +3,8 @@ use Rattle.std.proofs.Common.{◌≡◌, ℕ, ◌≤◌, Bool, true, false, cond
 use Rattle.std.specs.Prelude.{◌&&◌, ◌||◌, not, is_some, option_and_then, count_by}
 use Rattle.std.specs.List.{find, list_any}
 use Rattle.std.specs.Str.{bytes_eq}
-use Rattle.std.proofs.lemmas.Bool.{false≢true}
+use Rattle.std.proofs.lemmas.Bool.{or_right, and_right, or_left}
+use Rattle.std.proofs.lemmas.List.Elements.{filter_agree}
 use Rattle.limits.specs.declared.TheConstants.{MAX_REMEMBERED}
 use Rattle.coap_codec.specs.declared.message.MsgType.{MsgType}
 use Rattle.coap_codec.specs.declared.message.MsgType.TheVariants.{Con, Non, Ack, Rst}
@@ -27,13 +28,11 @@ use Rattle.history_laws.specs.Transmissions.{FirstSending, Transmission, first_a
 use Rattle.history_laws.specs.Exchanges.{openings, waits_for, awaited, is_waiting, waiting}
 use Rattle.history_laws.specs.Hearing.{is_such, heard_before, live_heard, repeated, can_be_remembered, went_under, went_as, answers_by, answers}
 use Rattle.history_laws.specs.Justified.{Legal}
-use Rattle.history_laws.proofs.Places.{at-keeps}
+use Rattle.history_laws.proofs.CallerLemmas.{and-left, at-keeps, eqb-itself}
 use Rattle.history_links.specs.Agrees.{way_of, due, IsOut, TurnIn, WaitIn, HeardIn, Agrees}
 use Rattle.history_links.specs.Steps.{ended_token, unawaited, heard_link, SaysAgrees}
-use Rattle.history_laws.proofs.Resting.{first as and-left}
 use Rattle.history_links.proofs.Ranks.{rank-keeps}
-use Rattle.history_laws.proofs.Facts.{eqb-itself}
-use Rattle.history_links.proofs.Still.{waits-all, filter-same, heard-at, heard-still}
+use Rattle.history_links.proofs.Still.{waits-all, heard-at, heard-still}
 use Rattle.history_links.proofs.Copying.{is-last, is-outstanding}
 use Rattle.history_links.proofs.Repeating.{due-given, confirming-by, found-reply}
 use Rattle.history_links.proofs.Remembering.{remembers, none-before}
@@ -87,28 +86,16 @@ asked-once f g c [] same = by c
     by : (c : Bool) → false ≡ (not c && false)
     by true = refl
     by false = refl
-asked-once f g c (x ∷ xs) same = by (f x) refl (asked-once f g c xs (λ i e h. same i (or-right (eqb i x) _ e) h))
+asked-once f g c (x ∷ xs) same = by (f x) refl (asked-once f g c xs (λ i e h. same i (or_right (eqb i x) _ e) h))
   where
-    or-right : (a b : Bool) → b ≡ true → (a || b) ≡ true
-    or-right true b e = refl
-    or-right false b e = e
-
-    and-false : (b : Bool) → (b && false) ≡ false
-    and-false true = refl
-    and-false false = refl
-
-    here : (a b : Bool) → a ≡ true → (a || b) ≡ true
-    here true b e = refl
-    here false b e = absurd (false≢true e)
-
     taken : (c r : Bool) → ((not c && true) || (not c && r)) ≡ (not c && true)
     taken true r = refl
     taken false r = refl
 
     by : (b : Bool) → f x ≡ b → list_any (λ (i : ℕ). not (g i) && f i) xs ≡ (not c && list_any f xs)
         → ((not (g x) && f x) || list_any (λ (i : ℕ). not (g i) && f i) xs) ≡ (not c && (f x || list_any f xs))
-    by true e ih = rw (e, same x (here (eqb x x) _ (eqb-itself x)) e, ih) (taken c (list_any f xs))
-    by false e ih = rw (e, ih, and-false (not (g x))) refl
+    by true e ih = rw (e, same x (or_left (eqb x x) _ (eqb-itself x)) e, ih) (taken c (list_any f xs))
+    by false e ih = rw (e, ih, (and_right (not (g x)) false refl)) refl
 
 -- what waits, and what is outstanding
 
@@ -208,7 +195,7 @@ after-judged l t p s d m to v later j a none =
       last = a.last;
       count_up = a.count_up;
       given = λ u after. a.given u (omega (arith, later, after));
-      waits = subst (λ (w : List ℕ). WaitIn n w s.waiting) (sym (filter-same (is_waiting n p) (is_waiting l p) (waiting-after l t p p d m to) (openings l)))
+      waits = subst (λ (w : List ℕ). WaitIn n w s.waiting) (sym (filter_agree (is_waiting n p) (is_waiting l p) (waiting-after l t p p d m to) (openings l)))
           (waits-on l t p d m to (waiting l p) s.waiting a.waits);
       awaits = λ token.
           link-awaits v.news m token s.awaited

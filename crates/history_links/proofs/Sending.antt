@@ -16,8 +16,8 @@ use Rattle.history_laws.specs.Transmissions.{FirstSending, firsts, last_sent, mi
 use Rattle.history_laws.specs.Exchanges.{Begun, begun, openings, goes_to, is_waiting, waiting}
 use Rattle.history_laws.specs.Justified.{Legal, MayBeFirst}
 use Rattle.history_links.specs.Agrees.{TurnIn, firsts_to, HasMid, IsWaitingFor, WaitIn, Agrees}
-use Rattle.history_laws.proofs.Resting.{first as and-left}
-use Rattle.history_links.proofs.Facts.{all-passes, waiting-goes, unreplied, first-waiting}
+use Rattle.history_laws.proofs.CallerLemmas.{all-passes, and-left}
+use Rattle.history_links.proofs.Facts.{waiting-goes, unreplied, first-waiting}
 use Rattle.history_links.proofs.Mids.{mid-apart}
 
 -- the first that waits

@@ -1,7 +1,7 @@
 -- What a first sending leaves: its exchange awaits a reply, and the others are as they were.
-use Rattle.std.proofs.Common.{◌≡◌, ℕ, ◌<◌, ◌≤◌, ◌+◌, ◌-◌, Bool, true, false, cond, eqb, ltb, inl, inr, List, [], ◌∷◌, ◌++◌, length, Option, Some, None, refl, sym, ap, subst, ◌∙◌, arith}
+use Rattle.std.proofs.Common.{◌≡◌, ℕ, ◌<◌, ◌≤◌, ◌+◌, ◌-◌, Bool, true, false, cond, eqb, ltb, inl, inr, List, [], ◌∷◌, ◌++◌, length, Option, Some, None, refl, sym, ap, subst, ◌∙◌, arith, zero}
 use Rattle.std.specs.Prelude.{filter, count_by, ◌&&◌, ◌||◌, is_none}
-use Rattle.std.specs.List.{AllByRecursion, list_any, filter_map}
+use Rattle.std.specs.List.{AllByRecursion, list_any, filter_map, Contains}
 use Rattle.std.proofs.lemmas.Bool.{false≢true, lt-ltb, le-ltb, ltb-true, ltb-false}
 use Rattle.std.proofs.lemmas.Bool.Decides.{eqb_tells}
 use Rattle.coap_codec.specs.Spelling.{Content}
@@ -11,6 +11,7 @@ use Rattle.history_laws.specs.Readings.{Noted, First}
 use Rattle.history_laws.specs.Worked.{noted}
 use Rattle.history_laws.specs.Progress.{Reply}
 use Rattle.history_laws.specs.Exchanges.{Sent, Nothing, End, end_here, end_by, end_of, waits_by, waits_for, replies, goes_to, begun, is_waiting}
+use Rattle.history_laws.proofs.CallerLemmas.{any-of, eqb-itself, filtered-from, none-some}
 use Rattle.history_links.proofs.Facts.{Rising}
 use Rattle.history_links.proofs.Mids.{count-cons}
 
@@ -109,24 +110,13 @@ one-awaited f g now old o n is none same (q ∷ os) = by (eqb o q) refl (old q) 
     by true e (Some i) v ih =
         let same_one : o ≡ q = elim (eqb_tells o q) [ inl w ↦ w.1 | inr w ↦ absurd (false≢true (sym (w.0) ∙ e)) ] in
         absurd (none-some i (sym none ∙ (ap old same_one ∙ v)))
-      where
-        none-some : (i : ℕ) → None ≡ Some i → ⊥
-        none-some i e = cc
     by true e None v ih = rw (is q, e, v) (ap (λ (x : Bool). f n || x) ih ∙ or-shift (list_any g (filter_map old os)) (list_any (eqb o) os) (f n))
     by false e None v ih = rw (is q, e, v) ih
     by false e (Some i) v ih = rw (is q, e, v, same q i v) (ap (λ (x : Bool). g i || x) ih ∙ or-swap (g i) (list_any g (filter_map old os)) (list_any (eqb o) os) (f n))
 
 pub is-among : (g : ℕ → Bool) (o : ℕ) (others os : List ℕ) → filter g os ≡ o ∷ others → list_any (eqb o) os ≡ true
-is-among g o others [] e = cc
-is-among g o others (q ∷ os) e = by (g q) (is-among g o others os) e
-  where
-    or-true : (a : Bool) → (a || true) ≡ true
-    or-true true = refl
-    or-true false = refl
-
-    by : (b : Bool) → (filter g os ≡ o ∷ others → list_any (eqb o) os ≡ true) → cond b (q ∷ filter g os) (filter g os) ≡ o ∷ others → (eqb o q || list_any (eqb o) os) ≡ true
-    by true ih e = elim (eqb_tells o q) [ inl w ↦ rw (w.0) refl | inr w ↦ absurd (w.1 (sym ((heads q o (filter g os) others e).0))) ]
-    by false ih e = rw (ih e) (or-true (eqb o q))
+is-among g o others os e =
+    any-of (eqb o) os o (filtered-from g os o (subst (λ (xs : List ℕ). Contains xs o) (sym e) (zero, omega arith, refl))).0 (eqb-itself o)
 
 -- moments at which IDs were given
 

@@ -4,7 +4,7 @@ use Rattle.uri_map.specs.declared.peer.Peer.{Peer}
 use Rattle.journal_book.specs.Entries.{Deed, Opens, Asks, Sends, Hears, Answers, Shuts, Seals}
 use Rattle.history_laws.specs.Readings.{Noted, Note, Plain, Confirms, Repeats, Garbled, newest}
 use Rattle.history_laws.specs.Worked.{noted}
-use Rattle.history_laws.proofs.Places.{at-keeps}
+use Rattle.history_laws.proofs.CallerLemmas.{at-keeps}
 use Rattle.history_links.specs.Steps.{IsSilent, SilentAgrees}
 use Rattle.history_links.proofs.Still.{Still, still-by, SameHeard, heard-at, rest-still}
 use Rattle.history_links.proofs.Queueing.{turn-kept}

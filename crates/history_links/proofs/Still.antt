@@ -1,7 +1,8 @@
 -- What an entry that leaves a peer alone leaves of what a link keeps.
 use Rattle.std.proofs.Common.{◌≡◌, ℕ, ◌≤◌, ◌<◌, Bool, inl, inr, length, arith, true, false, ◌&&◌, List, [], ◌∷◌, Option, Some, None, refl, sym, ap, subst, ◌∙◌, cond}
-use Rattle.std.specs.Prelude.{filter, option_map}
+use Rattle.std.specs.Prelude.{option_map}
 use Rattle.std.specs.List.{list_any, filter_map}
+use Rattle.std.proofs.lemmas.List.Elements.{filter_agree}
 use Rattle.uri_map.specs.declared.peer.Peer.{Peer}
 use Rattle.message_layer.specs.Values.{LinkState}
 use Rattle.message_layer.specs.declared.state.Waiting.{Waiting}
@@ -12,13 +13,9 @@ use Rattle.history_laws.specs.Transmissions.{bears_token, firsts, first_at}
 use Rattle.history_laws.specs.Exchanges.{Begun, begun, openings, waits_for, end_of, awaited, is_waiting, waiting}
 use Rattle.history_laws.specs.Hearing.{went_under, went_as, is_like, heard_before, live_heard}
 use Rattle.history_laws.specs.Confirming.{answered_as}
-use Rattle.history_laws.proofs.Places.{at-cases, at-keeps}
+use Rattle.history_laws.proofs.CallerLemmas.{at-cases, at-keeps}
 use Rattle.history_links.proofs.Ranks.{rank-keeps}
 use Rattle.history_links.specs.Agrees.{IsWaitingFor, rank, TurnIn, WaitIn, reply_of, awaits, awaits_ack, HeardIn, Agrees}
-
-pub filter-same : {X : Type 0} (p q : X → Bool) → ((x : X) → p x ≡ q x) → (xs : List X) → filter p xs ≡ filter q xs
-filter-same p q same [] = refl
-filter-same p q same (x ∷ xs) = rw (same x, filter-same p q same xs) refl
 
 pub filter_map-same : {X Y : Type 0} (f g : X → Option Y) → ((x : X) → f x ≡ g x) → (xs : List X) → filter_map f xs ≡ filter_map g xs
 filter_map-same f g same [] = refl
@@ -45,7 +42,7 @@ pub is_waiting-still : (l n : List Noted) → Still l n → (p : Peer) (o : ℕ)
 is_waiting-still l n e p o = rw (e.begun_are o, e.waits_are o, e.ends_are o) refl
 
 pub waiting-still : (l n : List Noted) → Still l n → (p : Peer) → waiting n p ≡ waiting l p
-waiting-still l n e p = rw (e.openings_are) (filter-same (is_waiting n p) (is_waiting l p) (is_waiting-still l n e p) (openings l))
+waiting-still l n e p = rw (e.openings_are) (filter_agree (is_waiting n p) (is_waiting l p) (is_waiting-still l n e p) (openings l))
 
 -- Who waits for a first sending waits for the same one.
 abbrev pub Keeps : List Noted → List Noted → Type 0

@@ -1,5 +1,5 @@
 -- First sendings are found by their numbers, and told apart by their tokens.
-use Rattle.std.proofs.Common.{◌≡◌, ℕ, Bool, true, false, cond, eqb, List, [], ◌∷◌, length, Option, Some, None, inl, inr, refl, sym, ap, subst, ◌∙◌}
+use Rattle.std.proofs.Common.{◌≡◌, ℕ, Bool, true, eqb, List, [], ◌∷◌, length, Option, Some, None, inl, inr, refl, sym, ap, subst, ◌∙◌}
 use Rattle.std.specs.List.{AllByRecursion, find}
 use Rattle.std.proofs.lemmas.Bool.Decides.{eqb_tells}
 use Rattle.std.proofs.lemmas.Bool.{false≢true}
@@ -9,49 +9,11 @@ use Rattle.history_laws.specs.Worked.{noted}
 use Rattle.history_laws.specs.Transmissions.{FirstSending, firsts_by, firsts, first_at}
 use Rattle.history_laws.specs.Justified.{Legal}
 use Rattle.history_laws.specs.Laws.{IsFirst}
-use Rattle.history_laws.proofs.Places.{at-new, at-keeps}
-use Rattle.history_laws.proofs.Sendings.{tokens-apart}
-use Rattle.history_links.proofs.Facts.{all-more}
-
--- looking through lists
-
-pub find-passes : {X : Type 0} (q : X → Bool) (xs : List X) (x : X) → find q xs ≡ Some x → q x ≡ true
-find-passes q [] x e = cc
-find-passes {X = X} q (y ∷ xs) x e = by (q y) refl e (find-passes q xs x)
-  where
-    by : (b : Bool) → q y ≡ b → cond b (Some y) (find q xs) ≡ Some x → (find q xs ≡ Some x → q x ≡ true) → q x ≡ true
-    by true f e ih = subst (λ (z : X). q z ≡ true) (same y x e) f
-      where
-        same : (a b : X) → Some a ≡ Some b → a ≡ b
-        same a b e = cc
-    by false f e ih = ih e
-
-pub find-all : {X : Type 0} (P : X → Type 0) (q : X → Bool) (xs : List X) (x : X) → AllByRecursion P xs → find q xs ≡ Some x → P x
-find-all P q [] x a e = cc
-find-all {X = X} P q (y ∷ xs) x a e = by (q y) e (find-all P q xs x a.1)
-  where
-    by : (b : Bool) → cond b (Some y) (find q xs) ≡ Some x → (find q xs ≡ Some x → P x) → P x
-    by true e ih = subst P (same y x e) a.0
-      where
-        same : (a b : X) → Some a ≡ Some b → a ≡ b
-        same a b e = cc
-    by false e ih = ih e
+use Rattle.history_laws.proofs.CallerLemmas.{all-more, all-of, any-of, at-keeps, at-new, find-any, find-some, some-is, tokens-apart}
 
 -- where one is found, one that passes the other test is found too
 found-also : {X : Type 0} (q r : X → Bool) (xs : List X) (x : X) → find q xs ≡ Some x → r x ≡ true → (y : X) × (find r xs ≡ Some y)
-found-also q r [] x e f = cc
-found-also {X = X} q r (y ∷ xs) x e f = by (r y) refl (q y) e (found-also q r xs x)
-  where
-    true-false : (v : Bool) → v ≡ true → v ≡ false → ⊥
-    true-false v e f = false≢true (sym f ∙ e)
-
-    by : (a : Bool) → r y ≡ a → (b : Bool) → cond b (Some y) (find q xs) ≡ Some x → (find q xs ≡ Some x → r x ≡ true → (z : X) × (find r xs ≡ Some z)) → (z : X) × (cond (r y) (Some y) (find r xs) ≡ Some z)
-    by true g b e ih = (y, rw (g) refl)
-    by false g true e ih = absurd (true-false (r y) (subst (λ (z : X). r z ≡ true) (sym (same y x e)) f) g)
-      where
-        same : (a b : X) → Some a ≡ Some b → a ≡ b
-        same a b e = cc
-    by false g false e ih = let h = ih e f in (h.0, rw (g) h.1)
+found-also q r xs x e f = find-any r xs (any-of r xs x (find-some q xs x e).0 f)
 
 -- first sendings stand among the entries
 
@@ -77,14 +39,14 @@ all-there (x ∷ older) = there-by older x.written.moment x.written.deed x.note 
 
 pub number-of : (l : List Noted) (i : ℕ) (f : FirstSending) → first_at l i ≡ Some f → f.number ≡ i
 number-of l i f e =
-    let passes = find-passes (λ (f : FirstSending). eqb f.number i) (firsts l) f e in
+    let passes = (find-some (λ (f : FirstSending). eqb f.number i) (firsts l) f e).1 in
     elim (eqb_tells f.number i) [ inl w ↦ w.1 | inr w ↦ absurd (false≢true (sym w.0 ∙ passes)) ]
 
 pub is-first : (l : List Noted) (f : FirstSending) → IsThere l f → IsFirst l f.moment f.opening f.number f.peer f.message
 is-first l f h = record { bytes = h.bytes; timeout = h.timeout; stands = h.stands }
 
 pub first-there : (l : List Noted) (i : ℕ) (f : FirstSending) → first_at l i ≡ Some f → IsThere l f
-first-there l i f e = find-all (IsThere l) (λ (f : FirstSending). eqb f.number i) (firsts l) f (all-there l) e
+first-there l i f e = all-of (IsThere l) (firsts l) f (all-there l) (find-some (λ (f : FirstSending). eqb f.number i) (firsts l) f e).0
 
 -- two that bear one token are one
 pub one-token : (l : List Noted) (i j : ℕ) (f g : FirstSending) → Legal l → first_at l i ≡ Some f → first_at l j ≡ Some g → f.message.token ≡ g.message.token → i ≡ j
@@ -108,12 +70,9 @@ same-entry : (f g : FirstSending) (b c : List ℕ) (u v : Option ℕ) → f.numb
     → Some (noted f.moment (Sends f.peer b u) (First f.opening f.message)) ≡ Some (noted g.moment (Sends g.peer c v) (First g.opening g.message)) → f ≡ g
 unfolding sending-in
 same-entry f g b c u v n e =
-    some-same f (record { number = f.number; moment = g.moment; opening = g.opening; peer = g.peer; message = g.message }) (ap (sending-in f.number) e)
+    some-is f (record { number = f.number; moment = g.moment; opening = g.opening; peer = g.peer; message = g.message }) (ap (sending-in f.number) e)
     ∙ ap (renumbered g) n
   where
-    some-same : (x y : FirstSending) → Some x ≡ Some y → x ≡ y
-    some-same x y e = cc
-
     renumbered : FirstSending → ℕ → FirstSending
     renumbered g n = record { number = n; moment = g.moment; opening = g.opening; peer = g.peer; message = g.message }
 
@@ -121,7 +80,7 @@ pub found-first : (l : List Noted) (q : FirstSending → Bool) (f : FirstSending
 found-first l q f e =
     let itself : eqb f.number f.number ≡ true = elim (eqb_tells f.number f.number) [ inl w ↦ w.0 | inr w ↦ absurd (w.1 refl) ] in
     let other = found-also q (λ (g : FirstSending). eqb g.number f.number) (firsts l) f e itself in
-    let mine = find-all (IsThere l) q (firsts l) f (all-there l) e in
+    let mine = all-of (IsThere l) (firsts l) f (all-there l) (find-some q (firsts l) f e).0 in
     let its = first-there l f.number other.0 other.1 in
     let number = number-of l f.number other.0 other.1 in
     let stands = subst (λ (n : ℕ). at l n ≡ Some (noted other.0.moment (Sends other.0.peer its.bytes its.timeout) (First other.0.opening other.0.message))) number its.stands in

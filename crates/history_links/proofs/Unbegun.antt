@@ -6,7 +6,7 @@ use Rattle.journal_book.specs.Entries.{Deed, Sends, Hears, Passes}
 use Rattle.history_laws.specs.Readings.{Noted, Note, First, Says}
 use Rattle.history_laws.specs.Exchanges.{Begun, begun_by, begun, opens_by, Nothing, turn_by, turn, waits_for, end_of}
 use Rattle.history_laws.specs.Justified.{Follows, Legal}
-use Rattle.history_laws.proofs.Sent.{begun-below}
+use Rattle.history_laws.proofs.CallerLemmas.{begun-below}
 
 not-begun : (q : Option CoapRequest) (here : Bool) (t : ℕ) (old : Option Begun) → begun_by q here t old ≡ None → old ≡ None
 not-begun None here t old e = e

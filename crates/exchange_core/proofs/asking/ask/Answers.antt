@@ -5,7 +5,7 @@ use Rattle.ask_model.specs.Maps.{Maps}
 use Rattle.ask_model.specs.Requests.{Came, Sense}
 use Rattle.ask_model.specs.Sizes.{came_size}
 use Rattle.ask_model.specs.Views.{Mapping, sense_of, body_of}
-use Rattle.history_laws.proofs.Refusals.{maps-refusal}
+use Rattle.history_laws.proofs.CallerLemmas.{maps-refusal}
 use Rattle.exchange_core.specs.States.{state_of}
 use Rattle.exchange_core.proofs.Ordered.{conns-ordered}
 use Rattle.exchange_core.proofs.Asks.{may-be-refused}

@@ -1,10 +1,9 @@
-use Rattle.std.proofs.Common.{◌≡◌, ◌++◌, ◌∷◌, ℕ, List, [], sym, ap, subst, ◌∙◌}
+use Rattle.std.proofs.Common.{ℕ, List, [], sym, ap, subst, ◌∙◌, append-nil}
 use Rattle.std.specs.List.{list_any}
 use Rattle.journal_book.specs.Entries.{Written}
 use Rattle.exchange_model.specs.Calls.{waits_on}
 use Rattle.exchange_core.specs.Answering.{given_of}
 use Rattle.exchange_core.specs.Ending.{EndsIn, IsAnswerTo}
-use Rattle.exchange_core.proofs.Drafting.{append-none}
 use Rattle.exchange_core.proofs.Endings.{leads-ended, leads-unheard}
 use Rattle.exchange_core.proofs.ending.draft_end.Goals as goal
 
@@ -30,4 +29,4 @@ returns-else-is_awaited-clause-leads g c =
     c.if-is_awaited.ensures)
 
 pub returns-else-is_awaited-clause-grows : goal.returns-else-is_awaited-clause-grows
-returns-else-is_awaited-clause-grows g c = ([], sym (append-none c.args.draft.now.entries))
+returns-else-is_awaited-clause-grows g c = ([], sym (append-nil c.args.draft.now.entries))

@@ -2,11 +2,12 @@ use Rattle.std.proofs.Common.{◌≡◌, ◌≤◌, ◌<◌, ℕ, List, Option, 
 use Rattle.std.proofs.lemmas.Bool.{ltb-false}
 use Rattle.exchange_core.specs.States.{peer_link}
 use Rattle.exchange_core.specs.Expiring.{given_up_at, given_up, is_that}
-use Rattle.exchange_core.proofs.TickExpiring.{first-or, first-below, none-link}
+use Rattle.exchange_core.proofs.TickExpiring.{first-or, first-below}
 use Rattle.exchange_core.proofs.expiring.is_given_up.Goals as goal
+use Rattle.exchange_core.proofs.BeginLinks.{none-of}
 
 pub returns-in_default : goal.returns-in_default
-returns-in_default c = rw (none-link _ _ (c.find_endpoint.ensures.none c.in_default.is)) refl
+returns-in_default c = rw (none-of _ _ (c.find_endpoint.ensures.none c.in_default.is)) refl
 
 pub returns-in-Some-get : goal.returns-in-Some-get
 returns-in-Some-get c =

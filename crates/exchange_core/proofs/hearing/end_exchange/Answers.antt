@@ -1,7 +1,7 @@
 use Rattle.std.proofs.Common.{ℕ, List, Option, sym, ap, ◌∙◌}
 use Rattle.std.specs.Prelude.{filter}
 use Rattle.exchange_model.specs.Steps.{is_other}
-use Rattle.exchange_core.proofs.Heard.{all-others}
+use Rattle.exchange_model.proofs.CallerLemmas.{all-others}
 use Rattle.exchange_core.proofs.hearing.end_exchange.Goals as goal
 
 pub returns-in_default : goal.returns-in_default

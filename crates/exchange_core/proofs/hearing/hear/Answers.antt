@@ -5,9 +5,10 @@ use Rattle.exchange_model.specs.State.{PeerLink, link_of}
 use Rattle.exchange_core.specs.Endpoints.{IsFirstAt, HasNone}
 use Rattle.exchange_core.specs.declared.state.Endpoint.{Endpoint}
 use Rattle.exchange_core.specs.States.{peer_link, state_of, given_in, outgoing, core_of}
-use Rattle.exchange_core.proofs.Heeds.{link-at, got-first, none-at, first-below}
+use Rattle.exchange_core.proofs.Heeds.{none-at}
 use Rattle.exchange_core.proofs.HeardSteps.{lost-stays, unknown-lost, dropped-lost}
 use Rattle.exchange_core.proofs.hearing.hear.Goals as goal
+use Rattle.exchange_core.proofs.BeginLinks.{link-at, first-below, first-got}
 
 pub returns-in_default-clause-heard : goal.returns-in_default-clause-heard
 returns-in_default-clause-heard g c =
@@ -34,7 +35,7 @@ returns-in-None-clause-heard g c =
     let first = subst (λ (ls : List PeerLink). IsFirstAt c.args.peer ls c.in-Some.place) (sym same)
     (subst (λ (xs : List Endpoint). IsFirstAt c.args.peer (map peer_link xs) c.in-Some.place) here
     c.in-Some.ensures.some) in
-    let x = got-first c.args.peer c.prepare_at.new.endpoints.items c.in-Some.place first in
+    let x = first-got c.args.peer c.prepare_at.new.endpoints.items c.in-Some.place first in
     let at = sym (link-at c.args.peer c.prepare_at.new.endpoints.items c.in-Some.place x.0 first
     x.1) ∙ ap (λ (ls : List PeerLink). link_of ls c.args.peer) same in
     ap (λ (ls : List PeerLink). core_of (record S { links = ls }) (given_in c.args.s.now)

@@ -2,8 +2,8 @@ use Rattle.std.proofs.Common.{ap, ◌∙◌, subst}
 use Rattle.message_layer.specs.Prepared.{IsPreparedFor}
 use Rattle.exchange_core.specs.declared.state.Endpoint.{Endpoint}
 use Rattle.exchange_core.specs.States.{peer_link}
-use Rattle.exchange_core.proofs.Heeds.{links-same, set-there}
 use Rattle.exchange_core.proofs.hearing.prepare_at.Goals as goal
+use Rattle.exchange_core.proofs.BeginLinks.{links-same, set-there}
 
 pub returns-clause-same : goal.returns-clause-same
 returns-clause-same c =

@@ -4,8 +4,9 @@ use Rattle.exchange_model.specs.State.{with_link}
 use Rattle.exchange_core.specs.declared.state.Endpoint.{Endpoint}
 use Rattle.exchange_core.specs.Hearing.{heeds}
 use Rattle.exchange_core.specs.States.{peer_link}
-use Rattle.exchange_core.proofs.Heeds.{link-at, links-set, got-or}
+use Rattle.exchange_core.proofs.Heeds.{got-or}
 use Rattle.exchange_core.proofs.hearing.settle_at.Goals as goal
+use Rattle.exchange_core.proofs.BeginLinks.{link-at, links-set}
 
 pub settle-requires-clause-ready : goal.settle-requires-clause-ready
 settle-requires-clause-ready c =

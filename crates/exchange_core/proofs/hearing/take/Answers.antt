@@ -2,10 +2,11 @@ use Rattle.std.proofs.Common.{sym, ◌∙◌, arith}
 use Rattle.exchange_core.specs.States.{state_of}
 use Rattle.exchange_core.proofs.Ordered.{conns-ordered}
 use Rattle.exchange_core.proofs.Heard.{next-timed}
-use Rattle.exchange_core.proofs.Heeds.{link-at, got-first, first-below, spells, bytes-small}
+use Rattle.exchange_core.proofs.Heeds.{spells, bytes-small}
 use Rattle.exchange_core.proofs.HeardSteps.{sound-sealed, seen-sealed, places-left, sound-heard, seen-heard}
 use Rattle.exchange_core.proofs.Openings.{all-opened}
 use Rattle.exchange_core.proofs.hearing.take.Goals as goal
+use Rattle.exchange_core.proofs.BeginLinks.{link-at, first-below, first-got}
 
 pub draft_heard-requires-clause-opened : goal.draft_heard-requires-clause-opened
 draft_heard-requires-clause-opened g c = all-opened
@@ -13,7 +14,7 @@ draft_heard-requires-clause-opened g c = all-opened
 
 pub draft_heard-requires-clause-timed : goal.draft_heard-requires-clause-timed
 draft_heard-requires-clause-timed g c =
-    let x = got-first c.args.peer c.args.s.now.endpoints.items c.args.place c.requires.at in
+    let x = first-got c.args.peer c.args.s.now.endpoints.items c.args.place c.requires.at in
     let i = c.requires.hears x.0 x.1 in
     next-timed c.args.moment c.args.peer (state_of c.args.s.now) x.0.link c.args.hearing.heeding
     i.ready
@@ -22,13 +23,13 @@ draft_heard-requires-clause-timed g c =
 
 pub draft_heard-requires-clause-spelled : goal.draft_heard-requires-clause-spelled
 draft_heard-requires-clause-spelled g c = λ m e.
-    let x = got-first c.args.peer c.args.s.now.endpoints.items c.args.place c.requires.at in
+    let x = first-got c.args.peer c.args.s.now.endpoints.items c.args.place c.requires.at in
     spells c.args.moment c.args.datagram.now x.0.link c.args.hearing m (c.requires.hears x.0 x.1)
     (bytes-small c.args.datagram.now (λ i. omega (arith, c.type_inv.datagram i))) e
 
 pub returns-then-not-takes-clause-sound : goal.returns-then-not-takes-clause-sound
 returns-then-not-takes-clause-sound g c =
-    let x = got-first c.args.peer c.args.s.now.endpoints.items c.args.place c.requires.at in
+    let x = first-got c.args.peer c.args.s.now.endpoints.items c.args.place c.requires.at in
     let e = c.seal.ensures in
     sound-sealed c.args.moment c.args.peer c.args.datagram.now
     (state_of c.args.s.now) x.0.link c.args.hearing _ _ _
@@ -41,7 +42,7 @@ returns-then-not-takes-clause-sound g c =
 
 pub returns-then-not-takes-clause-heard : goal.returns-then-not-takes-clause-heard
 returns-then-not-takes-clause-heard g c =
-    let x = got-first c.args.peer c.args.s.now.endpoints.items c.args.place c.requires.at in
+    let x = first-got c.args.peer c.args.s.now.endpoints.items c.args.place c.requires.at in
     let e = c.seal.ensures in
     seen-sealed c.args.moment c.args.peer c.args.datagram.now
     (state_of c.args.s.now) x.0.link c.args.hearing _ _ _
@@ -54,7 +55,7 @@ returns-then-not-takes-clause-heard g c =
 
 pub add_heard-requires-clause-room : goal.add_heard-requires-clause-room
 add_heard-requires-clause-room g c =
-    let x = got-first c.args.peer c.args.s.now.endpoints.items c.args.place c.requires.at in
+    let x = first-got c.args.peer c.args.s.now.endpoints.items c.args.place c.requires.at in
     places-left c.args.moment c.args.peer c.args.datagram.now
     (state_of c.args.s.now) x.0.link c.args.hearing _ _ _
     c.requires.sound c.requires.unsealed c.requires.later c.requires.early
@@ -73,7 +74,7 @@ add_heard-requires-clause-ready g c = λ e k. (c.requires.hears e k).ready
 
 pub returns-clause-sound : goal.returns-clause-sound
 returns-clause-sound g c =
-    let x = got-first c.args.peer c.args.s.now.endpoints.items c.args.place c.requires.at in
+    let x = first-got c.args.peer c.args.s.now.endpoints.items c.args.place c.requires.at in
     let e = c.in_ok-add_heard.ensures in
     sound-heard c.args.moment c.args.peer c.args.datagram.now
     (state_of c.args.s.now) x.0.link c.args.hearing _ _ _
@@ -87,7 +88,7 @@ returns-clause-sound g c =
 
 pub returns-clause-heard : goal.returns-clause-heard
 returns-clause-heard g c =
-    let x = got-first c.args.peer c.args.s.now.endpoints.items c.args.place c.requires.at in
+    let x = first-got c.args.peer c.args.s.now.endpoints.items c.args.place c.requires.at in
     let e = c.in_ok-add_heard.ensures in
     seen-heard c.args.moment c.args.peer c.args.datagram.now
     (state_of c.args.s.now) x.0.link c.args.hearing _ _ _

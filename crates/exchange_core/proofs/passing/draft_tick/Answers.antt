@@ -1,8 +1,8 @@
 use Rattle.std.proofs.Common.{◌≡◌, ◌+◌, ◌∷◌, ℕ, List, length, map, refl, sym, ap, subst, ◌∙◌, arith}
 use Rattle.std.specs.Prelude.{fold}
 use Rattle.std.specs.List.{AllByRecursion}
+use Rattle.history_laws.proofs.CallerLemmas.{all-filter}
 use Rattle.journal_book.specs.Entries.{Deed, Passes}
-use Rattle.history_links.proofs.Facts.{all-filter}
 use Rattle.exchange_model.specs.declared.kept.Exchange.{Exchange}
 use Rattle.exchange_model.specs.State.{State}
 use Rattle.exchange_model.specs.Steps.{entered, expires, is_gone}

@@ -1,7 +1,7 @@
 use Rattle.std.proofs.Common.{ap, sym, ◌∙◌}
 use Rattle.exchange_model.specs.Due.{has_come}
 use Rattle.exchange_model.specs.State.{State}
-use Rattle.exchange_model.proofs.Due.{next-due}
+use Rattle.exchange_model.proofs.CallerLemmas.{next-due}
 use Rattle.exchange_core.specs.States.{state_of}
 use Rattle.exchange_core.proofs.passing.is_due.Goals as goal
 

@@ -1,9 +1,9 @@
 use Rattle.std.proofs.Common.{length, ltb, ltb-true, ltb-false, rules, sym}
-use Rattle.std.proofs.lemmas.Bool.{eq-eqb}
+use Rattle.std.proofs.lemmas.Bool.{eq-eqb, ne_eqb}
 use Rattle.std.proofs.lemmas.List.Sorted.{IsPartitionedBy-ltb, IsPartitionPoint-from_clause}
 use Rattle.exchange_model.specs.declared.kept.Conn.{Conn}
 use Rattle.exchange_core.specs.Places.{id_of, has_id}
-use Rattle.exchange_table.proofs.Standing.{neq-eqb, non-decreasing, none-past, none-there, only-at}
+use Rattle.exchange_table.proofs.CallerLemmas.{non-decreasing, none-past, none-there, only-at}
 use Rattle.exchange_core.proofs.Ordered.{id-tells}
 use Rattle.exchange_core.proofs.places.conn_place.Goals as goal
 
@@ -32,4 +32,4 @@ returns-else-conn-id-clause-none c =
     let split = IsPartitionPoint-from_clause (λ (x : Conn). ltb x.id c.args.id) xs place c.partition_point-place.ensures.partitioned
     (IsPartitionedBy-ltb id_of xs c.args.id (non-decreasing id_of xs c.requires)) (λ a r f' called. search rules) in
     λ none. none-there id_of c.args.id (has_id c.args.id) xs place c.in_ok-conn.conn.now (id-tells c.args.id) c.requires split below at.1
-    (neq-eqb _ _ c.if-conn-id.false)
+    (ne_eqb _ _ c.if-conn-id.false)

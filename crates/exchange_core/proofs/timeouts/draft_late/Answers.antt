@@ -1,5 +1,5 @@
 use Rattle.std.proofs.Common.{◌≡◌, ◌≤◌, length, ap, ◌∙◌, arith}
-use Rattle.history_links.proofs.Facts.{all-filter}
+use Rattle.history_laws.proofs.CallerLemmas.{all-filter}
 use Rattle.exchange_model.specs.Steps.{is_past}
 use Rattle.exchange_core.specs.Asked.{IsOpenedIn}
 use Rattle.exchange_core.specs.Drafts.{DraftValue}

@@ -1,10 +1,10 @@
 use Rattle.std.proofs.Common.{◌≡◌, ◌≤◌, ◌+◌, ℕ, List, length, refl, sym, ap, subst, ◌∙◌, arith}
 use Rattle.std.specs.Prelude.{filter, fold}
+use Rattle.history_laws.proofs.CallerLemmas.{all-filter}
 use Rattle.journal_book.specs.Entries.{Seals}
 use Rattle.exchange_model.specs.declared.kept.Exchange.{Exchange}
 use Rattle.exchange_model.specs.State.{State}
 use Rattle.exchange_model.specs.Calls.{times_out}
-use Rattle.history_links.proofs.Facts.{all-filter}
 use Rattle.exchange_model.specs.Steps.{entered, is_past}
 use Rattle.exchange_core.specs.Asked.{IsOpenedIn}
 use Rattle.exchange_core.specs.Drafts.{DraftValue, empty_draft}

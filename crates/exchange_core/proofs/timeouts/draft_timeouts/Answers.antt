@@ -1,19 +1,19 @@
 use Rattle.std.proofs.Common.{◌≡◌, List, length, sym, ap, subst, ◌∙◌, arith}
 use Rattle.std.specs.Prelude.{fold, OnOk}
 use Rattle.std.specs.List.{AllByRecursion}
+use Rattle.std.proofs.lemmas.List.{length-map}
 use Rattle.exchange_model.specs.State.{State}
 use Rattle.exchange_model.specs.Calls.{times_out}
 use Rattle.exchange_core.specs.declared.ending.Ended.{Ended}
 use Rattle.exchange_core.specs.Ending.{EndsIn, finished, out_of_time}
 use Rattle.exchange_core.specs.Leads.{Leads}
-use Rattle.exchange_core.proofs.Drafting.{length-map}
 use Rattle.exchange_core.proofs.Endings.{finished-late, late-end}
 use Rattle.exchange_core.proofs.timeouts.draft_timeouts.Goals as goal
 
 pub draft_ends-requires-clause-room : goal.draft_ends-requires-clause-room
 draft_ends-requires-clause-room g c =
     let n : length c.in_ok-ended.ended.items ≡ length c.args.exchanges.now =
-    ap length c.in_ok-ended.ensures ∙ length-map out_of_time c.args.exchanges.now in
+    ap length c.in_ok-ended.ensures ∙ (length-map c.args.exchanges.now out_of_time) in
     let room = c.requires.room in
     omega (arith, n, room)
 

@@ -1,4 +1,5 @@
-use Rattle.std.proofs.Common.{◌≡◌, ℕ, ◌+◌, ◌<◌, ◌∷◌, ◌++◌, [], List, length, map, take, drop, set, get_or, sym, ap, subst, ◌∙◌, arith, length-append}
+use Rattle.std.proofs.Common.{◌≡◌, ℕ, ◌+◌, ◌<◌, ◌∷◌, ◌++◌, [], List, length, map, take, drop, set, get_or, sym, ap, subst, ◌∙◌, arith, length-append, append-nil, take_all, length-set}
+use Rattle.std.proofs.lemmas.List.{drop_all}
 use Rattle.message_layer.specs.Calls.{is_among}
 use Rattle.message_layer.specs.Prepared.{IsTicking}
 use Rattle.message_layer.specs.declared.prepared.Ticking.{Ticking}
@@ -6,8 +7,7 @@ use Rattle.exchange_model.specs.Entering.{link_after}
 use Rattle.exchange_core.specs.declared.state.Endpoint.{Endpoint}
 use Rattle.exchange_core.specs.States.{peer_link}
 use Rattle.exchange_core.specs.Turns.{AreTurns}
-use Rattle.exchange_core.proofs.TickBack.{turns-alike, turns-last, turns-back, done-back, take-whole, drop-whole, length-set}
-use Rattle.exchange_core.proofs.Drafting.{append-none}
+use Rattle.exchange_core.proofs.TickBack.{turns-alike, turns-last, turns-back, done-back}
 use Rattle.exchange_core.proofs.turns.tick_turns.Goals as goal
 
 pub each-init : goal.each-init
@@ -17,8 +17,8 @@ each-init c =
     let f = link_after c.args.moment (is_among c.args.gone.now) in
     let alike : length ks ≡ length xs = turns-alike c.args.moment c.args.gone.now xs ks
     c.requires.ready in
-    let all : take (length ks) xs ≡ xs = ap (λ (n : ℕ). take n xs) alike ∙ take-whole xs in
-    let none : drop (length ks) xs ≡ [] = ap (λ (n : ℕ). drop n xs) alike ∙ drop-whole xs in
+    let all : take (length ks) xs ≡ xs = ap (λ (n : ℕ). take n xs) alike ∙ (take_all (length xs) xs (omega arith)) in
+    let none : drop (length ks) xs ≡ [] = ap (λ (n : ℕ). drop n xs) alike ∙ (drop_all (length xs) xs (omega arith)) in
     record {
       below = omega (arith, alike);
       ready = subst (λ (ys : List Endpoint). AreTurns c.args.moment c.args.gone.now ys ks) (sym all)
@@ -26,7 +26,7 @@ each-init c =
       done = ap (λ (ys : List Endpoint). map f (map peer_link ys)
           ++ map peer_link (drop (length ks) xs)) all
           ∙ ap (λ (ys : List Endpoint). map f (map peer_link xs) ++ map peer_link ys) none
-          ∙ append-none (map f (map peer_link xs));
+          ∙ append-nil (map f (map peer_link xs));
     }
 
 pub tick_turn-requires-clause-ready : goal.tick_turn-requires-clause-ready

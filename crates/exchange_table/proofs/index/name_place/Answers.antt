@@ -1,9 +1,9 @@
 use Rattle.std.proofs.Common.{ℕ, length, ltb, ltb-true, ltb-false, rules, sym}
-use Rattle.std.proofs.lemmas.Bool.{eq-eqb, eqb-true}
+use Rattle.std.proofs.lemmas.Bool.{eq-eqb, eqb-true, ne_eqb}
 use Rattle.std.proofs.lemmas.List.Sorted.{IsPartitionedBy-ltb, IsPartitionPoint-from_clause}
 use Rattle.exchange_table.specs.declared.index.Named.{Named}
 use Rattle.exchange_table.specs.Tables.{number_in, has_number}
-use Rattle.exchange_table.proofs.Standing.{Tells, non-decreasing, none-past, none-there, only-at, neq-eqb}
+use Rattle.exchange_table.proofs.Standing.{Tells, non-decreasing, none-past, none-there, only-at}
 use Rattle.exchange_table.proofs.index.name_place.Goals as goal
 
 tells : (n : ℕ) → Tells number_in n (has_number n)
@@ -34,4 +34,4 @@ returns-else-name-number-clause-none c =
     let split = IsPartitionPoint-from_clause (λ (x : Named). ltb (number_in x) c.args.number) xs place c.partition_point-place.ensures.partitioned
     (IsPartitionedBy-ltb number_in xs c.args.number (non-decreasing number_in xs c.requires)) (λ a r f' called. search rules) in
     λ none. none-there number_in c.args.number (has_number c.args.number) xs place c.in_ok-name.name.now (tells c.args.number) c.requires split below at.1
-    (neq-eqb _ _ c.if-name-number.false)
+    (ne_eqb _ _ c.if-name-number.false)

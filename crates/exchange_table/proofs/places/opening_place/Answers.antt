@@ -1,9 +1,9 @@
 use Rattle.std.proofs.Common.{ℕ, length, ltb, ltb-true, ltb-false, rules, sym}
-use Rattle.std.proofs.lemmas.Bool.{eq-eqb, eqb-true}
+use Rattle.std.proofs.lemmas.Bool.{eq-eqb, eqb-true, ne_eqb}
 use Rattle.std.proofs.lemmas.List.Sorted.{IsPartitionedBy-ltb, IsPartitionPoint-from_clause}
 use Rattle.exchange_model.specs.declared.kept.Exchange.{Exchange}
 use Rattle.exchange_table.specs.Tables.{opening_of, is_opened_at}
-use Rattle.exchange_table.proofs.Standing.{Tells, non-decreasing, none-past, none-there, only-at, neq-eqb}
+use Rattle.exchange_table.proofs.Standing.{Tells, non-decreasing, none-past, none-there, only-at}
 use Rattle.exchange_table.proofs.places.opening_place.Goals as goal
 
 tells : (n : ℕ) → Tells opening_of n (is_opened_at n)
@@ -34,4 +34,4 @@ returns-else-exchange-opening-clause-none c =
     let split = IsPartitionPoint-from_clause (λ (x : Exchange). ltb (opening_of x) c.args.opening) xs place c.partition_point-place.ensures.partitioned
     (IsPartitionedBy-ltb opening_of xs c.args.opening (non-decreasing opening_of xs c.requires)) (λ a r f' called. search rules) in
     λ none. none-there opening_of c.args.opening (is_opened_at c.args.opening) xs place c.in_ok-exchange.exchange.now (tells c.args.opening) c.requires split below at.1
-    (neq-eqb _ _ c.if-exchange-opening.false)
+    (ne_eqb _ _ c.if-exchange-opening.false)

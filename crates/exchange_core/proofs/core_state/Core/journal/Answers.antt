@@ -1,4 +1,4 @@
-use Rattle.exchange_model.proofs.Stepping.{kept-stands}
+use Rattle.exchange_model.proofs.CallerLemmas.{kept-stands}
 use Rattle.exchange_core.proofs.core_state.Core.journal.Goals as goal
 
 pub returns-clause-stands : goal.returns-clause-stands

@@ -1,8 +1,9 @@
 use Rattle.std.proofs.Common.{◌≡◌, List, sym, ap, subst, length, map, ◌∙◌, arith}
+use Rattle.std.proofs.lemmas.List.{length-map}
 use Rattle.exchange_model.specs.declared.kept.Exchange.{Exchange}
 use Rattle.exchange_model.specs.Steps.{went_out}
 use Rattle.exchange_table.specs.Tables.{IsIndexed}
-use Rattle.exchange_table.proofs.Indexed.{index-map, length-map, out-names}
+use Rattle.exchange_table.proofs.Indexed.{index-map, out-names}
 use Rattle.exchange_table.proofs.Standing.{put-back}
 use Rattle.exchange_table.proofs.exchanges.Exchanges.note_sending.Goals as goal
 

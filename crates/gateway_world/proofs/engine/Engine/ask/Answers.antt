@@ -8,7 +8,7 @@ use Rattle.http_edge.specs.Edges.{item}
 use Rattle.exchange_core.specs.Calls.{now}
 use Rattle.gateway_world.specs.Leading.{rules_in}
 use Rattle.gateway_model.specs.Orders.{AreFor}
-use Rattle.gateway_model.proofs.Opened.{denied-open}
+use Rattle.gateway_model.proofs.CallerLemmas.{denied-open}
 use Rattle.gateway_world.proofs.Acting.{then-ok}
 use Rattle.gateway_world.proofs.Asking.{asks-lead, denies-lead, came-item, ask-open, ask-stands, ask-waits, shut-less}
 use Rattle.gateway_world.proofs.Growth.{asks-grows, back-by, back-then}

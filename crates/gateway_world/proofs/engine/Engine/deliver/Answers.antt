@@ -3,7 +3,7 @@ use Rattle.gateway_model.specs.Orders.{AreSends, HasTurns, Delivers}
 use Rattle.gateway_world.proofs.Acting.{then-ok}
 use Rattle.gateway_world.proofs.Answering.{sent-served}
 use Rattle.gateway_world.proofs.Lead.{leads-then}
-use Rattle.gateway_model.proofs.Order.{delivers-on}
+use Rattle.gateway_model.proofs.CallerLemmas.{delivers-on}
 use Rattle.gateway_world.proofs.engine.Engine.deliver.Goals as goal
 
 pub returns-clause-leads : goal.returns-clause-leads

@@ -8,7 +8,7 @@ use Rattle.gateway_connections.specs.Inlets.{TableValue}
 use Rattle.gateway_model.specs.declared.input.Output.TheVariants as Out
 use Rattle.gateway_model.specs.Orders.{AreSends}
 use Rattle.gateway_world.proofs.Lead.{leads-none, leads-then}
-use Rattle.gateway_model.proofs.Order.{sends-on}
+use Rattle.gateway_model.proofs.CallerLemmas.{sends-on}
 use Rattle.gateway_world.proofs.Growth.{back-state}
 use Rattle.gateway_world.proofs.Acting.{sends-lead, leads-core, shorter}
 use Rattle.gateway_world.proofs.engine.Engine.send_all.Goals as goal

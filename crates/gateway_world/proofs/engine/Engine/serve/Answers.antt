@@ -7,7 +7,7 @@ use Rattle.gateway_world.proofs.Acting.{serves-lead}
 use Rattle.gateway_world.proofs.Answering.{still-told}
 use Rattle.gateway_world.proofs.Growth.{back-then}
 use Rattle.gateway_world.proofs.Lead.{leads-then}
-use Rattle.gateway_model.proofs.Order.{for-on}
+use Rattle.gateway_model.proofs.CallerLemmas.{for-on}
 use Rattle.gateway_world.proofs.Quiet.{waits-then}
 use Rattle.gateway_world.proofs.engine.Engine.serve.Goals as goal
 

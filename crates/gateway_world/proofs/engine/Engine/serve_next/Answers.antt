@@ -1,9 +1,9 @@
 -- What is next is asked, or the client is told to go on, or nothing is asked.
 use Rattle.std.proofs.Common.{◌<◌, ◌≤◌, inl, inr, refl, arith}
+use Rattle.std.proofs.lemmas.Bool.{both_ways}
 use Rattle.http_edge.specs.Edges.{item}
 use Rattle.gateway_connections.specs.Inlets.{inlet_at}
 use Rattle.gateway_world.specs.Engines.{work_in}
-use Rattle.gateway_model.proofs.Standing.{differ}
 use Rattle.gateway_world.proofs.Acting.{goes-on-lead, rests-lead, serves-lead}
 use Rattle.gateway_world.proofs.ReadingOn.{takes-item, asks-less, read-told, nothing-counts, nothing-read}
 use Rattle.gateway_world.proofs.engine.Engine.serve_next.Goals as goal
@@ -45,4 +45,4 @@ returns-in-Nothing-clause-leads g c =
 pub returns-then-not-is_idle-clause-leads : goal.returns-then-not-is_idle-clause-leads
 returns-then-not-is_idle-clause-leads g c =
     rests-lead _ _ c.args.number c.args.self.now c.args.self.now c.args.outputs.now.items refl (inl refl)
-    (inl (λ has. differ c.is_idle.result (c.is_idle.ensures.1 has) c.if-not-is_idle.true))
+    (inl (λ has. (both_ways c.is_idle.result c.if-not-is_idle.true (c.is_idle.ensures.1 has))))

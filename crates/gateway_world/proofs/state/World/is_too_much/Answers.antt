@@ -1,8 +1,8 @@
 -- Who waits for no answer is read out, and what the table counts of it is what its text leaves.
 use Rattle.std.proofs.Common.{length, sym, subst}
 use Rattle.exchange_model.specs.Room.{KeptInRoom}
-use Rattle.exchange_model.proofs.Numbered.{conns-rise}
-use Rattle.gateway_model.proofs.Conns.{once-rising}
+use Rattle.exchange_model.proofs.CallerLemmas.{conns-rise}
+use Rattle.gateway_model.proofs.CallerLemmas.{once-rising}
 use Rattle.gateway_world.specs.Worlds.{WorldValue}
 use Rattle.gateway_world.proofs.Limits.{limit-so}
 use Rattle.gateway_world.proofs.state.World.is_too_much.Goals as goal
