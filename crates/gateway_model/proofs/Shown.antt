@@ -54,9 +54,10 @@ request-same q r e = cc
 
 message-same : (h : List Written) (k j t : ℕ) (q : CoapRequest) (m n : Content) → IsHeardFor h k q j m → HeardAs h j t n → m ≡ n
 message-same h k j t q m n a b =
-    let same : a.bytes ≡ b.bytes =
-    hears-same a.moment t q.peer b.peer a.bytes b.bytes (sym a.heard ∙ b.stands) in
-    spells_one m n b.bytes (subst (Spells m) same a.spelled) b.spelled
+    let heard = a.response.heard in
+    let same : heard.bytes ≡ b.bytes =
+    hears-same a.response.moment t q.peer b.peer heard.bytes b.bytes (sym heard.stands ∙ b.stands) in
+    spells_one m n b.bytes (subst (Spells m) same heard.spelled) b.spelled
 
 messages-same : (h : List Written) (k : ℕ) (q : CoapRequest) (js : List ℕ) (ms ns : List Content)
     → AreHeardFor h k q js ms → AreHeard h js ns → ms ≡ ns

@@ -44,7 +44,7 @@ module _ (holds : Form → Form → List ℕ → List ℕ → Type 0)
   ShowsGrounds h n t c k a (Live js) r = ShowsReplies h n t c k a js r
   ShowsGrounds h n t c k a (Kept js) r = ⊥
   ShowsGrounds h n t c k a (Fault cause j) r =
-      (j < n) × IsCausedBy h t c k cause j × Tells (mapping_of a) cause j r
+      (j < n) × IsCausedBy h n t c k cause j × Tells (mapping_of a) cause j r
 
   -- The bytes are an HTTP response that tells the answer in the entry n to an ask of the
   -- connection: to what its request means by the rules.

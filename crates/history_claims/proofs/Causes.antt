@@ -1,9 +1,10 @@
 -- An own answer names its cause.
-use Rattle.std.proofs.Common.{◌≡◌, ℕ, ◌+◌, ◌<◌, ◌≤◌, ◌⊎◌, true, false, inl, inr, List, [], ◌∷◌, length, Option, Some, None, refl, sym, ap, subst, ◌∙◌, arith}
+use Rattle.std.proofs.Common.{◌≡◌, ℕ, ◌+◌, ◌<◌, ◌≤◌, ◌⊎◌, Bool, true, false, ◌||◌, inl, inr, List, [], ◌∷◌, length, Option, Some, None, refl, sym, ap, subst, ◌∙◌, arith}
 use Rattle.std.specs.Prelude.{is_none}
-use Rattle.std.proofs.lemmas.Bool.Decides.{leb_tells}
+use Rattle.std.proofs.lemmas.Bool.Decides.{eqb_tells, leb_tells}
 use Rattle.std.proofs.lemmas.Bool.{false≢true, or_cases}
 use Rattle.limits.specs.declared.TheConstants.{MAX_TRANSMIT_WAIT}
+use Rattle.coap_codec.specs.declared.message.MsgType.TheVariants.{Rst}
 use Rattle.coap_codec.specs.Spelling.{Content}
 use Rattle.uri_map.specs.declared.peer.Peer.{Peer}
 use Rattle.ask_model.specs.Requests.{CoapRequest, Requests, Refuses}
@@ -12,21 +13,26 @@ use Rattle.ask_model.specs.declared.cause.Cause.{Cause}
 use Rattle.ask_model.specs.declared.cause.Cause.TheVariants as C
 use Rattle.journal_book.specs.Entries.{Fault, Answers, Hears, Passes, Written}
 use Rattle.history_laws.specs.Responses.{is_whole, whole_of}
+use Rattle.history_laws.specs.Confirmations.{empty}
+use Rattle.history_laws.specs.Connections.{is_open}
 use Rattle.history_laws.specs.Readings.{Noted, Note, Plain, Says, entries, at, before}
 use Rattle.history_laws.specs.Progress.{Reply, NotUnderstood, Reset, TimedOut}
 use Rattle.history_laws.specs.Transmissions.{Transmission, given_up, transmission, sent_last}
-use Rattle.history_laws.specs.Exchanges.{Begun, begun, late_by, is_late, Expired, expires, turn, waits_for, replies}
-use Rattle.history_laws.specs.Justified.{IsAsk, IsTurnedAway as WasTurnedAway, IsRefused as WasRefused, IsOverdue, Caused, Ends, reads, Legal, Stands}
+use Rattle.history_laws.specs.Exchanges.{Begun, begun, late_by, is_late, Expired, expires, turn, waits_for, replies, end_here}
+use Rattle.history_laws.specs.Justified.{IsAsk, IsTurnedAway as WasTurnedAway, IsRefused as WasRefused, IsOverdue, Caused, Ends, reads, pending, Follows, MayCome, Legal, Stands}
 use Rattle.history_laws.specs.Laws.{IsFirst}
 use Rattle.history_laws.specs.Worked.{noted}
-use Rattle.history_laws.proofs.CallerLemmas.{at-before, at-below, at-entries, at-newest, before-twice, begun-before, ends-first, follows-at, legal-before, length-before, reads-own, replies-fit, sent-once, some-is, waits-first}
-use Rattle.history_claims.specs.Headline.{IsEntry, IsSentFor, IsUnsent, IsTurnedAway, IsTimedOut, IsGivenUp, IsReset, IsNotUnderstood, IsRefused, IsCausedBy}
+use Rattle.history_laws.proofs.CallerLemmas.{at-before, at-below, at-newest, at-same, at-still, before-twice, begun-before, ends-first, follows-at, legal-before, length-before, none-after-end, reads-own, replies-fit, sent-once, some-is, waits-first}
+use Rattle.history_claims.specs.Headline.{IsEntry, IsSentFor, IsHeard, IsUnanswered, IsUnsettled, IsUnsent, IsTurnedAway, IsTimedOut, IsGivenUp, IsReset, IsNotUnderstood, IsRefused, IsCausedBy}
 use Rattle.history_claims.proofs.Entries.{entries-at, newest-before}
-use Rattle.history_claims.proofs.Sending.{first-before, sent-as, heard-in}
+use Rattle.history_claims.proofs.Sending.{first-before, sent-as}
+use Rattle.history_claims.proofs.Repeats.{heard-entry}
+use Rattle.history_claims.proofs.Waiting.{unanswered-till, going-waits, heard-in}
+use Rattle.history_claims.proofs.Hands.{no-input}
 use Rattle.history_claims.proofs.Resting.{answers-ask, asked-by, opened-by}
 use Rattle.history_claims.proofs.Ending.{turn-expired, reset-turn, expired-turn, failed-turn, going-unreplied, reply-listed, rejected-in}
 use Rattle.history_claims.proofs.Unsent.{Over, unsent-in, none-for-plain, sent-last-none, sent-last-first, never-sent}
-use Rattle.history_claims.proofs.GivenUp.{given-up-at}
+use Rattle.history_claims.proofs.GivenUp.{unsettled-till, given-up-at}
 use Rattle.history_claims.proofs.Crowded.{crowded-at}
 
 not-late : (t : ℕ) (b : Begun) → late_by t b ≡ true → b.since + MAX_TRANSMIT_WAIT ≤ t
@@ -40,6 +46,15 @@ late-since l n k s b opened late = go (begun (before l n) k) refl late
     go None is h = absurd (false≢true h)
     go (Some a) is h =
         subst (λ (b : Begun). b.since + MAX_TRANSMIT_WAIT ≤ s) (some-is a b (sym (begun-before l n k a is) ∙ opened)) (not-late s a h)
+
+hears-not : (s t : ℕ) (p : Peer) (b : List ℕ) (u v : Note) → noted s (Hears p b) u ≡ noted t Passes v → ⊥
+hears-not s t p b u v e = go (ap (λ (x : Noted). x.written.deed) e)
+  where
+    go : Hears p b ≡ Passes → ⊥
+    go f = cc
+
+stands-as : (l : List Noted) (n : ℕ) (x y : Noted) → at l n ≡ Some x → x ≡ y → at l n ≡ Some y
+stands-as l n x y e f = e ∙ ap (λ (v : Noted). Some v) f
 
 whole-none : (q : CoapRequest) (m : Content) → is_whole m ≡ false → whole_of q (m ∷ []) ≡ None
 whole-none q m e = rw e refl
@@ -92,7 +107,15 @@ module _ (l : List Noted) (n t c k : ℕ) (cause : Cause) (j : ℕ) (legal : Leg
       let u = reset-turn (turn late k y) j (replies late k) end.3 in
       let it = rejected-in late k y (follows-at (before l n) j y (legal-before l n legal) end.1) u in
       let first = first-before l n _ k _ _ _ (first-before (before l n) j it.sent_at k it.sending it.peer it.sent it.first) in
-      let sent = sent-as l it.sent_at k it.sending it.peer it.sent x.exchange legal x.opened first in (
+      let sent = sent-as l it.sent_at k it.sending it.peer it.sent x.exchange legal x.opened first in
+      let there : at l j ≡ Some y = at-before l n j y end.1 in
+      let said : Noted = noted y.written.moment (Hears it.peer it.bytes) (Says it.message (Some it.sending) it.notice) in
+      let twice : late ≡ before l j = before-twice l n j _ here (below j y end.1) in
+      let unsettled : IsUnsettled (entries l) it.peer it.sending it.sent j =
+      unsettled-till l j y it.sent_at k it.sending it.peer it.sent it.way legal there
+      (subst (λ (v : List Noted). IsFirst v it.sent_at k it.sending it.peer it.sent) twice it.first)
+      (subst (λ (v : List Noted). transmission v it.sending ≡ Some it.way) twice it.on_way)
+      (subst (λ (v : List Noted). waits_for v k ≡ Some it.sending) twice it.waited) in (
         below j y end.1,
         record {
           moment = x.exchange.since;
@@ -102,12 +125,10 @@ module _ (l : List Noted) (n t c k : ℕ) (cause : Cause) (j : ℕ) (legal : Leg
           sent = it.sent;
           sent_for = sent.1;
           after = subst (λ (m : ℕ). it.sending < m) (length-before (before l n) j y end.1) (at-below late it.sending _ it.first.stands);
+          unsettled = subst (λ (p : Peer). IsUnsettled (entries l) p it.sending it.sent j) sent.0 unsettled;
           reset = y.written.moment;
-          bytes = it.bytes;
-          heard = at-entries l j _
-              (subst (λ (p : Peer). at l j ≡ Some (noted y.written.moment (Hears p it.bytes) (Says it.message (Some it.sending) it.notice))) sent.0
-              (at-before l n j y end.1 ∙ ap (λ (v : Noted). Some v) it.entry));
-          spelled = it.spelled;
+          heard = subst (λ (p : Peer). IsHeard (entries l) p j y.written.moment (empty Rst it.sent.mid)) sent.0
+              (heard-entry l it.peer j y.written.moment it.bytes (empty Rst it.sent.mid) said.note (stands-as l j y said there it.entry) it.spelled);
         },
       )
 
@@ -128,14 +149,14 @@ module _ (l : List Noted) (n t c k : ℕ) (cause : Cause) (j : ℕ) (legal : Leg
           request = x.exchange.request;
           asked = x.asked;
           message = it.message;
-          heard = heard-in l n k r x.exchange legal x.opened fits;
+          heard = heard-in l n k r x.exchange _ legal x.opened here has fits;
           fails = whole-none x.exchange.request it.message it.fails;
         },
       )
 
-  -- the message for the ask, or none
+  -- the message for the ask, to which no reply came, or none
   abbrev Named : CoapRequest → Type 0
-  Named q = ((m : Content) × IsSentFor (entries l) k q j m) ⊎ ((j ≡ k) × IsUnsent (entries l) k q)
+  Named q = ((m : Content) × IsSentFor (entries l) k q j m × IsUnanswered (entries l) q.peer j m n) ⊎ ((j ≡ k) × IsUnsent (entries l) k q)
 
   abbrev IsNamed : Type 0
   IsNamed = (sent_last (before l n) k ≡ Some j) ⊎ ((sent_last (before l n) k ≡ None) × (j ≡ k))
@@ -175,7 +196,7 @@ module _ (l : List Noted) (n t c k : ℕ) (cause : Cause) (j : ℕ) (legal : Leg
           let w = waits-first (before l e) k i waits in
           let first : IsFirst l w.0 k i w.1 w.2 = first-before l e w.0 k i w.1 w.2 w.3 in
           let lt = subst (λ (m : ℕ). i < m) (length-before l e _ tick) (at-below (before l e) i _ w.3.stands) in
-          let up = given-up-at l w.0 k i w.1 w.2 e s t note y legal first lt tick is over early in
+          let up = given-up-at l w.0 k i w.1 w.2 e s t note y legal first lt tick is over waits early in
           let sent = sent-as l w.0 k i w.1 w.2 b legal opened first in
           let soon : IsFirst (before l n) w.0 k i w.1 w.2 =
           first-before (before l n) e w.0 k i w.1 w.2 (subst (λ (v : List Noted). IsFirst v w.0 k i w.1 w.2) (sym twice) w.3) in
@@ -192,23 +213,84 @@ module _ (l : List Noted) (n t c k : ℕ) (cause : Cause) (j : ℕ) (legal : Leg
             | inr up ↦ by-tick i s note early tick is (transmission (before l e) i) refl up
           ]
 
-  names : (b : Begun) → begun l k ≡ Some b → ((s i : ℕ) (p : Peer) (m : Content) → sent_last (before l n) k ≡ None → IsFirst l s k i p m → ⊥) → IsNamed
-      → (j < n) × Named b.request
-  names b opened never (inl some) =
+  -- No reply came to the message of an exchange that timed out.
+  abbrev HasTimedOut : Type 0
+  HasTimedOut = ((e : ℕ) × Ends (before l n) k e TimedOut) ⊎ IsOverdue (before l n) t k
+
+  early : Legal (before l n)
+  early = legal-before l n legal
+
+  -- an input may come before what is heard; and none comes after the end
+  heard-late : (e i s : ℕ) (p : Peer) (m : Content) → reads (before l n) k ≡ Some k → Ends (before l n) k e TimedOut → e < i → i < n
+      → IsHeard (entries l) p i s m → ⊥
+  heard-late e i s p m own ended late less h =
+      let there = entries-at l i _ h.stands in
+      let stands = at-still l n i _ _ here less there.1 in
+      no-input (before l n) c k e ask early asked own ended (opened-still (follows-at l n _ legal here)) (waits-still (follows-at l n _ legal here))
+      i _ late stands (comes (before (before l n) i) s p h.bytes there.0 (follows-at (before l n) i _ early stands))
+    where
+      opened-still : Follows (before l n) t (Answers c k (Fault cause j)) note → is_open (before l n) c ≡ true
+      opened-still may = may.1
+
+      waits-still : Follows (before l n) t (Answers c k (Fault cause j)) note → pending (before l n) c ≡ Some k
+      waits-still may = may.2
+
+      comes : (v : List Noted) (s : ℕ) (p : Peer) (b : List ℕ) (note : Note) → Follows v s (Hears p b) note → MayCome v
+      comes v s p b note may = may.0
+
+  unanswered : (s : ℕ) (p : Peer) (m : Content) → IsFirst (before l n) s k j p m → reads (before l n) k ≡ Some k → HasTimedOut
+      → IsUnanswered (entries l) p j m n
+  unanswered s p m first own (inr due) =
+      unanswered-till l n _ s k j p m legal early here first (going-waits (before l n) s k j p m early first due.1)
+  unanswered s p m first own (inl ended) = λ i x less r.
+      let e : ℕ = ended.0 in
+      let end = ends-first (before l n) k e TimedOut ended.1 in
+      let there = at-before l n e end.0 end.1 in
+      let before_end : e < n = below e end.0 end.1 in
+      let twice : before (before l n) e ≡ before l e = before-twice l n e _ here before_end in
+      elim (leb_tells e i) [
+        | inl w ↦ elim (eqb_tells e i) [
+          | inl u ↦ absurd (not-heard e i end.0 p x r.moment u.1 there end.3 r.heard)
+          | inr u ↦ let le = w.1 in let not = u.1 in absurd (heard-late e i r.moment p x own ended.1 (omega (arith, le, not)) less r.heard)
+        ]
+        | inr w ↦
+            let sooner = none-after-end (before l n) s k j e p m TimedOut early first ended.1 in
+            let soon : IsFirst (before (before l n) e) s k j p m =
+            record { bytes = first.bytes; timeout = first.timeout; stands = at-still (before l n) e j _ _ end.1 sooner first.stands } in
+            let waits = going-waits (before (before l n) e) s k j p m (legal-before (before l n) e early) soon end.2 in
+            unanswered-till l e end.0 s k j p m legal (legal-before l e legal) there
+            (subst (λ (v : List Noted). IsFirst v s k j p m) twice soon)
+            (subst (λ (v : List Noted). waits_for v k ≡ Some j) twice waits) i x w.1 r
+      ]
+    where
+      -- the end is a tick
+      not-heard : (e i : ℕ) (y : Noted) (p : Peer) (x : Content) (s : ℕ) → e ≡ i → at l e ≡ Some y
+          → end_here e (replies (before (before l n) e) k) (turn (before (before l n) e) k y) ≡ Some TimedOut → IsHeard (entries l) p i s x → ⊥
+      not-heard e i y p x s same there ends h =
+          let it = turn-expired (before (before l n) e) k y (expired-turn (turn (before (before l n) e) k y) e (replies (before (before l n) e) k) ends) in
+          let tick = stands-as l e y _ there it.entry in
+          let heard = entries-at l i _ h.stands in
+          hears-not s y.written.moment p h.bytes heard.0 y.note
+          (at-same l i _ _ heard.1 (subst (λ (e : ℕ). at l e ≡ Some (noted y.written.moment Passes y.note)) same tick))
+
+  names : (b : Begun) → begun l k ≡ Some b → ((s i : ℕ) (p : Peer) (m : Content) → sent_last (before l n) k ≡ None → IsFirst l s k i p m → ⊥)
+      → reads (before l n) k ≡ Some k → HasTimedOut → IsNamed → (j < n) × Named b.request
+  names b opened never own how (inl some) =
       let f = sent-last-first (before l n) k j some in
       let sent = sent-as l f.0 k j f.1 f.2 b legal opened (first-before l n f.0 k j f.1 f.2 f.3) in
-      (below j _ f.3.stands, inl (f.2, sent.1))
-  names b opened never (inr none) = (
+      let none = unanswered f.0 f.1 f.2 f.3 own how in
+      (below j _ f.3.stands, inl (f.2, sent.1, subst (λ (p : Peer). IsUnanswered (entries l) p j f.2 n) sent.0 none))
+  names b opened never own how (inr none) = (
     subst (λ (j : ℕ). j < n) (sym none.1) ask-before,
     inr (none.1, unsent-in l k b.request legal (λ s i p m f. never s i p m none.0 f)),
   )
 
-  timed-out : (o : ℕ) → reads (before l n) k ≡ Some o → IsNamed → ((e : ℕ) × Ends (before l n) k e TimedOut) ⊎ IsOverdue (before l n) t k
-      → (j < n) × IsTimedOut (entries l) t c k j
+  timed-out : (o : ℕ) → reads (before l n) k ≡ Some o → IsNamed → HasTimedOut → (j < n) × IsTimedOut (entries l) n t c k j
   timed-out o e named how =
       let x = opened-by l n c k o ask legal asked e in
       let gone : Over k (before l n) = over how in
-      let it = names x.exchange x.opened (λ s i p m none f. never-sent l n t c k (Fault cause j) note legal here gone none s i p m f) named in (
+      let it = names x.exchange x.opened (λ s i p m none f. never-sent l n t c k (Fault cause j) note legal here gone none s i p m f)
+      (subst (λ (o : ℕ). reads (before l n) k ≡ Some o) (sym (reads-own (before l n) k o e)) e) how named in (
         it.0,
         record {
           moment = x.exchange.since;
@@ -227,7 +309,7 @@ module _ (l : List Noted) (n t c k : ℕ) (cause : Cause) (j : ℕ) (legal : Leg
       late b opened (inl end) = expired b end.0 opened named end.1
       late b opened (inr due) = inl (late-since l n k t b opened due.2)
 
-  caused : (cause : Cause) → Caused (before l n) t k cause j → (j < n) × IsCausedBy (entries l) t c k cause j
+  caused : (cause : Cause) → Caused (before l n) t k cause j → (j < n) × IsCausedBy (entries l) n t c k cause j
   caused C.Busy h = (subst (λ (j : ℕ). j < n) (sym h.0) ask-before, (h.0, turned-away h.1))
   caused C.Timeout h =
       let own : h.0 ≡ k = sym (reads-own (before l n) k h.0 h.1) in
@@ -242,14 +324,14 @@ module _ (l : List Noted) (n t c k : ℕ) (cause : Cause) (j : ℕ) (legal : Leg
   caused C.Media h = (subst (λ (j : ℕ). j < n) (sym h.1) ask-before, (h.1, refused C.Media h.2))
 
 pub causes-in : (l : List Noted) (n t c k : ℕ) (cause : Cause) (j : ℕ) → Legal l → IsEntry (entries l) n t (Answers c k (Fault cause j))
-    → (j < n) × IsCausedBy (entries l) t c k cause j
+    → (j < n) × IsCausedBy (entries l) n t c k cause j
 causes-in l n t c k cause j legal e =
     let there = entries-at l n _ e in
     let it = answers-ask l n t c k (Fault cause j) legal e in
     caused l n t c k cause j legal there.0 there.1 it.0.ask it.0.asked cause it.0.grounds
 
 pub names-cause : (h : List Written) (n t c k : ℕ) (cause : Cause) (j : ℕ) → Stands h → IsEntry h n t (Answers c k (Fault cause j))
-    → (j < n) × IsCausedBy h t c k cause j
+    → (j < n) × IsCausedBy h n t c k cause j
 names-cause h n t c k cause j s =
-    subst (λ (h : List Written). IsEntry h n t (Answers c k (Fault cause j)) → (j < n) × IsCausedBy h t c k cause j) s.entries_are
+    subst (λ (h : List Written). IsEntry h n t (Answers c k (Fault cause j)) → (j < n) × IsCausedBy h n t c k cause j) s.entries_are
     (causes-in s.reading n t c k cause j s.legal)

@@ -1,5 +1,6 @@
 -- How exchanges end: by which entry, and what that entry is.
 use Rattle.std.proofs.Common.{◌≡◌, ℕ, Bool, true, false, cond, eqb, leb, inl, inr, List, [], ◌∷◌, ◌++◌, length, Option, Some, None, refl, sym, ap, subst, ◌∙◌}
+use Rattle.std.specs.Prelude.{is_some, option_map, option_and_then, option_to_list}
 use Rattle.std.specs.List.{Contains}
 use Rattle.std.proofs.lemmas.List.Elements.{Contains-append_left, Contains-push}
 use Rattle.std.proofs.lemmas.Bool.Decides.{eqb_tells}
@@ -15,13 +16,13 @@ use Rattle.history_laws.specs.Responses.{is_whole, response_of}
 use Rattle.history_laws.specs.Confirmations.{empty}
 use Rattle.history_laws.specs.Readings.{Noted, Note, First, Says, Notice, at, before}
 use Rattle.history_laws.specs.Progress.{Reply, Ending, Whole, NotUnderstood, Reset, TimedOut, replied, progress, ended_by}
-use Rattle.history_laws.specs.Transmissions.{FirstSending, first_at}
+use Rattle.history_laws.specs.Transmissions.{FirstSending, first_at, last_sent, Transmission, transmission, if_outstanding}
 use Rattle.history_laws.specs.Exchanges.{Turn, Nothing, Sent, Replied, Rejected, Expired, expires, answered_by, heard_turn, turn_by, turn, waits_for, replies_by, replies, End, end_here, end_by, or_else, end_of}
 use Rattle.history_laws.specs.Hearing.{went_as, is_as, open_at, answers_by, answers}
 use Rattle.history_laws.specs.Justified.{MaySay, Follows}
 use Rattle.history_laws.specs.Laws.{IsFirst}
 use Rattle.history_laws.specs.Worked.{noted}
-use Rattle.history_laws.proofs.CallerLemmas.{at-same, eqb-same, find-some, first-stands, none-is, none-some, progress-more, some-is, waits-first}
+use Rattle.history_laws.proofs.CallerLemmas.{at-same, contains-none, eqb-same, find-some, first-or-later, first-stands, none-is, none-some, progress-more, some-is, waits-first}
 
 -- an entry that rejects what an exchange waits for
 pub record RejectedTurn (l : List Noted) (o : ℕ) (x : Noted) : Type 0 where
@@ -237,9 +238,9 @@ reply-listed (y ∷ older) n o i m x e w =
 
 -- what a Reset message rejects went to its peer, and has its ID
 rst-answers : (l : List Noted) (p : Peer) (m : Content) (i : ℕ) (vain response : Bool) → answers_by l p m Rst vain response ≡ Some i
-    → (vain ≡ true) × (is_as l p m i ≡ true)
-rst-answers l p m i true true e = (refl, (find-some (is_as l p m) (open_at l p) i e).1)
-rst-answers l p m i true false e = (refl, (find-some (is_as l p m) (open_at l p) i e).1)
+    → (vain ≡ true) × Contains (open_at l p) i × (is_as l p m i ≡ true)
+rst-answers l p m i true true e = let it = find-some (is_as l p m) (open_at l p) i e in (refl, it.0, it.1)
+rst-answers l p m i true false e = let it = find-some (is_as l p m) (open_at l p) i e in (refl, it.0, it.1)
 rst-answers l p m i false true e = absurd (none-some i e)
 rst-answers l p m i false false e = absurd (none-some i e)
 
@@ -253,6 +254,26 @@ as-first l p m i e = go (first_at l i) refl e
     go (Some f) is h =
         let both = and-both (same_peer f.peer p) (eqb f.message.mid m.mid) h in
         (f, is, same_peer-same f.peer p both.0, eqb-same f.message.mid m.mid both.1)
+
+-- what is outstanding at an endpoint is on its way
+open-way : (l : List Noted) (p : Peer) (i : ℕ) → Contains (open_at l p) i → (y : Transmission) × (transmission l i ≡ Some y)
+open-way l p i h = last (last_sent l p) h
+  where
+    numbers : Option FirstSending → List ℕ
+    numbers o = option_to_list (option_map (λ (f : FirstSending). f.number) o)
+
+    on_way : (f : FirstSending) (w : Option Transmission) → transmission l f.number ≡ w → Contains (numbers (cond (is_some w) (Some f) None)) i
+        → (y : Transmission) × (transmission l i ≡ Some y)
+    on_way f None is h = absurd (contains-none i h)
+    on_way f (Some y) is h =
+        elim (first-or-later f.number [] i h) [
+          | inl e ↦ (y, subst (λ (i : ℕ). transmission l i ≡ Some y) e is)
+          | inr e ↦ absurd (contains-none i e)
+        ]
+
+    last : (o : Option FirstSending) → Contains (numbers (option_and_then (if_outstanding l) o)) i → (y : Transmission) × (transmission l i ≡ Some y)
+    last None h = absurd (contains-none i h)
+    last (Some f) h = on_way f (transmission l f.number) refl h
 
 empty-parts : (m : Content) (k : MsgType) (c : ℕ) (token : List ℕ) (options : List Entry) (payload : List ℕ)
     → m.kind ≡ k → m.code ≡ c → m.token ≡ token → m.options ≡ options → m.payload ≡ payload
@@ -270,6 +291,9 @@ pub record RejectedIn (l : List Noted) (o : ℕ) (x : Noted) : Type 0 where
   pub notice : Notice
   pub entry : x ≡ noted x.written.moment (Hears peer bytes) (Says message (Some sending) notice)
   pub spelled : Spells (empty Rst sent.mid) bytes
+  pub waited : waits_for l o ≡ Some sending
+  pub way : Transmission
+  pub on_way : transmission l sending ≡ Some way
 
 says-to : (m : Content) (i j : Option ℕ) (u v : Notice) → Says m i u ≡ Says m j v → i ≡ j
 says-to m i j u v e = cc
@@ -291,7 +315,8 @@ rejected-in l o x may e =
     let found : answers l h.peer m ≡ Some h.to = sym (says-to m (Some h.to) _ _ _ says.says) in
     let by = rst-answers l h.peer m h.to (eqb m.code 0) (leb 32 m.code)
     (subst (λ (k : MsgType). answers_by l h.peer m k (eqb m.code 0) (leb 32 m.code) ≡ Some h.to) h.reset found) in
-    let f = as-first l h.peer m h.to by.1 in
+    let f = as-first l h.peer m h.to by.2 in
+    let way = open-way l h.peer h.to by.1 in
     let stands = first-stands l h.to f.0 f.1 in
     let waits = waits-first l o h.to h.waited in
     let opening = opening-same l h.to f.0.moment waits.0 f.0.opening o f.0.peer waits.1 f.0.message waits.2 stands waits.3 in
@@ -310,4 +335,7 @@ rejected-in l o x may e =
       notice = h.notice;
       entry = h.entry;
       spelled = subst (λ (n : ℕ). Spells (empty Rst n) h.bytes) (sym f.3) (subst (λ (m : Content). Spells m h.bytes) is says.spelled);
+      waited = h.waited;
+      way = way.0;
+      on_way = way.1;
     }

@@ -44,7 +44,7 @@ pub foreseen : Foreseen
 foreseen h = let late = h.before 16 (zero, omega arith, refl) in absurd (omega (arith, late))
 
 -- which entries of a list are first sendings, and which are copies
-abbrev is_first : Deed → Bool
+abbrev pub is_first : Deed → Bool
 is_first (Sends p b (Some w)) = true
 is_first d = false
 
@@ -52,50 +52,50 @@ abbrev is_copy : Deed → Bool
 is_copy (Sends p b None) = true
 is_copy d = false
 
-abbrev passes_in : (Deed → Bool) → Option Written → Bool
+abbrev pub passes_in : (Deed → Bool) → Option Written → Bool
 passes_in g None = false
 passes_in g (Some e) = g e.deed
 
-abbrev lies_in : List ℕ → ℕ → Bool
+abbrev pub lies_in : List ℕ → ℕ → Bool
 lies_in [] j = false
 lies_in (n ∷ ns) j = eqb j n || lies_in ns j
 
-abbrev lies_so : (Deed → Bool) → List Written → List ℕ → ℕ → Bool
+abbrev pub lies_so : (Deed → Bool) → List Written → List ℕ → ℕ → Bool
 lies_so g h ns j = not (passes_in g (slice_get h j)) || lies_in ns j
 
-places : (g : Deed → Bool) (h : List Written) (ns : List ℕ) (len j t : ℕ) (d : Deed) → length h ≡ len → list_all (lies_so g h ns) (range_with_len 0 len) ≡ true
+pub places : (g : Deed → Bool) (h : List Written) (ns : List ℕ) (len j t : ℕ) (d : Deed) → length h ≡ len → list_all (lies_so g h ns) (range_with_len 0 len) ≡ true
     → IsEntry h j t d → g d ≡ true → lies_in ns j ≡ true
 places g h ns len j t d size all e is =
     let within = slice_get_within h j _ e in
     let so = range-passes (lies_so g h ns) 0 len j all (omega arith) (omega (arith, within, size)) in
     subst (λ (b : Bool). (not b || lies_in ns j) ≡ true) (ap (passes_in g) e ∙ is) so
 
-abbrev entry_of : ℕ → Deed → Written
+abbrev pub entry_of : ℕ → Deed → Written
 entry_of t d = record { moment = t; deed = d }
 
 -- the response to the GET came under the GET's token
-texts : (t s : ℕ) (p r : Peer) (b c : List ℕ) (w v : Option ℕ)
+pub texts : (t s : ℕ) (p r : Peer) (b c : List ℕ) (w v : Option ℕ)
     → Some (entry_of t (Sends p b w)) ≡ Some (entry_of s (Sends r c v)) → b ≡ c
 texts t s p r b c w v e = go (ap (λ (x : Written). x.deed) (some-is _ _ e))
   where
     go : Sends p b w ≡ Sends r c v → b ≡ c
     go f = cc
 
-heard-texts : (t s : ℕ) (p r : Peer) (b c : List ℕ)
+pub heard-texts : (t s : ℕ) (p r : Peer) (b c : List ℕ)
     → Some (entry_of t (Hears p b)) ≡ Some (entry_of s (Hears r c)) → b ≡ c
 heard-texts t s p r b c e = go (ap (λ (x : Written). x.deed) (some-is _ _ e))
   where
     go : Hears p b ≡ Hears r c → b ≡ c
     go f = cc
 
-abbrev fourth : List ℕ → ℕ
+abbrev pub fourth : List ℕ → ℕ
 fourth (a ∷ b ∷ c ∷ d ∷ more) = d
 fourth bytes = 0
 
 crossed-heard : (q : CoapRequest) (m : Content) → IsHeardFor (entries S.crossed) 4 q 9 m → ⊥
 crossed-heard q m h =
     let after = h.sent_for.after in
-    let before = h.after in
+    let before = h.response.after in
     let lies = places is_first (entries S.crossed) (2 ∷ 8 ∷ []) 13 h.sending _ _ refl refl h.sent_for.first.stands refl in
     elim (or_cases (eqb h.sending 2) _ lies) [
       | inl w ↦ let place = eqb-same h.sending 2 w in absurd (omega (arith, place, after))
@@ -112,10 +112,10 @@ crossed-heard q m h =
         texts 2100 h.sent_for.moment _ q.peer M.put_bytes f.bytes _ (Some f.timeout)
         (subst (λ (i : ℕ). IsEntry (entries S.crossed) i h.sent_for.moment (Sends q.peer f.bytes (Some f.timeout))) place f.stands) in
         let sent = spells_one h.sent M.put_message f.bytes f.spelled (subst (Spells M.put_message) text put-spelled) in
-        let datagram : M.content_bytes ≡ h.bytes = heard-texts 5000 h.moment _ q.peer M.content_bytes h.bytes h.heard in
-        let said = spells_one m M.content_message h.bytes h.spelled (subst (Spells M.content_message) datagram content-spelled) in
+        let datagram : M.content_bytes ≡ h.response.heard.bytes = heard-texts 5000 h.response.moment _ q.peer M.content_bytes h.response.heard.bytes h.response.heard.stands in
+        let said = spells_one m M.content_message h.response.heard.bytes h.response.heard.spelled (subst (Spells M.content_message) datagram content-spelled) in
         let tokens : M.content_message.token ≡ M.put_message.token =
-        sym (ap (λ (m : Content). m.token) said) ∙ (h.token ∙ ap (λ (m : Content). m.token) sent) in
+        sym (ap (λ (m : Content). m.token) said) ∙ (h.response.token ∙ ap (λ (m : Content). m.token) sent) in
         let numbers : 0 ≡ 1 = ap fourth tokens in
         absurd (omega (arith, numbers))
 
@@ -160,7 +160,7 @@ last-place p b w t j (i ∷ js) last h =
     let c = more.2 in
     (m, a, omega (arith, a, b, c, lt), it.3)
 
-moment-same : (t s : ℕ) (d e : Deed) → Some (entry_of t d) ≡ Some (entry_of s e) → t ≡ s
+pub moment-same : (t s : ℕ) (d e : Deed) → Some (entry_of t d) ≡ Some (entry_of s e) → t ≡ s
 moment-same t s d e f = ap (λ (x : Written). x.moment) (some-is _ _ f)
 
 timeout-same : (t s : ℕ) (p r : Peer) (b c : List ℕ) (w v : ℕ)

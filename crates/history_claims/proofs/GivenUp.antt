@@ -1,10 +1,13 @@
 -- A message that is given up was sent five times, and nothing settled it.
-use Rattle.std.proofs.Common.{◌≡◌, ℕ, ◌+◌, ◌*◌, ◌^◌, ◌<◌, ◌≤◌, true, eqb, leb, inl, inr, List, [], ◌∷◌, length, Option, Some, None, sym, ap, subst, ◌∙◌, arith, add-one}
+use Rattle.std.proofs.Common.{◌≡◌, ℕ, ◌+◌, ◌*◌, ◌^◌, ◌<◌, ◌≤◌, true, eqb, leb, inl, inr, List, [], ◌∷◌, length, Option, Some, None, refl, sym, ap, subst, ◌∙◌, arith, add-one}
 use Rattle.std.proofs.lemmas.Bool.Decides.{leb_tells}
 use Rattle.std.proofs.lemmas.Bool.{false≢true}
 use Rattle.limits.specs.declared.TheConstants.{MAX_RETRANSMIT}
 use Rattle.coap_codec.specs.Spelling.{Content, Spells}
 use Rattle.uri_map.specs.declared.peer.Peer.{Peer}
+use Rattle.history_laws.specs.Confirmations.{empty}
+use Rattle.history_laws.specs.Exchanges.{waits_for}
+use Rattle.coap_codec.specs.declared.message.MsgType.TheVariants.{Ack, Rst}
 use Rattle.ask_model.proofs.Endpoints.{and-both}
 use Rattle.journal_book.specs.Entries.{Deed, Sends, Hears, Passes}
 use Rattle.history_laws.specs.Readings.{Noted, Note, First, Copies, entries, at, before, ticked}
@@ -13,9 +16,10 @@ use Rattle.history_laws.specs.Justified.{MayBeFirst, MayBeCopy, Follows, Legal}
 use Rattle.history_laws.specs.Laws.{IsFirst}
 use Rattle.history_laws.specs.Worked.{noted}
 use Rattle.history_laws.proofs.CallerLemmas.{at-below, at-entries, at-new, at-old, at-same, at-still, eqb-itself, eqb-same, follows-at, legal-before, none-some, some-is, ticked-newest, way-cases}
-use Rattle.history_claims.specs.Headline.{IsEntry, last_of, AreCopies, Settles, IsGivenUp}
+use Rattle.history_claims.specs.Headline.{IsEntry, IsHeard, last_of, AreCopies, IsUnsettled, IsGivenUp}
 use Rattle.history_claims.proofs.Entries.{entries-at, entry-keeps, grows}
-use Rattle.history_claims.proofs.Settling.{settled}
+use Rattle.history_claims.proofs.Settling.{Settles, confirms, rejects, settled}
+use Rattle.history_claims.proofs.Waiting.{unanswered-till}
 
 pub copies-keep : (x : Noted) (l : List Noted) (p : Peer) (b : List ℕ) (w i t : ℕ) (js : List ℕ) (last : ℕ) → AreCopies (entries l) p b w i t js last
     → AreCopies (entries (x ∷ l)) p b w i t js last
@@ -158,11 +162,26 @@ silence (x ∷ older) t o i p m y legal f e j s b note n lt heard spelled settle
           ]
     ]
 
+-- While it is outstanding and waited for, nothing settled it.
+pub unsettled-till : (l : List Noted) (e : ℕ) (x : Noted) (t o i : ℕ) (p : Peer) (m : Content) (y : Transmission) → Legal l → at l e ≡ Some x
+    → IsFirst (before l e) t o i p m → transmission (before l e) i ≡ Some y → waits_for (before l e) o ≡ Some i → IsUnsettled (entries l) p i m e
+unsettled-till l e x t o i p m y legal here f way waits =
+    record {
+      unconfirmed = λ j s more less h. none j s more less (empty Ack m.mid) h (confirms refl);
+      unrejected = λ j s more less h. none j s more less (empty Rst m.mid) h (rejects refl);
+      unanswered = unanswered-till l e x t o i p m legal (legal-before l e legal) here f waits;
+    }
+  where
+    none : (j s : ℕ) → i < j → j < e → (n : Content) → IsHeard (entries l) p j s n → Settles n m → ⊥
+    none j s more less n h settles =
+        let there = entries-at l j _ h.stands in
+        silence (before l e) t o i p m y (legal-before l e legal) f way j s h.bytes there.0 n more (at-still l e j _ _ here less there.1) h.spelled settles
+
 -- the tick that gave it up
 pub given-up-at : (l : List Noted) (t o i : ℕ) (p : Peer) (m : Content) (e s u : ℕ) (note : Note) (y : Transmission) → Legal l
-    → IsFirst l t o i p m → i < e → at l e ≡ Some (noted s Passes note) → transmission (before l e) i ≡ Some y → is_given_up s y ≡ true → s ≤ u
-    → IsGivenUp (entries l) u p i m
-given-up-at l t o i p m e s u note y legal f lt tick way over by =
+    → IsFirst l t o i p m → i < e → at l e ≡ Some (noted s Passes note) → transmission (before l e) i ≡ Some y → is_given_up s y ≡ true
+    → waits_for (before l e) o ≡ Some i → s ≤ u → IsGivenUp (entries l) u p i m
+given-up-at l t o i p m e s u note y legal f lt tick way over waits by =
     let may : MayBeFirst (before l i) t o p f.bytes m f.timeout = (follows-at l i _ legal f.stands).1.1 in
     let stands = subst (λ (w : Option ℕ). at l i ≡ Some (noted t (Sends p f.bytes w) (First o m))) may.first_wait f.stands in
     let early = at-still l e i _ _ tick lt stands in
@@ -184,7 +203,5 @@ given-up-at l t o i p m e s u note y legal f lt tick way over by =
       passes = at-entries l e _ tick;
       due = subst (λ (w : ℕ). y.last + w * 2 ^ MAX_RETRANSMIT ≤ s) it.timeout (subst (λ (c : ℕ). y.last + y.timeout * 2 ^ c ≤ s) all late);
       by = by;
-      silent = λ j v b n more less heard spelled settles.
-          let there = entries-at l j _ heard in
-          silence (before l e) t o i p m y (legal-before l e legal) old way j v b there.0 n more (at-still l e j _ _ tick less there.1) spelled settles;
+      silent = unsettled-till l e _ t o i p m y legal tick old way waits;
     }

@@ -1,10 +1,13 @@
 pub mod CallerLemmas
 mod Entries
 mod Sending
-mod Resting
-mod Ending
 mod Unsent
 mod Settling
+mod Repeats
+mod Waiting
+mod Resting
+mod Ending
+mod Hands
 mod GivenUp
 mod Counting
 mod Crowded
@@ -12,3 +15,4 @@ mod Causes
 mod Apart
 mod Turns
 mod Examples
+mod Refused

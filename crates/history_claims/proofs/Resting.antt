@@ -15,7 +15,7 @@ use Rattle.history_laws.specs.Worked.{noted}
 use Rattle.history_laws.proofs.CallerLemmas.{asked-for, asks-stand, at-before, at-below, at-same, contains-none, ends-first, first-or-later, follows-at, legal-before, length-before, made-of, none-some, opening-begun, progress-more, reads-own, replies-fit, some-is}
 use Rattle.history_claims.specs.Headline.{IsEntry, IsAsked, RestsOn}
 use Rattle.history_claims.proofs.Entries.{entries-at, asked-entry}
-use Rattle.history_claims.proofs.Sending.{heard-in}
+use Rattle.history_claims.proofs.Waiting.{heard-in}
 
 -- the ask of an answer is its connection's
 pub record AnswersAsk (l : List Noted) (n t c k : ℕ) (g : Grounds) : Type 0 where
@@ -132,7 +132,9 @@ rests-in l n t c k js legal e =
     let fits = replies-fit (before l n) o r (legal-before l n legal) has in
     let x = opened-by l n c k o it.0.ask legal it.0.asked h.4 in
     let fit = subst (λ (o : ℕ). IsReplyTo (before l n) o r) (sym own) fits in
-    let heard = heard-in l n k r x.exchange legal x.opened fit in
+    let there = entries-at l n _ e in
+    let listed = subst (λ (o : ℕ). Contains (replies (before l n) o) r) (sym own) has in
+    let heard = heard-in l n k r x.exchange _ legal x.opened there.1 listed fit in
     let below = subst (λ (i : ℕ). r.number < i) it.1 (at-below (before l n) r.number (noted fits.moment (Hears fits.peer fits.bytes) (Says r.message (Some r.sending) fits.notice)) fits.heard) in
     let list : r.number ∷ [] ≡ js = sym (h.6 ∙ ap numbers m.alone) in
     subst (λ (js : List ℕ). RestsOn (entries l) n c k js) list

@@ -1,19 +1,16 @@
--- First sendings among the entries: what they were sent for, and what was heard to them.
+-- First sendings among the entries, and what they were sent for.
 use Rattle.std.proofs.Common.{◌≡◌, ℕ, List, Option, Some, refl, sym, subst, ◌∙◌}
-use Rattle.coap_codec.specs.declared.message.MsgType.{MsgType}
-use Rattle.coap_codec.specs.declared.message.MsgType.TheVariants.{Con, Non, Ack, Rst}
 use Rattle.coap_codec.specs.Spelling.{Content, Spells}
 use Rattle.coap_codec.proofs.Unique.{spells_one}
 use Rattle.uri_map.specs.declared.peer.Peer.{Peer}
-use Rattle.journal_book.specs.Entries.{Sends, Hears}
-use Rattle.history_laws.specs.Readings.{Noted, Note, First, Copies, Confirms, Says, entries, at, before}
-use Rattle.history_laws.specs.Progress.{Reply}
+use Rattle.journal_book.specs.Entries.{Sends}
+use Rattle.history_laws.specs.Readings.{Noted, Note, First, Copies, Confirms, entries, at, before}
 use Rattle.history_laws.specs.Exchanges.{Begun, begun}
 use Rattle.history_laws.specs.Justified.{MayBeFirst, Follows, Legal}
-use Rattle.history_laws.specs.Laws.{IsFirst, IsReplyKind, IsReplyTo}
+use Rattle.history_laws.specs.Laws.{IsFirst}
 use Rattle.history_laws.specs.Worked.{noted}
 use Rattle.history_laws.proofs.CallerLemmas.{at-before, at-entries, follows-at, none-some, sent-for, some-is, tokens-apart}
-use Rattle.history_claims.specs.Headline.{IsFirstSending, IsSentFor, BringsResponse, IsHeardFor}
+use Rattle.history_claims.specs.Headline.{IsFirstSending, IsSentFor}
 use Rattle.history_claims.proofs.Entries.{entries-at}
 
 -- a sending with a timeout is a first one, of the message that it spells
@@ -82,30 +79,3 @@ sent-as l t o i p m b legal e f =
 
 pub first-before : (l : List Noted) (n t o i : ℕ) (p : Peer) (m : Content) → IsFirst (before l n) t o i p m → IsFirst l t o i p m
 first-before l n t o i p m f = record { bytes = f.bytes; timeout = f.timeout; stands = at-before l n i _ f.stands }
-
-brings : (k : MsgType) (mid sent : ℕ) → IsReplyKind k mid sent → BringsResponse k mid sent
-brings Con mid sent h = tt
-brings Non mid sent h = tt
-brings Ack mid sent h = h
-brings Rst mid sent h = absurd h
-
--- a reply to an exchange was heard for its request
-pub heard-in : (l : List Noted) (n o : ℕ) (r : Reply) (b : Begun) → Legal l → begun l o ≡ Some b → IsReplyTo (before l n) o r
-    → IsHeardFor (entries l) o b.request r.number r.message
-heard-in l n o r b legal opened h =
-    let it = sent-as l h.sent_at o r.sending h.peer h.sent b legal opened (first-before l n _ o _ _ _ h.first) in
-    record {
-      sending = r.sending;
-      sent = h.sent;
-      sent_for = it.1;
-      after = h.after;
-      moment = h.moment;
-      bytes = h.bytes;
-      heard = at-entries l r.number _
-          (subst (λ (p : Peer). at l r.number ≡ Some (noted h.moment (Hears p h.bytes) (Says r.message (Some r.sending) h.notice))) it.0
-          (at-before l n r.number _ h.heard));
-      spelled = h.spelled;
-      response = h.response;
-      token = h.token;
-      kind = brings r.message.kind r.message.mid h.sent.mid h.kind;
-    }

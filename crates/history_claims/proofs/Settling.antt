@@ -1,13 +1,10 @@
--- What settles a message ends its sending.
-use Rattle.std.proofs.Common.{◌≡◌, ℕ, Bool, true, false, cond, ◌&&◌, eqb, leb, inl, inr, List, [], ◌∷◌, ◌++◌, Option, Some, None, refl, sym, ap, subst, ◌∙◌, arith}
+-- An empty ACK or RST with the ID of a message ends its sending.
+use Rattle.std.proofs.Common.{◌≡◌, ℕ, Bool, true, false, cond, eqb, List, [], ◌∷◌, Option, Some, None, refl, sym, ap, subst, ◌∙◌}
 use Rattle.std.specs.Prelude.{find, option_map, option_to_list}
-use Rattle.std.specs.List.{list_any}
 use Rattle.std.specs.Str.{bytes_eq}
-use Rattle.std.proofs.lemmas.Bool.Decides.{leb_tells}
 use Rattle.std.proofs.lemmas.Bool.{false≢true, or_right}
 use Rattle.std.proofs.lemmas.Slice.Eq.{bytes_eq-Decides}
 use Rattle.std.proofs.lemmas.List.Folds.{list_any-append}
-use Rattle.coap_codec.specs.declared.message.MsgType.{MsgType}
 use Rattle.coap_codec.specs.declared.message.MsgType.TheVariants.{Ack, Rst}
 use Rattle.coap_codec.specs.Spelling.{Content, Spells}
 use Rattle.coap_codec.proofs.Unique.{spells_one}
@@ -18,13 +15,16 @@ use Rattle.journal_book.specs.Entries.{Sends, Hears}
 use Rattle.history_laws.specs.Confirmations.{empty}
 use Rattle.history_laws.specs.Readings.{Noted, Note, First, Says, Repeats, Garbled, Notice}
 use Rattle.history_laws.specs.Transmissions.{FirstSending, firsts, first_at, Transmission, transmission, outstanding}
-use Rattle.history_laws.specs.Exchanges.{awaited}
-use Rattle.history_laws.specs.Hearing.{is_such, heard_before, repeated, went_under, went_as, is_under, is_as, open_at, answers_by, answers}
+use Rattle.history_laws.specs.Hearing.{is_such, heard_before, repeated, went_under, went_as, is_under, is_as, open_at, answers}
 use Rattle.history_laws.specs.Justified.{MaySay, Follows, Legal}
 use Rattle.history_laws.specs.Laws.{IsFirst}
 use Rattle.history_laws.specs.Worked.{noted}
-use Rattle.history_laws.proofs.CallerLemmas.{any-first, at-same, eqb-itself, find-any, find-some, first-stands, none-some, outstanding-last, tokens-apart}
-use Rattle.history_claims.specs.Headline.{Settles, confirms, rejects, piggybacked}
+use Rattle.history_laws.proofs.CallerLemmas.{any-first, at-same, eqb-itself, find-any, first-stands, none-some, outstanding-last, tokens-apart}
+
+-- what ends the sending of a message, beside a response
+pub data Settles (m sent : Content) : Type 0 where
+  confirms : m ≡ empty Ack sent.mid → Settles m sent
+  rejects : m ≡ empty Rst sent.mid → Settles m sent
 
 -- what is outstanding at a peer
 open-is : (l : List Noted) (t o i : ℕ) (p : Peer) (m : Content) (y : Transmission) → Legal l → IsFirst l t o i p m → transmission l i ≡ Some y
@@ -49,31 +49,31 @@ parts-same s t o q p r m n l i f g =
     messages : First o m ≡ First q n → m ≡ n
     messages h = cc
 
-record FoundAt (l : List Noted) (i : ℕ) (p : Peer) (m : Content) : Type 0 where
-  sending : FirstSending
-  is : first_at l i ≡ Some sending
-  peer : sending.peer ≡ p
-  message : sending.message ≡ m
+pub record FoundAt (l : List Noted) (i : ℕ) (p : Peer) (m : Content) : Type 0 where
+  pub sending : FirstSending
+  pub is : first_at l i ≡ Some sending
+  pub peer : sending.peer ≡ p
+  pub message : sending.message ≡ m
 
-found-at : (l : List Noted) (t o i : ℕ) (p : Peer) (m : Content) → IsFirst l t o i p m → FoundAt l i p m
+pub found-at : (l : List Noted) (t o i : ℕ) (p : Peer) (m : Content) → IsFirst l t o i p m → FoundAt l i p m
 found-at l t o i p m f =
     let it = find-any (λ (f : FirstSending). eqb f.number i) (firsts l) (any-first (λ (f : FirstSending). eqb f.number i) l t o i p m f (eqb-itself i)) in
     let g = first-stands l i it.0 it.1 in
     let same = parts-same it.0.moment t it.0.opening o it.0.peer p it.0.message m l i g f in
     record { sending = it.0; is = it.1; peer = same.0; message = same.1 }
 
-as-true : (l : List Noted) (p : Peer) (m n : Content) (i : ℕ) → FoundAt l i p m → n.mid ≡ m.mid → is_as l p n i ≡ true
+pub as-true : (l : List Noted) (p : Peer) (m n : Content) (i : ℕ) → FoundAt l i p m → n.mid ≡ m.mid → is_as l p n i ≡ true
 as-true l p m n i f e =
     subst (λ (o : Option FirstSending). went_as p n.mid o ≡ true) (sym f.is)
     (rw (f.peer, same_peer-itself p, f.message, e) (eqb-itself m.mid))
 
-under-true : (l : List Noted) (p : Peer) (m n : Content) (i : ℕ) → FoundAt l i p m → n.token ≡ m.token → is_under l p n i ≡ true
+pub under-true : (l : List Noted) (p : Peer) (m n : Content) (i : ℕ) → FoundAt l i p m → n.token ≡ m.token → is_under l p n i ≡ true
 under-true l p m n i f e =
     subst (λ (o : Option FirstSending). went_under p n.token o ≡ true) (sym f.is)
     (rw (f.peer, same_peer-itself p, f.message) ((bytes_eq-Decides m.token n.token).1 (sym e)))
 
 -- what is found under a token is the message that bears it
-under-is : (l : List Noted) (t o i j : ℕ) (p : Peer) (m n : Content) → Legal l → IsFirst l t o i p m → n.token ≡ m.token → is_under l p n j ≡ true → j ≡ i
+pub under-is : (l : List Noted) (t o i j : ℕ) (p : Peer) (m n : Content) → Legal l → IsFirst l t o i p m → n.token ≡ m.token → is_under l p n j ≡ true → j ≡ i
 under-is l t o i j p m n legal f e h = go (first_at l j) refl h
   where
     go : (x : Option FirstSending) → first_at l j ≡ x → went_under p n.token x ≡ true → j ≡ i
@@ -82,9 +82,6 @@ under-is l t o i j p m n legal f e h = go (first_at l j) refl h
         let both = and-both (same_peer g.peer p) (bytes_eq g.message.token n.token) h in
         let token : g.message.token ≡ n.token = (bytes_eq-Decides g.message.token n.token).0 both.1 in
         tokens-apart l g.moment t g.opening j o i g.peer p g.message m legal (first-stands l j g is) f (token ∙ e)
-
-any-last : (p : ℕ → Bool) (xs : List ℕ) (i : ℕ) → p i ≡ true → list_any p (xs ++ i ∷ []) ≡ true
-any-last p xs i e = list_any-append p xs (i ∷ []) ∙ or_right (list_any p xs) _ (rw e refl)
 
 find-here : (p : ℕ → Bool) (i : ℕ) → p i ≡ true → find p (i ∷ []) ≡ Some i
 find-here p i e = rw e refl
@@ -95,39 +92,16 @@ module _ (l : List Noted) (t o i : ℕ) (p : Peer) (m : Content) (y : Transmissi
       subst (λ (js : List ℕ). find (is_as l p n) js ≡ Some i) (sym (open-is l t o i p m y legal f e))
       (find-here (is_as l p n) i (as-true l p m n i (found-at l t o i p m f) same))
 
-  abbrev Both : Content → ℕ → Bool
-  Both n j = is_under l p n j && is_as l p n j
-
-  among-awaited : (n : Content) → n.mid ≡ m.mid → n.token ≡ m.token → find (Both n) (awaited l ++ open_at l p) ≡ Some i
-  among-awaited n same token =
-      let at = found-at l t o i p m f in
-      let passes : Both n i ≡ true = rw (under-true l p m n i at token) (as-true l p m n i at same) in
-      let any : list_any (Both n) (awaited l ++ open_at l p) ≡ true =
-      subst (λ (js : List ℕ). list_any (Both n) (awaited l ++ js) ≡ true) (sym (open-is l t o i p m y legal f e)) (any-last (Both n) (awaited l) i passes) in
-      let it = find-any (Both n) (awaited l ++ open_at l p) any in
-      let has = (find-some (Both n) (awaited l ++ open_at l p) it.0 it.1).1 in
-      let own = under-is l t o i it.0 p m n legal f token (and-both (is_under l p n it.0) (is_as l p n it.0) has).0 in
-      it.1 ∙ ap (λ (j : ℕ). Some j) own
-
-  by-ack : (n : Content) → n.mid ≡ m.mid → n.token ≡ m.token → (vain : Bool) → answers_by l p n Ack vain true ≡ Some i
-  by-ack n same token true = among-awaited n same token
-  by-ack n same token false = among-awaited n same token
-
   settling : (n : Content) → Settles n m → answers l p n ≡ Some i
   settling n (confirms is) =
       subst (λ (n : Content). answers l p n ≡ Some i) (sym is) (among-open (empty Ack m.mid) refl)
   settling n (rejects is) =
       subst (λ (n : Content). answers l p n ≡ Some i) (sym is) (among-open (empty Rst m.mid) refl)
-  settling n (piggybacked kind mid token response) =
-      let many : leb 32 n.code ≡ true = elim (leb_tells 32 n.code) [ inl v ↦ v.0 | inr v ↦ let a = v.1 in absurd (omega (arith, a, response)) ] in
-      subst (λ (k : MsgType). answers_by l p n k (eqb n.code 0) (leb 32 n.code) ≡ Some i) (sym kind)
-      (subst (λ (b : Bool). answers_by l p n Ack (eqb n.code 0) b ≡ Some i) (sym many) (by-ack n mid token (eqb n.code 0)))
 
 -- no CON and no NON settles a message
 settles-none : (n m : Content) → Settles n m → is_such n.kind ≡ false
 settles-none n m (confirms is) = ap (λ (n : Content). is_such n.kind) is
 settles-none n m (rejects is) = ap (λ (n : Content). is_such n.kind) is
-settles-none n m (piggybacked kind mid token response) = ap is_such kind
 
 no-repeat : (l : List Noted) (s : ℕ) (p : Peer) (n m : Content) (j : ℕ) → Settles n m → repeated l s p n ≡ Some j → ⊥
 no-repeat l s p n m j settles e =

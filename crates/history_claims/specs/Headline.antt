@@ -2,7 +2,7 @@
 -- alone, which lie oldest first and go by their number from 0.
 use Rattle.std.specs.Prelude.{◌≡◌, ◌≢◌, ◌⊎◌, ℕ, ◌+◌, ◌*◌, ◌^◌, ◌<◌, ◌≤◌, List, [], ◌∷◌, length, slice_get, Some, None, ⊤}
 use Rattle.std.specs.List.{Contains}
-use Rattle.limits.specs.declared.TheConstants.{MAX_EXCHANGES, MAX_MESSAGE_IDS, MAX_RETRANSMIT, MAX_TRANSMIT_WAIT, MAX_WAITING, MESSAGE_ID_LIFETIME}
+use Rattle.limits.specs.declared.TheConstants.{EXCHANGE_LIFETIME, MAX_EXCHANGES, MAX_MESSAGE_IDS, MAX_RETRANSMIT, MAX_TRANSMIT_WAIT, MAX_WAITING, MESSAGE_ID_LIFETIME}
 use Rattle.coap_codec.specs.declared.message.MsgType.{MsgType}
 use Rattle.coap_codec.specs.declared.message.MsgType.TheVariants.{Con, Non, Ack, Rst}
 use Rattle.coap_codec.specs.Spelling.{Content, Spells}
@@ -49,6 +49,41 @@ pub record IsSentFor
   pub issued : (j s : ℕ) (p : Peer) (n : Content) → IsFirstSending h j s p n
       → n.token ≡ m.token → j ≡ i
 
+-- The entry heard this message from the endpoint, at this moment.
+pub record IsHeard (h : List Written) (p : Peer) (j t : ℕ) (m : Content) : Type 0 where
+  pub bytes : List ℕ
+  pub stands : IsEntry h j t (Hears p bytes)
+  pub spelled : Spells m bytes
+
+-- A CON or NON may come again.
+abbrev pub MayRepeat : MsgType → Type 0
+MayRepeat Con = ⊤
+MayRepeat Non = ⊤
+MayRepeat _ = ⊥
+
+-- The two entries heard such a message each, from the endpoint and with one ID, the second less than
+-- 247 seconds after the first (EXCHANGE_LIFETIME, RFC 7252 section 4.8.2).
+pub record IsAlike (h : List Written) (p : Peer) (i j : ℕ) : Type 0 where
+  pub earlier : i < j
+  pub moment : ℕ
+  pub first : Content
+  pub heard_first : IsHeard h p i moment first
+  pub later : ℕ
+  pub second : Content
+  pub heard_second : IsHeard h p j later second
+  pub kinds : MayRepeat first.kind × MayRepeat second.kind
+  pub id : first.mid ≡ second.mid
+  pub recent : later < moment + EXCHANGE_LIFETIME
+
+-- Then the second repeats the first, if that is new, which is what repeats no other (RFC 7252 section
+-- 4.5).
+mutual
+  pub data IsNew (h : List Written) (p : Peer) : ℕ → Type 0 where
+    anew : {j : ℕ} → ((i : ℕ) → IsAlike h p i j → IsRepeat h p i) → IsNew h p j
+
+  pub data IsRepeat (h : List Written) (p : Peer) : ℕ → Type 0 where
+    again : {j : ℕ} → (i : ℕ) → IsAlike h p i j → IsNew h p i → IsRepeat h p j
+
 -- A response comes in a CON or NON of its own, or in the ACK of the request, which has its message
 -- ID (RFC 7252 sections 5.2, 5.3.2).
 abbrev pub BringsResponse : MsgType → ℕ → ℕ → Type 0
@@ -57,23 +92,34 @@ BringsResponse Non mid sent = ⊤
 BringsResponse Ack mid sent = mid ≡ sent
 BringsResponse Rst mid sent = ⊥
 
--- The entry j heard this response to a message that was sent for the request q of the ask k: after
--- it, from its endpoint, under its token (RFC 7252 section 5.3.2).
+-- The entry j heard this response to the message of the entry i: after it, from its endpoint, under
+-- its token (RFC 7252 section 5.3.2).
+pub record IsResponse
+    (h : List Written) (p : Peer) (i : ℕ) (sent : Content) (j : ℕ) (m : Content) : Type 0 where
+  pub after : i < j
+  pub moment : ℕ
+  pub heard : IsHeard h p j moment m
+  pub response : 32 ≤ m.code
+  pub token : m.token ≡ sent.token
+  pub kind : BringsResponse m.kind m.mid sent.mid
+
+-- Before the entry n none came to it but repeats.
+abbrev pub IsUnanswered : List Written → Peer → ℕ → Content → ℕ → Type 0
+IsUnanswered h p i sent n =
+    (j : ℕ) (m : Content) → j < n → IsResponse h p i sent j m → IsRepeat h p j
+
+-- The entry j heard the reply to a message that was sent for the request q of the ask k: the first
+-- response that is no repeat.
 pub record IsHeardFor
     (h : List Written) (k : ℕ) (q : CoapRequest) (j : ℕ) (m : Content) : Type 0 where
   pub sending : ℕ
   pub sent : Content
   pub sent_for : IsSentFor h k q sending sent
-  pub after : sending < j
-  pub moment : ℕ
-  pub bytes : List ℕ
-  pub heard : IsEntry h j moment (Hears q.peer bytes)
-  pub spelled : Spells m bytes
-  pub response : 32 ≤ m.code
-  pub token : m.token ≡ sent.token
-  pub kind : BringsResponse m.kind m.mid sent.mid
+  pub response : IsResponse h q.peer sending sent j m
+  pub new : IsNew h q.peer j
+  pub first : IsUnanswered h q.peer sending sent j
 
--- The entries with these numbers heard these responses, one by one.
+-- The entries with these numbers heard these replies, one by one.
 abbrev pub AreHeardFor : List Written → ℕ → CoapRequest → List ℕ → List Content → Type 0
 AreHeardFor h k q [] [] = ⊤
 AreHeardFor h k q (j ∷ js) (m ∷ ms) = IsHeardFor h k q j m × AreHeardFor h k q js ms
@@ -111,13 +157,13 @@ AreCopies h p bytes timeout i t (j ∷ js) last =
     IsEntry h j last (Sends p bytes None) × (last_of i js < j)
     × ((s : ℕ) × (s + timeout * 2 ^ length js ≤ last) × AreCopies h p bytes timeout i t js s)
 
--- An empty ACK or RST with its ID, or its response in an ACK, ends the sending of a message
--- (RFC 7252 sections 4.2, 5.2.1).
-pub data Settles (m sent : Content) : Type 0 where
-  confirms : m ≡ empty Ack sent.mid → Settles m sent
-  rejects : m ≡ empty Rst sent.mid → Settles m sent
-  piggybacked : m.kind ≡ Ack → m.mid ≡ sent.mid → m.token ≡ sent.token → 32 ≤ m.code
-      → Settles m sent
+-- Before the entry n nothing ended the sending of the message: no empty ACK or RST with its ID, and
+-- no response (RFC 7252 sections 4.2, 5.2).
+pub record IsUnsettled
+    (h : List Written) (p : Peer) (i : ℕ) (sent : Content) (n : ℕ) : Type 0 where
+  pub unconfirmed : (j t : ℕ) → i < j → j < n → IsHeard h p j t (empty Ack sent.mid) → ⊥
+  pub unrejected : (j t : ℕ) → i < j → j < n → IsHeard h p j t (empty Rst sent.mid) → ⊥
+  pub unanswered : IsUnanswered h p i sent n
 
 -- The message of the entry i was given up by this moment: it was sent again four times
 -- (MAX_RETRANSMIT), and a tick found the timeout after the last over; till then nothing settled it.
@@ -133,11 +179,10 @@ pub record IsGivenUp (h : List Written) (t : ℕ) (p : Peer) (i : ℕ) (sent : C
   pub passes : IsEntry h tick ticked Passes
   pub due : last + first.timeout * 2 ^ MAX_RETRANSMIT ≤ ticked
   pub by : ticked ≤ t
-  pub silent : (j s : ℕ) (bytes : List ℕ) (m : Content) → i < j → j < tick
-      → IsEntry h j s (Hears p bytes) → Spells m bytes → Settles m sent → ⊥
+  pub silent : IsUnsettled h p i sent tick
 
--- The cause of an own answer, at the moment t, to the ask k of the connection c, and the entry n
--- that it names.
+-- The cause of an own answer, in the entry a and at the moment t, to the ask k of the connection c,
+-- and the entry n that it names.
 
 -- at least so many entries of a kind, each another one
 abbrev pub AreApart : List ℕ → Type 0
@@ -150,13 +195,15 @@ pub record AreMany (least : ℕ) (IsOne : ℕ → Type 0) : Type 0 where
   pub apart : AreApart ones
   pub each : (n : ℕ) → Contains ones n → IsOne n
 
--- Before the ask k, the ask o asked for this, and it wasn't answered.
+-- Before the ask k, the ask o asked for this. It wasn't answered, and no tick found it 93 seconds old
+-- (MAX_TRANSMIT_WAIT): so long it counts, though its connection may be closed.
 pub record IsPending (h : List Written) (k o : ℕ) (q : CoapRequest) : Type 0 where
   pub before : o < k
   pub conn : ℕ
   pub moment : ℕ
   pub asked : IsAsked h o conn moment (Requests q)
   pub unanswered : (n t c : ℕ) (g : Grounds) → n < k → IsEntry h n t (Answers c o g) → ⊥
+  pub in_time : (n t : ℕ) → o < n → n < k → IsEntry h n t Passes → t < moment + MAX_TRANSMIT_WAIT
 
 abbrev pub IsPendingAt : List Written → ℕ → Peer → ℕ → Type 0
 IsPendingAt h k p o = (q : CoapRequest) × (q.peer ≡ p) × IsPending h k o q
@@ -187,17 +234,20 @@ pub record IsTurnedAway (h : List Written) (c k : ℕ) : Type 0 where
   pub crowded : IsCrowded h k moment request.peer
   pub unsent : IsUnsent h k request
 
--- The message for the ask is named, or the ask where nothing was sent. It was asked 93 seconds
--- before or more (MAX_TRANSMIT_WAIT, RFC 7252 section 4.8.2), or the message was given up.
-pub record IsTimedOut (h : List Written) (t c k n : ℕ) : Type 0 where
+-- The message for the ask is named, to which no reply came before the answer; or the ask, where
+-- nothing was sent. It was asked 93 seconds before or more (MAX_TRANSMIT_WAIT, RFC 7252 section
+-- 4.8.2), or the message was given up.
+pub record IsTimedOut (h : List Written) (a t c k n : ℕ) : Type 0 where
   pub moment : ℕ
   pub request : CoapRequest
   pub asked : IsAsked h k c moment (Requests request)
-  pub names : ((m : Content) × IsSentFor h k request n m) ⊎ ((n ≡ k) × IsUnsent h k request)
+  pub names : ((m : Content) × IsSentFor h k request n m × IsUnanswered h request.peer n m a)
+      ⊎ ((n ≡ k) × IsUnsent h k request)
   pub over : (moment + MAX_TRANSMIT_WAIT ≤ t)
       ⊎ ((m : Content) × IsSentFor h k request n m × IsGivenUp h t request.peer n m)
 
--- The entry heard, from the endpoint, an empty RST with the ID of the message for the ask.
+-- The entry heard, from the endpoint, an empty RST with the ID of the message for the ask, before
+-- anything else ended its sending.
 pub record IsReset (h : List Written) (c k n : ℕ) : Type 0 where
   pub moment : ℕ
   pub request : CoapRequest
@@ -206,12 +256,11 @@ pub record IsReset (h : List Written) (c k n : ℕ) : Type 0 where
   pub sent : Content
   pub sent_for : IsSentFor h k request sending sent
   pub after : sending < n
+  pub unsettled : IsUnsettled h request.peer sending sent n
   pub reset : ℕ
-  pub bytes : List ℕ
-  pub heard : IsEntry h n reset (Hears request.peer bytes)
-  pub spelled : Spells (empty Rst sent.mid) bytes
+  pub heard : IsHeard h request.peer n reset (empty Rst sent.mid)
 
--- The entry heard a response to the message for the ask, and it is no whole one.
+-- The entry heard the reply to the message for the ask, and it is no whole response.
 pub record IsNotUnderstood (h : List Written) (c k n : ℕ) : Type 0 where
   pub moment : ℕ
   pub request : CoapRequest
@@ -226,12 +275,12 @@ pub record IsRefused (h : List Written) (c k : ℕ) (cause : Cause) : Type 0 whe
   pub status : ℕ
   pub asked : IsAsked h k c moment (Refuses cause status)
 
-abbrev pub IsCausedBy : List Written → ℕ → ℕ → ℕ → Cause → ℕ → Type 0
-IsCausedBy h t c k C.Busy n = (n ≡ k) × IsTurnedAway h c k
-IsCausedBy h t c k C.Timeout n = IsTimedOut h t c k n
-IsCausedBy h t c k C.Reset n = IsReset h c k n
-IsCausedBy h t c k C.NotUnderstood n = IsNotUnderstood h c k n
-IsCausedBy h t c k cause n = (n ≡ k) × IsRefused h c k cause
+abbrev pub IsCausedBy : List Written → ℕ → ℕ → ℕ → ℕ → Cause → ℕ → Type 0
+IsCausedBy h a t c k C.Busy n = (n ≡ k) × IsTurnedAway h c k
+IsCausedBy h a t c k C.Timeout n = IsTimedOut h a t c k n
+IsCausedBy h a t c k C.Reset n = IsReset h c k n
+IsCausedBy h a t c k C.NotUnderstood n = IsNotUnderstood h c k n
+IsCausedBy h a t c k cause n = (n ≡ k) × IsRefused h c k cause
 
 -- What holds of every journal that stands.
 
@@ -245,4 +294,4 @@ RestsOnReplies =
 abbrev pub NamesCause : Type 0
 NamesCause =
     (h : List Written) (n t c k : ℕ) (cause : Cause) (j : ℕ) → Stands h
-    → IsEntry h n t (Answers c k (Fault cause j)) → (j < n) × IsCausedBy h t c k cause j
+    → IsEntry h n t (Answers c k (Fault cause j)) → (j < n) × IsCausedBy h n t c k cause j

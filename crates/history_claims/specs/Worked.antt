@@ -1,11 +1,13 @@
 -- Worked journals of `history_laws`, as entries: what their answers rest on, and what they don't.
 use Rattle.std.specs.Prelude.{[], ◌∷◌}
 use Rattle.ask_model.specs.declared.cause.Cause.TheVariants as C
+use Rattle.ask_model.specs.Requests.{CoapRequest}
 use Rattle.history_laws.specs.Readings.{entries}
 use Rattle.history_laws.specs.WorkedMessages as M
 use Rattle.history_laws.specs.WorkedEndings as E
+use Rattle.history_laws.specs.WorkedLate as L
 use Rattle.history_laws.specs.WorkedSpoiled as S
-use Rattle.history_claims.specs.Headline.{RestsOn, IsCausedBy}
+use Rattle.history_claims.specs.Headline.{RestsOn, IsPending, IsCausedBy}
 
 -- The GET's answer rests on the response of entry 9, and the PUT's on that of entry 16.
 abbrev pub Answered : Type 0
@@ -13,14 +15,14 @@ Answered = RestsOn (entries M.all_answered) 11 0 1 (9 ∷ []) × RestsOn (entrie
 
 -- After 93 seconds the GET's message is named, and the PUT itself, since it was never sent.
 abbrev pub TimedOut : Type 0
-TimedOut = IsCausedBy (entries M.given_up) 93500 0 1 C.Timeout 2 × IsCausedBy (entries M.given_up) 93500 1 4 C.Timeout 4
+TimedOut = IsCausedBy (entries M.given_up) 7 93500 0 1 C.Timeout 2 × IsCausedBy (entries M.given_up) 8 93500 1 4 C.Timeout 4
 
 -- A Reset message is named, and a message that was sent five times.
 abbrev pub Rejected : Type 0
-Rejected = IsCausedBy (entries E.rejected) 700 1 4 C.Reset 8
+Rejected = IsCausedBy (entries E.rejected) 9 700 1 4 C.Reset 8
 
 abbrev pub GivenUp : Type 0
-GivenUp = IsCausedBy (entries E.timed_out) 62000 0 1 C.Timeout 2
+GivenUp = IsCausedBy (entries E.timed_out) 14 62000 0 1 C.Timeout 2
 
 -- Not so: the PUT answered by the response to the GET, which came under its token.
 abbrev pub Crossed : Type 0
@@ -32,4 +34,20 @@ Foreseen = RestsOn (entries M.all_answered) 11 1 4 (16 ∷ []) → ⊥
 
 -- Not so: a message given up a millisecond before the timeout after its fourth copy is over.
 abbrev pub Early : Type 0
-Early = IsCausedBy (entries S.timed_out_early) 61999 0 1 C.Timeout 2 → ⊥
+Early = IsCausedBy (entries S.timed_out_early) 14 61999 0 1 C.Timeout 2 → ⊥
+
+-- Not so: an answer on the second response under the GET's token.
+abbrev pub Second : Type 0
+Second = RestsOn (entries L.heard_twice) 14 0 1 (12 ∷ []) → ⊥
+
+-- Not so: a 504 to the GET after 93 seconds, though its reply came.
+abbrev pub Unheeded : Type 0
+Unheeded = IsCausedBy (entries L.half_answered) 15 95000 0 1 C.Timeout 2 → ⊥
+
+-- Not so: a Reset message that came after the ACK.
+abbrev pub Unrejected : Type 0
+Unrejected = IsCausedBy (entries L.rejected_after) 10 2200 0 1 C.Reset 9 → ⊥
+
+-- Not so: an ask of a closed connection that crowds out others still, after 93 seconds.
+abbrev pub Abandoned : Type 0
+Abandoned = (q : CoapRequest) → IsPending (entries L.abandoned) 7 1 q → ⊥

@@ -8,6 +8,10 @@ ghost use Rattle.history_claims.specs.Worked.{
   Crossed,
   Foreseen,
   Early,
+  Second,
+  Unheeded,
+  Unrejected,
+  Abandoned,
 };
 
 /// A separate response, and one in an ACK.
@@ -28,4 +32,13 @@ pub fn not_so()
     ensures crossed { Crossed }
     ensures foreseen { Foreseen }
     ensures early { Early }
+{}
+
+/// What comes too late excuses nothing: a second response, a deadline after the reply, a Reset message
+/// after an ACK, an ask whose client has been gone for 93 seconds.
+pub fn not_excused()
+    ensures second { Second }
+    ensures unheeded { Unheeded }
+    ensures unrejected { Unrejected }
+    ensures abandoned { Abandoned }
 {}

@@ -78,7 +78,7 @@ asks-step l c (Asks e a) i j k ih g h =
     ]
 asks-step l c d i j k ih g h = ih g h
 
-asks-once : (l : List Noted) (c i j k : ℕ) → slice_get (asks_of l c) i ≡ Some k → slice_get (asks_of l c) j ≡ Some k → i ≡ j
+pub asks-once : (l : List Noted) (c i j k : ℕ) → slice_get (asks_of l c) i ≡ Some k → slice_get (asks_of l c) j ≡ Some k → i ≡ j
 asks-once [] c i j k g h = cc
 asks-once (x ∷ older) c i j k g h = asks-step older c x.written.deed i j k (λ u v. asks-once older c i j k u v) g h
 
@@ -87,7 +87,7 @@ asks-keep l c (Asks e a) i k h =
     elim (eqb_tells e c) [ inl w ↦ rw (w.0) (got-more (asks_of l c) ((length l) ∷ []) i k h) | inr w ↦ rw (w.0) h ]
 asks-keep l c d i k h = h
 
-more-answers : (l : List Noted) (c : ℕ) (d : Deed) → length (answers_of l c) ≤ length (answers_by c d (answers_of l c))
+pub more-answers : (l : List Noted) (c : ℕ) (d : Deed) → length (answers_of l c) ≤ length (answers_by c d (answers_of l c))
 more-answers l c (Answers e k g) =
     elim (eqb_tells e c) [ inl w ↦ rw (w.0) (omega (arith, length-append (answers_of l c) (k ∷ []))) | inr w ↦ rw (w.0) (omega arith) ]
 more-answers l c d = omega arith

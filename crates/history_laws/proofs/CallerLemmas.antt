@@ -1,18 +1,20 @@
 -- The lemmas on a history that other crates cite. Declares nothing, and no other module of proofs/ can be named from outside.
-pub use Rattle.history_laws.proofs.Answering.{answered-in-order, answered-once, asks-stand, IsAnswer-old, next-ask, push-cases}
+pub use Rattle.history_laws.proofs.Answering.{answered-in-order, answered-once, asks-keep, asks-once, asks-stand, IsAnswer-old, more-answers, next-ask, push-cases}
 pub use Rattle.history_laws.proofs.Basis.{made-of, reads-own, rests-on-its-own}
 pub use Rattle.history_laws.proofs.Copying.{at-still, before-twice, ticked-newest}
 pub use Rattle.history_laws.proofs.Elements.{all-filter, all-more, all-of, all-passes, all-push, any-find, any-of, contains-filter, contains-later, contains-map, contains-mapped, contains-none, filter-by, filter-push, filtered-from, find-any, find-some, first-or-later, got-last, got-more, is-some}
 pub use Rattle.history_laws.proofs.Endings.{rejected-holds, timed_out-holds}
 pub use Rattle.history_laws.proofs.Facts.{at-before, eqb-itself, eqb-same, follows-at, IsFirst-below, legal-before, length-before}
-pub use Rattle.history_laws.proofs.Messages.{all_answered-holds, content-spelled, given_up-holds, put-spelled}
+pub use Rattle.history_laws.proofs.Messages.{ack-spelled, all_answered-holds, content-spelled, get-spelled, given_up-holds, put-spelled}
 pub use Rattle.history_laws.proofs.Openings.{begun-listed, ends-first, listed-begun, open-exactly}
 pub use Rattle.history_laws.proofs.Outstanding.{outstanding-last, sound, Sound, way-cases}
 pub use Rattle.history_laws.proofs.Places.{at-below, at-cases, at-entries, at-keeps, at-new, at-newest, at-old, at-same, before-keeps, before-new, entries-length}
 pub use Rattle.history_laws.proofs.Refusals.{maps-refusal}
 pub use Rattle.history_laws.proofs.Replies.{first-stands, firsts-stand, replies-fit}
 pub use Rattle.history_laws.proofs.Resting.{and-left, and-right, none-is, none-of, none-some, some-is}
-pub use Rattle.history_laws.proofs.Sendings.{any-first, ids-apart, may-be, tokens-apart}
-pub use Rattle.history_laws.proofs.Sent.{asked-for, begun-before, begun-below, begun-keeps, begun-opening, opening-begun, progress-more, sent-for, sent-once}
-pub use Rattle.history_laws.proofs.Settled.{open-below, range-passes}
-pub use Rattle.history_laws.proofs.Turns.{heard-sends, turn-sent, waits-first}
+pub use Rattle.history_laws.proofs.Sendings.{any-first, ids-apart, IsFirst-old, may-be, tokens-apart}
+pub use Rattle.history_laws.proofs.Sent.{asked-for, begun-before, begun-below, begun-keeps, begun-opening, opening-begun, Past, past, progress-more, sent-for, sent-once}
+pub use Rattle.history_laws.proofs.Settled.{ask-listed, few-waiting, open-below, range-passes}
+pub use Rattle.history_laws.proofs.Turns.{heard-sends, turn-replied, turn-sent, waits-first}
+pub use Rattle.history_laws.proofs.Late.{other-spelled, rst-0-spelled}
+pub use Rattle.history_laws.proofs.Ended.{none-after-end}

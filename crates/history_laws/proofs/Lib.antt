@@ -14,9 +14,11 @@ mod Openings
 mod Turns
 mod Replies
 mod Sent
+mod Ended
 mod Basis
 mod Confirmed
 mod Asked
 mod Settled
 mod Endings
+mod Late
 mod Spoiled

@@ -100,7 +100,7 @@ legal-copied = (
   ),
 )
 
-legal-let-go : Legal let_go
+pub legal-let-go : Legal let_go
 legal-let-go = (
   (legal-copied, lit≤ tt, (may-come _ refl refl, lit≤ tt, refl, record { spelled = ack-spelled; unheard = refl; remembered = refl; says = refl })),
   lit≤ tt,
@@ -130,7 +130,7 @@ legal-let-go = (
   ),
 )
 
-legal-answered : Legal answered
+pub legal-answered : Legal answered
 legal-answered = (
   (
     (legal-let-go, lit≤ tt, (may-come _ refl refl, lit≤ tt, refl, record { spelled = content-spelled; unheard = refl; remembered = refl; says = refl })),

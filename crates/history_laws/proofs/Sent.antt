@@ -153,7 +153,7 @@ progress-ends [] r = refl
 progress-ends (s ∷ rs) r = ap (λ (w : Progress). is_some (ended_by w)) (progress-more s (rs ++ r ∷ []))
 
 -- after its first sending an exchange waits for the reply, or has ended
-abbrev Past : Option ℕ → Option End → Type 0
+abbrev pub Past : Option ℕ → Option End → Type 0
 Past w e = (is_some w ≡ true) ⊎ (is_none e ≡ false)
 
 ended : (how : Option Ending) (n : ℕ) (e : Option End) → is_some how ≡ true → is_none (end_by how n e) ≡ false
@@ -174,7 +174,7 @@ past-new : (l : List Noted) (t o : ℕ) (p : Peer) (b : List ℕ) (w : Option �
     → is_some (waits_for (noted t (Sends p b w) (First o m) ∷ l) o) ≡ true
 past-new l t o p b w m = rw (eqb-itself o) refl
 
-past : (l : List Noted) (t o i : ℕ) (p : Peer) (m : Content) → IsFirst l t o i p m → Past (waits_for l o) (end_of l o)
+pub past : (l : List Noted) (t o i : ℕ) (p : Peer) (m : Content) → IsFirst l t o i p m → Past (waits_for l o) (end_of l o)
 past [] t o i p m f = cc (f.stands)
 past (x ∷ older) t o i p m f =
     elim (IsFirst-old x older t o i p m f) [

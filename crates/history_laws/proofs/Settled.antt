@@ -53,7 +53,7 @@ open-below (x ∷ older) legal c e =
     open-step older c x.written.moment x.written.deed x.note (open-below older legal.0 c) legal.2 e
 
 -- an ask is among those of its connection
-ask-listed : (l : List Noted) (k c : ℕ) (a : Ask) → IsAsk l k c a → (i : ℕ) × (slice_get (asks_of l c) i ≡ Some k)
+pub ask-listed : (l : List Noted) (k c : ℕ) (a : Ask) → IsAsk l k c a → (i : ℕ) × (slice_get (asks_of l c) i ≡ Some k)
 ask-listed [] k c a h = cc (h.stands)
 ask-listed (x ∷ older) k c a h =
     elim (at-old x older k _ h.stands) [
@@ -80,7 +80,7 @@ few-step l c t (Answers e k g) note may h =
     elim (eqb_tells e c) [ inl w ↦ rw (w.0) (omega (arith, h, length-append (answers_of l c) (k ∷ []))) | inr w ↦ rw (w.0) h ]
 few-step l c t d note may h = h
 
-few-waiting : (l : List Noted) (c : ℕ) → Legal l → length (asks_of l c) ≤ length (answers_of l c) + 1
+pub few-waiting : (l : List Noted) (c : ℕ) → Legal l → length (asks_of l c) ≤ length (answers_of l c) + 1
 few-waiting [] c legal = omega arith
 few-waiting (x ∷ older) c legal = few-step older c x.written.moment x.written.deed x.note legal.2 (few-waiting older c legal.0)
 

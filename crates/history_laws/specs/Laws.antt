@@ -111,6 +111,12 @@ EndsFirst =
     → (x : Noted) × (at l e ≡ Some x) × (end_of (before l e) o ≡ None)
     × (end_here e (replies (before l e) o) (turn (before l e) o x) ≡ Some how)
 
+-- After an exchange's end nothing goes out for it but copies: its first sending stands before that.
+abbrev pub NoneAfterEnd : Type 0
+NoneAfterEnd =
+    (l : List Noted) (t o i e : ℕ) (p : Peer) (m : Content) (how : Ending) → Legal l
+    → IsFirst l t o i p m → Ends l o e how → i < e
+
 -- a piggybacked response has the ID of the request, a separate one any, and a RST is no response
 abbrev pub IsReplyKind : MsgType → ℕ → ℕ → Type 0
 IsReplyKind Con mid sent = ⊤

@@ -15,4 +15,5 @@ pub mod Laws
 pub mod Worked
 pub mod WorkedMessages
 pub mod WorkedEndings
+pub mod WorkedLate
 pub mod WorkedSpoiled

@@ -11,6 +11,7 @@ ghost use Rattle.history_laws.specs.Laws.{
   NoneLeft,
   OpenExactly,
   EndsFirst,
+  NoneAfterEnd,
   RepliesFit,
   RestsOnItsOwn,
   NothingOutrun,
@@ -43,10 +44,11 @@ pub fn one_outstanding()
 {}
 
 /// An exchange is open exactly if it was opened and has not ended, and it ends at the first entry that
-/// ends it.
+/// ends it. After that nothing goes out for it but copies.
 pub fn open_exactly()
     ensures open_ones { OpenExactly }
     ensures first { EndsFirst }
+    ensures none_after { NoneAfterEnd }
 {}
 
 /// A reply came after the first sending that it replies to, from its peer, under its token, and is no

@@ -2,6 +2,7 @@
 
 ghost use Rattle.history_laws.specs.Worked.{Holds, Refused};
 ghost use Rattle.history_laws.specs.WorkedEndings as E;
+ghost use Rattle.history_laws.specs.WorkedLate as L;
 ghost use Rattle.history_laws.specs.WorkedMessages as M;
 ghost use Rattle.history_laws.specs.WorkedSpoiled as S;
 
@@ -19,6 +20,15 @@ pub fn worked_messages()
 pub fn worked_endings()
     ensures rejected { Holds E.rejected }
     ensures timed_out { Holds E.timed_out }
+{}
+
+/// What comes too late to count: a second response under a token, a Reset message after an ACK, the end
+/// of an exchange whose client is gone. And a reply to one of two asks.
+pub fn worked_late()
+    ensures heard_twice { Holds L.heard_twice }
+    ensures half_answered { Holds L.half_answered }
+    ensures rejected_after { Holds L.rejected_after }
+    ensures abandoned { Holds L.abandoned }
 {}
 
 /// What goes out wrongly: too often, under another or a used message ID, or before its turn.

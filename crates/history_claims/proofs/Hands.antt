@@ -1,0 +1,140 @@
+-- Between the end of an exchange and the answer to its ask nothing comes.
+use Rattle.std.proofs.Common.{◌≡◌, ℕ, ◌<◌, ◌≤◌, Bool, true, false, not, ◌||◌, inl, inr, List, [], ◌∷◌, length, Option, Some, None, refl, sym, subst, ◌∙◌, arith}
+use Rattle.std.specs.Prelude.{is_none}
+use Rattle.std.specs.Option.{option_map_or}
+use Rattle.std.specs.List.{slice_get}
+use Rattle.std.proofs.lemmas.Option.{slice_get_within}
+use Rattle.std.proofs.lemmas.Bool.Decides.{eqb_tells}
+use Rattle.std.proofs.lemmas.Bool.{false≢true}
+use Rattle.ask_model.specs.Views.{Ask}
+use Rattle.journal_book.specs.Entries.{Deed, Opens, Asks, Shuts}
+use Rattle.history_laws.specs.Readings.{Noted, Note, at, before}
+use Rattle.history_laws.specs.Connections.{open_by, is_open, asks_of, answers_of, opened_by, opened}
+use Rattle.history_laws.specs.Progress.{TimedOut}
+use Rattle.history_laws.specs.Exchanges.{Begun, begun, is_late, expires, turn, waits_for, replies, end_here, end_of, is_going}
+use Rattle.history_laws.specs.Justified.{IsAsk, Ends, reads_in, reads, reads_open, pending, is_in_hand, Follows, Legal, AtRest, MayCome}
+use Rattle.history_laws.proofs.CallerLemmas.{ask-listed, asks-keep, asks-once, at-still, before-twice, begun-below, ends-first, few-waiting, follows-at, IsFirst-below, legal-before, length-before, more-answers, open-below, range-passes, sent-for, waits-first}
+use Rattle.history_claims.proofs.Entries.{grows}
+use Rattle.history_claims.proofs.Ending.{turn-expired, expired-turn}
+use Rattle.history_claims.proofs.Unsent.{ended-at}
+
+-- as many connections were opened, and asks answered, as before, or more
+more-opened : (d : Deed) (n : ℕ) → n ≤ opened_by d n
+more-opened (Opens c) n = omega arith
+more-opened d n = omega arith
+
+opened-before : (l : List Noted) (n : ℕ) → opened (before l n) ≤ opened l
+opened-before [] n = omega arith
+opened-before (x ∷ older) n =
+    elim (eqb_tells n (length older)) [
+      | inl w ↦ rw (w.0) (more-opened x.written.deed (opened older))
+      | inr w ↦
+          let ih = opened-before older n in
+          let more = more-opened x.written.deed (opened older) in
+          rw (w.0) (omega (arith, ih, more))
+    ]
+
+answers-before : (l : List Noted) (n c : ℕ) → length (answers_of (before l n) c) ≤ length (answers_of l c)
+answers-before [] n c = omega arith
+answers-before (x ∷ older) n c =
+    elim (eqb_tells n (length older)) [
+      | inl w ↦ rw (w.0) (more-answers older c x.written.deed)
+      | inr w ↦
+          let ih = answers-before older n c in
+          let more = more-answers older c x.written.deed in
+          rw (w.0) (omega (arith, ih, more))
+    ]
+
+-- A connection that is open, and had a number before, was open then.
+open-was : (l : List Noted) (t c : ℕ) (d : Deed) (note : Note) → c < opened l → Follows l t d note → open_by c d (is_open l c) ≡ true → is_open l c ≡ true
+open-was l t c (Opens e) note below may h =
+    elim (eqb_tells e c) [
+      | inl w ↦ let same = w.1 in let here = may.1 in absurd (omega (arith, same, here, below))
+      | inr w ↦ rw (w.0) at h
+    ]
+open-was l t c (Shuts e) note below may h =
+    elim (eqb_tells e c) [ inl w ↦ absurd (false≢true (rw (w.0) at h)) | inr w ↦ rw (w.0) at h ]
+open-was l t c d note below may h = h
+
+open-back : (l : List Noted) (n c : ℕ) → Legal l → c < opened (before l n) → is_open l c ≡ true → is_open (before l n) c ≡ true
+open-back [] n c legal below h = h
+open-back (x ∷ older) n c legal below h =
+    elim (eqb_tells n (length older)) [
+      | inl w ↦ rw (w.0) (open-was older x.written.moment c x.written.deed x.note (rw (w.0) at below) legal.2 h)
+      | inr w ↦
+          let less : c < opened (before older n) = rw (w.0) at below in
+          let more = opened-before older n in
+          rw (w.0) (open-back older n c legal.0 less (open-was older x.written.moment c x.written.deed x.note (omega (arith, less, more)) legal.2 h))
+    ]
+
+-- The ask that a connection waits for it waited for before, from the ask on.
+pending-back : (l : List Noted) (i c k : ℕ) (a : Ask) → Legal l → pending l c ≡ Some k → IsAsk (before l i) k c a → pending (before l i) c ≡ Some k
+pending-back l i c k a legal next ask =
+    let listed = ask-listed (before l i) k c a ask in
+    let q : ℕ = listed.0 in
+    let still = grows (λ (l : List Noted). slice_get (asks_of l c) q ≡ Some k) (λ x l h. asks-keep l c x.written.deed q k h) l i listed.1 in
+    let same : q ≡ length (answers_of l c) = asks-once l c q (length (answers_of l c)) k still next in
+    let few = few-waiting (before l i) c (legal-before l i legal) in
+    let within = slice_get_within (asks_of (before l i) c) q k listed.1 in
+    let less = answers-before l i c in
+    let place : q ≡ length (answers_of (before l i) c) = omega (arith, same, few, within, less) in
+    subst (λ (q : ℕ). slice_get (asks_of (before l i) c) q ≡ Some k) place listed.1
+
+-- what an open connection waits for goes on while an input may come
+in-hand : (l : List Noted) (c k : ℕ) → AtRest l → c < opened l → is_open l c ≡ true → pending l c ≡ Some k → reads l k ≡ Some k → is_going l k ≡ true
+in-hand l c k rest below now next own =
+    let hand : is_in_hand l c ≡ true = range-passes (is_in_hand l) 0 (opened l) c rest.waits (omega arith) (omega (arith, below)) in
+    let here : (not true || option_map_or (λ (k : ℕ). reads_open l (reads l k)) (pending l c) true) ≡ true =
+    subst (λ (b : Bool). (not b || option_map_or (λ (k : ℕ). reads_open l (reads l k)) (pending l c) true) ≡ true) now hand in
+    let reading : option_map_or (λ (k : ℕ). reads_open l (reads l k)) (Some k) true ≡ true =
+    subst (λ (o : Option ℕ). option_map_or (λ (k : ℕ). reads_open l (reads l k)) o true ≡ true) next here in
+    subst (λ (o : Option ℕ). reads_open l o ≡ true) own reading
+
+-- an exchange expires after it was opened
+late-begun : (l : List Noted) (k t : ℕ) (b : Option Begun) → begun l k ≡ b → is_late t b ≡ true → k < length l
+late-begun l k t None is late = absurd (false≢true late)
+late-begun l k t (Some b) is late = begun-below l k b is
+
+expires-begun : (l : List Noted) (k t : ℕ) (w : Option ℕ) → Legal l → waits_for l k ≡ w → expires l k t w ≡ true → k < length l
+expires-begun l k t None legal is over = late-begun l k t (begun l k) refl over
+expires-begun l k t (Some i) legal is over =
+    let it = waits-first l k i is in
+    let after = (sent-for l it.0 k i it.1 it.2 legal it.3).after in
+    let below = IsFirst-below l it.0 k i it.1 it.2 it.3 in
+    omega (arith, after, below)
+
+-- the ask of an answer, and where its exchange ended
+module _ (l : List Noted) (c k e : ℕ) (a : Ask) (legal : Legal l) (ask : IsAsk l k c a) (own : reads l k ≡ Some k) (ended : Ends l k e TimedOut) where
+  after-ask : k < e
+  after-ask =
+      let end = ends-first l k e TimedOut ended in
+      let it = turn-expired (before l e) k end.0 (expired-turn (turn (before l e) k end.0) e (replies (before l e) k) end.3) in
+      subst (λ (n : ℕ). k < n) (length-before l e end.0 end.1)
+      (expires-begun (before l e) k end.0.written.moment (waits_for (before l e) k) (legal-before l e legal) refl it.over)
+
+  asked-open : is_open (before l k) c ≡ true
+  asked-open = by (follows-at l k _ legal ask.stands)
+    where
+      by : Follows (before l k) ask.moment (Asks c a) ask.note → is_open (before l k) c ≡ true
+      by may = may.1
+
+  pub no-input : is_open l c ≡ true → pending l c ≡ Some k → (i : ℕ) (x : Noted) → e < i → at l i ≡ Some x → MayCome (before l i) → ⊥
+  no-input now next i x late here come =
+      let after = after-ask in
+      let less : k < i = omega (arith, after, late) in
+      let early = legal-before l i legal in
+      let stands : IsAsk (before l i) k c a = record { moment = ask.moment; note = ask.note; stands = at-still l i k _ _ here less ask.stands } in
+      let end = ends-first l k e TimedOut ended in
+      let twice = before-twice l i e x here late in
+      let over : is_none (end_of (before l i) k) ≡ false =
+      ended-at (before l i) k e end.0 TimedOut (at-still l i e _ _ here late end.1)
+      (subst (λ (v : List Noted). end_here e (replies v k) (turn v k end.0) ≡ Some TimedOut) (sym twice) end.3) in
+      let below_ask : c < opened (before l k) = open-below (before l k) (legal-before l k legal) c asked-open in
+      let more = opened-before (before l i) k in
+      let sooner = before-twice l i k x here less in
+      let below : c < opened (before l i) =
+      omega (arith, subst (λ (v : List Noted). c < opened v) (sym sooner) below_ask, more) in
+      let reading : reads (before l i) k ≡ Some k =
+      subst (λ (o : Option Noted). reads_in k o ≡ Some k) (ask.stands ∙ sym stands.stands) own in
+      let going = in-hand (before l i) c k come.1 below (open-back l i c legal below now) (pending-back l i c k a legal next stands) reading in
+      false≢true (sym over ∙ going)

@@ -1,0 +1,272 @@
+-- While an exchange waits for a reply, none has come to its message.
+use Rattle.std.proofs.Common.{◌≡◌, ℕ, ◌<◌, ◌≤◌, Bool, true, false, ◌&&◌, ◌||◌, eqb, leb, inl, inr, List, [], ◌∷◌, ◌++◌, length, Option, Some, None, refl, sym, ap, subst, ◌∙◌, arith}
+use Rattle.std.specs.Prelude.{is_some, find}
+use Rattle.std.specs.List.{list_any, filter_map, cons_option, Contains}
+use Rattle.std.proofs.lemmas.List.Elements.{Contains-push_cases}
+use Rattle.std.proofs.lemmas.Bool.{false≢true, le-leb}
+use Rattle.coap_codec.specs.declared.message.MsgType.{MsgType}
+use Rattle.coap_codec.specs.declared.message.MsgType.TheVariants.{Con, Non, Ack, Rst}
+use Rattle.coap_codec.specs.Spelling.{Content}
+use Rattle.uri_map.specs.declared.peer.Peer.{Peer}
+use Rattle.journal_book.specs.Entries.{Hears}
+use Rattle.history_laws.specs.Readings.{Noted, Says, Notice, entries, at, before}
+use Rattle.history_laws.specs.Progress.{Reply}
+use Rattle.history_laws.specs.Exchanges.{Begun, begun, openings, Turn, Nothing, Sent, Replied, Rejected, Expired, answered_by, heard_turn, turn, waits_by, waits_for, replies_by, replies, End, end_of, awaited}
+use Rattle.history_laws.specs.Hearing.{is_under, is_as, open_at, answers_by, answers}
+use Rattle.history_laws.specs.Justified.{MaySay, Follows, Legal}
+use Rattle.history_laws.specs.Laws.{IsFirst, IsReplyKind, IsReplyTo}
+use Rattle.history_laws.specs.Worked.{noted}
+use Rattle.history_laws.proofs.CallerLemmas.{at-before, at-below, at-old, at-still, before-keeps, before-new, before-twice, begun-listed, contains-none, eqb-itself, find-any, find-some, first-or-later, IsFirst-below, IsFirst-old, legal-before, length-before, none-some, past, Past, sent-for, sent-once, some-is, turn-replied, turn-sent, waits-first}
+use Rattle.history_claims.specs.Headline.{BringsResponse, IsResponse, IsNew, IsUnanswered, IsHeardFor}
+use Rattle.history_claims.proofs.Sending.{first-before, sent-as}
+use Rattle.history_claims.proofs.Repeats.{heard-at, heard-entry, says-new, repeats-again}
+use Rattle.history_claims.proofs.Settling.{found-at, under-true, as-true, under-is}
+
+-- what an exchange waits for is awaited
+or-left : (b : Bool) → (true || b) ≡ true
+or-left b = refl
+
+or-right : (a b : Bool) → b ≡ true → (a || b) ≡ true
+or-right true b h = refl
+or-right false b h = h
+
+any-mapped : (f : ℕ → Option ℕ) (p : ℕ → Bool) (xs : List ℕ) (x y : ℕ) → Contains xs x → f x ≡ Some y → p y ≡ true → list_any p (filter_map f xs) ≡ true
+any-mapped f p [] x y h e is = absurd (contains-none x h)
+any-mapped f p (z ∷ xs) x y h e is =
+    elim (first-or-later z xs x h) [
+      | inl w ↦ here (f z) (ap f w ∙ e)
+      | inr w ↦ later (f z) (any-mapped f p xs x y w e is)
+    ]
+  where
+    here : (o : Option ℕ) → o ≡ Some y → list_any p (cons_option o (filter_map f xs)) ≡ true
+    here None g = absurd (none-some y g)
+    here (Some v) g = subst (λ (v : ℕ). list_any p (v ∷ filter_map f xs) ≡ true) (sym (some-is v y g)) (rw is (or-left (list_any p (filter_map f xs))))
+
+    later : (o : Option ℕ) → list_any p (filter_map f xs) ≡ true → list_any p (cons_option o (filter_map f xs)) ≡ true
+    later None h = h
+    later (Some v) h = or-right (p v) _ h
+
+any-more : (p : ℕ → Bool) (xs ys : List ℕ) → list_any p xs ≡ true → list_any p (xs ++ ys) ≡ true
+any-more p [] ys h = absurd (false≢true h)
+any-more p (x ∷ xs) ys h = go (p x) h (any-more p xs ys)
+  where
+    go : (b : Bool) → (b || list_any p xs) ≡ true → (list_any p xs ≡ true → list_any p (xs ++ ys) ≡ true) → (b || list_any p (xs ++ ys)) ≡ true
+    go true h ih = refl
+    go false h ih = ih h
+
+found-one : (p : ℕ → Bool) (xs : List ℕ) (i : ℕ) → list_any p xs ≡ true → ((j : ℕ) → p j ≡ true → j ≡ i) → find p xs ≡ Some i
+found-one p xs i h only =
+    let it = find-any p xs h in
+    it.1 ∙ ap (λ (j : ℕ). Some j) (only it.0 (find-some p xs it.0 it.1).1)
+
+-- a response under the token of what is awaited answers that
+module _ (l : List Noted) (t o i : ℕ) (p : Peer) (sent : Content) (legal : Legal l) (f : IsFirst l t o i p sent) (waits : waits_for l o ≡ Some i)
+    (m : Content) (token : m.token ≡ sent.token) where
+  under : is_under l p m i ≡ true
+  under = under-true l p sent m i (found-at l t o i p sent f) token
+
+  any-awaited : (q : ℕ → Bool) → q i ≡ true → list_any q (awaited l) ≡ true
+  any-awaited q is =
+      let opened : is_some (begun l o) ≡ true = ap is_some (sent-for l t o i p sent legal f).opened in
+      any-mapped (waits_for l) q (openings l) o i (begun-listed l o opened) waits is
+
+  by-token : find (is_under l p m) (awaited l) ≡ Some i
+  by-token = found-one (is_under l p m) (awaited l) i (any-awaited (is_under l p m) under) (λ j h. under-is l t o i j p sent m legal f token h)
+
+  abbrev Both : ℕ → Bool
+  Both j = is_under l p m j && is_as l p m j
+
+  both-under : (j : ℕ) (a b : Bool) → (a && b) ≡ true → a ≡ true
+  both-under j true b h = refl
+  both-under j false b h = absurd (false≢true h)
+
+  by-both : m.mid ≡ sent.mid → find Both (awaited l ++ open_at l p) ≡ Some i
+  by-both mid =
+      let is : Both i ≡ true = rw under (as-true l p sent m i (found-at l t o i p sent f) mid) in
+      found-one Both (awaited l ++ open_at l p) i (any-more Both (awaited l) (open_at l p) (any-awaited Both is))
+      (λ j h. under-is l t o i j p sent m legal f token (both-under j (is_under l p m j) (is_as l p m j) h))
+
+  by-kind : (k : MsgType) (vain : Bool) → BringsResponse k m.mid sent.mid → answers_by l p m k vain true ≡ Some i
+  by-kind Con vain h = by-token
+  by-kind Non vain h = by-token
+  by-kind Ack true h = by-both h
+  by-kind Ack false h = by-both h
+  by-kind Rst vain h = absurd h
+
+  answers-it : 32 ≤ m.code → BringsResponse m.kind m.mid sent.mid → answers l p m ≡ Some i
+  answers-it response kind =
+      subst (λ (b : Bool). answers_by l p m m.kind (eqb m.code 0) b ≡ Some i) (sym (le-leb 32 m.code response)) (by-kind m.kind (eqb m.code 0) kind)
+
+-- so it is a reply, and the exchange waits no more
+by-response : (i : ℕ) (m : Content) (k : MsgType) (sent : ℕ) → BringsResponse k m.mid sent → leb 32 m.code ≡ true → answered_by i m k ≡ Replied i m
+by-response i m Con sent h e = rw e refl
+by-response i m Non sent h e = rw e refl
+by-response i m Ack sent h e = rw e refl
+by-response i m Rst sent h e = absurd h
+
+nothing-replied : (i : ℕ) (m : Content) → Nothing ≡ Replied i m → ⊥
+nothing-replied i m e = cc
+
+reply-turn : (l : List Noted) (o i s : ℕ) (p : Peer) (b : List ℕ) (m : Content) (notice : Notice) (sent : ℕ) → waits_for l o ≡ Some i
+    → BringsResponse m.kind m.mid sent → 32 ≤ m.code → turn l o (noted s (Hears p b) (Says m (Some i) notice)) ≡ Replied i m
+reply-turn l o i s p b m notice sent waits kind response =
+    subst (λ (w : Option ℕ). heard_turn i m w ≡ Replied i m) (sym waits)
+    (rw (eqb-itself i) (by-response i m m.kind sent kind (le-leb 32 m.code response)))
+
+says-to : (m : Content) (i j : Option ℕ) (u v : Notice) → Says m i u ≡ Says m j v → i ≡ j
+says-to m i j u v e = cc
+
+-- It doesn't wait where such a response came.
+record Came (l : List Noted) (p : Peer) (i : ℕ) (sent : Content) (j : ℕ) : Type 0 where
+  moment : ℕ
+  bytes : List ℕ
+  message : Content
+  to : Option ℕ
+  notice : Notice
+  stands : at l j ≡ Some (noted moment (Hears p bytes) (Says message to notice))
+  response : 32 ≤ message.code
+  token : message.token ≡ sent.token
+  kind : BringsResponse message.kind message.mid sent.mid
+
+came-here : (l : List Noted) (t o i : ℕ) (p : Peer) (sent : Content) (j : ℕ) (x : Noted) → Legal (x ∷ l) → IsFirst l t o i p sent
+    → waits_for l o ≡ Some i → turn l o x ≡ Nothing → (c : Came (x ∷ l) p i sent j) → x ≡ noted c.moment (Hears p c.bytes) (Says c.message c.to c.notice) → ⊥
+came-here l t o i p sent j x legal f waits idle c is =
+    let may : Follows l c.moment (Hears p c.bytes) (Says c.message c.to c.notice) =
+    subst (λ (v : Noted). Follows l v.written.moment v.written.deed v.note) is legal.2 in
+    let says : MaySay l c.moment p c.bytes (Says c.message c.to c.notice) c.message = may.3 in
+    let to : c.to ≡ Some i = says-to _ _ _ _ _ says.says ∙ answers-it l t o i p sent legal.0 f waits c.message c.token c.response c.kind in
+    let none : turn l o (noted c.moment (Hears p c.bytes) (Says c.message (Some i) c.notice)) ≡ Nothing =
+    subst (λ (to : Option ℕ). turn l o (noted c.moment (Hears p c.bytes) (Says c.message to c.notice)) ≡ Nothing) to
+    (subst (λ (x : Noted). turn l o x ≡ Nothing) is idle) in
+    nothing-replied i c.message (sym none ∙ reply-turn l o i c.moment p c.bytes c.message c.notice sent.mid waits c.kind c.response)
+
+none-came : (l : List Noted) (t o i : ℕ) (p : Peer) (sent : Content) (j : ℕ) → Legal l → IsFirst l t o i p sent → waits_for l o ≡ Some i → i < j
+    → Came l p i sent j → ⊥
+none-came [] t o i p sent j legal f waits lt c = none-some i waits
+none-came (x ∷ older) t o i p sent j legal f waits lt c =
+    elim (IsFirst-old x older t o i p sent f) [
+      | inl u ↦ let place = u.0 in let below = at-below (x ∷ older) j _ c.stands in absurd (omega (arith, place, below, lt))
+      | inr u ↦ go u (turn older o x) refl waits (λ w d. none-came older t o i p sent j legal.0 u w lt d)
+    ]
+  where
+    go : IsFirst older t o i p sent → (w : Turn) → turn older o x ≡ w → waits_by w (waits_for older o) ≡ Some i
+        → (waits_for older o ≡ Some i → Came older p i sent j → ⊥) → ⊥
+    go u Nothing is e ih =
+        elim (at-old x older j _ c.stands) [
+          | inl v ↦ came-here older t o i p sent j x legal u e is c v.1
+          | inr v ↦ ih e (record {
+            moment = c.moment;
+            bytes = c.bytes;
+            message = c.message;
+            to = c.to;
+            notice = c.notice;
+            stands = v;
+            response = c.response;
+            token = c.token;
+            kind = c.kind;
+          })
+        ]
+    go u (Sent k) is e ih =
+        let here = (turn-sent older o x k is).here in
+        let same = some-is k i e in
+        let below = IsFirst-below older t o i p sent u in
+        absurd (omega (arith, here, same, below))
+    go u (Replied k m) is e ih = none-some i e
+    go u Rejected is e ih = none-some i e
+    go u Expired is e ih = none-some i e
+
+-- Till an entry before which it waits, only repeats came.
+pub unanswered-till : (l : List Noted) (e : ℕ) (x : Noted) (t o i : ℕ) (p : Peer) (sent : Content) → Legal l → Legal (before l e) → at l e ≡ Some x
+    → IsFirst (before l e) t o i p sent → waits_for (before l e) o ≡ Some i → IsUnanswered (entries l) p i sent e
+unanswered-till l e x t o i p sent legal early here f waits j m lt r =
+    elim (heard-at l p j r.moment m legal r.heard) [
+      | inl s ↦
+          absurd (none-came (before l e) t o i p sent j early f waits r.after
+          (record {
+            moment = r.moment;
+            bytes = s.bytes;
+            message = m;
+            to = s.to;
+            notice = s.notice;
+            stands = at-still l e j x _ here lt s.stands;
+            response = r.response;
+            token = r.token;
+            kind = r.kind;
+          }))
+      | inr s ↦ repeats-again l p j r.moment m legal s
+    ]
+
+-- After its first sending an exchange that hasn't ended waits for the reply to that.
+pub going-waits : (l : List Noted) (t o i : ℕ) (p : Peer) (m : Content) → Legal l → IsFirst l t o i p m → end_of l o ≡ None → waits_for l o ≡ Some i
+going-waits l t o i p m legal f going = go (waits_for l o) refl (end_of l o) going (past l t o i p m f)
+  where
+    go : (w : Option ℕ) → waits_for l o ≡ w → (e : Option End) → e ≡ None → Past w e → w ≡ Some i
+    go None is None g (inl h) = absurd (false≢true h)
+    go None is None g (inr h) = absurd (false≢true (sym h))
+    go None is (Some e) g h = absurd (none-some e (sym g))
+    go (Some j) is e g h =
+        let it = waits-first l o j is in
+        ap (λ (n : ℕ). Some n) (sent-once l it.0 t o j i it.1 p it.2 m legal it.3 f)
+
+-- It waited for each of its replies.
+abbrev Waited : List Noted → ℕ → Reply → Type 0
+Waited l o r = (waits_for (before l r.number) o ≡ Some r.sending) × (r.number < length l)
+
+waited-step : (x : Noted) (l : List Noted) (o : ℕ) (r : Reply) → (Contains (replies l o) r → Waited l o r) → (u : Turn) → turn l o x ≡ u
+    → Contains (replies_by (length l) u (replies l o)) r → Waited (x ∷ l) o r
+waited-step x l o r ih (Replied i m) is h =
+    elim (Contains-push_cases (replies l o) _ r h) [
+      | inl w ↦ waited-keeps w
+      | inr w ↦ subst (Waited (x ∷ l) o) w (rw (before-new x l) ((turn-replied l o x i m is).waited), omega arith)
+    ]
+  where
+    waited-keeps : Contains (replies l o) r → Waited (x ∷ l) o r
+    waited-keeps w = let it = ih w in let below = it.1 in (rw (before-keeps x l r.number below) (it.0), omega (arith, below))
+waited-step x l o r ih Nothing is h = let it = ih h in let below = it.1 in (rw (before-keeps x l r.number below) (it.0), omega (arith, below))
+waited-step x l o r ih (Sent i) is h = let it = ih h in let below = it.1 in (rw (before-keeps x l r.number below) (it.0), omega (arith, below))
+waited-step x l o r ih Rejected is h = let it = ih h in let below = it.1 in (rw (before-keeps x l r.number below) (it.0), omega (arith, below))
+waited-step x l o r ih Expired is h = let it = ih h in let below = it.1 in (rw (before-keeps x l r.number below) (it.0), omega (arith, below))
+
+waited-all : (l : List Noted) (o : ℕ) (r : Reply) → Contains (replies l o) r → Waited l o r
+waited-all [] o r h = absurd (contains-none r h)
+waited-all (x ∷ older) o r h = waited-step x older o r (waited-all older o r) (turn older o x) refl h
+
+pub reply-waited : (l : List Noted) (o : ℕ) (r : Reply) → Contains (replies l o) r → waits_for (before l r.number) o ≡ Some r.sending
+reply-waited l o r h = (waited-all l o r h).0
+
+-- So a reply to an exchange is the reply that was heard for its request.
+brings : (k : MsgType) (mid sent : ℕ) → IsReplyKind k mid sent → BringsResponse k mid sent
+brings Con mid sent h = tt
+brings Non mid sent h = tt
+brings Ack mid sent h = h
+brings Rst mid sent h = absurd h
+
+pub heard-in : (l : List Noted) (n o : ℕ) (r : Reply) (b : Begun) (x : Noted) → Legal l → begun l o ≡ Some b → at l n ≡ Some x
+    → Contains (replies (before l n) o) r → IsReplyTo (before l n) o r → IsHeardFor (entries l) o b.request r.number r.message
+heard-in l n o r b x legal opened here has h =
+    let first = first-before l n _ o _ _ _ h.first in
+    let it = sent-as l h.sent_at o r.sending h.peer h.sent b legal opened first in
+    let stands = at-before l n r.number _ h.heard in
+    let below = subst (λ (m : ℕ). r.number < m) (length-before l n x here) (at-below (before l n) r.number _ h.heard) in
+    let twice = before-twice l n r.number x here below in
+    let waits = subst (λ (v : List Noted). waits_for v o ≡ Some r.sending) twice (reply-waited (before l n) o r has) in
+    let early : IsFirst (before l r.number) h.sent_at o r.sending h.peer h.sent =
+    record { bytes = first.bytes; timeout = first.timeout; stands = at-still l r.number r.sending _ _ stands h.after first.stands } in
+    let response : IsResponse (entries l) h.peer r.sending h.sent r.number r.message =
+    record {
+      after = h.after;
+      moment = h.moment;
+      heard = heard-entry l h.peer r.number h.moment h.bytes r.message _ stands h.spelled;
+      response = h.response;
+      token = h.token;
+      kind = brings r.message.kind r.message.mid h.sent.mid h.kind;
+    } in
+    let unanswered = unanswered-till l r.number _ h.sent_at o r.sending h.peer h.sent legal (legal-before l r.number legal) stands early waits in
+    record {
+      sending = r.sending;
+      sent = h.sent;
+      sent_for = it.1;
+      response = subst (λ (p : Peer). IsResponse (entries l) p r.sending h.sent r.number r.message) it.0 response;
+      new = subst (λ (p : Peer). IsNew (entries l) p r.number) it.0 (says-new l h.peer r.number _ legal stands tt);
+      first = subst (λ (p : Peer). IsUnanswered (entries l) p r.sending h.sent r.number) it.0 unanswered;
+    }
