@@ -15,5 +15,5 @@ invariant_of-self c =
     let is : new ≡ map f old = c.note_sending.ensures ∙ ap (map f) c.deref_mut.ensures.value in
     let len : c.self.inside.rows.len ≡ length old = omega (arith, c.self.inside.rows.ok.0) in
     subst (λ (es : List Exchange). IsIndexed es c.self.inside.names.items)
-    (sym (put-back new old c.self.inside.rows.len (ap length is ∙ length-map f old) len ∙ is))
+    (sym (put-back new old c.self.inside.rows.len (ap length is ∙ length-map old f) len ∙ is))
     (index-map f old c.self.inside.names.items (out-names c.args.token.now c.args.number) c.self.invariant)
