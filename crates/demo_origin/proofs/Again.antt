@@ -14,13 +14,13 @@ use Rattle.coap_codec.specs.declared.fault.CodecFault.{CodecFault}
 use Rattle.coap_codec.specs.declared.message.MsgType.TheVariants.{Con}
 use Rattle.demo_origin.specs.Values.{Device, Relation}
 use Rattle.demo_origin.specs.Peers.{same_peer}
-use Rattle.demo_origin.specs.Arrivals.{is_live, is_repeat, is_full, is_request, arrived_before, arrival_by, arrival}
+use Rattle.demo_origin.specs.Arrivals.{is_live, is_repeat, is_full, is_request, heard_again, heard_first, arrived, arrival_by, arrival}
 use Rattle.demo_origin.specs.Answers.{Reads, ReadsPart, sent, memory_of}
 use Rattle.demo_origin.specs.Blocks.{named_by, part_of}
 use Rattle.demo_origin.specs.Requests.{judged}
 use Rattle.demo_origin.specs.Observing.{wish_of}
 use Rattle.demo_origin.specs.declared.observers.Wish.{Wish}
-use Rattle.demo_origin.specs.Hearing.{asker, piece_after, TakesPiece, Asks, Processes, Takes, HearsRead, HearsBy, Hears}
+use Rattle.demo_origin.specs.Hearing.{asker, rst, piece_after, TakesPiece, Asks, Processes, Takes, HearsRead, HearsBy, Hears}
 use Rattle.demo_origin.specs.Origins.{sent_by}
 use Rattle.demo_origin.specs.Pieces.{holding}
 use Rattle.demo_origin.specs.Once.{IsRemembered, Event, heard, looked, gave, Steps, Runs, IsBy, HearsCon, FirstAnswered, AnsweredAlike}
@@ -33,14 +33,12 @@ use Rattle.demo_origin.specs.declared.request.Method.{Method}
 use Rattle.demo_origin.specs.declared.arrival.Arrival.{Arrival}
 use Rattle.demo_origin.specs.declared.arrival.Arrival.TheVariants.{Ignored, Rejected, Repeated, Fresh}
 use Rattle.demo_origin.specs.declared.judge.Judged.{Judged}
-use Rattle.demo_origin.specs.declared.judge.Judged.TheVariants.{Dropped, Refused, Read, Asked}
-use Rattle.demo_origin.specs.declared.blocks.Named.{Named}
-use Rattle.demo_origin.specs.declared.blocks.Named.TheVariants.{Absent, Reserved, Is}
+use Rattle.demo_origin.specs.declared.judge.Judged.TheVariants.{Dropped, Refused, NotAcceptable, Read, Asked}
 use Rattle.demo_origin.specs.declared.blocks.Part.{Part}
 use Rattle.demo_origin.specs.declared.blocks.Part.TheVariants.{Whole, Piece, Past}
 use Rattle.demo_origin.specs.declared.uploads.Joined.{Joined}
 use Rattle.demo_origin.specs.declared.uploads.Joined.TheVariants.{Gap, TooLarge, Next, Last}
-use Rattle.demo_origin.proofs.First.{answers_add, shows_add, executes_adds, finishes_add, repeats, Adds}
+use Rattle.demo_origin.proofs.First.{answers_add, declines_add, shows_add, executes_adds, finishes_add, repeats, Adds}
 use Rattle.demo_origin.proofs.Repeats.{Keeps, hears, live_before}
 
 -- ---- look-ups
@@ -176,15 +174,16 @@ runs holds u p mid r (e ∷ es) old new by s f =
 -- ---- the first answer
 
 abbrev AddsOrNot : Asker → Device → Device → Type 0
-AddsOrNot to old new = Adds to old new ⊎ (new ≡ old)
+AddsOrNot to old new = Adds to old new ⊎ (new.out ≡ old.out)
 
 parts : (to : Asker) (i : ℕ) (wish : Wish) (held : Held) (part : Part) (old new : Device)
     → ReadsPart to i wish held part old new → Adds to old new
 parts to i wish held Whole old new h = shows_add to i wish held None old new h
 parts to i wish held (Piece b) old new h = shows_add to i wish held (Some b) old new h
-parts to i wish held Past old new h = answers_add to 128 [] [] old new h
+parts to i wish held Past old new h = declines_add to i wish 128 old new h
 
-reads : (to : Asker) (i : ℕ) (wish : Wish) (named : Named) (o : Option Held) (old new : Device)
+reads : (to : Asker) (i : ℕ) (wish : Wish) (named : Option Block) (o : Option Held)
+    (old new : Device)
     → Reads to i wish named o old new → Adds to old new
 reads to i wish named None old new h = absurd h
 reads to i wish named (Some held) old new h =
@@ -215,37 +214,34 @@ pieces holds to m i method b Next old new taken h =
 pieces holds to m i method b Last old new taken h =
     finishes_add holds to m i method b old new h.0 h.2
 
-asks : (holds : Relation) (to : Asker) (m : Content) (i : ℕ) (method : Method) (named : Named)
-    (old new : Device) (taken : Option Taken)
+asks : (holds : Relation) (to : Asker) (m : Content) (i : ℕ) (method : Method)
+    (named : Option Block) (old new : Device) (taken : Option Taken)
     → Asks holds to m i method named old new taken → Adds to old new
-asks holds to m i method Absent old new taken h =
+asks holds to m i method None old new taken h =
     executes_adds holds to m i method old new h.0 h.2
-asks holds to m i method Reserved old new taken h = answers_add to 128 [] [] old new h.0
-asks holds to m i method (Is b) old new taken h =
+asks holds to m i method (Some b) old new taken h =
     pieces holds to m i method b (piece_after to.peer i b m old) old new taken h
 
 processes : (holds : Relation) (to : Asker) (m : Content) (j : Judged) (old new : Device)
     (taken : Option Taken) → Processes holds to m j old new taken → AddsOrNot to old new
-processes holds to m Dropped old new taken h = inr h.0
+processes holds to m Dropped old new taken h = inr (ap (λ (d : Device). d.out) h.0)
 processes holds to m (Refused code) old new taken h =
     inl (answers_add to code [] [] old new h.0)
+processes holds to m (NotAcceptable i) old new taken h =
+    inl (declines_add to i (wish_of (values 6 m.options)) 134 old new h.0)
 processes holds to m (Read i) old new taken h =
     inl (reads to i (wish_of (values 6 m.options)) (named_by (values 23 m.options))
     (slice_get old.resources i) old new h.0)
 processes holds to m (Asked i method) old new taken h =
     inl (asks holds to m i method (named_by (values 27 m.options)) old new taken h)
 
--- a CON request that isn't remembered is dropped or a new one
+-- a CON that isn't remembered is dropped or a new one
 new_arrival : (t : ℕ) (p : Peer) (m : Content) (s : Device) → m.kind ≡ Con
-    → is_request m.code ≡ true → find (is_repeat t p m.mid) s.remembered ≡ None
-    → arrival t p m s ≡ cond (is_full t p s) Ignored Fresh
-new_arrival t p m s k q none =
-    let o : Option Remembered → Arrival = λ v. arrived_before true v (is_full t p s) in
-    let P : Bool → Type 0 = λ b.
-    cond b (arrived_before true (find (is_repeat t p m.mid) s.remembered) (is_full t p s))
-    Rejected
-    ≡ cond (is_full t p s) Ignored Fresh in
-    ap (λ kind. arrival_by kind t p m s) k ∙ subst P (sym q) (ap o none)
+    → find (is_repeat t p m.mid) s.remembered ≡ None
+    → arrival t p m s ≡ cond (is_full t p s) Ignored (heard_first true m.code)
+new_arrival t p m s k none =
+    let o : Option Remembered → Arrival = λ v. arrived true m.code v (is_full t p s) in
+    ap (λ kind. arrival_by kind t p m s) k ∙ ap o none
 
 not_remembered : (t : ℕ) (p : Peer) (mid : ℕ) (s : Device)
     → ¬ IsRemembered t p mid s → find (is_repeat t p mid) s.remembered ≡ None
@@ -260,12 +256,27 @@ not_remembered t p mid s unknown =
     ] in
     each (find (is_repeat t p mid) s.remembered) refl
 
-takes_first : (holds : Relation) (t : ℕ) (p : Peer) (m : Content) (full : Bool) (old new : Device)
-    (taken : Option Taken) → Takes holds t p m (cond full Ignored Fresh) old new taken
+-- a request, or what is rejected
+takes_new : (holds : Relation) (t : ℕ) (p : Peer) (m : Content) (b : Bool) (old new : Device)
+    (taken : Option Taken) → Takes holds t p m (cond b Fresh Rejected) old new taken
     → AddsOrNot (asker t p m) old new
-takes_first holds t p m true old new taken h = inr h.0
-takes_first holds t p m false old new taken h =
+takes_new holds t p m true old new taken h =
     processes holds (asker t p m) m (judged m old.resources) old new taken h
+takes_new holds t p m false old new taken h =
+    inl (record {
+      bytes = rst m.mid;
+      is = ap (λ (d : Device). d.remembered) h.0;
+      others = [];
+      out = ap (λ (d : Device). d.out) h.0;
+    })
+
+takes_first : (holds : Relation) (t : ℕ) (p : Peer) (m : Content) (full : Bool) (old new : Device)
+    (taken : Option Taken)
+    → Takes holds t p m (cond full Ignored (heard_first true m.code)) old new taken
+    → AddsOrNot (asker t p m) old new
+takes_first holds t p m true old new taken h = inr (ap (λ (d : Device). d.out) h.0)
+takes_first holds t p m false old new taken h =
+    takes_new holds t p m (is_request m.code) old new taken h
 
 -- a datagram that was read is that message, and not too long
 read_as : (holds : Relation) (t : ℕ) (p : Peer) (d : List ℕ) (m : Content) (old new : Device)
@@ -282,12 +293,12 @@ first_found : (holds : Relation) (t u : ℕ) (p : Peer) (m : Content) (answer : 
     → find (is_repeat t p m.mid) old.remembered ≡ None
     → new.out ≡ old.out ++ record { peer = p; bytes = answer } ∷ others
     → Adds (asker t p m) old new
-    → Finds u p m.mid (memory_of (asker t p m) answer) new
+    → Finds u p m.mid (memory_of (asker t p m) (Some answer)) new
 first_found holds t u p m answer others old new le lt none goes h =
-    let r = memory_of (asker t p m) h.bytes in
+    let r = memory_of (asker t p m) (Some h.bytes) in
     let pass = is_repeat u p m.mid in
     let P : List Remembered → Type 0 = λ rs. find pass rs ≡ Some r in
-    let Q : List ℕ → Type 0 = λ xs. Finds u p m.mid (memory_of (asker t p m) xs) new in
+    let Q : List ℕ → Type 0 = λ xs. Finds u p m.mid (memory_of (asker t p m) (Some xs)) new in
     let later : find pass old.remembered ≡ None =
     none_weaker pass (is_repeat t p m.mid) old.remembered
     (λ x e. earlier t u p m.mid x le e) none in
@@ -297,7 +308,7 @@ first_found holds t u p m answer others old new le lt none goes h =
     let here : Finds u p m.mid r new =
     subst P (sym h.is)
     (found_last pass (filter (is_live t) old.remembered) r front
-    (repeats t u p m h.bytes lt)) in
+    (repeats t u p m (Some h.bytes) lt)) in
     let to_peer : List ℕ → Datagram = λ xs. record { peer = p; bytes = xs } in
     let one : to_peer h.bytes ∷ h.others ≡ to_peer answer ∷ others =
     append_cancel_left old.out (to_peer h.bytes ∷ h.others) (to_peer answer ∷ others)
@@ -307,9 +318,8 @@ first_found holds t u p m answer others old new le lt none goes h =
     subst Q same here
 
 same_out : (old new : Device) (x : Datagram) (others : List Datagram)
-    → new ≡ old → new.out ≡ old.out ++ x ∷ others → ⊥
-same_out old new x others e goes =
-    grown old.out x others (sym (ap (λ (d : Device). d.out) e) ∙ goes)
+    → new.out ≡ old.out → new.out ≡ old.out ++ x ∷ others → ⊥
+same_out old new x others e goes = grown old.out x others (sym e ∙ goes)
 
 first_adds : (holds : Relation) (t : ℕ) (p : Peer) (mid : ℕ) (answer : List ℕ) (old new : Device)
     (x : FirstAnswered holds t p mid answer old new)
@@ -320,31 +330,29 @@ first_adds holds t p mid answer old new x none =
     let P : Arrival → Type 0 = λ a. Takes holds t p m a old new x.taken in
     let taken = read_as holds t p x.con.datagram m old new x.taken x.con.short x.con.reads
     x.con.hears in
-    let arrived = new_arrival t p m old x.con.kind_is x.con.request none in
-    elim (takes_first holds t p m (is_full t p old) old new x.taken (subst P arrived taken)) [
+    let came = new_arrival t p m old x.con.kind_is none in
+    elim (takes_first holds t p m (is_full t p old) old new x.taken (subst P came taken)) [
       | inl h ↦ h
       | inr e ↦ absurd (same_out old new _ x.others e x.goes)
     ]
 
-again : (holds : Relation) (u : ℕ) (p : Peer) (mid : ℕ) (r : Remembered) (old new : Device)
-    (taken : Option Taken) (y : HearsCon holds u p mid old new taken)
-    → Finds u p y.message.mid r old → (new ≡ sent p r.answer old) × (taken ≡ None)
-again holds u p mid r old new taken y f =
+again : (holds : Relation) (u : ℕ) (p : Peer) (mid : ℕ) (r : Remembered) (answer : List ℕ)
+    (old new : Device) (taken : Option Taken) (y : HearsCon holds u p mid old new taken)
+    → r.answer ≡ Some answer → Finds u p y.message.mid r old
+    → (new ≡ sent p answer old) × (taken ≡ None)
+again holds u p mid r answer old new taken y some f =
     let m = y.message in
-    let o : Option Remembered → Arrival = λ v. arrived_before true v (is_full u p old) in
-    let Q : Bool → Type 0 = λ b.
-    cond b (arrived_before true (find (is_repeat u p m.mid) old.remembered) (is_full u p old))
-    Rejected
-    ≡ Repeated r.answer in
-    let arrived : arrival u p m old ≡ Repeated r.answer =
-    ap (λ kind. arrival_by kind u p m old) y.kind_is ∙ subst Q (sym y.request) (ap o f) in
+    let o : Option Remembered → Arrival = λ v. arrived true m.code v (is_full u p old) in
+    let came : arrival u p m old ≡ Repeated answer =
+    ap (λ kind. arrival_by kind u p m old) y.kind_is ∙ ap o f
+    ∙ ap (λ (v : Option (List ℕ)). heard_again true v) some in
     let P : Arrival → Type 0 = λ a. Takes holds u p m a old new taken in
-    subst P arrived (read_as holds u p y.datagram m old new taken y.short y.reads y.hears)
+    subst P came (read_as holds u p y.datagram m old new taken y.short y.reads y.hears)
 
 pub answered_alike : (holds : Relation) → AnsweredAlike holds
 answered_alike holds es old a b new t u p mid answer taken x run by le lt y =
     let m = x.con.message in
-    let r = memory_of (asker t p m) answer in
+    let r = memory_of (asker t p m) (Some answer) in
     let F : ℕ → Type 0 = λ n. Finds u p n r b in
     let N : ℕ → Type 0 = λ n. ¬ IsRemembered t p n old in
     let none : find (is_repeat t p m.mid) old.remembered ≡ None =
@@ -353,5 +361,5 @@ answered_alike holds es old a b new t u p mid answer taken x run by le lt y =
     let found : Finds u p m.mid r a =
     first_found holds t u p m answer x.others old a le lt none x.goes added in
     let later : Finds u p m.mid r b = runs holds u p m.mid r es a b by run found in
-    again holds u p mid r b new taken y
+    again holds u p mid r answer b new taken y refl
     (subst F (x.con.mid_is ∙ sym y.mid_is) later)

@@ -15,15 +15,13 @@ use Rattle.coap_codec.specs.declared.message.MsgType.{MsgType}
 use Rattle.coap_codec.specs.declared.message.MsgType.TheVariants.{Con, Non, Ack, Rst}
 use Rattle.demo_origin.specs.Values.{Device, Relation}
 use Rattle.demo_origin.specs.Peers.{same_address, same_peer}
-use Rattle.demo_origin.specs.Arrivals.{is_live, is_repeat, is_full, is_request, arrived_before, arrival_of, is_heeded, arrival_by, arrival}
-use Rattle.demo_origin.specs.Answers.{memory_of, shown_part, Answers, Shows}
+use Rattle.demo_origin.specs.Arrivals.{is_live, is_repeat, is_full, heard_again, arrived, arrival_of, is_heeded, arrival_by, arrival}
+use Rattle.demo_origin.specs.Answers.{memory_of, shown_part, Answers, Declines, Shows}
 use Rattle.demo_origin.specs.Requests.{judged}
 use Rattle.coap_codec.specs.Values.{values}
 use Rattle.coap_codec.specs.declared.block.Block.{Block}
 use Rattle.demo_origin.specs.Blocks.{named_by}
 use Rattle.demo_origin.specs.Uploads.{with_piece, with_body}
-use Rattle.demo_origin.specs.declared.blocks.Named.{Named}
-use Rattle.demo_origin.specs.declared.blocks.Named.TheVariants.{Absent, Reserved, Is}
 use Rattle.demo_origin.specs.declared.uploads.Joined.{Joined}
 use Rattle.demo_origin.specs.declared.uploads.Joined.TheVariants.{Gap, TooLarge, Next, Last}
 use Rattle.demo_origin.specs.declared.request.Method.{Method}
@@ -39,9 +37,9 @@ use Rattle.demo_origin.proofs.Growing.{all_grow}
 use Rattle.demo_origin.specs.declared.fault.Memory.{Memory}
 use Rattle.demo_origin.specs.declared.execution.Taken.{Taken}
 use Rattle.demo_origin.specs.declared.arrival.Arrival.{Arrival}
-use Rattle.demo_origin.specs.declared.arrival.Arrival.TheVariants.{Ignored, Rejected, Repeated, Fresh, Acknowledged, Reset}
+use Rattle.demo_origin.specs.declared.arrival.Arrival.TheVariants.{Ignored, Empty, Rejected, Repeated, Fresh, Acknowledged, Reset}
 use Rattle.demo_origin.specs.declared.judge.Judged.{Judged}
-use Rattle.demo_origin.specs.declared.judge.Judged.TheVariants.{Dropped, Refused, Read, Asked}
+use Rattle.demo_origin.specs.declared.judge.Judged.TheVariants.{Dropped, Refused, NotAcceptable, Read, Asked}
 
 -- none is found, so none is there
 none_found : {X : Type 0} (p : X → Bool) (xs : List X) (x : X)
@@ -81,34 +79,28 @@ peer_itself p =
     and_from _ _ (address_itself p.address) ((Decides-eqb p.port p.port).1 refl)
 
 -- what an answer leaves is remembered for 247 s
-pub repeats : (t u : ℕ) (p : Peer) (m : Content) (bytes : List ℕ)
-    → u < t + 247000 → is_repeat u p m.mid (memory_of (asker t p m) bytes) ≡ true
-repeats t u p m bytes lt =
+pub repeats : (t u : ℕ) (p : Peer) (m : Content) (answer : Option (List ℕ))
+    → u < t + 247000 → is_repeat u p m.mid (memory_of (asker t p m) answer) ≡ true
+repeats t u p m answer lt =
     and_from _ _ ((Decides-eqb m.mid m.mid).1 refl)
     (and_from _ _ (peer_itself p) (lt-ltb (u - t) 247000 (omega arith)))
 
 -- What is new was not remembered.
-before_is_none : (c : Bool) (o : Option Remembered) (full : Bool)
-    → arrived_before c o full ≡ Fresh → o ≡ None
-before_is_none true (Some r) full e = cc
-before_is_none false (Some r) full e = cc
-before_is_none c None full e = refl
+again_is_old : (c : Bool) (answer : Option (List ℕ)) → heard_again c answer ≡ Fresh → ⊥
+again_is_old true (Some bytes) e = cc
+again_is_old true None e = cc
+again_is_old false (Some bytes) e = cc
+again_is_old false None e = cc
 
-other : (c : Bool) (o : Option Remembered)
-    → cond c Rejected Ignored ≡ Fresh → o ≡ None
-other true o e = cc
-other false o e = cc
+before_is_none : (c : Bool) (code : ℕ) (o : Option Remembered) (full : Bool)
+    → arrived c code o full ≡ Fresh → o ≡ None
+before_is_none c code (Some r) full e = absurd (again_is_old c r.answer e)
+before_is_none c code None full e = refl
 
 of_kind : (c : Bool) (t : ℕ) (p : Peer) (m : Content) (s : Device)
     → arrival_of c t p m s ≡ Fresh → find (is_repeat t p m.mid) s.remembered ≡ None
 of_kind c t p m s e =
-    let o = find (is_repeat t p m.mid) s.remembered in
-    let P : Bool → Type 0 = λ b.
-    cond b (arrived_before c o (is_full t p s)) (cond c Rejected Ignored) ≡ Fresh
-    → o ≡ None in
-    let each : (b : Bool) → P b =
-    λ b. elim b as P [ true ↦ before_is_none c o (is_full t p s) | false ↦ other c o ] in
-    each (is_request m.code) e
+    before_is_none c m.code (find (is_repeat t p m.mid) s.remembered) (is_full t p s) e
 
 acknowledging : (b : Bool) (o : Option Remembered) → cond b Acknowledged Ignored ≡ Fresh → o ≡ None
 acknowledging true o e = cc
@@ -133,7 +125,9 @@ is_new t p m s e r =
 -- An answer adds what is remembered of its request, and goes out before what observers are told.
 pub record Adds (to : Asker) (old new : Device) : Type 0 where
   pub bytes : List ℕ
-  pub is : new.remembered ≡ filter (is_live to.moment) old.remembered ++ memory_of to bytes ∷ []
+  pub is :
+      new.remembered
+      ≡ filter (is_live to.moment) old.remembered ++ memory_of to (Some bytes) ∷ []
   pub others : List Datagram
   pub out : new.out ≡ old.out ++ record { peer = to.peer; bytes = bytes } ∷ others
 
@@ -176,6 +170,17 @@ shows_add to i wish held b old new h =
       out = ap (λ (d : Device). d.out) h.is ∙ a.out;
     }
 
+pub declines_add : (to : Asker) (i : ℕ) (wish : Wish) (code : ℕ) (old new : Device)
+    → Declines to i wish code old new → Adds to old new
+declines_add to i wish code old new h =
+    let a = answers_add to code [] [] old h.middle h.answers in
+    record {
+      bytes = a.bytes;
+      is = ap (λ (d : Device). d.remembered) h.is ∙ a.is;
+      others = a.others;
+      out = ap (λ (d : Device). d.out) h.is ∙ a.out;
+    }
+
 not_some : (o : Option Taken) → o ≡ None → IsSome o → ⊥
 not_some None e s = cc
 not_some (Some x) e s = cc
@@ -202,19 +207,19 @@ takes_piece holds to m i method b Next old new taken h s = absurd (not_some take
 takes_piece holds to m i method b Last old new taken h s =
     finishes_add holds to m i method b old new h.0 h.2
 
-asks_add : (holds : Relation) (to : Asker) (m : Content) (i : ℕ) (method : Method) (named : Named)
-    (old new : Device) (taken : Option Taken)
+asks_add : (holds : Relation) (to : Asker) (m : Content) (i : ℕ) (method : Method)
+    (named : Option Block) (old new : Device) (taken : Option Taken)
     → Asks holds to m i method named old new taken → IsSome taken → Adds to old new
-asks_add holds to m i method Absent old new taken h s =
+asks_add holds to m i method None old new taken h s =
     executes_adds holds to m i method old new h.0 h.2
-asks_add holds to m i method Reserved old new taken h s = absurd (not_some taken h.1 s)
-asks_add holds to m i method (Is b) old new taken h s =
+asks_add holds to m i method (Some b) old new taken h s =
     takes_piece holds to m i method b (piece_after to.peer i b m old) old new taken h s
 
 processes_adds : (holds : Relation) (to : Asker) (m : Content) (j : Judged) (old new : Device)
     (taken : Option Taken) → Processes holds to m j old new taken → IsSome taken → Adds to old new
 processes_adds holds to m Dropped old new taken h s = absurd (not_some taken h.1 s)
 processes_adds holds to m (Refused code) old new taken h s = absurd (not_some taken h.1 s)
+processes_adds holds to m (NotAcceptable i) old new taken h s = absurd (not_some taken h.1 s)
 processes_adds holds to m (Read i) old new taken h s = absurd (not_some taken h.1 s)
 processes_adds holds to m (Asked i method) old new taken h s =
     asks_add holds to m i method (named_by (values 27 m.options)) old new taken h s
@@ -224,6 +229,7 @@ takes_first : (holds : Relation) (t : ℕ) (p : Peer) (m : Content) (a : Arrival
     → IsSome taken
     → Adds (asker t p m) old new × (¬ IsRemembered t p m.mid old)
 takes_first holds t p m Ignored old new taken e h s = absurd (not_some taken h.1 s)
+takes_first holds t p m Empty old new taken e h s = absurd (not_some taken h.1 s)
 takes_first holds t p m Rejected old new taken e h s = absurd (not_some taken h.1 s)
 takes_first holds t p m (Repeated answer) old new taken e h s = absurd (not_some taken h.1 s)
 takes_first holds t p m Acknowledged old new taken e h s = absurd (not_some taken h.1 s)
@@ -236,11 +242,11 @@ takes_first holds t p m Fresh old new taken e h s = (
 remembers : (t : ℕ) (p : Peer) (m : Content) (old new : Device) → Adds (asker t p m) old new
     → (u : ℕ) → u < t + 247000 → IsRemembered u p m.mid new
 remembers t p m old new h u lt =
-    let r = memory_of (asker t p m) h.bytes in
+    let r = memory_of (asker t p m) (Some h.bytes) in
     let P : List Remembered → Type 0 = λ rs. Contains rs r in (
       r,
       subst P (sym h.is) (Contains-push (filter (is_live t) old.remembered) r),
-      repeats t u p m h.bytes lt,
+      repeats t u p m (Some h.bytes) lt,
     )
 
 reads_first : (holds : Relation) (t : ℕ) (p : Peer) (d : List ℕ) (r : Result Content CodecFault)

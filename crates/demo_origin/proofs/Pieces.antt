@@ -8,8 +8,6 @@ use Rattle.coap_codec.specs.Values.{uint, IsBlock}
 use Rattle.blockwise.specs.Reading.{block_by}
 use Rattle.blockwise.proofs.Blocks.{block_found}
 use Rattle.demo_origin.specs.Blocks.{named_value}
-use Rattle.demo_origin.specs.declared.blocks.Named.{Named}
-use Rattle.demo_origin.specs.declared.blocks.Named.TheVariants.{Reserved, Is}
 
 pub below_itself : (n k b : ℕ) → n < b → n / k < b
 below_itself n k b lt = omega (arith, div-le_self n k)
@@ -28,15 +26,11 @@ szx_below : (num szx n : ℕ) (more : Bool)
 szx_below num szx n true e lt = omega (arith, e)
 szx_below num szx n false e lt = omega (arith, e)
 
-abbrev pub as_named : Option Block → Named
-as_named None = Reserved
-as_named (Some b) = Is b
-
 -- A reader that finds the block of each value that has one gives what the value says.
 pub value_named : (r : Option Block) (v : List ℕ)
     → IfSome r (λ b. (length v ≤ 3) × IsBlock b (uint v))
     → IfNone r ((b : Block) → length v ≤ 3 → IsBlock b (uint v) → ⊥)
-    → as_named r ≡ named_value v
+    → r ≡ named_value v
 value_named (Some b) v found none =
     let szx : uint v % 8 < 7 =
     szx_below b.num b.szx (uint v) b.more found.1.parts found.1.szx in
@@ -44,7 +38,7 @@ value_named (Some b) v found none =
     and_from _ _ (le-leb (length v) 3 found.0) (lt-ltb (uint v % 8) 7 szx) in
     let same : Some b ≡ Some (block_by v) = block_found (Some b) v found none found.0 szx in
     let block : b ≡ block_by v = cc in
-    rw test (ap (λ (x : Block). Is x) block)
+    rw test (ap (λ (x : Block). Some x) block)
 value_named None v found none =
     let t = nat_le (length v) 3 && nat_lt (uint v % 8) 7 in
     let not_both : t ≡ true → ⊥ = λ e.
@@ -53,7 +47,7 @@ value_named None v found none =
     block_found None v found none (leb-true _ _ both.0) (ltb-true _ _ both.1) in
     cc in
     let P : Bool → Type 0 = λ b.
-    (b ≡ true → ⊥) → Reserved ≡ cond b (Is (block_by v)) Reserved in
+    (b ≡ true → ⊥) → None ≡ cond b (Some (block_by v)) None in
     let each : (b : Bool) → P b =
     λ b. elim b as P [ true ↦ λ n. absurd (n refl) | false ↦ λ n. refl ] in
     each t not_both

@@ -11,22 +11,20 @@ use Rattle.message_layer.specs.Hearing.{reset_for}
 use Rattle.demo_origin.specs.Values.{Device, Relation}
 use Rattle.demo_origin.specs.Peers.{same_peer}
 use Rattle.demo_origin.specs.Arrivals.{is_live, is_repeat, arrival}
-use Rattle.demo_origin.specs.Answers.{Reads, ReadsPart, memory_of}
+use Rattle.demo_origin.specs.Answers.{Declines, Reads, ReadsPart, memory_of}
 use Rattle.demo_origin.specs.Observing.{wish_of}
 use Rattle.demo_origin.specs.declared.observers.Wish.{Wish}
 use Rattle.coap_codec.specs.Values.{values}
 use Rattle.demo_origin.specs.Blocks.{named_by, part_of}
-use Rattle.demo_origin.specs.declared.blocks.Named.{Named}
 use Rattle.demo_origin.specs.declared.blocks.Part.{Part}
 use Rattle.demo_origin.specs.declared.blocks.Part.TheVariants.{Whole, Piece, Past}
 use Rattle.demo_origin.specs.Requests.{judged}
 use Rattle.coap_codec.specs.declared.block.Block.{Block}
 use Rattle.demo_origin.specs.Pieces.{holding, KeepsPiece, GivesUp}
-use Rattle.demo_origin.specs.declared.blocks.Named.TheVariants.{Absent, Reserved, Is}
 use Rattle.demo_origin.specs.declared.uploads.Joined.{Joined}
 use Rattle.demo_origin.specs.declared.uploads.Joined.TheVariants.{Gap, TooLarge, Next, Last}
 use Rattle.demo_origin.specs.declared.request.Method.{Method}
-use Rattle.demo_origin.specs.Hearing.{piece_after, TakesPiece, Asks, asker, undecoded, Processes, Takes, HearsRead, HearsBy}
+use Rattle.demo_origin.specs.Hearing.{piece_after, TakesPiece, Asks, asker, rst, undecoded, Processes, Takes, HearsRead, HearsBy}
 use Rattle.demo_origin.specs.Origins.{sent_by}
 use Rattle.demo_origin.specs.Once.{IsRemembered, IsFirst, Event, heard, looked, gave, Steps, Runs, IsBy, Executed, ExecutedOnce}
 use Rattle.demo_origin.specs.declared.answer.Asker.{Asker}
@@ -35,10 +33,10 @@ use Rattle.demo_origin.specs.declared.state.Datagram.{Datagram}
 use Rattle.demo_origin.specs.declared.state.Remembered.{Remembered}
 use Rattle.demo_origin.specs.declared.execution.Taken.{Taken}
 use Rattle.demo_origin.specs.declared.arrival.Arrival.{Arrival}
-use Rattle.demo_origin.specs.declared.arrival.Arrival.TheVariants.{Ignored, Rejected, Repeated, Fresh, Acknowledged, Reset}
+use Rattle.demo_origin.specs.declared.arrival.Arrival.TheVariants.{Ignored, Empty, Rejected, Repeated, Fresh, Acknowledged, Reset}
 use Rattle.demo_origin.specs.declared.judge.Judged.{Judged}
-use Rattle.demo_origin.specs.declared.judge.Judged.TheVariants.{Dropped, Refused, Read, Asked}
-use Rattle.demo_origin.proofs.First.{stays, answers_add, shows_add, executes_adds, finishes_add, Adds, hears_first}
+use Rattle.demo_origin.specs.declared.judge.Judged.TheVariants.{Dropped, Refused, NotAcceptable, Read, Asked}
+use Rattle.demo_origin.proofs.First.{stays, answers_add, declines_add, shows_add, executes_adds, finishes_add, Adds, hears_first}
 
 -- What is remembered stays, or only what is too old goes and something is added.
 abbrev pub Keeps : ℕ → Device → Device → Type 0
@@ -51,16 +49,17 @@ same : (t : ℕ) (old new : Device) → new ≡ old → Keeps t old new
 same t old new e = inl (ap (λ (d : Device). d.remembered) e)
 
 adds : (to : Asker) (old new : Device) → Adds to old new → Keeps to.moment old new
-adds to old new h = inr (memory_of to h.bytes ∷ [], h.is)
+adds to old new h = inr (memory_of to (Some h.bytes) ∷ [], h.is)
 
 parts : (to : Asker) (i : ℕ) (wish : Wish) (held : Held) (part : Part) (old new : Device)
     → ReadsPart to i wish held part old new → Keeps to.moment old new
 parts to i wish held Whole old new h = adds to old new (shows_add to i wish held None old new h)
 parts to i wish held (Piece b) old new h =
     adds to old new (shows_add to i wish held (Some b) old new h)
-parts to i wish held Past old new h = adds to old new (answers_add to 128 [] [] old new h)
+parts to i wish held Past old new h = adds to old new (declines_add to i wish 128 old new h)
 
-reads : (to : Asker) (i : ℕ) (wish : Wish) (named : Named) (o : Option Held) (old new : Device)
+reads : (to : Asker) (i : ℕ) (wish : Wish) (named : Option Block) (o : Option Held)
+    (old new : Device)
     → Reads to i wish named o old new → Keeps to.moment old new
 reads to i wish named None old new h = absurd h
 reads to i wish named (Some held) old new h =
@@ -70,13 +69,13 @@ gives_up : (to : Asker) (i code : ℕ) (old new : Device)
     → GivesUp to i code old new → Keeps to.moment old new
 gives_up to i code old new h =
     let a = answers_add to code [] [] old h.middle h.answers in
-    inr (memory_of to a.bytes ∷ [], ap (λ (d : Device). d.remembered) h.is ∙ a.is)
+    inr (memory_of to (Some a.bytes) ∷ [], ap (λ (d : Device). d.remembered) h.is ∙ a.is)
 
 keeps_piece : (to : Asker) (i : ℕ) (b : Block) (payload : List ℕ) (old new : Device)
     → KeepsPiece to i b payload old new → Keeps to.moment old new
 keeps_piece to i b payload old new h =
     let a = answers_add to 95 h.options [] (holding to i b payload old) new h.answers in
-    inr (memory_of to a.bytes ∷ [], a.is)
+    inr (memory_of to (Some a.bytes) ∷ [], a.is)
 
 pieces : (holds : Relation) (to : Asker) (m : Content) (i : ℕ) (method : Method) (b : Block)
     (j : Joined) (old new : Device) (taken : Option Taken)
@@ -87,21 +86,22 @@ pieces holds to m i method b Next old new taken h = keeps_piece to i b m.payload
 pieces holds to m i method b Last old new taken h =
     adds to old new (finishes_add holds to m i method b old new h.0 h.2)
 
-asks : (holds : Relation) (to : Asker) (m : Content) (i : ℕ) (method : Method) (named : Named)
-    (old new : Device) (taken : Option Taken)
+asks : (holds : Relation) (to : Asker) (m : Content) (i : ℕ) (method : Method)
+    (named : Option Block) (old new : Device) (taken : Option Taken)
     → Asks holds to m i method named old new taken → Keeps to.moment old new
-asks holds to m i method Absent old new taken h =
+asks holds to m i method None old new taken h =
     adds to old new (executes_adds holds to m i method old new h.0 h.2)
-asks holds to m i method Reserved old new taken h =
-    adds to old new (answers_add to 128 [] [] old new h.0)
-asks holds to m i method (Is b) old new taken h =
+asks holds to m i method (Some b) old new taken h =
     pieces holds to m i method b (piece_after to.peer i b m old) old new taken h
 
 processes : (holds : Relation) (to : Asker) (m : Content) (j : Judged) (old new : Device)
     (taken : Option Taken) → Processes holds to m j old new taken → Keeps to.moment old new
-processes holds to m Dropped old new taken h = same to.moment old new h.0
+processes holds to m Dropped old new taken h =
+    inr (memory_of to None ∷ [], ap (λ (d : Device). d.remembered) h.0)
 processes holds to m (Refused code) old new taken h =
     adds to old new (answers_add to code [] [] old new h.0)
+processes holds to m (NotAcceptable i) old new taken h =
+    adds to old new (declines_add to i (wish_of (values 6 m.options)) 134 old new h.0)
 processes holds to m (Read i) old new taken h =
     reads to i (wish_of (values 6 m.options)) (named_by (values 23 m.options))
     (slice_get old.resources i) old new h.0
@@ -111,7 +111,13 @@ processes holds to m (Asked i method) old new taken h =
 takes : (holds : Relation) (t : ℕ) (p : Peer) (m : Content) (a : Arrival) (old new : Device)
     (taken : Option Taken) → Takes holds t p m a old new taken → Keeps t old new
 takes holds t p m Ignored old new taken h = same t old new h.0
-takes holds t p m Rejected old new taken h = inl (ap (λ (d : Device). d.remembered) h.0)
+takes holds t p m Empty old new taken h =
+    inr (memory_of (asker t p m) None ∷ [], ap (λ (d : Device). d.remembered) h.0)
+takes holds t p m Rejected old new taken h =
+    inr (
+      memory_of (asker t p m) (Some (rst m.mid)) ∷ [],
+      ap (λ (d : Device). d.remembered) h.0,
+    )
 takes holds t p m (Repeated answer) old new taken h =
     inl (ap (λ (d : Device). d.remembered) h.0)
 takes holds t p m Acknowledged old new taken h =

@@ -12,8 +12,7 @@ use Rattle.demo_origin.specs.Values.{Device}
 use Rattle.demo_origin.specs.Peers.{own_mid, known_after}
 use Rattle.demo_origin.specs.Arrivals.{is_live}
 use Rattle.demo_origin.specs.Blocks.{part_of, piece_of, IsBlockOption}
-use Rattle.demo_origin.specs.Observing.{is_granted, enlisted}
-use Rattle.demo_origin.specs.declared.blocks.Named.{Named}
+use Rattle.demo_origin.specs.Observing.{is_granted, enlisted, left_by}
 use Rattle.demo_origin.specs.declared.blocks.Part.{Part}
 use Rattle.demo_origin.specs.declared.blocks.Part.TheVariants.{Whole, Piece, Past}
 use Rattle.demo_origin.specs.declared.answer.Asker.{Asker}
@@ -48,16 +47,28 @@ answer_to to own code options payload = record {
 abbrev pub sent : Peer → List ℕ → Device → Device
 sent p bytes s = record s { out = s.out ++ record { peer = p; bytes = bytes } ∷ [] }
 
--- what is remembered of a request that is answered by those bytes
-abbrev pub memory_of : Asker → List ℕ → Remembered
-memory_of to bytes = record { peer = to.peer; mid = to.mid; moment = to.moment; answer = bytes }
+-- what is remembered of a message that is answered by those bytes, or by silence
+abbrev pub memory_of : Asker → Option (List ℕ) → Remembered
+memory_of to answer =
+    record { peer = to.peer; mid = to.mid; moment = to.moment; answer = answer }
+
+abbrev pub remembering : Asker → Option (List ℕ) → List Remembered → List Remembered
+remembering to answer all = filter (is_live to.moment) all ++ memory_of to answer ∷ []
 
 -- the answer goes out, and is remembered by its request's ID
 abbrev pub answered : Asker → List ℕ → Device → Device
 answered to bytes s = record s {
   clients = known_after to.moment to.peer to.kind s.clients;
-  remembered = filter (is_live to.moment) s.remembered ++ memory_of to bytes ∷ [];
+  remembered = remembering to (Some bytes) s.remembered;
   out = s.out ++ record { peer = to.peer; bytes = bytes } ∷ [];
+}
+
+-- A message that isn't processed is remembered by its ID too, with the RST that it gets, or with
+-- nothing.
+abbrev pub noted : Asker → Option (List ℕ) → Device → Device
+noted to answer s = record s {
+  clients = known_after to.moment to.peer Con s.clients;
+  remembered = remembering to answer s.remembered;
 }
 
 -- the request is answered by that code, with those options and that payload
@@ -121,14 +132,23 @@ pub record Shows (to : Asker) (i : ℕ) (wish : Wish) (held : Held) (b : Option 
   pub answers : Answers to 69 options (shown_part b held.state) old middle
   pub is : new ≡ enlisting to i wish held.version middle
 
+-- A GET is answered by that code alone: it registers nobody, and Observe 1 ends its registration.
+pub record Declines (to : Asker) (i : ℕ) (wish : Wish) (code : ℕ) (old new : Device) : Type 0
+  where
+    pub middle : Device
+    pub answers : Answers to code [] [] old middle
+    pub is :
+        new
+        ≡ record middle { observers = left_by wish to.peer i to.token middle.observers }
+
 -- A GET is answered by 2.05 with the state as it stands, or with the piece of it that is asked for;
 -- by 4.00 where it has no such piece.
 abbrev pub ReadsPart : Asker → ℕ → Wish → Held → Part → Device → Device → Type 0
 ReadsPart to i wish held Whole old new = Shows to i wish held None old new
 ReadsPart to i wish held (Piece b) old new = Shows to i wish held (Some b) old new
-ReadsPart to i wish held Past old new = Answers to 128 [] [] old new
+ReadsPart to i wish held Past old new = Declines to i wish 128 old new
 
-abbrev pub Reads : Asker → ℕ → Wish → Named → Option Held → Device → Device → Type 0
+abbrev pub Reads : Asker → ℕ → Wish → Option Block → Option Held → Device → Device → Type 0
 Reads to i wish named None old new = ⊥
 Reads to i wish named (Some held) old new =
     ReadsPart to i wish held (part_of named old.block (length held.state)) old new

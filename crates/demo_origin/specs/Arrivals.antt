@@ -13,7 +13,7 @@ use Rattle.demo_origin.specs.declared.state.Observer.{Observer}
 use Rattle.demo_origin.specs.declared.state.Client.{Client}
 use Rattle.demo_origin.specs.declared.state.Remembered.{Remembered}
 use Rattle.demo_origin.specs.declared.arrival.Arrival.{Arrival}
-use Rattle.demo_origin.specs.declared.arrival.Arrival.TheVariants.{Ignored, Rejected, Repeated, Fresh, Acknowledged, Reset}
+use Rattle.demo_origin.specs.declared.arrival.Arrival.TheVariants.{Ignored, Empty, Rejected, Repeated, Fresh, Acknowledged, Reset}
 
 -- Within this time messages of a peer with the same ID are one and the same (EXCHANGE_LIFETIME,
 -- section 4.8.2).
@@ -23,7 +23,7 @@ is_live t r = nat_lt (t - r.moment) EXCHANGE_LIFETIME
 abbrev pub is_live_of : ℕ → Peer → Remembered → Bool
 is_live_of t p r = same_peer r.peer p && is_live t r
 
--- it answered the same message
+-- it is of the same message
 abbrev pub is_repeat : ℕ → Peer → ℕ → Remembered → Bool
 is_repeat t p mid r = (r.mid == mid) && is_live_of t p r
 
@@ -37,18 +37,27 @@ is_full t p s =
 abbrev pub is_request : ℕ → Bool
 is_request code = nat_lt 0 code && nat_lt code 32
 
--- one that was answered: a CON gets the same answer again
-abbrev pub arrived_before : Bool → Option Remembered → Bool → Arrival
-arrived_before true (Some r) full = Repeated r.answer
-arrived_before false (Some r) full = Ignored
-arrived_before confirms None full = if full then Ignored else Fresh
+-- one that was heard before: a CON gets again what it got then
+abbrev pub heard_again : Bool → Option (List ℕ) → Arrival
+heard_again true (Some answer) = Repeated answer
+heard_again true None = Ignored
+heard_again false answer = Ignored
 
--- A CON that is no request is rejected: an empty one is a ping (section 4.3).
+-- One that is new, and no request, is rejected by an RST: an empty CON is a ping. An empty NON gets
+-- nothing (section 4.3).
+abbrev pub heard_first : Bool → ℕ → Arrival
+heard_first confirms code =
+    if is_request code then Fresh
+    else (if confirms || not (code == 0) then Rejected else Empty)
+
+abbrev pub arrived : Bool → ℕ → Option Remembered → Bool → Arrival
+arrived confirms code (Some r) full = heard_again confirms r.answer
+arrived confirms code None full = if full then Ignored else heard_first confirms code
+
+-- what a CON is, or a NON
 abbrev pub arrival_of : Bool → ℕ → Peer → Content → Device → Arrival
 arrival_of confirms t p m s =
-    if is_request m.code
-    then arrived_before confirms (find (is_repeat t p m.mid) s.remembered) (is_full t p s)
-    else (if confirms then Rejected else Ignored)
+    arrived confirms m.code (find (is_repeat t p m.mid) s.remembered) (is_full t p s)
 
 -- an empty one, with the ID of a notification to the peer that is outstanding
 abbrev pub is_heeded : Peer → Content → Device → Bool

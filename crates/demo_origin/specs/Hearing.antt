@@ -14,13 +14,11 @@ use Rattle.demo_origin.specs.Blocks.{named_by}
 use Rattle.demo_origin.specs.Uploads.{upload_of, body_at, before_piece, joined, with_piece, with_body, without}
 use Rattle.demo_origin.specs.Pieces.{KeepsPiece, GivesUp}
 use Rattle.coap_codec.specs.declared.block.Block.{Block}
-use Rattle.demo_origin.specs.declared.blocks.Named.{Named}
-use Rattle.demo_origin.specs.declared.blocks.Named.TheVariants.{Absent, Reserved, Is}
 use Rattle.demo_origin.specs.declared.uploads.Joined.{Joined}
 use Rattle.demo_origin.specs.declared.uploads.Joined.TheVariants.{Gap, TooLarge, Next, Last}
 use Rattle.demo_origin.specs.Requests.{asked, judged}
 use Rattle.demo_origin.specs.Keeps.{IsKept}
-use Rattle.demo_origin.specs.Answers.{Answers, Reads, sent}
+use Rattle.demo_origin.specs.Answers.{Answers, Declines, Reads, noted, sent}
 use Rattle.demo_origin.specs.Observing.{wish_of, acknowledged, rejected}
 use Rattle.demo_origin.specs.Notifying.{Settles}
 use Rattle.demo_origin.specs.declared.answer.Asker.{Asker}
@@ -30,9 +28,9 @@ use Rattle.demo_origin.specs.declared.request.CoapRequest.{CoapRequest}
 use Rattle.demo_origin.specs.declared.execution.Taken.{Taken}
 use Rattle.demo_origin.specs.declared.execution.Outcome.{Outcome}
 use Rattle.demo_origin.specs.declared.arrival.Arrival.{Arrival}
-use Rattle.demo_origin.specs.declared.arrival.Arrival.TheVariants.{Ignored, Rejected, Repeated, Fresh, Acknowledged, Reset}
+use Rattle.demo_origin.specs.declared.arrival.Arrival.TheVariants.{Ignored, Empty, Rejected, Repeated, Fresh, Acknowledged, Reset}
 use Rattle.demo_origin.specs.declared.judge.Judged.{Judged}
-use Rattle.demo_origin.specs.declared.judge.Judged.TheVariants.{Dropped, Refused, Read, Asked}
+use Rattle.demo_origin.specs.declared.judge.Judged.TheVariants.{Dropped, Refused, NotAcceptable, Read, Asked}
 
 abbrev pub reply_of : Outcome → Replied
 reply_of o = record { code = o.code; payload = o.payload.items; changed = o.changed }
@@ -118,21 +116,22 @@ TakesPiece holds to m i method b Next old new taken =
 TakesPiece holds to m i method b Last old new taken =
     (done : Taken) × (taken ≡ Some done) × Finishes holds to m i method b old new done
 
--- The handler is asked once the body is whole. A reserved block is answered by 4.00.
-abbrev pub Asks : Relation → Asker → Content → ℕ → Method → Named
+-- The handler is asked once the body is whole.
+abbrev pub Asks : Relation → Asker → Content → ℕ → Method → Option Block
     → Device → Device → Option Taken → Type 0
-Asks holds to m i method Absent old new taken =
+Asks holds to m i method None old new taken =
     (done : Taken) × (taken ≡ Some done) × Executes holds to m i method old new done
-Asks holds to m i method Reserved old new taken = Answers to 128 [] [] old new × (taken ≡ None)
-Asks holds to m i method (Is b) old new taken =
+Asks holds to m i method (Some b) old new taken =
     TakesPiece holds to m i method b (piece_after to.peer i b m old) old new taken
 
--- a request that wasn't answered before
+-- a request that wasn't heard before
 abbrev pub Processes : Relation → Asker → Content → Judged
     → Device → Device → Option Taken → Type 0
-Processes holds to m Dropped old new taken = (new ≡ old) × (taken ≡ None)
+Processes holds to m Dropped old new taken = (new ≡ noted to None old) × (taken ≡ None)
 Processes holds to m (Refused code) old new taken =
     Answers to code [] [] old new × (taken ≡ None)
+Processes holds to m (NotAcceptable i) old new taken =
+    Declines to i (wish_of (values 6 m.options)) 134 old new × (taken ≡ None)
 Processes holds to m (Read i) old new taken =
     Reads to i (wish_of (values 6 m.options)) (named_by (values 23 m.options))
     (slice_get old.resources i) old new
@@ -149,7 +148,9 @@ asker t p m = record { peer = p; moment = t; kind = m.kind; mid = m.mid; token =
 abbrev pub Takes : Relation → ℕ → Peer → Content → Arrival
     → Device → Device → Option Taken → Type 0
 Takes holds t p m Ignored old new taken = (new ≡ old) × (taken ≡ None)
-Takes holds t p m Rejected old new taken = (new ≡ sent p (rst m.mid) old) × (taken ≡ None)
+Takes holds t p m Empty old new taken = (new ≡ noted (asker t p m) None old) × (taken ≡ None)
+Takes holds t p m Rejected old new taken =
+    (new ≡ sent p (rst m.mid) (noted (asker t p m) (Some (rst m.mid)) old)) × (taken ≡ None)
 Takes holds t p m (Repeated answer) old new taken =
     (new ≡ sent p answer old) × (taken ≡ None)
 Takes holds t p m Fresh old new taken =

@@ -60,6 +60,13 @@ enlisted Register p i token version os =
 enlisted Deregister p i token version os = filter (is_no_entry p i token) os
 enlisted Nothing p i token version os = os
 
+-- What a GET leaves that isn't answered by a state: it registers nobody, and Observe 1 ends the
+-- registration all the same (section 3.6).
+abbrev pub left_by : Wish → Peer → ℕ → List ℕ → List Observer → List Observer
+left_by Register p i token os = os
+left_by Deregister p i token os = filter (is_no_entry p i token) os
+left_by Nothing p i token os = os
+
 abbrev pub has_mid : ℕ → Option Notification → Bool
 has_mid mid None = false
 has_mid mid (Some n) = n.mid == mid

@@ -6,7 +6,7 @@ use Rattle.uri_map.specs.declared.peer.Peer.{Peer}
 use Rattle.coap_codec.specs.Spelling.{Content}
 use Rattle.coap_codec.specs.Reading.{message_at}
 use Rattle.demo_origin.specs.Values.{Device, Relation}
-use Rattle.demo_origin.specs.Arrivals.{is_repeat, is_request}
+use Rattle.demo_origin.specs.Arrivals.{is_repeat}
 use Rattle.demo_origin.specs.Answers.{sent}
 use Rattle.coap_codec.specs.declared.message.MsgType.TheVariants.{Con}
 use Rattle.demo_origin.specs.Hearing.{Hears}
@@ -15,7 +15,7 @@ use Rattle.demo_origin.specs.declared.state.Remembered.{Remembered}
 use Rattle.demo_origin.specs.declared.state.Datagram.{Datagram}
 use Rattle.demo_origin.specs.declared.execution.Taken.{Taken}
 
--- At that moment a message of the peer's with that ID is one that was answered before.
+-- At that moment a message of the peer's with that ID is one that was heard before.
 abbrev pub IsRemembered : ℕ → Peer → ℕ → Device → Type 0
 IsRemembered t p mid s =
     (r : Remembered) × Contains s.remembered r × (is_repeat t p mid r ≡ true)
@@ -69,7 +69,7 @@ ExecutedOnce holds =
     → Executed holds t p mid old a → Runs holds es a b → AllByRecursion (IsBy u) es
     → u < t + EXCHANGE_LIFETIME → ¬ Executed holds u p mid b new
 
--- a CON request of the peer's with that ID is heard
+-- a CON of the peer's with that ID is heard
 pub record HearsCon (holds : Relation) (t : ℕ) (p : Peer) (mid : ℕ) (old new : Device)
     (taken : Option Taken) : Type 0 where
   pub datagram : List ℕ
@@ -77,7 +77,6 @@ pub record HearsCon (holds : Relation) (t : ℕ) (p : Peer) (mid : ℕ) (old new
   pub short : length datagram ≤ MAX_DATAGRAM_LEN
   pub reads : message_at datagram ≡ Ok message
   pub kind_is : message.kind ≡ Con
-  pub request : is_request message.code ≡ true
   pub mid_is : message.mid ≡ mid
   pub hears : Hears holds t p datagram old new taken
 

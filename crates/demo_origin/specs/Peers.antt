@@ -40,7 +40,8 @@ stepped t p kind c =
 abbrev pub first_known : ℕ → Peer → MsgType → Client
 first_known t p kind = record { peer = p; next_mid = after_answer kind 0; moment = t }
 
--- the peers that are known after an answer to a message of that type
+-- The peers that are known after an answer to a message of that type. Only one to a NON has an ID
+-- of the device's own.
 abbrev pub known_after : ℕ → Peer → MsgType → List Client → List Client
 known_after t p kind clients =
     if list_any (is_client p) clients then map (stepped t p kind) clients

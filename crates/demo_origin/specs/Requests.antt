@@ -7,15 +7,17 @@ use Rattle.coap_codec.specs.Values.{values, uint}
 use Rattle.coap_codec.specs.Options.{is_critical_number}
 use Rattle.coap_codec.specs.declared.message.MsgType.{MsgType}
 use Rattle.coap_codec.specs.declared.message.MsgType.TheVariants.{Con, Non, Ack, Rst}
+use Rattle.demo_origin.specs.Blocks.{is_block}
 use Rattle.demo_origin.specs.declared.state.Held.{Held}
 use Rattle.demo_origin.specs.declared.request.Method.{Method}
 use Rattle.demo_origin.specs.declared.request.Method.TheVariants.{Post, Put, Delete}
 use Rattle.demo_origin.specs.declared.request.CoapRequest.{CoapRequest}
 use Rattle.demo_origin.specs.declared.judge.Judged.{Judged}
-use Rattle.demo_origin.specs.declared.judge.Judged.TheVariants.{Dropped, Refused, Read, Asked}
+use Rattle.demo_origin.specs.declared.judge.Judged.TheVariants.{Dropped, Refused, NotAcceptable, Read, Asked}
 
 -- The critical options that are recognised: Uri-Host, Uri-Port, Uri-Path, Uri-Query, Accept,
--- Block2 and Block1, each of a length that it may have (section 5.4.3; RFC 7959, section 2.1).
+-- Block2 and Block1, each of a length and a value that it may have (section 5.4.3; RFC 7959,
+-- section 2.1).
 abbrev pub is_recognised : Entry → Bool
 is_recognised o =
     not (is_critical_number o.number)
@@ -24,8 +26,8 @@ is_recognised o =
     || (((o.number == 3) && (nat_le 1 (length o.value) && nat_le (length o.value) 255))
     || (((o.number == 7) && nat_le (length o.value) 2)
     || (((o.number == 17) && nat_le (length o.value) 2)
-    || (((o.number == 23) && nat_le (length o.value) 3)
-    || ((o.number == 27) && nat_le (length o.value) 3)))))))
+    || (((o.number == 23) && is_block o.value)
+    || ((o.number == 27) && is_block o.value)))))))
 
 abbrev pub has_number : ℕ → Entry → Bool
 has_number n o = o.number == n
@@ -75,12 +77,16 @@ judged_method code i version =
     (if code == 3 then asked_for i version Put else
     (if code == 4 then asked_for i version Delete else Refused 133)))
 
+-- A GET is one of the resource still, so that Observe 1 ends its registration.
+abbrev pub unsuited : ℕ → ℕ → Judged
+unsuited code i = if code == 1 then NotAcceptable i else Refused 134
+
 abbrev pub judged_held : Content → ℕ → Option Held → Judged
 judged_held m i None = Refused 132
 judged_held m i (Some held) =
     if suits (number_in (values 17 m.options)) held.format
     then judged_method m.code i held.version
-    else Refused 134
+    else unsuited m.code i
 
 abbrev pub judged_at : Content → List Held → Option ℕ → Judged
 judged_at m resources None = Refused 132
@@ -101,6 +107,7 @@ CanChange h = h.version < 18446744073709551615
 abbrev pub IsThere : List Held → Judged → Type 0
 IsThere resources Dropped = Unit {0}
 IsThere resources (Refused code) = code ≢ 0
+IsThere resources (NotAcceptable i) = Unit {0}
 IsThere resources (Read i) = i < length resources
 IsThere resources (Asked i method) =
     (i < length resources) × IfSome (slice_get resources i) CanChange

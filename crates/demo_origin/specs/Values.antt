@@ -17,7 +17,7 @@ pub record Device : Type 0 where
   pub resources : List Held
   -- the peers that are known
   pub clients : List Client
-  -- the requests that were answered, and are not executed again
+  -- the messages that were heard, and are not processed again
   pub remembered : List Remembered
   -- the bodies of which some pieces came
   pub uploads : List Upload

@@ -1,6 +1,6 @@
 //! Answers: how they are sent and remembered.
 
-ghost use Rattle.std.specs.Prelude.{◌≡◌, ◌≢◌, ◌<◌, ◌≤◌, ◌+◌, ◌%◌, ◌∷◌, ◌++◌, [], map, filter, IfOk, OnOk, OnErr, vec_len, vec_capacity};
+ghost use Rattle.std.specs.Prelude.{◌≡◌, ◌≢◌, ◌<◌, ◌≤◌, ◌+◌, ◌%◌, ◌∷◌, ◌++◌, [], map, filter, None, IfOk, OnOk, OnErr, vec_len, vec_capacity};
 ghost use Rattle.std.specs.List.{find, AllByRecursion};
 ghost use Rattle.std.specs.Option.{option_map};
 ghost use Rattle.std.specs.VecDeque.{deque_len, deque_capacity};
@@ -9,7 +9,7 @@ ghost use Rattle.coap_codec.specs.Writing.{IsInOrder, IsShort};
 ghost use Rattle.demo_origin.specs.Values.{seen};
 ghost use Rattle.demo_origin.specs.Peers.{is_client, own_mid, after_answer, stepped, known_after};
 ghost use Rattle.demo_origin.specs.Arrivals.{is_live, is_kept};
-ghost use Rattle.demo_origin.specs.Answers.{answer_kind, answer_mid, answer_to, sent, answered, Answers, HasRoom};
+ghost use Rattle.demo_origin.specs.Answers.{answer_kind, answer_mid, answer_to, sent, answered, noted, Answers, HasRoom};
 
 use crate::arrival::{is_known, is_live, is_same_peer};
 use crate::fault::{Memory, out_of_memory};
@@ -149,7 +149,7 @@ pub(crate) fn send(s: &mut State, peer: Peer, bytes: Bytes) -> Result<(), AllocE
     Ok(())
 }
 
-fn make_room(s: &mut State) -> Result<(), AllocError>
+pub(crate) fn make_room(s: &mut State) -> Result<(), AllocError>
     ensures same { seen s.new ≡ seen s.old }
     ensures observers { s.new.observers ≡ s.old.observers }
     ensures ok { OnOk result (HasRoom s.new) }
@@ -160,7 +160,7 @@ fn make_room(s: &mut State) -> Result<(), AllocError>
     Ok(())
 }
 
-/// A request: who sent it, when it was heard, and what its answer is matched by.
+/// A CON or NON: who sent it, when it was heard, and what its answer is matched by.
 #[derive(Clone, Copy)]
 pub struct Asker {
     pub peer: Peer,
@@ -168,6 +168,32 @@ pub struct Asker {
     pub kind: MsgType,
     pub mid: u16,
     pub token: Token,
+}
+
+/// Remembers a message that isn't processed, and what it gets.
+pub(crate) fn note(s: &mut State, to: Asker, answer: Option<Bytes>)
+    requires { HasRoom s.old }
+    ensures seen { seen s.new ≡ noted to answer (seen s.old) }
+    ensures out { s.new.out ≡ s.old.out }
+{
+    know(&mut s.clients, to.peer, MsgType::Con, to.moment);
+    let one = Remembered {
+        peer: to.peer,
+        mid: to.mid,
+        moment: to.moment,
+        answer,
+    };
+    remember(&mut s.remembered, one, to.moment);
+}
+
+/// Meets a message by silence, and remembers it.
+pub(crate) fn ignore(s: &mut State, to: Asker) -> Result<(), AllocError>
+    ensures ok { OnOk result (seen s.new ≡ noted to None (seen s.old)) }
+    ensures err { OnErr result (seen s.new ≡ seen s.old) }
+{
+    make_room(s)?;
+    note(s, to, None);
+    Ok(())
 }
 
 /// Sends the answer, and remembers it.
@@ -182,7 +208,7 @@ pub(crate) fn send_answer(s: &mut State, to: Asker, bytes: Bytes, again: Bytes)
         peer: to.peer,
         mid: to.mid,
         moment: to.moment,
-        answer: again,
+        answer: Some(again),
     };
     remember(&mut s.remembered, one, to.moment);
     s.out.push_back_reserved(Datagram {

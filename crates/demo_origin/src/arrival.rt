@@ -6,7 +6,7 @@ ghost use Rattle.std.specs.Option.{option_map};
 ghost use Rattle.coap_codec.specs.Spelling.{content};
 ghost use Rattle.demo_origin.specs.Values.{seen};
 ghost use Rattle.demo_origin.specs.Peers.{same_address, same_peer, is_client};
-ghost use Rattle.demo_origin.specs.Arrivals.{is_live, is_live_of, is_repeat, is_full, is_request, arrived_before, arrival_of, is_heeded, arrival};
+ghost use Rattle.demo_origin.specs.Arrivals.{is_live, is_live_of, is_repeat, is_full, is_request, heard_again, heard_first, arrived, arrival_of, is_heeded, arrival};
 
 use crate::fault::Memory;
 use crate::observers::has_sent;
@@ -22,6 +22,8 @@ use uri_map::Peer;
 pub enum Arrival {
     /// Nothing is done.
     Ignored,
+    /// An empty NON: it is remembered, and not answered.
+    Empty,
     /// An RST answers it.
     Rejected,
     /// This datagram answered it before, and answers it again.
@@ -70,8 +72,13 @@ fn is_repeat(r: &Remembered, moment: u64, peer: &Peer, mid: u16) -> bool
     r.mid == mid && is_live_of(r, moment, peer)
 }
 
-/// The request with that ID that was answered.
-fn answered<'a>(all: &'a [Remembered], moment: u64, peer: &Peer, mid: u16) -> Option<&'a Remembered>
+/// The message with that ID that was heard.
+fn remembered_as<'a>(
+    all: &'a [Remembered],
+    moment: u64,
+    peer: &Peer,
+    mid: u16,
+) -> Option<&'a Remembered>
     ensures { option_map (λ r. r.now) result ≡ find (is_repeat moment peer.now mid) all.now }
 {
     'each: for r in all {
@@ -100,7 +107,7 @@ fn live_count(all: &[Remembered], moment: u64, peer: &Peer) -> usize
     all.iter().filter(|r| is_live_of(r, moment, peer)).count()
 }
 
-/// Whether a further request of the peer's counts as lost.
+/// Whether a further message of the peer's counts as lost.
 fn is_full(s: &State, moment: u64, peer: &Peer) -> bool
     ensures { result ≡ is_full moment peer.now (seen s.now) }
 {
@@ -114,20 +121,43 @@ fn is_request(code: u8) -> bool
     0 < code && code < 32
 }
 
-/// What a request is, by what answered it before.
-fn arrived_before(
+/// What a message is that was heard before, by what answered it.
+fn heard_again(confirms: bool, answer: &Option<Bytes>) -> Result<Arrival, Memory>
+    ensures { IfOk result (λ a. a ≡ heard_again confirms answer.now) }
+{
+    match answer {
+        Some(bytes) if confirms => Ok(Arrival::Repeated(bytes.share()?)),
+        _ => Ok(Arrival::Ignored),
+    }
+}
+
+/// What a message is that is new.
+fn heard_first(confirms: bool, code: u8) -> Arrival
+    ensures { result ≡ heard_first confirms code }
+{
+    if is_request(code) {
+        return Arrival::Fresh;
+    }
+    if confirms || code != 0 {
+        Arrival::Rejected
+    } else {
+        Arrival::Empty
+    }
+}
+
+fn arrived(
     confirms: bool,
+    code: u8,
     before: Option<&Remembered>,
     full: bool,
 ) -> Result<Arrival, Memory>
     ensures { IfOk result (λ a.
-        a ≡ arrived_before confirms (option_map (λ r. r.now) before.entry) full) }
+        a ≡ arrived confirms code (option_map (λ r. r.now) before.entry) full) }
 {
     match before {
-        Some(r) if confirms => Ok(Arrival::Repeated(r.answer.share()?)),
-        Some(_) => Ok(Arrival::Ignored),
+        Some(r) => heard_again(confirms, &r.answer),
         None if full => Ok(Arrival::Ignored),
-        None => Ok(Arrival::Fresh),
+        None => Ok(heard_first(confirms, code)),
     }
 }
 
@@ -142,17 +172,8 @@ fn arrival_of(
     ensures { IfOk result (λ a.
         a ≡ arrival_of confirms moment peer.now (content m.now) (seen s.now)) }
 {
-    if is_request(m.code) {
-        let before = answered(&s.remembered, moment, peer, m.mid);
-        let full = is_full(s, moment, peer);
-        let arrival = arrived_before(confirms, before, full)?;
-        return Ok(arrival);
-    }
-    if confirms {
-        Ok(Arrival::Rejected)
-    } else {
-        Ok(Arrival::Ignored)
-    }
+    let before = remembered_as(&s.remembered, moment, peer, m.mid);
+    arrived(confirms, m.code, before, is_full(s, moment, peer))
 }
 
 /// Whether it is an empty message with the ID of a notification that isn't acknowledged.

@@ -4,9 +4,9 @@ ghost use Rattle.std.specs.Prelude.{◌≡◌, ◌<◌, ◌≤◌, ◌+◌, ◌*
 ghost use Rattle.coap_codec.specs.Spelling.{entries};
 ghost use Rattle.coap_codec.specs.Values.{values};
 ghost use Rattle.blockwise.specs.Reading.{size_of};
-ghost use Rattle.demo_origin.specs.Blocks.{named_value, named_by, part_at, part_of, piece_of, BeginsIn, IsIn, IsSized};
+ghost use Rattle.demo_origin.specs.Blocks.{is_block, named_value, named_by, part_at, part_of, piece_of, BeginsIn, IsIn, IsSized};
 
-use coap_codec::{Block, Message, block_of, first_of};
+use coap_codec::{Block, Message, block_of, first_of, uint_of};
 use limits::MAX_BODY_LEN;
 
 /// The size exponent of a device's blocks (RFC 7959, section 2.2).
@@ -14,17 +14,6 @@ use limits::MAX_BODY_LEN;
 pub struct BlockSize {
     pub szx: u8,
     pub ghost small: { szx < 7 },
-}
-
-/// What a message's Block option says (RFC 7959, section 2.2).
-#[derive(Clone, Copy)]
-pub enum Named {
-    /// There is none.
-    Absent,
-    /// Its size exponent is 7, which is reserved.
-    Reserved,
-    /// It names this block.
-    Is(Block),
 }
 
 /// What is wanted of a state.
@@ -49,24 +38,28 @@ pub(crate) fn size_of(szx: u8) -> usize
     1 << (szx + 4)
 }
 
-fn named_value(value: &[u8]) -> Named
+/// Whether it is the value of a Block option (RFC 7959, section 2.2).
+pub(crate) fn is_block(value: &[u8]) -> bool
+    ensures { result ≡ is_block value.now }
+{
+    value.len() <= 3 && uint_of(value) % 8 < 7
+}
+
+fn named_value(value: &[u8]) -> Option<Block>
     ensures is { result ≡ named_value value.now }
     ensures sized { IsSized result }
 {
-    match block_of(value) {
-        Some(block) => Named::Is(block),
-        None => Named::Reserved,
-    }
+    block_of(value)
 }
 
-/// What the message's first option of that number says.
-pub(crate) fn named_in(m: &Message, number: u16) -> Named
+/// The block that the message's first option of that number names.
+pub(crate) fn named_in(m: &Message, number: u16) -> Option<Block>
     ensures is { result ≡ named_by (values number (entries m.now.options.items)) }
     ensures sized { IsSized result }
 {
     match first_of(m, number) {
         Some(value) => named_value(value),
-        None => Named::Absent,
+        None => None,
     }
 }
 
@@ -94,15 +87,14 @@ fn part_at(szx: u8, offset: usize, len: usize) -> Part
 }
 
 /// The piece of a state that a Block2 asks for, in the smaller of its size and the device's.
-pub(crate) fn part_of(named: Named, own: BlockSize, len: usize) -> Part
+pub(crate) fn part_of(named: Option<Block>, own: BlockSize, len: usize) -> Part
     requires { IsSized named }
     ensures is { result ≡ part_of named own.szx len }
     ensures inside { IsIn len result }
 {
     match named {
-        Named::Absent => part_at(own.szx, 0, len),
-        Named::Reserved => Part::Past,
-        Named::Is(b) => part_at(b.szx.min(own.szx), offset_of(b), len),
+        None => part_at(own.szx, 0, len),
+        Some(b) => part_at(b.szx.min(own.szx), offset_of(b), len),
     }
 }
 

@@ -4,15 +4,15 @@ ghost use Rattle.std.specs.Prelude.{◌≡◌, ◌≢◌, ◌<◌, length, slice
 ghost use Rattle.coap_codec.specs.Spelling.{content};
 ghost use Rattle.demo_origin.specs.Values.{seen};
 ghost use Rattle.demo_origin.specs.Requests.{CanChange, asked};
-ghost use Rattle.demo_origin.specs.Answers.{Answers, Reads, Shows, shown_part};
+ghost use Rattle.demo_origin.specs.Answers.{Answers, Declines, Reads, Shows, shown_part};
 ghost use Rattle.demo_origin.specs.Blocks.{BeginsIn, IsSized};
 ghost use Rattle.demo_origin.specs.Hearing.{is_change, reply_of, stated, taken_from, Changes};
 
 use crate::answer::{Asker, answer};
-use crate::blocks::{Named, Part, part_of, piece_of};
+use crate::blocks::{Part, part_of, piece_of};
 use crate::fault::Memory;
 use crate::judge::number_in;
-use crate::observers::{Wish, enlist, is_granted};
+use crate::observers::{Wish, enlist, is_granted, leave};
 use crate::reading::described;
 use crate::request::{CoapRequest, Method};
 use crate::segments::Segments;
@@ -77,6 +77,24 @@ pub(crate) fn refuse(alloc: Global, s: &mut State, to: Asker, code: u8) -> Resul
     answer(alloc, s, to, code, Vec::new(alloc), Vec::new(alloc))
 }
 
+/// Answers a GET of the resource of that number by a code alone.
+pub(crate) fn decline(
+    alloc: Global,
+    s: &mut State,
+    to: Asker,
+    place: usize,
+    wish: Wish,
+    code: u8,
+) -> Result<(), Memory>
+    requires { code ≢ 0 }
+    ensures ok { OnOk result (Declines to place wish code (seen s.old) (seen s.new)) }
+    ensures err { OnErr result (seen s.new ≡ seen s.old) }
+{
+    refuse(alloc, s, to, code)?;
+    leave(&mut s.observers, wish, &to.peer, place, &to.token);
+    Ok(())
+}
+
 /// The bytes of a piece, or of all.
 fn shown_part(b: Option<Block>, state: &[u8]) -> &[u8]
     requires { IfSome b (BeginsIn (length state.now)) }
@@ -122,7 +140,7 @@ pub(crate) fn read(
     to: Asker,
     place: usize,
     wish: Wish,
-    named: Named,
+    named: Option<Block>,
 ) -> Result<(), Memory>
     requires place { place < length s.old.resources.items }
     requires sized { IsSized named }
@@ -133,7 +151,7 @@ pub(crate) fn read(
     match part_of(named, s.block, s.resources[place].state.as_slice().len()) {
         Part::Whole => show(alloc, s, to, place, wish, None),
         Part::Piece(b) => show(alloc, s, to, place, wish, Some(b)),
-        Part::Past => refuse(alloc, s, to, BAD_REQUEST),
+        Part::Past => decline(alloc, s, to, place, wish, BAD_REQUEST),
     }
 }
 

@@ -8,8 +8,9 @@ ghost use Rattle.std.specs.Option.{option_map};
 ghost use Rattle.std.specs.Cmp.Lexicographic.{pointwise};
 ghost use Rattle.coap_codec.specs.Spelling.{content, entry, entries};
 ghost use Rattle.coap_codec.specs.Values.{values};
-ghost use Rattle.demo_origin.specs.Requests.{is_recognised, has_number, is_once, is_understood, number_in, is_at, suits, confirms, asked_for, judged_method, judged_held, judged_at, judged, HasVersion, IsThere};
+ghost use Rattle.demo_origin.specs.Requests.{is_recognised, has_number, is_once, is_understood, number_in, is_at, suits, confirms, asked_for, judged_method, unsuited, judged_held, judged_at, judged, HasVersion, IsThere};
 
+use crate::blocks::is_block;
 use crate::fault::Memory;
 use crate::request::Method;
 use crate::segments::Segments;
@@ -24,6 +25,8 @@ pub enum Judged {
     Dropped,
     /// It is answered by this code alone.
     Refused(u8),
+    /// A GET of the resource of that number wants another format.
+    NotAcceptable(usize),
     /// The state of the resource of that number is read.
     Read(usize),
     /// The handler of the resource of that number is asked.
@@ -40,8 +43,8 @@ fn is_recognised(o: &Opt) -> bool
         || (o.number == number::URI_HOST && 1 <= len && len <= 255)
         || (o.number == number::URI_PORT && len <= 2)
         || (o.number == number::ACCEPT && len <= 2)
-        || (o.number == number::BLOCK2 && len <= 3)
-        || (o.number == number::BLOCK1 && len <= 3)
+        || (o.number == number::BLOCK2 && is_block(&o.value))
+        || (o.number == number::BLOCK1 && is_block(&o.value))
 }
 
 fn all_recognised(options: &[Opt]) -> bool
@@ -134,6 +137,17 @@ fn unrecognised(kind: MsgType) -> Judged
     }
 }
 
+fn unsuited(code: u8, place: usize) -> Judged
+    ensures is { result ≡ unsuited code place }
+    ensures there { (all : List Held) → IsThere all result }
+{
+    if code == 1 {
+        Judged::NotAcceptable(place)
+    } else {
+        Judged::Refused(134)
+    }
+}
+
 fn judged_held(m: &Message, place: usize, resources: &[Held]) -> Judged
     ensures is { result ≡ judged_held (content m.now) place (slice_get resources.now place) }
     ensures there { IsThere resources.now result }
@@ -144,7 +158,7 @@ fn judged_held(m: &Message, place: usize, resources: &[Held]) -> Judged
     if suits(number_in(m, number::ACCEPT), held.format) {
         judged_method(m.code, place, held.version)
     } else {
-        Judged::Refused(134)
+        unsuited(m.code, place)
     }
 }
 

@@ -10,7 +10,7 @@ pub fn executed_once<H: Behaviour>()
     ensures { ExecutedOnce H.holds }
 {}
 
-/// A request that is sent again within 247 s gets the datagram that answered it first, and executes
+/// A CON that is sent again within 247 s gets the datagram that answered it first, and executes
 /// nothing, whatever is heard between them.
 pub fn answered_alike<H: Behaviour>()
     ensures { AnsweredAlike H.holds }

@@ -5,7 +5,7 @@ ghost use Rattle.std.specs.List.{list_any};
 ghost use Rattle.std.specs.Str.{bytes_eq};
 ghost use Rattle.coap_codec.specs.Spelling.{entries};
 ghost use Rattle.coap_codec.specs.Values.{values};
-ghost use Rattle.demo_origin.specs.Observing.{wish_by, wish_of, is_entry, is_no_entry, is_for, has_place, is_granted, newcomer, enlisted, has_mid, is_sent_as, is_not_sent_as, relieved, is_observer};
+ghost use Rattle.demo_origin.specs.Observing.{wish_by, wish_of, is_entry, is_no_entry, is_for, has_place, is_granted, newcomer, enlisted, left_by, has_mid, is_sent_as, is_not_sent_as, relieved, is_observer};
 
 use crate::arrival::is_same_peer;
 use crate::state::{Notification, Observer};
@@ -126,6 +126,22 @@ pub(crate) fn enlist(
         }
         Wish::Deregister => drop_entry(observers, &peer, place, &token),
         Wish::Nothing => {}
+    }
+}
+
+/// Ends the registration of a GET that isn't answered by a state, where Observe 1 asks for it.
+pub(crate) fn leave(
+    observers: &mut Vec<Observer>,
+    wish: Wish,
+    peer: &Peer,
+    place: usize,
+    token: &Token,
+)
+    ensures { observers.new.items ≡ left_by wish peer.now place token.now observers.old.items }
+{
+    match wish {
+        Wish::Deregister => drop_entry(observers, peer, place, token),
+        Wish::Register | Wish::Nothing => {}
     }
 }
 

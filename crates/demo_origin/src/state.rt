@@ -30,13 +30,13 @@ pub struct Client {
     pub moment: u64,
 }
 
-/// A request that was answered: whose, its ID, when, and the datagram that answered it.
+/// A CON or NON that was heard: whose, its ID, when, and the datagram that answered it, if any.
 #[derive(Drop)]
 pub struct Remembered {
     pub peer: Peer,
     pub mid: u16,
     pub moment: u64,
-    pub answer: Bytes,
+    pub answer: Option<Bytes>,
 }
 
 /// A body of which more comes: whose, the number of its resource, and what came.

@@ -56,7 +56,7 @@ pub(crate) fn answer_and_tell(
         peer: to.peer,
         mid: to.mid,
         moment: to.moment,
-        answer: again,
+        answer: Some(again),
     };
     remember(&mut s.remembered, one, to.moment);
     take_over(s, draft);

@@ -265,3 +265,53 @@ fn confirmed() -> &'static [Step] {
 fn an_observer_is_shown_no_state_of_before(rt: HostRuntime) {
     assert_eq!(rt; counters_fail_at(rt.alloc(), confirmed()), Ok(None));
 }
+
+static REFUSED: [Step; 14] = [
+    Hears(0, 2, OBSERVE),
+    Sends(2, OBSERVED),
+    // Observe 1 with Block2 1/0/16, which is past the end: 4.00, and the observer isn't told
+    Hears(
+        0,
+        2,
+        &[
+            0x42, 0x01, 0x00, 0x08, 0xab, 0xcd, 0x61, 0x01, 0x51, 0x63, 0xc1, 0x10,
+        ],
+    ),
+    Sends(2, &[0x62, 0x80, 0x00, 0x08, 0xab, 0xcd]),
+    Executes(10, 1, FIRST_POST),
+    Sends(1, FIRST_COUNT),
+    Quiet,
+    // registered anew, and Observe 1 with an Accept of 42: 4.06, and the same
+    Hears(
+        20,
+        2,
+        &[0x42, 0x01, 0x00, 0x09, 0xab, 0xcd, 0x60, 0x51, 0x63],
+    ),
+    Sends(
+        2,
+        &[
+            0x62, 0x45, 0x00, 0x09, 0xab, 0xcd, 0x48, 0, 0, 0, 0, 0, 0, 0, 1, 0x21, 0x01, 0x60,
+            0x21, 0x3c, 0xff, 0x31,
+        ],
+    ),
+    Hears(
+        30,
+        2,
+        &[
+            0x42, 0x01, 0x00, 0x0a, 0xab, 0xcd, 0x61, 0x01, 0x51, 0x63, 0x61, 0x2a,
+        ],
+    ),
+    Sends(2, &[0x62, 0x86, 0x00, 0x0a, 0xab, 0xcd]),
+    Executes(40, 1, SECOND_POST),
+    Sends(1, SECOND_COUNT),
+    Quiet,
+];
+
+fn refused() -> &'static [Step] {
+    &REFUSED
+}
+
+#[test]
+fn a_refused_get_takes_a_registration_back(rt: HostRuntime) {
+    assert_eq!(rt; counters_fail_at(rt.alloc(), refused()), Ok(None));
+}

@@ -1,8 +1,8 @@
--- None of those that were looked at is the request.
+-- None of those that were looked at is the message.
 use Rattle.std.specs.Prelude.{◌≡◌, drop}
 use Rattle.std.specs.List.{find}
 use Rattle.demo_origin.specs.Arrivals.{is_repeat}
-use Rattle.demo_origin.proofs.arrival.answered.Given as goal
+use Rattle.demo_origin.proofs.arrival.remembered_as.Given as goal
 
 abbrev pub invariant-each : goal.invariant-each
 invariant-each l =
