@@ -72,9 +72,9 @@ pub data Typing : Type 0 where
   Routed : (from : Form) → (format : ℕ) → Typing
   Untypable : Typing
 
--- The format of a Content-Type; a blank one states none.
+-- The format of a Content-Type; a blank one is no media type (RFC 9110 section 8.3.1).
 abbrev pub typing_stated : Result (Option ℕ) MediaFault → Typing
-typing_stated (Ok None) = Untyped
+typing_stated (Ok None) = Untypable
 typing_stated (Ok (Some n)) = Typed n
 typing_stated (Err fault) = Untypable
 

@@ -26,7 +26,7 @@ full_decided : (more : Bool) (len size : ℕ) → Decides (cond more (len == siz
 full_decided true len size = Decides-eqb len size
 full_decided false len size = le_decided len size
 
-sized_decided : (b : Option Block) (len : ℕ) → Decides (is_sized b len) (IsSized b len)
+pub sized_decided : (b : Option Block) (len : ℕ) → Decides (is_sized b len) (IsSized b len)
 sized_decided None len = (λ e. tt, λ h. refl)
 sized_decided (Some b) len = full_decided b.more len (size_of b.szx)
 

@@ -4,3 +4,4 @@ pub mod Answering
 pub mod Sent
 pub mod Fetching
 pub mod Judging
+pub mod OneMessage

@@ -3,7 +3,7 @@ use Rattle.std.specs.Prelude.{◌&&◌, ◌||◌, ◌≡◌, ◌⊎◌, ◌<◌,
 use Rattle.limits.specs.declared.TheConstants.{MAX_BODY_LEN}
 use Rattle.coap_codec.specs.Spelling.{Content}
 use Rattle.coap_codec.specs.declared.block.Block.{Block}
-use Rattle.blockwise.specs.Reading.{block_in, size_of, offset_in}
+use Rattle.blockwise.specs.Reading.{block_in, size_of, offset_in, is_alone}
 use Rattle.blockwise.specs.Representations.{representation_of, same_representation}
 use Rattle.blockwise.specs.declared.representation.Representation.{Representation}
 use Rattle.blockwise.specs.declared.fault.BlockFault.{BlockFault}
@@ -81,6 +81,10 @@ judged_by None step = Ok step
 -- whether it may be the next piece, and what comes after it
 abbrev pub judged : PiecesValue → Content → Judged
 judged p m = judged_by (fault_of p m) (step_of (block_in 23 m))
+
+-- By itself it is all of a representation: the first piece and the last (RFC 7959, section 2.4).
+abbrev pub is_only_piece : Content → Bool
+is_only_piece m = is_alone (block_in 23 m) && is_sized (block_in 23 m) (length m.payload)
 
 abbrev pub Added : Type 0
 Added = Result (PiecesValue × Step) BlockFault

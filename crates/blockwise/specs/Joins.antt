@@ -3,10 +3,10 @@ use Rattle.std.specs.Prelude.{◌≡◌, ◌≤◌, ◌<◌, ◌↔◌, ℕ, ◌
 use Rattle.limits.specs.declared.TheConstants.{MAX_BODY_LEN}
 use Rattle.coap_codec.specs.Spelling.{Content}
 use Rattle.coap_codec.specs.declared.block.Block.{Block}
-use Rattle.coap_codec.specs.Recognition.{class_of}
-use Rattle.blockwise.specs.Reading.{block_in, size_of, goes_on, offset_in}
+use Rattle.coap_codec.specs.Recognition.{class_of, is_final}
+use Rattle.blockwise.specs.Reading.{block_in, size_of, goes_on, offset_in, answers_piece}
 use Rattle.blockwise.specs.Representations.{representation_of}
-use Rattle.blockwise.specs.Downloads.{last_szx, given, nothing}
+use Rattle.blockwise.specs.Downloads.{last_szx, given, nothing, is_only_piece}
 use Rattle.blockwise.specs.Uploads.{UploadValue, begun, next_block, next_payload, is_last, answer_to, next_of, outcome_by, Continues, Responds}
 use Rattle.blockwise.specs.declared.representation.Representation.{Representation}
 use Rattle.blockwise.specs.declared.upload.Answered.{Answered}
@@ -122,3 +122,15 @@ UploadsSucceed =
     → length body ≤ MAX_BODY_LEN → szx < 7
     → outcome (begun (length body) szx) ms last ≡ Last → class_of last ≡ 2
     → AreAllOf body (sent (begun (length body) szx) body ms)
+
+-- The message that is the only piece is the one by which alone a download gives a body.
+abbrev pub OnlyPieceIsWhole : Type 0
+OnlyPieceIsWhole =
+    (m : Content) → length m.payload ≤ MAX_BODY_LEN
+    → (is_only_piece m ≡ true) ↔ (given nothing (m ∷ []) ≡ Some m.payload)
+
+-- What an upload of no more than one piece takes for its response is the final answer to piece 0.
+abbrev pub OnlyAnswerIsLast : Type 0
+OnlyAnswerIsLast =
+    (len : ℕ) (m : Content) → len ≤ size_of 6
+    → (answer_to (begun len 6) m ≡ Last) ↔ ((answers_piece 0 m ≡ true) × (is_final m ≡ true))

@@ -1,8 +1,8 @@
 -- What a response says by its Block options.
-use Rattle.std.specs.Prelude.{◌≡◌, ◌≤◌, ℕ, ◌/◌, ◌%◌, ◌+◌, ◌*◌, ◌^◌, Bool, true, false, not, ◌&&◌, List, length, Option, Some, None, option_map, ◌==◌, nat_le}
+use Rattle.std.specs.Prelude.{◌≡◌, ℕ, ◌/◌, ◌%◌, ◌+◌, ◌*◌, ◌^◌, Bool, true, false, not, ◌&&◌, List, Option, Some, None, option_map, ◌==◌}
 use Rattle.coap_codec.specs.Spelling.{Content}
 use Rattle.coap_codec.specs.declared.block.Block.{Block}
-use Rattle.coap_codec.specs.Recognition.{is_defined, is_final, value_of}
+use Rattle.coap_codec.specs.Recognition.{is_defined, value_of}
 use Rattle.coap_codec.specs.Values.{uint}
 
 abbrev pub IsDefined : ℕ → List ℕ → Type 0
@@ -33,22 +33,28 @@ abbrev pub offset_in : Option Block → ℕ
 offset_in None = 0
 offset_in (Some b) = b.num * size_of b.szx
 
--- The block is the first and the last, and the payload is no longer than it (RFC 7959, section
--- 2.2).
-pub record IsOnlyBlock (b : Block) (len : ℕ) : Type 0 where
+-- The block is the first and the last (RFC 7959, section 2.2).
+pub record IsOnlyBlock (b : Block) : Type 0 where
   pub first : b.num ≡ 0
   pub last : b.more ≡ false
-  pub sized : len ≤ size_of b.szx
 
--- A payload is a whole body by itself: it comes without a Block option, or as the only block.
-abbrev pub IsInOnePiece : Option Block → ℕ → Type 0
-IsInOnePiece None len = Unit {0}
-IsInOnePiece (Some b) len = IsOnlyBlock b len
+-- Nothing stands before it or after it: it comes without a Block option, or as the only block.
+abbrev pub IsAlone : Option Block → Type 0
+IsAlone None = Unit {0}
+IsAlone (Some b) = IsOnlyBlock b
 
-abbrev pub is_in_one_piece : Option Block → ℕ → Bool
-is_in_one_piece None len = true
-is_in_one_piece (Some b) len = (b.num == 0) && (not b.more && nat_le len (size_of b.szx))
+abbrev pub is_alone : Option Block → Bool
+is_alone None = true
+is_alone (Some b) = (b.num == 0) && not b.more
 
--- Its code ends a request, and its payload is all of the response.
-abbrev pub is_whole_response : Content → Bool
-is_whole_response m = is_final m && is_in_one_piece (block_in 23 m) (length m.payload)
+-- The answer names the piece of this number by its Block1, or none, whatever more and the size say:
+-- more set repeats what the piece said, or says that its code isn't the final one (RFC 7959,
+-- section 2.3), and a size may be a hint (section 2.9.3).
+abbrev pub names_piece : ℕ → Option Block → Bool
+names_piece num None = true
+names_piece num (Some b) = b.num == num
+
+-- It answers this piece of a body, and all of it is here. A body that goes whole is piece 0. Of what
+-- an answer carries no more is asked for, so by its Block2 it is the only block, whatever its size.
+abbrev pub answers_piece : ℕ → Content → Bool
+answers_piece num m = names_piece num (block_in 27 m) && is_alone (block_in 23 m)

@@ -1,10 +1,10 @@
 -- The pieces of a body that is sent, and what the answers to them do.
-use Rattle.std.specs.Prelude.{◌<◌, ◌≤◌, ◌≡◌, ◌≢◌, ◌⊎◌, ℕ, ◌+◌, ◌*◌, ◌/◌, Bool, true, false, not, ◌&&◌, ◌||◌, List, length, take, drop, Option, Some, None, ◌==◌, nat_le, nat_lt, if◌then◌else◌}
+use Rattle.std.specs.Prelude.{◌<◌, ◌≤◌, ◌≡◌, ◌≢◌, ◌⊎◌, ℕ, ◌+◌, ◌*◌, ◌/◌, Bool, true, false, not, ◌&&◌, List, take, drop, Option, Some, None, ◌==◌, nat_le, nat_lt, if◌then◌else◌}
 use Rattle.limits.specs.declared.TheConstants.{MAX_BODY_LEN}
 use Rattle.coap_codec.specs.Spelling.{Content}
 use Rattle.coap_codec.specs.declared.block.Block.{Block}
 use Rattle.coap_codec.specs.Recognition.{class_of, is_final}
-use Rattle.blockwise.specs.Reading.{block_in, size_of, goes_on, is_whole_response, IsInOnePiece}
+use Rattle.blockwise.specs.Reading.{block_in, size_of, answers_piece, IsAlone}
 use Rattle.blockwise.specs.declared.upload.Answered.{Answered}
 use Rattle.blockwise.specs.declared.upload.Answered.TheVariants.{Next, Last, Wrong}
 
@@ -51,12 +51,7 @@ block_at u = record { num = next_num u; more = not (is_last u); szx = u.szx }
 abbrev pub next_block : UploadValue → Option Block
 next_block u = if is_whole u then None else Some (block_at u)
 
--- An answer repeats the number of the piece that it acknowledges, should it name one, and may ask
--- for smaller ones (RFC 7959, sections 2.3 and 2.5).
-abbrev pub is_number_of : Option Block → ℕ → Bool
-is_number_of None num = true
-is_number_of (Some b) num = b.num == num
-
+-- An answer may ask for smaller pieces (RFC 7959, section 2.5).
 abbrev pub next_szx : Option Block → ℕ → ℕ
 next_szx None szx = szx
 next_szx (Some b) szx = if nat_lt b.szx szx then b.szx else szx
@@ -64,13 +59,13 @@ next_szx (Some b) szx = if nat_lt b.szx szx then b.szx else szx
 abbrev pub if_final : Bool → Answered
 if_final final = if final then Last else Wrong
 
--- What ends a request is the whole response after the last piece, unless it says that its code isn't
--- the final one, and an error is after any. By 2.31 a piece before the last is taken.
+-- What ends a request is the whole response after the last piece, and an error is after any. By 2.31
+-- a piece before the last is taken.
 abbrev pub answer_to : UploadValue → Content → Answered
 answer_to u m =
-    if goes_on (block_in 23 m) || not (is_number_of (block_in 27 m) (next_num u)) then Wrong
-    else (if is_last u then if_final (is_whole_response m && not (goes_on (block_in 27 m)))
-    else (if m.code == 95 then Next else if_final (is_whole_response m && not (class_of m == 2))))
+    if not (answers_piece (next_num u) m) then Wrong
+    else (if is_last u then if_final (is_final m)
+    else (if m.code == 95 then Next else if_final (is_final m && not (class_of m == 2))))
 
 abbrev pub next_of : UploadValue → Content → UploadValue
 next_of u m = record {
@@ -84,24 +79,25 @@ abbrev pub Names : Option Block → ℕ → Type 0
 Names None num = Unit {0}
 Names (Some b) num = b.num ≡ num
 
+-- It answers the piece of this number, and nothing of it follows.
+pub record IsAnswerTo (num : ℕ) (m : Content) : Type 0 where
+  pub number : Names (block_in 27 m) num
+  pub alone : IsAlone (block_in 23 m)
+
 -- By the answer the next piece goes: 2.31 (Continue), to a piece before the last (RFC 7959,
--- sections 2.3 and 2.9.1). No more of the answer follows.
+-- sections 2.3 and 2.9.1).
 pub record Continues (u : UploadValue) (m : Content) : Type 0 where
-  pub no_more : goes_on (block_in 23 m) ≡ false
+  pub answers : IsAnswerTo (next_num u) m
   pub before_last : is_last u ≡ false
   pub code : m.code ≡ 95
-  pub number : Names (block_in 27 m) (next_num u)
 
 -- The answer is the whole response: it ends the request, after the last piece, or as an error
--- after any. Its payload is all of it: a longer response would begin at number 0 and say that more
--- follows (RFC 7959, section 2.7). By more in the Block1 of the answer to the last piece its code
--- isn't the final one (section 2.3); in an error before that it repeats what the piece said.
+-- after any. A longer response would begin at number 0 and say that more follows (RFC 7959, section
+-- 2.7).
 pub record Responds (u : UploadValue) (m : Content) : Type 0 where
-  pub in_one_piece : IsInOnePiece (block_in 23 m) (length m.payload)
-  pub number : Names (block_in 27 m) (next_num u)
+  pub answers : IsAnswerTo (next_num u) m
   pub final : is_final m ≡ true
   pub last_or_error : (is_last u ≡ true) ⊎ (class_of m ≢ 2)
-  pub concluded : is_last u ≡ true → goes_on (block_in 27 m) ≡ false
 
 -- what the last of these answers means, where by each before it the next piece goes
 abbrev pub outcome_by : Answered → Answered → Answered

@@ -1,6 +1,6 @@
 //! What the pieces of a body are together, over whole lists of messages.
 
-ghost use Rattle.blockwise.specs.Joins.{DownloadsJoin, UploadsJoin, UploadsAnswered, UploadsSucceed};
+ghost use Rattle.blockwise.specs.Joins.{DownloadsJoin, UploadsJoin, UploadsAnswered, UploadsSucceed, OnlyPieceIsWhole, OnlyAnswerIsLast};
 
 /// A download gives a body by the last of some messages, and by none before, exactly where they are
 /// all pieces of one representation, in order from its first byte, and the body is the join of
@@ -25,4 +25,11 @@ pub fn uploads_answered()
 /// Where an upload comes to a response that is no error, the pieces that went join to its body.
 pub fn uploads_succeed()
     ensures { UploadsSucceed }
+{}
+
+/// What goes in one message is whole as what goes in pieces is: the only piece, which a download gives,
+/// and the answer to piece 0, which an upload takes for its response.
+pub fn one_message()
+    ensures downloads { OnlyPieceIsWhole }
+    ensures uploads { OnlyAnswerIsLast }
 {}

@@ -25,8 +25,9 @@ mod upload;
 
 pub use download::{Download, Progress};
 pub use fault::BlockFault;
-pub use laws::{downloads_join, uploads_answered, uploads_join, uploads_succeed};
-pub use pieces::{Pieces, Step};
+pub use laws::{downloads_join, one_message, uploads_answered, uploads_join, uploads_succeed};
+pub use pieces::{Pieces, Step, is_only_piece};
+pub use reading::answers_piece;
 pub use representation::{EntityTag, Representation};
 pub use sizes::LARGEST_SZX;
 pub use upload::{Answered, Piece, Upload};

@@ -3,10 +3,10 @@
 ghost use Rattle.std.specs.Prelude.{◌≡◌, ◌≢◌, ◌≤◌, ◌<◌, ◌+◌, ◌^◌, ◌↔◌, IsTrue, length, OnOk, IfOk, IfErr, IfSome, IsOk, OnErr, Ok, Err};
 ghost use Rattle.coap_codec.specs.Spelling.{content};
 ghost use Rattle.blockwise.specs.Reading.{offset_in};
-ghost use Rattle.blockwise.specs.Downloads.{no_pieces, differs, is_sized, is_no_larger, first_of, last_szx, judged, with_piece, adds, CanBeAsked};
+ghost use Rattle.blockwise.specs.Downloads.{no_pieces, differs, is_sized, is_no_larger, first_of, last_szx, judged, with_piece, adds, CanBeAsked, is_only_piece};
 
 use crate::fault::BlockFault;
-use crate::reading::block2_in;
+use crate::reading::{block2_in, is_alone};
 use crate::representation::Representation;
 use crate::sizes::{LARGEST_SZX, size_of};
 use coap_codec::{Block, Message};
@@ -196,4 +196,12 @@ impl Pieces {
         self.advance(m);
         Ok(step)
     }
+}
+
+/// Whether the message is all of a representation by itself: the first piece, and the last.
+pub fn is_only_piece(m: &Message) -> bool
+    ensures { result ≡ is_only_piece (content m.now) }
+{
+    let block = block2_in(m);
+    is_alone(block) && is_sized(block, m.payload.len())
 }

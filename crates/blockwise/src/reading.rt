@@ -4,13 +4,12 @@ ghost use Rattle.std.specs.Prelude.{◌≡◌, ◌≤◌, ◌<◌, ◌^◌, true
 ghost use Rattle.std.specs.Option.{option_map};
 ghost use Rattle.coap_codec.specs.Spelling.{content};
 ghost use Rattle.coap_codec.specs.Recognition.{is_final, value_of};
-ghost use Rattle.blockwise.specs.Reading.{IsDefined, block_in, goes_on, is_in_one_piece, is_whole_response};
+ghost use Rattle.blockwise.specs.Reading.{IsDefined, block_in, is_alone, names_piece, answers_piece};
 
-use crate::sizes::size_of;
 use coap_codec::{Block, Message, block_of, is_defined, number};
 
 /// Whether its code ends a request.
-fn is_final(m: &Message) -> bool
+pub fn is_final(m: &Message) -> bool
     ensures { result ≡ is_final (content m.now) }
 {
     let class = m.code / 32;
@@ -54,30 +53,30 @@ pub fn block2_in(m: &Message) -> Option<Block>
     }
 }
 
-/// Whether a Block option says that more follows.
-pub fn goes_on(block: Option<Block>) -> bool
-    ensures { result ≡ goes_on block }
+/// Whether nothing stands before it or after it: no Block option, or the only block.
+pub fn is_alone(block: Option<Block>) -> bool
+    ensures { result ≡ is_alone block }
 {
     match block {
-        Some(block) => block.more,
-        None => false,
-    }
-}
-
-/// Whether a payload of so many bytes is a whole body: without a Block option, or as its only block.
-fn is_in_one_piece(block: Option<Block>, len: usize) -> bool
-    requires { IfSome block (λ b. b.szx < 7) }
-    ensures { result ≡ is_in_one_piece block len }
-{
-    match block {
-        Some(block) => block.num == 0 && !block.more && len <= size_of(block.szx),
+        Some(block) => block.num == 0 && !block.more,
         None => true,
     }
 }
 
-/// Whether its code ends a request and its payload is all of the response.
-pub fn is_whole_response(m: &Message) -> bool
-    ensures { result ≡ is_whole_response (content m.now) }
+/// Whether it names the piece of this number, should it name one.
+fn names_piece(num: u32, block: Option<Block>) -> bool
+    ensures { result ≡ names_piece num block }
 {
-    is_final(m) && is_in_one_piece(block2_in(m), m.payload.len())
+    match block {
+        Some(block) => block.num == num,
+        None => true,
+    }
+}
+
+/// Whether it answers the piece of this number of a body, and all of the answer is here. A body that
+/// goes whole is piece 0.
+pub fn answers_piece(num: u32, m: &Message) -> bool
+    ensures { result ≡ answers_piece num (content m.now) }
+{
+    names_piece(num, block1_in(m)) && is_alone(block2_in(m))
 }

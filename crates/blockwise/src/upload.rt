@@ -3,9 +3,9 @@
 ghost use Rattle.std.specs.Prelude.{◌≡◌, ◌≢◌, ◌≤◌, ◌<◌, ◌*◌, ◌^◌, ◌+◌, ◌↔◌, IfSome, length};
 ghost use Rattle.limits.specs.declared.TheConstants.{MAX_BODY_LEN};
 ghost use Rattle.coap_codec.specs.Spelling.{content};
-ghost use Rattle.blockwise.specs.Uploads.{begun, is_last, next_block, next_payload, is_number_of, next_szx, if_final, answer_to, next_of, Continues, Responds};
+ghost use Rattle.blockwise.specs.Uploads.{begun, is_last, next_block, next_payload, next_szx, if_final, answer_to, next_of, Continues, Responds};
 
-use crate::reading::{block1_in, block2_in, goes_on, is_whole_response};
+use crate::reading::{answers_piece, block1_in, is_final};
 use crate::sizes::size_of;
 use coap_codec::{Block, Message};
 use std::marker::Model;
@@ -54,16 +54,6 @@ pub enum Answered {
     Last,
     /// It can't be an answer to this piece.
     Wrong,
-}
-
-/// Whether the answer repeats the number of the piece, should it name one.
-fn is_number_of(block: Option<Block>, num: usize) -> bool
-    ensures { result ≡ is_number_of block num }
-{
-    match block {
-        Some(block) => block.num as usize == num,
-        None => true,
-    }
 }
 
 /// The answer is the whole response if its code is the final one.
@@ -160,18 +150,17 @@ impl Upload {
         ensures next { (result ≡ Answered.Next) ↔ Continues self.now (content m.now) }
         ensures last { (result ≡ Answered.Last) ↔ Responds self.now (content m.now) }
     {
-        let block = block1_in(m);
         let size = size_of(self.szx);
-        if goes_on(block2_in(m)) || !is_number_of(block, self.taken / size) {
+        if !answers_piece((self.taken / size) as u32, m) {
             return Answered::Wrong;
         }
         if self.is_last() {
-            return if_final(is_whole_response(m) && !goes_on(block));
+            return if_final(is_final(m));
         }
         if m.code == CONTINUE {
             return Answered::Next;
         }
-        if_final(is_whole_response(m) && m.code / 32 != 2)
+        if_final(is_final(m) && m.code / 32 != 2)
     }
 
     /// The piece counts as taken, by an answer that was judged so.

@@ -40,9 +40,8 @@ fn stated(value: &[u8], policy: Policy) -> Typing<'static>
     ensures { typing_shown result ≡ typing_stated (format_at policy value.now) }
 {
     match format_of(value, policy) {
-        Ok(None) => Typing::Untyped,
         Ok(Some(format)) => Typing::Typed(format),
-        Err(_) => Typing::Untypable,
+        Ok(None) | Err(_) => Typing::Untypable,
     }
 }
 

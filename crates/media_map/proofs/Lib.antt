@@ -5,4 +5,5 @@ mod Tallies
 mod Best
 mod Joining
 mod Numbers
+mod Digits
 mod Returning

@@ -1,8 +1,9 @@
 -- Media types as fields write them (RFC 9110 sections 5.6.6 and 8.3.1).
-use Rattle.std.specs.Prelude.{ℕ, ◌-◌, ◌+◌, List, [], ◌∷◌, length, take, drop, Bool, true, false, ◌==◌, ◌||◌, ◌&&◌, nat_lt, if◌then◌else◌, Option, Some, None}
+use Rattle.std.specs.Prelude.{ℕ, ◌+◌, List, [], ◌∷◌, length, take, drop, Bool, true, false, ◌==◌, ◌||◌, ◌&&◌, nat_lt, if◌then◌else◌, Option, Some, None}
 use Rattle.std.specs.List.{list_all}
 use Rattle.std.specs.Str.{str_eq_ignore_ascii_case}
-use Rattle.media_map.specs.declared.text.Scan.TheVariants.{Plain}
+use Rattle.media_map.specs.declared.text.Scan.{Scan}
+use Rattle.media_map.specs.declared.text.Scan.TheVariants.{Plain, Quoted, Escaped}
 use Rattle.media_map.specs.Texts.{is_token, is_quoted, trim, pieces, cut_from}
 
 -- Names of types, subtypes, parameters and charsets are compared without case.
@@ -53,8 +54,23 @@ abbrev pub value_in : List ℕ → List (List ℕ) → Option (List ℕ)
 value_in name [] = None
 value_in name (piece ∷ pieces) = if has_name name (trim piece) then Some (value_of (trim piece)) else value_in name pieces
 
--- A value without the quotes round it. A quoted pair inside stays as it is written: no value that is looked
--- for needs one.
+-- What is left of a quoted string, from within it: a quoted pair is the byte that it quotes (section 5.6.4).
+abbrev pub quoted_rest : Scan → List ℕ → List ℕ
+quoted_rest scan [] = []
+quoted_rest Plain (b ∷ text) = []
+quoted_rest Quoted (b ∷ text) =
+    if b == 34 then [] else (if b == 92 then quoted_rest Escaped text else b ∷ quoted_rest Quoted text)
+quoted_rest Escaped (b ∷ text) = b ∷ quoted_rest Quoted text
+
+-- The bytes that what is left of a value stands for: within a quoted string, or outside of one.
+abbrev pub bytes_from : Bool → List ℕ → List ℕ
+bytes_from quoted text = if quoted then quoted_rest Quoted text else text
+
+abbrev pub bytes_with : Bool → Option (ℕ × List ℕ) → List ℕ
+bytes_with quoted None = []
+bytes_with quoted (Some x) = x.0 ∷ bytes_from quoted x.1
+
+-- What a value stands for: a token for itself, a quoted string for what it quotes.
 unfoldable pub unquoted : List ℕ → List ℕ
 unquoted [] = []
-unquoted (b ∷ text) = if b == 34 then take (length text - 1) text else b ∷ text
+unquoted (b ∷ text) = if b == 34 then quoted_rest Quoted text else b ∷ text

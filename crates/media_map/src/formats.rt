@@ -2,18 +2,19 @@
 
 ghost use Rattle.std.specs.Prelude.{◌≡◌, ◌<◌, IfOk, IfSome};
 ghost use Rattle.media_map.specs.Formats.{media_text, has_charset, is_foreign_text, format_in, table, table_format, number_with, format_number, payload_format as payload, begins as begins_with, ends as ends_with, loose_format as loose, format_at};
-ghost use Rattle.media_map.specs.Views.{named_of};
+ghost use Rattle.media_map.specs.Views.{named_of, bytes_of};
 ghost use Rattle.std.specs.Option.{option_map};
 
 use crate::fault::MediaFault;
 use crate::form::Media;
-use crate::media_type::{MediaType, without_quotes};
+use crate::media_type::MediaType;
 use crate::policy::Policy;
 use crate::text::{is_same, trim};
+use crate::value::Value;
 use std::alloc::{AllocError, Global};
 
-/// The content format that a Content-Type says, if it says any: an empty one counts as absent. Refused are,
-/// in this order, what is no media type (Syntax), `application/coap-payload` where it isn't passed through
+/// The content format that a Content-Type says; None for blanks alone, which say nothing. Refused are, in
+/// this order, what is no media type (Syntax), `application/coap-payload` where it isn't passed through
 /// (PassThrough), and what has no format (Unmapped).
 #[tactic(auto, unfolding(crate::specs::Formats::format_at))]
 pub fn format_of(content_type: &[u8], policy: Policy) -> Result<Option<u16>, MediaFault>
@@ -68,9 +69,9 @@ fn is_utf8_or_ascii(charset: Option<&[u8]>) -> bool
 {
     match charset {
         None => true,
-        Some(value) => {
-            let name = without_quotes(value);
-            is_same(name, b"utf-8") || is_same(name, b"us-ascii")
+        Some(text) => {
+            let value = Value::of(text);
+            value.says(b"utf-8") || value.says(b"us-ascii")
         }
     }
 }
@@ -116,20 +117,27 @@ pub fn payload_format(media: &MediaType<'_>) -> Option<u16>
     if !is_same(media.essence, b"application/coap-payload") {
         return None;
     }
-    let value = media.parameter(b"cf")?;
-    number(without_quotes(value))
+    let text = media.parameter(b"cf")?;
+    number(&Value::of(text))
 }
 
 #[tactic(auto, unfolding(crate::specs::Formats::format_number))]
-fn number(digits: &[u8]) -> Option<u16>
-    ensures { result ≡ format_number digits.now }
+fn number(value: &Value<'_>) -> Option<u16>
+    ensures { result ≡ format_number (bytes_of value.now) }
 {
-    if digits.is_empty() || digits.len() > 5 {
-        return None;
-    }
     let mut number: u32 = 0;
-    'each: for digit in digits {
-        number = next_number(number, *digit)?;
+    let mut count: u8 = 0;
+    let mut rest = *value;
+    'each: while let Some((digit, after)) = rest.first() {
+        if count == 5 {
+            return None;
+        }
+        number = next_number(number, digit)?;
+        count += 1;
+        rest = after;
+    }
+    if count == 0 {
+        return None;
     }
     u16::try_from(number).ok()
 }

@@ -17,6 +17,7 @@ mod pick;
 mod policy;
 mod routes;
 mod text;
+mod value;
 mod wanted;
 mod weight;
 

@@ -2,7 +2,7 @@
 
 ghost use Rattle.std.specs.Prelude.{◌≡◌, if◌then◌else◌, true};
 ghost use Rattle.std.specs.Option.{option_map};
-ghost use Rattle.media_map.specs.MediaTypes.{slash_in, equals_in, is_essence, is_pair, is_parameter, media_at, has_name, value_of, value_in, unquoted};
+ghost use Rattle.media_map.specs.MediaTypes.{slash_in, equals_in, is_essence, is_pair, is_parameter, media_at, has_name, value_of, value_in};
 ghost use Rattle.media_map.specs.Texts.{behind};
 ghost use Rattle.media_map.specs.Views.{named_of};
 ghost use Rattle.std.specs.List.{list_all};
@@ -103,16 +103,5 @@ fn value_if<'a>(text: &'a [u8], name: &[u8]) -> Option<&'a [u8]>
         Some(&text[equals + 1..])
     } else {
         None
-    }
-}
-
-/// The value without the quotes round it.
-#[tactic(auto, unfolding(crate::specs::MediaTypes::unquoted))]
-pub fn without_quotes(value: &[u8]) -> &[u8]
-    ensures { result.now ≡ unquoted value.now }
-{
-    match value {
-        [b'"', rest @ ..] => &rest[..rest.len().saturating_sub(1)],
-        _ => value,
     }
 }

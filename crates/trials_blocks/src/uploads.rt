@@ -175,7 +175,7 @@ fn smaller_pieces_asked_by_a_datagram(rt: HostRuntime) {
 
 /// What the first of two pieces may be answered. An error may repeat what the piece said of more,
 /// and ask for a smaller size.
-static TO_THE_FIRST: [Answer; 15] = [
+static TO_THE_FIRST: [Answer; 16] = [
     (TOO_LARGE, Bears::Nothing, Answered::Last),
     (INCOMPLETE, Bears::Nothing, Answered::Wrong),
     (CHANGED, Bears::Nothing, Answered::Wrong),
@@ -185,11 +185,12 @@ static TO_THE_FIRST: [Answer; 15] = [
     (TOO_LARGE, Bears::Block1(0x1e), Answered::Wrong),
     // it comes in one piece, whatever its code
     (CONTINUE, Bears::Block2(0x0e, 0), Answered::Wrong),
+    (CONTINUE, Bears::Block2(0x16, 0), Answered::Wrong),
     (CHANGED, Bears::Block2(0x0e, 0), Answered::Wrong),
     (TOO_LARGE, Bears::Block2(0x0e, 0), Answered::Wrong),
     (TOO_LARGE, Bears::Block2(0x06, 3), Answered::Last),
     (TOO_LARGE, Bears::Block2(0x00, 16), Answered::Last),
-    (TOO_LARGE, Bears::Block2(0x00, 17), Answered::Wrong),
+    (TOO_LARGE, Bears::Block2(0x00, 17), Answered::Last),
     (TOO_LARGE, Bears::Block2(0x10, 16), Answered::Wrong),
     (TOO_LARGE, Bears::Block2(0x16, 3), Answered::Wrong),
 ];
@@ -198,14 +199,13 @@ fn is_first(alloc: Global, answer: Answer) -> bool {
     uploads(alloc, 1025, &[(Some(0x0e), 1024, answer)]) == Ok(true)
 }
 
-/// The answer to the last piece names that piece or none, in any size, and says no more: else its
-/// code isn't the final one.
+/// The answer to the last piece names that piece or none, whatever it says of more and of a size.
 static TO_THE_LAST: [Answer; 7] = [
     (CHANGED, Bears::Block1(0x16), Answered::Last),
     (CHANGED, Bears::Block1(0x14), Answered::Last),
     (TOO_LARGE, Bears::Block1(0x14), Answered::Last),
-    (CHANGED, Bears::Block1(0x1e), Answered::Wrong),
-    (TOO_LARGE, Bears::Block1(0x1e), Answered::Wrong),
+    (CHANGED, Bears::Block1(0x1e), Answered::Last),
+    (TOO_LARGE, Bears::Block1(0x1e), Answered::Last),
     (CHANGED, Bears::Block1(0x06), Answered::Wrong),
     (CHANGED, Bears::Block1(0x26), Answered::Wrong),
 ];
@@ -223,11 +223,11 @@ static TO_THE_WHOLE: [Answer; 12] = [
     (TOO_LARGE, Bears::Nothing, Answered::Last),
     (CHANGED, Bears::Block1(0x06), Answered::Last),
     (CHANGED, Bears::Block1(0x02), Answered::Last),
-    (CHANGED, Bears::Block1(0x0e), Answered::Wrong),
+    (CHANGED, Bears::Block1(0x0e), Answered::Last),
     (CHANGED, Bears::Block1(0x16), Answered::Wrong),
     (CHANGED, Bears::Block2(0x06, 3), Answered::Last),
     (CHANGED, Bears::Block2(0x00, 16), Answered::Last),
-    (CHANGED, Bears::Block2(0x00, 17), Answered::Wrong),
+    (CHANGED, Bears::Block2(0x00, 17), Answered::Last),
     (CHANGED, Bears::Block2(0x10, 16), Answered::Wrong),
     (CHANGED, Bears::Block2(0x16, 3), Answered::Wrong),
 ];

@@ -25,7 +25,7 @@ const PASS: Policy = Policy {
 /// What a content type is to the policies.
 #[derive(Clone, Copy)]
 enum Kind {
-    /// Each takes it for this format, or for none where it is empty.
+    /// Each takes it for this format, or for none where it is blank.
     Mapped(Option<u16>),
     Malformed,
     /// It has no format; the loose policy takes the nearest one.
@@ -60,12 +60,15 @@ fn is_read(row: &(&'static [u8], Kind)) -> bool {
         && format_of(row.0, PASS) == pass
 }
 
-static CONTENT_TYPES: [(&[u8], Kind); 62] = [
+static CONTENT_TYPES: [(&[u8], Kind); 66] = [
     (b"", Kind::Mapped(None)),
     (b" \t", Kind::Mapped(None)),
     (b"text/plain", Kind::Mapped(Some(0))),
     (b"text/plain; charset=UTF-8", Kind::Mapped(Some(0))),
     (b"Text/Plain; Charset=\"utf-8\"", Kind::Mapped(Some(0))),
+    (b"text/plain;charset=\"utf\\-8\"", Kind::Mapped(Some(0))),
+    (b"text/plain;charset=\"\\UTF-\\8\"", Kind::Mapped(Some(0))),
+    (b"text/plain;charset=\"utf\\\\-8\"", Kind::Nearest(42)),
     (b"text/plain ; charset=\"US-ASCII\" ", Kind::Mapped(Some(0))),
     (b"text/plain;", Kind::Mapped(Some(0))),
     (b"text/plain; ;;charset=utf-8", Kind::Mapped(Some(0))),
@@ -131,6 +134,10 @@ static CONTENT_TYPES: [(&[u8], Kind); 62] = [
     (b"application/coap-payload;cf=00060", Kind::Numbered(60)),
     (
         b"application/coap-payload; cf=\"11050\"",
+        Kind::Numbered(11050),
+    ),
+    (
+        b"application/coap-payload; cf=\"1\\1050\"",
         Kind::Numbered(11050),
     ),
     (b"Application/CoAP-Payload;CF=1;cf=2", Kind::Numbered(1)),

@@ -1,7 +1,13 @@
--- The digits so far are a number of the range.
-use Rattle.std.proofs.Common.{◌≡◌, ◌<◌, drop}
-use Rattle.media_map.specs.Formats.{number_from}
+-- The digits so far are a number of the range, and few.
+use Rattle.std.proofs.Common.{◌≡◌, ◌<◌, ◌≤◌, length}
+use Rattle.media_map.specs.Formats.{format_number}
+use Rattle.media_map.specs.Views.{bytes_of}
+use Rattle.media_map.proofs.Digits.{more_digits}
 use Rattle.media_map.proofs.formats.number.Given as goal
 
 abbrev pub invariant-each : goal.invariant-each
-invariant-each l = (number_from 0 l.digits ≡ number_from l.number (drop l.digit-index l.digits)) × (l.number < 65536)
+invariant-each l =
+    (format_number (bytes_of l.value) ≡ more_digits l.count l.number (bytes_of l.rest)) × (l.number < 65536) × (l.count ≤ 5)
+
+abbrev pub decreases-each : goal.decreases-each
+decreases-each l = length l.rest.text.now
