@@ -4,7 +4,7 @@ ghost use Rattle.std.specs.Prelude.{◌≡◌, ◌∷◌, ◌++◌, [], Bool, So
 ghost use Rattle.std.specs.Option.{option_copied};
 ghost use Rattle.exchange_model.specs.declared.kept.Exchange.{Exchange as Row};
 ghost use Rattle.exchange_model.specs.Steps.{is_other, is_under, went_out};
-ghost use Rattle.exchange_table.specs.Tables.{IsIndexed, IsLatest, is_opened_at};
+ghost use Rattle.exchange_table.specs.Tables.{IsIndexed, IsLatest};
 
 use crate::index::{self, Named};
 use crate::rows;
@@ -63,13 +63,6 @@ impl Exchanges {
         ensures { option_copied result ≡ find (is_under token.now) self.now.exchanges }
     {
         rows::row_under(&self.rows, &self.names, token)
-    }
-
-    /// The exchange that the entry with this number opened.
-    pub fn at(&self, opening: u32) -> Option<&Exchange>
-        ensures { option_copied result ≡ find (is_opened_at opening) self.now.exchanges }
-    {
-        rows::row_opened(&self.rows, opening)
     }
 
     /// Makes room for one more, so that opening it takes no memory.

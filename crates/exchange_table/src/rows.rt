@@ -3,22 +3,12 @@
 ghost use Rattle.std.specs.Prelude.{◌≡◌, Some, filter, find, map};
 ghost use Rattle.std.specs.Option.{option_copied};
 ghost use Rattle.exchange_model.specs.Steps.{is_other, is_under, went_out};
-ghost use Rattle.exchange_table.specs.Places.{RiseBy};
-ghost use Rattle.exchange_table.specs.Tables.{IsIndexed, is_opened_at, opening_of};
+ghost use Rattle.exchange_table.specs.Tables.{IsIndexed};
 
 use crate::index::{Named, drop_name, number_of};
-use crate::places::{opening_place, place_under};
+use crate::places::place_under;
 use coap_codec::Token;
 use exchange_model::Exchange;
-
-/// The row that the entry with this number opened.
-pub fn row_opened(rows: &[Exchange], opening: u32) -> Option<&Exchange>
-    requires { RiseBy opening_of rows.now }
-    ensures { option_copied result ≡ find (is_opened_at opening) rows.now }
-{
-    let place = opening_place(rows, opening)?;
-    Some(&rows[place])
-}
 
 /// The row whose latest message goes under the token.
 pub fn row_under<'a>(rows: &'a [Exchange], names: &[Named], token: &Token) -> Option<&'a Exchange>
