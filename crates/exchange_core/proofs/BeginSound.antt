@@ -22,7 +22,7 @@ use Rattle.exchange_core.specs.declared.fault.AskFault.{AskFault}
 use Rattle.exchange_core.specs.declared.fault.AskFault.TheVariants as Ask
 use Rattle.exchange_core.specs.declared.state.State.{State as RustState}
 use Rattle.exchange_core.specs.Answering.{Given}
-use Rattle.exchange_core.specs.Beginning.{IsTextFor, exchange_by, with_exchange, Leaves, MayBegin, IsEntered, IsBegunBy}
+use Rattle.exchange_core.specs.Beginning.{IsTextFor, asked_method, exchange_by, with_exchange, Leaves, MayBegin, IsEntered, IsBegunBy}
 use Rattle.exchange_core.specs.Sending.{sent_first}
 use Rattle.exchange_core.specs.Drafts.{DraftValue, Drafts}
 use Rattle.exchange_core.specs.Sound.{SoundState, IsSound}
@@ -94,9 +94,10 @@ pub entered-by : {R X : Type 0} (r : Result X AskFault) (t : ℕ) (x e : Exchang
 entered-by r t x e v w d old new a b i =
     subst (λ (u : Waiting). IsEntered r t e u d old new) b (subst (λ (y : Exchange). IsEntered r t y v d old new) a i)
 
-pub exchange-is : (t c : ℕ) (token : List ℕ) (p : Peer) (sent : Option FirstSending) (n k : ℕ) (e : Exchange) → n ≡ k
-    → e ≡ exchange_by t c token p sent n → e ≡ exchange_by t c token p sent k
-exchange-is t c token p sent n k e a b = b ∙ ap (λ (i : ℕ). exchange_by t c token p sent i) a
+pub exchange-is : (t c : ℕ) (token : List ℕ) (p : Peer) (i j : ℕ) (sent : Option FirstSending) (n k : ℕ) (e : Exchange) → i ≡ j → n ≡ k
+    → e ≡ exchange_by t c token p i sent n → e ≡ exchange_by t c token p j sent k
+exchange-is t c token p i j sent n k e a b is =
+    is ∙ ap (λ (x : ℕ). exchange_by t c token p x sent n) a ∙ ap (λ (x : ℕ). exchange_by t c token p j sent x) b
 
 pub unnumbered : (s : Sense) (token text : List ℕ) → IsTextFor s token text → IsUnnumberedCon token text
 unnumbered s token text x =
@@ -108,7 +109,7 @@ module _ {R : Type 0} (t word c : ℕ) (m : Mapping) (p : Peer) (token text : Li
     (next : IsNext t (link_of (state_of old).links p).last_mid (next_list (waits token text word) (link_of (state_of old).links p).outstanding) sent)
     (none : d.answers ≡ []) where
   abbrev e : Exchange
-  e = exchange_by t c token p sent (length old.journal.entries)
+  e = exchange_by t c token p (asked_method m.sense) sent (length old.journal.entries)
 
   abbrev w : Waiting
   w = waits token text word

@@ -30,7 +30,7 @@ use Rattle.exchange_model.specs.Sealing.{asks_in_room}
 use Rattle.exchange_model.specs.Entering.{entered_all, at_once, begin_deeds, begun, begun_exchange, first_deeds, IsDrained}
 use Rattle.exchange_model.proofs.CallerLemmas.{asks-in-room, begins-enter, stays-drained}
 use Rattle.exchange_core.specs.Answering.{Given}
-use Rattle.exchange_core.specs.Beginning.{IsRequest, exchange_by, with_exchange, numbers_of, MayBegin, IsBegunBy}
+use Rattle.exchange_core.specs.Beginning.{IsRequest, asked_method, exchange_by, with_exchange, numbers_of, MayBegin, IsBegunBy}
 use Rattle.exchange_core.specs.Sending.{IsTimed, sent_first}
 use Rattle.exchange_core.specs.declared.fault.AskFault.TheVariants as Ask
 use Rattle.exchange_core.specs.Calls.{IsSpelled}
@@ -144,18 +144,18 @@ module _ (t word c : ℕ) (m : Mapping) (p : Peer) (token text : List ℕ) (S : 
     ds = Asks c a ∷ sent_first p sent
 
     abbrev S1 : State
-    S1 = with_exchange t (exchange_by t c token p sent (length S.entries)) w (with_draft t d S)
+    S1 = with_exchange t (exchange_by t c token p (asked_method m.sense) sent (length S.entries)) w (with_draft t d S)
 
     begun-at : (q : CoapRequest) → Drafts t S (Asks c a ∷ sent_first q.peer sent) d
         → IsNext t (link_of S.links q.peer).last_mid (next_list w (link_of S.links q.peer).outstanding) sent
-        → with_exchange t (exchange_by t c token q.peer sent (length S.entries)) w (with_draft t d S) ≡ begun t c a q n S
+        → with_exchange t (exchange_by t c token q.peer q.method sent (length S.entries)) w (with_draft t d S) ≡ begun t c a q n S
     begun-at q h next =
         let s = link_of S.links q.peer in
         let both = goes-at-once t (length S.entries) q.peer s.last_mid w s.outstanding sent next in
         let links = with_link q.peer (given_out (submitted t w s)) S.links in
         let draft : with_draft t d S ≡ entered_all t (begin_deeds t c a q n S) S =
         with-draft t S (Asks c a) (sent_first q.peer sent) d h ∙ ap (λ (xs : List Deed). entered_all t (Asks c a ∷ xs) S) both.0 in
-        let e = exchange_by t c token q.peer sent (length S.entries) in
+        let e = exchange_by t c token q.peer q.method sent (length S.entries) in
         let ex : e ≡ begun_exchange t c q n S = ap (λ (v : Option ℕ). record e { sending = v }) both.1 in
         ap (λ (U : State). record U { issued = S.issued + 1; exchanges = S.exchanges ++ e ∷ []; links = links }) draft
         ∙ ap (λ (x : Exchange). record (entered_all t (begin_deeds t c a q n S) S) { issued = S.issued + 1; exchanges = S.exchanges ++ x ∷ []; links = links }) ex
@@ -166,10 +166,14 @@ module _ (t word c : ℕ) (m : Mapping) (p : Peer) (token text : List ℕ) (S : 
     begun-is b h next =
         let q = b.spelled.request in
         let same : q.peer ≡ p = peer-same q p (ap asked_peer (sym b.spelled.is) ∙ b.peer) in
+        let method : q.method ≡ asked_method m.sense = sym (ap asked_method b.spelled.is) in
         subst (λ (z : Peer). Drafts t S (Asks c a ∷ sent_first z sent) d
         → IsNext t (link_of S.links z).last_mid (next_list w (link_of S.links z).outstanding) sent
-        → with_exchange t (exchange_by t c token z sent (length S.entries)) w (with_draft t d S) ≡ begun t c a q n S)
-        same (begun-at q) h next
+        → with_exchange t (exchange_by t c token z (asked_method m.sense) sent (length S.entries)) w (with_draft t d S) ≡ begun t c a q n S)
+        same (subst (λ (k : ℕ). Drafts t S (Asks c a ∷ sent_first q.peer sent) d
+        → IsNext t (link_of S.links q.peer).last_mid (next_list w (link_of S.links q.peer).outstanding) sent
+        → with_exchange t (exchange_by t c token q.peer k sent (length S.entries)) w (with_draft t d S) ≡ begun t c a q n S)
+        method (begun-at q)) h next
 
     module _ (bytes room : ℕ) (gs : List Given) (os : List Outgoing) (s : SoundState S bytes room gs)
         (b : MayBegin t word c m p token text S) (h : Drafts t S ds d)

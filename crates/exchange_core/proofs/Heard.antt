@@ -8,7 +8,7 @@ use Rattle.uri_map.specs.declared.peer.Peer.{Peer}
 use Rattle.ask_model.specs.Requests.{CoapRequest, Sense, Requests}
 use Rattle.ask_model.specs.declared.cause.Cause.TheVariants as C
 use Rattle.journal_book.specs.Entries.{Grounds, Live, Fault, Deed, Opens, Asks, Sends, Hears, Passes, Answers, Shuts, Seals, Written}
-use Rattle.history_laws.specs.Responses.{is_whole, response_of}
+use Rattle.history_laws.specs.Responses.{is_whole, response_of, whole_in}
 use Rattle.reply_reading.specs.Findings.{Found, found_by}
 use Rattle.message_layer.specs.Values.{LinkValue, Told, no_news, response, timed_out, was_reset, was_dropped, LinkState}
 use Rattle.message_layer.specs.Hearing.{says, listed}
@@ -24,7 +24,7 @@ use Rattle.exchange_model.specs.declared.kept.Conn.{Conn}
 use Rattle.exchange_model.specs.declared.kept.Exchange.{Exchange}
 use Rattle.exchange_model.specs.State.{State, link_of, pend, conns_after}
 use Rattle.exchange_model.specs.Steps.{entered, is_under}
-use Rattle.exchange_model.specs.Calls.{waits_on, ended_in, grounds_by}
+use Rattle.exchange_model.specs.Calls.{waits_on, ended_in, method_in, grounds_by}
 use Rattle.exchange_model.specs.Entering.{entered_all, first_deeds, in_turn, going_as, sent_as, told_deeds, told_if, confirm}
 use Rattle.exchange_model.specs.Keeping.{Kept}
 use Rattle.exchange_model.proofs.CallerLemmas.{entered-both}
@@ -37,15 +37,15 @@ use Rattle.exchange_core.specs.Drafts.{DraftValue, Drafts, conns_from}
 use Rattle.exchange_core.specs.declared.ending.Ended.{Ended}
 use Rattle.exchange_core.specs.Ending.{EndsIn, finished}
 use Rattle.exchange_core.specs.Leads.{Leads}
-use Rattle.exchange_core.specs.Hearing.{found_in, whole_in, ended_by, told_by, note_next, link_deeds, over_in, hearing_deeds}
+use Rattle.exchange_core.specs.Hearing.{found_in, ended_by, told_by, note_next, link_deeds, over_in, hearing_deeds}
 use Rattle.exchange_core.specs.Sending.{IsTimed, sent_first}
 use Rattle.exchange_core.specs.Values.{written}
 
 -- what ends is told on the grounds of the step
 
-whole-grounds : (n : ℕ) (m : Content) → (found_by n (whole_in m)).grounds
-    ≡ grounds_by N.Response n m
-whole-grounds n m = by (is_whole m)
+whole-grounds : (n k : ℕ) (m : Content) → (found_by n (whole_in k m)).grounds
+    ≡ grounds_by N.Response n k m
+whole-grounds n k m = by (is_whole k m)
   where
     by : (b : Bool) → (found_by n (cond b (Some (response_of m)) None)).grounds
         ≡ cond b (Live (n ∷ [])) (Fault C.NotUnderstood n)
@@ -54,21 +54,23 @@ whole-grounds n m = by (is_whole m)
 
 pub told-same : (n : ℕ) (m : Content) (news : News) (token : List ℕ) (es : List Exchange)
     (cs : List Conn)
-    → told_by (ended_in (ended_token news token) es) (found_in n (says news m)) cs
-    ≡ told_if (grounds_by news n m) (ended_in (ended_token news token) es) cs
+    → told_by (ended_in (ended_token news token) es)
+    (found_in n (ended_in (ended_token news token) es) (says news m)) cs
+    ≡ told_if (grounds_by news n (method_in (ended_in (ended_token news token) es)) m)
+    (ended_in (ended_token news token) es) cs
 told-same n m N.Quiet token es cs = refl
 told-same n m N.Lost token es cs = refl
 told-same n m N.Response token es cs = by (find (is_under token) es)
   where
-    by : (v : Option Exchange) → told_by v (Some (found_by n (whole_in m))) cs
-        ≡ told_if (grounds_by N.Response n m) v cs
+    by : (v : Option Exchange) → told_by v (Some (found_by n (whole_in (method_in v) m))) cs
+        ≡ told_if (grounds_by N.Response n (method_in v) m) v cs
     by None = refl
-    by (Some e) = ap (λ (g : Grounds). told_deeds g e cs) (whole-grounds n m)
+    by (Some e) = ap (λ (g : Grounds). told_deeds g e cs) (whole-grounds n e.method m)
 told-same n m (N.Reset of) token es cs = by (find (is_under of) es)
   where
     by : (v : Option Exchange)
-        → told_by v (found_in n (says (N.Reset of) m)) cs
-        ≡ told_if (grounds_by (N.Reset of) n m) v cs
+        → told_by v (found_in n v (says (N.Reset of) m)) cs
+        ≡ told_if (grounds_by (N.Reset of) n (method_in v) m) v cs
     by None = refl
     by (Some e) = refl
 
@@ -126,21 +128,25 @@ next-timed t p S link x h at k =
 abbrev Holds : List Written → ℕ → Sense → Found → Type 0
 Holds h t s f = IsFound h f.told f.grounds s × CountsFrom h f.grounds t t
 
-found-stands : (h : List Written) (n t : ℕ) (told : Told) (q : CoapRequest) (f : Found)
-    → ((m : Content) → told ≡ response m → HeardAs h n t m) → found_in n told ≡ Some f
+found-stands : (h : List Written) (n t : ℕ) (told : Told) (x : Exchange) (q : CoapRequest) (f : Found)
+    → q.method ≡ x.method
+    → ((m : Content) → told ≡ response m → HeardAs h n t m) → found_in n (Some x) told ≡ Some f
     → Holds h t (Requests q) f
-found-stands h n t (response m) q f hear e =
-    subst (Holds h t (Requests q)) (some-is _ f e) (by (is_whole m) refl)
+found-stands h n t (response m) x q f same hear e =
+    subst (Holds h t (Requests q)) (some-is _ f asked) (by (is_whole q.method m) refl)
   where
-    by : (b : Bool) → is_whole m ≡ b
+    asked : Some (found_by n (whole_in q.method m)) ≡ Some f
+    asked = subst (λ (k : ℕ). Some (found_by n (whole_in k m)) ≡ Some f) (sym same) e
+
+    by : (b : Bool) → is_whole q.method m ≡ b
         → Holds h t (Requests q) (found_by n (cond b (Some (response_of m)) None))
     by true w = ((m ∷ [], ((t, hear m refl), tt), rw (w) refl), (m, hear m refl))
     by false w = (refl, refl)
-found-stands h n t (was_reset token) q f hear e =
+found-stands h n t (was_reset token) x q f same hear e =
     subst (Holds h t (Requests q)) (some-is _ f e) (refl, refl)
-found-stands h n t no_news q f hear e = absurd (none-some f e)
-found-stands h n t (timed_out token) q f hear e = absurd (none-some f e)
-found-stands h n t was_dropped q f hear e = absurd (none-some f e)
+found-stands h n t no_news x q f same hear e = absurd (none-some f e)
+found-stands h n t (timed_out token) x q f same hear e = absurd (none-some f e)
+found-stands h n t was_dropped x q f same hear e = absurd (none-some f e)
 
 -- The datagram stands first among what is drafted.
 heard-first : (h : List Written) (t : ℕ) (p : Peer) (d : List ℕ) (x : Heeding)
@@ -151,7 +157,7 @@ heard-first h t p d x = got-last h (written t (Hears p d)) _
 pub ended-so : (h : List Written) (t : ℕ) (p : Peer) (d : List ℕ) (x : Heeding) (told : Told)
     (ended : Option Exchange) (found : Option Found) (drafted : List Written)
     → drafted ≡ map (written t) (link_deeds p d x)
-    → IfSome ended (IsOpenedIn h) → found ≡ found_in (length h) told
+    → IfSome ended (IsOpenedIn h) → found ≡ found_in (length h) ended told
     → ((m : Content) → told ≡ response m → Spells m d)
     → AllByRecursion (EndsIn h drafted t) (ended_by ended found)
 ended-so h t p d x told None found drafted es opened is spelled = tt
@@ -169,7 +175,8 @@ ended-so h t p d x told (Some e) (Some f) drafted es opened is spelled =
     }
 
     holds : Holds (h ++ drafted) t (Requests opened.request) f
-    holds = found-stands (h ++ drafted) (length h) t told opened.request f hear (sym is)
+    holds = found-stands (h ++ drafted) (length h) t told e opened.request f opened.method hear
+        (sym is)
 
 -- what the link says leaves the connections
 confirmed-conns : (t : ℕ) (p : Peer) (bs : List (List ℕ)) (ds : List Deed) (S : State)
@@ -221,7 +228,8 @@ ends-told t p d x ended found S =
 pub heard-leads : (t : ℕ) (p : Peer) (d : List ℕ) (x : Heeding) (told : Told) (S : State)
     (xs : List Ended) (d0 d1 : DraftValue)
     → Drafts t S (link_deeds p d x) d0 → d0.answers ≡ []
-    → xs ≡ ended_by (ended_in (over_in x) S.exchanges) (found_in (length S.entries) told)
+    → xs ≡ ended_by (ended_in (over_in x) S.exchanges)
+    (found_in (length S.entries) (ended_in (over_in x) S.exchanges) told)
     → ((U : State) → Leads t S U d0 → Leads t S (finished t xs U) d1)
     → Leads t S (entered_all t (hearing_deeds p d x told S) S) d1
 heard-leads t p d x told S xs d0 d1 drafts none are more =
@@ -234,7 +242,8 @@ heard-leads t p d x told S xs d0 d1 drafts none are more =
     } in
     subst (λ (V : State). Leads t S V d1)
     (ap (λ (ys : List Ended). finished t ys U) are
-    ∙ ends-told t p d x (ended_in (over_in x) S.exchanges) (found_in (length S.entries) told) S)
+    ∙ ends-told t p d x (ended_in (over_in x) S.exchanges)
+    (found_in (length S.entries) (ended_in (over_in x) S.exchanges) told) S)
     (more U first)
 
 -- how many there are
@@ -326,9 +335,10 @@ pub hearing-few : (p : Peer) (d : List ℕ) (x : Heeding) (told : Told) (S : Sta
     → AllByRecursion IsNoConn (hearing_deeds p d x told S)
 hearing-few p d x told S =
     all-joined (link_deeds p d x) (told_by (ended_in (over_in x) S.exchanges)
-    (found_in (length S.entries) told) S.conns) (
+    (found_in (length S.entries) (ended_in (over_in x) S.exchanges) told) S.conns) (
       tt,
       all-joined (map (confirm p) (listed x.reply)) (sent_first p x.next)
           (confirms-few p (listed x.reply)) (next-few p x.next),
     )
-    (told-few (ended_in (over_in x) S.exchanges) (found_in (length S.entries) told) S.conns)
+    (told-few (ended_in (over_in x) S.exchanges)
+    (found_in (length S.entries) (ended_in (over_in x) S.exchanges) told) S.conns)

@@ -22,7 +22,7 @@ use Rattle.exchange_model.specs.declared.kept.Conn.{Conn}
 use Rattle.exchange_model.specs.declared.kept.Exchange.{Exchange}
 use Rattle.exchange_model.specs.State.{State, link_of, with_link}
 use Rattle.exchange_model.specs.Steps.{is_other}
-use Rattle.exchange_model.specs.Calls.{ended_in, grounds_by, heard}
+use Rattle.exchange_model.specs.Calls.{ended_in, method_in, grounds_by, heard}
 use Rattle.exchange_model.specs.Entering.{entered_all, first_deeds, in_turn, going_as, sent_as, told_if, confirm, heeded, garbled, IsMid, Comes}
 use Rattle.exchange_model.proofs.CallerLemmas.{garbled-enters, is-bytes, message-enters}
 use Rattle.exchange_core.specs.declared.state.Endpoint.{Endpoint}
@@ -58,7 +58,7 @@ module _ (t : ℕ) (p : Peer) (d : List ℕ) (S : State) (link : LinkValue) (x :
   n = length S.entries
 
   pub heeded-so : (told : Told) (g : Grounds) → MayHeed t link x → link.state ≡ link_of S.links p
-      → told_by ended (found_in n told) S.conns ≡ told_if g ended S.conns
+      → told_by ended (found_in n ended told) S.conns ≡ told_if g ended S.conns
       → heeded t p d x.mid x.token x.verdict g S ≡ hearing_state t p d x told S
   heeded-so told g h at same =
       let s = link_of S.links p in
@@ -107,17 +107,15 @@ not-lost v e f = true-false (sym (ap is_lost f) ∙ e)
     true-false k = cc
 
 message-is : (t : ℕ) (p : Peer) (d : List ℕ) (S : State) (m : Content) (x : Heeding)
-    (g : News → ℕ → Grounds)
+    (g : Verdict → List ℕ → Grounds)
     → x.mid ≡ m.mid → x.token ≡ m.token → x.verdict ≡ verdict_of t (link_of S.links p) m
     → heeded t p d m.mid m.token (verdict_of t (link_of S.links p) m)
-    (g (verdict_of t (link_of S.links p) m).news (length S.entries)) S
-    ≡ heeded t p d x.mid x.token x.verdict (g x.verdict.news (length S.entries)) S
+    (g (verdict_of t (link_of S.links p) m) m.token) S
+    ≡ heeded t p d x.mid x.token x.verdict (g x.verdict x.token) S
 message-is t p d S m x g mid token verdict =
-    sym (ap (λ (k : ℕ). heeded t p d k x.token x.verdict (g x.verdict.news (length S.entries)) S)
-    mid
-    ∙ (ap (λ (k : List ℕ). heeded t p d m.mid k x.verdict (g x.verdict.news (length S.entries)) S)
-    token
-    ∙ ap (λ (v : Verdict). heeded t p d m.mid m.token v (g v.news (length S.entries)) S) verdict))
+    sym (ap (λ (k : ℕ). heeded t p d k x.token x.verdict (g x.verdict x.token) S) mid
+    ∙ (ap (λ (k : List ℕ). heeded t p d m.mid k x.verdict (g x.verdict k) S) token
+    ∙ ap (λ (v : Verdict). heeded t p d m.mid m.token v (g v m.token) S) verdict))
 
 none-is : (t : ℕ) (p : Peer) (d : List ℕ) (S : State) (k : Option ℕ) (x : Heeding) (g : Grounds)
     → x.verdict ≡ unread_verdict k → heeded t p d x.mid x.token (garbled k) g S
@@ -135,7 +133,8 @@ quiet (Some mid) = refl
 
 nothing-told : (v : News) (token : List ℕ) (n : ℕ) (told : Told) (g : Grounds)
     (es : List Exchange) (cs : List Conn) → v ≡ N.Quiet
-    → told_by (ended_in (ended_token v token) es) (found_in n told) cs
+    → told_by (ended_in (ended_token v token) es)
+    (found_in n (ended_in (ended_token v token) es) told) cs
     ≡ told_if g (ended_in (ended_token v token) es) cs
 nothing-told v token n told g es cs e = rw (e) refl
 
@@ -165,17 +164,20 @@ heard-so t p d S link h come i at = by (message_at d) refl i.is
     by (Ok m) is read =
         let verdict : x.verdict ≡ verdict_of t (link_of S.links p) m =
         read.verdict ∙ ap (λ (u : LinkState). verdict_of t u m) at in
-        let same : told_by (ended_in over S.exchanges) (found_in n (told h.up)) S.conns
-        ≡ told_if (grounds_by x.verdict.news n m) (ended_in over S.exchanges) S.conns =
-        ap (λ (u : Told). told_by (ended_in over S.exchanges) (found_in n u) S.conns) read.up
+        let ended : Option Exchange = ended_in over S.exchanges in
+        let g : Verdict → List ℕ → Grounds = λ v token.
+        grounds_by v.news n (method_in (ended_in (ended_token v.news token) S.exchanges)) m in
+        let same : told_by ended (found_in n ended (told h.up)) S.conns
+        ≡ told_if (g x.verdict x.token) ended S.conns =
+        ap (λ (u : Told). told_by ended (found_in n ended u) S.conns) read.up
         ∙ told-same n m x.verdict.news x.token S.exchanges S.conns in
         record {
-          grounds = grounds_by x.verdict.news n m;
+          grounds = g x.verdict x.token;
           is =
               message-enters t p d m S come is
               (λ e. not-lost x.verdict.news read.kept (ap (λ (v : Verdict). v.news) verdict ∙ e))
-              ∙ message-is t p d S m x (λ v k. grounds_by v k m) read.mid read.token verdict;
-          so = heeded-so t p d S link x (told h.up) (grounds_by x.verdict.news n m) i.ready at same;
+              ∙ message-is t p d S m x g read.mid read.token verdict;
+          so = heeded-so t p d S link x (told h.up) (g x.verdict x.token) i.ready at same;
         }
     by (Err e) is read =
         let g : Grounds = Fault Reset 0 in

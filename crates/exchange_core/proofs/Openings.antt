@@ -29,6 +29,7 @@ opened-in l S e r x = record {
   sense =
       begins-sense (before l e.opening) e.since x.ask.sense x.request
       (follows-at l e.opening _ r.legal x.stands).3;
+  method = x.method;
 }
 
 -- of each of them

@@ -20,7 +20,7 @@ use Rattle.exchange_model.proofs.CallerLemmas.{conns-rise}
 use Rattle.exchange_core.specs.Places.{id_of, has_id}
 use Rattle.exchange_table.specs.Places.{RiseBy, IsNowhere, IsOnlyAt}
 use Rattle.exchange_table.specs.Tables.{IsLatest}
-use Rattle.exchange_table.proofs.CallerLemmas.{Tells, rise-map, map-none, map-only, only-is}
+use Rattle.exchange_table.proofs.CallerLemmas.{map-none, map-only, only-is, rise-map, Tells}
 
 -- what passes a test bears the number
 

@@ -19,3 +19,4 @@ pub record IsOpenedIn (h : List Written) (e : Exchange) : Type 0 where
   pub request : CoapRequest
   pub stands : slice_get h e.opening ≡ Some (written e.since (Asks e.conn ask))
   pub sense : ask.sense ≡ Requests request
+  pub method : request.method ≡ e.method

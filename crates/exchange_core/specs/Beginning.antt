@@ -40,13 +40,19 @@ pub record IsTextFor (sense : Sense) (token text : List ℕ) : Type 0 where
   pub spelled : Spells (request_message request 0 token) text
   pub short : length text ≤ MAX_MESSAGE_LEN
 
+-- the code of the request that is asked, or 0 where none is
+abbrev pub asked_method : Sense → ℕ
+asked_method (Requests q) = q.method
+asked_method (Refuses cause status) = 0
+
 -- the exchange that the ask with this number opens
-abbrev pub exchange_by : ℕ → ℕ → List ℕ → Peer → Option FirstSending → ℕ → Exchange
-exchange_by t c token p sent n = record {
+abbrev pub exchange_by : ℕ → ℕ → List ℕ → Peer → ℕ → Option FirstSending → ℕ → Exchange
+exchange_by t c token p method sent n = record {
   opening = n;
   token = token;
   since = t;
   peer = p;
+  method = method;
   conn = c;
   sending = option_map (λ (x : FirstSending). n + 1) sent;
 }

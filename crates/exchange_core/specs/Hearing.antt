@@ -4,7 +4,7 @@ use Rattle.coap_codec.specs.Spelling.{Content}
 use Rattle.uri_map.specs.declared.peer.Peer.{Peer}
 use Rattle.ask_model.specs.declared.cause.Cause.TheVariants.{Reset}
 use Rattle.journal_book.specs.Entries.{Fault, Deed, Hears}
-use Rattle.history_laws.specs.Responses.{Response, is_whole, response_of}
+use Rattle.history_laws.specs.Responses.{whole_in}
 use Rattle.reply_reading.specs.Findings.{Found, Fails, found_by}
 use Rattle.message_layer.specs.Values.{LinkState, Told, response, was_reset}
 use Rattle.message_layer.specs.Hearing.{applied, listed}
@@ -14,7 +14,7 @@ use Rattle.history_links.specs.Steps.{ended_token}
 use Rattle.exchange_model.specs.declared.kept.Conn.{Conn}
 use Rattle.exchange_model.specs.declared.kept.Exchange.{Exchange}
 use Rattle.exchange_model.specs.State.{State, link_of, with_link}
-use Rattle.exchange_model.specs.Calls.{ended_in}
+use Rattle.exchange_model.specs.Calls.{ended_in, method_in}
 use Rattle.exchange_model.specs.Steps.{given_out, went_out, is_other}
 use Rattle.exchange_model.specs.Entering.{awaits_no_more, entered_all, confirm, told_deeds}
 use Rattle.exchange_core.specs.declared.ending.Ended.{Ended}
@@ -22,15 +22,12 @@ use Rattle.exchange_core.specs.Sending.{sent_first}
 use Rattle.exchange_core.specs.Drafts.{DraftValue}
 use Rattle.exchange_core.specs.States.{with_draft}
 
--- the whole response that a message is
-abbrev pub whole_in : Content → Option Response
-whole_in m = if is_whole m then Some (response_of m) else None
-
--- what is found by what a link tells of the datagram in the entry with this number
-abbrev pub found_in : ℕ → Told → Option Found
-found_in n (response m) = Some (found_by n (whole_in m))
-found_in n (was_reset token) = Some (record { told = Fails Reset; grounds = Fault Reset n })
-found_in n _ = None
+-- what is found of the exchange that ends by what a link tells of the datagram in the entry with this
+-- number
+abbrev pub found_in : ℕ → Option Exchange → Told → Option Found
+found_in n e (response m) = Some (found_by n (whole_in (method_in e) m))
+found_in n e (was_reset token) = Some (record { told = Fails Reset; grounds = Fault Reset n })
+found_in n e _ = None
 
 -- the token under which nothing is awaited any more
 abbrev pub over_in : Heeding → Option (List ℕ)
@@ -69,8 +66,8 @@ link_deeds p d x = Hears p d ∷ (map (confirm p) (listed x.reply) ++ sent_first
 -- all that the datagram brings
 abbrev pub hearing_deeds : Peer → List ℕ → Heeding → Told → State → List Deed
 hearing_deeds p d x told S =
-    link_deeds p d x
-    ++ told_by (ended_in (over_in x) S.exchanges) (found_in (length S.entries) told) S.conns
+    let e = ended_in (over_in x) S.exchanges in
+    link_deeds p d x ++ told_by e (found_in (length S.entries) e told) S.conns
 
 -- the state after it
 abbrev pub hearing_state : ℕ → Peer → List ℕ → Heeding → Told → State → State

@@ -13,7 +13,7 @@ ghost use Rattle.exchange_model.specs.State.{State as CoreState, link_of};
 ghost use Rattle.exchange_model.specs.Calls.{peer_of};
 ghost use Rattle.exchange_model.specs.Resting.{HasConn};
 ghost use Rattle.exchange_model.specs.Room.{AreApart};
-ghost use Rattle.exchange_core.specs.Beginning.{IsRequest, IsTextFor, with_exchange, IsBegun, IsBegunBy, IsEntered, MayBegin, exchange_by};
+ghost use Rattle.exchange_core.specs.Beginning.{IsRequest, IsTextFor, with_exchange, IsBegun, IsBegunBy, IsEntered, MayBegin, asked_method, exchange_by};
 ghost use Rattle.exchange_core.specs.Sending.{IsTimed, sent_first};
 ghost use Rattle.exchange_core.specs.Drafts.{Drafts};
 ghost use Rattle.exchange_core.specs.Places.{id_of};
@@ -32,7 +32,7 @@ use crate::sealing::seal;
 use crate::sending::draft_first;
 use crate::state::{State, commit, make_places};
 use crate::submitting::{self, Prepared};
-use ask_model::{Bytes, Mapped};
+use ask_model::{Bytes, Mapped, Meaning};
 use coap_codec::Token;
 use exchange_model::Exchange;
 use journal_book::{Entry, Event};
@@ -128,6 +128,16 @@ fn add_exchange<R: Relation>(
     commit(s, draft, moment);
 }
 
+/// The code of the request that is asked, or 0 where none is.
+fn method_of<R: Relation>(mapped: &Mapped<R>) -> u8
+    ensures { result ≡ asked_method mapped.now.sense }
+{
+    match mapped.meaning() {
+        Meaning::Ask { method, .. } => method.code(),
+        Meaning::Refuse(_, _) => 0,
+    }
+}
+
 /// The exchange that the ask with this number opens, whose message goes out at once where it is sent.
 fn exchange_of(
     opening: u32,
@@ -135,10 +145,11 @@ fn exchange_of(
     conn: u32,
     token: Token,
     peer: Peer,
+    method: u8,
     sent: &Option<FirstSending>,
 ) -> Exchange
     requires { opening ≤ MAX_ENTRIES }
-    ensures { result ≡ exchange_by moment conn token peer sent.now opening }
+    ensures { result ≡ exchange_by moment conn token peer method sent.now opening }
 {
     let sending = match sent {
         Some(_) => Some(opening + 1),
@@ -149,6 +160,7 @@ fn exchange_of(
         token,
         since: moment,
         peer,
+        method,
         conn,
         sending,
     }
@@ -257,7 +269,8 @@ fn ask<R: Relation>(
     let sent = &prepared.submission.sent;
     let draft = draft_ask(alloc, s, moment, conn, &mapped, peer, sent)?;
     let number = s.journal.len() as u32;
-    let exchange = exchange_of(number, moment, conn, token, peer, sent);
+    let method = method_of(&mapped);
+    let exchange = exchange_of(number, moment, conn, token, peer, method, sent);
     match enter(s, exchange, prepared, draft, moment) {
         Ok(()) => Ok(Ticket {
             conn,

@@ -13,7 +13,7 @@ ghost use Rattle.message_layer.specs.Values.{told, response};
 ghost use Rattle.message_layer.specs.Hearing.{listed};
 ghost use Rattle.message_layer.specs.Prepared.{IsPreparedFor, IsHearing, MayHeed};
 ghost use Rattle.exchange_model.specs.State.{State as CoreState, link_of, with_link};
-ghost use Rattle.exchange_model.specs.Calls.{ended_in};
+ghost use Rattle.exchange_model.specs.Calls.{ended_in, method_in};
 ghost use Rattle.exchange_model.specs.Steps.{is_other};
 ghost use Rattle.exchange_model.specs.Entering.{confirm};
 ghost use Rattle.exchange_model.specs.Sealing.{hears_in_room};
@@ -84,12 +84,31 @@ fn ended_exchange(exchanges: &Exchanges, over: Option<Token>) -> Option<Exchange
     }
 }
 
-/// What is found by what the link tells of the datagram in the entry with this number.
-fn finding_in(alloc: Global, number: u32, up: Up) -> Result<Option<Finding>, AllocError>
-    ensures { IfOk result (λ o. o ≡ found_in number (told up)) }
+/// The code of its request, or 0 where there is no exchange.
+fn method_in(exchange: &Option<Exchange>) -> u8
+    ensures { result ≡ method_in exchange.now }
+{
+    match exchange {
+        Some(exchange) => exchange.method,
+        None => 0,
+    }
+}
+
+/// What is found of the exchange that ends, by what the link tells of the datagram in the entry with
+/// this number.
+fn finding_in(
+    alloc: Global,
+    number: u32,
+    ended: &Option<Exchange>,
+    up: Up,
+) -> Result<Option<Finding>, AllocError>
+    ensures { IfOk result (λ o. o ≡ found_in number ended.now (told up)) }
 {
     match up {
-        Up::Response(message) => Ok(Some(finding_of(alloc, number, message)?)),
+        Up::Response(message) => {
+            let finding = finding_of(alloc, method_in(ended), number, message)?;
+            Ok(Some(finding))
+        }
         Up::Reset(_) => Ok(Some(Finding::fault(Cause::Reset, number))),
         _ => Ok(None),
     }
@@ -178,12 +197,12 @@ fn ended_by(
     heeding: &Heeding,
     up: Up,
 ) -> Result<VecDeque<Ended>, AllocError>
-    ensures { IfOk result (λ v. v.items
-        ≡ ended_by (ended_in (over_in heeding.now) exchanges.now.exchanges) (found_in number (told up))) }
+    ensures { let e = ended_in (over_in heeding.now) exchanges.now.exchanges in
+        IfOk result (λ v. v.items ≡ ended_by e (found_in number e (told up))) }
 {
     let mut ended = VecDeque::new(alloc);
     let exchange = ended_exchange(exchanges, ended_token(heeding));
-    let finding = finding_in(alloc, number, up)?;
+    let finding = finding_in(alloc, number, &exchange, up)?;
     if let (Some(exchange), Some(finding)) = (exchange, finding) {
         ended.push_back(Ended { exchange, finding })?;
     }

@@ -106,6 +106,7 @@ begins-leads l t c a q token text word S b may who sense room spelled size numbe
               request = q;
               opening = rw (eqb-itself (length l)) refl;
               peer = refl;
+              method = refl;
               number = ap (λ (v : List Noted). length (openings v)) (before-new x l) ∙ (r.issued_are ∙ sym number);
               sending = none.0;
               sent = fresh;

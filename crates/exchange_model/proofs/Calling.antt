@@ -28,7 +28,7 @@ use Rattle.exchange_model.specs.State.{State, link_of, pend}
 use Rattle.exchange_model.specs.Reads.{Reads}
 use Rattle.exchange_model.specs.Steps.{opens, asks, begins, hears, hears_nothing}
 use Rattle.exchange_model.specs.Resting.{HasConn}
-use Rattle.exchange_model.specs.Calls.{Numbers, next, refused, has_place, asked_by, asked, given_back, ended_in, grounds_by, takes_new, takes_by, repeats, resets, reads_so, heard}
+use Rattle.exchange_model.specs.Calls.{Numbers, next, refused, has_place, asked_by, asked, given_back, grounds_by, takes_new, takes_by, repeats, resets, reads_so, heard, method_in, ended_by, grounds_of}
 use Rattle.exchange_model.specs.Room.{has_asked}
 use Rattle.exchange_model.proofs.Adding.{Adds, stays, both-add, at-most, counted, still-adds, given-adds, next-adds, answers-adds, ends-if-adds}
 use Rattle.exchange_model.proofs.Tallies.{id-once}
@@ -110,18 +110,18 @@ asked-adds l t c a n S r h has short = by a.sense
 
 -- A datagram, its ACK or RST, the next message, and an answer.
 
-grounds-small : (news : News) (n : ℕ) (m : Content) → grounds_size (grounds_by news n m) ≤ 4
-grounds-small news n m = by news
+grounds-small : (news : News) (n k : ℕ) (m : Content) → grounds_size (grounds_by news n k m) ≤ 4
+grounds-small news n k m = by news
   where
     either : (b : Bool) → grounds_size (cond b (Live (n ∷ [])) (Fault C.NotUnderstood n)) ≤ 4
     either true = omega arith
     either false = omega arith
 
-    by : (news : News) → grounds_size (grounds_by news n m) ≤ 4
+    by : (news : News) → grounds_size (grounds_by news n k m) ≤ 4
     by (N.Reset token) = omega arith
-    by N.Quiet = either (is_whole m)
-    by N.Response = either (is_whole m)
-    by N.Lost = either (is_whole m)
+    by N.Quiet = either (is_whole k m)
+    by N.Response = either (is_whole k m)
+    by N.Lost = either (is_whole k m)
 
 nothing-adds : (t : ℕ) (p : Peer) (d : List ℕ) (S : State) → Tidy S.links → length d ≤ 2048
     → Adds 1 2112 S (hears_nothing t p d S)
@@ -148,9 +148,8 @@ new-adds t p d m v S h short =
     let two = given-adds t p m.mid v.reply S1 tidy in
     let S3 = next t p S2 in
     let three = next-adds t p S2 two.tidy in
-    let g = grounds_by v.news (length S.entries) m in
-    let four = ends-if-adds t g (ended_in (ended_token v.news m.token) S.exchanges) S3 three.tidy
-    (grounds-small v.news (length S.entries) m) in
+    let four = ends-if-adds t (grounds_of v m S) (ended_by v m S) S3 three.tidy
+    (grounds-small v.news (length S.entries) (method_in (ended_by v m S)) m) in
     at-most 3 4260 3 4260 S _ (omega arith) (omega arith)
     (both-add 3 4260 0 0 S S3 _
     (both-add 2 2180 1 2080 S S2 S3 (both-add 1 2112 1 68 S S1 S2 one two) three) four)

@@ -89,7 +89,7 @@ expires-alike l t links e legal agrees a = by e.sending a.sent ∙ ap (ends_at l
 -- What awaits a reply goes on.
 
 going-step : (x : Noted) (l : List Noted) (o i : ℕ) → Follows l x.written.moment x.written.deed x.note → (waits_for l o ≡ Some i → end_of l o ≡ None)
-    → (u : Turn) → turn l o x ≡ u → waits_by u (waits_for l o) ≡ Some i → end_by (end_here (length l) (replies l o) u) (length l) (end_of l o) ≡ None
+    → (u : Turn) → turn l o x ≡ u → waits_by u (waits_for l o) ≡ Some i → end_by (end_here (begun l o) (length l) (replies l o) u) (length l) (end_of l o) ≡ None
 going-step x l o i follows ih (Sent j) w e =
     let s = turn-sent l o x j w in
     waiting-goes l s.peer o (may-be x l x.written.moment o s.peer s.bytes s.timeout s.message follows s.entry).waits

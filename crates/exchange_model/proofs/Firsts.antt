@@ -71,6 +71,7 @@ mine l t p bytes timeout o m w waits a token e h under true is =
       request = h.request;
       opening = begun-keeps x l e.opening _ h.opening;
       peer = h.peer;
+      method = h.method;
       number = rank-keeps x l e.opening _ h.opening ∙ h.number;
       sending = waits-sent l t p bytes timeout o m e.opening ∙ ap (λ (k : ℕ). cond (eqb o k) (Some (length l)) (waits_for l k)) (sym at) ∙ rw (eqb-itself o) refl;
       sent = (f, rw (eqb-itself (length l)) refl, sym (same_peer-same h.request.peer p peer) ∙ h.peer, token ∙ sym same);

@@ -24,7 +24,7 @@ use Rattle.exchange_model.specs.declared.kept.Conn.{Conn}
 use Rattle.exchange_model.specs.declared.kept.Exchange.{Exchange}
 use Rattle.exchange_model.specs.State.{State, link_of, conns_after}
 use Rattle.exchange_model.specs.Steps.{opens, asks, answers, shuts, seals, begins, hears, hears_nothing, sends_first, sends_copy, is_past, passes}
-use Rattle.exchange_model.specs.Calls.{Numbers, next_by, next, refused, has_place, asked_by, asked, given_back, waits_on, ends, ends_if, ended_in, grounds_by, takes_new, takes_by, repeats, resets, reads_so, heard, is_due, moves_by, moves, move_all, peer_of, timed_out, times_out, something_due, ticked}
+use Rattle.exchange_model.specs.Calls.{Numbers, next_by, next, refused, has_place, asked_by, asked, given_back, waits_on, ends, ends_if, takes_new, takes_by, repeats, resets, reads_so, heard, is_due, moves_by, moves, move_all, peer_of, timed_out, times_out, something_due, ticked, ended_by, grounds_of}
 use Rattle.exchange_model.specs.Room.{fits}
 use Rattle.exchange_model.specs.Sealing.{in_room, if_unsealed, opens_in_room, asks_in_room, hears_in_room, late, ticks_in_room}
 use Rattle.exchange_model.specs.Growing.{conns_with, Adds, OpensAdd, ShutsAdd, SealsAdd, AsksAdd, HearsAdd, LateAdds, TicksAdd, at_moment, OpensAlone, IsOfAsk, AsksAnswer, by_client, HearsAnswer, TicksAnswer}
@@ -197,8 +197,8 @@ heard-such t p d S =
         (both t Inner S S1 S2 (one t Inner (Hears p d) S S1 refl refl refl)
         (given-such t Inner sends-inner p (replies m.mid v.reply) S1))
         (next-such t Inner sends-inner p S2))
-        (ends-if-such t Inner answer-inner (grounds_by v.news (length S.entries) m)
-        (ended_in (ended_token v.news m.token) S.exchanges) S3)
+        (ends-if-such t Inner answer-inner (grounds_of v m S)
+        (ended_by v m S) S3)
 
     taken : (m : Content) (v : Verdict) (news : News) → Such t Inner S (takes_by t p d m v news S)
     taken m v N.Lost = none t Inner S

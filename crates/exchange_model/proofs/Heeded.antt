@@ -23,7 +23,7 @@ use Rattle.exchange_model.specs.declared.kept.Conn.{Conn}
 use Rattle.exchange_model.specs.declared.kept.Exchange.{Exchange}
 use Rattle.exchange_model.specs.State.{PeerLink, State, link_of, with_link}
 use Rattle.exchange_model.specs.Steps.{given_out, answers, hears, hears_nothing, confirms, is_other}
-use Rattle.exchange_model.specs.Calls.{next_by, next, given_back, waits_on, ends_if, ended_in, grounds_by, takes_new, takes_by, repeats, resets, reads_so, heard}
+use Rattle.exchange_model.specs.Calls.{next_by, next, given_back, waits_on, ends_if, ended_in, takes_new, takes_by, repeats, resets, reads_so, heard, grounds_of}
 use Rattle.exchange_model.specs.Entering.{awaits_no_more, going_as, sent_as, first_deeds, in_turn, told_if, confirm, heeded, garbled, IsMid, Comes, MessageEnters, GarbledEnters}
 use Rattle.exchange_model.proofs.Entered.{put, after, next-put, entries-more, link-there, out-at, given-itself}
 use Rattle.exchange_model.proofs.Idle.{repeat-idle}
@@ -69,7 +69,7 @@ turn-ended false None ws h = ap (in_turn true) h
 
 new-heeded : (t : ℕ) (p : Peer) (d : List ℕ) (m : Content) (S : State) → Comes t p d S
     → let v = verdict_of t (link_of S.links p) m in takes_new t p d m v S
-    ≡ heeded t p d m.mid m.token v (grounds_by v.news (length S.entries) m) S
+    ≡ heeded t p d m.mid m.token v (grounds_of v m S) S
 new-heeded t p d m S come =
     after t (H ++ F) G es2 es2 xs2 xs2 S C (ends_if t g ends C) whole told
     ∙ ap (λ (ds : List Deed). put t (Hears p d ∷ ds) es2 xs2 S) (append_assoc R F G)
@@ -87,7 +87,7 @@ new-heeded t p d m S come =
     ends = ended_in over S.exchanges
 
     g : Grounds
-    g = grounds_by v.news (length S.entries) m
+    g = grounds_of v m S
 
     new : LinkState
     new = heard_link t m.mid m.token v s
@@ -242,10 +242,10 @@ message-enters t p d m S come e kept = heard-read t p d (Ok m) S come e ∙ by (
     by : (b : Bool) → repeats t s m ≡ b → cond b
         (given_back t p (replies m.mid v.reply) (hears_nothing t p d S))
         (takes_by t p d m v v.news S)
-        ≡ heeded t p d m.mid m.token v (grounds_by v.news (length S.entries) m) S
+        ≡ heeded t p d m.mid m.token v (grounds_of v m S) S
     by true k =
         let i = repeat-idle t s m m.kind k in
-        idle-heeded t p d m.mid m.token v (grounds_by v.news (length S.entries) m) S come i.0 i.1
+        idle-heeded t p d m.mid m.token v (grounds_of v m S) S come i.0 i.1
         (quiet v.news i.2 kept)
     by false k = taken t p d m v v.news S kept ∙ new-heeded t p d m S come
 

@@ -45,7 +45,7 @@ use Rattle.exchange_model.specs.Reads.{ExchangeIn}
 use Rattle.exchange_model.specs.Steps.{is_under, is_other, hears, hears_nothing}
 use Rattle.exchange_model.specs.Resting.{IsUndue, LinkRests, HasExchange, IsServed}
 use Rattle.exchange_model.specs.Laws.{Before, MayHear, Heeds}
-use Rattle.exchange_model.specs.Calls.{next, given_back, ended_in, ends_if, grounds_by, takes_new, takes_by, repeats, resets, reads_so}
+use Rattle.exchange_model.specs.Calls.{next, given_back, ended_in, ends_if, takes_new, takes_by, repeats, resets, reads_so, grounds_of}
 use Rattle.exchange_model.specs.Keeping.{HasMids, Kept, MayStep, HearsKeeps}
 use Rattle.exchange_model.proofs.Amid.{Amid, Moved, RestAt, IsEarly, next-moves, given-moves}
 use Rattle.exchange_model.proofs.Ending.{ServedWith, ends-told}
@@ -260,15 +260,15 @@ new-keeps t p d mess S m h spelled none room =
 
     told : (n : List Noted) (S3 : State) (v : Option Exchange) → ended_in (ended_token (verdict_of t (link_of S.links p) mess).news mess.token) S.exchanges ≡ v → Amid n t S3 → owed n ≡ None → ((q : Peer) → RestAt n S3 q)
         → ServedWith S3.exchanges (over-list v) S3.conns
-        → ((e : Exchange) → ended_in (ended_token (verdict_of t (link_of S.links p) mess).news mess.token) S.exchanges ≡ Some e → IsOver n e (grounds_by (verdict_of t (link_of S.links p) mess).news (length S.entries) mess))
-        → Kept (ends_if t (grounds_by (verdict_of t (link_of S.links p) mess).news (length S.entries) mess) v S3)
+        → ((e : Exchange) → ended_in (ended_token (verdict_of t (link_of S.links p) mess).news mess.token) S.exchanges ≡ Some e → IsOver n e (grounds_of (verdict_of t (link_of S.links p) mess) mess S))
+        → Kept (ends_if t (grounds_of (verdict_of t (link_of S.links p) mess) mess S) v S3)
     told n S3 None is amid quiet rest served over = record {
       reading = n;
       rests = record { reads = amid.before.reads; quiet = quiet; links = rest; in_time = amid.in_time; served = all-more _ _ (λ y k. only S3.exchanges y.pending k) S3.conns served };
       mids = amid.mids;
     }
     told n S3 (Some e) is amid quiet rest served over =
-        let made = ends-told n t S3 e [] (grounds_by (verdict_of t (link_of S.links p) mess).news (length S.entries) mess) amid quiet rest served (over e is) in
+        let made = ends-told n t S3 e [] (grounds_of (verdict_of t (link_of S.links p) mess) mess S) amid quiet rest served (over e is) in
         record {
           reading = made.0;
           rests = record { reads = made.1.amid.before.reads; quiet = made.1.quiet; links = made.1.rest; in_time = made.1.amid.in_time; served = all-more _ _ (λ y k. only _ y.pending k) _ made.1.served };

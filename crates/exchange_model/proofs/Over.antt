@@ -21,7 +21,7 @@ use Rattle.message_layer.specs.declared.verdict.News.TheVariants as N
 use Rattle.message_layer.specs.declared.verdict.Verdict.{Verdict}
 use Rattle.history_laws.specs.Readings.{Noted}
 use Rattle.history_laws.specs.Progress.{Reply, Ending, Whole, NotUnderstood, Reset}
-use Rattle.history_laws.specs.Exchanges.{Turn, Replied, Rejected, answered_by, turn, waits_for, replies, end_here, end_of, open_exchanges}
+use Rattle.history_laws.specs.Exchanges.{Begun, begun, Turn, Replied, Rejected, answered_by, turn, waits_for, replies, end_here, end_of, open_exchanges}
 use Rattle.history_laws.specs.Hearing.{repeated, can_be_remembered, answers}
 use Rattle.history_laws.specs.Justified.{Ends}
 use Rattle.history_laws.proofs.CallerLemmas.{all-of, and-left, and-right, at-keeps, contains-map, entries-length, eqb-itself, find-some, open-exactly}
@@ -31,7 +31,7 @@ use Rattle.exchange_model.specs.declared.kept.Exchange.{Exchange}
 use Rattle.exchange_model.specs.State.{State, link_of}
 use Rattle.exchange_model.specs.Reads.{ExchangeIn, opening_of}
 use Rattle.exchange_model.specs.Steps.{is_under, is_other}
-use Rattle.exchange_model.specs.Calls.{ended_in, grounds_by}
+use Rattle.exchange_model.specs.Calls.{ended_in, method_in, grounds_by, grounds_of}
 use Rattle.exchange_model.specs.Laws.{Before, MayHear}
 use Rattle.exchange_model.proofs.Borne.{split}
 use Rattle.exchange_model.proofs.Grounds.{GroundsOf, IsOver}
@@ -82,7 +82,7 @@ reset-only m (Some o) token of e = elim (split ((eqb m.code 0) && (eqb o.mid m.m
 
 -- how it ends
 
-ends-now : (l : List Noted) (o : ℕ) (x : Noted) (u : Turn) (how : Ending) → turn l o x ≡ u → end_of l o ≡ None → end_here (length l) (replies l o) u ≡ Some how → Ends (x ∷ l) o (length l) how
+ends-now : (l : List Noted) (o : ℕ) (x : Noted) (u : Turn) (how : Ending) → turn l o x ≡ u → end_of l o ≡ None → end_here (begun l o) (length l) (replies l o) u ≡ Some how → Ends (x ∷ l) o (length l) how
 ends-now l o x u how is going here = rw (is, going, here) refl
 
 turn-now : (l : List Noted) (t : ℕ) (p : Peer) (d : List ℕ) (m : Content) (o i : ℕ) → waits_for l o ≡ Some i → answers l p m ≡ Some i → turn l o (heard l t p d m) ≡ answered_by i m m.kind
@@ -95,38 +95,39 @@ is-to-it (Some j) i e = elim (eqb_tells j i) [ inl w ↦ ap Some w.1 | inr w ↦
 reply-of : ℕ → ℕ → Content → Reply
 reply-of n i m = record { number = n; sending = i; message = m }
 
-by-reply : (l : List Noted) (t : ℕ) (p : Peer) (d : List ℕ) (m : Content) (o i : ℕ) → turn l o (heard l t p d m) ≡ Replied i m → end_of l o ≡ None → (b : Bool) → is_whole m ≡ b
+by-reply : (l : List Noted) (t : ℕ) (p : Peer) (d : List ℕ) (m : Content) (o i : ℕ) (a : Begun) → begun l o ≡ Some a
+    → turn l o (heard l t p d m) ≡ Replied i m → end_of l o ≡ None → (b : Bool) → is_whole a.request.method m ≡ b
     → GroundsOf (heard l t p d m ∷ l) o (cond b (Live (length l ∷ [])) (Fault C.NotUnderstood (length l)))
 unfolding reply-of
-by-reply l t p d m o i turned going true is =
+by-reply l t p d m o i a opened turned going true is =
     let none = unreplied l o going in
-    (length l, response_of m, reply-of (length l) i m ∷ [], ends-now l o (heard l t p d m) (Replied i m) (Whole (response_of m) (reply-of (length l) i m ∷ [])) turned going (rw (none, is) refl), refl)
-by-reply l t p d m o i turned going false is =
+    (length l, response_of m, reply-of (length l) i m ∷ [], ends-now l o (heard l t p d m) (Replied i m) (Whole (response_of m) (reply-of (length l) i m ∷ [])) turned going (rw (none, opened, is) refl), refl)
+by-reply l t p d m o i a opened turned going false is =
     let none = unreplied l o going in
-    ends-now l o (heard l t p d m) (Replied i m) NotUnderstood turned going (rw (none, is) refl)
+    ends-now l o (heard l t p d m) (Replied i m) NotUnderstood turned going (rw (none, opened, is) refl)
 
-by-kind : (l : List Noted) (t : ℕ) (p : Peer) (d : List ℕ) (m : Content) (o i : ℕ) (s : LinkState) (of : List ℕ) (k : MsgType) → m.kind ≡ k → waits_for l o ≡ Some i → answers l p m ≡ Some i
+by-kind : (l : List Noted) (t : ℕ) (p : Peer) (d : List ℕ) (m : Content) (o i : ℕ) (s : LinkState) (of : List ℕ) (k : MsgType) (a : Begun) → begun l o ≡ Some a → m.kind ≡ k → waits_for l o ≡ Some i → answers l p m ≡ Some i
     → ends_by m.kind m.code ≡ true → end_of l o ≡ None → ended_token (verdict_by t s m k).news m.token ≡ Some of
-    → GroundsOf (heard l t p d m ∷ l) o (grounds_by (verdict_by t s m k).news (length l) m)
-by-kind l t p d m o i s of Rst kind waits to ends going ended =
+    → GroundsOf (heard l t p d m ∷ l) o (grounds_by (verdict_by t s m k).news (length l) a.request.method m)
+by-kind l t p d m o i s of Rst a opened kind waits to ends going ended =
     let turned = turn-now l t p d m o i waits to ∙ ap (answered_by i m) kind in
     let news = reset-only m s.outstanding m.token of ended in
-    subst (λ (n : News). GroundsOf (heard l t p d m ∷ l) o (grounds_by n (length l) m)) (sym news.1) (ends-now l o (heard l t p d m) Rejected Reset turned going refl)
-by-kind l t p d m o i s of Con kind waits to ends going ended =
+    subst (λ (n : News). GroundsOf (heard l t p d m ∷ l) o (grounds_by n (length l) a.request.method m)) (sym news.1) (ends-now l o (heard l t p d m) Rejected Reset turned going refl)
+by-kind l t p d m o i s of Con a opened kind waits to ends going ended =
     let response : leb 32 m.code ≡ true = subst (λ (k : MsgType). ends_by k m.code ≡ true) kind ends in
     let turned : turn l o (heard l t p d m) ≡ Replied i m = turn-now l t p d m o i waits to ∙ (ap (answered_by i m) kind ∙ rw (response) refl) in
     let news = response-only (verdict_by t s m Con).news m.token of (heard-news t s m true (find (is_repeat t m.mid) s.heard)) ended in
-    subst (λ (n : News). GroundsOf (heard l t p d m ∷ l) o (grounds_by n (length l) m)) (sym news) (by-reply l t p d m o i turned going (is_whole m) refl)
-by-kind l t p d m o i s of Non kind waits to ends going ended =
+    subst (λ (n : News). GroundsOf (heard l t p d m ∷ l) o (grounds_by n (length l) a.request.method m)) (sym news) (by-reply l t p d m o i a opened turned going (is_whole a.request.method m) refl)
+by-kind l t p d m o i s of Non a opened kind waits to ends going ended =
     let response : leb 32 m.code ≡ true = subst (λ (k : MsgType). ends_by k m.code ≡ true) kind ends in
     let turned : turn l o (heard l t p d m) ≡ Replied i m = turn-now l t p d m o i waits to ∙ (ap (answered_by i m) kind ∙ rw (response) refl) in
     let news = response-only (verdict_by t s m Non).news m.token of (heard-news t s m false (find (is_repeat t m.mid) s.heard)) ended in
-    subst (λ (n : News). GroundsOf (heard l t p d m ∷ l) o (grounds_by n (length l) m)) (sym news) (by-reply l t p d m o i turned going (is_whole m) refl)
-by-kind l t p d m o i s of Ack kind waits to ends going ended =
+    subst (λ (n : News). GroundsOf (heard l t p d m ∷ l) o (grounds_by n (length l) a.request.method m)) (sym news) (by-reply l t p d m o i a opened turned going (is_whole a.request.method m) refl)
+by-kind l t p d m o i s of Ack a opened kind waits to ends going ended =
     let response : leb 32 m.code ≡ true = subst (λ (k : MsgType). ends_by k m.code ≡ true) kind ends in
     let turned : turn l o (heard l t p d m) ≡ Replied i m = turn-now l t p d m o i waits to ∙ (ap (answered_by i m) kind ∙ rw (response) refl) in
     let news = response-only (verdict_by t s m Ack).news m.token of (ack-news s m) ended in
-    subst (λ (n : News). GroundsOf (heard l t p d m ∷ l) o (grounds_by n (length l) m)) (sym news) (by-reply l t p d m o i turned going (is_whole m) refl)
+    subst (λ (n : News). GroundsOf (heard l t p d m ∷ l) o (grounds_by n (length l) a.request.method m)) (sym news) (by-reply l t p d m o i a opened turned going (is_whole a.request.method m) refl)
 
 -- a kept exchange is open
 pub kept-open : (l : List Noted) (S : State) (e : Exchange) → Before l S.moment S → Contains S.exchanges e → end_of l e.opening ≡ None
@@ -137,14 +138,16 @@ kept-open l S e b has =
 
 pub heard-over : (l : List Noted) (t : ℕ) (p : Peer) (d : List ℕ) (m : Content) (S : State) → MayHear l t p d S → repeated l t p m ≡ None → can_be_remembered l t p m ≡ true
     → (e : Exchange) → ended_in (ended_token (verdict_of t (link_of S.links p) m).news m.token) S.exchanges ≡ Some e
-    → IsOver (heard l t p d m ∷ l) e (grounds_by (verdict_of t (link_of S.links p) m).news (length S.entries) m)
-heard-over l t p d m S h none room e is = by (ended_token (verdict_of t (link_of S.links p) m).news m.token) refl is
+    → IsOver (heard l t p d m ∷ l) e (grounds_of (verdict_of t (link_of S.links p) m) m S)
+heard-over l t p d m S h none room e is =
+    subst (λ (v : Option Exchange). IsOver (heard l t p d m ∷ l) e (grounds_by (verdict_of t (link_of S.links p) m).news (length S.entries) (method_in v) m)) (sym is)
+    (by (ended_token (verdict_of t (link_of S.links p) m).news m.token) refl is)
   where
     here : length S.entries ≡ length l
     here = ap length (sym h.before.reads.entries_are) ∙ entries-length l
 
     made : (of : List ℕ) → ended_token (verdict_of t (link_of S.links p) m).news m.token ≡ Some of → Contains S.exchanges e → is_under of e ≡ true → (a : ExchangeIn l e)
-        → (v : Option ℕ) → e.sending ≡ v → hit (answers l p m) m v ≡ true → IsOver (heard l t p d m ∷ l) e (grounds_by (verdict_of t (link_of S.links p) m).news (length S.entries) m)
+        → (v : Option ℕ) → e.sending ≡ v → hit (answers l p m) m v ≡ true → IsOver (heard l t p d m ∷ l) e (grounds_by (verdict_of t (link_of S.links p) m).news (length S.entries) e.method m)
     made of ended has under a None sending hits = absurd (false≢true hits)
     made of ended has under a (Some i) sending hits =
         let to = is-to-it (answers l p m) i (and-left (is_to (answers l p m) i) _ hits) in
@@ -154,12 +157,13 @@ heard-over l t p d m S h none room e is = by (ended_token (verdict_of t (link_of
           request = a.request;
           ask = a.ask;
           stands = at-keeps (heard l t p d m) l e.opening _ a.stands;
-          grounds = subst (λ (n : ℕ). GroundsOf (heard l t p d m ∷ l) e.opening (grounds_by (verdict_of t (link_of S.links p) m).news n m)) (sym here)
-              (by-kind l t p d m e.opening i (link_of S.links p) of m.kind refl (a.sending ∙ sending) to ends going ended);
+          grounds = subst (λ (n : ℕ). GroundsOf (heard l t p d m ∷ l) e.opening (grounds_by (verdict_of t (link_of S.links p) m).news n e.method m)) (sym here)
+              (subst (λ (k : ℕ). GroundsOf (heard l t p d m ∷ l) e.opening (grounds_by (verdict_of t (link_of S.links p) m).news (length l) k m)) a.method
+              (by-kind l t p d m e.opening i (link_of S.links p) of m.kind (record { since = e.since; request = a.request }) a.opening refl (a.sending ∙ sending) to ends going ended));
         }
 
     by : (ended : Option (List ℕ)) → ended_token (verdict_of t (link_of S.links p) m).news m.token ≡ ended → ended_in ended S.exchanges ≡ Some e
-        → IsOver (heard l t p d m ∷ l) e (grounds_by (verdict_of t (link_of S.links p) m).news (length S.entries) m)
+        → IsOver (heard l t p d m ∷ l) e (grounds_by (verdict_of t (link_of S.links p) m).news (length S.entries) e.method m)
     by None ended found = absurd cc
     by (Some of) ended found =
         let first = find-some (is_under of) S.exchanges e found in

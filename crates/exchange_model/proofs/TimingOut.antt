@@ -1,5 +1,5 @@
 -- What a tick ends is over, and is told so.
-use Rattle.std.proofs.Common.{◌≡◌, ℕ, ◌⊎◌, true, inl, inr, List, [], ◌∷◌, length, Option, Some, None, refl, ap, subst, ◌∙◌}
+use Rattle.std.proofs.Common.{◌≡◌, ℕ, ◌⊎◌, true, inl, inr, List, [], ◌∷◌, length, Option, Some, None, refl, sym, ap, subst, ◌∙◌}
 use Rattle.std.specs.Prelude.{unwrap_or}
 use Rattle.std.proofs.lemmas.Bool.Decides.{eqb_tells}
 use Rattle.ask_model.specs.declared.cause.Cause.TheVariants as C
@@ -7,10 +7,10 @@ use Rattle.journal_book.specs.Entries.{Deed, Sends, Hears, Passes, Fault}
 use Rattle.history_laws.specs.Readings.{Noted, Note, Plain, First, Says}
 use Rattle.history_laws.specs.Progress.{Reply, TimedOut}
 use Rattle.history_laws.specs.Transmissions.{sent_last}
-use Rattle.history_laws.specs.Exchanges.{Turn, Nothing, Sent, Replied, Rejected, Expired, expires as ends_at, turn, waits_by, waits_for, replies, end_here, end_of}
+use Rattle.history_laws.specs.Exchanges.{Begun, begun, Turn, Nothing, Sent, Replied, Rejected, Expired, expires as ends_at, turn, waits_by, waits_for, replies, end_here, end_of}
 use Rattle.history_laws.specs.Justified.{Ends}
 use Rattle.history_laws.specs.Worked.{noted}
-use Rattle.history_laws.proofs.CallerLemmas.{at-keeps, turn-sent}
+use Rattle.history_laws.proofs.CallerLemmas.{at-keeps, first_end, replied-first, turn-sent}
 use Rattle.history_links.proofs.CallerLemmas.{none-by, unreplied}
 use Rattle.exchange_model.specs.declared.kept.Exchange.{Exchange}
 use Rattle.exchange_model.specs.Reads.{ExchangeIn}
@@ -18,29 +18,31 @@ use Rattle.exchange_model.proofs.Grounds.{IsOver}
 
 -- What an open exchange waits for was sent last.
 
-still-waits : (n : ℕ) (rs : List Reply) (u : Turn) (old : Option ℕ) → rs ≡ [] → ((j : ℕ) → u ≡ Sent j → ⊥) → end_here n rs u ≡ None → old ≡ waits_by u old
-still-waits n rs (Sent j) old empty unsent e = absurd (unsent j refl)
-still-waits n rs (Replied i m) old empty unsent e =
-    absurd (none (subst (λ (v : List Reply). end_here n v (Replied i m) ≡ None) empty e))
+still-waits : (b : Option Begun) (n : ℕ) (rs : List Reply) (u : Turn) (old : Option ℕ) → rs ≡ [] → ((j : ℕ) → u ≡ Sent j → ⊥) → end_here b n rs u ≡ None
+    → old ≡ waits_by u old
+still-waits b n rs (Sent j) old empty unsent e = absurd (unsent j refl)
+still-waits b n rs (Replied i m) old empty unsent e =
+    let r : Reply = record { number = n; sending = i; message = m } in
+    absurd (none (first_end b r) (sym (replied-first b r []) ∙ subst (λ (v : List Reply). end_here b n v (Replied i m) ≡ None) empty e))
   where
-    none : end_here n [] (Replied i m) ≡ None → ⊥
-    none e = cc
-still-waits n rs Rejected old empty unsent e = cc
-still-waits n rs Expired old empty unsent e = cc
-still-waits n rs Nothing old empty unsent e = refl
+    none : (how : Ending) → Some how ≡ None → ⊥
+    none how e = cc
+still-waits b n rs Rejected old empty unsent e = cc
+still-waits b n rs Expired old empty unsent e = cc
+still-waits b n rs Nothing old empty unsent e = refl
 
 alike-step : (l : List Noted) (o t : ℕ) (d : Deed) (note : Note) → replies l o ≡ [] → sent_last l o ≡ waits_for l o
-    → end_here (length l) (replies l o) (turn l o (noted t d note)) ≡ None → sent_last (noted t d note ∷ l) o ≡ waits_for (noted t d note ∷ l) o
+    → end_here (begun l o) (length l) (replies l o) (turn l o (noted t d note)) ≡ None → sent_last (noted t d note ∷ l) o ≡ waits_for (noted t d note ∷ l) o
 alike-step l o t (Sends p b w) (First q m) empty ih e = elim (eqb_tells q o) [ inl v ↦ rw (v.0) refl | inr v ↦ rw (v.0) ih ]
 alike-step l o t (Hears p b) (Says m (Some i) notice) empty ih e =
     let x = noted t (Hears p b) (Says m (Some i) notice) in
-    ih ∙ still-waits (length l) (replies l o) (turn l o x) (waits_for l o) empty (λ j s. other (ap (λ (y : Noted). y.written.deed) (turn-sent l o x j s).entry)) e
+    ih ∙ still-waits (begun l o) (length l) (replies l o) (turn l o x) (waits_for l o) empty (λ j s. other (ap (λ (y : Noted). y.written.deed) (turn-sent l o x j s).entry)) e
   where
     other : {r : _} {c : _} {w : _} → Hears p b ≡ Sends r c w → ⊥
     other k = cc
 alike-step l o t Passes note empty ih e =
     let x = noted t Passes note in
-    ih ∙ still-waits (length l) (replies l o) (turn l o x) (waits_for l o) empty (λ j s. other (ap (λ (y : Noted). y.written.deed) (turn-sent l o x j s).entry)) e
+    ih ∙ still-waits (begun l o) (length l) (replies l o) (turn l o x) (waits_for l o) empty (λ j s. other (ap (λ (y : Noted). y.written.deed) (turn-sent l o x j s).entry)) e
   where
     other : {r : _} {c : _} {w : _} → Passes ≡ Sends r c w → ⊥
     other k = cc
@@ -49,7 +51,7 @@ alike-step l o t d note empty ih e = ih
 pub sent-alike : (l : List Noted) (o : ℕ) → end_of l o ≡ None → sent_last l o ≡ waits_for l o
 sent-alike [] o e = refl
 sent-alike (x ∷ older) o e =
-    let both = none-by (end_here (length older) (replies older o) (turn older o x)) (length older) (end_of older o) e in
+    let both = none-by (end_here (begun older o) (length older) (replies older o) (turn older o x)) (length older) (end_of older o) e in
     alike-step older o x.written.moment x.written.deed x.note (unreplied older o both.1) (sent-alike older o both.1) both.0
 
 -- It ends at the tick, and what was sent last is named, or its ask.

@@ -85,21 +85,34 @@ abbrev pub ends_if : ℕ → Grounds → Option Exchange → State → State
 ends_if t g None S = S
 ends_if t g (Some e) S = ends t g e S
 
--- what a message ends, and on which grounds: the reply with this number, or the Reset
+-- what a message ends
 abbrev pub ended_in : Option (List ℕ) → List Exchange → Option Exchange
 ended_in None es = None
 ended_in (Some token) es = find (is_under token) es
 
-abbrev pub grounds_by : News → ℕ → Content → Grounds
-grounds_by (N.Reset token) n m = Fault C.Reset n
-grounds_by news n m = if is_whole m then Live (n ∷ []) else Fault C.NotUnderstood n
+-- the method that it asks with, or 0 where there is none
+abbrev pub method_in : Option Exchange → ℕ
+method_in None = 0
+method_in (Some e) = e.method
+
+-- on which grounds it ends: the reply with this number, or the Reset
+abbrev pub grounds_by : News → ℕ → ℕ → Content → Grounds
+grounds_by (N.Reset token) n method m = Fault C.Reset n
+grounds_by news n method m =
+    if is_whole method m then Live (n ∷ []) else Fault C.NotUnderstood n
+
+-- what the message in the next entry ends, heeded so, and on which grounds
+abbrev pub ended_by : Verdict → Content → State → Option Exchange
+ended_by v m S = ended_in (ended_token v.news m.token) S.exchanges
+
+abbrev pub grounds_of : Verdict → Content → State → Grounds
+grounds_of v m S = grounds_by v.news (length S.entries) (method_in (ended_by v m S)) m
 
 -- A message that is new: it is answered, the next one of the proxy goes out, and what it ends is
 -- told.
 abbrev pub takes_new : ℕ → Peer → List ℕ → Content → Verdict → State → State
 takes_new t p d m v S =
-    ends_if t (grounds_by v.news (length S.entries) m)
-    (ended_in (ended_token v.news m.token) S.exchanges)
+    ends_if t (grounds_of v m S) (ended_by v m S)
     (next t p (given_back t p (replies m.mid v.reply) (hears t p d m S)))
 
 -- where 1,024 are remembered one more counts as lost, and is no entry

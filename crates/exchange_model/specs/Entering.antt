@@ -27,7 +27,7 @@ use Rattle.exchange_model.specs.declared.kept.Conn.{Conn}
 use Rattle.exchange_model.specs.declared.kept.Exchange.{Exchange}
 use Rattle.exchange_model.specs.State.{PeerLink, State, link_of, with_link}
 use Rattle.exchange_model.specs.Steps.{entered, exchange_for, given_out, went_out, is_other, expires, is_gone}
-use Rattle.exchange_model.specs.Calls.{Numbers, has_place, asked, waits_on, ended_in, grounds_by, heard, something_due, times_out, timed_out, ticked}
+use Rattle.exchange_model.specs.Calls.{Numbers, has_place, asked, waits_on, ended_in, grounds_of, heard, something_due, times_out, timed_out, ticked}
 use Rattle.exchange_model.specs.Keeping.{MayStep, IsNumbered}
 
 -- entries one after another
@@ -250,7 +250,7 @@ MessageEnters =
     → let v = verdict_of t (link_of S.links p) m in
     (v.news ≡ N.Lost → ⊥)
     → heard t p d S
-    ≡ heeded t p d m.mid m.token v (grounds_by v.news (length S.entries) m) S
+    ≡ heeded t p d m.mid m.token v (grounds_of v m S) S
 
 -- So is what is no message, whatever its token and grounds.
 abbrev pub GarbledEnters : Type 0

@@ -34,6 +34,7 @@ pub record ExchangeIn (l : List Noted) (e : Exchange) : Type 0 where
   pub request : CoapRequest
   pub opening : begun l e.opening ≡ Some (record { since = e.since; request = request })
   pub peer : request.peer ≡ e.peer
+  pub method : request.method ≡ e.method
   pub number : rank l e.opening ≡ token_number e.token
   pub sending : waits_for l e.opening ≡ e.sending
   pub sent : IsSentUnder l e.peer e.token e.sending

@@ -49,6 +49,7 @@ exchange_for t c q token S = record {
   token = token;
   since = t;
   peer = q.peer;
+  method = q.method;
   conn = c;
   sending = None;
 }

@@ -20,6 +20,8 @@ pub struct Exchange {
     /// the moment of its opening
     pub since: u64,
     pub peer: Peer,
+    /// the code of its request (RFC 7252 section 12.1.1)
+    pub method: u8,
     /// the connection whose ask opened it
     pub conn: u32,
     /// its first sending, once it went out

@@ -7,7 +7,7 @@ use Rattle.std.proofs.lemmas.Bool.{cases_Bool, eqb-true, eq-eqb, false≢true}
 use Rattle.std.proofs.lemmas.Bool.Decides.{eqb_tells}
 use Rattle.std.proofs.lemmas.Slice.Eq.{bytes_eq-Decides}
 use Rattle.history_laws.specs.Numbering.{token_number}
-use Rattle.history_laws.proofs.CallerLemmas.{all-more, all-filter, all-push}
+use Rattle.history_laws.proofs.CallerLemmas.{all-filter, all-more, all-push}
 use Rattle.exchange_model.proofs.CallerLemmas.{not-under}
 use Rattle.exchange_model.specs.declared.kept.Exchange.{Exchange}
 use Rattle.exchange_model.specs.Steps.{is_other, is_under, went_out}

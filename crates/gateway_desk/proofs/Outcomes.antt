@@ -5,7 +5,7 @@ use Rattle.uri_map.specs.declared.peer.Peer.{Peer}
 use Rattle.ask_model.specs.declared.cause.Cause.{Cause}
 use Rattle.ask_model.specs.Requests.{CoapRequest, Sense, Requests}
 use Rattle.journal_book.specs.Entries.{Grounds, Hears, Written, Live}
-use Rattle.history_laws.specs.Responses.{Response, whole_of}
+use Rattle.history_laws.specs.Responses.{Response, whole_in, whole_of}
 use Rattle.reply_reading.specs.Findings.{Told, Tells, Fails, found_by}
 use Rattle.exchange_core.specs.Values.{written}
 use Rattle.exchange_core.specs.Answering.{HeardAs, AreHeard, IsFound, CountsFrom}
@@ -52,33 +52,33 @@ heard-bytes h n t m bytes x a =
 
 -- what its bytes say it says, and without bytes nothing
 
-pub heard-says : (h : List Written) (n t : ℕ) (q : CoapRequest) (w : Response) (bytes : List ℕ)
-    → HearsAt h n t bytes → Says q bytes w ↔ IsSaidAt h n t q w
-heard-says h n t q w bytes x = (to, from)
+pub heard-says : (h : List Written) (n t k : ℕ) (w : Response) (bytes : List ℕ)
+    → HearsAt h n t bytes → Says k bytes w ↔ IsSaidAt h n t k w
+heard-says h n t k w bytes x = (to, from)
   where
-    to : Says q bytes w → IsSaidAt h n t q w
+    to : Says k bytes w → IsSaidAt h n t k w
     to s = (s.0, record { peer = x.0; bytes = bytes; stands = x.1; spelled = s.1 }, s.2)
 
-    from : IsSaidAt h n t q w → Says q bytes w
+    from : IsSaidAt h n t k w → Says k bytes w
     from s = (s.0, subst (Spells s.0) (heard-bytes h n t s.0 bytes x s.1) s.1.spelled, s.2)
 
-pub unheard-says : (h : List Written) (n t : ℕ) (q : CoapRequest) (w : Response)
-    → HearsNone h n t → IsSaidAt h n t q w → ⊥
-unheard-says h n t q w none s = none s.1.bytes (s.1.peer, s.1.stands)
+pub unheard-says : (h : List Written) (n t k : ℕ) (w : Response)
+    → HearsNone h n t → IsSaidAt h n t k w → ⊥
+unheard-says h n t k w none s = none s.1.bytes (s.1.peer, s.1.stands)
 
 -- A response that rests on one entry is shown just where that says it, at the moment from which it counts.
 
 pub said-shown : (h : List Written) (n t heard : ℕ) (q : CoapRequest) (w : Response)
-    → IsSaidAt h n heard q w
+    → IsSaidAt h n heard q.method w
     ↔ (IsFound h (Tells w) (Live (n ∷ [])) (Requests q) × CountsFrom h (Live (n ∷ [])) t heard)
 said-shown h n t heard q w = (to, λ f. from f.0.0 f.0.1 f.0.2 f.1.0 f.1.1)
   where
-    to : IsSaidAt h n heard q w
+    to : IsSaidAt h n heard q.method w
         → IsFound h (Tells w) (Live (n ∷ [])) (Requests q) × CountsFrom h (Live (n ∷ [])) t heard
     to s = ((s.0 ∷ [], ((heard, s.1), tt), s.2), (s.0, s.1))
 
     from : (ms : List Content) → AreHeard h (n ∷ []) ms → whole_of q ms ≡ Some w
-        → (k : Content) → HeardAs h n heard k → IsSaidAt h n heard q w
+        → (k : Content) → HeardAs h n heard k → IsSaidAt h n heard q.method w
     from [] a e k b = absurd a
     from (m ∷ []) a e k b =
         (m, subst (λ i. HeardAs h n i m) (heard-moment h n a.0.0 heard m k a.0.1 b) a.0.1, e)
@@ -106,28 +106,28 @@ not-one h js q w other f = by js other f.0 f.1 f.2
 
 -- what a look at bytes, at an entry and at an answer tells
 
-pub says-so : {E : Type 0} (r : Result Bool E) (q : CoapRequest) (bytes : List ℕ) (w : Response) (m : Content)
+pub says-so : {E : Type 0} (r : Result Bool E) (i : ℕ) (bytes : List ℕ) (w : Response) (m : Content)
     → Spells m bytes → ((k : Content) → Spells k bytes → m ≡ k)
-    → IfOk r (λ is. IsTrue is ↔ (whole_of q (m ∷ []) ≡ Some w))
-    → IfOk r (λ is. IsTrue is ↔ Says q bytes w)
-says-so (Ok b) q bytes w m s only p = (
+    → IfOk r (λ is. IsTrue is ↔ (whole_in i m ≡ Some w))
+    → IfOk r (λ is. IsTrue is ↔ Says i bytes w)
+says-so (Ok b) i bytes w m s only p = (
   λ is. (m, s, p.0 is),
-  λ x. p.1 (subst (λ k. whole_of q (k ∷ []) ≡ Some w) (sym (only x.0 x.1)) x.2),
+  λ x. p.1 (subst (λ k. whole_in i k ≡ Some w) (sym (only x.0 x.1)) x.2),
 )
-says-so (Err e) q bytes w m s only p = p
+says-so (Err e) i bytes w m s only p = p
 
-pub is-said : {E : Type 0} (r : Result Bool E) (h : List Written) (n t : ℕ) (q : CoapRequest) (w : Response)
-    (bytes : List ℕ) → HearsAt h n t bytes → IfOk r (λ is. IsTrue is ↔ Says q bytes w)
-    → IfOk r (λ is. IsTrue is ↔ IsSaidAt h n t q w)
-is-said (Ok b) h n t q w bytes x p =
-    let same = heard-says h n t q w bytes x in ((λ is. same.0 (p.0 is)), (λ s. p.1 (same.1 s)))
-is-said (Err e) h n t q w bytes x p = p
+pub is-said : {E : Type 0} (r : Result Bool E) (h : List Written) (n t k : ℕ) (w : Response)
+    (bytes : List ℕ) → HearsAt h n t bytes → IfOk r (λ is. IsTrue is ↔ Says k bytes w)
+    → IfOk r (λ is. IsTrue is ↔ IsSaidAt h n t k w)
+is-said (Ok b) h n t k w bytes x p =
+    let same = heard-says h n t k w bytes x in ((λ is. same.0 (p.0 is)), (λ s. p.1 (same.1 s)))
+is-said (Err e) h n t k w bytes x p = p
 
 abbrev Shows : List Written → Told → Grounds → Sense → ℕ → ℕ → Type 0
 Shows h told grounds sense t heard = IsFound h told grounds sense × CountsFrom h grounds t heard
 
 one-shows : {E : Type 0} (r : Result Bool E) (h : List Written) (n t heard : ℕ) (q : CoapRequest) (w : Response)
-    → IfOk r (λ is. IsTrue is ↔ IsSaidAt h n heard q w)
+    → IfOk r (λ is. IsTrue is ↔ IsSaidAt h n heard q.method w)
     → IfOk r (λ is. IsTrue is ↔ Shows h (Tells w) (Live (n ∷ [])) (Requests q) t heard)
 one-shows (Ok b) h n t heard q w p =
     let same = said-shown h n t heard q w in ((λ is. same.0 (p.0 is)), (λ s. p.1 (same.1 s)))
@@ -136,7 +136,7 @@ one-shows (Err e) h n t heard q w p = p
 pub shows-so : {E : Type 0} (r : Result Bool E) (h : List Written) (n t heard : ℕ) (q : CoapRequest) (w : Response)
     (told : Told) (grounds : Grounds) (sense : Sense)
     → Tells w ≡ told → Live (n ∷ []) ≡ grounds → Requests q ≡ sense
-    → IfOk r (λ is. IsTrue is ↔ IsSaidAt h n heard q w)
+    → IfOk r (λ is. IsTrue is ↔ IsSaidAt h n heard q.method w)
     → IfOk r (λ is. IsTrue is ↔ (IsFound h told grounds sense × CountsFrom h grounds t heard))
 shows-so r h n t heard q w told grounds sense a b c p =
     subst (λ x. IfOk r (λ is. IsTrue is ↔ Shows h x grounds sense t heard)) a

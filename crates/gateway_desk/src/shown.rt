@@ -1,9 +1,8 @@
 //! Whether a journal shows what asks came to.
 
-ghost use Rattle.std.specs.Prelude.{◌≡◌, ◌↔◌, [], ◌∷◌, Some, IfOk, IsTrue, MatchOption};
+ghost use Rattle.std.specs.Prelude.{◌≡◌, ◌↔◌, Some, IfOk, IsTrue, MatchOption};
 ghost use Rattle.coap_codec.specs.Spelling.{content};
-ghost use Rattle.ask_model.specs.Requests.{CoapRequest};
-ghost use Rattle.history_laws.specs.Responses.{whole_of};
+ghost use Rattle.history_laws.specs.Responses.{whole_in};
 ghost use Rattle.reply_reading.specs.Findings.{response_of};
 ghost use Rattle.exchange_core.specs.Answering.{given_of};
 ghost use Rattle.gateway_desk.specs.Settled.{IsShown};
@@ -18,12 +17,17 @@ use reply_reading::{Outcome, Response, finding_of};
 use std::alloc::{AllocError, Global};
 use transformers::Relation;
 
-/// Whether the message, as the only reply, is the response.
-fn is_response(alloc: Global, message: Message, response: &Response) -> Result<bool, AllocError>
-    ensures { (q : CoapRequest) → IfOk result (λ is. IsTrue is
-        ↔ (whole_of q (content message ∷ []) ≡ Some (response_of response.now))) }
+/// Whether the message, as the only reply to a request with this method, is the response.
+fn is_response(
+    alloc: Global,
+    method: u8,
+    message: Message,
+    response: &Response,
+) -> Result<bool, AllocError>
+    ensures { IfOk result (λ is. IsTrue is
+        ↔ (whole_in method (content message) ≡ Some (response_of response.now))) }
 {
-    let finding = finding_of(alloc, 0, message)?;
+    let finding = finding_of(alloc, method, 0, message)?;
     match finding.outcome() {
         Outcome::Whole(said) => Ok(is_same_response(said, response)),
         Outcome::Fault(_) => Ok(false),
@@ -31,12 +35,12 @@ fn is_response(alloc: Global, message: Message, response: &Response) -> Result<b
 }
 
 /// Whether the bytes spell a message that is the response.
-fn says(alloc: Global, bytes: &[u8], response: &Response) -> Result<bool, AllocError>
-    ensures { (q : CoapRequest) → IfOk result (λ is. IsTrue is
-        ↔ Says q bytes.now (response_of response.now)) }
+fn says(alloc: Global, method: u8, bytes: &[u8], response: &Response) -> Result<bool, AllocError>
+    ensures { IfOk result (λ is. IsTrue is
+        ↔ Says method bytes.now (response_of response.now)) }
 {
     match decode(alloc, bytes) {
-        Ok(message) => is_response(alloc, message, response),
+        Ok(message) => is_response(alloc, method, message, response),
         Err(fault) => {
             if fault == CodecFault::Memory {
                 Err(AllocError)
@@ -61,19 +65,21 @@ fn heard_at<R: Relation>(journal: &Journal<R>, number: u32, moment: u64) -> Opti
     }
 }
 
-/// Whether the entry with this number was heard at this moment, and says the response.
+/// Whether the entry with this number was heard at this moment, and says the response to a request with
+/// this method.
 fn is_said_at<R: Relation>(
     alloc: Global,
     journal: &Journal<R>,
     number: u32,
     moment: u64,
+    method: u8,
     response: &Response,
 ) -> Result<bool, AllocError>
-    ensures { (q : CoapRequest) → IfOk result (λ is. IsTrue is
-        ↔ IsSaidAt journal.now.entries number moment q (response_of response.now)) }
+    ensures { IfOk result (λ is. IsTrue is
+        ↔ IsSaidAt journal.now.entries number moment method (response_of response.now)) }
 {
     match heard_at(journal, number, moment) {
-        Some(bytes) => says(alloc, bytes.as_slice(), response),
+        Some(bytes) => says(alloc, method, bytes.as_slice(), response),
         None => Ok(false),
     }
 }
@@ -89,9 +95,10 @@ pub fn is_shown<R: Relation>(
     let outcome = answer.finding.outcome();
     let grounds = answer.finding.grounds();
     match (outcome, grounds, answer.mapped.meaning()) {
-        (Outcome::Whole(response), Grounds::Live(numbers), Meaning::Ask { .. }) => {
+        (Outcome::Whole(response), Grounds::Live(numbers), Meaning::Ask { method, .. }) => {
+            let method = method.code();
             match numbers.as_slice() {
-                [number] => is_said_at(alloc, journal, *number, answer.heard, response),
+                [number] => is_said_at(alloc, journal, *number, answer.heard, method, response),
                 _ => Ok(false),
             }
         }

@@ -29,7 +29,7 @@ use Rattle.history_links.specs.Steps.{ended_token}
 use Rattle.exchange_model.specs.declared.kept.Exchange.{Exchange}
 use Rattle.exchange_model.specs.State.{State, link_of}
 use Rattle.exchange_model.specs.Steps.{opens, asks, answers, shuts, seals, begins, hears, hears_nothing, sends_first, sends_copy, is_past, passes}
-use Rattle.exchange_model.specs.Calls.{Numbers, next_by, next, refused, has_place, asked_by, asked, given_back, waits_on, ends, ends_if, ended_in, grounds_by, takes_new, takes_by, repeats, resets, reads_so, heard, is_due, moves_by, moves, move_all, peer_of, timed_out, times_out, something_due, ticked}
+use Rattle.exchange_model.specs.Calls.{Numbers, next_by, next, refused, has_place, asked_by, asked, given_back, waits_on, ends, ends_if, takes_new, takes_by, repeats, resets, reads_so, heard, is_due, moves_by, moves, move_all, peer_of, timed_out, times_out, something_due, ticked, ended_by, grounds_of}
 use Rattle.exchange_model.specs.Growing.{at_moment}
 use Rattle.exchange_model.specs.Keeping.{IsDone}
 use Rattle.exchange_model.specs.Room.{fits, KeptInRoom}
@@ -316,8 +316,8 @@ reads-first t p d S = read (message_at d)
         first t (Hears p d) S S1 (takes_new t p d m v S) refl
         (both S1 S3 (takes_new t p d m v S)
         (both S1 S2 S3 (given-unheard t p (replies m.mid v.reply) S1) (next-unheard t p S2))
-        (ends-if-unheard t (grounds_by v.news (length S.entries) m)
-        (ended_in (ended_token v.news m.token) S.exchanges) S3))
+        (ends-if-unheard t (grounds_of v m S)
+        (ended_by v m S) S3))
 
     taken : (m : Content) (v : Verdict) → (v.news ≡ N.Lost → KeepsMany t p S) → (news : News) → v.news ≡ news
         → Firstly t (Hears p d) S (takes_by t p d m v news S) ⊎ ((takes_by t p d m v news S ≡ S) × KeepsMany t p S)

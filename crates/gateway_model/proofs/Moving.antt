@@ -25,7 +25,7 @@ use Rattle.exchange_model.specs.declared.kept.Exchange.{Exchange}
 use Rattle.exchange_model.specs.State.{State, link_of, pend, conns_after}
 use Rattle.exchange_model.specs.Steps.{opens, asks, answers, seals, begins, hears, hears_nothing, sends_first, sends_copy, is_past, passes}
 use Rattle.exchange_model.specs.Resting.{HasConn}
-use Rattle.exchange_model.specs.Calls.{Numbers, next_by, next, refused, has_place, asked_by, asked, given_back, waits_on, ends, ends_if, ended_in, grounds_by, takes_new, takes_by, repeats, resets, reads_so, heard, is_due, moves_by, moves, move_all, peer_of, timed_out, times_out, something_due, ticked}
+use Rattle.exchange_model.specs.Calls.{Numbers, next_by, next, refused, has_place, asked_by, asked, given_back, waits_on, ends, ends_if, takes_new, takes_by, repeats, resets, reads_so, heard, is_due, moves_by, moves, move_all, peer_of, timed_out, times_out, something_due, ticked, ended_by, grounds_of}
 use Rattle.exchange_model.specs.Growing.{conns_with, at_moment, by_client}
 use Rattle.exchange_model.specs.Room.{fits}
 use Rattle.exchange_model.specs.Sealing.{in_room, opens_in_room, asks_in_room, hears_in_room, late, ticks_in_room}
@@ -188,8 +188,8 @@ heard-moves t p d S =
         (both S S1 S2 (one t (Hears p d) S S1 refl refl refl refl tt)
         (given-moves t p (replies m.mid v.reply) S1))
         (next-moves t p S2))
-        (ends-if-move t (grounds_by v.news (length S.entries) m)
-        (ended_in (ended_token v.news m.token) S.exchanges) S3)
+        (ends-if-move t (grounds_of v m S)
+        (ended_by v m S) S3)
 
     taken : (m : Content) (v : Verdict) (news : News) → Moves S (takes_by t p d m v news S)
     taken m v N.Lost = none S

@@ -22,7 +22,7 @@ use Rattle.history_laws.specs.Exchanges.{Begun, begun, late_by, is_late, Expired
 use Rattle.history_laws.specs.Justified.{IsAsk, IsTurnedAway as WasTurnedAway, IsRefused as WasRefused, IsOverdue, Caused, Ends, reads, pending, Follows, MayCome, Legal, Stands}
 use Rattle.history_laws.specs.Laws.{IsFirst}
 use Rattle.history_laws.specs.Worked.{noted}
-use Rattle.history_laws.proofs.CallerLemmas.{at-before, at-below, at-newest, at-same, at-still, before-twice, begun-before, ends-first, follows-at, legal-before, length-before, none-after-end, reads-own, replies-fit, sent-once, some-is, waits-first}
+use Rattle.history_laws.proofs.CallerLemmas.{at-before, at-below, at-newest, at-same, at-still, before-twice, begun-before, ends-first, follows-at, legal-before, length-before, none-after-end, reads-own, replies-fit, sent-for, sent-once, some-is, turn-replied, waits-first}
 use Rattle.history_claims.specs.Headline.{IsEntry, IsSentFor, IsHeard, IsUnanswered, IsUnsettled, IsUnsent, IsTurnedAway, IsTimedOut, IsGivenUp, IsReset, IsNotUnderstood, IsRefused, IsCausedBy}
 use Rattle.history_claims.proofs.Entries.{entries-at, newest-before}
 use Rattle.history_claims.proofs.Sending.{first-before, sent-as}
@@ -56,7 +56,7 @@ hears-not s t p b u v e = go (ap (λ (x : Noted). x.written.deed) e)
 stands-as : (l : List Noted) (n : ℕ) (x y : Noted) → at l n ≡ Some x → x ≡ y → at l n ≡ Some y
 stands-as l n x y e f = e ∙ ap (λ (v : Noted). Some v) f
 
-whole-none : (q : CoapRequest) (m : Content) → is_whole m ≡ false → whole_of q (m ∷ []) ≡ None
+whole-none : (q : CoapRequest) (m : Content) → is_whole q.method m ≡ false → whole_of q (m ∷ []) ≡ None
 whole-none q m e = rw e refl
 
 -- an answer that stands, with what it answers
@@ -104,7 +104,7 @@ module _ (l : List Noted) (n t c k : ℕ) (cause : Cause) (j : ℕ) (legal : Leg
       let end = ends-first (before l n) k j Reset (subst (λ (o : ℕ). Ends (before l n) o j Reset) own h) in
       let y : Noted = end.0 in
       let late = before (before l n) j in
-      let u = reset-turn (turn late k y) j (replies late k) end.3 in
+      let u = reset-turn (begun late k) (turn late k y) j (replies late k) end.3 in
       let it = rejected-in late k y (follows-at (before l n) j y (legal-before l n legal) end.1) u in
       let first = first-before l n _ k _ _ _ (first-before (before l n) j it.sent_at k it.sending it.peer it.sent it.first) in
       let sent = sent-as l it.sent_at k it.sending it.peer it.sent x.exchange legal x.opened first in
@@ -139,10 +139,14 @@ module _ (l : List Noted) (n t c k : ℕ) (cause : Cause) (j : ℕ) (legal : Leg
       let end = ends-first (before l n) k j NotUnderstood (subst (λ (o : ℕ). Ends (before l n) o j NotUnderstood) own h) in
       let y : Noted = end.0 in
       let late = before (before l n) j in
-      let it = failed-turn (turn late k y) j (replies late k) (going-unreplied late k end.2) end.3 in
+      let it = failed-turn (begun late k) (turn late k y) j (replies late k) (going-unreplied late k end.2) end.3 in
       let r : Reply = record { number = j; sending = it.sending; message = it.message } in
       let has = reply-listed (before l n) j k it.sending it.message y end.1 it.is in
-      let fits = replies-fit (before l n) k r (legal-before l n legal) has in (
+      let fits = replies-fit (before l n) k r (legal-before l n legal) has in
+      let w = waits-first late k it.sending (turn-replied late k y it.sending it.message it.is).waited in
+      let s = sent-for late w.0 k it.sending w.1 w.2 (legal-before (before l n) j (legal-before l n legal)) w.3 in
+      let same : s.exchange ≡ x.exchange = some-is _ _ (sym (begun-before l n k _ (begun-before (before l n) j k _ s.opened)) ∙ x.opened) in
+      let opened : begun late k ≡ Some x.exchange = s.opened ∙ ap (λ (b : Begun). Some b) same in (
         below j y end.1,
         record {
           moment = x.exchange.since;
@@ -150,7 +154,7 @@ module _ (l : List Noted) (n t c k : ℕ) (cause : Cause) (j : ℕ) (legal : Leg
           asked = x.asked;
           message = it.message;
           heard = heard-in l n k r x.exchange _ legal x.opened here has fits;
-          fails = whole-none x.exchange.request it.message it.fails;
+          fails = whole-none x.exchange.request it.message (it.fails x.exchange opened);
         },
       )
 
@@ -172,7 +176,7 @@ module _ (l : List Noted) (n t c k : ℕ) (cause : Cause) (j : ℕ) (legal : Leg
       let s : ℕ = y.written.moment in
       let early : s ≤ t = earlier e y end.1 in
       let u : turn (before l e) k y ≡ Expired =
-      subst (λ (v : List Noted). turn v k y ≡ Expired) twice (expired-turn (turn (before (before l n) e) k y) e (replies (before (before l n) e) k) end.3) in
+      subst (λ (v : List Noted). turn v k y ≡ Expired) twice (expired-turn (begun (before (before l n) e) k) (turn (before (before l n) e) k y) e (replies (before (before l n) e) k) end.3) in
       let it = turn-expired (before l e) k y u in
       let tick = at-before l n e y end.1 ∙ ap (λ (v : Noted). Some v) it.entry in
       go (waits_for (before l e) k) refl s y.note early tick it.over

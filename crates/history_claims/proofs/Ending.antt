@@ -15,14 +15,14 @@ use Rattle.journal_book.specs.Entries.{Deed, Sends, Hears, Passes}
 use Rattle.history_laws.specs.Responses.{is_whole, response_of}
 use Rattle.history_laws.specs.Confirmations.{empty}
 use Rattle.history_laws.specs.Readings.{Noted, Note, First, Says, Notice, at, before}
-use Rattle.history_laws.specs.Progress.{Reply, Ending, Whole, NotUnderstood, Reset, TimedOut, replied, progress, ended_by}
+use Rattle.history_laws.specs.Progress.{Reply, Ending, Whole, NotUnderstood, Reset, TimedOut, replied}
 use Rattle.history_laws.specs.Transmissions.{FirstSending, first_at, last_sent, Transmission, transmission, if_outstanding}
-use Rattle.history_laws.specs.Exchanges.{Turn, Nothing, Sent, Replied, Rejected, Expired, expires, answered_by, heard_turn, turn_by, turn, waits_for, replies_by, replies, End, end_here, end_by, or_else, end_of}
+use Rattle.history_laws.specs.Exchanges.{Turn, Nothing, Sent, Replied, Rejected, Expired, expires, answered_by, heard_turn, turn_by, turn, waits_for, replies_by, replies, End, end_here, end_by, or_else, end_of, Begun, begun, replied_end}
 use Rattle.history_laws.specs.Hearing.{went_as, is_as, open_at, answers_by, answers}
 use Rattle.history_laws.specs.Justified.{MaySay, Follows}
 use Rattle.history_laws.specs.Laws.{IsFirst}
 use Rattle.history_laws.specs.Worked.{noted}
-use Rattle.history_laws.proofs.CallerLemmas.{at-same, contains-none, eqb-same, find-some, first-or-later, first-stands, none-is, none-some, progress-more, some-is, waits-first}
+use Rattle.history_laws.proofs.CallerLemmas.{at-same, contains-none, eqb-same, find-some, first-or-later, first-stands, first_end, none-is, none-some, progress-more, replied-first, some-is, waits-first}
 
 -- an entry that rejects what an exchange waits for
 pub record RejectedTurn (l : List Noted) (o : ℕ) (x : Noted) : Type 0 where
@@ -135,12 +135,9 @@ pub turn-expired : (l : List Noted) (o : ℕ) (x : Noted) → turn l o x ≡ Exp
 turn-expired l o x e = expired-step l o x.written.moment x.written.deed x.note e
 
 -- how an exchange ends by a reply
-ended-first : (r : Reply) (rs : List Reply) → ended_by (progress (r ∷ rs)) ≡ Some (replied r)
-ended-first r rs = ap ended_by (progress-more r rs)
-
-first-in : (rs : List Reply) (r : Reply) → (x : Reply) × (ended_by (progress (rs ++ r ∷ [])) ≡ Some (replied x))
-first-in [] r = (r, refl)
-first-in (x ∷ rs) r = (x, ended-first x (rs ++ r ∷ []))
+first-in : (b : Option Begun) (rs : List Reply) (r : Reply) → (x : Reply) × (replied_end b (rs ++ r ∷ []) ≡ Some (first_end b x))
+first-in b [] r = (r, replied-first b r [])
+first-in b (x ∷ rs) r = (x, replied-first b x (rs ++ r ∷ []))
 
 abbrev ByReply : Ending → Type 0
 ByReply Reset = ⊥
@@ -151,66 +148,78 @@ by-whole : (b : Bool) (r : Reply) → ByReply (cond b (Whole (response_of r.mess
 by-whole true r = tt
 by-whole false r = tt
 
-by-reply : (rs : List Reply) (r : Reply) (how : Ending) → ended_by (progress (rs ++ r ∷ [])) ≡ Some how → ByReply how
-by-reply rs r how e =
-    let it = first-in rs r in
-    subst ByReply (some-is (replied it.0) how (sym it.1 ∙ e)) (by-whole (is_whole it.0.message) it.0)
+by-first : (b : Option Begun) (r : Reply) → ByReply (first_end b r)
+by-first None r = tt
+by-first (Some a) r = by-whole (is_whole a.request.method r.message) r
 
-pub reset-turn : (u : Turn) (n : ℕ) (rs : List Reply) → end_here n rs u ≡ Some Reset → u ≡ Rejected
-reset-turn (Replied i m) n rs e = absurd (by-reply rs (record { number = n; sending = i; message = m }) Reset e)
-reset-turn Rejected n rs e = refl
-reset-turn Expired n rs e = absurd cc
-reset-turn Nothing n rs e = absurd cc
-reset-turn (Sent i) n rs e = absurd cc
+by-reply : (b : Option Begun) (rs : List Reply) (r : Reply) (how : Ending) → replied_end b (rs ++ r ∷ []) ≡ Some how → ByReply how
+by-reply b rs r how e =
+    let it = first-in b rs r in
+    subst ByReply (some-is (first_end b it.0) how (sym it.1 ∙ e)) (by-first b it.0)
 
-pub expired-turn : (u : Turn) (n : ℕ) (rs : List Reply) → end_here n rs u ≡ Some TimedOut → u ≡ Expired
-expired-turn (Replied i m) n rs e = absurd (by-reply rs (record { number = n; sending = i; message = m }) TimedOut e)
-expired-turn Rejected n rs e = absurd cc
-expired-turn Expired n rs e = refl
-expired-turn Nothing n rs e = absurd cc
-expired-turn (Sent i) n rs e = absurd cc
+pub reset-turn : (b : Option Begun) (u : Turn) (n : ℕ) (rs : List Reply) → end_here b n rs u ≡ Some Reset → u ≡ Rejected
+reset-turn b (Replied i m) n rs e = absurd (by-reply b rs (record { number = n; sending = i; message = m }) Reset e)
+reset-turn b Rejected n rs e = refl
+reset-turn b Expired n rs e = absurd cc
+reset-turn b Nothing n rs e = absurd cc
+reset-turn b (Sent i) n rs e = absurd cc
 
--- a reply that isn't understood is no whole response
-pub record FailedTurn (u : Turn) : Type 0 where
+pub expired-turn : (b : Option Begun) (u : Turn) (n : ℕ) (rs : List Reply) → end_here b n rs u ≡ Some TimedOut → u ≡ Expired
+expired-turn b (Replied i m) n rs e = absurd (by-reply b rs (record { number = n; sending = i; message = m }) TimedOut e)
+expired-turn b Rejected n rs e = absurd cc
+expired-turn b Expired n rs e = refl
+expired-turn b Nothing n rs e = absurd cc
+expired-turn b (Sent i) n rs e = absurd cc
+
+-- a reply that isn't understood is no whole response to what was asked
+pub record FailedTurn (b : Option Begun) (u : Turn) : Type 0 where
   pub sending : ℕ
   pub message : Content
   pub is : u ≡ Replied sending message
-  pub fails : is_whole message ≡ false
+  pub fails : (a : Begun) → b ≡ Some a → is_whole a.request.method message ≡ false
 
 not-whole : (b : Bool) (r : Reply) → cond b (Whole (response_of r.message) (r ∷ [])) NotUnderstood ≡ NotUnderstood → b ≡ false
 not-whole true r e = absurd cc
 not-whole false r e = refl
 
-pub failed-turn : (u : Turn) (n : ℕ) (rs : List Reply) → rs ≡ [] → end_here n rs u ≡ Some NotUnderstood → FailedTurn u
-failed-turn (Replied i m) n rs none e =
-    let r : Reply = record { number = n; sending = i; message = m } in
-    let alone : ended_by (progress (r ∷ [])) ≡ Some NotUnderstood =
-    subst (λ (rs : List Reply). ended_by (progress (rs ++ r ∷ [])) ≡ Some NotUnderstood) none e in
-    record { sending = i; message = m; is = refl; fails = not-whole (is_whole m) r (some-is (replied r) NotUnderstood alone) }
-failed-turn Rejected n rs none e = absurd cc
-failed-turn Expired n rs none e = absurd cc
-failed-turn Nothing n rs none e = absurd cc
-failed-turn (Sent i) n rs none e = absurd cc
+pub failed-turn : (b : Option Begun) (u : Turn) (n : ℕ) (rs : List Reply) → rs ≡ [] → end_here b n rs u ≡ Some NotUnderstood → FailedTurn b u
+failed-turn b (Replied i m) n rs none e = record { sending = i; message = m; is = refl; fails = fails }
+  where
+    r : Reply
+    r = record { number = n; sending = i; message = m }
+
+    alone : replied_end b (r ∷ []) ≡ Some NotUnderstood
+    alone = subst (λ (rs : List Reply). replied_end b (rs ++ r ∷ []) ≡ Some NotUnderstood) none e
+
+    fails : (a : Begun) → b ≡ Some a → is_whole a.request.method m ≡ false
+    fails a is =
+        let said : replied_end (Some a) (r ∷ []) ≡ Some NotUnderstood =
+        subst (λ (b : Option Begun). replied_end b (r ∷ []) ≡ Some NotUnderstood) is alone in
+        not-whole (is_whole a.request.method m) r (some-is (replied a.request r) NotUnderstood said)
+failed-turn b Rejected n rs none e = absurd cc
+failed-turn b Expired n rs none e = absurd cc
+failed-turn b Nothing n rs none e = absurd cc
+failed-turn b (Sent i) n rs none e = absurd cc
 
 -- an exchange that goes on has no reply yet
 else-some : (old : Option End) (x : End) → or_else old x ≡ None → ⊥
 else-some None x e = none-is x e
 else-some (Some y) x e = none-is y e
 
-unreplied-step : (u : Turn) (n : ℕ) (rs : List Reply) (old : Option End) → (old ≡ None → rs ≡ []) → end_by (end_here n rs u) n old ≡ None
-    → replies_by n u rs ≡ []
-unreplied-step (Replied i m) n rs old ih e =
-    let it = first-in rs (record { number = n; sending = i; message = m }) in
-    absurd (else-some old (record { number = n; how = replied it.0 }) (subst (λ (how : Option Ending). end_by how n old ≡ None) it.1 e))
-unreplied-step Rejected n rs old ih e = absurd (else-some old (record { number = n; how = Reset }) e)
-unreplied-step Expired n rs old ih e = absurd (else-some old (record { number = n; how = TimedOut }) e)
-unreplied-step Nothing n rs old ih e = ih e
-unreplied-step (Sent i) n rs old ih e = ih e
+unreplied-step : (b : Option Begun) (u : Turn) (n : ℕ) (rs : List Reply) (old : Option End) → (old ≡ None → rs ≡ [])
+    → end_by (end_here b n rs u) n old ≡ None → replies_by n u rs ≡ []
+unreplied-step b (Replied i m) n rs old ih e =
+    let it = first-in b rs (record { number = n; sending = i; message = m }) in
+    absurd (else-some old (record { number = n; how = first_end b it.0 }) (subst (λ (how : Option Ending). end_by how n old ≡ None) it.1 e))
+unreplied-step b Rejected n rs old ih e = absurd (else-some old (record { number = n; how = Reset }) e)
+unreplied-step b Expired n rs old ih e = absurd (else-some old (record { number = n; how = TimedOut }) e)
+unreplied-step b Nothing n rs old ih e = ih e
+unreplied-step b (Sent i) n rs old ih e = ih e
 
 pub going-unreplied : (l : List Noted) (o : ℕ) → end_of l o ≡ None → replies l o ≡ []
 going-unreplied [] o e = refl
 going-unreplied (x ∷ older) o e =
-    unreplied-step (turn older o x) (length older) (replies older o) (end_of older o) (going-unreplied older o) e
+    unreplied-step (begun older o) (turn older o x) (length older) (replies older o) (end_of older o) (going-unreplied older o) e
 
 -- a reply is among the replies from then on
 replies-more : (u : Turn) (n : ℕ) (rs : List Reply) (r : Reply) → Contains rs r → Contains (replies_by n u rs) r

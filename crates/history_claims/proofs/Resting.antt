@@ -8,11 +8,11 @@ use Rattle.journal_book.specs.Entries.{Grounds, Live, Deed, Answers, Asks, Hears
 use Rattle.history_laws.specs.Responses.{Response, response_of, is_whole, whole_of}
 use Rattle.history_laws.specs.Readings.{Noted, Note, Begins, Says, entries, at, before}
 use Rattle.history_laws.specs.Progress.{Reply, numbers, Whole, NotUnderstood, progress, ended_by}
-use Rattle.history_laws.specs.Exchanges.{Begun, begun, Turn, Nothing, Sent, Replied, Rejected, Expired, turn, replies, end_here}
+use Rattle.history_laws.specs.Exchanges.{Begun, begun, Turn, Nothing, Sent, Replied, Rejected, Expired, turn, replies, end_here, replied_end}
 use Rattle.history_laws.specs.Justified.{IsAsk, Ends as EndsAs, reads_by, reads_in, reads, HasGrounds, Follows, Legal, Stands}
 use Rattle.history_laws.specs.Laws.{IsReplyTo}
 use Rattle.history_laws.specs.Worked.{noted}
-use Rattle.history_laws.proofs.CallerLemmas.{asked-for, asks-stand, at-before, at-below, at-same, contains-none, ends-first, first-or-later, follows-at, legal-before, length-before, made-of, none-some, opening-begun, progress-more, reads-own, replies-fit, some-is}
+use Rattle.history_laws.proofs.CallerLemmas.{asked-for, asks-stand, at-before, at-below, at-same, begun-before, contains-none, ends-first, first-or-later, follows-at, legal-before, length-before, made-of, none-some, opening-begun, progress-more, reads-own, replied-first, replies-fit, some-is}
 use Rattle.history_claims.specs.Headline.{IsEntry, IsAsked, RestsOn}
 use Rattle.history_claims.proofs.Entries.{entries-at, asked-entry}
 use Rattle.history_claims.proofs.Waiting.{heard-in}
@@ -78,42 +78,50 @@ opened-by l n c k o a legal ask e =
       asked = asked-by l n c k a (Requests it.2) it.0 stands.conn stands.ask (Begins it.2) ask stands.stands stands.sense;
     }
 
--- a whole response is one reply
-record Made (ws : List Reply) (w : Response) : Type 0 where
+-- a whole response is one reply to what was asked
+record Made (b : Option Begun) (ws : List Reply) (w : Response) : Type 0 where
+  exchange : Begun
+  asked : b ≡ Some exchange
   reply : Reply
   alone : ws ≡ reply ∷ []
-  whole : is_whole reply.message ≡ true
+  whole : is_whole exchange.request.method reply.message ≡ true
   response : w ≡ response_of reply.message
 
-made-replied : (b : Bool) (r : Reply) (w : Response) (ws : List Reply) → is_whole r.message ≡ b
-    → cond b (Whole (response_of r.message) (r ∷ [])) NotUnderstood ≡ Whole w ws → Made ws w
-made-replied true r w ws is e = record { reply = r; alone = list; whole = is; response = said }
+made-replied : (a : Begun) (b : Bool) (r : Reply) (w : Response) (ws : List Reply) → is_whole a.request.method r.message ≡ b
+    → cond b (Whole (response_of r.message) (r ∷ [])) NotUnderstood ≡ Whole w ws → Made (Some a) ws w
+made-replied a true r w ws is e =
+    record { exchange = a; asked = refl; reply = r; alone = list; whole = is; response = said }
   where
     list : ws ≡ r ∷ []
     list = cc
 
     said : w ≡ response_of r.message
     said = cc
-made-replied false r w ws is e = absurd cc
+made-replied a false r w ws is e = absurd cc
 
-made-progress : (rs : List Reply) (w : Response) (ws : List Reply) → ended_by (progress rs) ≡ Some (Whole w ws) → Made ws w
-made-progress [] w ws e = absurd cc
-made-progress (r ∷ rs) w ws e =
-    made-replied (is_whole r.message) r w ws refl (some-is _ _ (sym (ap ended_by (progress-more r rs)) ∙ e))
+made-end : (b : Option Begun) (rs : List Reply) (w : Response) (ws : List Reply) → replied_end b rs ≡ Some (Whole w ws) → Made b ws w
+made-end None rs w ws e = absurd (other (some-is _ _ e))
+  where
+    other : NotUnderstood ≡ Whole w ws → ⊥
+    other f = cc
+made-end (Some a) [] w ws e = absurd cc
+made-end (Some a) (r ∷ rs) w ws e =
+    made-replied a (is_whole a.request.method r.message) r w ws refl (some-is _ _ (sym (replied-first (Some a) r rs) ∙ e))
 
-made-turn : (u : Turn) (n : ℕ) (rs : List Reply) (w : Response) (ws : List Reply) → end_here n rs u ≡ Some (Whole w ws) → Made ws w
-made-turn (Replied i m) n rs w ws e = made-progress (rs ++ record { number = n; sending = i; message = m } ∷ []) w ws e
-made-turn Rejected n rs w ws e = absurd cc
-made-turn Expired n rs w ws e = absurd cc
-made-turn Nothing n rs w ws e = absurd cc
-made-turn (Sent i) n rs w ws e = absurd cc
+made-turn : (b : Option Begun) (u : Turn) (n : ℕ) (rs : List Reply) (w : Response) (ws : List Reply) → end_here b n rs u ≡ Some (Whole w ws)
+    → Made b ws w
+made-turn b (Replied i m) n rs w ws e = made-end b (rs ++ record { number = n; sending = i; message = m } ∷ []) w ws e
+made-turn b Rejected n rs w ws e = absurd cc
+made-turn b Expired n rs w ws e = absurd cc
+made-turn b Nothing n rs w ws e = absurd cc
+made-turn b (Sent i) n rs w ws e = absurd cc
 
-made : (l : List Noted) (o e : ℕ) (w : Response) (ws : List Reply) → EndsAs l o e (Whole w ws) → Made ws w
+made : (l : List Noted) (o e : ℕ) (w : Response) (ws : List Reply) → EndsAs l o e (Whole w ws) → Made (begun (before l e) o) ws w
 made l o e w ws h =
     let it = ends-first l o e (Whole w ws) h in
-    made-turn (turn (before l e) o it.0) e (replies (before l e) o) w ws it.3
+    made-turn (begun (before l e) o) (turn (before l e) o it.0) e (replies (before l e) o) w ws it.3
 
-whole-one : (q : CoapRequest) (m : Content) → is_whole m ≡ true → whole_of q (m ∷ []) ≡ Some (response_of m)
+whole-one : (q : CoapRequest) (m : Content) → is_whole q.method m ≡ true → whole_of q (m ∷ []) ≡ Some (response_of m)
 whole-one q m e = rw e refl
 
 only-one : (j n i : ℕ) → n < i → Contains (n ∷ []) j → j < i
@@ -131,6 +139,9 @@ rests-in l n t c k js legal e =
     let own : k ≡ o = reads-own (before l n) k o h.4 in
     let fits = replies-fit (before l n) o r (legal-before l n legal) has in
     let x = opened-by l n c k o it.0.ask legal it.0.asked h.4 in
+    let same : m.exchange ≡ x.exchange =
+    some-is m.exchange x.exchange (sym (begun-before l n o _ (begun-before (before l n) h.1 o _ m.asked))
+    ∙ subst (λ (k : ℕ). begun l k ≡ Some x.exchange) own x.opened) in
     let fit = subst (λ (o : ℕ). IsReplyTo (before l n) o r) (sym own) fits in
     let there = entries-at l n _ e in
     let listed = subst (λ (o : ℕ). Contains (replies (before l n) o) r) (sym own) has in
@@ -146,7 +157,8 @@ rests-in l n t c k js legal e =
       heard = (heard, tt);
       before = λ j in_it. only-one j r.number n below in_it;
       response = response_of r.message;
-      whole = whole-one x.exchange.request r.message m.whole;
+      whole = whole-one x.exchange.request r.message
+          (subst (λ (b : Begun). is_whole b.request.method r.message ≡ true) same m.whole);
     })
 
 pub rests-on-replies : (h : List Written) (n t c k : ℕ) (js : List ℕ) → Stands h → IsEntry h n t (Answers c k (Live js)) → RestsOn h n c k js

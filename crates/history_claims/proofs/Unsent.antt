@@ -114,7 +114,7 @@ sealed-still Seals old h = refl
 sealed-still d old h = h
 
 pub over-still : (o : ℕ) (x : Noted) (l : List Noted) → Over o l → Over o (x ∷ l)
-over-still o x l (inl h) = inl (ended-still (end_here (length l) (replies l o) (turn l o x)) (length l) (end_of l o) h)
+over-still o x l (inl h) = inl (ended-still (end_here (begun l o) (length l) (replies l o) (turn l o x)) (length l) (end_of l o) h)
 over-still o x l (inr h) = inr (sealed-still x.written.deed (is_sealed l) h)
 
 not-over : (l : List Noted) (t o : ℕ) (p : Peer) (b : List ℕ) (w : Option ℕ) (m : Content) → Over o l → Follows l t (Sends p b w) (First o m) → ⊥

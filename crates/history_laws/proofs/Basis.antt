@@ -9,15 +9,15 @@ use Rattle.uri_map.specs.declared.peer.Peer.{Peer}
 use Rattle.journal_book.specs.Entries.{Grounds, Live, Answers}
 use Rattle.history_laws.specs.Responses.{Response, response_of, is_whole}
 use Rattle.history_laws.specs.Readings.{Noted, Note, Begins, at}
-use Rattle.history_laws.specs.Progress.{Reply, numbers, Ending, Whole, NotUnderstood, Reset, TimedOut, progress, ended_by}
-use Rattle.history_laws.specs.Exchanges.{Turn, Nothing, Sent, Replied, Rejected, Expired, turn, replies_by, replies, End, end_here, end_by, end_of}
+use Rattle.history_laws.specs.Progress.{Reply, numbers, Ending, Whole, NotUnderstood, Reset, TimedOut}
+use Rattle.history_laws.specs.Exchanges.{Begun, begun, Turn, Nothing, Sent, Replied, Rejected, Expired, turn, replies_by, replies, End, replied_end, end_here, end_by, end_of}
 use Rattle.history_laws.specs.Justified.{IsAsk, Ends as EndsAs, reads_by, reads_in, reads, HasGrounds, Follows, Legal}
 use Rattle.history_laws.specs.Laws.{IsFirst, IsReplyTo, IsAnswer, RestsOn, IsWriteEnd}
 use Rattle.history_laws.proofs.Elements.{contains-none, first-or-later}
 use Rattle.history_laws.proofs.Facts.{IsAsk-keeps, IsFirst-keeps}
 use Rattle.history_laws.proofs.Answering.{IsAnswer-old}
 use Rattle.history_laws.proofs.Replies.{IsReplyTo-keeps, replies-fit}
-use Rattle.history_laws.proofs.Sent.{progress-more, asked-for, sent-for}
+use Rattle.history_laws.proofs.Sent.{replied-first, asked-for, sent-for}
 use Rattle.history_laws.proofs.Resting.{some-is}
 
 -- a whole response is made of replies to its exchange
@@ -32,11 +32,16 @@ whole-of true u w r x ws e h =
     same rs ws f = cc
 whole-of false u w r x ws e h = cc
 
-progress-whole : (rs : List Reply) (w : Response) (ws : List Reply) (x : Reply) → ended_by (progress rs) ≡ Some (Whole w ws) → Contains ws x → Contains rs x
-progress-whole [] w ws x e h = cc
-progress-whole (r ∷ rs) w ws x e h =
-    let how = some-is _ _ (sym (ap ended_by (progress-more r rs)) ∙ e) in
-    (zero, omega arith, whole-of (is_whole r.message) (response_of r.message) w r x ws how h)
+replied-whole : (b : Option Begun) (rs : List Reply) (w : Response) (ws : List Reply) (x : Reply) → replied_end b rs ≡ Some (Whole w ws) → Contains ws x
+    → Contains rs x
+replied-whole None rs w ws x e h = absurd (other (some-is _ _ e))
+  where
+    other : NotUnderstood ≡ Whole w ws → ⊥
+    other f = cc
+replied-whole (Some b) [] w ws x e h = cc
+replied-whole (Some b) (r ∷ rs) w ws x e h =
+    let how = some-is _ _ (sym (replied-first (Some b) r rs) ∙ e) in
+    (zero, omega arith, whole-of (is_whole b.request.method r.message) (response_of r.message) w r x ws how h)
 
 abbrev IsMade : Option End → ℕ → Response → List Reply → Type 0
 IsMade old e w ws = old ≡ Some (record { number = e; how = Whole w ws })
@@ -47,36 +52,36 @@ ending n how = record { number = n; how = how }
 end-how : (k how : Ending) (n e : ℕ) → Some (ending n k) ≡ Some (ending e how) → k ≡ how
 end-how k how n e f = ap (λ (x : End). x.how) (some-is _ _ f)
 
-made-step : (u : Turn) (n e : ℕ) (rs : List Reply) (old : Option End) (w : Response) (ws : List Reply) (x : Reply)
-    → (IsMade old e w ws → Contains rs x) → IsMade (end_by (end_here n rs u) n old) e w ws → Contains ws x → Contains (replies_by n u rs) x
-made-step Nothing n e rs old w ws x ih h has = ih h
-made-step (Sent i) n e rs old w ws x ih h has = ih h
-made-step (Replied i m) n e rs old w ws x ih h has = go (ended_by (progress (rs ++ r ∷ []))) refl old refl h
+made-step : (b : Option Begun) (u : Turn) (n e : ℕ) (rs : List Reply) (old : Option End) (w : Response) (ws : List Reply) (x : Reply)
+    → (IsMade old e w ws → Contains rs x) → IsMade (end_by (end_here b n rs u) n old) e w ws → Contains ws x → Contains (replies_by n u rs) x
+made-step b Nothing n e rs old w ws x ih h has = ih h
+made-step b (Sent i) n e rs old w ws x ih h has = ih h
+made-step b (Replied i m) n e rs old w ws x ih h has = go (replied_end b (rs ++ r ∷ [])) refl old refl h
   where
     r : Reply
     r = record { number = n; sending = i; message = m }
 
-    go : (how : Option Ending) → ended_by (progress (rs ++ r ∷ [])) ≡ how → (o : Option End) → old ≡ o → IsMade (end_by how n o) e w ws
+    go : (how : Option Ending) → replied_end b (rs ++ r ∷ []) ≡ how → (o : Option End) → old ≡ o → IsMade (end_by how n o) e w ws
         → Contains (rs ++ r ∷ []) x
     go None is o was h = Contains-append_left rs (r ∷ []) x (ih (was ∙ h))
     go (Some how) is (Some f) was h = Contains-append_left rs (r ∷ []) x (ih (was ∙ h))
     go (Some how) is None was h =
-        progress-whole (rs ++ r ∷ []) w ws x (is ∙ ap (λ (v : Ending). Some v) (end-how how (Whole w ws) n e h)) has
-made-step Rejected n e rs None w ws x ih h has = absurd (other (end-how Reset (Whole w ws) n e h))
+        replied-whole b (rs ++ r ∷ []) w ws x (is ∙ ap (λ (v : Ending). Some v) (end-how how (Whole w ws) n e h)) has
+made-step b Rejected n e rs None w ws x ih h has = absurd (other (end-how Reset (Whole w ws) n e h))
   where
     other : Reset ≡ Whole w ws → ⊥
     other f = cc
-made-step Rejected n e rs (Some f) w ws x ih h has = ih h
-made-step Expired n e rs None w ws x ih h has = absurd (other (end-how TimedOut (Whole w ws) n e h))
+made-step b Rejected n e rs (Some f) w ws x ih h has = ih h
+made-step b Expired n e rs None w ws x ih h has = absurd (other (end-how TimedOut (Whole w ws) n e h))
   where
     other : TimedOut ≡ Whole w ws → ⊥
     other f = cc
-made-step Expired n e rs (Some f) w ws x ih h has = ih h
+made-step b Expired n e rs (Some f) w ws x ih h has = ih h
 
 pub made-of : (l : List Noted) (o e : ℕ) (w : Response) (ws : List Reply) (x : Reply) → EndsAs l o e (Whole w ws) → Contains ws x → Contains (replies l o) x
 made-of [] o e w ws x h has = cc
 made-of (y ∷ older) o e w ws x h has =
-    made-step (turn older o y) (length older) e (replies older o) (end_of older o) w ws x
+    made-step (begun older o) (turn older o y) (length older) e (replies older o) (end_of older o) w ws x
     (λ f. made-of older o e w ws x f has) h has
 
 number-of : (rs : List Reply) (j : ℕ) → Contains (numbers rs) j → (r : Reply) × Contains rs r × (r.number ≡ j)

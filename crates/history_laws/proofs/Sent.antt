@@ -10,8 +10,8 @@ use Rattle.ask_model.specs.Views.{Ask}
 use Rattle.ask_model.proofs.Endpoints.{and-both}
 use Rattle.journal_book.specs.Entries.{Deed, Opens, Asks, Sends, Hears, Passes, Answers, Shuts, Seals}
 use Rattle.history_laws.specs.Readings.{Noted, Note, Begins, First, at, before}
-use Rattle.history_laws.specs.Progress.{Reply, Progress, Asks as StillAsks, Ends, Ending, Reset, TimedOut, step, replied, progress, ended_by, next_message}
-use Rattle.history_laws.specs.Exchanges.{Begun, opens_by, begun_by, begun, Turn, Nothing, Sent, Replied, Rejected, Expired, turn, waits_by, waits_for, replies, End, end_here, end_by, end_of, goes_to}
+use Rattle.history_laws.specs.Progress.{Reply, Progress, Asks as StillAsks, Ends, Ending, NotUnderstood, Reset, TimedOut, step, replied, progress, ended_by, next_message}
+use Rattle.history_laws.specs.Exchanges.{Begun, opens_by, begun_by, begun, Turn, Nothing, Sent, Replied, Rejected, Expired, turn, waits_by, waits_for, replies, End, replied_end, end_here, end_by, end_of, goes_to}
 use Rattle.history_laws.specs.Justified.{AskNote, MayBeFirst, Follows, Legal}
 use Rattle.history_laws.specs.Laws.{IsFirst}
 use Rattle.history_laws.specs.Worked.{noted}
@@ -136,21 +136,27 @@ sent-for l t o i p m legal f =
       opened = begun-before l i o _ may.opening;
       after = subst (λ (n : ℕ). o < n) (length-before l i _ f.stands) below;
       peer = may.peer;
-      carries = next-is may.request (progress (replies (before l i) o)) m.mid m.token m may.message;
+      carries = next-is may.request (progress may.request (replies (before l i) o)) m.mid m.token m may.message;
       spelled = may.spelled;
     }
 
 -- A reply ends its exchange.
-stay : (how : Ending) (rs : List Reply) → fold step (Ends how) rs ≡ Ends how
-stay how [] = refl
-stay how (r ∷ rs) = stay how rs
+stay : (q : CoapRequest) (how : Ending) (rs : List Reply) → fold (step q) (Ends how) rs ≡ Ends how
+stay q how [] = refl
+stay q how (r ∷ rs) = stay q how rs
 
-pub progress-more : (r : Reply) (rs : List Reply) → progress (r ∷ rs) ≡ Ends (replied r)
-progress-more r rs = stay (replied r) rs
+-- how the first reply ends it
+abbrev pub first_end : Option Begun → Reply → Ending
+first_end None r = NotUnderstood
+first_end (Some b) r = replied b.request r
 
-progress-ends : (rs : List Reply) (r : Reply) → is_some (ended_by (progress (rs ++ r ∷ []))) ≡ true
-progress-ends [] r = refl
-progress-ends (s ∷ rs) r = ap (λ (w : Progress). is_some (ended_by w)) (progress-more s (rs ++ r ∷ []))
+pub replied-first : (b : Option Begun) (r : Reply) (rs : List Reply) → replied_end b (r ∷ rs) ≡ Some (first_end b r)
+replied-first None r rs = refl
+replied-first (Some b) r rs = ap ended_by (stay b.request (replied b.request r) rs)
+
+pub replied-ends : (b : Option Begun) (rs : List Reply) (r : Reply) → is_some (replied_end b (rs ++ r ∷ [])) ≡ true
+replied-ends b [] r = ap (λ (how : Option Ending). is_some how) (replied-first b r [])
+replied-ends b (s ∷ rs) r = ap (λ (how : Option Ending). is_some how) (replied-first b s (rs ++ r ∷ []))
 
 -- after its first sending an exchange waits for the reply, or has ended
 abbrev pub Past : Option ℕ → Option End → Type 0
@@ -161,14 +167,15 @@ ended None n e h = absurd (false≢true h)
 ended (Some how) n None h = refl
 ended (Some how) n (Some f) h = refl
 
-past-step : (u : Turn) (n : ℕ) (rs : List Reply) (w : Option ℕ) (e : Option End) → Past w e → Past (waits_by u w) (end_by (end_here n rs u) n e)
-past-step Nothing n rs w e h = h
-past-step (Sent i) n rs w e h = inl refl
-past-step (Replied i m) n rs w e h =
+past-step : (b : Option Begun) (u : Turn) (n : ℕ) (rs : List Reply) (w : Option ℕ) (e : Option End) → Past w e
+    → Past (waits_by u w) (end_by (end_here b n rs u) n e)
+past-step b Nothing n rs w e h = h
+past-step b (Sent i) n rs w e h = inl refl
+past-step b (Replied i m) n rs w e h =
     let r : Reply = record { number = n; sending = i; message = m } in
-    inr (ended (ended_by (progress (rs ++ r ∷ []))) n e (progress-ends rs r))
-past-step Rejected n rs w e h = inr (ended (Some Reset) n e refl)
-past-step Expired n rs w e h = inr (ended (Some TimedOut) n e refl)
+    inr (ended (replied_end b (rs ++ r ∷ [])) n e (replied-ends b rs r))
+past-step b Rejected n rs w e h = inr (ended (Some Reset) n e refl)
+past-step b Expired n rs w e h = inr (ended (Some TimedOut) n e refl)
 
 past-new : (l : List Noted) (t o : ℕ) (p : Peer) (b : List ℕ) (w : Option ℕ) (m : Content)
     → is_some (waits_for (noted t (Sends p b w) (First o m) ∷ l) o) ≡ true
@@ -179,7 +186,7 @@ past [] t o i p m f = cc (f.stands)
 past (x ∷ older) t o i p m f =
     elim (IsFirst-old x older t o i p m f) [
       | inl u ↦ inl (subst (λ (v : Noted). is_some (waits_for (v ∷ older) o) ≡ true) (sym u.1.2) (past-new older t o p u.1.0 u.1.1 m))
-      | inr u ↦ past-step (turn older o x) (length older) (replies older o) (waits_for older o) (end_of older o) (past older t o i p m u)
+      | inr u ↦ past-step (begun older o) (turn older o x) (length older) (replies older o) (waits_for older o) (end_of older o) (past older t o i p m u)
     ]
 
 not-past : (w : Option ℕ) (e : Option End) → Past w e → (is_none e && is_none w) ≡ true → ⊥

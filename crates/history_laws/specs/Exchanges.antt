@@ -10,7 +10,7 @@ use Rattle.uri_map.specs.declared.peer.Peer.{Peer}
 use Rattle.ask_model.specs.Requests.{CoapRequest, same_peer}
 use Rattle.journal_book.specs.Entries.{Deed, Sends, Hears, Passes}
 use Rattle.history_laws.specs.Readings.{Noted, Note, Begins, First, Says}
-use Rattle.history_laws.specs.Progress.{Reply, Ending, Reset, TimedOut, progress, ended_by}
+use Rattle.history_laws.specs.Progress.{Reply, Ending, NotUnderstood, Reset, TimedOut, progress, ended_by}
 use Rattle.history_laws.specs.Transmissions.{transmission, given_up}
 
 -- when it was opened, and for what
@@ -111,13 +111,18 @@ pub record End : Type 0 where
   pub number : ℕ
   pub how : Ending
 
--- how the exchange ends by this turn of the entry with this number, if it does
-abbrev pub end_here : ℕ → List Reply → Turn → Option Ending
-end_here n rs (Replied i m) =
-    ended_by (progress (rs ++ record { number = n; sending = i; message = m } ∷ []))
-end_here n rs Rejected = Some Reset
-end_here n rs Expired = Some TimedOut
-end_here n rs _ = None
+-- How the exchange ends by these replies, if it does: none is understood where nothing was asked.
+abbrev pub replied_end : Option Begun → List Reply → Option Ending
+replied_end None rs = Some NotUnderstood
+replied_end (Some b) rs = ended_by (progress b.request rs)
+
+-- how it ends by this turn of the entry with this number, if it does
+abbrev pub end_here : Option Begun → ℕ → List Reply → Turn → Option Ending
+end_here b n rs (Replied i m) =
+    replied_end b (rs ++ record { number = n; sending = i; message = m } ∷ [])
+end_here b n rs Rejected = Some Reset
+end_here b n rs Expired = Some TimedOut
+end_here b n rs _ = None
 
 abbrev pub or_else : Option End → End → Option End
 or_else (Some e) other = Some e
@@ -130,7 +135,7 @@ end_by (Some how) n old = or_else old (record { number = n; how = how })
 abbrev pub end_of : List Noted → ℕ → Option End
 end_of [] o = None
 end_of (x ∷ older) o =
-    end_by (end_here (length older) (replies older o) (turn older o x))
+    end_by (end_here (begun older o) (length older) (replies older o) (turn older o x))
     (length older) (end_of older o)
 
 abbrev pub is_going : List Noted → ℕ → Bool

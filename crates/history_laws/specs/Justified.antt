@@ -107,7 +107,7 @@ pub record MayBeFirst
   pub first : is_first_waiting l p o ≡ true
   pub free : outstanding l p ≡ None
   pub peer : p ≡ request.peer
-  pub message : next_message request (progress (replies l o)) m.mid m.token ≡ Some m
+  pub message : next_message request (progress request (replies l o)) m.mid m.token ≡ Some m
   pub spelled : Spells m bytes
   pub token_size : length m.token ≡ 8
   pub token_apart : bears_token l m.token ≡ false

@@ -109,7 +109,7 @@ abbrev pub EndsFirst : Type 0
 EndsFirst =
     (l : List Noted) (o e : ℕ) (how : Ending) → Ends l o e how
     → (x : Noted) × (at l e ≡ Some x) × (end_of (before l e) o ≡ None)
-    × (end_here e (replies (before l e) o) (turn (before l e) o x) ≡ Some how)
+    × (end_here (begun (before l e) o) e (replies (before l e) o) (turn (before l e) o x) ≡ Some how)
 
 -- After an exchange's end nothing goes out for it but copies: its first sending stands before that.
 abbrev pub NoneAfterEnd : Type 0

@@ -29,15 +29,17 @@ pub data Progress : Type 0 where
   Asks : Progress
   Ends : (how : Ending) → Progress
 
-abbrev pub replied : Reply → Ending
-replied r = if is_whole r.message then Whole (response_of r.message) (r ∷ []) else NotUnderstood
+abbrev pub replied : CoapRequest → Reply → Ending
+replied q r =
+    if is_whole q.method r.message then Whole (response_of r.message) (r ∷ []) else NotUnderstood
 
-abbrev pub step : Progress → Reply → Progress
-step Asks r = Ends (replied r)
-step (Ends how) r = Ends how
+abbrev pub step : CoapRequest → Progress → Reply → Progress
+step q Asks r = Ends (replied q r)
+step q (Ends how) r = Ends how
 
-abbrev pub progress : List Reply → Progress
-progress rs = fold step Asks rs
+-- how far the exchange of a request has come with these replies
+abbrev pub progress : CoapRequest → List Reply → Progress
+progress q rs = fold (step q) Asks rs
 
 abbrev pub ended_by : Progress → Option Ending
 ended_by (Ends how) = Some how

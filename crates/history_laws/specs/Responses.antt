@@ -1,33 +1,21 @@
 -- When the replies to an exchange are a whole response, and which.
-use Rattle.std.specs.Prelude.{ℕ, ◌+◌, ◌^◌, ◌/◌, ◌%◌, Bool, true, ◌&&◌, List, [], ◌∷◌, length, Option, Some, None, option_map, ◌==◌, nat_le, if◌then◌else◌}
+use Rattle.std.specs.Prelude.{ℕ, Bool, ◌&&◌, List, [], ◌∷◌, Option, Some, None, option_map, ◌==◌, if◌then◌else◌}
 use Rattle.coap_codec.specs.Spelling.{Content}
 use Rattle.coap_codec.specs.Recognition.{is_final, is_forwardable, value_of, values_of}
 use Rattle.coap_codec.specs.Values.{uint}
+use Rattle.blockwise.specs.Reading.{answers_piece}
+use Rattle.blockwise.specs.Downloads.{is_only_piece}
 use Rattle.ask_model.specs.Requests.{CoapRequest}
 
--- the value of a Block option names the first block, which no other follows (RFC 7959 section 2.2)
-abbrev pub is_only_block : ℕ → Bool
-is_only_block block = (block / 16 == 0) && (block / 8 % 2 == 0)
+-- All of the response is in this one message (RFC 7959). A GET (method 1) is answered by the only piece of
+-- a representation; a Block1 has no meaning there. Any other request went in one piece, number 0, which
+-- the answer may name.
+abbrev pub is_all : ℕ → Content → Bool
+is_all method m = if method == 1 then is_only_piece m else answers_piece 0 m
 
--- A reply gives all in one piece if it bears no Block2, or that of the only block, and no more
--- bytes than the block has (RFC 7959 sections 2.2, 2.4).
-abbrev pub is_in_one_piece : Option (List ℕ) → ℕ → Bool
-is_in_one_piece None len = true
-is_in_one_piece (Some value) len = is_only_block (uint value) && nat_le len (2 ^ (uint value % 8 + 4))
-
--- A reply answers all that a message without Block1 carried if it bears no Block1, or that of the
--- only block, whose size may be a hint: another number acknowledges a block that wasn't sent, and
--- where more is set, the code isn't the final one (RFC 7959 sections 2.3, 2.9.3).
-abbrev pub answers_all : Option (List ℕ) → Bool
-answers_all None = true
-answers_all (Some value) = is_only_block (uint value)
-
--- the reply is a whole response to a message without Block1
-abbrev pub is_whole : Content → Bool
-is_whole m =
-    is_forwardable m.options
-    && (is_final m
-    && (answers_all (value_of 27 m) && is_in_one_piece (value_of 23 m) (length m.payload)))
+-- The reply to a request with this method is a whole response.
+abbrev pub is_whole : ℕ → Content → Bool
+is_whole method m = is_forwardable m.options && (is_final m && is_all method m)
 
 -- what a response says (RFC 7252 section 5.10)
 pub record Response : Type 0 where
@@ -51,7 +39,11 @@ response_of m =
       body = m.payload;
     }
 
+-- the whole response that a message is as the reply to a request with this method
+abbrev pub whole_in : ℕ → Content → Option Response
+whole_in method m = if is_whole method m then Some (response_of m) else None
+
 -- The whole response that the replies to a request are, in order: of one message, its reply.
 abbrev pub whole_of : CoapRequest → List Content → Option Response
-whole_of q (m ∷ []) = if is_whole m then Some (response_of m) else None
+whole_of q (m ∷ []) = whole_in q.method m
 whole_of q _ = None

@@ -7,9 +7,9 @@ use Rattle.uri_map.specs.declared.peer.Peer.{Peer}
 use Rattle.ask_model.specs.Requests.{CoapRequest}
 use Rattle.journal_book.specs.Entries.{Deed, Sends, Hears, Passes}
 use Rattle.history_laws.specs.Readings.{Noted, Note, First, Says}
-use Rattle.history_laws.proofs.CallerLemmas.{all-filter, all-more, all-passes, all-push, and-left, and-right, heard-sends, none-of}
-use Rattle.history_laws.specs.Progress.{Ending, Reply, progress, ended_by, replied}
-use Rattle.history_laws.specs.Exchanges.{opened_by, opens_by, openings, Turn, Nothing, Sent, Replied, Rejected, Expired, expires, turn_by, turn, waits_by, waits_for, replies_by, replies, End, end_here, end_by, end_of, is_going, is_waiting, waiting, submitted, is_first_waiting, goes_to, begun}
+use Rattle.history_laws.proofs.CallerLemmas.{all-filter, all-more, all-passes, all-push, and-left, and-right, first_end, heard-sends, none-of, replied-first}
+use Rattle.history_laws.specs.Progress.{Ending, Reply}
+use Rattle.history_laws.specs.Exchanges.{opened_by, opens_by, openings, Turn, Nothing, Sent, Replied, Rejected, Expired, expires, turn_by, turn, waits_by, waits_for, replies_by, replies, End, end_here, end_by, end_of, is_going, is_waiting, waiting, submitted, is_first_waiting, goes_to, begun, replied_end, Begun}
 
 -- lists of numbers that rise
 
@@ -87,22 +87,23 @@ none-by None n old e = (refl, e)
 none-by (Some how) n (Some old) e = cc
 none-by (Some how) n None e = cc
 
-none-replied : (n : ℕ) (rs : List Reply) (u : Turn) → rs ≡ [] → end_here n rs u ≡ None → replies_by n u rs ≡ []
-none-replied n rs (Replied i m) empty e =
-    absurd (some-none (replied (record { number = n; sending = i; message = m })) (subst (λ (v : List Reply). ended_by (progress (v ++ record { number = n; sending = i; message = m } ∷ [])) ≡ None) empty e))
+none-replied : (b : Option Begun) (n : ℕ) (rs : List Reply) (u : Turn) → rs ≡ [] → end_here b n rs u ≡ None → replies_by n u rs ≡ []
+none-replied b n rs (Replied i m) empty e =
+    let r : Reply = record { number = n; sending = i; message = m } in
+    absurd (some-none (first_end b r) (sym (replied-first b r []) ∙ subst (λ (v : List Reply). replied_end b (v ++ r ∷ []) ≡ None) empty e))
   where
     some-none : (how : Ending) → Some how ≡ None → ⊥
     some-none how e = cc
-none-replied n rs Rejected empty e = empty
-none-replied n rs Expired empty e = empty
-none-replied n rs (Sent j) empty e = empty
-none-replied n rs Nothing empty e = empty
+none-replied b n rs Rejected empty e = empty
+none-replied b n rs Expired empty e = empty
+none-replied b n rs (Sent j) empty e = empty
+none-replied b n rs Nothing empty e = empty
 
 pub unreplied : (l : List Noted) (o : ℕ) → end_of l o ≡ None → replies l o ≡ []
 unreplied [] o e = refl
 unreplied (x ∷ older) o e =
-    let both = none-by (end_here (length older) (replies older o) (turn older o x)) (length older) (end_of older o) e in
-    none-replied (length older) (replies older o) (turn older o x) (unreplied older o both.1) both.0
+    let both = none-by (end_here (begun older o) (length older) (replies older o) (turn older o x)) (length older) (end_of older o) e in
+    none-replied (begun older o) (length older) (replies older o) (turn older o x) (unreplied older o both.1) both.0
 
 -- who waits
 

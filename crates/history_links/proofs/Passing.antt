@@ -17,7 +17,7 @@ use Rattle.history_laws.specs.Readings.{Noted, Plain}
 use Rattle.history_laws.specs.Worked.{noted}
 use Rattle.history_laws.specs.Progress.{Reply}
 use Rattle.history_laws.specs.Transmissions.{FirstSending, first_at, last_sent, transmission, if_outstanding}
-use Rattle.history_laws.specs.Exchanges.{begun, is_late, Expired, Nothing, expires, waits_by, waits_for, End, end_here, end_by, end_of, replies, is_going, goes_to, is_waiting, waiting, openings}
+use Rattle.history_laws.specs.Exchanges.{Begun, begun, is_late, Expired, Nothing, expires, waits_by, waits_for, End, end_here, end_by, end_of, replies, is_going, goes_to, is_waiting, waiting, openings}
 use Rattle.history_laws.specs.Hearing.{went_under, went_as}
 use Rattle.history_laws.proofs.CallerLemmas.{and-left, and-right, at-keeps}
 use Rattle.history_links.specs.Agrees.{way_of, TurnIn, IsWaitingFor, WaitIn}
@@ -39,13 +39,14 @@ ends-waiting false w = refl
 pub waits-passed : (l : List Noted) (t o : ℕ) → waits_for (ticked_at t ∷ l) o ≡ cond (expires l o t (waits_for l o)) None (waits_for l o)
 waits-passed l t o = ends-waiting (expires l o t (waits_for l o)) (waits_for l o)
 
-ends-going : (n : ℕ) (rs : List Reply) (b : Bool) (old : Option End) → is_none (end_by (end_here n rs (cond b Expired Nothing)) n old) ≡ (not b && is_none old)
-ends-going n rs true None = refl
-ends-going n rs true (Some e) = refl
-ends-going n rs false old = refl
+ends-going : (a : Option Begun) (n : ℕ) (rs : List Reply) (b : Bool) (old : Option End)
+    → is_none (end_by (end_here a n rs (cond b Expired Nothing)) n old) ≡ (not b && is_none old)
+ends-going a n rs true None = refl
+ends-going a n rs true (Some e) = refl
+ends-going a n rs false old = refl
 
 pub going-passed : (l : List Noted) (t o : ℕ) → is_going (ticked_at t ∷ l) o ≡ (not (expires l o t (waits_for l o)) && is_going l o)
-going-passed l t o = ends-going (length l) (replies l o) (expires l o t (waits_for l o)) (end_of l o)
+going-passed l t o = ends-going (begun l o) (length l) (replies l o) (expires l o t (waits_for l o)) (end_of l o)
 
 -- Who waits and isn't late waits still.
 waiting-passed : (l : List Noted) (t : ℕ) (p : Peer) (o : ℕ) → is_waiting (ticked_at t ∷ l) p o ≡ (is_waiting l p o && not (is_late t (begun l o)))

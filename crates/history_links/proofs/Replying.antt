@@ -1,6 +1,6 @@
 -- What a message that is new does to exchanges and to messages on their way.
 use Rattle.std.proofs.Common.{◌≡◌, ℕ, Bool, true, false, cond, eqb, leb, List, [], ◌∷◌, ◌++◌, length, Option, Some, None, inl, inr, refl, sym, ap, ◌∙◌}
-use Rattle.std.specs.Prelude.{fold, ◌&&◌, not, is_none, is_some}
+use Rattle.std.specs.Prelude.{◌&&◌, not, is_none, is_some}
 use Rattle.std.specs.List.{list_any, filter_map}
 use Rattle.std.proofs.lemmas.Bool.Decides.{eqb_tells}
 use Rattle.std.proofs.lemmas.Bool.{and_right}
@@ -11,9 +11,10 @@ use Rattle.uri_map.specs.declared.peer.Peer.{Peer}
 use Rattle.journal_book.specs.Entries.{Hears}
 use Rattle.history_laws.specs.Readings.{Noted, Says, Unobserved}
 use Rattle.history_laws.specs.Worked.{noted}
-use Rattle.history_laws.specs.Progress.{Reply, Ending, Progress, Asks, Ends, step, ended_by}
+use Rattle.history_laws.specs.Progress.{Reply, Ending}
 use Rattle.history_laws.specs.Transmissions.{transmission}
-use Rattle.history_laws.specs.Exchanges.{Turn, Nothing, Replied, answered_by, heard_turn, turn, waits_by, waits_for, replies, End, end_here, end_by, end_of, is_going, is_waiting, goes_to, begun}
+use Rattle.history_laws.specs.Exchanges.{Begun, Turn, Nothing, Replied, answered_by, heard_turn, turn, waits_by, waits_for, replies, End, end_here, end_by, end_of, is_going, is_waiting, goes_to, begun}
+use Rattle.history_laws.proofs.CallerLemmas.{replied-ends}
 
 abbrev pub says : ℕ → Peer → List ℕ → Content → Option ℕ → Noted
 says t p d m to = noted t (Hears p d) (Says m to Unobserved)
@@ -42,46 +43,43 @@ abbrev pub hit : Option ℕ → Content → Option ℕ → Bool
 hit to m None = false
 hit to m (Some i) = ends_what to m i
 
-record Effect (n : ℕ) (rs : List Reply) (u : Turn) (waits : Option ℕ) (b : Bool) : Type 0 where
+record Effect (a : Option Begun) (n : ℕ) (rs : List Reply) (u : Turn) (waits : Option ℕ) (b : Bool) : Type 0 where
   waits_are : waits_by u waits ≡ cond b None waits
-  ends : is_some (end_here n rs u) ≡ b
+  ends : is_some (end_here a n rs u) ≡ b
 
-some-end : (p : Progress) (rs : List Reply) (r : Reply) → is_some (ended_by (fold step p (rs ++ r ∷ []))) ≡ true
-some-end Asks [] r = refl
-some-end (Ends how) [] r = refl
-some-end p (q ∷ rs) r = some-end (step p q) rs r
-
-effect-kind : (n : ℕ) (rs : List Reply) (i : ℕ) (m : Content) (k : MsgType) (w : ℕ) → Effect n rs (answered_by i m k) (Some w) (ends_by k m.code)
-effect-kind n rs i m Rst w = record { waits_are = refl; ends = refl }
-effect-kind n rs i m Con w = by (leb 32 m.code)
+effect-kind : (a : Option Begun) (n : ℕ) (rs : List Reply) (i : ℕ) (m : Content) (k : MsgType) (w : ℕ)
+    → Effect a n rs (answered_by i m k) (Some w) (ends_by k m.code)
+effect-kind a n rs i m Rst w = record { waits_are = refl; ends = refl }
+effect-kind a n rs i m Con w = by (leb 32 m.code)
   where
-    by : (b : Bool) → Effect n rs (cond b (Replied i m) Nothing) (Some w) b
-    by true = record { waits_are = refl; ends = some-end Asks rs (record { number = n; sending = i; message = m }) }
+    by : (b : Bool) → Effect a n rs (cond b (Replied i m) Nothing) (Some w) b
+    by true = record { waits_are = refl; ends = replied-ends a rs (record { number = n; sending = i; message = m }) }
     by false = record { waits_are = refl; ends = refl }
-effect-kind n rs i m Non w = by (leb 32 m.code)
+effect-kind a n rs i m Non w = by (leb 32 m.code)
   where
-    by : (b : Bool) → Effect n rs (cond b (Replied i m) Nothing) (Some w) b
-    by true = record { waits_are = refl; ends = some-end Asks rs (record { number = n; sending = i; message = m }) }
+    by : (b : Bool) → Effect a n rs (cond b (Replied i m) Nothing) (Some w) b
+    by true = record { waits_are = refl; ends = replied-ends a rs (record { number = n; sending = i; message = m }) }
     by false = record { waits_are = refl; ends = refl }
-effect-kind n rs i m Ack w = by (leb 32 m.code)
+effect-kind a n rs i m Ack w = by (leb 32 m.code)
   where
-    by : (b : Bool) → Effect n rs (cond b (Replied i m) Nothing) (Some w) b
-    by true = record { waits_are = refl; ends = some-end Asks rs (record { number = n; sending = i; message = m }) }
+    by : (b : Bool) → Effect a n rs (cond b (Replied i m) Nothing) (Some w) b
+    by true = record { waits_are = refl; ends = replied-ends a rs (record { number = n; sending = i; message = m }) }
     by false = record { waits_are = refl; ends = refl }
 
 turn-of : Option ℕ → Content → Option ℕ → Turn
 turn-of None m waits = Nothing
 turn-of (Some i) m waits = heard_turn i m waits
 
-effect : (n : ℕ) (rs : List Reply) (to : Option ℕ) (m : Content) (waits : Option ℕ) → Effect n rs (turn-of to m waits) waits (hit to m waits)
+effect : (a : Option Begun) (n : ℕ) (rs : List Reply) (to : Option ℕ) (m : Content) (waits : Option ℕ)
+    → Effect a n rs (turn-of to m waits) waits (hit to m waits)
 unfolding turn-of
-effect n rs None m None = record { waits_are = refl; ends = refl }
-effect n rs None m (Some w) = record { waits_are = refl; ends = refl }
-effect n rs (Some i) m None = record { waits_are = refl; ends = refl }
-effect n rs (Some i) m (Some w) = elim (eqb_tells w i) [
+effect a n rs None m None = record { waits_are = refl; ends = refl }
+effect a n rs None m (Some w) = record { waits_are = refl; ends = refl }
+effect a n rs (Some i) m None = record { waits_are = refl; ends = refl }
+effect a n rs (Some i) m (Some w) = elim (eqb_tells w i) [
   | inl e ↦
       let turned : eqb i w ≡ true = elim (eqb_tells i w) [ inl f ↦ f.0 | inr f ↦ absurd (f.1 (sym e.1)) ] in
-      rw (e.0, turned) (effect-kind n rs i m m.kind w)
+      rw (e.0, turned) (effect-kind a n rs i m m.kind w)
   | inr e ↦
       let turned : eqb i w ≡ false = elim (eqb_tells i w) [ inl f ↦ absurd (e.1 (sym f.1)) | inr f ↦ f.0 ] in
       rw (e.0, turned) (record { waits_are = refl; ends = refl })
@@ -95,7 +93,7 @@ turn-is l t p d m (Some i) q = refl
 pub waits-after : (l : List Noted) (t : ℕ) (p : Peer) (d : List ℕ) (m : Content) (to : Option ℕ) (q : ℕ)
     → waits_for (says t p d m to ∷ l) q ≡ cond (hit to m (waits_for l q)) None (waits_for l q)
 waits-after l t p d m to q =
-    ap (λ (u : Turn). waits_by u (waits_for l q)) (turn-is l t p d m to q) ∙ (effect (length l) (replies l q) to m (waits_for l q)).waits_are
+    ap (λ (u : Turn). waits_by u (waits_for l q)) (turn-is l t p d m to q) ∙ (effect (begun l q) (length l) (replies l q) to m (waits_for l q)).waits_are
 
 ended-going : (how : Option Ending) (n : ℕ) (old : Option End) (b : Bool) → is_some how ≡ b → is_none (end_by how n old) ≡ (not b && is_none old)
 ended-going None n old b e = rw (← e) refl
@@ -105,8 +103,8 @@ ended-going (Some how) n (Some x) b e = rw (← e) refl
 pub going-after : (l : List Noted) (t : ℕ) (p : Peer) (d : List ℕ) (m : Content) (to : Option ℕ) (q : ℕ)
     → is_going (says t p d m to ∷ l) q ≡ (not (hit to m (waits_for l q)) && is_going l q)
 going-after l t p d m to q =
-    ended-going (end_here (length l) (replies l q) (turn l q (says t p d m to))) (length l) (end_of l q) (hit to m (waits_for l q))
-    (ap (λ (u : Turn). is_some (end_here (length l) (replies l q) u)) (turn-is l t p d m to q) ∙ (effect (length l) (replies l q) to m (waits_for l q)).ends)
+    ended-going (end_here (begun l q) (length l) (replies l q) (turn l q (says t p d m to))) (length l) (end_of l q) (hit to m (waits_for l q))
+    (ap (λ (u : Turn). is_some (end_here (begun l q) (length l) (replies l q) u)) (turn-is l t p d m to q) ∙ (effect (begun l q) (length l) (replies l q) to m (waits_for l q)).ends)
 
 -- who waits for a turn is as before
 pub waiting-after : (l : List Noted) (t : ℕ) (p r : Peer) (d : List ℕ) (m : Content) (to : Option ℕ) (q : ℕ) → is_waiting (says t p d m to ∷ l) r q ≡ is_waiting l r q

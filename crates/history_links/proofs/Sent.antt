@@ -10,7 +10,7 @@ use Rattle.journal_book.specs.Entries.{Sends}
 use Rattle.history_laws.specs.Readings.{Noted, First}
 use Rattle.history_laws.specs.Worked.{noted}
 use Rattle.history_laws.specs.Progress.{Reply}
-use Rattle.history_laws.specs.Exchanges.{Sent, Nothing, End, end_here, end_by, end_of, waits_by, waits_for, replies, goes_to, begun, is_waiting}
+use Rattle.history_laws.specs.Exchanges.{Begun, Sent, Nothing, End, end_here, end_by, end_of, waits_by, waits_for, replies, goes_to, begun, is_waiting}
 use Rattle.history_laws.proofs.CallerLemmas.{any-of, eqb-itself, filtered-from, none-some}
 use Rattle.history_links.proofs.Facts.{Rising}
 use Rattle.history_links.proofs.Mids.{count-cons}
@@ -20,12 +20,12 @@ sent t p b w o m = noted t (Sends p b w) (First o m)
 
 -- exchanges
 
-none-ended : (n : ℕ) (rs : List Reply) (b : Bool) (old : Option End) → end_by (end_here n rs (cond b (Sent n) Nothing)) n old ≡ old
-none-ended n rs true old = refl
-none-ended n rs false old = refl
+none-ended : (a : Option Begun) (n : ℕ) (rs : List Reply) (b : Bool) (old : Option End) → end_by (end_here a n rs (cond b (Sent n) Nothing)) n old ≡ old
+none-ended a n rs true old = refl
+none-ended a n rs false old = refl
 
 pub ends-sent : (l : List Noted) (t : ℕ) (p : Peer) (b : List ℕ) (w : Option ℕ) (o : ℕ) (m : Content) (q : ℕ) → end_of (sent t p b w o m ∷ l) q ≡ end_of l q
-ends-sent l t p b w o m q = none-ended (length l) (replies l q) (eqb o q) (end_of l q)
+ends-sent l t p b w o m q = none-ended (begun l q) (length l) (replies l q) (eqb o q) (end_of l q)
 
 awaits-by : (n : ℕ) (b : Bool) (old : Option ℕ) → waits_by (cond b (Sent n) Nothing) old ≡ cond b (Some n) old
 awaits-by n true old = refl

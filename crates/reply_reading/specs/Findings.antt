@@ -39,7 +39,7 @@ Fits (Tells w) (Kept js) = ⊤
 Fits (Fails cause) (Fault named n) = cause ≡ named
 Fits _ _ = ⊥
 
--- what the only reply makes known, which the entry with this number bears
+-- what the reply makes known, which the entry with this number bears, by the whole response that it is
 abbrev pub found_by : ℕ → Option Response → Found
 found_by n (Some w) = record { told = Tells w; grounds = Live (n ∷ []) }
 found_by n None = record { told = Fails NotUnderstood; grounds = Fault NotUnderstood n }

@@ -1,11 +1,10 @@
 //! What an ask comes to, and why.
 
-ghost use Rattle.std.specs.Prelude.{◌≡◌, ◌∷◌, [], IfOk};
+ghost use Rattle.std.specs.Prelude.{◌≡◌, IfOk};
 ghost use Rattle.coap_codec.specs.Spelling.{content};
-ghost use Rattle.ask_model.specs.Requests.{CoapRequest};
 ghost use Rattle.journal_book.specs.Entries.{Live, Fault};
 ghost use Rattle.journal_book.specs.Views.{grounds_of};
-ghost use Rattle.history_laws.specs.Responses.{whole_of};
+ghost use Rattle.history_laws.specs.Responses.{whole_in};
 ghost use Rattle.reply_reading.specs.Findings.{Tells, Fails, Fits, response_of, told_of, found_by};
 
 use crate::response::{Response, is_whole, response_of};
@@ -109,12 +108,12 @@ fn copy_outcome(outcome: &Outcome) -> Result<Outcome, AllocError>
     }
 }
 
-/// What the only reply to an exchange makes known, which the entry with this number bears: a whole
-/// response, whose payload isn't copied, or that it isn't understood.
-pub fn finding_of(alloc: Global, number: u32, m: Message) -> Result<Finding, AllocError>
-    ensures { (q : CoapRequest) → IfOk result (λ f. f ≡ found_by number (whole_of q (content m ∷ []))) }
+/// What the only reply to a request with this method makes known, which the entry with this number bears:
+/// a whole response, whose payload isn't copied, or that it isn't understood.
+pub fn finding_of(alloc: Global, method: u8, number: u32, m: Message) -> Result<Finding, AllocError>
+    ensures { IfOk result (λ f. f ≡ found_by number (whole_in method (content m))) }
 {
-    if !is_whole(&m) {
+    if !is_whole(method, &m) {
         return Ok(Finding::fault(Cause::NotUnderstood, number));
     }
     let replies = Numbers::from_slice(alloc, &[number])?;

@@ -1,11 +1,15 @@
 //! What a message is as the reply to a request (RFC 7252 section 5.9).
 
-ghost use Rattle.std.specs.Prelude.{◌≡◌, true, length, IfSome, option_map};
+ghost use Rattle.std.specs.Prelude.{◌≡◌, true, IfSome, option_map};
 ghost use Rattle.coap_codec.specs.Spelling.{content};
 ghost use Rattle.coap_codec.specs.Recognition.{is_defined, is_final, value_of};
-ghost use Rattle.history_laws.specs.Responses.{is_only_block, answers_all, is_in_one_piece};
+ghost use Rattle.history_laws.specs.Responses.{is_all};
 
-use coap_codec::{Message, is_defined, number, uint_of};
+use blockwise::{answers_piece, is_only_piece};
+use coap_codec::{Message, is_defined};
+
+/// The code of a GET (RFC 7252 section 12.1.1).
+const GET: u8 = 1;
 
 /// Whether its code ends a request.
 pub fn is_final(m: &Message) -> bool
@@ -28,35 +32,14 @@ pub fn value_of(m: &Message, number: u16) -> Option<&[u8]>
     None
 }
 
-/// Whether the value of a Block option names the first block, which no other follows (RFC 7959
-/// section 2.2).
-fn is_only_block(block: u32) -> bool
-    ensures { result ≡ is_only_block block }
+/// Whether all of the response is in it, as the reply to a request with this method: the only piece of a
+/// representation, or the answer to the only piece of a body (RFC 7959).
+pub fn is_all(method: u8, m: &Message) -> bool
+    ensures { result ≡ is_all method (content m.now) }
 {
-    block / 16 == 0 && block / 8 % 2 == 0
-}
-
-/// Whether it answers all that a message without Block1 carried: no Block1, or the only block (RFC
-/// 7959 sections 2.3 and 2.9.3).
-pub fn answers_all(m: &Message) -> bool
-    ensures { result ≡ answers_all (value_of 27 (content m.now)) }
-{
-    match value_of(m, number::BLOCK1) {
-        Some(value) => is_only_block(uint_of(value)),
-        None => true,
-    }
-}
-
-/// Whether it gives all in one piece: no Block2, or the only block, with no more bytes than it
-/// has (RFC 7959 sections 2.2 and 2.4).
-pub fn is_in_one_piece(m: &Message) -> bool
-    ensures { result ≡ is_in_one_piece (value_of 23 (content m.now)) (length m.now.payload.items) }
-{
-    match value_of(m, number::BLOCK2) {
-        Some(value) => {
-            let block = uint_of(value);
-            is_only_block(block) && m.payload.len() <= 1 << (block % 8 + 4)
-        }
-        None => true,
+    if method == GET {
+        is_only_piece(m)
+    } else {
+        answers_piece(0, m)
     }
 }

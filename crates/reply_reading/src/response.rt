@@ -1,14 +1,13 @@
 //! The whole response that a message is.
 
-ghost use Rattle.std.specs.Prelude.{◌≡◌, [], ◌∷◌, IfOk, Some, None, is_some, if◌then◌else◌, option_map};
+ghost use Rattle.std.specs.Prelude.{◌≡◌, IfOk, option_map};
 ghost use Rattle.coap_codec.specs.Spelling.{content};
 ghost use Rattle.coap_codec.specs.Values.{uint};
-ghost use Rattle.ask_model.specs.Requests.{CoapRequest};
 ghost use Rattle.coap_codec.specs.Recognition.{value_of, values_of};
-ghost use Rattle.history_laws.specs.Responses.{whole_of, response_of as said_by};
+ghost use Rattle.history_laws.specs.Responses.{is_whole, response_of as said_by};
 ghost use Rattle.reply_reading.specs.Findings.{response_of};
 
-use crate::reading::{answers_all, is_final, is_in_one_piece, value_of};
+use crate::reading::{is_all, is_final, value_of};
 use ask_model::Bytes;
 use coap_codec::{Message, is_defined, is_forwardable, number, uint_of};
 use std::alloc::{AllocError, Global};
@@ -68,12 +67,11 @@ impl Response {
     }
 }
 
-/// Whether the message, as the only reply, is a whole response.
-pub fn is_whole(m: &Message) -> bool
-    ensures decides { (q : CoapRequest) → result ≡ is_some (whole_of q (content m.now ∷ [])) }
-    ensures whole { (q : CoapRequest) → whole_of q (content m.now ∷ []) ≡ (if result then Some (said_by (content m.now)) else None) }
+/// Whether the message, as the only reply to a request with this method, is a whole response.
+pub fn is_whole(method: u8, m: &Message) -> bool
+    ensures { result ≡ is_whole method (content m.now) }
 {
-    is_forwardable(&m.options) && is_final(m) && answers_all(m) && is_in_one_piece(m)
+    is_forwardable(&m.options) && is_final(m) && is_all(method, m)
 }
 
 /// Its Content-Format.

@@ -6,10 +6,15 @@ use journal_book::Grounds;
 use reply_reading::{Finding, Outcome, Response, finding_of};
 use std::alloc::Global;
 
+/// The codes of the requests that are replied to.
+const GET: u8 = 1;
+
+const PUT: u8 = 3;
+
 /// What the datagram makes known as the only reply, which the entry with the number 4 bears.
-fn finding_in(alloc: Global, bytes: &[u8]) -> Option<Finding> {
+fn finding_in(alloc: Global, method: u8, bytes: &[u8]) -> Option<Finding> {
     let message = decode(alloc, bytes).ok()?;
-    finding_of(alloc, 4, message).ok()
+    finding_of(alloc, method, 4, message).ok()
 }
 
 /// It is a response, which rests on the entry 4.
@@ -32,47 +37,73 @@ fn names_the_entry(grounds: &Grounds) -> bool {
     matches!(grounds, Grounds::Fault(Cause::NotUnderstood, 4))
 }
 
-/// A datagram, and whether it is a whole response; the others aren't understood.
-static ROWS: [(&[u8], bool); 22] = [
+/// The method of a request, a datagram, and whether it is a whole response; the others aren't understood.
+static ROWS: [(u8, &[u8], bool); 33] = [
     // the response of figure 17, piggybacked; separate ones
-    (b"\x62\x45\x7d\x34te\xff22.3 C", true),
-    (b"\x42\x45\x12\x99te\xffon", true),
-    (b"\x52\x45\x12\x99te\xffon", true),
+    (GET, b"\x62\x45\x7d\x34te\xff22.3 C", true),
+    (GET, b"\x42\x45\x12\x99te\xffon", true),
+    (GET, b"\x52\x45\x12\x99te\xffon", true),
     // 2.03 and 4.04, and a code of a reserved class
-    (b"\x42\x43\x12\x99te", false),
-    (b"\x42\x84\x12\x99te", true),
-    (b"\x42\x20\x12\x99te", false),
-    (b"\x52\x20\x12\x99te", false),
+    (GET, b"\x42\x43\x12\x99te", false),
+    (GET, b"\x42\x84\x12\x99te", true),
+    (GET, b"\x42\x20\x12\x99te", false),
+    (GET, b"\x52\x20\x12\x99te", false),
     // unknown options: safe to forward, unsafe, critical
-    (b"\x42\x45\x12\x99te\xe1\x06\xf3x", true),
-    (b"\x42\x45\x12\x99te\xe1\x06\xf5x", false),
-    (b"\x42\x45\x12\x99te\xe1\x06\xf4x", false),
-    // Block2: the last one, one with more to come, one of the reserved size, and two
-    (b"\x42\x45\x12\x99te\xd1\x0a\x06", true),
-    (b"\x42\x45\x12\x99te\xd1\x0a\x0e", false),
-    (b"\x42\x45\x12\x99te\xd1\x0a\x07", false),
-    (b"\x42\x45\x12\x99te\xd1\x0a\x06\x01\x06", false),
-    // Block1: the first block, also with a 4.13, where its size is a hint; a later one; one with more to
-    // come, also with a 4.13; 2.31; and one of four bytes
-    (b"\x42\x44\x12\x99te\xd1\x0e\x06", true),
-    (b"\x42\x8d\x12\x99te\xd1\x0e\x02", true),
-    (b"\x42\x44\x12\x99te\xd1\x0e\x16", false),
-    (b"\x42\x44\x12\x99te\xd1\x0e\x0e", false),
-    (b"\x42\x8d\x12\x99te\xd1\x0e\x0a", false),
-    (b"\x42\x5f\x12\x99te\xd1\x0e\x06", false),
-    (b"\x42\x44\x12\x99te\xd4\x0e\0\0\0\x06", false),
+    (GET, b"\x42\x45\x12\x99te\xe1\x06\xf3x", true),
+    (GET, b"\x42\x45\x12\x99te\xe1\x06\xf5x", false),
+    (GET, b"\x42\x45\x12\x99te\xe1\x06\xf4x", false),
+    // Block2 to a GET: the last one, one with more to come, one of the reserved size, and two
+    (GET, b"\x42\x45\x12\x99te\xd1\x0a\x06", true),
+    (GET, b"\x42\x45\x12\x99te\xd1\x0a\x0e", false),
+    (GET, b"\x42\x45\x12\x99te\xd1\x0a\x07", false),
+    (GET, b"\x42\x45\x12\x99te\xd1\x0a\x06\x01\x06", false),
+    // a later one; of 16 bytes, with 16 and with 17
+    (GET, b"\x42\x45\x12\x99te\xd1\x0a\x10", false),
+    (
+        GET,
+        b"\x42\x45\x12\x99te\xd1\x0a\0\xff0123456789abcdef",
+        true,
+    ),
+    (
+        GET,
+        b"\x42\x45\x12\x99te\xd1\x0a\0\xff0123456789abcdefg",
+        false,
+    ),
+    // Block1 to a GET says nothing: a later one, one with more to come, and one with an error
+    (GET, b"\x42\x45\x12\x99te\xd1\x0e\x16", true),
+    (GET, b"\x42\x45\x12\x99te\xd1\x0e\x0e", true),
+    (GET, b"\x42\x84\x12\x99te\xd1\x0e\x16", true),
+    // Block1 to a PUT: the piece that went, of any size and with more set, also with a 4.13; another
+    // piece; 2.31; and one of four bytes
+    (PUT, b"\x42\x44\x12\x99te\xd1\x0e\x06", true),
+    (PUT, b"\x42\x8d\x12\x99te\xd1\x0e\x02", true),
+    (PUT, b"\x42\x44\x12\x99te\xd1\x0e\x0e", true),
+    (PUT, b"\x42\x8d\x12\x99te\xd1\x0e\x0a", true),
+    (PUT, b"\x42\x44\x12\x99te\xd1\x0e\x16", false),
+    (PUT, b"\x42\x8d\x12\x99te\xd1\x0e\x1a", false),
+    (PUT, b"\x42\x5f\x12\x99te\xd1\x0e\x06", false),
+    (PUT, b"\x42\x44\x12\x99te\xd4\x0e\0\0\0\x06", false),
+    // Block2 to a PUT: the only piece, of any size; a later one, and one with more to come
+    (PUT, b"\x42\x44\x12\x99te\xd1\x0a\x06\xffon", true),
+    (
+        PUT,
+        b"\x42\x44\x12\x99te\xd1\x0a\0\xff0123456789abcdefg",
+        true,
+    ),
+    (PUT, b"\x42\x44\x12\x99te\xd1\x0a\x10\xffon", false),
+    (PUT, b"\x42\x44\x12\x99te\xd1\x0a\x0e\xffon", false),
     // Location-Path may repeat
-    (b"\x42\x45\x12\x99te\x81a\x01b", true),
+    (GET, b"\x42\x45\x12\x99te\x81a\x01b", true),
 ];
 
 /// The rows, handed out by a call that says nothing of them: a loop over them is proved in less time.
-fn rows() -> &'static [(&'static [u8], bool)] {
+fn rows() -> &'static [(u8, &'static [u8], bool)] {
     &ROWS
 }
 
 /// Whether the datagram makes known what is wanted.
-fn makes_known(alloc: Global, bytes: &[u8], whole: bool) -> bool {
-    match finding_in(alloc, bytes) {
+fn makes_known(alloc: Global, method: u8, bytes: &[u8], whole: bool) -> bool {
+    match finding_in(alloc, method, bytes) {
         Some(finding) if whole => is_whole(&finding),
         Some(finding) => is_not_understood(&finding),
         None => false,
@@ -81,8 +112,8 @@ fn makes_known(alloc: Global, bytes: &[u8], whole: bool) -> bool {
 
 #[test]
 fn replies_are_whole_or_not_understood(rt: HostRuntime) {
-    for &(bytes, whole) in rows() {
-        let told = makes_known(rt.alloc(), bytes, whole);
+    for &(method, bytes, whole) in rows() {
+        let told = makes_known(rt.alloc(), method, bytes, whole);
         assert!(rt; told, "{bytes:?}");
     }
 }
@@ -97,7 +128,7 @@ fn response_of(finding: &Finding) -> Option<Response> {
 
 /// The response that this datagram is, by a copy of what it makes known.
 fn response_in(alloc: Global, bytes: &[u8]) -> Option<Response> {
-    let finding = finding_in(alloc, bytes)?;
+    let finding = finding_in(alloc, GET, bytes)?;
     let copy = finding.copy().ok()?;
     response_of(&copy)
 }

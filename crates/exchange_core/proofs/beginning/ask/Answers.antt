@@ -1,5 +1,7 @@
 use Rattle.std.proofs.Common.{refl, ap, ◌∙◌, arith}
 use Rattle.std.specs.Arc.{arc_value}
+use Rattle.ask_model.specs.Views.{Mapping}
+use Rattle.exchange_core.specs.Beginning.{asked_method}
 use Rattle.exchange_table.specs.Tables.{number_of, opening_of}
 use Rattle.exchange_core.specs.States.{state_of}
 use Rattle.exchange_core.proofs.Ordered.{conns-ordered, latest}
@@ -21,33 +23,36 @@ exchange_of-exchange-requires g c =
 pub returns-in-Ok-clause-sound : goal.returns-in-Ok-clause-sound
 returns-in-Ok-clause-sound g c =
     let n = c.len-number.ensures in
+    let asked = c.method_of-method.ensures ∙ ap (λ (m : Mapping). asked_method m.sense) c.deref.ensures in
     let k = link-takes _ _ _ _ _ c.requires.may in
     let next = sent-next _ _ _ _ _ k c.requires.waiting in
     let h = c.in_ok-draft.ensures.drafts in
     let i = entered-by c.enter.result _ _ _ _ _ c.in_ok-draft.draft c.args.s.now c.enter.new.s
-    (exchange-is _ _ _ _ _ _ _ _ n c.exchange_of-exchange.ensures) c.requires.waiting c.enter.ensures in
+    (exchange-is _ _ _ _ _ _ _ _ _ _ asked n c.exchange_of-exchange.ensures) c.requires.waiting c.enter.ensures in
     enters-sound c.args.moment c.args.word c.args.conn (arc_value c.args.mapped) c.args.peer c.args.token c.args.text.now c.args.prepared.submission.sent c.in_ok-draft.draft c.args.s.now c.enter.new.s
     c.requires.sound c.requires.begins h next c.in_ok-draft.ensures.answers c.enter.result i
 
 pub returns-in-Err-clause-sound : goal.returns-in-Err-clause-sound
 returns-in-Err-clause-sound g c =
     let n = c.len-number.ensures in
+    let asked = c.method_of-method.ensures ∙ ap (λ (m : Mapping). asked_method m.sense) c.deref.ensures in
     let k = link-takes _ _ _ _ _ c.requires.may in
     let next = sent-next _ _ _ _ _ k c.requires.waiting in
     let h = c.in_ok-draft.ensures.drafts in
     let i = entered-by c.enter.result _ _ _ _ _ c.in_ok-draft.draft c.args.s.now c.enter.new.s
-    (exchange-is _ _ _ _ _ _ _ _ n c.exchange_of-exchange.ensures) c.requires.waiting c.enter.ensures in
+    (exchange-is _ _ _ _ _ _ _ _ _ _ asked n c.exchange_of-exchange.ensures) c.requires.waiting c.enter.ensures in
     enters-sound c.args.moment c.args.word c.args.conn (arc_value c.args.mapped) c.args.peer c.args.token c.args.text.now c.args.prepared.submission.sent c.in_ok-draft.draft c.args.s.now c.enter.new.s
     c.requires.sound c.requires.begins h next c.in_ok-draft.ensures.answers c.enter.result i
 
 pub returns-in-Ok-clause-ok : goal.returns-in-Ok-clause-ok
 returns-in-Ok-clause-ok g c =
     let n = c.len-number.ensures in
+    let asked = c.method_of-method.ensures ∙ ap (λ (m : Mapping). asked_method m.sense) c.deref.ensures in
     let k = link-takes _ _ _ _ _ c.requires.may in
     let next = sent-next _ _ _ _ _ k c.requires.waiting in
     let h = c.in_ok-draft.ensures.drafts in
     let i = entered-by c.enter.result _ _ _ _ _ c.in_ok-draft.draft c.args.s.now c.enter.new.s
-    (exchange-is _ _ _ _ _ _ _ _ n c.exchange_of-exchange.ensures) c.requires.waiting c.enter.ensures in
+    (exchange-is _ _ _ _ _ _ _ _ _ _ asked n c.exchange_of-exchange.ensures) c.requires.waiting c.enter.ensures in
     let b =
     enters-ok c.args.moment c.args.word c.args.conn (arc_value c.args.mapped) c.args.peer c.args.token c.args.text.now c.args.prepared.submission.sent c.in_ok-draft.draft c.args.s.now c.enter.new.s
     c.requires.sound c.requires.begins h next c.in_ok-draft.ensures.answers c.in-Ok.field-0 (rw (c.in-Ok.is) at i) in
@@ -56,11 +61,12 @@ returns-in-Ok-clause-ok g c =
 pub returns-in-Err-clause-err : goal.returns-in-Err-clause-err
 returns-in-Err-clause-err g c =
     let n = c.len-number.ensures in
+    let asked = c.method_of-method.ensures ∙ ap (λ (m : Mapping). asked_method m.sense) c.deref.ensures in
     let k = link-takes _ _ _ _ _ c.requires.may in
     let next = sent-next _ _ _ _ _ k c.requires.waiting in
     let h = c.in_ok-draft.ensures.drafts in
     let i = entered-by c.enter.result _ _ _ _ _ c.in_ok-draft.draft c.args.s.now c.enter.new.s
-    (exchange-is _ _ _ _ _ _ _ _ n c.exchange_of-exchange.ensures) c.requires.waiting c.enter.ensures in
+    (exchange-is _ _ _ _ _ _ _ _ _ _ asked n c.exchange_of-exchange.ensures) c.requires.waiting c.enter.ensures in
     enters-err c.args.moment c.args.word c.args.conn (arc_value c.args.mapped) c.args.peer c.args.token c.args.text.now c.args.prepared.submission.sent c.in_ok-draft.draft c.args.s.now c.enter.new.s
     c.requires.sound c.requires.begins h next c.in_ok-draft.ensures.answers (Unit {0}) c.in-Err.fault (rw (c.in-Err.is) at i)
 

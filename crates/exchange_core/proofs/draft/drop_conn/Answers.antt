@@ -1,7 +1,7 @@
 use Rattle.std.proofs.Common.{refl, sym, ◌∙◌, arith}
 use Rattle.exchange_core.specs.Places.{has_id}
 use Rattle.exchange_table.specs.Places.{IsOnlyAt, IsNowhere}
-use Rattle.exchange_table.proofs.CallerLemmas.{filter-only, filter-none}
+use Rattle.exchange_table.proofs.CallerLemmas.{filter-none, filter-only}
 use Rattle.exchange_core.proofs.draft.drop_conn.Goals as goal
 
 pub remove-requires : goal.remove-requires

@@ -2,7 +2,7 @@ use Rattle.std.proofs.Common.{refl, sym, ◌∙◌}
 use Rattle.exchange_model.specs.Calls.{waits_on}
 use Rattle.exchange_core.specs.Places.{has_id}
 use Rattle.exchange_core.proofs.Ordered.{not-waiting}
-use Rattle.exchange_table.proofs.CallerLemmas.{any-only, any-none}
+use Rattle.exchange_table.proofs.CallerLemmas.{any-none, any-only}
 use Rattle.exchange_core.proofs.exchanges.is_awaited.Goals as goal
 
 pub returns-in-Some : goal.returns-in-Some

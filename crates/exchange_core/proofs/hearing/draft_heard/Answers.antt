@@ -16,26 +16,29 @@ draft_ends-requires-clause-room g c =
     let link = link-few c.args.peer c.args.datagram.now c.args.heeding.now in
     let ended : length c.in_ok-ended.ended.items ≤ 1 = rw (c.in_ok-ended.ensures)
     (ended-few (ended_in (over_in c.args.heeding.now) c.args.s.now.exchanges.exchanges)
-    (found_in c.len-number.result (told c.args.up))) in
+    (found_in c.len-number.result (ended_in (over_in c.args.heeding.now) c.deref.result.now)
+    (told c.args.up))) in
     omega (arith, next, few, link, ended)
 
 pub draft_ends-requires-clause-ends : goal.draft_ends-requires-clause-ends
 draft_ends-requires-clause-ends g c =
     let h = c.args.s.now.journal.entries in
+    let e = ended_in (over_in c.args.heeding.now) c.deref.result.now in
     rw (c.in_ok-ended.ensures)
     (ended-so h c.args.moment c.args.peer c.args.datagram.now c.args.heeding.now (told c.args.up)
     _ _ c.in_ok-draft.draft.entries c.in_ok-draft.ensures.drafts.entries
     (if-ended (IsOpenedIn h) (over_in c.args.heeding.now) _
     c.requires.opened)
-    (ap (λ (k : ℕ). found_in k (told c.args.up)) c.len-number.ensures) c.requires.spelled)
+    (ap (λ (k : ℕ). found_in k e (told c.args.up)) c.len-number.ensures) c.requires.spelled)
 
 pub returns-clause-drafts : goal.returns-clause-drafts
 returns-clause-drafts g c =
     let t = c.args.moment in
     let S : State = state_of c.args.s.now in
     let x = c.args.heeding.now in
-    let are : c.in_ok-ended.ended.items ≡ ended_by (ended_in (over_in x) S.exchanges)
-    (found_in (length S.entries) (told c.args.up)) =
+    let e = ended_in (over_in x) S.exchanges in
+    let are : c.in_ok-ended.ended.items
+    ≡ ended_by e (found_in (length S.entries) e (told c.args.up)) =
     c.in_ok-ended.ensures ∙ rw (c.len-number.ensures) refl in
     leads-drafts t S (hearing_deeds c.args.peer c.args.datagram.now x (told c.args.up) S)
     c.draft_ends.new.draft
@@ -49,8 +52,9 @@ returns-clause-given g c =
     let t = c.args.moment in
     let S : State = state_of c.args.s.now in
     let x = c.args.heeding.now in
-    let are : c.in_ok-ended.ended.items ≡ ended_by (ended_in (over_in x) S.exchanges)
-    (found_in (length S.entries) (told c.args.up)) =
+    let e = ended_in (over_in x) S.exchanges in
+    let are : c.in_ok-ended.ended.items
+    ≡ ended_by e (found_in (length S.entries) e (told c.args.up)) =
     c.in_ok-ended.ensures ∙ rw (c.len-number.ensures) refl in
     (heard-leads t c.args.peer c.args.datagram.now x (told c.args.up) S c.in_ok-ended.ended.items
     c.in_ok-draft.draft c.draft_ends.new.draft c.in_ok-draft.ensures.drafts

@@ -1,19 +1,19 @@
 -- What the finding tells is what the message is.
-use Rattle.std.proofs.Common.{[], ◌∷◌, sym, ap, ◌∙◌}
+use Rattle.std.proofs.Common.{sym, ap, ◌∙◌}
 use Rattle.coap_codec.specs.Spelling.{content}
-use Rattle.history_laws.specs.Responses.{whole_of}
+use Rattle.history_laws.specs.Responses.{whole_in}
 use Rattle.reply_reading.specs.Findings.{Found, response_of, told_of}
 use Rattle.gateway_desk.proofs.Outcomes.{found-said, found-fails}
 use Rattle.gateway_desk.proofs.shown.is_response.Goals as goal
 
 pub returns-in-Whole : goal.returns-in-Whole
-returns-in-Whole c q =
-    let told = sym (ap (λ (f : Found). f.told) (c.in_ok-finding.ensures q)) ∙ sym c.outcome.ensures.told ∙ ap told_of c.in-Whole.is in
-    let same = found-said 0 (whole_of q (content c.args.message ∷ [])) (response_of c.in-Whole.said) (response_of c.args.response.now) told in
+returns-in-Whole c =
+    let told = sym (ap (λ (f : Found). f.told) c.in_ok-finding.ensures) ∙ sym c.outcome.ensures.told ∙ ap told_of c.in-Whole.is in
+    let same = found-said 0 (whole_in c.args.method (content c.args.message)) (response_of c.in-Whole.said) (response_of c.args.response.now) told in
     ((λ is. same.0 (c.is_same_response.ensures.0 is)), (λ e. c.is_same_response.ensures.1 (same.1 e)))
 
 pub returns : goal.returns
-returns c q =
-    let told = sym (ap (λ (f : Found). f.told) (c.in_ok-finding.ensures q)) ∙ sym c.outcome.ensures.told ∙ ap told_of c.in-Fault.is in
-    let none = found-fails 0 (whole_of q (content c.args.message ∷ [])) c.in-Fault.field-0 (response_of c.args.response.now) told in
+returns c =
+    let told = sym (ap (λ (f : Found). f.told) c.in_ok-finding.ensures) ∙ sym c.outcome.ensures.told ∙ ap told_of c.in-Fault.is in
+    let none = found-fails 0 (whole_in c.args.method (content c.args.message)) c.in-Fault.field-0 (response_of c.args.response.now) told in
     ((λ is. absurd cc), (λ e. absurd (none e)))

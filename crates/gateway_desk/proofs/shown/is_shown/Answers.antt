@@ -1,11 +1,12 @@
 -- What rests on one entry is shown just where that says it.
-use Rattle.std.proofs.Common.{◌≤◌, ℕ, List, length, sym, ap, subst, ◌∙◌}
+use Rattle.std.proofs.Common.{◌↔◌, ◌≤◌, ℕ, List, length, get_or, IsTrue, IfOk, sym, ap, subst, ◌∙◌}
 use Rattle.ask_model.specs.Requests.{CoapRequest}
 use Rattle.code_map.specs.Methods.{request_code}
 use Rattle.ask_model.specs.Views.{Mapping, body_of, payload_of, sense_of}
 use Rattle.journal_book.specs.Entries.{Live}
 use Rattle.journal_book.specs.Views.{grounds_of}
 use Rattle.reply_reading.specs.Findings.{response_of, told_of}
+use Rattle.gateway_desk.specs.Shown.{IsSaidAt}
 use Rattle.gateway_desk.proofs.Outcomes.{one-of, shows-so, shows-none}
 use Rattle.gateway_desk.proofs.shown.is_shown.Goals as goal
 
@@ -14,7 +15,7 @@ returns-in-len1 g c =
     let a = c.args.answer.now in
     let arm = c.in-Whole-Live-Ask in
     let q : CoapRequest = record {
-      method = request_code arm.method-2;
+      method = request_code arm.method;
       peer = arm.peer-2;
       target = arm.target-2;
       accept = arm.accept-2;
@@ -27,14 +28,17 @@ returns-in-len1 g c =
     ∙ ap (λ (m : Mapping). m.sense) c.deref.ensures in
     let one = ap Live (sym (one-of c.as_slice.result.now 0 c.in-len1.len_at_least c.in-len1.len_below)) in
     shows-so c.is_said_at.result c.args.journal.now.entries _ a.moment a.heard q (response_of arm.response) _ _ _
-    told (one ∙ ap Live c.as_slice.ensures ∙ grounds) sense (c.is_said_at.ensures q)
+    told (one ∙ ap Live c.as_slice.ensures ∙ grounds) sense
+    (subst (λ (k : ℕ). IfOk c.is_said_at.result (λ is. IsTrue is
+    ↔ IsSaidAt c.args.journal.now.entries (get_or c.as_slice.result.now 0 0) a.heard k (response_of arm.response)))
+    c.code-method.ensures c.is_said_at.ensures)
 
 pub returns-in_default-as_slice-2 : goal.returns-in_default-as_slice-2
 returns-in_default-as_slice-2 g c =
     let a = c.args.answer.now in
     let arm = c.in-Whole-Live-Ask in
     let q : CoapRequest = record {
-      method = request_code arm.method-2;
+      method = request_code arm.method;
       peer = arm.peer-2;
       target = arm.target-2;
       accept = arm.accept-2;

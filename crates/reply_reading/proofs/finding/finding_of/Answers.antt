@@ -5,8 +5,8 @@ use Rattle.reply_reading.proofs.finding.finding_of.Goals as goal
 
 pub returns-then-not-is_whole : goal.returns-then-not-is_whole
 returns-then-not-is_whole c =
-    found-none c.args.number (content c.args.m) c.is_whole.result c.fault.result c.is_whole.ensures.whole (search rules) c.fault.ensures
+    found-none c.args.number c.args.method (content c.args.m) c.is_whole.result c.fault.result c.is_whole.ensures (search rules) c.fault.ensures
 
 pub returns : goal.returns
 returns c =
-    found-whole c.args.number (content c.args.m) c.is_whole.result c.whole.result _ _ c.is_whole.ensures.whole (search rules) c.whole.ensures c.in_ok-response_of.ensures c.in_ok-replies.ensures
+    found-whole c.args.number c.args.method (content c.args.m) c.is_whole.result c.whole.result _ _ c.is_whole.ensures (search rules) c.whole.ensures c.in_ok-response_of.ensures c.in_ok-replies.ensures
