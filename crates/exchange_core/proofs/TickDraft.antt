@@ -8,7 +8,8 @@ use Rattle.exchange_model.specs.declared.kept.Exchange.{Exchange}
 use Rattle.exchange_model.specs.State.{State}
 use Rattle.exchange_model.specs.Steps.{is_gone}
 use Rattle.exchange_model.specs.Entering.{Going, entered_all, all_deeds, all_going, sent_as, gone_tokens}
-use Rattle.exchange_model.proofs.CallerLemmas.{deeds-same, entries-more, going-same, gone-tokens}
+use Rattle.exchange_model.proofs.CallerLemmas.{entries-more, gone-tokens}
+use Rattle.exchange_core.proofs.TickDeeds.{deeds-same, going-same}
 use Rattle.exchange_core.specs.declared.state.Endpoint.{Endpoint}
 use Rattle.exchange_core.specs.Drafts.{DraftValue}
 use Rattle.exchange_core.specs.Leads.{Leads}

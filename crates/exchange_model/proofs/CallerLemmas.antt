@@ -13,10 +13,9 @@ pub use Rattle.exchange_model.proofs.InRoom.{asks-in-room, fits-parts, hears-in-
 pub use Rattle.exchange_model.proofs.LinksTicked.{Few, few-copies}
 pub use Rattle.exchange_model.proofs.Lists.{all-map, all-mapped}
 pub use Rattle.exchange_model.proofs.Numbered.{conns-below, conns-rise}
-pub use Rattle.exchange_model.proofs.Passed.{below, deeds-same, going-same, moved-conns}
+pub use Rattle.exchange_model.proofs.Passed.{below, moved-conns}
 pub use Rattle.exchange_model.proofs.Stepping.{kept-stands}
 pub use Rattle.exchange_model.proofs.Tallies.{busy-count}
 pub use Rattle.exchange_model.proofs.TickAdds.{ticked-adds}
 pub use Rattle.exchange_model.proofs.TickEnters.{stays-drained, ticks-enter}
 pub use Rattle.exchange_model.proofs.Ticking.{ticks-do}
-pub use Rattle.exchange_model.proofs.Expiring.{going-step}

@@ -5,7 +5,7 @@ use Rattle.std.proofs.lemmas.Bool.Decides.{eqb_tells}
 use Rattle.ask_model.specs.declared.cause.Cause.TheVariants as C
 use Rattle.journal_book.specs.Entries.{Deed, Sends, Hears, Passes, Fault}
 use Rattle.history_laws.specs.Readings.{Noted, Note, Plain, First, Says}
-use Rattle.history_laws.specs.Progress.{Reply, TimedOut}
+use Rattle.history_laws.specs.Progress.{Ending, Reply, TimedOut}
 use Rattle.history_laws.specs.Transmissions.{sent_last}
 use Rattle.history_laws.specs.Exchanges.{Begun, begun, Turn, Nothing, Sent, Replied, Rejected, Expired, expires as ends_at, turn, waits_by, waits_for, replies, end_here, end_of}
 use Rattle.history_laws.specs.Justified.{Ends}

@@ -29,10 +29,9 @@ use Rattle.gateway_model.specs.Unasked.{Unasked, unasked_at, changed_at, extende
 use Rattle.gateway_model.specs.Waiting.{conn_id}
 use Rattle.gateway_model.proofs.Moving.{Moves, Begins, asks-begin}
 use Rattle.gateway_model.proofs.Conns.{StandOnce}
-use Rattle.gateway_model.proofs.Awaiting.{IsToTell, Awaits, AskTheirOwn, same-entry, StepsTo, steps-by, steps-own, steps-once, steps-await, AsksTo, asks-by, asks-own, asks-others, asks-await, shut-await, shut-own, shut-once, taken-await}
+use Rattle.gateway_model.proofs.Awaiting.{IsToTell, Awaits, AskTheirOwn, same-entry, StepsTo, steps-by, steps-own, steps-once, steps-await, AsksTo, asks-by, asks-once, asks-own, asks-others, asks-await, shut-await, shut-own, shut-once, taken-await}
 use Rattle.gateway_model.proofs.Numbers.{at-number, extended-number, closed-numbers, numbered}
 use Rattle.gateway_model.proofs.Standing.{others-same, own-before, others-left, own-gone}
-use Rattle.history_laws.proofs.CallerLemmas.{asks-once}
 
 abbrev pub IsLast : Ask → Type 0
 IsLast a = closes a.came ≡ true

@@ -269,9 +269,9 @@ module _ (l : List Noted) (n t c k : ℕ) (cause : Cause) (j : ℕ) (legal : Leg
     where
       -- the end is a tick
       not-heard : (e i : ℕ) (y : Noted) (p : Peer) (x : Content) (s : ℕ) → e ≡ i → at l e ≡ Some y
-          → end_here e (replies (before (before l n) e) k) (turn (before (before l n) e) k y) ≡ Some TimedOut → IsHeard (entries l) p i s x → ⊥
+          → end_here (begun (before (before l n) e) k) e (replies (before (before l n) e) k) (turn (before (before l n) e) k y) ≡ Some TimedOut → IsHeard (entries l) p i s x → ⊥
       not-heard e i y p x s same there ends h =
-          let it = turn-expired (before (before l n) e) k y (expired-turn (turn (before (before l n) e) k y) e (replies (before (before l n) e) k) ends) in
+          let it = turn-expired (before (before l n) e) k y (expired-turn (begun (before (before l n) e) k) (turn (before (before l n) e) k y) e (replies (before (before l n) e) k) ends) in
           let tick = stands-as l e y _ there it.entry in
           let heard = entries-at l i _ h.stands in
           hears-not s y.written.moment p h.bytes heard.0 y.note

@@ -92,9 +92,9 @@ going-in-time l k o n t x note b legal here going opened after early tick late =
     let was = opening-begun (before l n) o b.since opening.0 b.request (at-still l n o _ _ tick after stands) in
     let over : turn (before l n) o (noted t Passes note) ≡ Expired = rw (late-expires (before l n) o t b (waits_for (before l n) o) was late) refl in
     let twice = before-twice l k n x here early in
-    let ends : end_here n (replies (before (before l k) n) o) (turn (before (before l k) n) o (noted t Passes note)) ≡ Some TimedOut =
-    subst (λ (v : List Noted). end_here n (replies v o) (turn v o (noted t Passes note)) ≡ Some TimedOut) (sym twice)
-    (subst (λ (u : Turn). end_here n (replies (before l n) o) u ≡ Some TimedOut) (sym over) refl) in
+    let ends : end_here (begun (before (before l k) n) o) n (replies (before (before l k) n) o) (turn (before (before l k) n) o (noted t Passes note)) ≡ Some TimedOut =
+    subst (λ (v : List Noted). end_here (begun v o) n (replies v o) (turn v o (noted t Passes note)) ≡ Some TimedOut) (sym twice)
+    (subst (λ (u : Turn). end_here (begun (before l n) o) n (replies (before l n) o) u ≡ Some TimedOut) (sym over) refl) in
     false≢true (sym (ended-at (before l k) o n _ TimedOut (at-still l k n _ _ here early tick) ends) ∙ going)
 
 -- an exchange that goes on is that of an ask which wasn't answered

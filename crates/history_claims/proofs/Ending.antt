@@ -22,7 +22,7 @@ use Rattle.history_laws.specs.Hearing.{went_as, is_as, open_at, answers_by, answ
 use Rattle.history_laws.specs.Justified.{MaySay, Follows}
 use Rattle.history_laws.specs.Laws.{IsFirst}
 use Rattle.history_laws.specs.Worked.{noted}
-use Rattle.history_laws.proofs.CallerLemmas.{at-same, contains-none, eqb-same, find-some, first-or-later, first-stands, first_end, none-is, none-some, progress-more, replied-first, some-is, waits-first}
+use Rattle.history_laws.proofs.CallerLemmas.{at-same, contains-none, eqb-same, find-some, first-or-later, first-stands, first_end, none-is, none-some, replied-first, some-is, waits-first}
 
 -- an entry that rejects what an exchange waits for
 pub record RejectedTurn (l : List Noted) (o : ℕ) (x : Noted) : Type 0 where

@@ -108,7 +108,7 @@ module _ (l : List Noted) (c k e : ℕ) (a : Ask) (legal : Legal l) (ask : IsAsk
   after-ask : k < e
   after-ask =
       let end = ends-first l k e TimedOut ended in
-      let it = turn-expired (before l e) k end.0 (expired-turn (turn (before l e) k end.0) e (replies (before l e) k) end.3) in
+      let it = turn-expired (before l e) k end.0 (expired-turn (begun (before l e) k) (turn (before l e) k end.0) e (replies (before l e) k) end.3) in
       subst (λ (n : ℕ). k < n) (length-before l e end.0 end.1)
       (expires-begun (before l e) k end.0.written.moment (waits_for (before l e) k) (legal-before l e legal) refl it.over)
 
@@ -128,7 +128,7 @@ module _ (l : List Noted) (c k e : ℕ) (a : Ask) (legal : Legal l) (ask : IsAsk
       let twice = before-twice l i e x here late in
       let over : is_none (end_of (before l i) k) ≡ false =
       ended-at (before l i) k e end.0 TimedOut (at-still l i e _ _ here late end.1)
-      (subst (λ (v : List Noted). end_here e (replies v k) (turn v k end.0) ≡ Some TimedOut) (sym twice) end.3) in
+      (subst (λ (v : List Noted). end_here (begun v k) e (replies v k) (turn v k end.0) ≡ Some TimedOut) (sym twice) end.3) in
       let below_ask : c < opened (before l k) = open-below (before l k) (legal-before l k legal) c asked-open in
       let more = opened-before (before l i) k in
       let sooner = before-twice l i k x here less in

@@ -12,7 +12,7 @@ use Rattle.history_laws.specs.Exchanges.{Begun, begun, Turn, Nothing, Sent, Repl
 use Rattle.history_laws.specs.Justified.{IsAsk, Ends as EndsAs, reads_by, reads_in, reads, HasGrounds, Follows, Legal, Stands}
 use Rattle.history_laws.specs.Laws.{IsReplyTo}
 use Rattle.history_laws.specs.Worked.{noted}
-use Rattle.history_laws.proofs.CallerLemmas.{asked-for, asks-stand, at-before, at-below, at-same, begun-before, contains-none, ends-first, first-or-later, follows-at, legal-before, length-before, made-of, none-some, opening-begun, progress-more, reads-own, replied-first, replies-fit, some-is}
+use Rattle.history_laws.proofs.CallerLemmas.{asked-for, asks-stand, at-before, at-below, at-same, begun-before, contains-none, ends-first, first-or-later, follows-at, legal-before, length-before, made-of, none-some, opening-begun, reads-own, replied-first, replies-fit, some-is}
 use Rattle.history_claims.specs.Headline.{IsEntry, IsAsked, RestsOn}
 use Rattle.history_claims.proofs.Entries.{entries-at, asked-entry}
 use Rattle.history_claims.proofs.Waiting.{heard-in}

@@ -88,20 +88,20 @@ ended-still (Some w) n None h = absurd (false≢true (sym h))
 ended-still (Some w) n (Some f) h = refl
 
 -- An exchange has ended from the entry on that ends it.
-pub ended-at : (l : List Noted) (o e : ℕ) (x : Noted) (how : Ending) → at l e ≡ Some x → end_here e (replies (before l e) o) (turn (before l e) o x) ≡ Some how
+pub ended-at : (l : List Noted) (o e : ℕ) (x : Noted) (how : Ending) → at l e ≡ Some x → end_here (begun (before l e) o) e (replies (before l e) o) (turn (before l e) o x) ≡ Some how
     → is_none (end_of l o) ≡ false
 ended-at [] o e x how here ends = absurd (none-some x here)
 ended-at (y ∷ older) o e x how here ends =
     elim (eqb_tells e (length older)) [
       | inl w ↦
           let same : y ≡ x = some-is y x (rw (w.0) at here) in
-          let by : end_here e (replies older o) (turn older o x) ≡ Some how = rw (w.0) at ends in
-          let this : end_here (length older) (replies older o) (turn older o y) ≡ Some how =
-          subst (λ (v : Noted). end_here (length older) (replies older o) (turn older o v) ≡ Some how) (sym same)
-          (subst (λ (n : ℕ). end_here n (replies older o) (turn older o x) ≡ Some how) w.1 by) in
+          let by : end_here (begun older o) e (replies older o) (turn older o x) ≡ Some how = rw (w.0) at ends in
+          let this : end_here (begun older o) (length older) (replies older o) (turn older o y) ≡ Some how =
+          subst (λ (v : Noted). end_here (begun older o) (length older) (replies older o) (turn older o v) ≡ Some how) (sym same)
+          (subst (λ (n : ℕ). end_here (begun older o) n (replies older o) (turn older o x) ≡ Some how) w.1 by) in
           subst (λ (u : Option Ending). is_none (end_by u (length older) (end_of older o)) ≡ false) (sym this) (ended-now how (length older) (end_of older o))
       | inr w ↦
-          ended-still (end_here (length older) (replies older o) (turn older o y)) (length older) (end_of older o)
+          ended-still (end_here (begun older o) (length older) (replies older o) (turn older o y)) (length older) (end_of older o)
           (ended-at older o e x how (rw (w.0) at here) (rw (w.0) at ends))
     ]
   where

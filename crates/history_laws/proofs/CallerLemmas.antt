@@ -13,7 +13,7 @@ pub use Rattle.history_laws.proofs.Refusals.{maps-refusal}
 pub use Rattle.history_laws.proofs.Replies.{first-stands, firsts-stand, replies-fit}
 pub use Rattle.history_laws.proofs.Resting.{and-left, and-right, none-is, none-of, none-some, some-is}
 pub use Rattle.history_laws.proofs.Sendings.{any-first, ids-apart, IsFirst-old, may-be, tokens-apart}
-pub use Rattle.history_laws.proofs.Sent.{asked-for, begun-before, begun-below, begun-keeps, begun-opening, first_end, opening-begun, past, Past, progress-more, replied-ends, replied-first, sent-for, sent-once}
+pub use Rattle.history_laws.proofs.Sent.{asked-for, begun-before, begun-below, begun-keeps, begun-opening, first_end, opening-begun, past, Past, replied-ends, replied-first, sent-for, sent-once}
 pub use Rattle.history_laws.proofs.Settled.{ask-listed, few-waiting, open-below, range-passes}
 pub use Rattle.history_laws.proofs.Turns.{heard-sends, turn-replied, turn-sent, waits-first}
 pub use Rattle.history_laws.proofs.Late.{other-spelled, rst-0-spelled}

@@ -6,9 +6,8 @@ use Rattle.exchange_core.specs.Leads.{Leads}
 use Rattle.exchange_core.specs.States.{peer_link}
 use Rattle.exchange_core.specs.Turns.{AreTimed, deeds_of, turns_deeds}
 use Rattle.exchange_core.proofs.TickDue.{drop-at}
-use Rattle.exchange_core.proofs.TickTurns.{room-step, turns-take, entered-two}
+use Rattle.exchange_core.proofs.TickTurns.{room-step, going-step, turns-take, entered-two}
 use Rattle.exchange_core.proofs.turns.draft_turns.Goals as goal
-use Rattle.exchange_model.proofs.CallerLemmas.{going-step}
 
 pub each-preserved : goal.each-preserved
 each-preserved g c =
