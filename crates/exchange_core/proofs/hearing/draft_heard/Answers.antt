@@ -16,14 +16,14 @@ draft_ends-requires-clause-room g c =
     let link = link-few c.args.peer c.args.datagram.now c.args.heeding.now in
     let ended : length c.in_ok-ended.ended.items ≤ 1 = rw (c.in_ok-ended.ensures)
     (ended-few (ended_in (over_in c.args.heeding.now) c.args.s.now.exchanges.exchanges)
-    (found_in c.len-number.result (ended_in (over_in c.args.heeding.now) c.deref.result.now)
+    (found_in c.len-number.result (ended_in (over_in c.args.heeding.now) c.args.s.now.exchanges.exchanges)
     (told c.args.up))) in
     omega (arith, next, few, link, ended)
 
 pub draft_ends-requires-clause-ends : goal.draft_ends-requires-clause-ends
 draft_ends-requires-clause-ends g c =
     let h = c.args.s.now.journal.entries in
-    let e = ended_in (over_in c.args.heeding.now) c.deref.result.now in
+    let e = ended_in (over_in c.args.heeding.now) c.args.s.now.exchanges.exchanges in
     rw (c.in_ok-ended.ensures)
     (ended-so h c.args.moment c.args.peer c.args.datagram.now c.args.heeding.now (told c.args.up)
     _ _ c.in_ok-draft.draft.entries c.in_ok-draft.ensures.drafts.entries
