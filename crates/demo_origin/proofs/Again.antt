@@ -83,7 +83,7 @@ none_weaker {X} p q (x ∷ xs) h none =
     ] in
     each (q x) refl none
 
-found_is : {X : Type 0} (p : X → Bool) (xs : List X) (x : X)
+pub found_is : {X : Type 0} (p : X → Bool) (xs : List X) (x : X)
     → find p xs ≡ Some x → Contains xs x × (p x ≡ true)
 found_is p [] x e = cc
 found_is {X} p (y ∷ ys) x e =
@@ -151,25 +151,25 @@ gives : (u : ℕ) (p : Peer) (mid : ℕ) (r : Remembered) (ds : List Datagram) (
 gives u p mid r [] s e = e
 gives u p mid r (d ∷ ds) s e = e
 
-steps : (holds : Relation) (u : ℕ) (p : Peer) (mid : ℕ) (r : Remembered) (e : Event)
-    (old new : Device) → IsBy u e → Steps holds e old new
+steps : (R : Relation) (u : ℕ) (p : Peer) (mid : ℕ) (r : Remembered) (e : Event)
+    (old new : Device) → IsBy u e → Steps R e old new
     → Finds u p mid r old → Finds u p mid r new
-steps holds u p mid r (heard t q d taken) old new by s f =
-    keeps t u p mid r old new by (hears (nat_lt 2048 (length d)) holds t q d old new taken s) f
-steps holds u p mid r (looked t) old new by s f =
+steps R u p mid r (heard t q d taken) old new by s f =
+    keeps t u p mid r old new by (hears (nat_lt 2048 (length d)) R t q d old new taken s) f
+steps R u p mid r (looked t) old new by s f =
     let P : Device → Type 0 = λ x. Finds u p mid r x in
     subst P (sym s.is) (kept t u p mid r old by f)
-steps holds u p mid r gave old new by s f =
+steps R u p mid r gave old new by s f =
     let P : Device → Type 0 = λ x. Finds u p mid r x in
     subst P (sym s) (gives u p mid r old.out old f)
 
-runs : (holds : Relation) (u : ℕ) (p : Peer) (mid : ℕ) (r : Remembered) (es : List Event)
-    (old new : Device) → AllByRecursion (IsBy u) es → Runs holds es old new
+runs : (R : Relation) (u : ℕ) (p : Peer) (mid : ℕ) (r : Remembered) (es : List Event)
+    (old new : Device) → AllByRecursion (IsBy u) es → Runs R es old new
     → Finds u p mid r old → Finds u p mid r new
-runs holds u p mid r [] old new by s f =
+runs R u p mid r [] old new by s f =
     let P : Device → Type 0 = λ x. Finds u p mid r x in subst P (sym s) f
-runs holds u p mid r (e ∷ es) old new by s f =
-    runs holds u p mid r es s.0 new by.1 s.2 (steps holds u p mid r e old s.0 by.0 s.1 f)
+runs R u p mid r (e ∷ es) old new by s f =
+    runs R u p mid r es s.0 new by.1 s.2 (steps R u p mid r e old s.0 by.0 s.1 f)
 
 -- ---- the first answer
 
@@ -189,10 +189,10 @@ reads to i wish named None old new h = absurd h
 reads to i wish named (Some held) old new h =
     parts to i wish held (part_of named old.block (length held.state)) old new h
 
-pieces : (holds : Relation) (to : Asker) (m : Content) (i : ℕ) (method : Method) (b : Block)
+pieces : (R : Relation) (to : Asker) (m : Content) (i : ℕ) (method : Method) (b : Block)
     (j : Joined) (old new : Device) (taken : Option Taken)
-    → TakesPiece holds to m i method b j old new taken → Adds to old new
-pieces holds to m i method b Gap old new taken h =
+    → TakesPiece R to m i method b j old new taken → Adds to old new
+pieces R to m i method b Gap old new taken h =
     let a = answers_add to 136 [] [] old h.0.middle h.0.answers in
     record {
       bytes = a.bytes;
@@ -200,7 +200,7 @@ pieces holds to m i method b Gap old new taken h =
       others = a.others;
       out = ap (λ (d : Device). d.out) h.0.is ∙ a.out;
     }
-pieces holds to m i method b TooLarge old new taken h =
+pieces R to m i method b TooLarge old new taken h =
     let a = answers_add to 141 [] [] old h.0.middle h.0.answers in
     record {
       bytes = a.bytes;
@@ -208,32 +208,32 @@ pieces holds to m i method b TooLarge old new taken h =
       others = a.others;
       out = ap (λ (d : Device). d.out) h.0.is ∙ a.out;
     }
-pieces holds to m i method b Next old new taken h =
+pieces R to m i method b Next old new taken h =
     let a = answers_add to 95 h.0.options [] (holding to i b m.payload old) new h.0.answers in
     record { bytes = a.bytes; is = a.is; others = a.others; out = a.out }
-pieces holds to m i method b Last old new taken h =
-    finishes_add holds to m i method b old new h.0 h.2
+pieces R to m i method b Last old new taken h =
+    finishes_add R to m i method b old new h.0 h.2
 
-asks : (holds : Relation) (to : Asker) (m : Content) (i : ℕ) (method : Method)
+asks : (R : Relation) (to : Asker) (m : Content) (i : ℕ) (method : Method)
     (named : Option Block) (old new : Device) (taken : Option Taken)
-    → Asks holds to m i method named old new taken → Adds to old new
-asks holds to m i method None old new taken h =
-    executes_adds holds to m i method old new h.0 h.2
-asks holds to m i method (Some b) old new taken h =
-    pieces holds to m i method b (piece_after to.peer i b m old) old new taken h
+    → Asks R to m i method named old new taken → Adds to old new
+asks R to m i method None old new taken h =
+    executes_adds R to m i method old new h.0 h.2
+asks R to m i method (Some b) old new taken h =
+    pieces R to m i method b (piece_after to.peer i b m old) old new taken h
 
-processes : (holds : Relation) (to : Asker) (m : Content) (j : Judged) (old new : Device)
-    (taken : Option Taken) → Processes holds to m j old new taken → AddsOrNot to old new
-processes holds to m Dropped old new taken h = inr (ap (λ (d : Device). d.out) h.0)
-processes holds to m (Refused code) old new taken h =
+processes : (R : Relation) (to : Asker) (m : Content) (j : Judged) (old new : Device)
+    (taken : Option Taken) → Processes R to m j old new taken → AddsOrNot to old new
+processes R to m Dropped old new taken h = inr (ap (λ (d : Device). d.out) h.0)
+processes R to m (Refused code) old new taken h =
     inl (answers_add to code [] [] old new h.0)
-processes holds to m (NotAcceptable i) old new taken h =
+processes R to m (NotAcceptable i) old new taken h =
     inl (declines_add to i (wish_of (values 6 m.options)) 134 old new h.0)
-processes holds to m (Read i) old new taken h =
+processes R to m (Read i) old new taken h =
     inl (reads to i (wish_of (values 6 m.options)) (named_by (values 23 m.options))
     (slice_get old.resources i) old new h.0)
-processes holds to m (Asked i method) old new taken h =
-    inl (asks holds to m i method (named_by (values 27 m.options)) old new taken h)
+processes R to m (Asked i method) old new taken h =
+    inl (asks R to m i method (named_by (values 27 m.options)) old new taken h)
 
 -- a CON that isn't remembered is dropped or a new one
 new_arrival : (t : ℕ) (p : Peer) (m : Content) (s : Device) → m.kind ≡ Con
@@ -257,12 +257,12 @@ not_remembered t p mid s unknown =
     each (find (is_repeat t p mid) s.remembered) refl
 
 -- a request, or what is rejected
-takes_new : (holds : Relation) (t : ℕ) (p : Peer) (m : Content) (b : Bool) (old new : Device)
-    (taken : Option Taken) → Takes holds t p m (cond b Fresh Rejected) old new taken
+takes_new : (R : Relation) (t : ℕ) (p : Peer) (m : Content) (b : Bool) (old new : Device)
+    (taken : Option Taken) → Takes R t p m (cond b Fresh Rejected) old new taken
     → AddsOrNot (asker t p m) old new
-takes_new holds t p m true old new taken h =
-    processes holds (asker t p m) m (judged m old.resources) old new taken h
-takes_new holds t p m false old new taken h =
+takes_new R t p m true old new taken h =
+    processes R (asker t p m) m (judged m old.resources) old new taken h
+takes_new R t p m false old new taken h =
     inl (record {
       bytes = rst m.mid;
       is = ap (λ (d : Device). d.remembered) h.0;
@@ -270,31 +270,31 @@ takes_new holds t p m false old new taken h =
       out = ap (λ (d : Device). d.out) h.0;
     })
 
-takes_first : (holds : Relation) (t : ℕ) (p : Peer) (m : Content) (full : Bool) (old new : Device)
+takes_first : (R : Relation) (t : ℕ) (p : Peer) (m : Content) (full : Bool) (old new : Device)
     (taken : Option Taken)
-    → Takes holds t p m (cond full Ignored (heard_first true m.code)) old new taken
+    → Takes R t p m (cond full Ignored (heard_first true m.code)) old new taken
     → AddsOrNot (asker t p m) old new
-takes_first holds t p m true old new taken h = inr (ap (λ (d : Device). d.out) h.0)
-takes_first holds t p m false old new taken h =
-    takes_new holds t p m (is_request m.code) old new taken h
+takes_first R t p m true old new taken h = inr (ap (λ (d : Device). d.out) h.0)
+takes_first R t p m false old new taken h =
+    takes_new R t p m (is_request m.code) old new taken h
 
 -- a datagram that was read is that message, and not too long
-read_as : (holds : Relation) (t : ℕ) (p : Peer) (d : List ℕ) (m : Content) (old new : Device)
+read_as : (R : Relation) (t : ℕ) (p : Peer) (d : List ℕ) (m : Content) (old new : Device)
     (taken : Option Taken) → length d ≤ 2048 → message_at d ≡ Ok m
-    → Hears holds t p d old new taken → Takes holds t p m (arrival t p m old) old new taken
-read_as holds t p d m old new taken short e h =
-    let P : Bool → Type 0 = λ b. HearsBy b holds t p d old new taken in
-    let Q : Result Content CodecFault → Type 0 = λ r. HearsRead holds t p d r old new taken in
+    → Hears R t p d old new taken → Takes R t p m (arrival t p m old) old new taken
+read_as R t p d m old new taken short e h =
+    let P : Bool → Type 0 = λ b. HearsBy b R t p d old new taken in
+    let Q : Result Content CodecFault → Type 0 = λ r. HearsRead R t p d r old new taken in
     subst Q e (subst P (le-ltb 2048 (length d) short) h)
 
 -- a new CON that is answered is remembered with its answer
-first_found : (holds : Relation) (t u : ℕ) (p : Peer) (m : Content) (answer : List ℕ)
+first_found : (R : Relation) (t u : ℕ) (p : Peer) (m : Content) (answer : List ℕ)
     (others : List Datagram) (old new : Device) → t ≤ u → u < t + 247000
     → find (is_repeat t p m.mid) old.remembered ≡ None
     → new.out ≡ old.out ++ record { peer = p; bytes = answer } ∷ others
     → Adds (asker t p m) old new
     → Finds u p m.mid (memory_of (asker t p m) (Some answer)) new
-first_found holds t u p m answer others old new le lt none goes h =
+first_found R t u p m answer others old new le lt none goes h =
     let r = memory_of (asker t p m) (Some h.bytes) in
     let pass = is_repeat u p m.mid in
     let P : List Remembered → Type 0 = λ rs. find pass rs ≡ Some r in
@@ -321,45 +321,45 @@ same_out : (old new : Device) (x : Datagram) (others : List Datagram)
     → new.out ≡ old.out → new.out ≡ old.out ++ x ∷ others → ⊥
 same_out old new x others e goes = grown old.out x others (sym e ∙ goes)
 
-first_adds : (holds : Relation) (t : ℕ) (p : Peer) (mid : ℕ) (answer : List ℕ) (old new : Device)
-    (x : FirstAnswered holds t p mid answer old new)
+first_adds : (R : Relation) (t : ℕ) (p : Peer) (mid : ℕ) (answer : List ℕ) (old new : Device)
+    (x : FirstAnswered R t p mid answer old new)
     → find (is_repeat t p x.con.message.mid) old.remembered ≡ None
     → Adds (asker t p x.con.message) old new
-first_adds holds t p mid answer old new x none =
+first_adds R t p mid answer old new x none =
     let m = x.con.message in
-    let P : Arrival → Type 0 = λ a. Takes holds t p m a old new x.taken in
-    let taken = read_as holds t p x.con.datagram m old new x.taken x.con.short x.con.reads
+    let P : Arrival → Type 0 = λ a. Takes R t p m a old new x.taken in
+    let taken = read_as R t p x.con.datagram m old new x.taken x.con.short x.con.reads
     x.con.hears in
     let came = new_arrival t p m old x.con.kind_is none in
-    elim (takes_first holds t p m (is_full t p old) old new x.taken (subst P came taken)) [
+    elim (takes_first R t p m (is_full t p old) old new x.taken (subst P came taken)) [
       | inl h ↦ h
       | inr e ↦ absurd (same_out old new _ x.others e x.goes)
     ]
 
-again : (holds : Relation) (u : ℕ) (p : Peer) (mid : ℕ) (r : Remembered) (answer : List ℕ)
-    (old new : Device) (taken : Option Taken) (y : HearsCon holds u p mid old new taken)
+again : (R : Relation) (u : ℕ) (p : Peer) (mid : ℕ) (r : Remembered) (answer : List ℕ)
+    (old new : Device) (taken : Option Taken) (y : HearsCon R u p mid old new taken)
     → r.answer ≡ Some answer → Finds u p y.message.mid r old
     → (new ≡ sent p answer old) × (taken ≡ None)
-again holds u p mid r answer old new taken y some f =
+again R u p mid r answer old new taken y some f =
     let m = y.message in
     let o : Option Remembered → Arrival = λ v. arrived true m.code v (is_full u p old) in
     let came : arrival u p m old ≡ Repeated answer =
     ap (λ kind. arrival_by kind u p m old) y.kind_is ∙ ap o f
     ∙ ap (λ (v : Option (List ℕ)). heard_again true v) some in
-    let P : Arrival → Type 0 = λ a. Takes holds u p m a old new taken in
-    subst P came (read_as holds u p y.datagram m old new taken y.short y.reads y.hears)
+    let P : Arrival → Type 0 = λ a. Takes R u p m a old new taken in
+    subst P came (read_as R u p y.datagram m old new taken y.short y.reads y.hears)
 
-pub answered_alike : (holds : Relation) → AnsweredAlike holds
-answered_alike holds es old a b new t u p mid answer taken x run by le lt y =
+pub answered_alike : (R : Relation) → AnsweredAlike R
+answered_alike R es old a b new t u p mid answer taken x run by le lt y =
     let m = x.con.message in
     let r = memory_of (asker t p m) (Some answer) in
     let F : ℕ → Type 0 = λ n. Finds u p n r b in
     let N : ℕ → Type 0 = λ n. ¬ IsRemembered t p n old in
     let none : find (is_repeat t p m.mid) old.remembered ≡ None =
     not_remembered t p m.mid old (subst N (sym x.con.mid_is) x.first) in
-    let added = first_adds holds t p mid answer old a x none in
+    let added = first_adds R t p mid answer old a x none in
     let found : Finds u p m.mid r a =
-    first_found holds t u p m answer x.others old a le lt none x.goes added in
-    let later : Finds u p m.mid r b = runs holds u p m.mid r es a b by run found in
-    again holds u p mid r answer b new taken y refl
+    first_found R t u p m answer x.others old a le lt none x.goes added in
+    let later : Finds u p m.mid r b = runs R u p m.mid r es a b by run found in
+    again R u p mid r answer b new taken y refl
     (subst F (x.con.mid_is ∙ sym y.mid_is) later)

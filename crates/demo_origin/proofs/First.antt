@@ -86,7 +86,7 @@ repeats t u p m answer lt =
     (and_from _ _ (peer_itself p) (lt-ltb (u - t) 247000 (omega arith)))
 
 -- What is new was not remembered.
-again_is_old : (c : Bool) (answer : Option (List ℕ)) → heard_again c answer ≡ Fresh → ⊥
+pub again_is_old : (c : Bool) (answer : Option (List ℕ)) → heard_again c answer ≡ Fresh → ⊥
 again_is_old true (Some bytes) e = cc
 again_is_old true None e = cc
 again_is_old false (Some bytes) e = cc
@@ -131,10 +131,10 @@ pub record Adds (to : Asker) (old new : Device) : Type 0 where
   pub others : List Datagram
   pub out : new.out ≡ old.out ++ record { peer = to.peer; bytes = bytes } ∷ others
 
-pub executes_adds : (holds : Relation) (to : Asker) (m : Content) (i : ℕ) (method : _)
+pub executes_adds : (R : Relation) (to : Asker) (m : Content) (i : ℕ) (method : _)
     (old new : Device) (taken : Taken)
-    → Executes holds to m i method old new taken → Adds to old new
-executes_adds holds to m i method old new taken h =
+    → Executes R to m i method old new taken → Adds to old new
+executes_adds R to m i method old new taken h =
     let x = h.changes in
     let s = x.settles in
     let d : Datagram = record { peer = to.peer; bytes = x.answers.bytes } in
@@ -185,12 +185,12 @@ not_some : (o : Option Taken) → o ≡ None → IsSome o → ⊥
 not_some None e s = cc
 not_some (Some x) e s = cc
 
-pub finishes_add : (holds : Relation) (to : Asker) (m : Content) (i : ℕ) (method : Method)
+pub finishes_add : (R : Relation) (to : Asker) (m : Content) (i : ℕ) (method : Method)
     (b : Block) (old new : Device) (taken : Taken)
-    → Finishes holds to m i method b old new taken → Adds to old new
-finishes_add holds to m i method b old new taken h =
+    → Finishes R to m i method b old new taken → Adds to old new
+finishes_add R to m i method b old new taken h =
     let body = with_piece to.peer i b m.payload old in
-    let a = executes_adds holds to (with_body body m) i method old h.0 taken h.1 in
+    let a = executes_adds R to (with_body body m) i method old h.0 taken h.1 in
     record {
       bytes = a.bytes;
       is = ap (λ (d : Device). d.remembered) h.2 ∙ a.is;
@@ -198,44 +198,44 @@ finishes_add holds to m i method b old new taken h =
       out = ap (λ (d : Device). d.out) h.2 ∙ a.out;
     }
 
-takes_piece : (holds : Relation) (to : Asker) (m : Content) (i : ℕ) (method : Method) (b : Block)
+takes_piece : (R : Relation) (to : Asker) (m : Content) (i : ℕ) (method : Method) (b : Block)
     (j : Joined) (old new : Device) (taken : Option Taken)
-    → TakesPiece holds to m i method b j old new taken → IsSome taken → Adds to old new
-takes_piece holds to m i method b Gap old new taken h s = absurd (not_some taken h.1 s)
-takes_piece holds to m i method b TooLarge old new taken h s = absurd (not_some taken h.1 s)
-takes_piece holds to m i method b Next old new taken h s = absurd (not_some taken h.1 s)
-takes_piece holds to m i method b Last old new taken h s =
-    finishes_add holds to m i method b old new h.0 h.2
+    → TakesPiece R to m i method b j old new taken → IsSome taken → Adds to old new
+takes_piece R to m i method b Gap old new taken h s = absurd (not_some taken h.1 s)
+takes_piece R to m i method b TooLarge old new taken h s = absurd (not_some taken h.1 s)
+takes_piece R to m i method b Next old new taken h s = absurd (not_some taken h.1 s)
+takes_piece R to m i method b Last old new taken h s =
+    finishes_add R to m i method b old new h.0 h.2
 
-asks_add : (holds : Relation) (to : Asker) (m : Content) (i : ℕ) (method : Method)
+asks_add : (R : Relation) (to : Asker) (m : Content) (i : ℕ) (method : Method)
     (named : Option Block) (old new : Device) (taken : Option Taken)
-    → Asks holds to m i method named old new taken → IsSome taken → Adds to old new
-asks_add holds to m i method None old new taken h s =
-    executes_adds holds to m i method old new h.0 h.2
-asks_add holds to m i method (Some b) old new taken h s =
-    takes_piece holds to m i method b (piece_after to.peer i b m old) old new taken h s
+    → Asks R to m i method named old new taken → IsSome taken → Adds to old new
+asks_add R to m i method None old new taken h s =
+    executes_adds R to m i method old new h.0 h.2
+asks_add R to m i method (Some b) old new taken h s =
+    takes_piece R to m i method b (piece_after to.peer i b m old) old new taken h s
 
-processes_adds : (holds : Relation) (to : Asker) (m : Content) (j : Judged) (old new : Device)
-    (taken : Option Taken) → Processes holds to m j old new taken → IsSome taken → Adds to old new
-processes_adds holds to m Dropped old new taken h s = absurd (not_some taken h.1 s)
-processes_adds holds to m (Refused code) old new taken h s = absurd (not_some taken h.1 s)
-processes_adds holds to m (NotAcceptable i) old new taken h s = absurd (not_some taken h.1 s)
-processes_adds holds to m (Read i) old new taken h s = absurd (not_some taken h.1 s)
-processes_adds holds to m (Asked i method) old new taken h s =
-    asks_add holds to m i method (named_by (values 27 m.options)) old new taken h s
+processes_adds : (R : Relation) (to : Asker) (m : Content) (j : Judged) (old new : Device)
+    (taken : Option Taken) → Processes R to m j old new taken → IsSome taken → Adds to old new
+processes_adds R to m Dropped old new taken h s = absurd (not_some taken h.1 s)
+processes_adds R to m (Refused code) old new taken h s = absurd (not_some taken h.1 s)
+processes_adds R to m (NotAcceptable i) old new taken h s = absurd (not_some taken h.1 s)
+processes_adds R to m (Read i) old new taken h s = absurd (not_some taken h.1 s)
+processes_adds R to m (Asked i method) old new taken h s =
+    asks_add R to m i method (named_by (values 27 m.options)) old new taken h s
 
-takes_first : (holds : Relation) (t : ℕ) (p : Peer) (m : Content) (a : Arrival) (old new : Device)
-    (taken : Option Taken) → arrival t p m old ≡ a → Takes holds t p m a old new taken
+takes_first : (R : Relation) (t : ℕ) (p : Peer) (m : Content) (a : Arrival) (old new : Device)
+    (taken : Option Taken) → arrival t p m old ≡ a → Takes R t p m a old new taken
     → IsSome taken
     → Adds (asker t p m) old new × (¬ IsRemembered t p m.mid old)
-takes_first holds t p m Ignored old new taken e h s = absurd (not_some taken h.1 s)
-takes_first holds t p m Empty old new taken e h s = absurd (not_some taken h.1 s)
-takes_first holds t p m Rejected old new taken e h s = absurd (not_some taken h.1 s)
-takes_first holds t p m (Repeated answer) old new taken e h s = absurd (not_some taken h.1 s)
-takes_first holds t p m Acknowledged old new taken e h s = absurd (not_some taken h.1 s)
-takes_first holds t p m Reset old new taken e h s = absurd (not_some taken h.1 s)
-takes_first holds t p m Fresh old new taken e h s = (
-  processes_adds holds (asker t p m) m (judged m old.resources) old new taken h s,
+takes_first R t p m Ignored old new taken e h s = absurd (not_some taken h.1 s)
+takes_first R t p m Empty old new taken e h s = absurd (not_some taken h.1 s)
+takes_first R t p m Rejected old new taken e h s = absurd (not_some taken h.1 s)
+takes_first R t p m (Repeated answer) old new taken e h s = absurd (not_some taken h.1 s)
+takes_first R t p m Acknowledged old new taken e h s = absurd (not_some taken h.1 s)
+takes_first R t p m Reset old new taken e h s = absurd (not_some taken h.1 s)
+takes_first R t p m Fresh old new taken e h s = (
+  processes_adds R (asker t p m) m (judged m old.resources) old new taken h s,
   is_new t p m old e,
 )
 
@@ -249,28 +249,28 @@ remembers t p m old new h u lt =
       repeats t u p m (Some h.bytes) lt,
     )
 
-reads_first : (holds : Relation) (t : ℕ) (p : Peer) (d : List ℕ) (r : Result Content CodecFault)
+reads_first : (R : Relation) (t : ℕ) (p : Peer) (d : List ℕ) (r : Result Content CodecFault)
     (old new : Device) (taken : Option Taken) → message_at d ≡ r
-    → HearsRead holds t p d r old new taken → IsSome taken → IsFirst t p d old new
-reads_first holds t p d (Ok m) old new taken e h s =
-    let x = takes_first holds t p m (arrival t p m old) old new taken refl h s in
+    → HearsRead R t p d r old new taken → IsSome taken → IsFirst t p d old new
+reads_first R t p d (Ok m) old new taken e h s =
+    let x = takes_first R t p m (arrival t p m old) old new taken refl h s in
     record { message = m; reads = e; first = x.1; kept = remembers t p m old new x.0 }
-reads_first holds t p d (Err f) old new taken e h s = absurd (not_some taken h.1 s)
+reads_first R t p d (Err f) old new taken e h s = absurd (not_some taken h.1 s)
 
-by_length : (b : Bool) (holds : Relation) (t : ℕ) (p : Peer) (d : List ℕ) (old new : Device)
-    (taken : Option Taken) → HearsBy b holds t p d old new taken → IsSome taken
+by_length : (b : Bool) (R : Relation) (t : ℕ) (p : Peer) (d : List ℕ) (old new : Device)
+    (taken : Option Taken) → HearsBy b R t p d old new taken → IsSome taken
     → IsFirst t p d old new
-by_length true holds t p d old new taken h s = absurd (not_some taken h.1 s)
-by_length false holds t p d old new taken h s =
-    reads_first holds t p d (message_at d) old new taken refl h s
+by_length true R t p d old new taken h s = absurd (not_some taken h.1 s)
+by_length false R t p d old new taken h s =
+    reads_first R t p d (message_at d) old new taken refl h s
 
-pub hears_first : (holds : Relation) (t : ℕ) (p : Peer) (d : List ℕ) (old new : Device)
-    (taken : Option Taken) → Hears holds t p d old new taken → IsSome taken → IsFirst t p d old new
-hears_first holds t p d old new taken h s =
-    by_length (nat_lt 2048 (length d)) holds t p d old new taken h s
+pub hears_first : (R : Relation) (t : ℕ) (p : Peer) (d : List ℕ) (old new : Device)
+    (taken : Option Taken) → Hears R t p d old new taken → IsSome taken → IsFirst t p d old new
+hears_first R t p d old new taken h s =
+    by_length (nat_lt 2048 (length d)) R t p d old new taken h s
 
-pub first_of : (holds : Relation) (t : ℕ) (p : Peer) (d : List ℕ) (old new : Device)
-    (r : Result (Option Taken) Memory) → IfOk r (λ taken. Hears holds t p d old new taken)
+pub first_of : (R : Relation) (t : ℕ) (p : Peer) (d : List ℕ) (old new : Device)
+    (r : Result (Option Taken) Memory) → IfOk r (λ taken. Hears R t p d old new taken)
     → IfOk r (λ taken. IsSome taken → IsFirst t p d old new)
-first_of holds t p d old new (Ok taken) h = λ s. hears_first holds t p d old new taken h s
-first_of holds t p d old new (Err e) h = tt
+first_of R t p d old new (Ok taken) h = λ s. hears_first R t p d old new taken h s
+first_of R t p d old new (Err e) h = tt

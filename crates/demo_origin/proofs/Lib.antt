@@ -11,3 +11,10 @@ pub mod Repeats
 pub mod Again
 pub mod Pieces
 pub mod Counting
+pub mod Ending
+pub mod Versioning
+pub mod Alls
+pub mod Judging
+pub mod Endpoints
+pub mod Talking
+pub mod Making

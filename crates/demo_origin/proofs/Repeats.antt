@@ -77,71 +77,71 @@ keeps_piece to i b payload old new h =
     let a = answers_add to 95 h.options [] (holding to i b payload old) new h.answers in
     inr (memory_of to (Some a.bytes) ∷ [], a.is)
 
-pieces : (holds : Relation) (to : Asker) (m : Content) (i : ℕ) (method : Method) (b : Block)
+pieces : (R : Relation) (to : Asker) (m : Content) (i : ℕ) (method : Method) (b : Block)
     (j : Joined) (old new : Device) (taken : Option Taken)
-    → TakesPiece holds to m i method b j old new taken → Keeps to.moment old new
-pieces holds to m i method b Gap old new taken h = gives_up to i 136 old new h.0
-pieces holds to m i method b TooLarge old new taken h = gives_up to i 141 old new h.0
-pieces holds to m i method b Next old new taken h = keeps_piece to i b m.payload old new h.0
-pieces holds to m i method b Last old new taken h =
-    adds to old new (finishes_add holds to m i method b old new h.0 h.2)
+    → TakesPiece R to m i method b j old new taken → Keeps to.moment old new
+pieces R to m i method b Gap old new taken h = gives_up to i 136 old new h.0
+pieces R to m i method b TooLarge old new taken h = gives_up to i 141 old new h.0
+pieces R to m i method b Next old new taken h = keeps_piece to i b m.payload old new h.0
+pieces R to m i method b Last old new taken h =
+    adds to old new (finishes_add R to m i method b old new h.0 h.2)
 
-asks : (holds : Relation) (to : Asker) (m : Content) (i : ℕ) (method : Method)
+asks : (R : Relation) (to : Asker) (m : Content) (i : ℕ) (method : Method)
     (named : Option Block) (old new : Device) (taken : Option Taken)
-    → Asks holds to m i method named old new taken → Keeps to.moment old new
-asks holds to m i method None old new taken h =
-    adds to old new (executes_adds holds to m i method old new h.0 h.2)
-asks holds to m i method (Some b) old new taken h =
-    pieces holds to m i method b (piece_after to.peer i b m old) old new taken h
+    → Asks R to m i method named old new taken → Keeps to.moment old new
+asks R to m i method None old new taken h =
+    adds to old new (executes_adds R to m i method old new h.0 h.2)
+asks R to m i method (Some b) old new taken h =
+    pieces R to m i method b (piece_after to.peer i b m old) old new taken h
 
-processes : (holds : Relation) (to : Asker) (m : Content) (j : Judged) (old new : Device)
-    (taken : Option Taken) → Processes holds to m j old new taken → Keeps to.moment old new
-processes holds to m Dropped old new taken h =
+processes : (R : Relation) (to : Asker) (m : Content) (j : Judged) (old new : Device)
+    (taken : Option Taken) → Processes R to m j old new taken → Keeps to.moment old new
+processes R to m Dropped old new taken h =
     inr (memory_of to None ∷ [], ap (λ (d : Device). d.remembered) h.0)
-processes holds to m (Refused code) old new taken h =
+processes R to m (Refused code) old new taken h =
     adds to old new (answers_add to code [] [] old new h.0)
-processes holds to m (NotAcceptable i) old new taken h =
+processes R to m (NotAcceptable i) old new taken h =
     adds to old new (declines_add to i (wish_of (values 6 m.options)) 134 old new h.0)
-processes holds to m (Read i) old new taken h =
+processes R to m (Read i) old new taken h =
     reads to i (wish_of (values 6 m.options)) (named_by (values 23 m.options))
     (slice_get old.resources i) old new h.0
-processes holds to m (Asked i method) old new taken h =
-    asks holds to m i method (named_by (values 27 m.options)) old new taken h
+processes R to m (Asked i method) old new taken h =
+    asks R to m i method (named_by (values 27 m.options)) old new taken h
 
-takes : (holds : Relation) (t : ℕ) (p : Peer) (m : Content) (a : Arrival) (old new : Device)
-    (taken : Option Taken) → Takes holds t p m a old new taken → Keeps t old new
-takes holds t p m Ignored old new taken h = same t old new h.0
-takes holds t p m Empty old new taken h =
+takes : (R : Relation) (t : ℕ) (p : Peer) (m : Content) (a : Arrival) (old new : Device)
+    (taken : Option Taken) → Takes R t p m a old new taken → Keeps t old new
+takes R t p m Ignored old new taken h = same t old new h.0
+takes R t p m Empty old new taken h =
     inr (memory_of (asker t p m) None ∷ [], ap (λ (d : Device). d.remembered) h.0)
-takes holds t p m Rejected old new taken h =
+takes R t p m Rejected old new taken h =
     inr (
       memory_of (asker t p m) (Some (rst m.mid)) ∷ [],
       ap (λ (d : Device). d.remembered) h.0,
     )
-takes holds t p m (Repeated answer) old new taken h =
+takes R t p m (Repeated answer) old new taken h =
     inl (ap (λ (d : Device). d.remembered) h.0)
-takes holds t p m Acknowledged old new taken h =
+takes R t p m Acknowledged old new taken h =
     inl (ap (λ (d : Device). d.remembered) h.0.is)
-takes holds t p m Reset old new taken h = inl (ap (λ (d : Device). d.remembered) h.0.is)
-takes holds t p m Fresh old new taken h =
-    processes holds (asker t p m) m (judged m old.resources) old new taken h
+takes R t p m Reset old new taken h = inl (ap (λ (d : Device). d.remembered) h.0.is)
+takes R t p m Fresh old new taken h =
+    processes R (asker t p m) m (judged m old.resources) old new taken h
 
 resets : (t : ℕ) (p : Peer) (o : Option ℕ) (old new : Device)
     → new ≡ undecoded p o old → Keeps t old new
 resets t p None old new e = same t old new e
 resets t p (Some mid) old new e = inl (ap (λ (d : Device). d.remembered) e)
 
-hears_read : (holds : Relation) (t : ℕ) (p : Peer) (d : List ℕ) (r : Result Content CodecFault)
+hears_read : (R : Relation) (t : ℕ) (p : Peer) (d : List ℕ) (r : Result Content CodecFault)
     (old new : Device) (taken : Option Taken)
-    → HearsRead holds t p d r old new taken → Keeps t old new
-hears_read holds t p d (Ok m) old new taken h =
-    takes holds t p m (arrival t p m old) old new taken h
-hears_read holds t p d (Err f) old new taken h = resets t p (reset_for d) old new h.0
+    → HearsRead R t p d r old new taken → Keeps t old new
+hears_read R t p d (Ok m) old new taken h =
+    takes R t p m (arrival t p m old) old new taken h
+hears_read R t p d (Err f) old new taken h = resets t p (reset_for d) old new h.0
 
-pub hears : (b : Bool) (holds : Relation) (t : ℕ) (p : Peer) (d : List ℕ) (old new : Device)
-    (taken : Option Taken) → HearsBy b holds t p d old new taken → Keeps t old new
-hears true holds t p d old new taken h = same t old new h.0
-hears false holds t p d old new taken h = hears_read holds t p d (message_at d) old new taken h
+pub hears : (b : Bool) (R : Relation) (t : ℕ) (p : Peer) (d : List ℕ) (old new : Device)
+    (taken : Option Taken) → HearsBy b R t p d old new taken → Keeps t old new
+hears true R t p d old new taken h = same t old new h.0
+hears false R t p d old new taken h = hears_read R t p d (message_at d) old new taken h
 
 -- what is a repeat later is live before
 pub live_before : (t u : ℕ) (p : Peer) (mid : ℕ) (r : Remembered)
@@ -171,46 +171,46 @@ gives : (u : ℕ) (p : Peer) (mid : ℕ) (ds : List Datagram) (s : Device)
 gives u p mid [] s r = r
 gives u p mid (d ∷ ds) s r = r
 
-steps : (holds : Relation) (u : ℕ) (p : Peer) (mid : ℕ) (e : Event) (old new : Device)
-    → IsBy u e → Steps holds e old new → IsRemembered u p mid old → IsRemembered u p mid new
-steps holds u p mid (heard t q d taken) old new by s r =
-    keeps t u p mid old new by (hears (nat_lt 2048 (length d)) holds t q d old new taken s) r
-steps holds u p mid (looked t) old new by s r =
+steps : (R : Relation) (u : ℕ) (p : Peer) (mid : ℕ) (e : Event) (old new : Device)
+    → IsBy u e → Steps R e old new → IsRemembered u p mid old → IsRemembered u p mid new
+steps R u p mid (heard t q d taken) old new by s r =
+    keeps t u p mid old new by (hears (nat_lt 2048 (length d)) R t q d old new taken s) r
+steps R u p mid (looked t) old new by s r =
     let P : Device → Type 0 = λ x. IsRemembered u p mid x in
     subst P (sym s.is) (
       r.0,
       stays (is_live t) old.remembered r.0 (live_before t u p mid r.0 by r.2) r.1,
       r.2,
     )
-steps holds u p mid gave old new by s r =
+steps R u p mid gave old new by s r =
     let P : Device → Type 0 = λ x. IsRemembered u p mid x in
     subst P (sym s) (gives u p mid old.out old r)
 
-runs : (holds : Relation) (u : ℕ) (p : Peer) (mid : ℕ) (es : List Event) (old new : Device)
-    → AllByRecursion (IsBy u) es → Runs holds es old new
+runs : (R : Relation) (u : ℕ) (p : Peer) (mid : ℕ) (es : List Event) (old new : Device)
+    → AllByRecursion (IsBy u) es → Runs R es old new
     → IsRemembered u p mid old → IsRemembered u p mid new
-runs holds u p mid [] old new by s r =
+runs R u p mid [] old new by s r =
     let P : Device → Type 0 = λ x. IsRemembered u p mid x in subst P (sym s) r
-runs holds u p mid (e ∷ es) old new by s r =
-    runs holds u p mid es s.0 new by.1 s.2 (steps holds u p mid e old s.0 by.0 s.1 r)
+runs R u p mid (e ∷ es) old new by s r =
+    runs R u p mid es s.0 new by.1 s.2 (steps R u p mid e old s.0 by.0 s.1 r)
 
 same_mid : (d : List ℕ) (m n : Content)
     → message_at d ≡ Ok m → message_at d ≡ Ok n → m.mid ≡ n.mid
 same_mid d m n e f =
     let same : m ≡ n = cc in ap (λ (x : Content). x.mid) same
 
-first : (holds : Relation) (t : ℕ) (p : Peer) (mid : ℕ) (old new : Device)
-    (x : Executed holds t p mid old new) (f : IsFirst t p x.datagram old new) → f.message.mid ≡ mid
-first holds t p mid old new x f =
+first : (R : Relation) (t : ℕ) (p : Peer) (mid : ℕ) (old new : Device)
+    (x : Executed R t p mid old new) (f : IsFirst t p x.datagram old new) → f.message.mid ≡ mid
+first R t p mid old new x f =
     same_mid x.datagram f.message x.message f.reads x.reads ∙ x.mid_is
 
-pub executed_once : (holds : Relation) → ExecutedOnce holds
-executed_once holds es old a b new t u p mid x run by lt y =
-    let f = hears_first holds t p x.datagram old a (Some x.taken) x.hears refl in
-    let g = hears_first holds u p y.datagram b new (Some y.taken) y.hears refl in
+pub executed_once : (R : Relation) → ExecutedOnce R
+executed_once R es old a b new t u p mid x run by lt y =
+    let f = hears_first R t p x.datagram old a (Some x.taken) x.hears refl in
+    let g = hears_first R u p y.datagram b new (Some y.taken) y.hears refl in
     let P : ℕ → Type 0 = λ n. IsRemembered u p n a in
     let Q : ℕ → Type 0 = λ n. ¬ IsRemembered u p n b in
     let kept : IsRemembered u p mid a =
-    subst P (first holds t p mid old a x f) (f.kept u lt) in
-    let none : ¬ IsRemembered u p mid b = subst Q (first holds u p mid b new y g) g.first in
-    none (runs holds u p mid es a b by run kept)
+    subst P (first R t p mid old a x f) (f.kept u lt) in
+    let none : ¬ IsRemembered u p mid b = subst Q (first R u p mid b new y g) g.first in
+    none (runs R u p mid es a b by run kept)

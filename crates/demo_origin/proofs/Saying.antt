@@ -20,7 +20,7 @@ all_same : {X : Type 0} (P Q : X → Type 0) (xs : List X)
 all_same P Q [] h all = tt
 all_same P Q (x ∷ xs) h all = (h x all.0, all_same P Q xs h all.1)
 
-same_or_not : (i j : ℕ) → (j ≡ i) ⊎ (j ≡ i → ⊥)
+pub same_or_not : (i j : ℕ) → (j ≡ i) ⊎ (j ≡ i → ⊥)
 same_or_not zero zero = inl refl
 same_or_not zero (suc j) = inr (λ e. absurd (omega (arith, e)))
 same_or_not (suc i) zero = inr (λ e. absurd (omega (arith, e)))

@@ -76,28 +76,30 @@ Changes to i method (Some held) after reply old new taken =
     ChangesHeld to i method held after reply old new taken
 
 -- What comes of a request: what a handler that keeps the relation may make of it, or 5.00 and no
--- change where it takes no such request.
+-- change where it refused one that it needn't take.
 abbrev pub Comes : Relation → List ℕ → CoapRequest → List ℕ → Replied → Type 0
-Comes holds before request after reply =
-    IsKept (holds before request) after reply
-    ⊎ ((after ≡ before) × (reply ≡ record { code = 160; payload = []; changed = false }))
+Comes R before request after reply =
+    IsKept (R.holds before request) after reply
+    ⊎ ((¬ R.takes before request)
+    × (after ≡ before)
+    × (reply ≡ record { code = 160; payload = []; changed = false }))
 
 -- a request is executed: once, on the state as it stands
-pub record Executes (holds : Relation) (to : Asker) (m : Content) (i : ℕ) (method : Method)
+pub record Executes (R : Relation) (to : Asker) (m : Content) (i : ℕ) (method : Method)
     (old new : Device) (taken : Taken) : Type 0 where
   pub held : Held
   pub there : slice_get old.resources i ≡ Some held
   pub after : List ℕ
   pub reply : Replied
-  pub comes : Comes holds held.state (asked method m) after reply
+  pub comes : Comes R held.state (asked method m) after reply
   pub changes : ChangesHeld to i method held after reply old new taken
 
 -- The last piece of a body executes the request, once, with all that came.
 abbrev pub Finishes : Relation → Asker → Content → ℕ → Method → Block
     → Device → Device → Taken → Type 0
-Finishes holds to m i method b old new taken =
+Finishes R to m i method b old new taken =
     (middle : Device)
-    × Executes holds to (with_body (with_piece to.peer i b m.payload old) m) i method
+    × Executes R to (with_body (with_piece to.peer i b m.payload old) m) i method
     old middle taken
     × (new ≡ without to.peer i middle)
 
@@ -109,35 +111,35 @@ piece_after p i b m s =
 
 abbrev pub TakesPiece : Relation → Asker → Content → ℕ → Method → Block → Joined
     → Device → Device → Option Taken → Type 0
-TakesPiece holds to m i method b Gap old new taken = GivesUp to i 136 old new × (taken ≡ None)
-TakesPiece holds to m i method b TooLarge old new taken = GivesUp to i 141 old new × (taken ≡ None)
-TakesPiece holds to m i method b Next old new taken =
+TakesPiece R to m i method b Gap old new taken = GivesUp to i 136 old new × (taken ≡ None)
+TakesPiece R to m i method b TooLarge old new taken = GivesUp to i 141 old new × (taken ≡ None)
+TakesPiece R to m i method b Next old new taken =
     KeepsPiece to i b m.payload old new × (taken ≡ None)
-TakesPiece holds to m i method b Last old new taken =
-    (done : Taken) × (taken ≡ Some done) × Finishes holds to m i method b old new done
+TakesPiece R to m i method b Last old new taken =
+    (done : Taken) × (taken ≡ Some done) × Finishes R to m i method b old new done
 
 -- The handler is asked once the body is whole.
 abbrev pub Asks : Relation → Asker → Content → ℕ → Method → Option Block
     → Device → Device → Option Taken → Type 0
-Asks holds to m i method None old new taken =
-    (done : Taken) × (taken ≡ Some done) × Executes holds to m i method old new done
-Asks holds to m i method (Some b) old new taken =
-    TakesPiece holds to m i method b (piece_after to.peer i b m old) old new taken
+Asks R to m i method None old new taken =
+    (done : Taken) × (taken ≡ Some done) × Executes R to m i method old new done
+Asks R to m i method (Some b) old new taken =
+    TakesPiece R to m i method b (piece_after to.peer i b m old) old new taken
 
 -- a request that wasn't heard before
 abbrev pub Processes : Relation → Asker → Content → Judged
     → Device → Device → Option Taken → Type 0
-Processes holds to m Dropped old new taken = (new ≡ noted to None old) × (taken ≡ None)
-Processes holds to m (Refused code) old new taken =
+Processes R to m Dropped old new taken = (new ≡ noted to None old) × (taken ≡ None)
+Processes R to m (Refused code) old new taken =
     Answers to code [] [] old new × (taken ≡ None)
-Processes holds to m (NotAcceptable i) old new taken =
+Processes R to m (NotAcceptable i) old new taken =
     Declines to i (wish_of (values 6 m.options)) 134 old new × (taken ≡ None)
-Processes holds to m (Read i) old new taken =
+Processes R to m (Read i) old new taken =
     Reads to i (wish_of (values 6 m.options)) (named_by (values 23 m.options))
     (slice_get old.resources i) old new
     × (taken ≡ None)
-Processes holds to m (Asked i method) old new taken =
-    Asks holds to m i method (named_by (values 27 m.options)) old new taken
+Processes R to m (Asked i method) old new taken =
+    Asks R to m i method (named_by (values 27 m.options)) old new taken
 
 abbrev pub rst : ℕ → List ℕ
 rst mid = 112 ∷ 0 ∷ (mid / 256) ∷ (mid % 256) ∷ []
@@ -147,17 +149,17 @@ asker t p m = record { peer = p; moment = t; kind = m.kind; mid = m.mid; token =
 
 abbrev pub Takes : Relation → ℕ → Peer → Content → Arrival
     → Device → Device → Option Taken → Type 0
-Takes holds t p m Ignored old new taken = (new ≡ old) × (taken ≡ None)
-Takes holds t p m Empty old new taken = (new ≡ noted (asker t p m) None old) × (taken ≡ None)
-Takes holds t p m Rejected old new taken =
+Takes R t p m Ignored old new taken = (new ≡ old) × (taken ≡ None)
+Takes R t p m Empty old new taken = (new ≡ noted (asker t p m) None old) × (taken ≡ None)
+Takes R t p m Rejected old new taken =
     (new ≡ sent p (rst m.mid) (noted (asker t p m) (Some (rst m.mid)) old)) × (taken ≡ None)
-Takes holds t p m (Repeated answer) old new taken =
+Takes R t p m (Repeated answer) old new taken =
     (new ≡ sent p answer old) × (taken ≡ None)
-Takes holds t p m Fresh old new taken =
-    Processes holds (asker t p m) m (judged m old.resources) old new taken
-Takes holds t p m Acknowledged old new taken =
+Takes R t p m Fresh old new taken =
+    Processes R (asker t p m) m (judged m old.resources) old new taken
+Takes R t p m Acknowledged old new taken =
     Settles t (acknowledged p m.mid old) new × (taken ≡ None)
-Takes holds t p m Reset old new taken =
+Takes R t p m Reset old new taken =
     Settles t (rejected p m.mid old) new × (taken ≡ None)
 
 -- what is no message, but shows four bytes of a CON, is rejected (RFC 7252, section 4.2)
@@ -167,16 +169,16 @@ undecoded p (Some mid) s = sent p (rst mid) s
 
 abbrev pub HearsRead : Relation → ℕ → Peer → List ℕ → Result Content CodecFault
     → Device → Device → Option Taken → Type 0
-HearsRead holds t p d (Ok m) old new taken = Takes holds t p m (arrival t p m old) old new taken
-HearsRead holds t p d (Err e) old new taken =
+HearsRead R t p d (Ok m) old new taken = Takes R t p m (arrival t p m old) old new taken
+HearsRead R t p d (Err e) old new taken =
     (new ≡ undecoded p (reset_for d) old) × (taken ≡ None)
 
 -- A datagram above 2,048 bytes counts as lost.
 abbrev pub HearsBy : Bool → Relation → ℕ → Peer → List ℕ
     → Device → Device → Option Taken → Type 0
-HearsBy true holds t p d old new taken = (new ≡ old) × (taken ≡ None)
-HearsBy false holds t p d old new taken = HearsRead holds t p d (message_at d) old new taken
+HearsBy true R t p d old new taken = (new ≡ old) × (taken ≡ None)
+HearsBy false R t p d old new taken = HearsRead R t p d (message_at d) old new taken
 
 abbrev pub Hears : Relation → ℕ → Peer → List ℕ → Device → Device → Option Taken → Type 0
-Hears holds t p d old new taken =
-    HearsBy (nat_lt MAX_DATAGRAM_LEN (length d)) holds t p d old new taken
+Hears R t p d old new taken =
+    HearsBy (nat_lt MAX_DATAGRAM_LEN (length d)) R t p d old new taken

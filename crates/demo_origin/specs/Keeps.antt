@@ -1,5 +1,5 @@
 -- What handlers keep, in terms of the answers that their closures may give.
-use Rattle.std.specs.Prelude.{◌≡◌, ◌≤◌, ◌/◌, ◌⊎◌, ℕ, List, length, Contains, Result, Ok, Err}
+use Rattle.std.specs.Prelude.{◌≡◌, ◌≤◌, ◌/◌, ◌⊎◌, ℕ, List, length, Contains, Result, Ok, Err, IsErrOf}
 use Rattle.std.specs.Borrow.{Bor}
 use Rattle.std.specs.Fn.{Called}
 use Rattle.std.specs.declared.alloc.Global.{Global}
@@ -7,6 +7,7 @@ use Rattle.std.specs.declared.vec.Vec.{Vec}
 use Rattle.limits.specs.declared.TheConstants.{MAX_BODY_LEN}
 use Rattle.demo_origin.specs.Values.{Relation, Replied, replied}
 use Rattle.demo_origin.specs.declared.fault.Refused.{Refused}
+use Rattle.demo_origin.specs.declared.fault.Refused.TheVariants.{Content}
 use Rattle.demo_origin.specs.declared.request.CoapRequest.{CoapRequest}
 use Rattle.demo_origin.specs.declared.request.Reply.{Reply}
 use Rattle.demo_origin.specs.declared.handler.Handler.{Handler}
@@ -30,11 +31,14 @@ abbrev pub Fits : (List ℕ → Replied → Type 0) → Answer → Type 0
 Fits holds (Ok p) = IsKept holds p.0.items (replied p.1)
 Fits holds (Err e) = Unit {0}
 
--- Each answer that may be given at a state and a request fits.
-pub record Keeps (holds : Relation) (gives : Bor (List ℕ) → Bor CoapRequest → Answer → Type 0)
+-- Each answer that may be given at a state and a request fits, and the content is refused only of
+-- what isn't taken.
+pub record Keeps (R : Relation) (gives : Bor (List ℕ) → Bor CoapRequest → Answer → Type 0)
     : Type 0 where
   pub each : (p : Bor (List ℕ)) (q : Bor CoapRequest) (r : Answer)
-      → gives p q r → Fits (holds p.now q.now) r
+      → gives p q r → Fits (R.holds p.now q.now) r
+  pub takes : (p : Bor (List ℕ)) (q : Bor CoapRequest) (r : Answer)
+      → gives p q r → IsErrOf r Content → ¬ R.takes p.now q.now
 
 -- an answer that a handler may give
 abbrev pub Gives : {H X : Type 0} {F : X → Type 0} {g : _}
@@ -46,9 +50,9 @@ Gives {H} {X} {F} {g} s p q r =
 -- A handler keeps the relation.
 abbrev pub KeepsRelation : {H X : Type 0} {F : X → Type 0} {g : _}
     → Relation → Handler H X F g → Type 0
-KeepsRelation holds s = Keeps holds (λ p q r. Gives s p q r)
+KeepsRelation R s = Keeps R (λ p q r. Gives s p q r)
 
 -- Each of them does.
 pub record AllKeep {H X : Type 0} {F : X → Type 0} {g : _}
-    (holds : Relation) (handlers : List (Handler H X F g)) : Type 0 where
-  pub each : (s : Handler H X F g) → Contains handlers s → KeepsRelation holds s
+    (R : Relation) (handlers : List (Handler H X F g)) : Type 0 where
+  pub each : (s : Handler H X F g) → Contains handlers s → KeepsRelation R s

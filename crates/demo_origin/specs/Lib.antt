@@ -15,3 +15,6 @@ pub mod Origins
 pub mod Told
 pub mod Once
 pub mod Kinds
+pub mod LastPiece
+pub mod Versions
+pub mod Made

@@ -35,15 +35,15 @@ pub data Event : Type 0 where
 
 -- what a call leaves
 abbrev pub Steps : Relation → Event → Device → Device → Type 0
-Steps holds (heard t p d taken) old new = Hears holds t p d old new taken
-Steps holds (looked t) old new = Ticks t old new
-Steps holds gave old new = new ≡ (sent_out old).0
+Steps R (heard t p d taken) old new = Hears R t p d old new taken
+Steps R (looked t) old new = Ticks t old new
+Steps R gave old new = new ≡ (sent_out old).0
 
 -- what calls one after another leave
 abbrev pub Runs : Relation → List Event → Device → Device → Type 0
-Runs holds [] old new = new ≡ old
-Runs holds (e ∷ es) old new =
-    (middle : Device) × Steps holds e old middle × Runs holds es middle new
+Runs R [] old new = new ≡ old
+Runs R (e ∷ es) old new =
+    (middle : Device) × Steps R e old middle × Runs R es middle new
 
 -- the call's moment is that one at the latest
 abbrev pub IsBy : ℕ → Event → Type 0
@@ -52,25 +52,25 @@ IsBy u (looked t) = t ≤ u
 IsBy u gave = Unit {0}
 
 -- a message of the peer's with that ID is executed
-pub record Executed (holds : Relation) (t : ℕ) (p : Peer) (mid : ℕ) (old new : Device) : Type 0
+pub record Executed (R : Relation) (t : ℕ) (p : Peer) (mid : ℕ) (old new : Device) : Type 0
   where
     pub datagram : List ℕ
     pub message : Content
     pub reads : message_at datagram ≡ Ok message
     pub mid_is : message.mid ≡ mid
     pub taken : Taken
-    pub hears : Hears holds t p datagram old new (Some taken)
+    pub hears : Hears R t p datagram old new (Some taken)
 
 -- After a message was executed, none of that peer's with that ID is executed within 247 s, whatever
 -- is heard between them.
 abbrev pub ExecutedOnce : Relation → Type 0
-ExecutedOnce holds =
+ExecutedOnce R =
     (es : List Event) (old a b new : Device) (t u : ℕ) (p : Peer) (mid : ℕ)
-    → Executed holds t p mid old a → Runs holds es a b → AllByRecursion (IsBy u) es
-    → u < t + EXCHANGE_LIFETIME → ¬ Executed holds u p mid b new
+    → Executed R t p mid old a → Runs R es a b → AllByRecursion (IsBy u) es
+    → u < t + EXCHANGE_LIFETIME → ¬ Executed R u p mid b new
 
 -- a CON of the peer's with that ID is heard
-pub record HearsCon (holds : Relation) (t : ℕ) (p : Peer) (mid : ℕ) (old new : Device)
+pub record HearsCon (R : Relation) (t : ℕ) (p : Peer) (mid : ℕ) (old new : Device)
     (taken : Option Taken) : Type 0 where
   pub datagram : List ℕ
   pub message : Content
@@ -78,13 +78,13 @@ pub record HearsCon (holds : Relation) (t : ℕ) (p : Peer) (mid : ℕ) (old new
   pub reads : message_at datagram ≡ Ok message
   pub kind_is : message.kind ≡ Con
   pub mid_is : message.mid ≡ mid
-  pub hears : Hears holds t p datagram old new taken
+  pub hears : Hears R t p datagram old new taken
 
 -- it is a new one, and is answered by that datagram, before the observers are told of a change
-pub record FirstAnswered (holds : Relation) (t : ℕ) (p : Peer) (mid : ℕ) (answer : List ℕ)
+pub record FirstAnswered (R : Relation) (t : ℕ) (p : Peer) (mid : ℕ) (answer : List ℕ)
     (old new : Device) : Type 0 where
   pub taken : Option Taken
-  pub con : HearsCon holds t p mid old new taken
+  pub con : HearsCon R t p mid old new taken
   pub first : ¬ IsRemembered t p mid old
   pub others : List Datagram
   pub goes : new.out ≡ old.out ++ record { peer = p; bytes = answer } ∷ others
@@ -92,9 +92,9 @@ pub record FirstAnswered (holds : Relation) (t : ℕ) (p : Peer) (mid : ℕ) (an
 -- A CON that is heard again within 247 s executes nothing, and gets the datagram that answered it
 -- first, whatever is heard between them.
 abbrev pub AnsweredAlike : Relation → Type 0
-AnsweredAlike holds =
+AnsweredAlike R =
     (es : List Event) (old a b new : Device) (t u : ℕ) (p : Peer) (mid : ℕ) (answer : List ℕ)
     (taken : Option Taken)
-    → FirstAnswered holds t p mid answer old a → Runs holds es a b → AllByRecursion (IsBy u) es
-    → t ≤ u → u < t + EXCHANGE_LIFETIME → HearsCon holds u p mid b new taken
+    → FirstAnswered R t p mid answer old a → Runs R es a b → AllByRecursion (IsBy u) es
+    → t ≤ u → u < t + EXCHANGE_LIFETIME → HearsCon R u p mid b new taken
     → (new ≡ sent p answer b) × (taken ≡ None)

@@ -20,14 +20,14 @@ count o = length o.state.resources.items
 
 -- Each resource has its handler, and each handler keeps the relation.
 pub record Sound {H X : Type 0} {F : X → Type 0} {g : _}
-    (holds : Relation) (o : Origin H X F g) : Type 0 where
-  pub keep : AllKeep holds o.handlers.items
+    (R : Relation) (o : Origin H X F g) : Type 0 where
+  pub keep : AllKeep R o.handlers.items
   pub one_each : length o.handlers.items ≡ length o.state.resources.items
 
 -- the handlers of resources that are handed in keep the relation
 pub record EachKeeps {H X : Type 0} {F : X → Type 0} {g : _}
-    (holds : Relation) (resources : List (Resource H X F g)) : Type 0 where
-  pub each : (r : Resource H X F g) → Contains resources r → KeepsRelation holds r.handler
+    (R : Relation) (resources : List (Resource H X F g)) : Type 0 where
+  pub each : (r : Resource H X F g) → Contains resources r → KeepsRelation R r.handler
 
 -- a device that heard nothing yet
 abbrev pub fresh : ℕ → List Held → Device

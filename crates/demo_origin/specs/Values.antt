@@ -46,6 +46,8 @@ pub record Replied : Type 0 where
 abbrev pub replied : Reply → Replied
 replied r = record { code = r.code; payload = r.payload.items; changed = r.changed }
 
--- what handlers keep: of the state before, the request, the state after, and the reply
-abbrev pub Relation : Type 1
-Relation = List ℕ → CoapRequest → List ℕ → Replied → Type 0
+-- What handlers keep. `holds` speaks of the state before, the request, the state after and the
+-- reply; `takes` of the state before and the request, which may not be refused then.
+pub record Relation : Type 1 where
+  pub holds : List ℕ → CoapRequest → List ℕ → Replied → Type 0
+  pub takes : List ℕ → CoapRequest → Type 0

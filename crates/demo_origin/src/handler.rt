@@ -1,6 +1,7 @@
 //! Handlers, and the relation that each keeps.
 
-ghost use Rattle.std.specs.Prelude.{◌≢◌, IfOk};
+ghost use Rattle.std.specs.Prelude.{◌≢◌, ℕ, List, IfOk, IsErrOf};
+ghost use Rattle.demo_origin.specs.declared.request.CoapRequest.{CoapRequest};
 
 use crate::behaviour::Behaviour;
 use crate::execution::Outcome;
@@ -29,30 +30,35 @@ pub struct Boxed {
 pub struct Handler<H: Behaviour> {
     /// The handler itself.
     pub closure: Boxed,
-    relation: PhantomData<H>,
+    kept: PhantomData<H>,
 }
 
 impl<H: Behaviour> Handler<H> {
-    ghost use Rattle.demo_origin.specs.Keeps.{Fits, Keeps, KeepsRelation};
+    ghost use Rattle.std.specs.Borrow.{Bor};
+    ghost use Rattle.demo_origin.specs.Keeps.{Answer, Fits, Gives, Keeps, KeepsRelation};
     ghost use Rattle.demo_origin.specs.Hearing.{reply_of, Comes};
 
     /// Takes a handler that keeps the relation. Each of its replies has a code of class 2, 4 or 5,
     /// and each of its new states at most 65,536 bytes.
     pub fn new(call: Call) -> Handler<H>
         requires callable { Call.IsAlwaysCallable call }
-        requires keeps { Keeps H.holds (λ p q r. Call.post call p q r) }
-        ensures { KeepsRelation H.holds result }
+        requires keeps { Keeps H.relation (λ p q r. Call.post call p q r) }
+        ensures keeps { KeepsRelation H.relation result }
+        ensures same { (p : Bor (List ℕ)) (q : Bor CoapRequest) (r : Answer)
+            → Gives result p q r → Call.post call p q r }
     {
         Handler {
             closure: Boxed { call },
-            relation: PhantomData,
+            kept: PhantomData,
         }
     }
 
     /// What it makes of the state and the request.
     pub fn answer(&self, state: &[u8], request: &CoapRequest) -> Result<(Vec<u8>, Reply), Refused>
-        requires { KeepsRelation H.holds self.now }
-        ensures { Fits (H.holds state.now request.now) result }
+        requires { KeepsRelation H.relation self.now }
+        ensures fits { Fits (H.relation.holds state.now request.now) result }
+        ensures refused { IsErrOf result Refused.Content
+            → ¬ H.relation.takes state.now request.now }
     {
         self.call(state, request)
     }
@@ -64,9 +70,9 @@ impl<H: Behaviour> Handler<H> {
         held: &Held,
         request: &CoapRequest,
     ) -> Result<Outcome, Memory>
-        requires { KeepsRelation H.holds self.now }
+        requires { KeepsRelation H.relation self.now }
         ensures comes { IfOk result (λ o.
-            Comes H.holds held.now.state request.now o.after (reply_of o)) }
+            Comes H.relation held.now.state request.now o.after (reply_of o)) }
         ensures code { IfOk result (λ o. o.code ≢ 0) }
     {
         match self.answer(held.state.as_slice(), request) {
@@ -87,8 +93,10 @@ impl<H: Behaviour> Handler<H> {
     }
 
     fn call(&self, state: &[u8], request: &CoapRequest) -> Result<(Vec<u8>, Reply), Refused>
-        requires { Keeps H.holds (λ p q r. Call.post self.now.closure.call p q r) }
-        ensures { Fits (H.holds state.now request.now) result }
+        requires { Keeps H.relation (λ p q r. Call.post self.now.closure.call p q r) }
+        ensures fits { Fits (H.relation.holds state.now request.now) result }
+        ensures refused { IsErrOf result Refused.Content
+            → ¬ H.relation.takes state.now request.now }
     {
         (self.closure.call)(state, request)
     }

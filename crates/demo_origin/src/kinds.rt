@@ -1,9 +1,9 @@
 //! Handlers of a demonstration device: cells and counters.
 
-ghost use Rattle.std.specs.Prelude.{◌≡◌, ◌<◌, ◌≤◌, ◌⊎◌, ◌∷◌, [], length, Some, None, IfOk, IsErrOf, IsOkUnless};
+ghost use Rattle.std.specs.Prelude.{◌≡◌, ◌≤◌, ◌∷◌, [], length, Some, IfOk, IsErrOf, IsOkUnless};
 ghost use Rattle.demo_origin.specs.Values.{replied};
 ghost use Rattle.demo_origin.specs.Keeps.{Fits};
-ghost use Rattle.demo_origin.specs.Kinds.{counted, counted_from, Counts, IsCell, IsCounter};
+ghost use Rattle.demo_origin.specs.Kinds.{counted, counted_from, Counts, IsCell, IsTakenByCell, IsCounter, IsTakenByCounter};
 
 use crate::fault::Refused;
 use crate::request::{CoapRequest, Method, Reply};
@@ -38,8 +38,7 @@ fn reply(alloc: Global, code: u8, payload: &[u8], changed: bool) -> Result<Reply
 /// no state above 65,536 bytes.
 pub fn cell(alloc: Global, state: &[u8], request: &CoapRequest) -> Result<(Vec<u8>, Reply), Refused>
     ensures does { Fits (IsCell state.now request.now) result }
-    ensures takes { IsErrOf result Refused.Content
-        → (MAX_BODY_LEN < length request.now.body) ⊎ (MAX_BODY_LEN < length state.now) }
+    ensures takes { IsErrOf result Refused.Content → ¬ IsTakenByCell state.now request.now }
 {
     let body = request.body.as_slice();
     if body.len() > MAX_BODY_LEN || state.len() > MAX_BODY_LEN {
@@ -114,7 +113,7 @@ pub fn counter(
 ) -> Result<(Vec<u8>, Reply), Refused>
     ensures does { Fits (IsCounter state.now request.now) result }
     ensures takes { IsErrOf result Refused.Content
-        → (MAX_BODY_LEN < length state.now) ⊎ (counted state.now ≡ None) }
+        → ¬ IsTakenByCounter state.now request.now }
 {
     if state.len() > MAX_BODY_LEN {
         return Err(Refused::Content);

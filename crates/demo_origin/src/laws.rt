@@ -1,19 +1,22 @@
 //! Laws of whole runs.
 
 ghost use Rattle.demo_origin.specs.Once.{AnsweredAlike, ExecutedOnce};
+ghost use Rattle.demo_origin.specs.LastPiece.{LastPieceExecutes};
+ghost use Rattle.demo_origin.specs.Made.{AnswersAreMade};
+ghost use Rattle.demo_origin.specs.Versions.{VersionsTell};
 ghost use Rattle.demo_origin.specs.Told.{ObserversTold, OnlyObserversTold};
 
 use crate::behaviour::Behaviour;
 
 /// While a message is remembered it is executed at most once, whatever is heard after it.
 pub fn executed_once<H: Behaviour>()
-    ensures { ExecutedOnce H.holds }
+    ensures { ExecutedOnce H.relation }
 {}
 
 /// A CON that is sent again within 247 s gets the datagram that answered it first, and executes
 /// nothing, whatever is heard between them.
 pub fn answered_alike<H: Behaviour>()
-    ensures { AnsweredAlike H.holds }
+    ensures { AnsweredAlike H.relation }
 {}
 
 /// After a change, an ACK or an RST, and after each tick, every observer was told of the state as
@@ -26,4 +29,23 @@ pub fn observers_told()
 /// a registration that stands, of the state as it stands.
 pub fn only_observers_told()
     ensures { OnlyObserversTold }
+{}
+
+/// A request whose body comes in pieces is executed by the last of them alone.
+pub fn last_piece_executes<H: Behaviour>()
+    ensures { LastPieceExecutes H.relation }
+{}
+
+/// The version of a resource doesn't fall, and where it is the same the state is. So the versions
+/// that responses bear as ETags tell its states apart.
+pub fn versions_tell<H: Behaviour>()
+    ensures { VersionsTell H.relation }
+{}
+
+/// Whatever a device gives out, once it heard nothing before, was made by a call: an RST for what
+/// was heard, an answer to the request that was heard, of the state as it stood then, or a
+/// notification under a registration that stood. Success answers a POST, PUT or DELETE only where
+/// it was executed, save for 2.31, which asks for more after a piece that isn't the last.
+pub fn answers_are_made<H: Behaviour>()
+    ensures { AnswersAreMade H.relation }
 {}

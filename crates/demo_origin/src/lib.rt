@@ -2,7 +2,8 @@
 //!
 //! The one contract: while a message is remembered it is executed at most once, and a repeated one
 //! gets the same answer again; what a handler made of a state keeps the relation that it stands
-//! beside; a GET is answered with the state as it stands. Want of memory executes nothing.
+//! beside, and 5.00 takes its place only where it needn't take the request; a GET is answered with
+//! the state as it stands. Want of memory executes nothing.
 //! Whoever wants a device to try a proxy with, or the other end of its promise, stands on it.
 #![tactic(auto)]
 
@@ -41,7 +42,10 @@ pub use fault::{Memory, Refused};
 pub use handler::{Boxed, Call, Handler};
 pub use judge::Judged;
 pub use kinds::{cell, counter};
-pub use laws::{answered_alike, executed_once, observers_told, only_observers_told};
+pub use laws::{
+    answered_alike, answers_are_made, executed_once, last_piece_executes, observers_told,
+    only_observers_told, versions_tell,
+};
 pub use observers::Wish;
 pub use origin::Origin;
 pub use request::{CoapRequest, Method, Reply};

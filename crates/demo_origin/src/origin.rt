@@ -46,8 +46,8 @@ impl<H: Behaviour> Origin<H> {
     /// is the size exponent of its pieces (RFC 7959, section 2.2).
     pub fn new(alloc: Global, block: u8, resources: Vec<Resource<H>>) -> Result<Origin<H>, Memory>
         requires block { block < 7 }
-        requires keep { EachKeeps H.holds resources.items }
-        ensures sound { IfOk result (λ o. Sound H.holds o) }
+        requires keep { EachKeeps H.relation resources.items }
+        ensures sound { IfOk result (λ o. Sound H.relation o) }
         ensures fresh { IfOk result (λ o. device o ≡ fresh block (map held_of resources.items)) }
     {
         let mut origin = Origin::empty(alloc, BlockSize { szx: block });
@@ -58,7 +58,7 @@ impl<H: Behaviour> Origin<H> {
     }
 
     fn empty(alloc: Global, block: BlockSize) -> Origin<H>
-        ensures sound { Sound H.holds result }
+        ensures sound { Sound H.relation result }
         ensures fresh { device result ≡ fresh block.szx [] }
     {
         Origin {
@@ -78,9 +78,9 @@ impl<H: Behaviour> Origin<H> {
 
     /// Adds a resource last.
     fn add(&mut self, resource: Resource<H>) -> Result<(), Memory>
-        requires sound { Sound H.holds self.old }
-        requires keeps { KeepsRelation H.holds resource.handler }
-        ensures sound { OnOk result (Sound H.holds self.new) }
+        requires sound { Sound H.relation self.old }
+        requires keeps { KeepsRelation H.relation resource.handler }
+        ensures sound { OnOk result (Sound H.relation self.new) }
         ensures added { OnOk result
             (device self.new ≡ with_one (held_of resource) (device self.old)) }
     {
@@ -97,9 +97,9 @@ impl<H: Behaviour> Origin<H> {
 
     /// Takes a message.
     fn take(&mut self, moment: u64, peer: Peer, m: &mut Message) -> Result<Option<Taken>, Memory>
-        requires sound { Sound H.holds self.old }
+        requires sound { Sound H.relation self.old }
         ensures ok { IfOk result (λ taken. let came = content m.old in
-            Takes H.holds moment peer came (arrival moment peer came (device self.old))
+            Takes H.relation moment peer came (arrival moment peer came (device self.old))
             (device self.old) (device self.new) taken) }
         ensures err { OnErr result (device self.new ≡ device self.old) }
         ensures handlers { self.new.handlers ≡ self.old.handlers }
@@ -140,10 +140,10 @@ impl<H: Behaviour> Origin<H> {
 
     /// Takes a datagram.
     fn hear(&mut self, moment: u64, peer: Peer, datagram: &[u8]) -> Result<Option<Taken>, Memory>
-        requires sound { Sound H.holds self.old }
-        ensures sound { Sound H.holds self.new }
+        requires sound { Sound H.relation self.old }
+        ensures sound { Sound H.relation self.new }
         ensures ok { IfOk result (λ taken.
-            Hears H.holds moment peer datagram.now (device self.old) (device self.new) taken) }
+            Hears H.relation moment peer datagram.now (device self.old) (device self.new) taken) }
         ensures err { OnErr result (device self.new ≡ device self.old) }
     {
         if datagram.len() > MAX_DATAGRAM_LEN {
@@ -167,10 +167,10 @@ impl<H: Behaviour> Origin<H> {
         peer: Peer,
         datagram: &[u8],
     ) -> Result<Option<Taken>, Memory>
-        requires sound { Sound H.holds self.old }
-        ensures sound { Sound H.holds self.new }
+        requires sound { Sound H.relation self.old }
+        ensures sound { Sound H.relation self.new }
         ensures ok { IfOk result (λ taken.
-            Hears H.holds moment peer datagram.now (device self.old) (device self.new) taken) }
+            Hears H.relation moment peer datagram.now (device self.old) (device self.new) taken) }
         ensures first { IfOk result (λ taken. IsSome taken
             → IsFirst moment peer datagram.now (device self.old) (device self.new)) }
         ensures err { OnErr result (device self.new ≡ device self.old) }
@@ -182,8 +182,8 @@ impl<H: Behaviour> Origin<H> {
     /// drops the observer that acknowledged none of five. It forgets the messages that were
     /// heard 247 s ago, and the peers that were sent nothing since and observe nothing.
     pub fn tick(&mut self, moment: u64) -> Result<(), Memory>
-        requires sound { Sound H.holds self.old }
-        ensures sound { Sound H.holds self.new }
+        requires sound { Sound H.relation self.old }
+        ensures sound { Sound H.relation self.new }
         ensures ok { OnOk result (Ticks moment (device self.old) (device self.new)) }
         ensures err { OnErr result (device self.new ≡ device self.old) }
     {
@@ -197,7 +197,7 @@ impl<H: Behaviour> Origin<H> {
 
     /// When the next copy of a notification, or the end of its observer, is due.
     pub fn next_due(&self) -> Option<u64>
-        requires { Sound H.holds self.now }
+        requires { Sound H.relation self.now }
         ensures { result ≡ least_due None (device self.now).observers }
     {
         least_due(&self.state.observers)
@@ -205,8 +205,8 @@ impl<H: Behaviour> Origin<H> {
 
     /// The next datagram to be sent.
     pub fn take_send(&mut self) -> Option<Datagram>
-        requires sound { Sound H.holds self.old }
-        ensures sound { Sound H.holds self.new }
+        requires sound { Sound H.relation self.old }
+        ensures sound { Sound H.relation self.new }
         ensures sent { sent_out (device self.old) ≡ (device self.new, result) }
     {
         self.state.out.pop_front()

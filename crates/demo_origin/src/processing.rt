@@ -33,10 +33,10 @@ const TOO_LARGE: u8 = 141;
 impl<H: Behaviour> Origin<H> {
     /// What comes of a request for the resource of that number.
     fn outcome(&self, place: usize, request: &CoapRequest) -> Result<Outcome, Memory>
-        requires sound { Sound H.holds self.now }
+        requires sound { Sound H.relation self.now }
         requires place { place < count self.now }
         ensures comes { IfOk result (λ o. IfSome (slice_get self.now.state.resources.items place)
-            (λ h. Comes H.holds h.state request.now o.after (reply_of o))) }
+            (λ h. Comes H.relation h.state request.now o.after (reply_of o))) }
         ensures code { IfOk result (λ o. o.code ≢ 0) }
     {
         let handler = &self.handlers[place];
@@ -46,10 +46,10 @@ impl<H: Behaviour> Origin<H> {
 
     /// What comes of a message that asks for the resource of that number.
     fn outcome_of(&self, m: &mut Message, place: usize, method: Method) -> Result<Outcome, Memory>
-        requires sound { Sound H.holds self.now }
+        requires sound { Sound H.relation self.now }
         requires place { place < count self.now }
         ensures comes { IfOk result (λ o. IfSome (slice_get self.now.state.resources.items place)
-            (λ h. Comes H.holds h.state (asked method (content m.old)) o.after (reply_of o))) }
+            (λ h. Comes H.relation h.state (asked method (content m.old)) o.after (reply_of o))) }
         ensures code { IfOk result (λ o. o.code ≢ 0) }
     {
         let request = request_of(self.alloc, m, method)?;
@@ -64,11 +64,11 @@ impl<H: Behaviour> Origin<H> {
         place: usize,
         method: Method,
     ) -> Result<Taken, Memory>
-        requires sound { Sound H.holds self.old }
+        requires sound { Sound H.relation self.old }
         requires place { place < count self.old }
         requires version { IfSome (slice_get self.old.state.resources.items place) CanChange }
         ensures ok { IfOk result (λ taken.
-            Executes H.holds to (content m.old) place method
+            Executes H.relation to (content m.old) place method
             (device self.old) (device self.new) taken) }
         ensures err { OnErr result (device self.new ≡ device self.old) }
         ensures handlers { self.new.handlers ≡ self.old.handlers }
@@ -80,9 +80,9 @@ impl<H: Behaviour> Origin<H> {
 
     /// Processes a request that wasn't heard before.
     pub(crate) fn process(&mut self, to: Asker, m: &mut Message) -> Result<Option<Taken>, Memory>
-        requires sound { Sound H.holds self.old }
+        requires sound { Sound H.relation self.old }
         ensures ok { IfOk result (λ taken. let asked = content m.old in
-            Processes H.holds to asked (judged asked self.old.state.resources.items)
+            Processes H.relation to asked (judged asked self.old.state.resources.items)
             (device self.old) (device self.new) taken) }
         ensures err { OnErr result (device self.new ≡ device self.old) }
         ensures handlers { self.new.handlers ≡ self.old.handlers }
@@ -124,12 +124,12 @@ impl<H: Behaviour> Origin<H> {
         method: Method,
         named: Option<Block>,
     ) -> Result<Option<Taken>, Memory>
-        requires sound { Sound H.holds self.old }
+        requires sound { Sound H.relation self.old }
         requires place { place < count self.old }
         requires version { IfSome (slice_get self.old.state.resources.items place) CanChange }
         requires sized { IsSized named }
         ensures ok { IfOk result (λ taken.
-            Asks H.holds to (content m.old) place method named
+            Asks H.relation to (content m.old) place method named
             (device self.old) (device self.new) taken) }
         ensures err { OnErr result (device self.new ≡ device self.old) }
         ensures handlers { self.new.handlers ≡ self.old.handlers }
@@ -153,13 +153,13 @@ impl<H: Behaviour> Origin<H> {
         method: Method,
         b: Block,
     ) -> Result<Option<Taken>, Memory>
-        requires sound { Sound H.holds self.old }
+        requires sound { Sound H.relation self.old }
         requires place { place < count self.old }
         requires version { IfSome (slice_get self.old.state.resources.items place) CanChange }
         requires szx { b.szx < 7 }
         requires num { b.num < 2 ^ 20 }
         ensures ok { IfOk result (λ taken. let asked = content m.old in
-            TakesPiece H.holds to asked place method b
+            TakesPiece H.relation to asked place method b
             (piece_after to.peer place b asked (device self.old))
             (device self.old) (device self.new) taken) }
         ensures err { OnErr result (device self.new ≡ device self.old) }
@@ -197,11 +197,11 @@ impl<H: Behaviour> Origin<H> {
         method: Method,
         b: Block,
     ) -> Result<Taken, Memory>
-        requires sound { Sound H.holds self.old }
+        requires sound { Sound H.relation self.old }
         requires place { place < count self.old }
         requires version { IfSome (slice_get self.old.state.resources.items place) CanChange }
         ensures ok { IfOk result (λ taken.
-            Finishes H.holds to (content m.old) place method b
+            Finishes H.relation to (content m.old) place method b
             (device self.old) (device self.new) taken) }
         ensures err { OnErr result (device self.new ≡ device self.old) }
         ensures handlers { self.new.handlers ≡ self.old.handlers }

@@ -28,9 +28,9 @@ pub fn install<H: Behaviour>(
     all: &mut Vec<Resource<H>>,
     resource: Resource<H>,
 ) -> Result<(), AllocError>
-    requires all { EachKeeps H.holds all.old.items }
-    requires one { KeepsRelation H.holds resource.handler }
-    ensures keep { EachKeeps H.holds all.new.items }
+    requires all { EachKeeps H.relation all.old.items }
+    requires one { KeepsRelation H.relation resource.handler }
+    ensures keep { EachKeeps H.relation all.new.items }
     ensures ok { OnOk result (all.new.items ≡ all.old.items ++ resource ∷ []) }
     ensures err { OnErr result (all.new.items ≡ all.old.items) }
 {

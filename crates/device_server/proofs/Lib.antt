@@ -1,1 +1,3 @@
 pub mod Either
+pub mod Going
+pub mod Listed

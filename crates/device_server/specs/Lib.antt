@@ -1,1 +1,4 @@
 pub mod Kinds
+pub mod Rows
+pub mod Sending
+pub mod Turns

@@ -1,13 +1,23 @@
 //! The clock of a device.
 
+ghost use Rattle.std.specs.Prelude.{◌≡◌, [], ◌∷◌, IfOk, OnErr};
+ghost use Rattle.device_server.specs.Turns.{Grown};
+
 use crate::wire::Failed;
 use std::rt::Clock as SystemTime;
 use std::time::Instant;
 
 /// What says how late it is.
 pub trait Clock {
+    ghost use Rattle.std.specs.Prelude.{List, ℕ, Option};
+
+    /// the moments that it told, in order, where that can be known
+    ghost told: { Self → Option (List ℕ) };
+
     /// Milliseconds since it began.
-    fn moment(&self) -> Result<u64, Failed>;
+    fn moment(&mut self) -> Result<u64, Failed>
+        ensures ok { IfOk result (λ t. Grown (told self.old) (told self.new) (t ∷ [])) }
+        ensures err { OnErr result (told self.new ≡ told self.old) };
 }
 
 /// The system's clock.
@@ -25,7 +35,11 @@ impl<W: SystemTime + Drop> SystemClock<W> {
 }
 
 impl<W: SystemTime + Drop> Clock for SystemClock<W> {
-    fn moment(&self) -> Result<u64, Failed> {
+    ghost use Rattle.std.specs.Prelude.{None};
+
+    ghost told = { λ c. None };
+
+    fn moment(&mut self) -> Result<u64, Failed> {
         match self.begin.elapsed(&self.rt) {
             Ok(gone) => Ok(u64::try_from(gone.as_millis()).unwrap_or(u64::MAX)),
             Err(_) => Err(Failed),

@@ -2,7 +2,7 @@
 
 ghost use Rattle.std.specs.Prelude.{IsErrOf};
 ghost use Rattle.demo_origin.specs.Keeps.{Fits};
-ghost use Rattle.device_server.specs.Kinds.{IsDeclined, IsEither, IsOf};
+ghost use Rattle.device_server.specs.Kinds.{IsEither, IsTakenByBoth, relation_of};
 
 use demo_origin::{Behaviour, CoapRequest, Refused, Reply, cell, counter};
 use proxy_settings::Kind;
@@ -12,9 +12,9 @@ use std::alloc::Global;
 pub struct Kinds;
 
 impl Behaviour for Kinds {
-    ghost use Rattle.device_server.specs.Kinds.{IsEither};
+    ghost use Rattle.device_server.specs.Kinds.{kinds};
 
-    ghost holds = { IsEither };
+    ghost relation = { kinds };
 }
 
 /// What a resource of that kind makes of a request.
@@ -25,9 +25,11 @@ pub fn answer(
     state: &[u8],
     request: &CoapRequest,
 ) -> Result<(Vec<u8>, Reply), Refused>
-    ensures does { Fits (IsOf kind state.now request.now) result }
+    ensures does { Fits ((relation_of kind).holds state.now request.now) result }
+    ensures takes { IsErrOf result Refused.Content
+        → ¬ (relation_of kind).takes state.now request.now }
     ensures either { Fits (IsEither state.now request.now) result }
-    ensures takes { IsErrOf result Refused.Content → IsDeclined kind state.now request.now }
+    ensures both { IsErrOf result Refused.Content → ¬ IsTakenByBoth state.now request.now }
 {
     match kind {
         Kind::Cell => cell(alloc, state, request),

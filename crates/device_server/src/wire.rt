@@ -1,6 +1,7 @@
 //! The socket of a device.
 
-ghost use Rattle.std.specs.Prelude.{◌≤◌, ◌≡◌, length, IfOk, IfSome};
+ghost use Rattle.std.specs.Prelude.{◌≤◌, ◌≡◌, [], ◌∷◌, length, IfOk, OnErr, IfSome};
+ghost use Rattle.device_server.specs.Turns.{Grown, datagram, listed, received};
 
 use server_faults::DeviceFault;
 use std::io::{self, ErrorKind};
@@ -14,14 +15,29 @@ pub struct Failed;
 
 /// What datagrams go out by and come in by.
 pub trait Wire {
+    ghost use Rattle.std.specs.Prelude.{List, Option};
+    ghost use Rattle.demo_origin.specs.declared.state.Datagram.{Datagram};
+
+    /// the datagrams that came, each with its sender, in order, where that can be known
+    ghost came: { Self → Option (List Datagram) };
+
+    /// the datagrams that were handed in, each with its receiver, in order, where that can be known
+    ghost sent: { Self → Option (List Datagram) };
+
     /// Sends a datagram. One that can't be sent is lost.
-    fn send(&self, peer: Peer, bytes: &[u8]);
+    fn send(&mut self, peer: Peer, bytes: &[u8])
+        ensures sends { Grown (sent self.old) (sent self.new) (datagram peer bytes.now ∷ []) }
+        ensures quiet { came self.new ≡ came self.old };
 
     /// Puts the datagram that comes within so many milliseconds into the buffer, and answers how
     /// long it is and who sent it.
-    fn receive(&self, buffer: &mut [u8], wait: u64) -> Result<Option<(usize, Peer)>, Failed>
+    fn receive(&mut self, buffer: &mut [u8], wait: u64) -> Result<Option<(usize, Peer)>, Failed>
         ensures fits { IfOk result (λ o. IfSome o (λ r. r.0 ≤ length buffer.new)) }
-        ensures length { length buffer.new ≡ length buffer.old };
+        ensures length { length buffer.new ≡ length buffer.old }
+        ensures brings { IfOk result (λ o.
+            Grown (came self.old) (came self.new) (listed (received buffer.new o))) }
+        ensures none { OnErr result (came self.new ≡ came self.old) }
+        ensures same { sent self.new ≡ sent self.old };
 }
 
 /// The UDP socket of a device.
@@ -55,13 +71,19 @@ impl DevicePort {
 }
 
 impl Wire for DevicePort {
-    fn send(&self, peer: Peer, bytes: &[u8]) {
+    ghost use Rattle.std.specs.Prelude.{None};
+
+    ghost came = { λ p. None };
+
+    ghost sent = { λ p. None };
+
+    fn send(&mut self, peer: Peer, bytes: &[u8]) {
         let _ = self
             .socket
             .send_to(bytes, SocketAddr::new(peer.address, peer.port));
     }
 
-    fn receive(&self, buffer: &mut [u8], wait: u64) -> Result<Option<(usize, Peer)>, Failed> {
+    fn receive(&mut self, buffer: &mut [u8], wait: u64) -> Result<Option<(usize, Peer)>, Failed> {
         match self.receive_by(buffer, wait) {
             Ok((count, from)) => Ok(Some((
                 count,

@@ -15,18 +15,18 @@ use std::alloc::{AllocError, Global};
 pub struct Counters;
 
 impl Behaviour for Counters {
-    ghost use Rattle.demo_origin.specs.Kinds.{IsCounter};
+    ghost use Rattle.demo_origin.specs.Kinds.{counters};
 
-    ghost holds = { IsCounter };
+    ghost relation = { counters };
 }
 
 /// Devices with cells.
 pub struct Cells;
 
 impl Behaviour for Cells {
-    ghost use Rattle.demo_origin.specs.Kinds.{IsCell};
+    ghost use Rattle.demo_origin.specs.Kinds.{cells};
 
-    ghost holds = { IsCell };
+    ghost relation = { cells };
 }
 
 /// The path of one segment.
@@ -48,8 +48,8 @@ fn resource<H: Behaviour>(
     max_age: u32,
     handler: Handler<H>,
 ) -> Result<Resource<H>, AllocError>
-    requires { KeepsRelation H.holds handler }
-    ensures { IfOk result (λ r. KeepsRelation H.holds r.handler) }
+    requires { KeepsRelation H.relation handler }
+    ensures { IfOk result (λ r. KeepsRelation H.relation r.handler) }
 {
     Ok(Resource {
         path: path_of(alloc, segment)?,

@@ -46,8 +46,8 @@ fn peer(port: u16) -> Peer {
 
 /// What it does with a datagram.
 fn hears_once<H: Behaviour>(origin: &mut Origin<H>, moment: u64, port: u16, datagram: &[u8]) -> Did
-    requires { Sound H.holds origin.old }
-    ensures { Sound H.holds origin.new }
+    requires { Sound H.relation origin.old }
+    ensures { Sound H.relation origin.new }
 {
     match origin.heard(moment, peer(port), datagram) {
         Ok(Some(_)) => Did::Executed,
@@ -58,8 +58,8 @@ fn hears_once<H: Behaviour>(origin: &mut Origin<H>, moment: u64, port: u16, data
 
 /// What it does with a datagram, which comes once more where memory was refused.
 fn hears<H: Behaviour>(origin: &mut Origin<H>, moment: u64, port: u16, datagram: &[u8]) -> Did
-    requires { Sound H.holds origin.old }
-    ensures { Sound H.holds origin.new }
+    requires { Sound H.relation origin.old }
+    ensures { Sound H.relation origin.new }
 {
     match hears_once(origin, moment, port, datagram) {
         Did::NoMemory => hears_once(origin, moment, port, datagram),
@@ -69,8 +69,8 @@ fn hears<H: Behaviour>(origin: &mut Origin<H>, moment: u64, port: u16, datagram:
 
 /// Whether the next datagram that it sends is this one, and goes to that port.
 fn sends<H: Behaviour>(origin: &mut Origin<H>, port: u16, datagram: &[u8]) -> bool
-    requires { Sound H.holds origin.old }
-    ensures { Sound H.holds origin.new }
+    requires { Sound H.relation origin.old }
+    ensures { Sound H.relation origin.new }
 {
     match origin.take_send() {
         Some(sent) => sent.peer == peer(port) && sent.bytes.as_slice() == datagram,
@@ -80,32 +80,32 @@ fn sends<H: Behaviour>(origin: &mut Origin<H>, port: u16, datagram: &[u8]) -> bo
 
 /// Whether it has nothing to send.
 fn is_quiet<H: Behaviour>(origin: &mut Origin<H>) -> bool
-    requires { Sound H.holds origin.old }
-    ensures { Sound H.holds origin.new }
+    requires { Sound H.relation origin.old }
+    ensures { Sound H.relation origin.new }
 {
     origin.take_send().is_none()
 }
 
 /// Whether it looks at its timers, once more where memory was refused.
 fn ticks<H: Behaviour>(origin: &mut Origin<H>, moment: u64) -> bool
-    requires { Sound H.holds origin.old }
-    ensures { Sound H.holds origin.new }
+    requires { Sound H.relation origin.old }
+    ensures { Sound H.relation origin.new }
 {
     origin.tick(moment).is_ok() || origin.tick(moment).is_ok()
 }
 
 /// Whether it answers that datagram, and asks no handler.
 fn shows<H: Behaviour>(origin: &mut Origin<H>, moment: u64, port: u16, datagram: &[u8]) -> bool
-    requires { Sound H.holds origin.old }
-    ensures { Sound H.holds origin.new }
+    requires { Sound H.relation origin.old }
+    ensures { Sound H.relation origin.new }
 {
     hears(origin, moment, port, datagram) == Did::Nothing && !is_quiet(origin)
 }
 
 /// Whether it answers that datagram of so many ports, from 0 on.
 fn answers<H: Behaviour>(origin: &mut Origin<H>, moment: u64, count: u16, datagram: &[u8]) -> bool
-    requires { Sound H.holds origin.old }
-    ensures { Sound H.holds origin.new }
+    requires { Sound H.relation origin.old }
+    ensures { Sound H.relation origin.new }
 {
     'each: for port in 0..count {
         if !shows(origin, moment, port, datagram) {
@@ -116,8 +116,8 @@ fn answers<H: Behaviour>(origin: &mut Origin<H>, moment: u64, count: u16, datagr
 }
 
 fn does<H: Behaviour>(origin: &mut Origin<H>, step: Step) -> bool
-    requires { Sound H.holds origin.old }
-    ensures { Sound H.holds origin.new }
+    requires { Sound H.relation origin.old }
+    ensures { Sound H.relation origin.new }
 {
     match step {
         Step::Executes(moment, port, datagram) => {
@@ -136,8 +136,8 @@ fn does<H: Behaviour>(origin: &mut Origin<H>, step: Step) -> bool
 
 /// The number of the first step that the device doesn't do.
 pub fn fails_at<H: Behaviour>(origin: &mut Origin<H>, steps: &[Step]) -> Option<usize>
-    requires { Sound H.holds origin.old }
-    ensures { Sound H.holds origin.new }
+    requires { Sound H.relation origin.old }
+    ensures { Sound H.relation origin.new }
 {
     'each: for number in 0..steps.len() {
         if !does(origin, steps[number]) {

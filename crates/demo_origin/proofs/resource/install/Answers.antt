@@ -4,6 +4,6 @@ use Rattle.demo_origin.proofs.resource.install.Goals as goal
 
 pub returns-clause-keep : goal.returns-clause-keep
 returns-clause-keep g c = record {
-  each = each_more (λ r. KeepsRelation g.H.Behaviour.holds r.handler) _ _ _
+  each = each_more (λ r. KeepsRelation g.H.Behaviour.relation r.handler) _ _ _
       c.in_ok-push.ensures.items c.requires.all.each c.requires.one;
 }

@@ -7,4 +7,6 @@ call-requires g c =
     record {
       each = λ p q r s.
           c.requires.each p q r ((f.vtable, f.value), record { met = (s, refl) });
+      takes = λ p q r s.
+          c.requires.takes p q r ((f.vtable, f.value), record { met = (s, refl) });
     }

@@ -9,7 +9,7 @@ returns-clause-sound g c =
     let b = longer _ _ _ c.in_ok-push-2.ensures.items in
     record {
       keep = record {
-        each = each_more (λ s. KeepsRelation g.H.Behaviour.holds s) _ _ _
+        each = each_more (λ s. KeepsRelation g.H.Behaviour.relation s) _ _ _
             c.in_ok-push-2.ensures.items c.requires.sound.keep.each c.requires.keeps;
       };
       one_each = omega (arith, a, b, c.requires.sound.one_each);

@@ -27,8 +27,8 @@ returns-clause-ok g c =
     ∙ ap (λ (ys : List ℕ). before_piece b (body_at (upload_of p i all) all) ++ ys)
     c.deref-3.ensures.value in
     let P : List ℕ → Type 0 = λ body.
-    Executes g.H.Behaviour.holds c.args.to (with_body body (content c.args.m.now)) i c.args.method
-    (device c.args.self.now) (device c.execute.new.self) c.in_ok-taken.taken in (
+    Executes g.H.Behaviour.relation c.args.to (with_body body (content c.args.m.now)) i
+    c.args.method (device c.args.self.now) (device c.execute.new.self) c.in_ok-taken.taken in (
       device c.execute.new.self,
       subst P whole c.in_ok-taken.ensures.ok,
       rw c.drop_upload.ensures refl,

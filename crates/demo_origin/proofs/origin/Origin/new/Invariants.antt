@@ -7,6 +7,6 @@ use Rattle.demo_origin.proofs.origin.Origin.new.Given as goal
 abbrev pub invariant-each : goal.invariant-each
 invariant-each g l =
     (l.yielded ++ into_iter_items l.resource-iterator ≡ l.fn.resources.items)
-    × Sound g.H.Behaviour.holds l.origin
+    × Sound g.H.Behaviour.relation l.origin
     × (seen l.origin.state ≡ fresh l.fn.block (map held_of l.yielded))
     × (into_iter_len l.resource-iterator ≡ length (into_iter_items l.resource-iterator))

@@ -1,0 +1,5 @@
+use Rattle.demo_origin.proofs.Ending.{last_piece_executes}
+use Rattle.demo_origin.proofs.laws.last_piece_executes.Goals as goal
+
+pub returns : goal.returns
+returns g c = last_piece_executes g.H.Behaviour.relation
