@@ -1,3 +1,8 @@
-pub mod AskedItems
-pub mod Joining
+mod Cuts
+mod Ending
 mod Ends
+mod Growing
+mod Items
+mod Gave
+pub mod SoFar
+mod Turns

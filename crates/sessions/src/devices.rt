@@ -1,6 +1,6 @@
 //! What sessions are given from outside.
 
-ghost use Rattle.std.specs.Prelude.{ℕ, ◌≡◌, ◌≤◌, [], length, take, IfOk, IfSome, OnOk, OnErr, IsTrue, IsFalse};
+ghost use Rattle.std.specs.Prelude.{ℕ, ◌≡◌, ◌≤◌, ◌<◌, ◌∷◌, [], length, take, IfOk, IfSome, OnOk, OnErr, IsTrue, IsFalse};
 ghost use Rattle.sessions.specs.Devices.{Rises, Grown, GrownPartly};
 
 use uri_map::Peer;
@@ -19,8 +19,8 @@ pub trait Stream {
     /// what was written, where that can be known
     ghost written: { Self → Option (List ℕ) };
 
-    /// what came in, where that can be known
-    ghost gave: { Self → Option (List ℕ) };
+    /// what each read gave that didn't fail, where that can be known
+    ghost gave: { Self → Option (List (List ℕ)) };
 
     /// How often it failed. A count at the greatest `u64` stays there.
     fn faults(&self) -> u64
@@ -28,11 +28,12 @@ pub trait Stream {
 
     /// Puts what comes next into the buffer, and answers how many bytes that are: none at the end.
     fn read(&mut self, buffer: &mut [u8]) -> Result<usize, Failed>
+        requires room { 0 < length buffer.old }
         ensures fits { IfOk result (λ n. n ≤ length buffer.new) }
         ensures length { length buffer.new ≡ length buffer.old }
         ensures same { Grown (written self.old) (written self.new) [] }
         ensures came { IfOk result (λ n.
-            Grown (gave self.old) (gave self.new) (take n buffer.new)) }
+            Grown (gave self.old) (gave self.new) (take n buffer.new ∷ [])) }
         ensures none { OnErr result (Grown (gave self.old) (gave self.new) []) }
         ensures ok { OnOk result (count self.new ≡ count self.old) }
         ensures err { OnErr result (Rises (count self.old) (count self.new)) };

@@ -1,9 +1,9 @@
 //! The bytes of a connection, read as requests.
 
-ghost use Rattle.std.specs.Prelude.{◌≡◌, ◌≤◌, ◌+◌, length, false, Ok, IfOk, OnOk, OnErr, []};
-ghost use Rattle.http_edge.specs.Edges.{Stands, unread_len};
-ghost use Rattle.sessions.specs.Asking.{TakesMore};
+ghost use Rattle.std.specs.Prelude.{◌≡◌, ◌≤◌, ◌<◌, ◌+◌, length, false, IfOk, OnOk, OnErr, []};
+ghost use Rattle.http_edge.specs.Edges.{Stands, is_told, unread_len};
 ghost use Rattle.sessions.specs.Devices.{Rises, Grown};
+ghost use Rattle.sessions.specs.Steps.{TakesRead};
 
 use crate::devices::{Failed, Stream};
 use http_edge::{Edge, Memory};
@@ -16,45 +16,50 @@ const ROOM: usize = 8192;
 #[derive(Drop)]
 pub struct Reading {
     pub edge: Edge,
-    buffer: Vec<u8>,
+    buffer: [u8; ROOM],
 }
 
 impl Reading {
     /// No bytes.
     pub fn new(alloc: Global) -> Result<Reading, Memory>
-        ensures { IfOk result (λ r. Stands r.edge []) }
+        ensures stands { IfOk result (λ r. Stands r.edge []) }
+        ensures told { IfOk result (λ r. is_told r.edge ≡ false) }
     {
         Ok(Reading {
             edge: Edge::new(alloc)?,
-            buffer: vec![in alloc; 0u8; ROOM]?,
+            buffer: [0u8; ROOM],
         })
     }
 
     /// Reads as much of the connection as the edge has room for. False at its end.
     pub fn more<S: Stream>(&mut self, stream: &mut S) -> Result<bool, Failed>
+        requires room { unread_len self.old.edge < 8192 }
         ensures same { Grown (S.written stream.old) (S.written stream.new) [] }
-        ensures takes { TakesMore self.old.edge self.new.edge
-            (S.gave stream.old) (S.gave stream.new) }
-        ensures end { result ≡ Ok false → Grown (S.gave stream.old) (S.gave stream.new) [] }
+        ensures takes { IfOk result (λ goes_on.
+            TakesRead goes_on self.old.edge self.new.edge (S.gave stream.old) (S.gave stream.new)) }
+        ensures none { OnErr result (Grown (S.gave stream.old) (S.gave stream.new) []) }
         ensures ok { OnOk result (S.count stream.new ≡ S.count stream.old) }
         ensures err { OnErr result (Rises (S.count stream.old) (S.count stream.new)) }
     {
-        let room = (ROOM - self.edge.unread()).min(self.buffer.len());
-        let count = read_into(stream, &mut self.edge, &mut self.buffer[..room])?;
-        Ok(count > 0)
+        let room = ROOM - self.edge.unread();
+        let buffer = &mut self.buffer[..];
+        read_into(stream, &mut self.edge, &mut buffer[..room])
     }
 }
 
-/// Reads into the buffer, and gives all of it to the edge, which has room for it.
-fn read_into<S: Stream>(stream: &mut S, edge: &mut Edge, buffer: &mut [u8]) -> Result<usize, Failed>
-    requires { unread_len edge.old + length buffer.old ≤ 8192 }
+/// Reads into the buffer, and gives all of it to the edge, which has room for it. False where
+/// nothing comes any more.
+fn read_into<S: Stream>(stream: &mut S, edge: &mut Edge, buffer: &mut [u8]) -> Result<bool, Failed>
+    requires room { 0 < length buffer.old }
+    requires fits { unread_len edge.old + length buffer.old ≤ 8192 }
     ensures same { Grown (S.written stream.old) (S.written stream.new) [] }
-    ensures takes { TakesMore edge.old edge.new (S.gave stream.old) (S.gave stream.new) }
-    ensures end { result ≡ Ok 0 → Grown (S.gave stream.old) (S.gave stream.new) [] }
+    ensures takes { IfOk result (λ goes_on.
+        TakesRead goes_on edge.old edge.new (S.gave stream.old) (S.gave stream.new)) }
+    ensures none { OnErr result (Grown (S.gave stream.old) (S.gave stream.new) []) }
     ensures ok { OnOk result (S.count stream.new ≡ S.count stream.old) }
     ensures err { OnErr result (Rises (S.count stream.old) (S.count stream.new)) }
 {
     let count = stream.read(buffer)?;
     edge.feed(&buffer[..count]);
-    Ok(count)
+    Ok(count > 0)
 }

@@ -1,15 +1,14 @@
 //! What the thread of a connection does.
 
-ghost use Rattle.std.specs.Prelude.{◌≡◌, ◌≢◌, [], Some, None, IfSome};
-ghost use Rattle.ask_model.specs.Maps.{Maps};
+ghost use Rattle.std.specs.Prelude.{◌≡◌, ◌≢◌, ◌⊎◌, ◌<◌, [], true, Some, None, IfSome};
 ghost use Rattle.ask_model.specs.Views.{rules_of};
-ghost use Rattle.http_edge.specs.Edges.{item};
+ghost use Rattle.http_edge.specs.Edges.{item, unread_len};
 ghost use Rattle.http_edge.specs.Reading.{closes};
 ghost use Rattle.std.specs.Arc.{arc_value};
 ghost use Rattle.transformers.specs.Suits.{Suits};
-ghost use Rattle.sessions.specs.Asking.{AsksAll, AsksFirst, IsAnswered, MayBeAsked, TakesMore};
 ghost use Rattle.sessions.specs.Devices.{Rises, Grown};
-ghost use Rattle.sessions.specs.Telling.{IsPartly, MayGoOn, MeansGiven, Serves, ServesMost};
+ghost use Rattle.sessions.specs.Serving.{Serves};
+ghost use Rattle.sessions.specs.Steps.{TakesRead, TellsToGoOn, EndsReading, TakesTurn, CutsTurn};
 
 use crate::devices::{Gate, Point, Stream, Wire};
 use crate::loops::send_due;
@@ -81,16 +80,9 @@ pub fn serve<R: Relation, C: Clock, L: Ledger, S: Stream, N: Wire, G: Gate, W: W
     pass: Pass<R, L>,
 ) -> Done<R, L>
     requires suits { Suits R.holds R.takes (rules_of (arc_value settings.now)).routes bank.now }
-    ensures written { ServesMost (MeansGiven R.holds R.takes (rules_of (arc_value settings.now)))
-        pass.lines result.pass.lines (S.written stream.old) (S.written stream.new) }
-    ensures finished { result.end ≡ End.Finished
-        → Serves (MeansGiven R.holds R.takes (rules_of (arc_value settings.now)))
-        pass.lines result.pass.lines (S.written stream.old) (S.written stream.new) }
-    ensures asks { AsksFirst (Maps R.holds R.takes (rules_of (arc_value settings.now)))
-        pass.lines result.pass.lines (S.gave stream.old) (S.gave stream.new) }
-    ensures all { result.end ≡ End.Finished
-        → AsksAll (Maps R.holds R.takes (rules_of (arc_value settings.now)))
-        pass.lines result.pass.lines (S.gave stream.old) (S.gave stream.new) }
+    ensures serves { Serves R.holds R.takes (rules_of (arc_value settings.now)) result.end
+        pass.lines result.pass.lines (S.gave stream.old) (S.gave stream.new)
+        (S.written stream.old) (S.written stream.new) }
     ensures read_fault { result.end ≡ End.ReadFault
         → Rises (S.count stream.old) (S.count stream.new) }
     ensures write_fault { result.end ≡ End.WriteFault
@@ -120,16 +112,9 @@ fn talk<R: Relation, C: Clock, L: Ledger, S: Stream, N: Wire, G: Gate, W: Wait>(
     pass: &mut Pass<R, L>,
 ) -> End
     requires suits { Suits R.holds R.takes (rules_of (arc_value settings.now)).routes bank.now }
-    ensures written { ServesMost (MeansGiven R.holds R.takes (rules_of (arc_value settings.now)))
-        pass.old.lines pass.new.lines (S.written stream.old) (S.written stream.new) }
-    ensures finished { result ≡ End.Finished
-        → Serves (MeansGiven R.holds R.takes (rules_of (arc_value settings.now)))
-        pass.old.lines pass.new.lines (S.written stream.old) (S.written stream.new) }
-    ensures asks { AsksFirst (Maps R.holds R.takes (rules_of (arc_value settings.now)))
-        pass.old.lines pass.new.lines (S.gave stream.old) (S.gave stream.new) }
-    ensures all { result ≡ End.Finished
-        → AsksAll (Maps R.holds R.takes (rules_of (arc_value settings.now)))
-        pass.old.lines pass.new.lines (S.gave stream.old) (S.gave stream.new) }
+    ensures serves { Serves R.holds R.takes (rules_of (arc_value settings.now)) result
+        pass.old.lines pass.new.lines (S.gave stream.old) (S.gave stream.new)
+        (S.written stream.old) (S.written stream.new) }
     ensures read_fault { result ≡ End.ReadFault → Rises (S.count stream.old) (S.count stream.new) }
     ensures write_fault { result ≡ End.WriteFault
         → Rises (S.count stream.old) (S.count stream.new) }
@@ -174,18 +159,21 @@ fn is_last(incoming: &Incoming) -> bool
 
 /// Reads more, where the client isn't to be told first that it may go on.
 fn read_on<S: Stream>(stream: &mut S, reading: &mut Reading) -> Option<End>
-    ensures none { result ≡ None → MayGoOn (S.written stream.old) (S.written stream.new) }
-    ensures some { IfSome result (λ end. IsPartly (S.written stream.old) (S.written stream.new)) }
-    ensures finished { result ≡ Some End.Finished
-        → Grown (S.written stream.old) (S.written stream.new) [] }
-    ensures end { result ≡ Some End.Finished → Grown (S.gave stream.old) (S.gave stream.new) [] }
+    requires room { unread_len reading.old.edge < 8192 }
+    requires waits { reading.old.edge.waits ≡ true }
+    ensures goes_on { result ≡ None
+        → TellsToGoOn reading.old.edge reading.new.edge (S.gave stream.old) (S.gave stream.new)
+        (S.written stream.old) (S.written stream.new)
+        ⊎ (TakesRead true reading.old.edge reading.new.edge (S.gave stream.old) (S.gave stream.new)
+        × Grown (S.written stream.old) (S.written stream.new) []) }
+    ensures ends { IfSome result (λ end.
+        EndsReading end reading.old.edge reading.new.edge (S.gave stream.old) (S.gave stream.new)
+        (S.written stream.old) (S.written stream.new)) }
     ensures faults { result ≡ Some End.ReadFault → Rises (S.count stream.old) (S.count stream.new) }
     ensures write_fault { result ≡ Some End.WriteFault
         → Rises (S.count stream.old) (S.count stream.new) }
     ensures others { result ≢ Some End.Held }
     ensures counted { result ≡ None → S.count stream.new ≡ S.count stream.old }
-    ensures takes { TakesMore reading.old.edge reading.new.edge
-        (S.gave stream.old) (S.gave stream.new) }
 {
     if reading.edge.wants_continue() {
         return match write_continue(stream) {
@@ -214,11 +202,11 @@ fn turn<R: Relation, C: Clock, L: Ledger, S: Stream, N: Wire, G: Gate, W: Wait>(
     incoming: Incoming,
 ) -> Option<End>
     requires suits { Suits R.holds R.takes (rules_of (arc_value settings.now)).routes bank.now }
-    ensures none { result ≡ None
-        → Serves (MeansGiven R.holds R.takes (rules_of (arc_value settings.now)))
+    ensures answered { result ≡ None
+        → TakesTurn R.holds R.takes (rules_of (arc_value settings.now)) (item incoming)
         pass.old.lines pass.new.lines (S.written stream.old) (S.written stream.new) }
-    ensures some { IfSome result (λ end.
-        ServesMost (MeansGiven R.holds R.takes (rules_of (arc_value settings.now)))
+    ensures cut { IfSome result (λ end.
+        CutsTurn R.holds R.takes (rules_of (arc_value settings.now)) end (item incoming)
         pass.old.lines pass.new.lines (S.written stream.old) (S.written stream.new)) }
     ensures write_fault { result ≡ Some End.WriteFault
         → Rises (S.count stream.old) (S.count stream.new) }
@@ -227,12 +215,6 @@ fn turn<R: Relation, C: Clock, L: Ledger, S: Stream, N: Wire, G: Gate, W: Wait>(
     ensures counted { result ≡ None → S.count stream.new ≡ S.count stream.old }
     ensures passed { result ≡ None → G.nays gate.new ≡ G.nays gate.old }
     ensures quiet { Grown (S.gave stream.old) (S.gave stream.new) [] }
-    ensures answered { result ≡ None
-        → IsAnswered (Maps R.holds R.takes (rules_of (arc_value settings.now)))
-        (item incoming) pass.old.lines pass.new.lines }
-    ensures asked { IfSome result (λ end.
-        MayBeAsked (Maps R.holds R.takes (rules_of (arc_value settings.now)))
-        (item incoming) pass.old.lines pass.new.lines) }
 {
     let Ok(mapped) = map_request(alloc, settings, bank, incoming) else {
         return Some(End::Memory);

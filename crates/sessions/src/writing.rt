@@ -5,8 +5,8 @@ ghost use Rattle.transformers.specs.Keeps.{AllKeep};
 ghost use Rattle.transformers.specs.Suits.{Suits};
 ghost use Rattle.ask_model.specs.Views.{Rules};
 ghost use Rattle.exchange_core.specs.Answering.{given_of};
-ghost use Rattle.sessions.specs.Devices.{Rises, Grown};
-ghost use Rattle.sessions.specs.Telling.{IsPartly, MeansGiven, SaysAnswer, continue_text};
+ghost use Rattle.sessions.specs.Devices.{Rises, Grown, GrownPartly};
+ghost use Rattle.sessions.specs.Telling.{SaysAnswer, continue_text};
 
 use crate::devices::{Failed, Stream};
 use exchange_core::Answer;
@@ -26,8 +26,7 @@ pub fn bytes_of<R: Relation>(
 ) -> Result<Vec<u8>, Memory>
     requires keep { AllKeep R.holds R.takes bank.now.stored.items }
     ensures { (rules : Rules) → Suits R.holds R.takes rules.routes bank.now
-        → IfOk result (λ bytes. SaysAnswer (MeansGiven R.holds R.takes rules)
-        (given_of answer.now) bytes.items) }
+        → IfOk result (λ bytes. SaysAnswer R.holds R.takes rules (given_of answer.now) bytes.items) }
 {
     let age = answer.moment.saturating_sub(answer.heard);
     let rendered = render(alloc, bank, &answer.mapped, &answer.finding, age)?;
@@ -40,7 +39,7 @@ pub fn write_continue<S: Stream>(stream: &mut S) -> Result<(), Failed>
     ensures quiet { Grown (S.gave stream.old) (S.gave stream.new) [] }
     ensures ok { OnOk result (Grown (S.written stream.old) (S.written stream.new) continue_text
         × (S.count stream.new ≡ S.count stream.old)) }
-    ensures err { OnErr result (IsPartly (S.written stream.old) (S.written stream.new)
+    ensures err { OnErr result (GrownPartly (S.written stream.old) (S.written stream.new) continue_text
         × Rises (S.count stream.old) (S.count stream.new)) }
 {
     stream.write(CONTINUE.as_bytes())
