@@ -1,5 +1,4 @@
 pub mod Codes
-pub mod Endpoints
 pub mod Inserted
 pub mod OptionOrder
 pub mod OptionLengths

@@ -8,7 +8,7 @@ use Rattle.coap_codec.specs.Spelling.{Entry, Spells}
 use Rattle.coap_codec.specs.Writing.{IsInOrder}
 use Rattle.uri_map.specs.declared.target.Target.{Target}
 use Rattle.uri_map.specs.Limits.{extra, spelled_len, options_with, host_options, uri_options, is_short, fits}
-use Rattle.uri_map.proofs.OptionBytes.{options_len}
+use Rattle.uri_map.proofs.CallerLemmas.{options_len}
 use Rattle.std.specs.declared.alloc.AllocError.{AllocError}
 use Rattle.ask_model.specs.Requests.{CoapRequest, Sense, Requests, Refuses, optional, options_asking, request_options, request_message}
 use Rattle.ask_model.specs.Datagrams.{FitsOneMessage, IsSendable, IsSentFor}

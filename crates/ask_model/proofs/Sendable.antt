@@ -11,7 +11,7 @@ use Rattle.uri_map.specs.Limits.{fits, uri_options}
 use Rattle.uri_map.specs.Naming.{target_at}
 use Rattle.uri_map.specs.Peers.{peer_in}
 use Rattle.uri_map.specs.Splitting.{origin_form}
-use Rattle.uri_map.proofs.TargetSteps.{reached}
+use Rattle.uri_map.proofs.CallerLemmas.{reached}
 use Rattle.http_edge.specs.Requests.{Content as HttpRequest}
 use Rattle.ask_model.specs.declared.cause.Cause.{Cause}
 use Rattle.ask_model.specs.declared.meaning.Meaning.{Meaning}

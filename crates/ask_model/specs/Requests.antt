@@ -1,8 +1,5 @@
 -- What came in from HTTP, and the CoAP request that it stands for: plain data.
 use Rattle.std.specs.Prelude.{ℕ, ◌/◌, ◌%◌, Bool, false, ◌&&◌, ◌==◌, nat_lt, List, [], ◌∷◌, ◌++◌, Option, Some, None, if◌then◌else◌}
-use Rattle.std.specs.Str.{bytes_eq}
-use Rattle.std.specs.declared.net.ip_addr.IpAddr.{IpAddr}
-use Rattle.std.specs.declared.net.ip_addr.IpAddr.TheVariants.{V4, V6}
 use Rattle.coap_codec.specs.declared.message.MsgType.TheVariants.{Con}
 use Rattle.coap_codec.specs.Spelling.{Entry, Content}
 use Rattle.uri_map.specs.declared.peer.Peer.{Peer}
@@ -31,15 +28,6 @@ pub record CoapRequest : Type 0 where
 pub data Sense : Type 0 where
   Requests : (q : CoapRequest) → Sense
   Refuses : (cause : Cause) → (status : ℕ) → Sense
-
--- one endpoint (RFC 7252 section 1.2): the same address and port
-abbrev pub same_address : IpAddr → IpAddr → Bool
-same_address (V4 a) (V4 b) = bytes_eq a.octets b.octets
-same_address (V6 a) (V6 b) = bytes_eq a.segments b.segments
-same_address _ _ = false
-
-abbrev pub same_peer : Peer → Peer → Bool
-same_peer p q = same_address p.address q.address && (p.port == q.port)
 
 -- a number below 65,536 as an option's value, without leading zeros (RFC 7252 section 3.2)
 abbrev pub uint_bytes : ℕ → List ℕ

@@ -5,19 +5,15 @@
 //! its request. The journal, the laws of histories and the core stand on it.
 #![tactic(auto)]
 
-mod bytes;
 mod cause;
 mod mapped;
 mod meaning;
-mod peers;
 mod request;
 mod settings;
 mod size;
 
-pub use bytes::Bytes;
 pub use cause::Cause;
 pub use mapped::Mapped;
 pub use meaning::{Meaning, Payload};
-pub use peers::is_same_peer;
 pub use settings::Settings;
 pub use size::incoming_size;

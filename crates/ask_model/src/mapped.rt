@@ -8,11 +8,10 @@ ghost use Rattle.ask_model.specs.Maps.{Maps, wanted_of};
 ghost use Rattle.ask_model.specs.Sizes.{came_size};
 ghost use Rattle.ask_model.specs.Datagrams.{IsSentFor, asked_peer};
 
-use crate::bytes::Bytes;
 use crate::meaning::Meaning;
 use crate::request::{body_in, datagram_of};
 use crate::settings::Settings;
-use coap_codec::Token;
+use coap_codec::{Bytes, Token};
 use http_edge::Incoming;
 use media_map::Wanted;
 use std::alloc::{AllocError, Global};

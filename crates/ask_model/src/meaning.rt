@@ -1,7 +1,7 @@
 //! What a request means.
 
-use crate::bytes::Bytes;
 use crate::cause::Cause;
+use coap_codec::Bytes;
 use code_map::{Method, Status};
 use uri_map::{Peer, Target};
 

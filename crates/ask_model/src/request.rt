@@ -7,10 +7,9 @@ ghost use Rattle.ask_model.specs.Requests.{uint_bytes, optional, options_asking}
 ghost use Rattle.ask_model.specs.Views.{came_of, body_of, payload_of, sense_of};
 ghost use Rattle.ask_model.specs.Datagrams.{IsSentFor, IsSendable};
 
-use crate::bytes::Bytes;
 use crate::meaning::{Meaning, Payload};
 use coap_codec::number::{ACCEPT, CONTENT_FORMAT};
-use coap_codec::{Message, MsgType, Opt, Token, encode};
+use coap_codec::{Bytes, Message, MsgType, Opt, Token, encode};
 use http_edge::Incoming;
 use std::alloc::{AllocError, Global};
 use uri_map::{Target, options_of};

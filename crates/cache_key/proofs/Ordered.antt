@@ -11,7 +11,8 @@ use Rattle.std.specs.declared.net.ip_addr.IpAddr.TheVariants as Ip
 use Rattle.uri_map.specs.declared.target.Host.{Host}
 use Rattle.uri_map.specs.declared.target.Host.TheVariants.{Name, V4, V6}
 use Rattle.cache_key.specs.declared.place.Place.{Place}
-use Rattle.cache_key.specs.Keys.{CacheKey, same_texts, same_address, same_place, same_host, same_accept, same_key}
+use Rattle.uri_map.specs.Peers.{same_address}
+use Rattle.cache_key.specs.Keys.{CacheKey, same_texts, same_place, same_host, same_accept, same_key}
 use Rattle.cache_key.specs.Order.{address_numbers, address_cmp, host_numbers, host_cmp, texts_cmp, place_cmp, key_cmp, TellsApart}
 use Rattle.cache_key.proofs.Told.{places_decided, keys_decided}
 
@@ -65,9 +66,14 @@ accept-tied (Some m) (Some n) = unsigned_ties m n
 texts-tied : (a b : List (List ℕ)) → same_texts a b ≡ is_eq (texts_cmp a b)
 texts-tied a b = lists_ties (slice_cmp nat_cmp) texts_ties a b
 
+and-assoc : (a b c : Bool) → ((a && b) && c) ≡ (a && (b && c))
+and-assoc true b c = refl
+and-assoc false b c = refl
+
 place-tied : (p q : Place) → same_place p q ≡ is_eq (place_cmp p q)
 place-tied p q =
-    both_tied _ _ (address_cmp p.peer.address q.peer.address) _ (address-tied p.peer.address q.peer.address)
+    and-assoc (same_address p.peer.address q.peer.address) (p.peer.port == q.peer.port) (same_texts p.path q.path)
+    ∙ both_tied _ _ (address_cmp p.peer.address q.peer.address) _ (address-tied p.peer.address q.peer.address)
     (both_tied _ _ (nat_cmp p.peer.port q.peer.port) (texts_cmp p.path q.path) (unsigned_ties p.peer.port q.peer.port) (texts-tied p.path q.path))
 
 key-tied : (k l : CacheKey) → same_key k l ≡ is_eq (key_cmp k l)

@@ -2,12 +2,11 @@
 use Rattle.std.specs.Prelude.{◌≡◌, ◌↔◌, ℕ, List, Option, Some, None, Bool, true, false, ◌&&◌, ◌==◌}
 use Rattle.std.specs.Str.{bytes_eq}
 use Rattle.std.specs.Cmp.Lexicographic.{pointwise}
-use Rattle.std.specs.declared.net.ip_addr.IpAddr.{IpAddr}
-use Rattle.std.specs.declared.net.ip_addr.IpAddr.TheVariants as Ip
 use Rattle.uri_map.specs.declared.peer.Peer.{Peer}
 use Rattle.uri_map.specs.declared.target.Host.{Host}
 use Rattle.uri_map.specs.declared.target.Host.TheVariants.{Name, V4, V6}
 use Rattle.uri_map.specs.declared.target.Target.{Target}
+use Rattle.uri_map.specs.Peers.{same_peer}
 use Rattle.cache_key.specs.declared.place.Place.{Place}
 
 -- The place that is read, the host that is named, the query, and the format that is wanted: who is
@@ -30,15 +29,8 @@ key_of peer t accept =
 abbrev pub same_texts : List (List ℕ) → List (List ℕ) → Bool
 same_texts a b = pointwise bytes_eq a b
 
-abbrev pub same_address : IpAddr → IpAddr → Bool
-same_address (Ip.V4 a) (Ip.V4 b) = bytes_eq a.octets b.octets
-same_address (Ip.V6 a) (Ip.V6 b) = bytes_eq a.segments b.segments
-same_address _ _ = false
-
 abbrev pub same_place : Place → Place → Bool
-same_place p q =
-    same_address p.peer.address q.peer.address
-    && ((p.peer.port == q.peer.port) && same_texts p.path q.path)
+same_place p q = same_peer p.peer q.peer && same_texts p.path q.path
 
 abbrev pub same_host : Host → Host → Bool
 same_host (Name a) (Name b) = bytes_eq a b

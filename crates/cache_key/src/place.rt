@@ -1,14 +1,13 @@
 //! Places.
 
 ghost use Rattle.std.specs.Prelude.{◌≡◌, IfOk};
-ghost use Rattle.cache_key.specs.Keys.{place_of, same_address, same_place};
+ghost use Rattle.cache_key.specs.Keys.{place_of, same_place};
 ghost use Rattle.cache_key.specs.Order.{place_cmp};
 
 use crate::order::{cmp_addresses, cmp_texts};
 use std::alloc::AllocError;
 use std::cmp::Ordering;
-use std::net::IpAddr;
-use uri_map::{Peer, Target, Texts};
+use uri_map::{Peer, Target, Texts, is_same_peer};
 
 /// What a write changes: the resource of a peer that a path names, whatever the host that the
 /// request named, its query and its Accept.
@@ -18,17 +17,6 @@ pub struct Place {
     pub peer: Peer,
     /// The values of the Uri-Path options.
     pub path: Texts,
-}
-
-/// Whether the addresses are equal.
-fn is_same_address(a: &IpAddr, b: &IpAddr) -> bool
-    ensures { result ≡ same_address a.now b.now }
-{
-    match (a, b) {
-        (IpAddr::V4(a), IpAddr::V4(b)) => a.octets() == b.octets(),
-        (IpAddr::V6(a), IpAddr::V6(b)) => a.segments() == b.segments(),
-        _ => false,
-    }
 }
 
 impl Place {
@@ -46,9 +34,7 @@ impl Place {
     pub fn is_same(&self, other: &Place) -> bool
         ensures { result ≡ same_place self.now other.now }
     {
-        is_same_address(&self.peer.address, &other.peer.address)
-            && self.peer.port == other.peer.port
-            && self.path == other.path
+        is_same_peer(&self.peer, &other.peer) && self.path == other.path
     }
 
     /// Which of the two stands first in an index: by the peer, and then by the path.

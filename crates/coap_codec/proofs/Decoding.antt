@@ -6,7 +6,7 @@ use Rattle.coap_codec.specs.declared.fault.CodecFault.TheVariants.{Memory}
 use Rattle.coap_codec.specs.declared.message.Message.{Message}
 use Rattle.coap_codec.specs.Spelling.{Content, content, Spells}
 use Rattle.coap_codec.specs.Reading.{GivesLast, message_at}
-use Rattle.coap_codec.proofs.Bytes.{IsBytes}
+use Rattle.coap_codec.proofs.ByteRanges.{IsBytes}
 use Rattle.coap_codec.proofs.Takes.{message_takes}
 use Rattle.coap_codec.proofs.Again.{message_again}
 use Rattle.coap_codec.specs.Faults.{FirstFault}

@@ -5,7 +5,7 @@ use Rattle.coap_codec.specs.Spelling.{Content, Spells}
 use Rattle.coap_codec.specs.Faults.{FirstFault}
 use Rattle.coap_codec.specs.Reading.{message_at}
 use Rattle.coap_codec.proofs.Steps.{err_is}
-use Rattle.coap_codec.proofs.Bytes.{IsBytes}
+use Rattle.coap_codec.proofs.ByteRanges.{IsBytes}
 use Rattle.coap_codec.proofs.Takes.{message_takes}
 use Rattle.coap_codec.proofs.Again.{message_again}
 use Rattle.coap_codec.proofs.FaultsFound.{message_fails}

@@ -9,7 +9,7 @@ use Rattle.coap_codec.specs.Spelling.{Entry, SpellsOptions}
 use Rattle.coap_codec.specs.Faults.{HasHeader, HasDelta, HasLength, extension_length, OptionFault, last_number, HasOptions, FaultInOptions, FirstFault}
 use Rattle.coap_codec.specs.Reading.{value_at, extended_at, one_more, two_more, option_at, options_at, payload_at, Head, head_at, message_at}
 use Rattle.coap_codec.proofs.Steps.{chosen_err, bind_fails, err_is}
-use Rattle.coap_codec.proofs.Bytes.{IsBytes, IsBytes-behind}
+use Rattle.coap_codec.proofs.ByteRanges.{IsBytes, IsBytes-behind}
 use Rattle.coap_codec.proofs.Takes.{extended_takes, value_takes, option_takes, IsEnd, options_take, TakesHead, head_takes}
 
 -- ---- a nibble and its bytes, and so many bytes

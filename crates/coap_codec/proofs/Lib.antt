@@ -1,6 +1,6 @@
 pub mod Steps
 pub mod OptionSteps
-pub mod Bytes
+pub mod ByteRanges
 pub mod Takes
 pub mod Again
 pub mod Decoding

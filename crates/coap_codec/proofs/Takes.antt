@@ -7,7 +7,7 @@ use Rattle.coap_codec.specs.declared.fault.CodecFault.TheVariants.{Truncated, Re
 use Rattle.coap_codec.specs.Spelling.{Entry, Content, code_of, StandsFor, SpellsOption, SpellsOptions, SpellsPayload, Spells}
 use Rattle.coap_codec.specs.Reading.{value_at, extended_at, one_more, two_more, option_at, options_at, payload_at, kind_of, Head, head_at, message_at}
 use Rattle.coap_codec.proofs.Steps.{bind_ok, guard_ok, chosen, ok_is}
-use Rattle.coap_codec.proofs.Bytes.{IsBytes, IsBytes-behind}
+use Rattle.coap_codec.proofs.ByteRanges.{IsBytes, IsBytes-behind}
 
 -- ---- a nibble and its bytes
 

@@ -12,6 +12,7 @@
 #![tactic(auto)]
 
 mod block;
+mod bytes;
 mod fault;
 mod laws;
 mod message;
@@ -26,6 +27,7 @@ mod values;
 mod writing;
 
 pub use block::{Block, block_of, block_to};
+pub use bytes::Bytes;
 pub use fault::CodecFault;
 pub use laws::{
     encoded_is_read, fault_is_read, fault_stays, spelled_is_read, spelled_once, spelled_or_faulty,

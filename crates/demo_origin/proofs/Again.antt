@@ -13,7 +13,7 @@ use Rattle.coap_codec.specs.declared.block.Block.{Block}
 use Rattle.coap_codec.specs.declared.fault.CodecFault.{CodecFault}
 use Rattle.coap_codec.specs.declared.message.MsgType.TheVariants.{Con}
 use Rattle.demo_origin.specs.Values.{Device, Relation}
-use Rattle.demo_origin.specs.Peers.{same_peer}
+use Rattle.uri_map.specs.Peers.{same_peer}
 use Rattle.demo_origin.specs.Arrivals.{is_live, is_repeat, is_full, is_request, heard_again, heard_first, arrived, arrival_by, arrival}
 use Rattle.demo_origin.specs.Answers.{Reads, ReadsPart, sent, memory_of}
 use Rattle.demo_origin.specs.Blocks.{named_by, part_of}

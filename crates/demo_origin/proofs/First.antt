@@ -4,9 +4,6 @@ use Rattle.std.specs.List.{find}
 use Rattle.std.proofs.lemmas.Bool.{and_from, lt-ltb}
 use Rattle.std.proofs.lemmas.Bool.Decides.{Decides-eqb}
 use Rattle.std.proofs.lemmas.List.Elements.{Contains-push}
-use Rattle.std.proofs.lemmas.Slice.Eq.{bytes_eq-Decides}
-use Rattle.std.specs.declared.net.ip_addr.IpAddr.{IpAddr}
-use Rattle.std.specs.declared.net.ip_addr.IpAddr.TheVariants as Ip
 use Rattle.uri_map.specs.declared.peer.Peer.{Peer}
 use Rattle.coap_codec.specs.Spelling.{Content}
 use Rattle.coap_codec.specs.Reading.{message_at}
@@ -14,7 +11,7 @@ use Rattle.coap_codec.specs.declared.fault.CodecFault.{CodecFault}
 use Rattle.coap_codec.specs.declared.message.MsgType.{MsgType}
 use Rattle.coap_codec.specs.declared.message.MsgType.TheVariants.{Con, Non, Ack, Rst}
 use Rattle.demo_origin.specs.Values.{Device, Relation}
-use Rattle.demo_origin.specs.Peers.{same_address, same_peer}
+use Rattle.uri_map.proofs.CallerLemmas.{same_peer-itself}
 use Rattle.demo_origin.specs.Arrivals.{is_live, is_repeat, is_full, heard_again, arrived, arrival_of, is_heeded, arrival_by, arrival}
 use Rattle.demo_origin.specs.Answers.{memory_of, shown_part, Answers, Declines, Shows}
 use Rattle.demo_origin.specs.Requests.{judged}
@@ -70,20 +67,12 @@ stays {X} p (y ∷ ys) x passes (suc k, lt, is) =
     let P : Bool → Type 0 = λ b. Contains (cond b (y ∷ filter p ys) (filter p ys)) x in
     elim (p y) as P [ true ↦ (suc more.0, omega (arith, more.1), more.2) | false ↦ more ]
 
-address_itself : (a : IpAddr) → same_address a a ≡ true
-address_itself (Ip.V4 a) = (bytes_eq-Decides a.octets a.octets).1 refl
-address_itself (Ip.V6 a) = (bytes_eq-Decides a.segments a.segments).1 refl
-
-peer_itself : (p : Peer) → same_peer p p ≡ true
-peer_itself p =
-    and_from _ _ (address_itself p.address) ((Decides-eqb p.port p.port).1 refl)
-
 -- what an answer leaves is remembered for 247 s
 pub repeats : (t u : ℕ) (p : Peer) (m : Content) (answer : Option (List ℕ))
     → u < t + 247000 → is_repeat u p m.mid (memory_of (asker t p m) answer) ≡ true
 repeats t u p m answer lt =
     and_from _ _ ((Decides-eqb m.mid m.mid).1 refl)
-    (and_from _ _ (peer_itself p) (lt-ltb (u - t) 247000 (omega arith)))
+    (and_from _ _ (same_peer-itself p) (lt-ltb (u - t) 247000 (omega arith)))
 
 -- What is new was not remembered.
 pub again_is_old : (c : Bool) (answer : Option (List ℕ)) → heard_again c answer ≡ Fresh → ⊥

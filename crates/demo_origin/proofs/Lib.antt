@@ -15,6 +15,5 @@ pub mod Ending
 pub mod Versioning
 pub mod Alls
 pub mod Judging
-pub mod Endpoints
 pub mod Talking
 pub mod Making

@@ -14,7 +14,9 @@ use Rattle.coap_codec.specs.declared.message.MsgType.TheVariants.{Con, Non, Ack,
 use Rattle.blockwise.specs.Reading.{size_of}
 use Rattle.message_layer.specs.Hearing.{reset_for}
 use Rattle.demo_origin.specs.Values.{Device, Relation}
-use Rattle.demo_origin.specs.Peers.{own_mid, same_peer}
+use Rattle.uri_map.specs.Peers.{same_peer}
+use Rattle.uri_map.proofs.CallerLemmas.{same_peer-same}
+use Rattle.demo_origin.specs.Peers.{own_mid}
 use Rattle.demo_origin.specs.Answers.{answer_to, memory_of, noted, sent, shown_part, Answers, Declines, Reads, ReadsPart, Shows}
 use Rattle.demo_origin.specs.Arrivals.{is_live, is_repeat, is_full, is_request, heard_again, heard_first, arrived, arrival_of, is_heeded, arrival_by, arrival}
 use Rattle.demo_origin.specs.Blocks.{named_by, part_of}
@@ -48,7 +50,6 @@ use Rattle.demo_origin.specs.declared.uploads.Joined.TheVariants.{Gap, TooLarge,
 use Rattle.demo_origin.proofs.Alls.{all_push, all_filter, all_map, all_found, all_same}
 use Rattle.demo_origin.proofs.Again.{found_is}
 use Rattle.demo_origin.proofs.Ending.{is_next}
-use Rattle.demo_origin.proofs.Endpoints.{peer_is}
 use Rattle.demo_origin.proofs.First.{again_is_old}
 use Rattle.demo_origin.proofs.Judging.{either_way, Gets, IsRight, judged_right}
 use Rattle.demo_origin.proofs.Talking.{NoteMade, ToldMade, Stems, stems_itself, TalkMade, Announced, tells_all, copies_all, without}
@@ -412,7 +413,7 @@ knew c t p m s bytes (Some r) e f =
     record {
       one = r;
       among = found.0;
-      same = peer_is r.peer p b.0;
+      same = same_peer-same r.peer p b.0;
       answer_is = again c r.answer bytes f;
     }
 knew c t p m s bytes None e f = absurd (first_is_new c m.code (is_full t p s) bytes f)

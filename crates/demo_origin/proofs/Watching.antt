@@ -5,7 +5,8 @@ use Rattle.std.proofs.lemmas.Bool.{and_parts, and_from}
 use Rattle.std.proofs.lemmas.Bool.Decides.{Decides-eqb}
 use Rattle.uri_map.specs.declared.peer.Peer.{Peer}
 use Rattle.demo_origin.specs.Values.{Device}
-use Rattle.demo_origin.specs.Peers.{same_peer, own_mid}
+use Rattle.uri_map.specs.Peers.{same_peer}
+use Rattle.demo_origin.specs.Peers.{own_mid}
 use Rattle.demo_origin.specs.Notifying.{Talk, talk_of, notified, newer_by, newer, is_waited_for, is_busy, TellsNewer, TellsUnless, TellsOf, TellsFirst, TellsAll}
 use Rattle.demo_origin.specs.Told.{IsTold, AllTold, ObserversTold}
 use Rattle.demo_origin.specs.declared.state.Held.{Held}

@@ -7,7 +7,8 @@ use Rattle.coap_codec.specs.Spelling.{Content}
 use Rattle.coap_codec.specs.declared.message.MsgType.{MsgType}
 use Rattle.coap_codec.specs.declared.message.MsgType.TheVariants.{Con, Non, Ack, Rst}
 use Rattle.demo_origin.specs.Values.{Device}
-use Rattle.demo_origin.specs.Peers.{same_peer, is_client}
+use Rattle.uri_map.specs.Peers.{same_peer}
+use Rattle.demo_origin.specs.Peers.{is_client}
 use Rattle.demo_origin.specs.Observing.{is_sent_as, is_observer}
 use Rattle.demo_origin.specs.declared.state.Observer.{Observer}
 use Rattle.demo_origin.specs.declared.state.Client.{Client}

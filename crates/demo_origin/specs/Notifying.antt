@@ -8,7 +8,8 @@ use Rattle.coap_codec.specs.declared.block.Block.{Block}
 use Rattle.coap_codec.specs.declared.message.MsgType.TheVariants.{Con, Non}
 use Rattle.blockwise.specs.Reading.{size_of}
 use Rattle.demo_origin.specs.Values.{Device}
-use Rattle.demo_origin.specs.Peers.{same_peer, own_mid, stepped}
+use Rattle.uri_map.specs.Peers.{same_peer}
+use Rattle.demo_origin.specs.Peers.{own_mid, stepped}
 use Rattle.demo_origin.specs.Answers.{Describes}
 use Rattle.demo_origin.specs.declared.state.Client.{Client}
 use Rattle.demo_origin.specs.declared.state.Datagram.{Datagram}

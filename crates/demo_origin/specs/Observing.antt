@@ -5,7 +5,7 @@ use Rattle.std.specs.Str.{bytes_eq}
 use Rattle.uri_map.specs.declared.peer.Peer.{Peer}
 use Rattle.coap_codec.specs.Values.{uint}
 use Rattle.demo_origin.specs.Values.{Device}
-use Rattle.demo_origin.specs.Peers.{same_peer}
+use Rattle.uri_map.specs.Peers.{same_peer}
 use Rattle.demo_origin.specs.declared.state.Notification.{Notification}
 use Rattle.demo_origin.specs.declared.state.Observer.{Observer}
 use Rattle.demo_origin.specs.declared.observers.Wish.{Wish}

@@ -1,23 +1,12 @@
 -- Who asked.
-use Rattle.std.specs.Prelude.{ℕ, ◌+◌, ◌%◌, List, [], ◌∷◌, ◌++◌, map, Bool, false, ◌==◌, ◌&&◌, if◌then◌else◌}
+use Rattle.std.specs.Prelude.{ℕ, ◌+◌, ◌%◌, List, [], ◌∷◌, ◌++◌, map, Bool, if◌then◌else◌}
 use Rattle.std.specs.List.{list_any, find}
 use Rattle.std.specs.Option.{option_map_or}
-use Rattle.std.specs.Str.{bytes_eq}
-use Rattle.std.specs.declared.net.ip_addr.IpAddr.{IpAddr}
-use Rattle.std.specs.declared.net.ip_addr.IpAddr.TheVariants as Ip
 use Rattle.uri_map.specs.declared.peer.Peer.{Peer}
+use Rattle.uri_map.specs.Peers.{same_peer}
 use Rattle.coap_codec.specs.declared.message.MsgType.{MsgType}
 use Rattle.coap_codec.specs.declared.message.MsgType.TheVariants.{Con, Non, Ack, Rst}
 use Rattle.demo_origin.specs.declared.state.Client.{Client}
-
-abbrev pub same_address : IpAddr → IpAddr → Bool
-same_address (Ip.V4 a) (Ip.V4 b) = bytes_eq a.octets b.octets
-same_address (Ip.V6 a) (Ip.V6 b) = bytes_eq a.segments b.segments
-same_address _ _ = false
-
--- an address and a port are one endpoint (RFC 7252, section 1.2)
-abbrev pub same_peer : Peer → Peer → Bool
-same_peer p q = same_address p.address q.address && (p.port == q.port)
 
 abbrev pub is_client : Peer → Client → Bool
 is_client p c = same_peer c.peer p

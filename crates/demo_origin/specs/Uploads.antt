@@ -8,7 +8,8 @@ use Rattle.coap_codec.specs.Values.{uint, IsBlock, IsShortest}
 use Rattle.coap_codec.specs.declared.block.Block.{Block}
 use Rattle.blockwise.specs.Reading.{size_of}
 use Rattle.demo_origin.specs.Values.{Device}
-use Rattle.demo_origin.specs.Peers.{same_peer, is_client}
+use Rattle.uri_map.specs.Peers.{same_peer}
+use Rattle.demo_origin.specs.Peers.{is_client}
 use Rattle.demo_origin.specs.declared.state.Client.{Client}
 use Rattle.demo_origin.specs.declared.state.Upload.{Upload}
 use Rattle.demo_origin.specs.declared.uploads.Joined.{Joined}

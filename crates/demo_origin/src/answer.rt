@@ -11,7 +11,7 @@ ghost use Rattle.demo_origin.specs.Peers.{is_client, own_mid, after_answer, step
 ghost use Rattle.demo_origin.specs.Arrivals.{is_live, is_kept};
 ghost use Rattle.demo_origin.specs.Answers.{answer_kind, answer_mid, answer_to, sent, answered, noted, Answers, HasRoom};
 
-use crate::arrival::{is_known, is_live, is_same_peer};
+use crate::arrival::{is_known, is_live};
 use crate::fault::{Memory, out_of_memory};
 use crate::observers::is_observer;
 use crate::state::{Client, Datagram, Observer, Remembered, State};
@@ -19,7 +19,7 @@ use coap_codec::{Message, MsgType, Opt, Token, encode};
 use limits::EXCHANGE_LIFETIME;
 use message_layer::Bytes;
 use std::alloc::{AllocError, Global};
-use uri_map::Peer;
+use uri_map::{Peer, is_same_peer};
 
 /// The type of an answer to a message of that type.
 pub(crate) fn answer_kind(kind: MsgType) -> MsgType

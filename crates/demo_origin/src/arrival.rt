@@ -5,7 +5,7 @@ ghost use Rattle.std.specs.List.{list_any, find};
 ghost use Rattle.std.specs.Option.{option_map};
 ghost use Rattle.coap_codec.specs.Spelling.{content};
 ghost use Rattle.demo_origin.specs.Values.{seen};
-ghost use Rattle.demo_origin.specs.Peers.{same_address, same_peer, is_client};
+ghost use Rattle.demo_origin.specs.Peers.{is_client};
 ghost use Rattle.demo_origin.specs.Arrivals.{is_live, is_live_of, is_repeat, is_full, is_request, heard_again, heard_first, arrived, arrival_of, is_heeded, arrival};
 
 use crate::fault::Memory;
@@ -14,8 +14,7 @@ use crate::state::{Client, Remembered, State};
 use coap_codec::{Message, MsgType};
 use limits::{EXCHANGE_LIFETIME, MAX_CLIENTS, MAX_REMEMBERED};
 use message_layer::Bytes;
-use std::net::IpAddr;
-use uri_map::Peer;
+use uri_map::{Peer, is_same_peer};
 
 /// What a message is to a device.
 #[derive(Drop)]
@@ -34,23 +33,6 @@ pub enum Arrival {
     Acknowledged,
     /// An RST of a notification.
     Reset,
-}
-
-fn is_same_address(a: &IpAddr, b: &IpAddr) -> bool
-    ensures { result ≡ same_address a.now b.now }
-{
-    match (a, b) {
-        (IpAddr::V4(a), IpAddr::V4(b)) => a.octets() == b.octets(),
-        (IpAddr::V6(a), IpAddr::V6(b)) => a.segments() == b.segments(),
-        _ => false,
-    }
-}
-
-/// Whether they are one endpoint.
-pub(crate) fn is_same_peer(a: &Peer, b: &Peer) -> bool
-    ensures { result ≡ same_peer a.now b.now }
-{
-    is_same_address(&a.address, &b.address) && a.port == b.port
 }
 
 /// Whether the message is remembered at that moment.

@@ -9,7 +9,6 @@ ghost use Rattle.demo_origin.specs.Drafts.{drafted, answering, CopiesAndTells};
 ghost use Rattle.demo_origin.specs.Notifying.{talk_of, with_talk, telling, copying, once_more, is_waited_for, is_busy, newer, Tells, TellsAt, TellsAll, TellsFirst, CopiesAt, CopiesAll, CopiesFirst, CopiesOf, is_reached, without_lost};
 
 use crate::answer::{Asker, know, own_mid, step_own};
-use crate::arrival::is_same_peer;
 use crate::blocks::BlockSize;
 use crate::fault::Memory;
 use crate::notice::{is_again, is_reached, notice};
@@ -17,7 +16,7 @@ use crate::state::{Client, Datagram, Held, Notification, Observer, State};
 use message_layer::Bytes;
 use std::alloc::{AllocError, Global};
 use std::collections::VecDeque;
-use uri_map::Peer;
+use uri_map::{Peer, is_same_peer};
 
 /// The peers, the observers and the datagrams of a device, as they are to be.
 #[derive(Drop)]

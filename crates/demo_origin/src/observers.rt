@@ -7,10 +7,9 @@ ghost use Rattle.coap_codec.specs.Spelling.{entries};
 ghost use Rattle.coap_codec.specs.Values.{values};
 ghost use Rattle.demo_origin.specs.Observing.{wish_by, wish_of, is_entry, is_no_entry, is_for, has_place, is_granted, newcomer, enlisted, left_by, has_mid, is_sent_as, is_not_sent_as, relieved, is_observer};
 
-use crate::arrival::is_same_peer;
 use crate::state::{Notification, Observer};
 use coap_codec::{Message, Token, first_of, number, uint_of};
-use uri_map::Peer;
+use uri_map::{Peer, is_same_peer};
 
 /// The most observers that a resource has.
 const MAX_OBSERVERS: usize = 16;

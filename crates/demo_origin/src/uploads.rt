@@ -9,7 +9,7 @@ ghost use Rattle.demo_origin.specs.Pieces.{KeepsPiece, GivesUp};
 ghost use Rattle.demo_origin.specs.Values.{seen};
 
 use crate::answer::{Asker, Ready, answer, prepared, send_answer};
-use crate::arrival::{is_known, is_same_peer};
+use crate::arrival::is_known;
 use crate::blocks::{BlockSize, offset_of};
 use crate::body::Body;
 use crate::fault::Memory;
@@ -19,7 +19,7 @@ use coap_codec::{Block, Message, Opt, number};
 use limits::MAX_BODY_LEN;
 use std::alloc::{AllocError, Global};
 use std::mem::replace;
-use uri_map::Peer;
+use uri_map::{Peer, is_same_peer};
 
 /// The code 2.31.
 const CONTINUE: u8 = 95;

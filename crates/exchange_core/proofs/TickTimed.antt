@@ -4,8 +4,8 @@ use Rattle.std.specs.Prelude.{filter, fold}
 use Rattle.std.specs.List.{AllByRecursion, list_any}
 use Rattle.std.proofs.lemmas.Bool.{false≢true}
 use Rattle.uri_map.specs.declared.peer.Peer.{Peer}
-use Rattle.ask_model.specs.Requests.{same_peer}
-use Rattle.ask_model.proofs.Endpoints.{same_peer-same, same_peer-itself}
+use Rattle.uri_map.specs.Peers.{same_peer}
+use Rattle.uri_map.proofs.CallerLemmas.{same_peer-same, same_peer-itself}
 use Rattle.journal_book.specs.Entries.{Passes, Answers}
 use Rattle.message_layer.specs.Values.{LinkState, empty_link}
 use Rattle.message_layer.specs.Sending.{IsNext}

@@ -1,7 +1,7 @@
 -- The table of endpoints.
 use Rattle.std.specs.Prelude.{◌≡◌, ℕ, true, false, List, [], ◌∷◌, zero, suc, ⊤}
 use Rattle.uri_map.specs.declared.peer.Peer.{Peer}
-use Rattle.ask_model.specs.Requests.{same_peer}
+use Rattle.uri_map.specs.Peers.{same_peer}
 use Rattle.exchange_model.specs.State.{PeerLink}
 
 -- The endpoint is none of these.

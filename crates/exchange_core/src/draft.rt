@@ -14,7 +14,7 @@ ghost use Rattle.exchange_core.specs.Drafts.{Drafts, IsAlone, OpensNone, empty_d
 use crate::answer::Answer;
 use crate::outgoing::Datagram;
 use crate::places::conn_place;
-use ask_model::Bytes;
+use coap_codec::Bytes;
 use exchange_model::Conn;
 use journal_book::{Entry, Event};
 use std::alloc::{AllocError, Global};

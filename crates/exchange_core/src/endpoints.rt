@@ -3,15 +3,14 @@
 ghost use Rattle.std.specs.Prelude.{◌≡◌, ◌<◌, ◌∷◌, ◌++◌, [], None, Some, true, map, length, slice_set, slice_get, option_map, IfSome, IsTrue, vec_len, vec_capacity};
 ghost use Rattle.exchange_model.specs.Calls.{peer_of};
 ghost use Rattle.exchange_model.specs.Room.{AreApart};
-ghost use Rattle.ask_model.specs.Requests.{same_peer};
+ghost use Rattle.uri_map.specs.Peers.{same_peer};
 ghost use Rattle.exchange_core.specs.States.{peer_link};
 ghost use Rattle.exchange_core.specs.Endpoints.{IsFirstAt, HasNone};
 
 use crate::state::Endpoint;
-use ask_model::is_same_peer;
 use std::alloc::{AllocError, Global};
 use std::net::IpAddr;
-use uri_map::Peer;
+use uri_map::{Peer, is_same_peer};
 
 /// How many places are kept in mind, one for each sum.
 const SLOTS: usize = 1024;

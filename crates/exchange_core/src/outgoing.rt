@@ -1,6 +1,6 @@
 //! Datagrams that go out.
 
-use ask_model::Bytes;
+use coap_codec::Bytes;
 use std::sync::Arc;
 use uri_map::Peer;
 

@@ -7,7 +7,7 @@ use Rattle.coap_codec.specs.Spelling.{Content}
 use Rattle.coap_codec.specs.declared.message.MsgType.{MsgType}
 use Rattle.coap_codec.specs.declared.message.MsgType.TheVariants.{Con, Non, Ack, Rst}
 use Rattle.uri_map.specs.declared.peer.Peer.{Peer}
-use Rattle.ask_model.specs.Requests.{same_peer}
+use Rattle.uri_map.specs.Peers.{same_peer}
 use Rattle.message_layer.specs.Values.{LinkState}
 use Rattle.message_layer.specs.Hearing.{is_fresh, is_repeat, is_awaited, is_awaited_by_ack, new_verdict, heard_verdict, ack_verdict, rst_verdict, verdict_by}
 use Rattle.message_layer.specs.declared.state.Heard.{Heard}

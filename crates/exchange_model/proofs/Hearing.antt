@@ -9,8 +9,8 @@ use Rattle.std.proofs.lemmas.Slice.Eq.{bytes_eq-Decides}
 use Rattle.std.proofs.lemmas.List.Elements.{filter_agree}
 use Rattle.coap_codec.specs.Spelling.{Content}
 use Rattle.uri_map.specs.declared.peer.Peer.{Peer}
-use Rattle.ask_model.specs.Requests.{same_peer}
-use Rattle.ask_model.proofs.Endpoints.{same_peer-same}
+use Rattle.uri_map.specs.Peers.{same_peer}
+use Rattle.uri_map.proofs.CallerLemmas.{same_peer-same}
 use Rattle.journal_book.specs.Entries.{Hears, Written}
 use Rattle.message_layer.specs.Values.{LinkState}
 use Rattle.message_layer.specs.Hearing.{verdict_of}

@@ -3,11 +3,10 @@ use Rattle.std.proofs.Common.{◌≡◌, ◌⊎◌, ℕ, ◌+◌, ◌*◌, ◌<�
 use Rattle.std.specs.Prelude.{nat_le, count_by, sum_by, map, filter}
 use Rattle.std.specs.List.{AllByRecursion}
 use Rattle.std.proofs.Math.Nat.{le-max_left, le-max_right}
-use Rattle.std.proofs.lemmas.Bool.{false≢true}
+use Rattle.std.proofs.lemmas.Bool.{false≢true, and_parts}
 use Rattle.std.proofs.lemmas.List.Sums.{sum_by_push}
 use Rattle.std.proofs.lemmas.Bool.Decides.{leb_tells}
 use Rattle.limits.specs.declared.TheConstants.{MAX_TRANSMIT_WAIT}
-use Rattle.ask_model.proofs.Endpoints.{and-both}
 use Rattle.ask_model.specs.Sizes.{came_size}
 use Rattle.journal_book.specs.Entries.{Seals, Written, entry_size}
 use Rattle.history_laws.specs.Readings.{Noted}
@@ -47,7 +46,7 @@ le-from a b h = elim (leb_tells a b) [
 
 pub fits-parts : (S : State) → fits S ≡ true → (entries_taken S ≤ 65536) × (bytes_taken S ≤ 268435456)
 fits-parts S h =
-    let both = and-both (nat_le (entries_taken S) 65536) (nat_le (bytes_taken S) 268435456) h in
+    let both = and_parts (nat_le (entries_taken S) 65536) (nat_le (bytes_taken S) 268435456) h in
     (le-true (entries_taken S) 65536 both.0, le-true (bytes_taken S) 268435456 both.1)
 
 pub fits-from : (S : State) → entries_taken S ≤ 65536 → bytes_taken S ≤ 268435456 → fits S ≡ true

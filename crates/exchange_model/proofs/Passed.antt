@@ -6,8 +6,8 @@ use Rattle.std.proofs.lemmas.Bool.{lt-ltb, le-ltb}
 use Rattle.std.proofs.lemmas.Bool.Decides.{eqb_tells, leb_tells}
 use Rattle.history_laws.proofs.CallerLemmas.{all-more, all-push}
 use Rattle.uri_map.specs.declared.peer.Peer.{Peer}
-use Rattle.ask_model.specs.Requests.{same_peer}
-use Rattle.ask_model.proofs.Endpoints.{same_peer-itself}
+use Rattle.uri_map.specs.Peers.{same_peer}
+use Rattle.uri_map.proofs.CallerLemmas.{same_peer-itself}
 use Rattle.journal_book.specs.Entries.{Deed, Passes, Sends}
 use Rattle.message_layer.specs.Values.{LinkState}
 use Rattle.message_layer.specs.Sending.{due_of, with_copy, submitted_by}

@@ -1,8 +1,8 @@
 -- Asks that open nothing, ACKs and RSTs, copies, and what is heard and is nothing new.
 use Rattle.std.proofs.Common.{◌≡◌, true, false, ◌∷◌, None, refl, sym, subst, ◌∙◌}
 use Rattle.uri_map.specs.declared.peer.Peer.{Peer}
-use Rattle.ask_model.specs.Requests.{same_peer}
-use Rattle.ask_model.proofs.Endpoints.{same_peer-same}
+use Rattle.uri_map.specs.Peers.{same_peer}
+use Rattle.uri_map.proofs.CallerLemmas.{same_peer-same}
 use Rattle.journal_book.specs.Entries.{Asks, Sends, Hears}
 use Rattle.message_layer.specs.Values.{LinkState}
 use Rattle.message_layer.specs.Sending.{with_copy}

@@ -4,8 +4,8 @@ use Rattle.std.specs.Prelude.{find, is_none}
 use Rattle.std.proofs.lemmas.Bool.Decides.{eqb_tells}
 use Rattle.std.proofs.lemmas.List.Elements.{filter_agree}
 use Rattle.uri_map.specs.declared.peer.Peer.{Peer}
-use Rattle.ask_model.specs.Requests.{same_peer}
-use Rattle.ask_model.proofs.Endpoints.{same_peer-same, same_peer-itself}
+use Rattle.uri_map.specs.Peers.{same_peer}
+use Rattle.uri_map.proofs.CallerLemmas.{same_peer-same, same_peer-itself}
 use Rattle.journal_book.specs.Entries.{Deed, Sends, Written}
 use Rattle.message_layer.specs.Values.{LinkState}
 use Rattle.history_laws.specs.Readings.{Noted, Note, First, entries, newest}

@@ -7,7 +7,7 @@ use Rattle.std.proofs.lemmas.List.{length-set}
 use Rattle.history_laws.proofs.CallerLemmas.{all-filter, all-push}
 use Rattle.limits.specs.declared.TheConstants.{MAX_MESSAGE_LEN}
 use Rattle.uri_map.specs.declared.peer.Peer.{Peer}
-use Rattle.ask_model.specs.Requests.{same_peer}
+use Rattle.uri_map.specs.Peers.{same_peer}
 use Rattle.message_layer.specs.Values.{LinkState}
 use Rattle.message_layer.specs.Sending.{first_sent, with_outstanding, with_copy, waits, queued}
 use Rattle.message_layer.specs.declared.state.Outstanding.{Outstanding}

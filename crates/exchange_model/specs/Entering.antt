@@ -9,7 +9,8 @@ use Rattle.coap_codec.specs.declared.fault.CodecFault.{CodecFault}
 use Rattle.uri_map.specs.declared.peer.Peer.{Peer}
 use Rattle.ask_model.specs.declared.cause.Cause.{Cause}
 use Rattle.ask_model.specs.declared.cause.Cause.TheVariants as C
-use Rattle.ask_model.specs.Requests.{CoapRequest, Requests, Refuses, same_peer}
+use Rattle.uri_map.specs.Peers.{same_peer}
+use Rattle.ask_model.specs.Requests.{CoapRequest, Requests, Refuses}
 use Rattle.ask_model.specs.Views.{Ask}
 use Rattle.journal_book.specs.Entries.{Grounds, Fault, Deed, Asks, Sends, Hears, Passes, Answers}
 use Rattle.message_layer.specs.Values.{LinkState, was_dropped}

@@ -3,7 +3,7 @@ use Rattle.std.specs.Prelude.{◌≡◌, ℕ, ◌+◌, ◌*◌, ◌≤◌, Bool,
 use Rattle.std.specs.List.{AllByRecursion, list_any}
 use Rattle.limits.specs.declared.TheConstants.{MAX_ANSWER_SIZE, MAX_ENTRIES, MAX_JOURNAL_LEN, MAX_MESSAGE_LEN}
 use Rattle.uri_map.specs.declared.peer.Peer.{Peer}
-use Rattle.ask_model.specs.Requests.{same_peer}
+use Rattle.uri_map.specs.Peers.{same_peer}
 use Rattle.journal_book.specs.Entries.{entry_size}
 use Rattle.message_layer.specs.Values.{LinkState}
 use Rattle.message_layer.specs.declared.state.Outstanding.{Outstanding}

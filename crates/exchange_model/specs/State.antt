@@ -1,7 +1,7 @@
 -- What a core keeps.
 use Rattle.std.specs.Prelude.{ℕ, Bool, not, ◌==◌, List, [], ◌∷◌, ◌++◌, map, filter, Option, Some, None, if◌then◌else◌}
 use Rattle.uri_map.specs.declared.peer.Peer.{Peer}
-use Rattle.ask_model.specs.Requests.{same_peer}
+use Rattle.uri_map.specs.Peers.{same_peer}
 use Rattle.journal_book.specs.Entries.{Deed, Opens, Asks, Answers, Shuts, Written}
 use Rattle.message_layer.specs.Values.{LinkState, empty_link}
 use Rattle.exchange_model.specs.declared.kept.Conn.{Conn}

@@ -5,7 +5,8 @@ ghost use Rattle.ask_model.specs.Views.{came_of, body_of, payload_of};
 ghost use Rattle.journal_book.specs.Views.{grounds_of};
 ghost use Rattle.reply_reading.specs.Findings.{response_of};
 
-use ask_model::{Bytes, Mapped, Meaning, Payload};
+use ask_model::{Mapped, Meaning, Payload};
+use coap_codec::Bytes;
 use http_edge::Incoming;
 use journal_book::Grounds;
 use reply_reading::Response;

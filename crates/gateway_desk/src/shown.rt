@@ -9,8 +9,8 @@ ghost use Rattle.gateway_desk.specs.Settled.{IsShown};
 ghost use Rattle.gateway_desk.specs.Shown.{HearsAt, HearsNone, Says, IsSaidAt};
 
 use crate::same::is_same_response;
-use ask_model::{Bytes, Meaning};
-use coap_codec::{CodecFault, Message, decode};
+use ask_model::Meaning;
+use coap_codec::{Bytes, CodecFault, Message, decode};
 use exchange_core::Answer;
 use journal_book::{Event, Grounds, Journal};
 use reply_reading::{Outcome, Response, finding_of};

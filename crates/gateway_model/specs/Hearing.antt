@@ -4,7 +4,7 @@ use Rattle.std.specs.Prelude.{List, [], ◌∷◌, ◌++◌, length, count_by, S
 use Rattle.std.specs.List.{AllByRecursion}
 use Rattle.limits.specs.declared.TheConstants.{EXCHANGE_LIFETIME, MAX_DATAGRAM_LEN, MAX_REMEMBERED}
 use Rattle.uri_map.specs.declared.peer.Peer.{Peer}
-use Rattle.ask_model.specs.Requests.{same_peer}
+use Rattle.uri_map.specs.Peers.{same_peer}
 use Rattle.journal_book.specs.Entries.{Deed, Sends, Hears, Passes, Written}
 use Rattle.exchange_model.specs.State.{State}
 use Rattle.exchange_model.specs.Calls.{something_due}

@@ -4,15 +4,16 @@ use Rattle.std.specs.Prelude.{is_none, nat_lt}
 use Rattle.std.specs.List.{Contains}
 use Rattle.std.proofs.lemmas.List.Sums.{length-filter}
 use Rattle.std.proofs.lemmas.Bool.Decides.{leb_tells}
-use Rattle.std.proofs.lemmas.Bool.{and_cases, false≢true, ltb-true, ltb-false, le-leb}
+use Rattle.std.proofs.lemmas.Bool.{and_cases, and_parts, false≢true, ltb-true, ltb-false, le-leb}
 use Rattle.std.proofs.lemmas.List.{length-map}
 use Rattle.limits.specs.declared.TheConstants.{MAX_EXCHANGES, MAX_MESSAGE_IDS, MAX_TRANSMIT_WAIT, MAX_WAITING, MESSAGE_ID_LIFETIME}
 use Rattle.uri_map.specs.declared.peer.Peer.{Peer}
 use Rattle.ask_model.specs.declared.cause.Cause.{Cause}
 use Rattle.ask_model.specs.declared.cause.Cause.TheVariants as C
-use Rattle.ask_model.specs.Requests.{CoapRequest, Sense, Requests, Refuses, same_peer}
+use Rattle.uri_map.specs.Peers.{same_peer}
+use Rattle.ask_model.specs.Requests.{CoapRequest, Sense, Requests, Refuses}
 use Rattle.ask_model.specs.Views.{Ask}
-use Rattle.ask_model.proofs.Endpoints.{and-both, same_peer-same}
+use Rattle.uri_map.proofs.CallerLemmas.{same_peer-same}
 use Rattle.journal_book.specs.Entries.{Grounds, Live, Kept, Fault, Deed, Sends, Asks, Passes}
 use Rattle.history_laws.specs.Readings.{Noted, Note, Plain, Begins, First, entries, at, before}
 use Rattle.history_laws.specs.Connections.{is_sealed}
@@ -177,9 +178,9 @@ module _ (l : List Noted) (k : ℕ) (x : Noted) (legal : Legal l) (here : at l k
         apart = apart-filtered (is_waiting (before l k) p) (openings (before l k)) (openings-apart (before l k));
         each = λ o h.
             let both = filtered-from (is_waiting (before l k) p) (openings (before l k)) o h in
-            let parts = and-both (goes_to p (begun (before l k) o)) (is_going (before l k) o && is_none (waits_for (before l k) o)) both.1 in
+            let parts = and_parts (goes_to p (begun (before l k) o)) (is_going (before l k) o && is_none (waits_for (before l k) o)) both.1 in
             let b = goes-is p (begun (before l k) o) parts.0 in
-            let going = and-both (is_going (before l k) o) (is_none (waits_for (before l k) o)) parts.1 in
+            let going = and_parts (is_going (before l k) o) (is_none (waits_for (before l k) o)) parts.1 in
             (b.0.request, b.2, pending-is l k o x legal here unsealed going.0 b.0 b.1);
       }
 
@@ -195,7 +196,7 @@ module _ (l : List Noted) (k : ℕ) (x : Noted) (legal : Legal l) (here : at l k
             let it = contains-mapped (λ (f : FirstSending). f.number) (filter (is_recent t p) fs) i h in
             let both = filtered-from (is_recent t p) fs it.0 it.1 in
             let f : FirstSending = it.0 in
-            let parts = and-both (same_peer f.peer p) (nat_lt t (f.moment + MESSAGE_ID_LIFETIME)) both.1 in
+            let parts = and_parts (same_peer f.peer p) (nat_lt t (f.moment + MESSAGE_ID_LIFETIME)) both.1 in
             let stands = firsts-stand (before l k) f both.0 in
             let below = subst (λ (m : ℕ). f.number < m) (length-before l k x here) (IsFirst-below (before l k) f.moment f.opening f.number f.peer f.message stands) in
             let first = first-entry l f.moment f.opening f.number f.peer f.message legal (first-before l k f.moment f.opening f.number f.peer f.message stands) in

@@ -4,13 +4,13 @@ use Rattle.std.specs.Prelude.{is_some, option_map, option_and_then, option_to_li
 use Rattle.std.specs.List.{Contains}
 use Rattle.std.proofs.lemmas.List.Elements.{Contains-append_left, Contains-push}
 use Rattle.std.proofs.lemmas.Bool.Decides.{eqb_tells}
-use Rattle.std.proofs.lemmas.Bool.{false≢true}
+use Rattle.std.proofs.lemmas.Bool.{false≢true, and_parts}
 use Rattle.coap_codec.specs.declared.message.MsgType.{MsgType}
 use Rattle.coap_codec.specs.declared.message.MsgType.TheVariants.{Con, Non, Ack, Rst}
 use Rattle.coap_codec.specs.Spelling.{Entry, Content, Spells}
 use Rattle.uri_map.specs.declared.peer.Peer.{Peer}
-use Rattle.ask_model.specs.Requests.{same_peer}
-use Rattle.ask_model.proofs.Endpoints.{and-both, same_peer-same}
+use Rattle.uri_map.specs.Peers.{same_peer}
+use Rattle.uri_map.proofs.CallerLemmas.{same_peer-same}
 use Rattle.journal_book.specs.Entries.{Deed, Sends, Hears, Passes}
 use Rattle.history_laws.specs.Responses.{is_whole, response_of}
 use Rattle.history_laws.specs.Confirmations.{empty}
@@ -261,7 +261,7 @@ as-first l p m i e = go (first_at l i) refl e
         → (f : FirstSending) × (first_at l i ≡ Some f) × (f.peer ≡ p) × (f.message.mid ≡ m.mid)
     go None is h = absurd (false≢true h)
     go (Some f) is h =
-        let both = and-both (same_peer f.peer p) (eqb f.message.mid m.mid) h in
+        let both = and_parts (same_peer f.peer p) (eqb f.message.mid m.mid) h in
         (f, is, same_peer-same f.peer p both.0, eqb-same f.message.mid m.mid both.1)
 
 -- what is outstanding at an endpoint is on its way

@@ -1,14 +1,13 @@
 -- A message that is given up was sent five times, and nothing settled it.
 use Rattle.std.proofs.Common.{◌≡◌, ℕ, ◌+◌, ◌*◌, ◌^◌, ◌<◌, ◌≤◌, true, eqb, leb, inl, inr, List, [], ◌∷◌, length, Option, Some, None, refl, sym, ap, subst, ◌∙◌, arith, add-one}
 use Rattle.std.proofs.lemmas.Bool.Decides.{leb_tells}
-use Rattle.std.proofs.lemmas.Bool.{false≢true}
+use Rattle.std.proofs.lemmas.Bool.{false≢true, and_parts}
 use Rattle.limits.specs.declared.TheConstants.{MAX_RETRANSMIT}
 use Rattle.coap_codec.specs.Spelling.{Content, Spells}
 use Rattle.uri_map.specs.declared.peer.Peer.{Peer}
 use Rattle.history_laws.specs.Confirmations.{empty}
 use Rattle.history_laws.specs.Exchanges.{waits_for}
 use Rattle.coap_codec.specs.declared.message.MsgType.TheVariants.{Ack, Rst}
-use Rattle.ask_model.proofs.Endpoints.{and-both}
 use Rattle.journal_book.specs.Entries.{Deed, Sends, Hears, Passes}
 use Rattle.history_laws.specs.Readings.{Noted, Note, First, Copies, entries, at, before, ticked}
 use Rattle.history_laws.specs.Transmissions.{Transmission, due, is_given_up, transmission}
@@ -186,7 +185,7 @@ given-up-at l t o i p m e s u note y legal f lt tick way over waits by =
     let stands = subst (λ (w : Option ℕ). at l i ≡ Some (noted t (Sends p f.bytes w) (First o m))) may.first_wait f.stands in
     let early = at-still l e i _ _ tick lt stands in
     let it = went (before l e) t o i p f.bytes may.wait m y (legal-before l e legal) early way in
-    let both = and-both (eqb y.copies MAX_RETRANSMIT) (leb (due y) s) over in
+    let both = and_parts (eqb y.copies MAX_RETRANSMIT) (leb (due y) s) over in
     let all : y.copies ≡ MAX_RETRANSMIT = eqb-same y.copies MAX_RETRANSMIT both.0 in
     let late : due y ≤ s = elim (leb_tells (due y) s) [ inl v ↦ v.1 | inr v ↦ absurd (false≢true (sym v.0 ∙ both.1)) ] in
     let old : IsFirst (before l e) t o i p m = record { bytes = f.bytes; timeout = Some may.wait; stands = early } in

@@ -1,15 +1,15 @@
 -- What a reading takes for new, or for a repeat, is so among its entries.
 use Rattle.std.proofs.Common.{◌≡◌, ℕ, zero, suc, ◌+◌, ◌<◌, ◌⊎◌, Bool, true, false, cond, ◌&&◌, eqb, inl, inr, List, [], ◌∷◌, length, Option, Some, None, refl, sym, subst, arith}
 use Rattle.std.specs.Prelude.{nat_lt, ⊤}
-use Rattle.std.proofs.lemmas.Bool.{false≢true, ltb-true, lt-ltb}
+use Rattle.std.proofs.lemmas.Bool.{false≢true, ltb-true, lt-ltb, and_parts}
 use Rattle.limits.specs.declared.TheConstants.{EXCHANGE_LIFETIME}
 use Rattle.coap_codec.specs.declared.message.MsgType.{MsgType}
 use Rattle.coap_codec.specs.declared.message.MsgType.TheVariants.{Con, Non, Ack, Rst}
 use Rattle.coap_codec.specs.Spelling.{Content, Spells}
 use Rattle.coap_codec.proofs.Unique.{spells_one}
 use Rattle.uri_map.specs.declared.peer.Peer.{Peer}
-use Rattle.ask_model.specs.Requests.{same_peer}
-use Rattle.ask_model.proofs.Endpoints.{and-both, same_peer-same, same_peer-itself}
+use Rattle.uri_map.specs.Peers.{same_peer}
+use Rattle.uri_map.proofs.CallerLemmas.{same_peer-itself, same_peer-same}
 use Rattle.journal_book.specs.Entries.{Deed, Hears}
 use Rattle.history_laws.specs.Readings.{Noted, Note, Says, Repeats, Garbled, Notice, entries, at, before}
 use Rattle.history_laws.specs.Hearing.{is_such, is_live, bears, is_like, heard_before, repeated}
@@ -118,9 +118,9 @@ found-keeps x l t p mid i h =
 found-new : (l : List Noted) (t : ℕ) (p : Peer) (mid s : ℕ) (d : Deed) (note : Note) → (is_live t p s d note && bears mid note) ≡ true
     → Found (noted s d note ∷ l) t p mid (length l)
 found-new l t p mid s (Hears q b) (Says m to notice) e =
-    let both = and-both (is_such m.kind && (same_peer q p && nat_lt t (s + EXCHANGE_LIFETIME))) (eqb m.mid mid) e in
-    let live = and-both (is_such m.kind) (same_peer q p && nat_lt t (s + EXCHANGE_LIFETIME)) both.0 in
-    let near = and-both (same_peer q p) (nat_lt t (s + EXCHANGE_LIFETIME)) live.1 in
+    let both = and_parts (is_such m.kind && (same_peer q p && nat_lt t (s + EXCHANGE_LIFETIME))) (eqb m.mid mid) e in
+    let live = and_parts (is_such m.kind) (same_peer q p && nat_lt t (s + EXCHANGE_LIFETIME)) both.0 in
+    let near = and_parts (same_peer q p) (nat_lt t (s + EXCHANGE_LIFETIME)) live.1 in
     let x : Noted = noted s (Hears q b) (Says m to notice) in
     record {
       moment = s;

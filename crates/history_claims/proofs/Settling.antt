@@ -2,15 +2,15 @@
 use Rattle.std.proofs.Common.{◌≡◌, ℕ, Bool, true, false, cond, eqb, List, [], ◌∷◌, Option, Some, None, refl, sym, ap, subst, ◌∙◌}
 use Rattle.std.specs.Prelude.{find, option_map, option_to_list}
 use Rattle.std.specs.Str.{bytes_eq}
-use Rattle.std.proofs.lemmas.Bool.{false≢true, or_right}
+use Rattle.std.proofs.lemmas.Bool.{false≢true, or_right, and_parts}
 use Rattle.std.proofs.lemmas.Slice.Eq.{bytes_eq-Decides}
 use Rattle.std.proofs.lemmas.List.Folds.{list_any-append}
 use Rattle.coap_codec.specs.declared.message.MsgType.TheVariants.{Ack, Rst}
 use Rattle.coap_codec.specs.Spelling.{Content, Spells}
 use Rattle.coap_codec.proofs.Unique.{spells_one}
 use Rattle.uri_map.specs.declared.peer.Peer.{Peer}
-use Rattle.ask_model.specs.Requests.{same_peer}
-use Rattle.ask_model.proofs.Endpoints.{and-both, same_peer-itself}
+use Rattle.uri_map.specs.Peers.{same_peer}
+use Rattle.uri_map.proofs.CallerLemmas.{same_peer-itself}
 use Rattle.journal_book.specs.Entries.{Sends, Hears}
 use Rattle.history_laws.specs.Confirmations.{empty}
 use Rattle.history_laws.specs.Readings.{Noted, Note, First, Says, Repeats, Garbled, Notice}
@@ -79,7 +79,7 @@ under-is l t o i j p m n legal f e h = go (first_at l j) refl h
     go : (x : Option FirstSending) → first_at l j ≡ x → went_under p n.token x ≡ true → j ≡ i
     go None is h = absurd (false≢true h)
     go (Some g) is h =
-        let both = and-both (same_peer g.peer p) (bytes_eq g.message.token n.token) h in
+        let both = and_parts (same_peer g.peer p) (bytes_eq g.message.token n.token) h in
         let token : g.message.token ≡ n.token = (bytes_eq-Decides g.message.token n.token).0 both.1 in
         tokens-apart l g.moment t g.opening j o i g.peer p g.message m legal (first-stands l j g is) f (token ∙ e)
 

@@ -2,12 +2,11 @@
 use Rattle.std.proofs.Common.{◌≡◌, ℕ, ◌⊎◌, Bool, true, false, eqb, inl, inr, List, [], ◌∷◌, length, Option, Some, None, refl, sym, ap, subst, ◌∙◌, arith}
 use Rattle.std.specs.Prelude.{find, option_map, is_none}
 use Rattle.std.proofs.lemmas.Bool.Decides.{eqb_tells, leb_tells}
-use Rattle.std.proofs.lemmas.Bool.{false≢true}
+use Rattle.std.proofs.lemmas.Bool.{false≢true, and_parts}
 use Rattle.coap_codec.specs.Spelling.{Content}
 use Rattle.uri_map.specs.declared.peer.Peer.{Peer}
 use Rattle.ask_model.specs.Requests.{CoapRequest, Requests}
 use Rattle.ask_model.specs.Views.{Ask}
-use Rattle.ask_model.proofs.Endpoints.{and-both}
 use Rattle.journal_book.specs.Entries.{Grounds, Deed, Answers, Asks, Sends, Seals}
 use Rattle.history_laws.specs.Readings.{Noted, Note, Plain, Begins, First, entries, at, before}
 use Rattle.history_laws.specs.Connections.{is_sealed, sealed_by}
@@ -120,7 +119,7 @@ over-still o x l (inr h) = inr (sealed-still x.written.deed (is_sealed l) h)
 not-over : (l : List Noted) (t o : ℕ) (p : Peer) (b : List ℕ) (w : Option ℕ) (m : Content) → Over o l → Follows l t (Sends p b w) (First o m) → ⊥
 not-over l t o p b w m (inl h) f =
     let may : MayBeFirst l t o p b m w = f.1.1 in
-    let going = and-both (is_going l o) (is_none (waits_for l o)) (and-both (goes_to p (begun l o)) _ may.waits).1 in
+    let going = and_parts (is_going l o) (is_none (waits_for l o)) (and_parts (goes_to p (begun l o)) _ may.waits).1 in
     false≢true (sym h ∙ going.0)
 not-over l t o p b w m (inr h) f = false≢true (sym f.0 ∙ h)
 

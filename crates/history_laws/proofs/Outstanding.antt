@@ -5,8 +5,8 @@ use Rattle.std.proofs.lemmas.Bool.Decides.{eqb_tells}
 use Rattle.limits.specs.declared.TheConstants.{MAX_RETRANSMIT}
 use Rattle.coap_codec.specs.Spelling.{Content}
 use Rattle.uri_map.specs.declared.peer.Peer.{Peer}
-use Rattle.ask_model.specs.Requests.{same_peer}
-use Rattle.ask_model.proofs.Endpoints.{same_peer-same, same_peer-itself}
+use Rattle.uri_map.specs.Peers.{same_peer}
+use Rattle.uri_map.proofs.CallerLemmas.{same_peer-same, same_peer-itself}
 use Rattle.journal_book.specs.Entries.{Deed, Sends, Hears, Passes}
 use Rattle.history_laws.specs.Readings.{Noted, Note, First, Copies, Says}
 use Rattle.history_laws.specs.Transmissions.{FirstSending, last_sent, Transmission, begun_way, copied_way, given_up, transmission_by, transmission, outstanding}

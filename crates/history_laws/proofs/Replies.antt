@@ -4,14 +4,14 @@ use Rattle.std.specs.List.{Contains}
 use Rattle.std.specs.Str.{bytes_eq}
 use Rattle.std.proofs.lemmas.List.Elements.{Contains-push_cases}
 use Rattle.std.proofs.lemmas.Bool.Decides.{leb_tells}
-use Rattle.std.proofs.lemmas.Bool.{false≢true}
+use Rattle.std.proofs.lemmas.Bool.{false≢true, and_parts}
 use Rattle.std.proofs.lemmas.Slice.Eq.{bytes_eq-Decides}
 use Rattle.coap_codec.specs.declared.message.MsgType.{MsgType}
 use Rattle.coap_codec.specs.declared.message.MsgType.TheVariants.{Con, Non, Ack, Rst}
 use Rattle.coap_codec.specs.Spelling.{Content}
 use Rattle.uri_map.specs.declared.peer.Peer.{Peer}
-use Rattle.ask_model.specs.Requests.{same_peer}
-use Rattle.ask_model.proofs.Endpoints.{and-both, same_peer-same}
+use Rattle.uri_map.specs.Peers.{same_peer}
+use Rattle.uri_map.proofs.CallerLemmas.{same_peer-same}
 use Rattle.journal_book.specs.Entries.{Deed, Sends, Hears}
 use Rattle.history_laws.specs.Readings.{Noted, Note, First, Says, Notice}
 use Rattle.history_laws.specs.Progress.{Reply}
@@ -61,9 +61,9 @@ answered-under l p m i Con false not e = (find-some (is_under l p m) (awaited l)
 answered-under l p m i Non true not e = (find-some (is_under l p m) (awaited l) i e).1
 answered-under l p m i Non false not e = (find-some (is_under l p m) (awaited l) i e).1
 answered-under l p m i Ack true not e =
-    and-both (is_under l p m i) (is_as l p m i) (find-some (λ (i : ℕ). is_under l p m i && is_as l p m i) (awaited l ++ open_at l p) i e).1
+    and_parts (is_under l p m i) (is_as l p m i) (find-some (λ (i : ℕ). is_under l p m i && is_as l p m i) (awaited l ++ open_at l p) i e).1
 answered-under l p m i Ack false not e =
-    and-both (is_under l p m i) (is_as l p m i) (find-some (λ (i : ℕ). is_under l p m i && is_as l p m i) (awaited l ++ open_at l p) i e).1
+    and_parts (is_under l p m i) (is_as l p m i) (find-some (λ (i : ℕ). is_under l p m i && is_as l p m i) (awaited l ++ open_at l p) i e).1
 answered-under l p m i Rst vain not e = absurd not
 
 -- the first sending that it went to
@@ -82,13 +82,13 @@ found-under l p m i e = go (first_at l i) refl e
         → (f : FirstSending) × (first_at l i ≡ Some f) × (f.peer ≡ p) × (f.message.token ≡ m.token)
     go None is h = absurd (false≢true h)
     go (Some f) is h =
-        let both = and-both (same_peer f.peer p) (bytes_eq f.message.token m.token) h in
+        let both = and_parts (same_peer f.peer p) (bytes_eq f.message.token m.token) h in
         (f, is, same_peer-same f.peer p both.0, (bytes_eq-Decides f.message.token m.token).0 both.1)
 
 found-as : (l : List Noted) (p : Peer) (m : Content) (i : ℕ) (f : FirstSending) → first_at l i ≡ Some f → is_as l p m i ≡ true → f.message.mid ≡ m.mid
 found-as l p m i f is e =
     let h : went_as p m.mid (Some f) ≡ true = subst (λ (o : Option FirstSending). went_as p m.mid o ≡ true) is e in
-    eqb-same f.message.mid m.mid (and-both (same_peer f.peer p) (eqb f.message.mid m.mid) h).1
+    eqb-same f.message.mid m.mid (and_parts (same_peer f.peer p) (eqb f.message.mid m.mid) h).1
 
 found-kind : (l : List Noted) (p : Peer) (m : Content) (i : ℕ) (k : MsgType) → m.kind ≡ k → NotRst k → Under k l p m i → Found l p m i
 found-kind l p m i Con is not h =

@@ -13,7 +13,7 @@ use Rattle.history_laws.specs.Readings.{Noted, Note, First}
 use Rattle.history_laws.specs.Transmissions.{FirstSending, firsts_by, firsts, bears_token, bears_mid, is_recent}
 use Rattle.history_laws.specs.Justified.{MayBeFirst, Follows, Legal}
 use Rattle.history_laws.specs.Laws.{IsFirst}
-use Rattle.ask_model.proofs.Endpoints.{same_peer-itself}
+use Rattle.uri_map.proofs.CallerLemmas.{same_peer-itself}
 use Rattle.history_laws.proofs.Places.{at-below, at-old}
 use Rattle.history_laws.specs.Worked.{noted}
 

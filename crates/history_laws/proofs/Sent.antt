@@ -2,12 +2,11 @@
 use Rattle.std.proofs.Common.{◌≡◌, ℕ, ◌<◌, ◌⊎◌, Bool, true, false, ◌&&◌, eqb, inl, inr, List, [], ◌∷◌, ◌++◌, length, Option, Some, None, is_some, refl, sym, ap, subst, ◌∙◌, arith}
 use Rattle.std.specs.Prelude.{fold, is_none}
 use Rattle.std.proofs.lemmas.Bool.Decides.{eqb_tells}
-use Rattle.std.proofs.lemmas.Bool.{false≢true}
+use Rattle.std.proofs.lemmas.Bool.{false≢true, and_parts}
 use Rattle.coap_codec.specs.Spelling.{Content, Spells}
 use Rattle.uri_map.specs.declared.peer.Peer.{Peer}
 use Rattle.ask_model.specs.Requests.{CoapRequest, Sense, Requests, Refuses, request_message}
 use Rattle.ask_model.specs.Views.{Ask}
-use Rattle.ask_model.proofs.Endpoints.{and-both}
 use Rattle.journal_book.specs.Entries.{Deed, Opens, Asks, Sends, Hears, Passes, Answers, Shuts, Seals}
 use Rattle.history_laws.specs.Readings.{Noted, Note, Begins, First, at, before}
 use Rattle.history_laws.specs.Progress.{Reply, Progress, Asks as StillAsks, Ends, Ending, NotUnderstood, Reset, TimedOut, step, replied, progress, ended_by, next_message}
@@ -200,7 +199,7 @@ first-once : (l : List Noted) (s t o i : ℕ) (p r : Peer) (b : List ℕ) (w : O
     → MayBeFirst l t o r b n w → ⊥
 first-once l s t o i p r b w m n f may =
     not-past (waits_for l o) (end_of l o) (past l s o i p m f)
-    (and-both (goes_to r (begun l o)) (is_none (end_of l o) && is_none (waits_for l o)) may.waits).1
+    (and_parts (goes_to r (begun l o)) (is_none (end_of l o) && is_none (waits_for l o)) may.waits).1
 
 pub sent-once : (l : List Noted) (s t o i j : ℕ) (p r : Peer) (m n : Content) → Legal l → IsFirst l s o i p m → IsFirst l t o j r n → i ≡ j
 sent-once [] s t o i j p r m n legal f g = cc (f.stands)

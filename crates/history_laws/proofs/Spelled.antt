@@ -5,7 +5,7 @@ use Rattle.std.specs.List.{list_all}
 use Rattle.std.proofs.lemmas.Bool.{ltb-true}
 use Rattle.coap_codec.specs.Spelling.{Content, Spells}
 use Rattle.coap_codec.specs.Reading.{message_at}
-use Rattle.coap_codec.proofs.Bytes.{IsBytes}
+use Rattle.coap_codec.proofs.ByteRanges.{IsBytes}
 use Rattle.coap_codec.proofs.Takes.{message_takes}
 use Rattle.history_laws.proofs.Resting.{and-left, and-right}
 

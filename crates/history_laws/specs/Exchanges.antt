@@ -7,7 +7,8 @@ use Rattle.coap_codec.specs.declared.message.MsgType.{MsgType}
 use Rattle.coap_codec.specs.declared.message.MsgType.TheVariants.{Rst}
 use Rattle.coap_codec.specs.Spelling.{Content}
 use Rattle.uri_map.specs.declared.peer.Peer.{Peer}
-use Rattle.ask_model.specs.Requests.{CoapRequest, same_peer}
+use Rattle.uri_map.specs.Peers.{same_peer}
+use Rattle.ask_model.specs.Requests.{CoapRequest}
 use Rattle.journal_book.specs.Entries.{Deed, Sends, Hears, Passes}
 use Rattle.history_laws.specs.Readings.{Noted, Note, Begins, First, Says}
 use Rattle.history_laws.specs.Progress.{Reply, Ending, NotUnderstood, Reset, TimedOut, progress, ended_by}

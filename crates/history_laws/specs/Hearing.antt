@@ -6,7 +6,8 @@ use Rattle.coap_codec.specs.declared.message.MsgType.{MsgType}
 use Rattle.coap_codec.specs.declared.message.MsgType.TheVariants.{Con, Non, Ack, Rst}
 use Rattle.coap_codec.specs.Spelling.{Content}
 use Rattle.uri_map.specs.declared.peer.Peer.{Peer}
-use Rattle.ask_model.specs.Requests.{CoapRequest, same_peer}
+use Rattle.uri_map.specs.Peers.{same_peer}
+use Rattle.ask_model.specs.Requests.{CoapRequest}
 use Rattle.journal_book.specs.Entries.{Deed, Hears}
 use Rattle.history_laws.specs.Readings.{Noted, Note, Says, Notice, Unobserved}
 use Rattle.history_laws.specs.Transmissions.{FirstSending, first_at, outstanding, mids_used}

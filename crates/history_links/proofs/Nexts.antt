@@ -7,7 +7,7 @@ use Rattle.std.proofs.lemmas.List.Folds.{list_any-append}
 use Rattle.std.proofs.lemmas.Slice.Eq.{bytes_eq-Decides}
 use Rattle.coap_codec.specs.Spelling.{Content}
 use Rattle.uri_map.specs.declared.peer.Peer.{Peer}
-use Rattle.ask_model.proofs.Endpoints.{same_peer-itself}
+use Rattle.uri_map.proofs.CallerLemmas.{same_peer-itself}
 use Rattle.history_laws.specs.Numbering.{token_number}
 use Rattle.message_layer.specs.Mids.{is_in_use}
 use Rattle.message_layer.specs.Hearing.{is_awaited, is_awaited_by_ack}

@@ -7,9 +7,10 @@ use Rattle.std.proofs.lemmas.Bool.{lt-ltb, ltb-true}
 use Rattle.std.proofs.lemmas.Bool.Decides.{eqb_tells}
 use Rattle.std.proofs.lemmas.List.Elements.{filter_map-append}
 use Rattle.uri_map.specs.declared.peer.Peer.{Peer}
-use Rattle.ask_model.specs.Requests.{CoapRequest, same_peer}
+use Rattle.uri_map.specs.Peers.{same_peer}
+use Rattle.ask_model.specs.Requests.{CoapRequest}
 use Rattle.ask_model.specs.Views.{Ask}
-use Rattle.ask_model.proofs.Endpoints.{same_peer-itself}
+use Rattle.uri_map.proofs.CallerLemmas.{same_peer-itself}
 use Rattle.journal_book.specs.Entries.{Asks}
 use Rattle.message_layer.specs.Mids.{is_in_use, pruned}
 use Rattle.message_layer.specs.Sending.{waits}

@@ -10,7 +10,7 @@ use Rattle.std.specs.Option.{option_or}
 use Rattle.limits.specs.declared.TheConstants.{EXCHANGE_LIFETIME}
 use Rattle.coap_codec.specs.Spelling.{Content}
 use Rattle.uri_map.specs.declared.peer.Peer.{Peer}
-use Rattle.ask_model.proofs.Endpoints.{same_peer-itself}
+use Rattle.uri_map.proofs.CallerLemmas.{same_peer-itself}
 use Rattle.journal_book.specs.Entries.{Hears}
 use Rattle.message_layer.specs.Hearing.{is_fresh, is_repeat, remembered_in}
 use Rattle.message_layer.specs.declared.state.Heard.{Heard}

@@ -5,8 +5,9 @@ use Rattle.std.specs.List.{AllByRecursion, find}
 use Rattle.limits.specs.declared.TheConstants.{MAX_MESSAGE_IDS}
 use Rattle.coap_codec.specs.Spelling.{Content}
 use Rattle.uri_map.specs.declared.peer.Peer.{Peer}
-use Rattle.ask_model.specs.Requests.{same_peer, request_message}
-use Rattle.ask_model.proofs.Endpoints.{same_peer-same}
+use Rattle.uri_map.specs.Peers.{same_peer}
+use Rattle.ask_model.specs.Requests.{request_message}
+use Rattle.uri_map.proofs.CallerLemmas.{same_peer-same}
 use Rattle.message_layer.specs.Values.{LinkState}
 use Rattle.message_layer.specs.Sending.{next_mid, first_sent}
 use Rattle.message_layer.specs.declared.state.Waiting.{Waiting}

@@ -8,7 +8,8 @@ ghost use Rattle.reply_reading.specs.Findings.{response_of};
 ghost use Rattle.http_mapping.specs.Located as spec;
 
 use crate::fields::is_text;
-use ask_model::{Bytes, Mapped, Meaning};
+use ask_model::{Mapped, Meaning};
+use coap_codec::Bytes;
 use http_edge::Memory;
 use reply_reading::Response;
 use std::alloc::Global;

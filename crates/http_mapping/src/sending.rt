@@ -10,7 +10,8 @@ ghost use Rattle.http_mapping.specs.Typings.{typing_shown, IsAlong, HasFault};
 
 use crate::applying::{Made, applied};
 use crate::typing::Typing;
-use ask_model::{Bytes, Payload};
+use ask_model::Payload;
+use coap_codec::Bytes;
 use code_map::Method;
 use http_edge::Memory;
 use media_map::Form;

@@ -4,7 +4,8 @@ ghost use Rattle.std.specs.Prelude.{◌≡◌, IfOk};
 ghost use Rattle.journal_book.specs.Views.{event_of, grounds_of, item_of};
 
 use crate::numbers::Numbers;
-use ask_model::{Bytes, Cause, Mapped};
+use ask_model::{Cause, Mapped};
+use coap_codec::Bytes;
 use std::alloc::{AllocError, AllocFailed};
 use std::sync::Arc;
 use transformers::Relation;

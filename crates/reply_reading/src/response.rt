@@ -8,8 +8,7 @@ ghost use Rattle.history_laws.specs.Responses.{is_whole, response_of as said_by}
 ghost use Rattle.reply_reading.specs.Findings.{response_of};
 
 use crate::reading::{is_all, is_final, value_of};
-use ask_model::Bytes;
-use coap_codec::{Message, is_defined, is_forwardable, number, uint_of};
+use coap_codec::{Bytes, Message, is_defined, is_forwardable, number, uint_of};
 use std::alloc::{AllocError, Global};
 
 /// The whole response of a CoAP server (RFC 7252 section 5.10).

@@ -12,17 +12,17 @@
 //! yet.
 #![tactic(auto)]
 
-mod bytes;
 mod laws;
 mod pair;
 mod pairs;
 mod response;
 mod store;
 mod stored;
+mod values;
 
-pub use bytes::{Bytes, Values};
 pub use laws::the_last_used_stay;
 pub use pair::Pair;
 pub use response::{Location, Response};
 pub use store::Store;
 pub use stored::StoredResponse;
+pub use values::Values;

@@ -1,12 +1,12 @@
 //! What an ask means, and the datagram that carries it.
 
 use crate::sample::{Nothing, light, server, too_large};
-use ask_model::{Bytes, Cause, Mapped, Meaning, is_same_peer};
-use coap_codec::Token;
+use ask_model::{Cause, Mapped, Meaning};
+use coap_codec::{Bytes, Token};
 use http_edge::{BadKind, Incoming};
 use std::alloc::{AllocError, Global};
 use std::net::{IpAddr, Ipv6Addr};
-use uri_map::Peer;
+use uri_map::{Peer, is_same_peer};
 
 /// The ask goes to this server.
 fn goes_to(mapped: &Mapped<Nothing>, server: &Peer) -> bool {

@@ -1,7 +1,8 @@
 //! Entries of a journal, and what they count.
 
 use crate::sample::{Nothing, server};
-use ask_model::{Bytes, Cause};
+use ask_model::Cause;
+use coap_codec::Bytes;
 use journal_book::{Entry, Event, Grounds, Journal, Numbers};
 use std::alloc::{AllocError, Global};
 use std::sync::Arc;

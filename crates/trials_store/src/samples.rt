@@ -1,7 +1,8 @@
 //! Keys and responses of one device.
 
 use cache_key::{Key, Place};
-use resp_cache::{Bytes, Location, Response, Store, StoredResponse, Values};
+use coap_codec::Bytes;
+use resp_cache::{Location, Response, Store, StoredResponse, Values};
 use std::alloc::{AllocError, Global};
 use std::net::{IpAddr, Ipv4Addr};
 use uri_map::{Host, Peer, Target, Text, Texts};

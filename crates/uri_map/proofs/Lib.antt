@@ -1,16 +1,18 @@
-pub mod Addresses
-pub mod Characters
-pub mod Pieces
-pub mod TextLists
-pub mod Lowering
-pub mod RoomLeft
-pub mod TargetSteps
-pub mod Faults
-pub mod OptionBytes
-pub mod Cuts
-pub mod Escaped
-pub mod HostedParts
-pub mod Groups
-pub mod Placed
-pub mod HostedPlace
-pub mod Hosted
+pub mod CallerLemmas
+mod Endpoints
+mod Addresses
+mod Characters
+mod Pieces
+mod TextLists
+mod Lowering
+mod RoomLeft
+mod TargetSteps
+mod Faults
+mod OptionBytes
+mod Cuts
+mod Escaped
+mod HostedParts
+mod Groups
+mod Placed
+mod HostedPlace
+mod Hosted

@@ -1,5 +1,5 @@
 -- Peers, and which one serves a target.
-use Rattle.std.specs.Prelude.{ℕ, Bool, ◌==◌, List, [], ◌∷◌, ◌++◌, Option, Some, None, option_map, option_and_then, codes, decimal, if◌then◌else◌}
+use Rattle.std.specs.Prelude.{ℕ, Bool, false, ◌==◌, ◌&&◌, List, [], ◌∷◌, ◌++◌, Option, Some, None, option_map, option_and_then, codes, decimal, if◌then◌else◌}
 use Rattle.std.specs.List.{before_first}
 use Rattle.std.specs.Str.{bytes_eq}
 use Rattle.std.specs.Net.Addr.{ipv4_octets, ipv6_segments}
@@ -35,6 +35,15 @@ host_address d (V6 address) = literal d.literals (Ip.V6 address)
 
 abbrev pub peer_with : ℕ → IpAddr → Peer
 peer_with port address = record { address = address; port = port }
+
+-- one endpoint (RFC 7252 section 1.2): the same address and port
+abbrev pub same_address : IpAddr → IpAddr → Bool
+same_address (Ip.V4 a) (Ip.V4 b) = bytes_eq a.octets b.octets
+same_address (Ip.V6 a) (Ip.V6 b) = bytes_eq a.segments b.segments
+same_address _ _ = false
+
+abbrev pub same_peer : Peer → Peer → Bool
+same_peer p q = same_address p.address q.address && (p.port == q.port)
 
 -- the peer that serves the target
 abbrev pub peer_in : Lines → Target → Option Peer

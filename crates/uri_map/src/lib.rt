@@ -30,7 +30,7 @@ pub use hosting::hosting_of;
 pub use laws::{addresses_read, hosted_is_read, options_fit};
 pub use options::options_of;
 pub use parts::path_and_query;
-pub use peer::{Peer, peer_at};
+pub use peer::{Peer, is_same_peer, peer_at};
 pub use reading::target_of;
 pub use target::{Host, Target};
 pub use text::{Text, Texts};

@@ -1,7 +1,7 @@
 //! Peers: where datagrams go.
 
 ghost use Rattle.std.specs.Prelude.{◌≡◌};
-ghost use Rattle.uri_map.specs.Peers.{peer_named};
+ghost use Rattle.uri_map.specs.Peers.{peer_named, same_address, same_peer};
 
 use crate::address::{bracketed_plain, v4_of, written_port};
 use crate::marks::{Mark, cut_at};
@@ -35,6 +35,24 @@ impl fmt::Display for Peer {
             IpAddr::V6(address) => write!(f, "[{}]:{port}", Groups(address)),
         }
     }
+}
+
+/// Whether the addresses are equal.
+fn is_same_address(a: &IpAddr, b: &IpAddr) -> bool
+    ensures { result ≡ same_address a.now b.now }
+{
+    match (a, b) {
+        (IpAddr::V4(a), IpAddr::V4(b)) => a.octets() == b.octets(),
+        (IpAddr::V6(a), IpAddr::V6(b)) => a.segments() == b.segments(),
+        _ => false,
+    }
+}
+
+/// Whether the two are one endpoint: the same address and port (RFC 7252 section 1.2).
+pub fn is_same_peer(a: &Peer, b: &Peer) -> bool
+    ensures { result ≡ same_peer a.now b.now }
+{
+    is_same_address(&a.address, &b.address) && a.port == b.port
 }
 
 /// The peer that `ADDRESS:PORT` names: an IPv4 address, or an IPv6 address in plain brackets, and a

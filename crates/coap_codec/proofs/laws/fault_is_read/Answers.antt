@@ -1,4 +1,4 @@
-use Rattle.coap_codec.proofs.Bytes.{bytes_from_all}
+use Rattle.coap_codec.proofs.ByteRanges.{bytes_from_all}
 use Rattle.coap_codec.proofs.FaultsFound.{message_fails}
 use Rattle.coap_codec.proofs.FaultsOnly.{fault_again}
 use Rattle.coap_codec.proofs.laws.fault_is_read.Goals as goal

@@ -1,5 +1,5 @@
 use Rattle.coap_codec.proofs.Again.{message_again}
-use Rattle.coap_codec.proofs.Bytes.{bytes_from_all}
+use Rattle.coap_codec.proofs.ByteRanges.{bytes_from_all}
 use Rattle.coap_codec.proofs.Takes.{message_takes}
 use Rattle.coap_codec.proofs.laws.spelled_is_read.Goals as goal
 

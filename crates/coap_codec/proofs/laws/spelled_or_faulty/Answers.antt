@@ -1,4 +1,4 @@
-use Rattle.coap_codec.proofs.Bytes.{bytes_from_all}
+use Rattle.coap_codec.proofs.ByteRanges.{bytes_from_all}
 use Rattle.coap_codec.proofs.Either as law
 use Rattle.coap_codec.proofs.laws.spelled_or_faulty.Goals as goal
 

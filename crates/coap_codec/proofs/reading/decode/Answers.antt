@@ -1,5 +1,5 @@
 use Rattle.std.proofs.Common.{arith}
-use Rattle.coap_codec.proofs.Bytes.{bytes_from}
+use Rattle.coap_codec.proofs.ByteRanges.{bytes_from}
 use Rattle.coap_codec.proofs.Decoding.{is_found, is_only, is_fault, is_only_fault, is_last}
 use Rattle.coap_codec.proofs.reading.decode.Goals as goal
 

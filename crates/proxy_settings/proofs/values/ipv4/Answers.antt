@@ -1,5 +1,5 @@
 use Rattle.std.proofs.Common.{◌∙◌}
-use Rattle.uri_map.proofs.Addresses.{ipv4_read}
+use Rattle.uri_map.proofs.CallerLemmas.{ipv4_read}
 use Rattle.proxy_settings.proofs.values.ipv4.Goals as goal
 
 pub returns : goal.returns

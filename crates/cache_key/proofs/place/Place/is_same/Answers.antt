@@ -1,5 +1,5 @@
 use Rattle.std.proofs.Common.{rules}
 use Rattle.cache_key.proofs.place.Place.is_same.Goals as goal
 
-pub returns-then-self-other : goal.returns-then-self-other
-returns-then-self-other c = search rules
+pub returns-then-is_same_peer : goal.returns-then-is_same_peer
+returns-then-is_same_peer c = search rules

@@ -3,14 +3,10 @@ use Rattle.std.proofs.Common.{◌≡◌, ℕ, Bool, true, false, ◌&&◌, eqb, 
 use Rattle.std.specs.declared.net.ip_addr.IpAddr.{IpAddr}
 use Rattle.std.specs.declared.net.ip_addr.IpAddr.TheVariants.{V4, V6}
 use Rattle.std.proofs.lemmas.Bool.Decides.{eqb_tells}
-use Rattle.std.proofs.lemmas.Bool.{false≢true}
+use Rattle.std.proofs.lemmas.Bool.{false≢true, and_parts}
 use Rattle.std.proofs.lemmas.Slice.Eq.{bytes_eq-Decides}
 use Rattle.uri_map.specs.declared.peer.Peer.{Peer}
-use Rattle.ask_model.specs.Requests.{same_address, same_peer}
-
-pub and-both : (a b : Bool) → (a && b) ≡ true → (a ≡ true) × (b ≡ true)
-and-both true b e = (refl, e)
-and-both false b e = cc
+use Rattle.uri_map.specs.Peers.{same_address, same_peer}
 
 pub same_address-same : (a b : IpAddr) → same_address a b ≡ true → a ≡ b
 same_address-same (V4 a) (V4 b) e =
@@ -24,7 +20,7 @@ same_address-same (V6 a) (V4 b) e = cc
 
 pub same_peer-same : (p q : Peer) → same_peer p q ≡ true → p ≡ q
 same_peer-same p q e =
-    let both = and-both (same_address p.address q.address) (eqb p.port q.port) e in
+    let both = and_parts (same_address p.address q.address) (eqb p.port q.port) e in
     let address = same_address-same p.address q.address both.0 in
     let port : p.port ≡ q.port = elim (eqb_tells p.port q.port) [ inl w ↦ w.1 | inr w ↦ absurd (false≢true (sym w.0 ∙ both.1)) ] in
     let with_address : IpAddr → Peer = λ a. record { address = a; port = p.port } in
