@@ -22,15 +22,14 @@ use Rattle.message_layer.specs.declared.state.Outstanding.{Outstanding}
 use Rattle.message_layer.specs.declared.state.Reply.{Reply}
 use Rattle.message_layer.specs.declared.state.Reply.TheVariants as R
 use Rattle.message_layer.specs.declared.state.Waiting.{Waiting}
-use Rattle.history_laws.specs.Readings.{Noted, Confirms, ticked}
+use Rattle.history_laws.specs.Readings.{Noted, Confirms, ticked, noted}
 use Rattle.history_laws.specs.Transmissions.{mids_used}
 use Rattle.history_laws.specs.Exchanges.{End, end_of, is_waiting}
 use Rattle.history_laws.specs.Confirming.{owed}
 use Rattle.history_laws.specs.Justified.{MayConfirm}
-use Rattle.history_laws.specs.Worked.{noted}
-use Rattle.history_laws.proofs.CallerLemmas.{all-more, at-keeps, some-is, ticked-newest}
+use Rattle.history_laws.proofs.CallerLemmas.{all-more, at-keeps, first-waits, some-is, ticked-newest, waiting-goes}
 use Rattle.history_links.specs.Agrees.{due}
-use Rattle.history_links.proofs.CallerLemmas.{ends-sent, sent, waiting-goes}
+use Rattle.history_links.proofs.CallerLemmas.{ends-sent, sent}
 use Rattle.exchange_model.specs.declared.kept.Exchange.{Exchange}
 use Rattle.exchange_model.specs.State.{State, link_of}
 use Rattle.exchange_model.specs.Steps.{given_out, is_under, went_out, confirms}
@@ -137,7 +136,7 @@ next-moves l t p S a quiet early = by (link_of S.links p).outstanding (link_of S
         let tick = tick-before l t S b in let least = may.least in let wait = some-is v.timeout may.wait may.first_wait in omega (arith, tick, least, wait) in (
           x ∷ l,
           record {
-            goes = first-goes l t p v.datagram (Some v.timeout) made.0 made.1 may.waits;
+            goes = first-goes l t p v.datagram (Some v.timeout) made.0 made.1 (first-waits l t made.0 p v.datagram made.1 (Some v.timeout) may);
             amid = record {
               before = record { reads = made.2.reads; later = omega arith };
               unsealed = a.unsealed;

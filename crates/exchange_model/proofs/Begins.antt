@@ -1,6 +1,6 @@
 -- An ask opens an exchange.
-use Rattle.std.proofs.Common.{◌≡◌, ℕ, ◌+◌, ◌<◌, inl, inr, Bool, true, false, List, [], ◌∷◌, ◌++◌, length, map, refl, sym, ap, subst, ◌∙◌, arith, length-append}
-use Rattle.std.specs.Prelude.{is_none, ◌||◌}
+use Rattle.std.proofs.Common.{◌≡◌, ℕ, ◌+◌, ◌<◌, inl, inr, Bool, true, false, List, [], ◌∷◌, ◌++◌, length, map, refl, sym, ap, subst, ◌∙◌, arith}
+use Rattle.std.specs.Prelude.{is_none, is_some, ◌||◌}
 use Rattle.std.specs.List.{AllByRecursion, Contains, list_any}
 use Rattle.std.specs.Str.{bytes_eq}
 use Rattle.std.proofs.lemmas.Slice.Eq.{bytes_eq-Decides}
@@ -12,20 +12,21 @@ use Rattle.history_laws.specs.Numbering.{token_number}
 use Rattle.message_layer.specs.Values.{LinkState}
 use Rattle.message_layer.specs.Sending.{waits, queued}
 use Rattle.message_layer.specs.declared.state.Waiting.{Waiting}
-use Rattle.history_laws.specs.Readings.{Noted, Begins}
+use Rattle.history_laws.specs.Readings.{Noted, Begins, noted}
 use Rattle.history_laws.specs.Transmissions.{FirstSending, firsts, bears_token}
-use Rattle.history_laws.specs.Exchanges.{openings, is_going}
+use Rattle.history_laws.specs.Exchanges.{openings, is_going, is_waiting, waiting}
+use Rattle.history_laws.specs.Exchanges as H
 use Rattle.history_laws.specs.Justified.{Follows, AskNote}
-use Rattle.history_laws.specs.Worked.{noted}
-use Rattle.history_laws.proofs.CallerLemmas.{all-more, all-push, at-new, before-new, contains-none, entries-length, eqb-itself, filter-push, first-or-later}
+use Rattle.history_laws.proofs.CallerLemmas.{all-more, all-push, at-new, contains-none, entries-length, eqb-itself, filter-push, first-or-later, not-yet, opened-issued, opened-rank, rank-below, unbegun, waiting-all, waiting-goes}
 use Rattle.history_links.specs.Agrees.{WaitIn, IsWaitingFor, Agrees}
-use Rattle.history_links.proofs.CallerLemmas.{ask-elsewhere, not-yet, queued-agrees, rank-below, unbegun}
+use Rattle.history_links.proofs.CallerLemmas.{ask-elsewhere, queued-agrees}
 use Rattle.exchange_model.specs.declared.kept.Exchange.{Exchange}
 use Rattle.exchange_model.specs.State.{PeerLink, State, link_of, with_link}
 use Rattle.exchange_model.specs.Reads.{ExchangeIn, WaitsUnder, opening_of, Reads}
 use Rattle.exchange_model.specs.Steps.{exchange_for}
 use Rattle.exchange_model.specs.Laws.{BeginsLeads}
 use Rattle.exchange_model.proofs.Lists.{all-both}
+use Rattle.exchange_model.proofs.Opened.{OpenIn, open-ones}
 use Rattle.exchange_model.proofs.Tables.{exchange-stays, all-links}
 use Rattle.exchange_model.proofs.Silent.{later-than, link-before}
 
@@ -33,18 +34,19 @@ use Rattle.exchange_model.proofs.Silent.{later-than, link-before}
 
 -- what waits has a number that was issued
 
-pub waits-for-one : (l : List Noted) (os : List ℕ) (ws : List Waiting) (v : Waiting) → WaitIn l os ws → Contains ws v → (o : ℕ) × IsWaitingFor l o v
-waits-for-one l os [] v a h = absurd (contains-none v h)
-waits-for-one l [] (w ∷ ws) v a h = absurd a
-waits-for-one l (o ∷ os) (w ∷ ws) v a h = elim (first-or-later w ws v h) [
-  | inl e ↦ (o, subst (IsWaitingFor l o) e a.0)
-  | inr k ↦ waits-for-one l os ws v a.1 k
+pub waits-for-one : (l : List Noted) (P : ℕ → Type 0) (os : List ℕ) (ws : List Waiting) (v : Waiting) → AllByRecursion P os → WaitIn l os ws → Contains ws v
+    → (o : ℕ) × IsWaitingFor l o v × P o
+waits-for-one l P os [] v all a h = absurd (contains-none v h)
+waits-for-one l P [] (w ∷ ws) v all a h = absurd a
+waits-for-one l P (o ∷ os) (w ∷ ws) v all a h = elim (first-or-later w ws v h) [
+  | inl e ↦ (o, subst (IsWaitingFor l o) e a.0, all.0)
+  | inr k ↦ waits-for-one l P os ws v all.1 a.1 k
 ]
 
 below-issued : (l : List Noted) (S : State) (p : Peer) (v : Waiting) → Reads l S → Contains (link_of S.links p).waiting v → token_number v.token < S.issued
 below-issued l S p v r h =
-    let one = waits-for-one l _ (link_of S.links p).waiting v (r.links_are p).waits h in
-    let less = rank-below l one.0 _ one.1.opening in
+    let one = waits-for-one l (λ (o : ℕ). is_waiting l p o ≡ true) (waiting l p) (link_of S.links p).waiting v (waiting-all l p) (r.links_are p).waits h in
+    let less = rank-below l one.0 _ r.legal one.1.opening (ap is_none (waiting-goes l p one.0 one.2)) in
     let number = one.1.numbered in
     let issued = r.issued_are in
     omega (arith, less, number, issued)
@@ -87,7 +89,8 @@ begins-leads l t c a q token text word S b may who sense room spelled size numbe
     let fresh : bears_token l token ≡ false = unborne token S.issued number (firsts l) r.tokens_are in
     let link = link-before l t S b in
     let s = queued t w (link_of S.links q.peer) in
-    let kept = all-both (ExchangeIn l) _ S.exchanges r.exchanges_are r.waiting_are in
+    let kept = all-both (OpenIn l) _ S.exchanges (open-ones l S r) r.waiting_are in
+    let begins : is_some (H.begun n (length l)) ≡ true = rw (eqb-itself (length l)) refl in
     record {
       follows = follows;
       reads = record {
@@ -96,7 +99,7 @@ begins-leads l t c a q token text word S b may who sense room spelled size numbe
         sealed_is = r.sealed_is;
         moment_is = refl;
         opened_are = r.opened_are;
-        issued_are = length-append (openings l) (length l ∷ []) ∙ ap (λ (k : ℕ). k + 1) r.issued_are;
+        issued_are = opened-issued x l r.legal begins (ap is_none none.1) ∙ ap (λ (k : ℕ). k + 1) r.issued_are;
         conns_are = rw (r.conns_are, here) refl;
         keys = filter-push (is_going n) (openings l) (length l) (ap is_none none.1)
             ∙ (ap (λ (os : List ℕ). os ++ length l ∷ []) r.keys
@@ -107,7 +110,7 @@ begins-leads l t c a q token text word S b may who sense room spelled size numbe
               opening = rw (eqb-itself (length l)) refl;
               peer = refl;
               method = refl;
-              number = ap (λ (v : List Noted). length (openings v)) (before-new x l) ∙ (r.issued_are ∙ sym number);
+              number = opened-rank x l r.legal ∙ (r.issued_are ∙ sym number);
               sending = none.0;
               sent = fresh;
               ask = a;
@@ -126,13 +129,13 @@ begins-leads l t c a q token text word S b may who sense room spelled size numbe
     above : (v : Waiting) → Contains (link_of S.links q.peer).waiting v → token_number v.token ≡ token_number token → ⊥
     above v h same = let less = below-issued l S q.peer v b.reads h in omega (arith, less, same, number)
 
-    old : (y : Exchange) → ExchangeIn l y × WaitsUnder (link_of S.links y.peer).waiting y → y.peer ≡ q.peer
+    old : (y : Exchange) → OpenIn l y × WaitsUnder (link_of S.links y.peer).waiting y → y.peer ≡ q.peer
         → WaitsUnder ((link_of S.links q.peer).waiting ++ waits token text word ∷ []) y
     old y h at_q v has same = elim (Contains-push_cases (link_of S.links q.peer).waiting (waits token text word) v has) [
       | inl k ↦ h.1 v (subst (λ (p : Peer). Contains (link_of S.links p).waiting v) (sym at_q) k) same
       | inr e ↦
-          let less = rank-below l y.opening _ h.0.opening in
-          let mine = h.0.number in
+          let less = rank-below l y.opening _ b.reads.legal h.0.0.opening h.0.1 in
+          let mine = h.0.0.number in
           let issued = b.reads.issued_are in
           let is = ap (λ (u : Waiting). token_number u.token) e in
           absurd (omega (arith, less, mine, issued, is, same, number))

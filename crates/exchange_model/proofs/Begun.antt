@@ -9,12 +9,12 @@ use Rattle.ask_model.specs.declared.cause.Cause.TheVariants as C
 use Rattle.ask_model.specs.Requests.{Sense}
 use Rattle.journal_book.specs.Entries.{Deed, Asks}
 use Rattle.history_laws.specs.Numbering.{token_number}
-use Rattle.history_laws.proofs.CallerLemmas.{all-more}
+use Rattle.history_laws.proofs.CallerLemmas.{all-more, rank-below}
 use Rattle.message_layer.specs.Values.{LinkState}
 use Rattle.message_layer.specs.Sending.{waits, queued, submitted}
 use Rattle.message_layer.specs.declared.state.Outstanding.{Outstanding}
 use Rattle.message_layer.specs.declared.state.Waiting.{Waiting}
-use Rattle.history_links.proofs.CallerLemmas.{rank-below}
+use Rattle.exchange_model.proofs.Opened.{OpenIn, open-ones}
 use Rattle.exchange_model.specs.declared.kept.Exchange.{Exchange}
 use Rattle.exchange_model.specs.State.{PeerLink, State, link_of, with_link}
 use Rattle.exchange_model.specs.Reads.{ExchangeIn}
@@ -108,18 +108,18 @@ begins-enter t c a q n S may drained numbered sense place =
     turn = turn-at-once w s.outstanding s.waiting
         (turns _ s.outstanding s.waiting (may.kept.rests.links q.peer))
 
-    other : (e : Exchange) → ExchangeIn may.kept.reading e → (b : Bool)
+    other : (e : Exchange) → OpenIn may.kept.reading e → (b : Bool)
         → bytes_eq e.token n.token ≡ b → b ≡ false
     other e h false k = refl
     other e h true k =
         let same = ap token_number ((bytes_eq-Decides e.token n.token).0 k) in
-        let less = rank-below may.kept.reading e.opening _ h.opening in
-        let mine = h.number in
+        let less = rank-below may.kept.reading e.opening _ may.kept.rests.reads.legal h.0.opening h.1 in
+        let mine = h.0.number in
         let issued = may.kept.rests.reads.issued_are in
         let next = numbered.number in
         absurd (omega (arith, same, less, mine, issued, next))
 
     fresh : AllByRecursion (λ (e : Exchange). is_under n.token e ≡ false) S.exchanges
-    fresh = all-more (ExchangeIn may.kept.reading) (λ (e : Exchange). is_under n.token e ≡ false)
+    fresh = all-more (OpenIn may.kept.reading) (λ (e : Exchange). is_under n.token e ≡ false)
         (λ e h. other e h (bytes_eq e.token n.token) refl) S.exchanges
-        may.kept.rests.reads.exchanges_are
+        (open-ones may.kept.reading S may.kept.rests.reads)

@@ -6,10 +6,9 @@ use Rattle.std.proofs.lemmas.Bool.Decides.{eqb_tells}
 use Rattle.std.proofs.lemmas.Bool.{false≢true, or_right, not-true}
 use Rattle.ask_model.specs.Views.{Ask}
 use Rattle.journal_book.specs.Entries.{Grounds, Deed, Opens, Asks, Answers, Shuts}
-use Rattle.history_laws.specs.Readings.{Noted, Note}
+use Rattle.history_laws.specs.Readings.{Noted, Note, noted}
 use Rattle.history_laws.specs.Connections.{is_open, asks_of, answers_of, opened_by, opened}
 use Rattle.history_laws.specs.Justified.{pending, Follows, Legal}
-use Rattle.history_laws.specs.Worked.{noted}
 use Rattle.history_laws.proofs.CallerLemmas.{all-filter, all-more, all-passes, all-push, open-below}
 use Rattle.exchange_model.specs.declared.kept.Conn.{Conn}
 use Rattle.exchange_model.specs.State.{pend}
@@ -29,9 +28,9 @@ pub record ConnIn (l : List Noted) (x : Conn) : Type 0 where
 abbrev NothingOf : List Noted → ℕ → Type 0
 NothingOf l c = (asks_of l c ≡ []) × (answers_of l c ≡ [])
 
-opened-more : (d : Deed) (n : ℕ) → n ≤ opened_by d n
-opened-more (Opens c) n = omega arith
-opened-more d n = omega arith
+opened-more : (l : List Noted) (t : ℕ) (d : Deed) (note : Note) → Follows l t d note → opened l ≤ opened_by d (opened l)
+opened-more l t (Opens c) note may = let here = may.1 in omega (arith, here)
+opened-more l t d note may = omega arith
 
 asked-step : (older : List Noted) (c t : ℕ) (d : Deed) (note : Note) → Legal older → opened_by d (opened older) ≤ c
     → NothingOf older c → Follows older t d note → NothingOf (noted t d note ∷ older) c
@@ -47,7 +46,7 @@ asked-step older c t d note legal lt ih may = ih
 pub none-asked : (l : List Noted) → Legal l → (c : ℕ) → opened l ≤ c → NothingOf l c
 none-asked [] legal c h = (refl, refl)
 none-asked (x ∷ older) legal c h =
-    let more = opened-more x.written.deed (opened older) in
+    let more = opened-more older x.written.moment x.written.deed x.note legal.2 in
     asked-step older c x.written.moment x.written.deed x.note legal.0 h (none-asked older legal.0 c (omega arith)) legal.2
 
 pub slice_get-push : {X : Type 0} (xs : List X) (y : X) (n : ℕ) → length xs ≡ n → slice_get (xs ++ y ∷ []) n ≡ Some y

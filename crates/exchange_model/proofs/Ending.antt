@@ -7,10 +7,9 @@ use Rattle.std.proofs.lemmas.Bool.Decides.{eqb_tells}
 use Rattle.uri_map.specs.declared.peer.Peer.{Peer}
 use Rattle.ask_model.specs.Views.{Ask}
 use Rattle.journal_book.specs.Entries.{Grounds, Asks, Answers}
-use Rattle.history_laws.specs.Readings.{Noted, Note, Plain, Begins, at}
+use Rattle.history_laws.specs.Readings.{Noted, Note, Plain, Begins, at, noted}
 use Rattle.history_laws.specs.Connections.{answers_of}
 use Rattle.history_laws.specs.Confirming.{owed}
-use Rattle.history_laws.specs.Worked.{noted}
 use Rattle.history_laws.proofs.CallerLemmas.{asks-stand, at-keeps, at-same, eqb-itself}
 use Rattle.exchange_model.specs.declared.kept.Conn.{Conn}
 use Rattle.exchange_model.specs.declared.kept.Exchange.{Exchange}

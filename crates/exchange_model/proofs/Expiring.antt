@@ -13,15 +13,15 @@ use Rattle.history_laws.specs.Readings.{Noted}
 use Rattle.history_laws.specs.Transmissions.{FirstSending, first_at, Transmission, transmission, given_up, if_outstanding, outstanding}
 use Rattle.history_laws.specs.Exchanges.{begun, is_late, expires as ends_at, waits_for, Turn, Sent, Replied, Rejected, Expired, Nothing, turn, waits_by, replies, end_here, end_by, end_of, open_exchanges}
 use Rattle.history_laws.specs.Justified.{Follows, Legal}
-use Rattle.history_laws.proofs.CallerLemmas.{all-more, all-of, contains-mapped, contains-none, first-or-later, first-stands, may-be, none-is, open-exactly, outstanding-last, sent-for, some-is, turn-sent, waits-first}
+use Rattle.history_laws.proofs.CallerLemmas.{all-more, all-of, contains-mapped, contains-none, first-or-later, first-stands, first-waits, may-be, none-is, open-exactly, outstanding-last, sent-for, some-is, turn-sent, waiting-goes, waits-first}
 use Rattle.history_links.specs.Agrees.{way_of, TurnIn, Agrees}
 use Rattle.history_links.specs.Steps.{is_over}
-use Rattle.history_links.proofs.CallerLemmas.{is-outstanding, one-token, out-first, waiting-goes}
+use Rattle.history_links.proofs.CallerLemmas.{is-outstanding, one-token, out-first}
 use Rattle.exchange_model.specs.declared.kept.Exchange.{Exchange}
 use Rattle.exchange_model.specs.State.{PeerLink, State, link_of}
 use Rattle.exchange_model.specs.Reads.{IsSentUnder, ExchangeIn, opening_of, Reads}
 use Rattle.exchange_model.specs.Steps.{is_under, is_past, expires, is_gone}
-use Rattle.exchange_model.proofs.Firsts.{one-rank}
+use Rattle.exchange_model.proofs.Opened.{OpenIn, one-rank, open-ones}
 
 -- what is given up
 
@@ -92,7 +92,8 @@ going-step : (x : Noted) (l : List Noted) (o i : ℕ) → Follows l x.written.mo
     → (u : Turn) → turn l o x ≡ u → waits_by u (waits_for l o) ≡ Some i → end_by (end_here (begun l o) (length l) (replies l o) u) (length l) (end_of l o) ≡ None
 going-step x l o i follows ih (Sent j) w e =
     let s = turn-sent l o x j w in
-    waiting-goes l s.peer o (may-be x l x.written.moment o s.peer s.bytes s.timeout s.message follows s.entry).waits
+    waiting-goes l s.peer o
+    (first-waits l x.written.moment o s.peer s.bytes s.message s.timeout (may-be x l x.written.moment o s.peer s.bytes s.timeout s.message follows s.entry))
 going-step x l o i follows ih Nothing w e = ih e
 going-step x l o i follows ih (Replied j m) w e = cc
 going-step x l o i follows ih Rejected w e = cc
@@ -146,14 +147,14 @@ pub gone-of : (l : List Noted) (t : ℕ) (S : State) (e : Exchange) (o : ℕ) (t
     → ends_at l o t (waits_for l o) ≡ is_gone t S token
 gone-of l t S e o token r h at under =
     sym (one-tells (is_under token) (expires t S.links) (ends_at l o t (waits_for l o)) S.exchanges e
-    (all-more (ExchangeIn l) _ one S.exchanges r.exchanges_are) h ((bytes_eq-Decides e.token token).1 under))
+    (all-more (OpenIn l) _ one S.exchanges (open-ones l S r)) h ((bytes_eq-Decides e.token token).1 under))
   where
-    mine : ExchangeIn l e
-    mine = all-of (ExchangeIn l) S.exchanges e r.exchanges_are h
+    mine : OpenIn l e
+    mine = all-of (OpenIn l) S.exchanges e (open-ones l S r) h
 
-    one : (x : Exchange) → ExchangeIn l x → is_under token x ≡ true → expires t S.links x ≡ ends_at l o t (waits_for l o)
+    one : (x : Exchange) → OpenIn l x → is_under token x ≡ true → expires t S.links x ≡ ends_at l o t (waits_for l o)
     one x a same =
         let tokens = (bytes_eq-Decides x.token token).0 same ∙ sym under in
-        let ranks = a.number ∙ (ap token_number tokens ∙ sym mine.number) in
-        let there = one-rank l x.opening e.opening _ _ a.opening mine.opening ranks in
-        expires-alike l t S.links x r.legal r.links_are a ∙ ap (λ (k : ℕ). ends_at l k t (waits_for l k)) (there ∙ at)
+        let ranks = a.0.number ∙ (ap token_number tokens ∙ sym mine.0.number) in
+        let there = one-rank l x.opening e.opening _ _ r.legal a.0.opening mine.0.opening a.1 mine.1 ranks in
+        expires-alike l t S.links x r.legal r.links_are a.0 ∙ ap (λ (k : ℕ). ends_at l k t (waits_for l k)) (there ∙ at)

@@ -3,7 +3,7 @@ use Rattle.std.proofs.Common.{◌≡◌, ℕ, zero, ◌<◌, ◌⊎◌, inl, inr
 use Rattle.std.specs.Prelude.{is_none}
 use Rattle.std.specs.List.{AllByRecursion, Contains}
 use Rattle.std.specs.Str.{bytes_eq}
-use Rattle.std.proofs.lemmas.Bool.{false≢true, cases_lt}
+use Rattle.std.proofs.lemmas.Bool.{false≢true}
 use Rattle.std.proofs.lemmas.Bool.Decides.{eqb_tells}
 use Rattle.std.proofs.lemmas.Slice.Eq.{bytes_eq-Decides}
 use Rattle.std.proofs.lemmas.List.Elements.{filter_agree}
@@ -18,10 +18,11 @@ use Rattle.message_layer.specs.Sending.{first_sent, with_outstanding}
 use Rattle.message_layer.specs.declared.state.Waiting.{Waiting}
 use Rattle.history_laws.specs.Readings.{Noted}
 use Rattle.history_laws.specs.Transmissions.{FirstSending, bears_token}
-use Rattle.history_laws.specs.Exchanges.{Begun, begun, goes_to, openings, is_going, is_waiting, waits_for}
-use Rattle.history_laws.proofs.CallerLemmas.{all-more, and-left, at-keeps, begun-keeps, contains-later, entries-length, eqb-itself}
-use Rattle.history_links.specs.Agrees.{rank, IsWaitingFor, Agrees}
-use Rattle.history_links.proofs.CallerLemmas.{ends-sent, next-follows, rank-apart, rank-below, rank-keeps, send-elsewhere, sent, waits-sent}
+use Rattle.history_laws.specs.Exchanges.{Begun, begun, goes_to, openings, is_going, is_waiting, waits_for, rank}
+use Rattle.history_laws.specs.Justified.{Legal}
+use Rattle.history_laws.proofs.CallerLemmas.{all-more, and-left, at-keeps, begun-keeps, contains-later, entries-length, eqb-itself, issued-same, rank-below, rank-keeps, replies-stay, waiting-goes}
+use Rattle.history_links.specs.Agrees.{IsWaitingFor, Agrees}
+use Rattle.history_links.proofs.CallerLemmas.{ends-sent, next-follows, send-elsewhere, sent, sent-quiet, waits-sent}
 use Rattle.exchange_model.specs.declared.kept.Exchange.{Exchange}
 use Rattle.exchange_model.specs.State.{link_of}
 use Rattle.exchange_model.specs.Reads.{ExchangeIn, WaitsUnder, opening_of}
@@ -29,24 +30,9 @@ use Rattle.exchange_model.specs.Steps.{given_out, is_under, went_out}
 use Rattle.exchange_model.specs.Laws.{FirstLeads}
 use Rattle.exchange_model.proofs.Begins.{waits-with}
 use Rattle.exchange_model.proofs.Lists.{all-map, all-both}
+use Rattle.exchange_model.proofs.Opened.{OpenIn, one-rank, open-ones}
 use Rattle.exchange_model.proofs.Silent.{later-than, link-before}
 use Rattle.exchange_model.proofs.Tables.{given-agrees, exchange-stays, all-links}
-
--- Two openings with one rank are one.
-pub one-rank : (l : List Noted) (o q : ℕ) (b c : Begun) → begun l o ≡ Some b → begun l q ≡ Some c → rank l o ≡ rank l q → o ≡ q
-one-rank l o q b c e f same = elim (eqb_tells o q) [
-  | inl w ↦ w.1
-  | inr w ↦ elim (less o q w.1) [
-    | inl lt ↦ let apart = rank-apart l o q b c e f lt in absurd (omega (arith, apart, same))
-    | inr lt ↦ let apart = rank-apart l q o c b f e lt in absurd (omega (arith, apart, same))
-  ]
-]
-  where
-    less : (a b : ℕ) → (a ≡ b → ⊥) → (a < b) ⊎ (b < a)
-    less a b apart = elim (cases_lt a b) [
-      | inl lt ↦ inl lt
-      | inr ge ↦ elim (cases_lt b a) [ inl lt ↦ inr lt | inr le ↦ absurd (apart (omega (arith, ge, le))) ]
-    ]
 
 keys-kept : (token : List ℕ) (i : ℕ) (es : List Exchange) → map opening_of es ≡ map opening_of (map (went_out token i) es)
 keys-kept token i [] = refl
@@ -58,11 +44,11 @@ keys-kept token i (e ∷ es) = rw (← keys-kept token i es) (ap (λ (o : ℕ). 
 
 -- what is kept of an exchange after it
 mine : (l : List Noted) (t : ℕ) (p : Peer) (bytes : List ℕ) (timeout : Option ℕ) (o : ℕ) (m : Content) (w : Waiting)
-    → is_waiting l p o ≡ true → (a : IsWaitingFor l o w) → m.token ≡ w.token → (e : Exchange) → ExchangeIn l e → (e.peer ≡ p → token_number w.token ≡ token_number e.token → w.token ≡ e.token)
+    → Legal l → is_waiting l p o ≡ true → (a : IsWaitingFor l o w) → m.token ≡ w.token → (e : Exchange) → ExchangeIn l e → is_going l e.opening ≡ true → (e.peer ≡ p → token_number w.token ≡ token_number e.token → w.token ≡ e.token)
     → (b : Bool) → bytes_eq e.token w.token ≡ b → ExchangeIn (sent t p bytes timeout o m ∷ l) (cond b (record e { sending = Some (length l) }) e)
-mine l t p bytes timeout o m w waits a token e h under true is =
+mine l t p bytes timeout o m w legal waits a token e h goes_on under true is =
     let same : e.token ≡ w.token = (bytes_eq-Decides e.token w.token).0 is in
-    let at : o ≡ e.opening = one-rank l o e.opening _ _ a.opening h.opening (sym a.numbered ∙ (ap token_number (sym same) ∙ sym h.number)) in
+    let at : o ≡ e.opening = one-rank l o e.opening _ _ legal a.opening h.opening (ap is_none (waiting-goes l p o waits)) goes_on (sym a.numbered ∙ (ap token_number (sym same) ∙ sym h.number)) in
     let x = sent t p bytes timeout o m in
     let f : FirstSending = record { number = length l; moment = t; opening = o; peer = p; message = m } in
     let goes : goes_to p (begun l e.opening) ≡ true = subst (λ (k : ℕ). goes_to p (begun l k) ≡ true) at (and-left (goes_to p (begun l o)) _ waits) in
@@ -72,13 +58,13 @@ mine l t p bytes timeout o m w waits a token e h under true is =
       opening = begun-keeps x l e.opening _ h.opening;
       peer = h.peer;
       method = h.method;
-      number = rank-keeps x l e.opening _ h.opening ∙ h.number;
+      number = rank-keeps x l e.opening _ h.opening (replies-stay (length l) _ _ (sent-quiet l t p bytes timeout o m e.opening)) ∙ h.number;
       sending = waits-sent l t p bytes timeout o m e.opening ∙ ap (λ (k : ℕ). cond (eqb o k) (Some (length l)) (waits_for l k)) (sym at) ∙ rw (eqb-itself o) refl;
       sent = (f, rw (eqb-itself (length l)) refl, sym (same_peer-same h.request.peer p peer) ∙ h.peer, token ∙ sym same);
       ask = h.ask;
       stands = at-keeps x l e.opening _ h.stands;
     }
-mine l t p bytes timeout o m w waits a token e h under false is =
+mine l t p bytes timeout o m w legal waits a token e h goes_on under false is =
     let x = sent t p bytes timeout o m in
     exchange-stays x l e unborne (waits-sent l t p bytes timeout o m e.opening ∙ rw (other) refl) h
   where
@@ -117,7 +103,7 @@ first-leads l t p w ws S b q small few free is =
     let n = x ∷ l in
     let s = given_out (with_outstanding (link_of S.links p) ws v) in
     let here : length S.entries ≡ length l = ap length (sym r.entries_are) ∙ entries-length l in
-    let kept = all-both (ExchangeIn l) _ S.exchanges r.exchanges_are r.waiting_are in (
+    let kept = all-both (OpenIn l) _ S.exchanges (open-ones l S r) r.waiting_are in (
       o,
       m,
       record {
@@ -128,13 +114,13 @@ first-leads l t p w ws S b q small few free is =
           sealed_is = r.sealed_is;
           moment_is = refl;
           opened_are = r.opened_are;
-          issued_are = r.issued_are;
+          issued_are = issued-same x l refl (λ k goes. sent-quiet l t p v.datagram (Some v.timeout) o m k) ∙ r.issued_are;
           conns_are = r.conns_are;
           keys = filter_agree (is_going n) (is_going l) (λ k. ap is_none (ends-sent l t p v.datagram (Some v.timeout) o m k)) (openings l) ∙ (r.keys ∙ keys-kept w.token (length S.entries) S.exchanges);
           exchanges_are = subst (λ (k : ℕ). AllByRecursion (ExchangeIn n) (map (went_out w.token k) S.exchanges)) (sym here)
               (all-map (went_out w.token (length l)) (ExchangeIn n) S.exchanges
-              (all-more _ _ (λ e h. mine l t p v.datagram (Some v.timeout) o m w made.2 made.3 made.4 e h.0 (first-waits e h.1) (bytes_eq e.token w.token) refl) S.exchanges kept));
-          tokens_are = (let less = rank-below l o _ made.3.opening in let number = made.3.numbered in let issued = r.issued_are in let token = ap token_number made.4 in omega (arith, less, number, issued, token), r.tokens_are);
+              (all-more _ _ (λ e h. mine l t p v.datagram (Some v.timeout) o m w r.legal made.2 made.3 made.4 e h.0.0 h.0.1 (first-waits e h.1) (bytes_eq e.token w.token) refl) S.exchanges kept));
+          tokens_are = (let less = rank-below l o _ r.legal made.3.opening (ap is_none (waiting-goes l p o made.2)) in let number = made.3.numbered in let issued = r.issued_are in let token = ap token_number made.4 in omega (arith, less, number, issued, token), r.tokens_are);
           waiting_are = waits-with p s S.links (map (went_out w.token (length S.entries)) S.exchanges)
               (all-map (went_out w.token (length S.entries)) _ S.exchanges (all-more _ _ (λ e h. fewer e h (is_under w.token e)) S.exchanges r.waiting_are))
               (all-map (went_out w.token (length S.entries)) _ S.exchanges (all-more _ _ (λ e h. same e h (is_under w.token e)) S.exchanges r.waiting_are));

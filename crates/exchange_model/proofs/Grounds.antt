@@ -5,12 +5,11 @@ use Rattle.ask_model.specs.Views.{Ask}
 use Rattle.ask_model.specs.declared.cause.Cause.TheVariants as C
 use Rattle.journal_book.specs.Entries.{Grounds, Live, Kept, Fault, Asks}
 use Rattle.history_laws.specs.Responses.{Response}
-use Rattle.history_laws.specs.Readings.{Noted, Begins, at, ticked}
+use Rattle.history_laws.specs.Readings.{Noted, Begins, at, ticked, noted}
 use Rattle.history_laws.specs.Progress.{Reply, numbers, Whole, NotUnderstood, Reset, TimedOut}
 use Rattle.history_laws.specs.Transmissions.{sent_last}
 use Rattle.history_laws.specs.Exchanges.{End, end_of}
 use Rattle.history_laws.specs.Justified.{Ends, HasGrounds, reads}
-use Rattle.history_laws.specs.Worked.{noted}
 use Rattle.exchange_model.specs.declared.kept.Exchange.{Exchange}
 
 -- the exchange ended so, and its latest first sending is named, or its ask where nothing was sent

@@ -19,10 +19,10 @@ use Rattle.history_laws.specs.Transmissions.{FirstSending, firsts, first_at, bea
 use Rattle.history_laws.specs.Exchanges.{begun, openings, is_going, open_exchanges, waits_for, awaited}
 use Rattle.history_laws.specs.Hearing.{went_under, answers}
 use Rattle.history_laws.specs.Justified.{Follows, Legal}
-use Rattle.history_laws.proofs.CallerLemmas.{all-filter, all-more, all-passes, any-of, begun-listed, entries-length, eqb-itself, filter-by, some-is}
+use Rattle.history_laws.proofs.CallerLemmas.{all-filter, all-more, all-passes, any-of, begun-listed, entries-length, eqb-itself, filter-by, issued-same, some-is}
 use Rattle.history_links.specs.Agrees.{Agrees}
 use Rattle.history_links.specs.Steps.{ended_token, heard_link, heard}
-use Rattle.history_links.proofs.CallerLemmas.{ends_what, going-after, hit, is_ended, judge, Judged, one-token, says-agrees, says-elsewhere, waits-after}
+use Rattle.history_links.proofs.CallerLemmas.{ends_what, going-after, hit, is_ended, judge, Judged, one-token, says-agrees, says-elsewhere, says-quiet, waits-after}
 use Rattle.exchange_model.specs.declared.kept.Exchange.{Exchange}
 use Rattle.exchange_model.specs.State.{link_of}
 use Rattle.exchange_model.specs.Reads.{IsSentUnder, ExchangeIn, WaitsUnder, opening_of}
@@ -209,7 +209,7 @@ hears-leads l t p d m S h spelled none room =
           sealed_is = r.sealed_is;
           moment_is = refl;
           opened_are = r.opened_are;
-          issued_are = r.issued_are;
+          issued_are = issued-same x l refl (says-quiet l t p d m (answers l p m)) ∙ r.issued_are;
           conns_are = r.conns_are;
           keys = open-after l t p s d m S.exchanges r.legal (r.links_are p) judged r.exchanges_are r.keys;
           exchanges_are = all-more _ (ExchangeIn (x ∷ l)) (kept-one l t p s d m r.legal (r.links_are p) judged) (filter other S.exchanges)

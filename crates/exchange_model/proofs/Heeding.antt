@@ -29,11 +29,11 @@ use Rattle.message_layer.specs.declared.state.Reply.{Reply}
 use Rattle.message_layer.specs.declared.state.Reply.TheVariants as R
 use Rattle.message_layer.specs.declared.verdict.News.{News}
 use Rattle.message_layer.specs.declared.verdict.News.TheVariants as N
-use Rattle.history_laws.specs.Readings.{Noted, Repeats, Garbled, newest, ticked}
+use Rattle.history_laws.specs.Readings.{Noted, Repeats, Garbled, newest, ticked, noted}
 use Rattle.history_laws.specs.Transmissions.{FirstSending, last_sent}
 use Rattle.history_laws.specs.Confirming.{owed}
 use Rattle.history_laws.specs.Hearing.{is_such, heard_before, repeated, can_be_remembered}
-use Rattle.history_laws.specs.Worked.{noted}
+use Rattle.history_laws.specs.Justified.{Legal}
 use Rattle.history_laws.proofs.CallerLemmas.{all-filter, all-more, all-of, and-left, and-right, any-of, contains-later, find-any, find-some, is-some}
 use Rattle.history_links.specs.Agrees.{due, Agrees}
 use Rattle.history_links.specs.Steps.{ended_token, heard_link, heard as heard_entry, reset}
@@ -49,7 +49,7 @@ use Rattle.exchange_model.specs.Calls.{next, given_back, ended_in, ends_if, take
 use Rattle.exchange_model.specs.Keeping.{HasMids, Kept, MayStep, HearsKeeps}
 use Rattle.exchange_model.proofs.Amid.{Amid, Moved, RestAt, IsEarly, next-moves, given-moves}
 use Rattle.exchange_model.proofs.Ending.{ServedWith, ends-told}
-use Rattle.exchange_model.proofs.Firsts.{one-rank}
+use Rattle.exchange_model.proofs.Opened.{OpenIn, one-rank, open-ones}
 use Rattle.exchange_model.proofs.Grounds.{IsOver, over-moves, both-go}
 use Rattle.exchange_model.proofs.Hearing.{hears-leads}
 use Rattle.exchange_model.proofs.Over.{heard-over}
@@ -188,9 +188,9 @@ is-bytes [] a = tt
 is-bytes (b ∷ d) a = (a.0, is-bytes d a.1)
 
 -- who waits, waits for what is open still, or for what has just ended
-served-part : (l : List Noted) (S : State) (ended : Option (List ℕ)) → AllByRecursion (ExchangeIn l) S.exchanges → (k : ℕ) → HasExchange S.exchanges k
+served-part : (l : List Noted) (S : State) (ended : Option (List ℕ)) → Legal l → AllByRecursion (OpenIn l) S.exchanges → (k : ℕ) → HasExchange S.exchanges k
     → HasExchange (filter (is_other ended) S.exchanges) k ⊎ HasExchange (over-list (ended_in ended S.exchanges)) k
-served-part l S ended all k h = elim (has-part (is_other ended) S.exchanges k h) [ inl w ↦ inl w | inr w ↦ inr (by ended w.0 w.1 w.2 w.3) ]
+served-part l S ended legal all k h = elim (has-part (is_other ended) S.exchanges k h) [ inl w ↦ inl w | inr w ↦ inr (by ended w.0 w.1 w.2 w.3) ]
   where
     by : (of : Option (List ℕ)) (e : Exchange) → Contains S.exchanges e → is_other of e ≡ false → e.opening ≡ k → HasExchange (over-list (ended_in of S.exchanges)) k
     by None e has is at = absurd (false≢true (sym is))
@@ -203,10 +203,10 @@ served-part l S ended all k h = elim (has-part (is_other ended) S.exchanges k h)
         found None f = absurd (find-none (is_under token) S.exchanges e f has under)
         found (Some g) f =
             let first = find-some (is_under token) S.exchanges g f in
-            let mine = all-of (ExchangeIn l) S.exchanges e all has in
-            let its = all-of (ExchangeIn l) S.exchanges g all first.0 in
+            let mine = all-of (OpenIn l) S.exchanges e all has in
+            let its = all-of (OpenIn l) S.exchanges g all first.0 in
             let same : g.token ≡ e.token = (bytes_eq-Decides g.token token).0 first.1 ∙ sym ((bytes_eq-Decides e.token token).0 under) in
-            inl (one-rank l g.opening e.opening _ _ its.opening mine.opening (its.number ∙ (ap token_number same ∙ sym mine.number)) ∙ at)
+            inl (one-rank l g.opening e.opening _ _ legal its.0.opening mine.0.opening its.1 mine.1 (its.0.number ∙ (ap token_number same ∙ sym mine.0.number)) ∙ at)
 
 early-after : (tick : ℕ) (ends : Bool) (v : Option Outstanding) (ws : List Waiting) (o : Outstanding) → IsUndue tick v ws → cond ends None v ≡ Some o → tick < due_of o
 early-after tick true v ws o h e = cc
@@ -253,7 +253,7 @@ new-keeps t p d mess S m h spelled none room =
     still : (es : List Exchange) (v : Option ℕ) → ((k : ℕ) → HasExchange (filter (is_other (ended_token (verdict_of t (link_of S.links p) mess).news mess.token)) S.exchanges) k → HasExchange es k)
         → IsServed S.exchanges v → IsServed es v ⊎ IsServed (over-list (ended_in (ended_token (verdict_of t (link_of S.links p) mess).news mess.token) S.exchanges)) v
     still es None has h = inl tt
-    still es (Some k) has h = elim (served-part m.kept.reading S (ended_token (verdict_of t (link_of S.links p) mess).news mess.token) m.kept.rests.reads.exchanges_are k h) [
+    still es (Some k) has h = elim (served-part m.kept.reading S (ended_token (verdict_of t (link_of S.links p) mess).news mess.token) m.kept.rests.reads.legal (open-ones m.kept.reading S m.kept.rests.reads) k h) [
       | inl w ↦ inl (has k w)
       | inr w ↦ inr w
     ]

@@ -25,7 +25,7 @@ use Rattle.exchange_model.specs.Sealing.{late, IsPrompt, ArePrompt}
 use Rattle.exchange_model.proofs.ConnsTell.{conns-tell}
 use Rattle.exchange_model.proofs.Ending.{all-conns, reader-is, found-conn, none-waits}
 use Rattle.exchange_model.proofs.Lists.{all-map, all-both}
-use Rattle.exchange_model.proofs.Resting.{OpenIn, open-ones}
+use Rattle.exchange_model.proofs.Opened.{OpenIn, open-ones}
 use Rattle.exchange_model.proofs.Silent.{answers-leads}
 use Rattle.exchange_model.proofs.TimingOut.{sent-alike}
 

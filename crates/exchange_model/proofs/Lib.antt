@@ -1,5 +1,6 @@
 pub mod CallerLemmas
 mod Lists
+mod Opened
 mod Tables
 mod Silent
 mod Quiet

@@ -4,8 +4,7 @@ use Rattle.std.specs.List.{AllByRecursion, range_with_len}
 use Rattle.history_laws.specs.Readings.{Noted}
 use Rattle.history_laws.specs.Connections.{is_open, opened}
 use Rattle.history_laws.specs.Sealing as H
-use Rattle.history_laws.proofs.CallerLemmas.{all-filter}
-use Rattle.history_links.proofs.CallerLemmas.{Rising, rising-filter}
+use Rattle.history_laws.proofs.CallerLemmas.{all-filter, Rising, rising-filter}
 use Rattle.exchange_model.specs.declared.kept.Conn.{Conn}
 use Rattle.exchange_model.specs.State.{State}
 use Rattle.exchange_model.specs.Reads.{Reads}

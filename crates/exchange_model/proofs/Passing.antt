@@ -1,5 +1,5 @@
 -- A tick ends what took too long.
-use Rattle.std.proofs.Common.{◌≡◌, ℕ, Bool, true, false, cond, List, [], ◌∷◌, ◌++◌, map, Option, Some, None, refl, sym, ap, subst, ◌∙◌}
+use Rattle.std.proofs.Common.{◌≡◌, ℕ, Bool, true, false, cond, List, [], ◌∷◌, ◌++◌, map, Option, Some, None, is_some, refl, sym, ap, subst, ◌∙◌}
 use Rattle.std.specs.Prelude.{filter, not, is_none, ◌&&◌}
 use Rattle.std.specs.List.{AllByRecursion, Contains}
 use Rattle.std.proofs.lemmas.Bool.{not-true}
@@ -10,15 +10,14 @@ use Rattle.uri_map.proofs.CallerLemmas.{same_peer-same}
 use Rattle.journal_book.specs.Entries.{Passes, Written}
 use Rattle.message_layer.specs.Values.{LinkState}
 use Rattle.message_layer.specs.declared.state.Waiting.{Waiting}
-use Rattle.history_laws.specs.Readings.{Noted, Plain}
-use Rattle.history_laws.specs.Exchanges.{Begun, begun, is_late, expires as ends_at, waits_for, goes_to, is_going, is_waiting, waiting, openings, open_exchanges}
+use Rattle.history_laws.specs.Readings.{Noted, Plain, noted}
+use Rattle.history_laws.specs.Exchanges.{Begun, begun, is_late, expires as ends_at, waits_for, goes_to, is_going, is_waiting, waiting, rank, openings, open_exchanges}
 use Rattle.history_laws.specs.Hearing.{went_under}
 use Rattle.history_laws.specs.Transmissions.{FirstSending, first_at}
-use Rattle.history_laws.specs.Worked.{noted}
-use Rattle.history_laws.proofs.CallerLemmas.{all-filter, all-more, all-of, all-passes, and-left, contains-filter, filter-by, filtered-from, some-is}
-use Rattle.history_links.specs.Agrees.{rank, IsWaitingFor, WaitIn, Agrees}
+use Rattle.history_laws.proofs.CallerLemmas.{all-filter, all-more, all-of, all-passes, and-left, filter-by, filtered-from, issued-same, open-exactly, some-is, waiting-all, waiting-begun, waiting-goes, waiting-unsent}
+use Rattle.history_links.specs.Agrees.{IsWaitingFor, WaitIn, Agrees}
 use Rattle.history_links.specs.Steps.{passed_link, EndWaiting, EndTokens}
-use Rattle.history_links.proofs.CallerLemmas.{going-passed, pass-agrees, token-found, waiting-goes, waiting-unsent, waits-passed}
+use Rattle.history_links.proofs.CallerLemmas.{going-passed, pass-agrees, passed-quiet, token-found, waits-passed}
 use Rattle.exchange_model.specs.declared.kept.Exchange.{Exchange}
 use Rattle.exchange_model.specs.State.{PeerLink, State, link_of}
 use Rattle.exchange_model.specs.Reads.{IsSentUnder, ExchangeIn, WaitsUnder, opening_of, Reads}
@@ -83,16 +82,17 @@ awaited-ends l t S p r o i token waits under =
 waiting-ends : (l : List Noted) (t : ℕ) (S : State) (p : Peer) → Reads l S → (o : ℕ) (w : Waiting) → Contains (waiting l p) o → Contains (link_of S.links p).waiting w
     → IsWaitingFor l o w → is_late t (begun l o) ≡ is_gone t S w.token
 waiting-ends l t S p r o w ho hw a =
-    let waits = filtered-from (is_waiting l p) (openings l) o ho in
-    let k = kept-at l S o r (contains-filter (is_going l) (openings l) o waits.0 (ap is_none (waiting-goes l p o waits.1))) in
+    let waits = all-of (λ (q : ℕ). is_waiting l p q ≡ true) (waiting l p) o (waiting-all l p) ho in
+    let b = waiting-begun l p o waits in
+    let k = kept-at l S o r ((open-exactly l o).1 (ap is_some b.1, waiting-goes l p o waits)) in
     let e = k.0 in
     let opening : begun l o ≡ Some (record { since = e.since; request = k.3.request }) = subst (λ (q : ℕ). begun l q ≡ Some (record { since = e.since; request = k.3.request })) k.2 k.3.opening in
-    let goes : same_peer k.3.request.peer p ≡ true = subst (λ (b : Option Begun). goes_to p b ≡ true) opening (and-left (goes_to p (begun l o)) _ waits.1) in
+    let goes : same_peer k.3.request.peer p ≡ true = subst (λ (b : Option Begun). goes_to p b ≡ true) opening (and-left (goes_to p (begun l o)) _ waits) in
     let peer : e.peer ≡ p = sym k.3.peer ∙ same_peer-same k.3.request.peer p goes in
     let under : WaitsUnder (link_of S.links p).waiting e =
     subst (λ (q : Peer). WaitsUnder (link_of S.links q).waiting e) peer (all-of (λ (x : Exchange). WaitsUnder (link_of S.links x.peer).waiting x) S.exchanges e r.waiting_are k.1) in
     let tokens = under w hw (a.numbered ∙ (ap (rank l) (sym k.2) ∙ k.3.number)) in
-    ap (ends_at l o t) (sym (waiting-unsent l p o waits.1)) ∙ gone-of l t S e o w.token r k.1 k.2 (sym tokens)
+    ap (ends_at l o t) (sym (waiting-unsent l p o waits)) ∙ gone-of l t S e o w.token r k.1 k.2 (sym tokens)
 
 all-end : (l : List Noted) (t : ℕ) (gone : List ℕ → Bool) (P : ℕ → Type 0) (Q : Waiting → Type 0)
     → ((o : ℕ) (w : Waiting) → P o → Q w → IsWaitingFor l o w → is_late t (begun l o) ≡ gone w.token)
@@ -131,7 +131,7 @@ passes-leads l t S b may =
         sealed_is = r.sealed_is;
         moment_is = refl;
         opened_are = r.opened_are;
-        issued_are = r.issued_are;
+        issued_are = issued-same (ticked_at t) l refl (λ o goes. passed-quiet l t o) ∙ r.issued_are;
         conns_are = r.conns_are;
         keys = open-passed l t S r;
         exchanges_are = all-more _ (ExchangeIn n) (exchange-kept l t S r) kept

@@ -13,7 +13,7 @@ use Rattle.history_laws.specs.Connections.{is_open, opened}
 use Rattle.history_laws.specs.Transmissions.{FirstSending, firsts, Transmission, transmission, due, outstanding}
 use Rattle.history_laws.specs.Exchanges.{begun, waits_for, openings, is_going, open_exchanges, is_waiting, waiting}
 use Rattle.history_laws.specs.Justified.{pending, reads, reads_open, is_in_hand, finds_outstanding, is_under_way, is_early, is_done, is_in_time}
-use Rattle.history_laws.proofs.CallerLemmas.{all-more, all-passes, begun-listed, contains-filter, contains-none, none-some, outstanding-last, some-is}
+use Rattle.history_laws.proofs.CallerLemmas.{all-more, contains-none, none-some, outstanding-last, some-is, waiting-has}
 use Rattle.history_links.specs.Agrees.{way_of, TurnIn, WaitIn}
 use Rattle.history_links.proofs.CallerLemmas.{all-there, is-first, IsThere}
 use Rattle.exchange_model.specs.declared.kept.Conn.{Conn}
@@ -23,16 +23,7 @@ use Rattle.exchange_model.specs.Reads.{ExchangeIn, opening_of, Reads}
 use Rattle.exchange_model.specs.Resting.{IsUndue, HasExchange, IsServed, HasConn, Rests, RestsAtRest}
 use Rattle.exchange_model.proofs.Lists.{all-mapped, all-map, all-both, all-pass, every-passes}
 use Rattle.exchange_model.proofs.ConnsTell.{conns-tell}
-
--- an exchange that is kept, and is open
-abbrev pub OpenIn : List Noted → Exchange → Type 0
-OpenIn l e = ExchangeIn l e × (is_going l e.opening ≡ true)
-
-pub open-ones : (l : List Noted) (S : State) → Reads l S → AllByRecursion (OpenIn l) S.exchanges
-open-ones l S r =
-    let going = subst (AllByRecursion (λ (o : ℕ). is_going l o ≡ true)) r.keys (all-passes (is_going l) (openings l)) in
-    all-both (ExchangeIn l) (λ (e : Exchange). is_going l e.opening ≡ true) S.exchanges r.exchanges_are
-    (all-mapped opening_of (λ (o : ℕ). is_going l o ≡ true) S.exchanges going)
+use Rattle.exchange_model.proofs.Opened.{OpenIn, open-ones}
 
 -- a test that each of them passes
 open-pass : (l : List Noted) (S : State) (q : ℕ → Bool) → Reads l S → AllByRecursion (λ (e : Exchange). q e.opening ≡ true) S.exchanges
@@ -94,9 +85,7 @@ under-way : (l : List Noted) (S : State) (e : Exchange) → Rests l S → OpenIn
 under-way l S e r h = by (waits_for l e.opening) refl
   where
     waits-here : waits_for l e.opening ≡ None → Contains (waiting l h.0.request.peer) e.opening
-    waits-here w =
-        contains-filter (is_waiting l h.0.request.peer) (openings l) e.opening (begun-listed l e.opening (ap is_some h.0.opening))
-        (rw (h.0.opening, same_peer-itself h.0.request.peer, h.1, w) refl)
+    waits-here w = waiting-has l h.0.request.peer e.opening r.reads.legal (rw (h.0.opening, same_peer-itself h.0.request.peer, h.1, w) refl)
 
     by : (w : Option ℕ) → waits_for l e.opening ≡ w → (is_some w || finds_outstanding l (begun l e.opening)) ≡ true
     by (Some i) w = refl

@@ -2,9 +2,8 @@
 use Rattle.std.proofs.Common.{ℕ, ◌≤◌, List, ◌∷◌, refl, sym, subst}
 use Rattle.uri_map.specs.declared.peer.Peer.{Peer}
 use Rattle.journal_book.specs.Entries.{Deed, Opens, Answers, Shuts, Seals}
-use Rattle.history_laws.specs.Readings.{Noted, Note, Plain, newest}
+use Rattle.history_laws.specs.Readings.{Noted, Note, Plain, newest, noted}
 use Rattle.history_laws.specs.Justified.{Follows}
-use Rattle.history_laws.specs.Worked.{noted}
 use Rattle.history_links.specs.Steps.{IsSilent, Before as LinkBefore}
 use Rattle.history_links.proofs.CallerLemmas.{silent-agrees, still}
 use Rattle.exchange_model.specs.State.{State, link_of}

@@ -21,11 +21,10 @@ use Rattle.message_layer.specs.Mids.{is_in_use}
 use Rattle.message_layer.specs.Sending.{due_of, mids_in_use, waits, queued}
 use Rattle.message_layer.specs.declared.state.Outstanding.{Outstanding}
 use Rattle.message_layer.specs.declared.state.Waiting.{Waiting}
-use Rattle.history_laws.specs.Readings.{Noted, Plain, Begins, at, ticked}
+use Rattle.history_laws.specs.Readings.{Noted, Plain, Begins, at, ticked, noted}
 use Rattle.history_laws.specs.Connections.{is_open, asks_of, answers_of}
 use Rattle.history_laws.specs.Hearing.{has_room}
 use Rattle.history_laws.specs.Justified.{AskNote, Caused, IsRefused, MayCome, pending}
-use Rattle.history_laws.specs.Worked.{noted}
 use Rattle.history_laws.proofs.CallerLemmas.{all-filter, all-more, all-push, and-right, at-new, entries-length, eqb-itself}
 use Rattle.history_links.specs.Agrees.{WaitIn}
 use Rattle.exchange_model.specs.declared.kept.Conn.{Conn}

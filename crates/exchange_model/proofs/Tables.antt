@@ -8,15 +8,14 @@ use Rattle.uri_map.specs.Peers.{same_peer}
 use Rattle.uri_map.proofs.CallerLemmas.{same_peer-same, same_peer-itself}
 use Rattle.journal_book.specs.Entries.{Deed, Sends, Written}
 use Rattle.message_layer.specs.Values.{LinkState}
-use Rattle.history_laws.specs.Readings.{Noted, Note, First, entries, newest}
+use Rattle.history_laws.specs.Readings.{Noted, Note, First, entries, newest, noted}
 use Rattle.history_laws.specs.Connections.{sealed_by, opened_by}
 use Rattle.history_laws.specs.Transmissions.{FirstSending, firsts_by, firsts, first_at, bears_token}
 use Rattle.history_laws.specs.Exchanges.{openings, waits_for, is_going, open_exchanges}
 use Rattle.history_laws.specs.Justified.{Follows}
-use Rattle.history_laws.specs.Worked.{noted}
-use Rattle.history_laws.proofs.CallerLemmas.{all-more, at-keeps, begun-keeps, entries-length, first-stands, IsFirst-below}
+use Rattle.history_laws.proofs.CallerLemmas.{all-more, at-keeps, awaiting-stays, begun-keeps, entries-length, first-stands, IsFirst-below, rank-keeps}
 use Rattle.history_links.specs.Agrees.{Agrees}
-use Rattle.history_links.proofs.CallerLemmas.{first_at-still, rank-keeps, Still}
+use Rattle.history_links.proofs.CallerLemmas.{first_at-still, Still}
 use Rattle.exchange_model.specs.declared.kept.Exchange.{Exchange}
 use Rattle.exchange_model.specs.State.{PeerLink, State, link_of, with_link, conns_after}
 use Rattle.exchange_model.specs.Steps.{given_out}
@@ -52,7 +51,7 @@ exchange-stays x l e unborne same a = record {
   opening = begun-keeps x l e.opening _ a.opening;
   peer = a.peer;
   method = a.method;
-  number = rank-keeps x l e.opening _ a.opening ∙ a.number;
+  number = rank-keeps x l e.opening _ a.opening (awaiting-stays x l e.opening same) ∙ a.number;
   sending = same ∙ a.sending;
   sent = under-stays x l e.peer e.token e.sending unborne a.sent;
   ask = a.ask;
@@ -100,7 +99,7 @@ still-reads l t d note S links r later follows still waiting agrees =
       sealed_is = ap (sealed_by d) r.sealed_is;
       moment_is = refl;
       opened_are = ap (opened_by d) r.opened_are;
-      issued_are = ap length still.openings_are ∙ r.issued_are;
+      issued_are = still.issued_are ∙ r.issued_are;
       conns_are = rw (r.conns_are, sym (entries-length l), r.entries_are) refl;
       keys = open-still l n still ∙ r.keys;
       exchanges_are = all-more (ExchangeIn l) (ExchangeIn n) (exchange-still l n still) S.exchanges r.exchanges_are;

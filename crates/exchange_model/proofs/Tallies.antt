@@ -10,12 +10,11 @@ use Rattle.uri_map.specs.declared.peer.Peer.{Peer}
 use Rattle.uri_map.specs.Peers.{same_peer}
 use Rattle.journal_book.specs.Entries.{Deed, Opens, Asks, Answers, Shuts}
 use Rattle.message_layer.specs.declared.state.Outstanding.{Outstanding}
-use Rattle.history_laws.specs.Readings.{Noted, Note}
+use Rattle.history_laws.specs.Readings.{Noted, Note, noted}
 use Rattle.history_laws.specs.Connections.{is_open, asks_of, answers_of, opened}
 use Rattle.history_laws.specs.Transmissions.{FirstSending, firsts, is_outstanding, if_outstanding, last_sent}
 use Rattle.history_laws.specs.Sealing as H
 use Rattle.history_laws.specs.Justified.{Follows, Legal}
-use Rattle.history_laws.specs.Worked.{noted}
 use Rattle.history_laws.proofs.CallerLemmas.{all-more, any-of, eqb-itself, filter-by, find-some}
 use Rattle.history_links.specs.Agrees.{TurnIn}
 use Rattle.exchange_model.specs.declared.kept.Conn.{Conn}
@@ -66,8 +65,8 @@ ids-step l t (Opens c) note may ih =
     (all-more (λ (k : ℕ). k < n) _ (λ k lt. older c n here k lt) (range_with_len 0 n)
     (range-below 0 n n (omega arith))) in
     let last : filter now (n ∷ []) ≡ n ∷ [] = rw (here, eqb-itself n) refl in
-    let next : n + 1 ≡ suc n = omega arith in
-    let on : range_with_len 0 (n + 1) ≡ range_with_len 0 n ++ n ∷ [] =
+    let next : c + 1 ≡ suc n = omega (arith, here) in
+    let on : range_with_len 0 (c + 1) ≡ range_with_len 0 n ++ n ∷ [] =
     ap (range_with_len 0) next ∙ range-more 0 n n (omega arith) in
     map-append id_of (conns_of l) (record { id = c; pending = None } ∷ [])
     ∙ ap (λ (ks : List ℕ). ks ++ c ∷ []) ih

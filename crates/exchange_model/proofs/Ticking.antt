@@ -13,10 +13,9 @@ use Rattle.journal_book.specs.Entries.{Passes, Fault}
 use Rattle.message_layer.specs.Values.{LinkState, empty_link}
 use Rattle.message_layer.specs.declared.state.Outstanding.{Outstanding}
 use Rattle.message_layer.specs.declared.state.Waiting.{Waiting}
-use Rattle.history_laws.specs.Readings.{Noted, Plain, ticked as at_tick}
+use Rattle.history_laws.specs.Readings.{Noted, Plain, ticked as at_tick, noted}
 use Rattle.history_laws.specs.Confirming.{owed}
 use Rattle.history_laws.specs.Exchanges.{end_of}
-use Rattle.history_laws.specs.Worked.{noted}
 use Rattle.history_laws.proofs.CallerLemmas.{all-filter, all-more, all-passes, none-of}
 use Rattle.history_links.specs.Steps.{is_over, passed_link}
 use Rattle.exchange_model.specs.declared.kept.Conn.{Conn}
@@ -35,7 +34,8 @@ use Rattle.exchange_model.proofs.Lists.{all-both}
 use Rattle.exchange_model.proofs.Moving.{not-due, is_among, Ready, all-moved}
 use Rattle.exchange_model.proofs.TimingOut.{passed-over}
 use Rattle.exchange_model.proofs.Passing.{link-passed, passes-leads}
-use Rattle.exchange_model.proofs.Resting.{OpenIn, open-ones, rests-at-rest}
+use Rattle.exchange_model.proofs.Opened.{OpenIn, open-ones}
+use Rattle.exchange_model.proofs.Resting.{rests-at-rest}
 
 abbrev passed_by : ℕ → List Noted → List Noted
 passed_by t l = noted t Passes Plain ∷ l

@@ -4,12 +4,11 @@ use Rattle.std.specs.Prelude.{unwrap_or}
 use Rattle.std.proofs.lemmas.Bool.Decides.{eqb_tells}
 use Rattle.ask_model.specs.declared.cause.Cause.TheVariants as C
 use Rattle.journal_book.specs.Entries.{Deed, Sends, Hears, Passes, Fault}
-use Rattle.history_laws.specs.Readings.{Noted, Note, Plain, First, Says}
+use Rattle.history_laws.specs.Readings.{Noted, Note, Plain, First, Says, noted}
 use Rattle.history_laws.specs.Progress.{Ending, Reply, TimedOut}
 use Rattle.history_laws.specs.Transmissions.{sent_last}
 use Rattle.history_laws.specs.Exchanges.{Begun, begun, Turn, Nothing, Sent, Replied, Rejected, Expired, expires as ends_at, turn, waits_by, waits_for, replies, end_here, end_of}
 use Rattle.history_laws.specs.Justified.{Ends}
-use Rattle.history_laws.specs.Worked.{noted}
 use Rattle.history_laws.proofs.CallerLemmas.{at-keeps, first_end, replied-first, turn-sent}
 use Rattle.history_links.proofs.CallerLemmas.{none-by, unreplied}
 use Rattle.exchange_model.specs.declared.kept.Exchange.{Exchange}

@@ -14,14 +14,13 @@ use Rattle.message_layer.specs.Hearing.{verdict_of, reset_for}
 use Rattle.message_layer.specs.declared.state.Waiting.{Waiting}
 use Rattle.message_layer.specs.declared.state.Outstanding.{Outstanding}
 use Rattle.message_layer.specs.declared.verdict.Verdict.{Verdict}
-use Rattle.history_laws.specs.Readings.{Noted, Plain, Begins, Confirms, Repeats, Garbled, ticked}
+use Rattle.history_laws.specs.Readings.{Noted, Plain, Begins, Confirms, Repeats, Garbled, ticked, noted}
 use Rattle.history_laws.specs.Connections.{is_open, asks_of, answers_of}
 use Rattle.history_laws.specs.Transmissions.{mids_used, last_sent}
 use Rattle.history_laws.specs.Hearing.{repeated, can_be_remembered, has_room}
 use Rattle.history_laws.specs.Confirming.{owed}
 use Rattle.history_laws.specs.Sealing.{MaySeal}
 use Rattle.history_laws.specs.Justified.{HasGrounds, AskNote, pending, MayConfirm, MayCome, Follows}
-use Rattle.history_laws.specs.Worked.{noted}
 use Rattle.history_links.specs.Agrees.{due}
 use Rattle.history_links.specs.Steps.{MaySend, copy, first, heard, reset}
 use Rattle.exchange_model.specs.State.{State, link_of}

@@ -7,13 +7,12 @@ use Rattle.ask_model.specs.Views.{Ask}
 use Rattle.history_laws.specs.Numbering.{token_number}
 use Rattle.journal_book.specs.Entries.{Asks}
 use Rattle.message_layer.specs.declared.state.Waiting.{Waiting}
-use Rattle.history_laws.specs.Readings.{Noted, Begins, entries, at, newest}
+use Rattle.history_laws.specs.Readings.{Noted, Begins, entries, at, newest, noted}
 use Rattle.history_laws.specs.Connections.{is_sealed, opened}
 use Rattle.history_laws.specs.Transmissions.{FirstSending, firsts, first_at, bears_token}
-use Rattle.history_laws.specs.Exchanges.{begun, openings, waits_for, open_exchanges}
+use Rattle.history_laws.specs.Exchanges.{begun, issued, rank, waits_for, open_exchanges}
 use Rattle.history_laws.specs.Justified.{Legal}
-use Rattle.history_laws.specs.Worked.{noted}
-use Rattle.history_links.specs.Agrees.{rank, Agrees}
+use Rattle.history_links.specs.Agrees.{Agrees}
 use Rattle.exchange_model.specs.declared.kept.Conn.{Conn}
 use Rattle.exchange_model.specs.declared.kept.Exchange.{Exchange}
 use Rattle.exchange_model.specs.State.{State, link_of, conns_after}
@@ -56,7 +55,7 @@ pub record Reads (l : List Noted) (S : State) : Type 0 where
   pub sealed_is : is_sealed l ≡ S.sealed
   pub moment_is : newest l ≡ S.moment
   pub opened_are : opened l ≡ S.opened
-  pub issued_are : length (openings l) ≡ S.issued
+  pub issued_are : issued l ≡ S.issued
   pub conns_are : conns_of l ≡ S.conns
   pub keys : open_exchanges l ≡ map opening_of S.exchanges
   pub exchanges_are : AllByRecursion (ExchangeIn l) S.exchanges

@@ -5,11 +5,10 @@ use Rattle.limits.specs.declared.TheConstants.{MESSAGE_ID_LIFETIME}
 use Rattle.coap_codec.specs.Spelling.{Content}
 use Rattle.uri_map.specs.declared.peer.Peer.{Peer}
 use Rattle.journal_book.specs.Entries.{Grounds, Live, Deed, Asks, Sends, Hears, Answers, Written}
-use Rattle.history_laws.specs.Readings.{Noted, First, Says, Notice, entries, at}
+use Rattle.history_laws.specs.Readings.{Noted, First, Says, Notice, entries, at, noted}
 use Rattle.history_laws.specs.Connections.{asks_by, asks_of, answers_by, answers_of}
 use Rattle.history_laws.specs.Justified.{Stands}
 use Rattle.history_laws.specs.Laws.{IsFirst, IsAnswer, RestsOn}
-use Rattle.history_laws.specs.Worked.{noted}
 use Rattle.history_laws.proofs.CallerLemmas.{answered-in-order, answered-once, at-same, entries-length, ids-apart, rests-on-its-own, tokens-apart}
 use Rattle.history_claims.specs.Headline.{IsEntry, IsFirstSending}
 use Rattle.history_claims.specs.Apart.{asked_by, asked, answered_by, answered}

@@ -15,13 +15,12 @@ use Rattle.journal_book.specs.Entries.{Fault, Answers, Hears, Passes, Written}
 use Rattle.history_laws.specs.Responses.{is_whole, whole_of}
 use Rattle.history_laws.specs.Confirmations.{empty}
 use Rattle.history_laws.specs.Connections.{is_open}
-use Rattle.history_laws.specs.Readings.{Noted, Note, Plain, Says, entries, at, before}
+use Rattle.history_laws.specs.Readings.{Noted, Note, Plain, Says, entries, at, before, noted}
 use Rattle.history_laws.specs.Progress.{Reply, NotUnderstood, Reset, TimedOut}
 use Rattle.history_laws.specs.Transmissions.{Transmission, given_up, transmission, sent_last}
 use Rattle.history_laws.specs.Exchanges.{Begun, begun, late_by, is_late, Expired, expires, turn, waits_for, replies, end_here}
 use Rattle.history_laws.specs.Justified.{IsAsk, IsTurnedAway as WasTurnedAway, IsRefused as WasRefused, IsOverdue, Caused, Ends, reads, pending, Follows, MayCome, Legal, Stands}
 use Rattle.history_laws.specs.Laws.{IsFirst}
-use Rattle.history_laws.specs.Worked.{noted}
 use Rattle.history_laws.proofs.CallerLemmas.{at-before, at-below, at-newest, at-same, at-still, before-twice, begun-before, ends-first, follows-at, legal-before, length-before, none-after-end, reads-own, replies-fit, sent-for, sent-once, some-is, turn-replied, waits-first}
 use Rattle.history_claims.specs.Headline.{IsEntry, IsSentFor, IsHeard, IsUnanswered, IsUnsettled, IsUnsent, IsTurnedAway, IsTimedOut, IsGivenUp, IsReset, IsNotUnderstood, IsRefused, IsCausedBy}
 use Rattle.history_claims.proofs.Entries.{entries-at, newest-before}

@@ -15,14 +15,13 @@ use Rattle.ask_model.specs.Requests.{CoapRequest, Sense, Requests, Refuses}
 use Rattle.ask_model.specs.Views.{Ask}
 use Rattle.uri_map.proofs.CallerLemmas.{same_peer-same}
 use Rattle.journal_book.specs.Entries.{Grounds, Live, Kept, Fault, Deed, Sends, Asks, Passes}
-use Rattle.history_laws.specs.Readings.{Noted, Note, Plain, Begins, First, entries, at, before}
+use Rattle.history_laws.specs.Readings.{Noted, Note, Plain, Begins, First, entries, at, before, noted}
 use Rattle.history_laws.specs.Connections.{is_sealed}
 use Rattle.history_laws.specs.Transmissions.{FirstSending, firsts_by, firsts, is_recent, mids_used}
 use Rattle.history_laws.specs.Progress.{TimedOut}
 use Rattle.history_laws.specs.Exchanges.{Begun, begun, Turn, Expired, turn, expires, is_late, replies, end_here, opens_by, opened_by, openings, is_going, open_exchanges, goes_to, is_waiting, waiting as waiting_at, waits_for}
 use Rattle.history_laws.specs.Hearing.{has_room}
 use Rattle.history_laws.specs.Justified.{IsRefused, Caused, HasGrounds, AskNote, Follows, Legal}
-use Rattle.history_laws.specs.Worked.{noted}
 use Rattle.history_laws.proofs.CallerLemmas.{asked-for, at-before, at-same, at-still, before-twice, begun-before, begun-below, begun-opening, contains-mapped, filtered-from, firsts-stand, follows-at, is-some, IsFirst-below, length-before, listed-begun, opening-begun, reads-own}
 use Rattle.history_claims.specs.Headline.{AreApart, AreMany, IsPending, IsPendingAt, IsRecent, IsCrowded, exchanges, waiting, ids}
 use Rattle.history_claims.proofs.Entries.{entries-at, asked-entry, grows}

@@ -14,14 +14,13 @@ use Rattle.uri_map.proofs.CallerLemmas.{same_peer-same}
 use Rattle.journal_book.specs.Entries.{Deed, Sends, Hears, Passes}
 use Rattle.history_laws.specs.Responses.{is_whole, response_of}
 use Rattle.history_laws.specs.Confirmations.{empty}
-use Rattle.history_laws.specs.Readings.{Noted, Note, First, Says, Notice, at, before}
+use Rattle.history_laws.specs.Readings.{Noted, Note, First, Says, Notice, at, before, noted}
 use Rattle.history_laws.specs.Progress.{Reply, Ending, Whole, NotUnderstood, Reset, TimedOut, replied}
 use Rattle.history_laws.specs.Transmissions.{FirstSending, first_at, last_sent, Transmission, transmission, if_outstanding}
 use Rattle.history_laws.specs.Exchanges.{Turn, Nothing, Sent, Replied, Rejected, Expired, expires, answered_by, heard_turn, turn_by, turn, waits_for, replies_by, replies, End, end_here, end_by, or_else, end_of, Begun, begun, replied_end}
 use Rattle.history_laws.specs.Hearing.{went_as, is_as, open_at, answers_by, answers}
 use Rattle.history_laws.specs.Justified.{MaySay, Follows}
 use Rattle.history_laws.specs.Laws.{IsFirst}
-use Rattle.history_laws.specs.Worked.{noted}
 use Rattle.history_laws.proofs.CallerLemmas.{at-same, contains-none, eqb-same, find-some, first-or-later, first-stands, first_end, none-is, none-some, replied-first, some-is, waits-first}
 
 -- an entry that rejects what an exchange waits for

@@ -5,8 +5,7 @@ use Rattle.std.proofs.lemmas.Bool.Decides.{eqb_tells}
 use Rattle.ask_model.specs.Requests.{Sense}
 use Rattle.ask_model.specs.Views.{Ask}
 use Rattle.journal_book.specs.Entries.{Deed, Asks, Written}
-use Rattle.history_laws.specs.Readings.{Noted, Note, entries, at, before, newest}
-use Rattle.history_laws.specs.Worked.{noted}
+use Rattle.history_laws.specs.Readings.{Noted, Note, entries, at, before, newest, noted}
 use Rattle.history_laws.specs.Justified.{Legal}
 use Rattle.history_laws.proofs.CallerLemmas.{at-entries, entries-length, got-last, got-more, some-is}
 use Rattle.history_claims.specs.Headline.{IsEntry, IsAsked}

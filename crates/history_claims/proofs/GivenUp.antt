@@ -9,11 +9,10 @@ use Rattle.history_laws.specs.Confirmations.{empty}
 use Rattle.history_laws.specs.Exchanges.{waits_for}
 use Rattle.coap_codec.specs.declared.message.MsgType.TheVariants.{Ack, Rst}
 use Rattle.journal_book.specs.Entries.{Deed, Sends, Hears, Passes}
-use Rattle.history_laws.specs.Readings.{Noted, Note, First, Copies, entries, at, before, ticked}
+use Rattle.history_laws.specs.Readings.{Noted, Note, First, Copies, entries, at, before, ticked, noted}
 use Rattle.history_laws.specs.Transmissions.{Transmission, due, is_given_up, transmission}
 use Rattle.history_laws.specs.Justified.{MayBeFirst, MayBeCopy, Follows, Legal}
 use Rattle.history_laws.specs.Laws.{IsFirst}
-use Rattle.history_laws.specs.Worked.{noted}
 use Rattle.history_laws.proofs.CallerLemmas.{at-below, at-entries, at-new, at-old, at-same, at-still, eqb-itself, eqb-same, follows-at, legal-before, none-some, some-is, ticked-newest, way-cases}
 use Rattle.history_claims.specs.Headline.{IsEntry, IsHeard, last_of, AreCopies, IsUnsettled, IsGivenUp}
 use Rattle.history_claims.proofs.Entries.{entries-at, entry-keeps, grows}

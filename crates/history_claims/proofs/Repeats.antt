@@ -11,10 +11,9 @@ use Rattle.uri_map.specs.declared.peer.Peer.{Peer}
 use Rattle.uri_map.specs.Peers.{same_peer}
 use Rattle.uri_map.proofs.CallerLemmas.{same_peer-itself, same_peer-same}
 use Rattle.journal_book.specs.Entries.{Deed, Hears}
-use Rattle.history_laws.specs.Readings.{Noted, Note, Says, Repeats, Garbled, Notice, entries, at, before}
+use Rattle.history_laws.specs.Readings.{Noted, Note, Says, Repeats, Garbled, Notice, entries, at, before, noted}
 use Rattle.history_laws.specs.Hearing.{is_such, is_live, bears, is_like, heard_before, repeated}
 use Rattle.history_laws.specs.Justified.{MaySay, Follows, Legal}
-use Rattle.history_laws.specs.Worked.{noted}
 use Rattle.history_laws.proofs.CallerLemmas.{at-before, at-below, at-entries, at-keeps, at-new, at-old, at-same, at-still, eqb-itself, eqb-same, follows-at, length-before, none-is, none-some, some-is}
 use Rattle.history_claims.specs.Headline.{IsHeard, MayRepeat, IsAlike, IsNew, anew, IsRepeat, again}
 use Rattle.history_claims.proofs.Entries.{entries-at}

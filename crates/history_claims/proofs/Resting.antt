@@ -6,12 +6,11 @@ use Rattle.ask_model.specs.Requests.{CoapRequest, Sense, Requests}
 use Rattle.ask_model.specs.Views.{Ask}
 use Rattle.journal_book.specs.Entries.{Grounds, Live, Deed, Answers, Asks, Hears, Written}
 use Rattle.history_laws.specs.Responses.{Response, response_of, is_whole, whole_of}
-use Rattle.history_laws.specs.Readings.{Noted, Note, Begins, Says, entries, at, before}
+use Rattle.history_laws.specs.Readings.{Noted, Note, Begins, Says, entries, at, before, noted}
 use Rattle.history_laws.specs.Progress.{Reply, numbers, Whole, NotUnderstood, progress, ended_by}
 use Rattle.history_laws.specs.Exchanges.{Begun, begun, Turn, Nothing, Sent, Replied, Rejected, Expired, turn, replies, end_here, replied_end}
 use Rattle.history_laws.specs.Justified.{IsAsk, Ends as EndsAs, reads_by, reads_in, reads, HasGrounds, Follows, Legal, Stands}
 use Rattle.history_laws.specs.Laws.{IsReplyTo}
-use Rattle.history_laws.specs.Worked.{noted}
 use Rattle.history_laws.proofs.CallerLemmas.{asked-for, asks-stand, at-before, at-below, at-same, begun-before, contains-none, ends-first, first-or-later, follows-at, legal-before, length-before, made-of, none-some, opening-begun, reads-own, replied-first, replies-fit, some-is}
 use Rattle.history_claims.specs.Headline.{IsEntry, IsAsked, RestsOn}
 use Rattle.history_claims.proofs.Entries.{entries-at, asked-entry}

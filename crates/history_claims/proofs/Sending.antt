@@ -4,11 +4,10 @@ use Rattle.coap_codec.specs.Spelling.{Content, Spells}
 use Rattle.coap_codec.proofs.Unique.{spells_one}
 use Rattle.uri_map.specs.declared.peer.Peer.{Peer}
 use Rattle.journal_book.specs.Entries.{Sends}
-use Rattle.history_laws.specs.Readings.{Noted, Note, First, Copies, Confirms, entries, at, before}
+use Rattle.history_laws.specs.Readings.{Noted, Note, First, Copies, Confirms, entries, at, before, noted}
 use Rattle.history_laws.specs.Exchanges.{Begun, begun}
 use Rattle.history_laws.specs.Justified.{MayBeFirst, Follows, Legal}
 use Rattle.history_laws.specs.Laws.{IsFirst}
-use Rattle.history_laws.specs.Worked.{noted}
 use Rattle.history_laws.proofs.CallerLemmas.{at-before, at-entries, follows-at, none-some, sent-for, some-is, tokens-apart}
 use Rattle.history_claims.specs.Headline.{IsFirstSending, IsSentFor}
 use Rattle.history_claims.proofs.Entries.{entries-at}

@@ -13,12 +13,11 @@ use Rattle.uri_map.specs.Peers.{same_peer}
 use Rattle.uri_map.proofs.CallerLemmas.{same_peer-itself}
 use Rattle.journal_book.specs.Entries.{Sends, Hears}
 use Rattle.history_laws.specs.Confirmations.{empty}
-use Rattle.history_laws.specs.Readings.{Noted, Note, First, Says, Repeats, Garbled, Notice}
+use Rattle.history_laws.specs.Readings.{Noted, Note, First, Says, Repeats, Garbled, Notice, noted}
 use Rattle.history_laws.specs.Transmissions.{FirstSending, firsts, first_at, Transmission, transmission, outstanding}
 use Rattle.history_laws.specs.Hearing.{is_such, heard_before, repeated, went_under, went_as, is_under, is_as, open_at, answers}
 use Rattle.history_laws.specs.Justified.{MaySay, Follows, Legal}
 use Rattle.history_laws.specs.Laws.{IsFirst}
-use Rattle.history_laws.specs.Worked.{noted}
 use Rattle.history_laws.proofs.CallerLemmas.{any-first, at-same, eqb-itself, find-any, first-stands, none-some, outstanding-last, tokens-apart}
 
 -- what ends the sending of a message, beside a response

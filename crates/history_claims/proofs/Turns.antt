@@ -5,11 +5,10 @@ use Rattle.std.proofs.lemmas.Option.{slice_get_within}
 use Rattle.std.proofs.lemmas.Bool.Decides.{eqb_tells}
 use Rattle.ask_model.specs.Views.{Ask}
 use Rattle.journal_book.specs.Entries.{Grounds, Deed, Asks, Answers, Written}
-use Rattle.history_laws.specs.Readings.{Noted, Note, entries, before}
+use Rattle.history_laws.specs.Readings.{Noted, Note, entries, before, noted}
 use Rattle.history_laws.specs.Connections.{asks_by, asks_of, answers_by, answers_of}
 use Rattle.history_laws.specs.Justified.{Follows, Legal, Stands}
 use Rattle.history_laws.specs.Laws.{IsAnswer}
-use Rattle.history_laws.specs.Worked.{noted}
 use Rattle.history_laws.proofs.CallerLemmas.{at-before, at-below, at-entries, at-still, follows-at, IsAnswer-old, legal-before, next-ask, push-cases}
 use Rattle.history_claims.specs.Headline.{IsEntry}
 use Rattle.history_claims.proofs.Resting.{answers-ask}

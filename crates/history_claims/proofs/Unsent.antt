@@ -8,14 +8,13 @@ use Rattle.uri_map.specs.declared.peer.Peer.{Peer}
 use Rattle.ask_model.specs.Requests.{CoapRequest, Requests}
 use Rattle.ask_model.specs.Views.{Ask}
 use Rattle.journal_book.specs.Entries.{Grounds, Deed, Answers, Asks, Sends, Seals}
-use Rattle.history_laws.specs.Readings.{Noted, Note, Plain, Begins, First, entries, at, before}
+use Rattle.history_laws.specs.Readings.{Noted, Note, Plain, Begins, First, entries, at, before, noted}
 use Rattle.history_laws.specs.Connections.{is_sealed, sealed_by}
 use Rattle.history_laws.specs.Progress.{Ending}
 use Rattle.history_laws.specs.Transmissions.{FirstSending, firsts, sent_last}
 use Rattle.history_laws.specs.Exchanges.{begun, end_of, end_here, end_by, End, turn, replies, goes_to, is_going, waits_for}
 use Rattle.history_laws.specs.Justified.{MayBeFirst, Follows, Legal}
 use Rattle.history_laws.specs.Laws.{IsFirst}
-use Rattle.history_laws.specs.Worked.{noted}
 use Rattle.history_laws.proofs.CallerLemmas.{any-first, asked-for, at-same, at-still, before-twice, begun-opening, eqb-itself, eqb-same, find-any, find-some, firsts-stand, follows-at, none-is, none-some, some-is}
 use Rattle.history_claims.specs.Headline.{IsUnsent}
 use Rattle.history_claims.proofs.Entries.{asked-entry, grows}

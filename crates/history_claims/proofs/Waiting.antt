@@ -9,13 +9,12 @@ use Rattle.coap_codec.specs.declared.message.MsgType.TheVariants.{Con, Non, Ack,
 use Rattle.coap_codec.specs.Spelling.{Content}
 use Rattle.uri_map.specs.declared.peer.Peer.{Peer}
 use Rattle.journal_book.specs.Entries.{Hears}
-use Rattle.history_laws.specs.Readings.{Noted, Says, Notice, entries, at, before}
+use Rattle.history_laws.specs.Readings.{Noted, Says, Notice, entries, at, before, noted}
 use Rattle.history_laws.specs.Progress.{Reply}
 use Rattle.history_laws.specs.Exchanges.{Begun, begun, openings, Turn, Nothing, Sent, Replied, Rejected, Expired, answered_by, heard_turn, turn, waits_by, waits_for, replies_by, replies, End, end_of, awaited}
 use Rattle.history_laws.specs.Hearing.{is_under, is_as, open_at, answers_by, answers}
 use Rattle.history_laws.specs.Justified.{MaySay, Follows, Legal}
 use Rattle.history_laws.specs.Laws.{IsFirst, IsReplyKind, IsReplyTo}
-use Rattle.history_laws.specs.Worked.{noted}
 use Rattle.history_laws.proofs.CallerLemmas.{at-before, at-below, at-old, at-still, before-keeps, before-new, before-twice, begun-listed, contains-none, eqb-itself, find-any, find-some, first-or-later, IsFirst-below, IsFirst-old, legal-before, length-before, none-some, past, Past, sent-for, sent-once, some-is, turn-replied, turn-sent, waits-first}
 use Rattle.history_claims.specs.Headline.{BringsResponse, IsResponse, IsNew, IsUnanswered, IsHeardFor}
 use Rattle.history_claims.proofs.Sending.{first-before, sent-as}

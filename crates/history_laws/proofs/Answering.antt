@@ -6,11 +6,10 @@ use Rattle.std.proofs.lemmas.Bool.Decides.{eqb_tells}
 use Rattle.std.proofs.lemmas.List.{take-append-le}
 use Rattle.ask_model.specs.Views.{Ask}
 use Rattle.journal_book.specs.Entries.{Grounds, Deed, Asks, Answers}
-use Rattle.history_laws.specs.Readings.{Noted, Note, at}
+use Rattle.history_laws.specs.Readings.{Noted, Note, at, noted}
 use Rattle.history_laws.specs.Connections.{asks_by, asks_of, answers_by, answers_of}
 use Rattle.history_laws.specs.Justified.{IsAsk, Follows, Legal}
 use Rattle.history_laws.specs.Laws.{IsAnswer}
-use Rattle.history_laws.specs.Worked.{noted}
 use Rattle.history_laws.proofs.Places.{at-new, at-below, at-old, at-same}
 use Rattle.history_laws.proofs.Facts.{IsAsk-keeps}
 use Rattle.history_laws.proofs.Elements.{got-more}

@@ -7,11 +7,10 @@ use Rattle.ask_model.specs.Views.{Ask}
 use Rattle.ask_model.specs.declared.cause.Cause.{Cause}
 use Rattle.ask_model.specs.declared.cause.Cause.TheVariants.{BadHttp, NoMap, Method, Media, Busy, Timeout, Reset, NotUnderstood}
 use Rattle.journal_book.specs.Entries.{Grounds, Live, Kept, Fault, Asks, Sends, Hears, Answers}
-use Rattle.history_laws.specs.Readings.{Noted, Note, Plain, Begins, First, Copies, Confirms, at, before}
+use Rattle.history_laws.specs.Readings.{Noted, Note, Plain, Begins, First, Copies, Confirms, at, before, noted}
 use Rattle.history_laws.specs.Exchanges.{Begun, begun}
 use Rattle.history_laws.specs.Justified.{IsAsk, reads_by, reads_in, reads, IsTurnedAway, IsRefused, Caused, HasGrounds, AskNote, MayBeCopy, MayConfirm, Follows, Legal}
 use Rattle.history_laws.specs.Laws.{OpensNone, OpensFor, IsAskSent, IsConfirmation}
-use Rattle.history_laws.specs.Worked.{noted}
 use Rattle.history_laws.proofs.Places.{at-below, at-same}
 use Rattle.history_laws.proofs.Facts.{follows-at, at-before, length-before}
 use Rattle.history_laws.proofs.Sent.{begun-opening, opening-begun, asked-for, sent-for, sent-once}

@@ -6,6 +6,7 @@ pub use Rattle.history_laws.proofs.Elements.{all-filter, all-more, all-of, all-p
 pub use Rattle.history_laws.proofs.Endings.{rejected-holds, timed_out-holds}
 pub use Rattle.history_laws.proofs.Facts.{at-before, eqb-itself, eqb-same, follows-at, IsFirst-below, legal-before, length-before}
 pub use Rattle.history_laws.proofs.Messages.{ack-spelled, all_answered-holds, content-spelled, get-spelled, given_up-holds, put-spelled}
+pub use Rattle.history_laws.proofs.Members.{all-join, first-waits, waiting-all}
 pub use Rattle.history_laws.proofs.Openings.{begun-listed, ends-first, listed-begun, open-exactly}
 pub use Rattle.history_laws.proofs.Outstanding.{outstanding-last, sound, Sound, way-cases}
 pub use Rattle.history_laws.proofs.Places.{at-below, at-cases, at-entries, at-keeps, at-new, at-newest, at-old, at-same, before-keeps, before-new, entries-length}
@@ -16,5 +17,8 @@ pub use Rattle.history_laws.proofs.Sendings.{any-first, ids-apart, IsFirst-old, 
 pub use Rattle.history_laws.proofs.Sent.{asked-for, begun-before, begun-below, begun-keeps, begun-opening, first_end, opening-begun, past, Past, replied-ends, replied-first, sent-for, sent-once}
 pub use Rattle.history_laws.proofs.Settled.{ask-listed, few-waiting, open-below, range-passes}
 pub use Rattle.history_laws.proofs.Turns.{heard-sends, turn-replied, turn-sent, waits-first}
+pub use Rattle.history_laws.proofs.Queue.{awaiting-stays, filter-all, filter-none, going-before, issued-few, issued-same, none-submitted, NoReply, opened-issued, opened-queued, opened-rank, queue-kept, queue-rises, queue-same, rank-apart, rank-below, rank-keeps, replies-stay, submitted-apart, submitted-below, unawaited-quiet, waiting-begun, waiting-goes, waiting-has, waiting-stays, waiting-unsent}
+pub use Rattle.history_laws.proofs.Rising.{openings-below, openings-rising, RisesBy, Rising, rising-filter, rising-push}
+pub use Rattle.history_laws.proofs.Unbegun.{not-yet, replies-none, unbegun}
 pub use Rattle.history_laws.proofs.Late.{other-spelled, rst-0-spelled}
 pub use Rattle.history_laws.proofs.Ended.{none-after-end}

@@ -7,9 +7,8 @@ use Rattle.coap_codec.specs.Recognition.{is_rejected}
 use Rattle.uri_map.specs.declared.peer.Peer.{Peer}
 use Rattle.journal_book.specs.Entries.{Deed, Hears}
 use Rattle.history_laws.specs.Confirmations.{answer_by, Confirmation, given, rejects_bytes}
-use Rattle.history_laws.specs.Readings.{Noted, Note, Says, Repeats, Garbled, at}
+use Rattle.history_laws.specs.Readings.{Noted, Note, Says, Repeats, Garbled, at, noted}
 use Rattle.history_laws.specs.Confirming.{answered, answered_as, answered_again, owed_by, owed}
-use Rattle.history_laws.specs.Worked.{noted}
 use Rattle.history_laws.proofs.Places.{at-new}
 use Rattle.history_laws.proofs.Resting.{some-is}
 

@@ -5,12 +5,11 @@ use Rattle.std.specs.List.{list_all}
 use Rattle.std.proofs.lemmas.Bool.{ltb-true}
 use Rattle.uri_map.specs.declared.peer.Peer.{Peer}
 use Rattle.journal_book.specs.Entries.{Deed, Opens, Asks, Sends, Hears, Passes, Answers, Shuts, Seals}
-use Rattle.history_laws.specs.Readings.{Noted, Note, First, Copies, at, before, newest, ticked}
+use Rattle.history_laws.specs.Readings.{Noted, Note, First, Copies, at, before, newest, ticked, noted}
 use Rattle.history_laws.specs.Connections.{is_sealed}
 use Rattle.history_laws.specs.Transmissions.{FirstSending, firsts_by, firsts, Transmission, due, transmission}
 use Rattle.history_laws.specs.Justified.{MayCome, is_early, is_done, AtRest, Legal, MayBeCopy}
 use Rattle.history_laws.specs.Laws.{IsDone, IsInTime}
-use Rattle.history_laws.specs.Worked.{noted}
 use Rattle.history_laws.proofs.Resting.{and-left, and-right, none-some}
 use Rattle.history_laws.proofs.Places.{at-new, at-keeps, at-below, at-old, before-keeps, before-new}
 use Rattle.history_laws.proofs.Facts.{follows-at, legal-before, at-before, length-before}

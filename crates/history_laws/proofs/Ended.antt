@@ -5,12 +5,12 @@ use Rattle.std.proofs.lemmas.Bool.{false≢true, and_parts}
 use Rattle.coap_codec.specs.Spelling.{Content}
 use Rattle.uri_map.specs.declared.peer.Peer.{Peer}
 use Rattle.journal_book.specs.Entries.{Sends}
-use Rattle.history_laws.specs.Readings.{Noted, First}
+use Rattle.history_laws.specs.Readings.{Noted, First, noted}
 use Rattle.history_laws.specs.Progress.{Ending}
 use Rattle.history_laws.specs.Exchanges.{begun, turn, waits_for, replies, End, end_here, end_by, end_of, goes_to, is_going}
 use Rattle.history_laws.specs.Justified.{MayBeFirst, Ends, Legal}
 use Rattle.history_laws.specs.Laws.{IsFirst}
-use Rattle.history_laws.specs.Worked.{noted}
+use Rattle.history_laws.proofs.Members.{first-waits}
 use Rattle.history_laws.proofs.Facts.{IsFirst-below, eqb-itself}
 use Rattle.history_laws.proofs.Sendings.{IsFirst-old, may-be}
 use Rattle.history_laws.proofs.Resting.{none-some}
@@ -28,7 +28,7 @@ end-old (Some how) n (Some f) e h = inl h
 first-going : (l : List Noted) (t o e : ℕ) (p : Peer) (b : List ℕ) (w : Option ℕ) (m : Content) (how : Ending)
     → MayBeFirst l t o p b m w → Ends (noted t (Sends p b w) (First o m) ∷ l) o e how → ⊥
 first-going l t o e p b w m how may h =
-    let going = and_parts (is_going l o) (is_none (waits_for l o)) (and_parts (goes_to p (begun l o)) _ may.waits).1 in
+    let going = and_parts (is_going l o) (is_none (waits_for l o)) (and_parts (goes_to p (begun l o)) _ (first-waits l t o p b m w may)).1 in
     go (end_of l o) going.0 (rw (eqb-itself o) at h)
   where
     go : (old : Option End) → is_none old ≡ true → old ≡ Some (record { number = e; how = how }) → ⊥

@@ -8,10 +8,10 @@ use Rattle.coap_codec.specs.Reading.{message_at}
 use Rattle.coap_codec.specs.Reading as X
 use Rattle.journal_book.specs.Entries.{Sends}
 use Rattle.history_laws.specs.Confirmations.{empty}
-use Rattle.history_laws.specs.Readings.{Noted, First, at, ticked}
+use Rattle.history_laws.specs.Readings.{Noted, First, at, ticked, noted}
 use Rattle.history_laws.specs.Transmissions.{transmission, due}
 use Rattle.history_laws.specs.Justified.{Legal, MayBeCopy}
-use Rattle.history_laws.specs.Worked.{Holds, noted, server, empty_rst}
+use Rattle.history_laws.specs.Worked.{Holds, server, empty_rst}
 use Rattle.history_laws.specs.WorkedMessages.{get_bytes, get_message, put_light}
 use Rattle.history_laws.specs.WorkedEndings.{non_bytes, non_message, rejected, copied_out, timed_out}
 use Rattle.history_laws.proofs.Resting.{at-rest, may-come}
@@ -44,7 +44,7 @@ legal-rejected = (
             since = 500;
             request = put_light;
             opening = refl;
-            waits = refl;
+            others = _;
             first = refl;
             free = refl;
             peer = refl;
@@ -127,7 +127,7 @@ legal-timed-out = (
         since = 500;
         request = put_light;
         opening = refl;
-        waits = refl;
+        others = _;
         first = refl;
         free = refl;
         peer = refl;

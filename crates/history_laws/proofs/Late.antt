@@ -7,9 +7,9 @@ use Rattle.coap_codec.specs.Reading.{message_at}
 use Rattle.coap_codec.specs.Reading as X
 use Rattle.journal_book.specs.Entries.{Opens, Asks, Sends}
 use Rattle.history_laws.specs.Confirmations.{empty}
-use Rattle.history_laws.specs.Readings.{Plain, Begins, First}
+use Rattle.history_laws.specs.Readings.{Plain, Begins, First, noted}
 use Rattle.history_laws.specs.Justified.{Legal}
-use Rattle.history_laws.specs.Worked.{Holds, noted, server, ask_for, empty_rst}
+use Rattle.history_laws.specs.Worked.{Holds, server, ask_for, empty_rst}
 use Rattle.history_laws.specs.WorkedMessages.{get_light, get_bytes, get_message, put_message}
 use Rattle.history_laws.specs.WorkedLate.{other_bytes, other_message, heard_twice, half_answered, rejected_after, abandoned}
 use Rattle.history_laws.proofs.Resting.{at-rest, may-come}
@@ -89,7 +89,7 @@ abandoned-sent = (
         since = 0;
         request = get_light;
         opening = refl;
-        waits = refl;
+        others = _;
         first = refl;
         free = refl;
         peer = refl;

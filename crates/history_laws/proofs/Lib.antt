@@ -13,7 +13,11 @@ mod Elements
 mod Openings
 mod Turns
 mod Replies
+mod Members
 mod Sent
+mod Unbegun
+mod Rising
+mod Queue
 mod Ended
 mod Basis
 mod Confirmed

@@ -8,11 +8,10 @@ use Rattle.uri_map.specs.declared.peer.Peer.{Peer}
 use Rattle.uri_map.specs.Peers.{same_peer}
 use Rattle.uri_map.proofs.CallerLemmas.{same_peer-same, same_peer-itself}
 use Rattle.journal_book.specs.Entries.{Deed, Sends, Hears, Passes}
-use Rattle.history_laws.specs.Readings.{Noted, Note, First, Copies, Says}
+use Rattle.history_laws.specs.Readings.{Noted, Note, First, Copies, Says, noted}
 use Rattle.history_laws.specs.Transmissions.{FirstSending, last_sent, Transmission, begun_way, copied_way, given_up, transmission_by, transmission, outstanding}
 use Rattle.history_laws.specs.Justified.{MayBeFirst, MayBeCopy, Follows, Legal}
 use Rattle.history_laws.specs.Laws.{IsFirst}
-use Rattle.history_laws.specs.Worked.{noted}
 use Rattle.history_laws.proofs.Resting.{some-is, none-is, none-some}
 use Rattle.history_laws.proofs.Facts.{IsFirst-below}
 use Rattle.history_laws.proofs.Sendings.{IsFirst-old, may-be}

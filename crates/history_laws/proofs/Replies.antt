@@ -13,14 +13,13 @@ use Rattle.uri_map.specs.declared.peer.Peer.{Peer}
 use Rattle.uri_map.specs.Peers.{same_peer}
 use Rattle.uri_map.proofs.CallerLemmas.{same_peer-same}
 use Rattle.journal_book.specs.Entries.{Deed, Sends, Hears}
-use Rattle.history_laws.specs.Readings.{Noted, Note, First, Says, Notice}
+use Rattle.history_laws.specs.Readings.{Noted, Note, First, Says, Notice, noted}
 use Rattle.history_laws.specs.Progress.{Reply}
 use Rattle.history_laws.specs.Transmissions.{FirstSending, firsts_by, firsts, first_at}
 use Rattle.history_laws.specs.Exchanges.{Turn, Nothing, Sent, Replied, Rejected, Expired, turn, replies_by, replies, awaited}
 use Rattle.history_laws.specs.Hearing.{went_under, went_as, is_under, is_as, open_at, answers_by, answers}
 use Rattle.history_laws.specs.Justified.{Follows, Legal, MaySay}
 use Rattle.history_laws.specs.Laws.{IsFirst, IsReplyKind, IsReplyTo}
-use Rattle.history_laws.specs.Worked.{noted}
 use Rattle.history_laws.proofs.Places.{at-new, at-keeps, at-below, at-same, before-keeps, before-new}
 use Rattle.history_laws.proofs.Facts.{IsFirst-keeps, IsFirst-below, eqb-same}
 use Rattle.history_laws.proofs.Elements.{contains-none, first-or-later, find-some}

@@ -9,13 +9,12 @@ use Rattle.limits.specs.declared.TheConstants.{MESSAGE_ID_LIFETIME}
 use Rattle.coap_codec.specs.Spelling.{Content}
 use Rattle.uri_map.specs.declared.peer.Peer.{Peer}
 use Rattle.journal_book.specs.Entries.{Deed, Sends}
-use Rattle.history_laws.specs.Readings.{Noted, Note, First}
+use Rattle.history_laws.specs.Readings.{Noted, Note, First, noted}
 use Rattle.history_laws.specs.Transmissions.{FirstSending, firsts_by, firsts, bears_token, bears_mid, is_recent}
 use Rattle.history_laws.specs.Justified.{MayBeFirst, Follows, Legal}
 use Rattle.history_laws.specs.Laws.{IsFirst}
 use Rattle.uri_map.proofs.CallerLemmas.{same_peer-itself}
 use Rattle.history_laws.proofs.Places.{at-below, at-old}
-use Rattle.history_laws.specs.Worked.{noted}
 
 -- a first sending is the newest entry, or was one before
 pub IsFirst-old : (x : Noted) (l : List Noted) (t o i : ℕ) (p : Peer) (m : Content) → IsFirst (x ∷ l) t o i p m

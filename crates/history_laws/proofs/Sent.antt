@@ -8,16 +8,16 @@ use Rattle.uri_map.specs.declared.peer.Peer.{Peer}
 use Rattle.ask_model.specs.Requests.{CoapRequest, Sense, Requests, Refuses, request_message}
 use Rattle.ask_model.specs.Views.{Ask}
 use Rattle.journal_book.specs.Entries.{Deed, Opens, Asks, Sends, Hears, Passes, Answers, Shuts, Seals}
-use Rattle.history_laws.specs.Readings.{Noted, Note, Begins, First, at, before}
+use Rattle.history_laws.specs.Readings.{Noted, Note, Begins, First, at, before, noted}
 use Rattle.history_laws.specs.Progress.{Reply, Progress, Asks as StillAsks, Ends, Ending, NotUnderstood, Reset, TimedOut, step, replied, progress, ended_by, next_message}
 use Rattle.history_laws.specs.Exchanges.{Begun, opens_by, begun_by, begun, Turn, Nothing, Sent, Replied, Rejected, Expired, turn, waits_by, waits_for, replies, End, replied_end, end_here, end_by, end_of, goes_to}
 use Rattle.history_laws.specs.Justified.{AskNote, MayBeFirst, Follows, Legal}
 use Rattle.history_laws.specs.Laws.{IsFirst}
-use Rattle.history_laws.specs.Worked.{noted}
 use Rattle.history_laws.proofs.Resting.{some-is}
 use Rattle.history_laws.proofs.Places.{at-cases, at-new, at-below, at-keeps}
 use Rattle.history_laws.proofs.Facts.{follows-at, at-before, length-before, eqb-same, eqb-itself}
 use Rattle.history_laws.proofs.Sendings.{IsFirst-old, may-be}
+use Rattle.history_laws.proofs.Members.{first-waits}
 
 -- the entry that opened an exchange
 abbrev pub Opening : List Noted → ℕ → Begun → Type 0
@@ -199,7 +199,7 @@ first-once : (l : List Noted) (s t o i : ℕ) (p r : Peer) (b : List ℕ) (w : O
     → MayBeFirst l t o r b n w → ⊥
 first-once l s t o i p r b w m n f may =
     not-past (waits_for l o) (end_of l o) (past l s o i p m f)
-    (and_parts (goes_to r (begun l o)) (is_none (end_of l o) && is_none (waits_for l o)) may.waits).1
+    (and_parts (goes_to r (begun l o)) (is_none (end_of l o) && is_none (waits_for l o)) (first-waits l t o r b n w may)).1
 
 pub sent-once : (l : List Noted) (s t o i j : ℕ) (p r : Peer) (m n : Content) → Legal l → IsFirst l s o i p m → IsFirst l t o j r n → i ≡ j
 sent-once [] s t o i j p r m n legal f g = cc (f.stands)

@@ -9,13 +9,12 @@ use Rattle.std.proofs.lemmas.List.Elements.{All-contains}
 use Rattle.std.proofs.lemmas.List.Sums.{AllPass-from_list_all}
 use Rattle.ask_model.specs.Views.{Ask}
 use Rattle.journal_book.specs.Entries.{Grounds, Deed, Opens, Asks, Answers, Shuts}
-use Rattle.history_laws.specs.Readings.{Noted, Note}
+use Rattle.history_laws.specs.Readings.{Noted, Note, noted}
 use Rattle.history_laws.specs.Connections.{is_open, asks_by, asks_of, answers_by, answers_of, is_sealed, opened_by, opened}
 use Rattle.history_laws.specs.Transmissions.{FirstSending, outstanding}
 use Rattle.history_laws.specs.Exchanges.{Begun, begun, waits_for, end_of, open_exchanges}
 use Rattle.history_laws.specs.Justified.{IsAsk, reads, reads_open, pending, is_in_hand, finds_outstanding, is_under_way, Follows, Legal, AtRest}
 use Rattle.history_laws.specs.Laws.{IsAnswer}
-use Rattle.history_laws.specs.Worked.{noted}
 use Rattle.history_laws.proofs.Resting.{and-left, and-right}
 use Rattle.history_laws.proofs.Places.{at-new, at-keeps, at-old}
 use Rattle.history_laws.proofs.Facts.{eqb-itself}

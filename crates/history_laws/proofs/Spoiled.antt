@@ -4,11 +4,11 @@ use Rattle.std.specs.Prelude.{Some, None}
 use Rattle.std.proofs.lemmas.Bool.{false≢true}
 use Rattle.coap_codec.specs.Spelling.{Content}
 use Rattle.journal_book.specs.Entries.{Deed, Sends, Passes}
-use Rattle.history_laws.specs.Readings.{Noted, Plain, Notice, Says}
+use Rattle.history_laws.specs.Readings.{Noted, Plain, Notice, Says, noted}
 use Rattle.history_laws.specs.Progress.{Ending}
 use Rattle.history_laws.specs.Exchanges.{end_of}
 use Rattle.history_laws.specs.Justified.{Ends}
-use Rattle.history_laws.specs.Worked.{Refused, noted}
+use Rattle.history_laws.specs.Worked.{Refused}
 use Rattle.history_laws.specs.WorkedEndings.{copied_out}
 use Rattle.history_laws.specs.WorkedMessages.{answered}
 use Rattle.history_laws.specs.WorkedSpoiled.{sent_six_times, timed_out_early, renumbered, overtaken, used_again, heard_as_new, rejected_late, crossed, sealed_early}
@@ -46,7 +46,11 @@ pub renumbered-refused : Refused renumbered
 renumbered-refused h = let other : 0 ≡ 9 = ap mid_of h.2.1.2.stands in absurd (omega (arith, other))
 
 pub overtaken-refused : Refused overtaken
-overtaken-refused h = false≢true h.2.1.1.first
+overtaken-refused h = let other : 4 ≡ 6 = ap first_of h.2.1.1.first in absurd (omega (arith, other))
+  where
+    first_of : List ℕ → ℕ
+    first_of (o ∷ os) = o
+    first_of os = 0
 
 pub used_again-refused : Refused used_again
 used_again-refused h = false≢true (sym h.2.1.1.mid_apart)

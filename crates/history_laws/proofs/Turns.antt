@@ -7,10 +7,9 @@ use Rattle.coap_codec.specs.declared.message.MsgType.TheVariants.{Con, Non, Ack,
 use Rattle.coap_codec.specs.Spelling.{Content}
 use Rattle.uri_map.specs.declared.peer.Peer.{Peer}
 use Rattle.journal_book.specs.Entries.{Deed, Sends, Hears, Passes}
-use Rattle.history_laws.specs.Readings.{Noted, Note, First, Says, Notice}
+use Rattle.history_laws.specs.Readings.{Noted, Note, First, Says, Notice, noted}
 use Rattle.history_laws.specs.Exchanges.{Turn, Nothing, Sent, Replied, Rejected, Expired, expires, answered_by, heard_turn, turn_by, turn, waits_by, waits_for}
 use Rattle.history_laws.specs.Laws.{IsFirst}
-use Rattle.history_laws.specs.Worked.{noted}
 use Rattle.history_laws.proofs.Places.{at-new}
 use Rattle.history_laws.proofs.Facts.{IsFirst-keeps}
 use Rattle.history_laws.proofs.Resting.{some-is}

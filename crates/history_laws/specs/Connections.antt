@@ -40,9 +40,9 @@ abbrev pub is_sealed : List Noted → Bool
 is_sealed [] = false
 is_sealed (x ∷ older) = sealed_by x.written.deed (is_sealed older)
 
--- how many were opened
+-- the number of the next one
 abbrev pub opened_by : Deed → ℕ → ℕ
-opened_by (Opens c) old = old + 1
+opened_by (Opens c) old = c + 1
 opened_by _ old = old
 
 abbrev pub opened : List Noted → ℕ

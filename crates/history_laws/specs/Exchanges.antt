@@ -1,7 +1,7 @@
 -- What the history says of an exchange, by the number of the entry that opened it.
-use Rattle.std.specs.Prelude.{ℕ, ◌+◌, Bool, false, ◌&&◌, ◌||◌, List, [], ◌∷◌, ◌++◌, length, filter, filter_map, Option, Some, None, is_none, ◌==◌, nat_le, if◌then◌else◌}
+use Rattle.std.specs.Prelude.{ℕ, ◌+◌, Bool, true, false, ◌&&◌, ◌||◌, List, [], ◌∷◌, ◌++◌, length, filter, filter_map, Option, Some, None, is_none, ◌==◌, nat_le, if◌then◌else◌}
 use Rattle.std.specs.Option.{option_map_or}
-use Rattle.std.specs.List.{list_all}
+use Rattle.std.specs.List.{list_any}
 use Rattle.limits.specs.declared.TheConstants.{MAX_TRANSMIT_WAIT}
 use Rattle.coap_codec.specs.declared.message.MsgType.{MsgType}
 use Rattle.coap_codec.specs.declared.message.MsgType.TheVariants.{Rst}
@@ -10,7 +10,7 @@ use Rattle.uri_map.specs.declared.peer.Peer.{Peer}
 use Rattle.uri_map.specs.Peers.{same_peer}
 use Rattle.ask_model.specs.Requests.{CoapRequest}
 use Rattle.journal_book.specs.Entries.{Deed, Sends, Hears, Passes}
-use Rattle.history_laws.specs.Readings.{Noted, Note, Begins, First, Says}
+use Rattle.history_laws.specs.Readings.{Noted, Note, Begins, First, Says, before}
 use Rattle.history_laws.specs.Progress.{Reply, Ending, NotUnderstood, Reset, TimedOut, progress, ended_by}
 use Rattle.history_laws.specs.Transmissions.{transmission, given_up}
 
@@ -158,9 +158,7 @@ goes_to p b = option_map_or (λ (b : Begun). same_peer b.request.peer p) b false
 abbrev pub is_waiting : List Noted → Peer → ℕ → Bool
 is_waiting l p o = goes_to p (begun l o) && (is_going l o && is_none (waits_for l o))
 
-abbrev pub waiting : List Noted → Peer → List ℕ
-waiting l p = filter (is_waiting l p) (openings l)
-
+-- Its next message is submitted by its opening, or by its last reply.
 abbrev pub submitted_by : ℕ → List Reply → ℕ
 submitted_by o [] = o
 submitted_by o (r ∷ rs) = submitted_by r.number rs
@@ -168,6 +166,32 @@ submitted_by o (r ∷ rs) = submitted_by r.number rs
 abbrev pub submitted : List Noted → ℕ → ℕ
 submitted l o = submitted_by o (replies l o)
 
--- It is first come, first served.
-abbrev pub is_first_waiting : List Noted → Peer → ℕ → Bool
-is_first_waiting l p o = list_all (λ (q : ℕ). nat_le (submitted l o) (submitted l q)) (waiting l p)
+-- Those that wait at the peer, first come, first served: a message waits after those that were
+-- submitted before.
+abbrev pub is_submitted_at : List Noted → Peer → ℕ → ℕ → Bool
+is_submitted_at l p n o = (submitted l o == n) && is_waiting l p o
+
+abbrev pub waiting_after : List Noted → Peer → ℕ → List ℕ → List ℕ
+waiting_after l p n old = filter (is_waiting l p) old ++ filter (is_submitted_at l p n) (openings l)
+
+abbrev pub waiting : List Noted → Peer → List ℕ
+waiting [] p = []
+waiting (x ∷ older) p = waiting_after (x ∷ older) p (length older) (waiting older p)
+
+-- How many tokens were issued: each message that is submitted has one of its own.
+abbrev pub is_issued_at : List Noted → ℕ → ℕ → Bool
+is_issued_at l n o = (submitted l o == n) && is_going l o
+
+abbrev pub issued_by : Bool → ℕ → ℕ
+issued_by true old = old + 1
+issued_by false old = old
+
+abbrev pub issued : List Noted → ℕ
+issued [] = 0
+issued (x ∷ older) =
+    issued_by (list_any (is_issued_at (x ∷ older) (length older)) (openings (x ∷ older)))
+    (issued older)
+
+-- how many were issued before the next message of an exchange was submitted
+abbrev pub rank : List Noted → ℕ → ℕ
+rank l o = issued (before l (submitted l o))

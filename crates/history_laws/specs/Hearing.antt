@@ -1,5 +1,5 @@
 -- What a datagram is: what it repeats, and which first sending it answers.
-use Rattle.std.specs.Prelude.{ℕ, ◌+◌, Bool, true, false, not, ◌&&◌, ◌||◌, List, [], ◌∷◌, ◌++◌, length, find, Option, Some, None, option_map, option_to_list, ◌==◌, nat_le, nat_lt, if◌then◌else◌}
+use Rattle.std.specs.Prelude.{ℕ, ◌+◌, Bool, true, false, not, ◌&&◌, ◌||◌, List, [], ◌∷◌, ◌++◌, length, find, Option, Some, None, option_map, option_to_list, is_some, ◌==◌, nat_le, nat_lt, if◌then◌else◌}
 use Rattle.std.specs.Str.{bytes_eq}
 use Rattle.limits.specs.declared.TheConstants.{EXCHANGE_LIFETIME, MAX_EXCHANGES, MAX_MESSAGE_IDS, MAX_REMEMBERED, MAX_WAITING}
 use Rattle.coap_codec.specs.declared.message.MsgType.{MsgType}
@@ -9,8 +9,8 @@ use Rattle.uri_map.specs.declared.peer.Peer.{Peer}
 use Rattle.uri_map.specs.Peers.{same_peer}
 use Rattle.ask_model.specs.Requests.{CoapRequest}
 use Rattle.journal_book.specs.Entries.{Deed, Hears}
-use Rattle.history_laws.specs.Readings.{Noted, Note, Says, Notice, Unobserved}
-use Rattle.history_laws.specs.Transmissions.{FirstSending, first_at, outstanding, mids_used}
+use Rattle.history_laws.specs.Readings.{Noted, Note, Says, Notice, unobserved}
+use Rattle.history_laws.specs.Transmissions.{FirstSending, first_at, last_sent, outstanding, mids_used}
 use Rattle.history_laws.specs.Exchanges.{open_exchanges, awaited, waiting}
 
 -- A CON or NON that is heard at this moment, from this peer and with this ID, repeats one that was
@@ -39,6 +39,10 @@ heard_before (x ∷ older) t p mid =
 
 abbrev pub repeated : List Noted → ℕ → Peer → Content → Option ℕ
 repeated l t p m = if is_such m.kind then heard_before l t p m.mid else None
+
+-- Something was sent to the peer.
+abbrev pub knows : List Noted → Peer → Bool
+knows l p = is_some (last_sent l p)
 
 -- How many from the peer may be repeated; a new CON or NON is taken only where it can be
 -- remembered too.
@@ -84,9 +88,9 @@ answers_by l p m kind empty response = None
 abbrev pub answers : List Noted → Peer → Content → Option ℕ
 answers l p m = answers_by l p m m.kind (m.code == 0) (nat_le 32 m.code)
 
--- what it is to the observation of its resource
-abbrev pub notice_of : List Noted → ℕ → Content → Option ℕ → Notice
-notice_of l t m to = Unobserved
+-- what comes of it
+abbrev pub notice_of : List Noted → ℕ → Peer → Content → Option ℕ → Notice
+notice_of l t p m to = unobserved
 
 -- There is room for one exchange more: a place among the open ones, one among those that wait at its
 -- peer, and a message ID.

@@ -13,12 +13,12 @@ use Rattle.journal_book.specs.Entries.{Grounds, Live, Kept, Fault, Deed, Opens, 
 use Rattle.history_laws.specs.Responses.{Response}
 use Rattle.history_laws.specs.Confirmations.{empty, Confirmation}
 use Rattle.history_laws.specs.Causes.{IsRefusal}
-use Rattle.history_laws.specs.Readings.{Noted, Note, Plain, Begins, First, Copies, Confirms, Says, Repeats, Garbled, entries, at, newest, ticked}
+use Rattle.history_laws.specs.Readings.{Noted, Note, Plain, Begins, First, Copies, Confirms, Says, Repeats, Garbled, noted, entries, at, newest, ticked}
 use Rattle.history_laws.specs.Connections.{is_open, asks_of, answers_of, is_sealed, opened}
 use Rattle.history_laws.specs.Progress.{Reply, numbers, Ending, Whole, NotUnderstood, Reset, TimedOut, progress, next_message}
-use Rattle.history_laws.specs.Transmissions.{FirstSending, firsts, sent_last, last_sent, bears_token, bears_mid, Transmission, transmission, due, outstanding}
-use Rattle.history_laws.specs.Exchanges.{Begun, begun, is_late, waits_for, replies, end_of, is_going, open_exchanges, is_waiting, is_first_waiting}
-use Rattle.history_laws.specs.Hearing.{repeated, can_be_remembered, answers, notice_of, has_room}
+use Rattle.history_laws.specs.Transmissions.{FirstSending, firsts, sent_last, bears_token, bears_mid, Transmission, transmission, due, outstanding}
+use Rattle.history_laws.specs.Exchanges.{Begun, begun, is_late, waits_for, replies, end_of, is_going, open_exchanges, waiting}
+use Rattle.history_laws.specs.Hearing.{knows, repeated, can_be_remembered, answers, notice_of, has_room}
 use Rattle.history_laws.specs.Confirming.{owed}
 use Rattle.history_laws.specs.Sealing.{MaySeal}
 
@@ -27,7 +27,7 @@ pub record IsAsk (l : List Noted) (k c : ℕ) (a : Ask) : Type 0 where
   pub moment : ℕ
   pub note : Note
   pub stands : at l k
-      ≡ Some (record { written = record { moment = moment; deed = Asks c a }; note = note })
+      ≡ Some (noted moment (Asks c a) note)
 
 -- The exchange ended at this entry, in this way.
 abbrev pub Ends : List Noted → ℕ → ℕ → Ending → Type 0
@@ -52,7 +52,7 @@ pub record IsTurnedAway (l : List Noted) (k : ℕ) : Type 0 where
   pub ask : Ask
   pub request : CoapRequest
   pub stands : at l k
-      ≡ Some (record { written = record { moment = moment; deed = Asks conn ask }; note = Plain })
+      ≡ Some (noted moment (Asks conn ask) Plain)
   pub sense : ask.sense ≡ Requests request
 
 -- It asks for what is refused for this cause.
@@ -103,8 +103,8 @@ pub record MayBeFirst
   pub since : ℕ
   pub request : CoapRequest
   pub opening : begun l o ≡ Some (record { since = since; request = request })
-  pub waits : is_waiting l p o ≡ true
-  pub first : is_first_waiting l p o ≡ true
+  pub others : List ℕ
+  pub first : waiting l p ≡ o ∷ others
   pub free : outstanding l p ≡ None
   pub peer : p ≡ request.peer
   pub message : next_message request (progress request (replies l o)) m.mid m.token ≡ Some m
@@ -126,7 +126,7 @@ pub record MayBeCopy (l : List Noted) (i : ℕ) (p : Peer) (bytes : List ℕ) : 
   pub timeout : Option ℕ
   pub way : Transmission
   pub stands : at l i
-      ≡ Some (record { written = record { moment = moment; deed = Sends p bytes timeout }; note = First opening message })
+      ≡ Some (noted moment (Sends p bytes timeout) (First opening message))
   pub is_outstanding : transmission l i ≡ Some way
   pub few : way.copies < MAX_RETRANSMIT
   pub is_due : due way ≤ ticked l
@@ -152,7 +152,7 @@ pub record MaySay
   pub spelled : Spells m bytes
   pub unheard : repeated l t p m ≡ None
   pub remembered : can_be_remembered l t p m ≡ true
-  pub says : note ≡ Says m (answers l p m) (notice_of l t m (answers l p m))
+  pub says : note ≡ Says m (answers l p m) (notice_of l t p m (answers l p m))
 
 abbrev pub HeardNote : List Noted → ℕ → Peer → List ℕ → Note → Type 0
 HeardNote l t p bytes (Says m to notice) = MaySay l t p bytes (Says m to notice) m
@@ -223,7 +223,7 @@ Follows l t (Asks c a) note =
 Follows l t (Sends p bytes w) note = (is_sealed l ≡ false) × SentNote l t p bytes w note
 -- It comes from a peer that something was sent to.
 Follows l t (Hears p bytes) note =
-    MayCome l × (length bytes ≤ MAX_DATAGRAM_LEN) × (is_some (last_sent l p) ≡ true)
+    MayCome l × (length bytes ≤ MAX_DATAGRAM_LEN) × (knows l p ≡ true)
     × HeardNote l t p bytes note
 Follows l t Passes note = MayCome l × IsPlain note
 -- The n-th answer of a connection is to its n-th ask.

@@ -12,7 +12,7 @@ use Rattle.ask_model.specs.Requests.{CoapRequest, Sense, Requests, Refuses, requ
 use Rattle.ask_model.specs.Views.{Ask}
 use Rattle.journal_book.specs.Entries.{Grounds, Live, Fault, Deed, Sends, Hears, Passes, Answers, Shuts}
 use Rattle.history_laws.specs.Confirmations.{empty}
-use Rattle.history_laws.specs.Readings.{Noted, Note, First, Copies, Says, Notice, at, before, ticked}
+use Rattle.history_laws.specs.Readings.{Noted, Note, First, Copies, Says, Notice, noted, at, before, ticked}
 use Rattle.history_laws.specs.Connections.{is_open, asks_of, answers_of, is_sealed}
 use Rattle.history_laws.specs.Progress.{Reply, Ending}
 use Rattle.history_laws.specs.Transmissions.{FirstSending, Transmission, transmission, due, outstanding}
@@ -24,7 +24,7 @@ use Rattle.history_laws.specs.Justified.{IsAsk, Ends, reads, Legal, AtRest}
 pub record IsFirst (l : List Noted) (t o i : ℕ) (p : Peer) (m : Content) : Type 0 where
   pub bytes : List ℕ
   pub timeout : Option ℕ
-  pub stands : at l i ≡ Some (record { written = record { moment = t; deed = Sends p bytes timeout }; note = First o m })
+  pub stands : at l i ≡ Some (noted t (Sends p bytes timeout) (First o m))
 
 -- A token is borne by one first sending.
 abbrev pub TokensApart : Type 0
@@ -43,7 +43,7 @@ IdsApart =
 pub record IsAnswer (l : List Noted) (n c k : ℕ) (g : Grounds) : Type 0 where
   pub moment : ℕ
   pub note : Note
-  pub stands : at l n ≡ Some (record { written = record { moment = moment; deed = Answers c k g }; note = note })
+  pub stands : at l n ≡ Some (noted moment (Answers c k g) note)
 
 -- A connection's answers are to its first asks, in their order.
 abbrev pub AnsweredInOrder : Type 0
@@ -82,7 +82,7 @@ pub record IsInTime (l : List Noted) (n i : ℕ) : Type 0 where
   pub tick : ℕ
   pub moment : ℕ
   pub note : Note
-  pub stands : at l tick ≡ Some (record { written = record { moment = moment; deed = Passes }; note = note })
+  pub stands : at l tick ≡ Some (noted moment Passes note)
   pub is_due : due way ≤ moment
   pub first : ticked (before l tick) < due way
   pub earlier : tick < n
@@ -91,7 +91,7 @@ pub record IsInTime (l : List Noted) (n i : ℕ) : Type 0 where
 abbrev pub CopiedInTime : Type 0
 CopiedInTime =
     (l : List Noted) (n t i : ℕ) (p : Peer) (bytes : List ℕ) (w : Option ℕ) → Legal l
-    → at l n ≡ Some (record { written = record { moment = t; deed = Sends p bytes w }; note = Copies i }) → IsInTime l n i
+    → at l n ≡ Some (noted t (Sends p bytes w) (Copies i)) → IsInTime l n i
 
 -- At rest, nothing that is outstanding was due at the last tick: its copy is out, or it is given up.
 abbrev pub NoneLeft : Type 0
@@ -134,7 +134,7 @@ pub record IsReplyTo (l : List Noted) (o : ℕ) (r : Reply) : Type 0 where
   pub moment : ℕ
   pub bytes : List ℕ
   pub notice : Notice
-  pub heard : at l r.number ≡ Some (record { written = record { moment = moment; deed = Hears peer bytes }; note = Says r.message (Some r.sending) notice })
+  pub heard : at l r.number ≡ Some (noted moment (Hears peer bytes) (Says r.message (Some r.sending) notice))
   pub spelled : Spells r.message bytes
   pub after : r.sending < r.number
   pub token : r.message.token ≡ sent.token
@@ -230,7 +230,7 @@ pub record IsAskSent (l : List Noted) (i : ℕ) (p : Peer) (bytes : List ℕ) : 
   pub message : Content
   pub moment : ℕ
   pub timeout : Option ℕ
-  pub stands : at l i ≡ Some (record { written = record { moment = moment; deed = Sends p bytes timeout }; note = First ask message })
+  pub stands : at l i ≡ Some (noted moment (Sends p bytes timeout) (First ask message))
   pub after : ask < i
   pub asks : IsAsk l ask conn asked
   pub sense : asked.sense ≡ Requests request
@@ -249,11 +249,11 @@ pub record IsConfirmation (l : List Noted) (i : ℕ) (p : Peer) (bytes : List �
   pub moment : ℕ
   pub datagram : List ℕ
   pub note : Note
-  pub stands : at l heard ≡ Some (record { written = record { moment = moment; deed = Hears p datagram }; note = note })
+  pub stands : at l heard ≡ Some (noted moment (Hears p datagram) note)
 
 -- Each sending is a first one that an ask asks for, equals one before it, or is an ACK or RST.
 abbrev pub NothingElseSent : Type 0
 NothingElseSent =
     (l : List Noted) (i t : ℕ) (p : Peer) (bytes : List ℕ) (w : Option ℕ) (note : Note) → Legal l
-    → at l i ≡ Some (record { written = record { moment = t; deed = Sends p bytes w }; note = note })
+    → at l i ≡ Some (noted t (Sends p bytes w) note)
     → IsAskSent l i p bytes ⊎ (((j : ℕ) × (j < i) × IsAskSent l j p bytes) ⊎ IsConfirmation l i p bytes)

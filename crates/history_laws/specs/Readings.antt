@@ -1,12 +1,31 @@
 -- A history with a reading: its entries, the newest first, each with a note.
-use Rattle.std.specs.Prelude.{ℕ, List, [], ◌∷◌, ◌++◌, length, Option, Some, None, ◌==◌, if◌then◌else◌}
+use Rattle.std.specs.Prelude.{ℕ, Bool, true, List, [], ◌∷◌, ◌++◌, length, Option, Some, None, ◌==◌, if◌then◌else◌}
 use Rattle.coap_codec.specs.Spelling.{Content}
 use Rattle.ask_model.specs.Requests.{CoapRequest}
 use Rattle.journal_book.specs.Entries.{Written, Deed, Passes}
 
--- what a response is to the observation of its resource (RFC 7641): nothing
-pub data Notice : Type 0 where
-  Unobserved : Notice
+-- what a response is to the observation of its resource (RFC 7641)
+pub data Observation : Type 0 where
+  -- nothing
+  Unobserved : Observation
+  -- by it the proxy became an observer
+  Registers : Observation
+  -- a newer notification with a representation: it opens an exchange for this request, whose first
+  -- reply it is
+  Updates : (request : CoapRequest) → Observation
+  -- the same, but the rest of it can't be fetched now
+  Outdates : Observation
+  -- a newer notification that is the last
+  Cancels : Observation
+
+-- what comes of a message that was heard: whether there is a place for what its exchange would send
+-- next, and what it is to an observation
+pub record Notice : Type 0 where
+  pub place : Bool
+  pub observation : Observation
+
+abbrev pub unobserved : Notice
+unobserved = record { place = true; observation = Unobserved }
 
 -- what a reading says of an entry
 pub data Note : Type 0 where
@@ -14,13 +33,18 @@ pub data Note : Type 0 where
   Plain : Note
   -- it opens an exchange, for this request
   Begins : (request : CoapRequest) → Note
+  -- it reads the exchange that the entry with this number opened
+  Joins : (opening : ℕ) → Note
+  -- it is served from a stored response, which was heard in the entries with these numbers
+  Serves : (replies : List ℕ) → Note
   -- it is a first sending, of this message, of the exchange that the entry with this number opened
   First : (opening : ℕ) → (message : Content) → Note
   -- it is a copy of the first sending with this number
   Copies : (sending : ℕ) → Note
   -- it is the ACK or RST of the datagram that was just heard
   Confirms : Note
-  -- what was heard spells this message, which answers the first sending with this number, if any
+  -- what was heard spells this message, which answers the first sending with this number, if any;
+  -- and what comes of it
   Says : (message : Content) → (to : Option ℕ) → (notice : Notice) → Note
   -- what was heard spells this message, and repeats what was heard in the entry with this number
   Repeats : (message : Content) → (heard : ℕ) → Note
@@ -30,6 +54,9 @@ pub data Note : Type 0 where
 pub record Noted : Type 0 where
   pub written : Written
   pub note : Note
+
+abbrev pub noted : ℕ → Deed → Note → Noted
+noted t d note = record { written = record { moment = t; deed = d }; note = note }
 
 -- the entries, oldest first
 abbrev pub entries : List Noted → List Written

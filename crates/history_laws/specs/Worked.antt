@@ -12,9 +12,6 @@ use Rattle.journal_book.specs.Entries.{Deed}
 use Rattle.history_laws.specs.Readings.{Noted, Note}
 use Rattle.history_laws.specs.Justified.{Legal, AtRest}
 
-abbrev pub noted : ℕ → Deed → Note → Noted
-noted t d note = record { written = record { moment = t; deed = d }; note = note }
-
 abbrev pub server : Peer
 server = record { address = V4 (record { octets = 192 ∷ 0 ∷ 2 ∷ 1 ∷ [] }); port = 5683 }
 

@@ -6,8 +6,8 @@ use Rattle.coap_codec.specs.Spelling.{Content}
 use Rattle.ask_model.specs.declared.cause.Cause.TheVariants as C
 use Rattle.journal_book.specs.Entries.{Live, Fault, Sends, Hears, Passes, Answers}
 use Rattle.history_laws.specs.Confirmations.{empty}
-use Rattle.history_laws.specs.Readings.{Noted, Plain, First, Copies, Says, Unobserved}
-use Rattle.history_laws.specs.Worked.{noted, server, non, empty_rst, message}
+use Rattle.history_laws.specs.Readings.{Noted, Plain, First, Copies, Says, unobserved, noted}
+use Rattle.history_laws.specs.Worked.{server, non, empty_rst, message}
 use Rattle.history_laws.specs.WorkedMessages.{get_bytes, put_bytes, put_message, waiting, copied}
 
 abbrev pub non_bytes : List ℕ
@@ -20,10 +20,10 @@ non_message = message Non 69 60 0 [] (codes "on")
 abbrev pub rejected : List Noted
 rejected =
     noted 700 (Answers 1 4 (Fault C.Reset 8)) Plain
-    ∷ noted 700 (Hears server (empty_rst 1)) (Says (empty Rst 1) (Some 7) Unobserved)
+    ∷ noted 700 (Hears server (empty_rst 1)) (Says (empty Rst 1) (Some 7) unobserved)
     ∷ noted 600 (Sends server put_bytes (Some 3000)) (First 4 put_message)
     ∷ noted 600 (Answers 0 1 (Live (5 ∷ []))) Plain
-    ∷ noted 600 (Hears server non_bytes) (Says non_message (Some 2) Unobserved)
+    ∷ noted 600 (Hears server non_bytes) (Says non_message (Some 2) unobserved)
     ∷ waiting
 
 -- The GET's message is copied four times, after 2, 4, 8 and 16 seconds.

@@ -6,8 +6,8 @@ use Rattle.coap_codec.specs.Spelling.{Content}
 use Rattle.ask_model.specs.declared.cause.Cause.TheVariants as C
 use Rattle.journal_book.specs.Entries.{Fault, Opens, Asks, Sends, Hears, Passes, Answers, Shuts}
 use Rattle.history_laws.specs.Confirmations.{empty}
-use Rattle.history_laws.specs.Readings.{Noted, Plain, Begins, First, Copies, Confirms, Says, Unobserved}
-use Rattle.history_laws.specs.Worked.{noted, server, ask_for, con, empty_rst, message}
+use Rattle.history_laws.specs.Readings.{Noted, Plain, Begins, First, Copies, Confirms, Says, unobserved, noted}
+use Rattle.history_laws.specs.Worked.{server, ask_for, con, empty_rst, message}
 use Rattle.history_laws.specs.WorkedMessages.{get_light, put_light, get_bytes, put_bytes, get_message, let_go, answered}
 
 -- 2.05 with the payload `off`, under the GET's token and another ID
@@ -21,7 +21,7 @@ other_message = message Con 69 53 0 [] (codes "off")
 abbrev pub heard_twice : List Noted
 heard_twice =
     noted 5100 (Sends server (empty_rst 53) None) Confirms
-    ∷ noted 5100 (Hears server other_bytes) (Says other_message None Unobserved)
+    ∷ noted 5100 (Hears server other_bytes) (Says other_message None unobserved)
     ∷ answered
 
 -- The PUT gets no reply in 93 seconds.
@@ -35,7 +35,7 @@ half_answered =
 -- A Reset message comes for what an ACK confirmed.
 abbrev pub rejected_after : List Noted
 rejected_after =
-    noted 2200 (Hears server (empty_rst 0)) (Says (empty Rst 0) None Unobserved)
+    noted 2200 (Hears server (empty_rst 0)) (Says (empty Rst 0) None unobserved)
     ∷ let_go
 
 -- The client of the GET closes its connection, and a tick finds the GET 93 seconds old.

@@ -5,9 +5,9 @@ use Rattle.coap_codec.specs.Spelling.{Content}
 use Rattle.ask_model.specs.declared.cause.Cause.TheVariants as C
 use Rattle.ask_model.specs.Requests.{CoapRequest, request_message}
 use Rattle.journal_book.specs.Entries.{Live, Fault, Opens, Asks, Sends, Hears, Passes, Answers}
-use Rattle.history_laws.specs.Readings.{Noted, Plain, Begins, First, Copies, Confirms, Says, Repeats, Unobserved}
+use Rattle.history_laws.specs.Readings.{Noted, Plain, Begins, First, Copies, Confirms, Says, Repeats, unobserved, noted}
 use Rattle.history_laws.specs.Confirmations.{empty}
-use Rattle.history_laws.specs.Worked.{noted, server, asks, ask_for, host, token, con, ack, empty_ack, message}
+use Rattle.history_laws.specs.Worked.{server, asks, ask_for, host, token, con, ack, empty_ack, message}
 
 abbrev pub get_light : CoapRequest
 get_light = asks 1 (codes "light") []
@@ -61,7 +61,7 @@ copied =
 abbrev pub let_go : List Noted
 let_go =
     noted 2100 (Sends server put_bytes (Some 2000)) (First 4 put_message)
-    ∷ noted 2100 (Hears server (empty_ack 0)) (Says (empty Ack 0) (Some 2) Unobserved)
+    ∷ noted 2100 (Hears server (empty_ack 0)) (Says (empty Ack 0) (Some 2) unobserved)
     ∷ copied
 
 -- The response comes by itself, and is acknowledged.
@@ -69,7 +69,7 @@ abbrev pub answered : List Noted
 answered =
     noted 5000 (Answers 0 1 (Live (9 ∷ []))) Plain
     ∷ noted 5000 (Sends server (empty_ack 52) None) Confirms
-    ∷ noted 5000 (Hears server content_bytes) (Says content_message (Some 2) Unobserved)
+    ∷ noted 5000 (Hears server content_bytes) (Says content_message (Some 2) unobserved)
     ∷ let_go
 
 -- It comes again, and is acknowledged again. But for the ACK the PUT's message has been due at 4,100, so that the
@@ -77,7 +77,7 @@ answered =
 abbrev pub all_answered : List Noted
 all_answered =
     noted 5300 (Answers 1 4 (Live (16 ∷ []))) Plain
-    ∷ noted 5300 (Hears server changed_bytes) (Says changed_message (Some 8) Unobserved)
+    ∷ noted 5300 (Hears server changed_bytes) (Says changed_message (Some 8) unobserved)
     ∷ noted 5200 (Sends server put_bytes None) (Copies 8)
     ∷ noted 5200 Passes Plain
     ∷ noted 5100 (Sends server (empty_ack 52) None) Confirms

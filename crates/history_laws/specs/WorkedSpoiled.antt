@@ -5,8 +5,8 @@ use Rattle.ask_model.specs.declared.cause.Cause.TheVariants as C
 use Rattle.ask_model.specs.Requests.{request_message}
 use Rattle.journal_book.specs.Entries.{Live, Fault, Opens, Asks, Sends, Hears, Passes, Answers, Seals}
 use Rattle.history_laws.specs.Confirmations.{empty}
-use Rattle.history_laws.specs.Readings.{Noted, Plain, Begins, First, Copies, Says, Unobserved}
-use Rattle.history_laws.specs.Worked.{noted, server, ask_for, host, token, con, empty_ack, empty_rst}
+use Rattle.history_laws.specs.Readings.{Noted, Plain, Begins, First, Copies, Says, unobserved, noted}
+use Rattle.history_laws.specs.Worked.{server, ask_for, host, token, con, empty_ack, empty_rst}
 use Rattle.history_laws.specs.WorkedMessages.{get_light, put_light, get_bytes, content_bytes, content_message, waiting, copied, let_go, answered}
 use Rattle.history_laws.specs.WorkedEndings.{copied_out}
 
@@ -35,7 +35,7 @@ renumbered =
 abbrev pub overtaken : List Noted
 overtaken =
     noted 700 (Sends server (con 1 1 1 ++ (host ++ (133 ∷ codes "light"))) (Some 2000)) (First 6 (request_message get_light 1 (token 1)))
-    ∷ noted 700 (Hears server (empty_ack 0)) (Says (empty Ack 0) (Some 2) Unobserved)
+    ∷ noted 700 (Hears server (empty_ack 0)) (Says (empty Ack 0) (Some 2) unobserved)
     ∷ noted 600 (Asks 2 (ask_for get_light)) (Begins get_light)
     ∷ noted 600 (Opens 2) Plain
     ∷ waiting
@@ -45,19 +45,19 @@ abbrev pub used_again : List Noted
 used_again =
     noted 493999 (Sends server (con 3 0 1 ++ (host ++ ((133 ∷ codes "light") ++ (255 ∷ codes "off")))) (Some 2000))
     (First 4 (request_message put_light 0 (token 1)))
-    ∷ noted 2100 (Hears server (empty_ack 0)) (Says (empty Ack 0) (Some 2) Unobserved)
+    ∷ noted 2100 (Hears server (empty_ack 0)) (Says (empty Ack 0) (Some 2) unobserved)
     ∷ copied
 
 -- a repeat taken for a new message, 246,999 ms after the first
 abbrev pub heard_as_new : List Noted
 heard_as_new =
-    noted 251999 (Hears server content_bytes) (Says content_message None Unobserved)
+    noted 251999 (Hears server content_bytes) (Says content_message None unobserved)
     ∷ answered
 
 -- a Reset message taken to reject what an empty ACK had confirmed
 abbrev pub rejected_late : List Noted
 rejected_late =
-    noted 2200 (Hears server (empty_rst 0)) (Says (empty Rst 0) (Some 2) Unobserved)
+    noted 2200 (Hears server (empty_rst 0)) (Says (empty Rst 0) (Some 2) unobserved)
     ∷ let_go
 
 -- the PUT answered by the reply to the GET

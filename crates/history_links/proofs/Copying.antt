@@ -6,10 +6,9 @@ use Rattle.uri_map.specs.Peers.{same_peer}
 use Rattle.journal_book.specs.Entries.{Sends}
 use Rattle.message_layer.specs.declared.state.Outstanding.{Outstanding}
 use Rattle.message_layer.specs.Sending.{again, due_of, with_copy}
-use Rattle.history_laws.specs.Readings.{Noted, Note, Copies, newest, ticked}
+use Rattle.history_laws.specs.Readings.{Noted, Note, Copies, newest, ticked, noted}
 use Rattle.history_laws.specs.Transmissions.{FirstSending, Transmission, transmission, copied_way, if_outstanding, firsts, last_sent}
 use Rattle.history_laws.specs.Justified.{MayBeCopy}
-use Rattle.history_laws.specs.Worked.{noted}
 use Rattle.history_laws.proofs.CallerLemmas.{at-keeps, eqb-itself, find-some}
 use Rattle.history_links.specs.Agrees.{way_of, IsOut, TurnIn}
 use Rattle.history_links.specs.Steps.{copy, CopyFollows}
@@ -17,7 +16,7 @@ use Rattle.history_links.proofs.Tokens.{found-first}
 use Rattle.history_links.proofs.Still.{Still, still-by, SameHeard, rest-still, heard-at}
 
 pub still-copy : (l : List Noted) (t : ℕ) (p : Peer) (b : List ℕ) (i : ℕ) → newest l ≤ t → Still l (noted t (Sends p b None) (Copies i) ∷ l)
-still-copy l t p b i later = still-by (noted t (Sends p b None) (Copies i)) l later refl refl (λ o. refl) (λ o. refl) (λ o. refl)
+still-copy l t p b i later = still-by (noted t (Sends p b None) (Copies i)) l later refl refl (λ o. refl) (λ o. refl) (λ o. refl) (λ o. tt)
 
 -- the timer of the copied message
 way-copied : (l : List Noted) (t : ℕ) (p : Peer) (b : List ℕ) (i : ℕ) (x : Transmission) → transmission l i ≡ Some x

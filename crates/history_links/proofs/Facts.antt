@@ -7,47 +7,9 @@ use Rattle.uri_map.specs.declared.peer.Peer.{Peer}
 use Rattle.ask_model.specs.Requests.{CoapRequest}
 use Rattle.journal_book.specs.Entries.{Deed, Sends, Hears, Passes}
 use Rattle.history_laws.specs.Readings.{Noted, Note, First, Says}
-use Rattle.history_laws.proofs.CallerLemmas.{all-filter, all-more, all-passes, all-push, and-left, and-right, first_end, heard-sends, none-of, replied-first}
+use Rattle.history_laws.proofs.CallerLemmas.{first_end, heard-sends, replied-first}
 use Rattle.history_laws.specs.Progress.{Ending, Reply}
-use Rattle.history_laws.specs.Exchanges.{opened_by, opens_by, openings, Turn, Nothing, Sent, Replied, Rejected, Expired, expires, turn_by, turn, waits_by, waits_for, replies_by, replies, End, end_here, end_by, end_of, is_going, is_waiting, waiting, submitted, is_first_waiting, goes_to, begun, replied_end, Begun}
-
--- lists of numbers that rise
-
-abbrev pub Rising : List ℕ → Type 0
-Rising [] = Unit {0}
-Rising (n ∷ ns) = AllByRecursion (λ (m : ℕ). n < m) ns × Rising ns
-
-pub rising-push : (ns : List ℕ) (n : ℕ) → Rising ns → AllByRecursion (λ (m : ℕ). m < n) ns → Rising (ns ++ n ∷ [])
-rising-push [] n r a = (tt, tt)
-rising-push (m ∷ ns) n r a = (all-push (λ (k : ℕ). m < k) ns n r.0 a.0, rising-push ns n r.1 a.1)
-
-pub rising-filter : (q : ℕ → Bool) (ns : List ℕ) → Rising ns → Rising (filter q ns)
-rising-filter q [] r = r
-rising-filter q (n ∷ ns) r = by (q n) (rising-filter q ns r.1)
-  where
-    by : (b : Bool) → Rising (filter q ns) → Rising (cond b (n ∷ filter q ns) (filter q ns))
-    by true h = (all-filter (λ (m : ℕ). n < m) q ns r.0, h)
-    by false h = h
-
--- openings
-
-opened-below : (n : ℕ) (q : Option CoapRequest) (os : List ℕ) → AllByRecursion (λ (o : ℕ). o < n) os → AllByRecursion (λ (o : ℕ). o < n + 1) (opened_by n q os)
-opened-below n (Some q) os a = all-push (λ (o : ℕ). o < n + 1) os n (all-more (λ (o : ℕ). o < n) (λ (o : ℕ). o < n + 1) (λ o h. omega (arith, h)) os a) (omega arith)
-opened-below n None os a = all-more (λ (o : ℕ). o < n) (λ (o : ℕ). o < n + 1) (λ o h. omega (arith, h)) os a
-
-pub openings-below : (l : List Noted) → AllByRecursion (λ (o : ℕ). o < length l) (openings l)
-openings-below [] = tt
-openings-below (x ∷ older) =
-    all-more (λ (o : ℕ). o < length older + 1) (λ (o : ℕ). o < length (x ∷ older)) (λ o h. omega (arith, h)) (opened_by (length older) (opens_by x.note) (openings older))
-    (opened-below (length older) (opens_by x.note) (openings older) (openings-below older))
-
-opened-rising : (n : ℕ) (q : Option CoapRequest) (os : List ℕ) → Rising os → AllByRecursion (λ (o : ℕ). o < n) os → Rising (opened_by n q os)
-opened-rising n (Some q) os r a = rising-push os n r a
-opened-rising n None os r a = r
-
-pub openings-rising : (l : List Noted) → Rising (openings l)
-openings-rising [] = tt
-openings-rising (x ∷ older) = opened-rising (length older) (opens_by x.note) (openings older) (openings-rising older) (openings-below older)
+use Rattle.history_laws.specs.Exchanges.{opened_by, opens_by, openings, Turn, Nothing, Sent, Replied, Rejected, Expired, expires, turn_by, turn, waits_by, waits_for, replies_by, replies, End, end_here, end_by, end_of, begun, replied_end, Begun}
 
 -- What is awaited was sent.
 
@@ -105,34 +67,10 @@ unreplied (x ∷ older) o e =
     let both = none-by (end_here (begun older o) (length older) (replies older o) (turn older o x)) (length older) (end_of older o) e in
     none-replied (begun older o) (length older) (replies older o) (turn older o x) (unreplied older o both.1) both.0
 
--- who waits
+-- booleans
 
 pub and-turn : (a b : Bool) → (a && b) ≡ (b && a)
 and-turn true true = refl
 and-turn true false = refl
 and-turn false true = refl
 and-turn false false = refl
-
-pub waiting-goes : (l : List Noted) (p : Peer) (o : ℕ) → is_waiting l p o ≡ true → end_of l o ≡ None
-waiting-goes l p o e = none-of (end_of l o) (and-left (is_going l o) _ (and-right (goes_to p (begun l o)) _ e))
-
-pub waiting-unsent : (l : List Noted) (p : Peer) (o : ℕ) → is_waiting l p o ≡ true → waits_for l o ≡ None
-waiting-unsent l p o e = none-of (waits_for l o) (and-right (is_going l o) _ (and-right (goes_to p (begun l o)) _ e))
-
-pub submitted-opening : (l : List Noted) (p : Peer) (o : ℕ) → is_waiting l p o ≡ true → submitted l o ≡ o
-submitted-opening l p o e = rw (unreplied l o (waiting-goes l p o e)) refl
-
-no-earlier : (l : List Noted) (p : Peer) (o : ℕ) (os : List ℕ) → is_waiting l p o ≡ true → AllByRecursion (λ (q : ℕ). is_waiting l p q ≡ true) os
-    → AllByRecursion (λ (q : ℕ). o ≤ q) os → list_all (λ (q : ℕ). leb (submitted l o) (submitted l q)) os ≡ true
-no-earlier l p o [] w ws a = refl
-no-earlier l p o (q ∷ os) w ws a = and_from _ _ (here (submitted-opening l p o w) (submitted-opening l p q ws.0)) (no-earlier l p o os w ws.1 a.1)
-  where
-    here : submitted l o ≡ o → submitted l q ≡ q → leb (submitted l o) (submitted l q) ≡ true
-    here d e = rw (d, e) (le-leb o q a.0)
-
-pub first-waiting : (l : List Noted) (p : Peer) (o : ℕ) (os : List ℕ) → waiting l p ≡ o ∷ os → is_first_waiting l p o ≡ true
-first-waiting l p o os e =
-    let all = subst (λ (v : List ℕ). AllByRecursion (λ (q : ℕ). is_waiting l p q ≡ true) v) e (all-passes (is_waiting l p) (openings l)) in
-    let rising = subst Rising e (rising-filter (is_waiting l p) (openings l) (openings-rising l)) in
-    subst (λ (v : List ℕ). list_all (λ (q : ℕ). leb (submitted l o) (submitted l q)) v ≡ true) (sym e)
-    (no-earlier l p o (o ∷ os) all.0 all (omega arith, all-more (λ (q : ℕ). o < q) (λ (q : ℕ). o ≤ q) (λ q h. omega (arith, h)) os rising.0))

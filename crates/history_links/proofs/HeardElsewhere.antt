@@ -3,12 +3,11 @@ use Rattle.std.proofs.Common.{◌≡◌, ℕ, Bool, true, false, eqb, inl, inr, 
 use Rattle.std.specs.Prelude.{◌&&◌}
 use Rattle.std.proofs.lemmas.Bool.{false≢true}
 use Rattle.std.proofs.lemmas.Bool.Decides.{eqb_tells}
-use Rattle.std.proofs.lemmas.List.Elements.{filter_agree}
 use Rattle.coap_codec.specs.Spelling.{Content}
 use Rattle.uri_map.specs.declared.peer.Peer.{Peer}
 use Rattle.uri_map.specs.Peers.{same_peer}
 use Rattle.journal_book.specs.Entries.{Hears}
-use Rattle.history_laws.specs.Readings.{Noted, Says, Unobserved}
+use Rattle.history_laws.specs.Readings.{Noted, Says, unobserved}
 use Rattle.history_laws.specs.Transmissions.{FirstSending, first_at, last_sent}
 use Rattle.history_laws.specs.Exchanges.{openings, waits_for, awaited, is_waiting, waiting}
 use Rattle.history_laws.specs.Hearing.{is_such, is_live, went_under, went_as}
@@ -21,7 +20,7 @@ use Rattle.history_links.proofs.Judging.{token-found}
 use Rattle.history_links.proofs.Saying.{asked-once, waits-on}
 use Rattle.history_links.proofs.OtherPeers.{number-differs, nothing-found, turn-where}
 
-not-live : (t u : ℕ) (p r : Peer) (d : List ℕ) (m : Content) (to : Option ℕ) → same_peer r p ≡ false → is_live u p t (Hears r d) (Says m to Unobserved) ≡ false
+not-live : (t u : ℕ) (p r : Peer) (d : List ℕ) (m : Content) (to : Option ℕ) → same_peer r p ≡ false → is_live u p t (Hears r d) (Says m to unobserved) ≡ false
 not-live t u p r d m to e = rw (e) (by (is_such m.kind))
   where
     by : (b : Bool) → (b && false) ≡ false
@@ -65,8 +64,7 @@ says-elsewhere l t p r s d m to b e other =
       last = a.last;
       count_up = a.count_up;
       given = λ u after. a.given u (let later = b.later in omega (arith, later, after));
-      waits = subst (λ (w : List ℕ). WaitIn n w s.waiting) (sym (filter_agree (is_waiting n p) (is_waiting l p) (waiting-after l t r p d m to) (openings l)))
-          (waits-on l t r d m to (waiting l p) s.waiting a.waits);
+      waits = waits-on l t r p d m to s.waiting a.waits;
       awaits = λ token.
           a.awaits token
           ∙ (sym (asked-once (λ (i : ℕ). went_under p token (first_at l i)) (ends_what to m) false (awaited l) (λ i x h. under-elsewhere l p to m other i token h))

@@ -1,13 +1,11 @@
 pub mod CallerLemmas
 mod Facts
 mod Mids
-mod Ranks
 mod Still
 mod Copying
 mod Sending
 mod Sent
 mod Nexts
-mod Unbegun
 mod Queueing
 mod Silence
 mod Repeating

@@ -1,6 +1,7 @@
 -- After the message that waits first is sent, the link agrees.
-use Rattle.std.proofs.Common.{◌≡◌, ℕ, ◌<◌, ◌≤◌, ◌+◌, Bool, true, false, cond, eqb, List, [], ◌∷◌, ◌++◌, length, Option, Some, None, refl, sym, ap, subst, ◌∙◌, arith}
-use Rattle.std.specs.Prelude.{count_by, ◌&&◌, ◌||◌, option_and_then}
+use Rattle.std.proofs.Common.{◌≡◌, ℕ, ◌<◌, ◌≤◌, ◌+◌, Bool, true, false, cond, eqb, inl, inr, List, [], ◌∷◌, ◌++◌, length, Option, Some, None, refl, sym, ap, subst, ◌∙◌, arith}
+use Rattle.std.specs.Prelude.{count_by, filter, ◌&&◌, ◌||◌, is_none, is_some, option_and_then}
+use Rattle.std.proofs.lemmas.Bool.Decides.{eqb_tells}
 use Rattle.std.specs.List.{AllByRecursion, list_any}
 use Rattle.std.specs.Str.{bytes_eq}
 use Rattle.std.proofs.lemmas.List.Folds.{list_any-append}
@@ -17,18 +18,18 @@ use Rattle.message_layer.specs.declared.state.Awaited.{Awaited}
 use Rattle.message_layer.specs.declared.state.Outstanding.{Outstanding}
 use Rattle.history_laws.specs.Readings.{Noted, First, newest}
 use Rattle.history_laws.specs.Transmissions.{FirstSending, firsts, first_at, last_sent, if_outstanding, is_recent, mids_used, transmission}
-use Rattle.history_laws.specs.Exchanges.{openings, waits_for, awaited, is_waiting, waiting}
+use Rattle.history_laws.specs.Exchanges.{openings, waits_for, awaited, is_waiting, waiting, submitted, rank}
+use Rattle.history_laws.specs.Justified.{Legal}
 use Rattle.history_laws.specs.Hearing.{went_under, went_as}
-use Rattle.history_laws.proofs.CallerLemmas.{at-new, eqb-itself}
-use Rattle.history_links.specs.Agrees.{rank, way_of, IsOut, firsts_to, CountUp, IsWaitingFor, WaitIn, awaits, awaits_ack}
+use Rattle.history_laws.proofs.CallerLemmas.{any-of, at-new, begun-listed, eqb-itself, filter-all, none-submitted, queue-kept, queue-rises, rank-apart, RisesBy, waiting-all, waiting-begun, waiting-goes, waiting-unsent}
+use Rattle.history_links.specs.Agrees.{way_of, IsOut, firsts_to, CountUp, IsWaitingFor, WaitIn, awaits, awaits_ack}
 use Rattle.history_links.specs.Steps.{NextFollows}
-use Rattle.history_links.proofs.Facts.{Rising, rising-filter, openings-rising, waits-below, waiting-unsent, and-turn}
+use Rattle.history_links.proofs.Facts.{waits-below, and-turn}
 use Rattle.history_links.proofs.Mids.{count-cons}
-use Rattle.history_links.proofs.Ranks.{rank-keeps, rank-apart}
-use Rattle.history_links.proofs.Still.{waits-one, heard-still}
+use Rattle.history_links.proofs.Still.{waiting-keeps, waits-one, heard-still}
 use Rattle.history_links.proofs.Copying.{is-outstanding, unheard-sent}
 use Rattle.history_links.proofs.Sending.{head, head-waits, has-next, next-small, message-of, may-be-first}
-use Rattle.history_links.proofs.Sent.{sent, taken-away, waiting-sent, not-waiting, waits-sent, one-awaited, is-among, count-push, in-use-recent}
+use Rattle.history_links.proofs.Sent.{sent, sent-quiet, waiting-sent, not-waiting, waits-sent, one-awaited, count-push, in-use-recent}
 use Rattle.history_links.proofs.OtherPeers.{first-other}
 
 -- those that wait still
@@ -40,17 +41,20 @@ other-token a b lt = by (bytes_eq a b) refl
     by true e = let same = ap token_number ((bytes_eq-Decides a b).0 e) in absurd (omega (arith, lt, same))
     by false e = refl
 
-still-waits : (l : List Noted) (t : ℕ) (p r : Peer) (b : List ℕ) (w : Option ℕ) (o : ℕ) (v : Waiting) (mine : IsWaitingFor l o v) (m : Content) → m.token ≡ v.token
-    → (os : List ℕ) (ws : List Waiting) → AllByRecursion (λ (q : ℕ). o < q) os → WaitIn l os ws → WaitIn (sent t p b w o m ∷ l) os ws
-still-waits l t p r b w o v mine m e [] [] a i = i
-still-waits l t p r b w o v mine m e [] (x ∷ ws) a i = i
-still-waits l t p r b w o v mine m e (q ∷ os) [] a i = i
-still-waits l t p r b w o v mine m e (q ∷ os) (x ∷ ws) a i =
-    let less : rank l o < rank l q = rank-apart l o q _ _ mine.opening i.0.opening a.0 in
+still-waits : (l : List Noted) (t : ℕ) (p : Peer) (b : List ℕ) (w : Option ℕ) (o : ℕ) (v : Waiting) (mine : IsWaitingFor l o v) (m : Content) → m.token ≡ v.token
+    → Legal l → is_waiting l p o ≡ true → (os : List ℕ) (ws : List Waiting) → AllByRecursion (λ (q : ℕ). is_waiting l p q ≡ true) os
+    → AllByRecursion (λ (q : ℕ). submitted l o < submitted l q) os → WaitIn l os ws → WaitIn (sent t p b w o m ∷ l) os ws
+still-waits l t p b w o v mine m e legal waits [] [] a r i = i
+still-waits l t p b w o v mine m e legal waits [] (x ∷ ws) a r i = i
+still-waits l t p b w o v mine m e legal waits (q ∷ os) [] a r i = i
+still-waits l t p b w o v mine m e legal waits (q ∷ os) (x ∷ ws) a r i =
+    let goes = ap is_none (waiting-goes l p o waits) in
+    let also = ap is_none (waiting-goes l p q a.0) in
+    let less : rank l o < rank l q = rank-apart l o q _ _ legal mine.opening i.0.opening goes also r.0 in
     let numbers : token_number m.token < token_number x.token =
     let d = ap token_number e in let f = mine.numbered in let g = i.0.numbered in omega (arith, less, d, f, g) in (
-      waits-one l (sent t p b w o m ∷ l) q x (λ k c e. (e, rank-keeps (sent t p b w o m) l k c e)) (λ e. rw (other-token m.token x.token numbers) e) i.0,
-      still-waits l t p r b w o v mine m e os ws a.1 i.1,
+      waits-one l (sent t p b w o m ∷ l) q x (waiting-keeps (sent t p b w o m) l p q a.0) (λ e. rw (other-token m.token x.token numbers) e) i.0,
+      still-waits l t p b w o v mine m e legal waits os ws a.1 r.1 i.1,
     )
 
 -- the history after it, and what it says
@@ -109,24 +113,41 @@ or-none false = refl
 more-awaited : (test : Awaited → Bool) (awaited : List Awaited) (a : Awaited) → list_any test (awaited ++ a ∷ []) ≡ (list_any test awaited || test a)
 more-awaited test awaited a = list_any-append test awaited (a ∷ []) ∙ ap (λ (v : Bool). list_any test awaited || v) (or-none (test a))
 
-awaits-more : (l : List Noted) (t : ℕ) (p : Peer) (b : List ℕ) (w : Option ℕ) (o : ℕ) (m : Content) (others : List ℕ) → waiting l p ≡ o ∷ others
-    → is_waiting l p o ≡ true → (token : List ℕ) → awaits (sent t p b w o m ∷ l) p token ≡ (awaits l p token || bytes_eq m.token token)
-awaits-more l t p b w o m others e waits token =
+is-opened : (l : List Noted) (p : Peer) (o : ℕ) → is_waiting l p o ≡ true → list_any (eqb o) (openings l) ≡ true
+is-opened l p o e = let b = waiting-begun l p o e in any-of (eqb o) (openings l) o (begun-listed l o (ap is_some b.1)) (eqb-itself o)
+
+awaits-more : (l : List Noted) (t : ℕ) (p : Peer) (b : List ℕ) (w : Option ℕ) (o : ℕ) (m : Content) → is_waiting l p o ≡ true → (token : List ℕ) → awaits (sent t p b w o m ∷ l) p token ≡ (awaits l p token || bytes_eq m.token token)
+awaits-more l t p b w o m waits token =
     let n = sent t p b w o m ∷ l in
     one-awaited (λ (i : ℕ). went_under p token (first_at n i)) (λ (i : ℕ). went_under p token (first_at l i)) (waits_for n) (waits_for l) o (length l)
     (waits-sent l t p b w o m) (waiting-unsent l p o waits)
     (λ q i h. ap (went_under p token) (first-other l t p b w o m i (waits-below l q i h))) (openings l)
-    ∙ rw (is-among (is_waiting l p) o others (openings l) e, newer-first l t p b w o m, same_peer-itself p) refl
+    ∙ rw (is-opened l p o waits, newer-first l t p b w o m, same_peer-itself p) refl
 
-acks-more : (l : List Noted) (t : ℕ) (p : Peer) (b : List ℕ) (w : Option ℕ) (o : ℕ) (m : Content) (others : List ℕ) → waiting l p ≡ o ∷ others
-    → is_waiting l p o ≡ true → (mid : ℕ) (token : List ℕ)
+acks-more : (l : List Noted) (t : ℕ) (p : Peer) (b : List ℕ) (w : Option ℕ) (o : ℕ) (m : Content) → is_waiting l p o ≡ true → (mid : ℕ) (token : List ℕ)
     → awaits_ack (sent t p b w o m ∷ l) p mid token ≡ (awaits_ack l p mid token || (bytes_eq m.token token && eqb m.mid mid))
-acks-more l t p b w o m others e waits mid token =
+acks-more l t p b w o m waits mid token =
     let n = sent t p b w o m ∷ l in
     one-awaited (λ (i : ℕ). went_under p token (first_at n i) && went_as p mid (first_at n i)) (λ (i : ℕ). went_under p token (first_at l i) && went_as p mid (first_at l i))
     (waits_for n) (waits_for l) o (length l) (waits-sent l t p b w o m) (waiting-unsent l p o waits)
     (λ q i h. ap (λ (f : Option FirstSending). went_under p token f && went_as p mid f) (first-other l t p b w o m i (waits-below l q i h))) (openings l)
-    ∙ rw (is-among (is_waiting l p) o others (openings l) e, newer-first l t p b w o m, same_peer-itself p) refl
+    ∙ rw (is-opened l p o waits, newer-first l t p b w o m, same_peer-itself p) refl
+
+-- who waits after it
+gone : (l : List Noted) (t : ℕ) (p : Peer) (b : List ℕ) (w : Option ℕ) (o : ℕ) (m : Content) (os : List ℕ)
+    → AllByRecursion (λ (q : ℕ). is_waiting l p q ≡ true) os → AllByRecursion (λ (q : ℕ). submitted l o < submitted l q) os
+    → filter (is_waiting (sent t p b w o m ∷ l) p) (o ∷ os) ≡ os
+gone l t p b w o m os a r =
+    ap (λ (v : Bool). cond v (o ∷ filter (is_waiting (sent t p b w o m ∷ l) p) os) (filter (is_waiting (sent t p b w o m ∷ l) p) os)) (not-waiting l t p p b w o m)
+    ∙ filter-all (is_waiting (sent t p b w o m ∷ l) p) os (each os a r)
+  where
+    other : (q : ℕ) → submitted l o < submitted l q → eqb o q ≡ false
+    other q lt = elim (eqb_tells o q) [ inl e ↦ let same = ap (submitted l) e.1 in absurd (omega (arith, same, lt)) | inr e ↦ e.0 ]
+
+    each : (os : List ℕ) → AllByRecursion (λ (q : ℕ). is_waiting l p q ≡ true) os → AllByRecursion (λ (q : ℕ). submitted l o < submitted l q) os
+        → AllByRecursion (λ (q : ℕ). is_waiting (sent t p b w o m ∷ l) p q ≡ true) os
+    each [] a r = tt
+    each (q ∷ os) a r = (waiting-sent l t p p b w o m q (other q r.0) ∙ a.0, each os a.1 r.1)
 
 pub next-follows : NextFollows
 next-follows l t p s w ws b q small few free e =
@@ -138,11 +159,12 @@ next-follows l t p s w ws b q small few free e =
     let m = message-of l o w h.waits s.last_mid in
     let x = first_sent t s.last_mid w in
     let waits = head-waits l p w ws h in
-    let rising : Rising (o ∷ h.others) = subst Rising h.is (rising-filter (is_waiting l p) (openings l) (openings-rising l)) in
     let n = sent t p x.datagram (Some x.timeout) o m ∷ l in
-    let still : waiting n p ≡ h.others =
-    taken-away (is_waiting n p) (is_waiting l p) o h.others (waiting-sent l t p p x.datagram (Some x.timeout) o m)
-    (not-waiting l t p p x.datagram (Some x.timeout) o m) (openings l) (openings-rising l) h.is in (
+    let others = subst (AllByRecursion (λ (q : ℕ). is_waiting l p q ≡ true)) h.is (waiting-all l p) in
+    let rises = subst (RisesBy (submitted l)) h.is (queue-rises l p) in
+    let still : waiting n p ≡ h.others = queue-kept (sent t p x.datagram (Some x.timeout) o m) l p
+    (none-submitted (sent t p x.datagram (Some x.timeout) o m) l p refl (λ q w. sent-quiet l t p x.datagram (Some x.timeout) o m q))
+    ∙ (ap (filter (is_waiting n p)) h.is ∙ gone l t p x.datagram (Some x.timeout) o m h.others others.1 rises.0) in (
       o,
       m,
       waits,
@@ -155,13 +177,13 @@ next-follows l t p s w ws b q small few free e =
           last = sym (ap (λ (v : Option FirstSending). option_mid v) (last-sent l t p x.datagram (Some x.timeout) o m));
           count_up = counts-up l t p x.datagram (Some x.timeout) o m (next-small s.last_mid w.first_mid small, has-next l p s.last_mid w.first_mid a.last, a.count_up);
           given = given-more l t p x.datagram (Some x.timeout) o m s.given later a.given;
-          waits = subst (λ (v : List ℕ). WaitIn n v ws) (sym still) (still-waits l t p p x.datagram (Some x.timeout) o w h.waits m refl h.others ws rising.0 h.more);
-          awaits = λ token. more-awaited (is_awaited token) s.awaited _ ∙ (ap (λ (v : Bool). v || bytes_eq w.token token) (a.awaits token) ∙ sym (awaits-more l t p x.datagram (Some x.timeout) o m h.others h.is waits token));
+          waits = subst (λ (v : List ℕ). WaitIn n v ws) (sym still) (still-waits l t p x.datagram (Some x.timeout) o w h.waits m refl legal waits h.others ws others.1 rises.0 h.more);
+          awaits = λ token. more-awaited (is_awaited token) s.awaited _ ∙ (ap (λ (v : Bool). v || bytes_eq w.token token) (a.awaits token) ∙ sym (awaits-more l t p x.datagram (Some x.timeout) o m waits token));
           acks = λ mid token.
               more-awaited (is_awaited_by_ack mid token) s.awaited _
               ∙ (ap (λ (v : Bool). v || (eqb m.mid mid && bytes_eq w.token token)) (a.acks mid token)
               ∙ (ap (λ (v : Bool). awaits_ack l p mid token || v) (and-turn (eqb m.mid mid) (bytes_eq w.token token))
-              ∙ sym (acks-more l t p x.datagram (Some x.timeout) o m h.others h.is waits mid token)));
+              ∙ sym (acks-more l t p x.datagram (Some x.timeout) o m waits mid token)));
           heard = heard-still l n p s.heard (unheard-sent l t p p x.datagram (Some x.timeout) (First o m) later) a.heard;
         };
       },

@@ -1,12 +1,11 @@
 -- What the messages of one peer leave of the link to another.
 use Rattle.std.proofs.Common.{◌≡◌, ℕ, ◌<◌, ◌≤◌, Bool, true, false, eqb, ltb, inl, inr, List, [], ◌∷◌, ◌++◌, length, Option, Some, None, refl, sym, ap, subst, ◌∙◌, arith, append-nil}
-use Rattle.std.specs.Prelude.{filter, ◌&&◌, ◌||◌, option_and_then, option_map}
+use Rattle.std.specs.Prelude.{◌&&◌, ◌||◌, is_none, option_and_then, option_map}
 use Rattle.std.specs.List.{AllByRecursion, list_any}
 use Rattle.std.specs.Str.{bytes_eq}
 use Rattle.std.proofs.lemmas.Bool.{false≢true, ltb-true, ltb-false}
 use Rattle.std.proofs.lemmas.Slice.Eq.{bytes_eq-Decides}
 use Rattle.std.proofs.lemmas.Bool.Decides.{eqb_tells}
-use Rattle.std.proofs.lemmas.List.Elements.{filter_agree, filter-append}
 use Rattle.coap_codec.specs.Spelling.{Content}
 use Rattle.uri_map.specs.declared.peer.Peer.{Peer}
 use Rattle.uri_map.specs.Peers.{same_peer}
@@ -17,24 +16,22 @@ use Rattle.history_laws.specs.Numbering.{token_number}
 use Rattle.message_layer.specs.Values.{LinkState}
 use Rattle.message_layer.specs.declared.state.Outstanding.{Outstanding}
 use Rattle.message_layer.specs.declared.state.Waiting.{Waiting}
-use Rattle.history_laws.specs.Readings.{Noted, First, Copies, at, newest}
-use Rattle.history_laws.specs.Worked.{noted}
+use Rattle.history_laws.specs.Readings.{Noted, First, Copies, at, newest, noted}
 use Rattle.journal_book.specs.Entries.{Sends}
 use Rattle.history_laws.specs.Transmissions.{FirstSending, firsts, first_at, last_sent, if_outstanding, is_recent, mids_used, transmission, outstanding}
-use Rattle.history_laws.specs.Exchanges.{Begun, begun, openings, goes_to, waits_for, is_waiting, waiting}
+use Rattle.history_laws.specs.Exchanges.{Begun, begun, openings, goes_to, waits_for, is_going, is_waiting, waiting, submitted, rank}
 use Rattle.history_laws.specs.Hearing.{went_under, went_as}
 use Rattle.history_laws.specs.Justified.{Legal}
-use Rattle.history_laws.proofs.CallerLemmas.{all-more, all-of, all-passes, and-left, at-below, at-keeps, eqb-itself, filter-by, find-some, some-is}
-use Rattle.history_links.specs.Agrees.{rank, TurnIn, IsWaitingFor, WaitIn, awaits, awaits_ack, Agrees}
+use Rattle.history_laws.proofs.CallerLemmas.{all-of, and-left, at-below, at-keeps, eqb-itself, find-some, none-submitted, opened-queued, queue-same, rank-apart, some-is, submitted-apart, waiting-all, waiting-goes, waiting-unsent}
+use Rattle.history_links.specs.Agrees.{TurnIn, IsWaitingFor, WaitIn, awaits, awaits_ack, Agrees}
 use Rattle.history_links.specs.Steps.{AskElsewhere, FirstElsewhere, CopyElsewhere}
-use Rattle.history_links.proofs.Facts.{openings-below, waits-below, waiting-unsent}
+use Rattle.history_links.proofs.Facts.{waits-below}
 use Rattle.history_links.proofs.Mids.{count-cons}
-use Rattle.history_links.proofs.Ranks.{rank-keeps, rank-apart}
-use Rattle.history_links.proofs.Still.{waits-one, heard-at, heard-still, rest-still}
+use Rattle.history_links.proofs.Still.{waiting-keeps, waits-all, waits-one, heard-at, heard-still, rest-still}
 use Rattle.history_links.proofs.Copying.{is-last, still-copy, unheard-sent}
-use Rattle.history_links.proofs.Sent.{sent, waits-sent, waiting-sent, not-waiting, one-awaited}
+use Rattle.history_links.proofs.Sent.{sent, sent-quiet, waits-sent, waiting-sent, not-waiting, one-awaited}
 use Rattle.history_links.proofs.Tokens.{IsThere, all-there, found-first}
-use Rattle.history_links.proofs.Queueing.{asked, begun-here, others-wait, waits-on, awaited-same, turn-kept}
+use Rattle.history_links.proofs.Queueing.{asked, begun-here, others-wait, awaited-same, turn-kept}
 
 -- what is outstanding
 
@@ -97,6 +94,11 @@ waiting-other l t p r b w o m waits other q = elim (eqb_tells o q) [
   | inr e ↦ waiting-sent l t r p b w o m q e.0
 ]
 
+queue-other : (l : List Noted) (t : ℕ) (p r : Peer) (b : List ℕ) (w : Option ℕ) (o : ℕ) (m : Content) → is_waiting l r o ≡ true → same_peer r p ≡ false
+    → waiting (sent t r b w o m ∷ l) p ≡ waiting l p
+queue-other l t p r b w o m waits other =
+    queue-same (sent t r b w o m) l p (none-submitted (sent t r b w o m) l p refl (λ q h. sent-quiet l t r b w o m q)) (λ q h. waiting-other l t p r b w o m waits other q ∙ h)
+
 -- Tokens of exchanges that aren't one differ.
 token-differs : (a b : List ℕ) → (token_number a ≡ token_number b → ⊥) → bytes_eq a b ≡ false
 token-differs a b never = by (bytes_eq a b) refl
@@ -105,26 +107,36 @@ token-differs a b never = by (bytes_eq a b) refl
     by true e = absurd (never (ap token_number ((bytes_eq-Decides a b).0 e)))
     by false e = refl
 
-ranks-differ : (l : List Noted) (o q : ℕ) (b c : Begun) → begun l o ≡ Some b → begun l q ≡ Some c → (o ≡ q → ⊥) → rank l o ≡ rank l q → ⊥
-ranks-differ l o q b c e f never same = by (ltb o q) refl (ltb q o) refl
+-- Of two that wait the tokens are apart.
+ranks-differ : (l : List Noted) (p r : Peer) (o q : ℕ) (b c : Begun) → Legal l → begun l o ≡ Some b → begun l q ≡ Some c → is_waiting l r o ≡ true → is_waiting l p q ≡ true
+    → (o ≡ q → ⊥) → rank l o ≡ rank l q → ⊥
+ranks-differ l p r o q b c legal e f waits also never same = by (ltb (submitted l o) (submitted l q)) refl (ltb (submitted l q) (submitted l o)) refl
   where
-    by : (x : Bool) → ltb o q ≡ x → (y : Bool) → ltb q o ≡ y → ⊥
-    by true h y g = let lt = rank-apart l o q b c e f (ltb-true o q h) in omega (arith, lt, same)
-    by false h true g = let lt = rank-apart l q o c b f e (ltb-true q o g) in omega (arith, lt, same)
-    by false h false g = let a = ltb-false o q h in let d = ltb-false q o g in never (omega (arith, a, d))
+    mine : is_going l o ≡ true
+    mine = ap is_none (waiting-goes l r o waits)
 
-waits-other : (l : List Noted) (t : ℕ) (p r : Peer) (b : List ℕ) (w : Option ℕ) (o : ℕ) (m : Content) (v : Waiting) → IsWaitingFor l o v → m.token ≡ v.token
-    → is_waiting l p o ≡ false → (os : List ℕ) (ws : List Waiting) → AllByRecursion (λ (q : ℕ). is_waiting l p q ≡ true) os → WaitIn l os ws
+    its : is_going l q ≡ true
+    its = ap is_none (waiting-goes l p q also)
+
+    by : (x : Bool) → ltb (submitted l o) (submitted l q) ≡ x → (y : Bool) → ltb (submitted l q) (submitted l o) ≡ y → ⊥
+    by true h y g = let lt = rank-apart l o q b c legal e f mine its (ltb-true _ _ h) in omega (arith, lt, same)
+    by false h true g = let lt = rank-apart l q o c b legal f e its mine (ltb-true _ _ g) in omega (arith, lt, same)
+    by false h false g =
+        let a = ltb-false (submitted l o) (submitted l q) h in let d = ltb-false (submitted l q) (submitted l o) g in
+        never (submitted-apart l o q b c legal e f mine its (omega (arith, a, d)))
+
+waits-other : (l : List Noted) (t : ℕ) (p r : Peer) (b : List ℕ) (w : Option ℕ) (o : ℕ) (m : Content) (v : Waiting) → Legal l → IsWaitingFor l o v → m.token ≡ v.token
+    → is_waiting l r o ≡ true → is_waiting l p o ≡ false → (os : List ℕ) (ws : List Waiting) → AllByRecursion (λ (q : ℕ). is_waiting l p q ≡ true) os → WaitIn l os ws
     → WaitIn (sent t r b w o m ∷ l) os ws
-waits-other l t p r b w o m v mine e gone [] [] a i = i
-waits-other l t p r b w o m v mine e gone [] (x ∷ ws) a i = i
-waits-other l t p r b w o m v mine e gone (q ∷ os) [] a i = i
-waits-other l t p r b w o m v mine e gone (q ∷ os) (x ∷ ws) a i =
+waits-other l t p r b w o m v legal mine e waits gone [] [] a i = i
+waits-other l t p r b w o m v legal mine e waits gone [] (x ∷ ws) a i = i
+waits-other l t p r b w o m v legal mine e waits gone (q ∷ os) [] a i = i
+waits-other l t p r b w o m v legal mine e waits gone (q ∷ os) (x ∷ ws) a i =
     let never : o ≡ q → ⊥ = λ same. false≢true (sym gone ∙ subst (λ (k : ℕ). is_waiting l p k ≡ true) (sym same) a.0) in
     let apart : token_number m.token ≡ token_number x.token → ⊥ =
-    λ same. ranks-differ l o q _ _ mine.opening i.0.opening never (sym mine.numbered ∙ (ap token_number (sym e) ∙ (same ∙ i.0.numbered))) in (
-      waits-one l (sent t r b w o m ∷ l) q x (λ k c e. (e, rank-keeps (sent t r b w o m) l k c e)) (λ e. rw (token-differs m.token x.token apart) e) i.0,
-      waits-other l t p r b w o m v mine e gone os ws a.1 i.1,
+    λ same. ranks-differ l p r o q _ _ legal mine.opening i.0.opening waits a.0 never (sym mine.numbered ∙ (ap token_number (sym e) ∙ (same ∙ i.0.numbered))) in (
+      waits-one l (sent t r b w o m ∷ l) q x (waiting-keeps (sent t r b w o m) l p q a.0) (λ e. rw (token-differs m.token x.token apart) e) i.0,
+      waits-other l t p r b w o m v legal mine e waits gone os ws a.1 i.1,
     )
 
 -- IDs and tokens of others
@@ -168,17 +180,17 @@ acks-other l t p r b w o m waits other mid token =
     ∙ or-nothing (awaits_ack l p mid token) (list_any (eqb o) (openings l)))
 
 -- A first sending to another peer, of a message that waited there, leaves the link.
-pub first-elsewhere : (l : List Noted) (t : ℕ) (p r : Peer) (s : LinkState) (b : List ℕ) (u : Option ℕ) (o : ℕ) (m : Content) (w : Waiting) → newest l ≤ t → Agrees l p s
+pub first-elsewhere : (l : List Noted) (t : ℕ) (p r : Peer) (s : LinkState) (b : List ℕ) (u : Option ℕ) (o : ℕ) (m : Content) (w : Waiting) → Legal l → newest l ≤ t → Agrees l p s
     → same_peer r p ≡ false → is_waiting l r o ≡ true → IsWaitingFor l o w → m.token ≡ w.token → Agrees (sent t r b u o m ∷ l) p s
-first-elsewhere l t p r s b u o m w later a other waits mine token =
+first-elsewhere l t p r s b u o m w legal later a other waits mine token =
     let n = sent t r b u o m ∷ l in
     record {
       turn = turn-other l t p r b u o m other s.outstanding a.turn;
       last = a.last ∙ sym (ap (λ (v : Option FirstSending). option_map (λ (f : FirstSending). f.message.mid) v) (last-other l t p r b u o m other));
       count_up = rw (other) a.count_up;
       given = λ v after. a.given v (omega (arith, later, after)) ∙ sym (mids-other l t v p r b u o m other);
-      waits = subst (λ (os : List ℕ). WaitIn n os s.waiting) (sym (filter_agree (is_waiting n p) (is_waiting l p) (waiting-other l t p r b u o m waits other) (openings l)))
-          (waits-other l t p r b u o m w mine token (goes-elsewhere l p r o waits other) (waiting l p) s.waiting (all-passes (is_waiting l p) (openings l)) a.waits);
+      waits = subst (λ (os : List ℕ). WaitIn n os s.waiting) (sym (queue-other l t p r b u o m waits other))
+          (waits-other l t p r b u o m w legal mine token waits (goes-elsewhere l p r o waits other) (waiting l p) s.waiting (waiting-all l p) a.waits);
       awaits = λ v. a.awaits v ∙ sym (awaits-other l t p r b u o m waits other v);
       acks = λ mid v. a.acks mid v ∙ sym (acks-other l t p r b u o m waits other mid v);
       heard = heard-still l n p s.heard (unheard-sent l t r p b u (First o m) later) a.heard;
@@ -186,17 +198,12 @@ first-elsewhere l t p r s b u o m w later a other waits mine token =
 
 -- an ask that opens an exchange with another peer
 
-no-push : (f : ℕ → Bool) (xs : List ℕ) (x : ℕ) → f x ≡ false → filter f (xs ++ x ∷ []) ≡ filter f xs
-no-push f xs x e = filter-append f xs (x ∷ []) ∙ rw e (append-nil (filter f xs))
-
 not-here : (l : List Noted) (t c : ℕ) (a : Ask) (q : CoapRequest) (p : Peer) → same_peer q.peer p ≡ false → is_waiting (asked t c a q ∷ l) p (length l) ≡ false
 not-here l t c a q p e = rw (begun-here l t c a q) (rw (e) refl)
 
-waiting-elsewhere : (l : List Noted) (t c : ℕ) (a : Ask) (q : CoapRequest) (p : Peer) → same_peer q.peer p ≡ false → waiting (asked t c a q ∷ l) p ≡ waiting l p
-waiting-elsewhere l t c a q p e =
-    let n = asked t c a q ∷ l in
-    no-push (is_waiting n p) (openings l) (length l) (not-here l t c a q p e)
-    ∙ filter-by (is_waiting n p) (is_waiting l p) (openings l) (all-more (λ (o : ℕ). o < length l) (λ (o : ℕ). is_waiting n p o ≡ is_waiting l p o) (others-wait l t c a q p) (openings l) (openings-below l))
+waiting-elsewhere : (l : List Noted) (t c : ℕ) (a : Ask) (q : CoapRequest) (p : Peer) → Legal l → same_peer q.peer p ≡ false → waiting (asked t c a q ∷ l) p ≡ waiting l p
+waiting-elsewhere l t c a q p legal e =
+    queue-same (asked t c a q) l p (opened-queued (asked t c a q) l p q legal refl (λ o. tt) false (not-here l t c a q p e)) (others-wait l t c a q p)
 
 pub asked-elsewhere : (l : List Noted) (t : ℕ) (p : Peer) (s : LinkState) (c : ℕ) (a : Ask) (q : CoapRequest) → Legal l → newest l ≤ t → Agrees l p s
     → same_peer q.peer p ≡ false → Agrees (asked t c a q ∷ l) p s
@@ -207,7 +214,7 @@ asked-elsewhere l t p s c a q legal later g e =
       last = g.last;
       count_up = g.count_up;
       given = λ u after. g.given u (omega (arith, later, after));
-      waits = subst (λ (v : List ℕ). WaitIn n v s.waiting) (sym (waiting-elsewhere l t c a q p e)) (waits-on l t c a q (waiting l p) s.waiting g.waits);
+      waits = subst (λ (v : List ℕ). WaitIn n v s.waiting) (sym (waiting-elsewhere l t c a q p legal e)) (waits-all (asked t c a q) l p refl (waiting l p) s.waiting (waiting-all l p) g.waits);
       awaits = λ token. g.awaits token ∙ sym (rw (awaited-same l t c a q legal) refl);
       acks = λ mid token. g.acks mid token ∙ sym (rw (awaited-same l t c a q legal) refl);
       heard = heard-still l n p s.heard (record {
@@ -275,7 +282,7 @@ pub ask-elsewhere : AskElsewhere
 ask-elsewhere l t p s c a q b e = asked-elsewhere l t p s c a q b.legal b.later b.agrees e
 
 pub send-elsewhere : FirstElsewhere
-send-elsewhere l t p r s d u o m w b e waits mine token = first-elsewhere l t p r s d u o m w b.later b.agrees e waits mine token
+send-elsewhere l t p r s d u o m w b e waits mine token = first-elsewhere l t p r s d u o m w b.legal b.later b.agrees e waits mine token
 
 pub copy-elsewhere : CopyElsewhere
 copy-elsewhere l t p r s d i g b e other = copied-elsewhere l t p r s d i g b.later b.agrees e other

@@ -1,30 +1,27 @@
 -- After a tick, the link agrees: what was given up isn't outstanding, and what has ended isn't awaited.
 use Rattle.std.proofs.Common.{◌≡◌, ℕ, Bool, true, false, cond, List, [], ◌∷◌, length, Option, Some, None, refl, sym, ap, subst, ◌∙◌, arith}
 use Rattle.std.specs.Prelude.{◌&&◌, ◌||◌, not, is_none, option_and_then, filter}
-use Rattle.std.specs.List.{list_any, filter_map}
+use Rattle.std.specs.List.{AllByRecursion, list_any, filter_map}
 use Rattle.std.specs.Str.{bytes_eq}
 use Rattle.std.proofs.lemmas.Bool.{false≢true}
 use Rattle.std.proofs.lemmas.Map.Views.{any-filter_same}
 use Rattle.std.proofs.lemmas.Slice.Eq.{bytes_eq-Decides}
-use Rattle.std.proofs.lemmas.List.Elements.{filter_agree}
 use Rattle.uri_map.specs.declared.peer.Peer.{Peer}
 use Rattle.journal_book.specs.Entries.{Passes}
 use Rattle.message_layer.specs.Hearing.{is_awaited, mid_is, is_awaited_by_ack}
 use Rattle.message_layer.specs.declared.state.Awaited.{Awaited}
 use Rattle.message_layer.specs.declared.state.Outstanding.{Outstanding}
 use Rattle.message_layer.specs.declared.state.Waiting.{Waiting}
-use Rattle.history_laws.specs.Readings.{Noted, Plain}
-use Rattle.history_laws.specs.Worked.{noted}
+use Rattle.history_laws.specs.Readings.{Noted, Plain, noted}
 use Rattle.history_laws.specs.Progress.{Reply}
 use Rattle.history_laws.specs.Transmissions.{FirstSending, first_at, last_sent, transmission, if_outstanding}
-use Rattle.history_laws.specs.Exchanges.{Begun, begun, is_late, Expired, Nothing, expires, waits_by, waits_for, End, end_here, end_by, end_of, replies, is_going, goes_to, is_waiting, waiting, openings}
+use Rattle.history_laws.specs.Exchanges.{Begun, begun, is_late, Expired, Nothing, expires, turn, waits_by, waits_for, End, end_here, end_by, end_of, replies, is_going, goes_to, is_waiting, waiting, openings}
 use Rattle.history_laws.specs.Hearing.{went_under, went_as}
-use Rattle.history_laws.proofs.CallerLemmas.{and-left, and-right, at-keeps}
+use Rattle.history_laws.proofs.CallerLemmas.{all-more, and-left, and-right, at-keeps, filter-by, none-submitted, NoReply, queue-kept, waiting-all}
 use Rattle.history_links.specs.Agrees.{way_of, TurnIn, IsWaitingFor, WaitIn}
 use Rattle.history_links.specs.Steps.{is_over, EndWaiting, PassAgrees}
-use Rattle.history_links.proofs.Ranks.{rank-keeps}
 use Rattle.history_links.proofs.Copying.{is-last, is-outstanding}
-use Rattle.history_links.proofs.Still.{waits-one, heard-at, heard-still}
+use Rattle.history_links.proofs.Still.{waiting-keeps, waits-one, heard-at, heard-still}
 use Rattle.history_links.proofs.Saying.{none-out}
 
 abbrev ticked_at : ℕ → Noted
@@ -71,24 +68,30 @@ waiting-passed l t p o = rw (going-passed l t o, waits-passed l t o) (by (goes_t
     by g v None = none g v (is_late t (begun l o))
     by g v (Some i) = some g v (expires l o t (Some i)) (not (is_late t (begun l o))) i
 
-filter-twice : {X : Type 0} (f g : X → Bool) (xs : List X) → filter (λ (x : X). f x && g x) xs ≡ filter g (filter f xs)
-filter-twice f g [] = refl
-filter-twice {X = X} f g (x ∷ xs) = by (f x) (filter-twice f g xs)
+pub passed-quiet : (l : List Noted) (t o : ℕ) → NoReply (turn l o (ticked_at t))
+passed-quiet l t o = by (expires l o t (waits_for l o))
   where
-    by : (b : Bool) → filter (λ (x : X). f x && g x) xs ≡ filter g (filter f xs)
-        → cond (b && g x) (x ∷ filter (λ (x : X). f x && g x) xs) (filter (λ (x : X). f x && g x) xs) ≡ filter g (cond b (x ∷ filter f xs) (filter f xs))
-    by true h = rw (h) refl
-    by false h = h
+    by : (b : Bool) → NoReply (cond b Expired Nothing)
+    by true = tt
+    by false = tt
 
-waits-on : (l : List Noted) (t : ℕ) (gone : List ℕ → Bool) (os : List ℕ) (ws : List Waiting) → WaitIn l os ws → EndWaiting l t gone os ws
+queue-passed : (l : List Noted) (t : ℕ) (p : Peer) → waiting (ticked_at t ∷ l) p ≡ filter (λ (o : ℕ). not (is_late t (begun l o))) (waiting l p)
+queue-passed l t p =
+    queue-kept (ticked_at t) l p (none-submitted (ticked_at t) l p refl (λ o w. passed-quiet l t o))
+    ∙ filter-by (is_waiting (ticked_at t ∷ l) p) (λ (o : ℕ). not (is_late t (begun l o))) (waiting l p)
+    (all-more (λ (o : ℕ). is_waiting l p o ≡ true) (λ (o : ℕ). is_waiting (ticked_at t ∷ l) p o ≡ not (is_late t (begun l o)))
+    (λ o w. waiting-passed l t p o ∙ ap (λ (v : Bool). v && not (is_late t (begun l o))) w) (waiting l p) (waiting-all l p))
+
+waits-on : (l : List Noted) (t : ℕ) (p : Peer) (gone : List ℕ → Bool) (os : List ℕ) (ws : List Waiting)
+    → AllByRecursion (λ (o : ℕ). is_waiting l p o ≡ true) os → WaitIn l os ws → EndWaiting l t gone os ws
     → WaitIn (ticked_at t ∷ l) (filter (λ (o : ℕ). not (is_late t (begun l o))) os) (filter (λ (w : Waiting). not (gone w.token)) ws)
-waits-on l t gone [] [] a e = a
-waits-on l t gone [] (w ∷ ws) a e = absurd a
-waits-on l t gone (o ∷ os) [] a e = absurd a
-waits-on l t gone (o ∷ os) (w ∷ ws) a e = rw (e.0) (by (gone w.token) (waits-on l t gone os ws a.1 e.1))
+waits-on l t p gone [] [] w a e = a
+waits-on l t p gone [] (v ∷ ws) w a e = absurd a
+waits-on l t p gone (o ∷ os) [] w a e = absurd a
+waits-on l t p gone (o ∷ os) (w ∷ ws) waits a e = rw (e.0) (by (gone w.token) (waits-on l t p gone os ws waits.1 a.1 e.1))
   where
     kept : IsWaitingFor (ticked_at t ∷ l) o w
-    kept = waits-one l (ticked_at t ∷ l) o w (λ o b e. (e, rank-keeps (ticked_at t) l o b e)) (λ e. e) a.0
+    kept = waits-one l (ticked_at t ∷ l) o w (waiting-keeps (ticked_at t) l p o waits.0) (λ e. e) a.0
 
     by : (b : Bool) → WaitIn (ticked_at t ∷ l) (filter (λ (o : ℕ). not (is_late t (begun l o))) os) (filter (λ (w : Waiting). not (gone w.token)) ws)
         → WaitIn (ticked_at t ∷ l) (cond (not b) (o ∷ filter (λ (o : ℕ). not (is_late t (begun l o))) os) (filter (λ (o : ℕ). not (is_late t (begun l o))) os))
@@ -180,9 +183,7 @@ pass-agrees l t p s gone b e =
       count_up = a.count_up;
       given = λ u after. a.given u (let later = b.later in omega (arith, later, after));
       waits = subst (λ (os : List ℕ). WaitIn n os (filter (λ (w : Waiting). not (gone w.token)) s.waiting))
-          (sym (filter_agree (is_waiting n p) (λ (o : ℕ). is_waiting l p o && not (is_late t (begun l o))) (waiting-passed l t p) (openings l)
-          ∙ filter-twice (is_waiting l p) (λ (o : ℕ). not (is_late t (begun l o))) (openings l)))
-          (waits-on l t gone (waiting l p) s.waiting a.waits e.waiting);
+          (sym (queue-passed l t p)) (waits-on l t p gone (waiting l p) s.waiting (waiting-all l p) a.waits e.waiting);
       awaits = λ token.
           any-filter_same (is_awaited token) (λ (x : Awaited). not (gone x.token)) (not (gone token)) (λ x h. ap (λ (v : List ℕ). not (gone v)) (token-is x.token token h)) s.awaited
           ∙ (ap (λ (v : Bool). not (gone token) && v) (a.awaits token)

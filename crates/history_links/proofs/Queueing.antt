@@ -8,7 +8,7 @@ use Rattle.std.proofs.lemmas.Bool.Decides.{eqb_tells}
 use Rattle.std.proofs.lemmas.List.Elements.{filter_map-append}
 use Rattle.uri_map.specs.declared.peer.Peer.{Peer}
 use Rattle.uri_map.specs.Peers.{same_peer}
-use Rattle.ask_model.specs.Requests.{CoapRequest}
+use Rattle.ask_model.specs.Requests.{CoapRequest, request_message}
 use Rattle.ask_model.specs.Views.{Ask}
 use Rattle.uri_map.proofs.CallerLemmas.{same_peer-itself}
 use Rattle.journal_book.specs.Entries.{Asks}
@@ -17,18 +17,15 @@ use Rattle.message_layer.specs.Sending.{waits}
 use Rattle.message_layer.specs.declared.state.Waiting.{Waiting}
 use Rattle.message_layer.specs.declared.state.Outstanding.{Outstanding}
 use Rattle.message_layer.proofs.Effects.{filter-kept}
-use Rattle.history_laws.specs.Readings.{Noted, Begins, at}
-use Rattle.history_laws.specs.Worked.{noted}
+use Rattle.history_laws.specs.Readings.{Noted, Begins, at, noted}
 use Rattle.history_laws.specs.Transmissions.{FirstSending, firsts, if_outstanding, transmission, last_sent}
-use Rattle.history_laws.specs.Exchanges.{begun, openings, waits_for, awaited, is_waiting, waiting}
+use Rattle.history_laws.specs.Progress.{Reply, progress, next_message}
+use Rattle.history_laws.specs.Exchanges.{begun, openings, waits_for, replies, awaited, is_waiting, is_submitted_at, waiting}
 use Rattle.history_laws.specs.Justified.{Legal}
-use Rattle.history_laws.proofs.CallerLemmas.{all-more, at-keeps, before-new, begun-below, eqb-itself, filter-by, filter-push}
+use Rattle.history_laws.proofs.CallerLemmas.{all-more, at-keeps, begun-below, eqb-itself, filter-all, not-yet, opened-queued, opened-rank, replies-none, unbegun, waiting-all, waiting-begun}
 use Rattle.history_links.specs.Agrees.{TurnIn, IsWaitingFor, WaitIn}
 use Rattle.history_links.specs.Steps.{QueuedAgrees}
-use Rattle.history_links.proofs.Facts.{openings-below}
-use Rattle.history_links.proofs.Ranks.{rank-keeps}
 use Rattle.history_links.proofs.Still.{waits-all, heard-at, heard-still}
-use Rattle.history_links.proofs.Unbegun.{unbegun, not-yet}
 
 -- lists with one more
 
@@ -80,21 +77,24 @@ begun-other l t c a q o lt = elim (eqb_tells (length l) o) [ inl e ↦ let same 
 pub begun-here : (l : List Noted) (t c : ℕ) (a : Ask) (q : CoapRequest) → begun (asked t c a q ∷ l) (length l) ≡ Some (record { since = t; request = q })
 begun-here l t c a q = rw (eqb-itself (length l)) refl
 
-pub others-wait : (l : List Noted) (t c : ℕ) (a : Ask) (q : CoapRequest) (p : Peer) (o : ℕ) → o < length l → is_waiting (asked t c a q ∷ l) p o ≡ is_waiting l p o
-others-wait l t c a q p o lt = rw (begun-other l t c a q o lt) refl
-
 it-waits : (l : List Noted) (t c : ℕ) (a : Ask) (q : CoapRequest) (p : Peer) → Legal l → q.peer ≡ p → is_waiting (asked t c a q ∷ l) p (length l) ≡ true
 it-waits l t c a q p legal to =
     let none = unbegun l (length l) legal (not-yet l) in
     let peer : same_peer q.peer p ≡ true = subst (λ (r : Peer). same_peer q.peer r ≡ true) to (same_peer-itself q.peer) in
     rw (begun-here l t c a q, none.0, none.1) (rw (peer) refl)
 
+pub others-wait : (l : List Noted) (t c : ℕ) (a : Ask) (q : CoapRequest) (p : Peer) (o : ℕ) → is_waiting l p o ≡ true → is_waiting (asked t c a q ∷ l) p o ≡ true
+others-wait l t c a q p o e =
+    let b = waiting-begun l p o e in
+    rw (begun-other l t c a q o (begun-below l o b.0 b.1)) e
+
 pub waits-more : (l : List Noted) (t c : ℕ) (a : Ask) (q : CoapRequest) (p : Peer) → Legal l → q.peer ≡ p → waiting (asked t c a q ∷ l) p ≡ waiting l p ++ length l ∷ []
 waits-more l t c a q p legal to =
-    let n = asked t c a q ∷ l in
-    filter-push (is_waiting n p) (openings l) (length l) (it-waits l t c a q p legal to)
-    ∙ ap (λ (v : List ℕ). v ++ length l ∷ [])
-    (filter-by (is_waiting n p) (is_waiting l p) (openings l) (all-more (λ (o : ℕ). o < length l) (λ (o : ℕ). is_waiting n p o ≡ is_waiting l p o) (others-wait l t c a q p) (openings l) (openings-below l)))
+    let x = asked t c a q in
+    let old = filter-all (is_waiting (x ∷ l) p) (waiting l p)
+    (all-more (λ (o : ℕ). is_waiting l p o ≡ true) (λ (o : ℕ). is_waiting (x ∷ l) p o ≡ true) (others-wait l t c a q p) (waiting l p) (waiting-all l p)) in
+    ap (λ (v : List ℕ). v ++ filter (is_submitted_at (x ∷ l) p (length l)) (openings (x ∷ l))) old
+    ∙ ap (λ (v : List ℕ). waiting l p ++ v) (opened-queued x l p q legal refl (λ o. tt) true (it-waits l t c a q p legal to))
 
 wait-push : (n : List Noted) (os : List ℕ) (ws : List Waiting) (o : ℕ) (w : Waiting) → WaitIn n os ws → IsWaitingFor n o w → WaitIn n (os ++ o ∷ []) (ws ++ w ∷ [])
 wait-push n [] [] o w a i = (i, tt)
@@ -102,12 +102,11 @@ wait-push n [] (v ∷ ws) o w a i = absurd a
 wait-push n (q ∷ os) [] o w a i = absurd a
 wait-push n (q ∷ os) (v ∷ ws) o w a i = (a.0, wait-push n os ws o w a.1 i)
 
-pub waits-on : (l : List Noted) (t c : ℕ) (a : Ask) (q : CoapRequest) (os : List ℕ) (ws : List Waiting) → WaitIn l os ws → WaitIn (asked t c a q ∷ l) os ws
-waits-on l t c a q os ws i =
-    waits-all l (asked t c a q ∷ l) (λ o b e. (begun-other l t c a q o (begun-below l o b e) ∙ e, rank-keeps (asked t c a q) l o b e)) refl os ws i
-
 pub awaited-same : (l : List Noted) (t c : ℕ) (a : Ask) (q : CoapRequest) → Legal l → awaited (asked t c a q ∷ l) ≡ awaited l
 awaited-same l t c a q legal = none-more (waits_for l) (openings l) (length l) (unbegun l (length l) legal (not-yet l)).0
+
+replied : (l : List Noted) (t c : ℕ) (a : Ask) (q : CoapRequest) → Legal l → replies (asked t c a q ∷ l) (length l) ≡ []
+replied l t c a q legal = (replies-none l (length l) legal (not-yet l)).1
 
 pub queued-agrees : QueuedAgrees
 queued-agrees l t p s c a q token text word b to spelled size apart number =
@@ -122,14 +121,16 @@ queued-agrees l t p s c a q token text word b to spelled size apart number =
       count_up = g.count_up;
       given = λ u after. pruned-count t u (length s.waiting) s.given after ∙ g.given u (omega (arith, later, after));
       waits = subst (λ (v : List ℕ). WaitIn n v (s.waiting ++ w ∷ [])) (sym (waits-more l t c a q p legal to))
-          (wait-push n (waiting l p) s.waiting (length l) w (waits-on l t c a q (waiting l p) s.waiting g.waits) record {
+          (wait-push n (waiting l p) s.waiting (length l) w (waits-all (asked t c a q) l p refl (waiting l p) s.waiting (waiting-all l p) g.waits) record {
             since = t;
             request = q;
             opening = begun-here l t c a q;
+            message = request_message q 0 token;
+            next = ap (λ (rs : List Reply). next_message q (progress q rs) 0 token) (replied l t c a q legal);
             spelled = spelled;
             token_size = size;
             token_apart = apart;
-            numbered = number ∙ sym (ap (λ (h : List Noted). length (openings h)) (before-new (asked t c a q) l));
+            numbered = number ∙ sym (opened-rank (asked t c a q) l legal);
             least = omega arith;
             greatest = omega arith;
           });

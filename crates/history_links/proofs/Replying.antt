@@ -1,23 +1,22 @@
 -- What a message that is new does to exchanges and to messages on their way.
-use Rattle.std.proofs.Common.{◌≡◌, ℕ, Bool, true, false, cond, eqb, leb, List, [], ◌∷◌, ◌++◌, length, Option, Some, None, inl, inr, refl, sym, ap, ◌∙◌}
+use Rattle.std.proofs.Common.{◌≡◌, ℕ, Bool, true, false, cond, eqb, leb, List, [], ◌∷◌, ◌++◌, length, Option, Some, None, inl, inr, refl, sym, ap, subst, ◌∙◌}
 use Rattle.std.specs.Prelude.{◌&&◌, not, is_none, is_some}
 use Rattle.std.specs.List.{list_any, filter_map}
 use Rattle.std.proofs.lemmas.Bool.Decides.{eqb_tells}
-use Rattle.std.proofs.lemmas.Bool.{and_right}
+use Rattle.std.proofs.lemmas.Bool.{and_right, false≢true}
 use Rattle.coap_codec.specs.declared.message.MsgType.{MsgType}
 use Rattle.coap_codec.specs.declared.message.MsgType.TheVariants.{Con, Non, Ack, Rst}
 use Rattle.coap_codec.specs.Spelling.{Content}
 use Rattle.uri_map.specs.declared.peer.Peer.{Peer}
 use Rattle.journal_book.specs.Entries.{Hears}
-use Rattle.history_laws.specs.Readings.{Noted, Says, Unobserved}
-use Rattle.history_laws.specs.Worked.{noted}
+use Rattle.history_laws.specs.Readings.{Noted, Says, unobserved, noted}
 use Rattle.history_laws.specs.Progress.{Reply, Ending}
 use Rattle.history_laws.specs.Transmissions.{transmission}
-use Rattle.history_laws.specs.Exchanges.{Begun, Turn, Nothing, Replied, answered_by, heard_turn, turn, waits_by, waits_for, replies, End, end_here, end_by, end_of, is_going, is_waiting, goes_to, begun}
-use Rattle.history_laws.proofs.CallerLemmas.{replied-ends}
+use Rattle.history_laws.specs.Exchanges.{Begun, Turn, Nothing, Sent, Replied, Rejected, Expired, replied_end, answered_by, heard_turn, turn, waits_by, waits_for, replies, End, end_here, end_by, end_of, is_going, is_waiting, goes_to, begun}
+use Rattle.history_laws.proofs.CallerLemmas.{going-before, NoReply, replied-ends}
 
 abbrev pub says : ℕ → Peer → List ℕ → Content → Option ℕ → Noted
-says t p d m to = noted t (Hears p d) (Says m to Unobserved)
+says t p d m to = noted t (Hears p d) (Says m to unobserved)
 
 -- it answers the first sending with this number
 abbrev pub is_to : Option ℕ → ℕ → Bool
@@ -134,3 +133,19 @@ awaited-after f to m now old is (q ∷ os) = by (old q) refl (awaited-after f to
         hits : (b : Bool) → ends_what to m i ≡ b → list_any f (filter_map now (q ∷ os)) ≡ list_any (λ (i : ℕ). not (ends_what to m i) && f i) (filter_map old (q ∷ os))
         hits true h = rw (is q, e, h) ih
         hits false h = rw (is q, e, h, ih) refl
+
+-- Who goes on got no reply: the first one ends it.
+pub says-quiet : (l : List Noted) (t : ℕ) (p : Peer) (d : List ℕ) (m : Content) (to : Option ℕ) (q : ℕ) → is_going (says t p d m to ∷ l) q ≡ true
+    → NoReply (turn l q (says t p d m to))
+says-quiet l t p d m to q goes = by (turn l q (says t p d m to)) refl
+  where
+    by : (u : Turn) → turn l q (says t p d m to) ≡ u → NoReply u
+    by Nothing h = tt
+    by (Sent i) h = tt
+    by Rejected h = tt
+    by Expired h = tt
+    by (Replied i n) h =
+        let r : Reply = record { number = length l; sending = i; message = n } in
+        let none : replied_end (begun l q) (replies l q ++ r ∷ []) ≡ None =
+        subst (λ (u : Turn). end_here (begun l q) (length l) (replies l q) u ≡ None) h (going-before (says t p d m to) l q goes).0 in
+        absurd (false≢true (ap is_some (sym none) ∙ replied-ends (begun l q) (replies l q) r))

@@ -4,7 +4,6 @@ use Rattle.std.specs.Prelude.{◌&&◌, ◌||◌, not, is_some, option_and_then,
 use Rattle.std.specs.List.{find, list_any}
 use Rattle.std.specs.Str.{bytes_eq}
 use Rattle.std.proofs.lemmas.Bool.{or_right, and_right, or_left}
-use Rattle.std.proofs.lemmas.List.Elements.{filter_agree}
 use Rattle.limits.specs.declared.TheConstants.{MAX_REMEMBERED}
 use Rattle.coap_codec.specs.declared.message.MsgType.{MsgType}
 use Rattle.coap_codec.specs.declared.message.MsgType.TheVariants.{Con, Non, Ack, Rst}
@@ -23,15 +22,14 @@ use Rattle.message_layer.specs.declared.verdict.News.{News}
 use Rattle.message_layer.specs.declared.verdict.News.TheVariants.{Quiet, Response, Reset, Lost}
 use Rattle.message_layer.specs.declared.verdict.Verdict.{Verdict}
 use Rattle.message_layer.proofs.AwaitTable.{news-awaited, news-acks, expected-awaited, expected-acks}
-use Rattle.history_laws.specs.Readings.{Noted, Unobserved, newest}
+use Rattle.history_laws.specs.Readings.{Noted, unobserved, newest}
 use Rattle.history_laws.specs.Transmissions.{FirstSending, Transmission, first_at, last_sent, transmission, if_outstanding, outstanding}
 use Rattle.history_laws.specs.Exchanges.{openings, waits_for, awaited, is_waiting, waiting}
 use Rattle.history_laws.specs.Hearing.{is_such, heard_before, live_heard, repeated, can_be_remembered, went_under, went_as, answers_by, answers}
 use Rattle.history_laws.specs.Justified.{Legal}
-use Rattle.history_laws.proofs.CallerLemmas.{and-left, at-keeps, eqb-itself}
+use Rattle.history_laws.proofs.CallerLemmas.{and-left, at-keeps, eqb-itself, none-submitted, queue-same, unawaited-quiet, waiting-all, waiting-unsent}
 use Rattle.history_links.specs.Agrees.{way_of, due, IsOut, TurnIn, WaitIn, HeardIn, Agrees}
 use Rattle.history_links.specs.Steps.{ended_token, unawaited, heard_link, SaysAgrees}
-use Rattle.history_links.proofs.Ranks.{rank-keeps}
 use Rattle.history_links.proofs.Still.{waits-all, heard-at, heard-still}
 use Rattle.history_links.proofs.Copying.{is-last, is-outstanding}
 use Rattle.history_links.proofs.Repeating.{due-given, confirming-by, found-reply}
@@ -99,8 +97,19 @@ asked-once f g c (x ∷ xs) same = by (f x) refl (asked-once f g c xs (λ i e h.
 
 -- what waits, and what is outstanding
 
-pub waits-on : (l : List Noted) (t : ℕ) (p : Peer) (d : List ℕ) (m : Content) (to : Option ℕ) (os : List ℕ) (ws : List Waiting) → WaitIn l os ws → WaitIn (says t p d m to ∷ l) os ws
-waits-on l t p d m to os ws i = waits-all l (says t p d m to ∷ l) (λ o b e. (e, rank-keeps (says t p d m to) l o b e)) refl os ws i
+-- A message lets nobody wait more, or less.
+pub queue-after : (l : List Noted) (t : ℕ) (p r : Peer) (d : List ℕ) (m : Content) (to : Option ℕ) → waiting (says t p d m to ∷ l) r ≡ waiting l r
+queue-after l t p r d m to =
+    let x = says t p d m to in
+    queue-same x l r
+    (none-submitted x l r refl (λ o w. unawaited-quiet x l o (waiting-unsent l r o (sym (waiting-after l t p r d m to o) ∙ w))))
+    (λ o w. waiting-after l t p r d m to o ∙ w)
+
+pub waits-on : (l : List Noted) (t : ℕ) (p r : Peer) (d : List ℕ) (m : Content) (to : Option ℕ) (ws : List Waiting) → WaitIn l (waiting l r) ws
+    → WaitIn (says t p d m to ∷ l) (waiting (says t p d m to ∷ l) r) ws
+waits-on l t p r d m to ws i =
+    subst (λ (os : List ℕ). WaitIn (says t p d m to ∷ l) os ws) (sym (queue-after l t p r d m to))
+    (waits-all (says t p d m to) l r refl (waiting l r) ws (waiting-all l r) i)
 
 pub none-out : (l n : List Noted) (last : Option FirstSending) → ((i : ℕ) → transmission l i ≡ None → transmission n i ≡ None)
     → option_and_then (if_outstanding l) last ≡ None → option_and_then (if_outstanding n) last ≡ None
@@ -176,7 +185,7 @@ heard-after l t p s d m to v later j h none = by (is_such m.kind) refl
     by true e =
         let unheard : heard_before l t p m.mid ≡ None = subst (λ (b : Bool). cond b (heard_before l t p m.mid) None ≡ None) e none in
         subst (λ (b : Bool). HeardIn (says t p d m to ∷ l) p (remembered_in t m.mid v.reply b s.heard)) (sym (j.remembered ∙ e))
-        (remembers l t p d m to Unobserved v.reply s.heard later h e unheard j.reply)
+        (remembers l t p d m to unobserved v.reply s.heard later h e unheard j.reply)
     by false e =
         subst (λ (b : Bool). HeardIn (says t p d m to ∷ l) p (remembered_in t m.mid v.reply b s.heard)) (sym (j.remembered ∙ e))
         (heard-still l (says t p d m to ∷ l) p s.heard (record {
@@ -195,8 +204,7 @@ after-judged l t p s d m to v later j a none =
       last = a.last;
       count_up = a.count_up;
       given = λ u after. a.given u (omega (arith, later, after));
-      waits = subst (λ (w : List ℕ). WaitIn n w s.waiting) (sym (filter_agree (is_waiting n p) (is_waiting l p) (waiting-after l t p p d m to) (openings l)))
-          (waits-on l t p d m to (waiting l p) s.waiting a.waits);
+      waits = waits-on l t p p d m to s.waiting a.waits;
       awaits = λ token.
           link-awaits v.news m token s.awaited
           ∙ (ap (λ (b : Bool). not (is_ended (ended_token v.news m.token) token) && b) (a.awaits token)

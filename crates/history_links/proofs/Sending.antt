@@ -1,24 +1,24 @@
 -- The message that waits first may follow, where nothing is outstanding.
-use Rattle.std.proofs.Common.{◌≡◌, ℕ, ◌<◌, ◌+◌, ◌%◌, ◌⊎◌, inl, inr, Bool, true, false, cond, List, [], ◌∷◌, Option, Some, None, refl, sym, ap, subst, ◌∙◌, arith}
+use Rattle.std.proofs.Common.{◌≡◌, ℕ, ◌<◌, ◌+◌, ◌%◌, ◌⊎◌, inl, inr, Bool, true, false, cond, List, [], ◌∷◌, length, Option, Some, None, refl, sym, ap, subst, ◌∙◌, arith}
 use Rattle.std.specs.Prelude.{filter, option_map}
 use Rattle.std.specs.List.{AllByRecursion, find}
 use Rattle.limits.specs.declared.TheConstants.{MAX_MESSAGE_IDS}
-use Rattle.coap_codec.specs.Spelling.{Content}
+use Rattle.coap_codec.specs.Spelling.{Content, Spells}
 use Rattle.uri_map.specs.declared.peer.Peer.{Peer}
 use Rattle.uri_map.specs.Peers.{same_peer}
-use Rattle.ask_model.specs.Requests.{request_message}
+use Rattle.ask_model.specs.Requests.{CoapRequest, request_message}
 use Rattle.uri_map.proofs.CallerLemmas.{same_peer-same}
 use Rattle.message_layer.specs.Values.{LinkState}
 use Rattle.message_layer.specs.Sending.{next_mid, first_sent}
 use Rattle.message_layer.specs.declared.state.Waiting.{Waiting}
 use Rattle.message_layer.proofs.Sendings.{sent-spells}
 use Rattle.history_laws.specs.Readings.{Noted}
+use Rattle.history_laws.specs.Progress.{Progress, Asks, Ends, progress, next_message}
 use Rattle.history_laws.specs.Transmissions.{FirstSending, firsts, last_sent, mids_used}
-use Rattle.history_laws.specs.Exchanges.{Begun, begun, openings, goes_to, is_waiting, waiting}
+use Rattle.history_laws.specs.Exchanges.{Begun, begun, replies, goes_to, is_waiting, waiting}
 use Rattle.history_laws.specs.Justified.{Legal, MayBeFirst}
 use Rattle.history_links.specs.Agrees.{TurnIn, firsts_to, HasMid, IsWaitingFor, WaitIn, Agrees}
-use Rattle.history_laws.proofs.CallerLemmas.{all-passes, and-left}
-use Rattle.history_links.proofs.Facts.{waiting-goes, unreplied, first-waiting}
+use Rattle.history_laws.proofs.CallerLemmas.{and-left, none-some, some-is, waiting-all}
 use Rattle.history_links.proofs.Mids.{mid-apart}
 
 -- the first that waits
@@ -40,7 +40,7 @@ head l p s w ws a e = head-of l (waiting l p) w ws (subst (WaitIn l (waiting l p
 pub head-waits : (l : List Noted) (p : Peer) (w : Waiting) (ws : List Waiting) (h : Head l (waiting l p) w ws) → is_waiting l p h.opening ≡ true
 head-waits l p w ws h =
     let all : AllByRecursion (λ (q : ℕ). is_waiting l p q ≡ true) (h.opening ∷ h.others) =
-    subst (λ (v : List ℕ). AllByRecursion (λ (q : ℕ). is_waiting l p q ≡ true) v) h.is (all-passes (is_waiting l p) (openings l)) in
+    subst (λ (v : List ℕ). AllByRecursion (λ (q : ℕ). is_waiting l p q ≡ true) v) h.is (waiting-all l p) in
     all.0
 
 -- its ID is the next one
@@ -69,9 +69,14 @@ pub next-small : (last : Option ℕ) (first : ℕ) → first < 65536 → next_mi
 next-small None first h = h
 next-small (Some m) first h = omega arith
 
--- the message that is sent
+-- the message that is sent: that which waits, with its ID
 abbrev pub message-of : (l : List Noted) (o : ℕ) (w : Waiting) (a : IsWaitingFor l o w) (last : Option ℕ) → Content
-message-of l o w a last = request_message a.request (next_mid last w.first_mid) w.token
+message-of l o w a last = record a.message { mid = next_mid last w.first_mid; token = w.token }
+
+next-under : (q : CoapRequest) (pr : Progress) (token : List ℕ) (mid : ℕ) (m : Content) → next_message q pr 0 token ≡ Some m
+    → next_message q pr mid token ≡ Some (record m { mid = mid; token = token })
+next-under q Asks token mid m e = ap (λ (n : Content). Some (record n { mid = mid; token = token })) (some-is (request_message q 0 token) m e)
+next-under q (Ends how) token mid m e = absurd (none-some m e)
 
 pub may-be-first : (l : List Noted) (t : ℕ) (p : Peer) (s : LinkState) (w : Waiting) (ws : List Waiting) (h : Head l (waiting l p) w ws) → Legal l
     → Agrees l p s → mids_used l t p < MAX_MESSAGE_IDS → s.outstanding ≡ None
@@ -81,17 +86,19 @@ may-be-first l t p s w ws h legal a few free =
     let goes : goes_to p (begun l h.opening) ≡ true = and-left (goes_to p (begun l h.opening)) _ waits in
     let peer : same_peer h.waits.request.peer p ≡ true = subst (λ (v : Option Begun). goes_to p v ≡ true) h.waits.opening goes in
     let mid = next_mid s.last_mid w.first_mid in
-    let message = message-of l h.opening w h.waits s.last_mid in
+    let progressed = progress h.waits.request (replies l h.opening) in
+    let waiting_one : Content = record h.waits.message { token = w.token } in
+    let same : h.waits.message ≡ record waiting_one { mid = 0 } = some-is _ _ (sym h.waits.next ∙ next-under h.waits.request progressed w.token 0 h.waits.message h.waits.next) in
     record {
       since = h.waits.since;
       request = h.waits.request;
       opening = h.waits.opening;
-      waits = waits;
-      first = first-waiting l p h.opening h.others h.is;
+      others = h.others;
+      first = h.is;
       free = subst (TurnIn l p) free a.turn;
       peer = sym (same_peer-same h.waits.request.peer p peer);
-      message = rw (unreplied l h.opening (waiting-goes l p h.opening waits)) refl;
-      spelled = sent-spells message w.datagram mid h.waits.spelled;
+      message = next-under h.waits.request progressed w.token mid h.waits.message h.waits.next;
+      spelled = sent-spells waiting_one w.datagram mid (subst (λ (m : Content). Spells m w.datagram) same h.waits.spelled);
       token_size = h.waits.token_size;
       token_apart = h.waits.token_apart;
       mid_apart = mid-apart l t p mid legal a.count_up (has-next l p s.last_mid w.first_mid a.last) few;

@@ -7,12 +7,10 @@ use Rattle.std.proofs.lemmas.Bool.Decides.{eqb_tells}
 use Rattle.coap_codec.specs.Spelling.{Content}
 use Rattle.uri_map.specs.declared.peer.Peer.{Peer}
 use Rattle.journal_book.specs.Entries.{Sends}
-use Rattle.history_laws.specs.Readings.{Noted, First}
-use Rattle.history_laws.specs.Worked.{noted}
+use Rattle.history_laws.specs.Readings.{Noted, First, noted}
 use Rattle.history_laws.specs.Progress.{Reply}
-use Rattle.history_laws.specs.Exchanges.{Begun, Sent, Nothing, End, end_here, end_by, end_of, waits_by, waits_for, replies, goes_to, begun, is_waiting}
-use Rattle.history_laws.proofs.CallerLemmas.{any-of, eqb-itself, filtered-from, none-some}
-use Rattle.history_links.proofs.Facts.{Rising}
+use Rattle.history_laws.specs.Exchanges.{Begun, Sent, Nothing, End, end_here, end_by, end_of, turn, waits_by, waits_for, replies, goes_to, begun, is_waiting}
+use Rattle.history_laws.proofs.CallerLemmas.{none-some, NoReply}
 use Rattle.history_links.proofs.Mids.{count-cons}
 
 abbrev pub sent : ℕ → Peer → List ℕ → Option ℕ → ℕ → Content → Noted
@@ -37,33 +35,6 @@ waits-sent l t p b w o m q = awaits-by (length l) (eqb o q) (waits_for l q)
 
 -- who waits
 
-differ : (o q : ℕ) → o < q → eqb o q ≡ false
-differ o q lt = elim (eqb_tells o q) [ inl w ↦ let same = w.1 in absurd (omega (arith, same, lt)) | inr w ↦ w.0 ]
-
-without : (f g : ℕ → Bool) (o : ℕ) → ((q : ℕ) → eqb o q ≡ false → f q ≡ g q) → (os : List ℕ) → AllByRecursion (λ (q : ℕ). o < q) os → filter f os ≡ filter g os
-without f g o same [] a = refl
-without f g o same (q ∷ os) a = rw (same q (differ o q a.0), without f g o same os a.1) refl
-
-heads : (x y : ℕ) (xs ys : List ℕ) → x ∷ xs ≡ y ∷ ys → (x ≡ y) × (xs ≡ ys)
-heads x y xs ys e = (cc, cc)
-
-pub taken-away : (f g : ℕ → Bool) (o : ℕ) (others : List ℕ) → ((q : ℕ) → eqb o q ≡ false → f q ≡ g q) → f o ≡ false
-    → (os : List ℕ) → Rising os → filter g os ≡ o ∷ others → filter f os ≡ others
-taken-away f g o others same gone [] r e = cc
-taken-away f g o others same gone (q ∷ os) r e = by (g q) refl (taken-away f g o others same gone os r.1) e
-  where
-    by : (b : Bool) → g q ≡ b → (filter g os ≡ o ∷ others → filter f os ≡ others) → cond b (q ∷ filter g os) (filter g os) ≡ o ∷ others
-        → cond (f q) (q ∷ filter f os) (filter f os) ≡ others
-    by true v ih e =
-        let both = heads q o (filter g os) others e in
-        let not_it : f q ≡ false = subst (λ (k : ℕ). f k ≡ false) (sym both.0) gone in
-        let later : AllByRecursion (λ (k : ℕ). o < k) os = subst (λ (n : ℕ). AllByRecursion (λ (k : ℕ). n < k) os) both.0 r.0 in
-        rw (not_it) (without f g o same os later ∙ both.1)
-    by false v ih e = elim (eqb_tells o q) [
-      | inl w ↦ rw (subst (λ (k : ℕ). f k ≡ false) (w.1) gone) (ih e)
-      | inr w ↦ rw (same q (w.0), v) (ih e)
-    ]
-
 not-awaiting : (a b : Bool) (n : ℕ) (old : Option ℕ) → (a && (b && is_none (cond true (Some n) old))) ≡ false
 not-awaiting true true n old = refl
 not-awaiting true false n old = refl
@@ -79,6 +50,14 @@ not-waiting l t p r b w o m =
       | inl e ↦ rw (ends-sent l t p b w o m o, waits-sent l t p b w o m o, e.0) (not-awaiting (goes_to r (begun l o)) (is_none (end_of l o)) (length l) (waits_for l o))
       | inr e ↦ absurd (e.1 refl)
     ]
+
+-- It is no reply.
+pub sent-quiet : (l : List Noted) (t : ℕ) (p : Peer) (b : List ℕ) (w : Option ℕ) (o : ℕ) (m : Content) (q : ℕ) → NoReply (turn l q (sent t p b w o m))
+sent-quiet l t p b w o m q = by (eqb o q)
+  where
+    by : (c : Bool) → NoReply (cond c (Sent (length l)) Nothing)
+    by true = tt
+    by false = tt
 
 -- what is awaited
 
@@ -113,10 +92,6 @@ one-awaited f g now old o n is none same (q ∷ os) = by (eqb o q) refl (old q) 
     by true e None v ih = rw (is q, e, v) (ap (λ (x : Bool). f n || x) ih ∙ or-shift (list_any g (filter_map old os)) (list_any (eqb o) os) (f n))
     by false e None v ih = rw (is q, e, v) ih
     by false e (Some i) v ih = rw (is q, e, v, same q i v) (ap (λ (x : Bool). g i || x) ih ∙ or-swap (g i) (list_any g (filter_map old os)) (list_any (eqb o) os) (f n))
-
-pub is-among : (g : ℕ → Bool) (o : ℕ) (others os : List ℕ) → filter g os ≡ o ∷ others → list_any (eqb o) os ≡ true
-is-among g o others os e =
-    any-of (eqb o) os o (filtered-from g os o (subst (λ (xs : List ℕ). Contains xs o) (sym e) (zero, omega arith, refl))).0 (eqb-itself o)
 
 -- moments at which IDs were given
 

@@ -1,8 +1,7 @@
 -- What an entry that leaves a peer alone leaves of what a link keeps.
 use Rattle.std.proofs.Common.{◌≡◌, ℕ, ◌≤◌, ◌<◌, Bool, inl, inr, length, arith, true, false, ◌&&◌, List, [], ◌∷◌, Option, Some, None, refl, sym, ap, subst, ◌∙◌, cond}
 use Rattle.std.specs.Prelude.{option_map}
-use Rattle.std.specs.List.{list_any, filter_map}
-use Rattle.std.proofs.lemmas.List.Elements.{filter_agree}
+use Rattle.std.specs.List.{AllByRecursion, list_any, filter_map}
 use Rattle.uri_map.specs.declared.peer.Peer.{Peer}
 use Rattle.message_layer.specs.Values.{LinkState}
 use Rattle.message_layer.specs.declared.state.Waiting.{Waiting}
@@ -10,12 +9,12 @@ use Rattle.message_layer.specs.declared.state.Heard.{Heard}
 use Rattle.message_layer.specs.declared.state.Reply.{Reply}
 use Rattle.history_laws.specs.Readings.{Noted, at, newest}
 use Rattle.history_laws.specs.Transmissions.{bears_token, firsts, first_at}
-use Rattle.history_laws.specs.Exchanges.{Begun, begun, openings, waits_for, end_of, awaited, is_waiting, waiting}
+use Rattle.history_laws.specs.Progress.{Reply as ExchangeReply, progress, next_message}
+use Rattle.history_laws.specs.Exchanges.{Begun, begun, openings, turn, waits_for, replies, end_of, awaited, is_waiting, waiting, issued, rank}
 use Rattle.history_laws.specs.Hearing.{went_under, went_as, is_like, heard_before, live_heard}
 use Rattle.history_laws.specs.Confirming.{answered_as}
-use Rattle.history_laws.proofs.CallerLemmas.{at-cases, at-keeps}
-use Rattle.history_links.proofs.Ranks.{rank-keeps}
-use Rattle.history_links.specs.Agrees.{IsWaitingFor, rank, TurnIn, WaitIn, reply_of, awaits, awaits_ack, HeardIn, Agrees}
+use Rattle.history_laws.proofs.CallerLemmas.{all-more, at-cases, at-keeps, begun-keeps, issued-same, none-submitted, NoReply, queue-same, rank-keeps, replies-stay, waiting-all, waiting-begun, waiting-stays}
+use Rattle.history_links.specs.Agrees.{IsWaitingFor, TurnIn, WaitIn, reply_of, awaits, awaits_ack, HeardIn, Agrees}
 
 pub filter_map-same : {X Y : Type 0} (f g : X → Option Y) → ((x : X) → f x ≡ g x) → (xs : List X) → filter_map f xs ≡ filter_map g xs
 filter_map-same f g same [] = refl
@@ -27,10 +26,13 @@ pub record Still (l n : List Noted) : Type 0 where
   pub stands : (i : ℕ) (x : Noted) → at l i ≡ Some x → at n i ≡ Some x
   pub firsts_are : firsts n ≡ firsts l
   pub openings_are : openings n ≡ openings l
-  pub ranks_are : (o : ℕ) {b : Begun} → begun l o ≡ Some b → rank n o ≡ rank l o
   pub begun_are : (o : ℕ) → begun n o ≡ begun l o
   pub waits_are : (o : ℕ) → waits_for n o ≡ waits_for l o
   pub ends_are : (o : ℕ) → end_of n o ≡ end_of l o
+  pub replies_are : (o : ℕ) → replies n o ≡ replies l o
+  pub ranks_are : (o : ℕ) {b : Begun} → begun l o ≡ Some b → rank n o ≡ rank l o
+  pub waiting_are : (p : Peer) → waiting n p ≡ waiting l p
+  pub issued_are : issued n ≡ issued l
 
 pub first_at-still : (l n : List Noted) → Still l n → (i : ℕ) → first_at n i ≡ first_at l i
 first_at-still l n e i = rw (e.firsts_are) refl
@@ -38,54 +40,69 @@ first_at-still l n e i = rw (e.firsts_are) refl
 pub awaited-still : (l n : List Noted) → Still l n → awaited n ≡ awaited l
 awaited-still l n e = rw (e.openings_are) (filter_map-same (waits_for n) (waits_for l) e.waits_are (openings l))
 
-pub is_waiting-still : (l n : List Noted) → Still l n → (p : Peer) (o : ℕ) → is_waiting n p o ≡ is_waiting l p o
-is_waiting-still l n e p o = rw (e.begun_are o, e.waits_are o, e.ends_are o) refl
+-- An exchange keeps what its message was submitted as.
+pub record Keeps (l n : List Noted) (o : ℕ) : Type 0 where
+  pub begun_is : (b : Begun) → begun l o ≡ Some b → begun n o ≡ Some b
+  pub replies_are : replies n o ≡ replies l o
+  pub rank_is : rank n o ≡ rank l o
 
-pub waiting-still : (l n : List Noted) → Still l n → (p : Peer) → waiting n p ≡ waiting l p
-waiting-still l n e p = rw (e.openings_are) (filter_agree (is_waiting n p) (is_waiting l p) (is_waiting-still l n e p) (openings l))
-
--- Who waits for a first sending waits for the same one.
-abbrev pub Keeps : List Noted → List Noted → Type 0
-Keeps l n = (o : ℕ) (b : Begun) → begun l o ≡ Some b → (begun n o ≡ Some b) × (rank n o ≡ rank l o)
-
-pub waits-one : (l n : List Noted) (o : ℕ) (w : Waiting) → Keeps l n → (bears_token l w.token ≡ false → bears_token n w.token ≡ false)
+pub waits-one : (l n : List Noted) (o : ℕ) (w : Waiting) → Keeps l n o → (bears_token l w.token ≡ false → bears_token n w.token ≡ false)
     → IsWaitingFor l o w → IsWaitingFor n o w
-waits-one l n o w keeps apart a =
-    let same = keeps o (record { since = a.since; request = a.request }) a.opening in
-    record {
-      since = a.since;
-      request = a.request;
-      opening = same.0;
-      spelled = a.spelled;
-      token_size = a.token_size;
-      token_apart = apart a.token_apart;
-      numbered = a.numbered ∙ sym same.1;
-      least = a.least;
-      greatest = a.greatest;
-    }
+waits-one l n o w keeps apart a = record {
+  since = a.since;
+  request = a.request;
+  opening = keeps.begun_is (record { since = a.since; request = a.request }) a.opening;
+  message = a.message;
+  next = ap (λ (rs : List ExchangeReply). next_message a.request (progress a.request rs) 0 w.token) keeps.replies_are ∙ a.next;
+  spelled = a.spelled;
+  token_size = a.token_size;
+  token_apart = apart a.token_apart;
+  numbered = a.numbered ∙ sym keeps.rank_is;
+  least = a.least;
+  greatest = a.greatest;
+}
 
-pub waits-all : (l n : List Noted) → Keeps l n → firsts n ≡ firsts l → (os : List ℕ) (ws : List Waiting) → WaitIn l os ws → WaitIn n os ws
-waits-all l n keeps same [] [] a = a
-waits-all l n keeps same [] (w ∷ ws) a = a
-waits-all l n keeps same (o ∷ os) [] a = a
-waits-all l n keeps same (o ∷ os) (w ∷ ws) a = (waits-one l n o w keeps (λ e. rw (same) e) a.0, waits-all l n keeps same os ws a.1)
+waits-each : (l n : List Noted) → firsts n ≡ firsts l → (os : List ℕ) (ws : List Waiting) → AllByRecursion (Keeps l n) os → WaitIn l os ws → WaitIn n os ws
+waits-each l n same [] [] keeps a = a
+waits-each l n same [] (w ∷ ws) keeps a = a
+waits-each l n same (o ∷ os) [] keeps a = a
+waits-each l n same (o ∷ os) (w ∷ ws) keeps a = (waits-one l n o w keeps.0 (λ e. rw (same) e) a.0, waits-each l n same os ws keeps.1 a.1)
 
-keeps-still : (l n : List Noted) → Still l n → Keeps l n
-keeps-still l n e o b h = (e.begun_are o ∙ h, e.ranks_are o h)
+-- Who waits keeps it, whatever comes.
+pub waiting-keeps : (x : Noted) (l : List Noted) (p : Peer) (o : ℕ) → is_waiting l p o ≡ true → Keeps l (x ∷ l) o
+waiting-keeps x l p o e =
+    let b = waiting-begun l p o e in
+    let same = waiting-stays x l p o e in
+    record { begun_is = λ c is. begun-keeps x l o c is; replies_are = same; rank_is = rank-keeps x l o b.0 b.1 same }
+
+pub waits-all : (x : Noted) (l : List Noted) (p : Peer) → firsts (x ∷ l) ≡ firsts l → (os : List ℕ) (ws : List Waiting)
+    → AllByRecursion (λ (o : ℕ). is_waiting l p o ≡ true) os → WaitIn l os ws → WaitIn (x ∷ l) os ws
+waits-all x l p same os ws waiting =
+    waits-each l (x ∷ l) same os ws (all-more (λ (o : ℕ). is_waiting l p o ≡ true) (Keeps l (x ∷ l)) (waiting-keeps x l p) os waiting)
 
 -- One entry more leaves what it says, where it leaves these.
 pub still-by : (x : Noted) (l : List Noted) → newest l ≤ x.written.moment → firsts (x ∷ l) ≡ firsts l → openings (x ∷ l) ≡ openings l
-    → ((o : ℕ) → begun (x ∷ l) o ≡ begun l o) → ((o : ℕ) → waits_for (x ∷ l) o ≡ waits_for l o) → ((o : ℕ) → end_of (x ∷ l) o ≡ end_of l o) → Still l (x ∷ l)
-still-by x l later firsts_are openings_are begun_are waits_are ends_are = record {
+    → ((o : ℕ) → begun (x ∷ l) o ≡ begun l o) → ((o : ℕ) → waits_for (x ∷ l) o ≡ waits_for l o) → ((o : ℕ) → end_of (x ∷ l) o ≡ end_of l o)
+    → ((o : ℕ) → NoReply (turn l o x)) → Still l (x ∷ l)
+still-by x l later firsts_are openings_are begun_are waits_are ends_are quiet = record {
   later = later;
   stands = λ i y e. at-keeps x l i y e;
   firsts_are = firsts_are;
   openings_are = openings_are;
-  ranks_are = λ o {b} e. rank-keeps x l o b e;
   begun_are = begun_are;
   waits_are = waits_are;
   ends_are = ends_are;
+  replies_are = replied;
+  ranks_are = λ o {b} e. rank-keeps x l o b e (replied o);
+  waiting_are = λ p. queue-same x l p (none-submitted x l p openings_are (λ o w. quiet o)) (λ o w. waiting p o ∙ w);
+  issued_are = issued-same x l openings_are (λ o goes. quiet o);
 }
+  where
+    replied : (o : ℕ) → replies (x ∷ l) o ≡ replies l o
+    replied o = replies-stay (length l) (turn l o x) (replies l o) (quiet o)
+
+    waiting : (p : Peer) (o : ℕ) → is_waiting (x ∷ l) p o ≡ is_waiting l p o
+    waiting p o = rw (begun_are o, waits_are o, ends_are o) refl
 
 -- It says of what was heard from the peer what the older one says.
 pub record SameHeard (l n : List Noted) (p : Peer) : Type 0 where
@@ -145,12 +162,17 @@ rest-still l n p s r e h a turn waiting_is last_is given_is awaited_is heard_is 
   last = last_is ∙ (a.last ∙ rw (e.firsts_are) refl);
   count_up = rw (e.firsts_are) a.count_up;
   given = λ t later. rw (given_is, e.firsts_are) (a.given t (let g = e.later in omega (arith, g, later)));
-  waits = rw (waiting_is, waiting-still l n e p) (waits-all l n (keeps-still l n e) e.firsts_are (waiting l p) s.waiting a.waits);
+  waits = rw (waiting_is, e.waiting_are p) (waits-each l n e.firsts_are (waiting l p) s.waiting (all-more (λ (o : ℕ). is_waiting l p o ≡ true) (Keeps l n) (keeps l n e p) (waiting l p) (waiting-all l p)) a.waits);
   awaits = λ token. rw (awaited_is) (a.awaits token ∙ sym (awaits-still l n e p token));
   acks = λ mid token. rw (awaited_is) (a.acks mid token ∙ sym (acks-still l n e p mid token));
   heard = rw (heard_is) (heard-still l n p s.heard h a.heard);
 }
   where
+    keeps : (l n : List Noted) → Still l n → (p : Peer) (o : ℕ) → is_waiting l p o ≡ true → Keeps l n o
+    keeps l n e p o w =
+        let b = waiting-begun l p o w in
+        record { begun_is = λ c is. e.begun_are o ∙ is; replies_are = e.replies_are o; rank_is = e.ranks_are o b.1 }
+
     awaits-still : (l n : List Noted) → Still l n → (p : Peer) (token : List ℕ) → awaits n p token ≡ awaits l p token
     awaits-still l n e p token =
         rw (awaited-still l n e)

@@ -4,8 +4,7 @@ use Rattle.std.specs.List.{AllByRecursion, find}
 use Rattle.std.proofs.lemmas.Bool.Decides.{eqb_tells}
 use Rattle.std.proofs.lemmas.Bool.{false≢true}
 use Rattle.journal_book.specs.Entries.{Deed, Sends}
-use Rattle.history_laws.specs.Readings.{Noted, Note, First, at}
-use Rattle.history_laws.specs.Worked.{noted}
+use Rattle.history_laws.specs.Readings.{Noted, Note, First, at, noted}
 use Rattle.history_laws.specs.Transmissions.{FirstSending, firsts_by, firsts, first_at}
 use Rattle.history_laws.specs.Justified.{Legal}
 use Rattle.history_laws.specs.Laws.{IsFirst}

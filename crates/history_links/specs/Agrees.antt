@@ -4,10 +4,10 @@ use Rattle.std.specs.List.{list_any, find}
 use Rattle.limits.specs.declared.TheConstants.{ACK_TIMEOUT, LONGEST_ACK_TIMEOUT}
 use Rattle.coap_codec.specs.declared.message.MsgType.{MsgType}
 use Rattle.coap_codec.specs.declared.message.MsgType.TheVariants.{Ack, Rst}
-use Rattle.coap_codec.specs.Spelling.{Spells}
+use Rattle.coap_codec.specs.Spelling.{Content, Spells}
 use Rattle.uri_map.specs.declared.peer.Peer.{Peer}
 use Rattle.uri_map.specs.Peers.{same_peer}
-use Rattle.ask_model.specs.Requests.{CoapRequest, request_message}
+use Rattle.ask_model.specs.Requests.{CoapRequest}
 use Rattle.journal_book.specs.Entries.{Sends}
 use Rattle.history_laws.specs.Numbering.{token_number}
 use Rattle.history_laws.specs.Confirmations.{Confirmation, given}
@@ -19,9 +19,10 @@ use Rattle.message_layer.specs.declared.state.Outstanding.{Outstanding}
 use Rattle.message_layer.specs.declared.state.Heard.{Heard}
 use Rattle.message_layer.specs.declared.state.Reply.{Reply}
 use Rattle.message_layer.specs.declared.state.Reply.TheVariants as R
-use Rattle.history_laws.specs.Readings.{Noted, First, at, before, newest}
+use Rattle.history_laws.specs.Readings.{Noted, First, noted, at, newest}
 use Rattle.history_laws.specs.Transmissions.{FirstSending, firsts, first_at, last_sent, bears_token, mids_used, Transmission, transmission, outstanding}
-use Rattle.history_laws.specs.Exchanges.{begun, openings, awaited, waiting}
+use Rattle.history_laws.specs.Progress.{progress, next_message}
+use Rattle.history_laws.specs.Exchanges.{begun, replies, rank, awaited, waiting}
 use Rattle.history_laws.specs.Hearing.{went_under, went_as, heard_before, live_heard}
 use Rattle.history_laws.specs.Confirming.{answered_as}
 
@@ -33,7 +34,7 @@ way_of o = record { timeout = o.timeout; copies = o.retransmissions; last = o.se
 pub record IsOut (l : List Noted) (p : Peer) (o : Outstanding) : Type 0 where
   pub first : FirstSending
   pub timeout : Option ℕ
-  pub stands : at l first.number ≡ Some (record { written = record { moment = first.moment; deed = Sends p o.datagram timeout }; note = First first.opening first.message })
+  pub stands : at l first.number ≡ Some (noted first.moment (Sends p o.datagram timeout) (First first.opening first.message))
   pub is : outstanding l p ≡ Some first
   pub way : transmission l first.number ≡ Some (way_of o)
   pub token : first.message.token ≡ o.token
@@ -55,16 +56,14 @@ abbrev pub CountUp : List FirstSending → Type 0
 CountUp [] = ⊤
 CountUp (f ∷ older) = (f.message.mid < 65536) × HasMid f.message.mid older × CountUp older
 
--- A token begins with how many exchanges were opened before its own.
-abbrev pub rank : List Noted → ℕ → ℕ
-rank l o = length (openings (before l o))
-
--- the message of an exchange that waits
+-- The message of an exchange that waits; its token begins with how many were issued before.
 pub record IsWaitingFor (l : List Noted) (o : ℕ) (w : Waiting) : Type 0 where
   pub since : ℕ
   pub request : CoapRequest
   pub opening : begun l o ≡ Some (record { since = since; request = request })
-  pub spelled : Spells (request_message request 0 w.token) w.datagram
+  pub message : Content
+  pub next : next_message request (progress request (replies l o)) 0 w.token ≡ Some message
+  pub spelled : Spells message w.datagram
   pub token_size : length w.token ≡ 8
   pub token_apart : bears_token l w.token ≡ false
   pub numbered : token_number w.token ≡ rank l o

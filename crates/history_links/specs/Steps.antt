@@ -20,14 +20,13 @@ use Rattle.message_layer.specs.declared.state.Waiting.{Waiting}
 use Rattle.message_layer.specs.declared.verdict.News.{News}
 use Rattle.message_layer.specs.declared.verdict.News.TheVariants.{Quiet, Response, Reset, Lost}
 use Rattle.message_layer.specs.declared.verdict.Verdict.{Verdict}
-use Rattle.history_laws.specs.Readings.{Noted, Note, Plain, Begins, First, Copies, Confirms, Says, Repeats, Garbled, Unobserved, newest, ticked}
+use Rattle.history_laws.specs.Readings.{Noted, Note, Plain, Begins, First, Copies, Confirms, Says, Repeats, Garbled, unobserved, newest, ticked, noted}
 use Rattle.history_laws.specs.Connections.{is_sealed}
 use Rattle.history_laws.specs.Transmissions.{FirstSending, first_at, bears_token, mids_used}
-use Rattle.history_laws.specs.Exchanges.{begun, openings, is_late, expires, waits_for, is_waiting, waiting}
+use Rattle.history_laws.specs.Exchanges.{begun, issued, is_late, expires, waits_for, is_waiting, waiting}
 use Rattle.history_laws.specs.Hearing.{went_under, repeated, can_be_remembered, answers}
 use Rattle.history_laws.specs.Confirming.{owed}
 use Rattle.history_laws.specs.Justified.{Legal, Follows}
-use Rattle.history_laws.specs.Worked.{noted}
 use Rattle.history_links.specs.Agrees.{IsWaitingFor, due, Agrees}
 
 -- Before an entry at this moment, the history is legal, and the link agrees with it.
@@ -94,7 +93,7 @@ QueuedAgrees =
     (l : List Noted) (t : ℕ) (p : Peer) (s : LinkState)
     (c : ℕ) (a : Ask) (q : CoapRequest) (token text : List ℕ) (word : ℕ)
     → Before l t p s → q.peer ≡ p → Spells (request_message q 0 token) text
-    → length token ≡ 8 → bears_token l token ≡ false → token_number token ≡ length (openings l)
+    → length token ≡ 8 → bears_token l token ≡ false → token_number token ≡ issued l
     → Agrees (noted t (Asks c a) (Begins q) ∷ l) p (queued t (waits token text word) s)
 
 -- What is heard asks for just what the link answers (RFC 7252 sections 4.2, 4.3, 4.5), which is this after it.
@@ -145,7 +144,7 @@ heard_link t mid token v s = record {
 
 -- A message that is new ends what it answers.
 abbrev pub heard : List Noted → ℕ → Peer → List ℕ → Content → Noted
-heard l t p d m = noted t (Hears p d) (Says m (answers l p m) Unobserved)
+heard l t p d m = noted t (Hears p d) (Says m (answers l p m) unobserved)
 
 abbrev pub SaysAgrees : Type 0
 SaysAgrees =
@@ -213,4 +212,4 @@ SaysElsewhere =
     (l : List Noted) (t : ℕ) (p r : Peer) (s : LinkState) (d : List ℕ) (m : Content) (to : Option ℕ)
     → Before l t p s → same_peer r p ≡ false
     → ((i : ℕ) (f : FirstSending) → to ≡ Some i → first_at l i ≡ Some f → same_peer f.peer p ≡ false)
-    → Agrees (noted t (Hears r d) (Says m to Unobserved) ∷ l) p s
+    → Agrees (noted t (Hears r d) (Says m to unobserved) ∷ l) p s

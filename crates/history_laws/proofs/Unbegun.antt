@@ -4,9 +4,9 @@ use Rattle.std.proofs.lemmas.Bool.Decides.{eqb_tells}
 use Rattle.ask_model.specs.Requests.{CoapRequest}
 use Rattle.journal_book.specs.Entries.{Deed, Sends, Hears, Passes}
 use Rattle.history_laws.specs.Readings.{Noted, Note, First, Says}
-use Rattle.history_laws.specs.Exchanges.{Begun, begun_by, begun, opens_by, Nothing, turn_by, turn, waits_for, end_of}
+use Rattle.history_laws.specs.Exchanges.{Begun, begun_by, begun, opens_by, Nothing, turn_by, turn, waits_for, replies, end_of}
 use Rattle.history_laws.specs.Justified.{Follows, Legal}
-use Rattle.history_laws.proofs.CallerLemmas.{begun-below}
+use Rattle.history_laws.proofs.Sent.{begun-below}
 
 not-begun : (q : Option CoapRequest) (here : Bool) (t : ℕ) (old : Option Begun) → begun_by q here t old ≡ None → old ≡ None
 not-begun None here t old e = e
@@ -44,3 +44,12 @@ not-yet l = by (begun l (length l)) refl
     by : (b : Option Begun) → begun l (length l) ≡ b → b ≡ None
     by None e = refl
     by (Some b) e = let lt = begun-below l (length l) b e in absurd (omega (arith, lt))
+
+-- Nor has it replies.
+pub replies-none : (l : List Noted) (o : ℕ) → Legal l → begun l o ≡ None → (waits_for l o ≡ None) × (replies l o ≡ [])
+replies-none [] o legal e = (refl, refl)
+replies-none (x ∷ older) o legal e =
+    let old = not-begun (opens_by x.note) (eqb (length older) o) x.written.moment (begun older o) e in
+    let ih = replies-none older o legal.0 old in
+    let none : turn older o x ≡ Nothing = rw (ih.0) (no-turn older o x.written.moment x.written.deed x.note legal.2 old) in
+    (rw (none, ih.0) refl, rw (none, ih.1) refl)
