@@ -19,10 +19,10 @@ use Rattle.history_laws.specs.Readings.{Noted, Note, Plain, Begins, First, entri
 use Rattle.history_laws.specs.Connections.{is_sealed}
 use Rattle.history_laws.specs.Transmissions.{FirstSending, firsts_by, firsts, is_recent, mids_used}
 use Rattle.history_laws.specs.Progress.{TimedOut}
-use Rattle.history_laws.specs.Exchanges.{Begun, begun, Turn, Expired, turn, expires, is_late, replies, end_here, opens_by, opened_by, openings, is_going, open_exchanges, goes_to, is_waiting, waiting as waiting_at, waits_for}
+use Rattle.history_laws.specs.Exchanges.{Begun, begun, Turn, Expired, turn, expires, is_late, replies, end_here, opens_by, opened_by, openings, is_going, open_exchanges, goes_to, is_waiting, waiting as waiting_at, waits_for, submitted}
 use Rattle.history_laws.specs.Hearing.{has_room}
 use Rattle.history_laws.specs.Justified.{IsRefused, Caused, HasGrounds, AskNote, Follows, Legal}
-use Rattle.history_laws.proofs.CallerLemmas.{asked-for, at-before, at-same, at-still, before-twice, begun-before, begun-below, begun-opening, contains-mapped, filtered-from, firsts-stand, follows-at, is-some, IsFirst-below, length-before, listed-begun, opening-begun, reads-own}
+use Rattle.history_laws.proofs.CallerLemmas.{all-of, asked-for, at-before, at-same, at-still, before-twice, begun-before, begun-below, begun-opening, contains-mapped, filtered-from, firsts-stand, follows-at, is-some, IsFirst-below, length-before, listed-begun, opening-begun, queue-rises, reads-own, RisesBy, waiting-all}
 use Rattle.history_claims.specs.Headline.{AreApart, AreMany, IsPending, IsPendingAt, IsRecent, IsCrowded, exchanges, waiting, ids}
 use Rattle.history_claims.proofs.Entries.{entries-at, asked-entry, grows}
 use Rattle.history_claims.proofs.Sending.{first-entry, first-before}
@@ -152,6 +152,12 @@ numbers-apart (x ∷ older) =
     numbers-step (length older) x.written.moment x.written.deed x.note (firsts older) (numbers-apart older)
     (λ h. let below = numbers-below older (length older) h in absurd (omega (arith, below)))
 
+-- A list that rises by something has each of its members once.
+rises-apart : (f : ℕ → ℕ) (os : List ℕ) → RisesBy f os → AreApart os
+rises-apart f [] r = tt
+rises-apart f (o ∷ os) r =
+    (λ h. let lt = all-of (λ (q : ℕ). f o < f q) os o r.0 h in absurd (omega (arith, lt)), rises-apart f os r.1)
+
 goes-is : (p : Peer) (b : Option Begun) → goes_to p b ≡ true → (a : Begun) × (b ≡ Some a) × (a.request.peer ≡ p)
 goes-is p None e = absurd (false≢true e)
 goes-is p (Some b) e = (b, refl, same_peer-same b.request.peer p e)
@@ -174,10 +180,10 @@ module _ (l : List Noted) (k : ℕ) (x : Noted) (legal : Legal l) (here : at l k
       record {
         ones = waiting_at (before l k) p;
         many = omega arith;
-        apart = apart-filtered (is_waiting (before l k) p) (openings (before l k)) (openings-apart (before l k));
+        apart = rises-apart (submitted (before l k)) (waiting_at (before l k) p) (queue-rises (before l k) p);
         each = λ o h.
-            let both = filtered-from (is_waiting (before l k) p) (openings (before l k)) o h in
-            let parts = and_parts (goes_to p (begun (before l k) o)) (is_going (before l k) o && is_none (waits_for (before l k) o)) both.1 in
+            let waits = all-of (λ (q : ℕ). is_waiting (before l k) p q ≡ true) (waiting_at (before l k) p) o (waiting-all (before l k) p) h in
+            let parts = and_parts (goes_to p (begun (before l k) o)) (is_going (before l k) o && is_none (waits_for (before l k) o)) waits in
             let b = goes-is p (begun (before l k) o) parts.0 in
             let going = and_parts (is_going (before l k) o) (is_none (waits_for (before l k) o)) parts.1 in
             (b.0.request, b.2, pending-is l k o x legal here unsealed going.0 b.0 b.1);

@@ -19,18 +19,18 @@ use Rattle.history_claims.proofs.Ending.{turn-expired, expired-turn}
 use Rattle.history_claims.proofs.Unsent.{ended-at}
 
 -- as many connections were opened, and asks answered, as before, or more
-more-opened : (d : Deed) (n : ℕ) → n ≤ opened_by d n
-more-opened (Opens c) n = omega arith
-more-opened d n = omega arith
+more-opened : (l : List Noted) (t : ℕ) (d : Deed) (note : Note) → Follows l t d note → opened l ≤ opened_by d (opened l)
+more-opened l t (Opens c) note may = let here = may.1 in omega (arith, here)
+more-opened l t d note may = omega arith
 
-opened-before : (l : List Noted) (n : ℕ) → opened (before l n) ≤ opened l
-opened-before [] n = omega arith
-opened-before (x ∷ older) n =
+opened-before : (l : List Noted) (n : ℕ) → Legal l → opened (before l n) ≤ opened l
+opened-before [] n legal = omega arith
+opened-before (x ∷ older) n legal =
     elim (eqb_tells n (length older)) [
-      | inl w ↦ rw (w.0) (more-opened x.written.deed (opened older))
+      | inl w ↦ rw (w.0) (more-opened older x.written.moment x.written.deed x.note legal.2)
       | inr w ↦
-          let ih = opened-before older n in
-          let more = more-opened x.written.deed (opened older) in
+          let ih = opened-before older n legal.0 in
+          let more = more-opened older x.written.moment x.written.deed x.note legal.2 in
           rw (w.0) (omega (arith, ih, more))
     ]
 
@@ -63,7 +63,7 @@ open-back (x ∷ older) n c legal below h =
       | inl w ↦ rw (w.0) (open-was older x.written.moment c x.written.deed x.note (rw (w.0) at below) legal.2 h)
       | inr w ↦
           let less : c < opened (before older n) = rw (w.0) at below in
-          let more = opened-before older n in
+          let more = opened-before older n legal.0 in
           rw (w.0) (open-back older n c legal.0 less (open-was older x.written.moment c x.written.deed x.note (omega (arith, less, more)) legal.2 h))
     ]
 
@@ -130,7 +130,7 @@ module _ (l : List Noted) (c k e : ℕ) (a : Ask) (legal : Legal l) (ask : IsAsk
       ended-at (before l i) k e end.0 TimedOut (at-still l i e _ _ here late end.1)
       (subst (λ (v : List Noted). end_here (begun v k) e (replies v k) (turn v k end.0) ≡ Some TimedOut) (sym twice) end.3) in
       let below_ask : c < opened (before l k) = open-below (before l k) (legal-before l k legal) c asked-open in
-      let more = opened-before (before l i) k in
+      let more = opened-before (before l i) k (legal-before l i legal) in
       let sooner = before-twice l i k x here less in
       let below : c < opened (before l i) =
       omega (arith, subst (λ (v : List Noted). c < opened v) (sym sooner) below_ask, more) in

@@ -15,7 +15,7 @@ use Rattle.history_laws.specs.Transmissions.{FirstSending, firsts, sent_last}
 use Rattle.history_laws.specs.Exchanges.{begun, end_of, end_here, end_by, End, turn, replies, goes_to, is_going, waits_for}
 use Rattle.history_laws.specs.Justified.{MayBeFirst, Follows, Legal}
 use Rattle.history_laws.specs.Laws.{IsFirst}
-use Rattle.history_laws.proofs.CallerLemmas.{any-first, asked-for, at-same, at-still, before-twice, begun-opening, eqb-itself, eqb-same, find-any, find-some, firsts-stand, follows-at, none-is, none-some, some-is}
+use Rattle.history_laws.proofs.CallerLemmas.{any-first, asked-for, at-same, at-still, before-twice, begun-opening, eqb-itself, eqb-same, find-any, find-some, first-waits, firsts-stand, follows-at, none-is, none-some, some-is}
 use Rattle.history_claims.specs.Headline.{IsUnsent}
 use Rattle.history_claims.proofs.Entries.{asked-entry, grows}
 use Rattle.history_claims.proofs.Sending.{first-of, sent-in}
@@ -118,7 +118,7 @@ over-still o x l (inr h) = inr (sealed-still x.written.deed (is_sealed l) h)
 not-over : (l : List Noted) (t o : ℕ) (p : Peer) (b : List ℕ) (w : Option ℕ) (m : Content) → Over o l → Follows l t (Sends p b w) (First o m) → ⊥
 not-over l t o p b w m (inl h) f =
     let may : MayBeFirst l t o p b m w = f.1.1 in
-    let going = and_parts (is_going l o) (is_none (waits_for l o)) (and_parts (goes_to p (begun l o)) _ may.waits).1 in
+    let going = and_parts (is_going l o) (is_none (waits_for l o)) (and_parts (goes_to p (begun l o)) _ (first-waits l t o p b m w may)).1 in
     false≢true (sym h ∙ going.0)
 not-over l t o p b w m (inr h) f = false≢true (sym f.0 ∙ h)
 
