@@ -12,8 +12,7 @@ use Rattle.message_layer.specs.Prepared.{at_once as next_list, IsUnnumberedCon}
 use Rattle.message_layer.specs.declared.prepared.FirstSending.{FirstSending}
 use Rattle.message_layer.specs.declared.state.Waiting.{Waiting}
 use Rattle.history_laws.specs.Readings.{Noted, entries}
-use Rattle.history_laws.specs.Exchanges.{openings, opened_by, opens_by}
-use Rattle.history_laws.proofs.CallerLemmas.{entries-length}
+use Rattle.history_laws.proofs.CallerLemmas.{entries-length, issued-few}
 use Rattle.exchange_model.specs.declared.kept.Exchange.{Exchange}
 use Rattle.exchange_model.specs.State.{State, link_of}
 use Rattle.exchange_model.specs.Room.{fits, asks_waiting, seals_left}
@@ -32,20 +31,10 @@ use Rattle.exchange_core.proofs.Begins.{sound-begun, begun-so, sound-sealed, sea
 use Rattle.exchange_core.proofs.Sounding.{place-left}
 
 -- as many tokens were issued as there are entries, at most
-opened-more : (n : ℕ) (v : Option CoapRequest) (old : List ℕ) → length (opened_by n v old) ≤ length old + 1
-opened-more n None old = omega arith
-opened-more n (Some q) old = let e = length-append old (n ∷ []) in omega (arith, e)
-
-pub openings-few : (l : List Noted) → length (openings l) ≤ length l
-openings-few [] = omega arith
-openings-few (x ∷ older) =
-    let ih = openings-few older in
-    let one = opened-more (length older) (opens_by x.note) (openings older) in omega (arith, ih, one)
-
 pub issued-below : (S : State) (bytes room : ℕ) (gs : List Given) → SoundState S bytes room gs → S.issued < 4294967295
 issued-below S bytes room gs s =
     let r = s.kept.kept.rests.reads in
-    let few = openings-few s.kept.kept.reading in
+    let few = issued-few s.kept.kept.reading in
     let is = r.issued_are in
     let len = entries-length s.kept.kept.reading in
     let same : length (entries s.kept.kept.reading) ≡ length S.entries = ap (λ (xs : List Written). length xs) r.entries_are in

@@ -5,8 +5,7 @@ use Rattle.std.proofs.Math.ListN.{set}
 use Rattle.std.proofs.lemmas.Bool.{eqb-true, eq-eqb, false≢true}
 use Rattle.history_laws.specs.Numbering.{token_number}
 use Rattle.history_laws.specs.Readings.{Noted}
-use Rattle.history_laws.proofs.CallerLemmas.{all-more, begun-below, entries-length}
-use Rattle.history_links.proofs.CallerLemmas.{rank-below}
+use Rattle.history_laws.proofs.CallerLemmas.{all-more, begun-below, entries-length, rank-below}
 use Rattle.exchange_model.specs.declared.kept.Conn.{Conn}
 use Rattle.exchange_model.specs.declared.kept.Exchange.{Exchange}
 use Rattle.exchange_model.specs.Calls.{waits_on}
@@ -16,7 +15,7 @@ use Rattle.exchange_model.specs.Reads.{ExchangeIn, Reads}
 use Rattle.exchange_model.specs.Growing.{Rise}
 use Rattle.exchange_model.specs.Keeping.{Kept}
 use Rattle.exchange_model.specs.Room.{KeptInRoom}
-use Rattle.exchange_model.proofs.CallerLemmas.{conns-rise}
+use Rattle.exchange_model.proofs.CallerLemmas.{conns-rise, OpenIn, open-ones}
 use Rattle.exchange_core.specs.Places.{id_of, has_id}
 use Rattle.exchange_table.specs.Places.{RiseBy, IsNowhere, IsOnlyAt}
 use Rattle.exchange_table.specs.Tables.{IsLatest}
@@ -40,11 +39,11 @@ conns-ordered S k = by-id S.conns (conns-rise S k)
 pub latest : (S : State) (e : Exchange) → Kept S → e.opening ≡ length S.entries → token_number e.token ≡ S.issued → IsLatest e S.exchanges
 latest S e k opening token = record {
   opening = all-more (ExchangeIn l) _ (λ (f : Exchange) i. let below = begun-below l f.opening _ i.opening in omega (arith, below, opening, len)) S.exchanges r.exchanges_are;
-  token = all-more (ExchangeIn l) _ (λ (f : Exchange) i.
-      let below = rank-below l f.opening _ i.opening in
-      let number = i.number in
+  token = all-more (OpenIn l) _ (λ (f : Exchange) i.
+      let below = rank-below l f.opening _ r.legal i.0.opening i.1 in
+      let number = i.0.number in
       let issued = r.issued_are in
-      omega (arith, below, number, issued, token)) S.exchanges r.exchanges_are;
+      omega (arith, below, number, issued, token)) S.exchanges (open-ones l S r);
 }
   where
     l : List Noted

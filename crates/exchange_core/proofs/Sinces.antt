@@ -6,8 +6,7 @@ use Rattle.limits.specs.declared.TheConstants.{MAX_TRANSMIT_WAIT}
 use Rattle.history_laws.specs.Readings.{Noted, at, newest}
 use Rattle.history_laws.specs.Exchanges.{openings, is_going}
 use Rattle.history_laws.specs.Justified.{Legal}
-use Rattle.history_laws.proofs.CallerLemmas.{at-below, at-newest, some-is}
-use Rattle.history_links.proofs.CallerLemmas.{openings-rising, Rising, rising-filter}
+use Rattle.history_laws.proofs.CallerLemmas.{at-below, at-newest, openings-rising, Rising, rising-filter, some-is}
 use Rattle.exchange_model.specs.declared.kept.Exchange.{Exchange}
 use Rattle.exchange_model.specs.State.{State}
 use Rattle.exchange_model.specs.Reads.{ExchangeIn, opening_of}

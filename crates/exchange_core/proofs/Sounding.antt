@@ -7,7 +7,8 @@ use Rattle.std.proofs.Common.{eqb}
 use Rattle.std.proofs.lemmas.List.Sums.{sum_by-append, length-filter, count_by-le-length}
 use Rattle.ask_model.specs.Sizes.{capped}
 use Rattle.journal_book.specs.Entries.{Deed, Opens, Asks, Sends, Hears, Passes, Answers, Shuts, Seals, Written, entry_size}
-use Rattle.history_laws.specs.Readings.{Noted, entries}
+use Rattle.history_laws.specs.Readings.{Noted, Note, entries}
+use Rattle.history_laws.specs.Justified.{Follows, Legal}
 use Rattle.history_laws.specs.Connections.{opened_by, opened}
 use Rattle.history_laws.proofs.CallerLemmas.{entries-length}
 use Rattle.exchange_model.specs.declared.kept.Conn.{Conn}
@@ -59,24 +60,20 @@ pub place-left : (S : State) (bytes room : ℕ) (gs : List Given) → SoundState
 place-left S bytes room gs s = (within-limits S s.kept).0
 
 -- as many connections were opened as there are entries, at most
-opened-once : (d : Deed) (n : ℕ) → opened_by d n ≤ n + 1
-opened-once (Opens c) n = omega arith
-opened-once (Asks c a) n = omega arith
-opened-once (Sends p b w) n = omega arith
-opened-once (Hears p b) n = omega arith
-opened-once Passes n = omega arith
-opened-once (Answers c k g) n = omega arith
-opened-once (Shuts c) n = omega arith
-opened-once Seals n = omega arith
+opened-once : (l : List Noted) (t : ℕ) (d : Deed) (note : Note) → Follows l t d note → opened_by d (opened l) ≤ opened l + 1
+opened-once l t (Opens c) note may = let here = may.1 in omega (arith, here)
+opened-once l t d note may = omega arith
 
-opened-few : (l : List Noted) → opened l ≤ length l
-opened-few [] = omega arith
-opened-few (x ∷ older) = let ih = opened-few older in let one = opened-once x.written.deed (opened older) in omega (arith, ih, one)
+opened-few : (l : List Noted) → Legal l → opened l ≤ length l
+opened-few [] legal = omega arith
+opened-few (x ∷ older) legal =
+    let ih = opened-few older legal.0 in
+    let one = opened-once older x.written.moment x.written.deed x.note legal.2 in omega (arith, ih, one)
 
 pub opened-below : (S : State) (bytes room : ℕ) (gs : List Given) → SoundState S bytes room gs → S.opened < 4294967295
 opened-below S bytes room gs s =
     let r = s.kept.kept.rests.reads in
-    let few = opened-few s.kept.kept.reading in
+    let few = opened-few s.kept.kept.reading r.legal in
     let is = r.opened_are in
     let len = entries-length s.kept.kept.reading in
     let same : length (entries s.kept.kept.reading) ≡ length S.entries = ap (λ (xs : List Written). length xs) r.entries_are in

@@ -4,7 +4,7 @@ use Rattle.std.specs.Prelude.{fold}
 use Rattle.std.specs.List.{list_any}
 use Rattle.std.proofs.lemmas.List.Sums.{count_by-le-length}
 use Rattle.journal_book.specs.Entries.{Deed, Opens, Asks, Sends, Hears, Passes, Answers, Shuts, Seals}
-use Rattle.history_laws.specs.Readings.{Noted, Note, Plain, Begins, First, Copies, Confirms, Says, Repeats, Garbled, entries}
+use Rattle.history_laws.specs.Readings.{Noted, Note, Plain, Begins, Joins, Serves, First, Copies, Confirms, Says, Repeats, Garbled, entries}
 use Rattle.history_laws.specs.Transmissions.{firsts, firsts_by}
 use Rattle.history_laws.specs.Sealing.{outstanding_count}
 use Rattle.history_laws.proofs.CallerLemmas.{entries-length}
@@ -31,6 +31,8 @@ few-firsts (x ∷ older) = by x.written.deed x.note (few-firsts older)
     by (Asks c a) n ih = omega (arith, ih)
     by (Sends p b w) Plain ih = omega (arith, ih)
     by (Sends p b w) (Begins q) ih = omega (arith, ih)
+    by (Sends p b w) (Joins o) ih = omega (arith, ih)
+    by (Sends p b w) (Serves js) ih = omega (arith, ih)
     by (Sends p b w) (First o m) ih = omega (arith, ih)
     by (Sends p b w) (Copies k) ih = omega (arith, ih)
     by (Sends p b w) Confirms ih = omega (arith, ih)

@@ -19,3 +19,4 @@ pub use Rattle.exchange_model.proofs.Tallies.{busy-count}
 pub use Rattle.exchange_model.proofs.TickAdds.{ticked-adds}
 pub use Rattle.exchange_model.proofs.TickEnters.{stays-drained, ticks-enter}
 pub use Rattle.exchange_model.proofs.Ticking.{ticks-do}
+pub use Rattle.exchange_model.proofs.Opened.{OpenIn, open-ones}
