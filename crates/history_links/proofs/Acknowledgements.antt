@@ -23,7 +23,7 @@ use Rattle.history_laws.specs.Transmissions.{FirstSending, first_at, outstanding
 use Rattle.history_laws.specs.Exchanges.{awaited}
 use Rattle.history_laws.specs.Hearing.{is_such, went_under, is_under, is_as, open_at, answers_by}
 use Rattle.history_laws.specs.Justified.{Legal}
-use Rattle.history_links.specs.Agrees.{reply_of, IsOut, TurnIn, Agrees}
+use Rattle.history_links.specs.Agrees.{Start, reply_of, IsOut, TurnIn, Agrees}
 use Rattle.history_links.specs.Steps.{ended_token}
 use Rattle.history_laws.proofs.CallerLemmas.{and-left, any-find, eqb-itself, find-some, some-is}
 use Rattle.history_links.proofs.Replying.{is_to, ends_by, ends_what}
@@ -65,7 +65,7 @@ ack-to l p m true false h = refl
 ack-to l p m false true h = refl
 ack-to l p m false false h = refl
 
-pub ack-judged : (l : List Noted) (p : Peer) (s : LinkState) (m : Content) → Legal l → Agrees l p s → m.kind ≡ Ack
+pub ack-judged : {start : Start} (l : List Noted) (p : Peer) (s : LinkState) (m : Content) → Legal l → Agrees start l p s → m.kind ≡ Ack
     → Judged l p s m (answers_by l p m Ack (eqb m.code 0) (leb 32 m.code)) (ack_verdict s m)
 ack-judged l p s m legal a kind =
     subst (λ (to : Option ℕ). Judged l p s m to (ack_verdict s m)) (sym (ack-to l p m (eqb m.code 0) (leb 32 m.code) (empty-code m.code)))
@@ -148,7 +148,7 @@ rst-is : (m : Content) (v : Option Outstanding) → rst_verdict m v ≡ rst_by m
 rst-is m None = refl
 rst-is m (Some o) = refl
 
-pub rst-judged : (l : List Noted) (p : Peer) (s : LinkState) (m : Content) → Legal l → Agrees l p s → m.kind ≡ Rst
+pub rst-judged : {start : Start} (l : List Noted) (p : Peer) (s : LinkState) (m : Content) → Legal l → Agrees start l p s → m.kind ≡ Rst
     → Judged l p s m (answers_by l p m Rst (eqb m.code 0) (leb 32 m.code)) (rst_verdict m s.outstanding)
 rst-judged l p s m legal a kind =
     subst (λ (to : Option ℕ). Judged l p s m to (rst_verdict m s.outstanding)) (sym (rst-to l p m (eqb m.code 0) (leb 32 m.code)))

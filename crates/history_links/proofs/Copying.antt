@@ -77,7 +77,7 @@ unheard-sent l t p q b w note later = record {
 }
 
 pub copy-follows : CopyFollows
-copy-follows l t p s o b q is few due =
+copy-follows start l t p s o b q is few due =
     let out : IsOut l p o = subst (TurnIn l p) is b.agrees.turn in
     let i = out.first.number in
     let last = is-last l p (last_sent l p) out.first out.is in (

@@ -14,7 +14,7 @@ use Rattle.history_laws.specs.Hearing.{is_such, is_live, went_under, went_as}
 use Rattle.history_laws.proofs.CallerLemmas.{and-left, at-keeps}
 use Rattle.history_links.specs.Agrees.{WaitIn}
 use Rattle.history_links.specs.Steps.{SaysElsewhere}
-use Rattle.history_links.proofs.Still.{heard-at, heard-still}
+use Rattle.history_links.proofs.Still.{since, heard-at, heard-still}
 use Rattle.history_links.proofs.Replying.{says, is_to, ends_by, ends_what, way-after, waits-after, waiting-after, awaited-after}
 use Rattle.history_links.proofs.Judging.{token-found}
 use Rattle.history_links.proofs.Saying.{asked-once, waits-on}
@@ -55,16 +55,17 @@ under-elsewhere l p (Some j) m other i token e = by (eqb j i) refl
         absurd (false≢true (sym (other j g.0 refl (ap (first_at l) (same-number h) ∙ g.1)) ∙ peer))
 
 pub says-elsewhere : SaysElsewhere
-says-elsewhere l t p r s d m to b e other =
+says-elsewhere start l t p r s d m to b e other =
     let a = b.agrees in
     let n = says t r d m to ∷ l in
     record {
       turn = turn-where l n p (λ i x h. at-keeps (says t r d m to) l i x h) refl
           (λ f last. way-after l t r d m to f.number ∙ rw (not-to l p to other f last) refl) s.outstanding a.turn;
-      last = a.last;
-      count_up = a.count_up;
-      given = λ u after. a.given u (let later = b.later in omega (arith, later, after));
-      waits = waits-on l t r p d m to s.waiting a.waits;
+      known = a.known;
+      last = λ u after. a.last u (since l b.later after);
+      count_up = λ u after. a.count_up u (since l b.later after);
+      given = λ u after. a.given u (since l b.later after);
+      waits = waits-on start l t r p d m to s.waiting a.waits;
       awaits = λ token.
           a.awaits token
           ∙ (sym (asked-once (λ (i : ℕ). went_under p token (first_at l i)) (ends_what to m) false (awaited l) (λ i x h. under-elsewhere l p to m other i token h))

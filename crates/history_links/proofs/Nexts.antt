@@ -22,13 +22,13 @@ use Rattle.history_laws.specs.Exchanges.{openings, waits_for, awaited, is_waitin
 use Rattle.history_laws.specs.Justified.{Legal}
 use Rattle.history_laws.specs.Hearing.{went_under, went_as}
 use Rattle.history_laws.proofs.CallerLemmas.{any-of, at-new, begun-listed, eqb-itself, filter-all, none-submitted, queue-kept, queue-rises, rank-apart, RisesBy, waiting-all, waiting-begun, waiting-goes, waiting-unsent}
-use Rattle.history_links.specs.Agrees.{way_of, IsOut, firsts_to, CountUp, IsWaitingFor, WaitIn, awaits, awaits_ack}
+use Rattle.history_links.specs.Agrees.{Start, way_of, IsOut, recent_to, HasMid, CountUp, IsLast, IsWaitingFor, WaitIn, awaits, awaits_ack}
 use Rattle.history_links.specs.Steps.{NextFollows}
 use Rattle.history_links.proofs.Facts.{waits-below, and-turn}
-use Rattle.history_links.proofs.Mids.{count-cons}
-use Rattle.history_links.proofs.Still.{waiting-keeps, waits-one, heard-still}
+use Rattle.history_links.proofs.Mids.{count-cons, has-next}
+use Rattle.history_links.proofs.Still.{since, waiting-keeps, waits-one, heard-still}
 use Rattle.history_links.proofs.Copying.{is-outstanding, unheard-sent}
-use Rattle.history_links.proofs.Sending.{head, head-waits, has-next, next-small, message-of, may-be-first}
+use Rattle.history_links.proofs.Sending.{head, head-waits, next-of, next-small, message-of, may-be-first}
 use Rattle.history_links.proofs.Sent.{sent, sent-quiet, waiting-sent, not-waiting, waits-sent, one-awaited, count-push, in-use-recent}
 use Rattle.history_links.proofs.OtherPeers.{first-other}
 
@@ -41,9 +41,9 @@ other-token a b lt = by (bytes_eq a b) refl
     by true e = let same = ap token_number ((bytes_eq-Decides a b).0 e) in absurd (omega (arith, lt, same))
     by false e = refl
 
-still-waits : (l : List Noted) (t : ℕ) (p : Peer) (b : List ℕ) (w : Option ℕ) (o : ℕ) (v : Waiting) (mine : IsWaitingFor l o v) (m : Content) → m.token ≡ v.token
+still-waits : {start : Start} (l : List Noted) (t : ℕ) (p : Peer) (b : List ℕ) (w : Option ℕ) (o : ℕ) (v : Waiting) (mine : IsWaitingFor start l o v) (m : Content) → m.token ≡ v.token
     → Legal l → is_waiting l p o ≡ true → (os : List ℕ) (ws : List Waiting) → AllByRecursion (λ (q : ℕ). is_waiting l p q ≡ true) os
-    → AllByRecursion (λ (q : ℕ). submitted l o < submitted l q) os → WaitIn l os ws → WaitIn (sent t p b w o m ∷ l) os ws
+    → AllByRecursion (λ (q : ℕ). submitted l o < submitted l q) os → WaitIn start l os ws → WaitIn start (sent t p b w o m ∷ l) os ws
 still-waits l t p b w o v mine m e legal waits [] [] a r i = i
 still-waits l t p b w o v mine m e legal waits [] (x ∷ ws) a r i = i
 still-waits l t p b w o v mine m e legal waits (q ∷ os) [] a r i = i
@@ -82,21 +82,24 @@ sent-out l t p m o x token mid moment none =
       mid = sym mid;
     }
 
-counts-up : (l : List Noted) (t : ℕ) (p : Peer) (b : List ℕ) (w : Option ℕ) (o : ℕ) (m : Content) → CountUp (first-of l t o p m ∷ firsts_to l p)
-    → CountUp (firsts_to (sent t p b w o m ∷ l) p)
-counts-up l t p b w o m c = rw (same_peer-itself p) c
+counts-up : (l : List Noted) (t : ℕ) (p : Peer) (b : List ℕ) (w : Option ℕ) (o : ℕ) (m : Content) (u : ℕ) → m.mid < 65536 → HasMid m.mid (recent_to l u p)
+    → CountUp (recent_to l u p) → CountUp (recent_to (sent t p b w o m ∷ l) u p)
+counts-up l t p b w o m u small next c = by (is_recent u p (first-of l t o p m)) refl
+  where
+    by : (v : Bool) → is_recent u p (first-of l t o p m) ≡ v → CountUp (recent_to (sent t p b w o m ∷ l) u p)
+    by true e = rw (e) (small, next, c)
+    by false e = rw (e) c
 
 recent-now : (l : List Noted) (t u : ℕ) (p : Peer) (o : ℕ) (m : Content) → t ≤ u
     → is_recent u p (record { number = length l; moment = t; opening = o; peer = p; message = m }) ≡ is_in_use u t
 recent-now l t u p o m later = rw (same_peer-itself p) (sym (in-use-recent u t later))
 
-given-more : (l : List Noted) (t : ℕ) (p : Peer) (b : List ℕ) (w : Option ℕ) (o : ℕ) (m : Content) (given : List ℕ) → newest l ≤ t
-    → ((u : ℕ) → newest l ≤ u → count_by (is_in_use u) given ≡ mids_used l u p)
-    → (u : ℕ) → t ≤ u → count_by (is_in_use u) (given ++ t ∷ []) ≡ mids_used (sent t p b w o m ∷ l) u p
-given-more l t p b w o m given earlier a u later =
+given-more : (l : List Noted) (t : ℕ) (p : Peer) (b : List ℕ) (w : Option ℕ) (o : ℕ) (m : Content) (given : List ℕ) (u : ℕ) → count_by (is_in_use u) given ≡ mids_used l u p
+    → t ≤ u → count_by (is_in_use u) (given ++ t ∷ []) ≡ mids_used (sent t p b w o m ∷ l) u p
+given-more l t p b w o m given u a later =
     let f : FirstSending = record { number = length l; moment = t; opening = o; peer = p; message = m } in
     count-push (is_in_use u) given t
-    ∙ (ap (λ (n : ℕ). cond (is_in_use u t) (1 + n) n) (a u (omega (arith, earlier, later)))
+    ∙ (ap (λ (n : ℕ). cond (is_in_use u t) (1 + n) n) a
     ∙ (ap (λ (c : Bool). cond c (1 + mids_used l u p) (mids_used l u p)) (sym (recent-now l t u p o m later))
     ∙ sym (count-cons (is_recent u p) f (firsts l))))
 
@@ -150,7 +153,7 @@ gone l t p b w o m os a r =
     each (q ∷ os) a r = (waiting-sent l t p p b w o m q (other q r.0) ∙ a.0, each os a.1 r.1)
 
 pub next-follows : NextFollows
-next-follows l t p s w ws b q small few free e =
+next-follows start l t p s w ws b q small few free e =
     let legal = b.legal in
     let later = b.later in
     let a = b.agrees in
@@ -171,13 +174,16 @@ next-follows l t p s w ws b q small few free e =
       h.waits,
       refl,
       record {
-        follows = (q.unsealed, (q.quiet, may-be-first l t p s w ws h legal a few free));
+        follows = (q.unsealed, (q.quiet, may-be-first l t p s w ws h legal (b.started, later) a few free));
         agrees = record {
           turn = sent-out l t p m o x refl refl refl refl;
-          last = sym (ap (λ (v : Option FirstSending). option_mid v) (last-sent l t p x.datagram (Some x.timeout) o m));
-          count_up = counts-up l t p x.datagram (Some x.timeout) o m (next-small s.last_mid w.first_mid small, has-next l p s.last_mid w.first_mid a.last, a.count_up);
-          given = given-more l t p x.datagram (Some x.timeout) o m s.given later a.given;
-          waits = subst (λ (v : List ℕ). WaitIn n v ws) (sym still) (still-waits l t p x.datagram (Some x.timeout) o w h.waits m refl legal waits h.others ws others.1 rises.0 h.more);
+          known = sym (ap (λ (v : Option FirstSending). is_some v) (last-sent l t p x.datagram (Some x.timeout) o m));
+          last = λ u after. subst (IsLast u p (Some x.mid)) (sym (last-sent l t p x.datagram (Some x.timeout) o m)) (λ recent. refl);
+          count_up = λ u after.
+              counts-up l t p x.datagram (Some x.timeout) o m u (next-small s.last_mid w.first_mid small)
+              (has-next l u p s.last_mid x.mid legal (a.last u (since l later after)) (next-of s.last_mid w.first_mid)) (a.count_up u (since l later after));
+          given = λ u after. given-more l t p x.datagram (Some x.timeout) o m s.given u (a.given u (since l later after)) after.1;
+          waits = subst (λ (v : List ℕ). WaitIn start n v ws) (sym still) (still-waits l t p x.datagram (Some x.timeout) o w h.waits m refl legal waits h.others ws others.1 rises.0 h.more);
           awaits = λ token. more-awaited (is_awaited token) s.awaited _ ∙ (ap (λ (v : Bool). v || bytes_eq w.token token) (a.awaits token) ∙ sym (awaits-more l t p x.datagram (Some x.timeout) o m waits token));
           acks = λ mid token.
               more-awaited (is_awaited_by_ack mid token) s.awaited _
@@ -188,7 +194,3 @@ next-follows l t p s w ws b q small few free e =
         };
       },
     )
-  where
-    option_mid : Option FirstSending → Option ℕ
-    option_mid None = None
-    option_mid (Some f) = Some f.message.mid

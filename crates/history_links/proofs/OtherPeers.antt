@@ -1,6 +1,6 @@
 -- What the messages of one peer leave of the link to another.
-use Rattle.std.proofs.Common.{◌≡◌, ℕ, ◌<◌, ◌≤◌, Bool, true, false, eqb, ltb, inl, inr, List, [], ◌∷◌, ◌++◌, length, Option, Some, None, refl, sym, ap, subst, ◌∙◌, arith, append-nil}
-use Rattle.std.specs.Prelude.{◌&&◌, ◌||◌, is_none, option_and_then, option_map}
+use Rattle.std.proofs.Common.{◌≡◌, ℕ, ◌+◌, ◌<◌, ◌≤◌, Bool, true, false, eqb, ltb, inl, inr, List, [], ◌∷◌, ◌++◌, length, Option, Some, None, refl, sym, ap, subst, ◌∙◌, arith, append-nil}
+use Rattle.std.specs.Prelude.{◌&&◌, ◌||◌, is_none, is_some, option_and_then}
 use Rattle.std.specs.List.{AllByRecursion, list_any}
 use Rattle.std.specs.Str.{bytes_eq}
 use Rattle.std.proofs.lemmas.Bool.{false≢true, ltb-true, ltb-false}
@@ -23,11 +23,11 @@ use Rattle.history_laws.specs.Exchanges.{Begun, begun, openings, goes_to, waits_
 use Rattle.history_laws.specs.Hearing.{went_under, went_as}
 use Rattle.history_laws.specs.Justified.{Legal}
 use Rattle.history_laws.proofs.CallerLemmas.{all-of, and-left, at-below, at-keeps, eqb-itself, find-some, none-submitted, opened-queued, queue-same, rank-apart, some-is, submitted-apart, waiting-all, waiting-goes, waiting-unsent}
-use Rattle.history_links.specs.Agrees.{TurnIn, IsWaitingFor, WaitIn, awaits, awaits_ack, Agrees}
+use Rattle.history_links.specs.Agrees.{Start, IsLast, TurnIn, IsWaitingFor, WaitIn, awaits, awaits_ack, Agrees}
 use Rattle.history_links.specs.Steps.{AskElsewhere, FirstElsewhere, CopyElsewhere}
 use Rattle.history_links.proofs.Facts.{waits-below}
 use Rattle.history_links.proofs.Mids.{count-cons}
-use Rattle.history_links.proofs.Still.{waiting-keeps, waits-all, waits-one, heard-at, heard-still, rest-still}
+use Rattle.history_links.proofs.Still.{since, waiting-keeps, waits-all, waits-one, heard-at, heard-still, rest-still}
 use Rattle.history_links.proofs.Copying.{is-last, still-copy, unheard-sent}
 use Rattle.history_links.proofs.Sent.{sent, sent-quiet, waits-sent, waiting-sent, not-waiting, one-awaited}
 use Rattle.history_links.proofs.Tokens.{IsThere, all-there, found-first}
@@ -125,16 +125,19 @@ ranks-differ l p r o q b c legal e f waits also never same = by (ltb (submitted 
         let a = ltb-false (submitted l o) (submitted l q) h in let d = ltb-false (submitted l q) (submitted l o) g in
         never (submitted-apart l o q b c legal e f mine its (omega (arith, a, d)))
 
-waits-other : (l : List Noted) (t : ℕ) (p r : Peer) (b : List ℕ) (w : Option ℕ) (o : ℕ) (m : Content) (v : Waiting) → Legal l → IsWaitingFor l o v → m.token ≡ v.token
-    → is_waiting l r o ≡ true → is_waiting l p o ≡ false → (os : List ℕ) (ws : List Waiting) → AllByRecursion (λ (q : ℕ). is_waiting l p q ≡ true) os → WaitIn l os ws
-    → WaitIn (sent t r b w o m ∷ l) os ws
-waits-other l t p r b w o m v legal mine e waits gone [] [] a i = i
-waits-other l t p r b w o m v legal mine e waits gone [] (x ∷ ws) a i = i
-waits-other l t p r b w o m v legal mine e waits gone (q ∷ os) [] a i = i
-waits-other l t p r b w o m v legal mine e waits gone (q ∷ os) (x ∷ ws) a i =
+same-rank : (a b c : ℕ) → a + b ≡ a + c → b ≡ c
+same-rank a b c e = omega (arith, e)
+
+waits-other : {start : Start} (l : List Noted) (t : ℕ) (p r : Peer) (b : List ℕ) (w : Option ℕ) (o : ℕ) (m : Content) (v : Waiting) → Legal l → IsWaitingFor start l o v → m.token ≡ v.token
+    → is_waiting l r o ≡ true → is_waiting l p o ≡ false → (os : List ℕ) (ws : List Waiting) → AllByRecursion (λ (q : ℕ). is_waiting l p q ≡ true) os → WaitIn start l os ws
+    → WaitIn start (sent t r b w o m ∷ l) os ws
+waits-other {start = start} l t p r b w o m v legal mine e waits gone [] [] a i = i
+waits-other {start = start} l t p r b w o m v legal mine e waits gone [] (x ∷ ws) a i = i
+waits-other {start = start} l t p r b w o m v legal mine e waits gone (q ∷ os) [] a i = i
+waits-other {start = start} l t p r b w o m v legal mine e waits gone (q ∷ os) (x ∷ ws) a i =
     let never : o ≡ q → ⊥ = λ same. false≢true (sym gone ∙ subst (λ (k : ℕ). is_waiting l p k ≡ true) (sym same) a.0) in
     let apart : token_number m.token ≡ token_number x.token → ⊥ =
-    λ same. ranks-differ l p r o q _ _ legal mine.opening i.0.opening waits a.0 never (sym mine.numbered ∙ (ap token_number (sym e) ∙ (same ∙ i.0.numbered))) in (
+    λ same. ranks-differ l p r o q _ _ legal mine.opening i.0.opening waits a.0 never (same-rank start.issued (rank l o) (rank l q) (sym mine.numbered ∙ (ap token_number (sym e) ∙ (same ∙ i.0.numbered)))) in (
       waits-one l (sent t r b w o m ∷ l) q x (waiting-keeps (sent t r b w o m) l p q a.0) (λ e. rw (token-differs m.token x.token apart) e) i.0,
       waits-other l t p r b w o m v legal mine e waits gone os ws a.1 i.1,
     )
@@ -180,16 +183,17 @@ acks-other l t p r b w o m waits other mid token =
     ∙ or-nothing (awaits_ack l p mid token) (list_any (eqb o) (openings l)))
 
 -- A first sending to another peer, of a message that waited there, leaves the link.
-pub first-elsewhere : (l : List Noted) (t : ℕ) (p r : Peer) (s : LinkState) (b : List ℕ) (u : Option ℕ) (o : ℕ) (m : Content) (w : Waiting) → Legal l → newest l ≤ t → Agrees l p s
-    → same_peer r p ≡ false → is_waiting l r o ≡ true → IsWaitingFor l o w → m.token ≡ w.token → Agrees (sent t r b u o m ∷ l) p s
-first-elsewhere l t p r s b u o m w legal later a other waits mine token =
+pub first-elsewhere : {start : Start} (l : List Noted) (t : ℕ) (p r : Peer) (s : LinkState) (b : List ℕ) (u : Option ℕ) (o : ℕ) (m : Content) (w : Waiting) → Legal l → newest l ≤ t → Agrees start l p s
+    → same_peer r p ≡ false → is_waiting l r o ≡ true → IsWaitingFor start l o w → m.token ≡ w.token → Agrees start (sent t r b u o m ∷ l) p s
+first-elsewhere {start = start} l t p r s b u o m w legal later a other waits mine token =
     let n = sent t r b u o m ∷ l in
     record {
       turn = turn-other l t p r b u o m other s.outstanding a.turn;
-      last = a.last ∙ sym (ap (λ (v : Option FirstSending). option_map (λ (f : FirstSending). f.message.mid) v) (last-other l t p r b u o m other));
-      count_up = rw (other) a.count_up;
-      given = λ v after. a.given v (omega (arith, later, after)) ∙ sym (mids-other l t v p r b u o m other);
-      waits = subst (λ (os : List ℕ). WaitIn n os s.waiting) (sym (queue-other l t p r b u o m waits other))
+      known = a.known ∙ sym (ap is_some (last-other l t p r b u o m other));
+      last = λ v after. subst (IsLast v p s.last_mid) (sym (last-other l t p r b u o m other)) (a.last v (since l later after));
+      count_up = λ v after. rw (other) (a.count_up v (since l later after));
+      given = λ v after. a.given v (since l later after) ∙ sym (mids-other l t v p r b u o m other);
+      waits = subst (λ (os : List ℕ). WaitIn start n os s.waiting) (sym (queue-other l t p r b u o m waits other))
           (waits-other l t p r b u o m w legal mine token waits (goes-elsewhere l p r o waits other) (waiting l p) s.waiting (waiting-all l p) a.waits);
       awaits = λ v. a.awaits v ∙ sym (awaits-other l t p r b u o m waits other v);
       acks = λ mid v. a.acks mid v ∙ sym (acks-other l t p r b u o m waits other mid v);
@@ -205,16 +209,17 @@ waiting-elsewhere : (l : List Noted) (t c : ℕ) (a : Ask) (q : CoapRequest) (p 
 waiting-elsewhere l t c a q p legal e =
     queue-same (asked t c a q) l p (opened-queued (asked t c a q) l p q legal refl (λ o. tt) false (not-here l t c a q p e)) (others-wait l t c a q p)
 
-pub asked-elsewhere : (l : List Noted) (t : ℕ) (p : Peer) (s : LinkState) (c : ℕ) (a : Ask) (q : CoapRequest) → Legal l → newest l ≤ t → Agrees l p s
-    → same_peer q.peer p ≡ false → Agrees (asked t c a q ∷ l) p s
-asked-elsewhere l t p s c a q legal later g e =
+pub asked-elsewhere : {start : Start} (l : List Noted) (t : ℕ) (p : Peer) (s : LinkState) (c : ℕ) (a : Ask) (q : CoapRequest) → Legal l → newest l ≤ t → Agrees start l p s
+    → same_peer q.peer p ≡ false → Agrees start (asked t c a q ∷ l) p s
+asked-elsewhere {start = start} l t p s c a q legal later g e =
     let n = asked t c a q ∷ l in
     record {
       turn = turn-kept l n p s.outstanding (λ i x h. at-keeps (asked t c a q) l i x h) refl (λ i. refl) g.turn;
-      last = g.last;
-      count_up = g.count_up;
-      given = λ u after. g.given u (omega (arith, later, after));
-      waits = subst (λ (v : List ℕ). WaitIn n v s.waiting) (sym (waiting-elsewhere l t c a q p legal e)) (waits-all (asked t c a q) l p refl (waiting l p) s.waiting (waiting-all l p) g.waits);
+      known = g.known;
+      last = λ u after. g.last u (since l later after);
+      count_up = λ u after. g.count_up u (since l later after);
+      given = λ u after. g.given u (since l later after);
+      waits = subst (λ (v : List ℕ). WaitIn start n v s.waiting) (sym (waiting-elsewhere l t c a q p legal e)) (waits-all start (asked t c a q) l p refl (waiting l p) s.waiting (waiting-all l p) g.waits);
       awaits = λ token. g.awaits token ∙ sym (rw (awaited-same l t c a q legal) refl);
       acks = λ mid token. g.acks mid token ∙ sym (rw (awaited-same l t c a q legal) refl);
       heard = heard-still l n p s.heard (record {
@@ -270,8 +275,8 @@ turn-where l n p stands firsts_are same v a = by v a
       mid = a.mid;
     }
 
-pub copied-elsewhere : (l : List Noted) (t : ℕ) (p r : Peer) (s : LinkState) (b : List ℕ) (i : ℕ) (g : FirstSending) → newest l ≤ t → Agrees l p s
-    → first_at l i ≡ Some g → same_peer g.peer p ≡ false → Agrees (noted t (Sends r b None) (Copies i) ∷ l) p s
+pub copied-elsewhere : {start : Start} (l : List Noted) (t : ℕ) (p r : Peer) (s : LinkState) (b : List ℕ) (i : ℕ) (g : FirstSending) → newest l ≤ t → Agrees start l p s
+    → first_at l i ≡ Some g → same_peer g.peer p ≡ false → Agrees start (noted t (Sends r b None) (Copies i) ∷ l) p s
 copied-elsewhere l t p r s b i g later a e other =
     let n = noted t (Sends r b None) (Copies i) ∷ l in
     rest-still l n p s s (still-copy l t r b i later) (unheard-sent l t r p b None (Copies i) later) a
@@ -279,10 +284,10 @@ copied-elsewhere l t p r s b i g later a e other =
     (λ f last. rw (number-differs l p i g f e other last) refl) s.outstanding a.turn) refl refl refl refl refl
 
 pub ask-elsewhere : AskElsewhere
-ask-elsewhere l t p s c a q b e = asked-elsewhere l t p s c a q b.legal b.later b.agrees e
+ask-elsewhere start l t p s c a q b e = asked-elsewhere l t p s c a q b.legal b.later b.agrees e
 
 pub send-elsewhere : FirstElsewhere
-send-elsewhere l t p r s d u o m w b e waits mine token = first-elsewhere l t p r s d u o m w b.legal b.later b.agrees e waits mine token
+send-elsewhere start l t p r s d u o m w b e waits mine token = first-elsewhere l t p r s d u o m w b.legal b.later b.agrees e waits mine token
 
 pub copy-elsewhere : CopyElsewhere
-copy-elsewhere l t p r s d i g b e other = copied-elsewhere l t p r s d i g b.later b.agrees e other
+copy-elsewhere start l t p r s d i g b e other = copied-elsewhere l t p r s d i g b.later b.agrees e other

@@ -21,7 +21,7 @@ use Rattle.history_laws.specs.Exchanges.{awaited}
 use Rattle.history_laws.specs.Hearing.{is_such, went_under, is_under, answers_by}
 use Rattle.history_laws.specs.Justified.{Legal}
 use Rattle.history_laws.proofs.CallerLemmas.{any-find, find-some}
-use Rattle.history_links.specs.Agrees.{reply_of, IsOut, Agrees}
+use Rattle.history_links.specs.Agrees.{Start, reply_of, IsOut, Agrees}
 use Rattle.history_links.proofs.Replying.{ends_by}
 use Rattle.history_links.proofs.Judging.{Judged, out-under, same-under, ends-under, empty-code}
 
@@ -80,7 +80,7 @@ matched-reply Non false vain i = refl
 matched-reply Ack rejected vain i = absurd i
 matched-reply Rst rejected vain i = absurd i
 
-pub own-judged : (l : List Noted) (p : Peer) (s : LinkState) (m : Content) → Legal l → Agrees l p s → IsOwn m.kind
+pub own-judged : {start : Start} (l : List Noted) (p : Peer) (s : LinkState) (m : Content) → Legal l → Agrees start l p s → IsOwn m.kind
     → Judged l p s m (answers_by l p m m.kind (eqb m.code 0) (leb 32 m.code)) (new_verdict s m (accepts m.kind) (empties m.kind))
 own-judged l p s m legal a own =
     subst (λ (to : Option ℕ). Judged l p s m to (new_verdict s m (accepts m.kind) (empties m.kind))) (sym (own-to l p m m.kind (eqb m.code 0) (leb 32 m.code) own))

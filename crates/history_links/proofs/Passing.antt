@@ -18,10 +18,10 @@ use Rattle.history_laws.specs.Transmissions.{FirstSending, first_at, last_sent, 
 use Rattle.history_laws.specs.Exchanges.{Begun, begun, is_late, Expired, Nothing, expires, turn, waits_by, waits_for, End, end_here, end_by, end_of, replies, is_going, goes_to, is_waiting, waiting, openings}
 use Rattle.history_laws.specs.Hearing.{went_under, went_as}
 use Rattle.history_laws.proofs.CallerLemmas.{all-more, and-left, and-right, at-keeps, filter-by, none-submitted, NoReply, queue-kept, waiting-all}
-use Rattle.history_links.specs.Agrees.{way_of, TurnIn, IsWaitingFor, WaitIn}
+use Rattle.history_links.specs.Agrees.{Start, way_of, TurnIn, IsWaitingFor, WaitIn}
 use Rattle.history_links.specs.Steps.{is_over, EndWaiting, PassAgrees}
 use Rattle.history_links.proofs.Copying.{is-last, is-outstanding}
-use Rattle.history_links.proofs.Still.{waiting-keeps, waits-one, heard-at, heard-still}
+use Rattle.history_links.proofs.Still.{since, waiting-keeps, waits-one, heard-at, heard-still}
 use Rattle.history_links.proofs.Saying.{none-out}
 
 abbrev ticked_at : ℕ → Noted
@@ -82,19 +82,19 @@ queue-passed l t p =
     (all-more (λ (o : ℕ). is_waiting l p o ≡ true) (λ (o : ℕ). is_waiting (ticked_at t ∷ l) p o ≡ not (is_late t (begun l o)))
     (λ o w. waiting-passed l t p o ∙ ap (λ (v : Bool). v && not (is_late t (begun l o))) w) (waiting l p) (waiting-all l p))
 
-waits-on : (l : List Noted) (t : ℕ) (p : Peer) (gone : List ℕ → Bool) (os : List ℕ) (ws : List Waiting)
-    → AllByRecursion (λ (o : ℕ). is_waiting l p o ≡ true) os → WaitIn l os ws → EndWaiting l t gone os ws
-    → WaitIn (ticked_at t ∷ l) (filter (λ (o : ℕ). not (is_late t (begun l o))) os) (filter (λ (w : Waiting). not (gone w.token)) ws)
-waits-on l t p gone [] [] w a e = a
-waits-on l t p gone [] (v ∷ ws) w a e = absurd a
-waits-on l t p gone (o ∷ os) [] w a e = absurd a
-waits-on l t p gone (o ∷ os) (w ∷ ws) waits a e = rw (e.0) (by (gone w.token) (waits-on l t p gone os ws waits.1 a.1 e.1))
+waits-on : (start : Start) (l : List Noted) (t : ℕ) (p : Peer) (gone : List ℕ → Bool) (os : List ℕ) (ws : List Waiting)
+    → AllByRecursion (λ (o : ℕ). is_waiting l p o ≡ true) os → WaitIn start l os ws → EndWaiting l t gone os ws
+    → WaitIn start (ticked_at t ∷ l) (filter (λ (o : ℕ). not (is_late t (begun l o))) os) (filter (λ (w : Waiting). not (gone w.token)) ws)
+waits-on start l t p gone [] [] w a e = a
+waits-on start l t p gone [] (v ∷ ws) w a e = absurd a
+waits-on start l t p gone (o ∷ os) [] w a e = absurd a
+waits-on start l t p gone (o ∷ os) (w ∷ ws) waits a e = rw (e.0) (by (gone w.token) (waits-on start l t p gone os ws waits.1 a.1 e.1))
   where
-    kept : IsWaitingFor (ticked_at t ∷ l) o w
+    kept : IsWaitingFor start (ticked_at t ∷ l) o w
     kept = waits-one l (ticked_at t ∷ l) o w (waiting-keeps (ticked_at t) l p o waits.0) (λ e. e) a.0
 
-    by : (b : Bool) → WaitIn (ticked_at t ∷ l) (filter (λ (o : ℕ). not (is_late t (begun l o))) os) (filter (λ (w : Waiting). not (gone w.token)) ws)
-        → WaitIn (ticked_at t ∷ l) (cond (not b) (o ∷ filter (λ (o : ℕ). not (is_late t (begun l o))) os) (filter (λ (o : ℕ). not (is_late t (begun l o))) os))
+    by : (b : Bool) → WaitIn start (ticked_at t ∷ l) (filter (λ (o : ℕ). not (is_late t (begun l o))) os) (filter (λ (w : Waiting). not (gone w.token)) ws)
+        → WaitIn start (ticked_at t ∷ l) (cond (not b) (o ∷ filter (λ (o : ℕ). not (is_late t (begun l o))) os) (filter (λ (o : ℕ). not (is_late t (begun l o))) os))
         (cond (not b) (w ∷ filter (λ (w : Waiting). not (gone w.token)) ws) (filter (λ (w : Waiting). not (gone w.token)) ws))
     by true h = h
     by false h = (kept, h)
@@ -174,16 +174,17 @@ token-is : (a b : List ℕ) → bytes_eq a b ≡ true → a ≡ b
 token-is a b e = (bytes_eq-Decides a b).0 e
 
 pub pass-agrees : PassAgrees
-pass-agrees l t p s gone b e =
+pass-agrees start l t p s gone b e =
     let a = b.agrees in
     let n = ticked_at t ∷ l in
     record {
       turn = turn-passed l t p s.outstanding a.turn;
-      last = a.last;
-      count_up = a.count_up;
-      given = λ u after. a.given u (let later = b.later in omega (arith, later, after));
-      waits = subst (λ (os : List ℕ). WaitIn n os (filter (λ (w : Waiting). not (gone w.token)) s.waiting))
-          (sym (queue-passed l t p)) (waits-on l t p gone (waiting l p) s.waiting (waiting-all l p) a.waits e.waiting);
+      known = a.known;
+      last = λ u after. a.last u (since l b.later after);
+      count_up = λ u after. a.count_up u (since l b.later after);
+      given = λ u after. a.given u (since l b.later after);
+      waits = subst (λ (os : List ℕ). WaitIn start n os (filter (λ (w : Waiting). not (gone w.token)) s.waiting))
+          (sym (queue-passed l t p)) (waits-on start l t p gone (waiting l p) s.waiting (waiting-all l p) a.waits e.waiting);
       awaits = λ token.
           any-filter_same (is_awaited token) (λ (x : Awaited). not (gone x.token)) (not (gone token)) (λ x h. ap (λ (v : List ℕ). not (gone v)) (token-is x.token token h)) s.awaited
           ∙ (ap (λ (v : Bool). not (gone token) && v) (a.awaits token)

@@ -23,9 +23,9 @@ use Rattle.history_laws.specs.Progress.{Reply, progress, next_message}
 use Rattle.history_laws.specs.Exchanges.{begun, openings, waits_for, replies, awaited, is_waiting, is_submitted_at, waiting}
 use Rattle.history_laws.specs.Justified.{Legal}
 use Rattle.history_laws.proofs.CallerLemmas.{all-more, at-keeps, begun-below, eqb-itself, filter-all, not-yet, opened-queued, opened-rank, replies-none, unbegun, waiting-all, waiting-begun}
-use Rattle.history_links.specs.Agrees.{TurnIn, IsWaitingFor, WaitIn}
+use Rattle.history_links.specs.Agrees.{Start, TurnIn, IsWaitingFor, WaitIn}
 use Rattle.history_links.specs.Steps.{QueuedAgrees}
-use Rattle.history_links.proofs.Still.{waits-all, heard-at, heard-still}
+use Rattle.history_links.proofs.Still.{since, waits-all, heard-at, heard-still}
 
 -- lists with one more
 
@@ -96,11 +96,11 @@ waits-more l t c a q p legal to =
     ap (λ (v : List ℕ). v ++ filter (is_submitted_at (x ∷ l) p (length l)) (openings (x ∷ l))) old
     ∙ ap (λ (v : List ℕ). waiting l p ++ v) (opened-queued x l p q legal refl (λ o. tt) true (it-waits l t c a q p legal to))
 
-wait-push : (n : List Noted) (os : List ℕ) (ws : List Waiting) (o : ℕ) (w : Waiting) → WaitIn n os ws → IsWaitingFor n o w → WaitIn n (os ++ o ∷ []) (ws ++ w ∷ [])
-wait-push n [] [] o w a i = (i, tt)
-wait-push n [] (v ∷ ws) o w a i = absurd a
-wait-push n (q ∷ os) [] o w a i = absurd a
-wait-push n (q ∷ os) (v ∷ ws) o w a i = (a.0, wait-push n os ws o w a.1 i)
+wait-push : (start : Start) (n : List Noted) (os : List ℕ) (ws : List Waiting) (o : ℕ) (w : Waiting) → WaitIn start n os ws → IsWaitingFor start n o w → WaitIn start n (os ++ o ∷ []) (ws ++ w ∷ [])
+wait-push start n [] [] o w a i = (i, tt)
+wait-push start n [] (v ∷ ws) o w a i = absurd a
+wait-push start n (q ∷ os) [] o w a i = absurd a
+wait-push start n (q ∷ os) (v ∷ ws) o w a i = (a.0, wait-push start n os ws o w a.1 i)
 
 pub awaited-same : (l : List Noted) (t c : ℕ) (a : Ask) (q : CoapRequest) → Legal l → awaited (asked t c a q ∷ l) ≡ awaited l
 awaited-same l t c a q legal = none-more (waits_for l) (openings l) (length l) (unbegun l (length l) legal (not-yet l)).0
@@ -109,7 +109,7 @@ replied : (l : List Noted) (t c : ℕ) (a : Ask) (q : CoapRequest) → Legal l �
 replied l t c a q legal = (replies-none l (length l) legal (not-yet l)).1
 
 pub queued-agrees : QueuedAgrees
-queued-agrees l t p s c a q token text word b to spelled size apart number =
+queued-agrees start l t p s c a q token text word b to spelled size apart number =
     let legal = b.legal in
     let later = b.later in
     let g = b.agrees in
@@ -117,11 +117,12 @@ queued-agrees l t p s c a q token text word b to spelled size apart number =
     let w = waits token text word in
     record {
       turn = turn-kept l n p s.outstanding (λ i x e. at-keeps (asked t c a q) l i x e) refl (λ i. refl) g.turn;
-      last = g.last;
-      count_up = g.count_up;
-      given = λ u after. pruned-count t u (length s.waiting) s.given after ∙ g.given u (omega (arith, later, after));
-      waits = subst (λ (v : List ℕ). WaitIn n v (s.waiting ++ w ∷ [])) (sym (waits-more l t c a q p legal to))
-          (wait-push n (waiting l p) s.waiting (length l) w (waits-all (asked t c a q) l p refl (waiting l p) s.waiting (waiting-all l p) g.waits) record {
+      known = g.known;
+      last = λ u after. g.last u (since l later after);
+      count_up = λ u after. g.count_up u (since l later after);
+      given = λ u after. pruned-count t u (length s.waiting) s.given after.1 ∙ g.given u (since l later after);
+      waits = subst (λ (v : List ℕ). WaitIn start n v (s.waiting ++ w ∷ [])) (sym (waits-more l t c a q p legal to))
+          (wait-push start n (waiting l p) s.waiting (length l) w (waits-all start (asked t c a q) l p refl (waiting l p) s.waiting (waiting-all l p) g.waits) record {
             since = t;
             request = q;
             opening = begun-here l t c a q;
@@ -130,7 +131,7 @@ queued-agrees l t p s c a q token text word b to spelled size apart number =
             spelled = spelled;
             token_size = size;
             token_apart = apart;
-            numbered = number ∙ sym (opened-rank (asked t c a q) l legal);
+            numbered = number ∙ sym (ap (λ (k : ℕ). start.issued + k) (opened-rank (asked t c a q) l legal));
             least = omega arith;
             greatest = omega arith;
           });

@@ -20,7 +20,8 @@ use Rattle.history_laws.specs.Readings.{Noted, Says, Notice, at, newest, noted}
 use Rattle.history_laws.specs.Hearing.{is_such, is_live, heard_before, live_heard}
 use Rattle.history_laws.specs.Confirming.{answered}
 use Rattle.history_laws.proofs.CallerLemmas.{and-left, and-right, at-new}
-use Rattle.history_links.specs.Agrees.{reply_of, HeardIn}
+use Rattle.history_links.proofs.Still.{since}
+use Rattle.history_links.specs.Agrees.{Start, IsFrom, reply_of, HeardIn}
 use Rattle.history_links.proofs.Sent.{count-push}
 use Rattle.history_links.proofs.Still.{heard-at, answers_in}
 
@@ -124,20 +125,22 @@ one-live : (l : List Noted) (t u : ℕ) (p : Peer) (d : List ℕ) (m : Content) 
 one-live l t u p d m to notice true e = rw (e) (omega arith)
 one-live l t u p d m to notice false e = rw (e) refl
 
-pub remembers : (l : List Noted) (t : ℕ) (p : Peer) (d : List ℕ) (m : Content) (to : Option ℕ) (notice : Notice) (r : Reply) (heard : List Heard) → newest l ≤ t
-    → HeardIn l p heard → is_such m.kind ≡ true → heard_before l t p m.mid ≡ None → r ≡ reply_of (answered (Says m to notice))
-    → HeardIn (noted t (Hears p d) (Says m to notice) ∷ l) p (remembered_in t m.mid r true heard)
+pub remembers : {start : Start} (l : List Noted) (t : ℕ) (p : Peer) (d : List ℕ) (m : Content) (to : Option ℕ) (notice : Notice) (r : Reply) (heard : List Heard) → IsFrom start l t
+    → HeardIn start l p heard → is_such m.kind ≡ true → heard_before l t p m.mid ≡ None → r ≡ reply_of (answered (Says m to notice))
+    → HeardIn start (noted t (Hears p d) (Says m to notice) ∷ l) p (remembered_in t m.mid r true heard)
 remembers l t p d m to notice r heard after h such none reply = record {
-  repeats = λ u mid later.
+  repeats = λ u mid from.
+      let later = from.1 in
       ap (option_map (λ (h : Heard). h.reply)) (find-push (is_repeat u mid) (filter (is_fresh t) heard) new
       ∙ ap (λ (v : Option Heard). option_or v (cond (eqb m.mid mid && ltb (u - t) 247000) (Some new) None))
       (find-kept (is_repeat u mid) (is_fresh t) (λ g e. fresh-before t u g later (and-right (eqb g.mid mid) (is_fresh u g) e)) heard))
       ∙ remembered-reply l t u mid p d m to notice r (find (is_repeat u mid) heard) such later reply
       (λ same. none-later t u mid heard later (none-before (λ (h : Heard). h.reply) (find (is_repeat t mid) heard) (unheard mid same)))
-      (h.repeats u mid (omega (arith, after, later)));
-  live = λ u later.
+      (h.repeats u mid (since l after.1 from));
+  live = λ u from.
+      let later = from.1 in
       count-push (is_fresh u) (filter (is_fresh t) heard) new
-      ∙ (ap (λ (n : ℕ). cond (ltb (u - t) 247000) (1 + n) n) (count-kept t u heard later ∙ h.live u (omega (arith, after, later)))
+      ∙ (ap (λ (n : ℕ). cond (ltb (u - t) 247000) (1 + n) n) (count-kept t u heard later ∙ h.live u (since l after.1 from))
       ∙ one-live l t u p d m to notice (ltb (u - t) 247000) (says-live t u p d m to notice such later));
 }
   where

@@ -12,11 +12,11 @@ use Rattle.history_laws.specs.Confirmations.{answer_by, given, rejects_bytes}
 use Rattle.message_layer.specs.Values.{LinkState}
 use Rattle.message_layer.specs.Hearing.{is_repeat, heard_verdict, verdict_by, reset_for}
 use Rattle.message_layer.specs.declared.state.Heard.{Heard}
-use Rattle.history_laws.specs.Readings.{Noted, Note, Plain, Begins, Joins, Serves, First, Copies, Confirms, Says, Repeats, Garbled, at, newest}
+use Rattle.history_laws.specs.Readings.{Noted, Note, Plain, Begins, Joins, Serves, First, Copies, Confirms, Says, Repeats, Garbled, at}
 use Rattle.history_laws.specs.Hearing.{is_such, heard_before}
 use Rattle.history_laws.specs.Confirming.{answered, answered_as, answered_again}
 use Rattle.history_laws.proofs.CallerLemmas.{some-is}
-use Rattle.history_links.specs.Agrees.{reply_of, due, HeardIn, Agrees}
+use Rattle.history_links.specs.Agrees.{Start, IsFrom, reply_of, due, HeardIn, Agrees}
 use Rattle.history_links.specs.Steps.{RepeatAgrees, reset, GarbledAgrees}
 use Rattle.history_links.proofs.Silence.{silent-agrees}
 use Rattle.history_links.proofs.Still.{answers_in}
@@ -65,8 +65,8 @@ due-given p mid (Some Non) c = absurd c
 
 -- the answer to a repeat
 
-pub found-reply : (l : List Noted) (t : ℕ) (p : Peer) (mid : ℕ) (heard : List Heard) (v : Option Heard) (w : Option ℕ) → find (is_repeat t mid) heard ≡ v
-    → heard_before l t p mid ≡ w → HeardIn l p heard → newest l ≤ t → option_map (λ (h : Heard). h.reply) v ≡ option_map (answers_in l) w
+pub found-reply : {start : Start} (l : List Noted) (t : ℕ) (p : Peer) (mid : ℕ) (heard : List Heard) (v : Option Heard) (w : Option ℕ) → find (is_repeat t mid) heard ≡ v
+    → heard_before l t p mid ≡ w → HeardIn start l p heard → IsFrom start l t → option_map (λ (h : Heard). h.reply) v ≡ option_map (answers_in l) w
 found-reply l t p mid heard v w e f h later = ap (option_map (λ (h : Heard). h.reply)) (sym e) ∙ (h.repeats t mid later ∙ ap (option_map (answers_in l)) f)
 
 again-con : (l : List Noted) (t : ℕ) (p : Peer) (s : LinkState) (m : Content) (j : ℕ) (v : Option Heard)
@@ -79,7 +79,7 @@ again-non : (t : ℕ) (p : Peer) (s : LinkState) (m : Content) (j : ℕ) (l : Li
 again-non t p s m j l None e = cc
 again-non t p s m j l (Some h) e = refl
 
-again : (l : List Noted) (t : ℕ) (p : Peer) (s : LinkState) (m : Content) (j : ℕ) (k : MsgType) → newest l ≤ t → Agrees l p s
+again : {start : Start} (l : List Noted) (t : ℕ) (p : Peer) (s : LinkState) (m : Content) (j : ℕ) (k : MsgType) → IsFrom start l t → Agrees start l p s
     → cond (is_such k) (heard_before l t p m.mid) None ≡ Some j
     → due p m.mid (verdict_by t s m k).reply ≡ given p m.mid (answered_again k (answered_as (at l j)))
 again l t p s m j Con later a e = again-con l t p s m j (find (is_repeat t m.mid) s.heard) (found-reply l t p m.mid s.heard _ (Some j) refl e a.heard later)
@@ -88,9 +88,9 @@ again l t p s m j Ack later a e = cc
 again l t p s m j Rst later a e = cc
 
 pub repeat-agrees : RepeatAgrees
-repeat-agrees l t p s d m j b e = record {
-  agrees = silent-agrees l t p s (Hears p d) (Repeats m j) b tt;
-  owes = sym (again l t p s m j m.kind b.later b.agrees e);
+repeat-agrees start l t p s d m j b e = record {
+  agrees = silent-agrees _ l t p s (Hears p d) (Repeats m j) b tt;
+  owes = sym (again l t p s m j m.kind (b.started, b.later) b.agrees e);
 }
 
 reset-same : (p : Peer) (d : List ℕ) → rejects_bytes p d ≡ reset p (reset_for d)
@@ -105,4 +105,4 @@ reset-same p (a ∷ b ∷ c ∷ e ∷ rest) = by (eqb (a / 16) 4)
     by false = refl
 
 pub garbled-agrees : GarbledAgrees
-garbled-agrees l t p s d b = record { agrees = silent-agrees l t p s (Hears p d) Garbled b tt; owes = reset-same p d }
+garbled-agrees start l t p s d b = record { agrees = silent-agrees _ l t p s (Hears p d) Garbled b tt; owes = reset-same p d }

@@ -28,9 +28,9 @@ use Rattle.history_laws.specs.Exchanges.{openings, waits_for, awaited, is_waitin
 use Rattle.history_laws.specs.Hearing.{is_such, heard_before, live_heard, repeated, can_be_remembered, went_under, went_as, answers_by, answers}
 use Rattle.history_laws.specs.Justified.{Legal}
 use Rattle.history_laws.proofs.CallerLemmas.{and-left, at-keeps, eqb-itself, none-submitted, queue-same, unawaited-quiet, waiting-all, waiting-unsent}
-use Rattle.history_links.specs.Agrees.{way_of, due, IsOut, TurnIn, WaitIn, HeardIn, Agrees}
+use Rattle.history_links.specs.Agrees.{Start, IsFrom, way_of, due, IsOut, TurnIn, WaitIn, HeardIn, Agrees}
 use Rattle.history_links.specs.Steps.{ended_token, unawaited, heard_link, SaysAgrees}
-use Rattle.history_links.proofs.Still.{waits-all, heard-at, heard-still}
+use Rattle.history_links.proofs.Still.{since, waits-all, heard-at, heard-still}
 use Rattle.history_links.proofs.Copying.{is-last, is-outstanding}
 use Rattle.history_links.proofs.Repeating.{due-given, confirming-by, found-reply}
 use Rattle.history_links.proofs.Remembering.{remembers, none-before}
@@ -105,11 +105,11 @@ queue-after l t p r d m to =
     (none-submitted x l r refl (λ o w. unawaited-quiet x l o (waiting-unsent l r o (sym (waiting-after l t p r d m to o) ∙ w))))
     (λ o w. waiting-after l t p r d m to o ∙ w)
 
-pub waits-on : (l : List Noted) (t : ℕ) (p r : Peer) (d : List ℕ) (m : Content) (to : Option ℕ) (ws : List Waiting) → WaitIn l (waiting l r) ws
-    → WaitIn (says t p d m to ∷ l) (waiting (says t p d m to ∷ l) r) ws
-waits-on l t p r d m to ws i =
-    subst (λ (os : List ℕ). WaitIn (says t p d m to ∷ l) os ws) (sym (queue-after l t p r d m to))
-    (waits-all (says t p d m to) l r refl (waiting l r) ws (waiting-all l r) i)
+pub waits-on : (start : Start) (l : List Noted) (t : ℕ) (p r : Peer) (d : List ℕ) (m : Content) (to : Option ℕ) (ws : List Waiting) → WaitIn start l (waiting l r) ws
+    → WaitIn start (says t p d m to ∷ l) (waiting (says t p d m to ∷ l) r) ws
+waits-on start l t p r d m to ws i =
+    subst (λ (os : List ℕ). WaitIn start (says t p d m to ∷ l) os ws) (sym (queue-after l t p r d m to))
+    (waits-all start (says t p d m to) l r refl (waiting l r) ws (waiting-all l r) i)
 
 pub none-out : (l n : List Noted) (last : Option FirstSending) → ((i : ℕ) → transmission l i ≡ None → transmission n i ≡ None)
     → option_and_then (if_outstanding l) last ≡ None → option_and_then (if_outstanding n) last ≡ None
@@ -130,7 +130,7 @@ none-out l n (Some f) gone e = by (transmission l f.number) refl (transmission n
         is-out : transmission l f.number ≡ Some x → if_outstanding l f ≡ Some f
         is-out h = rw (h) refl
 
-turn-after : (l : List Noted) (t : ℕ) (p : Peer) (s : LinkState) (d : List ℕ) (m : Content) (to : Option ℕ) (v : Verdict) → Judged l p s m to v → Agrees l p s
+turn-after : {start : Start} (l : List Noted) (t : ℕ) (p : Peer) (s : LinkState) (d : List ℕ) (m : Content) (to : Option ℕ) (v : Verdict) → Judged l p s m to v → Agrees start l p s
     → TurnIn (says t p d m to ∷ l) p (cond v.ends None s.outstanding)
 turn-after l t p s d m to v j a = by s.outstanding refl a.turn
   where
@@ -177,34 +177,35 @@ turn-after l t p s d m to v j a = by s.outstanding refl a.turn
     by None is b = none v.ends (over b)
     by (Some o) is b = ends v.ends o b (j.ends o b is)
 
-heard-after : (l : List Noted) (t : ℕ) (p : Peer) (s : LinkState) (d : List ℕ) (m : Content) (to : Option ℕ) (v : Verdict) → newest l ≤ t → Judged l p s m to v → HeardIn l p s.heard
-    → repeated l t p m ≡ None → HeardIn (says t p d m to ∷ l) p (remembered_in t m.mid v.reply v.remembered s.heard)
-heard-after l t p s d m to v later j h none = by (is_such m.kind) refl
+heard-after : {start : Start} (l : List Noted) (t : ℕ) (p : Peer) (s : LinkState) (d : List ℕ) (m : Content) (to : Option ℕ) (v : Verdict) → IsFrom start l t → Judged l p s m to v → HeardIn start l p s.heard
+    → repeated l t p m ≡ None → HeardIn start (says t p d m to ∷ l) p (remembered_in t m.mid v.reply v.remembered s.heard)
+heard-after {start = start} l t p s d m to v later j h none = by (is_such m.kind) refl
   where
-    by : (b : Bool) → is_such m.kind ≡ b → HeardIn (says t p d m to ∷ l) p (remembered_in t m.mid v.reply v.remembered s.heard)
+    by : (b : Bool) → is_such m.kind ≡ b → HeardIn start (says t p d m to ∷ l) p (remembered_in t m.mid v.reply v.remembered s.heard)
     by true e =
         let unheard : heard_before l t p m.mid ≡ None = subst (λ (b : Bool). cond b (heard_before l t p m.mid) None ≡ None) e none in
-        subst (λ (b : Bool). HeardIn (says t p d m to ∷ l) p (remembered_in t m.mid v.reply b s.heard)) (sym (j.remembered ∙ e))
+        subst (λ (b : Bool). HeardIn start (says t p d m to ∷ l) p (remembered_in t m.mid v.reply b s.heard)) (sym (j.remembered ∙ e))
         (remembers l t p d m to unobserved v.reply s.heard later h e unheard j.reply)
     by false e =
-        subst (λ (b : Bool). HeardIn (says t p d m to ∷ l) p (remembered_in t m.mid v.reply b s.heard)) (sym (j.remembered ∙ e))
+        subst (λ (b : Bool). HeardIn start (says t p d m to ∷ l) p (remembered_in t m.mid v.reply b s.heard)) (sym (j.remembered ∙ e))
         (heard-still l (says t p d m to ∷ l) p s.heard (record {
-          later = later;
+          later = later.1;
           before = λ u mid. rw (e) refl;
           live = λ u. rw (e) refl;
           below = λ u mid i f. heard-at (says t p d m to) l u p mid i f;
         }) h)
 
-pub after-judged : (l : List Noted) (t : ℕ) (p : Peer) (s : LinkState) (d : List ℕ) (m : Content) (to : Option ℕ) (v : Verdict) → newest l ≤ t → Judged l p s m to v → Agrees l p s
-    → repeated l t p m ≡ None → Agrees (says t p d m to ∷ l) p (heard_link t m.mid m.token v s)
-after-judged l t p s d m to v later j a none =
+pub after-judged : {start : Start} (l : List Noted) (t : ℕ) (p : Peer) (s : LinkState) (d : List ℕ) (m : Content) (to : Option ℕ) (v : Verdict) → IsFrom start l t → Judged l p s m to v → Agrees start l p s
+    → repeated l t p m ≡ None → Agrees start (says t p d m to ∷ l) p (heard_link t m.mid m.token v s)
+after-judged {start = start} l t p s d m to v later j a none =
     let n = says t p d m to ∷ l in
     record {
       turn = turn-after l t p s d m to v j a;
-      last = a.last;
-      count_up = a.count_up;
-      given = λ u after. a.given u (omega (arith, later, after));
-      waits = waits-on l t p p d m to s.waiting a.waits;
+      known = a.known;
+      last = λ u after. a.last u (since l later.1 after);
+      count_up = λ u after. a.count_up u (since l later.1 after);
+      given = λ u after. a.given u (since l later.1 after);
+      waits = waits-on start l t p p d m to s.waiting a.waits;
       awaits = λ token.
           link-awaits v.news m token s.awaited
           ∙ (ap (λ (b : Bool). not (is_ended (ended_token v.news m.token) token) && b) (a.awaits token)
@@ -221,7 +222,7 @@ after-judged l t p s d m to v later j a none =
 
 -- what is judged of each kind
 
-own-of : (l : List Noted) (t : ℕ) (p : Peer) (s : LinkState) (m : Content) (k : MsgType) → newest l ≤ t → Legal l → Agrees l p s → m.kind ≡ k → IsOwn k → is_such k ≡ true
+own-of : {start : Start} (l : List Noted) (t : ℕ) (p : Peer) (s : LinkState) (m : Content) (k : MsgType) → IsFrom start l t → Legal l → Agrees start l p s → m.kind ≡ k → IsOwn k → is_such k ≡ true
     → repeated l t p m ≡ None → can_be_remembered l t p m ≡ true → (confirms : Bool) → accepts k ≡ cond confirms R.Ack R.Nothing → empties k ≡ cond confirms R.Rst R.Nothing
     → Judged l p s m (answers_by l p m k (eqb m.code 0) (leb 32 m.code)) (heard_verdict t s m confirms (find (is_repeat t m.mid) s.heard))
 own-of l t p s m k later legal a kind own such none room confirms accepted emptied =
@@ -234,7 +235,7 @@ own-of l t p s m k later legal a kind own such none room confirms accepted empti
     subst (λ (k : MsgType). Judged l p s m (answers_by l p m k (eqb m.code 0) (leb 32 m.code)) (new_verdict s m (accepts k) (empties k))) kind judged in
     rw (not_found, few, ← accepted, ← emptied) for_kind
 
-pub judge : (l : List Noted) (t : ℕ) (p : Peer) (s : LinkState) (m : Content) (k : MsgType) → newest l ≤ t → Legal l → Agrees l p s → m.kind ≡ k
+pub judge : {start : Start} (l : List Noted) (t : ℕ) (p : Peer) (s : LinkState) (m : Content) (k : MsgType) → IsFrom start l t → Legal l → Agrees start l p s → m.kind ≡ k
     → repeated l t p m ≡ None → can_be_remembered l t p m ≡ true
     → Judged l p s m (answers_by l p m k (eqb m.code 0) (leb 32 m.code)) (verdict_by t s m k)
 judge l t p s m Con later legal a kind none room = own-of l t p s m Con later legal a kind tt refl none room true refl refl
@@ -243,9 +244,9 @@ judge l t p s m Ack later legal a kind none room = ack-judged l p s m legal a ki
 judge l t p s m Rst later legal a kind none room = rst-judged l p s m legal a kind
 
 pub says-agrees : SaysAgrees
-says-agrees l t p s d m b none room =
-    let judged = judge l t p s m m.kind b.later b.legal b.agrees refl none room in
+says-agrees start l t p s d m b none room =
+    let judged = judge l t p s m m.kind (b.started, b.later) b.legal b.agrees refl none room in
     record {
-      agrees = after-judged l t p s d m (answers l p m) (verdict_of t s m) b.later judged b.agrees none;
+      agrees = after-judged l t p s d m (answers l p m) (verdict_of t s m) (b.started, b.later) judged b.agrees none;
       owes = sym (ap (due p m.mid) judged.reply ∙ due-given p m.mid (answer_by m.kind (is_some (answers l p m)) (is_rejected m) (eqb m.code 0)) (confirming-by m.kind (is_some (answers l p m)) (is_rejected m) (eqb m.code 0)));
     }

@@ -17,27 +17,27 @@ use Rattle.history_laws.specs.Progress.{Progress, Asks, Ends, progress, next_mes
 use Rattle.history_laws.specs.Transmissions.{FirstSending, firsts, last_sent, mids_used}
 use Rattle.history_laws.specs.Exchanges.{Begun, begun, replies, goes_to, is_waiting, waiting}
 use Rattle.history_laws.specs.Justified.{Legal, MayBeFirst}
-use Rattle.history_links.specs.Agrees.{TurnIn, firsts_to, HasMid, IsWaitingFor, WaitIn, Agrees}
+use Rattle.history_links.specs.Agrees.{Start, IsFrom, TurnIn, IsWaitingFor, WaitIn, Agrees}
 use Rattle.history_laws.proofs.CallerLemmas.{and-left, none-some, some-is, waiting-all}
-use Rattle.history_links.proofs.Mids.{mid-apart}
+use Rattle.history_links.proofs.Mids.{has-next, mid-apart}
 
 -- the first that waits
 
-pub record Head (l : List Noted) (os : List ℕ) (w : Waiting) (ws : List Waiting) : Type 0 where
+pub record Head (start : Start) (l : List Noted) (os : List ℕ) (w : Waiting) (ws : List Waiting) : Type 0 where
   pub opening : ℕ
   pub others : List ℕ
   pub is : os ≡ opening ∷ others
-  pub waits : IsWaitingFor l opening w
-  pub more : WaitIn l others ws
+  pub waits : IsWaitingFor start l opening w
+  pub more : WaitIn start l others ws
 
-head-of : (l : List Noted) (os : List ℕ) (w : Waiting) (ws : List Waiting) → WaitIn l os (w ∷ ws) → Head l os w ws
-head-of l [] w ws a = absurd a
-head-of l (o ∷ os) w ws a = record { opening = o; others = os; is = refl; waits = a.0; more = a.1 }
+head-of : (start : Start) (l : List Noted) (os : List ℕ) (w : Waiting) (ws : List Waiting) → WaitIn start l os (w ∷ ws) → Head start l os w ws
+head-of start l [] w ws a = absurd a
+head-of start l (o ∷ os) w ws a = record { opening = o; others = os; is = refl; waits = a.0; more = a.1 }
 
-pub head : (l : List Noted) (p : Peer) (s : LinkState) (w : Waiting) (ws : List Waiting) → Agrees l p s → s.waiting ≡ w ∷ ws → Head l (waiting l p) w ws
-head l p s w ws a e = head-of l (waiting l p) w ws (subst (WaitIn l (waiting l p)) e a.waits)
+pub head : {start : Start} (l : List Noted) (p : Peer) (s : LinkState) (w : Waiting) (ws : List Waiting) → Agrees start l p s → s.waiting ≡ w ∷ ws → Head start l (waiting l p) w ws
+head {start = start} l p s w ws a e = head-of start l (waiting l p) w ws (subst (WaitIn start l (waiting l p)) e a.waits)
 
-pub head-waits : (l : List Noted) (p : Peer) (w : Waiting) (ws : List Waiting) (h : Head l (waiting l p) w ws) → is_waiting l p h.opening ≡ true
+pub head-waits : {start : Start} (l : List Noted) (p : Peer) (w : Waiting) (ws : List Waiting) (h : Head start l (waiting l p) w ws) → is_waiting l p h.opening ≡ true
 head-waits l p w ws h =
     let all : AllByRecursion (λ (q : ℕ). is_waiting l p q ≡ true) (h.opening ∷ h.others) =
     subst (λ (v : List ℕ). AllByRecursion (λ (q : ℕ). is_waiting l p q ≡ true) v) h.is (waiting-all l p) in
@@ -45,32 +45,15 @@ head-waits l p w ws h =
 
 -- its ID is the next one
 
-pub found : {X : Type 0} (q : X → Bool) (xs : List X) → ((filter q xs ≡ []) × (find q xs ≡ None)) ⊎ ((x : X) × (ys : List X) × (filter q xs ≡ x ∷ ys) × (find q xs ≡ Some x))
-found q [] = inl (refl, refl)
-found {X = X} q (x ∷ xs) = by (q x) (found q xs)
-  where
-    by : (b : Bool) → ((filter q xs ≡ []) × (find q xs ≡ None)) ⊎ ((y : X) × (ys : List X) × (filter q xs ≡ y ∷ ys) × (find q xs ≡ Some y))
-        → ((cond b (x ∷ filter q xs) (filter q xs) ≡ []) × (cond b (Some x) (find q xs) ≡ None)) ⊎ ((y : X) × (ys : List X) × (cond b (x ∷ filter q xs) (filter q xs) ≡ y ∷ ys) × (cond b (Some x) (find q xs) ≡ Some y))
-    by true h = inr (x, filter q xs, refl, refl)
-    by false h = h
-
-pub has-next : (l : List Noted) (p : Peer) (last : Option ℕ) (first : ℕ) → last ≡ option_map (λ (f : FirstSending). f.message.mid) (last_sent l p)
-    → HasMid (next_mid last first) (firsts_to l p)
-has-next l p last first e =
-    elim (found (λ (f : FirstSending). same_peer f.peer p) (firsts l)) [
-      | inl w ↦ subst (HasMid (next_mid last first)) (sym w.0) tt
-      | inr w ↦ subst (HasMid (next_mid last first)) (sym w.2) (by w.0 (e ∙ ap (option_map (λ (f : FirstSending). f.message.mid)) w.3))
-    ]
-  where
-    by : (f : FirstSending) → last ≡ Some f.message.mid → next_mid last first ≡ (f.message.mid + 1) % 65536
-    by f e = ap (λ (v : Option ℕ). next_mid v first) e
+pub next-of : (last : Option ℕ) (first m : ℕ) → last ≡ Some m → next_mid last first ≡ (m + 1) % 65536
+next-of last first m e = ap (λ (v : Option ℕ). next_mid v first) e
 
 pub next-small : (last : Option ℕ) (first : ℕ) → first < 65536 → next_mid last first < 65536
 next-small None first h = h
 next-small (Some m) first h = omega arith
 
 -- the message that is sent: that which waits, with its ID
-abbrev pub message-of : (l : List Noted) (o : ℕ) (w : Waiting) (a : IsWaitingFor l o w) (last : Option ℕ) → Content
+abbrev pub message-of : {start : Start} (l : List Noted) (o : ℕ) (w : Waiting) (a : IsWaitingFor start l o w) (last : Option ℕ) → Content
 message-of l o w a last = record a.message { mid = next_mid last w.first_mid; token = w.token }
 
 next-under : (q : CoapRequest) (pr : Progress) (token : List ℕ) (mid : ℕ) (m : Content) → next_message q pr 0 token ≡ Some m
@@ -78,10 +61,10 @@ next-under : (q : CoapRequest) (pr : Progress) (token : List ℕ) (mid : ℕ) (m
 next-under q Asks token mid m e = ap (λ (n : Content). Some (record n { mid = mid; token = token })) (some-is (request_message q 0 token) m e)
 next-under q (Ends how) token mid m e = absurd (none-some m e)
 
-pub may-be-first : (l : List Noted) (t : ℕ) (p : Peer) (s : LinkState) (w : Waiting) (ws : List Waiting) (h : Head l (waiting l p) w ws) → Legal l
-    → Agrees l p s → mids_used l t p < MAX_MESSAGE_IDS → s.outstanding ≡ None
+pub may-be-first : {start : Start} (l : List Noted) (t : ℕ) (p : Peer) (s : LinkState) (w : Waiting) (ws : List Waiting) (h : Head start l (waiting l p) w ws) → Legal l
+    → IsFrom start l t → Agrees start l p s → mids_used l t p < MAX_MESSAGE_IDS → s.outstanding ≡ None
     → MayBeFirst l t h.opening p (first_sent t s.last_mid w).datagram (message-of l h.opening w h.waits s.last_mid) (Some (first_sent t s.last_mid w).timeout)
-may-be-first l t p s w ws h legal a few free =
+may-be-first l t p s w ws h legal from a few free =
     let waits = head-waits l p w ws h in
     let goes : goes_to p (begun l h.opening) ≡ true = and-left (goes_to p (begun l h.opening)) _ waits in
     let peer : same_peer h.waits.request.peer p ≡ true = subst (λ (v : Option Begun). goes_to p v ≡ true) h.waits.opening goes in
@@ -101,7 +84,7 @@ may-be-first l t p s w ws h legal a few free =
       spelled = sent-spells waiting_one w.datagram mid (subst (λ (m : Content). Spells m w.datagram) same h.waits.spelled);
       token_size = h.waits.token_size;
       token_apart = h.waits.token_apart;
-      mid_apart = mid-apart l t p mid legal a.count_up (has-next l p s.last_mid w.first_mid a.last) few;
+      mid_apart = mid-apart l t p mid (a.count_up t from) (has-next l t p s.last_mid mid legal (a.last t from) (next-of s.last_mid w.first_mid)) few;
       wait = w.timeout;
       first_wait = refl;
       least = h.waits.least;

@@ -31,28 +31,28 @@ unheard l t (Hears r b) Garbled p later i = record { later = later; before = λ 
 unheard l t d note p later i = absurd i
 
 pub silent-agrees : SilentAgrees
-silent-agrees l t p s (Opens c) Plain before i =
+silent-agrees start l t p s (Opens c) Plain before i =
     rest-still l (noted t (Opens c) Plain ∷ l) p s s (still l t (Opens c) Plain before.later i) (unheard l t (Opens c) Plain p before.later i) before.agrees
     (turn-kept l (noted t (Opens c) Plain ∷ l) p s.outstanding (λ i x e. at-keeps (noted t (Opens c) Plain) l i x e) refl (λ i. refl) before.agrees.turn) refl refl refl refl refl
-silent-agrees l t p s (Asks c a) Plain before i =
+silent-agrees start l t p s (Asks c a) Plain before i =
     rest-still l (noted t (Asks c a) Plain ∷ l) p s s (still l t (Asks c a) Plain before.later i) (unheard l t (Asks c a) Plain p before.later i) before.agrees
     (turn-kept l (noted t (Asks c a) Plain ∷ l) p s.outstanding (λ i x e. at-keeps (noted t (Asks c a) Plain) l i x e) refl (λ i. refl) before.agrees.turn) refl refl refl refl refl
-silent-agrees l t p s (Answers c k g) Plain before i =
+silent-agrees start l t p s (Answers c k g) Plain before i =
     rest-still l (noted t (Answers c k g) Plain ∷ l) p s s (still l t (Answers c k g) Plain before.later i) (unheard l t (Answers c k g) Plain p before.later i) before.agrees
     (turn-kept l (noted t (Answers c k g) Plain ∷ l) p s.outstanding (λ i x e. at-keeps (noted t (Answers c k g) Plain) l i x e) refl (λ i. refl) before.agrees.turn) refl refl refl refl refl
-silent-agrees l t p s (Shuts c) Plain before i =
+silent-agrees start l t p s (Shuts c) Plain before i =
     rest-still l (noted t (Shuts c) Plain ∷ l) p s s (still l t (Shuts c) Plain before.later i) (unheard l t (Shuts c) Plain p before.later i) before.agrees
     (turn-kept l (noted t (Shuts c) Plain ∷ l) p s.outstanding (λ i x e. at-keeps (noted t (Shuts c) Plain) l i x e) refl (λ i. refl) before.agrees.turn) refl refl refl refl refl
-silent-agrees l t p s Seals Plain before i =
+silent-agrees start l t p s Seals Plain before i =
     rest-still l (noted t Seals Plain ∷ l) p s s (still l t Seals Plain before.later i) (unheard l t Seals Plain p before.later i) before.agrees
     (turn-kept l (noted t Seals Plain ∷ l) p s.outstanding (λ i x e. at-keeps (noted t Seals Plain) l i x e) refl (λ i. refl) before.agrees.turn) refl refl refl refl refl
-silent-agrees l t p s (Sends r b w) Confirms before i =
+silent-agrees start l t p s (Sends r b w) Confirms before i =
     rest-still l (noted t (Sends r b w) Confirms ∷ l) p s s (still l t (Sends r b w) Confirms before.later i) (unheard l t (Sends r b w) Confirms p before.later i) before.agrees
     (turn-kept l (noted t (Sends r b w) Confirms ∷ l) p s.outstanding (λ i x e. at-keeps (noted t (Sends r b w) Confirms) l i x e) refl (λ i. refl) before.agrees.turn) refl refl refl refl refl
-silent-agrees l t p s (Hears r b) (Repeats m j) before i =
+silent-agrees start l t p s (Hears r b) (Repeats m j) before i =
     rest-still l (noted t (Hears r b) (Repeats m j) ∷ l) p s s (still l t (Hears r b) (Repeats m j) before.later i) (unheard l t (Hears r b) (Repeats m j) p before.later i) before.agrees
     (turn-kept l (noted t (Hears r b) (Repeats m j) ∷ l) p s.outstanding (λ i x e. at-keeps (noted t (Hears r b) (Repeats m j)) l i x e) refl (λ i. refl) before.agrees.turn) refl refl refl refl refl
-silent-agrees l t p s (Hears r b) Garbled before i =
+silent-agrees start l t p s (Hears r b) Garbled before i =
     rest-still l (noted t (Hears r b) Garbled ∷ l) p s s (still l t (Hears r b) Garbled before.later i) (unheard l t (Hears r b) Garbled p before.later i) before.agrees
     (turn-kept l (noted t (Hears r b) Garbled ∷ l) p s.outstanding (λ i x e. at-keeps (noted t (Hears r b) Garbled) l i x e) refl (λ i. refl) before.agrees.turn) refl refl refl refl refl
-silent-agrees l t p s d note before i = absurd i
+silent-agrees start l t p s d note before i = absurd i

@@ -1,5 +1,5 @@
 -- What an entry that leaves a peer alone leaves of what a link keeps.
-use Rattle.std.proofs.Common.{◌≡◌, ℕ, ◌≤◌, ◌<◌, Bool, inl, inr, length, arith, true, false, ◌&&◌, List, [], ◌∷◌, Option, Some, None, refl, sym, ap, subst, ◌∙◌, cond}
+use Rattle.std.proofs.Common.{◌≡◌, ℕ, ◌≤◌, ◌<◌, Bool, inl, inr, length, arith, is_some, true, false, ◌+◌, ◌&&◌, List, [], ◌∷◌, Option, Some, None, refl, sym, ap, subst, ◌∙◌, cond}
 use Rattle.std.specs.Prelude.{option_map}
 use Rattle.std.specs.List.{AllByRecursion, list_any, filter_map}
 use Rattle.uri_map.specs.declared.peer.Peer.{Peer}
@@ -14,7 +14,11 @@ use Rattle.history_laws.specs.Exchanges.{Begun, begun, openings, turn, waits_for
 use Rattle.history_laws.specs.Hearing.{went_under, went_as, is_like, heard_before, live_heard}
 use Rattle.history_laws.specs.Confirming.{answered_as}
 use Rattle.history_laws.proofs.CallerLemmas.{all-more, at-cases, at-keeps, begun-keeps, issued-same, none-submitted, NoReply, queue-same, rank-keeps, replies-stay, waiting-all, waiting-begun, waiting-stays}
-use Rattle.history_links.specs.Agrees.{IsWaitingFor, TurnIn, WaitIn, reply_of, awaits, awaits_ack, HeardIn, Agrees}
+use Rattle.history_links.specs.Agrees.{Start, IsWaitingFor, TurnIn, WaitIn, reply_of, awaits, awaits_ack, HeardIn, Agrees}
+
+-- From the newest entry on is from an older one on.
+pub since : {s : ℕ} (l : List Noted) {t u : ℕ} → newest l ≤ t → (s ≤ u) × (t ≤ u) → (s ≤ u) × (newest l ≤ u)
+since l earlier from = (from.0, let later = from.1 in omega (arith, earlier, later))
 
 pub filter_map-same : {X Y : Type 0} (f g : X → Option Y) → ((x : X) → f x ≡ g x) → (xs : List X) → filter_map f xs ≡ filter_map g xs
 filter_map-same f g same [] = refl
@@ -46,9 +50,9 @@ pub record Keeps (l n : List Noted) (o : ℕ) : Type 0 where
   pub replies_are : replies n o ≡ replies l o
   pub rank_is : rank n o ≡ rank l o
 
-pub waits-one : (l n : List Noted) (o : ℕ) (w : Waiting) → Keeps l n o → (bears_token l w.token ≡ false → bears_token n w.token ≡ false)
-    → IsWaitingFor l o w → IsWaitingFor n o w
-waits-one l n o w keeps apart a = record {
+pub waits-one : {start : Start} (l n : List Noted) (o : ℕ) (w : Waiting) → Keeps l n o → (bears_token l w.token ≡ false → bears_token n w.token ≡ false)
+    → IsWaitingFor start l o w → IsWaitingFor start n o w
+waits-one {start = start} l n o w keeps apart a = record {
   since = a.since;
   request = a.request;
   opening = keeps.begun_is (record { since = a.since; request = a.request }) a.opening;
@@ -57,16 +61,16 @@ waits-one l n o w keeps apart a = record {
   spelled = a.spelled;
   token_size = a.token_size;
   token_apart = apart a.token_apart;
-  numbered = a.numbered ∙ sym keeps.rank_is;
+  numbered = a.numbered ∙ sym (ap (λ (k : ℕ). start.issued + k) keeps.rank_is);
   least = a.least;
   greatest = a.greatest;
 }
 
-waits-each : (l n : List Noted) → firsts n ≡ firsts l → (os : List ℕ) (ws : List Waiting) → AllByRecursion (Keeps l n) os → WaitIn l os ws → WaitIn n os ws
-waits-each l n same [] [] keeps a = a
-waits-each l n same [] (w ∷ ws) keeps a = a
-waits-each l n same (o ∷ os) [] keeps a = a
-waits-each l n same (o ∷ os) (w ∷ ws) keeps a = (waits-one l n o w keeps.0 (λ e. rw (same) e) a.0, waits-each l n same os ws keeps.1 a.1)
+waits-each : (start : Start) (l n : List Noted) → firsts n ≡ firsts l → (os : List ℕ) (ws : List Waiting) → AllByRecursion (Keeps l n) os → WaitIn start l os ws → WaitIn start n os ws
+waits-each start l n same [] [] keeps a = a
+waits-each start l n same [] (w ∷ ws) keeps a = a
+waits-each start l n same (o ∷ os) [] keeps a = a
+waits-each start l n same (o ∷ os) (w ∷ ws) keeps a = (waits-one l n o w keeps.0 (λ e. rw (same) e) a.0, waits-each start l n same os ws keeps.1 a.1)
 
 -- Who waits keeps it, whatever comes.
 pub waiting-keeps : (x : Noted) (l : List Noted) (p : Peer) (o : ℕ) → is_waiting l p o ≡ true → Keeps l (x ∷ l) o
@@ -75,10 +79,10 @@ waiting-keeps x l p o e =
     let same = waiting-stays x l p o e in
     record { begun_is = λ c is. begun-keeps x l o c is; replies_are = same; rank_is = rank-keeps x l o b.0 b.1 same }
 
-pub waits-all : (x : Noted) (l : List Noted) (p : Peer) → firsts (x ∷ l) ≡ firsts l → (os : List ℕ) (ws : List Waiting)
-    → AllByRecursion (λ (o : ℕ). is_waiting l p o ≡ true) os → WaitIn l os ws → WaitIn (x ∷ l) os ws
-waits-all x l p same os ws waiting =
-    waits-each l (x ∷ l) same os ws (all-more (λ (o : ℕ). is_waiting l p o ≡ true) (Keeps l (x ∷ l)) (waiting-keeps x l p) os waiting)
+pub waits-all : (start : Start) (x : Noted) (l : List Noted) (p : Peer) → firsts (x ∷ l) ≡ firsts l → (os : List ℕ) (ws : List Waiting)
+    → AllByRecursion (λ (o : ℕ). is_waiting l p o ≡ true) os → WaitIn start l os ws → WaitIn start (x ∷ l) os ws
+waits-all start x l p same os ws waiting =
+    waits-each start l (x ∷ l) same os ws (all-more (λ (o : ℕ). is_waiting l p o ≡ true) (Keeps l (x ∷ l)) (waiting-keeps x l p) os waiting)
 
 -- One entry more leaves what it says, where it leaves these.
 pub still-by : (x : Noted) (l : List Noted) → newest l ≤ x.written.moment → firsts (x ∷ l) ≡ firsts l → openings (x ∷ l) ≡ openings l
@@ -145,24 +149,25 @@ found-same : (l n : List Noted) (found : Option ℕ) → ((j : ℕ) → found �
 found-same l n None same = refl
 found-same l n (Some j) same = rw (same j refl) refl
 
-pub heard-still : (l n : List Noted) (p : Peer) (heard : List Heard) → SameHeard l n p → HeardIn l p heard → HeardIn n p heard
+pub heard-still : {start : Start} (l n : List Noted) (p : Peer) (heard : List Heard) → SameHeard l n p → HeardIn start l p heard → HeardIn start n p heard
 heard-still l n p heard e a = record {
   repeats = λ t mid later.
-      a.repeats t mid (let h = e.later in omega (arith, h, later))
+      a.repeats t mid (since l e.later later)
       ∙ (sym (found-same l n (heard_before l t p mid) (e.below t mid))
       ∙ ap (option_map (answers_in n)) (sym (e.before t mid)));
-  live = λ t later. a.live t (let h = e.later in omega (arith, h, later)) ∙ sym (e.live t);
+  live = λ t later. a.live t (since l e.later later) ∙ sym (e.live t);
 }
 
 -- Where the link keeps its other tables too, it agrees still.
-pub rest-still : (l n : List Noted) (p : Peer) (s r : LinkState) → Still l n → SameHeard l n p → Agrees l p s → TurnIn n p r.outstanding
-    → r.waiting ≡ s.waiting → r.last_mid ≡ s.last_mid → r.given ≡ s.given → r.awaited ≡ s.awaited → r.heard ≡ s.heard → Agrees n p r
-rest-still l n p s r e h a turn waiting_is last_is given_is awaited_is heard_is = record {
+pub rest-still : {start : Start} (l n : List Noted) (p : Peer) (s r : LinkState) → Still l n → SameHeard l n p → Agrees start l p s → TurnIn n p r.outstanding
+    → r.waiting ≡ s.waiting → r.last_mid ≡ s.last_mid → r.given ≡ s.given → r.awaited ≡ s.awaited → r.heard ≡ s.heard → Agrees start n p r
+rest-still {start = start} l n p s r e h a turn waiting_is last_is given_is awaited_is heard_is = record {
   turn = turn;
-  last = last_is ∙ (a.last ∙ rw (e.firsts_are) refl);
-  count_up = rw (e.firsts_are) a.count_up;
-  given = λ t later. rw (given_is, e.firsts_are) (a.given t (let g = e.later in omega (arith, g, later)));
-  waits = rw (waiting_is, e.waiting_are p) (waits-each l n e.firsts_are (waiting l p) s.waiting (all-more (λ (o : ℕ). is_waiting l p o ≡ true) (Keeps l n) (keeps l n e p) (waiting l p) (waiting-all l p)) a.waits);
+  known = ap is_some last_is ∙ (a.known ∙ rw (e.firsts_are) refl);
+  last = λ t later. rw (last_is, e.firsts_are) (a.last t (since l e.later later));
+  count_up = λ t later. rw (e.firsts_are) (a.count_up t (since l e.later later));
+  given = λ t later. rw (given_is, e.firsts_are) (a.given t (since l e.later later));
+  waits = rw (waiting_is, e.waiting_are p) (waits-each start l n e.firsts_are (waiting l p) s.waiting (all-more (λ (o : ℕ). is_waiting l p o ≡ true) (Keeps l n) (keeps l n e p) (waiting l p) (waiting-all l p)) a.waits);
   awaits = λ token. rw (awaited_is) (a.awaits token ∙ sym (awaits-still l n e p token));
   acks = λ mid token. rw (awaited_is) (a.acks mid token ∙ sym (acks-still l n e p mid token));
   heard = rw (heard_is) (heard-still l n p s.heard h a.heard);

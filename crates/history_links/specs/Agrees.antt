@@ -1,5 +1,5 @@
 -- What a link keeps of a history: the part of it that concerns its peer.
-use Rattle.std.specs.Prelude.{◌≡◌, ℕ, ◌+◌, ◌%◌, ◌<◌, ◌≤◌, Bool, false, ◌&&◌, List, [], ◌∷◌, length, filter, count_by, Option, Some, None, option_map, ⊤}
+use Rattle.std.specs.Prelude.{◌≡◌, ℕ, ◌+◌, ◌%◌, ◌<◌, ◌≤◌, Bool, false, ◌&&◌, List, [], ◌∷◌, length, filter, count_by, Option, Some, None, is_some, option_map, true, ⊤}
 use Rattle.std.specs.List.{list_any, find}
 use Rattle.limits.specs.declared.TheConstants.{ACK_TIMEOUT, LONGEST_ACK_TIMEOUT}
 use Rattle.coap_codec.specs.declared.message.MsgType.{MsgType}
@@ -20,10 +20,10 @@ use Rattle.message_layer.specs.declared.state.Heard.{Heard}
 use Rattle.message_layer.specs.declared.state.Reply.{Reply}
 use Rattle.message_layer.specs.declared.state.Reply.TheVariants as R
 use Rattle.history_laws.specs.Readings.{Noted, First, noted, at, newest}
-use Rattle.history_laws.specs.Transmissions.{FirstSending, firsts, first_at, last_sent, bears_token, mids_used, Transmission, transmission, outstanding}
+use Rattle.history_laws.specs.Transmissions.{FirstSending, firsts, first_at, last_sent, is_recent, bears_token, mids_used, Transmission, transmission, outstanding}
 use Rattle.history_laws.specs.Progress.{progress, next_message}
 use Rattle.history_laws.specs.Exchanges.{begun, replies, rank, awaited, waiting}
-use Rattle.history_laws.specs.Hearing.{went_under, went_as, heard_before, live_heard}
+use Rattle.history_laws.specs.Hearing.{knows, went_under, went_as, heard_before, live_heard}
 use Rattle.history_laws.specs.Confirming.{answered_as}
 
 -- the timer of an outstanding message
@@ -44,9 +44,10 @@ abbrev pub TurnIn : List Noted → Peer → Option Outstanding → Type 0
 TurnIn l p None = outstanding l p ≡ None
 TurnIn l p (Some o) = IsOut l p o
 
--- the first sendings to the peer, the newest first, whose IDs count up by one (RFC 7252 section 4.4)
-abbrev pub firsts_to : List Noted → Peer → List FirstSending
-firsts_to l p = filter (λ (f : FirstSending). same_peer f.peer p) (firsts l)
+-- The first sendings to the peer whose IDs are in use yet, the newest first: their IDs count up by
+-- one (RFC 7252 section 4.4).
+abbrev pub recent_to : List Noted → ℕ → Peer → List FirstSending
+recent_to l t p = filter (is_recent t p) (firsts l)
 
 abbrev pub HasMid : ℕ → List FirstSending → Type 0
 HasMid mid [] = ⊤
@@ -56,8 +57,23 @@ abbrev pub CountUp : List FirstSending → Type 0
 CountUp [] = ⊤
 CountUp (f ∷ older) = (f.message.mid < 65536) × HasMid f.message.mid older × CountUp older
 
+-- What is in use no more is nothing to the next ID.
+abbrev pub IsLast : ℕ → Peer → Option ℕ → Option FirstSending → Type 0
+IsLast t p mid None = ⊤
+IsLast t p mid (Some f) = is_recent t p f ≡ true → mid ≡ Some f.message.mid
+
+-- What a history doesn't say of its beginning: from which moment on it is added to, and how many
+-- tokens were issued before. Of a first journal both are 0.
+pub record Start : Type 0 where
+  pub moment : ℕ
+  pub issued : ℕ
+
+-- from the beginning and the newest entry on
+abbrev pub IsFrom : Start → List Noted → ℕ → Type 0
+IsFrom start l t = (start.moment ≤ t) × (newest l ≤ t)
+
 -- The message of an exchange that waits; its token begins with how many were issued before.
-pub record IsWaitingFor (l : List Noted) (o : ℕ) (w : Waiting) : Type 0 where
+pub record IsWaitingFor (start : Start) (l : List Noted) (o : ℕ) (w : Waiting) : Type 0 where
   pub since : ℕ
   pub request : CoapRequest
   pub opening : begun l o ≡ Some (record { since = since; request = request })
@@ -66,14 +82,14 @@ pub record IsWaitingFor (l : List Noted) (o : ℕ) (w : Waiting) : Type 0 where
   pub spelled : Spells message w.datagram
   pub token_size : length w.token ≡ 8
   pub token_apart : bears_token l w.token ≡ false
-  pub numbered : token_number w.token ≡ rank l o
+  pub numbered : token_number w.token ≡ start.issued + rank l o
   pub least : ACK_TIMEOUT ≤ w.timeout
   pub greatest : w.timeout ≤ LONGEST_ACK_TIMEOUT
 
-abbrev pub WaitIn : List Noted → List ℕ → List Waiting → Type 0
-WaitIn l [] [] = ⊤
-WaitIn l (o ∷ os) (w ∷ ws) = IsWaitingFor l o w × WaitIn l os ws
-WaitIn l _ _ = ⊥
+abbrev pub WaitIn : Start → List Noted → List ℕ → List Waiting → Type 0
+WaitIn start l [] [] = ⊤
+WaitIn start l (o ∷ os) (w ∷ ws) = IsWaitingFor start l o w × WaitIn start l os ws
+WaitIn start l _ _ = ⊥
 
 -- a first sending that a reply is awaited to went under the token, or under it and with the ID
 abbrev pub awaits : List Noted → Peer → List ℕ → Bool
@@ -95,19 +111,20 @@ due p mid R.Ack = given p mid (Some Ack)
 due p mid R.Rst = given p mid (Some Rst)
 
 -- From now on a link tells repeats as the history does, and how they are answered.
-pub record HeardIn (l : List Noted) (p : Peer) (heard : List Heard) : Type 0 where
-  pub repeats : (t mid : ℕ) → newest l ≤ t
+pub record HeardIn (start : Start) (l : List Noted) (p : Peer) (heard : List Heard) : Type 0 where
+  pub repeats : (t mid : ℕ) → IsFrom start l t
       → option_map (λ (h : Heard). h.reply) (find (is_repeat t mid) heard)
       ≡ option_map (λ (j : ℕ). reply_of (answered_as (at l j))) (heard_before l t p mid)
-  pub live : (t : ℕ) → newest l ≤ t → count_by (is_fresh t) heard ≡ live_heard l t p
+  pub live : (t : ℕ) → IsFrom start l t → count_by (is_fresh t) heard ≡ live_heard l t p
 
 -- The link keeps what the history says of its peer.
-pub record Agrees (l : List Noted) (p : Peer) (s : LinkState) : Type 0 where
+pub record Agrees (start : Start) (l : List Noted) (p : Peer) (s : LinkState) : Type 0 where
   pub turn : TurnIn l p s.outstanding
-  pub last : s.last_mid ≡ option_map (λ (f : FirstSending). f.message.mid) (last_sent l p)
-  pub count_up : CountUp (firsts_to l p)
-  pub given : (t : ℕ) → newest l ≤ t → count_by (is_in_use t) s.given ≡ mids_used l t p
-  pub waits : WaitIn l (waiting l p) s.waiting
+  pub known : is_some s.last_mid ≡ knows l p
+  pub last : (t : ℕ) → IsFrom start l t → IsLast t p s.last_mid (last_sent l p)
+  pub count_up : (t : ℕ) → IsFrom start l t → CountUp (recent_to l t p)
+  pub given : (t : ℕ) → IsFrom start l t → count_by (is_in_use t) s.given ≡ mids_used l t p
+  pub waits : WaitIn start l (waiting l p) s.waiting
   pub awaits : (token : List ℕ) → list_any (is_awaited token) s.awaited ≡ awaits l p token
   pub acks : (mid : ℕ) (token : List ℕ) → list_any (is_awaited_by_ack mid token) s.awaited ≡ awaits_ack l p mid token
-  pub heard : HeardIn l p s.heard
+  pub heard : HeardIn start l p s.heard

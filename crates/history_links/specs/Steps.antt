@@ -1,5 +1,5 @@
 -- What the calls of a link leave in a history.
-use Rattle.std.specs.Prelude.{◌≡◌, ℕ, ◌<◌, ◌≤◌, Bool, true, false, not, ◌&&◌, ◌==◌, nat_le, List, ◌∷◌, length, filter, Option, Some, None, if◌then◌else◌, ⊤}
+use Rattle.std.specs.Prelude.{◌≡◌, ℕ, ◌+◌, ◌<◌, ◌≤◌, Bool, true, false, not, ◌&&◌, ◌==◌, nat_le, List, ◌∷◌, length, filter, Option, Some, None, if◌then◌else◌, ⊤}
 use Rattle.limits.specs.declared.TheConstants.{MAX_MESSAGE_IDS, MAX_RETRANSMIT}
 use Rattle.coap_codec.specs.Spelling.{Content, Spells}
 use Rattle.uri_map.specs.declared.peer.Peer.{Peer}
@@ -27,13 +27,14 @@ use Rattle.history_laws.specs.Exchanges.{begun, issued, is_late, expires, waits_
 use Rattle.history_laws.specs.Hearing.{went_under, repeated, can_be_remembered, answers}
 use Rattle.history_laws.specs.Confirming.{owed}
 use Rattle.history_laws.specs.Justified.{Legal, Follows}
-use Rattle.history_links.specs.Agrees.{IsWaitingFor, due, Agrees}
+use Rattle.history_links.specs.Agrees.{Start, IsWaitingFor, due, Agrees}
 
 -- Before an entry at this moment, the history is legal, and the link agrees with it.
-pub record Before (l : List Noted) (t : ℕ) (p : Peer) (s : LinkState) : Type 0 where
+pub record Before (start : Start) (l : List Noted) (t : ℕ) (p : Peer) (s : LinkState) : Type 0 where
   pub legal : Legal l
+  pub started : start.moment ≤ t
   pub later : newest l ≤ t
-  pub agrees : Agrees l p s
+  pub agrees : Agrees start l p s
 
 -- A message may be sent: the journal isn't sealed, and nobody is owed an ACK or RST.
 pub record MaySend (l : List Noted) : Type 0 where
@@ -41,9 +42,9 @@ pub record MaySend (l : List Noted) : Type 0 where
   pub quiet : owed l ≡ None
 
 -- an entry that may follow, after which the link is this and agrees
-pub record Leads (l : List Noted) (p : Peer) (x : Noted) (s : LinkState) : Type 0 where
+pub record Leads (start : Start) (l : List Noted) (p : Peer) (x : Noted) (s : LinkState) : Type 0 where
   pub follows : Follows l x.written.moment x.written.deed x.note
-  pub agrees : Agrees (x ∷ l) p s
+  pub agrees : Agrees start (x ∷ l) p s
 
 -- Entries that are nothing to any link: of connections, an ACK or RST, and what is heard and is nothing new.
 abbrev pub IsSilent : Deed → Note → Type 0
@@ -59,8 +60,8 @@ IsSilent _ _ = ⊥
 
 abbrev pub SilentAgrees : Type 0
 SilentAgrees =
-    (l : List Noted) (t : ℕ) (p : Peer) (s : LinkState) (d : Deed) (note : Note)
-    → Before l t p s → IsSilent d note → Agrees (noted t d note ∷ l) p s
+    (start : Start) (l : List Noted) (t : ℕ) (p : Peer) (s : LinkState) (d : Deed) (note : Note)
+    → Before start l t p s → IsSilent d note → Agrees start (noted t d note ∷ l) p s
 
 -- A copy is sent once it is due.
 abbrev pub copy : ℕ → Peer → Outstanding → ℕ → Noted
@@ -68,11 +69,11 @@ copy t p o sending = noted t (Sends p o.datagram None) (Copies sending)
 
 abbrev pub CopyFollows : Type 0
 CopyFollows =
-    (l : List Noted) (t : ℕ) (p : Peer) (s : LinkState) (o : Outstanding)
-    → Before l t p s → MaySend l
+    (start : Start) (l : List Noted) (t : ℕ) (p : Peer) (s : LinkState) (o : Outstanding)
+    → Before start l t p s → MaySend l
     → s.outstanding ≡ Some o → o.retransmissions < MAX_RETRANSMIT → due_of o ≤ ticked l
     → (i : ℕ) × (f : FirstSending) × (first_at l i ≡ Some f) × (same_peer f.peer p ≡ true)
-    × Leads l p (copy t p o i) (with_copy t s o)
+    × Leads start l p (copy t p o i) (with_copy t s o)
 
 -- The message that waits first is sent where nothing is outstanding.
 abbrev pub first : ℕ → Peer → Outstanding → ℕ → Content → Noted
@@ -80,33 +81,35 @@ first t p o opening m = noted t (Sends p o.datagram (Some o.timeout)) (First ope
 
 abbrev pub NextFollows : Type 0
 NextFollows =
-    (l : List Noted) (t : ℕ) (p : Peer) (s : LinkState) (w : Waiting) (ws : List Waiting)
-    → Before l t p s → MaySend l
+    (start : Start) (l : List Noted) (t : ℕ) (p : Peer) (s : LinkState) (w : Waiting) (ws : List Waiting)
+    → Before start l t p s → MaySend l
     → w.first_mid < 65536 → mids_used l t p < MAX_MESSAGE_IDS
     → s.outstanding ≡ None → s.waiting ≡ w ∷ ws
-    → (o : ℕ) × (m : Content) × (is_waiting l p o ≡ true) × IsWaitingFor l o w × (m.token ≡ w.token)
-    × Leads l p (first t p (first_sent t s.last_mid w) o m) (with_outstanding s ws (first_sent t s.last_mid w))
+    → (o : ℕ) × (m : Content) × (is_waiting l p o ≡ true) × IsWaitingFor start l o w × (m.token ≡ w.token)
+    × Leads start l p (first t p (first_sent t s.last_mid w) o m) (with_outstanding s ws (first_sent t s.last_mid w))
 
 -- Its message waits last where an ask opens an exchange with the peer.
 abbrev pub QueuedAgrees : Type 0
 QueuedAgrees =
-    (l : List Noted) (t : ℕ) (p : Peer) (s : LinkState)
+    (start : Start) (l : List Noted) (t : ℕ) (p : Peer) (s : LinkState)
     (c : ℕ) (a : Ask) (q : CoapRequest) (token text : List ℕ) (word : ℕ)
-    → Before l t p s → q.peer ≡ p → Spells (request_message q 0 token) text
-    → length token ≡ 8 → bears_token l token ≡ false → token_number token ≡ issued l
-    → Agrees (noted t (Asks c a) (Begins q) ∷ l) p (queued t (waits token text word) s)
+    → Before start l t p s → q.peer ≡ p → Spells (request_message q 0 token) text
+    → length token ≡ 8 → bears_token l token ≡ false → token_number token ≡ start.issued + issued l
+    → Agrees start (noted t (Asks c a) (Begins q) ∷ l) p (queued t (waits token text word) s)
 
 -- What is heard asks for just what the link answers (RFC 7252 sections 4.2, 4.3, 4.5), which is this after it.
-pub record Heeds (l : List Noted) (p : Peer) (x : Noted) (c : Option Confirmation) (s : LinkState) : Type 0 where
+pub record Heeds
+    (start : Start) (l : List Noted) (p : Peer) (x : Noted) (c : Option Confirmation) (s : LinkState)
+    : Type 0 where
   pub owes : owed (x ∷ l) ≡ c
-  pub agrees : Agrees (x ∷ l) p s
+  pub agrees : Agrees start (x ∷ l) p s
 
 -- A datagram that repeats one changes nothing.
 abbrev pub RepeatAgrees : Type 0
 RepeatAgrees =
-    (l : List Noted) (t : ℕ) (p : Peer) (s : LinkState) (d : List ℕ) (m : Content) (j : ℕ)
-    → Before l t p s → repeated l t p m ≡ Some j
-    → Heeds l p (noted t (Hears p d) (Repeats m j)) (due p m.mid (verdict_of t s m).reply) s
+    (start : Start) (l : List Noted) (t : ℕ) (p : Peer) (s : LinkState) (d : List ℕ) (m : Content) (j : ℕ)
+    → Before start l t p s → repeated l t p m ≡ Some j
+    → Heeds start l p (noted t (Hears p d) (Repeats m j)) (due p m.mid (verdict_of t s m).reply) s
 
 -- One that is no message changes nothing, and is reset where it begins as a CON does.
 abbrev pub reset : Peer → Option ℕ → Option Confirmation
@@ -115,9 +118,9 @@ reset p (Some mid) = due p mid R.Rst
 
 abbrev pub GarbledAgrees : Type 0
 GarbledAgrees =
-    (l : List Noted) (t : ℕ) (p : Peer) (s : LinkState) (d : List ℕ)
-    → Before l t p s
-    → Heeds l p (noted t (Hears p d) Garbled) (reset p (reset_for d)) s
+    (start : Start) (l : List Noted) (t : ℕ) (p : Peer) (s : LinkState) (d : List ℕ)
+    → Before start l t p s
+    → Heeds start l p (noted t (Hears p d) Garbled) (reset p (reset_for d)) s
 
 -- The token under which nothing is awaited any more: that of a response that is told, or of a message that is reset.
 abbrev pub ended_token : News → List ℕ → Option (List ℕ)
@@ -148,9 +151,9 @@ heard l t p d m = noted t (Hears p d) (Says m (answers l p m) unobserved)
 
 abbrev pub SaysAgrees : Type 0
 SaysAgrees =
-    (l : List Noted) (t : ℕ) (p : Peer) (s : LinkState) (d : List ℕ) (m : Content)
-    → Before l t p s → repeated l t p m ≡ None → can_be_remembered l t p m ≡ true
-    → Heeds l p (heard l t p d m) (due p m.mid (verdict_of t s m).reply) (heard_link t m.mid m.token (verdict_of t s m) s)
+    (start : Start) (l : List Noted) (t : ℕ) (p : Peer) (s : LinkState) (d : List ℕ) (m : Content)
+    → Before start l t p s → repeated l t p m ≡ None → can_be_remembered l t p m ≡ true
+    → Heeds start l p (heard l t p d m) (due p m.mid (verdict_of t s m).reply) (heard_link t m.mid m.token (verdict_of t s m) s)
 
 -- A tick gives up what was sent five times, and ends exchanges: what bears a token of these is neither awaited nor
 -- sent any more (RFC 7252 sections 4.2, 4.8.2).
@@ -181,35 +184,35 @@ pub record EndTokens (l : List Noted) (t : ℕ) (p : Peer) (s : LinkState) (gone
 
 abbrev pub PassAgrees : Type 0
 PassAgrees =
-    (l : List Noted) (t : ℕ) (p : Peer) (s : LinkState) (gone : List ℕ → Bool)
-    → Before l t p s → EndTokens l t p s gone
-    → Agrees (noted t Passes Plain ∷ l) p (passed_link t gone s)
+    (start : Start) (l : List Noted) (t : ℕ) (p : Peer) (s : LinkState) (gone : List ℕ → Bool)
+    → Before start l t p s → EndTokens l t p s gone
+    → Agrees start (noted t Passes Plain ∷ l) p (passed_link t gone s)
 
 -- What concerns another peer leaves the link: an ask that opens an exchange with that one, a message of its that
 -- waited, a copy of one, and what is heard from it.
 abbrev pub AskElsewhere : Type 0
 AskElsewhere =
-    (l : List Noted) (t : ℕ) (p : Peer) (s : LinkState) (c : ℕ) (a : Ask) (q : CoapRequest)
-    → Before l t p s → same_peer q.peer p ≡ false
-    → Agrees (noted t (Asks c a) (Begins q) ∷ l) p s
+    (start : Start) (l : List Noted) (t : ℕ) (p : Peer) (s : LinkState) (c : ℕ) (a : Ask) (q : CoapRequest)
+    → Before start l t p s → same_peer q.peer p ≡ false
+    → Agrees start (noted t (Asks c a) (Begins q) ∷ l) p s
 
 abbrev pub FirstElsewhere : Type 0
 FirstElsewhere =
-    (l : List Noted) (t : ℕ) (p r : Peer) (s : LinkState)
+    (start : Start) (l : List Noted) (t : ℕ) (p r : Peer) (s : LinkState)
     (bytes : List ℕ) (timeout : Option ℕ) (o : ℕ) (m : Content) (w : Waiting)
-    → Before l t p s → same_peer r p ≡ false
-    → is_waiting l r o ≡ true → IsWaitingFor l o w → m.token ≡ w.token
-    → Agrees (noted t (Sends r bytes timeout) (First o m) ∷ l) p s
+    → Before start l t p s → same_peer r p ≡ false
+    → is_waiting l r o ≡ true → IsWaitingFor start l o w → m.token ≡ w.token
+    → Agrees start (noted t (Sends r bytes timeout) (First o m) ∷ l) p s
 
 abbrev pub CopyElsewhere : Type 0
 CopyElsewhere =
-    (l : List Noted) (t : ℕ) (p r : Peer) (s : LinkState) (bytes : List ℕ) (i : ℕ) (f : FirstSending)
-    → Before l t p s → first_at l i ≡ Some f → same_peer f.peer p ≡ false
-    → Agrees (noted t (Sends r bytes None) (Copies i) ∷ l) p s
+    (start : Start) (l : List Noted) (t : ℕ) (p r : Peer) (s : LinkState) (bytes : List ℕ) (i : ℕ) (f : FirstSending)
+    → Before start l t p s → first_at l i ≡ Some f → same_peer f.peer p ≡ false
+    → Agrees start (noted t (Sends r bytes None) (Copies i) ∷ l) p s
 
 abbrev pub SaysElsewhere : Type 0
 SaysElsewhere =
-    (l : List Noted) (t : ℕ) (p r : Peer) (s : LinkState) (d : List ℕ) (m : Content) (to : Option ℕ)
-    → Before l t p s → same_peer r p ≡ false
+    (start : Start) (l : List Noted) (t : ℕ) (p r : Peer) (s : LinkState) (d : List ℕ) (m : Content) (to : Option ℕ)
+    → Before start l t p s → same_peer r p ≡ false
     → ((i : ℕ) (f : FirstSending) → to ≡ Some i → first_at l i ≡ Some f → same_peer f.peer p ≡ false)
-    → Agrees (noted t (Hears r d) (Says m to unobserved) ∷ l) p s
+    → Agrees start (noted t (Hears r d) (Says m to unobserved) ∷ l) p s
