@@ -41,7 +41,7 @@ use Rattle.exchange_model.proofs.Firsts.{first-leads}
 use Rattle.exchange_model.proofs.Grounds.{GoesOn, same-goes}
 use Rattle.exchange_model.proofs.Lists.{all-map}
 use Rattle.exchange_model.proofs.Quiet.{confirms-leads}
-use Rattle.exchange_model.proofs.Silent.{later-than}
+use Rattle.exchange_model.proofs.Silent.{now-from, later-than}
 use Rattle.exchange_model.proofs.Tables.{all-links, link-other}
 
 pub record Amid (l : List Noted) (t : ℕ) (S : State) : Type 0 where
@@ -107,7 +107,7 @@ tick-before l t S b = let tick = ticked-newest l b.reads.legal in let later = la
 few-used : (l : List Noted) (t : ℕ) (p : Peer) (S : State) (w : Waiting) (ws : List Waiting) → Amid l t S → (link_of S.links p).waiting ≡ w ∷ ws → mids_used l t p < MAX_MESSAGE_IDS
 few-used l t p S w ws a e =
     let s = link_of S.links p in
-    let same : count_by (is_in_use t) s.given ≡ mids_used l t p = (a.before.reads.links_are p).given t (later-than l t S a.before) in
+    let same : count_by (is_in_use t) s.given ≡ mids_used l t p = (a.before.reads.links_are p).given t (now-from l t S a.before) in
     let most = count_by-le-length (is_in_use t) s.given in
     let enough = (a.mids p).enough in
     let size : length s.waiting ≡ length (w ∷ ws) = ap length e in

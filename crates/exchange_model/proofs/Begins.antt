@@ -18,7 +18,7 @@ use Rattle.history_laws.specs.Exchanges.{openings, is_going, is_waiting, waiting
 use Rattle.history_laws.specs.Exchanges as H
 use Rattle.history_laws.specs.Justified.{Follows, AskNote}
 use Rattle.history_laws.proofs.CallerLemmas.{all-more, all-push, at-new, contains-none, entries-length, eqb-itself, filter-push, first-or-later, not-yet, opened-issued, opened-rank, rank-below, unbegun, waiting-all, waiting-goes}
-use Rattle.history_links.specs.Agrees.{WaitIn, IsWaitingFor, Agrees}
+use Rattle.history_links.specs.Agrees.{Start, WaitIn, IsWaitingFor, Agrees}
 use Rattle.history_links.proofs.CallerLemmas.{ask-elsewhere, queued-agrees}
 use Rattle.exchange_model.specs.declared.kept.Exchange.{Exchange}
 use Rattle.exchange_model.specs.State.{PeerLink, State, link_of, with_link}
@@ -28,24 +28,24 @@ use Rattle.exchange_model.specs.Laws.{BeginsLeads}
 use Rattle.exchange_model.proofs.Lists.{all-both}
 use Rattle.exchange_model.proofs.Opened.{OpenIn, open-ones}
 use Rattle.exchange_model.proofs.Tables.{exchange-stays, all-links}
-use Rattle.exchange_model.proofs.Silent.{later-than, link-before}
+use Rattle.exchange_model.proofs.Silent.{later-than, link-before, moment-now}
 
 -- lists
 
 -- what waits has a number that was issued
 
-pub waits-for-one : (l : List Noted) (P : ℕ → Type 0) (os : List ℕ) (ws : List Waiting) (v : Waiting) → AllByRecursion P os → WaitIn l os ws → Contains ws v
-    → (o : ℕ) × IsWaitingFor l o v × P o
-waits-for-one l P os [] v all a h = absurd (contains-none v h)
-waits-for-one l P [] (w ∷ ws) v all a h = absurd a
-waits-for-one l P (o ∷ os) (w ∷ ws) v all a h = elim (first-or-later w ws v h) [
-  | inl e ↦ (o, subst (IsWaitingFor l o) e a.0, all.0)
-  | inr k ↦ waits-for-one l P os ws v all.1 a.1 k
+pub waits-for-one : (start : Start) (l : List Noted) (P : ℕ → Type 0) (os : List ℕ) (ws : List Waiting) (v : Waiting) → AllByRecursion P os → WaitIn start l os ws → Contains ws v
+    → (o : ℕ) × IsWaitingFor start l o v × P o
+waits-for-one start l P os [] v all a h = absurd (contains-none v h)
+waits-for-one start l P [] (w ∷ ws) v all a h = absurd a
+waits-for-one start l P (o ∷ os) (w ∷ ws) v all a h = elim (first-or-later w ws v h) [
+  | inl e ↦ (o, subst (IsWaitingFor start l o) e a.0, all.0)
+  | inr k ↦ waits-for-one start l P os ws v all.1 a.1 k
 ]
 
 below-issued : (l : List Noted) (S : State) (p : Peer) (v : Waiting) → Reads l S → Contains (link_of S.links p).waiting v → token_number v.token < S.issued
 below-issued l S p v r h =
-    let one = waits-for-one l (λ (o : ℕ). is_waiting l p o ≡ true) (waiting l p) (link_of S.links p).waiting v (waiting-all l p) (r.links_are p).waits h in
+    let one = waits-for-one r.start l (λ (o : ℕ). is_waiting l p o ≡ true) (waiting l p) (link_of S.links p).waiting v (waiting-all l p) (r.links_are p).waits h in
     let less = rank-below l one.0 _ r.legal one.1.opening (ap is_none (waiting-goes l p one.0 one.2)) in
     let number = one.1.numbered in
     let issued = r.issued_are in
@@ -89,28 +89,30 @@ begins-leads l t c a q token text word S b may who sense room spelled size numbe
     let fresh : bears_token l token ≡ false = unborne token S.issued number (firsts l) r.tokens_are in
     let link = link-before l t S b in
     let s = queued t w (link_of S.links q.peer) in
-    let kept = all-both (OpenIn l) _ S.exchanges (open-ones l S r) r.waiting_are in
+    let kept = all-both (OpenIn b.reads.start l) _ S.exchanges (open-ones l S r) r.waiting_are in
     let begins : is_some (H.begun n (length l)) ≡ true = rw (eqb-itself (length l)) refl in
     record {
       follows = follows;
       reads = record {
+        start = r.start;
+        few = r.few;
         entries_are = ap (λ (es : List Written). es ++ record { moment = t; deed = Asks c a } ∷ []) r.entries_are;
         legal = (r.legal, later, follows);
         sealed_is = r.sealed_is;
-        moment_is = refl;
+        moment_is = moment-now l t S b;
         opened_are = r.opened_are;
-        issued_are = opened-issued x l r.legal begins (ap is_none none.1) ∙ ap (λ (k : ℕ). k + 1) r.issued_are;
+        issued_are = (let more = opened-issued x l r.legal begins (ap is_none none.1) in let before = r.issued_are in omega (arith, more, before));
         conns_are = rw (r.conns_are, here) refl;
         keys = filter-push (is_going n) (openings l) (length l) (ap is_none none.1)
             ∙ (ap (λ (os : List ℕ). os ++ length l ∷ []) r.keys
             ∙ (ap (λ (k : ℕ). map opening_of S.exchanges ++ k ∷ []) (sym here) ∙ sym (map_push opening_of S.exchanges e)));
-        exchanges_are = all-push (ExchangeIn n) S.exchanges e (all-more (ExchangeIn l) (ExchangeIn n) (λ y h. exchange-stays x l y (λ k. k) refl h) S.exchanges r.exchanges_are)
-            (subst (λ (k : ℕ). ExchangeIn n (record e { opening = k })) (sym here) (record {
+        exchanges_are = all-push (ExchangeIn b.reads.start n) S.exchanges e (all-more (ExchangeIn b.reads.start l) (ExchangeIn b.reads.start n) (λ y h. exchange-stays x l y (λ k. k) refl h) S.exchanges r.exchanges_are)
+            (subst (λ (k : ℕ). ExchangeIn b.reads.start n (record e { opening = k })) (sym here) (record {
               request = q;
               opening = rw (eqb-itself (length l)) refl;
               peer = refl;
               method = refl;
-              number = opened-rank x l r.legal ∙ (r.issued_are ∙ sym number);
+              number = ap (λ (k : ℕ). r.start.issued + k) (opened-rank x l r.legal) ∙ (r.issued_are ∙ sym number);
               sending = none.0;
               sent = fresh;
               ask = a;
@@ -120,16 +122,16 @@ begins-leads l t c a q token text word S b may who sense room spelled size numbe
         waiting_are = waits-with q.peer s S.links (S.exchanges ++ e ∷ [])
             (all-push (λ (y : Exchange). y.peer ≡ q.peer → WaitsUnder s.waiting y) S.exchanges e (all-more _ _ (λ y h at_q. old y h at_q) S.exchanges kept) (λ at_q. new))
             (all-push (λ (y : Exchange). WaitsUnder (link_of S.links y.peer).waiting y) S.exchanges e r.waiting_are (λ v h same. absurd (above v h same)));
-        links_are = all-links (λ (p : Peer) (v : LinkState). Agrees n p v) q.peer s S.links
-            (queued-agrees l t q.peer (link_of S.links q.peer) c a q token text word (link q.peer) refl spelled size fresh (number ∙ sym r.issued_are))
-            (λ p other. ask-elsewhere l t p (link_of S.links p) c a q (link p) other);
+        links_are = all-links (λ (p : Peer) (v : LinkState). Agrees b.reads.start n p v) q.peer s S.links
+            (queued-agrees _ l t q.peer (link_of S.links q.peer) c a q token text word (link q.peer) refl spelled size fresh (number ∙ sym r.issued_are))
+            (λ p other. ask-elsewhere _ l t p (link_of S.links p) c a q (link p) other);
       };
     }
   where
     above : (v : Waiting) → Contains (link_of S.links q.peer).waiting v → token_number v.token ≡ token_number token → ⊥
     above v h same = let less = below-issued l S q.peer v b.reads h in omega (arith, less, same, number)
 
-    old : (y : Exchange) → OpenIn l y × WaitsUnder (link_of S.links y.peer).waiting y → y.peer ≡ q.peer
+    old : (y : Exchange) → OpenIn b.reads.start l y × WaitsUnder (link_of S.links y.peer).waiting y → y.peer ≡ q.peer
         → WaitsUnder ((link_of S.links q.peer).waiting ++ waits token text word ∷ []) y
     old y h at_q v has same = elim (Contains-push_cases (link_of S.links q.peer).waiting (waits token text word) v has) [
       | inl k ↦ h.1 v (subst (λ (p : Peer). Contains (link_of S.links p).waiting v) (sym at_q) k) same

@@ -1,4 +1,5 @@
 -- What an ask leaves.
+use Rattle.history_links.specs.Agrees.{Start}
 use Rattle.std.proofs.Common.{◌≡◌, ℕ, ◌+◌, Bool, true, false, cond, List, [], ◌∷◌, ◌++◌, length, map, Option, Some, None, refl, ap, ◌∙◌, arith, length-append}
 use Rattle.std.specs.Prelude.{is_none, option_map}
 use Rattle.std.specs.List.{AllByRecursion}
@@ -108,7 +109,7 @@ begins-enter t c a q n S may drained numbered sense place =
     turn = turn-at-once w s.outstanding s.waiting
         (turns _ s.outstanding s.waiting (may.kept.rests.links q.peer))
 
-    other : (e : Exchange) → OpenIn may.kept.reading e → (b : Bool)
+    other : (e : Exchange) → OpenIn may.kept.rests.reads.start may.kept.reading e → (b : Bool)
         → bytes_eq e.token n.token ≡ b → b ≡ false
     other e h false k = refl
     other e h true k =
@@ -120,6 +121,6 @@ begins-enter t c a q n S may drained numbered sense place =
         absurd (omega (arith, same, less, mine, issued, next))
 
     fresh : AllByRecursion (λ (e : Exchange). is_under n.token e ≡ false) S.exchanges
-    fresh = all-more (OpenIn may.kept.reading) (λ (e : Exchange). is_under n.token e ≡ false)
+    fresh = all-more (OpenIn may.kept.rests.reads.start may.kept.reading) (λ (e : Exchange). is_under n.token e ≡ false)
         (λ e h. other e h (bytes_eq e.token n.token) refl) S.exchanges
         (open-ones may.kept.reading S may.kept.rests.reads)

@@ -20,7 +20,7 @@ use Rattle.history_laws.specs.Transmissions.{FirstSending, first_at}
 use Rattle.history_laws.specs.Exchanges.{awaited}
 use Rattle.history_laws.specs.Hearing.{went_under, went_as, is_under, is_as, open_at, answers_by, answers}
 use Rattle.history_laws.proofs.CallerLemmas.{and-left, and-right, find-any, find-some}
-use Rattle.history_links.specs.Agrees.{TurnIn, Agrees}
+use Rattle.history_links.specs.Agrees.{Start, TurnIn, Agrees}
 use Rattle.history_links.specs.Steps.{ended_token}
 use Rattle.history_links.proofs.CallerLemmas.{out-first, out-peer, token-found}
 
@@ -46,7 +46,7 @@ under-borne l p token i e =
       token_is = f.2;
     }
 
-if-awaited : (l : List Noted) (p : Peer) (s : LinkState) (m : Content) (of : List ℕ) → Agrees l p s → list_any (is_awaited m.token) s.awaited ≡ true → Some m.token ≡ Some of → IsBorne l p of
+if-awaited : {start : Start} (l : List Noted) (p : Peer) (s : LinkState) (m : Content) (of : List ℕ) → Agrees start l p s → list_any (is_awaited m.token) s.awaited ≡ true → Some m.token ≡ Some of → IsBorne l p of
 if-awaited l p s m of a e same =
     let one = any-one (λ (i : ℕ). went_under p m.token (first_at l i)) (awaited l) (sym (a.awaits m.token) ∙ e) in
     subst (IsBorne l p) (same_Some m.token of same) (under-borne l p m.token one.0 one.1)
@@ -56,7 +56,7 @@ pub split : (c : Bool) (x y : Verdict) (token of : List ℕ) → ended_token (co
 split true x y token of h = inl (refl, h)
 split false x y token of h = inr (refl, h)
 
-new-borne : (l : List Noted) (p : Peer) (s : LinkState) (m : Content) (of : List ℕ) (r e : Reply) → Agrees l p s → ended_token (new_verdict s m r e).news m.token ≡ Some of → IsBorne l p of
+new-borne : {start : Start} (l : List Noted) (p : Peer) (s : LinkState) (m : Content) (of : List ℕ) (r e : Reply) → Agrees start l p s → ended_token (new_verdict s m r e).news m.token ≡ Some of → IsBorne l p of
 new-borne l p s m of r e a h = elim (split (eqb m.code 0) _ _ m.token of h) [
   | inl w ↦ absurd (nothing w.1)
   | inr w ↦ elim (split (ltb 31 m.code && list_any (is_awaited m.token) s.awaited) _ _ m.token of w.1) [
@@ -68,7 +68,7 @@ new-borne l p s m of r e a h = elim (split (eqb m.code 0) _ _ m.token of h) [
     nothing : None ≡ Some of → ⊥
     nothing e = cc
 
-heard-borne : (l : List Noted) (t : ℕ) (p : Peer) (s : LinkState) (m : Content) (of : List ℕ) (confirms : Bool) (v : Option Heard) → Agrees l p s
+heard-borne : {start : Start} (l : List Noted) (t : ℕ) (p : Peer) (s : LinkState) (m : Content) (of : List ℕ) (confirms : Bool) (v : Option Heard) → Agrees start l p s
     → ended_token (heard_verdict t s m confirms v).news m.token ≡ Some of → IsBorne l p of
 heard-borne l t p s m of confirms (Some k) a h = absurd cc
 heard-borne l t p s m of confirms None a h = elim (split (ltb (count_by (is_fresh t) s.heard) 1024) _ _ m.token of h) [
@@ -79,14 +79,14 @@ heard-borne l t p s m of confirms None a h = elim (split (ltb (count_by (is_fres
     nothing : None ≡ Some of → ⊥
     nothing e = cc
 
-if-acked : (l : List Noted) (p : Peer) (s : LinkState) (m : Content) (of : List ℕ) → Agrees l p s → (b : Bool) → list_any (is_awaited_by_ack m.mid m.token) s.awaited ≡ b
+if-acked : {start : Start} (l : List Noted) (p : Peer) (s : LinkState) (m : Content) (of : List ℕ) → Agrees start l p s → (b : Bool) → list_any (is_awaited_by_ack m.mid m.token) s.awaited ≡ b
     → ended_token (cond b Response Quiet) m.token ≡ Some of → IsBorne l p of
 if-acked l p s m of a false e h = absurd cc
 if-acked l p s m of a true e h =
     let one = any-one (λ (i : ℕ). went_under p m.token (first_at l i) && went_as p m.mid (first_at l i)) (awaited l) (sym (a.acks m.mid m.token) ∙ e) in
     subst (IsBorne l p) (same_Some m.token of h) (under-borne l p m.token one.0 (and-left (went_under p m.token (first_at l one.0)) _ one.1))
 
-ack-borne : (l : List Noted) (p : Peer) (s : LinkState) (m : Content) (of : List ℕ) → Agrees l p s → ended_token (ack_verdict s m).news m.token ≡ Some of → IsBorne l p of
+ack-borne : {start : Start} (l : List Noted) (p : Peer) (s : LinkState) (m : Content) (of : List ℕ) → Agrees start l p s → ended_token (ack_verdict s m).news m.token ≡ Some of → IsBorne l p of
 ack-borne l p s m of a h = elim (split (eqb m.code 0) _ _ m.token of h) [
   | inl w ↦ absurd (nothing w.1)
   | inr w ↦ elim (split (ltb 31 m.code) _ _ m.token of w.1) [
@@ -108,7 +108,7 @@ rst-borne l p m of (Some o) a h = elim (split ((eqb m.code 0) && (eqb o.mid m.mi
     nothing : None ≡ Some of → ⊥
     nothing e = cc
 
-pub ended-borne : (l : List Noted) (t : ℕ) (p : Peer) (s : LinkState) (m : Content) (of : List ℕ) (k : MsgType) → Agrees l p s
+pub ended-borne : {start : Start} (l : List Noted) (t : ℕ) (p : Peer) (s : LinkState) (m : Content) (of : List ℕ) (k : MsgType) → Agrees start l p s
     → ended_token (verdict_by t s m k).news m.token ≡ Some of → IsBorne l p of
 ended-borne l t p s m of Con a h = heard-borne l t p s m of true (find (is_repeat t m.mid) s.heard) a h
 ended-borne l t p s m of Non a h = heard-borne l t p s m of false (find (is_repeat t m.mid) s.heard) a h

@@ -14,14 +14,14 @@ use Rattle.history_laws.specs.Transmissions.{FirstSending, first_at, Transmissio
 use Rattle.history_laws.specs.Exchanges.{begun, is_late, expires as ends_at, waits_for, Turn, Sent, Replied, Rejected, Expired, Nothing, turn, waits_by, replies, end_here, end_by, end_of, open_exchanges}
 use Rattle.history_laws.specs.Justified.{Follows, Legal}
 use Rattle.history_laws.proofs.CallerLemmas.{all-more, all-of, contains-mapped, contains-none, first-or-later, first-stands, first-waits, may-be, none-is, open-exactly, outstanding-last, sent-for, some-is, turn-sent, waiting-goes, waits-first}
-use Rattle.history_links.specs.Agrees.{way_of, TurnIn, Agrees}
+use Rattle.history_links.specs.Agrees.{Start, way_of, TurnIn, Agrees}
 use Rattle.history_links.specs.Steps.{is_over}
 use Rattle.history_links.proofs.CallerLemmas.{is-outstanding, one-token, out-first}
 use Rattle.exchange_model.specs.declared.kept.Exchange.{Exchange}
 use Rattle.exchange_model.specs.State.{PeerLink, State, link_of}
 use Rattle.exchange_model.specs.Reads.{IsSentUnder, ExchangeIn, opening_of, Reads}
 use Rattle.exchange_model.specs.Steps.{is_under, is_past, expires, is_gone}
-use Rattle.exchange_model.proofs.Opened.{OpenIn, one-rank, open-ones}
+use Rattle.exchange_model.proofs.Opened.{cancel, OpenIn, one-rank, open-ones}
 
 -- what is given up
 
@@ -68,7 +68,7 @@ given-up-alike l t i p token f (Some o) legal at_i at_p under a = by (bytes_eq o
 
 -- what a tick ends
 
-pub expires-alike : (l : List Noted) (t : ℕ) (links : List PeerLink) (e : Exchange) → Legal l → ((p : Peer) → Agrees l p (link_of links p)) → ExchangeIn l e
+pub expires-alike : {start : Start} (l : List Noted) (t : ℕ) (links : List PeerLink) (e : Exchange) → Legal l → ((p : Peer) → Agrees start l p (link_of links p)) → ExchangeIn start l e
     → expires t links e ≡ ends_at l e.opening t (waits_for l e.opening)
 expires-alike l t links e legal agrees a = by e.sending a.sent ∙ ap (ends_at l e.opening t) (sym a.sending)
   where
@@ -111,11 +111,11 @@ awaited-open l o i legal e =
 
 -- the exchange that is open with this number
 
-pub kept-at : (l : List Noted) (S : State) (o : ℕ) → Reads l S → Contains (open_exchanges l) o
-    → (e : Exchange) × Contains S.exchanges e × (e.opening ≡ o) × ExchangeIn l e
+pub kept-at : (l : List Noted) (S : State) (o : ℕ) (r : Reads l S) → Contains (open_exchanges l) o
+    → (e : Exchange) × Contains S.exchanges e × (e.opening ≡ o) × ExchangeIn r.start l e
 kept-at l S o r h =
     let k = contains-mapped opening_of S.exchanges o (subst (λ (os : List ℕ). Contains os o) r.keys h) in
-    (k.0, k.1, k.2, all-of (ExchangeIn l) S.exchanges k.0 r.exchanges_are k.1)
+    (k.0, k.1, k.2, all-of (ExchangeIn r.start l) S.exchanges k.0 r.exchanges_are k.1)
 
 -- the tokens of those that end
 
@@ -147,14 +147,14 @@ pub gone-of : (l : List Noted) (t : ℕ) (S : State) (e : Exchange) (o : ℕ) (t
     → ends_at l o t (waits_for l o) ≡ is_gone t S token
 gone-of l t S e o token r h at under =
     sym (one-tells (is_under token) (expires t S.links) (ends_at l o t (waits_for l o)) S.exchanges e
-    (all-more (OpenIn l) _ one S.exchanges (open-ones l S r)) h ((bytes_eq-Decides e.token token).1 under))
+    (all-more (OpenIn r.start l) _ one S.exchanges (open-ones l S r)) h ((bytes_eq-Decides e.token token).1 under))
   where
-    mine : OpenIn l e
-    mine = all-of (OpenIn l) S.exchanges e (open-ones l S r) h
+    mine : OpenIn r.start l e
+    mine = all-of (OpenIn r.start l) S.exchanges e (open-ones l S r) h
 
-    one : (x : Exchange) → OpenIn l x → is_under token x ≡ true → expires t S.links x ≡ ends_at l o t (waits_for l o)
+    one : (x : Exchange) → OpenIn r.start l x → is_under token x ≡ true → expires t S.links x ≡ ends_at l o t (waits_for l o)
     one x a same =
         let tokens = (bytes_eq-Decides x.token token).0 same ∙ sym under in
         let ranks = a.0.number ∙ (ap token_number tokens ∙ sym mine.0.number) in
-        let there = one-rank l x.opening e.opening _ _ r.legal a.0.opening mine.0.opening a.1 mine.1 ranks in
+        let there = one-rank l x.opening e.opening _ _ r.legal a.0.opening mine.0.opening a.1 mine.1 (cancel r.start.issued _ _ ranks) in
         expires-alike l t S.links x r.legal r.links_are a.0 ∙ ap (λ (k : ℕ). ends_at l k t (waits_for l k)) (there ∙ at)

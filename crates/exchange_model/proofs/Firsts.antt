@@ -1,5 +1,5 @@
 -- The message that waits first goes out.
-use Rattle.std.proofs.Common.{◌≡◌, ℕ, zero, ◌<◌, ◌⊎◌, inl, inr, Bool, true, false, cond, eqb, List, [], ◌∷◌, ◌++◌, length, map, Option, Some, refl, sym, ap, subst, ◌∙◌, arith}
+use Rattle.std.proofs.Common.{◌≡◌, ℕ, zero, ◌+◌, ◌<◌, ◌⊎◌, inl, inr, Bool, true, false, cond, eqb, List, [], ◌∷◌, ◌++◌, length, map, Option, Some, refl, sym, ap, subst, ◌∙◌, arith}
 use Rattle.std.specs.Prelude.{is_none}
 use Rattle.std.specs.List.{AllByRecursion, Contains}
 use Rattle.std.specs.Str.{bytes_eq}
@@ -21,7 +21,7 @@ use Rattle.history_laws.specs.Transmissions.{FirstSending, bears_token}
 use Rattle.history_laws.specs.Exchanges.{Begun, begun, goes_to, openings, is_going, is_waiting, waits_for, rank}
 use Rattle.history_laws.specs.Justified.{Legal}
 use Rattle.history_laws.proofs.CallerLemmas.{all-more, and-left, at-keeps, begun-keeps, contains-later, entries-length, eqb-itself, issued-same, rank-below, rank-keeps, replies-stay, waiting-goes}
-use Rattle.history_links.specs.Agrees.{IsWaitingFor, Agrees}
+use Rattle.history_links.specs.Agrees.{Start, IsWaitingFor, Agrees}
 use Rattle.history_links.proofs.CallerLemmas.{ends-sent, next-follows, send-elsewhere, sent, sent-quiet, waits-sent}
 use Rattle.exchange_model.specs.declared.kept.Exchange.{Exchange}
 use Rattle.exchange_model.specs.State.{link_of}
@@ -30,8 +30,8 @@ use Rattle.exchange_model.specs.Steps.{given_out, is_under, went_out}
 use Rattle.exchange_model.specs.Laws.{FirstLeads}
 use Rattle.exchange_model.proofs.Begins.{waits-with}
 use Rattle.exchange_model.proofs.Lists.{all-map, all-both}
-use Rattle.exchange_model.proofs.Opened.{OpenIn, one-rank, open-ones}
-use Rattle.exchange_model.proofs.Silent.{later-than, link-before}
+use Rattle.exchange_model.proofs.Opened.{cancel, OpenIn, one-rank, open-ones}
+use Rattle.exchange_model.proofs.Silent.{later-than, link-before, moment-now}
 use Rattle.exchange_model.proofs.Tables.{given-agrees, exchange-stays, all-links}
 
 keys-kept : (token : List ℕ) (i : ℕ) (es : List Exchange) → map opening_of es ≡ map opening_of (map (went_out token i) es)
@@ -43,12 +43,12 @@ keys-kept token i (e ∷ es) = rw (← keys-kept token i es) (ap (λ (o : ℕ). 
     by false = refl
 
 -- what is kept of an exchange after it
-mine : (l : List Noted) (t : ℕ) (p : Peer) (bytes : List ℕ) (timeout : Option ℕ) (o : ℕ) (m : Content) (w : Waiting)
-    → Legal l → is_waiting l p o ≡ true → (a : IsWaitingFor l o w) → m.token ≡ w.token → (e : Exchange) → ExchangeIn l e → is_going l e.opening ≡ true → (e.peer ≡ p → token_number w.token ≡ token_number e.token → w.token ≡ e.token)
-    → (b : Bool) → bytes_eq e.token w.token ≡ b → ExchangeIn (sent t p bytes timeout o m ∷ l) (cond b (record e { sending = Some (length l) }) e)
-mine l t p bytes timeout o m w legal waits a token e h goes_on under true is =
+mine : {start : Start} (l : List Noted) (t : ℕ) (p : Peer) (bytes : List ℕ) (timeout : Option ℕ) (o : ℕ) (m : Content) (w : Waiting)
+    → Legal l → is_waiting l p o ≡ true → (a : IsWaitingFor start l o w) → m.token ≡ w.token → (e : Exchange) → ExchangeIn start l e → is_going l e.opening ≡ true → (e.peer ≡ p → token_number w.token ≡ token_number e.token → w.token ≡ e.token)
+    → (b : Bool) → bytes_eq e.token w.token ≡ b → ExchangeIn start (sent t p bytes timeout o m ∷ l) (cond b (record e { sending = Some (length l) }) e)
+mine {start = start} l t p bytes timeout o m w legal waits a token e h goes_on under true is =
     let same : e.token ≡ w.token = (bytes_eq-Decides e.token w.token).0 is in
-    let at : o ≡ e.opening = one-rank l o e.opening _ _ legal a.opening h.opening (ap is_none (waiting-goes l p o waits)) goes_on (sym a.numbered ∙ (ap token_number (sym same) ∙ sym h.number)) in
+    let at : o ≡ e.opening = one-rank l o e.opening _ _ legal a.opening h.opening (ap is_none (waiting-goes l p o waits)) goes_on (cancel start.issued _ _ (sym a.numbered ∙ (ap token_number (sym same) ∙ sym h.number))) in
     let x = sent t p bytes timeout o m in
     let f : FirstSending = record { number = length l; moment = t; opening = o; peer = p; message = m } in
     let goes : goes_to p (begun l e.opening) ≡ true = subst (λ (k : ℕ). goes_to p (begun l k) ≡ true) at (and-left (goes_to p (begun l o)) _ waits) in
@@ -58,13 +58,13 @@ mine l t p bytes timeout o m w legal waits a token e h goes_on under true is =
       opening = begun-keeps x l e.opening _ h.opening;
       peer = h.peer;
       method = h.method;
-      number = rank-keeps x l e.opening _ h.opening (replies-stay (length l) _ _ (sent-quiet l t p bytes timeout o m e.opening)) ∙ h.number;
+      number = ap (λ (k : ℕ). start.issued + k) (rank-keeps x l e.opening _ h.opening (replies-stay (length l) _ _ (sent-quiet l t p bytes timeout o m e.opening))) ∙ h.number;
       sending = waits-sent l t p bytes timeout o m e.opening ∙ ap (λ (k : ℕ). cond (eqb o k) (Some (length l)) (waits_for l k)) (sym at) ∙ rw (eqb-itself o) refl;
       sent = (f, rw (eqb-itself (length l)) refl, sym (same_peer-same h.request.peer p peer) ∙ h.peer, token ∙ sym same);
       ask = h.ask;
       stands = at-keeps x l e.opening _ h.stands;
     }
-mine l t p bytes timeout o m w legal waits a token e h goes_on under false is =
+mine {start = start} l t p bytes timeout o m w legal waits a token e h goes_on under false is =
     let x = sent t p bytes timeout o m in
     exchange-stays x l e unborne (waits-sent l t p bytes timeout o m e.opening ∙ rw (other) refl) h
   where
@@ -79,7 +79,7 @@ mine l t p bytes timeout o m w legal waits a token e h goes_on under false is =
 
     other : eqb o e.opening ≡ false
     other = elim (eqb_tells o e.opening) [
-      | inl v ↦ absurd (differs (under (peer-of v.1) (a.numbered ∙ (ap (rank l) v.1 ∙ h.number))))
+      | inl v ↦ absurd (differs (under (peer-of v.1) (a.numbered ∙ (ap (λ (k : ℕ). start.issued + rank l k) v.1 ∙ h.number))))
       | inr v ↦ v.0
     ]
 
@@ -95,7 +95,7 @@ first-leads l t p w ws S b q small few free is =
     let r = b.reads in
     let later = later-than l t S b in
     let link = link-before l t S b in
-    let made = next-follows l t p (link_of S.links p) w ws (link p) q small few free is in
+    let made = next-follows _ l t p (link_of S.links p) w ws (link p) q small few free is in
     let o = made.0 in
     let m = made.1 in
     let v = first_sent t (link_of S.links p).last_mid w in
@@ -103,29 +103,31 @@ first-leads l t p w ws S b q small few free is =
     let n = x ∷ l in
     let s = given_out (with_outstanding (link_of S.links p) ws v) in
     let here : length S.entries ≡ length l = ap length (sym r.entries_are) ∙ entries-length l in
-    let kept = all-both (OpenIn l) _ S.exchanges (open-ones l S r) r.waiting_are in (
+    let kept = all-both (OpenIn b.reads.start l) _ S.exchanges (open-ones l S r) r.waiting_are in (
       o,
       m,
       record {
         follows = made.5.follows;
         reads = record {
+          start = r.start;
+          few = r.few;
           entries_are = ap (λ (es : List Written). es ++ record { moment = t; deed = Sends p v.datagram (Some v.timeout) } ∷ []) r.entries_are;
           legal = (r.legal, later, made.5.follows);
           sealed_is = r.sealed_is;
-          moment_is = refl;
+          moment_is = moment-now l t S b;
           opened_are = r.opened_are;
-          issued_are = issued-same x l refl (λ k goes. sent-quiet l t p v.datagram (Some v.timeout) o m k) ∙ r.issued_are;
+          issued_are = ap (λ (k : ℕ). r.start.issued + k) (issued-same x l refl (λ k goes. sent-quiet l t p v.datagram (Some v.timeout) o m k)) ∙ r.issued_are;
           conns_are = r.conns_are;
           keys = filter_agree (is_going n) (is_going l) (λ k. ap is_none (ends-sent l t p v.datagram (Some v.timeout) o m k)) (openings l) ∙ (r.keys ∙ keys-kept w.token (length S.entries) S.exchanges);
-          exchanges_are = subst (λ (k : ℕ). AllByRecursion (ExchangeIn n) (map (went_out w.token k) S.exchanges)) (sym here)
-              (all-map (went_out w.token (length l)) (ExchangeIn n) S.exchanges
+          exchanges_are = subst (λ (k : ℕ). AllByRecursion (ExchangeIn b.reads.start n) (map (went_out w.token k) S.exchanges)) (sym here)
+              (all-map (went_out w.token (length l)) (ExchangeIn b.reads.start n) S.exchanges
               (all-more _ _ (λ e h. mine l t p v.datagram (Some v.timeout) o m w r.legal made.2 made.3 made.4 e h.0.0 h.0.1 (first-waits e h.1) (bytes_eq e.token w.token) refl) S.exchanges kept));
           tokens_are = (let less = rank-below l o _ r.legal made.3.opening (ap is_none (waiting-goes l p o made.2)) in let number = made.3.numbered in let issued = r.issued_are in let token = ap token_number made.4 in omega (arith, less, number, issued, token), r.tokens_are);
           waiting_are = waits-with p s S.links (map (went_out w.token (length S.entries)) S.exchanges)
               (all-map (went_out w.token (length S.entries)) _ S.exchanges (all-more _ _ (λ e h. fewer e h (is_under w.token e)) S.exchanges r.waiting_are))
               (all-map (went_out w.token (length S.entries)) _ S.exchanges (all-more _ _ (λ e h. same e h (is_under w.token e)) S.exchanges r.waiting_are));
-          links_are = all-links (λ (k : Peer) (u : LinkState). Agrees n k u) p s S.links (given-agrees n p (with_outstanding (link_of S.links p) ws v) made.5.agrees)
-              (λ k other. send-elsewhere l t k p (link_of S.links k) v.datagram (Some v.timeout) o m w (link k) other made.2 made.3 made.4);
+          links_are = all-links (λ (k : Peer) (u : LinkState). Agrees b.reads.start n k u) p s S.links (given-agrees n p (with_outstanding (link_of S.links p) ws v) made.5.agrees)
+              (λ k other. send-elsewhere _ l t k p (link_of S.links k) v.datagram (Some v.timeout) o m w (link k) other made.2 made.3 made.4);
         };
       },
     )

@@ -1,5 +1,5 @@
 -- A message that is new ends the exchange that it answers.
-use Rattle.std.proofs.Common.{◌≡◌, ℕ, inl, inr, Bool, true, false, cond, eqb, List, [], ◌∷◌, ◌++◌, length, map, Option, Some, None, refl, sym, ap, subst, ◌∙◌}
+use Rattle.std.proofs.Common.{◌≡◌, ℕ, ◌+◌, inl, inr, Bool, true, false, cond, eqb, List, [], ◌∷◌, ◌++◌, length, map, Option, Some, None, refl, sym, ap, subst, ◌∙◌}
 use Rattle.std.specs.Prelude.{filter, find, is_some, not, ◌&&◌, ◌||◌}
 use Rattle.std.specs.List.{AllByRecursion, Contains, list_any, filter_map, cons_option}
 use Rattle.std.specs.Str.{bytes_eq}
@@ -20,7 +20,7 @@ use Rattle.history_laws.specs.Exchanges.{begun, openings, is_going, open_exchang
 use Rattle.history_laws.specs.Hearing.{went_under, answers}
 use Rattle.history_laws.specs.Justified.{Follows, Legal}
 use Rattle.history_laws.proofs.CallerLemmas.{all-filter, all-more, all-passes, any-of, begun-listed, entries-length, eqb-itself, filter-by, issued-same, some-is}
-use Rattle.history_links.specs.Agrees.{Agrees}
+use Rattle.history_links.specs.Agrees.{Start, Agrees}
 use Rattle.history_links.specs.Steps.{ended_token, heard_link, heard}
 use Rattle.history_links.proofs.CallerLemmas.{ends_what, going-after, hit, is_ended, judge, Judged, one-token, says-agrees, says-elsewhere, says-quiet, waits-after}
 use Rattle.exchange_model.specs.declared.kept.Exchange.{Exchange}
@@ -31,7 +31,7 @@ use Rattle.exchange_model.specs.Laws.{HearsLeads}
 use Rattle.exchange_model.proofs.Begins.{waits-with}
 use Rattle.exchange_model.proofs.Borne.{IsBorne, ended-borne, answers-peer}
 use Rattle.exchange_model.proofs.Lists.{all-both}
-use Rattle.exchange_model.proofs.Silent.{later-than, link-before}
+use Rattle.exchange_model.proofs.Silent.{now-from, later-than, link-before, moment-now}
 use Rattle.exchange_model.proofs.Tables.{exchange-stays, all-links}
 
 -- lists
@@ -91,7 +91,7 @@ borne-bears l f token i is same = bears-it f token (firsts l) i is same
 bytes_eq-itself : (a : List ℕ) → bytes_eq a a ≡ true
 bytes_eq-itself a = (bytes_eq-Decides a a).1 refl
 
-begun-some : (l : List Noted) (e : Exchange) → ExchangeIn l e → is_some (begun l e.opening) ≡ true
+begun-some : {start : Start} (l : List Noted) (e : Exchange) → ExchangeIn start l e → is_some (begun l e.opening) ≡ true
 begun-some l e h = rw (h.opening) refl
 
 contained : (xs : List ℕ) (n : ℕ) → Contains xs n → list_any (eqb n) xs ≡ true
@@ -107,8 +107,8 @@ ended-other None e = refl
 ended-other (Some of) e = refl
 
 -- The entry ends an exchange just where its link says that its token is awaited no more.
-pub ends-kept : (l : List Noted) (t : ℕ) (p : Peer) (s : LinkState) (m : Content) → Legal l → Agrees l p s → Judged l p s m (answers l p m) (verdict_of t s m)
-    → (e : Exchange) → ExchangeIn l e → (v : Option ℕ) → e.sending ≡ v → waits_for l e.opening ≡ v → IsSentUnder l e.peer e.token v
+pub ends-kept : {start : Start} (l : List Noted) (t : ℕ) (p : Peer) (s : LinkState) (m : Content) → Legal l → Agrees start l p s → Judged l p s m (answers l p m) (verdict_of t s m)
+    → (e : Exchange) → ExchangeIn start l e → (v : Option ℕ) → e.sending ≡ v → waits_for l e.opening ≡ v → IsSentUnder l e.peer e.token v
     → not (hit (answers l p m) m v) ≡ is_other (ended_token (verdict_of t s m).news m.token) e
 ends-kept l t p s m legal agrees judged e h None sending waits under = sym (by (ended_token (verdict_of t s m).news m.token) refl)
   where
@@ -167,24 +167,24 @@ stay-waiting : (b : Bool) (v : Option ℕ) → b ≡ false → cond b None v ≡
 stay-waiting true v e = absurd (false≢true (sym e))
 stay-waiting false v e = refl
 
-kept-one : (l : List Noted) (t : ℕ) (p : Peer) (s : LinkState) (d : List ℕ) (m : Content) → Legal l → Agrees l p s → Judged l p s m (answers l p m) (verdict_of t s m)
-    → (e : Exchange) → ExchangeIn l e × (is_other (ended_token (verdict_of t s m).news m.token) e ≡ true) → ExchangeIn (heard l t p d m ∷ l) e
+kept-one : {start : Start} (l : List Noted) (t : ℕ) (p : Peer) (s : LinkState) (d : List ℕ) (m : Content) → Legal l → Agrees start l p s → Judged l p s m (answers l p m) (verdict_of t s m)
+    → (e : Exchange) → ExchangeIn start l e × (is_other (ended_token (verdict_of t s m).news m.token) e ≡ true) → ExchangeIn start (heard l t p d m ∷ l) e
 kept-one l t p s d m legal agrees judged e h =
     let stays = not-true (hit (answers l p m) m (waits_for l e.opening)) (subst (λ (v : Option ℕ). not (hit (answers l p m) m v) ≡ true) (sym h.0.sending)
     (ends-kept l t p s m legal agrees judged e h.0 e.sending refl h.0.sending h.0.sent ∙ h.1)) in
     exchange-stays (heard l t p d m) l e (λ k. k) (waits-after l t p d m (answers l p m) e.opening ∙ stay-waiting (hit (answers l p m) m (waits_for l e.opening)) (waits_for l e.opening) stays) h.0
 
-open-after : (l : List Noted) (t : ℕ) (p : Peer) (s : LinkState) (d : List ℕ) (m : Content) (es : List Exchange) → Legal l → Agrees l p s → Judged l p s m (answers l p m) (verdict_of t s m)
-    → AllByRecursion (ExchangeIn l) es → open_exchanges l ≡ map opening_of es
+open-after : {start : Start} (l : List Noted) (t : ℕ) (p : Peer) (s : LinkState) (d : List ℕ) (m : Content) (es : List Exchange) → Legal l → Agrees start l p s → Judged l p s m (answers l p m) (verdict_of t s m)
+    → AllByRecursion (ExchangeIn start l) es → open_exchanges l ≡ map opening_of es
     → open_exchanges (heard l t p d m ∷ l) ≡ map opening_of (filter (is_other (ended_token (verdict_of t s m).news m.token)) es)
-open-after l t p s d m es legal agrees judged kept keys =
+open-after {start = start} l t p s d m es legal agrees judged kept keys =
     let stays = λ (o : ℕ). not (hit (answers l p m) m (waits_for l o)) in
     filter_agree (is_going (heard l t p d m ∷ l)) (λ (o : ℕ). stays o && is_going l o) (going-after l t p d m (answers l p m)) (openings l)
     ∙ (filter-both stays (is_going l) (openings l)
     ∙ (ap (filter stays) keys
     ∙ (filter-map stays opening_of es
     ∙ ap (map opening_of) (filter-by (λ (e : Exchange). stays e.opening) (is_other (ended_token (verdict_of t s m).news m.token)) es
-    (all-more (ExchangeIn l) _ (λ e h. ap (λ (v : Option ℕ). not (hit (answers l p m) m v)) h.sending ∙ ends-kept l t p s m legal agrees judged e h e.sending refl h.sending h.sent) es kept)))))
+    (all-more (ExchangeIn start l) _ (λ e h. ap (λ (v : Option ℕ). not (hit (answers l p m) m v)) h.sending ∙ ends-kept l t p s m legal agrees judged e h e.sending refl h.sending h.sent) es kept)))))
 
 pub hears-leads : HearsLeads
 hears-leads l t p d m S h spelled none room =
@@ -194,8 +194,8 @@ hears-leads l t p d m S h spelled none room =
     let link = link-before l t S b in
     let s = link_of S.links p in
     let x = heard l t p d m in
-    let judged = judge l t p s m m.kind later r.legal (r.links_are p) refl none room in
-    let said = says-agrees l t p s d m (link p) none room in
+    let judged = judge l t p s m m.kind (now-from l t S b) r.legal (r.links_are p) refl none room in
+    let said = says-agrees _ l t p s d m (link p) none room in
     let follows : Follows l t x.written.deed x.note = (h.come, h.short, h.known, record { spelled = spelled; unheard = none; remembered = room; says = refl }) in
     let new = heard_link t m.mid m.token (verdict_of t s m) s in
     let other = is_other (ended_token (verdict_of t s m).news m.token) in
@@ -204,22 +204,24 @@ hears-leads l t p d m S h spelled none room =
       leads = record {
         follows = follows;
         reads = record {
+          start = r.start;
+          few = r.few;
           entries_are = ap (λ (es : List Written). es ++ record { moment = t; deed = Hears p d } ∷ []) r.entries_are;
           legal = (r.legal, later, follows);
           sealed_is = r.sealed_is;
-          moment_is = refl;
+          moment_is = moment-now l t S b;
           opened_are = r.opened_are;
-          issued_are = issued-same x l refl (says-quiet l t p d m (answers l p m)) ∙ r.issued_are;
+          issued_are = ap (λ (k : ℕ). r.start.issued + k) (issued-same x l refl (says-quiet l t p d m (answers l p m))) ∙ r.issued_are;
           conns_are = r.conns_are;
           keys = open-after l t p s d m S.exchanges r.legal (r.links_are p) judged r.exchanges_are r.keys;
-          exchanges_are = all-more _ (ExchangeIn (x ∷ l)) (kept-one l t p s d m r.legal (r.links_are p) judged) (filter other S.exchanges)
-              (all-both (ExchangeIn l) _ (filter other S.exchanges) (all-filter (ExchangeIn l) other S.exchanges r.exchanges_are) (all-passes other S.exchanges));
+          exchanges_are = all-more _ (ExchangeIn h.before.reads.start (x ∷ l)) (kept-one l t p s d m r.legal (r.links_are p) judged) (filter other S.exchanges)
+              (all-both (ExchangeIn h.before.reads.start l) _ (filter other S.exchanges) (all-filter (ExchangeIn h.before.reads.start l) other S.exchanges r.exchanges_are) (all-passes other S.exchanges));
           tokens_are = r.tokens_are;
           waiting_are = waits-with p new S.links (filter other S.exchanges)
               (all-more _ _ (λ e k at_p. subst (λ (q : Peer). WaitsUnder (link_of S.links q).waiting e) at_p k) (filter other S.exchanges) (all-filter (λ (e : Exchange). WaitsUnder (link_of S.links e.peer).waiting e) other S.exchanges r.waiting_are))
               (all-filter (λ (e : Exchange). WaitsUnder (link_of S.links e.peer).waiting e) other S.exchanges r.waiting_are);
-          links_are = all-links (λ (q : Peer) (v : LinkState). Agrees (x ∷ l) q v) p new S.links said.agrees
-              (λ q away. says-elsewhere l t q p (link_of S.links q) d m (answers l p m) (link q) away
+          links_are = all-links (λ (q : Peer) (v : LinkState). Agrees h.before.reads.start (x ∷ l) q v) p new S.links said.agrees
+              (λ q away. says-elsewhere _ l t q p (link_of S.links q) d m (answers l p m) (link q) away
               (λ i f to first. subst (λ (k : Peer). same_peer k q ≡ false) (sym (same_peer-same f.peer p (answers-peer l p m i f to first))) away));
         };
       };

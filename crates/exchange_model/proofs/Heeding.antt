@@ -35,7 +35,7 @@ use Rattle.history_laws.specs.Confirming.{owed}
 use Rattle.history_laws.specs.Hearing.{is_such, heard_before, repeated, can_be_remembered}
 use Rattle.history_laws.specs.Justified.{Legal}
 use Rattle.history_laws.proofs.CallerLemmas.{all-filter, all-more, all-of, and-left, and-right, any-of, contains-later, find-any, find-some, is-some}
-use Rattle.history_links.specs.Agrees.{due, Agrees}
+use Rattle.history_links.specs.Agrees.{Start, IsFrom, due, Agrees}
 use Rattle.history_links.specs.Steps.{ended_token, heard_link, heard as heard_entry, reset}
 use Rattle.history_links.proofs.CallerLemmas.{none-before}
 use Rattle.exchange_model.specs.declared.kept.Conn.{Conn}
@@ -49,25 +49,21 @@ use Rattle.exchange_model.specs.Calls.{next, given_back, ended_in, ends_if, take
 use Rattle.exchange_model.specs.Keeping.{HasMids, Kept, MayStep, HearsKeeps}
 use Rattle.exchange_model.proofs.Amid.{Amid, Moved, RestAt, IsEarly, next-moves, given-moves}
 use Rattle.exchange_model.proofs.Ending.{ServedWith, ends-told}
-use Rattle.exchange_model.proofs.Opened.{OpenIn, one-rank, open-ones}
+use Rattle.exchange_model.proofs.Opened.{cancel, OpenIn, one-rank, open-ones}
 use Rattle.exchange_model.proofs.Grounds.{IsOver, over-moves, both-go}
 use Rattle.exchange_model.proofs.Hearing.{hears-leads}
 use Rattle.exchange_model.proofs.Over.{heard-over}
 use Rattle.exchange_model.proofs.Quiet.{repeats-leads, garbled-leads}
-use Rattle.exchange_model.proofs.Silent.{later-than}
+use Rattle.exchange_model.proofs.Silent.{now-from}
 use Rattle.exchange_model.proofs.Stepping.{may-come, before-step}
 use Rattle.exchange_model.proofs.Tables.{all-links, link-same, link-other}
-
-is-some-of : {X Y : Type 0} (f : X → Y) (v : Option X) (u : Option Y) → u ≡ option_map f v → is_some u ≡ true → is_some v ≡ true
-is-some-of f None u e h = subst (λ (k : Option _). is_some k ≡ true) e h
-is-some-of f (Some x) u e h = refl
 
 may-hear : (t : ℕ) (p : Peer) (d : List ℕ) (S : State) (m : MayStep t S) → is_some (link_of S.links p).last_mid ≡ true → leb (length d) 2048 ≡ true → MayHear m.kept.reading t p d S
 may-hear t p d S m known short = record {
   before = before-step t S m;
   come = may-come t S m;
   short = leb-true _ _ short;
-  known = is-some-of (λ (f : FirstSending). f.message.mid) (last_sent m.kept.reading p) (link_of S.links p).last_mid (m.kept.rests.reads.links_are p).last known;
+  known = sym (m.kept.rests.reads.links_are p).known ∙ known;
 }
 
 -- What is nothing new is answered, and that is all.
@@ -110,7 +106,7 @@ answered-only t p S S1 x mid r m b unsealed links exchanges conns tick owes =
 
 -- It repeats one, or is new, or is lost.
 
-repeats-so : (l : List Noted) (t : ℕ) (p : Peer) (s : LinkState) (m : Content) → Agrees l p s → newest l ≤ t → repeats t s m ≡ true → (j : ℕ) × (repeated l t p m ≡ Some j)
+repeats-so : {start : Start} (l : List Noted) (t : ℕ) (p : Peer) (s : LinkState) (m : Content) → Agrees start l p s → IsFrom start l t → repeats t s m ≡ true → (j : ℕ) × (repeated l t p m ≡ Some j)
 repeats-so l t p s m a later e = by (heard_before l t p m.mid) refl
   where
     such : is_such m.kind ≡ true
@@ -126,7 +122,7 @@ repeats-so l t p s m a later e = by (heard_before l t p m.mid) refl
     by (Some j) is = (j, rw (such) is)
     by None is = absurd (some-none h.0.reply (sym (ap (option_map (λ (k : Heard). k.reply)) h.1) ∙ (a.heard.repeats t m.mid later ∙ ap (option_map _) is)))
 
-lost-or-new : (l : List Noted) (t : ℕ) (p : Peer) (s : LinkState) (m : Content) (k : MsgType) → m.kind ≡ k → Agrees l p s → newest l ≤ t → repeats t s m ≡ false
+lost-or-new : {start : Start} (l : List Noted) (t : ℕ) (p : Peer) (s : LinkState) (m : Content) (k : MsgType) → m.kind ≡ k → Agrees start l p s → IsFrom start l t → repeats t s m ≡ false
     → ((verdict_by t s m k).news ≡ N.Lost) ⊎ ((repeated l t p m ≡ None) × (can_be_remembered l t p m ≡ true))
 lost-or-new l t p s m k is a later e = by k is
   where
@@ -188,9 +184,9 @@ is-bytes [] a = tt
 is-bytes (b ∷ d) a = (a.0, is-bytes d a.1)
 
 -- who waits, waits for what is open still, or for what has just ended
-served-part : (l : List Noted) (S : State) (ended : Option (List ℕ)) → Legal l → AllByRecursion (OpenIn l) S.exchanges → (k : ℕ) → HasExchange S.exchanges k
+served-part : (start : Start) (l : List Noted) (S : State) (ended : Option (List ℕ)) → Legal l → AllByRecursion (OpenIn start l) S.exchanges → (k : ℕ) → HasExchange S.exchanges k
     → HasExchange (filter (is_other ended) S.exchanges) k ⊎ HasExchange (over-list (ended_in ended S.exchanges)) k
-served-part l S ended legal all k h = elim (has-part (is_other ended) S.exchanges k h) [ inl w ↦ inl w | inr w ↦ inr (by ended w.0 w.1 w.2 w.3) ]
+served-part start l S ended legal all k h = elim (has-part (is_other ended) S.exchanges k h) [ inl w ↦ inl w | inr w ↦ inr (by ended w.0 w.1 w.2 w.3) ]
   where
     by : (of : Option (List ℕ)) (e : Exchange) → Contains S.exchanges e → is_other of e ≡ false → e.opening ≡ k → HasExchange (over-list (ended_in of S.exchanges)) k
     by None e has is at = absurd (false≢true (sym is))
@@ -203,10 +199,10 @@ served-part l S ended legal all k h = elim (has-part (is_other ended) S.exchange
         found None f = absurd (find-none (is_under token) S.exchanges e f has under)
         found (Some g) f =
             let first = find-some (is_under token) S.exchanges g f in
-            let mine = all-of (OpenIn l) S.exchanges e all has in
-            let its = all-of (OpenIn l) S.exchanges g all first.0 in
+            let mine = all-of (OpenIn start l) S.exchanges e all has in
+            let its = all-of (OpenIn start l) S.exchanges g all first.0 in
             let same : g.token ≡ e.token = (bytes_eq-Decides g.token token).0 first.1 ∙ sym ((bytes_eq-Decides e.token token).0 under) in
-            inl (one-rank l g.opening e.opening _ _ legal its.0.opening mine.0.opening its.1 mine.1 (its.0.number ∙ (ap token_number same ∙ sym mine.0.number)) ∙ at)
+            inl (one-rank l g.opening e.opening _ _ legal its.0.opening mine.0.opening its.1 mine.1 (cancel start.issued _ _ (its.0.number ∙ (ap token_number same ∙ sym mine.0.number))) ∙ at)
 
 early-after : (tick : ℕ) (ends : Bool) (v : Option Outstanding) (ws : List Waiting) (o : Outstanding) → IsUndue tick v ws → cond ends None v ≡ Some o → tick < due_of o
 early-after tick true v ws o h e = cc
@@ -253,7 +249,7 @@ new-keeps t p d mess S m h spelled none room =
     still : (es : List Exchange) (v : Option ℕ) → ((k : ℕ) → HasExchange (filter (is_other (ended_token (verdict_of t (link_of S.links p) mess).news mess.token)) S.exchanges) k → HasExchange es k)
         → IsServed S.exchanges v → IsServed es v ⊎ IsServed (over-list (ended_in (ended_token (verdict_of t (link_of S.links p) mess).news mess.token) S.exchanges)) v
     still es None has h = inl tt
-    still es (Some k) has h = elim (served-part m.kept.reading S (ended_token (verdict_of t (link_of S.links p) mess).news mess.token) m.kept.rests.reads.legal (open-ones m.kept.reading S m.kept.rests.reads) k h) [
+    still es (Some k) has h = elim (served-part m.kept.rests.reads.start m.kept.reading S (ended_token (verdict_of t (link_of S.links p) mess).news mess.token) m.kept.rests.reads.legal (open-ones m.kept.reading S m.kept.rests.reads) k h) [
       | inl w ↦ inl (has k w)
       | inr w ↦ inr w
     ]
@@ -284,10 +280,10 @@ hears-keeps t p d S m bytes = by (is_some (link_of S.links p).last_mid) refl (le
     s : LinkState
     s = link_of S.links p
 
-    later : newest l ≤ t
-    later = later-than l t S (before-step t S m)
+    later : IsFrom m.kept.rests.reads.start l t
+    later = now-from l t S record { reads = m.kept.rests.reads; later = m.later }
 
-    agrees : Agrees l p s
+    agrees : Agrees m.kept.rests.reads.start l p s
     agrees = m.kept.rests.reads.links_are p
 
     err-ok : (e : CodecFault) (k : Content) → message_at d ≡ Err e → message_at d ≡ Ok k → ⊥

@@ -1,4 +1,5 @@
 -- A tick of a sealed core: who waits for an exchange that is past is answered.
+use Rattle.history_links.specs.Agrees.{Start}
 use Rattle.std.proofs.Common.{◌≡◌, ◌⊎◌, ℕ, ◌+◌, ◌<◌, ◌≤◌, Bool, true, false, cond, inl, inr, List, [], ◌∷◌, Option, Some, None, refl, sym, subst, ◌∙◌, arith}
 use Rattle.std.specs.Prelude.{filter, fold, unwrap_or}
 use Rattle.std.specs.List.{AllByRecursion, Contains, list_any}
@@ -33,7 +34,7 @@ abbrev timeout : Exchange → Grounds
 timeout e = Fault C.Timeout (unwrap_or e.sending e.opening)
 
 -- That an exchange is past is a reason in a sealed journal.
-overdue : (l : List Noted) (t : ℕ) (e : Exchange) → OpenIn l e → is_sealed l ≡ true
+overdue : {start : Start} (l : List Noted) (t : ℕ) (e : Exchange) → OpenIn start l e → is_sealed l ≡ true
     → is_past t e ≡ true → HasGrounds l t e.opening (timeout e)
 overdue l t e a sealed past =
     let going : end_of l e.opening ≡ None = none-of (end_of l e.opening) a.1 in
@@ -84,7 +85,7 @@ mine : (S : State) (k : Kept S) (e : Exchange) → Contains S.exchanges e
     → AllByRecursion (λ (x : Conn). x.pending ≡ Some e.opening → x.id ≡ e.conn) S.conns
 mine S k e has =
     let l = k.reading in
-    let a = all-of (OpenIn l) S.exchanges e (open-ones l S k.rests.reads) has in
+    let a = all-of (OpenIn k.rests.reads.start l) S.exchanges e (open-ones l S k.rests.reads) has in
     all-conns (λ (x : Conn). x.pending ≡ Some e.opening → x.id ≡ e.conn) S.conns
     (λ x h same. reader-is l S x.id e.opening e.since e.conn a.0.ask (Begins a.0.request)
     k.rests.reads (subst (HasConn S.conns x.id) same h) a.0.stands)
@@ -95,7 +96,7 @@ answered : (t : ℕ) (S : State) (k : Kept S) (e : Exchange) → S.sealed ≡ tr
 answered t S k e sealed later has past some =
     let l = k.reading in
     let r = k.rests in
-    let a = all-of (OpenIn l) S.exchanges e (open-ones l S r.reads) has in
+    let a = all-of (OpenIn r.reads.start l) S.exchanges e (open-ones l S r.reads) has in
     let told = (conns-tell l S e.conn r.reads).1 (Some e.opening) (found-conn e S.conns some) in
     let made = answers-leads l t e.conn e.opening (timeout e) S
     (record { reads = r.reads; later = later }) r.quiet told.0 told.1
@@ -136,7 +137,7 @@ ends-late t S k e sealed later has past = by (list_any (waits_on e) S.conns) ref
             → x.id ≡ e.conn
         is-mine x h same =
             let l = k.reading in
-            let a = all-of (OpenIn l) S.exchanges e (open-ones l S k.rests.reads) has in
+            let a = all-of (OpenIn k.rests.reads.start l) S.exchanges e (open-ones l S k.rests.reads) has in
             reader-is l S x.id e.opening e.since e.conn a.0.ask (Begins a.0.request) k.rests.reads
             (subst (HasConn S.conns x.id) same h) a.0.stands
     by true some = (

@@ -18,7 +18,7 @@ use Rattle.history_laws.specs.Readings.{Noted}
 use Rattle.history_laws.specs.Transmissions.{bears_token}
 use Rattle.history_laws.specs.Exchanges.{waiting}
 use Rattle.history_laws.proofs.CallerLemmas.{filter-push}
-use Rattle.history_links.specs.Agrees.{WaitIn, Agrees}
+use Rattle.history_links.specs.Agrees.{Start, WaitIn, Agrees}
 use Rattle.history_links.specs.Steps.{ended_token, unawaited, heard_link}
 use Rattle.exchange_model.specs.State.{State}
 use Rattle.exchange_model.specs.Steps.{given_out}
@@ -110,10 +110,10 @@ heard-turned t mid token v s b e rest h = ap (λ (c : Bool). given_out (turned t
 
 -- A token that a message ends went out, so that none that waits bears it.
 
-first-unborne : (l : List Noted) (os : List ℕ) (ws : List Waiting) (of : Option (List ℕ)) → WaitIn l os ws → ((token : List ℕ) → of ≡ Some token → bears_token l token ≡ true) → Unborne of ws
-first-unborne l os [] of a h = tt
-first-unborne l [] (w ∷ ws) of a h = absurd a
-first-unborne l (o ∷ os) (w ∷ ws) of a h = λ token e. by token (h token e) (bytes_eq w.token token) refl
+first-unborne : (start : Start) (l : List Noted) (os : List ℕ) (ws : List Waiting) (of : Option (List ℕ)) → WaitIn start l os ws → ((token : List ℕ) → of ≡ Some token → bears_token l token ≡ true) → Unborne of ws
+first-unborne start l os [] of a h = tt
+first-unborne start l [] (w ∷ ws) of a h = absurd a
+first-unborne start l (o ∷ os) (w ∷ ws) of a h = λ token e. by token (h token e) (bytes_eq w.token token) refl
   where
     by : (token : List ℕ) → bears_token l token ≡ true → (b : Bool) → bytes_eq w.token token ≡ b → b ≡ false
     by token borne false e = refl
@@ -121,8 +121,8 @@ first-unborne l (o ∷ os) (w ∷ ws) of a h = λ token e. by token (h token e) 
         let same : w.token ≡ token = (bytes_eq-Decides w.token token).0 e in
         absurd (false≢true (sym a.0.token_apart ∙ (ap (bears_token l) same ∙ borne)))
 
-pub new-unborne : (l : List Noted) (t : ℕ) (p : Peer) (s : LinkState) (m : Content) → Agrees l p s → Unborne (ended_token (verdict_of t s m).news m.token) s.waiting
-new-unborne l t p s m a = first-unborne l (waiting l p) s.waiting (ended_token (verdict_of t s m).news m.token) a.waits
+pub new-unborne : {start : Start} (l : List Noted) (t : ℕ) (p : Peer) (s : LinkState) (m : Content) → Agrees start l p s → Unborne (ended_token (verdict_of t s m).news m.token) s.waiting
+new-unborne {start = start} l t p s m a = first-unborne start l (waiting l p) s.waiting (ended_token (verdict_of t s m).news m.token) a.waits
     (λ token e. let b = ended-borne l t p s m token m.kind a e in borne-bears l b.first token b.number b.is b.token_is)
 
 pub limits : (n : ℕ) → ltb 2048 n ≡ not (leb n 2048)

@@ -1,5 +1,6 @@
 -- The exchanges that are kept are open, and told apart by the numbers of their tokens.
-use Rattle.std.proofs.Common.{◌≡◌, ℕ, ◌<◌, ◌⊎◌, inl, inr, Bool, true, List, Option, Some, subst, arith}
+use Rattle.history_links.specs.Agrees.{Start}
+use Rattle.std.proofs.Common.{◌≡◌, ℕ, ◌+◌, ◌<◌, ◌⊎◌, inl, inr, Bool, true, List, Option, Some, subst, arith}
 use Rattle.std.specs.List.{AllByRecursion}
 use Rattle.std.proofs.lemmas.Bool.{cases_lt}
 use Rattle.history_laws.specs.Readings.{Noted}
@@ -12,13 +13,13 @@ use Rattle.exchange_model.specs.Reads.{ExchangeIn, opening_of, Reads}
 use Rattle.exchange_model.proofs.Lists.{all-mapped, all-both}
 
 -- an exchange that is kept, and is open
-abbrev pub OpenIn : List Noted → Exchange → Type 0
-OpenIn l e = ExchangeIn l e × (is_going l e.opening ≡ true)
+abbrev pub OpenIn : Start → List Noted → Exchange → Type 0
+OpenIn start l e = ExchangeIn start l e × (is_going l e.opening ≡ true)
 
-pub open-ones : (l : List Noted) (S : State) → Reads l S → AllByRecursion (OpenIn l) S.exchanges
+pub open-ones : (l : List Noted) (S : State) (r : Reads l S) → AllByRecursion (OpenIn r.start l) S.exchanges
 open-ones l S r =
     let going = subst (AllByRecursion (λ (o : ℕ). is_going l o ≡ true)) r.keys (all-passes (is_going l) (openings l)) in
-    all-both (ExchangeIn l) (λ (e : Exchange). is_going l e.opening ≡ true) S.exchanges r.exchanges_are
+    all-both (ExchangeIn r.start l) (λ (e : Exchange). is_going l e.opening ≡ true) S.exchanges r.exchanges_are
     (all-mapped opening_of (λ (o : ℕ). is_going l o ≡ true) S.exchanges going)
 
 -- Two that are open and whose messages have one number are one.
@@ -31,3 +32,6 @@ one-rank l o q b c legal e f goes also same = elim (cases_lt (submitted l o) (su
     | inr le ↦ submitted-apart l o q b c legal e f goes also (omega (arith, ge, le))
   ]
 ]
+
+pub cancel : (a b c : ℕ) → a + b ≡ a + c → b ≡ c
+cancel a b c e = omega (arith, e)

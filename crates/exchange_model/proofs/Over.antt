@@ -1,4 +1,5 @@
 -- How an exchange has ended that a message ends.
+use Rattle.history_links.specs.Agrees.{Start}
 use Rattle.std.proofs.Common.{◌≡◌, ℕ, inl, inr, Bool, true, false, cond, eqb, ltb, leb, List, [], ◌∷◌, length, Option, Some, None, refl, sym, ap, subst, ◌∙◌, arith}
 use Rattle.std.specs.Prelude.{find, ◌&&◌, count_by}
 use Rattle.std.specs.List.{Contains, list_any}
@@ -36,7 +37,7 @@ use Rattle.exchange_model.specs.Laws.{Before, MayHear}
 use Rattle.exchange_model.proofs.Borne.{split}
 use Rattle.exchange_model.proofs.Grounds.{GroundsOf, IsOver}
 use Rattle.exchange_model.proofs.Hearing.{ends-kept}
-use Rattle.exchange_model.proofs.Silent.{later-than}
+use Rattle.exchange_model.proofs.Silent.{now-from}
 
 -- which news ends an exchange: a Reset of an RST, and of any other message a response
 
@@ -146,7 +147,7 @@ heard-over l t p d m S h none room e is =
     here : length S.entries ≡ length l
     here = ap length (sym h.before.reads.entries_are) ∙ entries-length l
 
-    made : (of : List ℕ) → ended_token (verdict_of t (link_of S.links p) m).news m.token ≡ Some of → Contains S.exchanges e → is_under of e ≡ true → (a : ExchangeIn l e)
+    made : (of : List ℕ) → ended_token (verdict_of t (link_of S.links p) m).news m.token ≡ Some of → Contains S.exchanges e → is_under of e ≡ true → (a : ExchangeIn h.before.reads.start l e)
         → (v : Option ℕ) → e.sending ≡ v → hit (answers l p m) m v ≡ true → IsOver (heard l t p d m ∷ l) e (grounds_by (verdict_of t (link_of S.links p) m).news (length S.entries) e.method m)
     made of ended has under a None sending hits = absurd (false≢true hits)
     made of ended has under a (Some i) sending hits =
@@ -167,8 +168,8 @@ heard-over l t p d m S h none room e is =
     by None ended found = absurd cc
     by (Some of) ended found =
         let first = find-some (is_under of) S.exchanges e found in
-        let a = all-of (ExchangeIn l) S.exchanges e h.before.reads.exchanges_are first.0 in
-        let judged = judge l t p (link_of S.links p) m m.kind (later-than l t S h.before) h.before.reads.legal (h.before.reads.links_are p) refl none room in
+        let a = all-of (ExchangeIn h.before.reads.start l) S.exchanges e h.before.reads.exchanges_are first.0 in
+        let judged = judge l t p (link_of S.links p) m m.kind (now-from l t S h.before) h.before.reads.legal (h.before.reads.links_are p) refl none room in
         let kept = ends-kept l t p (link_of S.links p) m h.before.reads.legal (h.before.reads.links_are p) judged e a e.sending refl a.sending a.sent in
         let other : is_other (ended_token (verdict_of t (link_of S.links p) m).news m.token) e ≡ false = rw (ended, first.1) refl in
         made of ended first.0 first.1 a e.sending refl (not-false (hit (answers l p m) m e.sending) (kept ∙ other))

@@ -1,5 +1,5 @@
 -- A tick ends what took too long.
-use Rattle.std.proofs.Common.{◌≡◌, ℕ, Bool, true, false, cond, List, [], ◌∷◌, ◌++◌, map, Option, Some, None, is_some, refl, sym, ap, subst, ◌∙◌}
+use Rattle.std.proofs.Common.{◌≡◌, ℕ, ◌+◌, Bool, true, false, cond, List, [], ◌∷◌, ◌++◌, map, Option, Some, None, is_some, refl, sym, ap, subst, ◌∙◌}
 use Rattle.std.specs.Prelude.{filter, not, is_none, ◌&&◌}
 use Rattle.std.specs.List.{AllByRecursion, Contains}
 use Rattle.std.proofs.lemmas.Bool.{not-true}
@@ -15,7 +15,7 @@ use Rattle.history_laws.specs.Exchanges.{Begun, begun, is_late, expires as ends_
 use Rattle.history_laws.specs.Hearing.{went_under}
 use Rattle.history_laws.specs.Transmissions.{FirstSending, first_at}
 use Rattle.history_laws.proofs.CallerLemmas.{all-filter, all-more, all-of, all-passes, and-left, filter-by, filtered-from, issued-same, open-exactly, some-is, waiting-all, waiting-begun, waiting-goes, waiting-unsent}
-use Rattle.history_links.specs.Agrees.{IsWaitingFor, WaitIn, Agrees}
+use Rattle.history_links.specs.Agrees.{Start, IsWaitingFor, WaitIn, Agrees}
 use Rattle.history_links.specs.Steps.{passed_link, EndWaiting, EndTokens}
 use Rattle.history_links.proofs.CallerLemmas.{going-passed, pass-agrees, passed-quiet, token-found, waits-passed}
 use Rattle.exchange_model.specs.declared.kept.Exchange.{Exchange}
@@ -26,7 +26,7 @@ use Rattle.exchange_model.specs.Laws.{PassesLeads}
 use Rattle.exchange_model.proofs.Expiring.{expires-alike, awaited-open, kept-at, gone-of}
 use Rattle.exchange_model.proofs.Hearing.{filter-map, filter-both}
 use Rattle.exchange_model.proofs.Lists.{all-both}
-use Rattle.exchange_model.proofs.Silent.{later-than, link-before}
+use Rattle.exchange_model.proofs.Silent.{later-than, link-before, moment-now}
 use Rattle.exchange_model.proofs.Tables.{exchange-stays}
 
 abbrev ticked_at : ℕ → Noted
@@ -47,9 +47,9 @@ open-passed l t S r =
     ∙ (ap (filter (goes_on l t)) r.keys
     ∙ (filter-map (goes_on l t) opening_of S.exchanges
     ∙ ap (map opening_of) (filter-by (λ (e : Exchange). goes_on l t e.opening) (stays t S) S.exchanges
-    (all-more (ExchangeIn l) _ (λ e a. ap not (sym (expires-alike l t S.links e r.legal r.links_are a))) S.exchanges r.exchanges_are)))))
+    (all-more (ExchangeIn r.start l) _ (λ e a. ap not (sym (expires-alike l t S.links e r.legal r.links_are a))) S.exchanges r.exchanges_are)))))
 
-exchange-kept : (l : List Noted) (t : ℕ) (S : State) → Reads l S → (e : Exchange) → ExchangeIn l e × (stays t S e ≡ true) → ExchangeIn (ticked_at t ∷ l) e
+exchange-kept : (l : List Noted) (t : ℕ) (S : State) (r : Reads l S) → (e : Exchange) → ExchangeIn r.start l e × (stays t S e ≡ true) → ExchangeIn r.start (ticked_at t ∷ l) e
 exchange-kept l t S r e a =
     exchange-stays (ticked_at t) l e (λ h. h)
     (waits-passed l t e.opening ∙ ap (λ (b : Bool). cond b None (waits_for l e.opening)) (sym (expires-alike l t S.links e r.legal r.links_are a.0) ∙ not-true (expires t S.links e) a.1)) a.0
@@ -79,8 +79,8 @@ awaited-ends l t S p r o i token waits under =
     ap (ends_at l o t) (sym waits) ∙ gone-of l t S e o token r k.1 k.2 tokens
 
 -- They are those of what waits and ends, too.
-waiting-ends : (l : List Noted) (t : ℕ) (S : State) (p : Peer) → Reads l S → (o : ℕ) (w : Waiting) → Contains (waiting l p) o → Contains (link_of S.links p).waiting w
-    → IsWaitingFor l o w → is_late t (begun l o) ≡ is_gone t S w.token
+waiting-ends : (l : List Noted) (t : ℕ) (S : State) (p : Peer) (r : Reads l S) → (o : ℕ) (w : Waiting) → Contains (waiting l p) o → Contains (link_of S.links p).waiting w
+    → IsWaitingFor r.start l o w → is_late t (begun l o) ≡ is_gone t S w.token
 waiting-ends l t S p r o w ho hw a =
     let waits = all-of (λ (q : ℕ). is_waiting l p q ≡ true) (waiting l p) o (waiting-all l p) ho in
     let b = waiting-begun l p o waits in
@@ -91,16 +91,16 @@ waiting-ends l t S p r o w ho hw a =
     let peer : e.peer ≡ p = sym k.3.peer ∙ same_peer-same k.3.request.peer p goes in
     let under : WaitsUnder (link_of S.links p).waiting e =
     subst (λ (q : Peer). WaitsUnder (link_of S.links q).waiting e) peer (all-of (λ (x : Exchange). WaitsUnder (link_of S.links x.peer).waiting x) S.exchanges e r.waiting_are k.1) in
-    let tokens = under w hw (a.numbered ∙ (ap (rank l) (sym k.2) ∙ k.3.number)) in
+    let tokens = under w hw (a.numbered ∙ (ap (λ (q : ℕ). r.start.issued + rank l q) (sym k.2) ∙ k.3.number)) in
     ap (ends_at l o t) (sym (waiting-unsent l p o waits)) ∙ gone-of l t S e o w.token r k.1 k.2 (sym tokens)
 
-all-end : (l : List Noted) (t : ℕ) (gone : List ℕ → Bool) (P : ℕ → Type 0) (Q : Waiting → Type 0)
-    → ((o : ℕ) (w : Waiting) → P o → Q w → IsWaitingFor l o w → is_late t (begun l o) ≡ gone w.token)
-    → (os : List ℕ) (ws : List Waiting) → AllByRecursion P os → AllByRecursion Q ws → WaitIn l os ws → EndWaiting l t gone os ws
-all-end l t gone P Q one [] [] a b i = tt
-all-end l t gone P Q one [] (w ∷ ws) a b i = tt
-all-end l t gone P Q one (o ∷ os) [] a b i = tt
-all-end l t gone P Q one (o ∷ os) (w ∷ ws) a b i = (one o w a.0 b.0 i.0, all-end l t gone P Q one os ws a.1 b.1 i.1)
+all-end : (start : Start) (l : List Noted) (t : ℕ) (gone : List ℕ → Bool) (P : ℕ → Type 0) (Q : Waiting → Type 0)
+    → ((o : ℕ) (w : Waiting) → P o → Q w → IsWaitingFor start l o w → is_late t (begun l o) ≡ gone w.token)
+    → (os : List ℕ) (ws : List Waiting) → AllByRecursion P os → AllByRecursion Q ws → WaitIn start l os ws → EndWaiting l t gone os ws
+all-end start l t gone P Q one [] [] a b i = tt
+all-end start l t gone P Q one [] (w ∷ ws) a b i = tt
+all-end start l t gone P Q one (o ∷ os) [] a b i = tt
+all-end start l t gone P Q one (o ∷ os) (w ∷ ws) a b i = (one o w a.0 b.0 i.0, all-end start l t gone P Q one os ws a.1 b.1 i.1)
 
 among-itself : {X : Type 0} (xs : List X) → AllByRecursion (Contains xs) xs
 among-itself xs = recursion_from_All (Contains xs) xs (All-contains_itself xs)
@@ -108,7 +108,7 @@ among-itself xs = recursion_from_All (Contains xs) xs (All-contains_itself xs)
 end-tokens : (l : List Noted) (t : ℕ) (S : State) (p : Peer) → Reads l S → EndTokens l t p (link_of S.links p) (is_gone t S)
 end-tokens l t S p r = record {
   awaited = awaited-ends l t S p r;
-  waiting = all-end l t (is_gone t S) (Contains (waiting l p)) (Contains (link_of S.links p).waiting) (waiting-ends l t S p r) (waiting l p) (link_of S.links p).waiting
+  waiting = all-end r.start l t (is_gone t S) (Contains (waiting l p)) (Contains (link_of S.links p).waiting) (waiting-ends l t S p r) (waiting l p) (link_of S.links p).waiting
       (among-itself (waiting l p)) (among-itself (link_of S.links p).waiting) (r.links_are p).waits;
 }
 
@@ -126,19 +126,21 @@ passes-leads l t S b may =
     record {
       follows = (may, tt);
       reads = record {
+        start = r.start;
+        few = r.few;
         entries_are = ap (λ (es : List Written). es ++ record { moment = t; deed = Passes } ∷ []) r.entries_are;
         legal = (r.legal, later, (may, tt));
         sealed_is = r.sealed_is;
-        moment_is = refl;
+        moment_is = moment-now l t S b;
         opened_are = r.opened_are;
-        issued_are = issued-same (ticked_at t) l refl (λ o goes. passed-quiet l t o) ∙ r.issued_are;
+        issued_are = ap (λ (k : ℕ). r.start.issued + k) (issued-same (ticked_at t) l refl (λ o goes. passed-quiet l t o)) ∙ r.issued_are;
         conns_are = r.conns_are;
         keys = open-passed l t S r;
-        exchanges_are = all-more _ (ExchangeIn n) (exchange-kept l t S r) kept
-            (all-both (ExchangeIn l) _ kept (all-filter (ExchangeIn l) (stays t S) S.exchanges r.exchanges_are) (all-passes (stays t S) S.exchanges));
+        exchanges_are = all-more _ (ExchangeIn b.reads.start n) (exchange-kept l t S r) kept
+            (all-both (ExchangeIn b.reads.start l) _ kept (all-filter (ExchangeIn b.reads.start l) (stays t S) S.exchanges r.exchanges_are) (all-passes (stays t S) S.exchanges));
         tokens_are = r.tokens_are;
         waiting_are = all-more _ _ (fewer-wait t S) kept (all-filter (λ (e : Exchange). WaitsUnder (link_of S.links e.peer).waiting e) (stays t S) S.exchanges r.waiting_are);
-        links_are = λ p. subst (Agrees n p) (sym (link-passed t S p S.links))
-            (pass-agrees l t p (link_of S.links p) (is_gone t S) (link-before l t S b p) (end-tokens l t S p r));
+        links_are = λ p. subst (Agrees b.reads.start n p) (sym (link-passed t S p S.links))
+            (pass-agrees _ l t p (link_of S.links p) (is_gone t S) (link-before l t S b p) (end-tokens l t S p r));
       };
     }

@@ -9,7 +9,7 @@ use Rattle.message_layer.specs.Sending.{with_copy}
 use Rattle.history_laws.specs.Readings.{Plain, Copies, Confirms, Repeats, Garbled}
 use Rattle.history_laws.specs.Transmissions.{FirstSending}
 use Rattle.history_laws.specs.Justified.{Follows}
-use Rattle.history_links.specs.Agrees.{Agrees}
+use Rattle.history_links.specs.Agrees.{Start, Agrees}
 use Rattle.history_links.specs.Steps.{copy}
 use Rattle.history_links.proofs.CallerLemmas.{copy-elsewhere, copy-follows, garbled-agrees, repeat-agrees, still-copy}
 use Rattle.exchange_model.specs.State.{link_of, with_link}
@@ -35,7 +35,7 @@ repeats-leads l t p d m j S h spelled again =
     let follows : Follows l t (Hears p d) (Repeats m j) = (h.come, h.short, h.known, (spelled, again)) in
     record {
       leads = record { follows = follows; reads = silent-reads l t (Hears p d) (Repeats m j) S b tt follows };
-      owes = (repeat-agrees l t p (link_of S.links p) d m j link again).owes;
+      owes = (repeat-agrees _ l t p (link_of S.links p) d m j link again).owes;
     }
 
 pub garbled-leads : GarbledLeads
@@ -45,7 +45,7 @@ garbled-leads l t p d S h none =
     let follows : Follows l t (Hears p d) Garbled = (h.come, h.short, h.known, none) in
     record {
       leads = record { follows = follows; reads = silent-reads l t (Hears p d) Garbled S b tt follows };
-      owes = (garbled-agrees l t p (link_of S.links p) d link).owes;
+      owes = (garbled-agrees _ l t p (link_of S.links p) d link).owes;
     }
 
 other-peer : (f : FirstSending) (p q : Peer) → same_peer f.peer p ≡ true → same_peer p q ≡ false → same_peer f.peer q ≡ false
@@ -55,15 +55,15 @@ pub copy-leads : CopyLeads
 copy-leads l t p o S b q is few due =
     let later = later-than l t S b in
     let link = link-before l t S b in
-    let made = copy-follows l t p (link_of S.links p) o (link p) q is few due in
+    let made = copy-follows _ l t p (link_of S.links p) o (link p) q is few due in
     let i = made.0 in
     let s = given_out (with_copy t (link_of S.links p) o) in (
       i,
       record {
         follows = made.4.follows;
-        reads = still-reads l t (Sends p o.datagram None) (Copies i) S (with_link p s S.links) b.reads later made.4.follows (still-copy l t p o.datagram i later)
+        reads = still-reads l t (Sends p o.datagram None) (Copies i) S (with_link p s S.links) b.reads b.later made.4.follows (still-copy l t p o.datagram i later)
             (all-links (λ (r : Peer) (v : LinkState). v.waiting ≡ (link_of S.links r).waiting) p s S.links refl (λ r other. refl))
-            (all-links (λ (r : Peer) (v : LinkState). Agrees (copy t p o i ∷ l) r v) p s S.links (given-agrees (copy t p o i ∷ l) p (with_copy t (link_of S.links p) o) made.4.agrees)
-            (λ r other. copy-elsewhere l t r p (link_of S.links r) o.datagram i made.1 (link r) made.2 (other-peer made.1 p r made.3 other)));
+            (all-links (λ (r : Peer) (v : LinkState). Agrees b.reads.start (copy t p o i ∷ l) r v) p s S.links (given-agrees (copy t p o i ∷ l) p (with_copy t (link_of S.links p) o) made.4.agrees)
+            (λ r other. copy-elsewhere _ l t r p (link_of S.links r) o.datagram i made.1 (link r) made.2 (other-peer made.1 p r made.3 other)));
       },
     )

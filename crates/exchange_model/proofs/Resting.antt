@@ -14,7 +14,7 @@ use Rattle.history_laws.specs.Transmissions.{FirstSending, firsts, Transmission,
 use Rattle.history_laws.specs.Exchanges.{begun, waits_for, openings, is_going, open_exchanges, is_waiting, waiting}
 use Rattle.history_laws.specs.Justified.{pending, reads, reads_open, is_in_hand, finds_outstanding, is_under_way, is_early, is_done, is_in_time}
 use Rattle.history_laws.proofs.CallerLemmas.{all-more, contains-none, none-some, outstanding-last, some-is, waiting-has}
-use Rattle.history_links.specs.Agrees.{way_of, TurnIn, WaitIn}
+use Rattle.history_links.specs.Agrees.{Start, way_of, TurnIn, WaitIn}
 use Rattle.history_links.proofs.CallerLemmas.{all-there, is-first, IsThere}
 use Rattle.exchange_model.specs.declared.kept.Conn.{Conn}
 use Rattle.exchange_model.specs.declared.kept.Exchange.{Exchange}
@@ -34,18 +34,18 @@ open-pass l S q r a =
 
 -- What connections wait for is in hand.
 
-reads-itself : (l : List Noted) (e : Exchange) → OpenIn l e → reads_open l (reads l e.opening) ≡ true
+reads-itself : {start : Start} (l : List Noted) (e : Exchange) → OpenIn start l e → reads_open l (reads l e.opening) ≡ true
 reads-itself l e h = rw (h.0.stands) (h.1)
 
-reads-one : (l : List Noted) (es : List Exchange) (k : ℕ) → AllByRecursion (OpenIn l) es → HasExchange es k → reads_open l (reads l k) ≡ true
-reads-one l [] k a h = elim h [ ]
-reads-one l (e ∷ es) k a (inl h) = subst (λ (k : ℕ). reads_open l (reads l k) ≡ true) h (reads-itself l e a.0)
-reads-one l (e ∷ es) k a (inr h) = reads-one l es k a.1 h
+reads-one : (start : Start) (l : List Noted) (es : List Exchange) (k : ℕ) → AllByRecursion (OpenIn start l) es → HasExchange es k → reads_open l (reads l k) ≡ true
+reads-one start l [] k a h = elim h [ ]
+reads-one start l (e ∷ es) k a (inl h) = subst (λ (k : ℕ). reads_open l (reads l k) ≡ true) h (reads-itself l e a.0)
+reads-one start l (e ∷ es) k a (inr h) = reads-one start l es k a.1 h
 
-served-one : (l : List Noted) (es : List Exchange) (p : Option ℕ) → AllByRecursion (OpenIn l) es → IsServed es p
+served-one : (start : Start) (l : List Noted) (es : List Exchange) (p : Option ℕ) → AllByRecursion (OpenIn start l) es → IsServed es p
     → option_map_or (λ (k : ℕ). reads_open l (reads l k)) p true ≡ true
-served-one l es None a h = refl
-served-one l es (Some k) a h = reads-one l es k a h
+served-one start l es None a h = refl
+served-one start l es (Some k) a h = reads-one start l es k a h
 
 served-by : (S : State) (xs : List Conn) (c : ℕ) (p : Option ℕ) → AllByRecursion (λ (x : Conn). IsServed S.exchanges x.pending) xs
     → HasConn xs c p → IsServed S.exchanges p
@@ -60,28 +60,28 @@ in-hand l S c r = by (is_open l c) refl
     by false e = refl
     by true e =
         let has : HasConn S.conns c (pending l c) = (conns-tell l S c r.reads).0 e in
-        served-one l S.exchanges (pending l c) (open-ones l S r.reads) (served-by S S.conns c (pending l c) r.served has)
+        served-one r.reads.start l S.exchanges (pending l c) (open-ones l S r.reads) (served-by S S.conns c (pending l c) r.served has)
 
 -- The next message of an open exchange is out, or waits after another one.
 
-none-waits : (l : List Noted) (os : List ℕ) (o : ℕ) → WaitIn l os [] → Contains os o → ⊥
-none-waits l [] o w has = contains-none o has
-none-waits l (p ∷ os) o w has = absurd w
+none-waits : (start : Start) (l : List Noted) (os : List ℕ) (o : ℕ) → WaitIn start l os [] → Contains os o → ⊥
+none-waits start l [] o w has = contains-none o has
+none-waits start l (p ∷ os) o w has = absurd w
 
-busy-by : (l : List Noted) (p : Peer) (o tick : ℕ) (out : Option Outstanding) (ws : List Waiting) → TurnIn l p out → IsUndue tick out ws
-    → WaitIn l (waiting l p) ws → Contains (waiting l p) o → is_some (outstanding l p) ≡ true
-busy-by l p o tick (Some x) ws turn undue waits has = ap is_some turn.is
-busy-by l p o tick None ws turn undue waits has =
-    absurd (none-waits l (waiting l p) o (subst (WaitIn l (waiting l p)) undue waits) has)
+busy-by : (start : Start) (l : List Noted) (p : Peer) (o tick : ℕ) (out : Option Outstanding) (ws : List Waiting) → TurnIn l p out → IsUndue tick out ws
+    → WaitIn start l (waiting l p) ws → Contains (waiting l p) o → is_some (outstanding l p) ≡ true
+busy-by start l p o tick (Some x) ws turn undue waits has = ap is_some turn.is
+busy-by start l p o tick None ws turn undue waits has =
+    absurd (none-waits start l (waiting l p) o (subst (WaitIn start l (waiting l p)) undue waits) has)
 
 -- a peer at which an exchange waits has a message outstanding
 busy : (l : List Noted) (S : State) (p : Peer) (o : ℕ) → Rests l S → Contains (waiting l p) o → is_some (outstanding l p) ≡ true
 busy l S p o r has =
     let s = link_of S.links p in
     let a = r.reads.links_are p in
-    busy-by l p o (ticked l) s.outstanding s.waiting a.turn (r.links p) a.waits has
+    busy-by r.reads.start l p o (ticked l) s.outstanding s.waiting a.turn (r.links p) a.waits has
 
-under-way : (l : List Noted) (S : State) (e : Exchange) → Rests l S → OpenIn l e → is_under_way l e.opening ≡ true
+under-way : {start : Start} (l : List Noted) (S : State) (e : Exchange) → Rests l S → OpenIn start l e → is_under_way l e.opening ≡ true
 under-way l S e r h = by (waits_for l e.opening) refl
   where
     waits-here : waits_for l e.opening ≡ None → Contains (waiting l h.0.request.peer) e.opening
@@ -116,7 +116,7 @@ done l S f r there = by (transmission l f.number) refl
 
 -- Open exchanges are in time.
 
-in-time : (l : List Noted) (e : Exchange) → ExchangeIn l e → ticked l < e.since + MAX_TRANSMIT_WAIT → is_in_time l e.opening ≡ true
+in-time : {start : Start} (l : List Noted) (e : Exchange) → ExchangeIn start l e → ticked l < e.since + MAX_TRANSMIT_WAIT → is_in_time l e.opening ≡ true
 in-time l e h lt = rw (h.opening, lt-leb (e.since + MAX_TRANSMIT_WAIT) (ticked l) lt) refl
 
 pub rests-at-rest : RestsAtRest
@@ -127,13 +127,13 @@ rests-at-rest l S r =
       given = λ sealed. r.quiet;
       sent = λ sealed.
           open-pass l S (is_under_way l) r.reads
-          (all-more (OpenIn l) (λ (e : Exchange). is_under_way l e.opening ≡ true) (λ e h. under-way l S e r h) S.exchanges open_now);
+          (all-more (OpenIn r.reads.start l) (λ (e : Exchange). is_under_way l e.opening ≡ true) (λ e h. under-way l S e r h) S.exchanges open_now);
       copied = λ sealed.
           all-pass (is_done l) (firsts l)
           (all-more (IsThere l) (λ (f : FirstSending). is_done l f ≡ true) (λ f h. done l S f r h) (firsts l) (all-there l));
       ended = λ sealed.
           open-pass l S (is_in_time l) r.reads
-          (all-more (λ (e : Exchange). OpenIn l e × (ticked l < e.since + MAX_TRANSMIT_WAIT)) (λ (e : Exchange). is_in_time l e.opening ≡ true)
+          (all-more (λ (e : Exchange). OpenIn r.reads.start l e × (ticked l < e.since + MAX_TRANSMIT_WAIT)) (λ (e : Exchange). is_in_time l e.opening ≡ true)
           (λ e h. in-time l e h.0.0 h.1) S.exchanges
-          (all-both (OpenIn l) (λ (e : Exchange). ticked l < e.since + MAX_TRANSMIT_WAIT) S.exchanges open_now r.in_time));
+          (all-both (OpenIn r.reads.start l) (λ (e : Exchange). ticked l < e.since + MAX_TRANSMIT_WAIT) S.exchanges open_now r.in_time));
     }

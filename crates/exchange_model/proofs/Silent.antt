@@ -1,9 +1,11 @@
 -- Entries that are nothing to any exchange or link.
-use Rattle.std.proofs.Common.{ℕ, ◌≤◌, List, ◌∷◌, refl, sym, subst}
+use Rattle.std.proofs.Common.{◌≡◌, ℕ, ◌≤◌, List, ◌∷◌, refl, sym}
+use Rattle.std.specs.Prelude.{max}
 use Rattle.uri_map.specs.declared.peer.Peer.{Peer}
 use Rattle.journal_book.specs.Entries.{Deed, Opens, Answers, Shuts, Seals}
 use Rattle.history_laws.specs.Readings.{Noted, Note, Plain, newest, noted}
 use Rattle.history_laws.specs.Justified.{Follows}
+use Rattle.history_links.specs.Agrees.{IsFrom}
 use Rattle.history_links.specs.Steps.{IsSilent, Before as LinkBefore}
 use Rattle.history_links.proofs.CallerLemmas.{silent-agrees, still}
 use Rattle.exchange_model.specs.State.{State, link_of}
@@ -11,13 +13,19 @@ use Rattle.exchange_model.specs.Reads.{Reads}
 use Rattle.exchange_model.specs.Steps.{entered}
 use Rattle.exchange_model.specs.Laws.{Before, OpensLeads, ShutsLeads, SealsLeads, AnswersLeads}
 use Rattle.history_laws.specs.Connections.{sealed_by, opened_by}
-use Rattle.exchange_model.proofs.Tables.{still-reads}
+use Rattle.exchange_model.proofs.Tables.{reads-from, reads-later, reads-now, still-reads}
 
 pub later-than : (l : List Noted) (t : ℕ) (S : State) → Before l t S → newest l ≤ t
-later-than l t S b = subst (λ (n : ℕ). n ≤ t) (sym b.reads.moment_is) b.later
+later-than l t S b = reads-later l t S b.reads b.later
 
-pub link-before : (l : List Noted) (t : ℕ) (S : State) → Before l t S → (p : Peer) → LinkBefore l t p (link_of S.links p)
-link-before l t S b p = record { legal = b.reads.legal; later = later-than l t S b; agrees = b.reads.links_are p }
+pub link-before : (l : List Noted) (t : ℕ) (S : State) (b : Before l t S) (p : Peer) → LinkBefore b.reads.start l t p (link_of S.links p)
+link-before l t S b p = record { legal = b.reads.legal; started = reads-from l t S b.reads b.later; later = later-than l t S b; agrees = b.reads.links_are p }
+
+pub now-from : (l : List Noted) (t : ℕ) (S : State) (b : Before l t S) → IsFrom b.reads.start l t
+now-from l t S b = (reads-from l t S b.reads b.later, later-than l t S b)
+
+pub moment-now : (l : List Noted) (t : ℕ) (S : State) (b : Before l t S) → max b.reads.start.moment t ≡ t
+moment-now l t S b = reads-now l t S b.reads b.later
 
 pub silent-reads : (l : List Noted) (t : ℕ) (d : Deed) (note : Note) (S : State) → Before l t S → IsSilent d note → Follows l t d note
     → Reads (noted t d note ∷ l) (record {
@@ -32,8 +40,8 @@ pub silent-reads : (l : List Noted) (t : ℕ) (d : Deed) (note : Note) (S : Stat
     })
 silent-reads l t d note S b silent follows =
     let later = later-than l t S b in
-    still-reads l t d note S S.links b.reads later follows (still l t d note later silent) (λ p. refl)
-    (λ p. silent-agrees l t p (link_of S.links p) d note (link-before l t S b p) silent)
+    still-reads l t d note S S.links b.reads b.later follows (still l t d note later silent) (λ p. refl)
+    (λ p. silent-agrees _ l t p (link_of S.links p) d note (link-before l t S b p) silent)
 
 pub opens-leads : OpensLeads
 opens-leads l t S b may =

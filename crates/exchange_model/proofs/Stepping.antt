@@ -26,7 +26,7 @@ use Rattle.history_laws.specs.Connections.{is_open, asks_of, answers_of}
 use Rattle.history_laws.specs.Hearing.{has_room}
 use Rattle.history_laws.specs.Justified.{AskNote, Caused, IsRefused, MayCome, pending}
 use Rattle.history_laws.proofs.CallerLemmas.{all-filter, all-more, all-push, and-right, at-new, entries-length, eqb-itself}
-use Rattle.history_links.specs.Agrees.{WaitIn}
+use Rattle.history_links.specs.Agrees.{Start, WaitIn}
 use Rattle.exchange_model.specs.declared.kept.Conn.{Conn}
 use Rattle.exchange_model.specs.declared.kept.Exchange.{Exchange}
 use Rattle.exchange_model.specs.State.{State, link_of, pend}
@@ -44,7 +44,7 @@ use Rattle.exchange_model.proofs.Ending.{conn-of}
 use Rattle.exchange_model.proofs.Lists.{all-map}
 use Rattle.exchange_model.proofs.Quiet.{asks-leads}
 use Rattle.exchange_model.proofs.Resting.{rests-at-rest}
-use Rattle.exchange_model.proofs.Silent.{opens-leads, shuts-leads, seals-leads, answers-leads, later-than}
+use Rattle.exchange_model.proofs.Silent.{opens-leads, shuts-leads, seals-leads, answers-leads, now-from, later-than}
 use Rattle.exchange_model.proofs.Tables.{link-other, all-links}
 
 pub kept-stands : KeptStands
@@ -102,17 +102,17 @@ may-ask l S c r h =
 
 -- there is room in the history where there is a place in the state
 
-as-many : (l : List Noted) (os : List ℕ) (ws : List Waiting) → WaitIn l os ws → length os ≡ length ws
-as-many l [] [] a = refl
-as-many l [] (w ∷ ws) a = absurd a
-as-many l (o ∷ os) [] a = absurd a
-as-many l (o ∷ os) (w ∷ ws) a = ap suc (as-many l os ws a.1)
+as-many : (start : Start) (l : List Noted) (os : List ℕ) (ws : List Waiting) → WaitIn start l os ws → length os ≡ length ws
+as-many start l [] [] a = refl
+as-many start l [] (w ∷ ws) a = absurd a
+as-many start l (o ∷ os) [] a = absurd a
+as-many start l (o ∷ os) (w ∷ ws) a = ap suc (as-many start l os ws a.1)
 
 pub room-same : (l : List Noted) (t : ℕ) (q : CoapRequest) (S : State) → Before l t S → has_room l t q ≡ has_place t q.peer S
 room-same l t q S b =
     let r = b.reads in
     let agrees = r.links_are q.peer in
-    rw (r.keys, length-map S.exchanges opening_of, as-many l _ _ agrees.waits, ← agrees.given t (later-than l t S b)) refl
+    rw (r.keys, length-map S.exchanges opening_of, as-many r.start l _ _ agrees.waits, ← agrees.given t (now-from l t S b)) refl
 
 -- An ask that is answered at once.
 
@@ -264,6 +264,8 @@ start-keeps = record {
   reading = [];
   rests = record {
     reads = record {
+      start = record { moment = 0; issued = 0 };
+      few = omega arith;
       entries_are = refl;
       legal = tt;
       sealed_is = refl;
@@ -275,7 +277,7 @@ start-keeps = record {
       exchanges_are = tt;
       tokens_are = tt;
       waiting_are = tt;
-      links_are = λ p. record { turn = refl; last = refl; count_up = tt; given = λ t later. refl; waits = tt; awaits = λ token. refl; acks = λ mid token. refl; heard = record { repeats = λ t mid later. refl; live = λ t later. refl } };
+      links_are = λ p. record { turn = refl; known = refl; last = λ t later. tt; count_up = λ t later. tt; given = λ t later. refl; waits = tt; awaits = λ token. refl; acks = λ mid token. refl; heard = record { repeats = λ t mid later. refl; live = λ t later. refl } };
     };
     quiet = refl;
     links = λ p. refl;

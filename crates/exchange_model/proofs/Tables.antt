@@ -1,6 +1,6 @@
 -- What an entry leaves of what a state keeps.
-use Rattle.std.proofs.Common.{◌≡◌, ℕ, ◌<◌, ◌≤◌, Bool, true, false, cond, eqb, inl, inr, List, [], ◌∷◌, ◌++◌, length, Option, Some, None, refl, sym, ap, subst, ◌∙◌, arith}
-use Rattle.std.specs.Prelude.{find, is_none}
+use Rattle.std.proofs.Common.{◌≡◌, ℕ, ◌+◌, ◌<◌, ◌≤◌, Bool, true, false, cond, eqb, inl, inr, List, [], ◌∷◌, ◌++◌, length, Option, Some, None, refl, sym, ap, subst, ◌∙◌, arith}
+use Rattle.std.specs.Prelude.{find, is_none, max}
 use Rattle.std.proofs.lemmas.Bool.Decides.{eqb_tells}
 use Rattle.std.proofs.lemmas.List.Elements.{filter_agree}
 use Rattle.uri_map.specs.declared.peer.Peer.{Peer}
@@ -14,7 +14,7 @@ use Rattle.history_laws.specs.Transmissions.{FirstSending, firsts_by, firsts, fi
 use Rattle.history_laws.specs.Exchanges.{openings, waits_for, is_going, open_exchanges}
 use Rattle.history_laws.specs.Justified.{Follows}
 use Rattle.history_laws.proofs.CallerLemmas.{all-more, at-keeps, awaiting-stays, begun-keeps, entries-length, first-stands, IsFirst-below, rank-keeps}
-use Rattle.history_links.specs.Agrees.{Agrees}
+use Rattle.history_links.specs.Agrees.{Start, Agrees}
 use Rattle.history_links.proofs.CallerLemmas.{first_at-still, Still}
 use Rattle.exchange_model.specs.declared.kept.Exchange.{Exchange}
 use Rattle.exchange_model.specs.State.{PeerLink, State, link_of, with_link, conns_after}
@@ -44,14 +44,14 @@ under-stays x l p token None unborne a = unborne a
 under-stays x l p token (Some i) unborne a = (a.0, first-stays x l i a.0 a.1, a.2, a.3)
 
 -- An entry after which an exchange waits for what it waited for leaves what is kept of it.
-pub exchange-stays : (x : Noted) (l : List Noted) (e : Exchange) → (bears_token l e.token ≡ false → bears_token (x ∷ l) e.token ≡ false)
-    → waits_for (x ∷ l) e.opening ≡ waits_for l e.opening → ExchangeIn l e → ExchangeIn (x ∷ l) e
-exchange-stays x l e unborne same a = record {
+pub exchange-stays : {start : Start} (x : Noted) (l : List Noted) (e : Exchange) → (bears_token l e.token ≡ false → bears_token (x ∷ l) e.token ≡ false)
+    → waits_for (x ∷ l) e.opening ≡ waits_for l e.opening → ExchangeIn start l e → ExchangeIn start (x ∷ l) e
+exchange-stays {start = start} x l e unborne same a = record {
   request = a.request;
   opening = begun-keeps x l e.opening _ a.opening;
   peer = a.peer;
   method = a.method;
-  number = rank-keeps x l e.opening _ a.opening (awaiting-stays x l e.opening same) ∙ a.number;
+  number = ap (λ (k : ℕ). start.issued + k) (rank-keeps x l e.opening _ a.opening (awaiting-stays x l e.opening same)) ∙ a.number;
   sending = same ∙ a.sending;
   sent = under-stays x l e.peer e.token e.sending unborne a.sent;
   ask = a.ask;
@@ -63,13 +63,13 @@ under-still : (l n : List Noted) (p : Peer) (token : List ℕ) (s : Option ℕ) 
 under-still l n p token None still a = rw (still.firsts_are) a
 under-still l n p token (Some i) still a = (a.0, first_at-still l n still i ∙ a.1, a.2, a.3)
 
-exchange-still : (l n : List Noted) → Still l n → (e : Exchange) → ExchangeIn l e → ExchangeIn n e
-exchange-still l n still e a = record {
+exchange-still : {start : Start} (l n : List Noted) → Still l n → (e : Exchange) → ExchangeIn start l e → ExchangeIn start n e
+exchange-still {start = start} l n still e a = record {
   request = a.request;
   opening = still.begun_are e.opening ∙ a.opening;
   peer = a.peer;
   method = a.method;
-  number = still.ranks_are e.opening a.opening ∙ a.number;
+  number = ap (λ (k : ℕ). start.issued + k) (still.ranks_are e.opening a.opening) ∙ a.number;
   sending = still.waits_are e.opening ∙ a.sending;
   sent = under-still l n e.peer e.token e.sending still a.sent;
   ask = a.ask;
@@ -79,9 +79,19 @@ exchange-still l n still e a = record {
 open-still : (l n : List Noted) → Still l n → open_exchanges n ≡ open_exchanges l
 open-still l n still = rw (still.openings_are) (filter_agree (is_going n) (is_going l) (λ o. ap is_none (still.ends_are o)) (openings l))
 
+-- Nothing in the history is later than the state's moment, nor is its start.
+pub reads-later : (l : List Noted) (t : ℕ) (S : State) → Reads l S → S.moment ≤ t → newest l ≤ t
+reads-later l t S r later = let is = r.moment_is in omega (arith, is, later)
+
+pub reads-from : (l : List Noted) (t : ℕ) (S : State) (r : Reads l S) → S.moment ≤ t → r.start.moment ≤ t
+reads-from l t S r later = let is = r.moment_is in omega (arith, is, later)
+
+pub reads-now : (l : List Noted) (t : ℕ) (S : State) (r : Reads l S) → S.moment ≤ t → max r.start.moment t ≡ t
+reads-now l t S r later = let begins = reads-from l t S r later in omega (arith, begins)
+
 -- the tables after an entry that is nothing to any exchange: links may have changed, but not what waits
-pub still-reads : (l : List Noted) (t : ℕ) (d : Deed) (note : Note) (S : State) (links : List PeerLink) → Reads l S → newest l ≤ t → Follows l t d note
-    → Still l (noted t d note ∷ l) → ((p : Peer) → (link_of links p).waiting ≡ (link_of S.links p).waiting) → ((p : Peer) → Agrees (noted t d note ∷ l) p (link_of links p))
+pub still-reads : (l : List Noted) (t : ℕ) (d : Deed) (note : Note) (S : State) (links : List PeerLink) (r : Reads l S) → S.moment ≤ t → Follows l t d note
+    → Still l (noted t d note ∷ l) → ((p : Peer) → (link_of links p).waiting ≡ (link_of S.links p).waiting) → ((p : Peer) → Agrees r.start (noted t d note ∷ l) p (link_of links p))
     → Reads (noted t d note ∷ l) (record {
       entries = S.entries ++ record { moment = t; deed = d } ∷ [];
       sealed = sealed_by d S.sealed;
@@ -94,15 +104,17 @@ pub still-reads : (l : List Noted) (t : ℕ) (d : Deed) (note : Note) (S : State
     })
 still-reads l t d note S links r later follows still waiting agrees =
     let n = noted t d note ∷ l in record {
+      start = r.start;
+      few = r.few;
       entries_are = ap (λ (es : List Written). es ++ record { moment = t; deed = d } ∷ []) r.entries_are;
-      legal = (r.legal, later, follows);
+      legal = (r.legal, reads-later l t S r later, follows);
       sealed_is = ap (sealed_by d) r.sealed_is;
-      moment_is = refl;
+      moment_is = reads-now l t S r later;
       opened_are = ap (opened_by d) r.opened_are;
-      issued_are = still.issued_are ∙ r.issued_are;
+      issued_are = ap (λ (k : ℕ). r.start.issued + k) still.issued_are ∙ r.issued_are;
       conns_are = rw (r.conns_are, sym (entries-length l), r.entries_are) refl;
       keys = open-still l n still ∙ r.keys;
-      exchanges_are = all-more (ExchangeIn l) (ExchangeIn n) (exchange-still l n still) S.exchanges r.exchanges_are;
+      exchanges_are = all-more (ExchangeIn r.start l) (ExchangeIn r.start n) (exchange-still l n still) S.exchanges r.exchanges_are;
       tokens_are = rw (still.firsts_are) r.tokens_are;
       waiting_are = all-more _ (λ (e : Exchange). WaitsUnder (link_of links e.peer).waiting e) (λ e h. rw (waiting e.peer) h) S.exchanges r.waiting_are;
       links_are = agrees;
@@ -138,5 +150,5 @@ all-links P p s xs here others q = by (same_peer p q) refl
     by false e = subst (P q) (sym (link-other p q s e xs)) (others q e)
 
 -- What a link gives out is nothing to what it keeps of a history.
-pub given-agrees : (l : List Noted) (p : Peer) (s : LinkState) → Agrees l p s → Agrees l p (given_out s)
-given-agrees l p s a = record { turn = a.turn; last = a.last; count_up = a.count_up; given = a.given; waits = a.waits; awaits = a.awaits; acks = a.acks; heard = a.heard }
+pub given-agrees : {start : Start} (l : List Noted) (p : Peer) (s : LinkState) → Agrees start l p s → Agrees start l p (given_out s)
+given-agrees l p s a = record { turn = a.turn; known = a.known; last = a.last; count_up = a.count_up; given = a.given; waits = a.waits; awaits = a.awaits; acks = a.acks; heard = a.heard }

@@ -1,4 +1,5 @@
 -- A tick keeps that the journal stands, and that the state says what it says.
+use Rattle.history_links.specs.Agrees.{Start}
 use Rattle.std.proofs.Common.{◌≡◌, ℕ, ◌+◌, ◌<◌, ◌≤◌, ◌⊎◌, Bool, true, false, cond, not, inl, inr, List, [], ◌∷◌, map, Option, Some, None, refl, sym, subst, ◌∙◌, arith}
 use Rattle.std.specs.Prelude.{fold, filter, unwrap_or}
 use Rattle.std.specs.List.{AllByRecursion, list_any}
@@ -98,10 +99,10 @@ passed-ready l t S r unsealed later mids =
 ended-over : (l : List Noted) (t : ℕ) (S : State) → Before l t S → AllByRecursion (IsTimedOut (passed_by t l)) (filter (expires t S.links) S.exchanges)
 ended-over l t S b =
     let q = expires t S.links in
-    all-more (λ (e : Exchange). OpenIn l e × (q e ≡ true)) (IsTimedOut (passed_by t l)) one (filter q S.exchanges)
-    (all-both (OpenIn l) (λ (e : Exchange). q e ≡ true) (filter q S.exchanges) (all-filter (OpenIn l) q S.exchanges (open-ones l S b.reads)) (all-passes q S.exchanges))
+    all-more (λ (e : Exchange). OpenIn b.reads.start l e × (q e ≡ true)) (IsTimedOut (passed_by t l)) one (filter q S.exchanges)
+    (all-both (OpenIn b.reads.start l) (λ (e : Exchange). q e ≡ true) (filter q S.exchanges) (all-filter (OpenIn b.reads.start l) q S.exchanges (open-ones l S b.reads)) (all-passes q S.exchanges))
   where
-    one : (e : Exchange) → OpenIn l e × (expires t S.links e ≡ true) → IsTimedOut (passed_by t l) e
+    one : (e : Exchange) → OpenIn b.reads.start l e × (expires t S.links e ≡ true) → IsTimedOut (passed_by t l) e
     one e h = passed-over l t e h.0.0 (none-of (end_of l e.opening) h.0.1) (sym (expires-alike l t S.links e b.reads.legal b.reads.links_are h.0.0) ∙ h.1)
 
 goes-or-ends : (q : Exchange → Bool) (es : List Exchange) (k : ℕ) → HasExchange es k → HasExchange (filter (λ (e : Exchange). not (q e)) es) k ⊎ HasExchange (filter q es) k

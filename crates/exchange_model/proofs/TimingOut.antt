@@ -1,4 +1,5 @@
 -- What a tick ends is over, and is told so.
+use Rattle.history_links.specs.Agrees.{Start}
 use Rattle.std.proofs.Common.{◌≡◌, ℕ, ◌⊎◌, true, inl, inr, List, [], ◌∷◌, length, Option, Some, None, refl, sym, ap, subst, ◌∙◌}
 use Rattle.std.specs.Prelude.{unwrap_or}
 use Rattle.std.proofs.lemmas.Bool.Decides.{eqb_tells}
@@ -54,7 +55,7 @@ sent-alike (x ∷ older) o e =
     alike-step older o x.written.moment x.written.deed x.note (unreplied older o both.1) (sent-alike older o both.1) both.0
 
 -- It ends at the tick, and what was sent last is named, or its ask.
-pub passed-over : (l : List Noted) (t : ℕ) (e : Exchange) → ExchangeIn l e → end_of l e.opening ≡ None → ends_at l e.opening t (waits_for l e.opening) ≡ true
+pub passed-over : {start : Start} (l : List Noted) (t : ℕ) (e : Exchange) → ExchangeIn start l e → end_of l e.opening ≡ None → ends_at l e.opening t (waits_for l e.opening) ≡ true
     → IsOver (noted t Passes Plain ∷ l) e (Fault C.Timeout (unwrap_or e.sending e.opening))
 passed-over l t e a going due =
     let n = noted t Passes Plain ∷ l in record {

@@ -16,8 +16,8 @@ use Rattle.message_layer.specs.declared.state.Outstanding.{Outstanding}
 use Rattle.message_layer.specs.declared.verdict.Verdict.{Verdict}
 use Rattle.history_laws.specs.Readings.{Noted, Plain, Begins, Confirms, Repeats, Garbled, ticked, noted}
 use Rattle.history_laws.specs.Connections.{is_open, asks_of, answers_of}
-use Rattle.history_laws.specs.Transmissions.{mids_used, last_sent}
-use Rattle.history_laws.specs.Hearing.{repeated, can_be_remembered, has_room}
+use Rattle.history_laws.specs.Transmissions.{mids_used}
+use Rattle.history_laws.specs.Hearing.{knows, repeated, can_be_remembered, has_room}
 use Rattle.history_laws.specs.Confirming.{owed}
 use Rattle.history_laws.specs.Sealing.{MaySeal}
 use Rattle.history_laws.specs.Justified.{HasGrounds, AskNote, pending, MayConfirm, MayCome, Follows}
@@ -115,7 +115,7 @@ pub record MayHear (l : List Noted) (t : ℕ) (p : Peer) (d : List ℕ) (S : Sta
   pub before : Before l t S
   pub come : MayCome l
   pub short : length d ≤ MAX_DATAGRAM_LEN
-  pub known : is_some (last_sent l p) ≡ true
+  pub known : knows l p ≡ true
 
 abbrev pub verdict_on : ℕ → Peer → Content → State → Verdict
 verdict_on t p m S = verdict_of t (link_of S.links p) m

@@ -1,5 +1,5 @@
 -- A state says what a history says.
-use Rattle.std.specs.Prelude.{◌≡◌, ℕ, ◌<◌, false, List, [], ◌∷◌, length, map, Option, Some, None}
+use Rattle.std.specs.Prelude.{◌≡◌, ℕ, ◌+◌, ◌<◌, ◌≤◌, max, false, List, [], ◌∷◌, length, map, Option, Some, None}
 use Rattle.std.specs.List.{AllByRecursion, Contains}
 use Rattle.uri_map.specs.declared.peer.Peer.{Peer}
 use Rattle.ask_model.specs.Requests.{CoapRequest}
@@ -12,7 +12,7 @@ use Rattle.history_laws.specs.Connections.{is_sealed, opened}
 use Rattle.history_laws.specs.Transmissions.{FirstSending, firsts, first_at, bears_token}
 use Rattle.history_laws.specs.Exchanges.{begun, issued, rank, waits_for, open_exchanges}
 use Rattle.history_laws.specs.Justified.{Legal}
-use Rattle.history_links.specs.Agrees.{Agrees}
+use Rattle.history_links.specs.Agrees.{Start, Agrees}
 use Rattle.exchange_model.specs.declared.kept.Conn.{Conn}
 use Rattle.exchange_model.specs.declared.kept.Exchange.{Exchange}
 use Rattle.exchange_model.specs.State.{State, link_of, conns_after}
@@ -29,12 +29,12 @@ IsSentUnder l p token (Some i) =
     (f : FirstSending) × (first_at l i ≡ Some f) × (f.peer ≡ p) × (f.message.token ≡ token)
 
 -- What is kept of an exchange is what the history says of it.
-pub record ExchangeIn (l : List Noted) (e : Exchange) : Type 0 where
+pub record ExchangeIn (start : Start) (l : List Noted) (e : Exchange) : Type 0 where
   pub request : CoapRequest
   pub opening : begun l e.opening ≡ Some (record { since = e.since; request = request })
   pub peer : request.peer ≡ e.peer
   pub method : request.method ≡ e.method
-  pub number : rank l e.opening ≡ token_number e.token
+  pub number : start.issued + rank l e.opening ≡ token_number e.token
   pub sending : waits_for l e.opening ≡ e.sending
   pub sent : IsSentUnder l e.peer e.token e.sending
   pub ask : Ask
@@ -48,19 +48,25 @@ WaitsUnder ws e =
 abbrev pub opening_of : Exchange → ℕ
 opening_of e = e.opening
 
--- The state says what a legal reading of its entries says.
+-- Tokens are numbered in four bytes: of these so many are left where a journal begins.
+abbrev pub MOST_ISSUED : ℕ
+MOST_ISSUED = 4294836224
+
+-- The state says what a legal reading of its entries says, which begins at this start.
 pub record Reads (l : List Noted) (S : State) : Type 0 where
+  pub start : Start
+  pub few : start.issued ≤ MOST_ISSUED
   pub entries_are : entries l ≡ S.entries
   pub legal : Legal l
   pub sealed_is : is_sealed l ≡ S.sealed
-  pub moment_is : newest l ≡ S.moment
+  pub moment_is : max start.moment (newest l) ≡ S.moment
   pub opened_are : opened l ≡ S.opened
-  pub issued_are : issued l ≡ S.issued
+  pub issued_are : start.issued + issued l ≡ S.issued
   pub conns_are : conns_of l ≡ S.conns
   pub keys : open_exchanges l ≡ map opening_of S.exchanges
-  pub exchanges_are : AllByRecursion (ExchangeIn l) S.exchanges
+  pub exchanges_are : AllByRecursion (ExchangeIn start l) S.exchanges
   pub tokens_are :
       AllByRecursion (λ (f : FirstSending). token_number f.message.token < S.issued) (firsts l)
   pub waiting_are :
       AllByRecursion (λ (e : Exchange). WaitsUnder (link_of S.links e.peer).waiting e) S.exchanges
-  pub links_are : (p : Peer) → Agrees l p (link_of S.links p)
+  pub links_are : (p : Peer) → Agrees start l p (link_of S.links p)
