@@ -39,7 +39,8 @@ issued-below S bytes room gs s =
     let len = entries-length s.kept.kept.reading in
     let same : length (entries s.kept.kept.reading) ≡ length S.entries = ap (λ (xs : List Written). length xs) r.entries_are in
     let left = place-left S bytes room gs s in
-    omega (arith, few, is, len, same, left)
+    let begins = r.few in
+    omega (arith, few, is, len, same, left, begins)
 
 -- there are places for what fits
 pub room-left : (t : ℕ) (d : DraftValue) (S : State) (bytes room : ℕ) (gs : List Given) → SoundState S bytes room gs

@@ -107,7 +107,7 @@ pub next-timed : (t : ℕ) (p : Peer) (S : State) (link : LinkValue) (x : Heedin
     → link.state ≡ link_of S.links p → Kept S → IsTimed x.next
 next-timed t p S link x h at k =
     by x.verdict.ends x.next link.state.waiting h.next h.none (waiting k.reading p)
-    (subst (λ (u : LinkState). WaitIn k.reading (waiting k.reading p) u.waiting) (sym at)
+    (subst (λ (u : LinkState). WaitIn k.rests.reads.start k.reading (waiting k.reading p) u.waiting) (sym at)
     (k.rests.reads.links_are p).waits)
   where
     some-none : (f : FirstSending) → Some f ≡ None → ⊥
@@ -115,7 +115,7 @@ next-timed t p S link x h at k =
 
     by : (b : Bool) (v : Option FirstSending) (ws : List Waiting)
         → (b ≡ true → IsNext t link.state.last_mid ws v) → (b ≡ false → v ≡ None)
-        → (os : List ℕ) → WaitIn k.reading os ws → IsTimed v
+        → (os : List ℕ) → WaitIn k.rests.reads.start k.reading os ws → IsTimed v
     by b None ws next none os a = tt
     by false (Some f) ws next none os a = absurd (some-none f (none refl))
     by true (Some f) [] next none os a = absurd (next refl)

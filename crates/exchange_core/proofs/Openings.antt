@@ -17,7 +17,7 @@ begins-sense : (l : List Noted) (t : ℕ) (s : Sense) (q : CoapRequest) → AskN
 begins-sense l t (Requests r) q h = ap Requests (sym h.0)
 begins-sense l t (Refuses cause status) q h = absurd h
 
-opened-in : (l : List Noted) (S : State) (e : Exchange) → Reads l S → ExchangeIn l e
+opened-in : (l : List Noted) (S : State) (e : Exchange) (r : Reads l S) → ExchangeIn r.start l e
     → IsOpenedIn S.entries e
 opened-in l S e r x = record {
   ask = x.ask;
@@ -36,7 +36,7 @@ opened-in l S e r x = record {
 pub all-opened : (S : State) → Kept S → AllByRecursion (IsOpenedIn S.entries) S.exchanges
 all-opened S k = all (S.exchanges) k.rests.reads.exchanges_are
   where
-    all : (es : List Exchange) → AllByRecursion (ExchangeIn k.reading) es
+    all : (es : List Exchange) → AllByRecursion (ExchangeIn k.rests.reads.start k.reading) es
         → AllByRecursion (IsOpenedIn S.entries) es
     all [] a = a
     all (e ∷ es) a = (opened-in k.reading S e k.rests.reads a.0, all es a.1)

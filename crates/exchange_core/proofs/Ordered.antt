@@ -38,8 +38,8 @@ conns-ordered S k = by-id S.conns (conns-rise S k)
 -- What is opened next comes after all that is open.
 pub latest : (S : State) (e : Exchange) → Kept S → e.opening ≡ length S.entries → token_number e.token ≡ S.issued → IsLatest e S.exchanges
 latest S e k opening token = record {
-  opening = all-more (ExchangeIn l) _ (λ (f : Exchange) i. let below = begun-below l f.opening _ i.opening in omega (arith, below, opening, len)) S.exchanges r.exchanges_are;
-  token = all-more (OpenIn l) _ (λ (f : Exchange) i.
+  opening = all-more (ExchangeIn r.start l) _ (λ (f : Exchange) i. let below = begun-below l f.opening _ i.opening in omega (arith, below, opening, len)) S.exchanges r.exchanges_are;
+  token = all-more (OpenIn r.start l) _ (λ (f : Exchange) i.
       let below = rank-below l f.opening _ r.legal i.0.opening i.1 in
       let number = i.0.number in
       let issued = r.issued_are in

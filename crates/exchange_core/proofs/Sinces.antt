@@ -1,4 +1,5 @@
 -- Exchanges stand in the order in which they were opened, so the first is late first.
+use Rattle.history_links.specs.Agrees.{Start}
 use Rattle.std.proofs.Common.{◌≡◌, ℕ, ◌+◌, ◌<◌, ◌≤◌, inl, inr, List, [], ◌∷◌, length, get_or, map, min, Option, Some, refl, sym, ap, ◌∙◌, subst, arith}
 use Rattle.std.specs.List.{AllByRecursion}
 use Rattle.std.proofs.lemmas.Bool.Decides.{eqb_tells}
@@ -37,22 +38,22 @@ at-later (z ∷ older) n m x y legal e f lt = elim (eqb_tells m (length older)) 
       ]
 ]
 
-later-sinces : (l : List Noted) (e : Exchange) (es : List Exchange) → Legal l → ExchangeIn l e
-    → AllByRecursion (λ (o : ℕ). e.opening < o) (map opening_of es) → AllByRecursion (ExchangeIn l) es
+later-sinces : (start : Start) (l : List Noted) (e : Exchange) (es : List Exchange) → Legal l → ExchangeIn start l e
+    → AllByRecursion (λ (o : ℕ). e.opening < o) (map opening_of es) → AllByRecursion (ExchangeIn start l) es
     → AllByRecursion (λ (f : Exchange). e.since ≤ f.since) es
-later-sinces l e [] legal i above all = tt
-later-sinces l e (f ∷ fs) legal i above all =
-    (at-later l e.opening f.opening _ _ legal i.stands all.0.stands above.0, later-sinces l e fs legal i above.1 all.1)
+later-sinces start l e [] legal i above all = tt
+later-sinces start l e (f ∷ fs) legal i above all =
+    (at-later l e.opening f.opening _ _ legal i.stands all.0.stands above.0, later-sinces start l e fs legal i above.1 all.1)
 
-by-opening : (l : List Noted) (es : List Exchange) → Legal l → Rising (map opening_of es) → AllByRecursion (ExchangeIn l) es → OpenLater es
-by-opening l [] legal r all = tt
-by-opening l (e ∷ es) legal r all = (later-sinces l e es legal all.0 r.0 all.1, by-opening l es legal r.1 all.1)
+by-opening : (start : Start) (l : List Noted) (es : List Exchange) → Legal l → Rising (map opening_of es) → AllByRecursion (ExchangeIn start l) es → OpenLater es
+by-opening start l [] legal r all = tt
+by-opening start l (e ∷ es) legal r all = (later-sinces start l e es legal all.0 r.0 all.1, by-opening start l es legal r.1 all.1)
 
 pub open-later : (S : State) → Kept S → OpenLater S.exchanges
 open-later S k =
     let l = k.reading in
     let r = k.rests.reads in
-    by-opening l S.exchanges r.legal (subst Rising r.keys (rising-filter (is_going l) (openings l) (openings-rising l))) r.exchanges_are
+    by-opening r.start l S.exchanges r.legal (subst Rising r.keys (rising-filter (is_going l) (openings l) (openings-rising l))) r.exchanges_are
 
 lesser : (a b : ℕ) → a ≤ b → Some (min a b) ≡ Some a
 lesser a b le = let e : min a b ≡ a = omega (arith, le) in ap Some e

@@ -16,7 +16,7 @@ use Rattle.message_layer.specs.declared.prepared.Ticking.{Ticking}
 use Rattle.message_layer.specs.declared.prepared.Ticking.TheVariants.{Rests, Copies, GivesUp}
 use Rattle.message_layer.specs.declared.state.Outstanding.{Outstanding}
 use Rattle.message_layer.specs.declared.state.Waiting.{Waiting}
-use Rattle.history_links.specs.Agrees.{WaitIn}
+use Rattle.history_links.specs.Agrees.{WaitIn, Start}
 use Rattle.history_laws.specs.Exchanges.{waiting}
 use Rattle.history_laws.specs.Readings.{Noted}
 use Rattle.history_laws.proofs.CallerLemmas.{all-filter}
@@ -36,16 +36,16 @@ use Rattle.exchange_core.specs.Sending.{IsTimed}
 abbrev InTime : LinkState → Type 0
 InTime s = AllByRecursion (λ (w : Waiting). w.timeout < 2 ^ 32) s.waiting
 
-wait-timed : (l : List Noted) (os : List ℕ) (ws : List Waiting) → WaitIn l os ws
+wait-timed : (start : Start) (l : List Noted) (os : List ℕ) (ws : List Waiting) → WaitIn start l os ws
     → AllByRecursion (λ (w : Waiting). w.timeout < 2 ^ 32) ws
-wait-timed l [] [] a = tt
-wait-timed l (o ∷ os) [] a = absurd a
-wait-timed l [] (w ∷ ws) a = absurd a
-wait-timed l (o ∷ os) (w ∷ ws) a =
-    let s = a.0.greatest in (omega (arith, s), wait-timed l os ws a.1)
+wait-timed start l [] [] a = tt
+wait-timed start l (o ∷ os) [] a = absurd a
+wait-timed start l [] (w ∷ ws) a = absurd a
+wait-timed start l (o ∷ os) (w ∷ ws) a =
+    let s = a.0.greatest in (omega (arith, s), wait-timed start l os ws a.1)
 
 link-timed : (S : State) → Kept S → (p : Peer) → InTime (link_of S.links p)
-link-timed S k p = wait-timed k.reading (waiting k.reading p) (link_of S.links p).waiting
+link-timed S k p = wait-timed k.rests.reads.start k.reading (waiting k.reading p) (link_of S.links p).waiting
     (k.rests.reads.links_are p).waits
 
 -- Each link is the one of its own endpoint.

@@ -117,9 +117,9 @@ lately t p (x ∷ l) =
 
 -- What the core keeps of the endpoint is what the entries say.
 
-map-none : (o : Option FirstSending) → option_map (λ (f : FirstSending). f.message.mid) o ≡ None → o ≡ None
-map-none None e = refl
-map-none (Some f) e = absurd cc
+not-some : (o : Option FirstSending) → is_some o ≡ false → o ≡ None
+not-some None e = refl
+not-some (Some f) e = absurd cc
 
 pub why-dropped : (t : ℕ) (p : Peer) (d : List ℕ) (S : State) → KeptInRoom S → S.moment ≤ t → WhyLost t p d S
     → IsStranger p S.entries ⊎ ((2048 < length d) ⊎ IsCrowded t p S.entries)
@@ -129,11 +129,11 @@ why-dropped t p d S kept le why =
     by : (l : List Noted) → Reads l S → WhyLost t p d S
         → IsStranger p S.entries ⊎ ((2048 < length d) ⊎ IsCrowded t p S.entries)
     by l r (inl unknown) =
-        inl (subst (IsStranger p) r.entries_are (strange l p r.legal (map-none (last_sent l p) (sym (r.links_are p).last ∙ unknown))))
+        inl (subst (IsStranger p) r.entries_are (strange l p r.legal (not-some (last_sent l p) (sym (r.links_are p).known ∙ ap is_some unknown))))
     by l r (inr (inl long)) = inr (inl long)
     by l r (inr (inr many)) =
-        let time : newest l ≤ t = subst (λ (n : ℕ). n ≤ t) (sym r.moment_is) le in
-        let live = (r.links_are p).heard.live t time in
+        let now = r.moment_is in
+        let live = (r.links_are p).heard.live t (omega (arith, now, le), omega (arith, now, le)) in
         let most = lately t p l in
         let all : 1024 ≤ count_by (is_recent_from t p) (entries l) = omega (arith, many, live, most) in
         inr (inr (subst (IsCrowded t p) r.entries_are all))
