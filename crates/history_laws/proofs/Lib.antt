@@ -13,6 +13,7 @@ mod Elements
 mod Openings
 mod Turns
 mod Replies
+mod Apart
 mod Members
 mod Sent
 mod Unbegun

@@ -15,7 +15,7 @@ use Rattle.history_laws.specs.Confirmations.{empty}
 use Rattle.history_laws.specs.Readings.{Noted, Note, First, Copies, Says, Notice, noted, at, before, ticked}
 use Rattle.history_laws.specs.Connections.{is_open, asks_of, answers_of, is_sealed}
 use Rattle.history_laws.specs.Progress.{Reply, Ending}
-use Rattle.history_laws.specs.Transmissions.{FirstSending, Transmission, transmission, due, outstanding}
+use Rattle.history_laws.specs.Transmissions.{FirstSending, firsts, Transmission, transmission, due, outstanding}
 use Rattle.history_laws.specs.Exchanges.{Begun, begun, turn, waits_for, replies, end_here, end_of, open_exchanges}
 use Rattle.history_laws.specs.Hearing.{repeated, has_room}
 use Rattle.history_laws.specs.Justified.{IsAsk, Ends, reads, Legal, AtRest}
@@ -29,15 +29,15 @@ pub record IsFirst (l : List Noted) (t o i : ℕ) (p : Peer) (m : Content) : Typ
 -- A token is borne by one first sending.
 abbrev pub TokensApart : Type 0
 TokensApart =
-    (l : List Noted) (s t o i q j : ℕ) (p r : Peer) (m n : Content) → Legal l
-    → IsFirst l s o i p m → IsFirst l t q j r n → m.token ≡ n.token → i ≡ j
+    (l : List Noted) (f g : FirstSending) → Legal l → Contains (firsts l) f → Contains (firsts l) g
+    → f.message.token ≡ g.message.token → f.number ≡ g.number
 
 -- To one peer, a message ID is borne by one first sending in 494 seconds.
 abbrev pub IdsApart : Type 0
 IdsApart =
-    (l : List Noted) (s t o i q j : ℕ) (p : Peer) (m n : Content) → Legal l
-    → IsFirst l s o i p m → IsFirst l t q j p n → m.mid ≡ n.mid → i < j
-    → s + MESSAGE_ID_LIFETIME ≤ t
+    (l : List Noted) (f g : FirstSending) → Legal l → Contains (firsts l) f → Contains (firsts l) g
+    → f.peer ≡ g.peer → f.message.mid ≡ g.message.mid → f.number < g.number
+    → f.moment + MESSAGE_ID_LIFETIME ≤ g.moment
 
 -- The answer with this number is to that ask of the connection, on these grounds.
 pub record IsAnswer (l : List Noted) (n c k : ℕ) (g : Grounds) : Type 0 where

@@ -1,8 +1,8 @@
-use Rattle.history_laws.proofs.Sendings.{tokens-apart, ids-apart}
+use Rattle.history_laws.proofs.Apart.{firsts-tokens, firsts-ids}
 use Rattle.history_laws.proofs.laws.sendings_apart.Goals as goal
 
 pub returns-clause-tokens : goal.returns-clause-tokens
-returns-clause-tokens c = tokens-apart
+returns-clause-tokens c = firsts-tokens
 
 pub returns-clause-ids : goal.returns-clause-ids
-returns-clause-ids c = ids-apart
+returns-clause-ids c = firsts-ids
