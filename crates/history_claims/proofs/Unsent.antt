@@ -17,7 +17,7 @@ use Rattle.history_laws.specs.Justified.{MayBeFirst, Follows, Legal}
 use Rattle.history_laws.specs.Laws.{IsFirst}
 use Rattle.history_laws.specs.Worked.{noted}
 use Rattle.history_laws.proofs.CallerLemmas.{any-first, asked-for, at-same, at-still, before-twice, begun-opening, eqb-itself, eqb-same, find-any, find-some, firsts-stand, follows-at, none-is, none-some, some-is}
-use Rattle.history_claims.specs.Headline.{IsUnsent}
+use Rattle.history_claims.specs.Causes.{IsUnsent}
 use Rattle.history_claims.proofs.Entries.{asked-entry, grows}
 use Rattle.history_claims.proofs.Sending.{first-of, sent-in}
 
