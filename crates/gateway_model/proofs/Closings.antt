@@ -1,43 +1,34 @@
--- Whom an act closes.
-use Rattle.std.proofs.Common.{◌≡◌, ◌≢◌, ◌⊎◌, inl, inr, ℕ, ◌+◌, Bool, true, false, cond, not, List, [], ◌∷◌, ◌++◌, length, map, Option, Some, None, Err, refl, sym, ap, ◌∙◌, subst, eq-eqb}
-use Rattle.gateway_model.proofs.Recounting.{recount-at}
-use Rattle.std.specs.Prelude.{◌==◌, ⊤}
-use Rattle.std.specs.List.{AllByRecursion, Contains, filter}
-use Rattle.std.proofs.lemmas.List.{append-nil, append_assoc, append_cancel_left}
-use Rattle.std.proofs.lemmas.Bool.{both_ways}
-use Rattle.http_edge.specs.Answers.{answer_text}
+-- Whom acts close, and what acts leave that close nobody.
+use Rattle.std.proofs.Common.{◌≡◌, ◌≢◌, ◌⊎◌, inl, inr, ℕ, ◌+◌, true, List, [], ◌∷◌, ◌++◌, length, map, Option, Some, None, refl, sym, ap, ◌∙◌, subst}
+use Rattle.std.specs.Prelude.{⊤}
+use Rattle.std.specs.List.{AllByRecursion, Contains}
+use Rattle.std.proofs.lemmas.List.{append-nil, append_cancel_left}
 use Rattle.ask_model.specs.Views.{Ask}
 use Rattle.journal_book.specs.Entries.{Deed, Opens as Opened, Asks as Asked, Sends as Sent, Hears as Heard, Passes as Passed, Answers, Shuts, Seals, Written}
-use Rattle.journal_book.specs.Views.{ask_of}
 use Rattle.http_mapping.specs.Means.{closes}
 use Rattle.history_claims.specs.Headline.{IsEntry}
 use Rattle.exchange_model.specs.declared.kept.Conn.{Conn}
 use Rattle.exchange_model.specs.State.{State}
-use Rattle.exchange_model.specs.Steps.{shuts, seals}
-use Rattle.exchange_model.specs.Calls.{heard}
 use Rattle.exchange_model.specs.Resting.{HasConn}
 use Rattle.exchange_model.specs.Growing.{Adds, at_moment, IsOfAsk}
-use Rattle.exchange_model.specs.Sealing.{asks_in_room, hears_in_room, ticks_in_room}
+use Rattle.exchange_model.specs.Sealing.{asks_in_room}
 use Rattle.exchange_model.proofs.CallerLemmas.{asks-add, asks-answer}
-use Rattle.exchange_core.specs.declared.fault.AskFault.TheVariants as AskFault
-use Rattle.exchange_core.specs.Calls.{IsAsked, AsksSo}
-use Rattle.exchange_core.specs.Drafts.{untaken_of}
-use Rattle.exchange_core.specs.Values.{CoreValue, Untaken, answered_in, stepped}
+use Rattle.exchange_core.specs.Calls.{AsksSo}
+use Rattle.exchange_core.specs.Values.{CoreValue, Untaken, answered_in}
 use Rattle.gateway_model.specs.declared.input.When.{When}
-use Rattle.gateway_model.specs.Acts.{Act, Opens, TurnsAway, Takes, Hears, Passes, Asks, Denies, Sends, Tells, GoesOn, Rests, Leaves, Misses, Served, Terms, IsAsking, IsDenying, IsClosing, Ends, IsTelling, Does, at, continue_text}
+use Rattle.gateway_model.specs.Acts.{Served, Terms, IsAsking, at}
 use Rattle.gateway_model.specs.Closing.{closed_in, shut_by, shut_in, IsNotTo, IsLastAnswer, IsNoTurn}
-use Rattle.gateway_model.specs.Emissions.{Emission, Says, Goes, Closed}
-use Rattle.gateway_model.specs.Unasked.{Unasked, unasked_at, changed_at, extended}
+use Rattle.gateway_model.specs.Emissions.{Emission, Says, Closed}
+use Rattle.gateway_model.specs.Unasked.{Unasked, unasked_at, changed_at}
 use Rattle.gateway_model.specs.Waiting.{conn_id, AreApart}
-use Rattle.gateway_model.proofs.Awaiting.{IsToTell, told-more, entry-more, same-entry, StepsTo, steps-by, steps-ids, told-of, AsksTo, others-told, which}
-use Rattle.gateway_model.proofs.Enters.{goes, stays-sealed}
-use Rattle.gateway_model.proofs.Moving.{IsInner, AreInner, hears-move, ticks-move, denied-is}
-use Rattle.gateway_model.proofs.Numbers.{at-number, extended-number, asks-ids}
-use Rattle.gateway_model.proofs.Opened.{here, open-conn, conn-open, open-ids}
+use Rattle.gateway_model.proofs.Awaiting.{IsToTell, told-more, StepsTo, steps-ids, AsksTo, which}
+use Rattle.gateway_model.proofs.Moving.{IsInner, AreInner}
+use Rattle.gateway_model.proofs.Numbers.{asks-ids}
+use Rattle.gateway_model.proofs.Opened.{open-conn, conn-open, open-ids}
 use Rattle.gateway_model.proofs.Order.{all-append, all-as}
-use Rattle.gateway_model.proofs.Serving.{asks-to, item-others, gone-shut}
-use Rattle.gateway_model.proofs.Standing.{others-same, own-before, others-left}
-use Rattle.gateway_model.proofs.Untold.{AreToOthers, all-to-others, apart-with, apart-both, all-own, left-all, left-apart, told-one, told-apart, IsToldBy, each-told}
+use Rattle.gateway_model.proofs.Serving.{asks-to, item-others}
+use Rattle.gateway_model.proofs.Standing.{others-same, own-before}
+use Rattle.gateway_model.proofs.Untold.{AreToOthers, all-to-others, apart-with, apart-both, all-own, IsToldBy, each-told}
 
 -- It closes none.
 abbrev pub IsPlain : Emission → Type 0
@@ -83,7 +74,7 @@ pub record ActCloses (M : Terms) (old new : Served) (out : List Emission) : Type
 
 -- acts after which all stays but bytes
 
-same-closes : (M : Terms) (old new : Served) (out : List Emission) → new.core.state ≡ old.core.state → new.core.untaken ≡ old.core.untaken
+pub same-closes : (M : Terms) (old new : Served) (out : List Emission) → new.core.state ≡ old.core.state → new.core.untaken ≡ old.core.untaken
     → ((c : ℕ) (x : Unasked) → unasked_at c new.unasked ≡ Some x → (y : Unasked) × (unasked_at c old.unasked ≡ Some y))
     → closed_in out ≡ [] → AllByRecursion IsNoTurn out → AllByRecursion IsPlain out
     → ((c : ℕ) → Gone c old → AllByRecursion (IsNotTo c) out) → ActCloses M old new out
@@ -107,7 +98,7 @@ same-closes M old new out state untaken bytes none turned plain others = record 
   answered = tt;
 }
 
-changed-before : (c d : ℕ) (f : Unasked → Unasked) (xs : List Unasked) (x : Unasked)
+pub changed-before : (c d : ℕ) (f : Unasked → Unasked) (xs : List Unasked) (x : Unasked)
     → ((x : Unasked) → x.number ≡ c → (f x).number ≡ c) → unasked_at d (changed_at c f xs) ≡ Some x
     → (y : Unasked) × (unasked_at d xs ≡ Some y)
 changed-before c d f xs x keeps e = by (which d c)
@@ -137,7 +128,7 @@ inner-shuts (w ∷ ws) h = let one = inner-deed w.deed h.0 in let rest = inner-s
 was-there : (c : ℕ) (p : Option ℕ) (cs ds : List Conn) → map conn_id ds ≡ map conn_id cs → HasConn ds c p → (q : Option ℕ) × HasConn cs c q
 was-there c p cs ds e h = conn-open c cs (open-ids c ds cs (sym e) (open-conn c p ds h))
 
-steps-close : (M : Terms) (old new : Served) → new.unasked ≡ old.unasked → StepsTo old.core new.core → old.core.untaken ≡ []
+pub steps-close : (M : Terms) (old new : Served) → new.unasked ≡ old.unasked → StepsTo old.core new.core → old.core.untaken ≡ []
     → (old.core.state.sealed ≡ true → new.core.state.sealed ≡ true) → ActCloses M old new []
 steps-close M old new same s none sealed = record {
   more = s.more;
@@ -178,7 +169,7 @@ ask-own t word c a v u so s =
     (subst (λ (ws : List Written). AllByRecursion (λ (w : Written). IsOfAsk (length v.state.entries) c a w.deed) ws) is
     (asks-answer t c a so.numbers v.state x)).1
 
-asks-apart : (c d : ℕ) (old : Served) → HasConn old.core.state.conns c None → Gone d old → d ≢ c
+pub asks-apart : (c d : ℕ) (old : Served) → HasConn old.core.state.conns c None → Gone d old → d ≢ c
 asks-apart c d old idle g same = g.shut None (subst (λ (i : ℕ). HasConn old.core.state.conns i None) (sym same) idle)
 
 asks-close-by : (M : Terms) (w : When) (c t : ℕ) (old new : Served) (h : IsAsking M w c old new)
@@ -217,350 +208,10 @@ asks-close-by M w c t old new h s own sealed = record {
   );
 }
 
-asks-close : (M : Terms) (w : When) (c : ℕ) (old new : Served) → IsAsking M w c old new
+pub asks-close : (M : Terms) (w : When) (c : ℕ) (old new : Served) → IsAsking M w c old new
     → (old.core.state.sealed ≡ true → new.core.state.sealed ≡ true) → ActCloses M old new []
 asks-close M w c old new h sealed =
     let n : ℕ = length old.core.state.entries in
     let s : AsksTo (at w old) c h.ask old.core new.core = asks-to (at w old) w.word c h.number h.ask old.core new.core h.asked in
     asks-close-by M w c (at w old) old new h s
     (all-own (n + 1) n c h.ask s.rest (ask-own (at w old) w.word c h.ask old.core new.core h.asked.2 s)) sealed
-
--- a connection is closed
-
-not-left : (b : Bool) (c : ℕ) (p : Option ℕ) (x : Conn) (ys : List Conn) → (x.id == c) ≡ b → (HasConn ys c p → ⊥)
-    → HasConn (cond (not b) (x ∷ ys) ys) c p → ⊥
-not-left true c p x ys t f h = f h
-not-left false c p x ys t f (inl h) = (both_ways (x.id == c) t (eq-eqb x.id c h.0))
-not-left false c p x ys t f (inr h) = f h
-
-shut-out : (c : ℕ) (p : Option ℕ) (cs : List Conn) → HasConn (filter (λ (x : Conn). not (x.id == c)) cs) c p → ⊥
-shut-out c p [] h = h
-shut-out c p (x ∷ xs) h = not-left (x.id == c) c p x (filter (λ (y : Conn). not (y.id == c)) xs) refl (shut-out c p xs) h
-
-still-shut : (b : Bool) (d : ℕ) (p : Option ℕ) (x : Conn) (ys : List Conn) → ((x.id ≡ d) × (x.pending ≡ p) → ⊥) → (HasConn ys d p → ⊥)
-    → HasConn (cond b (x ∷ ys) ys) d p → ⊥
-still-shut true d p x ys f g (inl h) = f h
-still-shut true d p x ys f g (inr h) = g h
-still-shut false d p x ys f g h = g h
-
-others-shut : (c d : ℕ) (p : Option ℕ) (cs : List Conn) → (HasConn cs d p → ⊥)
-    → HasConn (filter (λ (x : Conn). not (x.id == c)) cs) d p → ⊥
-others-shut c d p [] f h = h
-others-shut c d p (x ∷ xs) f h =
-    still-shut (not (x.id == c)) d p x (filter (λ (y : Conn). not (y.id == c)) xs) (λ e. f (inl e))
-    (others-shut c d p xs (λ k. f (inr k))) h
-
-record ShutsOne (c : ℕ) (mid new : Served) : Type 0 where
-  moment : ℕ
-  entries : new.core.state.entries ≡ mid.core.state.entries ++ at_moment moment (Shuts c) ∷ []
-  untaken : new.core.untaken ≡ mid.core.untaken
-  sealed : mid.core.state.sealed ≡ true → new.core.state.sealed ≡ true
-  own : AreToOthers c mid.core.untaken → Gone c new
-  others : (d : ℕ) → d ≢ c → Gone d mid → Gone d new
-
-shuts-one : (w : When) (c : ℕ) (mid new : Served) → IsClosing w c mid new → ShutsOne c mid new
-shuts-one w c mid new h = record {
-  moment = at w mid;
-  entries = ap (λ (v : CoreValue). v.state.entries) h.0.1;
-  untaken = untaken;
-  sealed = λ s. ap (λ (v : CoreValue). v.state.sealed) h.0.1 ∙ s;
-  own = λ told. record {
-    told = subst (AreToOthers c) (sym untaken) told;
-    shut = λ p has. shut-out c p mid.core.state.conns (subst (λ (v : CoreValue). HasConn v.state.conns c p) h.0.1 has);
-    unasked = gone-shut w c mid new h;
-  };
-  others = λ d ne g. record {
-    told = subst (AreToOthers d) (sym untaken) g.told;
-    shut = λ p has. others-shut c d p mid.core.state.conns (g.shut p)
-        (subst (λ (v : CoreValue). HasConn v.state.conns d p) h.0.1 has);
-    unasked = λ x e. g.unasked x (others-left c d mid.unasked x ne (subst (λ (xs : List Unasked). unasked_at d xs ≡ Some x) h.1 e));
-  };
-}
-  where
-    untaken : new.core.untaken ≡ mid.core.untaken
-    untaken =
-        told-of (shuts (at w mid) c mid.core.state) mid.core new.core (at_moment (at w mid) (Shuts c) ∷ []) h.0.1 refl
-        ∙ append-nil mid.core.untaken
-
--- one that is denied adds the seal at most
-
-abbrev IsSeal : List Written → Type 0
-IsSeal more = (more ≡ []) ⊎ ((t : ℕ) × (more ≡ at_moment t Seals ∷ []))
-
-record DeniedCore (v u : CoreValue) : Type 0 where
-  more : List Written
-  entries : u.state.entries ≡ v.state.entries ++ more
-  seal : IsSeal more
-  conns : u.state.conns ≡ v.state.conns
-  untaken : u.untaken ≡ v.untaken
-
-denied-core : (t word c : ℕ) (a : Ask) (v u : CoreValue) → IsAsked (Err AskFault.Sealed) t word c a v u → DeniedCore v u
-denied-core t word c a v u h = by h.2
-  where
-    begun : (so : AsksSo t word c a v u)
-        → (asks_in_room t c a so.numbers v.state ≡ v.state) ⊎ (asks_in_room t c a so.numbers v.state ≡ seals t v.state) → DeniedCore v u
-    begun so (inl e) =
-        let is : u ≡ stepped v.state v = so.is ∙ ap (λ (S : State). stepped S v) e in
-        record {
-          more = [];
-          entries = ap (λ (x : CoreValue). x.state.entries) is ∙ sym (append-nil v.state.entries);
-          seal = inl refl;
-          conns = ap (λ (x : CoreValue). x.state.conns) is;
-          untaken = told-of v.state v u [] is (sym (append-nil v.state.entries)) ∙ append-nil v.untaken;
-        }
-    begun so (inr e) =
-        let is : u ≡ stepped (seals t v.state) v = so.is ∙ ap (λ (S : State). stepped S v) e in
-        record {
-          more = at_moment t Seals ∷ [];
-          entries = ap (λ (x : CoreValue). x.state.entries) is;
-          seal = inr (t, refl);
-          conns = ap (λ (x : CoreValue). x.state.conns) is;
-          untaken = told-of (seals t v.state) v u (at_moment t Seals ∷ []) is refl ∙ append-nil v.untaken;
-        }
-
-    by : ((v.state.sealed ≡ true) × (u ≡ v)) ⊎ AsksSo t word c a v u → DeniedCore v u
-    by (inl same) = record {
-      more = [];
-      entries = ap (λ (x : CoreValue). x.state.entries) same.1 ∙ sym (append-nil v.state.entries);
-      seal = inl refl;
-      conns = ap (λ (x : CoreValue). x.state.conns) same.1;
-      untaken = ap (λ (x : CoreValue). x.untaken) same.1;
-    }
-    by (inr so) = begun so (denied-is t c a so.numbers v.state
-        (sym (ap (λ (x : CoreValue). x.state.sealed) so.is) ∙ h.0))
-
-seal-shuts : (t c : ℕ) (more : List Written) → IsSeal more → c ∷ [] ≡ shut_in (more ++ at_moment t (Shuts c) ∷ [])
-seal-shuts t c more (inl e) = sym (ap (λ (ws : List Written). shut_in (ws ++ at_moment t (Shuts c) ∷ [])) e)
-seal-shuts t c more (inr e) = sym (ap (λ (ws : List Written). shut_in (ws ++ at_moment t (Shuts c) ∷ [])) e.1)
-
-seal-told : (us : List Untaken) (t c : ℕ) (more : List Written) → IsSeal more
-    → AllByRecursion (λ (w : Written). IsToldBy us w.deed) (more ++ at_moment t (Shuts c) ∷ [])
-seal-told us t c more (inl e) =
-    subst (λ (ws : List Written). AllByRecursion (λ (w : Written). IsToldBy us w.deed) (ws ++ at_moment t (Shuts c) ∷ [])) (sym e) (tt, tt)
-seal-told us t c more (inr e) =
-    subst (λ (ws : List Written). AllByRecursion (λ (w : Written). IsToldBy us w.deed) (ws ++ at_moment t (Shuts c) ∷ [])) (sym e.1) (tt, (tt, tt))
-
-denies-close-by : (M : Terms) (w : When) (c : ℕ) (old mid new : Served) → IsDenying M w c old mid
-    → DeniedCore old.core mid.core → ShutsOne c mid new
-    → (old.core.state.sealed ≡ true → new.core.state.sealed ≡ true) → ActCloses M old new (Closed c ∷ [])
-denies-close-by M w c old mid new h core shut sealed = record {
-  more = core.more ++ at_moment shut.moment (Shuts c) ∷ [];
-  entries =
-      shut.entries ∙ (ap (λ (ws : List Written). ws ++ at_moment shut.moment (Shuts c) ∷ []) core.entries
-      ∙ append_assoc old.core.state.entries core.more (at_moment shut.moment (Shuts c) ∷ []));
-  shut = seal-shuts shut.moment c core.more core.seal;
-  sealed = sealed;
-  turned = (tt, tt);
-  gone = λ d g. (
-    shut.others d (asks-apart c d old h.denied.1 g) (mid_gone d g),
-    (λ same. asks-apart c d old h.denied.1 g (sym same), tt),
-  );
-  form = λ a. inr (inl (record {
-    conn = c;
-    is = refl;
-    sealed = shut.sealed h.denied.0;
-    gone = shut.own (subst (AreToOthers c) (sym core.untaken) h.answered);
-  }));
-  apart = λ a. subst AreApart (sym (shut.untaken ∙ core.untaken)) a;
-  told = λ d j t a later told e last. inl (subst (λ (us : List Untaken). IsToTell us d j) (sym (shut.untaken ∙ core.untaken)) told);
-  answered = seal-told new.core.untaken shut.moment c core.more core.seal;
-}
-  where
-    mid_gone : (d : ℕ) → Gone d old → Gone d mid
-    mid_gone d g = record {
-      told = subst (AreToOthers d) (sym core.untaken) g.told;
-      shut = λ p has. g.shut p (subst (λ (cs : List Conn). HasConn cs d p) core.conns has);
-      unasked = λ x e. g.unasked x (item-others c d M h.ask old mid (asks-apart c d old h.denied.1 g) h.reads x e);
-    }
-
-denies-close : (M : Terms) (w : When) (c : ℕ) (old mid new : Served) (out : List Emission) → IsDenying M w c old mid → IsClosing w c mid new
-    → out ≡ Closed c ∷ [] → (old.core.state.sealed ≡ true → new.core.state.sealed ≡ true) → ActCloses M old new out
-denies-close M w c old mid new out h k e sealed =
-    subst (ActCloses M old new) (sym e)
-    (denies-close-by M w c old mid new h (denied-core (at w old) w.word c h.ask old.core mid.core h.denied)
-    (shuts-one w c mid new k) sealed)
-
--- an answer that is told
-
-tells-close : (M : Terms) (w : When) (c k : ℕ) (old : Served) (out : List Emission) (new : Served) → IsTelling M w c k old out new
-    → (old.core.state.sealed ≡ true → new.core.state.sealed ≡ true) → ActCloses M old new out
-tells-close M w c k old out new h sealed = subst (ActCloses M old new) (sym h.given) (by (closes h.answer.mapping.came) refl h.ends)
-  where
-    apart : (d : ℕ) → Gone d old → c ≢ d
-    apart d g same = told-one d old.core.untaken (untaken_of h.answer) g.told h.taken.1 (h.conn ∙ same)
-
-    told_gone : (d : ℕ) → Gone d old → Gone d h.told
-    told_gone d g = record {
-      told = subst (λ (v : CoreValue). AreToOthers d v.untaken) (sym h.taken.3) (left-all (λ (u : Untaken). u.conn ≢ d) k old.core.untaken g.told);
-      shut = λ p has. g.shut p (subst (λ (v : CoreValue). HasConn v.state.conns d p) h.taken.3 has);
-      unasked = λ x e. g.unasked x (subst (λ (xs : List Unasked). unasked_at d xs ≡ Some x) h.unasked e);
-    }
-
-    told_apart : AreApart old.core.untaken → AreApart h.told.core.untaken
-    told_apart a = subst (λ (v : CoreValue). AreApart v.untaken) (sym h.taken.3) (left-apart k old.core.untaken a)
-
-    told_others : AreApart old.core.untaken → AreToOthers c h.told.core.untaken
-    told_others a =
-        subst (λ (v : CoreValue). AreToOthers c v.untaken) (sym h.taken.3)
-        (subst (λ (j : ℕ). AreToOthers c (filter (λ (u : Untaken). not (u.ask == j)) old.core.untaken)) h.taken.0
-        (subst (λ (i : ℕ). AreToOthers i (filter (λ (u : Untaken). not (u.ask == h.answer.ask)) old.core.untaken)) h.conn
-        (told-apart old.core.untaken (untaken_of h.answer) a h.taken.1)))
-
-    told_still : (d j : ℕ) → j ≢ k → IsToTell old.core.untaken d j → IsToTell h.told.core.untaken d j
-    told_still d j ne told =
-        subst (λ (v : CoreValue). IsToTell v.untaken d j) (sym h.taken.3) (others-told d k j old.core.untaken ne told)
-
-    -- the ask of this answer
-    own_ask : (d j t : ℕ) (a : Ask) (ws : List Written) → j ≡ k → IsEntry (old.core.state.entries ++ ws) j t (Asked d a)
-        → (d ≡ c) × (a ≡ ask_of h.answer.mapping)
-    own_ask d j t a ws e stands =
-        let given = h.taken.2 in
-        let mine : IsEntry (old.core.state.entries ++ ws) h.answer.ask t (Asked d a) =
-        subst (λ (i : ℕ). IsEntry (old.core.state.entries ++ ws) i t (Asked d a)) (e ∙ sym h.taken.0) stands in
-        let same = same-entry (old.core.state.entries ++ ws) h.answer.ask t given.asked d h.answer.conn a
-        (ask_of h.answer.mapping) mine
-        (entry-more old.core.state.entries ws h.answer.ask given.asked (Asked h.answer.conn (ask_of h.answer.mapping)) given.ask_stands) in
-        (same.0 ∙ h.conn, same.1)
-
-    last_answer : (ws : List Written) → closes h.answer.mapping.came ≡ true
-        → IsLastAnswer M (old.core.state.entries ++ ws) c (answer_text h.response)
-    last_answer ws t =
-        let given = h.taken.2 in
-        subst (λ (i : ℕ). IsLastAnswer M (old.core.state.entries ++ ws) i (answer_text h.response)) h.conn (record {
-          answer = h.answer;
-          before = given.asked;
-          asked = entry-more old.core.state.entries ws h.answer.ask given.asked
-              (Asked h.answer.conn (ask_of h.answer.mapping)) given.ask_stands;
-          last = t;
-          answered = entry-more old.core.state.entries ws h.answer.number h.answer.moment
-              (Answers h.answer.conn h.answer.ask h.answer.found.grounds) given.stands;
-          response = h.response;
-          tells = h.tells;
-          text = refl;
-        })
-
-    told_entries : h.told.core.state.entries ≡ old.core.state.entries
-    told_entries = ap (λ (v : CoreValue). v.state.entries) h.taken.3
-
-    still_entries : (s : Served) → s ≡ h.told → s.core.state.entries ≡ old.core.state.entries ++ []
-    still_entries s e = ap (λ (x : Served). x.core.state.entries) e ∙ (told_entries ∙ sym (append-nil old.core.state.entries))
-
-    long_entries : (shut : ShutsOne c h.told new)
-        → new.core.state.entries ≡ old.core.state.entries ++ at_moment shut.moment (Shuts c) ∷ []
-    long_entries shut = shut.entries ∙ ap (λ (es : List Written). es ++ at_moment shut.moment (Shuts c) ∷ []) told_entries
-
-    tell_shut : (shut : ShutsOne c h.told new) (d j u : ℕ) (a : Ask) (later : List Written) → IsToTell old.core.untaken d j
-        → (j ≡ k) ⊎ (j ≢ k) → IsEntry (new.core.state.entries ++ later) j u (Asked d a)
-        → IsToTell new.core.untaken d j ⊎ Contains (c ∷ []) d
-    tell_shut shut d j u a later told (inr ne) e =
-        inl (subst (λ (us : List Untaken). IsToTell us d j) (sym shut.untaken) (told_still d j ne told))
-    tell_shut shut d j u a later told (inl same) e =
-        let long : new.core.state.entries ++ later
-        ≡ old.core.state.entries ++ (at_moment shut.moment (Shuts c) ∷ [] ++ later) =
-        ap (λ (es : List Written). es ++ later) (long_entries shut)
-        ∙ append_assoc old.core.state.entries (at_moment shut.moment (Shuts c) ∷ []) later in
-        let own = own_ask d j u a (at_moment shut.moment (Shuts c) ∷ [] ++ later) same
-        (subst (λ (es : List Written). IsEntry es j u (Asked d a)) long e) in
-        inr (here c d [] (sym own.0))
-
-    closes_so : (shut : ShutsOne c h.told new) → closes h.answer.mapping.came ≡ true
-        → ActCloses M old new (Says c (answer_text h.response) ∷ Closed c ∷ [])
-    closes_so shut t = record {
-      more = at_moment shut.moment (Shuts c) ∷ [];
-      entries = long_entries shut;
-      shut = refl;
-      sealed = sealed;
-      turned = (tt, (tt, tt));
-      gone = λ d g. (shut.others d (λ same. apart d g (sym same)) (told_gone d g), (apart d g, (apart d g, tt)));
-      form = λ a. inr (inr (record {
-        conn = c;
-        bytes = answer_text h.response;
-        is = refl;
-        answer = subst (λ (es : List Written). IsLastAnswer M es c (answer_text h.response)) (sym (long_entries shut))
-            (last_answer (at_moment shut.moment (Shuts c) ∷ []) t);
-        gone = shut.own (told_others a);
-      }));
-      apart = λ a. subst AreApart (sym shut.untaken) (told_apart a);
-      told = λ d j u a later told e last. tell_shut shut d j u a later told (which j k) e;
-      answered = (tt, tt);
-    }
-
-    by : (q : Bool) → closes h.answer.mapping.came ≡ q → Ends w c q h.told h.after new
-        → ActCloses M old new (Says c (answer_text h.response) ∷ h.after)
-    by true t ends =
-        subst (λ (after : List Emission). ActCloses M old new (Says c (answer_text h.response) ∷ after)) (sym ends.1)
-        (closes_so (shuts-one w c h.told new ends.0) t)
-    by false t ends = subst (λ (after : List Emission). ActCloses M old new (Says c (answer_text h.response) ∷ after)) (sym ends.1) (record {
-      more = [];
-      entries = still_entries new ends.0;
-      shut = refl;
-      sealed = sealed;
-      turned = (tt, tt);
-      gone = λ d g. (subst (Gone d) (sym ends.0) (told_gone d g), (apart d g, tt));
-      form = λ a. inl (tt, tt);
-      apart = λ a. subst (λ (s : Served). AreApart s.core.untaken) (sym ends.0) (told_apart a);
-      told = λ d j u a later told e last. tell d j u a later told (which j k) e last;
-      answered = tt;
-    })
-      where
-        tell : (d j u : ℕ) (a : Ask) (later : List Written) → IsToTell old.core.untaken d j → (j ≡ k) ⊎ (j ≢ k)
-            → IsEntry (new.core.state.entries ++ later) j u (Asked d a) → closes a.came ≡ true
-            → IsToTell new.core.untaken d j ⊎ Contains [] d
-        tell d j u a later told (inr ne) e last = inl (subst (λ (s : Served). IsToTell s.core.untaken d j) (sym ends.0) (told_still d j ne told))
-        tell d j u a later told (inl same) e last =
-            let long : new.core.state.entries ++ later ≡ old.core.state.entries ++ ([] ++ later) =
-            ap (λ (es : List Written). es ++ later) (still_entries new ends.0) ∙ append_assoc old.core.state.entries [] later in
-            let own = own_ask d j u a later same (subst (λ (es : List Written). IsEntry es j u (Asked d a)) long e) in
-            absurd (both_ways (closes h.answer.mapping.came) t (sym (ap (λ (b : Ask). closes b.came) own.1) ∙ last))
-
--- each act of an input but those of openings and closes
-
-abbrev pub IsServing : Act → Type 0
-IsServing (Opens c) = ⊥
-IsServing TurnsAway = ⊥
-IsServing (Leaves c) = ⊥
-IsServing (Misses c) = ⊥
-IsServing _ = ⊤
-
-pub act-closes : (M : Terms) (w : When) (a : Act) (old : Served) (out : List Emission) (new : Served)
-    → IsServing a → Does M w a old out new → ActCloses M old new out
-act-closes M w (Opens c) old out new i h = absurd i
-act-closes M w TurnsAway old out new i h = absurd i
-act-closes M w (Takes c bytes) old out new i h =
-    subst (ActCloses M old new) (sym h.1)
-    (same-closes M old new [] (ap (λ (s : Served). s.core.state) h.0) (ap (λ (s : Served). s.core.untaken) h.0)
-    (λ d x e. changed-before c d (extended bytes) old.unasked x (λ x n. extended-number bytes x ∙ n)
-    (subst (λ (s : Served). unasked_at d s.unasked ≡ Some x) h.0 e)) refl tt tt (λ d g. tt))
-act-closes M w (Hears p bytes) old out new i h =
-    subst (ActCloses M old new) (sym h.1)
-    (steps-close M old new (ap (λ (s : Served). s.unasked) h.0)
-    (steps-by (hears_in_room (at w old) p bytes old.core.state) old.core new.core (ap (λ (s : Served). s.core) h.0)
-    (hears-move (at w old) p bytes old.core.state)) h.2
-    (λ s. ap (λ (x : Served). x.core.state.sealed) h.0 ∙ stays-sealed (at w old) (heard (at w old) p bytes old.core.state) old.core.state s))
-act-closes M w Passes old out new i h =
-    subst (ActCloses M old new) (sym h.1)
-    (steps-close M old new (ap (λ (s : Served). s.unasked) h.0)
-    (steps-by (ticks_in_room (at w old) old.core.state) old.core new.core (ap (λ (s : Served). s.core) h.0)
-    (ticks-move (at w old) old.core.state)) h.2 (goes M w Passes old out new tt h).sealed)
-act-closes M w (Asks c) old out new i h =
-    subst (ActCloses M old new) (sym h.1) (asks-close M w c old new h.0 (goes M w (Asks c) old out new tt h).sealed)
-act-closes M w (Denies c) old out new i h =
-    denies-close M w c old h.0 new out h.1 h.2 h.3 (goes M w (Denies c) old out new tt h).sealed
-act-closes M w Sends old out new i h =
-    subst (ActCloses M old new) (sym h.given)
-    (same-closes M old new (Goes h.datagram ∷ []) (ap (λ (v : CoreValue). v.state) h.sent.1) (ap (λ (v : CoreValue). v.untaken) h.sent.1)
-    (λ d x e. (x, subst (λ (xs : List Unasked). unasked_at d xs ≡ Some x) h.unasked e)) refl (tt, tt) (tt, tt) (λ d g. (tt, tt)))
-act-closes M w (Tells c k) old out new i h = tells-close M w c k old out new h (goes M w (Tells c k) old out new tt h).sealed
-act-closes M w (GoesOn c) old out new i h =
-    subst (ActCloses M old new) (sym h.2)
-    (same-closes M old new (Says c continue_text ∷ []) (ap (λ (v : CoreValue). v.state) h.1) (ap (λ (v : CoreValue). v.untaken) h.1)
-    (λ d x e. changed-before c d (λ (x : Unasked). record h.0.before { told = true; unread = h.0.unread }) old.unasked x
-    (λ x n. at-number c old.unasked h.0.before h.0.stands)
-    (subst (λ (xs : List Unasked). unasked_at d xs ≡ Some x) h.0.left e)) refl (tt, tt) (tt, tt)
-    (λ d g. (λ same. g.unasked h.0.before (subst (λ (i : ℕ). unasked_at i old.unasked ≡ Some h.0.before) same h.0.stands), tt)))
-act-closes M w (Rests c) old out new i h =
-    subst (ActCloses M old new) (sym h.1)
-    (same-closes M old new [] (ap (λ (v : CoreValue). v.state) h.0) (ap (λ (v : CoreValue). v.untaken) h.0)
-    (λ d x e. let y = recount-at c d old.unasked new.unasked h.2 x e in (y.0, y.1)) refl tt tt (λ d g. tt))
-act-closes M w (Leaves c) old out new i h = absurd i
-act-closes M w (Misses c) old out new i h = absurd i

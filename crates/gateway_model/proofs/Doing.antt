@@ -5,14 +5,13 @@ use Rattle.std.proofs.lemmas.List.{append_cancel_left}
 use Rattle.http_mapping.specs.Means.{closes}
 use Rattle.http_edge.specs.Answers.{answer_text}
 use Rattle.ask_model.specs.Views.{Ask}
-use Rattle.ask_model.specs.declared.cause.Cause.TheVariants as C
 use Rattle.journal_book.specs.Entries.{Grounds, Deed, Opens as Opened, Asks as Asked, Sends as Sent, Hears as Heard, Passes as Passed, Answers, Shuts, Seals, Written}
 use Rattle.history_laws.specs.Justified.{Stands}
 use Rattle.history_claims.specs.Headline.{IsEntry}
 use Rattle.history_claims.proofs.CallerLemmas.{answer-once}
 use Rattle.exchange_model.specs.State.{State}
 use Rattle.exchange_model.specs.Steps.{shuts}
-use Rattle.exchange_model.specs.Calls.{Numbers, asked}
+use Rattle.exchange_model.specs.Calls.{Numbers}
 use Rattle.exchange_model.specs.Growing.{Adds, at_moment, IsOfAsk, by_client, HasNoClient}
 use Rattle.exchange_model.specs.Sealing.{opens_in_room, asks_in_room, hears_in_room, ticks_in_room}
 use Rattle.exchange_model.proofs.CallerLemmas.{asks-add, asks-answer, hears-add, hears-answer, opens-add, opens-alone, ticks-add, ticks-answer}

@@ -3,6 +3,7 @@ mod Apart
 mod Asked
 mod Awaiting
 mod Closings
+mod Closers
 mod Conns
 mod Counting
 mod Doing

@@ -16,15 +16,16 @@ use Rattle.http_mapping.specs.Means.{Tells, MeansWhole, MeansTold, last_reply}
 use Rattle.history_laws.specs.Justified.{Stands}
 use Rattle.history_laws.proofs.CallerLemmas.{some-is}
 use Rattle.history_claims.specs.Headline.{IsEntry, IsHeardFor, AreHeardFor, RestsOn}
-use Rattle.history_claims.proofs.CallerLemmas.{names-cause, rests-on-replies}
+use Rattle.history_claims.specs.Causes.{AreCaused}
+use Rattle.history_claims.proofs.CallerLemmas.{rests-on-replies}
 use Rattle.exchange_core.specs.Values.{CoreValue, Untaken, Outgoing, written, answered_in, sent_in}
 use Rattle.exchange_core.specs.Answering.{Given, HeardAs, AreHeard, IsFound, CountsFrom}
 use Rattle.gateway_model.specs.declared.input.When.{When}
 use Rattle.gateway_model.specs.Acts.{Act, Served, Terms, DoesAll}
 use Rattle.gateway_model.specs.Emissions.{Emission}
 use Rattle.gateway_model.specs.Going.{goes_in, GoesOut, SendsJust}
-use Rattle.gateway_model.specs.Tellings.{IsMapped, terms_of, IsMeant, AreMeant}
-use Rattle.gateway_model.specs.Told.{IsHeardFirst, ShowsGrounds, ShowsReplies, TellsAnswer, Piece, interim, final, answers_in, IsPiece, AreOnce, IsToldAnswers, TellsAll}
+use Rattle.gateway_model.specs.Tellings.{IsMapped, AreMapped, terms_of, IsMeant, AreMeant}
+use Rattle.gateway_model.specs.Told.{IsHeardFirst, ShowsGrounds, ShowsReplies, TellsAnswer, Piece, interim, final, answers_in, IsPiece, AreOnce, IsToldAnswers, TellsAll, HasCause}
 use Rattle.gateway_model.specs.Waiting.{IsDrained}
 use Rattle.gateway_model.proofs.Order.{all-append}
 use Rattle.gateway_model.proofs.Moves.{Whoever, TellsGiven, IsSaid, ToldIn, Wait, Did, nums, nums-in}
@@ -130,11 +131,10 @@ module _ (holds : Form → Form → List ℕ → List ℕ → Type 0) (takes : F
   shows-grounds n c g r asked ask by (Fails cause) (Live js) s sense answered found counts means = absurd found
   shows-grounds n c g r asked ask by (Fails cause) (Kept js) s sense answered found counts means = absurd found
   shows-grounds n c g r asked ask by (Fails cause) (Fault named j) s sense answered found counts means =
-      let names = names-cause h n g.moment c g.ask named j stands answered in
-      (names.0, names.1, subst (λ (x : _). Tells g.mapping x j r) found means)
+      subst (λ (x : _). Tells g.mapping x j r) found means
 
   tells-answer : (c n : ℕ) (bytes : List ℕ) → AreMeant (terms_of holds takes rules) h
-      → TellsGiven (terms_of holds takes rules) h c n bytes → TellsAnswer holds takes rules h c n bytes
+      → TellsGiven (terms_of holds takes rules) h c n bytes → TellsAnswer holds takes h c n bytes
   tells-answer c n bytes meant x =
       let g : Given = x.given in
       let ask : slice_get h g.ask ≡ Some (written x.is.asked (Asks c (ask_of g.mapping))) =
@@ -152,7 +152,6 @@ module _ (holds : Form → Form → List ℕ → List ℕ → Type 0) (takes : F
         before = x.is.asked;
         ask = ask_of g.mapping;
         asked = ask;
-        mapped = mapped;
         response = x.response;
         shows = shows-grounds n c g x.response x.is.asked ask mapped.by g.found.told g.found.grounds g.mapping.sense refl
             answered x.is.found x.is.counts x.tells;
@@ -160,7 +159,7 @@ module _ (holds : Form → Form → List ℕ → List ℕ → Type 0) (takes : F
       }
 
   all-pieces : (c : ℕ) (ps : List Piece) → AreMeant (terms_of holds takes rules) h
-      → AllByRecursion (IsSaid (terms_of holds takes rules) Whoever h c) ps → AllByRecursion (IsPiece holds takes rules h c) ps
+      → AllByRecursion (IsSaid (terms_of holds takes rules) Whoever h c) ps → AllByRecursion (IsPiece holds takes h c) ps
   all-pieces c [] meant each = tt
   all-pieces c (interim ∷ ps) meant each = (tt, all-pieces c ps meant each.1)
   all-pieces c (final n bytes ∷ ps) meant each = (tells-answer c n bytes meant each.0, all-pieces c ps meant each.1)
@@ -197,7 +196,7 @@ module _ (holds : Form → Form → List ℕ → List ℕ → Type 0) (takes : F
   told-just : (c : ℕ) (before more : List Written) (us vs : List Untaken) (out : List Emission) (rules : Rules)
       → us ≡ [] → vs ≡ [] → Stands (before ++ more) → AreMeant (terms_of holds takes rules) (before ++ more)
       → (x : ToldIn (terms_of holds takes rules) Whoever (before ++ more) c (length before) more us out vs)
-      → AreOnce x.pieces → IsToldAnswers holds takes rules before more c out
+      → AreOnce x.pieces → IsToldAnswers holds takes before more c out
   told-just c before more us vs out rules old new stands meant x once = record {
     pieces = x.pieces;
     said = x.said;
@@ -232,6 +231,20 @@ module _ (holds : Form → Form → List ℕ → List ℕ → Type 0) (takes : F
         told = λ c. told-just c entries d.more old.core.untaken new.core.untaken out rules before.answers after.answers stand meant
             (told.1 c).told (flow-once (IsQuiet c old) (IsQuiet c new) (told.1 c).told.pieces (told.1 c).flow);
       }
+
+  -- what is told, with what was asked and what own errors name
+  pub told-meant : (rules : Rules) (h : List Written) (c n : ℕ) (bytes : List ℕ) → AreMapped holds takes rules h → AreCaused h
+      → (a : TellsAnswer holds takes h c n bytes)
+      → IsMapped holds takes rules a.ask × HasCause h n a.moment c a.number a.grounds
+  told-meant rules h c n bytes mapped caused a = (
+    meant-at (terms_of holds takes rules) h a.number a.before c a.ask mapped a.asked,
+    cause a.grounds a.answered,
+  )
+    where
+      cause : (g : Grounds) → IsEntry h n a.moment (Answers c a.number g) → HasCause h n a.moment c a.number g
+      cause (Live js) e = tt
+      cause (Kept js) e = tt
+      cause (Fault named j) e = caused n a.moment c a.number named j e
 
   pub all-tell : (rules : Rules) (w : When) (acts : List Act) (old : Served) (out : List Emission) (new : Served)
       → DoesAll (terms_of holds takes rules) w acts old out new

@@ -22,7 +22,8 @@ use Rattle.gateway_model.specs.Orders.{IsInOrder}
 use Rattle.gateway_model.specs.Resting.{any_terms}
 use Rattle.gateway_model.specs.Waiting.{AreApart}
 use Rattle.gateway_model.proofs.Awaiting.{IsToTell, entry-more}
-use Rattle.gateway_model.proofs.Closings.{IsPlain, Gone, Form, ActCloses, IsServing, act-closes}
+use Rattle.gateway_model.proofs.Closings.{IsPlain, Gone, Form, ActCloses}
+use Rattle.gateway_model.proofs.Closers.{IsServing, act-closes}
 use Rattle.gateway_model.proofs.Order.{all-append, all-as, Each, each-out, each-delivers}
 use Rattle.gateway_model.proofs.Untold.{IsToldBy}
 

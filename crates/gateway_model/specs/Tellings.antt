@@ -39,9 +39,12 @@ pub record TellsBytes (M : Terms) (g : Given) (before after : List Emission) : T
   pub added : after ≡ before ++ Says g.conn (answer_text response) ∷ []
 
 -- What entries ask is what requests may be asked.
+abbrev pub IsMeantBy : (Ask → Type 0) → Deed → Type 0
+IsMeantBy IsMeaning (Asks c a) = IsMeaning a
+IsMeantBy IsMeaning _ = ⊤
+
 abbrev pub IsMeant : Terms → Deed → Type 0
-IsMeant M (Asks c a) = M.IsMeaning a
-IsMeant M _ = ⊤
+IsMeant M d = IsMeantBy M.IsMeaning d
 
 abbrev pub AreMeant : Terms → List Written → Type 0
 AreMeant M h = AllByRecursion (λ (e : Written). IsMeant M e.deed) h
@@ -49,4 +52,5 @@ AreMeant M h = AllByRecursion (λ (e : Written). IsMeant M e.deed) h
 -- All that entries ask was mapped by these rules.
 abbrev pub AreMapped : (Form → Form → List ℕ → List ℕ → Type 0) → (Form → Form → List ℕ → Type 0)
     → Rules → List Written → Type 0
-AreMapped holds takes rules h = AreMeant (terms_of holds takes rules) h
+AreMapped holds takes rules h =
+    AllByRecursion (λ (e : Written). IsMeantBy (IsMapped holds takes rules) e.deed) h

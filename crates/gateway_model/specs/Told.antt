@@ -1,6 +1,6 @@
 -- What connections are told, said of the entries of the journal alone: each answer shows one whole
--- response that was heard for just what its request means, or is the proxy's own error and names
--- its cause.
+-- response that was heard for just what its ask asks for, or is the proxy's own error, and tells the
+-- cause and the entry that the journal names.
 use Rattle.std.specs.Prelude.{◌≡◌, ℕ, ◌+◌, ◌-◌, ◌<◌, ⊤, ◌==◌, if◌then◌else◌, List, [], ◌∷◌, ◌++◌, length, map, flat_map}
 use Rattle.std.specs.List.{AllByRecursion}
 use Rattle.uri_map.specs.declared.peer.Peer.{Peer}
@@ -11,7 +11,8 @@ use Rattle.ask_model.specs.Views.{Ask, Mapping, Rules}
 use Rattle.journal_book.specs.Entries.{Grounds, Live, Kept, Fault, Deed, Asks, Hears, Answers, Written}
 use Rattle.http_mapping.specs.Means.{MeansWhole, Tells, last_reply}
 use Rattle.history_laws.specs.Justified.{Stands}
-use Rattle.history_claims.specs.Headline.{IsEntry, RestsOn, IsCausedBy}
+use Rattle.history_claims.specs.Headline.{IsEntry, RestsOn}
+use Rattle.history_claims.specs.Causes.{IsCausedBy, AreCaused}
 use Rattle.exchange_core.specs.Values.{CoreValue}
 use Rattle.gateway_model.specs.declared.input.When.{When}
 use Rattle.gateway_model.specs.Acts.{Act, Served, DoesAll, continue_text}
@@ -39,17 +40,15 @@ module _ (holds : Form → Form → List ℕ → List ℕ → Type 0)
     pub shows : MeansWhole a.rules.routes holds takes (mapping_of a) rests.response
         (last_reply (Live js)) (t - since) r
 
-  -- So it does; or it is the proxy's own error, which names its cause in the history.
+  -- So it does; or it is the proxy's own error, and tells its cause and an entry.
   abbrev pub ShowsGrounds : List Written → ℕ → ℕ → ℕ → ℕ → Ask → Grounds → HttpAnswer → Type 0
   ShowsGrounds h n t c k a (Live js) r = ShowsReplies h n t c k a js r
   ShowsGrounds h n t c k a (Kept js) r = ⊥
-  ShowsGrounds h n t c k a (Fault cause j) r =
-      (j < n) × IsCausedBy h n t c k cause j × Tells (mapping_of a) cause j r
+  ShowsGrounds h n t c k a (Fault cause j) r = Tells (mapping_of a) cause j r
 
   -- The bytes are an HTTP response that tells the answer in the entry n to an ask of the
-  -- connection: to what its request means by the rules.
-  pub record TellsAnswer (rules : Rules) (h : List Written) (c n : ℕ) (bytes : List ℕ)
-      : Type 0 where
+  -- connection.
+  pub record TellsAnswer (h : List Written) (c n : ℕ) (bytes : List ℕ) : Type 0 where
     pub moment : ℕ
     pub number : ℕ
     pub grounds : Grounds
@@ -57,7 +56,6 @@ module _ (holds : Form → Form → List ℕ → List ℕ → Type 0)
     pub before : ℕ
     pub ask : Ask
     pub asked : IsEntry h number before (Asks c ask)
-    pub mapped : IsMapped holds takes rules ask
     pub response : HttpAnswer
     pub shows : ShowsGrounds h n moment c number ask grounds response
     pub text : bytes ≡ answer_text response
@@ -104,20 +102,25 @@ said_by c _ = []
 abbrev pub said_to : ℕ → List Emission → List (List ℕ)
 said_to c out = flat_map (said_by c) out
 
+-- An own error has its cause.
+abbrev pub HasCause : List Written → ℕ → ℕ → ℕ → ℕ → Grounds → Type 0
+HasCause h n t c k (Fault cause j) = (j < n) × IsCausedBy h n t c k cause j
+HasCause h n t c k _ = ⊤
+
 module _ (holds : Form → Form → List ℕ → List ℕ → Type 0)
     (takes : Form → Form → List ℕ → Type 0) where
-  abbrev pub IsPiece : Rules → List Written → ℕ → Piece → Type 0
-  IsPiece rules h c interim = ⊤
-  IsPiece rules h c (final n bytes) = TellsAnswer holds takes rules h c n bytes
+  abbrev pub IsPiece : List Written → ℕ → Piece → Type 0
+  IsPiece h c interim = ⊤
+  IsPiece h c (final n bytes) = TellsAnswer holds takes h c n bytes
 
   -- After these entries the journal got more, and a connection was told just the answers to it
   -- among those, each once and in their order, and, in between, that it may go on with a body, at
   -- most once before each answer.
-  pub record IsToldAnswers (rules : Rules) (before more : List Written) (c : ℕ)
-      (out : List Emission) : Type 0 where
+  pub record IsToldAnswers (before more : List Written) (c : ℕ) (out : List Emission)
+      : Type 0 where
     pub pieces : List Piece
     pub said : said_to c out ≡ map bytes_in pieces
-    pub each : AllByRecursion (IsPiece rules (before ++ more) c) pieces
+    pub each : AllByRecursion (IsPiece (before ++ more) c) pieces
     pub once : AreOnce pieces
     pub answers : flat_map answers_in pieces ≡ answers_to c (length before) more
 
@@ -127,7 +130,7 @@ module _ (holds : Form → Form → List ℕ → List ℕ → Type 0)
     pub more : List Written
     pub added : new.state.entries ≡ old.state.entries ++ more
     pub mapped : AreMapped holds takes rules new.state.entries
-    pub told : (c : ℕ) → IsToldAnswers rules old.state.entries more c out
+    pub told : (c : ℕ) → IsToldAnswers old.state.entries more c out
 
   -- From nothing that waits to nothing that waits, so it is, where the journal stands.
   abbrev pub AllTell : Type 0
@@ -138,3 +141,11 @@ module _ (holds : Form → Form → List ℕ → List ℕ → Type 0)
       → IsDrained old.core → IsDrained new.core → Stands new.core.state.entries
       → AreMapped holds takes rules old.core.state.entries
       → TellsAll rules old.core new.core out
+
+  -- Where all that was asked was mapped by the rules, and own errors name their causes, so it is of
+  -- each answer that is told.
+  abbrev pub ToldAreMeant : Type 0
+  ToldAreMeant =
+      (rules : Rules) (h : List Written) (c n : ℕ) (bytes : List ℕ)
+      → AreMapped holds takes rules h → AreCaused h → (a : TellsAnswer holds takes h c n bytes)
+      → IsMapped holds takes rules a.ask × HasCause h n a.moment c a.number a.grounds

@@ -2,7 +2,7 @@
 
 ghost use Rattle.gateway_model.specs.Asking.{InputsAsk};
 ghost use Rattle.gateway_model.specs.Going.{AllGoOut, AllSendJust};
-ghost use Rattle.gateway_model.specs.Told.{AllTell};
+ghost use Rattle.gateway_model.specs.Told.{AllTell, ToldAreMeant};
 
 use transformers::Relation;
 
@@ -15,9 +15,16 @@ pub fn datagrams_go_out<R: Relation>()
 
 /// Where nothing waits before and after, and the journal stands, each connection is told just the
 /// answers to it among the new entries, in their order. Each shows one whole response that was
-/// heard for what its request means by the rules, or is the proxy's own error and names its cause.
+/// heard for what its ask asks for, or is the proxy's own error. All that was asked is what
+/// requests mean by the rules.
 pub fn connections_are_told<R: Relation>()
     ensures { AllTell R.holds R.takes }
+{}
+
+/// Where all that was asked was mapped by the rules, and own errors name their causes, each answer
+/// that is told is one to what its request means, or an own error that has its cause.
+pub fn told_answers_are_meant<R: Relation>()
+    ensures { ToldAreMeant R.holds R.takes }
 {}
 
 /// Each connection asks just what its bytes spell: at an input the first requests of what waited

@@ -14,5 +14,8 @@ mod resting;
 
 pub use exchange_core::Datagram;
 pub use input::{Happening, Input, Output, When};
-pub use laws::{connections_are_told, connections_ask_what_bytes_spell, datagrams_go_out};
+pub use laws::{
+    connections_are_told, connections_ask_what_bytes_spell, datagrams_go_out,
+    told_answers_are_meant,
+};
 pub use resting::{closings_have_reasons, nothing_is_left, told_to_go_on_once, what_comes_shows};

@@ -5,6 +5,8 @@ use Rattle.media_map.specs.declared.form.Form.{Form}
 use Rattle.ask_model.specs.Views.{Rules}
 use Rattle.journal_book.specs.Entries.{Written}
 use Rattle.history_laws.specs.Justified.{Stands}
+use Rattle.history_claims.specs.Causes.{AreCaused}
+use Rattle.history_claims.proofs.CallerLemmas.{names-cause}
 use Rattle.exchange_model.specs.Keeping.{start}
 use Rattle.exchange_core.specs.States.{core_of}
 use Rattle.exchange_core.specs.Values.{sent_in}
@@ -13,7 +15,7 @@ use Rattle.gateway_model.specs.declared.input.Output.{Output}
 use Rattle.gateway_model.specs.Acts.{Terms}
 use Rattle.gateway_model.specs.Emissions.{Emission, emission_of, emissions}
 use Rattle.gateway_model.specs.Going.{goes_in, SendsJust}
-use Rattle.gateway_model.specs.Tellings.{terms_of}
+use Rattle.gateway_model.specs.Tellings.{AreMapped, terms_of}
 use Rattle.gateway_model.specs.Told.{IsToldAnswers, TellsAll}
 use Rattle.gateway_model.proofs.CallerLemmas.{did-send, Paced, paced-all, paced-none, paced-tell, paced-then}
 use Rattle.gateway_world.specs.Inputs.{Takes, TakesAll, IsRefusedAfter}
@@ -91,6 +93,9 @@ joined holds takes is a b xs ys zs e h =
 
 -- what holds of a whole run
 
+pub run-causes : (h k : List Written) → Stands k → h ≡ k → AreCaused h
+run-causes h k stands same = names-cause h (subst Stands (sym same) stands)
+
 handled-paced : (M : Terms) (i : Input) (old new : WorldValue) (out : List Emission) → Handles M i old out new
     → Paced M (served_in old) out (served_in new)
 handled-paced M i old new out h =
@@ -106,19 +111,31 @@ run-paced M (i ∷ is) old new out h =
     (run-paced M is h.0 new h.2 h.4))
 
 module _ (holds : Form → Form → List ℕ → List ℕ → Type 0) (takes : Form → Form → List ℕ → Type 0) (rules : Rules) where
-  pub run-tells : (is : List Input) (old new : WorldValue) (h : List Written) (out : List Emission) → old ≡ new_world rules
+  tells-all : (is : List Input) (old new : WorldValue) (out : List Emission) → old ≡ new_world rules
       → TakesAll holds takes is old out new → IsAtRest new → Stands new.core.state.entries
-      → h ≡ new.core.state.entries
-      → (c : ℕ) → IsToldAnswers holds takes rules [] h c out
-  run-tells is old new h out e run rests stands same c =
+      → TellsAll holds takes rules (core_of start [] []) new.core out
+  tells-all is old new out e run rests stands =
       let M : Terms = terms_of holds takes rules in
       let from : HandlesAll M is (new_world rules) out new =
       handled-all holds takes rules is (new_world rules) new out refl
       (subst (λ (w : WorldValue). TakesAll holds takes is w out new) e run) in
-      let all : TellsAll holds takes rules (core_of start [] []) new.core out =
       paced-tell holds takes rules (served_in (new_world rules)) (served_in new) out (run-paced M is (new_world rules) new out from)
-      (record { sends = refl; answers = refl }) rests.drained stands tt in
-      subst (λ (k : List Written). IsToldAnswers holds takes rules [] k c out) (sym (same ∙ all.added)) (all.told c)
+      (record { sends = refl; answers = refl }) rests.drained stands tt
+
+  pub run-tells : (is : List Input) (old new : WorldValue) (h : List Written) (out : List Emission) → old ≡ new_world rules
+      → TakesAll holds takes is old out new → IsAtRest new → Stands new.core.state.entries
+      → h ≡ new.core.state.entries
+      → (c : ℕ) → IsToldAnswers holds takes [] h c out
+  run-tells is old new h out e run rests stands same c =
+      let all = tells-all is old new out e run rests stands in
+      subst (λ (k : List Written). IsToldAnswers holds takes [] k c out) (sym (same ∙ all.added)) (all.told c)
+
+  pub run-mapped : (is : List Input) (old new : WorldValue) (h : List Written) (out : List Emission) → old ≡ new_world rules
+      → TakesAll holds takes is old out new → IsAtRest new → Stands new.core.state.entries
+      → h ≡ new.core.state.entries
+      → AreMapped holds takes rules h
+  run-mapped is old new h out e run rests stands same =
+      subst (AreMapped holds takes rules) (sym same) (tells-all is old new out e run rests stands).mapped
 
   pub run-sends : (is : List Input) (old new : WorldValue) (h : List Written) (out : List Emission) → old ≡ new_world rules
       → TakesAll holds takes is old out new → IsAtRest new → h ≡ new.core.state.entries

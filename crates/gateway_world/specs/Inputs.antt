@@ -3,6 +3,7 @@ use Rattle.std.specs.Prelude.{◌≡◌, ℕ, List, [], ◌∷◌, ◌++◌}
 use Rattle.media_map.specs.declared.form.Form.{Form}
 use Rattle.ask_model.specs.Views.{Rules}
 use Rattle.journal_book.specs.Entries.{Written}
+use Rattle.history_claims.specs.Causes.{AreCaused}
 use Rattle.gateway_model.specs.declared.input.Input.{Input}
 use Rattle.gateway_model.specs.Asking.{AllHeed}
 use Rattle.gateway_model.specs.Closing.{Closes}
@@ -15,13 +16,14 @@ use Rattle.gateway_world.specs.Worlds.{WorldValue, Handles, IsAtRest, IsTooMuch,
 module _ (holds : Form → Form → List ℕ → List ℕ → Type 0)
     (takes : Form → Form → List ℕ → Type 0) where
   -- An input is taken that doesn't bring too much. What it leads to are acts in order; what is told,
-  -- asked and sent is what the new entries say; what came in shows in these; who is closed has a
-  -- reason; and after it nothing waits.
+  -- asked and sent is what the new entries say; the own errors in the journal name their causes; what
+  -- came in shows in the new entries; who is closed has a reason; and after it nothing waits.
   pub record Takes (i : Input) (old : WorldValue) (out : List Emission) (new : WorldValue)
       : Type 0 where
     pub room : IsTooMuch i.happening (served_in old) → ⊥
     pub handles : Handles (terms_of holds takes old.rules) i old out new
     pub told : TellsAll holds takes old.rules old.core new.core out
+    pub causes : AreCaused new.core.state.entries
     pub asks :
         AllHeed (IsMapped holds takes old.rules) i.happening (served_in old) (served_in new)
     pub sends : SendsJust old.core out new.core

@@ -2,11 +2,12 @@
 
 ghost use Rattle.std.specs.Prelude.{◌≡◌, ℕ, [], Err, IfOk, OnOk};
 ghost use Rattle.history_laws.specs.Justified.{Stands};
+ghost use Rattle.history_claims.specs.Causes.{AreCaused};
 ghost use Rattle.ask_model.specs.Views.{rules_of};
 ghost use Rattle.gateway_model.specs.Emissions.{emissions};
 ghost use Rattle.exchange_core.specs.Values.{sent_in};
 ghost use Rattle.gateway_model.specs.Going.{goes_in};
-ghost use Rattle.gateway_model.specs.Tellings.{IsMapped};
+ghost use Rattle.gateway_model.specs.Tellings.{AreMapped, IsMapped};
 ghost use Rattle.gateway_model.specs.Told.{IsToldAnswers};
 ghost use Rattle.gateway_world.specs.Asked.{AsksInRun};
 ghost use Rattle.gateway_world.specs.Inputs.{IsRefusedAfter, RunsTo, TakesAll};
@@ -42,7 +43,10 @@ impl<R: Relation> World<R> {
             (emissions run.outputs.items) run.journal.entries) }
         ensures stands { IfOk result (λ run. Stands run.journal.entries) }
         ensures told { IfOk result (λ run. (c : ℕ) → IsToldAnswers R.holds R.takes
-            (rules_of settings) [] run.journal.entries c (emissions run.outputs.items)) }
+            [] run.journal.entries c (emissions run.outputs.items)) }
+        ensures mapped { IfOk result
+            (λ run. AreMapped R.holds R.takes (rules_of settings) run.journal.entries) }
+        ensures causes { IfOk result (λ run. AreCaused run.journal.entries) }
         ensures asks { IfOk result (λ run. AsksInRun (IsMapped R.holds R.takes (rules_of settings))
             inputs.now (emissions run.outputs.items) run.journal.entries) }
         ensures sends { IfOk result (λ run. goes_in (emissions run.outputs.items)

@@ -1,5 +1,5 @@
 -- An own answer names its cause.
-use Rattle.std.proofs.Common.{◌≡◌, ℕ, ◌+◌, ◌<◌, ◌≤◌, ◌⊎◌, Bool, true, false, ◌||◌, inl, inr, List, [], ◌∷◌, length, Option, Some, None, refl, sym, ap, subst, ◌∙◌, arith}
+use Rattle.std.proofs.Common.{◌≡◌, ℕ, ◌+◌, ◌<◌, ◌≤◌, ◌⊎◌, true, false, inl, inr, List, [], ◌∷◌, length, Option, Some, None, refl, sym, ap, subst, ◌∙◌, arith}
 use Rattle.std.specs.Prelude.{is_none}
 use Rattle.std.proofs.lemmas.Bool.Decides.{eqb_tells, leb_tells}
 use Rattle.std.proofs.lemmas.Bool.{false≢true, or_cases}
@@ -22,7 +22,8 @@ use Rattle.history_laws.specs.Exchanges.{Begun, begun, late_by, is_late, Expired
 use Rattle.history_laws.specs.Justified.{IsAsk, IsTurnedAway as WasTurnedAway, IsRefused as WasRefused, IsOverdue, Caused, Ends, reads, pending, Follows, MayCome, Legal, Stands}
 use Rattle.history_laws.specs.Laws.{IsFirst}
 use Rattle.history_laws.proofs.CallerLemmas.{at-before, at-below, at-newest, at-same, at-still, before-twice, begun-before, ends-first, follows-at, legal-before, length-before, none-after-end, reads-own, replies-fit, sent-for, sent-once, some-is, turn-replied, waits-first}
-use Rattle.history_claims.specs.Headline.{IsEntry, IsSentFor, IsHeard, IsUnanswered, IsUnsettled, IsUnsent, IsTurnedAway, IsTimedOut, IsGivenUp, IsReset, IsNotUnderstood, IsRefused, IsCausedBy}
+use Rattle.history_claims.specs.Headline.{IsEntry, IsSentFor, IsHeard, IsUnanswered}
+use Rattle.history_claims.specs.Causes.{IsUnsettled, IsUnsent, IsTurnedAway, IsTimedOut, IsGivenUp, IsReset, IsNotUnderstood, IsRefused, IsCausedBy, AreCaused}
 use Rattle.history_claims.proofs.Entries.{entries-at, newest-before}
 use Rattle.history_claims.proofs.Sending.{first-before, sent-as}
 use Rattle.history_claims.proofs.Repeats.{heard-entry}
@@ -229,7 +230,7 @@ module _ (l : List Noted) (n t c k : ℕ) (cause : Cause) (j : ℕ) (legal : Leg
   heard-late e i s p m own ended late less h =
       let there = entries-at l i _ h.stands in
       let stands = at-still l n i _ _ here less there.1 in
-      no-input (before l n) c k e ask early asked own ended (opened-still (follows-at l n _ legal here)) (waits-still (follows-at l n _ legal here))
+      no-input (before l n) c k e TimedOut ask early asked own ended (opened-still (follows-at l n _ legal here)) (waits-still (follows-at l n _ legal here))
       i _ late stands (comes (before (before l n) i) s p h.bytes there.0 (follows-at (before l n) i _ early stands))
     where
       opened-still : Follows (before l n) t (Answers c k (Fault cause j)) note → is_open (before l n) c ≡ true
@@ -333,8 +334,6 @@ causes-in l n t c k cause j legal e =
     let it = answers-ask l n t c k (Fault cause j) legal e in
     caused l n t c k cause j legal there.0 there.1 it.0.ask it.0.asked cause it.0.grounds
 
-pub names-cause : (h : List Written) (n t c k : ℕ) (cause : Cause) (j : ℕ) → Stands h → IsEntry h n t (Answers c k (Fault cause j))
-    → (j < n) × IsCausedBy h n t c k cause j
-names-cause h n t c k cause j s =
-    subst (λ (h : List Written). IsEntry h n t (Answers c k (Fault cause j)) → (j < n) × IsCausedBy h n t c k cause j) s.entries_are
-    (causes-in s.reading n t c k cause j s.legal)
+pub names-cause : (h : List Written) → Stands h → AreCaused h
+names-cause h s =
+    subst AreCaused s.entries_are (λ n t c k cause j. causes-in s.reading n t c k cause j s.legal)

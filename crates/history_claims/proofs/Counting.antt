@@ -1,10 +1,10 @@
 -- Lists of entries of a kind, each another one.
-use Rattle.std.proofs.Common.{ℕ, zero, Bool, true, false, cond, inl, inr, List, [], ◌∷◌, ◌++◌, map, filter, refl, sym, subst, arith}
+use Rattle.std.proofs.Common.{ℕ, zero, Bool, true, false, cond, inl, inr, List, [], ◌∷◌, ◌++◌, map, filter, sym, subst, arith}
 use Rattle.std.specs.List.{Contains}
 use Rattle.std.proofs.lemmas.List.Elements.{Contains-push_cases}
 use Rattle.std.proofs.lemmas.List.{map-id}
 use Rattle.history_laws.proofs.CallerLemmas.{contains-later, contains-map, contains-mapped, contains-none, filtered-from}
-use Rattle.history_claims.specs.Headline.{AreApart}
+use Rattle.history_claims.specs.Causes.{AreApart}
 
 pub apart-push : (xs : List ℕ) (y : ℕ) → AreApart xs → (Contains xs y → ⊥) → AreApart (xs ++ y ∷ [])
 apart-push [] y h new = (λ c. contains-none y c, tt)

@@ -4,7 +4,7 @@ use Rattle.std.specs.Prelude.{is_none, nat_lt}
 use Rattle.std.specs.List.{Contains}
 use Rattle.std.proofs.lemmas.List.Sums.{length-filter}
 use Rattle.std.proofs.lemmas.Bool.Decides.{leb_tells}
-use Rattle.std.proofs.lemmas.Bool.{and_cases, and_parts, false≢true, ltb-true, ltb-false, le-leb}
+use Rattle.std.proofs.lemmas.Bool.{and_cases, and_parts, false≢true, ltb-true, ltb-false}
 use Rattle.std.proofs.lemmas.List.{length-map}
 use Rattle.limits.specs.declared.TheConstants.{MAX_EXCHANGES, MAX_MESSAGE_IDS, MAX_TRANSMIT_WAIT, MAX_WAITING, MESSAGE_ID_LIFETIME}
 use Rattle.uri_map.specs.declared.peer.Peer.{Peer}
@@ -14,21 +14,21 @@ use Rattle.uri_map.specs.Peers.{same_peer}
 use Rattle.ask_model.specs.Requests.{CoapRequest, Sense, Requests, Refuses}
 use Rattle.ask_model.specs.Views.{Ask}
 use Rattle.uri_map.proofs.CallerLemmas.{same_peer-same}
-use Rattle.journal_book.specs.Entries.{Grounds, Live, Kept, Fault, Deed, Sends, Asks, Passes}
-use Rattle.history_laws.specs.Readings.{Noted, Note, Plain, Begins, First, entries, at, before, noted}
-use Rattle.history_laws.specs.Connections.{is_sealed}
-use Rattle.history_laws.specs.Transmissions.{FirstSending, firsts_by, firsts, is_recent, mids_used}
-use Rattle.history_laws.specs.Progress.{TimedOut}
-use Rattle.history_laws.specs.Exchanges.{Begun, begun, Turn, Expired, turn, expires, is_late, replies, end_here, opens_by, opened_by, openings, is_going, open_exchanges, goes_to, is_waiting, waiting as waiting_at, waits_for, submitted}
-use Rattle.history_laws.specs.Hearing.{has_room}
-use Rattle.history_laws.specs.Justified.{IsRefused, Caused, HasGrounds, AskNote, Follows, Legal}
-use Rattle.history_laws.proofs.CallerLemmas.{all-of, asked-for, at-before, at-same, at-still, before-twice, begun-before, begun-below, begun-opening, contains-mapped, filtered-from, firsts-stand, follows-at, is-some, IsFirst-below, length-before, listed-begun, opening-begun, queue-rises, reads-own, RisesBy, waiting-all}
-use Rattle.history_claims.specs.Headline.{AreApart, AreMany, IsPending, IsPendingAt, IsRecent, IsCrowded, exchanges, waiting, ids}
 use Rattle.history_claims.proofs.Entries.{entries-at, asked-entry, grows}
 use Rattle.history_claims.proofs.Sending.{first-entry, first-before}
 use Rattle.history_claims.proofs.Resting.{answers-ask}
-use Rattle.history_claims.proofs.Unsent.{Over, over-still, ended-at}
+use Rattle.history_claims.proofs.Unsent.{Over, over-still}
+use Rattle.history_claims.proofs.InTime.{going-in-time}
 use Rattle.history_claims.proofs.Counting.{apart-push, apart-filter, apart-filtered}
+use Rattle.journal_book.specs.Entries.{Grounds, Live, Kept, Fault, Deed, Sends, Asks}
+use Rattle.history_laws.specs.Readings.{Noted, Note, Plain, Begins, First, entries, at, before, noted}
+use Rattle.history_laws.specs.Connections.{is_sealed}
+use Rattle.history_laws.specs.Transmissions.{FirstSending, firsts_by, firsts, is_recent, mids_used}
+use Rattle.history_laws.specs.Exchanges.{Begun, begun, opens_by, opened_by, openings, is_going, open_exchanges, goes_to, is_waiting, waiting as waiting_at, waits_for, submitted}
+use Rattle.history_laws.specs.Hearing.{has_room}
+use Rattle.history_laws.specs.Justified.{IsRefused, Caused, HasGrounds, AskNote, Follows, Legal}
+use Rattle.history_laws.proofs.CallerLemmas.{all-of, asked-for, at-before, at-same, before-twice, begun-before, begun-below, contains-mapped, filtered-from, firsts-stand, follows-at, is-some, IsFirst-below, length-before, listed-begun, queue-rises, reads-own, RisesBy, waiting-all}
+use Rattle.history_claims.specs.Causes.{AreApart, AreMany, IsPending, IsPendingAt, IsRecent, IsCrowded, exchanges, waiting, ids}
 
 -- An ask that opened an exchange is answered only when that is over.
 plain-begins : (s t : ℕ) (c d : ℕ) (a b : Ask) (q : CoapRequest) → noted s (Asks c a) Plain ≡ noted t (Asks d b) (Begins q) → ⊥
@@ -75,27 +75,6 @@ module _ (l : List Noted) (n o s d : ℕ) (b : Ask) (q : CoapRequest) (stands : 
 not-going : (l : List Noted) (o : ℕ) → is_sealed l ≡ false → is_going l o ≡ true → Over o l → ⊥
 not-going l o unsealed going (inl h) = false≢true (sym h ∙ going)
 not-going l o unsealed going (inr h) = false≢true (sym unsealed ∙ h)
-
--- A tick ends an exchange that it finds late.
-is-late-at : (l : List Noted) (o t : ℕ) (b : Begun) → begun l o ≡ Some b → b.since + MAX_TRANSMIT_WAIT ≤ t → is_late t (begun l o) ≡ true
-is-late-at l o t b opened late = subst (λ (v : Option Begun). is_late t v ≡ true) (sym opened) (le-leb (b.since + MAX_TRANSMIT_WAIT) t late)
-
-late-expires : (l : List Noted) (o t : ℕ) (b : Begun) (w : Option ℕ) → begun l o ≡ Some b → b.since + MAX_TRANSMIT_WAIT ≤ t → expires l o t w ≡ true
-late-expires l o t b None opened late = is-late-at l o t b opened late
-late-expires l o t b (Some i) opened late = rw (is-late-at l o t b opened late) refl
-
-going-in-time : (l : List Noted) (k o n t : ℕ) (x : Noted) (note : Note) (b : Begun) → Legal l → at l k ≡ Some x → is_going (before l k) o ≡ true
-    → begun (before l k) o ≡ Some b → o < n → n < k → at l n ≡ Some (noted t Passes note) → b.since + MAX_TRANSMIT_WAIT ≤ t → ⊥
-going-in-time l k o n t x note b legal here going opened after early tick late =
-    let opening = begun-opening (before l k) o b opened in
-    let stands = at-before l k o _ opening.1 in
-    let was = opening-begun (before l n) o b.since opening.0 b.request (at-still l n o _ _ tick after stands) in
-    let over : turn (before l n) o (noted t Passes note) ≡ Expired = rw (late-expires (before l n) o t b (waits_for (before l n) o) was late) refl in
-    let twice = before-twice l k n x here early in
-    let ends : end_here (begun (before (before l k) n) o) n (replies (before (before l k) n) o) (turn (before (before l k) n) o (noted t Passes note)) ≡ Some TimedOut =
-    subst (λ (v : List Noted). end_here (begun v o) n (replies v o) (turn v o (noted t Passes note)) ≡ Some TimedOut) (sym twice)
-    (subst (λ (u : Turn). end_here (begun (before l n) o) n (replies (before l n) o) u ≡ Some TimedOut) (sym over) refl) in
-    false≢true (sym (ended-at (before l k) o n _ TimedOut (at-still l k n _ _ here early tick) ends) ∙ going)
 
 -- an exchange that goes on is that of an ask which wasn't answered
 pending-is : (l : List Noted) (k o : ℕ) (x : Noted) → Legal l → at l k ≡ Some x → is_sealed (before l k) ≡ false → is_going (before l k) o ≡ true

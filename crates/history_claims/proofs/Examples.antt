@@ -15,7 +15,8 @@ use Rattle.history_laws.specs.WorkedMessages as M
 use Rattle.history_laws.specs.WorkedEndings as E
 use Rattle.history_laws.specs.WorkedSpoiled as S
 use Rattle.history_laws.proofs.CallerLemmas.{all_answered-holds, content-spelled, eqb-same, given_up-holds, put-spelled, range-passes, rejected-holds, some-is, timed_out-holds}
-use Rattle.history_claims.specs.Headline.{IsEntry, AreCopies, IsHeardFor, AreHeardFor, IsGivenUp}
+use Rattle.history_claims.specs.Headline.{IsEntry, IsHeardFor, AreHeardFor}
+use Rattle.history_claims.specs.Causes.{AreCopies, IsGivenUp}
 use Rattle.history_claims.specs.Worked.{Answered, TimedOut, Rejected, GivenUp, Crossed, Foreseen, Early}
 use Rattle.history_claims.proofs.Resting.{rests-in}
 use Rattle.history_claims.proofs.Causes.{causes-in}

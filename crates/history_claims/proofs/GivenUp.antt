@@ -14,7 +14,8 @@ use Rattle.history_laws.specs.Transmissions.{Transmission, due, is_given_up, tra
 use Rattle.history_laws.specs.Justified.{MayBeFirst, MayBeCopy, Follows, Legal}
 use Rattle.history_laws.specs.Laws.{IsFirst}
 use Rattle.history_laws.proofs.CallerLemmas.{at-below, at-entries, at-new, at-old, at-same, at-still, eqb-itself, eqb-same, follows-at, legal-before, none-some, some-is, ticked-newest, way-cases}
-use Rattle.history_claims.specs.Headline.{IsEntry, IsHeard, last_of, AreCopies, IsUnsettled, IsGivenUp}
+use Rattle.history_claims.specs.Headline.{IsEntry, IsHeard}
+use Rattle.history_claims.specs.Causes.{last_of, AreCopies, IsUnsettled, IsGivenUp}
 use Rattle.history_claims.proofs.Entries.{entries-at, entry-keeps, grows}
 use Rattle.history_claims.proofs.Settling.{Settles, confirms, rejects, settled}
 use Rattle.history_claims.proofs.Waiting.{unanswered-till}

@@ -6,16 +6,19 @@ use Rattle.std.specs.List.{slice_get}
 use Rattle.std.proofs.lemmas.Option.{slice_get_within}
 use Rattle.std.proofs.lemmas.Bool.Decides.{eqb_tells}
 use Rattle.std.proofs.lemmas.Bool.{false≢true}
+use Rattle.coap_codec.specs.Spelling.{Content}
+use Rattle.uri_map.specs.declared.peer.Peer.{Peer}
 use Rattle.ask_model.specs.Views.{Ask}
 use Rattle.journal_book.specs.Entries.{Deed, Opens, Asks, Shuts}
 use Rattle.history_laws.specs.Readings.{Noted, Note, at, before}
 use Rattle.history_laws.specs.Connections.{open_by, is_open, asks_of, answers_of, opened_by, opened}
-use Rattle.history_laws.specs.Progress.{TimedOut}
-use Rattle.history_laws.specs.Exchanges.{Begun, begun, is_late, expires, turn, waits_for, replies, end_here, end_of, is_going}
+use Rattle.history_laws.specs.Progress.{Ending}
+use Rattle.history_laws.specs.Exchanges.{Begun, begun, is_late, Turn, Nothing, Sent, Replied, Rejected, Expired, expires, turn, waits_for, replies, end_here, end_of, is_going}
 use Rattle.history_laws.specs.Justified.{IsAsk, Ends, reads_in, reads, reads_open, pending, is_in_hand, Follows, Legal, AtRest, MayCome}
-use Rattle.history_laws.proofs.CallerLemmas.{ask-listed, asks-keep, asks-once, at-still, before-twice, begun-below, ends-first, few-waiting, follows-at, IsFirst-below, legal-before, length-before, more-answers, open-below, range-passes, sent-for, waits-first}
+use Rattle.history_laws.specs.Laws.{IsFirst}
+use Rattle.history_laws.proofs.CallerLemmas.{ask-listed, asks-keep, asks-once, at-still, before-twice, begun-below, ends-first, few-waiting, follows-at, IsFirst-below, legal-before, length-before, more-answers, none-some, open-below, range-passes, sent-for, turn-replied, waits-first}
 use Rattle.history_claims.proofs.Entries.{grows}
-use Rattle.history_claims.proofs.Ending.{turn-expired, expired-turn}
+use Rattle.history_claims.proofs.Ending.{turn-rejected, turn-expired}
 use Rattle.history_claims.proofs.Unsent.{ended-at}
 
 -- as many connections were opened, and asks answered, as before, or more
@@ -90,28 +93,40 @@ in-hand l c k rest below now next own =
     subst (λ (o : Option ℕ). option_map_or (λ (k : ℕ). reads_open l (reads l k)) o true ≡ true) next here in
     subst (λ (o : Option ℕ). reads_open l o ≡ true) own reading
 
--- an exchange expires after it was opened
+-- an exchange waits, and expires, after it was opened
+waits-after : (l : List Noted) (k i : ℕ) → Legal l → waits_for l k ≡ Some i → k < length l
+waits-after l k i legal is = expires-after (waits-first l k i is)
+  where
+    expires-after : (t : ℕ) × (p : Peer) × (m : Content) × IsFirst l t k i p m → k < length l
+    expires-after it =
+        let after = (sent-for l it.0 k i it.1 it.2 legal it.3).after in
+        let below = IsFirst-below l it.0 k i it.1 it.2 it.3 in
+        omega (arith, after, below)
+
 late-begun : (l : List Noted) (k t : ℕ) (b : Option Begun) → begun l k ≡ b → is_late t b ≡ true → k < length l
 late-begun l k t None is late = absurd (false≢true late)
 late-begun l k t (Some b) is late = begun-below l k b is
 
 expires-begun : (l : List Noted) (k t : ℕ) (w : Option ℕ) → Legal l → waits_for l k ≡ w → expires l k t w ≡ true → k < length l
 expires-begun l k t None legal is over = late-begun l k t (begun l k) refl over
-expires-begun l k t (Some i) legal is over =
-    let it = waits-first l k i is in
-    let after = (sent-for l it.0 k i it.1 it.2 legal it.3).after in
-    let below = IsFirst-below l it.0 k i it.1 it.2 it.3 in
-    omega (arith, after, below)
+expires-begun l k t (Some i) legal is over = waits-after l k i legal is
+
+-- and whatever ends it comes after that
+ends-after : (l : List Noted) (k e : ℕ) (how : Ending) → Legal l → Ends l k e how → k < e
+ends-after l k e how legal ended =
+    let end = ends-first l k e how ended in
+    subst (λ (n : ℕ). k < n) (length-before l e end.0 end.1) (go end.0 (turn (before l e) k end.0) refl end.3)
+  where
+    go : (x : Noted) (u : Turn) → turn (before l e) k x ≡ u → end_here (begun (before l e) k) e (replies (before l e) k) u ≡ Some how → k < length (before l e)
+    go x (Replied i m) is h = waits-after (before l e) k i (legal-before l e legal) (turn-replied (before l e) k x i m is).waited
+    go x Rejected is h = let it = turn-rejected (before l e) k x is in waits-after (before l e) k it.to (legal-before l e legal) it.waited
+    go x Expired is h =
+        expires-begun (before l e) k x.written.moment (waits_for (before l e) k) (legal-before l e legal) refl (turn-expired (before l e) k x is).over
+    go x Nothing is h = absurd (none-some how h)
+    go x (Sent i) is h = absurd (none-some how h)
 
 -- the ask of an answer, and where its exchange ended
-module _ (l : List Noted) (c k e : ℕ) (a : Ask) (legal : Legal l) (ask : IsAsk l k c a) (own : reads l k ≡ Some k) (ended : Ends l k e TimedOut) where
-  after-ask : k < e
-  after-ask =
-      let end = ends-first l k e TimedOut ended in
-      let it = turn-expired (before l e) k end.0 (expired-turn (begun (before l e) k) (turn (before l e) k end.0) e (replies (before l e) k) end.3) in
-      subst (λ (n : ℕ). k < n) (length-before l e end.0 end.1)
-      (expires-begun (before l e) k end.0.written.moment (waits_for (before l e) k) (legal-before l e legal) refl it.over)
-
+module _ (l : List Noted) (c k e : ℕ) (how : Ending) (a : Ask) (legal : Legal l) (ask : IsAsk l k c a) (own : reads l k ≡ Some k) (ended : Ends l k e how) where
   asked-open : is_open (before l k) c ≡ true
   asked-open = by (follows-at l k _ legal ask.stands)
     where
@@ -120,15 +135,15 @@ module _ (l : List Noted) (c k e : ℕ) (a : Ask) (legal : Legal l) (ask : IsAsk
 
   pub no-input : is_open l c ≡ true → pending l c ≡ Some k → (i : ℕ) (x : Noted) → e < i → at l i ≡ Some x → MayCome (before l i) → ⊥
   no-input now next i x late here come =
-      let after = after-ask in
+      let after = ends-after l k e how legal ended in
       let less : k < i = omega (arith, after, late) in
       let early = legal-before l i legal in
       let stands : IsAsk (before l i) k c a = record { moment = ask.moment; note = ask.note; stands = at-still l i k _ _ here less ask.stands } in
-      let end = ends-first l k e TimedOut ended in
+      let end = ends-first l k e how ended in
       let twice = before-twice l i e x here late in
       let over : is_none (end_of (before l i) k) ≡ false =
-      ended-at (before l i) k e end.0 TimedOut (at-still l i e _ _ here late end.1)
-      (subst (λ (v : List Noted). end_here (begun v k) e (replies v k) (turn v k end.0) ≡ Some TimedOut) (sym twice) end.3) in
+      ended-at (before l i) k e end.0 how (at-still l i e _ _ here late end.1)
+      (subst (λ (v : List Noted). end_here (begun v k) e (replies v k) (turn v k end.0) ≡ Some how) (sym twice) end.3) in
       let below_ask : c < opened (before l k) = open-below (before l k) (legal-before l k legal) c asked-open in
       let more = opened-before (before l i) k (legal-before l i legal) in
       let sooner = before-twice l i k x here less in

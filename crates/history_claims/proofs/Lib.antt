@@ -5,9 +5,10 @@ mod Unsent
 mod Settling
 mod Repeats
 mod Waiting
-mod Resting
 mod Ending
 mod Hands
+mod InTime
+mod Resting
 mod GivenUp
 mod Counting
 mod Crowded

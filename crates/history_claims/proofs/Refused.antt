@@ -15,7 +15,7 @@ use Rattle.history_laws.specs.WorkedMessages as M
 use Rattle.history_laws.specs.WorkedLate as L
 use Rattle.history_laws.proofs.CallerLemmas.{ack-spelled, content-spelled, eqb-same, get-spelled, other-spelled, put-spelled, rst-0-spelled}
 use Rattle.history_claims.specs.Headline.{IsEntry, IsFirstSending, IsHeard, MayRepeat, IsRepeat, again, IsResponse, IsUnanswered, IsHeardFor, AreHeardFor}
-use Rattle.history_claims.specs.Worked.{Second, Unheeded, Unrejected, Abandoned}
+use Rattle.history_claims.specs.Worked.{Late, Second, Unheeded, Unrejected, Abandoned}
 use Rattle.history_claims.proofs.Examples.{entry_of, is_first, places, lies_in, texts, heard-texts, fourth, moment-same}
 
 -- where datagrams were heard
@@ -183,6 +183,12 @@ unrejected h =
 
 pub abandoned : Abandoned
 abandoned q h =
+    let young : 93500 < h.moment + MAX_TRANSMIT_WAIT = h.in_time 5 93500 (lit< tt) (lit< tt) refl in
+    let asked : 0 ≡ h.moment = moment-same 0 h.moment _ _ h.asked.stands in
+    absurd (omega (arith, young, asked))
+
+pub late : Late
+late h =
     let young : 93500 < h.moment + MAX_TRANSMIT_WAIT = h.in_time 5 93500 (lit< tt) (lit< tt) refl in
     let asked : 0 ≡ h.moment = moment-same 0 h.moment _ _ h.asked.stands in
     absurd (omega (arith, young, asked))

@@ -6,8 +6,6 @@ use Rattle.ask_model.specs.Requests.{CoapRequest, Sense, Requests}
 use Rattle.ask_model.specs.Views.{Ask}
 use Rattle.journal_book.specs.Entries.{Grounds, Live, Deed, Answers, Asks, Hears, Written}
 use Rattle.history_laws.specs.Responses.{Response, response_of, is_whole, whole_of}
-use Rattle.history_laws.specs.Readings.{Noted, Note, Begins, Says, entries, at, before, noted}
-use Rattle.history_laws.specs.Progress.{Reply, numbers, Whole, NotUnderstood, progress, ended_by}
 use Rattle.history_laws.specs.Exchanges.{Begun, begun, Turn, Nothing, Sent, Replied, Rejected, Expired, turn, replies, end_here, replied_end}
 use Rattle.history_laws.specs.Justified.{IsAsk, Ends as EndsAs, reads_by, reads_in, reads, HasGrounds, Follows, Legal, Stands}
 use Rattle.history_laws.specs.Laws.{IsReplyTo}
@@ -15,6 +13,9 @@ use Rattle.history_laws.proofs.CallerLemmas.{asked-for, asks-stand, at-before, a
 use Rattle.history_claims.specs.Headline.{IsEntry, IsAsked, RestsOn}
 use Rattle.history_claims.proofs.Entries.{entries-at, asked-entry}
 use Rattle.history_claims.proofs.Waiting.{heard-in}
+use Rattle.history_claims.proofs.InTime.{answered-in-time}
+use Rattle.history_laws.specs.Readings.{Noted, Note, Begins, Says, entries, at, before, noted}
+use Rattle.history_laws.specs.Progress.{Reply, numbers, Whole, NotUnderstood, TimedOut}
 
 -- the ask of an answer is its connection's
 pub record AnswersAsk (l : List Noted) (n t c k : ℕ) (g : Grounds) : Type 0 where
@@ -123,6 +124,9 @@ made l o e w ws h =
 whole-one : (q : CoapRequest) (m : Content) → is_whole q.method m ≡ true → whole_of q (m ∷ []) ≡ Some (response_of m)
 whole-one q m e = rw e refl
 
+not-timed : (w : Response) (ws : List Reply) → Whole w ws ≡ TimedOut → ⊥
+not-timed w ws e = cc
+
 only-one : (j n i : ℕ) → n < i → Contains (n ∷ []) j → j < i
 only-one j n i lt h =
     elim (first-or-later n [] j h) [ inl w ↦ subst (λ (j : ℕ). j < i) w lt | inr w ↦ absurd (contains-none j w) ]
@@ -143,6 +147,7 @@ rests-in l n t c k js legal e =
     ∙ subst (λ (k : ℕ). begun l k ≡ Some x.exchange) own x.opened) in
     let fit = subst (λ (o : ℕ). IsReplyTo (before l n) o r) (sym own) fits in
     let there = entries-at l n _ e in
+    let read = subst (λ (o : ℕ). reads (before l n) k ≡ Some o) (sym own) h.4 in
     let listed = subst (λ (o : ℕ). Contains (replies (before l n) o) r) (sym own) has in
     let heard = heard-in l n k r x.exchange _ legal x.opened there.1 listed fit in
     let below = subst (λ (i : ℕ). r.number < i) it.1 (at-below (before l n) r.number (noted fits.moment (Hears fits.peer fits.bytes) (Says r.message (Some r.sending) fits.notice)) fits.heard) in
@@ -155,6 +160,8 @@ rests-in l n t c k js legal e =
       messages = r.message ∷ [];
       heard = (heard, tt);
       before = λ j in_it. only-one j r.number n below in_it;
+      in_time = answered-in-time l n t c k (Live js) there.0 legal there.1 it.0.ask it.0.asked read x.exchange x.opened h.1 (Whole h.2 h.3)
+          (subst (λ (o : ℕ). EndsAs (before l n) o h.1 (Whole h.2 h.3)) (sym own) h.5) (not-timed h.2 h.3);
       response = response_of r.message;
       whole = whole-one x.exchange.request r.message
           (subst (λ (b : Begun). is_whole b.request.method r.message ≡ true) same m.whole);

@@ -15,10 +15,10 @@ use Rattle.history_laws.specs.Transmissions.{FirstSending, firsts, sent_last}
 use Rattle.history_laws.specs.Exchanges.{begun, end_of, end_here, end_by, End, turn, replies, goes_to, is_going, waits_for}
 use Rattle.history_laws.specs.Justified.{MayBeFirst, Follows, Legal}
 use Rattle.history_laws.specs.Laws.{IsFirst}
-use Rattle.history_laws.proofs.CallerLemmas.{any-first, asked-for, at-same, at-still, before-twice, begun-opening, eqb-itself, eqb-same, find-any, find-some, first-waits, firsts-stand, follows-at, none-is, none-some, some-is}
-use Rattle.history_claims.specs.Headline.{IsUnsent}
 use Rattle.history_claims.proofs.Entries.{asked-entry, grows}
 use Rattle.history_claims.proofs.Sending.{first-of, sent-in}
+use Rattle.history_laws.proofs.CallerLemmas.{any-first, asked-for, at-same, at-still, before-twice, begun-opening, eqb-itself, eqb-same, find-any, find-some, first-waits, firsts-stand, follows-at, none-is, none-some, some-is}
+use Rattle.history_claims.specs.Causes.{IsUnsent}
 
 -- Where no first sending is that of the ask's exchange, each is that of another.
 pub unsent-in : (l : List Noted) (k : ℕ) (q : CoapRequest) → Legal l → ((t i : ℕ) (p : Peer) (m : Content) → IsFirst l t k i p m → ⊥)

@@ -1,19 +1,16 @@
--- What an answer rests on, and which entry the cause of an error names: said of a journal's entries
--- alone, which lie oldest first and go by their number from 0.
-use Rattle.std.specs.Prelude.{◌≡◌, ◌≢◌, ◌⊎◌, ℕ, ◌+◌, ◌*◌, ◌^◌, ◌<◌, ◌≤◌, List, [], ◌∷◌, length, slice_get, Some, None, ⊤}
+-- What an answer rests on: said of a journal's entries alone, which lie oldest first and go by their
+-- number from 0.
+use Rattle.std.specs.Prelude.{◌≡◌, ℕ, ◌+◌, ◌<◌, ◌≤◌, List, [], ◌∷◌, slice_get, Some, ⊤}
 use Rattle.std.specs.List.{Contains}
-use Rattle.limits.specs.declared.TheConstants.{EXCHANGE_LIFETIME, MAX_EXCHANGES, MAX_MESSAGE_IDS, MAX_RETRANSMIT, MAX_TRANSMIT_WAIT, MAX_WAITING, MESSAGE_ID_LIFETIME}
+use Rattle.limits.specs.declared.TheConstants.{EXCHANGE_LIFETIME, MAX_TRANSMIT_WAIT}
 use Rattle.coap_codec.specs.declared.message.MsgType.{MsgType}
 use Rattle.coap_codec.specs.declared.message.MsgType.TheVariants.{Con, Non, Ack, Rst}
 use Rattle.coap_codec.specs.Spelling.{Content, Spells}
 use Rattle.uri_map.specs.declared.peer.Peer.{Peer}
-use Rattle.ask_model.specs.declared.cause.Cause.{Cause}
-use Rattle.ask_model.specs.declared.cause.Cause.TheVariants as C
-use Rattle.ask_model.specs.Requests.{CoapRequest, Came, Sense, Requests, Refuses, request_message}
+use Rattle.ask_model.specs.Requests.{CoapRequest, Came, Sense, Requests, request_message}
 use Rattle.ask_model.specs.Views.{Rules}
-use Rattle.journal_book.specs.Entries.{Grounds, Live, Fault, Deed, Asks, Sends, Hears, Passes, Answers, Written}
+use Rattle.journal_book.specs.Entries.{Live, Deed, Asks, Sends, Hears, Passes, Answers, Written}
 use Rattle.history_laws.specs.Responses.{Response, whole_of}
-use Rattle.history_laws.specs.Confirmations.{empty}
 use Rattle.history_laws.specs.Justified.{Stands}
 
 -- The entry with this number was made at this moment, and says this.
@@ -119,6 +116,12 @@ pub record IsHeardFor
   pub new : IsNew h q.peer j
   pub first : IsUnanswered h q.peer sending sent j
 
+-- No tick between these entries found 93 seconds over since then (MAX_TRANSMIT_WAIT, RFC 7252
+-- section 4.8.2).
+abbrev pub IsInTime : List Written → ℕ → ℕ → ℕ → Type 0
+IsInTime h since k n =
+    (i t : ℕ) → k < i → i < n → IsEntry h i t Passes → t < since + MAX_TRANSMIT_WAIT
+
 -- The entries with these numbers heard these replies, one by one.
 abbrev pub AreHeardFor : List Written → ℕ → CoapRequest → List ℕ → List Content → Type 0
 AreHeardFor h k q [] [] = ⊤
@@ -126,7 +129,7 @@ AreHeardFor h k q (j ∷ js) (m ∷ ms) = IsHeardFor h k q j m × AreHeardFor h 
 AreHeardFor h k q _ _ = ⊥
 
 -- The answer in the entry n, to the ask k of its connection, rests on one whole response: on these
--- entries, which heard it for that ask before the answer.
+-- entries, which heard it for that ask before the answer, and before the ask was 93 seconds old.
 pub record RestsOn (h : List Written) (n c k : ℕ) (js : List ℕ) : Type 0 where
   pub moment : ℕ
   pub request : CoapRequest
@@ -134,164 +137,13 @@ pub record RestsOn (h : List Written) (n c k : ℕ) (js : List ℕ) : Type 0 whe
   pub messages : List Content
   pub heard : AreHeardFor h k request js messages
   pub before : (j : ℕ) → Contains js j → j < n
+  pub in_time : IsInTime h moment k n
   pub response : Response
   pub whole : whole_of request messages ≡ Some response
 
--- Nothing was sent for the ask: what asks the same, after it, was sent for another ask.
-abbrev pub IsUnsent : List Written → ℕ → CoapRequest → Type 0
-IsUnsent h k q =
-    (i : ℕ) (m : Content) → IsSentFor h k q i m
-    → (o c t : ℕ) × (r : CoapRequest)
-    × (o ≢ k) × IsAsked h o c t (Requests r) × IsSentFor h o r i m
-
--- The bytes that were sent to the endpoint in the entry i, at the moment t, were sent again in
--- these entries, the newest first, the last time at this moment; each time the timeout was over,
--- which doubles (RFC 7252 section 4.2).
-abbrev pub last_of : ℕ → List ℕ → ℕ
-last_of i [] = i
-last_of i (j ∷ js) = j
-
-abbrev pub AreCopies : List Written → Peer → List ℕ → ℕ → ℕ → ℕ → List ℕ → ℕ → Type 0
-AreCopies h p bytes timeout i t [] last = last ≡ t
-AreCopies h p bytes timeout i t (j ∷ js) last =
-    IsEntry h j last (Sends p bytes None) × (last_of i js < j)
-    × ((s : ℕ) × (s + timeout * 2 ^ length js ≤ last) × AreCopies h p bytes timeout i t js s)
-
--- Before the entry n nothing ended the sending of the message: no empty ACK or RST with its ID, and
--- no response (RFC 7252 sections 4.2, 5.2).
-pub record IsUnsettled
-    (h : List Written) (p : Peer) (i : ℕ) (sent : Content) (n : ℕ) : Type 0 where
-  pub unconfirmed : (j t : ℕ) → i < j → j < n → IsHeard h p j t (empty Ack sent.mid) → ⊥
-  pub unrejected : (j t : ℕ) → i < j → j < n → IsHeard h p j t (empty Rst sent.mid) → ⊥
-  pub unanswered : IsUnanswered h p i sent n
-
--- The message of the entry i was given up by this moment: it was sent again four times
--- (MAX_RETRANSMIT), and a tick found the timeout after the last over; till then nothing settled it.
-pub record IsGivenUp (h : List Written) (t : ℕ) (p : Peer) (i : ℕ) (sent : Content) : Type 0 where
-  pub moment : ℕ
-  pub first : IsFirstSending h i moment p sent
-  pub copies : List ℕ
-  pub last : ℕ
-  pub four : length copies ≡ MAX_RETRANSMIT
-  pub again : AreCopies h p first.bytes first.timeout i moment copies last
-  pub tick : ℕ
-  pub ticked : ℕ
-  pub passes : IsEntry h tick ticked Passes
-  pub due : last + first.timeout * 2 ^ MAX_RETRANSMIT ≤ ticked
-  pub by : ticked ≤ t
-  pub silent : IsUnsettled h p i sent tick
-
--- The cause of an own answer, in the entry a and at the moment t, to the ask k of the connection c,
--- and the entry n that it names.
-
--- at least so many entries of a kind, each another one
-abbrev pub AreApart : List ℕ → Type 0
-AreApart [] = ⊤
-AreApart (n ∷ ns) = (Contains ns n → ⊥) × AreApart ns
-
-pub record AreMany (least : ℕ) (IsOne : ℕ → Type 0) : Type 0 where
-  pub ones : List ℕ
-  pub many : least ≤ length ones
-  pub apart : AreApart ones
-  pub each : (n : ℕ) → Contains ones n → IsOne n
-
--- Before the ask k, the ask o asked for this. It wasn't answered, and no tick found it 93 seconds old
--- (MAX_TRANSMIT_WAIT): so long it counts, though its connection may be closed.
-pub record IsPending (h : List Written) (k o : ℕ) (q : CoapRequest) : Type 0 where
-  pub before : o < k
-  pub conn : ℕ
-  pub moment : ℕ
-  pub asked : IsAsked h o conn moment (Requests q)
-  pub unanswered : (n t c : ℕ) (g : Grounds) → n < k → IsEntry h n t (Answers c o g) → ⊥
-  pub in_time : (n t : ℕ) → o < n → n < k → IsEntry h n t Passes → t < moment + MAX_TRANSMIT_WAIT
-
-abbrev pub IsPendingAt : List Written → ℕ → Peer → ℕ → Type 0
-IsPendingAt h k p o = (q : CoapRequest) × (q.peer ≡ p) × IsPending h k o q
-
--- Before the ask k, the entry i first sent a message to the endpoint, whose ID may not be used
--- again at this moment (RFC 7252 section 4.4).
-pub record IsRecent (h : List Written) (k t : ℕ) (p : Peer) (i : ℕ) : Type 0 where
-  pub before : i < k
-  pub moment : ℕ
-  pub message : Content
-  pub first : IsFirstSending h i moment p message
-  pub recent : t < moment + MESSAGE_ID_LIFETIME
-
--- There is no room for one request more to this endpoint: 256 are pending, or 64 to it, or there is
--- no message ID for it besides those that are in use or wait to be used.
-pub data IsCrowded (h : List Written) (k t : ℕ) (p : Peer) : Type 0 where
-  exchanges : AreMany MAX_EXCHANGES (λ (o : ℕ). (q : CoapRequest) × IsPending h k o q)
-      → IsCrowded h k t p
-  waiting : AreMany MAX_WAITING (IsPendingAt h k p) → IsCrowded h k t p
-  ids : (used waits : ℕ) → MAX_MESSAGE_IDS ≤ used + waits → AreMany used (IsRecent h k t p)
-      → AreMany waits (IsPendingAt h k p) → IsCrowded h k t p
-
--- The ask asks for something, there was no room for it, and nothing was sent for it.
-pub record IsTurnedAway (h : List Written) (c k : ℕ) : Type 0 where
-  pub moment : ℕ
-  pub request : CoapRequest
-  pub asked : IsAsked h k c moment (Requests request)
-  pub crowded : IsCrowded h k moment request.peer
-  pub unsent : IsUnsent h k request
-
--- The message for the ask is named, to which no reply came before the answer; or the ask, where
--- nothing was sent. It was asked 93 seconds before or more (MAX_TRANSMIT_WAIT, RFC 7252 section
--- 4.8.2), or the message was given up.
-pub record IsTimedOut (h : List Written) (a t c k n : ℕ) : Type 0 where
-  pub moment : ℕ
-  pub request : CoapRequest
-  pub asked : IsAsked h k c moment (Requests request)
-  pub names : ((m : Content) × IsSentFor h k request n m × IsUnanswered h request.peer n m a)
-      ⊎ ((n ≡ k) × IsUnsent h k request)
-  pub over : (moment + MAX_TRANSMIT_WAIT ≤ t)
-      ⊎ ((m : Content) × IsSentFor h k request n m × IsGivenUp h t request.peer n m)
-
--- The entry heard, from the endpoint, an empty RST with the ID of the message for the ask, before
--- anything else ended its sending.
-pub record IsReset (h : List Written) (c k n : ℕ) : Type 0 where
-  pub moment : ℕ
-  pub request : CoapRequest
-  pub asked : IsAsked h k c moment (Requests request)
-  pub sending : ℕ
-  pub sent : Content
-  pub sent_for : IsSentFor h k request sending sent
-  pub after : sending < n
-  pub unsettled : IsUnsettled h request.peer sending sent n
-  pub reset : ℕ
-  pub heard : IsHeard h request.peer n reset (empty Rst sent.mid)
-
--- The entry heard the reply to the message for the ask, and it is no whole response.
-pub record IsNotUnderstood (h : List Written) (c k n : ℕ) : Type 0 where
-  pub moment : ℕ
-  pub request : CoapRequest
-  pub asked : IsAsked h k c moment (Requests request)
-  pub message : Content
-  pub heard : IsHeardFor h k request n message
-  pub fails : whole_of request (message ∷ []) ≡ None
-
--- The ask means this refusal.
-pub record IsRefused (h : List Written) (c k : ℕ) (cause : Cause) : Type 0 where
-  pub moment : ℕ
-  pub status : ℕ
-  pub asked : IsAsked h k c moment (Refuses cause status)
-
-abbrev pub IsCausedBy : List Written → ℕ → ℕ → ℕ → ℕ → Cause → ℕ → Type 0
-IsCausedBy h a t c k C.Busy n = (n ≡ k) × IsTurnedAway h c k
-IsCausedBy h a t c k C.Timeout n = IsTimedOut h a t c k n
-IsCausedBy h a t c k C.Reset n = IsReset h c k n
-IsCausedBy h a t c k C.NotUnderstood n = IsNotUnderstood h c k n
-IsCausedBy h a t c k cause n = (n ≡ k) × IsRefused h c k cause
-
--- What holds of every journal that stands.
-
--- An answer that isn't the proxy's own rests on one whole response to its own ask.
+-- In every journal that stands, an answer that isn't the proxy's own rests on one whole response to
+-- its own ask.
 abbrev pub RestsOnReplies : Type 0
 RestsOnReplies =
     (h : List Written) (n t c k : ℕ) (js : List ℕ) → Stands h
     → IsEntry h n t (Answers c k (Live js)) → RestsOn h n c k js
-
--- An own answer names its cause, which lies before it.
-abbrev pub NamesCause : Type 0
-NamesCause =
-    (h : List Written) (n t c k : ℕ) (cause : Cause) (j : ℕ) → Stands h
-    → IsEntry h n t (Answers c k (Fault cause j)) → (j < n) × IsCausedBy h n t c k cause j

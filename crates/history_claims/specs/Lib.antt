@@ -1,3 +1,4 @@
 pub mod Headline
+pub mod Causes
 pub mod Apart
 pub mod Worked

@@ -1,13 +1,17 @@
 -- Worked journals of `history_laws`, as entries: what their answers rest on, and what they don't.
-use Rattle.std.specs.Prelude.{[], ◌∷◌}
+use Rattle.std.specs.Prelude.{List, [], ◌∷◌, None}
 use Rattle.ask_model.specs.declared.cause.Cause.TheVariants as C
 use Rattle.ask_model.specs.Requests.{CoapRequest}
-use Rattle.history_laws.specs.Readings.{entries}
+use Rattle.journal_book.specs.Entries.{Hears}
+use Rattle.history_laws.specs.Readings.{Noted, Says, Unobserved, entries}
+use Rattle.history_laws.specs.Readings.{noted}
+use Rattle.history_laws.specs.Worked.{server}
 use Rattle.history_laws.specs.WorkedMessages as M
 use Rattle.history_laws.specs.WorkedEndings as E
 use Rattle.history_laws.specs.WorkedLate as L
 use Rattle.history_laws.specs.WorkedSpoiled as S
-use Rattle.history_claims.specs.Headline.{RestsOn, IsPending, IsCausedBy}
+use Rattle.history_claims.specs.Headline.{RestsOn}
+use Rattle.history_claims.specs.Causes.{IsPending, IsCausedBy}
 
 -- The GET's answer rests on the response of entry 9, and the PUT's on that of entry 16.
 abbrev pub Answered : Type 0
@@ -35,6 +39,13 @@ Foreseen = RestsOn (entries M.all_answered) 11 1 4 (16 ∷ []) → ⊥
 -- Not so: a message given up a millisecond before the timeout after its fourth copy is over.
 abbrev pub Early : Type 0
 Early = IsCausedBy (entries S.timed_out_early) 14 61999 0 1 C.Timeout 2 → ⊥
+
+-- Not so: an answer on a response that came after a tick had found the GET 93 seconds old.
+abbrev pub heard_late : List Noted
+heard_late = noted 94000 (Hears server M.content_bytes) (Says M.content_message None Unobserved) ∷ M.given_up
+
+abbrev pub Late : Type 0
+Late = RestsOn (entries heard_late) 10 0 1 (9 ∷ []) → ⊥
 
 -- Not so: an answer on the second response under the GET's token.
 abbrev pub Second : Type 0

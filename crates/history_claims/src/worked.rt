@@ -8,6 +8,7 @@ ghost use Rattle.history_claims.specs.Worked.{
   Crossed,
   Foreseen,
   Early,
+  Late,
   Second,
   Unheeded,
   Unrejected,
@@ -27,11 +28,12 @@ pub fn worked_causes()
 {}
 
 /// What an answer may not rest on or name: the response to another request, what comes after it, a
-/// deadline before its time.
+/// deadline before its time, a response after the deadline.
 pub fn not_so()
     ensures crossed { Crossed }
     ensures foreseen { Foreseen }
     ensures early { Early }
+    ensures late { Late }
 {}
 
 /// What comes too late excuses nothing: a second response, a deadline after the reply, a Reset message

@@ -3,6 +3,7 @@ use Rattle.std.proofs.Common.{Bool, true, false, refl, sym, ap, ◌∙◌, subst
 use Rattle.std.specs.Prelude.{⊤}
 use Rattle.std.specs.Arc.{arc_value}
 use Rattle.ask_model.specs.Views.{rules_of}
+use Rattle.history_claims.proofs.CallerLemmas.{names-cause}
 use Rattle.gateway_model.specs.Emissions.{emissions}
 use Rattle.gateway_world.specs.Worlds.{world_of}
 use Rattle.gateway_world.proofs.AskedInRun.{heeded}
@@ -41,6 +42,7 @@ returns-in-Ok-clause-takes g c =
       told = rw (← c.self.view_is)
           (led-tells g.R.Relation.holds g.R.Relation.takes _ _ _ c.self.inside.engine c.step.new.self _ _ c.in-Ok.ensures.leads
           none c.self.invariant.1 c.in-Ok.ensures.drained c.journal-in-Ok.ensures.stands c.self.invariant.4);
+      causes = names-cause _ c.journal-in-Ok.ensures.stands;
       asks = rw (← c.self.view_is)
           (heeded g.R.Relation.holds g.R.Relation.takes _ c.args.input _ _ _
           (handled _ c.args.input

@@ -1,7 +1,7 @@
 -- What a run gives out is what its journal says.
 use Rattle.gateway_model.specs.Emissions.{emissions}
 use Rattle.gateway_world.proofs.AskedInRun.{run-asks}
-use Rattle.gateway_world.proofs.Running.{run-tells, run-sends}
+use Rattle.gateway_world.proofs.Running.{run-causes, run-mapped, run-tells, run-sends}
 use Rattle.gateway_world.proofs.state.World.run.Goals as goal
 
 pub returns-clause-told : goal.returns-clause-told
@@ -9,6 +9,18 @@ returns-clause-told g c =
     run-tells g.R.Relation.holds g.R.Relation.takes _ c.args.inputs.now c.in_ok-world.world c.take_all.new.self c.in_ok-journal.journal.entries
     (emissions c.take_all.new.outputs.items)
     c.in_ok-world.ensures.is c.in_ok-take_all.ensures.takes c.in_ok-take_all.ensures.rests c.journal.ensures.stands
+    (rw (c.in_ok-journal.ensures) c.journal.ensures.entries)
+
+pub returns-clause-mapped : goal.returns-clause-mapped
+returns-clause-mapped g c =
+    run-mapped g.R.Relation.holds g.R.Relation.takes _ c.args.inputs.now c.in_ok-world.world c.take_all.new.self c.in_ok-journal.journal.entries
+    (emissions c.take_all.new.outputs.items)
+    c.in_ok-world.ensures.is c.in_ok-take_all.ensures.takes c.in_ok-take_all.ensures.rests c.journal.ensures.stands
+    (rw (c.in_ok-journal.ensures) c.journal.ensures.entries)
+
+pub returns-clause-causes : goal.returns-clause-causes
+returns-clause-causes g c =
+    run-causes c.in_ok-journal.journal.entries c.take_all.new.self.core.state.entries c.journal.ensures.stands
     (rw (c.in_ok-journal.ensures) c.journal.ensures.entries)
 
 pub returns-clause-asks : goal.returns-clause-asks
