@@ -1,6 +1,6 @@
 //! The table of open exchanges.
 
-ghost use Rattle.std.specs.Prelude.{◌≡◌, ◌∷◌, ◌++◌, [], Bool, Some, true, filter, find, length, map, IfOk, OnOk};
+ghost use Rattle.std.specs.Prelude.{◌≡◌, ◌∷◌, ◌++◌, [], Bool, Some, true, false, filter, find, length, map, IfOk, OnErr, OnOk};
 ghost use Rattle.std.specs.Option.{option_copied};
 ghost use Rattle.exchange_model.specs.declared.kept.Exchange.{Exchange as Row};
 ghost use Rattle.exchange_model.specs.Steps.{is_other, is_under, went_out};
@@ -69,6 +69,7 @@ impl Exchanges {
     pub fn make_room(&mut self) -> Result<(), AllocError>
         ensures same { self.new.exchanges ≡ self.old.exchanges }
         ensures room { OnOk result (self.new.room ≡ true) }
+        ensures wanted { OnErr result (self.old.room ≡ false) }
     {
         self.rows.try_reserve(1)?;
         self.names.try_reserve(1)?;

@@ -1,0 +1,5 @@
+mod Deeds
+mod Finding
+mod Given
+mod Links
+mod Ticked

@@ -1,0 +1,26 @@
+use Rattle.std.proofs.Common.{refl, subst, map}
+use Rattle.message_layer.specs.Prepared.{MayHeed}
+use Rattle.message_layer.specs.Values.{LinkValue}
+use Rattle.endpoint_table.specs.Tables.{peer_link}
+use Rattle.endpoint_table.proofs.Links.{link-there, once-with, unknown}
+use Rattle.endpoint_table.proofs.endpoints.Endpoints.heed.Goals as goal
+
+pub heed_at-requires-clause-ready : goal.heed_at-requires-clause-ready
+heed_at-requires-clause-ready c = λ e k.
+    subst (λ (l : LinkValue). MayHeed c.args.moment l c.args.heeding)
+    (link-there c.args.peer.now c.self.inside.rows.items c.in-Some.place _ e
+    (rw (c.deref.ensures.value) at c.in-Some.ensures.some) k)
+    (rw (← c.self.view_is) at c.requires.ready)
+
+pub invariant_of-self : goal.invariant_of-self
+invariant_of-self c = (
+  once-with c.args.peer.now _ c.self.inside.rows.items c.heed_at.new.rows.items c.self.invariant.0
+      (c.heed_at.ensures c.args.peer.now (rw (c.deref.ensures.value) at c.in-Some.ensures.some)),
+  c.self.invariant.1,
+)
+
+pub returns-in_default : goal.returns-in_default
+returns-in_default c =
+    absurd (unknown c.args.peer.now (map peer_link c.self.inside.rows.items)
+    (rw (c.deref.ensures.value) at (c.in_default.ensures.none refl))
+    (rw (← c.self.view_is) at c.requires.known))

@@ -1,0 +1,13 @@
+use Rattle.std.proofs.Common.{refl}
+use Rattle.message_layer.specs.Calls.{is_among}
+use Rattle.exchange_model.specs.Entering.{link_after}
+use Rattle.endpoint_table.proofs.Links.{once-turned}
+use Rattle.endpoint_table.proofs.endpoints.Endpoints.tick.Goals as goal
+
+pub invariant_of-self : goal.invariant_of-self
+invariant_of-self c = (
+  once-turned (link_after c.args.moment (is_among c.args.gone.now)) (λ x. refl)
+      c.self.inside.rows.items c.tick_turns_in.new.rows.items c.self.invariant.0
+      c.tick_turns_in.ensures,
+  c.self.invariant.1,
+)

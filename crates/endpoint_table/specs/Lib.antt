@@ -1,0 +1,4 @@
+pub mod GivenUps
+pub mod Places
+pub mod Tables
+pub mod Turns

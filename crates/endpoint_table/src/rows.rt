@@ -1,0 +1,249 @@
+//! The links of the endpoints, of which one takes a message or a datagram.
+
+ghost use Rattle.std.specs.Prelude.{◌≡◌, ◌≤◌, ◌<◌, ◌∷◌, ◌++◌, [], Bool, Some, None, IfOk, length, map, slice_get, vec_len, vec_capacity};
+ghost use Rattle.limits.specs.declared.TheConstants.{LAST_MOMENT};
+ghost use Rattle.uri_map.specs.declared.peer.Peer.{Peer as PeerValue};
+ghost use Rattle.message_layer.specs.Values.{empty_link};
+ghost use Rattle.message_layer.specs.Sending.{submitted, IsSubmitted};
+ghost use Rattle.message_layer.specs.Prepared.{IsPreparedFor, IsSubmission, IsUnnumberedCon, MayHeed, MaySubmit};
+ghost use Rattle.exchange_model.specs.Due.{earlier, earliest, timer};
+ghost use Rattle.exchange_model.specs.State.{link_of, with_link};
+ghost use Rattle.exchange_model.specs.Steps.{given_out};
+ghost use Rattle.endpoint_table.specs.declared.endpoint.Endpoint.{Endpoint as EndpointValue};
+ghost use Rattle.endpoint_table.specs.Places.{HasNone, IsFirstAt};
+ghost use Rattle.endpoint_table.specs.Tables.{heeds, link_at, peer_link, shown, spare_room, submitted_to, IsUnused};
+
+use crate::endpoint::{Endpoint, copy_endpoint};
+use coap_codec::Token;
+use message_layer::{Hearing, Heeding, Link, LinkFault, Submission};
+use std::alloc::{AllocError, Global};
+use uri_map::Peer;
+
+/// Prepares that the link of an endpoint takes a message.
+fn prepare_submit(
+    endpoint: &mut Endpoint,
+    token: Token,
+    text: &[u8],
+    moment: u64,
+    word: u64,
+) -> Result<Submission, LinkFault>
+    requires moment { moment ≤ LAST_MOMENT }
+    requires message { IsUnnumberedCon token text.now }
+    ensures same { peer_link endpoint.new ≡ peer_link endpoint.old }
+    ensures ok { IfOk result (λ x. IsSubmission moment token text.now word endpoint.new.link x) }
+    ensures fault { IsSubmitted moment endpoint.old.link.state result }
+{
+    endpoint.link.prepare_submit(token, text, moment, word)
+}
+
+/// Prepares that the link in this place takes a message.
+pub fn prepare_submit_at(
+    rows: &mut Vec<Endpoint>,
+    place: usize,
+    token: Token,
+    text: &[u8],
+    moment: u64,
+    word: u64,
+) -> Result<Submission, LinkFault>
+    requires place { place < length rows.old.items }
+    requires moment { moment ≤ LAST_MOMENT }
+    requires message { IsUnnumberedCon token text.now }
+    ensures same { map peer_link rows.new.items ≡ map peer_link rows.old.items }
+    ensures ok { (p : PeerValue) (spare : Bool)
+        → IsFirstAt p (map peer_link rows.old.items) place → IfOk result (λ x.
+        IsSubmission moment token text.now word (link_at (shown rows.new.items spare) p) x) }
+    ensures fault { (p : PeerValue) → IsFirstAt p (map peer_link rows.old.items) place
+        → IsSubmitted moment (link_of (map peer_link rows.old.items) p) result }
+{
+    prepare_submit(&mut rows[place], token, text, moment, word)
+}
+
+/// Prepares a new link that takes a message, and a place for its endpoint.
+pub fn prepare_spare(
+    alloc: Global,
+    rows: &mut Vec<Endpoint>,
+    spare: &mut Option<Link>,
+    token: Token,
+    text: &[u8],
+    moment: u64,
+    word: u64,
+) -> Result<Submission, LinkFault>
+    requires moment { moment ≤ LAST_MOMENT }
+    requires message { IsUnnumberedCon token text.now }
+    requires unused { IsUnused spare.old }
+    ensures same { rows.new.items ≡ rows.old.items }
+    ensures unused { IsUnused spare.new }
+    ensures ok { (p : PeerValue) → HasNone p (map peer_link rows.old.items) → IfOk result (λ x.
+        IsSubmission moment token text.now word (link_at (shown rows.new.items
+        (spare_room (vec_len rows.new) (vec_capacity rows.new) spare.new)) p) x) }
+    ensures fault { IsSubmitted moment empty_link result }
+{
+    rows.try_reserve(1)?;
+    let mut link = Link::new(alloc);
+    let submission = link.prepare_submit(token, text, moment, word)?;
+    *spare = Some(link);
+    Ok(submission)
+}
+
+/// The link takes the message, and gives out nothing by itself.
+fn submit_to(link: &mut Link, submission: Submission, moment: u64)
+    requires early { moment ≤ LAST_MOMENT }
+    requires ready { MaySubmit moment link.old submission }
+    ensures { link.new.state ≡ given_out (submitted moment submission.waiting link.old.state) }
+{
+    link.submit_prepared(submission, moment);
+    link.clear_out();
+}
+
+/// The link of the endpoint takes the message.
+fn submit(endpoint: &mut Endpoint, submission: Submission, moment: u64)
+    requires early { moment ≤ LAST_MOMENT }
+    requires ready { MaySubmit moment endpoint.old.link submission }
+    ensures peer { endpoint.new.peer ≡ endpoint.old.peer }
+    ensures link { endpoint.new.link.state
+        ≡ given_out (submitted moment submission.waiting endpoint.old.link.state) }
+{
+    submit_to(&mut endpoint.link, submission, moment);
+}
+
+/// The link in this place takes the message.
+pub fn submit_at(rows: &mut Vec<Endpoint>, place: usize, submission: Submission, moment: u64)
+    requires place { place < length rows.old.items }
+    requires early { moment ≤ LAST_MOMENT }
+    requires ready { (e : EndpointValue) → slice_get rows.old.items place ≡ Some e
+        → MaySubmit moment e.link submission }
+    ensures { (p : PeerValue) → IsFirstAt p (map peer_link rows.old.items) place
+        → map peer_link rows.new.items
+        ≡ submitted_to p moment submission.waiting (map peer_link rows.old.items) }
+{
+    submit(&mut rows[place], submission, moment);
+}
+
+/// The link that was prepared for one more endpoint takes the message.
+pub fn submit_spare(
+    rows: &mut Vec<Endpoint>,
+    spare: &mut Option<Link>,
+    peer: Peer,
+    submission: Submission,
+    moment: u64,
+)
+    requires early { moment ≤ LAST_MOMENT }
+    requires unused { IsUnused spare.old }
+    requires ready { MaySubmit moment (record {
+      state = empty_link;
+      room = spare_room (vec_len rows.old) (vec_capacity rows.old) spare.old;
+    }) submission }
+    ensures links { HasNone peer (map peer_link rows.old.items) → map peer_link rows.new.items
+        ≡ submitted_to peer moment submission.waiting (map peer_link rows.old.items) }
+    ensures spare { spare.new ≡ None }
+{
+    let Some(mut link) = spare.take() else {
+        unreachable!()
+    };
+    submit_to(&mut link, submission, moment);
+    rows.push_reserved(Endpoint { peer, link });
+}
+
+/// What the link of the endpoint makes of the datagram, before it does that.
+fn prepare_heard(
+    endpoint: &mut Endpoint,
+    datagram: &[u8],
+    moment: u64,
+) -> Result<Option<Hearing>, AllocError>
+    requires { moment ≤ LAST_MOMENT }
+    ensures same { peer_link endpoint.new ≡ peer_link endpoint.old }
+    ensures ok { IfOk result (λ o. IsPreparedFor moment datagram.now endpoint.new.link o) }
+{
+    match endpoint.link.prepare_heard(datagram, moment) {
+        Ok(hearing) => Ok(hearing),
+        Err(_) => Err(AllocError),
+    }
+}
+
+/// What the link in this place makes of the datagram, before it does that.
+pub fn prepare_heard_at(
+    rows: &mut Vec<Endpoint>,
+    place: usize,
+    datagram: &[u8],
+    moment: u64,
+) -> Result<Option<Hearing>, AllocError>
+    requires place { place < length rows.old.items }
+    requires early { moment ≤ LAST_MOMENT }
+    ensures same { map peer_link rows.new.items ≡ map peer_link rows.old.items }
+    ensures ok { (p : PeerValue) (spare : Bool)
+        → IsFirstAt p (map peer_link rows.old.items) place → IfOk result (λ o.
+        IsPreparedFor moment datagram.now (link_at (shown rows.new.items spare) p) o) }
+{
+    prepare_heard(&mut rows[place], datagram, moment)
+}
+
+/// The endpoint's link does what was prepared, awaits nothing more under the token that is over, and
+/// gives out nothing by itself.
+fn heed(endpoint: &mut Endpoint, heeding: Heeding, over: Option<Token>, moment: u64)
+    requires early { moment ≤ LAST_MOMENT }
+    requires ready { MayHeed moment endpoint.old.link heeding }
+    ensures peer { endpoint.new.peer ≡ endpoint.old.peer }
+    ensures link { endpoint.new.link.state ≡ heeds moment heeding over endpoint.old.link.state }
+{
+    endpoint.link.hear_prepared(heeding, moment);
+    if let Some(token) = over {
+        match endpoint.link.expect(&token, false) {
+            Ok(()) => {}
+            Err(_) => unreachable!(),
+        }
+    }
+    endpoint.link.clear_out();
+}
+
+/// The link in this place does what was prepared.
+pub fn heed_at(
+    rows: &mut Vec<Endpoint>,
+    place: usize,
+    heeding: Heeding,
+    over: Option<Token>,
+    moment: u64,
+)
+    requires place { place < length rows.old.items }
+    requires early { moment ≤ LAST_MOMENT }
+    requires ready { (e : EndpointValue) → slice_get rows.old.items place ≡ Some e
+        → MayHeed moment e.link heeding }
+    ensures { (p : PeerValue) → IsFirstAt p (map peer_link rows.old.items) place
+        → map peer_link rows.new.items
+        ≡ with_link p (heeds moment heeding over (link_of (map peer_link rows.old.items) p))
+        (map peer_link rows.old.items) }
+{
+    heed(&mut rows[place], heeding, over, moment);
+}
+
+/// The earlier of two moments, where there are two.
+fn earlier(a: Option<u64>, b: Option<u64>) -> Option<u64>
+    ensures { result ≡ earlier a b }
+{
+    match (a, b) {
+        (None, b) => b,
+        (Some(a), None) => Some(a),
+        (Some(a), Some(b)) => Some(a.min(b)),
+    }
+}
+
+/// The first timer of the links.
+pub fn earliest_timer(rows: &[Endpoint]) -> Option<u64>
+    ensures { result ≡ earliest timer (map peer_link rows.now) }
+{
+    let mut first = None;
+    'each: for x in rows {
+        first = earlier(first, x.link.next_due());
+    }
+    first
+}
+
+/// Equal links.
+pub fn copy_rows(alloc: Global, rows: &[Endpoint]) -> Result<Vec<Endpoint>, AllocError>
+    ensures { IfOk result (λ copy. map peer_link copy.items ≡ map peer_link rows.now) }
+{
+    let mut copy = Vec::new(alloc);
+    'each: for row in rows {
+        copy.push(copy_endpoint(row)?)?;
+    }
+    Ok(copy)
+}
