@@ -8,7 +8,6 @@ use Rattle.exchange_model.specs.State.{State}
 use Rattle.exchange_model.specs.Growing.{Adds}
 use Rattle.exchange_model.specs.Sealing.{hears_in_room, ticks_in_room}
 use Rattle.exchange_model.proofs.CallerLemmas.{asks-add, hears-add, ticks-add}
-use Rattle.exchange_core.specs.declared.fault.OpenFault.TheVariants as Open
 use Rattle.exchange_core.specs.declared.fault.AskFault.{AskFault}
 use Rattle.exchange_core.specs.declared.fault.AskFault.TheVariants as Fault
 use Rattle.exchange_core.specs.Calls.{IsAsked, AsksSo}

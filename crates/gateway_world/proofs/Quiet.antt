@@ -2,7 +2,6 @@
 use Rattle.std.proofs.Common.{◌≡◌, ◌⊎◌, ℕ, true, List, [], ◌∷◌, ◌++◌, length, drop, Err, inl, inr, refl, sym, ap, ◌∙◌, subst}
 use Rattle.std.proofs.Math.Seq.{drop-append_seam}
 use Rattle.std.proofs.lemmas.List.{append-nil}
-use Rattle.ask_model.specs.declared.cause.Cause.TheVariants as C
 use Rattle.ask_model.specs.Views.{Ask}
 use Rattle.journal_book.specs.Entries.{Shuts, Seals, Written}
 use Rattle.exchange_model.specs.State.{State}
@@ -10,7 +9,6 @@ use Rattle.exchange_model.specs.Steps.{shuts, seals}
 use Rattle.exchange_model.specs.Calls.{Numbers}
 use Rattle.exchange_model.specs.Growing.{at_moment}
 use Rattle.exchange_model.specs.Sealing.{asks_in_room}
-use Rattle.exchange_core.specs.declared.fault.OpenFault.TheVariants as Open
 use Rattle.exchange_core.specs.declared.fault.AskFault.TheVariants as Fault
 use Rattle.exchange_core.specs.Calls.{IsAsked, IsClosed, AsksSo}
 use Rattle.exchange_core.specs.Values.{CoreValue, Untaken, Outgoing, answered_in, sent_in, stepped}

@@ -1,6 +1,6 @@
 -- What contracts see of a world, and what inputs do to it.
 use Rattle.limits.specs.declared.TheConstants.{LAST_MOMENT}
-use Rattle.std.specs.Prelude.{◌≡◌, ℕ, ◌^◌, length, min, max, ⊤, List, [], ◌∷◌, ◌++◌}
+use Rattle.std.specs.Prelude.{◌≡◌, ℕ, length, min, max, ⊤, List, [], ◌++◌}
 use Rattle.ask_model.specs.Views.{Rules}
 use Rattle.journal_book.specs.Entries.{Written}
 use Rattle.exchange_model.specs.Keeping.{start}

@@ -1,5 +1,5 @@
 -- Each input is taken after those before it.
-use Rattle.std.proofs.Common.{Err, get_or, refl, sym, ap, ◌∙◌}
+use Rattle.std.proofs.Common.{Err, refl, sym, ap, ◌∙◌}
 use Rattle.gateway_model.specs.declared.input.Input.{Input}
 use Rattle.gateway_model.specs.declared.input.Happening.TheVariants as H
 use Rattle.gateway_model.specs.Emissions.{emissions}
