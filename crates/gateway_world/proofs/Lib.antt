@@ -1,4 +1,5 @@
 pub mod Acting
+pub mod Advancing
 pub mod Answering
 pub mod Asking
 pub mod AskedInRun

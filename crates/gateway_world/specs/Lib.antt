@@ -4,4 +4,5 @@ pub mod Faults
 pub mod Inputs
 pub mod Keeping
 pub mod Leading
+pub mod Openings
 pub mod Worlds

@@ -8,6 +8,8 @@ ghost use Rattle.exchange_core.specs.Calls.{IsUnknown};
 ghost use Rattle.exchange_core.specs.Taking.{IsTaken};
 ghost use Rattle.exchange_core.specs.Values.{CoreValue};
 ghost use Rattle.gateway_model.specs.Acts.{IsAllTold};
+ghost use Rattle.gateway_model.specs.Emissions.{emissions};
+ghost use Rattle.gateway_world.specs.Openings.{IsOpening};
 ghost use Rattle.gateway_model.specs.Waiting.{AreServed, IsOpen};
 ghost use Rattle.gateway_world.specs.Engines.{terms_in, work_at, GoesOn, ServesNext, IsAskOf, IsReady, IsSentOut, IsShut, IsShutting, KeepsWaiting, LeadsAfter, LetsGo, MayGoBack};
 ghost use Rattle.gateway_connections.specs.Inlets.{Inlet};
@@ -45,14 +47,14 @@ pub struct Engine<R: Relation> {
 }
 
 impl<R: Relation> Engine<R> {
-    /// Does what happens leads to.
+    /// Does what happens leads to, and answers the number of the connection that opens with it.
     pub fn step(
         &mut self,
         context: Context<'_>,
         bank: &Bank<R>,
         happening: Happening<'_>,
         outputs: &mut Vec<Output>,
-    ) -> Result<(), Memory>
+    ) -> Result<Option<u32>, Memory>
         requires ready { IsReady self.old }
         requires drained { IsDrained self.old.core }
         requires suits { Suits R.holds R.takes (rules_in context).routes bank.now }
@@ -61,21 +63,36 @@ impl<R: Relation> Engine<R> {
             self.old outputs.old.items self.new outputs.new.items) }
         ensures back { MayGoBack self.old self.new }
         ensures drained { OnOk result (IsDrained self.new.core) }
+        ensures opened { IfOk result (λ n. IsOpening happening.entry n self.old.core.state.opened
+            (emissions outputs.old.items) (emissions outputs.new.items)) }
     {
         match happening {
             Happening::Open => self.open(context, outputs),
-            Happening::Bytes(number, bytes) => self.bytes(context, bank, number, bytes, outputs),
-            Happening::Datagram(peer, bytes) => self.heard(context, bank, peer, bytes, outputs),
-            Happening::Tick => self.tick(context, bank, outputs),
+            Happening::Bytes(number, bytes) => {
+                self.bytes(context, bank, number, bytes, outputs)?;
+                Ok(None)
+            }
+            Happening::Datagram(peer, bytes) => {
+                self.heard(context, bank, peer, bytes, outputs)?;
+                Ok(None)
+            }
+            Happening::Tick => {
+                self.tick(context, bank, outputs)?;
+                Ok(None)
+            }
             Happening::Close(number) => {
                 self.close(context, number);
-                Ok(())
+                Ok(None)
             }
         }
     }
 
-    /// Opens a connection, or turns the client away.
-    fn open(&mut self, context: Context<'_>, outputs: &mut Vec<Output>) -> Result<(), Memory>
+    /// Opens a connection, and answers its number; or turns the client away.
+    fn open(
+        &mut self,
+        context: Context<'_>,
+        outputs: &mut Vec<Output>,
+    ) -> Result<Option<u32>, Memory>
         requires ready { IsReady self.old }
         requires drained { IsDrained self.old.core }
         ensures leads { OnOk result (LeadsBy (terms_in R.holds R.takes context.entry)
@@ -83,11 +100,22 @@ impl<R: Relation> Engine<R> {
             self.old outputs.old.items self.new outputs.new.items) }
         ensures back { MayGoBack self.old self.new }
         ensures drained { OnOk result (IsDrained self.new.core) }
+        ensures opened { IfOk result (λ n. IsOpening Happening.Open n self.old.core.state.opened
+            (emissions outputs.old.items) (emissions outputs.new.items)) }
     {
         match self.core.open(context.when.moment) {
-            Ok(number) => self.table.insert(number),
-            Err(OpenFault::Full) => tell_turned(outputs),
-            Err(OpenFault::Sealed) => tell_turned(outputs),
+            Ok(number) => {
+                self.table.insert(number)?;
+                Ok(Some(number))
+            }
+            Err(OpenFault::Full) => {
+                tell_turned(outputs)?;
+                Ok(None)
+            }
+            Err(OpenFault::Sealed) => {
+                tell_turned(outputs)?;
+                Ok(None)
+            }
             Err(OpenFault::Memory) => Err(Memory),
         }
     }

@@ -6,6 +6,7 @@
 //! promised of inputs and of runs follows from these.
 #![tactic(auto)]
 
+mod advance;
 mod engine;
 mod fault;
 mod run;
@@ -13,6 +14,7 @@ mod state;
 mod telling;
 mod world;
 
+pub use advance::Advanced;
 pub use fault::WorldFault;
 pub use gateway_model::{Datagram, Happening, Input, Output, When};
 pub use run::Run;

@@ -3,7 +3,6 @@
 ghost use Rattle.std.specs.Prelude.{◌≡◌, ◌↔◌, IsTrue, IfOk, OnOk, OnErr, IsErrOf};
 ghost use Rattle.history_laws.specs.Justified.{Stands};
 ghost use Rattle.ask_model.specs.Views.{rules_of};
-ghost use Rattle.exchange_model.specs.Room.{KeptInRoom};
 ghost use Rattle.gateway_model.specs.Emissions.{emissions};
 
 use crate::engine::{Context, Engine};
@@ -88,7 +87,7 @@ impl<R: Relation> World<R> {
             .engine
             .step(context, bank, input.happening, &mut outputs)
         {
-            Ok(()) => {
+            Ok(_) => {
                 self.engine.core.journal();
                 self.engine.table.mark();
                 self.moment = moment;
@@ -103,10 +102,11 @@ impl<R: Relation> World<R> {
     }
 
     /// Whether more bytes come of a connection than may wait unread.
-    fn is_too_much(&self, happening: Happening<'_>) -> bool
-        requires kept { KeptInRoom self.now.core.state }
+    pub fn is_too_much(&self, happening: Happening<'_>) -> bool
         ensures { IsTrue result ↔ IsTooMuch happening.entry (served_in self.now) }
     {
+        // Its contract says that the connections of the core are in order.
+        self.engine.core.journal();
         match happening {
             Happening::Bytes(number, bytes) => {
                 let reads = self.engine.core.is_idle(number);

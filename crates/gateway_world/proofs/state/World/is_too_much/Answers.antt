@@ -1,16 +1,14 @@
 -- Who waits for no answer is read out, and what the table counts of it is what its text leaves.
-use Rattle.std.proofs.Common.{length, sym, subst}
-use Rattle.exchange_model.specs.Room.{KeptInRoom}
+use Rattle.std.proofs.Common.{length}
 use Rattle.exchange_model.proofs.CallerLemmas.{conns-rise}
 use Rattle.gateway_model.proofs.CallerLemmas.{once-rising}
-use Rattle.gateway_world.specs.Worlds.{WorldValue}
 use Rattle.gateway_world.proofs.Limits.{limit-so}
 use Rattle.gateway_world.proofs.state.World.is_too_much.Goals as goal
 
 pub returns-in-Bytes : goal.returns-in-Bytes
 returns-in-Bytes g c =
     let e = c.self.inside.engine in
-    let kept = subst (λ (v : WorldValue). KeptInRoom v.core.state) (sym c.self.view_is) c.requires.kept in
+    let kept = c.journal.ensures.kept in
     rw (c.in-Bytes.is, ← c.self.view_is)
     (limit-so c.in-Bytes.number (length c.in-Bytes.bytes.now) e.core e.table.current
     (once-rising e.core.state.conns (conns-rise e.core.state kept)) c.self.invariant.3

@@ -1,0 +1,90 @@
+//! What one needs who drives a world for good: inputs that aren't taken back, and what there is to
+//! wait for.
+
+ghost use Rattle.std.specs.Prelude.{◌≡◌, ◌↔◌, None, IfOk, IsTrue};
+ghost use Rattle.exchange_core.specs.Due.{next_tick, IsNextTick};
+ghost use Rattle.exchange_model.specs.Resting.{HasConn};
+ghost use Rattle.gateway_model.specs.Emissions.{emissions};
+
+use crate::engine::{Context, Engine};
+use crate::state::World;
+use gateway_model::{Input, Output, When};
+use http_edge::Memory;
+use limits::LAST_MOMENT;
+use transformers::{Bank, Relation};
+
+/// A world after an input, and the number of the connection that opened with it.
+#[derive(Drop)]
+pub struct Advanced<R: Relation> {
+    pub world: World<R>,
+    pub opened: Option<u32>,
+}
+
+impl<R: Relation> World<R> {
+    ghost use Rattle.gateway_world.specs.Inputs.{Takes};
+    ghost use Rattle.gateway_world.specs.Openings.{IsCounted};
+    ghost use Rattle.gateway_world.specs.Worlds.{IsTooMuch, served_in};
+    ghost use Rattle.transformers.specs.Suits.{Suits};
+
+    /// The moment of the next tick that has something to do, if any has: none before it changes the
+    /// core.
+    pub fn next_due(&self) -> Option<u64>
+        ensures is { result ≡ next_tick self.now.core.state }
+        ensures exact { IsNextTick result self.now.core.state }
+    {
+        self.engine.core.next_due()
+    }
+
+    /// Whether the connection is open and waits for no answer, so that what its bytes ask is asked.
+    pub fn is_idle(&self, number: u32) -> bool
+        ensures { IsTrue result ↔ HasConn self.now.core.state.conns number None }
+    {
+        self.engine.core.is_idle(number)
+    }
+
+    /// Takes an input for good, and puts what it leads to in place of what was in `outputs`. Nothing
+    /// is copied to go back to, so that it costs what its steps cost: where memory is refused, the
+    /// world is gone.
+    pub fn advance(
+        self,
+        bank: &Bank<R>,
+        input: Input<'_>,
+        outputs: &mut Vec<Output>,
+    ) -> Result<Advanced<R>, Memory>
+        requires suits { Suits R.holds R.takes self.rules.routes bank.now }
+        requires room { IsTooMuch input.happening (served_in self) → ⊥ }
+        ensures takes { IfOk result (λ a. Takes R.holds R.takes input.entry self
+            (emissions outputs.new.items) a.world) }
+        ensures opened { IfOk result (λ a. IsCounted input.entry.happening a.opened
+            self.core a.world.core) }
+    {
+        let World {
+            settings,
+            engine,
+            moment,
+        } = self;
+        let mut engine = engine;
+        // Its contract says that the core keeps to its history, before the input and after it.
+        engine.core.journal();
+        outputs.clear();
+        let moment = moment.max(input.moment.min(LAST_MOMENT));
+        let context = Context {
+            when: When {
+                moment,
+                word: input.word,
+            },
+            settings: &settings,
+        };
+        let opened = engine.step(context, bank, input.happening, outputs)?;
+        engine.core.journal();
+        engine.table.mark();
+        Ok(Advanced {
+            world: World {
+                settings,
+                engine,
+                moment,
+            },
+            opened,
+        })
+    }
+}
