@@ -3,8 +3,7 @@ use Rattle.std.specs.Prelude.{List, [], ◌∷◌, None}
 use Rattle.ask_model.specs.declared.cause.Cause.TheVariants as C
 use Rattle.ask_model.specs.Requests.{CoapRequest}
 use Rattle.journal_book.specs.Entries.{Hears}
-use Rattle.history_laws.specs.Readings.{Noted, Says, Unobserved, entries}
-use Rattle.history_laws.specs.Readings.{noted}
+use Rattle.history_laws.specs.Readings.{Noted, Says, unobserved, entries, noted}
 use Rattle.history_laws.specs.Worked.{server}
 use Rattle.history_laws.specs.WorkedMessages as M
 use Rattle.history_laws.specs.WorkedEndings as E
@@ -42,7 +41,7 @@ Early = IsCausedBy (entries S.timed_out_early) 14 61999 0 1 C.Timeout 2 → ⊥
 
 -- Not so: an answer on a response that came after a tick had found the GET 93 seconds old.
 abbrev pub heard_late : List Noted
-heard_late = noted 94000 (Hears server M.content_bytes) (Says M.content_message None Unobserved) ∷ M.given_up
+heard_late = noted 94000 (Hears server M.content_bytes) (Says M.content_message None unobserved) ∷ M.given_up
 
 abbrev pub Late : Type 0
 Late = RestsOn (entries heard_late) 10 0 1 (9 ∷ []) → ⊥

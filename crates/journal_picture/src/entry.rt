@@ -1,0 +1,280 @@
+//! What the lines say.
+
+ghost use Rattle.std.specs.Prelude.{◌≡◌, ◌++◌, ◌∷◌, IfOk};
+ghost use Rattle.journal_picture.specs.Lines.{IsLine};
+ghost use Rattle.journal_picture.specs.Saying.{IsNumber, Says, SaysAnswer, SaysAsked, SaysDatagram, SaysEntry, SaysGrounds};
+
+use crate::fault::LineFault;
+use uri_map::peer_at;
+
+/// A datagram of a device or to one.
+#[derive(Clone, Copy)]
+pub struct Datagram<'a> {
+    /// The endpoint: address and port.
+    pub peer: &'a str,
+    /// Its bytes, in pairs of hexadecimal digits.
+    pub digits: &'a str,
+}
+
+/// A request of a client.
+#[derive(Clone, Copy)]
+pub struct Request<'a> {
+    pub method: &'a str,
+    pub target: &'a str,
+    /// How many bytes its body has.
+    pub length: u64,
+}
+
+/// What an answer rests on.
+#[derive(Clone, Copy)]
+pub enum Grounds<'a> {
+    /// Replies, by the numbers of their entries with commas between.
+    Live(&'a str),
+    /// A stored response, by the numbers of its replies.
+    Kept(&'a str),
+    /// The gateway's own error: its kind, and the entry that shows its cause.
+    Fault(&'a str, u64),
+}
+
+/// An answer to a client.
+#[derive(Clone, Copy)]
+pub struct Answer<'a> {
+    pub connection: u32,
+    /// The entry that it answers.
+    pub ask: u64,
+    pub grounds: Grounds<'a>,
+}
+
+/// What happened.
+#[derive(Clone, Copy)]
+pub enum Event<'a> {
+    Opened(u32),
+    Asked(u32, Request<'a>),
+    /// Bytes that are no request.
+    Bad(u32),
+    Sent(Datagram<'a>),
+    Heard(Datagram<'a>),
+    /// Time went on.
+    Passed,
+    Answered(Answer<'a>),
+    Shut(u32),
+    Sealed,
+}
+
+/// An entry of the journal.
+#[derive(Clone, Copy)]
+pub struct Entry<'a> {
+    /// The whole line.
+    pub line: &'a str,
+    /// What it says after the moment.
+    pub text: &'a str,
+    pub number: u64,
+    /// In milliseconds.
+    pub moment: u64,
+    pub event: Event<'a>,
+}
+
+/// Bytes that went out on a connection.
+#[derive(Clone, Copy)]
+pub struct Written<'a> {
+    pub moment: u64,
+    pub connection: u32,
+    pub digits: &'a str,
+}
+
+/// A line that `replay --journal` prints.
+#[derive(Clone, Copy)]
+pub enum Line<'a> {
+    /// An output; only what went out on a connection is told more of.
+    Output(&'a str, Option<Written<'a>>),
+    Entry(Entry<'a>),
+}
+
+/// Reads a line, which stands here without its line end.
+pub fn line_of(line: &str) -> Result<Line<'_>, LineFault>
+    ensures { IfOk result (λ l. IsLine l line.now) }
+{
+    let (first, rest) = words(line)?;
+    match rest.split_once(' ') {
+        Some((second, _)) if is_decimal(second) => Ok(Line::Entry(entry_of(line)?)),
+        _ => Ok(Line::Output(line, output_of(decimal(first)?, rest)?)),
+    }
+}
+
+/// `NUMBER MOMENT EVENT`.
+fn entry_of(line: &str) -> Result<Entry<'_>, LineFault>
+    ensures line { IfOk result (λ entry. entry.line.now ≡ line.now) }
+    ensures said { IfOk result (λ entry. SaysEntry entry line.now) }
+{
+    let (number, rest) = words(line)?;
+    let (moment, text) = words(rest)?;
+    Ok(Entry {
+        line,
+        text,
+        number: decimal(number)?,
+        moment: decimal(moment)?,
+        event: event_of(text)?,
+    })
+}
+
+/// What stands before the first space, and what stands after it.
+fn words(text: &str) -> Result<(&str, &str), LineFault>
+    ensures { IfOk result (λ p. text.now ≡ p.0.now ++ 32 ∷ p.1.now) }
+{
+    text.split_once(' ').ok_or(LineFault::Form)
+}
+
+/// Whether there are decimal digits, and nothing else.
+fn is_decimal(text: &str) -> bool {
+    !text.is_empty() && text.as_bytes().iter().all(|b| b.is_ascii_digit())
+}
+
+/// The number that decimal digits give.
+pub(crate) fn decimal(text: &str) -> Result<u64, LineFault>
+    ensures { IfOk result (IsNumber text.now) }
+{
+    if !is_decimal(text) {
+        return Err(LineFault::Number);
+    }
+    match text.parse::<u64>() {
+        Ok(number) => Ok(number),
+        Err(_) => Err(LineFault::Number),
+    }
+}
+
+/// The number of a connection.
+fn connection_of(text: &str) -> Result<u32, LineFault>
+    ensures { IfOk result (IsNumber text.now) }
+{
+    match u32::try_from(decimal(text)?) {
+        Ok(number) => Ok(number),
+        Err(_) => Err(LineFault::Number),
+    }
+}
+
+/// Hexadecimal digits in lower case, in pairs.
+fn digits_of(text: &str) -> Result<&str, LineFault>
+    ensures { IfOk result (λ digits. digits.now ≡ text.now) }
+{
+    let is_digit = |b: &u8| matches!(*b, b'0'..=b'9' | b'a'..=b'f');
+    if text.len() % 2 == 0 && text.as_bytes().iter().all(is_digit) {
+        Ok(text)
+    } else {
+        Err(LineFault::Hex)
+    }
+}
+
+/// `PEER HEX`.
+fn datagram_of(text: &str) -> Result<Datagram<'_>, LineFault>
+    ensures { IfOk result (λ d. SaysDatagram d text.now) }
+{
+    let (peer, digits) = words(text)?;
+    if peer_at(peer.as_bytes()).is_none() {
+        return Err(LineFault::Peer);
+    }
+    let digits = digits_of(digits)?;
+    Ok(Datagram { peer, digits })
+}
+
+/// `bytes CONN HEX`, `datagram PEER HEX`, `closed CONN` or `turned`, at that moment.
+fn output_of(moment: u64, text: &str) -> Result<Option<Written<'_>>, LineFault> {
+    if text == "turned" {
+        return Ok(None);
+    }
+    let (name, rest) = words(text)?;
+    match name {
+        "bytes" => Ok(Some(written_of(moment, rest)?)),
+        "datagram" => {
+            datagram_of(rest)?;
+            Ok(None)
+        }
+        "closed" => {
+            connection_of(rest)?;
+            Ok(None)
+        }
+        _ => Err(LineFault::Form),
+    }
+}
+
+/// `CONN HEX`.
+fn written_of(moment: u64, text: &str) -> Result<Written<'_>, LineFault> {
+    let (connection, digits) = words(text)?;
+    Ok(Written {
+        moment,
+        connection: connection_of(connection)?,
+        digits: digits_of(digits)?,
+    })
+}
+
+/// What an entry says after its number and its moment.
+fn event_of(text: &str) -> Result<Event<'_>, LineFault>
+    ensures { IfOk result (λ event. Says event text.now) }
+{
+    if text == "passed" {
+        return Ok(Event::Passed);
+    }
+    if text == "sealed" {
+        return Ok(Event::Sealed);
+    }
+    let (name, rest) = words(text)?;
+    match name {
+        "opened" => Ok(Event::Opened(connection_of(rest)?)),
+        "asked" => asked_of(rest),
+        "sent" => Ok(Event::Sent(datagram_of(rest)?)),
+        "heard" => Ok(Event::Heard(datagram_of(rest)?)),
+        "answered" => Ok(Event::Answered(answer_of(rest)?)),
+        "shut" => Ok(Event::Shut(connection_of(rest)?)),
+        _ => Err(LineFault::Form),
+    }
+}
+
+/// `CONN METHOD TARGET LENGTH`, or `CONN bad`.
+fn asked_of(text: &str) -> Result<Event<'_>, LineFault>
+    ensures { IfOk result (λ event. SaysAsked event text.now) }
+{
+    let (connection, rest) = words(text)?;
+    let connection = connection_of(connection)?;
+    if rest == "bad" {
+        return Ok(Event::Bad(connection));
+    }
+    let (method, rest) = words(rest)?;
+    let (target, length) = words(rest)?;
+    let length = decimal(length)?;
+    Ok(Event::Asked(
+        connection,
+        Request {
+            method,
+            target,
+            length,
+        },
+    ))
+}
+
+/// `CONN ASK live N,N..`, `CONN ASK kept N,N..` or `CONN ASK fault KIND N`.
+fn answer_of(text: &str) -> Result<Answer<'_>, LineFault>
+    ensures { IfOk result (λ answer. SaysAnswer answer text.now) }
+{
+    let (connection, rest) = words(text)?;
+    let (ask, rest) = words(rest)?;
+    Ok(Answer {
+        connection: connection_of(connection)?,
+        ask: decimal(ask)?,
+        grounds: grounds_of(rest)?,
+    })
+}
+
+/// `live N,N..`, `kept N,N..` or `fault KIND N`.
+fn grounds_of(text: &str) -> Result<Grounds<'_>, LineFault>
+    ensures { IfOk result (λ grounds. SaysGrounds grounds text.now) }
+{
+    let (name, rest) = words(text)?;
+    match name {
+        "live" => Ok(Grounds::Live(rest)),
+        "kept" => Ok(Grounds::Kept(rest)),
+        "fault" => {
+            let (kind, number) = words(rest)?;
+            Ok(Grounds::Fault(kind, decimal(number)?))
+        }
+        _ => Err(LineFault::Form),
+    }
+}

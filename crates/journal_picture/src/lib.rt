@@ -1,0 +1,23 @@
+//! A journal as a picture: the lines that `replay --journal` prints are read, and drawn as one page of
+//! HTML with a sequence diagram of clients, the gateway and devices.
+//!
+//! Three contracts: what is read is the text's lines, each once and in their order; an entry is what its
+//! line says, word by word; and text that comes from the journal is escaped wherever the page has it.
+#![tactic(auto)]
+
+mod coap;
+mod diagram;
+mod entry;
+mod fault;
+mod head;
+mod journal;
+mod label;
+mod layout;
+mod page;
+mod rows;
+
+pub use diagram::draw;
+pub use entry::{Answer, Datagram, Entry, Event, Grounds, Line, Request, Written, line_of};
+pub use fault::{LineFault, PictureFault};
+pub use journal::{Journal, Mark, Row, journal_of};
+pub use page::Page;
