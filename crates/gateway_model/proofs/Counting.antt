@@ -25,20 +25,6 @@ pub count-both : (n : ℕ) (xs ys : List Written) → count n (xs ++ ys) ≡ cou
 count-both n [] ys = refl
 count-both n (x ∷ xs) ys = count-both (opened_by x.deed n) xs ys
 
-more-by : (c n : ℕ) (d : Deed) → c < n → c < opened_by d n
-more-by c n (Opens x) lt = omega (arith, lt)
-more-by c n (Asks x a) lt = lt
-more-by c n (Sends p b w) lt = lt
-more-by c n (Hears p b) lt = lt
-more-by c n Passes lt = lt
-more-by c n (Answers x k g) lt = lt
-more-by c n (Shuts x) lt = lt
-more-by c n Seals lt = lt
-
-pub count-more : (c n : ℕ) (ws : List Written) → c < n → c < count n ws
-count-more c n [] lt = lt
-count-more c n (w ∷ ws) lt = count-more c (opened_by w.deed n) ws (more-by c n w.deed lt)
-
 abbrev pub IsCounted : ℕ → Deed → Type 0
 IsCounted n (Opens c) = c ≡ n
 IsCounted n (Asks c a) = c < n
@@ -48,6 +34,20 @@ IsCounted n _ = ⊤
 abbrev pub AreCounted : ℕ → List Written → Type 0
 AreCounted n [] = ⊤
 AreCounted n (w ∷ ws) = IsCounted n w.deed × AreCounted (opened_by w.deed n) ws
+
+more-by : (c n : ℕ) (d : Deed) → IsCounted n d → c < n → c < opened_by d n
+more-by c n (Opens x) is lt = omega (arith, is, lt)
+more-by c n (Asks x a) is lt = lt
+more-by c n (Sends p b w) is lt = lt
+more-by c n (Hears p b) is lt = lt
+more-by c n Passes is lt = lt
+more-by c n (Answers x k g) is lt = lt
+more-by c n (Shuts x) is lt = lt
+more-by c n Seals is lt = lt
+
+pub count-more : (c n : ℕ) (ws : List Written) → AreCounted n ws → c < n → c < count n ws
+count-more c n [] all lt = lt
+count-more c n (w ∷ ws) all lt = count-more c (opened_by w.deed n) ws all.1 (more-by c n w.deed all.0 lt)
 
 counted-both : (n : ℕ) (xs ys : List Written) → AreCounted n xs → AreCounted (count n xs) ys → AreCounted n (xs ++ ys)
 counted-both n [] ys a b = b
@@ -147,7 +147,7 @@ pub none-with : (c n k : ℕ) (ws : List Written) (cs : List Conn) → AreCounte
 none-with c n k [] cs are lt e none = none
 none-with c n k (w ∷ ws) cs are lt e none =
     let split = sym (flat_map-append (num_of c) (answered_by k w.deed) (answered_in (k + 1) ws)) ∙ e in
-    none-with c (opened_by w.deed n) (k + 1) ws (conns_after cs k w.deed) are.1 (more-by c n w.deed lt)
+    none-with c (opened_by w.deed n) (k + 1) ws (conns_after cs k w.deed) are.1 (more-by c n w.deed are.0 lt)
     (empty-rest (nums c (answered_by k w.deed)) (nums c (answered_in (k + 1) ws)) split)
     (none-after c n k w.deed cs are.0 lt (empty-first (nums c (answered_by k w.deed)) (nums c (answered_in (k + 1) ws)) split) none)
 
@@ -211,8 +211,8 @@ pub enough-with : (c n k : ℕ) (ws : List Written) (cs : List Conn) → AreCoun
 enough-with c n k [] cs are e h = absurd h
 enough-with c n k (w ∷ ws) cs are e (inl h) =
     let split = sym (flat_map-append (num_of c) (answered_by k w.deed) (answered_in (k + 1) ws)) ∙ e in
-    let lt = more-by c n w.deed (enough-below c n w.deed are.0 h) in (
-      count-more c (opened_by w.deed n) ws lt,
+    let lt = more-by c n w.deed are.0 (enough-below c n w.deed are.0 h) in (
+      count-more c (opened_by w.deed n) ws are.1 lt,
       none-with c (opened_by w.deed n) (k + 1) ws (conns_after cs k w.deed) are.1 lt
           (empty-rest (nums c (answered_by k w.deed)) (nums c (answered_in (k + 1) ws)) split)
           (enough-none c k w.deed cs h),

@@ -1,5 +1,5 @@
 -- Why a datagram was dropped, of the entries.
-use Rattle.std.proofs.Common.{◌≡◌, ◌⊎◌, inl, inr, ℕ, ◌+◌, ◌≤◌, ◌<◌, Bool, true, false, cond, List, [], ◌∷◌, ◌++◌, length, Option, Some, None, refl, sym, ◌∙◌, subst, arith}
+use Rattle.std.proofs.Common.{◌≡◌, ◌⊎◌, inl, inr, ℕ, ◌+◌, ◌≤◌, ◌<◌, Bool, true, false, cond, List, [], ◌∷◌, ◌++◌, length, Option, Some, None, refl, sym, ◌∙◌, subst, arith, is_some, ap}
 use Rattle.std.specs.Prelude.{count_by, find, option_map}
 use Rattle.std.specs.List.{AllByRecursion}
 use Rattle.uri_map.specs.declared.peer.Peer.{Peer}
@@ -7,7 +7,7 @@ use Rattle.uri_map.specs.Peers.{same_peer}
 use Rattle.journal_book.specs.Entries.{Deed, Opens, Asks, Sends, Hears, Passes, Answers, Shuts, Seals, Written}
 use Rattle.history_laws.specs.Hearing.{is_such, is_live, live_heard}
 use Rattle.history_laws.specs.Justified.{Legal, Follows}
-use Rattle.history_laws.specs.Readings.{Noted, Note, Plain, Begins, First, Copies, Confirms, Says, Repeats, Garbled, entries, newest}
+use Rattle.history_laws.specs.Readings.{Noted, Note, Plain, Begins, First, Copies, Confirms, Says, Repeats, Garbled, entries, newest, Joins, Serves}
 use Rattle.history_laws.specs.Transmissions.{FirstSending, firsts, firsts_by, last_sent}
 use Rattle.history_laws.proofs.CallerLemmas.{and-right}
 use Rattle.exchange_model.specs.Reads.{Reads}
@@ -36,6 +36,8 @@ sent-by l n t p (Opens c) note old f e = (tt, e)
 sent-by l n t p (Asks c a) note old f e = (tt, e)
 sent-by l n t p (Sends q b None) Plain old f e = (tt, e)
 sent-by l n t p (Sends q b None) (Begins r) old f e = (tt, e)
+sent-by l n t p (Sends q b None) (Joins o) old f e = (tt, e)
+sent-by l n t p (Sends q b None) (Serves js) old f e = (tt, e)
 sent-by l n t p (Sends q b None) (First o m) old f e =
     let parts = not-found (same_peer q p) (record { number = n; moment = t; opening = o; peer = q; message = m }) (found_to p old) e in
     (tt, parts.1)
@@ -46,6 +48,8 @@ sent-by l n t p (Sends q b None) (Repeats m j) old f e = (tt, e)
 sent-by l n t p (Sends q b None) Garbled old f e = (tt, e)
 sent-by l n t p (Sends q b (Some w)) Plain old f e = absurd f.1
 sent-by l n t p (Sends q b (Some w)) (Begins r) old f e = absurd f.1
+sent-by l n t p (Sends q b (Some w)) (Joins o) old f e = absurd f.1
+sent-by l n t p (Sends q b (Some w)) (Serves js) old f e = absurd f.1
 sent-by l n t p (Sends q b (Some w)) (First o m) old f e =
     not-found (same_peer q p) (record { number = n; moment = t; opening = o; peer = q; message = m }) (found_to p old) e
 sent-by l n t p (Sends q b (Some w)) (Copies i) old f e = absurd (some-none w f.1.1)
@@ -80,6 +84,8 @@ live-came t s p (Sends q b w) note e = absurd cc
 live-came t s p (Hears q b) (Says m to notice) e = and-right (is_such m.kind) _ e
 live-came t s p (Hears q b) Plain e = absurd cc
 live-came t s p (Hears q b) (Begins r) e = absurd cc
+live-came t s p (Hears q b) (Joins o) e = absurd cc
+live-came t s p (Hears q b) (Serves js) e = absurd cc
 live-came t s p (Hears q b) (First o m) e = absurd cc
 live-came t s p (Hears q b) (Copies i) e = absurd cc
 live-came t s p (Hears q b) Confirms e = absurd cc

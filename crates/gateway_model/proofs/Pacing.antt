@@ -268,7 +268,7 @@ module _ (c : ℕ) (old new : Served) (more : List Written) (added : new.core.st
   quiet-stays told (inr (inl x)) =
       inr (comes (nums c (answered_in (length old.core.state.entries) more)) refl
       (λ none. spends (
-        count-more c (count 0 old.core.state.entries) more x.0,
+        count-more c (count 0 old.core.state.entries) more counted x.0,
         none-with c (count 0 old.core.state.entries) (length old.core.state.entries) more old.core.state.conns counted x.0 none x.1,
       )))
   quiet-stays told (inr (inr x)) =
