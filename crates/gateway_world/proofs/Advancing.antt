@@ -17,6 +17,7 @@ use Rattle.gateway_model.specs.Resting.{AllRest}
 use Rattle.gateway_model.specs.Tellings.{terms_of}
 use Rattle.gateway_model.specs.Unasked.{unasked_in}
 use Rattle.gateway_model.specs.Waiting.{IsDrained}
+use Rattle.history_claims.proofs.CallerLemmas.{names-cause}
 use Rattle.gateway_model.proofs.CallerLemmas.{CountsOpened, input-counts}
 use Rattle.gateway_world.specs.declared.engine.Engine.{Engine}
 use Rattle.gateway_world.specs.Inputs.{Takes}
@@ -51,6 +52,7 @@ module _ {R : Type 0} (holds : Form → Form → List ℕ → List ℕ → Type 
         room = room;
         handles = handles;
         told = led-tells holds takes rules _ _ old mid before after l none h.1 drained stands h.4;
+        causes = names-cause mid.core.state.entries stands;
         asks = heeded holds takes rules i (world_of old rules m) mine (emissions after) handles;
         sends = led-sends holds takes rules _ _ old mid before after l none h.1 drained;
         shows = input-shows (terms_of holds takes rules) i (world_of old rules m) mine (emissions after) handles kept;
