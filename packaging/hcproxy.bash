@@ -3,7 +3,7 @@ _hcproxy() {
   local word=${COMP_WORDS[COMP_CWORD]} command=${COMP_WORDS[1]-} before=${COMP_WORDS[COMP_CWORD-1]}
   local words= files=
   if [ "$COMP_CWORD" = 1 ]; then
-    words="demo serve replay check origin --help --version"
+    words="demo serve replay draw check origin --help --version"
   else
     case $command in
       serve | origin) [ "$COMP_CWORD" = 2 ] && files=1 ;;

@@ -14,6 +14,8 @@ pub enum Command<'a> {
         journal: bool,
         settings: Option<&'a str>,
     },
+    /// A picture of the journal on standard input.
+    Draw,
     /// The gateway, and a device to try it with, under settings of their own. Connections are taken at
     /// the address, where one is named.
     Demo {
@@ -59,6 +61,7 @@ pub fn command_of(words: &[String]) -> Result<Command<'_>, Hint<'static>> {
         ("origin", [file]) => Ok(Command::Origin {
             settings: Some(file.as_str()),
         }),
+        ("draw", []) => Ok(Command::Draw),
         ("replay", rest) => replay_of(rest).ok_or(Hint::SeeHelp),
         ("check", rest) => check_of(rest).ok_or(Hint::SeeHelp),
         _ => Err(Hint::SeeHelp),

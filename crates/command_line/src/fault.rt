@@ -1,6 +1,7 @@
 //! Why a script isn't run to its end.
 
 use crate::script::LineFault;
+use journal_picture::LineFault as JournalFault;
 use std::alloc::{AllocError, AllocFailed};
 use std::fmt;
 
@@ -32,8 +33,12 @@ pub enum Reason {
     Line(LineFault),
     /// The script ends within the line.
     Unended,
+    /// The line is none that a journal has, or not at that place.
+    Journal(JournalFault),
     /// The line brings more bytes than may wait.
     Backlog,
+    /// The line isn't UTF-8.
+    NotText,
     /// The script can't be read.
     Input,
     /// What comes out can't be written.
@@ -44,6 +49,8 @@ impl fmt::Display for Reason {
     fn fmt<W: fmt::Write>(&self, f: &mut fmt::Formatter<W>) -> fmt::Result {
         match self {
             Reason::Line(fault) => write!(f, "{fault}"),
+            Reason::Journal(fault) => write!(f, "{fault}"),
+            Reason::NotText => f.write_str("the line isn't UTF-8"),
             Reason::Unended => f.write_str("the last line has no line end"),
             Reason::Backlog => {
                 f.write_str("more than 1048576 bytes would wait unread on the connection")

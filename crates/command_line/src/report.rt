@@ -4,6 +4,7 @@ ghost use Rattle.std.specs.Prelude.{◌≡◌};
 ghost use Rattle.command_line.specs.Failures.{exit_status, setup_failure, serve_failure, device_failure};
 
 use crate::fault::{Reason, ReplayFault};
+use journal_picture::PictureFault;
 use proxy_settings::FileFault;
 use server_faults::{DeviceFault, ServeFault};
 use std::alloc::{AllocError, AllocFailed};
@@ -147,6 +148,22 @@ impl<'a> Report<'a> {
         }
     }
 
+    /// A journal that isn't drawn.
+    pub fn picture(fault: PictureFault) -> Report<'a> {
+        match fault {
+            PictureFault::Line(number, why) => {
+                Report::replay(ReplayFault::Line(number), Some(Reason::Journal(why)))
+            }
+            PictureFault::Unended(number) => {
+                Report::replay(ReplayFault::Line(number), Some(Reason::Unended))
+            }
+            PictureFault::NotText(number) => {
+                Report::replay(ReplayFault::Line(number), Some(Reason::NotText))
+            }
+            PictureFault::Memory => Report::memory(),
+        }
+    }
+
     /// A file without settings.
     pub fn file(path: &'a str, fault: FileFault) -> Report<'a> {
         let hint = match fault {
@@ -191,6 +208,14 @@ impl<'a> Report<'a> {
         Report {
             failure: Failure::Device,
             hint: Some(Hint::Because(Reason::Output)),
+        }
+    }
+
+    /// Standard input can't be read.
+    pub fn unread() -> Report<'a> {
+        Report {
+            failure: Failure::Device,
+            hint: Some(Hint::Because(Reason::Input)),
         }
     }
 

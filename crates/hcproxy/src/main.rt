@@ -1,10 +1,12 @@
 //! The program: `hcproxy demo` shows the gateway at work, `hcproxy serve` runs it, `hcproxy replay` runs a
-//! script of inputs through it and prints what comes out, `hcproxy origin` runs a device to try it with,
+//! script of inputs through it and prints what comes out, `hcproxy draw` makes a picture of the journal
+//! that it prints, `hcproxy origin` runs a device to try it with,
 //! `hcproxy check` reads a file of settings; `--help` and `--version` tell of it.
 #![tactic(auto)]
 
 mod demo;
 mod device;
+mod drawing;
 mod files;
 mod replaying;
 mod serving;
@@ -12,6 +14,7 @@ mod serving;
 use command_line::{Command, Hint, Report, USAGE, command_of};
 use demo::run_demo;
 use device::serve_device;
+use drawing::draw_input;
 use files::{setup_at, tell_undone};
 use log::Log;
 use proxy_settings::{Part, Setup};
@@ -36,6 +39,8 @@ A gateway from HTTP/1.1 to CoAP.
   replay                  runs the script on standard input through the gateway, and prints what goes out
   replay --journal        .. and then the entries of the journal
   replay --settings FILE  .. under the settings of FILE in place of those of a demonstration
+  draw                    makes a picture of what replay --journal printed: reads that on standard input,
+                          and prints a page of HTML
   check FILE              says whether FILE has settings of the gateway, or what is wrong at which line
   check --origin FILE     the same of settings of the demonstration device
   origin FILE             runs a CoAP device to try the gateway with, by the settings of FILE, or of
@@ -43,7 +48,7 @@ A gateway from HTTP/1.1 to CoAP.
   --help, -h              prints this
   --version, -V           prints the version
 
-Exit status: 0 done; 1 a line of the script, or the settings, were refused; 2 wrong arguments;
+Exit status: 0 done; 1 a line of the input, or the settings, were refused; 2 wrong arguments;
 3 a file can't be read, an address can't be taken, a device failed, or memory ran out.
 docs/RUNNING.md says how to run the gateway, docs/FORMATS.md has the formats of scripts and settings,
 and examples/ has some of both.";
@@ -109,6 +114,7 @@ fn run<
         Command::Origin { settings } => Err(serve_device(rt, settings)),
         Command::Check { part, file } => check(&rt, part, file),
         Command::Replay { journal, settings } => replay_input(rt, settings, journal),
+        Command::Draw => draw_input(&rt),
     }
 }
 
