@@ -1,5 +1,5 @@
 -- Each exchange was opened at a moment of the core's.
-use Rattle.std.proofs.Common.{◌≡◌, ◌≤◌, ◌^◌, Bool, List, length, map, refl, ap, arith}
+use Rattle.std.proofs.Common.{◌≡◌, ◌≤◌, ◌^◌, Bool, List, length, map, ap, arith}
 use Rattle.std.specs.List.{AllByRecursion}
 use Rattle.std.specs.Prelude.{filter}
 use Rattle.std.proofs.lemmas.List.{length-map}
