@@ -1,5 +1,5 @@
 -- What holds of each element of a list.
-use Rattle.std.proofs.Common.{◌≡◌, ℕ, zero, suc, ◌+◌, List, [], ◌∷◌, ◌++◌, length, map, filter, set, slice_get, get_or, Contains, Option, Some, None, Bool, true, false, cond, refl, subst, arith}
+use Rattle.std.proofs.Common.{◌≡◌, ℕ, zero, suc, List, [], ◌∷◌, ◌++◌, map, filter, set, slice_get, get_or, Contains, Some, Bool, true, false, cond, refl, subst, arith}
 use Rattle.std.specs.List.{AllByRecursion}
 
 pub all_push : {X : Type 0} (P : X → Type 0) (xs : List X) (x : X)

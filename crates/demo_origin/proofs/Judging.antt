@@ -1,5 +1,5 @@
 -- What a request is judged to be, read backwards.
-use Rattle.std.proofs.Common.{◌≡◌, ◌⊎◌, inl, inr, ℕ, ◌/◌, List, slice_get, get_or, Option, Some, None, Bool, true, false, cond, ◌==◌, position, refl, ap, subst, ◌∙◌}
+use Rattle.std.proofs.Common.{◌≡◌, ◌⊎◌, inl, inr, ℕ, ◌/◌, List, slice_get, Option, Some, None, Bool, true, false, cond, ◌==◌, position, refl, subst}
 use Rattle.std.proofs.lemmas.Bool.Decides.{Decides-eqb}
 use Rattle.std.proofs.lemmas.List.Quantifiers.{position-Some}
 use Rattle.coap_codec.specs.Spelling.{Content}

@@ -16,4 +16,7 @@ pub mod Versioning
 pub mod Alls
 pub mod Judging
 pub mod Talking
+pub mod Keeping
+pub mod Responding
+pub mod Remembering
 pub mod Making

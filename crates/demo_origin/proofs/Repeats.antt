@@ -11,7 +11,7 @@ use Rattle.message_layer.specs.Hearing.{reset_for}
 use Rattle.demo_origin.specs.Values.{Device, Relation}
 use Rattle.uri_map.specs.Peers.{same_peer}
 use Rattle.demo_origin.specs.Arrivals.{is_live, is_repeat, arrival}
-use Rattle.demo_origin.specs.Answers.{Declines, Reads, ReadsPart, memory_of}
+use Rattle.demo_origin.specs.Answers.{Reads, ReadsPart, memory_of}
 use Rattle.demo_origin.specs.Observing.{wish_of}
 use Rattle.demo_origin.specs.declared.observers.Wish.{Wish}
 use Rattle.coap_codec.specs.Values.{values}

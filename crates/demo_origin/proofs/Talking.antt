@@ -1,10 +1,9 @@
 -- What observers are told was made under a registration that stood.
-use Rattle.std.proofs.Common.{◌≡◌, ℕ, zero, suc, ◌+◌, List, [], ◌∷◌, ◌++◌, length, filter, set, slice_get, Contains, Option, Some, None, Bool, true, false, cond, ◌==◌, refl, sym, ap, subst, ◌∙◌}
+use Rattle.std.proofs.Common.{◌≡◌, ℕ, zero, suc, ◌+◌, List, length, slice_get, Contains, Option, Some, None, Bool, true, false, cond, ◌==◌, refl, sym, ap, subst, ◌∙◌}
 use Rattle.std.specs.List.{AllByRecursion}
 use Rattle.uri_map.specs.declared.peer.Peer.{Peer}
-use Rattle.demo_origin.specs.Values.{Device}
 use Rattle.demo_origin.specs.Peers.{own_mid}
-use Rattle.demo_origin.specs.Notifying.{Talk, talk_of, notified, newer_by, newer, is_busy, is_reached, is_again, once_more, Notifies, Tells, TellsNewer, TellsUnless, TellsOf, TellsFirst, TellsAll, CopiesNewer, CopiesDue, CopiesOf, CopiesBy, CopiesFirst, CopiesAll, without_lost}
+use Rattle.demo_origin.specs.Notifying.{Talk, notified, newer_by, newer, is_busy, is_reached, is_again, once_more, Notifies, Tells, TellsNewer, TellsUnless, TellsOf, TellsFirst, TellsAll, CopiesNewer, CopiesDue, CopiesOf, CopiesBy, CopiesFirst, CopiesAll, without_lost}
 use Rattle.demo_origin.specs.declared.state.Datagram.{Datagram}
 use Rattle.demo_origin.specs.declared.state.Held.{Held}
 use Rattle.demo_origin.specs.declared.state.Notification.{Notification}

@@ -1,6 +1,6 @@
 -- Where what a device gives out comes from: each datagram was first made by a call, of the state as
 -- it stood at that moment.
-use Rattle.std.specs.Prelude.{◌≡◌, ◌⊎◌, ℕ, ◌/◌, List, [], ◌∷◌, slice_get, Contains, Option, Some, None, Bool, true, Ok}
+use Rattle.std.specs.Prelude.{◌≡◌, ◌⊎◌, ℕ, ◌/◌, List, [], ◌∷◌, slice_get, Contains, Option, Some, Bool, true, Ok}
 use Rattle.std.specs.List.{AllByRecursion}
 use Rattle.coap_codec.specs.Spelling.{Content, Entry, Spells}
 use Rattle.coap_codec.specs.Reading.{message_at}

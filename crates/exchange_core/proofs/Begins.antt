@@ -13,7 +13,6 @@ use Rattle.journal_book.specs.Entries.{Deed, Asks, Seals, Written, entry_size}
 use Rattle.journal_book.specs.Views.{ask_of}
 use Rattle.message_layer.specs.Sending.{waits, IsNext, HasPlace, mids_in_use, submitted}
 use Rattle.message_layer.specs.Prepared.{at_once as next_list}
-use Rattle.message_layer.specs.declared.fault.LinkFault.TheVariants as L
 use Rattle.message_layer.specs.declared.prepared.FirstSending.{FirstSending}
 use Rattle.message_layer.specs.declared.prepared.Submission.{Submission}
 use Rattle.message_layer.specs.declared.state.Outstanding.{Outstanding}

@@ -18,7 +18,8 @@ use Rattle.exchange_model.specs.Entering.{entered_all, IsDrained, Comes}
 use Rattle.exchange_model.proofs.CallerLemmas.{dropped-stays, hears-in-room, stays-drained, within-limits}
 use Rattle.exchange_core.specs.Answering.{Given, IsGiven}
 use Rattle.exchange_core.specs.Drafts.{DraftValue, Drafts, empty_draft}
-use Rattle.exchange_core.specs.Hearing.{hearing_deeds, exchanges_after, heeds, with_heard}
+use Rattle.endpoint_table.specs.Tables.{heeds}
+use Rattle.exchange_core.specs.Hearing.{hearing_deeds, exchanges_after, over_in, with_heard}
 use Rattle.exchange_core.specs.Sound.{SoundState}
 use Rattle.exchange_core.specs.States.{with_draft, core_of}
 use Rattle.exchange_core.specs.Values.{Outgoing, stepped}
@@ -43,10 +44,6 @@ lost-stays t p d S gs os k e =
     by false =
         ap (λ (U : State). cond (fits U) U (seals t S)) e
         ∙ ap (λ (b : Bool). cond b S (seals t S)) k.fit
-
-pub unknown-lost : (t : ℕ) (p : Peer) (d : List ℕ) (S : State)
-    → is_some (link_of S.links p).last_mid ≡ false → heard t p d S ≡ S
-unknown-lost t p d S e = rw (e) refl
 
 pub dropped-lost : (t : ℕ) (p : Peer) (d : List ℕ) (S : State) (s : LinkState) → s
     ≡ link_of S.links p
@@ -82,7 +79,7 @@ module _ (t : ℕ) (p : Peer) (d : List ℕ) (S : State) (link : LinkValue) (h :
   new-is =
       ap (λ (U : State). record U {
         exchanges = exchanges_after (length S.entries) h.heeding S.exchanges;
-        links = with_link p (heeds t h.heeding (link_of S.links p)) S.links;
+        links = with_link p (heeds t h.heeding (over_in h.heeding) (link_of S.links p)) S.links;
       }) drawn
       ∙ sym (so.is ∙ so.so)
 

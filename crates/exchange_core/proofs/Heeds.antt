@@ -1,6 +1,6 @@
 -- What is drafted and changed for a datagram is what the step leaves.
-use Rattle.std.proofs.Common.{◌≡◌, ℕ, zero, suc, ◌+◌, ◌<◌, true, false, List, [], ◌∷◌, ◌++◌, length, map, get_or, Option, Some, None, Result, Ok, Err, refl, sym, ap, subst, ◌∙◌, arith, append_assoc}
-use Rattle.std.specs.Prelude.{slice_get, filter, is_some}
+use Rattle.std.proofs.Common.{◌≡◌, ℕ, suc, ◌+◌, ◌<◌, true, false, List, [], ◌∷◌, ◌++◌, length, map, get_or, Option, Some, None, Result, Ok, Err, refl, sym, ap, subst, ◌∙◌, append_assoc}
+use Rattle.std.specs.Prelude.{filter}
 use Rattle.std.specs.List.{AllByRecursion}
 use Rattle.coap_codec.specs.Spelling.{Content, Spells}
 use Rattle.coap_codec.specs.Reading.{message_at}
@@ -25,25 +25,10 @@ use Rattle.exchange_model.specs.Steps.{is_other}
 use Rattle.exchange_model.specs.Calls.{ended_in, method_in, grounds_by, heard}
 use Rattle.exchange_model.specs.Entering.{entered_all, first_deeds, in_turn, going_as, sent_as, told_if, confirm, heeded, garbled, IsMid, Comes}
 use Rattle.exchange_model.proofs.CallerLemmas.{garbled-enters, is-bytes, message-enters}
-use Rattle.exchange_core.specs.declared.state.Endpoint.{Endpoint}
-use Rattle.exchange_core.specs.Endpoints.{HasNone}
-use Rattle.exchange_core.specs.States.{peer_link}
-use Rattle.exchange_core.specs.Hearing.{found_in, told_by, note_next, over_in, link_deeds, hearing_deeds, heeds, exchanges_after, first_number, hearing_state}
+use Rattle.endpoint_table.specs.Tables.{heeds}
+use Rattle.exchange_core.specs.Hearing.{found_in, told_by, note_next, over_in, link_deeds, hearing_deeds, exchanges_after, first_number, hearing_state}
 use Rattle.exchange_core.specs.Sending.{sent_first}
 use Rattle.exchange_core.proofs.Heard.{told-same, next-deeds, next-noted}
-
--- the place of the endpoint
-
-pub got-or : {X : Type 0} (xs : List X) (i : ℕ) (x : X) → i < length xs → slice_get xs i
-    ≡ Some (get_or xs i x)
-got-or [] i x lt = absurd (omega (arith, lt))
-got-or (y ∷ ys) zero x lt = refl
-got-or (y ∷ ys) (suc i) x lt = got-or ys i x (omega (arith, lt))
-
-pub none-at : (p : Peer) (xs : List Endpoint) → HasNone p (map peer_link xs)
-    → is_some (link_of (map peer_link xs) p).last_mid ≡ false
-none-at p [] h = refl
-none-at p (x ∷ xs) h = rw (h.0) (none-at p xs h.1)
 
 -- what the link and the tables say is what the step says
 
@@ -93,12 +78,12 @@ module _ (t : ℕ) (p : Peer) (d : List ℕ) (S : State) (link : LinkValue) (x :
       sym (ap (λ (ds : List Deed). record (entered_all t ds S) {
         exchanges = exchanges_after n x S.exchanges;
         links = with_link p
-            (heeds t x s) S.links;
+            (heeds t x over s) S.links;
       }) deeds
       ∙ ap (λ (fs : List Exchange). record (entered_all t
       (Hears p d ∷ (map (confirm p) (replies x.mid x.verdict.reply)
       ++ (first_deeds t p s.last_mid (in_turn x.verdict.ends s.waiting) ++ told_if g ended
-      S.conns))) S) { exchanges = fs; links = with_link p (heeds t x s) S.links }) exchanges)
+      S.conns))) S) { exchanges = fs; links = with_link p (heeds t x over s) S.links }) exchanges)
 
 not-lost : (v : News) → is_lost v ≡ false → v ≡ N.Lost → ⊥
 not-lost v e f = true-false (sym (ap is_lost f) ∙ e)

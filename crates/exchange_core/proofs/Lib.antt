@@ -1,9 +1,7 @@
 pub mod CallerLemmas
 mod Drafting
 mod Openings
-mod Placing
 mod Ordered
-mod Hinted
 mod Waiting
 mod Stepping
 mod Takes
@@ -18,16 +16,13 @@ mod Heeds
 mod HeardSteps
 mod BeginSound
 mod TickDue
-mod TickExpiring
 mod TickLeads
 mod Endings
 mod TickSince
 mod Sinces
 mod TickSound
 mod TickTurns
-mod TickBack
 mod TickEnds
-mod TickDeeds
 mod TickTimed
 mod TickRoom
 mod TickDraft

@@ -1,9 +1,9 @@
 -- The ask that opened an exchange stands in the journal.
-use Rattle.std.proofs.Common.{◌≡◌, ℕ, List, [], ◌∷◌, Some, refl, sym, ap, subst}
+use Rattle.std.proofs.Common.{◌≡◌, ℕ, List, [], ◌∷◌, Some, sym, ap, subst}
 use Rattle.std.specs.List.{slice_get, AllByRecursion}
 use Rattle.ask_model.specs.Requests.{CoapRequest, Sense, Requests, Refuses}
 use Rattle.journal_book.specs.Entries.{Asks, Written}
-use Rattle.history_laws.specs.Readings.{Noted, Begins, entries, before}
+use Rattle.history_laws.specs.Readings.{Noted, Begins, before}
 use Rattle.history_laws.specs.Justified.{AskNote}
 use Rattle.history_laws.proofs.CallerLemmas.{at-entries, follows-at}
 use Rattle.exchange_model.specs.declared.kept.Exchange.{Exchange}

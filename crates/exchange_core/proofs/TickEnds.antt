@@ -16,7 +16,8 @@ use Rattle.exchange_model.specs.Calls.{timed_out}
 use Rattle.exchange_model.specs.Entering.{goes_on}
 use Rattle.exchange_model.specs.Keeping.{Kept}
 use Rattle.exchange_model.proofs.CallerLemmas.{below, Few, few-copies}
-use Rattle.exchange_core.specs.Expiring.{given_up_by, is_that, is_over, is_still}
+use Rattle.endpoint_table.specs.GivenUps.{given_up_by}
+use Rattle.exchange_core.specs.Expiring.{is_that, is_over, is_still}
 
 and-true : (b : Bool) → b ≡ (b && true)
 and-true true = refl

@@ -1,6 +1,4 @@
 -- Each exchange was opened at a moment of the core's.
-use Rattle.ask_model.specs.Requests.{CoapRequest}
-use Rattle.std.proofs.Common.{◌≡◌, ◌≤◌, ◌^◌, Bool, List, length, map, refl, ap, arith, ℕ, ◌+◌, [], ◌∷◌, Option, Some, None, length-append}
 use Rattle.std.specs.List.{AllByRecursion}
 use Rattle.std.specs.Prelude.{filter}
 use Rattle.std.proofs.lemmas.List.{length-map}
@@ -15,6 +13,8 @@ use Rattle.exchange_model.specs.Keeping.{Kept}
 use Rattle.exchange_model.specs.Room.{KeptInRoom, entries_taken}
 use Rattle.exchange_model.proofs.CallerLemmas.{fits-parts}
 use Rattle.exchange_core.specs.Due.{IsSince}
+use Rattle.ask_model.specs.Requests.{CoapRequest}
+use Rattle.std.proofs.Common.{◌≡◌, ◌≤◌, ◌^◌, Bool, List, length, map, ap, arith, ℕ, ◌+◌, [], ◌∷◌, Option, Some, None, length-append}
 
 pub all-since : (S : State) → Kept S → S.moment ≤ 2 ^ 62 → AllByRecursion IsSince S.exchanges
 all-since S k early =

@@ -1,7 +1,8 @@
 -- The timeouts of the first sendings, how many entries a tick adds, and what it leaves.
-use Rattle.std.proofs.Common.{◌≡◌, ℕ, ◌+◌, ◌<◌, ◌^◌, Bool, true, false, cond, List, [], ◌∷◌, length, map, Option, Some, None, refl, sym, ap, subst, ◌∙◌, arith}
+use Rattle.std.proofs.Common.{◌≡◌, ℕ, ◌+◌, ◌<◌, ◌^◌, Bool, true, false, cond, List, [], ◌∷◌, ◌++◌, length, map, Option, Some, None, refl, sym, ap, subst, ◌∙◌, arith}
 use Rattle.std.specs.Prelude.{filter, fold}
 use Rattle.std.specs.List.{AllByRecursion, list_any}
+use Rattle.std.specs.Option.{option_to_list}
 use Rattle.std.proofs.lemmas.Bool.{false≢true}
 use Rattle.uri_map.specs.declared.peer.Peer.{Peer}
 use Rattle.uri_map.specs.Peers.{same_peer}
@@ -27,10 +28,10 @@ use Rattle.exchange_model.specs.Calls.{waits_on, times_out, timed_out, something
 use Rattle.exchange_model.specs.Entering.{entered_all, timeout_of, sent_as, all_deeds, all_going, goes_on, link_after, StandsOnce, IsDrained}
 use Rattle.exchange_model.specs.Keeping.{Kept, MayStep}
 use Rattle.exchange_model.proofs.CallerLemmas.{ticks-enter}
-use Rattle.exchange_core.specs.declared.state.Endpoint.{Endpoint}
+use Rattle.endpoint_table.specs.declared.turns.Turn.{Turn}
+use Rattle.endpoint_table.specs.Turns.{AreTurns, IsTurnOf}
 use Rattle.exchange_core.specs.Passing.{tick_adds}
-use Rattle.exchange_core.specs.States.{peer_link}
-use Rattle.exchange_core.specs.Turns.{AreTurns, AreTimed, IsTimedTurn}
+use Rattle.exchange_core.specs.Turns.{AreTimed, IsTimedTurn}
 use Rattle.exchange_core.specs.Sending.{IsTimed}
 
 abbrev InTime : LinkState → Type 0
@@ -89,24 +90,28 @@ turn-timed t s room Rests a h = tt
 turn-timed t s room (Copies d) a h = tt
 turn-timed t s room (GivesUp token next) a h = first-timed t s.last_mid s.waiting next a h.sent
 
-turns-timed : (t : ℕ) (gone : List (List ℕ)) (xs : List Endpoint) (ks : List Ticking)
-    → AllByRecursion (λ (x : PeerLink). InTime x.link) (map peer_link xs)
-    → AreTurns t gone xs ks → AreTimed ks
-turns-timed t gone [] [] a h = tt
-turns-timed t gone [] (k ∷ ks) a h = absurd h
-turns-timed t gone (x ∷ xs) [] a h = absurd h
-turns-timed t gone (x ∷ xs) (k ∷ ks) a h = (
-  turn-timed t (without gone x.link.state) x.link.room k
-      (all-filter (λ (w : Waiting). w.timeout < 2 ^ 32) _ x.link.state.waiting a.0) h.0,
-  turns-timed t gone xs ks a.1 h.1,
-)
+turns-timed : (t : ℕ) (gone : List (List ℕ)) (xs : List PeerLink) (rooms : List Bool)
+    (ks : List Turn) → AllByRecursion (λ (x : PeerLink). InTime x.link) xs
+    → AreTurns t gone xs rooms ks → AreTimed ks
+turns-timed t gone [] rooms ks a h = subst AreTimed (sym h) tt
+turns-timed t gone (x ∷ xs) [] ks a h = absurd h
+turns-timed t gone (x ∷ xs) (room ∷ rooms) ks a h =
+    subst AreTimed (sym h.are)
+    (by h.turn h.is (turns-timed t gone xs rooms h.others a.1 h.rest))
+  where
+    by : (o : Option Turn) → IsTurnOf t gone x room o → AreTimed h.others
+        → AreTimed (option_to_list o ++ h.others)
+    by None is others = others
+    by (Some k) is others = (
+      turn-timed t (without gone x.link) room k.ticking
+          (all-filter (λ (w : Waiting). w.timeout < 2 ^ 32) _ x.link.waiting a.0) is.2,
+      others,
+    )
 
-pub are-timed : (t : ℕ) (gone : List (List ℕ)) (xs : List Endpoint) (ks : List Ticking) (S : State)
-    → S.links ≡ map peer_link xs → Kept S → IsDrained S → AreTurns t gone xs ks → AreTimed ks
-are-timed t gone xs ks S is k drained h =
-    turns-timed t gone xs ks
-    (subst (AllByRecursion (λ (x : PeerLink). InTime x.link)) is
-    (all-timed S.links drained.once (link-timed S k))) h
+pub are-timed : (t : ℕ) (gone : List (List ℕ)) (S : State) (rooms : List Bool) (ks : List Turn)
+    → Kept S → IsDrained S → AreTurns t gone S.links rooms ks → AreTimed ks
+are-timed t gone S rooms ks k drained h =
+    turns-timed t gone S.links rooms ks (all-timed S.links drained.once (link-timed S k)) h
 
 -- Answers leave the exchanges and the links.
 one-put : (t : ℕ) (e : Exchange) (es : List Exchange) (xs : List PeerLink) (S : State)

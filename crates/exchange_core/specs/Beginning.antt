@@ -1,5 +1,5 @@
 -- Asks that begin an exchange.
-use Rattle.std.specs.Prelude.{◌≡◌, ℕ, ◌+◌, ◌≤◌, ◌<◌, ◌^◌, true, false, List, [], ◌∷◌, ◌++◌, length, sum_by, Option, Some, None, option_map, Result, Ok, Err, ⊤}
+use Rattle.std.specs.Prelude.{◌≡◌, ℕ, ◌+◌, ◌≤◌, true, false, List, [], ◌∷◌, ◌++◌, length, sum_by, Option, Some, None, option_map, Result, Ok, Err, ⊤}
 use Rattle.std.specs.Arc.{arc_value}
 use Rattle.limits.specs.declared.TheConstants.{LAST_MOMENT, MAX_MESSAGE_LEN, MAX_REQUEST_SIZE}
 use Rattle.coap_codec.specs.Spelling.{Spells}
@@ -8,7 +8,7 @@ use Rattle.ask_model.specs.Requests.{CoapRequest, Sense, Requests, Refuses, requ
 use Rattle.ask_model.specs.Sizes.{capped, came_size}
 use Rattle.ask_model.specs.Datagrams.{asked_peer}
 use Rattle.ask_model.specs.Views.{Mapping}
-use Rattle.journal_book.specs.Entries.{Deed, Sends, entry_size}
+use Rattle.journal_book.specs.Entries.{entry_size}
 use Rattle.journal_book.specs.Views.{ask_of}
 use Rattle.message_layer.specs.declared.prepared.FirstSending.{FirstSending}
 use Rattle.message_layer.specs.declared.state.Waiting.{Waiting}
@@ -18,6 +18,7 @@ use Rattle.exchange_model.specs.Steps.{seals}
 use Rattle.exchange_model.specs.Calls.{Numbers, has_place}
 use Rattle.exchange_model.specs.Resting.{HasConn}
 use Rattle.exchange_model.specs.Room.{fits}
+use Rattle.endpoint_table.specs.Tables.{submitted_to}
 use Rattle.exchange_core.specs.declared.beginning.Begun.{Begun}
 use Rattle.exchange_core.specs.declared.beginning.Begun.TheVariants.{Asked, Busy}
 use Rattle.exchange_core.specs.declared.fault.AskFault.{AskFault}
@@ -26,7 +27,6 @@ use Rattle.exchange_core.specs.declared.state.State.{State as RustState}
 use Rattle.exchange_core.specs.Calls.{IsWordedBy, AsksSo}
 use Rattle.exchange_core.specs.Drafts.{DraftValue}
 use Rattle.exchange_core.specs.States.{state_of, given_in, outgoing, with_draft, SeesSame}
-use Rattle.exchange_core.specs.Submitting.{submitted_to}
 use Rattle.exchange_core.specs.Values.{CoreValue}
 
 abbrev pub IsRequest : Sense → Type 0

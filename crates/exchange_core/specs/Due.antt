@@ -1,5 +1,5 @@
 -- When a tick has something to do.
-use Rattle.std.specs.Prelude.{◌≡◌, ℕ, ◌<◌, ◌≤◌, ◌^◌, Bool, true, false, List, filter, length, Option, if◌then◌else◌}
+use Rattle.std.specs.Prelude.{◌≡◌, ℕ, ◌<◌, ◌≤◌, Bool, true, false, List, filter, length, Option, if◌then◌else◌}
 use Rattle.std.specs.List.{list_any}
 use Rattle.limits.specs.declared.TheConstants.{LAST_MOMENT}
 use Rattle.exchange_model.specs.declared.kept.Conn.{Conn}

@@ -1,13 +1,12 @@
 -- What a datagram leaves of a core.
-use Rattle.std.specs.Prelude.{ℕ, ◌+◌, List, [], ◌∷◌, ◌++◌, length, map, filter, Option, Some, None, if◌then◌else◌}
-use Rattle.coap_codec.specs.Spelling.{Content}
+use Rattle.std.specs.Prelude.{ℕ, ◌+◌, List, [], ◌∷◌, ◌++◌, length, map, filter, Option, Some, None}
 use Rattle.uri_map.specs.declared.peer.Peer.{Peer}
 use Rattle.ask_model.specs.declared.cause.Cause.TheVariants.{Reset}
 use Rattle.journal_book.specs.Entries.{Fault, Deed, Hears}
 use Rattle.history_laws.specs.Responses.{whole_in}
 use Rattle.reply_reading.specs.Findings.{Found, Fails, found_by}
-use Rattle.message_layer.specs.Values.{LinkState, Told, response, was_reset}
-use Rattle.message_layer.specs.Hearing.{applied, listed}
+use Rattle.message_layer.specs.Values.{Told, response, was_reset}
+use Rattle.message_layer.specs.Hearing.{listed}
 use Rattle.message_layer.specs.declared.prepared.FirstSending.{FirstSending}
 use Rattle.message_layer.specs.declared.prepared.Heeding.{Heeding}
 use Rattle.history_links.specs.Steps.{ended_token}
@@ -15,8 +14,9 @@ use Rattle.exchange_model.specs.declared.kept.Conn.{Conn}
 use Rattle.exchange_model.specs.declared.kept.Exchange.{Exchange}
 use Rattle.exchange_model.specs.State.{State, link_of, with_link}
 use Rattle.exchange_model.specs.Calls.{ended_in, method_in}
-use Rattle.exchange_model.specs.Steps.{given_out, went_out, is_other}
-use Rattle.exchange_model.specs.Entering.{awaits_no_more, entered_all, confirm, told_deeds}
+use Rattle.exchange_model.specs.Steps.{went_out, is_other}
+use Rattle.exchange_model.specs.Entering.{entered_all, confirm, told_deeds}
+use Rattle.endpoint_table.specs.Tables.{heeds}
 use Rattle.exchange_core.specs.declared.ending.Ended.{Ended}
 use Rattle.exchange_core.specs.Sending.{sent_first}
 use Rattle.exchange_core.specs.Drafts.{DraftValue}
@@ -32,10 +32,6 @@ found_in n e _ = None
 -- the token under which nothing is awaited any more
 abbrev pub over_in : Heeding → Option (List ℕ)
 over_in x = ended_token x.verdict.news x.token
-
--- the link of the endpoint after the datagram, which gave out all
-abbrev pub heeds : ℕ → Heeding → LinkState → LinkState
-heeds t x s = given_out (awaits_no_more (over_in x) (applied t x.mid x.token x.verdict s))
 
 -- the exchanges after it: one may end, and the message of another went out in the entry with this
 -- number
@@ -74,14 +70,14 @@ abbrev pub hearing_state : ℕ → Peer → List ℕ → Heeding → Told → St
 hearing_state t p d x told S =
     let S1 = entered_all t (hearing_deeds p d x told S) S in record S1 {
       exchanges = exchanges_after (length S.entries) x S.exchanges;
-      links = with_link p (heeds t x (link_of S.links p)) S.links;
+      links = with_link p (heeds t x (over_in x) (link_of S.links p)) S.links;
     }
 
 -- the tables after it, and then what was drafted for it
 abbrev pub tables_after : ℕ → Peer → Heeding → State → State
 tables_after t p x S = record S {
   exchanges = exchanges_after (length S.entries) x S.exchanges;
-  links = with_link p (heeds t x (link_of S.links p)) S.links;
+  links = with_link p (heeds t x (over_in x) (link_of S.links p)) S.links;
 }
 
 abbrev pub with_heard : ℕ → Peer → Heeding → DraftValue → State → State

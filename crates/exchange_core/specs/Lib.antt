@@ -5,7 +5,6 @@ pub mod Calls
 pub mod Drafts
 pub mod Due
 pub mod Ending
-pub mod Endpoints
 pub mod Expiring
 pub mod Faults
 pub mod Hearing
@@ -19,7 +18,6 @@ pub mod Sound
 pub mod States
 pub mod Sending
 pub mod Serving
-pub mod Submitting
 pub mod Taking
 pub mod Turns
 pub mod Values

@@ -5,17 +5,13 @@ use Rattle.ask_model.specs.declared.cause.Cause.{Cause}
 use Rattle.ask_model.specs.Views.{Mapping}
 use Rattle.journal_book.specs.Entries.{Fault}
 use Rattle.reply_reading.specs.Findings.{Fails}
-use Rattle.exchange_model.specs.State.{PeerLink, State}
+use Rattle.exchange_model.specs.State.{State}
 use Rattle.exchange_core.specs.declared.answer.Ticket.{Ticket}
 use Rattle.exchange_core.specs.declared.fault.AskFault.{AskFault}
-use Rattle.exchange_core.specs.declared.state.Endpoint.{Endpoint}
 use Rattle.exchange_core.specs.declared.state.State.{State as RustState}
 use Rattle.exchange_core.specs.Values.{CoreValue, Outgoing, outgoing_of}
 use Rattle.exchange_core.specs.Answering.{Given, given_of}
 use Rattle.exchange_core.specs.Drafts.{DraftValue, untaken_of}
-
-abbrev pub peer_link : Endpoint → PeerLink
-peer_link x = record { peer = x.peer; link = x.link.state }
 
 abbrev pub state_of : {R : Type 0} → RustState R → State
 state_of s = record {
@@ -26,7 +22,7 @@ state_of s = record {
   issued = s.issued;
   conns = s.conns.items;
   exchanges = s.exchanges.exchanges;
-  links = map peer_link s.endpoints.items;
+  links = s.endpoints.links;
 }
 
 abbrev pub outgoing : {R : Type 0} → RustState R → List Outgoing

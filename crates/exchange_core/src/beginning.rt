@@ -1,18 +1,17 @@
 //! Asks that begin an exchange.
 
-ghost use Rattle.std.specs.Prelude.{◌≡◌, ◌≤◌, ◌<◌, ◌+◌, ◌^◌, ◌∷◌, ◌++◌, [], List, None, true, false, length, map, vec_len, vec_capacity, sum_by, IfOk, IfErr, OnOk, Ok, Err, Some};
+ghost use Rattle.std.specs.Prelude.{◌≡◌, ◌≤◌, ◌<◌, ◌+◌, ◌^◌, ◌∷◌, ◌++◌, [], List, None, true, false, length, sum_by, IfOk, IfErr, OnOk, Ok, Err, Some};
 ghost use Rattle.std.specs.Arc.{arc_value};
 ghost use Rattle.limits.specs.declared.TheConstants.{LAST_MOMENT, MAX_ENTRIES, MAX_EXCHANGES, MAX_REQUEST_SIZE};
 ghost use Rattle.ask_model.specs.Datagrams.{asked_peer};
 ghost use Rattle.ask_model.specs.Sizes.{capped, came_size};
 ghost use Rattle.journal_book.specs.Entries.{Deed, Asks, entry_size};
 ghost use Rattle.journal_book.specs.Views.{ask_of};
-ghost use Rattle.message_layer.specs.Prepared.{IsUnnumberedCon};
-ghost use Rattle.message_layer.specs.Sending.{waits, IsSubmitted};
+ghost use Rattle.message_layer.specs.Prepared.{IsUnnumberedCon, IsSubmission, MaySubmit};
+ghost use Rattle.message_layer.specs.Sending.{IsSubmitted};
 ghost use Rattle.exchange_model.specs.State.{State as CoreState, link_of};
-ghost use Rattle.exchange_model.specs.Calls.{peer_of};
 ghost use Rattle.exchange_model.specs.Resting.{HasConn};
-ghost use Rattle.exchange_model.specs.Room.{AreApart};
+ghost use Rattle.endpoint_table.specs.Tables.{link_at};
 ghost use Rattle.exchange_core.specs.Beginning.{IsRequest, IsTextFor, with_exchange, IsBegun, IsBegunBy, IsEntered, MayBegin, asked_method, exchange_by};
 ghost use Rattle.exchange_core.specs.Sending.{IsTimed, sent_first};
 ghost use Rattle.exchange_core.specs.Drafts.{Drafts};
@@ -21,7 +20,6 @@ ghost use Rattle.exchange_table.specs.Places.{RiseBy};
 ghost use Rattle.exchange_table.specs.Tables.{IsLatest};
 ghost use Rattle.exchange_core.specs.Sound.{IsSound};
 ghost use Rattle.exchange_core.specs.States.{state_of, seen, given_in, outgoing, with_draft, HasPlaces, SeesSame};
-ghost use Rattle.exchange_core.specs.Submitting.{MaySubmitTo, HasPlaceFor};
 
 use crate::answer::Ticket;
 use crate::draft::Draft;
@@ -31,12 +29,11 @@ use crate::room;
 use crate::sealing::seal;
 use crate::sending::draft_first;
 use crate::state::{State, commit, make_places};
-use crate::submitting::{self, Prepared};
 use ask_model::{Mapped, Meaning};
 use coap_codec::{Bytes, Token};
 use exchange_model::Exchange;
 use journal_book::{Entry, Event};
-use message_layer::{FirstSending, LinkFault};
+use message_layer::{FirstSending, LinkFault, Submission};
 use std::alloc::{AllocError, Global};
 use std::sync::Arc;
 use transformers::Relation;
@@ -100,7 +97,7 @@ fn draft_ask<R: Relation>(
 fn add_exchange<R: Relation>(
     s: &mut State<R>,
     exchange: Exchange,
-    prepared: Prepared,
+    submission: Submission,
     draft: Draft<R>,
     moment: u64,
 )
@@ -110,11 +107,8 @@ fn add_exchange<R: Relation>(
     requires room { length draft.entries ≤ s.old.journal.room }
     requires exchange { s.old.exchanges.room ≡ true }
     requires latest { IsLatest exchange s.old.exchanges.exchanges }
-    requires endpoint { HasPlaceFor prepared.place
-        (vec_len s.old.endpoints) (vec_capacity s.old.endpoints) }
-    requires may { MaySubmitTo moment exchange.peer s.old.endpoints.items
-        prepared.place prepared.submission }
-    ensures state { state_of s.new ≡ with_exchange moment exchange prepared.submission.waiting
+    requires may { MaySubmit moment (link_at s.old.endpoints exchange.peer) submission }
+    ensures state { state_of s.new ≡ with_exchange moment exchange submission.waiting
         (with_draft moment draft (state_of s.old)) }
     ensures bytes { s.new.bytes ≡ capped (s.old.bytes + capped (sum_by entry_size draft.entries)) }
     ensures room { s.new.journal.room + length draft.entries ≡ s.old.journal.room }
@@ -124,7 +118,7 @@ fn add_exchange<R: Relation>(
     let peer = exchange.peer;
     s.exchanges.push_in_room(exchange);
     s.issued += 1;
-    submitting::submit(&mut s.endpoints, peer, prepared, moment);
+    s.endpoints.submit(peer, submission, moment);
     commit(s, draft, moment);
 }
 
@@ -183,7 +177,7 @@ fn make_all_places<R: Relation>(s: &mut State<R>, draft: &Draft<R>) -> Result<()
 fn enter<R: Relation>(
     s: &mut State<R>,
     exchange: Exchange,
-    prepared: Prepared,
+    submission: Submission,
     draft: Draft<R>,
     moment: u64,
 ) -> Result<(), AskFault>
@@ -191,52 +185,35 @@ fn enter<R: Relation>(
     requires unsealed { s.old.sealed ≡ false }
     requires latest { IsLatest exchange s.old.exchanges.exchanges }
     requires early { moment ≤ LAST_MOMENT }
-    requires endpoint { HasPlaceFor prepared.place
-        (vec_len s.old.endpoints) (vec_capacity s.old.endpoints) }
-    requires may { MaySubmitTo moment exchange.peer s.old.endpoints.items
-        prepared.place prepared.submission }
-    ensures { IsEntered result moment exchange prepared.submission.waiting draft s.old s.new }
+    requires may { MaySubmit moment (link_at s.old.endpoints exchange.peer) submission }
+    ensures { IsEntered result moment exchange submission.waiting draft s.old s.new }
 {
     if !room::takes(s, &draft) {
         seal(s, moment);
         return Err(AskFault::Sealed);
     }
     make_all_places(s, &draft)?;
-    add_exchange(s, exchange, prepared, draft, moment);
+    add_exchange(s, exchange, submission, draft, moment);
     Ok(())
 }
 
 /// Prepares that the endpoint's link takes a message.
 fn prepare<R: Relation>(
-    alloc: Global,
     s: &mut State<R>,
     peer: Peer,
     token: Token,
     text: &[u8],
     moment: u64,
     word: u64,
-) -> Result<Prepared, LinkFault>
+) -> Result<Submission, LinkFault>
     requires moment { moment ≤ LAST_MOMENT }
     requires message { IsUnnumberedCon token text.now }
-    requires apart { AreApart (map peer_of (state_of s.old).links) }
     ensures same { SeesSame s.old s.new }
-    ensures may { IfOk result (λ x.
-        MaySubmitTo moment peer s.new.endpoints.items x.place x.submission) }
-    ensures endpoint { IfOk result (λ x.
-        HasPlaceFor x.place (vec_len s.new.endpoints) (vec_capacity s.new.endpoints)) }
-    ensures waiting { IfOk result (λ x. x.submission.waiting ≡ waits token text.now word) }
+    ensures ok { IfOk result (λ x.
+        IsSubmission moment token text.now word (link_at s.new.endpoints peer) x) }
     ensures fault { IsSubmitted moment (link_of (state_of s.old).links peer) result }
 {
-    submitting::prepare(
-        alloc,
-        &mut s.hints,
-        &mut s.endpoints,
-        peer,
-        token,
-        text,
-        moment,
-        word,
-    )
+    s.endpoints.prepare_submit(&peer, token, text, moment, word)
 }
 
 /// Enters the ask, whose message was prepared.
@@ -250,28 +227,25 @@ fn ask<R: Relation>(
     peer: Peer,
     token: Token,
     text: &Bytes,
-    prepared: Prepared,
+    submission: Submission,
 ) -> Result<Ticket<R>, AskFault>
     requires sound { IsSound s.old }
     requires begins { MayBegin moment word conn (arc_value mapped) peer token text.now
         (state_of s.old) }
-    requires endpoint { HasPlaceFor prepared.place
-        (vec_len s.old.endpoints) (vec_capacity s.old.endpoints) }
-    requires may { MaySubmitTo moment peer s.old.endpoints.items
-        prepared.place prepared.submission }
-    requires waiting { prepared.submission.waiting ≡ waits token text.now word }
+    requires message { IsSubmission moment token text.now word
+        (link_at s.old.endpoints peer) submission }
     ensures sound { IsSound s.new }
     ensures ok { IfOk result (λ x. (x.conn ≡ conn) × (arc_value x.mapped ≡ arc_value mapped)
         × IsBegunBy (Ok x.number) moment word conn (arc_value mapped) (seen s.old) (seen s.new)) }
     ensures err { IfErr result (λ e.
         IsBegunBy (Err e) moment word conn (arc_value mapped) (seen s.old) (seen s.new)) }
 {
-    let sent = &prepared.submission.sent;
+    let sent = &submission.sent;
     let draft = draft_ask(alloc, s, moment, conn, &mapped, peer, sent)?;
     let number = s.journal.len() as u32;
     let method = method_of(&mapped);
     let exchange = exchange_of(number, moment, conn, token, peer, method, sent);
-    match enter(s, exchange, prepared, draft, moment) {
+    match enter(s, exchange, submission, draft, moment) {
         Ok(()) => Ok(Ticket {
             conn,
             number,
@@ -306,10 +280,10 @@ pub fn begin<R: Relation>(
 {
     let token = token_of(s.issued, word);
     let text = text_of(alloc, &mapped, &token)?;
-    match prepare(alloc, s, peer, token, text.as_slice(), moment, word) {
-        Ok(prepared) => {
+    match prepare(s, peer, token, text.as_slice(), moment, word) {
+        Ok(submission) => {
             match ask(
-                alloc, s, moment, word, conn, mapped, peer, token, &text, prepared,
+                alloc, s, moment, word, conn, mapped, peer, token, &text, submission,
             ) {
                 Ok(ticket) => Ok(Begun::Asked(ticket)),
                 Err(fault) => Err(fault),

@@ -19,13 +19,13 @@ ghost use Rattle.exchange_core.specs.States.{core_of, number_in};
 ghost use Rattle.exchange_core.specs.Taking.{IsTaken, IsSent};
 
 use crate::answer::{Answer, Ticket};
-use crate::endpoints::Hints;
 use crate::fault::{AskFault, OpenFault};
 use crate::outgoing::Datagram;
 use crate::snapshot::Snapshot;
 use crate::state::State;
 use crate::{asking, due, hearing, opening, serving, snapshot, taking, ticking};
 use ask_model::Mapped;
+use endpoint_table::Endpoints;
 use exchange_table::Exchanges;
 use journal_book::Journal;
 use limits::{LAST_MOMENT, MAX_ENTRIES};
@@ -69,7 +69,7 @@ impl<R: Relation> Core<R> {
     pub fn new(alloc: Global) -> Result<Core<R>, AllocError>
         ensures { IfOk result (λ c. c ≡ core_of start [] []) }
     {
-        let hints = Hints::new(alloc)?;
+        let endpoints = Endpoints::new(alloc)?;
         let mut journal = Journal::new(alloc);
         journal.make_room(MAX_ENTRIES as usize)?;
         Ok(Core {
@@ -83,8 +83,7 @@ impl<R: Relation> Core<R> {
                 issued: 0,
                 conns: Vec::new(alloc),
                 exchanges: Exchanges::new(alloc),
-                endpoints: Vec::new(alloc),
-                hints,
+                endpoints,
                 answers: Vec::new(alloc),
                 sends: VecDeque::new(alloc),
             },

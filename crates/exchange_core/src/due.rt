@@ -1,17 +1,17 @@
 //! When something is due.
 
-ghost use Rattle.std.specs.Prelude.{◌≡◌, ◌≤◌, ◌^◌, map};
+ghost use Rattle.std.specs.Prelude.{◌≡◌, ◌≤◌, ◌^◌};
 ghost use Rattle.std.specs.List.{AllByRecursion};
-ghost use Rattle.exchange_model.specs.Due.{earlier, earliest, timer, deadline, next_due};
+ghost use Rattle.exchange_model.specs.Due.{earlier, earliest, deadline, next_due};
 ghost use Rattle.exchange_model.specs.Steps.{is_past};
 ghost use Rattle.exchange_core.specs.Due.{IsSince, next_late, next_tick};
 ghost use Rattle.exchange_core.specs.Places.{OpenLater, id_of};
 ghost use Rattle.exchange_table.specs.Places.{RiseBy};
 ghost use Rattle.exchange_core.specs.Sound.{IsSound};
-ghost use Rattle.exchange_core.specs.States.{state_of, peer_link};
+ghost use Rattle.exchange_core.specs.States.{state_of};
 
 use crate::exchanges::is_awaited;
-use crate::state::{Endpoint, State};
+use crate::state::State;
 use exchange_model::{Conn, Exchange};
 use limits::MAX_TRANSMIT_WAIT;
 use transformers::Relation;
@@ -34,17 +34,6 @@ fn earlier(a: Option<u64>, b: Option<u64>) -> Option<u64>
     }
 }
 
-/// The first timer of the links.
-fn earliest_timer(endpoints: &[Endpoint]) -> Option<u64>
-    ensures { result ≡ earliest timer (map peer_link endpoints.now) }
-{
-    let mut first = None;
-    'each: for x in endpoints {
-        first = earlier(first, x.link.next_due());
-    }
-    first
-}
-
 /// The first moment at which an exchange took too long: the first does, which was opened first.
 fn earliest_deadline(exchanges: &[Exchange]) -> Option<u64>
     requires early { AllByRecursion IsSince exchanges.now }
@@ -63,7 +52,7 @@ pub fn next_due<R: Relation>(s: &State<R>) -> Option<u64>
     ensures { result ≡ next_due (state_of s.now) }
 {
     earlier(
-        earliest_timer(&s.endpoints),
+        s.endpoints.next_due(),
         earliest_deadline(s.exchanges.as_slice()),
     )
 }

@@ -2,17 +2,15 @@
 
 ghost use Rattle.std.specs.List.{AllByRecursion};
 ghost use Rattle.coap_codec.specs.Spelling.{Content, Spells};
-ghost use Rattle.uri_map.specs.declared.peer.Peer.{Peer as PeerValue};
-ghost use Rattle.exchange_core.specs.declared.state.Endpoint.{Endpoint as EndpointValue};
 ghost use Rattle.exchange_core.specs.Answering.{IsGiven};
-ghost use Rattle.exchange_core.specs.Endpoints.{IsFirstAt};
-ghost use Rattle.std.specs.Prelude.{ℕ, ◌≡◌, ◌≤◌, ◌<◌, ◌^◌, ◌+◌, ◌∷◌, ◌++◌, [], List, None, Some, false, map, filter, sum_by, length, slice_get, IfOk, IfSome, OnOk, OnErr};
+ghost use Rattle.endpoint_table.specs.Tables.{link_at};
+ghost use Rattle.std.specs.Prelude.{ℕ, ◌≡◌, ◌≤◌, ◌<◌, ◌^◌, ◌+◌, ◌∷◌, ◌++◌, [], List, None, Some, true, false, map, filter, is_some, sum_by, length, IfOk, IfSome, OnOk, OnErr};
 ghost use Rattle.limits.specs.declared.TheConstants.{LAST_MOMENT, MAX_ENTRIES};
 ghost use Rattle.journal_book.specs.Entries.{Deed};
 ghost use Rattle.message_layer.specs.Values.{told, response};
 ghost use Rattle.message_layer.specs.Hearing.{listed};
-ghost use Rattle.message_layer.specs.Prepared.{IsPreparedFor, IsHearing, MayHeed};
-ghost use Rattle.exchange_model.specs.State.{State as CoreState, link_of, with_link};
+ghost use Rattle.message_layer.specs.Prepared.{IsHearing, MayHeed};
+ghost use Rattle.exchange_model.specs.State.{State as CoreState, link_of};
 ghost use Rattle.exchange_model.specs.Calls.{ended_in, method_in};
 ghost use Rattle.exchange_model.specs.Steps.{is_other};
 ghost use Rattle.exchange_model.specs.Entering.{confirm};
@@ -23,18 +21,18 @@ ghost use Rattle.exchange_core.specs.Drafts.{Drafts};
 ghost use Rattle.exchange_core.specs.Sound.{IsSound};
 ghost use Rattle.exchange_core.specs.Values.{stepped};
 ghost use Rattle.exchange_core.specs.Asked.{IsOpenedIn};
-ghost use Rattle.exchange_core.specs.Hearing.{exchanges_after, first_number, note_next, tables_after, with_heard, found_in, over_in, heeds, ended_by, link_deeds, hearing_deeds};
+ghost use Rattle.exchange_core.specs.Hearing.{exchanges_after, first_number, note_next, tables_after, with_heard, found_in, over_in, ended_by, link_deeds, hearing_deeds};
 ghost use Rattle.exchange_core.specs.Sending.{IsTimed, sent_first};
 ghost use Rattle.exchange_core.specs.Places.{id_of};
 ghost use Rattle.exchange_table.specs.Places.{RiseBy};
-ghost use Rattle.exchange_core.specs.States.{peer_link, state_of, seen, given_in, outgoing, SeesSame};
+ghost use Rattle.exchange_core.specs.States.{state_of, seen, given_in, outgoing, SeesSame};
 
 use crate::draft::Draft;
 use crate::ending::{Ended, draft_ends};
 use crate::room::takes;
 use crate::sealing::seal;
 use crate::sending::draft_first;
-use crate::state::{Endpoint, State, commit, make_places};
+use crate::state::{State, commit, make_places};
 use ask_model::Cause;
 use coap_codec::{Bytes as Whole, Token};
 use exchange_model::Exchange;
@@ -46,22 +44,6 @@ use std::alloc::{AllocError, Global};
 use std::collections::VecDeque;
 use transformers::Relation;
 use uri_map::Peer;
-
-/// What the link of the endpoint makes of the datagram, before it does that.
-fn prepare(
-    endpoint: &mut Endpoint,
-    datagram: &[u8],
-    moment: u64,
-) -> Result<Option<Hearing>, AllocError>
-    requires { moment ≤ LAST_MOMENT }
-    ensures same { peer_link endpoint.new ≡ peer_link endpoint.old }
-    ensures ok { IfOk result (λ o. IsPreparedFor moment datagram.now endpoint.new.link o) }
-{
-    match endpoint.link.prepare_heard(datagram, moment) {
-        Ok(hearing) => Ok(hearing),
-        Err(_) => Err(AllocError),
-    }
-}
 
 /// The token under which nothing is awaited any more.
 fn ended_token(heeding: &Heeding) -> Option<Token>
@@ -112,24 +94,6 @@ fn finding_in(
         Up::Reset(_) => Ok(Some(Finding::fault(Cause::Reset, number))),
         _ => Ok(None),
     }
-}
-
-/// The endpoint's link does what was prepared, and gives out nothing by itself.
-fn settle(endpoint: &mut Endpoint, heeding: Heeding, moment: u64)
-    requires early { moment ≤ LAST_MOMENT }
-    requires ready { MayHeed moment endpoint.old.link heeding }
-    ensures peer { endpoint.new.peer ≡ endpoint.old.peer }
-    ensures link { endpoint.new.link.state ≡ heeds moment heeding endpoint.old.link.state }
-{
-    let over = ended_token(&heeding);
-    endpoint.link.hear_prepared(heeding, moment);
-    if let Some(token) = over {
-        match endpoint.link.expect(&token, false) {
-            Ok(()) => {}
-            Err(_) => unreachable!(),
-        }
-    }
-    endpoint.link.clear_out();
 }
 
 /// The ACK or RST goes out.
@@ -277,47 +241,13 @@ fn change_exchanges(exchanges: &mut Exchanges, heeding: &Heeding, number: u32)
     note_next(exchanges, &heeding.next, first_number(number, heeding));
 }
 
-/// What the link in this place makes of the datagram, before it does that.
-fn prepare_at(
-    endpoints: &mut Vec<Endpoint>,
-    place: usize,
-    datagram: &[u8],
-    moment: u64,
-) -> Result<Option<Hearing>, AllocError>
-    requires place { place < length endpoints.old.items }
-    requires early { moment ≤ LAST_MOMENT }
-    ensures same { map peer_link endpoints.new.items ≡ map peer_link endpoints.old.items }
-    ensures ok { IfOk result (λ o. (e : EndpointValue)
-        → slice_get endpoints.new.items place ≡ Some e
-        → IsPreparedFor moment datagram.now e.link o) }
-{
-    let hearing = prepare(&mut endpoints[place], datagram, moment)?;
-    Ok(hearing)
-}
-
-/// The link in this place does what was prepared.
-fn settle_at(endpoints: &mut Vec<Endpoint>, place: usize, heeding: Heeding, moment: u64)
-    requires place { place < length endpoints.old.items }
-    requires early { moment ≤ LAST_MOMENT }
-    requires ready { (e : EndpointValue) → slice_get endpoints.old.items place ≡ Some e
-        → MayHeed moment e.link heeding }
-    ensures { (p : PeerValue) → IsFirstAt p (map peer_link endpoints.old.items) place
-        → map peer_link endpoints.new.items
-        ≡ with_link p (heeds moment heeding (link_of (map peer_link endpoints.old.items) p))
-        (map peer_link endpoints.old.items) }
-{
-    settle(&mut endpoints[place], heeding, moment);
-}
-
 /// The tables after the datagram.
-fn change_tables<R: Relation>(s: &mut State<R>, place: usize, moment: u64, heeding: Heeding)
+fn change_tables<R: Relation>(s: &mut State<R>, peer: Peer, moment: u64, heeding: Heeding)
     requires few { length s.old.journal.entries ≤ MAX_ENTRIES }
     requires early { moment ≤ LAST_MOMENT }
-    requires place { place < length s.old.endpoints.items }
-    requires ready { (e : EndpointValue) → slice_get s.old.endpoints.items place ≡ Some e
-        → MayHeed moment e.link heeding }
-    ensures state { (p : PeerValue) → IsFirstAt p (map peer_link s.old.endpoints.items) place
-        → state_of s.new ≡ tables_after moment p heeding (state_of s.old) }
+    requires ready { MayHeed moment (link_at s.old.endpoints peer) heeding }
+    requires known { is_some (link_of s.old.endpoints.links peer).last_mid ≡ true }
+    ensures state { state_of s.new ≡ tables_after moment peer heeding (state_of s.old) }
     ensures journal { s.new.journal ≡ s.old.journal }
     ensures bytes { s.new.bytes ≡ s.old.bytes }
     ensures answers { s.new.answers ≡ s.old.answers }
@@ -325,13 +255,14 @@ fn change_tables<R: Relation>(s: &mut State<R>, place: usize, moment: u64, heedi
 {
     let number = s.journal.len() as u32;
     change_exchanges(&mut s.exchanges, &heeding, number);
-    settle_at(&mut s.endpoints, place, heeding, moment);
+    let over = ended_token(&heeding);
+    s.endpoints.heed(&peer, heeding, over, moment);
 }
 
 /// Adds what was drafted, once there are places for it, and changes the tables.
 fn add_heard<R: Relation>(
     s: &mut State<R>,
-    place: usize,
+    peer: Peer,
     moment: u64,
     heeding: Heeding,
     draft: Draft<R>,
@@ -339,11 +270,10 @@ fn add_heard<R: Relation>(
     requires room { length draft.entries ≤ s.old.journal.room }
     requires few { length s.old.journal.entries ≤ MAX_ENTRIES }
     requires early { moment ≤ LAST_MOMENT }
-    requires place { place < length s.old.endpoints.items }
-    requires ready { (e : EndpointValue) → slice_get s.old.endpoints.items place ≡ Some e
-        → MayHeed moment e.link heeding }
-    ensures state { (p : PeerValue) → IsFirstAt p (map peer_link s.old.endpoints.items) place
-        → OnOk result (state_of s.new ≡ with_heard moment p heeding draft (state_of s.old)) }
+    requires ready { MayHeed moment (link_at s.old.endpoints peer) heeding }
+    requires known { is_some (link_of s.old.endpoints.links peer).last_mid ≡ true }
+    ensures state { OnOk result
+        (state_of s.new ≡ with_heard moment peer heeding draft (state_of s.old)) }
     ensures bytes { OnOk result
         (s.new.bytes ≡ capped (s.old.bytes + capped (sum_by entry_size draft.entries))) }
     ensures room { OnOk result (s.new.journal.room + length draft.entries ≡ s.old.journal.room) }
@@ -352,7 +282,7 @@ fn add_heard<R: Relation>(
     ensures same { OnErr result (SeesSame s.old s.new) }
 {
     make_places(s, &draft)?;
-    change_tables(s, place, moment, heeding);
+    change_tables(s, peer, moment, heeding);
     commit(s, draft, moment);
     Ok(())
 }
@@ -363,7 +293,6 @@ fn take<R: Relation>(
     s: &mut State<R>,
     moment: u64,
     peer: Peer,
-    place: usize,
     datagram: &[u8],
     hearing: Hearing,
 ) -> Result<(), AllocError>
@@ -371,9 +300,7 @@ fn take<R: Relation>(
     requires unsealed { s.old.sealed ≡ false }
     requires later { s.old.moment ≤ moment }
     requires early { moment ≤ LAST_MOMENT }
-    requires at { IsFirstAt peer (map peer_link s.old.endpoints.items) place }
-    requires hears { (e : EndpointValue) → slice_get s.old.endpoints.items place ≡ Some e
-        → IsHearing moment datagram.now e.link hearing }
+    requires hears { IsHearing moment datagram.now (link_at s.old.endpoints peer) hearing }
     ensures sound { IsSound s.new }
     ensures heard { OnOk result (seen s.new
         ≡ stepped (hears_in_room moment peer datagram.now (state_of s.old)) (seen s.old)) }
@@ -385,7 +312,7 @@ fn take<R: Relation>(
         seal(s, moment);
         return Ok(());
     }
-    add_heard(s, place, moment, heeding, draft)?;
+    add_heard(s, peer, moment, heeding, draft)?;
     Ok(())
 }
 
@@ -409,11 +336,8 @@ pub fn hear<R: Relation>(
     if s.sealed {
         return Ok(());
     }
-    let Some(place) = s.hints.find(&s.endpoints, &peer) else {
-        return Ok(());
-    };
-    match prepare_at(&mut s.endpoints, place, datagram, moment)? {
-        Some(hearing) => take(alloc, s, moment, peer, place, datagram, hearing),
+    match s.endpoints.prepare_heard(&peer, datagram, moment)? {
+        Some(hearing) => take(alloc, s, moment, peer, datagram, hearing),
         None => Ok(()),
     }
 }

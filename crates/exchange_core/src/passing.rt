@@ -1,31 +1,33 @@
 //! What a tick does, prepared before the core changes.
 
-ghost use Rattle.std.specs.Prelude.{◌≡◌, ◌≤◌, ◌^◌, ◌+◌, ◌++◌, true, false, filter, length, sum_by, IfOk, OnOk};
+ghost use Rattle.std.specs.Prelude.{ℕ, ◌≡◌, ◌≤◌, ◌^◌, ◌+◌, ◌++◌, true, false, filter, length, sum_by, IfOk, OnOk};
 ghost use Rattle.limits.specs.declared.TheConstants.{LAST_MOMENT};
 ghost use Rattle.ask_model.specs.Sizes.{capped};
 ghost use Rattle.journal_book.specs.Entries.{entry_size};
 ghost use Rattle.message_layer.specs.Calls.{is_among};
 ghost use Rattle.exchange_model.specs.Calls.{something_due, timed_out};
-ghost use Rattle.exchange_model.specs.Entering.{all_going, goes_on, gone_tokens, sent_as};
+ghost use Rattle.exchange_model.specs.Entering.{all_deeds, all_going, goes_on, gone_tokens, sent_as};
 ghost use Rattle.exchange_model.specs.Steps.{is_gone};
+ghost use Rattle.endpoint_table.specs.Turns.{AreTurns, turns_deeds, turns_going};
 ghost use Rattle.exchange_core.specs.Leads.{Leads};
 ghost use Rattle.exchange_core.specs.Passing.{moved_on, tick_adds};
 ghost use Rattle.exchange_core.specs.Sound.{IsSound};
 ghost use Rattle.exchange_core.specs.States.{given_in, outgoing, state_of, HasPlaces, SeesSame};
-ghost use Rattle.exchange_core.specs.Turns.{AreTurns};
+ghost use Rattle.exchange_core.specs.Turns.{AreTimed};
 
 use crate::draft::Draft;
 use crate::due::next_due;
 use crate::expiring::{Sorted, sort_by_end, tokens_of};
 use crate::state::{self, State};
 use crate::timeouts::draft_timeouts;
-use crate::turns::{draft_turns, prepare_turns, tick_turns};
+use crate::turns::draft_turns;
 use coap_codec::Token;
+use endpoint_table::Turn;
 use exchange_model::Exchange;
 use exchange_table::Exchanges;
 use journal_book::{Entry, Event};
-use message_layer::Ticking;
 use std::alloc::{AllocError, Global};
+use std::collections::VecDeque;
 use transformers::Relation;
 
 /// The exchanges that end at this moment, and those that go on.
@@ -52,17 +54,19 @@ fn draft_tick<R: Relation>(
     s: &State<R>,
     over: &[Exchange],
     still: &mut Exchanges,
-    turns: &[Ticking],
+    turns: &VecDeque<Turn>,
     moment: u64,
-    gone: &[Token],
 ) -> Result<Draft<R>, AllocError>
     requires sound { IsSound s.now }
     requires unsealed { s.now.sealed ≡ false }
     requires later { s.now.moment ≤ moment }
     requires due { something_due moment (state_of s.now) ≡ true }
     requires over { over.now ≡ timed_out moment (state_of s.now) }
-    requires gone { gone.now ≡ gone_tokens moment (state_of s.now) }
-    requires ready { AreTurns moment gone.now s.now.endpoints.items turns.now }
+    requires timed { AreTimed turns.now.items }
+    requires deeds { turns_deeds turns.now.items
+        ≡ all_deeds moment (is_gone moment (state_of s.now)) (state_of s.now).links }
+    requires going { (n : ℕ) → turns_going n turns.now.items
+        ≡ all_going moment (is_gone moment (state_of s.now)) n (state_of s.now).links }
     ensures leads { IfOk result
         (λ d. Leads moment (state_of s.now) (tick_adds moment (state_of s.now)) d) }
     ensures going { OnOk result (still.new.exchanges ≡ sent_as (all_going moment
@@ -74,24 +78,30 @@ fn draft_tick<R: Relation>(
         moment,
         event: Event::Passed,
     })?;
-    draft_turns(&mut draft, still, &s.endpoints, turns, moment)?;
+    draft_turns(&mut draft, still, turns, moment)?;
     draft_timeouts(alloc, &mut draft, &s.journal, over, moment)?;
     Ok(draft)
 }
 
-/// Prepares the tick of each link.
+/// Prepares the tick of the links.
 fn prepare_links<R: Relation>(
-    alloc: Global,
     s: &mut State<R>,
     moment: u64,
     gone: &[Token],
-) -> Result<Vec<Ticking>, AllocError>
-    requires { moment ≤ LAST_MOMENT }
+) -> Result<VecDeque<Turn>, AllocError>
+    requires sound { IsSound s.old }
+    requires early { moment ≤ LAST_MOMENT }
+    requires gone { gone.now ≡ gone_tokens moment (state_of s.old) }
     ensures same { SeesSame s.old s.new }
-    ensures ready { IfOk result
-        (λ v. AreTurns moment gone.now s.new.endpoints.items v.items) }
+    ensures ready { IfOk result (λ v.
+        AreTurns moment gone.now s.new.endpoints.links s.new.endpoints.rooms v.items) }
+    ensures timed { IfOk result (λ v. AreTimed v.items) }
+    ensures deeds { IfOk result (λ v. turns_deeds v.items
+        ≡ all_deeds moment (is_gone moment (state_of s.old)) (state_of s.old).links) }
+    ensures going { IfOk result (λ v. (n : ℕ) → turns_going n v.items
+        ≡ all_going moment (is_gone moment (state_of s.old)) n (state_of s.old).links) }
 {
-    prepare_turns(alloc, &mut s.endpoints, moment, gone)
+    s.endpoints.prepare_tick(moment, gone)
 }
 
 /// Whether a tick has something to do at this moment.
@@ -110,7 +120,7 @@ pub fn is_due<R: Relation>(s: &State<R>, moment: u64) -> bool
 pub struct Passing<R: Relation> {
     /// the tokens of the exchanges that end
     pub gone: Vec<Token>,
-    pub turns: Vec<Ticking>,
+    pub turns: VecDeque<Turn>,
     /// the exchanges that go on
     pub still: Exchanges,
     pub draft: Draft<R>,
@@ -130,7 +140,8 @@ pub fn prepare<R: Relation>(
     ensures same { SeesSame s.old s.new }
     ensures gone { IfOk result (λ x. x.gone.items ≡ gone_tokens moment (state_of s.old)) }
     ensures ready { IfOk result
-        (λ x. AreTurns moment x.gone.items s.new.endpoints.items x.turns.items) }
+        (λ x. AreTurns moment x.gone.items s.new.endpoints.links s.new.endpoints.rooms
+        x.turns.items) }
     ensures still { IfOk result (λ x. x.still.exchanges ≡ sent_as (all_going moment
         (is_gone moment (state_of s.old)) (length s.old.journal.entries + 1)
         (state_of s.old).links)
@@ -140,8 +151,8 @@ pub fn prepare<R: Relation>(
 {
     let Sorted { over, mut still } = sort_at(alloc, s, moment)?;
     let gone = tokens_of(alloc, &over)?;
-    let turns = prepare_links(alloc, s, moment, &gone)?;
-    let draft = draft_tick(alloc, s, &over, &mut still, &turns, moment, &gone)?;
+    let turns = prepare_links(s, moment, &gone)?;
+    let draft = draft_tick(alloc, s, &over, &mut still, &turns, moment)?;
     Ok(Passing {
         gone,
         turns,
@@ -153,8 +164,8 @@ pub fn prepare<R: Relation>(
 /// Does a tick as it was prepared.
 pub fn pass<R: Relation>(s: &mut State<R>, passing: Passing<R>, moment: u64)
     requires early { moment ≤ LAST_MOMENT }
-    requires ready { AreTurns moment passing.gone.items s.old.endpoints.items
-        passing.turns.items }
+    requires ready { AreTurns moment passing.gone.items
+        s.old.endpoints.links s.old.endpoints.rooms passing.turns.items }
     requires places { HasPlaces s.old passing.draft }
     requires room { length passing.draft.entries ≤ s.old.journal.room }
     ensures state { state_of s.new ≡ moved_on moment (is_among passing.gone.items)
@@ -171,7 +182,7 @@ pub fn pass<R: Relation>(s: &mut State<R>, passing: Passing<R>, moment: u64)
         still,
         draft,
     } = passing;
-    tick_turns(&mut s.endpoints, turns, moment, &gone);
+    s.endpoints.tick(turns, moment, &gone);
     s.exchanges = still;
     state::commit(s, draft, moment);
 }

@@ -9,12 +9,13 @@ ghost use Rattle.std.specs.Prelude.{◌≡◌, ◌≤◌, ◌+◌, length, map, 
 ghost use Rattle.exchange_core.specs.Answering.{given_of};
 ghost use Rattle.exchange_core.specs.Snapshots.{IsOf, restored};
 ghost use Rattle.exchange_core.specs.Sound.{IsSound};
-ghost use Rattle.exchange_core.specs.States.{given_in, outgoing, peer_link, seen, state_of};
+ghost use Rattle.exchange_core.specs.States.{given_in, outgoing, seen, state_of};
 ghost use Rattle.exchange_core.specs.Values.{outgoing_of};
 
 use crate::answer::Answer;
 use crate::outgoing::Datagram;
-use crate::state::{Endpoint, State};
+use crate::state::State;
+use endpoint_table::Endpoints;
 use exchange_model::Conn;
 use exchange_table::Exchanges;
 use std::alloc::{AllocError, Global};
@@ -35,7 +36,7 @@ pub struct Snapshot<R: Relation> {
     issued: u32,
     conns: Vec<Conn>,
     exchanges: Exchanges,
-    endpoints: Vec<Endpoint>,
+    endpoints: Endpoints,
     answers: Vec<Answer<R>>,
     sends: VecDeque<Datagram>,
 }
@@ -44,7 +45,6 @@ impl<R: Relation> Model for Snapshot<R> {
     ghost use Rattle.std.specs.Prelude.{[], map};
     ghost use Rattle.exchange_core.specs.Answering.{given_of};
     ghost use Rattle.exchange_core.specs.Snapshots.{SnapshotValue};
-    ghost use Rattle.exchange_core.specs.States.{peer_link};
     ghost use Rattle.exchange_core.specs.Values.{outgoing_of};
 
     ghost Value = { SnapshotValue };
@@ -60,35 +60,11 @@ impl<R: Relation> Model for Snapshot<R> {
         issued = s.issued;
         conns = s.conns.items;
         exchanges = s.exchanges.exchanges;
-        links = map peer_link s.endpoints.items;
+        links = s.endpoints.links;
       };
       answers = map given_of s.answers.items;
       unsent = map outgoing_of s.sends.items;
     } };
-}
-
-/// An equal link to the endpoint, which shares the bytes of its messages.
-fn copy_endpoint(endpoint: &Endpoint) -> Result<Endpoint, AllocError>
-    ensures { IfOk result (λ x. peer_link x ≡ peer_link endpoint.now) }
-{
-    match endpoint.link.copy() {
-        Ok(link) => Ok(Endpoint {
-            peer: endpoint.peer,
-            link,
-        }),
-        Err(_) => Err(AllocError),
-    }
-}
-
-/// Equal links.
-fn copy_endpoints(alloc: Global, endpoints: &[Endpoint]) -> Result<Vec<Endpoint>, AllocError>
-    ensures { IfOk result (λ copy. map peer_link copy.items ≡ map peer_link endpoints.now) }
-{
-    let mut copy = Vec::new(alloc);
-    'each: for endpoint in endpoints {
-        copy.push(copy_endpoint(endpoint)?)?;
-    }
-    Ok(copy)
 }
 
 /// Equal answers.
@@ -134,7 +110,7 @@ pub fn take_snapshot<R: Relation>(alloc: Global, s: &State<R>) -> Result<Snapsho
         issued: s.issued,
         conns: Vec::from_slice(alloc, &s.conns)?,
         exchanges: s.exchanges.copy(alloc)?,
-        endpoints: copy_endpoints(alloc, &s.endpoints)?,
+        endpoints: s.endpoints.copy()?,
         answers: copy_answers(alloc, &s.answers)?,
         sends: copy_sends(alloc, &s.sends)?,
     })
@@ -158,7 +134,7 @@ pub fn put_back<R: Relation>(s: &mut State<R>, snapshot: Snapshot<R>)
     s.issued = snapshot.issued;
     s.conns = snapshot.conns;
     s.exchanges = snapshot.exchanges;
-    s.endpoints = snapshot.endpoints;
+    s.endpoints.put_back(snapshot.endpoints);
     s.answers = snapshot.answers;
     s.sends = snapshot.sends;
 }

@@ -9,23 +9,14 @@ ghost use Rattle.exchange_core.specs.States.{state_of, outgoing, given_in, with_
 
 use crate::answer::Answer;
 use crate::draft::Draft;
-use crate::endpoints::Hints;
 use crate::outgoing::Datagram;
+use endpoint_table::Endpoints;
 use exchange_model::Conn;
 use exchange_table::Exchanges;
 use journal_book::{Entry, Journal};
-use message_layer::Link;
 use std::alloc::AllocError;
 use std::collections::VecDeque;
 use transformers::Relation;
-use uri_map::Peer;
-
-/// The messages between the proxy and one endpoint.
-#[derive(Drop)]
-pub struct Endpoint {
-    pub peer: Peer,
-    pub link: Link,
-}
 
 /// What a core keeps.
 #[derive(Drop)]
@@ -42,9 +33,7 @@ pub struct State<R: Relation> {
     pub issued: u32,
     pub conns: Vec<Conn>,
     pub exchanges: Exchanges,
-    pub endpoints: Vec<Endpoint>,
-    /// where endpoints were found last
-    pub hints: Hints,
+    pub endpoints: Endpoints,
     /// the answers that aren't taken yet
     pub answers: Vec<Answer<R>>,
     /// the datagrams that aren't taken yet

@@ -36,8 +36,5 @@ ask-requires-clause-begins g c =
       place = has-place _ _ (state_of c.args.s.now) c.requires.few place;
     })
 
-pub ask-requires-clause-waiting : goal.ask-requires-clause-waiting
-ask-requires-clause-waiting g c = rw (c.as_slice.ensures) at c.in-Ok.ensures.waiting
-
-pub prepare-requires-clause-apart : goal.prepare-requires-clause-apart
-prepare-requires-clause-apart g c = c.requires.sound.kept.apart
+pub ask-requires-clause-message : goal.ask-requires-clause-message
+ask-requires-clause-message g c = rw (c.as_slice.ensures) at c.in-Ok.ensures.ok

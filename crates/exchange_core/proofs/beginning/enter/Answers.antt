@@ -28,6 +28,6 @@ pub returns : goal.returns
 returns g c =
     let e = c.add_exchange.ensures in (
       sym (c.takes.ensures c.args.moment) ∙ c.if-not-takes.false,
-      leaves c.args.moment c.args.exchange c.args.prepared.submission.waiting c.args.draft c.args.s.now c.make_all_places.new.s c.add_exchange.new.s c.make_all_places.ensures.same
+      leaves c.args.moment c.args.exchange c.args.submission.waiting c.args.draft c.args.s.now c.make_all_places.new.s c.add_exchange.new.s c.make_all_places.ensures.same
           (record { state = e.state; bytes = e.bytes; room = e.room; answers = e.answers; sends = e.sends }),
     )

@@ -2,8 +2,9 @@ use Rattle.std.proofs.Common.{refl}
 use Rattle.exchange_core.proofs.hearing.change_tables.Goals as goal
 
 pub returns-clause-state : goal.returns-clause-state
-returns-clause-state g c = λ p f. rw (
+returns-clause-state g c = rw (
   c.change_exchanges.ensures,
   c.len-number.ensures,
-  c.settle_at.ensures p f,
+  c.heed.ensures,
+  c.ended_token-over.ensures,
 ) refl

@@ -1,4 +1,4 @@
-use Rattle.std.proofs.Common.{◌≡◌, ◌+◌, ◌∷◌, ℕ, List, length, map, refl, sym, ap, subst, ◌∙◌, arith}
+use Rattle.std.proofs.Common.{◌≡◌, ◌+◌, ◌∷◌, ℕ, List, length, refl, sym, ap, subst, ◌∙◌, arith}
 use Rattle.std.specs.Prelude.{fold}
 use Rattle.std.specs.List.{AllByRecursion}
 use Rattle.history_laws.proofs.CallerLemmas.{all-filter}
@@ -7,33 +7,20 @@ use Rattle.exchange_model.specs.declared.kept.Exchange.{Exchange}
 use Rattle.exchange_model.specs.State.{State}
 use Rattle.exchange_model.specs.Steps.{entered, expires, is_gone}
 use Rattle.exchange_model.specs.Calls.{times_out}
-use Rattle.exchange_model.specs.Entering.{entered_all, all_deeds}
+use Rattle.exchange_model.specs.Entering.{Going, entered_all, all_deeds, sent_as}
 use Rattle.exchange_model.specs.Keeping.{MayStep}
 use Rattle.exchange_core.specs.Asked.{IsOpenedIn}
 use Rattle.exchange_core.specs.Drafts.{DraftValue, empty_draft}
 use Rattle.exchange_core.specs.Leads.{Leads}
-use Rattle.exchange_core.specs.States.{state_of, peer_link}
-use Rattle.exchange_core.specs.Turns.{turns_deeds}
+use Rattle.endpoint_table.specs.Turns.{turns_deeds, turns_going}
+use Rattle.exchange_core.specs.States.{state_of}
 use Rattle.exchange_core.proofs.Ordered.{conns-ordered}
 use Rattle.exchange_core.proofs.Openings.{all-opened}
-use Rattle.exchange_core.proofs.TickBack.{turns-alike}
-use Rattle.exchange_core.proofs.TickDraft.{deeds-are, going-are, leads-next}
+use Rattle.exchange_core.proofs.TickDraft.{leads-next}
 use Rattle.exchange_core.proofs.TickLeads.{leads-none, leads-more}
 use Rattle.exchange_core.proofs.TickRoom.{few-deeds}
 use Rattle.exchange_core.proofs.TickSince.{few-exchanges}
-use Rattle.exchange_core.proofs.TickTimed.{are-timed}
 use Rattle.exchange_core.proofs.passing.draft_tick.Goals as goal
-
-pub draft_turns-requires-clause-alike : goal.draft_turns-requires-clause-alike
-draft_turns-requires-clause-alike g c =
-    turns-alike c.args.moment c.args.gone.now c.args.s.now.endpoints.items c.args.turns.now
-    c.requires.ready ∙ ap length (sym c.deref-2.ensures.value)
-
-pub draft_turns-requires-clause-timed : goal.draft_turns-requires-clause-timed
-draft_turns-requires-clause-timed g c =
-    let S : State = state_of c.args.s.now in
-    are-timed c.args.moment c.args.gone.now c.args.s.now.endpoints.items c.args.turns.now S refl
-    c.requires.sound.kept.kept c.requires.sound.drained c.requires.ready
 
 pub draft_turns-requires-clause-room : goal.draft_turns-requires-clause-room
 draft_turns-requires-clause-room g c =
@@ -46,10 +33,8 @@ draft_turns-requires-clause-room g c =
     let may : MayStep t S = record
     { kept = q.sound.kept.kept; unsealed = q.unsealed; later = q.later } in
     let few = few-deeds t S q.sound.kept may q.sound.drained q.due in
-    let count : length (turns_deeds (map peer_link c.deref-2.result.now) c.args.turns.now)
-    ≡ length (all_deeds t (is_gone t S) S.links) =
-    ap length (deeds-are t S c.args.gone.now c.args.s.now.endpoints.items c.deref-2.result.now
-    c.args.turns.now c.deref-2.ensures.value refl q.gone q.ready) in
+    let count : length (turns_deeds c.args.turns.now.items)
+    ≡ length (all_deeds t (is_gone t S) S.links) = ap length q.deeds in
     omega (arith, next, few, count)
 
 pub draft_timeouts-requires-clause-asked : goal.draft_timeouts-requires-clause-asked
@@ -78,8 +63,7 @@ draft_timeouts-requires-clause-room g c =
     let turned : Leads t S (entered_all t (Passes ∷ ds) S) c.draft_turns.new.draft =
     subst (λ (es : List Deed). Leads t S (entered_all t es (entered t Passes S))
     c.draft_turns.new.draft)
-    (deeds-are t S c.args.gone.now c.args.s.now.endpoints.items c.deref-2.result.now
-    c.args.turns.now c.deref-2.ensures.value refl q.gone q.ready)
+    q.deeds
     (c.in_ok-draft_turns.ensures.leads S (entered t Passes S) passed) in
     let next : c.draft_turns.new.draft.next ≡ length S.entries + length (Passes ∷ ds) =
     leads-next t S (Passes ∷ ds) c.draft_turns.new.draft turned in
@@ -103,8 +87,7 @@ returns-clause-leads g c =
     let turned : Leads t S (entered_all t (Passes ∷ ds) S) c.draft_turns.new.draft =
     subst (λ (es : List Deed). Leads t S (entered_all t es (entered t Passes S))
     c.draft_turns.new.draft)
-    (deeds-are t S c.args.gone.now c.args.s.now.endpoints.items c.deref-2.result.now
-    c.args.turns.now c.deref-2.ensures.value refl q.gone q.ready)
+    q.deeds
     (c.in_ok-draft_turns.ensures.leads S (entered t Passes S) passed) in
     subst (λ (es : List Exchange). Leads t S
     (fold (times_out t) (entered_all t (Passes ∷ ds) S) es) c.draft_timeouts.new.draft) q.over
@@ -119,9 +102,10 @@ returns-clause-going g c =
     ∙ ap (λ (d : DraftValue). d.next + 1) c.in_ok-draft.ensures
     ∙ ap (λ (k : ℕ). k + 1) c.len.ensures in
     c.in_ok-draft_turns.ensures.going
-    ∙ going-are t S c.args.gone.now c.args.s.now.endpoints.items c.deref-2.result.now
-    c.args.turns.now c.deref-2.ensures.value refl q.gone q.ready c.enter.new.self.next
-    (length S.entries + 1) c.args.still.now.exchanges next
+    ∙ (ap (λ (n : ℕ). sent_as (turns_going n c.args.turns.now.items) c.args.still.now.exchanges)
+    next
+    ∙ ap (λ (gs : List Going). sent_as gs c.args.still.now.exchanges)
+    (q.going (length S.entries + 1)))
 
 pub new-requires : goal.new-requires
 new-requires g c = rw (c.deref.ensures.value) (conns-ordered _ c.requires.sound.kept)

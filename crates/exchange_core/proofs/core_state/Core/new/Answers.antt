@@ -1,13 +1,11 @@
 use Rattle.std.proofs.Common.{List, map, ap, ◌∙◌}
 use Rattle.exchange_core.specs.declared.answer.Answer.{Answer}
-use Rattle.exchange_core.specs.declared.state.Endpoint.{Endpoint}
 use Rattle.exchange_core.specs.Answering.{given_of}
-use Rattle.exchange_core.specs.States.{peer_link}
 use Rattle.exchange_core.proofs.Sounding.{sound-start}
 use Rattle.exchange_core.proofs.core_state.Core.new.Goals as goal
 
 pub invariant_of-result : goal.invariant_of-result
 invariant_of-result g c =
     sound-start _ _ _ _ _ _ (c.make_room.ensures.same ∙ c.new-journal.ensures) c.new-2.ensures.items c.new-3.ensures
-    (ap (λ (xs : List Endpoint). map peer_link xs) c.new-4.ensures.items)
-    (ap (λ (xs : List (Answer g.row.R.Denot)). map given_of xs) c.new-5.ensures.items) c.in_ok-make_room.ensures.ok
+    c.in_ok-endpoints.ensures
+    (ap (λ (xs : List (Answer g.row.R.Denot)). map given_of xs) c.new-4.ensures.items) c.in_ok-make_room.ensures.ok
