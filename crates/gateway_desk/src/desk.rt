@@ -1,18 +1,19 @@
 //! The desk: a shop that sessions share under one lock.
 
-ghost use Rattle.std.specs.Prelude.{◌≡◌, ◌+◌, ◌<◌, ◌++◌, ◌∷◌, [], IfOk, IfSome, IsTrue, IsFalse, OnErr};
+ghost use Rattle.std.specs.Prelude.{◌≡◌, ◌+◌, ◌≤◌, ◌<◌, ◌++◌, ◌∷◌, [], length, take, IfOk, IfSome, IsTrue, IsFalse, OnErr};
 ghost use Rattle.std.specs.Arc.{arc_value};
 ghost use Rattle.exchange_core.specs.Answering.{given_of};
 ghost use Rattle.gateway_desk.specs.Lines.{Slip, made, got};
 
 use crate::bells::Bells;
 use crate::clock::Clock;
-use crate::desk_state::{ClosedPass, DeskState};
-use crate::pass::Pass;
+use crate::desk_state::{AllSent, ClosedPass, ClosedStub, DeskState, Heard, Ticked};
+use crate::pass::{Pass, Stub};
 use crate::receipt::Receipt;
 use crate::shop::Shop;
+use crate::wire::{Inbound, Unsent};
 use ask_model::Mapped;
-use exchange_core::{Answer, AskFault, Datagram, OpenFault, Ticket};
+use exchange_core::{Answer, AskFault, OpenFault, Ticket};
 use http_edge::Memory;
 use std::alloc::Global;
 use std::sync::ledger::Ledger;
@@ -62,12 +63,7 @@ impl<R: Relation, C: Clock, L: Ledger> LockedDesk<R, C, L> {
     /// A desk over a shop and a clock.
     pub fn new(alloc: Global, shop: Shop<R, L>, clock: C) -> Result<LockedDesk<R, C, L>, Memory> {
         Ok(LockedDesk {
-            state: Mutex::new(DeskState {
-                shop,
-                clock,
-                shut: false,
-                rests_until: 0,
-            }),
+            state: Mutex::new(DeskState::new(shop, clock)),
             bells: Bells::new(alloc)?,
             due: Condvar::new(),
         })
@@ -80,13 +76,7 @@ impl<R: Relation, C: Clock, L: Ledger> LockedDesk<R, C, L> {
             bells: _,
             due: _,
         } = self;
-        let DeskState {
-            shop,
-            clock: _,
-            shut: _,
-            rests_until: _,
-        } = state.into_inner();
-        shop
+        state.into_inner().into_shop()
     }
 
     /// Opens a connection. A desk that was shut answers that its journal is sealed.
@@ -94,11 +84,7 @@ impl<R: Relation, C: Clock, L: Ledger> LockedDesk<R, C, L> {
         ensures { IfOk result (λ p. p.lines ≡ []) }
     {
         let mut guard = self.state.lock(rt);
-        let state = &mut *guard;
-        if state.shut {
-            return Err(OpenFault::Sealed);
-        }
-        state.open()
+        guard.open()
     }
 
     /// Asks on the connection of a pass, and notes the ask there.
@@ -138,7 +124,7 @@ impl<R: Relation, C: Clock, L: Ledger> LockedDesk<R, C, L> {
             if let Some(answer) = state.collect(&ticket) {
                 return Some(receipt_of(ticket, answer));
             }
-            if state.shut {
+            if state.is_shut() {
                 return None;
             }
             guard = bell.wait(rt, guard);
@@ -165,32 +151,39 @@ impl<R: Relation, C: Clock, L: Ledger> LockedDesk<R, C, L> {
         }
     }
 
-    /// Takes a datagram that came from this peer.
-    pub fn heard<W: Wait>(&self, rt: &W, peer: Peer, bytes: &[u8]) -> Result<(), Memory> {
-        let first = {
+    /// Takes a datagram that came in, which lies at the front of this buffer.
+    pub fn heard<'a, W: Wait>(
+        &self,
+        rt: &W,
+        inbound: Inbound,
+        buffer: &'a [u8],
+    ) -> Result<Heard<'a>, Memory>
+        requires { inbound.count ≤ length buffer.now }
+        ensures { IfOk result (λ h. (h.peer ≡ inbound.peer)
+            × (h.bytes.now ≡ take inbound.count buffer.now)) }
+    {
+        let (heard, first) = {
             let mut guard = self.state.lock(rt);
             let state = &mut *guard;
-            let from = state.shop.journal().len();
-            state.heard(peer, bytes)?;
+            let from = state.journal().len();
+            let heard = state.heard(inbound, buffer)?;
             if state.is_due_sooner() {
                 self.due.notify_one();
             }
-            self.bells.ring(state.shop.journal(), from)
+            (heard, self.bells.ring(state.journal(), from))
         };
         self.bells.wake(first);
-        Ok(())
+        Ok(heard)
     }
 
-    /// Lets time go on. False where the clock failed.
-    pub fn tick<W: Wait>(&self, rt: &W) -> Result<bool, Memory> {
-        let (first, ticked) = {
+    /// Lets time go on.
+    pub fn tick<W: Wait>(&self, rt: &W) -> Result<Ticked, Memory> {
+        let (ticked, first) = {
             let mut guard = self.state.lock(rt);
             let state = &mut *guard;
-            let from = state.shop.journal().len();
-            let faults = state.clock.faults();
-            state.tick()?;
-            let first = self.bells.ring(state.shop.journal(), from);
-            (first, state.clock.faults() == faults)
+            let from = state.journal().len();
+            let ticked = state.tick()?;
+            (ticked, self.bells.ring(state.journal(), from))
         };
         self.bells.wake(first);
         Ok(ticked)
@@ -203,7 +196,7 @@ impl<R: Relation, C: Clock, L: Ledger> LockedDesk<R, C, L> {
         let least = if was_refused { PAUSE } else { 0 };
         let mut guard = self.state.lock(rt);
         let state = &mut *guard;
-        if state.shut {
+        if state.is_shut() {
             return false;
         }
         match state.rest(least) {
@@ -220,10 +213,9 @@ impl<R: Relation, C: Clock, L: Ledger> LockedDesk<R, C, L> {
     }
 
     /// Takes the first datagram that isn't sent yet.
-    pub fn take_send<W: Wait>(&self, rt: &W) -> Option<Datagram> {
+    pub fn take_send<W: Wait>(&self, rt: &W) -> Result<Unsent, AllSent> {
         let mut guard = self.state.lock(rt);
-        let state = &mut *guard;
-        state.shop.take_send()
+        guard.take_send()
     }
 
     /// Closes the connection of a pass, where it is open.
@@ -233,23 +225,20 @@ impl<R: Relation, C: Clock, L: Ledger> LockedDesk<R, C, L> {
         ensures amount { result.amount ≡ pass.amount }
     {
         let mut guard = self.state.lock(rt);
-        let state = &mut *guard;
-        state.close(pass)
+        guard.close(pass)
     }
 
-    /// Closes the connection of a pass that is lost, since no session could be started for it.
-    /// False where it isn't open.
-    pub fn close_lost<W: Wait>(&self, rt: &W, conn: u32) -> bool {
+    /// Closes the connection of a pass that is lost, since no session could be started for it,
+    /// where it is open.
+    pub fn close_lost<W: Wait>(&self, rt: &W, stub: Stub) -> ClosedStub {
         let mut guard = self.state.lock(rt);
-        let state = &mut *guard;
-        state.close_of(conn)
+        guard.close_lost(stub)
     }
 
     /// Lets sessions wait no more, for good.
     pub fn shut<W: Wait>(&self, rt: &W) {
         let mut guard = self.state.lock(rt);
-        let state = &mut *guard;
-        state.shut = true;
+        guard.shut();
         self.bells.ring_all();
         self.due.notify_all();
     }
@@ -257,6 +246,6 @@ impl<R: Relation, C: Clock, L: Ledger> LockedDesk<R, C, L> {
     /// Whether the desk was shut.
     pub fn is_shut<W: Wait>(&self, rt: &W) -> bool {
         let guard = self.state.lock(rt);
-        guard.shut
+        guard.is_shut()
     }
 }

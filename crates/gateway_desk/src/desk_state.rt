@@ -1,23 +1,26 @@
 //! What lies under the lock of a desk.
 
-ghost use Rattle.std.specs.Prelude.{◌≡◌, ◌⊎◌, ◌<◌, ◌++◌, ◌∷◌, [], Ok, Err, IfOk, IfErr, OnOk, OnErr, IsTrue, IsFalse, option_map};
+ghost use Rattle.std.specs.Prelude.{◌≡◌, ◌⊎◌, ◌≤◌, ◌<◌, ◌++◌, ◌∷◌, [], length, take, Ok, Err, IfOk, IfErr, OnOk, OnErr, MatchResult, Some, None, option_map, true, false};
 ghost use Rattle.std.specs.Arc.{arc_value};
 ghost use Rattle.journal_book.specs.Views.{ask_of};
 ghost use Rattle.exchange_model.specs.Sealing.{hears_in_room, ticks_in_room};
 ghost use Rattle.exchange_core.specs.Answering.{given_of};
 ghost use Rattle.exchange_core.specs.Calls.{now, IsOpened, IsAsked, IsClosed, IsUnknown};
 ghost use Rattle.exchange_core.specs.Due.{next_tick, IsNextTick};
-ghost use Rattle.exchange_core.specs.Taking.{IsTaken};
+ghost use Rattle.exchange_core.specs.Taking.{IsTaken, IsSent};
 ghost use Rattle.exchange_core.specs.Values.{stepped};
 ghost use Rattle.gateway_desk.specs.Lines.{made};
 ghost use Rattle.gateway_desk.specs.Resting.{rest_time, rest_until, is_sooner};
+ghost use Rattle.gateway_desk.specs.Sending.{AreUnsent};
 
 use crate::clock::Clock;
-use crate::pass::Pass;
+use crate::pass::{Pass, Stub};
 use crate::shop::Shop;
+use crate::wire::{Inbound, Unsent};
 use ask_model::Mapped;
 use exchange_core::{Answer, AskFault, OpenFault, Ticket};
 use http_edge::Memory;
+use journal_book::Journal;
 use std::marker::Model;
 use std::sync::Arc;
 use std::sync::ledger::Ledger;
@@ -27,12 +30,12 @@ use uri_map::Peer;
 /// A shop with its clock: each step is made at the clock's moment, with the clock's word.
 #[derive(Drop)]
 pub struct DeskState<R: Relation, C: Clock, L: Ledger> {
-    pub shop: Shop<R, L>,
-    pub clock: C,
+    shop: Shop<R, L>,
+    clock: C,
     /// sessions wait no more
-    pub shut: bool,
+    shut: bool,
     /// until when the one who lets time go on rests, in milliseconds
-    pub rests_until: u64,
+    rests_until: u64,
 }
 
 /// What is left of a pass whose connection was closed. Closing it makes one, and nothing else.
@@ -60,8 +63,86 @@ impl<R: Relation, L: Ledger> ClosedPass<R, L> {
     }
 }
 
+/// The mark of a step under the lock: what bears one is made by that step, and by nothing else.
+#[derive(Drop)]
+struct Mark;
+
+/// A datagram that was heard.
+#[derive(Drop)]
+pub struct Heard<'a> {
+    pub peer: Peer,
+    pub bytes: &'a [u8],
+    mark: Mark,
+}
+
+/// Time went on.
+#[derive(Drop)]
+pub struct Ticked {
+    pub clock_failed: bool,
+    mark: Mark,
+}
+
+/// No datagram waits to be sent.
+#[derive(Drop)]
+pub struct AllSent {
+    mark: Mark,
+}
+
+/// The connection of a pass that is lost was closed.
+#[derive(Drop)]
+pub struct ClosedStub {
+    mark: Mark,
+}
+
 impl<R: Relation, C: Clock, L: Ledger> DeskState<R, C, L> {
-    /// Opens a connection.
+    /// A shop, whose sessions wait.
+    pub fn new(shop: Shop<R, L>, clock: C) -> DeskState<R, C, L>
+        ensures { result.shop ≡ shop }
+    {
+        DeskState {
+            shop,
+            clock,
+            shut: false,
+            rests_until: 0,
+        }
+    }
+
+    /// The shop.
+    pub fn into_shop(self) -> Shop<R, L>
+        ensures { result ≡ self.shop }
+    {
+        let DeskState {
+            shop,
+            clock: _,
+            shut: _,
+            rests_until: _,
+        } = self;
+        shop
+    }
+
+    /// What happened.
+    pub fn journal(&self) -> &Journal<R>
+        ensures { result.now.entries ≡ self.now.shop.core.state.entries }
+    {
+        self.shop.journal()
+    }
+
+    /// Lets sessions wait no more.
+    pub fn shut(&mut self)
+        ensures shut { self.new.shut ≡ true }
+        ensures shop { self.new.shop ≡ self.old.shop }
+    {
+        self.shut = true;
+    }
+
+    /// Whether sessions wait no more.
+    pub fn is_shut(&self) -> bool
+        ensures { result ≡ self.now.shut }
+    {
+        self.shut
+    }
+
+    /// Opens a connection. Where sessions wait no more, the journal counts as sealed.
     pub fn open(&mut self) -> Result<Pass<R, L>, OpenFault>
         ensures opens { IfOk result (λ p. IsOpened (Ok p.conn)
             (now self.old.shop.core.state.moment (C.time self.new.clock))
@@ -70,8 +151,13 @@ impl<R: Relation, C: Clock, L: Ledger> DeskState<R, C, L> {
         ensures refused { IfErr result (λ fault. IsOpened (Err fault)
             (now self.old.shop.core.state.moment (C.time self.new.clock))
             self.old.shop.core self.new.shop.core
-            ⊎ (self.old.shop.left ≡ 0)) }
+            ⊎ ((self.old.shop.left ≡ 0) ⊎ (self.old.shut ≡ true))) }
+        ensures shut { self.old.shut ≡ true
+            → (result ≡ Err OpenFault.Sealed) × (self.new.shop ≡ self.old.shop) }
     {
+        if self.shut {
+            return Err(OpenFault::Sealed);
+        }
         let moment = self.clock.moment();
         self.shop.open(moment)
     }
@@ -103,26 +189,55 @@ impl<R: Relation, C: Clock, L: Ledger> DeskState<R, C, L> {
         self.shop.ask(moment, word, pass, mapped)
     }
 
-    /// Takes a datagram.
-    pub fn heard(&mut self, peer: Peer, bytes: &[u8]) -> Result<(), Memory>
+    /// Takes a datagram, which lies at the front of this buffer.
+    pub fn heard<'a>(&mut self, inbound: Inbound, buffer: &'a [u8]) -> Result<Heard<'a>, Memory>
+        requires { inbound.count ≤ length buffer.now }
+        ensures is { IfOk result (λ h. (h.peer ≡ inbound.peer)
+            × (h.bytes.now ≡ take inbound.count buffer.now)) }
         ensures heard { OnOk result (self.new.shop.core ≡ stepped (hears_in_room
-            (now self.old.shop.core.state.moment (C.time self.new.clock)) peer bytes.now
-            self.old.shop.core.state) self.old.shop.core) }
+            (now self.old.shop.core.state.moment (C.time self.new.clock)) inbound.peer
+            (take inbound.count buffer.now) self.old.shop.core.state) self.old.shop.core) }
         ensures memory { OnErr result (self.new.shop ≡ self.old.shop) }
     {
+        let (peer, bytes) = inbound.open(buffer);
         let moment = self.clock.moment();
-        self.shop.heard(moment, peer, bytes)
+        self.shop.heard(moment, peer, bytes)?;
+        Ok(Heard {
+            peer,
+            bytes,
+            mark: Mark,
+        })
     }
 
     /// Lets time go on.
-    pub fn tick(&mut self) -> Result<(), Memory>
+    pub fn tick(&mut self) -> Result<Ticked, Memory>
+        ensures clock { IfOk result (λ t. t.clock_failed ≡ false
+            → C.count self.new.clock ≡ C.count self.old.clock) }
         ensures ticks { OnOk result (self.new.shop.core ≡ stepped (ticks_in_room
             (now self.old.shop.core.state.moment (C.time self.new.clock))
             self.old.shop.core.state) self.old.shop.core) }
         ensures memory { OnErr result (self.new.shop ≡ self.old.shop) }
     {
+        let faults = self.clock.faults();
         let moment = self.clock.moment();
-        self.shop.tick(moment)
+        self.shop.tick(moment)?;
+        Ok(Ticked {
+            clock_failed: self.clock.faults() != faults,
+            mark: Mark,
+        })
+    }
+
+    /// Takes the first datagram that isn't sent yet.
+    pub fn take_send(&mut self) -> Result<Unsent, AllSent>
+        ensures sent { MatchResult result
+            (λ d. IsSent (Some d) self.old.shop.core self.new.shop.core)
+            (λ _. IsSent None self.old.shop.core self.new.shop.core) }
+        ensures unsent { AreUnsent self.old.shop.core.state.entries self.old.shop.core.unsent }
+    {
+        match self.shop.take_send() {
+            Some(datagram) => Ok(Unsent::new(datagram)),
+            None => Err(AllSent { mark: Mark }),
+        }
     }
 
     /// Closes the connection of a pass, where it is open.
@@ -135,20 +250,21 @@ impl<R: Relation, C: Clock, L: Ledger> DeskState<R, C, L> {
         ensures lines { result.lines ≡ pass.lines }
         ensures amount { result.amount ≡ pass.amount }
     {
-        self.close_of(pass.conn());
+        let moment = self.clock.moment();
+        self.shop.close(moment, pass.conn());
         ClosedPass { pass }
     }
 
-    /// Closes a connection. False where it isn't open.
-    pub fn close_of(&mut self, conn: u32) -> bool
-        ensures closed { IsTrue result → IsClosed
-            (now self.old.shop.core.state.moment (C.time self.new.clock)) conn
-            self.old.shop.core self.new.shop.core }
-        ensures unknown { IsFalse result
-            → (self.new.shop ≡ self.old.shop) × IsUnknown conn self.old.shop.core }
+    /// Closes the connection of a pass that is lost, where it is open.
+    pub fn close_lost(&mut self, stub: Stub) -> ClosedStub
+        ensures { IsClosed
+            (now self.old.shop.core.state.moment (C.time self.new.clock)) stub
+            self.old.shop.core self.new.shop.core
+            ⊎ ((self.new.shop ≡ self.old.shop) × IsUnknown stub self.old.shop.core) }
     {
         let moment = self.clock.moment();
-        self.shop.close(moment, conn)
+        self.shop.close(moment, stub.conn());
+        ClosedStub { mark: Mark }
     }
 
     /// Takes the answer to a ticket.

@@ -18,12 +18,14 @@ mod settling;
 mod shop;
 mod shown;
 mod standing;
+mod wire;
 
 pub use clock::Clock;
 pub use desk::LockedDesk;
-pub use desk_state::ClosedPass;
-pub use pass::{Note, Pass};
+pub use desk_state::{AllSent, ClosedPass, ClosedStub, Heard, Ticked};
+pub use pass::{Note, Pass, Stub};
 pub use receipt::Receipt;
 pub use report::{Report, SettleFault};
 pub use settling::settle;
 pub use shop::Shop;
+pub use wire::{Failed, Inbound, Outbound, Unsent, Wire};

@@ -61,6 +61,30 @@ impl<R: Relation, L: Ledger> Model for Pass<R, L> {
         × (p.places ≤ 2) × (vec_len p.notes + p.places ≤ vec_capacity p.notes) };
 }
 
+/// What closes the connection of a pass that is lost: a pass alone gives one, and of its own
+/// connection.
+#[derive(Drop)]
+pub struct Stub {
+    conn: u32,
+}
+
+impl Model for Stub {
+    ghost use Rattle.std.specs.Prelude.{ℕ};
+
+    ghost Value = { ℕ };
+
+    ghost view = { λ s. s.conn };
+}
+
+impl Stub {
+    /// The connection.
+    pub(crate) fn conn(&self) -> u32
+        ensures { result ≡ self.now }
+    {
+        self.conn
+    }
+}
+
 impl<R: Relation, L: Ledger> Pass<R, L> {
     ghost use Rattle.std.specs.Prelude.{map, count_by};
     ghost use Rattle.gateway_desk.specs.Lines.{line_of, is_made};
@@ -86,6 +110,13 @@ impl<R: Relation, L: Ledger> Pass<R, L> {
         ensures { result ≡ self.now.conn }
     {
         self.conn
+    }
+
+    /// What closes its connection, should the pass be lost.
+    pub fn stub(&self) -> Stub
+        ensures { result ≡ self.now.conn }
+    {
+        Stub { conn: self.conn }
     }
 
     /// Its notes, oldest first.

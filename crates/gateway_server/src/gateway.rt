@@ -180,13 +180,13 @@ fn start_session<
     shared: &Arc<Shared<W, L>>,
     pass: Pass<Profile, L>,
 ) -> bool {
-    let number = pass.conn();
+    let stub = pass.stub();
     let started = match Arc::try_clone(shared) {
         Ok(mine) => thread::spawn(&rt, move || mine.serve_client(&rt, alloc, stream, pass)).is_ok(),
         Err(_) => false,
     };
     if !started {
-        shared.desk.close_lost(&rt, number);
+        shared.desk.close_lost(&rt, stub);
     }
     started
 }

@@ -5,7 +5,7 @@ use gateway_desk::{LockedDesk, Pass};
 use gateway_system::{Client, DeviceSocket, SystemClock};
 use log::{Log, info, warn};
 use route_bank::{Profile, store_for};
-use sessions::{End, Open, serve};
+use sessions::{End, Gateway, Open, serve};
 use std::alloc::{AllocError, Global};
 use std::net::TcpStream;
 use std::random::RandomSource;
@@ -48,12 +48,12 @@ impl<W: Clock + RandomSource + Drop, L: Ledger> Shared<W, L> {
         stream: TcpStream,
         pass: Pass<Profile, L>,
     ) {
-        let number = pass.conn();
+        let (number, stub) = (pass.conn(), pass.stub());
         let mut client = Client::new(stream);
         let end = match self.serve_with_bank(rt, alloc, &mut client, pass) {
             Ok(end) => end,
             Err(AllocError) => {
-                self.desk.close_lost(rt, number);
+                self.desk.close_lost(rt, stub);
                 End::Memory
             }
         };
@@ -84,17 +84,14 @@ impl<W: Clock + RandomSource + Drop, L: Ledger> Shared<W, L> {
             store_for!(alloc, all, route);
         }
         let bank = Bank::new(all);
-        let done = serve(
-            rt,
+        let gateway = Gateway {
             alloc,
-            client,
-            &self.devices,
-            &self.desk,
-            &mut Open,
-            &self.settings,
-            &bank,
-            pass,
-        );
+            wire: &self.devices,
+            desk: &self.desk,
+            settings: &self.settings,
+            bank: &bank,
+        };
+        let done = serve(rt, &gateway, client, &mut Open, pass);
         Ok(done.end)
     }
 

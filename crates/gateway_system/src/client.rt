@@ -1,10 +1,10 @@
 //! The connection of a client.
 
-ghost use Rattle.std.specs.Prelude.{◌≡◌, ◌≤◌, [], length, take, IfOk, OnOk, OnErr};
+ghost use Rattle.std.specs.Prelude.{◌≡◌, ◌≤◌, ◌<◌, ◌∷◌, [], length, take, Ok, IfOk, OnOk, OnErr};
 ghost use Rattle.sessions.specs.Devices.{Rises, Grown};
 
 use sessions::{Failed, Stream};
-use std::io::{Read, Write};
+use std::io::{self, Read, Write};
 use std::net::{Shutdown, TcpStream};
 use std::rt::Clock;
 use std::time::{Duration, Instant};
@@ -24,6 +24,23 @@ impl Client {
     pub fn new(stream: TcpStream) -> Client {
         let _ = stream.set_nodelay(true);
         Client { stream, faults: 0 }
+    }
+
+    /// What a read of the socket tells: how many bytes came, which are none at the end, or that it
+    /// failed, which is counted.
+    fn told(&mut self, read: io::Result<usize>) -> Result<usize, Failed>
+        ensures told { IfOk read (λ n. result ≡ Ok n) }
+        ensures came { IfOk result (λ n. read ≡ Ok n) }
+        ensures ok { OnOk result (self.new.faults ≡ self.old.faults) }
+        ensures err { OnErr result (Rises self.old.faults self.new.faults) }
+    {
+        match read {
+            Ok(n) => Ok(n),
+            Err(_) => {
+                self.faults = self.faults.saturating_add(1);
+                Err(Failed)
+            }
+        }
     }
 
     /// Ends the connection so that the client still reads what was written: what it sends meanwhile
@@ -63,13 +80,8 @@ impl Stream for Client {
     }
 
     fn read(&mut self, buffer: &mut [u8]) -> Result<usize, Failed> {
-        match self.stream.read(buffer) {
-            Ok(n) => Ok(n),
-            Err(_) => {
-                self.faults = self.faults.saturating_add(1);
-                Err(Failed)
-            }
-        }
+        let read = self.stream.read(buffer);
+        self.told(read)
     }
 
     fn write(&mut self, bytes: &[u8]) -> Result<(), Failed> {

@@ -1,8 +1,9 @@
 //! The UDP socket towards the devices.
 
-ghost use Rattle.std.specs.Prelude.{◌≤◌, ◌≡◌, length, IfOk, IfSome};
+ghost use Rattle.std.specs.Prelude.{◌≤◌, ◌≡◌, ◌<◌, length, None, IfOk, IfSome, OnErr, MatchOption, MatchResult};
+ghost use Rattle.std.specs.Net.Socket.{socket_ip, socket_port};
 
-use sessions::{Failed, Wire};
+use gateway_desk::{Failed, Inbound, Outbound, Wire};
 use std::io::{self, ErrorKind};
 use std::net::{Net, SocketAddr, UdpSocket};
 use std::time::Duration;
@@ -33,23 +34,49 @@ impl DeviceSocket {
 }
 
 impl Wire for DeviceSocket {
-    fn send(&self, peer: Peer, bytes: &[u8]) {
-        let _ = self
-            .socket
-            .send_to(bytes, SocketAddr::new(peer.address, peer.port));
+    type Sent = ();
+
+    fn send(&self, datagram: Outbound<'_>) {
+        let (bytes, to) = written(&datagram);
+        let _ = self.socket.send_to(bytes, to);
     }
 
-    fn receive(&self, buffer: &mut [u8]) -> Result<Option<(usize, Peer)>, Failed> {
-        match self.socket.recv_from(buffer) {
-            Ok((count, from)) => Ok(Some((count, peer_at(from)))),
-            Err(error) if is_passing(error.kind()) => Ok(None),
-            Err(_) => Err(Failed),
-        }
+    fn receive(&self, buffer: &mut [u8]) -> Result<Option<Inbound>, Failed> {
+        let received = self.socket.recv_from(buffer);
+        told(received)
+    }
+}
+
+/// What goes into the socket for a datagram: its bytes, and the address of its peer.
+fn written<'a>(datagram: &Outbound<'a>) -> (&'a [u8], SocketAddr)
+    ensures bytes { result.0.now ≡ datagram.now.bytes.now }
+    ensures ip { socket_ip result.1 ≡ datagram.now.peer.address }
+    ensures port { socket_port result.1 ≡ datagram.now.peer.port }
+{
+    let peer = datagram.peer;
+    (datagram.bytes, SocketAddr::new(peer.address, peer.port))
+}
+
+/// What a receive of the socket tells: a datagram that came, with its length and its sender; that
+/// none did; or that no more come.
+fn told(received: io::Result<(usize, SocketAddr)>) -> Result<Option<Inbound>, Failed>
+    ensures came { IfOk received (λ r. MatchResult result
+        (λ o. MatchOption o ⊥ (λ i. (i.count ≡ r.0) × (i.peer.address ≡ socket_ip r.1)
+        × (i.peer.port ≡ socket_port r.1))) (λ _. ⊥)) }
+    ensures none { OnErr received (IfOk result (λ o. o ≡ None)) }
+{
+    match received {
+        Ok((count, from)) => Ok(Some(Inbound::new(peer_at(from), count))),
+        Err(error) if is_passing(error.kind()) => Ok(None),
+        Err(_) => Err(Failed),
     }
 }
 
 /// Who sends from this address.
-fn peer_at(from: SocketAddr) -> Peer {
+fn peer_at(from: SocketAddr) -> Peer
+    ensures address { result.address ≡ socket_ip from }
+    ensures port { result.port ≡ socket_port from }
+{
     Peer {
         address: from.ip(),
         port: from.port(),

@@ -3,11 +3,7 @@
 ghost use Rattle.std.specs.Prelude.{ℕ, ◌≡◌, ◌≤◌, ◌<◌, ◌∷◌, [], length, take, IfOk, IfSome, OnOk, OnErr, IsTrue, IsFalse};
 ghost use Rattle.sessions.specs.Devices.{Rises, Grown, GrownPartly};
 
-use uri_map::Peer;
-
-/// A device failed.
-#[derive(Clone, Copy, Debug, PartialEq, Eq)]
-pub struct Failed;
+use gateway_desk::Failed;
 
 /// A client's connection.
 pub trait Stream {
@@ -45,18 +41,6 @@ pub trait Stream {
             × (count self.new ≡ count self.old)) }
         ensures err { OnErr result (GrownPartly (written self.old) (written self.new) bytes.now
             × Rises (count self.old) (count self.new)) };
-}
-
-/// Where datagrams go and come from.
-pub trait Wire {
-    /// Sends a datagram. One that can't be sent is lost.
-    fn send(&self, peer: Peer, bytes: &[u8]);
-
-    /// Puts the datagram that comes in a short wait into the buffer, and answers how long it is and
-    /// who sent it.
-    fn receive(&self, buffer: &mut [u8]) -> Result<Option<(usize, Peer)>, Failed>
-        ensures fits { IfOk result (λ o. IfSome o (λ r. r.0 ≤ length buffer.new)) }
-        ensures length { length buffer.new ≡ length buffer.old };
 }
 
 /// Where a session may be held.

@@ -11,6 +11,7 @@ mod reading;
 mod session;
 mod writing;
 
-pub use devices::{Failed, Gate, Open, Point, Stream, Wire};
+pub use devices::{Gate, Open, Point, Stream};
+pub use gateway_desk::{Failed, Inbound, Outbound, Wire};
 pub use loops::{tick_loop, udp_loop};
-pub use session::{Done, End, serve};
+pub use session::{Done, End, Gateway, serve};

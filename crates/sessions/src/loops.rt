@@ -1,14 +1,14 @@
 //! The loops beside the sessions.
 
-use crate::devices::Wire;
-use gateway_desk::{Clock, LockedDesk};
+ghost use Rattle.std.specs.Prelude.{◌<◌, length};
+ghost use Rattle.limits.specs.declared.TheConstants.{MAX_DATAGRAM_LEN};
+
+use gateway_desk::{Clock, LockedDesk, Wire};
+use limits::MAX_DATAGRAM_LEN;
 use std::alloc::Global;
 use std::sync::Wait;
 use std::sync::ledger::Ledger;
 use transformers::Relation;
-
-/// One byte more than the longest datagram that is taken.
-const LONGEST: usize = 2049;
 
 /// Sends what waits to be sent. Nothing is sent under the lock.
 pub fn send_due<R: Relation, C: Clock, L: Ledger, N: Wire, W: Wait>(
@@ -17,10 +17,12 @@ pub fn send_due<R: Relation, C: Clock, L: Ledger, N: Wire, W: Wait>(
     desk: &LockedDesk<R, C, L>,
 ) {
     for _ in rt.forever() {
-        let Some(datagram) = desk.take_send(rt) else {
-            return;
-        };
-        wire.send(datagram.peer, datagram.bytes.as_slice());
+        match desk.take_send(rt) {
+            Ok(datagram) => {
+                datagram.send(wire);
+            }
+            Err(_) => return,
+        }
     }
 }
 
@@ -33,22 +35,36 @@ pub fn udp_loop<R: Relation, C: Clock, L: Ledger, N: Wire, W: Wait>(
     desk: &LockedDesk<R, C, L>,
     turns: u64,
 ) {
-    if let Ok(mut buffer) = vec![in alloc; 0u8; LONGEST] {
-        for _ in 0..turns {
-            if desk.is_shut(rt) {
-                break;
-            }
-            match wire.receive(&mut buffer) {
-                Ok(Some((n, peer))) => {
-                    let _ = desk.heard(rt, peer, &buffer[..n]);
-                    send_due(rt, wire, desk);
-                }
-                Ok(None) => {}
-                Err(_) => break,
-            }
-        }
+    if let Ok(mut buffer) = vec![in alloc; 0u8; MAX_DATAGRAM_LEN + 1] {
+        hear_all(rt, wire, desk, &mut buffer, turns);
     }
     desk.shut(rt);
+}
+
+/// The turns of the UDP loop, with a buffer for one datagram. They end where the desk was shut.
+fn hear_all<R: Relation, C: Clock, L: Ledger, N: Wire, W: Wait>(
+    rt: &W,
+    wire: &N,
+    desk: &LockedDesk<R, C, L>,
+    buffer: &mut [u8],
+    turns: u64,
+)
+    requires { MAX_DATAGRAM_LEN < length buffer.old }
+{
+    for _ in 0..turns {
+        if desk.is_shut(rt) {
+            return;
+        }
+        match wire.receive(buffer) {
+            Ok(Some(inbound)) => {
+                // a datagram that memory was refused for is lost, as any may be on its way
+                let _ = desk.heard(rt, inbound, buffer);
+                send_due(rt, wire, desk);
+            }
+            Ok(None) => {}
+            Err(_) => return,
+        }
+    }
 }
 
 /// Lets time go on, in so many turns or until the clock fails. Each turn does what is due, and
@@ -61,12 +77,13 @@ pub fn tick_loop<R: Relation, C: Clock, L: Ledger, N: Wire, W: Wait + std::rt::C
     turns: u64,
 ) {
     for _ in 0..turns {
-        let ticked = desk.tick(rt);
-        if let Ok(false) = ticked {
-            break;
-        }
+        let was_refused = match desk.tick(rt) {
+            Ok(ticked) if ticked.clock_failed => break,
+            Ok(_) => false,
+            Err(_) => true,
+        };
         send_due(rt, wire, desk);
-        if !desk.rest(rt, ticked.is_err()) {
+        if !desk.rest(rt, was_refused) {
             break;
         }
     }

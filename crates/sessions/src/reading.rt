@@ -5,7 +5,8 @@ ghost use Rattle.http_edge.specs.Edges.{Stands, is_told, unread_len};
 ghost use Rattle.sessions.specs.Devices.{Rises, Grown};
 ghost use Rattle.sessions.specs.Steps.{TakesRead};
 
-use crate::devices::{Failed, Stream};
+use crate::devices::Stream;
+use gateway_desk::Failed;
 use http_edge::{Edge, Memory};
 use std::alloc::Global;
 

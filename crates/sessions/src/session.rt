@@ -10,13 +10,13 @@ ghost use Rattle.sessions.specs.Devices.{Rises, Grown};
 ghost use Rattle.sessions.specs.Serving.{Serves};
 ghost use Rattle.sessions.specs.Steps.{TakesRead, TellsToGoOn, EndsReading, TakesTurn, CutsTurn};
 
-use crate::devices::{Gate, Point, Stream, Wire};
+use crate::devices::{Gate, Point, Stream};
 use crate::loops::send_due;
 use crate::reading::Reading;
 use crate::writing::{bytes_of, write_continue};
 use ask_model::Settings;
 use exchange_core::AskFault;
-use gateway_desk::{Clock, ClosedPass, LockedDesk, Pass};
+use gateway_desk::{Clock, ClosedPass, LockedDesk, Pass, Wire};
 use http_edge::Incoming;
 use http_mapping::map_request;
 use std::alloc::Global;
@@ -65,23 +65,33 @@ pub struct Done<R: Relation, L: Ledger> {
     pub end: End,
 }
 
+/// What a session serves its client by.
+#[derive(Drop)]
+pub struct Gateway<'a, R: Relation, C: Clock, L: Ledger, N: Wire> {
+    pub alloc: Global,
+    /// where datagrams go out
+    pub wire: &'a N,
+    pub desk: &'a LockedDesk<R, C, L>,
+    /// by which requests are mapped
+    pub settings: &'a Arc<Settings>,
+    /// the transformers of the routes there
+    pub bank: &'a Bank<R>,
+}
+
 /// Serves a connection until it ends: reads requests, asks each of them as soon as the one before
 /// is answered, and writes the answers. What an ask sends goes out at once. A session that is
 /// finished has asked all that came.
 pub fn serve<R: Relation, C: Clock, L: Ledger, S: Stream, N: Wire, G: Gate, W: Wait>(
     rt: &W,
-    alloc: Global,
+    gateway: &Gateway<'_, R, C, L, N>,
     stream: &mut S,
-    wire: &N,
-    desk: &LockedDesk<R, C, L>,
     gate: &mut G,
-    settings: &Arc<Settings>,
-    bank: &Bank<R>,
     pass: Pass<R, L>,
 ) -> Done<R, L>
-    requires suits { Suits R.holds R.takes (rules_of (arc_value settings.now)).routes bank.now }
-    ensures serves { Serves R.holds R.takes (rules_of (arc_value settings.now)) result.end
-        pass.lines result.pass.lines (S.gave stream.old) (S.gave stream.new)
+    requires suits { Suits R.holds R.takes (rules_of (arc_value gateway.now.settings.now)).routes
+        gateway.now.bank.now }
+    ensures serves { Serves R.holds R.takes (rules_of (arc_value gateway.now.settings.now))
+        result.end pass.lines result.pass.lines (S.gave stream.old) (S.gave stream.new)
         (S.written stream.old) (S.written stream.new) }
     ensures read_fault { result.end ≡ End.ReadFault
         → Rises (S.count stream.old) (S.count stream.new) }
@@ -90,11 +100,9 @@ pub fn serve<R: Relation, C: Clock, L: Ledger, S: Stream, N: Wire, G: Gate, W: W
     ensures held { result.end ≡ End.Held → Rises (G.nays gate.old) (G.nays gate.new) }
 {
     let mut pass = pass;
-    let end = talk(
-        rt, alloc, stream, wire, desk, gate, settings, bank, &mut pass,
-    );
+    let end = talk(rt, gateway, stream, gate, &mut pass);
     Done {
-        pass: desk.close(rt, pass),
+        pass: gateway.desk.close(rt, pass),
         end,
     }
 }
@@ -102,17 +110,14 @@ pub fn serve<R: Relation, C: Clock, L: Ledger, S: Stream, N: Wire, G: Gate, W: W
 /// Reads, asks, waits and writes by turns.
 fn talk<R: Relation, C: Clock, L: Ledger, S: Stream, N: Wire, G: Gate, W: Wait>(
     rt: &W,
-    alloc: Global,
+    gateway: &Gateway<'_, R, C, L, N>,
     stream: &mut S,
-    wire: &N,
-    desk: &LockedDesk<R, C, L>,
     gate: &mut G,
-    settings: &Arc<Settings>,
-    bank: &Bank<R>,
     pass: &mut Pass<R, L>,
 ) -> End
-    requires suits { Suits R.holds R.takes (rules_of (arc_value settings.now)).routes bank.now }
-    ensures serves { Serves R.holds R.takes (rules_of (arc_value settings.now)) result
+    requires suits { Suits R.holds R.takes (rules_of (arc_value gateway.now.settings.now)).routes
+        gateway.now.bank.now }
+    ensures serves { Serves R.holds R.takes (rules_of (arc_value gateway.now.settings.now)) result
         pass.old.lines pass.new.lines (S.gave stream.old) (S.gave stream.new)
         (S.written stream.old) (S.written stream.new) }
     ensures read_fault { result ≡ End.ReadFault → Rises (S.count stream.old) (S.count stream.new) }
@@ -120,7 +125,7 @@ fn talk<R: Relation, C: Clock, L: Ledger, S: Stream, N: Wire, G: Gate, W: Wait>(
         → Rises (S.count stream.old) (S.count stream.new) }
     ensures held { result ≡ End.Held → Rises (G.nays gate.old) (G.nays gate.new) }
 {
-    let Ok(mut reading) = Reading::new(alloc) else {
+    let Ok(mut reading) = Reading::new(gateway.alloc) else {
         return End::Memory;
     };
     for _ in rt.forever() {
@@ -128,9 +133,7 @@ fn talk<R: Relation, C: Clock, L: Ledger, S: Stream, N: Wire, G: Gate, W: Wait>(
             Err(_) => return End::Memory,
             Ok(Some(incoming)) => {
                 let last = is_last(&incoming);
-                if let Some(end) = turn(
-                    rt, alloc, stream, wire, desk, gate, settings, bank, pass, incoming,
-                ) {
+                if let Some(end) = turn(rt, gateway, stream, gate, pass, incoming) {
                     return end;
                 }
                 if last {
@@ -191,23 +194,20 @@ fn read_on<S: Stream>(stream: &mut S, reading: &mut Reading) -> Option<End>
 /// Serves one request.
 fn turn<R: Relation, C: Clock, L: Ledger, S: Stream, N: Wire, G: Gate, W: Wait>(
     rt: &W,
-    alloc: Global,
+    gateway: &Gateway<'_, R, C, L, N>,
     stream: &mut S,
-    wire: &N,
-    desk: &LockedDesk<R, C, L>,
     gate: &mut G,
-    settings: &Arc<Settings>,
-    bank: &Bank<R>,
     pass: &mut Pass<R, L>,
     incoming: Incoming,
 ) -> Option<End>
-    requires suits { Suits R.holds R.takes (rules_of (arc_value settings.now)).routes bank.now }
+    requires suits { Suits R.holds R.takes (rules_of (arc_value gateway.now.settings.now)).routes
+        gateway.now.bank.now }
     ensures answered { result ≡ None
-        → TakesTurn R.holds R.takes (rules_of (arc_value settings.now)) (item incoming)
-        pass.old.lines pass.new.lines (S.written stream.old) (S.written stream.new) }
+        → TakesTurn R.holds R.takes (rules_of (arc_value gateway.now.settings.now))
+        (item incoming) pass.old.lines pass.new.lines (S.written stream.old) (S.written stream.new) }
     ensures cut { IfSome result (λ end.
-        CutsTurn R.holds R.takes (rules_of (arc_value settings.now)) end (item incoming)
-        pass.old.lines pass.new.lines (S.written stream.old) (S.written stream.new)) }
+        CutsTurn R.holds R.takes (rules_of (arc_value gateway.now.settings.now)) end
+        (item incoming) pass.old.lines pass.new.lines (S.written stream.old) (S.written stream.new)) }
     ensures write_fault { result ≡ Some End.WriteFault
         → Rises (S.count stream.old) (S.count stream.new) }
     ensures held { result ≡ Some End.Held → Rises (G.nays gate.old) (G.nays gate.new) }
@@ -216,26 +216,26 @@ fn turn<R: Relation, C: Clock, L: Ledger, S: Stream, N: Wire, G: Gate, W: Wait>(
     ensures passed { result ≡ None → G.nays gate.new ≡ G.nays gate.old }
     ensures quiet { Grown (S.gave stream.old) (S.gave stream.new) [] }
 {
-    let Ok(mapped) = map_request(alloc, settings, bank, incoming) else {
+    let Ok(mapped) = map_request(gateway.alloc, gateway.settings, gateway.bank, incoming) else {
         return Some(End::Memory);
     };
-    let Ok(mapped) = Arc::new(alloc, mapped) else {
+    let Ok(mapped) = Arc::new(gateway.alloc, mapped) else {
         return Some(End::Memory);
     };
-    let ticket = match desk.ask(rt, pass, mapped) {
+    let ticket = match gateway.desk.ask(rt, pass, mapped) {
         Ok(ticket) => ticket,
         Err(AskFault::Memory) => return Some(End::Memory),
         Err(_) => return Some(End::Sealed),
     };
     let number = ticket.number;
-    send_due(rt, wire, desk);
+    send_due(rt, gateway.wire, gateway.desk);
     if !gate.pass(Point::Asked, number) {
         return Some(End::Held);
     }
-    let Some(receipt) = desk.answer(rt, ticket) else {
+    let Some(receipt) = gateway.desk.answer(rt, ticket) else {
         return Some(End::Closed);
     };
-    let bytes = bytes_of(alloc, bank, &receipt.answer);
+    let bytes = bytes_of(gateway.alloc, gateway.bank, &receipt.answer);
     pass.keep(receipt);
     if !gate.pass(Point::Answered, number) {
         return Some(End::Held);

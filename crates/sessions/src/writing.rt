@@ -8,8 +8,9 @@ ghost use Rattle.exchange_core.specs.Answering.{given_of};
 ghost use Rattle.sessions.specs.Devices.{Rises, Grown, GrownPartly};
 ghost use Rattle.sessions.specs.Telling.{SaysAnswer, continue_text};
 
-use crate::devices::{Failed, Stream};
+use crate::devices::Stream;
 use exchange_core::Answer;
+use gateway_desk::Failed;
 use http_edge::{Memory, answer_bytes};
 use http_mapping::render;
 use std::alloc::Global;

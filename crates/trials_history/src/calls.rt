@@ -1,10 +1,11 @@
 //! Calls of a core that pass on nothing of what it promises: a trial over them is proved in less time.
 
 use crate::sample::{Nothing, light, server, shared, too_large};
-use ask_model::Cause;
+use ask_model::{Cause, Mapped};
 use exchange_core::{Answer, AskFault, Core, OpenFault, Outcome, Ticket};
 use journal_book::Event;
 use std::alloc::Global;
+use std::sync::Arc;
 
 pub fn new_core(alloc: Global) -> Option<Core<Nothing>> {
     Core::new(alloc).ok()
@@ -33,6 +34,15 @@ pub fn ask(
 ) -> Result<Ticket<Nothing>, AskFault> {
     let mapped = shared(alloc, light(alloc)?)?;
     core.ask(moment, word, conn, mapped)
+}
+
+/// Asks this.
+pub fn ask_for(
+    core: &mut Core<Nothing>,
+    conn: u32,
+    mapped: Arc<Mapped<Nothing>>,
+) -> Result<Ticket<Nothing>, AskFault> {
+    core.ask(0, 0, conn, mapped)
 }
 
 /// Asks what is refused for its size.

@@ -17,4 +17,6 @@ mod entries;
 #[cfg(test)]
 mod findings;
 #[cfg(test)]
+mod rooms;
+#[cfg(test)]
 mod sample;

@@ -68,6 +68,19 @@ pub fn light(alloc: Global) -> Result<Mapped<Nothing>, AllocError> {
     mapped(alloc, Incoming::Request(request))
 }
 
+/// A request of so many bytes, at least 5, which is refused: its target is no path of the proxy's.
+pub fn sized(alloc: Global, size: usize) -> Result<Mapped<Nothing>, AllocError> {
+    let request = Request {
+        method: Vec::from_slice(alloc, b"POST")?,
+        target: Vec::from_slice(alloc, b"/")?,
+        version: Version::Http11,
+        fields: HeaderMap::new(alloc),
+        body: vec![in alloc; b'x'; size.saturating_sub(5)]?,
+        close: false,
+    };
+    mapped(alloc, Incoming::Request(request))
+}
+
 /// A request that is refused for its size.
 pub fn too_large(alloc: Global) -> Result<Mapped<Nothing>, AllocError> {
     mapped(alloc, Incoming::Bad(BadKind::Large))

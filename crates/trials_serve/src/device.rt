@@ -1,6 +1,6 @@
 //! Devices with a light each, behind a wire in memory.
 
-use sessions::{Failed, Wire};
+use gateway_desk::{Failed, Inbound, Outbound, Wire};
 use std::alloc::{AllocError, Global};
 use std::collections::VecDeque;
 use std::net::{IpAddr, Ipv4Addr};
@@ -159,19 +159,21 @@ impl Device {
 }
 
 impl Wire for Device {
-    fn send(&self, peer: Peer, bytes: &[u8]) {
+    type Sent = ();
+
+    fn send(&self, datagram: Outbound<'_>) {
         if let Some(mut mail) = self.mail() {
-            let _ = mail.take(peer, bytes);
+            let _ = mail.take(datagram.peer, datagram.bytes);
         }
     }
 
-    fn receive(&self, buffer: &mut [u8]) -> Result<Option<(usize, Peer)>, Failed> {
+    fn receive(&self, buffer: &mut [u8]) -> Result<Option<Inbound>, Failed> {
         let Some(letter) = self.next() else {
             thread::yield_now();
             return Ok(None);
         };
         let count = letter.bytes.len().min(buffer.len());
         buffer[..count].copy_from_slice(&letter.bytes[..count]);
-        Ok(Some((count, letter.from)))
+        Ok(Some(Inbound::new(letter.from, count)))
     }
 }

@@ -226,6 +226,8 @@ pub struct Row {
     /// how the device's reply begins, its code, and what stands behind the token
     pub reply: (u8, u8, &'static [u8]),
     pub told: &'static [u8],
+    /// how many letters come after both
+    pub letters: usize,
 }
 
 /// A client that says nothing and goes.
@@ -257,8 +259,9 @@ pub fn stranger() -> &'static Client {
 /// How an RST begins.
 const RST: u8 = 0x70;
 
-/// The device has forgotten who it is; then the light is read and put out.
-static ROWS: [Row; 3] = [
+/// The device has forgotten who it is; then the light is read and put out, and in the end the device has so much to
+/// say of it that its datagram has 1,500 bytes, as many as go over Ethernet at once.
+static ROWS: [Row; 4] = [
     Row {
         method: b"GET",
         rest: b"/light HTTP/1.1\r\nHost: p\r\n\r\n",
@@ -266,6 +269,7 @@ static ROWS: [Row; 3] = [
         asked: b"\xb5light",
         reply: (RST, 0, b""),
         told: b"HTTP/1.1 502 Bad Gateway\r\nHC-Cause: reset 3\r\nContent-Length: 0\r\n\r\n",
+        letters: 0,
     },
     Row {
         method: b"GET",
@@ -274,6 +278,7 @@ static ROWS: [Row; 3] = [
         asked: b"\xb5light",
         reply: (ACK, 69, b"\xc0\xffon"),
         told: IS_ON,
+        letters: 0,
     },
     Row {
         method: b"PUT",
@@ -282,6 +287,16 @@ static ROWS: [Row; 3] = [
         asked: b"\xb5light\xffoff",
         reply: (ACK, 68, b""),
         told: b"HTTP/1.1 204 No Content\r\n\r\n",
+        letters: 0,
+    },
+    Row {
+        method: b"GET",
+        rest: b"/light HTTP/1.1\r\nHost: p\r\n\r\n",
+        code: 1,
+        asked: b"\xb5light",
+        reply: (ACK, 69, b"\xc0\xff"),
+        told: b"HTTP/1.1 200 OK\r\nContent-Type: text/plain;charset=utf-8\r\nCache-Control: max-age=60\r\nContent-Length: 1486\r\n\r\n",
+        letters: 1486,
     },
 ];
 

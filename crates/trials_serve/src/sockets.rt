@@ -5,7 +5,7 @@ use crate::rows::{Row, rows};
 use crate::sample::settings;
 use gateway_server::{Ports, run};
 use log::Log;
-use std::alloc::Global;
+use std::alloc::{AllocError, Global};
 use std::io::{Read, Write};
 use std::net::{IpAddr, Ipv4Addr, Net, SocketAddr, TcpListener, TcpStream, UdpSocket};
 use std::random::RandomSource;
@@ -79,6 +79,14 @@ fn is_asked(datagram: &[u8], row: &'static Row) -> bool {
     }
 }
 
+/// These bytes, and so many letters after them.
+fn with_letters(alloc: Global, front: &[u8], letters: usize) -> Result<Vec<u8>, AllocError> {
+    let mut bytes = Vec::from_slice(alloc, front)?;
+    let letters = vec![in alloc; b'x'; letters]?;
+    bytes.extend_from_slice(&letters)?;
+    Ok(bytes)
+}
+
 /// The device is asked what the row says, and replies as it says.
 fn replies(alloc: Global, device: &UdpSocket, row: &'static Row) -> bool {
     let mut buffer = [0u8; 64];
@@ -86,18 +94,24 @@ fn replies(alloc: Global, device: &UdpSocket, row: &'static Row) -> bool {
         return false;
     };
     let request = &buffer[..count];
-    let Ok(reply) = reply_to(alloc, row.reply.0, request, row.reply.1, row.reply.2) else {
+    let Ok(rest) = with_letters(alloc, row.reply.2, row.letters) else {
+        return false;
+    };
+    let Ok(reply) = reply_to(alloc, row.reply.0, request, row.reply.1, &rest) else {
         return false;
     };
     is_asked(request, row) && device.send_to(&reply, gateway).is_ok()
 }
 
 /// Whether the client is told what the row says.
-fn is_told(client: &mut TcpStream, row: &'static Row) -> bool {
-    let mut buffer = [0u8; 256];
-    let count = row.told.len().min(256);
-    let told = &mut buffer[..count];
-    client.read_exact(told).is_ok() && &told[..] == row.told
+fn is_told(alloc: Global, client: &mut TcpStream, row: &'static Row) -> bool {
+    let Ok(wanted) = with_letters(alloc, row.told, row.letters) else {
+        return false;
+    };
+    let Ok(mut told) = vec![in alloc; 0u8; wanted.len()] else {
+        return false;
+    };
+    client.read_exact(&mut told).is_ok() && told.as_slice() == wanted.as_slice()
 }
 
 /// Whether the rows go as they say, one after the other on one connection.
@@ -107,7 +121,7 @@ fn go<W: Net<Stream = TcpStream>>(rt: &W, alloc: Global, gateway: SocketAddr) ->
     let mut client = open_client(rt, gateway)?;
     for row in rows() {
         let asked = asks(&mut client, port, row);
-        if !asked || !replies(alloc, &device, row) || !is_told(&mut client, row) {
+        if !asked || !replies(alloc, &device, row) || !is_told(alloc, &mut client, row) {
             return Some(false);
         }
     }

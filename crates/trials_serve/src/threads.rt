@@ -10,7 +10,8 @@ use crate::rows::{Trial, crossed, held, late, leaver, lost, shut, stranger, told
 use crate::sample::{Nothing, shared_settings};
 use ask_model::Settings;
 use gateway_desk::{LockedDesk, Note, Pass, Shop, settle};
-use sessions::{Done, serve, tick_loop, udp_loop};
+use journal_book::Event;
+use sessions::{Done, Gateway, serve, tick_loop, udp_loop};
 use std::alloc::Global;
 use std::marker::Brand;
 use std::sync::ledger::{Blank, Ledger};
@@ -69,7 +70,14 @@ fn serve_plainly<L: Ledger, W: Wait>(
     requires { (rules_of (arc_value settings.now)).routes ≡ [] }
 {
     let bank: Bank<Nothing> = Bank::new(Vec::new(alloc));
-    serve(rt, alloc, tape, device, desk, gate, settings, &bank, pass)
+    let gateway = Gateway {
+        alloc,
+        wire: device,
+        desk,
+        settings,
+        bank: &bank,
+    };
+    serve(rt, &gateway, tape, gate, pass)
 }
 
 /// Serves a client. What its session leaves is its pass, where its end and what the client got are as wanted.
@@ -183,8 +191,24 @@ fn goes<W: Threads + Wait + std::rt::Clock + Sync>(
     run::<Brand, W>(rt, alloc, Blank::new(4294967295), trial) == Some(true)
 }
 
+/// Whether the sessions' connections were closed one after the other, each once, and then that which was opened first.
+fn are_closed_in_turn<L: Ledger>(shop: &Shop<Nothing, L>) -> bool {
+    let mut closed: u32 = 0;
+    'each: for entry in shop.journal().entries() {
+        if let Event::Shut(conn) = &entry.event {
+            closed = closed.saturating_add(1);
+            if *conn != closed % (SESSIONS + 1) {
+                return false;
+            }
+        }
+    }
+    closed == SESSIONS + 1
+}
+
 /// Serves more clients one after the other than may be open at once, while the first connection stays open, and
-/// then a request on that one.
+/// then a request on that one. A session has the pass of its own connection and no other, and what closes one is a
+/// pass or its stub: so it can't close another's. That the desk closes the connection of the pass that it is given is
+/// a clause below the lock, and seen here in the journal too.
 fn follow<L: Ledger, W: Wait>(rt: &W, alloc: Global, blank: Blank) -> Option<bool>
     requires name { blank.name ≡ L.name }
     requires parts { (blank.parts ≡ L.parts) × (blank.parts ≡ 2 ^ 32 - 1) }
@@ -197,7 +221,7 @@ fn follow<L: Ledger, W: Wait>(rt: &W, alloc: Global, blank: Blank) -> Option<boo
         serve_client(rt, alloc, &device, &desk, leaver(), pass)?;
     }
     let first = serve_client(rt, alloc, &device, &desk, stranger(), first)?;
-    Some(first.made() == 1)
+    Some(first.made() == 1 && are_closed_in_turn(&desk.into_shop()))
 }
 
 fn follow_each_other<W: Wait>(rt: &W, alloc: Global) -> bool {

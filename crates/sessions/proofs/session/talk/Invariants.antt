@@ -9,5 +9,5 @@ abbrev pub invariant-loop : goal.invariant-loop
 invariant-loop g l =
     (goal.iterator-loop g).can_next l.iterator' × (goal.iterator-loop g).is_finite l.iterator'
     × (g.S.Stream.count l.stream ≡ g.S.Stream.count l.fn.stream) × (g.G.Gate.nays l.gate ≡ g.G.Gate.nays l.fn.gate)
-    × SoFar g.R.Relation.holds g.R.Relation.takes (rules_of (arc_value l.fn.settings)) l.fn.pass.lines l.pass.lines
+    × SoFar g.R.Relation.holds g.R.Relation.takes (rules_of (arc_value l.fn.gateway.settings.now)) l.fn.pass.lines l.pass.lines
     (g.S.Stream.gave l.fn.stream) (g.S.Stream.gave l.stream) (g.S.Stream.written l.fn.stream) (g.S.Stream.written l.stream) l.reading.edge

@@ -120,7 +120,7 @@ returns-in_default-bytes g c = record {
 pub returns-in-Ok-write : goal.returns-in-Ok-write
 returns-in-Ok-write g c = record {
   answered = λ e.
-      let s = c.in-Ok-bytes.ensures (rules_of (arc_value c.args.settings.now)) c.requires.suits in
+      let s = c.in-Ok-bytes.ensures (rules_of (arc_value c.args.gateway.now.settings.now)) c.requires.suits in
       turn_taken _ _ _ (item c.args.incoming) _ c.ask.new.pass.lines _ c.in-Ok-ask.ticket.number (slip_of c.in-Some.receipt) c.as_slice.result.now _ _
       c.in-Ok-ask.ensures.lines c.keep.ensures.lines c.in-Some.ensures.number.0
       (ask_of _ _ _ c.args.incoming (arc_value c.in-Some.receipt.answer.mapped) c.in-Ok.mapped
@@ -139,7 +139,7 @@ pub returns : goal.returns
 returns g c = record {
   answered = λ e. absurd (some_no_none _ e);
   cut =
-      let s = c.in-Ok-bytes.ensures (rules_of (arc_value c.args.settings.now)) c.requires.suits in
+      let s = c.in-Ok-bytes.ensures (rules_of (arc_value c.args.gateway.now.settings.now)) c.requires.suits in
       let part = c.in-Err-write.ensures.err.0 in
       cut_part _ _ _ (item c.args.incoming) _ c.ask.new.pass.lines _ c.in-Ok-ask.ticket.number (slip_of c.in-Some.receipt) c.as_slice.result.now part.0 _ _
       c.in-Ok-ask.ensures.lines c.keep.ensures.lines c.in-Some.ensures.number.0
