@@ -30,7 +30,7 @@ IsOff false = ⊤
 pub returns-in-Ok-clause-takes : goal.returns-in-Ok-clause-takes
 returns-in-Ok-clause-takes g c =
     let room = subst (λ (w : WorldValue). IsTooMuch c.args.input.happening (served_in w) → ⊥) (sym c.self.view_is)
-            (λ full. subst IsOff (c.is_too_much.ensures.1 full) (subst IsOff (sym c.if-is_too_much.false) tt)) in
+    (λ full. subst IsOff (c.is_too_much.ensures.1 full) (subst IsOff (sym c.if-is_too_much.false) tt)) in
     rw (← c.self.view_is)
     (taken-led g.R.Relation.holds g.R.Relation.takes _ c.args.input _ c.max-moment.result c.self.inside.engine c.step.new.self _ _ _
     c.in-Ok.ensures.leads (ap emissions c.new-outputs.ensures.items)
