@@ -21,7 +21,7 @@ extra_max n = grind (arith, nat_tests)
 extra_mono : (m n : ℕ) → m ≤ n → extra m ≤ extra n
 extra_mono m n le = grind (arith, nat_tests)
 
--- Options take no more bytes behind a higher number.
+-- Options take no more bytes after a higher number.
 behind_higher : (before later : ℕ) (os : List Entry) → before ≤ later → spelled_len later os ≤ spelled_len before os
 behind_higher before later [] le = omega arith
 behind_higher before later (o ∷ os) le =

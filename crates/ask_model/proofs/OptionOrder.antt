@@ -15,17 +15,17 @@ use Rattle.uri_map.specs.Limits.{options_with, host_options, uri_options, is_sho
 use Rattle.ask_model.specs.Requests.{uint_bytes, optional, options_asking}
 use Rattle.ask_model.proofs.Codes.{code_is_not_zero}
 
--- options behind one of a lower number
+-- options after one of a lower number
 weaker : (before n : ℕ) (os : List Entry) → before ≤ n → IsInOrder n os → IsInOrder before os
 weaker before n [] le h = tt
 weaker before n (o ∷ os) le h = (omega (arith, le, h.0), h.1)
 
--- options of one number, and others behind them
+-- options of one number, and others after them
 behind_equal : (before n : ℕ) (values : List (List ℕ)) (os : List Entry) → before ≤ n → IsInOrder n os → IsInOrder before (options_with n values ++ os)
 behind_equal before n [] os le h = weaker before n os le h
 behind_equal before n (v ∷ values) os le h = (le, behind_equal n n values os (omega arith) h)
 
--- an option where there is one, and others behind it
+-- an option where there is one, and others after it
 behind_optional : (before n : ℕ) (v : Option ℕ) (os : List Entry) → before ≤ n → IsInOrder n os → IsInOrder before (optional n v ++ os)
 behind_optional before n None os le h = weaker before n os le h
 behind_optional before n (Some v) os le h = (le, h)

@@ -1,4 +1,4 @@
--- A payload behind a message that has none, and the length of a message's bytes.
+-- A payload after a message that has none, and the length of a message's bytes.
 use Rattle.std.proofs.Common.{◌≡◌, ℕ, ◌+◌, ◌*◌, ◌≤◌, List, [], ◌∷◌, ◌++◌, length, refl, ◌∙◌, ap, length-append, arith}
 use Rattle.std.proofs.lemmas.List.{append-nil}
 use Rattle.coap_codec.specs.Spelling.{Content, Spells, SpellsPayload, code_of}

@@ -67,7 +67,7 @@ fn options_for(
     Ok(options)
 }
 
-/// Appends the payload behind its marker, or nothing where there is none.
+/// Appends the payload after its marker, or nothing where there is none.
 fn append_payload(out: &mut Vec<u8>, payload: &[u8]) -> Result<(), AllocError>
     ensures { OnOk result (out.new.items ≡ out.old.items ++ payload_text payload.now) }
 {
@@ -78,7 +78,7 @@ fn append_payload(out: &mut Vec<u8>, payload: &[u8]) -> Result<(), AllocError>
     Ok(())
 }
 
-/// The bytes of a message without a payload, with this payload behind them. It is copied once.
+/// The bytes of a message without a payload, with this payload after them. It is copied once.
 fn bytes_with(alloc: Global, message: &Message, payload: &[u8]) -> Result<Vec<u8>, AllocError>
     requires encodable { IsEncodable (content message.now) }
     requires code { message.now.code ≢ 0 }

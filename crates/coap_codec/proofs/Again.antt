@@ -27,7 +27,7 @@ value_again value rest =
     let long : ltb (length (value ++ rest)) (length value) ≡ false = le-ltb _ _ (omega (arith, length-append value rest)) in
     rw (long, take_at value rest (length value) refl, drop_at value rest (length value) refl) refl
 
--- the bytes of an option behind its first
+-- the bytes of an option after its first
 abbrev pub behind_first : (before : ℕ) (o : Entry) (front : List ℕ) → SpellsOption before o front → List ℕ
 behind_first before o front s = s.delta_more ++ s.length_more ++ o.value
 
@@ -93,7 +93,7 @@ no_payload_bytes : (payload text : List ℕ) → SpellsPayload payload text → 
 no_payload_bytes [] text s e = s
 no_payload_bytes (p ∷ ps) text s e = absurd cc
 
--- the bytes behind the first four
+-- the bytes after the first four
 abbrev pub body : (m : Content) (bytes : List ℕ) → Spells m bytes → List ℕ
 body m bytes s = m.token ++ s.options ++ s.payload
 

@@ -90,7 +90,7 @@ option_fails before first bytes f byte other h e =
           ]
     ]
 
--- behind options that are spelled, one has the fault
+-- after options that are spelled, one has the fault
 pub record FaultBehind (before : ℕ) (bytes : List ℕ) (f : CodecFault) : Type 0 where
   pub good : List Entry
   pub text : List ℕ

@@ -6,7 +6,7 @@ use Rattle.coap_codec.specs.declared.fault.CodecFault.TheVariants.{Short, Versio
 use Rattle.coap_codec.specs.Spelling.{Entry, code_of}
 use Rattle.coap_codec.specs.Faults.{HeaderIs, HasDelta, OptionFault, last_number, HasOptions, FaultInOptions, FirstFault}
 
--- a header's bytes stay, and what stands behind them grows
+-- a header's bytes stay, and what stands after them grows
 header_stays : (bytes more : List ℕ) (P Q : ℕ → ℕ → List ℕ → Type 0) → ((first code : ℕ) (rest : List ℕ) → P first code rest → Q first code (rest ++ more)) → HeaderIs bytes P → HeaderIs (bytes ++ more) Q
 header_stays [] more P Q grows s = absurd s
 header_stays (a ∷ []) more P Q grows s = absurd s

@@ -9,7 +9,7 @@ use Rattle.coap_codec.specs.Spelling.{Entry, code_of, StandsFor, SpellsOptions}
 -- ---- the header
 
 -- The bytes begin with a header that is good: version 1, this token length, and nothing else in an
--- empty message. Behind it stands the rest.
+-- empty message. After it stands the rest.
 pub record HasHeader (bytes : List ℕ) (token_length : ℕ) (rest : List ℕ) : Type 0 where
   pub kind : MsgType
   pub code : ℕ
@@ -19,7 +19,7 @@ pub record HasHeader (bytes : List ℕ) (token_length : ℕ) (rest : List ℕ) :
   pub nothing_else : code ≡ 0 → (token_length ≡ 0) × (rest ≡ [])
   pub whole : bytes ≡ (64 + 16 * code_of kind + token_length) ∷ code ∷ mid_high ∷ mid_low ∷ rest
 
--- The first byte, the code, and what stands behind the header, are so.
+-- The first byte, the code, and what stands after the header, are so.
 abbrev pub HeaderIs : List ℕ → (ℕ → ℕ → List ℕ → Type 0) → Type 0
 HeaderIs [] P = ⊥
 HeaderIs (first ∷ []) P = ⊥
@@ -27,12 +27,12 @@ HeaderIs (first ∷ code ∷ []) P = ⊥
 HeaderIs (first ∷ code ∷ high ∷ []) P = ⊥
 HeaderIs (first ∷ code ∷ high ∷ low ∷ rest) P = P first code rest
 
--- ---- an option that begins with a byte, of which the rest stands behind
+-- ---- an option that begins with a byte, of which the rest stands after
 
 abbrev pub extension_length : ℕ → ℕ
 extension_length nibble = if nibble == 13 then 1 else (if nibble == 14 then 2 else 0)
 
--- Neither nibble is reserved, and the delta is there, with the others behind it.
+-- Neither nibble is reserved, and the delta is there, with the others after it.
 pub record HasDelta (first : ℕ) (rest : List ℕ) (delta : ℕ) (others : List ℕ) : Type 0 where
   pub delta_nibble : first / 16 < 15
   pub length_nibble : first % 16 < 15
@@ -87,7 +87,7 @@ abbrev pub last_number : ℕ → List Entry → ℕ
 last_number before [] = before
 last_number before (o ∷ os) = last_number o.number os
 
--- The header, the token and some options are spelled, and behind them stands the tail.
+-- The header, the token and some options are spelled, and after them stands the tail.
 pub record HasOptions (bytes : List ℕ) (options : List Entry) (tail : List ℕ) : Type 0 where
   pub token : List ℕ
   pub text : List ℕ
@@ -97,7 +97,7 @@ pub record HasOptions (bytes : List ℕ) (options : List Entry) (tail : List ℕ
 abbrev pub EndsInToken : List ℕ → Type 0
 EndsInToken bytes = (len : ℕ) × (rest : List ℕ) × HasHeader bytes len rest × (length rest < len)
 
--- Behind options that are spelled stands one with the fault.
+-- After options that are spelled stands one with the fault.
 pub record FaultInOptions (bytes : List ℕ) (f : CodecFault) : Type 0 where
   pub good : List Entry
   pub first : ℕ
@@ -105,7 +105,7 @@ pub record FaultInOptions (bytes : List ℕ) (f : CodecFault) : Type 0 where
   pub in_front : HasOptions bytes good (first ∷ rest)
   pub fault : OptionFault (last_number 0 good) first rest f
 
--- Behind the options stands a payload marker alone.
+-- After the options stands a payload marker alone.
 abbrev pub EndsInMarker : List ℕ → Type 0
 EndsInMarker bytes = (options : List Entry) × HasOptions bytes options (255 ∷ [])
 

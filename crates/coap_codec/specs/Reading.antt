@@ -16,7 +16,7 @@ abbrev pub Reads : {X Y : Type 0} → (X → Y) → Result X CodecFault → Resu
 Reads view (Ok x) read = read ≡ Ok (view x)
 Reads view (Err e) read = read ≡ Err e
 
--- The number that a nibble and the bytes behind it stand for, and the bytes after those.
+-- The number that a nibble and the bytes after it stand for, and the bytes after those.
 abbrev pub one_more : List ℕ → Result (ℕ × List ℕ) CodecFault
 one_more [] = Err Truncated
 one_more (a ∷ rest) = Ok (a + 13, rest)
@@ -33,7 +33,7 @@ extended_at nibble bytes = if nat_lt nibble 13 then Ok (nibble, bytes) else (if 
 abbrev pub value_at : ℕ → List ℕ → Result (List ℕ × List ℕ) CodecFault
 value_at len bytes = if nat_lt (length bytes) len then Err Truncated else Ok (take len bytes, drop len bytes)
 
--- The option that begins with the byte, behind one of the number before.
+-- The option that begins with the byte, after one of the number before.
 unfoldable pub option_at : ℕ → ℕ → List ℕ → Result (Entry × List ℕ) CodecFault
 option_at before first bytes = if (first / 16 == 15) || (first % 16 == 15) then Err Reserved else (do
   delta ← extended_at (first / 16) bytes
@@ -68,7 +68,7 @@ only_options bytes = all_options_at bytes >>= λ x. Ok x.0
 abbrev pub only_rest : List ℕ → Result (List ℕ) CodecFault
 only_rest bytes = all_options_at bytes >>= λ x. Ok x.1
 
--- The payload behind the options: nothing, or what stands behind the marker.
+-- The payload after the options: nothing, or what stands after the marker.
 abbrev pub payload_at : List ℕ → Result (List ℕ) CodecFault
 payload_at [] = Ok []
 payload_at (marker ∷ []) = Err EmptyPayload

@@ -41,7 +41,7 @@ StandsFor nibble (a ∷ []) n = (nibble ≡ 13) × (n ≡ a + 13) × (a < 256)
 StandsFor nibble (a ∷ b ∷ []) n = (nibble ≡ 14) × (n ≡ 256 * a + b + 269) × (b < 256)
 StandsFor nibble (a ∷ b ∷ c ∷ more) n = ⊥
 
--- The bytes of an option behind one of the number before: two nibbles, what extends the first, what
+-- The bytes of an option after one of the number before: two nibbles, what extends the first, what
 -- extends the second, and the value.
 pub record SpellsOption (before : ℕ) (o : Entry) (text : List ℕ) : Type 0 where
   pub delta : ℕ
@@ -60,7 +60,7 @@ abbrev pub SpellsOptions : ℕ → List Entry → List ℕ → Type 0
 SpellsOptions before [] text = text ≡ []
 SpellsOptions before (o ∷ os) text = (front : List ℕ) × (rest : List ℕ) × (text ≡ front ++ rest) × SpellsOption before o front × SpellsOptions o.number os rest
 
--- No payload has no bytes, and any other stands behind a marker.
+-- No payload has no bytes, and any other stands after a marker.
 abbrev pub SpellsPayload : List ℕ → List ℕ → Type 0
 SpellsPayload [] text = text ≡ []
 SpellsPayload (p ∷ ps) text = text ≡ 255 ∷ p ∷ ps

@@ -31,7 +31,7 @@ nibble n = if nat_lt n 13 then n else (if nat_lt n 269 then 13 else 14)
 abbrev pub more : ℕ → List ℕ
 more n = if nat_lt n 13 then [] else (if nat_lt n 269 then (n - 13) ∷ [] else ((n - 269) / 256) ∷ ((n - 269) % 256) ∷ [])
 
--- new is old with the bytes of the option behind it
+-- new is old with the bytes of the option after it
 abbrev pub AppendsOption : ℕ → Entry → List ℕ → List ℕ → Type 0
 AppendsOption before o old new = (front : List ℕ) × (new ≡ old ++ front) × SpellsOption before o front
 

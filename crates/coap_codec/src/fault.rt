@@ -22,9 +22,9 @@ pub enum CodecFault {
     Reserved = 4,
     /// The token or an option passes the end.
     Truncated = 5,
-    /// A payload marker with nothing behind it.
+    /// A payload marker with nothing after it.
     EmptyPayload = 6,
-    /// The code 0.00 with a token, or with bytes behind the header (section 4.1).
+    /// The code 0.00 with a token, or with bytes after the header (section 4.1).
     EmptyExtra = 7,
     /// An option number above 65,535.
     Number = 8,

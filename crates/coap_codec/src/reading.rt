@@ -29,7 +29,7 @@ struct Found<'a> {
     value: &'a [u8],
 }
 
-/// The number that a nibble below 15 and the bytes behind it stand for, and the bytes after those.
+/// The number that a nibble below 15 and the bytes after it stand for, and the bytes after those.
 fn extended_of(nibble: u8, bytes: &[u8]) -> Result<(u32, &[u8]), CodecFault>
     ensures reads { Reads (λ x. (x.0, x.1.now)) result (extended_at nibble bytes.now) }
     ensures bound { nibble < 16 → IfOk result (λ x. x.0 < 65805) }
@@ -61,7 +61,7 @@ fn value_of(len: u32, bytes: &[u8]) -> Result<(&[u8], &[u8]), CodecFault>
     Ok(bytes.split_at(len))
 }
 
-/// The option that begins with the byte, behind one of the number before, and the bytes after it.
+/// The option that begins with the byte, after one of the number before, and the bytes after it.
 #[tactic(auto, unfolding(crate::specs::Reading::option_at))]
 fn option_of(before: u16, first: u8, bytes: &[u8]) -> Result<(Found<'_>, &[u8]), CodecFault>
     ensures { Reads (λ x. (record { number = x.0.number; value = x.0.value.now }, x.1.now)) result (option_at before first bytes.now) }
@@ -80,7 +80,7 @@ fn option_of(before: u16, first: u8, bytes: &[u8]) -> Result<(Found<'_>, &[u8]),
     Ok((Found { number, value }, rest))
 }
 
-/// The next option and the bytes behind it, or none at the end or the payload marker.
+/// The next option and the bytes after it, or none at the end or the payload marker.
 #[tactic(auto, unfolding(crate::specs::Reading::next_at))]
 fn next_option(before: u16, bytes: &[u8]) -> Result<Option<(Found<'_>, &[u8])>, CodecFault>
     ensures { Reads (λ o. option_map (λ x. (record { number = x.0.number; value = x.0.value.now }, x.1.now)) o) result (next_at before bytes.now) }
@@ -95,7 +95,7 @@ fn next_option(before: u16, bytes: &[u8]) -> Result<Option<(Found<'_>, &[u8])>, 
     }
 }
 
-/// The bytes behind the options, which have no fault.
+/// The bytes after the options, which have no fault.
 fn after_options(bytes: &[u8]) -> Result<&[u8], CodecFault>
     ensures { Reads (λ x. x.now) result (only_rest bytes.now) }
 {
@@ -135,7 +135,7 @@ fn payload_of(bytes: &[u8]) -> Result<&[u8], CodecFault>
     }
 }
 
-/// The header, and the bytes behind it.
+/// The header, and the bytes after it.
 fn head_of(bytes: &[u8]) -> Result<(Head, &[u8]), CodecFault>
     ensures reads { Reads (λ x. (record { kind = x.0.kind; code = x.0.code; mid = x.0.mid; len = x.0.token_len }, x.1.now)) result (head_at bytes.now) }
     ensures short { IfOk result (λ x. x.0.token_len ≤ 8) }

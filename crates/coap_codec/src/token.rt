@@ -3,7 +3,7 @@
 use std::marker::Model;
 
 /// A token of at most eight bytes, which a request and its responses share (RFC 7252, section
-/// 5.3.1). The cells behind its bytes are zeros.
+/// 5.3.1). The cells after its bytes are zeros.
 #[derive(Clone, Copy, Debug)]
 pub struct Token {
     bytes: [u8; 8],

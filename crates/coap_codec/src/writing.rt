@@ -39,7 +39,7 @@ fn push_more(out: &mut Vec<u8>, n: u16) -> Result<(), CodecFault>
     Ok(())
 }
 
-/// Appends an option behind one of the number before.
+/// Appends an option after one of the number before.
 fn push_option(out: &mut Vec<u8>, before: u16, o: &Opt) -> Result<(), CodecFault>
     requires in_order { before ≤ o.now.number }
     requires short { length o.now.value.items ≤ 1034 }
@@ -84,7 +84,7 @@ fn push_head(out: &mut Vec<u8>, m: &Message) -> Result<(), CodecFault>
     Ok(())
 }
 
-/// Appends the payload behind its marker, or nothing where there is none.
+/// Appends the payload after its marker, or nothing where there is none.
 fn push_payload(out: &mut Vec<u8>, payload: &[u8]) -> Result<(), CodecFault>
     ensures ok { OnOk result (out.new.items ≡ out.old.items ++ payload_text payload.now) }
     ensures memory { IsOkUnless result CodecFault.Memory }

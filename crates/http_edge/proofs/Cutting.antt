@@ -25,7 +25,7 @@ which : (i j : Item) (a b : List ℕ) (js : List Item) (rest : List ℕ) → i �
 which i j a b js rest e f (inl x) = inl (ap closes e ∙ x.0, x.1)
 which i j a b js rest e f (inr x) = inr (ap closes e ∙ x.0, subst (λ (t : List ℕ). Reads t js rest) (sym f) x.1)
 
--- the first item of a text, and what stands behind it
+-- the first item of a text, and what stands after it
 tail_of : (text : List ℕ) (i : Item) (behind : List ℕ) (items : List Item) (rest : List ℕ) → First text i behind → Reads text items rest
     → (others : List Item) × (items ≡ i ∷ others) × (((closes i ≡ true) × (others ≡ [])) ⊎ ((closes i ≡ false) × Reads behind others rest))
 tail_of text i behind [] rest x r = absurd (r.1 i behind x)

@@ -21,7 +21,7 @@ use Rattle.http_edge.specs.declared.request.BadKind.TheVariants.{Syntax, Large}
 use Rattle.http_edge.specs.Framing.{within_limit, sized_at, as_list}
 use Rattle.http_edge.specs.Lists.{named, same_name}
 
--- The framing that digits give behind those of n; all above 65,536 are one.
+-- The framing that digits give after those of n; all above 65,536 are one.
 unfoldable pub length_from : ℕ → List ℕ → Framing
 length_from n [] = within_limit n
 length_from n (b ∷ bytes) = cond (is_ascii_digit b) (length_from (min (10 * n + (b - 48)) 65537) bytes) (Refused Syntax)
@@ -38,7 +38,7 @@ digit_is b d =
     let within : IsInRange 48 57 b = search (rules, tests) in
     digit_value_digit b within
 
--- The framing that digits give, behind those of m.
+-- The framing that digits give, after those of m.
 abbrev FromDigits : ℕ → List ℕ → Framing
 FromDigits m bytes = cond (list_all is_ascii_digit bytes) (within_limit (digits_value_after 10 m bytes)) (Refused Syntax)
 

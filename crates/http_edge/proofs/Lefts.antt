@@ -220,7 +220,7 @@ data_waits t body unread missing s may =
       fails = λ k x. let y = splits_fail 0 t w.chunks x.0 w.middle w.after k w.read x.1 in no_fail_data missing w.after w.middle s.1 unread w.line y.0 k w.begins w.size_is s.3 fits may y.1;
     }
 
--- no line end can stand behind a chunk
+-- no line end can stand after a chunk
 pub NotEnd : List ℕ → Type 0
 NotEnd unread = (more rest : List ℕ) → unread ++ more ≡ crlf_bytes ++ rest → ⊥
 

@@ -65,7 +65,7 @@ never_and_takes (Refused i) text body rest k x y = y
 
 -- requests and refusals
 
--- the body behind the same head
+-- the body after the same head
 pub same_head : (P : RequestHead → List ℕ → Type 0) (text : List ℕ) (h k : RequestHead) (r q : List ℕ) → BeginsWith text h r → BeginsWith text k q → P k q → P h r
 same_head P text h k r q x y p =
     let s = begins_one text h k r q x y in
@@ -112,7 +112,7 @@ pub first_on : (text : List ℕ) (i : Item) (rest more : List ℕ) → First tex
 first_on text (asked r) rest more x = spells_on text r rest more x
 first_on text (bad k) rest more x = (refused_on text more k x.0, ap (λ (t : List ℕ). t ++ more) x.1)
 
--- what stands behind an item
+-- what stands after an item
 abbrev Tail : Item → List ℕ → List Item → List ℕ → Type 0
 Tail i behind items rest = ((closes i ≡ true) × (items ≡ []) × (rest ≡ behind)) ⊎ ((closes i ≡ false) × Reads behind items rest)
 

@@ -1,4 +1,4 @@
--- What stands behind a head, a chunk or a body is an end of the text.
+-- What stands after a head, a chunk or a body is an end of the text.
 use Rattle.std.proofs.Common.{◌≡◌, ℕ, ◌+◌, ◌≤◌, ◌<◌, inl, inr, List, [], ◌∷◌, ◌++◌, length, sym, refl, ap, ◌∙◌, arith, Bool, false, Option, Some, None, append_assoc, length-append}
 use Rattle.httparse.specs.Ascii.{crlf_bytes}
 use Rattle.httparse.specs.Grammar.{print_request, print_section, print_chunk_line}

@@ -70,13 +70,13 @@ pub record OpenTrailers (text : List ℕ) : Type 0 where
   pub short : length unread < 8192
 
 -- What is left of a text that begins with no whole chunk: all, where its line isn't whole; or what
--- stands behind that line and the bytes that it announces, which is an open line end, or trailers.
+-- stands after that line and the bytes that it announces, which is an open line end, or trailers.
 abbrev pub ChunkLeaves : List ℕ → List ℕ → Type 0
 ChunkLeaves text rest =
     (HasNoChunkLine text × (rest ≡ text))
     ⊎ ((l : ChunkLine) × (behind : List ℕ) × BeginsLine text l behind × (rest ≡ drop (chunk_size l) behind))
 
--- What is left of a chunked body that isn't whole, behind all whole chunks (RFC 9112, section 7.1).
+-- What is left of a chunked body that isn't whole, after all whole chunks (RFC 9112, section 7.1).
 pub record ChunksLeave (text rest : List ℕ) : Type 0 where
   pub chunks : List (List ℕ)
   pub after : ℕ

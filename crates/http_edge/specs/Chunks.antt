@@ -7,7 +7,7 @@ use Rattle.httparse.specs.Spans.{SectionOverflows}
 use Rattle.http_edge.specs.declared.request.BadKind.{BadKind}
 use Rattle.http_edge.specs.declared.request.BadKind.TheVariants.{Syntax, Large}
 
--- A text begins with the chunk line, within the limit, and goes on behind it.
+-- A text begins with the chunk line, within the limit, and goes on after it.
 pub record BeginsLine (text : List ℕ) (l : ChunkLine) (behind : List ℕ) : Type 0 where
   pub reads : ReadsChunkLine text l behind
   pub short : length (print_chunk_line l) ≤ 256
@@ -28,11 +28,11 @@ pub record BeginsTrailers (text rest : List ℕ) : Type 0 where
 abbrev pub NeverTrailers : List ℕ → Type 0
 NeverTrailers text = SectionOverflows 64 text ⊎ ((8192 ≤ length text) × HasNoSection (take 8192 text))
 
--- So many bytes, and a line end behind them.
+-- So many bytes, and a line end after them.
 abbrev pub BeginsData : ℕ → List ℕ → List ℕ → List ℕ → Type 0
 BeginsData size text bytes rest = (length bytes ≡ size) × (text ≡ bytes ++ (crlf_bytes ++ rest))
 
--- No continuation has a line end behind so many bytes.
+-- No continuation has a line end after so many bytes.
 abbrev pub NeverData : ℕ → List ℕ → Type 0
 NeverData size text = (more bytes rest : List ℕ) → BeginsData size (text ++ more) bytes rest → ⊥
 
@@ -53,7 +53,7 @@ pub record BeginsLast (text rest : List ℕ) : Type 0 where
   pub none : chunk_size line ≡ 0
   pub trailers : BeginsTrailers behind rest
 
--- Why what stands behind a chunk line is refused.
+-- Why what stands after a chunk line is refused.
 abbrev pub RefusedBehind : ℕ → ℕ → List ℕ → BadKind → Type 0
 RefusedBehind before size text kind =
     ((MAX_BODY_LEN < before + size) × (kind ≡ Large))

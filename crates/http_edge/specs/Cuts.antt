@@ -14,7 +14,7 @@ Fed old bytes new = ((text : List ℕ) → Stands old text → Stands new (text 
 abbrev pub Gave : Edge → Result (Option Incoming) Memory → Edge → Type 0
 Gave old result new = ((text : List ℕ) → Stands old text → Steps result new text) × (old.ended ≡ true → (result ≡ Ok None) × (new.ended ≡ true))
 
--- A call, and the edge behind it.
+-- A call, and the edge after it.
 pub data Act : Type 0 where
   fed : List ℕ → Edge → Act
   gave : Result (Option Incoming) Memory → Edge → Act
@@ -45,7 +45,7 @@ HoweverCut =
     (e : Edge) (acts : List Act) (text : List ℕ) (items : List Item) (rest : List ℕ) → Stands e text → Run e acts
     → Reads (text ++ text_of acts) items rest → (others : List Item) × (items ≡ items_of acts ++ others)
 
--- The items stand at the front, one behind the other, and each leaves the connection open.
+-- The items stand at the front, one after the other, and each leaves the connection open.
 abbrev pub Taken : List ℕ → List Item → List ℕ → Type 0
 Taken text [] rest = rest ≡ text
 Taken text (i ∷ items) rest = (behind : List ℕ) × First text i behind × (closes i ≡ false) × Taken behind items rest

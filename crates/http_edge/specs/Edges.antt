@@ -70,7 +70,7 @@ abbrev pub WaitsIn : Option Begun → List ℕ → Type 0
 WaitsIn None text = HeadWaits text
 WaitsIn (Some b) text = HasNone text ⊎ Waits text
 
--- The text begins with a head, and this is left of the body behind it.
+-- The text begins with a head, and this is left of the body after it.
 pub record HeadLeaves (text rest : List ℕ) : Type 0 where
   pub head : RequestHead
   pub behind : List ℕ
@@ -131,7 +131,7 @@ Begins (Ok (begin.Done result)) e text = Steps (Ok result) e text
 Begins (Ok begin.Begun) e text = Stands e text × IsBegun e
 Begins (Err m) e text = Stands e text
 
--- The request begun has its whole body, and the unread bytes stand behind it.
+-- The request begun has its whole body, and the unread bytes stand after it.
 pub record IsWhole (c : Content) (rest text : List ℕ) : Type 0 where
   pub head : RequestHead
   pub behind : List ℕ
@@ -169,7 +169,7 @@ ok_of o = Ok o
 abbrev pub unread_len : Edge → ℕ
 unread_len e = length e.unread
 
--- The text begins with a head, and no more than so many bytes of it are behind it.
+-- The text begins with a head, and no more than so many bytes of it are after it.
 pub record AtMostBehindHead (text : List ℕ) (n : ℕ) : Type 0 where
   pub head : RequestHead
   pub behind : List ℕ

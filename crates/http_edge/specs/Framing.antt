@@ -1,4 +1,4 @@
--- How the body behind a head is framed, and which heads are refused (RFC 9112, sections 3.2 and 6).
+-- How the body after a head is framed, and which heads are refused (RFC 9112, sections 3.2 and 6).
 use Rattle.std.specs.Prelude.{◌≡◌, ℕ, ◌<◌, List, [], ◌∷◌, length, map, not, ◌==◌, ◌&&◌, nat_lt, if◌then◌else◌, codes, Option, Some, None}
 use Rattle.std.specs.Char.{is_ascii_digit}
 use Rattle.std.specs.List.{list_all}

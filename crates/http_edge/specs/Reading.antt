@@ -1,5 +1,5 @@
 -- What the bytes of a connection spell, as one text (RFC 9112, sections 2, 6 and 9.3): requests, and
--- what stands behind them.
+-- what stands after them.
 use Rattle.std.specs.Prelude.{◌≡◌, ◌⊎◌, ⊤, ℕ, ◌≤◌, List, [], ◌∷◌, ◌++◌, length, take, Bool, true, false}
 use Rattle.std.specs.List.{concat}
 use Rattle.httparse.specs.Grammar.{RequestHead, print_request, ReadsRequest, HasNoRequest}
@@ -71,7 +71,7 @@ closes (bad kind) = true
 abbrev pub HasNone : List ℕ → Type 0
 HasNone text = (i : Item) (rest : List ℕ) → ¬ (First text i rest)
 
--- A text is those items, one behind the other, and then the rest, from which nothing more is read.
+-- A text is those items, one after the other, and then the rest, from which nothing more is read.
 abbrev pub Reads : List ℕ → List Item → List ℕ → Type 0
 Reads text [] rest = (rest ≡ text) × HasNone text
 Reads text (i ∷ items) rest =

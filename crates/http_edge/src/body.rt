@@ -20,9 +20,9 @@ pub enum Left {
     Bytes(usize),
     /// A chunk's line.
     Line,
-    /// So many bytes of a chunk, and the line end behind them.
+    /// So many bytes of a chunk, and the line end after them.
     Data(usize),
-    /// The trailers behind the last chunk.
+    /// The trailers after the last chunk.
     Trailers,
 }
 
@@ -43,7 +43,7 @@ pub enum Fill {
     Bad(BadKind),
 }
 
-/// What stands behind a chunk's bytes.
+/// What stands after a chunk's bytes.
 const LINE_END: [u8; 2] = *b"\r\n";
 
 /// The most bytes of a chunk's line.
@@ -176,7 +176,7 @@ fn read_line(left: &mut Left, body: &[u8], unread: &mut Unread) -> Next
     Next::On
 }
 
-/// Reads the line end behind a chunk's bytes.
+/// Reads the line end after a chunk's bytes.
 fn read_end(left: &mut Left, unread: &mut Unread) -> Next
     requires { left.old ≡ Data 0 }
     ensures goes { (f : Framing) (body text : List ℕ) → SoFar f left.old body unread.old text → Goes f result left.new body unread.new text }

@@ -135,7 +135,7 @@ fn fields_of(alloc: Global, unread: &[u8], spans: &[HeaderSpan]) -> Result<Heade
     Ok(fields)
 }
 
-/// Adds a field behind the others.
+/// Adds a field after the others.
 fn add_field(alloc: Global, fields: &mut HeaderMap, name: &[u8], value: &[u8]) -> Result<(), Memory>
     requires name { IsToken name.now }
     requires len { length name.now ≤ 8192 }

@@ -10,7 +10,7 @@ pub fn reading_is_one()
     ensures { (text : List ℕ) (is js : List Item) (r q : List ℕ) → Reads text is r → Reads text js q → (is ≡ js) × (r ≡ q) }
 {}
 
-/// Reading goes on where more stands behind the rest.
+/// Reading goes on where more stands after the rest.
 pub fn reading_goes_on()
     ensures { (text more : List ℕ) (is js : List Item) (r q : List ℕ) → AllOpen is → Reads text is r → Reads (r ++ more) js q → Reads (text ++ more) (is ++ js) q }
 {}

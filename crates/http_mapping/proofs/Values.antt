@@ -1,10 +1,10 @@
--- Values put one behind the other, with commas between.
+-- Values put one after the other, with commas between.
 use Rattle.std.proofs.Common.{◌≡◌, ℕ, Bool, true, false, List, [], ◌∷◌, ◌++◌, map, if◌then◌else◌, sym, ap, ◌∙◌, append_assoc}
 use Rattle.std.proofs.lemmas.List.{append-nil}
 use Rattle.http_header.specs.FieldValue.{FieldValue}
 use Rattle.media_map.specs.Texts.{joined}
 
--- the values, each behind a comma
+-- the values, each after a comma
 abbrev pub behind_commas : List (List ℕ) → List ℕ
 behind_commas [] = []
 behind_commas (v ∷ vs) = (44 ∷ v) ++ behind_commas vs

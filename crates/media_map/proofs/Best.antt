@@ -30,7 +30,7 @@ heavier all b c best lt = record {
   no_more = All-nil (λ (x : ℕ × Wanted). x.0 ≤ c.0);
 }
 
--- Behind one that isn't heavier the best stays.
+-- After one that isn't heavier the best stays.
 no_heavier : (all : List (ℕ × Wanted)) (b c : ℕ × Wanted) → IsBest all b → c.0 ≤ b.0 → IsBest (all ++ c ∷ []) b
 no_heavier all b c best le = record {
   before = best.before;

@@ -8,7 +8,7 @@ use Rattle.media_map.specs.declared.fault.MediaFault.TheVariants.{Unmapped, Pass
 use Rattle.media_map.specs.Texts.{trim}
 use Rattle.media_map.specs.MediaTypes.{Named, media_at, same, value_in, unquoted}
 
--- A format, its type/subtype, and the parameters that are written behind it.
+-- A format, its type/subtype, and the parameters that are written after it.
 abbrev pub Row : Type 0
 Row = ℕ × List ℕ × List ℕ
 

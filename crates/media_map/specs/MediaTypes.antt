@@ -30,7 +30,7 @@ is_pair text = nat_lt (equals_in text) (length text)
 unfoldable pub is_parameter : List ℕ → Bool
 is_parameter piece = (length (trim piece) == 0) || is_pair (trim piece)
 
--- A media type: its type/subtype, and the pieces behind its semicolons.
+-- A media type: its type/subtype, and the pieces after its semicolons.
 pub record Named : Type 0 where
   pub essence : List ℕ
   pub parameters : List (List ℕ)

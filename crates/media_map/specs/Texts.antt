@@ -68,7 +68,7 @@ cut_from quotes separator scan [] = 0
 cut_from quotes separator scan (b ∷ text) =
     if is_plain scan && (b == separator) then 0 else suc (cut_from quotes separator (step_if quotes scan b) text)
 
--- The pieces of what stands behind a piece: nothing, or a separator and more.
+-- The pieces of what stands after a piece: nothing, or a separator and more.
 abbrev pub behind : Bool → ℕ → List ℕ → List (List ℕ)
 behind quotes separator [] = []
 behind quotes separator (b ∷ text) = pieces quotes separator text
@@ -77,7 +77,7 @@ behind quotes separator (b ∷ text) = pieces quotes separator text
 unfoldable pub is_text : ℕ → Bool
 is_text b = (b == 9) || (nat_le 32 b && not (b == 127))
 
--- The end of a quoted string, and nothing behind it.
+-- The end of a quoted string, and nothing after it.
 abbrev pub closes : Scan → List ℕ → Bool
 closes scan [] = is_plain scan
 closes scan (b ∷ text) = not (is_plain scan) && is_text b && closes (step scan b) text

@@ -14,7 +14,7 @@ use crate::text::{cut, is_quoted, is_same, is_token_text, next_piece, trim};
 pub struct MediaType<'a> {
     /// `type/subtype`
     pub essence: &'a [u8],
-    /// What stands behind it: nothing, or a semicolon and parameters.
+    /// What stands after it: nothing, or a semicolon and parameters.
     pub parameters: &'a [u8],
 }
 

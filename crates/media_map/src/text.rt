@@ -11,12 +11,12 @@ pub enum Scan {
     Plain,
     /// Inside of one.
     Quoted,
-    /// Inside of one, behind a backslash.
+    /// Inside of one, after a backslash.
     Escaped,
 }
 
 impl Scan {
-    /// Where the reader stands behind the byte. Without `quotes` no byte begins a quoted string.
+    /// Where the reader stands after the byte. Without `quotes` no byte begins a quoted string.
     fn step(self, quotes: bool, byte: u8) -> Scan
         ensures { result ≡ step_if quotes self byte }
     {
@@ -136,7 +136,7 @@ pub fn cut(text: &[u8], separator: u8, quotes: bool) -> usize
     text.len()
 }
 
-/// The first piece, and what stands behind it: nothing, or a separator and more.
+/// The first piece, and what stands after it: nothing, or a separator and more.
 pub fn next_piece(text: &[u8], separator: u8, quotes: bool) -> (&[u8], &[u8])
     ensures pieces { pieces quotes separator text.now ≡ result.0.now ∷ behind quotes separator result.1.now }
     ensures shorter { length result.1.now ≤ length text.now }

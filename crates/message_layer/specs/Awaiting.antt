@@ -11,7 +11,7 @@ use Rattle.message_layer.specs.Values.{Told, no_news, response, timed_out, was_r
 use Rattle.message_layer.specs.Runs.{Call, submit, hear, tick, forget, expect, take_send, refuse, Step}
 use Rattle.message_layer.specs.Transmissions.{mid_of}
 
--- as many bytes behind the header as the first byte says
+-- as many bytes after the header as the first byte says
 abbrev pub token_of : List ℕ → List ℕ
 token_of [] = []
 token_of (first ∷ rest) = take (first % 16) (drop 3 rest)

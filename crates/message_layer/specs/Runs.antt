@@ -40,7 +40,7 @@ Leaves t (expect token on) old new = new ≡ expected token on old
 Leaves t (take_send d) old new = sent_out old ≡ (new, d)
 Leaves t refuse old new = new ≡ old
 
--- what it put out stands behind what was to be given out before
+-- what it put out stands after what was to be given out before
 abbrev pub Puts : Call → List (List ℕ) → LinkState → LinkState → Type 0
 Puts (submit m word) sent old new = new.out ≡ old.out ++ sent
 Puts (hear d told) sent old new = new.out ≡ old.out ++ sent

@@ -10,7 +10,7 @@ use Rattle.toml.specs.View.{view, items_view}
 use Rattle.toml.proofs.Views.{items_view-drop}
 use Rattle.proxy_settings.specs.Members.{IsTable, AreTables}
 
--- What stands for the rest stands for the whole behind the rows so far, and only where something stands for the
+-- What stands for the rest stands for the whole after the rows so far, and only where something stands for the
 -- whole does something stand for the rest.
 pub record Completes {A : Type 0} (IsRow : Members → A → Type 0) (whole rest : Items) (rows : List A) : Type 0 where
   pub back : (more : List A) → AreTables IsRow rest more → AreTables IsRow whole (rows ++ more)
@@ -67,7 +67,7 @@ pub checked_fails : {A : Type 0} (IsRow : Members → A → Type 0) (vs : List V
     → Checked IsRow (items_view vs) (items_view (drop i vs)) → (all : List A) → AreTables IsRow (items_view vs) all → ⊥
 checked_fails IsRow vs i v below at none (rows, h) = row_fails IsRow vs i v rows below at none h
 
--- no value is left behind the last
+-- no value is left after the last
 pub none_left : (vs : List Value) (i : ℕ) → length vs ≤ i → items_view (drop i vs) ≡ no_items
 none_left vs i h = rw (drop_all i vs h) refl
 

@@ -55,7 +55,7 @@ fn line_ends(alloc: Global, text: &[u8]) -> Option<Vec<usize>>
 struct Search {
     /// The first line that may be it.
     low: usize,
-    /// The line behind those that may be it, but for the best.
+    /// The line after those that may be it, but for the best.
     high: usize,
     /// The line that is tried.
     at: usize,

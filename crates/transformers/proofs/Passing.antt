@@ -53,7 +53,7 @@ behind_item c one found bytes r h = then_behind c (one bytes) (λ d. found ++ d 
 
 -- ---- pieces one after the other
 
--- What is behind the pieces that are left is behind all of them.
+-- What is after the pieces that are left is after all of them.
 abbrev pub Leads : {A : Type 0} → Bool → Option (A × List ℕ) → Option (A × List ℕ) → Type 0
 Leads c left all = (r : Option (List ℕ)) → IsBehind c left r → IsBehind c all r
 
@@ -107,7 +107,7 @@ ends {A} c one count i found bytes all le leads =
     let k : count - i ≡ 0 = omega arith in
     leads (Some bytes) (rw k refl)
 
--- one more piece behind those that were read
+-- one more piece after those that were read
 pub one_more : {A : Type 0} (one : A → List ℕ → Option (A × List ℕ)) (n : ℕ) (start : A) (bytes : List ℕ) (x y : A × List ℕ) → many_at one n start bytes ≡ Some x → one x.0 x.1 ≡ Some y
     → many_at one (n + 1) start bytes ≡ Some y
 unfolding many_at
@@ -199,7 +199,7 @@ never_keyless one count i found bytes x lt h e =
     let n : None ≡ Some parts.0 = sym h ∙ parts.1 in
     absurd cc
 
--- where a value is read, the pass is behind it
+-- where a value is read, the pass is after it
 pub behind_value : (o : Option (Data × List ℕ)) (v : Data × List ℕ) (r : Option (List ℕ)) → o ≡ Some v → IsBehind false o r → r ≡ Some v.1
 behind_value o v r e h = subst (λ (p : Option (Data × List ℕ)). IsBehind false p r) e h
 

@@ -105,7 +105,7 @@ pub record AtLeast (text bytes rest : List ℕ) : Type 0 where
   pub count : length text + length rest ≤ length bytes
   pub octets : IsBytes rest
 
--- the argument in the bytes behind the first
+-- the argument in the bytes after the first
 argument_least : (m : Major) (information : ℕ) (bytes : List ℕ) (x : ℕ × List ℕ) → IsBytes bytes → argument_at information bytes ≡ Some x
     → (length (shortest_head m x.0) + length x.1 ≤ suc (length bytes)) × IsBytes x.1
 unfolding argument_at

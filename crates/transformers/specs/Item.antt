@@ -143,7 +143,7 @@ abbrev pub inner_of : ℕ → Option (List ℕ → Option (Data × List ℕ))
 inner_of zero = None
 inner_of (suc levels) = Some (item_at levels)
 
--- ---- a whole input: one item, nested at most 32 deep, and nothing behind it
+-- ---- a whole input: one item, nested at most 32 deep, and nothing after it
 
 abbrev pub only : Data → List ℕ → Option Data
 only d [] = Some d

@@ -9,7 +9,7 @@ use std::alloc::Global;
 
 /// JSON (RFC 8259) of the same value as a CBOR item (RFC 8949), compact, with keys in order of their bytes.
 ///
-/// The input is one item with nothing behind it: whole numbers of `-2^63` to `2^64 - 1`, text, arrays, maps with
+/// The input is one item with nothing after it: whole numbers of `-2^63` to `2^64 - 1`, text, arrays, maps with
 /// text keys that differ, false, true and null, with at most 32 arrays and maps within each other. Heads may be of
 /// any length. All else is refused, and for its content also where memory is wanted.
 pub fn cbor_json(alloc: Global, input: &[u8]) -> Result<Vec<u8>, Refused>

@@ -188,7 +188,7 @@ fn member<'b>(
     Ok(rest)
 }
 
-// The value that one item denotes, with nothing behind it. Where memory is wanted, a fault of the input is told first.
+// The value that one item denotes, with nothing after it. Where memory is wanted, a fault of the input is told first.
 pub(crate) fn value_of(alloc: Global, bytes: &[u8]) -> Result<Value, Refused>
     ensures ok { IfOk result (λ v. denoted bytes.now ≡ Some (view v)) }
     ensures content { result ≡ Err Content → denoted bytes.now ≡ None }
@@ -207,7 +207,7 @@ pub(crate) fn value_of(alloc: Global, bytes: &[u8]) -> Result<Value, Refused>
     }
 }
 
-// The value that one item denotes, with nothing behind it.
+// The value that one item denotes, with nothing after it.
 #[tactic(auto, unfolding(crate::specs::Item::denoted))]
 fn whole(alloc: Global, bytes: &[u8]) -> Result<Value, Refused>
     ensures ok { IfOk result (λ v. denoted bytes.now ≡ Some (view v)) }

@@ -9,7 +9,7 @@ ghost use Rattle.transformers.specs.Passing.{IsBehind};
 use crate::head::{Major, head};
 use crate::item::{DEEPEST, key, negative, simple, text};
 
-// What stands behind the item at the front. Equal keys pass where they aren't compared.
+// What stands after the item at the front. Equal keys pass where they aren't compared.
 #[cycle(behind)]
 fn behind(compared: bool, levels: u8, bytes: &[u8]) -> Option<&[u8]>
     ensures { IsBehind compared (item_at levels bytes.now) (option_map (λ r. r.now) result) }
@@ -21,7 +21,7 @@ fn behind(compared: bool, levels: u8, bytes: &[u8]) -> Option<&[u8]>
     behind_head(compared, levels, major, argument, rest)
 }
 
-// What stands behind an item whose head was read.
+// What stands after an item whose head was read.
 #[cycle(behind)]
 fn behind_head(
     compared: bool,
@@ -48,7 +48,7 @@ fn behind_head(
     }
 }
 
-// What stands behind so many items of an array.
+// What stands after so many items of an array.
 #[cycle(behind)]
 fn behind_items(compared: bool, levels: u8, count: u64, bytes: &[u8]) -> Option<&[u8]>
     ensures { IsBehind compared (many_at (next_item (item_at levels)) count [] bytes.now) (option_map (λ r. r.now) result) }
@@ -60,7 +60,7 @@ fn behind_items(compared: bool, levels: u8, count: u64, bytes: &[u8]) -> Option<
     Some(rest)
 }
 
-// What stands behind so many members of a map.
+// What stands after so many members of a map.
 #[cycle(behind)]
 fn behind_members(compared: bool, levels: u8, count: u64, bytes: &[u8]) -> Option<&[u8]>
     ensures { IsBehind compared (many_at (next_member (item_at levels)) count no_members bytes.now) (option_map (λ r. r.now) result) }
@@ -98,7 +98,7 @@ fn is_among(levels: u8, name: &str, count: u64, bytes: &[u8]) -> bool
     found
 }
 
-// Whether an input is one item with nothing behind it. Takes time quadratic in the number of a map's members.
+// Whether an input is one item with nothing after it. Takes time quadratic in the number of a map's members.
 pub(crate) fn is_taken(bytes: &[u8]) -> bool
     ensures { result ≡ is_some (denoted bytes.now) }
 {

@@ -220,10 +220,10 @@ pub struct Row {
     pub method: &'static [u8],
     /// what comes after the device's address
     pub rest: &'static [u8],
-    /// the code that the device hears, and what stands behind the token
+    /// the code that the device hears, and what stands after the token
     pub code: u8,
     pub asked: &'static [u8],
-    /// how the device's reply begins, its code, and what stands behind the token
+    /// how the device's reply begins, its code, and what stands after the token
     pub reply: (u8, u8, &'static [u8]),
     pub told: &'static [u8],
     /// how many letters come after both

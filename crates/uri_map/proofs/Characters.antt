@@ -70,7 +70,7 @@ pub no_test : (x : Bool) → (x ≡ true → ⊥) → x ≡ false
 no_test true f = absurd (f refl)
 no_test false f = refl
 
--- behind a character the text is UTF-8 where what is left is
+-- after a character the text is UTF-8 where what is left is
 pub char_goes_on : (b : ℕ) (rest : List ℕ) → IsUtf8 (b ∷ take (continuation_len b) rest) → is_utf8 (drop (continuation_len b) rest) ≡ is_utf8 (b ∷ rest)
 char_goes_on b rest char =
     same_tests _ _

@@ -1,4 +1,4 @@
--- A text cut behind a front that has no byte of the kind.
+-- A text cut after a front that has no byte of the kind.
 use Rattle.std.proofs.Common.{◌≡◌, ℕ, Bool, true, false, List, [], ◌∷◌, ◌++◌, length, refl, arith, All}
 use Rattle.std.specs.List.{position_or_len, before_first}
 use Rattle.std.proofs.lemmas.List.Elements.{All-head, All-tail}

@@ -51,7 +51,7 @@ argument_no_and : (bs : List ℕ) → All (λ b. (b == 38) ≡ false) (percent_e
 unfolding should_percent_encode
 argument_no_and bs = no_byte ARGUMENT 38 refl no_38 bs
 
--- texts behind a byte are split there
+-- texts after a byte are split there
 pub split_again : (s : ℕ) (set : AsciiSet) → ((bs : List ℕ) → All (λ b. (b == s) ≡ false) (percent_encode set bs)) → (first : List ℕ) (others : List (List ℕ)) → slice_split (λ b. b == s) (percent_encode set first ++ texts_behind set s others) ≡ percent_encode set first ∷ map (percent_encode set) others
 split_again s set none first [] = rw (append-nil (percent_encode set first)) (slice_split_none (λ b. b == s) (percent_encode set first) (none first))
 split_again s set none first (o ∷ os) =

@@ -39,7 +39,7 @@ use Rattle.uri_map.proofs.HostedParts.{no_47, no_58, no_63, no_64, segment_perce
 use Rattle.uri_map.proofs.Groups.{NoColon, groups_written, groups_bytes, colon_written}
 use Rattle.uri_map.proofs.Placed.{IsHost, IsPort, place}
 
--- a byte that ends no authority, nor stands behind user information
+-- a byte that ends no authority, nor stands after user information
 abbrev pub Plain : ℕ → Type 0
 Plain b = (ends_authority b ≡ false) × ((b == 64) ≡ false)
 
@@ -99,7 +99,7 @@ port_again n h =
           rw (ne_eqb n 5683 other, le-leb 1 _ some, le-leb _ 5 few, port_digits n h, value, le-leb 1 n h.0, le-leb n 65535 h.1) refl
     ]
 
--- A text without colons, and behind it only digits and colons.
+-- A text without colons, and after it only digits and colons.
 record Split (text : List ℕ) : Type 0 where
   front : List ℕ
   back : List ℕ

@@ -13,7 +13,7 @@ use Rattle.uri_map.specs.Steps.{◌>>=◌}
 use Rattle.uri_map.specs.Limits.{is_short, spelled_len, host_options, options_with, options_for, uri_options, fits, within_limits}
 use Rattle.uri_map.specs.Rooms.{all_room, taken, room_behind, rooms_behind, host_room, room_for}
 
--- the room behind options
+-- the room after options
 abbrev pub walk : List Entry → Room → Result Room UriFault
 walk [] room = Ok room
 walk (o ∷ os) room = room_behind o.number (length o.value) room >>= walk os

@@ -25,7 +25,7 @@ ipv4_of text = option_map (λ octets. record { octets = octets }) (whole_value (
 unfoldable pub ipv6_of : List ℕ → Option Ipv6Addr
 ipv6_of text = option_map (λ segments. record { segments = segments }) (whole_value (read_ipv6 text))
 
--- what stands behind `[` or `%5B`
+-- what stands after `[` or `%5B`
 abbrev pub behind_opening : List ℕ → Option (List ℕ)
 behind_opening [] = None
 behind_opening (a ∷ []) = if a == 91 then Some [] else None
@@ -34,7 +34,7 @@ behind_opening (a ∷ b ∷ c ∷ rest) =
     if a == 91 then Some (b ∷ c ∷ rest)
     else (if a == 37 && b == 53 && (c == 66 || c == 98) then Some rest else None)
 
--- what stands behind `]` or `%5D`
+-- what stands after `]` or `%5D`
 abbrev pub behind_closing : List ℕ → Option (List ℕ)
 behind_closing [] = None
 behind_closing (a ∷ []) = if a == 93 then Some [] else None
@@ -43,14 +43,14 @@ behind_closing (a ∷ b ∷ c ∷ rest) =
     if a == 93 then Some (b ∷ c ∷ rest)
     else (if a == 37 && b == 53 && (c == 68 || c == 100) then Some rest else None)
 
--- the address at the front, and what stands behind its digits and colons
+-- the address at the front, and what stands after its digits and colons
 unfoldable pub address_at : List ℕ → Option (Ipv6Addr × List ℕ)
 address_at text = option_map (λ a. (a, from_first ends_address text)) (ipv6_of (before_first ends_address text))
 
 abbrev pub closed : Ipv6Addr × List ℕ → Option (Ipv6Addr × List ℕ)
 closed x = option_map (λ rest. (x.0, rest)) (behind_closing x.1)
 
--- the address in brackets at the front, and what stands behind it
+-- the address in brackets at the front, and what stands after it
 unfoldable pub bracketed_at : List ℕ → Option (Ipv6Addr × List ℕ)
 bracketed_at text = option_and_then (λ inner. option_and_then closed (address_at inner)) (behind_opening text)
 
@@ -68,7 +68,7 @@ port digits =
     if nat_le 1 (length digits) && nat_le (length digits) 5
     then option_and_then in_range (decimal digits) else None
 
--- the port that is written behind a colon
+-- the port that is written after a colon
 abbrev pub written_port : List ℕ → Option ℕ
 written_port [] = None
 written_port (b ∷ digits) = if b == 58 then port digits else None
@@ -96,7 +96,7 @@ named_at text =
     if well_escaped text && is_name (lowered text)
     then Ok (host_of_name (lowered text) (ipv4_of (lowered text))) else Err Fault.Authority
 
--- What stands before the first colon is a name, and behind it a port.
+-- What stands before the first colon is a name, and after it a port.
 unfoldable pub name_and_port : List ℕ → Result (Host × ℕ) UriFault
 name_and_port text = do
   port ← port_at (from_first (λ b. b == 58) text)

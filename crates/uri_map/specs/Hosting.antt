@@ -19,7 +19,7 @@ host_text (V6 address) = codes "%5B" ++ groups_text (ipv6_segments address) ++ c
 abbrev pub port_text : ℕ → List ℕ
 port_text port = if port == 5683 then [] else codes ":" ++ decimal port
 
--- each text, escaped, behind the byte
+-- each text, escaped, after the byte
 abbrev pub texts_behind : AsciiSet → ℕ → List (List ℕ) → List ℕ
 texts_behind set mark texts = flat_map (λ text. mark ∷ percent_encode set text) texts
 

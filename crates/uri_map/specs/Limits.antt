@@ -38,7 +38,7 @@ uri_options t = options_for t.host t.path t.query
 abbrev pub extra : ℕ → ℕ
 extra n = if nat_lt n 13 then 0 else (if nat_lt n 269 then 1 else 2)
 
--- how many bytes the options take behind one of the number before
+-- how many bytes the options take after one of the number before
 abbrev pub spelled_len : ℕ → List Entry → ℕ
 spelled_len before [] = 0
 spelled_len before (o ∷ os) =

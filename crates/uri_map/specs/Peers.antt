@@ -57,7 +57,7 @@ address_text (Ip.V6 a) = codes "[" ++ groups_text (ipv6_segments a) ++ codes "]"
 abbrev pub peer_text : Peer → List ℕ
 peer_text p = address_text p.address ++ codes ":" ++ decimal p.port
 
--- the address in plain brackets at the front, and what stands behind it
+-- the address in plain brackets at the front, and what stands after it
 abbrev pub behind_byte : ℕ → List ℕ → Option (List ℕ)
 behind_byte b [] = None
 behind_byte b (first ∷ rest) = if first == b then Some rest else None

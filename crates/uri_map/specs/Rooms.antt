@@ -11,17 +11,17 @@ use Rattle.uri_map.specs.Limits.{extra}
 abbrev pub all_room : Room
 all_room = record { number = 0; left = 960 }
 
--- how many bytes an option takes behind one of the number before
+-- how many bytes an option takes after one of the number before
 abbrev pub taken : ℕ → ℕ → ℕ → ℕ
 taken before number len = 1 + extra (number - before) + extra len + len
 
--- the room behind an option of the number with a value of so many bytes
+-- the room after an option of the number with a value of so many bytes
 unfoldable pub room_behind : ℕ → ℕ → Room → Result Room UriFault
 room_behind number len room =
     if nat_lt 255 len || nat_lt room.left (taken room.number number len) then Err TooLong
     else Ok (record { number = number; left = room.left - taken room.number number len })
 
--- and behind one for each piece
+-- and after one for each piece
 abbrev pub rooms_behind : ℕ → List (List ℕ) → Room → Result Room UriFault
 rooms_behind number [] room = Ok room
 rooms_behind number (piece ∷ others) room =

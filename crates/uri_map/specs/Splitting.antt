@@ -11,7 +11,7 @@ use Rattle.uri_map.specs.declared.fault.UriFault.TheVariants.{OtherBase, Scheme}
 abbrev pub from_first : (ℕ → Bool) → List ℕ → List ℕ
 from_first p text = drop (position_or_len p text) text
 
--- what stands behind the base
+-- what stands after the base
 abbrev pub behind_base : List ℕ → List ℕ → Result (List ℕ) UriFault
 behind_base base text = if starts_with nat_eq text base then Ok (drop (length base) text) else Err OtherBase
 
@@ -30,13 +30,13 @@ behind_scheme text =
     then Ok (drop 2 rest) else Err Scheme)
     else Ok text
 
--- Of what follows an authority: the path behind its first `/`, unless the path is empty or `/` alone.
+-- Of what follows an authority: the path after its first `/`, unless the path is empty or `/` alone.
 abbrev pub written_path : List ℕ → Option (List ℕ)
 written_path text =
     let path = before_first (λ b. b == 63) text in
     if nat_lt 1 (length path) then Some (drop 1 path) else None
 
--- the query behind the first `?`, where there is one
+-- the query after the first `?`, where there is one
 abbrev pub written_query : List ℕ → Option (List ℕ)
 written_query text =
     let end = position_or_len (λ b. b == 63) text in

@@ -27,7 +27,7 @@ pub(crate) fn v6_of(text: &[u8]) -> Option<Ipv6Addr>
     Ipv6Addr::parse_ascii(text).ok()
 }
 
-/// What stands behind an opening bracket, plain or escaped.
+/// What stands after an opening bracket, plain or escaped.
 fn behind_opening(text: &[u8]) -> Option<&[u8]>
     ensures { option_view result ≡ spec.behind_opening text.now }
 {
@@ -39,7 +39,7 @@ fn behind_opening(text: &[u8]) -> Option<&[u8]>
     }
 }
 
-/// What stands behind a closing bracket, plain or escaped.
+/// What stands after a closing bracket, plain or escaped.
 fn behind_closing(text: &[u8]) -> Option<&[u8]>
     ensures { option_view result ≡ spec.behind_closing text.now }
 {
@@ -51,7 +51,7 @@ fn behind_closing(text: &[u8]) -> Option<&[u8]>
     }
 }
 
-/// The address at the front, and what stands behind its digits and colons.
+/// The address at the front, and what stands after its digits and colons.
 #[tactic(auto, unfolding(crate::specs::Authority::address_at))]
 fn address_at(text: &[u8]) -> Option<(Ipv6Addr, &[u8])>
     ensures { option_map (λ x. (x.0, x.1.now)) result ≡ spec.address_at text.now }
@@ -61,7 +61,7 @@ fn address_at(text: &[u8]) -> Option<(Ipv6Addr, &[u8])>
     Some((address, rest))
 }
 
-/// The address in brackets at the front, plain or escaped, and what stands behind it.
+/// The address in brackets at the front, plain or escaped, and what stands after it.
 #[tactic(auto, unfolding(crate::specs::Authority::bracketed_at))]
 pub(crate) fn bracketed(text: &[u8]) -> Option<(Ipv6Addr, &[u8])>
     ensures { option_map (λ x. (x.0, x.1.now)) result ≡ spec.bracketed_at text.now }
@@ -72,7 +72,7 @@ pub(crate) fn bracketed(text: &[u8]) -> Option<(Ipv6Addr, &[u8])>
     Some((address, rest))
 }
 
-/// The address in plain brackets at the front, and what stands behind it.
+/// The address in plain brackets at the front, and what stands after it.
 #[tactic(auto, unfolding(crate::specs::Peers::plain_at))]
 pub(crate) fn bracketed_plain(text: &[u8]) -> Option<(Ipv6Addr, &[u8])>
     ensures { option_map (λ x. (x.0, x.1.now)) result ≡ plain_at text.now }

@@ -59,7 +59,7 @@ pub(crate) fn next_piece(part: Part, left: Option<&[u8]>) -> Option<(&[u8], Opti
     }
 }
 
-/// What stands behind the first byte or escape of the text, if there is one.
+/// What stands after the first byte or escape of the text, if there is one.
 fn next_escaped(text: &[u8]) -> Result<Option<&[u8]>, UriFault>
     ensures { scan.Escapes (scan.view_next result) text.now }
 {

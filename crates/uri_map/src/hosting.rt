@@ -75,7 +75,7 @@ fn push_group(out: &mut Vec<u8>, n: u16) -> Result<(), AllocError>
     Ok(())
 }
 
-/// Appends groups, each behind a colon.
+/// Appends groups, each after a colon.
 fn push_other_groups(out: &mut Vec<u8>, segments: &[u16]) -> Result<(), AllocError>
     ensures { OnOk result (out.new.items ≡ out.old.items ++ flat_map (λ n. codes ":" ++ hex n) segments.now) }
 {
@@ -125,7 +125,7 @@ fn push_port(alloc: Global, out: &mut Vec<u8>, port: u16) -> Result<(), AllocErr
     Ok(())
 }
 
-/// Appends each text, escaped, behind the byte.
+/// Appends each text, escaped, after the byte.
 fn push_texts(
     alloc: Global,
     out: &mut Vec<u8>,

@@ -7,7 +7,7 @@ ghost use Rattle.uri_map.specs.Splitting as split;
 use crate::fault::UriFault;
 use crate::marks::{Mark, cut_at, index_of};
 
-/// What stands behind the base.
+/// What stands after the base.
 pub(crate) fn behind_base<'a>(base: &[u8], text: &'a [u8]) -> Result<&'a [u8], UriFault>
     ensures { Reads (λ x. x.now) result (split.behind_base base.now text.now) }
 {
@@ -25,7 +25,7 @@ fn is_coap(scheme: &[u8]) -> bool
     scheme.eq_ignore_ascii_case(b"coap")
 }
 
-/// What stands behind the scheme `coap` and `://`, or all where no scheme is written.
+/// What stands after the scheme `coap` and `://`, or all where no scheme is written.
 pub(crate) fn behind_scheme(text: &[u8]) -> Result<&[u8], UriFault>
     ensures { Reads (λ x. x.now) result (split.behind_scheme text.now) }
 {

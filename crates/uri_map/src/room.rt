@@ -21,7 +21,7 @@ pub(crate) const OPTIONS_LIMIT: usize = 960;
 /// The number of Uri-Host.
 pub(crate) const URI_HOST: u16 = 3;
 
-/// What is left of the room for options, behind one of the number.
+/// What is left of the room for options, after one of the number.
 #[derive(Clone, Copy)]
 pub(crate) struct Room {
     number: u16,
@@ -53,7 +53,7 @@ impl Room {
         }
     }
 
-    /// The room behind a further option with a value of so many bytes.
+    /// The room after a further option with a value of so many bytes.
     #[tactic(auto, unfolding(crate::specs::Rooms::room_behind))]
     fn behind(self, number: u16, len: usize) -> Result<Room, UriFault>
         requires order { self.number ≤ number }
@@ -74,7 +74,7 @@ impl Room {
         })
     }
 
-    /// The room behind the option of a host.
+    /// The room after the option of a host.
     fn behind_host(self, host: &Named) -> Result<Room, UriFault>
         requires order { self.number ≤ 3 }
         requires room { self.left ≤ 960 }
@@ -88,7 +88,7 @@ impl Room {
         }
     }
 
-    /// The room behind the options of a part.
+    /// The room after the options of a part.
     fn behind_part(self, part: Part, text: Option<&[u8]>) -> Result<Room, UriFault>
         requires order { self.number ≤ limits.number part }
         requires room { self.left ≤ 960 }
@@ -105,7 +105,7 @@ impl Room {
     }
 }
 
-/// The room that is left behind the options of a target, if there is any.
+/// The room that is left after the options of a target, if there is any.
 #[tactic(auto, unfolding(crate::specs::Rooms::room_for))]
 pub(crate) fn room_for(
     host: &Named,

@@ -8,7 +8,7 @@ ghost use Rattle.percent_encoding.specs.Iter.{decoded_bytes};
 use percent_encoding::{PercentDecode, percent_decode};
 use std::str::from_utf8;
 
-/// Whether the byte begins a character, and the bytes behind it, which are taken, complete it.
+/// Whether the byte begins a character, and the bytes after it, which are taken, complete it.
 fn ends_char(first: u8, bytes: &mut PercentDecode<'_>) -> bool
     ensures good { result ≡ true → IsUtf8 (first ∷ take (continuation_len first) (decoded_bytes bytes.old)) × (decoded_bytes bytes.new ≡ drop (continuation_len first) (decoded_bytes bytes.old)) }
     ensures bad { result ≡ false → ¬ (IsUtf8 (first ∷ take (continuation_len first) (decoded_bytes bytes.old))) }

@@ -1,4 +1,4 @@
--- What the edge took stands behind what it was given before.
+-- What the edge took stands after what it was given before.
 use Rattle.std.proofs.Common.{ℕ, List, sym, subst}
 use Rattle.http_edge.specs.Edges.{Stands}
 use Rattle.gateway_connections.specs.Readers.{given_of}
