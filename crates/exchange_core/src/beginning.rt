@@ -216,6 +216,15 @@ fn prepare<R: Relation>(
     s.endpoints.prepare_submit(&peer, token, text, moment, word)
 }
 
+/// The message of an ask, under its token, for which its endpoint's link is prepared.
+struct Prepared {
+    peer: Peer,
+    token: Token,
+    /// the message under message ID 0
+    text: Bytes,
+    submission: Submission,
+}
+
 /// Enters the ask, whose message was prepared.
 fn ask<R: Relation>(
     alloc: Global,
@@ -224,22 +233,25 @@ fn ask<R: Relation>(
     word: u64,
     conn: u32,
     mapped: Arc<Mapped<R>>,
-    peer: Peer,
-    token: Token,
-    text: &Bytes,
-    submission: Submission,
+    message: Prepared,
 ) -> Result<Ticket<R>, AskFault>
     requires sound { IsSound s.old }
-    requires begins { MayBegin moment word conn (arc_value mapped) peer token text.now
-        (state_of s.old) }
-    requires message { IsSubmission moment token text.now word
-        (link_at s.old.endpoints peer) submission }
+    requires begins { MayBegin moment word conn (arc_value mapped) message.peer message.token
+        message.text (state_of s.old) }
+    requires message { IsSubmission moment message.token message.text word
+        (link_at s.old.endpoints message.peer) message.submission }
     ensures sound { IsSound s.new }
     ensures ok { IfOk result (λ x. (x.conn ≡ conn) × (arc_value x.mapped ≡ arc_value mapped)
         × IsBegunBy (Ok x.number) moment word conn (arc_value mapped) (seen s.old) (seen s.new)) }
     ensures err { IfErr result (λ e.
         IsBegunBy (Err e) moment word conn (arc_value mapped) (seen s.old) (seen s.new)) }
 {
+    let Prepared {
+        peer,
+        token,
+        text: _,
+        submission,
+    } = message;
     let sent = &submission.sent;
     let draft = draft_ask(alloc, s, moment, conn, &mapped, peer, sent)?;
     let number = s.journal.len() as u32;
@@ -282,9 +294,13 @@ pub fn begin<R: Relation>(
     let text = text_of(alloc, &mapped, &token)?;
     match prepare(s, peer, token, text.as_slice(), moment, word) {
         Ok(submission) => {
-            match ask(
-                alloc, s, moment, word, conn, mapped, peer, token, &text, submission,
-            ) {
+            let message = Prepared {
+                peer,
+                token,
+                text,
+                submission,
+            };
+            match ask(alloc, s, moment, word, conn, mapped, message) {
                 Ok(ticket) => Ok(Begun::Asked(ticket)),
                 Err(fault) => Err(fault),
             }

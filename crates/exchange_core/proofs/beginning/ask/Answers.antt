@@ -12,7 +12,7 @@ use Rattle.exchange_core.proofs.Sounding.{place-left}
 use Rattle.exchange_core.proofs.beginning.ask.Goals as goal
 
 pub draft_ask-requires-clause-timely : goal.draft_ask-requires-clause-timely
-draft_ask-requires-clause-timely g c = timely c.args.moment c.args.peer _ c.args.submission (link-takes _ _ c.args.s.now.endpoints _ c.requires.message.ready)
+draft_ask-requires-clause-timely g c = timely c.args.moment c.args.message.peer _ c.args.message.submission (link-takes _ _ c.args.s.now.endpoints _ c.requires.message.ready)
 
 pub exchange_of-exchange-requires : goal.exchange_of-exchange-requires
 exchange_of-exchange-requires g c =
@@ -24,40 +24,40 @@ pub returns-in-Ok-clause-sound : goal.returns-in-Ok-clause-sound
 returns-in-Ok-clause-sound g c =
     let n = c.len-number.ensures in
     let asked = c.method_of-method.ensures ∙ ap (λ (m : Mapping). asked_method m.sense) c.deref.ensures in
-    let k = link-takes c.args.moment c.args.peer c.args.s.now.endpoints c.args.submission
+    let k = link-takes c.args.moment c.args.message.peer c.args.s.now.endpoints c.args.message.submission
     c.requires.message.ready in
     let next = sent-next _ _ _ _ _ k c.requires.message.waiting in
     let h = c.in_ok-draft.ensures.drafts in
     let i = entered-by c.enter.result _ _ _ _ _ c.in_ok-draft.draft c.args.s.now c.enter.new.s
     (exchange-is _ _ _ _ _ _ _ _ _ _ asked n c.exchange_of-exchange.ensures) c.requires.message.waiting c.enter.ensures in
-    enters-sound c.args.moment c.args.word c.args.conn (arc_value c.args.mapped) c.args.peer c.args.token c.args.text.now c.args.submission.sent c.in_ok-draft.draft c.args.s.now c.enter.new.s
+    enters-sound c.args.moment c.args.word c.args.conn (arc_value c.args.mapped) c.args.message.peer c.args.message.token c.args.message.text c.args.message.submission.sent c.in_ok-draft.draft c.args.s.now c.enter.new.s
     c.requires.sound c.requires.begins h next c.in_ok-draft.ensures.answers c.enter.result i
 
 pub returns-in-Err-clause-sound : goal.returns-in-Err-clause-sound
 returns-in-Err-clause-sound g c =
     let n = c.len-number.ensures in
     let asked = c.method_of-method.ensures ∙ ap (λ (m : Mapping). asked_method m.sense) c.deref.ensures in
-    let k = link-takes c.args.moment c.args.peer c.args.s.now.endpoints c.args.submission
+    let k = link-takes c.args.moment c.args.message.peer c.args.s.now.endpoints c.args.message.submission
     c.requires.message.ready in
     let next = sent-next _ _ _ _ _ k c.requires.message.waiting in
     let h = c.in_ok-draft.ensures.drafts in
     let i = entered-by c.enter.result _ _ _ _ _ c.in_ok-draft.draft c.args.s.now c.enter.new.s
     (exchange-is _ _ _ _ _ _ _ _ _ _ asked n c.exchange_of-exchange.ensures) c.requires.message.waiting c.enter.ensures in
-    enters-sound c.args.moment c.args.word c.args.conn (arc_value c.args.mapped) c.args.peer c.args.token c.args.text.now c.args.submission.sent c.in_ok-draft.draft c.args.s.now c.enter.new.s
+    enters-sound c.args.moment c.args.word c.args.conn (arc_value c.args.mapped) c.args.message.peer c.args.message.token c.args.message.text c.args.message.submission.sent c.in_ok-draft.draft c.args.s.now c.enter.new.s
     c.requires.sound c.requires.begins h next c.in_ok-draft.ensures.answers c.enter.result i
 
 pub returns-in-Ok-clause-ok : goal.returns-in-Ok-clause-ok
 returns-in-Ok-clause-ok g c =
     let n = c.len-number.ensures in
     let asked = c.method_of-method.ensures ∙ ap (λ (m : Mapping). asked_method m.sense) c.deref.ensures in
-    let k = link-takes c.args.moment c.args.peer c.args.s.now.endpoints c.args.submission
+    let k = link-takes c.args.moment c.args.message.peer c.args.s.now.endpoints c.args.message.submission
     c.requires.message.ready in
     let next = sent-next _ _ _ _ _ k c.requires.message.waiting in
     let h = c.in_ok-draft.ensures.drafts in
     let i = entered-by c.enter.result _ _ _ _ _ c.in_ok-draft.draft c.args.s.now c.enter.new.s
     (exchange-is _ _ _ _ _ _ _ _ _ _ asked n c.exchange_of-exchange.ensures) c.requires.message.waiting c.enter.ensures in
     let b =
-    enters-ok c.args.moment c.args.word c.args.conn (arc_value c.args.mapped) c.args.peer c.args.token c.args.text.now c.args.submission.sent c.in_ok-draft.draft c.args.s.now c.enter.new.s
+    enters-ok c.args.moment c.args.word c.args.conn (arc_value c.args.mapped) c.args.message.peer c.args.message.token c.args.message.text c.args.message.submission.sent c.in_ok-draft.draft c.args.s.now c.enter.new.s
     c.requires.sound c.requires.begins h next c.in_ok-draft.ensures.answers c.in-Ok.field-0 (rw (c.in-Ok.is) at i) in
     (refl, refl, (n, b.1, b.2))
 
@@ -65,13 +65,13 @@ pub returns-in-Err-clause-err : goal.returns-in-Err-clause-err
 returns-in-Err-clause-err g c =
     let n = c.len-number.ensures in
     let asked = c.method_of-method.ensures ∙ ap (λ (m : Mapping). asked_method m.sense) c.deref.ensures in
-    let k = link-takes c.args.moment c.args.peer c.args.s.now.endpoints c.args.submission
+    let k = link-takes c.args.moment c.args.message.peer c.args.s.now.endpoints c.args.message.submission
     c.requires.message.ready in
     let next = sent-next _ _ _ _ _ k c.requires.message.waiting in
     let h = c.in_ok-draft.ensures.drafts in
     let i = entered-by c.enter.result _ _ _ _ _ c.in_ok-draft.draft c.args.s.now c.enter.new.s
     (exchange-is _ _ _ _ _ _ _ _ _ _ asked n c.exchange_of-exchange.ensures) c.requires.message.waiting c.enter.ensures in
-    enters-err c.args.moment c.args.word c.args.conn (arc_value c.args.mapped) c.args.peer c.args.token c.args.text.now c.args.submission.sent c.in_ok-draft.draft c.args.s.now c.enter.new.s
+    enters-err c.args.moment c.args.word c.args.conn (arc_value c.args.mapped) c.args.message.peer c.args.message.token c.args.message.text c.args.message.submission.sent c.in_ok-draft.draft c.args.s.now c.enter.new.s
     c.requires.sound c.requires.begins h next c.in_ok-draft.ensures.answers (Unit {0}) c.in-Err.fault (rw (c.in-Err.is) at i)
 
 pub draft_ask-requires-clause-ordered : goal.draft_ask-requires-clause-ordered
