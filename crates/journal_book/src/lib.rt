@@ -10,6 +10,6 @@ mod journal;
 mod numbers;
 mod size;
 
-pub use entry::{Entry, Event, Grounds};
+pub use entry::{Done, Entry, Event, Grounds, Mark};
 pub use journal::Journal;
 pub use numbers::Numbers;

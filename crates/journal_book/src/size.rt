@@ -2,10 +2,10 @@
 
 ghost use Rattle.std.specs.Prelude.{◌≡◌};
 ghost use Rattle.ask_model.specs.Sizes.{capped};
-ghost use Rattle.journal_book.specs.Entries.{grounds_size, deed_size, entry_size};
-ghost use Rattle.journal_book.specs.Views.{grounds_of, event_of, item_of};
+ghost use Rattle.journal_book.specs.Entries.{grounds_size, done_size, deed_size, entry_size};
+ghost use Rattle.journal_book.specs.Views.{grounds_of, plain_done, event_of, item_of};
 
-use crate::entry::{Entry, Event, Grounds};
+use crate::entry::{Done, Entry, Event, Grounds};
 use ask_model::incoming_size;
 use transformers::Relation;
 
@@ -23,6 +23,19 @@ impl Grounds {
     }
 }
 
+impl<R: Relation> Done<R> {
+    /// The bytes of its byte strings.
+    fn size(&self) -> u64
+        ensures { result ≡ capped (done_size (plain_done self.now)) }
+    {
+        match self {
+            Done::Asked(_, mapped) => incoming_size(mapped.came()),
+            Done::Sent { bytes, .. } => bytes.len() as u64,
+            Done::Heard { bytes, .. } => bytes.len() as u64,
+        }
+    }
+}
+
 impl<R: Relation> Event<R> {
     /// The bytes of its byte strings and numbers.
     fn size(&self) -> u64
@@ -33,6 +46,7 @@ impl<R: Relation> Event<R> {
             Event::Sent { bytes, .. } => bytes.len() as u64,
             Event::Heard { bytes, .. } => bytes.len() as u64,
             Event::Answered { grounds, .. } => grounds.size(),
+            Event::Carried { done, .. } => done.size(),
             Event::Opened(_) | Event::Passed | Event::Shut(_) | Event::Sealed => 0,
         }
     }
