@@ -61,6 +61,16 @@ pub const MAX_ENTRIES: u64 = 65_536;
 /// How many bytes the entries of a journal count.
 pub const MAX_JOURNAL_LEN: u64 = 268_435_456;
 
+/// How many copies of an older journal's entries a journal begins with at most: half of it.
+pub const MAX_COPIES: u64 = 32_768;
+
+/// How many bytes these count at most.
+pub const MAX_COPIES_LEN: u64 = 134_217_728;
+
+/// How many tokens were issued at most, and how many connections were opened, where a journal begins.
+/// Both are numbered in four bytes, and one journal numbers 65,536 of each at most.
+pub const MAX_NUMBERED: u32 = 4_294_836_224;
+
 /// What a request counts: its method, its target, its fields and its body. No reader of connections
 /// gives one of more, with its head of 8,192 bytes and its body of 65,536.
 pub const MAX_REQUEST_SIZE: u64 = 2_097_152;

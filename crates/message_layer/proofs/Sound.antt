@@ -6,7 +6,7 @@ use Rattle.coap_codec.specs.Reading.{message_at}
 use Rattle.coap_codec.specs.declared.fault.CodecFault.{CodecFault}
 use Rattle.message_layer.specs.Hearing.{ended, applied, undecoded, hears_read, hears_from, hears, verdict_of, reset_for}
 use Rattle.message_layer.specs.declared.verdict.Verdict.{Verdict}
-use Rattle.message_layer.specs.Calls.{forgotten, rid_of, waits_not_under, waits_on}
+use Rattle.message_layer.specs.Calls.{forgotten, kept_link, rid_of, waits_not_under, waits_on}
 use borrow.Author.Tests.{ltb-true}
 use Rattle.std.proofs.Common.{eq-eqb, ◌*◌, ◌/◌}
 use Rattle.coap_codec.specs.declared.message.MsgType.TheVariants.{Con}
@@ -160,3 +160,10 @@ rid_of-sound gone s h = record {
         → IsSoundTurn f (filter (waits_on gone) s.waiting)
     by None e = let w : s.waiting ≡ [] = rw e at h.turn in rw w refl
     by (Some f) e = rw e at h.turn
+
+pub kept-sound : (t : ℕ) (s : LinkState) → IsSound s → IsSound (kept_link t s)
+kept-sound t s h = record {
+  turn = refl;
+  waiting = tt;
+  given = omega (arith, h.given, length-filter (is_in_use t) s.given, count_by-le-length (is_in_use t) s.given);
+}

@@ -3,7 +3,8 @@ use Rattle.std.specs.Prelude.{ℕ, List, [], ◌∷◌, ◌++◌, filter, Option
 use Rattle.std.specs.List.{list_any}
 use Rattle.std.specs.Str.{bytes_eq}
 use Rattle.message_layer.specs.Values.{LinkState}
-use Rattle.message_layer.specs.Hearing.{is_awaited}
+use Rattle.message_layer.specs.Hearing.{is_awaited, is_fresh}
+use Rattle.message_layer.specs.Mids.{is_in_use}
 use Rattle.message_layer.specs.declared.state.Waiting.{Waiting}
 use Rattle.message_layer.specs.declared.state.Awaited.{Awaited}
 
@@ -55,3 +56,16 @@ without tokens s = rid_of (is_among tokens) s
 -- all datagrams were taken
 abbrev pub out_empty : LinkState → LinkState
 out_empty s = record s { out = [] }
+
+-- Nothing is on its way, waits or is awaited any more. What has to be remembered at this moment stays: the
+-- IDs that are in use, and what may be repeated.
+abbrev pub kept_link : ℕ → LinkState → LinkState
+kept_link t s = record {
+  waiting = [];
+  outstanding = None;
+  last_mid = s.last_mid;
+  given = filter (is_in_use t) s.given;
+  awaited = [];
+  heard = filter (is_fresh t) s.heard;
+  out = [];
+}

@@ -1,5 +1,5 @@
 -- What handing in a message and a tick do to a link (RFC 7252, sections 4.2, 4.4 and 4.7).
-use Rattle.std.specs.Prelude.{◌≡◌, ℕ, ◌+◌, ◌*◌, ◌/◌, ◌%◌, ◌^◌, ◌≤◌, ◌<◌, vec_len, vec_capacity, List, [], ◌∷◌, ◌++◌, length, count_by, Result, Ok, Err, slice_set, Option, Some, None, true, nat_lt, if◌then◌else◌}
+use Rattle.std.specs.Prelude.{◌≡◌, ℕ, ◌+◌, ◌*◌, ◌/◌, ◌%◌, ◌^◌, ◌≤◌, ◌<◌, vec_len, vec_capacity, List, [], ◌∷◌, ◌++◌, length, count_by, Result, Ok, Err, slice_set, Option, Some, None, Bool, true, ◌-◌, nat_le, nat_lt, if◌then◌else◌}
 use Rattle.std.specs.VecDeque.{deque_len, deque_capacity}
 use Rattle.limits.specs.declared.TheConstants.{ACK_TIMEOUT, MAX_MESSAGE_IDS, MAX_RETRANSMIT, MAX_WAITING}
 use Rattle.message_layer.specs.Mids.{is_in_use, pruned}
@@ -23,6 +23,14 @@ initial_timeout word = ACK_TIMEOUT + word % 4294967296 % 1001
 -- The timeout starts at each sending and doubles with each copy.
 abbrev pub due_of : Outstanding → ℕ
 due_of o = o.sent + o.timeout * 2 ^ o.retransmissions
+
+-- when it is given up at the latest: each wait is twice as long as the one before it (section 4.2)
+abbrev pub last_due : Outstanding → ℕ
+last_due o = o.sent + o.timeout * (2 ^ 5 - 2 ^ o.retransmissions)
+
+abbrev pub is_over_by : ℕ → Option Outstanding → Bool
+is_over_by t None = true
+is_over_by t (Some o) = nat_le (last_due o) t
 
 -- one more than the ID before, or the first one
 abbrev pub next_mid : Option ℕ → ℕ → ℕ

@@ -3,7 +3,7 @@
 ghost use Rattle.std.specs.Prelude.{◌≡◌, ◌≤◌, filter, IfOk, OnOk, OnErr, IsOk, false, vec_len, vec_capacity};
 ghost use Rattle.message_layer.specs.Values.{seen};
 ghost use Rattle.message_layer.specs.Sending.{HasRoomToo};
-ghost use Rattle.message_layer.specs.Calls.{waits_not_under, forgotten, is_other, expected, sent_out, is_among, waits_on, is_awaited_on, without, out_empty};
+ghost use Rattle.message_layer.specs.Calls.{waits_not_under, forgotten, is_other, expected, sent_out, is_among, waits_on, is_awaited_on, without, out_empty, kept_link};
 
 use crate::bytes::Bytes;
 use crate::state::{Awaited, Outstanding, State, Waiting};
@@ -93,6 +93,18 @@ pub fn drop_gone(s: &mut State, gone: &[Token])
 pub fn clear_out(s: &mut State)
     ensures { seen s.new ≡ out_empty (seen s.old) }
 {
+    s.out.clear();
+}
+
+/// Nothing is under way any more. What has to be remembered stays.
+pub fn forget_exchanges(s: &mut State, moment: u64)
+    ensures { seen s.new ≡ kept_link moment (seen s.old) }
+{
+    s.waiting.clear();
+    s.outstanding = None;
+    s.given.drop_unused(moment);
+    s.awaited.clear();
+    s.heard.drop_old(moment);
     s.out.clear();
 }
 

@@ -20,6 +20,7 @@ mod link;
 mod mids;
 mod more;
 mod options;
+mod over;
 mod prepared;
 mod remembered;
 mod sending;

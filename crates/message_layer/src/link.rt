@@ -6,9 +6,9 @@ ghost use Rattle.limits.specs.declared.TheConstants.{LAST_MOMENT};
 ghost use Rattle.coap_codec.specs.Spelling.{content};
 ghost use Rattle.coap_codec.specs.Writing.{IsEncodable};
 ghost use Rattle.message_layer.specs.Values.{told, empty_link};
-ghost use Rattle.message_layer.specs.Sending.{ticked, submitted, Submits, IsSubmitted, due_of};
+ghost use Rattle.message_layer.specs.Sending.{ticked, submitted, Submits, IsSubmitted, due_of, is_over_by};
 ghost use Rattle.message_layer.specs.Hearing.{hears, applied};
-ghost use Rattle.message_layer.specs.Calls.{forgotten, expected, sent_out, without, out_empty};
+ghost use Rattle.message_layer.specs.Calls.{forgotten, expected, sent_out, without, out_empty, kept_link};
 ghost use Rattle.message_layer.specs.Prepared.{IsUnnumberedCon, IsSubmission, MaySubmit, MayHeed, MayFollow, IsPreparedFor, IsTicking, link_after, followed, heeded};
 
 use crate::bytes::Bytes;
@@ -17,7 +17,7 @@ use crate::mids::Mids;
 use crate::prepared::{Hearing, Heeding, Submission, Ticking};
 use crate::remembered::Remembered;
 use crate::state::{State, Up};
-use crate::{calls, hearing, more, sending};
+use crate::{calls, hearing, more, over, sending};
 use coap_codec::{Message, MsgType, Token};
 use std::alloc::Global;
 use std::collections::VecDeque;
@@ -256,11 +256,30 @@ impl Link {
         calls::clear_out(&mut self.state);
     }
 
+    /// Forgets all that is under way: what waits or is outstanding, each token under which a
+    /// response is awaited, and the datagrams that are to be given out. What has to be remembered
+    /// at this moment stays: the message IDs that are in use (RFC 7252 section 4.4), and the CONs
+    /// and NONs that may be repeated, by which a repeated one is answered as before (section 4.5).
+    /// It takes no memory.
+    pub fn forget_exchanges(&mut self, moment: u64)
+        ensures { self.new.state ≡ kept_link moment self.old.state }
+    {
+        calls::forget_exchanges(&mut self.state, moment);
+    }
+
     /// When a tick has something to do.
     pub fn next_due(&self) -> Option<u64>
         ensures { result ≡ option_map due_of self.now.state.outstanding }
     {
         sending::next_due(&self.state)
+    }
+
+    /// Whether nothing is outstanding at this moment, were all ticks in time: the message that is, is
+    /// given up by then at the latest (RFC 7252 section 4.2).
+    pub fn is_over(&self, moment: u64) -> bool
+        ensures { result ≡ is_over_by moment self.now.state.outstanding }
+    {
+        over::is_over(&self.state, moment)
     }
 
     /// The same link again, which shares the bytes of its messages.

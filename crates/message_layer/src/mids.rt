@@ -156,6 +156,19 @@ impl Mids {
         count_in_use(&self.moments, moment) + waiting < MAX_MESSAGE_IDS
     }
 
+    /// Forgets those that are in use no more.
+    pub fn drop_unused(&mut self, moment: u64)
+        ensures moments { self.new.moments ≡ filter (is_in_use moment) self.old.moments }
+        ensures newest { self.new.newest ≡ self.old.newest }
+        ensures room { self.old.room ≤ self.new.room }
+    {
+        if self.rising {
+            drop_first(&mut self.moments, moment);
+        } else {
+            drop_any(&mut self.moments, moment);
+        }
+    }
+
     /// Forgets those that are in use no more, if there are many.
     pub fn prune(&mut self, waiting: usize, moment: u64)
         requires { waiting ≤ MAX_MESSAGE_IDS }
@@ -166,11 +179,7 @@ impl Mids {
         if self.moments.len() + waiting < MAX_MESSAGE_IDS {
             return;
         }
-        if self.rising {
-            drop_first(&mut self.moments, moment);
-        } else {
-            drop_any(&mut self.moments, moment);
-        }
+        self.drop_unused(moment);
     }
 
     /// The same again.

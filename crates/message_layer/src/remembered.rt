@@ -156,7 +156,7 @@ impl Remembered {
     }
 
     /// Forgets those that are remembered no more.
-    fn drop_old(&mut self, moment: u64)
+    pub fn drop_old(&mut self, moment: u64)
         ensures messages { self.new.messages ≡ filter (is_fresh moment) self.old.messages }
         ensures room { self.old.room ≡ true → self.new.room ≡ true }
     {

@@ -21,9 +21,10 @@ use limits::{ACK_TIMEOUT, MAX_RETRANSMIT, MAX_WAITING};
 use std::alloc::{AllocError, Global};
 
 /// Two to the power of the number of copies.
-fn power(retransmissions: u8) -> u64
+pub fn power(retransmissions: u8) -> u64
     requires { retransmissions ≤ MAX_RETRANSMIT }
-    ensures { result ≡ 2 ^ retransmissions }
+    ensures is { result ≡ 2 ^ retransmissions }
+    ensures small { result ≤ 16 }
 {
     match retransmissions {
         0 => 1,

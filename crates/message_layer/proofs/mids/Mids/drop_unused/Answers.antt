@@ -1,6 +1,6 @@
 use Rattle.message_layer.specs.Mids.{is_in_use}
 use Rattle.message_layer.proofs.Rising.{IsRising-filter}
-use Rattle.message_layer.proofs.mids.Mids.prune.Goals as goal
+use Rattle.message_layer.proofs.mids.Mids.drop_unused.Goals as goal
 
 pub invariant_of-self : goal.invariant_of-self
 invariant_of-self c = λ risen.
