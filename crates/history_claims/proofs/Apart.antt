@@ -9,29 +9,29 @@ use Rattle.history_laws.specs.Readings.{Noted, First, Says, Notice, entries, at,
 use Rattle.history_laws.specs.Connections.{asks_by, asks_of, answers_by, answers_of}
 use Rattle.history_laws.specs.Justified.{Stands}
 use Rattle.history_laws.specs.Laws.{IsFirst, IsAnswer, RestsOn}
-use Rattle.history_laws.proofs.CallerLemmas.{answered-in-order, answered-once, at-same, entries-length, ids-apart, rests-on-its-own, tokens-apart}
-use Rattle.history_claims.specs.Headline.{IsEntry, IsFirstSending}
+use Rattle.history_laws.proofs.CallerLemmas.{answered-in-order, answered-once, at-same, entries-length, firsts-ids, firsts-tokens, rests-on-its-own}
+use Rattle.history_claims.specs.Headline.{IsEntry, WasFirstSent}
 use Rattle.history_claims.specs.Apart.{asked_by, asked, answered_by, answered}
 use Rattle.history_claims.proofs.Entries.{entries-at}
-use Rattle.history_claims.proofs.Sending.{first-of}
+use Rattle.history_claims.proofs.Sending.{sending_of, first-sent}
 
-pub tokens-once : (h : List Written) (i j s t : ℕ) (p r : Peer) (m n : Content) → Stands h → IsFirstSending h i s p m → IsFirstSending h j t r n
+pub tokens-once : (h : List Written) (i j s t : ℕ) (p r : Peer) (m n : Content) → Stands h → WasFirstSent h i s p m → WasFirstSent h j t r n
     → m.token ≡ n.token → i ≡ j
 tokens-once h i j s t p r m n stands =
-    subst (λ (h : List Written). IsFirstSending h i s p m → IsFirstSending h j t r n → m.token ≡ n.token → i ≡ j) stands.entries_are
+    subst (λ (h : List Written). WasFirstSent h i s p m → WasFirstSent h j t r n → m.token ≡ n.token → i ≡ j) stands.entries_are
     (λ f g e.
-    let a = first-of stands.reading i s p m stands.legal f in
-    let b = first-of stands.reading j t r n stands.legal g in
-    tokens-apart stands.reading s t a.0 i b.0 j p r m n stands.legal a.1 b.1 e)
+    let a = first-sent stands.reading i s p m stands.legal f in
+    let b = first-sent stands.reading j t r n stands.legal g in
+    firsts-tokens stands.reading (sending_of i s a.0 p m) (sending_of j t b.0 r n) stands.legal a.1 b.1 e)
 
-pub ids-once : (h : List Written) (i j s t : ℕ) (p : Peer) (m n : Content) → Stands h → IsFirstSending h i s p m → IsFirstSending h j t p n
+pub ids-once : (h : List Written) (i j s t : ℕ) (p : Peer) (m n : Content) → Stands h → WasFirstSent h i s p m → WasFirstSent h j t p n
     → m.mid ≡ n.mid → i < j → s + MESSAGE_ID_LIFETIME ≤ t
 ids-once h i j s t p m n stands =
-    subst (λ (h : List Written). IsFirstSending h i s p m → IsFirstSending h j t p n → m.mid ≡ n.mid → i < j → s + MESSAGE_ID_LIFETIME ≤ t) stands.entries_are
+    subst (λ (h : List Written). WasFirstSent h i s p m → WasFirstSent h j t p n → m.mid ≡ n.mid → i < j → s + MESSAGE_ID_LIFETIME ≤ t) stands.entries_are
     (λ f g e lt.
-    let a = first-of stands.reading i s p m stands.legal f in
-    let b = first-of stands.reading j t p n stands.legal g in
-    ids-apart stands.reading s t a.0 i b.0 j p m n stands.legal a.1 b.1 e lt)
+    let a = first-sent stands.reading i s p m stands.legal f in
+    let b = first-sent stands.reading j t p n stands.legal g in
+    firsts-ids stands.reading (sending_of i s a.0 p m) (sending_of j t b.0 p n) stands.legal a.1 b.1 refl e lt)
 
 pub answer-at : (l : List Noted) (n t c k : ℕ) (g : Grounds) → IsEntry (entries l) n t (Answers c k g) → IsAnswer l n c k g
 answer-at l n t c k g e =

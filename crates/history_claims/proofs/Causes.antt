@@ -186,7 +186,7 @@ module _ (l : List Noted) (n t c k : ℕ) (cause : Cause) (j : ℕ) (legal : Leg
 
       that-one : (s i : ℕ) (p : Peer) (m : Content) → IsFirst l s k i p m → IsFirst (before l n) s k i p m → IsNamed → i ≡ j
       that-one s i p m first soon (inl some) =
-          let f = sent-last-first (before l n) k j some in
+          let f = sent-last-first (before l n) k j c ask asked some in
           sent-once l s f.0 k i j p f.1 m f.2 legal first (first-before l n f.0 k j f.1 f.2 f.3)
       that-one s i p m first soon (inr none) = absurd (sent-last-none (before l n) s k i p m none.0 soon)
 
@@ -280,7 +280,7 @@ module _ (l : List Noted) (n t c k : ℕ) (cause : Cause) (j : ℕ) (legal : Leg
   names : (b : Begun) → begun l k ≡ Some b → ((s i : ℕ) (p : Peer) (m : Content) → sent_last (before l n) k ≡ None → IsFirst l s k i p m → ⊥)
       → reads (before l n) k ≡ Some k → HasTimedOut → IsNamed → (j < n) × Named b.request
   names b opened never own how (inl some) =
-      let f = sent-last-first (before l n) k j some in
+      let f = sent-last-first (before l n) k j c ask asked some in
       let sent = sent-as l f.0 k j f.1 f.2 b legal opened (first-before l n f.0 k j f.1 f.2 f.3) in
       let none = unanswered f.0 f.1 f.2 f.3 own how in
       (below j _ f.3.stands, inl (f.2, sent.1, subst (λ (p : Peer). IsUnanswered (entries l) p j f.2 n) sent.0 none))

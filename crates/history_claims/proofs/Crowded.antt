@@ -15,19 +15,19 @@ use Rattle.ask_model.specs.Requests.{CoapRequest, Sense, Requests, Refuses}
 use Rattle.ask_model.specs.Views.{Ask}
 use Rattle.uri_map.proofs.CallerLemmas.{same_peer-same}
 use Rattle.history_claims.proofs.Entries.{entries-at, asked-entry, grows}
-use Rattle.history_claims.proofs.Sending.{first-entry, first-before}
+use Rattle.history_claims.proofs.Sending.{first-before, listed-sent}
 use Rattle.history_claims.proofs.Resting.{answers-ask}
 use Rattle.history_claims.proofs.Unsent.{Over, over-still}
 use Rattle.history_claims.proofs.InTime.{going-in-time}
 use Rattle.history_claims.proofs.Counting.{apart-push, apart-filter, apart-filtered}
-use Rattle.journal_book.specs.Entries.{Grounds, Live, Kept, Fault, Deed, Sends, Asks}
-use Rattle.history_laws.specs.Readings.{Noted, Note, Plain, Begins, First, entries, at, before, noted}
+use Rattle.journal_book.specs.Entries.{Sent, Grounds, Live, Kept, Fault, Deed, Sends, Asks, Carries}
+use Rattle.history_laws.specs.Readings.{Noted, Note, Plain, Begins, First, Bygone, entries, at, before, noted}
 use Rattle.history_laws.specs.Connections.{is_sealed}
 use Rattle.history_laws.specs.Transmissions.{FirstSending, firsts_by, firsts, is_recent, mids_used}
 use Rattle.history_laws.specs.Exchanges.{Begun, begun, opens_by, opened_by, openings, is_going, open_exchanges, goes_to, is_waiting, waiting as waiting_at, waits_for, submitted}
 use Rattle.history_laws.specs.Hearing.{has_room}
 use Rattle.history_laws.specs.Justified.{IsRefused, Caused, HasGrounds, AskNote, Follows, Legal}
-use Rattle.history_laws.proofs.CallerLemmas.{all-of, asked-for, at-before, at-same, before-twice, begun-before, begun-below, contains-mapped, filtered-from, firsts-stand, follows-at, is-some, IsFirst-below, length-before, listed-begun, queue-rises, reads-own, RisesBy, waiting-all}
+use Rattle.history_laws.proofs.CallerLemmas.{all-listed, all-of, asked-for, at-before, at-same, before-twice, begun-before, begun-below, contains-mapped, filtered-from, follows-at, is-some, IsListed, length-before, listed-begun, listed-below, queue-rises, reads-own, RisesBy, waiting-all}
 use Rattle.history_claims.specs.Causes.{AreApart, AreMany, IsPending, IsPendingAt, IsRecent, IsCrowded, exchanges, waiting, ids}
 
 -- An ask that opened an exchange is answered only when that is over.
@@ -115,7 +115,7 @@ openings-apart (x ∷ older) =
 numbers-below : (l : List Noted) (n : ℕ) → Contains (map (λ (f : FirstSending). f.number) (firsts l)) n → n < length l
 numbers-below l n h =
     let it = contains-mapped (λ (f : FirstSending). f.number) (firsts l) n h in
-    subst (λ (n : ℕ). n < length l) it.2 (IsFirst-below l it.0.moment it.0.opening it.0.number it.0.peer it.0.message (firsts-stand l it.0 it.1))
+    subst (λ (n : ℕ). n < length l) it.2 (listed-below l it.0 it.1)
 
 abbrev numbers_of : List FirstSending → List ℕ
 numbers_of fs = map (λ (f : FirstSending). f.number) fs
@@ -123,6 +123,7 @@ numbers_of fs = map (λ (f : FirstSending). f.number) fs
 numbers-step : (n t : ℕ) (d : Deed) (note : Note) (old : List FirstSending) → AreApart (numbers_of old) → (Contains (numbers_of old) n → ⊥)
     → AreApart (numbers_of (firsts_by n t d note old))
 numbers-step n t (Sends p b w) (First o m) old h new = (new, h)
+numbers-step n t (Carries k mark (Sent p b w)) (Bygone m) old h new = (new, h)
 numbers-step n t d note old h new = h
 
 numbers-apart : (l : List Noted) → AreApart (numbers_of (firsts l))
@@ -130,6 +131,11 @@ numbers-apart [] = tt
 numbers-apart (x ∷ older) =
     numbers-step (length older) x.written.moment x.written.deed x.note (firsts older) (numbers-apart older)
     (λ h. let below = numbers-below older (length older) h in absurd (omega (arith, below)))
+
+listed-before : (l : List Noted) (k : ℕ) (f : FirstSending) → IsListed (before l k) f → IsListed l f
+listed-before l k f (inl h) = inl (first-before l k f.moment f.opening f.number f.peer f.message h)
+listed-before l k f (inr h) =
+    inr (record { old = h.old; mark = h.mark; bytes = h.bytes; timeout = h.timeout; stands = at-before l k f.number _ h.stands; own = h.own })
 
 -- A list that rises by something has each of its members once.
 rises-apart : (f : ℕ → ℕ) (os : List ℕ) → RisesBy f os → AreApart os
@@ -181,9 +187,8 @@ module _ (l : List Noted) (k : ℕ) (x : Noted) (legal : Legal l) (here : at l k
             let both = filtered-from (is_recent t p) fs it.0 it.1 in
             let f : FirstSending = it.0 in
             let parts = and_parts (same_peer f.peer p) (nat_lt t (f.moment + MESSAGE_ID_LIFETIME)) both.1 in
-            let stands = firsts-stand (before l k) f both.0 in
-            let below = subst (λ (m : ℕ). f.number < m) (length-before l k x here) (IsFirst-below (before l k) f.moment f.opening f.number f.peer f.message stands) in
-            let first = first-entry l f.moment f.opening f.number f.peer f.message legal (first-before l k f.moment f.opening f.number f.peer f.message stands) in
+            let below = subst (λ (m : ℕ). f.number < m) (length-before l k x here) (listed-below (before l k) f both.0) in
+            let first = listed-sent l f legal (listed-before l k f (all-listed (before l k) f both.0)) in
             subst (IsRecent (entries l) k t p) it.2
             (subst (λ (p : Peer). IsRecent (entries l) k t p f.number) (same_peer-same f.peer p parts.0)
             (record { before = below; moment = f.moment; message = f.message; first = first; recent = ltb-true t (f.moment + MESSAGE_ID_LIFETIME) parts.1 }));

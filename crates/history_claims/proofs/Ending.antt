@@ -21,7 +21,7 @@ use Rattle.history_laws.specs.Exchanges.{Turn, Nothing, Sent, Replied, Rejected,
 use Rattle.history_laws.specs.Hearing.{went_as, is_as, open_at, answers_by, answers}
 use Rattle.history_laws.specs.Justified.{MaySay, Follows}
 use Rattle.history_laws.specs.Laws.{IsFirst}
-use Rattle.history_laws.proofs.CallerLemmas.{at-same, contains-none, eqb-same, find-some, first-or-later, first-stands, first_end, none-is, none-some, replied-first, some-is, waits-first}
+use Rattle.history_laws.proofs.CallerLemmas.{contains-none, eqb-same, find-some, first-is, first-or-later, first_end, none-is, none-some, replied-first, some-is, waits-first}
 
 -- an entry that rejects what an exchange waits for
 pub record RejectedTurn (l : List Noted) (o : ℕ) (x : Noted) : Type 0 where
@@ -306,13 +306,6 @@ pub record RejectedIn (l : List Noted) (o : ℕ) (x : Noted) : Type 0 where
 says-to : (m : Content) (i j : Option ℕ) (u v : Notice) → Says m i u ≡ Says m j v → i ≡ j
 says-to m i j u v e = cc
 
-opening-same : (l : List Noted) (i s t o q : ℕ) (p r : Peer) (m n : Content) → IsFirst l s o i p m → IsFirst l t q i r n → o ≡ q
-opening-same l i s t o q p r m n f g =
-    go (ap (λ (x : Noted). x.note) (at-same l i (noted s (Sends p f.bytes f.timeout) (First o m)) (noted t (Sends r g.bytes g.timeout) (First q n)) f.stands g.stands))
-  where
-    go : First o m ≡ First q n → o ≡ q
-    go h = cc
-
 pub rejected-in : (l : List Noted) (o : ℕ) (x : Noted) → Follows l x.written.moment x.written.deed x.note → turn l o x ≡ Rejected → RejectedIn l o x
 rejected-in l o x may e =
     let h = turn-rejected l o x e in
@@ -325,11 +318,9 @@ rejected-in l o x may e =
     (subst (λ (k : MsgType). answers_by l h.peer m k (eqb m.code 0) (leb 32 m.code) ≡ Some h.to) h.reset found) in
     let f = as-first l h.peer m h.to by.2 in
     let way = open-way l h.peer h.to by.1 in
-    let stands = first-stands l h.to f.0 f.1 in
     let waits = waits-first l o h.to h.waited in
-    let opening = opening-same l h.to f.0.moment waits.0 f.0.opening o f.0.peer waits.1 f.0.message waits.2 stands waits.3 in
     let own : IsFirst l f.0.moment o h.to f.0.peer f.0.message =
-    subst (λ (o : ℕ). IsFirst l f.0.moment o h.to f.0.peer f.0.message) opening stands in
+    subst (λ (g : FirstSending). IsFirst l g.moment o h.to g.peer g.message) (sym (first-is l waits.0 o h.to waits.1 waits.2 f.0 waits.3 f.1)) waits.3 in
     let none = says.spelled.nothing_else (eqb-same m.code 0 by.0) in
     let is : m ≡ empty Rst m.mid = empty-parts m Rst 0 [] [] [] h.reset (eqb-same m.code 0 by.0) none.0 none.1 none.2 in
     record {

@@ -11,19 +11,19 @@ use Rattle.uri_map.specs.declared.peer.Peer.{Peer}
 use Rattle.ask_model.specs.Views.{Ask}
 use Rattle.journal_book.specs.Entries.{Deed, Opens, Asks, Shuts}
 use Rattle.history_laws.specs.Readings.{Noted, Note, at, before}
-use Rattle.history_laws.specs.Connections.{open_by, is_open, asks_of, answers_of, opened_by, opened}
+use Rattle.history_laws.specs.Connections.{has_opened, open_by, is_open, asks_of, answers_of, opened_by, opened}
 use Rattle.history_laws.specs.Progress.{Ending}
 use Rattle.history_laws.specs.Exchanges.{Begun, begun, is_late, Turn, Nothing, Sent, Replied, Rejected, Expired, expires, turn, waits_for, replies, end_here, end_of, is_going}
 use Rattle.history_laws.specs.Justified.{IsAsk, Ends, reads_in, reads, reads_open, pending, is_in_hand, Follows, Legal, AtRest, MayCome}
 use Rattle.history_laws.specs.Laws.{IsFirst}
-use Rattle.history_laws.proofs.CallerLemmas.{ask-listed, asks-keep, asks-once, at-still, before-twice, begun-below, ends-first, few-waiting, follows-at, IsFirst-below, legal-before, length-before, more-answers, none-some, open-below, range-passes, sent-for, turn-replied, waits-first}
+use Rattle.history_laws.proofs.CallerLemmas.{ask-listed, asks-keep, asks-once, at-still, before-twice, begun-below, ends-first, few-waiting, follows-at, IsFirst-below, legal-before, length-before, more-answers, next-above, none-some, open-below, range-passes, sent-for, turn-replied, waits-first}
 use Rattle.history_claims.proofs.Entries.{grows}
 use Rattle.history_claims.proofs.Ending.{turn-rejected, turn-expired}
 use Rattle.history_claims.proofs.Unsent.{ended-at}
 
 -- as many connections were opened, and asks answered, as before, or more
 more-opened : (l : List Noted) (t : ℕ) (d : Deed) (note : Note) → Follows l t d note → opened l ≤ opened_by d (opened l)
-more-opened l t (Opens c) note may = let here = may.1 in omega (arith, here)
+more-opened l t (Opens c) note may = let here = next-above (has_opened l) (opened l) c may.1 in omega (arith, here)
 more-opened l t d note may = omega arith
 
 opened-before : (l : List Noted) (n : ℕ) → Legal l → opened (before l n) ≤ opened l
@@ -52,7 +52,7 @@ answers-before (x ∷ older) n c =
 open-was : (l : List Noted) (t c : ℕ) (d : Deed) (note : Note) → c < opened l → Follows l t d note → open_by c d (is_open l c) ≡ true → is_open l c ≡ true
 open-was l t c (Opens e) note below may h =
     elim (eqb_tells e c) [
-      | inl w ↦ let same = w.1 in let here = may.1 in absurd (omega (arith, same, here, below))
+      | inl w ↦ let same = w.1 in let here = next-above (has_opened l) (opened l) e may.1 in absurd (omega (arith, same, here, below))
       | inr w ↦ rw (w.0) at h
     ]
 open-was l t c (Shuts e) note below may h =

@@ -17,3 +17,5 @@ mod Apart
 mod Turns
 mod Examples
 mod Refused
+mod Copies
+mod Copied

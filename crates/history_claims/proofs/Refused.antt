@@ -7,21 +7,24 @@ use Rattle.coap_codec.specs.Spelling.{Content, Spells}
 use Rattle.coap_codec.proofs.Unique.{spells_one}
 use Rattle.uri_map.specs.declared.peer.Peer.{Peer}
 use Rattle.ask_model.specs.Requests.{CoapRequest}
-use Rattle.journal_book.specs.Entries.{Deed, Sends, Hears, Written}
+use Rattle.journal_book.specs.Entries.{Done, Heard, done_of, Deed, Sends, Hears, Written}
 use Rattle.history_laws.specs.Confirmations.{empty}
 use Rattle.history_laws.specs.Readings.{entries}
 use Rattle.history_laws.specs.Worked.{server, empty_ack, empty_rst}
 use Rattle.history_laws.specs.WorkedMessages as M
 use Rattle.history_laws.specs.WorkedLate as L
-use Rattle.history_laws.proofs.CallerLemmas.{ack-spelled, content-spelled, eqb-same, get-spelled, other-spelled, put-spelled, rst-0-spelled}
+use Rattle.history_laws.proofs.CallerLemmas.{ack-spelled, content-spelled, eqb-same, get-spelled, other-spelled, put-spelled, rst-0-spelled, some-is}
 use Rattle.history_claims.specs.Headline.{IsEntry, IsFirstSending, IsHeard, MayRepeat, IsRepeat, again, IsResponse, IsUnanswered, IsHeardFor, AreHeardFor}
 use Rattle.history_claims.specs.Worked.{Late, Second, Unheeded, Unrejected, Abandoned}
 use Rattle.history_claims.proofs.Examples.{entry_of, is_first, places, lies_in, texts, heard-texts, fourth, moment-same}
 
 -- where datagrams were heard
+abbrev is_heard_so : Option Done → Bool
+is_heard_so (Some (Heard p b)) = true
+is_heard_so x = false
+
 abbrev is_heard : Deed → Bool
-is_heard (Hears p b) = true
-is_heard d = false
+is_heard d = is_heard_so (done_of d)
 
 -- of two places, one
 one-of : (j a b : ℕ) → lies_in (a ∷ b ∷ []) j ≡ true → (j ≡ a) ⊎ (j ≡ b)
@@ -39,6 +42,12 @@ peers-heard t s p r b c e = go (ap (λ (x : Written). x.deed) (same _ _ e))
 
     go : Hears p b ≡ Hears r c → p ≡ r
     go f = cc
+
+deeds-same : (t s : ℕ) (d e : Deed) → Some (entry_of t d) ≡ Some (entry_of s e) → d ≡ e
+deeds-same t s d e f = ap (λ (x : Written). x.deed) (some-is _ _ f)
+
+done-texts : (p r : Peer) (b c : List ℕ) → Some (Heard p b) ≡ Some (Heard r c) → b ≡ c
+done-texts p r b c e = cc
 
 peers-sent : (t s : ℕ) (p r : Peer) (b c : List ℕ) (w v : Option ℕ) → Some (entry_of t (Sends p b w)) ≡ Some (entry_of s (Sends r c v)) → p ≡ r
 peers-sent t s p r b c w v e = go (ap (λ (x : Written). x.deed) (same _ _ e))
@@ -65,14 +74,16 @@ module _ (h : List Written) (get : IsEntry h 2 0 (Sends server M.get_bytes (Some
 
   -- the GET's response, which is no repeat
   module _ (ack : IsEntry h 7 2100 (Hears server (empty_ack 0))) (heard : IsEntry h 9 5000 (Hears server M.content_bytes))
-      (only : (i s : ℕ) (p : Peer) (b : List ℕ) → IsEntry h i s (Hears p b) → i < 9 → i ≡ 7) where
+      (only : (i s : ℕ) (d : Deed) → IsEntry h i s d → is_heard d ≡ true → i < 9 → i ≡ 7) where
     no-repeat : (p : Peer) → IsRepeat h p 9 → ⊥
     no-repeat p (again i alike new) =
-        let place : i ≡ 7 = only i alike.moment p alike.heard_first.bytes alike.heard_first.stands alike.earlier in
-        let stands = subst (λ (i : ℕ). IsEntry h i alike.moment (Hears p alike.heard_first.bytes)) place alike.heard_first.stands in
-        let text = heard-texts 2100 alike.moment server p (empty_ack 0) alike.heard_first.bytes (sym ack ∙ stands) in
+        let first = alike.heard_first in
+        let d : Deed = first.done.deed in
+        let place : i ≡ 7 = only i alike.moment d first.done.stands (ap is_heard_so first.done.says) alike.earlier in
+        let stands : IsEntry h 7 alike.moment d = subst (λ (i : ℕ). IsEntry h i alike.moment d) place first.done.stands in
+        let text = done-texts server p (empty_ack 0) first.bytes (ap done_of (deeds-same 2100 alike.moment (Hears server (empty_ack 0)) d (sym ack ∙ stands)) ∙ first.done.says) in
         let is : alike.first ≡ empty Ack 0 =
-        spells_one alike.first (empty Ack 0) alike.heard_first.bytes alike.heard_first.spelled (subst (Spells (empty Ack 0)) text ack-spelled) in
+        spells_one alike.first (empty Ack 0) first.bytes first.spelled (subst (Spells (empty Ack 0)) text ack-spelled) in
         subst (λ (m : Content). MayRepeat m.kind) is alike.kinds.0
 
     answered : (p : Peer) (m : Content) (n : ℕ) → p ≡ server → m ≡ M.get_message → 9 < n → IsUnanswered h p 2 m n → ⊥
@@ -95,9 +106,9 @@ module _ (h : List Written) (get : IsEntry h 2 0 (Sends server M.get_bytes (Some
 abbrev twice : List Written
 twice = entries L.heard_twice
 
-twice-heard : (i s : ℕ) (p : Peer) (b : List ℕ) → IsEntry twice i s (Hears p b) → i < 9 → i ≡ 7
-twice-heard i s p b e less =
-    elim (or_cases (eqb i 7) _ (places is_heard twice (7 ∷ 9 ∷ 12 ∷ []) 14 i s (Hears p b) refl refl e refl)) [
+twice-heard : (i s : ℕ) (d : Deed) → IsEntry twice i s d → is_heard d ≡ true → i < 9 → i ≡ 7
+twice-heard i s d e is less =
+    elim (or_cases (eqb i 7) _ (places is_heard twice (7 ∷ 9 ∷ 12 ∷ []) 14 i s d refl refl e is)) [
       | inl w ↦ eqb-same i 7 w
       | inr w ↦ elim (one-of i 9 12 w) [ inl v ↦ absurd (omega (arith, v, less)) | inr v ↦ absurd (omega (arith, v, less)) ]
     ]
@@ -105,9 +116,9 @@ twice-heard i s p b e less =
 abbrev half : List Written
 half = entries L.half_answered
 
-half-heard : (i s : ℕ) (p : Peer) (b : List ℕ) → IsEntry half i s (Hears p b) → i < 9 → i ≡ 7
-half-heard i s p b e less =
-    elim (one-of i 7 9 (places is_heard half (7 ∷ 9 ∷ []) 15 i s (Hears p b) refl refl e refl)) [ inl v ↦ v | inr v ↦ absurd (omega (arith, v, less)) ]
+half-heard : (i s : ℕ) (d : Deed) → IsEntry half i s d → is_heard d ≡ true → i < 9 → i ≡ 7
+half-heard i s d e is less =
+    elim (one-of i 7 9 (places is_heard half (7 ∷ 9 ∷ []) 15 i s d refl refl e is)) [ inl v ↦ v | inr v ↦ absurd (omega (arith, v, less)) ]
 
 -- the second response is no reply to the GET, nor to the PUT
 second-heard : (q : CoapRequest) (m : Content) → IsHeardFor twice 1 q 12 m → ⊥

@@ -1,16 +1,18 @@
 -- First sendings among the entries, and what they were sent for.
-use Rattle.std.proofs.Common.{◌≡◌, ℕ, List, Option, Some, refl, sym, subst, ◌∙◌}
+use Rattle.std.proofs.Common.{◌≡◌, ℕ, zero, eqb, inl, inr, List, [], ◌∷◌, length, Option, Some, refl, sym, ap, subst, ◌∙◌, arith}
+use Rattle.std.specs.List.{Contains}
 use Rattle.coap_codec.specs.Spelling.{Content, Spells}
 use Rattle.coap_codec.proofs.Unique.{spells_one}
 use Rattle.uri_map.specs.declared.peer.Peer.{Peer}
-use Rattle.journal_book.specs.Entries.{Sends}
-use Rattle.history_laws.specs.Readings.{Noted, Note, First, Copies, Confirms, entries, at, before, noted}
+use Rattle.journal_book.specs.Entries.{Mark, Ground, Past, Sent, Deed, Sends, Carries, Written}
+use Rattle.history_laws.specs.Readings.{Noted, Note, First, Copies, Confirms, Bygone, entries, at, before, noted}
+use Rattle.history_laws.specs.Transmissions.{FirstSending, firsts_by, firsts}
 use Rattle.history_laws.specs.Exchanges.{Begun, begun}
-use Rattle.history_laws.specs.Justified.{MayBeFirst, Follows, Legal}
+use Rattle.history_laws.specs.Justified.{MayBeFirst, IsApart, CopiedNote, Follows, Legal}
 use Rattle.history_laws.specs.Laws.{IsFirst}
-use Rattle.history_laws.proofs.CallerLemmas.{at-before, at-entries, follows-at, none-some, sent-for, some-is, tokens-apart}
-use Rattle.history_claims.specs.Headline.{IsFirstSending, IsSentFor}
-use Rattle.history_claims.proofs.Entries.{entries-at}
+use Rattle.history_laws.proofs.CallerLemmas.{at-before, at-entries, at-old, contains-later, find-some, first-found, firsts-tokens, follows-at, is-some, IsListed, none-some, sent-for, some-is}
+use Rattle.history_claims.specs.Headline.{IsFirstSending, WasFirstSent, IsSentFor}
+use Rattle.history_claims.proofs.Entries.{entries-at, own-or-copied}
 
 -- a sending with a timeout is a first one, of the message that it spells
 first-note : (l : List Noted) (t : ℕ) (p : Peer) (b : List ℕ) (w : ℕ) (note : Note) → Follows l t (Sends p b (Some w)) note
@@ -45,6 +47,83 @@ first-entry l t o i p m legal f =
       spelled = may.spelled;
     }
 
+-- What was first sent is listed, whether here or as a copy.
+abbrev pub sending_of : ℕ → ℕ → ℕ → Peer → Content → FirstSending
+sending_of i t o p m = record { number = i; moment = t; opening = o; peer = p; message = m }
+
+pub first-member : (l : List Noted) (t o i : ℕ) (p : Peer) (m : Content) → IsFirst l t o i p m → Contains (firsts l) (sending_of i t o p m)
+first-member l t o i p m f = (find-some (λ (f : FirstSending). eqb f.number i) (firsts l) (sending_of i t o p m) (first-found l t o i p m f)).0
+
+firsts-keep : (n t : ℕ) (d : Deed) (note : Note) (old : List FirstSending) (f : FirstSending) → Contains old f → Contains (firsts_by n t d note old) f
+firsts-keep n t (Sends p b w) (First o m) old f h = contains-later (sending_of n t o p m) old f h
+firsts-keep n t (Carries k mark (Sent p b w)) (Bygone m) old f h = contains-later (sending_of n t n p m) old f h
+firsts-keep n t d note old f h = h
+
+copy-member : (l : List Noted) (i t k : ℕ) (mark : Mark) (p : Peer) (b : List ℕ) (w : Option ℕ) (m : Content)
+    → at l i ≡ Some (noted t (Carries k mark (Sent p b w)) (Bygone m)) → Contains (firsts l) (sending_of i t i p m)
+copy-member [] i t k mark p b w m e = absurd (none-some _ e)
+copy-member (x ∷ older) i t k mark p b w m e =
+    let copy : Noted = noted t (Carries k mark (Sent p b w)) (Bygone m) in
+    elim (at-old x older i copy e) [
+      | inl u ↦
+          subst (λ (v : Noted). Contains (firsts (v ∷ older)) (sending_of i t i p m)) (sym u.1)
+          (subst (λ (n : ℕ). Contains (firsts (copy ∷ older)) (sending_of n t n p m)) (sym u.0) (zero, omega arith, refl))
+      | inr u ↦
+          firsts-keep (length older) x.written.moment x.written.deed x.note (firsts older) (sending_of i t i p m)
+          (copy-member older i t k mark p b w m u)
+    ]
+
+copied-first : (l : List Noted) (i t k : ℕ) (mark : Mark) (p : Peer) (b : List ℕ) (w : Option ℕ) (m : Content) (note : Note)
+    → at l i ≡ Some (noted t (Carries k mark (Sent p b w)) note) → Spells m b → CopiedNote (before l i) t mark (Sent p b w) note
+    → Contains (firsts l) (sending_of i t i p m)
+copied-first l i t k Past p b w m (Bygone n) e spelled may =
+    subst (λ (m : Content). Contains (firsts l) (sending_of i t i p m)) (spells_one n m b may.spelled spelled) (copy-member l i t k Past p b w n e)
+copied-first l i t k mark p b w m note e spelled may = absurd may
+
+pub first-sent : (l : List Noted) (i t : ℕ) (p : Peer) (m : Content) → Legal l → WasFirstSent (entries l) i t p m
+    → (o : ℕ) × Contains (firsts l) (sending_of i t o p m)
+first-sent l i t p m legal f =
+    elim (own-or-copied (entries l) i t (Sent p f.bytes (Some f.timeout)) f.done) [
+      | inl own ↦
+          let it = first-of l i t p m legal (record { bytes = f.bytes; timeout = f.timeout; stands = own; spelled = f.spelled }) in
+          (it.0, first-member l t it.0 i p m it.1)
+      | inr old ↦
+          let there = entries-at l i _ old.2 in
+          (i, copied-first l i t old.0 old.1 p f.bytes (Some f.timeout) m there.0 there.1 f.spelled (follows-at l i _ legal there.1).2)
+    ]
+
+-- And what is listed was first sent.
+own-first : (h : List Written) (i t : ℕ) (p : Peer) (m : Content) → IsFirstSending h i t p m → WasFirstSent h i t p m
+own-first h i t p m f =
+    record {
+      bytes = f.bytes;
+      timeout = f.timeout;
+      done = record { deed = Sends p f.bytes (Some f.timeout); stands = f.stands; says = refl };
+      spelled = f.spelled;
+    }
+
+copy-apart : (l : List Noted) (t : ℕ) (mark : Mark) (p : Peer) (b : List ℕ) (w : Option ℕ) (m : Content) → CopiedNote l t mark (Sent p b w) (Bygone m)
+    → IsApart l t p b m w
+copy-apart l t Past p b w m may = may
+copy-apart l t Ground p b w m may = absurd may
+
+pub listed-sent : (l : List Noted) (f : FirstSending) → Legal l → IsListed l f → WasFirstSent (entries l) f.number f.moment f.peer f.message
+listed-sent l f legal (inl h) =
+    own-first (entries l) f.number f.moment f.peer f.message (first-entry l f.moment f.opening f.number f.peer f.message legal h)
+listed-sent l f legal (inr h) =
+    let may = copy-apart (before l f.number) f.moment h.mark f.peer h.bytes h.timeout f.message (follows-at l f.number _ legal h.stands).2 in
+    let wait = is-some h.timeout may.first_wait in
+    record {
+      bytes = h.bytes;
+      timeout = wait.0;
+      done = record {
+        deed = Carries h.old h.mark (Sent f.peer h.bytes h.timeout);
+        stands = at-entries l f.number _ h.stands;
+        says = ap (λ (w : Option ℕ). Some (Sent f.peer h.bytes w)) wait.1;
+      };
+      spelled = may.spelled;
+    }
+
 -- a first sending was sent for the request that its exchange was opened for
 pub record SentIn (l : List Noted) (o i : ℕ) (p : Peer) (m : Content) : Type 0 where
   pub exchange : Begun
@@ -65,8 +144,8 @@ sent-in l t o i p m legal f =
         first = subst (λ (p : Peer). IsFirstSending (entries l) i t p m) it.peer (first-entry l t o i p m legal f);
         asks = it.carries;
         issued = λ j s r n g e.
-            let other = first-of l j s r n legal g in
-            tokens-apart l s t other.0 j o i r p n m legal other.1 f e;
+            let other = first-sent l j s r n legal g in
+            firsts-tokens l (sending_of j s other.0 r n) (sending_of i t o p m) legal other.1 (first-member l t o i p m f) e;
       };
     }
 

@@ -10,14 +10,15 @@ use Rattle.coap_codec.proofs.Unique.{spells_one}
 use Rattle.uri_map.specs.declared.peer.Peer.{Peer}
 use Rattle.uri_map.specs.Peers.{same_peer}
 use Rattle.uri_map.proofs.CallerLemmas.{same_peer-itself}
-use Rattle.journal_book.specs.Entries.{Sends, Hears}
+use Rattle.journal_book.specs.Entries.{Hears}
 use Rattle.history_laws.specs.Confirmations.{empty}
-use Rattle.history_laws.specs.Readings.{Noted, Note, First, Says, Repeats, Garbled, Notice, noted}
+use Rattle.history_laws.specs.Readings.{Noted, Note, Says, Repeats, Garbled, Notice, noted}
 use Rattle.history_laws.specs.Transmissions.{FirstSending, firsts, first_at, Transmission, transmission, outstanding}
 use Rattle.history_laws.specs.Hearing.{is_such, heard_before, repeated, went_under, went_as, is_under, is_as, open_at, answers}
 use Rattle.history_laws.specs.Justified.{MaySay, Follows, Legal}
 use Rattle.history_laws.specs.Laws.{IsFirst}
-use Rattle.history_laws.proofs.CallerLemmas.{any-first, at-same, eqb-itself, find-any, first-stands, none-some, outstanding-last, tokens-apart}
+use Rattle.history_laws.proofs.CallerLemmas.{eqb-itself, eqb-same, find-some, first-found, firsts-tokens, none-some, outstanding-last}
+use Rattle.history_claims.proofs.Sending.{sending_of, first-member}
 
 -- what ends the sending of a message, beside a response
 pub data Settles (m sent : Content) : Type 0 where
@@ -36,39 +37,15 @@ open-is l t o i p m y legal f e =
     ∙ ap (λ (i : ℕ). i ∷ []) last.2
 
 -- a first sending is found by its number
-parts-same : (s t o q : ℕ) (p r : Peer) (m n : Content) (l : List Noted) (i : ℕ) → IsFirst l s o i p m → IsFirst l t q i r n → (p ≡ r) × (m ≡ n)
-parts-same s t o q p r m n l i f g =
-    let e = at-same l i _ _ f.stands g.stands in
-    (peers (ap (λ (x : Noted). x.written.deed) e), messages (ap (λ (x : Noted). x.note) e))
-  where
-    peers : Sends p f.bytes f.timeout ≡ Sends r g.bytes g.timeout → p ≡ r
-    peers h = cc
+pub as-true : (l : List Noted) (t o i : ℕ) (p : Peer) (m n : Content) → IsFirst l t o i p m → n.mid ≡ m.mid → is_as l p n i ≡ true
+as-true l t o i p m n f e =
+    subst (λ (x : Option FirstSending). went_as p n.mid x ≡ true) (sym (first-found l t o i p m f))
+    (rw (same_peer-itself p, e) (eqb-itself m.mid))
 
-    messages : First o m ≡ First q n → m ≡ n
-    messages h = cc
-
-pub record FoundAt (l : List Noted) (i : ℕ) (p : Peer) (m : Content) : Type 0 where
-  pub sending : FirstSending
-  pub is : first_at l i ≡ Some sending
-  pub peer : sending.peer ≡ p
-  pub message : sending.message ≡ m
-
-pub found-at : (l : List Noted) (t o i : ℕ) (p : Peer) (m : Content) → IsFirst l t o i p m → FoundAt l i p m
-found-at l t o i p m f =
-    let it = find-any (λ (f : FirstSending). eqb f.number i) (firsts l) (any-first (λ (f : FirstSending). eqb f.number i) l t o i p m f (eqb-itself i)) in
-    let g = first-stands l i it.0 it.1 in
-    let same = parts-same it.0.moment t it.0.opening o it.0.peer p it.0.message m l i g f in
-    record { sending = it.0; is = it.1; peer = same.0; message = same.1 }
-
-pub as-true : (l : List Noted) (p : Peer) (m n : Content) (i : ℕ) → FoundAt l i p m → n.mid ≡ m.mid → is_as l p n i ≡ true
-as-true l p m n i f e =
-    subst (λ (o : Option FirstSending). went_as p n.mid o ≡ true) (sym f.is)
-    (rw (f.peer, same_peer-itself p, f.message, e) (eqb-itself m.mid))
-
-pub under-true : (l : List Noted) (p : Peer) (m n : Content) (i : ℕ) → FoundAt l i p m → n.token ≡ m.token → is_under l p n i ≡ true
-under-true l p m n i f e =
-    subst (λ (o : Option FirstSending). went_under p n.token o ≡ true) (sym f.is)
-    (rw (f.peer, same_peer-itself p, f.message) ((bytes_eq-Decides m.token n.token).1 (sym e)))
+pub under-true : (l : List Noted) (t o i : ℕ) (p : Peer) (m n : Content) → IsFirst l t o i p m → n.token ≡ m.token → is_under l p n i ≡ true
+under-true l t o i p m n f e =
+    subst (λ (x : Option FirstSending). went_under p n.token x ≡ true) (sym (first-found l t o i p m f))
+    (rw (same_peer-itself p) ((bytes_eq-Decides m.token n.token).1 (sym e)))
 
 -- what is found under a token is the message that bears it
 pub under-is : (l : List Noted) (t o i j : ℕ) (p : Peer) (m n : Content) → Legal l → IsFirst l t o i p m → n.token ≡ m.token → is_under l p n j ≡ true → j ≡ i
@@ -79,7 +56,9 @@ under-is l t o i j p m n legal f e h = go (first_at l j) refl h
     go (Some g) is h =
         let both = and_parts (same_peer g.peer p) (bytes_eq g.message.token n.token) h in
         let token : g.message.token ≡ n.token = (bytes_eq-Decides g.message.token n.token).0 both.1 in
-        tokens-apart l g.moment t g.opening j o i g.peer p g.message m legal (first-stands l j g is) f (token ∙ e)
+        let it = find-some (λ (f : FirstSending). eqb f.number j) (firsts l) g is in
+        sym (eqb-same g.number j it.1)
+        ∙ firsts-tokens l g (sending_of i t o p m) legal it.0 (first-member l t o i p m f) (token ∙ e)
 
 find-here : (p : ℕ → Bool) (i : ℕ) → p i ≡ true → find p (i ∷ []) ≡ Some i
 find-here p i e = rw e refl
@@ -88,7 +67,7 @@ module _ (l : List Noted) (t o i : ℕ) (p : Peer) (m : Content) (y : Transmissi
   among-open : (n : Content) → n.mid ≡ m.mid → find (is_as l p n) (open_at l p) ≡ Some i
   among-open n same =
       subst (λ (js : List ℕ). find (is_as l p n) js ≡ Some i) (sym (open-is l t o i p m y legal f e))
-      (find-here (is_as l p n) i (as-true l p m n i (found-at l t o i p m f) same))
+      (find-here (is_as l p n) i (as-true l t o i p m n f same))
 
   settling : (n : Content) → Settles n m → answers l p n ≡ Some i
   settling n (confirms is) =
@@ -125,5 +104,5 @@ settled l t o i p m y z s b (Says k to notice) n legal f e may spelled settles a
 settled l t o i p m y z s b (Repeats k j) n legal f e may spelled settles after =
     let same : k ≡ n = spells_one k n b may.3.0 spelled in
     no-repeat l s p n m j settles (subst (λ (n : Content). repeated l s p n ≡ Some j) same may.3.1)
-settled l t o i p m y z s b Garbled n legal f e may spelled settles after = may.3 n spelled
+settled l t o i p m y z s b Garbled n legal f e may spelled settles after = may.3.1 n spelled
 settled l t o i p m y z s b note n legal f e may spelled settles after = absurd may.3

@@ -7,17 +7,17 @@ use Rattle.coap_codec.specs.Spelling.{Content}
 use Rattle.uri_map.specs.declared.peer.Peer.{Peer}
 use Rattle.ask_model.specs.Requests.{CoapRequest, Requests}
 use Rattle.ask_model.specs.Views.{Ask}
-use Rattle.journal_book.specs.Entries.{Grounds, Deed, Answers, Asks, Sends, Seals}
-use Rattle.history_laws.specs.Readings.{Noted, Note, Plain, Begins, First, entries, at, before, noted}
+use Rattle.journal_book.specs.Entries.{Mark, Done, Sent, Grounds, Deed, Answers, Asks, Sends, Seals, Carries}
+use Rattle.history_laws.specs.Readings.{Noted, Note, Plain, Begins, First, Bygone, entries, at, before, noted}
 use Rattle.history_laws.specs.Connections.{is_sealed, sealed_by}
 use Rattle.history_laws.specs.Progress.{Ending}
 use Rattle.history_laws.specs.Transmissions.{FirstSending, firsts, sent_last}
 use Rattle.history_laws.specs.Exchanges.{begun, end_of, end_here, end_by, End, turn, replies, goes_to, is_going, waits_for}
-use Rattle.history_laws.specs.Justified.{MayBeFirst, Follows, Legal}
+use Rattle.history_laws.specs.Justified.{IsAsk, MayBeFirst, Follows, Legal}
 use Rattle.history_laws.specs.Laws.{IsFirst}
 use Rattle.history_claims.proofs.Entries.{asked-entry, grows}
 use Rattle.history_claims.proofs.Sending.{first-of, sent-in}
-use Rattle.history_laws.proofs.CallerLemmas.{any-first, asked-for, at-same, at-still, before-twice, begun-opening, eqb-itself, eqb-same, find-any, find-some, first-waits, firsts-stand, follows-at, none-is, none-some, some-is}
+use Rattle.history_laws.proofs.CallerLemmas.{all-listed, any-first, asked-for, at-same, at-still, before-twice, begun-opening, eqb-itself, eqb-same, find-any, find-some, first-waits, follows-at, none-is, none-some, some-is}
 use Rattle.history_claims.specs.Causes.{IsUnsent}
 
 -- Where no first sending is that of the ask's exchange, each is that of another.
@@ -60,21 +60,33 @@ sent-last-none l t o i p m e f =
     (any-first (λ (f : FirstSending). eqb f.opening o) l t o i p m f (eqb-itself o)) in
     none-some it.0 (sym (map-none (λ (f : FirstSending). f.number) _ e) ∙ it.1)
 
-pub sent-last-first : (l : List Noted) (o i : ℕ) → sent_last l o ≡ Some i → (t : ℕ) × (p : Peer) × (m : Content) × IsFirst l t o i p m
-sent-last-first l o i e = go (find (λ (f : FirstSending). eqb f.opening o) (firsts l)) refl e
+asks-no-copy : (s t c k : ℕ) (a : Ask) (mark : Mark) (done : Done) (u v : Note) → noted s (Asks c a) u ≡ noted t (Carries k mark done) v → ⊥
+asks-no-copy s t c k a mark done u v e = go (ap (λ (x : Noted). x.written.deed) e)
+  where
+    go : Asks c a ≡ Carries k mark done → ⊥
+    go f = cc
+
+pub sent-last-first : (l : List Noted) (o i c : ℕ) (a : Ask) → IsAsk l o c a → sent_last l o ≡ Some i → (t : ℕ) × (p : Peer) × (m : Content) × IsFirst l t o i p m
+sent-last-first l o i c a ask e = go (find (λ (f : FirstSending). eqb f.opening o) (firsts l)) refl e
   where
     go : (f : Option FirstSending) → find (λ (f : FirstSending). eqb f.opening o) (firsts l) ≡ f → option_map (λ (f : FirstSending). f.number) f ≡ Some i
         → (t : ℕ) × (p : Peer) × (m : Content) × IsFirst l t o i p m
     go None is h = absurd (none-some i h)
     go (Some f) is h =
         let it = find-some (λ (f : FirstSending). eqb f.opening o) (firsts l) f is in
-        let first = firsts-stand l f it.0 in (
-          f.moment,
-          f.peer,
-          f.message,
-          subst (λ (i : ℕ). IsFirst l f.moment o i f.peer f.message) (some-is f.number i h)
-              (subst (λ (o : ℕ). IsFirst l f.moment o f.number f.peer f.message) (eqb-same f.opening o it.1) first),
-        )
+        let own = eqb-same f.opening o it.1 in
+        elim (all-listed l f it.0) [
+          | inl first ↦ (
+            f.moment,
+            f.peer,
+            f.message,
+            subst (λ (i : ℕ). IsFirst l f.moment o i f.peer f.message) (some-is f.number i h)
+                (subst (λ (o : ℕ). IsFirst l f.moment o f.number f.peer f.message) own first),
+          )
+          | inr copy ↦
+              let copied = subst (λ (n : ℕ). at l n ≡ Some (noted f.moment (Carries copy.old copy.mark (Sent f.peer copy.bytes copy.timeout)) (Bygone f.message))) (sym copy.own ∙ own) copy.stands in
+              absurd (asks-no-copy ask.moment f.moment c copy.old a copy.mark (Sent f.peer copy.bytes copy.timeout) ask.note (Bygone f.message) (at-same l o _ _ ask.stands copied))
+        ]
 
 -- Nothing is sent for an exchange that has ended, nor in a sealed journal.
 abbrev pub Over : ℕ → List Noted → Type 0

@@ -19,7 +19,7 @@ use Rattle.history_laws.proofs.CallerLemmas.{at-before, at-below, at-old, at-sti
 use Rattle.history_claims.specs.Headline.{BringsResponse, IsResponse, IsNew, IsUnanswered, IsHeardFor}
 use Rattle.history_claims.proofs.Sending.{first-before, sent-as}
 use Rattle.history_claims.proofs.Repeats.{heard-at, heard-entry, says-new, repeats-again}
-use Rattle.history_claims.proofs.Settling.{found-at, under-true, as-true, under-is}
+use Rattle.history_claims.proofs.Settling.{under-true, as-true, under-is}
 
 -- what an exchange waits for is awaited
 or-left : (b : Bool) → (true || b) ≡ true
@@ -62,7 +62,7 @@ found-one p xs i h only =
 module _ (l : List Noted) (t o i : ℕ) (p : Peer) (sent : Content) (legal : Legal l) (f : IsFirst l t o i p sent) (waits : waits_for l o ≡ Some i)
     (m : Content) (token : m.token ≡ sent.token) where
   under : is_under l p m i ≡ true
-  under = under-true l p sent m i (found-at l t o i p sent f) token
+  under = under-true l t o i p sent m f token
 
   any-awaited : (q : ℕ → Bool) → q i ≡ true → list_any q (awaited l) ≡ true
   any-awaited q is =
@@ -81,7 +81,7 @@ module _ (l : List Noted) (t o i : ℕ) (p : Peer) (sent : Content) (legal : Leg
 
   by-both : m.mid ≡ sent.mid → find Both (awaited l ++ open_at l p) ≡ Some i
   by-both mid =
-      let is : Both i ≡ true = rw under (as-true l p sent m i (found-at l t o i p sent f) mid) in
+      let is : Both i ≡ true = rw under (as-true l t o i p sent m f mid) in
       found-one Both (awaited l ++ open_at l p) i (any-more Both (awaited l) (open_at l p) (any-awaited Both is))
       (λ j h. under-is l t o i j p sent m legal f token (both-under j (is_under l p m j) (is_as l p m j) h))
 

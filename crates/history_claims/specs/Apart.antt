@@ -1,26 +1,26 @@
--- What keeps requests, replies and answers apart in every journal that stands: said of its entries
--- alone.
+-- What keeps requests, replies and answers apart in every journal that stands, and copies before all
+-- else: said of its entries alone.
 use Rattle.std.specs.Prelude.{◌≡◌, ℕ, ◌+◌, ◌<◌, ◌≤◌, List, [], ◌∷◌, ◌++◌, length, take, ◌==◌, if◌then◌else◌}
 use Rattle.std.specs.List.{Contains}
 use Rattle.limits.specs.declared.TheConstants.{MESSAGE_ID_LIFETIME}
 use Rattle.coap_codec.specs.Spelling.{Content}
 use Rattle.uri_map.specs.declared.peer.Peer.{Peer}
 use Rattle.ask_model.specs.Views.{Ask}
-use Rattle.journal_book.specs.Entries.{Grounds, Live, Deed, Asks, Answers, Written}
+use Rattle.journal_book.specs.Entries.{Grounds, Live, Mark, Done, Deed, Asks, Answers, Carries, Written}
 use Rattle.history_laws.specs.Justified.{Stands}
-use Rattle.history_claims.specs.Headline.{IsEntry, IsFirstSending}
+use Rattle.history_claims.specs.Headline.{IsEntry, WasFirstSent}
 
 -- A token is borne by one message of all (RFC 7252 section 5.3.1).
 abbrev pub TokensOnce : Type 0
 TokensOnce =
     (h : List Written) (i j s t : ℕ) (p r : Peer) (m n : Content) → Stands h
-    → IsFirstSending h i s p m → IsFirstSending h j t r n → m.token ≡ n.token → i ≡ j
+    → WasFirstSent h i s p m → WasFirstSent h j t r n → m.token ≡ n.token → i ≡ j
 
 -- To one endpoint a message ID is used once in 494 seconds (RFC 7252 section 4.4).
 abbrev pub IdsOnce : Type 0
 IdsOnce =
     (h : List Written) (i j s t : ℕ) (p : Peer) (m n : Content) → Stands h
-    → IsFirstSending h i s p m → IsFirstSending h j t p n → m.mid ≡ n.mid → i < j
+    → WasFirstSent h i s p m → WasFirstSent h j t p n → m.mid ≡ n.mid → i < j
     → s + MESSAGE_ID_LIFETIME ≤ t
 
 -- No reply is part of the answers to two asks.
@@ -72,3 +72,10 @@ abbrev pub AnsweredInOrder : Type 0
 AnsweredInOrder =
     (h : List Written) (c : ℕ) → Stands h
     → answered c h ≡ take (length (answered c h)) (asked c 0 h)
+
+-- Before a copy stand only copies, of entries that stood before its own in the older journal.
+abbrev pub CopiesFirst : Type 0
+CopiesFirst =
+    (h : List Written) (i j s t n : ℕ) (d : Deed) (mark : Mark) (done : Done) → Stands h
+    → IsEntry h i s d → IsEntry h j t (Carries n mark done) → i < j
+    → (k : ℕ) × (other : Mark) × (what : Done) × (d ≡ Carries k other what) × (k < n)

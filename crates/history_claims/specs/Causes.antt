@@ -12,7 +12,7 @@ use Rattle.journal_book.specs.Entries.{Grounds, Fault, Sends, Passes, Answers, W
 use Rattle.history_laws.specs.Responses.{whole_of}
 use Rattle.history_laws.specs.Confirmations.{empty}
 use Rattle.history_laws.specs.Justified.{Stands}
-use Rattle.history_claims.specs.Headline.{IsEntry, IsAsked, IsFirstSending, IsSentFor, IsHeard, IsUnanswered, IsHeardFor, IsInTime}
+use Rattle.history_claims.specs.Headline.{IsEntry, IsAsked, IsFirstSending, WasFirstSent, IsSentFor, IsHeard, IsUnanswered, IsHeardFor, IsInTime}
 
 -- Nothing was sent for the ask: what asks the same, after it, was sent for another ask.
 abbrev pub IsUnsent : List Written → ℕ → CoapRequest → Type 0
@@ -85,13 +85,13 @@ pub record IsPending (h : List Written) (k o : ℕ) (q : CoapRequest) : Type 0 w
 abbrev pub IsPendingAt : List Written → ℕ → Peer → ℕ → Type 0
 IsPendingAt h k p o = (q : CoapRequest) × (q.peer ≡ p) × IsPending h k o q
 
--- Before the ask k, the entry i first sent a message to the endpoint, whose ID may not be used
+-- Before the ask k, a message was first sent to the endpoint in the entry i, whose ID may not be used
 -- again at this moment (RFC 7252 section 4.4).
 pub record IsRecent (h : List Written) (k t : ℕ) (p : Peer) (i : ℕ) : Type 0 where
   pub before : i < k
   pub moment : ℕ
   pub message : Content
-  pub first : IsFirstSending h i moment p message
+  pub first : WasFirstSent h i moment p message
   pub recent : t < moment + MESSAGE_ID_LIFETIME
 
 -- There is no room for one request more to this endpoint: 256 are pending, or 64 to it, or there is

@@ -1,5 +1,6 @@
 -- What an answer rests on: said of a journal's entries alone, which lie oldest first and go by their
--- number from 0.
+-- number from 0. A journal may begin with copies of an older one's entries: no answer rests on them,
+-- but tokens, message IDs and repeats are told by them too.
 use Rattle.std.specs.Prelude.{◌≡◌, ℕ, ◌+◌, ◌<◌, ◌≤◌, List, [], ◌∷◌, slice_get, Some, ⊤}
 use Rattle.std.specs.List.{Contains}
 use Rattle.limits.specs.declared.TheConstants.{EXCHANGE_LIFETIME, MAX_TRANSMIT_WAIT}
@@ -9,13 +10,19 @@ use Rattle.coap_codec.specs.Spelling.{Content, Spells}
 use Rattle.uri_map.specs.declared.peer.Peer.{Peer}
 use Rattle.ask_model.specs.Requests.{CoapRequest, Came, Sense, Requests, request_message}
 use Rattle.ask_model.specs.Views.{Rules}
-use Rattle.journal_book.specs.Entries.{Live, Deed, Asks, Sends, Hears, Passes, Answers, Written}
+use Rattle.journal_book.specs.Entries.{Live, Done, Sent, Heard, done_of, Deed, Asks, Sends, Hears, Passes, Answers, Written}
 use Rattle.history_laws.specs.Responses.{Response, whole_of}
 use Rattle.history_laws.specs.Justified.{Stands}
 
 -- The entry with this number was made at this moment, and says this.
 abbrev pub IsEntry : List Written → ℕ → ℕ → Deed → Type 0
 IsEntry h n t d = slice_get h n ≡ Some (record { moment = t; deed = d })
+
+-- At this moment this was done: by the entry with this number, or by that which it is a copy of.
+pub record WasDone (h : List Written) (n t : ℕ) (done : Done) : Type 0 where
+  pub deed : Deed
+  pub stands : IsEntry h n t deed
+  pub says : done_of deed ≡ Some done
 
 -- The connection asked, in this entry and at this moment, what has this sense: a CoAP request, or a
 -- refusal (RFC 8075 section 5).
@@ -31,6 +38,13 @@ pub record IsFirstSending (h : List Written) (i t : ℕ) (p : Peer) (m : Content
   pub stands : IsEntry h i t (Sends p bytes (Some timeout))
   pub spelled : Spells m bytes
 
+-- The entry did so, or is a copy of one that did.
+pub record WasFirstSent (h : List Written) (i t : ℕ) (p : Peer) (m : Content) : Type 0 where
+  pub bytes : List ℕ
+  pub timeout : ℕ
+  pub done : WasDone h i t (Sent p bytes (Some timeout))
+  pub spelled : Spells m bytes
+
 -- The message asks just what the request means: its method, options and body (RFC 7252 section 5).
 abbrev pub AsksFor : CoapRequest → Content → Type 0
 AsksFor q m = m ≡ request_message q m.mid m.token
@@ -43,13 +57,19 @@ pub record IsSentFor
   pub moment : ℕ
   pub first : IsFirstSending h i moment q.peer m
   pub asks : AsksFor q m
-  pub issued : (j s : ℕ) (p : Peer) (n : Content) → IsFirstSending h j s p n
+  pub issued : (j s : ℕ) (p : Peer) (n : Content) → WasFirstSent h j s p n
       → n.token ≡ m.token → j ≡ i
 
 -- The entry heard this message from the endpoint, at this moment.
 pub record IsHeard (h : List Written) (p : Peer) (j t : ℕ) (m : Content) : Type 0 where
   pub bytes : List ℕ
   pub stands : IsEntry h j t (Hears p bytes)
+  pub spelled : Spells m bytes
+
+-- The entry did so, or is a copy of one that did.
+pub record WasHeard (h : List Written) (p : Peer) (j t : ℕ) (m : Content) : Type 0 where
+  pub bytes : List ℕ
+  pub done : WasDone h j t (Heard p bytes)
   pub spelled : Spells m bytes
 
 -- A CON or NON may come again.
@@ -64,10 +84,10 @@ pub record IsAlike (h : List Written) (p : Peer) (i j : ℕ) : Type 0 where
   pub earlier : i < j
   pub moment : ℕ
   pub first : Content
-  pub heard_first : IsHeard h p i moment first
+  pub heard_first : WasHeard h p i moment first
   pub later : ℕ
   pub second : Content
-  pub heard_second : IsHeard h p j later second
+  pub heard_second : WasHeard h p j later second
   pub kinds : MayRepeat first.kind × MayRepeat second.kind
   pub id : first.mid ≡ second.mid
   pub recent : later < moment + EXCHANGE_LIFETIME

@@ -1,15 +1,17 @@
 -- Worked journals of `history_laws`, as entries: what their answers rest on, and what they don't.
-use Rattle.std.specs.Prelude.{List, [], ◌∷◌, None}
+use Rattle.std.specs.Prelude.{List, [], ◌∷◌, Some, None}
 use Rattle.ask_model.specs.declared.cause.Cause.TheVariants as C
 use Rattle.ask_model.specs.Requests.{CoapRequest}
-use Rattle.journal_book.specs.Entries.{Hears}
-use Rattle.history_laws.specs.Readings.{Noted, Says, unobserved, entries, noted}
+use Rattle.coap_codec.specs.Spelling.{Content}
+use Rattle.journal_book.specs.Entries.{Sends, Hears}
+use Rattle.history_laws.specs.Readings.{Noted, First, Says, unobserved, entries, noted}
 use Rattle.history_laws.specs.Worked.{server}
 use Rattle.history_laws.specs.WorkedMessages as M
+use Rattle.history_laws.specs.WorkedCopies as W
 use Rattle.history_laws.specs.WorkedEndings as E
 use Rattle.history_laws.specs.WorkedLate as L
 use Rattle.history_laws.specs.WorkedSpoiled as S
-use Rattle.history_claims.specs.Headline.{RestsOn}
+use Rattle.history_claims.specs.Headline.{IsSentFor, IsRepeat, RestsOn}
 use Rattle.history_claims.specs.Causes.{IsPending, IsCausedBy}
 
 -- The GET's answer rests on the response of entry 9, and the PUT's on that of entry 16.
@@ -61,3 +63,18 @@ Unrejected = IsCausedBy (entries L.rejected_after) 10 2200 0 1 C.Reset 9 → ⊥
 -- Not so: an ask of a closed connection that crowds out others still, after 93 seconds.
 abbrev pub Abandoned : Type 0
 Abandoned = (q : CoapRequest) → IsPending (entries L.abandoned) 7 1 q → ⊥
+
+-- After copies an answer rests on a response of the journal's own, and what was heard before repeats
+-- the copy of that.
+abbrev pub AnsweredAnew : Type 0
+AnsweredAnew = RestsOn (entries W.answered_anew) 9 2 6 (8 ∷ [])
+
+abbrev pub Repeated : Type 0
+Repeated = IsRepeat (entries W.answered_anew) server 3
+
+-- Not so: a message for the GET under the token of a copy.
+abbrev pub sent_again : List Noted
+sent_again = noted 100000 (Sends server M.get_bytes (Some 2000)) (First 6 M.get_message) ∷ W.asking_anew
+
+abbrev pub SentAgain : Type 0
+SentAgain = (m : Content) → IsSentFor (entries sent_again) 6 M.get_light 7 m → ⊥

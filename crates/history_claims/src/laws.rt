@@ -10,6 +10,7 @@ ghost use Rattle.history_claims.specs.Apart.{
   AnswersAnAsk,
   AskedInTurn,
   AnsweredInOrder,
+  CopiesFirst,
 };
 
 /// An answer that isn't the proxy's own rests on one whole response, heard under tokens that were
@@ -38,4 +39,9 @@ pub fn answered_in_order()
     ensures asked { AnswersAnAsk }
     ensures in_turn { AskedInTurn }
     ensures in_order { AnsweredInOrder }
+{}
+
+/// A journal begins with the copies that it has of an older one's entries, in their order.
+pub fn copies_first()
+    ensures { CopiesFirst }
 {}

@@ -13,6 +13,9 @@ ghost use Rattle.history_claims.specs.Worked.{
   Unheeded,
   Unrejected,
   Abandoned,
+  AnsweredAnew,
+  Repeated,
+  SentAgain,
 };
 
 /// A separate response, and one in an ACK.
@@ -43,4 +46,12 @@ pub fn not_excused()
     ensures unheeded { Unheeded }
     ensures unrejected { Unrejected }
     ensures abandoned { Abandoned }
+{}
+
+/// After copies of an older journal's entries: a response to what is asked anew, and what repeats one of
+/// before. And a token of before, which nothing may bear any more.
+pub fn worked_copies()
+    ensures answered { AnsweredAnew }
+    ensures repeated { Repeated }
+    ensures sent_again { SentAgain }
 {}

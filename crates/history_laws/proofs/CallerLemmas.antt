@@ -1,6 +1,7 @@
 -- The lemmas on a history that other crates cite. Declares nothing, and no other module of proofs/ can be named from outside.
 pub use Rattle.history_laws.proofs.Answering.{answered-in-order, answered-once, asks-keep, asks-once, asks-stand, IsAnswer-old, more-answers, next-ask, push-cases}
 pub use Rattle.history_laws.proofs.Basis.{made-of, reads-own, rests-on-its-own}
+pub use Rattle.history_laws.proofs.Copied.{answered_anew-holds}
 pub use Rattle.history_laws.proofs.Copying.{at-still, before-twice, ticked-newest}
 pub use Rattle.history_laws.proofs.Elements.{all-filter, all-more, all-of, all-passes, all-push, any-find, any-of, contains-filter, contains-later, contains-map, contains-mapped, contains-none, filter-by, filter-push, filtered-from, find-any, find-some, first-or-later, got-last, got-more, is-some}
 pub use Rattle.history_laws.proofs.Endings.{rejected-holds, timed_out-holds}
@@ -8,14 +9,15 @@ pub use Rattle.history_laws.proofs.Facts.{at-before, eqb-itself, eqb-same, follo
 pub use Rattle.history_laws.proofs.Messages.{ack-spelled, all_answered-holds, content-spelled, get-spelled, given_up-holds, put-spelled}
 pub use Rattle.history_laws.proofs.Members.{all-join, first-waits, waiting-all}
 pub use Rattle.history_laws.proofs.Openings.{begun-listed, ends-first, listed-begun, open-exactly}
-pub use Rattle.history_laws.proofs.Outstanding.{outstanding-last, sound, Sound, way-cases}
+pub use Rattle.history_laws.proofs.Outstanding.{copies-way, outstanding-last, sound, Sound, way-cases}
 pub use Rattle.history_laws.proofs.Places.{at-below, at-cases, at-entries, at-keeps, at-new, at-newest, at-old, at-same, before-keeps, before-new, entries-length}
 pub use Rattle.history_laws.proofs.Refusals.{maps-refusal}
-pub use Rattle.history_laws.proofs.Replies.{first-stands, firsts-stand, replies-fit}
+pub use Rattle.history_laws.proofs.Firsts.{all-listed, first-found, first-is, first-listed, first-older, firsts-ids, firsts-tokens, IsBygone, IsListed, listed-below, way-first}
+pub use Rattle.history_laws.proofs.Replies.{replies-fit}
 pub use Rattle.history_laws.proofs.Resting.{and-left, and-right, none-is, none-of, none-some, some-is}
-pub use Rattle.history_laws.proofs.Sendings.{any-first, ids-apart, IsFirst-old, may-be, tokens-apart}
+pub use Rattle.history_laws.proofs.Sendings.{any-first, IsFirst-old, may-be}
 pub use Rattle.history_laws.proofs.Sent.{asked-for, begun-before, begun-below, begun-keeps, begun-opening, first_end, opening-begun, past, Past, replied-ends, replied-first, sent-for, sent-once}
-pub use Rattle.history_laws.proofs.Settled.{ask-listed, few-waiting, open-below, range-passes}
+pub use Rattle.history_laws.proofs.Settled.{ask-listed, few-waiting, next-above, open-below, range-passes}
 pub use Rattle.history_laws.proofs.Turns.{heard-sends, turn-replied, turn-sent, waits-first}
 pub use Rattle.history_laws.proofs.Queue.{awaiting-stays, filter-all, filter-none, going-before, issued-few, issued-same, none-submitted, NoReply, opened-issued, opened-queued, opened-rank, queue-kept, queue-rises, queue-same, rank-apart, rank-below, rank-keeps, replies-stay, submitted-apart, submitted-below, unawaited-quiet, waiting-begun, waiting-goes, waiting-has, waiting-stays, waiting-unsent}
 pub use Rattle.history_laws.proofs.Rising.{openings-below, openings-rising, RisesBy, Rising, rising-filter, rising-push}

@@ -7,7 +7,7 @@ use Rattle.coap_codec.specs.Recognition.{is_rejected}
 use Rattle.uri_map.specs.declared.peer.Peer.{Peer}
 use Rattle.journal_book.specs.Entries.{Deed, Hears}
 use Rattle.history_laws.specs.Confirmations.{answer_by, Confirmation, given, rejects_bytes}
-use Rattle.history_laws.specs.Readings.{Noted, Note, Says, Repeats, Garbled, at, noted}
+use Rattle.history_laws.specs.Readings.{Noted, Note, Says, Repeats, Garbled, at, noted, Recalls, Acknowledged, Rejected, Ignored}
 use Rattle.history_laws.specs.Confirming.{answered, answered_as, answered_again, owed_by, owed}
 use Rattle.history_laws.proofs.Places.{at-new}
 use Rattle.history_laws.proofs.Resting.{some-is}
@@ -29,6 +29,9 @@ by-kind Rst matched rejected vain = tt
 
 as-answered : (note : Note) → Confirms (answered note)
 as-answered (Says m to notice) = by-kind m.kind (is_some to) (is_rejected m) (eqb m.code 0)
+as-answered (Recalls m Acknowledged) = inl refl
+as-answered (Recalls m Rejected) = inr refl
+as-answered (Recalls m Ignored) = tt
 as-answered note = tt
 
 as-first : (x : Option Noted) → Confirms (answered_as x)

@@ -1,11 +1,12 @@
 -- Copies go out in the step of the first tick that finds them due.
-use Rattle.std.proofs.Common.{◌≡◌, ℕ, zero, suc, ◌+◌, ◌*◌, ◌^◌, ◌<◌, ◌≤◌, Bool, true, false, inl, inr, List, [], ◌∷◌, length, Option, Some, refl, sym, ap, subst, arith}
+use Rattle.std.proofs.Common.{◌≡◌, ℕ, zero, suc, ◌+◌, ◌*◌, ◌^◌, ◌<◌, ◌≤◌, Bool, true, false, inl, inr, List, [], ◌∷◌, length, Option, Some, refl, sym, ap, subst, arith, ◌∙◌}
 use Rattle.std.specs.Prelude.{⊤}
 use Rattle.std.specs.List.{list_all}
 use Rattle.std.proofs.lemmas.Bool.{ltb-true}
 use Rattle.uri_map.specs.declared.peer.Peer.{Peer}
-use Rattle.journal_book.specs.Entries.{Deed, Opens, Asks, Sends, Hears, Passes, Answers, Shuts, Seals}
-use Rattle.history_laws.specs.Readings.{Noted, Note, First, Copies, at, before, newest, ticked, noted}
+use Rattle.journal_book.specs.Entries.{Deed, Opens, Asks, Sends, Hears, Passes, Answers, Shuts, Seals, Carries}
+use Rattle.history_laws.specs.Readings.{Noted, Note, First, Copies, at, before, newest, ticked, noted, Bygone}
+use Rattle.journal_book.specs.Entries as D
 use Rattle.history_laws.specs.Connections.{is_sealed}
 use Rattle.history_laws.specs.Transmissions.{FirstSending, firsts_by, firsts, Transmission, due, transmission}
 use Rattle.history_laws.specs.Justified.{MayCome, is_early, is_done, AtRest, Legal, MayBeCopy}
@@ -13,12 +14,15 @@ use Rattle.history_laws.specs.Laws.{IsDone, IsInTime}
 use Rattle.history_laws.proofs.Resting.{and-left, and-right, none-some}
 use Rattle.history_laws.proofs.Places.{at-new, at-keeps, at-below, at-old, before-keeps, before-new}
 use Rattle.history_laws.proofs.Facts.{follows-at, legal-before, at-before, length-before}
-use Rattle.history_laws.proofs.Outstanding.{way-cases, Sound, sound}
+use Rattle.history_laws.proofs.Outstanding.{copies-way, way-cases, Sound, sound}
 
 -- What passes for all first sendings did so before.
 all-fewer : (f : FirstSending → Bool) (n t : ℕ) (d : Deed) (note : Note) (old : List FirstSending)
     → list_all f (firsts_by n t d note old) ≡ true → list_all f old ≡ true
 all-fewer f n t (Sends p b w) (First o m) old h = and-right _ _ h
+all-fewer f n t (Carries k mark (D.Sent p b w)) (Bygone m) old h = and-right _ _ h
+all-fewer f n t (Carries k mark (D.Sent p b w)) note old h = h
+all-fewer f n t (Carries k mark done) note old h = h
 all-fewer f n t d note old h = h
 
 -- What is outstanding was sent, so that it passes.
@@ -148,6 +152,8 @@ tick-step l t (Asks c q) note i y legal ih e h =
     let a = input l i y legal.2.0 (stays (noted t (Asks c q) note) l i y tt e) in absurd (omega (arith, a, h))
 tick-step l t (Hears p b) note i y legal ih e h =
     let a = input l i y legal.2.0 (stays (noted t (Hears p b) note) l i y tt e) in absurd (omega (arith, a, h))
+tick-step l t (Carries k mark done) note i y legal ih e h =
+    absurd (none-some y (sym (copies-way l i legal.2.0) ∙ stays (noted t (Carries k mark done) note) l i y tt e))
 tick-step l t Seals note i y legal ih e h =
     let a = input l i y legal.2.0 (stays (noted t Seals note) l i y tt e) in absurd (omega (arith, a, h))
 

@@ -12,8 +12,8 @@ mod Copying
 mod Elements
 mod Openings
 mod Turns
+mod Firsts
 mod Replies
-mod Apart
 mod Members
 mod Sent
 mod Unbegun
@@ -27,3 +27,4 @@ mod Settled
 mod Endings
 mod Late
 mod Spoiled
+mod Copied

@@ -1,4 +1,5 @@
 -- Messages on their way: at each peer one, which is the last that was sent to it.
+use Rattle.std.proofs.lemmas.Bool.{false≢true}
 use Rattle.std.proofs.Common.{◌≡◌, ℕ, ◌<◌, ◌≤◌, ◌⊎◌, Bool, true, false, cond, inl, inr, List, [], ◌∷◌, length, Option, Some, None, is_some, refl, sym, ap, subst, ◌∙◌, arith}
 use Rattle.std.specs.Prelude.{option_map}
 use Rattle.std.proofs.lemmas.Bool.Decides.{eqb_tells}
@@ -7,12 +8,12 @@ use Rattle.coap_codec.specs.Spelling.{Content}
 use Rattle.uri_map.specs.declared.peer.Peer.{Peer}
 use Rattle.uri_map.specs.Peers.{same_peer}
 use Rattle.uri_map.proofs.CallerLemmas.{same_peer-same, same_peer-itself}
-use Rattle.journal_book.specs.Entries.{Deed, Sends, Hears, Passes}
-use Rattle.history_laws.specs.Readings.{Noted, Note, First, Copies, Says, noted}
+use Rattle.journal_book.specs.Entries.{Deed, Sends, Hears, Passes, Opens, Asks, Answers, Shuts, Seals, Carries}
+use Rattle.history_laws.specs.Readings.{Noted, Note, First, Copies, Says, noted, carries, are_copies}
 use Rattle.history_laws.specs.Transmissions.{FirstSending, last_sent, Transmission, begun_way, copied_way, given_up, transmission_by, transmission, outstanding}
 use Rattle.history_laws.specs.Justified.{MayBeFirst, MayBeCopy, Follows, Legal}
 use Rattle.history_laws.specs.Laws.{IsFirst}
-use Rattle.history_laws.proofs.Resting.{some-is, none-is, none-some}
+use Rattle.history_laws.proofs.Resting.{some-is, none-is, none-some, and-left, and-right}
 use Rattle.history_laws.proofs.Facts.{IsFirst-below}
 use Rattle.history_laws.proofs.Sendings.{IsFirst-old, may-be}
 use Rattle.history_laws.proofs.Elements.{is-some}
@@ -73,6 +74,24 @@ way-step l t d note i y e = inr (inr e)
 pub way-cases : (x : Noted) (l : List Noted) (i : ℕ) (y : Transmission) → transmission (x ∷ l) i ≡ Some y → Way x l i y
 way-cases x l i y e = way-step l x.written.moment x.written.deed x.note i y e
 
+-- Nothing that is copied is on its way.
+copies-step : (i n t : ℕ) (d : Deed) (note : Note) (old : Option Transmission) → carries d ≡ true → old ≡ None → transmission_by i n t d note old ≡ None
+copies-step i n t (Carries k mark done) note old c e = e
+copies-step i n t (Sends p b w) note old c e = absurd (false≢true c)
+copies-step i n t (Hears p b) note old c e = absurd (false≢true c)
+copies-step i n t Passes note old c e = absurd (false≢true c)
+copies-step i n t (Opens k) note old c e = absurd (false≢true c)
+copies-step i n t (Asks k a) note old c e = absurd (false≢true c)
+copies-step i n t (Answers k a g) note old c e = absurd (false≢true c)
+copies-step i n t (Shuts k) note old c e = absurd (false≢true c)
+copies-step i n t Seals note old c e = absurd (false≢true c)
+
+pub copies-way : (l : List Noted) (i : ℕ) → are_copies l ≡ true → transmission l i ≡ None
+copies-way [] i h = refl
+copies-way (x ∷ older) i h =
+    copies-step i (length older) x.written.moment x.written.deed x.note (transmission older i) (and-left (carries x.written.deed) _ h)
+    (copies-way older i (and-right (carries x.written.deed) _ h))
+
 -- the last that was sent to the peer has this number
 abbrev pub IsLast : List Noted → Peer → ℕ → Type 0
 IsLast l p i = (f : FirstSending) × (last_sent l p ≡ Some f) × (f.number ≡ i)
@@ -93,6 +112,7 @@ last-step l t (Sends r b w) (First q n) p i y may h e = go (same_peer r p) refl
     go true same =
         absurd (not-free l p i y h e (subst (λ (r : Peer). outstanding l r ≡ None) (same_peer-same r p same) may.1.1.free))
     go false other = (h.0, rw other (h.1), h.2)
+last-step l t (Carries k mark done) note p i y may h e = absurd (none-some y (sym (copies-way l i may.0) ∙ e))
 last-step l t d note p i y may h e = h
 
 last-new : (l : List Noted) (t o : ℕ) (p : Peer) (b : List ℕ) (w : Option ℕ) (m : Content) → IsLast (noted t (Sends p b w) (First o m) ∷ l) p (length l)

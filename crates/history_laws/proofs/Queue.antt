@@ -8,7 +8,7 @@ use Rattle.std.proofs.lemmas.List.Elements.{Contains-append_left, Contains-appen
 use Rattle.coap_codec.specs.Spelling.{Content}
 use Rattle.uri_map.specs.declared.peer.Peer.{Peer}
 use Rattle.ask_model.specs.Requests.{CoapRequest}
-use Rattle.history_laws.specs.Readings.{Noted, Note, First, Says, Notice, at, before}
+use Rattle.history_laws.specs.Readings.{Noted, First, Says, Notice, before}
 use Rattle.history_laws.specs.Progress.{Reply, Ending, Reset, TimedOut}
 use Rattle.history_laws.specs.Exchanges.{Begun, begun_by, begun, opens_by, opened_by, openings, Turn, Nothing, Sent, Replied, Rejected, Expired, turn, waits_by, waits_for, replies_by, replies, End, end_here, end_by, end_of, is_going, goes_to, is_waiting, waiting, is_submitted_at, submitted_by, submitted, is_issued_at, issued_by, issued, rank}
 use Rattle.history_laws.specs.Justified.{Legal}
@@ -17,7 +17,7 @@ use Rattle.history_laws.proofs.Elements.{all-filter, all-more, all-passes, any-o
 use Rattle.history_laws.proofs.Facts.{eqb-itself, eqb-same}
 use Rattle.history_laws.proofs.Openings.{begun-listed, listed-begun}
 use Rattle.history_laws.proofs.Places.{before-keeps, before-new, at-same}
-use Rattle.history_laws.proofs.Resting.{and-left, and-right, none-of, none-some, none-is, some-is}
+use Rattle.history_laws.proofs.Resting.{and-left, and-right, none-of, none-some, none-is}
 use Rattle.history_laws.proofs.Rising.{IsOneAtMost, one-at-most, openings-rising, rising-filter, RisesBy, rises-as, rises-filter, rises-join}
 use Rattle.history_laws.proofs.Members.{waiting-all}
 use Rattle.history_laws.proofs.Sent.{begun-below, begun-keeps}

@@ -12,41 +12,19 @@ use Rattle.coap_codec.specs.Spelling.{Content}
 use Rattle.uri_map.specs.declared.peer.Peer.{Peer}
 use Rattle.uri_map.specs.Peers.{same_peer}
 use Rattle.uri_map.proofs.CallerLemmas.{same_peer-same}
-use Rattle.journal_book.specs.Entries.{Deed, Sends, Hears}
-use Rattle.history_laws.specs.Readings.{Noted, Note, First, Says, Notice, noted}
+use Rattle.journal_book.specs.Entries.{Hears}
+use Rattle.history_laws.specs.Readings.{Noted, Says, Notice}
 use Rattle.history_laws.specs.Progress.{Reply}
-use Rattle.history_laws.specs.Transmissions.{FirstSending, firsts_by, firsts, first_at}
+use Rattle.history_laws.specs.Transmissions.{FirstSending, first_at}
 use Rattle.history_laws.specs.Exchanges.{Turn, Nothing, Sent, Replied, Rejected, Expired, turn, replies_by, replies, awaited}
 use Rattle.history_laws.specs.Hearing.{went_under, went_as, is_under, is_as, open_at, answers_by, answers}
 use Rattle.history_laws.specs.Justified.{Follows, Legal, MaySay}
 use Rattle.history_laws.specs.Laws.{IsFirst, IsReplyKind, IsReplyTo}
-use Rattle.history_laws.proofs.Places.{at-new, at-keeps, at-below, at-same, before-keeps, before-new}
+use Rattle.history_laws.proofs.Places.{at-new, at-keeps, at-below, before-keeps, before-new}
 use Rattle.history_laws.proofs.Facts.{IsFirst-keeps, IsFirst-below, eqb-same}
-use Rattle.history_laws.proofs.Elements.{contains-none, first-or-later, find-some}
+use Rattle.history_laws.proofs.Elements.{contains-none, find-some}
+use Rattle.history_laws.proofs.Firsts.{first-is}
 use Rattle.history_laws.proofs.Turns.{NotRst, ReplyTurn, turn-replied, waits-first}
-
--- the first sendings stand
-stand-step : (l : List Noted) (t : ℕ) (d : Deed) (note : Note) (f : FirstSending)
-    → (Contains (firsts l) f → IsFirst l f.moment f.opening f.number f.peer f.message)
-    → Contains (firsts_by (length l) t d note (firsts l)) f → IsFirst (noted t d note ∷ l) f.moment f.opening f.number f.peer f.message
-stand-step l t (Sends p b w) (First o m) f ih h =
-    let x = noted t (Sends p b w) (First o m) in
-    elim (first-or-later (record { number = length l; moment = t; opening = o; peer = p; message = m }) (firsts l) f h) [
-      | inl u ↦
-          let Stands : FirstSending → Type 0 = λ f. IsFirst (x ∷ l) f.moment f.opening f.number f.peer f.message in
-          subst Stands u (record { bytes = b; timeout = w; stands = at-new x l })
-      | inr u ↦ IsFirst-keeps x l _ _ _ _ _ (ih u)
-    ]
-stand-step l t d note f ih h = IsFirst-keeps (noted t d note) l _ _ _ _ _ (ih h)
-
-pub firsts-stand : (l : List Noted) (f : FirstSending) → Contains (firsts l) f → IsFirst l f.moment f.opening f.number f.peer f.message
-firsts-stand [] f h = absurd (contains-none f h)
-firsts-stand (x ∷ older) f h = stand-step older x.written.moment x.written.deed x.note f (firsts-stand older f) h
-
-pub first-stands : (l : List Noted) (i : ℕ) (f : FirstSending) → first_at l i ≡ Some f → IsFirst l f.moment f.opening i f.peer f.message
-first-stands l i f e =
-    let it = find-some (λ (f : FirstSending). eqb f.number i) (firsts l) f e in
-    subst (λ (i : ℕ). IsFirst l f.moment f.opening i f.peer f.message) (eqb-same f.number i it.1) (firsts-stand l f it.0)
 
 -- what a response answers went to its peer under its token, and with its ID where that is an ACK's
 abbrev Under : MsgType → List Noted → Peer → Content → ℕ → Type 0
@@ -111,14 +89,6 @@ found l p m i response not e =
 says-to : (m : Content) (i : Option ℕ) (j : Option ℕ) (u v : Notice) → Says m i u ≡ Says m j v → i ≡ j
 says-to m i j u v e = cc
 
--- a first sending stands for one exchange
-opening-same : (s t o q : ℕ) (p r : Peer) (b c : List ℕ) (v w : Option ℕ) (m n : Content)
-    → noted s (Sends p b v) (First o m) ≡ noted t (Sends r c w) (First q n) → o ≡ q
-opening-same s t o q p r b c v w m n e = go (ap (λ (x : Noted). x.note) e)
-  where
-    go : First o m ≡ First q n → o ≡ q
-    go f = cc
-
 pub IsReplyTo-keeps : (x : Noted) (l : List Noted) (o : ℕ) (r : Reply) → IsReplyTo l o r → IsReplyTo (x ∷ l) o r
 IsReplyTo-keeps x l o r h =
     record {
@@ -146,11 +116,10 @@ reply-new x l o i m may h =
     subst (λ (v : Noted). Follows l v.written.moment v.written.deed v.note) h.entry may in
     let says : MaySay l t h.peer h.bytes (Says m (Some i) h.notice) m = follows.3 in
     let f = found l h.peer m i h.response h.kind (sym (says-to m _ _ _ _ says.says)) in
-    let stands = first-stands l i f.first f.is in
     let waits = waits-first l o i h.waited in
-    let opening : f.first.opening ≡ o = opening-same _ _ _ _ _ _ _ _ _ _ _ _ (at-same l i _ _ stands.stands waits.3.stands) in
+    let is = first-is l waits.0 o i waits.1 waits.2 f.first waits.3 f.is in
     let own : IsFirst l f.first.moment o i f.first.peer f.first.message =
-    subst (λ (o : ℕ). IsFirst l f.first.moment o i f.first.peer f.first.message) opening stands in
+    subst (λ (g : FirstSending). IsFirst l g.moment o i g.peer g.message) (sym is) waits.3 in
     let to_it : IsFirst l f.first.moment o i h.peer f.first.message =
     subst (λ (p : Peer). IsFirst l f.first.moment o i p f.first.message) f.peer own in
     record {

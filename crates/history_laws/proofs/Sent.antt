@@ -7,11 +7,12 @@ use Rattle.coap_codec.specs.Spelling.{Content, Spells}
 use Rattle.uri_map.specs.declared.peer.Peer.{Peer}
 use Rattle.ask_model.specs.Requests.{CoapRequest, Sense, Requests, Refuses, request_message}
 use Rattle.ask_model.specs.Views.{Ask}
-use Rattle.journal_book.specs.Entries.{Deed, Opens, Asks, Sends, Hears, Passes, Answers, Shuts, Seals}
+use Rattle.journal_book.specs.Entries.{Deed, Opens, Asks, Sends, Hears, Passes, Answers, Shuts, Seals, Mark, Carries}
+use Rattle.journal_book.specs.Entries as D
 use Rattle.history_laws.specs.Readings.{Noted, Note, Begins, First, at, before, noted}
 use Rattle.history_laws.specs.Progress.{Reply, Progress, Asks as StillAsks, Ends, Ending, NotUnderstood, Reset, TimedOut, step, replied, progress, ended_by, next_message}
 use Rattle.history_laws.specs.Exchanges.{Begun, opens_by, begun_by, begun, Turn, Nothing, Sent, Replied, Rejected, Expired, turn, waits_by, waits_for, replies, End, replied_end, end_here, end_by, end_of, goes_to}
-use Rattle.history_laws.specs.Justified.{AskNote, MayBeFirst, Follows, Legal}
+use Rattle.history_laws.specs.Justified.{AskNote, MayBeFirst, Follows, Legal, CopiedNote}
 use Rattle.history_laws.specs.Laws.{IsFirst}
 use Rattle.history_laws.proofs.Resting.{some-is}
 use Rattle.history_laws.proofs.Places.{at-cases, at-new, at-below, at-keeps}
@@ -95,6 +96,12 @@ begins-ask l t Passes q f = absurd f.1
 begins-ask l t (Answers c k g) q f = absurd f.4
 begins-ask l t (Shuts c) q f = absurd f.2
 begins-ask l t Seals q f = absurd f.2
+begins-ask l t (Carries k mark done) q f = absurd (never mark done f.2)
+  where
+    never : (mark : Mark) (done : D.Done) → CopiedNote l t mark done (Begins q) → ⊥
+    never D.Past (D.Sent p b w) h = h
+    never D.Past (D.Heard p b) h = h
+    never mark done h = h
 
 pub record AskedFor (l : List Noted) (o : ℕ) (b : Begun) : Type 0 where
   pub conn : ℕ

@@ -10,10 +10,10 @@ use Rattle.std.proofs.lemmas.List.Sums.{AllPass-from_list_all}
 use Rattle.ask_model.specs.Views.{Ask}
 use Rattle.journal_book.specs.Entries.{Grounds, Deed, Opens, Asks, Answers, Shuts}
 use Rattle.history_laws.specs.Readings.{Noted, Note, noted}
-use Rattle.history_laws.specs.Connections.{is_open, asks_by, asks_of, answers_by, answers_of, is_sealed, opened_by, opened}
+use Rattle.history_laws.specs.Connections.{is_open, asks_by, asks_of, answers_by, answers_of, is_sealed, opened_by, opened, has_opened}
 use Rattle.history_laws.specs.Transmissions.{FirstSending, outstanding}
 use Rattle.history_laws.specs.Exchanges.{Begun, begun, waits_for, end_of, open_exchanges}
-use Rattle.history_laws.specs.Justified.{IsAsk, reads, reads_open, pending, is_in_hand, finds_outstanding, is_under_way, Follows, Legal, AtRest}
+use Rattle.history_laws.specs.Justified.{IsAsk, reads, reads_open, pending, is_in_hand, finds_outstanding, is_under_way, Follows, Legal, AtRest, IsNextConn}
 use Rattle.history_laws.specs.Laws.{IsAnswer}
 use Rattle.history_laws.proofs.Resting.{and-left, and-right}
 use Rattle.history_laws.proofs.Places.{at-new, at-keeps, at-old}
@@ -36,11 +36,16 @@ range-passes g a (suc n) c e low high =
           range-passes g (a + 1) n c (and-right (g a) (list_all g (range_with_len (a + 1) n)) e) (omega (arith, low, other)) (omega (arith, high))
     ]
 
+-- the next connection has no number that was given
+pub next-above : (b : Bool) (n c : ℕ) → IsNextConn b n c → n ≤ c
+next-above true n c e = omega (arith, e)
+next-above false n c e = e
+
 -- a connection that is open has a number below how many were opened
 open-step : (older : List Noted) (c t : ℕ) (d : Deed) (note : Note) → (is_open older c ≡ true → c < opened older)
     → Follows older t d note → is_open (noted t d note ∷ older) c ≡ true → c < opened_by d (opened older)
 open-step older c t (Opens e) note ih may h =
-    let here = may.1 in
+    let here = next-above (has_opened older) (opened older) e may.1 in
     elim (eqb_tells e c) [ inl w ↦ let a = w.1 in omega (arith, a, here) | inr w ↦ let r = ih (rw (w.0) at h) in omega (arith, r) ]
 open-step older c t (Shuts e) note ih may h =
     elim (eqb_tells e c) [ inl w ↦ absurd (false≢true (rw (w.0) at h)) | inr w ↦ ih (rw (w.0) at h) ]

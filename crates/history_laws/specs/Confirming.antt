@@ -1,16 +1,22 @@
 -- Which ACK or RST a datagram is answered by (RFC 7252 sections 4.2, 4.3, 4.5).
 use Rattle.std.specs.Prelude.{List, [], ◌∷◌, Option, Some, None, is_some, ◌==◌}
 use Rattle.coap_codec.specs.declared.message.MsgType.{MsgType}
-use Rattle.coap_codec.specs.declared.message.MsgType.TheVariants.{Con}
+use Rattle.coap_codec.specs.declared.message.MsgType.TheVariants.{Con, Ack, Rst}
 use Rattle.coap_codec.specs.Recognition.{is_rejected}
 use Rattle.journal_book.specs.Entries.{Deed, Hears}
 use Rattle.history_laws.specs.Confirmations.{answer_by, Confirmation, given, rejects_bytes}
-use Rattle.history_laws.specs.Readings.{Noted, Note, Says, Repeats, Garbled, at}
+use Rattle.history_laws.specs.Readings.{Noted, Note, Says, Repeats, Garbled, Recalls, Answered, Acknowledged, Rejected, Ignored, at}
 
 -- The kind of the message that answers what repeats no other: a CON is acknowledged where it answers
 -- a first sending and can be processed.
+abbrev pub answer_kind : Answered → Option MsgType
+answer_kind Acknowledged = Some Ack
+answer_kind Rejected = Some Rst
+answer_kind Ignored = None
+
 abbrev pub answered : Note → Option MsgType
 answered (Says m to notice) = answer_by m.kind (is_some to) (is_rejected m) (m.code == 0)
+answered (Recalls m answer) = answer_kind answer
 answered _ = None
 
 abbrev pub answered_as : Option Noted → Option MsgType

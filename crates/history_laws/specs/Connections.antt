@@ -48,3 +48,12 @@ opened_by _ old = old
 abbrev pub opened : List Noted → ℕ
 opened [] = 0
 opened (x ∷ older) = opened_by x.written.deed (opened older)
+
+-- one was opened in this history
+abbrev pub opens_by : Deed → Bool → Bool
+opens_by (Opens c) old = true
+opens_by _ old = old
+
+abbrev pub has_opened : List Noted → Bool
+has_opened [] = false
+has_opened (x ∷ older) = opens_by x.written.deed (has_opened older)

@@ -1,5 +1,6 @@
 -- What a datagram is: what it repeats, and which first sending it answers.
 use Rattle.std.specs.Prelude.{ℕ, ◌+◌, Bool, true, false, not, ◌&&◌, ◌||◌, List, [], ◌∷◌, ◌++◌, length, find, Option, Some, None, option_map, option_to_list, is_some, ◌==◌, nat_le, nat_lt, if◌then◌else◌}
+use Rattle.std.specs.List.{list_any}
 use Rattle.std.specs.Str.{bytes_eq}
 use Rattle.limits.specs.declared.TheConstants.{EXCHANGE_LIFETIME, MAX_EXCHANGES, MAX_MESSAGE_IDS, MAX_REMEMBERED, MAX_WAITING}
 use Rattle.coap_codec.specs.declared.message.MsgType.{MsgType}
@@ -8,8 +9,9 @@ use Rattle.coap_codec.specs.Spelling.{Content}
 use Rattle.uri_map.specs.declared.peer.Peer.{Peer}
 use Rattle.uri_map.specs.Peers.{same_peer}
 use Rattle.ask_model.specs.Requests.{CoapRequest}
-use Rattle.journal_book.specs.Entries.{Deed, Hears}
-use Rattle.history_laws.specs.Readings.{Noted, Note, Says, Notice, unobserved}
+use Rattle.journal_book.specs.Entries.{Deed, Hears, Carries}
+use Rattle.journal_book.specs.Entries as D
+use Rattle.history_laws.specs.Readings.{Noted, Note, Says, Recalls, Notice, unobserved}
 use Rattle.history_laws.specs.Transmissions.{FirstSending, first_at, last_sent, outstanding, mids_used}
 use Rattle.history_laws.specs.Exchanges.{open_exchanges, awaited, waiting}
 
@@ -23,10 +25,13 @@ is_such _ = false
 abbrev pub is_live : ℕ → Peer → ℕ → Deed → Note → Bool
 is_live t p s (Hears q b) (Says m to notice) =
     is_such m.kind && (same_peer q p && nat_lt t (s + EXCHANGE_LIFETIME))
+is_live t p s (Carries k mark (D.Heard q b)) (Recalls m answer) =
+    is_such m.kind && (same_peer q p && nat_lt t (s + EXCHANGE_LIFETIME))
 is_live t p s _ _ = false
 
 abbrev pub bears : ℕ → Note → Bool
 bears mid (Says m to notice) = m.mid == mid
+bears mid (Recalls m answer) = m.mid == mid
 bears mid _ = false
 
 abbrev pub is_like : ℕ → Peer → ℕ → Noted → Bool
@@ -40,9 +45,16 @@ heard_before (x ∷ older) t p mid =
 abbrev pub repeated : List Noted → ℕ → Peer → Content → Option ℕ
 repeated l t p m = if is_such m.kind then heard_before l t p m.mid else None
 
--- Something was sent to the peer.
+-- Something was sent to the peer: in this history, or before it where what it said is recalled.
+abbrev pub recalls_by : Peer → Deed → Note → Bool
+recalls_by p (Carries k mark (D.Heard q b)) (Recalls m answer) = same_peer q p
+recalls_by p _ _ = false
+
+abbrev pub recalls : Peer → Noted → Bool
+recalls p x = recalls_by p x.written.deed x.note
+
 abbrev pub knows : List Noted → Peer → Bool
-knows l p = is_some (last_sent l p)
+knows l p = is_some (last_sent l p) || list_any (recalls p) l
 
 -- How many from the peer may be repeated; a new CON or NON is taken only where it can be
 -- remembered too.

@@ -1,7 +1,7 @@
 -- When a history is justified: some reading of it is legal.
-use Rattle.std.specs.Prelude.{◌≡◌, ◌⊎◌, ℕ, ◌<◌, ◌≤◌, Bool, true, false, not, ◌||◌, List, [], ◌∷◌, length, slice_get, Option, Some, None, is_some, nat_lt, ⊤}
+use Rattle.std.specs.Prelude.{◌≡◌, ◌⊎◌, ℕ, ◌+◌, ◌<◌, ◌≤◌, Bool, true, false, not, ◌||◌, List, [], ◌∷◌, length, slice_get, Option, Some, None, is_some, nat_lt, ⊤}
 use Rattle.std.specs.Option.{option_map_or}
-use Rattle.std.specs.List.{list_all, range_with_len}
+use Rattle.std.specs.List.{AllByRecursion, list_all, range_with_len}
 use Rattle.limits.specs.declared.TheConstants.{ACK_TIMEOUT, LONGEST_ACK_TIMEOUT, MAX_DATAGRAM_LEN, MAX_RETRANSMIT}
 use Rattle.coap_codec.specs.Spelling.{Content, Spells}
 use Rattle.uri_map.specs.declared.peer.Peer.{Peer}
@@ -9,16 +9,16 @@ use Rattle.ask_model.specs.Requests.{CoapRequest, Sense, Requests, Refuses}
 use Rattle.ask_model.specs.Views.{Ask}
 use Rattle.ask_model.specs.declared.cause.Cause.{Cause}
 use Rattle.ask_model.specs.declared.cause.Cause.TheVariants as C
-use Rattle.journal_book.specs.Entries.{Grounds, Live, Kept, Fault, Deed, Opens, Asks, Sends, Hears, Passes, Answers, Shuts, Seals, Written}
+use Rattle.journal_book.specs.Entries.{Grounds, Live, Kept, Fault, Mark, Past, Done, Sent, Heard, Deed, Opens, Asks, Sends, Hears, Passes, Answers, Shuts, Seals, Carries, Written}
 use Rattle.history_laws.specs.Responses.{Response}
 use Rattle.history_laws.specs.Confirmations.{empty, Confirmation}
 use Rattle.history_laws.specs.Causes.{IsRefusal}
-use Rattle.history_laws.specs.Readings.{Noted, Note, Plain, Begins, First, Copies, Confirms, Says, Repeats, Garbled, noted, entries, at, newest, ticked}
-use Rattle.history_laws.specs.Connections.{is_open, asks_of, answers_of, is_sealed, opened}
+use Rattle.history_laws.specs.Readings.{Noted, Note, Plain, Begins, First, Copies, Confirms, Says, Repeats, Garbled, Bygone, Recalls, noted, are_copies, entries, at, newest, ticked}
+use Rattle.history_laws.specs.Connections.{is_open, asks_of, answers_of, is_sealed, opened, has_opened}
 use Rattle.history_laws.specs.Progress.{Reply, numbers, Ending, Whole, NotUnderstood, Reset, TimedOut, progress, next_message}
 use Rattle.history_laws.specs.Transmissions.{FirstSending, firsts, sent_last, bears_token, bears_mid, Transmission, transmission, due, outstanding}
 use Rattle.history_laws.specs.Exchanges.{Begun, begun, is_late, waits_for, replies, end_of, is_going, open_exchanges, waiting}
-use Rattle.history_laws.specs.Hearing.{knows, repeated, can_be_remembered, answers, notice_of, has_room}
+use Rattle.history_laws.specs.Hearing.{is_such, knows, repeated, can_be_remembered, answers, notice_of, has_room}
 use Rattle.history_laws.specs.Confirming.{owed}
 use Rattle.history_laws.specs.Sealing.{MaySeal}
 
@@ -157,7 +157,8 @@ pub record MaySay
 abbrev pub HeardNote : List Noted → ℕ → Peer → List ℕ → Note → Type 0
 HeardNote l t p bytes (Says m to notice) = MaySay l t p bytes (Says m to notice) m
 HeardNote l t p bytes (Repeats m j) = Spells m bytes × (repeated l t p m ≡ Some j)
-HeardNote l t p bytes Garbled = (m : Content) → Spells m bytes → ⊥
+HeardNote l t p bytes Garbled =
+    AllByRecursion (λ (b : ℕ). b < 256) bytes × ((m : Content) → Spells m bytes → ⊥)
 HeardNote l t p bytes _ = ⊥
 
 -- what has no note of its own
@@ -213,10 +214,44 @@ pub record AtRest (l : List Noted) : Type 0 where
 abbrev pub MayCome : List Noted → Type 0
 MayCome l = (is_sealed l ≡ false) × AtRest l
 
--- Which entry may follow, at this moment. Connections are numbered from 0, in the order in which they
--- are opened.
+-- What a first sending owes that is copied: a token and an ID of its own here too.
+pub record IsApart (l : List Noted) (t : ℕ) (p : Peer) (bytes : List ℕ) (m : Content) (timeout : Option ℕ) : Type 0 where
+  pub spelled : Spells m bytes
+  pub token_size : length m.token ≡ 8
+  pub token_apart : bears_token l m.token ≡ false
+  pub mid_apart : bears_mid l t p m.mid ≡ false
+  pub first_wait : is_some timeout ≡ true
+
+-- what is remembered of what was heard
+pub record MayRecall (l : List Noted) (t : ℕ) (p : Peer) (bytes : List ℕ) (m : Content) : Type 0 where
+  pub spelled : Spells m bytes
+  pub such : is_such m.kind ≡ true
+  pub unheard : repeated l t p m ≡ None
+  pub remembered : can_be_remembered l t p m ≡ true
+
+-- A copy stands before all that is the journal's own, in the order of the journal given out.
+abbrev pub CopiedNote : List Noted → ℕ → Mark → Done → Note → Type 0
+CopiedNote l t Past (Sent p bytes w) (Bygone m) = IsApart l t p bytes m w
+CopiedNote l t Past (Heard p bytes) (Recalls m answer) = MayRecall l t p bytes m
+CopiedNote l t mark done note = ⊥
+
+abbrev pub copied_by : Deed → ℕ → ℕ
+copied_by (Carries n mark d) old = n + 1
+copied_by _ old = old
+
+abbrev pub copied_below : List Noted → ℕ
+copied_below [] = 0
+copied_below (x ∷ older) = copied_by x.written.deed (copied_below older)
+
+-- the number of the next connection: where one was opened, the one after that
+abbrev pub IsNextConn : Bool → ℕ → ℕ → Type 0
+IsNextConn true next c = c ≡ next
+IsNextConn false next c = next ≤ c
+
+-- Which entry may follow, at this moment. Connections are numbered in the order in which they are
+-- opened; the first of a journal by how many were opened before it.
 abbrev pub Follows : List Noted → ℕ → Deed → Note → Type 0
-Follows l t (Opens c) note = MayCome l × (c ≡ opened l) × IsPlain note
+Follows l t (Opens c) note = MayCome l × IsNextConn (has_opened l) (opened l) c × IsPlain note
 Follows l t (Asks c a) note =
     MayCome l × (is_open l c ≡ true) × (length (asks_of l c) ≡ length (answers_of l c))
     × AskNote l t a.sense note
@@ -232,6 +267,8 @@ Follows l t (Answers c k g) note =
     × HasGrounds l t k g × IsPlain note
 Follows l t (Shuts c) note = (owed l ≡ None) × (is_open l c ≡ true) × IsPlain note
 Follows l t Seals note = MayCome l × MaySeal l × IsPlain note
+Follows l t (Carries n mark d) note =
+    (are_copies l ≡ true) × (copied_below l ≤ n) × CopiedNote l t mark d note
 
 -- Each entry may follow the older ones, and moments never fall.
 abbrev pub Legal : List Noted → Type 0

@@ -17,3 +17,4 @@ pub mod WorkedMessages
 pub mod WorkedEndings
 pub mod WorkedLate
 pub mod WorkedSpoiled
+pub mod WorkedCopies

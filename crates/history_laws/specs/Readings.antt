@@ -1,8 +1,9 @@
 -- A history with a reading: its entries, the newest first, each with a note.
-use Rattle.std.specs.Prelude.{ℕ, Bool, true, List, [], ◌∷◌, ◌++◌, length, Option, Some, None, ◌==◌, if◌then◌else◌}
+use Rattle.std.specs.Prelude.{ℕ, Bool, true, false, List, [], ◌∷◌, ◌++◌, length, Option, Some, None, ◌==◌, if◌then◌else◌}
 use Rattle.coap_codec.specs.Spelling.{Content}
 use Rattle.ask_model.specs.Requests.{CoapRequest}
-use Rattle.journal_book.specs.Entries.{Written, Deed, Passes}
+use Rattle.std.specs.List.{list_all}
+use Rattle.journal_book.specs.Entries.{Written, Deed, Passes, Carries}
 
 -- what a response is to the observation of its resource (RFC 7641)
 pub data Observation : Type 0 where
@@ -27,6 +28,12 @@ pub record Notice : Type 0 where
 abbrev pub unobserved : Notice
 unobserved = record { place = true; observation = Unobserved }
 
+-- how what was heard was answered: by an ACK, by a RST, or not at all
+pub data Answered : Type 0 where
+  Acknowledged : Answered
+  Rejected : Answered
+  Ignored : Answered
+
 -- what a reading says of an entry
 pub data Note : Type 0 where
   -- nothing
@@ -50,6 +57,10 @@ pub data Note : Type 0 where
   Repeats : (message : Content) → (heard : ℕ) → Note
   -- what was heard spells no message
   Garbled : Note
+  -- it copies a first sending of this message, whose exchange isn't in this history
+  Bygone : (message : Content) → Note
+  -- it copies what was heard and spells this message, and how that was answered
+  Recalls : (message : Content) → (answer : Answered) → Note
 
 pub record Noted : Type 0 where
   pub written : Written
@@ -57,6 +68,14 @@ pub record Noted : Type 0 where
 
 abbrev pub noted : ℕ → Deed → Note → Noted
 noted t d note = record { written = record { moment = t; deed = d }; note = note }
+
+-- Copies stand before all else.
+abbrev pub carries : Deed → Bool
+carries (Carries n mark d) = true
+carries _ = false
+
+abbrev pub are_copies : List Noted → Bool
+are_copies l = list_all (λ (x : Noted). carries x.written.deed) l
 
 -- the entries, oldest first
 abbrev pub entries : List Noted → List Written

@@ -6,8 +6,9 @@ use Rattle.limits.specs.declared.TheConstants.{MAX_RETRANSMIT, MESSAGE_ID_LIFETI
 use Rattle.coap_codec.specs.Spelling.{Content}
 use Rattle.uri_map.specs.declared.peer.Peer.{Peer}
 use Rattle.uri_map.specs.Peers.{same_peer}
-use Rattle.journal_book.specs.Entries.{Deed, Sends, Hears, Passes}
-use Rattle.history_laws.specs.Readings.{Noted, Note, First, Copies, Says}
+use Rattle.journal_book.specs.Entries.{Deed, Sends, Hears, Passes, Carries}
+use Rattle.journal_book.specs.Entries as D
+use Rattle.history_laws.specs.Readings.{Noted, Note, First, Copies, Says, Bygone}
 
 -- a first sending, and the exchange whose message it is
 pub record FirstSending : Type 0 where
@@ -21,6 +22,9 @@ pub record FirstSending : Type 0 where
 abbrev pub firsts_by : ℕ → ℕ → Deed → Note → List FirstSending → List FirstSending
 firsts_by n t (Sends p b w) (First o m) old =
     record { number = n; moment = t; opening = o; peer = p; message = m } ∷ old
+-- of a copy the opening is its own number, which no exchange has
+firsts_by n t (Carries k mark (D.Sent p b w)) (Bygone m) old =
+    record { number = n; moment = t; opening = n; peer = p; message = m } ∷ old
 firsts_by n t _ _ old = old
 
 abbrev pub firsts : List Noted → List FirstSending

@@ -8,8 +8,7 @@ use Rattle.uri_map.specs.declared.target.Host.TheVariants.{Name}
 use Rattle.http_edge.specs.declared.request.BadKind.TheVariants.{Syntax}
 use Rattle.ask_model.specs.Requests.{CoapRequest, Bad, Requests}
 use Rattle.ask_model.specs.Views.{Ask, Rules}
-use Rattle.journal_book.specs.Entries.{Deed}
-use Rattle.history_laws.specs.Readings.{Noted, Note}
+use Rattle.history_laws.specs.Readings.{Noted}
 use Rattle.history_laws.specs.Justified.{Legal, AtRest}
 
 abbrev pub server : Peer

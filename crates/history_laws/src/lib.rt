@@ -21,4 +21,6 @@ pub use laws::{
     answered_in_order, asked_once, one_outstanding, open_exactly, replies_fit, rests_on_its_own,
     sendings_apart,
 };
-pub use worked::{spoiled_answers, spoiled_sendings, worked_endings, worked_late, worked_messages};
+pub use worked::{
+    spoiled_answers, spoiled_sendings, worked_copies, worked_endings, worked_late, worked_messages,
+};

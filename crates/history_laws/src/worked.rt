@@ -1,6 +1,7 @@
 //! Worked journals: each is legal and at rest, or, where it is spoiled in one entry, not legal.
 
 ghost use Rattle.history_laws.specs.Worked.{Holds, Refused};
+ghost use Rattle.history_laws.specs.WorkedCopies as C;
 ghost use Rattle.history_laws.specs.WorkedEndings as E;
 ghost use Rattle.history_laws.specs.WorkedLate as L;
 ghost use Rattle.history_laws.specs.WorkedMessages as M;
@@ -47,4 +48,15 @@ pub fn spoiled_answers()
     ensures timed_out_early { Refused S.timed_out_early }
     ensures crossed { Refused S.crossed }
     ensures sealed_early { Refused S.sealed_early }
+{}
+
+/// A journal that begins with copies of an older one's entries: a repeat of what was heard before, and
+/// the next message. And what is wrong there: a token or an ID that a copy bears, a repeat as a new
+/// message, a copy after an entry of the journal's own.
+pub fn worked_copies()
+    ensures answered { Holds C.answered_anew }
+    ensures token { Refused C.token_used_again }
+    ensures id { Refused C.id_used_again }
+    ensures heard_as_new { Refused C.copy_heard_as_new }
+    ensures copied_late { Refused C.copied_late }
 {}

@@ -3,15 +3,16 @@ pub use Rattle.history_links.proofs.Copying.{copy-follows, is-outstanding, still
 pub use Rattle.history_links.proofs.Facts.{none-by, unreplied}
 pub use Rattle.history_links.proofs.HeardElsewhere.{says-elsewhere}
 pub use Rattle.history_links.proofs.Judging.{is_ended, Judged, out-first, out-peer, token-found}
+pub use Rattle.history_links.proofs.Mids.{Falling, firsts-falling, none-recent}
 pub use Rattle.history_links.proofs.Nexts.{next-follows}
 pub use Rattle.history_links.proofs.OtherPeers.{ask-elsewhere, copy-elsewhere, send-elsewhere}
 pub use Rattle.history_links.proofs.Passing.{going-passed, pass-agrees, passed-quiet, waits-passed}
-pub use Rattle.history_links.proofs.Queueing.{queued-agrees}
-pub use Rattle.history_links.proofs.Remembering.{none-before}
+pub use Rattle.history_links.proofs.Queueing.{given-kept, queued-agrees}
+pub use Rattle.history_links.proofs.Remembering.{count-kept, none-before, repeats-kept}
 pub use Rattle.history_links.proofs.Repeating.{garbled-agrees, repeat-agrees}
 pub use Rattle.history_links.proofs.Replying.{ends_by, ends_what, going-after, hit, is_to, says-quiet, waits-after}
 pub use Rattle.history_links.proofs.Saying.{judge, says-agrees}
 pub use Rattle.history_links.proofs.Sent.{ends-sent, sent, sent-quiet, waits-sent}
 pub use Rattle.history_links.proofs.Silence.{silent-agrees, still}
 pub use Rattle.history_links.proofs.Still.{first_at-still, Still}
-pub use Rattle.history_links.proofs.Tokens.{all-there, is-first, IsThere, one-token}
+pub use Rattle.history_links.proofs.Tokens.{one-token}

@@ -8,8 +8,9 @@ use Rattle.std.proofs.lemmas.Bool.Decides.{eqb_tells}
 use Rattle.limits.specs.declared.TheConstants.{MESSAGE_ID_LIFETIME}
 use Rattle.uri_map.specs.declared.peer.Peer.{Peer}
 use Rattle.uri_map.specs.Peers.{same_peer}
-use Rattle.journal_book.specs.Entries.{Deed, Sends}
-use Rattle.history_laws.specs.Readings.{Noted, Note, First, newest}
+use Rattle.journal_book.specs.Entries.{Deed, Sends, Carries}
+use Rattle.journal_book.specs.Entries as D
+use Rattle.history_laws.specs.Readings.{Noted, Note, First, newest, Bygone}
 use Rattle.history_laws.specs.Transmissions.{FirstSending, firsts_by, firsts, last_sent, is_recent, bears_mid, mids_used}
 use Rattle.history_laws.specs.Justified.{Legal}
 use Rattle.history_laws.proofs.CallerLemmas.{all-more}
@@ -28,12 +29,18 @@ firsts-by-early : (n t : ℕ) (d : Deed) (note : Note) (fs : List FirstSending) 
     → AllByRecursion (λ (g : FirstSending). g.moment ≤ t) (firsts_by n t d note fs)
 firsts-by-early n t (Sends p b w) (First o m) fs a = (omega arith, a)
 firsts-by-early n t (Sends p b w) note fs a = a
+firsts-by-early n t (Carries k mark (D.Sent p b w)) (Bygone m) fs a = (omega arith, a)
+firsts-by-early n t (Carries k mark (D.Sent p b w)) note fs a = a
+firsts-by-early n t (Carries k mark done) note fs a = a
 firsts-by-early n t d note fs a = a
 
 firsts-by-falling : (n t : ℕ) (d : Deed) (note : Note) (fs : List FirstSending) → AllByRecursion (λ (g : FirstSending). g.moment ≤ t) fs → Falling fs
     → Falling (firsts_by n t d note fs)
 firsts-by-falling n t (Sends p b w) (First o m) fs a f = (a, f)
 firsts-by-falling n t (Sends p b w) note fs a f = f
+firsts-by-falling n t (Carries k mark (D.Sent p b w)) (Bygone m) fs a f = (a, f)
+firsts-by-falling n t (Carries k mark (D.Sent p b w)) note fs a f = f
+firsts-by-falling n t (Carries k mark done) note fs a f = f
 firsts-by-falling n t d note fs a f = f
 
 pub firsts-early : (l : List Noted) → Legal l → AllByRecursion (λ (g : FirstSending). g.moment ≤ newest l) (firsts l)
@@ -104,7 +111,7 @@ and-false : (a : Bool) → (a && false) ≡ false
 and-false true = refl
 and-false false = refl
 
-none-recent : (t : ℕ) (p : Peer) (s : ℕ) (gs : List FirstSending) → ltb t (s + MESSAGE_ID_LIFETIME) ≡ false → AllByRecursion (λ (g : FirstSending). g.moment ≤ s) gs
+pub none-recent : (t : ℕ) (p : Peer) (s : ℕ) (gs : List FirstSending) → ltb t (s + MESSAGE_ID_LIFETIME) ≡ false → AllByRecursion (λ (g : FirstSending). g.moment ≤ s) gs
     → filter (is_recent t p) gs ≡ []
 none-recent t p s [] over a = refl
 none-recent t p s (g ∷ gs) over a = rw (over-by t s g.moment over a.0, and-false (same_peer g.peer p)) (none-recent t p s gs over a.1)

@@ -20,7 +20,7 @@ use Rattle.history_laws.specs.Readings.{Noted, First, newest}
 use Rattle.history_laws.specs.Transmissions.{FirstSending, firsts, first_at, last_sent, if_outstanding, is_recent, mids_used, transmission}
 use Rattle.history_laws.specs.Exchanges.{openings, waits_for, awaited, is_waiting, waiting, submitted, rank}
 use Rattle.history_laws.specs.Justified.{Legal}
-use Rattle.history_laws.specs.Hearing.{went_under, went_as}
+use Rattle.history_laws.specs.Hearing.{went_under, went_as, recalls}
 use Rattle.history_laws.proofs.CallerLemmas.{any-of, at-new, begun-listed, eqb-itself, filter-all, none-submitted, queue-kept, queue-rises, rank-apart, RisesBy, waiting-all, waiting-begun, waiting-goes, waiting-unsent}
 use Rattle.history_links.specs.Agrees.{Start, way_of, IsOut, recent_to, HasMid, CountUp, IsLast, IsWaitingFor, WaitIn, awaits, awaits_ack}
 use Rattle.history_links.specs.Steps.{NextFollows}
@@ -177,7 +177,7 @@ next-follows start l t p s w ws b q small few free e =
         follows = (q.unsealed, (q.quiet, may-be-first l t p s w ws h legal (b.started, later) a few free));
         agrees = record {
           turn = sent-out l t p m o x refl refl refl refl;
-          known = sym (ap (λ (v : Option FirstSending). is_some v) (last-sent l t p x.datagram (Some x.timeout) o m));
+          known = sym (ap (λ (v : Option FirstSending). is_some v || list_any (recalls p) l) (last-sent l t p x.datagram (Some x.timeout) o m));
           last = λ u after. subst (IsLast u p (Some x.mid)) (sym (last-sent l t p x.datagram (Some x.timeout) o m)) (λ recent. refl);
           count_up = λ u after.
               counts-up l t p x.datagram (Some x.timeout) o m u (next-small s.last_mid w.first_mid small)

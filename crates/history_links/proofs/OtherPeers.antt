@@ -20,9 +20,9 @@ use Rattle.history_laws.specs.Readings.{Noted, First, Copies, at, newest, noted}
 use Rattle.journal_book.specs.Entries.{Sends}
 use Rattle.history_laws.specs.Transmissions.{FirstSending, firsts, first_at, last_sent, if_outstanding, is_recent, mids_used, transmission, outstanding}
 use Rattle.history_laws.specs.Exchanges.{Begun, begun, openings, goes_to, waits_for, is_going, is_waiting, waiting, submitted, rank}
-use Rattle.history_laws.specs.Hearing.{went_under, went_as}
+use Rattle.history_laws.specs.Hearing.{went_under, went_as, recalls}
 use Rattle.history_laws.specs.Justified.{Legal}
-use Rattle.history_laws.proofs.CallerLemmas.{all-of, and-left, at-below, at-keeps, eqb-itself, find-some, none-submitted, opened-queued, queue-same, rank-apart, some-is, submitted-apart, waiting-all, waiting-goes, waiting-unsent}
+use Rattle.history_laws.proofs.CallerLemmas.{and-left, at-below, at-keeps, eqb-itself, find-some, listed-below, none-submitted, opened-queued, queue-same, rank-apart, some-is, submitted-apart, waiting-all, waiting-goes, waiting-unsent}
 use Rattle.history_links.specs.Agrees.{Start, IsLast, TurnIn, IsWaitingFor, WaitIn, awaits, awaits_ack, Agrees}
 use Rattle.history_links.specs.Steps.{AskElsewhere, FirstElsewhere, CopyElsewhere}
 use Rattle.history_links.proofs.Facts.{waits-below}
@@ -30,15 +30,14 @@ use Rattle.history_links.proofs.Mids.{count-cons}
 use Rattle.history_links.proofs.Still.{since, waiting-keeps, waits-all, waits-one, heard-at, heard-still, rest-still}
 use Rattle.history_links.proofs.Copying.{is-last, still-copy, unheard-sent}
 use Rattle.history_links.proofs.Sent.{sent, sent-quiet, waits-sent, waiting-sent, not-waiting, one-awaited}
-use Rattle.history_links.proofs.Tokens.{IsThere, all-there, found-first}
+use Rattle.history_links.proofs.Tokens.{found-first}
 use Rattle.history_links.proofs.Queueing.{asked, begun-here, others-wait, awaited-same, turn-kept}
 
 -- what is outstanding
 
 pub last-number : (l : List Noted) (p : Peer) (f : FirstSending) → last_sent l p ≡ Some f → f.number < length l
 last-number l p f e =
-    let there = all-of (IsThere l) (firsts l) f (all-there l) (find-some (λ (f : FirstSending). same_peer f.peer p) (firsts l) f e).0 in
-    at-below l f.number _ there.stands
+    listed-below l f (find-some (λ (f : FirstSending). same_peer f.peer p) (firsts l) f e).0
 
 older-way : (l : List Noted) (t : ℕ) (r : Peer) (b : List ℕ) (w : Option ℕ) (o : ℕ) (m : Content) (i : ℕ) → i < length l
     → transmission (sent t r b w o m ∷ l) i ≡ transmission l i
@@ -189,7 +188,7 @@ first-elsewhere {start = start} l t p r s b u o m w legal later a other waits mi
     let n = sent t r b u o m ∷ l in
     record {
       turn = turn-other l t p r b u o m other s.outstanding a.turn;
-      known = a.known ∙ sym (ap is_some (last-other l t p r b u o m other));
+      known = a.known ∙ sym (ap (λ (v : Option FirstSending). is_some v || list_any (recalls p) l) (last-other l t p r b u o m other));
       last = λ v after. subst (IsLast v p s.last_mid) (sym (last-other l t p r b u o m other)) (a.last v (since l later after));
       count_up = λ v after. rw (other) (a.count_up v (since l later after));
       given = λ v after. a.given v (since l later after) ∙ sym (mids-other l t v p r b u o m other);

@@ -57,14 +57,17 @@ turn-kept l n p (Some o) stands firsts_are same a = record {
 still-in-use : (t u g : ℕ) → t ≤ u → is_in_use u g ≡ true → is_in_use t g ≡ true
 still-in-use t u g later e = let h = ltb-true (u - g) 494000 e in lt-ltb (t - g) 494000 (omega (arith, h, later))
 
+pub given-kept : (t u : ℕ) (given : List ℕ) → t ≤ u → count_by (is_in_use u) (filter (is_in_use t) given) ≡ count_by (is_in_use u) given
+given-kept t u given later =
+    sym (length-filter (is_in_use u) (filter (is_in_use t) given))
+    ∙ (ap length (filter-kept (is_in_use u) (is_in_use t) (λ g e. still-in-use t u g later e) given) ∙ length-filter (is_in_use u) given)
+
 pub pruned-count : (t u n : ℕ) (given : List ℕ) → t ≤ u → count_by (is_in_use u) (pruned t n given) ≡ count_by (is_in_use u) given
 pruned-count t u n given later = by (ltb (length given + n) 32768)
   where
     by : (b : Bool) → count_by (is_in_use u) (cond b given (filter (is_in_use t) given)) ≡ count_by (is_in_use u) given
     by true = refl
-    by false =
-        sym (length-filter (is_in_use u) (filter (is_in_use t) given))
-        ∙ (ap length (filter-kept (is_in_use u) (is_in_use t) (λ g e. still-in-use t u g later e) given) ∙ length-filter (is_in_use u) given)
+    by false = given-kept t u given later
 
 -- an ask that opens an exchange
 

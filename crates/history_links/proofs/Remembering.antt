@@ -114,10 +114,14 @@ remembered-reply l t u mid p d m to notice r old such later reply none same =
     by false true e f old none same = rw (e, f, or-none old) (same ∙ unchanged)
     by false false e f old none same = rw (e, f, or-none old) (same ∙ unchanged)
 
-count-kept : (t u : ℕ) (heard : List Heard) → t ≤ u → count_by (is_fresh u) (filter (is_fresh t) heard) ≡ count_by (is_fresh u) heard
+pub count-kept : (t u : ℕ) (heard : List Heard) → t ≤ u → count_by (is_fresh u) (filter (is_fresh t) heard) ≡ count_by (is_fresh u) heard
 count-kept t u heard later =
     sym (length-filter (is_fresh u) (filter (is_fresh t) heard))
     ∙ (ap length (filter-kept (is_fresh u) (is_fresh t) (λ h e. fresh-before t u h later e) heard) ∙ length-filter (is_fresh u) heard)
+
+pub repeats-kept : (t u mid : ℕ) (heard : List Heard) → t ≤ u → find (is_repeat u mid) (filter (is_fresh t) heard) ≡ find (is_repeat u mid) heard
+repeats-kept t u mid heard later =
+    find-kept (is_repeat u mid) (is_fresh t) (λ g e. fresh-before t u g later (and-right (eqb g.mid mid) (is_fresh u g) e)) heard
 
 one-live : (l : List Noted) (t u : ℕ) (p : Peer) (d : List ℕ) (m : Content) (to : Option ℕ) (notice : Notice) (b : Bool)
     → is_live u p t (Hears p d) (Says m to notice) ≡ b
@@ -133,7 +137,7 @@ remembers l t p d m to notice r heard after h such none reply = record {
       let later = from.1 in
       ap (option_map (λ (h : Heard). h.reply)) (find-push (is_repeat u mid) (filter (is_fresh t) heard) new
       ∙ ap (λ (v : Option Heard). option_or v (cond (eqb m.mid mid && ltb (u - t) 247000) (Some new) None))
-      (find-kept (is_repeat u mid) (is_fresh t) (λ g e. fresh-before t u g later (and-right (eqb g.mid mid) (is_fresh u g) e)) heard))
+      (repeats-kept t u mid heard later))
       ∙ remembered-reply l t u mid p d m to notice r (find (is_repeat u mid) heard) such later reply
       (λ same. none-later t u mid heard later (none-before (λ (h : Heard). h.reply) (find (is_repeat t mid) heard) (unheard mid same)))
       (h.repeats u mid (since l after.1 from));

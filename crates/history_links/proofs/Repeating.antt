@@ -12,7 +12,7 @@ use Rattle.history_laws.specs.Confirmations.{answer_by, given, rejects_bytes}
 use Rattle.message_layer.specs.Values.{LinkState}
 use Rattle.message_layer.specs.Hearing.{is_repeat, heard_verdict, verdict_by, reset_for}
 use Rattle.message_layer.specs.declared.state.Heard.{Heard}
-use Rattle.history_laws.specs.Readings.{Noted, Note, Plain, Begins, Joins, Serves, First, Copies, Confirms, Says, Repeats, Garbled, at}
+use Rattle.history_laws.specs.Readings.{Noted, Note, Plain, Begins, Joins, Serves, First, Copies, Confirms, Says, Repeats, Garbled, at, Bygone, Recalls, Acknowledged, Rejected, Ignored}
 use Rattle.history_laws.specs.Hearing.{is_such, heard_before}
 use Rattle.history_laws.specs.Confirming.{answered, answered_as, answered_again}
 use Rattle.history_laws.proofs.CallerLemmas.{some-is}
@@ -51,6 +51,10 @@ confirming-note (Copies i) = tt
 confirming-note Confirms = tt
 confirming-note (Repeats m j) = tt
 confirming-note Garbled = tt
+confirming-note (Bygone m) = tt
+confirming-note (Recalls m Acknowledged) = tt
+confirming-note (Recalls m Rejected) = tt
+confirming-note (Recalls m Ignored) = tt
 
 confirming-as : (x : Option Noted) → IsConfirming (answered_as x)
 confirming-as None = tt

@@ -9,14 +9,14 @@ use Rattle.history_links.proofs.Still.{Still, still-by, SameHeard, heard-at, res
 use Rattle.history_links.proofs.Queueing.{turn-kept}
 
 pub still : (l : List Noted) (t : ℕ) (d : Deed) (note : Note) → newest l ≤ t → IsSilent d note → Still l (noted t d note ∷ l)
-still l t (Opens c) Plain later i = still-by (noted t (Opens c) Plain) l later refl refl (λ o. refl) (λ o. refl) (λ o. refl) (λ o. tt)
-still l t (Asks c a) Plain later i = still-by (noted t (Asks c a) Plain) l later refl refl (λ o. refl) (λ o. refl) (λ o. refl) (λ o. tt)
-still l t (Answers c k g) Plain later i = still-by (noted t (Answers c k g) Plain) l later refl refl (λ o. refl) (λ o. refl) (λ o. refl) (λ o. tt)
-still l t (Shuts c) Plain later i = still-by (noted t (Shuts c) Plain) l later refl refl (λ o. refl) (λ o. refl) (λ o. refl) (λ o. tt)
-still l t Seals Plain later i = still-by (noted t Seals Plain) l later refl refl (λ o. refl) (λ o. refl) (λ o. refl) (λ o. tt)
-still l t (Sends p b w) Confirms later i = still-by (noted t (Sends p b w) Confirms) l later refl refl (λ o. refl) (λ o. refl) (λ o. refl) (λ o. tt)
-still l t (Hears p b) (Repeats m j) later i = still-by (noted t (Hears p b) (Repeats m j)) l later refl refl (λ o. refl) (λ o. refl) (λ o. refl) (λ o. tt)
-still l t (Hears p b) Garbled later i = still-by (noted t (Hears p b) Garbled) l later refl refl (λ o. refl) (λ o. refl) (λ o. refl) (λ o. tt)
+still l t (Opens c) Plain later i = still-by (noted t (Opens c) Plain) l later refl refl (λ o. refl) (λ o. refl) (λ o. refl) (λ o. tt) (λ r. refl)
+still l t (Asks c a) Plain later i = still-by (noted t (Asks c a) Plain) l later refl refl (λ o. refl) (λ o. refl) (λ o. refl) (λ o. tt) (λ r. refl)
+still l t (Answers c k g) Plain later i = still-by (noted t (Answers c k g) Plain) l later refl refl (λ o. refl) (λ o. refl) (λ o. refl) (λ o. tt) (λ r. refl)
+still l t (Shuts c) Plain later i = still-by (noted t (Shuts c) Plain) l later refl refl (λ o. refl) (λ o. refl) (λ o. refl) (λ o. tt) (λ r. refl)
+still l t Seals Plain later i = still-by (noted t Seals Plain) l later refl refl (λ o. refl) (λ o. refl) (λ o. refl) (λ o. tt) (λ r. refl)
+still l t (Sends p b w) Confirms later i = still-by (noted t (Sends p b w) Confirms) l later refl refl (λ o. refl) (λ o. refl) (λ o. refl) (λ o. tt) (λ r. refl)
+still l t (Hears p b) (Repeats m j) later i = still-by (noted t (Hears p b) (Repeats m j)) l later refl refl (λ o. refl) (λ o. refl) (λ o. refl) (λ o. tt) (λ r. refl)
+still l t (Hears p b) Garbled later i = still-by (noted t (Hears p b) Garbled) l later refl refl (λ o. refl) (λ o. refl) (λ o. refl) (λ o. tt) (λ r. refl)
 still l t d note later i = absurd i
 
 unheard : (l : List Noted) (t : ℕ) (d : Deed) (note : Note) (p : Peer) → newest l ≤ t → IsSilent d note → SameHeard l (noted t d note ∷ l) p

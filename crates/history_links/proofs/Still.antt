@@ -11,7 +11,7 @@ use Rattle.history_laws.specs.Readings.{Noted, at, newest}
 use Rattle.history_laws.specs.Transmissions.{bears_token, firsts, first_at}
 use Rattle.history_laws.specs.Progress.{Reply as ExchangeReply, progress, next_message}
 use Rattle.history_laws.specs.Exchanges.{Begun, begun, openings, turn, waits_for, replies, end_of, awaited, is_waiting, waiting, issued, rank}
-use Rattle.history_laws.specs.Hearing.{went_under, went_as, is_like, heard_before, live_heard}
+use Rattle.history_laws.specs.Hearing.{went_under, went_as, is_like, heard_before, live_heard, recalls}
 use Rattle.history_laws.specs.Confirming.{answered_as}
 use Rattle.history_laws.proofs.CallerLemmas.{all-more, at-cases, at-keeps, begun-keeps, issued-same, none-submitted, NoReply, queue-same, rank-keeps, replies-stay, waiting-all, waiting-begun, waiting-stays}
 use Rattle.history_links.specs.Agrees.{Start, IsWaitingFor, TurnIn, WaitIn, reply_of, awaits, awaits_ack, HeardIn, Agrees}
@@ -29,6 +29,7 @@ pub record Still (l n : List Noted) : Type 0 where
   pub later : newest l ≤ newest n
   pub stands : (i : ℕ) (x : Noted) → at l i ≡ Some x → at n i ≡ Some x
   pub firsts_are : firsts n ≡ firsts l
+  pub recalled_are : (p : Peer) → list_any (recalls p) n ≡ list_any (recalls p) l
   pub openings_are : openings n ≡ openings l
   pub begun_are : (o : ℕ) → begun n o ≡ begun l o
   pub waits_are : (o : ℕ) → waits_for n o ≡ waits_for l o
@@ -87,11 +88,12 @@ waits-all start x l p same os ws waiting =
 -- One entry more leaves what it says, where it leaves these.
 pub still-by : (x : Noted) (l : List Noted) → newest l ≤ x.written.moment → firsts (x ∷ l) ≡ firsts l → openings (x ∷ l) ≡ openings l
     → ((o : ℕ) → begun (x ∷ l) o ≡ begun l o) → ((o : ℕ) → waits_for (x ∷ l) o ≡ waits_for l o) → ((o : ℕ) → end_of (x ∷ l) o ≡ end_of l o)
-    → ((o : ℕ) → NoReply (turn l o x)) → Still l (x ∷ l)
-still-by x l later firsts_are openings_are begun_are waits_are ends_are quiet = record {
+    → ((o : ℕ) → NoReply (turn l o x)) → ((p : Peer) → recalls p x ≡ false) → Still l (x ∷ l)
+still-by x l later firsts_are openings_are begun_are waits_are ends_are quiet own = record {
   later = later;
   stands = λ i y e. at-keeps x l i y e;
   firsts_are = firsts_are;
+  recalled_are = λ p. rw (own p) refl;
   openings_are = openings_are;
   begun_are = begun_are;
   waits_are = waits_are;
@@ -163,7 +165,7 @@ pub rest-still : {start : Start} (l n : List Noted) (p : Peer) (s r : LinkState)
     → r.waiting ≡ s.waiting → r.last_mid ≡ s.last_mid → r.given ≡ s.given → r.awaited ≡ s.awaited → r.heard ≡ s.heard → Agrees start n p r
 rest-still {start = start} l n p s r e h a turn waiting_is last_is given_is awaited_is heard_is = record {
   turn = turn;
-  known = ap is_some last_is ∙ (a.known ∙ rw (e.firsts_are) refl);
+  known = ap is_some last_is ∙ (a.known ∙ rw (e.firsts_are, e.recalled_are p) refl);
   last = λ t later. rw (last_is, e.firsts_are) (a.last t (since l e.later later));
   count_up = λ t later. rw (e.firsts_are) (a.count_up t (since l e.later later));
   given = λ t later. rw (given_is, e.firsts_are) (a.given t (since l e.later later));

@@ -62,11 +62,12 @@ abbrev pub IsLast : ℕ → Peer → Option ℕ → Option FirstSending → Type
 IsLast t p mid None = ⊤
 IsLast t p mid (Some f) = is_recent t p f ≡ true → mid ≡ Some f.message.mid
 
--- What a history doesn't say of its beginning: from which moment on it is added to, and how many
--- tokens were issued before. Of a first journal both are 0.
+-- What a history doesn't say of its beginning: from which moment on it is added to, how many tokens
+-- were issued before, and how many connections opened. Of a first journal all are 0.
 pub record Start : Type 0 where
   pub moment : ℕ
   pub issued : ℕ
+  pub opened : ℕ
 
 -- from the beginning and the newest entry on
 abbrev pub IsFrom : Start → List Noted → ℕ → Type 0

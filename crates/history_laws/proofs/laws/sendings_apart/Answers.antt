@@ -1,4 +1,4 @@
-use Rattle.history_laws.proofs.Apart.{firsts-tokens, firsts-ids}
+use Rattle.history_laws.proofs.Firsts.{firsts-tokens, firsts-ids}
 use Rattle.history_laws.proofs.laws.sendings_apart.Goals as goal
 
 pub returns-clause-tokens : goal.returns-clause-tokens
