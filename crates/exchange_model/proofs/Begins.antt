@@ -101,6 +101,7 @@ begins-leads l t c a q token text word S b may who sense room spelled size numbe
         sealed_is = r.sealed_is;
         moment_is = moment-now l t S b;
         opened_are = r.opened_are;
+        opens_are = r.opens_are;
         issued_are = (let more = opened-issued x l r.legal begins (ap is_none none.1) in let before = r.issued_are in omega (arith, more, before));
         conns_are = rw (r.conns_are, here) refl;
         keys = filter-push (is_going n) (openings l) (length l) (ap is_none none.1)

@@ -19,4 +19,5 @@ pub use Rattle.exchange_model.proofs.Tallies.{busy-count}
 pub use Rattle.exchange_model.proofs.TickAdds.{ticked-adds}
 pub use Rattle.exchange_model.proofs.TickEnters.{stays-drained, ticks-enter}
 pub use Rattle.exchange_model.proofs.Ticking.{ticks-do}
+pub use Rattle.exchange_model.proofs.TurnedRoom.{rotates-drained, rotates-in-room}
 pub use Rattle.exchange_model.proofs.Opened.{OpenIn, open-ones}

@@ -7,9 +7,9 @@ use Rattle.std.proofs.lemmas.Bool.{false≢true, or_right, not-true}
 use Rattle.ask_model.specs.Views.{Ask}
 use Rattle.journal_book.specs.Entries.{Grounds, Deed, Opens, Asks, Answers, Shuts}
 use Rattle.history_laws.specs.Readings.{Noted, Note, noted}
-use Rattle.history_laws.specs.Connections.{is_open, asks_of, answers_of, opened_by, opened}
+use Rattle.history_laws.specs.Connections.{is_open, asks_of, answers_of, opened_by, opened, has_opened}
 use Rattle.history_laws.specs.Justified.{pending, Follows, Legal}
-use Rattle.history_laws.proofs.CallerLemmas.{all-filter, all-more, all-passes, all-push, open-below}
+use Rattle.history_laws.proofs.CallerLemmas.{all-filter, all-more, all-passes, all-push, next-above, open-below}
 use Rattle.exchange_model.specs.declared.kept.Conn.{Conn}
 use Rattle.exchange_model.specs.State.{pend}
 use Rattle.exchange_model.specs.Reads.{conns_of}
@@ -29,7 +29,7 @@ abbrev NothingOf : List Noted → ℕ → Type 0
 NothingOf l c = (asks_of l c ≡ []) × (answers_of l c ≡ [])
 
 opened-more : (l : List Noted) (t : ℕ) (d : Deed) (note : Note) → Follows l t d note → opened l ≤ opened_by d (opened l)
-opened-more l t (Opens c) note may = let here = may.1 in omega (arith, here)
+opened-more l t (Opens c) note may = let here = next-above (has_opened l) (opened l) c may.1 in omega (arith, here)
 opened-more l t d note may = omega arith
 
 asked-step : (older : List Noted) (c t : ℕ) (d : Deed) (note : Note) → Legal older → opened_by d (opened older) ≤ c
@@ -110,8 +110,7 @@ answered-conn l t c k g note may x w =
 conns-step : (l : List Noted) (t : ℕ) (d : Deed) (note : Note) → Legal l → Follows l t d note
     → AllByRecursion (ConnIn l) (conns_of l) → AllByRecursion (ConnIn (noted t d note ∷ l)) (conns_of (noted t d note ∷ l))
 conns-step l t (Opens c) note legal may h =
-    let here : c ≡ opened l = may.1 in
-    let none = none-asked l legal c (omega arith) in
+    let none = none-asked l legal c (next-above (has_opened l) (opened l) c may.1) in
     all-push (ConnIn (noted t (Opens c) note ∷ l)) (conns_of l) (record { id = c; pending = None })
     (all-more (ConnIn l) (ConnIn (noted t (Opens c) note ∷ l))
     (λ x w. record { open_now = rw (w.open_now) (or_right (eqb c x.id) true refl); waits = w.waits }) (conns_of l) h)

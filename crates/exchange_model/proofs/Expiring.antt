@@ -13,7 +13,8 @@ use Rattle.history_laws.specs.Readings.{Noted}
 use Rattle.history_laws.specs.Transmissions.{FirstSending, first_at, Transmission, transmission, given_up, if_outstanding, outstanding}
 use Rattle.history_laws.specs.Exchanges.{begun, is_late, expires as ends_at, waits_for, Turn, Sent, Replied, Rejected, Expired, Nothing, turn, waits_by, replies, end_here, end_by, end_of, open_exchanges}
 use Rattle.history_laws.specs.Justified.{Follows, Legal}
-use Rattle.history_laws.proofs.CallerLemmas.{all-more, all-of, contains-mapped, contains-none, first-or-later, first-stands, first-waits, may-be, none-is, open-exactly, outstanding-last, sent-for, some-is, turn-sent, waiting-goes, waits-first}
+use Rattle.history_laws.specs.Laws.{IsFirst}
+use Rattle.history_laws.proofs.CallerLemmas.{all-more, all-of, contains-mapped, contains-none, first-is, first-or-later, first-waits, may-be, none-is, open-exactly, outstanding-last, sent-for, some-is, turn-sent, waiting-goes, waits-first, way-first}
 use Rattle.history_links.specs.Agrees.{Start, way_of, TurnIn, Agrees}
 use Rattle.history_links.specs.Steps.{is_over}
 use Rattle.history_links.proofs.CallerLemmas.{is-outstanding, one-token, out-first}
@@ -29,7 +30,11 @@ use Rattle.exchange_model.proofs.Opened.{cancel, OpenIn, one-rank, open-ones}
 is-out : (l : List Noted) (i : ℕ) (f : FirstSending) (y : Transmission) → Legal l → first_at l i ≡ Some f → transmission l i ≡ Some y
     → (g : FirstSending) × (outstanding l f.peer ≡ Some g) × (g.number ≡ i)
 is-out l i f y legal e w =
-    let last = outstanding-last l f.moment f.opening i f.peer f.message y legal (first-stands l i f e) w in (
+    let own = way-first l i y w in
+    let same = first-is l own.0 own.1 i own.2 own.3 f own.4 e in
+    let first : IsFirst l f.moment f.opening i f.peer f.message =
+    subst (λ (g : FirstSending). IsFirst l g.moment g.opening i g.peer g.message) (sym same) own.4 in
+    let last = outstanding-last l f.moment f.opening i f.peer f.message y legal first w in (
       last.0,
       ap (option_and_then (if_outstanding l)) last.1 ∙ is-outstanding l last.0 y (subst (λ (n : ℕ). transmission l n ≡ Some y) (sym last.2) w),
       last.2,

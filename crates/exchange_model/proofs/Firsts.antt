@@ -116,6 +116,7 @@ first-leads l t p w ws S b q small few free is =
           sealed_is = r.sealed_is;
           moment_is = moment-now l t S b;
           opened_are = r.opened_are;
+          opens_are = r.opens_are;
           issued_are = ap (λ (k : ℕ). r.start.issued + k) (issued-same x l refl (λ k goes. sent-quiet l t p v.datagram (Some v.timeout) o m k)) ∙ r.issued_are;
           conns_are = r.conns_are;
           keys = filter_agree (is_going n) (is_going l) (λ k. ap is_none (ends-sent l t p v.datagram (Some v.timeout) o m k)) (openings l) ∙ (r.keys ∙ keys-kept w.token (length S.entries) S.exchanges);

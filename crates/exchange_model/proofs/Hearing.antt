@@ -211,6 +211,7 @@ hears-leads l t p d m S h spelled none room =
           sealed_is = r.sealed_is;
           moment_is = moment-now l t S b;
           opened_are = r.opened_are;
+          opens_are = r.opens_are;
           issued_are = ap (λ (k : ℕ). r.start.issued + k) (issued-same x l refl (says-quiet l t p d m (answers l p m))) ∙ r.issued_are;
           conns_are = r.conns_are;
           keys = open-after l t p s d m S.exchanges r.legal (r.links_are p) judged r.exchanges_are r.keys;

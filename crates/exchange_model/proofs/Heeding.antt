@@ -296,7 +296,7 @@ hears-keeps t p d S m bytes = by (is_some (link_of S.links p).last_mid) refl (le
     garbled h e is = with (reset_for d) refl
       where
         made : Heeds l (noted t (Hears p d) Garbled) (reset p (reset_for d)) (hears_nothing t p d S)
-        made = garbled-leads l t p d S h (λ k spelled. err-ok e k is (message_again k d spelled))
+        made = garbled-leads l t p d S h bytes (λ k spelled. err-ok e k is (message_again k d spelled))
 
         with : (v : Option ℕ) → reset_for d ≡ v → Kept (given_back t p (resets v) (hears_nothing t p d S))
         with None none = answered-only t p S (hears_nothing t p d S) (noted t (Hears p d) Garbled) 0 R.Nothing m (record { reads = made.leads.reads; later = omega arith }) m.unsealed refl refl refl refl

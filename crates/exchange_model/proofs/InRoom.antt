@@ -35,7 +35,7 @@ use Rattle.exchange_model.proofs.Waiting.{shuts-fewer}
 
 -- limits
 
-le-true : (a b : ℕ) → nat_le a b ≡ true → a ≤ b
+pub le-true : (a b : ℕ) → nat_le a b ≡ true → a ≤ b
 le-true a b e = elim (leb_tells a b) [ inl w ↦ w.1 | inr w ↦ absurd (false≢true (sym w.0 ∙ e)) ]
 
 le-from : (a b : ℕ) → a ≤ b → nat_le a b ≡ true

@@ -28,7 +28,7 @@ use Rattle.exchange_model.proofs.Ending.{all-conns, reader-is, found-conn, none-
 use Rattle.exchange_model.proofs.Lists.{all-map, all-both}
 use Rattle.exchange_model.proofs.Opened.{OpenIn, open-ones}
 use Rattle.exchange_model.proofs.Silent.{answers-leads}
-use Rattle.exchange_model.proofs.TimingOut.{sent-alike}
+use Rattle.exchange_model.proofs.TimingOut.{own-asked, sent-alike}
 
 abbrev timeout : Exchange → Grounds
 timeout e = Fault C.Timeout (unwrap_or e.sending e.opening)
@@ -41,7 +41,7 @@ overdue l t e a sealed past =
     let late_now : is_late t (begun l e.opening) ≡ true = rw (a.0.opening) past in (
       e.opening,
       rw (a.0.stands) refl,
-      named e.sending (sent-alike l e.opening going ∙ a.0.sending),
+      named e.sending (sent-alike l e.opening (own-asked l e a.0) going ∙ a.0.sending),
       inr (sealed, going, late_now),
     )
   where

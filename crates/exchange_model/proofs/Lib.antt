@@ -1,6 +1,17 @@
 pub mod CallerLemmas
 mod Lists
 mod Opened
+mod Shapes
+mod Copies
+mod CopiedLegal
+mod CopiedSendings
+mod CopiedHeard
+mod CopiedIdle
+mod CopiedLinks
+mod CopiedUnknown
+mod CopiedEntries
+mod Turned
+mod TurnedRoom
 mod Tables
 mod Silent
 mod Quiet

@@ -2,9 +2,9 @@
 use Rattle.std.proofs.Common.{◌≡◌, ℕ, zero, suc, ◌+◌, ◌<◌, List, [], ◌∷◌, map, sym, ap, ◌∙◌, subst, arith}
 use Rattle.std.specs.List.{AllByRecursion, range_with_len}
 use Rattle.history_laws.specs.Readings.{Noted}
-use Rattle.history_laws.specs.Connections.{is_open, opened}
+use Rattle.history_laws.specs.Connections.{is_open, opened, has_opened}
 use Rattle.history_laws.specs.Sealing as H
-use Rattle.history_laws.proofs.CallerLemmas.{all-filter, Rising, rising-filter}
+use Rattle.history_laws.proofs.CallerLemmas.{all-filter, next-above, Rising, rising-filter}
 use Rattle.exchange_model.specs.declared.kept.Conn.{Conn}
 use Rattle.exchange_model.specs.State.{State}
 use Rattle.exchange_model.specs.Reads.{Reads}
@@ -40,6 +40,5 @@ conns-below S k =
     let r = k.kept.rests.reads in
     all-mapped id_of (λ (n : ℕ). n < S.opened) S.conns
     (subst (λ (ks : List ℕ). AllByRecursion (λ (n : ℕ). n < S.opened) ks) (sym (ids-are l S r))
-    (subst (λ (m : ℕ). AllByRecursion (λ (n : ℕ). n < m) (H.open_conns l)) r.opened_are
-    (all-filter (λ (n : ℕ). n < opened l) (is_open l) (range_with_len 0 (opened l))
-    (range-below 0 (opened l) (opened l) (omega arith)))))
+    (all-filter (λ (n : ℕ). n < S.opened) (is_open l) (range_with_len 0 (opened l))
+    (let above = next-above (has_opened l) (opened l) S.opened r.opened_are in range-below 0 (opened l) S.opened (omega (arith, above)))))

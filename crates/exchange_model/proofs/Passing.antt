@@ -133,6 +133,7 @@ passes-leads l t S b may =
         sealed_is = r.sealed_is;
         moment_is = moment-now l t S b;
         opened_are = r.opened_are;
+        opens_are = r.opens_are;
         issued_are = ap (λ (k : ℕ). r.start.issued + k) (issued-same (ticked_at t) l refl (λ o goes. passed-quiet l t o)) ∙ r.issued_are;
         conns_are = r.conns_are;
         keys = open-passed l t S r;

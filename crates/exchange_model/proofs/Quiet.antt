@@ -21,12 +21,12 @@ use Rattle.exchange_model.proofs.Silent.{later-than, link-before, silent-reads}
 pub asks-leads : AsksLeads
 asks-leads l t c a S b may who note =
     let follows : Follows l t (Asks c a) Plain = (may, who.open_now, who.idle, note) in
-    record { follows = follows; reads = silent-reads l t (Asks c a) Plain S b tt follows }
+    record { follows = follows; reads = silent-reads l t (Asks c a) Plain S b tt tt follows }
 
 pub confirms-leads : ConfirmsLeads
 confirms-leads l t p bytes S b unsealed owes =
     let follows : Follows l t (Sends p bytes None) Confirms = (b.reads.sealed_is ∙ unsealed, (refl, owes)) in
-    record { follows = follows; reads = silent-reads l t (Sends p bytes None) Confirms S b tt follows }
+    record { follows = follows; reads = silent-reads l t (Sends p bytes None) Confirms S b tt tt follows }
 
 pub repeats-leads : RepeatsLeads
 repeats-leads l t p d m j S h spelled again =
@@ -34,17 +34,17 @@ repeats-leads l t p d m j S h spelled again =
     let link = link-before l t S b p in
     let follows : Follows l t (Hears p d) (Repeats m j) = (h.come, h.short, h.known, (spelled, again)) in
     record {
-      leads = record { follows = follows; reads = silent-reads l t (Hears p d) (Repeats m j) S b tt follows };
+      leads = record { follows = follows; reads = silent-reads l t (Hears p d) (Repeats m j) S b tt tt follows };
       owes = (repeat-agrees _ l t p (link_of S.links p) d m j link again).owes;
     }
 
 pub garbled-leads : GarbledLeads
-garbled-leads l t p d S h none =
+garbled-leads l t p d S h small none =
     let b = h.before in
     let link = link-before l t S b p in
-    let follows : Follows l t (Hears p d) Garbled = (h.come, h.short, h.known, none) in
+    let follows : Follows l t (Hears p d) Garbled = (h.come, h.short, h.known, (small, none)) in
     record {
-      leads = record { follows = follows; reads = silent-reads l t (Hears p d) Garbled S b tt follows };
+      leads = record { follows = follows; reads = silent-reads l t (Hears p d) Garbled S b tt tt follows };
       owes = (garbled-agrees _ l t p (link_of S.links p) d link).owes;
     }
 
@@ -61,7 +61,7 @@ copy-leads l t p o S b q is few due =
       i,
       record {
         follows = made.4.follows;
-        reads = still-reads l t (Sends p o.datagram None) (Copies i) S (with_link p s S.links) b.reads b.later made.4.follows (still-copy l t p o.datagram i later)
+        reads = still-reads l t (Sends p o.datagram None) (Copies i) S (with_link p s S.links) b.reads b.later tt made.4.follows (still-copy l t p o.datagram i later)
             (all-links (λ (r : Peer) (v : LinkState). v.waiting ≡ (link_of S.links r).waiting) p s S.links refl (λ r other. refl))
             (all-links (λ (r : Peer) (v : LinkState). Agrees b.reads.start (copy t p o i ∷ l) r v) p s S.links (given-agrees (copy t p o i ∷ l) p (with_copy t (link_of S.links p) o) made.4.agrees)
             (λ r other. copy-elsewhere _ l t r p (link_of S.links r) o.datagram i made.1 (link r) made.2 (other-peer made.1 p r made.3 other)));

@@ -1,6 +1,7 @@
 -- Where all that was due is done, a history is at rest.
 use Rattle.std.proofs.Common.{◌≡◌, ℕ, ◌+◌, ◌<◌, Bool, true, false, not, ◌||◌, inl, inr, List, [], ◌∷◌, map, Option, Some, None, is_some, refl, sym, ap, subst, ◌∙◌, lt-ltb}
 use Rattle.std.proofs.lemmas.Bool.{lt-leb}
+use Rattle.std.proofs.lemmas.List.Elements.{All-contains_itself, recursion_from_All}
 use Rattle.std.specs.Option.{option_map_or}
 use Rattle.std.specs.List.{AllByRecursion, Contains, list_all, range_with_len}
 use Rattle.limits.specs.declared.TheConstants.{MAX_TRANSMIT_WAIT}
@@ -13,9 +14,9 @@ use Rattle.history_laws.specs.Connections.{is_open, opened}
 use Rattle.history_laws.specs.Transmissions.{FirstSending, firsts, Transmission, transmission, due, outstanding}
 use Rattle.history_laws.specs.Exchanges.{begun, waits_for, openings, is_going, open_exchanges, is_waiting, waiting}
 use Rattle.history_laws.specs.Justified.{pending, reads, reads_open, is_in_hand, finds_outstanding, is_under_way, is_early, is_done, is_in_time}
-use Rattle.history_laws.proofs.CallerLemmas.{all-more, contains-none, none-some, outstanding-last, some-is, waiting-has}
+use Rattle.history_laws.proofs.CallerLemmas.{all-more, contains-none, first-is, first-listed, none-some, outstanding-last, some-is, waiting-has, way-first}
 use Rattle.history_links.specs.Agrees.{Start, way_of, TurnIn, WaitIn}
-use Rattle.history_links.proofs.CallerLemmas.{all-there, is-first, IsThere}
+use Rattle.history_laws.specs.Laws.{IsFirst}
 use Rattle.exchange_model.specs.declared.kept.Conn.{Conn}
 use Rattle.exchange_model.specs.declared.kept.Exchange.{Exchange}
 use Rattle.exchange_model.specs.State.{State, link_of}
@@ -101,13 +102,18 @@ early-by l p g y tick (Some o) ws turn undue is way =
     let its : transmission l g.number ≡ Some (way_of o) = subst (λ (f : FirstSending). transmission l f.number ≡ Some (way_of o)) same turn.way in
     subst (λ (v : Transmission). tick < due v) (some-is (way_of o) y (sym its ∙ way)) undue
 
-done : (l : List Noted) (S : State) (f : FirstSending) → Rests l S → IsThere l f → is_done l f ≡ true
-done l S f r there = by (transmission l f.number) refl
+done : (l : List Noted) (S : State) (f : FirstSending) → Rests l S → Contains (firsts l) f → is_done l f ≡ true
+done l S f r listed = by (transmission l f.number) refl
   where
     by : (w : Option Transmission) → transmission l f.number ≡ w → is_early (ticked l) w ≡ true
     by None e = refl
     by (Some y) e =
-        let last = outstanding-last l f.moment f.opening f.number f.peer f.message y r.reads.legal (is-first l f there) e in
+        let own = way-first l f.number y e in
+        let same : f ≡ record { number = f.number; moment = own.0; opening = own.1; peer = own.2; message = own.3 } =
+        first-is l own.0 own.1 f.number own.2 own.3 f own.4 (first-listed l f listed) in
+        let first : IsFirst l f.moment f.opening f.number f.peer f.message =
+        subst (λ (g : FirstSending). IsFirst l g.moment g.opening f.number g.peer g.message) (sym same) own.4 in
+        let last = outstanding-last l f.moment f.opening f.number f.peer f.message y r.reads.legal first e in
         let way : transmission l last.0.number ≡ Some y = subst (λ (i : ℕ). transmission l i ≡ Some y) (sym last.2) e in
         let is : outstanding l f.peer ≡ Some last.0 = rw (last.1, way) refl in
         let s = link_of S.links f.peer in
@@ -130,7 +136,7 @@ rests-at-rest l S r =
           (all-more (OpenIn r.reads.start l) (λ (e : Exchange). is_under_way l e.opening ≡ true) (λ e h. under-way l S e r h) S.exchanges open_now);
       copied = λ sealed.
           all-pass (is_done l) (firsts l)
-          (all-more (IsThere l) (λ (f : FirstSending). is_done l f ≡ true) (λ f h. done l S f r h) (firsts l) (all-there l));
+          (all-more (Contains (firsts l)) (λ (f : FirstSending). is_done l f ≡ true) (λ f h. done l S f r h) (firsts l) (recursion_from_All (Contains (firsts l)) (firsts l) (All-contains_itself (firsts l))));
       ended = λ sealed.
           open-pass l S (is_in_time l) r.reads
           (all-more (λ (e : Exchange). OpenIn r.reads.start l e × (ticked l < e.since + MAX_TRANSMIT_WAIT)) (λ (e : Exchange). is_in_time l e.opening ≡ true)

@@ -13,7 +13,7 @@ use Rattle.exchange_model.specs.Reads.{Reads}
 use Rattle.exchange_model.specs.Steps.{entered}
 use Rattle.exchange_model.specs.Laws.{Before, OpensLeads, ShutsLeads, SealsLeads, AnswersLeads}
 use Rattle.history_laws.specs.Connections.{sealed_by, opened_by}
-use Rattle.exchange_model.proofs.Tables.{reads-from, reads-later, reads-now, still-reads}
+use Rattle.exchange_model.proofs.Tables.{IsNumberedAs, reads-from, reads-later, reads-now, still-reads}
 
 pub later-than : (l : List Noted) (t : ℕ) (S : State) → Before l t S → newest l ≤ t
 later-than l t S b = reads-later l t S b.reads b.later
@@ -27,7 +27,7 @@ now-from l t S b = (reads-from l t S b.reads b.later, later-than l t S b)
 pub moment-now : (l : List Noted) (t : ℕ) (S : State) (b : Before l t S) → max b.reads.start.moment t ≡ t
 moment-now l t S b = reads-now l t S b.reads b.later
 
-pub silent-reads : (l : List Noted) (t : ℕ) (d : Deed) (note : Note) (S : State) → Before l t S → IsSilent d note → Follows l t d note
+pub silent-reads : (l : List Noted) (t : ℕ) (d : Deed) (note : Note) (S : State) → Before l t S → IsNumberedAs S d → IsSilent d note → Follows l t d note
     → Reads (noted t d note ∷ l) (record {
       entries = (entered t d S).entries;
       sealed = sealed_by d S.sealed;
@@ -38,27 +38,27 @@ pub silent-reads : (l : List Noted) (t : ℕ) (d : Deed) (note : Note) (S : Stat
       exchanges = S.exchanges;
       links = S.links;
     })
-silent-reads l t d note S b silent follows =
+silent-reads l t d note S b numbered silent follows =
     let later = later-than l t S b in
-    still-reads l t d note S S.links b.reads b.later follows (still l t d note later silent) (λ p. refl)
+    still-reads l t d note S S.links b.reads b.later numbered follows (still l t d note later silent) (λ p. refl)
     (λ p. silent-agrees _ l t p (link_of S.links p) d note (link-before l t S b p) silent)
 
 pub opens-leads : OpensLeads
 opens-leads l t S b may =
-    let follows : Follows l t (Opens S.opened) Plain = (may, sym b.reads.opened_are, tt) in
-    record { follows = follows; reads = silent-reads l t (Opens S.opened) Plain S b tt follows }
+    let follows : Follows l t (Opens S.opened) Plain = (may, b.reads.opened_are, tt) in
+    record { follows = follows; reads = silent-reads l t (Opens S.opened) Plain S b refl tt follows }
 
 pub shuts-leads : ShutsLeads
 shuts-leads l t c S b quiet is =
     let follows : Follows l t (Shuts c) Plain = (quiet, is, tt) in
-    record { follows = follows; reads = silent-reads l t (Shuts c) Plain S b tt follows }
+    record { follows = follows; reads = silent-reads l t (Shuts c) Plain S b tt tt follows }
 
 pub seals-leads : SealsLeads
 seals-leads l t S b may full =
     let follows : Follows l t Seals Plain = (may, full, tt) in
-    record { follows = follows; reads = silent-reads l t Seals Plain S b tt follows }
+    record { follows = follows; reads = silent-reads l t Seals Plain S b tt tt follows }
 
 pub answers-leads : AnswersLeads
 answers-leads l t c k g S b quiet is next grounds =
     let follows : Follows l t (Answers c k g) Plain = (quiet, is, next, grounds, tt) in
-    record { follows = follows; reads = silent-reads l t (Answers c k g) Plain S b tt follows }
+    record { follows = follows; reads = silent-reads l t (Answers c k g) Plain S b tt tt follows }

@@ -264,13 +264,14 @@ start-keeps = record {
   reading = [];
   rests = record {
     reads = record {
-      start = record { moment = 0; issued = 0 };
-      few = omega arith;
+      start = record { moment = 0; issued = 0; opened = 0 };
+      few = (omega arith, omega arith);
       entries_are = refl;
       legal = tt;
       sealed_is = refl;
       moment_is = refl;
-      opened_are = refl;
+      opened_are = omega arith;
+      opens_are = refl;
       issued_are = refl;
       conns_are = refl;
       keys = refl;

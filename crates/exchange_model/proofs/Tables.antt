@@ -6,35 +6,32 @@ use Rattle.std.proofs.lemmas.List.Elements.{filter_agree}
 use Rattle.uri_map.specs.declared.peer.Peer.{Peer}
 use Rattle.uri_map.specs.Peers.{same_peer}
 use Rattle.uri_map.proofs.CallerLemmas.{same_peer-same, same_peer-itself}
-use Rattle.journal_book.specs.Entries.{Deed, Sends, Written}
+use Rattle.journal_book.specs.Entries.{Deed, Sends, Written, Opens}
 use Rattle.message_layer.specs.Values.{LinkState}
 use Rattle.history_laws.specs.Readings.{Noted, Note, First, entries, newest, noted}
-use Rattle.history_laws.specs.Connections.{sealed_by, opened_by}
+use Rattle.history_laws.specs.Connections.{sealed_by, opened_by, opened, opens_by, has_opened}
 use Rattle.history_laws.specs.Transmissions.{FirstSending, firsts_by, firsts, first_at, bears_token}
 use Rattle.history_laws.specs.Exchanges.{openings, waits_for, is_going, open_exchanges}
-use Rattle.history_laws.specs.Justified.{Follows}
-use Rattle.history_laws.proofs.CallerLemmas.{all-more, at-keeps, awaiting-stays, begun-keeps, entries-length, first-stands, IsFirst-below, rank-keeps}
+use Rattle.history_laws.specs.Justified.{Follows, IsNextConn}
+use Rattle.history_laws.proofs.CallerLemmas.{all-more, at-keeps, awaiting-stays, begun-keeps, entries-length, eqb-same, find-some, first-older, listed-below, rank-keeps}
 use Rattle.history_links.specs.Agrees.{Start, Agrees}
 use Rattle.history_links.proofs.CallerLemmas.{first_at-still, Still}
 use Rattle.exchange_model.specs.declared.kept.Exchange.{Exchange}
 use Rattle.exchange_model.specs.State.{PeerLink, State, link_of, with_link, conns_after}
 use Rattle.exchange_model.specs.Steps.{given_out}
-use Rattle.exchange_model.specs.Reads.{IsSentUnder, ExchangeIn, WaitsUnder, Reads}
+use Rattle.exchange_model.specs.Reads.{IsSentUnder, ExchangeIn, WaitsUnder, Reads, opens_in, opens_once}
 
 -- entries
 
 -- first sendings stay
 
-stays-by : (n t : ℕ) (d : Deed) (note : Note) (old : List FirstSending) (i : ℕ) (f : FirstSending) → i < n
-    → find (λ (g : FirstSending). eqb g.number i) old ≡ Some f → find (λ (g : FirstSending). eqb g.number i) (firsts_by n t d note old) ≡ Some f
-stays-by n t (Sends p b w) (First o m) old i f lt e = elim (eqb_tells n i) [ inl v ↦ let same = v.1 in absurd (omega (arith, lt, same)) | inr v ↦ rw (v.0) e ]
-stays-by n t d note old i f lt e = e
-
 pub first-below : (l : List Noted) (i : ℕ) (f : FirstSending) → first_at l i ≡ Some f → i < length l
-first-below l i f e = IsFirst-below l f.moment f.opening i f.peer f.message (first-stands l i f e)
+first-below l i f e =
+    let it = find-some (λ (g : FirstSending). eqb g.number i) (firsts l) f e in
+    subst (λ (n : ℕ). n < length l) (eqb-same f.number i it.1) (listed-below l f it.0)
 
 pub first-stays : (x : Noted) (l : List Noted) (i : ℕ) (f : FirstSending) → first_at l i ≡ Some f → first_at (x ∷ l) i ≡ Some f
-first-stays x l i f e = stays-by (length l) x.written.moment x.written.deed x.note (firsts l) i f (first-below l i f e) e
+first-stays x l i f e = first-older x l i (first-below l i f e) ∙ e
 
 -- exchanges
 
@@ -89,8 +86,23 @@ reads-from l t S r later = let is = r.moment_is in omega (arith, is, later)
 pub reads-now : (l : List Noted) (t : ℕ) (S : State) (r : Reads l S) → S.moment ≤ t → max r.start.moment t ≡ t
 reads-now l t S r later = let begins = reads-from l t S r later in omega (arith, begins)
 
+-- A connection that is opened has the number that the state says.
+abbrev pub IsNumberedAs : State → Deed → Type 0
+IsNumberedAs S (Opens c) = c ≡ S.opened
+IsNumberedAs S d = Unit {0}
+
+next-opened : (l : List Noted) (d : Deed) (n : ℕ) → IsNextConn (has_opened l) (opened l) n
+    → IsNextConn (opens_by d (has_opened l)) (opened_by d (opened l)) (opened_by d n)
+next-opened l (Opens c) n h = refl
+next-opened l d n h = h
+
+more-opens : (l : List Noted) (d : Deed) (S : State) (r : Reads l S) → IsNumberedAs S d
+    → r.start.opened + opens_once d (opens_in l) ≡ opened_by d S.opened
+more-opens l (Opens c) S r h = let is = r.opens_are in omega (arith, is, h)
+more-opens l d S r h = r.opens_are
+
 -- the tables after an entry that is nothing to any exchange: links may have changed, but not what waits
-pub still-reads : (l : List Noted) (t : ℕ) (d : Deed) (note : Note) (S : State) (links : List PeerLink) (r : Reads l S) → S.moment ≤ t → Follows l t d note
+pub still-reads : (l : List Noted) (t : ℕ) (d : Deed) (note : Note) (S : State) (links : List PeerLink) (r : Reads l S) → S.moment ≤ t → IsNumberedAs S d → Follows l t d note
     → Still l (noted t d note ∷ l) → ((p : Peer) → (link_of links p).waiting ≡ (link_of S.links p).waiting) → ((p : Peer) → Agrees r.start (noted t d note ∷ l) p (link_of links p))
     → Reads (noted t d note ∷ l) (record {
       entries = S.entries ++ record { moment = t; deed = d } ∷ [];
@@ -102,7 +114,7 @@ pub still-reads : (l : List Noted) (t : ℕ) (d : Deed) (note : Note) (S : State
       exchanges = S.exchanges;
       links = links;
     })
-still-reads l t d note S links r later follows still waiting agrees =
+still-reads l t d note S links r later numbered follows still waiting agrees =
     let n = noted t d note ∷ l in record {
       start = r.start;
       few = r.few;
@@ -110,7 +122,8 @@ still-reads l t d note S links r later follows still waiting agrees =
       legal = (r.legal, reads-later l t S r later, follows);
       sealed_is = ap (sealed_by d) r.sealed_is;
       moment_is = reads-now l t S r later;
-      opened_are = ap (opened_by d) r.opened_are;
+      opened_are = next-opened l d S.opened r.opened_are;
+      opens_are = more-opens l d S r numbered;
       issued_are = ap (λ (k : ℕ). r.start.issued + k) still.issued_are ∙ r.issued_are;
       conns_are = rw (r.conns_are, sym (entries-length l), r.entries_are) refl;
       keys = open-still l n still ∙ r.keys;

@@ -1,5 +1,5 @@
 -- The history counts what the state counts: open connections, asks that wait, what is outstanding.
-use Rattle.std.proofs.Common.{◌≡◌, ℕ, zero, suc, ◌+◌, ◌<◌, ◌≤◌, Bool, true, false, cond, not, eqb, ltb, inl, inr, List, [], ◌∷◌, ◌++◌, length, map, Option, Some, None, refl, sym, ap, subst, ◌∙◌, arith}
+use Rattle.std.proofs.Common.{◌≡◌, ℕ, zero, suc, ◌+◌, ◌<◌, ◌≤◌, Bool, true, false, cond, not, eqb, ltb, inl, inr, List, [], ◌∷◌, ◌++◌, length, map, Option, Some, None, refl, sym, ap, subst, ◌∙◌, arith, append-nil, ◌-◌}
 use Rattle.std.specs.Prelude.{count_by, filter, is_some, option_and_then, ◌&&◌, ◌||◌}
 use Rattle.std.specs.List.{AllByRecursion, list_any, range_with_len}
 use Rattle.std.proofs.lemmas.List.{length-map, map-append}
@@ -11,11 +11,11 @@ use Rattle.uri_map.specs.Peers.{same_peer}
 use Rattle.journal_book.specs.Entries.{Deed, Opens, Asks, Answers, Shuts}
 use Rattle.message_layer.specs.declared.state.Outstanding.{Outstanding}
 use Rattle.history_laws.specs.Readings.{Noted, Note, noted}
-use Rattle.history_laws.specs.Connections.{is_open, asks_of, answers_of, opened}
+use Rattle.history_laws.specs.Connections.{is_open, asks_of, answers_of, opened, has_opened}
 use Rattle.history_laws.specs.Transmissions.{FirstSending, firsts, is_outstanding, if_outstanding, last_sent}
 use Rattle.history_laws.specs.Sealing as H
 use Rattle.history_laws.specs.Justified.{Follows, Legal}
-use Rattle.history_laws.proofs.CallerLemmas.{all-more, any-of, eqb-itself, filter-by, find-some}
+use Rattle.history_laws.proofs.CallerLemmas.{all-more, any-of, eqb-itself, filter-by, find-some, next-above, open-below}
 use Rattle.history_links.specs.Agrees.{TurnIn}
 use Rattle.exchange_model.specs.declared.kept.Conn.{Conn}
 use Rattle.exchange_model.specs.State.{PeerLink, State, link_of, pend}
@@ -53,47 +53,68 @@ turned a b = elim (eqb_tells a b) [
   | inr w ↦ elim (eqb_tells b a) [ inl v ↦ absurd (w.1 (sym v.1)) | inr v ↦ w.0 ∙ sym v.0 ]
 ]
 
-ids-step : (l : List Noted) (t : ℕ) (d : Deed) (note : Note) → Follows l t d note
+-- Numbers that none of the open ones has add nothing.
+none-between : (p : ℕ → Bool) (n d : ℕ) → ((k : ℕ) → n ≤ k → p k ≡ false) → filter p (range_with_len 0 (d + n)) ≡ filter p (range_with_len 0 n)
+none-between p n zero none = ap (λ (k : ℕ). filter p (range_with_len 0 k)) (plus-none n)
+  where
+    plus-none : (n : ℕ) → 0 + n ≡ n
+    plus-none n = omega arith
+none-between p n (suc d) none =
+    ap (filter p) (ap (range_with_len 0) (next d n) ∙ range-more 0 (d + n) (d + n) (omega arith))
+    ∙ (filter-append p (range_with_len 0 (d + n)) ((d + n) ∷ [])
+    ∙ (ap (λ (b : Bool). filter p (range_with_len 0 (d + n)) ++ cond b ((d + n) ∷ []) []) (none (d + n) (omega arith))
+    ∙ (append-nil (filter p (range_with_len 0 (d + n))) ∙ none-between p n d none)))
+  where
+    next : (d n : ℕ) → suc d + n ≡ suc (d + n)
+    next d n = omega arith
+
+ids-step : (l : List Noted) (t : ℕ) (d : Deed) (note : Note) → Legal l → Follows l t d note
     → map id_of (conns_of l) ≡ H.open_conns l
     → map id_of (conns_of (noted t d note ∷ l)) ≡ H.open_conns (noted t d note ∷ l)
-ids-step l t (Opens c) note may ih =
+ids-step l t (Opens c) note legal may ih =
     let n = opened l in
-    let here : c ≡ n = may.1 in
+    let here : n ≤ c = next-above (has_opened l) n c may.1 in
     let now = λ (k : ℕ). eqb c k || is_open l k in
-    let same : filter now (range_with_len 0 n) ≡ filter (is_open l) (range_with_len 0 n) =
-    filter-by now (is_open l) (range_with_len 0 n)
-    (all-more (λ (k : ℕ). k < n) _ (λ k lt. older c n here k lt) (range_with_len 0 n)
-    (range-below 0 n n (omega arith))) in
-    let last : filter now (n ∷ []) ≡ n ∷ [] = rw (here, eqb-itself n) refl in
-    let next : c + 1 ≡ suc n = omega (arith, here) in
-    let on : range_with_len 0 (c + 1) ≡ range_with_len 0 n ++ n ∷ [] =
-    ap (range_with_len 0) next ∙ range-more 0 n n (omega arith) in
+    let same : filter now (range_with_len 0 c) ≡ filter (is_open l) (range_with_len 0 c) =
+    filter-by now (is_open l) (range_with_len 0 c)
+    (all-more (λ (k : ℕ). k < c) _ (λ k lt. older c k lt) (range_with_len 0 c)
+    (range-below 0 c c (omega arith))) in
+    let few : filter (is_open l) (range_with_len 0 c) ≡ H.open_conns l =
+    subst (λ (k : ℕ). filter (is_open l) (range_with_len 0 k) ≡ H.open_conns l) (omega (arith, here))
+    (none-between (is_open l) n (c - n) (λ k le. closed k le (is_open l k) refl)) in
+    let last : filter now (c ∷ []) ≡ c ∷ [] = rw (eqb-itself c) refl in
+    let next : c + 1 ≡ suc c = omega arith in
+    let on : range_with_len 0 (c + 1) ≡ range_with_len 0 c ++ c ∷ [] =
+    ap (range_with_len 0) next ∙ range-more 0 c c (omega arith) in
     map-append id_of (conns_of l) (record { id = c; pending = None } ∷ [])
     ∙ ap (λ (ks : List ℕ). ks ++ c ∷ []) ih
-    ∙ ap (λ (k : ℕ). H.open_conns l ++ k ∷ []) here
     ∙ sym (ap (filter now) on
-    ∙ (filter-append now (range_with_len 0 n) (n ∷ [])
-    ∙ (ap (λ (ks : List ℕ). ks ++ filter now (n ∷ [])) same
+    ∙ (filter-append now (range_with_len 0 c) (c ∷ [])
+    ∙ (ap (λ (ks : List ℕ). ks ++ filter now (c ∷ [])) (same ∙ few)
     ∙ ap (λ (ks : List ℕ). H.open_conns l ++ ks) last)))
   where
-    older : (c n : ℕ) → c ≡ n → (k : ℕ) → k < n → (eqb c k || is_open l k) ≡ is_open l k
-    older c n here k lt = elim (eqb_tells c k) [
-      | inl w ↦ absurd (let same = w.1 in omega (arith, same, here, lt))
+    older : (c k : ℕ) → k < c → (eqb c k || is_open l k) ≡ is_open l k
+    older c k lt = elim (eqb_tells c k) [
+      | inl w ↦ absurd (let same = w.1 in omega (arith, same, lt))
       | inr w ↦ rw (w.0) refl
     ]
-ids-step l t (Shuts c) note may ih =
+
+    closed : (k : ℕ) → opened l ≤ k → (b : Bool) → is_open l k ≡ b → b ≡ false
+    closed k le true e = let lt = open-below l legal k e in absurd (omega (arith, le, lt))
+    closed k le false e = refl
+ids-step l t (Shuts c) note legal may ih =
     sym (filter-map (λ (k : ℕ). not (eqb k c)) id_of (conns_of l))
     ∙ ap (filter (λ (k : ℕ). not (eqb k c))) ih
     ∙ filter_agree (λ (k : ℕ). not (eqb k c)) (λ (k : ℕ). not (eqb c k)) (λ k. ap not (turned k c))
     (H.open_conns l)
     ∙ sym (filter-both (λ (k : ℕ). not (eqb c k)) (is_open l) (range_with_len 0 (opened l)))
-ids-step l t (Asks c a) note may ih = ids-pend c (Some (length l)) (conns_of l) ∙ ih
-ids-step l t (Answers c k g) note may ih = ids-pend c None (conns_of l) ∙ ih
-ids-step l t d note may ih = ih
+ids-step l t (Asks c a) note legal may ih = ids-pend c (Some (length l)) (conns_of l) ∙ ih
+ids-step l t (Answers c k g) note legal may ih = ids-pend c None (conns_of l) ∙ ih
+ids-step l t d note legal may ih = ih
 
 pub open-ids : (l : List Noted) → Legal l → map id_of (conns_of l) ≡ H.open_conns l
 open-ids [] legal = refl
-open-ids (x ∷ older) legal = ids-step older x.written.moment x.written.deed x.note legal.2
+open-ids (x ∷ older) legal = ids-step older x.written.moment x.written.deed x.note legal.0 legal.2
     (open-ids older legal.0)
 
 pub conns-count : (l : List Noted) (S : State) → Reads l S

@@ -1,16 +1,18 @@
 -- What a tick ends is over, and is told so.
+use Rattle.std.proofs.lemmas.Bool.{false≢true}
 use Rattle.history_links.specs.Agrees.{Start}
-use Rattle.std.proofs.Common.{◌≡◌, ℕ, ◌⊎◌, true, inl, inr, List, [], ◌∷◌, length, Option, Some, None, refl, sym, ap, subst, ◌∙◌}
+use Rattle.std.proofs.Common.{◌≡◌, ℕ, ◌⊎◌, true, inl, inr, List, [], ◌∷◌, length, Option, Some, None, refl, sym, ap, subst, ◌∙◌, Bool, false}
 use Rattle.std.specs.Prelude.{unwrap_or}
 use Rattle.std.proofs.lemmas.Bool.Decides.{eqb_tells}
 use Rattle.ask_model.specs.declared.cause.Cause.TheVariants as C
-use Rattle.journal_book.specs.Entries.{Deed, Sends, Hears, Passes, Fault}
-use Rattle.history_laws.specs.Readings.{Noted, Note, Plain, First, Says, noted}
+use Rattle.journal_book.specs.Entries.{Deed, Sends, Hears, Passes, Fault, Carries}
+use Rattle.journal_book.specs.Entries as D
+use Rattle.history_laws.specs.Readings.{Noted, Note, Plain, First, Says, noted, Bygone, carries, at}
 use Rattle.history_laws.specs.Progress.{Ending, Reply, TimedOut}
 use Rattle.history_laws.specs.Transmissions.{sent_last}
 use Rattle.history_laws.specs.Exchanges.{Begun, begun, Turn, Nothing, Sent, Replied, Rejected, Expired, expires as ends_at, turn, waits_by, waits_for, replies, end_here, end_of}
 use Rattle.history_laws.specs.Justified.{Ends}
-use Rattle.history_laws.proofs.CallerLemmas.{at-keeps, first_end, replied-first, turn-sent}
+use Rattle.history_laws.proofs.CallerLemmas.{at-keeps, first_end, replied-first, turn-sent, at-new, at-same}
 use Rattle.history_links.proofs.CallerLemmas.{none-by, unreplied}
 use Rattle.exchange_model.specs.declared.kept.Exchange.{Exchange}
 use Rattle.exchange_model.specs.Reads.{ExchangeIn}
@@ -31,28 +33,40 @@ still-waits b n rs Rejected old empty unsent e = cc
 still-waits b n rs Expired old empty unsent e = cc
 still-waits b n rs Nothing old empty unsent e = refl
 
-alike-step : (l : List Noted) (o t : ℕ) (d : Deed) (note : Note) → replies l o ≡ [] → sent_last l o ≡ waits_for l o
+alike-step : (l : List Noted) (o t : ℕ) (d : Deed) (note : Note) → (o ≡ length l → carries d ≡ false) → replies l o ≡ [] → sent_last l o ≡ waits_for l o
     → end_here (begun l o) (length l) (replies l o) (turn l o (noted t d note)) ≡ None → sent_last (noted t d note ∷ l) o ≡ waits_for (noted t d note ∷ l) o
-alike-step l o t (Sends p b w) (First q m) empty ih e = elim (eqb_tells q o) [ inl v ↦ rw (v.0) refl | inr v ↦ rw (v.0) ih ]
-alike-step l o t (Hears p b) (Says m (Some i) notice) empty ih e =
+alike-step l o t (Sends p b w) (First q m) own empty ih e = elim (eqb_tells q o) [ inl v ↦ rw (v.0) refl | inr v ↦ rw (v.0) ih ]
+alike-step l o t (Hears p b) (Says m (Some i) notice) own empty ih e =
     let x = noted t (Hears p b) (Says m (Some i) notice) in
     ih ∙ still-waits (begun l o) (length l) (replies l o) (turn l o x) (waits_for l o) empty (λ j s. other (ap (λ (y : Noted). y.written.deed) (turn-sent l o x j s).entry)) e
   where
     other : {r : _} {c : _} {w : _} → Hears p b ≡ Sends r c w → ⊥
     other k = cc
-alike-step l o t Passes note empty ih e =
+alike-step l o t Passes note own empty ih e =
     let x = noted t Passes note in
     ih ∙ still-waits (begun l o) (length l) (replies l o) (turn l o x) (waits_for l o) empty (λ j s. other (ap (λ (y : Noted). y.written.deed) (turn-sent l o x j s).entry)) e
   where
     other : {r : _} {c : _} {w : _} → Passes ≡ Sends r c w → ⊥
     other k = cc
-alike-step l o t d note empty ih e = ih
+alike-step l o t (Carries k mark (D.Sent p b w)) (Bygone m) own empty ih e =
+    elim (eqb_tells (length l) o) [ inl v ↦ absurd (false≢true (sym (own (sym v.1)))) | inr v ↦ rw (v.0) ih ]
+alike-step l o t (Carries k mark (D.Sent p b w)) note own empty ih e = ih
+alike-step l o t (Carries k mark done) note own empty ih e = ih
+alike-step l o t d note own empty ih e = ih
 
-pub sent-alike : (l : List Noted) (o : ℕ) → end_of l o ≡ None → sent_last l o ≡ waits_for l o
-sent-alike [] o e = refl
-sent-alike (x ∷ older) o e =
+-- What an entry that is no copy opened was sent last what it waits for, while it goes on.
+abbrev pub IsOwn : List Noted → ℕ → Type 0
+IsOwn l o = (y : Noted) → at l o ≡ Some y → carries y.written.deed ≡ false
+
+pub sent-alike : (l : List Noted) (o : ℕ) → IsOwn l o → end_of l o ≡ None → sent_last l o ≡ waits_for l o
+sent-alike [] o own e = refl
+sent-alike (x ∷ older) o own e =
     let both = none-by (end_here (begun older o) (length older) (replies older o) (turn older o x)) (length older) (end_of older o) e in
-    alike-step older o x.written.moment x.written.deed x.note (unreplied older o both.1) (sent-alike older o both.1) both.0
+    alike-step older o x.written.moment x.written.deed x.note (λ here. own x (subst (λ (k : ℕ). at (x ∷ older) k ≡ Some x) (sym here) (at-new x older)))
+    (unreplied older o both.1) (sent-alike older o (λ y s. own y (at-keeps x older o y s)) both.1) both.0
+
+pub own-asked : {start : Start} (l : List Noted) (e : Exchange) → ExchangeIn start l e → IsOwn l e.opening
+own-asked l e a y s = subst (λ (z : Noted). carries z.written.deed ≡ false) (at-same l e.opening _ y a.stands s) refl
 
 -- It ends at the tick, and what was sent last is named, or its ask.
 pub passed-over : {start : Start} (l : List Noted) (t : ℕ) (e : Exchange) → ExchangeIn start l e → end_of l e.opening ≡ None → ends_at l e.opening t (waits_for l e.opening) ≡ true
@@ -62,7 +76,7 @@ passed-over l t e a going due =
       request = a.request;
       ask = a.ask;
       stands = at-keeps (noted t Passes Plain) l e.opening _ a.stands;
-      grounds = (named e.sending (sent-alike l e.opening going ∙ a.sending), (length l, ended));
+      grounds = (named e.sending (sent-alike l e.opening (own-asked l e a) going ∙ a.sending), (length l, ended));
     }
   where
     named : (s : Option ℕ) → sent_last l e.opening ≡ s

@@ -1,5 +1,6 @@
 -- Where its premise holds, an entry may follow, and the state after it says what the longer history
 -- says.
+use Rattle.std.specs.List.{AllByRecursion}
 use Rattle.std.specs.Prelude.{◌≡◌, ℕ, ◌<◌, ◌≤◌, true, false, List, ◌∷◌, length, Option, Some, None, is_some}
 use Rattle.limits.specs.declared.TheConstants.{MAX_DATAGRAM_LEN, MAX_MESSAGE_IDS, MAX_RETRANSMIT}
 use Rattle.coap_codec.specs.Spelling.{Content, Spells}
@@ -130,7 +131,8 @@ RepeatsLeads =
 abbrev pub GarbledLeads : Type 0
 GarbledLeads =
     (l : List Noted) (t : ℕ) (p : Peer) (d : List ℕ) (S : State)
-    → MayHear l t p d S → ((m : Content) → Spells m d → ⊥)
+    → MayHear l t p d S → AllByRecursion (λ (b : ℕ). b < 256) d
+    → ((m : Content) → Spells m d → ⊥)
     → Heeds l (noted t (Hears p d) Garbled) (reset p (reset_for d)) (hears_nothing t p d S)
 
 abbrev pub HearsLeads : Type 0

@@ -2,6 +2,7 @@ pub mod State
 pub mod Reads
 pub mod Steps
 pub mod Resting
+pub mod Rotating
 pub mod Laws
 pub mod Calls
 pub mod Due

@@ -1,17 +1,18 @@
 -- A state says what a history says.
 use Rattle.std.specs.Prelude.{◌≡◌, ℕ, ◌+◌, ◌<◌, ◌≤◌, max, false, List, [], ◌∷◌, length, map, Option, Some, None}
 use Rattle.std.specs.List.{AllByRecursion, Contains}
+use Rattle.limits.specs.declared.TheConstants.{MAX_NUMBERED}
 use Rattle.uri_map.specs.declared.peer.Peer.{Peer}
 use Rattle.ask_model.specs.Requests.{CoapRequest}
 use Rattle.ask_model.specs.Views.{Ask}
 use Rattle.history_laws.specs.Numbering.{token_number}
-use Rattle.journal_book.specs.Entries.{Asks}
+use Rattle.journal_book.specs.Entries.{Deed, Opens, Asks}
 use Rattle.message_layer.specs.declared.state.Waiting.{Waiting}
 use Rattle.history_laws.specs.Readings.{Noted, Begins, entries, at, newest, noted}
-use Rattle.history_laws.specs.Connections.{is_sealed, opened}
+use Rattle.history_laws.specs.Connections.{is_sealed, opened, has_opened}
 use Rattle.history_laws.specs.Transmissions.{FirstSending, firsts, first_at, bears_token}
 use Rattle.history_laws.specs.Exchanges.{begun, issued, rank, waits_for, open_exchanges}
-use Rattle.history_laws.specs.Justified.{Legal}
+use Rattle.history_laws.specs.Justified.{Legal, IsNextConn}
 use Rattle.history_links.specs.Agrees.{Start, Agrees}
 use Rattle.exchange_model.specs.declared.kept.Conn.{Conn}
 use Rattle.exchange_model.specs.declared.kept.Exchange.{Exchange}
@@ -48,19 +49,25 @@ WaitsUnder ws e =
 abbrev pub opening_of : Exchange → ℕ
 opening_of e = e.opening
 
--- Tokens are numbered in four bytes: of these so many are left where a journal begins.
-abbrev pub MOST_ISSUED : ℕ
-MOST_ISSUED = 4294836224
+-- how many connections the history opened
+abbrev pub opens_once : Deed → ℕ → ℕ
+opens_once (Opens c) old = old + 1
+opens_once _ old = old
+
+abbrev pub opens_in : List Noted → ℕ
+opens_in [] = 0
+opens_in (x ∷ older) = opens_once x.written.deed (opens_in older)
 
 -- The state says what a legal reading of its entries says, which begins at this start.
 pub record Reads (l : List Noted) (S : State) : Type 0 where
   pub start : Start
-  pub few : start.issued ≤ MOST_ISSUED
+  pub few : (start.issued ≤ MAX_NUMBERED) × (start.opened ≤ MAX_NUMBERED)
   pub entries_are : entries l ≡ S.entries
   pub legal : Legal l
   pub sealed_is : is_sealed l ≡ S.sealed
   pub moment_is : max start.moment (newest l) ≡ S.moment
-  pub opened_are : opened l ≡ S.opened
+  pub opened_are : IsNextConn (has_opened l) (opened l) S.opened
+  pub opens_are : start.opened + opens_in l ≡ S.opened
   pub issued_are : start.issued + issued l ≡ S.issued
   pub conns_are : conns_of l ≡ S.conns
   pub keys : open_exchanges l ≡ map opening_of S.exchanges

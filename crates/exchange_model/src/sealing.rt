@@ -1,6 +1,7 @@
 //! That the journal stays within its limits, as contracts of functions that do nothing.
 
 ghost use Rattle.exchange_model.specs.Room.{WithinLimits};
+ghost use Rattle.exchange_model.specs.Rotating.{RotatesKeeps, RotatesInRoom, RotatesDrained};
 ghost use Rattle.exchange_model.specs.Sealing.{
   StartInRoom,
   OpensInRoom,
@@ -30,4 +31,12 @@ pub fn ticks_keep_room()
     ensures keeps { TicksInRoom }
     ensures promptly { TicksPromptly }
     ensures sealed { SealedAnswers }
+{}
+
+/// A journal that begins with copies of one that is given out stands, is within its limits, and says
+/// what the state after the turn says.
+pub fn rotation_keeps()
+    ensures keeps { RotatesKeeps }
+    ensures room { RotatesInRoom }
+    ensures drained { RotatesDrained }
 {}

@@ -1,0 +1,283 @@
+-- After a turn a state reads the copies.
+use Rattle.std.proofs.Common.{◌≡◌, ℕ, ◌+◌, ◌<◌, ◌≤◌, Bool, true, false, ◌&&◌, cond, ltb, List, [], ◌∷◌, ◌++◌, length, map, Option, Some, None, refl, sym, ap, subst, ◌∙◌, arith}
+use Rattle.std.specs.Prelude.{⊤, not, ◌||◌, nat_lt, filter, max, is_some}
+use Rattle.std.specs.List.{AllByRecursion, list_any, find}
+use Rattle.std.proofs.lemmas.Bool.{false≢true, ltb-false}
+use Rattle.std.proofs.lemmas.List.Sums.{count_by-le-length, length-filter}
+use Rattle.limits.specs.declared.TheConstants.{MAX_NUMBERED}
+use Rattle.coap_codec.specs.Spelling.{Content}
+use Rattle.uri_map.specs.declared.peer.Peer.{Peer}
+use Rattle.uri_map.specs.Peers.{same_peer}
+use Rattle.uri_map.proofs.CallerLemmas.{same_peer-itself, same_peer-same}
+use Rattle.journal_book.specs.Entries.{Past, Written, Deed, Sends, Hears, Carries}
+use Rattle.journal_book.specs.Entries as D
+use Rattle.message_layer.specs.Values.{LinkState, empty_link}
+use Rattle.message_layer.specs.Mids.{is_in_use}
+use Rattle.history_laws.specs.Numbering.{token_number}
+use Rattle.history_laws.specs.Readings.{Noted, Note, First, Says, Bygone, Recalls, Answered, entries, newest, ticked}
+use Rattle.history_laws.specs.Connections.{opened}
+use Rattle.history_laws.specs.Confirmations.{Confirmation}
+use Rattle.history_laws.specs.Confirming.{owed}
+use Rattle.history_laws.specs.Transmissions.{FirstSending, firsts_by, firsts, last_sent}
+use Rattle.history_laws.specs.Hearing.{is_such, knows, recalls_by, recalls}
+use Rattle.history_laws.specs.Justified.{Follows, IsNextConn, Legal}
+use Rattle.history_links.specs.Agrees.{Start, IsFrom, Agrees}
+use Rattle.exchange_model.specs.State.{PeerLink, State, link_of}
+use Rattle.exchange_model.specs.Reads.{Reads}
+use Rattle.exchange_model.specs.Resting.{LinkRests, Rests}
+use Rattle.exchange_model.specs.Keeping.{HasMids}
+use Rattle.message_layer.specs.Calls.{kept_link}
+use Rattle.exchange_model.specs.Rotating.{RotatesKeeps, copies, fault_of, has_copy, is_of, is_spent, keep_peer, turned, RotateFault, all_over, are_few, Unsealed, Connected, Exchanging, Spent, Crowded}
+use Rattle.exchange_model.proofs.Tables.{reads-from, reads-later}
+use Rattle.exchange_model.proofs.Shapes.{Sending, Hearing, kept_as, still_kept, copy_as, opening_as, first_as, firsts-as, if_such}
+use Rattle.exchange_model.proofs.Shapes as H
+use Rattle.exchange_model.proofs.Copies.{cons_if, add_kept, copied, newest-copied}
+use Rattle.exchange_model.proofs.CopiedEntries.{entries-copied}
+use Rattle.exchange_model.proofs.CopiedIdle.{conns-copied, has-copied, none-issued, none-open, opened-copied, opens-copied, sealed-copied}
+use Rattle.exchange_model.proofs.CopiedLegal.{legal-copied}
+use Rattle.exchange_model.proofs.CopiedLinks.{kept-agrees}
+use Rattle.exchange_model.proofs.CopiedUnknown.{known-copied, knows-copy, none-agrees, of_peer}
+
+-- A turn is made where there are numbers left.
+
+pub first-none : {X : Type 0} (b : Bool) (x : X) (rest : Option X) → cond b (Some x) rest ≡ None → (b ≡ false) × (rest ≡ None)
+first-none true x rest e = cc
+first-none false x rest e = (refl, e)
+
+few-left : (t : ℕ) (S : State) → fault_of t S ≡ None → (S.issued ≤ MAX_NUMBERED) × (S.opened ≤ MAX_NUMBERED)
+few-left t S e =
+    let a = first-none (not S.sealed) Unsealed _ e in
+    let b = first-none (nat_lt 0 (length S.conns)) Connected _ a.1 in
+    let c = first-none (not (all_over t S)) Exchanging _ b.1 in
+    let d = first-none (is_spent S) Spent _ c.1 in
+    let both = or-false (nat_lt MAX_NUMBERED S.issued) (nat_lt MAX_NUMBERED S.opened) d.0 in
+    (ltb-false MAX_NUMBERED S.issued both.0, ltb-false MAX_NUMBERED S.opened both.1)
+  where
+    or-false : (a b : Bool) → (a || b) ≡ false → (a ≡ false) × (b ≡ false)
+    or-false true b e = absurd (false≢true (sym e))
+    or-false false b e = (refl, e)
+
+-- What is copied was known.
+
+abbrev of_kept : Peer → Option H.Kept → Bool
+of_kept p None = false
+of_kept p (Some (Sending q b w m)) = same_peer q p
+of_kept p (Some (Hearing q b m a)) = same_peer q p
+
+abbrev adds : Peer → Deed → Note → Bool
+adds p (Sends q b w) (First o m) = same_peer q p
+adds p (Carries k mark (D.Sent q b w)) (Bygone m) = same_peer q p
+adds p (Carries k mark (D.Heard q b)) (Recalls m a) = same_peer q p
+adds p d note = false
+
+or-swap : (a b c : Bool) → (a || (b || c)) ≡ (b || (a || c))
+or-swap true true c = refl
+or-swap true false c = refl
+or-swap false b c = refl
+
+one-more : (b : Bool) (f : FirstSending) (v : Option FirstSending) (any : Bool) → (is_some (cond b (Some f) v) || any) ≡ (b || (is_some v || any))
+one-more true f v any = refl
+one-more false f v any = refl
+
+knows-by : (p : Peer) (n s : ℕ) (d : Deed) (note : Note) (old : List FirstSending) (any : Bool)
+    → (is_some (find (λ (f : FirstSending). same_peer f.peer p) (firsts_by n s d note old)) || (recalls_by p d note || any))
+    ≡ (adds p d note || (is_some (find (λ (f : FirstSending). same_peer f.peer p) old) || any))
+knows-by p n s (Sends q b w) (First o m) old any = one-more (same_peer q p) _ (find (λ (f : FirstSending). same_peer f.peer p) old) any
+knows-by p n s (Sends q b w) note old any = refl
+knows-by p n s (Carries k mark (D.Sent q b w)) (Bygone m) old any = one-more (same_peer q p) _ (find (λ (f : FirstSending). same_peer f.peer p) old) any
+knows-by p n s (Carries k mark (D.Sent q b w)) note old any = refl
+knows-by p n s (Carries k mark (D.Heard q b)) (Recalls m a) old any = or-swap (is_some (find (λ (f : FirstSending). same_peer f.peer p) old)) (same_peer q p) any
+knows-by p n s (Carries k mark (D.Heard q b)) note old any = refl
+knows-by p n s (Carries k mark (D.Asked c a)) note old any = refl
+knows-by p n s d note old any = refl
+
+knows-entry : (p : Peer) (x : Noted) (l : List Noted) → knows (x ∷ l) p ≡ (adds p x.written.deed x.note || knows l p)
+knows-entry p x l = knows-by p (length l) x.written.moment x.written.deed x.note (firsts l) (list_any (recalls p) l)
+
+of-such : (c : Bool) (p q : Peer) (b : List ℕ) (m : Content) (a : Answered) → of_kept p (if_such c (Hearing q b m a)) ≡ true → same_peer q p ≡ true
+of-such true p q b m a e = e
+of-such false p q b m a e = absurd (false≢true e)
+
+or-left : (a b : Bool) → a ≡ true → (a || b) ≡ true
+or-left true b e = refl
+or-left false b e = absurd (false≢true e)
+
+kept-known : (l : List Noted) (s : ℕ) (p : Peer) (d : Deed) (note : Note) → Follows l s d note → of_kept p (kept_as d note) ≡ true
+    → (adds p d note || knows l p) ≡ true
+kept-known l s p (Sends q b w) (First o m) f e = or-left (same_peer q p) (knows l p) e
+kept-known l s p (Sends q b w) note f e = absurd (false≢true e)
+kept-known l s p (Hears q b) (Says m to notice) f e =
+    subst (λ (r : Peer). knows l r ≡ true) (same_peer-same q p (of-such (is_such m.kind) p q b m _ e)) f.2
+kept-known l s p (Hears q b) note f e = absurd (false≢true e)
+kept-known l s p (Carries k mark (D.Sent q b w)) (Bygone m) f e = or-left (same_peer q p) (knows l p) e
+kept-known l s p (Carries k mark (D.Sent q b w)) note f e = absurd (false≢true e)
+kept-known l s p (Carries k mark (D.Heard q b)) (Recalls m a) f e = or-left (same_peer q p) (knows l p) (of-such (is_such m.kind) p q b m a e)
+kept-known l s p (Carries k mark (D.Heard q b)) note f e = absurd (false≢true e)
+kept-known l s p (Carries k mark (D.Asked c a)) note f e = absurd (false≢true e)
+kept-known l s p d note f e = absurd (false≢true e)
+
+or-right : (a b : Bool) → b ≡ true → (a || b) ≡ true
+or-right true b e = refl
+or-right false b e = e
+
+known-cons : (p : Peer) (b : Bool) (n s : ℕ) (k : H.Kept) (l m : List Noted) → (of_kept p (Some k) ≡ true → knows m p ≡ true)
+    → (knows l p ≡ true → knows m p ≡ true) → knows (cons_if b (copy_as n s k) l) p ≡ true → knows m p ≡ true
+known-cons p false n s k l m here older e = older e
+known-cons p true n s (Sending q b w m) l all here older e = by (same_peer q p) here (sym (knows-copy p n s (Sending q b w m) l) ∙ e)
+  where
+    by : (c : Bool) → (c ≡ true → knows all p ≡ true) → (c || knows l p) ≡ true → knows all p ≡ true
+    by true h e = h refl
+    by false h e = older e
+known-cons p true n s (Hearing q b m a) l all here older e = by (same_peer q p) here (sym (knows-copy p n s (Hearing q b m a) l) ∙ e)
+  where
+    by : (c : Bool) → (c ≡ true → knows all p ≡ true) → (c || knows l p) ≡ true → knows all p ≡ true
+    by true h e = h refl
+    by false h e = older e
+
+known-add : (p : Peer) (t n s : ℕ) (k : Option H.Kept) (l m : List Noted) → (of_kept p k ≡ true → knows m p ≡ true)
+    → (knows l p ≡ true → knows m p ≡ true) → knows (add_kept t n s k l) p ≡ true → knows m p ≡ true
+known-add p t n s None l m here older e = older e
+known-add p t n s (Some k) l m here older e = known-cons p (still_kept t s k) n s k l m here older e
+
+known-before : (p : Peer) (t : ℕ) (l : List Noted) → Legal l → knows (copied t l) p ≡ true → knows l p ≡ true
+known-before p t [] legal e = e
+known-before p t (x ∷ older) legal e =
+    known-add p t (length older) x.written.moment (kept_as x.written.deed x.note) (copied t older) (x ∷ older)
+    (λ h. knows-entry p x older ∙ kept-known older x.written.moment p x.written.deed x.note legal.2 h)
+    (λ h. knows-entry p x older ∙ or-right (adds p x.written.deed x.note) (knows older p) (known-before p t older legal.0 h))
+    e
+
+-- each link as the turn leaves it
+
+pub turned-link : (t : ℕ) (ws : List Written) (xs : List PeerLink) (p : Peer)
+    → link_of (filter (has_copy ws) (map (keep_peer t) xs)) p ≡ cond (of_peer p ws) (kept_link t (link_of xs p)) empty_link
+turned-link t ws [] p = by (of_peer p ws)
+  where
+    by : (b : Bool) → empty_link ≡ cond b (kept_link t empty_link) empty_link
+    by true = refl
+    by false = refl
+turned-link t ws (x ∷ xs) p = by (same_peer x.peer p) refl (of_peer x.peer ws) refl (turned-link t ws xs p)
+  where
+    kept : List PeerLink
+    kept = filter (has_copy ws) (map (keep_peer t) xs)
+
+    by : (a : Bool) → same_peer x.peer p ≡ a → (b : Bool) → of_peer x.peer ws ≡ b
+        → link_of kept p ≡ cond (of_peer p ws) (kept_link t (link_of xs p)) empty_link
+        → link_of (cond b (keep_peer t x ∷ kept) kept) p ≡ cond (of_peer p ws) (kept_link t (cond a x.link (link_of xs p))) empty_link
+    by true is true has ih =
+        rw (is) (ap (λ (c : Bool). cond c (kept_link t x.link) empty_link) (sym has ∙ ap (λ (q : Peer). of_peer q ws) (same_peer-same x.peer p is)))
+    by true is false has ih =
+        let none : of_peer p ws ≡ false = sym (ap (λ (q : Peer). of_peer q ws) (same_peer-same x.peer p is)) ∙ has in
+        ih ∙ (ap (λ (c : Bool). cond c (kept_link t (link_of xs p)) empty_link) none
+        ∙ sym (ap (λ (c : Bool). cond c (kept_link t x.link) empty_link) none))
+    by false is true has ih = rw (is) ih
+    by false is false has ih = ih
+
+-- Tokens of copies were issued.
+module _ (P : Content → Type 0) where
+  abbrev All : List FirstSending → Type 0
+  All fs = AllByRecursion (λ (f : FirstSending). P f.message) fs
+
+  issued-cons : (b : Bool) (n s o : ℕ) (k : H.Kept) (old : List FirstSending) (l : List Noted) → All (first_as n s o (Some k) old)
+      → (All old → All (firsts l)) → All (firsts (cons_if b (copy_as n s k) l))
+  issued-cons true n s o (Sending p b w m) old l h more = (h.0, more h.1)
+  issued-cons true n s o (Hearing p b m a) old l h more = more h
+  issued-cons false n s o (Sending p b w m) old l h more = more h.1
+  issued-cons false n s o (Hearing p b m a) old l h more = more h
+
+  issued-add : (t n s o : ℕ) (k : Option H.Kept) (old : List FirstSending) (l : List Noted) → All (first_as n s o k old)
+      → (All old → All (firsts l)) → All (firsts (add_kept t n s k l))
+  issued-add t n s o None old l h more = more h
+  issued-add t n s o (Some k) old l h more = issued-cons (still_kept t s k) n s o k old l h more
+
+  issued-copied : (t : ℕ) (l : List Noted) → All (firsts l) → All (firsts (copied t l))
+  issued-copied t [] h = tt
+  issued-copied t (x ∷ older) h =
+      issued-add t (length older) x.written.moment (opening_as (length older) x.note) (kept_as x.written.deed x.note) (firsts older) (copied t older)
+      (subst All (firsts-as (length older) x.written.moment x.written.deed x.note (firsts older)) h) (λ old. issued-copied t older old)
+
+-- Nothing is owed, and no tick was made.
+
+unowed-cons : (b : Bool) (n s : ℕ) (k : H.Kept) (l : List Noted) → owed l ≡ None → owed (cons_if b (copy_as n s k) l) ≡ None
+unowed-cons true n s (Sending p b w m) l e = refl
+unowed-cons true n s (Hearing p b m a) l e = refl
+unowed-cons false n s k l e = e
+
+unowed-add : (t n s : ℕ) (k : Option H.Kept) (l : List Noted) → owed l ≡ None → owed (add_kept t n s k l) ≡ None
+unowed-add t n s None l e = e
+unowed-add t n s (Some k) l e = unowed-cons (still_kept t s k) n s k l e
+
+unowed-copied : (t : ℕ) (l : List Noted) → owed (copied t l) ≡ None
+unowed-copied t [] = refl
+unowed-copied t (x ∷ older) = unowed-add t (length older) x.written.moment (kept_as x.written.deed x.note) (copied t older) (unowed-copied t older)
+
+-- So the state reads the copies.
+
+abbrev pub after : ℕ → State → Start
+after t S = record { moment = t; issued = S.issued; opened = S.opened }
+
+fewer : {X : Type 0} (q : X → Bool) (xs : List X) → length (filter q xs) ≤ length xs
+fewer q xs = let is = length-filter q xs in let le = count_by-le-length q xs in omega (arith, is, le)
+
+link-agrees : (t : ℕ) (l : List Noted) (S : State) (p : Peer) (r : Reads l S) → S.moment ≤ t → Agrees (after t S) (copied t l) p (link_of (turned t S).links p)
+link-agrees t l S p r later = subst (Agrees (after t S) (copied t l) p) (sym (turned-link t (copies t S.entries) S.links p)) (by (of_peer p (copies t S.entries)) refl)
+  where
+    known : knows (copied t l) p ≡ of_peer p (copies t S.entries)
+    known = known-copied p t l ∙ ap (of_peer p) (entries-copied t l r.legal ∙ ap (copies t) r.entries_are)
+
+    by : (b : Bool) → of_peer p (copies t S.entries) ≡ b → Agrees (after t S) (copied t l) p (cond b (kept_link t (link_of S.links p)) empty_link)
+    by true is =
+        let now = known ∙ is in
+        kept-agrees r.start (after t S) t l p (link_of S.links p) r.legal refl (reads-from l t S r later, reads-later l t S r later)
+        ((r.links_are p).known ∙ (known-before p t l r.legal now ∙ sym now)) (r.links_are p)
+    by false is = none-agrees (after t S) t l p (known ∙ is)
+
+pub reads-copied : (t : ℕ) (l : List Noted) (S : State) → Reads l S → S.moment ≤ t → fault_of t S ≡ None → Reads (copied t l) (turned t S)
+reads-copied t l S r later fit = record {
+  start = after t S;
+  few = few-left t S fit;
+  entries_are = entries-copied t l r.legal ∙ ap (copies t) r.entries_are;
+  legal = legal-copied t l r.legal;
+  sealed_is = sealed-copied t l;
+  moment_is =
+      let old = newest-copied t l r.legal in let new = reads-later l t S r later in
+      omega (arith, old, new);
+  opened_are = subst (λ (b : Bool). IsNextConn b (opened (copied t l)) S.opened) (sym (has-copied t l)) (let none = opened-copied t l in omega (arith, none));
+  opens_are = let none = opens-copied t l in omega (arith, none);
+  issued_are = let none = none-issued t l in omega (arith, none);
+  conns_are = conns-copied t l;
+  keys = none-open t l;
+  exchanges_are = tt;
+  tokens_are = issued-copied (λ (m : Content). token_number m.token < S.issued) t l r.tokens_are;
+  waiting_are = tt;
+  links_are = λ p. link-agrees t l S p r later;
+}
+
+-- What is kept of a core between two steps is kept of what a turn leaves.
+
+rests-undue : (t tick : ℕ) (b : Bool) (s : LinkState) → LinkRests tick (cond b (kept_link t s) empty_link)
+rests-undue t tick true s = refl
+rests-undue t tick false s = refl
+
+mids-kept : (t : ℕ) (b : Bool) (s : LinkState) → HasMids s → HasMids (cond b (kept_link t s) empty_link)
+mids-kept t true s h = record {
+  small = tt;
+  enough = let few = fewer (is_in_use t) s.given in let all = h.enough in omega (arith, few, all);
+}
+mids-kept t false s h = record { small = tt; enough = omega arith }
+
+pub rotates-keeps : RotatesKeeps
+rotates-keeps t S k later fit =
+    let l = k.reading in
+    let ws = copies t S.entries in
+    record {
+      reading = copied t l;
+      rests = record {
+        reads = reads-copied t l S k.rests.reads later fit;
+        quiet = unowed-copied t l;
+        links = λ p. subst (LinkRests (ticked (copied t l))) (sym (turned-link t ws S.links p)) (rests-undue t (ticked (copied t l)) (of_peer p ws) (link_of S.links p));
+        in_time = tt;
+        served = tt;
+      };
+      mids = λ p. subst HasMids (sym (turned-link t ws S.links p)) (mids-kept t (of_peer p ws) (link_of S.links p) (k.mids p));
+    }

@@ -1,0 +1,130 @@
+-- After a turn the journal is within its limits.
+use Rattle.std.proofs.Common.{◌≡◌, ℕ, ◌+◌, ◌≤◌, Bool, true, false, cond, not, List, [], ◌∷◌, length, map, Option, Some, None, refl, sym, arith}
+use Rattle.std.specs.Prelude.{◌||◌, nat_le, nat_lt, filter, sum_by}
+use Rattle.std.specs.List.{AllByRecursion, list_any}
+use Rattle.std.proofs.lemmas.Bool.{false≢true, and_parts}
+use Rattle.uri_map.specs.declared.peer.Peer.{Peer}
+use Rattle.uri_map.specs.Peers.{same_peer}
+use Rattle.journal_book.specs.Entries.{Written, entry_size}
+use Rattle.message_layer.specs.Values.{LinkState}
+use Rattle.exchange_model.specs.State.{PeerLink, State}
+use Rattle.exchange_model.specs.Calls.{peer_of}
+use Rattle.exchange_model.specs.Entering.{IsDrained, StandsOnce}
+use Rattle.exchange_model.specs.Room.{AreApart, IsShort, KeptInRoom}
+use Rattle.exchange_model.specs.Rotating.{RotatesInRoom, RotatesDrained, RotateFault, Unsealed, Connected, Exchanging, Spent, Crowded, all_over, are_few, copies, fault_of, has_copy, is_spent, keep_peer, turned}
+use Rattle.exchange_model.proofs.InRoom.{fits-from, le-true}
+use Rattle.exchange_model.proofs.Turned.{first-none, rotates-keeps}
+
+-- There are few copies.
+few-copies : (t : ℕ) (S : State) → fault_of t S ≡ None
+    → (length (copies t S.entries) ≤ 32768) × (sum_by entry_size (copies t S.entries) ≤ 134217728)
+few-copies t S e =
+    let a = first-none (not S.sealed) Unsealed _ e in
+    let b = first-none (nat_lt 0 (length S.conns)) Connected _ a.1 in
+    let c = first-none (not (all_over t S)) Exchanging _ b.1 in
+    let d = first-none (is_spent S) Spent _ c.1 in
+    let f = first-none (not (are_few (copies t S.entries))) Crowded None d.1 in
+    let both = and_parts (nat_le (length (copies t S.entries)) 32768) (nat_le (sum_by entry_size (copies t S.entries)) 134217728) (is-true (are_few (copies t S.entries)) f.0) in
+    (le-true (length (copies t S.entries)) 32768 both.0, le-true (sum_by entry_size (copies t S.entries)) 134217728 both.1)
+  where
+    is-true : (b : Bool) → not b ≡ false → b ≡ true
+    is-true true e = refl
+    is-true false e = absurd (false≢true (sym e))
+
+-- Each link goes on without what waits.
+all-short : (t : ℕ) (ws : List Written) (xs : List PeerLink) → AllByRecursion (λ (x : PeerLink). IsShort x.link) (filter (has_copy ws) (map (keep_peer t) xs))
+all-short t ws [] = tt
+all-short t ws (x ∷ xs) = by (has_copy ws (keep_peer t x)) (all-short t ws xs)
+  where
+    kept : List PeerLink
+    kept = filter (has_copy ws) (map (keep_peer t) xs)
+
+    by : (b : Bool) → AllByRecursion (λ (y : PeerLink). IsShort y.link) kept
+        → AllByRecursion (λ (y : PeerLink). IsShort y.link) (cond b (keep_peer t x ∷ kept) kept)
+    by true others = (record { outstanding = tt; waiting = tt }, others)
+    by false others = others
+
+all-out : (t : ℕ) (ws : List Written) (xs : List PeerLink) → AllByRecursion (λ (x : PeerLink). x.link.out ≡ []) (filter (has_copy ws) (map (keep_peer t) xs))
+all-out t ws [] = tt
+all-out t ws (x ∷ xs) = by (has_copy ws (keep_peer t x)) (all-out t ws xs)
+  where
+    kept : List PeerLink
+    kept = filter (has_copy ws) (map (keep_peer t) xs)
+
+    by : (b : Bool) → AllByRecursion (λ (y : PeerLink). y.link.out ≡ []) kept
+        → AllByRecursion (λ (y : PeerLink). y.link.out ≡ []) (cond b (keep_peer t x ∷ kept) kept)
+    by true others = (refl, others)
+    by false others = others
+
+-- Each endpoint has one link still.
+none-kept : (t : ℕ) (ws : List Written) (p : Peer) (xs : List PeerLink) → list_any (λ (q : Peer). same_peer q p) (map peer_of xs) ≡ false
+    → list_any (λ (q : Peer). same_peer q p) (map peer_of (filter (has_copy ws) (map (keep_peer t) xs))) ≡ false
+none-kept t ws p [] e = refl
+none-kept t ws p (x ∷ xs) e =
+    let both = or-false (same_peer x.peer p) (list_any (λ (q : Peer). same_peer q p) (map peer_of xs)) e in
+    by (has_copy ws (keep_peer t x)) both.0 (none-kept t ws p xs both.1)
+  where
+    kept : List PeerLink
+    kept = filter (has_copy ws) (map (keep_peer t) xs)
+
+    or-false : (a b : Bool) → (a || b) ≡ false → (a ≡ false) × (b ≡ false)
+    or-false true b e = absurd (false≢true (sym e))
+    or-false false b e = (refl, e)
+
+    by : (b : Bool) → same_peer x.peer p ≡ false → list_any (λ (q : Peer). same_peer q p) (map peer_of kept) ≡ false
+        → list_any (λ (q : Peer). same_peer q p) (map peer_of (cond b (keep_peer t x ∷ kept) kept)) ≡ false
+    by true here others = rw (here) others
+    by false here others = others
+
+apart-kept : (t : ℕ) (ws : List Written) (xs : List PeerLink) → AreApart (map peer_of xs) → AreApart (map peer_of (filter (has_copy ws) (map (keep_peer t) xs)))
+apart-kept t ws [] h = tt
+apart-kept t ws (x ∷ xs) h = by (has_copy ws (keep_peer t x)) (apart-kept t ws xs h.1)
+  where
+    kept : List PeerLink
+    kept = filter (has_copy ws) (map (keep_peer t) xs)
+
+    by : (b : Bool) → AreApart (map peer_of kept) → AreApart (map peer_of (cond b (keep_peer t x ∷ kept) kept))
+    by true others = (none-kept t ws x.peer xs h.0, others)
+    by false others = others
+
+others-kept : (t : ℕ) (ws : List Written) (p : Peer) (xs : List PeerLink) → AllByRecursion (λ (y : PeerLink). same_peer p y.peer ≡ false) xs
+    → AllByRecursion (λ (y : PeerLink). same_peer p y.peer ≡ false) (filter (has_copy ws) (map (keep_peer t) xs))
+others-kept t ws p [] h = tt
+others-kept t ws p (x ∷ xs) h = by (has_copy ws (keep_peer t x)) (others-kept t ws p xs h.1)
+  where
+    kept : List PeerLink
+    kept = filter (has_copy ws) (map (keep_peer t) xs)
+
+    by : (b : Bool) → AllByRecursion (λ (y : PeerLink). same_peer p y.peer ≡ false) kept
+        → AllByRecursion (λ (y : PeerLink). same_peer p y.peer ≡ false) (cond b (keep_peer t x ∷ kept) kept)
+    by true others = (h.0, others)
+    by false others = others
+
+once-kept : (t : ℕ) (ws : List Written) (xs : List PeerLink) → StandsOnce xs → StandsOnce (filter (has_copy ws) (map (keep_peer t) xs))
+once-kept t ws [] h = tt
+once-kept t ws (x ∷ xs) h = by (has_copy ws (keep_peer t x)) (once-kept t ws xs h.1)
+  where
+    kept : List PeerLink
+    kept = filter (has_copy ws) (map (keep_peer t) xs)
+
+    by : (b : Bool) → StandsOnce kept → StandsOnce (cond b (keep_peer t x ∷ kept) kept)
+    by true others = (others-kept t ws x.peer xs h.0, others)
+    by false others = others
+
+pub rotates-in-room : RotatesInRoom
+rotates-in-room t S k later fit =
+    let few = few-copies t S fit in
+    let entries = few.0 in
+    let bytes = few.1 in
+    record {
+      kept = rotates-keeps t S k.kept later fit;
+      fit = fits-from (turned t S) (omega (arith, entries)) (omega (arith, bytes));
+      short = all-short t (copies t S.entries) S.links;
+      apart = apart-kept t (copies t S.entries) S.links k.apart;
+    }
+
+pub rotates-drained : RotatesDrained
+rotates-drained t S d = record {
+  once = once-kept t (copies t S.entries) S.links d.once;
+  out = all-out t (copies t S.entries) S.links;
+}

@@ -1,0 +1,156 @@
+-- A sealed journal is given out, and the core goes on with one that begins with copies of its entries.
+use Rattle.std.specs.Prelude.{◌≡◌, ℕ, ◌≤◌, ◌+◌, ◌-◌, ◌*◌, ◌^◌, Bool, true, false, not, ◌&&◌, ◌||◌, ◌==◌, nat_le, nat_lt, List, [], ◌∷◌, ◌++◌, length, map, filter, sum_by, Option, Some, None, is_some, option_map, option_to_list, Result, Ok, Err, if◌then◌else◌}
+use Rattle.std.specs.List.{list_all, list_any}
+use Rattle.limits.specs.declared.TheConstants.{EXCHANGE_LIFETIME, MESSAGE_ID_LIFETIME, MAX_COPIES, MAX_COPIES_LEN, MAX_NUMBERED}
+use Rattle.coap_codec.specs.Spelling.{Content}
+use Rattle.coap_codec.specs.Reading.{message_at}
+use Rattle.coap_codec.specs.declared.fault.CodecFault.{CodecFault}
+use Rattle.uri_map.specs.declared.peer.Peer.{Peer}
+use Rattle.uri_map.specs.Peers.{same_peer}
+use Rattle.journal_book.specs.Entries.{Past, Done, Sent, Heard, done_of, Deed, Carries, Written, entry_size}
+use Rattle.message_layer.specs.Calls.{kept_link}
+use Rattle.message_layer.specs.Sending.{is_over_by}
+use Rattle.message_layer.specs.declared.state.Heard.{Heard as Remembered}
+use Rattle.history_laws.specs.Hearing.{is_such}
+use Rattle.exchange_model.specs.State.{PeerLink, State}
+use Rattle.exchange_model.specs.Steps.{is_past}
+use Rattle.exchange_model.specs.Keeping.{Kept}
+use Rattle.exchange_model.specs.Room.{KeptInRoom}
+use Rattle.exchange_model.specs.Entering.{IsDrained}
+
+-- why it isn't given out, first one first
+pub data RotateFault : Type 0 where
+  -- the journal takes entries yet
+  Unsealed : RotateFault
+  -- a connection is open
+  Connected : RotateFault
+  -- an exchange is open, or a message on its way
+  Exchanging : RotateFault
+  -- too few numbers of tokens or connections are left
+  Spent : RotateFault
+  -- what is to be copied is more than half of a journal
+  Crowded : RotateFault
+
+-- CONs and NONs that repeat none: in which entry, when and from whom they were heard, and their ID
+pub record Seen : Type 0 where
+  pub number : ℕ
+  pub moment : ℕ
+  pub peer : Peer
+  pub mid : ℕ
+
+abbrev pub is_seen : ℕ → Peer → ℕ → Seen → Bool
+is_seen t p mid x =
+    same_peer x.peer p && ((x.mid == mid) && nat_lt t (x.moment + EXCHANGE_LIFETIME))
+
+abbrev pub seen_so : ℕ → ℕ → Peer → Result Content CodecFault → List Seen → List Seen
+seen_so n t p (Err e) old = old
+seen_so n t p (Ok m) old =
+    if is_such m.kind && not (list_any (is_seen t p m.mid) old)
+    then record { number = n; moment = t; peer = p; mid = m.mid } ∷ old else old
+
+abbrev pub seen_by : ℕ → ℕ → Option Done → List Seen → List Seen
+seen_by n t (Some (Heard p b)) old = seen_so n t p (message_at b) old
+seen_by n t _ old = old
+
+abbrev pub seen_from : ℕ → List Written → List Seen → List Seen
+seen_from n [] old = old
+seen_from n (w ∷ ws) old = seen_from (n + 1) ws (seen_by n w.moment (done_of w.deed) old)
+
+abbrev pub seen : List Written → List Seen
+seen ws = seen_from 0 ws []
+
+-- What is still remembered: the first sendings of the last 494 seconds, which alone bear a timeout; and
+-- what was seen in the last 247.
+abbrev pub is_recent_first : ℕ → ℕ → Done → Bool
+is_recent_first t s (Sent p b w) = is_some w && nat_lt t (s + MESSAGE_ID_LIFETIME)
+is_recent_first t s _ = false
+
+abbrev pub is_recent_seen : ℕ → ℕ → Seen → Bool
+is_recent_seen t n x = (x.number == n) && nat_lt t (x.moment + EXCHANGE_LIFETIME)
+
+abbrev pub is_remembered : ℕ → List Seen → ℕ → ℕ → Done → Bool
+is_remembered t xs n s done = is_recent_first t s done || list_any (is_recent_seen t n) xs
+
+abbrev pub copy_if : Bool → ℕ → ℕ → Done → List Written
+copy_if true n s done = record { moment = s; deed = Carries n Past done } ∷ []
+copy_if false n s done = []
+
+abbrev pub copy_of : ℕ → List Seen → ℕ → ℕ → Option Done → List Written
+copy_of t xs n s None = []
+copy_of t xs n s (Some done) = copy_if (is_remembered t xs n s done) n s done
+
+abbrev pub copies_from : ℕ → List Seen → ℕ → List Written → List Written
+copies_from t xs n [] = []
+copies_from t xs n (w ∷ ws) = copy_of t xs n w.moment (done_of w.deed) ++ copies_from t xs (n + 1) ws
+
+abbrev pub copies : ℕ → List Written → List Written
+copies t ws = copies_from t (seen ws) 0 ws
+
+-- A link goes on where something of its peer is copied: with the IDs that are in use, and with what may
+-- be repeated. Nothing is on its way, waits or is awaited.
+abbrev pub is_of : Peer → Deed → Bool
+is_of p (Carries n mark (Sent q b w)) = same_peer q p
+is_of p (Carries n mark (Heard q b)) = same_peer q p
+is_of p _ = false
+
+abbrev pub keep_peer : ℕ → PeerLink → PeerLink
+keep_peer t x = record { peer = x.peer; link = kept_link t x.link }
+
+abbrev pub has_copy : List Written → PeerLink → Bool
+has_copy ws x = list_any (λ (w : Written). is_of x.peer w.deed) ws
+
+-- After the seal no tick ends an exchange or gives a message up. They are over when they would be at
+-- the latest.
+abbrev pub all_over : ℕ → State → Bool
+all_over t S =
+    list_all (is_past t) S.exchanges
+    && list_all (λ (x : PeerLink). is_over_by t x.link.outstanding) S.links
+
+abbrev pub is_spent : State → Bool
+is_spent S = nat_lt MAX_NUMBERED S.issued || nat_lt MAX_NUMBERED S.opened
+
+-- half of a journal at most is copies
+abbrev pub are_few : List Written → Bool
+are_few ws = nat_le (length ws) MAX_COPIES && nat_le (sum_by entry_size ws) MAX_COPIES_LEN
+
+abbrev pub fault_of : ℕ → State → Option RotateFault
+fault_of t S =
+    if not S.sealed then Some Unsealed
+    else (if nat_lt 0 (length S.conns) then Some Connected
+    else (if not (all_over t S) then Some Exchanging
+    else (if is_spent S then Some Spent
+    else (if not (are_few (copies t S.entries)) then Some Crowded else None))))
+
+-- what it goes on with: numbers, and what is remembered
+abbrev pub turned : ℕ → State → State
+turned t S = let ws = copies t S.entries in record {
+  entries = ws;
+  sealed = false;
+  moment = t;
+  opened = S.opened;
+  issued = S.issued;
+  conns = [];
+  exchanges = [];
+  links = filter (has_copy ws) (map (keep_peer t) S.links);
+}
+
+-- the journal that is given out, and the state after it
+abbrev pub rotated_by : Option RotateFault → ℕ → State → Result (List Written × State) RotateFault
+rotated_by (Some fault) t S = Err fault
+rotated_by None t S = Ok (S.entries, turned t S)
+
+abbrev pub rotated : ℕ → State → Result (List Written × State) RotateFault
+rotated t S = rotated_by (fault_of t S) t S
+
+-- What is kept of a core between two steps is kept of the state after it, whose journal is within its
+-- limits.
+abbrev pub RotatesKeeps : Type 0
+RotatesKeeps = (t : ℕ) (S : State) → Kept S → S.moment ≤ t → fault_of t S ≡ None → Kept (turned t S)
+
+abbrev pub RotatesInRoom : Type 0
+RotatesInRoom =
+    (t : ℕ) (S : State) → KeptInRoom S → S.moment ≤ t → fault_of t S ≡ None → KeptInRoom (turned t S)
+
+-- Each link gave out all before it, and so it has after it.
+abbrev pub RotatesDrained : Type 0
+RotatesDrained = (t : ℕ) (S : State) → IsDrained S → IsDrained (turned t S)
