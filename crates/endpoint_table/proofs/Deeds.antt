@@ -16,8 +16,9 @@ use Rattle.message_layer.specs.declared.prepared.Ticking.{Ticking}
 use Rattle.message_layer.specs.declared.prepared.Ticking.TheVariants.{Rests, Copies, GivesUp}
 use Rattle.message_layer.specs.declared.state.Outstanding.{Outstanding}
 use Rattle.message_layer.specs.declared.state.Waiting.{Waiting}
-use Rattle.exchange_model.specs.Entering.{Going, going_as, first_deeds, in_turn, link_deeds, link_going, all_deeds, all_going, turn_deeds, rid}
+use Rattle.exchange_model.specs.Entering.{Going, link_after, going_as, first_deeds, in_turn, link_deeds, link_going, all_deeds, all_going, turn_deeds, rid}
 use Rattle.exchange_model.specs.Calls.{is_due, link_due}
+use Rattle.exchange_model.specs.Due.{timer}
 use Rattle.exchange_model.specs.State.{PeerLink}
 use Rattle.endpoint_table.specs.declared.turns.Turn.{Turn}
 use Rattle.endpoint_table.specs.Turns.{sent_first, deeds_of, going_first, going_of, turns_deeds, turns_going, IsTurnOf, AreTurns}
@@ -122,7 +123,7 @@ sends-so t p s room (GivesUp token next) h = gives-so t p s s.outstanding token 
 
 -- where nothing is due, nothing is sent
 
-not-due : (t : ℕ) (s : LinkState) (v : Option Outstanding) → is_due t v ≡ false
+pub not-due : (t : ℕ) (s : LinkState) (v : Option Outstanding) → is_due t v ≡ false
     → ticked_by t s v ≡ (s, no_news)
 not-due t s None e = refl
 not-due t s (Some o) e = rw (lt-ltb t (due_of o) (not-le (due_of o) t e)) refl
@@ -200,3 +201,10 @@ module _ (t : ℕ) (gone : List (List ℕ)) where
       ∙ (ap (λ (ds : List Deed). gs ++ turns_going (n + length ds) a.others)
       (turn-deeds t gone x room a.turn a.is)
       ∙ ap (λ (hs : List Going). gs ++ hs) (going-same xs rooms a.others m a.rest))))
+
+-- a link at which nothing is due keeps its timer
+pub timer-rests : (t : ℕ) (gone : List ℕ → Bool) (x : PeerLink) → link_due t x ≡ false
+    → timer (link_after t gone x) ≡ timer x
+timer-rests t gone x e =
+    ap (λ (r : LinkState × Told). option_map due_of r.0.outstanding)
+    (not-due t (rid gone x) x.link.outstanding e)

@@ -72,7 +72,7 @@ pushed p s (x ∷ xs) h = rw (h.0) (ap (λ (zs : List PeerLink). x ∷ zs) (push
 
 -- each endpoint has one link still
 
-same-back : (p q : Peer) → same_peer q p ≡ false → same_peer p q ≡ false
+pub same-back : (p q : Peer) → same_peer q p ≡ false → same_peer p q ≡ false
 same-back p q e = by (same_peer p q) refl
   where
     by : (b : Bool) → same_peer p q ≡ b → b ≡ false
@@ -121,7 +121,7 @@ pub once-same : (xs ys : List Endpoint) → AreOnce xs → map peer_link ys ≡ 
 once-same xs ys once e =
     subst (λ (zs : List PeerLink). AreApart (map peer_of zs)) (sym e) once
 
-peers-turned : (f : PeerLink → PeerLink) → ((x : PeerLink) → (f x).peer ≡ x.peer)
+pub peers-turned : (f : PeerLink → PeerLink) → ((x : PeerLink) → (f x).peer ≡ x.peer)
     → (xs : List PeerLink) → map peer_of (map f xs) ≡ map peer_of xs
 peers-turned f same [] = refl
 peers-turned f same (x ∷ xs) =
@@ -135,15 +135,18 @@ once-turned f same xs ys once e =
     subst AreApart (sym (ap (map peer_of) e ∙ peers-turned f same (map peer_link xs))) once
 
 -- a new one, where there is a place for it
-pub spare-link : (p : Peer) (xs : List Endpoint) (len capacity : ℕ) (link : LinkValue)
-    → HasNone p (map peer_link xs) → link.state ≡ empty_link → len < capacity
-    → link_at (shown xs (nat_lt len capacity && link.room)) p ≡ link
-spare-link p xs len capacity link h empty lt =
-    none-there p xs (nat_lt len capacity && link.room) h
-    ∙ (ap (λ (s : LinkState). record { state = s; room = nat_lt len capacity && link.room })
+pub spare-link : (p : Peer) (xs : List Endpoint) (len capacity slots : ℕ) (link : LinkValue)
+    → HasNone p (map peer_link xs) → link.state ≡ empty_link → len < capacity → len < slots
+    → link_at (shown xs (nat_lt len capacity && (nat_lt len slots && link.room))) p ≡ link
+spare-link p xs len capacity slots link h empty lt less =
+    none-there p xs (nat_lt len capacity && (nat_lt len slots && link.room)) h
+    ∙ (ap (λ (s : LinkState).
+    record { state = s; room = nat_lt len capacity && (nat_lt len slots && link.room) })
     (sym empty)
+    ∙ (ap (λ (b : Bool). record { state = link.state; room = b && (nat_lt len slots && link.room) })
+    (lt-ltb len capacity lt)
     ∙ ap (λ (b : Bool). record { state = link.state; room = b && link.room })
-    (lt-ltb len capacity lt))
+    (lt-ltb len slots less)))
 
 pub unknown : (p : Peer) (xs : List PeerLink) → HasNone p xs
     → is_some (link_of xs p).last_mid ≡ true → ⊥

@@ -49,10 +49,12 @@ peer_link x = record { peer = x.peer; link = x.link.state }
 abbrev pub has_room : Endpoint → Bool
 has_room x = x.link.room
 
--- where so many endpoints stand in a vector of this capacity, with this link for one more
-abbrev pub spare_room : ℕ → ℕ → Option LinkValue → Bool
-spare_room len capacity None = false
-spare_room len capacity (Some link) = nat_lt len capacity && link.room
+-- where so many endpoints stand in a vector of this capacity, their timers have so many places, and
+-- this is the link for one more
+abbrev pub spare_room : ℕ → ℕ → ℕ → Option LinkValue → Bool
+spare_room len capacity slots None = false
+spare_room len capacity slots (Some link) =
+    nat_lt len capacity && (nat_lt len slots && link.room)
 
 abbrev pub shown : List Endpoint → Bool → TableValue
 shown es spare = record { links = map peer_link es; rooms = map has_room es; spare = spare }

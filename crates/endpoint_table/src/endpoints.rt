@@ -1,23 +1,28 @@
 //! The table of endpoints.
 
 ghost use Rattle.std.specs.Prelude.{ℕ, ◌≡◌, ◌≤◌, [], true, map, is_some, IfOk};
+ghost use Rattle.std.specs.List.{list_all};
 ghost use Rattle.limits.specs.declared.TheConstants.{LAST_MOMENT};
 ghost use Rattle.uri_map.specs.declared.peer.Peer.{Peer as PeerValue};
 ghost use Rattle.message_layer.specs.Calls.{is_among};
 ghost use Rattle.message_layer.specs.Prepared.{IsPreparedFor, IsSubmission, IsUnnumberedCon, MayHeed, MaySubmit};
-ghost use Rattle.message_layer.specs.Sending.{IsSubmitted};
+ghost use Rattle.message_layer.specs.Sending.{IsSubmitted, is_over_by};
 ghost use Rattle.exchange_model.specs.Due.{earliest, timer};
 ghost use Rattle.exchange_model.specs.Entering.{all_deeds, all_going, link_after};
 ghost use Rattle.exchange_model.specs.State.{link_of, with_link};
+ghost use Rattle.exchange_model.specs.Rotating.{keep_peer};
 ghost use Rattle.endpoint_table.specs.GivenUps.{given_at, given_up};
+ghost use Rattle.endpoint_table.specs.Keeping.{is_any, marked};
 ghost use Rattle.endpoint_table.specs.Tables.{heeds, link_at, submitted_to};
 ghost use Rattle.endpoint_table.specs.Turns.{AreTurns, turns_deeds, turns_going};
 
+use crate::dues::{Due, copy_dues, first_due};
 use crate::endpoint::Endpoint;
 use crate::given_up::{GivenUp, given_up_in};
 use crate::hints::Hints;
+use crate::keeping::{Keeping, keep_rows, mark_all};
 use crate::rows;
-use crate::turns::{Turn, prepare_turns_in, tick_turns_in};
+use crate::turns::{Turn, prepare_turns_in, tick_turns};
 use coap_codec::Token;
 use message_layer::{Hearing, Heeding, Link, LinkFault, Submission};
 use std::alloc::{AllocError, Global};
@@ -31,6 +36,8 @@ use uri_map::Peer;
 pub struct Endpoints {
     alloc: Global,
     rows: Vec<Endpoint>,
+    /// their timers, in the order in which they run out
+    dues: Vec<Due>,
     /// where they were found last
     hints: Hints,
     /// a link for one more
@@ -39,6 +46,7 @@ pub struct Endpoints {
 
 impl Model for Endpoints {
     ghost use Rattle.std.specs.Prelude.{map, vec_capacity, vec_len};
+    ghost use Rattle.endpoint_table.specs.Dues.{AreDues};
     ghost use Rattle.endpoint_table.specs.Tables.{TableValue, has_room, peer_link, spare_room, AreOnce, IsUnused};
 
     ghost Value = { TableValue };
@@ -46,10 +54,11 @@ impl Model for Endpoints {
     ghost view = { λ t. record {
       links = map peer_link t.rows.items;
       rooms = map has_room t.rows.items;
-      spare = spare_room (vec_len t.rows) (vec_capacity t.rows) t.spare;
+      spare = spare_room (vec_len t.rows) (vec_capacity t.rows) (vec_capacity t.dues) t.spare;
     } };
 
-    ghost invariant = { λ t. AreOnce t.rows.items × IsUnused t.spare };
+    ghost invariant = { λ t. AreOnce t.rows.items × IsUnused t.spare
+        × AreDues t.rows.items t.dues.items (vec_capacity t.dues) };
 }
 
 impl Endpoints {
@@ -60,6 +69,7 @@ impl Endpoints {
         Ok(Endpoints {
             alloc,
             rows: Vec::new(alloc),
+            dues: Vec::new(alloc),
             hints: Hints::new(alloc)?,
             spare: None,
         })
@@ -89,6 +99,7 @@ impl Endpoints {
             None => rows::prepare_spare(
                 self.alloc,
                 &mut self.rows,
+                &mut self.dues,
                 &mut self.spare,
                 token,
                 text,
@@ -106,9 +117,18 @@ impl Endpoints {
         ensures { self.new.links ≡ submitted_to peer moment submission.waiting self.old.links }
     {
         match self.hints.find(&self.rows, &peer) {
-            Some(place) => rows::submit_at(&mut self.rows, place, submission, moment),
+            Some(place) => {
+                rows::submit_at(&mut self.rows, &mut self.dues, place, submission, moment)
+            }
             None => {
-                rows::submit_spare(&mut self.rows, &mut self.spare, peer, submission, moment)
+                rows::submit_spare(
+                    &mut self.rows,
+                    &mut self.dues,
+                    &mut self.spare,
+                    peer,
+                    submission,
+                    moment,
+                )
             }
         }
     }
@@ -143,7 +163,7 @@ impl Endpoints {
             self.old.links }
     {
         if let Some(place) = self.hints.find(&self.rows, peer) {
-            rows::heed_at(&mut self.rows, place, heeding, over, moment);
+            rows::heed_at(&mut self.rows, &mut self.dues, place, heeding, over, moment);
         }
     }
 
@@ -151,7 +171,14 @@ impl Endpoints {
     pub fn next_due(&self) -> Option<u64>
         ensures { result ≡ earliest timer self.now.links }
     {
-        rows::earliest_timer(&self.rows)
+        first_due(&self.dues)
+    }
+
+    /// Whether no message is outstanding at this moment, were all ticks in time.
+    pub fn are_over(&self, moment: u64) -> bool
+        ensures { result ≡ list_all (λ x. is_over_by moment x.link.outstanding) self.now.links }
+    {
+        rows::are_over(&self.rows, moment)
     }
 
     /// The tokens of the messages that endpoints give up at this moment.
@@ -161,7 +188,7 @@ impl Endpoints {
         ensures given { IfOk result (λ v. (p : PeerValue)
             → given_at v.items p ≡ given_up moment (link_of self.old.links p)) }
     {
-        given_up_in(self.alloc, &mut self.rows, moment)
+        given_up_in(self.alloc, &mut self.rows, &self.dues, moment)
     }
 
     /// Prepares the tick of the links, once what bears one of these tokens is neither awaited nor
@@ -180,7 +207,7 @@ impl Endpoints {
         ensures going { IfOk result (λ v. (n : ℕ) → turns_going n v.items
             ≡ all_going moment (is_among gone.now) n self.old.links) }
     {
-        prepare_turns_in(self.alloc, &mut self.rows, moment, gone)
+        prepare_turns_in(self.alloc, &mut self.rows, &self.dues, moment, gone)
     }
 
     /// Does the tick of each link, by the turns that were prepared. The links gave out all.
@@ -189,7 +216,25 @@ impl Endpoints {
         requires ready { AreTurns moment gone.now self.old.links self.old.rooms turns.items }
         ensures { self.new.links ≡ map (link_after moment (is_among gone.now)) self.old.links }
     {
-        tick_turns_in(&mut self.rows, turns, moment, gone);
+        tick_turns(&mut self.rows, &mut self.dues, turns, moment, gone);
+    }
+
+    /// Prepares that these endpoints alone are kept, as far as something was asked of them.
+    pub fn prepare_keep(&mut self, peers: &[Peer]) -> Result<Keeping, AllocError>
+        ensures same { self.new.links ≡ self.old.links }
+        ensures ok { IfOk result (λ k. k ≡ map (is_any peers.now) self.old.links) }
+    {
+        mark_all(self.alloc, &self.rows, &mut self.hints, peers)
+    }
+
+    /// Keeps the endpoints that are marked, in their order, and of each link what has to be
+    /// remembered at this moment. The others go, and nothing is under way any more. It takes no
+    /// memory.
+    pub fn keep(&mut self, keeping: Keeping, moment: u64)
+        ensures { self.new.links ≡ map (keep_peer moment) (marked keeping self.old.links) }
+    {
+        keep_rows(&mut self.rows, &mut self.dues, &keeping, moment);
+        self.hints.keep_all(&self.rows);
     }
 
     /// The same endpoints with equal links, which share the bytes of their messages. Where endpoints
@@ -200,6 +245,7 @@ impl Endpoints {
         Ok(Endpoints {
             alloc: self.alloc,
             rows: rows::copy_rows(self.alloc, &self.rows)?,
+            dues: copy_dues(self.alloc, &self.dues, self.rows.len())?,
             hints: Hints::none(self.alloc),
             spare: None,
         })
@@ -212,9 +258,11 @@ impl Endpoints {
         let Endpoints {
             alloc: _,
             rows,
+            dues,
             hints: _,
             spare: _,
         } = copied;
         self.rows = rows;
+        self.dues = dues;
     }
 }

@@ -5,11 +5,12 @@ ghost use Rattle.std.specs.Option.{option_to_list};
 ghost use Rattle.limits.specs.declared.TheConstants.{LAST_MOMENT};
 ghost use Rattle.uri_map.specs.declared.peer.Peer.{Peer as PeerValue};
 ghost use Rattle.exchange_model.specs.State.{link_of};
+ghost use Rattle.endpoint_table.specs.Dues.{dues_from, due_places, timers_of};
 ghost use Rattle.endpoint_table.specs.GivenUps.{given_at, given_by, given_up, given_ups, token_given};
 ghost use Rattle.endpoint_table.specs.Tables.{peer_link, AreOnce};
 
+use crate::dues::{Due, due_places};
 use crate::endpoint::Endpoint;
-use crate::turns::is_due;
 use coap_codec::Token;
 use message_layer::{Link, Ticking};
 use std::alloc::{AllocError, Global};
@@ -45,7 +46,7 @@ fn given_up(link: &mut Link, none: &[Token], moment: u64) -> Result<Option<Token
     Ok(given_up_by(&turn))
 }
 
-/// What the endpoint gives up. It is asked only where something is due.
+/// What the endpoint gives up.
 fn given_up_at(
     endpoint: &mut Endpoint,
     none: &[Token],
@@ -56,9 +57,6 @@ fn given_up_at(
     ensures same { peer_link endpoint.new ≡ peer_link endpoint.old }
     ensures given { IfOk result (λ o. o ≡ given_by moment (peer_link endpoint.old)) }
 {
-    if !is_due(&endpoint.link, moment) {
-        return Ok(None);
-    }
     match given_up(&mut endpoint.link, none, moment)? {
         Some(token) => Ok(Some(GivenUp {
             peer: endpoint.peer,
@@ -90,20 +88,23 @@ fn push_given_up(
     }
 }
 
-/// What each endpoint gives up, in order.
+/// What the endpoints give up, in order: those in these places are asked, where alone something
+/// is due.
 fn given_up_all(
     alloc: Global,
-    rows: &mut [Endpoint],
+    rows: &mut Vec<Endpoint>,
+    places: &[usize],
     moment: u64,
 ) -> Result<Vec<GivenUp>, AllocError>
-    requires { moment ≤ LAST_MOMENT }
-    ensures same { map peer_link rows.new ≡ map peer_link rows.old }
-    ensures given { IfOk result (λ v. v.items ≡ given_ups moment (map peer_link rows.old)) }
+    requires early { moment ≤ LAST_MOMENT }
+    requires places { places.now ≡ due_places moment 0 (timers_of rows.old.items) }
+    ensures same { map peer_link rows.new.items ≡ map peer_link rows.old.items }
+    ensures given { IfOk result (λ v. v.items ≡ given_ups moment (map peer_link rows.old.items)) }
 {
     let none = Vec::new(alloc);
     let mut given = Vec::new(alloc);
-    'each: for x in rows.iter_mut() {
-        push_given_up(&mut given, x, &none, moment)?;
+    'each: for place in places {
+        push_given_up(&mut given, &mut rows[*place], &none, moment)?;
     }
     Ok(given)
 }
@@ -112,15 +113,18 @@ fn given_up_all(
 pub fn given_up_in(
     alloc: Global,
     rows: &mut Vec<Endpoint>,
+    dues: &[Due],
     moment: u64,
 ) -> Result<Vec<GivenUp>, AllocError>
     requires early { moment ≤ LAST_MOMENT }
     requires once { AreOnce rows.old.items }
+    requires dues { dues.now ≡ dues_from 0 (timers_of rows.old.items) }
     ensures same { map peer_link rows.new.items ≡ map peer_link rows.old.items }
     ensures given { IfOk result (λ v. (p : PeerValue) → given_at v.items p
         ≡ given_up moment (link_of (map peer_link rows.old.items) p)) }
 {
-    given_up_all(alloc, rows.as_mut_slice(), moment)
+    let places = due_places(alloc, dues, moment)?;
+    given_up_all(alloc, rows, &places, moment)
 }
 
 /// The token of the message that the endpoint gives up, where it is listed.

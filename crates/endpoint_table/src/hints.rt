@@ -81,6 +81,13 @@ impl Hints {
         Some(place)
     }
 
+    /// Keeps in mind where each endpoint stands now.
+    pub fn keep_all(&mut self, rows: &[Endpoint]) {
+        for (place, x) in rows.iter().enumerate() {
+            self.keep(slot_of(&x.peer), place);
+        }
+    }
+
     /// What stands in a slot.
     fn hint(&self, slot: usize) -> usize {
         self.places.get(slot).copied().unwrap_or(0)

@@ -5,16 +5,20 @@
 //! and no place. What needs memory is prepared, and then done by a call that takes none. At a tick only
 //! those endpoints are asked at which something is due.
 //!
-//! The definitions stand in `specs/`, to be read in this order: `Places`, `Tables`, `GivenUps`, `Turns`.
+//! The definitions stand in `specs/`, to be read in this order: `Places`, `Tables`,
+//! `Dues`, `GivenUps`, `Turns`, `Keeping`.
 #![tactic(auto)]
 
+mod dues;
 mod endpoint;
 mod endpoints;
 mod given_up;
 mod hints;
+mod keeping;
 mod rows;
 mod turns;
 
 pub use endpoints::Endpoints;
 pub use given_up::{GivenUp, find_given_up};
+pub use keeping::Keeping;
 pub use turns::Turn;

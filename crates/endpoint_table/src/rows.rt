@@ -1,18 +1,20 @@
 //! The links of the endpoints, of which one takes a message or a datagram.
 
 ghost use Rattle.std.specs.Prelude.{◌≡◌, ◌≤◌, ◌<◌, ◌∷◌, ◌++◌, [], Bool, Some, None, IfOk, length, map, slice_get, vec_len, vec_capacity};
+ghost use Rattle.std.specs.List.{list_all};
 ghost use Rattle.limits.specs.declared.TheConstants.{LAST_MOMENT};
 ghost use Rattle.uri_map.specs.declared.peer.Peer.{Peer as PeerValue};
 ghost use Rattle.message_layer.specs.Values.{empty_link};
-ghost use Rattle.message_layer.specs.Sending.{submitted, IsSubmitted};
+ghost use Rattle.message_layer.specs.Sending.{submitted, IsSubmitted, is_over_by};
 ghost use Rattle.message_layer.specs.Prepared.{IsPreparedFor, IsSubmission, IsUnnumberedCon, MayHeed, MaySubmit};
-ghost use Rattle.exchange_model.specs.Due.{earlier, earliest, timer};
 ghost use Rattle.exchange_model.specs.State.{link_of, with_link};
 ghost use Rattle.exchange_model.specs.Steps.{given_out};
 ghost use Rattle.endpoint_table.specs.declared.endpoint.Endpoint.{Endpoint as EndpointValue};
+ghost use Rattle.endpoint_table.specs.Dues.{AreDues};
 ghost use Rattle.endpoint_table.specs.Places.{HasNone, IsFirstAt};
 ghost use Rattle.endpoint_table.specs.Tables.{heeds, link_at, peer_link, shown, spare_room, submitted_to, IsUnused};
 
+use crate::dues::{Due, put_due, set_due};
 use crate::endpoint::{Endpoint, copy_endpoint};
 use coap_codec::Token;
 use message_layer::{Hearing, Heeding, Link, LinkFault, Submission};
@@ -62,6 +64,7 @@ pub fn prepare_submit_at(
 pub fn prepare_spare(
     alloc: Global,
     rows: &mut Vec<Endpoint>,
+    dues: &mut Vec<Due>,
     spare: &mut Option<Link>,
     token: Token,
     text: &[u8],
@@ -72,13 +75,17 @@ pub fn prepare_spare(
     requires message { IsUnnumberedCon token text.now }
     requires unused { IsUnused spare.old }
     ensures same { rows.new.items ≡ rows.old.items }
+    ensures dues { dues.new.items ≡ dues.old.items }
+    ensures slots { vec_capacity dues.old ≤ vec_capacity dues.new }
     ensures unused { IsUnused spare.new }
     ensures ok { (p : PeerValue) → HasNone p (map peer_link rows.old.items) → IfOk result (λ x.
         IsSubmission moment token text.now word (link_at (shown rows.new.items
-        (spare_room (vec_len rows.new) (vec_capacity rows.new) spare.new)) p) x) }
+        (spare_room (vec_len rows.new) (vec_capacity rows.new) (vec_capacity dues.new)
+        spare.new)) p) x) }
     ensures fault { IsSubmitted moment empty_link result }
 {
     rows.try_reserve(1)?;
+    dues.try_reserve(rows.capacity())?;
     let mut link = Link::new(alloc);
     let submission = link.prepare_submit(token, text, moment, word)?;
     *spare = Some(link);
@@ -107,40 +114,54 @@ fn submit(endpoint: &mut Endpoint, submission: Submission, moment: u64)
 }
 
 /// The link in this place takes the message.
-pub fn submit_at(rows: &mut Vec<Endpoint>, place: usize, submission: Submission, moment: u64)
+pub fn submit_at(
+    rows: &mut Vec<Endpoint>,
+    dues: &mut Vec<Due>,
+    place: usize,
+    submission: Submission,
+    moment: u64,
+)
+    requires dues { AreDues rows.old.items dues.old.items (vec_capacity dues.old) }
     requires place { place < length rows.old.items }
     requires early { moment ≤ LAST_MOMENT }
     requires ready { (e : EndpointValue) → slice_get rows.old.items place ≡ Some e
         → MaySubmit moment e.link submission }
-    ensures { (p : PeerValue) → IsFirstAt p (map peer_link rows.old.items) place
+    ensures links { (p : PeerValue) → IsFirstAt p (map peer_link rows.old.items) place
         → map peer_link rows.new.items
         ≡ submitted_to p moment submission.waiting (map peer_link rows.old.items) }
+    ensures dues { AreDues rows.new.items dues.new.items (vec_capacity dues.new) }
 {
     submit(&mut rows[place], submission, moment);
+    set_due(dues, place, rows[place].link.next_due());
 }
 
 /// The link that was prepared for one more endpoint takes the message.
 pub fn submit_spare(
     rows: &mut Vec<Endpoint>,
+    dues: &mut Vec<Due>,
     spare: &mut Option<Link>,
     peer: Peer,
     submission: Submission,
     moment: u64,
 )
     requires early { moment ≤ LAST_MOMENT }
+    requires dues { AreDues rows.old.items dues.old.items (vec_capacity dues.old) }
     requires unused { IsUnused spare.old }
     requires ready { MaySubmit moment (record {
       state = empty_link;
-      room = spare_room (vec_len rows.old) (vec_capacity rows.old) spare.old;
+      room = spare_room (vec_len rows.old) (vec_capacity rows.old) (vec_capacity dues.old)
+          spare.old;
     }) submission }
     ensures links { HasNone peer (map peer_link rows.old.items) → map peer_link rows.new.items
         ≡ submitted_to peer moment submission.waiting (map peer_link rows.old.items) }
+    ensures dues { AreDues rows.new.items dues.new.items (vec_capacity dues.new) }
     ensures spare { spare.new ≡ None }
 {
     let Some(mut link) = spare.take() else {
         unreachable!()
     };
     submit_to(&mut link, submission, moment);
+    put_due(dues, rows.len(), link.next_due());
     rows.push_reserved(Endpoint { peer, link });
 }
 
@@ -198,6 +219,7 @@ fn heed(endpoint: &mut Endpoint, heeding: Heeding, over: Option<Token>, moment: 
 /// The link in this place does what was prepared.
 pub fn heed_at(
     rows: &mut Vec<Endpoint>,
+    dues: &mut Vec<Due>,
     place: usize,
     heeding: Heeding,
     over: Option<Token>,
@@ -207,34 +229,15 @@ pub fn heed_at(
     requires early { moment ≤ LAST_MOMENT }
     requires ready { (e : EndpointValue) → slice_get rows.old.items place ≡ Some e
         → MayHeed moment e.link heeding }
-    ensures { (p : PeerValue) → IsFirstAt p (map peer_link rows.old.items) place
+    requires dues { AreDues rows.old.items dues.old.items (vec_capacity dues.old) }
+    ensures links { (p : PeerValue) → IsFirstAt p (map peer_link rows.old.items) place
         → map peer_link rows.new.items
         ≡ with_link p (heeds moment heeding over (link_of (map peer_link rows.old.items) p))
         (map peer_link rows.old.items) }
+    ensures dues { AreDues rows.new.items dues.new.items (vec_capacity dues.new) }
 {
     heed(&mut rows[place], heeding, over, moment);
-}
-
-/// The earlier of two moments, where there are two.
-fn earlier(a: Option<u64>, b: Option<u64>) -> Option<u64>
-    ensures { result ≡ earlier a b }
-{
-    match (a, b) {
-        (None, b) => b,
-        (Some(a), None) => Some(a),
-        (Some(a), Some(b)) => Some(a.min(b)),
-    }
-}
-
-/// The first timer of the links.
-pub fn earliest_timer(rows: &[Endpoint]) -> Option<u64>
-    ensures { result ≡ earliest timer (map peer_link rows.now) }
-{
-    let mut first = None;
-    'each: for x in rows {
-        first = earlier(first, x.link.next_due());
-    }
-    first
+    set_due(dues, place, rows[place].link.next_due());
 }
 
 /// Equal links.
@@ -246,4 +249,25 @@ pub fn copy_rows(alloc: Global, rows: &[Endpoint]) -> Result<Vec<Endpoint>, Allo
         copy.push(copy_endpoint(row)?)?;
     }
     Ok(copy)
+}
+
+/// Whether no message is outstanding at this moment, were all ticks in time.
+fn all_over(rows: &[Endpoint], moment: u64) -> bool
+    ensures { result
+        ≡ list_all (λ x. is_over_by moment (peer_link x).link.outstanding) rows.now }
+{
+    'each: for x in rows {
+        if !x.link.is_over(moment) {
+            return false;
+        }
+    }
+    true
+}
+
+/// The same, said of the links.
+pub fn are_over(rows: &[Endpoint], moment: u64) -> bool
+    ensures { result
+        ≡ list_all (λ x. is_over_by moment x.link.outstanding) (map peer_link rows.now) }
+{
+    all_over(rows, moment)
 }

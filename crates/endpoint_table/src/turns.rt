@@ -1,17 +1,19 @@
 //! What a tick does at each endpoint where something is due.
 
-ghost use Rattle.std.specs.Prelude.{◌≡◌, ◌≤◌, ◌∷◌, ◌++◌, List, Option, true, false, map, IfOk, OnOk};
-ghost use Rattle.std.specs.Option.{option_to_list};
+ghost use Rattle.std.specs.Prelude.{◌≡◌, ◌≤◌, ◌<◌, ◌∷◌, ◌++◌, [], List, Some, true, false, length, map, slice_get, slice_set, vec_capacity, IfOk, OnOk};
 ghost use Rattle.limits.specs.declared.TheConstants.{LAST_MOMENT};
 ghost use Rattle.message_layer.specs.Calls.{is_among};
 ghost use Rattle.message_layer.specs.Prepared.{IsTicking};
 ghost use Rattle.message_layer.specs.declared.prepared.Ticking.TheVariants.{Rests};
 ghost use Rattle.exchange_model.specs.Calls.{is_due, link_due};
 ghost use Rattle.exchange_model.specs.Entering.{link_after};
+ghost use Rattle.endpoint_table.specs.declared.endpoint.Endpoint.{Endpoint as EndpointValue};
 ghost use Rattle.endpoint_table.specs.declared.turns.Turn.{Turn as TurnValue};
+ghost use Rattle.endpoint_table.specs.Dues.{dues_from, due_places, timers_of, AreDues};
 ghost use Rattle.endpoint_table.specs.Tables.{has_room, peer_link};
 ghost use Rattle.endpoint_table.specs.Turns.{AreTurns, IsTurnOf};
 
+use crate::dues::{Due, due_places, set_due};
 use crate::endpoint::Endpoint;
 use coap_codec::Token;
 use message_layer::{Link, Ticking};
@@ -27,7 +29,7 @@ pub struct Turn {
 }
 
 /// Whether the timer of the link has run out.
-pub fn is_due(link: &Link, moment: u64) -> bool
+fn is_due(link: &Link, moment: u64) -> bool
     ensures { result ≡ is_due moment link.now.state.outstanding }
 {
     match link.next_due() {
@@ -48,64 +50,57 @@ fn prepare_ticking(link: &mut Link, moment: u64, gone: &[Token]) -> Result<Ticki
     }
 }
 
-/// Prepares the turn of the endpoint, where something is due there.
-fn prepare_turn(
-    endpoint: &mut Endpoint,
-    moment: u64,
-    gone: &[Token],
-) -> Result<Option<Turn>, AllocError>
-    requires { moment ≤ LAST_MOMENT }
+/// Prepares the turn of an endpoint where something is due.
+fn prepare_turn(endpoint: &mut Endpoint, moment: u64, gone: &[Token]) -> Result<Turn, AllocError>
+    requires early { moment ≤ LAST_MOMENT }
+    requires due { link_due moment (peer_link endpoint.old) ≡ true }
     ensures same { peer_link endpoint.new ≡ peer_link endpoint.old }
-    ensures turn { IfOk result
-        (λ o. IsTurnOf moment gone.now (peer_link endpoint.new) endpoint.new.link.room o) }
+    ensures turn { IfOk result (λ k.
+        IsTurnOf moment gone.now (peer_link endpoint.new) endpoint.new.link.room (Some k)) }
 {
-    if !is_due(&endpoint.link, moment) {
-        return Ok(None);
-    }
     let ticking = prepare_ticking(&mut endpoint.link, moment, gone)?;
-    Ok(Some(Turn {
+    Ok(Turn {
         peer: endpoint.peer,
         ticking,
-    }))
+    })
 }
 
-/// Prepares the turn of the endpoint after those that there are, where something is due there.
+/// Prepares the turn of an endpoint where something is due, after those that there are.
 fn push_turn(
     turns: &mut VecDeque<Turn>,
     endpoint: &mut Endpoint,
     moment: u64,
     gone: &[Token],
 ) -> Result<(), AllocError>
-    requires { moment ≤ LAST_MOMENT }
+    requires early { moment ≤ LAST_MOMENT }
+    requires due { link_due moment (peer_link endpoint.old) ≡ true }
     ensures same { peer_link endpoint.new ≡ peer_link endpoint.old }
-    ensures turn { OnOk result ((o : Option TurnValue)
-        × (turns.new.items ≡ turns.old.items ++ option_to_list o)
-        × IsTurnOf moment gone.now (peer_link endpoint.new) endpoint.new.link.room o) }
+    ensures turn { OnOk result ((k : TurnValue)
+        × (turns.new.items ≡ turns.old.items ++ k ∷ [])
+        × IsTurnOf moment gone.now (peer_link endpoint.new) endpoint.new.link.room (Some k)) }
 {
-    match prepare_turn(endpoint, moment, gone)? {
-        Some(turn) => {
-            turns.push_back(turn)?;
-            Ok(())
-        }
-        None => Ok(()),
-    }
+    let turn = prepare_turn(endpoint, moment, gone)?;
+    turns.push_back(turn)?;
+    Ok(())
 }
 
-/// Prepares the turns of the endpoints.
+/// Prepares the turns of the endpoints in these places, where alone something is due.
 fn prepare_turns(
     alloc: Global,
-    rows: &mut [Endpoint],
+    rows: &mut Vec<Endpoint>,
+    places: &[usize],
     moment: u64,
     gone: &[Token],
 ) -> Result<VecDeque<Turn>, AllocError>
-    requires { moment ≤ LAST_MOMENT }
-    ensures same { map peer_link rows.new ≡ map peer_link rows.old }
+    requires early { moment ≤ LAST_MOMENT }
+    requires places { places.now ≡ due_places moment 0 (timers_of rows.old.items) }
+    ensures same { map peer_link rows.new.items ≡ map peer_link rows.old.items }
     ensures turns { IfOk result (λ v. AreTurns moment gone.now
-        (map peer_link rows.new) (map has_room rows.new) v.items) }
+        (map peer_link rows.new.items) (map has_room rows.new.items) v.items) }
 {
     let mut turns = VecDeque::new(alloc);
-    'each: for x in rows.iter_mut() {
-        push_turn(&mut turns, x, moment, gone)?;
+    'each: for place in places {
+        push_turn(&mut turns, &mut rows[*place], moment, gone)?;
     }
     Ok(turns)
 }
@@ -114,15 +109,18 @@ fn prepare_turns(
 pub fn prepare_turns_in(
     alloc: Global,
     rows: &mut Vec<Endpoint>,
+    dues: &[Due],
     moment: u64,
     gone: &[Token],
 ) -> Result<VecDeque<Turn>, AllocError>
-    requires { moment ≤ LAST_MOMENT }
+    requires early { moment ≤ LAST_MOMENT }
+    requires dues { dues.now ≡ dues_from 0 (timers_of rows.old.items) }
     ensures same { map peer_link rows.new.items ≡ map peer_link rows.old.items }
     ensures turns { IfOk result (λ v. AreTurns moment gone.now
         (map peer_link rows.new.items) (map has_room rows.new.items) v.items) }
 {
-    prepare_turns(alloc, rows.as_mut_slice(), moment, gone)
+    let places = due_places(alloc, dues, moment)?;
+    prepare_turns(alloc, rows, &places, moment, gone)
 }
 
 /// What the tick does at the endpoint: the first turn is its own, where something is due there.
@@ -153,28 +151,53 @@ fn tick_endpoint(endpoint: &mut Endpoint, ticking: Ticking, moment: u64, gone: &
     endpoint.link.clear_out();
 }
 
-/// Does the tick of each link, by the turns that were prepared. The links gave out all.
-fn tick_turns(rows: &mut [Endpoint], turns: VecDeque<Turn>, moment: u64, gone: &[Token])
+/// Does the tick of the endpoint in this place as it was prepared, and sets its timer where that has
+/// run out.
+fn tick_at(
+    rows: &mut Vec<Endpoint>,
+    dues: &mut Vec<Due>,
+    place: usize,
+    ticking: Ticking,
+    moment: u64,
+    gone: &[Token],
+)
+    requires place { place < length rows.old.items }
     requires moment { moment ≤ LAST_MOMENT }
-    requires ready { AreTurns moment gone.now
-        (map peer_link rows.old) (map has_room rows.old) turns.items }
-    ensures { map peer_link rows.new
-        ≡ map (link_after moment (is_among gone.now)) (map peer_link rows.old) }
+    requires dues { AreDues rows.old.items dues.old.items (vec_capacity dues.old) }
+    requires ready { (e : EndpointValue) → slice_get rows.old.items place ≡ Some e
+        → IsTicking moment gone.now e.link ticking }
+    ensures row { (e : EndpointValue) → slice_get rows.old.items place ≡ Some e
+        → (y : EndpointValue) × (rows.new.items ≡ slice_set rows.old.items place y)
+        × (peer_link y ≡ link_after moment (is_among gone.now) (peer_link e)) }
+    ensures dues { AreDues rows.new.items dues.new.items (vec_capacity dues.new) }
 {
-    let mut turns = turns;
-    'each: for x in rows.iter_mut() {
-        let ticking = take_ticking(&mut turns, x, moment);
-        tick_endpoint(x, ticking, moment, gone);
+    if !is_due(&rows[place].link, moment) {
+        tick_endpoint(&mut rows[place], ticking, moment, gone);
+        return;
     }
+    tick_endpoint(&mut rows[place], ticking, moment, gone);
+    set_due(dues, place, rows[place].link.next_due());
 }
 
 /// Does the tick of each link, by the turns that were prepared. The links gave out all.
-pub fn tick_turns_in(rows: &mut Vec<Endpoint>, turns: VecDeque<Turn>, moment: u64, gone: &[Token])
+pub fn tick_turns(
+    rows: &mut Vec<Endpoint>,
+    dues: &mut Vec<Due>,
+    turns: VecDeque<Turn>,
+    moment: u64,
+    gone: &[Token],
+)
     requires moment { moment ≤ LAST_MOMENT }
     requires ready { AreTurns moment gone.now
         (map peer_link rows.old.items) (map has_room rows.old.items) turns.items }
-    ensures { map peer_link rows.new.items
+    requires dues { AreDues rows.old.items dues.old.items (vec_capacity dues.old) }
+    ensures links { map peer_link rows.new.items
         ≡ map (link_after moment (is_among gone.now)) (map peer_link rows.old.items) }
+    ensures dues { AreDues rows.new.items dues.new.items (vec_capacity dues.new) }
 {
-    tick_turns(rows.as_mut_slice(), turns, moment, gone);
+    let mut turns = turns;
+    'each: for place in 0..rows.len() {
+        let ticking = take_ticking(&mut turns, &rows[place], moment);
+        tick_at(rows, dues, place, ticking, moment, gone);
+    }
 }

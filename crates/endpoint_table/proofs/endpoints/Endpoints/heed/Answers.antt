@@ -15,8 +15,9 @@ heed_at-requires-clause-ready c = λ e k.
 pub invariant_of-self : goal.invariant_of-self
 invariant_of-self c = (
   once-with c.args.peer.now _ c.self.inside.rows.items c.heed_at.new.rows.items c.self.invariant.0
-      (c.heed_at.ensures c.args.peer.now (rw (c.deref.ensures.value) at c.in-Some.ensures.some)),
+      (c.heed_at.ensures.links c.args.peer.now (rw (c.deref.ensures.value) at c.in-Some.ensures.some)),
   c.self.invariant.1,
+  c.heed_at.ensures.dues,
 )
 
 pub returns-in_default : goal.returns-in_default

@@ -15,8 +15,9 @@ submit_at-requires-clause-ready c = λ e k.
 pub invariant_of-self : goal.invariant_of-self
 invariant_of-self c = (
   once-with c.args.peer _ c.self.inside.rows.items c.submit_at.new.rows.items c.self.invariant.0
-      (c.submit_at.ensures c.args.peer (rw (c.deref.ensures.value) at c.in-Some.ensures.some)),
+      (c.submit_at.ensures.links c.args.peer (rw (c.deref.ensures.value) at c.in-Some.ensures.some)),
   c.self.invariant.1,
+  c.submit_at.ensures.dues,
 )
 
 pub submit_spare-requires-clause-ready : goal.submit_spare-requires-clause-ready
@@ -31,4 +32,5 @@ invariant_of-self-in-None c = (
   once-with c.args.peer _ c.self.inside.rows.items c.submit_spare.new.rows.items c.self.invariant.0
       (c.submit_spare.ensures.links (rw (c.deref.ensures.value) at (c.in-None.ensures.none refl))),
   subst IsUnused (sym c.submit_spare.ensures.spare) tt,
+  c.submit_spare.ensures.dues,
 )

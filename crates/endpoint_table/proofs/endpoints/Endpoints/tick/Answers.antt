@@ -7,7 +7,8 @@ use Rattle.endpoint_table.proofs.endpoints.Endpoints.tick.Goals as goal
 pub invariant_of-self : goal.invariant_of-self
 invariant_of-self c = (
   once-turned (link_after c.args.moment (is_among c.args.gone.now)) (λ x. refl)
-      c.self.inside.rows.items c.tick_turns_in.new.rows.items c.self.invariant.0
-      c.tick_turns_in.ensures,
+      c.self.inside.rows.items c.tick_turns.new.rows.items c.self.invariant.0
+      c.tick_turns.ensures.links,
   c.self.invariant.1,
+  c.tick_turns.ensures.dues,
 )

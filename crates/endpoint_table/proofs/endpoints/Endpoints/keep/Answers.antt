@@ -1,0 +1,10 @@
+use Rattle.endpoint_table.proofs.KeptRows.{once-kept}
+use Rattle.endpoint_table.proofs.endpoints.Endpoints.keep.Goals as goal
+
+pub invariant_of-self : goal.invariant_of-self
+invariant_of-self c = (
+  once-kept c.args.moment c.args.keeping c.self.inside.rows.items c.keep_rows.new.rows.items
+      c.self.invariant.0 c.keep_rows.ensures.links,
+  c.self.invariant.1,
+  c.keep_rows.ensures.dues,
+)
