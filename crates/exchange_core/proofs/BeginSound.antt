@@ -39,7 +39,7 @@ issued-below S bytes room gs s =
     let len = entries-length s.kept.kept.reading in
     let same : length (entries s.kept.kept.reading) ≡ length S.entries = ap (λ (xs : List Written). length xs) r.entries_are in
     let left = place-left S bytes room gs s in
-    let begins = r.few in
+    let begins = r.few.0 in
     omega (arith, few, is, len, same, left, begins)
 
 -- there are places for what fits

@@ -2,7 +2,7 @@
 use Rattle.std.proofs.Common.{◌≡◌, ℕ, ◌+◌, suc, List, [], ◌∷◌, ◌++◌, length, map, Option, refl, sym, ap, ◌∙◌, arith, append_assoc, length-append, append-nil}
 use Rattle.std.proofs.lemmas.List.{map-append, length-map}
 use Rattle.uri_map.specs.declared.peer.Peer.{Peer}
-use Rattle.journal_book.specs.Entries.{Deed, Opens, Asks, Sends, Hears, Passes, Answers, Shuts, Seals, Written}
+use Rattle.journal_book.specs.Entries.{Deed, Opens, Asks, Sends, Hears, Passes, Answers, Shuts, Seals, Carries, Written}
 use Rattle.exchange_model.specs.declared.kept.Conn.{Conn}
 use Rattle.exchange_model.specs.State.{State, conns_after}
 use Rattle.exchange_core.specs.Values.{Outgoing, Untaken, written, answered_by, answered_in, sent_by, sent_in}
@@ -60,6 +60,7 @@ alone-sends (Hears p b) xs a = sym (append-nil xs)
 alone-sends Passes xs a = sym (append-nil xs)
 alone-sends (Shuts c) xs a = sym (append-nil xs)
 alone-sends Seals xs a = sym (append-nil xs)
+alone-sends (Carries n mark done) xs a = sym (append-nil xs)
 
 alone-answers : (x : Deed) (n : ℕ) (xs : List Untaken) → IsAlone x → xs ≡ xs ++ answered_by n x
 alone-answers (Sends p b w) n xs a = absurd a
@@ -70,6 +71,7 @@ alone-answers (Hears p b) n xs a = sym (append-nil xs)
 alone-answers Passes n xs a = sym (append-nil xs)
 alone-answers (Shuts c) n xs a = sym (append-nil xs)
 alone-answers Seals n xs a = sym (append-nil xs)
+alone-answers (Carries k mark done) n xs a = sym (append-nil xs)
 
 pub drafts-alone : (t : ℕ) (S : State) (ds : List Deed) (x : Deed) (d : DraftValue) → IsAlone x → Drafts t S ds d
     → Drafts t S (ds ++ x ∷ []) (draft_with (written t x) d)

@@ -7,7 +7,7 @@ use Rattle.coap_codec.specs.Spelling.{Content, Spells}
 use Rattle.uri_map.specs.declared.peer.Peer.{Peer}
 use Rattle.ask_model.specs.Requests.{CoapRequest, Sense, Requests}
 use Rattle.ask_model.specs.declared.cause.Cause.TheVariants as C
-use Rattle.journal_book.specs.Entries.{Grounds, Live, Fault, Deed, Opens, Asks, Sends, Hears, Passes, Answers, Shuts, Seals, Written}
+use Rattle.journal_book.specs.Entries.{Grounds, Live, Fault, Deed, Opens, Asks, Sends, Hears, Passes, Answers, Shuts, Seals, Carries, Written}
 use Rattle.history_laws.specs.Responses.{is_whole, response_of, whole_in}
 use Rattle.reply_reading.specs.Findings.{Found, found_by}
 use Rattle.message_layer.specs.Values.{LinkValue, Told, no_news, response, timed_out, was_reset, was_dropped, LinkState}
@@ -299,6 +299,7 @@ conns-one Passes n cs h = omega arith
 conns-one (Answers c k g) n cs h = let e = (length-map cs (pend c None)) in omega (arith, e)
 conns-one (Shuts c) n cs h = absurd h
 conns-one Seals n cs h = omega arith
+conns-one (Carries k mark done) n cs h = omega arith
 
 pub conns-few : (ds : List Deed) (n : ℕ) (cs : List Conn) → AllByRecursion IsNoConn ds
     → length (conns_from n ds cs) ≤ length cs

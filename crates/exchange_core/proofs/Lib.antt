@@ -29,3 +29,4 @@ mod TickDraft
 mod TickSteps
 mod TickNext
 mod Served
+mod Turning

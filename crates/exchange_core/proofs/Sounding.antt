@@ -7,12 +7,11 @@ use Rattle.std.proofs.Common.{eqb}
 use Rattle.std.proofs.lemmas.List.Sums.{sum_by-append, length-filter, count_by-le-length}
 use Rattle.ask_model.specs.Sizes.{capped}
 use Rattle.journal_book.specs.Entries.{Deed, Opens, Asks, Sends, Hears, Passes, Answers, Shuts, Seals, Written, entry_size}
-use Rattle.history_laws.specs.Readings.{Noted, Note, entries}
-use Rattle.history_laws.specs.Justified.{Follows, Legal}
-use Rattle.history_laws.specs.Connections.{opened_by, opened}
+use Rattle.history_laws.specs.Readings.{Noted, entries}
 use Rattle.history_laws.proofs.CallerLemmas.{entries-length}
 use Rattle.exchange_model.specs.declared.kept.Conn.{Conn}
 use Rattle.exchange_model.specs.State.{State}
+use Rattle.exchange_model.specs.Reads.{opens_once, opens_in}
 use Rattle.exchange_model.specs.Room.{asks_waiting, KeptInRoom}
 use Rattle.exchange_model.specs.Entering.{IsDrained}
 use Rattle.exchange_model.specs.Resting.{HasConn}
@@ -23,7 +22,8 @@ use Rattle.exchange_model.specs.State.{PeerLink}
 use Rattle.exchange_model.specs.Entering.{entered_all}
 use Rattle.exchange_core.specs.Drafts.{DraftValue, Drafts}
 use Rattle.exchange_core.specs.States.{with_draft}
-use Rattle.exchange_model.proofs.CallerLemmas.{fits-parts, opens-in-room, shuts-in-room, start-in-room, within-limits}
+use Rattle.exchange_model.proofs.CallerLemmas.{fits-parts, opens-in-room, rotates-drained, rotates-in-room, shuts-in-room, start-in-room, within-limits}
+use Rattle.exchange_model.specs.Rotating.{fault_of, turned}
 use Rattle.exchange_core.specs.Answering.{Given, IsGiven}
 use Rattle.exchange_core.specs.Sound.{SoundState}
 use Rattle.exchange_core.proofs.Stepping.{given-stay, given-join, entered-entries}
@@ -60,25 +60,26 @@ pub place-left : (S : State) (bytes room : ℕ) (gs : List Given) → SoundState
 place-left S bytes room gs s = (within-limits S s.kept).0
 
 -- as many connections were opened as there are entries, at most
-opened-once : (l : List Noted) (t : ℕ) (d : Deed) (note : Note) → Follows l t d note → opened_by d (opened l) ≤ opened l + 1
-opened-once l t (Opens c) note may = let here = may.1 in omega (arith, here)
-opened-once l t d note may = omega arith
+opened-once : (d : Deed) (old : ℕ) → opens_once d old ≤ old + 1
+opened-once (Opens c) old = omega arith
+opened-once d old = omega arith
 
-opened-few : (l : List Noted) → Legal l → opened l ≤ length l
-opened-few [] legal = omega arith
-opened-few (x ∷ older) legal =
-    let ih = opened-few older legal.0 in
-    let one = opened-once older x.written.moment x.written.deed x.note legal.2 in omega (arith, ih, one)
+opened-few : (l : List Noted) → opens_in l ≤ length l
+opened-few [] = omega arith
+opened-few (x ∷ older) =
+    let ih = opened-few older in
+    let one = opened-once x.written.deed (opens_in older) in omega (arith, ih, one)
 
 pub opened-below : (S : State) (bytes room : ℕ) (gs : List Given) → SoundState S bytes room gs → S.opened < 4294967295
 opened-below S bytes room gs s =
     let r = s.kept.kept.rests.reads in
-    let few = opened-few s.kept.kept.reading r.legal in
-    let is = r.opened_are in
+    let few = opened-few s.kept.kept.reading in
+    let is = r.opens_are in
+    let begins = r.few.1 in
     let len = entries-length s.kept.kept.reading in
     let same : length (entries s.kept.kept.reading) ≡ length S.entries = ap (λ (xs : List Written). length xs) r.entries_are in
     let left = place-left S bytes room gs s in
-    omega (arith, few, is, len, same, left)
+    omega (arith, few, is, begins, len, same, left)
 
 -- one entry more, which is no answer
 one-more : (S S1 : State) (bytes bytes1 room room1 : ℕ) (gs gs1 : List Given) (w : Written)
@@ -173,3 +174,23 @@ room-for t S bytes room gs d s fit =
     let e = (fits-parts (with_draft t d S) fit).0 in
     let len = length-append S.entries d.entries in
     omega (arith, p, e, len)
+
+capped-small : (n : ℕ) → n ≤ 268435456 → capped n ≡ n
+capped-small n small = omega (arith, small)
+
+-- the copies of a journal that is given out
+pub sound-turned : (t : ℕ) (S S1 : State) (bytes bytes1 room room1 : ℕ) (gs gs1 : List Given)
+    → SoundState S bytes room gs → S.moment ≤ t → t ≤ 2 ^ 62 → fault_of t S ≡ None → S1 ≡ turned t S
+    → bytes1 ≡ capped (sum_by entry_size S1.entries) → 65536 ≤ room1 + length S1.entries → gs1 ≡ []
+    → SoundState S1 bytes1 room1 gs1
+sound-turned t S S1 bytes bytes1 room room1 gs gs1 s later early fit is count places none =
+    let kept : KeptInRoom S1 = subst KeptInRoom (sym is) (rotates-in-room t S s.kept later fit) in
+    record {
+      kept = kept;
+      drained = subst IsDrained (sym is) (rotates-drained t S s.drained);
+      early = let m = ap (λ (U : State). U.moment) is in omega (arith, m, early);
+      few = let cs = ap (λ (U : State). length U.conns) is in omega (arith, cs);
+      count = count ∙ (let small = (within-limits S1 kept).1 in capped-small (sum_by entry_size S1.entries) small);
+      places = places;
+      given = subst (AllByRecursion (IsGiven S1.entries)) (sym none) tt;
+    }

@@ -3,8 +3,9 @@ use Rattle.std.proofs.Common.{◌≡◌, ℕ, ◌+◌, ◌≤◌, suc, Bool, tru
 use Rattle.std.specs.Prelude.{fold}
 use Rattle.std.specs.List.{list_any}
 use Rattle.std.proofs.lemmas.List.Sums.{count_by-le-length}
-use Rattle.journal_book.specs.Entries.{Deed, Opens, Asks, Sends, Hears, Passes, Answers, Shuts, Seals}
-use Rattle.history_laws.specs.Readings.{Noted, Note, Plain, Begins, Joins, Serves, First, Copies, Confirms, Says, Repeats, Garbled, entries}
+use Rattle.journal_book.specs.Entries.{Deed, Sends, Passes, Answers, Carries}
+use Rattle.journal_book.specs.Entries as D
+use Rattle.history_laws.specs.Readings.{Noted, Note, First, Bygone, entries}
 use Rattle.history_laws.specs.Transmissions.{firsts, firsts_by}
 use Rattle.history_laws.specs.Sealing.{outstanding_count}
 use Rattle.history_laws.proofs.CallerLemmas.{entries-length}
@@ -27,23 +28,12 @@ few-firsts (x ∷ older) = by x.written.deed x.note (few-firsts older)
     by : (d : Deed) (n : Note) → length (firsts older) ≤ length older
         → length (firsts_by (length older) x.written.moment d n (firsts older))
         ≤ suc (length older)
-    by (Opens c) n ih = omega (arith, ih)
-    by (Asks c a) n ih = omega (arith, ih)
-    by (Sends p b w) Plain ih = omega (arith, ih)
-    by (Sends p b w) (Begins q) ih = omega (arith, ih)
-    by (Sends p b w) (Joins o) ih = omega (arith, ih)
-    by (Sends p b w) (Serves js) ih = omega (arith, ih)
     by (Sends p b w) (First o m) ih = omega (arith, ih)
-    by (Sends p b w) (Copies k) ih = omega (arith, ih)
-    by (Sends p b w) Confirms ih = omega (arith, ih)
-    by (Sends p b w) (Says m to k) ih = omega (arith, ih)
-    by (Sends p b w) (Repeats m k) ih = omega (arith, ih)
-    by (Sends p b w) Garbled ih = omega (arith, ih)
-    by (Hears p d) n ih = omega (arith, ih)
-    by Passes n ih = omega (arith, ih)
-    by (Answers c k g) n ih = omega (arith, ih)
-    by (Shuts c) n ih = omega (arith, ih)
-    by Seals n ih = omega (arith, ih)
+    by (Sends p b w) n ih = omega (arith, ih)
+    by (Carries k mark (D.Sent p b w)) (Bygone m) ih = omega (arith, ih)
+    by (Carries k mark (D.Sent p b w)) n ih = omega (arith, ih)
+    by (Carries k mark done) n ih = omega (arith, ih)
+    by d n ih = omega (arith, ih)
 
 -- answers take no entry away
 one-longer : (t : ℕ) (e : Exchange) (S : State)

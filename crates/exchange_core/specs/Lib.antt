@@ -13,6 +13,7 @@ pub mod Leads
 pub mod Passing
 pub mod Places
 pub mod Room
+pub mod Rotating
 pub mod Snapshots
 pub mod Sound
 pub mod States

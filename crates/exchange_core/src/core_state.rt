@@ -1,8 +1,10 @@
 //! The core.
 
-ghost use Rattle.std.specs.Prelude.{◌≡◌, ◌≤◌, ◌^◌, ◌↔◌, [], None, Err, IfOk, OnOk, OnErr, IsTrue, IsFalse, option_map, min, map};
+ghost use Rattle.std.specs.Prelude.{◌≡◌, ◌≤◌, ◌^◌, ◌↔◌, [], None, Err, IfErr, IfOk, IfSome, OnOk, OnErr, IsTrue, IsFalse, option_map, min, map, sum_by};
 ghost use Rattle.std.specs.Arc.{arc_value};
+ghost use Rattle.journal_book.specs.Entries.{entry_size};
 ghost use Rattle.journal_book.specs.Views.{ask_of};
+ghost use Rattle.exchange_model.specs.Rotating.{fault_of};
 ghost use Rattle.exchange_model.specs.Sealing.{hears_in_room, ticks_in_room};
 ghost use Rattle.std.specs.List.{reduce};
 ghost use Rattle.history_laws.specs.Justified.{Stands};
@@ -16,14 +18,15 @@ ghost use Rattle.exchange_core.specs.Due.{next_tick, IsNextTick};
 ghost use Rattle.exchange_core.specs.Snapshots.{Grows, IsOf, MayRestore};
 ghost use Rattle.exchange_core.specs.Values.{CoreValue, outgoing_of, stepped};
 ghost use Rattle.exchange_core.specs.States.{core_of, number_in};
+ghost use Rattle.exchange_core.specs.Rotating.{IsRefused, IsTurned};
 ghost use Rattle.exchange_core.specs.Taking.{IsTaken, IsSent};
 
 use crate::answer::{Answer, Ticket};
-use crate::fault::{AskFault, OpenFault};
+use crate::fault::{AskFault, OpenFault, RotateFault};
 use crate::outgoing::Datagram;
 use crate::snapshot::Snapshot;
 use crate::state::State;
-use crate::{asking, due, hearing, opening, serving, snapshot, taking, ticking};
+use crate::{asking, due, hearing, opening, rotating, serving, snapshot, taking, ticking};
 use ask_model::Mapped;
 use endpoint_table::Endpoints;
 use exchange_table::Exchanges;
@@ -191,6 +194,39 @@ impl<R: Relation> Core<R> {
     {
         let moment = self.now(moment);
         ticking::tick(self.alloc, &mut self.state, moment)
+    }
+
+    /// Gives the sealed journal out at this moment, where nobody is connected and no exchange is open,
+    /// and goes on with one that begins with copies: of the first sendings whose message IDs are in use
+    /// (RFC 7252 section 4.4), and of the messages that may still be repeated (section 4.5). Numbers of
+    /// tokens and connections go on.
+    pub fn rotate(&mut self, moment: u64) -> Result<Journal<R>, RotateFault>
+        ensures turned { IfOk result (λ given.
+            IsTurned (now self.old.state.moment moment) given.entries self.old self.new) }
+        ensures stands { IfOk result (λ given. Stands given.entries) }
+        ensures refused { IfErr result (λ fault. (self.new ≡ self.old)
+            × IsRefused (now self.old.state.moment moment) self.old.state fault) }
+    {
+        let moment = self.now(moment);
+        rotating::rotate(self.alloc, &mut self.state, moment)
+    }
+
+    /// The first reason against a turn of the journal at this moment, want of memory included.
+    pub fn turn_fault(&self, moment: u64) -> Option<RotateFault>
+        ensures refused { IfSome result (λ fault.
+            IsRefused (now self.now.state.moment moment) self.now.state fault) }
+        ensures none { result ≡ None
+            → fault_of (now self.now.state.moment moment) self.now.state ≡ None }
+    {
+        let moment = self.now(moment);
+        rotating::turn_fault(self.alloc, &self.state, moment)
+    }
+
+    /// How many bytes the entries of the journal count.
+    pub fn bytes(&self) -> u64
+        ensures { result ≡ sum_by entry_size self.now.state.entries }
+    {
+        self.state.bytes
     }
 
     /// The moment of the next tick that has something to do, if any has: none before it changes the

@@ -99,3 +99,48 @@ impl From<AllocError> for AskFault {
         AskFault::Memory
     }
 }
+
+/// Why a journal isn't turned over.
+#[derive(Clone, Copy, Debug, PartialEq, Eq)]
+pub enum RotateFault {
+    /// The journal takes entries yet.
+    Unsealed = 1,
+    /// A connection is open.
+    Connected = 2,
+    /// An exchange is open, or a message outstanding.
+    Exchanging = 3,
+    /// Too few numbers of tokens or connections are left.
+    Spent = 4,
+    /// What is to be copied is more than half of a journal.
+    Crowded = 5,
+    /// Memory ran out.
+    Memory = 6,
+}
+
+impl Display for RotateFault {
+    ghost use Rattle.std.specs.Prelude.{Some};
+    ghost use Rattle.exchange_core.specs.Faults.{rotating_text};
+
+    ghost output = { λ fault. Some (rotating_text fault) };
+
+    fn fmt<W: Write>(&self, f: &mut Formatter<W>) -> Result<(), fmt::Error> {
+        f.write_str(match self {
+            RotateFault::Unsealed => "the journal isn't sealed",
+            RotateFault::Connected => "a connection is open",
+            RotateFault::Exchanging => "an exchange is open",
+            RotateFault::Spent => "too few numbers are left",
+            RotateFault::Crowded => "too much is to be copied",
+            RotateFault::Memory => "out of memory",
+        })
+    }
+}
+
+impl From<AllocError> for RotateFault {
+    ghost use Rattle.exchange_core.specs.declared.fault.RotateFault.TheVariants.{Memory};
+
+    ghost from_gives = { λ _ e. e ≡ Memory };
+
+    fn from(_e: AllocError) -> RotateFault {
+        RotateFault::Memory
+    }
+}

@@ -25,6 +25,7 @@ mod places;
 mod refusing;
 mod requests;
 mod room;
+mod rotating;
 mod sealing;
 mod sending;
 mod serving;
@@ -37,7 +38,7 @@ mod turns;
 
 pub use answer::{Answer, Ticket};
 pub use core_state::Core;
-pub use fault::{AskFault, OpenFault};
+pub use fault::{AskFault, OpenFault, RotateFault};
 pub use outgoing::Datagram;
 pub use reply_reading::{Finding, Outcome, Response};
 pub use snapshot::Snapshot;

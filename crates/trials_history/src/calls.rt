@@ -2,7 +2,7 @@
 
 use crate::sample::{Nothing, light, server, shared, too_large};
 use ask_model::{Cause, Mapped};
-use exchange_core::{Answer, AskFault, Core, OpenFault, Outcome, Ticket};
+use exchange_core::{Answer, AskFault, Core, OpenFault, Outcome, RotateFault, Ticket};
 use journal_book::Event;
 use std::alloc::Global;
 use std::sync::Arc;
@@ -66,6 +66,21 @@ pub fn tick(core: &mut Core<Nothing>, moment: u64) -> bool {
 }
 
 /// When the core has to be given a tick.
+/// Turns the journal over, and tells how many entries the one that is given out has.
+pub fn rotate(core: &mut Core<Nothing>, moment: u64) -> Result<usize, RotateFault> {
+    let given = core.rotate(moment)?;
+    Ok(given.len())
+}
+
+/// Whether the entry with this number is a copy, and of which number.
+pub fn copy_of(core: &Core<Nothing>, number: usize) -> Option<u32> {
+    let entry = core.journal().get(number)?;
+    match &entry.event {
+        Event::Carried { number, .. } => Some(*number),
+        _ => None,
+    }
+}
+
 pub fn next_due(core: &Core<Nothing>) -> Option<u64> {
     core.next_due()
 }

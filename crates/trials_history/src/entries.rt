@@ -3,7 +3,7 @@
 use crate::sample::{Nothing, server};
 use ask_model::Cause;
 use coap_codec::Bytes;
-use journal_book::{Entry, Event, Grounds, Journal, Numbers};
+use journal_book::{Entry, Event, Grounds, Journal, Mark, Numbers};
 use std::alloc::{AllocError, Global};
 use std::sync::Arc;
 
@@ -79,6 +79,44 @@ fn has_size(journal: &Journal<Nothing>, place: usize, size: u64) -> bool {
     }
 }
 
+/// The copy that the next journal has of the entry at this place, and the copy of that one.
+fn carried_twice(
+    journal: &Journal<Nothing>,
+    place: u32,
+) -> Option<(Entry<Nothing>, Entry<Nothing>)> {
+    let entry = journal.get(place as usize)?;
+    let once = entry.carried(place, Mark::Ground).ok()??;
+    let twice = once.carried(0, Mark::Past).ok()??;
+    Some((once, twice))
+}
+
+/// A copy of the entry with this number, of the moment 7 and of this size.
+fn is_copy(entry: &Entry<Nothing>, of: u32, size: u64) -> bool {
+    match &entry.event {
+        Event::Carried { number, .. } => {
+            *number == of && entry.moment == 7 && entry.size() == size
+        }
+        _ => false,
+    }
+}
+
+/// The entry at this place is carried into the next journal, and from there into the one after it.
+fn is_carried(journal: &Journal<Nothing>, place: u32, size: u64) -> bool {
+    match carried_twice(journal, place) {
+        Some((once, twice)) => is_copy(&once, place, size) && is_copy(&twice, 0, size),
+        None => false,
+    }
+}
+
+/// Of the five entries the sending and the datagram that was heard are carried.
+fn are_carried(journal: &Journal<Nothing>) -> bool {
+    carried_twice(journal, 0).is_none()
+        && is_carried(journal, 1, 66)
+        && is_carried(journal, 2, 65)
+        && carried_twice(journal, 3).is_none()
+        && carried_twice(journal, 4).is_none()
+}
+
 /// So many entries are left.
 fn cuts(journal: &mut Journal<Nothing>, len: usize) -> bool {
     journal.cut(len);
@@ -119,4 +157,10 @@ fn entries_are_counted_copied_and_cut(rt: HostRuntime) {
     let mut journal = small_journal(rt.alloc()).expect(&rt, "memory");
     let copy = copied(&journal).expect(&rt, "memory");
     assert!(rt; is_cut(&mut journal, &copy));
+}
+
+#[test]
+fn entries_are_carried(rt: HostRuntime) {
+    let journal = small_journal(rt.alloc()).expect(&rt, "memory");
+    assert!(rt; are_carried(&journal));
 }

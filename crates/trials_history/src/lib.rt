@@ -20,3 +20,5 @@ mod findings;
 mod rooms;
 #[cfg(test)]
 mod sample;
+#[cfg(test)]
+mod turns;

@@ -1,0 +1,15 @@
+use Rattle.std.proofs.Common.{List, ap, sym, ◌∙◌}
+use Rattle.journal_book.specs.Entries.{JournalValue, Written}
+use Rattle.journal_copies.specs.Copying.{peers_in}
+use Rattle.exchange_core.specs.States.{state_of}
+use Rattle.exchange_core.proofs.Turning.{links-kept, state-turned}
+use Rattle.exchange_core.proofs.rotating.turn.Goals as goal
+
+pub returns-clause-state : goal.returns-clause-state
+returns-clause-state g c =
+    let ws : List Written = c.replace.new.dest.entries in
+    let after = c.replace.ensures.after in
+    state-turned c.args.moment (state_of c.args.s.now) ws c.clear.new.self.items c.new.result.exchanges c.keep.new.self.links
+    (ap (λ (j : JournalValue). j.entries) after ∙ c.requires.copied) c.clear.ensures.items c.new.ensures
+    (links-kept c.args.moment c.args.next.peers.items ws c.args.s.now.endpoints.links c.keep.new.self.links c.args.keeping
+    (c.requires.counted.peers ∙ ap (λ (j : JournalValue). peers_in j.entries) (sym after)) c.requires.keeping c.keep.ensures)

@@ -1,0 +1,3 @@
+mod Copied
+mod Known
+pub mod CallerLemmas

@@ -1,0 +1,4 @@
+pub mod Copying
+pub mod Equal
+pub mod Knowing
+pub mod Sources
