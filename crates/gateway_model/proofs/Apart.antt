@@ -5,7 +5,7 @@ use Rattle.std.proofs.lemmas.Option.{slice_get_within}
 use Rattle.std.proofs.Math.Seq.{drop-append_seam}
 use Rattle.std.proofs.lemmas.Bool.Decides.{eqb_tells}
 use Rattle.std.proofs.lemmas.Bool.{or_right}
-use Rattle.journal_book.specs.Entries.{Grounds, Deed, Opens, Asks, Sends, Hears, Passes, Answers, Shuts, Seals, Written}
+use Rattle.journal_book.specs.Entries.{Grounds, Deed, Opens, Asks, Sends, Hears, Passes, Answers, Shuts, Seals, Carries, Written}
 use Rattle.history_laws.specs.Readings.{Noted, Note, entries, at, before}
 use Rattle.history_laws.specs.Connections.{is_open, open_by}
 use Rattle.history_laws.specs.Justified.{Follows, Legal, Stands, pending}
@@ -68,6 +68,7 @@ module _ (h : List Written) (stands : Stands h) where
   other-at i s c k g n t Passes here lt none there = tt
   other-at i s c k g n t (Shuts d) here lt none there = tt
   other-at i s c k g n t Seals here lt none there = tt
+  other-at i s c k g n t (Carries number mark done) here lt none there = tt
 
   others-in : (i s c k : ℕ) (g : Grounds) (front ws rest : List Written) → IsEntry h i s (Answers c k g)
       → h ≡ front ++ (ws ++ rest) → i < length front → IsNone h (suc i) (length front + length ws)
@@ -125,6 +126,7 @@ module _ (h : List Written) (stands : Stands h) where
       go Passes e = later
       go (Shuts c) e = later
       go Seals e = later
+      go (Carries number mark done) e = later
 
   -- Entries without an ask among them answer each connection at most once.
   apart-in : (old more rest : List Written) → h ≡ old ++ (more ++ rest) → HasNoClient more
@@ -153,6 +155,7 @@ open-still c (Hears p b) old not e = e
 open-still c Passes old not e = e
 open-still c (Answers d k g) old not e = e
 open-still c Seals old not e = e
+open-still c (Carries number mark done) old not e = e
 
 open-after : (l : List Noted) (n c k : ℕ) (g : Grounds) (t : ℕ) (note : Note)
     → at l n ≡ Some (record { written = written t (Answers c k g); note = note }) → is_open (before l n) c ≡ true
@@ -235,6 +238,7 @@ module _ (S : State) (kept : Kept S) where
       here Passes e = tt
       here (Shuts c) e = tt
       here Seals e = tt
+      here (Carries number mark done) e = tt
 
 -- After a step of a datagram or a tick the answers that wait are of different connections, which are open.
 pub served-after : (t : ℕ) (old new : CoreValue) (S : State) → old.untaken ≡ [] → new ≡ stepped S old

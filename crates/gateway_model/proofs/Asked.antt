@@ -7,7 +7,7 @@ use Rattle.history_laws.proofs.CallerLemmas.{none-some, some-is}
 use Rattle.http_edge.specs.Reading.{ReadsFirst, Item, AllOpen, closes}
 use Rattle.http_edge.proofs.Readings.{first_on}
 use Rattle.ask_model.specs.Views.{Ask}
-use Rattle.journal_book.specs.Entries.{Deed, Opens, Asks, Sends, Hears, Passes, Answers, Shuts, Seals, Written}
+use Rattle.journal_book.specs.Entries.{Deed, Opens, Asks, Sends, Hears, Passes, Answers, Shuts, Seals, Carries, Written}
 use Rattle.gateway_model.specs.Acts.{Served}
 use Rattle.gateway_model.specs.Asking.{closes_last, asked_by, asked_on, IsLeft, IsOver, AreAsked, AsksFirst}
 use Rattle.gateway_model.specs.Unasked.{Unasked, unasked_at, no_bytes, without, changed_at}
@@ -138,6 +138,7 @@ asked-by-inner c Passes h = refl
 asked-by-inner c (Answers k j g) h = refl
 asked-by-inner c (Shuts k) h = refl
 asked-by-inner c Seals h = refl
+asked-by-inner c (Carries number mark done) h = refl
 
 pub asked-inner : (c : ℕ) (ws : List Written) → AreInner ws → asked_on c ws ≡ []
 asked-inner c [] h = refl

@@ -7,7 +7,7 @@ use Rattle.std.proofs.lemmas.List.{append-nil, append_assoc}
 use Rattle.std.proofs.lemmas.Bool.{both_ways}
 use Rattle.history_laws.proofs.CallerLemmas.{got-last, got-more, none-some, some-is}
 use Rattle.ask_model.specs.Views.{Ask}
-use Rattle.journal_book.specs.Entries.{Deed, Opens, Asks, Sends, Hears, Passes, Answers, Shuts, Seals, Written}
+use Rattle.journal_book.specs.Entries.{Deed, Opens, Asks, Sends, Hears, Passes, Answers, Shuts, Seals, Carries, Written}
 use Rattle.history_claims.specs.Headline.{IsEntry}
 use Rattle.exchange_model.specs.declared.kept.Conn.{Conn}
 use Rattle.exchange_model.specs.State.{State, pend, conns_after}
@@ -85,6 +85,8 @@ own-after h cs t (Shuts x) own c k has =
     let o = own c k (was-open x c (Some k) cs has) in (o.0, o.1, entry-more h _ k o.0 (Asks c o.1) o.2)
 own-after h cs t Seals own c k has =
     let o = own c k has in (o.0, o.1, entry-more h _ k o.0 (Asks c o.1) o.2)
+own-after h cs t (Carries number mark done) own c k has =
+    let o = own c k has in (o.0, o.1, entry-more h _ k o.0 (Asks c o.1) o.2)
 
 pub own-with : (h : List Written) (cs : List Conn) (ws : List Written) → AskTheirOwn h cs
     → AskTheirOwn (h ++ ws) (conns_with cs (length h) ws)
@@ -116,6 +118,7 @@ inner-ids cs n Passes h = refl
 inner-ids cs n (Answers c k g) h = pend-ids c None cs
 inner-ids cs n (Shuts c) h = absurd cc
 inner-ids cs n Seals h = refl
+inner-ids cs n (Carries number mark done) h = refl
 
 -- the connection is this one, or another
 pub which : (c d : ℕ) → (c ≡ d) ⊎ (c ≢ d)
@@ -141,6 +144,7 @@ due-after d k n cs (Answers c j g) o i a h = by (which d c)
     by (inr ne) = inl (others-wait c d None (Some k) cs ne h)
 due-after d k n cs (Shuts c) o i a h = absurd cc
 due-after d k n cs Seals o i a h = inl h
+due-after d k n cs (Carries number mark done) o i a h = inl h
 
 pub due-with : (d k n : ℕ) (cs : List Conn) (ws : List Written) → StandOnce (map conn_id cs) → AreInner ws → AreAwaited cs n ws
     → HasConn cs d (Some k) → HasConn (conns_with cs n ws) d (Some k) ⊎ IsToTell (answered_in n ws) d k

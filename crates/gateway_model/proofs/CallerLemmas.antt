@@ -9,7 +9,8 @@ pub use Rattle.gateway_model.proofs.Moving.{denied-is}
 pub use Rattle.gateway_model.proofs.Numbers.{numbered-all}
 pub use Rattle.gateway_model.proofs.Opened.{asked-open, conn-open, denied-open, keeps-for, keeps-out, keeps-then, KeepsOpen}
 pub use Rattle.gateway_model.proofs.Order.{all-append, all-as, delivers-on, for-on, no-turns, out-on, sends-for-on, sends-on, told-for, turns-on}
-pub use Rattle.gateway_model.proofs.Pacing.{Paced, paced-all, paced-none, paced-then}
+pub use Rattle.gateway_model.proofs.Pacing.{Paced, paced-all, paced-none, paced-silent, paced-then}
 pub use Rattle.gateway_model.proofs.Rested.{input-rests}
+pub use Rattle.gateway_model.proofs.Rotated.{AreCopies, AreNoJournals, IsNoJournal, Rotation, answers-after, begins-copied, copies-ask, copies-mean, give-none, nobody-there, refused-so, rotation-is, sends-after}
 pub use Rattle.gateway_model.proofs.Shown.{all-send-just, all-tell, did-send, paced-tell}
-pub use Rattle.gateway_model.proofs.Shutting.{input-closes}
+pub use Rattle.gateway_model.proofs.Shutting.{input-closes, input-silent}

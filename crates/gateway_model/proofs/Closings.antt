@@ -4,7 +4,7 @@ use Rattle.std.specs.Prelude.{⊤}
 use Rattle.std.specs.List.{AllByRecursion, Contains}
 use Rattle.std.proofs.lemmas.List.{append-nil, append_cancel_left}
 use Rattle.ask_model.specs.Views.{Ask}
-use Rattle.journal_book.specs.Entries.{Deed, Opens as Opened, Asks as Asked, Sends as Sent, Hears as Heard, Passes as Passed, Answers, Shuts, Seals, Written}
+use Rattle.journal_book.specs.Entries.{Deed, Opens as Opened, Asks as Asked, Sends as Sent, Hears as Heard, Passes as Passed, Answers, Shuts, Seals, Carries, Written}
 use Rattle.http_mapping.specs.Means.{closes}
 use Rattle.history_claims.specs.Headline.{IsEntry}
 use Rattle.exchange_model.specs.declared.kept.Conn.{Conn}
@@ -120,6 +120,7 @@ inner-deed Passed h = refl
 inner-deed (Answers c k g) h = refl
 inner-deed (Shuts c) h = absurd cc
 inner-deed Seals h = refl
+inner-deed (Carries number mark done) h = refl
 
 inner-shuts : (ws : List Written) → AreInner ws → shut_in ws ≡ []
 inner-shuts [] h = refl

@@ -1,13 +1,13 @@
 -- Connections are numbered in the order in which they are opened: what entries tell of that.
-use Rattle.std.proofs.Common.{◌≡◌, ◌⊎◌, inl, inr, ℕ, ◌+◌, ◌<◌, Bool, true, false, cond, not, List, [], ◌∷◌, ◌++◌, map, Option, Some, None, refl, sym, ap, ◌∙◌, subst, arith, eq-eqb}
+use Rattle.std.proofs.Common.{◌≡◌, ◌⊎◌, inl, inr, ℕ, ◌+◌, ◌<◌, ◌≤◌, Bool, true, false, cond, not, List, [], ◌∷◌, ◌++◌, map, Option, Some, None, refl, sym, ap, ◌∙◌, subst, arith, eq-eqb}
 use Rattle.std.specs.Prelude.{◌==◌, ⊤}
 use Rattle.std.specs.List.{filter}
 use Rattle.std.proofs.lemmas.Grind.{flat_map-append}
 use Rattle.std.proofs.lemmas.Bool.{both_ways}
-use Rattle.journal_book.specs.Entries.{Deed, Opens, Asks, Sends, Hears, Passes, Answers, Shuts, Seals, Written}
+use Rattle.journal_book.specs.Entries.{Deed, Opens, Asks, Sends, Hears, Passes, Answers, Shuts, Seals, Carries, Written}
 use Rattle.history_laws.specs.Readings.{Noted, Note, entries}
-use Rattle.history_laws.specs.Connections.{opened_by, opened}
-use Rattle.history_laws.specs.Justified.{Follows, Legal, Stands}
+use Rattle.history_laws.specs.Connections.{opened_by, opened, has_opened}
+use Rattle.history_laws.specs.Justified.{Follows, IsNextConn, Legal, Stands}
 use Rattle.history_laws.proofs.CallerLemmas.{open-below}
 use Rattle.exchange_model.specs.declared.kept.Conn.{Conn}
 use Rattle.exchange_model.specs.State.{pend, conns_after}
@@ -26,7 +26,7 @@ count-both n [] ys = refl
 count-both n (x ∷ xs) ys = count-both (opened_by x.deed n) xs ys
 
 abbrev pub IsCounted : ℕ → Deed → Type 0
-IsCounted n (Opens c) = c ≡ n
+IsCounted n (Opens c) = n ≤ c
 IsCounted n (Asks c a) = c < n
 IsCounted n (Shuts c) = c < n
 IsCounted n _ = ⊤
@@ -44,6 +44,7 @@ more-by c n Passes is lt = lt
 more-by c n (Answers x k g) is lt = lt
 more-by c n (Shuts x) is lt = lt
 more-by c n Seals is lt = lt
+more-by c n (Carries number mark done) is lt = lt
 
 pub count-more : (c n : ℕ) (ws : List Written) → AreCounted n ws → c < n → c < count n ws
 count-more c n [] all lt = lt
@@ -66,9 +67,13 @@ count-is [] = refl
 count-is (x ∷ older) =
     count-both 0 (entries older) (x.written ∷ []) ∙ ap (opened_by x.written.deed) (count-is older)
 
+next-least : (b : Bool) (n c : ℕ) → IsNextConn b n c → n ≤ c
+next-least true n c e = omega (arith, e)
+next-least false n c le = le
+
 counted-one : (older : List Noted) (t : ℕ) (d : Deed) (note : Note) → Legal older → Follows older t d note
     → IsCounted (opened older) d
-counted-one older t (Opens c) note legal may = may.1
+counted-one older t (Opens c) note legal may = next-least (has_opened older) (opened older) c may.1
 counted-one older t (Asks c a) note legal may = open-below older legal c may.1
 counted-one older t (Shuts c) note legal may = open-below older legal c may.1
 counted-one older t (Sends p b w) note legal may = tt
@@ -76,6 +81,7 @@ counted-one older t (Hears p b) note legal may = tt
 counted-one older t Passes note legal may = tt
 counted-one older t (Answers c k g) note legal may = tt
 counted-one older t Seals note legal may = tt
+counted-one older t (Carries number mark done) note legal may = tt
 
 legal-counted : (l : List Noted) → Legal l → AreCounted 0 (entries l)
 legal-counted [] legal = tt
@@ -140,6 +146,7 @@ none-after c n k (Answers x j g) cs is lt e none has = by (waited-before x c Non
     by (inr q) = none q
 none-after c n k (Shuts x) cs is lt e none has = none (was-open x c None cs has)
 none-after c n k Seals cs is lt e none has = none has
+none-after c n k (Carries number mark done) cs is lt e none has = none has
 
 -- It stays so until the answer, as none of this number is opened again.
 pub none-with : (c n k : ℕ) (ws : List Written) (cs : List Conn) → AreCounted n ws → c < n → nums c (answered_in k ws) ≡ []
@@ -194,6 +201,7 @@ enough-below c n (Hears p b) is e = absurd e
 enough-below c n Passes is e = absurd e
 enough-below c n (Answers x k g) is e = absurd e
 enough-below c n Seals is e = absurd e
+enough-below c n (Carries number mark done) is e = absurd e
 
 enough-none : (c k : ℕ) (d : Deed) (cs : List Conn) → IsEnough c d → NoneIdle c (conns_after cs k d)
 enough-none c k (Asks x a) cs e has = asked-none c k cs (subst (λ (i : ℕ). HasConn (map (pend i (Some k)) cs) c None) e has)
@@ -205,6 +213,7 @@ enough-none c k (Hears p b) cs e has = e
 enough-none c k Passes cs e has = e
 enough-none c k (Answers x j g) cs e has = e
 enough-none c k Seals cs e has = e
+enough-none c k (Carries number mark done) cs e has = e
 
 pub enough-with : (c n k : ℕ) (ws : List Written) (cs : List Conn) → AreCounted n ws → nums c (answered_in k ws) ≡ []
     → HasEnough c ws → (c < count n ws) × NoneIdle c (conns_with cs k ws)

@@ -5,7 +5,7 @@ use Rattle.std.proofs.lemmas.List.{append_cancel_left}
 use Rattle.http_mapping.specs.Means.{closes}
 use Rattle.http_edge.specs.Answers.{answer_text}
 use Rattle.ask_model.specs.Views.{Ask}
-use Rattle.journal_book.specs.Entries.{Grounds, Deed, Opens as Opened, Asks as Asked, Sends as Sent, Hears as Heard, Passes as Passed, Answers, Shuts, Seals, Written}
+use Rattle.journal_book.specs.Entries.{Grounds, Deed, Opens as Opened, Asks as Asked, Sends as Sent, Hears as Heard, Passes as Passed, Answers, Shuts, Seals, Carries, Written}
 use Rattle.history_laws.specs.Justified.{Stands}
 use Rattle.history_claims.specs.Headline.{IsEntry}
 use Rattle.history_claims.proofs.CallerLemmas.{answer-once}
@@ -87,6 +87,7 @@ meant-deed M Passed e = tt
 meant-deed M (Answers c k g) e = tt
 meant-deed M (Shuts c) e = tt
 meant-deed M Seals e = tt
+meant-deed M (Carries number mark done) e = tt
 
 meant-none : (M : Terms) (ws : List Written) → HasNoClient ws → AreMeant M ws
 meant-none M [] h = tt
@@ -111,6 +112,7 @@ ask-meant M k c a Passed m h = tt
 ask-meant M k c a (Answers x j g) m h = tt
 ask-meant M k c a (Shuts x) m h = tt
 ask-meant M k c a Seals m h = tt
+ask-meant M k c a (Carries number mark done) m h = tt
 
 asks-meant : (M : Terms) (k c : ℕ) (a : Ask) (ws : List Written) → M.IsMeaning a
     → AllByRecursion (λ (w : Written). IsOfAsk k c a w.deed) ws → AreMeant M ws
@@ -148,6 +150,7 @@ module _ (h : List Written) (stands : Stands h) (k c : ℕ) (a : Ask) where
       none Passed f o = refl
       none (Shuts x) f o = refl
       none Seals f o = refl
+      none (Carries number mark done) f o = refl
 
   own-with : (front : List Written) (w : Written) (ws rest : List Written) → h ≡ front ++ (w ∷ ws ++ rest)
       → AllByRecursion (λ (w : Written). IsOfAsk k c a w.deed) (w ∷ ws)
@@ -185,6 +188,7 @@ module _ (h : List Written) (stands : Stands h) (k c : ℕ) (a : Ask) where
       go Passed e o = later
       go (Shuts x) e o = later
       go Seals e o = later
+      go (Carries number mark done) e o = later
 
   own-apart : (front ws rest : List Written) → h ≡ front ++ (ws ++ rest) → AllByRecursion (λ (w : Written). IsOfAsk k c a w.deed) ws
       → AreApart (answered_in (length front) ws)
@@ -208,6 +212,7 @@ module _ (h : List Written) (stands : Stands h) (k c : ℕ) (a : Ask) where
       one Passed o = tt
       one (Shuts x) o = tt
       one Seals o = tt
+      one (Carries number mark done) o = tt
 
 -- answers of other connections, and then those of one
 apart-both : (c : ℕ) (us vs : List Untaken) → AllByRecursion (λ (u : Untaken). u.conn ≢ c) us → AllByRecursion (λ (v : Untaken). v.conn ≡ c) vs

@@ -225,6 +225,7 @@ input-shows M w (H.Close c) acts old out new h o kept = by o
         (goes-all M w acts old out new (subst AreOther (sym one) (tt, tt)) h)
     by (inr one) = shows-none old.core.state new.core.state
         (goes-all M w acts old out new (subst AreOther (sym one) (tt, tt)) h)
+input-shows M w H.Rotate acts old out new h o kept = absurd o
 
 -- Where a tick does nothing, nothing else is done.
 

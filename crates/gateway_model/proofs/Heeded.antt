@@ -138,6 +138,7 @@ input-asks M w (H.Close d) acts old out new h o = by o
     by (inr one) =
         all-heed M.IsMeaning (H.Close d) old new
         (λ c. all-effect M w c acts old out new (subst ArePlain (sym one) (tt, tt)) h)
+input-asks M w H.Rotate acts old out new h o = absurd o
 
 -- how many connections have opened, after an input
 
@@ -205,6 +206,7 @@ module _ (M : Terms) (w : When) where
       by : (acts ≡ Leaves d ∷ []) ⊎ (acts ≡ Misses d ∷ []) → new.core.state.opened ≡ old.core.state.opened
       by (inl one) = plain-counted acts old out new h (subst ArePlain (sym one) (tt, tt))
       by (inr one) = plain-counted acts old out new h (subst ArePlain (sym one) (tt, tt))
+  input-counts H.Rotate acts old out new h o = absurd o
 
 pub inputs-ask : (holds : Form → Form → List ℕ → List ℕ → Type 0) (takes : Form → Form → List ℕ → Type 0) → InputsAsk holds takes
 inputs-ask holds takes rules w x acts old out new h o = input-asks (terms_of holds takes rules) w x acts old out new h o

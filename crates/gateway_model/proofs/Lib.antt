@@ -21,6 +21,7 @@ mod Recounting
 mod Opened
 mod Order
 mod Rested
+mod Rotated
 mod Serving
 mod Shown
 mod Shutting

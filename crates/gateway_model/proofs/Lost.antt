@@ -1,13 +1,14 @@
 -- Why a datagram was dropped, of the entries.
 use Rattle.std.proofs.Common.{◌≡◌, ◌⊎◌, inl, inr, ℕ, ◌+◌, ◌≤◌, ◌<◌, Bool, true, false, cond, List, [], ◌∷◌, ◌++◌, length, Option, Some, None, refl, sym, ◌∙◌, subst, arith, is_some, ap}
-use Rattle.std.specs.Prelude.{count_by, find, option_map}
-use Rattle.std.specs.List.{AllByRecursion}
+use Rattle.std.specs.Prelude.{count_by, find}
+use Rattle.std.specs.List.{AllByRecursion, list_any}
+use Rattle.std.proofs.lemmas.Bool.{or_parts}
 use Rattle.uri_map.specs.declared.peer.Peer.{Peer}
 use Rattle.uri_map.specs.Peers.{same_peer}
-use Rattle.journal_book.specs.Entries.{Deed, Opens, Asks, Sends, Hears, Passes, Answers, Shuts, Seals, Written}
-use Rattle.history_laws.specs.Hearing.{is_such, is_live, live_heard}
+use Rattle.journal_book.specs.Entries.{Past, Asked, Sent, Heard, Deed, Opens, Asks, Sends, Hears, Passes, Answers, Shuts, Seals, Carries, Written}
+use Rattle.history_laws.specs.Hearing.{is_such, is_live, live_heard, recalls, recalls_by}
 use Rattle.history_laws.specs.Justified.{Legal, Follows}
-use Rattle.history_laws.specs.Readings.{Noted, Note, Plain, Begins, First, Copies, Confirms, Says, Repeats, Garbled, entries, newest, Joins, Serves}
+use Rattle.history_laws.specs.Readings.{Noted, Note, Plain, Begins, First, Copies, Confirms, Says, Repeats, Garbled, Bygone, Recalls, entries, Joins, Serves}
 use Rattle.history_laws.specs.Transmissions.{FirstSending, firsts, firsts_by, last_sent}
 use Rattle.history_laws.proofs.CallerLemmas.{and-right}
 use Rattle.exchange_model.specs.Reads.{Reads}
@@ -21,7 +22,8 @@ all-push : (P : Written → Type 0) (ws : List Written) (w : Written) → AllByR
 all-push P [] w h p = (p, tt)
 all-push P (x ∷ ws) w h p = (h.0, all-push P ws w h.1 p)
 
--- Where nothing was sent to the endpoint for the first time, no entry is such a sending.
+-- Where nothing was sent to the endpoint for the first time, and nothing of it is recalled, no entry is such a sending or a
+-- copy that tells of one.
 
 not-found : (b : Bool) (f : FirstSending) (o : Option FirstSending) → cond b (Some f) o ≡ None → (b ≡ false) × (o ≡ None)
 not-found true f o e = absurd cc
@@ -31,49 +33,44 @@ abbrev found_to : Peer → List FirstSending → Option FirstSending
 found_to p fs = find (λ (f : FirstSending). same_peer f.peer p) fs
 
 sent-by : (l : List Noted) (n t : ℕ) (p : Peer) (d : Deed) (note : Note) (old : List FirstSending) → Follows l t d note
-    → found_to p (firsts_by n t d note old) ≡ None → IsSentElsewhere p d × (found_to p old ≡ None)
-sent-by l n t p (Opens c) note old f e = (tt, e)
-sent-by l n t p (Asks c a) note old f e = (tt, e)
-sent-by l n t p (Sends q b None) Plain old f e = (tt, e)
-sent-by l n t p (Sends q b None) (Begins r) old f e = (tt, e)
-sent-by l n t p (Sends q b None) (Joins o) old f e = (tt, e)
-sent-by l n t p (Sends q b None) (Serves js) old f e = (tt, e)
-sent-by l n t p (Sends q b None) (First o m) old f e =
+    → found_to p (firsts_by n t d note old) ≡ None → recalls_by p d note ≡ false → IsSentElsewhere p d × (found_to p old ≡ None)
+sent-by l n t p (Opens c) note old f e r = (tt, e)
+sent-by l n t p (Asks c a) note old f e r = (tt, e)
+sent-by l n t p (Sends q b None) (First o m) old f e r =
     let parts = not-found (same_peer q p) (record { number = n; moment = t; opening = o; peer = q; message = m }) (found_to p old) e in
     (tt, parts.1)
-sent-by l n t p (Sends q b None) (Copies i) old f e = (tt, e)
-sent-by l n t p (Sends q b None) Confirms old f e = (tt, e)
-sent-by l n t p (Sends q b None) (Says m to notice) old f e = (tt, e)
-sent-by l n t p (Sends q b None) (Repeats m j) old f e = (tt, e)
-sent-by l n t p (Sends q b None) Garbled old f e = (tt, e)
-sent-by l n t p (Sends q b (Some w)) Plain old f e = absurd f.1
-sent-by l n t p (Sends q b (Some w)) (Begins r) old f e = absurd f.1
-sent-by l n t p (Sends q b (Some w)) (Joins o) old f e = absurd f.1
-sent-by l n t p (Sends q b (Some w)) (Serves js) old f e = absurd f.1
-sent-by l n t p (Sends q b (Some w)) (First o m) old f e =
+sent-by l n t p (Sends q b None) note old f e r = (tt, e)
+sent-by l n t p (Sends q b (Some w)) (First o m) old f e r =
     not-found (same_peer q p) (record { number = n; moment = t; opening = o; peer = q; message = m }) (found_to p old) e
-sent-by l n t p (Sends q b (Some w)) (Copies i) old f e = absurd (some-none w f.1.1)
+sent-by l n t p (Sends q b (Some w)) (Copies i) old f e r = absurd (some-none w f.1.1)
   where
     some-none : (k : ℕ) → Some k ≡ None → ⊥
     some-none k e = cc
-sent-by l n t p (Sends q b (Some w)) Confirms old f e = absurd (some-none w f.1.0)
+sent-by l n t p (Sends q b (Some w)) Confirms old f e r = absurd (some-none w f.1.0)
   where
     some-none : (k : ℕ) → Some k ≡ None → ⊥
     some-none k e = cc
-sent-by l n t p (Sends q b (Some w)) (Says m to notice) old f e = absurd f.1
-sent-by l n t p (Sends q b (Some w)) (Repeats m j) old f e = absurd f.1
-sent-by l n t p (Sends q b (Some w)) Garbled old f e = absurd f.1
-sent-by l n t p (Hears q b) note old f e = (tt, e)
-sent-by l n t p Passes note old f e = (tt, e)
-sent-by l n t p (Answers c k g) note old f e = (tt, e)
-sent-by l n t p (Shuts c) note old f e = (tt, e)
-sent-by l n t p Seals note old f e = (tt, e)
+sent-by l n t p (Sends q b (Some w)) note old f e r = absurd f.1
+sent-by l n t p (Hears q b) note old f e r = (tt, e)
+sent-by l n t p Passes note old f e r = (tt, e)
+sent-by l n t p (Answers c k g) note old f e r = (tt, e)
+sent-by l n t p (Shuts c) note old f e r = (tt, e)
+sent-by l n t p Seals note old f e r = (tt, e)
+sent-by l n t p (Carries k Past (Sent q b None)) (Bygone m) old f e r =
+    let parts = not-found (same_peer q p) (record { number = n; moment = t; opening = n; peer = q; message = m }) (found_to p old) e in
+    (tt, parts.1)
+sent-by l n t p (Carries k Past (Sent q b (Some w))) (Bygone m) old f e r =
+    not-found (same_peer q p) (record { number = n; moment = t; opening = n; peer = q; message = m }) (found_to p old) e
+sent-by l n t p (Carries k Past (Heard q b)) (Recalls m a) old f e r = (r, e)
+sent-by l n t p (Carries k mark (Asked c a)) note old f e r = (tt, e)
+sent-by l n t p (Carries k mark done) note old f e r = absurd f.2
 
-pub strange : (l : List Noted) (p : Peer) → Legal l → last_sent l p ≡ None → IsStranger p (entries l)
-strange [] p h e = tt
-strange (x ∷ l) p h e =
-    let so = sent-by l _ x.written.moment p x.written.deed x.note (firsts l) h.2 e in
-    all-push (λ (w : Written). IsSentElsewhere p w.deed) (entries l) x.written (strange l p h.0 so.1) so.0
+pub strange : (l : List Noted) (p : Peer) → Legal l → last_sent l p ≡ None → list_any (recalls p) l ≡ false → IsStranger p (entries l)
+strange [] p h e r = tt
+strange (x ∷ l) p h e r =
+    let both = or_parts (recalls p x) (list_any (recalls p) l) r in
+    let so = sent-by l _ x.written.moment p x.written.deed x.note (firsts l) h.2 e both.0 in
+    all-push (λ (w : Written). IsSentElsewhere p w.deed) (entries l) x.written (strange l p h.0 so.1 both.1) so.0
 
 -- What can be repeated came in lately.
 
@@ -91,10 +88,14 @@ live-came t s p (Hears q b) (Copies i) e = absurd cc
 live-came t s p (Hears q b) Confirms e = absurd cc
 live-came t s p (Hears q b) (Repeats m j) e = absurd cc
 live-came t s p (Hears q b) Garbled e = absurd cc
+live-came t s p (Hears q b) (Bygone m) e = absurd cc
+live-came t s p (Hears q b) (Recalls m a) e = absurd cc
 live-came t s p Passes note e = absurd cc
 live-came t s p (Answers c k g) note e = absurd cc
 live-came t s p (Shuts c) note e = absurd cc
 live-came t s p Seals note e = absurd cc
+live-came t s p (Carries k mark (Heard q b)) (Recalls m a) e = and-right (is_such m.kind) _ e
+live-came t s p (Carries k mark done) note e = absurd cc
 
 count-push : (f : Written → Bool) (ws : List Written) (w : Written) → count_by f (ws ++ w ∷ []) ≡ count_by f ws + one (f w)
 count-push f [] w = let here = count-cons f w [] in omega (arith, here)
@@ -135,7 +136,8 @@ why-dropped t p d S kept le why =
     by : (l : List Noted) → Reads l S → WhyLost t p d S
         → IsStranger p S.entries ⊎ ((2048 < length d) ⊎ IsCrowded t p S.entries)
     by l r (inl unknown) =
-        inl (subst (IsStranger p) r.entries_are (strange l p r.legal (not-some (last_sent l p) (sym (r.links_are p).known ∙ ap is_some unknown))))
+        let none = or_parts (is_some (last_sent l p)) (list_any (recalls p) l) (sym (r.links_are p).known ∙ ap is_some unknown) in
+        inl (subst (IsStranger p) r.entries_are (strange l p r.legal (not-some (last_sent l p) none.0) none.1))
     by l r (inr (inl long)) = inr (inl long)
     by l r (inr (inr many)) =
         let now = r.moment_is in

@@ -9,7 +9,7 @@ use Rattle.std.proofs.lemmas.Grind.{flat_map-append}
 use Rattle.std.proofs.lemmas.Bool.{both_ways}
 use Rattle.http_edge.specs.Answers.{answer_text}
 use Rattle.http_edge.specs.declared.answer.HttpAnswer.{HttpAnswer}
-use Rattle.journal_book.specs.Entries.{Grounds, Deed, Opens, Asks, Sends, Hears, Passes, Answers, Shuts, Seals, Written}
+use Rattle.journal_book.specs.Entries.{Grounds, Deed, Opens, Asks, Sends, Hears, Passes, Answers, Shuts, Seals, Carries, Written}
 use Rattle.history_laws.specs.Justified.{Stands}
 use Rattle.history_laws.proofs.CallerLemmas.{some-is}
 use Rattle.history_claims.specs.Headline.{IsEntry}
@@ -50,6 +50,7 @@ nums-by c n (Hears p b) = refl
 nums-by c n Passes = refl
 nums-by c n (Shuts d) = refl
 nums-by c n Seals = refl
+nums-by c n (Carries number mark done) = refl
 
 pub nums-in : (c n : ℕ) (ws : List Written) → answers_to c n ws ≡ nums c (answered_in n ws)
 nums-in c n [] = refl
@@ -264,6 +265,7 @@ answers-in h front (w ∷ ws) rest is =
     here Passes e = tt
     here (Shuts c) e = tt
     here Seals e = tt
+    here (Carries number mark done) e = tt
 
 -- The answers that it adds and those that wait are of different connections.
 abbrev pub StaysApart : CoreValue → List Written → Type 0

@@ -6,7 +6,7 @@ use Rattle.std.proofs.lemmas.List.{map_push}
 use Rattle.history_laws.proofs.CallerLemmas.{none-some, some-is}
 use Rattle.ask_model.specs.Views.{Ask}
 use Rattle.http_mapping.specs.Means.{closes}
-use Rattle.journal_book.specs.Entries.{Deed, Opens as Opened, Asks as Asked, Sends as Sent, Hears as Heard, Passes as Passed, Answers, Shuts, Seals, Written}
+use Rattle.journal_book.specs.Entries.{Deed, Opens as Opened, Asks as Asked, Sends as Sent, Hears as Heard, Passes as Passed, Answers, Shuts, Seals, Carries, Written}
 use Rattle.exchange_model.specs.declared.kept.Conn.{Conn}
 use Rattle.exchange_model.specs.State.{State, pend, conns_after}
 use Rattle.exchange_model.specs.Steps.{opens, seals}
@@ -52,6 +52,7 @@ after-ids cs n Passed h = refl
 after-ids cs n (Answers c k g) h = pend-ids c None cs
 after-ids cs n (Shuts c) h = absurd h
 after-ids cs n Seals h = refl
+after-ids cs n (Carries number mark done) h = refl
 
 pub with-ids : (cs : List Conn) (n : ℕ) (ws : List Written) → AllByRecursion (λ (w : Written). StaysOpen w.deed) ws
     → map conn_id (conns_with cs n ws) ≡ map conn_id cs
@@ -67,6 +68,7 @@ of-ask k c a Passed h = absurd h
 of-ask k c a (Answers x j g) h = tt
 of-ask k c a (Shuts x) h = absurd h
 of-ask k c a Seals h = tt
+of-ask k c a (Carries number mark done) h = absurd h
 
 no-client : (d : Deed) → by_client d ≡ false → StaysOpen d
 no-client (Opened x) h = absurd cc
@@ -77,6 +79,7 @@ no-client Passed h = tt
 no-client (Answers x j g) h = tt
 no-client (Shuts x) h = absurd cc
 no-client Seals h = tt
+no-client (Carries number mark done) h = tt
 
 pub all-asks : (k c : ℕ) (a : Ask) (ws : List Written) → AllByRecursion (λ (w : Written). IsOfAsk k c a w.deed) ws
     → AllByRecursion (λ (w : Written). StaysOpen w.deed) ws

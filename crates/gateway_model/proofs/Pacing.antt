@@ -12,10 +12,11 @@ use Rattle.history_laws.proofs.CallerLemmas.{some-is}
 use Rattle.exchange_model.specs.Growing.{at_moment, conns_with}
 use Rattle.exchange_model.specs.Resting.{HasConn}
 use Rattle.exchange_model.specs.Sealing.{asks_in_room}
-use Rattle.exchange_core.specs.Values.{CoreValue, Untaken, answered_in}
+use Rattle.exchange_core.specs.Values.{CoreValue, Outgoing, Untaken, answered_in}
 use Rattle.gateway_model.specs.declared.input.When.{When}
 use Rattle.gateway_model.specs.Acts.{Act, Opens, TurnsAway, Takes, Hears, Passes, Asks, Denies, Sends, Tells, GoesOn, Rests, Leaves, Misses, Served, Terms, AsksItem, IsClosing, Ends, Does, DoesAll, at, continue_text}
 use Rattle.gateway_model.specs.Emissions.{Emission}
+use Rattle.gateway_model.specs.Going.{goes_in}
 use Rattle.gateway_model.specs.Told.{Piece, interim, final, bytes_in, answers_in, said_to, IsAnswerFirst, AreOnce}
 use Rattle.gateway_model.specs.Unasked.{Unasked, unasked_at, no_bytes, changed_at, extended, left_after, Recounts}
 use Rattle.gateway_model.proofs.Asked.{own-after, left-same}
@@ -373,25 +374,27 @@ paced-then M u v w a b x y =
           );
     }
 
-paced-still : (M : Terms) (s : Served) → Paced M s [] s
-paced-still M s = record {
+-- Nothing is said, sent or done.
+pub paced-silent : (M : Terms) (s : Served) (out : List Emission) → goes_in out ≡ [] → ((c : ℕ) → said_to c out ≡ []) → Paced M s out s
+paced-silent M s out goes says = record {
   did = record {
     more = [];
     added = sym (append-nil s.core.state.entries);
     conns = refl;
-    sent = sym (append-nil s.core.unsent);
+    sent = ap (λ (os : List Outgoing). os ++ s.core.unsent) goes ∙ sym (append-nil s.core.unsent);
     meant = tt;
     told = λ h rest stands is waits. (waits, λ c. none h c);
   };
   paced = λ h rest stands is waits. (waits, λ c. record { told = none h c; flow = λ x. x });
 }
   where
-    none : (h : List Written) (c : ℕ) → ToldIn M Whoever h c (length s.core.state.entries) [] s.core.untaken [] s.core.untaken
-    none h c = record { pieces = []; said = refl; each = tt; answers = sym (append-nil (nums c s.core.untaken)) }
+    none : (h : List Written) (c : ℕ) → ToldIn M Whoever h c (length s.core.state.entries) [] s.core.untaken out s.core.untaken
+    none h c = record { pieces = []; said = says c; each = tt; answers = sym (append-nil (nums c s.core.untaken)) }
 
 pub paced-none : (M : Terms) (old : Served) (out : List Emission) (new : Served) → new ≡ old → out ≡ [] → Paced M old out new
 paced-none M old out new e o =
-    subst (λ (es : List Emission). Paced M old es new) (sym o) (subst (λ (s : Served). Paced M old [] s) (sym e) (paced-still M old))
+    subst (λ (es : List Emission). Paced M old es new) (sym o)
+    (subst (λ (s : Served). Paced M old [] s) (sym e) (paced-silent M old [] refl (λ c. refl)))
 
 -- each act
 module _ (M : Terms) (w : When) (a : Act) (old : Served) (out : List Emission) (new : Served) (does : Does M w a old out new) where

@@ -418,6 +418,7 @@ input-rests M w (H.Close c) acts old out new h o kept none r = by o
     by (inr one) =
         let d = subst (λ (xs : List Act). DoesAll M w xs old out new) one h in
         rested-after new none (all-same old new (d.4.0 ∙ d.3.0) (rested-before old kept r))
+input-rests M w H.Rotate acts old out new h o kept none r = absurd o
 
 pub inputs-rest : InputsRest
 inputs-rest w x acts old out new h o kept none r = input-rests any_terms w x acts old out new h o kept none r

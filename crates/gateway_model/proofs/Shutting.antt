@@ -6,26 +6,28 @@ use Rattle.std.proofs.lemmas.Grind.{flat_map-append}
 use Rattle.std.proofs.lemmas.List.{append-nil, append_assoc}
 use Rattle.std.proofs.lemmas.List.Elements.{Contains-append_left, Contains-append_right}
 use Rattle.ask_model.specs.Views.{Ask}
-use Rattle.journal_book.specs.Entries.{Deed, Opens as Opened, Asks as Asked, Sends as Sent, Hears as Heard, Passes as Passed, Answers, Shuts, Seals, Written}
+use Rattle.journal_book.specs.Entries.{Deed, Opens as Opened, Asks as Asked, Sends as Sent, Hears as Heard, Passes as Passed, Answers, Shuts, Seals, Carries, Written}
 use Rattle.journal_book.specs.Views.{ask_of}
 use Rattle.http_mapping.specs.Means.{closes}
 use Rattle.history_claims.specs.Headline.{IsEntry}
 use Rattle.exchange_model.specs.State.{State}
+use Rattle.exchange_model.specs.Resting.{HasConn}
 use Rattle.exchange_core.specs.Values.{Untaken}
 use Rattle.gateway_model.specs.declared.input.Happening.{Happening}
 use Rattle.gateway_model.specs.declared.input.Happening.TheVariants as H
 use Rattle.gateway_model.specs.declared.input.When.{When}
 use Rattle.gateway_model.specs.Acts.{Act, Opens, TurnsAway, Leaves, Misses, Served, Terms, DoesAll}
 use Rattle.gateway_model.specs.Closing.{closed_by, closed_in, shut_by, shut_in, IsNotTo, StayClosed, IsLastAnswer, IsClosedFor, AreClosedFor, ClosesAfter, IsNoTurn, ClosesJust, Closes, InputsClose}
-use Rattle.gateway_model.specs.Emissions.{Emission, Says, Goes, Closed, Turned}
+use Rattle.gateway_model.specs.Emissions.{Emission, Says, Goes, Closed, Turned, Rotated, Unrotated}
 use Rattle.gateway_model.specs.Orders.{IsInOrder}
 use Rattle.gateway_model.specs.Resting.{any_terms}
+use Rattle.gateway_model.specs.Unasked.{Unasked, unasked_at}
 use Rattle.gateway_model.specs.Waiting.{AreApart}
 use Rattle.gateway_model.proofs.Awaiting.{IsToTell, entry-more}
 use Rattle.gateway_model.proofs.Closings.{IsPlain, Gone, Form, ActCloses}
 use Rattle.gateway_model.proofs.Closers.{IsServing, act-closes}
 use Rattle.gateway_model.proofs.Order.{all-append, all-as, Each, each-out, each-delivers}
-use Rattle.gateway_model.proofs.Untold.{IsToldBy}
+use Rattle.gateway_model.proofs.Untold.{AreToOthers, IsToldBy}
 
 -- An answer of these entries was told, or waits; and after a last one its connection is closed.
 abbrev IsSettled : Served → List Emission → Deed → Type 0
@@ -75,6 +77,8 @@ stay-plain (Says c b ∷ xs) ys p h = stay-plain xs ys p.1 h
 stay-plain (Goes d ∷ xs) ys p h = stay-plain xs ys p.1 h
 stay-plain (Closed c ∷ xs) ys p h = absurd p.0
 stay-plain (Turned ∷ xs) ys p h = stay-plain xs ys p.1 h
+stay-plain (Rotated old ∷ xs) ys p h = stay-plain xs ys p.1 h
+stay-plain (Unrotated fault ∷ xs) ys p h = stay-plain xs ys p.1 h
 
 why-plain : (M : Terms) (S : State) (before : Option Emission) (xs ys : List Emission) → AllByRecursion IsPlain xs
     → ((b : Option Emission) → AreClosedFor M S b ys) → AreClosedFor M S before (xs ++ ys)
@@ -83,6 +87,8 @@ why-plain M S before (Says c b ∷ xs) ys p h = why-plain M S (Some (Says c b)) 
 why-plain M S before (Goes d ∷ xs) ys p h = why-plain M S (Some (Goes d)) xs ys p.1 h
 why-plain M S before (Closed c ∷ xs) ys p h = absurd p.0
 why-plain M S before (Turned ∷ xs) ys p h = why-plain M S (Some Turned) xs ys p.1 h
+why-plain M S before (Rotated old ∷ xs) ys p h = why-plain M S (Some (Rotated old)) xs ys p.1 h
+why-plain M S before (Unrotated fault ∷ xs) ys p h = why-plain M S (Some (Unrotated fault)) xs ys p.1 h
 
 sealed-why : (M : Terms) (S : State) (c : ℕ) (before : Option Emission) → S.sealed ≡ true → IsClosedFor M S c before
 sealed-why M S c None s = s
@@ -90,6 +96,8 @@ sealed-why M S c (Some (Says d b)) s = inr s
 sealed-why M S c (Some (Goes d)) s = s
 sealed-why M S c (Some (Closed d)) s = s
 sealed-why M S c (Some Turned) s = s
+sealed-why M S c (Some (Rotated old)) s = s
+sealed-why M S c (Some (Unrotated fault)) s = s
 
 last-more : (M : Terms) (h more : List Written) (c : ℕ) (bytes : List ℕ) → IsLastAnswer M h c bytes → IsLastAnswer M (h ++ more) c bytes
 last-more M h more c bytes x = record {
@@ -152,6 +160,7 @@ settled-first M mid new xs ys k Passed h = tt
 settled-first M mid new xs ys k (Answers c j g) h = λ t a later stands last. later-told M mid new xs ys k c j t a later stands last (inl h)
 settled-first M mid new xs ys k (Shuts c) h = tt
 settled-first M mid new xs ys k Seals h = tt
+settled-first M mid new xs ys k (Carries number mark done) h = tt
 
 settled-rest : (new : Served) (xs ys : List Emission) (d : Deed) → IsSettled new ys d → IsSettled new (xs ++ ys) d
 settled-rest new xs ys (Opened c) h = tt
@@ -167,6 +176,7 @@ settled-rest new xs ys (Answers c j g) h = λ t a later stands last. by (h t a l
         (Contains-append_right (closed_in xs) (closed_in ys) c k))
 settled-rest new xs ys (Shuts c) h = tt
 settled-rest new xs ys Seals h = tt
+settled-rest new xs ys (Carries number mark done) h = tt
 
 closes-then : (M : Terms) (old mid new : Served) (xs ys : List Emission) → ActCloses M old mid xs → AllClose M mid new ys → AllClose M old new (xs ++ ys)
 closes-then M old mid new xs ys h k = record {
@@ -225,6 +235,7 @@ settled-closes new out none (Answers c k g) h = λ t a stands last.
     by (inr there_so) = there_so
 settled-closes new out none (Shuts c) h = tt
 settled-closes new out none Seals h = tt
+settled-closes new out none (Carries number mark done) h = tt
 
 closes-just : (M : Terms) (w : When) (acts : List Act) (old : Served) (out : List Emission) (new : Served)
     → AreServing acts → DoesAll M w acts old out new → old.core.untaken ≡ [] → new.core.untaken ≡ []
@@ -270,6 +281,32 @@ input-closes M w (H.Close c) acts old out new h o before after = by o
     by (inr one) =
         let d = subst (λ (xs : List Act). DoesAll M w xs old out new) one h in
         d.5 ∙ (ap (λ (ys : List Emission). ys ++ d.2) d.3.1 ∙ d.4.1)
+input-closes M w H.Rotate acts old out new h o before after = absurd o
+
+-- Who isn't connected, and isn't by this input, is told nothing and isn't closed.
+pub input-silent : (M : Terms) (w : When) (x : Happening) (acts : List Act) (old : Served) (out : List Emission) (new : Served)
+    → DoesAll M w acts old out new → IsInOrder x acts → old.core.untaken ≡ [] → new.core.untaken ≡ []
+    → (c : ℕ) → ((p : Option ℕ) → HasConn old.core.state.conns c p → ⊥)
+    → ((u : Unasked) → unasked_at c old.unasked ≡ Some u → ⊥) → AllByRecursion (IsNotTo c) out
+input-silent M w x acts old out new h o before after c shut unasked = by x o
+  where
+    gone : Gone c old
+    gone = record { told = subst (AreToOthers c) (sym before) tt; shut = shut; unasked = unasked }
+
+    serving : AreServing acts → AllByRecursion (IsNotTo c) out
+    serving i = ((all-close M w acts old out new i h).gone c gone).1
+
+    quiet : (out ≡ []) ⊎ (out ≡ Turned ∷ []) → AllByRecursion (IsNotTo c) out
+    quiet (inl e) = subst (λ (es : List Emission). AllByRecursion (IsNotTo c) es) (sym e) tt
+    quiet (inr e) = subst (λ (es : List Emission). AllByRecursion (IsNotTo c) es) (sym e) (tt, tt)
+
+    by : (x : Happening) → IsInOrder x acts → AllByRecursion (IsNotTo c) out
+    by H.Open o = quiet (input-closes M w H.Open acts old out new h o before after)
+    by (H.Bytes d bytes) o = serving (subst AreServing (sym o.are) (tt, each-out IsServing each-serving d o.rest o.then))
+    by (H.Datagram p bytes) o = serving (subst AreServing (sym o.are) (tt, each-delivers IsServing each-serving o.rest o.then))
+    by H.Tick o = serving (subst AreServing (sym o.are) (tt, each-delivers IsServing each-serving o.rest o.then))
+    by (H.Close d) o = quiet (inl (input-closes M w (H.Close d) acts old out new h o before after))
+    by H.Rotate o = absurd o
 
 pub inputs-close : InputsClose
 inputs-close w x acts old out new h o before after = input-closes any_terms w x acts old out new h o before after

@@ -5,7 +5,7 @@ use Rattle.std.specs.List.{AllByRecursion, Contains, filter}
 use Rattle.std.proofs.lemmas.Bool.{both_ways}
 use Rattle.history_laws.proofs.CallerLemmas.{all-of, none-some}
 use Rattle.ask_model.specs.Views.{Ask}
-use Rattle.journal_book.specs.Entries.{Deed, Opens, Asks, Sends, Hears, Passes, Answers, Shuts, Seals, Written}
+use Rattle.journal_book.specs.Entries.{Deed, Opens, Asks, Sends, Hears, Passes, Answers, Shuts, Seals, Carries, Written}
 use Rattle.exchange_model.specs.declared.kept.Conn.{Conn}
 use Rattle.exchange_model.specs.State.{pend, conns_after}
 use Rattle.exchange_model.specs.Resting.{HasConn}
@@ -55,6 +55,7 @@ still-not c n cs Passes i w = w
 still-not c n cs (Answers e k g) i w = λ j h. w j (waited e c j cs h)
 still-not c n cs (Shuts e) i w = absurd cc
 still-not c n cs Seals i w = w
+still-not c n cs (Carries number mark done) i w = w
 
 to-other : (c n : ℕ) (cs : List Conn) (d : Deed) → IsAwaited cs d → WaitsNot c cs → AreToOthers c (answered_by n d)
 to-other c n cs (Opens e) a w = tt
@@ -65,6 +66,7 @@ to-other c n cs Passes a w = tt
 to-other c n cs (Answers e k g) a w = (λ same. w k (subst (λ (i : ℕ). HasConn cs i (Some k)) same a), tt)
 to-other c n cs (Shuts e) a w = tt
 to-other c n cs Seals a w = tt
+to-other c n cs (Carries number mark done) a w = tt
 
 pub all-to-others : (c n : ℕ) (cs : List Conn) (ws : List Written) → AreInner ws → AreAwaited cs n ws → WaitsNot c cs
     → AreToOthers c (answered_in n ws)
@@ -90,6 +92,7 @@ apart-by n cs (Answers e k g) us f h = (
 )
 apart-by n cs (Shuts e) us f h = h
 apart-by n cs Seals us f h = h
+apart-by n cs (Carries number mark done) us f h = h
 
 pub apart-with : (n : ℕ) (cs : List Conn) (ws : List Written) → AreInner ws → AreAwaited cs n ws → AreApart (answered_in n ws)
 apart-with n cs [] i a = tt
@@ -118,6 +121,7 @@ deed-own n k c a Passes h = tt
 deed-own n k c a (Answers x j g) h = (h.0, tt)
 deed-own n k c a (Shuts x) h = tt
 deed-own n k c a Seals h = tt
+deed-own n k c a (Carries number mark done) h = tt
 
 pub all-own : (n k c : ℕ) (a : Ask) (ws : List Written) → AllByRecursion (λ (w : Written). IsOfAsk k c a w.deed) ws
     → AllByRecursion (λ (u : Untaken). u.conn ≡ c) (answered_in n ws)
@@ -188,6 +192,7 @@ told-deed us vs n (Answers e k g) =
     told-after us (record { conn = e; ask = k; number = n } ∷ vs) e k (inl (refl, refl))
 told-deed us vs n (Shuts e) = tt
 told-deed us vs n Seals = tt
+told-deed us vs n (Carries number mark done) = tt
 
 told-later : (us vs : List Untaken) (d : Deed) → IsToldBy vs d → IsToldBy (us ++ vs) d
 told-later us vs (Opens e) h = tt
@@ -198,6 +203,7 @@ told-later us vs Passes h = tt
 told-later us vs (Answers e k g) h = told-after us vs e k h
 told-later us vs (Shuts e) h = tt
 told-later us vs Seals h = tt
+told-later us vs (Carries number mark done) h = tt
 
 pub each-told : (us : List Untaken) (n : ℕ) (ws : List Written)
     → AllByRecursion (λ (w : Written). IsToldBy (us ++ answered_in n ws) w.deed) ws

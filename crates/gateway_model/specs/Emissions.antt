@@ -1,5 +1,7 @@
 -- What a world gives out, as plain data.
 use Rattle.std.specs.Prelude.{ℕ, List, map}
+use Rattle.journal_book.specs.Entries.{Written}
+use Rattle.exchange_core.specs.declared.fault.RotateFault.{RotateFault}
 use Rattle.exchange_core.specs.Values.{Outgoing, outgoing_of}
 use Rattle.gateway_model.specs.declared.input.Output.{Output}
 use Rattle.gateway_model.specs.declared.input.Output.TheVariants as Out
@@ -13,12 +15,18 @@ pub data Emission : Type 0 where
   Closed : ℕ → Emission
   -- a client is turned away
   Turned : Emission
+  -- the journal that was sealed, after which the proxy goes on with a new one
+  Rotated : List Written → Emission
+  -- why it isn't given out
+  Unrotated : RotateFault → Emission
 
-abbrev pub emission_of : Output → Emission
+abbrev pub emission_of : {R : Type 0} → Output R → Emission
 emission_of (Out.Bytes c bytes) = Says c bytes.items
 emission_of (Out.Datagram d) = Goes (outgoing_of d)
 emission_of (Out.Closed c) = Closed c
 emission_of Out.Turned = Turned
+emission_of (Out.Rotated journal) = Rotated journal.entries
+emission_of (Out.Unrotated fault) = Unrotated fault
 
-abbrev pub emissions : List Output → List Emission
+abbrev pub emissions : {R : Type 0} → List (Output R) → List Emission
 emissions outputs = map emission_of outputs

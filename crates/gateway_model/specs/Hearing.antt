@@ -5,7 +5,7 @@ use Rattle.std.specs.List.{AllByRecursion}
 use Rattle.limits.specs.declared.TheConstants.{EXCHANGE_LIFETIME, MAX_DATAGRAM_LEN, MAX_REMEMBERED}
 use Rattle.uri_map.specs.declared.peer.Peer.{Peer}
 use Rattle.uri_map.specs.Peers.{same_peer}
-use Rattle.journal_book.specs.Entries.{Deed, Sends, Hears, Passes, Written}
+use Rattle.journal_book.specs.Entries.{Sent, Heard, Deed, Sends, Hears, Passes, Carries, Written}
 use Rattle.exchange_model.specs.State.{State}
 use Rattle.exchange_model.specs.Calls.{something_due}
 use Rattle.exchange_model.specs.Growing.{at_moment}
@@ -34,9 +34,12 @@ pub record BeginsBy (t : ℕ) (d : Deed) (more : List Written) : Type 0 where
   pub are : more ≡ at_moment t d ∷ rest
   pub unheard : AreUnheard rest
 
--- No message was ever sent to the endpoint: no entry bears the first timeout of one.
+-- No message was ever sent to the endpoint: no entry bears the first timeout of one, and no copy is
+-- of one or of what it said.
 abbrev pub IsSentElsewhere : Peer → Deed → Type 0
 IsSentElsewhere p (Sends q bytes (Some timeout)) = same_peer q p ≡ false
+IsSentElsewhere p (Carries n mark (Sent q bytes (Some timeout))) = same_peer q p ≡ false
+IsSentElsewhere p (Carries n mark (Heard q bytes)) = same_peer q p ≡ false
 IsSentElsewhere p _ = ⊤
 
 abbrev pub IsStranger : Peer → List Written → Type 0
@@ -46,6 +49,8 @@ IsStranger p h = AllByRecursion (λ (w : Written). IsSentElsewhere p w.deed) h
 -- 7252 section 4.5).
 abbrev pub came_lately : ℕ → Peer → ℕ → Deed → Bool
 came_lately t p s (Hears q bytes) = same_peer q p && nat_lt t (s + EXCHANGE_LIFETIME)
+came_lately t p s (Carries n mark (Heard q bytes)) =
+    same_peer q p && nat_lt t (s + EXCHANGE_LIFETIME)
 came_lately t p s _ = false
 
 abbrev pub is_recent_from : ℕ → Peer → Written → Bool

@@ -8,6 +8,7 @@ pub mod Going
 pub mod Hearing
 pub mod Orders
 pub mod Resting
+pub mod Rotating
 pub mod Tellings
 pub mod Told
 pub mod Unasked

@@ -75,10 +75,11 @@ pub record BeginsWith (a : Act) (P : List Act → Type 0) (acts : List Act) : Ty
   pub are : acts ≡ a ∷ rest
   pub then : P rest
 
--- What an input leads to.
+-- What an input leads to. That a journal is rotated is no act.
 abbrev pub IsInOrder : Happening → List Act → Type 0
 IsInOrder H.Open acts = ((c : ℕ) × (acts ≡ Opens c ∷ [])) ⊎ (acts ≡ TurnsAway ∷ [])
 IsInOrder (H.Bytes c bytes) acts = BeginsWith (Takes c bytes.now) (ServesOut c) acts
 IsInOrder (H.Datagram p bytes) acts = BeginsWith (Hears p bytes.now) Delivers acts
 IsInOrder H.Tick acts = BeginsWith Passes Delivers acts
 IsInOrder (H.Close c) acts = (acts ≡ Leaves c ∷ []) ⊎ (acts ≡ Misses c ∷ [])
+IsInOrder H.Rotate acts = ⊥

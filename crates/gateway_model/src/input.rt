@@ -1,6 +1,8 @@
 //! What goes into a world, and what comes out.
 
-pub use exchange_core::Datagram;
+pub use exchange_core::{Datagram, RotateFault};
+use journal_book::Journal;
+use transformers::Relation;
 use uri_map::Peer;
 
 /// What happens.
@@ -16,6 +18,8 @@ pub enum Happening<'a> {
     Tick,
     /// The client closed the connection.
     Close(u32),
+    /// The sealed journal is to be given out, and a new one begun.
+    Rotate,
 }
 
 /// When it happens: a moment in milliseconds, and 64 random bits.
@@ -35,7 +39,7 @@ pub struct Input<'a> {
 
 /// What a world gives out.
 #[derive(Drop)]
-pub enum Output {
+pub enum Output<R: Relation> {
     /// Bytes for the connection.
     Bytes(u32, Vec<u8>),
     /// A datagram that goes out.
@@ -44,4 +48,8 @@ pub enum Output {
     Closed(u32),
     /// No connection was opened: 256 are open, or the journal takes nothing more.
     Turned,
+    /// The journal that was sealed. The new one begins with copies of its entries.
+    Rotated(Journal<R>),
+    /// Why the journal isn't given out: another reason than want of memory.
+    Unrotated(RotateFault),
 }

@@ -3,7 +3,7 @@
 //!
 //! The definitions stand in `specs/`, to be read in this order: `Unasked`, `Emissions`, `Acts`,
 //! `Orders`, `Tellings`, `Waiting`, `Going`, `Told`, `Asking`, `Resting`, `Hearing`, `Closing`,
-//! `Continuing`.
+//! `Continuing`, and `Rotating`, of the one input without acts.
 //! Whoever shows that an input leads to acts in that order has what holds of all such acts, by the
 //! laws of this crate.
 #![tactic(auto)]
@@ -12,7 +12,7 @@ mod input;
 mod laws;
 mod resting;
 
-pub use exchange_core::Datagram;
+pub use exchange_core::{Datagram, RotateFault};
 pub use input::{Happening, Input, Output, When};
 pub use laws::{
     connections_are_told, connections_ask_what_bytes_spell, datagrams_go_out,

@@ -4,7 +4,11 @@ use Rattle.std.specs.Prelude.{OnOk}
 use Rattle.std.proofs.lemmas.List.{append-nil, append_assoc, map_push}
 use Rattle.http_edge.specs.Answers.{answer_text}
 use Rattle.exchange_model.specs.State.{State}
+use Rattle.journal_book.specs.Entries.{Written}
 use Rattle.exchange_core.specs.declared.fault.OpenFault.TheVariants as Open
+use Rattle.exchange_core.specs.declared.fault.RotateFault.{RotateFault as Refusal}
+use Rattle.exchange_core.specs.declared.fault.RotateFault.TheVariants as F
+use Rattle.exchange_core.specs.Rotating.{IsTurned, IsRefused}
 use Rattle.exchange_core.specs.Answering.{Given}
 use Rattle.exchange_core.specs.Calls.{IsOpened, IsUnknown}
 use Rattle.exchange_core.specs.Taking.{IsTaken, IsSent}
@@ -16,16 +20,16 @@ use Rattle.gateway_model.specs.declared.input.When.{When}
 use Rattle.gateway_model.specs.declared.input.Happening.TheVariants as H
 use Rattle.gateway_model.specs.declared.input.Output.{Output}
 use Rattle.gateway_model.specs.Acts.{Act, Opens, TurnsAway, Takes, Sends, Tells, GoesOn, Rests, Leaves, Misses, Served, Terms, Does, IsClosing, Ends, RestsAt, IsNext, at, continue_text}
-use Rattle.gateway_model.specs.Emissions.{Emission, emissions, emission_of, Says, Goes, Closed, Turned}
+use Rattle.gateway_model.specs.Emissions.{Emission, emissions, emission_of, Says, Goes, Closed, Turned, Rotated, Unrotated}
 use Rattle.gateway_world.specs.Engines.{IsShutting, IsShut, LeadsAfter}
-use Rattle.gateway_world.specs.Leading.{Leads, LeadsBy, served_of}
+use Rattle.gateway_world.specs.Leading.{Leads, LeadsBy, RotatesBy, served_of}
 use Rattle.gateway_model.specs.Orders.{AreFor, AreSends, IsInOrder, BeginsWith, IsTelling as TellsOnly, ServesOut}
 use Rattle.http_mapping.specs.Means.{closes}
 use Rattle.gateway_model.specs.Tellings.{TellsBytes}
 use Rattle.gateway_model.specs.Unasked.{Unasked, unasked_in, taken, Recounts}
 use Rattle.gateway_world.proofs.Lead.{leads-one, leads-then}
 use Rattle.gateway_model.specs.Waiting.{IsOpen}
-use Rattle.gateway_model.proofs.CallerLemmas.{conn-open, out-on}
+use Rattle.gateway_model.proofs.CallerLemmas.{conn-open, out-on, refused-so, rotation-is}
 use Rattle.gateway_world.proofs.ReadingOn.{unasked-without, unasked-taken, unasked-opened, tells-on}
 
 -- what follows where a call went well
@@ -50,13 +54,13 @@ module _ {R : Type 0} (w : When) where
   pub stays-after : (c : ℕ) (b : Bool) (old : Engine R) → b ≡ false → Ends w c b (served_of old) [] (served_of old)
   stays-after c b old e = subst (λ (x : Bool). Ends w c x (served_of old) [] (served_of old)) (sym e) (refl, refl)
 
-  pub ends-after : (c : ℕ) (b : Bool) (old new : Engine R) (before after : List Output) → b ≡ true
+  pub ends-after : (c : ℕ) (b : Bool) (old new : Engine R) (before after : List (Output R)) → b ≡ true
       → IsShut w c old before new after → Ends w c b (served_of old) (Closed c ∷ []) (served_of new)
   ends-after c b old new before after e s =
       subst (λ (x : Bool). Ends w c x (served_of old) (Closed c ∷ []) (served_of new)) (sym e) (closing-of c old new s.shuts, refl)
 
 module _ {R : Type 0} (M : Terms) (w : When) where
-  pub opens-lead : (c : ℕ) (old new : Engine R) (before : List Output)
+  pub opens-lead : (c : ℕ) (old new : Engine R) (before : List (Output R))
       → IsOpened (Ok c) (at w (served_of old)) old.core new.core
       → new.table.current ≡ old.table.current ++ fresh c ∷ []
       → LeadsBy M w (IsInOrder H.Open) old before new before
@@ -64,7 +68,7 @@ module _ {R : Type 0} (M : Terms) (w : When) where
       leads-one M w (IsInOrder H.Open) (Opens c) (served_of old) (served_of new) (emissions before) [] (emissions before)
       (inl (c, refl)) (opened, ap unasked_in e ∙ unasked-opened c old.table.current, refl) (sym (append-nil (emissions before)))
 
-  pub turns-lead : (old new : Engine R) (before after : List Output)
+  pub turns-lead : (old new : Engine R) (before after : List (Output R))
       → IsOpened (Err Open.Full) (at w (served_of old)) old.core new.core
       ⊎ IsOpened (Err Open.Sealed) (at w (served_of old)) old.core new.core
       → new.table.current ≡ old.table.current → emissions after ≡ emissions before ++ Turned ∷ []
@@ -73,7 +77,7 @@ module _ {R : Type 0} (M : Terms) (w : When) where
       leads-one M w (IsInOrder H.Open) TurnsAway (served_of old) (served_of new) (emissions before) (Turned ∷ []) (emissions after)
       (inr refl) (opened, ap unasked_in e, refl) added
 
-  pub sends-lead : (old new : Engine R) (before after : List Output) (d : Outgoing) (o : Output)
+  pub sends-lead : (old new : Engine R) (before after : List (Output R)) (d : Outgoing) (o : Output R)
       → emission_of o ≡ Goes d → IsSent (Some d) old.core new.core
       → new.table.current ≡ old.table.current → after ≡ before ++ o ∷ []
       → LeadsBy M w AreSends old before new after
@@ -82,20 +86,20 @@ module _ {R : Type 0} (M : Terms) (w : When) where
       (tt, tt) (record { datagram = d; sent = sent; unasked = ap unasked_in e; given = refl })
       (ap emissions added ∙ (map_push emission_of before o ∙ ap (λ (x : Emission). emissions before ++ x ∷ []) same))
 
-  pub leaves-lead : (c : ℕ) (old new : Engine R) (before : List Output) → IsShutting w c old new
+  pub leaves-lead : (c : ℕ) (old new : Engine R) (before : List (Output R)) → IsShutting w c old new
       → LeadsBy M w (IsInOrder (H.Close c)) old before new before
   leaves-lead c old new before shut =
       leads-one M w (IsInOrder (H.Close c)) (Leaves c) (served_of old) (served_of new) (emissions before) [] (emissions before)
       (inl refl) (closing-of w c old new shut, refl) (sym (append-nil (emissions before)))
 
-  pub misses-lead : (c : ℕ) (old : Engine R) (before : List Output) → IsUnknown c old.core
+  pub misses-lead : (c : ℕ) (old : Engine R) (before : List (Output R)) → IsUnknown c old.core
       → LeadsBy M w (IsInOrder (H.Close c)) old before old before
   misses-lead c old before unknown =
       leads-one M w (IsInOrder (H.Close c)) (Misses c) (served_of old) (served_of old) (emissions before) [] (emissions before)
       (inr refl) (refl, refl, unknown) (sym (append-nil (emissions before)))
 
   -- nothing more can be asked, and only how many bytes count as unread changes
-  pub rests-lead : (c : ℕ) (old new : Engine R) (before : List Output) → new.core ≡ old.core
+  pub rests-lead : (c : ℕ) (old new : Engine R) (before : List (Output R)) → new.core ≡ old.core
       → Recounts c (unasked_in old.table.current) (unasked_in new.table.current) → RestsAt c (served_of new)
       → LeadsBy M w (ServesOut c) old before new before
   rests-lead c old new before core counts rests =
@@ -103,14 +107,14 @@ module _ {R : Type 0} (M : Terms) (w : When) where
       (record { first = []; are = refl; for = tt }) (core, refl, counts, rests) (sym (append-nil (emissions before)))
 
   -- it was served until nothing more can be asked
-  pub serves-lead : (c : ℕ) (old mid new : Engine R) (before during after : List Output) → LeadsBy M w (AreFor c) old before mid during
+  pub serves-lead : (c : ℕ) (old mid new : Engine R) (before during after : List (Output R)) → LeadsBy M w (AreFor c) old before mid during
       → LeadsBy M w (ServesOut c) mid during new after
       → LeadsBy M w (ServesOut c) old before new after
   serves-lead c old mid new before during after h k =
       leads-then M w (AreFor c) (ServesOut c) (ServesOut c) (served_of old) (served_of mid) (served_of new)
       (emissions before) (emissions during) (emissions after) (out-on c) h k
 
-  pub stays-lead : (P : List Act → Type 0) (old new : Engine R) (before after : List Output) → P []
+  pub stays-lead : (P : List Act → Type 0) (old new : Engine R) (before after : List (Output R)) → P []
       → new.core ≡ old.core → unasked_in new.table.current ≡ unasked_in old.table.current
       → emissions after ≡ emissions before
       → LeadsBy M w P old before new after
@@ -122,7 +126,7 @@ module _ {R : Type 0} (M : Terms) (w : When) where
     added = added ∙ sym (append-nil (emissions before));
   }
 
-  pub goes-on-lead : (c : ℕ) (old new : Engine R) (before after : List Output)
+  pub goes-on-lead : (c : ℕ) (old new : Engine R) (before after : List (Output R))
       → ChangesAt Continues c old.table.current new.table.current → new.core ≡ old.core
       → IsNext c old.core → emissions after ≡ emissions before ++ Says c continue_text ∷ []
       → LeadsBy M w (AreFor c) old before new after
@@ -131,7 +135,7 @@ module _ {R : Type 0} (M : Terms) (w : When) where
       (refl, tt) (tells-on c old.table.current new.table.current h, core, refl, next) added
 
   -- the answer is told
-  pub tells-lead : (g : Given) (v : CoreValue) (old new : Engine R) (before mid after : List Output) (rest : List Emission)
+  pub tells-lead : (g : Given) (v : CoreValue) (old new : Engine R) (before mid after : List (Output R)) (rest : List Emission)
       → IsTaken (Some g) g.ask v old.core → old.core.unsent ≡ []
       → TellsBytes M g (emissions before) (emissions mid)
       → Ends w g.conn (closes g.mapping.came) (served_of old) rest (served_of new)
@@ -159,7 +163,7 @@ module _ {R : Type 0} (M : Terms) (w : When) where
       ∙ (ap (λ (es : List Emission). es ++ rest) t.added
       ∙ append_assoc (emissions before) (Says g.conn (answer_text t.response) ∷ []) rest))
 
-  pub takes-lead : (c : ℕ) (bytes : List ℕ) (old mid new : Engine R) (before after : List Output)
+  pub takes-lead : (c : ℕ) (bytes : List ℕ) (old mid new : Engine R) (before after : List (Output R))
       → mid.core ≡ old.core → mid.table.current ≡ appended c bytes old.table.current
       → LeadsBy M w (ServesOut c) mid before new after
       → LeadsBy M w (BeginsWith (Takes c bytes) (ServesOut c)) old before new after
@@ -171,7 +175,7 @@ module _ {R : Type 0} (M : Terms) (w : When) where
           → served_of mid ≡ record (served_of old) { unasked = taken c bytes (unasked_in old.table.current) }
       takes-so same = λ i. record { core = core i; unasked = same i }
 
-  pub steps-lead : (a : Act) (S : State) (P : List Act → Type 0) (old mid new : Engine R) (before after : List Output)
+  pub steps-lead : (a : Act) (S : State) (P : List Act → Type 0) (old mid new : Engine R) (before after : List (Output R))
       → (served_of mid ≡ record (served_of old) { core = stepped S old.core } → Does M w a (served_of old) [] (served_of mid))
       → mid.core ≡ stepped S old.core → mid.table ≡ old.table
       → LeadsBy M w P mid before new after
@@ -181,7 +185,7 @@ module _ {R : Type 0} (M : Terms) (w : When) where
       (does (λ i. record { core = core i; unasked = unasked_in (table i).current })) k
 
   -- a client closes its connection, or one that isn't open
-  pub close-lead : (b : Bool) (c : ℕ) (old new : Engine R) (before : List Output)
+  pub close-lead : (b : Bool) (c : ℕ) (old new : Engine R) (before : List (Output R))
       → (b ≡ true → IsShutting w c old new) → (b ≡ false → (new ≡ old) × IsUnknown c old.core)
       → LeadsBy M w (IsInOrder (H.Close c)) old before new before
   close-lead true c old new before f h = leaves-lead c old new before (f refl)
@@ -205,3 +209,32 @@ shorter d xs ys e = rw e (more (length ys))
   where
     more : (n : ℕ) → n < suc n
     more n = omega arith
+
+-- What is done where the journal is to be given out.
+module _ {R : Type 0} (w : When) where
+  pub rotates-so : (h : List Written) (old new : Engine R) (before after : List (Output R))
+      → IsTurned (at w (served_of old)) h old.core new.core → new.table ≡ old.table
+      → emissions after ≡ emissions before ++ Rotated h ∷ [] → RotatesBy w old before new after
+  rotates-so h old new before after turned table added =
+      let same : h ≡ old.core.state.entries = (rotation-is (at w (served_of old)) old.core.state h new.core.state turned.is).out in
+      record {
+        given = Rotated h ∷ [];
+        rotates = inl (record {
+          turned = subst (λ (k : List Written). IsTurned (at w (served_of old)) k old.core new.core) same turned;
+          given = ap (λ (k : List Written). Rotated k ∷ []) same;
+        });
+        table = table;
+        added = added;
+      }
+
+  pub refuses-so : (fault : Refusal) (old new : Engine R) (before after : List (Output R)) → new.core ≡ old.core
+      → IsRefused (at w (served_of old)) old.core.state fault → (fault ≡ F.Memory → ⊥) → new.table ≡ old.table
+      → emissions after ≡ emissions before ++ Unrotated fault ∷ [] → RotatesBy w old before new after
+  refuses-so fault old new before after core refused other table added =
+      let r = refused-so (at w (served_of old)) old.core.state fault refused other in
+      record {
+        given = Unrotated fault ∷ [];
+        rotates = inr (record { why = r.0; is = r.2; same = core; fault = fault; named = r.1; given = refl });
+        table = table;
+        added = added;
+      }

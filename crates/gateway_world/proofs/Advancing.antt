@@ -4,25 +4,29 @@ use Rattle.std.specs.Prelude.{⊤}
 use Rattle.media_map.specs.declared.form.Form.{Form}
 use Rattle.ask_model.specs.Views.{Rules}
 use Rattle.history_laws.specs.Justified.{Stands}
+use Rattle.exchange_model.specs.State.{State}
 use Rattle.exchange_model.specs.Room.{KeptInRoom}
 use Rattle.exchange_core.specs.Values.{CoreValue}
 use Rattle.gateway_model.specs.declared.input.Happening.{Happening}
+use Rattle.gateway_model.specs.declared.input.Happening.TheVariants as H
 use Rattle.gateway_model.specs.declared.input.Input.{Input}
 use Rattle.gateway_model.specs.declared.input.Output.{Output}
 use Rattle.gateway_model.specs.declared.input.When.{When}
-use Rattle.gateway_model.specs.Acts.{Terms}
+use Rattle.gateway_model.specs.Acts.{Terms, at}
 use Rattle.gateway_model.specs.Emissions.{Emission, emissions, Turned}
 use Rattle.gateway_model.specs.Orders.{IsInOrder}
 use Rattle.gateway_model.specs.Resting.{AllRest}
+use Rattle.gateway_model.specs.Rotating.{Rotates}
 use Rattle.gateway_model.specs.Tellings.{terms_of}
 use Rattle.gateway_model.specs.Unasked.{unasked_in}
 use Rattle.gateway_model.specs.Waiting.{IsDrained}
 use Rattle.history_claims.proofs.CallerLemmas.{names-cause}
-use Rattle.gateway_model.proofs.CallerLemmas.{CountsOpened, input-counts}
+use Rattle.gateway_connections.specs.Inlets.{TableValue}
+use Rattle.gateway_model.proofs.CallerLemmas.{CountsOpened, input-counts, rotation-is}
 use Rattle.gateway_world.specs.declared.engine.Engine.{Engine}
-use Rattle.gateway_world.specs.Inputs.{Takes}
+use Rattle.gateway_world.specs.Inputs.{Takes, TakesActs, TakesRotation}
 use Rattle.gateway_world.specs.Keeping.{IsKept}
-use Rattle.gateway_world.specs.Leading.{LeadsBy, served_of}
+use Rattle.gateway_world.specs.Leading.{LeadsBy, RotatesBy, StepsBy, served_of}
 use Rattle.gateway_world.specs.Openings.{IsCounted, IsOpening}
 use Rattle.gateway_world.specs.Worlds.{WorldValue, Handles, IsTooMuch, counted, world_of}
 use Rattle.gateway_world.proofs.AskedInRun.{heeded}
@@ -31,14 +35,14 @@ use Rattle.gateway_world.proofs.Promises.{led-closes, led-sends, led-tells, inpu
 
 module _ {R : Type 0} (holds : Form → Form → List ℕ → List ℕ → Type 0) (takes : Form → Form → List ℕ → Type 0) (rules : Rules) where
   -- An input is taken once the connections are marked as they are.
-  pub taken-led : (i : Input) (m t : ℕ) (old mid new : Engine R) (before after : List Output)
+  taken-led : (i : Input) (m t : ℕ) (old mid new : Engine R) (before after : List (Output R))
       → LeadsBy (terms_of holds takes rules) (record { moment = t; word = i.word }) (IsInOrder i.happening) old before mid after
       → emissions before ≡ [] → t ≡ counted m i.moment → new.core ≡ mid.core → new.table.current ≡ mid.table.current
       → IsKept holds takes rules m old → IsDrained mid.core → KeptInRoom old.core.state → Stands mid.core.state.entries
       → (IsTooMuch i.happening (served_of old) → ⊥) → IsKept holds takes rules t new
-      → Takes holds takes i (world_of old rules m) (emissions after) (world_of new rules t)
+      → TakesActs holds takes i (world_of old rules m) (emissions after) (world_of new rules t)
   taken-led i m t old mid new before after l none now core current h drained kept stands room then =
-      subst (λ (v : CoreValue). Takes holds takes i (world_of old rules m) (emissions after)
+      subst (λ (v : CoreValue). TakesActs holds takes i (world_of old rules m) (emissions after)
       (record { core = v; inlets = new.table.current; rules = rules; moment = t })) (sym core)
       (by (handled (terms_of holds takes rules) i (world_of old rules m) mid.core mid.table.current new.table.current t
       (emissions before) (emissions after) l none current now))
@@ -47,7 +51,7 @@ module _ {R : Type 0} (holds : Form → Form → List ℕ → List ℕ → Type 
       mine = record { core = mid.core; inlets = new.table.current; rules = rules; moment = t }
 
       by : Handles (terms_of holds takes rules) i (world_of old rules m) (emissions after) mine
-          → Takes holds takes i (world_of old rules m) (emissions after) mine
+          → TakesActs holds takes i (world_of old rules m) (emissions after) mine
       by handles = record {
         room = room;
         handles = handles;
@@ -62,6 +66,40 @@ module _ {R : Type 0} (holds : Form → Form → List ℕ → List ℕ → Type 
           rests = subst (λ (v : CoreValue). AllRest (record { core = v; unasked = unasked_in new.table.current })) core then.3;
         };
       }
+
+  -- So is one at which the journal was to be given out.
+  pub taken-rotated : (i : Input) (m t : ℕ) (old mid new : Engine R) (before after : List (Output R)) → i.happening ≡ H.Rotate
+      → RotatesBy (record { moment = t; word = i.word }) old before mid after
+      → emissions before ≡ [] → t ≡ counted m i.moment → new.core ≡ mid.core → new.table.current ≡ mid.table.current
+      → Stands old.core.state.entries → Stands mid.core.state.entries → IsKept holds takes rules t new
+      → TakesRotation holds takes i (world_of old rules m) (emissions after) (world_of new rules t)
+  taken-rotated i m t old mid new before after wants r none now core current stood stands then = record {
+    wants = wants;
+    stands = stood;
+    rotates =
+        subst (λ (n : ℕ). Rotates (at (record { moment = n; word = i.word }) (served_of old)) old.core (emissions after) new.core) now
+        (subst (λ (es : List Emission). Rotates (at (record { moment = t; word = i.word }) (served_of old)) old.core es new.core)
+        (sym (r.added ∙ ap (λ (es : List Emission). es ++ r.given) none))
+        (subst (λ (v : CoreValue). Rotates (at (record { moment = t; word = i.word }) (served_of old)) old.core r.given v) (sym core) r.rotates));
+    inlets = current ∙ ap (λ (x : TableValue). x.current) r.table;
+    rules = refl;
+    moment = now;
+    mapped = then.4;
+    causes = names-cause new.core.state.entries (subst (λ (v : CoreValue). Stands v.state.entries) (sym core) stands);
+    rests = record { drained = then.1; rests = then.3 };
+  }
+
+  -- What happens is one or the other.
+  pub taken-stepped : (i : Input) (m t : ℕ) (old mid new : Engine R) (before after : List (Output R))
+      → StepsBy (terms_of holds takes rules) (record { moment = t; word = i.word }) i.happening old before mid after
+      → emissions before ≡ [] → t ≡ counted m i.moment → new.core ≡ mid.core → new.table.current ≡ mid.table.current
+      → IsKept holds takes rules m old → IsDrained mid.core → KeptInRoom old.core.state → Stands old.core.state.entries
+      → Stands mid.core.state.entries → (IsTooMuch i.happening (served_of old) → ⊥) → IsKept holds takes rules t new
+      → Takes holds takes i (world_of old rules m) (emissions after) (world_of new rules t)
+  taken-stepped i m t old mid new before after (inl l) none now core current h drained kept stood stands room then =
+      inl (taken-led i m t old mid new before after l none now core current h drained kept stands room then)
+  taken-stepped i m t old mid new before after (inr r) none now core current h drained kept stood stands room then =
+      inr (taken-rotated i m t old mid new before after r.0 r.1 none now core current stood stands then)
 
 -- Which connection opens with an input.
 
@@ -85,7 +123,7 @@ counted-so x None old new before out none (inl k) o = absurd (no-more before out
 counted-so x None old new before out none (inr (inl k)) o = k.2
 counted-so x None old new before out none (inr (inr k)) o = k.1
 
-pub opened-led : {R : Type 0} (M : Terms) (w : When) (x : Happening) (n : Option ℕ) (old new : Engine R) (before after : List Output)
+opened-led : {R : Type 0} (M : Terms) (w : When) (x : Happening) (n : Option ℕ) (old new : Engine R) (before after : List (Output R))
     → LeadsBy M w (IsInOrder x) old before new after → emissions before ≡ []
     → IsOpening x n old.core.state.opened (emissions before) (emissions after) → IsCounted x n old.core new.core
 opened-led M w x n old new before after l none o =
@@ -93,3 +131,29 @@ opened-led M w x n old new before after l none o =
     (subst (λ (es : List Emission). CountsOpened x es old.core.state.opened new.core.state.opened)
     (sym (l.added ∙ ap (λ (es : List Emission). es ++ l.given) none))
     (input-counts M w x l.acts (served_of old) l.given (served_of new) l.done l.order)) o
+
+-- None does where the journal is to be given out.
+opened-rotated : {R : Type 0} (w : When) (x : Happening) (n : Option ℕ) (old new : Engine R) (before after : List (Output R))
+    → x ≡ H.Rotate → RotatesBy w old before new after
+    → IsOpening x n old.core.state.opened (emissions before) (emissions after) → IsCounted x n old.core new.core
+opened-rotated w x (Some c) old new before after wants r o = absurd (is-other (sym wants ∙ o.0))
+  where
+    IsOpen : Happening → Type 0
+    IsOpen H.Open = ⊤
+    IsOpen _ = ⊥
+
+    is-other : H.Rotate ≡ H.Open → ⊥
+    is-other e = subst IsOpen (sym e) tt
+opened-rotated w x None old new before after wants r o = by r.rotates
+  where
+    by : Rotates (at w (served_of old)) old.core r.given new.core → new.core.state.opened ≡ old.core.state.opened
+    by (inl k) =
+        ap (λ (S : State). S.opened)
+        (rotation-is (at w (served_of old)) old.core.state old.core.state.entries new.core.state k.turned.is).is
+    by (inr k) = ap (λ (v : CoreValue). v.state.opened) k.same
+
+pub opened-stepped : {R : Type 0} (M : Terms) (w : When) (x : Happening) (n : Option ℕ) (old new : Engine R) (before after : List (Output R))
+    → StepsBy M w x old before new after → emissions before ≡ []
+    → IsOpening x n old.core.state.opened (emissions before) (emissions after) → IsCounted x n old.core new.core
+opened-stepped M w x n old new before after (inl l) none o = opened-led M w x n old new before after l none o
+opened-stepped M w x n old new before after (inr r) none o = opened-rotated w x n old new before after r.0 r.1 o

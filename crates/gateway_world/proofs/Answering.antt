@@ -28,7 +28,7 @@ use Rattle.gateway_world.proofs.Lead.{leads-none, leads-then, leads-as}
 use Rattle.gateway_world.proofs.Untaken.{not_to, rest-after, fewer, filter-all, all-at}
 
 -- So far answers to asks below the number were told, and those that wait are to later ones.
-pub record Answered {R : Type 0} (M : Terms) (w : When) (old : Engine R) (before : List Output) (new : Engine R) (after : List Output)
+pub record Answered {R : Type 0} (M : Terms) (w : When) (old : Engine R) (before : List (Output R)) (new : Engine R) (after : List (Output R))
     : Type 0 where
   pub number : ℕ
   pub leads : LeadsBy M w (AreTurns number) old before new after
@@ -151,7 +151,7 @@ ticked-served t old new none e kept =
     served-after t old new (ticks_in_room t old.state) none e x (ticks-answer t old.state x) kept
 
 module _ {R : Type 0} (M : Terms) (w : When) where
-  pub answered-none : (e : Engine R) (before : List Output) → AreServed e.core → Answered M w e before e before
+  pub answered-none : (e : Engine R) (before : List (Output R)) → AreServed e.core → Answered M w e before e before
   answered-none e before served = record {
     number = 0;
     leads = leads-none M w (AreTurns 0) (served_of e) (emissions before) no-turns;
@@ -161,7 +161,7 @@ module _ {R : Type 0} (M : Terms) (w : When) where
     unsent = λ none. none;
   }
 
-  pub answered-on : (g : Given) (old mid taken told new : Engine R) (before sofar said after : List Output)
+  pub answered-on : (g : Given) (old mid taken told new : Engine R) (before sofar said after : List (Output R))
       → Answered M w old before mid sofar
       → IsFirstTaken (Some g) mid.core taken.core → taken.table ≡ mid.table
       → LeadsAfter M w (IsTelling g.conn g.ask) mid.core taken.table.current sofar told said
@@ -197,7 +197,7 @@ module _ {R : Type 0} (M : Terms) (w : When) where
         unsent = λ none. waits2.unsent (waits1.unsent (unsent ∙ h.unsent none));
       }
 
-  pub answered-all : (old new : Engine R) (before after : List Output) → Answered M w old before new after
+  pub answered-all : (old new : Engine R) (before after : List (Output R)) → Answered M w old before new after
       → LeadsBy M w HasTurns old before new after
   answered-all old new before after h =
       leads-as M w (AreTurns h.number) HasTurns (served_of old) (served_of new) (emissions before) (emissions after)

@@ -68,7 +68,7 @@ came-item (In.Bad kind) = refl
 
 module _ {R : Type 0} (M : Terms) (w : When) where
   pub asks-lead : (c k : ℕ) (ask : Ask) (i : Item) (v : CoreValue) (xs : List Inlet)
-      (old mid new : Engine R) (before sent after : List Output)
+      (old mid new : Engine R) (before sent after : List (Output R))
       → IsAllTold c v
       → IsAsked (Ok k) (now v.state.moment w.moment) w.word c ask v old.core
       → TakesItem c i (unasked_in xs) (unasked_in old.table.current)
@@ -94,7 +94,7 @@ module _ {R : Type 0} (M : Terms) (w : When) where
       (emissions before) (emissions sent) (emissions after) (sends-for-on c) sends gives)
 
   pub denies-lead : (c : ℕ) (ask : Ask) (i : Item) (v : CoreValue) (xs : List Inlet)
-      (old new : Engine R) (before after : List Output)
+      (old new : Engine R) (before after : List (Output R))
       → IsAllTold c v
       → IsAsked (Err Fault.Sealed) (now v.state.moment w.moment) w.word c ask v old.core
       → TakesItem c i (unasked_in xs) (unasked_in old.table.current)
@@ -116,7 +116,7 @@ module _ {R : Type 0} (M : Terms) (w : When) where
       ) shut.told
 
   -- an answer that is told at once is its own ask's
-  pub given-lead : (c d k : ℕ) (old : Served) (new : Engine R) (before : List Emission) (after : List Output)
+  pub given-lead : (c d k : ℕ) (old : Served) (new : Engine R) (before : List Emission) (after : List (Output R))
       → d ≡ c → Leads M w (IsTelling d k) old before (served_of new) (emissions after)
       → Leads M w (AreFor c) old before (served_of new) (emissions after)
   given-lead c d k old new before after e h =

@@ -7,6 +7,8 @@ pub mod Growth
 pub mod Lead
 pub mod Limits
 pub mod Numbered
+pub mod Once
+pub mod Parted
 pub mod Promises
 pub mod Quiet
 pub mod ReadingOn

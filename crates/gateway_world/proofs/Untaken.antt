@@ -8,7 +8,7 @@ use Rattle.std.proofs.lemmas.List.{append-nil}
 use Rattle.std.proofs.lemmas.List.Elements.{filter-append}
 use Rattle.history_laws.proofs.CallerLemmas.{some-is}
 use Rattle.ask_model.specs.Views.{Ask}
-use Rattle.journal_book.specs.Entries.{Deed, Opens, Asks, Sends, Hears, Passes, Answers, Shuts, Seals, Written}
+use Rattle.journal_book.specs.Entries.{Deed, Opens, Asks, Sends, Hears, Passes, Answers, Shuts, Seals, Carries, Written}
 use Rattle.exchange_model.specs.State.{State}
 use Rattle.exchange_model.specs.Growing.{Adds, IsOfAsk}
 use Rattle.exchange_model.specs.Sealing.{asks_in_room}
@@ -57,6 +57,7 @@ answered-deed n k c a Passes h = tt
 answered-deed n k c a (Answers x j g) h = (h.1, tt)
 answered-deed n k c a (Shuts x) h = tt
 answered-deed n k c a Seals h = tt
+answered-deed n k c a (Carries number mark done) h = tt
 
 answered-own : (n k c : ℕ) (a : Ask) (ws : List Written) → AllByRecursion (λ (w : Written). IsOfAsk k c a w.deed) ws
     → AllByRecursion (λ (u : Untaken). u.ask ≡ k) (answered_in n ws)

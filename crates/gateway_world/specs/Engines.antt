@@ -77,7 +77,7 @@ pub record IsAskOf (c k : ℕ) (h : List Written) : Type 0 where
 
 -- So from a core and connections on, to the engine.
 abbrev pub LeadsAfter : {R : Type 0} → Terms → When → (List Act → Type 0)
-    → CoreValue → List Inlet → List Output → Engine R → List Output → Type 0
+    → CoreValue → List Inlet → List (Output R) → Engine R → List (Output R) → Type 0
 LeadsAfter M w P v xs before new after =
     Leads M w P (record { core = v; unasked = unasked_in xs }) (emissions before)
     (served_of new) (emissions after)
@@ -93,7 +93,7 @@ GoesOn true c old new = work_at c new < work_at c old
 GoesOn false c old new = ⊤
 
 -- A connection that was open is closed, and told so.
-pub record IsShut {R : Type 0} (w : When) (c : ℕ) (old : Engine R) (before : List Output)
-    (new : Engine R) (after : List Output) : Type 0 where
+pub record IsShut {R : Type 0} (w : When) (c : ℕ) (old : Engine R) (before : List (Output R))
+    (new : Engine R) (after : List (Output R)) : Type 0 where
   pub shuts : IsShutting w c old new
   pub told : emissions after ≡ emissions before ++ Closed c ∷ []

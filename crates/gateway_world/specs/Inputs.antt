@@ -1,24 +1,28 @@
 -- What is promised of an input that is taken, and of inputs that are taken one after another.
-use Rattle.std.specs.Prelude.{◌≡◌, ℕ, List, [], ◌∷◌, ◌++◌}
+use Rattle.std.specs.Prelude.{◌≡◌, ◌⊎◌, ℕ, List, [], ◌∷◌, ◌++◌}
 use Rattle.media_map.specs.declared.form.Form.{Form}
 use Rattle.ask_model.specs.Views.{Rules}
 use Rattle.journal_book.specs.Entries.{Written}
+use Rattle.history_laws.specs.Justified.{Stands}
 use Rattle.history_claims.specs.Causes.{AreCaused}
+use Rattle.gateway_model.specs.declared.input.Happening.TheVariants as H
 use Rattle.gateway_model.specs.declared.input.Input.{Input}
+use Rattle.gateway_model.specs.Acts.{at}
 use Rattle.gateway_model.specs.Asking.{AllHeed}
 use Rattle.gateway_model.specs.Closing.{Closes}
 use Rattle.gateway_model.specs.Emissions.{Emission}
 use Rattle.gateway_model.specs.Going.{SendsJust}
-use Rattle.gateway_model.specs.Tellings.{IsMapped, terms_of}
+use Rattle.gateway_model.specs.Rotating.{Rotates}
+use Rattle.gateway_model.specs.Tellings.{AreMapped, IsMapped, terms_of}
 use Rattle.gateway_model.specs.Told.{TellsAll}
-use Rattle.gateway_world.specs.Worlds.{WorldValue, Handles, IsAtRest, IsTooMuch, Shows, new_world, served_in}
+use Rattle.gateway_world.specs.Worlds.{WorldValue, Handles, IsAtRest, IsTooMuch, Shows, counted, new_world, served_in, when_in}
 
 module _ (holds : Form → Form → List ℕ → List ℕ → Type 0)
     (takes : Form → Form → List ℕ → Type 0) where
   -- An input is taken that doesn't bring too much. What it leads to are acts in order; what is told,
   -- asked and sent is what the new entries say; the own errors in the journal name their causes; what
   -- came in shows in the new entries; who is closed has a reason; and after it nothing waits.
-  pub record Takes (i : Input) (old : WorldValue) (out : List Emission) (new : WorldValue)
+  pub record TakesActs (i : Input) (old : WorldValue) (out : List Emission) (new : WorldValue)
       : Type 0 where
     pub room : IsTooMuch i.happening (served_in old) → ⊥
     pub handles : Handles (terms_of holds takes old.rules) i old out new
@@ -31,6 +35,24 @@ module _ (holds : Form → Form → List ℕ → List ℕ → Type 0)
     pub closes :
         Closes (terms_of holds takes old.rules) i.happening old.core.state new.core.state out
     pub rests : IsAtRest new
+
+  -- Or the journal, which stands, is to be given out: it is, and the world goes on with a new one;
+  -- or it isn't, and only the moment goes on. In the journal that there is then what was asked is
+  -- mapped, and own errors name their causes; and nothing waits.
+  pub record TakesRotation (i : Input) (old : WorldValue) (out : List Emission) (new : WorldValue)
+      : Type 0 where
+    pub wants : i.happening ≡ H.Rotate
+    pub stands : Stands old.core.state.entries
+    pub rotates : Rotates (at (when_in old i) (served_in old)) old.core out new.core
+    pub inlets : new.inlets ≡ old.inlets
+    pub rules : new.rules ≡ old.rules
+    pub moment : new.moment ≡ counted old.moment i.moment
+    pub mapped : AreMapped holds takes old.rules new.core.state.entries
+    pub causes : AreCaused new.core.state.entries
+    pub rests : IsAtRest new
+
+  abbrev pub Takes : Input → WorldValue → List Emission → WorldValue → Type 0
+  Takes i old out new = TakesActs i old out new ⊎ TakesRotation i old out new
 
   -- Inputs are, one after another.
   abbrev pub TakesAll : List Input → WorldValue → List Emission → WorldValue → Type 0

@@ -2,6 +2,7 @@ pub mod Asked
 pub mod Engines
 pub mod Faults
 pub mod Inputs
+pub mod Journals
 pub mod Keeping
 pub mod Leading
 pub mod Openings

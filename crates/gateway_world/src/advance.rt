@@ -49,7 +49,7 @@ impl<R: Relation> World<R> {
         self,
         bank: &Bank<R>,
         input: Input<'_>,
-        outputs: &mut Vec<Output>,
+        outputs: &mut Vec<Output<R>>,
     ) -> Result<Advanced<R>, Memory>
         requires suits { Suits R.holds R.takes self.rules.routes bank.now }
         requires room { IsTooMuch input.happening (served_in self) → ⊥ }

@@ -1,6 +1,6 @@
 //! What an input leads to, act by act.
 
-ghost use Rattle.std.specs.Prelude.{ℕ, ◌≡◌, ◌≤◌, List, [], true, false, Some, None, IfOk, OnOk};
+ghost use Rattle.std.specs.Prelude.{ℕ, ◌≡◌, ◌≤◌, List, [], true, false, Some, None, IfOk, OnErr, OnOk};
 ghost use Rattle.http_edge.specs.Edges.{item};
 ghost use Rattle.exchange_model.specs.Resting.{HasConn};
 ghost use Rattle.exchange_core.specs.Answering.{given_of};
@@ -14,14 +14,14 @@ ghost use Rattle.gateway_model.specs.Waiting.{AreServed, IsOpen};
 ghost use Rattle.gateway_world.specs.Engines.{terms_in, work_at, GoesOn, ServesNext, IsAskOf, IsReady, IsSentOut, IsShut, IsShutting, KeepsWaiting, LeadsAfter, LetsGo, MayGoBack};
 ghost use Rattle.gateway_connections.specs.Inlets.{Inlet};
 ghost use Rattle.gateway_model.specs.Unasked.{TakesItem, unasked_in};
-ghost use Rattle.gateway_world.specs.Leading.{LeadsBy, rules_in};
+ghost use Rattle.gateway_world.specs.Leading.{LeadsBy, RotatesBy, StepsBy, rules_in};
 ghost use Rattle.gateway_model.specs.Waiting.{IsDrained};
 ghost use Rattle.transformers.specs.Suits.{Suits};
 ghost use Rattle.gateway_model.specs.Orders.{AreFor, AreSends, HasTurns, Delivers, IsInOrder, IsTelling, ServesOut};
 
 use crate::telling::{tell_answer, tell_closed, tell_continue, tell_turned};
 use ask_model::Settings;
-use exchange_core::{Answer, AskFault, Core, OpenFault, Ticket};
+use exchange_core::{Answer, AskFault, Core, OpenFault, RotateFault, Ticket};
 use gateway_connections::{Next, Table};
 use gateway_model::{Happening, Output, When};
 use http_edge::{Incoming, Memory};
@@ -48,20 +48,21 @@ pub struct Engine<R: Relation> {
 
 impl<R: Relation> Engine<R> {
     /// Does what happens leads to, and answers the number of the connection that opens with it.
+    /// Where memory runs out it can go back to what it was.
     pub fn step(
         &mut self,
         context: Context<'_>,
         bank: &Bank<R>,
         happening: Happening<'_>,
-        outputs: &mut Vec<Output>,
+        outputs: &mut Vec<Output<R>>,
     ) -> Result<Option<u32>, Memory>
         requires ready { IsReady self.old }
         requires drained { IsDrained self.old.core }
         requires suits { Suits R.holds R.takes (rules_in context).routes bank.now }
-        ensures leads { OnOk result (LeadsBy (terms_in R.holds R.takes context.entry)
-            context.entry.when (IsInOrder happening.entry)
+        ensures steps { OnOk result (StepsBy (terms_in R.holds R.takes context.entry)
+            context.entry.when happening.entry
             self.old outputs.old.items self.new outputs.new.items) }
-        ensures back { MayGoBack self.old self.new }
+        ensures back { OnErr result (MayGoBack self.old self.new) }
         ensures drained { OnOk result (IsDrained self.new.core) }
         ensures opened { IfOk result (λ n. IsOpening happening.entry n self.old.core.state.opened
             (emissions outputs.old.items) (emissions outputs.new.items)) }
@@ -84,6 +85,10 @@ impl<R: Relation> Engine<R> {
                 self.close(context, number);
                 Ok(None)
             }
+            Happening::Rotate => {
+                self.rotate(context, outputs)?;
+                Ok(None)
+            }
         }
     }
 
@@ -91,7 +96,7 @@ impl<R: Relation> Engine<R> {
     fn open(
         &mut self,
         context: Context<'_>,
-        outputs: &mut Vec<Output>,
+        outputs: &mut Vec<Output<R>>,
     ) -> Result<Option<u32>, Memory>
         requires ready { IsReady self.old }
         requires drained { IsDrained self.old.core }
@@ -127,7 +132,7 @@ impl<R: Relation> Engine<R> {
         bank: &Bank<R>,
         number: u32,
         bytes: &[u8],
-        outputs: &mut Vec<Output>,
+        outputs: &mut Vec<Output<R>>,
     ) -> Result<(), Memory>
         requires suits { Suits R.holds R.takes (rules_in context).routes bank.now }
         requires drained { IsDrained self.old.core }
@@ -148,7 +153,7 @@ impl<R: Relation> Engine<R> {
         bank: &Bank<R>,
         peer: Peer,
         bytes: &[u8],
-        outputs: &mut Vec<Output>,
+        outputs: &mut Vec<Output<R>>,
     ) -> Result<(), Memory>
         requires suits { Suits R.holds R.takes (rules_in context).routes bank.now }
         requires drained { IsDrained self.old.core }
@@ -170,7 +175,7 @@ impl<R: Relation> Engine<R> {
         &mut self,
         context: Context<'_>,
         bank: &Bank<R>,
-        outputs: &mut Vec<Output>,
+        outputs: &mut Vec<Output<R>>,
     ) -> Result<(), Memory>
         requires suits { Suits R.holds R.takes (rules_in context).routes bank.now }
         requires drained { IsDrained self.old.core }
@@ -184,6 +189,27 @@ impl<R: Relation> Engine<R> {
         // Its contract says that the core keeps to its history.
         self.core.journal();
         self.deliver(context, bank, outputs)
+    }
+
+    /// Gives the sealed journal out and goes on with a new one, or tells why not. The place for
+    /// what is told is made before.
+    fn rotate(&mut self, context: Context<'_>, outputs: &mut Vec<Output<R>>) -> Result<(), Memory>
+        requires drained { IsDrained self.old.core }
+        ensures rotates { OnOk result (RotatesBy context.entry.when
+            self.old outputs.old.items self.new outputs.new.items) }
+        ensures drained { OnOk result (IsDrained self.new.core) }
+        ensures unchanged { OnErr result (self.new ≡ self.old) }
+    {
+        outputs.try_reserve(1)?;
+        let output = match self.core.rotate(context.when.moment) {
+            Ok(journal) => Output::Rotated(journal),
+            Err(fault) => match fault {
+                RotateFault::Memory => return Err(Memory),
+                _ => Output::Unrotated(fault),
+            },
+        };
+        outputs.push_reserved(output);
+        Ok(())
     }
 
     /// Closes the connection. False where it isn't open.
@@ -205,7 +231,7 @@ impl<R: Relation> Engine<R> {
         &mut self,
         context: Context<'_>,
         bank: &Bank<R>,
-        outputs: &mut Vec<Output>,
+        outputs: &mut Vec<Output<R>>,
     ) -> Result<(), Memory>
         requires suits { Suits R.holds R.takes (rules_in context).routes bank.now }
         requires served { AreServed self.old.core }
@@ -219,7 +245,7 @@ impl<R: Relation> Engine<R> {
     }
 
     /// Gives out the datagrams that wait.
-    fn send_all(&mut self, context: Context<'_>, outputs: &mut Vec<Output>) -> Result<(), Memory>
+    fn send_all(&mut self, context: Context<'_>, outputs: &mut Vec<Output<R>>) -> Result<(), Memory>
         ensures leads { OnOk result (LeadsBy (terms_in R.holds R.takes context.entry)
             context.entry.when AreSends self.old outputs.old.items self.new outputs.new.items) }
         ensures back { MayGoBack self.old self.new }
@@ -237,7 +263,7 @@ impl<R: Relation> Engine<R> {
         &mut self,
         context: Context<'_>,
         bank: &Bank<R>,
-        outputs: &mut Vec<Output>,
+        outputs: &mut Vec<Output<R>>,
     ) -> Result<(), Memory>
         requires suits { Suits R.holds R.takes (rules_in context).routes bank.now }
         requires served { AreServed self.old.core }
@@ -261,7 +287,7 @@ impl<R: Relation> Engine<R> {
         context: Context<'_>,
         bank: &Bank<R>,
         number: u32,
-        outputs: &mut Vec<Output>,
+        outputs: &mut Vec<Output<R>>,
     ) -> Result<(), Memory>
         requires suits { Suits R.holds R.takes (rules_in context).routes bank.now }
         requires told { IsAllTold number self.old.core }
@@ -281,7 +307,7 @@ impl<R: Relation> Engine<R> {
         context: Context<'_>,
         bank: &Bank<R>,
         number: u32,
-        outputs: &mut Vec<Output>,
+        outputs: &mut Vec<Output<R>>,
     ) -> Result<bool, Memory>
         requires suits { Suits R.holds R.takes (rules_in context).routes bank.now }
         requires told { IsAllTold number self.old.core }
@@ -316,7 +342,7 @@ impl<R: Relation> Engine<R> {
         bank: &Bank<R>,
         number: u32,
         incoming: Incoming,
-        outputs: &mut Vec<Output>,
+        outputs: &mut Vec<Output<R>>,
     ) -> Result<(), Memory>
         requires suits { Suits R.holds R.takes (rules_in context).routes bank.now }
         requires idle { HasConn self.old.core.state.conns number None }
@@ -350,7 +376,7 @@ impl<R: Relation> Engine<R> {
         context: Context<'_>,
         bank: &Bank<R>,
         ticket: &Ticket<R>,
-        outputs: &mut Vec<Output>,
+        outputs: &mut Vec<Output<R>>,
     ) -> Result<(), Memory>
         requires suits { Suits R.holds R.takes (rules_in context).routes bank.now }
         requires of { IsAskOf ticket.now.conn ticket.now.number self.old.core.state.entries }
@@ -376,7 +402,7 @@ impl<R: Relation> Engine<R> {
         context: Context<'_>,
         bank: &Bank<R>,
         answer: Answer<R>,
-        outputs: &mut Vec<Output>,
+        outputs: &mut Vec<Output<R>>,
     ) -> Result<(), Memory>
         requires suits { Suits R.holds R.takes (rules_in context).routes bank.now }
         requires conn { IsOpen answer.conn self.old.core.state.conns }
@@ -404,7 +430,7 @@ impl<R: Relation> Engine<R> {
         &mut self,
         context: Context<'_>,
         number: u32,
-        outputs: &mut Vec<Output>,
+        outputs: &mut Vec<Output<R>>,
     ) -> Result<(), Memory>
         requires conn { IsOpen number self.old.core.state.conns }
         ensures shut { OnOk result (IsShut context.entry.when number

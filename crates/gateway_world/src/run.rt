@@ -1,16 +1,14 @@
 //! Whole runs of inputs.
 
-ghost use Rattle.std.specs.Prelude.{◌≡◌, ℕ, [], Err, IfOk, OnOk};
+ghost use Rattle.std.specs.Prelude.{◌≡◌, [], Err, IfOk, OnOk};
 ghost use Rattle.history_laws.specs.Justified.{Stands};
 ghost use Rattle.history_claims.specs.Causes.{AreCaused};
 ghost use Rattle.ask_model.specs.Views.{rules_of};
 ghost use Rattle.gateway_model.specs.Emissions.{emissions};
-ghost use Rattle.exchange_core.specs.Values.{sent_in};
-ghost use Rattle.gateway_model.specs.Going.{goes_in};
 ghost use Rattle.gateway_model.specs.Tellings.{AreMapped, IsMapped};
-ghost use Rattle.gateway_model.specs.Told.{IsToldAnswers};
 ghost use Rattle.gateway_world.specs.Asked.{AsksInRun};
 ghost use Rattle.gateway_world.specs.Inputs.{IsRefusedAfter, RunsTo, TakesAll};
+ghost use Rattle.gateway_world.specs.Journals.{AllLiveOnce, AreSent, AreTold, EachJournal, EachPart, all_entries};
 ghost use Rattle.gateway_world.specs.Worlds.{IsAtRest, new_world};
 ghost use Rattle.transformers.specs.Suits.{Suits};
 
@@ -22,11 +20,13 @@ use journal_book::Journal;
 use std::alloc::Global;
 use transformers::{Bank, Relation};
 
-/// What a run gave out, and what happened in it.
+/// What a run gave out, and what happened in it: its journals are those that were given out, in
+/// order, and this, the last one. A connection is open while one of them is added to.
 #[derive(Drop)]
 pub struct Run<R: Relation> {
     /// The outputs of each input, in order.
-    pub outputs: Vec<Output>,
+    pub outputs: Vec<Output<R>>,
+    /// The last journal.
     pub journal: Journal<R>,
 }
 
@@ -41,16 +41,22 @@ impl<R: Relation> World<R> {
         requires suits { Suits R.holds R.takes (rules_of settings).routes bank.now }
         ensures takes { IfOk result (λ run. RunsTo R.holds R.takes (rules_of settings) inputs.now
             (emissions run.outputs.items) run.journal.entries) }
-        ensures stands { IfOk result (λ run. Stands run.journal.entries) }
-        ensures told { IfOk result (λ run. (c : ℕ) → IsToldAnswers R.holds R.takes
-            [] run.journal.entries c (emissions run.outputs.items)) }
+        ensures stands { IfOk result (λ run. EachJournal Stands
+            (emissions run.outputs.items) run.journal.entries) }
+        ensures told { IfOk result (λ run. EachPart (AreTold R.holds R.takes)
+            (emissions run.outputs.items) run.journal.entries) }
+        ensures lives { IfOk result (λ run. AllLiveOnce
+            (emissions run.outputs.items) run.journal.entries) }
         ensures mapped { IfOk result
-            (λ run. AreMapped R.holds R.takes (rules_of settings) run.journal.entries) }
-        ensures causes { IfOk result (λ run. AreCaused run.journal.entries) }
+            (λ run. EachJournal (AreMapped R.holds R.takes (rules_of settings))
+            (emissions run.outputs.items) run.journal.entries) }
+        ensures causes { IfOk result (λ run. EachJournal AreCaused
+            (emissions run.outputs.items) run.journal.entries) }
         ensures asks { IfOk result (λ run. AsksInRun (IsMapped R.holds R.takes (rules_of settings))
-            inputs.now (emissions run.outputs.items) run.journal.entries) }
-        ensures sends { IfOk result (λ run. goes_in (emissions run.outputs.items)
-            ≡ sent_in run.journal.entries) }
+            inputs.now (emissions run.outputs.items)
+            (all_entries (emissions run.outputs.items) run.journal.entries)) }
+        ensures sends { IfOk result (λ run. EachPart AreSent
+            (emissions run.outputs.items) run.journal.entries) }
         ensures full { result ≡ Err WorldFault.Backlog
             → IsRefusedAfter R.holds R.takes inputs.now (new_world (rules_of settings)) }
     {
@@ -66,7 +72,7 @@ impl<R: Relation> World<R> {
         &mut self,
         bank: &Bank<R>,
         inputs: &[Input<'_>],
-        outputs: &mut Vec<Output>,
+        outputs: &mut Vec<Output<R>>,
     ) -> Result<(), WorldFault>
         requires suits { Suits R.holds R.takes self.old.rules.routes bank.now }
         requires untold { outputs.old.items ≡ [] }

@@ -21,7 +21,11 @@ use transformers::{Bank, Relation};
 const CONTINUE: &str = "HTTP/1.1 100 Continue\r\n\r\n";
 
 /// Tells a client that waits with its body to go on.
-pub fn tell_continue(alloc: Global, number: u32, outputs: &mut Vec<Output>) -> Result<(), Memory>
+pub fn tell_continue<R: Relation>(
+    alloc: Global,
+    number: u32,
+    outputs: &mut Vec<Output<R>>,
+) -> Result<(), Memory>
     ensures { OnOk result (emissions outputs.new.items
         ≡ emissions outputs.old.items ++ Says number continue_text ∷ []) }
 {
@@ -36,7 +40,7 @@ pub fn tell_answer<R: Relation>(
     context: Context<'_>,
     bank: &Bank<R>,
     answer: &Answer<R>,
-    outputs: &mut Vec<Output>,
+    outputs: &mut Vec<Output<R>>,
 ) -> Result<(), Memory>
     requires { Suits R.holds R.takes (rules_in context).routes bank.now }
     ensures { OnOk result (TellsBytes (terms_in R.holds R.takes context.entry)
@@ -50,7 +54,7 @@ pub fn tell_answer<R: Relation>(
 }
 
 /// Tells that the proxy closes the connection.
-pub fn tell_closed(number: u32, outputs: &mut Vec<Output>) -> Result<(), Memory>
+pub fn tell_closed<R: Relation>(number: u32, outputs: &mut Vec<Output<R>>) -> Result<(), Memory>
     ensures { OnOk result
         (emissions outputs.new.items ≡ emissions outputs.old.items ++ Closed number ∷ []) }
 {
@@ -59,7 +63,7 @@ pub fn tell_closed(number: u32, outputs: &mut Vec<Output>) -> Result<(), Memory>
 }
 
 /// Tells that a client is turned away.
-pub fn tell_turned(outputs: &mut Vec<Output>) -> Result<(), Memory>
+pub fn tell_turned<R: Relation>(outputs: &mut Vec<Output<R>>) -> Result<(), Memory>
     ensures { OnOk result
         (emissions outputs.new.items ≡ emissions outputs.old.items ++ Turned ∷ []) }
 {

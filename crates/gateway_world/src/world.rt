@@ -59,7 +59,7 @@ impl<R: Relation> World<R> {
 
     /// Takes an input and gives out what it leads to. An input for a connection that isn't open
     /// gives nothing. One that is refused changes nothing, and can be given again.
-    pub fn input(&mut self, bank: &Bank<R>, input: Input<'_>) -> Result<Vec<Output>, WorldFault>
+    pub fn input(&mut self, bank: &Bank<R>, input: Input<'_>) -> Result<Vec<Output<R>>, WorldFault>
         requires suits { Suits R.holds R.takes self.old.rules.routes bank.now }
         ensures takes { IfOk result (λ outputs. Takes R.holds R.takes input.entry self.old
             (emissions outputs.items) self.new) }

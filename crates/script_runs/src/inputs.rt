@@ -11,6 +11,7 @@ pub fn input_of(line: &Line) -> Input<'_> {
         Event::Datagram(peer, bytes) => Happening::Datagram(*peer, bytes),
         Event::Tick => Happening::Tick,
         Event::Close(connection) => Happening::Close(*connection),
+        Event::Rotate => Happening::Rotate,
     };
     Input {
         moment: line.moment,

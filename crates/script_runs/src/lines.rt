@@ -1,9 +1,9 @@
 //! The lines that tell of outputs and of entries.
 
 use command_line::ReplayFault;
-use gateway_world::Output;
+use gateway_world::{Output, World};
 use http_edge::Incoming;
-use journal_book::{Entry, Event, Grounds};
+use journal_book::{Done, Entry, Event, Grounds, Mark};
 use std::alloc::Global;
 use std::io::{self, Write};
 use transformers::Relation;
@@ -14,26 +14,29 @@ fn written(outcome: io::Result<()>) -> Result<(), ReplayFault> {
     outcome.map_err(|_| ReplayFault::Device)
 }
 
-/// Writes what an input gave out at that moment.
-pub(crate) fn write_outputs<W: Write>(
+/// Writes what an input gave out, after which the world is this.
+pub(crate) fn write_outputs<R: Relation, W: Write>(
     alloc: Global,
     writer: &mut W,
-    moment: u64,
-    outputs: &[Output],
+    world: &World<R>,
+    outputs: &[Output<R>],
 ) -> Result<(), ReplayFault> {
     for output in outputs {
-        write_output(alloc, writer, moment, output)?;
+        write_output(alloc, writer, world, output)?;
     }
     Ok(())
 }
 
-/// Writes `MOMENT bytes CONN HEX`, `MOMENT datagram PEER HEX`, `MOMENT closed CONN` or `MOMENT turned`.
-pub fn write_output<W: Write>(
+/// Writes `MOMENT bytes CONN HEX`, `MOMENT datagram PEER HEX`, `MOMENT closed CONN`,
+/// `MOMENT turned`, `MOMENT rotated COUNT` with the entries of the new journal, or
+/// `MOMENT unrotated FAULT`.
+pub fn write_output<R: Relation, W: Write>(
     alloc: Global,
     writer: &mut W,
-    moment: u64,
-    output: &Output,
+    world: &World<R>,
+    output: &Output<R>,
 ) -> Result<(), ReplayFault> {
+    let moment = world.moment();
     match output {
         Output::Bytes(connection, bytes) => {
             let bytes = hex::encode(alloc, bytes.as_slice())?;
@@ -46,6 +49,14 @@ pub fn write_output<W: Write>(
         }
         Output::Closed(connection) => written(writeln!(writer, "{moment} closed {connection}")),
         Output::Turned => written(writeln!(writer, "{moment} turned")),
+        Output::Rotated(_) => {
+            let count = world.journal().len();
+            written(writeln!(writer, "{moment} rotated {count}"))
+        }
+        Output::Unrotated(fault) => {
+            let fault = *fault as u8;
+            written(writeln!(writer, "{moment} unrotated {fault}"))
+        }
     }
 }
 
@@ -86,6 +97,36 @@ pub fn write_entry<R: Relation, W: Write>(
         }
         Event::Shut(connection) => written(writeln!(writer, "shut {connection}")),
         Event::Sealed => written(writeln!(writer, "sealed")),
+        Event::Carried { number, mark, done } => {
+            let mark = mark_word(*mark);
+            written(write!(writer, "carried {number} {mark} "))?;
+            write_done(alloc, writer, done)
+        }
+    }
+}
+
+/// What a copy is for.
+fn mark_word(mark: Mark) -> &'static str {
+    match mark {
+        Mark::Ground => "ground",
+        Mark::Past => "past",
+    }
+}
+
+/// Writes what a copy carries, as it is written of the entry that it copies.
+fn write_done<R: Relation, W: Write>(
+    alloc: Global,
+    writer: &mut W,
+    done: &Done<R>,
+) -> Result<(), ReplayFault> {
+    match done {
+        Done::Asked(connection, mapped) => write_asked(writer, *connection, mapped.came()),
+        Done::Sent { peer, bytes, .. } => {
+            write_datagram(alloc, writer, "sent", *peer, bytes.as_slice())
+        }
+        Done::Heard { peer, bytes } => {
+            write_datagram(alloc, writer, "heard", *peer, bytes.as_slice())
+        }
     }
 }
 

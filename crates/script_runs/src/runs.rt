@@ -51,7 +51,7 @@ impl<R: Relation> Script<R> {
         })
     }
 
-    /// What happened.
+    /// What happened since the last journal was given out, or since the beginning.
     pub fn journal(&self) -> &Journal<R> {
         self.world.journal()
     }
@@ -131,7 +131,7 @@ impl<R: Relation> Script<R> {
         ensures { self.new.world.rules ≡ self.old.world.rules }
     {
         match self.world.input(bank, input_of(line)) {
-            Ok(outputs) => write_outputs(self.alloc, writer, self.world.moment(), &outputs),
+            Ok(outputs) => write_outputs(self.alloc, writer, &self.world, &outputs),
             Err(WorldFault::Backlog) => Err(self.refuse(self.lines, Reason::Backlog)),
             Err(WorldFault::Memory) => Err(ReplayFault::Memory),
         }
@@ -146,7 +146,7 @@ impl<R: Relation> Script<R> {
         }
     }
 
-    /// Writes the entries of the journal.
+    /// Writes the entries of the last journal.
     fn write_journal<W: Write>(&self, writer: &mut W) -> Result<(), ReplayFault> {
         let journal = self.journal();
         for number in 0..journal.len() {
@@ -158,7 +158,7 @@ impl<R: Relation> Script<R> {
     }
 
     /// Reads a script, runs it, and writes the outputs and, where asked for, the entries of the
-    /// journal after them. The first fault met in reading order ends it; what the lines before it
+    /// last journal after them. The first fault met in reading order ends it; what the lines before it
     /// gave is written.
     pub fn run<I: Read, W: Write>(
         &mut self,

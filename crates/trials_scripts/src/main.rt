@@ -2,7 +2,8 @@
 //!
 //! A line on standard input names a script, and how it is run: `NAME [--journal] [FILE.toml]`. Its inputs are in
 //! `NAME.script`, and `NAME.out` has what a terminal shows of `hcproxy replay`: the outputs, then the journal where
-//! that is asked for, and why the run ended where it was refused.
+//! that is asked for, and why the run ended where it was refused. With `NAME --draw` it is what a terminal shows of
+//! `hcproxy draw`.
 #![tactic(auto)]
 
 ghost use Rattle.proxy_settings.specs.Files.{IsOf};
@@ -10,8 +11,10 @@ ghost use Rattle.std.specs.Prelude.{IfOk};
 
 use ask_model::Settings;
 use command_line::{Report, demonstration, followed};
+use journal_picture::draw;
 use proxy_settings::{FileFault, Part, Setup, read_setup};
 use script_runs::replay;
+use std::alloc::Global;
 use std::fs;
 use std::io::{self, BufRead, BufReader, Write};
 use std::process::ExitCode;
@@ -22,6 +25,8 @@ use std::rt::Files;
 struct Row<'a> {
     name: &'a str,
     journal: bool,
+    /// Whether it is a journal that is drawn.
+    draw: bool,
     /// The file of its settings, or none for those of the demonstration.
     settings: Option<&'a str>,
 }
@@ -31,6 +36,7 @@ fn row_of(line: &str) -> Row<'_> {
     let mut row = Row {
         name: "",
         journal: false,
+        draw: false,
         settings: None,
     };
     for (place, word) in line.split(' ').enumerate() {
@@ -38,6 +44,8 @@ fn row_of(line: &str) -> Row<'_> {
             row.name = word;
         } else if word == "--journal" {
             row.journal = true;
+        } else if word == "--draw" {
+            row.draw = true;
         } else {
             row.settings = Some(word);
         }
@@ -79,9 +87,24 @@ fn run<'a, R: Files + AllocGlobal, W: Write>(
     script: &[u8],
     writer: &mut W,
 ) -> Result<(), Report<'a>> {
+    if row.draw {
+        return draw_to(rt.alloc(), script, writer);
+    }
     let settings = settings_of(rt, row)?;
     let mut reader = script;
     replay(rt.alloc(), settings, &mut reader, writer, row.journal)
+}
+
+/// Writes the picture of a journal.
+fn draw_to<'a, W: Write>(alloc: Global, journal: &[u8], writer: &mut W) -> Result<(), Report<'a>> {
+    let page = match draw(alloc, journal) {
+        Ok(page) => page,
+        Err(fault) => return Err(Report::picture(fault)),
+    };
+    match writer.write_all(page.as_slice()) {
+        Ok(()) => Ok(()),
+        Err(_) => Err(Report::unprinted()),
+    }
 }
 
 /// What a terminal shows of a row.

@@ -1,17 +1,16 @@
 -- An input that is taken leads by acts, of which the promises hold; one that is refused changes nothing.
 use Rattle.std.proofs.Common.{Bool, true, false, refl, sym, ap, ◌∙◌, subst, arith}
 use Rattle.std.specs.Prelude.{⊤}
-use Rattle.std.specs.Arc.{arc_value}
 use Rattle.gateway_model.specs.Emissions.{emissions}
 use Rattle.gateway_world.specs.Worlds.{WorldValue, IsTooMuch, served_in}
-use Rattle.gateway_world.proofs.Advancing.{taken-led}
-use Rattle.gateway_world.proofs.Promises.{kept-back, kept-led}
+use Rattle.gateway_world.proofs.Advancing.{taken-stepped}
+use Rattle.gateway_world.proofs.Promises.{kept-back, kept-stepped}
 use Rattle.gateway_world.proofs.state.World.input.Goals as goal
 
 pub invariant_of-self : goal.invariant_of-self
 invariant_of-self g c =
-    kept-led g.R.Relation.holds g.R.Relation.takes _ _ _ _ c.max-moment.result c.self.inside.engine c.step.new.self _ _ _
-    c.in-Ok.ensures.leads c.self.invariant c.in-Ok.ensures.drained c.journal.ensures.kept c.journal-in-Ok.ensures.stands
+    kept-stepped g.R.Relation.holds g.R.Relation.takes _ _ _ _ c.max-moment.result c.self.inside.engine c.step.new.self _ _ _
+    c.in-Ok.ensures.steps c.self.invariant c.in-Ok.ensures.drained c.journal.ensures.kept c.journal-in-Ok.ensures.stands
     refl c.mark.ensures.current c.mark.ensures.marked
     (let a = c.max-moment.ensures in let b = c.min.ensures in let d = c.self.invariant.2 in omega (arith, a, b, d))
 
@@ -32,10 +31,10 @@ returns-in-Ok-clause-takes g c =
     let room = subst (λ (w : WorldValue). IsTooMuch c.args.input.happening (served_in w) → ⊥) (sym c.self.view_is)
     (λ full. subst IsOff (c.is_too_much.ensures.1 full) (subst IsOff (sym c.if-is_too_much.false) tt)) in
     rw (← c.self.view_is)
-    (taken-led g.R.Relation.holds g.R.Relation.takes _ c.args.input _ c.max-moment.result c.self.inside.engine c.step.new.self _ _ _
-    c.in-Ok.ensures.leads (ap emissions c.new-outputs.ensures.items)
+    (taken-stepped g.R.Relation.holds g.R.Relation.takes _ c.args.input _ c.max-moment.result c.self.inside.engine c.step.new.self _ _ _
+    c.in-Ok.ensures.steps (ap emissions c.new-outputs.ensures.items)
     (let a = c.max-moment.ensures in let b = c.min.ensures in omega (arith, a, b)) refl c.mark.ensures.current
-    c.self.invariant c.in-Ok.ensures.drained c.journal.ensures.kept c.journal-in-Ok.ensures.stands room (invariant_of-self g c))
+    c.self.invariant c.in-Ok.ensures.drained c.journal.ensures.kept c.journal.ensures.stands c.journal-in-Ok.ensures.stands room (invariant_of-self g c))
 
 pub returns-in-Ok-clause-rests : goal.returns-in-Ok-clause-rests
 returns-in-Ok-clause-rests g c = let k = invariant_of-self g c in record { drained = k.1; rests = k.3 }

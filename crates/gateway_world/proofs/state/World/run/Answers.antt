@@ -1,8 +1,16 @@
 -- What a run gives out is what its journal says.
 use Rattle.gateway_model.specs.Emissions.{emissions}
 use Rattle.gateway_world.proofs.AskedInRun.{run-asks}
-use Rattle.gateway_world.proofs.Running.{run-causes, run-mapped, run-tells, run-sends}
+use Rattle.gateway_world.proofs.Once.{run-lives}
+use Rattle.gateway_world.proofs.Parted.{run-causes, run-mapped, run-sends, run-stands, run-tells}
 use Rattle.gateway_world.proofs.state.World.run.Goals as goal
+
+pub returns-clause-stands : goal.returns-clause-stands
+returns-clause-stands g c =
+    run-stands g.R.Relation.holds g.R.Relation.takes _ c.args.inputs.now c.in_ok-world.world c.take_all.new.self c.in_ok-journal.journal.entries
+    (emissions c.take_all.new.outputs.items)
+    c.in_ok-world.ensures.is c.in_ok-take_all.ensures.takes c.in_ok-take_all.ensures.rests c.journal.ensures.stands
+    (rw (c.in_ok-journal.ensures) c.journal.ensures.entries)
 
 pub returns-clause-told : goal.returns-clause-told
 returns-clause-told g c =
@@ -20,7 +28,9 @@ returns-clause-mapped g c =
 
 pub returns-clause-causes : goal.returns-clause-causes
 returns-clause-causes g c =
-    run-causes c.in_ok-journal.journal.entries c.take_all.new.self.core.state.entries c.journal.ensures.stands
+    run-causes g.R.Relation.holds g.R.Relation.takes _ c.args.inputs.now c.in_ok-world.world c.take_all.new.self c.in_ok-journal.journal.entries
+    (emissions c.take_all.new.outputs.items)
+    c.in_ok-world.ensures.is c.in_ok-take_all.ensures.takes c.in_ok-take_all.ensures.rests c.journal.ensures.stands
     (rw (c.in_ok-journal.ensures) c.journal.ensures.entries)
 
 pub returns-clause-asks : goal.returns-clause-asks
@@ -34,5 +44,11 @@ pub returns-clause-sends : goal.returns-clause-sends
 returns-clause-sends g c =
     run-sends g.R.Relation.holds g.R.Relation.takes _ c.args.inputs.now c.in_ok-world.world c.take_all.new.self c.in_ok-journal.journal.entries
     (emissions c.take_all.new.outputs.items)
-    c.in_ok-world.ensures.is c.in_ok-take_all.ensures.takes c.in_ok-take_all.ensures.rests
+    c.in_ok-world.ensures.is c.in_ok-take_all.ensures.takes c.in_ok-take_all.ensures.rests c.journal.ensures.stands
     (rw (c.in_ok-journal.ensures) c.journal.ensures.entries)
+
+pub returns-clause-lives : goal.returns-clause-lives
+returns-clause-lives g c =
+    run-lives g.R.Relation.holds g.R.Relation.takes _ c.args.inputs.now c.in_ok-world.world c.take_all.new.self
+    (emissions c.take_all.new.outputs.items) c.in_ok-journal.journal.entries
+    c.in_ok-world.ensures.is c.in_ok-world.ensures.rests c.in_ok-take_all.ensures.takes

@@ -3,7 +3,7 @@ use Rattle.std.proofs.Common.{Err, refl, sym, ap, ◌∙◌}
 use Rattle.gateway_model.specs.declared.input.Input.{Input}
 use Rattle.gateway_model.specs.declared.input.Happening.TheVariants as H
 use Rattle.gateway_model.specs.Emissions.{emissions}
-use Rattle.gateway_world.proofs.Running.{joined, takes-next, refused-at}
+use Rattle.gateway_world.proofs.Running.{joined, takes-next, takes-rules, refused-at}
 use Rattle.gateway_world.proofs.state.World.take_all.Goals as goal
 
 pub each-init : goal.each-init
@@ -21,7 +21,7 @@ each-preserved g c =
           c.each.outputs.items c.in_ok-more.more.items c.append.new.self.items c.in_ok-append.ensures.items
           (takes-next holds takes c.args.inputs.now c.each.input-index none c.args.self.now c.each.self c.input.new.self
           (emissions c.each.outputs.items) (emissions c.in_ok-more.more.items) c.each-test.true before.taken next.takes);
-      rules = next.takes.handles.rules ∙ before.rules;
+      rules = takes-rules holds takes _ c.each.self c.input.new.self _ next.takes ∙ before.rules;
       rests = next.rests;
     }
 
