@@ -7,7 +7,7 @@ use Rattle.journal_picture.specs.declared.journal.Journal.{Journal}
 
 -- An output is kept as it is, and an entry is what its line says.
 abbrev pub IsLine : Line → List ℕ → Type 0
-IsLine (Output text written) line = text.now ≡ line
+IsLine (Output text told) line = text.now ≡ line
 IsLine (Entry entry) line = (entry.line.now ≡ line) × SaysEntry entry line
 
 -- each line, ended by LF

@@ -1,7 +1,8 @@
 -- What the line of an entry says, word by word, with single spaces between.
-use Rattle.std.specs.Prelude.{ℕ, ◌≡◌, List, ◌∷◌, ◌++◌, codes}
+use Rattle.std.specs.Prelude.{ℕ, ◌≡◌, List, ◌∷◌, ◌++◌, codes, Option, Some, None}
 use Rattle.std.specs.Str.Parse.{digits_value, without_leading_plus}
 use Rattle.journal_picture.specs.declared.entry.Answer.{Answer}
+use Rattle.journal_picture.specs.declared.entry.Carried.{Carried}
 use Rattle.journal_picture.specs.declared.entry.Datagram.{Datagram}
 use Rattle.journal_picture.specs.declared.entry.Entry.{Entry}
 use Rattle.journal_picture.specs.declared.entry.Event.{Event}
@@ -67,11 +68,20 @@ Says (Answered a) text = (rest : List ℕ) × (text ≡ codes "answered" ++ 32 �
 Says (Shut connection) text = SaysConnection (codes "shut") connection text
 Says Sealed text = text ≡ codes "sealed"
 
+-- of a copy carried OLD MARK, and then the words of what it copies
+abbrev pub SaysCarried : Option Carried → List ℕ → List ℕ → Type 0
+SaysCarried None words text = text ≡ words
+SaysCarried (Some c) words text =
+    (digits : List ℕ) × (text ≡ codes "carried" ++ 32 ∷ (digits ++ 32 ∷ (c.mark.now ++ 32 ∷ words)))
+    × IsNumber digits c.number
+
 -- NUMBER MOMENT and the event
 pub record SaysEntry (e : Entry) (line : List ℕ) : Type 0 where
   pub number : List ℕ
   pub moment : List ℕ
-  pub whole : line ≡ number ++ 32 ∷ (moment ++ 32 ∷ e.text.now)
+  pub said : List ℕ
+  pub whole : line ≡ number ++ 32 ∷ (moment ++ 32 ∷ said)
   pub is_number : IsNumber number e.number
   pub is_moment : IsNumber moment e.moment
+  pub is_carried : SaysCarried e.carried e.text.now said
   pub event : Says e.event e.text.now

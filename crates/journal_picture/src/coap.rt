@@ -1,7 +1,6 @@
 //! A datagram in words.
 
-use crate::fault::LineFault;
-use crate::label::{Label, write_beginning, write_link, write_quoted};
+use crate::label::{Label, bytes_of, write_beginning, write_quoted};
 use crate::page::Page;
 use coap_codec::{
     CodecFault, Message, MsgType, Opt, block_of, decode, definition, number, uint_of,
@@ -11,63 +10,49 @@ use std::alloc::{AllocError, Global};
 use std::str::from_utf8;
 
 /// Writes what the message that these digits stand for says: its type, code and payload, its message ID
-/// and token, and its options. Of a copy the number of the first entry that has the same is told in their
-/// place.
+/// and token, and its options.
 pub(crate) fn write_message(
-    label: &mut Label,
+    label: &mut Label<'_>,
     alloc: Global,
     digits: &str,
-    first: Option<u64>,
-) -> Result<(), LineFault> {
-    let bytes = match hex::decode(alloc, digits.as_bytes()) {
-        Ok(bytes) => bytes,
-        Err(hex::FromHexError::OutOfMemory) => return Err(LineFault::Memory),
-        Err(_) => return Err(LineFault::Hex),
-    };
+) -> Result<(), AllocError> {
+    let bytes = bytes_of(alloc, digits)?;
     match decode(alloc, &bytes) {
-        Ok(message) => Ok(write_decoded(label, alloc, &message, first)?),
-        Err(CodecFault::Memory) => Err(LineFault::Memory),
+        Ok(message) => write_decoded(label, alloc, &message),
+        Err(CodecFault::Memory) => Err(AllocError),
         Err(_) => {
-            label.head.number(bytes.len() as u64)?;
-            label.head.words(" bytes that are no message")?;
-            Ok(())
+            label.head.bytes(bytes.len() as u64)?;
+            label.head.words(if bytes.len() == 1 {
+                " that is no message"
+            } else {
+                " that are no message"
+            })
         }
     }
 }
 
-/// Writes what the message says.
+/// Writes what the message says. Of a copy the number of the first entry that has the same is told in
+/// place of its token and options.
 fn write_decoded(
-    label: &mut Label,
+    label: &mut Label<'_>,
     alloc: Global,
     message: &Message,
-    first: Option<u64>,
 ) -> Result<(), AllocError> {
-    label.head.markup("<tspan class=\"bold\">")?;
+    label.head.element("tspan", "bold", ">", &[])?;
     label.head.words(kind_of(message.kind))?;
     write_code(&mut label.head, message.code)?;
     label.head.markup("</tspan>")?;
     write_payload(&mut label.head, &message.payload)?;
-    label.under.words("ID ")?;
-    label.under.number(u64::from(message.mid))?;
-    match first {
-        Some(number) => {
-            label.under.words(", the same bytes as ")?;
-            write_link(&mut label.under, number)
-        }
-        None => {
-            write_token(&mut label.under, message.token.as_slice())?;
-            write_options(&mut label.options, alloc, message.options.as_slice())
-        }
+    label.under.told("ID {}", &[u64::from(message.mid)])?;
+    if let Some(number) = label.row.first() {
+        label.under.words(", the same bytes as ")?;
+        return label.under.link(number);
     }
-}
-
-/// Writes a token, where there is one.
-fn write_token(page: &mut Page, token: &[u8]) -> Result<(), AllocError> {
-    if token.is_empty() {
-        return Ok(());
+    if !message.token.as_slice().is_empty() {
+        label.under.words(", token ")?;
+        label.under.hex(message.token.as_slice())?;
     }
-    page.words(", token ")?;
-    page.hex(token)
+    write_options(&mut label.options, alloc, message.options.as_slice())
 }
 
 /// How many characters of options are told before the rest is left out.
@@ -101,61 +86,47 @@ fn kind_of(kind: MsgType) -> &'static str {
 
 /// Writes a code as `2.05 Content`.
 fn write_code(page: &mut Page, code: u8) -> Result<(), AllocError> {
-    page.number(u64::from(code / 32))?;
-    page.words(if code % 32 < 10 { ".0" } else { "." })?;
-    page.number(u64::from(code % 32))?;
-    page.words(match code / 32 {
-        0 => request_name(code),
-        2 => success_name(code % 32),
-        _ => error_name(code),
-    })
+    let (class, detail) = (code / 32, code % 32);
+    let digits = [
+        u64::from(class),
+        u64::from(detail / 10),
+        u64::from(detail % 10),
+    ];
+    page.told("{}.{}{}", &digits)?;
+    page.words(name_of(class, detail))
 }
 
-/// The name of a method (RFC 7252, section 12.1.1).
-fn request_name(code: u8) -> &'static str {
-    match code {
-        0 => " Empty",
-        1 => " GET",
-        2 => " POST",
-        3 => " PUT",
-        4 => " DELETE",
-        _ => "",
-    }
-}
-
-/// The name of a code of class 2 (RFC 7252, section 12.1.2, and RFC 7959, section 2.9).
-fn success_name(detail: u8) -> &'static str {
-    match detail {
-        1 => " Created",
-        2 => " Deleted",
-        3 => " Valid",
-        4 => " Changed",
-        5 => " Content",
-        31 => " Continue",
-        _ => "",
-    }
-}
-
-/// The name of a code of class 4 or 5 (RFC 7252, section 12.1.2, and RFC 7959, section 2.9).
-fn error_name(code: u8) -> &'static str {
-    match code {
-        128 => " Bad Request",
-        129 => " Unauthorized",
-        130 => " Bad Option",
-        131 => " Forbidden",
-        132 => " Not Found",
-        133 => " Method Not Allowed",
-        134 => " Not Acceptable",
-        136 => " Request Entity Incomplete",
-        140 => " Precondition Failed",
-        141 => " Request Entity Too Large",
-        143 => " Unsupported Content-Format",
-        160 => " Internal Server Error",
-        161 => " Not Implemented",
-        162 => " Bad Gateway",
-        163 => " Service Unavailable",
-        164 => " Gateway Timeout",
-        165 => " Proxying Not Supported",
+/// The name of a code (RFC 7252, section 12.1, and RFC 7959, section 2.9).
+fn name_of(class: u8, detail: u8) -> &'static str {
+    match (class, detail) {
+        (0, 0) => " Empty",
+        (0, 1) => " GET",
+        (0, 2) => " POST",
+        (0, 3) => " PUT",
+        (0, 4) => " DELETE",
+        (2, 1) => " Created",
+        (2, 2) => " Deleted",
+        (2, 3) => " Valid",
+        (2, 4) => " Changed",
+        (2, 5) => " Content",
+        (2, 31) => " Continue",
+        (4, 0) => " Bad Request",
+        (4, 1) => " Unauthorized",
+        (4, 2) => " Bad Option",
+        (4, 3) => " Forbidden",
+        (4, 4) => " Not Found",
+        (4, 5) => " Method Not Allowed",
+        (4, 6) => " Not Acceptable",
+        (4, 8) => " Request Entity Incomplete",
+        (4, 12) => " Precondition Failed",
+        (4, 13) => " Request Entity Too Large",
+        (4, 15) => " Unsupported Content-Format",
+        (5, 0) => " Internal Server Error",
+        (5, 1) => " Not Implemented",
+        (5, 2) => " Bad Gateway",
+        (5, 3) => " Service Unavailable",
+        (5, 4) => " Gateway Timeout",
+        (5, 5) => " Proxying Not Supported",
         _ => "",
     }
 }
@@ -164,10 +135,7 @@ fn error_name(code: u8) -> &'static str {
 fn write_name(page: &mut Page, of: u16) -> Result<(), AllocError> {
     match definition(of) {
         Some(row) => page.shown(row.name),
-        None => {
-            page.words("option ")?;
-            page.number(u64::from(of))
-        }
+        None => page.told("option {}", &[u64::from(of)]),
     }
 }
 
@@ -184,7 +152,7 @@ fn write_value(page: &mut Page, alloc: Global, of: u16, value: &[u8]) -> Result<
         number::CONTENT_FORMAT | number::ACCEPT => write_format(page, alloc, value),
         number::BLOCK1 | number::BLOCK2 => write_block(page, value),
         number::URI_PORT | number::MAX_AGE | number::OBSERVE | number::SIZE1 | number::SIZE2
-            if value.len() <= 4 => page.number(u64::from(uint_of(value))),
+            if value.len() <= 4 => page.shown(uint_of(value)),
         _ => write_digits(page, value),
     }
 }
@@ -225,11 +193,14 @@ fn write_format(page: &mut Page, alloc: Global, value: &[u8]) -> Result<(), Allo
 /// Writes the number of a block, whether more follow, and its size (RFC 7959, section 2.2).
 fn write_block(page: &mut Page, value: &[u8]) -> Result<(), AllocError> {
     match block_of(value) {
-        Some(block) if block.szx < 7 => {
-            page.number(u64::from(block.num))?;
-            page.words(if block.more { " more " } else { " last " })?;
-            page.number(block.size() as u64)
-        }
+        Some(block) if block.szx < 7 => page.told(
+            if block.more {
+                "{} more {}"
+            } else {
+                "{} last {}"
+            },
+            &[u64::from(block.num), block.size() as u64],
+        ),
         _ => write_digits(page, value),
     }
 }
@@ -241,8 +212,7 @@ fn write_payload(page: &mut Page, payload: &[u8]) -> Result<(), AllocError> {
         Ok(text) => write_quoted(page, text),
         Err(_) => {
             page.words(", ")?;
-            page.number(payload.len() as u64)?;
-            page.words(" bytes")
+            page.bytes(payload.len() as u64)
         }
     }
 }

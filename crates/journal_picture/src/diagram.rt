@@ -4,13 +4,13 @@
 ghost use Rattle.std.specs.Prelude.{◌≤◌, length};
 
 use crate::entry::{Event, Written};
-use crate::fault::{LineFault, PictureFault};
+use crate::fault::PictureFault;
 use crate::head::{FOOT, HEAD, STYLE};
 use crate::journal::{Journal, Row, journal_of};
 use crate::label::{Label, label_of};
 use crate::layout::{Layout, TOP};
 use crate::page::Page;
-use crate::rows::{write_grounds, write_moment, write_row};
+use crate::rows::{write_grounds, write_row};
 use std::alloc::{AllocError, Global};
 use std::str::from_utf8;
 
@@ -18,10 +18,8 @@ use std::str::from_utf8;
 #[derive(Drop)]
 struct Drawing<'a> {
     journal: Journal<'a>,
-    /// The words of each row.
-    labels: Vec<Label>,
-    /// Where each row stands, from the top.
-    places: Vec<u64>,
+    /// The rows.
+    labels: Vec<Label<'a>>,
     layout: Layout,
 }
 
@@ -32,14 +30,10 @@ pub fn draw(alloc: Global, bytes: &[u8]) -> Result<Page, PictureFault> {
         Err(error) => return Err(PictureFault::NotText(line_at(bytes, error.valid_up_to()))),
     };
     let journal = journal_of(alloc, text)?;
+    let drawing = drawing_of(alloc, journal)?;
     let mut page = Page::new(alloc);
-    match drawing_of(alloc, journal) {
-        Ok(drawing) => match write_page(&mut page, &drawing) {
-            Ok(()) => Ok(page),
-            Err(_) => Err(PictureFault::Memory),
-        },
-        Err(_) => Err(PictureFault::Memory),
-    }
+    write_page(&mut page, &drawing)?;
+    Ok(page)
 }
 
 /// The line, counted from 1, of the byte at that place.
@@ -52,45 +46,27 @@ fn line_at(bytes: &[u8], place: usize) -> u64
 
 /// Places the rows. Each answer takes the next response, where that went out on its connection at its
 /// moment.
-fn drawing_of(alloc: Global, journal: Journal<'_>) -> Result<Drawing<'_>, LineFault> {
-    let Ok(devices) = u32::try_from(journal.devices().len()) else {
-        return Err(LineFault::Memory);
-    };
-    let mut layout = Layout::new(journal.connections(), devices);
-    'device: for device in journal.devices() {
-        layout.make_room_for_name(device.len() as u64);
-    }
-    let mut drawing = Drawing {
-        journal,
-        labels: Vec::new(alloc),
-        places: Vec::new(alloc),
-        layout,
-    };
+fn drawing_of(alloc: Global, journal: Journal<'_>) -> Result<Drawing<'_>, AllocError> {
+    let (first, clients) = (journal.first(), journal.connections());
+    let mut layout = Layout::new(first, clients, journal.devices());
+    let mut labels = Vec::new(alloc);
     let mut told: usize = 0;
-    'each: for number in 0..drawing.journal.entries().len() {
-        if place_row(alloc, &mut drawing, number, told)? {
-            told = told.saturating_add(1);
+    'each: for number in 0..journal.entries().len() {
+        if let Some(row) = journal.row(number) {
+            let response = response_to(&row, journal.written().get(told));
+            if response.is_some() {
+                told = told.saturating_add(1);
+            }
+            let mut label = label_of(alloc, row, response)?;
+            layout.place(&mut label);
+            labels.push(label)?;
         }
     }
-    Ok(drawing)
-}
-
-/// Places the row of that number. True where the response of that place is its.
-fn place_row(
-    alloc: Global,
-    drawing: &mut Drawing<'_>,
-    number: usize,
-    told: usize,
-) -> Result<bool, LineFault> {
-    let Some(row) = drawing.journal.row(number) else {
-        return Ok(false);
-    };
-    let response = response_to(&row, drawing.journal.written().get(told));
-    let label = label_of(alloc, &row, response)?;
-    let place = drawing.layout.place(&row.entry.event, &label);
-    drawing.labels.push(label)?;
-    drawing.places.push(place)?;
-    Ok(response.is_some())
+    Ok(Drawing {
+        journal,
+        labels,
+        layout,
+    })
 }
 
 /// The digits of the response, if it was written as that entry.
@@ -107,27 +83,30 @@ fn response_to<'b>(row: &Row<'b>, response: Option<&Written<'b>>) -> Option<&'b 
 }
 
 /// Writes the page.
-fn write_page(page: &mut Page, drawing: &Drawing<'_>) -> Result<(), LineFault> {
+fn write_page(page: &mut Page, drawing: &Drawing<'_>) -> Result<(), AllocError> {
     write_head(page, drawing)?;
     write_lines(page, drawing.layout, &drawing.journal)?;
-    write_rows(page, drawing)?;
+    'grounds: for label in &drawing.labels {
+        write_grounds(page, drawing.layout, label, &drawing.labels)?;
+    }
+    'each: for label in &drawing.labels {
+        write_row(page, drawing.layout, label)?;
+    }
     write_meanings(page, drawing.layout.bottom.saturating_add(72))?;
-    page.markup(FOOT)?;
-    Ok(())
+    page.markup(FOOT)
 }
 
 /// Writes what stands before the lines.
 fn write_head(page: &mut Page, drawing: &Drawing<'_>) -> Result<(), AllocError> {
+    let size = [drawing.layout.width(), drawing.layout.height()];
     page.markup(HEAD)?;
-    page.markup("<svg xmlns=\"http://www.w3.org/2000/svg\" width=\"")?;
-    page.place(drawing.layout.width())?;
-    page.markup("\" height=\"")?;
-    page.place(drawing.layout.height())?;
-    page.markup("\">\n")?;
-    page.markup(STYLE)?;
-    page.markup(
-        "<text class=\"title\" x=\"24\" y=\"40\">What happened</text>\n<text class=\"plain\" x=\"24\" y=\"62\">",
+    page.drawn(
+        "<svg xmlns=\"http://www.w3.org/2000/svg\" width=\"{}\" height=\"{}\">\n",
+        &size,
     )?;
+    page.markup(STYLE)?;
+    page.markup("<text class=\"title\" x=\"24\" y=\"40\">What happened</text>\n")?;
+    page.markup("<text class=\"plain\" x=\"24\" y=\"62\">")?;
     write_count(page, &drawing.journal)?;
     page.markup("</text>\n")
 }
@@ -138,34 +117,39 @@ fn write_count(page: &mut Page, journal: &Journal<'_>) -> Result<(), AllocError>
     let (Some(first), Some(last)) = (entries.first(), entries.last()) else {
         return page.words("The journal is empty.");
     };
-    page.number(entries.len() as u64)?;
-    page.words(" entries in ")?;
-    write_moment(page, last.moment.saturating_sub(first.moment))?;
+    let count = entries.len() as u64;
+    page.told(
+        if count == 1 {
+            "{} entry in "
+        } else {
+            "{} entries in "
+        },
+        &[count],
+    )?;
+    page.moment(last.moment.saturating_sub(first.moment))?;
     page.words(": the number of each and its moment, and what came or went.")
 }
 
 /// Writes the lines of the clients, the gateway and the devices, with their names.
 fn write_lines(page: &mut Page, layout: Layout, journal: &Journal<'_>) -> Result<(), AllocError> {
-    'client: for connection in 0..layout.clients {
+    'client: for place in 0..layout.clients {
+        let connection = layout.first.saturating_add(place);
         let mut name = page.beside();
-        name.words("client ")?;
-        name.number(u64::from(connection))?;
+        name.told("client {}", &[u64::from(connection)])?;
         write_line(page, layout, "client", layout.client(connection), &name)?;
     }
     let mut name = page.beside();
     name.words("gateway")?;
     write_line(page, layout, "gateway", layout.gateway(), &name)?;
-    let mut place: u32 = 0;
-    'device: for device in journal.devices() {
+    'device: for (place, device) in journal.devices().iter().enumerate() {
         let mut name = page.beside();
         name.text(device.as_bytes())?;
-        write_line(page, layout, "device", layout.device(place), &name)?;
-        place = place.saturating_add(1);
+        write_line(page, layout, "device", layout.device(place as u64), &name)?;
     }
     Ok(())
 }
 
-/// Writes a line from top to bottom, with its name at both ends.
+/// Writes a line from top to bottom, with its name in a box at both ends.
 fn write_line(
     page: &mut Page,
     layout: Layout,
@@ -173,122 +157,44 @@ fn write_line(
     at: u64,
     name: &Page,
 ) -> Result<(), AllocError> {
-    page.markup("<path class=\"life\" d=\"M")?;
-    page.place(at)?;
-    page.markup(",")?;
-    page.place(TOP)?;
-    page.markup("V")?;
-    page.place(layout.bottom)?;
-    page.markup("\"/>")?;
-    write_name(page, kind, at, TOP, name)?;
-    write_name(page, kind, at, layout.bottom.saturating_add(8), name)?;
+    let end = layout.bottom;
+    let width = name.columns().saturating_mul(8).saturating_add(20);
+    page.element("path", "life", " d=\"M{},{}V{}\"/>", &[at, TOP, end])?;
+    'each: for top in [TOP, end.saturating_add(8)] {
+        page.element(
+            "rect",
+            kind,
+            " rx=\"6\" height=\"28\" x=\"{}\" y=\"{}\" width=\"{}\"/>",
+            &[at.saturating_sub(width / 2), top, width],
+        )?;
+        page.line(
+            "<text class=\"name\" text-anchor=\"middle\" x=\"{}\" y=\"{}\">",
+            &[at, top.saturating_add(19)],
+            name,
+        )?;
+    }
     page.markup("\n")
 }
 
-/// Writes a name in its box.
-fn write_name(
-    page: &mut Page,
-    kind: &'static str,
-    at: u64,
-    top: u64,
-    name: &Page,
-) -> Result<(), AllocError> {
-    let width = name.columns().saturating_mul(8).saturating_add(20);
-    page.markup("<rect class=\"")?;
-    page.markup(kind)?;
-    page.markup("\" rx=\"6\" height=\"28\" x=\"")?;
-    page.place(at.saturating_sub(width / 2))?;
-    page.markup("\" y=\"")?;
-    page.place(top)?;
-    page.markup("\" width=\"")?;
-    page.place(width)?;
-    page.markup("\"/><text class=\"name\" text-anchor=\"middle\" x=\"")?;
-    page.place(at)?;
-    page.markup("\" y=\"")?;
-    page.place(top.saturating_add(19))?;
-    page.markup("\">")?;
-    page.piece(name)?;
-    page.markup("</text>")
-}
-
-/// Writes what answers rest on, and then a row for each entry.
-fn write_rows(page: &mut Page, drawing: &Drawing<'_>) -> Result<(), LineFault> {
-    'grounds: for number in 0..drawing.labels.len() {
-        if let Some(row) = drawing.journal.row(number) {
-            write_grounds(page, drawing.layout, &row, &drawing.places)?;
-        }
-    }
-    let mut number: usize = 0;
-    'each: for label in &drawing.labels {
-        let place = drawing.places.get(number).copied().unwrap_or(0);
-        if let Some(row) = drawing.journal.row(number) {
-            write_row(page, drawing.layout, &row, label, place)?;
-        }
-        number = number.saturating_add(1);
-    }
-    Ok(())
-}
-
-/// What an arrow or a curve means.
-#[derive(Clone, Copy)]
-struct Meaning {
-    /// How it looks.
-    style: &'static str,
-    /// Where it stands, from the left.
-    left: u64,
-    words: &'static str,
-}
-
-/// What the arrows and curves mean.
-static MEANINGS: [Meaning; 5] = [
-    Meaning {
-        style: "coap",
-        left: 24,
-        words: "a datagram",
-    },
-    Meaning {
-        style: "copy",
-        left: 176,
-        words: "a copy of one before it",
-    },
-    Meaning {
-        style: "lost",
-        left: 416,
-        words: "no answer came in time",
-    },
-    Meaning {
-        style: "rests",
-        left: 650,
-        words: "what an answer rests on",
-    },
-    Meaning {
-        style: "cause",
-        left: 884,
-        words: "the cause of an error",
-    },
+/// How the arrows and curves look, where they stand from the left, and what they mean.
+static MEANINGS: [(&str, u64, &str); 5] = [
+    ("coap", 24, "a datagram"),
+    ("copy", 176, "a copy of one before it"),
+    ("lost", 416, "no answer came in time"),
+    ("rests", 650, "what an answer rests on"),
+    ("cause", 884, "the cause of an error"),
 ];
 
 /// Writes what the arrows and curves mean, at that place from the top.
 fn write_meanings(page: &mut Page, top: u64) -> Result<(), AllocError> {
-    'each: for meaning in &MEANINGS {
-        write_meaning(page, *meaning, top)?;
+    'each: for (class, left, words) in MEANINGS {
+        page.element("path", class, " d=\"M{},{}h40\"/>", &[left, top])?;
+        page.drawn(
+            "<text class=\"plain\" x=\"{}\" y=\"{}\">",
+            &[left.saturating_add(52), top.saturating_add(4)],
+        )?;
+        page.words(words)?;
+        page.markup("</text>\n")?;
     }
     Ok(())
-}
-
-/// Writes what an arrow or a curve means.
-fn write_meaning(page: &mut Page, meaning: Meaning, top: u64) -> Result<(), AllocError> {
-    page.markup("<path class=\"")?;
-    page.markup(meaning.style)?;
-    page.markup("\" d=\"M")?;
-    page.place(meaning.left)?;
-    page.markup(",")?;
-    page.place(top)?;
-    page.markup("h40\"/><text class=\"plain\" x=\"")?;
-    page.place(meaning.left.saturating_add(52))?;
-    page.markup("\" y=\"")?;
-    page.place(top.saturating_add(4))?;
-    page.markup("\">")?;
-    page.words(meaning.words)?;
-    page.markup("</text>\n")
 }

@@ -2,7 +2,7 @@
 
 ghost use Rattle.std.specs.Prelude.{◌≡◌, ◌++◌, ◌∷◌, IfOk};
 ghost use Rattle.journal_picture.specs.Lines.{IsLine};
-ghost use Rattle.journal_picture.specs.Saying.{IsNumber, Says, SaysAnswer, SaysAsked, SaysDatagram, SaysEntry, SaysGrounds};
+ghost use Rattle.journal_picture.specs.Saying.{IsNumber, Says, SaysAnswer, SaysAsked, SaysCarried, SaysDatagram, SaysEntry, SaysGrounds};
 
 use crate::fault::LineFault;
 use uri_map::peer_at;
@@ -61,17 +61,54 @@ pub enum Event<'a> {
     Sealed,
 }
 
+impl Event<'_> {
+    /// Whether it is told beside the devices.
+    fn is_far(&self) -> bool {
+        matches!(
+            self,
+            Event::Sent(_) | Event::Heard(_) | Event::Passed | Event::Sealed
+        )
+    }
+
+    /// Whether a journal begins with copies of such entries.
+    fn is_carried(&self) -> bool {
+        matches!(
+            self,
+            Event::Asked(_, _) | Event::Bad(_) | Event::Sent(_) | Event::Heard(_)
+        )
+    }
+}
+
+/// Where a copy was copied from.
+#[derive(Clone, Copy)]
+pub struct Carried<'a> {
+    /// The entry in the journal before.
+    pub number: u64,
+    /// What the copy is for: `ground` or `past`.
+    pub mark: &'a str,
+}
+
 /// An entry of the journal.
 #[derive(Clone, Copy)]
 pub struct Entry<'a> {
     /// The whole line.
     pub line: &'a str,
-    /// What it says after the moment.
+    /// What it says after the moment, and a copy after its mark.
     pub text: &'a str,
     pub number: u64,
     /// In milliseconds.
     pub moment: u64,
+    /// Of a copy from the journal before.
+    pub carried: Option<Carried<'a>>,
     pub event: Event<'a>,
+}
+
+impl Entry<'_> {
+    /// Whether it is told beside the devices, and not beside the clients. The client of a copied request
+    /// was connected before.
+    pub(crate) fn is_far(&self) -> bool {
+        self.carried.is_some() || self.event.is_far()
+    }
 }
 
 /// Bytes that went out on a connection.
@@ -82,11 +119,20 @@ pub struct Written<'a> {
     pub digits: &'a str,
 }
 
+/// What an output tells of the journal.
+#[derive(Clone, Copy)]
+pub enum Told<'a> {
+    /// What went out on a connection.
+    Written(Written<'a>),
+    /// The journal so far was given out, and a new one begun.
+    Rotated,
+    Nothing,
+}
+
 /// A line that `replay --journal` prints.
 #[derive(Clone, Copy)]
 pub enum Line<'a> {
-    /// An output; only what went out on a connection is told more of.
-    Output(&'a str, Option<Written<'a>>),
+    Output(&'a str, Told<'a>),
     Entry(Entry<'a>),
 }
 
@@ -101,20 +147,55 @@ pub fn line_of(line: &str) -> Result<Line<'_>, LineFault>
     }
 }
 
-/// `NUMBER MOMENT EVENT`.
+/// `NUMBER MOMENT EVENT`, or `NUMBER MOMENT carried OLD MARK EVENT`.
 fn entry_of(line: &str) -> Result<Entry<'_>, LineFault>
     ensures line { IfOk result (λ entry. entry.line.now ≡ line.now) }
     ensures said { IfOk result (λ entry. SaysEntry entry line.now) }
 {
     let (number, rest) = words(line)?;
-    let (moment, text) = words(rest)?;
+    let (moment, rest) = words(rest)?;
+    let (carried, text) = carried_of(rest)?;
+    let event = event_of(text)?;
+    if carried.is_some() && !event.is_carried() {
+        return Err(LineFault::Form);
+    }
     Ok(Entry {
         line,
         text,
         number: decimal(number)?,
         moment: decimal(moment)?,
-        event: event_of(text)?,
+        carried,
+        event,
     })
+}
+
+/// Of a copy, what stands before the words of its entry, and those words.
+fn carried_of(text: &str) -> Result<(Option<Carried<'_>>, &str), LineFault>
+    ensures { IfOk result (λ p. SaysCarried p.0 p.1.now text.now) }
+{
+    let Some((name, rest)) = text.split_once(' ') else {
+        return Ok((None, text));
+    };
+    match name {
+        "carried" => {
+            let (number, rest) = words(rest)?;
+            let (mark, rest) = words(rest)?;
+            let number = decimal(number)?;
+            let mark = mark_of(mark)?;
+            Ok((Some(Carried { number, mark }), rest))
+        }
+        _ => Ok((None, text)),
+    }
+}
+
+/// `ground` or `past`.
+fn mark_of(text: &str) -> Result<&str, LineFault>
+    ensures { IfOk result (λ mark. mark.now ≡ text.now) }
+{
+    match text {
+        "ground" | "past" => Ok(text),
+        _ => Err(LineFault::Form),
+    }
 }
 
 /// What stands before the first space, and what stands after it.
@@ -176,21 +257,30 @@ fn datagram_of(text: &str) -> Result<Datagram<'_>, LineFault>
     Ok(Datagram { peer, digits })
 }
 
-/// `bytes CONN HEX`, `datagram PEER HEX`, `closed CONN` or `turned`, at that moment.
-fn output_of(moment: u64, text: &str) -> Result<Option<Written<'_>>, LineFault> {
+/// `bytes CONN HEX`, `datagram PEER HEX`, `closed CONN`, `turned`, `rotated COUNT` or `unrotated FAULT`, at
+/// that moment.
+fn output_of(moment: u64, text: &str) -> Result<Told<'_>, LineFault> {
     if text == "turned" {
-        return Ok(None);
+        return Ok(Told::Nothing);
     }
     let (name, rest) = words(text)?;
     match name {
-        "bytes" => Ok(Some(written_of(moment, rest)?)),
+        "bytes" => Ok(Told::Written(written_of(moment, rest)?)),
         "datagram" => {
             datagram_of(rest)?;
-            Ok(None)
+            Ok(Told::Nothing)
         }
         "closed" => {
             connection_of(rest)?;
-            Ok(None)
+            Ok(Told::Nothing)
+        }
+        "rotated" => {
+            decimal(rest)?;
+            Ok(Told::Rotated)
+        }
+        "unrotated" => {
+            decimal(rest)?;
+            Ok(Told::Nothing)
         }
         _ => Err(LineFault::Form),
     }

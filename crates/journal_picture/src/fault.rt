@@ -15,7 +15,7 @@ pub enum LineFault {
     Peer,
     /// Bytes aren't pairs of hexadecimal digits in lower case.
     Hex,
-    /// It is an output after the entries, or the entry's number isn't the next one.
+    /// It is an output after the entries, a copy after another entry, or the entry's number isn't the next one.
     Order,
     /// No connection of that number was opened, or its number isn't the next one.
     Connection,
@@ -31,9 +31,10 @@ impl fmt::Display for LineFault {
             LineFault::Number => "a number isn't decimal, or too large",
             LineFault::Peer => "a peer is an address with a port, as 192.0.2.1:5683",
             LineFault::Hex => "bytes are pairs of the digits 0 to 9 and a to f",
-            LineFault::Order => "entries come after the outputs, and are numbered from 0",
+            LineFault::Order =>
+                "outputs come first, then copies, then other entries, numbered from 0",
             LineFault::Connection =>
-                "connections are opened before they are used, and numbered from 0",
+                "connections are opened before they are used, and numbered one by one",
             LineFault::Ground => "an answer names entries that stand before it",
             LineFault::Memory => "out of memory",
         })

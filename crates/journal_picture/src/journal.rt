@@ -3,7 +3,9 @@
 ghost use Rattle.std.specs.Prelude.{◌≡◌, ◌++◌, ◌∷◌, [], IfOk, IfSome, OnOk};
 ghost use Rattle.journal_picture.specs.Lines.{ended, lines_in};
 
-use crate::entry::{Answer, Datagram, Entry, Event, Grounds, Line, Written, decimal, line_of};
+use crate::entry::{
+    Answer, Datagram, Entry, Event, Grounds, Line, Told, Written, decimal, line_of,
+};
 use crate::fault::{LineFault, PictureFault};
 use std::alloc::Global;
 use std::collections::BTreeMap;
@@ -12,7 +14,7 @@ use std::collections::BTreeMap;
 #[derive(Clone, Copy)]
 pub struct Mark {
     /// Of a datagram: which of the devices it goes to or comes from, in the order in which they were met.
-    pub device: u32,
+    pub device: u64,
     /// Of a datagram: how many equal ones went the same way before it.
     pub copies: u32,
     /// The number of the first of them, or its own.
@@ -53,17 +55,18 @@ impl Row<'_> {
 pub struct Journal<'a> {
     /// The lines of outputs.
     outputs: Vec<&'a str>,
-    /// What was written to clients, without interim responses.
+    /// What was written to clients since the journal began, without interim responses.
     written: Vec<Written<'a>>,
     entries: Vec<Entry<'a>>,
     /// One for each entry.
     marks: Vec<Mark>,
-    /// How many connections were opened.
-    connections: u32,
+    /// The first connection that was opened, and the one after the last.
+    first: u32,
+    next: u32,
     /// The devices' endpoints, in the order in which they were met.
     devices: Vec<&'a str>,
     /// The place of each device.
-    places: BTreeMap<&'a str, u32>,
+    places: BTreeMap<&'a str, u64>,
     /// The last entry of each datagram, by what its line says after the moment.
     last: BTreeMap<&'a str, usize>,
 }
@@ -77,7 +80,8 @@ impl<'a> Journal<'a> {
             written: Vec::new(alloc),
             entries: Vec::new(alloc),
             marks: Vec::new(alloc),
-            connections: 0,
+            first: 0,
+            next: 0,
             devices: Vec::new(alloc),
             places: BTreeMap::new(alloc),
             last: BTreeMap::new(alloc),
@@ -105,9 +109,14 @@ impl<'a> Journal<'a> {
         }
     }
 
+    /// The first connection that was opened.
+    pub fn first(&self) -> u32 {
+        self.first
+    }
+
     /// How many connections were opened.
     pub fn connections(&self) -> u32 {
-        self.connections
+        self.next.saturating_sub(self.first)
     }
 
     /// The devices' endpoints, in the order in which they were met.
@@ -120,22 +129,24 @@ impl<'a> Journal<'a> {
         ensures { OnOk result (lines_in self.new ≡ lines_in self.old ++ line.now ∷ []) }
     {
         match line_of(line)? {
-            Line::Output(line, written) => self.take_output(line, written),
+            Line::Output(line, told) => self.take_output(line, told),
             Line::Entry(entry) => self.take_entry(entry),
         }
     }
 
     /// Takes the line of an output.
-    fn take_output(&mut self, line: &'a str, written: Option<Written<'a>>) -> Result<(), LineFault>
+    fn take_output(&mut self, line: &'a str, told: Told<'a>) -> Result<(), LineFault>
         ensures { OnOk result (lines_in self.new ≡ lines_in self.old ++ line.now ∷ []) }
     {
         if !self.entries.is_empty() {
             return Err(LineFault::Order);
         }
-        if let Some(written) = written {
-            if !written.digits.starts_with(INTERIM) {
+        match told {
+            Told::Written(written) if !written.digits.starts_with(INTERIM) => {
                 self.written.push(written)?;
             }
+            Told::Rotated => self.written.clear(),
+            _ => {}
         }
         self.outputs.push(line)?;
         Ok(())
@@ -148,11 +159,22 @@ impl<'a> Journal<'a> {
         if entry.number != self.entries.len() as u64 {
             return Err(LineFault::Order);
         }
-        self.check(entry.number, &entry.event)?;
+        match entry.carried {
+            Some(_) => self.check_first()?,
+            None => self.check(entry.number, &entry.event)?,
+        }
         let mark = self.mark_of(&entry)?;
         self.marks.push(mark)?;
         self.entries.push(entry)?;
         Ok(())
+    }
+
+    /// Checks that all entries so far are copies.
+    fn check_first(&self) -> Result<(), LineFault> {
+        match self.entries.last() {
+            Some(last) if last.carried.is_none() => Err(LineFault::Order),
+            _ => Ok(()),
+        }
     }
 
     /// Checks what the entry of that number names.
@@ -175,20 +197,24 @@ impl<'a> Journal<'a> {
         }
     }
 
-    /// Counts the connection.
+    /// Counts the connection. The first one has any number: a journal may follow another.
     fn open(&mut self, connection: u32) -> Result<(), LineFault>
         ensures { lines_in self.new ≡ lines_in self.old }
     {
-        if connection != self.connections || connection == u32::MAX {
+        if self.first == self.next {
+            self.first = connection;
+            self.next = connection;
+        }
+        if connection != self.next || connection == u32::MAX {
             return Err(LineFault::Connection);
         }
-        self.connections += 1;
+        self.next += 1;
         Ok(())
     }
 
     /// Whether the connection was opened.
     fn check_open(&self, connection: u32) -> Result<(), LineFault> {
-        if connection < self.connections {
+        if self.first <= connection && connection < self.next {
             Ok(())
         } else {
             Err(LineFault::Connection)
@@ -243,15 +269,13 @@ impl<'a> Journal<'a> {
     }
 
     /// The place of the device.
-    fn device_of(&mut self, peer: &'a str) -> Result<u32, LineFault>
+    fn device_of(&mut self, peer: &'a str) -> Result<u64, LineFault>
         ensures { lines_in self.new ≡ lines_in self.old }
     {
         if let Some(place) = self.places.get(peer) {
             return Ok(*place);
         }
-        let Ok(place) = u32::try_from(self.devices.len()) else {
-            return Err(LineFault::Memory);
-        };
+        let place = self.devices.len() as u64;
         self.places.insert(peer, place)?;
         self.devices.push(peer)?;
         Ok(place)
@@ -259,7 +283,7 @@ impl<'a> Journal<'a> {
 }
 
 /// What is told of an entry that is no copy.
-fn mark_alone(device: u32, number: u64) -> Mark {
+fn mark_alone(device: u64, number: u64) -> Mark {
     Mark {
         device,
         copies: 0,

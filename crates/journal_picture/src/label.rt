@@ -2,15 +2,17 @@
 
 use crate::coap::write_message;
 use crate::entry::{Answer, Event, Grounds, Request, decimal};
-use crate::fault::LineFault;
 use crate::journal::Row;
 use crate::page::Page;
 use std::alloc::{AllocError, Global};
 use std::str::from_utf8;
 
-/// The words of a row, in the parts that have places of their own.
+/// A row, and its words in the parts that have places of their own.
 #[derive(Drop)]
-pub(crate) struct Label {
+pub(crate) struct Label<'a> {
+    pub(crate) row: Row<'a>,
+    /// Where it stands, from the top.
+    pub(crate) top: u64,
     /// Over the arrow: what it is.
     pub(crate) head: Page,
     /// After that, where it is a copy or got no answer.
@@ -26,9 +28,11 @@ const WIDE: u64 = 8;
 
 const NARROW: u64 = 7;
 
-impl Label {
-    fn new(alloc: Global) -> Label {
+impl<'a> Label<'a> {
+    fn new(alloc: Global, row: Row<'a>) -> Label<'a> {
         Label {
+            row,
+            top: 0,
             head: Page::new(alloc),
             mark: Page::new(alloc),
             under: Page::new(alloc),
@@ -57,20 +61,32 @@ impl Label {
 }
 
 /// What a row says. An answer has the digits of the response that was written.
-pub(crate) fn label_of(
+pub(crate) fn label_of<'a>(
     alloc: Global,
-    row: &Row<'_>,
+    row: Row<'a>,
     response: Option<&str>,
-) -> Result<Label, LineFault> {
-    let mut label = Label::new(alloc);
+) -> Result<Label<'a>, AllocError> {
+    let mut label = Label::new(alloc, row);
+    if let Some(carried) = row.entry.carried {
+        label.mark.words("entry ")?;
+        label.mark.shown(carried.number)?;
+        label.mark.words(" of the journal before, ")?;
+        label.mark.text(carried.mark.as_bytes())?;
+    }
     match row.entry.event {
         Event::Opened(_) => label.head.words("connects")?,
         Event::Asked(_, request) => write_request(&mut label, request)?,
         Event::Bad(_) => label.head.words("bytes that are no request")?,
         Event::Sent(datagram) | Event::Heard(datagram) => {
-            write_datagram(&mut label, alloc, row, datagram.digits)?
+            write_mark(&mut label.mark, &row)?;
+            write_message(&mut label, alloc, datagram.digits)?;
         }
-        Event::Answered(answer) => write_answer(&mut label, alloc, answer, response)?,
+        Event::Answered(answer) => {
+            if let Some(digits) = response {
+                write_response(&mut label.head, alloc, digits)?;
+            }
+            write_rests(&mut label.under, answer)?;
+        }
         Event::Shut(_) => label.head.words("closed")?,
         Event::Passed => label.head.words("a timer is due")?,
         Event::Sealed => label.head.words("the journal is sealed")?,
@@ -79,81 +95,65 @@ pub(crate) fn label_of(
 }
 
 /// Writes a request.
-fn write_request(label: &mut Label, request: Request<'_>) -> Result<(), AllocError> {
-    write_bold(&mut label.head, request.method)?;
+fn write_request(label: &mut Label<'_>, request: Request<'_>) -> Result<(), AllocError> {
+    label.head.styled("bold", request.method.as_bytes())?;
     label.head.words(" ")?;
     write_beginning(&mut label.head, request.target)?;
     if request.length > 0 {
         label.under.words("with ")?;
-        label.under.number(request.length)?;
-        label.under.words(" bytes")?;
+        label.under.bytes(request.length)?;
     }
     Ok(())
 }
 
-/// Writes what a datagram says, and whether it is a copy or got no answer.
-fn write_datagram(
-    label: &mut Label,
-    alloc: Global,
-    row: &Row<'_>,
-    digits: &str,
-) -> Result<(), LineFault> {
+/// Writes whether a datagram is a copy or got no answer.
+fn write_mark(mark: &mut Page, row: &Row<'_>) -> Result<(), AllocError> {
     if row.mark.copies > 0 {
-        label.mark.words("copy ")?;
-        label.mark.number(u64::from(row.mark.copies))?;
+        mark.told("copy {}", &[u64::from(row.mark.copies)])?;
     }
-    if row.is_lost() {
-        label.mark.words(if row.mark.copies > 0 {
-            ", no answer in time"
-        } else {
-            "no answer in time"
-        })?;
+    match (row.is_lost(), row.mark.copies > 0) {
+        (true, true) => mark.words(", no answer in time"),
+        (true, false) => mark.words("no answer in time"),
+        (false, _) => Ok(()),
     }
-    write_message(label, alloc, digits, row.first())
 }
 
-/// Writes the status of an answer, which request it answers, and what it rests on.
-fn write_answer(
-    label: &mut Label,
-    alloc: Global,
-    answer: Answer<'_>,
-    response: Option<&str>,
-) -> Result<(), LineFault> {
-    if let Some(digits) = response {
-        write_response(&mut label.head, alloc, digits)?;
-    }
-    label.under.words("answers ")?;
-    write_link(&mut label.under, answer.ask)?;
+/// Writes which request an answer answers, and what it rests on.
+fn write_rests(under: &mut Page, answer: Answer<'_>) -> Result<(), AllocError> {
+    under.words("answers ")?;
+    under.link(answer.ask)?;
     match answer.grounds {
-        Grounds::Live(numbers) => {
-            label.under.words(", rests on ")?;
-            write_links(&mut label.under, numbers)
-        }
-        Grounds::Kept(numbers) => {
-            label.under.words(", from the store, rests on ")?;
-            write_links(&mut label.under, numbers)
-        }
+        Grounds::Live(numbers) => write_links(under, ", rests on ", numbers),
+        Grounds::Kept(numbers) => write_links(under, ", from the store, rests on ", numbers),
         Grounds::Fault(kind, number) => {
-            label.under.words(", ")?;
-            label.under.text(kind.as_bytes())?;
-            label.under.words(": see ")?;
-            Ok(write_link(&mut label.under, number)?)
+            under.words(", ")?;
+            under.text(kind.as_bytes())?;
+            under.words(": see ")?;
+            under.link(number)
         }
     }
+}
+
+/// Writes links to the entries of these numbers, which have commas between.
+fn write_links(page: &mut Page, words: &'static str, numbers: &str) -> Result<(), AllocError> {
+    page.words(words)?;
+    'each: for one in numbers.split(',') {
+        if let Ok(number) = decimal(one) {
+            page.link(number)?;
+            page.words(" ")?;
+        }
+    }
+    Ok(())
 }
 
 /// Writes the status and the phrase of a response, which stand in its first line after the version, and
 /// its body where that is a short text.
-fn write_response(head: &mut Page, alloc: Global, digits: &str) -> Result<(), LineFault> {
-    let bytes = match hex::decode(alloc, digits.as_bytes()) {
-        Ok(bytes) => bytes,
-        Err(hex::FromHexError::OutOfMemory) => return Err(LineFault::Memory),
-        Err(_) => return Err(LineFault::Hex),
-    };
+fn write_response(head: &mut Page, alloc: Global, digits: &str) -> Result<(), AllocError> {
+    let bytes = bytes_of(alloc, digits)?;
     let end = bytes.iter().position(|b| *b == b'\r').unwrap_or(0);
     if let Ok(line) = from_utf8(&bytes[..end]) {
         if let Some((_, status)) = line.split_once(' ') {
-            write_status(head, status)?;
+            head.styled(class_of(status), status.as_bytes())?;
         }
     }
     if let Ok(text) = from_utf8(&bytes) {
@@ -164,41 +164,23 @@ fn write_response(head: &mut Page, alloc: Global, digits: &str) -> Result<(), Li
     Ok(())
 }
 
-/// Writes a status and its phrase, in the colour of its class (RFC 9110, section 15).
-fn write_status(head: &mut Page, status: &str) -> Result<(), AllocError> {
-    head.markup(match status.as_bytes().first() {
-        Some(b'2') => "<tspan class=\"good\">",
-        Some(b'4') => "<tspan class=\"refused\">",
-        Some(b'5') => "<tspan class=\"failed\">",
-        _ => "<tspan class=\"bold\">",
-    })?;
-    head.text(status.as_bytes())?;
-    head.markup("</tspan>")
-}
-
-/// Writes links to the entries of these numbers, which have commas between.
-fn write_links(page: &mut Page, numbers: &str) -> Result<(), LineFault> {
-    'each: for one in numbers.split(',') {
-        write_link(page, decimal(one)?)?;
-        page.words(" ")?;
+/// The style of a status, by its class (RFC 9110, section 15).
+fn class_of(status: &str) -> &'static str {
+    match status.as_bytes().first() {
+        Some(b'2') => "good",
+        Some(b'4') => "refused",
+        Some(b'5') => "failed",
+        _ => "bold",
     }
-    Ok(())
 }
 
-/// Writes a link to the entry of that number.
-pub(crate) fn write_link(page: &mut Page, number: u64) -> Result<(), AllocError> {
-    page.markup("<a href=\"#e")?;
-    page.place(number)?;
-    page.markup("\">")?;
-    page.number(number)?;
-    page.markup("</a>")
-}
-
-/// Writes words that stand out.
-fn write_bold(page: &mut Page, words: &str) -> Result<(), AllocError> {
-    page.markup("<tspan class=\"bold\">")?;
-    page.text(words.as_bytes())?;
-    page.markup("</tspan>")
+/// The bytes that digits stand for; a journal that was read has them in pairs.
+pub(crate) fn bytes_of(alloc: Global, digits: &str) -> Result<Vec<u8>, AllocError> {
+    match hex::decode(alloc, digits.as_bytes()) {
+        Ok(bytes) => Ok(bytes),
+        Err(hex::FromHexError::OutOfMemory) => Err(AllocError),
+        Err(_) => Ok(Vec::new(alloc)),
+    }
 }
 
 /// Writes a text in quotes, or nothing where it is empty.

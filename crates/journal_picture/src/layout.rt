@@ -8,16 +8,18 @@ use crate::label::Label;
 /// Where things stand, in pixels from the left.
 #[derive(Clone, Copy)]
 pub(crate) struct Layout {
+    /// The first connection.
+    pub(crate) first: u32,
     /// How many connections have a line of their own.
     pub(crate) clients: u32,
     /// How many devices have one.
-    pub(crate) devices: u32,
+    devices: u64,
     /// How wide the words between the clients and the gateway are.
-    pub(crate) near: u64,
+    near: u64,
     /// How wide those between the gateway and the devices are.
-    pub(crate) far: u64,
+    far: u64,
     /// How far the lines of devices are apart.
-    pub(crate) apart: u64,
+    apart: u64,
     /// Where the lines end, from the top.
     pub(crate) bottom: u64,
 }
@@ -26,54 +28,53 @@ pub(crate) struct Layout {
 pub(crate) const TOP: u64 = 88;
 
 impl Layout {
-    /// Before any row is placed.
-    pub(crate) fn new(clients: u32, devices: u32) -> Layout {
+    /// Before any row is placed: there is room for the names.
+    pub(crate) fn new(first: u32, clients: u32, devices: &[&str]) -> Layout {
+        let mut apart: u64 = 180;
+        'device: for device in devices {
+            apart = apart.max((device.len() as u64).saturating_mul(8).saturating_add(40));
+        }
         Layout {
+            first,
             clients,
-            devices,
+            devices: devices.len() as u64,
             near: 140,
             far: 180,
-            apart: 180,
+            apart,
             bottom: TOP + 40,
         }
     }
 
-    /// Makes room for the name of a device of so many characters.
-    pub(crate) fn make_room_for_name(&mut self, columns: u64) {
-        self.apart = self.apart.max(columns.saturating_mul(8).saturating_add(40));
-    }
-
-    /// Makes room for a row, and answers where it stands from the top.
-    pub(crate) fn place(&mut self, event: &Event<'_>, label: &Label) -> u64 {
+    /// Places a row below the others, and makes room for its words.
+    pub(crate) fn place(&mut self, label: &mut Label<'_>) {
         let width = label.width();
-        match event {
-            Event::Sent(_) | Event::Heard(_) | Event::Passed | Event::Sealed => {
-                self.far = self.far.max(width.saturating_add(56))
-            }
-            _ => self.near = self.near.max(width.saturating_add(72)),
+        let entry = &label.row.entry;
+        if entry.is_far() {
+            self.far = self.far.max(width.saturating_add(56));
+        } else {
+            self.near = self.near.max(width.saturating_add(72));
         }
-        let (above, below) = if is_slight(event) {
+        let (above, below) = if is_slight(&entry.event) {
             (15, 15)
         } else {
             (28, label.depth())
         };
-        let place = self.bottom.saturating_add(above);
-        self.bottom = place.saturating_add(below);
-        place
+        label.top = self.bottom.saturating_add(above);
+        self.bottom = label.top.saturating_add(below);
     }
 
     /// Where the line of a connection stands.
     pub(crate) fn client(self, connection: u32) -> u64
         ensures { result < 2 ^ 40 }
     {
-        210 + 92 * u64::from(connection)
+        210 + 92 * u64::from(connection.saturating_sub(self.first))
     }
 
     /// Where the line of the last connection stands, after which the words begin.
     pub(crate) fn last_client(self) -> u64
         ensures { result < 2 ^ 40 }
     {
-        self.client(self.clients.saturating_sub(1))
+        210 + 92 * u64::from(self.clients.saturating_sub(1))
     }
 
     /// Where the gateway's line stands.
@@ -82,10 +83,10 @@ impl Layout {
     }
 
     /// Where the line of a device stands.
-    pub(crate) fn device(self, device: u32) -> u64 {
+    pub(crate) fn device(self, device: u64) -> u64 {
         self.gateway()
             .saturating_add(self.far)
-            .saturating_add(self.apart.saturating_mul(u64::from(device)))
+            .saturating_add(self.apart.saturating_mul(device))
     }
 
     /// How wide the picture is.

@@ -17,7 +17,9 @@ mod page;
 mod rows;
 
 pub use diagram::draw;
-pub use entry::{Answer, Datagram, Entry, Event, Grounds, Line, Request, Written, line_of};
+pub use entry::{
+    Answer, Carried, Datagram, Entry, Event, Grounds, Line, Request, Told, Written, line_of,
+};
 pub use fault::{LineFault, PictureFault};
 pub use journal::{Journal, Mark, Row, journal_of};
 pub use page::Page;

@@ -121,26 +121,99 @@ impl Page {
         self.text(words.as_bytes())
     }
 
-    /// Writes a number in decimal digits, which are shown.
-    pub fn number(&mut self, number: u64) -> Result<(), AllocError> {
-        let digits = number.to_string(self.alloc)?;
-        self.text(digits.as_bytes())
+    /// Writes markup in which each `{}` stands for the next of these numbers, which say where something is.
+    pub(crate) fn drawn(
+        &mut self,
+        markup: &'static str,
+        numbers: &[u64],
+    ) -> Result<(), AllocError> {
+        let mut numbers = numbers.iter();
+        'each: for piece in markup.split("{}") {
+            self.markup(piece)?;
+            if let Some(number) = numbers.next() {
+                let digits = number.to_string(self.alloc)?;
+                self.bytes.extend_from_slice(digits.as_bytes())?;
+            }
+        }
+        Ok(())
     }
 
-    /// Writes a number of markup, which says where something stands.
-    pub fn place(&mut self, number: u64) -> Result<(), AllocError> {
-        let digits = number.to_string(self.alloc)?;
-        self.bytes.extend_from_slice(digits.as_bytes())
+    /// Writes words of the program, in which each `{}` stands for the next of these numbers.
+    pub(crate) fn told(&mut self, words: &'static str, numbers: &[u64]) -> Result<(), AllocError> {
+        let mut piece = self.beside();
+        piece.drawn(words, numbers)?;
+        self.text(piece.as_slice())
+    }
+
+    /// Writes how many bytes there are.
+    pub(crate) fn bytes(&mut self, count: u64) -> Result<(), AllocError> {
+        self.told(if count == 1 { "{} byte" } else { "{} bytes" }, &[count])
+    }
+
+    /// Begins an element of a class. Its attributes begin with a space, and end with what ends the tag.
+    pub(crate) fn element(
+        &mut self,
+        name: &'static str,
+        class: &'static str,
+        attributes: &'static str,
+        numbers: &[u64],
+    ) -> Result<(), AllocError> {
+        self.markup("<")?;
+        self.markup(name)?;
+        self.markup(" class=\"")?;
+        self.markup(class)?;
+        self.markup("\"")?;
+        self.drawn(attributes, numbers)
+    }
+
+    /// Writes text in that style.
+    pub(crate) fn styled(&mut self, class: &'static str, text: &[u8]) -> Result<(), AllocError> {
+        self.element("tspan", class, ">", &[])?;
+        self.text(text)?;
+        self.markup("</tspan>")
+    }
+
+    /// Writes a text element that begins so and has those words, or nothing where there are none.
+    pub(crate) fn line(
+        &mut self,
+        start: &'static str,
+        numbers: &[u64],
+        words: &Page,
+    ) -> Result<(), AllocError> {
+        if words.columns == 0 {
+            return Ok(());
+        }
+        self.drawn(start, numbers)?;
+        self.piece(words)?;
+        self.markup("</text>")
+    }
+
+    /// Writes a link to the row of the entry of that number.
+    pub(crate) fn link(&mut self, number: u64) -> Result<(), AllocError> {
+        self.drawn("<a href=\"#e{}\">", &[number])?;
+        self.shown(number)?;
+        self.markup("</a>")
+    }
+
+    /// Writes a moment in seconds.
+    pub(crate) fn moment(&mut self, moment: u64) -> Result<(), AllocError> {
+        let digits = [
+            moment / 1000,
+            moment / 100 % 10,
+            moment / 10 % 10,
+            moment % 10,
+        ];
+        self.told("{}.{}{}{} s", &digits)
     }
 
     /// Writes what a value is shown as, escaped.
-    pub fn shown<T: Display + Drop>(&mut self, value: T) -> Result<(), AllocError> {
+    pub(crate) fn shown<T: Display + Drop>(&mut self, value: T) -> Result<(), AllocError> {
         let text = value.to_string(self.alloc)?;
         self.text(text.as_bytes())
     }
 
     /// Writes bytes in hexadecimal digits, which are shown.
-    pub fn hex(&mut self, bytes: &[u8]) -> Result<(), AllocError> {
+    pub(crate) fn hex(&mut self, bytes: &[u8]) -> Result<(), AllocError> {
         let digits = hex::encode(self.alloc, bytes)?;
         self.text(digits.as_bytes())
     }
