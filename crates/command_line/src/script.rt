@@ -26,7 +26,7 @@ impl fmt::Display for LineFault {
     fn fmt<W: fmt::Write>(&self, f: &mut fmt::Formatter<W>) -> fmt::Result {
         f.write_str(match self {
             LineFault::Form => {
-                "a line is MOMENT WORD open|tick|bytes CONN HEX|datagram PEER HEX|close CONN"
+                "a line is MOMENT WORD open|tick|rotate|bytes CONN HEX|datagram PEER HEX|close CONN"
             }
             LineFault::CarriageReturn => "lines end by LF, and this one by CR and LF",
             LineFault::Number => "MOMENT and WORD are decimal below 2^64, and CONN is below 2^32",
@@ -52,6 +52,8 @@ pub enum Event {
     Tick,
     /// The client closed the connection.
     Close(u32),
+    /// The sealed journal is to be given out, and a new one begun.
+    Rotate,
 }
 
 /// A line of a script.
@@ -81,6 +83,7 @@ fn event_of(alloc: Global, text: &[u8]) -> Result<Event, LineFault> {
     match text {
         b"open" => return Ok(Event::Open),
         b"tick" => return Ok(Event::Tick),
+        b"rotate" => return Ok(Event::Rotate),
         _ => {}
     }
     let (name, rest) = first_word(text).ok_or(LineFault::Form)?;

@@ -9,7 +9,7 @@ use Rattle.ask_model.specs.declared.cause.Cause.{Cause}
 use Rattle.ask_model.specs.declared.cause.Cause.TheVariants as C
 use Rattle.ask_model.specs.Requests.{CoapRequest, Sense, Requests, Refuses}
 use Rattle.ask_model.specs.Views.{Ask}
-use Rattle.journal_book.specs.Entries.{Deed, Opens, Asks, Sends, Hears, Passes, Answers, Shuts, Seals, Fault, Written}
+use Rattle.journal_book.specs.Entries.{Deed, Opens, Asks, Sends, Hears, Passes, Answers, Shuts, Seals, Carries, Fault, Written}
 use Rattle.message_layer.specs.declared.state.Outstanding.{Outstanding}
 use Rattle.message_layer.specs.declared.state.Waiting.{Waiting}
 use Rattle.exchange_model.specs.State.{State, link_of}
@@ -32,7 +32,7 @@ use Rattle.gateway_desk.specs.Sending.{AreUnsent}
 
 -- what is counted, and what is sent, of entries one after the other
 
-asks-append : (xs ys : List Written) → asks_of (xs ++ ys) ≡ asks_of xs + asks_of ys
+pub asks-append : (xs ys : List Written) → asks_of (xs ++ ys) ≡ asks_of xs + asks_of ys
 asks-append xs ys =
     ap length (flat_map-append (λ (w : Written). asker w.deed) xs ys)
     ∙ length-append (flat_map (λ (w : Written). asker w.deed) xs) (flat_map (λ (w : Written). asker w.deed) ys)
@@ -46,6 +46,7 @@ no-asker Passes h = refl
 no-asker (Answers c k g) h = refl
 no-asker (Shuts c) h = refl
 no-asker Seals h = refl
+no-asker (Carries n mark done) h = refl
 
 no-asks : (ws : List Written) → HasNoClient ws → asks_of ws ≡ 0
 no-asks [] h = refl

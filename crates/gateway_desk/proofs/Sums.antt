@@ -3,7 +3,7 @@ use Rattle.std.proofs.Common.{◌≡◌, ◌≢◌, ℕ, suc, ◌+◌, ◌<◌, 
 use Rattle.std.specs.Prelude.{count_by, slice_get}
 use Rattle.std.specs.List.{flat_map}
 use Rattle.std.proofs.lemmas.List.Recursion.{is_count_by}
-use Rattle.journal_book.specs.Entries.{Deed, Asks, Opens, Sends, Hears, Passes, Answers, Shuts, Seals, Written}
+use Rattle.journal_book.specs.Entries.{Deed, Asks, Opens, Sends, Hears, Passes, Answers, Shuts, Seals, Carries, Written}
 use Rattle.gateway_desk.specs.Ledgers.{asker, asks_of}
 use Rattle.gateway_desk.specs.Running.{asks, is_ask}
 
@@ -16,6 +16,7 @@ one-counts Passes rest = refl
 one-counts (Answers c k g) rest = refl
 one-counts (Shuts c) rest = refl
 one-counts Seals rest = refl
+one-counts (Carries n mark done) rest = refl
 
 -- the asks of a history are those of its entries that ask
 pub asks_counted : (h : List Written) → asks_of h ≡ count_by is_ask h

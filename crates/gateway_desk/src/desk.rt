@@ -1,21 +1,29 @@
 //! The desk: a shop that sessions share under one lock.
 
-ghost use Rattle.std.specs.Prelude.{◌≡◌, ◌+◌, ◌≤◌, ◌<◌, ◌++◌, ◌∷◌, [], length, take, IfOk, IfSome, IsTrue, IsFalse, OnErr};
+ghost use Rattle.std.specs.Prelude.{◌≡◌, ◌+◌, ◌≤◌, ◌<◌, ◌++◌, ◌∷◌, [], length, take, sum_by, IfOk, IfErr, IfSome, IsTrue, IsFalse, OnOk, OnErr};
 ghost use Rattle.std.specs.Arc.{arc_value};
+ghost use Rattle.std.specs.List.{All};
+ghost use Rattle.history_laws.specs.Justified.{Stands};
 ghost use Rattle.exchange_core.specs.Answering.{given_of};
+ghost use Rattle.gateway_desk.specs.Ledgers.{asks_of};
 ghost use Rattle.gateway_desk.specs.Lines.{Slip, made, got};
+ghost use Rattle.gateway_desk.specs.Settled.{IsJustified, AreApart, answered};
 
 use crate::bells::Bells;
 use crate::clock::Clock;
 use crate::desk_state::{AllSent, ClosedPass, ClosedStub, DeskState, Heard, Ticked};
 use crate::pass::{Pass, Stub};
 use crate::receipt::Receipt;
+use crate::report::Report;
 use crate::shop::Shop;
+use crate::turning::TurnFault;
 use crate::wire::{Inbound, Unsent};
 use ask_model::Mapped;
 use exchange_core::{Answer, AskFault, OpenFault, Ticket};
 use http_edge::Memory;
-use std::alloc::Global;
+use journal_book::Journal;
+use std::alloc::{AllocError, Global};
+use std::sync::atomic::{AtomicBool, Ordering};
 use std::sync::ledger::Ledger;
 use std::sync::{Arc, Condvar, Mutex, Wait};
 use std::time::Duration;
@@ -37,6 +45,12 @@ pub struct LockedDesk<R: Relation, C: Clock, L: Ledger> {
     bells: Bells,
     /// wakes the one who lets time go on
     due: Condvar,
+    /// The journal is nearly full: no connection is opened until it is turned over.
+    closing: AtomicBool,
+    /// wakes the one who turns it over
+    full: Condvar,
+    /// wakes those who wait until it is
+    turned: Condvar,
 }
 
 /// The receipt of a ticket: its number and its request, and the answer.
@@ -66,6 +80,9 @@ impl<R: Relation, C: Clock, L: Ledger> LockedDesk<R, C, L> {
             state: Mutex::new(DeskState::new(shop, clock)),
             bells: Bells::new(alloc)?,
             due: Condvar::new(),
+            closing: AtomicBool::new(false),
+            full: Condvar::new(),
+            turned: Condvar::new(),
         })
     }
 
@@ -75,16 +92,115 @@ impl<R: Relation, C: Clock, L: Ledger> LockedDesk<R, C, L> {
             state,
             bells: _,
             due: _,
+            closing: _,
+            full: _,
+            turned: _,
         } = self;
         state.into_inner().into_shop()
     }
 
-    /// Opens a connection. A desk that was shut answers that its journal is sealed.
+    /// Wakes the one who turns the journal over, once it is nearly full.
+    fn look(&self, state: &DeskState<R, C, L>) {
+        if state.is_nearly_full() && !self.closing.swap(true, Ordering::SeqCst) {
+            self.full.notify_all();
+        }
+    }
+
+    /// Whether the journal is nearly full, so that sessions end, each with the answer to its next
+    /// request, and no connection is opened. It takes no lock.
+    pub fn is_closing(&self) -> bool {
+        self.closing.load(Ordering::SeqCst)
+    }
+
+    /// Opens a connection. A desk that was shut, or whose journal is nearly full, answers that its
+    /// journal is sealed.
     pub fn open<W: Wait>(&self, rt: &W) -> Result<Pass<R, L>, OpenFault>
         ensures { IfOk result (λ p. p.lines ≡ []) }
     {
         let mut guard = self.state.lock(rt);
-        guard.open()
+        if self.is_closing() {
+            return Err(OpenFault::Sealed);
+        }
+        let state = &mut *guard;
+        let pass = state.open();
+        self.look(state);
+        pass
+    }
+
+    /// Waits until the journal is turned over, where it is nearly full. False where the desk was
+    /// shut.
+    pub fn wait_turned<W: Wait>(&self, rt: &W) -> bool {
+        let mut guard = self.state.lock(rt);
+        for _ in rt.forever() {
+            if guard.is_shut() {
+                return false;
+            }
+            if !self.is_closing() {
+                return true;
+            }
+            guard = self.turned.wait(rt, guard);
+        }
+        unreachable!()
+    }
+
+    /// Waits until the journal is nearly full. False where the desk was shut.
+    pub fn wait_full<W: Wait>(&self, rt: &W) -> bool {
+        let mut guard = self.state.lock(rt);
+        for _ in rt.forever() {
+            if guard.is_shut() {
+                return false;
+            }
+            if self.is_closing() {
+                return true;
+            }
+            guard = self.full.wait(rt, guard);
+        }
+        unreachable!()
+    }
+
+    /// Whether no exchange is open and no message outstanding, or the journal is sealed already.
+    pub fn is_quiet<W: Wait>(&self, rt: &W) -> bool {
+        let guard = self.state.lock(rt);
+        guard.is_quiet()
+    }
+
+    /// Brings the journal to its seal by connections that are opened and closed at once. It is for a
+    /// desk where nobody is connected, since 256 may be.
+    pub fn fill_up<W: Wait>(&self, rt: &W) -> Result<(), OpenFault> {
+        let mut guard = self.state.lock(rt);
+        guard.fill_up()
+    }
+
+    /// Gives the sealed journal out and goes on with the next one, where nobody is connected, no
+    /// exchange is open, and the journal justifies all that the passes note and has no ask but theirs.
+    /// Then connections are opened again. Else all passes are handed back.
+    pub fn turn<W: Wait>(
+        &self,
+        rt: &W,
+        passes: Vec<Pass<R, L>>,
+    ) -> Result<(Journal<R>, Report), TurnFault<R, L>>
+        ensures stands { IfOk result (λ given. Stands given.0.entries) }
+        ensures justified { IfOk result (λ given. All (IsJustified given.0.entries) passes.items) }
+        ensures apart { OnOk result (AreApart (answered passes.items)) }
+        ensures whole { IfOk result (λ given. asks_of given.0.entries
+            ≡ sum_by (λ p. p.amount) passes.items) }
+        ensures asks { IfOk result (λ given. given.1.asks ≡ asks_of given.0.entries) }
+        ensures answers { IfOk result (λ given. given.1.answers
+            ≡ length (answered passes.items)) }
+        ensures back { IfErr result (λ fault. fault.passes ≡ passes) }
+    {
+        let mut guard = self.state.lock(rt);
+        let given = guard.turn_over(passes)?;
+        self.closing.store(false, Ordering::SeqCst);
+        self.turned.notify_all();
+        self.due.notify_one();
+        Ok(given)
+    }
+
+    /// An equal journal, which shares what was asked and heard.
+    pub fn copy_journal<W: Wait>(&self, rt: &W) -> Result<Journal<R>, AllocError> {
+        let guard = self.state.lock(rt);
+        guard.journal().copy()
     }
 
     /// Asks on the connection of a pass, and notes the ask there.
@@ -107,6 +223,7 @@ impl<R: Relation, C: Clock, L: Ledger> LockedDesk<R, C, L> {
         if state.is_due_sooner() {
             self.due.notify_one();
         }
+        self.look(state);
         ticket
     }
 
@@ -170,6 +287,7 @@ impl<R: Relation, C: Clock, L: Ledger> LockedDesk<R, C, L> {
             if state.is_due_sooner() {
                 self.due.notify_one();
             }
+            self.look(state);
             (heard, self.bells.ring(state.journal(), from))
         };
         self.bells.wake(first);
@@ -183,6 +301,7 @@ impl<R: Relation, C: Clock, L: Ledger> LockedDesk<R, C, L> {
             let state = &mut *guard;
             let from = state.journal().len();
             let ticked = state.tick()?;
+            self.look(state);
             (ticked, self.bells.ring(state.journal(), from))
         };
         self.bells.wake(first);
@@ -235,12 +354,14 @@ impl<R: Relation, C: Clock, L: Ledger> LockedDesk<R, C, L> {
         guard.close_lost(stub)
     }
 
-    /// Lets sessions wait no more, for good.
+    /// Lets sessions wait no more, and nobody wait for a turn, for good.
     pub fn shut<W: Wait>(&self, rt: &W) {
         let mut guard = self.state.lock(rt);
         guard.shut();
         self.bells.ring_all();
         self.due.notify_all();
+        self.full.notify_all();
+        self.turned.notify_all();
     }
 
     /// Whether the desk was shut.

@@ -1,21 +1,29 @@
 //! What lies under the lock of a desk.
 
-ghost use Rattle.std.specs.Prelude.{◌≡◌, ◌⊎◌, ◌≤◌, ◌<◌, ◌++◌, ◌∷◌, [], length, take, Ok, Err, IfOk, IfErr, OnOk, OnErr, MatchResult, Some, None, option_map, true, false};
+ghost use Rattle.std.specs.Prelude.{◌≡◌, ◌⊎◌, ◌≤◌, ◌<◌, ◌++◌, ◌∷◌, [], length, take, Ok, Err, IfOk, IfErr, OnOk, OnErr, MatchResult, Some, None, is_some, not, option_map, sum_by, true, false};
 ghost use Rattle.std.specs.Arc.{arc_value};
+ghost use Rattle.std.specs.List.{All};
 ghost use Rattle.journal_book.specs.Views.{ask_of};
+ghost use Rattle.history_laws.specs.Justified.{Stands};
 ghost use Rattle.exchange_model.specs.Sealing.{hears_in_room, ticks_in_room};
 ghost use Rattle.exchange_core.specs.Answering.{given_of};
 ghost use Rattle.exchange_core.specs.Calls.{now, IsOpened, IsAsked, IsClosed, IsUnknown};
 ghost use Rattle.exchange_core.specs.Due.{next_tick, IsNextTick};
+ghost use Rattle.exchange_core.specs.Rotating.{IsTurned};
 ghost use Rattle.exchange_core.specs.Taking.{IsTaken, IsSent};
 ghost use Rattle.exchange_core.specs.Values.{stepped};
+ghost use Rattle.gateway_desk.specs.Ledgers.{asks_of};
 ghost use Rattle.gateway_desk.specs.Lines.{made};
 ghost use Rattle.gateway_desk.specs.Resting.{rest_time, rest_until, is_sooner};
 ghost use Rattle.gateway_desk.specs.Sending.{AreUnsent};
+ghost use Rattle.gateway_desk.specs.Settled.{IsJustified, AreApart, answered};
+ghost use Rattle.gateway_desk.specs.Turning.{is_nearly_full, FillsUp, IsUnturned};
 
 use crate::clock::Clock;
 use crate::pass::{Pass, Stub};
+use crate::report::Report;
 use crate::shop::Shop;
+use crate::turning::TurnFault;
 use crate::wire::{Inbound, Unsent};
 use ask_model::Mapped;
 use exchange_core::{Answer, AskFault, OpenFault, Ticket};
@@ -305,5 +313,55 @@ impl<R: Relation, C: Clock, L: Ledger> DeskState<R, C, L> {
                 None
             }
         }
+    }
+
+    /// Whether the journal is nearly full.
+    pub fn is_nearly_full(&self) -> bool
+        ensures { result ≡ is_nearly_full self.now.shop.core.state.entries }
+    {
+        self.shop.is_nearly_full()
+    }
+
+    /// Whether no tick has anything to do: no exchange is open and no message outstanding, or the
+    /// journal is sealed and nobody waits.
+    pub fn is_quiet(&self) -> bool
+        ensures { result ≡ not (is_some (next_tick self.now.shop.core.state)) }
+    {
+        self.shop.next_due().is_none()
+    }
+
+    /// Brings the journal to its seal by connections that are opened and closed at once.
+    pub fn fill_up(&mut self) -> Result<(), OpenFault>
+        ensures fills { OnOk result (FillsUp (C.time self.new.clock)
+            self.old.shop.core self.new.shop.core) }
+    {
+        let moment = self.clock.moment();
+        self.shop.fill_up(moment)
+    }
+
+    /// Gives the sealed journal out, and goes on with the next one.
+    pub fn turn_over(
+        &mut self,
+        passes: Vec<Pass<R, L>>,
+    ) -> Result<(Journal<R>, Report), TurnFault<R, L>>
+        ensures turned { IfOk result (λ given. IsTurned
+            (now self.old.shop.core.state.moment (C.time self.new.clock)) given.0.entries
+            self.old.shop.core self.new.shop.core) }
+        ensures stands { IfOk result (λ given. Stands given.0.entries) }
+        ensures justified { IfOk result (λ given. All (IsJustified given.0.entries) passes.items) }
+        ensures apart { OnOk result (AreApart (answered passes.items)) }
+        ensures whole { IfOk result (λ given. asks_of given.0.entries
+            ≡ sum_by (λ p. p.amount) passes.items) }
+        ensures asks { IfOk result (λ given. given.1.asks ≡ asks_of given.0.entries) }
+        ensures answers { IfOk result (λ given. given.1.answers
+            ≡ length (answered passes.items)) }
+        ensures refused { IfErr result (λ fault. IsUnturned
+            (now self.old.shop.core.state.moment (C.time self.new.clock)) self.old.shop.core
+            passes.items fault.why) }
+        ensures unchanged { OnErr result (self.new.shop ≡ self.old.shop) }
+        ensures back { IfErr result (λ fault. fault.passes ≡ passes) }
+    {
+        let moment = self.clock.moment();
+        self.shop.turn_over(passes, moment)
     }
 }

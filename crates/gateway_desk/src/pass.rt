@@ -172,6 +172,20 @@ impl<R: Relation, L: Ledger> Pass<R, L> {
         self.places -= 1;
     }
 
+    /// Ends it: the book counts its asks no more.
+    pub(crate) fn spend(self, book: &mut Book<L>)
+        ensures { book.new.total + self.amount ≡ book.old.total }
+    {
+        let made = self.made();
+        let Pass {
+            conn: _,
+            mut share,
+            notes: _,
+            places: _,
+        } = self;
+        book.sub(&mut share, made);
+    }
+
     /// Notes an answer that another session was given.
     pub fn told(&mut self, receipt: &Receipt<R>) -> Result<(), AllocError>
         ensures ok { OnOk result (self.new.lines

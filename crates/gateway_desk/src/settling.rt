@@ -151,7 +151,7 @@ fn is_whole<R: Relation, L: Ledger>(passes: &[Pass<R, L>], asks: u64) -> bool
 }
 
 /// Whether the journal justifies all that the passes note, and has no ask but theirs.
-fn settled<R: Relation, L: Ledger>(
+pub(crate) fn settled<R: Relation, L: Ledger>(
     alloc: Global,
     journal: &Journal<R>,
     passes: &[Pass<R, L>],

@@ -1,6 +1,7 @@
 //! The core that sessions share, beside the book of their asks.
 
-ghost use Rattle.std.specs.Prelude.{◌≡◌, ◌⊎◌, ◌+◌, ◌-◌, ◌<◌, ◌^◌, ◌++◌, ◌∷◌, [], Ok, Err, IfOk, IfErr, OnOk, OnErr, IsTrue, IsFalse, option_map};
+ghost use Rattle.std.specs.Prelude.{◌≡◌, ◌⊎◌, ◌+◌, ◌-◌, ◌<◌, ◌^◌, ◌++◌, ◌∷◌, [], Ok, Err, IfOk, IfErr, OnOk, OnErr, IsTrue, IsFalse, length, option_map, sum_by};
+ghost use Rattle.std.specs.List.{All};
 ghost use Rattle.std.specs.Arc.{arc_value};
 ghost use Rattle.journal_book.specs.Views.{ask_of};
 ghost use Rattle.history_laws.specs.Justified.{Stands};
@@ -10,14 +11,21 @@ ghost use Rattle.exchange_model.specs.Sealing.{hears_in_room, ticks_in_room};
 ghost use Rattle.exchange_core.specs.Answering.{given_of};
 ghost use Rattle.exchange_core.specs.Calls.{now, IsOpened, IsAsked, IsClosed, IsUnknown};
 ghost use Rattle.exchange_core.specs.Due.{next_tick, IsNextTick};
+ghost use Rattle.exchange_core.specs.Rotating.{IsTurned};
 ghost use Rattle.exchange_core.specs.Serving.{AreBelow, AreOlder};
 ghost use Rattle.exchange_core.specs.States.{core_of};
 ghost use Rattle.exchange_core.specs.Taking.{IsTaken, IsSent};
 ghost use Rattle.exchange_core.specs.Values.{outgoing_of, stepped};
+ghost use Rattle.gateway_desk.specs.Ledgers.{asks_of};
 ghost use Rattle.gateway_desk.specs.Lines.{made};
 ghost use Rattle.gateway_desk.specs.Sending.{AreUnsent};
+ghost use Rattle.gateway_desk.specs.Settled.{IsJustified, AreApart, answered};
+ghost use Rattle.gateway_desk.specs.Turning.{is_nearly_full, PassesBy, FillsUp, IsUnturned};
 
 use crate::pass::Pass;
+use crate::report::Report;
+use crate::settling::settled;
+use crate::turning::{TurnFault, spend_all};
 use ask_model::Mapped;
 use exchange_core::{Answer, AskFault, Core, Datagram, OpenFault, Ticket};
 use http_edge::Memory;
@@ -28,6 +36,15 @@ use std::sync::Arc;
 use std::sync::ledger::{Blank, Book, Ledger, Share};
 use transformers::Relation;
 use uri_map::Peer;
+
+/// From how many entries on a journal is nearly full: the last tenth is left.
+const NEARLY_ALL: u64 = 58_982;
+
+/// From how many bytes on it is: the last quarter is left.
+const NEARLY_ALL_BYTES: u64 = 201_326_592;
+
+/// How many connections a journal has at most.
+const MOST_OPENED: u64 = 65_536;
 
 /// A core, and the book of the ledger of asks. Its type keeps that the journal has as many asks as
 /// the book counts, and so as many as the shares of all passes; and that what waits to be sent are
@@ -204,5 +221,84 @@ impl<R: Relation, L: Ledger> Shop<R, L> {
         ensures exact { IsNextTick result self.now.core.state }
     {
         self.core.next_due()
+    }
+
+    /// Whether its journal is nearly full. What is left then takes two more requests of each of 256
+    /// connections, with all copies of their messages.
+    pub fn is_nearly_full(&self) -> bool
+        ensures { result ≡ is_nearly_full self.now.core.state.entries }
+    {
+        let entries = self.core.journal().len() as u64;
+        entries >= NEARLY_ALL || self.core.bytes() >= NEARLY_ALL_BYTES
+    }
+
+    /// Opens a connection and closes it at once. It costs nobody a pass.
+    fn pass_by(&mut self, moment: u64) -> Result<(), OpenFault>
+        ensures passes { OnOk result (PassesBy moment self.old.core self.new.core) }
+        ensures refused { IfErr result (λ fault. IsOpened (Err fault)
+            (now self.old.core.state.moment moment) self.old.core self.new.core) }
+        ensures left { self.new.left ≡ self.old.left }
+    {
+        let number = self.core.open(moment)?;
+        self.core.close(moment, number);
+        Ok(())
+    }
+
+    /// Brings the journal to its seal by entries that cost nobody: connections are opened and closed
+    /// at once. It is for a shop where nobody is connected.
+    pub fn fill_up(&mut self, moment: u64) -> Result<(), OpenFault>
+        ensures fills { OnOk result (FillsUp moment self.old.core self.new.core) }
+        ensures left { self.new.left ≡ self.old.left }
+    {
+        'each: for _ in 0..MOST_OPENED {
+            match self.pass_by(moment) {
+                Ok(()) => {}
+                Err(OpenFault::Sealed) => return Ok(()),
+                Err(fault) => return Err(fault),
+            }
+        }
+        Err(OpenFault::Full)
+    }
+
+    /// Gives its sealed journal out, where nobody is connected, no exchange is open, and the journal
+    /// justifies all that the passes note and has no ask but theirs; and goes on with one that begins
+    /// with copies (`Core::rotate`). The passes are spent: what is settled next is the new journal's.
+    /// What the core refuses comes first, want of memory excepted, and then what settling does. Where
+    /// it is refused, all passes are handed back.
+    pub fn turn_over(
+        &mut self,
+        passes: Vec<Pass<R, L>>,
+        moment: u64,
+    ) -> Result<(Journal<R>, Report), TurnFault<R, L>>
+        ensures turned { IfOk result (λ given. IsTurned (now self.old.core.state.moment moment)
+            given.0.entries self.old.core self.new.core) }
+        ensures stands { IfOk result (λ given. Stands given.0.entries) }
+        ensures justified { IfOk result (λ given. All (IsJustified given.0.entries) passes.items) }
+        ensures apart { OnOk result (AreApart (answered passes.items)) }
+        ensures whole { IfOk result (λ given. asks_of given.0.entries
+            ≡ sum_by (λ p. p.amount) passes.items) }
+        ensures asks { IfOk result (λ given. given.1.asks ≡ asks_of given.0.entries) }
+        ensures answers { IfOk result (λ given. given.1.answers
+            ≡ length (answered passes.items)) }
+        ensures refused { IfErr result (λ fault. IsUnturned (now self.old.core.state.moment moment)
+            self.old.core passes.items fault.why) }
+        ensures unchanged { OnErr result (self.new ≡ self.old) }
+        ensures back { IfErr result (λ fault. fault.passes ≡ passes) }
+        ensures left { self.new.left ≡ self.old.left }
+    {
+        if let Some(fault) = self.core.turn_fault(moment) {
+            return Err(TurnFault::rotate(fault, passes));
+        }
+        let report = match settled(self.alloc, self.core.journal(), &passes) {
+            Ok(report) => report,
+            Err(fault) => return Err(TurnFault::settle(fault, passes)),
+        };
+        match self.core.rotate(moment) {
+            Ok(journal) => {
+                spend_all(&mut self.book, passes);
+                Ok((journal, report))
+            }
+            Err(fault) => Err(TurnFault::rotate(fault, passes)),
+        }
     }
 }

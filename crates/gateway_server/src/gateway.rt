@@ -2,12 +2,14 @@
 
 ghost use Rattle.std.specs.Prelude.{◌≡◌, ◌-◌, ◌^◌};
 
+use crate::archive::Archive;
 use crate::ports::Ports;
 use crate::shared::Shared;
+use crate::turning::turn_journals;
 use ask_model::Settings;
 use exchange_core::OpenFault;
 use gateway_desk::{LockedDesk, Pass, Shop};
-use gateway_system::SystemClock;
+use gateway_system::{Line, SystemClock};
 use log::{Log, info, warn};
 use route_bank::Profile;
 use server_faults::ServeFault;
@@ -19,7 +21,7 @@ use std::random::RandomSource;
 use std::rt::Clock;
 use std::sync::ledger::{Blank, Ledger};
 use std::sync::{Arc, Wait};
-use std::thread::{self, Threads};
+use std::thread::{self, JoinHandle, Threads};
 use std::time::{Duration, Instant};
 
 /// How long nothing is taken after a connection couldn't be, in milliseconds.
@@ -30,13 +32,14 @@ const PARTS: u64 = 4294967295;
 
 /// Runs the gateway at these ports, until the clock or the UDP socket fails. It goes on in threads
 /// of its own, one for each connection; those are cut off when the program ends.
-pub fn run<W: Threads + Wait + Log + Clock + RandomSource + Copy + Drop + Send + Sync + 'static>(
-    rt: W,
-    alloc: Global,
-    ports: Ports,
-    settings: Settings,
-) -> ServeFault {
-    match run_with::<W, Brand>(rt, alloc, ports, settings, Blank::new(PARTS)) {
+///
+/// Each time that the journal is nearly full it is turned over and given to the archive, with the
+/// number of those before it and it; so is the last one as the gateway stops.
+pub fn run<
+    W: Threads + Wait + Log + Clock + RandomSource + Copy + Drop + Send + Sync + 'static,
+    A: Archive + Drop + Send + Sync + 'static,
+>(rt: W, alloc: Global, ports: Ports, settings: Settings, archive: A) -> ServeFault {
+    match run_with::<W, Brand, A>(rt, alloc, ports, settings, archive, Blank::new(PARTS)) {
         Ok(()) => ServeFault::Stopped,
         Err(fault) => fault,
     }
@@ -46,7 +49,15 @@ pub fn run<W: Threads + Wait + Log + Clock + RandomSource + Copy + Drop + Send +
 fn run_with<
     W: Threads + Wait + Log + Clock + RandomSource + Copy + Drop + Send + Sync + 'static,
     L: Ledger + Send + Sync + 'static,
->(rt: W, alloc: Global, ports: Ports, settings: Settings, blank: Blank) -> Result<(), ServeFault>
+    A: Archive + Drop + Send + Sync + 'static,
+>(
+    rt: W,
+    alloc: Global,
+    ports: Ports,
+    settings: Settings,
+    archive: A,
+    blank: Blank,
+) -> Result<(), ServeFault>
     requires name { blank.name ≡ L.name }
     requires parts { (blank.parts ≡ L.parts) × (blank.parts ≡ 2 ^ 32 - 1) }
 {
@@ -54,12 +65,14 @@ fn run_with<
     let desk: LockedDesk<Profile, SystemClock<W>, L> = desk_of(rt, alloc, blank)?;
     let (listen, udp) = (ports.listens_at(), ports.sends_from());
     let Ports { listener, devices } = ports;
-    let shared = Arc::new(alloc, Shared::new(desk, devices, settings))?;
+    let shared = Arc::new(alloc, Shared::new(alloc, desk, devices, settings))?;
     start_loops(rt, alloc, listener, &shared)?;
+    let turns = start_turning(rt, &shared, archive)?;
     if let (Ok(listen), Ok(udp)) = (listen, udp) {
         note_ports(&rt, listen, udp);
     }
     tick_loop(&rt, &shared.devices, &shared.desk, u64::MAX);
+    turns.join(&rt);
     Ok(())
 }
 
@@ -109,6 +122,19 @@ fn start_loops<
     Ok(())
 }
 
+/// Starts the thread that turns the journal over.
+fn start_turning<
+    W: Threads + Wait + Log + Clock + RandomSource + Copy + Drop + Send + Sync + 'static,
+    L: Ledger + Send + Sync + 'static,
+    A: Archive + Drop + Send + Sync + 'static,
+>(rt: W, shared: &Arc<Shared<W, L>>, archive: A) -> Result<JoinHandle<()>, ServeFault> {
+    let mine = Arc::try_clone(shared)?;
+    match thread::spawn(&rt, move || turn_journals(&rt, &mine, &archive)) {
+        Ok(turns) => Ok(turns),
+        Err(_) => Err(ServeFault::Thread),
+    }
+}
+
 /// Takes connections, and starts a session for each, until the desk is shut.
 fn take_connections<
     W: Threads + Wait + Log + Clock + RandomSource + Copy + Drop + Send + Sync + 'static,
@@ -142,25 +168,40 @@ fn take<
     !started
 }
 
-/// The pass of one more connection, where it may be opened. Why it may not is noted.
+/// The pass of one more connection, where it may be opened. While the journal is turned over it waits
+/// for that. Why it may not be opened is noted.
 fn pass_for<W: Wait + Log + Clock + RandomSource + Drop, L: Ledger>(
     rt: &W,
     shared: &Shared<W, L>,
     turning_away: bool,
 ) -> Option<Pass<Profile, L>> {
-    let reason = match shared.desk.open(rt) {
-        Ok(pass) => return Some(pass),
-        Err(OpenFault::Sealed) => {
-            shared.note_sealed(rt);
-            return None;
+    for _ in rt.forever() {
+        let reason = match open(rt, shared) {
+            Ok(pass) => return Some(pass),
+            Err(OpenFault::Sealed) if shared.desk.wait_turned(rt) => continue,
+            Err(OpenFault::Sealed) => return None,
+            Err(OpenFault::Full) => "256 connections are open",
+            Err(OpenFault::Memory) => "no memory for it",
+        };
+        if !turning_away {
+            note_turned(rt, reason);
         }
-        Err(OpenFault::Full) => "256 connections are open",
-        Err(OpenFault::Memory) => "no memory for it",
-    };
-    if !turning_away {
-        note_turned(rt, reason);
+        return None;
     }
-    None
+    unreachable!()
+}
+
+/// Opens a connection, which is counted then.
+fn open<W: Wait + Clock + RandomSource + Drop, L: Ledger>(
+    rt: &W,
+    shared: &Shared<W, L>,
+) -> Result<Pass<Profile, L>, OpenFault> {
+    shared.admit(rt)?;
+    let pass = shared.desk.open(rt);
+    if pass.is_err() {
+        shared.leave(rt);
+    }
+    pass
 }
 
 /// Notes that a connection isn't taken.
@@ -181,12 +222,15 @@ fn start_session<
     pass: Pass<Profile, L>,
 ) -> bool {
     let stub = pass.stub();
-    let started = match Arc::try_clone(shared) {
-        Ok(mine) => thread::spawn(&rt, move || mine.serve_client(&rt, alloc, stream, pass)).is_ok(),
-        Err(_) => false,
+    let started = match (Arc::try_clone(shared), Arc::new(alloc, Line::new(stream))) {
+        (Ok(mine), Ok(line)) => {
+            thread::spawn(&rt, move || mine.serve_client(&rt, alloc, line, pass)).is_ok()
+        }
+        _ => false,
     };
     if !started {
         shared.desk.close_lost(&rt, stub);
+        shared.leave(&rt);
     }
     started
 }

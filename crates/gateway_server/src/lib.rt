@@ -1,13 +1,18 @@
 //! The gateway on sockets of the system: connections over TCP, one UDP socket, a thread for each
 //! connection.
 //!
-//! What goes out is what the sessions write. The program `hcproxy` stands on it.
+//! What goes out is what the sessions write. Each time that the journal is nearly full it is turned over,
+//! between two requests of each connection. The program `hcproxy` stands on it.
 #![tactic(auto)]
 
+mod archive;
 mod gateway;
 mod ports;
+mod roll;
 mod shared;
+mod turning;
 
+pub use archive::{Archive, NoArchive};
 pub use gateway::run;
 pub use ports::Ports;
 pub use server_faults::ServeFault;

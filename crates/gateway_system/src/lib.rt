@@ -9,6 +9,6 @@ mod client;
 mod clock;
 mod socket;
 
-pub use client::Client;
+pub use client::{Client, Line};
 pub use clock::SystemClock;
 pub use socket::DeviceSocket;

@@ -6,7 +6,7 @@ use command_line::{
     COAP_PORT, DEVICE, Demonstration, GATEWAY, Report, WEB_PORT, followed, loopback,
 };
 use device_server::DevicePort;
-use gateway_server::Ports;
+use gateway_server::{NoArchive, Ports};
 use log::Log;
 use proxy_settings::{Device, Part, Setup};
 use server_faults::{DeviceFault, ServeFault};
@@ -62,7 +62,7 @@ pub fn run_demo<
     if !start_device(rt, port, device) {
         return Report::serve(ServeFault::Thread);
     }
-    Report::serve(gateway_server::run(rt, rt.alloc(), ports, settings))
+    Report::serve(gateway_server::run(rt, rt.alloc(), ports, settings, NoArchive))
 }
 
 /// Takes the ports.

@@ -8,6 +8,7 @@ mod demo;
 mod device;
 mod drawing;
 mod files;
+mod journals;
 mod replaying;
 mod serving;
 
@@ -36,6 +37,8 @@ A gateway from HTTP/1.1 to CoAP.
                           what to try
   demo ADDRESS:PORT       .. and takes connections there
   serve FILE              runs the gateway by the settings of FILE, or of standard input without FILE
+  serve FILE --journals FOLDER
+                          .. and writes each journal that is full to a file in FOLDER
   replay                  runs the script on standard input through the gateway, and prints what goes out
   replay --journal        .. and then the entries of the journal
   replay --settings FILE  .. under the settings of FILE in place of those of a demonstration
@@ -86,7 +89,7 @@ fn check<'a, R: Input + Print + Eprint + Files + AllocGlobal>(
     Ok(())
 }
 
-/// Does what the words ask for.
+/// Does what the words ask for. The thread that writes journals has the host's own runtime.
 fn run<
     'a,
     R: Net<Listener = TcpListener, Stream = TcpStream>
@@ -105,12 +108,12 @@ fn run<
         + Send
         + Sync
         + 'static,
->(rt: R, words: &'a [String]) -> Result<(), Report<'a>> {
+>(rt: R, host: HostRuntime, words: &'a [String]) -> Result<(), Report<'a>> {
     match command_of(words).map_err(Report::usage)? {
         Command::Help => printed(println!(rt; "{USAGE}\n{HELP}")),
         Command::Version => printed(println!(rt; "{VERSION}")),
         Command::Demo { listen } => Err(run_demo(rt, listen)),
-        Command::Serve { settings } => Err(serve(rt, settings)),
+        Command::Serve { settings, journals } => Err(serve(rt, host, settings, journals)),
         Command::Origin { settings } => Err(serve_device(rt, settings)),
         Command::Check { part, file } => check(&rt, part, file),
         Command::Replay { journal, settings } => replay_input(rt, settings, journal),
@@ -127,7 +130,7 @@ fn tell<R: Eprint>(rt: &R, report: Report<'_>) -> u8 {
 fn main(rt: HostRuntime) -> ExitCode {
     let status = match words(&rt) {
         Err(report) => tell(&rt, report),
-        Ok(words) => match run(rt, &words) {
+        Ok(words) => match run(rt, rt, &words) {
             Ok(()) => 0,
             Err(report) => tell(&rt, report),
         },

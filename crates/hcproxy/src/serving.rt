@@ -1,11 +1,13 @@
 //! `hcproxy serve`: the gateway by the settings of a file.
 
 use crate::files::serve_at;
+use crate::journals::Folder;
 use ask_model::Settings;
 use command_line::{Report, followed};
 use gateway_server::{Ports, run};
 use log::Log;
 use proxy_settings::Serve;
+use std::alloc::Global;
 use std::net::{Net, SocketAddr, TcpListener, TcpStream};
 use std::random::RandomSource;
 use std::rt::{Clock, Files};
@@ -14,7 +16,7 @@ use std::thread::Threads;
 use uri_map::Peer;
 
 /// Runs the gateway by the settings of a file, or else by those on standard input, until a device
-/// fails.
+/// fails. Journals go into the folder, where one is named.
 pub fn serve<
     'a,
     R: Net<Listener = TcpListener, Stream = TcpStream>
@@ -32,22 +34,44 @@ pub fn serve<
         + Send
         + Sync
         + 'static,
->(rt: R, path: Option<&'a str>) -> Report<'a> {
-    match opened(&rt, path) {
-        Ok((ports, settings)) => Report::serve(run(rt, rt.alloc(), ports, settings)),
+>(rt: R, host: HostRuntime, path: Option<&'a str>, journals: Option<&str>) -> Report<'a> {
+    match opened(&rt, host, path, journals) {
+        Ok((ports, settings, folder)) => {
+            Report::serve(run(rt, rt.alloc(), ports, settings, folder))
+        }
         Err(report) => report,
     }
 }
 
-/// The ports that the settings name, taken, and what the gateway goes by.
+/// The ports that the settings name, taken, what the gateway goes by, and where its journals go.
 fn opened<
     'a,
     R: Net<Listener = TcpListener, Stream = TcpStream> + Input + Eprint + Files + AllocGlobal,
->(rt: &R, path: Option<&'a str>) -> Result<(Ports, Settings), Report<'a>> {
+>(
+    rt: &R,
+    host: HostRuntime,
+    path: Option<&'a str>,
+    journals: Option<&str>,
+) -> Result<(Ports, Settings, Folder), Report<'a>> {
     let serve = serve_at(rt, path)?;
+    let settings = settings_of(rt.alloc(), &serve)?;
+    let folder = folder_of(host, journals)?;
     let ports = ports_of(rt, &serve)?;
-    match followed(rt.alloc(), &serve) {
-        Ok(settings) => Ok((ports, settings)),
+    Ok((ports, settings, folder))
+}
+
+/// What the gateway goes by.
+fn settings_of(alloc: Global, serve: &Serve) -> Result<Settings, Report<'static>> {
+    match followed(alloc, serve) {
+        Ok(settings) => Ok(settings),
+        Err(_) => Err(Report::memory()),
+    }
+}
+
+/// The folder of this path, or none.
+fn folder_of(rt: HostRuntime, journals: Option<&str>) -> Result<Folder, Report<'static>> {
+    match Folder::new(rt, journals) {
+        Ok(folder) => Ok(folder),
         Err(_) => Err(Report::memory()),
     }
 }

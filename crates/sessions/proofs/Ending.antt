@@ -10,7 +10,7 @@ use Rattle.ask_model.specs.Views.{Rules}
 use Rattle.gateway_desk.specs.Lines.{Line}
 use Rattle.sessions.specs.declared.session.End.{End}
 use Rattle.sessions.specs.declared.session.End.TheVariants.{Finished, ReadFault, WriteFault, Sealed, Memory, Held, Closed}
-use Rattle.sessions.specs.Asking.{IsReadOut}
+use Rattle.sessions.specs.Asking.{as_last, IsReadOut}
 use Rattle.sessions.specs.Devices.{Grown, GrownPartly}
 use Rattle.sessions.specs.Serving.{Undone, nothing, continuing, asking, answering, written_in, written_of, noted_in, noted_of, AnswersFirst, IsUndoneOf, IsUndone, Serves}
 use Rattle.sessions.specs.Steps.{TakesRead, TakesTurn, CutsTurn, EndsReading, WaitsToGoOn}
@@ -87,24 +87,24 @@ module _ (holds : Form → Form → List ℕ → List ℕ → Type 0) (takes : F
       ends_undone WriteFault a b b f g h w x y d (continuing part.0) s (sym s.edge_told ∙ asks.1, asks.2) quiet (sym (append-nil b)) part.1
       (λ no. absurd (no refl)) write_no_finished
 
-  undone_of : (rest : List ℕ) (told : Bool) (i : Item) (after : List ℕ) (u : Undone) → First rest i after → IsUndoneOf holds takes rules i u
+  undone_of : (rest : List ℕ) (told : Bool) (i : Item) (last : Bool) (after : List ℕ) (u : Undone) → First rest i after → IsUndoneOf holds takes rules (as_last last i) u
       → IsUndone holds takes rules rest told u
-  undone_of rest told i after nothing first of = tt
-  undone_of rest told i after (continuing n) first of = absurd of
-  undone_of rest told i after (asking k) first of = (i, after, first, of)
-  undone_of rest told i after (answering s part) first of = (i, after, first, of)
+  undone_of rest told i last after nothing first of = tt
+  undone_of rest told i last after (continuing n) first of = absurd of
+  undone_of rest told i last after (asking k) first of = (i, after, last, first, of)
+  undone_of rest told i last after (answering s part) first of = (i, after, last, first, of)
 
   -- the turn of an item is
-  pub ends_cut : (end : End) (a b c : List Line) (f g h : Option (List (List ℕ))) (w x y : Option (List ℕ)) (d : Edge) (i : Item) (after : List ℕ) → (s : SoFar holds takes rules a b f g w x d)
-      → First s.rest i after → Grown g h [] → CutsTurn holds takes rules end i b c x y → (end ≡ Finished → ⊥) → Serves holds takes rules end a c f h w y
-  ends_cut end a b c f g h w x y d i after s first quiet cut other =
-      ends_undone end a b c f g h w x y d cut.undone s (undone_of s.rest s.told i after cut.undone first cut.of_item) quiet cut.notes cut.wrote cut.whole other
+  pub ends_cut : (end : End) (a b c : List Line) (f g h : Option (List (List ℕ))) (w x y : Option (List ℕ)) (d : Edge) (i : Item) (last : Bool) (after : List ℕ) → (s : SoFar holds takes rules a b f g w x d)
+      → First s.rest i after → Grown g h [] → CutsTurn holds takes rules end (as_last last i) b c x y → (end ≡ Finished → ⊥) → Serves holds takes rules end a c f h w y
+  ends_cut end a b c f g h w x y d i last after s first quiet cut other =
+      ends_undone end a b c f g h w x y d cut.undone s (undone_of s.rest s.told i last after cut.undone first cut.of_item) quiet cut.notes cut.wrote cut.whole other
 
   -- The item that was answered last closes the connection.
-  pub ends_closed : (a b c : List Line) (f g h : Option (List (List ℕ))) (w x y : Option (List ℕ)) (d : Edge) (i : Item) (after : List ℕ) → (s : SoFar holds takes rules a b f g w x d)
-      → First s.rest i after → closes i ≡ true → Grown g h [] → TakesTurn holds takes rules i b c x y → Serves holds takes rules Finished a c f h w y
-  ends_closed a b c f g h w x y d i after s first last quiet t =
-      let u = turn_of holds takes rules i s.told b c x y t in
+  pub ends_closed : (a b c : List Line) (f g h : Option (List (List ℕ))) (w x y : Option (List ℕ)) (d : Edge) (i : Item) (last : Bool) (after : List ℕ) → (s : SoFar holds takes rules a b f g w x d)
+      → First s.rest i after → closes (as_last last i) ≡ true → Grown g h [] → TakesTurn holds takes rules (as_last last i) b c x y → Serves holds takes rules Finished a c f h w y
+  ends_closed a b c f g h w x y d i last after s first closed quiet t =
+      let u = turn_of holds takes rules i last s.told b c x y t in
       let turns = s.turns ++ u ∷ [] in
       record {
         reads = s.reads;
@@ -112,16 +112,16 @@ module _ (holds : Form → Form → List ℕ → List ℕ → Type 0) (takes : F
         once = once_filled s.reads s.filled;
         turns = turns;
         rest = after;
-        answers = answers_turn holds takes rules a b c f g w x y d i after s first t;
+        answers = answers_turn holds takes rules a b c f g w x y d i last after s first t;
         told = false;
         waits = λ z. absurd (differs z);
         undone = nothing;
         is_undone = tt;
-        notes = notes_turn holds takes rules a b c f g w x y d i s t ∙ ap (λ (ls : List Line). a ++ ls) (sym (append-nil (flat_map noted_in turns)));
-        wrote = subst (Grown w y) (sym (append-nil (flat_map written_in turns))) (wrote_turn holds takes rules a b c f g w x y d i s t);
+        notes = notes_turn holds takes rules a b c f g w x y d i last s t ∙ ap (λ (ls : List Line). a ++ ls) (sym (append-nil (flat_map noted_in turns)));
+        wrote = subst (Grown w y) (sym (append-nil (flat_map written_in turns))) (wrote_turn holds takes rules a b c f g w x y d i last s t);
         last = inr (refl, refl);
         whole = λ no. refl;
-        finished = λ e. (refl, inl (record { front = s.turns; last = u; are = refl; closes_it = last }));
+        finished = λ e. (refl, inl (record { front = s.turns; last = u; are = refl; closes_it = closed }));
       }
 
   -- The client closed it.

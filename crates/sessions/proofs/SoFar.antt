@@ -8,7 +8,7 @@ use Rattle.http_edge.specs.Reading.{Item, First, AllOpen, closes}
 use Rattle.media_map.specs.declared.form.Form.{Form}
 use Rattle.ask_model.specs.Views.{Rules}
 use Rattle.gateway_desk.specs.Lines.{Line}
-use Rattle.sessions.specs.Asking.{IsFilled}
+use Rattle.sessions.specs.Asking.{as_last, IsFilled}
 use Rattle.sessions.specs.Devices.{Grown}
 use Rattle.sessions.specs.Serving.{Turn, written_in, noted_in, items_of, AnswersFirst}
 use Rattle.sessions.specs.Steps.{TakesRead, TellsToGoOn, TakesTurn}
@@ -124,49 +124,49 @@ module _ (holds : Form → Form → List ℕ → List ℕ → Type 0) (takes : F
   far_on a b f g h w x y d e s (inr t) = far_read a b f g h w x y d e s t.0 t.1
 
   -- the turn of an item, as one of all
-  abbrev pub turn_of : (i : Item) (told : Bool) (b c : List Line) (x y : Option (List ℕ)) → TakesTurn holds takes rules i b c x y → Turn
-  turn_of i told b c x y t = record { item = i; continued = told; slip = t.slip; bytes = t.bytes }
+  abbrev pub turn_of : (i : Item) (last told : Bool) (b c : List Line) (x y : Option (List ℕ)) → TakesTurn holds takes rules (as_last last i) b c x y → Turn
+  turn_of i last told b c x y t = record { item = i; last = last; continued = told; slip = t.slip; bytes = t.bytes }
 
-  pub notes_turn : (a b c : List Line) (f g : Option (List (List ℕ))) (w x y : Option (List ℕ)) (d : Edge) (i : Item) → (s : SoFar a b f g w x d)
-      → (t : TakesTurn holds takes rules i b c x y) → c ≡ a ++ flat_map noted_in (s.turns ++ turn_of i s.told b c x y t ∷ [])
-  notes_turn a b c f g w x y d i s t =
-      let u = turn_of i s.told b c x y t in
+  pub notes_turn : (a b c : List Line) (f g : Option (List (List ℕ))) (w x y : Option (List ℕ)) (d : Edge) (i : Item) (last : Bool) → (s : SoFar a b f g w x d)
+      → (t : TakesTurn holds takes rules (as_last last i) b c x y) → c ≡ a ++ flat_map noted_in (s.turns ++ turn_of i last s.told b c x y t ∷ [])
+  notes_turn a b c f g w x y d i last s t =
+      let u = turn_of i last s.told b c x y t in
       let front = flat_map noted_in s.turns in
       t.notes ∙ ap (λ (ls : List Line). ls ++ noted_in u) s.notes ∙ append_assoc a front (noted_in u)
       ∙ ap (λ (ls : List Line). a ++ ls) (sym (flat_map-more noted_in s.turns u))
 
-  pub wrote_turn : (a b c : List Line) (f g : Option (List (List ℕ))) (w x y : Option (List ℕ)) (d : Edge) (i : Item) → (s : SoFar a b f g w x d)
-      → (t : TakesTurn holds takes rules i b c x y) → Grown w y (flat_map written_in (s.turns ++ turn_of i s.told b c x y t ∷ []))
-  wrote_turn a b c f g w x y d i s t =
-      let u = turn_of i s.told b c x y t in
+  pub wrote_turn : (a b c : List Line) (f g : Option (List (List ℕ))) (w x y : Option (List ℕ)) (d : Edge) (i : Item) (last : Bool) → (s : SoFar a b f g w x d)
+      → (t : TakesTurn holds takes rules (as_last last i) b c x y) → Grown w y (flat_map written_in (s.turns ++ turn_of i last s.told b c x y t ∷ []))
+  wrote_turn a b c f g w x y d i last s t =
+      let u = turn_of i last s.told b c x y t in
       let front = flat_map written_in s.turns in
       let joined : Grown w y ((front ++ continue_if s.told) ++ t.bytes) = grown_join w x y (front ++ continue_if s.told) t.bytes s.wrote t.wrote in
       subst (Grown w y) (append_assoc front (continue_if s.told) t.bytes ∙ sym (flat_map-more written_in s.turns u)) joined
 
-  pub answers_turn : (a b c : List Line) (f g : Option (List (List ℕ))) (w x y : Option (List ℕ)) (d : Edge) (i : Item) (rest : List ℕ) → (s : SoFar a b f g w x d)
-      → First s.rest i rest → (t : TakesTurn holds takes rules i b c x y)
-      → AnswersFirst holds takes rules (concat s.reads) (s.turns ++ turn_of i s.told b c x y t ∷ []) rest
-  answers_turn a b c f g w x y d i rest s first t =
-      first_answers_one holds takes rules (concat s.reads) s.turns s.rest (turn_of i s.told b c x y t) rest s.answers s.goes_on
+  pub answers_turn : (a b c : List Line) (f g : Option (List (List ℕ))) (w x y : Option (List ℕ)) (d : Edge) (i : Item) (last : Bool) (rest : List ℕ) → (s : SoFar a b f g w x d)
+      → First s.rest i rest → (t : TakesTurn holds takes rules (as_last last i) b c x y)
+      → AnswersFirst holds takes rules (concat s.reads) (s.turns ++ turn_of i last s.told b c x y t ∷ []) rest
+  answers_turn a b c f g w x y d i last rest s first t =
+      first_answers_one holds takes rules (concat s.reads) s.turns s.rest (turn_of i last s.told b c x y t) rest s.answers s.goes_on
       (record { first = first; waits = s.waits; asked = t.asked; says = t.says })
 
   -- an item was answered, and the connection goes on
-  pub far_turn : (a b c : List Line) (f g h : Option (List (List ℕ))) (w x y : Option (List ℕ)) (d e : Edge) (i : Item) (rest : List ℕ) → (s : SoFar a b f g w x d)
-      → First s.rest i rest → closes i ≡ false → Stands e rest → is_told e ≡ false → Grown g h [] → TakesTurn holds takes rules i b c x y → SoFar a c f h w y e
-  far_turn a b c f g h w x y d e i rest s first goes stands told quiet t =
-      let u = turn_of i s.told b c x y t in
+  pub far_turn : (a b c : List Line) (f g h : Option (List (List ℕ))) (w x y : Option (List ℕ)) (d e : Edge) (i : Item) (last : Bool) (rest : List ℕ) → (s : SoFar a b f g w x d)
+      → First s.rest i rest → closes (as_last last i) ≡ false → Stands e rest → is_told e ≡ false → Grown g h [] → TakesTurn holds takes rules (as_last last i) b c x y → SoFar a c f h w y e
+  far_turn a b c f g h w x y d e i last rest s first goes stands told quiet t =
+      let u = turn_of i last s.told b c x y t in
       record {
         reads = s.reads;
         gave = grown_still f g h s.reads s.gave quiet;
         filled = s.filled;
         turns = s.turns ++ u ∷ [];
         rest = rest;
-        answers = answers_turn a b c f g w x y d i rest s first t;
+        answers = answers_turn a b c f g w x y d i last rest s first t;
         goes_on = open_one s.turns u s.goes_on goes;
         told = false;
         waits = λ z. absurd (differs z);
-        notes = notes_turn a b c f g w x y d i s t;
-        wrote = subst (Grown w y) (sym (append-nil (flat_map written_in (s.turns ++ u ∷ [])))) (wrote_turn a b c f g w x y d i s t);
+        notes = notes_turn a b c f g w x y d i last s t;
+        wrote = subst (Grown w y) (sym (append-nil (flat_map written_in (s.turns ++ u ∷ [])))) (wrote_turn a b c f g w x y d i last s t);
         stands = stands;
         edge_told = told;
       }

@@ -1,5 +1,5 @@
 -- What a session asks of the bytes that come in on its connection (RFC 9112 sections 2.2, 9.3.2).
-use Rattle.std.specs.Prelude.{◌≡◌, ◌⊎◌, ⊤, ℕ, List, [], ◌∷◌, ◌++◌}
+use Rattle.std.specs.Prelude.{◌≡◌, ◌⊎◌, ⊤, ℕ, Bool, true, false, List, [], ◌∷◌, ◌++◌}
 use Rattle.http_edge.specs.Edges.{Waits}
 use Rattle.http_edge.specs.Reading.{Item, asked, bad, HasNone}
 use Rattle.media_map.specs.declared.form.Form.{Form}
@@ -12,6 +12,13 @@ use Rattle.http_mapping.specs.Limits.{limited}
 abbrev pub came_at : Item → Came
 came_at (asked r) = limited (Whole r)
 came_at (bad kind) = limited (Bad kind)
+
+-- The item as the last one of its connection, where it is made that: its answer says that the
+-- connection is closed then (RFC 9112 section 9.6).
+abbrev pub as_last : Bool → Item → Item
+as_last true (asked r) = asked (record r { close = true })
+as_last true (bad kind) = bad kind
+as_last false i = i
 
 -- What is asked is what the item brings, with its meaning by these rules; and it bears these rules,
 -- by which a Location of its answer is told.

@@ -10,17 +10,22 @@ use Rattle.ask_model.specs.Views.{Rules}
 use Rattle.gateway_desk.specs.Lines.{Line, Slip, made, got}
 use Rattle.sessions.specs.declared.session.End.{End}
 use Rattle.sessions.specs.declared.session.End.TheVariants.{Finished, WriteFault}
-use Rattle.sessions.specs.Asking.{IsAskOf, IsReadOut, EndOnce, HaveEnded}
+use Rattle.sessions.specs.Asking.{as_last, IsAskOf, IsReadOut, EndOnce, HaveEnded}
 use Rattle.sessions.specs.Devices.{Grown}
 use Rattle.sessions.specs.Telling.{continue_text, continue_if, SaysAnswer, IsPartOf}
 
--- a request that is answered: what it brought, whether its client was told to go on before, the
--- receipt of its answer, and the bytes that tell it
+-- a request that is answered: what it brought, whether the session made it the last one, whether its
+-- client was told to go on before, the receipt of its answer, and the bytes that tell it
 pub record Turn : Type 0 where
   pub item : Item
+  pub last : Bool
   pub continued : Bool
   pub slip : Slip
   pub bytes : List ℕ
+
+-- the request as it was asked
+abbrev pub asked_in : Turn → Item
+asked_in t = as_last t.last t.item
 
 abbrev pub written_in : Turn → List ℕ
 written_in t = continue_if t.continued ++ t.bytes
@@ -30,7 +35,7 @@ abbrev pub noted_in : Turn → List Line
 noted_in t = made t.slip.number ∷ got t.slip ∷ []
 
 abbrev pub items_of : List Turn → List Item
-items_of turns = map (λ (t : Turn). t.item) turns
+items_of turns = map asked_in turns
 
 -- what a session leaves undone: nothing; 100 Continue, of which the first bytes are written; an ask,
 -- which has no answer; or an answer, of which these bytes are written
@@ -57,7 +62,7 @@ pub record ClosesLast (turns : List Turn) : Type 0 where
   pub front : List Turn
   pub last : Turn
   pub are : turns ≡ front ++ last ∷ []
-  pub closes_it : closes last.item ≡ true
+  pub closes_it : closes (asked_in last) ≡ true
 
 -- The client closed the connection, and nothing can be asked of what is left. If that begins with a
 -- request that waits for 100 Continue, it was told.
@@ -72,7 +77,7 @@ module _ (holds : Form → Form → List ℕ → List ℕ → Type 0) (takes : F
   pub record Answers (text : List ℕ) (t : Turn) (rest : List ℕ) : Type 0 where
     pub first : First text t.item rest
     pub waits : t.continued ≡ true → Expects text
-    pub asked : IsAskOf holds takes rules t.item t.slip.given.mapping
+    pub asked : IsAskOf holds takes rules (asked_in t) t.slip.given.mapping
     pub says : SaysAnswer holds takes rules t.slip.given t.bytes
 
   -- The turns answer what a text begins with, one after the other, and this is left. After one that
@@ -81,7 +86,7 @@ module _ (holds : Form → Form → List ℕ → List ℕ → Type 0) (takes : F
   AnswersFirst text [] rest = rest ≡ text
   AnswersFirst text (t ∷ turns) rest =
       (after : List ℕ) × Answers text t after × AnswersFirst after turns rest
-      × (closes t.item ≡ true → turns ≡ [])
+      × (closes (asked_in t) ≡ true → turns ≡ [])
 
   -- What is undone is of this item.
   abbrev pub IsUndoneOf : Item → Undone → Type 0
@@ -95,7 +100,9 @@ module _ (holds : Form → Form → List ℕ → List ℕ → Type 0) (takes : F
   abbrev pub IsUndone : List ℕ → Bool → Undone → Type 0
   IsUndone text told nothing = ⊤
   IsUndone text told (continuing n) = (told ≡ false) × Expects text
-  IsUndone text told u = (i : Item) × (rest : List ℕ) × First text i rest × IsUndoneOf i u
+  IsUndone text told u =
+      (i : Item) × (rest : List ℕ) × (last : Bool) × First text i rest
+      × IsUndoneOf (as_last last i) u
 
   -- From one moment to another a session that ends so has answered what its reads gave. What it notes
   -- and writes are just the turns, in order, and at most one thing that is left undone.

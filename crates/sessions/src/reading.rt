@@ -32,8 +32,9 @@ impl Reading {
         })
     }
 
-    /// Reads as much of the connection as the edge has room for. False at its end.
-    pub fn more<S: Stream>(&mut self, stream: &mut S) -> Result<bool, Failed>
+    /// Reads as much of the connection as the edge has room for, between two requests or within one.
+    /// False at its end.
+    pub fn more<S: Stream>(&mut self, stream: &mut S, between: bool) -> Result<bool, Failed>
         requires room { unread_len self.old.edge < 8192 }
         ensures same { Grown (S.written stream.old) (S.written stream.new) [] }
         ensures takes { IfOk result (λ goes_on.
@@ -44,13 +45,18 @@ impl Reading {
     {
         let room = ROOM - self.edge.unread();
         let buffer = &mut self.buffer[..];
-        read_into(stream, &mut self.edge, &mut buffer[..room])
+        read_into(stream, &mut self.edge, &mut buffer[..room], between)
     }
 }
 
 /// Reads into the buffer, and gives all of it to the edge, which has room for it. False where
 /// nothing comes any more.
-fn read_into<S: Stream>(stream: &mut S, edge: &mut Edge, buffer: &mut [u8]) -> Result<bool, Failed>
+fn read_into<S: Stream>(
+    stream: &mut S,
+    edge: &mut Edge,
+    buffer: &mut [u8],
+    between: bool,
+) -> Result<bool, Failed>
     requires room { 0 < length buffer.old }
     requires fits { unread_len edge.old + length buffer.old ≤ 8192 }
     ensures same { Grown (S.written stream.old) (S.written stream.new) [] }
@@ -60,7 +66,7 @@ fn read_into<S: Stream>(stream: &mut S, edge: &mut Edge, buffer: &mut [u8]) -> R
     ensures ok { OnOk result (S.count stream.new ≡ S.count stream.old) }
     ensures err { OnErr result (Rises (S.count stream.old) (S.count stream.new)) }
 {
-    let count = stream.read(buffer)?;
+    let count = stream.read(buffer, between)?;
     edge.feed(&buffer[..count]);
     Ok(count > 0)
 }

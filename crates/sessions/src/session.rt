@@ -6,6 +6,7 @@ ghost use Rattle.http_edge.specs.Edges.{item, unread_len};
 ghost use Rattle.http_edge.specs.Reading.{closes};
 ghost use Rattle.std.specs.Arc.{arc_value};
 ghost use Rattle.transformers.specs.Suits.{Suits};
+ghost use Rattle.sessions.specs.Asking.{as_last};
 ghost use Rattle.sessions.specs.Devices.{Rises, Grown};
 ghost use Rattle.sessions.specs.Serving.{Serves};
 ghost use Rattle.sessions.specs.Steps.{TakesRead, TellsToGoOn, EndsReading, TakesTurn, CutsTurn};
@@ -28,7 +29,8 @@ use transformers::{Bank, Relation};
 /// Why a session ended.
 #[derive(Clone, Copy, Debug, PartialEq, Eq)]
 pub enum End {
-    /// The client closed the connection, or its last request was answered.
+    /// The client closed the connection, or its last request was answered: the last one by its own
+    /// word, or since the journal is nearly full.
     Finished,
     /// A read failed.
     ReadFault,
@@ -79,8 +81,9 @@ pub struct Gateway<'a, R: Relation, C: Clock, L: Ledger, N: Wire> {
 }
 
 /// Serves a connection until it ends: reads requests, asks each of them as soon as the one before
-/// is answered, and writes the answers. What an ask sends goes out at once. A session that is
-/// finished has asked all that came.
+/// is answered, and writes the answers. What an ask sends goes out at once. While the desk's journal
+/// is nearly full, the next answer is the last one, and says that the connection is closed. A session
+/// that is finished has asked all that came before that.
 pub fn serve<R: Relation, C: Clock, L: Ledger, S: Stream, N: Wire, G: Gate, W: Wait>(
     rt: &W,
     gateway: &Gateway<'_, R, C, L, N>,
@@ -128,26 +131,46 @@ fn talk<R: Relation, C: Clock, L: Ledger, S: Stream, N: Wire, G: Gate, W: Wait>(
     let Ok(mut reading) = Reading::new(gateway.alloc) else {
         return End::Memory;
     };
+    let mut between = true;
     for _ in rt.forever() {
         match reading.edge.next() {
             Err(_) => return End::Memory,
             Ok(Some(incoming)) => {
-                let last = is_last(&incoming);
-                if let Some(end) = turn(rt, gateway, stream, gate, pass, incoming) {
+                let request = last_if(gateway.desk.is_closing(), incoming);
+                let last = is_last(&request);
+                if let Some(end) = turn(rt, gateway, stream, gate, pass, request) {
                     return end;
                 }
                 if last {
                     return End::Finished;
                 }
+                between = reading.edge.unread() == 0;
             }
             Ok(None) => {
-                if let Some(end) = read_on(stream, &mut reading) {
+                if let Some(end) = read_on(stream, &mut reading, between) {
                     return end;
                 }
+                between = false;
             }
         }
     }
     unreachable!()
+}
+
+/// What was read, as the last of its connection where the session ends with it: the answer says so
+/// (RFC 9112, section 9.6).
+fn last_if(ends: bool, incoming: Incoming) -> Incoming
+    ensures { item result ≡ as_last ends (item incoming) }
+{
+    match incoming {
+        Incoming::Request(mut request) => {
+            if ends {
+                request.close = true;
+            }
+            Incoming::Request(request)
+        }
+        Incoming::Bad(kind) => Incoming::Bad(kind),
+    }
 }
 
 /// Whether the connection is closed after the answer to what was read.
@@ -161,7 +184,7 @@ fn is_last(incoming: &Incoming) -> bool
 }
 
 /// Reads more, where the client isn't to be told first that it may go on.
-fn read_on<S: Stream>(stream: &mut S, reading: &mut Reading) -> Option<End>
+fn read_on<S: Stream>(stream: &mut S, reading: &mut Reading, between: bool) -> Option<End>
     requires room { unread_len reading.old.edge < 8192 }
     requires waits { reading.old.edge.waits ≡ true }
     ensures goes_on { result ≡ None
@@ -184,7 +207,7 @@ fn read_on<S: Stream>(stream: &mut S, reading: &mut Reading) -> Option<End>
             Err(_) => Some(End::WriteFault),
         };
     }
-    match reading.more(stream) {
+    match reading.more(stream, between) {
         Ok(true) => None,
         Ok(false) => Some(End::Finished),
         Err(_) => Some(End::ReadFault),

@@ -5,7 +5,9 @@ ghost use Rattle.std.specs.Prelude.{◌≡◌};
 ghost use Rattle.ask_model.specs.Views.{rules_of};
 ghost use Rattle.transformers.specs.Suits.{Suits};
 
-use crate::rows::{BOTH_LATE, COPIED, EXPECT, LAST, PIPELINED, Row};
+use crate::rows::{
+    BOTH_LATE, COPIED, DOWNLOAD, EXPECT, JSON, LARGEST, LAST, LIGHT, PIPELINED, PUT, Row,
+};
 use ask_model::Settings;
 use command_line::{Line, LineFault, ReplayFault, demonstration, line_of};
 use gateway_world::{Output, World, WorldFault};
@@ -14,48 +16,53 @@ use script_runs::{input_of, write_output};
 use std::alloc::Global;
 use transformers::{Bank, Relation, Stored};
 
-/// Gives an input, and once more where memory was refused.
+/// Gives an input, and once more where memory was refused, which is counted.
 fn give<R: Relation>(
     bank: &Bank<R>,
     world: &mut World<R>,
     line: &Line,
-) -> Result<Vec<Output>, WorldFault>
+    refusals: &mut u64,
+) -> Result<Vec<Output<R>>, WorldFault>
     requires { Suits R.holds R.takes world.old.rules.routes bank.now }
     ensures { world.new.rules ≡ world.old.rules }
 {
     match world.input(bank, input_of(line)) {
-        Err(WorldFault::Memory) => world.input(bank, input_of(line)),
+        Err(WorldFault::Memory) => {
+            *refusals = refusals.saturating_add(1);
+            world.input(bank, input_of(line))
+        }
         given => given,
     }
 }
 
 /// Prints what an input gives out.
-fn print_all(
+fn print_all<R: Relation>(
     alloc: Global,
     out: &mut Vec<u8>,
-    moment: u64,
-    outputs: &[Output],
+    world: &World<R>,
+    outputs: &[Output<R>],
 ) -> Result<(), ReplayFault> {
     for output in outputs {
-        write_output(alloc, out, moment, output)?;
+        write_output(alloc, out, world, output)?;
     }
     Ok(())
 }
 
-/// Gives the input of a line, and prints what it gives out.
+/// Gives the input of a line, and prints what it gives out. The second time it has to be taken.
 fn print_line<R: Relation>(
     alloc: Global,
     bank: &Bank<R>,
     world: &mut World<R>,
     out: &mut Vec<u8>,
+    refusals: &mut u64,
     text: &str,
 ) -> Result<(), ReplayFault>
     requires { Suits R.holds R.takes world.old.rules.routes bank.now }
     ensures { world.new.rules ≡ world.old.rules }
 {
     let line = line_of(alloc, text.as_bytes()).map_err(fault_of)?;
-    let outputs = give(bank, world, &line).map_err(|_| ReplayFault::Memory)?;
-    print_all(alloc, out, world.moment(), &outputs)
+    let outputs = give(bank, world, &line, refusals).map_err(|_| ReplayFault::Line(0))?;
+    print_all(alloc, out, world, &outputs)
 }
 
 /// The same of each line of a script, in a new world. What it prints.
@@ -64,6 +71,7 @@ fn print_lines<R: Relation>(
     bank: &Bank<R>,
     settings: Settings,
     script: &str,
+    refusals: &mut u64,
 ) -> Result<Vec<u8>, ReplayFault>
     requires { Suits R.holds R.takes (rules_of settings).routes bank.now }
 {
@@ -72,19 +80,19 @@ fn print_lines<R: Relation>(
     };
     let mut out = Vec::new(alloc);
     'each: for text in script.lines() {
-        print_line(alloc, bank, &mut world, &mut out, text)?;
+        print_line(alloc, bank, &mut world, &mut out, refusals, text)?;
     }
     Ok(out)
 }
 
-/// What a script prints. Memory may be refused once.
-fn printed(alloc: Global, script: &str) -> Result<Vec<u8>, ReplayFault> {
+/// What a script prints. Memory may be refused once; the inputs are counted that were refused for want of it.
+fn printed(alloc: Global, script: &str, refusals: &mut u64) -> Result<Vec<u8>, ReplayFault> {
     let settings = demonstration(alloc)?;
     let mut all: Vec<Stored<Profile>> = Vec::new(alloc);
     'each: for route in settings.routes.as_slice() {
         store_for!(alloc, all, route);
     }
-    print_lines(alloc, &Bank::new(all), settings, script)
+    print_lines(alloc, &Bank::new(all), settings, script, refusals)
 }
 
 fn fault_of(fault: LineFault) -> ReplayFault {
@@ -97,8 +105,10 @@ fn fault_of(fault: LineFault) -> ReplayFault {
 /// How a run of a script ends.
 #[derive(Clone, Copy, PartialEq, Eq)]
 enum End {
-    /// It prints what it has to.
+    /// It prints what it has to, and no input was refused.
     Right,
+    /// It prints what it has to, and an input was given again.
+    Again,
     Wrong,
     /// The memory that was refused was the test's own.
     CutOff,
@@ -106,32 +116,83 @@ enum End {
 
 /// How a run of the script of this row ends.
 fn end_of(alloc: Global, row: Row) -> End {
-    match printed(alloc, row.script) {
-        Ok(out) if out.as_slice() == row.printed.as_bytes() => End::Right,
-        Err(ReplayFault::Memory) => End::CutOff,
+    let mut refusals = 0;
+    match printed(alloc, row.script, &mut refusals) {
+        Ok(out) if out.as_slice() != row.printed.as_bytes() => End::Wrong,
+        Ok(_) if refusals == 0 => End::Right,
+        Ok(_) => End::Again,
         // what is printed is kept in memory too
-        Err(ReplayFault::Device) => End::CutOff,
-        _ => End::Wrong,
+        Err(ReplayFault::Memory | ReplayFault::Device) => End::CutOff,
+        Err(ReplayFault::Line(_)) => End::Wrong,
     }
 }
 
-/// Whether two runs of the script end well. One allocation is refused at most, so one of them isn't cut off.
+/// Whether two runs of the script end well. One allocation is refused at most, so in one of them none is: it answers
+/// no input with want of memory.
 fn holds(alloc: Global, row: Row) -> bool {
     let (first, second) = (end_of(alloc, row), end_of(alloc, row));
     let is_right = first == End::Right || second == End::Right;
     is_right && first != End::Wrong && second != End::Wrong
 }
 
-static ROWS: [Row; 5] = [PIPELINED, BOTH_LATE, EXPECT, LAST, COPIED];
+static ROWS: [Row; 10] = [
+    LIGHT, PUT, LARGEST, DOWNLOAD, JSON, PIPELINED, BOTH_LATE, EXPECT, LAST, COPIED,
+];
 
-/// The table, handed out by a call that says nothing of its rows: a loop over it is proved in less time.
-fn rows() -> &'static [Row] {
-    &ROWS
+/// Whether the row at that place holds.
+fn holds_at(alloc: Global, place: usize) -> bool {
+    match ROWS.get(place) {
+        Some(row) => holds(alloc, *row),
+        None => false,
+    }
 }
 
 #[test]
-fn a_refused_input_can_be_given_again(rt: HostRuntime) {
-    for &row in rows() {
-        assert!(rt; holds(rt.alloc(), row), "{}", row.shows);
-    }
+fn memory_refused_to_a_reply(rt: HostRuntime) {
+    assert!(rt; holds_at(rt.alloc(), 0));
+}
+
+#[test]
+fn memory_refused_to_a_change(rt: HostRuntime) {
+    assert!(rt; holds_at(rt.alloc(), 1));
+}
+
+#[test]
+fn memory_refused_to_a_large_body(rt: HostRuntime) {
+    assert!(rt; holds_at(rt.alloc(), 2));
+}
+
+#[test]
+fn memory_refused_to_a_large_reply(rt: HostRuntime) {
+    assert!(rt; holds_at(rt.alloc(), 3));
+}
+
+#[test]
+fn memory_refused_to_transformers(rt: HostRuntime) {
+    assert!(rt; holds_at(rt.alloc(), 4));
+}
+
+#[test]
+fn memory_refused_to_pipelined_requests(rt: HostRuntime) {
+    assert!(rt; holds_at(rt.alloc(), 5));
+}
+
+#[test]
+fn memory_refused_to_a_tick(rt: HostRuntime) {
+    assert!(rt; holds_at(rt.alloc(), 6));
+}
+
+#[test]
+fn memory_refused_to_who_waits_to_go_on(rt: HostRuntime) {
+    assert!(rt; holds_at(rt.alloc(), 7));
+}
+
+#[test]
+fn memory_refused_to_the_last_request(rt: HostRuntime) {
+    assert!(rt; holds_at(rt.alloc(), 8));
+}
+
+#[test]
+fn memory_refused_to_copies(rt: HostRuntime) {
+    assert!(rt; holds_at(rt.alloc(), 9));
 }

@@ -69,7 +69,7 @@ fn a_script_may_come_byte_by_byte(rt: HostRuntime) {
 }
 
 /// What a line of words asks for, or None where it is answered by the usage.
-static COMMANDS: [(&str, Option<Command<'static>>); 24] = [
+static COMMANDS: [(&str, Option<Command<'static>>); 30] = [
     ("replay", RUN),
     (
         "replay --journal",
@@ -104,14 +104,37 @@ static COMMANDS: [(&str, Option<Command<'static>>); 24] = [
     ("replay --help", Some(Command::Help)),
     ("-h", Some(Command::Help)),
     ("--version", Some(Command::Version)),
-    ("serve", Some(Command::Serve { settings: None })),
+    (
+        "serve",
+        Some(Command::Serve {
+            settings: None,
+            journals: None,
+        }),
+    ),
     (
         "serve a.toml",
         Some(Command::Serve {
             settings: Some("a.toml"),
+            journals: None,
+        }),
+    ),
+    (
+        "serve a.toml --journals past",
+        Some(Command::Serve {
+            settings: Some("a.toml"),
+            journals: Some("past"),
+        }),
+    ),
+    (
+        "serve --journals past a.toml",
+        Some(Command::Serve {
+            settings: Some("a.toml"),
+            journals: Some("past"),
         }),
     ),
     ("serve a.toml b.toml", None),
+    ("serve a.toml --journals", None),
+    ("serve --journals", None),
     ("origin", Some(Command::Origin { settings: None })),
     (
         "origin a.toml",
@@ -127,6 +150,8 @@ static COMMANDS: [(&str, Option<Command<'static>>); 24] = [
     ("--journal replay", None),
     ("check", None),
     ("check a.toml b.toml", None),
+    ("draw", Some(Command::Draw)),
+    ("draw a.html", None),
     ("reply", None),
 ];
 

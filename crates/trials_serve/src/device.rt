@@ -27,6 +27,15 @@ pub enum Manner {
     Silent,
 }
 
+/// After how many datagrams that come from the devices the wire fails.
+#[derive(Clone, Copy)]
+pub struct Failing {
+    pub received: u64,
+}
+
+/// Nothing fails.
+pub const SOUND: Failing = Failing { received: u64::MAX };
+
 /// A datagram on its way to the proxy.
 #[derive(Drop)]
 struct Letter {
@@ -39,6 +48,9 @@ struct Letter {
 struct Mail {
     alloc: Global,
     manner: Manner,
+    /// how many go well yet
+    left: Failing,
+    has_failed: bool,
     is_on: bool,
     ready: VecDeque<Letter>,
     /// the answer of the first device
@@ -116,14 +128,29 @@ impl Mail {
             _ => self.ready.pop_front().or(self.held.take()),
         }
     }
+
+    /// The same, or none where the wire fails in its place.
+    fn receive(&mut self) -> Result<Option<Letter>, Failed> {
+        let Some(letter) = self.next() else {
+            return Ok(None);
+        };
+        if self.left.received == 0 {
+            self.has_failed = true;
+            return Err(Failed);
+        }
+        self.left.received -= 1;
+        Ok(Some(letter))
+    }
 }
 
 impl Device {
-    pub fn new(alloc: Global, manner: Manner) -> Device {
+    pub fn new(alloc: Global, manner: Manner, failing: Failing) -> Device {
         Device {
             mail: Mutex::new(Mail {
                 alloc,
                 manner,
+                left: failing,
+                has_failed: false,
                 is_on: true,
                 ready: VecDeque::new(alloc),
                 held: None,
@@ -151,10 +178,20 @@ impl Device {
         }
     }
 
+    /// Whether the wire failed.
+    pub fn has_failed(&self) -> bool {
+        match self.mail() {
+            Some(mail) => mail.has_failed,
+            None => true,
+        }
+    }
+
     /// The next datagram that comes.
-    fn next(&self) -> Option<Letter> {
-        let mut mail = self.mail()?;
-        mail.next()
+    fn next(&self) -> Result<Option<Letter>, Failed> {
+        match self.mail() {
+            Some(mut mail) => mail.receive(),
+            None => Ok(None),
+        }
     }
 }
 
@@ -168,7 +205,7 @@ impl Wire for Device {
     }
 
     fn receive(&self, buffer: &mut [u8]) -> Result<Option<Inbound>, Failed> {
-        let Some(letter) = self.next() else {
+        let Some(letter) = self.next()? else {
             thread::yield_now();
             return Ok(None);
         };

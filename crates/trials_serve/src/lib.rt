@@ -11,6 +11,8 @@ mod client;
 #[cfg(test)]
 mod device;
 #[cfg(test)]
+mod failing;
+#[cfg(test)]
 mod rows;
 #[cfg(test)]
 mod sample;
@@ -22,3 +24,5 @@ mod sockets;
 mod threads;
 #[cfg(test)]
 mod together;
+#[cfg(test)]
+mod turning;

@@ -72,6 +72,56 @@ pub fn crossed() -> &'static Trial {
     &CROSSED
 }
 
+/// Two sessions at once, each of which asks a device of its own.
+static APART: Trial = Trial {
+    manner: Manner::Prompt,
+    step: 3_000,
+    one: &[Client {
+        sends: &[GET],
+        held_at: None,
+        is_gone: false,
+        gets: IS_ON,
+        end: End::Finished,
+    }],
+    two: &[Client {
+        sends: &[GET_OTHER],
+        held_at: None,
+        is_gone: false,
+        gets: IS_ON,
+        end: End::Finished,
+    }],
+    settled: Report {
+        asks: 2,
+        answers: 2,
+    },
+};
+
+pub fn apart() -> &'static Trial {
+    &APART
+}
+
+/// A session that asks twice.
+static TWICE: Trial = Trial {
+    manner: Manner::Prompt,
+    step: 3_000,
+    one: &[Client {
+        sends: PUT_AND_GET,
+        held_at: None,
+        is_gone: false,
+        gets: DONE_AND_OFF,
+        end: End::Finished,
+    }],
+    two: &[],
+    settled: Report {
+        asks: 2,
+        answers: 2,
+    },
+};
+
+pub fn twice() -> &'static Trial {
+    &TWICE
+}
+
 /// The light is put out, and who is told so finds it out.
 static TOLD: Trial = Trial {
     manner: Manner::Prompt,

@@ -37,7 +37,7 @@ fn refused(alloc: Global) -> Option<Arc<Mapped<Nothing>>> {
 }
 
 /// Asks on the connection of a pass.
-fn ask<L: Ledger, W: Wait>(
+pub fn ask<L: Ledger, W: Wait>(
     rt: &W,
     alloc: Global,
     desk: &Counter<L>,

@@ -3,7 +3,7 @@
 use crate::device::reply_to;
 use crate::rows::{Row, rows};
 use crate::sample::settings;
-use gateway_server::{Ports, run};
+use gateway_server::{NoArchive, Ports, run};
 use log::Log;
 use std::alloc::{AllocError, Global};
 use std::io::{Read, Write};
@@ -41,7 +41,7 @@ pub fn start<
     let at = ports.listens_at().ok()?;
     let settings = settings(alloc).ok()?;
     let started = thread::spawn(&rt, move || {
-        let _ = run(rt, alloc, ports, settings);
+        let _ = run(rt, alloc, ports, settings, NoArchive);
     });
     started.is_ok().then_some(at)
 }

@@ -5,7 +5,7 @@ ghost use Rattle.std.specs.Arc.{arc_value};
 ghost use Rattle.ask_model.specs.Views.{rules_of};
 
 use crate::client::{Client, Keeper, Steps, Tape};
-use crate::device::{Device, Manner};
+use crate::device::{Device, Manner, SOUND};
 use crate::rows::{Trial, crossed, held, late, leaver, lost, shut, stranger, told};
 use crate::sample::{Nothing, shared_settings};
 use ask_model::Settings;
@@ -57,7 +57,7 @@ fn open_told<L: Ledger, W: Wait>(
 }
 
 /// Serves a connection under settings without routes, so that no bank of transformers is needed.
-fn serve_plainly<L: Ledger, W: Wait>(
+pub fn serve_plainly<L: Ledger, W: Wait>(
     rt: &W,
     alloc: Global,
     device: &Device,
@@ -149,7 +149,7 @@ fn serve_both<L: Ledger + Send + Sync, W: Threads + Wait + Sync>(
 }
 
 /// Lets time go on, and hands in what the devices send.
-fn go_on<L: Ledger + Send + Sync, W: Threads + Wait + std::rt::Clock + Sync>(
+pub fn go_on<L: Ledger + Send + Sync, W: Threads + Wait + std::rt::Clock + Sync>(
     rt: &W,
     alloc: Global,
     device: &Device,
@@ -173,7 +173,7 @@ fn run<L: Ledger + Send + Sync, W: Threads + Wait + std::rt::Clock + Sync>(
     requires parts { (blank.parts ≡ L.parts) × (blank.parts ≡ 2 ^ 32 - 1) }
 {
     let desk: Counter<L> = new_desk(alloc, blank, trial.step)?;
-    let device = Device::new(alloc, trial.manner);
+    let device = Device::new(alloc, trial.manner, SOUND);
     let (passes, _) = thread::join(
         rt,
         || serve_both(rt, alloc, &device, &desk, trial),
@@ -214,7 +214,7 @@ fn follow<L: Ledger, W: Wait>(rt: &W, alloc: Global, blank: Blank) -> Option<boo
     requires parts { (blank.parts ≡ L.parts) × (blank.parts ≡ 2 ^ 32 - 1) }
 {
     let desk: Counter<L> = new_desk(alloc, blank, 0)?;
-    let device = Device::new(alloc, Manner::Silent);
+    let device = Device::new(alloc, Manner::Silent, SOUND);
     let first = desk.open(rt).ok()?;
     for _ in 0..SESSIONS {
         let pass = desk.open(rt).ok()?;

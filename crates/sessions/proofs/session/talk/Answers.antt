@@ -8,6 +8,8 @@ use Rattle.sessions.proofs.Ending.{ends_unread, ends_between, ends_cut, ends_clo
 use Rattle.sessions.proofs.Ends.{memory_other, finished_no_read_fault, finished_no_write_fault, finished_no_held}
 use Rattle.sessions.proofs.Growing.{grown_none}
 use Rattle.sessions.proofs.Items.{item_given, none_given, read_out, of_given, goes_on}
+use Rattle.sessions.specs.Asking.{as_last}
+use Rattle.sessions.proofs.Turns.{open_before}
 use Rattle.sessions.proofs.SoFar.{far_none, far_edge, far_on, far_turn}
 use Rattle.sessions.proofs.session.talk.Goals as goal
 
@@ -24,19 +26,22 @@ read_on-requires-clause-waits g c =
     let e : c.next-in-loop.result ≡ Ok None = cc in
     c.next-in-loop.ensures.waits c.loop.invariant.4.stands.0 e
 
-pub loop-preserved-else-last : goal.loop-preserved-else-last
-loop-preserved-else-last g c =
+pub loop-preserved-in-Ok-Some : goal.loop-preserved-in-Ok-Some
+loop-preserved-in-Ok-Some g c =
     let s = c.loop.invariant.4 in
     let e : c.next-in-loop.result ≡ Ok (Some c.in-Ok-Some.incoming) = c.in-Ok-Some.is ∙ ap Ok c.in-Ok-Some.field-0-is in
     let given = item_given _ _ s.rest c.in-Ok-Some.incoming e (c.next-in-loop.ensures.steps s.rest s.stands) in
-    let goes : closes (item c.in-Ok-Some.incoming) ≡ false = sym c.is_last-last.ensures ∙ c.if-last.false in
+    let i = item c.in-Ok-Some.incoming in
+    let last = c.is_closing.result in
+    let shut : closes (as_last last i) ≡ false = sym (ap closes c.last_if-request.ensures) ∙ sym c.is_last-last.ensures ∙ c.if-last.false in
+    let goes = open_before last i shut in
     let fresh = of_given (λ (i : Incoming). closes (item i) ≡ false → is_told c.next-in-loop.new.self ≡ false) _ _ e c.next-in-loop.ensures.fresh goes in (
       tt,
       tt,
       c.turn.ensures.counted c.in_default-turn.is ∙ c.loop.invariant.2,
       c.turn.ensures.passed c.in_default-turn.is ∙ c.loop.invariant.3,
-      far_turn _ _ _ c.args.pass.now.lines c.loop.pass.lines _ _ (g.S.Stream.gave c.loop.stream) _ _ (g.S.Stream.written c.loop.stream) _ c.loop.reading.edge c.next-in-loop.new.self (item c.in-Ok-Some.incoming) given.0 s given.1 goes
-          (goes_on (item c.in-Ok-Some.incoming) _ _ goes given.2) fresh c.turn.ensures.quiet (c.turn.ensures.answered c.in_default-turn.is),
+      far_turn _ _ _ c.args.pass.now.lines c.loop.pass.lines _ _ (g.S.Stream.gave c.loop.stream) _ _ (g.S.Stream.written c.loop.stream) _ c.loop.reading.edge c.next-in-loop.new.self i last given.0 s given.1 shut
+          (goes_on i _ _ goes given.2) fresh c.turn.ensures.quiet (rw c.last_if-request.ensures at (c.turn.ensures.answered c.in_default-turn.is)),
     )
 
 pub loop-preserved : goal.loop-preserved
@@ -76,8 +81,8 @@ returns-in-Some-turn g c = record {
       let s = c.loop.invariant.4 in
       let e : c.next-in-loop.result ≡ Ok (Some c.in-Ok-Some.incoming) = c.in-Ok-Some.is ∙ ap Ok c.in-Ok-Some.field-0-is in
       let given = item_given _ _ s.rest c.in-Ok-Some.incoming e (c.next-in-loop.ensures.steps s.rest s.stands) in
-      ends_cut _ _ _ _ c.args.pass.now.lines c.loop.pass.lines _ _ (g.S.Stream.gave c.loop.stream) _ _ (g.S.Stream.written c.loop.stream) _ c.loop.reading.edge (item c.in-Ok-Some.incoming) given.0 s given.1 c.turn.ensures.quiet
-      c.in-Some-turn.ensures.cut (λ x. c.turn.ensures.others.0 (c.in-Some-turn.is ∙ ap Some x));
+      ends_cut _ _ _ _ c.args.pass.now.lines c.loop.pass.lines _ _ (g.S.Stream.gave c.loop.stream) _ _ (g.S.Stream.written c.loop.stream) _ c.loop.reading.edge (item c.in-Ok-Some.incoming) c.is_closing.result given.0 s given.1 c.turn.ensures.quiet
+      (rw c.last_if-request.ensures at c.in-Some-turn.ensures.cut) (λ x. c.turn.ensures.others.0 (c.in-Some-turn.is ∙ ap Some x));
   read_fault = λ e. absurd (c.turn.ensures.others.1 (c.in-Some-turn.is ∙ ap Some e));
   write_fault = λ e.
       subst (λ (n : ℕ). Rises n (g.S.Stream.count c.turn.new.stream)) c.loop.invariant.2 (c.turn.ensures.write_fault (c.in-Some-turn.is ∙ ap Some e));
@@ -91,9 +96,10 @@ returns-then-last g c = record {
       let s = c.loop.invariant.4 in
       let e : c.next-in-loop.result ≡ Ok (Some c.in-Ok-Some.incoming) = c.in-Ok-Some.is ∙ ap Ok c.in-Ok-Some.field-0-is in
       let given = item_given _ _ s.rest c.in-Ok-Some.incoming e (c.next-in-loop.ensures.steps s.rest s.stands) in
-      let last : closes (item c.in-Ok-Some.incoming) ≡ true = sym c.is_last-last.ensures ∙ c.if-last.true in
-      ends_closed _ _ _ c.args.pass.now.lines c.loop.pass.lines _ _ (g.S.Stream.gave c.loop.stream) _ _ (g.S.Stream.written c.loop.stream) _ c.loop.reading.edge (item c.in-Ok-Some.incoming) given.0 s given.1 last c.turn.ensures.quiet
-      (c.turn.ensures.answered c.in_default-turn.is);
+      let closed : closes (as_last c.is_closing.result (item c.in-Ok-Some.incoming)) ≡ true =
+      sym (ap closes c.last_if-request.ensures) ∙ sym c.is_last-last.ensures ∙ c.if-last.true in
+      ends_closed _ _ _ c.args.pass.now.lines c.loop.pass.lines _ _ (g.S.Stream.gave c.loop.stream) _ _ (g.S.Stream.written c.loop.stream) _ c.loop.reading.edge (item c.in-Ok-Some.incoming) c.is_closing.result given.0 s given.1 closed c.turn.ensures.quiet
+      (rw c.last_if-request.ensures at (c.turn.ensures.answered c.in_default-turn.is));
   read_fault = λ e. absurd (finished_no_read_fault (ap Some e));
   write_fault = λ e. absurd (finished_no_write_fault (ap Some e));
   held = λ e. absurd (finished_no_held (ap Some e));

@@ -1,0 +1,19 @@
+//! Where journals go that are turned over.
+
+use journal_book::Journal;
+use route_bank::Profile;
+
+/// Where journals go that are turned over.
+pub trait Archive {
+    /// Keeps the journal with this number, counted from 1. Where it can't, it says so itself, and
+    /// nothing stops.
+    fn keep(&self, number: u64, journal: &Journal<Profile>);
+}
+
+/// An archive that keeps nothing.
+#[derive(Clone, Copy, Debug)]
+pub struct NoArchive;
+
+impl Archive for NoArchive {
+    fn keep(&self, _number: u64, _journal: &Journal<Profile>) {}
+}

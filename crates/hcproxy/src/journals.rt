@@ -1,0 +1,89 @@
+//! The folder of journals that were turned over, each as lines in a file of its own.
+
+use gateway_server::Archive;
+use journal_book::{Entry, Journal};
+use log::{info, warn};
+use route_bank::Profile;
+use script_runs::write_entry;
+use std::alloc::AllocError;
+use std::fs;
+use std::io::{self, BufWriter, ErrorKind, Write};
+use std::time::SystemTime;
+
+/// A folder for journals, or none.
+#[derive(Drop)]
+pub struct Folder {
+    rt: HostRuntime,
+    path: Option<String>,
+}
+
+impl Folder {
+    /// The folder of this path, which has to be there when the first journal is written.
+    pub fn new(rt: HostRuntime, path: Option<&str>) -> Result<Folder, AllocError> {
+        let path = match path {
+            Some(path) => Some(String::from_str(rt.alloc(), path)?),
+            None => None,
+        };
+        Ok(Folder { rt, path })
+    }
+
+    /// Writes a journal into the folder, to a file with this name: whole, or not at all.
+    fn write(&self, path: &str, journal: &Journal<Profile>) -> io::Result<()> {
+        let alloc = self.rt.alloc();
+        let part = format!(in alloc; "{path}.part")?;
+        let written = self.write_lines(part.as_str(), journal.entries());
+        let moved = match written {
+            Ok(()) => fs::rename(&self.rt, part.as_str(), path),
+            Err(error) => Err(error),
+        };
+        if moved.is_err() {
+            let _ = fs::remove_file(&self.rt, part.as_str());
+        }
+        moved
+    }
+
+    /// Writes the lines of the entries to a file.
+    fn write_lines(&self, path: &str, entries: &[Entry<Profile>]) -> io::Result<()> {
+        let alloc = self.rt.alloc();
+        let file = fs::create(&self.rt, path)?;
+        let mut writer = BufWriter::new(alloc, file)?;
+        for (number, entry) in entries.iter().enumerate() {
+            if write_entry(alloc, &mut writer, number, entry).is_err() {
+                return Err(io::Error::from(ErrorKind::WriteZero));
+            }
+        }
+        writer.flush()
+    }
+
+    /// The seconds since 1970 began.
+    fn seconds(&self) -> u64 {
+        match SystemTime::now(&self.rt) {
+            Ok(now) => match now.duration_since(SystemTime::UNIX_EPOCH) {
+                Ok(gone) => gone.as_secs(),
+                Err(_) => 0,
+            },
+            Err(_) => 0,
+        }
+    }
+}
+
+impl Archive for Folder {
+    fn keep(&self, number: u64, journal: &Journal<Profile>) {
+        let Some(folder) = &self.path else { return };
+        let rt = &self.rt;
+        let seconds = self.seconds();
+        let Ok(path) = format!(in rt.alloc(); "{folder}/journal-{seconds}-{number}") else {
+            return;
+        };
+        match self.write(path.as_str(), journal) {
+            Ok(()) => info!(rt; target: "hcproxy", "journal {number} is written to {path}"),
+            Err(error) => {
+                warn!(
+                    rt;
+                    target: "hcproxy",
+                    "journal {number} isn't written to {path}: {error}"
+                );
+            }
+        }
+    }
+}
