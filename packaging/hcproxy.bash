@@ -1,7 +1,7 @@
 # Completion of hcproxy's words for bash.
 _hcproxy() {
   local word=${COMP_WORDS[COMP_CWORD]} command=${COMP_WORDS[1]-} before=${COMP_WORDS[COMP_CWORD-1]}
-  local words= files=
+  local words files
   if [ "$COMP_CWORD" = 1 ]; then
     words="demo serve replay draw check origin --help --version"
   else
