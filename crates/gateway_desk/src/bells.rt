@@ -5,16 +5,46 @@ ghost use Rattle.std.specs.Prelude.{◌≤◌, vec_len};
 use journal_book::{Event, Journal};
 use std::alloc::{AllocError, Global};
 use std::sync::Condvar;
+use std::sync::atomic::{AtomicU64, Ordering};
 use transformers::Relation;
 
 /// As many as connections may be open.
 const BELLS: usize = 256;
 
+/// A bell of connections of which hardly two are open at a time.
+#[derive(Drop)]
+pub struct Bell {
+    pub rings: Condvar,
+    /// the connection that was let go last, counted from 1, or 0
+    gone: AtomicU64,
+}
+
+impl Bell {
+    /// A bell of connections of which none was let go.
+    fn new() -> Bell {
+        Bell {
+            rings: Condvar::new(),
+            gone: AtomicU64::new(0),
+        }
+    }
+
+    /// Nobody waits for an answer on this connection any more.
+    pub fn let_go(&self, conn: u32) {
+        self.gone.store(u64::from(conn) + 1, Ordering::SeqCst);
+        self.rings.notify_all();
+    }
+
+    /// Whether this connection was let go.
+    pub fn has_let_go(&self, conn: u32) -> bool {
+        self.gone.load(Ordering::SeqCst) == u64::from(conn) + 1
+    }
+}
+
 /// One for each of 256 connections that follow each other: an answer wakes its own session, and
 /// hardly another one.
 #[derive(Drop)]
 pub struct Bells {
-    all: Vec<Condvar>,
+    all: Vec<Bell>,
     ghost enough: { 256 ≤ vec_len all },
 }
 
@@ -23,20 +53,20 @@ impl Bells {
     pub fn new(alloc: Global) -> Result<Bells, AllocError> {
         let mut all = Vec::with_capacity(alloc, BELLS)?;
         'each: for _ in 0..BELLS {
-            all.push(Condvar::new())?;
+            all.push(Bell::new())?;
         }
         Ok(Bells::of_all(all))
     }
 
     /// These bells.
-    fn of_all(all: Vec<Condvar>) -> Bells
+    fn of_all(all: Vec<Bell>) -> Bells
         requires { 256 ≤ vec_len all }
     {
         Bells { all }
     }
 
     /// That of a connection.
-    pub fn of(&self, conn: u32) -> &Condvar {
+    pub fn of(&self, conn: u32) -> &Bell {
         &self.all[conn as usize % BELLS]
     }
 
@@ -51,7 +81,7 @@ impl Bells {
                 if first.is_none() {
                     first = Some(*conn);
                 } else {
-                    self.of(*conn).notify_all();
+                    self.of(*conn).rings.notify_all();
                 }
             }
         }
@@ -61,14 +91,14 @@ impl Bells {
     /// Wakes the one who waits on this connection.
     pub fn wake(&self, conn: Option<u32>) {
         if let Some(conn) = conn {
-            self.of(conn).notify_all();
+            self.of(conn).rings.notify_all();
         }
     }
 
     /// Wakes all.
     pub fn ring_all(&self) {
         'each: for bell in &self.all {
-            bell.notify_all();
+            bell.rings.notify_all();
         }
     }
 }

@@ -227,30 +227,38 @@ impl<R: Relation, C: Clock, L: Ledger> LockedDesk<R, C, L> {
         ticket
     }
 
-    /// Waits for the answer to a ticket. None where the desk was shut. It takes no memory, and no
-    /// work while it waits.
+    /// Waits for the answer to a ticket. None where the desk was shut or the connection let go. It takes
+    /// no memory, and no work while it waits.
     pub fn answer<W: Wait>(&self, rt: &W, ticket: Ticket<R>) -> Option<Receipt<R>>
         ensures number { IfSome result (λ r. (r.number ≡ ticket.number)
             × (r.answer.ask ≡ ticket.number)) }
         ensures request { IfSome result (λ r. arc_value r.answer.mapped ≡ arc_value ticket.mapped) }
     {
-        let bell = self.bells.of(ticket.conn);
+        let conn = ticket.conn;
+        let bell = self.bells.of(conn);
         let mut guard = self.state.lock(rt);
         for _ in rt.forever() {
             let state = &mut *guard;
             if let Some(answer) = state.collect(&ticket) {
                 return Some(receipt_of(ticket, answer));
             }
-            if state.is_shut() {
+            if state.is_shut() || bell.has_let_go(conn) {
                 return None;
             }
-            guard = bell.wait(rt, guard);
+            guard = bell.rings.wait(rt, guard);
         }
         unreachable!()
     }
 
+    /// Lets a connection go whose client left: who waits for an answer on it waits no more. It stays open
+    /// until its pass is closed.
+    pub fn let_go<W: Wait>(&self, rt: &W, conn: u32) {
+        let _guard = self.state.lock(rt);
+        self.bells.of(conn).let_go(conn);
+    }
+
     /// Waits for the answer to a ticket, and puts its receipt last into the pass. False where the
-    /// desk was shut. It takes no memory, and no work while it waits.
+    /// desk was shut or the connection let go. It takes no memory, and no work while it waits.
     pub fn wait<W: Wait>(&self, rt: &W, pass: &mut Pass<R, L>, ticket: Ticket<R>) -> bool
         requires { 0 < pass.old.places }
         ensures kept { IsTrue result → (s : Slip) × (s.number ≡ ticket.number)
