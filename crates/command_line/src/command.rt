@@ -1,6 +1,7 @@
 //! What the arguments ask for.
 
 use crate::report::Hint;
+use crate::serving::{Serving, serving_of};
 use proxy_settings::Part;
 use uri_map::{Peer, peer_at};
 
@@ -21,12 +22,8 @@ pub enum Command<'a> {
     Demo {
         listen: Option<Peer>,
     },
-    /// The gateway, under the settings of a file or else under those on standard input. Journals that
-    /// are turned over go into the folder, where one is named.
-    Serve {
-        settings: Option<&'a str>,
-        journals: Option<&'a str>,
-    },
+    /// The gateway.
+    Serve(Serving<'a>),
     /// The demonstration device, under the settings of a file or else under those on standard input.
     Origin {
         settings: Option<&'a str>,
@@ -55,7 +52,10 @@ pub fn command_of(words: &[String]) -> Result<Command<'_>, Hint<'static>> {
             Some(peer) => Ok(Command::Demo { listen: Some(peer) }),
             None => Err(Hint::SeeHelp),
         },
-        ("serve", rest) => serve_of(rest).ok_or(Hint::SeeHelp),
+        ("serve", rest) => match serving_of(rest) {
+            Some(serving) => Ok(Command::Serve(serving)),
+            None => Err(Hint::SeeHelp),
+        },
         ("origin", []) => Ok(Command::Origin { settings: None }),
         ("origin", [file]) => Ok(Command::Origin {
             settings: Some(file.as_str()),
@@ -80,21 +80,6 @@ fn replay_of(words: &[String]) -> Option<Command<'_>> {
         _ => return None,
     };
     Some(Command::Replay { journal, settings })
-}
-
-/// What the words after `serve` ask for: `[FILE] [--journals FOLDER]`, in any order.
-fn serve_of(words: &[String]) -> Option<Command<'_>> {
-    let (journals, rest) = match words {
-        [flag, folder, rest @ ..] if flag.as_str() == "--journals" => (Some(folder.as_str()), rest),
-        [rest @ .., flag, folder] if flag.as_str() == "--journals" => (Some(folder.as_str()), rest),
-        _ => (None, words),
-    };
-    let settings = match rest {
-        [] => None,
-        [file] if file.as_str() != "--journals" => Some(file.as_str()),
-        _ => return None,
-    };
-    Some(Command::Serve { settings, journals })
 }
 
 /// What the words after `check` ask for: `[--origin] FILE`.

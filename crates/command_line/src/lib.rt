@@ -10,6 +10,7 @@ mod demo;
 mod fault;
 mod report;
 mod script;
+mod serving;
 mod settings;
 
 pub use command::{Command, command_of};
@@ -17,4 +18,5 @@ pub use demo::{COAP_PORT, DEVICE, Demonstration, GATEWAY, WEB_PORT, loopback};
 pub use fault::{Reason, ReplayFault};
 pub use report::{Failure, Hint, Report, USAGE};
 pub use script::{Event, Line, LineFault, line_of};
+pub use serving::Serving;
 pub use settings::{asks_to_observe, demonstration, followed};

@@ -3,6 +3,7 @@
 ghost use Rattle.std.specs.Prelude.{◌≡◌, ◌-◌, ◌^◌};
 
 use crate::archive::Archive;
+use crate::options::Options;
 use crate::ports::Ports;
 use crate::shared::Shared;
 use crate::turning::turn_journals;
@@ -30,7 +31,7 @@ const PAUSE: u64 = 50;
 /// How many asks and sessions the ledger of a shop has parts for.
 const PARTS: u64 = 4294967295;
 
-/// Runs the gateway at these ports, until the clock or the UDP socket fails. It goes on in threads
+/// Runs the gateway at these ports, as the options say, until the clock or the UDP socket fails. It goes on in threads
 /// of its own, one for each connection; those are cut off when the program ends.
 ///
 /// Each time that the journal is nearly full it is turned over and given to the archive, with the
@@ -38,8 +39,16 @@ const PARTS: u64 = 4294967295;
 pub fn run<
     W: Threads + Wait + Log + Clock + RandomSource + Copy + Drop + Send + Sync + 'static,
     A: Archive + Drop + Send + Sync + 'static,
->(rt: W, alloc: Global, ports: Ports, settings: Settings, archive: A) -> ServeFault {
-    match run_with::<W, Brand, A>(rt, alloc, ports, settings, archive, Blank::new(PARTS)) {
+>(
+    rt: W,
+    alloc: Global,
+    ports: Ports,
+    settings: Settings,
+    options: Options,
+    archive: A,
+) -> ServeFault {
+    let blank = Blank::new(PARTS);
+    match run_with::<W, Brand, A>(rt, alloc, ports, settings, options, archive, blank) {
         Ok(()) => ServeFault::Stopped,
         Err(fault) => fault,
     }
@@ -55,6 +64,7 @@ fn run_with<
     alloc: Global,
     ports: Ports,
     settings: Settings,
+    options: Options,
     archive: A,
     blank: Blank,
 ) -> Result<(), ServeFault>
@@ -65,7 +75,8 @@ fn run_with<
     let desk: LockedDesk<Profile, SystemClock<W>, L> = desk_of(rt, alloc, blank)?;
     let (listen, udp) = (ports.listens_at(), ports.sends_from());
     let Ports { listener, devices } = ports;
-    let shared = Arc::new(alloc, Shared::new(alloc, desk, devices, settings))?;
+    let shared = Shared::new(alloc, desk, devices, settings, options);
+    let shared = Arc::new(alloc, shared)?;
     start_loops(rt, alloc, listener, &shared)?;
     let turns = start_turning(rt, &shared, archive)?;
     if let (Ok(listen), Ok(udp)) = (listen, udp) {
@@ -169,7 +180,8 @@ fn take<
 }
 
 /// The pass of one more connection, where it may be opened. While the journal is turned over it waits
-/// for that. Why it may not be opened is noted.
+/// for that, and where 256 are open, the one that has been idle longest is closed for it. Why it may not
+/// be opened is noted.
 fn pass_for<W: Wait + Log + Clock + RandomSource + Drop, L: Ledger>(
     rt: &W,
     shared: &Shared<W, L>,
@@ -180,6 +192,7 @@ fn pass_for<W: Wait + Log + Clock + RandomSource + Drop, L: Ledger>(
             Ok(pass) => return Some(pass),
             Err(OpenFault::Sealed) if shared.desk.wait_turned(rt) => continue,
             Err(OpenFault::Sealed) => return None,
+            Err(OpenFault::Full) if shared.make_place(rt) => continue,
             Err(OpenFault::Full) => "256 connections are open",
             Err(OpenFault::Memory) => "no memory for it",
         };
@@ -222,7 +235,10 @@ fn start_session<
     pass: Pass<Profile, L>,
 ) -> bool {
     let stub = pass.stub();
-    let started = match (Arc::try_clone(shared), Arc::new(alloc, Line::new(stream))) {
+    let started = match (
+        Arc::try_clone(shared),
+        Arc::new(alloc, Line::new(&rt, stream)),
+    ) {
         (Ok(mine), Ok(line)) => {
             thread::spawn(&rt, move || mine.serve_client(&rt, alloc, line, pass)).is_ok()
         }

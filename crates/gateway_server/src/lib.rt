@@ -5,8 +5,10 @@
 //! between two requests of each connection. The program `hcproxy` stands on it.
 #![tactic(auto)]
 
+mod access;
 mod archive;
 mod gateway;
+mod options;
 mod ports;
 mod roll;
 mod shared;
@@ -14,5 +16,6 @@ mod turning;
 
 pub use archive::{Archive, NoArchive};
 pub use gateway::run;
+pub use options::Options;
 pub use ports::Ports;
 pub use server_faults::ServeFault;

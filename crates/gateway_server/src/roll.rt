@@ -69,6 +69,48 @@ impl<L: Ledger> Roll<L> {
         }
     }
 
+    /// Lets a client go that left while its session waits for an answer, and answers its connection.
+    pub fn let_one_go(&self) -> Option<u32> {
+        let seat = self.seats.iter().find(|seat| seat.line.lets_go())?;
+        Some(seat.conn)
+    }
+
+    /// Ends what comes in on the connection that has waited longest for its next request, at least so
+    /// many milliseconds at this moment; where there is none, on the one whose request has been coming
+    /// longest. Answers which it is, and how long it waited.
+    pub fn end_longest(&self, now: u64, least: u64) -> Option<(u32, u64)> {
+        let (seat, time) = match self.longest(now, least, false) {
+            Some(found) => found,
+            None => self.longest(now, least, true)?,
+        };
+        seat.line.end_reading(false);
+        Some((seat.conn, time))
+    }
+
+    /// The connection that has waited longest for its next request, or else for the rest of one, at
+    /// least so many milliseconds.
+    fn longest(&self, now: u64, least: u64, rest: bool) -> Option<(&Seat, u64)> {
+        let mut found: Option<(&Seat, u64)> = None;
+        'each: for seat in &self.seats {
+            let Some(time) = seat.line.waits(now, rest) else {
+                continue 'each;
+            };
+            let is_longest = match found {
+                Some((_, longest)) => time > longest,
+                None => time >= least,
+            };
+            if is_longest {
+                found = Some((seat, time));
+            }
+        }
+        found
+    }
+
+    /// Whether a session runs on this connection.
+    pub fn is_seated(&self, conn: u32) -> bool {
+        self.seats.iter().any(|seat| seat.conn == conn)
+    }
+
     /// Whether no connection is open.
     pub fn is_empty(&self) -> bool {
         self.open == 0

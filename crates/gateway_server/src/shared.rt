@@ -1,19 +1,30 @@
 //! What the threads of the gateway share.
 
+use crate::access::Access;
+use crate::options::Options;
 use crate::roll::Roll;
 use ask_model::Settings;
 use gateway_desk::{LockedDesk, Pass};
-use gateway_system::{Client, DeviceSocket, Line, SystemClock};
+use gateway_system::{Client, DeviceSocket, Line, SystemClock, moment};
 use log::{Log, info, warn};
 use route_bank::{Profile, store_for};
-use sessions::{Done, End, Gateway, Open, serve};
+use sessions::{Done, End, Gateway, serve};
 use std::alloc::{AllocError, Global};
 use std::random::RandomSource;
 use std::rt::Clock;
 use std::sync::atomic::{AtomicBool, Ordering};
 use std::sync::ledger::Ledger;
 use std::sync::{Arc, Mutex, Wait};
+use std::thread;
+use std::time::Duration;
 use transformers::{Bank, Stored};
+
+/// How long it is waited until a connection that is closed for another one is looked at again, in
+/// milliseconds.
+const LOOK: u64 = 1;
+
+/// How often it is looked at.
+const MOST_LOOKS: u64 = 100;
 
 /// What the threads of the gateway share.
 #[derive(Drop)]
@@ -21,6 +32,7 @@ pub struct Shared<W: Clock + RandomSource + Drop, L: Ledger> {
     pub desk: LockedDesk<Profile, SystemClock<W>, L>,
     pub devices: DeviceSocket,
     pub settings: Arc<Settings>,
+    options: Options,
     roll: Mutex<Roll<L>>,
     /// it was noted that the journal is sealed
     noted: AtomicBool,
@@ -33,11 +45,13 @@ impl<W: Clock + RandomSource + Drop, L: Ledger> Shared<W, L> {
         desk: LockedDesk<Profile, SystemClock<W>, L>,
         devices: DeviceSocket,
         settings: Arc<Settings>,
+        options: Options,
     ) -> Shared<W, L> {
         Shared {
             desk,
             devices,
             settings,
+            options,
             roll: Mutex::new(Roll::new(alloc)),
             noted: AtomicBool::new(false),
         }
@@ -59,6 +73,50 @@ impl<W: Clock + RandomSource + Drop, L: Ledger> Shared<W, L> {
         let roll = self.roll.lock(rt);
         roll.end_reading(longer);
         roll.is_empty()
+    }
+
+    /// Makes place for a connection where as many are open as may be: closes one whose client left, or
+    /// else the one that has been idle longest, and waits until it is closed. False where there is none
+    /// of the first kind, and none has been idle for long enough.
+    pub fn make_place<V: Wait + Log + Clock>(&self, rt: &V) -> bool {
+        let ended = match self.let_one_go(rt) {
+            Some(conn) => Some(conn),
+            None => self.end_longest(rt),
+        };
+        let Some(conn) = ended else { return false };
+        'each: for _ in 0..MOST_LOOKS {
+            if !self.roll.lock(rt).is_seated(conn) {
+                return true;
+            }
+            thread::sleep(rt, Duration::from_millis(LOOK));
+        }
+        true
+    }
+
+    /// Lets a client go that left while it waited for its answer.
+    fn let_one_go<V: Wait + Log>(&self, rt: &V) -> Option<u32> {
+        let conn = self.roll.lock(rt).let_one_go()?;
+        self.desk.let_go(rt, conn);
+        info!(
+            rt;
+            target: "hcproxy",
+            "connection {conn} is closed for another one: its client left and waits no more"
+        );
+        Some(conn)
+    }
+
+    /// Closes the connection that has been idle longest, and for long enough.
+    fn end_longest<V: Wait + Log + Clock>(&self, rt: &V) -> Option<u32> {
+        let now = moment(rt)?;
+        let least = self.options.idle.saturating_mul(1000);
+        let (conn, time) = self.roll.lock(rt).end_longest(now, least)?;
+        let time = time / 1000;
+        info!(
+            rt;
+            target: "hcproxy",
+            "connection {conn} is closed for another one, {time} s after its last answer"
+        );
+        Some(conn)
     }
 
     /// The passes of all sessions that ended.
@@ -85,10 +143,11 @@ impl<W: Clock + RandomSource + Drop, L: Ledger> Shared<W, L> {
         pass: Pass<Profile, L>,
     ) {
         let number = pass.conn();
-        let mut client = Client::new(line);
+        let patience = Duration::from_secs(self.options.idle);
+        let mut client = Client::new(rt, line, patience);
         let end = self.serve_seated(rt, alloc, &mut client, pass);
-        self.note_end(rt, number, end);
-        client.end(rt);
+        self.note_end(rt, number, end, client.gave_up());
+        client.end();
     }
 
     /// Serves a connection that may be closed while it waits for a request, and keeps the pass that its
@@ -97,14 +156,18 @@ impl<W: Clock + RandomSource + Drop, L: Ledger> Shared<W, L> {
         &self,
         rt: &V,
         alloc: Global,
-        client: &mut Client,
+        client: &mut Client<'_, V>,
         pass: Pass<Profile, L>,
     ) -> End {
         let (number, stub) = (pass.conn(), pass.stub());
+        let mut access = Access::new(rt, None, number);
         if let Ok(line) = client.line() {
+            if self.options.access {
+                access = Access::new(rt, line.address().ok(), number);
+            }
             self.roll.lock(rt).sit(number, line);
         }
-        match self.serve_with_bank(rt, alloc, client, pass) {
+        match self.serve_with_bank(rt, alloc, client, &mut access, pass) {
             Ok(Done { pass, end }) => {
                 self.roll
                     .lock(rt)
@@ -120,8 +183,13 @@ impl<W: Clock + RandomSource + Drop, L: Ledger> Shared<W, L> {
     }
 
     /// Notes how a session ended.
-    fn note_end<V: Log>(&self, rt: &V, number: u32, end: End) {
-        info!(rt; target: "hcproxy", "session {number} {end}");
+    fn note_end<V: Log>(&self, rt: &V, number: u32, end: End, gave_up: bool) {
+        let why = if gave_up {
+            ": its client stood still"
+        } else {
+            ""
+        };
+        info!(rt; target: "hcproxy", "session {number} {end}{why}");
         if end == End::Sealed {
             self.note_sealed(rt);
         }
@@ -134,7 +202,8 @@ impl<W: Clock + RandomSource + Drop, L: Ledger> Shared<W, L> {
         &self,
         rt: &V,
         alloc: Global,
-        client: &mut Client,
+        client: &mut Client<'_, V>,
+        access: &mut Access<'_, V>,
         pass: Pass<Profile, L>,
     ) -> Result<Done<Profile, L>, AllocError> {
         let mut all: Vec<Stored<Profile>> = Vec::new(alloc);
@@ -149,7 +218,7 @@ impl<W: Clock + RandomSource + Drop, L: Ledger> Shared<W, L> {
             settings: &self.settings,
             bank: &bank,
         };
-        Ok(serve(rt, &gateway, client, &mut Open, pass))
+        Ok(serve(rt, &gateway, client, access, pass))
     }
 
     /// Notes once for each journal that it is sealed.

@@ -9,6 +9,6 @@ mod client;
 mod clock;
 mod socket;
 
-pub use client::{Client, Line};
+pub use client::{Client, Line, moment};
 pub use clock::SystemClock;
 pub use socket::DeviceSocket;

@@ -1,12 +1,13 @@
 //! `hcproxy demo`: the gateway, and the demonstration device beside it, on this machine alone.
 
 use crate::files::setup_in;
+use crate::notes::noted;
 use ask_model::Settings;
 use command_line::{
     COAP_PORT, DEVICE, Demonstration, GATEWAY, Report, WEB_PORT, followed, loopback,
 };
 use device_server::DevicePort;
-use gateway_server::{NoArchive, Ports};
+use gateway_server::{NoArchive, Options, Ports};
 use log::Log;
 use proxy_settings::{Device, Part, Setup};
 use server_faults::{DeviceFault, ServeFault};
@@ -62,7 +63,10 @@ pub fn run_demo<
     if !start_device(rt, port, device) {
         return Report::serve(ServeFault::Thread);
     }
-    Report::serve(gateway_server::run(rt, rt.alloc(), ports, settings, NoArchive))
+    let options = Options::default();
+    let alloc = rt.alloc();
+    let fault = gateway_server::run(noted(rt), alloc, ports, settings, options, NoArchive);
+    Report::serve(fault)
 }
 
 /// Takes the ports.
@@ -159,7 +163,7 @@ fn start_device<R: Threads + Log + Clock + Eprint + AllocGlobal + Copy + Drop + 
     device: Device,
 ) -> bool {
     let started = thread::spawn(&rt, move || {
-        let fault = device_server::run(rt, rt.alloc(), port, &device);
+        let fault = device_server::run(noted(rt), rt.alloc(), port, &device);
         let _ = eprintln!(rt; "{}", Report::origin(fault));
     });
     started.is_ok()

@@ -1,6 +1,7 @@
 //! `hcproxy origin`: the demonstration device by the settings of a file.
 
 use crate::files::device_at;
+use crate::notes::noted;
 use command_line::Report;
 use device_server::{DevicePort, run};
 use log::Log;
@@ -10,12 +11,12 @@ use std::rt::{Clock, Files};
 
 /// Runs the device by the settings of a file, or else by those on standard input, until its clock or its
 /// socket fails.
-pub fn serve_device<'a, R: Net + Log + Clock + Input + Files + AllocGlobal + Copy + Drop>(
+pub fn serve_device<'a, R: Net + Log + Clock + Input + Eprint + Files + AllocGlobal + Copy + Drop>(
     rt: R,
     path: Option<&'a str>,
 ) -> Report<'a> {
     match opened(&rt, path) {
-        Ok((port, device)) => Report::origin(run(rt, rt.alloc(), port, &device)),
+        Ok((port, device)) => Report::origin(run(noted(rt), rt.alloc(), port, &device)),
         Err(report) => report,
     }
 }

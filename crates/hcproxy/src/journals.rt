@@ -1,5 +1,6 @@
 //! The folder of journals that were turned over, each as lines in a file of its own.
 
+use crate::notes::Notes;
 use gateway_server::Archive;
 use journal_book::{Entry, Journal};
 use log::{info, warn};
@@ -70,16 +71,17 @@ impl Folder {
 impl Archive for Folder {
     fn keep(&self, number: u64, journal: &Journal<Profile>) {
         let Some(folder) = &self.path else { return };
-        let rt = &self.rt;
+        let notes = Notes(self.rt);
         let seconds = self.seconds();
-        let Ok(path) = format!(in rt.alloc(); "{folder}/journal-{seconds}-{number}") else {
+        let alloc = self.rt.alloc();
+        let Ok(path) = format!(in alloc; "{folder}/journal-{seconds}-{number}") else {
             return;
         };
         match self.write(path.as_str(), journal) {
-            Ok(()) => info!(rt; target: "hcproxy", "journal {number} is written to {path}"),
+            Ok(()) => info!(notes; target: "hcproxy", "journal {number} is written to {path}"),
             Err(error) => {
                 warn!(
-                    rt;
+                    notes;
                     target: "hcproxy",
                     "journal {number} isn't written to {path}: {error}"
                 );

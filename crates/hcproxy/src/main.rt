@@ -9,6 +9,7 @@ mod device;
 mod drawing;
 mod files;
 mod journals;
+mod notes;
 mod replaying;
 mod serving;
 
@@ -39,6 +40,11 @@ A gateway from HTTP/1.1 to CoAP.
   serve FILE              runs the gateway by the settings of FILE, or of standard input without FILE
   serve FILE --journals FOLDER
                           .. and writes each journal that is full to a file in FOLDER
+  serve FILE --access     .. and notes each answer: who asked for what, and what came of it
+  serve FILE --idle SECONDS
+                          .. and waits so long for a client that stands still in a request; where 256
+                          connections are open, one that is idle for so long is closed for another one.
+                          60 without it
   replay                  runs the script on standard input through the gateway, and prints what goes out
   replay --journal        .. and then the entries of the journal
   replay --settings FILE  .. under the settings of FILE in place of those of a demonstration
@@ -113,7 +119,7 @@ fn run<
         Command::Help => printed(println!(rt; "{USAGE}\n{HELP}")),
         Command::Version => printed(println!(rt; "{VERSION}")),
         Command::Demo { listen } => Err(run_demo(rt, listen)),
-        Command::Serve { settings, journals } => Err(serve(rt, host, settings, journals)),
+        Command::Serve(serving) => Err(serve(rt, host, serving)),
         Command::Origin { settings } => Err(serve_device(rt, settings)),
         Command::Check { part, file } => check(&rt, part, file),
         Command::Replay { journal, settings } => replay_input(rt, settings, journal),

@@ -2,9 +2,10 @@
 
 use crate::files::serve_at;
 use crate::journals::Folder;
+use crate::notes::noted;
 use ask_model::Settings;
-use command_line::{Report, followed};
-use gateway_server::{Ports, run};
+use command_line::{Report, Serving, followed};
+use gateway_server::{Options, Ports, run};
 use log::Log;
 use proxy_settings::Serve;
 use std::alloc::Global;
@@ -34,10 +35,15 @@ pub fn serve<
         + Send
         + Sync
         + 'static,
->(rt: R, host: HostRuntime, path: Option<&'a str>, journals: Option<&str>) -> Report<'a> {
-    match opened(&rt, host, path, journals) {
+>(rt: R, host: HostRuntime, serving: Serving<'a>) -> Report<'a> {
+    let options = Options {
+        access: serving.access,
+        idle: serving.idle.unwrap_or(Options::default().idle),
+    };
+    match opened(&rt, host, serving.settings, serving.journals) {
         Ok((ports, settings, folder)) => {
-            Report::serve(run(rt, rt.alloc(), ports, settings, folder))
+            let fault = run(noted(rt), rt.alloc(), ports, settings, options, folder);
+            Report::serve(fault)
         }
         Err(report) => report,
     }

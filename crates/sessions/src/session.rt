@@ -14,7 +14,7 @@ ghost use Rattle.sessions.specs.Steps.{TakesRead, TellsToGoOn, EndsReading, Take
 use crate::devices::{Gate, Point, Stream};
 use crate::loops::send_due;
 use crate::reading::Reading;
-use crate::writing::{bytes_of, write_continue};
+use crate::writing::{reply_of, write_continue, write_reply};
 use ask_model::Settings;
 use exchange_core::AskFault;
 use gateway_desk::{Clock, ClosedPass, LockedDesk, Pass, Wire};
@@ -42,7 +42,7 @@ pub enum End {
     Memory,
     /// The gate said no.
     Held,
-    /// The desk was shut.
+    /// The desk was shut, or the client left before its answer was there, and was let go.
     Closed,
 }
 
@@ -258,15 +258,15 @@ fn turn<R: Relation, C: Clock, L: Ledger, S: Stream, N: Wire, G: Gate, W: Wait>(
     let Some(receipt) = gateway.desk.answer(rt, ticket) else {
         return Some(End::Closed);
     };
-    let bytes = bytes_of(gateway.alloc, gateway.bank, &receipt.answer);
+    let reply = reply_of(gateway.alloc, gateway.bank, &receipt.answer);
     pass.keep(receipt);
     if !gate.pass(Point::Answered, number) {
         return Some(End::Held);
     }
-    let Ok(bytes) = bytes else {
+    let Ok(reply) = reply else {
         return Some(End::Memory);
     };
-    match stream.write(bytes.as_slice()) {
+    match write_reply(stream, gate, pass, &reply) {
         Ok(()) => None,
         Err(_) => Some(End::WriteFault),
     }

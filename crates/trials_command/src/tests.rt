@@ -3,7 +3,7 @@
 use crate::devices::{Tape, Trickle, Trouble};
 use crate::rows::{PIPELINED, Row};
 use crate::setting_tests::told;
-use command_line::{Command, ReplayFault, Report, command_of, demonstration};
+use command_line::{Command, ReplayFault, Report, Serving, command_of, demonstration};
 use proxy_settings::Part;
 use script_runs::replay;
 use std::alloc::{AllocError, Global};
@@ -69,7 +69,7 @@ fn a_script_may_come_byte_by_byte(rt: HostRuntime) {
 }
 
 /// What a line of words asks for, or None where it is answered by the usage.
-static COMMANDS: [(&str, Option<Command<'static>>); 30] = [
+static COMMANDS: [(&str, Option<Command<'static>>); 37] = [
     ("replay", RUN),
     (
         "replay --journal",
@@ -106,32 +106,21 @@ static COMMANDS: [(&str, Option<Command<'static>>); 30] = [
     ("--version", Some(Command::Version)),
     (
         "serve",
-        Some(Command::Serve {
+        Some(Command::Serve(Serving {
             settings: None,
-            journals: None,
-        }),
+            ..PLAIN
+        })),
     ),
-    (
-        "serve a.toml",
-        Some(Command::Serve {
-            settings: Some("a.toml"),
-            journals: None,
-        }),
-    ),
-    (
-        "serve a.toml --journals past",
-        Some(Command::Serve {
-            settings: Some("a.toml"),
-            journals: Some("past"),
-        }),
-    ),
-    (
-        "serve --journals past a.toml",
-        Some(Command::Serve {
-            settings: Some("a.toml"),
-            journals: Some("past"),
-        }),
-    ),
+    ("serve a.toml", Some(Command::Serve(PLAIN))),
+    ("serve a.toml --journals past", KEPT),
+    ("serve --journals past a.toml", KEPT),
+    ("serve --access --idle 5 a.toml --journals past", WATCHED),
+    ("serve a.toml --journals past --idle 5 --access", WATCHED),
+    ("serve a.toml --access --access", None),
+    ("serve a.toml --idle", None),
+    ("serve a.toml --idle 0", None),
+    ("serve a.toml --idle 86401", None),
+    ("serve a.toml --idle 5s", None),
     ("serve a.toml b.toml", None),
     ("serve a.toml --journals", None),
     ("serve --journals", None),
@@ -164,6 +153,25 @@ const BOTH: Option<Command<'static>> = Some(Command::Replay {
     journal: true,
     settings: Some("a.toml"),
 });
+
+const PLAIN: Serving<'static> = Serving {
+    settings: Some("a.toml"),
+    journals: None,
+    access: false,
+    idle: None,
+};
+
+const KEPT: Option<Command<'static>> = Some(Command::Serve(Serving {
+    journals: Some("past"),
+    ..PLAIN
+}));
+
+const WATCHED: Option<Command<'static>> = Some(Command::Serve(Serving {
+    journals: Some("past"),
+    access: true,
+    idle: Some(5),
+    ..PLAIN
+}));
 
 fn commands() -> &'static [(&'static str, Option<Command<'static>>)] {
     &COMMANDS

@@ -5,7 +5,7 @@ ghost use Rattle.sessions.specs.Devices.{Rises};
 
 use crate::device::Device;
 use gateway_desk::Clock;
-use sessions::{End, Failed, Gate, Point, Stream};
+use sessions::{End, Failed, Gate, Point, Stream, Told};
 
 /// A client: what it sends, piece by piece, where its session is held, and what becomes of it.
 pub struct Client {
@@ -191,4 +191,6 @@ impl Gate for Keeper<'_> {
         }
         true
     }
+
+    fn told(&mut self, _told: &Told<'_>) {}
 }

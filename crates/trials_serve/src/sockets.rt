@@ -3,7 +3,7 @@
 use crate::device::reply_to;
 use crate::rows::{Row, rows};
 use crate::sample::settings;
-use gateway_server::{NoArchive, Ports, run};
+use gateway_server::{NoArchive, Options, Ports, run};
 use log::Log;
 use std::alloc::{AllocError, Global};
 use std::io::{Read, Write};
@@ -23,6 +23,32 @@ pub fn any_port() -> SocketAddr {
     SocketAddr::new(IpAddr::V4(Ipv4Addr::LOCALHOST), 0)
 }
 
+/// How long a client may stand still in the trials of that, in seconds.
+const IDLE: u64 = 1;
+
+/// Starts a gateway with these options, and answers where it takes connections.
+pub fn start_with<
+    W: Threads
+        + Wait
+        + Log
+        + Clock
+        + RandomSource
+        + Net<Listener = TcpListener, Stream = TcpStream>
+        + Copy
+        + Drop
+        + Send
+        + Sync
+        + 'static,
+>(rt: W, alloc: Global, options: Options) -> Option<SocketAddr> {
+    let ports = Ports::bind(&rt, any_port(), any_port()).ok()?;
+    let at = ports.listens_at().ok()?;
+    let settings = settings(alloc).ok()?;
+    let started = thread::spawn(&rt, move || {
+        let _ = run(rt, alloc, ports, settings, options, NoArchive);
+    });
+    started.is_ok().then_some(at)
+}
+
 /// Starts a gateway, and answers where it takes connections.
 pub fn start<
     W: Threads
@@ -37,13 +63,15 @@ pub fn start<
         + Sync
         + 'static,
 >(rt: W, alloc: Global) -> Option<SocketAddr> {
-    let ports = Ports::bind(&rt, any_port(), any_port()).ok()?;
-    let at = ports.listens_at().ok()?;
-    let settings = settings(alloc).ok()?;
-    let started = thread::spawn(&rt, move || {
-        let _ = run(rt, alloc, ports, settings, NoArchive);
-    });
-    started.is_ok().then_some(at)
+    start_with(rt, alloc, Options::default())
+}
+
+/// Notes each answer, and gives up who stands still for a second.
+fn hasty() -> Options {
+    Options {
+        access: true,
+        idle: IDLE,
+    }
 }
 
 /// A device's socket.
@@ -134,5 +162,50 @@ fn rows_go_over_sockets(rt: HostRuntime) {
     assert!(rt; gateway.is_some());
     if let Some(gateway) = gateway {
         assert!(rt; go(&rt, rt.alloc(), gateway) == Some(true));
+    }
+}
+
+/// Whether a client that stops within a request is told the end.
+fn is_given_up<W: Net<Stream = TcpStream>>(rt: &W, gateway: SocketAddr) -> Option<bool> {
+    let mut client = open_client(rt, gateway)?;
+    client.write_all(b"GET /hc/coap").ok()?;
+    let mut told = [0u8; 16];
+    let count = client.read(&mut told).ok()?;
+    Some(count == 0)
+}
+
+#[test]
+fn a_request_that_stands_still_ends(rt: HostRuntime) {
+    let gateway = start_with(rt, rt.alloc(), hasty());
+    assert!(rt; gateway.is_some());
+    if let Some(gateway) = gateway {
+        assert!(rt; is_given_up(&rt, gateway) == Some(true));
+    }
+}
+
+/// Whether one more is answered where as many are connected as may be, and ask nothing.
+fn is_taken<W: Net<Stream = TcpStream> + Clock>(
+    rt: &W,
+    alloc: Global,
+    gateway: SocketAddr,
+) -> Option<bool> {
+    let mut idle = Vec::new(alloc);
+    'each: for _ in 0..256 {
+        idle.push(open_client(rt, gateway)?).ok()?;
+    }
+    thread::sleep(rt, Duration::from_millis(2 * IDLE * 1000));
+    let mut client = open_client(rt, gateway)?;
+    client.write_all(b"?\r\n\r\n").ok()?;
+    let mut told = [0u8; 12];
+    client.read_exact(&mut told).ok()?;
+    Some(told.as_slice() == b"HTTP/1.1 400".as_slice())
+}
+
+#[test]
+fn the_longest_idle_makes_place(rt: HostRuntime) {
+    let gateway = start_with(rt, rt.alloc(), hasty());
+    assert!(rt; gateway.is_some());
+    if let Some(gateway) = gateway {
+        assert!(rt; is_taken(&rt, rt.alloc(), gateway) == Some(true));
     }
 }

@@ -3,7 +3,7 @@ use Rattle.std.proofs.Common.{List, ◌-◌, sym, subst}
 use Rattle.std.specs.Arc.{arc_value}
 use Rattle.media_map.specs.declared.form.Form.{Form}
 use Rattle.http_mapping.specs.Means.{Means}
-use Rattle.sessions.proofs.writing.bytes_of.Goals as goal
+use Rattle.sessions.proofs.writing.reply_of.Goals as goal
 
 pub returns : goal.returns
 returns g c rules suits =

@@ -1,0 +1,85 @@
+//! What the words after `serve` ask for.
+
+/// How long a client may stand still at most, in seconds: a day.
+const LONGEST_IDLE: u64 = 86_400;
+
+/// How the gateway is to run.
+#[derive(Clone, Copy, PartialEq, Eq)]
+pub struct Serving<'a> {
+    /// the file of the settings, or else standard input
+    pub settings: Option<&'a str>,
+    /// the folder of the journals that are turned over, where they are kept
+    pub journals: Option<&'a str>,
+    /// each answer is noted
+    pub access: bool,
+    /// how long a client may stand still in a request, in seconds, and is idle at least before its
+    /// connection may be closed for another one, where that is said
+    pub idle: Option<u64>,
+}
+
+/// A word that says what the next one is.
+#[derive(Clone, Copy, PartialEq, Eq)]
+enum Flag {
+    Journals,
+    Idle,
+}
+
+/// The words so far.
+#[derive(Clone, Copy)]
+struct Words<'a> {
+    settings: Option<&'a str>,
+    journals: Option<&'a str>,
+    access: bool,
+    idle: Option<u64>,
+    /// what the next word is
+    flag: Option<Flag>,
+}
+
+impl<'a> Words<'a> {
+    /// These and one more. None where it has no place there.
+    fn with(self, word: &'a str) -> Option<Words<'a>> {
+        let mut words = self;
+        words.flag = None;
+        match (self.flag, word) {
+            (Some(Flag::Journals), _) => words.journals = Some(word),
+            (Some(Flag::Idle), _) => words.idle = Some(seconds_of(word)?),
+            (None, "--journals") if self.journals.is_none() => words.flag = Some(Flag::Journals),
+            (None, "--idle") if self.idle.is_none() => words.flag = Some(Flag::Idle),
+            (None, "--access") if !self.access => words.access = true,
+            (None, "--journals" | "--idle" | "--access") => return None,
+            (None, _) if self.settings.is_none() => words.settings = Some(word),
+            (None, _) => return None,
+        }
+        Some(words)
+    }
+}
+
+/// A number of seconds: from one to those of a day.
+fn seconds_of(word: &str) -> Option<u64> {
+    let seconds = word.parse::<u64>().ok()?;
+    (1..=LONGEST_IDLE).contains(&seconds).then_some(seconds)
+}
+
+/// What the words after `serve` ask for: `[FILE] [--journals FOLDER] [--access] [--idle SECONDS]`, in any
+/// order.
+pub fn serving_of(words: &[String]) -> Option<Serving<'_>> {
+    let mut so_far = Words {
+        settings: None,
+        journals: None,
+        access: false,
+        idle: None,
+        flag: None,
+    };
+    'each: for word in words {
+        so_far = so_far.with(word.as_str())?;
+    }
+    if so_far.flag.is_some() {
+        return None;
+    }
+    Some(Serving {
+        settings: so_far.settings,
+        journals: so_far.journals,
+        access: so_far.access,
+        idle: so_far.idle,
+    })
+}

@@ -1,0 +1,23 @@
+//! What an operator chooses of how the gateway runs.
+
+/// How long a client may stand still in a request, in seconds, if nothing else is chosen.
+const IDLE: u64 = 60;
+
+/// What an operator chooses of how the gateway runs.
+#[derive(Clone, Copy, Debug, PartialEq, Eq)]
+pub struct Options {
+    /// Each answer is noted.
+    pub access: bool,
+    /// For how many seconds, at least one, a client may stand still in a request; and how long a
+    /// connection is idle at least before it may be closed for another one.
+    pub idle: u64,
+}
+
+impl Default for Options {
+    fn default() -> Options {
+        Options {
+            access: false,
+            idle: IDLE,
+        }
+    }
+}
