@@ -77,7 +77,7 @@ impl<L: Ledger> Roll<L> {
 
     /// Ends what comes in on the connection that has waited longest for its next request, at least so
     /// many milliseconds at this moment; where there is none, on the one whose request has been coming
-    /// longest. Answers which it is, and how long it waited.
+    /// longest. Answers which it is, and for how long.
     pub fn end_longest(&self, now: u64, least: u64) -> Option<(u32, u64)> {
         let (seat, time) = match self.longest(now, least, false) {
             Some(found) => found,

@@ -114,7 +114,7 @@ impl<W: Clock + RandomSource + Drop, L: Ledger> Shared<W, L> {
         info!(
             rt;
             target: "hcproxy",
-            "connection {conn} is closed for another one, {time} s after its last answer"
+            "connection {conn} is closed for another one: no request came on it for {time} s"
         );
         Some(conn)
     }

@@ -37,7 +37,7 @@ pub struct Line {
     stream: TcpStream,
     /// what the session does
     phase: AtomicU64,
-    /// when it was taken, or its last answer was written, in milliseconds of the clock
+    /// when it was taken, its last answer was written, or its request began, in milliseconds of the clock
     since: AtomicU64,
     /// it is being closed from here
     ends: AtomicBool,
@@ -68,8 +68,15 @@ impl Line {
         self.stream.peer_addr()
     }
 
-    /// For how many milliseconds there was no answer on it, at this moment, where its session waits for
-    /// the next request, or else for the rest of one.
+    /// Something was done on it.
+    fn touch<W: Clock>(&self, rt: &W) {
+        if let Some(now) = moment(rt) {
+            self.since.store(now, Ordering::SeqCst);
+        }
+    }
+
+    /// For how many milliseconds nothing was asked on it, at this moment, where its session waits for the
+    /// next request; or else for how many a request has been coming, where it waits for the rest of one.
     pub fn waits(&self, now: u64, rest: bool) -> Option<u64> {
         let phase = if rest { READING } else { IDLE };
         if self.phase.load(Ordering::SeqCst) != phase {
@@ -219,6 +226,9 @@ impl<W: Clock> Stream for Client<'_, W> {
         let mut stream = &self.line.stream;
         let read = stream.read(buffer);
         self.line.phase.store(BUSY, Ordering::SeqCst);
+        if between {
+            self.line.touch(self.rt);
+        }
         self.told(read)
     }
 
@@ -229,9 +239,7 @@ impl<W: Clock> Stream for Client<'_, W> {
             self.faults = self.faults.saturating_add(1);
             return Err(Failed);
         }
-        if let Some(now) = moment(self.rt) {
-            self.line.since.store(now, Ordering::SeqCst);
-        }
+        self.line.touch(self.rt);
         Ok(())
     }
 }
