@@ -61,11 +61,11 @@ impl<L: Ledger> Roll<L> {
         }
     }
 
-    /// Ends what comes in on connections whose session waits for a request, or, where none is waited
-    /// for any longer, for the rest of one.
-    pub fn end_reading(&self, longer: bool) {
+    /// Ends what comes in on connections whose session has waited for a request for a while, at this
+    /// moment, or, where none is waited for any longer, for one or for the rest of one.
+    pub fn end_reading(&self, longer: bool, now: u64) {
         for seat in &self.seats {
-            seat.line.end_reading(longer);
+            seat.line.end_reading(longer, now);
         }
     }
 
@@ -83,7 +83,7 @@ impl<L: Ledger> Roll<L> {
             Some(found) => found,
             None => self.longest(now, least, true)?,
         };
-        seat.line.end_reading(false);
+        seat.line.end();
         Some((seat.conn, time))
     }
 

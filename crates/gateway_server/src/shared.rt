@@ -69,9 +69,10 @@ impl<W: Clock + RandomSource + Drop, L: Ledger> Shared<W, L> {
 
     /// Whether no connection is open. Those are closed meanwhile that wait for the next request, or,
     /// where none is waited for any longer, for the rest of one.
-    pub fn is_left<V: Wait>(&self, rt: &V, longer: bool) -> bool {
+    pub fn is_left<V: Wait + Clock>(&self, rt: &V, longer: bool) -> bool {
+        let now = moment(rt).unwrap_or(u64::MAX);
         let roll = self.roll.lock(rt);
-        roll.end_reading(longer);
+        roll.end_reading(longer, now);
         roll.is_empty()
     }
 

@@ -21,6 +21,10 @@ const FAREWELL: u64 = 1000;
 /// How long an answer waits at most until the client reads more of it, in milliseconds.
 const LONGEST_WRITE: u64 = 10_000;
 
+/// How long a client that was answered, or has just connected, has to send a request before its
+/// connection counts as one on which nothing is asked, in milliseconds.
+const GRACE: u64 = 100;
+
 /// The session does something else than read.
 const BUSY: u64 = 0;
 
@@ -99,14 +103,24 @@ impl Line {
         poll(&mut asked, 0) > 0 && !self.ends.swap(true, Ordering::SeqCst)
     }
 
-    /// Ends what comes in where the session waits for the next request, or, where none is waited for
-    /// any longer, for the rest of one. What came before that is still read.
-    pub fn end_reading(&self, longer: bool) {
-        let phase = self.phase.load(Ordering::SeqCst);
-        if phase == IDLE || (phase == READING && !longer) {
-            self.ends.store(true, Ordering::SeqCst);
-            let _ = self.stream.shutdown(Shutdown::Read);
+    /// Ends what comes in where the session has waited for the next request for a while, at this moment;
+    /// or, where none is waited for any longer, for the next one or the rest of one. What came before that
+    /// is still read.
+    pub fn end_reading(&self, longer: bool, now: u64) {
+        let ends = match self.phase.load(Ordering::SeqCst) {
+            IDLE => !longer || now.saturating_sub(self.since.load(Ordering::SeqCst)) >= GRACE,
+            READING => !longer,
+            _ => false,
+        };
+        if ends {
+            self.end();
         }
+    }
+
+    /// Ends what comes in. What came before that is still read.
+    pub fn end(&self) {
+        self.ends.store(true, Ordering::SeqCst);
+        let _ = self.stream.shutdown(Shutdown::Read);
     }
 }
 
