@@ -4,3 +4,5 @@ pub mod OptionOrder
 pub mod OptionLengths
 pub mod Payloads
 pub mod Sendable
+pub mod Sharing
+pub mod CallerLemmas

@@ -4,3 +4,4 @@ pub mod Sizes
 pub mod Views
 pub mod Maps
 pub mod Datagrams
+pub mod Sharing

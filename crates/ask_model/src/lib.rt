@@ -6,6 +6,7 @@
 #![tactic(auto)]
 
 mod cause;
+mod comparing;
 mod mapped;
 mod meaning;
 mod request;

@@ -5,9 +5,11 @@ ghost use Rattle.std.specs.Arc.{arc_value};
 ghost use Rattle.limits.specs.declared.TheConstants.{MAX_MESSAGE_LEN, MAX_REQUEST_SIZE};
 ghost use Rattle.ask_model.specs.Views.{came_of, body_of, sense_of, rules_of};
 ghost use Rattle.ask_model.specs.Maps.{Maps, wanted_of};
+ghost use Rattle.ask_model.specs.Sharing.{asks_same_by, outdates_by};
 ghost use Rattle.ask_model.specs.Sizes.{came_size};
 ghost use Rattle.ask_model.specs.Datagrams.{IsSentFor, asked_peer};
 
+use crate::comparing;
 use crate::meaning::Meaning;
 use crate::request::{body_in, datagram_of};
 use crate::settings::Settings;
@@ -128,6 +130,26 @@ impl<R: Relation> Mapped<R> {
             Meaning::Ask { peer, .. } => Some(*peer),
             Meaning::Refuse(_, _) => None,
         }
+    }
+
+    /// Whether both are GETs that one response may answer: they ask one server with equal options
+    /// (RFC 7252 section 5.6).
+    pub fn asks_same(&self, other: &Mapped<R>) -> bool
+        ensures { result ≡ asks_same_by self.now.sense other.now.sense }
+    {
+        comparing::asks_same(
+            self.meaning(),
+            body_in(self.came()),
+            other.meaning(),
+            body_in(other.came()),
+        )
+    }
+
+    /// Whether it is a write to the place that the other one reads or changes.
+    pub fn outdates(&self, other: &Mapped<R>) -> bool
+        ensures { result ≡ outdates_by self.now.sense other.now.sense }
+    {
+        comparing::outdates(self.meaning(), other.meaning())
     }
 
     /// The datagram that asks it, under this message ID and token (RFC 7252 section 3). None where the

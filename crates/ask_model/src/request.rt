@@ -93,7 +93,7 @@ fn bytes_with(alloc: Global, message: &Message, payload: &[u8]) -> Result<Vec<u8
 }
 
 /// The payload's bytes, of which those of the HTTP request are given.
-fn bytes_of<'a>(payload: &'a Payload, body: &'a [u8]) -> &'a [u8]
+pub(crate) fn bytes_of<'a>(payload: &'a Payload, body: &'a [u8]) -> &'a [u8]
     ensures { result.now ≡ payload_of payload.now body.now }
 {
     match payload {

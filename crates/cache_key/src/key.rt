@@ -43,7 +43,7 @@ impl Model for Key {
 }
 
 /// Whether the hosts are equal.
-fn is_same_host(a: &Host, b: &Host) -> bool
+pub(crate) fn is_same_host(a: &Host, b: &Host) -> bool
     ensures { result ≡ same_host a.now b.now }
 {
     match (a, b) {

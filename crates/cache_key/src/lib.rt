@@ -13,9 +13,11 @@ mod key;
 mod laws;
 mod order;
 mod place;
+mod reading;
 
 pub use key::Key;
 pub use laws::{
     keys_in_order, keys_match_requests, keys_told_apart, places_in_order, places_told_apart,
 };
 pub use place::Place;
+pub use reading::Reading;

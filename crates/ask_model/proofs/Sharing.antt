@@ -1,0 +1,73 @@
+-- Requests that ask the same: their messages are equal, and what one asks the same as, the other does too.
+use Rattle.std.proofs.Common.{◌≡◌, ℕ, Bool, true, ◌&&◌, List, [], ◌∷◌, length, Option, Some, None, refl, sym, ap, ◌∙◌, arith}
+use Rattle.std.specs.Prelude.{is_none, ◌==◌}
+use Rattle.std.proofs.lemmas.Bool.{and_parts}
+use Rattle.std.proofs.lemmas.Bool.Decides.{Decides-eqb}
+use Rattle.uri_map.specs.declared.target.Host.{Host}
+use Rattle.cache_key.specs.declared.place.Place.{Place}
+use Rattle.cache_key.specs.Keys.{CacheKey, same_key}
+use Rattle.cache_key.proofs.CallerLemmas.{keys_decided}
+use Rattle.ask_model.specs.Requests.{CoapRequest, request_message}
+use Rattle.ask_model.specs.Sharing.{asked_key, asked_place, is_get, asks_same}
+
+-- a GET has the method 1, and neither format nor body
+record IsGet (q : CoapRequest) : Type 0 where
+  pub method : q.method ≡ 1
+  pub format : q.format ≡ None
+  pub body : q.body ≡ []
+
+no-format : (f : Option ℕ) → is_none f ≡ true → f ≡ None
+no-format None e = refl
+no-format (Some n) e = cc
+
+no-body : (b : List ℕ) → length b ≡ 0 → b ≡ []
+no-body [] e = refl
+no-body (x ∷ xs) e = absurd (omega (arith, e))
+
+get-is : (q : CoapRequest) → is_get q ≡ true → IsGet q
+get-is q e =
+    let a = and_parts (q.method == 1) (is_none q.format && (length q.body == 0)) e in
+    let b = and_parts (is_none q.format) (length q.body == 0) a.1 in
+    record {
+      method = (Decides-eqb q.method 1).0 a.0;
+      format = no-format q.format b.0;
+      body = no-body q.body ((Decides-eqb (length q.body) 0).0 b.1);
+    }
+
+record Parts (q r : CoapRequest) : Type 0 where
+  pub first : is_get q ≡ true
+  pub second : is_get r ≡ true
+  pub key : asked_key q ≡ asked_key r
+
+parts : (q r : CoapRequest) → asks_same q r ≡ true → Parts q r
+parts q r e =
+    let a = and_parts (is_get q) (is_get r && same_key (asked_key q) (asked_key r)) e in
+    let b = and_parts (is_get r) (same_key (asked_key q) (asked_key r)) a.1 in
+    record { first = a.0; second = b.0; key = (keys_decided (asked_key q) (asked_key r)).0 b.1 }
+
+pub same-key : (q r : CoapRequest) → asks_same q r ≡ true → asked_key q ≡ asked_key r
+same-key q r e = (parts q r e).key
+
+pub same-place : (q r : CoapRequest) → asks_same q r ≡ true → asked_place q ≡ asked_place r
+same-place q r e = ap (λ (k : CacheKey). k.place) (parts q r e).key
+
+pub asks-alike : (q r : CoapRequest) → asks_same q r ≡ true
+    → (q.peer ≡ r.peer) × ((mid : ℕ) (token : List ℕ) → request_message q mid token ≡ request_message r mid token)
+asks-alike q r e =
+    let it = parts q r e in
+    let a = get-is q it.first in
+    let b = get-is r it.second in
+    let host : q.target.host ≡ r.target.host = ap (λ (k : CacheKey). k.host) it.key in
+    let path : q.target.path ≡ r.target.path = ap (λ (k : CacheKey). k.place.path) it.key in
+    let query : q.target.query ≡ r.target.query = ap (λ (k : CacheKey). k.query) it.key in
+    let accept : q.accept ≡ r.accept = ap (λ (k : CacheKey). k.accept) it.key in (
+      ap (λ (k : CacheKey). k.place.peer) it.key,
+      λ mid token. rw (a.method, b.method, a.format, b.format, a.body, b.body, host, path, query, accept) refl,
+    )
+
+-- What asks the same as one request does, asks the same as another that does.
+pub asks-onward : (q r s : CoapRequest) → asks_same q r ≡ true → asks_same q s ≡ true → asks_same r s ≡ true
+asks-onward q r s e f =
+    let a = parts q r e in
+    let b = parts q s f in
+    rw (a.second, b.second, (keys_decided (asked_key r) (asked_key s)).1 (sym a.key ∙ b.key)) refl
