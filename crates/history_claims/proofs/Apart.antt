@@ -1,15 +1,14 @@
--- Tokens, message IDs, replies and answers of a journal are apart.
-use Rattle.std.proofs.Common.{◌≡◌, ℕ, ◌+◌, ◌<◌, ◌≤◌, Bool, true, false, cond, eqb, List, [], ◌∷◌, ◌++◌, length, take, Option, Some, refl, sym, ap, subst, ◌∙◌, arith, append_assoc, append-nil}
-use Rattle.std.specs.List.{Contains}
+-- Tokens, message IDs and answers of a journal are apart.
+use Rattle.std.proofs.Common.{◌≡◌, ℕ, ◌+◌, ◌<◌, ◌≤◌, Bool, true, false, cond, eqb, List, [], ◌∷◌, ◌++◌, length, take, refl, sym, ap, subst, ◌∙◌, arith, append_assoc, append-nil}
 use Rattle.limits.specs.declared.TheConstants.{MESSAGE_ID_LIFETIME}
 use Rattle.coap_codec.specs.Spelling.{Content}
 use Rattle.uri_map.specs.declared.peer.Peer.{Peer}
-use Rattle.journal_book.specs.Entries.{Grounds, Live, Deed, Asks, Sends, Hears, Answers, Written}
-use Rattle.history_laws.specs.Readings.{Noted, First, Says, Notice, entries, at, noted}
+use Rattle.journal_book.specs.Entries.{Grounds, Deed, Asks, Answers, Written}
+use Rattle.history_laws.specs.Readings.{Noted, entries}
 use Rattle.history_laws.specs.Connections.{asks_by, asks_of, answers_by, answers_of}
 use Rattle.history_laws.specs.Justified.{Stands}
-use Rattle.history_laws.specs.Laws.{IsFirst, IsAnswer, RestsOn}
-use Rattle.history_laws.proofs.CallerLemmas.{answered-in-order, answered-once, at-same, entries-length, firsts-ids, firsts-tokens, rests-on-its-own}
+use Rattle.history_laws.specs.Laws.{IsAnswer}
+use Rattle.history_laws.proofs.CallerLemmas.{answered-in-order, answered-once, entries-length, firsts-ids, firsts-tokens}
 use Rattle.history_claims.specs.Headline.{IsEntry, WasFirstSent}
 use Rattle.history_claims.specs.Apart.{asked_by, asked, answered_by, answered}
 use Rattle.history_claims.proofs.Entries.{entries-at}
@@ -42,39 +41,6 @@ pub answer-once : (h : List Written) (i j s t c d k : ℕ) (g e : Grounds) → S
 answer-once h i j s t c d k g e stands =
     subst (λ (h : List Written). IsEntry h i s (Answers c k g) → IsEntry h j t (Answers d k e) → i ≡ j) stands.entries_are
     (λ a b. (answered-once stands.reading i j c d k g e stands.legal (answer-at stands.reading i s c k g a) (answer-at stands.reading j t d k e b)).0)
-
--- a reply came to one first sending, which is that of one exchange
-says-same : (s t : ℕ) (p r : Peer) (b x : List ℕ) (m n : Content) (i j : ℕ) (u v : Notice)
-    → noted s (Hears p b) (Says m (Some i) u) ≡ noted t (Hears r x) (Says n (Some j) v) → i ≡ j
-says-same s t p r b x m n i j u v e = go (ap (λ (y : Noted). y.note) e)
-  where
-    go : Says m (Some i) u ≡ Says n (Some j) v → i ≡ j
-    go f = cc
-
-first-same : (s t : ℕ) (p r : Peer) (b x : List ℕ) (w y : Option ℕ) (o q : ℕ) (m n : Content)
-    → noted s (Sends p b w) (First o m) ≡ noted t (Sends r x y) (First q n) → o ≡ q
-first-same s t p r b x w y o q m n e = go (ap (λ (z : Noted). z.note) e)
-  where
-    go : First o m ≡ First q n → o ≡ q
-    go f = cc
-
-one-ask : (l : List Noted) (k o n : ℕ) → RestsOn l k n → RestsOn l o n → k ≡ o
-one-ask l k o n a b =
-    let heard = at-same l b.reply.number _ _ (subst (λ (i : ℕ). at l i ≡ Some (noted a.fits.moment (Hears a.fits.peer a.fits.bytes) (Says a.reply.message (Some a.reply.sending) a.fits.notice))) (a.number ∙ sym b.number) a.fits.heard) b.fits.heard in
-    let sending = says-same a.fits.moment b.fits.moment a.fits.peer b.fits.peer a.fits.bytes b.fits.bytes a.reply.message b.reply.message a.reply.sending b.reply.sending a.fits.notice b.fits.notice heard in
-    let first = subst (λ (i : ℕ). IsFirst l a.fits.sent_at k i a.fits.peer a.fits.sent) sending a.fits.first in
-    first-same a.fits.sent_at b.fits.sent_at a.fits.peer b.fits.peer first.bytes b.fits.first.bytes first.timeout b.fits.first.timeout k o a.fits.sent b.fits.sent
-    (at-same l b.reply.sending _ _ first.stands b.fits.first.stands)
-
-pub replies-once : (h : List Written) (i j s t c d k o n : ℕ) (js ls : List ℕ) → Stands h → IsEntry h i s (Answers c k (Live js))
-    → IsEntry h j t (Answers d o (Live ls)) → Contains js n → Contains ls n → k ≡ o
-replies-once h i j s t c d k o n js ls stands =
-    subst (λ (h : List Written). IsEntry h i s (Answers c k (Live js)) → IsEntry h j t (Answers d o (Live ls)) → Contains js n → Contains ls n → k ≡ o) stands.entries_are
-    (λ a b f g.
-    let l : List Noted = stands.reading in
-    one-ask l k o n
-    (rests-on-its-own l i c k n js stands.legal (answer-at l i s c k (Live js) a) f)
-    (rests-on-its-own l j d o n ls stands.legal (answer-at l j t d o (Live ls) b) g))
 
 -- asks and answers in order
 asked-more : (c n : ℕ) (h : List Written) (e : Written) → asked c n (h ++ e ∷ []) ≡ asked c n h ++ asked_by c (n + length h) e.deed

@@ -15,13 +15,13 @@ use Rattle.journal_book.specs.Entries.{Fault, Answers, Hears, Passes, Written}
 use Rattle.history_laws.specs.Responses.{is_whole, whole_of}
 use Rattle.history_laws.specs.Confirmations.{empty}
 use Rattle.history_laws.specs.Connections.{is_open}
-use Rattle.history_laws.specs.Readings.{Noted, Note, Plain, Says, entries, at, before, noted}
+use Rattle.history_laws.specs.Readings.{Noted, Note, Plain, Begins, Says, entries, at, before, noted}
 use Rattle.history_laws.specs.Progress.{Reply, NotUnderstood, Reset, TimedOut}
 use Rattle.history_laws.specs.Transmissions.{Transmission, given_up, transmission, sent_last}
 use Rattle.history_laws.specs.Exchanges.{Begun, begun, late_by, is_late, Expired, expires, turn, waits_for, replies, end_here}
 use Rattle.history_laws.specs.Justified.{IsAsk, IsTurnedAway as WasTurnedAway, IsRefused as WasRefused, IsOverdue, Caused, Ends, reads, pending, Follows, MayCome, Legal, Stands}
 use Rattle.history_laws.specs.Laws.{IsFirst}
-use Rattle.history_laws.proofs.CallerLemmas.{at-before, at-below, at-newest, at-same, at-still, before-twice, begun-before, ends-first, follows-at, legal-before, length-before, none-after-end, reads-own, replies-fit, sent-for, sent-once, some-is, turn-replied, waits-first}
+use Rattle.history_laws.proofs.CallerLemmas.{asked-for, at-before, at-below, at-newest, at-same, at-still, before-twice, begun-before, ends-first, follows-at, IsFirst-below, legal-before, length-before, none-after-end, replies-fit, sent-for, sent-once, some-is, turn-replied, waits-first}
 use Rattle.history_claims.specs.Headline.{IsEntry, IsSentFor, IsHeard, IsUnanswered}
 use Rattle.history_claims.specs.Causes.{IsUnsettled, IsUnsent, IsTurnedAway, IsTimedOut, IsGivenUp, IsReset, IsNotUnderstood, IsRefused, IsCausedBy, AreCaused}
 use Rattle.history_claims.proofs.Entries.{entries-at, newest-before}
@@ -29,10 +29,14 @@ use Rattle.history_claims.proofs.Sending.{first-before, sent-as}
 use Rattle.history_claims.proofs.Repeats.{heard-entry}
 use Rattle.history_claims.proofs.Waiting.{unanswered-till, going-waits, heard-in}
 use Rattle.history_claims.proofs.Hands.{no-input}
-use Rattle.history_claims.proofs.Resting.{answers-ask, asked-by, opened-by}
+use Rattle.history_claims.proofs.Alike.{like-method, sent-like, heard-like}
+use Rattle.history_claims.proofs.Asking.{answers-ask, asked-by}
+use Rattle.history_claims.proofs.Pending.{unsent-in}
+use Rattle.history_claims.proofs.Readers.{Reads, reads-at}
 use Rattle.history_claims.proofs.Ending.{turn-expired, reset-turn, expired-turn, failed-turn, going-unreplied, reply-listed, rejected-in}
-use Rattle.history_claims.proofs.Unsent.{Over, unsent-in, none-for-plain, sent-last-none, sent-last-first, never-sent}
+use Rattle.history_claims.proofs.Unsent.{Over, none-for-other, sent-last-none, sent-last-first, never-sent}
 use Rattle.history_claims.proofs.GivenUp.{unsettled-till, given-up-at}
+use Rattle.history_claims.proofs.Alone.{alone}
 use Rattle.history_claims.proofs.Crowded.{crowded-at}
 
 not-late : (t : ℕ) (b : Begun) → late_by t b ≡ true → b.since + MAX_TRANSMIT_WAIT ≤ t
@@ -59,6 +63,9 @@ stands-as l n x y e f = e ∙ ap (λ (v : Noted). Some v) f
 whole-none : (q : CoapRequest) (m : Content) → is_whole q.method m ≡ false → whole_of q (m ∷ []) ≡ None
 whole-none q m e = rw e refl
 
+plain-begins : (q : CoapRequest) → Plain ≡ Begins q → ⊥
+plain-begins q e = cc
+
 -- an answer that stands, with what it answers
 module _ (l : List Noted) (n t c k : ℕ) (cause : Cause) (j : ℕ) (legal : Legal l) (note : Note)
     (here : at l n ≡ Some (noted t (Answers c k (Fault cause j)) note)) (ask : Ask) (asked : IsAsk (before l n) k c ask) where
@@ -81,8 +88,10 @@ module _ (l : List Noted) (n t c k : ℕ) (cause : Cause) (j : ℕ) (legal : Leg
         moment = h.moment;
         request = h.request;
         asked = asked-by l n c k ask (Requests h.request) h.moment h.conn h.ask Plain asked stands h.sense;
+        alone = alone l k h.moment h.conn h.ask h.request legal stands h.sense;
         crowded = crowded-at l k h.moment h.conn h.ask h.request legal stands h.sense;
-        unsent = unsent-in l k h.request legal (none-for-plain l k h.conn h.moment h.ask legal stands);
+        unsent = unsent-in l k k h.request legal (none-for-other l k h.conn h.moment h.ask Plain legal stands plain-begins)
+            (none-for-other l k h.conn h.moment h.ask Plain legal stands plain-begins);
       }
 
   refused : (cause : Cause) → WasRefused (before l n) k cause → IsRefused (entries l) c k cause
@@ -96,230 +105,241 @@ module _ (l : List Noted) (n t c k : ℕ) (cause : Cause) (j : ℕ) (legal : Leg
   ask-before : k < n
   ask-before = below k _ asked.stands
 
-  -- how the exchange ended stands in an entry before
-  reset : (o : ℕ) → reads (before l n) k ≡ Some o → Ends (before l n) o j Reset → (j < n) × IsReset (entries l) c k j
-  reset o e h =
-      let x = opened-by l n c k o ask legal asked e in
-      let own : o ≡ k = sym (reads-own (before l n) k o e) in
-      let end = ends-first (before l n) k j Reset (subst (λ (o : ℕ). Ends (before l n) o j Reset) own h) in
-      let y : Noted = end.0 in
-      let late = before (before l n) j in
-      let u = reset-turn (begun late k) (turn late k y) j (replies late k) end.3 in
-      let it = rejected-in late k y (follows-at (before l n) j y (legal-before l n legal) end.1) u in
-      let first = first-before l n _ k _ _ _ (first-before (before l n) j it.sent_at k it.sending it.peer it.sent it.first) in
-      let sent = sent-as l it.sent_at k it.sending it.peer it.sent x.exchange legal x.opened first in
-      let there : at l j ≡ Some y = at-before l n j y end.1 in
-      let said : Noted = noted y.written.moment (Hears it.peer it.bytes) (Says it.message (Some it.sending) it.notice) in
-      let twice : late ≡ before l j = before-twice l n j _ here (below j y end.1) in
-      let unsettled : IsUnsettled (entries l) it.peer it.sending it.sent j =
-      unsettled-till l j y it.sent_at k it.sending it.peer it.sent it.way legal there
-      (subst (λ (v : List Noted). IsFirst v it.sent_at k it.sending it.peer it.sent) twice it.first)
-      (subst (λ (v : List Noted). transmission v it.sending ≡ Some it.way) twice it.on_way)
-      (subst (λ (v : List Noted). waits_for v k ≡ Some it.sending) twice it.waited) in (
-        below j y end.1,
-        record {
-          moment = x.exchange.since;
-          request = x.exchange.request;
-          asked = x.asked;
-          sending = it.sending;
-          sent = it.sent;
-          sent_for = sent.1;
-          after = subst (λ (m : ℕ). it.sending < m) (length-before (before l n) j y end.1) (at-below late it.sending _ it.first.stands);
-          unsettled = subst (λ (p : Peer). IsUnsettled (entries l) p it.sending it.sent j) sent.0 unsettled;
-          reset = y.written.moment;
-          heard = subst (λ (p : Peer). IsHeard (entries l) p j y.written.moment (empty Rst it.sent.mid)) sent.0
-              (heard-entry l it.peer j y.written.moment it.bytes (empty Rst it.sent.mid) said.note (stands-as l j y said there it.entry) it.spelled);
-        },
-      )
-
-  not-understood : (o : ℕ) → reads (before l n) k ≡ Some o → Ends (before l n) o j NotUnderstood → (j < n) × IsNotUnderstood (entries l) c k j
-  not-understood o e h =
-      let x = opened-by l n c k o ask legal asked e in
-      let own : o ≡ k = sym (reads-own (before l n) k o e) in
-      let end = ends-first (before l n) k j NotUnderstood (subst (λ (o : ℕ). Ends (before l n) o j NotUnderstood) own h) in
-      let y : Noted = end.0 in
-      let late = before (before l n) j in
-      let it = failed-turn (begun late k) (turn late k y) j (replies late k) (going-unreplied late k end.2) end.3 in
-      let r : Reply = record { number = j; sending = it.sending; message = it.message } in
-      let has = reply-listed (before l n) j k it.sending it.message y end.1 it.is in
-      let fits = replies-fit (before l n) k r (legal-before l n legal) has in
-      let w = waits-first late k it.sending (turn-replied late k y it.sending it.message it.is).waited in
-      let s = sent-for late w.0 k it.sending w.1 w.2 (legal-before (before l n) j (legal-before l n legal)) w.3 in
-      let same : s.exchange ≡ x.exchange = some-is _ _ (sym (begun-before l n k _ (begun-before (before l n) j k _ s.opened)) ∙ x.opened) in
-      let opened : begun late k ≡ Some x.exchange = s.opened ∙ ap (λ (b : Begun). Some b) same in (
-        below j y end.1,
-        record {
-          moment = x.exchange.since;
-          request = x.exchange.request;
-          asked = x.asked;
-          message = it.message;
-          heard = heard-in l n k r x.exchange _ legal x.opened here has fits;
-          fails = whole-none x.exchange.request it.message (it.fails x.exchange opened);
-        },
-      )
-
-  -- the message for the ask, to which no reply came, or none
-  abbrev Named : CoapRequest → Type 0
-  Named q = ((m : Content) × IsSentFor (entries l) k q j m × IsUnanswered (entries l) q.peer j m n) ⊎ ((j ≡ k) × IsUnsent (entries l) k q)
-
-  abbrev IsNamed : Type 0
-  IsNamed = (sent_last (before l n) k ≡ Some j) ⊎ ((sent_last (before l n) k ≡ None) × (j ≡ k))
-
-  abbrev IsOver : Begun → Type 0
-  IsOver b = (b.since + MAX_TRANSMIT_WAIT ≤ t) ⊎ ((m : Content) × IsSentFor (entries l) k b.request j m × IsGivenUp (entries l) t b.request.peer j m)
-
-  -- a tick found the exchange past its end, or its message given up
-  expired : (b : Begun) (e : ℕ) → begun l k ≡ Some b → IsNamed → Ends (before l n) k e TimedOut → IsOver b
-  expired b e opened named h =
-      let end = ends-first (before l n) k e TimedOut h in
-      let y : Noted = end.0 in
-      let s : ℕ = y.written.moment in
-      let early : s ≤ t = earlier e y end.1 in
-      let u : turn (before l e) k y ≡ Expired =
-      subst (λ (v : List Noted). turn v k y ≡ Expired) twice (expired-turn (begun (before (before l n) e) k) (turn (before (before l n) e) k y) e (replies (before (before l n) e) k) end.3) in
-      let it = turn-expired (before l e) k y u in
-      let tick = at-before l n e y end.1 ∙ ap (λ (v : Noted). Some v) it.entry in
-      go (waits_for (before l e) k) refl s y.note early tick it.over
-    where
-      by-late : (s : ℕ) → s ≤ t → is_late s (begun (before l e) k) ≡ true → IsOver b
-      by-late s early late = let since = late-since l e k s b opened late in inl (omega (arith, since, early))
-
-      that-one : (s i : ℕ) (p : Peer) (m : Content) → IsFirst l s k i p m → IsFirst (before l n) s k i p m → IsNamed → i ≡ j
-      that-one s i p m first soon (inl some) =
-          let f = sent-last-first (before l n) k j c ask asked some in
-          sent-once l s f.0 k i j p f.1 m f.2 legal first (first-before l n f.0 k j f.1 f.2 f.3)
-      that-one s i p m first soon (inr none) = absurd (sent-last-none (before l n) s k i p m none.0 soon)
-
-      twice : before (before l n) e ≡ before l e
-      twice = let end = ends-first (before l n) k e TimedOut h in before-twice l n e _ here (below e end.0 end.1)
-
-      by-tick : (i s : ℕ) (note : Note) → s ≤ t → at l e ≡ Some (noted s Passes note) → waits_for (before l e) k ≡ Some i
-          → (y : Option Transmission) → transmission (before l e) i ≡ y → given_up s y ≡ true → IsOver b
-      by-tick i s note early tick waits None is over = absurd (false≢true over)
-      by-tick i s note early tick waits (Some y) is over =
-          let w = waits-first (before l e) k i waits in
-          let first : IsFirst l w.0 k i w.1 w.2 = first-before l e w.0 k i w.1 w.2 w.3 in
-          let lt = subst (λ (m : ℕ). i < m) (length-before l e _ tick) (at-below (before l e) i _ w.3.stands) in
-          let up = given-up-at l w.0 k i w.1 w.2 e s t note y legal first lt tick is over waits early in
-          let sent = sent-as l w.0 k i w.1 w.2 b legal opened first in
-          let soon : IsFirst (before l n) w.0 k i w.1 w.2 =
-          first-before (before l n) e w.0 k i w.1 w.2 (subst (λ (v : List Noted). IsFirst v w.0 k i w.1 w.2) (sym twice) w.3) in
-          let same : i ≡ j = that-one w.0 i w.1 w.2 first soon named in
-          subst (λ (j : ℕ). (b.since + MAX_TRANSMIT_WAIT ≤ t) ⊎ ((m : Content) × IsSentFor (entries l) k b.request j m × IsGivenUp (entries l) t b.request.peer j m)) same
-          (inr (w.2, sent.1, subst (λ (p : Peer). IsGivenUp (entries l) t p i w.2) sent.0 up))
-
-      go : (w : Option ℕ) → waits_for (before l e) k ≡ w → (s : ℕ) (note : Note) → s ≤ t → at l e ≡ Some (noted s Passes note)
-          → expires (before l e) k s w ≡ true → IsOver b
-      go None is s note early tick over = by-late s early over
-      go (Some i) is s note early tick over =
-          elim (or_cases (is_late s (begun (before l e) k)) (given_up s (transmission (before l e) i)) over) [
-            | inl late ↦ by-late s early late
-            | inr up ↦ by-tick i s note early tick is (transmission (before l e) i) refl up
-          ]
-
-  -- No reply came to the message of an exchange that timed out.
-  abbrev HasTimedOut : Type 0
-  HasTimedOut = ((e : ℕ) × Ends (before l n) k e TimedOut) ⊎ IsOverdue (before l n) t k
-
   early : Legal (before l n)
   early = legal-before l n legal
 
-  -- an input may come before what is heard; and none comes after the end
-  heard-late : (e i s : ℕ) (p : Peer) (m : Content) → reads (before l n) k ≡ Some k → Ends (before l n) k e TimedOut → e < i → i < n
-      → IsHeard (entries l) p i s m → ⊥
-  heard-late e i s p m own ended late less h =
-      let there = entries-at l i _ h.stands in
-      let stands = at-still l n i _ _ here less there.1 in
-      no-input (before l n) c k e TimedOut ask early asked own ended (opened-still (follows-at l n _ legal here)) (waits-still (follows-at l n _ legal here))
-      i _ late stands (comes (before (before l n) i) s p h.bytes there.0 (follows-at (before l n) i _ early stands))
-    where
-      opened-still : Follows (before l n) t (Answers c k (Fault cause j)) note → is_open (before l n) c ≡ true
-      opened-still may = may.1
+  -- an exchange that the ask reads
+  module _ (o : ℕ) (own : reads (before l n) k ≡ Some o) where
+    x : Reads l n c k o
+    x = reads-at l n c k o ask _ legal here asked own
 
-      waits-still : Follows (before l n) t (Answers c k (Fault cause j)) note → pending (before l n) c ≡ Some k
-      waits-still may = may.2
+    abbrev q : CoapRequest
+    q = x.request
 
-      comes : (v : List Noted) (s : ℕ) (p : Peer) (b : List ℕ) (note : Note) → Follows v s (Hears p b) note → MayCome v
-      comes v s p b note may = may.0
+    -- how it ended stands in an entry before
+    reset : Ends (before l n) o j Reset → (j < n) × IsReset (entries l) c k j
+    reset h =
+        let end = ends-first (before l n) o j Reset h in
+        let y : Noted = end.0 in
+        let late = before (before l n) j in
+        let u = reset-turn (begun late o) (turn late o y) j (replies late o) end.3 in
+        let it = rejected-in late o y (follows-at (before l n) j y early end.1) u in
+        let first = first-before l n _ o _ _ _ (first-before (before l n) j it.sent_at o it.sending it.peer it.sent it.first) in
+        let sent = sent-as l it.sent_at o it.sending it.peer it.sent x.exchange legal x.opened first in
+        let peer : it.peer ≡ q.peer = sent.0 ∙ x.like.peer in
+        let there : at l j ≡ Some y = at-before l n j y end.1 in
+        let said : Noted = noted y.written.moment (Hears it.peer it.bytes) (Says it.message (Some it.sending) it.notice) in
+        let twice : late ≡ before l j = before-twice l n j _ here (below j y end.1) in
+        let unsettled : IsUnsettled (entries l) it.peer it.sending it.sent j =
+        unsettled-till l j y it.sent_at o it.sending it.peer it.sent it.way legal there
+        (subst (λ (v : List Noted). IsFirst v it.sent_at o it.sending it.peer it.sent) twice it.first)
+        (subst (λ (v : List Noted). transmission v it.sending ≡ Some it.way) twice it.on_way)
+        (subst (λ (v : List Noted). waits_for v o ≡ Some it.sending) twice it.waited) in (
+          below j y end.1,
+          record {
+            request = q;
+            opening = o;
+            since = x.exchange.since;
+            shared = x.shared;
+            live = x.later j Reset h;
+            sending = it.sending;
+            sent = it.sent;
+            sent_for = sent-like (entries l) o x.exchange.request q it.sending it.sent x.like sent.1;
+            after = subst (λ (m : ℕ). it.sending < m) (length-before (before l n) j y end.1) (IsFirst-below late it.sent_at o it.sending it.peer it.sent it.first);
+            unsettled = subst (λ (p : Peer). IsUnsettled (entries l) p it.sending it.sent j) peer unsettled;
+            reset = y.written.moment;
+            heard = subst (λ (p : Peer). IsHeard (entries l) p j y.written.moment (empty Rst it.sent.mid)) peer
+                (heard-entry l it.peer j y.written.moment it.bytes (empty Rst it.sent.mid) said.note (stands-as l j y said there it.entry) it.spelled);
+          },
+        )
 
-  unanswered : (s : ℕ) (p : Peer) (m : Content) → IsFirst (before l n) s k j p m → reads (before l n) k ≡ Some k → HasTimedOut
-      → IsUnanswered (entries l) p j m n
-  unanswered s p m first own (inr due) =
-      unanswered-till l n _ s k j p m legal early here first (going-waits (before l n) s k j p m early first due.1)
-  unanswered s p m first own (inl ended) = λ i x less r.
-      let e : ℕ = ended.0 in
-      let end = ends-first (before l n) k e TimedOut ended.1 in
-      let there = at-before l n e end.0 end.1 in
-      let before_end : e < n = below e end.0 end.1 in
-      let twice : before (before l n) e ≡ before l e = before-twice l n e _ here before_end in
-      elim (leb_tells e i) [
-        | inl w ↦ elim (eqb_tells e i) [
-          | inl u ↦ absurd (not-heard e i end.0 p x r.moment u.1 there end.3 r.heard)
-          | inr u ↦ let le = w.1 in let not = u.1 in absurd (heard-late e i r.moment p x own ended.1 (omega (arith, le, not)) less r.heard)
+    not-understood : Ends (before l n) o j NotUnderstood → (j < n) × IsNotUnderstood (entries l) c k j
+    not-understood h =
+        let end = ends-first (before l n) o j NotUnderstood h in
+        let y : Noted = end.0 in
+        let late = before (before l n) j in
+        let it = failed-turn (begun late o) (turn late o y) j (replies late o) (going-unreplied late o end.2) end.3 in
+        let r : Reply = record { number = j; sending = it.sending; message = it.message } in
+        let has = reply-listed (before l n) j o it.sending it.message y end.1 it.is in
+        let fits = replies-fit (before l n) o r early has in
+        let w = waits-first late o it.sending (turn-replied late o y it.sending it.message it.is).waited in
+        let s = sent-for late w.0 o it.sending w.1 w.2 (legal-before (before l n) j early) w.3 in
+        let same : s.exchange ≡ x.exchange = some-is _ _ (sym (begun-before l n o _ (begun-before (before l n) j o _ s.opened)) ∙ x.opened) in
+        let opened : begun late o ≡ Some x.exchange = s.opened ∙ ap (λ (b : Begun). Some b) same in
+        let fails : is_whole q.method it.message ≡ false =
+        subst (λ (n : ℕ). is_whole n it.message ≡ false) (like-method x.exchange.request q x.like) (it.fails x.exchange opened) in (
+          below j y end.1,
+          record {
+            request = q;
+            opening = o;
+            since = x.exchange.since;
+            shared = x.shared;
+            live = x.later j NotUnderstood h;
+            message = it.message;
+            heard = heard-like (entries l) o x.exchange.request q j it.message x.like (heard-in l n o r x.exchange _ legal x.opened here has fits);
+            fails = whole-none q it.message fails;
+          },
+        )
+
+    -- the message for the ask, to which no reply came, or none
+    abbrev Named : Type 0
+    Named = ((m : Content) × IsSentFor (entries l) o q j m × IsUnanswered (entries l) q.peer j m n) ⊎ ((j ≡ k) × IsUnsent (entries l) k o q)
+
+    abbrev IsNamed : Type 0
+    IsNamed = (sent_last (before l n) o ≡ Some j) ⊎ ((sent_last (before l n) o ≡ None) × (j ≡ k))
+
+    abbrev IsOver : Type 0
+    IsOver = (x.exchange.since + MAX_TRANSMIT_WAIT ≤ t) ⊎ ((m : Content) × IsSentFor (entries l) o q j m × IsGivenUp (entries l) k t q.peer j m)
+
+    -- the latest first sending of the exchange
+    last-first : sent_last (before l n) o ≡ Some j → (s : ℕ) × (p : Peer) × (m : Content) × IsFirst (before l n) s o j p m
+    last-first some =
+        let it = asked-for l o x.exchange legal x.opened in
+        let ask = ask-before in
+        let first = x.not_later in
+        sent-last-first (before l n) o j it.conn x.exchange.since it.ask _ (at-still l n o _ _ here (omega (arith, first, ask)) it.stands) some
+
+    -- a tick found the exchange past its end, or its message given up
+    expired : (e : ℕ) → IsNamed → Ends (before l n) o e TimedOut → IsOver
+    expired e named h =
+        let end = ends-first (before l n) o e TimedOut h in
+        let y : Noted = end.0 in
+        let s : ℕ = y.written.moment in
+        let u : turn (before l e) o y ≡ Expired =
+        subst (λ (v : List Noted). turn v o y ≡ Expired) twice (expired-turn (begun (before (before l n) e) o) (turn (before (before l n) e) o y) e (replies (before (before l n) e) o) end.3) in
+        let it = turn-expired (before l e) o y u in
+        let tick = at-before l n e y end.1 ∙ ap (λ (v : Noted). Some v) it.entry in
+        go (waits_for (before l e) o) refl s y.note (earlier e y end.1) tick it.over
+      where
+        by-late : (s : ℕ) → s ≤ t → is_late s (begun (before l e) o) ≡ true → IsOver
+        by-late s soon late = let since = late-since l e o s x.exchange x.opened late in inl (omega (arith, since, soon))
+
+        that-one : (s i : ℕ) (p : Peer) (m : Content) → IsFirst l s o i p m → IsFirst (before l n) s o i p m → IsNamed → i ≡ j
+        that-one s i p m first soon (inl some) =
+            let f = last-first some in
+            sent-once l s f.0 o i j p f.1 m f.2 legal first (first-before l n f.0 o j f.1 f.2 f.3)
+        that-one s i p m first soon (inr none) = absurd (sent-last-none (before l n) s o i p m none.0 soon)
+
+        twice : before (before l n) e ≡ before l e
+        twice = let end = ends-first (before l n) o e TimedOut h in before-twice l n e _ here (below e end.0 end.1)
+
+        by-tick : (i s : ℕ) (note : Note) → s ≤ t → at l e ≡ Some (noted s Passes note) → waits_for (before l e) o ≡ Some i
+            → (y : Option Transmission) → transmission (before l e) i ≡ y → given_up s y ≡ true → IsOver
+        by-tick i s note soon tick waits None is over = absurd (false≢true over)
+        by-tick i s note soon tick waits (Some y) is over =
+            let w = waits-first (before l e) o i waits in
+            let first : IsFirst l w.0 o i w.1 w.2 = first-before l e w.0 o i w.1 w.2 w.3 in
+            let lt = subst (λ (m : ℕ). i < m) (length-before l e _ tick) (at-below (before l e) i _ w.3.stands) in
+            let up = given-up-at l w.0 o i w.1 w.2 k e s t note y legal first (x.later e TimedOut h) lt tick is over waits soon in
+            let sent = sent-as l w.0 o i w.1 w.2 x.exchange legal x.opened first in
+            let was : IsFirst (before l n) w.0 o i w.1 w.2 =
+            first-before (before l n) e w.0 o i w.1 w.2 (subst (λ (v : List Noted). IsFirst v w.0 o i w.1 w.2) (sym twice) w.3) in
+            let same : i ≡ j = that-one w.0 i w.1 w.2 first was named in
+            subst (λ (j : ℕ). (x.exchange.since + MAX_TRANSMIT_WAIT ≤ t) ⊎ ((m : Content) × IsSentFor (entries l) o q j m × IsGivenUp (entries l) k t q.peer j m)) same
+            (inr (w.2, sent-like (entries l) o x.exchange.request q i w.2 x.like sent.1, subst (λ (p : Peer). IsGivenUp (entries l) k t p i w.2) (sent.0 ∙ x.like.peer) up))
+
+        go : (w : Option ℕ) → waits_for (before l e) o ≡ w → (s : ℕ) (note : Note) → s ≤ t → at l e ≡ Some (noted s Passes note)
+            → expires (before l e) o s w ≡ true → IsOver
+        go None is s note soon tick over = by-late s soon over
+        go (Some i) is s note soon tick over =
+            elim (or_cases (is_late s (begun (before l e) o)) (given_up s (transmission (before l e) i)) over) [
+              | inl late ↦ by-late s soon late
+              | inr up ↦ by-tick i s note soon tick is (transmission (before l e) i) refl up
+            ]
+
+    -- No reply came to the message of an exchange that timed out.
+    abbrev HasTimedOut : Type 0
+    HasTimedOut = ((e : ℕ) × Ends (before l n) o e TimedOut) ⊎ IsOverdue (before l n) t o
+
+    -- an input may come before what is heard; and none comes after the end
+    heard-late : (e i s : ℕ) (p : Peer) (m : Content) → Ends (before l n) o e TimedOut → e < i → i < n → IsHeard (entries l) p i s m → ⊥
+    heard-late e i s p m ended late less h =
+        let there = entries-at l i _ h.stands in
+        let stands = at-still l n i _ _ here less there.1 in
+        no-input (before l n) c k o e TimedOut ask early asked own ended (x.later e TimedOut ended) (opened-still (follows-at l n _ legal here))
+        (waits-still (follows-at l n _ legal here))
+        i _ late stands (comes (before (before l n) i) s p h.bytes there.0 (follows-at (before l n) i _ early stands))
+      where
+        opened-still : Follows (before l n) t (Answers c k (Fault cause j)) note → is_open (before l n) c ≡ true
+        opened-still may = may.1
+
+        waits-still : Follows (before l n) t (Answers c k (Fault cause j)) note → pending (before l n) c ≡ Some k
+        waits-still may = may.2
+
+        comes : (v : List Noted) (s : ℕ) (p : Peer) (b : List ℕ) (note : Note) → Follows v s (Hears p b) note → MayCome v
+        comes v s p b note may = may.0
+
+    unanswered : (s : ℕ) (p : Peer) (m : Content) → IsFirst (before l n) s o j p m → HasTimedOut → IsUnanswered (entries l) p j m n
+    unanswered s p m first (inr due) =
+        unanswered-till l n _ s o j p m legal early here first (going-waits (before l n) s o j p m early first due.1)
+    unanswered s p m first (inl ended) = λ i y less r.
+        let e : ℕ = ended.0 in
+        let end = ends-first (before l n) o e TimedOut ended.1 in
+        let there = at-before l n e end.0 end.1 in
+        let before_end : e < n = below e end.0 end.1 in
+        let twice : before (before l n) e ≡ before l e = before-twice l n e _ here before_end in
+        elim (leb_tells e i) [
+          | inl w ↦ elim (eqb_tells e i) [
+            | inl u ↦ absurd (not-heard e i end.0 p y r.moment u.1 there end.3 r.heard)
+            | inr u ↦ let le = w.1 in let not = u.1 in absurd (heard-late e i r.moment p y ended.1 (omega (arith, le, not)) less r.heard)
+          ]
+          | inr w ↦
+              let sooner = none-after-end (before l n) s o j e p m TimedOut early first ended.1 in
+              let soon : IsFirst (before (before l n) e) s o j p m =
+              record { bytes = first.bytes; timeout = first.timeout; stands = at-still (before l n) e j _ _ end.1 sooner first.stands } in
+              let waits = going-waits (before (before l n) e) s o j p m (legal-before (before l n) e early) soon end.2 in
+              unanswered-till l e end.0 s o j p m legal (legal-before l e legal) there
+              (subst (λ (v : List Noted). IsFirst v s o j p m) twice soon)
+              (subst (λ (v : List Noted). waits_for v o ≡ Some j) twice waits) i y w.1 r
         ]
-        | inr w ↦
-            let sooner = none-after-end (before l n) s k j e p m TimedOut early first ended.1 in
-            let soon : IsFirst (before (before l n) e) s k j p m =
-            record { bytes = first.bytes; timeout = first.timeout; stands = at-still (before l n) e j _ _ end.1 sooner first.stands } in
-            let waits = going-waits (before (before l n) e) s k j p m (legal-before (before l n) e early) soon end.2 in
-            unanswered-till l e end.0 s k j p m legal (legal-before l e legal) there
-            (subst (λ (v : List Noted). IsFirst v s k j p m) twice soon)
-            (subst (λ (v : List Noted). waits_for v k ≡ Some j) twice waits) i x w.1 r
-      ]
-    where
-      -- the end is a tick
-      not-heard : (e i : ℕ) (y : Noted) (p : Peer) (x : Content) (s : ℕ) → e ≡ i → at l e ≡ Some y
-          → end_here (begun (before (before l n) e) k) e (replies (before (before l n) e) k) (turn (before (before l n) e) k y) ≡ Some TimedOut → IsHeard (entries l) p i s x → ⊥
-      not-heard e i y p x s same there ends h =
-          let it = turn-expired (before (before l n) e) k y (expired-turn (begun (before (before l n) e) k) (turn (before (before l n) e) k y) e (replies (before (before l n) e) k) ends) in
-          let tick = stands-as l e y _ there it.entry in
-          let heard = entries-at l i _ h.stands in
-          hears-not s y.written.moment p h.bytes heard.0 y.note
-          (at-same l i _ _ heard.1 (subst (λ (e : ℕ). at l e ≡ Some (noted y.written.moment Passes y.note)) same tick))
+      where
+        -- the end is a tick
+        not-heard : (e i : ℕ) (y : Noted) (p : Peer) (z : Content) (s : ℕ) → e ≡ i → at l e ≡ Some y
+            → end_here (begun (before (before l n) e) o) e (replies (before (before l n) e) o) (turn (before (before l n) e) o y) ≡ Some TimedOut → IsHeard (entries l) p i s z → ⊥
+        not-heard e i y p z s same there ends h =
+            let it = turn-expired (before (before l n) e) o y (expired-turn (begun (before (before l n) e) o) (turn (before (before l n) e) o y) e (replies (before (before l n) e) o) ends) in
+            let tick = stands-as l e y _ there it.entry in
+            let heard = entries-at l i _ h.stands in
+            hears-not s y.written.moment p h.bytes heard.0 y.note
+            (at-same l i _ _ heard.1 (subst (λ (e : ℕ). at l e ≡ Some (noted y.written.moment Passes y.note)) same tick))
 
-  names : (b : Begun) → begun l k ≡ Some b → ((s i : ℕ) (p : Peer) (m : Content) → sent_last (before l n) k ≡ None → IsFirst l s k i p m → ⊥)
-      → reads (before l n) k ≡ Some k → HasTimedOut → IsNamed → (j < n) × Named b.request
-  names b opened never own how (inl some) =
-      let f = sent-last-first (before l n) k j c ask asked some in
-      let sent = sent-as l f.0 k j f.1 f.2 b legal opened (first-before l n f.0 k j f.1 f.2 f.3) in
-      let none = unanswered f.0 f.1 f.2 f.3 own how in
-      (below j _ f.3.stands, inl (f.2, sent.1, subst (λ (p : Peer). IsUnanswered (entries l) p j f.2 n) sent.0 none))
-  names b opened never own how (inr none) = (
-    subst (λ (j : ℕ). j < n) (sym none.1) ask-before,
-    inr (none.1, unsent-in l k b.request legal (λ s i p m f. never s i p m none.0 f)),
-  )
+    over-now : HasTimedOut → Over o (before l n)
+    over-now (inl end) = inl (ap is_none end.1)
+    over-now (inr due) = inr due.0
 
-  timed-out : (o : ℕ) → reads (before l n) k ≡ Some o → IsNamed → HasTimedOut → (j < n) × IsTimedOut (entries l) n t c k j
-  timed-out o e named how =
-      let x = opened-by l n c k o ask legal asked e in
-      let gone : Over k (before l n) = over how in
-      let it = names x.exchange x.opened (λ s i p m none f. never-sent l n t c k (Fault cause j) note legal here gone none s i p m f)
-      (subst (λ (o : ℕ). reads (before l n) k ≡ Some o) (sym (reads-own (before l n) k o e)) e) how named in (
-        it.0,
-        record {
-          moment = x.exchange.since;
-          request = x.exchange.request;
-          asked = x.asked;
-          names = it.1;
-          over = late x.exchange x.opened how;
-        },
-      )
-    where
-      over : ((e : ℕ) × Ends (before l n) k e TimedOut) ⊎ IsOverdue (before l n) t k → Over k (before l n)
-      over (inl end) = inl (ap is_none end.1)
-      over (inr due) = inr due.0
+    names : HasTimedOut → IsNamed → (j < n) × Named
+    names how (inl some) =
+        let f = last-first some in
+        let sent = sent-as l f.0 o j f.1 f.2 x.exchange legal x.opened (first-before l n f.0 o j f.1 f.2 f.3) in
+        let none = unanswered f.0 f.1 f.2 f.3 how in (
+          below j _ f.3.stands,
+          inl (
+            f.2,
+            sent-like (entries l) o x.exchange.request q j f.2 x.like sent.1,
+            subst (λ (p : Peer). IsUnanswered (entries l) p j f.2 n) (sent.0 ∙ x.like.peer) none,
+          ),
+        )
+    names how (inr none) =
+        let never : (s i : ℕ) (p : Peer) (m : Content) → IsFirst l s o i p m → ⊥ =
+        λ s i p m f. never-sent l n t c k o (Fault cause j) note legal here (over-now how) none.0 s i p m f in (
+          subst (λ (j : ℕ). j < n) (sym none.1) ask-before,
+          inr (none.1, unsent-in l k o q legal (x.sent never) never),
+        )
 
-      late : (b : Begun) → begun l k ≡ Some b → ((e : ℕ) × Ends (before l n) k e TimedOut) ⊎ IsOverdue (before l n) t k → IsOver b
-      late b opened (inl end) = expired b end.0 opened named end.1
-      late b opened (inr due) = inl (late-since l n k t b opened due.2)
+    timed-out : IsNamed → HasTimedOut → (j < n) × IsTimedOut (entries l) n t c k j
+    timed-out named how =
+        let it = names how named in (
+          it.0,
+          record { request = q; opening = o; since = x.exchange.since; shared = x.shared; names = it.1; over = late how },
+        )
+      where
+        late : HasTimedOut → IsOver
+        late (inl end) = expired end.0 named end.1
+        late (inr due) = inl (late-since l n o t x.exchange x.opened due.2)
 
   caused : (cause : Cause) → Caused (before l n) t k cause j → (j < n) × IsCausedBy (entries l) n t c k cause j
   caused C.Busy h = (subst (λ (j : ℕ). j < n) (sym h.0) ask-before, (h.0, turned-away h.1))
-  caused C.Timeout h =
-      let own : h.0 ≡ k = sym (reads-own (before l n) k h.0 h.1) in
-      timed-out h.0 h.1
-      (subst (λ (o : ℕ). (sent_last (before l n) o ≡ Some j) ⊎ ((sent_last (before l n) o ≡ None) × (j ≡ k))) own h.2)
-      (subst (λ (o : ℕ). ((e : ℕ) × Ends (before l n) o e TimedOut) ⊎ IsOverdue (before l n) t o) own h.3)
+  caused C.Timeout h = timed-out h.0 h.1 h.2 h.3
   caused C.Reset h = reset h.0 h.1 h.2
   caused C.NotUnderstood h = not-understood h.0 h.1 h.2
   caused C.BadHttp h = (subst (λ (j : ℕ). j < n) (sym h.1) ask-before, (h.1, refused C.BadHttp h.2))

@@ -1,103 +1,30 @@
 -- That there was no room for an ask.
-use Rattle.std.proofs.Common.{◌≡◌, ℕ, ◌+◌, ◌<◌, ◌≤◌, true, false, ◌&&◌, inl, inr, List, [], ◌∷◌, length, map, filter, Option, Some, None, refl, sym, ap, subst, ◌∙◌, arith}
-use Rattle.std.specs.Prelude.{is_none, nat_lt}
+use Rattle.std.proofs.Common.{◌≡◌, ℕ, ◌+◌, ◌<◌, ◌≤◌, true, false, ◌&&◌, inl, inr, List, [], ◌∷◌, length, map, filter, Option, Some, None, refl, subst, ◌∙◌, arith}
+use Rattle.std.specs.Prelude.{is_none, nat_lt, ⊤}
 use Rattle.std.specs.List.{Contains}
 use Rattle.std.proofs.lemmas.List.Sums.{length-filter}
-use Rattle.std.proofs.lemmas.Bool.Decides.{leb_tells}
 use Rattle.std.proofs.lemmas.Bool.{and_cases, and_parts, false≢true, ltb-true, ltb-false}
 use Rattle.std.proofs.lemmas.List.{length-map}
-use Rattle.limits.specs.declared.TheConstants.{MAX_EXCHANGES, MAX_MESSAGE_IDS, MAX_TRANSMIT_WAIT, MAX_WAITING, MESSAGE_ID_LIFETIME}
+use Rattle.limits.specs.declared.TheConstants.{MAX_EXCHANGES, MAX_MESSAGE_IDS, MAX_WAITING, MESSAGE_ID_LIFETIME}
 use Rattle.uri_map.specs.declared.peer.Peer.{Peer}
-use Rattle.ask_model.specs.declared.cause.Cause.{Cause}
-use Rattle.ask_model.specs.declared.cause.Cause.TheVariants as C
 use Rattle.uri_map.specs.Peers.{same_peer}
-use Rattle.ask_model.specs.Requests.{CoapRequest, Sense, Requests, Refuses}
+use Rattle.ask_model.specs.Requests.{CoapRequest, Sense, Requests}
 use Rattle.ask_model.specs.Views.{Ask}
 use Rattle.uri_map.proofs.CallerLemmas.{same_peer-same}
-use Rattle.history_claims.proofs.Entries.{entries-at, asked-entry, grows}
 use Rattle.history_claims.proofs.Sending.{first-before, listed-sent}
-use Rattle.history_claims.proofs.Resting.{answers-ask}
-use Rattle.history_claims.proofs.Unsent.{Over, over-still}
-use Rattle.history_claims.proofs.InTime.{going-in-time}
+use Rattle.history_claims.proofs.Pending.{pending-is}
+use Rattle.history_claims.proofs.Unshared.{unshared}
 use Rattle.history_claims.proofs.Counting.{apart-push, apart-filter, apart-filtered}
-use Rattle.journal_book.specs.Entries.{Sent, Grounds, Live, Kept, Fault, Deed, Sends, Asks, Carries}
-use Rattle.history_laws.specs.Readings.{Noted, Note, Plain, Begins, First, Bygone, entries, at, before, noted}
+use Rattle.journal_book.specs.Entries.{Sent, Deed, Sends, Asks, Carries, Written}
+use Rattle.history_laws.specs.Readings.{Noted, Note, Plain, First, Bygone, entries, at, before, noted}
 use Rattle.history_laws.specs.Connections.{is_sealed}
 use Rattle.history_laws.specs.Transmissions.{FirstSending, firsts_by, firsts, is_recent, mids_used}
 use Rattle.history_laws.specs.Exchanges.{Begun, begun, opens_by, opened_by, openings, is_going, open_exchanges, goes_to, is_waiting, waiting as waiting_at, waits_for, submitted}
 use Rattle.history_laws.specs.Hearing.{has_room}
-use Rattle.history_laws.specs.Justified.{IsRefused, Caused, HasGrounds, AskNote, Follows, Legal}
-use Rattle.history_laws.proofs.CallerLemmas.{all-listed, all-of, asked-for, at-before, at-same, before-twice, begun-before, begun-below, contains-mapped, filtered-from, follows-at, is-some, IsListed, length-before, listed-begun, listed-below, queue-rises, reads-own, RisesBy, waiting-all}
-use Rattle.history_claims.specs.Causes.{AreApart, AreMany, IsPending, IsPendingAt, IsRecent, IsCrowded, exchanges, waiting, ids}
-
--- An ask that opened an exchange is answered only when that is over.
-plain-begins : (s t : ℕ) (c d : ℕ) (a b : Ask) (q : CoapRequest) → noted s (Asks c a) Plain ≡ noted t (Asks d b) (Begins q) → ⊥
-plain-begins s t c d a b q e = go (ap (λ (x : Noted). x.note) e)
-  where
-    go : Plain ≡ Begins q → ⊥
-    go f = cc
-
-senses : (s t : ℕ) (c d : ℕ) (a b : Ask) (u v : Note) → noted s (Asks c a) u ≡ noted t (Asks d b) v → a.sense ≡ b.sense
-senses s t c d a b u v e = go (ap (λ (x : Noted). x.written.deed) e)
-  where
-    asks-same : Asks c a ≡ Asks d b → a ≡ b
-    asks-same f = cc
-
-    go : Asks c a ≡ Asks d b → a.sense ≡ b.sense
-    go f = ap (λ (a : Ask). a.sense) (asks-same f)
-
-asks-something : (q : CoapRequest) (cause : Cause) (status : ℕ) → Refuses cause status ≡ Requests q → ⊥
-asks-something q cause status e = cc
-
-module _ (l : List Noted) (n o s d : ℕ) (b : Ask) (q : CoapRequest) (stands : at l o ≡ Some (noted s (Asks d b) (Begins q))) (sense : b.sense ≡ Requests q) where
-  not-refused : (cause : Cause) → IsRefused (before l n) o cause → ⊥
-  not-refused cause h =
-      let same = at-same l o _ _ (at-before l n o _ h.asked.stands) stands in
-      asks-something q cause h.status (sym h.sense ∙ (senses h.asked.moment s h.conn d h.ask b h.asked.note (Begins q) same ∙ sense))
-
-  over-cause : (t j : ℕ) (cause : Cause) → Caused (before l n) t o cause j → Over o (before l n)
-  over-cause t j C.Busy h = absurd (plain-begins h.1.moment s h.1.conn d h.1.ask b q (at-same l o _ _ (at-before l n o _ h.1.stands) stands))
-  over-cause t j C.Timeout h =
-      subst (λ (o : ℕ). Over o (before l n)) (sym (reads-own (before l n) o h.0 h.1))
-      (elim (h.3) [ inl end ↦ inl (ap is_none end.1) | inr due ↦ inr due.0 ])
-  over-cause t j C.Reset h = subst (λ (o : ℕ). Over o (before l n)) (sym (reads-own (before l n) o h.0 h.1)) (inl (ap is_none h.2))
-  over-cause t j C.NotUnderstood h = subst (λ (o : ℕ). Over o (before l n)) (sym (reads-own (before l n) o h.0 h.1)) (inl (ap is_none h.2))
-  over-cause t j C.BadHttp h = absurd (not-refused C.BadHttp h.2)
-  over-cause t j C.NoMap h = absurd (not-refused C.NoMap h.2)
-  over-cause t j C.Method h = absurd (not-refused C.Method h.2)
-  over-cause t j C.Media h = absurd (not-refused C.Media h.2)
-
-  over-grounds : (t : ℕ) (g : Grounds) → HasGrounds (before l n) t o g → Over o (before l n)
-  over-grounds t (Live js) h = subst (λ (o : ℕ). Over o (before l n)) (sym (reads-own (before l n) o h.0 h.4)) (inl (ap is_none h.5))
-  over-grounds t (Kept js) h = absurd h
-  over-grounds t (Fault cause j) h = over-cause t j cause h
-
-not-going : (l : List Noted) (o : ℕ) → is_sealed l ≡ false → is_going l o ≡ true → Over o l → ⊥
-not-going l o unsealed going (inl h) = false≢true (sym h ∙ going)
-not-going l o unsealed going (inr h) = false≢true (sym unsealed ∙ h)
-
--- an exchange that goes on is that of an ask which wasn't answered
-pending-is : (l : List Noted) (k o : ℕ) (x : Noted) → Legal l → at l k ≡ Some x → is_sealed (before l k) ≡ false → is_going (before l k) o ≡ true
-    → (b : Begun) → begun (before l k) o ≡ Some b → IsPending (entries l) k o b.request
-pending-is l k o x legal here unsealed going b opened =
-    let ask = asked-for l o b legal (begun-before l k o b opened) in
-    record {
-      before = subst (λ (m : ℕ). o < m) (length-before l k x here) (begun-below (before l k) o b opened);
-      conn = ask.conn;
-      moment = b.since;
-      asked = asked-entry l o ask.conn b.since ask.ask (Begins b.request) (Requests b.request) ask.stands ask.sense;
-      unanswered = λ n t c g lt e.
-          let it = answers-ask l n t c o g legal e in
-          let over = over-grounds l n o b.since ask.conn ask.ask b.request ask.stands ask.sense t g it.0.grounds in
-          let twice = before-twice l k n x here lt in
-          not-going (before l k) o unsealed going (grows (Over o) (over-still o) (before l k) n (subst (Over o) (sym twice) over));
-      in_time = λ n t after early e.
-          let there = entries-at l n _ e in
-          elim (leb_tells (b.since + MAX_TRANSMIT_WAIT) t) [
-            | inl w ↦ absurd (going-in-time l k o n t x there.0 b legal here going opened after early there.1 w.1)
-            | inr w ↦ let young = w.1 in omega (arith, young)
-          ];
-    }
+use Rattle.history_laws.specs.Justified.{AskNote, Follows, Legal}
+use Rattle.history_laws.proofs.CallerLemmas.{all-listed, all-of, at-before, begun-below, contains-mapped, filtered-from, follows-at, is-some, IsListed, length-before, listed-begun, listed-below, queue-rises, RisesBy, waiting-all}
+use Rattle.history_claims.specs.Headline.{IsPending}
+use Rattle.history_claims.specs.Causes.{AreApart, AreMany, AreUnshared, AreManyPending, IsRecent, IsCrowded, exchanges, waiting, ids}
 
 openings-below : (l : List Noted) (o : ℕ) → Contains (openings l) o → o < length l
 openings-below l o h = let b = is-some (begun l o) (listed-begun l o h) in begun-below l o b.0 b.1
@@ -148,30 +75,55 @@ goes-is p None e = absurd (false≢true e)
 goes-is p (Some b) e = (b, refl, same_peer-same b.request.peer p e)
 
 module _ (l : List Noted) (k : ℕ) (x : Noted) (legal : Legal l) (here : at l k ≡ Some x) (unsealed : is_sealed (before l k) ≡ false) where
-  many-pending : AreMany (length (open_exchanges (before l k))) (λ (o : ℕ). (q : CoapRequest) × IsPending (entries l) k o q)
+  -- one that is among those that are open
+  record Open (o : ℕ) : Type 0 where
+    exchange : Begun
+    opened : begun (before l k) o ≡ Some exchange
+    going : is_going (before l k) o ≡ true
+
+  open-listed : (o : ℕ) → Contains (open_exchanges (before l k)) o → Open o
+  open-listed o h =
+      let both = filtered-from (is_going (before l k)) (openings (before l k)) o h in
+      let b = is-some (begun (before l k) o) (listed-begun (before l k) o both.0) in
+      record { exchange = b.0; opened = b.1; going = both.1 }
+
+  open-waiting : (p : Peer) (o : ℕ) → Contains (waiting_at (before l k) p) o → (it : Open o) × (it.exchange.request.peer ≡ p)
+  open-waiting p o h =
+      let waits = all-of (λ (q : ℕ). is_waiting (before l k) p q ≡ true) (waiting_at (before l k) p) o (waiting-all (before l k) p) h in
+      let parts = and_parts (goes_to p (begun (before l k) o)) (is_going (before l k) o && is_none (waits_for (before l k) o)) waits in
+      let b = goes-is p (begun (before l k) o) parts.0 in
+      let going = and_parts (is_going (before l k) o) (is_none (waits_for (before l k) o)) parts.1 in
+      (record { exchange = b.0; opened = b.1; going = going.0 }, b.2)
+
+  pending-open : (o : ℕ) (it : Open o) → IsPending (entries l) k o it.exchange.request
+  pending-open o it = (pending-is l k o x legal here unsealed it.going it.exchange it.opened).0
+
+  unshared-open : (a b : ℕ) → Open a → Open b → a < b → AreUnshared (entries l) a b
+  unshared-open a b first second lt =
+      unshared l k x legal here unsealed a b first.exchange second.exchange first.opened second.opened first.going lt
+
+  many-pending : AreManyPending (entries l) k (length (open_exchanges (before l k))) (λ (q : CoapRequest). ⊤)
   many-pending =
       record {
-        ones = open_exchanges (before l k);
-        many = omega arith;
-        apart = apart-filtered (is_going (before l k)) (openings (before l k)) (openings-apart (before l k));
-        each = λ o h.
-            let both = filtered-from (is_going (before l k)) (openings (before l k)) o h in
-            let b = is-some (begun (before l k) o) (listed-begun (before l k) o both.0) in
-            (b.0.request, pending-is l k o x legal here unsealed both.1 b.0 b.1);
+        asks = record {
+          ones = open_exchanges (before l k);
+          many = omega arith;
+          apart = apart-filtered (is_going (before l k)) (openings (before l k)) (openings-apart (before l k));
+          each = λ o h. let it = open-listed o h in (it.exchange.request, tt, pending-open o it);
+        };
+        unshared = λ a b first second lt. unshared-open a b (open-listed a first) (open-listed b second) lt;
       }
 
-  many-waiting : (p : Peer) → AreMany (length (waiting_at (before l k) p)) (IsPendingAt (entries l) k p)
+  many-waiting : (p : Peer) → AreManyPending (entries l) k (length (waiting_at (before l k) p)) (λ (q : CoapRequest). q.peer ≡ p)
   many-waiting p =
       record {
-        ones = waiting_at (before l k) p;
-        many = omega arith;
-        apart = rises-apart (submitted (before l k)) (waiting_at (before l k) p) (queue-rises (before l k) p);
-        each = λ o h.
-            let waits = all-of (λ (q : ℕ). is_waiting (before l k) p q ≡ true) (waiting_at (before l k) p) o (waiting-all (before l k) p) h in
-            let parts = and_parts (goes_to p (begun (before l k) o)) (is_going (before l k) o && is_none (waits_for (before l k) o)) waits in
-            let b = goes-is p (begun (before l k) o) parts.0 in
-            let going = and_parts (is_going (before l k) o) (is_none (waits_for (before l k) o)) parts.1 in
-            (b.0.request, b.2, pending-is l k o x legal here unsealed going.0 b.0 b.1);
+        asks = record {
+          ones = waiting_at (before l k) p;
+          many = omega arith;
+          apart = rises-apart (submitted (before l k)) (waiting_at (before l k) p) (queue-rises (before l k) p);
+          each = λ o h. let it = open-waiting p o h in (it.0.exchange.request, it.1, pending-open o it.0);
+        };
+        unshared = λ a b first second lt. unshared-open a b (open-waiting p a first).0 (open-waiting p b second).0 lt;
       }
 
   many-recent : (t : ℕ) (p : Peer) → AreMany (mids_used (before l k) t p) (IsRecent (entries l) k t p)
@@ -197,11 +149,20 @@ module _ (l : List Noted) (k : ℕ) (x : Noted) (legal : Legal l) (here : at l k
 least : (n m : ℕ) → nat_lt n m ≡ false → m ≤ n
 least n m e = let h = ltb-false n m e in omega (arith, h)
 
-fewer : (a b : ℕ) (IsOne : ℕ → Type 0) → a ≤ b → AreMany b IsOne → AreMany a IsOne
-fewer a b IsOne le h = let many = h.many in record { ones = h.ones; many = omega (arith, le, many); apart = h.apart; each = h.each }
+fewer-pending : (h : List Written) (k a b : ℕ) (IsSuch : CoapRequest → Type 0) → a ≤ b → AreManyPending h k b IsSuch → AreManyPending h k a IsSuch
+fewer-pending h k a b IsSuch le m =
+    let asks = m.asks in
+    let many = asks.many in
+    record {
+      asks = record { ones = asks.ones; many = omega (arith, le, many); apart = asks.apart; each = asks.each };
+      unshared = m.unshared;
+    }
 
 note-plain : (l : List Noted) (t : ℕ) (s : Sense) (q : CoapRequest) → s ≡ Requests q → AskNote l t s Plain → has_room l t q ≡ false
-note-plain l t s q is h = subst (λ (s : Sense). AskNote l t s Plain) is h
+note-plain l t s q is h = told (subst (λ (s : Sense). AskNote l t s Plain) is h)
+  where
+    told : AskNote l t (Requests q) Plain → has_room l t q ≡ false
+    told none = none.1
 
 pub crowded-at : (l : List Noted) (k s c : ℕ) (a : Ask) (q : CoapRequest) → Legal l → at l k ≡ Some (noted s (Asks c a) Plain) → a.sense ≡ Requests q
     → IsCrowded (entries l) k s q.peer
@@ -212,9 +173,9 @@ crowded-at l k s c a q legal here sense =
     let x : Noted = noted s (Asks c a) Plain in
     let unsealed = follows.0.0 in
     elim (and_cases (nat_lt (length (open_exchanges b)) MAX_EXCHANGES) _ none) [
-      | inl w ↦ exchanges (fewer _ _ _ (least (length (open_exchanges b)) MAX_EXCHANGES w) (many-pending l k x legal here unsealed))
+      | inl w ↦ exchanges (fewer-pending _ _ _ _ _ (least (length (open_exchanges b)) MAX_EXCHANGES w) (many-pending l k x legal here unsealed))
       | inr w ↦ elim (and_cases (nat_lt (length (waiting_at b q.peer)) MAX_WAITING) _ w) [
-        | inl v ↦ waiting (fewer _ _ _ (least (length (waiting_at b q.peer)) MAX_WAITING v) (many-waiting l k x legal here unsealed q.peer))
+        | inl v ↦ waiting (fewer-pending _ _ _ _ _ (least (length (waiting_at b q.peer)) MAX_WAITING v) (many-waiting l k x legal here unsealed q.peer))
         | inr v ↦
             ids (mids_used b s q.peer) (length (waiting_at b q.peer)) (least (mids_used b s q.peer + length (waiting_at b q.peer)) MAX_MESSAGE_IDS v)
             (many-recent l k x legal here unsealed s q.peer) (many-waiting l k x legal here unsealed q.peer)

@@ -7,15 +7,17 @@ use Rattle.limits.specs.declared.TheConstants.{MAX_RETRANSMIT}
 use Rattle.coap_codec.specs.Spelling.{Content, Spells}
 use Rattle.coap_codec.proofs.Unique.{spells_one}
 use Rattle.uri_map.specs.declared.peer.Peer.{Peer}
-use Rattle.ask_model.specs.Requests.{CoapRequest}
+use Rattle.ask_model.specs.Requests.{CoapRequest, Requests}
+use Rattle.ask_model.specs.Views.{Ask}
 use Rattle.ask_model.specs.declared.cause.Cause.TheVariants as C
-use Rattle.journal_book.specs.Entries.{Deed, Sends, Hears, Written}
+use Rattle.journal_book.specs.Entries.{Deed, Opens, Asks, Sends, Hears, Written}
 use Rattle.history_laws.specs.Readings.{entries}
+use Rattle.history_laws.specs.Worked.{ask_for}
 use Rattle.history_laws.specs.WorkedMessages as M
 use Rattle.history_laws.specs.WorkedEndings as E
 use Rattle.history_laws.specs.WorkedSpoiled as S
 use Rattle.history_laws.proofs.CallerLemmas.{all_answered-holds, content-spelled, eqb-same, given_up-holds, put-spelled, range-passes, rejected-holds, some-is, timed_out-holds}
-use Rattle.history_claims.specs.Headline.{IsEntry, IsHeardFor, AreHeardFor}
+use Rattle.history_claims.specs.Headline.{IsEntry, IsAsked, IsPending, IsShared, IsHeardFor, AreHeardFor}
 use Rattle.history_claims.specs.Causes.{AreCopies, IsGivenUp}
 use Rattle.history_claims.specs.Worked.{Answered, TimedOut, Rejected, GivenUp, Crossed, Foreseen, Early}
 use Rattle.history_claims.proofs.Resting.{rests-in}
@@ -74,6 +76,33 @@ places g h ns len j t d size all e is =
 abbrev pub entry_of : ℕ → Deed → Written
 entry_of t d = record { moment = t; deed = d }
 
+-- The first ask shares with no other.
+opens-asks : (t s c d : ℕ) (a : Ask) → Some (entry_of t (Opens c)) ≡ Some (entry_of s (Asks d a)) → ⊥
+opens-asks t s c d a e = go (ap (λ (x : Written). x.deed) (some-is _ _ e))
+  where
+    go : Opens c ≡ Asks d a → ⊥
+    go f = cc
+
+pub sense-same : (t s c d : ℕ) (a b : Ask) → Some (entry_of t (Asks c a)) ≡ Some (entry_of s (Asks d b)) → a.sense ≡ b.sense
+sense-same t s c d a b e = go (ap (λ (x : Written). x.deed) (some-is _ _ e))
+  where
+    asks-same : Asks c a ≡ Asks d b → a ≡ b
+    asks-same f = cc
+
+    go : Asks c a ≡ Asks d b → a.sense ≡ b.sense
+    go f = ap (λ (a : Ask). a.sense) (asks-same f)
+
+pub first-alone : (h : List Written) (c : ℕ) (q : CoapRequest) (o since t d : ℕ) → IsEntry h 0 t (Opens d) → (s : IsShared h c 1 q o since)
+    → (o ≡ 1) × (since ≡ s.moment)
+first-alone h c q o since t d here s = elim (s.shares) [ inl own ↦ own | inr j ↦ absurd (none j.0.request j.0.pending) ]
+  where
+    none : (r : CoapRequest) → IsPending h 1 o r → ⊥
+    none r p =
+        let below = p.before in
+        let first : o ≡ 0 = omega (arith, below) in
+        let asked = subst (λ (o : ℕ). IsAsked h o p.conn p.moment (Requests r)) first p.asked in
+        opens-asks t p.moment d p.conn _ (sym here ∙ asked.stands)
+
 -- the response to the GET came under the GET's token
 pub texts : (t s : ℕ) (p r : Peer) (b c : List ℕ) (w v : Option ℕ)
     → Some (entry_of t (Sends p b w)) ≡ Some (entry_of s (Sends r c v)) → b ≡ c
@@ -120,8 +149,22 @@ crossed-heard q m h =
         let numbers : 0 ≡ 1 = ap fourth tokens in
         absurd (omega (arith, numbers))
 
+-- what asks for the PUT shares with no other
+put-alone : (q : CoapRequest) (o since : ℕ) → IsShared (entries S.crossed) 1 4 q o since → o ≡ 4
+put-alone q o since s = elim (s.shares) [ inl own ↦ own.0 | inr j ↦ absurd (no-get (sense-same 500 s.moment 1 1 (ask_for M.put_light) _ s.asked.stands) j.0.same.0) ]
+  where
+    asked-same : (q r : CoapRequest) → Requests q ≡ Requests r → q ≡ r
+    asked-same q r e = cc
+
+    no-get : Requests M.put_light ≡ Requests q → q.method ≡ 1 → ⊥
+    no-get e get =
+        let three : 3 ≡ q.method = ap (λ (q : CoapRequest). q.method) (asked-same M.put_light q e) in
+        absurd (omega (arith, three, get))
+
 pub crossed : Crossed
-crossed h = go h.messages h.heard
+crossed h =
+    go h.messages
+    (subst (λ (k : ℕ). AreHeardFor (entries S.crossed) k h.request (9 ∷ []) h.messages) (put-alone h.request h.opening h.since h.shared) h.heard)
   where
     go : (ms : List Content) → AreHeardFor (entries S.crossed) 4 h.request (9 ∷ []) ms → ⊥
     go [] heard = absurd heard
@@ -177,7 +220,7 @@ too-early last w s a b due by =
     subst (λ (w : ℕ). 30000 + w * 2 ^ MAX_RETRANSMIT ≤ s) (sym b) (subst (λ (t : ℕ). t + w * 2 ^ MAX_RETRANSMIT ≤ s) (sym a) due) in
     absurd (omega (arith, all, by))
 
-given-up-early : (p : Peer) (m : Content) → IsGivenUp (entries S.timed_out_early) 61999 p 2 m → ⊥
+given-up-early : (p : Peer) (m : Content) → IsGivenUp (entries S.timed_out_early) 1 61999 p 2 m → ⊥
 given-up-early p m g = go g.copies g.four g.last g.again g.due
   where
     timeout : 2000 ≡ g.first.timeout
@@ -199,7 +242,8 @@ pub early : Early
 early h =
     elim (h.over) [
       | inl w ↦
-          let asked : 0 ≡ h.moment = moment-same 0 h.moment _ _ h.asked.stands in
-          absurd (omega (arith, w, asked))
+          let asked : 0 ≡ h.shared.moment = moment-same 0 h.shared.moment _ _ h.shared.asked.stands in
+          let alone = (first-alone (entries S.timed_out_early) 0 h.request h.opening h.since 0 0 refl h.shared).1 in
+          absurd (omega (arith, w, asked, alone))
       | inr w ↦ given-up-early h.request.peer w.0 w.2
     ]

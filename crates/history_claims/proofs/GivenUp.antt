@@ -177,10 +177,10 @@ unsettled-till l e x t o i p m y legal here f way waits =
         silence (before l e) t o i p m y (legal-before l e legal) f way j s h.bytes there.0 n more (at-still l e j _ _ here less there.1) h.spelled settles
 
 -- the tick that gave it up
-pub given-up-at : (l : List Noted) (t o i : ℕ) (p : Peer) (m : Content) (e s u : ℕ) (note : Note) (y : Transmission) → Legal l
-    → IsFirst l t o i p m → i < e → at l e ≡ Some (noted s Passes note) → transmission (before l e) i ≡ Some y → is_given_up s y ≡ true
-    → waits_for (before l e) o ≡ Some i → s ≤ u → IsGivenUp (entries l) u p i m
-given-up-at l t o i p m e s u note y legal f lt tick way over waits by =
+pub given-up-at : (l : List Noted) (t o i : ℕ) (p : Peer) (m : Content) (k e s u : ℕ) (note : Note) (y : Transmission) → Legal l
+    → IsFirst l t o i p m → k < e → i < e → at l e ≡ Some (noted s Passes note) → transmission (before l e) i ≡ Some y → is_given_up s y ≡ true
+    → waits_for (before l e) o ≡ Some i → s ≤ u → IsGivenUp (entries l) k u p i m
+given-up-at l t o i p m k e s u note y legal f later lt tick way over waits by =
     let may : MayBeFirst (before l i) t o p f.bytes m f.timeout = (follows-at l i _ legal f.stands).1.1 in
     let stands = subst (λ (w : Option ℕ). at l i ≡ Some (noted t (Sends p f.bytes w) (First o m))) may.first_wait f.stands in
     let early = at-still l e i _ _ tick lt stands in
@@ -199,6 +199,7 @@ given-up-at l t o i p m e s u note y legal f lt tick way over waits by =
           (λ x l h. copies-keep x l p f.bytes may.wait i t it.copies y.last h) l e it.again;
       tick = e;
       ticked = s;
+      after = later;
       passes = at-entries l e _ tick;
       due = subst (λ (w : ℕ). y.last + w * 2 ^ MAX_RETRANSMIT ≤ s) it.timeout (subst (λ (c : ℕ). y.last + y.timeout * 2 ^ c ≤ s) all late);
       by = by;

@@ -4,19 +4,19 @@ use Rattle.std.specs.Prelude.{is_none}
 use Rattle.std.specs.Option.{option_map_or}
 use Rattle.std.specs.List.{slice_get}
 use Rattle.std.proofs.lemmas.Option.{slice_get_within}
-use Rattle.std.proofs.lemmas.Bool.Decides.{eqb_tells}
+use Rattle.std.proofs.lemmas.Bool.Decides.{eqb_tells, leb_tells}
 use Rattle.std.proofs.lemmas.Bool.{false≢true}
 use Rattle.coap_codec.specs.Spelling.{Content}
 use Rattle.uri_map.specs.declared.peer.Peer.{Peer}
 use Rattle.ask_model.specs.Views.{Ask}
 use Rattle.journal_book.specs.Entries.{Deed, Opens, Asks, Shuts}
-use Rattle.history_laws.specs.Readings.{Noted, Note, at, before}
+use Rattle.history_laws.specs.Readings.{Noted, Note, at, before, noted}
 use Rattle.history_laws.specs.Connections.{has_opened, open_by, is_open, asks_of, answers_of, opened_by, opened}
 use Rattle.history_laws.specs.Progress.{Ending}
 use Rattle.history_laws.specs.Exchanges.{Begun, begun, is_late, Turn, Nothing, Sent, Replied, Rejected, Expired, expires, turn, waits_for, replies, end_here, end_of, is_going}
 use Rattle.history_laws.specs.Justified.{IsAsk, Ends, reads_in, reads, reads_open, pending, is_in_hand, Follows, Legal, AtRest, MayCome}
 use Rattle.history_laws.specs.Laws.{IsFirst}
-use Rattle.history_laws.proofs.CallerLemmas.{ask-listed, asks-keep, asks-once, at-still, before-twice, begun-below, ends-first, few-waiting, follows-at, IsFirst-below, legal-before, length-before, more-answers, next-above, none-some, open-below, range-passes, sent-for, turn-replied, waits-first}
+use Rattle.history_laws.proofs.CallerLemmas.{ask-listed, asks-keep, asks-once, at-same, at-still, before-twice, begun-below, ends-first, few-waiting, follows-at, IsFirst-below, legal-before, length-before, more-answers, next-above, none-some, open-below, range-passes, sent-for, turn-replied, waits-first}
 use Rattle.history_claims.proofs.Entries.{grows}
 use Rattle.history_claims.proofs.Ending.{turn-rejected, turn-expired}
 use Rattle.history_claims.proofs.Unsent.{ended-at}
@@ -84,8 +84,8 @@ pending-back l i c k a legal next ask =
     subst (λ (q : ℕ). slice_get (asks_of (before l i) c) q ≡ Some k) place listed.1
 
 -- what an open connection waits for goes on while an input may come
-in-hand : (l : List Noted) (c k : ℕ) → AtRest l → c < opened l → is_open l c ≡ true → pending l c ≡ Some k → reads l k ≡ Some k → is_going l k ≡ true
-in-hand l c k rest below now next own =
+in-hand : (l : List Noted) (c k o : ℕ) → AtRest l → c < opened l → is_open l c ≡ true → pending l c ≡ Some k → reads l k ≡ Some o → is_going l o ≡ true
+in-hand l c k o rest below now next own =
     let hand : is_in_hand l c ≡ true = range-passes (is_in_hand l) 0 (opened l) c rest.waits (omega arith) (omega (arith, below)) in
     let here : (not true || option_map_or (λ (k : ℕ). reads_open l (reads l k)) (pending l c) true) ≡ true =
     subst (λ (b : Bool). (not b || option_map_or (λ (k : ℕ). reads_open l (reads l k)) (pending l c) true) ≡ true) now hand in
@@ -112,7 +112,7 @@ expires-begun l k t None legal is over = late-begun l k t (begun l k) refl over
 expires-begun l k t (Some i) legal is over = waits-after l k i legal is
 
 -- and whatever ends it comes after that
-ends-after : (l : List Noted) (k e : ℕ) (how : Ending) → Legal l → Ends l k e how → k < e
+pub ends-after : (l : List Noted) (k e : ℕ) (how : Ending) → Legal l → Ends l k e how → k < e
 ends-after l k e how legal ended =
     let end = ends-first l k e how ended in
     subst (λ (n : ℕ). k < n) (length-before l e end.0 end.1) (go end.0 (turn (before l e) k end.0) refl end.3)
@@ -125,8 +125,38 @@ ends-after l k e how legal ended =
     go x Nothing is h = absurd (none-some how h)
     go x (Sent i) is h = absurd (none-some how h)
 
--- the ask of an answer, and where its exchange ended
-module _ (l : List Noted) (c k e : ℕ) (how : Ending) (a : Ask) (legal : Legal l) (ask : IsAsk l k c a) (own : reads l k ≡ Some k) (ended : Ends l k e how) where
+-- What goes on when a connection asks ends after that.
+asks-end-none : (l : List Noted) (o n t c : ℕ) (a : Ask) (note : Note) (how : Ending)
+    → end_here (begun l o) n (replies l o) (turn l o (noted t (Asks c a) note)) ≡ Some how → ⊥
+asks-end-none l o n t c a note how h = none-some how h
+
+pub not-at-ask : (l : List Noted) (o e t c : ℕ) (a : Ask) (note : Note) (how : Ending) → Ends l o e how → at l e ≡ Some (noted t (Asks c a) note) → ⊥
+not-at-ask l o e t c a note how ended here =
+    let end = ends-first l o e how ended in
+    asks-end-none (before l e) o e t c a note how
+    (subst (λ (x : Noted). end_here (begun (before l e) o) e (replies (before l e) o) (turn (before l e) o x) ≡ Some how)
+    (at-same l e end.0 (noted t (Asks c a) note) end.1 here) end.3)
+
+pub ends-later : (l : List Noted) (k c o e : ℕ) (a : Ask) (how : Ending) → IsAsk l k c a → is_going (before l k) o ≡ true → Ends l o e how → k < e
+ends-later l k c o e a how ask going ended =
+    elim (leb_tells k e) [
+      | inl w ↦ elim (eqb_tells k e) [
+        | inl u ↦
+            absurd (not-at-ask l o e ask.moment c a ask.note how ended
+            (subst (λ (k : ℕ). at l k ≡ Some (noted ask.moment (Asks c a) ask.note)) u.1 ask.stands))
+        | inr u ↦ let le = w.1 in let not = u.1 in omega (arith, le, not)
+      ]
+      | inr w ↦
+          let end = ends-first l o e how ended in
+          let twice = before-twice l k e _ ask.stands w.1 in
+          let over : is_none (end_of (before l k) o) ≡ false =
+          ended-at (before l k) o e end.0 how (at-still l k e _ _ ask.stands w.1 end.1)
+          (subst (λ (v : List Noted). end_here (begun v o) e (replies v o) (turn v o end.0) ≡ Some how) (sym twice) end.3) in
+          absurd (false≢true (sym over ∙ going))
+    ]
+
+-- the ask of an answer, and where the exchange that it reads ended
+module _ (l : List Noted) (c k o e : ℕ) (how : Ending) (a : Ask) (legal : Legal l) (ask : IsAsk l k c a) (own : reads l k ≡ Some o) (ended : Ends l o e how) (after : k < e) where
   asked-open : is_open (before l k) c ≡ true
   asked-open = by (follows-at l k _ legal ask.stands)
     where
@@ -135,21 +165,20 @@ module _ (l : List Noted) (c k e : ℕ) (how : Ending) (a : Ask) (legal : Legal 
 
   pub no-input : is_open l c ≡ true → pending l c ≡ Some k → (i : ℕ) (x : Noted) → e < i → at l i ≡ Some x → MayCome (before l i) → ⊥
   no-input now next i x late here come =
-      let after = ends-after l k e how legal ended in
       let less : k < i = omega (arith, after, late) in
       let early = legal-before l i legal in
       let stands : IsAsk (before l i) k c a = record { moment = ask.moment; note = ask.note; stands = at-still l i k _ _ here less ask.stands } in
-      let end = ends-first l k e how ended in
+      let end = ends-first l o e how ended in
       let twice = before-twice l i e x here late in
-      let over : is_none (end_of (before l i) k) ≡ false =
-      ended-at (before l i) k e end.0 how (at-still l i e _ _ here late end.1)
-      (subst (λ (v : List Noted). end_here (begun v k) e (replies v k) (turn v k end.0) ≡ Some how) (sym twice) end.3) in
+      let over : is_none (end_of (before l i) o) ≡ false =
+      ended-at (before l i) o e end.0 how (at-still l i e _ _ here late end.1)
+      (subst (λ (v : List Noted). end_here (begun v o) e (replies v o) (turn v o end.0) ≡ Some how) (sym twice) end.3) in
       let below_ask : c < opened (before l k) = open-below (before l k) (legal-before l k legal) c asked-open in
       let more = opened-before (before l i) k (legal-before l i legal) in
       let sooner = before-twice l i k x here less in
       let below : c < opened (before l i) =
       omega (arith, subst (λ (v : List Noted). c < opened v) (sym sooner) below_ask, more) in
-      let reading : reads (before l i) k ≡ Some k =
-      subst (λ (o : Option Noted). reads_in k o ≡ Some k) (ask.stands ∙ sym stands.stands) own in
-      let going = in-hand (before l i) c k come.1 below (open-back l i c legal below now) (pending-back l i c k a legal next stands) reading in
+      let reading : reads (before l i) k ≡ Some o =
+      subst (λ (x : Option Noted). reads_in k x ≡ Some o) (ask.stands ∙ sym stands.stands) own in
+      let going = in-hand (before l i) c k o come.1 below (open-back l i c legal below now) (pending-back l i c k a legal next stands) reading in
       false≢true (sym over ∙ going)

@@ -48,25 +48,23 @@ ends-at-tick : (l : List Noted) (k e s : ℕ) (note : Note) (how : Ending) → e
 ends-at-tick l k e s note how h = passes-end (begun l k) (expires l k s (waits_for l k)) e (replies l k) how h
 
 -- The answer to an ask whose exchange ended otherwise comes before a tick that finds that late.
-module _ (l : List Noted) (n t c k : ℕ) (g : Grounds) (note : Note) (legal : Legal l) (here : at l n ≡ Some (noted t (Answers c k g) note)) (a : Ask)
-    (asked : IsAsk (before l n) k c a) (own : reads (before l n) k ≡ Some k) (b : Begun) (opened : begun l k ≡ Some b) where
+module _ (l : List Noted) (n t c k o : ℕ) (g : Grounds) (note : Note) (legal : Legal l) (here : at l n ≡ Some (noted t (Answers c k g) note)) (a : Ask)
+    (asked : IsAsk (before l n) k c a) (own : reads (before l n) k ≡ Some o) (not_later : o ≤ k) (b : Begun) (opened : begun l o ≡ Some b) where
   early : Legal (before l n)
   early = legal-before l n legal
 
-  tick-before : (e i s : ℕ) (y : Noted) (u : Note) → at (before l n) e ≡ Some y → end_of (before (before l n) e) k ≡ None → k < i → i < e
+  tick-before : (e i s : ℕ) (y : Noted) (u : Note) → at (before l n) e ≡ Some y → end_of (before (before l n) e) o ≡ None → k < i → i < e
       → at (before l n) i ≡ Some (noted s Passes u) → b.since + MAX_TRANSMIT_WAIT ≤ s → ⊥
   tick-before e i s y u there going after less tick late =
-      let opening = begun-opening l k b opened in
-      let stands = at-still l n k _ _ here (at-ask e i after less) opening.1 in
-      let was = opening-begun (before (before l n) e) k b.since opening.0 b.request (at-still (before l n) e k _ _ there (omega (arith, after, less)) stands) in
-      going-in-time (before l n) e k i s y u b early there (ap is_none going) was after less tick late
-    where
-      at-ask : (e i : ℕ) → k < i → i < e → k < n
-      at-ask e i after less = subst (λ (m : ℕ). k < m) (length-before l n _ here) (at-below (before l n) k _ asked.stands)
+      let opening = begun-opening l o b opened in
+      let ask = subst (λ (m : ℕ). k < m) (length-before l n _ here) (at-below (before l n) k _ asked.stands) in
+      let stands = at-still l n o _ _ here (omega (arith, not_later, ask)) opening.1 in
+      let was = opening-begun (before (before l n) e) o b.since opening.0 b.request (at-still (before l n) e o _ _ there (omega (arith, not_later, after, less)) stands) in
+      going-in-time (before l n) e o i s y u b early there (ap is_none going) was (omega (arith, not_later, after)) less tick late
 
-  tick-after : (e i s : ℕ) (u : Note) (how : Ending) → Ends (before l n) k e how → e < i → i < n → at (before l n) i ≡ Some (noted s Passes u) → ⊥
-  tick-after e i s u how ended less soon tick =
-      no-input (before l n) c k e how a early asked own ended (opened-still (follows-at l n _ legal here)) (waits-still (follows-at l n _ legal here))
+  tick-after : (e i s : ℕ) (u : Note) (how : Ending) → Ends (before l n) o e how → k < e → e < i → i < n → at (before l n) i ≡ Some (noted s Passes u) → ⊥
+  tick-after e i s u how ended later less soon tick =
+      no-input (before l n) c k o e how a early asked own ended later (opened-still (follows-at l n _ legal here)) (waits-still (follows-at l n _ legal here))
       i _ less tick (comes (before (before l n) i) s u (follows-at (before l n) i _ early tick))
     where
       opened-still : Follows (before l n) t (Answers c k g) note → is_open (before l n) c ≡ true
@@ -78,8 +76,8 @@ module _ (l : List Noted) (n t c k : ℕ) (g : Grounds) (note : Note) (legal : L
       comes : (v : List Noted) (s : ℕ) (u : Note) → Follows v s Passes u → MayCome v
       comes v s u may = may.0
 
-  pub answered-in-time : (e : ℕ) (how : Ending) → Ends (before l n) k e how → (how ≡ TimedOut → ⊥) → IsInTime (entries l) b.since k n
-  answered-in-time e how ended other = λ i s after less tick.
+  pub answered-in-time : (e : ℕ) (how : Ending) → Ends (before l n) o e how → k < e → (how ≡ TimedOut → ⊥) → IsInTime (entries l) b.since k n
+  answered-in-time e how ended later other = λ i s after less tick.
       let there = entries-at l i _ tick in
       elim (leb_tells (b.since + MAX_TRANSMIT_WAIT) s) [
         | inl w ↦ absurd (late i s after less there.0 (at-still l n i _ _ here less there.1) w.1)
@@ -88,16 +86,16 @@ module _ (l : List Noted) (n t c k : ℕ) (g : Grounds) (note : Note) (legal : L
     where
       late : (i s : ℕ) → k < i → i < n → (u : Note) → at (before l n) i ≡ Some (noted s Passes u) → b.since + MAX_TRANSMIT_WAIT ≤ s → ⊥
       late i s after less u tick old =
-          let end = ends-first (before l n) k e how ended in
+          let end = ends-first (before l n) o e how ended in
           elim (leb_tells e i) [
             | inl w ↦ elim (eqb_tells e i) [
               | inl v ↦
                   let y : Noted = end.0 in
                   let stands = subst (λ (e : ℕ). at (before l n) e ≡ Some y) v.1 end.1 in
                   let same : y ≡ noted s Passes u = at-same (before l n) i y (noted s Passes u) stands tick in
-                  other (ends-at-tick (before (before l n) e) k e s u how
-                  (subst (λ (y : Noted). end_here (begun (before (before l n) e) k) e (replies (before (before l n) e) k) (turn (before (before l n) e) k y) ≡ Some how) same end.3))
-              | inr v ↦ let le = w.1 in let not = v.1 in tick-after e i s u how ended (omega (arith, le, not)) less tick
+                  other (ends-at-tick (before (before l n) e) o e s u how
+                  (subst (λ (y : Noted). end_here (begun (before (before l n) e) o) e (replies (before (before l n) e) o) (turn (before (before l n) e) o y) ≡ Some how) same end.3))
+              | inr v ↦ let le = w.1 in let not = v.1 in tick-after e i s u how ended later (omega (arith, le, not)) less tick
             ]
             | inr w ↦ tick-before e i s end.0 u end.1 end.2 after w.1 tick old
           ]

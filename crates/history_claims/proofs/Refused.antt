@@ -15,8 +15,8 @@ use Rattle.history_laws.specs.WorkedMessages as M
 use Rattle.history_laws.specs.WorkedLate as L
 use Rattle.history_laws.proofs.CallerLemmas.{ack-spelled, content-spelled, eqb-same, get-spelled, other-spelled, put-spelled, rst-0-spelled, some-is}
 use Rattle.history_claims.specs.Headline.{IsEntry, IsFirstSending, IsHeard, MayRepeat, IsRepeat, again, IsResponse, IsUnanswered, IsHeardFor, AreHeardFor}
-use Rattle.history_claims.specs.Worked.{Late, Second, Unheeded, Unrejected, Abandoned}
-use Rattle.history_claims.proofs.Examples.{entry_of, is_first, places, lies_in, texts, heard-texts, fourth, moment-same}
+use Rattle.history_claims.specs.Worked.{heard_late, Late, Second, Unheeded, Unrejected, Abandoned}
+use Rattle.history_claims.proofs.Examples.{first-alone, entry_of, is_first, places, lies_in, texts, heard-texts, fourth, moment-same}
 
 -- where datagrams were heard
 abbrev is_heard_so : Option Done → Bool
@@ -121,8 +121,8 @@ half-heard i s d e is less =
     elim (one-of i 7 9 (places is_heard half (7 ∷ 9 ∷ []) 15 i s d refl refl e is)) [ inl v ↦ v | inr v ↦ absurd (omega (arith, v, less)) ]
 
 -- the second response is no reply to the GET, nor to the PUT
-second-heard : (q : CoapRequest) (m : Content) → IsHeardFor twice 1 q 12 m → ⊥
-second-heard q m h =
+second-heard : (k : ℕ) (q : CoapRequest) (m : Content) → IsHeardFor twice k q 12 m → ⊥
+second-heard k q m h =
     elim (one-of h.sending 2 8 (places is_first twice (2 ∷ 8 ∷ []) 14 h.sending _ _ refl refl h.sent_for.first.stands refl)) [
       | inl w ↦ to-get w
       | inr w ↦ to-put w
@@ -150,9 +150,9 @@ second-heard q m h =
 pub second : Second
 second h = go h.messages h.heard
   where
-    go : (ms : List Content) → AreHeardFor twice 1 h.request (12 ∷ []) ms → ⊥
+    go : (ms : List Content) → AreHeardFor twice h.opening h.request (12 ∷ []) ms → ⊥
     go [] heard = absurd heard
-    go (m ∷ ms) heard = second-heard h.request m heard.0
+    go (m ∷ ms) heard = second-heard h.opening h.request m heard.0
 
 pub unheeded : Unheeded
 unheeded h =
@@ -200,6 +200,7 @@ abandoned q h =
 
 pub late : Late
 late h =
-    let young : 93500 < h.moment + MAX_TRANSMIT_WAIT = h.in_time 5 93500 (lit< tt) (lit< tt) refl in
-    let asked : 0 ≡ h.moment = moment-same 0 h.moment _ _ h.asked.stands in
-    absurd (omega (arith, young, asked))
+    let young : 93500 < h.since + MAX_TRANSMIT_WAIT = h.in_time 5 93500 (lit< tt) (lit< tt) refl in
+    let asked : 0 ≡ h.shared.moment = moment-same 0 h.shared.moment _ _ h.shared.asked.stands in
+    let alone = (first-alone (entries heard_late) 0 h.request h.opening h.since 0 0 refl h.shared).1 in
+    absurd (omega (arith, young, asked, alone))

@@ -11,7 +11,7 @@ use Rattle.history_laws.specs.Justified.{Follows, Legal, Stands}
 use Rattle.history_laws.specs.Laws.{IsAnswer}
 use Rattle.history_laws.proofs.CallerLemmas.{at-before, at-below, at-entries, at-still, follows-at, IsAnswer-old, legal-before, next-ask, push-cases}
 use Rattle.history_claims.specs.Headline.{IsEntry}
-use Rattle.history_claims.proofs.Resting.{answers-ask}
+use Rattle.history_claims.proofs.Asking.{answers-ask}
 use Rattle.history_claims.proofs.Apart.{answer-at}
 
 -- of the asks of a connection one at most isn't answered

@@ -5,49 +5,27 @@ use Rattle.std.proofs.lemmas.Bool.Decides.{eqb_tells, leb_tells}
 use Rattle.std.proofs.lemmas.Bool.{false≢true, and_parts}
 use Rattle.coap_codec.specs.Spelling.{Content}
 use Rattle.uri_map.specs.declared.peer.Peer.{Peer}
-use Rattle.ask_model.specs.Requests.{CoapRequest, Requests}
+use Rattle.ask_model.specs.Requests.{CoapRequest}
 use Rattle.ask_model.specs.Views.{Ask}
 use Rattle.journal_book.specs.Entries.{Mark, Done, Sent, Grounds, Deed, Answers, Asks, Sends, Seals, Carries}
-use Rattle.history_laws.specs.Readings.{Noted, Note, Plain, Begins, First, Bygone, entries, at, before, noted}
+use Rattle.history_laws.specs.Readings.{Noted, Note, Begins, First, Bygone, at, before, noted}
 use Rattle.history_laws.specs.Connections.{is_sealed, sealed_by}
 use Rattle.history_laws.specs.Progress.{Ending}
 use Rattle.history_laws.specs.Transmissions.{FirstSending, firsts, sent_last}
 use Rattle.history_laws.specs.Exchanges.{begun, end_of, end_here, end_by, End, turn, replies, goes_to, is_going, waits_for}
-use Rattle.history_laws.specs.Justified.{IsAsk, MayBeFirst, Follows, Legal}
+use Rattle.history_laws.specs.Justified.{MayBeFirst, Follows, Legal}
 use Rattle.history_laws.specs.Laws.{IsFirst}
-use Rattle.history_claims.proofs.Entries.{asked-entry, grows}
-use Rattle.history_claims.proofs.Sending.{first-of, sent-in}
-use Rattle.history_laws.proofs.CallerLemmas.{all-listed, any-first, asked-for, at-same, at-still, before-twice, begun-opening, eqb-itself, eqb-same, find-any, find-some, first-waits, follows-at, none-is, none-some, some-is}
-use Rattle.history_claims.specs.Causes.{IsUnsent}
-
--- Where no first sending is that of the ask's exchange, each is that of another.
-pub unsent-in : (l : List Noted) (k : ℕ) (q : CoapRequest) → Legal l → ((t i : ℕ) (p : Peer) (m : Content) → IsFirst l t k i p m → ⊥)
-    → IsUnsent (entries l) k q
-unsent-in l k q legal none i m sent =
-    let first = first-of l i sent.moment q.peer m legal sent.first in
-    let o : ℕ = first.0 in
-    let it = sent-in l sent.moment o i q.peer m legal first.1 in
-    let ask = asked-for l o it.exchange legal it.opened in
-    let r : CoapRequest = it.exchange.request in (
-      o,
-      ask.conn,
-      it.exchange.since,
-      r,
-      λ same. none sent.moment i q.peer m (subst (λ (o : ℕ). IsFirst l sent.moment o i q.peer m) same first.1),
-      asked-entry l o ask.conn it.exchange.since ask.ask (Begins r) (Requests r) ask.stands ask.sense,
-      it.sent_for,
-    )
+use Rattle.history_claims.proofs.Entries.{grows}
+use Rattle.history_claims.proofs.Sending.{sent-in}
+use Rattle.history_laws.proofs.CallerLemmas.{all-listed, any-first, at-same, at-still, before-twice, begun-opening, eqb-itself, eqb-same, find-any, find-some, first-waits, follows-at, none-is, none-some, some-is}
 
 -- an ask that opened nothing has none
-pub none-for-plain : (l : List Noted) (k c s : ℕ) (a : Ask) → Legal l → at l k ≡ Some (noted s (Asks c a) Plain)
-    → (t i : ℕ) (p : Peer) (m : Content) → IsFirst l t k i p m → ⊥
-none-for-plain l k c s a legal e t i p m f =
+pub none-for-other : (l : List Noted) (k c s : ℕ) (a : Ask) (note : Note) → Legal l → at l k ≡ Some (noted s (Asks c a) note)
+    → ((q : CoapRequest) → note ≡ Begins q → ⊥) → (t i : ℕ) (p : Peer) (m : Content) → IsFirst l t k i p m → ⊥
+none-for-other l k c s a note legal e other t i p m f =
     let it = sent-in l t k i p m legal f in
     let opening = begun-opening l k it.exchange it.opened in
     other it.exchange.request (ap (λ (x : Noted). x.note) (at-same l k _ _ e opening.1))
-  where
-    other : (q : CoapRequest) → Plain ≡ Begins q → ⊥
-    other q f = cc
 
 -- the latest first sending of an exchange
 map-none : {X Y : Type 0} (f : X → Y) (o : Option X) → option_map f o ≡ None → o ≡ None
@@ -66,8 +44,8 @@ asks-no-copy s t c k a mark done u v e = go (ap (λ (x : Noted). x.written.deed)
     go : Asks c a ≡ Carries k mark done → ⊥
     go f = cc
 
-pub sent-last-first : (l : List Noted) (o i c : ℕ) (a : Ask) → IsAsk l o c a → sent_last l o ≡ Some i → (t : ℕ) × (p : Peer) × (m : Content) × IsFirst l t o i p m
-sent-last-first l o i c a ask e = go (find (λ (f : FirstSending). eqb f.opening o) (firsts l)) refl e
+pub sent-last-first : (l : List Noted) (o i c t : ℕ) (a : Ask) (note : Note) → at l o ≡ Some (noted t (Asks c a) note) → sent_last l o ≡ Some i → (t : ℕ) × (p : Peer) × (m : Content) × IsFirst l t o i p m
+sent-last-first l o i c t a note ask e = go (find (λ (f : FirstSending). eqb f.opening o) (firsts l)) refl e
   where
     go : (f : Option FirstSending) → find (λ (f : FirstSending). eqb f.opening o) (firsts l) ≡ f → option_map (λ (f : FirstSending). f.number) f ≡ Some i
         → (t : ℕ) × (p : Peer) × (m : Content) × IsFirst l t o i p m
@@ -85,7 +63,7 @@ sent-last-first l o i c a ask e = go (find (λ (f : FirstSending). eqb f.opening
           )
           | inr copy ↦
               let copied = subst (λ (n : ℕ). at l n ≡ Some (noted f.moment (Carries copy.old copy.mark (Sent f.peer copy.bytes copy.timeout)) (Bygone f.message))) (sym copy.own ∙ own) copy.stands in
-              absurd (asks-no-copy ask.moment f.moment c copy.old a copy.mark (Sent f.peer copy.bytes copy.timeout) ask.note (Bygone f.message) (at-same l o _ _ ask.stands copied))
+              absurd (asks-no-copy t f.moment c copy.old a copy.mark (Sent f.peer copy.bytes copy.timeout) note (Bygone f.message) (at-same l o _ _ ask copied))
         ]
 
 -- Nothing is sent for an exchange that has ended, nor in a sealed journal.
@@ -119,7 +97,7 @@ ended-at (y ∷ older) o e x how here ends =
     ended-now how n None = refl
     ended-now how n (Some f) = refl
 
-sealed-still : (d : Deed) (old : Bool) → old ≡ true → sealed_by d old ≡ true
+pub sealed-still : (d : Deed) (old : Bool) → old ≡ true → sealed_by d old ≡ true
 sealed-still Seals old h = refl
 sealed-still d old h = h
 
@@ -141,9 +119,9 @@ deeds s t p b w c k g u v e = go (ap (λ (x : Noted). x.written.deed) e)
     go f = cc
 
 -- Where nothing was sent for an exchange before the answer, and it was over, nothing is sent at all.
-pub never-sent : (l : List Noted) (n t c k : ℕ) (g : Grounds) (note : Note) → Legal l → at l n ≡ Some (noted t (Answers c k g) note)
-    → Over k (before l n) → sent_last (before l n) k ≡ None → (s i : ℕ) (p : Peer) (m : Content) → IsFirst l s k i p m → ⊥
-never-sent l n t c k g note legal here over none s i p m f =
+pub never-sent : (l : List Noted) (n t c k o : ℕ) (g : Grounds) (note : Note) → Legal l → at l n ≡ Some (noted t (Answers c k g) note)
+    → Over o (before l n) → sent_last (before l n) o ≡ None → (s i : ℕ) (p : Peer) (m : Content) → IsFirst l s o i p m → ⊥
+never-sent l n t c k o g note legal here over none s i p m f =
     elim (leb_tells n i) [
       | inl w ↦ elim (eqb_tells n i) [
         | inl u ↦ deeds s t p f.bytes f.timeout c k g _ _ (at-same l i _ _ f.stands (subst (λ (n : ℕ). at l n ≡ Some (noted t (Answers c k g) note)) u.1 here))
@@ -151,10 +129,10 @@ never-sent l n t c k g note legal here over none s i p m f =
             let le = w.1 in
             let not = u.1 in
             let twice = before-twice l i n _ f.stands (omega (arith, le, not)) in
-            let still = grows (Over k) (over-still k) (before l i) n (subst (Over k) (sym twice) over) in
-            not-over (before l i) s k p f.bytes f.timeout m still (follows-at l i _ legal f.stands)
+            let still = grows (Over o) (over-still o) (before l i) n (subst (Over o) (sym twice) over) in
+            not-over (before l i) s o p f.bytes f.timeout m still (follows-at l i _ legal f.stands)
       ]
       | inr w ↦
-          sent-last-none (before l n) s k i p m none
+          sent-last-none (before l n) s o i p m none
           (record { bytes = f.bytes; timeout = f.timeout; stands = at-still l n i _ _ here w.1 f.stands })
     ]

@@ -1,14 +1,15 @@
 -- What keeps requests, replies and answers apart in every journal that stands, and copies before all
 -- else: said of its entries alone.
-use Rattle.std.specs.Prelude.{◌≡◌, ℕ, ◌+◌, ◌<◌, ◌≤◌, List, [], ◌∷◌, ◌++◌, length, take, ◌==◌, if◌then◌else◌}
+use Rattle.std.specs.Prelude.{◌≡◌, ◌⊎◌, ℕ, ◌+◌, ◌<◌, ◌≤◌, List, [], ◌∷◌, ◌++◌, length, take, ◌==◌, if◌then◌else◌}
 use Rattle.std.specs.List.{Contains}
 use Rattle.limits.specs.declared.TheConstants.{MESSAGE_ID_LIFETIME}
 use Rattle.coap_codec.specs.Spelling.{Content}
 use Rattle.uri_map.specs.declared.peer.Peer.{Peer}
+use Rattle.ask_model.specs.Requests.{CoapRequest, Requests}
 use Rattle.ask_model.specs.Views.{Ask}
 use Rattle.journal_book.specs.Entries.{Grounds, Live, Mark, Done, Deed, Asks, Answers, Carries, Written}
 use Rattle.history_laws.specs.Justified.{Stands}
-use Rattle.history_claims.specs.Headline.{IsEntry, WasFirstSent}
+use Rattle.history_claims.specs.Headline.{IsEntry, IsAsked, WasFirstSent, IsSameGet}
 
 -- A token is borne by one message of all (RFC 7252 section 5.3.1).
 abbrev pub TokensOnce : Type 0
@@ -23,12 +24,24 @@ IdsOnce =
     → WasFirstSent h i s p m → WasFirstSent h j t p n → m.mid ≡ n.mid → i < j
     → s + MESSAGE_ID_LIFETIME ≤ t
 
--- No reply is part of the answers to two asks.
+-- The two asks are GETs for the same.
+pub record AreSameGets (h : List Written) (k o : ℕ) : Type 0 where
+  pub conn : ℕ
+  pub moment : ℕ
+  pub request : CoapRequest
+  pub asked : IsAsked h k conn moment (Requests request)
+  pub other_conn : ℕ
+  pub other_moment : ℕ
+  pub other : CoapRequest
+  pub other_asked : IsAsked h o other_conn other_moment (Requests other)
+  pub same : IsSameGet request other
+
+-- No reply is part of the answers to two asks, but to GETs for the same.
 abbrev pub RepliesOnce : Type 0
 RepliesOnce =
     (h : List Written) (i j s t c d k o n : ℕ) (js ls : List ℕ) → Stands h
     → IsEntry h i s (Answers c k (Live js)) → IsEntry h j t (Answers d o (Live ls))
-    → Contains js n → Contains ls n → k ≡ o
+    → Contains js n → Contains ls n → (k ≡ o) ⊎ AreSameGets h k o
 
 -- An ask is answered once.
 abbrev pub AnsweredOnce : Type 0

@@ -1,5 +1,5 @@
 -- Which entry the cause of an error names: said of a journal's entries alone.
-use Rattle.std.specs.Prelude.{◌≡◌, ◌≢◌, ◌⊎◌, ℕ, ◌+◌, ◌*◌, ◌^◌, ◌<◌, ◌≤◌, List, [], ◌∷◌, length, None, ⊤}
+use Rattle.std.specs.Prelude.{◌≡◌, ◌≢◌, ◌⊎◌, ℕ, ◌+◌, ◌*◌, ◌^◌, ◌<◌, ◌≤◌, true, List, [], ◌∷◌, length, None, ⊤}
 use Rattle.std.specs.List.{Contains}
 use Rattle.limits.specs.declared.TheConstants.{MAX_EXCHANGES, MAX_MESSAGE_IDS, MAX_RETRANSMIT, MAX_TRANSMIT_WAIT, MAX_WAITING, MESSAGE_ID_LIFETIME}
 use Rattle.coap_codec.specs.declared.message.MsgType.TheVariants.{Ack, Rst}
@@ -8,18 +8,20 @@ use Rattle.uri_map.specs.declared.peer.Peer.{Peer}
 use Rattle.ask_model.specs.declared.cause.Cause.{Cause}
 use Rattle.ask_model.specs.declared.cause.Cause.TheVariants as C
 use Rattle.ask_model.specs.Requests.{CoapRequest, Requests, Refuses}
-use Rattle.journal_book.specs.Entries.{Grounds, Fault, Sends, Passes, Answers, Written}
+use Rattle.ask_model.specs.Sharing.{is_get}
+use Rattle.journal_book.specs.Entries.{Grounds, Fault, Sends, Passes, Answers, Shuts, Written}
 use Rattle.history_laws.specs.Responses.{whole_of}
 use Rattle.history_laws.specs.Confirmations.{empty}
 use Rattle.history_laws.specs.Justified.{Stands}
-use Rattle.history_claims.specs.Headline.{IsEntry, IsAsked, IsFirstSending, WasFirstSent, IsSentFor, IsHeard, IsUnanswered, IsHeardFor, IsInTime}
+use Rattle.history_claims.specs.Headline.{IsEntry, IsAsked, IsFirstSending, WasFirstSent, IsSentFor, IsHeard, IsUnanswered, IsHeardFor, IsPending, IsWrite, IsShared}
 
--- Nothing was sent for the ask: what asks the same, after it, was sent for another ask.
-abbrev pub IsUnsent : List Written → ℕ → CoapRequest → Type 0
-IsUnsent h k q =
-    (i : ℕ) (m : Content) → IsSentFor h k q i m
-    → (o c t : ℕ) × (r : CoapRequest)
-    × (o ≢ k) × IsAsked h o c t (Requests r) × IsSentFor h o r i m
+-- Nothing was sent for the ask k, nor for the ask o that it joined, if it did: what asks the same,
+-- after o, was sent for another ask, which was pending then.
+abbrev pub IsUnsent : List Written → ℕ → ℕ → CoapRequest → Type 0
+IsUnsent h k o q =
+    (i : ℕ) (m : Content) → IsSentFor h o q i m
+    → (a : ℕ) × (r : CoapRequest)
+    × (a ≢ k) × (a ≢ o) × IsPending h i a r × IsSentFor h a r i m
 
 -- The bytes that were sent to the endpoint in the entry i, at the moment t, were sent again in
 -- these entries, the newest first, the last time at this moment; each time the timeout was over,
@@ -42,9 +44,10 @@ pub record IsUnsettled
   pub unrejected : (j t : ℕ) → i < j → j < n → IsHeard h p j t (empty Rst sent.mid) → ⊥
   pub unanswered : IsUnanswered h p i sent n
 
--- The message of the entry i was given up by this moment: it was sent again four times
--- (MAX_RETRANSMIT), and a tick found the timeout after the last over; till then nothing settled it.
-pub record IsGivenUp (h : List Written) (t : ℕ) (p : Peer) (i : ℕ) (sent : Content) : Type 0 where
+-- The message of the entry i was given up after the entry k, by this moment: it was sent again four
+-- times (MAX_RETRANSMIT), and a tick found the timeout after the last over; till then nothing settled
+-- it.
+pub record IsGivenUp (h : List Written) (k t : ℕ) (p : Peer) (i : ℕ) (sent : Content) : Type 0 where
   pub moment : ℕ
   pub first : IsFirstSending h i moment p sent
   pub copies : List ℕ
@@ -53,6 +56,7 @@ pub record IsGivenUp (h : List Written) (t : ℕ) (p : Peer) (i : ℕ) (sent : C
   pub again : AreCopies h p first.bytes first.timeout i moment copies last
   pub tick : ℕ
   pub ticked : ℕ
+  pub after : k < tick
   pub passes : IsEntry h tick ticked Passes
   pub due : last + first.timeout * 2 ^ MAX_RETRANSMIT ≤ ticked
   pub by : ticked ≤ t
@@ -72,18 +76,21 @@ pub record AreMany (least : ℕ) (IsOne : ℕ → Type 0) : Type 0 where
   pub apart : AreApart ones
   pub each : (n : ℕ) → Contains ones n → IsOne n
 
--- Before the ask k, the ask o asked for this. It wasn't answered, and no tick found it 93 seconds
--- old: so long it counts, though its connection may be closed.
-pub record IsPending (h : List Written) (k o : ℕ) (q : CoapRequest) : Type 0 where
-  pub before : o < k
-  pub conn : ℕ
-  pub moment : ℕ
-  pub asked : IsAsked h o conn moment (Requests q)
-  pub unanswered : (n t c : ℕ) (g : Grounds) → n < k → IsEntry h n t (Answers c o g) → ⊥
-  pub in_time : IsInTime h moment o k
+-- If these asks are one GET, asked twice, a write to the resource came between, so that the later
+-- didn't join the earlier: it was asked before the later, and wasn't answered before the earlier.
+abbrev pub AreUnshared : List Written → ℕ → ℕ → Type 0
+AreUnshared h a b =
+    (c d s t : ℕ) (q : CoapRequest) → IsAsked h a c s (Requests q) → IsAsked h b d t (Requests q)
+    → is_get q ≡ true
+    → (w : ℕ) × IsWrite h q w × (w < b)
+    × ((n u e : ℕ) (g : Grounds) → n < a → IsEntry h n u (Answers e w g) → ⊥)
 
-abbrev pub IsPendingAt : List Written → ℕ → Peer → ℕ → Type 0
-IsPendingAt h k p o = (q : CoapRequest) × (q.peer ≡ p) × IsPending h k o q
+-- So many asks for such requests are pending before the ask k, of which none joined another.
+pub record AreManyPending
+    (h : List Written) (k least : ℕ) (IsSuch : CoapRequest → Type 0) : Type 0 where
+  pub asks : AreMany least (λ (o : ℕ). (q : CoapRequest) × IsSuch q × IsPending h k o q)
+  pub unshared : (a b : ℕ) → Contains asks.ones a → Contains asks.ones b → a < b
+      → AreUnshared h a b
 
 -- Before the ask k, a message was first sent to the endpoint in the entry i, whose ID may not be used
 -- again at this moment (RFC 7252 section 4.4).
@@ -97,53 +104,60 @@ pub record IsRecent (h : List Written) (k t : ℕ) (p : Peer) (i : ℕ) : Type 0
 -- There is no room for one request more to this endpoint: 256 are pending, or 64 to it, or there is
 -- no message ID for it besides those that are in use or wait to be used.
 pub data IsCrowded (h : List Written) (k t : ℕ) (p : Peer) : Type 0 where
-  exchanges : AreMany MAX_EXCHANGES (λ (o : ℕ). (q : CoapRequest) × IsPending h k o q)
-      → IsCrowded h k t p
-  waiting : AreMany MAX_WAITING (IsPendingAt h k p) → IsCrowded h k t p
+  exchanges : AreManyPending h k MAX_EXCHANGES (λ (q : CoapRequest). ⊤) → IsCrowded h k t p
+  waiting : AreManyPending h k MAX_WAITING (λ (q : CoapRequest). q.peer ≡ p) → IsCrowded h k t p
   ids : (used waits : ℕ) → MAX_MESSAGE_IDS ≤ used + waits → AreMany used (IsRecent h k t p)
-      → AreMany waits (IsPendingAt h k p) → IsCrowded h k t p
+      → AreManyPending h k waits (λ (q : CoapRequest). q.peer ≡ p) → IsCrowded h k t p
 
--- The ask asks for something, there was no room for it, and nothing was sent for it.
+-- The ask asks for something, there was no room for it, and nothing was sent for it. Nor might it
+-- have joined one that was pending, whose connection wasn't shut: a write came between.
 pub record IsTurnedAway (h : List Written) (c k : ℕ) : Type 0 where
   pub moment : ℕ
   pub request : CoapRequest
   pub asked : IsAsked h k c moment (Requests request)
+  pub alone : (o : ℕ) (p : IsPending h k o request)
+      → ((m s : ℕ) → m < k → IsEntry h m s (Shuts p.conn) → ⊥) → AreUnshared h o k
   pub crowded : IsCrowded h k moment request.peer
-  pub unsent : IsUnsent h k request
+  pub unsent : IsUnsent h k k request
 
 -- The message for the ask is named, to which no reply came before the answer; or the ask, where
--- nothing was sent. It was asked 93 seconds before or more (MAX_TRANSMIT_WAIT, RFC 7252 section
--- 4.8.2), or the message was given up.
+-- nothing was sent. What it shares was asked 93 seconds before or more (MAX_TRANSMIT_WAIT, RFC 7252
+-- section 4.8.2), or the message was given up.
 pub record IsTimedOut (h : List Written) (a t c k n : ℕ) : Type 0 where
-  pub moment : ℕ
   pub request : CoapRequest
-  pub asked : IsAsked h k c moment (Requests request)
-  pub names : ((m : Content) × IsSentFor h k request n m × IsUnanswered h request.peer n m a)
-      ⊎ ((n ≡ k) × IsUnsent h k request)
-  pub over : (moment + MAX_TRANSMIT_WAIT ≤ t)
-      ⊎ ((m : Content) × IsSentFor h k request n m × IsGivenUp h t request.peer n m)
+  pub opening : ℕ
+  pub since : ℕ
+  pub shared : IsShared h c k request opening since
+  pub names : ((m : Content) × IsSentFor h opening request n m × IsUnanswered h request.peer n m a)
+      ⊎ ((n ≡ k) × IsUnsent h k opening request)
+  pub over : (since + MAX_TRANSMIT_WAIT ≤ t)
+      ⊎ ((m : Content) × IsSentFor h opening request n m × IsGivenUp h k t request.peer n m)
 
--- The entry heard, from the endpoint, an empty RST with the ID of the message for the ask, before
--- anything else ended its sending.
+-- The entry heard after the ask, from the endpoint, an empty RST with the ID of the message for it,
+-- before anything else ended its sending.
 pub record IsReset (h : List Written) (c k n : ℕ) : Type 0 where
-  pub moment : ℕ
   pub request : CoapRequest
-  pub asked : IsAsked h k c moment (Requests request)
+  pub opening : ℕ
+  pub since : ℕ
+  pub shared : IsShared h c k request opening since
+  pub live : k < n
   pub sending : ℕ
   pub sent : Content
-  pub sent_for : IsSentFor h k request sending sent
+  pub sent_for : IsSentFor h opening request sending sent
   pub after : sending < n
   pub unsettled : IsUnsettled h request.peer sending sent n
   pub reset : ℕ
   pub heard : IsHeard h request.peer n reset (empty Rst sent.mid)
 
--- The entry heard the reply to the message for the ask, and it is no whole response.
+-- The entry heard after the ask the reply to the message for it, and it is no whole response.
 pub record IsNotUnderstood (h : List Written) (c k n : ℕ) : Type 0 where
-  pub moment : ℕ
   pub request : CoapRequest
-  pub asked : IsAsked h k c moment (Requests request)
+  pub opening : ℕ
+  pub since : ℕ
+  pub shared : IsShared h c k request opening since
+  pub live : k < n
   pub message : Content
-  pub heard : IsHeardFor h k request n message
+  pub heard : IsHeardFor h opening request n message
   pub fails : whole_of request (message ∷ []) ≡ None
 
 -- The ask means this refusal.

@@ -1,16 +1,17 @@
 -- What an answer rests on: said of a journal's entries alone, which lie oldest first and go by their
 -- number from 0. A journal may begin with copies of an older one's entries: no answer rests on them,
 -- but tokens, message IDs and repeats are told by them too.
-use Rattle.std.specs.Prelude.{◌≡◌, ℕ, ◌+◌, ◌<◌, ◌≤◌, List, [], ◌∷◌, slice_get, Some, ⊤}
+use Rattle.std.specs.Prelude.{◌≡◌, ◌≢◌, ◌⊎◌, ℕ, ◌+◌, ◌<◌, ◌≤◌, List, [], ◌∷◌, slice_get, Some, ⊤}
 use Rattle.std.specs.List.{Contains}
 use Rattle.limits.specs.declared.TheConstants.{EXCHANGE_LIFETIME, MAX_TRANSMIT_WAIT}
 use Rattle.coap_codec.specs.declared.message.MsgType.{MsgType}
 use Rattle.coap_codec.specs.declared.message.MsgType.TheVariants.{Con, Non, Ack, Rst}
 use Rattle.coap_codec.specs.Spelling.{Content, Spells}
 use Rattle.uri_map.specs.declared.peer.Peer.{Peer}
+use Rattle.ask_model.specs.declared.cause.Cause.TheVariants as C
 use Rattle.ask_model.specs.Requests.{CoapRequest, Came, Sense, Requests, request_message}
 use Rattle.ask_model.specs.Views.{Rules}
-use Rattle.journal_book.specs.Entries.{Live, Done, Sent, Heard, done_of, Deed, Asks, Sends, Hears, Passes, Answers, Written}
+use Rattle.journal_book.specs.Entries.{Grounds, Live, Fault, Done, Sent, Heard, done_of, Deed, Asks, Sends, Hears, Passes, Answers, Written}
 use Rattle.history_laws.specs.Responses.{Response, whole_of}
 use Rattle.history_laws.specs.Justified.{Stands}
 
@@ -49,8 +50,8 @@ pub record WasFirstSent (h : List Written) (i t : ℕ) (p : Peer) (m : Content) 
 abbrev pub AsksFor : CoapRequest → Content → Type 0
 AsksFor q m = m ≡ request_message q m.mid m.token
 
--- After the ask k, the entry i first sent this message for its request q, to the endpoint of q,
--- under a token that was issued for it: no other message bears it (RFC 7252 section 5.3.1).
+-- After the ask k, the entry i first sent this message for the request q, to the endpoint of q, under
+-- a token that was issued for it: no other message bears it (RFC 7252 section 5.3.1).
 pub record IsSentFor
     (h : List Written) (k : ℕ) (q : CoapRequest) (i : ℕ) (m : Content) : Type 0 where
   pub after : k < i
@@ -125,7 +126,7 @@ abbrev pub IsUnanswered : List Written → Peer → ℕ → Content → ℕ → 
 IsUnanswered h p i sent n =
     (j : ℕ) (m : Content) → j < n → IsResponse h p i sent j m → IsRepeat h p j
 
--- The entry j heard the reply to a message that was sent for the request q of the ask k: the first
+-- The entry j heard the reply to a message that was sent for the request q after the ask k: the first
 -- response that is no repeat.
 pub record IsHeardFor
     (h : List Written) (k : ℕ) (q : CoapRequest) (j : ℕ) (m : Content) : Type 0 where
@@ -142,6 +143,58 @@ abbrev pub IsInTime : List Written → ℕ → ℕ → ℕ → Type 0
 IsInTime h since k n =
     (i t : ℕ) → k < i → i < n → IsEntry h i t Passes → t < since + MAX_TRANSMIT_WAIT
 
+-- Before the ask k, the ask o asked for this. It wasn't answered, and no tick found it 93 seconds
+-- old: so long it counts, though its connection may be closed.
+pub record IsPending (h : List Written) (k o : ℕ) (q : CoapRequest) : Type 0 where
+  pub before : o < k
+  pub conn : ℕ
+  pub moment : ℕ
+  pub asked : IsAsked h o conn moment (Requests q)
+  pub unanswered : (n t c : ℕ) (g : Grounds) → n < k → IsEntry h n t (Answers c o g) → ⊥
+  pub in_time : IsInTime h moment o k
+
+-- The requests are GETs (1) to one endpoint, which differ by message ID and token alone: one response
+-- may answer both (RFC 7252 section 5.6).
+abbrev pub IsSameGet : CoapRequest → CoapRequest → Type 0
+IsSameGet q r =
+    (q.method ≡ 1) × (q.peer ≡ r.peer)
+    × ((mid : ℕ) (token : List ℕ) → request_message q mid token ≡ request_message r mid token)
+
+-- The ask w is for the resource of q, and is no GET.
+pub record IsWrite (h : List Written) (q : CoapRequest) (w : ℕ) : Type 0 where
+  pub conn : ℕ
+  pub moment : ℕ
+  pub request : CoapRequest
+  pub asked : IsAsked h w conn moment (Requests request)
+  pub changes : request.method ≢ 1
+  pub place : (request.peer ≡ q.peer) × (request.target.path ≡ q.target.path)
+
+-- The entry n answers such an ask: not that there was no room for it. What was heard of the resource
+-- before may be out of date.
+pub record IsWriteAnswer (h : List Written) (q : CoapRequest) (n : ℕ) : Type 0 where
+  pub ask : ℕ
+  pub write : IsWrite h q ask
+  pub moment : ℕ
+  pub grounds : Grounds
+  pub answers : IsEntry h n moment (Answers write.conn ask grounds)
+  pub had_room : grounds ≢ Fault C.Busy ask
+
+-- The ask k for q may join the ask o, which is pending: both are for the same, and no write to the
+-- resource was answered between them.
+pub record IsJoined (h : List Written) (k : ℕ) (q : CoapRequest) (o : ℕ) : Type 0 where
+  pub request : CoapRequest
+  pub pending : IsPending h k o request
+  pub same : IsSameGet q request
+  pub fresh : (n : ℕ) → IsWriteAnswer h q n → n < k → n < o
+
+-- In the entry k the connection asked for q, and what is sent for the ask o, of the moment since, is
+-- sent for that too: it is that ask, or one that it may join.
+pub record IsShared (h : List Written) (c k : ℕ) (q : CoapRequest) (o since : ℕ) : Type 0 where
+  pub moment : ℕ
+  pub asked : IsAsked h k c moment (Requests q)
+  pub shares : ((o ≡ k) × (since ≡ moment))
+      ⊎ ((j : IsJoined h k q o) × (since ≡ j.pending.moment))
+
 -- The entries with these numbers heard these replies, one by one.
 abbrev pub AreHeardFor : List Written → ℕ → CoapRequest → List ℕ → List Content → Type 0
 AreHeardFor h k q [] [] = ⊤
@@ -149,20 +202,23 @@ AreHeardFor h k q (j ∷ js) (m ∷ ms) = IsHeardFor h k q j m × AreHeardFor h 
 AreHeardFor h k q _ _ = ⊥
 
 -- The answer in the entry n, to the ask k of its connection, rests on one whole response: on these
--- entries, which heard it for that ask before the answer, and before the ask was 93 seconds old.
+-- entries, which heard it for that ask or for one that it joined, before the answer and before the
+-- latter was 93 seconds old. One of them was heard after the ask.
 pub record RestsOn (h : List Written) (n c k : ℕ) (js : List ℕ) : Type 0 where
-  pub moment : ℕ
   pub request : CoapRequest
-  pub asked : IsAsked h k c moment (Requests request)
+  pub opening : ℕ
+  pub since : ℕ
+  pub shared : IsShared h c k request opening since
   pub messages : List Content
-  pub heard : AreHeardFor h k request js messages
+  pub heard : AreHeardFor h opening request js messages
   pub before : (j : ℕ) → Contains js j → j < n
-  pub in_time : IsInTime h moment k n
+  pub live : (j : ℕ) × (k < j) × Contains js j
+  pub in_time : IsInTime h since k n
   pub response : Response
   pub whole : whole_of request messages ≡ Some response
 
 -- In every journal that stands, an answer that isn't the proxy's own rests on one whole response to
--- its own ask.
+-- what its ask asked.
 abbrev pub RestsOnReplies : Type 0
 RestsOnReplies =
     (h : List Written) (n t c k : ℕ) (js : List ℕ) → Stands h

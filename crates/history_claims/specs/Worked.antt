@@ -3,16 +3,17 @@ use Rattle.std.specs.Prelude.{List, [], ◌∷◌, Some, None}
 use Rattle.ask_model.specs.declared.cause.Cause.TheVariants as C
 use Rattle.ask_model.specs.Requests.{CoapRequest}
 use Rattle.coap_codec.specs.Spelling.{Content}
-use Rattle.journal_book.specs.Entries.{Sends, Hears}
-use Rattle.history_laws.specs.Readings.{Noted, First, Says, unobserved, entries, noted}
-use Rattle.history_laws.specs.Worked.{server}
+use Rattle.journal_book.specs.Entries.{Live, Fault, Opens, Asks, Sends, Hears, Passes, Answers, Shuts}
+use Rattle.history_laws.specs.Readings.{Noted, Plain, Begins, Joins, First, Says, unobserved, entries, noted}
+use Rattle.history_laws.specs.Worked.{server, ask_for}
 use Rattle.history_laws.specs.WorkedMessages as M
 use Rattle.history_laws.specs.WorkedCopies as W
 use Rattle.history_laws.specs.WorkedEndings as E
 use Rattle.history_laws.specs.WorkedLate as L
+use Rattle.history_laws.specs.WorkedReaders as R
 use Rattle.history_laws.specs.WorkedSpoiled as S
-use Rattle.history_claims.specs.Headline.{IsSentFor, IsRepeat, RestsOn}
-use Rattle.history_claims.specs.Causes.{IsPending, IsCausedBy}
+use Rattle.history_claims.specs.Headline.{IsSentFor, IsRepeat, IsPending, RestsOn}
+use Rattle.history_claims.specs.Causes.{AreUnshared, IsTurnedAway, IsCausedBy}
 
 -- The GET's answer rests on the response of entry 9, and the PUT's on that of entry 16.
 abbrev pub Answered : Type 0
@@ -56,9 +57,85 @@ Second = RestsOn (entries L.heard_twice) 14 0 1 (12 ∷ []) → ⊥
 abbrev pub Unheeded : Type 0
 Unheeded = IsCausedBy (entries L.half_answered) 15 95000 0 1 C.Timeout 2 → ⊥
 
+-- Not so: a GET that names itself, as if its message were that of an equal one answered before.
+abbrev pub asked_again : List Noted
+asked_again =
+    noted 93900 (Answers 0 5 (Fault C.Timeout 5)) Plain
+    ∷ noted 93900 Passes Plain
+    ∷ noted 800 (Sends server (W.get_under 2 2) (Some 2000)) (First 5 W.get_again)
+    ∷ noted 800 (Asks 0 (ask_for M.get_light)) (Begins M.get_light)
+    ∷ noted 700 (Answers 0 1 (Live (3 ∷ []))) Plain
+    ∷ noted 700 (Hears server E.non_bytes) (Says E.non_message (Some 2) unobserved)
+    ∷ noted 0 (Sends server M.get_bytes (Some 2000)) (First 1 M.get_message)
+    ∷ noted 0 (Asks 0 (ask_for M.get_light)) (Begins M.get_light)
+    ∷ noted 0 (Opens 0) Plain
+    ∷ []
+
+abbrev pub Unnamed : Type 0
+Unnamed = IsCausedBy (entries asked_again) 8 93900 0 5 C.Timeout 5 → ⊥
+
 -- Not so: a Reset message that came after the ACK.
 abbrev pub Unrejected : Type 0
 Unrejected = IsCausedBy (entries L.rejected_after) 10 2200 0 1 C.Reset 9 → ⊥
+
+-- The response of entry 7 answers a GET and one that joined it.
+abbrev pub Joined : Type 0
+Joined = RestsOn (entries R.both_answered) 8 0 1 (7 ∷ []) × RestsOn (entries R.both_answered) 9 2 6 (7 ∷ [])
+
+-- Not so: a GET that joined one from before the answer to a PUT.
+abbrev pub told_before : List Noted
+told_before =
+    noted 5000 (Answers 2 12 (Live (13 ∷ []))) Plain
+    ∷ noted 5000 (Hears server M.content_bytes) (Says M.content_message (Some 2) unobserved)
+    ∷ R.read_before
+
+abbrev pub OutOfDate : Type 0
+OutOfDate = RestsOn (entries told_before) 14 2 12 (13 ∷ []) → ⊥
+
+-- Not so: an answer on a response that came before the ask.
+abbrev pub told_after : List Noted
+told_after =
+    noted 800 (Answers 1 6 (Live (4 ∷ []))) Plain
+    ∷ noted 800 (Asks 1 (ask_for M.get_light)) (Begins M.get_light)
+    ∷ noted 700 (Opens 1) Plain
+    ∷ noted 700 (Hears server E.non_bytes) (Says E.non_message (Some 2) unobserved)
+    ∷ noted 100 (Shuts 0) Plain
+    ∷ noted 0 (Sends server M.get_bytes (Some 2000)) (First 1 M.get_message)
+    ∷ noted 0 (Asks 0 (ask_for M.get_light)) (Begins M.get_light)
+    ∷ noted 0 (Opens 0) Plain
+    ∷ []
+
+abbrev pub HeardBefore : Type 0
+HeardBefore = RestsOn (entries told_after) 7 1 6 (4 ∷ []) → ⊥
+
+-- Not so: a 504 to a GET for one resource 93 seconds after a GET for another.
+abbrev pub lamp_given_up : List Noted
+lamp_given_up =
+    noted 93500 (Answers 2 6 (Fault C.Timeout 6)) Plain
+    ∷ noted 93500 Passes Plain
+    ∷ noted 600 (Asks 2 (ask_for S.get_lamp)) (Begins S.get_lamp)
+    ∷ noted 600 (Opens 2) Plain
+    ∷ M.waiting
+
+abbrev pub Unlike : Type 0
+Unlike = IsCausedBy (entries lamp_given_up) 8 93500 2 6 C.Timeout 6 → ⊥
+
+-- Not so: two who ask for one GET counted as two.
+abbrev pub asked_by_two : List Noted
+asked_by_two =
+    noted 600 (Asks 1 (ask_for M.get_light)) (Joins 1)
+    ∷ noted 600 (Opens 1) Plain
+    ∷ noted 0 (Sends server M.get_bytes (Some 2000)) (First 1 M.get_message)
+    ∷ noted 0 (Asks 0 (ask_for M.get_light)) (Begins M.get_light)
+    ∷ noted 0 (Opens 0) Plain
+    ∷ []
+
+abbrev pub CountedTwice : Type 0
+CountedTwice = AreUnshared (entries asked_by_two) 1 4 → ⊥
+
+-- Not so: the second turned away.
+abbrev pub Unjoined : Type 0
+Unjoined = IsTurnedAway (entries asked_by_two) 1 4 → ⊥
 
 -- Not so: an ask of a closed connection that crowds out others still, after 93 seconds.
 abbrev pub Abandoned : Type 0

@@ -25,7 +25,8 @@ pub fn names_cause()
 {}
 
 /// Tokens, message IDs and replies serve once: a token one message, an ID one of those to an endpoint
-/// in 494 seconds, a reply the answer to one ask (RFC 7252 sections 4.4, 5.3.1).
+/// in 494 seconds, a reply the answer to one ask, or to GETs for the same (RFC 7252 sections 4.4,
+/// 5.3.1, 5.6).
 pub fn served_once()
     ensures tokens { TokensOnce }
     ensures ids { IdsOnce }

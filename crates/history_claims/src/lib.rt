@@ -5,4 +5,6 @@ mod laws;
 mod worked;
 
 pub use laws::{answered_in_order, copies_first, names_cause, rests_on_replies, served_once};
-pub use worked::{not_excused, not_so, worked_answers, worked_causes, worked_copies};
+pub use worked::{
+    not_excused, not_so, worked_answers, worked_causes, worked_copies, worked_readers,
+};

@@ -11,8 +11,15 @@ ghost use Rattle.history_claims.specs.Worked.{
   Late,
   Second,
   Unheeded,
+  Unnamed,
   Unrejected,
   Abandoned,
+  Joined,
+  OutOfDate,
+  HeardBefore,
+  Unlike,
+  CountedTwice,
+  Unjoined,
   AnsweredAnew,
   Repeated,
   SentAgain,
@@ -40,12 +47,26 @@ pub fn not_so()
 {}
 
 /// What comes too late excuses nothing: a second response, a deadline after the reply, a Reset message
-/// after an ACK, an ask whose client has been gone for 93 seconds.
+/// after an ACK, an ask whose client has been gone for 93 seconds. Nor does an equal ask that was
+/// answered before.
 pub fn not_excused()
     ensures second { Second }
     ensures unheeded { Unheeded }
+    ensures unnamed { Unnamed }
     ensures unrejected { Unrejected }
     ensures abandoned { Abandoned }
+{}
+
+/// A response that answers two. And what joining excuses nowhere: a response from before a write was
+/// answered, or from before the ask, a deadline of what asks for something else, a crowd of readers of
+/// one exchange, and that one is turned away who may join.
+pub fn worked_readers()
+    ensures joined { Joined }
+    ensures out_of_date { OutOfDate }
+    ensures heard_before { HeardBefore }
+    ensures unlike { Unlike }
+    ensures counted_twice { CountedTwice }
+    ensures unjoined { Unjoined }
 {}
 
 /// After copies of an older journal's entries: a response to what is asked anew, and what repeats one of

@@ -1,4 +1,4 @@
--- Each ask opens one exchange or none, and each sending is for an ask or for a datagram.
+-- Each ask opens one exchange, joins one, or does neither, and each sending is for an ask or for a datagram.
 use Rattle.std.proofs.Common.{◌≡◌, ℕ, ◌<◌, ◌⊎◌, inl, inr, List, Option, Some, None, refl, sym, ap, subst, ◌∙◌}
 use Rattle.coap_codec.specs.Spelling.{Content}
 use Rattle.uri_map.specs.declared.peer.Peer.{Peer}
@@ -6,14 +6,17 @@ use Rattle.ask_model.specs.Requests.{CoapRequest, Sense, Requests, Refuses}
 use Rattle.ask_model.specs.Views.{Ask}
 use Rattle.ask_model.specs.declared.cause.Cause.{Cause}
 use Rattle.ask_model.specs.declared.cause.Cause.TheVariants.{BadHttp, NoMap, Method, Media, Busy, Timeout, Reset, NotUnderstood}
-use Rattle.journal_book.specs.Entries.{Grounds, Live, Kept, Fault, Asks, Sends, Hears, Answers}
-use Rattle.history_laws.specs.Readings.{Noted, Note, Plain, Begins, First, Copies, Confirms, at, before, noted}
-use Rattle.history_laws.specs.Exchanges.{Begun, begun}
+use Rattle.journal_book.specs.Entries.{Grounds, Live, Kept, Fault, Deed, Asks, Sends, Hears, Answers}
+use Rattle.history_laws.specs.Readings.{Noted, Note, Plain, Begins, Joins, First, Copies, Confirms, at, before, noted}
+use Rattle.history_laws.specs.Exchanges.{Begun, begun, opens_by}
+use Rattle.history_laws.specs.Joining.{joins}
 use Rattle.history_laws.specs.Justified.{IsAsk, reads_by, reads_in, reads, IsTurnedAway, IsRefused, Caused, HasGrounds, AskNote, MayBeCopy, MayConfirm, Follows, Legal}
-use Rattle.history_laws.specs.Laws.{OpensNone, OpensFor, IsAskSent, IsConfirmation}
+use Rattle.history_laws.specs.Laws.{IsFirst, JoinsOne, OpensNone, OpensFor, IsAskSent, IsConfirmation}
 use Rattle.history_laws.proofs.Places.{at-below, at-same}
 use Rattle.history_laws.proofs.Facts.{follows-at, at-before, length-before}
-use Rattle.history_laws.proofs.Sent.{begun-opening, opening-begun, asked-for, sent-for, sent-once}
+use Rattle.history_laws.proofs.Sent.{begun-before, begun-below, begun-opening, opening-begun, asked-for, sent-for, sent-once}
+use Rattle.history_laws.proofs.Joining.{joins-is}
+use Rattle.history_laws.proofs.Resting.{none-some}
 use Rattle.history_laws.proofs.Confirmed.{owed-to}
 
 -- An ask without an exchange is answered for one cause only.
@@ -26,6 +29,21 @@ ask-same m s c d a b u v e = asks (ap (λ (x : Noted). x.written.deed) e)
   where
     asks : Asks c a ≡ Asks d b → a ≡ b
     asks f = cc
+
+-- an entry that opens no exchange, for which nothing is sent
+unopened-at : (l : List Noted) (k m : ℕ) (d : Deed) (note : Note) → at l k ≡ Some (noted m d note) → opens_by note ≡ None → begun l k ≡ None
+unopened-at l k m d note stands none = by (begun l k) refl
+  where
+    by : (b : Option Begun) → begun l k ≡ b → b ≡ None
+    by None e = refl
+    by (Some b) e =
+        let h = begun-opening l k b e in
+        absurd (none-some b.request (sym none ∙ ap (λ (x : Noted). opens_by x.note) (at-same l k _ _ stands h.1)))
+
+unsent-at : (l : List Noted) (k m : ℕ) (d : Deed) (note : Note) → at l k ≡ Some (noted m d note) → opens_by note ≡ None → Legal l
+    → (t i : ℕ) (p : Peer) (s : Content) → IsFirst l t k i p s → ⊥
+unsent-at l k m d note stands none legal t i p s f =
+    none-some _ (sym (unopened-at l k m d note stands none) ∙ (sent-for l t k i p s legal f).opened)
 
 module _ (l : List Noted) (k c m : ℕ) (a : Ask) (stands : at l k ≡ Some (noted m (Asks c a) Plain)) where
   reads-none : (n o : ℕ) → reads (before l n) k ≡ Some o → ⊥
@@ -67,33 +85,35 @@ module _ (l : List Noted) (k c m : ℕ) (a : Ask) (stands : at l k ≡ Some (not
       let own = own-caused n t j cause h in
       ap (λ (v : Cause). Fault v j) own.0 ∙ ap (λ (i : ℕ). Fault (own_cause a.sense) i) own.1
 
-  none-opened : begun l k ≡ None
-  none-opened = go (begun l k) refl
-    where
-      plain : (q : CoapRequest) → Plain ≡ Begins q → ⊥
-      plain q e = cc
-
-      go : (b : Option Begun) → begun l k ≡ b → b ≡ None
-      go None e = refl
-      go (Some b) e =
-          let h = begun-opening l k b e in
-          absurd (plain b.request (ap (λ (v : Noted). v.note) (at-same l k _ _ stands h.1)))
-
   opens-none : (cause : Cause) → own_cause a.sense ≡ cause → Legal l → OpensNone l k cause
   opens-none cause e legal =
       record {
-        unopened = none-opened;
-        unsent = λ t i p s f. none-is (sym none-opened ∙ (sent-for l t k i p s legal f).opened);
+        unopened = unopened-at l k m (Asks c a) Plain stands refl;
+        unsent = λ t i p s f. unsent-at l k m (Asks c a) Plain stands refl legal t i p s f;
         answered = λ n d g h.
             own-grounds n h.moment g (grounds-of (before l n) h.moment d g h.note (follows-at l n _ legal h.stands))
             ∙ ap (λ (v : Cause). Fault v k) e;
       }
     where
-      none-is : {b : Begun} → None ≡ Some b → ⊥
-      none-is f = cc
-
       grounds-of : (b : List Noted) (t d : ℕ) (g : Grounds) (note : Note) → Follows b t (Answers d k g) note → HasGrounds b t k g
       grounds-of b t d g note f = f.3
+
+joins-one : (l : List Noted) (k c m o : ℕ) (a : Ask) (q : CoapRequest) → Legal l → at l k ≡ Some (noted m (Asks c a) (Joins o))
+    → joins (before l k) q ≡ Some o → JoinsOne l k q
+joins-one l k c m o a q legal stands e =
+    let h = joins-is (before l k) q o e in
+    record {
+      opening = o;
+      reads = ap (reads_in k) stands;
+      earlier = subst (λ (n : ℕ). o < n) (length-before l k _ stands) (begun-below (before l k) o h.exchange h.opened);
+      exchange = h.exchange;
+      opened = begun-before l k o h.exchange h.opened;
+      same = h.same;
+      going = h.is_open;
+      fresh = h.fresh;
+      unopened = unopened-at l k m (Asks c a) (Joins o) stands refl;
+      unsent = λ t i p s f. unsent-at l k m (Asks c a) (Joins o) stands refl legal t i p s f;
+    }
 
 opened : (l : List Noted) (k c m : ℕ) (a : Ask) (s : Sense) (note : Note) → a.sense ≡ s → Legal l
     → at l k ≡ Some (noted m (Asks c a) note) → AskNote (before l k) m s note → OpensFor l m k s
@@ -101,10 +121,13 @@ opened l k c m a (Requests q) (Begins r) e legal stands h =
     inl (record {
       since = m;
       opened = opening-begun l k m (Asks c a) q (subst (λ (v : CoapRequest). at l k ≡ Some (noted m (Asks c a) (Begins v))) h.0 stands);
-      room = h.1;
+      alone = h.1;
+      room = h.2;
       once = λ s t i j p r x y f g. sent-once l s t k i j p r x y legal f g;
     })
-opened l k c m a (Requests q) Plain e legal stands h = inr (opens-none l k c m a stands Busy (ap own_cause e) legal, h)
+opened l k c m a (Requests q) (Joins o) e legal stands h = inr (inl (joins-one l k c m o a q legal stands h))
+opened l k c m a (Requests q) Plain e legal stands h =
+    inr (inr (record { unopened = opens-none l k c m a stands Busy (ap own_cause e) legal; alone = h.0; full = h.1 }))
 opened l k c m a (Refuses cause status) Plain e legal stands h = opens-none l k c m a stands cause (ap own_cause e) legal
 opened l k c m a s note e legal stands h = absurd h
 

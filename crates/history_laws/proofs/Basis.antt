@@ -1,24 +1,26 @@
--- What an answer rests on: replies to its own ask, sent for after it.
-use Rattle.std.proofs.Common.{◌≡◌, ℕ, zero, suc, ◌<◌, Bool, true, false, cond, inl, inr, List, [], ◌∷◌, ◌++◌, length, Option, Some, None, refl, sym, ap, subst, ◌∙◌, arith}
+-- What an answer rests on: replies to the exchange that its ask reads.
+use Rattle.std.proofs.Common.{◌≡◌, ℕ, zero, suc, Bool, true, false, cond, inl, inr, List, [], ◌∷◌, ◌++◌, length, Option, Some, None, refl, sym, ap, subst, ◌∙◌, arith}
 use Rattle.std.specs.List.{Contains}
 use Rattle.std.proofs.lemmas.List.Elements.{Contains-append_left}
 use Rattle.ask_model.specs.Requests.{CoapRequest, Requests, request_message}
 use Rattle.ask_model.specs.Views.{Ask}
 use Rattle.coap_codec.specs.Spelling.{Content}
 use Rattle.uri_map.specs.declared.peer.Peer.{Peer}
-use Rattle.journal_book.specs.Entries.{Grounds, Live, Answers}
+use Rattle.journal_book.specs.Entries.{Grounds, Live, Asks, Answers}
 use Rattle.history_laws.specs.Responses.{Response, response_of, is_whole}
-use Rattle.history_laws.specs.Readings.{Noted, Note, Begins, at}
+use Rattle.history_laws.specs.Readings.{Noted, Note, at}
 use Rattle.history_laws.specs.Progress.{Reply, numbers, Ending, Whole, NotUnderstood, Reset, TimedOut}
 use Rattle.history_laws.specs.Exchanges.{Begun, begun, Turn, Nothing, Sent, Replied, Rejected, Expired, turn, replies_by, replies, End, replied_end, end_here, end_by, end_of}
-use Rattle.history_laws.specs.Justified.{IsAsk, Ends as EndsAs, reads_by, reads_in, reads, HasGrounds, Follows, Legal}
-use Rattle.history_laws.specs.Laws.{IsFirst, IsReplyTo, IsAnswer, RestsOn, IsWriteEnd}
+use Rattle.history_laws.specs.Justified.{IsAsk, Ends as EndsAs, reads_in, reads, HasGrounds, Follows, Legal}
+use Rattle.history_laws.specs.Laws.{IsFirst, IsAnswer, RestsOn, IsWriteEnd, NothingOutrun}
 use Rattle.history_laws.proofs.Elements.{contains-none, first-or-later}
 use Rattle.history_laws.proofs.Facts.{IsAsk-keeps, IsFirst-keeps}
 use Rattle.history_laws.proofs.Answering.{IsAnswer-old}
 use Rattle.history_laws.proofs.Replies.{IsReplyTo-keeps, replies-fit}
-use Rattle.history_laws.proofs.Sent.{replied-first, asked-for, sent-for}
-use Rattle.history_laws.proofs.Resting.{some-is}
+use Rattle.history_laws.proofs.Sent.{replied-first, sent-for}
+use Rattle.history_laws.proofs.Joining.{reader, reader-alike, reads-opened, write-earlier}
+use Rattle.history_laws.proofs.Places.{at-keeps, at-same}
+use Rattle.history_laws.proofs.Resting.{none-some, some-is}
 
 -- a whole response is made of replies to its exchange
 whole-of : (b : Bool) (u w : Response) (r x : Reply) (ws : List Reply) → cond b (Whole u (r ∷ [])) NotUnderstood ≡ Whole w ws → Contains ws x → r ≡ x
@@ -92,17 +94,13 @@ number-of (r ∷ rs) j (suc i, lt, e) =
     let place = h.1 in
     (h.0, (suc place.0, let b = place.1 in omega arith, place.2), h.2)
 
--- an ask reads what it opened
-reads-note : (k o : ℕ) (n : Note) → reads_by k n ≡ Some o → k ≡ o
-reads-note k o (Begins q) e = cc
-reads-note k o n e = cc
-
-pub reads-own : (l : List Noted) (k o : ℕ) → reads l k ≡ Some o → k ≡ o
-reads-own l k o e = go (at l k) e
+-- what stands at a number does so in a longer history
+reads-keeps : (x : Noted) (l : List Noted) (k o : ℕ) → reads l k ≡ Some o → reads (x ∷ l) k ≡ Some o
+reads-keeps x l k o e = by (at l k) refl e
   where
-    go : (x : Option Noted) → reads_in k x ≡ Some o → k ≡ o
-    go None f = cc
-    go (Some x) f = reads-note k o x.note f
+    by : (y : Option Noted) → at l k ≡ y → reads_in k y ≡ Some o → reads (x ∷ l) k ≡ Some o
+    by None is f = absurd (none-some o f)
+    by (Some y) is f = ap (reads_in k) (at-keeps x l k y is) ∙ f
 
 RestsOn-keeps : (x : Noted) (l : List Noted) (k j : ℕ) → RestsOn l k j → RestsOn (x ∷ l) k j
 RestsOn-keeps x l k j h =
@@ -112,28 +110,38 @@ RestsOn-keeps x l k j h =
       request = h.request;
       asked = IsAsk-keeps x l k _ _ h.asked;
       sense = h.sense;
+      opening = h.opening;
+      reads = reads-keeps x l k h.opening h.reads;
+      not_later = h.not_later;
       reply = h.reply;
       number = h.number;
-      fits = IsReplyTo-keeps x l k h.reply h.fits;
+      fits = IsReplyTo-keeps x l h.opening h.reply h.fits;
       after = h.after;
       moment = h.moment;
       mid = h.mid;
       token = h.token;
-      first = IsFirst-keeps x l _ k _ _ _ h.first;
+      first = IsFirst-keeps x l _ h.opening _ _ _ h.first;
     }
 
-rests-own : (l : List Noted) (k : ℕ) (r : Reply) → Legal l → Contains (replies l k) r → RestsOn l k r.number
-rests-own l k r legal has =
-    let fits = replies-fit l k r legal has in
-    let sent = sent-for l fits.sent_at k r.sending fits.peer fits.sent legal fits.first in
-    let ask = asked-for l k sent.exchange legal sent.opened in
-    let q : CoapRequest = sent.exchange.request in
+rests-own : (l : List Noted) (k o : ℕ) (r : Reply) → Legal l → reads l k ≡ Some o → Contains (replies l o) r → RestsOn l k r.number
+rests-own l k o r legal e has =
+    let it = reader l k o legal e in
+    let alike = reader-alike l k o it in
+    let fits = replies-fit l o r legal has in
+    let sent = sent-for l fits.sent_at o r.sending fits.peer fits.sent legal fits.first in
+    let same : sent.exchange ≡ it.exchange = some-is _ _ (sym sent.opened ∙ it.opened) in
+    let peer : fits.peer ≡ it.request.peer = sent.peer ∙ (ap (λ (b : Begun). b.request.peer) same ∙ sym alike.0) in
+    let message : fits.sent ≡ request_message it.request fits.sent.mid fits.sent.token =
+    sent.carries ∙ (ap (λ (b : Begun). request_message b.request fits.sent.mid fits.sent.token) same ∙ sym (alike.1 fits.sent.mid fits.sent.token)) in
     record {
-      conn = ask.conn;
-      ask = ask.ask;
-      request = q;
-      asked = record { moment = sent.exchange.since; note = Begins q; stands = ask.stands };
-      sense = ask.sense;
+      conn = it.conn;
+      ask = it.ask;
+      request = it.request;
+      asked = it.asked;
+      sense = it.sense;
+      opening = o;
+      reads = e;
+      not_later = (reads-opened l k o legal e).0;
       reply = r;
       number = refl;
       fits = fits;
@@ -141,16 +149,14 @@ rests-own l k r legal has =
       moment = fits.sent_at;
       mid = fits.sent.mid;
       token = fits.sent.token;
-      first = subst (λ (p : Peer). IsFirst l fits.sent_at k r.sending p (request_message q fits.sent.mid fits.sent.token)) sent.peer
-          (subst (λ (m : Content). IsFirst l fits.sent_at k r.sending fits.peer m) sent.carries fits.first);
+      first = subst (λ (p : Peer). IsFirst l fits.sent_at o r.sending p (request_message it.request fits.sent.mid fits.sent.token)) peer
+          (subst (λ (m : Content). IsFirst l fits.sent_at o r.sending fits.peer m) message fits.first);
     }
 
 rests-on : (l : List Noted) (t k j : ℕ) (js : List ℕ) → Legal l → HasGrounds l t k (Live js) → Contains js j → RestsOn l k j
 rests-on l t k j js legal h has =
     let it = number-of h.3 j (subst (λ (js : List ℕ). Contains js j) h.6 has) in
-    let own : Contains (replies l k) it.0 =
-    subst (λ (o : ℕ). Contains (replies l o) it.0) (sym (reads-own l k h.0 h.4)) (made-of l h.0 h.1 h.2 h.3 it.0 h.5 it.1) in
-    subst (RestsOn l k) it.2 (rests-own l k it.0 legal own)
+    subst (RestsOn l k) it.2 (rests-own l k h.0 it.0 legal h.4 (made-of l h.0 h.1 h.2 h.3 it.0 h.5 it.1))
 
 grounds-of : (l : List Noted) (t c k : ℕ) (g : Grounds) (note : Note) → Follows l t (Answers c k g) note → HasGrounds l t k g
 grounds-of l t c k g note f = f.3
@@ -165,9 +171,23 @@ rests-on-its-own (x ∷ older) n c k j js legal a has =
       | inr w ↦ RestsOn-keeps x older k j (rests-on-its-own older n c k j js legal.0 w has)
     ]
 
-pub nothing-outrun : (l : List Noted) (n c k j e : ℕ) (js : List ℕ) (a : Ask) (q : CoapRequest) → Legal l → IsAnswer l n c k (Live js) → Contains js j
-    → IsAsk l k c a → a.sense ≡ Requests q → q.method ≡ 1 → IsWriteEnd l q.peer q.target.path e → e < k
-    → (o : ℕ) × (r : Reply) × IsReplyTo l o r × (r.number ≡ j) × (e < r.sending)
+pub requests-same : (l : List Noted) (k c d : ℕ) (a b : Ask) (q r : CoapRequest) → IsAsk l k c a → IsAsk l k d b → a.sense ≡ Requests q → b.sense ≡ Requests r
+    → q ≡ r
+requests-same l k c d a b q r f g e h =
+    let same : Asks c a ≡ Asks d b = ap (λ (x : Noted). x.written.deed) (at-same l k _ _ f.stands g.stands) in
+    request (sym e ∙ (ap (λ (a : Ask). a.sense) (ask same) ∙ h))
+  where
+    ask : Asks c a ≡ Asks d b → a ≡ b
+    ask i = cc
+
+    request : Requests q ≡ Requests r → q ≡ r
+    request i = cc
+
+pub nothing-outrun : NothingOutrun
 nothing-outrun l n c k j e js a q legal answer has ask sense get write lt =
     let h = rests-on-its-own l n c k j js legal answer has in
-    (k, h.reply, h.fits, h.number, let b = h.after in omega arith)
+    let it = reader l k h.opening legal h.reads in
+    let same = requests-same l k c it.conn a it.ask q it.request ask it.asked sense it.sense in
+    let earlier = write-earlier l k h.opening e legal it (subst (λ (q : CoapRequest). IsWriteEnd l q.peer q.target.path e) same write) lt in
+    let after = h.after in
+    (h.opening, h.reply, h.fits, h.number, omega (arith, earlier, after))

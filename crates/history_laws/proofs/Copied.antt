@@ -13,7 +13,7 @@ use Rattle.history_laws.proofs.Messages.{get-spelled, put-spelled, content-spell
 use Rattle.history_laws.proofs.Resting.{at-rest, may-come, none-is}
 use Rattle.history_laws.proofs.Spelled.{spelled}
 
-get-again-spelled : Spells get_again (get_under 2 2)
+pub get-again-spelled : Spells get_again (get_under 2 2)
 unfolding message_at X.options_at X.option_at
 get-again-spelled = spelled (get_under 2 2) _ refl refl
 
@@ -44,7 +44,7 @@ legal-asking = (
     (may-come _ refl refl, lit≤ tt, tt),
   ),
   lit≤ tt,
-  (may-come _ refl refl, refl, refl, (refl, refl)),
+  (may-come _ refl refl, refl, refl, (refl, refl, refl)),
 )
 
 pub answered_anew-holds : Holds answered_anew

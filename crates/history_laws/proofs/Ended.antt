@@ -1,5 +1,5 @@
 -- After its end nothing is sent for an exchange but copies.
-use Rattle.std.proofs.Common.{◌≡◌, ℕ, ◌<◌, ◌⊎◌, true, inl, inr, List, [], ◌∷◌, length, Option, Some, None, ap, subst}
+use Rattle.std.proofs.Common.{◌≡◌, ℕ, ◌<◌, true, inl, inr, List, [], ◌∷◌, length, Option, Some, None, subst}
 use Rattle.std.specs.Prelude.{is_none}
 use Rattle.std.proofs.lemmas.Bool.{false≢true, and_parts}
 use Rattle.coap_codec.specs.Spelling.{Content}
@@ -7,22 +7,14 @@ use Rattle.uri_map.specs.declared.peer.Peer.{Peer}
 use Rattle.journal_book.specs.Entries.{Sends}
 use Rattle.history_laws.specs.Readings.{Noted, First, noted}
 use Rattle.history_laws.specs.Progress.{Ending}
-use Rattle.history_laws.specs.Exchanges.{begun, turn, waits_for, replies, End, end_here, end_by, end_of, goes_to, is_going}
+use Rattle.history_laws.specs.Exchanges.{begun, turn, waits_for, replies, End, end_here, end_of, goes_to, is_going}
 use Rattle.history_laws.specs.Justified.{MayBeFirst, Ends, Legal}
 use Rattle.history_laws.specs.Laws.{IsFirst}
 use Rattle.history_laws.proofs.Members.{first-waits}
 use Rattle.history_laws.proofs.Facts.{IsFirst-below, eqb-itself}
 use Rattle.history_laws.proofs.Sendings.{IsFirst-old, may-be}
+use Rattle.history_laws.proofs.Outrunning.{end-old}
 use Rattle.history_laws.proofs.Resting.{none-some}
-
--- an end stands, or it is that of the newest entry
-end-old : (how : Option Ending) (n : ℕ) (old : Option End) (e : End) → end_by how n old ≡ Some e → (old ≡ Some e) ⊎ (n ≡ e.number)
-end-old None n old e h = inl h
-end-old (Some how) n None e h = inr (ap (λ (e : End). e.number) (same _ _ h))
-  where
-    same : (x y : End) → Some x ≡ Some y → x ≡ y
-    same x y f = cc
-end-old (Some how) n (Some f) e h = inl h
 
 -- a first sending ends nothing, and what it is sent for goes on
 first-going : (l : List Noted) (t o e : ℕ) (p : Peer) (b : List ℕ) (w : Option ℕ) (m : Content) (how : Ending)
@@ -44,6 +36,6 @@ none-after-end (x ∷ older) t o i e p m how legal f h =
           (subst (λ (x : Noted). Ends (x ∷ older) o e how) u.1.2 h))
       | inr u ↦ elim (end-old (end_here (begun older o) (length older) (replies older o) (turn older o x)) (length older) (end_of older o) _ h) [
         | inl old ↦ none-after-end older t o i e p m how legal.0 u old
-        | inr here ↦ subst (λ (e : ℕ). i < e) here (IsFirst-below older t o i p m u)
+        | inr here ↦ subst (λ (e : ℕ). i < e) here.1 (IsFirst-below older t o i p m u)
       ]
     ]

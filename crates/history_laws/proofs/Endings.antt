@@ -18,7 +18,7 @@ use Rattle.history_laws.proofs.Resting.{at-rest, may-come}
 use Rattle.history_laws.proofs.Spelled.{spelled}
 use Rattle.history_laws.proofs.Messages.{put-spelled, legal-waiting, legal-copied}
 
-non-spelled : Spells non_message non_bytes
+pub non-spelled : Spells non_message non_bytes
 unfolding message_at X.options_at X.option_at
 non-spelled = spelled non_bytes _ refl refl
 

@@ -79,7 +79,7 @@ rejected_after-holds = (legal-rejected-after, at-rest _ refl)
 -- entry by entry
 abandoned-sent : Legal (noted 0 (Sends server get_bytes (Some 2000)) (First 1 get_message) ∷ noted 0 (Asks 0 (ask_for get_light)) (Begins get_light) ∷ noted 0 (Opens 0) Plain ∷ [])
 abandoned-sent = (
-  ((tt, lit≤ tt, (may-come _ refl refl, lit≤ tt, tt)), lit≤ tt, (may-come _ refl refl, refl, refl, (refl, refl))),
+  ((tt, lit≤ tt, (may-come _ refl refl, lit≤ tt, tt)), lit≤ tt, (may-come _ refl refl, refl, refl, (refl, refl, refl))),
   lit≤ tt,
   (
     refl,
@@ -136,7 +136,7 @@ legal-abandoned = (
     ),
   ),
   lit≤ tt,
-  (may-come _ refl refl, refl, refl, (refl, refl)),
+  (may-come _ refl refl, refl, refl, (refl, refl, refl)),
 )
 
 pub abandoned-holds : Holds abandoned

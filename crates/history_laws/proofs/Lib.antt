@@ -17,6 +17,8 @@ mod Replies
 mod Members
 mod Sent
 mod Unbegun
+mod Outrunning
+mod Joining
 mod Rising
 mod Queue
 mod Ended
@@ -28,3 +30,4 @@ mod Endings
 mod Late
 mod Spoiled
 mod Copied
+mod Readers

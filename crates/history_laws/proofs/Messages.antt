@@ -42,7 +42,7 @@ pub legal-waiting : Legal waiting
 legal-waiting = (
   (
     (
-      ((tt, lit≤ tt, (may-come _ refl refl, lit≤ tt, tt)), lit≤ tt, (may-come _ refl refl, refl, refl, (refl, refl))),
+      ((tt, lit≤ tt, (may-come _ refl refl, lit≤ tt, tt)), lit≤ tt, (may-come _ refl refl, refl, refl, (refl, refl, refl))),
       lit≤ tt,
       (
         refl,
@@ -73,7 +73,7 @@ legal-waiting = (
     (may-come _ refl refl, refl, tt),
   ),
   lit≤ tt,
-  (may-come _ refl refl, refl, refl, (refl, refl)),
+  (may-come _ refl refl, refl, refl, (refl, refl, refl)),
 )
 
 pub legal-copied : Legal copied

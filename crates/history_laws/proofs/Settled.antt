@@ -139,20 +139,27 @@ in-hand l k c legal rest now next none =
     subst (λ (o : Option ℕ). option_map_or (λ (k : ℕ). reads_open l (reads l k)) o true ≡ true) next opened_one in
     false≢true (subst (λ (o : Option ℕ). reads_open l o ≡ true) none reading)
 
-pub answered-at-once : (l : List Noted) (k c : ℕ) (a : Ask) → Legal l → AtRest l → is_open l c ≡ true → IsAsk l k c a → reads l k ≡ None
-    → (n : ℕ) × (g : Grounds) × IsAnswer l n c k g
-answered-at-once l k c a legal rest now ask none =
+-- a connection waits for an ask, or has its answer
+pub waited-or-answered : (l : List Noted) (k c : ℕ) (a : Ask) → Legal l → IsAsk l k c a
+    → (pending l c ≡ Some k) ⊎ ((n : ℕ) × (g : Grounds) × IsAnswer l n c k g)
+waited-or-answered l k c a legal ask =
     let listed = ask-listed l k c a ask in
     let i : ℕ = listed.0 in
     let within = slice_get_within (asks_of l c) i k listed.1 in
     let few = few-waiting l c legal in
     elim (least i (length (answers_of l c)) (omega (arith, within, few))) [
-      | inl w ↦ absurd (in-hand l k c legal rest now (subst (λ (i : ℕ). slice_get (asks_of l c) i ≡ Some k) w listed.1) none)
+      | inl w ↦ inl (subst (λ (i : ℕ). slice_get (asks_of l c) i ≡ Some k) w listed.1)
       | inr w ↦
-          answers-stand l c i k
+          inr
+          (answers-stand l c i k
           (subst (λ (xs : List ℕ). slice_get xs i ≡ Some k) (sym (answered-in-order l c legal))
-          (taken (asks_of l c) (length (answers_of l c)) i k w listed.1))
+          (taken (asks_of l c) (length (answers_of l c)) i k w listed.1)))
     ]
+
+pub answered-at-once : (l : List Noted) (k c : ℕ) (a : Ask) → Legal l → AtRest l → is_open l c ≡ true → IsAsk l k c a → reads l k ≡ None
+    → (n : ℕ) × (g : Grounds) × IsAnswer l n c k g
+answered-at-once l k c a legal rest now ask none =
+    elim (waited-or-answered l k c a legal ask) [ inl w ↦ absurd (in-hand l k c legal rest now w none) | inr w ↦ w ]
 
 pub sent-at-once : (l : List Noted) (o : ℕ) (b : Begun) → AtRest l → is_sealed l ≡ false → begun l o ≡ Some b → end_of l o ≡ None
     → ((i : ℕ) × (waits_for l o ≡ Some i)) ⊎ ((f : FirstSending) × (outstanding l b.request.peer ≡ Some f))

@@ -29,13 +29,21 @@ no-turn l o t (Hears p b) (Says m (Some i) notice) f e = refl
 no-turn l o t Passes note f e = rw (e) refl
 no-turn l o t _ _ f e = refl
 
+unbegun-step : (x : Noted) (l : List Noted) (o : ℕ) → Follows l x.written.moment x.written.deed x.note → begun l o ≡ None
+    → (waits_for l o ≡ None) × (end_of l o ≡ None) → (waits_for (x ∷ l) o ≡ None) × (end_of (x ∷ l) o ≡ None)
+unbegun-step x l o may e old =
+    let none : turn l o x ≡ Nothing = rw (old.0) (no-turn l o x.written.moment x.written.deed x.note may e) in
+    (rw (none, old.0) refl, rw (none, old.1) refl)
+
 pub unbegun : (l : List Noted) (o : ℕ) → Legal l → begun l o ≡ None → (waits_for l o ≡ None) × (end_of l o ≡ None)
 unbegun [] o legal e = (refl, refl)
 unbegun (x ∷ older) o legal e =
     let old = not-begun (opens_by x.note) (eqb (length older) o) x.written.moment (begun older o) e in
-    let ih = unbegun older o legal.0 old in
-    let none : turn older o x ≡ Nothing = rw (ih.0) (no-turn older o x.written.moment x.written.deed x.note legal.2 old) in
-    (rw (none, ih.0) refl, rw (none, ih.1) refl)
+    unbegun-step x older o legal.2 old (unbegun older o legal.0 old)
+
+-- Nor does it end as it is opened.
+pub unended : (x : Noted) (l : List Noted) (o : ℕ) → Legal (x ∷ l) → begun l o ≡ None → end_of (x ∷ l) o ≡ None
+unended x l o legal e = (unbegun-step x l o legal.2 e (unbegun l o legal.0 e)).1
 
 -- The number of an entry to come opened nothing.
 pub not-yet : (l : List Noted) → begun l (length l) ≡ None

@@ -13,11 +13,12 @@ use Rattle.journal_book.specs.Entries.{Grounds, Live, Kept, Fault, Mark, Past, D
 use Rattle.history_laws.specs.Responses.{Response}
 use Rattle.history_laws.specs.Confirmations.{empty, Confirmation}
 use Rattle.history_laws.specs.Causes.{IsRefusal}
-use Rattle.history_laws.specs.Readings.{Noted, Note, Plain, Begins, First, Copies, Confirms, Says, Repeats, Garbled, Bygone, Recalls, noted, are_copies, entries, at, newest, ticked}
+use Rattle.history_laws.specs.Readings.{Noted, Note, Plain, Begins, Joins, First, Copies, Confirms, Says, Repeats, Garbled, Bygone, Recalls, noted, are_copies, entries, at, newest, ticked}
 use Rattle.history_laws.specs.Connections.{is_open, asks_of, answers_of, is_sealed, opened, has_opened}
 use Rattle.history_laws.specs.Progress.{Reply, numbers, Ending, Whole, NotUnderstood, Reset, TimedOut, progress, next_message}
 use Rattle.history_laws.specs.Transmissions.{FirstSending, firsts, sent_last, bears_token, bears_mid, Transmission, transmission, due, outstanding}
 use Rattle.history_laws.specs.Exchanges.{Begun, begun, is_late, waits_for, replies, end_of, is_going, open_exchanges, waiting}
+use Rattle.history_laws.specs.Joining.{joins}
 use Rattle.history_laws.specs.Hearing.{is_such, knows, repeated, can_be_remembered, answers, notice_of, has_room}
 use Rattle.history_laws.specs.Confirming.{owed}
 use Rattle.history_laws.specs.Sealing.{MaySeal}
@@ -33,9 +34,10 @@ pub record IsAsk (l : List Noted) (k c : ℕ) (a : Ask) : Type 0 where
 abbrev pub Ends : List Noted → ℕ → ℕ → Ending → Type 0
 Ends l o e how = end_of l o ≡ Some (record { number = e; how = how })
 
--- which exchange an ask reads: the one that it opened
+-- which exchange an ask reads: the one that it opened, or that it joined
 abbrev pub reads_by : ℕ → Note → Option ℕ
 reads_by k (Begins q) = Some k
+reads_by k (Joins o) = Some o
 reads_by k _ = None
 
 abbrev pub reads_in : ℕ → Option Noted → Option ℕ
@@ -89,10 +91,12 @@ HasGrounds l t k (Live js) =
 HasGrounds l t k (Kept js) = ⊥
 HasGrounds l t k (Fault cause n) = Caused l t k cause n
 
--- An ask for something opens an exchange, but where there is no room.
+-- A GET joins the exchange of an equal one. Whatever else asks for something opens an exchange, but where there is
+-- no room.
 abbrev pub AskNote : List Noted → ℕ → Sense → Note → Type 0
-AskNote l t (Requests q) (Begins r) = (r ≡ q) × (has_room l t q ≡ true)
-AskNote l t (Requests q) Plain = has_room l t q ≡ false
+AskNote l t (Requests q) (Joins o) = joins l q ≡ Some o
+AskNote l t (Requests q) (Begins r) = (r ≡ q) × (joins l q ≡ None) × (has_room l t q ≡ true)
+AskNote l t (Requests q) Plain = (joins l q ≡ None) × (has_room l t q ≡ false)
 AskNote l t (Refuses cause status) Plain = ⊤
 AskNote l t _ _ = ⊥
 

@@ -9,6 +9,7 @@ use Rattle.uri_map.specs.declared.peer.Peer.{Peer}
 use Rattle.ask_model.specs.declared.cause.Cause.{Cause}
 use Rattle.ask_model.specs.declared.cause.Cause.TheVariants as C
 use Rattle.ask_model.specs.Requests.{CoapRequest, Sense, Requests, Refuses, request_message}
+use Rattle.ask_model.specs.Sharing.{asked_place, asks_same}
 use Rattle.ask_model.specs.Views.{Ask}
 use Rattle.journal_book.specs.Entries.{Grounds, Live, Fault, Deed, Sends, Hears, Passes, Answers, Shuts}
 use Rattle.history_laws.specs.Confirmations.{empty}
@@ -17,6 +18,7 @@ use Rattle.history_laws.specs.Connections.{is_open, asks_of, answers_of, is_seal
 use Rattle.history_laws.specs.Progress.{Reply, Ending}
 use Rattle.history_laws.specs.Transmissions.{FirstSending, firsts, Transmission, transmission, due, outstanding}
 use Rattle.history_laws.specs.Exchanges.{Begun, begun, turn, waits_for, replies, end_here, end_of, open_exchanges}
+use Rattle.history_laws.specs.Joining.{outrun, is_joinable, joins}
 use Rattle.history_laws.specs.Hearing.{repeated, has_room}
 use Rattle.history_laws.specs.Justified.{IsAsk, Ends, reads, Legal, AtRest}
 
@@ -145,24 +147,31 @@ pub record IsReplyTo (l : List Noted) (o : ℕ) (r : Reply) : Type 0 where
 abbrev pub RepliesFit : Type 0
 RepliesFit = (l : List Noted) (o : ℕ) (r : Reply) → Legal l → Contains (replies l o) r → IsReplyTo l o r
 
--- The entry with this number is a reply to the exchange that the ask opened, and came to a message that asks just
--- what the ask means, sent after it.
+-- The exchange that an ask reads was opened by it, or before it.
+abbrev pub ReadsOpened : Type 0
+ReadsOpened = (l : List Noted) (k o : ℕ) → Legal l → reads l k ≡ Some o → (o ≤ k) × (is_some (begun l o) ≡ true)
+
+-- The entry with this number is a reply to the exchange that the ask reads, and came to a message that asks just
+-- what the ask means, sent after that was opened.
 pub record RestsOn (l : List Noted) (k j : ℕ) : Type 0 where
   pub conn : ℕ
   pub ask : Ask
   pub request : CoapRequest
   pub asked : IsAsk l k conn ask
   pub sense : ask.sense ≡ Requests request
+  pub opening : ℕ
+  pub reads : reads l k ≡ Some opening
+  pub not_later : opening ≤ k
   pub reply : Reply
   pub number : reply.number ≡ j
-  pub fits : IsReplyTo l k reply
-  pub after : k < reply.sending
+  pub fits : IsReplyTo l opening reply
+  pub after : opening < reply.sending
   pub moment : ℕ
   pub mid : ℕ
   pub token : List ℕ
-  pub first : IsFirst l moment k reply.sending request.peer (request_message request mid token)
+  pub first : IsFirst l moment opening reply.sending request.peer (request_message request mid token)
 
--- An answer rests on replies to its own ask alone.
+-- An answer rests on replies to the exchange that its ask reads alone.
 abbrev pub RestsOnItsOwn : Type 0
 RestsOnItsOwn =
     (l : List Noted) (n c k j : ℕ) (js : List ℕ) → Legal l → IsAnswer l n c k (Live js) → Contains js j → RestsOn l k j
@@ -186,12 +195,35 @@ NothingOutrun =
     → IsAsk l k c a → a.sense ≡ Requests q → q.method ≡ 1 → IsWriteEnd l q.peer q.target.path e → e < k
     → (o : ℕ) × (r : Reply) × IsReplyTo l o r × (r.number ≡ j) × (e < r.sending)
 
--- The ask opened an exchange for this request, and there was room; it has at most one first sending.
+-- Of the open exchanges, a GET may join one at most.
+abbrev pub OneJoinable : Type 0
+OneJoinable =
+    (l : List Noted) (q : CoapRequest) (a b : ℕ) → Legal l
+    → Contains (open_exchanges l) a → is_joinable l q a ≡ true
+    → Contains (open_exchanges l) b → is_joinable l q b ≡ true → a ≡ b
+
+-- The ask opened an exchange for this request: there was none to join, and there was room. It has at most one first
+-- sending.
 pub record OpensOne (l : List Noted) (k : ℕ) (q : CoapRequest) : Type 0 where
   pub since : ℕ
   pub opened : begun l k ≡ Some (record { since = since; request = q })
+  pub alone : joins (before l k) q ≡ None
   pub room : has_room (before l k) since q ≡ true
   pub once : (s t i j : ℕ) (p r : Peer) (m n : Content) → IsFirst l s k i p m → IsFirst l t k j r n → i ≡ j
+
+-- The ask reads along an exchange that was opened before for an equal GET, was open, and was outrun by no write.
+-- It opens none, and nothing is sent for it.
+pub record JoinsOne (l : List Noted) (k : ℕ) (q : CoapRequest) : Type 0 where
+  pub opening : ℕ
+  pub reads : reads l k ≡ Some opening
+  pub earlier : opening < k
+  pub exchange : Begun
+  pub opened : begun l opening ≡ Some exchange
+  pub same : asks_same q exchange.request ≡ true
+  pub going : Contains (open_exchanges (before l k)) opening
+  pub fresh : outrun (before l k) (asked_place q) opening ≡ false
+  pub unopened : begun l k ≡ None
+  pub unsent : (t i : ℕ) (p : Peer) (m : Content) → IsFirst l t k i p m → ⊥
 
 -- The ask opened no exchange, nothing is sent for it, and its answer is the proxy's own, for this cause.
 pub record OpensNone (l : List Noted) (k : ℕ) (cause : Cause) : Type 0 where
@@ -199,9 +231,15 @@ pub record OpensNone (l : List Noted) (k : ℕ) (cause : Cause) : Type 0 where
   pub unsent : (t i : ℕ) (p : Peer) (m : Content) → IsFirst l t k i p m → ⊥
   pub answered : (n c : ℕ) (g : Grounds) → IsAnswer l n c k g → g ≡ Fault cause k
 
--- An ask for something opens one exchange, or none where there is no room; a refused one opens none.
+-- There was nothing that it might join, and no room.
+pub record TurnsAway (l : List Noted) (t k : ℕ) (q : CoapRequest) : Type 0 where
+  pub unopened : OpensNone l k C.Busy
+  pub alone : joins (before l k) q ≡ None
+  pub full : has_room (before l k) t q ≡ false
+
+-- An ask for something opens one exchange or joins one, or neither where there is no room; a refused one opens none.
 abbrev pub OpensFor : List Noted → ℕ → ℕ → Sense → Type 0
-OpensFor l t k (Requests q) = OpensOne l k q ⊎ (OpensNone l k C.Busy × (has_room (before l k) t q ≡ false))
+OpensFor l t k (Requests q) = OpensOne l k q ⊎ (JoinsOne l k q ⊎ TurnsAway l t k q)
 OpensFor l t k (Refuses cause status) = OpensNone l k cause
 
 abbrev pub AskedOnce : Type 0

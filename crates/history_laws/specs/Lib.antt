@@ -7,6 +7,7 @@ pub mod Connections
 pub mod Progress
 pub mod Transmissions
 pub mod Exchanges
+pub mod Joining
 pub mod Hearing
 pub mod Confirming
 pub mod Sealing
@@ -14,6 +15,7 @@ pub mod Justified
 pub mod Laws
 pub mod Worked
 pub mod WorkedMessages
+pub mod WorkedReaders
 pub mod WorkedEndings
 pub mod WorkedLate
 pub mod WorkedSpoiled

@@ -2,12 +2,12 @@
 use Rattle.std.specs.Prelude.{List, [], ◌∷◌, ◌++◌, Some, None, codes}
 use Rattle.coap_codec.specs.declared.message.MsgType.TheVariants.{Ack, Rst}
 use Rattle.ask_model.specs.declared.cause.Cause.TheVariants as C
-use Rattle.ask_model.specs.Requests.{request_message}
+use Rattle.ask_model.specs.Requests.{CoapRequest, request_message}
 use Rattle.journal_book.specs.Entries.{Live, Fault, Opens, Asks, Sends, Hears, Passes, Answers, Seals}
 use Rattle.history_laws.specs.Confirmations.{empty}
 use Rattle.history_laws.specs.Readings.{Noted, Plain, Begins, First, Copies, Says, unobserved, noted}
-use Rattle.history_laws.specs.Worked.{server, ask_for, host, token, con, empty_ack, empty_rst}
-use Rattle.history_laws.specs.WorkedMessages.{get_light, put_light, get_bytes, content_bytes, content_message, waiting, copied, let_go, answered}
+use Rattle.history_laws.specs.Worked.{server, asks, ask_for, host, token, con, empty_ack, empty_rst}
+use Rattle.history_laws.specs.WorkedMessages.{put_light, get_bytes, content_bytes, content_message, waiting, copied, let_go, answered}
 use Rattle.history_laws.specs.WorkedEndings.{copied_out}
 
 -- a sixth sending
@@ -31,12 +31,15 @@ renumbered =
     ∷ noted 2000 Passes Plain
     ∷ waiting
 
+abbrev pub get_lamp : CoapRequest
+get_lamp = asks 1 (codes "lamp") []
+
 -- The message of a later ask goes out while the PUT still waits.
 abbrev pub overtaken : List Noted
 overtaken =
-    noted 700 (Sends server (con 1 1 1 ++ (host ++ (133 ∷ codes "light"))) (Some 2000)) (First 6 (request_message get_light 1 (token 1)))
+    noted 700 (Sends server (con 1 1 1 ++ (host ++ (132 ∷ codes "lamp"))) (Some 2000)) (First 6 (request_message get_lamp 1 (token 1)))
     ∷ noted 700 (Hears server (empty_ack 0)) (Says (empty Ack 0) (Some 2) unobserved)
-    ∷ noted 600 (Asks 2 (ask_for get_light)) (Begins get_light)
+    ∷ noted 600 (Asks 2 (ask_for get_lamp)) (Begins get_lamp)
     ∷ noted 600 (Opens 2) Plain
     ∷ waiting
 

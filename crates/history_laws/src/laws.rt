@@ -1,5 +1,6 @@
 //! What holds of every legal reading of a history, as contracts of functions that do nothing.
 
+ghost use Rattle.ask_model.specs.Sharing.{AsksAlike};
 ghost use Rattle.history_laws.specs.Laws.{
   TokensApart,
   IdsApart,
@@ -19,6 +20,8 @@ ghost use Rattle.history_laws.specs.Laws.{
   SentAtOnce,
   AnsweredAtOnce,
   NothingElseSent,
+  OneJoinable,
+  ReadsOpened,
 };
 
 /// Tokens and message IDs keep the proxy's messages apart (RFC 7252 sections 4.4, 5.3.1): a token is
@@ -57,17 +60,25 @@ pub fn replies_fit()
     ensures { RepliesFit }
 {}
 
-/// An answer rests on replies to its own ask alone, which came to messages that ask just what it means,
-/// sent after it; so no answer to a GET is older than a write to its resource that had ended when it was
-/// asked.
+/// A GET joins the open exchange of an equal one, which goes to the same server in an equal message
+/// (RFC 7252 section 5.6). There is one at most that it may join, and it was opened before.
+pub fn readers_join_one()
+    ensures alike { AsksAlike }
+    ensures one { OneJoinable }
+    ensures opened { ReadsOpened }
+{}
+
+/// An answer rests on replies to the exchange that its ask reads alone, which came to messages that ask
+/// just what it means; so no answer to a GET is older than a write to its resource that had ended when
+/// it was asked.
 pub fn rests_on_its_own()
     ensures own { RestsOnItsOwn }
     ensures outrun { NothingOutrun }
 {}
 
 /// Each ask opens one exchange with one message, which goes out once (RFC 7252 section 4.5 is why no
-/// request may go twice) and waits only while another is outstanding at its peer; or it opens none and
-/// is answered in its own step. Nothing else is sent but equal copies, ACKs and RSTs.
+/// request may go twice) and waits only while another is outstanding at its peer; or it joins one; or it
+/// does neither and is answered in its own step. Nothing else is sent but equal copies, ACKs and RSTs.
 pub fn asked_once()
     ensures asked { AskedOnce }
     ensures sent { SentAtOnce }

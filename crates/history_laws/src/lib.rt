@@ -2,25 +2,26 @@
 //! outstanding message a peer, message IDs, repeats (RFC 7252 section 4).
 //!
 //! A history is a list of entries, each with its moment. A reading gives each entry a note, which says
-//! what the entry is: the request of an exchange, whose message is sent, what a datagram answers or
-//! repeats. A history is justified if some reading is legal, that is, if each of its entries may follow
+//! what the entry is: the request of an exchange, which one an ask reads along, whose message is sent,
+//! what a datagram answers or repeats. A history is justified if some reading is legal, that is, if each of its entries may follow
 //! the ones before it, and an input comes only where all that was due is done.
 //!
 //! The definitions stand in `specs/`, to be read in this order. What a history and a core share:
 //! `Responses`, when replies are one whole response, and what it says (RFC 7252 section 5.10, RFC 7959);
 //! `Confirmations`, which ACK or RST answers a datagram; `Causes`, which causes refuse a request;
 //! `Numbering`, the number that a token bears. What a history is: `Readings`, `Connections`, `Progress`,
-//! `Transmissions`, `Exchanges`, `Hearing`, `Confirming`, `Sealing`, `Justified`; then the worked journals,
-//! and `Laws`, which says what follows.
+//! `Transmissions`, `Exchanges`, `Joining`, `Hearing`, `Confirming`, `Sealing`, `Justified`; then the
+//! worked journals, and `Laws`, which says what follows.
 #![tactic(auto)]
 
 mod laws;
 mod worked;
 
 pub use laws::{
-    answered_in_order, asked_once, one_outstanding, open_exactly, replies_fit, rests_on_its_own,
-    sendings_apart,
+    answered_in_order, asked_once, one_outstanding, open_exactly, readers_join_one, replies_fit,
+    rests_on_its_own, sendings_apart,
 };
 pub use worked::{
     spoiled_answers, spoiled_sendings, worked_copies, worked_endings, worked_late, worked_messages,
+    worked_readers,
 };

@@ -5,6 +5,7 @@ ghost use Rattle.history_laws.specs.WorkedCopies as C;
 ghost use Rattle.history_laws.specs.WorkedEndings as E;
 ghost use Rattle.history_laws.specs.WorkedLate as L;
 ghost use Rattle.history_laws.specs.WorkedMessages as M;
+ghost use Rattle.history_laws.specs.WorkedReaders as R;
 ghost use Rattle.history_laws.specs.WorkedSpoiled as S;
 
 /// Copies, an empty ACK, a separate response, its repeat, a message that waits, deadlines.
@@ -30,6 +31,18 @@ pub fn worked_late()
     ensures half_answered { Holds L.half_answered }
     ensures rejected_after { Holds L.rejected_after }
     ensures abandoned { Holds L.abandoned }
+{}
+
+/// GETs that are asked by several: one response for two, and an exchange of its own where a write has
+/// ended since. And what is wrong there: an exchange for each, one joined that a write has outrun, a PUT
+/// that joins, a reader that isn't told.
+pub fn worked_readers()
+    ensures both { Holds R.both_answered }
+    ensures anew { Holds R.read_anew }
+    ensures twice { Refused R.asked_twice }
+    ensures before { Refused R.read_before }
+    ensures put { Refused R.put_once }
+    ensures one_told { Refused R.one_told }
 {}
 
 /// What goes out wrongly: too often, under another or a used message ID, or before its turn.

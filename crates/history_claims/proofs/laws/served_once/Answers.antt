@@ -1,4 +1,5 @@
-use Rattle.history_claims.proofs.Apart.{tokens-once, ids-once, replies-once}
+use Rattle.history_claims.proofs.Apart.{tokens-once, ids-once}
+use Rattle.history_claims.proofs.Shared.{replies-once}
 use Rattle.history_claims.proofs.laws.served_once.Goals as goal
 
 pub returns-clause-tokens : goal.returns-clause-tokens

@@ -1,3 +1,4 @@
+use Rattle.history_claims.proofs.Named.{unnamed}
 use Rattle.history_claims.proofs.Refused.{second, unheeded, unrejected, abandoned}
 use Rattle.history_claims.proofs.worked.not_excused.Goals as goal
 
@@ -6,6 +7,9 @@ returns-clause-second c = second
 
 pub returns-clause-unheeded : goal.returns-clause-unheeded
 returns-clause-unheeded c = unheeded
+
+pub returns-clause-unnamed : goal.returns-clause-unnamed
+returns-clause-unnamed c = unnamed
 
 pub returns-clause-unrejected : goal.returns-clause-unrejected
 returns-clause-unrejected c = unrejected

@@ -1,0 +1,98 @@
+-- A GET whose message went out can't name itself, though an equal one was answered before.
+use Rattle.std.proofs.Common.{◌≡◌, ℕ, ◌<◌, Bool, true, false, eqb, inl, inr, List, [], ◌∷◌, Option, Some, refl, sym, ap, subst, ◌∙◌, arith, lit<}
+use Rattle.std.proofs.lemmas.Bool.{false≢true, or_cases}
+use Rattle.coap_codec.specs.Spelling.{Content, Spells}
+use Rattle.coap_codec.proofs.Unique.{spells_one}
+use Rattle.uri_map.specs.declared.peer.Peer.{Peer}
+use Rattle.ask_model.specs.Requests.{CoapRequest}
+use Rattle.journal_book.specs.Entries.{Live, Done, Sent, done_of, Deed, Sends, Written}
+use Rattle.history_laws.specs.Readings.{entries}
+use Rattle.history_laws.specs.Worked.{server, ask_for}
+use Rattle.history_laws.specs.WorkedMessages as M
+use Rattle.history_laws.specs.WorkedCopies as W
+use Rattle.history_laws.proofs.CallerLemmas.{eqb-same, get-again-spelled, get-spelled, some-is}
+use Rattle.history_claims.specs.Headline.{IsPending, WasFirstSent, IsSentFor, IsShared}
+use Rattle.history_claims.specs.Causes.{IsUnsent}
+use Rattle.history_claims.specs.Worked.{asked_again, Unnamed}
+use Rattle.history_claims.proofs.Examples.{places, entry_of, fourth, sense-same}
+use Rattle.history_claims.proofs.Together.{is_ask, asks-sends, requests-same}
+
+abbrev h : List Written
+h = entries asked_again
+
+-- the GET of entry 1 was answered in entry 4
+not-pending : (k : ℕ) (r : CoapRequest) → 4 < k → IsPending h k 1 r → ⊥
+not-pending k r lt p = p.unanswered 4 700 0 (Live (3 ∷ [])) lt refl
+
+-- so what is pending then is the second
+pending-second : (k a : ℕ) (r : CoapRequest) → 4 < k → IsPending h k a r → a ≡ 5
+pending-second k a r lt p =
+    elim (or_cases (eqb a 1) _ (places is_ask h (1 ∷ 5 ∷ []) 9 a p.moment _ refl refl p.asked.stands refl)) [
+      | inl w ↦ absurd (not-pending k r lt (subst (λ (a : ℕ). IsPending h k a r) (eqb-same a 1 w) p))
+      | inr v ↦ elim (or_cases (eqb a 5) false v) [ inl w ↦ eqb-same a 5 w | inr w ↦ absurd (false≢true w) ]
+    ]
+
+-- its message is that of entry 6, under a token of its own
+abbrev is_sent_so : Option Done → Bool
+is_sent_so (Some (Sent p b (Some w))) = true
+is_sent_so x = false
+
+abbrev is_sent : Deed → Bool
+is_sent d = is_sent_so (done_of d)
+
+done-bytes : (p r : Peer) (b c : List ℕ) (w v : Option ℕ) → Some (Sent p b w) ≡ Some (Sent r c v) → b ≡ c
+done-bytes p r b c w v e = cc
+
+deeds-same : (t s : ℕ) (d e : Deed) → Some (entry_of t d) ≡ Some (entry_of s e) → d ≡ e
+deeds-same t s d e f = ap (λ (x : Written). x.deed) (some-is _ _ f)
+
+other-token : (s : ℕ) (p : Peer) (m : Content) → WasFirstSent h 2 s p m → m.token ≡ W.get_again.token → ⊥
+other-token s p m was same =
+    let text : M.get_bytes ≡ was.bytes =
+    done-bytes server p M.get_bytes was.bytes (Some 2000) (Some was.timeout)
+    (ap done_of (deeds-same 0 s (Sends server M.get_bytes (Some 2000)) was.done.deed was.done.stands) ∙ was.done.says) in
+    let is = spells_one m M.get_message was.bytes was.spelled (subst (Spells M.get_message) text get-spelled) in
+    let numbers : 0 ≡ 2 = ap fourth (sym (ap (λ (m : Content). m.token) is) ∙ same) in
+    absurd (omega (arith, numbers))
+
+issued : (j s : ℕ) (p : Peer) (m : Content) → WasFirstSent h j s p m → m.token ≡ W.get_again.token → j ≡ 6
+issued j s p m was same =
+    elim (or_cases (eqb j 2) _ (places is_sent h (2 ∷ 6 ∷ []) 9 j s was.done.deed refl refl was.done.stands (ap is_sent_so was.done.says))) [
+      | inl w ↦ absurd (other-token s p m (subst (λ (j : ℕ). WasFirstSent h j s p m) (eqb-same j 2 w) was) same)
+      | inr v ↦ elim (or_cases (eqb j 6) false v) [ inl w ↦ eqb-same j 6 w | inr w ↦ absurd (false≢true w) ]
+    ]
+
+sent : IsSentFor h 5 M.get_light 6 W.get_again
+sent =
+    record {
+      after = lit< tt;
+      moment = 800;
+      first = record { bytes = W.get_under 2 2; timeout = 2000; stands = refl; spelled = get-again-spelled };
+      asks = refl;
+      issued = issued;
+    }
+
+-- which shares with no other
+second-alone : (q : CoapRequest) (o since : ℕ) → IsShared h 0 5 q o since → o ≡ 5
+second-alone q o since s =
+    elim (s.shares) [
+      | inl own ↦ own.0
+      | inr j ↦ pending-second 5 o j.0.request (lit< tt) j.0.pending
+    ]
+
+pub unnamed : Unnamed
+unnamed c =
+    elim (c.names) [
+      | inl w ↦
+          let f = w.1.first in
+          absurd (asks-sends 800 w.1.moment 0 (ask_for M.get_light) c.request.peer f.bytes f.timeout f.stands)
+      | inr w ↦ absurd (never (subst (λ (o : ℕ). IsUnsent h 5 o c.request) (second-alone c.request c.opening c.since c.shared) w.1))
+    ]
+  where
+    asks : M.get_light ≡ c.request
+    asks = requests-same M.get_light c.request (sense-same 800 c.shared.moment 0 0 (ask_for M.get_light) _ c.shared.asked.stands)
+
+    never : IsUnsent h 5 5 c.request → ⊥
+    never none =
+        let it = none 6 W.get_again (subst (λ (q : CoapRequest). IsSentFor h 5 q 6 W.get_again) asks sent) in
+        it.2 (pending-second 6 it.0 it.1 (lit< tt) it.4)

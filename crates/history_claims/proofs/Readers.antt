@@ -1,0 +1,118 @@
+-- What an answer's ask reads: the exchange that it opened, or one that it joined.
+use Rattle.std.proofs.Common.{◌≡◌, ◌⊎◌, ℕ, ◌<◌, ◌≤◌, true, inl, inr, List, Option, Some, sym, ap, subst, ◌∙◌, arith}
+use Rattle.coap_codec.specs.Spelling.{Content}
+use Rattle.uri_map.specs.declared.peer.Peer.{Peer}
+use Rattle.ask_model.specs.Requests.{CoapRequest, Requests}
+use Rattle.ask_model.specs.Views.{Ask}
+use Rattle.journal_book.specs.Entries.{Deed, Asks}
+use Rattle.history_laws.specs.Readings.{Noted, Note, Begins, entries, at, before, noted}
+use Rattle.history_laws.specs.Progress.{Ending}
+use Rattle.history_laws.specs.Exchanges.{Begun, begun, openings, is_going}
+use Rattle.history_laws.specs.Justified.{IsAsk, Ends, reads_in, reads, Legal}
+use Rattle.history_laws.specs.Laws.{IsFirst}
+use Rattle.history_laws.proofs.CallerLemmas.{at-before, at-below, at-same, before-twice, begun-early, begun-opening, filtered-from, legal-before, length-before, reader, Reader, ReadsAlong, reads-opened, some-is}
+use Rattle.history_claims.specs.Headline.{IsJoined, IsShared}
+use Rattle.history_claims.proofs.Alike.{IsLike, like-get, same-get, reader-like}
+use Rattle.history_claims.proofs.Asking.{asked-by}
+use Rattle.history_claims.proofs.Hands.{ends-after, ends-later}
+use Rattle.history_claims.proofs.Pending.{pending-is}
+use Rattle.history_claims.proofs.Unsent.{none-for-other}
+use Rattle.history_claims.proofs.Written.{unsealed, fresh-at}
+
+pub record Reads (l : List Noted) (n c k o : ℕ) : Type 0 where
+  pub exchange : Begun
+  pub opened : begun l o ≡ Some exchange
+  pub request : CoapRequest
+  pub like : IsLike exchange.request request
+  pub shared : IsShared (entries l) c k request o exchange.since
+  pub not_later : o ≤ k
+  -- it ends after the ask
+  pub later : (e : ℕ) (how : Ending) → Ends (before l n) o e how → k < e
+  -- what was sent for the ask was sent for it
+  pub sent : ((t i : ℕ) (p : Peer) (m : Content) → IsFirst l t o i p m → ⊥) → (t i : ℕ) (p : Peer) (m : Content) → IsFirst l t k i p m → ⊥
+
+moments-same : (s t : ℕ) (d e : Deed) (u v : Note) → noted s d u ≡ noted t e v → s ≡ t
+moments-same s t d e u v h = ap (λ (x : Noted). x.written.moment) h
+
+-- what it opened is its own, since the ask
+module _ (l : List Noted) (k o : ℕ) (legal : Legal l) (it : Reader l k o) where
+  own-since : o ≡ k → it.exchange.since ≡ it.asked.moment
+  own-since own =
+      let opening = begun-opening l o it.exchange it.opened in
+      let here = subst (λ (i : ℕ). at l i ≡ Some (noted it.exchange.since opening.0 (Begins it.exchange.request))) own opening.1 in
+      moments-same it.exchange.since it.asked.moment opening.0 (Asks it.conn it.ask) (Begins it.exchange.request) it.asked.note
+      (at-same l k _ _ here it.asked.stands)
+
+  -- and what it joined is that of a pending ask
+  module _ (along : ReadsAlong l k o it.request it.exchange) where
+    is-going-then : is_going (before l k) o ≡ true
+    is-going-then = (filtered-from (is_going (before l k)) (openings (before l k)) o along.joined.is_open).1
+
+    joined : (j : IsJoined (entries l) k it.request o) × (it.exchange.since ≡ j.pending.moment)
+    joined =
+        let opened = begun-early l k o it.exchange (at-below l k _ it.asked.stands) it.opened along.earlier in
+        let pending = pending-is l k o _ legal it.asked.stands (unsealed l k o legal it) is-going-then it.exchange opened in (
+          record {
+            request = it.exchange.request;
+            pending = pending.0;
+            same = like-get it.exchange.request it.request (reader-like l k o it) (same-get it.request it.exchange.request along.same);
+            fresh = λ m w lt. fresh-at l k o legal it along m w lt;
+          },
+          pending.1,
+        )
+
+  shares : ((o ≡ k) × (it.exchange.since ≡ it.asked.moment)) ⊎ ((j : IsJoined (entries l) k it.request o) × (it.exchange.since ≡ j.pending.moment))
+  shares = elim (it.way) [ inl own ↦ inl (own.0, own-since own.0) | inr along ↦ inr (joined along) ]
+
+-- an ask that opened an exchange reads that
+begins-own : (l : List Noted) (k o t : ℕ) (d : Deed) (q : CoapRequest) → at l k ≡ Some (noted t d (Begins q)) → reads l k ≡ Some o → k ≡ o
+begins-own l k o t d q here own = some-is k o (subst (λ (x : Option Noted). reads_in k x ≡ Some o) here own)
+
+pub reads-at : (l : List Noted) (n c k o : ℕ) (a : Ask) (x : Noted) → Legal l → at l n ≡ Some x → IsAsk (before l n) k c a → reads (before l n) k ≡ Some o
+    → Reads l n c k o
+reads-at l n c k o a x legal here ask e =
+    let stands = at-before l n k _ ask.stands in
+    let own : reads l k ≡ Some o = subst (λ (x : Option Noted). reads_in k x ≡ Some o) (ask.stands ∙ sym stands) e in
+    let it = reader l k o legal own in
+    let opened = reads-opened l k o legal own in
+    record {
+      exchange = it.exchange;
+      opened = it.opened;
+      request = it.request;
+      like = reader-like l k o it;
+      shared = record {
+        moment = it.asked.moment;
+        asked = asked-by l n c k a (Requests it.request) it.asked.moment it.conn it.ask it.asked.note ask it.asked.stands it.sense;
+        shares = shares l k o legal it;
+      };
+      not_later = opened.0;
+      later = later it;
+      sent = sent own it;
+    }
+  where
+    later : (it : Reader l k o) (e : ℕ) (how : Ending) → Ends (before l n) o e how → k < e
+    later it e how ended =
+        elim (it.way) [
+          | inl own ↦
+              let after = ends-after (before l n) o e how (legal-before l n legal) ended in
+              let same = own.0 in
+              omega (arith, after, same)
+          | inr along ↦
+              let below = subst (λ (m : ℕ). k < m) (length-before l n x here) (at-below (before l n) k _ ask.stands) in
+              let twice = before-twice l n k x here below in
+              ends-later (before l n) k c o e a how ask (subst (λ (v : List Noted). is_going v o ≡ true) (sym twice) (is-going-then l k o legal it along)) ended
+        ]
+
+    opens-none : reads l k ≡ Some o → (it : Reader l k o) → ReadsAlong l k o it.request it.exchange → (q : CoapRequest) → it.asked.note ≡ Begins q → ⊥
+    opens-none own it along q is =
+        let here = subst (λ (note : Note). at l k ≡ Some (noted it.asked.moment (Asks it.conn it.ask) note)) is it.asked.stands in
+        let same = begins-own l k o it.asked.moment (Asks it.conn it.ask) q here own in
+        let lt = along.earlier in
+        absurd (omega (arith, same, lt))
+
+    sent : reads l k ≡ Some o → Reader l k o → ((t i : ℕ) (p : Peer) (m : Content) → IsFirst l t o i p m → ⊥) → (t i : ℕ) (p : Peer) (m : Content) → IsFirst l t k i p m → ⊥
+    sent own it none t i p m f =
+        elim (it.way) [
+          | inl opened ↦ none t i p m (subst (λ (o : ℕ). IsFirst l t o i p m) (sym opened.0) f)
+          | inr along ↦ none-for-other l k it.conn it.asked.moment it.ask it.asked.note legal it.asked.stands (opens-none own it along) t i p m f
+        ]

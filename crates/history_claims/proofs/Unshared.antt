@@ -1,0 +1,148 @@
+-- Of two open exchanges for one GET the later wasn't joined to the earlier: a write came between.
+use Rattle.std.proofs.Common.{◌≡◌, ℕ, ◌<◌, Bool, true, false, ◌&&◌, not, eqb, inl, inr, List, Option, Some, None, refl, sym, ap, subst, ◌∙◌, arith}
+use Rattle.std.specs.Prelude.{is_none, is_some}
+use Rattle.std.proofs.lemmas.Bool.{false≢true, and_parts}
+use Rattle.cache_key.specs.declared.place.Place.{Place}
+use Rattle.cache_key.specs.Keys.{same_key, same_place}
+use Rattle.cache_key.proofs.CallerLemmas.{keys_decided, places_decided}
+use Rattle.ask_model.specs.Requests.{CoapRequest, Sense, Requests}
+use Rattle.ask_model.specs.Sharing.{asked_key, asked_place, is_get, asks_same}
+use Rattle.ask_model.specs.Views.{Ask}
+use Rattle.journal_book.specs.Entries.{Grounds, Asks, Answers}
+use Rattle.history_laws.specs.Readings.{Noted, Begins, entries, at, before, noted}
+use Rattle.history_laws.specs.Connections.{is_sealed}
+use Rattle.history_laws.specs.Exchanges.{Begun, begun, End, end_of, is_going}
+use Rattle.history_laws.specs.Joining.{writes_at, outrun, joins}
+use Rattle.history_laws.specs.Justified.{AskNote, Follows, Legal}
+use Rattle.history_laws.proofs.CallerLemmas.{asked-for, at-below, at-same, before-twice, begun-before, begun-below, begun-early, end-since, ends-first, follows-at, length-before, none-joined, open-exactly, outran, Outran, some-is}
+use Rattle.history_claims.specs.Headline.{IsEntry, IsAsked, IsWrite}
+use Rattle.history_claims.specs.Causes.{AreUnshared}
+use Rattle.history_claims.proofs.Entries.{entries-at, asked-entry, grows}
+use Rattle.history_claims.proofs.Asking.{answers-ask}
+use Rattle.history_claims.proofs.Unsent.{sealed-still}
+use Rattle.history_claims.proofs.Pending.{senses, over-grounds}
+use Rattle.history_claims.proofs.Written.{is-ended}
+
+-- an exchange is for what its ask asks
+pub asked-request : (l : List Noted) (o c t : ℕ) (b : Begun) (q : CoapRequest) → Legal l → begun l o ≡ Some b → IsAsked (entries l) o c t (Requests q)
+    → b.request ≡ q
+asked-request l o c t b q legal e asked =
+    let it = asked-for l o b legal e in
+    let there = entries-at l o _ asked.stands in
+    requests-same b.request q
+    (sym it.sense ∙ senses b.since t it.conn c it.ask _ (Begins b.request) there.0 (at-same l o _ _ it.stands there.1))
+  where
+    requests-same : (q r : CoapRequest) → Requests q ≡ Requests r → q ≡ r
+    requests-same q r e = cc
+
+-- a GET asks the same as itself
+both-true : (a b : Bool) → a ≡ true → b ≡ true → (a && b) ≡ true
+both-true true b e f = f
+both-true false b e f = absurd (false≢true e)
+
+pub asks-itself : (q : CoapRequest) → is_get q ≡ true → asks_same q q ≡ true
+asks-itself q e =
+    both-true (is_get q) _ e (both-true (is_get q) (same_key (asked_key q) (asked_key q)) e ((keys_decided (asked_key q) (asked_key q)).1 refl))
+
+-- what outruns is a write
+pub is-write : (l : List Noted) (q : CoapRequest) (w : ℕ) (v : Begun) → Legal l → begun l w ≡ Some v → writes_at (asked_place q) v ≡ true
+    → IsWrite (entries l) q w
+is-write l q w v legal opened is =
+    let it = asked-for l w v legal opened in
+    let parts = and_parts (not (eqb v.request.method 1)) (same_place (asked_place q) (asked_place v.request)) is in
+    let place = (places_decided (asked_place q) (asked_place v.request)).0 parts.1 in
+    record {
+      conn = it.conn;
+      moment = v.since;
+      request = v.request;
+      asked = asked-entry l w it.conn v.since it.ask (Begins v.request) (Requests v.request) it.stands it.sense;
+      changes = λ e. false≢true (subst (λ (n : ℕ). not (eqb n 1) ≡ true) e parts.0);
+      place = (sym (ap (λ (p : Place). p.peer) place), sym (ap (λ (p : Place). p.path) place));
+    }
+
+-- An answer comes after the end of its exchange.
+pub answered-after : (l : List Noted) (k : ℕ) (x : Noted) → Legal l → at l k ≡ Some x → is_sealed (before l k) ≡ false
+    → (w : ℕ) (v : Begun) (end : End) → begun l w ≡ Some v → end_of (before l k) w ≡ Some end
+    → (n u e : ℕ) (g : Grounds) → n < k → IsEntry (entries l) n u (Answers e w g) → end.number < n
+answered-after l k x legal here unsealed w v end opened ended n u e g lt entry =
+    let it = asked-for l w v legal opened in
+    let its = answers-ask l n u e w g legal entry in
+    let twice = before-twice l k n x here lt in
+    elim (over-grounds l n w v.since it.conn it.ask v.request it.stands it.sense u g its.0.grounds) [
+      | inl over ↦
+          let y = is-ended (end_of (before l n) w) over in
+          let last = ends-first (before l n) w y.0.number y.0.how y.1 in
+          let still = end-since (before l k) n w y.0 (subst (λ (v : List Noted). end_of v w ≡ Some y.0) (sym twice) y.1) in
+          let same : y.0 ≡ end = some-is y.0 end (sym still ∙ ended) in
+          subst (λ (e : End). e.number < n) same
+          (subst (λ (m : ℕ). y.0.number < m) its.1 (at-below (before l n) y.0.number last.0 last.1))
+      | inr sealed ↦
+          let now = grows (λ (l : List Noted). is_sealed l ≡ true) (λ y l h. sealed-still y.written.deed (is_sealed l) h) (before l k) n
+          (subst (λ (v : List Noted). is_sealed v ≡ true) (sym twice) sealed) in
+          absurd (false≢true (sym unsealed ∙ now))
+    ]
+
+module _ (l : List Noted) (k : ℕ) (x : Noted) (legal : Legal l) (here : at l k ≡ Some x) (unsealed : is_sealed (before l k) ≡ false)
+    (a b : ℕ) (first second : Begun) (opened_first : begun (before l k) a ≡ Some first) (opened_second : begun (before l k) b ≡ Some second)
+    (going : is_going (before l k) a ≡ true) (lt : a < b) where
+  below : b < k
+  below = subst (λ (m : ℕ). b < m) (length-before l k x here) (begun-below (before l k) b second opened_second)
+
+  asks : (c : ℕ) × (v : Ask) × (at l b ≡ Some (noted second.since (Asks c v) (Begins second.request))) × (v.sense ≡ Requests second.request)
+  asks = let it = asked-for l b second legal (begun-before l k b second opened_second) in (it.conn, it.ask, it.stands, it.sense)
+
+  -- the earlier was open
+  was-open : end_of (before l b) a ≡ None
+  was-open = go (end_of (before l b) a) refl
+    where
+      go : (e : Option End) → end_of (before l b) a ≡ e → e ≡ None
+      go None is = refl
+      go (Some e) is =
+          let still = end-since (before l k) b a e (subst (λ (v : List Noted). end_of v a ≡ Some e) (sym (before-twice l k b x here below)) is) in
+          absurd (false≢true (subst (λ (e : Option End). is_none e ≡ true) still going))
+
+  -- so a write outran it, or the later would have joined it
+  outran-it : (q : CoapRequest) → is_get q ≡ true → first.request ≡ q → second.request ≡ q → Outran (before l b) (asked_place q) a
+  outran-it q get same_first same_second = go (outrun (before l b) (asked_place q) a) refl
+    where
+      joined-none : joins (before l b) q ≡ None
+      joined-none = told (subst (λ (s : Sense). AskNote (before l b) second.since s (Begins second.request)) asks.3 (note (follows-at l b _ legal asks.2)))
+        where
+          note : Follows (before l b) second.since (Asks asks.0 asks.1) (Begins second.request) → AskNote (before l b) second.since asks.1.sense (Begins second.request)
+          note may = may.3
+
+          told : AskNote (before l b) second.since (Requests second.request) (Begins second.request) → joins (before l b) q ≡ None
+          told may = subst (λ (q : CoapRequest). joins (before l b) q ≡ None) same_second may.1
+
+      go : (late : Bool) → outrun (before l b) (asked_place q) a ≡ late → Outran (before l b) (asked_place q) a
+      go true is = outran (before l b) (asked_place q) a is
+      go false is =
+          let opened = begun-early l b a first (at-below l b _ asks.2) (begun-before l k a first opened_first) lt in
+          absurd (none-joined (before l b) q a joined-none (record {
+            is_open = (open-exactly (before l b) a).1 (ap is_some opened, was-open);
+            exchange = first;
+            opened = opened;
+            same = subst (λ (r : CoapRequest). asks_same q r ≡ true) (sym same_first) (asks-itself q get);
+            fresh = is;
+          }))
+
+  -- and it wasn't answered before its end
+  late-answer : (q : CoapRequest) (h : Outran (before l b) (asked_place q) a) (n u e : ℕ) (g : Grounds) → n < a
+      → IsEntry (entries l) n u (Answers e h.opening g) → ⊥
+  late-answer q h n u e g early entry =
+      let ended = end-since (before l k) b h.opening h.end (subst (λ (v : List Noted). end_of v h.opening ≡ Some h.end) (sym (before-twice l k b x here below)) h.ended) in
+      let lower = below in
+      let after = answered-after l k x legal here unsealed h.opening h.write h.end (begun-before l b h.opening h.write h.opened) ended n u e g (omega (arith, early, lt, lower)) entry in
+      let later = h.later in
+      absurd (omega (arith, after, early, later))
+
+  pub unshared : AreUnshared (entries l) a b
+  unshared c d s t q asked_first asked_second get =
+      let h = outran-it q get
+      (asked-request l a c s first q legal (begun-before l k a first opened_first) asked_first)
+      (asked-request l b d t second q legal (begun-before l k b second opened_second) asked_second) in (
+        h.opening,
+        is-write l q h.opening h.write legal (begun-before l b h.opening h.write h.opened) h.changes,
+        subst (λ (m : ℕ). h.opening < m) (length-before l b _ asks.2) (begun-below (before l b) h.opening h.write h.opened),
+        λ n u e g early entry. late-answer q h n u e g early entry,
+      )

@@ -1,0 +1,193 @@
+-- A write that was answered before a GET joined an exchange was answered before that was opened.
+use Rattle.std.proofs.Common.{◌≡◌, ◌≢◌, ◌⊎◌, ℕ, ◌<◌, ◌≤◌, true, false, inl, inr, List, length, Option, Some, None, refl, sym, ap, subst, ◌∙◌, arith}
+use Rattle.std.specs.Prelude.{is_none}
+use Rattle.std.proofs.lemmas.Bool.Decides.{eqb_tells, leb_tells}
+use Rattle.std.proofs.lemmas.Bool.{false≢true}
+use Rattle.ask_model.specs.declared.cause.Cause.{Cause}
+use Rattle.ask_model.specs.declared.cause.Cause.TheVariants as C
+use Rattle.ask_model.specs.Requests.{CoapRequest, Sense, Requests}
+use Rattle.ask_model.specs.Views.{Ask}
+use Rattle.journal_book.specs.Entries.{Grounds, Live, Kept, Fault, Asks, Answers}
+use Rattle.history_laws.specs.Readings.{Noted, Note, Plain, Begins, Joins, entries, at, before, noted}
+use Rattle.history_laws.specs.Connections.{is_open, is_sealed}
+use Rattle.history_laws.specs.Exchanges.{End, end_of}
+use Rattle.history_laws.specs.Justified.{IsRefused, Caused, HasGrounds, AskNote, reads_by, reads_in, reads, pending, Follows, MayCome, Legal}
+use Rattle.history_laws.proofs.CallerLemmas.{asked-for, at-before, at-below, at-same, at-still, before-twice, end-since, ends-first, follows-at, joins-is, legal-before, none-some, opening-begun, Reader, ReadsAlong, write-earlier}
+use Rattle.history_claims.specs.Headline.{IsWriteAnswer}
+use Rattle.history_claims.proofs.Entries.{entries-at, grows}
+use Rattle.history_claims.proofs.Asking.{AnswersAsk, answers-ask}
+use Rattle.history_claims.proofs.Unsent.{Over, sealed-still}
+use Rattle.history_claims.proofs.Hands.{ends-after, not-at-ask, no-input}
+use Rattle.history_claims.proofs.Pending.{senses, asks-something, over-grounds}
+use Rattle.history_claims.proofs.Alike.{same-get}
+
+-- An ask that was turned away has that as the cause of its answer.
+module _ (l : List Noted) (n o s d : ℕ) (b : Ask) (q : CoapRequest) (stands : at l o ≡ Some (noted s (Asks d b) Plain)) (sense : b.sense ≡ Requests q) where
+  not-refused : (cause : Cause) → IsRefused (before l n) o cause → ⊥
+  not-refused cause h =
+      let same = at-same l o _ _ (at-before l n o _ h.asked.stands) stands in
+      asks-something q cause h.status (sym h.sense ∙ (senses h.asked.moment s h.conn d h.ask b h.asked.note Plain same ∙ sense))
+
+  reads-none : (p : ℕ) → reads (before l n) o ≡ Some p → ⊥
+  reads-none p r = go (at (before l n) o) refl r
+    where
+      go : (x : Option Noted) → at (before l n) o ≡ x → reads_in o x ≡ Some p → ⊥
+      go None is e = none-some p e
+      go (Some x) is e =
+          none-some p (subst (λ (v : Noted). reads_by o v.note ≡ Some p) (at-same l o x (noted s (Asks d b) Plain) (at-before l n o x is) stands) e)
+
+  busy-cause : (t j : ℕ) (cause : Cause) → Caused (before l n) t o cause j → Fault cause j ≡ Fault C.Busy o
+  busy-cause t j C.Busy h = ap (λ (j : ℕ). Fault C.Busy j) h.0
+  busy-cause t j C.Timeout h = absurd (reads-none h.0 h.1)
+  busy-cause t j C.Reset h = absurd (reads-none h.0 h.1)
+  busy-cause t j C.NotUnderstood h = absurd (reads-none h.0 h.1)
+  busy-cause t j C.BadHttp h = absurd (not-refused C.BadHttp h.2)
+  busy-cause t j C.NoMap h = absurd (not-refused C.NoMap h.2)
+  busy-cause t j C.Method h = absurd (not-refused C.Method h.2)
+  busy-cause t j C.Media h = absurd (not-refused C.Media h.2)
+
+  busy-grounds : (t : ℕ) (g : Grounds) → HasGrounds (before l n) t o g → g ≡ Fault C.Busy o
+  busy-grounds t (Live js) h = absurd (reads-none h.0 h.4)
+  busy-grounds t (Kept js) h = absurd h
+  busy-grounds t (Fault cause j) h = busy-cause t j cause h
+
+-- What isn't a GET opens an exchange, or is turned away.
+write-note : (l : List Noted) (t : ℕ) (q : CoapRequest) (note : Note) → AskNote l t (Requests q) note → q.method ≢ 1 → (note ≡ Begins q) ⊎ (note ≡ Plain)
+write-note l t q (Begins r) h other = inl (ap Begins h.0)
+write-note l t q (Joins o) h other = let it = joins-is l q o h in absurd (other (same-get q it.exchange.request it.same))
+write-note l t q Plain h other = inr refl
+write-note l t q note h other = absurd h
+
+ask-note : (l : List Noted) (t c : ℕ) (a : Ask) (q : CoapRequest) (note : Note) → Follows l t (Asks c a) note → a.sense ≡ Requests q
+    → AskNote l t (Requests q) note
+ask-note l t c a q note may sense = subst (λ (s : Sense). AskNote l t s note) sense may.3
+
+pub is-ended : (o : Option End) → is_none o ≡ false → (x : End) × (o ≡ Some x)
+is-ended None e = absurd (false≢true (sym e))
+is-ended (Some x) e = (x, refl)
+
+-- an ask comes while the journal isn't sealed
+pub unsealed : (l : List Noted) (k o : ℕ) → Legal l → Reader l k o → is_sealed (before l k) ≡ false
+unsealed l k o legal it = comes (before l k) it.asked.moment it.conn it.ask it.asked.note (follows-at l k _ legal it.asked.stands)
+  where
+    comes : (v : List Noted) (s d : ℕ) (b : Ask) (note : Note) → Follows v s (Asks d b) note → is_sealed v ≡ false
+    comes v s d b note may = may.0.0
+
+-- the write, its answer in the entry n, and the ask k that joined the exchange of o
+module _ (l : List Noted) (k o : ℕ) (legal : Legal l) (it : Reader l k o) (along : ReadsAlong l k o it.request it.exchange)
+    (n : ℕ) (w : IsWriteAnswer (entries l) it.request n) (lt : n < k) where
+  abbrev write : Ask
+  write = record { came = w.write.asked.came; sense = Requests w.write.request; rules = w.write.asked.rules }
+
+  there : (note : Note) × (at l w.ask ≡ Some (noted w.write.moment (Asks w.write.conn write) note))
+  there = entries-at l w.ask _ w.write.asked.stands
+
+  answer : (note : Note) × (at l n ≡ Some (noted w.moment (Answers w.write.conn w.ask w.grounds) note))
+  answer = entries-at l n _ w.answers
+
+  its : AnswersAsk l n w.moment w.write.conn w.ask w.grounds × (length (before l n) ≡ n)
+  its = answers-ask l n w.moment w.write.conn w.ask w.grounds legal w.answers
+
+  asked-before : w.ask < n
+  asked-before =
+      let it = its.0.asked in
+      subst (λ (m : ℕ). w.ask < m) its.1 (at-below (before l n) w.ask _ it.stands)
+
+  begins : there.0 ≡ Begins w.write.request
+  begins =
+      let follows = follows-at l w.ask _ legal there.1 in
+      elim (write-note (before l w.ask) w.write.moment w.write.request there.0 (ask-note (before l w.ask) w.write.moment w.write.conn write w.write.request there.0 follows refl) w.write.changes) [
+        | inl is ↦ is
+        | inr is ↦
+            let plain = subst (λ (note : Note). at l w.ask ≡ Some (noted w.write.moment (Asks w.write.conn write) note)) is there.1 in
+            absurd (w.had_room (busy-grounds l n w.ask w.write.moment w.write.conn write w.write.request plain refl w.moment w.grounds its.0.grounds))
+      ]
+
+  opens : at l w.ask ≡ Some (noted w.write.moment (Asks w.write.conn write) (Begins w.write.request))
+  opens = subst (λ (note : Note). at l w.ask ≡ Some (noted w.write.moment (Asks w.write.conn write) note)) begins there.1
+
+  over : Over w.ask (before l n)
+  over = over-grounds l n w.ask w.write.moment w.write.conn write w.write.request opens refl w.moment w.grounds its.0.grounds
+
+  twice : before (before l k) n ≡ before l n
+  twice = before-twice l k n _ it.asked.stands lt
+
+  not-sealed : is_sealed (before l n) ≡ true → ⊥
+  not-sealed sealed =
+      let now = grows (λ (l : List Noted). is_sealed l ≡ true) (λ x l h. sealed-still x.written.deed (is_sealed l) h) (before l k) n
+      (subst (λ (v : List Noted). is_sealed v ≡ true) (sym twice) sealed) in
+      false≢true (sym (unsealed l k o legal it) ∙ now)
+
+  opening : (d : ℕ) × (b : Ask) × (at l o ≡ Some (noted it.exchange.since (Asks d b) (Begins it.exchange.request)))
+  opening = let ask = asked-for l o it.exchange legal it.opened in (ask.conn, ask.ask, ask.stands)
+
+  -- it ended before the exchange was opened
+  ended-before : (x : End) → end_of (before l n) w.ask ≡ Some x → x.number < o
+  ended-before x ended =
+      let first = ends-first (before l n) w.ask x.number x.how ended in
+      let soon : x.number < n = subst (λ (m : ℕ). x.number < m) its.1 (at-below (before l n) x.number first.0 first.1) in
+      let all = end-since l n w.ask x ended in
+      let le : x.number ≤ o =
+      write-earlier l k o x.number legal it
+      (record {
+        opening = w.ask;
+        write = record { since = w.write.moment; request = w.write.request };
+        opened = opening-begun l w.ask w.write.moment (Asks w.write.conn write) w.write.request opens;
+        changes = w.write.changes;
+        place = w.write.place;
+        how = x.how;
+        ended = all;
+      })
+      (omega (arith, soon, lt)) in
+      elim (eqb_tells x.number o) [
+        | inl u ↦
+            absurd (not-at-ask l w.ask x.number it.exchange.since opening.0 opening.1 (Begins it.exchange.request) x.how all
+            (subst (λ (i : ℕ). at l i ≡ Some (noted it.exchange.since (Asks opening.0 opening.1) (Begins it.exchange.request))) (sym u.1) opening.2))
+        | inr u ↦ let not = u.1 in omega (arith, le, not)
+      ]
+
+  answered-before : (x : End) → end_of (before l n) w.ask ≡ Some x → n < o
+  answered-before x ended =
+      let sooner = ended-before x ended in
+      elim (leb_tells o n) [
+        | inl u ↦ elim (eqb_tells o n) [
+          | inl v ↦
+              absurd (no-answer it.exchange.since w.moment opening.0 w.write.conn w.ask opening.1 w.grounds _ answer.0
+              (at-same l n _ _ (subst (λ (i : ℕ). at l i ≡ Some (noted it.exchange.since (Asks opening.0 opening.1) (Begins it.exchange.request))) v.1 opening.2) answer.1))
+          | inr v ↦ let le = u.1 in let not = v.1 in absurd (came-between x ended sooner (omega (arith, le, not)))
+        ]
+        | inr u ↦ u.1
+      ]
+    where
+      no-answer : (s u c d k : ℕ) (b : Ask) (g : Grounds) (v z : Note) → noted s (Asks c b) v ≡ noted u (Answers d k g) z → ⊥
+      no-answer s u c d k b g v z e = go (ap (λ (x : Noted). x.written.deed) e)
+        where
+          go : Asks c b ≡ Answers d k g → ⊥
+          go f = cc
+
+      still-open : Follows (before l n) w.moment (Answers w.write.conn w.ask w.grounds) answer.0 → is_open (before l n) w.write.conn ≡ true
+      still-open may = may.1
+
+      still-waits : Follows (before l n) w.moment (Answers w.write.conn w.ask w.grounds) answer.0 → pending (before l n) w.write.conn ≡ Some w.ask
+      still-waits may = may.2
+
+      comes : (v : List Noted) (s d : ℕ) (b : Ask) (note : Note) → Follows v s (Asks d b) note → MayCome v
+      comes v s d b note may = may.0
+
+      came-between : (x : End) → end_of (before l n) w.ask ≡ Some x → x.number < o → o < n → ⊥
+      came-between x ended sooner soon =
+          let early = legal-before l n legal in
+          let last = at-still l n o _ _ answer.1 soon opening.2 in
+          let follows = follows-at l n _ legal answer.1 in
+          let own : reads (before l n) w.ask ≡ Some w.ask =
+          subst (λ (x : Option Noted). reads_in w.ask x ≡ Some w.ask) (sym (at-still l n w.ask _ _ answer.1 asked-before opens)) refl in
+          let after = ends-after (before l n) w.ask x.number x.how early ended in
+          no-input (before l n) w.write.conn w.ask w.ask x.number x.how its.0.ask early its.0.asked own ended after (still-open follows) (still-waits follows)
+          o _ sooner last (comes (before (before l n) o) it.exchange.since opening.0 opening.1 (Begins it.exchange.request) (follows-at (before l n) o _ early last))
+
+  pub fresh-at : n < o
+  fresh-at =
+      elim (over) [
+        | inl end ↦ let x = is-ended (end_of (before l n) w.ask) end in answered-before x.0 x.1
+        | inr sealed ↦ absurd (not-sealed sealed)
+      ]
