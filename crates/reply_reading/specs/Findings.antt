@@ -1,5 +1,6 @@
 -- What an ask comes to, as plain data.
 use Rattle.std.specs.Prelude.{◌≡◌, ℕ, [], ◌∷◌, Option, Some, None, ⊤}
+use Rattle.std.specs.Arc.{arc_value}
 use Rattle.ask_model.specs.declared.cause.Cause.{Cause}
 use Rattle.ask_model.specs.declared.cause.Cause.TheVariants.{NotUnderstood}
 use Rattle.journal_book.specs.Entries.{Grounds, Live, Kept, Fault}
@@ -25,7 +26,7 @@ response_of r = record {
 }
 
 abbrev pub told_of : Outcome → Told
-told_of (O.Whole r) = Tells (response_of r)
+told_of (O.Whole r) = Tells (response_of (arc_value r))
 told_of (O.Fault cause) = Fails cause
 
 pub record Found : Type 0 where

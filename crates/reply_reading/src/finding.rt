@@ -1,6 +1,7 @@
 //! What an ask comes to, and why.
 
 ghost use Rattle.std.specs.Prelude.{◌≡◌, IfOk};
+ghost use Rattle.std.specs.Arc.{arc_value};
 ghost use Rattle.coap_codec.specs.Spelling.{content};
 ghost use Rattle.journal_book.specs.Entries.{Live, Fault};
 ghost use Rattle.journal_book.specs.Views.{grounds_of};
@@ -13,12 +14,13 @@ use coap_codec::Message;
 use journal_book::{Grounds, Numbers};
 use std::alloc::{AllocError, Global};
 use std::marker::Model;
+use std::sync::Arc;
 
 /// What an ask came to.
 #[derive(Drop)]
 pub enum Outcome {
-    /// a response
-    Whole(Response),
+    /// a response, which all who are told it share
+    Whole(Arc<Response>),
     /// an error of the proxy's own, and why
     Fault(Cause),
 }
@@ -62,8 +64,11 @@ impl Finding {
     }
 
     /// A response that rests on the replies in these entries.
-    pub fn whole(response: Response, replies: Numbers) -> Finding
-        ensures { result ≡ record { told = Tells (response_of response); grounds = Live replies } }
+    pub fn whole(response: Arc<Response>, replies: Numbers) -> Finding
+        ensures { result ≡ record {
+          told = Tells (response_of (arc_value response));
+          grounds = Live replies;
+        } }
     {
         Finding {
             outcome: Outcome::Whole(response),
@@ -71,7 +76,7 @@ impl Finding {
         }
     }
 
-    /// An equal value.
+    /// An equal value, which shares the response.
     pub fn copy(&self) -> Result<Finding, AllocError>
         ensures { IfOk result (λ f. f ≡ self.now) }
     {
@@ -98,12 +103,12 @@ impl Finding {
     }
 }
 
-/// An equal outcome.
+/// An equal outcome, which shares the response.
 fn copy_outcome(outcome: &Outcome) -> Result<Outcome, AllocError>
     ensures { IfOk result (λ o. told_of o ≡ told_of outcome.now) }
 {
     match outcome {
-        Outcome::Whole(response) => Ok(Outcome::Whole(response.copy()?)),
+        Outcome::Whole(response) => Ok(Outcome::Whole(Arc::try_clone(response)?)),
         Outcome::Fault(cause) => Ok(Outcome::Fault(*cause)),
     }
 }
@@ -117,5 +122,6 @@ pub fn finding_of(alloc: Global, method: u8, number: u32, m: Message) -> Result<
         return Ok(Finding::fault(Cause::NotUnderstood, number));
     }
     let replies = Numbers::from_slice(alloc, &[number])?;
-    Ok(Finding::whole(response_of(alloc, m)?, replies))
+    let response = Arc::new(alloc, response_of(alloc, m)?)?;
+    Ok(Finding::whole(response, replies))
 }

@@ -27,45 +27,6 @@ pub struct Response {
     pub body: Bytes,
 }
 
-/// Equal values of options.
-fn copy_values(alloc: Global, values: &[Bytes]) -> Result<Vec<Bytes>, AllocError>
-    ensures { IfOk result (λ copy. copy.items ≡ values.now) }
-{
-    let mut copy = Vec::new(alloc);
-    'each: for value in values {
-        copy.push(value.copy()?)?;
-    }
-    Ok(copy)
-}
-
-/// An equal value of an option, if there is one.
-fn copy_value(value: &Option<Bytes>) -> Result<Option<Bytes>, AllocError>
-    ensures { IfOk result (λ copy. copy ≡ value.now) }
-{
-    match value {
-        Some(value) => Ok(Some(value.copy()?)),
-        None => Ok(None),
-    }
-}
-
-impl Response {
-    /// An equal response.
-    pub fn copy(&self) -> Result<Response, AllocError>
-        ensures { IfOk result (λ r. response_of r ≡ response_of self.now) }
-    {
-        let alloc = *self.location_path.allocator();
-        Ok(Response {
-            code: self.code,
-            format: self.format,
-            etag: copy_value(&self.etag)?,
-            max_age: self.max_age,
-            location_path: copy_values(alloc, &self.location_path)?,
-            location_query: copy_values(alloc, &self.location_query)?,
-            body: self.body.copy()?,
-        })
-    }
-}
-
 /// Whether the message, as the only reply to a request with this method, is a whole response.
 pub fn is_whole(method: u8, m: &Message) -> bool
     ensures { result ≡ is_whole method (content m.now) }
