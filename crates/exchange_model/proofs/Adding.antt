@@ -1,25 +1,21 @@
 -- What each entry takes of a journal's room.
 use Rattle.std.proofs.Common.{◌≡◌, ℕ, ◌+◌, ◌*◌, ◌≤◌, Bool, true, false, cond, eqb, List, [], ◌∷◌, ◌++◌, length, Option, Some, None, refl, ap, ◌∙◌, arith, length-append}
-use Rattle.std.specs.Prelude.{count_by, sum_by, fold, unwrap_or}
-use Rattle.std.specs.List.{list_any}
+use Rattle.std.specs.Prelude.{count_by, sum_by}
 use Rattle.std.proofs.lemmas.List.{length-map}
 use Rattle.std.proofs.lemmas.List.Sums.{sum_by_push}
 use Rattle.uri_map.specs.declared.peer.Peer.{Peer}
-use Rattle.ask_model.specs.declared.cause.Cause.TheVariants as C
-use Rattle.journal_book.specs.Entries.{Grounds, Fault, grounds_size, Written, entry_size}
+use Rattle.journal_book.specs.Entries.{Grounds, grounds_size, Written, entry_size}
 use Rattle.message_layer.specs.Hearing.{replies}
 use Rattle.message_layer.specs.declared.state.Outstanding.{Outstanding}
 use Rattle.message_layer.specs.declared.state.Reply.{Reply}
 use Rattle.message_layer.specs.declared.state.Reply.TheVariants as R
 use Rattle.message_layer.specs.declared.state.Waiting.{Waiting}
 use Rattle.exchange_model.specs.declared.kept.Conn.{Conn}
-use Rattle.exchange_model.specs.declared.kept.Exchange.{Exchange}
 use Rattle.exchange_model.specs.State.{State, link_of}
 use Rattle.exchange_model.specs.Steps.{answers, sends_first, sends_copy}
 use Rattle.exchange_model.specs.Resting.{HasConn}
-use Rattle.exchange_model.specs.Calls.{next_by, next, given_back, waits_on, ends, ends_if, times_out}
+use Rattle.exchange_model.specs.Calls.{next_by, next, given_back}
 use Rattle.exchange_model.specs.Room.{has_asked, asks_waiting, seals_left, entries_taken, bytes_taken}
-use Rattle.exchange_model.proofs.Ending.{found-conn}
 use Rattle.exchange_model.proofs.Tidy.{Tidy, short-link, tidy-with, short-first, short-copy}
 use Rattle.exchange_model.proofs.Waiting.{answers-fewer}
 
@@ -123,25 +119,3 @@ answers-adds t c k g S h has small =
     let fewer = answers-fewer c k S.conns has in
     counted 0 0 S (answers t c k g S) _ refl refl h (omega (arith, all, fewer))
     (omega (arith, all, fewer, small))
-
-pub ends-adds : (t : ℕ) (g : Grounds) (e : Exchange) (S : State) → Tidy S.links → grounds_size g ≤ 4
-    → Adds 0 0 S (ends t g e S)
-ends-adds t g e S h small = by (list_any (waits_on e) S.conns) refl
-  where
-    by : (b : Bool) → list_any (waits_on e) S.conns ≡ b
-        → Adds 0 0 S (cond b (answers t e.conn e.opening g S) S)
-    by true is = answers-adds t e.conn e.opening g S h (found-conn e S.conns is) small
-    by false is = stays 0 0 S h
-
-pub ends-if-adds : (t : ℕ) (g : Grounds) (v : Option Exchange) (S : State) → Tidy S.links
-    → grounds_size g ≤ 4 → Adds 0 0 S (ends_if t g v S)
-ends-if-adds t g None S h small = stays 0 0 S h
-ends-if-adds t g (Some e) S h small = ends-adds t g e S h small
-
-pub all-end-adds : (t : ℕ) (es : List Exchange) (S : State) → Tidy S.links
-    → Adds 0 0 S (fold (times_out t) S es)
-all-end-adds t [] S h = stays 0 0 S h
-all-end-adds t (e ∷ es) S h =
-    let one = ends-adds t (Fault C.Timeout (unwrap_or e.sending e.opening)) e S h (omega arith) in
-    at-most 0 0 0 0 S _ (omega arith) (omega arith)
-    (both-add 0 0 0 0 S (times_out t S e) _ one (all-end-adds t es (times_out t S e) one.tidy))

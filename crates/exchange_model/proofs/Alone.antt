@@ -6,10 +6,9 @@ use Rattle.std.proofs.lemmas.Bool.{false≢true}
 use Rattle.std.proofs.lemmas.List.{append-nil, append_assoc}
 use Rattle.ask_model.specs.declared.cause.Cause.TheVariants as C
 use Rattle.journal_book.specs.Entries.{Fault, Written}
-use Rattle.exchange_model.specs.declared.kept.Exchange.{Exchange}
 use Rattle.exchange_model.specs.State.{State}
 use Rattle.exchange_model.specs.Steps.{answers, seals, is_past}
-use Rattle.exchange_model.specs.Calls.{waits_on, times_out, ticked}
+use Rattle.exchange_model.specs.Calls.{Telling, tells, told_late, ticked}
 use Rattle.exchange_model.specs.Room.{fits}
 use Rattle.exchange_model.specs.Sealing.{late, IsAnswer, AnswersAlone, SealedAnswers}
 
@@ -46,29 +45,23 @@ both-added S S1 S2 a b = record {
   links = b.links ∙ a.links;
 }
 
-one-added : (t : ℕ) (S : State) (e : Exchange) → AnswersAlone S (times_out t S e)
-one-added t S e = by (list_any (waits_on e) S.conns)
-  where
-    by : (b : Bool)
-        → AnswersAlone S
-        (cond b (answers t e.conn e.opening (Fault C.Timeout (unwrap_or e.sending e.opening)) S) S)
-    by false = none-added S
-    by true = record {
-      answers = _ ∷ [];
-      entries = refl;
-      are = (tt, tt);
-      sealed = refl;
-      opened = refl;
-      issued = refl;
-      exchanges = refl;
-      links = refl;
-    }
+one-added : (t : ℕ) (S : State) (x : Telling) → AnswersAlone S (tells t S x)
+one-added t S x = record {
+  answers = _ ∷ [];
+  entries = refl;
+  are = (tt, tt);
+  sealed = refl;
+  opened = refl;
+  issued = refl;
+  exchanges = refl;
+  links = refl;
+}
 
-all-added : (t : ℕ) (es : List Exchange) (S : State) → AnswersAlone S (fold (times_out t) S es)
+all-added : (t : ℕ) (xs : List Telling) (S : State) → AnswersAlone S (fold (tells t) S xs)
 all-added t [] S = none-added S
-all-added t (e ∷ es) S =
-    both-added S (times_out t S e) (fold (times_out t) (times_out t S e) es)
-    (one-added t S e) (all-added t es (times_out t S e))
+all-added t (x ∷ xs) S =
+    both-added S (tells t S x) (fold (tells t) (tells t S x) xs)
+    (one-added t S x) (all-added t xs (tells t S x))
 
 pub sealed-answers : SealedAnswers
 sealed-answers t S sealed = by S.sealed sealed
@@ -76,5 +69,5 @@ sealed-answers t S sealed = by S.sealed sealed
     by : (b : Bool) → b ≡ true
         → AnswersAlone S
         (cond b (late t S) (cond (fits (ticked t S)) (ticked t S) (late t (seals t S))))
-    by true e = all-added t (filter (is_past t) S.exchanges) S
+    by true e = all-added t (told_late (filter (is_past t) S.exchanges) S.readers) S
     by false e = absurd (false≢true e)

@@ -64,6 +64,7 @@ pub record Moved (l : List Noted) (t : ℕ) (p : Peer) (S : State) (n : List Not
   pub quiet : owed n ≡ None
   pub others : (q : Peer) → same_peer p q ≡ false → link_of S1.links q ≡ link_of S.links q
   pub conns : S1.conns ≡ S.conns
+  pub readers : S1.readers ≡ S.readers
   pub has : (k : ℕ) → HasExchange S.exchanges k → HasExchange S1.exchanges k
 
 pub rest-by : (tick : ℕ) (s : LinkState) (v : Option Outstanding) (ws : List Waiting) → s.outstanding ≡ v → s.waiting ≡ ws → IsUndue tick v ws → LinkRests tick s
@@ -118,7 +119,7 @@ pub next-moves : (l : List Noted) (t : ℕ) (p : Peer) (S : State) → Amid l t 
 next-moves l t p S a quiet early = by (link_of S.links p).outstanding (link_of S.links p).waiting refl refl
   where
     stays : Moved l t p S l S
-    stays = record { goes = same-goes l; amid = a; quiet = quiet; others = λ q away. refl; conns = refl; has = λ k h. h }
+    stays = record { goes = same-goes l; amid = a; quiet = quiet; others = λ q away. refl; conns = refl; readers = refl; has = λ k h. h }
 
     by : (v : Option Outstanding) (ws : List Waiting) → (link_of S.links p).outstanding ≡ v → (link_of S.links p).waiting ≡ ws
         → (n : List Noted) × Moved l t p S n (next_by t p v ws S) × RestAt n (next_by t p v ws S) p
@@ -152,6 +153,7 @@ next-moves l t p S a quiet early = by (link_of S.links p).outstanding (link_of S
             quiet = refl;
             others = λ q away. link-other p q s away S.links;
             conns = refl;
+            readers = refl;
             has = λ k h. has-sent w.token (length S.entries) S.exchanges k h;
           },
           all-links (λ (q : Peer) (u : LinkState). q ≡ p → LinkRests (ticked l) u) p s S.links (λ same. due_later) (λ q away same. absurd (apart q away same)) p refl,
@@ -175,6 +177,7 @@ confirmed l t p S mid kind bytes a is spelled =
         quiet = refl;
         others = λ q away. refl;
         conns = refl;
+        readers = refl;
         has = λ k h. h;
       },
       refl,
@@ -198,6 +201,6 @@ spelled-empty kind mid first is = record {
 -- the ACK or RST that a link gives is the one that is owed
 pub given-moves : (l : List Noted) (t : ℕ) (p : Peer) (S : State) (mid : ℕ) (r : Reply) → Amid l t S → owed l ≡ due p mid r
     → (n : List Noted) × Moved l t p S n (given_back t p (replies mid r) S) × (link_of (given_back t p (replies mid r) S).links p ≡ link_of S.links p)
-given-moves l t p S mid R.Nothing a is = (l, record { goes = same-goes l; amid = a; quiet = is; others = λ q away. refl; conns = refl; has = λ k h. h }, refl)
+given-moves l t p S mid R.Nothing a is = (l, record { goes = same-goes l; amid = a; quiet = is; others = λ q away. refl; conns = refl; readers = refl; has = λ k h. h }, refl)
 given-moves l t p S mid R.Ack a is = confirmed l t p S mid Ack _ a is (spelled-empty Ack mid 96 refl)
 given-moves l t p S mid R.Rst a is = confirmed l t p S mid Rst _ a is (spelled-empty Rst mid 112 refl)

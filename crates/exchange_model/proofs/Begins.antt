@@ -1,5 +1,5 @@
 -- An ask opens an exchange.
-use Rattle.std.proofs.Common.{◌≡◌, ℕ, ◌+◌, ◌<◌, inl, inr, Bool, true, false, List, [], ◌∷◌, ◌++◌, length, map, refl, sym, ap, subst, ◌∙◌, arith}
+use Rattle.std.proofs.Common.{◌≡◌, ℕ, ◌+◌, ◌<◌, inl, inr, Bool, true, false, not, List, [], ◌∷◌, ◌++◌, length, map, refl, sym, ap, subst, ◌∙◌, arith}
 use Rattle.std.specs.Prelude.{is_none, is_some, ◌||◌}
 use Rattle.std.specs.List.{AllByRecursion, Contains, list_any}
 use Rattle.std.specs.Str.{bytes_eq}
@@ -16,8 +16,9 @@ use Rattle.history_laws.specs.Readings.{Noted, Begins, noted}
 use Rattle.history_laws.specs.Transmissions.{FirstSending, firsts, bears_token}
 use Rattle.history_laws.specs.Exchanges.{openings, is_going, is_waiting, waiting}
 use Rattle.history_laws.specs.Exchanges as H
+use Rattle.ask_model.specs.Sharing.{asked_place}
 use Rattle.history_laws.specs.Justified.{Follows, AskNote}
-use Rattle.history_laws.proofs.CallerLemmas.{all-more, all-push, at-new, contains-none, entries-length, eqb-itself, filter-push, first-or-later, not-yet, opened-issued, opened-rank, rank-below, unbegun, waiting-all, waiting-goes}
+use Rattle.history_laws.proofs.CallerLemmas.{all-more, all-push, at-new, contains-none, none-outran, entries-length, eqb-itself, filter-push, first-or-later, not-yet, opened-issued, opened-rank, rank-below, unbegun, waiting-all, waiting-goes}
 use Rattle.history_links.specs.Agrees.{Start, WaitIn, IsWaitingFor, Agrees}
 use Rattle.history_links.proofs.CallerLemmas.{ask-elsewhere, queued-agrees}
 use Rattle.exchange_model.specs.declared.kept.Exchange.{Exchange}
@@ -27,6 +28,7 @@ use Rattle.exchange_model.specs.Steps.{exchange_for}
 use Rattle.exchange_model.specs.Laws.{BeginsLeads}
 use Rattle.exchange_model.proofs.Lists.{all-both}
 use Rattle.exchange_model.proofs.Opened.{OpenIn, open-ones}
+use Rattle.exchange_model.proofs.Outrun.{current-still, none-ends}
 use Rattle.exchange_model.proofs.Tables.{exchange-stays, all-links}
 use Rattle.exchange_model.proofs.Silent.{later-than, link-before, moment-now}
 
@@ -75,21 +77,22 @@ unborne token n e (f ∷ fs) a = by (bytes_eq f.message.token token) refl (unbor
     by false h ih = ih
 
 pub begins-leads : BeginsLeads
-begins-leads l t c a q token text word S b may who sense room spelled size number =
+begins-leads l t c a q token text word S b may who sense alone room spelled size number =
     let r = b.reads in
     let later = later-than l t S b in
     let x = noted t (Asks c a) (Begins q) in
     let n = x ∷ l in
-    let e = exchange_for t c q token S in
+    let e = exchange_for t q token S in
     let w = waits token text word in
     let here : length S.entries ≡ length l = ap length (sym r.entries_are) ∙ entries-length l in
-    let note : AskNote l t a.sense (Begins q) = rw (sense) (refl, room) in
+    let note : AskNote l t a.sense (Begins q) = rw (sense) (refl, alone, room) in
     let follows : Follows l t (Asks c a) (Begins q) = (may, who.open_now, who.idle, note) in
     let none = unbegun l (length l) r.legal (not-yet l) in
     let fresh : bears_token l token ≡ false = unborne token S.issued number (firsts l) r.tokens_are in
     let link = link-before l t S b in
     let s = queued t w (link_of S.links q.peer) in
     let kept = all-both (OpenIn b.reads.start l) _ S.exchanges (open-ones l S r) r.waiting_are in
+    let current-begun = current-still x l S r [] (none-ends x l S r (λ o. refl)) (r.legal, later, follows) refl in
     let begins : is_some (H.begun n (length l)) ≡ true = rw (eqb-itself (length l)) refl in
     record {
       follows = follows;
@@ -104,10 +107,11 @@ begins-leads l t c a q token text word S b may who sense room spelled size numbe
         opens_are = r.opens_are;
         issued_are = (let more = opened-issued x l r.legal begins (ap is_none none.1) in let before = r.issued_are in omega (arith, more, before));
         conns_are = rw (r.conns_are, here) refl;
+        readers_are = rw (r.readers_are, here) refl;
         keys = filter-push (is_going n) (openings l) (length l) (ap is_none none.1)
             ∙ (ap (λ (os : List ℕ). os ++ length l ∷ []) r.keys
             ∙ (ap (λ (k : ℕ). map opening_of S.exchanges ++ k ∷ []) (sym here) ∙ sym (map_push opening_of S.exchanges e)));
-        exchanges_are = all-push (ExchangeIn b.reads.start n) S.exchanges e (all-more (ExchangeIn b.reads.start l) (ExchangeIn b.reads.start n) (λ y h. exchange-stays x l y (λ k. k) refl h) S.exchanges r.exchanges_are)
+        exchanges_are = all-push (ExchangeIn b.reads.start n) S.exchanges e (all-more (ExchangeIn b.reads.start l) (ExchangeIn b.reads.start n) (λ y h. exchange-stays x l y y.current (λ k. k) refl h (current-begun y h)) S.exchanges r.exchanges_are)
             (subst (λ (k : ℕ). ExchangeIn b.reads.start n (record e { opening = k })) (sym here) (record {
               request = q;
               opening = rw (eqb-itself (length l)) refl;
@@ -116,6 +120,8 @@ begins-leads l t c a q token text word S b may who sense room spelled size numbe
               number = ap (λ (k : ℕ). r.start.issued + k) (opened-rank x l r.legal) ∙ (r.issued_are ∙ sym number);
               sending = none.0;
               sent = fresh;
+              current = ap not (sym (none-outran n (asked_place q) (length l) (omega arith)));
+              conn = c;
               ask = a;
               stands = at-new x l;
             }));
@@ -144,7 +150,7 @@ begins-leads l t c a q token text word S b may who sense room spelled size numbe
           absurd (omega (arith, less, mine, issued, is, same, number))
     ]
 
-    new : WaitsUnder ((link_of S.links q.peer).waiting ++ waits token text word ∷ []) (exchange_for t c q token S)
+    new : WaitsUnder ((link_of S.links q.peer).waiting ++ waits token text word ∷ []) (exchange_for t q token S)
     new v has same = elim (Contains-push_cases (link_of S.links q.peer).waiting (waits token text word) v has) [
       | inl k ↦ absurd (above v k same)
       | inr e ↦ ap (λ (u : Waiting). u.token) (sym e)

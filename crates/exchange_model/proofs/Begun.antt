@@ -6,6 +6,7 @@ use Rattle.std.specs.List.{AllByRecursion}
 use Rattle.std.specs.Str.{bytes_eq}
 use Rattle.std.proofs.lemmas.Slice.Eq.{bytes_eq-Decides}
 use Rattle.std.proofs.lemmas.List.{map_push}
+use Rattle.uri_map.specs.declared.peer.Peer.{Peer}
 use Rattle.ask_model.specs.declared.cause.Cause.TheVariants as C
 use Rattle.ask_model.specs.Requests.{Sense}
 use Rattle.journal_book.specs.Entries.{Deed, Asks}
@@ -17,22 +18,28 @@ use Rattle.message_layer.specs.declared.state.Outstanding.{Outstanding}
 use Rattle.message_layer.specs.declared.state.Waiting.{Waiting}
 use Rattle.exchange_model.proofs.Opened.{OpenIn, open-ones}
 use Rattle.exchange_model.specs.declared.kept.Exchange.{Exchange}
+use Rattle.exchange_model.specs.declared.kept.Reader.{Reader}
 use Rattle.exchange_model.specs.State.{PeerLink, State, link_of, with_link}
 use Rattle.exchange_model.specs.Reads.{ExchangeIn}
 use Rattle.exchange_model.specs.Steps.{exchange_for, begins, entered, given_out, is_under, went_out}
-use Rattle.exchange_model.specs.Calls.{asked_by, refused, next}
-use Rattle.exchange_model.specs.Entering.{going_as, sent_as, first_deeds, in_turn, at_once, begun, BeginsEnter, RefusalsEnter, BusyEnters}
-use Rattle.exchange_model.proofs.Entered.{put, framed, next-put, turn_of, out-at}
+use Rattle.exchange_model.specs.Calls.{asked_with, asked_by, refused, next}
+use Rattle.exchange_model.specs.Entering.{going_as, sent_as, first_deeds, in_turn, at_once, begun, entered_all, BeginsEnter, JoinsEnter, RefusalsEnter, BusyEnters}
+use Rattle.exchange_model.proofs.Entered.{put, next-put, turn_of, out-at}
 use Rattle.exchange_model.proofs.LinksHeard.{Turns, turns}
 
 pub refusals-enter : RefusalsEnter
 refusals-enter t c a n cause status S e = ap (λ (z : Sense). asked_by z t c a n S) e
 
 pub busy-enters : BusyEnters
-busy-enters t c a q n S e full =
+busy-enters t c a q n S e none full =
     ap (λ (z : Sense). asked_by z t c a n S) e
+    ∙ (ap (λ (v : Option Exchange). asked_with v t c a q n S) none
     ∙ ap (λ (b : Bool). cond b (next t q.peer (begins t c a q n.token n.text n.word S))
-    (refused t c a C.Busy S)) full
+    (refused t c a C.Busy S)) full)
+
+pub joins-enter : JoinsEnter
+joins-enter t c a q n e S sense found =
+    ap (λ (z : Sense). asked_by z t c a n S) sense ∙ ap (λ (v : Option Exchange). asked_with v t c a q n S) found
 
 -- No exchange but the new one has its token.
 itself : (token : List ℕ) → bytes_eq token token ≡ true
@@ -69,9 +76,18 @@ turn-at-once : (w : Waiting) (v : Option Outstanding) (ws : List Waiting) → Tu
 turn-at-once w (Some o) ws h = refl
 turn-at-once w None ws h = ap (λ (us : List Waiting). in_turn true (us ++ w ∷ [])) h
 
+-- A message that goes out is nothing to these tables.
+opens-framed : (t : ℕ) (p : Peer) (m : Option ℕ) (w : Option Waiting) (n : ℕ) (es : List Exchange) (rs : List Reader) (xs : List PeerLink)
+    (fs : List Exchange) (ys : List PeerLink) (S : State)
+    → put t (first_deeds t p m w) es xs (record S { issued = n; exchanges = fs; readers = rs; links = ys })
+    ≡ (let S1 = entered_all t (first_deeds t p m w) S in record S1 { issued = n; exchanges = es; readers = rs; links = xs })
+opens-framed t p m None n es rs xs fs ys S = refl
+opens-framed t p m (Some w) n es rs xs fs ys S = refl
+
 pub begins-enter : BeginsEnter
-begins-enter t c a q n S may drained numbered sense place =
+begins-enter t c a q n S may drained numbered sense none place =
     ap (λ (z : Sense). asked_by z t c a n S) sense
+    ∙ (ap (λ (v : Option Exchange). asked_with v t c a q n S) none
     ∙ (ap (λ (b : Bool). cond b (next t q.peer S1) (refused t c a C.Busy S)) place
     ∙ (next-put t q.peer s1 S.links S1 refl (out-at q.peer S.links drained.out)
     ∙ (ap (λ (x : Option Waiting). put t (first_deeds t q.peer s.last_mid x)
@@ -80,9 +96,8 @@ begins-enter t c a q n S may drained numbered sense place =
     (length-append S.entries (record { moment = t; deed = Asks c a } ∷ []))
     ∙ (ap (λ (es : List Exchange). put t ds es links S1)
     (new-sent w (length S.entries + 1) s.outstanding S.exchanges
-    (exchange_for t c q n.token S) refl refl fresh)
-    ∙ ap (λ (U : State). record U { exchanges = (begun t c a q n S).exchanges; links = links })
-    (framed t ds (S.issued + 1) S1.exchanges S1.links (entered t (Asks c a) S)))))))
+    (exchange_for t q n.token S) refl refl fresh)
+    ∙ opens-framed t q.peer s.last_mid up (S.issued + 1) (begun t c a q n S).exchanges S1.readers links S1.exchanges S1.links (entered t (Asks c a) S)))))))
   where
     s : LinkState
     s = link_of S.links q.peer

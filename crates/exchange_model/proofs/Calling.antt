@@ -24,13 +24,16 @@ use Rattle.message_layer.specs.declared.verdict.Verdict.{Verdict}
 use Rattle.history_laws.specs.Readings.{Noted}
 use Rattle.history_links.specs.Steps.{ended_token}
 use Rattle.exchange_model.specs.declared.kept.Conn.{Conn}
+use Rattle.exchange_model.specs.declared.kept.Exchange.{Exchange}
 use Rattle.exchange_model.specs.State.{State, link_of, pend}
 use Rattle.exchange_model.specs.Reads.{Reads}
-use Rattle.exchange_model.specs.Steps.{opens, asks, begins, hears, hears_nothing}
+use Rattle.exchange_model.specs.Steps.{joins, opens, asks, begins, hears, hears_nothing}
 use Rattle.exchange_model.specs.Resting.{HasConn}
-use Rattle.exchange_model.specs.Calls.{Numbers, next, refused, has_place, asked_by, asked, given_back, grounds_by, takes_new, takes_by, repeats, resets, reads_so, heard, method_in, ended_by, grounds_of}
+use Rattle.exchange_model.specs.Calls.{joined, asked_with, Numbers, next, refused, has_place, asked_by, asked, given_back, grounds_by, takes_new, takes_by, repeats, resets, reads_so, heard, method_in, ended_by, grounds_of}
 use Rattle.exchange_model.specs.Room.{has_asked}
-use Rattle.exchange_model.proofs.Adding.{Adds, stays, both-add, at-most, counted, still-adds, given-adds, next-adds, answers-adds, ends-if-adds}
+use Rattle.exchange_model.proofs.Adding.{Adds, stays, both-add, at-most, counted, still-adds, given-adds, next-adds, answers-adds}
+use Rattle.exchange_model.proofs.ToldAdds.{for-adds, Served}
+use Rattle.exchange_model.proofs.Heeded.{given-conns, next-conns}
 use Rattle.exchange_model.proofs.Tallies.{id-once}
 use Rattle.exchange_model.proofs.Tidy.{Tidy, short-link, tidy-with, short-queued, short-heard}
 use Rattle.exchange_model.proofs.Waiting.{opens-none, asks-more}
@@ -99,14 +102,23 @@ asked-adds l t c a n S r h has short = by a.sense
 
     by : (s : Sense) → Adds 3 (92144 + came_size a.came) S (asked_by s t c a n S)
     by (Refuses cause status) = turned_away cause
-    by (Requests q) = place (has_place t q.peer S)
+    by (Requests q) = with (joined q S)
       where
+        joining : (e : Exchange) → Adds 3 (92144 + came_size a.came) S (joins t c a e.opening S)
+        joining e = at-most 2 (90064 + came_size a.came) 3 (92144 + came_size a.came) S
+            (joins t c a e.opening S) (omega arith) (omega arith)
+            (asks-counts l t c a S (joins t c a e.opening S) r refl refl refl h)
+
         place : (b : Bool)
             → Adds 3 (92144 + came_size a.came) S
             (cond b (next t q.peer (begins t c a q n.token n.text n.word S))
             (refused t c a C.Busy S))
         place true = begun-adds l t c a q n S r h short
         place false = turned_away C.Busy
+
+        with : (v : Option Exchange) → Adds 3 (92144 + came_size a.came) S (asked_with v t c a q n S)
+        with (Some e) = joining e
+        with None = place (has_place t q.peer S)
 
 -- A datagram, its ACK or RST, the next message, and an answer.
 
@@ -137,8 +149,8 @@ answered-adds t p d mid r S h short =
     (given-adds t p mid r (hears_nothing t p d S) h))
 
 new-adds : (t : ℕ) (p : Peer) (d : List ℕ) (m : Content) (v : Verdict) (S : State) → Tidy S.links
-    → length d ≤ 2048 → Adds 3 4260 S (takes_new t p d m v S)
-new-adds t p d m v S h short =
+    → Served S → length d ≤ 2048 → Adds 3 4260 S (takes_new t p d m v S)
+new-adds t p d m v S h served short =
     let S1 = hears t p d m S in
     let tidy = tidy-with p _ S.links h
     (short-heard t m.mid m.token (verdict_of t (link_of S.links p) m) (link_of S.links p)
@@ -148,22 +160,23 @@ new-adds t p d m v S h short =
     let two = given-adds t p m.mid v.reply S1 tidy in
     let S3 = next t p S2 in
     let three = next-adds t p S2 two.tidy in
-    let four = ends-if-adds t (grounds_of v m S) (ended_by v m S) S3 three.tidy
+    let four = for-adds t (ended_by v m S) (grounds_of v m S) S.readers S3 three.tidy
+    (rw (next-conns t p S2, given-conns t p (replies m.mid v.reply) S1) served.waits) served.apart
     (grounds-small v.news (length S.entries) (method_in (ended_by v m S)) m) in
     at-most 3 4260 3 4260 S _ (omega arith) (omega arith)
     (both-add 3 4260 0 0 S S3 _
     (both-add 2 2180 1 2080 S S2 S3 (both-add 1 2112 1 68 S S1 S2 one two) three) four)
 
 pub heard-adds : (t : ℕ) (p : Peer) (d : List ℕ) (S : State) → Tidy S.links
-    → Adds 3 4260 S (heard t p d S)
-heard-adds t p d S h = by (is_some (link_of S.links p).last_mid) (leb (length d) 2048) refl
+    → Served S → Adds 3 4260 S (heard t p d S)
+heard-adds t p d S h served = by (is_some (link_of S.links p).last_mid) (leb (length d) 2048) refl
   where
     new : length d ≤ 2048 → (m : Content) (v : Verdict) (news : News)
         → Adds 3 4260 S (takes_by t p d m v news S)
     new short m v N.Lost = stays 3 4260 S h
-    new short m v N.Quiet = new-adds t p d m v S h short
-    new short m v N.Response = new-adds t p d m v S h short
-    new short m v (N.Reset token) = new-adds t p d m v S h short
+    new short m v N.Quiet = new-adds t p d m v S h served short
+    new short m v N.Response = new-adds t p d m v S h served short
+    new short m v (N.Reset token) = new-adds t p d m v S h served short
 
     message : length d ≤ 2048 → (m : Content) (v : Verdict) (b : Bool)
         → Adds 3 4260 S

@@ -9,7 +9,7 @@ use Rattle.history_laws.specs.Connections.{is_sealed, has_opened, opened}
 use Rattle.history_laws.specs.Transmissions.{FirstSending, Transmission, last_sent, transmission, outstanding, if_outstanding}
 use Rattle.history_laws.specs.Exchanges.{openings, open_exchanges, awaited, waits_for, waiting, is_waiting, is_submitted_at, is_going, is_issued_at, issued, issued_by}
 use Rattle.exchange_model.specs.declared.kept.Conn.{Conn}
-use Rattle.exchange_model.specs.Reads.{conns_of, opens_in}
+use Rattle.exchange_model.specs.Reads.{readers_of, conns_of, opens_in}
 use Rattle.exchange_model.proofs.Shapes.{Kept, Sending, Hearing, kept_as, still_kept, copy_as}
 use Rattle.exchange_model.proofs.Copies.{cons_if, add_kept, copied}
 
@@ -76,6 +76,13 @@ pub conns-copied : (t : ℕ) (l : List Noted) → conns_of (copied t l) ≡ []
 conns-copied = same-copied conns_of by
   where
     by : SameWith conns_of
+    by n s (Sending p b w m) l = refl
+    by n s (Hearing p b m a) l = refl
+
+pub readers-copied : (t : ℕ) (l : List Noted) → readers_of (copied t l) ≡ []
+readers-copied = same-copied readers_of by
+  where
+    by : SameWith readers_of
     by n s (Sending p b w m) l = refl
     by n s (Hearing p b m a) l = refl
 

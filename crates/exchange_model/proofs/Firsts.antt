@@ -1,5 +1,5 @@
 -- The message that waits first goes out.
-use Rattle.std.proofs.Common.{◌≡◌, ℕ, zero, ◌+◌, ◌<◌, ◌⊎◌, inl, inr, Bool, true, false, cond, eqb, List, [], ◌∷◌, ◌++◌, length, map, Option, Some, refl, sym, ap, subst, ◌∙◌, arith}
+use Rattle.std.proofs.Common.{◌≡◌, ℕ, zero, ◌+◌, ◌<◌, ◌⊎◌, inl, inr, Bool, true, false, not, cond, eqb, List, [], ◌∷◌, ◌++◌, length, map, Option, Some, refl, sym, ap, subst, ◌∙◌, arith}
 use Rattle.std.specs.Prelude.{is_none}
 use Rattle.std.specs.List.{AllByRecursion, Contains}
 use Rattle.std.specs.Str.{bytes_eq}
@@ -19,8 +19,10 @@ use Rattle.message_layer.specs.declared.state.Waiting.{Waiting}
 use Rattle.history_laws.specs.Readings.{Noted}
 use Rattle.history_laws.specs.Transmissions.{FirstSending, bears_token}
 use Rattle.history_laws.specs.Exchanges.{Begun, begun, goes_to, openings, is_going, is_waiting, waits_for, rank}
+use Rattle.ask_model.specs.Sharing.{asked_place}
+use Rattle.history_laws.specs.Joining.{outrun}
 use Rattle.history_laws.specs.Justified.{Legal}
-use Rattle.history_laws.proofs.CallerLemmas.{all-more, and-left, at-keeps, begun-keeps, contains-later, entries-length, eqb-itself, issued-same, rank-below, rank-keeps, replies-stay, waiting-goes}
+use Rattle.history_laws.proofs.CallerLemmas.{all-more, outrun-same, and-left, at-keeps, begun-keeps, contains-later, entries-length, eqb-itself, issued-same, rank-below, rank-keeps, replies-stay, waiting-goes}
 use Rattle.history_links.specs.Agrees.{Start, IsWaitingFor, Agrees}
 use Rattle.history_links.proofs.CallerLemmas.{ends-sent, next-follows, send-elsewhere, sent, sent-quiet, waits-sent}
 use Rattle.exchange_model.specs.declared.kept.Exchange.{Exchange}
@@ -42,6 +44,11 @@ keys-kept token i (e ∷ es) = rw (← keys-kept token i es) (ap (λ (o : ℕ). 
     by true = refl
     by false = refl
 
+current-sent : {start : Start} (l : List Noted) (t : ℕ) (p : Peer) (bytes : List ℕ) (timeout : Option ℕ) (o : ℕ) (m : Content) (e : Exchange) (a : ExchangeIn start l e)
+    → e.current ≡ not (outrun (sent t p bytes timeout o m ∷ l) (asked_place a.request) e.opening)
+current-sent l t p bytes timeout o m e a =
+    a.current ∙ ap not (sym (outrun-same l (sent t p bytes timeout o m ∷ l) refl (λ q. refl) (λ q. ends-sent l t p bytes timeout o m q) (asked_place a.request) e.opening))
+
 -- what is kept of an exchange after it
 mine : {start : Start} (l : List Noted) (t : ℕ) (p : Peer) (bytes : List ℕ) (timeout : Option ℕ) (o : ℕ) (m : Content) (w : Waiting)
     → Legal l → is_waiting l p o ≡ true → (a : IsWaitingFor start l o w) → m.token ≡ w.token → (e : Exchange) → ExchangeIn start l e → is_going l e.opening ≡ true → (e.peer ≡ p → token_number w.token ≡ token_number e.token → w.token ≡ e.token)
@@ -61,12 +68,14 @@ mine {start = start} l t p bytes timeout o m w legal waits a token e h goes_on u
       number = ap (λ (k : ℕ). start.issued + k) (rank-keeps x l e.opening _ h.opening (replies-stay (length l) _ _ (sent-quiet l t p bytes timeout o m e.opening))) ∙ h.number;
       sending = waits-sent l t p bytes timeout o m e.opening ∙ ap (λ (k : ℕ). cond (eqb o k) (Some (length l)) (waits_for l k)) (sym at) ∙ rw (eqb-itself o) refl;
       sent = (f, rw (eqb-itself (length l)) refl, sym (same_peer-same h.request.peer p peer) ∙ h.peer, token ∙ sym same);
+      current = current-sent l t p bytes timeout o m e h;
+      conn = h.conn;
       ask = h.ask;
       stands = at-keeps x l e.opening _ h.stands;
     }
 mine {start = start} l t p bytes timeout o m w legal waits a token e h goes_on under false is =
     let x = sent t p bytes timeout o m in
-    exchange-stays x l e unborne (waits-sent l t p bytes timeout o m e.opening ∙ rw (other) refl) h
+    exchange-stays x l e e.current unborne (waits-sent l t p bytes timeout o m e.opening ∙ rw (other) refl) h (current-sent l t p bytes timeout o m e h)
   where
     peer-of : o ≡ e.opening → e.peer ≡ p
     peer-of at =
@@ -119,6 +128,7 @@ first-leads l t p w ws S b q small few free is =
           opens_are = r.opens_are;
           issued_are = ap (λ (k : ℕ). r.start.issued + k) (issued-same x l refl (λ k goes. sent-quiet l t p v.datagram (Some v.timeout) o m k)) ∙ r.issued_are;
           conns_are = r.conns_are;
+          readers_are = r.readers_are;
           keys = filter_agree (is_going n) (is_going l) (λ k. ap is_none (ends-sent l t p v.datagram (Some v.timeout) o m k)) (openings l) ∙ (r.keys ∙ keys-kept w.token (length S.entries) S.exchanges);
           exchanges_are = subst (λ (k : ℕ). AllByRecursion (ExchangeIn b.reads.start n) (map (went_out w.token k) S.exchanges)) (sym here)
               (all-map (went_out w.token (length l)) (ExchangeIn b.reads.start n) S.exchanges

@@ -1,46 +1,51 @@
 -- What the answer to the ask of an exchange that has ended rests on.
 use Rattle.std.proofs.Common.{◌≡◌, ℕ, ◌⊎◌, inl, inr, List, Some, None, refl, ◌∙◌}
-use Rattle.ask_model.specs.Requests.{CoapRequest}
-use Rattle.ask_model.specs.Views.{Ask}
 use Rattle.ask_model.specs.declared.cause.Cause.TheVariants as C
-use Rattle.journal_book.specs.Entries.{Grounds, Live, Kept, Fault, Asks}
+use Rattle.journal_book.specs.Entries.{Grounds, Live, Kept, Fault}
 use Rattle.history_laws.specs.Responses.{Response}
-use Rattle.history_laws.specs.Readings.{Noted, Begins, at, ticked, noted}
+use Rattle.history_laws.specs.Readings.{Noted, at, ticked}
 use Rattle.history_laws.specs.Progress.{Reply, numbers, Whole, NotUnderstood, Reset, TimedOut}
 use Rattle.history_laws.specs.Transmissions.{sent_last}
 use Rattle.history_laws.specs.Exchanges.{End, end_of}
-use Rattle.history_laws.specs.Justified.{Ends, HasGrounds, reads}
-use Rattle.exchange_model.specs.declared.kept.Exchange.{Exchange}
+use Rattle.history_laws.specs.Justified.{Ends, HasGrounds, reads, reads_by}
+use Rattle.exchange_model.specs.Calls.{Telling}
 
--- the exchange ended so, and its latest first sending is named, or its ask where nothing was sent
+-- By what was heard the exchange ended so.
 abbrev pub GroundsOf : List Noted → ℕ → Grounds → Type 0
 GroundsOf l o (Live js) = (n : ℕ) × (w : Response) × (rs : List Reply) × Ends l o n (Whole w rs) × (js ≡ numbers rs)
-GroundsOf l o (Kept js) = ⊥
 GroundsOf l o (Fault C.NotUnderstood n) = Ends l o n NotUnderstood
 GroundsOf l o (Fault C.Reset n) = Ends l o n Reset
-GroundsOf l o (Fault C.Timeout n) = ((sent_last l o ≡ Some n) ⊎ ((sent_last l o ≡ None) × (n ≡ o))) × ((e : ℕ) × Ends l o e TimedOut)
-GroundsOf l o (Fault cause n) = ⊥
+GroundsOf l o _ = ⊥
 
--- it was opened by an ask of its connection
-pub record IsOver (l : List Noted) (e : Exchange) (g : Grounds) : Type 0 where
-  pub request : CoapRequest
-  pub ask : Ask
-  pub stands : at l e.opening ≡ Some (noted e.since (Asks e.conn ask) (Begins request))
-  pub grounds : GroundsOf l e.opening g
+-- It ended so, or took too long: its latest first sending is named, or the ask of who waits where nothing
+-- was sent.
+abbrev pub GroundsFor : List Noted → ℕ → ℕ → Grounds → Type 0
+GroundsFor l k o (Fault C.Timeout n) = ((sent_last l o ≡ Some n) ⊎ ((sent_last l o ≡ None) × (n ≡ k))) × ((e : ℕ) × Ends l o e TimedOut)
+GroundsFor l k o g = GroundsOf l o g
 
-own : (l : List Noted) (e : Exchange) (g : Grounds) → IsOver l e g → reads l e.opening ≡ Some e.opening
-own l e g a = rw (a.stands) refl
+pub grounds-for : (l : List Noted) (k o : ℕ) (g : Grounds) → GroundsOf l o g → GroundsFor l k o g
+grounds-for l k o (Live js) h = h
+grounds-for l k o (Kept js) h = absurd h
+grounds-for l k o (Fault C.Timeout n) h = absurd h
+grounds-for l k o (Fault cause n) h = h
 
-by-grounds : (l : List Noted) (t o : ℕ) (g : Grounds) → reads l o ≡ Some o → GroundsOf l o g → HasGrounds l t o g
-by-grounds l t o (Live js) is (n, w, rs, ends, same) = (o, n, w, rs, is, ends, same)
-by-grounds l t o (Kept js) is h = absurd h
-by-grounds l t o (Fault C.NotUnderstood n) is h = (o, is, h)
-by-grounds l t o (Fault C.Reset n) is h = (o, is, h)
-by-grounds l t o (Fault C.Timeout n) is h = (o, is, h.0, inl h.1)
-by-grounds l t o (Fault cause n) is h = absurd h
+-- who is told waits for what has ended so
+pub record IsTold (l : List Noted) (x : Telling) : Type 0 where
+  pub asked : Noted
+  pub stands : at l x.reader.ask ≡ Some asked
+  pub reads : reads_by x.reader.ask asked.note ≡ Some x.reader.opening
+  pub grounds : GroundsFor l x.reader.ask x.reader.opening x.grounds
 
-pub over-grounds : (l : List Noted) (t : ℕ) (e : Exchange) (g : Grounds) → IsOver l e g → HasGrounds l t e.opening g
-over-grounds l t e g a = by-grounds l t e.opening g (own l e g a) a.grounds
+by-grounds : (l : List Noted) (t k o : ℕ) (g : Grounds) → reads l k ≡ Some o → GroundsFor l k o g → HasGrounds l t k g
+by-grounds l t k o (Live js) is (n, w, rs, ends, same) = (o, n, w, rs, is, ends, same)
+by-grounds l t k o (Kept js) is h = absurd h
+by-grounds l t k o (Fault C.NotUnderstood n) is h = (o, is, h)
+by-grounds l t k o (Fault C.Reset n) is h = (o, is, h)
+by-grounds l t k o (Fault C.Timeout n) is h = (o, is, h.0, inl h.1)
+by-grounds l t k o (Fault cause n) is h = absurd h
+
+pub told-grounds : (l : List Noted) (t : ℕ) (x : Telling) → IsTold l x → HasGrounds l t x.reader.ask x.grounds
+told-grounds l t x a = by-grounds l t x.reader.ask x.reader.opening x.grounds (rw (a.stands) a.reads) a.grounds
 
 -- A longer history says of what has ended what the older one says, and its last tick is the same.
 pub record GoesOn (l n : List Noted) : Type 0 where
@@ -65,12 +70,24 @@ moved l n o (Live js) a (k, w, rs, ends, same) = (k, w, rs, a.ends o _ ends, sam
 moved l n o (Kept js) a h = absurd h
 moved l n o (Fault C.NotUnderstood k) a h = a.ends o _ h
 moved l n o (Fault C.Reset k) a h = a.ends o _ h
-moved l n o (Fault C.Timeout k) a h = (by h.0, (h.1.0, a.ends o _ h.1.1))
-  where
-    by : (sent_last l o ≡ Some k) ⊎ ((sent_last l o ≡ None) × (k ≡ o)) → (sent_last n o ≡ Some k) ⊎ ((sent_last n o ≡ None) × (k ≡ o))
-    by (inl e) = inl (a.sent o _ h.1.1 ∙ e)
-    by (inr e) = inr (a.sent o _ h.1.1 ∙ e.0, e.1)
 moved l n o (Fault cause k) a h = absurd h
 
-pub over-moves : (l n : List Noted) (e : Exchange) (g : Grounds) → GoesOn l n → IsOver l e g → IsOver n e g
-over-moves l n e g a h = record { request = h.request; ask = h.ask; stands = a.stands e.opening _ h.stands; grounds = moved l n e.opening g a h.grounds }
+moved-for : (l n : List Noted) (k o : ℕ) (g : Grounds) → GoesOn l n → GroundsFor l k o g → GroundsFor n k o g
+moved-for l n k o (Live js) a h = moved l n o (Live js) a h
+moved-for l n k o (Kept js) a h = absurd h
+moved-for l n k o (Fault C.Timeout i) a h = (by h.0, (h.1.0, a.ends o _ h.1.1))
+  where
+    by : (sent_last l o ≡ Some i) ⊎ ((sent_last l o ≡ None) × (i ≡ k)) → (sent_last n o ≡ Some i) ⊎ ((sent_last n o ≡ None) × (i ≡ k))
+    by (inl e) = inl (a.sent o _ h.1.1 ∙ e)
+    by (inr e) = inr (a.sent o _ h.1.1 ∙ e.0, e.1)
+moved-for l n k o (Fault C.NotUnderstood i) a h = moved l n o (Fault C.NotUnderstood i) a h
+moved-for l n k o (Fault C.Reset i) a h = moved l n o (Fault C.Reset i) a h
+moved-for l n k o (Fault cause i) a h = absurd h
+
+pub told-moves : (l n : List Noted) (x : Telling) → GoesOn l n → IsTold l x → IsTold n x
+told-moves l n x g h = record {
+  asked = h.asked;
+  stands = g.stands x.reader.ask _ h.stands;
+  reads = h.reads;
+  grounds = moved-for l n x.reader.ask x.reader.opening x.grounds g h.grounds;
+}

@@ -23,8 +23,9 @@ use Rattle.history_links.specs.Steps.{ended_token}
 use Rattle.exchange_model.specs.declared.kept.Conn.{Conn}
 use Rattle.exchange_model.specs.declared.kept.Exchange.{Exchange}
 use Rattle.exchange_model.specs.State.{State, link_of, conns_after}
-use Rattle.exchange_model.specs.Steps.{opens, asks, answers, shuts, seals, begins, hears, hears_nothing, sends_first, sends_copy, is_past, passes}
-use Rattle.exchange_model.specs.Calls.{Numbers, next_by, next, refused, has_place, asked_by, asked, given_back, waits_on, ends, ends_if, takes_new, takes_by, repeats, resets, reads_so, heard, is_due, moves_by, moves, move_all, peer_of, timed_out, times_out, something_due, ticked, ended_by, grounds_of}
+use Rattle.exchange_model.specs.Steps.{joins, opens, asks, answers, shuts, seals, begins, hears, hears_nothing, sends_first, sends_copy, is_past, passes, timed_out}
+use Rattle.exchange_model.specs.Entering.{answer_of}
+use Rattle.exchange_model.specs.Calls.{joined, asked_with, Numbers, next_by, next, refused, has_place, asked_by, asked, given_back, Telling, tells, told_for, told_late, takes_new, takes_by, repeats, resets, reads_so, heard, is_due, moves_by, moves, move_all, peer_of, something_due, ticked, ended_by, grounds_of}
 use Rattle.exchange_model.specs.Room.{fits}
 use Rattle.exchange_model.specs.Sealing.{in_room, if_unsealed, opens_in_room, asks_in_room, hears_in_room, late, ticks_in_room}
 use Rattle.exchange_model.specs.Growing.{conns_with, Adds, OpensAdd, ShutsAdd, SealsAdd, AsksAdd, HearsAdd, LateAdds, TicksAdd, at_moment, OpensAlone, IsOfAsk, AsksAnswer, by_client, HearsAnswer, TicksAnswer}
@@ -118,16 +119,8 @@ module _ (t : ℕ) (P : Deed → Type 0) where
             (one (Sends p _ None) S (sends_copy t p o S) refl refl (sends p _ None)) (none S)
 
   module _ (answer : (c k : ℕ) (g : Grounds) → P (Answers c k g)) where
-    ends-such : (g : Grounds) (e : Exchange) (S : State) → Such t P S (ends t g e S)
-    ends-such g e S = either (list_any (waits_on e) S.conns) S (answers t e.conn e.opening g S) S
-        (one (Answers e.conn e.opening g) S _ refl refl (answer e.conn e.opening g)) (none S)
-
-    ends-if-such : (g : Grounds) (v : Option Exchange) (S : State) → Such t P S (ends_if t g v S)
-    ends-if-such g None S = none S
-    ends-if-such g (Some e) S = ends-such g e S
-
-    all-end-such : (es : List Exchange) (S : State) → Such t P S (fold (times_out t) S es)
-    all-end-such es S = all-fold (times_out t) (λ S e. ends-such _ e S) es S
+    all-told-such : (xs : List Telling) (S : State) → Such t P S (fold (tells t) S xs)
+    all-told-such xs S = all-fold (tells t) (λ S x. one (answer_of x) S (tells t S x) refl refl (answer x.reader.conn x.reader.ask x.grounds)) xs S
 
 -- An ask.
 
@@ -157,9 +150,13 @@ asked-such t c a n S = by (IsOfAsk (length S.entries) c a) (refl, refl) (λ g. (
 
         sense : (s : Sense) → Such t P S (asked_by s t c a n S)
         sense (Refuses cause status) = turned_away cause
-        sense (Requests q) = either t P (has_place t q.peer S)
-            S (next t q.peer (begins t c a q n.token n.text n.word S)) (refused t c a C.Busy S)
-            (begun q) (turned_away C.Busy)
+        sense (Requests q) = with (joined q S)
+          where
+            with : (v : Option Exchange) → Such t P S (asked_with v t c a q n S)
+            with (Some e) = one t P (Asks c a) S (joins t c a e.opening S) refl refl ask
+            with None = either t P (has_place t q.peer S)
+                S (next t q.peer (begins t c a q n.token n.text n.word S)) (refused t c a C.Busy S)
+                (begun q) (turned_away C.Busy)
 
 asks-such : (t c : ℕ) (a : Ask) (n : Numbers) (S : State)
     → Such t (IsOfAsk (length S.entries) c a) S (asks_in_room t c a n S)
@@ -197,8 +194,7 @@ heard-such t p d S =
         (both t Inner S S1 S2 (one t Inner (Hears p d) S S1 refl refl refl)
         (given-such t Inner sends-inner p (replies m.mid v.reply) S1))
         (next-such t Inner sends-inner p S2))
-        (ends-if-such t Inner answer-inner (grounds_of v m S)
-        (ended_by v m S) S3)
+        (all-told-such t Inner answer-inner (told_for (ended_by v m S) (grounds_of v m S) S.readers) S3)
 
     taken : (m : Content) (v : Verdict) (news : News) → Such t Inner S (takes_by t p d m v news S)
     taken m v N.Lost = none t Inner S
@@ -222,17 +218,17 @@ hears-such : (t : ℕ) (p : Peer) (d : List ℕ) (S : State) → Such t Inner S 
 hears-such t p d S = unsealed t Inner S (heard t p d S) refl (heard-such t p d S)
 
 late-such : (t : ℕ) (S : State) → Such t Inner S (late t S)
-late-such t S = all-end-such t Inner answer-inner (filter (is_past t) S.exchanges) S
+late-such t S = all-told-such t Inner answer-inner (told_late (filter (is_past t) S.exchanges) S.readers) S
 
 ticked-such : (t : ℕ) (S : State) → Such t Inner S (ticked t S)
 ticked-such t S =
     let S1 = passes t S in
     let S2 = move_all t S1 in
-    either t Inner (something_due t S) S (fold (times_out t) S2 (timed_out t S)) S
-    (both t Inner S S2 (fold (times_out t) S2 (timed_out t S))
+    either t Inner (something_due t S) S (fold (tells t) S2 (told_late (timed_out t S) S.readers)) S
+    (both t Inner S S2 (fold (tells t) S2 (told_late (timed_out t S) S.readers))
     (both t Inner S S1 S2 (one t Inner Passes S S1 refl refl refl)
     (all-fold t Inner (moves t) (moves-such t Inner sends-inner) (map peer_of S1.links) S1))
-    (all-end-such t Inner answer-inner (timed_out t S) S2)) (none t Inner S)
+    (all-told-such t Inner answer-inner (told_late (timed_out t S) S.readers) S2)) (none t Inner S)
 
 ticks-such : (t : ℕ) (S : State) → Such t Inner S (ticks_in_room t S)
 ticks-such t S =

@@ -1,9 +1,9 @@
 -- A message that is new ends the exchange that it answers.
-use Rattle.std.proofs.Common.{◌≡◌, ℕ, ◌+◌, inl, inr, Bool, true, false, cond, eqb, List, [], ◌∷◌, ◌++◌, length, map, Option, Some, None, refl, sym, ap, subst, ◌∙◌}
-use Rattle.std.specs.Prelude.{filter, find, is_some, not, ◌&&◌, ◌||◌}
+use Rattle.std.proofs.Common.{◌≡◌, ℕ, zero, ◌⊎◌, ◌+◌, arith, inl, inr, Bool, true, false, cond, eqb, List, [], ◌∷◌, ◌++◌, length, map, Option, Some, None, refl, sym, ap, subst, ◌∙◌}
+use Rattle.std.specs.Prelude.{filter, find, is_some, option_to_list, not, ◌&&◌, ◌||◌}
 use Rattle.std.specs.List.{AllByRecursion, Contains, list_any, filter_map, cons_option}
 use Rattle.std.specs.Str.{bytes_eq}
-use Rattle.std.proofs.lemmas.Bool.{false≢true, or_right, not-true}
+use Rattle.std.proofs.lemmas.Bool.{false≢true, or_right, not-true, not-false}
 use Rattle.std.proofs.lemmas.Bool.Decides.{eqb_tells}
 use Rattle.std.proofs.lemmas.Slice.Eq.{bytes_eq-Decides}
 use Rattle.std.proofs.lemmas.List.Elements.{filter_agree}
@@ -18,19 +18,24 @@ use Rattle.history_laws.specs.Readings.{Noted}
 use Rattle.history_laws.specs.Transmissions.{FirstSending, firsts, first_at, bears_token}
 use Rattle.history_laws.specs.Exchanges.{begun, openings, is_going, open_exchanges, waits_for, awaited}
 use Rattle.history_laws.specs.Hearing.{went_under, answers}
+use Rattle.ask_model.specs.Sharing.{asked_place}
+use Rattle.history_laws.specs.Joining.{outrun}
+use Rattle.history_laws.specs.Numbering.{token_number}
 use Rattle.history_laws.specs.Justified.{Follows, Legal}
-use Rattle.history_laws.proofs.CallerLemmas.{all-filter, all-more, all-passes, any-of, begun-listed, entries-length, eqb-itself, filter-by, issued-same, some-is}
+use Rattle.history_laws.proofs.CallerLemmas.{all-filter, all-more, all-of, all-passes, any-find, any-of, begun-listed, contains-none, find-some, first-or-later, entries-length, eqb-itself, filter-by, issued-same, some-is}
 use Rattle.history_links.specs.Agrees.{Start, Agrees}
 use Rattle.history_links.specs.Steps.{ended_token, heard_link, heard}
 use Rattle.history_links.proofs.CallerLemmas.{ends_what, going-after, hit, is_ended, judge, Judged, one-token, says-agrees, says-elsewhere, says-quiet, waits-after}
 use Rattle.exchange_model.specs.declared.kept.Exchange.{Exchange}
-use Rattle.exchange_model.specs.State.{link_of}
-use Rattle.exchange_model.specs.Reads.{IsSentUnder, ExchangeIn, WaitsUnder, opening_of}
-use Rattle.exchange_model.specs.Steps.{is_other}
+use Rattle.exchange_model.specs.State.{State, link_of, with_link}
+use Rattle.exchange_model.specs.Reads.{IsSentUnder, ExchangeIn, WaitsUnder, Reads, opening_of}
+use Rattle.exchange_model.specs.Steps.{is_under, is_other, ended_in, outrun_by}
 use Rattle.exchange_model.specs.Laws.{HearsLeads}
 use Rattle.exchange_model.proofs.Begins.{waits-with}
 use Rattle.exchange_model.proofs.Borne.{IsBorne, ended-borne, answers-peer}
 use Rattle.exchange_model.proofs.Lists.{all-both}
+use Rattle.exchange_model.proofs.Opened.{cancel, OpenIn, one-rank, open-ones}
+use Rattle.exchange_model.proofs.Outrun.{EndsThose, left-all, left-each, left-openings, current-now}
 use Rattle.exchange_model.proofs.Silent.{now-from, later-than, link-before, moment-now}
 use Rattle.exchange_model.proofs.Tables.{exchange-stays, all-links}
 
@@ -168,11 +173,12 @@ stay-waiting true v e = absurd (false≢true (sym e))
 stay-waiting false v e = refl
 
 kept-one : {start : Start} (l : List Noted) (t : ℕ) (p : Peer) (s : LinkState) (d : List ℕ) (m : Content) → Legal l → Agrees start l p s → Judged l p s m (answers l p m) (verdict_of t s m)
-    → (e : Exchange) → ExchangeIn start l e × (is_other (ended_token (verdict_of t s m).news m.token) e ≡ true) → ExchangeIn start (heard l t p d m ∷ l) e
-kept-one l t p s d m legal agrees judged e h =
-    let stays = not-true (hit (answers l p m) m (waits_for l e.opening)) (subst (λ (v : Option ℕ). not (hit (answers l p m) m v) ≡ true) (sym h.0.sending)
-    (ends-kept l t p s m legal agrees judged e h.0 e.sending refl h.0.sending h.0.sent ∙ h.1)) in
-    exchange-stays (heard l t p d m) l e (λ k. k) (waits-after l t p d m (answers l p m) e.opening ∙ stay-waiting (hit (answers l p m) m (waits_for l e.opening)) (waits_for l e.opening) stays) h.0
+    → (e : Exchange) (b : Bool) → (a : ExchangeIn start l e) → is_other (ended_token (verdict_of t s m).news m.token) e ≡ true
+    → b ≡ not (outrun (heard l t p d m ∷ l) (asked_place a.request) e.opening) → ExchangeIn start (heard l t p d m ∷ l) (record e { current = b })
+kept-one l t p s d m legal agrees judged e b a other current =
+    let stays = not-true (hit (answers l p m) m (waits_for l e.opening)) (subst (λ (v : Option ℕ). not (hit (answers l p m) m v) ≡ true) (sym a.sending)
+    (ends-kept l t p s m legal agrees judged e a e.sending refl a.sending a.sent ∙ other)) in
+    exchange-stays (heard l t p d m) l e b (λ k. k) (waits-after l t p d m (answers l p m) e.opening ∙ stay-waiting (hit (answers l p m) m (waits_for l e.opening)) (waits_for l e.opening) stays) a current
 
 open-after : {start : Start} (l : List Noted) (t : ℕ) (p : Peer) (s : LinkState) (d : List ℕ) (m : Content) (es : List Exchange) → Legal l → Agrees start l p s → Judged l p s m (answers l p m) (verdict_of t s m)
     → AllByRecursion (ExchangeIn start l) es → open_exchanges l ≡ map opening_of es
@@ -185,6 +191,63 @@ open-after {start = start} l t p s d m es legal agrees judged kept keys =
     ∙ (filter-map stays opening_of es
     ∙ ap (map opening_of) (filter-by (λ (e : Exchange). stays e.opening) (is_other (ended_token (verdict_of t s m).news m.token)) es
     (all-more (ExchangeIn start l) _ (λ e h. ap (λ (v : Option ℕ). not (hit (answers l p m) m v)) h.sending ∙ ends-kept l t p s m legal agrees judged e h e.sending refl h.sending h.sent) es kept)))))
+
+-- Of the open exchanges it ends the one whose token is awaited no more.
+going-kept : {start : Start} (l : List Noted) (t : ℕ) (p : Peer) (s : LinkState) (d : List ℕ) (m : Content) → Legal l → Agrees start l p s → Judged l p s m (answers l p m) (verdict_of t s m)
+    → (e : Exchange) → OpenIn start l e → is_going (heard l t p d m ∷ l) e.opening ≡ is_other (ended_token (verdict_of t s m).news m.token) e
+going-kept l t p s d m legal agrees judged e a =
+    going-after l t p d m (answers l p m) e.opening
+    ∙ (ap (λ (b : Bool). not (hit (answers l p m) m (waits_for l e.opening)) && b) a.1
+    ∙ (and-true (not (hit (answers l p m) m (waits_for l e.opening)))
+    ∙ (ap (λ (v : Option ℕ). not (hit (answers l p m) m v)) a.0.sending ∙ ends-kept l t p s m legal agrees judged e a.0 e.sending refl a.0.sending a.0.sent)))
+  where
+    and-true : (b : Bool) → (b && true) ≡ b
+    and-true true = refl
+    and-true false = refl
+
+hears-ends : (l : List Noted) (t : ℕ) (p : Peer) (d : List ℕ) (m : Content) (S : State) (r : Reads l S) → Judged l p (link_of S.links p) m (answers l p m) (verdict_of t (link_of S.links p) m)
+    → EndsThose (heard l t p d m) l S (option_to_list (ended_in (ended_token (verdict_of t (link_of S.links p) m).news m.token) S.exchanges))
+hears-ends l t p d m S r judged = of (ended_token (verdict_of t (link_of S.links p) m).news m.token) refl
+  where
+    s : LinkState
+    s = link_of S.links p
+
+    open_in : (e : Exchange) → Contains S.exchanges e → OpenIn r.start l e
+    open_in e has = all-of (OpenIn r.start l) S.exchanges e (open-ones l S r) has
+
+    goes : (e : Exchange) → Contains S.exchanges e → (ended : Option (List ℕ)) → ended_token (verdict_of t s m).news m.token ≡ ended → is_going (heard l t p d m ∷ l) e.opening ≡ is_other ended e
+    goes e has ended is = going-kept l t p s d m r.legal (r.links_are p) judged e (open_in e has) ∙ ap (λ (v : Option (List ℕ)). is_other v e) is
+
+    of : (ended : Option (List ℕ)) → ended_token (verdict_of t s m).news m.token ≡ ended → EndsThose (heard l t p d m) l S (option_to_list (ended_in ended S.exchanges))
+    of None is = record { ended = λ f h. absurd (contains-none f h); all = λ f has gone. absurd (false≢true (sym gone ∙ goes f has None is)) }
+    of (Some token) is = found (find (is_under token) S.exchanges) refl
+      where
+        under : (f : Exchange) → Contains S.exchanges f → is_going (heard l t p d m ∷ l) f.opening ≡ false → is_under token f ≡ true
+        under f has gone = not-false (is_under token f) (sym (goes f has (Some token) is) ∙ gone)
+
+        found : (v : Option Exchange) → find (is_under token) S.exchanges ≡ v → EndsThose (heard l t p d m) l S (option_to_list v)
+        found None none = record {
+          ended = λ f h. absurd (contains-none f h);
+          all = λ f has gone. absurd (false≢true (sym (ap is_some none) ∙ (sym (any-find (is_under token) S.exchanges) ∙ any-of (is_under token) S.exchanges f has (under f has gone))));
+        }
+        found (Some g) first = record {
+          ended = λ f h. by f (first-or-later g [] f h);
+          all = λ f has gone. (g, (zero, omega arith, refl), same f has (under f has gone));
+        }
+          where
+            it : Contains S.exchanges g × (is_under token g ≡ true)
+            it = find-some (is_under token) S.exchanges g first
+
+            by : (f : Exchange) → (g ≡ f) ⊎ Contains [] f → Contains S.exchanges f × (is_going (heard l t p d m ∷ l) f.opening ≡ false)
+            by f (inl e) = subst (λ (f : Exchange). Contains S.exchanges f × (is_going (heard l t p d m ∷ l) f.opening ≡ false)) e (it.0, goes g it.0 (Some token) is ∙ ap not it.1)
+            by f (inr h) = absurd (contains-none f h)
+
+            same : (f : Exchange) → Contains S.exchanges f → is_under token f ≡ true → g.opening ≡ f.opening
+            same f has same_token =
+                let mine = open_in f has in
+                let its = open_in g it.0 in
+                let tokens : g.token ≡ f.token = (bytes_eq-Decides g.token token).0 it.1 ∙ sym ((bytes_eq-Decides f.token token).0 same_token) in
+                one-rank l g.opening f.opening _ _ r.legal its.0.opening mine.0.opening its.1 mine.1 (cancel r.start.issued _ _ (its.0.number ∙ (ap token_number tokens ∙ sym mine.0.number)))
 
 pub hears-leads : HearsLeads
 hears-leads l t p d m S h spelled none room =
@@ -199,6 +262,7 @@ hears-leads l t p d m S h spelled none room =
     let follows : Follows l t x.written.deed x.note = (h.come, h.short, h.known, record { spelled = spelled; unheard = none; remembered = room; says = refl }) in
     let new = heard_link t m.mid m.token (verdict_of t s m) s in
     let other = is_other (ended_token (verdict_of t s m).news m.token) in
+    let over = option_to_list (ended_in (ended_token (verdict_of t s m).news m.token) S.exchanges) in
     let here : length S.entries ≡ length l = ap length (sym r.entries_are) ∙ entries-length l in
     record {
       leads = record {
@@ -214,13 +278,16 @@ hears-leads l t p d m S h spelled none room =
           opens_are = r.opens_are;
           issued_are = ap (λ (k : ℕ). r.start.issued + k) (issued-same x l refl (says-quiet l t p d m (answers l p m))) ∙ r.issued_are;
           conns_are = r.conns_are;
-          keys = open-after l t p s d m S.exchanges r.legal (r.links_are p) judged r.exchanges_are r.keys;
-          exchanges_are = all-more _ (ExchangeIn h.before.reads.start (x ∷ l)) (kept-one l t p s d m r.legal (r.links_are p) judged) (filter other S.exchanges)
-              (all-both (ExchangeIn h.before.reads.start l) _ (filter other S.exchanges) (all-filter (ExchangeIn h.before.reads.start l) other S.exchanges r.exchanges_are) (all-passes other S.exchanges));
+          readers_are = r.readers_are;
+          keys = open-after l t p s d m S.exchanges r.legal (r.links_are p) judged r.exchanges_are r.keys ∙ sym (left-openings S.entries over (filter other S.exchanges));
+          exchanges_are = left-each (ExchangeIn r.start (x ∷ l)) (λ (e : Exchange). ExchangeIn r.start l e × (other e ≡ true)) S.entries over
+              (λ e a. kept-one l t p s d m r.legal (r.links_are p) judged e (outrun_by S.entries over e).current a.0 a.1
+              (current-now x l S r over (hears-ends l t p d m S r judged) (r.legal, later, follows) e a.0)) (filter other S.exchanges)
+              (all-both (ExchangeIn r.start l) (λ (e : Exchange). other e ≡ true) (filter other S.exchanges) (all-filter (ExchangeIn r.start l) other S.exchanges r.exchanges_are) (all-passes other S.exchanges));
           tokens_are = r.tokens_are;
-          waiting_are = waits-with p new S.links (filter other S.exchanges)
+          waiting_are = left-all (λ (e : Exchange). WaitsUnder (link_of (with_link p new S.links) e.peer).waiting e) (λ e k. k) S.entries over (filter other S.exchanges) (waits-with p new S.links (filter other S.exchanges)
               (all-more _ _ (λ e k at_p. subst (λ (q : Peer). WaitsUnder (link_of S.links q).waiting e) at_p k) (filter other S.exchanges) (all-filter (λ (e : Exchange). WaitsUnder (link_of S.links e.peer).waiting e) other S.exchanges r.waiting_are))
-              (all-filter (λ (e : Exchange). WaitsUnder (link_of S.links e.peer).waiting e) other S.exchanges r.waiting_are);
+              (all-filter (λ (e : Exchange). WaitsUnder (link_of S.links e.peer).waiting e) other S.exchanges r.waiting_are));
           links_are = all-links (λ (q : Peer) (v : LinkState). Agrees h.before.reads.start (x ∷ l) q v) p new S.links said.agrees
               (λ q away. says-elsewhere _ l t q p (link_of S.links q) d m (answers l p m) (link q) away
               (λ i f to first. subst (λ (k : Peer). same_peer k q ≡ false) (sym (same_peer-same f.peer p (answers-peer l p m i f to first))) away));

@@ -1,6 +1,6 @@
 -- What a datagram leaves.
 use Rattle.std.proofs.Common.{◌≡◌, ℕ, ◌⊎◌, inl, inr, ◌+◌, Bool, true, false, cond, leb, List, [], ◌∷◌, ◌++◌, length, map, Option, Some, None, Result, Ok, Err, refl, sym, ap, ◌∙◌, arith, append_assoc, append-nil}
-use Rattle.std.specs.Prelude.{filter, is_none, ◌&&◌}
+use Rattle.std.specs.Prelude.{filter, fold, option_to_list, is_none, ◌&&◌}
 use Rattle.std.specs.List.{list_any}
 use Rattle.std.proofs.lemmas.Bool.{le-leb}
 use Rattle.std.proofs.lemmas.List.{length-map}
@@ -19,12 +19,12 @@ use Rattle.message_layer.specs.declared.verdict.News.{News}
 use Rattle.message_layer.specs.declared.verdict.News.TheVariants as N
 use Rattle.message_layer.specs.declared.verdict.Verdict.{Verdict}
 use Rattle.history_links.specs.Steps.{ended_token, heard_link}
-use Rattle.exchange_model.specs.declared.kept.Conn.{Conn}
 use Rattle.exchange_model.specs.declared.kept.Exchange.{Exchange}
 use Rattle.exchange_model.specs.State.{PeerLink, State, link_of, with_link}
-use Rattle.exchange_model.specs.Steps.{given_out, answers, hears, hears_nothing, confirms, is_other}
-use Rattle.exchange_model.specs.Calls.{next_by, next, given_back, waits_on, ends_if, ended_in, takes_new, takes_by, repeats, resets, reads_so, heard, grounds_of}
-use Rattle.exchange_model.specs.Entering.{awaits_no_more, going_as, sent_as, first_deeds, in_turn, told_if, confirm, heeded, garbled, IsMid, Comes, MessageEnters, GarbledEnters}
+use Rattle.exchange_model.specs.Steps.{left_by, given_out, answers, hears, hears_nothing, confirms, is_other, ended_in}
+use Rattle.exchange_model.specs.Calls.{next_by, next, given_back, Telling, tells, told_for, takes_new, takes_by, repeats, resets, reads_so, heard, grounds_of}
+use Rattle.exchange_model.specs.Entering.{awaits_no_more, going_as, sent_as, first_deeds, in_turn, answer_of, confirm, heeded, garbled, IsMid, Comes, MessageEnters, GarbledEnters}
+use Rattle.exchange_model.proofs.Outrun.{none-left}
 use Rattle.exchange_model.proofs.Entered.{put, after, next-put, entries-more, link-there, out-at, given-itself}
 use Rattle.exchange_model.proofs.Idle.{repeat-idle}
 use Rattle.exchange_model.proofs.LinksHeard.{turned, Turns, turns, links-given, without-is, heard-turned, new-unborne}
@@ -36,17 +36,12 @@ pub given-put : (t : ℕ) (p : Peer) (bs : List (List ℕ)) (S : State)
 given-put t p [] S = refl
 given-put t p (b ∷ bs) S = given-put t p bs (confirms t p b S)
 
-pub told-put : (t : ℕ) (g : Grounds) (v : Option Exchange) (S : State)
-    → ends_if t g v S ≡ put t (told_if g v S.conns) S.exchanges S.links S
-told-put t g None S = refl
-told-put t g (Some e) S = by (list_any (waits_on e) S.conns)
-  where
-    by : (b : Bool) → cond b (answers t e.conn e.opening g S) S
-        ≡ put t (cond b (Answers e.conn e.opening g ∷ []) []) S.exchanges S.links S
-    by true = refl
-    by false = refl
+pub told-put : (t : ℕ) (xs : List Telling) (S : State)
+    → fold (tells t) S xs ≡ put t (map answer_of xs) S.exchanges S.links S
+told-put t [] S = refl
+told-put t (x ∷ xs) S = told-put t xs (tells t S x)
 
-given-conns : (t : ℕ) (p : Peer) (bs : List (List ℕ)) (S : State)
+pub given-conns : (t : ℕ) (p : Peer) (bs : List (List ℕ)) (S : State)
     → (given_back t p bs S).conns ≡ S.conns
 given-conns t p [] S = refl
 given-conns t p (b ∷ bs) S = given-conns t p bs (confirms t p b S)
@@ -71,7 +66,7 @@ new-heeded : (t : ℕ) (p : Peer) (d : List ℕ) (m : Content) (S : State) → C
     → let v = verdict_of t (link_of S.links p) m in takes_new t p d m v S
     ≡ heeded t p d m.mid m.token v (grounds_of v m S) S
 new-heeded t p d m S come =
-    after t (H ++ F) G es2 es2 xs2 xs2 S C (ends_if t g ends C) whole told
+    after t (H ++ F) G es2 es2 xs2 xs2 S C (fold (tells t) C (told_for ends g S.readers)) whole told
     ∙ ap (λ (ds : List Deed). put t (Hears p d ∷ ds) es2 xs2 S) (append_assoc R F G)
   where
     s : LinkState
@@ -114,13 +109,13 @@ new-heeded t p d m S come =
     F = first_deeds t p s.last_mid up
 
     G : List Deed
-    G = told_if g ends S.conns
+    G = map answer_of (told_for ends g S.readers)
 
     n : ℕ
     n = length S.entries + 1 + length (replies m.mid v.reply)
 
     es1 : List Exchange
-    es1 = filter (is_other over) S.exchanges
+    es1 = left_by S.entries (option_to_list ends) (filter (is_other over) S.exchanges)
 
     es2 : List Exchange
     es2 = sent_as (going_as n up) es1
@@ -167,12 +162,10 @@ new-heeded t p d m S come =
     whole : C ≡ put t (H ++ F) es2 xs2 S
     whole = after t H F es1 es2 xs1 xs2 S B C replied sent
 
-    told : ends_if t g ends C ≡ put t G es2 xs2 C
+    told : fold (tells t) C (told_for ends g S.readers) ≡ put t G es2 xs2 C
     told =
-        told-put t g ends C
-        ∙ (ap (λ (cs : List Conn). put t (told_if g ends cs) C.exchanges C.links C)
-        (next-conns t p B ∙ given-conns t p (replies m.mid v.reply) A)
-        ∙ ap (λ (U : State). put t G U.exchanges U.links C) whole)
+        told-put t (told_for ends g S.readers) C
+        ∙ ap (λ (U : State). put t G U.exchanges U.links C) whole
 
 -- What is nothing new leaves all but the entries.
 
@@ -199,9 +192,10 @@ idle-heeded t p d mid token v g S come r e n =
     ∙ (sym (ap (λ (ds : List Deed). put t (Hears p d ∷ ds) S.exchanges S.links S)
     (append-nil (map (confirm p) (replies mid v.reply))))
     ∙ (sym (ap (λ (es : List Exchange). put t (Hears p d ∷
-    (map (confirm p) (replies mid v.reply) ++ [])) es S.links S) (all-others S.exchanges))
+    (map (confirm p) (replies mid v.reply) ++ [])) es S.links S)
+    (none-left S.entries (filter (is_other None) S.exchanges) ∙ all-others S.exchanges))
     ∙ (sym (ap (λ (xs : List PeerLink). put t (Hears p d ∷
-    (map (confirm p) (replies mid v.reply) ++ [])) (filter (is_other None) S.exchanges) xs S)
+    (map (confirm p) (replies mid v.reply) ++ [])) (left_by S.entries [] (filter (is_other None) S.exchanges)) xs S)
     (ap (λ (u : LinkState). with_link p u S.links)
     (given-itself (link_of S.links p) (out-at p S.links come.drained.out))
     ∙ link-there p S.links come.known))

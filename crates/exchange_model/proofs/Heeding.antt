@@ -1,6 +1,6 @@
 -- A datagram that is heard: a step keeps what holds between steps.
 use Rattle.std.proofs.Common.{◌≡◌, ℕ, zero, ◌+◌, ◌<◌, ◌≤◌, ◌⊎◌, inl, inr, Bool, true, false, cond, ltb, leb, List, [], ◌∷◌, length, Option, Some, None, Result, Ok, Err, refl, sym, ap, subst, ◌∙◌, arith}
-use Rattle.std.specs.Prelude.{filter, find, ◌&&◌, is_some, option_map, count_by}
+use Rattle.std.specs.Prelude.{option_to_list, filter, find, ◌&&◌, is_some, option_map, count_by}
 use Rattle.std.specs.List.{AllByRecursion, Contains}
 use Rattle.std.proofs.lemmas.Bool.{false≢true, leb-true, not-false}
 use Rattle.std.proofs.lemmas.Slice.Eq.{bytes_eq-Decides}
@@ -40,17 +40,24 @@ use Rattle.history_links.specs.Steps.{ended_token, heard_link, heard as heard_en
 use Rattle.history_links.proofs.CallerLemmas.{none-before}
 use Rattle.exchange_model.specs.declared.kept.Conn.{Conn}
 use Rattle.exchange_model.specs.declared.kept.Exchange.{Exchange}
+use Rattle.exchange_model.specs.declared.kept.Reader.{Reader}
 use Rattle.exchange_model.specs.State.{State, link_of}
 use Rattle.exchange_model.specs.Reads.{ExchangeIn}
-use Rattle.exchange_model.specs.Steps.{is_under, is_other, hears, hears_nothing}
-use Rattle.exchange_model.specs.Resting.{IsUndue, LinkRests, HasExchange, IsServed}
+use Rattle.exchange_model.specs.Steps.{is_under, is_other, hears, hears_nothing, ended_in}
+use Rattle.exchange_model.specs.Resting.{IsUndue, LinkRests, HasExchange}
+use Rattle.history_laws.specs.Justified.{HasGrounds}
+use Rattle.exchange_model.specs.Growing.{RiseByAsk}
 use Rattle.exchange_model.specs.Laws.{Before, MayHear, Heeds}
-use Rattle.exchange_model.specs.Calls.{next, given_back, ended_in, ends_if, takes_new, takes_by, repeats, resets, reads_so, grounds_of}
+use Rattle.exchange_model.specs.Calls.{Telling, tell, tells, told_for, next, given_back, takes_new, takes_by, repeats, resets, reads_so, grounds_of}
 use Rattle.exchange_model.specs.Keeping.{HasMids, Kept, MayStep, HearsKeeps}
 use Rattle.exchange_model.proofs.Amid.{Amid, Moved, RestAt, IsEarly, next-moves, given-moves}
-use Rattle.exchange_model.proofs.Ending.{ServedWith, ends-told}
+use Rattle.exchange_model.proofs.Telling.{readers_in, AreServed, IsAmong, ReadWith, all-in, all-told, kept-told}
+use Rattle.exchange_model.proofs.Readers.{ReaderIn, reader-keeps, readers-wait, readers-rise-in, readers-apart, rise-filter, Apart}
+use Rattle.exchange_model.proofs.Tellings.{is-told, reads_it, ended_list, readers-for, among-for, for-all}
+use Rattle.exchange_model.proofs.Lists.{all-both}
+use Rattle.exchange_model.proofs.Outrun.{left-all, left-has}
 use Rattle.exchange_model.proofs.Opened.{cancel, OpenIn, one-rank, open-ones}
-use Rattle.exchange_model.proofs.Grounds.{IsOver, over-moves, both-go}
+use Rattle.exchange_model.proofs.Grounds.{GroundsOf, IsTold, grounds-for, told-grounds, told-moves, both-go}
 use Rattle.exchange_model.proofs.Hearing.{hears-leads}
 use Rattle.exchange_model.proofs.Over.{heard-over}
 use Rattle.exchange_model.proofs.Quiet.{repeats-leads, garbled-leads}
@@ -68,9 +75,9 @@ may-hear t p d S m known short = record {
 
 -- What is nothing new is answered, and that is all.
 answered-only : (t : ℕ) (p : Peer) (S S1 : State) (x : Noted) (mid : ℕ) (r : Reply) (m : MayStep t S) → Before (x ∷ m.kept.reading) t S1 → S1.sealed ≡ false → S1.links ≡ S.links
-    → S1.exchanges ≡ S.exchanges → S1.conns ≡ S.conns → ticked (x ∷ m.kept.reading) ≡ ticked m.kept.reading → owed (x ∷ m.kept.reading) ≡ due p mid r
+    → S1.exchanges ≡ S.exchanges → S1.conns ≡ S.conns → S1.readers ≡ S.readers → ticked (x ∷ m.kept.reading) ≡ ticked m.kept.reading → owed (x ∷ m.kept.reading) ≡ due p mid r
     → Kept (given_back t p (replies mid r) S1)
-answered-only t p S S1 x mid r m b unsealed links exchanges conns tick owes =
+answered-only t p S S1 x mid r m b unsealed links exchanges conns readers tick owes =
     let l = m.kept.reading in
     let rests = m.kept.rests in
     let amid : Amid (x ∷ l) t S1 = record {
@@ -89,8 +96,10 @@ answered-only t p S S1 x mid r m b unsealed links exchanges conns tick owes =
         quiet = made.1.quiet;
         links = λ q. rw (made.1.goes.tick, tick) (subst (LinkRests (ticked l)) (sym (same-link q n made.1 made.2 (same_peer p q) refl ∙ ap (λ (v : List _). link_of v q) links)) (rests.links q));
         in_time = made.1.amid.in_time;
-        served = subst (λ (cs : List Conn). AllByRecursion (λ (y : Conn). IsServed S2.exchanges y.pending) cs) (sym (made.1.conns ∙ conns))
-            (all-more _ _ (λ y h. still y.pending n made.1 h) S.conns rests.served);
+        served = subst (λ (cs : List Conn). AreServed S2.readers cs) (sym (made.1.conns ∙ conns))
+            (subst (λ (rs : List Reader). AreServed rs S.conns) (sym (made.1.readers ∙ readers)) rests.served);
+        reading = subst (λ (rs : List Reader). AllByRecursion (λ (y : Reader). HasExchange S2.exchanges y.opening) rs) (sym (made.1.readers ∙ readers))
+            (all-more _ _ (λ (y : Reader) h. made.1.has y.opening (rw (exchanges) h)) S.readers rests.reading);
       };
       mids = made.1.amid.mids;
     }
@@ -99,10 +108,6 @@ answered-only t p S S1 x mid r m b unsealed links exchanges conns tick owes =
         → (v : Bool) → same_peer p q ≡ v → link_of (given_back t p (replies mid r) S1).links q ≡ link_of S1.links q
     same-link q n moved here true is = subst (λ (k : Peer). link_of (given_back t p (replies mid r) S1).links k ≡ link_of S1.links k) (same_peer-same p q is) here
     same-link q n moved here false is = moved.others q is
-
-    still : (v : Option ℕ) (n : List Noted) → Moved (x ∷ m.kept.reading) t p S1 n (given_back t p (replies mid r) S1) → IsServed S.exchanges v → IsServed (given_back t p (replies mid r) S1).exchanges v
-    still None n moved h = tt
-    still (Some k) n moved h = moved.has k (rw (exchanges) h)
 
 -- It repeats one, or is new, or is lost.
 
@@ -167,35 +172,26 @@ has-part q (e ∷ es) k (inr h) = elim (has-part q es k h) [
     by true w = inr w
     by false w = w
 
-abbrev over-list : Option Exchange → List Exchange
-over-list None = []
-over-list (Some e) = e ∷ []
-
 find-none : {X : Type 0} (q : X → Bool) (xs : List X) (x : X) → find q xs ≡ None → Contains xs x → q x ≡ true → ⊥
 find-none q xs x e h is = let it = find-any q xs (any-of q xs x h is) in none-some it.0 (sym e ∙ it.1)
-
-only : (es : List Exchange) (v : Option ℕ) → IsServed es v ⊎ IsServed [] v → IsServed es v
-only es None h = tt
-only es (Some k) (inl h) = h
-only es (Some k) (inr h) = absurd h
 
 pub is-bytes : (d : List ℕ) → AllByRecursion (λ (b : ℕ). b < 256) d → IsBytes d
 is-bytes [] a = tt
 is-bytes (b ∷ d) a = (a.0, is-bytes d a.1)
 
--- who waits, waits for what is open still, or for what has just ended
+-- what was open is open still, or has just ended
 served-part : (start : Start) (l : List Noted) (S : State) (ended : Option (List ℕ)) → Legal l → AllByRecursion (OpenIn start l) S.exchanges → (k : ℕ) → HasExchange S.exchanges k
-    → HasExchange (filter (is_other ended) S.exchanges) k ⊎ HasExchange (over-list (ended_in ended S.exchanges)) k
+    → HasExchange (filter (is_other ended) S.exchanges) k ⊎ HasExchange (ended_list (ended_in ended S.exchanges)) k
 served-part start l S ended legal all k h = elim (has-part (is_other ended) S.exchanges k h) [ inl w ↦ inl w | inr w ↦ inr (by ended w.0 w.1 w.2 w.3) ]
   where
-    by : (of : Option (List ℕ)) (e : Exchange) → Contains S.exchanges e → is_other of e ≡ false → e.opening ≡ k → HasExchange (over-list (ended_in of S.exchanges)) k
+    by : (of : Option (List ℕ)) (e : Exchange) → Contains S.exchanges e → is_other of e ≡ false → e.opening ≡ k → HasExchange (ended_list (ended_in of S.exchanges)) k
     by None e has is at = absurd (false≢true (sym is))
     by (Some token) e has is at = found (find (is_under token) S.exchanges) refl
       where
         under : is_under token e ≡ true
         under = not-false (is_under token e) is
 
-        found : (v : Option Exchange) → find (is_under token) S.exchanges ≡ v → HasExchange (over-list v) k
+        found : (v : Option Exchange) → find (is_under token) S.exchanges ≡ v → HasExchange (ended_list v) k
         found None f = absurd (find-none (is_under token) S.exchanges e f has under)
         found (Some g) f =
             let first = find-some (is_under token) S.exchanges g f in
@@ -220,11 +216,13 @@ new-keeps t p d mess S m h spelled none room =
     let S1 = hears t p d mess S in
     let new = heard_link t mess.mid mess.token v s in
     let other = is_other (ended_token v.news mess.token) in
+    let over = option_to_list (ended_in (ended_token v.news mess.token) S.exchanges) in
     let amid : Amid (x ∷ l) t S1 = record {
       before = record { reads = made.leads.reads; later = omega arith };
       unsealed = m.unsealed;
       mids = all-links (λ (q : Peer) (u : LinkState). HasMids u) p new S.links (record { small = (m.kept.mids p).small; enough = (m.kept.mids p).enough }) (λ q away. m.kept.mids q);
-      in_time = all-filter (λ (e : Exchange). ticked l < e.since + MAX_TRANSMIT_WAIT) other S.exchanges rests.in_time;
+      in_time = left-all (λ (e : Exchange). ticked l < e.since + MAX_TRANSMIT_WAIT) (λ e h. h) S.entries over (filter other S.exchanges)
+          (all-filter (λ (e : Exchange). ticked l < e.since + MAX_TRANSMIT_WAIT) other S.exchanges rests.in_time);
     } in
     let given = given-moves (x ∷ l) t p S1 mess.mid v.reply amid made.owes in
     let S2 = given_back t p (replies mess.mid v.reply) S1 in
@@ -235,41 +233,37 @@ new-keeps t p d mess S m h spelled none room =
     let S3 = next t p S2 in
     let goes = both-go (x ∷ l) given.0 moved.0 given.1.goes moved.1.goes in
     let rest : (q : Peer) → RestAt moved.0 S3 q = λ q. all-rest q moved.0 S3 moved.2 goes.tick (λ away. moved.1.others q away ∙ (given.1.others q away ∙ link-other p q new away S.links)) (same_peer p q) refl in
-    let served : ServedWith S3.exchanges (over-list (ended_in (ended_token v.news mess.token) S.exchanges)) S3.conns =
-    subst (λ (cs : List Conn). ServedWith S3.exchanges (over-list (ended_in (ended_token v.news mess.token) S.exchanges)) cs) (sym (moved.1.conns ∙ given.1.conns))
-    (all-more _ _ (λ y k. still S3.exchanges y.pending (λ j w. moved.1.has j (given.1.has j w)) k) S.conns rests.served) in
-    told moved.0 S3 (ended_in (ended_token v.news mess.token) S.exchanges) refl moved.1.amid moved.1.quiet rest served
-    (λ e is. over-moves (x ∷ l) moved.0 e _ goes (heard-over l t p d mess S h none room e is))
+    let xs = told_for (ended_in (ended_token v.news mess.token) S.exchanges) (grounds_of v mess S) S.readers in
+    let readers_same : S3.readers ≡ S.readers = moved.1.readers ∙ given.1.readers in
+    let readers : AllByRecursion (ReaderIn l) S.readers = subst (AllByRecursion (ReaderIn l)) rests.reads.readers_are (readers-wait l rests.reads.legal) in
+    let q = reads_it (ended_in (ended_token v.news mess.token) S.exchanges) in
+    let listed = readers-for (ended_in (ended_token v.news mess.token) S.exchanges) (grounds_of v mess S) S.readers in
+    let apart : Apart (readers_in xs) = rw (listed)
+    (readers-apart l _ (rise-filter q S.readers (subst RiseByAsk rests.reads.readers_are (readers-rise-in l rests.reads.legal))) (all-filter (ReaderIn l) q S.readers readers)) in
+    let has : AllByRecursion (Contains S3.readers) (readers_in xs) = rw (listed, readers_same) (all-filter (Contains S.readers) q S.readers (all-in S.readers)) in
+    let grounds = for-all (IsTold (x ∷ l)) (ReaderIn (x ∷ l)) (ended_in (ended_token v.news mess.token) S.exchanges) (grounds_of v mess S) S.readers
+    (λ e r is a same. is-told (x ∷ l) (tell (grounds_of v mess S) r) a (grounds-for (x ∷ l) r.ask r.opening (grounds_of v mess S) (subst (λ (o : ℕ). GroundsOf (x ∷ l) o (grounds_of v mess S)) (sym same) (heard-over l t p d mess S h none room e is))))
+    (all-more (ReaderIn l) (ReaderIn (x ∷ l)) (λ r k. reader-keeps x l r (λ e. e) refl refl k) S.readers readers) in
+    let told = all-told xs moved.0 t S3 moved.1.amid.before moved.1.quiet (rw (readers_same, moved.1.conns, given.1.conns) rests.served) has apart
+    (all-more (IsTold (x ∷ l)) (λ (y : Telling). HasGrounds moved.0 t y.reader.ask y.grounds) (λ y k. told-grounds moved.0 t y (told-moves (x ∷ l) moved.0 y goes k)) xs grounds) in
+    let reading : ReadWith S3.exchanges xs S3.readers = rw (readers_same)
+    (all-more (λ (r : Reader). HasExchange S.exchanges r.opening × (HasExchange (ended_list (ended_in (ended_token v.news mess.token) S.exchanges)) r.opening → IsAmong xs r.ask)) _
+    (λ r k. still S3.exchanges xs r (λ j w. moved.1.has j (given.1.has j (left-has S.entries over (filter other S.exchanges) j w))) k) S.readers
+    (all-both _ _ S.readers rests.reading (among-for (ended_in (ended_token v.news mess.token) S.exchanges) (grounds_of v mess S) S.readers))) in
+    kept-told moved.0 t xs S3 told.0 told.1 rest moved.1.amid.in_time reading moved.1.amid.mids
   where
     all-rest : (q : Peer) (n : List Noted) (S3 : State) → RestAt n S3 p → ticked n ≡ ticked m.kept.reading → (same_peer p q ≡ false → link_of S3.links q ≡ link_of S.links q)
         → (b : Bool) → same_peer p q ≡ b → RestAt n S3 q
     all-rest q n S3 rest tick others true is = subst (RestAt n S3) (same_peer-same p q is) rest
     all-rest q n S3 rest tick others false is = rw (others is, tick) (m.kept.rests.links q)
 
-    still : (es : List Exchange) (v : Option ℕ) → ((k : ℕ) → HasExchange (filter (is_other (ended_token (verdict_of t (link_of S.links p) mess).news mess.token)) S.exchanges) k → HasExchange es k)
-        → IsServed S.exchanges v → IsServed es v ⊎ IsServed (over-list (ended_in (ended_token (verdict_of t (link_of S.links p) mess).news mess.token) S.exchanges)) v
-    still es None has h = inl tt
-    still es (Some k) has h = elim (served-part m.kept.rests.reads.start m.kept.reading S (ended_token (verdict_of t (link_of S.links p) mess).news mess.token) m.kept.rests.reads.legal (open-ones m.kept.reading S m.kept.rests.reads) k h) [
-      | inl w ↦ inl (has k w)
-      | inr w ↦ inr w
+    still : (es : List Exchange) (xs : List Telling) (r : Reader) → ((k : ℕ) → HasExchange (filter (is_other (ended_token (verdict_of t (link_of S.links p) mess).news mess.token)) S.exchanges) k → HasExchange es k)
+        → HasExchange S.exchanges r.opening × (HasExchange (ended_list (ended_in (ended_token (verdict_of t (link_of S.links p) mess).news mess.token) S.exchanges)) r.opening → IsAmong xs r.ask)
+        → HasExchange es r.opening ⊎ IsAmong xs r.ask
+    still es xs r has h = elim (served-part m.kept.rests.reads.start m.kept.reading S (ended_token (verdict_of t (link_of S.links p) mess).news mess.token) m.kept.rests.reads.legal (open-ones m.kept.reading S m.kept.rests.reads) r.opening h.0) [
+      | inl w ↦ inl (has r.opening w)
+      | inr w ↦ inr (h.1 w)
     ]
-
-    told : (n : List Noted) (S3 : State) (v : Option Exchange) → ended_in (ended_token (verdict_of t (link_of S.links p) mess).news mess.token) S.exchanges ≡ v → Amid n t S3 → owed n ≡ None → ((q : Peer) → RestAt n S3 q)
-        → ServedWith S3.exchanges (over-list v) S3.conns
-        → ((e : Exchange) → ended_in (ended_token (verdict_of t (link_of S.links p) mess).news mess.token) S.exchanges ≡ Some e → IsOver n e (grounds_of (verdict_of t (link_of S.links p) mess) mess S))
-        → Kept (ends_if t (grounds_of (verdict_of t (link_of S.links p) mess) mess S) v S3)
-    told n S3 None is amid quiet rest served over = record {
-      reading = n;
-      rests = record { reads = amid.before.reads; quiet = quiet; links = rest; in_time = amid.in_time; served = all-more _ _ (λ y k. only S3.exchanges y.pending k) S3.conns served };
-      mids = amid.mids;
-    }
-    told n S3 (Some e) is amid quiet rest served over =
-        let made = ends-told n t S3 e [] (grounds_of (verdict_of t (link_of S.links p) mess) mess S) amid quiet rest served (over e is) in
-        record {
-          reading = made.0;
-          rests = record { reads = made.1.amid.before.reads; quiet = made.1.quiet; links = made.1.rest; in_time = made.1.amid.in_time; served = all-more _ _ (λ y k. only _ y.pending k) _ made.1.served };
-          mids = made.1.amid.mids;
-        }
 
 pub hears-keeps : HearsKeeps
 hears-keeps t p d S m bytes = by (is_some (link_of S.links p).last_mid) refl (leb (length d) 2048) refl
@@ -299,16 +293,16 @@ hears-keeps t p d S m bytes = by (is_some (link_of S.links p).last_mid) refl (le
         made = garbled-leads l t p d S h bytes (λ k spelled. err-ok e k is (message_again k d spelled))
 
         with : (v : Option ℕ) → reset_for d ≡ v → Kept (given_back t p (resets v) (hears_nothing t p d S))
-        with None none = answered-only t p S (hears_nothing t p d S) (noted t (Hears p d) Garbled) 0 R.Nothing m (record { reads = made.leads.reads; later = omega arith }) m.unsealed refl refl refl refl
+        with None none = answered-only t p S (hears_nothing t p d S) (noted t (Hears p d) Garbled) 0 R.Nothing m (record { reads = made.leads.reads; later = omega arith }) m.unsealed refl refl refl refl refl
             (made.owes ∙ ap (reset p) none)
-        with (Some mid) some = answered-only t p S (hears_nothing t p d S) (noted t (Hears p d) Garbled) mid R.Rst m (record { reads = made.leads.reads; later = omega arith }) m.unsealed refl refl refl refl
+        with (Some mid) some = answered-only t p S (hears_nothing t p d S) (noted t (Hears p d) Garbled) mid R.Rst m (record { reads = made.leads.reads; later = omega arith }) m.unsealed refl refl refl refl refl
             (made.owes ∙ ap (reset p) some)
 
     again : MayHear l t p d S → (k : Content) → Spells k d → repeats t s k ≡ true → Kept (given_back t p (replies k.mid (verdict_of t s k).reply) (hears_nothing t p d S))
     again h k spelled e =
         let j = repeats-so l t p s k agrees later e in
         let made = repeats-leads l t p d k j.0 S h spelled j.1 in
-        answered-only t p S (hears_nothing t p d S) (noted t (Hears p d) (Repeats k j.0)) k.mid (verdict_of t s k).reply m (record { reads = made.leads.reads; later = omega arith }) m.unsealed refl refl refl refl made.owes
+        answered-only t p S (hears_nothing t p d S) (noted t (Hears p d) (Repeats k j.0)) k.mid (verdict_of t s k).reply m (record { reads = made.leads.reads; later = omega arith }) m.unsealed refl refl refl refl refl made.owes
 
     fresh : MayHear l t p d S → (k : Content) → Spells k d → repeats t s k ≡ false → ((verdict_of t s k).news ≡ N.Lost → ⊥) → Kept (takes_new t p d k (verdict_of t s k) S)
     fresh h k spelled e kept = elim (lost-or-new l t p s k k.kind refl agrees later e) [

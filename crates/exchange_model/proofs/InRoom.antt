@@ -13,6 +13,7 @@ use Rattle.history_laws.specs.Readings.{Noted}
 use Rattle.history_laws.specs.Sealing as H
 use Rattle.history_laws.proofs.CallerLemmas.{all-more}
 use Rattle.exchange_model.specs.declared.kept.Conn.{Conn}
+use Rattle.exchange_model.specs.declared.kept.Reader.{Reader}
 use Rattle.exchange_model.specs.declared.kept.Exchange.{Exchange}
 use Rattle.exchange_model.specs.State.{State}
 use Rattle.exchange_model.specs.Reads.{Reads}
@@ -21,7 +22,8 @@ use Rattle.exchange_model.specs.Calls.{peer_of, asked, heard, ticked}
 use Rattle.exchange_model.specs.Keeping.{Kept, MayStep}
 use Rattle.exchange_model.specs.Room.{has_asked, seals_left, entries_taken, bytes_taken, fits, KeptInRoom, WithinLimits}
 use Rattle.exchange_model.specs.Sealing.{in_room, if_unsealed, late, StartInRoom, OpensInRoom, ShutsInRoom, AsksInRoom, HearsInRoom, TicksInRoom, IsPrompt, ArePrompt, TicksPromptly}
-use Rattle.exchange_model.proofs.Adding.{Adds, counted, all-end-adds}
+use Rattle.exchange_model.proofs.Adding.{Adds, counted}
+use Rattle.exchange_model.proofs.ToldAdds.{late-adds, kept-served}
 use Rattle.exchange_model.proofs.Calling.{opens-adds, asked-adds, heard-adds}
 use Rattle.exchange_model.proofs.Counting.{count-filter}
 use Rattle.exchange_model.proofs.Heeding.{hears-keeps}
@@ -193,7 +195,7 @@ hears-in-room t p d S k later bytes = guarded t S (heard t p d S) k
     let l = k.kept.reading in
     let small = an-ask l in
     stepped t S (heard t p d S) 3 4260 k unsealed later
-    (hears-keeps t p d S (may-step t S k unsealed later) bytes) (heard-adds t p d S (tidy-of S k))
+    (hears-keeps t p d S (may-step t S k unsealed later) bytes) (heard-adds t p d S (tidy-of S k) (kept-served l S k.kept.rests.reads))
     (three l) (omega (arith, small)))
 
 -- a tick
@@ -201,7 +203,8 @@ hears-in-room t p d S k later bytes = guarded t S (heard t p d S) k
 late-in-room : (t : ℕ) (S : State) → KeptInRoom S → S.sealed ≡ true → S.moment ≤ t
     → KeptInRoom (late t S)
 late-in-room t S k sealed later =
-    let adds = all-end-adds t (filter (is_past t) S.exchanges) S (tidy-of S k) in
+    let served = kept-served k.kept.reading S k.kept.rests.reads in
+    let adds = late-adds t (filter (is_past t) S.exchanges) S.readers S (tidy-of S k) served.waits served.apart in
     record {
       kept = late-kept t S k.kept sealed later;
       fit = adds-fit S (late t S) adds k.fit;
@@ -220,7 +223,7 @@ tick-full t S k unsealed e =
     let few = le-max_right 3 (1 + H.outstanding_count l) in
     let small = le-max_right 2189296 (64 + H.sending_size * H.outstanding_count l) in
     full l S (ticked t S) (1 + n) (64 + 2080 * n) r.reads unsealed
-    (ticked-adds t _ S (tidy-of S k) r.links) e (omega (arith, busy, few))
+    (ticked-adds t _ S (tidy-of S k) (kept-served l S r.reads) r.links) e (omega (arith, busy, few))
     (omega (arith, busy, small))
 
 sealed-now : (t : ℕ) (S : State) (k : KeptInRoom S) → S.sealed ≡ false → S.moment ≤ t
@@ -233,7 +236,7 @@ ticks-in-room t S k later = by S.sealed refl
     new : S.sealed ≡ false → (v : Bool) → fits (ticked t S) ≡ v
         → KeptInRoom (cond v (ticked t S) (late t (seals t S)))
     new unsealed true e =
-        let adds = ticked-adds t _ S (tidy-of S k) k.kept.rests.links in
+        let adds = ticked-adds t _ S (tidy-of S k) (kept-served k.kept.reading S k.kept.rests.reads) k.kept.rests.links in
         record {
           kept = ticks-keeps t S (may-step t S k unsealed later);
           fit = e;
@@ -254,14 +257,14 @@ ticks-promptly t S k later = by S.sealed refl
   where
     all-prompt : (S1 : State)
         → AllByRecursion (λ (e : Exchange). t < e.since + MAX_TRANSMIT_WAIT) S1.exchanges
-        → (cs : List Conn) → AllByRecursion (IsPrompt t S1.exchanges) cs
+        → (rs : List Reader) → AllByRecursion (IsPrompt t S1.exchanges) rs
     all-prompt S1 a [] = tt
     all-prompt S1 a (x ∷ xs) = (all-more _ _ (λ e h w. h) S1.exchanges a, all-prompt S1 a xs)
 
     new : S.sealed ≡ false → (v : Bool) → fits (ticked t S) ≡ v
         → ArePrompt t (cond v (ticked t S) (late t (seals t S)))
     new unsealed true e = all-prompt (ticked t S)
-        (ticks-do t S (may-step t S k unsealed later)).in_time (ticked t S).conns
+        (ticks-do t S (may-step t S k unsealed later)).in_time (ticked t S).readers
     new unsealed false e = late-prompt t (seals t S) (sealed-now t S k unsealed later e).kept refl
         (omega arith)
 

@@ -12,6 +12,8 @@ mod CopiedUnknown
 mod CopiedEntries
 mod Turned
 mod TurnedRoom
+mod Outrun
+mod Joined
 mod Tables
 mod Silent
 mod Quiet
@@ -21,10 +23,13 @@ mod Borne
 mod Hearing
 mod Conns
 mod ConnsTell
+mod Readers
+mod Known
 mod Resting
 mod Grounds
 mod Amid
-mod Ending
+mod Telling
+mod Tellings
 mod Expiring
 mod Passing
 mod Stepping
@@ -49,6 +54,7 @@ mod Waiting
 mod Tallies
 mod Tidy
 mod Adding
+mod ToldAdds
 mod Calling
 mod TickAdds
 mod Late

@@ -82,6 +82,7 @@ copied l t p o S a quiet tick out over due =
         quiet = refl;
         others = λ q away. link-other p q s away S.links;
         conns = refl;
+        readers = refl;
         has = λ k h. h;
       },
       subst (LinkRests (ticked l)) (sym (link-same p s S.links)) undue,
@@ -94,7 +95,7 @@ pub visited : (l : List Noted) (t : ℕ) (p : Peer) (S : State) → Amid l t S �
 visited l t p S a quiet tick over = by (link_of S.links p).outstanding refl over
   where
     stays : Moved l t p S l S
-    stays = record { goes = same-goes l; amid = a; quiet = quiet; others = λ q away. refl; conns = refl; has = λ k h. h }
+    stays = record { goes = same-goes l; amid = a; quiet = quiet; others = λ q away. refl; conns = refl; readers = refl; has = λ k h. h }
 
     undue : (o : Outstanding) → (link_of S.links p).outstanding ≡ Some o → t < due_of o → RestAt l S p
     undue o out later = rest-by (ticked l) (link_of S.links p) (Some o) (link_of S.links p).waiting out refl (subst (λ (k : ℕ). k < due_of o) (sym tick) later)
@@ -119,6 +120,7 @@ pub record AllMoved (l : List Noted) (t : ℕ) (S : State) (n : List Noted) (S1 
   pub quiet : owed n ≡ None
   pub rest : (p : Peer) → RestAt n S1 p
   pub conns : S1.conns ≡ S.conns
+  pub readers : S1.readers ≡ S.readers
   pub has : (k : ℕ) → HasExchange S.exchanges k → HasExchange S1.exchanges k
 
 -- No message is given up, and where nobody comes all rests.
@@ -152,7 +154,7 @@ ready-after p ps l t S n S1 r m here = record {
         subst (LinkRests (ticked n)) (sym (m.others q e)) (subst (λ (k : ℕ). LinkRests k (link_of S.links q)) (sym m.goes.tick) rested)
 
 pub all-moved : (ps : List Peer) (l : List Noted) (t : ℕ) (S : State) → Ready ps l t S → (n : List Noted) × AllMoved l t S n (fold (moves t) S ps)
-all-moved [] l t S r = (l, record { goes = same-goes l; amid = r.amid; quiet = r.quiet; rest = λ p. r.rest p refl; conns = refl; has = λ k h. h })
+all-moved [] l t S r = (l, record { goes = same-goes l; amid = r.amid; quiet = r.quiet; rest = λ p. r.rest p refl; conns = refl; readers = refl; has = λ k h. h })
 all-moved (p ∷ ps) l t S r =
     let one = visited l t p S r.amid r.quiet r.tick (r.goes p) in
     let m = one.1 in
@@ -165,6 +167,7 @@ all-moved (p ∷ ps) l t S r =
         quiet = a.quiet;
         rest = a.rest;
         conns = a.conns ∙ m.conns;
+        readers = a.readers ∙ m.readers;
         has = λ k h. a.has k (m.has k h);
       },
     )

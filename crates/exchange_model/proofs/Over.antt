@@ -31,11 +31,11 @@ use Rattle.history_links.proofs.CallerLemmas.{ends_by, hit, is_to, judge, unrepl
 use Rattle.exchange_model.specs.declared.kept.Exchange.{Exchange}
 use Rattle.exchange_model.specs.State.{State, link_of}
 use Rattle.exchange_model.specs.Reads.{ExchangeIn, opening_of}
-use Rattle.exchange_model.specs.Steps.{is_under, is_other}
-use Rattle.exchange_model.specs.Calls.{ended_in, method_in, grounds_by, grounds_of}
+use Rattle.exchange_model.specs.Steps.{is_under, is_other, ended_in}
+use Rattle.exchange_model.specs.Calls.{method_in, grounds_by, grounds_of}
 use Rattle.exchange_model.specs.Laws.{Before, MayHear}
 use Rattle.exchange_model.proofs.Borne.{split}
-use Rattle.exchange_model.proofs.Grounds.{GroundsOf, IsOver}
+use Rattle.exchange_model.proofs.Grounds.{GroundsOf}
 use Rattle.exchange_model.proofs.Hearing.{ends-kept}
 use Rattle.exchange_model.proofs.Silent.{now-from}
 
@@ -139,32 +139,27 @@ kept-open l S e b has =
 
 pub heard-over : (l : List Noted) (t : ℕ) (p : Peer) (d : List ℕ) (m : Content) (S : State) → MayHear l t p d S → repeated l t p m ≡ None → can_be_remembered l t p m ≡ true
     → (e : Exchange) → ended_in (ended_token (verdict_of t (link_of S.links p) m).news m.token) S.exchanges ≡ Some e
-    → IsOver (heard l t p d m ∷ l) e (grounds_of (verdict_of t (link_of S.links p) m) m S)
+    → GroundsOf (heard l t p d m ∷ l) e.opening (grounds_of (verdict_of t (link_of S.links p) m) m S)
 heard-over l t p d m S h none room e is =
-    subst (λ (v : Option Exchange). IsOver (heard l t p d m ∷ l) e (grounds_by (verdict_of t (link_of S.links p) m).news (length S.entries) (method_in v) m)) (sym is)
+    subst (λ (v : Option Exchange). GroundsOf (heard l t p d m ∷ l) e.opening (grounds_by (verdict_of t (link_of S.links p) m).news (length S.entries) (method_in v) m)) (sym is)
     (by (ended_token (verdict_of t (link_of S.links p) m).news m.token) refl is)
   where
     here : length S.entries ≡ length l
     here = ap length (sym h.before.reads.entries_are) ∙ entries-length l
 
     made : (of : List ℕ) → ended_token (verdict_of t (link_of S.links p) m).news m.token ≡ Some of → Contains S.exchanges e → is_under of e ≡ true → (a : ExchangeIn h.before.reads.start l e)
-        → (v : Option ℕ) → e.sending ≡ v → hit (answers l p m) m v ≡ true → IsOver (heard l t p d m ∷ l) e (grounds_by (verdict_of t (link_of S.links p) m).news (length S.entries) e.method m)
+        → (v : Option ℕ) → e.sending ≡ v → hit (answers l p m) m v ≡ true → GroundsOf (heard l t p d m ∷ l) e.opening (grounds_by (verdict_of t (link_of S.links p) m).news (length S.entries) e.method m)
     made of ended has under a None sending hits = absurd (false≢true hits)
     made of ended has under a (Some i) sending hits =
         let to = is-to-it (answers l p m) i (and-left (is_to (answers l p m) i) _ hits) in
         let ends = and-right (is_to (answers l p m) i) _ hits in
         let going = kept-open l S e (record { reads = h.before.reads; later = omega arith }) has in
-        record {
-          request = a.request;
-          ask = a.ask;
-          stands = at-keeps (heard l t p d m) l e.opening _ a.stands;
-          grounds = subst (λ (n : ℕ). GroundsOf (heard l t p d m ∷ l) e.opening (grounds_by (verdict_of t (link_of S.links p) m).news n e.method m)) (sym here)
-              (subst (λ (k : ℕ). GroundsOf (heard l t p d m ∷ l) e.opening (grounds_by (verdict_of t (link_of S.links p) m).news (length l) k m)) a.method
-              (by-kind l t p d m e.opening i (link_of S.links p) of m.kind (record { since = e.since; request = a.request }) a.opening refl (a.sending ∙ sending) to ends going ended));
-        }
+        subst (λ (n : ℕ). GroundsOf (heard l t p d m ∷ l) e.opening (grounds_by (verdict_of t (link_of S.links p) m).news n e.method m)) (sym here)
+        (subst (λ (k : ℕ). GroundsOf (heard l t p d m ∷ l) e.opening (grounds_by (verdict_of t (link_of S.links p) m).news (length l) k m)) a.method
+        (by-kind l t p d m e.opening i (link_of S.links p) of m.kind (record { since = e.since; request = a.request }) a.opening refl (a.sending ∙ sending) to ends going ended))
 
     by : (ended : Option (List ℕ)) → ended_token (verdict_of t (link_of S.links p) m).news m.token ≡ ended → ended_in ended S.exchanges ≡ Some e
-        → IsOver (heard l t p d m ∷ l) e (grounds_by (verdict_of t (link_of S.links p) m).news (length S.entries) e.method m)
+        → GroundsOf (heard l t p d m ∷ l) e.opening (grounds_by (verdict_of t (link_of S.links p) m).news (length S.entries) e.method m)
     by None ended found = absurd cc
     by (Some of) ended found =
         let first = find-some (is_under of) S.exchanges e found in

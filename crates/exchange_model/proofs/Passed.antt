@@ -16,10 +16,10 @@ use Rattle.message_layer.specs.declared.state.Waiting.{Waiting}
 use Rattle.history_links.specs.Steps.{is_over}
 use Rattle.exchange_model.specs.declared.kept.Exchange.{Exchange}
 use Rattle.exchange_model.specs.State.{PeerLink, State, link_of, with_link}
-use Rattle.exchange_model.specs.Steps.{given_out, sends_copy, passed, passes, is_gone}
+use Rattle.exchange_model.specs.Steps.{given_out, sends_copy, passed, passes, is_gone, goes_on, left_by, timed_out}
 use Rattle.exchange_model.specs.Calls.{moves_by, moves, peer_of, move_all}
 use Rattle.exchange_model.specs.Keeping.{MayStep}
-use Rattle.exchange_model.specs.Entering.{Going, going_as, sent_as, first_deeds, in_turn, link_deeds, link_going, rid, turn_deeds, all_deeds, all_going, link_after, goes_on, StandsOnce, IsDrained}
+use Rattle.exchange_model.specs.Entering.{Going, going_as, sent_as, first_deeds, in_turn, link_deeds, link_going, rid, turn_deeds, all_deeds, all_going, link_after, StandsOnce, IsDrained}
 use Rattle.exchange_model.proofs.Entered.{put, after, next-put, entries-more, sent-both, given-itself}
 use Rattle.exchange_model.proofs.Heeded.{next-conns}
 use Rattle.exchange_model.proofs.Lists.{all-both, all-map}
@@ -329,7 +329,7 @@ pub moved-put : (t : ℕ) (S : State) → MayStep t S → IsDrained S
     → let gone = is_gone t S in
     move_all t (passes t S) ≡ put t (Passes ∷ all_deeds t gone S.links)
     (sent_as (all_going t gone (length S.entries + 1) S.links)
-    (filter (goes_on t S) S.exchanges)) (map (link_after t gone) S.links) S
+    (left_by S.entries (timed_out t S) (filter (goes_on t S) S.exchanges))) (map (link_after t gone) S.links) S
 moved-put t S may drained =
     after t (Passes ∷ []) (visits t ys) es1 (sent_as (visits_going t (length S1.entries) ys) es1) ys
     (map (visited_link t) ys) S S1 (move_all t S1) refl
@@ -354,7 +354,7 @@ moved-put t S may drained =
     ys = map (passed t S) S.links
 
     es1 : List Exchange
-    es1 = filter (goes_on t S) S.exchanges
+    es1 = left_by S.entries (timed_out t S) (filter (goes_on t S) S.exchanges)
 
     fine : AllByRecursion (Fine (is_gone t S)) S.links
     fine = all-fine t S may drained.once

@@ -2,7 +2,7 @@
 use Rattle.std.proofs.Common.{◌≡◌, ℕ, ◌+◌, Bool, true, false, cond, List, [], ◌∷◌, ◌++◌, map, Option, Some, None, is_some, refl, sym, ap, subst, ◌∙◌}
 use Rattle.std.specs.Prelude.{filter, not, is_none, ◌&&◌}
 use Rattle.std.specs.List.{AllByRecursion, Contains}
-use Rattle.std.proofs.lemmas.Bool.{not-true}
+use Rattle.std.proofs.lemmas.Bool.{not-true, not-false}
 use Rattle.std.proofs.lemmas.List.Elements.{All-contains_itself, recursion_from_All, filter_agree}
 use Rattle.uri_map.specs.declared.peer.Peer.{Peer}
 use Rattle.uri_map.specs.Peers.{same_peer}
@@ -14,19 +14,23 @@ use Rattle.history_laws.specs.Readings.{Noted, Plain, noted}
 use Rattle.history_laws.specs.Exchanges.{Begun, begun, is_late, expires as ends_at, waits_for, goes_to, is_going, is_waiting, waiting, rank, openings, open_exchanges}
 use Rattle.history_laws.specs.Hearing.{went_under}
 use Rattle.history_laws.specs.Transmissions.{FirstSending, first_at}
-use Rattle.history_laws.proofs.CallerLemmas.{all-filter, all-more, all-of, all-passes, and-left, filter-by, filtered-from, issued-same, open-exactly, some-is, waiting-all, waiting-begun, waiting-goes, waiting-unsent}
+use Rattle.history_laws.proofs.CallerLemmas.{all-filter, all-more, all-of, all-passes, and-left, contains-filter, filter-by, filtered-from, issued-same, open-exactly, some-is, waiting-all, waiting-begun, waiting-goes, waiting-unsent}
 use Rattle.history_links.specs.Agrees.{Start, IsWaitingFor, WaitIn, Agrees}
 use Rattle.history_links.specs.Steps.{passed_link, EndWaiting, EndTokens}
 use Rattle.history_links.proofs.CallerLemmas.{going-passed, pass-agrees, passed-quiet, token-found, waits-passed}
 use Rattle.exchange_model.specs.declared.kept.Exchange.{Exchange}
+use Rattle.ask_model.specs.Sharing.{asked_place}
+use Rattle.history_laws.specs.Joining.{outrun}
 use Rattle.exchange_model.specs.State.{PeerLink, State, link_of}
 use Rattle.exchange_model.specs.Reads.{IsSentUnder, ExchangeIn, WaitsUnder, opening_of, Reads}
-use Rattle.exchange_model.specs.Steps.{expires, is_gone, passed}
+use Rattle.exchange_model.specs.Steps.{expires, is_gone, outrun_by, passed, timed_out}
 use Rattle.exchange_model.specs.Laws.{PassesLeads}
 use Rattle.exchange_model.proofs.Expiring.{expires-alike, awaited-open, kept-at, gone-of}
 use Rattle.exchange_model.proofs.Hearing.{filter-map, filter-both}
 use Rattle.exchange_model.proofs.Lists.{all-both}
 use Rattle.exchange_model.proofs.Silent.{later-than, link-before, moment-now}
+use Rattle.exchange_model.proofs.Opened.{OpenIn, open-ones}
+use Rattle.exchange_model.proofs.Outrun.{EndsThose, left-all, left-each, left-openings, current-now}
 use Rattle.exchange_model.proofs.Tables.{exchange-stays}
 
 abbrev ticked_at : ℕ → Noted
@@ -49,10 +53,30 @@ open-passed l t S r =
     ∙ ap (map opening_of) (filter-by (λ (e : Exchange). goes_on l t e.opening) (stays t S) S.exchanges
     (all-more (ExchangeIn r.start l) _ (λ e a. ap not (sym (expires-alike l t S.links e r.legal r.links_are a))) S.exchanges r.exchanges_are)))))
 
-exchange-kept : (l : List Noted) (t : ℕ) (S : State) (r : Reads l S) → (e : Exchange) → ExchangeIn r.start l e × (stays t S e ≡ true) → ExchangeIn r.start (ticked_at t ∷ l) e
-exchange-kept l t S r e a =
-    exchange-stays (ticked_at t) l e (λ h. h)
-    (waits-passed l t e.opening ∙ ap (λ (b : Bool). cond b None (waits_for l e.opening)) (sym (expires-alike l t S.links e r.legal r.links_are a.0) ∙ not-true (expires t S.links e) a.1)) a.0
+passes-going : (l : List Noted) (t : ℕ) (S : State) (r : Reads l S) (e : Exchange) → OpenIn r.start l e → is_going (ticked_at t ∷ l) e.opening ≡ stays t S e
+passes-going l t S r e a =
+    going-passed l t e.opening
+    ∙ (ap (λ (b : Bool). goes_on l t e.opening && b) a.1
+    ∙ (and-true (goes_on l t e.opening) ∙ ap not (sym (expires-alike l t S.links e r.legal r.links_are a.0))))
+  where
+    and-true : (b : Bool) → (b && true) ≡ b
+    and-true true = refl
+    and-true false = refl
+
+passes-ends : (l : List Noted) (t : ℕ) (S : State) → Reads l S → EndsThose (ticked_at t) l S (timed_out t S)
+passes-ends l t S r = record {
+  ended = λ f h. let from = filtered-from (expires t S.links) S.exchanges f h in (from.0, passes-going l t S r f (open_in f from.0) ∙ ap not from.1);
+  all = λ f has gone. (f, contains-filter (expires t S.links) S.exchanges f has (not-false (expires t S.links f) (sym (passes-going l t S r f (open_in f has)) ∙ gone)), refl);
+}
+  where
+    open_in : (e : Exchange) → Contains S.exchanges e → OpenIn r.start l e
+    open_in e has = all-of (OpenIn r.start l) S.exchanges e (open-ones l S r) has
+
+exchange-kept : (l : List Noted) (t : ℕ) (S : State) (r : Reads l S) → (e : Exchange) (b : Bool) → (a : ExchangeIn r.start l e) → stays t S e ≡ true
+    → b ≡ not (outrun (ticked_at t ∷ l) (asked_place a.request) e.opening) → ExchangeIn r.start (ticked_at t ∷ l) (record e { current = b })
+exchange-kept l t S r e b a goes current =
+    exchange-stays (ticked_at t) l e b (λ h. h)
+    (waits-passed l t e.opening ∙ ap (λ (b : Bool). cond b None (waits_for l e.opening)) (sym (expires-alike l t S.links e r.legal r.links_are a) ∙ not-true (expires t S.links e) goes)) a current
 
 -- what is kept of a link
 
@@ -136,11 +160,15 @@ passes-leads l t S b may =
         opens_are = r.opens_are;
         issued_are = ap (λ (k : ℕ). r.start.issued + k) (issued-same (ticked_at t) l refl (λ o goes. passed-quiet l t o)) ∙ r.issued_are;
         conns_are = r.conns_are;
-        keys = open-passed l t S r;
-        exchanges_are = all-more _ (ExchangeIn b.reads.start n) (exchange-kept l t S r) kept
-            (all-both (ExchangeIn b.reads.start l) _ kept (all-filter (ExchangeIn b.reads.start l) (stays t S) S.exchanges r.exchanges_are) (all-passes (stays t S) S.exchanges));
+        readers_are = r.readers_are;
+        keys = open-passed l t S r ∙ sym (left-openings S.entries (timed_out t S) kept);
+        exchanges_are = left-each (ExchangeIn r.start n) (λ (e : Exchange). ExchangeIn r.start l e × (stays t S e ≡ true)) S.entries (timed_out t S)
+            (λ e a. exchange-kept l t S r e (outrun_by S.entries (timed_out t S) e).current a.0 a.1
+            (current-now (ticked_at t) l S r (timed_out t S) (passes-ends l t S r) (r.legal, later, (may, tt)) e a.0)) kept
+            (all-both (ExchangeIn r.start l) (λ (e : Exchange). stays t S e ≡ true) kept (all-filter (ExchangeIn r.start l) (stays t S) S.exchanges r.exchanges_are) (all-passes (stays t S) S.exchanges));
         tokens_are = r.tokens_are;
-        waiting_are = all-more _ _ (fewer-wait t S) kept (all-filter (λ (e : Exchange). WaitsUnder (link_of S.links e.peer).waiting e) (stays t S) S.exchanges r.waiting_are);
+        waiting_are = left-all (λ (e : Exchange). WaitsUnder (link_of (map (passed t S) S.links) e.peer).waiting e) (λ e k. k) S.entries (timed_out t S) kept
+            (all-more _ _ (fewer-wait t S) kept (all-filter (λ (e : Exchange). WaitsUnder (link_of S.links e.peer).waiting e) (stays t S) S.exchanges r.waiting_are));
         links_are = λ p. subst (Agrees b.reads.start n p) (sym (link-passed t S p S.links))
             (pass-agrees _ l t p (link_of S.links p) (is_gone t S) (link-before l t S b p) (end-tokens l t S p r));
       };

@@ -19,12 +19,14 @@ use Rattle.history_links.specs.Agrees.{Start, way_of, TurnIn, WaitIn}
 use Rattle.history_laws.specs.Laws.{IsFirst}
 use Rattle.exchange_model.specs.declared.kept.Conn.{Conn}
 use Rattle.exchange_model.specs.declared.kept.Exchange.{Exchange}
+use Rattle.exchange_model.specs.declared.kept.Reader.{Reader}
 use Rattle.exchange_model.specs.State.{State, link_of}
 use Rattle.exchange_model.specs.Reads.{ExchangeIn, opening_of, Reads}
-use Rattle.exchange_model.specs.Resting.{IsUndue, HasExchange, IsServed, HasConn, Rests, RestsAtRest}
+use Rattle.exchange_model.specs.Resting.{IsUndue, HasExchange, HasReader, IsServed, HasConn, Rests, RestsAtRest}
 use Rattle.exchange_model.proofs.Lists.{all-mapped, all-map, all-both, all-pass, every-passes}
 use Rattle.exchange_model.proofs.ConnsTell.{conns-tell}
 use Rattle.exchange_model.proofs.Opened.{OpenIn, open-ones}
+use Rattle.exchange_model.proofs.Readers.{ReaderIn, readers-wait}
 
 -- a test that each of them passes
 open-pass : (l : List Noted) (S : State) (q : ℕ → Bool) → Reads l S → AllByRecursion (λ (e : Exchange). q e.opening ≡ true) S.exchanges
@@ -35,24 +37,27 @@ open-pass l S q r a =
 
 -- What connections wait for is in hand.
 
-reads-itself : {start : Start} (l : List Noted) (e : Exchange) → OpenIn start l e → reads_open l (reads l e.opening) ≡ true
-reads-itself l e h = rw (h.0.stands) (h.1)
+going-one : (start : Start) (l : List Noted) (es : List Exchange) (o : ℕ) → AllByRecursion (OpenIn start l) es → HasExchange es o → is_going l o ≡ true
+going-one start l [] o a h = elim h [ ]
+going-one start l (e ∷ es) o a (inl h) = subst (λ (k : ℕ). is_going l k ≡ true) h a.0.1
+going-one start l (e ∷ es) o a (inr h) = going-one start l es o a.1 h
 
-reads-one : (start : Start) (l : List Noted) (es : List Exchange) (k : ℕ) → AllByRecursion (OpenIn start l) es → HasExchange es k → reads_open l (reads l k) ≡ true
-reads-one start l [] k a h = elim h [ ]
-reads-one start l (e ∷ es) k a (inl h) = subst (λ (k : ℕ). reads_open l (reads l k) ≡ true) h (reads-itself l e a.0)
-reads-one start l (e ∷ es) k a (inr h) = reads-one start l es k a.1 h
+reads-one : (l : List Noted) (rs : List Reader) (k : ℕ) → AllByRecursion (λ (r : Reader). ReaderIn l r × (is_going l r.opening ≡ true)) rs → HasReader rs k
+    → reads_open l (reads l k) ≡ true
+reads-one l [] k a h = elim h [ ]
+reads-one l (r ∷ rs) k a (inl h) = subst (λ (k : ℕ). reads_open l (reads l k) ≡ true) h (rw (a.0.0.stands, a.0.0.reads) a.0.1)
+reads-one l (r ∷ rs) k a (inr h) = reads-one l rs k a.1 h
 
-served-one : (start : Start) (l : List Noted) (es : List Exchange) (p : Option ℕ) → AllByRecursion (OpenIn start l) es → IsServed es p
+served-one : (l : List Noted) (rs : List Reader) (p : Option ℕ) → AllByRecursion (λ (r : Reader). ReaderIn l r × (is_going l r.opening ≡ true)) rs → IsServed rs p
     → option_map_or (λ (k : ℕ). reads_open l (reads l k)) p true ≡ true
-served-one start l es None a h = refl
-served-one start l es (Some k) a h = reads-one start l es k a h
+served-one l rs None a h = refl
+served-one l rs (Some k) a h = reads-one l rs k a h
 
-served-by : (S : State) (xs : List Conn) (c : ℕ) (p : Option ℕ) → AllByRecursion (λ (x : Conn). IsServed S.exchanges x.pending) xs
-    → HasConn xs c p → IsServed S.exchanges p
-served-by S [] c p a h = elim h [ ]
-served-by S (x ∷ xs) c p a (inl h) = subst (IsServed S.exchanges) h.1 a.0
-served-by S (x ∷ xs) c p a (inr h) = served-by S xs c p a.1 h
+served-by : (rs : List Reader) (xs : List Conn) (c : ℕ) (p : Option ℕ) → AllByRecursion (λ (x : Conn). IsServed rs x.pending) xs
+    → HasConn xs c p → IsServed rs p
+served-by rs [] c p a h = elim h [ ]
+served-by rs (x ∷ xs) c p a (inl h) = subst (IsServed rs) h.1 a.0
+served-by rs (x ∷ xs) c p a (inr h) = served-by rs xs c p a.1 h
 
 in-hand : (l : List Noted) (S : State) (c : ℕ) → Rests l S → is_in_hand l c ≡ true
 in-hand l S c r = by (is_open l c) refl
@@ -61,7 +66,10 @@ in-hand l S c r = by (is_open l c) refl
     by false e = refl
     by true e =
         let has : HasConn S.conns c (pending l c) = (conns-tell l S c r.reads).0 e in
-        served-one r.reads.start l S.exchanges (pending l c) (open-ones l S r.reads) (served-by S S.conns c (pending l c) r.served has)
+        let open_readers = all-both (ReaderIn l) (λ (r : Reader). is_going l r.opening ≡ true) S.readers
+        (subst (AllByRecursion (ReaderIn l)) r.reads.readers_are (readers-wait l r.reads.legal))
+        (all-more _ (λ (x : Reader). is_going l x.opening ≡ true) (λ x h. going-one r.reads.start l S.exchanges x.opening (open-ones l S r.reads) h) S.readers r.reading) in
+        served-one l S.readers (pending l c) open_readers (served-by S.readers S.conns c (pending l c) r.served has)
 
 -- The next message of an open exchange is out, or waits after another one.
 

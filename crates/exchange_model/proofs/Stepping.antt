@@ -1,8 +1,8 @@
 -- A connection opened or shut, the seal, an ask: a step keeps what holds between steps.
-use Rattle.std.proofs.Common.{◌≡◌, ℕ, suc, ◌+◌, ◌<◌, ◌≤◌, inl, inr, Bool, true, false, cond, eqb, ltb, List, [], ◌∷◌, ◌++◌, length, map, Option, Some, None, refl, sym, ap, subst, ◌∙◌, arith, length-append}
+use Rattle.std.proofs.Common.{◌≡◌, ◌≢◌, ◌⊎◌, ℕ, suc, ◌+◌, ◌<◌, ◌≤◌, inl, inr, Bool, true, false, cond, eqb, ltb, List, [], ◌∷◌, ◌++◌, length, map, Option, Some, None, refl, sym, ap, subst, ◌∙◌, arith, length-append}
 use Rattle.std.proofs.lemmas.List.{length-map}
-use Rattle.std.specs.Prelude.{filter, not}
-use Rattle.std.specs.List.{AllByRecursion}
+use Rattle.std.specs.Prelude.{filter, not, option_map}
+use Rattle.std.specs.List.{AllByRecursion, Contains}
 use Rattle.std.proofs.lemmas.Bool.{ltb-true}
 use Rattle.std.proofs.lemmas.Bool.Decides.{eqb_tells}
 use Rattle.std.proofs.lemmas.List.Sums.{length-filter}
@@ -25,24 +25,27 @@ use Rattle.history_laws.specs.Readings.{Noted, Plain, Begins, at, ticked, noted}
 use Rattle.history_laws.specs.Connections.{is_open, asks_of, answers_of}
 use Rattle.history_laws.specs.Hearing.{has_room}
 use Rattle.history_laws.specs.Justified.{AskNote, Caused, IsRefused, MayCome, pending}
-use Rattle.history_laws.proofs.CallerLemmas.{all-filter, all-more, all-push, and-right, at-new, entries-length, eqb-itself}
+use Rattle.history_laws.proofs.CallerLemmas.{contains-none, find-some, first-or-later, all-filter, all-more, all-passes, all-push, and-right, at-new, entries-length, eqb-itself}
 use Rattle.history_links.specs.Agrees.{Start, WaitIn}
 use Rattle.exchange_model.specs.declared.kept.Conn.{Conn}
 use Rattle.exchange_model.specs.declared.kept.Exchange.{Exchange}
+use Rattle.exchange_model.specs.declared.kept.Reader.{Reader}
 use Rattle.exchange_model.specs.State.{State, link_of, pend}
-use Rattle.exchange_model.specs.Reads.{opening_of}
-use Rattle.exchange_model.specs.Steps.{asks, begins, exchange_for}
-use Rattle.exchange_model.specs.Resting.{IsUndue, LinkRests, HasExchange, IsServed, HasConn, Rests}
-use Rattle.exchange_model.specs.Calls.{Numbers, next, refused, has_place, asked_by}
+use Rattle.exchange_model.specs.Reads.{Reads, opening_of}
+use Rattle.exchange_model.specs.Steps.{asks, begins, joins, exchange_for, reader_for}
+use Rattle.exchange_model.specs.Resting.{IsUndue, LinkRests, HasExchange, HasReader, IsServed, HasConn, Rests}
+use Rattle.exchange_model.specs.Calls.{Numbers, next, refused, has_place, is_joined, joined, asked_with, asked_by}
 use Rattle.exchange_model.specs.Keeping.{StartKeeps, HasMids, Kept, MayStep, KeptStands, OpensKeeps, ShutsKeeps, SealsKeeps, IsProper, IsNumbered, AsksKeeps}
 use Rattle.exchange_model.specs.Laws.{Before, MayAsk}
 use Rattle.exchange_model.proofs.Amid.{Amid, Moved, RestAt, IsEarly, tick-before, next-moves}
 use Rattle.exchange_model.proofs.Begins.{begins-leads}
 use Rattle.exchange_model.proofs.Conns.{PendingIn, ConnIn, conns-open, slice_get-push}
 use Rattle.exchange_model.proofs.ConnsTell.{conns-tell}
-use Rattle.exchange_model.proofs.Ending.{conn-of}
-use Rattle.exchange_model.proofs.Lists.{all-map}
-use Rattle.exchange_model.proofs.Quiet.{asks-leads}
+use Rattle.exchange_model.proofs.Readers.{ReaderIn, older-asks, readers-wait}
+use Rattle.exchange_model.proofs.Telling.{all-conns, apart-by, conn-of, has-left, other-by, reader-is}
+use Rattle.exchange_model.proofs.Lists.{all-map, all-both}
+use Rattle.exchange_model.proofs.Joined.{joins-tell}
+use Rattle.exchange_model.proofs.Quiet.{asks-leads, joins-leads}
 use Rattle.exchange_model.proofs.Resting.{rests-at-rest}
 use Rattle.exchange_model.proofs.Silent.{opens-leads, shuts-leads, seals-leads, answers-leads, now-from, later-than}
 use Rattle.exchange_model.proofs.Tables.{link-other, all-links}
@@ -64,9 +67,43 @@ opens-keeps t S m =
     let made = opens-leads m.kept.reading t S (before-step t S m) (may-come t S m) in
     record {
       reading = _;
-      rests = record { reads = made.reads; quiet = refl; links = r.links; in_time = r.in_time; served = all-push (λ (x : Conn). IsServed S.exchanges x.pending) S.conns _ r.served tt };
+      rests = record { reads = made.reads; quiet = refl; links = r.links; in_time = r.in_time; served = all-push (λ (x : Conn). IsServed S.readers x.pending) S.conns _ r.served tt; reading = r.reading };
       mids = m.kept.mids;
     }
+
+-- Whose connection is shut reads no more, and the others go on.
+abbrev others : ℕ → List Reader → List Reader
+others c rs = filter (λ (r : Reader). not (eqb r.conn c)) rs
+
+others-has : (c : ℕ) (rs : List Reader) (j : ℕ) → AllByRecursion (λ (r : Reader). r.ask ≡ j → r.conn ≢ c) rs → HasReader rs j → HasReader (others c rs) j
+others-has c [] j a h = h
+others-has c (r ∷ rs) j a (inl h) = rw (other-by r.conn c (a.0 h)) (inl h)
+others-has c (r ∷ rs) j a (inr h) = by (not (eqb r.conn c)) (others-has c rs j a.1 h)
+  where
+    by : (b : Bool) → HasReader (others c rs) j → HasReader (cond b (r ∷ others c rs) (others c rs)) j
+    by true ih = inr ih
+    by false ih = ih
+
+served-others : (c : ℕ) (rs : List Reader) (x : Conn) → ((j : ℕ) → x.pending ≡ Some j → HasReader rs j → HasReader (others c rs) j) → IsServed rs x.pending → IsServed (others c rs) x.pending
+served-others c rs x stays h = by x.pending refl h
+  where
+    by : (v : Option ℕ) → x.pending ≡ v → IsServed rs v → IsServed (others c rs) v
+    by None is h = tt
+    by (Some j) is h = stays j is h
+
+reader-stays : (l : List Noted) (S : State) (c : ℕ) → Reads l S
+    → AllByRecursion (λ (x : Conn). (j : ℕ) → x.pending ≡ Some j → HasReader S.readers j → HasReader (others c S.readers) j) (filter (λ (x : Conn). not (eqb x.id c)) S.conns)
+reader-stays l S c reads =
+    all-more (λ (x : Conn). HasConn S.conns x.id x.pending × (not (eqb x.id c) ≡ true)) _ one (filter (λ (x : Conn). not (eqb x.id c)) S.conns)
+    (all-both (λ (x : Conn). HasConn S.conns x.id x.pending) _ (filter (λ (x : Conn). not (eqb x.id c)) S.conns)
+    (all-filter (λ (x : Conn). HasConn S.conns x.id x.pending) (λ (x : Conn). not (eqb x.id c)) S.conns (all-conns (λ (x : Conn). HasConn S.conns x.id x.pending) S.conns (λ x h. h)))
+    (all-passes (λ (x : Conn). not (eqb x.id c)) S.conns))
+  where
+    one : (x : Conn) → HasConn S.conns x.id x.pending × (not (eqb x.id c) ≡ true) → (j : ℕ) → x.pending ≡ Some j → HasReader S.readers j → HasReader (others c S.readers) j
+    one x h j is has = others-has c S.readers j
+        (all-more (ReaderIn l) (λ (r : Reader). r.ask ≡ j → r.conn ≢ c) (λ r a same away. apart-by x.id c h.1
+        (reader-is l S x.id r reads a (subst (HasConn S.conns x.id) (is ∙ ap Some (sym same)) h.0) ∙ away)) S.readers
+        (subst (AllByRecursion (ReaderIn l)) reads.readers_are (readers-wait l reads.legal))) has
 
 pub shuts-keeps : ShutsKeeps
 shuts-keeps t c p S k later h =
@@ -75,7 +112,17 @@ shuts-keeps t c p S k later h =
     let made = shuts-leads k.reading t c S (record { reads = r.reads; later = later }) r.quiet told.0 in
     record {
       reading = _;
-      rests = record { reads = made.reads; quiet = refl; links = r.links; in_time = r.in_time; served = all-filter (λ (x : Conn). IsServed S.exchanges x.pending) (λ (x : Conn). not (eqb x.id c)) S.conns r.served };
+      rests = record {
+        reads = made.reads;
+        quiet = refl;
+        links = r.links;
+        in_time = r.in_time;
+        served = all-more (λ (x : Conn). ((j : ℕ) → x.pending ≡ Some j → HasReader S.readers j → HasReader (others c S.readers) j) × IsServed S.readers x.pending)
+            (λ (x : Conn). IsServed (others c S.readers) x.pending) (λ x h. served-others c S.readers x h.0 h.1) (filter (λ (x : Conn). not (eqb x.id c)) S.conns)
+            (all-both _ _ (filter (λ (x : Conn). not (eqb x.id c)) S.conns) (reader-stays k.reading S c r.reads)
+            (all-filter (λ (x : Conn). IsServed S.readers x.pending) (λ (x : Conn). not (eqb x.id c)) S.conns r.served));
+        reading = all-filter (λ (x : Reader). HasExchange S.exchanges x.opening) (λ (x : Reader). not (eqb x.conn c)) S.readers r.reading;
+      };
       mids = k.mids;
     }
 
@@ -83,7 +130,7 @@ pub seals-keeps : SealsKeeps
 seals-keeps t S m full =
     let r = m.kept.rests in
     let made = seals-leads m.kept.reading t S (before-step t S m) (may-come t S m) full in
-    record { reading = _; rests = record { reads = made.reads; quiet = refl; links = r.links; in_time = r.in_time; served = r.served }; mids = m.kept.mids }
+    record { reading = _; rests = record { reads = made.reads; quiet = refl; links = r.links; in_time = r.in_time; served = r.served; reading = r.reading }; mids = m.kept.mids }
 
 -- the connection that asks
 
@@ -123,8 +170,19 @@ caused l t k C.Reset is a = absurd is
 caused l t k C.NotUnderstood is a = absurd is
 caused l t k cause is a = (is, refl, a)
 
-served-again : (es : List Exchange) (c n : ℕ) (x : Conn) → IsServed es x.pending → IsServed es (pend c None (pend c (Some n) x)).pending
-served-again es c n x h = elim (eqb_tells x.id c) [ inl w ↦ rw (w.0, w.0) tt | inr w ↦ rw (w.0, w.0) h ]
+has-below : (rs : List Reader) (n j : ℕ) → AllByRecursion (λ (r : Reader). r.ask < n) rs → HasReader rs j → j ≢ n
+has-below [] n j a h = absurd h
+has-below (r ∷ rs) n j a (inl h) = λ e. let less = a.0 in omega (arith, less, h, e)
+has-below (r ∷ rs) n j a (inr h) = has-below rs n j a.1 h
+
+-- An ask that is answered at once was no reader's.
+served-again : (rs : List Reader) (c n : ℕ) (x : Conn) → AllByRecursion (λ (r : Reader). r.ask < n) rs → IsServed rs x.pending
+    → IsServed (filter (λ (r : Reader). not (eqb r.ask n)) rs) (pend c None (pend c (Some n) x)).pending
+served-again rs c n x below h = elim (eqb_tells x.id c) [ inl w ↦ rw (w.0, w.0) tt | inr w ↦ rw (w.0, w.0) (by x.pending h) ]
+  where
+    by : (v : Option ℕ) → IsServed rs v → IsServed (filter (λ (r : Reader). not (eqb r.ask n)) rs) v
+    by None h = tt
+    by (Some j) h = has-left rs n j h (has-below rs n j below h)
 
 at-once : (t c : ℕ) (a : Ask) (cause : Cause) (S : State) (m : MayStep t S) → HasConn S.conns c None → AskNote m.kept.reading t a.sense Plain
     → ((l : List Noted) (k : ℕ) → at l k ≡ Some (noted t (Asks c a) Plain) → Caused l t k cause k) → Kept (refused t c a cause S)
@@ -137,6 +195,9 @@ at-once t c a cause S m h note why =
     let here : length S.entries ≡ length l = ap length (sym r.reads.entries_are) ∙ entries-length l in
     let turn : pending (x ∷ l) c ≡ Some (length S.entries) = rw (eqb-itself c, here) (slice_get-push (asks_of l c) (length l) _ who.idle) in
     let stands : at (x ∷ l) (length S.entries) ≡ Some x = subst (λ (k : ℕ). at (x ∷ l) k ≡ Some x) (sym here) (at-new x l) in
+    let left = filter (λ (x : Reader). not (eqb x.ask (length S.entries))) S.readers in
+    let below = subst (λ (k : ℕ). AllByRecursion (λ (x : Reader). x.ask < k) S.readers) (sym here)
+    (subst (AllByRecursion (λ (x : Reader). x.ask < length l)) r.reads.readers_are (older-asks l r.reads.legal)) in
     let made = answers-leads (x ∷ l) t c (length S.entries) (Fault cause (length S.entries)) (asks t c a S)
     (record { reads = first.reads; later = omega arith }) refl who.open_now turn (why (x ∷ l) (length S.entries) stands) in
     record {
@@ -146,9 +207,10 @@ at-once t c a cause S m h note why =
         quiet = refl;
         links = r.links;
         in_time = r.in_time;
-        served = all-map (pend c None) (λ (y : Conn). IsServed S.exchanges y.pending) (map (pend c (Some (length S.entries))) S.conns)
-            (all-map (pend c (Some (length S.entries))) (λ (y : Conn). IsServed S.exchanges (pend c None y).pending) S.conns
-            (all-more _ _ (λ y k. served-again S.exchanges c (length S.entries) y k) S.conns r.served));
+        served = all-map (pend c None) (λ (y : Conn). IsServed left y.pending) (map (pend c (Some (length S.entries))) S.conns)
+            (all-map (pend c (Some (length S.entries))) (λ (y : Conn). IsServed left (pend c None y).pending) S.conns
+            (all-more _ _ (λ y k. served-again S.readers c (length S.entries) y below k) S.conns r.served));
+        reading = all-filter (λ (x : Reader). HasExchange S.exchanges x.opening) (λ (x : Reader). not (eqb x.ask (length S.entries))) S.readers r.reading;
       };
       mids = m.kept.mids;
     }
@@ -168,38 +230,39 @@ enough-ids t s w h small few = record {
     by true e = let less = ltb-true _ _ e in omega (arith, less, more)
     by false e = let count = length-filter (is_in_use t) s.given in omega (arith, few, count, more)
 
-served-new : (es : List Exchange) (e : Exchange) (c : ℕ) (x : Conn) → IsServed es x.pending → IsServed (es ++ e ∷ []) (pend c (Some e.opening) x).pending
-served-new es e c x h = elim (eqb_tells x.id c) [ inl w ↦ rw (w.0) (has-new es e) | inr w ↦ rw (w.0) (by x.pending h) ]
-  where
-    has-new : (es : List Exchange) (e : Exchange) → HasExchange (es ++ e ∷ []) e.opening
-    has-new [] e = inl refl
-    has-new (y ∷ es) e = inr (has-new es e)
+has-reader : (rs : List Reader) (r : Reader) → HasReader (rs ++ r ∷ []) r.ask
+has-reader [] r = inl refl
+has-reader (y ∷ rs) r = inr (has-reader rs r)
 
-    by : (v : Option ℕ) → IsServed es v → IsServed (es ++ e ∷ []) v
-    by None h = tt
-    by (Some k) h = has-old es k h
-      where
-        has-old : (es : List Exchange) (k : ℕ) → HasExchange es k → HasExchange (es ++ e ∷ []) k
-        has-old [] k h = absurd h
-        has-old (y ∷ es) k (inl h) = inl h
-        has-old (y ∷ es) k (inr h) = inr (has-old es k h)
+had-reader : (rs : List Reader) (r : Reader) (k : ℕ) → HasReader rs k → HasReader (rs ++ r ∷ []) k
+had-reader [] r k h = absurd h
+had-reader (y ∷ rs) r k (inl h) = inl h
+had-reader (y ∷ rs) r k (inr h) = inr (had-reader rs r k h)
 
-served-kept : (es fs : List Exchange) → ((k : ℕ) → HasExchange es k → HasExchange fs k) → (cs : List Conn) → AllByRecursion (λ (x : Conn). IsServed es x.pending) cs
-    → AllByRecursion (λ (x : Conn). IsServed fs x.pending) cs
-served-kept es fs more cs a = all-more _ _ (λ x h. by x.pending h) cs a
+served-new : (rs : List Reader) (r : Reader) (c : ℕ) (x : Conn) → IsServed rs x.pending → IsServed (rs ++ r ∷ []) (pend c (Some r.ask) x).pending
+served-new rs r c x h = elim (eqb_tells x.id c) [ inl w ↦ rw (w.0) (has-reader rs r) | inr w ↦ rw (w.0) (by x.pending h) ]
   where
-    by : (v : Option ℕ) → IsServed es v → IsServed fs v
+    by : (v : Option ℕ) → IsServed rs v → IsServed (rs ++ r ∷ []) v
     by None h = tt
-    by (Some k) h = more k h
+    by (Some k) h = had-reader rs r k h
+
+has-new : (es : List Exchange) (e : Exchange) → HasExchange (es ++ e ∷ []) e.opening
+has-new [] e = inl refl
+has-new (y ∷ es) e = inr (has-new es e)
+
+has-old : (es : List Exchange) (e : Exchange) (k : ℕ) → HasExchange es k → HasExchange (es ++ e ∷ []) k
+has-old [] e k h = absurd h
+has-old (y ∷ es) e k (inl h) = inl h
+has-old (y ∷ es) e k (inr h) = inr (has-old es e k h)
 
 opened-for : (t c : ℕ) (a : Ask) (q : CoapRequest) (n : Numbers) (S : State) (m : MayStep t S) → HasConn S.conns c None → a.sense ≡ Requests q → IsNumbered q n S
-    → has_place t q.peer S ≡ true → Kept (next t q.peer (begins t c a q n.token n.text n.word S))
-opened-for t c a q n S m h sense numbered place =
+    → joined q S ≡ None → has_place t q.peer S ≡ true → Kept (next t q.peer (begins t c a q n.token n.text n.word S))
+opened-for t c a q n S m h sense numbered none place =
     let l = m.kept.reading in
     let r = m.kept.rests in
     let p = q.peer in
     let b = before-step t S m in
-    let made = begins-leads l t c a q n.token n.text n.word S b (may-come t S m) (may-ask l S c r h) sense (room-same l t q S b ∙ place) numbered.spelled numbered.token_size numbered.number in
+    let made = begins-leads l t c a q n.token n.text n.word S b (may-come t S m) (may-ask l S c r h) sense (joins-tell l S r.reads q ∙ ap (option_map opening_of) none) (room-same l t q S b ∙ place) numbered.spelled numbered.token_size numbered.number in
     let x = noted t (Asks c a) (Begins q) in
     let S1 = begins t c a q n.token n.text n.word S in
     let w = waits n.token n.text n.word in
@@ -210,7 +273,7 @@ opened-for t c a q n S m h sense numbered place =
       before = record { reads = made.reads; later = omega arith };
       unsealed = m.unsealed;
       mids = all-links (λ (k : Peer) (u : LinkState). HasMids u) p s S.links (enough-ids t (link_of S.links p) w (m.kept.mids p) (omega arith) few) (λ k away. m.kept.mids k);
-      in_time = all-push (λ (e : Exchange). ticked l < e.since + MAX_TRANSMIT_WAIT) S.exchanges (exchange_for t c q n.token S) r.in_time (omega (arith, tick));
+      in_time = all-push (λ (e : Exchange). ticked l < e.since + MAX_TRANSMIT_WAIT) S.exchanges (exchange_for t q n.token S) r.in_time (omega (arith, tick));
     } in
     let early : IsEarly (x ∷ l) S1 p = all-links (λ (k : Peer) (u : LinkState). (o : Outstanding) → u.outstanding ≡ Some o → ticked l < due_of o) p s S.links
     (λ o is. undue (ticked l) (link_of S.links p) o (r.links p) is) (λ k away o is. undue (ticked l) (link_of S.links k) o (r.links k) is) p in
@@ -222,10 +285,11 @@ opened-for t c a q n S m h sense numbered place =
         quiet = moved.1.quiet;
         links = λ k. by k moved.0 moved.1 moved.2 (same_peer p k) refl;
         in_time = moved.1.amid.in_time;
-        served = subst (λ (cs : List Conn). AllByRecursion (λ (y : Conn). IsServed (next t p S1).exchanges y.pending) cs) (sym moved.1.conns)
-            (served-kept S1.exchanges (next t p S1).exchanges moved.1.has S1.conns
-            (all-map (pend c (Some (length S.entries))) (λ (y : Conn). IsServed S1.exchanges y.pending) S.conns
-            (all-more _ _ (λ y k. served-new S.exchanges (exchange_for t c q n.token S) c y k) S.conns r.served)));
+        served = rw (moved.1.conns, moved.1.readers) (all-map (pend c (Some (length S.entries))) (λ (y : Conn). IsServed S1.readers y.pending) S.conns
+            (all-more _ _ (λ y k. served-new S.readers (reader_for c S) c y k) S.conns r.served));
+        reading = rw (moved.1.readers) (all-more (λ (x : Reader). HasExchange S1.exchanges x.opening) (λ (x : Reader). HasExchange (next t p S1).exchanges x.opening) (λ x k. moved.1.has x.opening k) S1.readers
+            (all-push (λ (x : Reader). HasExchange S1.exchanges x.opening) S.readers (reader_for c S)
+            (all-more _ _ (λ x k. has-old S.exchanges (exchange_for t q n.token S) x.opening k) S.readers r.reading) (has-new S.exchanges (exchange_for t q n.token S))));
       };
       mids = moved.1.amid.mids;
     }
@@ -241,6 +305,37 @@ opened-for t c a q n S m h sense numbered place =
         let same = moved.others k is ∙ link-other q.peer k (queued t (waits n.token n.text n.word) (link_of S.links q.peer)) is S.links in
         rw (same, moved.goes.tick) (m.kept.rests.links k)
 
+-- An ask that reads along.
+has-opening : (es : List Exchange) (e : Exchange) → Contains es e → HasExchange es e.opening
+has-opening [] e h = absurd (contains-none e h)
+has-opening (x ∷ es) e h = by (first-or-later x es e h) (λ k. has-opening es e k)
+  where
+    by : (x ≡ e) ⊎ Contains es e → (Contains es e → HasExchange es e.opening) → HasExchange (x ∷ es) e.opening
+    by (inl same) later = inl (ap (λ (y : Exchange). y.opening) same)
+    by (inr k) later = inr (later k)
+
+joined-to : (t c : ℕ) (a : Ask) (q : CoapRequest) (e : Exchange) (S : State) (m : MayStep t S) → HasConn S.conns c None → a.sense ≡ Requests q → joined q S ≡ Some e
+    → Kept (joins t c a e.opening S)
+joined-to t c a q e S m h sense found =
+    let l = m.kept.reading in
+    let r = m.kept.rests in
+    let made = joins-leads l t c a q e.opening S (before-step t S m) (may-come t S m) (may-ask l S c r h) sense (joins-tell l S r.reads q ∙ ap (option_map opening_of) found) in
+    let new : Reader = record { ask = length S.entries; conn = c; opening = e.opening } in
+    let it = find-some (is_joined S.entries q) S.exchanges e found in
+    record {
+      reading = _;
+      rests = record {
+        reads = made.reads;
+        quiet = refl;
+        links = r.links;
+        in_time = r.in_time;
+        served = all-map (pend c (Some (length S.entries))) (λ (y : Conn). IsServed (S.readers ++ new ∷ []) y.pending) S.conns
+            (all-more _ _ (λ y k. served-new S.readers new c y k) S.conns r.served);
+        reading = all-push (λ (x : Reader). HasExchange S.exchanges x.opening) S.readers new r.reading (has-opening S.exchanges e it.0);
+      };
+      mids = m.kept.mids;
+    }
+
 pub asks-keeps : AsksKeeps
 asks-keeps t c a n S m h proper numbered = by a.sense refl
   where
@@ -250,12 +345,17 @@ asks-keeps t c a n S m h proper numbered = by a.sense refl
     by : (s : Sense) → a.sense ≡ s → Kept (asked_by s t c a n S)
     by (Refuses cause status) is = at-once t c a cause S m h (rw (is) tt)
         (λ l k stands. caused l t k cause (refusal cause status is) (record { conn = c; ask = a; status = status; asked = record { moment = t; note = Plain; stands = stands }; sense = is }))
-    by (Requests q) is = place (has_place t q.peer S) refl
+    by (Requests q) is = with (joined q S) refl
       where
-        place : (v : Bool) → has_place t q.peer S ≡ v → Kept (cond v (next t q.peer (begins t c a q n.token n.text n.word S)) (refused t c a C.Busy S))
-        place true e = opened-for t c a q n S m h is (numbered q is e) e
-        place false e = at-once t c a C.Busy S m h (rw (is) (room-same m.kept.reading t q S (before-step t S m) ∙ e))
+        place : joined q S ≡ None → (v : Bool) → has_place t q.peer S ≡ v → Kept (cond v (next t q.peer (begins t c a q n.token n.text n.word S)) (refused t c a C.Busy S))
+        place none true e = opened-for t c a q n S m h is (numbered q is none e) none e
+        place none false e = at-once t c a C.Busy S m h
+            (rw (is) (joins-tell m.kept.reading S m.kept.rests.reads q ∙ ap (option_map opening_of) none, room-same m.kept.reading t q S (before-step t S m) ∙ e))
             (λ l k stands. (refl, record { moment = t; conn = c; ask = a; request = q; stands = stands; sense = is }))
+
+        with : (v : Option Exchange) → joined q S ≡ v → Kept (asked_with v t c a q n S)
+        with (Some e) found = joined-to t c a q e S m h is found
+        with None none = place none (has_place t q.peer S) refl
 
 -- before the first step
 
@@ -274,6 +374,7 @@ start-keeps = record {
       opens_are = refl;
       issued_are = refl;
       conns_are = refl;
+      readers_are = refl;
       keys = refl;
       exchanges_are = tt;
       tokens_are = tt;
@@ -284,6 +385,7 @@ start-keeps = record {
     links = λ p. refl;
     in_time = tt;
     served = tt;
+    reading = tt;
   };
   mids = λ p. record { small = tt; enough = omega arith };
 }

@@ -1,5 +1,5 @@
 -- What an entry leaves of what a state keeps.
-use Rattle.std.proofs.Common.{◌≡◌, ℕ, ◌+◌, ◌<◌, ◌≤◌, Bool, true, false, cond, eqb, inl, inr, List, [], ◌∷◌, ◌++◌, length, Option, Some, None, refl, sym, ap, subst, ◌∙◌, arith}
+use Rattle.std.proofs.Common.{◌≡◌, ℕ, ◌+◌, ◌<◌, ◌≤◌, Bool, true, false, not, cond, eqb, inl, inr, List, [], ◌∷◌, ◌++◌, length, Option, Some, None, refl, sym, ap, subst, ◌∙◌, arith}
 use Rattle.std.specs.Prelude.{find, is_none, max}
 use Rattle.std.proofs.lemmas.Bool.Decides.{eqb_tells}
 use Rattle.std.proofs.lemmas.List.Elements.{filter_agree}
@@ -12,14 +12,17 @@ use Rattle.history_laws.specs.Readings.{Noted, Note, First, entries, newest, not
 use Rattle.history_laws.specs.Connections.{sealed_by, opened_by, opened, opens_by, has_opened}
 use Rattle.history_laws.specs.Transmissions.{FirstSending, firsts_by, firsts, first_at, bears_token}
 use Rattle.history_laws.specs.Exchanges.{openings, waits_for, is_going, open_exchanges}
+use Rattle.ask_model.specs.Sharing.{asked_place}
+use Rattle.history_laws.specs.Joining.{outrun}
 use Rattle.history_laws.specs.Justified.{Follows, IsNextConn}
-use Rattle.history_laws.proofs.CallerLemmas.{all-more, at-keeps, awaiting-stays, begun-keeps, entries-length, eqb-same, find-some, first-older, listed-below, rank-keeps}
+use Rattle.history_laws.proofs.CallerLemmas.{all-more, outrun-same, at-keeps, awaiting-stays, begun-keeps, entries-length, eqb-same, find-some, first-older, listed-below, rank-keeps}
 use Rattle.history_links.specs.Agrees.{Start, Agrees}
 use Rattle.history_links.proofs.CallerLemmas.{first_at-still, Still}
 use Rattle.exchange_model.specs.declared.kept.Exchange.{Exchange}
+use Rattle.exchange_model.specs.declared.kept.Reader.{Reader}
 use Rattle.exchange_model.specs.State.{PeerLink, State, link_of, with_link, conns_after}
 use Rattle.exchange_model.specs.Steps.{given_out}
-use Rattle.exchange_model.specs.Reads.{IsSentUnder, ExchangeIn, WaitsUnder, Reads, opens_in, opens_once}
+use Rattle.exchange_model.specs.Reads.{IsSentUnder, ExchangeIn, WaitsUnder, Reads, opens_in, opens_once, readers_by, readers_of}
 
 -- entries
 
@@ -41,9 +44,10 @@ under-stays x l p token None unborne a = unborne a
 under-stays x l p token (Some i) unborne a = (a.0, first-stays x l i a.0 a.1, a.2, a.3)
 
 -- An entry after which an exchange waits for what it waited for leaves what is kept of it.
-pub exchange-stays : {start : Start} (x : Noted) (l : List Noted) (e : Exchange) → (bears_token l e.token ≡ false → bears_token (x ∷ l) e.token ≡ false)
-    → waits_for (x ∷ l) e.opening ≡ waits_for l e.opening → ExchangeIn start l e → ExchangeIn start (x ∷ l) e
-exchange-stays {start = start} x l e unborne same a = record {
+pub exchange-stays : {start : Start} (x : Noted) (l : List Noted) (e : Exchange) (b : Bool) → (bears_token l e.token ≡ false → bears_token (x ∷ l) e.token ≡ false)
+    → waits_for (x ∷ l) e.opening ≡ waits_for l e.opening → (a : ExchangeIn start l e) → b ≡ not (outrun (x ∷ l) (asked_place a.request) e.opening)
+    → ExchangeIn start (x ∷ l) (record e { current = b })
+exchange-stays {start = start} x l e b unborne same a current = record {
   request = a.request;
   opening = begun-keeps x l e.opening _ a.opening;
   peer = a.peer;
@@ -51,6 +55,8 @@ exchange-stays {start = start} x l e unborne same a = record {
   number = ap (λ (k : ℕ). start.issued + k) (rank-keeps x l e.opening _ a.opening (awaiting-stays x l e.opening same)) ∙ a.number;
   sending = same ∙ a.sending;
   sent = under-stays x l e.peer e.token e.sending unborne a.sent;
+  current = current;
+  conn = a.conn;
   ask = a.ask;
   stands = at-keeps x l e.opening _ a.stands;
 }
@@ -69,6 +75,8 @@ exchange-still {start = start} l n still e a = record {
   number = ap (λ (k : ℕ). start.issued + k) (still.ranks_are e.opening a.opening) ∙ a.number;
   sending = still.waits_are e.opening ∙ a.sending;
   sent = under-still l n e.peer e.token e.sending still a.sent;
+  current = a.current ∙ ap not (sym (outrun-same l n still.openings_are still.begun_are still.ends_are (asked_place a.request) e.opening));
+  conn = a.conn;
   ask = a.ask;
   stands = still.stands e.opening _ a.stands;
 }
@@ -103,7 +111,7 @@ more-opens l d S r h = r.opens_are
 
 -- the tables after an entry that is nothing to any exchange: links may have changed, but not what waits
 pub still-reads : (l : List Noted) (t : ℕ) (d : Deed) (note : Note) (S : State) (links : List PeerLink) (r : Reads l S) → S.moment ≤ t → IsNumberedAs S d → Follows l t d note
-    → Still l (noted t d note ∷ l) → ((p : Peer) → (link_of links p).waiting ≡ (link_of S.links p).waiting) → ((p : Peer) → Agrees r.start (noted t d note ∷ l) p (link_of links p))
+    → (readers : List Reader) → readers_by (length l) d note (readers_of l) ≡ readers → Still l (noted t d note ∷ l) → ((p : Peer) → (link_of links p).waiting ≡ (link_of S.links p).waiting) → ((p : Peer) → Agrees r.start (noted t d note ∷ l) p (link_of links p))
     → Reads (noted t d note ∷ l) (record {
       entries = S.entries ++ record { moment = t; deed = d } ∷ [];
       sealed = sealed_by d S.sealed;
@@ -112,9 +120,10 @@ pub still-reads : (l : List Noted) (t : ℕ) (d : Deed) (note : Note) (S : State
       issued = S.issued;
       conns = conns_after S.conns (length S.entries) d;
       exchanges = S.exchanges;
+      readers = readers;
       links = links;
     })
-still-reads l t d note S links r later numbered follows still waiting agrees =
+still-reads l t d note S links r later numbered follows readers reads still waiting agrees =
     let n = noted t d note ∷ l in record {
       start = r.start;
       few = r.few;
@@ -126,6 +135,7 @@ still-reads l t d note S links r later numbered follows still waiting agrees =
       opens_are = more-opens l d S r numbered;
       issued_are = ap (λ (k : ℕ). r.start.issued + k) still.issued_are ∙ r.issued_are;
       conns_are = rw (r.conns_are, sym (entries-length l), r.entries_are) refl;
+      readers_are = reads;
       keys = open-still l n still ∙ r.keys;
       exchanges_are = all-more (ExchangeIn r.start l) (ExchangeIn r.start n) (exchange-still l n still) S.exchanges r.exchanges_are;
       tokens_are = rw (still.firsts_are) r.tokens_are;

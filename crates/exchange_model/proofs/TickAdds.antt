@@ -10,10 +10,12 @@ use Rattle.message_layer.specs.declared.state.Outstanding.{Outstanding}
 use Rattle.message_layer.specs.declared.state.Waiting.{Waiting}
 use Rattle.history_links.specs.Steps.{passed_link}
 use Rattle.exchange_model.specs.State.{PeerLink, State, link_of}
-use Rattle.exchange_model.specs.Steps.{sends_copy, is_gone, passes}
+use Rattle.exchange_model.specs.Steps.{sends_copy, is_gone, passes, timed_out}
 use Rattle.exchange_model.specs.Resting.{IsUndue, LinkRests}
-use Rattle.exchange_model.specs.Calls.{next_by, is_due, moves_by, moves, move_all, peer_of, something_due, timed_out, times_out, ticked}
-use Rattle.exchange_model.proofs.Adding.{Adds, stays, both-add, at-most, still-adds, next-adds, copy-adds, all-end-adds}
+use Rattle.exchange_model.specs.Calls.{next_by, is_due, moves_by, moves, move_all, peer_of, something_due, tells, told_late, ticked}
+use Rattle.exchange_model.proofs.Adding.{Adds, stays, both-add, at-most, still-adds, next-adds, copy-adds}
+use Rattle.exchange_model.proofs.ToldAdds.{late-adds, Served}
+use Rattle.exchange_model.proofs.Passed.{moved-conns}
 use Rattle.exchange_model.proofs.Counting.{one, count-cons}
 use Rattle.exchange_model.proofs.Passing.{link-passed}
 use Rattle.exchange_model.proofs.Tables.{link-other}
@@ -123,11 +125,11 @@ passed-idle t tick S rests p free = subst IsIdle (sym (link-passed t S p S.links
         { free = rw (e) refl; none = filtered (link_of S.links p).waiting undue }
     by (Some o) e undue h = absurd (false≢true (sym h))
 
-pub ticked-adds : (t tick : ℕ) (S : State) → Tidy S.links
+pub ticked-adds : (t tick : ℕ) (S : State) → Tidy S.links → Served S
     → ((p : Peer) → LinkRests tick (link_of S.links p))
     → Adds (1 + count_by (is_busy S.links) (map peer_of S.links))
     (64 + 2080 * count_by (is_busy S.links) (map peer_of S.links)) S (ticked t S)
-ticked-adds t tick S h rests = by (something_due t S)
+ticked-adds t tick S h served rests = by (something_due t S)
   where
     n : ℕ
     n = count_by (is_busy S.links) (map peer_of S.links)
@@ -140,7 +142,7 @@ ticked-adds t tick S h rests = by (something_due t S)
 
     by : (b : Bool)
         → Adds (1 + n) (64 + 2080 * n) S
-        (cond b (fold (times_out t) (move_all t (passes t S)) (timed_out t S)) S)
+        (cond b (fold (tells t) (move_all t (passes t S)) (told_late (timed_out t S) S.readers)) S)
     by false = stays (1 + n) (64 + 2080 * n) S h
     by true =
         let tidy = tidy-passed t S S.links h in
@@ -148,7 +150,8 @@ ticked-adds t tick S h rests = by (something_due t S)
         let two = all-move-adds t S.links (map peer_of S1.links) S1 tidy
         (passed-idle t tick S rests) in
         let S2 = move_all t S1 in
-        let three = all-end-adds t (timed_out t S) S2 two.tidy in
+        let three = late-adds t (timed_out t S) S.readers S2 two.tidy
+        (rw (moved-conns t (map peer_of S1.links) S1) served.waits) served.apart in
         let k = count_by (is_busy S.links) (map peer_of S1.links) in
         let count = same in
         at-most (1 + k + 0) (64 + 2080 * k + 0) (1 + n) (64 + 2080 * n) S _ (omega (arith, count))

@@ -4,19 +4,29 @@ use Rattle.std.specs.Prelude.{fold}
 use Rattle.std.specs.List.{AllByRecursion}
 use Rattle.uri_map.specs.declared.peer.Peer.{Peer}
 use Rattle.uri_map.specs.Peers.{same_peer}
-use Rattle.journal_book.specs.Entries.{Deed}
+use Rattle.journal_book.specs.Entries.{Passes, Deed}
 use Rattle.message_layer.specs.Values.{LinkState}
 use Rattle.exchange_model.specs.State.{PeerLink, State, with_link}
-use Rattle.exchange_model.specs.Steps.{entered, is_gone, passes}
-use Rattle.exchange_model.specs.Calls.{move_all, timed_out, times_out}
-use Rattle.exchange_model.specs.Entering.{entered_all, link_after, StandsOnce, TicksEnter, StaysDrained}
+use Rattle.exchange_model.specs.Steps.{entered, is_gone, passes, timed_out}
+use Rattle.exchange_model.specs.Calls.{Telling, tells, told_late, move_all}
+use Rattle.exchange_model.specs.Entering.{answer_of, all_deeds, moved_by, entered_all, link_after, StandsOnce, TicksEnter, StaysDrained}
 use Rattle.exchange_model.proofs.Lists.{all-map}
+use Rattle.exchange_model.proofs.Entered.{put, after}
+use Rattle.exchange_model.proofs.Heeded.{told-put}
 use Rattle.exchange_model.proofs.Passed.{moved-put}
 
 pub ticks-enter : TicksEnter
 ticks-enter t S may drained due =
-    ap (λ (b : Bool). cond b (fold (times_out t) (move_all t (passes t S)) (timed_out t S)) S) due
-    ∙ ap (λ (U : State). fold (times_out t) U (timed_out t S)) (moved-put t S may drained)
+    ap (λ (b : Bool). cond b (fold (tells t) (move_all t (passes t S)) xs) S) due
+    ∙ after t (Passes ∷ all_deeds t (is_gone t S) S.links) (map answer_of xs) (moved_by t S).exchanges (moved_by t S).exchanges
+    (moved_by t S).links (moved_by t S).links S (move_all t (passes t S)) (fold (tells t) (move_all t (passes t S)) xs) moved
+    (told-put t xs (move_all t (passes t S)) ∙ ap (λ (U : State). put t (map answer_of xs) U.exchanges U.links (move_all t (passes t S))) moved)
+  where
+    xs : List Telling
+    xs = told_late (timed_out t S) S.readers
+
+    moved : move_all t (passes t S) ≡ put t (Passes ∷ all_deeds t (is_gone t S) S.links) (moved_by t S).exchanges (moved_by t S).links S
+    moved = moved-put t S may drained
 
 -- links that gave out all
 

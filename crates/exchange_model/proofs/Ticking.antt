@@ -2,7 +2,7 @@
 use Rattle.history_links.specs.Agrees.{Start}
 use Rattle.std.proofs.Common.{◌≡◌, ℕ, ◌+◌, ◌<◌, ◌≤◌, ◌⊎◌, Bool, true, false, cond, not, inl, inr, List, [], ◌∷◌, map, Option, Some, None, refl, sym, subst, ◌∙◌, arith}
 use Rattle.std.specs.Prelude.{fold, filter, unwrap_or}
-use Rattle.std.specs.List.{AllByRecursion, list_any}
+use Rattle.std.specs.List.{AllByRecursion, Contains, list_any}
 use Rattle.std.proofs.lemmas.Bool.{false≢true, or_parts, not_from_false, not-true}
 use Rattle.std.proofs.lemmas.Bool.Decides.{leb_tells}
 use Rattle.std.proofs.lemmas.List.Sums.{length-filter, count_by-le-length}
@@ -17,33 +17,38 @@ use Rattle.message_layer.specs.declared.state.Waiting.{Waiting}
 use Rattle.history_laws.specs.Readings.{Noted, Plain, ticked as at_tick, noted}
 use Rattle.history_laws.specs.Confirming.{owed}
 use Rattle.history_laws.specs.Exchanges.{end_of}
-use Rattle.history_laws.proofs.CallerLemmas.{all-filter, all-more, all-passes, none-of}
+use Rattle.history_laws.proofs.CallerLemmas.{all-filter, all-more, all-of, all-passes, none-of}
 use Rattle.history_links.specs.Steps.{is_over, passed_link}
-use Rattle.exchange_model.specs.declared.kept.Conn.{Conn}
 use Rattle.exchange_model.specs.declared.kept.Exchange.{Exchange}
+use Rattle.exchange_model.specs.declared.kept.Reader.{Reader}
 use Rattle.exchange_model.specs.State.{PeerLink, State, link_of}
-use Rattle.exchange_model.specs.Resting.{IsUndue, LinkRests, HasExchange, IsServed, Rests}
-use Rattle.exchange_model.specs.Steps.{is_past, is_in_vain, expires, is_gone, passes}
+use Rattle.exchange_model.specs.Resting.{IsUndue, LinkRests, HasExchange, Rests}
+use Rattle.exchange_model.specs.Steps.{goes_on, is_past, is_in_vain, expires, is_gone, passes, timed_out}
 use Rattle.exchange_model.specs.Keeping.{HasMids, Kept, MayStep, TicksKeeps, IsDone, TicksDo}
+use Rattle.history_laws.specs.Justified.{HasGrounds}
+use Rattle.exchange_model.specs.Growing.{RiseByAsk}
 use Rattle.exchange_model.specs.Laws.{Before}
-use Rattle.exchange_model.specs.Calls.{is_due, link_due, something_due, peer_of, move_all, timed_out, times_out}
+use Rattle.exchange_model.specs.Calls.{Telling, tells, timeout_for, told_late, is_due, link_due, something_due, peer_of, move_all}
 use Rattle.exchange_model.proofs.Amid.{Amid, RestAt}
-use Rattle.exchange_model.proofs.Ending.{ServedWith, Told, ends-told}
+use Rattle.exchange_model.proofs.Readers.{ReaderIn, reader-keeps, readers-wait, readers-rise-in, readers-apart, rise-filter, Apart}
+use Rattle.exchange_model.proofs.Telling.{readers_in, IsAmong, ReadWith, all-in, all-told, kept-told, tells-links, tells-exchanges}
+use Rattle.exchange_model.proofs.Tellings.{is-told, late_reads, readers-late, among-late, late-all}
 use Rattle.exchange_model.proofs.Expiring.{expires-alike}
-use Rattle.exchange_model.proofs.Grounds.{IsOver, same-goes, both-go, over-moves}
+use Rattle.exchange_model.proofs.Grounds.{GroundsFor, IsTold, told-grounds, told-moves}
 use Rattle.exchange_model.proofs.Lists.{all-both}
 use Rattle.exchange_model.proofs.Moving.{not-due, is_among, Ready, all-moved}
 use Rattle.exchange_model.proofs.TimingOut.{passed-over}
 use Rattle.exchange_model.proofs.Passing.{link-passed, passes-leads}
 use Rattle.exchange_model.proofs.Opened.{OpenIn, open-ones}
+use Rattle.exchange_model.proofs.Outrun.{left-all, left-has}
 use Rattle.exchange_model.proofs.Resting.{rests-at-rest}
 
 abbrev passed_by : ℕ → List Noted → List Noted
 passed_by t l = noted t Passes Plain ∷ l
 
--- an exchange that a tick ended, as it is told
+-- an exchange that a tick ended, as whoever reads it is told
 abbrev IsTimedOut : List Noted → Exchange → Type 0
-IsTimedOut l e = IsOver l e (Fault C.Timeout (unwrap_or e.sending e.opening))
+IsTimedOut l e = (k : ℕ) → GroundsFor l k e.opening (Fault C.Timeout (unwrap_or e.sending k))
 
 -- After the entry nothing is given up, and what goes on is in time.
 
@@ -83,7 +88,8 @@ passed-ready l t S r unsealed later mids =
         before = record { reads = led.reads; later = omega arith };
         unsealed = unsealed;
         mids = λ p. subst HasMids (sym (link-passed t S p S.links)) (passed-mids t (is_gone t S) (link_of S.links p) (mids p));
-        in_time = all-more _ (λ (e : Exchange). t < e.since + MAX_TRANSMIT_WAIT) (going-in-time t S.links) (passes t S).exchanges (all-passes (λ (e : Exchange). not (expires t S.links e)) S.exchanges);
+        in_time = left-all (λ (e : Exchange). t < e.since + MAX_TRANSMIT_WAIT) (λ e h. h) S.entries (timed_out t S) (filter (goes_on t S) S.exchanges)
+            (all-more _ (λ (e : Exchange). t < e.since + MAX_TRANSMIT_WAIT) (going-in-time t S.links) (filter (goes_on t S) S.exchanges) (all-passes (goes_on t S) S.exchanges));
       };
       quiet = refl;
       tick = refl;
@@ -94,7 +100,7 @@ passed-ready l t S r unsealed later mids =
     rested : (p : Peer) → link_of (passes t S).links p ≡ empty_link → RestAt (passed_by t l) (passes t S) p
     rested p e = rw (e) refl
 
--- Those that end are over, and each that a connection waits for goes on or ends.
+-- Those that end are over, and each that is read goes on or ends.
 
 ended-over : (l : List Noted) (t : ℕ) (S : State) → Before l t S → AllByRecursion (IsTimedOut (passed_by t l)) (filter (expires t S.links) S.exchanges)
 ended-over l t S b =
@@ -103,7 +109,7 @@ ended-over l t S b =
     (all-both (OpenIn b.reads.start l) (λ (e : Exchange). q e ≡ true) (filter q S.exchanges) (all-filter (OpenIn b.reads.start l) q S.exchanges (open-ones l S b.reads)) (all-passes q S.exchanges))
   where
     one : (e : Exchange) → OpenIn b.reads.start l e × (expires t S.links e ≡ true) → IsTimedOut (passed_by t l) e
-    one e h = passed-over l t e h.0.0 (none-of (end_of l e.opening) h.0.1) (sym (expires-alike l t S.links e b.reads.legal b.reads.links_are h.0.0) ∙ h.1)
+    one e h k = passed-over l t k e h.0.0 (none-of (end_of l e.opening) h.0.1) (sym (expires-alike l t S.links e b.reads.legal b.reads.links_are h.0.0) ∙ h.1)
 
 goes-or-ends : (q : Exchange → Bool) (es : List Exchange) (k : ℕ) → HasExchange es k → HasExchange (filter (λ (e : Exchange). not (q e)) es) k ⊎ HasExchange (filter q es) k
 goes-or-ends q [] k h = absurd h
@@ -121,31 +127,16 @@ goes-or-ends q (e ∷ es) k (inr h) = by (q e) (goes-or-ends q es k h)
     by false (inl w) = inl (inr w)
     by false (inr w) = inr w
 
-served-either : (S S1 : State) (q : Exchange → Bool) → ((k : ℕ) → HasExchange (filter (λ (e : Exchange). not (q e)) S.exchanges) k → HasExchange S1.exchanges k)
-    → (p : Option ℕ) → IsServed S.exchanges p → IsServed S1.exchanges p ⊎ IsServed (filter q S.exchanges) p
-served-either S S1 q has None h = inl tt
-served-either S S1 q has (Some k) h = elim (goes-or-ends q S.exchanges k h) [ inl w ↦ inl (has k w) | inr w ↦ inr w ]
-
--- Who waits for them is told.
-all-told : (es : List Exchange) (l : List Noted) (t : ℕ) (S : State) → Amid l t S → owed l ≡ None → ((p : Peer) → RestAt l S p) → ServedWith S.exchanges es S.conns
-    → AllByRecursion (IsTimedOut l) es → (n : List Noted) × Told l t S [] n (fold (times_out t) S es)
-all-told [] l t S a quiet rest served over = (l, record { goes = same-goes l; amid = a; quiet = quiet; rest = rest; served = served })
-all-told (e ∷ es) l t S a quiet rest served over =
-    let one = ends-told l t S e es (Fault C.Timeout (unwrap_or e.sending e.opening)) a quiet rest served over.0 in
-    let m = one.1 in
-    let still = all-more (IsTimedOut l) (IsTimedOut one.0) (λ x h. over-moves l one.0 x (Fault C.Timeout (unwrap_or x.sending x.opening)) m.goes h) es over.1 in
-    let more = all-told es one.0 t (times_out t S e) m.amid m.quiet m.rest m.served still in
-    let a = more.1 in
-    (more.0, record { goes = both-go l one.0 more.0 m.goes a.goes; amid = a.amid; quiet = a.quiet; rest = a.rest; served = a.served })
-
--- nobody waits for what has ended
-all-served : (es : List Exchange) (cs : List Conn) → ServedWith es [] cs → AllByRecursion (λ (x : Conn). IsServed es x.pending) cs
-all-served es cs a = all-more _ (λ (x : Conn). IsServed es x.pending) (λ x h. one x.pending h) cs a
+read-either : (S S1 : State) (q : Exchange → Bool) → ((k : ℕ) → HasExchange (filter (λ (e : Exchange). not (q e)) S.exchanges) k → HasExchange S1.exchanges k)
+    → AllByRecursion (λ (r : Reader). HasExchange S.exchanges r.opening) S.readers
+    → ReadWith S1.exchanges (told_late (filter q S.exchanges) S.readers) S.readers
+read-either S S1 q has a =
+    all-more (λ (r : Reader). HasExchange S.exchanges r.opening × (HasExchange (filter q S.exchanges) r.opening → IsAmong (told_late (filter q S.exchanges) S.readers) r.ask)) _
+    one S.readers (all-both _ _ S.readers a (among-late (filter q S.exchanges) S.readers))
   where
-    one : (p : Option ℕ) → IsServed es p ⊎ IsServed [] p → IsServed es p
-    one p (inl h) = h
-    one None (inr h) = tt
-    one (Some k) (inr h) = absurd h
+    one : (r : Reader) → HasExchange S.exchanges r.opening × (HasExchange (filter q S.exchanges) r.opening → IsAmong (told_late (filter q S.exchanges) S.readers) r.ask)
+        → HasExchange S1.exchanges r.opening ⊎ IsAmong (told_late (filter q S.exchanges) S.readers) r.ask
+    one r h = elim (goes-or-ends q S.exchanges r.opening h.0) [ inl w ↦ inl (has r.opening w) | inr w ↦ inr (h.1 w) ]
 
 -- what a tick leaves at which something is due
 record Done (t : ℕ) (S : State) : Type 0 where
@@ -153,38 +144,40 @@ record Done (t : ℕ) (S : State) : Type 0 where
   links : (p : Peer) → LinkRests t (link_of S.links p)
   in_time : AllByRecursion (λ (e : Exchange). t < e.since + MAX_TRANSMIT_WAIT) S.exchanges
 
-all-done : (t : ℕ) (S : State) → MayStep t S → Done t (fold (times_out t) (move_all t (passes t S)) (timed_out t S))
+all-done : (t : ℕ) (S : State) → MayStep t S → Done t (fold (tells t) (move_all t (passes t S)) (told_late (timed_out t S) S.readers))
 all-done t S may =
     let l = may.kept.reading in
     let r = may.kept.rests in
     let S1 = passes t S in
     let es = timed_out t S in
+    let xs = told_late es S.readers in
     let moved = all-moved (map peer_of S1.links) (passed_by t l) t S1 (passed-ready l t S r may.unsealed may.later may.kept.mids) in
     let m = moved.1 in
     let S2 = move_all t S1 in
-    let served : ServedWith S2.exchanges es S2.conns =
-    subst (ServedWith S2.exchanges es) (sym m.conns)
-    (all-more _ _ (λ (x : Conn) h. served-either S S2 (expires t S.links) m.has x.pending h) S.conns r.served) in
-    let over = all-more (IsTimedOut (passed_by t l)) (IsTimedOut moved.0) (λ x h. over-moves (passed_by t l) moved.0 x (Fault C.Timeout (unwrap_or x.sending x.opening)) m.goes h) es
-    (ended-over l t S (record { reads = r.reads; later = may.later })) in
-    let told = all-told es moved.0 t S2 m.amid m.quiet m.rest served over in
-    let n = told.1 in
-    let S3 = fold (times_out t) S2 es in
-    let tick = n.goes.tick ∙ m.goes.tick in
+    let readers : AllByRecursion (ReaderIn l) S.readers = subst (AllByRecursion (ReaderIn l)) r.reads.readers_are (readers-wait l r.reads.legal) in
+    let apart : Apart (readers_in xs) = rw (readers-late es S.readers)
+    (readers-apart l _ (rise-filter (late_reads es) S.readers (subst RiseByAsk r.reads.readers_are (readers-rise-in l r.reads.legal))) (all-filter (ReaderIn l) (late_reads es) S.readers readers)) in
+    let has : AllByRecursion (Contains S2.readers) (readers_in xs) = rw (readers-late es S.readers, m.readers) (all-filter (Contains S.readers) (late_reads es) S.readers (all-in S.readers)) in
+    let over = ended-over l t S (record { reads = r.reads; later = may.later }) in
+    let grounds = late-all (IsTold (passed_by t l)) (ReaderIn (passed_by t l)) es S.readers
+    (λ e x in_es a same. is-told (passed_by t l) (timeout_for x e) a (subst (λ (o : ℕ). GroundsFor (passed_by t l) x.ask o (Fault C.Timeout (unwrap_or e.sending x.ask))) (sym same) (all-of (IsTimedOut (passed_by t l)) es e over in_es x.ask)))
+    (passed-readers t l S.readers readers) in
+    let told = all-told xs moved.0 t S2 m.amid.before m.quiet (rw (m.readers, m.conns) r.served) has apart
+    (all-more (IsTold (passed_by t l)) (λ (x : Telling). HasGrounds moved.0 t x.reader.ask x.grounds) (λ x h. told-grounds moved.0 t x (told-moves (passed_by t l) moved.0 x m.goes h)) xs grounds) in
+    let tick = told.1.tick ∙ m.goes.tick in
     record {
-      kept = record {
-        reading = told.0;
-        rests = record { reads = n.amid.before.reads; quiet = n.quiet; links = n.rest; in_time = n.amid.in_time; served = all-served S3.exchanges S3.conns n.served };
-        mids = n.amid.mids;
-      };
-      links = λ p. subst (λ (k : ℕ). LinkRests k (link_of S3.links p)) tick (n.rest p);
-      in_time = subst (λ (k : ℕ). AllByRecursion (λ (e : Exchange). k < e.since + MAX_TRANSMIT_WAIT) S3.exchanges) tick n.amid.in_time;
+      kept = kept-told moved.0 t xs S2 told.0 told.1 m.rest m.amid.in_time (rw (m.readers) (read-either S S2 (expires t S.links) (λ k h. m.has k (left-has S.entries es (filter (goes_on t S) S.exchanges) k h)) r.reading)) m.amid.mids;
+      links = λ p. rw (tells-links t xs S2) (subst (λ (k : ℕ). LinkRests k (link_of S2.links p)) m.goes.tick (m.rest p));
+      in_time = rw (tells-exchanges t xs S2) (subst (λ (k : ℕ). AllByRecursion (λ (e : Exchange). k < e.since + MAX_TRANSMIT_WAIT) S2.exchanges) m.goes.tick m.amid.in_time);
     }
+  where
+    passed-readers : (t : ℕ) (l : List Noted) (rs : List Reader) → AllByRecursion (ReaderIn l) rs → AllByRecursion (ReaderIn (passed_by t l)) rs
+    passed-readers t l rs a = all-more (ReaderIn l) (ReaderIn (passed_by t l)) (λ x h. reader-keeps (noted t Passes Plain) l x (λ e. e) refl refl h) rs a
 
 pub ticks-keeps : TicksKeeps
 ticks-keeps t S may = by (something_due t S)
   where
-    by : (b : Bool) → Kept (cond b (fold (times_out t) (move_all t (passes t S)) (timed_out t S)) S)
+    by : (b : Bool) → Kept (cond b (fold (tells t) (move_all t (passes t S)) (told_late (timed_out t S) S.readers)) S)
     by true = (all-done t S may).kept
     by false = may.kept
 
@@ -216,7 +209,7 @@ none-ends t links (e ∷ es) h =
 pub ticks-do : TicksDo
 ticks-do t S may = by (something_due t S) refl
   where
-    by : (b : Bool) → something_due t S ≡ b → IsDone t (cond b (fold (times_out t) (move_all t (passes t S)) (timed_out t S)) S)
+    by : (b : Bool) → something_due t S ≡ b → IsDone t (cond b (fold (tells t) (move_all t (passes t S)) (told_late (timed_out t S) S.readers)) S)
     by true e = let done = all-done t S may in record { links = done.links; in_time = done.in_time }
     by false e =
         let none = or_parts (list_any (link_due t) S.links) (list_any (expires t S.links) S.exchanges) e in

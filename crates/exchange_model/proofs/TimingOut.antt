@@ -16,7 +16,7 @@ use Rattle.history_laws.proofs.CallerLemmas.{at-keeps, first_end, replied-first,
 use Rattle.history_links.proofs.CallerLemmas.{none-by, unreplied}
 use Rattle.exchange_model.specs.declared.kept.Exchange.{Exchange}
 use Rattle.exchange_model.specs.Reads.{ExchangeIn}
-use Rattle.exchange_model.proofs.Grounds.{IsOver}
+use Rattle.exchange_model.proofs.Grounds.{GroundsFor}
 
 -- What an open exchange waits for was sent last.
 
@@ -68,21 +68,15 @@ sent-alike (x ∷ older) o own e =
 pub own-asked : {start : Start} (l : List Noted) (e : Exchange) → ExchangeIn start l e → IsOwn l e.opening
 own-asked l e a y s = subst (λ (z : Noted). carries z.written.deed ≡ false) (at-same l e.opening _ y a.stands s) refl
 
--- It ends at the tick, and what was sent last is named, or its ask.
-pub passed-over : {start : Start} (l : List Noted) (t : ℕ) (e : Exchange) → ExchangeIn start l e → end_of l e.opening ≡ None → ends_at l e.opening t (waits_for l e.opening) ≡ true
-    → IsOver (noted t Passes Plain ∷ l) e (Fault C.Timeout (unwrap_or e.sending e.opening))
-passed-over l t e a going due =
-    let n = noted t Passes Plain ∷ l in record {
-      request = a.request;
-      ask = a.ask;
-      stands = at-keeps (noted t Passes Plain) l e.opening _ a.stands;
-      grounds = (named e.sending (sent-alike l e.opening (own-asked l e a) going ∙ a.sending), (length l, ended));
-    }
+-- It ends at the tick, and what was sent last is named, or the ask of who waits.
+pub passed-over : {start : Start} (l : List Noted) (t k : ℕ) (e : Exchange) → ExchangeIn start l e → end_of l e.opening ≡ None → ends_at l e.opening t (waits_for l e.opening) ≡ true
+    → GroundsFor (noted t Passes Plain ∷ l) k e.opening (Fault C.Timeout (unwrap_or e.sending k))
+passed-over l t k e a going due = (named e.sending (sent-alike l e.opening (own-asked l e a) going ∙ a.sending), (length l, ended))
   where
     named : (s : Option ℕ) → sent_last l e.opening ≡ s
-        → (sent_last l e.opening ≡ Some (unwrap_or s e.opening)) ⊎ ((sent_last l e.opening ≡ None) × (unwrap_or s e.opening ≡ e.opening))
-    named (Some i) k = inl k
-    named None k = inr (k, refl)
+        → (sent_last l e.opening ≡ Some (unwrap_or s k)) ⊎ ((sent_last l e.opening ≡ None) × (unwrap_or s k ≡ k))
+    named (Some i) h = inl h
+    named None h = inr (h, refl)
 
     ended : Ends (noted t Passes Plain ∷ l) e.opening (length l) TimedOut
     ended = rw (due, going) refl

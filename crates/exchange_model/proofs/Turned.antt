@@ -33,7 +33,7 @@ use Rattle.exchange_model.proofs.Shapes.{Sending, Hearing, kept_as, still_kept, 
 use Rattle.exchange_model.proofs.Shapes as H
 use Rattle.exchange_model.proofs.Copies.{cons_if, add_kept, copied, newest-copied}
 use Rattle.exchange_model.proofs.CopiedEntries.{entries-copied}
-use Rattle.exchange_model.proofs.CopiedIdle.{conns-copied, has-copied, none-issued, none-open, opened-copied, opens-copied, sealed-copied}
+use Rattle.exchange_model.proofs.CopiedIdle.{conns-copied, readers-copied, has-copied, none-issued, none-open, opened-copied, opens-copied, sealed-copied}
 use Rattle.exchange_model.proofs.CopiedLegal.{legal-copied}
 use Rattle.exchange_model.proofs.CopiedLinks.{kept-agrees}
 use Rattle.exchange_model.proofs.CopiedUnknown.{known-copied, knows-copy, none-agrees, of_peer}
@@ -246,6 +246,7 @@ reads-copied t l S r later fit = record {
   opens_are = let none = opens-copied t l in omega (arith, none);
   issued_are = let none = none-issued t l in omega (arith, none);
   conns_are = conns-copied t l;
+  readers_are = readers-copied t l;
   keys = none-open t l;
   exchanges_are = tt;
   tokens_are = issued-copied (λ (m : Content). token_number m.token < S.issued) t l r.tokens_are;
@@ -278,6 +279,7 @@ rotates-keeps t S k later fit =
         links = λ p. subst (LinkRests (ticked (copied t l))) (sym (turned-link t ws S.links p)) (rests-undue t (ticked (copied t l)) (of_peer p ws) (link_of S.links p));
         in_time = tt;
         served = tt;
+        reading = tt;
       };
       mids = λ p. subst HasMids (sym (turned-link t ws S.links p)) (mids-kept t (of_peer p ws) (link_of S.links p) (k.mids p));
     }

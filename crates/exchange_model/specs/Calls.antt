@@ -1,6 +1,7 @@
 -- What each call does: an input, and all that is due because of it.
-use Rattle.std.specs.Prelude.{ℕ, Bool, false, ◌&&◌, ◌||◌, ◌==◌, nat_lt, nat_le, List, [], ◌∷◌, length, map, filter, fold, Option, Some, None, is_some, unwrap_or, Result, Ok, Err, if◌then◌else◌}
+use Rattle.std.specs.Prelude.{ℕ, Bool, false, ◌&&◌, ◌||◌, ◌==◌, nat_lt, nat_le, List, [], ◌∷◌, length, map, filter, filter_map, fold, Option, Some, None, option_map, is_some, unwrap_or, Result, Ok, Err, if◌then◌else◌}
 use Rattle.std.specs.List.{find, list_any}
+use Rattle.std.specs.Option.{option_map_or}
 use Rattle.limits.specs.declared.TheConstants.{MAX_DATAGRAM_LEN, MAX_EXCHANGES, MAX_MESSAGE_IDS, MAX_WAITING}
 use Rattle.coap_codec.specs.Spelling.{Content}
 use Rattle.coap_codec.specs.Reading.{message_at}
@@ -8,9 +9,10 @@ use Rattle.coap_codec.specs.declared.fault.CodecFault.{CodecFault}
 use Rattle.uri_map.specs.declared.peer.Peer.{Peer}
 use Rattle.ask_model.specs.declared.cause.Cause.{Cause}
 use Rattle.ask_model.specs.declared.cause.Cause.TheVariants as C
-use Rattle.ask_model.specs.Requests.{Sense, Requests, Refuses}
+use Rattle.ask_model.specs.Requests.{CoapRequest, Sense, Requests, Refuses}
+use Rattle.ask_model.specs.Sharing.{asks_same}
 use Rattle.ask_model.specs.Views.{Ask}
-use Rattle.journal_book.specs.Entries.{Grounds, Live, Fault}
+use Rattle.journal_book.specs.Entries.{Grounds, Live, Fault, Written}
 use Rattle.history_laws.specs.Responses.{is_whole}
 use Rattle.message_layer.specs.Values.{LinkState}
 use Rattle.message_layer.specs.Sending.{due_of, mids_in_use}
@@ -23,10 +25,10 @@ use Rattle.message_layer.specs.declared.verdict.News.TheVariants as N
 use Rattle.message_layer.specs.declared.verdict.Verdict.{Verdict}
 use Rattle.history_laws.specs.Hearing.{is_such}
 use Rattle.history_links.specs.Steps.{ended_token}
-use Rattle.exchange_model.specs.declared.kept.Conn.{Conn}
 use Rattle.exchange_model.specs.declared.kept.Exchange.{Exchange}
+use Rattle.exchange_model.specs.declared.kept.Reader.{Reader}
 use Rattle.exchange_model.specs.State.{PeerLink, State, link_of}
-use Rattle.exchange_model.specs.Steps.{asks, answers, begins, confirms, hears_nothing, hears, sends_first, sends_copy, is_under, expires, passes}
+use Rattle.exchange_model.specs.Steps.{asks, answers, begins, joins, asked_in, ended_in, confirms, hears_nothing, hears, sends_first, sends_copy, expires, timed_out, passes}
 
 -- The message that waits first goes out where nothing is outstanding (RFC 7252 section 4.7).
 abbrev pub next_by : ℕ → Peer → Option Outstanding → List Waiting → State → State
@@ -55,11 +57,22 @@ pub record Numbers : Type 0 where
   pub text : List ℕ
   pub word : ℕ
 
-abbrev pub asked_by : Sense → ℕ → ℕ → Ask → Numbers → State → State
-asked_by (Refuses cause status) t c a n S = refused t c a cause S
-asked_by (Requests q) t c a n S =
+-- the open exchange that a GET joins: that of an equal one, where no write has outrun it
+abbrev pub is_joined : List Written → CoapRequest → Exchange → Bool
+is_joined ws q e = e.current && option_map_or (asks_same q) (asked_in ws e.opening) false
+
+abbrev pub joined : CoapRequest → State → Option Exchange
+joined q S = find (is_joined S.entries q) S.exchanges
+
+abbrev pub asked_with : Option Exchange → ℕ → ℕ → Ask → CoapRequest → Numbers → State → State
+asked_with (Some e) t c a q n S = joins t c a e.opening S
+asked_with None t c a q n S =
     if has_place t q.peer S then next t q.peer (begins t c a q n.token n.text n.word S)
     else refused t c a C.Busy S
+
+abbrev pub asked_by : Sense → ℕ → ℕ → Ask → Numbers → State → State
+asked_by (Refuses cause status) t c a n S = refused t c a cause S
+asked_by (Requests q) t c a n S = asked_with (joined q S) t c a q n S
 
 abbrev pub asked : ℕ → ℕ → Ask → Numbers → State → State
 asked t c a n S = asked_by a.sense t c a n S
@@ -69,26 +82,24 @@ abbrev pub given_back : ℕ → Peer → List (List ℕ) → State → State
 given_back t p [] S = S
 given_back t p (b ∷ bs) S = given_back t p bs (confirms t p b S)
 
--- An exchange ends on these grounds: the connection whose ask opened it is answered, where it waits
--- still.
-abbrev pub is_pending : ℕ → Option ℕ → Bool
-is_pending k None = false
-is_pending k (Some j) = j == k
+-- who is told what an exchange came to, and on which grounds
+pub record Telling : Type 0 where
+  pub reader : Reader
+  pub grounds : Grounds
 
-abbrev pub waits_on : Exchange → Conn → Bool
-waits_on e x = (x.id == e.conn) && is_pending e.opening x.pending
+abbrev pub tell : Grounds → Reader → Telling
+tell g r = record { reader = r; grounds = g }
 
-abbrev pub ends : ℕ → Grounds → Exchange → State → State
-ends t g e S = if list_any (waits_on e) S.conns then answers t e.conn e.opening g S else S
+abbrev pub tells : ℕ → State → Telling → State
+tells t S x = answers t x.reader.conn x.reader.ask x.grounds S
 
-abbrev pub ends_if : ℕ → Grounds → Option Exchange → State → State
-ends_if t g None S = S
-ends_if t g (Some e) S = ends t g e S
+-- All who wait for an exchange that ends are told so on one ground, by rising ask.
+abbrev pub is_reader_of : Exchange → Reader → Bool
+is_reader_of e r = r.opening == e.opening
 
--- what a message ends
-abbrev pub ended_in : Option (List ℕ) → List Exchange → Option Exchange
-ended_in None es = None
-ended_in (Some token) es = find (is_under token) es
+abbrev pub told_for : Option Exchange → Grounds → List Reader → List Telling
+told_for None g rs = []
+told_for (Some e) g rs = map (tell g) (filter (is_reader_of e) rs)
 
 -- the method that it asks with, or 0 where there is none
 abbrev pub method_in : Option Exchange → ℕ
@@ -112,8 +123,8 @@ grounds_of v m S = grounds_by v.news (length S.entries) (method_in (ended_by v m
 -- told.
 abbrev pub takes_new : ℕ → Peer → List ℕ → Content → Verdict → State → State
 takes_new t p d m v S =
-    ends_if t (grounds_of v m S) (ended_by v m S)
-    (next t p (given_back t p (replies m.mid v.reply) (hears t p d m S)))
+    fold (tells t) (next t p (given_back t p (replies m.mid v.reply) (hears t p d m S)))
+    (told_for (ended_by v m S) (grounds_of v m S) S.readers)
 
 -- where 1,024 are remembered one more counts as lost, and is no entry
 abbrev pub takes_by : ℕ → Peer → List ℕ → Content → Verdict → News → State → State
@@ -171,13 +182,21 @@ peer_of x = x.peer
 abbrev pub move_all : ℕ → State → State
 move_all t S = fold (moves t) S (map peer_of S.links)
 
--- The exchanges that end are told, in the order in which they were opened.
-abbrev pub timed_out : ℕ → State → List Exchange
-timed_out t S = filter (expires t S.links) S.exchanges
+-- All who wait for exchanges that end so are told, by rising ask. The latest first sending is named,
+-- or the ask itself where nothing was sent.
+abbrev pub timeout_for : Reader → Exchange → Telling
+timeout_for r e = tell (Fault C.Timeout (unwrap_or e.sending r.ask)) r
 
-abbrev pub times_out : ℕ → State → Exchange → State
-times_out t S e = ends t (Fault C.Timeout (unwrap_or e.sending e.opening)) e S
+abbrev pub read_by : List Exchange → Reader → Option Exchange
+read_by es r = find (λ (e : Exchange). is_reader_of e r) es
+
+abbrev pub late_for : List Exchange → Reader → Option Telling
+late_for es r = option_map (timeout_for r) (read_by es r)
+
+abbrev pub told_late : List Exchange → List Reader → List Telling
+told_late es rs = filter_map (late_for es) rs
 
 abbrev pub ticked : ℕ → State → State
 ticked t S =
-    if something_due t S then fold (times_out t) (move_all t (passes t S)) (timed_out t S) else S
+    if something_due t S
+    then fold (tells t) (move_all t (passes t S)) (told_late (timed_out t S) S.readers) else S

@@ -1,5 +1,5 @@
 -- What each call leaves, in one piece: the entries that it adds, in order, and each table after it.
-use Rattle.std.specs.Prelude.{◌≡◌, ℕ, ◌+◌, ◌<◌, ◌≤◌, Bool, true, false, not, nat_lt, List, [], ◌∷◌, ◌++◌, length, map, filter, fold, Option, Some, None, option_map, is_some, unwrap_or, Ok, Err, if◌then◌else◌, ⊤}
+use Rattle.std.specs.Prelude.{◌≡◌, ℕ, ◌+◌, ◌<◌, ◌≤◌, Bool, true, false, not, nat_lt, List, [], ◌∷◌, ◌++◌, length, map, filter, Option, Some, None, option_map, option_to_list, is_some, Ok, Err, if◌then◌else◌, ⊤}
 use Rattle.std.specs.List.{AllByRecursion, list_any}
 use Rattle.std.specs.Str.{bytes_eq}
 use Rattle.limits.specs.declared.TheConstants.{MAX_DATAGRAM_LEN}
@@ -24,11 +24,10 @@ use Rattle.message_layer.specs.declared.state.Waiting.{Waiting}
 use Rattle.message_layer.specs.declared.verdict.News.TheVariants as N
 use Rattle.message_layer.specs.declared.verdict.Verdict.{Verdict}
 use Rattle.history_links.specs.Steps.{ended_token}
-use Rattle.exchange_model.specs.declared.kept.Conn.{Conn}
 use Rattle.exchange_model.specs.declared.kept.Exchange.{Exchange}
 use Rattle.exchange_model.specs.State.{PeerLink, State, link_of, with_link}
-use Rattle.exchange_model.specs.Steps.{entered, exchange_for, given_out, went_out, is_other, expires, is_gone}
-use Rattle.exchange_model.specs.Calls.{Numbers, has_place, asked, waits_on, ended_in, grounds_of, heard, something_due, times_out, timed_out, ticked}
+use Rattle.exchange_model.specs.Steps.{entered, exchange_for, reader_for, joins, left_by, ended_in, given_out, went_out, is_other, timed_out, goes_on, is_gone}
+use Rattle.exchange_model.specs.Calls.{Numbers, Telling, told_for, told_late, has_place, joined, asked, grounds_of, heard, something_due, ticked}
 use Rattle.exchange_model.specs.Keeping.{MayStep, IsNumbered}
 
 -- entries one after another
@@ -72,10 +71,10 @@ begin_deeds t c a q n S =
     let s = link_of S.links q.peer in let w = waits n.token n.text n.word in
     Asks c a ∷ first_deeds t q.peer s.last_mid (at_once w s.outstanding)
 
-abbrev pub begun_exchange : ℕ → ℕ → CoapRequest → Numbers → State → Exchange
-begun_exchange t c q n S =
+abbrev pub begun_exchange : ℕ → CoapRequest → Numbers → State → Exchange
+begun_exchange t q n S =
     let w = at_once (waits n.token n.text n.word) (link_of S.links q.peer).outstanding in
-    let e = exchange_for t c q n.token S in record e {
+    let e = exchange_for t q n.token S in record e {
       sending = option_map (λ (x : Waiting). length S.entries + 1) w;
     }
 
@@ -84,7 +83,8 @@ begun t c a q n S =
     let s = link_of S.links q.peer in let w = waits n.token n.text n.word in
     let S1 = entered_all t (begin_deeds t c a q n S) S in record S1 {
       issued = S.issued + 1;
-      exchanges = S.exchanges ++ begun_exchange t c q n S ∷ [];
+      exchanges = S.exchanges ++ begun_exchange t q n S ∷ [];
+      readers = S.readers ++ reader_for c S ∷ [];
       links = with_link q.peer (given_out (submitted t w s)) S.links;
     }
 
@@ -93,13 +93,9 @@ abbrev pub refusal_deeds : ℕ → Ask → Cause → State → List Deed
 refusal_deeds c a cause S =
     Asks c a ∷ Answers c (length S.entries) (Fault cause (length S.entries)) ∷ []
 
--- What ends is told to the connection that waits on it.
-abbrev pub told_deeds : Grounds → Exchange → List Conn → List Deed
-told_deeds g e cs = if list_any (waits_on e) cs then Answers e.conn e.opening g ∷ [] else []
-
-abbrev pub told_if : Grounds → Option Exchange → List Conn → List Deed
-told_if g None cs = []
-told_if g (Some e) cs = told_deeds g e cs
+-- what tells it
+abbrev pub answer_of : Telling → Deed
+answer_of x = Answers x.reader.conn x.reader.ask x.grounds
 
 -- A datagram with this ID and token, heeded as the verdict says: it is answered, the next message
 -- goes out where it ends what was outstanding, and the exchange that it ends is told.
@@ -111,7 +107,7 @@ heard_deeds t p d mid token v g S =
     let s = link_of S.links p in
     Hears p d ∷ (map (confirm p) (replies mid v.reply)
     ++ (first_deeds t p s.last_mid (in_turn v.ends s.waiting)
-    ++ told_if g (ended_in (ended_token v.news token) S.exchanges) S.conns))
+    ++ map answer_of (told_for (ended_in (ended_token v.news token) S.exchanges) g S.readers)))
 
 abbrev pub heard_going : Peer → ℕ → Verdict → State → List Going
 heard_going p mid v S =
@@ -127,7 +123,10 @@ abbrev pub heeded : ℕ → Peer → List ℕ → ℕ → List ℕ → Verdict �
 heeded t p d mid token v g S =
     let s = link_of S.links p in let over = ended_token v.news token in
     let S1 = entered_all t (heard_deeds t p d mid token v g S) S in record S1 {
-      exchanges = sent_as (heard_going p mid v S) (filter (is_other over) S.exchanges);
+      exchanges =
+          sent_as (heard_going p mid v S)
+          (left_by S.entries (option_to_list (ended_in over S.exchanges))
+          (filter (is_other over) S.exchanges));
       links = with_link p (given_out (awaits_no_more over (applied t mid token v s))) S.links;
     }
 
@@ -186,21 +185,19 @@ link_after t gone x = record {
   link = given_out (call_ticked t (rid gone x)).0;
 }
 
--- The exchanges that end are told, in the order in which they were opened.
-abbrev pub timeout_of : Exchange → Grounds
-timeout_of e = Fault C.Timeout (unwrap_or e.sending e.opening)
+-- A tick enters what is sent at each link, which each turns then, and tells those who wait for what
+-- ends; the exchanges that end go.
+abbrev pub tick_deeds : ℕ → State → List Deed
+tick_deeds t S =
+    Passes ∷ (all_deeds t (is_gone t S) S.links
+    ++ map answer_of (told_late (timed_out t S) S.readers))
 
-abbrev pub goes_on : ℕ → State → Exchange → Bool
-goes_on t S e = not (expires t S.links e)
-
--- A tick enters what is sent at each link, which each turns then; the exchanges that end go.
 abbrev pub moved_by : ℕ → State → State
 moved_by t S =
-    let gone = is_gone t S in
-    let S1 = entered_all t (Passes ∷ all_deeds t gone S.links) S in record S1 {
+    let gone = is_gone t S in let S1 = entered_all t (tick_deeds t S) S in record S1 {
       exchanges =
           sent_as (all_going t gone (length S.entries + 1) S.links)
-          (filter (goes_on t S) S.exchanges);
+          (left_by S.entries (timed_out t S) (filter (goes_on t S) S.exchanges));
       links = map (link_after t gone) S.links;
     }
 
@@ -220,8 +217,14 @@ abbrev pub BeginsEnter : Type 0
 BeginsEnter =
     (t c : ℕ) (a : Ask) (q : CoapRequest) (n : Numbers) (S : State)
     → MayStep t S → IsDrained S → IsNumbered q n S
-    → a.sense ≡ Requests q → has_place t q.peer S ≡ true
+    → a.sense ≡ Requests q → joined q S ≡ None → has_place t q.peer S ≡ true
     → asked t c a n S ≡ begun t c a q n S
+
+-- One that joins an exchange leaves itself, and who waits.
+abbrev pub JoinsEnter : Type 0
+JoinsEnter =
+    (t c : ℕ) (a : Ask) (q : CoapRequest) (n : Numbers) (e : Exchange) (S : State)
+    → a.sense ≡ Requests q → joined q S ≡ Some e → asked t c a n S ≡ joins t c a e.opening S
 
 -- Any other is answered at once.
 abbrev pub RefusalsEnter : Type 0
@@ -233,7 +236,7 @@ RefusalsEnter =
 abbrev pub BusyEnters : Type 0
 BusyEnters =
     (t c : ℕ) (a : Ask) (q : CoapRequest) (n : Numbers) (S : State)
-    → a.sense ≡ Requests q → has_place t q.peer S ≡ false
+    → a.sense ≡ Requests q → joined q S ≡ None → has_place t q.peer S ≡ false
     → asked t c a n S ≡ entered_all t (refusal_deeds c a C.Busy S) S
 
 -- a datagram of at most 2,048 bytes, from an endpoint to which something was sent
@@ -283,12 +286,11 @@ DroppedStays =
     (t : ℕ) (p : Peer) (d : List ℕ) (S : State)
     → (call_hears t d (link_of S.links p)).1 ≡ was_dropped → heard t p d S ≡ S
 
--- A tick leaves just that, and tells those who wait for what ends, where something is due; else
--- nothing changes.
+-- A tick leaves just that where something is due; else nothing changes.
 abbrev pub TicksEnter : Type 0
 TicksEnter =
     (t : ℕ) (S : State) → MayStep t S → IsDrained S → something_due t S ≡ true
-    → ticked t S ≡ fold (times_out t) (moved_by t S) (timed_out t S)
+    → ticked t S ≡ moved_by t S
 
 abbrev pub TickStays : Type 0
 TickStays = (t : ℕ) (S : State) → something_due t S ≡ false → ticked t S ≡ S

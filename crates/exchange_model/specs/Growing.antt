@@ -1,14 +1,17 @@
 -- What each call adds to the journal, each entry at its moment, and what that does to the
 -- connections.
-use Rattle.std.specs.Prelude.{◌≡◌, ◌⊎◌, ℕ, ◌+◌, ◌<◌, Bool, true, false, List, [], ◌∷◌, ◌++◌, length, ⊤}
-use Rattle.std.specs.List.{AllByRecursion}
+use Rattle.std.specs.Prelude.{◌≡◌, ◌⊎◌, ℕ, ◌+◌, ◌<◌, Bool, true, false, List, [], ◌∷◌, ◌++◌, length, slice_get, Some, ⊤}
+use Rattle.std.specs.List.{AllByRecursion, Contains}
 use Rattle.uri_map.specs.declared.peer.Peer.{Peer}
+use Rattle.ask_model.specs.Requests.{CoapRequest, Requests}
 use Rattle.ask_model.specs.Views.{Ask}
 use Rattle.journal_book.specs.Entries.{Deed, Opens, Asks, Sends, Answers, Shuts, Seals, Written}
 use Rattle.exchange_model.specs.declared.kept.Conn.{Conn}
+use Rattle.exchange_model.specs.declared.kept.Exchange.{Exchange}
+use Rattle.exchange_model.specs.declared.kept.Reader.{Reader}
 use Rattle.exchange_model.specs.State.{State, conns_after}
 use Rattle.exchange_model.specs.Steps.{shuts, seals}
-use Rattle.exchange_model.specs.Calls.{Numbers}
+use Rattle.exchange_model.specs.Calls.{Numbers, is_reader_of}
 use Rattle.exchange_model.specs.Room.{KeptInRoom}
 use Rattle.exchange_model.specs.Sealing.{opens_in_room, asks_in_room, hears_in_room, late, ticks_in_room}
 
@@ -98,3 +101,25 @@ Rise (x ∷ xs) = AllByRecursion (λ (y : Conn). x.id < y.id) xs × Rise xs
 
 abbrev pub ConnsRise : Type 0
 ConnsRise = (S : State) → KeptInRoom S → Rise S.conns
+
+-- Who waits stands in the order of asks, each with an ask of its own.
+abbrev pub RiseByAsk : List Reader → Type 0
+RiseByAsk [] = ⊤
+RiseByAsk (x ∷ xs) = AllByRecursion (λ (y : Reader). x.ask < y.ask) xs × RiseByAsk xs
+
+abbrev pub ReadersRise : Type 0
+ReadersRise = (S : State) → KeptInRoom S → RiseByAsk S.readers
+
+-- A reader's ask stands in the journal, for what the exchange asks.
+pub record IsKnown (S : State) (r : Reader) : Type 0 where
+  pub moment : ℕ
+  pub ask : Ask
+  pub request : CoapRequest
+  pub stands : slice_get S.entries r.ask ≡ Some (at_moment moment (Asks r.conn ask))
+  pub sense : ask.sense ≡ Requests request
+  pub method :
+      (e : Exchange) → Contains S.exchanges e → is_reader_of e r ≡ true
+      → request.method ≡ e.method
+
+abbrev pub ReadersKnown : Type 0
+ReadersKnown = (S : State) → KeptInRoom S → AllByRecursion (IsKnown S) S.readers

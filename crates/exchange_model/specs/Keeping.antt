@@ -18,7 +18,7 @@ use Rattle.exchange_model.specs.declared.kept.Exchange.{Exchange}
 use Rattle.exchange_model.specs.State.{State, link_of}
 use Rattle.exchange_model.specs.Steps.{opens, shuts, seals}
 use Rattle.exchange_model.specs.Resting.{LinkRests, Rests, HasConn}
-use Rattle.exchange_model.specs.Calls.{Numbers, has_place, asked, heard, ticked}
+use Rattle.exchange_model.specs.Calls.{Numbers, has_place, joined, asked, heard, ticked}
 
 -- IDs are two bytes, and there are enough of them for all messages that wait.
 pub record HasMids (s : LinkState) : Type 0 where
@@ -40,6 +40,7 @@ start = record {
   opened = 0;
   issued = 0;
   conns = [];
+  readers = [];
   exchanges = [];
   links = [];
 }
@@ -85,7 +86,8 @@ abbrev pub AsksKeeps : Type 0
 AsksKeeps =
     (t c : ℕ) (a : Ask) (n : Numbers) (S : State)
     → MayStep t S → HasConn S.conns c None → IsProper a.sense
-    → ((q : CoapRequest) → a.sense ≡ Requests q → has_place t q.peer S ≡ true → IsNumbered q n S)
+    → ((q : CoapRequest) → a.sense ≡ Requests q → joined q S ≡ None → has_place t q.peer S ≡ true
+    → IsNumbered q n S)
     → Kept (asked t c a n S)
 
 abbrev pub HearsKeeps : Type 0

@@ -15,7 +15,8 @@ use Rattle.message_layer.specs.Hearing.{verdict_of, reset_for}
 use Rattle.message_layer.specs.declared.state.Waiting.{Waiting}
 use Rattle.message_layer.specs.declared.state.Outstanding.{Outstanding}
 use Rattle.message_layer.specs.declared.verdict.Verdict.{Verdict}
-use Rattle.history_laws.specs.Readings.{Noted, Plain, Begins, Confirms, Repeats, Garbled, ticked, noted}
+use Rattle.history_laws.specs.Joining as H
+use Rattle.history_laws.specs.Readings.{Noted, Plain, Begins, Joins, Confirms, Repeats, Garbled, ticked, noted}
 use Rattle.history_laws.specs.Connections.{is_open, asks_of, answers_of}
 use Rattle.history_laws.specs.Transmissions.{mids_used}
 use Rattle.history_laws.specs.Hearing.{knows, repeated, can_be_remembered, has_room}
@@ -26,7 +27,7 @@ use Rattle.history_links.specs.Agrees.{due}
 use Rattle.history_links.specs.Steps.{MaySend, copy, first, heard, reset}
 use Rattle.exchange_model.specs.State.{State, link_of}
 use Rattle.exchange_model.specs.Reads.{Reads}
-use Rattle.exchange_model.specs.Steps.{opens, asks, answers, shuts, seals, begins, confirms, hears_nothing, sends_first, sends_copy, hears, passes}
+use Rattle.exchange_model.specs.Steps.{opens, asks, answers, shuts, seals, begins, joins, confirms, hears_nothing, sends_first, sends_copy, hears, passes}
 
 -- an open connection that waits for no answer
 pub record MayAsk (l : List Noted) (c : ℕ) : Type 0 where
@@ -72,13 +73,20 @@ AsksLeads =
     → Before l t S → MayCome l → MayAsk l c → AskNote l t a.sense Plain
     → Leads l (noted t (Asks c a) Plain) (asks t c a S)
 
+-- A GET joins the exchange of an equal one that is open.
+abbrev pub JoinsLeads : Type 0
+JoinsLeads =
+    (l : List Noted) (t c : ℕ) (a : Ask) (q : CoapRequest) (o : ℕ) (S : State)
+    → Before l t S → MayCome l → MayAsk l c → a.sense ≡ Requests q → H.joins l q ≡ Some o
+    → Leads l (noted t (Asks c a) (Joins o)) (joins t c a o S)
+
 -- Any other opens an exchange, and its message waits last.
 abbrev pub BeginsLeads : Type 0
 BeginsLeads =
     (l : List Noted) (t c : ℕ) (a : Ask) (q : CoapRequest) (token text : List ℕ) (word : ℕ)
     (S : State)
     → Before l t S → MayCome l → MayAsk l c
-    → a.sense ≡ Requests q → has_room l t q ≡ true → Spells (request_message q 0 token) text
+    → a.sense ≡ Requests q → H.joins l q ≡ None → has_room l t q ≡ true → Spells (request_message q 0 token) text
     → length token ≡ 8 → token_number token ≡ S.issued
     → Leads l (noted t (Asks c a) (Begins q)) (begins t c a q token text word S)
 

@@ -1,14 +1,16 @@
 -- A state says what a history says.
-use Rattle.std.specs.Prelude.{◌≡◌, ℕ, ◌+◌, ◌<◌, ◌≤◌, max, false, List, [], ◌∷◌, length, map, Option, Some, None}
+use Rattle.std.specs.Prelude.{◌≡◌, ℕ, ◌+◌, ◌<◌, ◌≤◌, max, false, not, List, [], ◌∷◌, ◌++◌, length, map, Option, Some, None}
 use Rattle.std.specs.List.{AllByRecursion, Contains}
 use Rattle.limits.specs.declared.TheConstants.{MAX_NUMBERED}
 use Rattle.uri_map.specs.declared.peer.Peer.{Peer}
 use Rattle.ask_model.specs.Requests.{CoapRequest}
+use Rattle.ask_model.specs.Sharing.{asked_place}
 use Rattle.ask_model.specs.Views.{Ask}
 use Rattle.history_laws.specs.Numbering.{token_number}
 use Rattle.journal_book.specs.Entries.{Deed, Opens, Asks}
 use Rattle.message_layer.specs.declared.state.Waiting.{Waiting}
-use Rattle.history_laws.specs.Readings.{Noted, Begins, entries, at, newest, noted}
+use Rattle.history_laws.specs.Joining.{outrun}
+use Rattle.history_laws.specs.Readings.{Noted, Note, Begins, Joins, entries, at, newest, noted}
 use Rattle.history_laws.specs.Connections.{is_sealed, opened, has_opened}
 use Rattle.history_laws.specs.Transmissions.{FirstSending, firsts, first_at, bears_token}
 use Rattle.history_laws.specs.Exchanges.{begun, issued, rank, waits_for, open_exchanges}
@@ -16,12 +18,26 @@ use Rattle.history_laws.specs.Justified.{Legal, IsNextConn}
 use Rattle.history_links.specs.Agrees.{Start, Agrees}
 use Rattle.exchange_model.specs.declared.kept.Conn.{Conn}
 use Rattle.exchange_model.specs.declared.kept.Exchange.{Exchange}
-use Rattle.exchange_model.specs.State.{State, link_of, conns_after}
+use Rattle.exchange_model.specs.declared.kept.Reader.{Reader}
+use Rattle.exchange_model.specs.State.{State, link_of, conns_after, readers_after}
 
 -- the connections that are open, each with its ask that waits
 abbrev pub conns_of : List Noted → List Conn
 conns_of [] = []
 conns_of (x ∷ older) = conns_after (conns_of older) (length older) x.written.deed
+
+-- who waits for an exchange, in the order of their asks
+abbrev pub reader_at : ℕ → ℕ → ℕ → Reader
+reader_at k c o = record { ask = k; conn = c; opening = o }
+
+abbrev pub readers_by : ℕ → Deed → Note → List Reader → List Reader
+readers_by n (Asks c a) (Begins q) rs = rs ++ reader_at n c n ∷ []
+readers_by n (Asks c a) (Joins o) rs = rs ++ reader_at n c o ∷ []
+readers_by n d note rs = readers_after rs d
+
+abbrev pub readers_of : List Noted → List Reader
+readers_of [] = []
+readers_of (x ∷ older) = readers_by (length older) x.written.deed x.note (readers_of older)
 
 -- Its message went out under its token, or nothing did.
 abbrev pub IsSentUnder : List Noted → Peer → List ℕ → Option ℕ → Type 0
@@ -38,8 +54,10 @@ pub record ExchangeIn (start : Start) (l : List Noted) (e : Exchange) : Type 0 w
   pub number : start.issued + rank l e.opening ≡ token_number e.token
   pub sending : waits_for l e.opening ≡ e.sending
   pub sent : IsSentUnder l e.peer e.token e.sending
+  pub current : e.current ≡ not (outrun l (asked_place request) e.opening)
+  pub conn : ℕ
   pub ask : Ask
-  pub stands : at l e.opening ≡ Some (noted e.since (Asks e.conn ask) (Begins request))
+  pub stands : at l e.opening ≡ Some (noted e.since (Asks conn ask) (Begins request))
 
 -- A message that waits under its number waits under its token.
 abbrev pub WaitsUnder : List Waiting → Exchange → Type 0
@@ -70,6 +88,7 @@ pub record Reads (l : List Noted) (S : State) : Type 0 where
   pub opens_are : start.opened + opens_in l ≡ S.opened
   pub issued_are : start.issued + issued l ≡ S.issued
   pub conns_are : conns_of l ≡ S.conns
+  pub readers_are : readers_of l ≡ S.readers
   pub keys : open_exchanges l ≡ map opening_of S.exchanges
   pub exchanges_are : AllByRecursion (ExchangeIn start l) S.exchanges
   pub tokens_are :

@@ -13,6 +13,7 @@ use Rattle.history_laws.specs.Confirming.{owed}
 use Rattle.history_laws.specs.Justified.{pending, AtRest}
 use Rattle.exchange_model.specs.declared.kept.Conn.{Conn}
 use Rattle.exchange_model.specs.declared.kept.Exchange.{Exchange}
+use Rattle.exchange_model.specs.declared.kept.Reader.{Reader}
 use Rattle.exchange_model.specs.State.{State, link_of}
 use Rattle.exchange_model.specs.Reads.{Reads}
 
@@ -24,15 +25,19 @@ IsUndue tick (Some o) ws = tick < due_of o
 abbrev pub LinkRests : ℕ → LinkState → Type 0
 LinkRests tick s = IsUndue tick s.outstanding s.waiting
 
--- an open exchange was opened by the ask with this number
+-- an open exchange was opened by the entry with this number
 abbrev pub HasExchange : List Exchange → ℕ → Type 0
 HasExchange [] k = ⊥
 HasExchange (e ∷ es) k = (e.opening ≡ k) ⊎ HasExchange es k
 
--- What a connection waits for is an exchange that is open.
-abbrev pub IsServed : List Exchange → Option ℕ → Type 0
-IsServed es None = ⊤
-IsServed es (Some k) = HasExchange es k
+-- What a connection waits for is the answer to a reader's ask,
+abbrev pub HasReader : List Reader → ℕ → Type 0
+HasReader [] k = ⊥
+HasReader (r ∷ rs) k = (r.ask ≡ k) ⊎ HasReader rs k
+
+abbrev pub IsServed : List Reader → Option ℕ → Type 0
+IsServed rs None = ⊤
+IsServed rs (Some k) = HasReader rs k
 
 pub record Rests (l : List Noted) (S : State) : Type 0 where
   pub reads : Reads l S
@@ -40,7 +45,9 @@ pub record Rests (l : List Noted) (S : State) : Type 0 where
   pub links : (p : Peer) → LinkRests (ticked l) (link_of S.links p)
   pub in_time :
       AllByRecursion (λ (e : Exchange). ticked l < e.since + MAX_TRANSMIT_WAIT) S.exchanges
-  pub served : AllByRecursion (λ (x : Conn). IsServed S.exchanges x.pending) S.conns
+  pub served : AllByRecursion (λ (x : Conn). IsServed S.readers x.pending) S.conns
+  -- and the exchange that one reads is open.
+  pub reading : AllByRecursion (λ (r : Reader). HasExchange S.exchanges r.opening) S.readers
 
 -- Then the history is at rest.
 abbrev pub RestsAtRest : Type 0

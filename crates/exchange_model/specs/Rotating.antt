@@ -130,6 +130,7 @@ turned t S = let ws = copies t S.entries in record {
   opened = S.opened;
   issued = S.issued;
   conns = [];
+  readers = [];
   exchanges = [];
   links = filter (has_copy ws) (map (keep_peer t) S.links);
 }

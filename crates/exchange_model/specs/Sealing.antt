@@ -7,12 +7,12 @@ use Rattle.ask_model.specs.Requests.{CoapRequest, Requests}
 use Rattle.ask_model.specs.Views.{Ask}
 use Rattle.ask_model.specs.Sizes.{came_size}
 use Rattle.journal_book.specs.Entries.{Deed, Answers, Written}
-use Rattle.exchange_model.specs.declared.kept.Conn.{Conn}
+use Rattle.exchange_model.specs.declared.kept.Reader.{Reader}
 use Rattle.exchange_model.specs.declared.kept.Exchange.{Exchange}
 use Rattle.exchange_model.specs.State.{State}
 use Rattle.exchange_model.specs.Steps.{opens, shuts, seals, is_past}
 use Rattle.exchange_model.specs.Resting.{HasConn}
-use Rattle.exchange_model.specs.Calls.{Numbers, has_place, asked, heard, times_out, ticked}
+use Rattle.exchange_model.specs.Calls.{Numbers, has_place, joined, asked, is_reader_of, tells, told_late, heard, ticked}
 use Rattle.exchange_model.specs.Keeping.{start, IsProper, IsNumbered}
 use Rattle.exchange_model.specs.Room.{fits, KeptInRoom}
 
@@ -34,9 +34,9 @@ abbrev pub hears_in_room : ℕ → Peer → List ℕ → State → State
 hears_in_room t p d S = if_unsealed t (heard t p d S) S
 
 -- A tick of a sealed core answers the asks whose exchanges have been open for as long as they may,
--- in the order in which they were opened.
+-- by rising ask.
 abbrev pub late : ℕ → State → State
-late t S = fold (times_out t) S (filter (is_past t) S.exchanges)
+late t S = fold (tells t) S (told_late (filter (is_past t) S.exchanges) S.readers)
 
 abbrev pub ticks_in_room : ℕ → State → State
 ticks_in_room t S =
@@ -65,7 +65,8 @@ abbrev pub AsksInRoom : Type 0
 AsksInRoom =
     (t c : ℕ) (a : Ask) (n : Numbers) (S : State)
     → KeptInRoom S → S.moment ≤ t → HasConn S.conns c None → IsProper a.sense
-    → ((q : CoapRequest) → a.sense ≡ Requests q → has_place t q.peer S ≡ true → IsNumbered q n S)
+    → ((q : CoapRequest) → a.sense ≡ Requests q → joined q S ≡ None → has_place t q.peer S ≡ true
+    → IsNumbered q n S)
     → IsSized a n
     → KeptInRoom (asks_in_room t c a n S)
 
@@ -79,13 +80,13 @@ abbrev pub TicksInRoom : Type 0
 TicksInRoom = (t : ℕ) (S : State) → KeptInRoom S → S.moment ≤ t → KeptInRoom (ticks_in_room t S)
 
 -- After a tick, sealed or not, nobody waits for an exchange that is past.
-abbrev pub IsPrompt : ℕ → List Exchange → Conn → Type 0
-IsPrompt t es x =
+abbrev pub IsPrompt : ℕ → List Exchange → Reader → Type 0
+IsPrompt t es r =
     AllByRecursion
-    (λ (e : Exchange). x.pending ≡ Some e.opening → t < e.since + MAX_TRANSMIT_WAIT) es
+    (λ (e : Exchange). is_reader_of e r ≡ true → t < e.since + MAX_TRANSMIT_WAIT) es
 
 abbrev pub ArePrompt : ℕ → State → Type 0
-ArePrompt t S = AllByRecursion (IsPrompt t S.exchanges) S.conns
+ArePrompt t S = AllByRecursion (IsPrompt t S.exchanges) S.readers
 
 abbrev pub TicksPromptly : Type 0
 TicksPromptly = (t : ℕ) (S : State) → KeptInRoom S → S.moment ≤ t → ArePrompt t (ticks_in_room t S)

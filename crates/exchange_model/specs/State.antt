@@ -6,6 +6,7 @@ use Rattle.journal_book.specs.Entries.{Deed, Opens, Asks, Answers, Shuts, Writte
 use Rattle.message_layer.specs.Values.{LinkState, empty_link}
 use Rattle.exchange_model.specs.declared.kept.Conn.{Conn}
 use Rattle.exchange_model.specs.declared.kept.Exchange.{Exchange}
+use Rattle.exchange_model.specs.declared.kept.Reader.{Reader}
 
 -- the messages between the proxy and one endpoint
 pub record PeerLink : Type 0 where
@@ -24,6 +25,8 @@ pub record State : Type 0 where
   -- what is open, in order
   pub conns : List Conn
   pub exchanges : List Exchange
+  -- who waits for an exchange, in the order of their asks
+  pub readers : List Reader
   -- the endpoints, in the order in which they were first asked for something
   pub links : List PeerLink
 
@@ -47,3 +50,9 @@ conns_after cs n (Asks c a) = map (pend c (Some n)) cs
 conns_after cs n (Answers c k g) = map (pend c None) cs
 conns_after cs n (Shuts c) = filter (λ (x : Conn). not (x.id == c)) cs
 conns_after cs n _ = cs
+
+-- Who is answered waits no more, and nobody does whose connection is shut.
+abbrev pub readers_after : List Reader → Deed → List Reader
+readers_after rs (Answers c k g) = filter (λ (r : Reader). not (r.ask == k)) rs
+readers_after rs (Shuts c) = filter (λ (r : Reader). not (r.conn == c)) rs
+readers_after rs _ = rs

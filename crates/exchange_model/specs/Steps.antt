@@ -1,13 +1,15 @@
 -- What each kind of entry does to a state.
-use Rattle.std.specs.Prelude.{ℕ, ◌+◌, true, Bool, not, ◌&&◌, ◌||◌, nat_le, List, [], ◌∷◌, ◌++◌, length, map, filter, Option, Some, None, is_some, if◌then◌else◌}
+use Rattle.std.specs.Prelude.{ℕ, ◌+◌, true, Bool, not, ◌&&◌, ◌||◌, nat_le, List, [], ◌∷◌, ◌++◌, length, map, filter, find, slice_get, Option, Some, None, is_some, option_and_then, option_to_list, false, ◌==◌, if◌then◌else◌}
 use Rattle.std.specs.List.{list_any}
+use Rattle.std.specs.Option.{option_map_or}
 use Rattle.std.specs.Str.{bytes_eq}
 use Rattle.limits.specs.declared.TheConstants.{MAX_TRANSMIT_WAIT}
 use Rattle.coap_codec.specs.Spelling.{Content}
 use Rattle.uri_map.specs.declared.peer.Peer.{Peer}
-use Rattle.ask_model.specs.Requests.{CoapRequest}
+use Rattle.ask_model.specs.Requests.{CoapRequest, Sense, Requests, Refuses}
+use Rattle.ask_model.specs.Sharing.{asked_place, writes_to}
 use Rattle.ask_model.specs.Views.{Ask}
-use Rattle.journal_book.specs.Entries.{Grounds, Deed, Opens, Asks, Sends, Hears, Passes, Answers, Shuts, Seals}
+use Rattle.journal_book.specs.Entries.{Grounds, Deed, Opens, Asks, Sends, Hears, Passes, Answers, Shuts, Seals, Written}
 use Rattle.message_layer.specs.Values.{LinkState}
 use Rattle.message_layer.specs.Sending.{first_sent, with_outstanding, with_copy, waits, queued}
 use Rattle.message_layer.specs.Hearing.{is_outstanding_under, verdict_of}
@@ -15,14 +17,16 @@ use Rattle.message_layer.specs.declared.state.Waiting.{Waiting}
 use Rattle.message_layer.specs.declared.state.Outstanding.{Outstanding}
 use Rattle.history_links.specs.Steps.{ended_token, heard_link, is_over, passed_link}
 use Rattle.exchange_model.specs.declared.kept.Exchange.{Exchange}
-use Rattle.exchange_model.specs.State.{PeerLink, State, link_of, with_link, conns_after}
+use Rattle.exchange_model.specs.declared.kept.Reader.{Reader}
+use Rattle.exchange_model.specs.State.{PeerLink, State, link_of, with_link, conns_after, readers_after}
 
--- one entry more, and what it does to the connections
+-- one entry more, and what it does to the connections and to who waits
 abbrev pub entered : ℕ → Deed → State → State
 entered t d S = record S {
   entries = S.entries ++ record { moment = t; deed = d } ∷ [];
   moment = t;
   conns = conns_after S.conns (length S.entries) d;
+  readers = readers_after S.readers d;
 }
 
 -- the next connection is opened
@@ -42,23 +46,34 @@ shuts t c S = entered t (Shuts c) S
 abbrev pub seals : ℕ → State → State
 seals t S = let S1 = entered t Seals S in record S1 { sealed = true }
 
--- an ask opens an exchange, and its message waits last at its endpoint, under the next token
-abbrev pub exchange_for : ℕ → ℕ → CoapRequest → List ℕ → State → Exchange
-exchange_for t c q token S = record {
+-- The ask in the next entry opens an exchange, which it reads, and its message waits last at its
+-- endpoint, under the next token.
+abbrev pub reader_for : ℕ → State → Reader
+reader_for c S = record { ask = length S.entries; conn = c; opening = length S.entries }
+
+abbrev pub exchange_for : ℕ → CoapRequest → List ℕ → State → Exchange
+exchange_for t q token S = record {
   opening = length S.entries;
   token = token;
   since = t;
   peer = q.peer;
   method = q.method;
-  conn = c;
   sending = None;
+  current = true;
 }
 
 abbrev pub begins : ℕ → ℕ → Ask → CoapRequest → List ℕ → List ℕ → ℕ → State → State
 begins t c a q token text word S = let S1 = entered t (Asks c a) S in record S1 {
   issued = S.issued + 1;
-  exchanges = S.exchanges ++ exchange_for t c q token S ∷ [];
+  exchanges = S.exchanges ++ exchange_for t q token S ∷ [];
+  readers = S.readers ++ reader_for c S ∷ [];
   links = with_link q.peer (queued t (waits token text word) (link_of S.links q.peer)) S.links;
+}
+
+-- an ask reads an exchange that is open
+abbrev pub joins : ℕ → ℕ → Ask → ℕ → State → State
+joins t c a o S = let S1 = entered t (Asks c a) S in record S1 {
+  readers = S.readers ++ record { ask = length S.entries; conn = c; opening = o } ∷ [];
 }
 
 -- an ACK or RST, and what is heard and is nothing new, leave all else as it is
@@ -93,7 +108,35 @@ sends_copy t p o S = let S1 = entered t (Sends p o.datagram None) S in record S1
   links = with_link p (given_out (with_copy t (link_of S.links p) o)) S.links;
 }
 
+-- What an exchange was opened for stands in the entries.
+abbrev pub request_in : Sense → Option CoapRequest
+request_in (Requests q) = Some q
+request_in (Refuses cause status) = None
+
+abbrev pub request_by : Deed → Option CoapRequest
+request_by (Asks c a) = request_in a.sense
+request_by _ = None
+
+abbrev pub asked_in : List Written → ℕ → Option CoapRequest
+asked_in ws k = option_and_then (λ (w : Written). request_by w.deed) (slice_get ws k)
+
+-- A write that ends outruns the other exchanges of its place.
+abbrev pub outruns : List Written → Option CoapRequest → Exchange → Bool
+outruns ws None w = false
+outruns ws (Some q) w = option_map_or (writes_to (asked_place q)) (asked_in ws w.opening) false
+
+abbrev pub outrun_by : List Written → List Exchange → Exchange → Exchange
+outrun_by ws over e =
+    if list_any (outruns ws (asked_in ws e.opening)) over then record e { current = false } else e
+
+abbrev pub left_by : List Written → List Exchange → List Exchange → List Exchange
+left_by ws over es = map (outrun_by ws over) es
+
 -- A message that is new ends the exchange whose token its link says is awaited no more.
+abbrev pub ended_in : Option (List ℕ) → List Exchange → Option Exchange
+ended_in None es = None
+ended_in (Some token) es = find (is_under token) es
+
 abbrev pub is_other : Option (List ℕ) → Exchange → Bool
 is_other None e = true
 is_other (Some token) e = not (is_under token e)
@@ -101,8 +144,11 @@ is_other (Some token) e = not (is_under token e)
 abbrev pub hears : ℕ → Peer → List ℕ → Content → State → State
 hears t p d m S =
     let s = link_of S.links p in let v = verdict_of t s m in
+    let over = ended_token v.news m.token in
     let S1 = entered t (Hears p d) S in record S1 {
-      exchanges = filter (is_other (ended_token v.news m.token)) S.exchanges;
+      exchanges =
+          left_by S.entries (option_to_list (ended_in over S.exchanges))
+          (filter (is_other over) S.exchanges);
       links = with_link p (heard_link t m.mid m.token v s) S.links;
     }
 
@@ -118,6 +164,12 @@ is_in_vain t s e =
 abbrev pub expires : ℕ → List PeerLink → Exchange → Bool
 expires t links e = is_past t e || is_in_vain t (link_of links e.peer) e
 
+abbrev pub timed_out : ℕ → State → List Exchange
+timed_out t S = filter (expires t S.links) S.exchanges
+
+abbrev pub goes_on : ℕ → State → Exchange → Bool
+goes_on t S e = not (expires t S.links e)
+
 -- the token of one that ends
 abbrev pub is_gone : ℕ → State → List ℕ → Bool
 is_gone t S token =
@@ -128,6 +180,6 @@ passed t S x = record { peer = x.peer; link = passed_link t (is_gone t S) x.link
 
 abbrev pub passes : ℕ → State → State
 passes t S = let S1 = entered t Passes S in record S1 {
-  exchanges = filter (λ (e : Exchange). not (expires t S.links e)) S.exchanges;
+  exchanges = left_by S.entries (timed_out t S) (filter (goes_on t S) S.exchanges);
   links = map (passed t S) S.links;
 }

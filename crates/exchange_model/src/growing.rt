@@ -14,6 +14,8 @@ ghost use Rattle.exchange_model.specs.Growing.{
   TicksAnswer,
   ConnsBelow,
   ConnsRise,
+  ReadersRise,
+  ReadersKnown,
 };
 
 /// A call adds entries at its moment, and the connections follow from them.
@@ -34,6 +36,12 @@ pub fn calls_add_their_own()
     ensures asks { AsksAnswer }
     ensures hears { HearsAnswer }
     ensures ticks { TicksAnswer }
+{}
+
+/// Who waits stands in the order of asks, which the journal has, each for what its exchange asks.
+pub fn readers_rise()
+    ensures rise { ReadersRise }
+    ensures known { ReadersKnown }
 {}
 
 /// The connections stand in the order of their numbers, each below the next number.

@@ -22,8 +22,18 @@ pub struct Exchange {
     pub peer: Peer,
     /// the code of its request (RFC 7252 section 12.1.1)
     pub method: u8,
-    /// the connection whose ask opened it
-    pub conn: u32,
     /// its first sending, once it went out
     pub sending: Option<u32>,
+    /// no write to its place has ended since it was opened, so that equal GETs may join it
+    pub current: bool,
+}
+
+/// Who waits for an exchange, by the number of its ask's entry.
+#[derive(Clone, Copy)]
+pub struct Reader {
+    pub ask: u32,
+    /// the connection that asked
+    pub conn: u32,
+    /// the entry that opened the exchange
+    pub opening: u32,
 }

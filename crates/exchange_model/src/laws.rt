@@ -6,6 +6,7 @@ ghost use Rattle.exchange_model.specs.Laws.{
   SealsLeads,
   AnswersLeads,
   AsksLeads,
+  JoinsLeads,
   BeginsLeads,
   FirstLeads,
   CopyLeads,
@@ -31,6 +32,7 @@ ghost use Rattle.exchange_model.specs.Worked.{AnsweredRun, GivenUpRun};
 ghost use Rattle.exchange_model.specs.Resting.{ConnsTell, RestsAtRest};
 ghost use Rattle.exchange_model.specs.Entering.{
   BeginsEnter,
+  JoinsEnter,
   RefusalsEnter,
   BusyEnters,
   MessageEnters,
@@ -54,9 +56,10 @@ pub fn connections_lead()
     ensures answers { AnswersLeads }
 {}
 
-/// An ask opens an exchange under a token of its own, or none.
+/// An ask opens an exchange under a token of its own, joins one, or does neither.
 pub fn asks_lead()
     ensures refused { AsksLeads }
+    ensures joins { JoinsLeads }
     ensures begins { BeginsLeads }
 {}
 
@@ -121,6 +124,7 @@ pub fn worked_runs()
 /// What an ask leaves: the entries that it adds, in order, and each table after it.
 pub fn asks_enter()
     ensures begins { BeginsEnter }
+    ensures joins { JoinsEnter }
     ensures refused { RefusalsEnter }
     ensures busy { BusyEnters }
 {}

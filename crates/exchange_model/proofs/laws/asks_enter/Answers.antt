@@ -1,8 +1,11 @@
-use Rattle.exchange_model.proofs.Begun.{begins-enter, refusals-enter, busy-enters}
+use Rattle.exchange_model.proofs.Begun.{begins-enter, joins-enter, refusals-enter, busy-enters}
 use Rattle.exchange_model.proofs.laws.asks_enter.Goals as goal
 
 pub returns-clause-begins : goal.returns-clause-begins
 returns-clause-begins c = begins-enter
+
+pub returns-clause-joins : goal.returns-clause-joins
+returns-clause-joins c = joins-enter
 
 pub returns-clause-refused : goal.returns-clause-refused
 returns-clause-refused c = refusals-enter

@@ -1,0 +1,96 @@
+-- What is told takes nothing of a journal's room but what was held free.
+use Rattle.std.proofs.Common.{◌≡◌, ◌≢◌, ℕ, ◌≤◌, Bool, true, false, cond, inl, inr, List, [], ◌∷◌, map, filter, Option, Some, None, sym, subst, ◌∙◌, arith}
+use Rattle.std.specs.Prelude.{fold}
+use Rattle.std.specs.List.{AllByRecursion, Contains}
+use Rattle.std.proofs.lemmas.Bool.Decides.{eqb_tells}
+use Rattle.journal_book.specs.Entries.{Grounds, grounds_size}
+use Rattle.history_laws.specs.Readings.{Noted}
+use Rattle.history_laws.proofs.CallerLemmas.{all-filter, all-more}
+use Rattle.exchange_model.specs.declared.kept.Conn.{Conn}
+use Rattle.exchange_model.specs.declared.kept.Exchange.{Exchange}
+use Rattle.exchange_model.specs.declared.kept.Reader.{Reader}
+use Rattle.exchange_model.specs.State.{State, pend}
+use Rattle.exchange_model.specs.Reads.{Reads}
+use Rattle.exchange_model.specs.Resting.{HasConn}
+use Rattle.exchange_model.specs.Calls.{Telling, tells, told_for, told_late}
+use Rattle.exchange_model.specs.Growing.{RiseByAsk}
+use Rattle.exchange_model.proofs.Adding.{Adds, stays, at-most, both-add, answers-adds}
+use Rattle.exchange_model.proofs.ConnsTell.{conns-tell}
+use Rattle.exchange_model.proofs.Readers.{ReaderIn, readers-wait, readers-rise-in, readers-apart, Apart}
+use Rattle.exchange_model.proofs.Telling.{readers_in, all-in}
+use Rattle.exchange_model.proofs.Tellings.{reads_it, readers-for, for-all, late_reads, readers-late, late-all}
+use Rattle.exchange_model.proofs.Tidy.{Tidy}
+
+-- Who is told waits, each on a connection of its own.
+abbrev pub AreWaiting : List Reader → List Conn → Type 0
+AreWaiting rs cs = AllByRecursion (λ (r : Reader). HasConn cs r.conn (Some r.ask)) rs
+
+pub still-waits : (c : ℕ) (rs : List Reader) (cs : List Conn) → AllByRecursion (λ (r : Reader). c ≢ r.conn) rs → AreWaiting rs cs → AreWaiting rs (map (pend c None) cs)
+still-waits c [] cs a h = tt
+still-waits c (r ∷ rs) cs a h = (by cs h.0, still-waits c rs cs a.1 h.1)
+  where
+    by : (cs : List Conn) → HasConn cs r.conn (Some r.ask) → HasConn (map (pend c None) cs) r.conn (Some r.ask)
+    by [] k = absurd k
+    by (x ∷ xs) (inl k) = elim (eqb_tells x.id c) [ inl w ↦ absurd (a.0 (sym w.1 ∙ k.0)) | inr w ↦ rw (w.0) (inl k) ]
+    by (x ∷ xs) (inr k) = inr (by xs k)
+
+pub all-told-adds : (t : ℕ) (xs : List Telling) (S : State) → Tidy S.links → AreWaiting (readers_in xs) S.conns → Apart (readers_in xs)
+    → AllByRecursion (λ (x : Telling). grounds_size x.grounds ≤ 4) xs → Adds 0 0 S (fold (tells t) S xs)
+all-told-adds t [] S h waits apart small = stays 0 0 S h
+all-told-adds t (x ∷ xs) S h waits apart small =
+    let one = answers-adds t x.reader.conn x.reader.ask x.grounds S h waits.0 small.0 in
+    let left = still-waits x.reader.conn (readers_in xs) S.conns (all-more _ (λ (r : Reader). x.reader.conn ≢ r.conn) (λ r k. k.1) (readers_in xs) apart.0) waits.1 in
+    at-most 0 0 0 0 S _ (omega arith) (omega arith)
+    (both-add 0 0 0 0 S (tells t S x) _ one (all-told-adds t xs (tells t S x) one.tidy left apart.1 small.1))
+
+-- So are the readers of a state between two steps.
+pub record Served (S : State) : Type 0 where
+  pub waits : AreWaiting S.readers S.conns
+  pub apart : Apart S.readers
+
+pub kept-served : (l : List Noted) (S : State) → Reads l S → Served S
+kept-served l S r = record {
+  waits = all-more (ReaderIn l) (λ (x : Reader). HasConn S.conns x.conn (Some x.ask))
+      (λ x h. subst (HasConn S.conns x.conn) h.waits ((conns-tell l S x.conn r).0 h.open_now)) S.readers readers;
+  apart = readers-apart l S.readers (subst RiseByAsk r.readers_are (readers-rise-in l r.legal)) readers;
+}
+  where
+    readers : AllByRecursion (ReaderIn l) S.readers
+    readers = subst (AllByRecursion (ReaderIn l)) r.readers_are (readers-wait l r.legal)
+
+apart-filter : (q : Reader → Bool) (rs : List Reader) → Apart rs → Apart (filter q rs)
+apart-filter q [] h = tt
+apart-filter q (r ∷ rs) h = by (q r) (apart-filter q rs h.1)
+  where
+    by : (b : Bool) → Apart (filter q rs) → Apart (cond b (r ∷ filter q rs) (filter q rs))
+    by true ih = (all-filter (λ (s : Reader). (r.ask ≢ s.ask) × (r.conn ≢ s.conn)) q rs h.0, ih)
+    by false ih = ih
+
+-- those of one exchange, and of all that end at a tick
+pub for-served : (v : Option Exchange) (g : Grounds) (rs : List Reader) (cs : List Conn) → AreWaiting rs cs → Apart rs
+    → AreWaiting (readers_in (told_for v g rs)) cs × Apart (readers_in (told_for v g rs))
+for-served v g rs cs waits apart = (
+  rw (readers-for v g rs) (all-filter (λ (r : Reader). HasConn cs r.conn (Some r.ask)) (reads_it v) rs waits),
+  rw (readers-for v g rs) (apart-filter (reads_it v) rs apart),
+)
+
+pub late-served : (es : List Exchange) (rs : List Reader) (cs : List Conn) → AreWaiting rs cs → Apart rs
+    → AreWaiting (readers_in (told_late es rs)) cs × Apart (readers_in (told_late es rs))
+late-served es rs cs waits apart = (
+  rw (readers-late es rs) (all-filter (λ (r : Reader). HasConn cs r.conn (Some r.ask)) (late_reads es) rs waits),
+  rw (readers-late es rs) (apart-filter (late_reads es) rs apart),
+)
+
+pub for-adds : (t : ℕ) (v : Option Exchange) (g : Grounds) (rs : List Reader) (S : State) → Tidy S.links → AreWaiting rs S.conns → Apart rs → grounds_size g ≤ 4
+    → Adds 0 0 S (fold (tells t) S (told_for v g rs))
+for-adds t v g rs S h waits apart small =
+    let served = for-served v g rs S.conns waits apart in
+    all-told-adds t (told_for v g rs) S h served.0 served.1
+    (for-all (λ (x : Telling). grounds_size x.grounds ≤ 4) (Contains rs) v g rs (λ e r is a same. small) (all-in rs))
+
+pub late-adds : (t : ℕ) (es : List Exchange) (rs : List Reader) (S : State) → Tidy S.links → AreWaiting rs S.conns → Apart rs
+    → Adds 0 0 S (fold (tells t) S (told_late es rs))
+late-adds t es rs S h waits apart =
+    let served = late-served es rs S.conns waits apart in
+    all-told-adds t (told_late es rs) S h served.0 served.1
+    (late-all (λ (x : Telling). grounds_size x.grounds ≤ 4) (Contains rs) es rs (λ e r in_es a same. omega arith) (all-in rs))
