@@ -1,5 +1,5 @@
 -- What an ask is answered with.
-use Rattle.std.proofs.Common.{◌≡◌, ◌≢◌, ℕ, ◌/◌, ◌^◌, ◌≤◌, Bool, true, false, inr, List, [], length, Some, None, Result, Ok, Err, refl, sym, subst, ◌∙◌, arith}
+use Rattle.std.proofs.Common.{◌≡◌, ◌≢◌, ℕ, ◌/◌, ◌^◌, ◌≤◌, Bool, true, false, inr, List, [], length, Option, Some, None, Result, Ok, Err, refl, sym, ap, subst, ◌∙◌, arith}
 use Rattle.std.specs.Prelude.{IfOk, OnOk, drop}
 use Rattle.std.specs.Arc.{arc_value}
 use Rattle.ask_model.specs.Requests.{CoapRequest, Requests, Refuses}
@@ -7,14 +7,16 @@ use Rattle.ask_model.specs.Views.{Ask, Mapping}
 use Rattle.ask_model.specs.Sizes.{came_size}
 use Rattle.ask_model.specs.declared.cause.Cause.{Cause}
 use Rattle.history_laws.specs.Numbering.{token_number}
+use Rattle.std.specs.List.{find}
+use Rattle.journal_book.specs.Entries.{Written}
 use Rattle.exchange_model.specs.State.{State}
 use Rattle.exchange_model.specs.Resting.{HasConn}
-use Rattle.exchange_model.specs.Calls.{Numbers, has_place, asked}
+use Rattle.exchange_model.specs.Calls.{Numbers, has_place, joined, asked}
 use Rattle.exchange_model.specs.Keeping.{IsProper}
 use Rattle.exchange_model.specs.Room.{KeptInRoom}
 use Rattle.exchange_model.specs.Entering.{refusal_deeds, entered_all}
 use Rattle.exchange_model.specs.Sealing.{in_room, asks_in_room}
-use Rattle.exchange_model.proofs.CallerLemmas.{asks-in-room, busy-enters, refusals-enter}
+use Rattle.exchange_model.proofs.CallerLemmas.{asks-in-room, busy-enters, joins-enter, refusals-enter}
 use Rattle.std.specs.Prelude.{◌&&◌, nat_lt}
 use Rattle.std.proofs.lemmas.Bool.{false≢true}
 use Rattle.std.proofs.lemmas.Bool.{ltb-true}
@@ -32,14 +34,17 @@ use Rattle.exchange_core.specs.declared.fault.AskFault.{AskFault}
 use Rattle.exchange_core.specs.declared.fault.AskFault.TheVariants as F
 use Rattle.exchange_core.specs.Values.{CoreValue, stepped}
 use Rattle.exchange_core.specs.Calls.{AsksSo, IsAsked}
-use Rattle.exchange_core.specs.Refusing.{MayRefuse, HasNoPlace}
+use Rattle.exchange_model.specs.declared.kept.Exchange.{Exchange}
+use Rattle.exchange_model.specs.Steps.{joins}
+use Rattle.exchange_core.specs.Joining.{MayJoin, is_joined_by, joined_for}
+use Rattle.exchange_core.specs.Refusing.{MayRefuse, BeginsNothing}
 use Rattle.exchange_core.specs.States.{number_in}
 use Rattle.exchange_core.proofs.Sounding.{second-of}
 
 -- an ask that is answered at once, whose message would go under this token
 away : (t word c : ℕ) (a : Ask) (token : List ℕ) (old new : CoreValue)
     → length token ≡ 8 → token_number token ≡ old.state.issued → token_number (drop 4 token) ≡ word / 2 ^ 32
-    → HasNoPlace t a old.state → HasConn old.state.conns c None
+    → BeginsNothing t a old.state → HasConn old.state.conns c None
     → ((n : Numbers) → new ≡ stepped (asks_in_room t c a n old.state) old)
     → AsksSo t word c a old new
 away t word c a token old new size number random none idle is =
@@ -47,14 +52,14 @@ away t word c a token old new size number random none idle is =
     record {
       numbers = n;
       worded = record { word_is = refl; token_size = size; number = number; random = random };
-      spelled = λ q s p. absurd (none q s p);
+      spelled = λ q s j p. absurd (none q s j p);
       idle = idle;
       is = is n;
     }
 
 pub turned-away : {R : Type 0} (r : Result (Ticket R) AskFault) (t word c : ℕ) (a : Ask) (token : List ℕ) (old new : CoreValue)
     → length token ≡ 8 → token_number token ≡ old.state.issued → token_number (drop 4 token) ≡ word / 2 ^ 32
-    → HasNoPlace t a old.state → HasConn old.state.conns c None → old.state.sealed ≡ false
+    → BeginsNothing t a old.state → HasConn old.state.conns c None → old.state.sealed ≡ false
     → IfOk r (λ (k : Ticket R). k.number ≡ length old.state.entries)
     → OnOk r (new.state.sealed ≡ false)
     → (r ≡ Err F.Sealed → new.state.sealed ≡ true)
@@ -74,11 +79,11 @@ turned-away (Err F.Pending) t word c a token old new size number random none idl
 -- an ask that begins nothing may be refused
 pub may-refuse : (t c : ℕ) (a : Ask) (cause : Cause) (S : State)
     → KeptInRoom S → S.sealed ≡ false → S.moment ≤ t → HasConn S.conns c None → IsProper a.sense → came_size a.came ≤ MAX_REQUEST_SIZE
-    → HasNoPlace t a S → ((n : Numbers) → asked t c a n S ≡ entered_all t (refusal_deeds c a cause S) S)
+    → BeginsNothing t a S → ((n : Numbers) → asked t c a n S ≡ entered_all t (refusal_deeds c a cause S) S)
     → MayRefuse t c a cause S
 may-refuse t c a cause S k unsealed later idle proper size none is =
     let n : Numbers = record { token = []; text = []; word = 0 } in
-    let kept = asks-in-room t c a n S k later idle proper (λ q s p. absurd (none q s p)) (record { request = size; message = omega arith }) in
+    let kept = asks-in-room t c a n S k later idle proper (λ q s j p. absurd (none q s j p)) (record { request = size; message = omega arith }) in
     record {
       is = is;
       kept = subst (λ (U : State). KeptInRoom (in_room t U S)) (is n) (second-of S.sealed S (in_room t (asked t c a n S) S) unsealed kept);
@@ -102,13 +107,13 @@ full-no-place t p S full =
 same-request : (q r : CoapRequest) → Requests q ≡ Requests r → q ≡ r
 same-request q r e = cc
 
-pub no-place : (t : ℕ) (a : Ask) (q : CoapRequest) (S : State) → a.sense ≡ Requests q → has_place t q.peer S ≡ false → HasNoPlace t a S
-no-place t a q S sense full = λ r is place.
+pub no-place : (t : ℕ) (a : Ask) (q : CoapRequest) (S : State) → a.sense ≡ Requests q → has_place t q.peer S ≡ false → BeginsNothing t a S
+no-place t a q S sense full = λ r is alone place.
     let same = same-request q r (sym sense ∙ is) in
     false≢true (sym full ∙ subst (λ (x : CoapRequest). has_place t x.peer S ≡ true) (sym same) place)
 
-pub refuses-no-place : (t : ℕ) (a : Ask) (cause : Cause) (status : ℕ) (S : State) → a.sense ≡ Refuses cause status → HasNoPlace t a S
-refuses-no-place t a cause status S sense = λ r is place. never (sym sense ∙ is)
+pub refuses-no-place : (t : ℕ) (a : Ask) (cause : Cause) (status : ℕ) (S : State) → a.sense ≡ Refuses cause status → BeginsNothing t a S
+refuses-no-place t a cause status S sense = λ r is alone place. never (sym sense ∙ is)
   where
     never : {q : CoapRequest} → Refuses cause status ≡ Requests q → ⊥
     never e = absurd cc
@@ -118,13 +123,44 @@ pub request-of : (s : Sense) (p : Peer) → asked_peer s ≡ Some p → (q : Coa
 request-of (Requests q) p e = (q, refl, some-is q.peer p e)
 request-of (Refuses cause status) p e = absurd cc
 
+-- what it joins
+pub joined-is : (a : Ask) (q : CoapRequest) (S : State) (v : Option Exchange) → a.sense ≡ Requests q → joined_for a.sense S ≡ v → joined q S ≡ v
+joined-is a q S v sense is = ap (λ (s : Sense). joined_for s S) (sym sense) ∙ is
+
+pub found-by : (ws : List Written) (m k : Mapping) (es fs : List Exchange) (v w : Option Exchange)
+    → v ≡ find (is_joined_by ws k.sense) fs → k ≡ m → fs ≡ es → v ≡ w → find (is_joined_by ws m.sense) es ≡ w
+found-by ws m k es fs v w found same all is =
+    sym (found ∙ ap (find (is_joined_by ws k.sense)) all ∙ ap (λ (x : Mapping). find (is_joined_by ws x.sense) es) same) ∙ is
+
+joined-nothing : (t : ℕ) (a : Ask) (e : Exchange) (S : State) → joined_for a.sense S ≡ Some e → BeginsNothing t a S
+joined-nothing t a e S found = λ q is alone place. never (sym (joined-is a q S (Some e) is found) ∙ alone)
+  where
+    never : Some e ≡ None → ⊥
+    never k = absurd cc
+
+-- an ask that joins an exchange
+pub may-join : (t c : ℕ) (a : Ask) (q : CoapRequest) (e : Exchange) (S : State)
+    → KeptInRoom S → S.sealed ≡ false → S.moment ≤ t → HasConn S.conns c None → came_size a.came ≤ MAX_REQUEST_SIZE
+    → a.sense ≡ Requests q → joined_for a.sense S ≡ Some e → MayJoin t c a e.opening S × BeginsNothing t a S
+may-join t c a q e S k unsealed later idle size sense found =
+    let n : Numbers = record { token = []; text = []; word = 0 } in
+    let none = joined-nothing t a e S found in
+    let is : (m : Numbers) → asked t c a m S ≡ joins t c a e.opening S = λ m. joins-enter t c a q m e S sense (joined-is a q S (Some e) sense found) in
+    let kept = asks-in-room t c a n S k later idle (subst IsProper (sym sense) tt) (λ r s j p. absurd (none r s j p)) (record { request = size; message = omega arith }) in (
+      record {
+        is = is;
+        kept = subst (λ (U : State). KeptInRoom (in_room t U S)) (is n) (second-of S.sealed S (in_room t (asked t c a n S) S) unsealed kept);
+      },
+      none,
+    )
+
 -- an ask that is busy may be refused
 pub may-be-busy : (t c : ℕ) (a : Ask) (q : CoapRequest) (S : State)
     → KeptInRoom S → S.sealed ≡ false → S.moment ≤ t → HasConn S.conns c None → came_size a.came ≤ MAX_REQUEST_SIZE
-    → a.sense ≡ Requests q → has_place t q.peer S ≡ false → MayRefuse t c a C.Busy S
-may-be-busy t c a q S k unsealed later idle size sense full =
+    → a.sense ≡ Requests q → joined_for a.sense S ≡ None → has_place t q.peer S ≡ false → MayRefuse t c a C.Busy S
+may-be-busy t c a q S k unsealed later idle size sense alone full =
     may-refuse t c a C.Busy S k unsealed later idle (subst IsProper (sym sense) tt) size (no-place t a q S sense full)
-    (λ n. busy-enters t c a q n S sense full)
+    (λ n. busy-enters t c a q n S sense (joined-is a q S None sense alone) full)
 
 pub may-be-refused : (t c : ℕ) (a : Ask) (cause : Cause) (status : ℕ) (S : State)
     → KeptInRoom S → S.sealed ≡ false → S.moment ≤ t → HasConn S.conns c None → came_size a.came ≤ MAX_REQUEST_SIZE

@@ -1,8 +1,8 @@
 -- What an ask that begins an exchange leaves is sound, and is what the step says.
-use Rattle.std.proofs.Common.{◌≡◌, ℕ, ◌+◌, ◌≤◌, ◌<◌, true, List, [], ◌∷◌, ◌++◌, length, Option, Some, None, Result, Ok, Err, refl, ap, subst, ◌∙◌, arith, length-append}
+use Rattle.std.proofs.Common.{◌≡◌, ℕ, ◌+◌, ◌<◌, List, [], ◌∷◌, ◌++◌, length, Option, Result, Ok, Err, refl, ap, subst, ◌∙◌, arith}
 use Rattle.std.specs.Prelude.{sum_by}
 use Rattle.uri_map.specs.declared.peer.Peer.{Peer}
-use Rattle.ask_model.specs.Requests.{CoapRequest, Sense, request_message}
+use Rattle.ask_model.specs.Requests.{Sense, request_message}
 use Rattle.ask_model.specs.Sizes.{capped}
 use Rattle.ask_model.specs.Views.{Mapping}
 use Rattle.journal_book.specs.Entries.{Asks, Written, entry_size}
@@ -11,17 +11,16 @@ use Rattle.message_layer.specs.Sending.{waits, IsNext}
 use Rattle.message_layer.specs.Prepared.{at_once as next_list, IsUnnumberedCon}
 use Rattle.message_layer.specs.declared.prepared.FirstSending.{FirstSending}
 use Rattle.message_layer.specs.declared.state.Waiting.{Waiting}
-use Rattle.history_laws.specs.Readings.{Noted, entries}
+use Rattle.history_laws.specs.Readings.{entries}
 use Rattle.history_laws.proofs.CallerLemmas.{entries-length, issued-few}
 use Rattle.exchange_model.specs.declared.kept.Exchange.{Exchange}
+use Rattle.exchange_model.specs.declared.kept.Reader.{Reader}
 use Rattle.exchange_model.specs.State.{State, link_of}
-use Rattle.exchange_model.specs.Room.{fits, asks_waiting, seals_left}
-use Rattle.exchange_model.proofs.CallerLemmas.{fits-parts}
 use Rattle.exchange_core.specs.declared.fault.AskFault.{AskFault}
 use Rattle.exchange_core.specs.declared.fault.AskFault.TheVariants as Ask
 use Rattle.exchange_core.specs.declared.state.State.{State as RustState}
 use Rattle.exchange_core.specs.Answering.{Given}
-use Rattle.exchange_core.specs.Beginning.{IsTextFor, asked_method, exchange_by, with_exchange, Leaves, MayBegin, IsEntered, IsBegunBy}
+use Rattle.exchange_core.specs.Beginning.{IsTextFor, asked_method, exchange_by, reader_by, with_exchange, Leaves, MayBegin, IsEntered, IsBegunBy}
 use Rattle.exchange_core.specs.Sending.{sent_first}
 use Rattle.exchange_core.specs.Drafts.{DraftValue, Drafts}
 use Rattle.exchange_core.specs.Sound.{SoundState, IsSound}
@@ -42,16 +41,6 @@ issued-below S bytes room gs s =
     let begins = r.few.0 in
     omega (arith, few, is, len, same, left, begins)
 
--- there are places for what fits
-pub room-left : (t : ℕ) (d : DraftValue) (S : State) (bytes room : ℕ) (gs : List Given) → SoundState S bytes room gs
-    → fits (with_draft t d S) ≡ true → length d.entries ≤ room
-room-left t d S bytes room gs s fit =
-    let few : length (S.entries ++ d.entries) + length d.conns + asks_waiting (with_draft t d S) + seals_left S.sealed ≤ 65536 =
-    (fits-parts (with_draft t d S) fit).0 in
-    let len = length-append S.entries d.entries in
-    let places = s.places in
-    omega (arith, few, len, places)
-
 -- where nothing but places changes
 sound-same : (S S1 : State) (bytes bytes1 room room1 : ℕ) (gs gs1 : List Given) → SoundState S bytes room gs
     → S1 ≡ S → bytes1 ≡ bytes → room1 ≡ room → gs1 ≡ gs → SoundState S1 bytes1 room1 gs1
@@ -68,26 +57,28 @@ pub same-seen : {R : Type 0} (old new : RustState R) → SeesSame old new → se
 same-seen old new e = core-same (state_of old) (state_of new) (given_in old) (given_in new) (outgoing old) (outgoing new) e.state e.answers e.sends
 
 -- what was entered after places were made
-pub leaves : {R : Type 0} (t : ℕ) (e : Exchange) (w : Waiting) (d : DraftValue) (old mid new : RustState R) → SeesSame old mid
-    → Leaves (with_exchange t e w (with_draft t d (state_of mid))) d mid new
-    → Leaves (with_exchange t e w (with_draft t d (state_of old))) d old new
-leaves t e w d old mid new s l = record {
-  state = l.state ∙ ap (λ (S : State). with_exchange t e w (with_draft t d S)) s.state;
+pub leaves : {R : Type 0} (t : ℕ) (e : Exchange) (r : Reader) (w : Waiting) (d : DraftValue) (old mid new : RustState R) → SeesSame old mid
+    → Leaves (with_exchange t e r w (with_draft t d (state_of mid))) d mid new
+    → Leaves (with_exchange t e r w (with_draft t d (state_of old))) d old new
+leaves t e r w d old mid new s l = record {
+  state = l.state ∙ ap (λ (S : State). with_exchange t e r w (with_draft t d S)) s.state;
   bytes = l.bytes ∙ ap (λ (k : ℕ). capped (k + capped (sum_by entry_size d.entries))) s.bytes;
   room = l.room ∙ s.room;
   answers = l.answers ∙ ap (λ (gs : List Given). gs ++ d.answers) s.answers;
   sends = l.sends ∙ ap (λ (os : List Outgoing). os ++ d.sends) s.sends;
 }
 
-pub entered-by : {R X : Type 0} (r : Result X AskFault) (t : ℕ) (x e : Exchange) (v w : Waiting) (d : DraftValue) (old new : RustState R)
-    → x ≡ e → v ≡ w → IsEntered r t x v d old new → IsEntered r t e w d old new
-entered-by r t x e v w d old new a b i =
-    subst (λ (u : Waiting). IsEntered r t e u d old new) b (subst (λ (y : Exchange). IsEntered r t y v d old new) a i)
+pub entered-by : {R X : Type 0} (r : Result X AskFault) (t : ℕ) (x e : Exchange) (n k : ℕ) (c : ℕ) (v w : Waiting) (d : DraftValue) (old new : RustState R)
+    → x ≡ e → n ≡ k → v ≡ w → IsEntered r t x (reader_by c n) v d old new → IsEntered r t e (reader_by c k) w d old new
+entered-by r t x e n k c v w d old new a num b i =
+    subst (λ (u : Waiting). IsEntered r t e (reader_by c k) u d old new) b
+    (subst (λ (y : Exchange). IsEntered r t y (reader_by c k) v d old new) a
+    (subst (λ (j : ℕ). IsEntered r t x (reader_by c j) v d old new) num i))
 
-pub exchange-is : (t c : ℕ) (token : List ℕ) (p : Peer) (i j : ℕ) (sent : Option FirstSending) (n k : ℕ) (e : Exchange) → i ≡ j → n ≡ k
-    → e ≡ exchange_by t c token p i sent n → e ≡ exchange_by t c token p j sent k
-exchange-is t c token p i j sent n k e a b is =
-    is ∙ ap (λ (x : ℕ). exchange_by t c token p x sent n) a ∙ ap (λ (x : ℕ). exchange_by t c token p j sent x) b
+pub exchange-is : (t : ℕ) (token : List ℕ) (p : Peer) (i j : ℕ) (sent : Option FirstSending) (n k : ℕ) (e : Exchange) → i ≡ j → n ≡ k
+    → e ≡ exchange_by t token p i sent n → e ≡ exchange_by t token p j sent k
+exchange-is t token p i j sent n k e a b is =
+    is ∙ ap (λ (x : ℕ). exchange_by t token p x sent n) a ∙ ap (λ (x : ℕ). exchange_by t token p j sent x) b
 
 pub unnumbered : (s : Sense) (token text : List ℕ) → IsTextFor s token text → IsUnnumberedCon token text
 unnumbered s token text x =
@@ -99,12 +90,15 @@ module _ {R : Type 0} (t word c : ℕ) (m : Mapping) (p : Peer) (token text : Li
     (next : IsNext t (link_of (state_of old).links p).last_mid (next_list (waits token text word) (link_of (state_of old).links p).outstanding) sent)
     (none : d.answers ≡ []) where
   abbrev e : Exchange
-  e = exchange_by t c token p (asked_method m.sense) sent (length old.journal.entries)
+  e = exchange_by t token p (asked_method m.sense) sent (length old.journal.entries)
+
+  abbrev first : Reader
+  first = reader_by c (length old.journal.entries)
 
   abbrev w : Waiting
   w = waits token text word
 
-  pub enters-sound : {X : Type 0} (r : Result X AskFault) → IsEntered r t e w d old new → IsSound new
+  pub enters-sound : {X : Type 0} (r : Result X AskFault) → IsEntered r t e first w d old new → IsSound new
   enters-sound (Ok x) i =
       sound-begun t word c m p token text (state_of old) sent d old.bytes old.journal.room (given_in old) (outgoing old) s b h next none
       (state_of new) new.bytes new.journal.room (given_in new) i.0 i.1.state i.1.bytes i.1.room i.1.answers
@@ -115,13 +109,13 @@ module _ {R : Type 0} (t word c : ℕ) (m : Mapping) (p : Peer) (token text : Li
   enters-sound (Err Ask.Unknown) i = absurd i
   enters-sound (Err Ask.Pending) i = absurd i
 
-  pub enters-ok : {X : Type 0} (x : X) → IsEntered (Ok x) t e w d old new
+  pub enters-ok : {X : Type 0} (x : X) → IsEntered (Ok x) t e first w d old new
       → IsBegunBy (Ok (length old.journal.entries)) t word c m (seen old) (seen new)
   enters-ok x i =
       begun-so t word c m p token text (state_of old) sent d old.bytes old.journal.room (given_in old) (outgoing old) s b h next none
       (state_of new) (given_in new) (outgoing new) i.0 i.1.state i.1.answers i.1.sends
 
-  pub enters-err : (X : Type 0) (f : AskFault) → IsEntered {X = X} (Err f) t e w d old new
+  pub enters-err : (X : Type 0) (f : AskFault) → IsEntered {X = X} (Err f) t e first w d old new
       → IsBegunBy (Err f) t word c m (seen old) (seen new)
   enters-err X Ask.Sealed i =
       sealed-so t word c m p token text (state_of old) sent d old.bytes old.journal.room (given_in old) (outgoing old) s b h next none

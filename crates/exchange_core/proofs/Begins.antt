@@ -1,7 +1,6 @@
 -- An ask that begins an exchange leaves what the step says.
 use Rattle.std.proofs.Common.{◌≡◌, ℕ, ◌+◌, ◌≤◌, ◌<◌, Bool, true, false, cond, List, [], ◌∷◌, ◌++◌, length, Option, Some, None, Ok, Err, refl, sym, ap, subst, ◌∙◌, arith, append-nil}
 use Rattle.std.specs.Prelude.{option_map, sum_by, ◌&&◌}
-use Rattle.std.proofs.lemmas.List.{length-map}
 use Rattle.std.proofs.lemmas.Bool.{lt-ltb}
 use Rattle.coap_codec.specs.Spelling.{Spells}
 use Rattle.uri_map.specs.declared.peer.Peer.{Peer}
@@ -9,7 +8,7 @@ use Rattle.ask_model.specs.Requests.{CoapRequest, Sense, Requests, Refuses, requ
 use Rattle.ask_model.specs.Views.{Ask, Mapping}
 use Rattle.ask_model.specs.Sizes.{capped}
 use Rattle.ask_model.specs.Datagrams.{asked_peer}
-use Rattle.journal_book.specs.Entries.{Deed, Asks, Seals, Written, entry_size}
+use Rattle.journal_book.specs.Entries.{Deed, Asks, Seals, entry_size}
 use Rattle.journal_book.specs.Views.{ask_of}
 use Rattle.message_layer.specs.Sending.{waits, IsNext, HasPlace, mids_in_use, submitted}
 use Rattle.message_layer.specs.Prepared.{at_once as next_list}
@@ -18,10 +17,10 @@ use Rattle.message_layer.specs.declared.prepared.Submission.{Submission}
 use Rattle.message_layer.specs.declared.state.Outstanding.{Outstanding}
 use Rattle.message_layer.specs.declared.state.Waiting.{Waiting}
 use Rattle.message_layer.specs.Values.{LinkState}
-use Rattle.exchange_model.specs.declared.kept.Conn.{Conn}
 use Rattle.exchange_model.specs.declared.kept.Exchange.{Exchange}
+use Rattle.exchange_model.specs.declared.kept.Reader.{Reader}
 use Rattle.exchange_model.specs.State.{PeerLink, State, link_of, with_link}
-use Rattle.exchange_model.specs.Steps.{given_out, seals}
+use Rattle.exchange_model.specs.Steps.{entered, given_out, seals}
 use Rattle.exchange_model.specs.Calls.{Numbers, asked, has_place}
 use Rattle.exchange_model.specs.Keeping.{IsProper, IsNumbered}
 use Rattle.exchange_model.specs.Room.{fits, KeptInRoom}
@@ -29,18 +28,19 @@ use Rattle.exchange_model.specs.Sealing.{asks_in_room}
 use Rattle.exchange_model.specs.Entering.{entered_all, at_once, begin_deeds, begun, begun_exchange, first_deeds, IsDrained}
 use Rattle.exchange_model.proofs.CallerLemmas.{asks-in-room, begins-enter, stays-drained}
 use Rattle.exchange_core.specs.Answering.{Given}
-use Rattle.exchange_core.specs.Beginning.{IsRequest, asked_method, exchange_by, with_exchange, numbers_of, MayBegin, IsBegunBy}
+use Rattle.exchange_core.specs.Beginning.{IsRequest, asked_method, exchange_by, reader_by, with_exchange, numbers_of, MayBegin, IsBegunBy}
 use Rattle.exchange_core.specs.Sending.{IsTimed, sent_first}
 use Rattle.exchange_core.specs.declared.fault.AskFault.TheVariants as Ask
 use Rattle.exchange_core.specs.Calls.{IsSpelled}
-use Rattle.exchange_core.specs.Drafts.{DraftValue, Drafts, conns_from, empty_draft, draft_with}
+use Rattle.exchange_core.specs.Joining.{joined_for}
+use Rattle.exchange_core.specs.Drafts.{DraftValue, Drafts, empty_draft, draft_with}
 use Rattle.exchange_core.specs.Sound.{SoundState}
 use Rattle.exchange_core.specs.States.{with_draft, core_of}
 use Rattle.exchange_core.specs.Values.{Outgoing, written, stepped}
 use Rattle.exchange_core.proofs.BeginLinks.{LinkTakes}
-use Rattle.exchange_core.proofs.Drafting.{drafts-none, drafts-alone}
-use Rattle.exchange_core.proofs.Sounding.{first-of, second-of, sound-more, sound-seal}
-use Rattle.exchange_core.proofs.Stepping.{with-draft, entered-entries, committed}
+use Rattle.exchange_core.proofs.Drafting.{answers-none, drafts-none, drafts-alone}
+use Rattle.exchange_core.proofs.Sounding.{first-of, second-of, sound-drafted, sound-seal}
+use Rattle.exchange_core.proofs.Stepping.{with-draft, committed}
 
 -- what goes out at once
 
@@ -99,11 +99,11 @@ room-taken b c x y z e f = rw (e, f) refl
 room-sealed : (b c : Bool) (x y z : State) → b ≡ false → c ≡ false → cond b x (cond c y z) ≡ z
 room-sealed b c x y z e f = rw (e, f) refl
 
--- as many connections are open as before
-conns-stay : (n : ℕ) (c : ℕ) (a : Ask) (p : Peer) (sent : Option FirstSending) (cs : List Conn)
-    → length (conns_from n (Asks c a ∷ sent_first p sent) cs) ≡ length cs
-conns-stay n c a p None cs = length-map cs _
-conns-stay n c a p (Some x) cs = length-map cs _
+-- what goes out leaves those who wait
+first-readers : (t : ℕ) (p : Peer) (last : Option ℕ) (v : Option Waiting) (S : State)
+    → (entered_all t (first_deeds t p last v) S).readers ≡ S.readers
+first-readers t p last None S = refl
+first-readers t p last (Some x) S = refl
 
 module _ (t word c : ℕ) (m : Mapping) (p : Peer) (token text : List ℕ) (S : State) where
   abbrev a : Ask
@@ -124,7 +124,7 @@ module _ (t word c : ℕ) (m : Mapping) (p : Peer) (token text : List ℕ) (S : 
       begins-enter t c a q n S
       (record { kept = s.kept.kept; unsealed = b.unsealed; later = b.later }) s.drained
       (record { spelled = b.spelled.spelled; token_size = b.worded.token_size; number = b.worded.number })
-      b.spelled.is (subst (λ (z : Peer). has_place t z S ≡ true) (sym same) b.place)
+      b.spelled.is (ap (λ (z : Sense). joined_for z S) (sym b.spelled.is) ∙ b.alone) (subst (λ (z : Peer). has_place t z S ≡ true) (sym same) b.place)
 
   in-room : (bytes room : ℕ) (gs : List Given) → SoundState S bytes room gs
       → MayBegin t word c m p token text S → KeptInRoom (asks_in_room t c a n S)
@@ -132,32 +132,35 @@ module _ (t word c : ℕ) (m : Mapping) (p : Peer) (token text : List ℕ) (S : 
       let q = b.spelled.request in
       let numbered : IsNumbered q n S = record { spelled = b.spelled.spelled; token_size = b.worded.token_size; number = b.worded.number } in
       asks-in-room t c a n S s.kept b.later b.idle (subst IsProper (sym b.spelled.is) tt)
-      (λ r e h. subst (λ (z : CoapRequest). IsNumbered z n S) (request-of q r (sym b.spelled.is ∙ e)) numbered)
+      (λ r e j h. subst (λ (z : CoapRequest). IsNumbered z n S) (request-of q r (sym b.spelled.is ∙ e)) numbered)
       (record { request = b.small; message = b.spelled.short })
 
   spelled-so : MayBegin t word c m p token text S → IsSpelled t a n S
-  spelled-so b = λ r e h. subst (λ (z : CoapRequest). Spells (request_message z 0 token) text) (request-of b.spelled.request r (sym b.spelled.is ∙ e)) b.spelled.spelled
+  spelled-so b = λ r e j h. subst (λ (z : CoapRequest). Spells (request_message z 0 token) text) (request-of b.spelled.request r (sym b.spelled.is ∙ e)) b.spelled.spelled
 
   module _ (sent : Option FirstSending) (d : DraftValue) where
     abbrev ds : List Deed
     ds = Asks c a ∷ sent_first p sent
 
     abbrev S1 : State
-    S1 = with_exchange t (exchange_by t c token p (asked_method m.sense) sent (length S.entries)) w (with_draft t d S)
+    S1 = with_exchange t (exchange_by t token p (asked_method m.sense) sent (length S.entries)) (reader_by c (length S.entries)) w (with_draft t d S)
 
     begun-at : (q : CoapRequest) → Drafts t S (Asks c a ∷ sent_first q.peer sent) d
         → IsNext t (link_of S.links q.peer).last_mid (next_list w (link_of S.links q.peer).outstanding) sent
-        → with_exchange t (exchange_by t c token q.peer q.method sent (length S.entries)) w (with_draft t d S) ≡ begun t c a q n S
+        → with_exchange t (exchange_by t token q.peer q.method sent (length S.entries)) (reader_by c (length S.entries)) w (with_draft t d S) ≡ begun t c a q n S
     begun-at q h next =
         let s = link_of S.links q.peer in
         let both = goes-at-once t (length S.entries) q.peer s.last_mid w s.outstanding sent next in
         let links = with_link q.peer (given_out (submitted t w s)) S.links in
         let draft : with_draft t d S ≡ entered_all t (begin_deeds t c a q n S) S =
         with-draft t S (Asks c a) (sent_first q.peer sent) d h ∙ ap (λ (xs : List Deed). entered_all t (Asks c a ∷ xs) S) both.0 in
-        let e = exchange_by t c token q.peer q.method sent (length S.entries) in
-        let ex : e ≡ begun_exchange t c q n S = ap (λ (v : Option ℕ). record e { sending = v }) both.1 in
-        ap (λ (U : State). record U { issued = S.issued + 1; exchanges = S.exchanges ++ e ∷ []; links = links }) draft
-        ∙ ap (λ (x : Exchange). record (entered_all t (begin_deeds t c a q n S) S) { issued = S.issued + 1; exchanges = S.exchanges ++ x ∷ []; links = links }) ex
+        let e = exchange_by t token q.peer q.method sent (length S.entries) in
+        let r = reader_by c (length S.entries) in
+        let rs : (entered_all t (begin_deeds t c a q n S) S).readers ≡ S.readers = first-readers t q.peer s.last_mid (at_once w s.outstanding) (entered t (Asks c a) S) in
+        let ex : e ≡ begun_exchange t q n S = ap (λ (v : Option ℕ). record e { sending = v }) both.1 in
+        ap (λ (U : State). record U { issued = S.issued + 1; exchanges = S.exchanges ++ e ∷ []; readers = U.readers ++ r ∷ []; links = links }) draft
+        ∙ ap (λ (qs : List Reader). record (entered_all t (begin_deeds t c a q n S) S) { issued = S.issued + 1; exchanges = S.exchanges ++ e ∷ []; readers = qs ++ r ∷ []; links = links }) rs
+        ∙ ap (λ (x : Exchange). record (entered_all t (begin_deeds t c a q n S) S) { issued = S.issued + 1; exchanges = S.exchanges ++ x ∷ []; readers = S.readers ++ r ∷ []; links = links }) ex
 
     begun-is : (b : MayBegin t word c m p token text S) → Drafts t S ds d
         → IsNext t (link_of S.links p).last_mid (next_list w (link_of S.links p).outstanding) sent
@@ -168,10 +171,10 @@ module _ (t word c : ℕ) (m : Mapping) (p : Peer) (token text : List ℕ) (S : 
         let method : q.method ≡ asked_method m.sense = sym (ap asked_method b.spelled.is) in
         subst (λ (z : Peer). Drafts t S (Asks c a ∷ sent_first z sent) d
         → IsNext t (link_of S.links z).last_mid (next_list w (link_of S.links z).outstanding) sent
-        → with_exchange t (exchange_by t c token z (asked_method m.sense) sent (length S.entries)) w (with_draft t d S) ≡ begun t c a q n S)
+        → with_exchange t (exchange_by t token z (asked_method m.sense) sent (length S.entries)) (reader_by c (length S.entries)) w (with_draft t d S) ≡ begun t c a q n S)
         same (subst (λ (k : ℕ). Drafts t S (Asks c a ∷ sent_first q.peer sent) d
         → IsNext t (link_of S.links q.peer).last_mid (next_list w (link_of S.links q.peer).outstanding) sent
-        → with_exchange t (exchange_by t c token q.peer k sent (length S.entries)) w (with_draft t d S) ≡ begun t c a q n S)
+        → with_exchange t (exchange_by t token q.peer k sent (length S.entries)) (reader_by c (length S.entries)) w (with_draft t d S) ≡ begun t c a q n S)
         method (begun-at q)) h next
 
     module _ (bytes room : ℕ) (gs : List Given) (os : List Outgoing) (s : SoundState S bytes room gs)
@@ -195,18 +198,16 @@ module _ (t word c : ℕ) (m : Mapping) (p : Peer) (token text : List ℕ) (S : 
           first-of (fits (asked t c a n S)) (asked t c a n S) (seals t S) (fit-same ∙ fit)
           (second-of S.sealed S (cond (fits (asked t c a n S)) (asked t c a n S) (seals t S)) b.unsealed rests) in
           let drained : IsDrained S1 = subst IsDrained (sym (begun-is b h next)) ((stays-drained t S s.drained).0 c a b.spelled.request n) in
-          let few : length d.conns ≡ length S.conns = ap (λ (cs : List Conn). length cs) h.conns ∙ conns-stay (length S.entries) c a p sent S.conns in
-          let most = s.few in
           subst (λ (U : State). SoundState U bytes1 room1 gs1) (sym at)
-          (sound-more S S1 bytes bytes1 room room1 gs gs1 [] d.entries s (subst KeptInRoom (sym is) kept) drained b.early
-          (omega (arith, few, most)) refl bs rs (gave ∙ ap (λ (xs : List Given). gs ++ xs) none) tt)
+          (sound-drafted t S S1 bytes bytes1 room room1 gs gs1 ds d s (answers-none t S ds d h none) refl b.early refl
+          (subst KeptInRoom (sym is) kept) drained bs rs gave)
 
       pub begun-so : (S2 : State) (gs1 : List Given) (os1 : List Outgoing) → fits (with_draft t d S) ≡ true → S2 ≡ S1
           → gs1 ≡ gs ++ d.answers → os1 ≡ os ++ d.sends
           → IsBegunBy (Ok (length S.entries)) t word c m (core_of S gs os) (core_of S2 gs1 os1)
       begun-so S2 gs1 os1 fit at gave sends =
           let whole : core_of S1 gs1 os1 ≡ stepped S1 (core_of S gs os) =
-          committed t S S1 ds d gs gs1 os os1 h (ap (λ (es : List Written). S.entries ++ es) h.entries ∙ sym (entered-entries t ds S)) gave sends in
+          committed t S S1 ds d gs gs1 os os1 h refl gave sends in
           let room-is : asks_in_room t c a n S ≡ S1 =
           room-taken S.sealed (fits (asked t c a n S)) S (asked t c a n S) (seals t S) b.unsealed (fit-same ∙ fit) ∙ sym is in
           subst (λ (U : State). IsBegunBy (Ok (length S.entries)) t word c m (core_of S gs os) (core_of U gs1 os1)) (sym at) (
@@ -232,9 +233,9 @@ module _ (t word c : ℕ) (m : Mapping) (p : Peer) (token text : List ℕ) (S : 
           → gs1 ≡ gs → os1 ≡ os
           → IsBegunBy (Err Ask.Sealed) t word c m (core_of S gs os) (core_of S2 gs1 os1)
       sealed-so S2 gs1 os1 fit at gave sends =
-          let d0 = draft_with (written t Seals) (empty_draft (length S.entries) S.conns) in
+          let d0 = draft_with (written t Seals) (empty_draft (length S.entries)) in
           let whole : core_of (seals t S) gs os ≡ stepped (seals t S) (core_of S gs os) =
-          committed t S (seals t S) (Seals ∷ []) d0 gs gs os os (drafts-alone t S [] Seals _ tt (drafts-none t S)) refl
+          committed t S (seals t S) (Seals ∷ []) d0 gs gs os os (drafts-alone t S [] Seals _ tt tt (drafts-none t S)) refl
           (sym (append-nil gs)) (sym (append-nil os)) in
           let room-is : asks_in_room t c a n S ≡ seals t S =
           room-sealed S.sealed (fits (asked t c a n S)) S (asked t c a n S) (seals t S) b.unsealed (fit-same ∙ fit) in

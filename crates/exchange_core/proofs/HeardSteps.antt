@@ -1,5 +1,5 @@
 -- A step that hears a datagram.
-use Rattle.std.proofs.Common.{◌≡◌, ℕ, ◌+◌, ◌<◌, ◌≤◌, ◌^◌, Bool, true, false, cond, List, [], ◌∷◌, ◌++◌, length, refl, sym, ap, subst, ◌∙◌, arith, length-append, append-nil}
+use Rattle.std.proofs.Common.{◌≡◌, ℕ, ◌+◌, ◌<◌, ◌≤◌, ◌^◌, Bool, true, false, cond, List, [], ◌∷◌, ◌++◌, length, refl, sym, ap, subst, ◌∙◌, append-nil}
 use Rattle.std.specs.Prelude.{is_some, sum_by}
 use Rattle.std.specs.List.{AllByRecursion}
 use Rattle.uri_map.specs.declared.peer.Peer.{Peer}
@@ -15,21 +15,19 @@ use Rattle.exchange_model.specs.Calls.{heard}
 use Rattle.exchange_model.specs.Room.{fits, KeptInRoom}
 use Rattle.exchange_model.specs.Sealing.{hears_in_room}
 use Rattle.exchange_model.specs.Entering.{entered_all, IsDrained, Comes}
-use Rattle.exchange_model.proofs.CallerLemmas.{dropped-stays, hears-in-room, stays-drained, within-limits}
-use Rattle.exchange_core.specs.Answering.{Given, IsGiven}
-use Rattle.exchange_core.specs.Drafts.{DraftValue, Drafts, empty_draft}
+use Rattle.exchange_model.proofs.CallerLemmas.{dropped-stays, hears-in-room, stays-drained}
+use Rattle.exchange_core.specs.Answering.{Given}
+use Rattle.exchange_core.specs.Drafts.{DraftValue, IsDrafted, empty_draft}
 use Rattle.endpoint_table.specs.Tables.{heeds}
 use Rattle.exchange_core.specs.Hearing.{hearing_deeds, exchanges_after, over_in, with_heard}
 use Rattle.exchange_core.specs.Sound.{SoundState}
 use Rattle.exchange_core.specs.States.{with_draft, core_of}
 use Rattle.exchange_core.specs.Values.{Outgoing, stepped}
 use Rattle.exchange_core.proofs.Drafting.{drafts-none, drafts-alone}
-use Rattle.exchange_core.proofs.Heard.{conns-few, hearing-few}
 use Rattle.exchange_core.proofs.Heeds.{HeardSo, heard-so}
-use Rattle.exchange_core.proofs.Sounding.{sound-more, sound-seal}
+use Rattle.exchange_core.proofs.Sounding.{sound-drafted, sound-seal}
 use Rattle.exchange_core.proofs.Stepping.{with-draft, committed, stepped-same}
 use Rattle.exchange_model.specs.State.{with_link}
-use Rattle.exchange_model.specs.declared.kept.Conn.{Conn}
 
 -- what is lost leaves all as it is
 
@@ -60,7 +58,7 @@ module _ (t : ℕ) (p : Peer) (d : List ℕ) (S : State) (link : LinkValue) (h :
     (early : t ≤ 2 ^ 62)
     (small : AllByRecursion (λ (b : ℕ). b < 256) d)
     (i : IsHearing t d link h) (at : link.state ≡ link_of S.links p)
-    (dv : DraftValue) (drafts : Drafts t S (hearing_deeds p d h.heeding (told h.up) S) dv) where
+    (dv : DraftValue) (drafted : IsDrafted t S (hearing_deeds p d h.heeding (told h.up) S) dv) where
   comes : Comes t p d S
   comes = record {
     may = record { kept = s.kept.kept; unsealed = unsealed; later = later };
@@ -73,12 +71,12 @@ module _ (t : ℕ) (p : Peer) (d : List ℕ) (S : State) (link : LinkValue) (h :
   so = heard-so t p d S link h comes i at
 
   drawn : with_draft t dv S ≡ entered_all t (hearing_deeds p d h.heeding (told h.up) S) S
-  drawn = with-draft t S (Hears p d) _ dv drafts
+  drawn = with-draft t S (Hears p d) _ dv drafted.drafts
 
   pub new-is : with_heard t p h.heeding dv S ≡ heard t p d S
   new-is =
       ap (λ (U : State). record U {
-        exchanges = exchanges_after (length S.entries) h.heeding S.exchanges;
+        exchanges = exchanges_after S.entries h.heeding S.exchanges;
         links = with_link p (heeds t h.heeding (over_in h.heeding) (link_of S.links p)) S.links;
       }) drawn
       ∙ sym (so.is ∙ so.so)
@@ -117,47 +115,30 @@ module _ (t : ℕ) (p : Peer) (d : List ℕ) (S : State) (link : LinkValue) (h :
       → core_of S1 gs1 os1 ≡ stepped (hears_in_room t p d S) (core_of S gs os)
   seen-sealed S1 gs1 os os1 full is same sent =
       committed t S S1 (Seals ∷ []) _ gs gs1 os os1
-      (drafts-alone t S [] Seals (empty_draft (length S.entries) S.conns) tt (drafts-none t S))
+      (drafts-alone t S [] Seals (empty_draft (length S.entries)) tt tt (drafts-none t S))
       (ap (λ (U : State). U.entries) is) (same ∙ sym (append-nil gs)) (sent ∙ sym (append-nil os))
       ∙ ap (λ (U : State). stepped U (core_of S gs os)) (is ∙ sym (out-of-room full))
 
-  pub places-left : fits (with_draft t dv S) ≡ true → length dv.entries ≤ room
-  places-left fit =
-      let k = subst KeptInRoom (in-room fit) kept in
-      let limits = (within-limits (with_heard t p h.heeding dv S) k).0 in
-      let places = s.places in
-      let len = length-append S.entries dv.entries in
-      omega (arith, limits, places, len)
-
   pub sound-heard : (S1 : State) (bytes1 room1 : ℕ) (gs1 : List Given) → fits (with_draft t dv S)
       ≡ true
-      → AllByRecursion (IsGiven (S.entries ++ dv.entries)) dv.answers
       → S1 ≡ with_heard t p h.heeding dv S
       → bytes1 ≡ capped (bytes + capped (sum_by entry_size dv.entries))
       → room1 + length dv.entries ≡ room → gs1 ≡ gs ++ dv.answers
       → SoundState S1 bytes1 room1 gs1
-  sound-heard S1 bytes1 room1 gs1 fit given is bs rs gave =
+  sound-heard S1 bytes1 room1 gs1 fit is bs rs gave =
       let U = with_heard t p h.heeding dv S in
-      let few : length dv.conns ≤ length S.conns =
-      let c = drafts.conns in
-      let f = conns-few (hearing_deeds p d h.heeding (told h.up) S) (length S.entries) S.conns
-      (hearing-few p d h.heeding (told h.up) S) in
-      subst (λ (cs : List Conn). length cs ≤ length S.conns) (sym c) f in
       let drained : IsDrained U =
       subst IsDrained (sym so.is ∙ sym new-is)
       ((stays-drained t S s.drained).1 p d h.heeding.mid h.heeding.token h.heeding.verdict
       so.grounds) in
-      let less = s.few in
       subst (λ (V : State). SoundState V bytes1 room1 gs1) (sym is)
-      (sound-more S U bytes bytes1 room room1 gs gs1 dv.answers dv.entries s
-      (subst KeptInRoom (in-room fit) kept) drained early
-      (omega (arith, few, less)) refl bs rs gave given)
+      (sound-drafted t S U bytes bytes1 room room1 gs gs1 _ dv s drafted refl early refl
+      (subst KeptInRoom (in-room fit) kept) drained bs rs gave)
 
   pub seen-heard : (S1 : State) (gs1 : List Given) (os os1 : List Outgoing)
       → fits (with_draft t dv S) ≡ true
       → S1 ≡ with_heard t p h.heeding dv S → gs1 ≡ gs ++ dv.answers → os1 ≡ os ++ dv.sends
       → core_of S1 gs1 os1 ≡ stepped (hears_in_room t p d S) (core_of S gs os)
   seen-heard S1 gs1 os os1 fit is gave sent =
-      committed t S S1 _ dv gs gs1 os os1 drafts
-      (ap (λ (U : State). U.entries) is ∙ ap (λ (U : State). U.entries) drawn) gave sent
+      committed t S S1 _ dv gs gs1 os os1 drafted.drafts (ap (λ (U : State). U.entries) is) gave sent
       ∙ ap (λ (U : State). stepped U (core_of S gs os)) (is ∙ sym (in-room fit))

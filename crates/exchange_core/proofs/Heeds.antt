@@ -1,6 +1,6 @@
 -- What is drafted and changed for a datagram is what the step leaves.
 use Rattle.std.proofs.Common.{◌≡◌, ℕ, suc, ◌+◌, ◌<◌, true, false, List, [], ◌∷◌, ◌++◌, length, map, get_or, Option, Some, None, Result, Ok, Err, refl, sym, ap, subst, ◌∙◌, append_assoc}
-use Rattle.std.specs.Prelude.{filter}
+use Rattle.std.specs.Prelude.{filter, option_to_list}
 use Rattle.std.specs.List.{AllByRecursion}
 use Rattle.coap_codec.specs.Spelling.{Content, Spells}
 use Rattle.coap_codec.specs.Reading.{message_at}
@@ -18,17 +18,18 @@ use Rattle.message_layer.specs.declared.verdict.News.{News}
 use Rattle.message_layer.specs.declared.verdict.News.TheVariants as N
 use Rattle.message_layer.specs.declared.verdict.Verdict.{Verdict}
 use Rattle.history_links.specs.Steps.{ended_token}
-use Rattle.exchange_model.specs.declared.kept.Conn.{Conn}
 use Rattle.exchange_model.specs.declared.kept.Exchange.{Exchange}
+use Rattle.exchange_model.specs.declared.kept.Reader.{Reader}
 use Rattle.exchange_model.specs.State.{State, link_of, with_link}
-use Rattle.exchange_model.specs.Steps.{is_other}
-use Rattle.exchange_model.specs.Calls.{ended_in, method_in, grounds_by, heard}
-use Rattle.exchange_model.specs.Entering.{entered_all, first_deeds, in_turn, going_as, sent_as, told_if, confirm, heeded, garbled, IsMid, Comes}
+use Rattle.exchange_model.specs.Steps.{is_other, ended_in, left_by}
+use Rattle.exchange_model.specs.Calls.{method_in, grounds_by, heard, told_for}
+use Rattle.exchange_model.specs.Entering.{entered_all, first_deeds, in_turn, going_as, sent_as, answer_of, confirm, heeded, garbled, IsMid, Comes}
 use Rattle.exchange_model.proofs.CallerLemmas.{garbled-enters, is-bytes, message-enters}
 use Rattle.endpoint_table.specs.Tables.{heeds}
 use Rattle.exchange_core.specs.Hearing.{found_in, told_by, note_next, over_in, link_deeds, hearing_deeds, exchanges_after, first_number, hearing_state}
+use Rattle.exchange_core.specs.Ending.{deed_of}
 use Rattle.exchange_core.specs.Sending.{sent_first}
-use Rattle.exchange_core.proofs.Heard.{told-same, next-deeds, next-noted}
+use Rattle.exchange_core.proofs.Heard.{TellsSo, told-same, next-deeds, next-noted}
 
 -- what the link and the tables say is what the step says
 
@@ -43,10 +44,11 @@ module _ (t : ℕ) (p : Peer) (d : List ℕ) (S : State) (link : LinkValue) (x :
   n = length S.entries
 
   pub heeded-so : (told : Told) (g : Grounds) → MayHeed t link x → link.state ≡ link_of S.links p
-      → told_by ended (found_in n ended told) S.conns ≡ told_if g ended S.conns
+      → TellsSo (told_by ended (found_in n ended told) S.readers) ended g S.readers
       → heeded t p d x.mid x.token x.verdict g S ≡ hearing_state t p d x told S
   heeded-so told g h at same =
       let s = link_of S.links p in
+      let tellings = map answer_of (told_for ended g S.readers) in
       let next : sent_first p x.next ≡ first_deeds t p s.last_mid
       (in_turn x.verdict.ends s.waiting) =
       next-deeds t p link x h ∙ ap (λ (u : LinkState). first_deeds t p u.last_mid
@@ -57,33 +59,31 @@ module _ (t : ℕ) (p : Peer) (d : List ℕ) (S : State) (link : LinkValue) (x :
       (going_as k (in_turn x.verdict.ends u.waiting)) es) at in
       let deeds : hearing_deeds p d x told S
       ≡ Hears p d ∷ (map (confirm p) (replies x.mid x.verdict.reply)
-      ++ (first_deeds t p s.last_mid (in_turn x.verdict.ends s.waiting) ++ told_if g ended
-      S.conns)) =
+      ++ (first_deeds t p s.last_mid (in_turn x.verdict.ends s.waiting) ++ tellings)) =
       ap (λ (ds : List Deed). link_deeds p d x ++ ds) same
       ∙ (ap (λ (ds : List Deed). Hears p d ∷ ds)
       (append_assoc (map (confirm p) (listed x.reply)) (sent_first p x.next)
-      (told_if g ended S.conns))
+      tellings)
       ∙ (ap (λ (bs : List (List ℕ)). Hears p d ∷
-      (map (confirm p) bs ++ (sent_first p x.next ++ told_if g ended S.conns))) h.reply
+      (map (confirm p) bs ++ (sent_first p x.next ++ tellings))) h.reply
       ∙ ap (λ (ds : List Deed). Hears p d ∷ (map (confirm p) (replies x.mid x.verdict.reply) ++
-      (ds ++ told_if g ended S.conns))) next)) in
+      (ds ++ tellings))) next)) in
       let number : first_number n x ≡ n + 1 + length (replies x.mid x.verdict.reply) =
       ap (λ (bs : List (List ℕ)). n + 1 + length bs) h.reply in
-      let es = filter (is_other over) S.exchanges in
-      let exchanges : exchanges_after n x S.exchanges
+      let es = left_by S.entries (option_to_list ended) (filter (is_other over) S.exchanges) in
+      let exchanges : exchanges_after S.entries x S.exchanges
       ≡ sent_as (going_as (n + 1 + length (replies x.mid x.verdict.reply))
       (in_turn x.verdict.ends s.waiting)) es =
       ap (λ (k : ℕ). note_next k x.next es) number
       ∙ noted (n + 1 + length (replies x.mid x.verdict.reply)) es in
       sym (ap (λ (ds : List Deed). record (entered_all t ds S) {
-        exchanges = exchanges_after n x S.exchanges;
+        exchanges = exchanges_after S.entries x S.exchanges;
         links = with_link p
             (heeds t x over s) S.links;
       }) deeds
       ∙ ap (λ (fs : List Exchange). record (entered_all t
       (Hears p d ∷ (map (confirm p) (replies x.mid x.verdict.reply)
-      ++ (first_deeds t p s.last_mid (in_turn x.verdict.ends s.waiting) ++ told_if g ended
-      S.conns))) S) { exchanges = fs; links = with_link p (heeds t x over s) S.links }) exchanges)
+      ++ (first_deeds t p s.last_mid (in_turn x.verdict.ends s.waiting) ++ tellings))) S) { exchanges = fs; links = with_link p (heeds t x over s) S.links }) exchanges)
 
 not-lost : (v : News) → is_lost v ≡ false → v ≡ N.Lost → ⊥
 not-lost v e f = true-false (sym (ap is_lost f) ∙ e)
@@ -117,11 +117,10 @@ quiet None = refl
 quiet (Some mid) = refl
 
 nothing-told : (v : News) (token : List ℕ) (n : ℕ) (told : Told) (g : Grounds)
-    (es : List Exchange) (cs : List Conn) → v ≡ N.Quiet
-    → told_by (ended_in (ended_token v token) es)
-    (found_in n (ended_in (ended_token v token) es) told) cs
-    ≡ told_if g (ended_in (ended_token v token) es) cs
-nothing-told v token n told g es cs e = rw (e) refl
+    (es : List Exchange) (rs : List Reader) → v ≡ N.Quiet
+    → TellsSo (told_by (ended_in (ended_token v token) es)
+    (found_in n (ended_in (ended_token v token) es) told) rs) (ended_in (ended_token v token) es) g rs
+nothing-told v token n told g es rs e = rw (e) refl
 
 -- The step leaves what was drafted, and the tables after it.
 pub record HeardSo (t : ℕ) (p : Peer) (d : List ℕ) (x : Heeding) (told : Told)
@@ -152,10 +151,10 @@ heard-so t p d S link h come i at = by (message_at d) refl i.is
         let ended : Option Exchange = ended_in over S.exchanges in
         let g : Verdict → List ℕ → Grounds = λ v token.
         grounds_by v.news n (method_in (ended_in (ended_token v.news token) S.exchanges)) m in
-        let same : told_by ended (found_in n ended (told h.up)) S.conns
-        ≡ told_if (g x.verdict x.token) ended S.conns =
-        ap (λ (u : Told). told_by ended (found_in n ended u) S.conns) read.up
-        ∙ told-same n m x.verdict.news x.token S.exchanges S.conns in
+        let same : TellsSo (told_by ended (found_in n ended (told h.up)) S.readers) ended
+        (g x.verdict x.token) S.readers =
+        ap (λ (u : Told). map deed_of (told_by ended (found_in n ended u) S.readers)) read.up
+        ∙ told-same n m x.verdict.news x.token S.exchanges S.readers in
         record {
           grounds = g x.verdict x.token;
           is =
@@ -174,7 +173,7 @@ heard-so t p d S link h come i at = by (message_at d) refl i.is
               ∙ none-is t p d S (reset_for d) x g read.verdict;
           so =
               heeded-so t p d S link x (told h.up) g i.ready at
-              (nothing-told x.verdict.news x.token n (told h.up) g S.exchanges S.conns
+              (nothing-told x.verdict.news x.token n (told h.up) g S.exchanges S.readers
               (ap (λ (v : Verdict). v.news) read.verdict ∙ quiet (reset_for d)));
         }
 

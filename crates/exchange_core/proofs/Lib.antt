@@ -1,6 +1,6 @@
 pub mod CallerLemmas
 mod Drafting
-mod Openings
+mod Readers
 mod Ordered
 mod Waiting
 mod Stepping
@@ -16,7 +16,6 @@ mod Heeds
 mod HeardSteps
 mod BeginSound
 mod TickDue
-mod TickLeads
 mod Endings
 mod TickSince
 mod Sinces
@@ -30,3 +29,5 @@ mod TickSteps
 mod TickNext
 mod Served
 mod Turning
+mod Outrun
+mod Joins

@@ -1,30 +1,35 @@
 -- Connections and exchanges stand in the order of their numbers.
-use Rattle.std.proofs.Common.{◌≡◌, ℕ, zero, suc, inl, inr, Bool, true, false, cond, eqb, Option, Some, None, List, [], ◌∷◌, length, map, get_or, refl, sym, ap, ◌∙◌, arith}
+use Rattle.std.proofs.Common.{◌≡◌, ℕ, ◌<◌, zero, suc, inl, inr, Bool, true, false, cond, eqb, Option, Some, None, List, [], ◌∷◌, length, map, get_or, refl, sym, ap, subst, ◌∙◌, arith}
 use Rattle.std.specs.Prelude.{IfSome, IsTrue, IsFalse, is_some}
 use Rattle.std.proofs.Math.ListN.{set}
 use Rattle.std.proofs.lemmas.Bool.{eqb-true, eq-eqb, false≢true}
 use Rattle.history_laws.specs.Numbering.{token_number}
 use Rattle.history_laws.specs.Readings.{Noted}
-use Rattle.history_laws.proofs.CallerLemmas.{all-more, begun-below, entries-length, rank-below}
+use Rattle.history_laws.specs.Exchanges.{openings, is_going}
+use Rattle.std.specs.List.{AllByRecursion}
+use Rattle.history_laws.proofs.CallerLemmas.{all-more, begun-below, entries-length, openings-rising, rank-below, Rising, rising-filter}
 use Rattle.exchange_model.specs.declared.kept.Conn.{Conn}
 use Rattle.exchange_model.specs.declared.kept.Exchange.{Exchange}
-use Rattle.exchange_model.specs.Calls.{waits_on}
+use Rattle.exchange_model.specs.declared.kept.Reader.{Reader}
 use Rattle.exchange_model.specs.Resting.{HasConn}
 use Rattle.exchange_model.specs.State.{State, pend}
 use Rattle.exchange_model.specs.Reads.{ExchangeIn, Reads}
-use Rattle.exchange_model.specs.Growing.{Rise}
+use Rattle.exchange_model.specs.Growing.{Rise, RiseByAsk}
 use Rattle.exchange_model.specs.Keeping.{Kept}
 use Rattle.exchange_model.specs.Room.{KeptInRoom}
-use Rattle.exchange_model.proofs.CallerLemmas.{conns-rise, OpenIn, open-ones}
-use Rattle.exchange_core.specs.Places.{id_of, has_id}
+use Rattle.exchange_model.proofs.CallerLemmas.{conns-rise, readers-rise, OpenIn, open-ones}
+use Rattle.exchange_core.specs.Places.{IsOrdered, ask_in, has_ask, has_id, id_of}
 use Rattle.exchange_table.specs.Places.{RiseBy, IsNowhere, IsOnlyAt}
-use Rattle.exchange_table.specs.Tables.{IsLatest}
+use Rattle.exchange_table.specs.Tables.{IsLatest, opening_of}
 use Rattle.exchange_table.proofs.CallerLemmas.{map-none, map-only, only-is, rise-map, Tells}
 
 -- what passes a test bears the number
 
 pub id-tells : (c : ℕ) → Tells id_of c (has_id c)
 id-tells c x e = eqb-true x.id c e
+
+pub ask-tells : (k : ℕ) → Tells ask_in k (has_ask k)
+ask-tells k x e = eqb-true x.ask k e
 
 -- the order of a core's tables
 
@@ -34,6 +39,30 @@ by-id (x ∷ xs) r = (r.0, by-id xs r.1)
 
 pub conns-ordered : (S : State) → KeptInRoom S → RiseBy id_of S.conns
 conns-ordered S k = by-id S.conns (conns-rise S k)
+
+by-ask : (rs : List Reader) → RiseByAsk rs → RiseBy ask_in rs
+by-ask [] r = tt
+by-ask (x ∷ xs) r = (r.0, by-ask xs r.1)
+
+pub ordered : (S : State) → KeptInRoom S → IsOrdered S
+ordered S k = record { conns = conns-ordered S k; readers = by-ask S.readers (readers-rise S k) }
+
+-- Exchanges stand in the order of their openings.
+
+by-opening : (es : List Exchange) → Rising (map opening_of es) → RiseBy opening_of es
+by-opening [] r = tt
+by-opening (e ∷ es) r = (above es r.0, by-opening es r.1)
+  where
+    above : (fs : List Exchange) → AllByRecursion (λ (o : ℕ). e.opening < o) (map opening_of fs)
+        → AllByRecursion (λ (f : Exchange). e.opening < f.opening) fs
+    above [] a = tt
+    above (f ∷ fs) a = (a.0, above fs a.1)
+
+pub exchanges-ordered : (S : State) → Kept S → RiseBy opening_of S.exchanges
+exchanges-ordered S k =
+    let l = k.reading in
+    by-opening S.exchanges
+    (subst Rising k.rests.reads.keys (rising-filter (is_going l) (openings l) (openings-rising l)))
 
 -- What is opened next comes after all that is open.
 pub latest : (S : State) (e : Exchange) → Kept S → e.opening ≡ length S.entries → token_number e.token ≡ S.issued → IsLatest e S.exchanges
@@ -76,10 +105,6 @@ pend-nowhere c p cs h = map-none (has_id c) (pend c p) cs (other-pend c p) h
 pub pend-only : (c : ℕ) (p : Option ℕ) (cs : List Conn) (i : ℕ) (d : Conn) → IsOnlyAt (has_id c) cs i → map (pend c p) cs ≡ set cs i (record (get_or cs i d) { pending = p })
 pend-only c p cs i d h = map-only (has_id c) (pend c p) cs i d (other-pend c p) h
     ∙ ap (set cs i) (ap (λ (b : Bool). cond b (record (get_or cs i d) { pending = p }) (get_or cs i d)) (only-is (has_id c) cs i d h))
-
--- who waits on an exchange has its connection's number
-pub not-waiting : (e : Exchange) (x : Conn) → has_id e.conn x ≡ false → waits_on e x ≡ false
-not-waiting e x h = rw h refl
 
 -- the connection with the number, and what it waits for
 

@@ -1,13 +1,11 @@
 -- Asks that are answered in their own step.
-use Rattle.std.proofs.Common.{◌≡◌, ℕ, suc, ◌+◌, ◌≤◌, Bool, true, false, cond, List, [], ◌∷◌, ◌++◌, length, map, slice_get, Some, None, refl, sym, ap, subst, ◌∙◌, arith}
-use Rattle.std.proofs.lemmas.List.{length-map}
+use Rattle.std.proofs.Common.{◌≡◌, ℕ, suc, ◌+◌, Bool, true, false, cond, List, [], ◌∷◌, ◌++◌, length, slice_get, Some, refl, sym, ap, subst, ◌∙◌, arith}
 use Rattle.ask_model.specs.declared.cause.Cause.{Cause}
 use Rattle.ask_model.specs.Views.{Mapping, Ask}
 use Rattle.journal_book.specs.Entries.{Grounds, Fault, Deed, Asks, Answers, Written}
 use Rattle.journal_book.specs.Views.{ask_of}
 use Rattle.exchange_model.specs.State.{State}
 use Rattle.exchange_model.specs.Entering.{refusal_deeds, entered_all}
-use Rattle.exchange_model.specs.State.{pend}
 use Rattle.exchange_model.specs.Steps.{seals}
 use Rattle.exchange_model.specs.Calls.{Numbers, asked}
 use Rattle.exchange_model.specs.Room.{fits}
@@ -15,21 +13,17 @@ use Rattle.exchange_model.specs.Sealing.{in_room, asks_in_room}
 use Rattle.exchange_core.proofs.Stepping.{entered-entries}
 use Rattle.exchange_core.specs.Values.{written}
 use Rattle.exchange_core.specs.Answering.{IsGiven}
-use Rattle.exchange_core.specs.Drafts.{DraftValue, Drafts, empty_draft}
+use Rattle.exchange_core.specs.Drafts.{DraftValue, Drafts, IsDrafted}
 use Rattle.exchange_core.specs.States.{refusal_given}
-use Rattle.exchange_core.proofs.Drafting.{drafts-none}
-
-pub begins-empty : (t n : ℕ) (S : State) (d : DraftValue) → n ≡ length S.entries → d ≡ empty_draft n S.conns → Drafts t S [] d
-begins-empty t n S d len e =
-    subst (λ (x : DraftValue). Drafts t S [] x) (sym (e ∙ ap (λ (k : ℕ). empty_draft k S.conns) len)) (drafts-none t S)
+use Rattle.std.specs.List.{AllByRecursion}
 
 pub refusal-drafted : (t c n : ℕ) (S : State) (m m1 : Mapping) (cause : Cause) (g : Grounds) (d0 d1 d2 : DraftValue)
-    → n ≡ length S.entries → d0 ≡ empty_draft n S.conns → m1 ≡ m → g ≡ Fault cause n
+    → n ≡ length S.entries → m1 ≡ m → g ≡ Fault cause n → Drafts t S [] d0
     → (Drafts t S [] d0 → Drafts t S (Asks c (ask_of m1) ∷ []) d1)
     → (n + 1 ≡ d1.next → Drafts t S (Asks c (ask_of m1) ∷ []) d1 → Drafts t S (Asks c (ask_of m1) ∷ Answers c n g ∷ []) d2)
     → Drafts t S (refusal_deeds c (ask_of m) cause S) d2
-refusal-drafted t c n S m m1 cause g d0 d1 d2 len e same grounds one two =
-    let a = one (begins-empty t n S d0 len e) in
+refusal-drafted t c n S m m1 cause g d0 d1 d2 len same grounds none one two =
+    let a = one none in
     let next : n + 1 ≡ d1.next = let k = a.next in omega (arith, k, len) in
     let b = two next a in
     let whole : Asks c (ask_of m1) ∷ Answers c n g ∷ [] ≡ refusal_deeds c (ask_of m) cause S = rw (same, grounds, len) refl in
@@ -64,7 +58,7 @@ refusal-there (x ∷ xs) u v =
     let e : suc (length xs) + 1 ≡ suc (length xs + 1) = omega arith in
     (ih.0, subst (λ (k : ℕ). slice_get (x ∷ (xs ++ u ∷ v ∷ [])) k ≡ Some v) (sym e) ih.1)
 
-pub refusal-given-stands : (t c : ℕ) (S : State) (m : Mapping) (cause : Cause)
+refusal-given-stands : (t c : ℕ) (S : State) (m : Mapping) (cause : Cause)
     → IsGiven (entered_all t (refusal_deeds c (ask_of m) cause S) S).entries (refusal_given (length S.entries) t c m cause)
 refusal-given-stands t c S m cause =
     let n = length S.entries in
@@ -73,8 +67,14 @@ refusal-given-stands t c S m cause =
     subst (λ (h : List Written). IsGiven h (refusal_given n t c m cause)) (sym es)
     (record { asked = t; ask_stands = there.0; stands = there.1; found = refl; counts = refl })
 
-pub refusal-conns : (t c : ℕ) (S : State) (a : Ask) (cause : Cause) → length (entered_all t (refusal_deeds c a cause S) S).conns ≤ length S.conns
-refusal-conns t c S a cause =
-    let one = length-map S.conns (pend c (Some (length S.entries))) in
-    let two = length-map (map (pend c (Some (length S.entries))) S.conns) (pend c None) in
-    omega (arith, one, two)
+pub refusal-so : (t c : ℕ) (S : State) (m : Mapping) (cause : Cause) (d : DraftValue) → Drafts t S (refusal_deeds c (ask_of m) cause S) d
+    → d.answers ≡ refusal_given (length S.entries) t c m cause ∷ []
+    → IsDrafted t S (refusal_deeds c (ask_of m) cause S) d
+refusal-so t c S m cause d h answers =
+    let ds = refusal_deeds c (ask_of m) cause S in
+    let es : (entered_all t ds S).entries ≡ S.entries ++ d.entries = entered-entries t ds S ∙ ap (λ (ws : List Written). S.entries ++ ws) (sym h.entries) in
+    record {
+      drafts = h;
+      given = subst (AllByRecursion (IsGiven (S.entries ++ d.entries))) (sym answers)
+          (subst (λ (ws : List Written). IsGiven ws (refusal_given (length S.entries) t c m cause)) es (refusal-given-stands t c S m cause), tt);
+    }

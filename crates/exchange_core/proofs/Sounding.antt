@@ -6,7 +6,7 @@ use Rattle.std.specs.Prelude.{not}
 use Rattle.std.proofs.Common.{eqb}
 use Rattle.std.proofs.lemmas.List.Sums.{sum_by-append, length-filter, count_by-le-length}
 use Rattle.ask_model.specs.Sizes.{capped}
-use Rattle.journal_book.specs.Entries.{Deed, Opens, Asks, Sends, Hears, Passes, Answers, Shuts, Seals, Written, entry_size}
+use Rattle.journal_book.specs.Entries.{Deed, Opens, Written, entry_size}
 use Rattle.history_laws.specs.Readings.{Noted, entries}
 use Rattle.history_laws.proofs.CallerLemmas.{entries-length}
 use Rattle.exchange_model.specs.declared.kept.Conn.{Conn}
@@ -18,15 +18,16 @@ use Rattle.exchange_model.specs.Resting.{HasConn}
 use Rattle.exchange_model.specs.Steps.{opens, shuts, seals}
 use Rattle.exchange_model.specs.Room.{fits}
 use Rattle.exchange_model.specs.declared.kept.Exchange.{Exchange}
+use Rattle.exchange_model.specs.declared.kept.Reader.{Reader}
 use Rattle.exchange_model.specs.State.{PeerLink}
-use Rattle.exchange_model.specs.Entering.{entered_all}
-use Rattle.exchange_core.specs.Drafts.{DraftValue, Drafts}
+use Rattle.exchange_model.specs.Growing.{conns_with}
+use Rattle.exchange_core.specs.Drafts.{DraftValue, IsDrafted}
 use Rattle.exchange_core.specs.States.{with_draft}
 use Rattle.exchange_model.proofs.CallerLemmas.{fits-parts, opens-in-room, rotates-drained, rotates-in-room, shuts-in-room, start-in-room, within-limits}
 use Rattle.exchange_model.specs.Rotating.{fault_of, turned}
 use Rattle.exchange_core.specs.Answering.{Given, IsGiven}
 use Rattle.exchange_core.specs.Sound.{SoundState}
-use Rattle.exchange_core.proofs.Stepping.{given-stay, given-join, entered-entries}
+use Rattle.exchange_core.proofs.Stepping.{conns-keep, given-stay, given-join}
 
 -- small counts are what they are
 pub small-count : (b m top : ℕ) → b + m ≤ 268435456 → 268435456 ≤ top → min (b + min m top) top ≡ b + m
@@ -141,11 +142,11 @@ sound-shut t c p S S1 bytes bytes1 room room1 gs gs1 s has later early is bs rs 
     (one-more S (shuts t c S) bytes bytes1 room room1 gs gs1 _ s (shuts-in-room t c p S s.kept later has) (record { once = d.once; out = d.out }) early (omega (arith, less, few, most)) refl refl bs rs same)
 
 -- a core with no entry
-pub sound-start : (h : List Written) (cs : List Conn) (es : List Exchange) (xs : List PeerLink) (gs : List Given) (room : ℕ)
-    → h ≡ [] → cs ≡ [] → es ≡ [] → xs ≡ [] → gs ≡ [] → 65536 ≤ room
-    → SoundState (record { entries = h; sealed = false; moment = 0; opened = 0; issued = 0; conns = cs; exchanges = es; links = xs }) 0 room gs
-sound-start h cs es xs gs room a b c d e large =
-    rw (a, b, c, d, e) (record {
+pub sound-start : (h : List Written) (cs : List Conn) (es : List Exchange) (rs : List Reader) (xs : List PeerLink) (gs : List Given) (room : ℕ)
+    → h ≡ [] → cs ≡ [] → es ≡ [] → rs ≡ [] → xs ≡ [] → gs ≡ [] → 65536 ≤ room
+    → SoundState (record { entries = h; sealed = false; moment = 0; opened = 0; issued = 0; conns = cs; exchanges = es; readers = rs; links = xs }) 0 room gs
+sound-start h cs es rs xs gs room a b c r d e large =
+    rw (a, b, c, r, d, e) (record {
       kept = start-in-room;
       drained = record { once = tt; out = tt };
       early = omega arith;
@@ -155,25 +156,36 @@ sound-start h cs es xs gs room a b c d e large =
       given = tt;
     })
 
--- what was drafted has come, and no connection was opened by it
+-- what was drafted has come
 pub sound-drafted : (t : ℕ) (S S1 : State) (bytes bytes1 room room1 : ℕ) (gs gs1 : List Given) (ds : List Deed) (d : DraftValue)
-    → SoundState S bytes room gs → Drafts t S ds d → S1.entries ≡ (entered_all t ds S).entries → S1.moment ≤ 2 ^ 62 → length S1.conns ≤ length S.conns
+    → SoundState S bytes room gs → IsDrafted t S ds d → S1.entries ≡ S.entries ++ d.entries → S1.moment ≤ 2 ^ 62
+    → S1.conns ≡ conns_with S.conns (length S.entries) d.entries
     → KeptInRoom S1 → IsDrained S1 → bytes1 ≡ capped (bytes + capped (sum_by entry_size d.entries)) → room1 + length d.entries ≡ room
-    → gs1 ≡ gs ++ d.answers → AllByRecursion (IsGiven S1.entries) d.answers
+    → gs1 ≡ gs ++ d.answers
     → SoundState S1 bytes1 room1 gs1
-sound-drafted t S S1 bytes bytes1 room room1 gs gs1 ds d s h es early conns kept drained bs rs gave given =
+sound-drafted t S S1 bytes bytes1 room room1 gs gs1 ds d s h es early conns kept drained bs rs gave =
     let few = s.few in
-    sound-more S S1 bytes bytes1 room room1 gs gs1 d.answers d.entries s kept drained early (omega (arith, conns, few))
-    (es ∙ entered-entries t ds S ∙ ap (λ (ws : List Written). S.entries ++ ws) (sym h.entries)) bs rs gave given
+    let open_now : length S1.conns ≡ length S.conns = ap (λ (cs : List Conn). length cs) conns ∙ conns-keep d.entries (length S.entries) S.conns h.drafts.keep in
+    sound-more S S1 bytes bytes1 room room1 gs gs1 d.answers d.entries s kept drained early (omega (arith, open_now, few))
+    es bs rs gave (subst (λ (ws : List Written). AllByRecursion (IsGiven ws) d.answers) (sym es) h.given)
 
 -- there are places for what fits
 pub room-for : (t : ℕ) (S : State) (bytes room : ℕ) (gs : List Given) (d : DraftValue) → SoundState S bytes room gs → fits (with_draft t d S) ≡ true
-    → length d.entries ≤ room
+    → (length d.entries ≤ room) × (length S.entries + length d.entries ≤ 65536)
 room-for t S bytes room gs d s fit =
     let p = s.places in
     let e = (fits-parts (with_draft t d S) fit).0 in
     let len = length-append S.entries d.entries in
-    omega (arith, p, e, len)
+    (omega (arith, p, e, len), omega (arith, e, len))
+
+-- ... and for what stays within the limits
+pub room-in : (S V : State) (bytes room : ℕ) (gs : List Given) (d : DraftValue) → SoundState S bytes room gs → V.entries ≡ S.entries ++ d.entries → KeptInRoom V
+    → (length d.entries ≤ room) × (length S.entries + length d.entries ≤ 65536)
+room-in S V bytes room gs d s es kept =
+    let all : length V.entries ≡ length S.entries + length d.entries = ap (λ (ws : List Written). length ws) es ∙ length-append S.entries d.entries in
+    let limit = (within-limits V kept).0 in
+    let p = s.places in
+    (omega (arith, all, limit, p), omega (arith, all, limit))
 
 capped-small : (n : ℕ) → n ≤ 268435456 → capped n ≡ n
 capped-small n small = omega (arith, small)

@@ -1,42 +1,63 @@
 -- What a step leaves of a core.
-use Rattle.std.proofs.Common.{◌≡◌, ℕ, ◌+◌, List, [], ◌∷◌, ◌++◌, length, map, drop, refl, sym, ap, ◌∙◌, append_assoc, length-append, append-nil, drop_at, arith}
+use Rattle.std.proofs.Common.{◌≡◌, ℕ, ◌+◌, List, [], ◌∷◌, ◌++◌, length, map, drop, Some, None, refl, sym, ap, ◌∙◌, append_assoc, length-append, append-nil, drop_at, arith}
 use Rattle.std.specs.List.{AllByRecursion}
-use Rattle.std.proofs.lemmas.List.{map-append, drop_all}
+use Rattle.std.proofs.lemmas.List.{map-append, drop_all, length-map}
 use Rattle.history_laws.proofs.CallerLemmas.{got-more}
 use Rattle.coap_codec.specs.Spelling.{Content}
 use Rattle.ask_model.specs.Requests.{Sense, Requests, Refuses}
-use Rattle.journal_book.specs.Entries.{Grounds, Live, Kept, Fault, Seals, Deed, Written}
+use Rattle.journal_book.specs.Entries.{Grounds, Live, Kept, Fault, Deed, Opens, Asks, Sends, Hears, Passes, Answers, Shuts, Seals, Carries, Written}
 use Rattle.reply_reading.specs.Findings.{Told, Tells, Fails}
 use Rattle.exchange_model.specs.declared.kept.Conn.{Conn}
-use Rattle.exchange_model.specs.State.{State}
+use Rattle.exchange_model.specs.declared.kept.Reader.{Reader}
+use Rattle.exchange_model.specs.State.{State, conns_after, pend}
+use Rattle.exchange_model.specs.Growing.{conns_with}
 use Rattle.exchange_model.specs.Steps.{entered, seals}
 use Rattle.exchange_model.specs.Entering.{entered_all}
 use Rattle.exchange_core.specs.Values.{Outgoing, written, answered_in, sent_in, stepped}
 use Rattle.exchange_core.specs.Answering.{Given, HeardAs, AreHeard, IsFound, CountsFrom, IsGiven}
-use Rattle.exchange_core.specs.Drafts.{DraftValue, Drafts, conns_from, untaken_of}
-use Rattle.exchange_core.specs.States.{with_draft, core_of}
+use Rattle.exchange_core.specs.Drafts.{AllKeep, DraftValue, Drafts, KeepsConns, untaken_of}
+use Rattle.exchange_core.specs.States.{readers_with, with_draft, core_of}
 
 -- entries in one piece
 
-joined : (t : ℕ) (S : State) (es fs : List Written) (cs ds : List Conn) → es ≡ fs → cs ≡ ds
-    → (record S { entries = es; conns = cs; moment = t }) ≡ (record S { entries = fs; conns = ds; moment = t })
-joined t S es fs cs ds e c = rw (e, c) refl
+joined : (t : ℕ) (S : State) (es fs : List Written) (cs ds : List Conn) (rs qs : List Reader) → es ≡ fs → cs ≡ ds → rs ≡ qs
+    → (record S { entries = es; conns = cs; readers = rs; moment = t }) ≡ (record S { entries = fs; conns = ds; readers = qs; moment = t })
+joined t S es fs cs ds rs qs e c r = rw (e, c, r) refl
 
 entered-is : (t : ℕ) (x : Deed) (xs : List Deed) (S : State)
     → entered_all t (x ∷ xs) S
-    ≡ (record S { entries = S.entries ++ map (written t) (x ∷ xs); conns = conns_from (length S.entries) (x ∷ xs) S.conns; moment = t })
+    ≡ (let ws = map (written t) (x ∷ xs) in record S { entries = S.entries ++ ws; conns = conns_with S.conns (length S.entries) ws; readers = readers_with S.readers ws; moment = t })
 entered-is t x [] S = refl
 entered-is t x (y ∷ ys) S =
     let S1 = entered t x S in
+    let ws = map (written t) (y ∷ ys) in
     let len : length S1.entries ≡ length S.entries + 1 = length-append S.entries (written t x ∷ []) in
     entered-is t y ys S1
-    ∙ joined t S _ _ _ _ (append_assoc S.entries (written t x ∷ []) (map (written t) (y ∷ ys)))
-    (ap (λ (k : ℕ). conns_from k (y ∷ ys) S1.conns) len)
+    ∙ joined t S _ _ _ _ _ _ (append_assoc S.entries (written t x ∷ []) ws)
+    (ap (λ (k : ℕ). conns_with S1.conns k ws) len) refl
 
 pub with-draft : (t : ℕ) (S : State) (x : Deed) (xs : List Deed) (d : DraftValue) → Drafts t S (x ∷ xs) d
     → with_draft t d S ≡ entered_all t (x ∷ xs) S
 with-draft t S x xs d h =
-    joined t S _ _ _ _ (ap (λ es. S.entries ++ es) h.entries) h.conns ∙ sym (entered-is t x xs S)
+    ap (λ (ws : List Written). record S { entries = S.entries ++ ws; conns = conns_with S.conns (length S.entries) ws; readers = readers_with S.readers ws; moment = t }) h.entries
+    ∙ sym (entered-is t x xs S)
+
+-- As many connections are open after a draft.
+
+conns-after : (cs : List Conn) (n : ℕ) (d : Deed) → KeepsConns d → length (conns_after cs n d) ≡ length cs
+conns-after cs n (Opens c) h = absurd h
+conns-after cs n (Asks c a) h = length-map cs (pend c (Some n))
+conns-after cs n (Sends p b w) h = refl
+conns-after cs n (Hears p b) h = refl
+conns-after cs n Passes h = refl
+conns-after cs n (Answers c k g) h = length-map cs (pend c None)
+conns-after cs n (Shuts c) h = absurd h
+conns-after cs n Seals h = refl
+conns-after cs n (Carries k mark done) h = refl
+
+pub conns-keep : (ws : List Written) (n : ℕ) (cs : List Conn) → AllKeep ws → length (conns_with cs n ws) ≡ length cs
+conns-keep [] n cs h = refl
+conns-keep (w ∷ ws) n cs h = conns-keep ws (n + 1) (conns_after cs n w.deed) h.1 ∙ conns-after cs n w.deed h.0
 
 pub entered-entries : (t : ℕ) (ds : List Deed) (S : State) → (entered_all t ds S).entries ≡ S.entries ++ map (written t) ds
 entered-entries t [] S = sym (append-nil S.entries)
@@ -46,11 +67,11 @@ entered-entries t (x ∷ xs) S =
 -- a core after a step
 
 pub committed : (t : ℕ) (S S1 : State) (ds : List Deed) (d : DraftValue) (gs gs1 : List Given) (os os1 : List Outgoing)
-    → Drafts t S ds d → S1.entries ≡ (entered_all t ds S).entries → gs1 ≡ gs ++ d.answers → os1 ≡ os ++ d.sends
+    → Drafts t S ds d → S1.entries ≡ S.entries ++ d.entries → gs1 ≡ gs ++ d.answers → os1 ≡ os ++ d.sends
     → core_of S1 gs1 os1 ≡ stepped S1 (core_of S gs os)
 committed t S S1 ds d gs gs1 os os1 h entries answers sends =
     let more : drop (length S.entries) S1.entries ≡ map (written t) ds =
-    ap (drop (length S.entries)) (entries ∙ entered-entries t ds S) ∙ (drop_at S.entries (map (written t) ds) (length S.entries) refl) in
+    ap (drop (length S.entries)) (entries ∙ ap (λ (ws : List Written). S.entries ++ ws) h.entries) ∙ (drop_at S.entries (map (written t) ds) (length S.entries) refl) in
     let a : map untaken_of gs1 ≡ map untaken_of gs ++ answered_in (length S.entries) (map (written t) ds) =
     ap (map untaken_of) answers ∙ map-append untaken_of gs d.answers ∙ ap (λ ns. map untaken_of gs ++ ns) h.answers in
     let o : os1 ≡ os ++ sent_in (map (written t) ds) = sends ∙ ap (λ xs. os ++ xs) h.sends in

@@ -1,13 +1,11 @@
 -- The timeouts of the first sendings, how many entries a tick adds, and what it leaves.
-use Rattle.std.proofs.Common.{◌≡◌, ℕ, ◌+◌, ◌<◌, ◌^◌, Bool, true, false, cond, List, [], ◌∷◌, ◌++◌, length, map, Option, Some, None, refl, sym, ap, subst, ◌∙◌, arith}
-use Rattle.std.specs.Prelude.{filter, fold}
-use Rattle.std.specs.List.{AllByRecursion, list_any}
+use Rattle.std.proofs.Common.{◌≡◌, ℕ, ◌<◌, ◌^◌, Bool, true, false, cond, List, [], ◌∷◌, ◌++◌, Option, Some, None, refl, sym, ap, subst, ◌∙◌, arith}
+use Rattle.std.specs.List.{AllByRecursion}
 use Rattle.std.specs.Option.{option_to_list}
 use Rattle.std.proofs.lemmas.Bool.{false≢true}
 use Rattle.uri_map.specs.declared.peer.Peer.{Peer}
 use Rattle.uri_map.specs.Peers.{same_peer}
 use Rattle.uri_map.proofs.CallerLemmas.{same_peer-same, same_peer-itself}
-use Rattle.journal_book.specs.Entries.{Passes, Answers}
 use Rattle.message_layer.specs.Values.{LinkState, empty_link}
 use Rattle.message_layer.specs.Sending.{IsNext}
 use Rattle.message_layer.specs.Prepared.{IsTick}
@@ -21,16 +19,11 @@ use Rattle.history_links.specs.Agrees.{WaitIn, Start}
 use Rattle.history_laws.specs.Exchanges.{waiting}
 use Rattle.history_laws.specs.Readings.{Noted}
 use Rattle.history_laws.proofs.CallerLemmas.{all-filter}
-use Rattle.exchange_model.specs.declared.kept.Exchange.{Exchange}
 use Rattle.exchange_model.specs.State.{PeerLink, State, link_of}
-use Rattle.exchange_model.specs.Steps.{entered, is_gone}
-use Rattle.exchange_model.specs.Calls.{waits_on, times_out, timed_out, something_due, ticked}
-use Rattle.exchange_model.specs.Entering.{entered_all, timeout_of, sent_as, all_deeds, all_going, goes_on, link_after, StandsOnce, IsDrained}
-use Rattle.exchange_model.specs.Keeping.{Kept, MayStep}
-use Rattle.exchange_model.proofs.CallerLemmas.{ticks-enter}
+use Rattle.exchange_model.specs.Entering.{StandsOnce, IsDrained}
+use Rattle.exchange_model.specs.Keeping.{Kept}
 use Rattle.endpoint_table.specs.declared.turns.Turn.{Turn}
 use Rattle.endpoint_table.specs.Turns.{AreTurns, IsTurnOf}
-use Rattle.exchange_core.specs.Passing.{tick_adds}
 use Rattle.exchange_core.specs.Turns.{AreTimed, IsTimedTurn}
 use Rattle.exchange_core.specs.Sending.{IsTimed}
 
@@ -112,36 +105,3 @@ pub are-timed : (t : ℕ) (gone : List (List ℕ)) (S : State) (rooms : List Boo
     → Kept S → IsDrained S → AreTurns t gone S.links rooms ks → AreTimed ks
 are-timed t gone S rooms ks k drained h =
     turns-timed t gone S.links rooms ks (all-timed S.links drained.once (link-timed S k)) h
-
--- Answers leave the exchanges and the links.
-one-put : (t : ℕ) (e : Exchange) (es : List Exchange) (xs : List PeerLink) (S : State)
-    → times_out t (record S { exchanges = es; links = xs }) e
-    ≡ (record (times_out t S e) { exchanges = es; links = xs })
-one-put t e es xs S = by (list_any (waits_on e) S.conns)
-  where
-    by : (b : Bool)
-        → cond b (entered t (Answers e.conn e.opening (timeout_of e))
-        (record S { exchanges = es; links = xs })) (record S { exchanges = es; links = xs })
-        ≡ (let S1 = cond b (entered t (Answers e.conn e.opening (timeout_of e)) S) S in
-        record S1 { exchanges = es; links = xs })
-    by true = refl
-    by false = refl
-
-still-put : (t : ℕ) (l es : List Exchange) (xs : List PeerLink) (S : State)
-    → fold (times_out t) (record S { exchanges = es; links = xs }) l
-    ≡ (let S1 = fold (times_out t) S l in record S1 { exchanges = es; links = xs })
-still-put t [] es xs S = refl
-still-put t (e ∷ l) es xs S =
-    ap (λ (V : State). fold (times_out t) V l) (one-put t e es xs S)
-    ∙ still-put t l es xs (times_out t S e)
-
-pub ticked-is : (t : ℕ) (S : State) → MayStep t S → IsDrained S → something_due t S ≡ true
-    → ticked t S ≡ (let U = tick_adds t S in record U {
-      exchanges = sent_as (all_going t (is_gone t S) (length S.entries + 1) S.links)
-          (filter (goes_on t S) S.exchanges);
-      links = map (link_after t (is_gone t S)) S.links;
-    })
-ticked-is t S may drained due =
-    ticks-enter t S may drained due
-    ∙ still-put t (timed_out t S) _ _
-    (entered_all t (Passes ∷ all_deeds t (is_gone t S) S.links) S)

@@ -1,10 +1,8 @@
 -- The turns of the endpoints, drafted one after another.
-use Rattle.std.proofs.Common.{◌≡◌, ℕ, ◌+◌, ◌<◌, ◌≤◌, List, [], ◌∷◌, ◌++◌, length, take, get_or, suc, zero, refl, sym, ap, ◌∙◌, arith, append_assoc, append-nil, length-append}
+use Rattle.std.proofs.Common.{◌≡◌, ℕ, ◌+◌, ◌<◌, ◌≤◌, List, [], ◌∷◌, ◌++◌, length, take, get_or, suc, zero, sym, ap, ◌∙◌, arith, append_assoc, append-nil, length-append}
 use Rattle.journal_book.specs.Entries.{Deed}
 use Rattle.exchange_model.specs.declared.kept.Exchange.{Exchange}
-use Rattle.exchange_model.specs.State.{State}
-use Rattle.exchange_model.specs.Steps.{entered}
-use Rattle.exchange_model.specs.Entering.{entered_all, sent_as}
+use Rattle.exchange_model.specs.Entering.{sent_as}
 use Rattle.exchange_model.proofs.CallerLemmas.{sent-both}
 use Rattle.endpoint_table.specs.declared.turns.Turn.{Turn}
 use Rattle.endpoint_table.specs.Turns.{deeds_of, going_of, turns_deeds, turns_going}
@@ -45,12 +43,3 @@ turns-take (j ∷ ks) (suc i) k lt is =
     (turns-take ks i k (omega (arith, lt)) is)
     ∙ sym (append_assoc (deeds_of j.peer j.ticking) (turns_deeds (take i ks))
     (deeds_of k.peer k.ticking))
-
-pub entered-two : (t : ℕ) (ds fs es : List Deed) (S : State) → es ≡ ds ++ fs
-    → entered_all t fs (entered_all t ds S) ≡ entered_all t es S
-entered-two t ds fs es S e = go ds S ∙ ap (λ (all : List Deed). entered_all t all S) (sym e)
-  where
-    go : (cs : List Deed) (U : State)
-        → entered_all t fs (entered_all t cs U) ≡ entered_all t (cs ++ fs) U
-    go [] U = refl
-    go (c ∷ cs) U = go cs (entered t c U)

@@ -13,6 +13,7 @@ use Rattle.journal_book.specs.Views.{ask_of}
 use Rattle.message_layer.specs.declared.prepared.FirstSending.{FirstSending}
 use Rattle.message_layer.specs.declared.state.Waiting.{Waiting}
 use Rattle.exchange_model.specs.declared.kept.Exchange.{Exchange}
+use Rattle.exchange_model.specs.declared.kept.Reader.{Reader}
 use Rattle.exchange_model.specs.State.{State}
 use Rattle.exchange_model.specs.Steps.{seals}
 use Rattle.exchange_model.specs.Calls.{Numbers, has_place}
@@ -25,6 +26,7 @@ use Rattle.exchange_core.specs.declared.fault.AskFault.{AskFault}
 use Rattle.exchange_core.specs.declared.fault.AskFault.TheVariants as Ask
 use Rattle.exchange_core.specs.declared.state.State.{State as RustState}
 use Rattle.exchange_core.specs.Calls.{IsWordedBy, AsksSo}
+use Rattle.exchange_core.specs.Joining.{joined_for}
 use Rattle.exchange_core.specs.Drafts.{DraftValue}
 use Rattle.exchange_core.specs.States.{state_of, given_in, outgoing, with_draft, SeesSame}
 use Rattle.exchange_core.specs.Values.{CoreValue}
@@ -46,30 +48,35 @@ asked_method (Requests q) = q.method
 asked_method (Refuses cause status) = 0
 
 -- the exchange that the ask with this number opens
-abbrev pub exchange_by : ℕ → ℕ → List ℕ → Peer → ℕ → Option FirstSending → ℕ → Exchange
-exchange_by t c token p method sent n = record {
+abbrev pub exchange_by : ℕ → List ℕ → Peer → ℕ → Option FirstSending → ℕ → Exchange
+exchange_by t token p method sent n = record {
   opening = n;
   token = token;
   since = t;
   peer = p;
   method = method;
-  conn = c;
   sending = option_map (λ (x : FirstSending). n + 1) sent;
+  current = true;
 }
 
--- one exchange more, whose message was handed in under the next token
-abbrev pub with_exchange : ℕ → Exchange → Waiting → State → State
-with_exchange t e w S = record S {
+-- who reads it first
+abbrev pub reader_by : ℕ → ℕ → Reader
+reader_by c n = record { ask = n; conn = c; opening = n }
+
+-- one exchange more with its reader, whose message was handed in under the next token
+abbrev pub with_exchange : ℕ → Exchange → Reader → Waiting → State → State
+with_exchange t e r w S = record S {
   issued = S.issued + 1;
   exchanges = S.exchanges ++ e ∷ [];
+  readers = S.readers ++ r ∷ [];
   links = submitted_to e.peer t w S.links;
 }
 
 abbrev pub numbers_of : List ℕ → List ℕ → ℕ → Numbers
 numbers_of token text word = record { token = token; text = text; word = word }
 
--- There is a place for the ask of a connection that waits for nothing, and its message is spelled
--- under the next token.
+-- The ask of a connection that waits for nothing joins no exchange, there is a place for its own, and
+-- its message is spelled under the next token.
 pub record MayBegin (t word c : ℕ) (m : Mapping) (p : Peer) (token text : List ℕ) (S : State)
     : Type 0 where
   pub unsealed : S.sealed ≡ false
@@ -77,6 +84,7 @@ pub record MayBegin (t word c : ℕ) (m : Mapping) (p : Peer) (token text : List
   pub early : t ≤ LAST_MOMENT
   pub idle : HasConn S.conns c None
   pub peer : asked_peer m.sense ≡ Some p
+  pub alone : joined_for m.sense S ≡ None
   pub spelled : IsTextFor m.sense token text
   pub small : came_size m.came ≤ MAX_REQUEST_SIZE
   pub worded : IsWordedBy word (numbers_of token text word) S
@@ -99,16 +107,16 @@ pub record LeavesSealed {R : Type 0} (t : ℕ) (old new : RustState R) : Type 0 
 
 -- What was drafted is entered with its exchange where there is room for it; else the journal is
 -- sealed. Where memory is wanted, nothing changes.
-abbrev pub IsEntered : {R X : Type 0} → Result X AskFault → ℕ → Exchange → Waiting → DraftValue
-    → RustState R → RustState R → Type 0
-IsEntered (Ok x) t e w d old new =
+abbrev pub IsEntered : {R X : Type 0} → Result X AskFault → ℕ → Exchange → Reader → Waiting
+    → DraftValue → RustState R → RustState R → Type 0
+IsEntered (Ok x) t e r w d old new =
     (fits (with_draft t d (state_of old)) ≡ true)
-    × Leaves (with_exchange t e w (with_draft t d (state_of old))) d old new
-IsEntered (Err Ask.Sealed) t e w d old new =
+    × Leaves (with_exchange t e r w (with_draft t d (state_of old))) d old new
+IsEntered (Err Ask.Sealed) t e r w d old new =
     (fits (with_draft t d (state_of old)) ≡ false) × LeavesSealed t old new
-IsEntered (Err Ask.Memory) t e w d old new = SeesSame old new
-IsEntered (Err Ask.Unknown) t e w d old new = ⊥
-IsEntered (Err Ask.Pending) t e w d old new = ⊥
+IsEntered (Err Ask.Memory) t e r w d old new = SeesSame old new
+IsEntered (Err Ask.Unknown) t e r w d old new = ⊥
+IsEntered (Err Ask.Pending) t e r w d old new = ⊥
 
 -- An ask is entered under the next number, and its exchange begins; or there is no place for it; or
 -- the journal takes it no more. Where memory is wanted, nothing changes.

@@ -1,38 +1,59 @@
--- Exchanges that end, and whoever waits for them.
-use Rattle.std.specs.Prelude.{◌≡◌, ℕ, List, ◌++◌, fold, Some, slice_get}
+-- Exchanges that end, and all who wait for them.
+use Rattle.std.specs.Prelude.{◌≡◌, ℕ, List, ◌++◌, map, filter, filter_map, Option, Some, option_map, slice_get, unwrap_or}
 use Rattle.ask_model.specs.declared.cause.Cause.TheVariants as C
 use Rattle.ask_model.specs.Requests.{Requests}
-use Rattle.ask_model.specs.Views.{Mapping}
-use Rattle.journal_book.specs.Entries.{Asks, Written}
+use Rattle.ask_model.specs.Views.{Ask, Mapping}
+use Rattle.journal_book.specs.Entries.{Deed, Answers, Asks, Fault, Written}
 use Rattle.journal_book.specs.Views.{ask_of}
-use Rattle.reply_reading.specs.Findings.{Fails}
+use Rattle.reply_reading.specs.Findings.{Found, Fails}
 use Rattle.exchange_model.specs.declared.kept.Exchange.{Exchange}
+use Rattle.exchange_model.specs.declared.kept.Reader.{Reader}
 use Rattle.exchange_model.specs.State.{State}
-use Rattle.exchange_model.specs.Calls.{ends}
-use Rattle.exchange_model.specs.Entering.{timeout_of}
-use Rattle.exchange_core.specs.declared.ending.Ended.{Ended}
+use Rattle.exchange_model.specs.Steps.{is_past}
+use Rattle.exchange_model.specs.Calls.{is_reader_of, read_by, told_late}
+use Rattle.exchange_model.specs.Entering.{answer_of}
+use Rattle.exchange_core.specs.declared.ending.Telling.{Telling}
 use Rattle.exchange_core.specs.Values.{written}
 use Rattle.exchange_core.specs.Answering.{Given, IsFound, CountsFrom}
-use Rattle.exchange_core.specs.Asked.{IsOpenedIn}
+use Rattle.exchange_core.specs.Asked.{IsAskedIn}
 
--- Whoever waits for one that ends is told what was found; for several, one after another.
-abbrev pub finishes : ℕ → State → Ended → State
-finishes t S x = ends t x.finding.grounds x.exchange S
+-- what tells a reader
+abbrev pub deed_of : Telling → Deed
+deed_of x = Answers x.reader.conn x.reader.ask x.finding.grounds
 
-abbrev pub finished : ℕ → List Ended → State → State
-finished t xs S = fold (finishes t) S xs
+-- All who wait for the exchange are told what was found.
+abbrev pub tell_of : Found → Reader → Telling
+tell_of f r = record { reader = r; finding = f }
 
--- An ask opened it, and what was found is what the entries say, those that are drafted too.
-pub record EndsIn (h drafted : List Written) (t : ℕ) (x : Ended) : Type 0 where
-  pub opened : IsOpenedIn h x.exchange
-  pub found : IsFound (h ++ drafted) x.finding.told x.finding.grounds (Requests opened.request)
+abbrev pub readers_told : Exchange → Found → List Reader → List Telling
+readers_told e f rs = map (tell_of f) (filter (is_reader_of e) rs)
+
+-- All who wait for one of these exchanges are told that it took too long.
+abbrev pub late_of : Reader → Exchange → Telling
+late_of r e = tell_of
+    (record { told = Fails C.Timeout; grounds = Fault C.Timeout (unwrap_or e.sending r.ask) }) r
+
+abbrev pub late_to : List Exchange → Reader → Option Telling
+late_to es r = option_map (late_of r) (read_by es r)
+
+abbrev pub out_of_time : List Exchange → List Reader → List Telling
+out_of_time es rs = filter_map (late_to es) rs
+
+-- what a tick of a sealed core does
+abbrev pub late_deeds : ℕ → State → List Deed
+late_deeds t S = map answer_of (told_late (filter (is_past t) S.exchanges) S.readers)
+
+-- The reader asked, and what was found is what the entries say, those that are drafted too.
+pub record IsTold (h drafted : List Written) (t : ℕ) (x : Telling) : Type 0 where
+  pub asked : IsAskedIn h x.reader
+  pub found : IsFound (h ++ drafted) x.finding.told x.finding.grounds (Requests asked.request)
   pub counts : CountsFrom (h ++ drafted) x.finding.grounds t t
 
 -- the answer to its ask, under this number
-abbrev pub given_to : ℕ → ℕ → Ended → Mapping → Given
+abbrev pub given_to : ℕ → ℕ → Telling → Mapping → Given
 given_to t n x m = record {
-  conn = x.exchange.conn;
-  ask = x.exchange.opening;
+  conn = x.reader.conn;
+  ask = x.reader.ask;
   number = n;
   moment = t;
   heard = t;
@@ -40,15 +61,8 @@ given_to t n x m = record {
   found = x.finding;
 }
 
-pub record IsAnswerTo (h : List Written) (t n : ℕ) (x : Ended) (g : Given) : Type 0 where
+pub record IsAnswerTo (h : List Written) (t n : ℕ) (x : Telling) (g : Given) : Type 0 where
   pub mapping : Mapping
-  pub stands : slice_get h x.exchange.opening
-      ≡ Some (written x.exchange.since (Asks x.exchange.conn (ask_of mapping)))
+  pub asked : (s c : ℕ) (a : Ask) → slice_get h x.reader.ask ≡ Some (written s (Asks c a))
+      → ask_of mapping ≡ a
   pub is : g ≡ given_to t n x mapping
-
--- one that took too long
-abbrev pub out_of_time : Exchange → Ended
-out_of_time e = record {
-  exchange = e;
-  finding = record { told = Fails C.Timeout; grounds = timeout_of e };
-}

@@ -1,8 +1,8 @@
 -- What a datagram leaves of a core.
-use Rattle.std.specs.Prelude.{ℕ, ◌+◌, List, [], ◌∷◌, ◌++◌, length, map, filter, Option, Some, None}
+use Rattle.std.specs.Prelude.{ℕ, ◌+◌, List, [], ◌∷◌, ◌++◌, length, map, filter, Option, Some, None, option_to_list}
 use Rattle.uri_map.specs.declared.peer.Peer.{Peer}
 use Rattle.ask_model.specs.declared.cause.Cause.TheVariants.{Reset}
-use Rattle.journal_book.specs.Entries.{Fault, Deed, Hears}
+use Rattle.journal_book.specs.Entries.{Fault, Deed, Hears, Written}
 use Rattle.history_laws.specs.Responses.{whole_in}
 use Rattle.reply_reading.specs.Findings.{Found, Fails, found_by}
 use Rattle.message_layer.specs.Values.{Told, response, was_reset}
@@ -10,14 +10,15 @@ use Rattle.message_layer.specs.Hearing.{listed}
 use Rattle.message_layer.specs.declared.prepared.FirstSending.{FirstSending}
 use Rattle.message_layer.specs.declared.prepared.Heeding.{Heeding}
 use Rattle.history_links.specs.Steps.{ended_token}
-use Rattle.exchange_model.specs.declared.kept.Conn.{Conn}
 use Rattle.exchange_model.specs.declared.kept.Exchange.{Exchange}
+use Rattle.exchange_model.specs.declared.kept.Reader.{Reader}
 use Rattle.exchange_model.specs.State.{State, link_of, with_link}
-use Rattle.exchange_model.specs.Calls.{ended_in, method_in}
-use Rattle.exchange_model.specs.Steps.{went_out, is_other}
-use Rattle.exchange_model.specs.Entering.{entered_all, confirm, told_deeds}
+use Rattle.exchange_model.specs.Calls.{method_in}
+use Rattle.exchange_model.specs.Steps.{went_out, is_other, left_by, ended_in}
+use Rattle.exchange_model.specs.Entering.{entered_all, confirm}
 use Rattle.endpoint_table.specs.Tables.{heeds}
-use Rattle.exchange_core.specs.declared.ending.Ended.{Ended}
+use Rattle.exchange_core.specs.declared.ending.Telling.{Telling}
+use Rattle.exchange_core.specs.Ending.{deed_of, readers_told}
 use Rattle.exchange_core.specs.Sending.{sent_first}
 use Rattle.exchange_core.specs.Drafts.{DraftValue}
 use Rattle.exchange_core.specs.States.{with_draft}
@@ -33,8 +34,8 @@ found_in n e _ = None
 abbrev pub over_in : Heeding → Option (List ℕ)
 over_in x = ended_token x.verdict.news x.token
 
--- the exchanges after it: one may end, and the message of another went out in the entry with this
--- number
+-- the exchanges after it: one may end, which outruns others where it was a write, and the message of
+-- another went out in the entry with this number
 abbrev pub note_next : ℕ → Option FirstSending → List Exchange → List Exchange
 note_next n None es = es
 note_next n (Some x) es = map (went_out x.message.token n) es
@@ -42,18 +43,15 @@ note_next n (Some x) es = map (went_out x.message.token n) es
 abbrev pub first_number : ℕ → Heeding → ℕ
 first_number n x = n + 1 + length (listed x.reply)
 
-abbrev pub exchanges_after : ℕ → Heeding → List Exchange → List Exchange
-exchanges_after n x es = note_next (first_number n x) x.next (filter (is_other (over_in x)) es)
+abbrev pub exchanges_after : List Written → Heeding → List Exchange → List Exchange
+exchanges_after ws x es =
+    note_next (first_number (length ws) x) x.next
+    (left_by ws (option_to_list (ended_in (over_in x) es)) (filter (is_other (over_in x)) es))
 
--- the exchange that ends, if any, with what is found
-abbrev pub ended_by : Option Exchange → Option Found → List Ended
-ended_by (Some e) (Some f) = record { exchange = e; finding = f } ∷ []
-ended_by _ _ = []
-
--- What ends is told to the connection that waits on it.
-abbrev pub told_by : Option Exchange → Option Found → List Conn → List Deed
-told_by (Some e) (Some f) cs = told_deeds f.grounds e cs
-told_by _ _ cs = []
+-- All who wait for the exchange that ends, if any does, are told what is found.
+abbrev pub told_by : Option Exchange → Option Found → List Reader → List Telling
+told_by (Some e) (Some f) rs = readers_told e f rs
+told_by _ _ rs = []
 
 -- what the link says: the datagram came, it is answered, and the next message goes out
 abbrev pub link_deeds : Peer → List ℕ → Heeding → List Deed
@@ -63,20 +61,21 @@ link_deeds p d x = Hears p d ∷ (map (confirm p) (listed x.reply) ++ sent_first
 abbrev pub hearing_deeds : Peer → List ℕ → Heeding → Told → State → List Deed
 hearing_deeds p d x told S =
     let e = ended_in (over_in x) S.exchanges in
-    link_deeds p d x ++ told_by e (found_in (length S.entries) e told) S.conns
+    link_deeds p d x
+    ++ map deed_of (told_by e (found_in (length S.entries) e told) S.readers)
 
 -- the state after it
 abbrev pub hearing_state : ℕ → Peer → List ℕ → Heeding → Told → State → State
 hearing_state t p d x told S =
     let S1 = entered_all t (hearing_deeds p d x told S) S in record S1 {
-      exchanges = exchanges_after (length S.entries) x S.exchanges;
+      exchanges = exchanges_after S.entries x S.exchanges;
       links = with_link p (heeds t x (over_in x) (link_of S.links p)) S.links;
     }
 
 -- the tables after it, and then what was drafted for it
 abbrev pub tables_after : ℕ → Peer → Heeding → State → State
 tables_after t p x S = record S {
-  exchanges = exchanges_after (length S.entries) x S.exchanges;
+  exchanges = exchanges_after S.entries x S.exchanges;
   links = with_link p (heeds t x (over_in x) (link_of S.links p)) S.links;
 }
 

@@ -8,8 +8,8 @@ pub mod Ending
 pub mod Expiring
 pub mod Faults
 pub mod Hearing
+pub mod Joining
 pub mod Refusing
-pub mod Leads
 pub mod Passing
 pub mod Places
 pub mod Room

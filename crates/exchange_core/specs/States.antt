@@ -1,11 +1,13 @@
 -- What a core keeps, as the state of its steps.
-use Rattle.std.specs.Prelude.{◌≡◌, ℕ, ◌+◌, ◌≤◌, List, ◌++◌, map, length, Result, Ok, Err, vec_len, vec_capacity}
+use Rattle.std.specs.Prelude.{◌≡◌, ℕ, ◌+◌, ◌≤◌, List, [], ◌∷◌, ◌++◌, map, length, Result, Ok, Err, vec_len, vec_capacity}
 use Rattle.std.specs.VecDeque.{deque_len, deque_capacity}
 use Rattle.ask_model.specs.declared.cause.Cause.{Cause}
 use Rattle.ask_model.specs.Views.{Mapping}
-use Rattle.journal_book.specs.Entries.{Fault}
+use Rattle.journal_book.specs.Entries.{Fault, Written}
 use Rattle.reply_reading.specs.Findings.{Fails}
-use Rattle.exchange_model.specs.State.{State}
+use Rattle.exchange_model.specs.declared.kept.Reader.{Reader}
+use Rattle.exchange_model.specs.State.{State, readers_after}
+use Rattle.exchange_model.specs.Growing.{conns_with}
 use Rattle.exchange_core.specs.declared.answer.Ticket.{Ticket}
 use Rattle.exchange_core.specs.declared.fault.AskFault.{AskFault}
 use Rattle.exchange_core.specs.declared.state.State.{State as RustState}
@@ -22,6 +24,7 @@ state_of s = record {
   issued = s.issued;
   conns = s.conns.items;
   exchanges = s.exchanges.exchanges;
+  readers = s.readers.items;
   links = s.endpoints.links;
 }
 
@@ -51,11 +54,17 @@ pub record HasPlaces {R : Type 0} (s : RustState R) (d : DraftValue) : Type 0 wh
   pub answers : vec_len s.answers + length d.answers ≤ vec_capacity s.answers
   pub sends : deque_len s.sends + length d.sends ≤ deque_capacity s.sends
 
+-- what entries do to those who wait
+abbrev pub readers_with : List Reader → List Written → List Reader
+readers_with rs [] = rs
+readers_with rs (w ∷ ws) = readers_with (readers_after rs w.deed) ws
+
 -- what was drafted at this moment comes
 abbrev pub with_draft : ℕ → DraftValue → State → State
 with_draft t d S = record S {
   entries = S.entries ++ d.entries;
-  conns = d.conns;
+  conns = conns_with S.conns (length S.entries) d.entries;
+  readers = readers_with S.readers d.entries;
   moment = t;
 }
 

@@ -8,15 +8,17 @@ ghost use Rattle.limits.specs.declared.TheConstants.{LAST_MOMENT, MAX_REQUEST_SI
 ghost use Rattle.journal_book.specs.Views.{ask_of};
 ghost use Rattle.exchange_model.specs.Resting.{HasConn};
 ghost use Rattle.exchange_core.specs.Calls.{IsAsked};
+ghost use Rattle.exchange_core.specs.Joining.{MayJoin};
 ghost use Rattle.exchange_core.specs.Places.{id_of};
 ghost use Rattle.exchange_table.specs.Places.{RiseBy};
-ghost use Rattle.exchange_core.specs.Refusing.{MayRefuse, HasNoPlace};
+ghost use Rattle.exchange_core.specs.Refusing.{MayRefuse, BeginsNothing};
 ghost use Rattle.exchange_core.specs.Sound.{IsSound};
 ghost use Rattle.exchange_core.specs.States.{state_of, seen, number_in};
 
 use crate::answer::Ticket;
 use crate::beginning::{Begun, begin};
 use crate::fault::AskFault;
+use crate::joining::{find_joined, join};
 use crate::numbering::token_of;
 use crate::places::conn_place;
 use crate::refusing::refuse;
@@ -63,7 +65,7 @@ fn turn_away<R: Relation>(
     requires early { moment ≤ LAST_MOMENT }
     requires idle { HasConn s.old.conns.items conn None }
     requires refused { MayRefuse moment conn (ask_of (arc_value mapped)) cause (state_of s.old) }
-    requires no_place { HasNoPlace moment (ask_of (arc_value mapped)) (state_of s.old) }
+    requires nothing { BeginsNothing moment (ask_of (arc_value mapped)) (state_of s.old) }
     ensures sound { IsSound s.new }
     ensures asks { IsAsked (number_in result) moment word conn (ask_of (arc_value mapped))
         (seen s.old) (seen s.new) }
@@ -73,8 +75,34 @@ fn turn_away<R: Relation>(
     refuse(alloc, s, moment, conn, mapped, cause)
 }
 
-/// Enters an ask for something: it begins an exchange, or is answered as busy where there is no place
-/// for one.
+/// Enters an ask that reads along what the ask with this number opened.
+fn read_along<R: Relation>(
+    alloc: Global,
+    s: &mut State<R>,
+    moment: u64,
+    word: u64,
+    conn: u32,
+    mapped: Arc<Mapped<R>>,
+    opening: u32,
+) -> Result<Ticket<R>, AskFault>
+    requires sound { IsSound s.old }
+    requires unsealed { s.old.sealed ≡ false }
+    requires later { s.old.moment ≤ moment }
+    requires early { moment ≤ LAST_MOMENT }
+    requires idle { HasConn s.old.conns.items conn None }
+    requires joins { MayJoin moment conn (ask_of (arc_value mapped)) opening (state_of s.old) }
+    requires nothing { BeginsNothing moment (ask_of (arc_value mapped)) (state_of s.old) }
+    ensures sound { IsSound s.new }
+    ensures asks { IsAsked (number_in result) moment word conn (ask_of (arc_value mapped))
+        (seen s.old) (seen s.new) }
+    ensures ticket { IfOk result (λ t. (t.conn ≡ conn) × (arc_value t.mapped ≡ arc_value mapped)) }
+{
+    let _token = token_of(s.issued, word);
+    join(alloc, s, moment, conn, mapped, opening)
+}
+
+/// Enters an ask for something: it joins an exchange, or begins one, or is answered as busy where there
+/// is no place for one.
 fn ask_peer<R: Relation>(
     alloc: Global,
     s: &mut State<R>,
@@ -96,6 +124,9 @@ fn ask_peer<R: Relation>(
         (seen s.old) (seen s.new) }
     ensures ticket { IfOk result (λ t. (t.conn ≡ conn) × (arc_value t.mapped ≡ arc_value mapped)) }
 {
+    if let Some(exchange) = find_joined(s.exchanges.as_slice(), &s.journal, &mapped) {
+        return read_along(alloc, s, moment, word, conn, mapped, exchange.opening);
+    }
     if s.exchanges.as_slice().len() >= MAX_EXCHANGES {
         return turn_away(alloc, s, moment, word, conn, mapped, Cause::Busy);
     }

@@ -1,6 +1,6 @@
 //! Asks that begin an exchange.
 
-ghost use Rattle.std.specs.Prelude.{◌≡◌, ◌≤◌, ◌<◌, ◌+◌, ◌^◌, ◌∷◌, ◌++◌, [], List, None, true, false, length, sum_by, IfOk, IfErr, OnOk, Ok, Err, Some};
+ghost use Rattle.std.specs.Prelude.{◌≡◌, ◌≤◌, ◌<◌, ◌+◌, ◌^◌, ◌∷◌, ◌++◌, [], List, None, true, false, length, sum_by, vec_capacity, vec_len, IfOk, IfErr, OnOk, Ok, Err, Some};
 ghost use Rattle.std.specs.Arc.{arc_value};
 ghost use Rattle.limits.specs.declared.TheConstants.{LAST_MOMENT, MAX_ENTRIES, MAX_EXCHANGES, MAX_REQUEST_SIZE};
 ghost use Rattle.ask_model.specs.Datagrams.{asked_peer};
@@ -13,10 +13,10 @@ ghost use Rattle.exchange_model.specs.State.{State as CoreState, link_of};
 ghost use Rattle.exchange_model.specs.Resting.{HasConn};
 ghost use Rattle.endpoint_table.specs.Tables.{link_at};
 ghost use Rattle.exchange_core.specs.Beginning.{IsRequest, IsTextFor, with_exchange, IsBegun, IsBegunBy, IsEntered, MayBegin, asked_method, exchange_by};
+ghost use Rattle.exchange_core.specs.Joining.{joined_for};
 ghost use Rattle.exchange_core.specs.Sending.{IsTimed, sent_first};
 ghost use Rattle.exchange_core.specs.Drafts.{Drafts};
-ghost use Rattle.exchange_core.specs.Places.{id_of};
-ghost use Rattle.exchange_table.specs.Places.{RiseBy};
+ghost use Rattle.exchange_core.specs.Places.{IsOrdered};
 ghost use Rattle.exchange_table.specs.Tables.{IsLatest};
 ghost use Rattle.exchange_core.specs.Sound.{IsSound};
 ghost use Rattle.exchange_core.specs.States.{state_of, seen, given_in, outgoing, with_draft, HasPlaces, SeesSame};
@@ -28,10 +28,10 @@ use crate::numbering::token_of;
 use crate::room;
 use crate::sealing::seal;
 use crate::sending::draft_first;
-use crate::state::{State, commit, make_places};
+use crate::state::{State, commit, make_places, start};
 use ask_model::{Mapped, Meaning};
 use coap_codec::{Bytes, Token};
-use exchange_model::Exchange;
+use exchange_model::{Exchange, Reader};
 use journal_book::{Entry, Event};
 use message_layer::{FirstSending, LinkFault, Submission};
 use std::alloc::{AllocError, Global};
@@ -76,15 +76,13 @@ fn draft_ask<R: Relation>(
     sent: &Option<FirstSending>,
 ) -> Result<Draft<R>, AllocError>
     requires few { length s.now.journal.entries ≤ MAX_ENTRIES }
-    requires ordered { RiseBy id_of s.now.conns.items }
     requires timely { IsTimed sent.now }
     ensures drafts { IfOk result (λ d. Drafts moment (state_of s.now)
         (Asks conn (ask_of (arc_value mapped.now)) ∷ sent_first peer sent.now) d) }
     ensures answers { IfOk result (λ d. d.answers ≡ []) }
 {
     let asked = Arc::try_clone(mapped)?;
-    let number = s.journal.len() as u32;
-    let mut draft = Draft::new(alloc, number, s.conns.as_slice())?;
+    let mut draft = start(alloc, s);
     draft.enter(Entry {
         moment,
         event: Event::Asked(conn, asked),
@@ -93,22 +91,26 @@ fn draft_ask<R: Relation>(
     Ok(draft)
 }
 
-/// Opens the exchange, hands in its message, and adds what was drafted.
+/// Opens the exchange with its reader, hands in its message, and adds what was drafted.
 fn add_exchange<R: Relation>(
     s: &mut State<R>,
     exchange: Exchange,
+    reader: Reader,
     submission: Submission,
     draft: Draft<R>,
     moment: u64,
 )
     requires early { moment ≤ LAST_MOMENT }
-    requires few { s.old.issued < 4294967295 }
+    requires issued { s.old.issued < 4294967295 }
     requires places { HasPlaces s.old draft }
     requires room { length draft.entries ≤ s.old.journal.room }
+    requires few { length s.old.journal.entries + length draft.entries ≤ MAX_ENTRIES }
+    requires ordered { IsOrdered (state_of s.old) }
     requires exchange { s.old.exchanges.room ≡ true }
+    requires reader { vec_len s.old.readers < vec_capacity s.old.readers }
     requires latest { IsLatest exchange s.old.exchanges.exchanges }
     requires may { MaySubmit moment (link_at s.old.endpoints exchange.peer) submission }
-    ensures state { state_of s.new ≡ with_exchange moment exchange submission.waiting
+    ensures state { state_of s.new ≡ with_exchange moment exchange reader submission.waiting
         (with_draft moment draft (state_of s.old)) }
     ensures bytes { s.new.bytes ≡ capped (s.old.bytes + capped (sum_by entry_size draft.entries)) }
     ensures room { s.new.journal.room + length draft.entries ≡ s.old.journal.room }
@@ -120,6 +122,7 @@ fn add_exchange<R: Relation>(
     s.issued += 1;
     s.endpoints.submit(peer, submission, moment);
     commit(s, draft, moment);
+    s.readers.push_reserved(reader);
 }
 
 /// The code of the request that is asked, or 0 where none is.
@@ -136,14 +139,13 @@ fn method_of<R: Relation>(mapped: &Mapped<R>) -> u8
 fn exchange_of(
     opening: u32,
     moment: u64,
-    conn: u32,
     token: Token,
     peer: Peer,
     method: u8,
     sent: &Option<FirstSending>,
 ) -> Exchange
     requires { opening ≤ MAX_ENTRIES }
-    ensures { result ≡ exchange_by moment conn token peer method sent.now opening }
+    ensures { result ≡ exchange_by moment token peer method sent.now opening }
 {
     let sending = match sent {
         Some(_) => Some(opening + 1),
@@ -155,28 +157,32 @@ fn exchange_of(
         since: moment,
         peer,
         method,
-        conn,
         sending,
+        current: true,
     }
 }
 
-/// Makes places for what was drafted, and for one exchange more.
+/// Makes places for what was drafted, and for one exchange more with its reader.
 fn make_all_places<R: Relation>(s: &mut State<R>, draft: &Draft<R>) -> Result<(), AllocError>
     ensures same { SeesSame s.old s.new }
     ensures endpoints { s.new.endpoints ≡ s.old.endpoints }
     ensures places { OnOk result (HasPlaces s.new draft.now) }
     ensures exchange { OnOk result (s.new.exchanges.room ≡ true) }
+    ensures reader { OnOk result (vec_len s.new.readers < vec_capacity s.new.readers) }
 {
     make_places(s, draft)?;
     s.exchanges.make_room()?;
+    s.readers.try_reserve(1)?;
     Ok(())
 }
 
 /// Enters what was drafted, with its exchange and its message, or seals the journal where there is
 /// no room for it.
 fn enter<R: Relation>(
+    alloc: Global,
     s: &mut State<R>,
     exchange: Exchange,
+    reader: Reader,
     submission: Submission,
     draft: Draft<R>,
     moment: u64,
@@ -186,14 +192,15 @@ fn enter<R: Relation>(
     requires latest { IsLatest exchange s.old.exchanges.exchanges }
     requires early { moment ≤ LAST_MOMENT }
     requires may { MaySubmit moment (link_at s.old.endpoints exchange.peer) submission }
-    ensures { IsEntered result moment exchange submission.waiting draft s.old s.new }
+    ensures { IsEntered result moment exchange reader submission.waiting draft s.old s.new }
 {
-    if !room::takes(s, &draft) {
+    let taken = room::takes(alloc, s, &draft)?;
+    if !taken {
         seal(s, moment);
         return Err(AskFault::Sealed);
     }
     make_all_places(s, &draft)?;
-    add_exchange(s, exchange, submission, draft, moment);
+    add_exchange(s, exchange, reader, submission, draft, moment);
     Ok(())
 }
 
@@ -256,8 +263,13 @@ fn ask<R: Relation>(
     let draft = draft_ask(alloc, s, moment, conn, &mapped, peer, sent)?;
     let number = s.journal.len() as u32;
     let method = method_of(&mapped);
-    let exchange = exchange_of(number, moment, conn, token, peer, method, sent);
-    match enter(s, exchange, submission, draft, moment) {
+    let exchange = exchange_of(number, moment, token, peer, method, sent);
+    let reader = Reader {
+        ask: number,
+        conn,
+        opening: number,
+    };
+    match enter(alloc, s, exchange, reader, submission, draft, moment) {
         Ok(()) => Ok(Ticket {
             conn,
             number,
@@ -267,8 +279,8 @@ fn ask<R: Relation>(
     }
 }
 
-/// Begins the exchange of a request from a connection that waits for nothing, where fewer than 256
-/// are open. Its message goes out at once, or waits for its turn at its endpoint. The random word
+/// Begins the exchange of a request from a connection that waits for nothing, where it joins none and
+/// fewer than 256 are open. Its message goes out at once, or waits for its turn at its endpoint. The random word
 /// makes its token, its first timeout, and the endpoint's first message ID.
 pub fn begin<R: Relation>(
     alloc: Global,
@@ -285,6 +297,7 @@ pub fn begin<R: Relation>(
     requires early { moment ≤ LAST_MOMENT }
     requires asked { asked_peer (arc_value mapped).sense ≡ Some peer }
     requires idle { HasConn s.old.conns.items conn None }
+    requires alone { joined_for (arc_value mapped).sense (state_of s.old) ≡ None }
     requires few { length s.old.exchanges.exchanges < MAX_EXCHANGES }
     ensures sound { IsSound s.new }
     ensures begins { IsBegun result moment word conn (arc_value mapped) peer

@@ -86,6 +86,7 @@ impl<R: Relation> Core<R> {
                 issued: 0,
                 conns: Vec::new(alloc),
                 exchanges: Exchanges::new(alloc),
+                readers: Vec::new(alloc),
                 endpoints,
                 answers: Vec::new(alloc),
                 sends: VecDeque::new(alloc),
@@ -141,11 +142,13 @@ impl<R: Relation> Core<R> {
         serving::is_idle(self.state.conns.as_slice(), conn)
     }
 
-    /// Takes a request of a connection at this moment: it begins an exchange, whose message goes out at
-    /// once or waits for its turn at its endpoint (RFC 7252 section 4.7), or it is answered at once: a
-    /// refusal, or busy where 256 exchanges are open, 64 messages wait at the endpoint, or its message
-    /// IDs are used up. The first call that finds no room for it seals the journal. The word is 64
-    /// random bits, for the token, the ID and the timeout.
+    /// Takes a request of a connection at this moment. A GET joins the open exchange of an equal one,
+    /// unless a write to its place has ended since that was opened (RFC 7252 section 5.6). Else the
+    /// request begins an exchange, whose message goes out at once or waits for its turn at its
+    /// endpoint (section 4.7), or it is answered at once: a refusal, or busy where 256 exchanges are
+    /// open, 64 messages wait at the endpoint, or its message IDs are used up. The first call that
+    /// finds no room for it seals the journal. The word is 64 random bits, for the token, the ID and
+    /// the timeout.
     pub fn ask(
         &mut self,
         moment: u64,
@@ -178,6 +181,7 @@ impl<R: Relation> Core<R> {
             ≡ stepped (hears_in_room (now self.old.state.moment moment) peer datagram.now
             self.old.state) self.old) }
         ensures memory { OnErr result (self.new ≡ self.old) }
+        ensures kept { KeptInRoom self.old.state }
     {
         let moment = self.now(moment);
         hearing::hear(self.alloc, &mut self.state, moment, peer, datagram)
@@ -191,6 +195,7 @@ impl<R: Relation> Core<R> {
         ensures ticks { OnOk result (self.new
             ≡ stepped (ticks_in_room (now self.old.state.moment moment) self.old.state) self.old) }
         ensures memory { OnErr result (self.new ≡ self.old) }
+        ensures kept { KeptInRoom self.old.state }
     {
         let moment = self.now(moment);
         ticking::tick(self.alloc, &mut self.state, moment)
@@ -230,7 +235,7 @@ impl<R: Relation> Core<R> {
     }
 
     /// The moment of the next tick that has something to do, if any has: none before it changes the
-    /// core. After the seal, exchanges count where a connection waits for them, and nothing else does.
+    /// core. After the seal, exchanges count that somebody waits for, and nothing else does.
     pub fn next_due(&self) -> Option<u64>
         ensures is { result ≡ next_tick self.now.state }
         ensures exact { IsNextTick result self.now.state }

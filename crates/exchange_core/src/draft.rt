@@ -1,19 +1,20 @@
 //! What a step adds, built before anything changes.
 
-ghost use Rattle.std.specs.Prelude.{◌≡◌, ◌==◌, ◌+◌, ◌<◌, ◌∷◌, ◌++◌, [], List, not, filter, length, map, sum_by, IfOk, OnOk};
+ghost use Rattle.std.specs.Prelude.{◌≡◌, ◌+◌, ◌≤◌, ◌<◌, ◌∷◌, ◌++◌, [], List, length, map, sum_by, OnOk};
 ghost use Rattle.ask_model.specs.Sizes.{capped};
 ghost use Rattle.journal_book.specs.Entries.{Deed, Sends, Answers, entry_size};
 ghost use Rattle.journal_book.specs.Views.{event_of, item_of};
-ghost use Rattle.exchange_model.specs.State.{State, pend, conns_after};
+ghost use Rattle.exchange_model.specs.Growing.{conns_with};
+ghost use Rattle.exchange_model.specs.State.{State};
 ghost use Rattle.exchange_core.specs.Values.{outgoing_of};
 ghost use Rattle.exchange_core.specs.Answering.{given_of, answer_entry};
 ghost use Rattle.exchange_core.specs.Places.{id_of};
 ghost use Rattle.exchange_table.specs.Places.{RiseBy};
-ghost use Rattle.exchange_core.specs.Drafts.{Drafts, IsAlone, OpensNone, empty_draft, draft_with, draft_sending, draft_answering};
+ghost use Rattle.exchange_core.specs.Drafts.{AllKeep, Drafts, IsAlone, KeepsConns, empty_draft, draft_with, draft_sending, draft_answering};
 
 use crate::answer::Answer;
+use crate::noting::note_all;
 use crate::outgoing::Datagram;
-use crate::places::conn_place;
 use coap_codec::Bytes;
 use exchange_model::Conn;
 use journal_book::{Entry, Event};
@@ -24,44 +25,8 @@ use std::sync::Arc;
 use transformers::Relation;
 use uri_map::Peer;
 
-/// Sets what the connection with this number waits for.
-fn set_pending(conns: &mut [Conn], id: u32, pending: Option<u32>)
-    requires { RiseBy id_of conns.old }
-    ensures { conns.new ≡ map (pend id pending) conns.old }
-{
-    if let Some(place) = conn_place(conns, id) {
-        conns[place].pending = pending;
-    }
-}
-
-/// What an entry with this number does to the connections, where it opens none.
-fn note<R: Relation>(conns: &mut Vec<Conn>, number: u32, event: &Event<R>)
-    requires ordered { RiseBy id_of conns.old.items }
-    requires opens_none { OpensNone (event_of event.now) }
-    ensures conns { conns.new.items ≡ conns_after conns.old.items number (event_of event.now) }
-    ensures ordered { RiseBy id_of conns.new.items }
-{
-    match event {
-        Event::Opened(_) => {}
-        Event::Asked(conn, _) => set_pending(conns, *conn, Some(number)),
-        Event::Answered { conn, .. } => set_pending(conns, *conn, None),
-        Event::Shut(id) => drop_conn(conns, *id),
-        _ => {}
-    }
-}
-
-/// Takes out the connection with this number.
-pub fn drop_conn(conns: &mut Vec<Conn>, id: u32)
-    requires { RiseBy id_of conns.old.items }
-    ensures { conns.new.items ≡ filter (λ x. not (x.id == id)) conns.old.items }
-{
-    if let Some(place) = conn_place(conns.as_slice(), id) {
-        conns.remove(place);
-    }
-}
-
-/// The entries that a step adds, in order, the connections after them, and the datagrams and the
-/// answers among them.
+/// The entries that a step adds, in order, and the datagrams and the answers among them. Its type
+/// keeps that none opens or shuts a connection.
 #[derive(Drop)]
 pub struct Draft<R: Relation> {
     alloc: Global,
@@ -76,7 +41,6 @@ pub struct Draft<R: Relation> {
 #[derive(Drop)]
 pub struct Parts<R: Relation> {
     pub entries: VecDeque<Entry<R>>,
-    pub conns: Vec<Conn>,
     pub sends: VecDeque<Datagram>,
     pub answers: VecDeque<Answer<R>>,
 }
@@ -88,47 +52,43 @@ impl<R: Relation> Model for Draft<R> {
     ghost use Rattle.journal_book.specs.Views.{item_of};
     ghost use Rattle.exchange_core.specs.Values.{outgoing_of};
     ghost use Rattle.exchange_core.specs.Answering.{given_of};
-    ghost use Rattle.exchange_core.specs.Drafts.{DraftValue};
-    ghost use Rattle.exchange_core.specs.Places.{id_of};
-    ghost use Rattle.exchange_table.specs.Places.{RiseBy};
+    ghost use Rattle.exchange_core.specs.Drafts.{AllKeep, DraftValue};
 
     ghost Value = { DraftValue };
 
     ghost view = { λ d. record {
       next = d.next;
       entries = map item_of d.parts.entries.items;
-      conns = d.parts.conns.items;
       sends = map outgoing_of d.parts.sends.items;
       answers = map given_of d.parts.answers.items;
     } };
 
     ghost invariant = { λ d. (d.bytes
         ≡ capped (sum_by entry_size (map item_of d.parts.entries.items)))
-        × RiseBy id_of d.parts.conns.items };
+        × AllKeep (map item_of d.parts.entries.items) };
 }
 
 impl<R: Relation> Draft<R> {
-    /// Nothing yet, where there are so many entries and these connections.
-    pub fn new(alloc: Global, entries: u32, conns: &[Conn]) -> Result<Draft<R>, AllocError>
-        requires { RiseBy id_of conns.now }
-        ensures { IfOk result (λ d. d ≡ empty_draft entries conns.now) }
+    /// Nothing yet, where there are so many entries.
+    pub fn new(alloc: Global, entries: u32) -> Draft<R>
+        ensures { result ≡ empty_draft entries }
     {
-        Ok(Draft {
+        Draft {
             alloc,
             parts: Parts {
                 entries: VecDeque::new(alloc),
-                conns: Vec::from_slice(alloc, conns)?,
                 sends: VecDeque::new(alloc),
                 answers: VecDeque::new(alloc),
             },
             next: entries,
             bytes: 0,
-        })
+        }
     }
 
-    /// How many entries there are.
+    /// How many entries there are, none of which opens or shuts a connection.
     pub fn len(&self) -> usize
-        ensures { result ≡ length self.now.entries }
+        ensures len { result ≡ length self.now.entries }
+        ensures keep { AllKeep self.now.entries }
     {
         self.parts.entries.len()
     }
@@ -147,12 +107,13 @@ impl<R: Relation> Draft<R> {
         self.next
     }
 
-    /// The connections after the entries.
-    pub fn conns(&self) -> &[Conn]
-        ensures is { result.now ≡ self.now.conns }
-        ensures ordered { RiseBy id_of result.now }
+    /// Does to connections what the entries do, the first of which has this number.
+    pub fn note(&self, conns: &mut Vec<Conn>, first: u32)
+        requires ordered { RiseBy id_of conns.old.items }
+        requires few { first + length self.now.entries ≤ 4294967295 }
+        ensures { conns.new.items ≡ conns_with conns.old.items first self.now.entries }
     {
-        self.parts.conns.as_slice()
+        note_all(conns, first, &self.parts.entries);
     }
 
     /// How many datagrams go out.
@@ -169,10 +130,10 @@ impl<R: Relation> Draft<R> {
         self.parts.answers.len()
     }
 
-    /// The entries, the connections, the datagrams and the answers.
+    /// The entries, the datagrams and the answers.
     pub fn into_parts(self) -> Parts<R>
         ensures entries { map item_of result.entries.items ≡ self.entries }
-        ensures conns { result.conns.items ≡ self.conns }
+        ensures keep { AllKeep self.entries }
         ensures sends { map outgoing_of result.sends.items ≡ self.sends }
         ensures answers { map given_of result.answers.items ≡ self.answers }
     {
@@ -182,7 +143,7 @@ impl<R: Relation> Draft<R> {
     /// An entry more, which neither sends nor answers.
     pub fn enter(&mut self, entry: Entry<R>) -> Result<(), AllocError>
         requires next { self.old.next < 4294967295 }
-        requires opens_none { OpensNone (event_of entry.event) }
+        requires keeps { KeepsConns (event_of entry.event) }
         ensures drafts { (S : State) (ds : List Deed) → IsAlone (event_of entry.event)
             → Drafts entry.moment S ds self.old
             → OnOk result (Drafts entry.moment S (ds ++ event_of entry.event ∷ []) self.new) }
@@ -196,12 +157,11 @@ impl<R: Relation> Draft<R> {
     /// An entry more.
     fn add(&mut self, entry: Entry<R>) -> Result<(), AllocError>
         requires next { self.old.next < 4294967295 }
-        requires opens_none { OpensNone (event_of entry.event) }
+        requires keeps { KeepsConns (event_of entry.event) }
         ensures { OnOk result (self.new ≡ draft_with (item_of entry) self.old) }
     {
         let size = entry.size();
         self.parts.entries.reserve(1)?;
-        note(&mut self.parts.conns, self.next, &entry.event);
         self.parts.entries.push_back_reserved(entry);
         self.bytes = self.bytes.saturating_add(size);
         self.next += 1;

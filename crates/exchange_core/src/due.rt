@@ -4,15 +4,16 @@ ghost use Rattle.std.specs.Prelude.{◌≡◌, ◌≤◌, ◌^◌};
 ghost use Rattle.std.specs.List.{AllByRecursion};
 ghost use Rattle.exchange_model.specs.Due.{earlier, earliest, deadline, next_due};
 ghost use Rattle.exchange_model.specs.Steps.{is_past};
-ghost use Rattle.exchange_core.specs.Due.{IsSince, next_late, next_tick};
-ghost use Rattle.exchange_core.specs.Places.{OpenLater, id_of};
 ghost use Rattle.exchange_table.specs.Places.{RiseBy};
+ghost use Rattle.exchange_table.specs.Tables.{opening_of};
+ghost use Rattle.exchange_core.specs.Due.{IsSince, next_late, next_tick, read_deadline};
+ghost use Rattle.exchange_core.specs.Places.{OpenLater};
 ghost use Rattle.exchange_core.specs.Sound.{IsSound};
 ghost use Rattle.exchange_core.specs.States.{state_of};
 
-use crate::exchanges::is_awaited;
 use crate::state::State;
-use exchange_model::{Conn, Exchange};
+use exchange_model::{Exchange, Reader};
+use exchange_table::read_by;
 use limits::MAX_TRANSMIT_WAIT;
 use transformers::Relation;
 
@@ -57,17 +58,25 @@ pub fn next_due<R: Relation>(s: &State<R>) -> Option<u64>
     )
 }
 
-/// The first moment at which an exchange took too long for which a connection waits.
-fn earliest_awaited(exchanges: &[Exchange], conns: &[Conn]) -> Option<u64>
+/// The moment at which the exchange that the reader waits for took too long.
+fn read_deadline(exchanges: &[Exchange], reader: &Reader) -> Option<u64>
     requires early { AllByRecursion IsSince exchanges.now }
-    requires ordered { RiseBy id_of conns.now }
-    ensures { result ≡ next_late conns.now exchanges.now }
+    requires ordered { RiseBy opening_of exchanges.now }
+    ensures { result ≡ read_deadline exchanges.now reader.now }
+{
+    let exchange = read_by(exchanges, reader)?;
+    Some(exchange.since + MAX_TRANSMIT_WAIT)
+}
+
+/// The first such moment, of all who wait.
+fn next_late(exchanges: &[Exchange], readers: &[Reader]) -> Option<u64>
+    requires early { AllByRecursion IsSince exchanges.now }
+    requires ordered { RiseBy opening_of exchanges.now }
+    ensures { result ≡ next_late readers.now exchanges.now }
 {
     let mut first = None;
-    'each: for e in exchanges {
-        if is_awaited(e, conns) {
-            first = earlier(first, Some(e.since + MAX_TRANSMIT_WAIT));
-        }
+    'each: for reader in readers {
+        first = earlier(first, read_deadline(exchanges, reader));
     }
     first
 }
@@ -79,7 +88,7 @@ pub fn next_tick<R: Relation>(s: &State<R>) -> Option<u64>
     ensures { result ≡ next_tick (state_of s.now) }
 {
     if s.sealed {
-        return earliest_awaited(s.exchanges.as_slice(), &s.conns);
+        return next_late(s.exchanges.as_slice(), &s.readers);
     }
     next_due(s)
 }

@@ -1,93 +1,114 @@
-//! Exchanges that end, for whatever reason, and whoever waits for them.
+//! Exchanges that end, for whatever reason, and all who wait for them.
 
-ghost use Rattle.std.specs.Prelude.{ℕ, ◌≡◌, ◌≤◌, ◌<◌, ◌+◌, ◌++◌, List, length, IfOk, OnOk};
+ghost use Rattle.std.specs.Prelude.{◌≡◌, ◌≤◌, ◌<◌, ◌+◌, ◌∷◌, ◌++◌, [], List, length, map, IfOk, OnOk};
 ghost use Rattle.std.specs.List.{AllByRecursion};
-ghost use Rattle.journal_book.specs.Entries.{Written};
+ghost use Rattle.journal_book.specs.Entries.{Deed, Written};
 ghost use Rattle.exchange_model.specs.State.{State as CoreState};
 ghost use Rattle.exchange_core.specs.Answering.{given_of};
-ghost use Rattle.exchange_core.specs.Asked.{IsOpenedIn};
-ghost use Rattle.exchange_core.specs.Ending.{EndsIn, IsAnswerTo, finished, finishes};
-ghost use Rattle.exchange_core.specs.Leads.{Leads};
+ghost use Rattle.exchange_core.specs.Asked.{IsAskIn};
+ghost use Rattle.exchange_core.specs.Drafts.{IsDrafted};
+ghost use Rattle.exchange_core.specs.Ending.{IsAnswerTo, IsTold, deed_of, readers_told};
 
 use crate::answer::Answer;
 use crate::draft::Draft;
-use crate::exchanges::is_awaited;
 use crate::requests::request_of;
-use exchange_model::Exchange;
+use exchange_model::{Exchange, Reader};
 use journal_book::Journal;
 use reply_reading::Finding;
-use std::alloc::AllocError;
+use std::alloc::{AllocError, Global};
 use std::collections::VecDeque;
 use transformers::Relation;
 
-/// An exchange that ends, and what its ask comes to.
+/// Who is told what an exchange came to.
 #[derive(Drop)]
-pub struct Ended {
-    pub exchange: Exchange,
+pub struct Telling {
+    pub reader: Reader,
     pub finding: Finding,
 }
 
-/// The answer to the ask that opened the exchange, in the entry with this number.
+/// All who wait for the exchange are told what was found.
+pub fn readers_told(
+    alloc: Global,
+    exchange: &Exchange,
+    finding: &Finding,
+    readers: &[Reader],
+) -> Result<VecDeque<Telling>, AllocError>
+    ensures { IfOk result
+        (λ v. v.items ≡ readers_told exchange.now finding.now readers.now) }
+{
+    let mut told = VecDeque::new(alloc);
+    'each: for reader in readers {
+        if reader.opening == exchange.opening {
+            told.push_back(Telling {
+                reader: *reader,
+                finding: finding.copy()?,
+            })?;
+        }
+    }
+    Ok(told)
+}
+
+/// The answer to the reader's ask, in the entry with this number.
 fn answer_to<R: Relation>(
     journal: &Journal<R>,
-    ended: Ended,
+    telling: Telling,
     number: u32,
     moment: u64,
 ) -> Result<Answer<R>, AllocError>
-    requires { IsOpenedIn journal.now.entries ended.exchange }
+    requires { IsAskIn journal.now.entries telling.reader.ask }
     ensures { IfOk result
-        (λ a. IsAnswerTo journal.now.entries moment number ended (given_of a)) }
+        (λ a. IsAnswerTo journal.now.entries moment number telling (given_of a)) }
 {
-    let mapped = request_of(journal, ended.exchange.opening)?;
+    let mapped = request_of(journal, telling.reader.ask)?;
     Ok(Answer {
-        conn: ended.exchange.conn,
-        ask: ended.exchange.opening,
+        conn: telling.reader.conn,
+        ask: telling.reader.ask,
         number,
         mapped,
         moment,
         heard: moment,
-        finding: ended.finding,
+        finding: telling.finding,
     })
 }
 
-/// The exchange ends: the connection that waits for it still, if one does, is answered.
-fn draft_end<R: Relation>(
+/// The reader is told.
+fn draft_telling<R: Relation>(
     draft: &mut Draft<R>,
     journal: &Journal<R>,
-    ended: Ended,
+    telling: Telling,
     moment: u64,
 ) -> Result<(), AllocError>
     requires room { draft.old.next < 4294967295 }
-    requires ends { EndsIn journal.now.entries draft.old.entries moment ended }
-    ensures leads { (S U : CoreState) → S.entries ≡ journal.now.entries → Leads moment S U draft.old
-        → OnOk result (Leads moment S (finishes moment U ended) draft.new) }
-    ensures next { OnOk result (draft.new.next ≤ draft.old.next + 1) }
+    requires told { IsTold journal.now.entries draft.old.entries moment telling }
+    ensures drafted { (S : CoreState) (ds : List Deed) → S.entries ≡ journal.now.entries
+        → IsDrafted moment S ds draft.old
+        → OnOk result (IsDrafted moment S (ds ++ deed_of telling ∷ []) draft.new) }
+    ensures next { OnOk result (draft.new.next ≡ draft.old.next + 1) }
     ensures grows { OnOk result
-        ((more : List Written) × (draft.new.entries ≡ draft.old.entries ++ more)) }
+        ((w : Written) × (draft.new.entries ≡ draft.old.entries ++ w ∷ [])) }
 {
-    if is_awaited(&ended.exchange, draft.conns()) {
-        let answer = answer_to(journal, ended, draft.next(), moment)?;
-        draft.answer(answer)?;
-    }
+    let answer = answer_to(journal, telling, draft.next(), moment)?;
+    draft.answer(answer)?;
     Ok(())
 }
 
-/// These exchanges end, in their order.
-pub fn draft_ends<R: Relation>(
+/// All of these are told, in their order.
+pub fn draft_tellings<R: Relation>(
     draft: &mut Draft<R>,
     journal: &Journal<R>,
-    ended: VecDeque<Ended>,
+    told: VecDeque<Telling>,
     moment: u64,
 ) -> Result<(), AllocError>
-    requires room { draft.old.next + length ended.items ≤ 4294967295 }
-    requires ends { AllByRecursion
-        (EndsIn journal.now.entries draft.old.entries moment) ended.items }
-    ensures leads { (S U : CoreState) → S.entries ≡ journal.now.entries → Leads moment S U draft.old
-        → OnOk result (Leads moment S (finished moment ended.items U) draft.new) }
+    requires room { draft.old.next + length told.items ≤ 4294967295 }
+    requires told { AllByRecursion
+        (IsTold journal.now.entries draft.old.entries moment) told.items }
+    ensures { (S : CoreState) (ds : List Deed) → S.entries ≡ journal.now.entries
+        → IsDrafted moment S ds draft.old
+        → OnOk result (IsDrafted moment S (ds ++ map deed_of told.items) draft.new) }
 {
-    let mut ended = ended;
-    'each: while let Some(next) = ended.pop_front() {
-        draft_end(draft, journal, next, moment)?;
+    let mut told = told;
+    'each: while let Some(telling) = told.pop_front() {
+        draft_telling(draft, journal, telling, moment)?;
     }
     Ok(())
 }

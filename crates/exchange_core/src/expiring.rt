@@ -3,6 +3,7 @@
 ghost use Rattle.std.specs.Prelude.{◌≡◌, ◌≤◌, ◌^◌, filter, map, IfOk};
 ghost use Rattle.limits.specs.declared.TheConstants.{LAST_MOMENT};
 ghost use Rattle.exchange_model.specs.Entering.{token_of};
+ghost use Rattle.exchange_model.specs.Steps.{left_by};
 ghost use Rattle.exchange_core.specs.Expiring.{is_over, is_over_by, is_still, is_still_by, is_that};
 
 use crate::due::is_past;
@@ -10,7 +11,9 @@ use coap_codec::Token;
 use endpoint_table::{Endpoints, GivenUp, find_given_up};
 use exchange_model::Exchange;
 use exchange_table::Exchanges;
+use journal_book::Journal;
 use std::alloc::{AllocError, Global};
+use transformers::Relation;
 
 /// Whether the exchange ends: it has been open for as long as it may, or its message is given up.
 fn is_over(exchange: &Exchange, given: &[GivenUp], moment: u64) -> bool
@@ -81,6 +84,16 @@ pub fn sort_by_end(
     let (over, still) = sort_rows(alloc, exchanges.as_slice(), &given, moment)?;
     let still = exchanges.part(alloc, still)?;
     Ok(Sorted { over, still })
+}
+
+/// These exchanges have ended: where they were writes, GETs join those of their places no more.
+pub fn outrun_all<R: Relation>(still: &mut Exchanges, journal: &Journal<R>, over: &[Exchange])
+    ensures { still.new.exchanges
+        ≡ left_by journal.now.entries over.now still.old.exchanges }
+{
+    'each: for e in over {
+        still.outrun(journal, e);
+    }
 }
 
 /// The tokens of exchanges.

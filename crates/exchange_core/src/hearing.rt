@@ -2,42 +2,40 @@
 
 ghost use Rattle.std.specs.List.{AllByRecursion};
 ghost use Rattle.coap_codec.specs.Spelling.{Content, Spells};
-ghost use Rattle.exchange_core.specs.Answering.{IsGiven};
 ghost use Rattle.endpoint_table.specs.Tables.{link_at};
-ghost use Rattle.std.specs.Prelude.{ℕ, ◌≡◌, ◌≤◌, ◌<◌, ◌^◌, ◌+◌, ◌∷◌, ◌++◌, [], List, None, Some, true, false, map, filter, is_some, sum_by, length, IfOk, IfSome, OnOk, OnErr};
+ghost use Rattle.std.specs.Prelude.{ℕ, ◌≡◌, ◌≤◌, ◌<◌, ◌^◌, ◌+◌, ◌∷◌, ◌++◌, [], List, None, Some, true, false, map, filter, is_some, option_to_list, sum_by, length, IfOk, IfSome, OnOk, OnErr};
 ghost use Rattle.limits.specs.declared.TheConstants.{LAST_MOMENT, MAX_ENTRIES};
 ghost use Rattle.journal_book.specs.Entries.{Deed};
 ghost use Rattle.message_layer.specs.Values.{told, response};
 ghost use Rattle.message_layer.specs.Hearing.{listed};
 ghost use Rattle.message_layer.specs.Prepared.{IsHearing, MayHeed};
 ghost use Rattle.exchange_model.specs.State.{State as CoreState, link_of};
-ghost use Rattle.exchange_model.specs.Calls.{ended_in, method_in};
-ghost use Rattle.exchange_model.specs.Steps.{is_other};
+ghost use Rattle.exchange_model.specs.Calls.{method_in};
+ghost use Rattle.exchange_model.specs.Steps.{is_other, left_by, ended_in};
 ghost use Rattle.exchange_model.specs.Entering.{confirm};
 ghost use Rattle.exchange_model.specs.Sealing.{hears_in_room};
 ghost use Rattle.ask_model.specs.Sizes.{capped};
 ghost use Rattle.journal_book.specs.Entries.{entry_size};
-ghost use Rattle.exchange_core.specs.Drafts.{Drafts};
+ghost use Rattle.exchange_model.specs.Growing.{IsKnown};
+ghost use Rattle.exchange_core.specs.Drafts.{Drafts, IsDrafted};
 ghost use Rattle.exchange_core.specs.Sound.{IsSound};
 ghost use Rattle.exchange_core.specs.Values.{stepped};
-ghost use Rattle.exchange_core.specs.Asked.{IsOpenedIn};
-ghost use Rattle.exchange_core.specs.Hearing.{exchanges_after, first_number, note_next, tables_after, with_heard, found_in, over_in, ended_by, link_deeds, hearing_deeds};
+ghost use Rattle.exchange_core.specs.Hearing.{exchanges_after, first_number, note_next, tables_after, with_heard, found_in, over_in, told_by, link_deeds, hearing_deeds};
 ghost use Rattle.exchange_core.specs.Sending.{IsTimed, sent_first};
-ghost use Rattle.exchange_core.specs.Places.{id_of};
-ghost use Rattle.exchange_table.specs.Places.{RiseBy};
+ghost use Rattle.exchange_core.specs.Places.{IsOrdered};
 ghost use Rattle.exchange_core.specs.States.{state_of, seen, given_in, outgoing, SeesSame};
 
 use crate::draft::Draft;
-use crate::ending::{Ended, draft_ends};
+use crate::ending::{Telling, draft_tellings, readers_told};
 use crate::room::takes;
 use crate::sealing::seal;
 use crate::sending::draft_first;
-use crate::state::{State, commit, make_places};
+use crate::state::{State, commit, make_places, start};
 use ask_model::Cause;
 use coap_codec::{Bytes as Whole, Token};
-use exchange_model::Exchange;
+use exchange_model::{Exchange, Reader};
 use exchange_table::Exchanges;
-use journal_book::{Entry, Event};
+use journal_book::{Entry, Event, Journal};
 use message_layer::{Bytes, FirstSending, Hearing, Heeding, News, Up};
 use reply_reading::{Finding, finding_of};
 use std::alloc::{AllocError, Global};
@@ -114,17 +112,6 @@ fn draft_reply<R: Relation>(
     Ok(())
 }
 
-/// Nothing yet, after the entries that there are.
-fn start<R: Relation>(alloc: Global, s: &State<R>) -> Result<Draft<R>, AllocError>
-    requires few { length s.now.journal.entries ≤ MAX_ENTRIES }
-    requires ordered { RiseBy id_of s.now.conns.items }
-    ensures drafts { (t : ℕ) → IfOk result (λ d. Drafts t (state_of s.now) [] d) }
-    ensures answers { IfOk result (λ d. d.answers ≡ []) }
-{
-    let draft = Draft::new(alloc, s.journal.len() as u32, s.conns.as_slice())?;
-    Ok(draft)
-}
-
 /// The datagram came; the ACK or RST, and the next message, go out.
 fn draft_link<R: Relation>(
     alloc: Global,
@@ -135,13 +122,12 @@ fn draft_link<R: Relation>(
     heeding: &Heeding,
 ) -> Result<Draft<R>, AllocError>
     requires few { length s.now.journal.entries ≤ MAX_ENTRIES }
-    requires ordered { RiseBy id_of s.now.conns.items }
     requires timed { IsTimed heeding.now.next }
     ensures drafts { IfOk result (λ d. Drafts moment (state_of s.now)
         (link_deeds peer datagram.now heeding.now) d) }
     ensures answers { IfOk result (λ d. d.answers ≡ []) }
 {
-    let mut draft = start(alloc, s)?;
+    let mut draft = start(alloc, s);
     let bytes = Whole::from_slice(alloc, datagram)?;
     draft.enter(Entry {
         moment,
@@ -152,25 +138,24 @@ fn draft_link<R: Relation>(
     Ok(draft)
 }
 
-/// The exchange that the datagram in the entry with this number ends, if any, and what its ask comes
-/// to.
-fn ended_by(
+/// All who wait for the exchange that the datagram in the entry with this number ends, if any, and
+/// what their asks come to.
+fn told_by(
     alloc: Global,
     exchanges: &Exchanges,
+    readers: &[Reader],
     number: u32,
     heeding: &Heeding,
     up: Up,
-) -> Result<VecDeque<Ended>, AllocError>
+) -> Result<VecDeque<Telling>, AllocError>
     ensures { let e = ended_in (over_in heeding.now) exchanges.now.exchanges in
-        IfOk result (λ v. v.items ≡ ended_by e (found_in number e (told up))) }
+        IfOk result (λ v. v.items ≡ told_by e (found_in number e (told up)) readers.now) }
 {
-    let mut ended = VecDeque::new(alloc);
-    let exchange = ended_exchange(exchanges, ended_token(heeding));
-    let finding = finding_in(alloc, number, &exchange, up)?;
-    if let (Some(exchange), Some(finding)) = (exchange, finding) {
-        ended.push_back(Ended { exchange, finding })?;
+    let ended = ended_exchange(exchanges, ended_token(heeding));
+    match (ended, finding_in(alloc, number, &ended, up)?) {
+        (Some(exchange), Some(finding)) => readers_told(alloc, &exchange, &finding, readers),
+        _ => Ok(VecDeque::new(alloc)),
     }
-    Ok(ended)
 }
 
 /// All that the datagram brings.
@@ -184,30 +169,33 @@ fn draft_heard<R: Relation>(
     up: Up,
 ) -> Result<Draft<R>, AllocError>
     requires few { length s.now.journal.entries ≤ MAX_ENTRIES }
-    requires conns { RiseBy id_of s.now.conns.items }
+    requires readers { length s.now.readers.items ≤ MAX_ENTRIES }
+    requires known { AllByRecursion (IsKnown (state_of s.now)) s.now.readers.items }
     requires timed { IsTimed heeding.now.next }
-    requires opened { AllByRecursion (IsOpenedIn s.now.journal.entries)
-        s.now.exchanges.exchanges }
     requires spelled { (m : Content) → told up ≡ response m → Spells m datagram.now }
-    ensures drafts { IfOk result (λ d. Drafts moment (state_of s.now)
+    ensures { IfOk result (λ d. IsDrafted moment (state_of s.now)
         (hearing_deeds peer datagram.now heeding.now (told up) (state_of s.now)) d) }
-    ensures given { IfOk result (λ d.
-        AllByRecursion (IsGiven (s.now.journal.entries ++ d.entries)) d.answers) }
 {
     let number = s.journal.len() as u32;
     let mut draft = draft_link(alloc, s, moment, peer, datagram, heeding)?;
-    let ended = ended_by(alloc, &s.exchanges, number, heeding, up)?;
-    draft_ends(&mut draft, &s.journal, ended, moment)?;
+    let told = told_by(alloc, &s.exchanges, &s.readers, number, heeding, up)?;
+    draft_tellings(&mut draft, &s.journal, told, moment)?;
     Ok(draft)
 }
 
-/// The exchange ends that the datagram ends.
-fn end_exchange(exchanges: &mut Exchanges, heeding: &Heeding)
-    ensures { exchanges.new.exchanges
-        ≡ filter (is_other (over_in heeding.now)) exchanges.old.exchanges }
+/// The exchange ends that the datagram ends. Where it was a write, GETs join those of its place no more.
+fn end_exchange<R: Relation>(exchanges: &mut Exchanges, journal: &Journal<R>, heeding: &Heeding)
+    ensures { let over = over_in heeding.now in let es = exchanges.old.exchanges in
+        exchanges.new.exchanges
+        ≡ left_by journal.now.entries (option_to_list (ended_in over es)) (filter (is_other over) es) }
 {
-    if let Some(token) = ended_token(heeding) {
-        exchanges.remove(&token);
+    let Some(token) = ended_token(heeding) else {
+        return;
+    };
+    let ended = exchanges.find(&token).copied();
+    exchanges.remove(&token);
+    if let Some(exchange) = &ended {
+        exchanges.outrun(journal, exchange);
     }
 }
 
@@ -231,13 +219,14 @@ fn first_number(number: u32, heeding: &Heeding) -> u32
     }
 }
 
-/// The exchanges after the datagram, whose own entry has this number.
-fn change_exchanges(exchanges: &mut Exchanges, heeding: &Heeding, number: u32)
-    requires few { number ≤ MAX_ENTRIES }
+/// The exchanges after the datagram, whose own entry comes next.
+fn change_exchanges<R: Relation>(exchanges: &mut Exchanges, journal: &Journal<R>, heeding: &Heeding)
+    requires few { length journal.now.entries ≤ MAX_ENTRIES }
     ensures { exchanges.new.exchanges
-        ≡ exchanges_after number heeding.now exchanges.old.exchanges }
+        ≡ exchanges_after journal.now.entries heeding.now exchanges.old.exchanges }
 {
-    end_exchange(exchanges, heeding);
+    end_exchange(exchanges, journal, heeding);
+    let number = journal.len() as u32;
     note_next(exchanges, &heeding.next, first_number(number, heeding));
 }
 
@@ -249,12 +238,13 @@ fn change_tables<R: Relation>(s: &mut State<R>, peer: Peer, moment: u64, heeding
     requires known { is_some (link_of s.old.endpoints.links peer).last_mid ≡ true }
     ensures state { state_of s.new ≡ tables_after moment peer heeding (state_of s.old) }
     ensures journal { s.new.journal ≡ s.old.journal }
+    ensures conns { s.new.conns ≡ s.old.conns }
+    ensures readers { s.new.readers ≡ s.old.readers }
     ensures bytes { s.new.bytes ≡ s.old.bytes }
     ensures answers { s.new.answers ≡ s.old.answers }
     ensures sends { s.new.sends ≡ s.old.sends }
 {
-    let number = s.journal.len() as u32;
-    change_exchanges(&mut s.exchanges, &heeding, number);
+    change_exchanges(&mut s.exchanges, &s.journal, &heeding);
     let over = ended_token(&heeding);
     s.endpoints.heed(&peer, heeding, over, moment);
 }
@@ -268,7 +258,8 @@ fn add_heard<R: Relation>(
     draft: Draft<R>,
 ) -> Result<(), AllocError>
     requires room { length draft.entries ≤ s.old.journal.room }
-    requires few { length s.old.journal.entries ≤ MAX_ENTRIES }
+    requires few { length s.old.journal.entries + length draft.entries ≤ MAX_ENTRIES }
+    requires ordered { IsOrdered (state_of s.old) }
     requires early { moment ≤ LAST_MOMENT }
     requires ready { MayHeed moment (link_at s.old.endpoints peer) heeding }
     requires known { is_some (link_of s.old.endpoints.links peer).last_mid ≡ true }
@@ -308,7 +299,8 @@ fn take<R: Relation>(
 {
     let Hearing { heeding, up } = hearing;
     let draft = draft_heard(alloc, s, moment, peer, datagram, &heeding, up)?;
-    if !takes(s, &draft) {
+    let taken = takes(alloc, s, &draft)?;
+    if !taken {
         seal(s, moment);
         return Ok(());
     }

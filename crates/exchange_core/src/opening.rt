@@ -11,8 +11,8 @@ ghost use Rattle.exchange_table.specs.Places.{RiseBy};
 ghost use Rattle.exchange_core.specs.Sound.{IsSound};
 ghost use Rattle.exchange_core.specs.States.{state_of, given_in, outgoing, seen};
 
-use crate::draft::drop_conn;
 use crate::fault::OpenFault;
+use crate::noting::{drop_conn, drop_readers};
 use crate::places::conn_place;
 use crate::room;
 use crate::sealing::seal;
@@ -78,7 +78,7 @@ fn has_conn(conns: &[Conn], id: u32) -> bool
     conn_place(conns, id).is_some()
 }
 
-/// Takes a connection out, and adds its entry.
+/// Takes a connection out, with who waits on it, and adds its entry.
 fn take_conn<R: Relation>(s: &mut State<R>, moment: u64, conn: u32)
     requires room { 0 < s.old.journal.room }
     requires ordered { RiseBy id_of s.old.conns.items }
@@ -93,6 +93,7 @@ fn take_conn<R: Relation>(s: &mut State<R>, moment: u64, conn: u32)
         event: Event::Shut(conn),
     });
     drop_conn(&mut s.conns, conn);
+    drop_readers(&mut s.readers, conn);
     s.bytes = s.bytes.saturating_add(64);
     s.moment = moment;
 }

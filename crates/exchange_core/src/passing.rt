@@ -1,24 +1,25 @@
 //! What a tick does, prepared before the core changes.
 
 ghost use Rattle.std.specs.Prelude.{ℕ, ◌≡◌, ◌≤◌, ◌^◌, ◌+◌, ◌++◌, true, false, filter, length, sum_by, IfOk, OnOk};
-ghost use Rattle.limits.specs.declared.TheConstants.{LAST_MOMENT};
+ghost use Rattle.limits.specs.declared.TheConstants.{LAST_MOMENT, MAX_ENTRIES};
 ghost use Rattle.ask_model.specs.Sizes.{capped};
 ghost use Rattle.journal_book.specs.Entries.{entry_size};
 ghost use Rattle.message_layer.specs.Calls.{is_among};
-ghost use Rattle.exchange_model.specs.Calls.{something_due, timed_out};
-ghost use Rattle.exchange_model.specs.Entering.{all_deeds, all_going, goes_on, gone_tokens, sent_as};
-ghost use Rattle.exchange_model.specs.Steps.{is_gone};
+ghost use Rattle.exchange_model.specs.Calls.{something_due};
+ghost use Rattle.exchange_model.specs.Entering.{all_deeds, all_going, gone_tokens, sent_as, tick_deeds};
+ghost use Rattle.exchange_model.specs.Steps.{is_gone, left_by, timed_out, goes_on};
 ghost use Rattle.endpoint_table.specs.Turns.{AreTurns, turns_deeds, turns_going};
-ghost use Rattle.exchange_core.specs.Leads.{Leads};
-ghost use Rattle.exchange_core.specs.Passing.{moved_on, tick_adds};
+ghost use Rattle.exchange_core.specs.Drafts.{IsDrafted};
+ghost use Rattle.exchange_core.specs.Passing.{moved_on};
+ghost use Rattle.exchange_core.specs.Places.{IsOrdered};
 ghost use Rattle.exchange_core.specs.Sound.{IsSound};
 ghost use Rattle.exchange_core.specs.States.{given_in, outgoing, state_of, HasPlaces, SeesSame};
 ghost use Rattle.exchange_core.specs.Turns.{AreTimed};
 
 use crate::draft::Draft;
 use crate::due::next_due;
-use crate::expiring::{Sorted, sort_by_end, tokens_of};
-use crate::state::{self, State};
+use crate::expiring::{Sorted, outrun_all, sort_by_end, tokens_of};
+use crate::state::{self, State, start};
 use crate::timeouts::draft_timeouts;
 use crate::turns::draft_turns;
 use coap_codec::Token;
@@ -30,7 +31,7 @@ use std::alloc::{AllocError, Global};
 use std::collections::VecDeque;
 use transformers::Relation;
 
-/// The exchanges that end at this moment, and those that go on.
+/// The exchanges that end at this moment, and those that go on, some of which they outrun.
 pub fn sort_at<R: Relation>(
     alloc: Global,
     s: &mut State<R>,
@@ -41,10 +42,12 @@ pub fn sort_at<R: Relation>(
     ensures same { SeesSame s.old s.new }
     ensures over { IfOk result (λ x. x.over.items ≡ timed_out moment (state_of s.old)) }
     ensures still { IfOk result
-        (λ x. x.still.exchanges
-        ≡ filter (goes_on moment (state_of s.old)) s.old.exchanges.exchanges) }
+        (λ x. x.still.exchanges ≡ left_by s.old.journal.entries (timed_out moment (state_of s.old))
+        (filter (goes_on moment (state_of s.old)) s.old.exchanges.exchanges)) }
 {
-    sort_by_end(alloc, &s.exchanges, &mut s.endpoints, moment)
+    let Sorted { over, mut still } = sort_by_end(alloc, &s.exchanges, &mut s.endpoints, moment)?;
+    outrun_all(&mut still, &s.journal, &over);
+    Ok(Sorted { over, still })
 }
 
 /// Drafts what a tick does that has something to do, and notes the first sendings at the
@@ -67,19 +70,19 @@ fn draft_tick<R: Relation>(
         ≡ all_deeds moment (is_gone moment (state_of s.now)) (state_of s.now).links }
     requires going { (n : ℕ) → turns_going n turns.now.items
         ≡ all_going moment (is_gone moment (state_of s.now)) n (state_of s.now).links }
-    ensures leads { IfOk result
-        (λ d. Leads moment (state_of s.now) (tick_adds moment (state_of s.now)) d) }
+    ensures drafted { IfOk result (λ d. IsDrafted moment (state_of s.now)
+        (tick_deeds moment (state_of s.now)) d) }
     ensures going { OnOk result (still.new.exchanges ≡ sent_as (all_going moment
         (is_gone moment (state_of s.now)) (length s.now.journal.entries + 1)
         (state_of s.now).links) still.old.exchanges) }
 {
-    let mut draft = Draft::new(alloc, s.journal.len() as u32, &s.conns)?;
+    let mut draft = start(alloc, s);
     draft.enter(Entry {
         moment,
         event: Event::Passed,
     })?;
     draft_turns(&mut draft, still, turns, moment)?;
-    draft_timeouts(alloc, &mut draft, &s.journal, over, moment)?;
+    draft_timeouts(alloc, &mut draft, s, over, moment)?;
     Ok(draft)
 }
 
@@ -145,9 +148,10 @@ pub fn prepare<R: Relation>(
     ensures still { IfOk result (λ x. x.still.exchanges ≡ sent_as (all_going moment
         (is_gone moment (state_of s.old)) (length s.old.journal.entries + 1)
         (state_of s.old).links)
-        (filter (goes_on moment (state_of s.old)) s.old.exchanges.exchanges)) }
-    ensures leads { IfOk result
-        (λ x. Leads moment (state_of s.old) (tick_adds moment (state_of s.old)) x.draft) }
+        (left_by s.old.journal.entries (timed_out moment (state_of s.old))
+        (filter (goes_on moment (state_of s.old)) s.old.exchanges.exchanges))) }
+    ensures drafted { IfOk result (λ x. IsDrafted moment (state_of s.old)
+        (tick_deeds moment (state_of s.old)) x.draft) }
 {
     let Sorted { over, mut still } = sort_at(alloc, s, moment)?;
     let gone = tokens_of(alloc, &over)?;
@@ -168,6 +172,8 @@ pub fn pass<R: Relation>(s: &mut State<R>, passing: Passing<R>, moment: u64)
         s.old.endpoints.links s.old.endpoints.rooms passing.turns.items }
     requires places { HasPlaces s.old passing.draft }
     requires room { length passing.draft.entries ≤ s.old.journal.room }
+    requires few { length s.old.journal.entries + length passing.draft.entries ≤ MAX_ENTRIES }
+    requires ordered { IsOrdered (state_of s.old) }
     ensures state { state_of s.new ≡ moved_on moment (is_among passing.gone.items)
         passing.still.exchanges passing.draft (state_of s.old) }
     ensures bytes { s.new.bytes

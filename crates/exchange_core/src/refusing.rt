@@ -9,8 +9,6 @@ ghost use Rattle.exchange_model.specs.Entering.{refusal_deeds};
 ghost use Rattle.exchange_model.specs.Sealing.{asks_in_room};
 ghost use Rattle.exchange_core.specs.Refusing.{MayRefuse};
 ghost use Rattle.exchange_core.specs.Drafts.{Drafts};
-ghost use Rattle.exchange_core.specs.Places.{id_of};
-ghost use Rattle.exchange_table.specs.Places.{RiseBy};
 ghost use Rattle.exchange_core.specs.Sound.{IsSound};
 ghost use Rattle.exchange_core.specs.States.{state_of, seen, refusal_given};
 ghost use Rattle.exchange_core.specs.Values.{stepped};
@@ -20,7 +18,7 @@ use crate::draft::Draft;
 use crate::fault::AskFault;
 use crate::room;
 use crate::sealing::seal;
-use crate::state::{State, commit, make_places};
+use crate::state::{State, commit, make_places, start};
 use ask_model::{Cause, Mapped};
 use journal_book::{Entry, Event};
 use reply_reading::Finding;
@@ -38,7 +36,6 @@ fn draft_refusal<R: Relation>(
     cause: Cause,
 ) -> Result<Draft<R>, AllocError>
     requires few { length s.now.journal.entries ≤ MAX_ENTRIES }
-    requires ordered { RiseBy id_of s.now.conns.items }
     ensures drafts { IfOk result (λ d. Drafts moment (state_of s.now)
         (refusal_deeds conn (ask_of (arc_value mapped.now)) cause (state_of s.now)) d) }
     ensures answers { IfOk result (λ d. d.answers
@@ -47,7 +44,7 @@ fn draft_refusal<R: Relation>(
     let number = s.journal.len() as u32;
     let asked = Arc::try_clone(mapped)?;
     let answered = Arc::try_clone(mapped)?;
-    let mut draft = Draft::new(alloc, number, s.conns.as_slice())?;
+    let mut draft = start(alloc, s);
     draft.enter(Entry {
         moment,
         event: Event::Asked(conn, asked),
@@ -92,7 +89,8 @@ pub fn refuse<R: Relation>(
 {
     let number = s.journal.len() as u32;
     let draft = draft_refusal(alloc, s, moment, conn, &mapped, cause)?;
-    if !room::takes(s, &draft) {
+    let taken = room::takes(alloc, s, &draft)?;
+    if !taken {
         seal(s, moment);
         return Err(AskFault::Sealed);
     }

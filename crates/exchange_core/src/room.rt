@@ -1,9 +1,11 @@
 //! The room of a journal, and what of it is held free.
 
-ghost use Rattle.std.specs.Prelude.{ℕ, ◌≡◌, ◌≤◌, false, length, count_by, sum_by};
+ghost use Rattle.std.specs.Prelude.{ℕ, ◌≡◌, ◌≤◌, false, length, count_by, sum_by, IfOk};
 ghost use Rattle.journal_book.specs.Entries.{entry_size};
 ghost use Rattle.exchange_model.specs.Room.{has_asked, fits};
 ghost use Rattle.exchange_model.specs.Steps.{opens};
+ghost use Rattle.exchange_table.specs.Places.{RiseBy};
+ghost use Rattle.exchange_core.specs.Places.{id_of};
 ghost use Rattle.exchange_core.specs.Room.{fits_by};
 ghost use Rattle.exchange_core.specs.States.{state_of, with_draft};
 
@@ -11,6 +13,7 @@ use crate::draft::Draft;
 use crate::state::State;
 use exchange_model::Conn;
 use limits::{MAX_ANSWER_SIZE, MAX_ENTRIES, MAX_JOURNAL_LEN};
+use std::alloc::{AllocError, Global};
 use transformers::Relation;
 
 /// How many connections wait for an answer.
@@ -48,16 +51,28 @@ fn has_room_for(entries: u64, bytes: u64, count: u64, conns: &[Conn]) -> bool
     has_room(entries, bytes, count, pending_count(conns) as u64)
 }
 
-/// Whether the journal takes what was drafted.
-pub fn takes<R: Relation>(s: &State<R>, draft: &Draft<R>) -> bool
+/// Whether the journal takes what was drafted. What the draft does to the connections is looked at
+/// only where that decides.
+pub fn takes<R: Relation>(alloc: Global, s: &State<R>, draft: &Draft<R>) -> Result<bool, AllocError>
     requires unsealed { s.now.sealed ≡ false }
     requires count { s.now.bytes ≡ sum_by entry_size s.now.journal.entries }
-    ensures { (t : ℕ) → result ≡ fits (with_draft t draft.now (state_of s.now)) }
+    requires ordered { RiseBy id_of s.now.conns.items }
+    ensures { (t : ℕ) → IfOk result
+        (λ b. b ≡ fits (with_draft t draft.now (state_of s.now))) }
 {
     let entries = (s.journal.len() as u64).saturating_add(draft.len() as u64);
     let bytes = s.bytes.saturating_add(draft.bytes());
-    let conns = draft.conns();
-    has_room_for(entries, bytes, conns.len() as u64, conns)
+    let count = s.conns.len() as u64;
+    if has_room(entries, bytes, count, count) {
+        return Ok(true);
+    }
+    if !has_room(entries, bytes, count, 0) {
+        return Ok(false);
+    }
+    let mut conns = Vec::from_slice(alloc, &s.conns)?;
+    draft.note(&mut conns, s.journal.len() as u32);
+    let pending = pending_count(&conns) as u64;
+    Ok(has_room(entries, bytes, count, pending))
 }
 
 /// Whether the journal takes one more connection.

@@ -106,6 +106,7 @@ fn turn<R: Relation>(
     s.endpoints.keep(keeping, moment);
     s.conns.clear();
     s.exchanges = Exchanges::new(alloc);
+    s.readers.clear();
     s.answers.clear();
     s.sends.clear();
     s.sealed = false;

@@ -16,7 +16,7 @@ use crate::answer::Answer;
 use crate::outgoing::Datagram;
 use crate::state::State;
 use endpoint_table::Endpoints;
-use exchange_model::Conn;
+use exchange_model::{Conn, Reader};
 use exchange_table::Exchanges;
 use std::alloc::{AllocError, Global};
 use std::collections::VecDeque;
@@ -36,6 +36,7 @@ pub struct Snapshot<R: Relation> {
     issued: u32,
     conns: Vec<Conn>,
     exchanges: Exchanges,
+    readers: Vec<Reader>,
     endpoints: Endpoints,
     answers: Vec<Answer<R>>,
     sends: VecDeque<Datagram>,
@@ -60,6 +61,7 @@ impl<R: Relation> Model for Snapshot<R> {
         issued = s.issued;
         conns = s.conns.items;
         exchanges = s.exchanges.exchanges;
+        readers = s.readers.items;
         links = s.endpoints.links;
       };
       answers = map given_of s.answers.items;
@@ -110,6 +112,7 @@ pub fn take_snapshot<R: Relation>(alloc: Global, s: &State<R>) -> Result<Snapsho
         issued: s.issued,
         conns: Vec::from_slice(alloc, &s.conns)?,
         exchanges: s.exchanges.copy(alloc)?,
+        readers: Vec::from_slice(alloc, &s.readers)?,
         endpoints: s.endpoints.copy()?,
         answers: copy_answers(alloc, &s.answers)?,
         sends: copy_sends(alloc, &s.sends)?,
@@ -134,6 +137,7 @@ pub fn put_back<R: Relation>(s: &mut State<R>, snapshot: Snapshot<R>)
     s.issued = snapshot.issued;
     s.conns = snapshot.conns;
     s.exchanges = snapshot.exchanges;
+    s.readers = snapshot.readers;
     s.endpoints.put_back(snapshot.endpoints);
     s.answers = snapshot.answers;
     s.sends = snapshot.sends;

@@ -1,20 +1,27 @@
 //! What a core keeps, and how what a step adds comes into it.
 
-ghost use Rattle.std.specs.Prelude.{◌≡◌, ◌≤◌, ◌+◌, ◌++◌, map, length, vec_len, vec_capacity, sum_by, OnOk};
+ghost use Rattle.std.specs.Prelude.{ℕ, ◌≡◌, ◌≤◌, ◌<◌, ◌+◌, ◌∷◌, ◌++◌, [], map, length, vec_len, vec_capacity, sum_by, OnOk};
 ghost use Rattle.std.specs.VecDeque.{deque_len, deque_capacity};
 ghost use Rattle.ask_model.specs.Sizes.{capped};
 ghost use Rattle.journal_book.specs.Entries.{entry_size};
-ghost use Rattle.journal_book.specs.Views.{item_of};
-ghost use Rattle.exchange_core.specs.States.{state_of, outgoing, given_in, with_draft, HasPlaces, SeesSame};
+ghost use Rattle.journal_book.specs.Views.{event_of, item_of};
+ghost use Rattle.limits.specs.declared.TheConstants.{MAX_ENTRIES};
+ghost use Rattle.exchange_model.specs.Growing.{conns_with};
+ghost use Rattle.exchange_model.specs.State.{conns_after, readers_after};
+ghost use Rattle.exchange_table.specs.Places.{RiseBy};
+ghost use Rattle.exchange_core.specs.Drafts.{AllKeep, Drafts, KeepsConns};
+ghost use Rattle.exchange_core.specs.Places.{IsOrdered, ask_in, id_of};
+ghost use Rattle.exchange_core.specs.States.{state_of, outgoing, given_in, readers_with, with_draft, HasPlaces, SeesSame};
 
 use crate::answer::Answer;
 use crate::draft::Draft;
+use crate::noting::{note_conns, note_readers};
 use crate::outgoing::Datagram;
 use endpoint_table::Endpoints;
-use exchange_model::Conn;
+use exchange_model::{Conn, Reader};
 use exchange_table::Exchanges;
 use journal_book::{Entry, Journal};
-use std::alloc::AllocError;
+use std::alloc::{AllocError, Global};
 use std::collections::VecDeque;
 use transformers::Relation;
 
@@ -33,6 +40,8 @@ pub struct State<R: Relation> {
     pub issued: u32,
     pub conns: Vec<Conn>,
     pub exchanges: Exchanges,
+    /// who waits for an exchange, in the order of their asks
+    pub readers: Vec<Reader>,
     pub endpoints: Endpoints,
     /// the answers that aren't taken yet
     pub answers: Vec<Answer<R>>,
@@ -40,15 +49,69 @@ pub struct State<R: Relation> {
     pub sends: VecDeque<Datagram>,
 }
 
-/// Adds entries, for which there are places.
-fn add_all<R: Relation>(journal: &mut Journal<R>, entries: VecDeque<Entry<R>>)
-    requires { deque_len entries ≤ journal.old.room }
+/// Nothing yet, after the entries that there are.
+pub fn start<R: Relation>(alloc: Global, s: &State<R>) -> Draft<R>
+    requires { length s.now.journal.entries ≤ MAX_ENTRIES }
+    ensures drafts { (t : ℕ) → Drafts t (state_of s.now) [] result }
+    ensures answers { result.answers ≡ [] }
+{
+    Draft::new(alloc, s.journal.len() as u32)
+}
+
+/// Adds an entry, for which there is a place, and notes what it does to the connections, and to those
+/// who wait.
+fn add_entry<R: Relation>(
+    journal: &mut Journal<R>,
+    conns: &mut Vec<Conn>,
+    readers: &mut Vec<Reader>,
+    entry: Entry<R>,
+)
+    requires room { 0 < journal.old.room }
+    requires few { length journal.old.entries ≤ MAX_ENTRIES }
+    requires conns { RiseBy id_of conns.old.items }
+    requires readers { RiseBy ask_in readers.old.items }
+    requires keeps { KeepsConns (event_of entry.event) }
+    ensures entries { journal.new.entries ≡ journal.old.entries ++ item_of entry ∷ [] }
+    ensures room { journal.new.room + 1 ≡ journal.old.room }
+    ensures conns { conns.new.items
+        ≡ conns_after conns.old.items (length journal.old.entries) (event_of entry.event) }
+    ensures readers { readers.new.items
+        ≡ readers_after readers.old.items (event_of entry.event) }
+    ensures conns_rise { RiseBy id_of conns.new.items }
+    ensures readers_rise { RiseBy ask_in readers.new.items }
+    ensures fewer { vec_len readers.new ≤ vec_len readers.old }
+    ensures capacity { vec_capacity readers.new ≡ vec_capacity readers.old }
+{
+    note_conns(conns, journal.len() as u32, &entry.event);
+    note_readers(readers, &entry.event);
+    journal.add(entry);
+}
+
+/// Adds entries, for which there are places, and notes what they do to the connections, and to those
+/// who wait.
+fn add_all<R: Relation>(
+    journal: &mut Journal<R>,
+    conns: &mut Vec<Conn>,
+    readers: &mut Vec<Reader>,
+    entries: VecDeque<Entry<R>>,
+)
+    requires room { deque_len entries ≤ journal.old.room }
+    requires few { length journal.old.entries + deque_len entries ≤ MAX_ENTRIES }
+    requires conns { RiseBy id_of conns.old.items }
+    requires readers { RiseBy ask_in readers.old.items }
+    requires keep { AllKeep (map item_of entries.items) }
     ensures entries { journal.new.entries ≡ journal.old.entries ++ map item_of entries.items }
     ensures room { journal.new.room + deque_len entries ≡ journal.old.room }
+    ensures conns { conns.new.items
+        ≡ conns_with conns.old.items (length journal.old.entries) (map item_of entries.items) }
+    ensures readers { readers.new.items
+        ≡ readers_with readers.old.items (map item_of entries.items) }
+    ensures fewer { vec_len readers.new ≤ vec_len readers.old }
+    ensures capacity { vec_capacity readers.new ≡ vec_capacity readers.old }
 {
     let mut entries = entries;
     'each: while let Some(entry) = entries.pop_front() {
-        journal.add(entry);
+        add_entry(journal, conns, readers, entry);
     }
 }
 
@@ -89,17 +152,20 @@ pub fn make_places<R: Relation>(s: &mut State<R>, draft: &Draft<R>) -> Result<()
 pub fn commit<R: Relation>(s: &mut State<R>, draft: Draft<R>, moment: u64)
     requires places { HasPlaces s.old draft }
     requires room { length draft.entries ≤ s.old.journal.room }
+    requires few { length s.old.journal.entries + length draft.entries ≤ MAX_ENTRIES }
+    requires ordered { IsOrdered (state_of s.old) }
     ensures state { state_of s.new ≡ with_draft moment draft (state_of s.old) }
     ensures bytes { s.new.bytes ≡ capped (s.old.bytes + capped (sum_by entry_size draft.entries)) }
     ensures room { s.new.journal.room + length draft.entries ≡ s.old.journal.room }
     ensures answers { given_in s.new ≡ given_in s.old ++ draft.answers }
     ensures sends { outgoing s.new ≡ outgoing s.old ++ draft.sends }
+    ensures fewer { vec_len s.new.readers ≤ vec_len s.old.readers }
+    ensures capacity { vec_capacity s.new.readers ≡ vec_capacity s.old.readers }
 {
     s.bytes = s.bytes.saturating_add(draft.bytes());
     s.moment = moment;
     let parts = draft.into_parts();
-    s.conns = parts.conns;
-    add_all(&mut s.journal, parts.entries);
+    add_all(&mut s.journal, &mut s.conns, &mut s.readers, parts.entries);
     put_sends(&mut s.sends, parts.sends);
     put_answers(&mut s.answers, parts.answers);
 }

@@ -69,7 +69,8 @@ fn tick_due<R: Relation>(alloc: Global, s: &mut State<R>, moment: u64) -> Result
     ensures memory { OnErr result (seen s.new ≡ seen s.old) }
 {
     let passing = prepare(alloc, s, moment)?;
-    if !room::takes(s, &passing.draft) {
+    let taken = room::takes(alloc, s, &passing.draft)?;
+    if !taken {
         return tick_full(alloc, s, moment);
     }
     state::make_places(s, &passing.draft)?;

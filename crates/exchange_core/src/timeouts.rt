@@ -1,60 +1,80 @@
 //! Asks whose exchanges took too long.
 
-ghost use Rattle.std.specs.Prelude.{◌≡◌, ◌≤◌, ◌+◌, filter, fold, length, map, IfOk, OnOk};
+ghost use Rattle.std.specs.Prelude.{◌≡◌, ◌≤◌, ◌+◌, ◌∷◌, ◌++◌, List, filter, length, map, IfOk, OnOk};
 ghost use Rattle.std.specs.List.{AllByRecursion};
-ghost use Rattle.journal_book.specs.Entries.{Seals};
-ghost use Rattle.exchange_model.specs.State.{State as CoreState};
-ghost use Rattle.exchange_model.specs.Steps.{entered, is_past};
-ghost use Rattle.exchange_model.specs.Calls.{times_out};
-ghost use Rattle.exchange_model.specs.Sealing.{late};
-ghost use Rattle.exchange_core.specs.Asked.{IsOpenedIn};
-ghost use Rattle.exchange_core.specs.Ending.{out_of_time};
-ghost use Rattle.exchange_core.specs.Leads.{Leads};
+ghost use Rattle.journal_book.specs.Entries.{Deed, Seals};
+ghost use Rattle.exchange_model.specs.Steps.{is_past};
+ghost use Rattle.exchange_model.specs.Calls.{told_late};
+ghost use Rattle.exchange_model.specs.Entering.{answer_of};
+ghost use Rattle.exchange_table.specs.Places.{RiseBy};
+ghost use Rattle.exchange_table.specs.Tables.{opening_of};
+ghost use Rattle.exchange_core.specs.Asked.{IsAskedIn};
+ghost use Rattle.exchange_core.specs.Drafts.{IsDrafted};
+ghost use Rattle.exchange_core.specs.Ending.{late_deeds, late_to, out_of_time};
 ghost use Rattle.exchange_core.specs.Sound.{IsSound};
 ghost use Rattle.exchange_core.specs.States.{state_of};
 
 use crate::draft::Draft;
 use crate::due::is_past;
-use crate::ending::{Ended, draft_ends};
-use crate::state::State;
+use crate::ending::{Telling, draft_tellings};
+use crate::state::{State, start};
 use ask_model::Cause;
-use exchange_model::Exchange;
-use journal_book::{Entry, Event, Journal};
+use exchange_model::{Exchange, Reader};
+use exchange_table::read_by;
+use journal_book::{Entry, Event};
 use reply_reading::Finding;
 use std::alloc::{AllocError, Global};
 use std::collections::VecDeque;
 use transformers::Relation;
 
-/// These exchanges end, since they took too long.
-fn out_of_time(alloc: Global, exchanges: &[Exchange]) -> Result<VecDeque<Ended>, AllocError>
-    ensures { IfOk result (λ v. v.items ≡ map out_of_time exchanges.now) }
+/// The reader is told that its exchange took too long, where that is one of these.
+fn late_to(exchanges: &[Exchange], reader: &Reader) -> Option<Telling>
+    requires { RiseBy opening_of exchanges.now }
+    ensures { result ≡ late_to exchanges.now reader.now }
 {
-    let mut ended = VecDeque::new(alloc);
-    'each: for e in exchanges {
-        let named = e.sending.unwrap_or(e.opening);
-        ended.push_back(Ended {
-            exchange: *e,
-            finding: Finding::fault(Cause::Timeout, named),
-        })?;
-    }
-    Ok(ended)
+    let exchange = read_by(exchanges, reader)?;
+    let named = exchange.sending.unwrap_or(reader.ask);
+    Some(Telling {
+        reader: *reader,
+        finding: Finding::fault(Cause::Timeout, named),
+    })
 }
 
-/// Drafts the answers to the asks of these exchanges, which took too long, in order.
+/// All who wait for one of these exchanges are told that it took too long.
+fn out_of_time(
+    alloc: Global,
+    exchanges: &[Exchange],
+    readers: &[Reader],
+) -> Result<VecDeque<Telling>, AllocError>
+    requires { RiseBy opening_of exchanges.now }
+    ensures { IfOk result (λ v. v.items ≡ out_of_time exchanges.now readers.now) }
+{
+    let mut told = VecDeque::new(alloc);
+    'each: for reader in readers {
+        if let Some(telling) = late_to(exchanges, reader) {
+            told.push_back(telling)?;
+        }
+    }
+    Ok(told)
+}
+
+/// Drafts the answers to all who wait for these exchanges, which took too long.
 pub fn draft_timeouts<R: Relation>(
     alloc: Global,
     draft: &mut Draft<R>,
-    journal: &Journal<R>,
+    s: &State<R>,
     exchanges: &[Exchange],
     moment: u64,
 ) -> Result<(), AllocError>
-    requires room { draft.old.next + length exchanges.now ≤ 4294967295 }
-    requires asked { AllByRecursion (IsOpenedIn journal.now.entries) exchanges.now }
-    ensures leads { (S U : CoreState) → S.entries ≡ journal.now.entries → Leads moment S U draft.old
-        → OnOk result (Leads moment S (fold (times_out moment) U exchanges.now) draft.new) }
+    requires ordered { RiseBy opening_of exchanges.now }
+    requires room { draft.old.next + length s.now.readers.items ≤ 4294967295 }
+    requires asked { AllByRecursion (IsAskedIn s.now.journal.entries) s.now.readers.items }
+    ensures { (ds : List Deed) → IsDrafted moment (state_of s.now) ds draft.old
+        → OnOk result (IsDrafted moment (state_of s.now)
+        (ds ++ map answer_of (told_late exchanges.now s.now.readers.items)) draft.new) }
 {
-    let ended = out_of_time(alloc, exchanges)?;
-    draft_ends(draft, journal, ended, moment)
+    let told = out_of_time(alloc, exchanges, &s.readers)?;
+    draft_tellings(draft, &s.journal, told, moment)
 }
 
 /// The exchanges that have been open for as long as they may.
@@ -74,6 +94,23 @@ fn past_exchanges(
     Ok(past)
 }
 
+/// Drafts the answers to all who wait for exchanges that have been open for as long as they may.
+fn draft_past<R: Relation>(
+    alloc: Global,
+    draft: &mut Draft<R>,
+    s: &State<R>,
+    moment: u64,
+) -> Result<(), AllocError>
+    requires sound { IsSound s.now }
+    requires few { draft.old.next ≤ length s.now.journal.entries + 1 }
+    ensures { (ds : List Deed) → IsDrafted moment (state_of s.now) ds draft.old
+        → OnOk result (IsDrafted moment (state_of s.now)
+        (ds ++ late_deeds moment (state_of s.now)) draft.new) }
+{
+    let past = past_exchanges(alloc, s.exchanges.as_slice(), moment)?;
+    draft_timeouts(alloc, draft, s, &past, moment)
+}
+
 /// Drafts what a tick of a sealed core does.
 pub fn draft_late<R: Relation>(
     alloc: Global,
@@ -81,11 +118,11 @@ pub fn draft_late<R: Relation>(
     moment: u64,
 ) -> Result<Draft<R>, AllocError>
     requires { IsSound s.now }
-    ensures { IfOk result (λ d. Leads moment (state_of s.now) (late moment (state_of s.now)) d) }
+    ensures { IfOk result (λ d. IsDrafted moment (state_of s.now)
+        (late_deeds moment (state_of s.now)) d) }
 {
-    let past = past_exchanges(alloc, s.exchanges.as_slice(), moment)?;
-    let mut draft = Draft::new(alloc, s.journal.len() as u32, &s.conns)?;
-    draft_timeouts(alloc, &mut draft, &s.journal, &past, moment)?;
+    let mut draft = start(alloc, s);
+    draft_past(alloc, &mut draft, s, moment)?;
     Ok(draft)
 }
 
@@ -96,15 +133,14 @@ pub fn draft_sealing<R: Relation>(
     moment: u64,
 ) -> Result<Draft<R>, AllocError>
     requires { IsSound s.now }
-    ensures { IfOk result (λ d. Leads moment (state_of s.now)
-        (late moment (entered moment Seals (state_of s.now))) d) }
+    ensures { IfOk result (λ d. IsDrafted moment (state_of s.now)
+        (Seals ∷ late_deeds moment (state_of s.now)) d) }
 {
-    let past = past_exchanges(alloc, s.exchanges.as_slice(), moment)?;
-    let mut draft = Draft::new(alloc, s.journal.len() as u32, &s.conns)?;
+    let mut draft = start(alloc, s);
     draft.enter(Entry {
         moment,
         event: Event::Sealed,
     })?;
-    draft_timeouts(alloc, &mut draft, &s.journal, &past, moment)?;
+    draft_past(alloc, &mut draft, s, moment)?;
     Ok(draft)
 }

@@ -1,10 +1,11 @@
 //! What endpoints send at a tick.
 
-ghost use Rattle.std.specs.Prelude.{◌≡◌, ◌≤◌, ◌+◌, length, OnOk};
+ghost use Rattle.std.specs.Prelude.{◌≡◌, ◌≤◌, ◌+◌, ◌++◌, List, length, OnOk};
+ghost use Rattle.journal_book.specs.Entries.{Deed};
 ghost use Rattle.exchange_model.specs.State.{State as CoreState};
-ghost use Rattle.exchange_model.specs.Entering.{entered_all, sent_as};
+ghost use Rattle.exchange_model.specs.Entering.{sent_as};
 ghost use Rattle.endpoint_table.specs.Turns.{going_first, deeds_of, going_of, turns_deeds, turns_going};
-ghost use Rattle.exchange_core.specs.Leads.{Leads};
+ghost use Rattle.exchange_core.specs.Drafts.{Drafts};
 ghost use Rattle.exchange_core.specs.Turns.{AreTimed, IsTimedTurn};
 ghost use Rattle.exchange_core.specs.Sending.{IsTimed, sent_first};
 
@@ -27,8 +28,9 @@ fn draft_first<R: Relation>(
 ) -> Result<(), AllocError>
     requires room { draft.old.next + length (sent_first peer next.now) ≤ 4294967295 }
     requires timed { IsTimed next.now }
-    ensures leads { (S U : CoreState) → Leads moment S U draft.old
-        → OnOk result (Leads moment S (entered_all moment (sent_first peer next.now) U) draft.new) }
+    ensures drafts { (S : CoreState) (ds : List Deed) → Drafts moment S ds draft.old
+        → OnOk result (Drafts moment S (ds ++ sent_first peer next.now) draft.new) }
+    ensures answers { OnOk result (draft.new.answers ≡ draft.old.answers) }
     ensures next { OnOk result
         (draft.new.next ≡ draft.old.next + length (sent_first peer next.now)) }
     ensures going { OnOk result
@@ -53,8 +55,9 @@ fn draft_turn<R: Relation>(
 ) -> Result<(), AllocError>
     requires room { draft.old.next + length (deeds_of peer turn.now) ≤ 4294967295 }
     requires timed { IsTimedTurn turn.now }
-    ensures leads { (S U : CoreState) → Leads moment S U draft.old
-        → OnOk result (Leads moment S (entered_all moment (deeds_of peer turn.now) U) draft.new) }
+    ensures drafts { (S : CoreState) (ds : List Deed) → Drafts moment S ds draft.old
+        → OnOk result (Drafts moment S (ds ++ deeds_of peer turn.now) draft.new) }
+    ensures answers { OnOk result (draft.new.answers ≡ draft.old.answers) }
     ensures next { OnOk result
         (draft.new.next ≡ draft.old.next + length (deeds_of peer turn.now)) }
     ensures going { OnOk result
@@ -77,9 +80,9 @@ pub fn draft_turns<R: Relation>(
 ) -> Result<(), AllocError>
     requires timed { AreTimed turns.now.items }
     requires room { draft.old.next + length (turns_deeds turns.now.items) ≤ 4294967295 }
-    ensures leads { (S U : CoreState) → Leads moment S U draft.old
-        → OnOk result (Leads moment S
-        (entered_all moment (turns_deeds turns.now.items) U) draft.new) }
+    ensures drafts { (S : CoreState) (ds : List Deed) → Drafts moment S ds draft.old
+        → OnOk result (Drafts moment S (ds ++ turns_deeds turns.now.items) draft.new) }
+    ensures answers { OnOk result (draft.new.answers ≡ draft.old.answers) }
     ensures going { OnOk result (going.new.exchanges
         ≡ sent_as (turns_going draft.old.next turns.now.items) going.old.exchanges) }
 {

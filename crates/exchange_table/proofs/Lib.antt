@@ -1,3 +1,4 @@
 pub mod CallerLemmas
 mod Standing
 mod Indexed
+mod Outrun

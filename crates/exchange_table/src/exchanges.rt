@@ -3,15 +3,17 @@
 ghost use Rattle.std.specs.Prelude.{◌≡◌, ◌∷◌, ◌++◌, [], Bool, Some, true, false, filter, find, length, map, IfOk, OnErr, OnOk};
 ghost use Rattle.std.specs.Option.{option_copied};
 ghost use Rattle.exchange_model.specs.declared.kept.Exchange.{Exchange as Row};
-ghost use Rattle.exchange_model.specs.Steps.{is_other, is_under, went_out};
+ghost use Rattle.exchange_model.specs.Steps.{is_other, is_under, left_by, went_out};
 ghost use Rattle.exchange_table.specs.Tables.{IsIndexed, IsLatest};
 
 use crate::index::{self, Named};
-use crate::rows;
+use crate::{outrunning, rows};
 use coap_codec::Token;
 use exchange_model::Exchange;
+use journal_book::Journal;
 use std::alloc::{AllocError, Global};
 use std::marker::Model;
+use transformers::Relation;
 
 /// The open exchanges, in the order of their openings.
 #[derive(Drop)]
@@ -96,6 +98,15 @@ impl Exchanges {
         ensures room { self.new.room ≡ self.old.room }
     {
         rows::note_sending(&mut self.rows, &self.names, token, number);
+    }
+
+    /// An exchange has ended: where it was a write, GETs join those of its place no more.
+    pub fn outrun<R: Relation>(&mut self, journal: &Journal<R>, ended: &Exchange)
+        ensures exchanges { self.new.exchanges
+            ≡ left_by journal.now.entries (ended.now ∷ []) self.old.exchanges }
+        ensures room { self.new.room ≡ self.old.room }
+    {
+        outrunning::outrun(&mut self.rows, journal, ended);
     }
 
     /// Takes out the exchange whose latest message goes under the token.

@@ -4,12 +4,16 @@
 //! by the token of its latest message through an index of its own, so that tokens needn't rise as
 //! openings do: an exchange of several messages has a new token for each.
 //!
-//! The definitions stand in `specs/`, to be read in this order: `Places`, `Tables`.
+//! The definitions stand in `specs/`, to be read in this order: `Places`, `Tables`,
+//! `Outrunning`.
 #![tactic(auto)]
 
 mod exchanges;
 mod index;
+mod outrunning;
 mod places;
 mod rows;
 
 pub use exchanges::Exchanges;
+pub use outrunning::asked;
+pub use rows::read_by;

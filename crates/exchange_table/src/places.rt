@@ -12,7 +12,7 @@ use coap_codec::Token;
 use exchange_model::Exchange;
 
 /// The place of the exchange that the entry with this number opened.
-fn opening_place(rows: &[Exchange], opening: u32) -> Option<usize>
+pub fn opening_place(rows: &[Exchange], opening: u32) -> Option<usize>
     requires { RiseBy opening_of rows.now }
     ensures below { IfSome result (λ i. i < length rows.now) }
     ensures some { IfSome result (IsOnlyAt (is_opened_at opening) rows.now) }

@@ -2,13 +2,24 @@
 
 ghost use Rattle.std.specs.Prelude.{◌≡◌, Some, filter, find, map};
 ghost use Rattle.std.specs.Option.{option_copied};
+ghost use Rattle.exchange_model.specs.Calls.{read_by};
 ghost use Rattle.exchange_model.specs.Steps.{is_other, is_under, went_out};
-ghost use Rattle.exchange_table.specs.Tables.{IsIndexed};
+ghost use Rattle.exchange_table.specs.Places.{RiseBy};
+ghost use Rattle.exchange_table.specs.Tables.{IsIndexed, opening_of};
 
 use crate::index::{Named, drop_name, number_of};
-use crate::places::place_under;
+use crate::places::{opening_place, place_under};
 use coap_codec::Token;
-use exchange_model::Exchange;
+use exchange_model::{Exchange, Reader};
+
+/// The exchange that the reader waits for.
+pub fn read_by<'a>(rows: &'a [Exchange], reader: &Reader) -> Option<&'a Exchange>
+    requires { RiseBy opening_of rows.now }
+    ensures { option_copied result ≡ read_by rows.now reader.now }
+{
+    let place = opening_place(rows, reader.opening)?;
+    Some(&rows[place])
+}
 
 /// The row whose latest message goes under the token.
 pub fn row_under<'a>(rows: &'a [Exchange], names: &[Named], token: &Token) -> Option<&'a Exchange>

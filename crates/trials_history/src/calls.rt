@@ -1,6 +1,6 @@
 //! Calls of a core that pass on nothing of what it promises: a trial over them is proved in less time.
 
-use crate::sample::{Nothing, light, server, shared, too_large};
+use crate::sample::{Nothing, light, numbered, server, shared, too_large};
 use ask_model::{Cause, Mapped};
 use exchange_core::{Answer, AskFault, Core, OpenFault, Outcome, RotateFault, Ticket};
 use journal_book::Event;
@@ -34,6 +34,17 @@ pub fn ask(
 ) -> Result<Ticket<Nothing>, AskFault> {
     let mapped = shared(alloc, light(alloc)?)?;
     core.ask(moment, word, conn, mapped)
+}
+
+/// Asks at the moment 0 for what has this number, with the word 0.
+pub fn ask_number(
+    core: &mut Core<Nothing>,
+    alloc: Global,
+    conn: u32,
+    number: u32,
+) -> Result<Ticket<Nothing>, AskFault> {
+    let mapped = shared(alloc, numbered(alloc, number)?)?;
+    ask_for(core, conn, mapped)
 }
 
 /// Asks this.

@@ -1,9 +1,9 @@
 //! Runs of a core: what goes out, what waits, what goes out again, and what ends it.
 
 use crate::calls::{
-    answered, ask, ask_too_much, cause_of, close, close_and_go_back, entries, first_answered, hear,
-    is_idle, moment_of, new_core, next_due, next_sent, open, responds, sends, take_answer,
-    take_first, tick,
+    answered, ask, ask_number, ask_too_much, cause_of, close, close_and_go_back, entries,
+    first_answered, hear, is_idle, moment_of, new_core, next_due, next_sent, open, responds, sends,
+    take_answer, take_first, tick,
 };
 use crate::sample::Nothing;
 use ask_model::Cause;
@@ -13,8 +13,8 @@ use std::alloc::Global;
 /// The datagram that carries the first ask.
 const REQUEST: &[u8] = b"\x48\x01\0\0\0\0\0\0\0\0\0\0\x3d\0s.example.com\x85light";
 
-/// The datagram that carries the second ask.
-const NEXT: &[u8] = b"\x48\x01\0\x01\0\0\0\x01\0\0\0\0\x3d\0s.example.com\x85light";
+/// The datagram that carries an ask for what has the number 1, sent as the second.
+const NEXT: &[u8] = b"\x48\x01\0\x01\0\0\0\x01\0\0\0\0\x3d\0s.example.com\x811";
 
 /// The core with its first connections open, so many of them.
 fn opened(alloc: Global, count: u32) -> Option<Core<Nothing>> {
@@ -30,6 +30,16 @@ fn opened(alloc: Global, count: u32) -> Option<Core<Nothing>> {
 /// What a connection asks at the moment 0 with this word.
 fn asked(core: &mut Core<Nothing>, alloc: Global, word: u64, conn: u32) -> Option<Ticket<Nothing>> {
     ask(core, alloc, 0, word, conn).ok()
+}
+
+/// What a connection asks of what has this number.
+fn asked_number(
+    core: &mut Core<Nothing>,
+    alloc: Global,
+    conn: u32,
+    number: u32,
+) -> Option<Ticket<Nothing>> {
+    ask_number(core, alloc, conn, number).ok()
 }
 
 /// This datagram goes out next.
@@ -150,7 +160,7 @@ fn one_message_is_outstanding(rt: HostRuntime) {
     let alloc = rt.alloc();
     let mut core = opened(alloc, 2).expect(&rt, "connections");
     let first = asked(&mut core, alloc, 0, 0).expect(&rt, "a ticket");
-    let second = asked(&mut core, alloc, 0, 1).expect(&rt, "a ticket");
+    let second = asked_number(&mut core, alloc, 1, 1).expect(&rt, "a ticket");
     // the second message waits for the end of the first (RFC 7252 section 4.7)
     assert!(rt; sends_next(&mut core, alloc, REQUEST));
     assert!(rt; sends_nothing(&mut core, alloc));
@@ -191,6 +201,20 @@ fn one_message_is_outstanding(rt: HostRuntime) {
 }
 
 #[test]
+fn one_message_is_sent_for_equal_asks(rt: HostRuntime) {
+    let alloc = rt.alloc();
+    let mut core = opened(alloc, 2).expect(&rt, "connections");
+    let first = asked(&mut core, alloc, 0, 0).expect(&rt, "a ticket");
+    assert!(rt; sends_next(&mut core, alloc, REQUEST));
+    let second = asked(&mut core, alloc, 0, 1).expect(&rt, "a ticket");
+    assert!(rt; sends_nothing(&mut core, alloc));
+    assert!(rt; hear(&mut core, 60, 5683, b"\x68\x45\0\0\0\0\0\0\0\0\0\0\xffon"));
+    assert!(rt; shows(&mut core, &first, 60));
+    assert!(rt; shows(&mut core, &second, 60));
+    assert!(rt; sends_nothing(&mut core, alloc));
+}
+
+#[test]
 fn a_reset_ends_an_exchange(rt: HostRuntime) {
     let alloc = rt.alloc();
     let mut core = opened(alloc, 1).expect(&rt, "a connection");
@@ -208,7 +232,7 @@ fn sixty_four_messages_wait(rt: HostRuntime) {
     let alloc = rt.alloc();
     let mut core = opened(alloc, 66).expect(&rt, "connections");
     for conn in 0..65 {
-        assert!(rt; ask_fault(&mut core, alloc, 0, conn).is_none());
+        assert!(rt; ask_number(&mut core, alloc, conn, conn).is_ok());
     }
     let ticket = asked(&mut core, alloc, 0, 65).expect(&rt, "a ticket");
     // 66 openings, 65 asks, one sending, and this ask
@@ -254,7 +278,7 @@ fn a_message_that_never_goes_out(rt: HostRuntime) {
     let mut core = opened(alloc, 2).expect(&rt, "connections");
     // the longest timeout: ACK_TIMEOUT times ACK_RANDOM_FACTOR
     let first = asked(&mut core, alloc, 1_000, 0).expect(&rt, "a ticket");
-    let second = asked(&mut core, alloc, 0, 1).expect(&rt, "a ticket");
+    let second = asked_number(&mut core, alloc, 1, 1).expect(&rt, "a ticket");
     for moment in [3_000, 9_000, 21_000, 45_000] {
         assert!(rt; tick(&mut core, moment));
     }

@@ -5,6 +5,7 @@ use coap_codec::decode;
 use journal_book::Grounds;
 use reply_reading::{Finding, Outcome, Response, finding_of};
 use std::alloc::Global;
+use std::sync::Arc;
 
 /// The codes of the requests that are replied to.
 const GET: u8 = 1;
@@ -118,16 +119,16 @@ fn replies_are_whole_or_not_understood(rt: HostRuntime) {
     }
 }
 
-/// A copy of the response that was found.
-fn response_of(finding: &Finding) -> Option<Response> {
+/// The response that was found, which it shares.
+fn response_of(finding: &Finding) -> Option<Arc<Response>> {
     match finding.outcome() {
-        Outcome::Whole(response) => response.copy().ok(),
+        Outcome::Whole(response) => Arc::try_clone(response).ok(),
         Outcome::Fault(_) => None,
     }
 }
 
 /// The response that this datagram is, by a copy of what it makes known.
-fn response_in(alloc: Global, bytes: &[u8]) -> Option<Response> {
+fn response_in(alloc: Global, bytes: &[u8]) -> Option<Arc<Response>> {
     let finding = finding_in(alloc, GET, bytes)?;
     let copy = finding.copy().ok()?;
     response_of(&copy)

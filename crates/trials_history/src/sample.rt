@@ -57,9 +57,22 @@ fn mapped(alloc: Global, came: Incoming) -> Result<Mapped<Nothing>, AllocError> 
 
 /// A GET of coap://s.example.com/light.
 pub fn light(alloc: Global) -> Result<Mapped<Nothing>, AllocError> {
+    get(
+        alloc,
+        Vec::from_slice(alloc, b"/hc/coap://s.example.com/light")?,
+    )
+}
+
+/// A GET of coap://s.example.com and a path that is this number.
+pub fn numbered(alloc: Global, number: u32) -> Result<Mapped<Nothing>, AllocError> {
+    let target = format!(in alloc; "/hc/coap://s.example.com/{number}")?;
+    get(alloc, target.into_bytes())
+}
+
+fn get(alloc: Global, target: Vec<u8>) -> Result<Mapped<Nothing>, AllocError> {
     let request = Request {
         method: Vec::from_slice(alloc, b"GET")?,
-        target: Vec::from_slice(alloc, b"/hc/coap://s.example.com/light")?,
+        target,
         version: Version::Http11,
         fields: HeaderMap::new(alloc),
         body: Vec::new(alloc),

@@ -9,5 +9,5 @@ returns-clause-asks g c =
     let e = c.refuse.ensures in
     let k = c.token_of-token.ensures in
     turned-away c.refuse.result c.args.moment c.args.word c.args.conn (ask_of (arc_value c.args.mapped)) c.token_of-token.result
-    (seen c.args.s.now) (seen c.refuse.new.s) k.size k.number k.word c.requires.no_place c.requires.idle c.requires.unsealed
+    (seen c.args.s.now) (seen c.refuse.new.s) k.size k.number k.word c.requires.nothing c.requires.idle c.requires.unsealed
     (ticket-number c.refuse.result _ _ _ e.ticket) e.ok e.sealed e.is e.memory e.others

@@ -4,7 +4,7 @@ use Rattle.ask_model.specs.Views.{Mapping}
 use Rattle.exchange_core.specs.Beginning.{asked_method}
 use Rattle.exchange_table.specs.Tables.{number_of, opening_of}
 use Rattle.exchange_core.specs.States.{state_of}
-use Rattle.exchange_core.proofs.Ordered.{conns-ordered, latest}
+use Rattle.exchange_core.proofs.Ordered.{latest}
 use Rattle.exchange_core.proofs.BeginLinks.{link-takes}
 use Rattle.exchange_core.proofs.Begins.{timely, sent-next}
 use Rattle.exchange_core.proofs.BeginSound.{enters-sound, enters-ok, enters-err, entered-by, exchange-is}
@@ -28,8 +28,8 @@ returns-in-Ok-clause-sound g c =
     c.requires.message.ready in
     let next = sent-next _ _ _ _ _ k c.requires.message.waiting in
     let h = c.in_ok-draft.ensures.drafts in
-    let i = entered-by c.enter.result _ _ _ _ _ c.in_ok-draft.draft c.args.s.now c.enter.new.s
-    (exchange-is _ _ _ _ _ _ _ _ _ _ asked n c.exchange_of-exchange.ensures) c.requires.message.waiting c.enter.ensures in
+    let i = entered-by c.enter.result _ _ _ _ _ _ _ _ c.in_ok-draft.draft c.args.s.now c.enter.new.s
+    (exchange-is _ _ _ _ _ _ _ _ _ asked n c.exchange_of-exchange.ensures) n c.requires.message.waiting c.enter.ensures in
     enters-sound c.args.moment c.args.word c.args.conn (arc_value c.args.mapped) c.args.message.peer c.args.message.token c.args.message.text c.args.message.submission.sent c.in_ok-draft.draft c.args.s.now c.enter.new.s
     c.requires.sound c.requires.begins h next c.in_ok-draft.ensures.answers c.enter.result i
 
@@ -41,8 +41,8 @@ returns-in-Err-clause-sound g c =
     c.requires.message.ready in
     let next = sent-next _ _ _ _ _ k c.requires.message.waiting in
     let h = c.in_ok-draft.ensures.drafts in
-    let i = entered-by c.enter.result _ _ _ _ _ c.in_ok-draft.draft c.args.s.now c.enter.new.s
-    (exchange-is _ _ _ _ _ _ _ _ _ _ asked n c.exchange_of-exchange.ensures) c.requires.message.waiting c.enter.ensures in
+    let i = entered-by c.enter.result _ _ _ _ _ _ _ _ c.in_ok-draft.draft c.args.s.now c.enter.new.s
+    (exchange-is _ _ _ _ _ _ _ _ _ asked n c.exchange_of-exchange.ensures) n c.requires.message.waiting c.enter.ensures in
     enters-sound c.args.moment c.args.word c.args.conn (arc_value c.args.mapped) c.args.message.peer c.args.message.token c.args.message.text c.args.message.submission.sent c.in_ok-draft.draft c.args.s.now c.enter.new.s
     c.requires.sound c.requires.begins h next c.in_ok-draft.ensures.answers c.enter.result i
 
@@ -54,8 +54,8 @@ returns-in-Ok-clause-ok g c =
     c.requires.message.ready in
     let next = sent-next _ _ _ _ _ k c.requires.message.waiting in
     let h = c.in_ok-draft.ensures.drafts in
-    let i = entered-by c.enter.result _ _ _ _ _ c.in_ok-draft.draft c.args.s.now c.enter.new.s
-    (exchange-is _ _ _ _ _ _ _ _ _ _ asked n c.exchange_of-exchange.ensures) c.requires.message.waiting c.enter.ensures in
+    let i = entered-by c.enter.result _ _ _ _ _ _ _ _ c.in_ok-draft.draft c.args.s.now c.enter.new.s
+    (exchange-is _ _ _ _ _ _ _ _ _ asked n c.exchange_of-exchange.ensures) n c.requires.message.waiting c.enter.ensures in
     let b =
     enters-ok c.args.moment c.args.word c.args.conn (arc_value c.args.mapped) c.args.message.peer c.args.message.token c.args.message.text c.args.message.submission.sent c.in_ok-draft.draft c.args.s.now c.enter.new.s
     c.requires.sound c.requires.begins h next c.in_ok-draft.ensures.answers c.in-Ok.field-0 (rw (c.in-Ok.is) at i) in
@@ -69,13 +69,10 @@ returns-in-Err-clause-err g c =
     c.requires.message.ready in
     let next = sent-next _ _ _ _ _ k c.requires.message.waiting in
     let h = c.in_ok-draft.ensures.drafts in
-    let i = entered-by c.enter.result _ _ _ _ _ c.in_ok-draft.draft c.args.s.now c.enter.new.s
-    (exchange-is _ _ _ _ _ _ _ _ _ _ asked n c.exchange_of-exchange.ensures) c.requires.message.waiting c.enter.ensures in
+    let i = entered-by c.enter.result _ _ _ _ _ _ _ _ c.in_ok-draft.draft c.args.s.now c.enter.new.s
+    (exchange-is _ _ _ _ _ _ _ _ _ asked n c.exchange_of-exchange.ensures) n c.requires.message.waiting c.enter.ensures in
     enters-err c.args.moment c.args.word c.args.conn (arc_value c.args.mapped) c.args.message.peer c.args.message.token c.args.message.text c.args.message.submission.sent c.in_ok-draft.draft c.args.s.now c.enter.new.s
     c.requires.sound c.requires.begins h next c.in_ok-draft.ensures.answers (Unit {0}) c.in-Err.fault (rw (c.in-Err.is) at i)
-
-pub draft_ask-requires-clause-ordered : goal.draft_ask-requires-clause-ordered
-draft_ask-requires-clause-ordered g c = conns-ordered _ c.requires.sound.kept
 
 pub enter-requires-clause-latest : goal.enter-requires-clause-latest
 enter-requires-clause-latest g c =

@@ -1,6 +1,7 @@
-use Rattle.std.proofs.Common.{ap, ◌∙◌}
+use Rattle.std.proofs.Common.{sym, ap, subst, ◌∙◌}
 use Rattle.exchange_model.specs.State.{State}
 use Rattle.exchange_core.specs.Hearing.{tables_after}
+use Rattle.exchange_core.specs.Places.{IsOrdered}
 use Rattle.exchange_core.specs.States.{with_draft}
 use Rattle.exchange_core.proofs.hearing.add_heard.Goals as goal
 
@@ -16,3 +17,8 @@ returns-clause-state g c =
     ∙ (ap (with_draft c.args.moment c.args.draft) c.change_tables.ensures.state
     ∙ ap (λ (U : State). with_draft c.args.moment c.args.draft
     (tables_after c.args.moment c.args.peer c.args.heeding U)) c.make_places.ensures.same.state)
+
+pub commit-requires-clause-ordered : goal.commit-requires-clause-ordered
+commit-requires-clause-ordered g c =
+    let o = subst IsOrdered (sym c.make_places.ensures.same.state) c.requires.ordered in
+    rw (c.change_tables.ensures.state) (record { conns = o.conns; readers = o.readers })

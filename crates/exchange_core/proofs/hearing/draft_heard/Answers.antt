@@ -1,62 +1,54 @@
-use Rattle.std.proofs.Common.{◌≡◌, ◌≤◌, ℕ, length, ap, ◌∙◌, refl, arith}
+use Rattle.std.proofs.Common.{◌≡◌, ◌++◌, length, map, List, refl, ap, sym, subst, ◌∙◌, arith}
+use Rattle.std.specs.List.{AllByRecursion}
 use Rattle.message_layer.specs.Values.{told}
+use Rattle.exchange_model.specs.Steps.{ended_in}
 use Rattle.exchange_model.specs.State.{State}
-use Rattle.exchange_model.specs.Calls.{ended_in}
-use Rattle.exchange_core.specs.Asked.{IsOpenedIn}
-use Rattle.exchange_core.specs.Hearing.{found_in, over_in, ended_by, hearing_deeds}
+use Rattle.exchange_core.specs.declared.ending.Telling.{Telling}
+use Rattle.exchange_core.specs.Drafts.{IsDrafted}
+use Rattle.exchange_core.specs.Ending.{IsTold, deed_of}
+use Rattle.exchange_core.specs.Hearing.{found_in, link_deeds, over_in, told_by}
 use Rattle.exchange_core.specs.States.{state_of}
-use Rattle.exchange_core.proofs.Endings.{leads-drafts}
-use Rattle.exchange_core.proofs.Heard.{if-ended, ended-so, link-few, ended-few, heard-leads}
+use Rattle.exchange_core.proofs.Drafting.{answers-none}
+use Rattle.exchange_core.proofs.Heard.{all-told, link-few, told-few}
 use Rattle.exchange_core.proofs.hearing.draft_heard.Goals as goal
 
-pub draft_ends-requires-clause-room : goal.draft_ends-requires-clause-room
-draft_ends-requires-clause-room g c =
+pub draft_tellings-requires-clause-room : goal.draft_tellings-requires-clause-room
+draft_tellings-requires-clause-room g c =
+    let S : State = state_of c.args.s.now in
+    let ended = ended_in (over_in c.args.heeding.now) S.exchanges in
+    let are : c.in_ok-told.told.items
+    ≡ told_by ended (found_in c.len-number.result ended (told c.args.up)) S.readers =
+    c.in_ok-told.ensures ∙ rw (c.deref.ensures.value) refl in
     let next = c.in_ok-draft.ensures.drafts.next in
     let few = c.requires.few in
     let link = link-few c.args.peer c.args.datagram.now c.args.heeding.now in
-    let ended : length c.in_ok-ended.ended.items ≤ 1 = rw (c.in_ok-ended.ensures)
-    (ended-few (ended_in (over_in c.args.heeding.now) c.args.s.now.exchanges.exchanges)
-    (found_in c.len-number.result (ended_in (over_in c.args.heeding.now) c.args.s.now.exchanges.exchanges)
-    (told c.args.up))) in
-    omega (arith, next, few, link, ended)
+    let most = told-few ended (found_in c.len-number.result ended (told c.args.up)) S.readers in
+    let count = ap (λ (xs : List Telling). length xs) are in
+    let readers = c.requires.readers in
+    omega (arith, next, few, link, most, count, readers)
 
-pub draft_ends-requires-clause-ends : goal.draft_ends-requires-clause-ends
-draft_ends-requires-clause-ends g c =
-    let h = c.args.s.now.journal.entries in
-    let e = ended_in (over_in c.args.heeding.now) c.args.s.now.exchanges.exchanges in
-    rw (c.in_ok-ended.ensures)
-    (ended-so h c.args.moment c.args.peer c.args.datagram.now c.args.heeding.now (told c.args.up)
-    _ _ c.in_ok-draft.draft.entries c.in_ok-draft.ensures.drafts.entries
-    (if-ended (IsOpenedIn h) (over_in c.args.heeding.now) _
-    c.requires.opened)
-    (ap (λ (k : ℕ). found_in k e (told c.args.up)) c.len-number.ensures) c.requires.spelled)
-
-pub returns-clause-drafts : goal.returns-clause-drafts
-returns-clause-drafts g c =
+pub draft_tellings-requires-clause-told : goal.draft_tellings-requires-clause-told
+draft_tellings-requires-clause-told g c =
     let t = c.args.moment in
     let S : State = state_of c.args.s.now in
-    let x = c.args.heeding.now in
-    let e = ended_in (over_in x) S.exchanges in
-    let are : c.in_ok-ended.ended.items
-    ≡ ended_by e (found_in (length S.entries) e (told c.args.up)) =
-    c.in_ok-ended.ensures ∙ rw (c.len-number.ensures) refl in
-    leads-drafts t S (hearing_deeds c.args.peer c.args.datagram.now x (told c.args.up) S)
-    c.draft_ends.new.draft
-    (heard-leads t c.args.peer c.args.datagram.now x (told c.args.up) S c.in_ok-ended.ended.items
-    c.in_ok-draft.draft c.draft_ends.new.draft c.in_ok-draft.ensures.drafts
-    c.in_ok-draft.ensures.answers are
-    (λ U h. c.in_ok-draft_ends.ensures.leads S U refl h))
+    let ended = ended_in (over_in c.args.heeding.now) S.exchanges in
+    let found = found_in (length S.entries) ended (told c.args.up) in
+    let are : c.in_ok-told.told.items ≡ told_by ended found S.readers =
+    c.in_ok-told.ensures ∙ rw (c.deref.ensures.value, c.len-number.ensures) refl in
+    subst (AllByRecursion (IsTold S.entries c.in_ok-draft.draft.entries t)) (sym are)
+    (all-told S t c.args.peer c.args.datagram.now c.args.heeding.now (told c.args.up)
+    (over_in c.args.heeding.now) found c.in_ok-draft.draft.entries
+    c.in_ok-draft.ensures.drafts.entries c.requires.known refl c.requires.spelled)
 
-pub returns-clause-given : goal.returns-clause-given
-returns-clause-given g c =
+pub returns : goal.returns
+returns g c =
     let t = c.args.moment in
     let S : State = state_of c.args.s.now in
-    let x = c.args.heeding.now in
-    let e = ended_in (over_in x) S.exchanges in
-    let are : c.in_ok-ended.ended.items
-    ≡ ended_by e (found_in (length S.entries) e (told c.args.up)) =
-    c.in_ok-ended.ensures ∙ rw (c.len-number.ensures) refl in
-    (heard-leads t c.args.peer c.args.datagram.now x (told c.args.up) S c.in_ok-ended.ended.items
-    c.in_ok-draft.draft c.draft_ends.new.draft c.in_ok-draft.ensures.drafts
-    c.in_ok-draft.ensures.answers are
-    (λ U h. c.in_ok-draft_ends.ensures.leads S U refl h)).given
+    let ended = ended_in (over_in c.args.heeding.now) S.exchanges in
+    let found = found_in (length S.entries) ended (told c.args.up) in
+    let ds = link_deeds c.args.peer c.args.datagram.now c.args.heeding.now in
+    let are : c.in_ok-told.told.items ≡ told_by ended found S.readers =
+    c.in_ok-told.ensures ∙ rw (c.deref.ensures.value, c.len-number.ensures) refl in
+    subst (λ (xs : List Telling). IsDrafted t S (ds ++ map deed_of xs) c.draft_tellings.new.draft) are
+    (c.in_ok-draft_tellings.ensures S ds refl
+    (answers-none t S ds c.in_ok-draft.draft c.in_ok-draft.ensures.drafts c.in_ok-draft.ensures.answers))

@@ -1,16 +1,26 @@
 use Rattle.std.proofs.Common.{refl, sym, ◌∙◌, arith}
 use Rattle.endpoint_table.specs.Tables.{link_at}
 use Rattle.exchange_core.specs.States.{state_of}
-use Rattle.exchange_core.proofs.Ordered.{conns-ordered}
+use Rattle.exchange_model.proofs.CallerLemmas.{readers-known}
+use Rattle.exchange_core.proofs.Ordered.{conns-ordered, ordered}
 use Rattle.exchange_core.proofs.Heard.{next-timed}
 use Rattle.exchange_core.proofs.Heeds.{spells, bytes-small}
-use Rattle.exchange_core.proofs.HeardSteps.{sound-sealed, seen-sealed, places-left, sound-heard, seen-heard}
-use Rattle.exchange_core.proofs.Openings.{all-opened}
+use Rattle.exchange_core.proofs.HeardSteps.{sound-sealed, seen-sealed, sound-heard, seen-heard}
+use Rattle.exchange_core.proofs.Readers.{few-readers}
+use Rattle.exchange_core.proofs.Sounding.{room-for}
 use Rattle.exchange_core.proofs.hearing.take.Goals as goal
 
-pub draft_heard-requires-clause-opened : goal.draft_heard-requires-clause-opened
-draft_heard-requires-clause-opened g c = all-opened
-    (state_of c.args.s.now) c.requires.sound.kept.kept
+pub draft_heard-requires-clause-readers : goal.draft_heard-requires-clause-readers
+draft_heard-requires-clause-readers g c = few-readers (state_of c.args.s.now) c.requires.sound.kept
+
+pub draft_heard-requires-clause-known : goal.draft_heard-requires-clause-known
+draft_heard-requires-clause-known g c = readers-known (state_of c.args.s.now) c.requires.sound.kept
+
+pub takes-requires-clause-ordered : goal.takes-requires-clause-ordered
+takes-requires-clause-ordered g c = conns-ordered (state_of c.args.s.now) c.requires.sound.kept
+
+pub add_heard-requires-clause-ordered : goal.add_heard-requires-clause-ordered
+add_heard-requires-clause-ordered g c = ordered (state_of c.args.s.now) c.requires.sound.kept
 
 pub draft_heard-requires-clause-timed : goal.draft_heard-requires-clause-timed
 draft_heard-requires-clause-timed g c =
@@ -25,37 +35,37 @@ draft_heard-requires-clause-spelled g c = λ m e.
     spells c.args.moment c.args.datagram.now (link_at c.args.s.now.endpoints c.args.peer) c.args.hearing m c.requires.hears
     (bytes-small c.args.datagram.now (λ i. omega (arith, c.type_inv.datagram i))) e
 
-pub returns-then-not-takes-clause-sound : goal.returns-then-not-takes-clause-sound
-returns-then-not-takes-clause-sound g c =
+pub returns-then-not-taken-clause-sound : goal.returns-then-not-taken-clause-sound
+returns-then-not-taken-clause-sound g c =
     let e = c.seal.ensures in
     sound-sealed c.args.moment c.args.peer c.args.datagram.now
     (state_of c.args.s.now) (link_at c.args.s.now.endpoints c.args.peer) c.args.hearing _ _ _
     c.requires.sound c.requires.unsealed c.requires.later c.requires.early
     (bytes-small c.args.datagram.now (λ i. omega (arith, c.type_inv.datagram i)))
     c.requires.hears refl
-    c.in_ok-draft.draft c.in_ok-draft.ensures.drafts _ _ _ _
-    (sym (c.takes.ensures c.args.moment) ∙ c.if-not-takes.true) e.state e.bytes e.room e.answers
+    c.in_ok-draft.draft c.in_ok-draft.ensures _ _ _ _
+    (sym (c.in_ok-taken.ensures c.args.moment) ∙ c.if-not-taken.true) e.state e.bytes e.room e.answers
 
-pub returns-then-not-takes-clause-heard : goal.returns-then-not-takes-clause-heard
-returns-then-not-takes-clause-heard g c =
+pub returns-then-not-taken-clause-heard : goal.returns-then-not-taken-clause-heard
+returns-then-not-taken-clause-heard g c =
     let e = c.seal.ensures in
     seen-sealed c.args.moment c.args.peer c.args.datagram.now
     (state_of c.args.s.now) (link_at c.args.s.now.endpoints c.args.peer) c.args.hearing _ _ _
     c.requires.sound c.requires.unsealed c.requires.later c.requires.early
     (bytes-small c.args.datagram.now (λ i. omega (arith, c.type_inv.datagram i)))
     c.requires.hears refl
-    c.in_ok-draft.draft c.in_ok-draft.ensures.drafts _ _ _ _
-    (sym (c.takes.ensures c.args.moment) ∙ c.if-not-takes.true) e.state e.answers e.sends
+    c.in_ok-draft.draft c.in_ok-draft.ensures _ _ _ _
+    (sym (c.in_ok-taken.ensures c.args.moment) ∙ c.if-not-taken.true) e.state e.answers e.sends
 
 pub add_heard-requires-clause-room : goal.add_heard-requires-clause-room
 add_heard-requires-clause-room g c =
-    places-left c.args.moment c.args.peer c.args.datagram.now
-    (state_of c.args.s.now) (link_at c.args.s.now.endpoints c.args.peer) c.args.hearing _ _ _
-    c.requires.sound c.requires.unsealed c.requires.later c.requires.early
-    (bytes-small c.args.datagram.now (λ i. omega (arith, c.type_inv.datagram i)))
-    c.requires.hears refl
-    c.in_ok-draft.draft c.in_ok-draft.ensures.drafts
-    (sym (c.takes.ensures c.args.moment) ∙ c.if-not-takes.false)
+    (room-for c.args.moment (state_of c.args.s.now) _ _ _ c.in_ok-draft.draft c.requires.sound
+    (sym (c.in_ok-taken.ensures c.args.moment) ∙ c.if-not-taken.false)).0
+
+pub add_heard-requires-clause-few : goal.add_heard-requires-clause-few
+add_heard-requires-clause-few g c =
+    (room-for c.args.moment (state_of c.args.s.now) _ _ _ c.in_ok-draft.draft c.requires.sound
+    (sym (c.in_ok-taken.ensures c.args.moment) ∙ c.if-not-taken.false)).1
 
 pub add_heard-requires-clause-known : goal.add_heard-requires-clause-known
 add_heard-requires-clause-known g c = c.requires.hears.known
@@ -68,9 +78,9 @@ returns-clause-sound g c =
     c.requires.sound c.requires.unsealed c.requires.later c.requires.early
     (bytes-small c.args.datagram.now (λ i. omega (arith, c.type_inv.datagram i)))
     c.requires.hears refl
-    c.in_ok-draft.draft c.in_ok-draft.ensures.drafts _ _ _ _
-    (sym (c.takes.ensures c.args.moment) ∙ c.if-not-takes.false)
-    c.in_ok-draft.ensures.given e.state e.bytes e.room e.answers
+    c.in_ok-draft.draft c.in_ok-draft.ensures _ _ _ _
+    (sym (c.in_ok-taken.ensures c.args.moment) ∙ c.if-not-taken.false)
+    e.state e.bytes e.room e.answers
 
 pub returns-clause-heard : goal.returns-clause-heard
 returns-clause-heard g c =
@@ -80,9 +90,6 @@ returns-clause-heard g c =
     c.requires.sound c.requires.unsealed c.requires.later c.requires.early
     (bytes-small c.args.datagram.now (λ i. omega (arith, c.type_inv.datagram i)))
     c.requires.hears refl
-    c.in_ok-draft.draft c.in_ok-draft.ensures.drafts _ _ _ _
-    (sym (c.takes.ensures c.args.moment) ∙ c.if-not-takes.false)
+    c.in_ok-draft.draft c.in_ok-draft.ensures _ _ _ _
+    (sym (c.in_ok-taken.ensures c.args.moment) ∙ c.if-not-taken.false)
     e.state e.answers e.sends
-
-pub draft_heard-requires-clause-conns : goal.draft_heard-requires-clause-conns
-draft_heard-requires-clause-conns g c = conns-ordered _ c.requires.sound.kept

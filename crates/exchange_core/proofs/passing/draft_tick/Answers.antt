@@ -1,111 +1,101 @@
-use Rattle.std.proofs.Common.{◌≡◌, ◌+◌, ◌∷◌, ℕ, List, length, refl, sym, ap, subst, ◌∙◌, arith}
-use Rattle.std.specs.Prelude.{fold}
-use Rattle.std.specs.List.{AllByRecursion}
-use Rattle.history_laws.proofs.CallerLemmas.{all-filter}
+use Rattle.std.proofs.Common.{◌≡◌, ◌+◌, ◌∷◌, ◌++◌, [], ℕ, List, length, map, sym, ap, subst, ◌∙◌, arith}
 use Rattle.journal_book.specs.Entries.{Deed, Passes}
 use Rattle.exchange_model.specs.declared.kept.Exchange.{Exchange}
 use Rattle.exchange_model.specs.State.{State}
-use Rattle.exchange_model.specs.Steps.{entered, expires, is_gone}
-use Rattle.exchange_model.specs.Calls.{times_out}
-use Rattle.exchange_model.specs.Entering.{Going, entered_all, all_deeds, sent_as}
+use Rattle.exchange_model.specs.Steps.{expires, is_gone}
+use Rattle.exchange_model.specs.Calls.{told_late}
+use Rattle.exchange_model.specs.Entering.{Going, all_deeds, answer_of, sent_as}
 use Rattle.exchange_model.specs.Keeping.{MayStep}
-use Rattle.exchange_core.specs.Asked.{IsOpenedIn}
-use Rattle.exchange_core.specs.Drafts.{DraftValue, empty_draft}
-use Rattle.exchange_core.specs.Leads.{Leads}
 use Rattle.endpoint_table.specs.Turns.{turns_deeds, turns_going}
+use Rattle.exchange_table.specs.Places.{RiseBy}
+use Rattle.exchange_table.specs.Tables.{opening_of}
+use Rattle.exchange_table.proofs.CallerLemmas.{rise-filter}
+use Rattle.exchange_core.specs.Drafts.{Drafts, IsDrafted}
 use Rattle.exchange_core.specs.States.{state_of}
-use Rattle.exchange_core.proofs.Ordered.{conns-ordered}
-use Rattle.exchange_core.proofs.Openings.{all-opened}
-use Rattle.exchange_core.proofs.TickDraft.{leads-next}
-use Rattle.exchange_core.proofs.TickLeads.{leads-none, leads-more}
-use Rattle.exchange_core.proofs.TickRoom.{few-deeds}
-use Rattle.exchange_core.proofs.TickSince.{few-exchanges}
+use Rattle.exchange_core.proofs.Drafting.{answers-none}
+use Rattle.exchange_core.proofs.Ordered.{exchanges-ordered}
+use Rattle.exchange_core.proofs.Readers.{all-asked, few-readers}
+use Rattle.exchange_core.proofs.Sounding.{place-left}
+use Rattle.exchange_core.proofs.TickRoom.{few-deeds, few-turns}
 use Rattle.exchange_core.proofs.passing.draft_tick.Goals as goal
+
+pub enter-requires-clause-next : goal.enter-requires-clause-next
+enter-requires-clause-next g c =
+    let n = (c.start-draft.ensures.drafts c.args.moment).next in
+    let left = place-left _ _ _ _ c.requires.sound in
+    omega (arith, n, left)
+
+pub start-draft-requires : goal.start-draft-requires
+start-draft-requires g c = let left = place-left _ _ _ _ c.requires.sound in omega (arith, left)
 
 pub draft_turns-requires-clause-room : goal.draft_turns-requires-clause-room
 draft_turns-requires-clause-room g c =
     let t = c.args.moment in
     let S : State = state_of c.args.s.now in
     let q = c.requires in
-    let next : c.enter.new.self.next ≡ length S.entries + 1 = c.in_ok-enter.ensures.next
-    ∙ ap (λ (d : DraftValue). d.next + 1) c.in_ok-draft.ensures
-    ∙ ap (λ (k : ℕ). k + 1) c.len.ensures in
+    let passed : Drafts t S (Passes ∷ []) c.enter.new.self =
+    c.in_ok-enter.ensures.drafts S [] tt (c.start-draft.ensures.drafts t) in
+    let next = passed.next in
     let may : MayStep t S = record
     { kept = q.sound.kept.kept; unsealed = q.unsealed; later = q.later } in
     let few = few-deeds t S q.sound.kept may q.sound.drained q.due in
+    let most = few-turns t S in
     let count : length (turns_deeds c.args.turns.now.items)
     ≡ length (all_deeds t (is_gone t S) S.links) = ap length q.deeds in
-    omega (arith, next, few, count)
+    omega (arith, next, few, most, count)
+
+pub draft_timeouts-requires-clause-ordered : goal.draft_timeouts-requires-clause-ordered
+draft_timeouts-requires-clause-ordered g c =
+    let S : State = state_of c.args.s.now in
+    subst (RiseBy opening_of) (sym c.requires.over)
+    (rise-filter opening_of (expires c.args.moment S.links) S.exchanges (exchanges-ordered S c.requires.sound.kept.kept))
 
 pub draft_timeouts-requires-clause-asked : goal.draft_timeouts-requires-clause-asked
-draft_timeouts-requires-clause-asked g c =
-    let S : State = state_of c.args.s.now in
-    subst (AllByRecursion (IsOpenedIn c.args.s.now.journal.entries)) (sym c.requires.over)
-    (all-filter (IsOpenedIn c.args.s.now.journal.entries) (expires c.args.moment S.links)
-    c.args.s.now.exchanges.exchanges (all-opened S c.requires.sound.kept.kept))
+draft_timeouts-requires-clause-asked g c = all-asked (state_of c.args.s.now) c.requires.sound.kept
 
 pub draft_timeouts-requires-clause-room : goal.draft_timeouts-requires-clause-room
 draft_timeouts-requires-clause-room g c =
     let t = c.args.moment in
     let S : State = state_of c.args.s.now in
     let q = c.requires in
-    let ds = all_deeds t (is_gone t S) S.links in
+    let passed : Drafts t S (Passes ∷ []) c.enter.new.self =
+    c.in_ok-enter.ensures.drafts S [] tt (c.start-draft.ensures.drafts t) in
+    let turned : Drafts t S (Passes ∷ turns_deeds c.args.turns.now.items) c.draft_turns.new.draft =
+    c.in_ok-draft_turns.ensures.drafts S (Passes ∷ []) passed in
+    let next = turned.next in
     let may : MayStep t S = record
     { kept = q.sound.kept.kept; unsealed = q.unsealed; later = q.later } in
     let few = few-deeds t S q.sound.kept may q.sound.drained q.due in
-    let first : c.in_ok-draft.draft ≡ empty_draft (length S.entries) S.conns = c.in_ok-draft.ensures
-    ∙ rw (c.len.ensures, c.deref.ensures.value) refl in
-    let none : Leads t S S c.in_ok-draft.draft = subst (λ (d : DraftValue). Leads t S S d)
-    (sym first) (leads-none t S) in
-    let passed : Leads t S (entered t Passes S) c.enter.new.self =
-    leads-more t S S Passes c.in_ok-draft.draft c.enter.new.self none
-    (c.in_ok-enter.ensures.drafts S none.deeds tt none.drafts) c.in_ok-enter.ensures.answers in
-    let turned : Leads t S (entered_all t (Passes ∷ ds) S) c.draft_turns.new.draft =
-    subst (λ (es : List Deed). Leads t S (entered_all t es (entered t Passes S))
-    c.draft_turns.new.draft)
-    q.deeds
-    (c.in_ok-draft_turns.ensures.leads S (entered t Passes S) passed) in
-    let next : c.draft_turns.new.draft.next ≡ length S.entries + length (Passes ∷ ds) =
-    leads-next t S (Passes ∷ ds) c.draft_turns.new.draft turned in
-    let ends = (few-exchanges S q.sound.kept (expires t S.links)).1 in
-    let over = ap length q.over in
-    omega (arith, few, next, ends, over)
+    let most = few-turns t S in
+    let readers = few-readers S q.sound.kept in
+    let count : length (turns_deeds c.args.turns.now.items)
+    ≡ length (all_deeds t (is_gone t S) S.links) = ap length q.deeds in
+    omega (arith, next, few, most, readers, count)
 
-pub returns-clause-leads : goal.returns-clause-leads
-returns-clause-leads g c =
+pub returns-clause-drafted : goal.returns-clause-drafted
+returns-clause-drafted g c =
     let t = c.args.moment in
     let S : State = state_of c.args.s.now in
-    let q = c.requires in
+    let passed : Drafts t S (Passes ∷ []) c.enter.new.self =
+    c.in_ok-enter.ensures.drafts S [] tt (c.start-draft.ensures.drafts t) in
+    let turned : Drafts t S (Passes ∷ turns_deeds c.args.turns.now.items) c.draft_turns.new.draft =
+    c.in_ok-draft_turns.ensures.drafts S (Passes ∷ []) passed in
     let ds = all_deeds t (is_gone t S) S.links in
-    let first : c.in_ok-draft.draft ≡ empty_draft (length S.entries) S.conns = c.in_ok-draft.ensures
-    ∙ rw (c.len.ensures, c.deref.ensures.value) refl in
-    let none : Leads t S S c.in_ok-draft.draft = subst (λ (d : DraftValue). Leads t S S d)
-    (sym first) (leads-none t S) in
-    let passed : Leads t S (entered t Passes S) c.enter.new.self =
-    leads-more t S S Passes c.in_ok-draft.draft c.enter.new.self none
-    (c.in_ok-enter.ensures.drafts S none.deeds tt none.drafts) c.in_ok-enter.ensures.answers in
-    let turned : Leads t S (entered_all t (Passes ∷ ds) S) c.draft_turns.new.draft =
-    subst (λ (es : List Deed). Leads t S (entered_all t es (entered t Passes S))
-    c.draft_turns.new.draft)
-    q.deeds
-    (c.in_ok-draft_turns.ensures.leads S (entered t Passes S) passed) in
-    subst (λ (es : List Exchange). Leads t S
-    (fold (times_out t) (entered_all t (Passes ∷ ds) S) es) c.draft_timeouts.new.draft) q.over
-    (c.in_ok-draft_timeouts.ensures.leads S (entered_all t (Passes ∷ ds) S) refl turned)
+    let whole : Drafts t S (Passes ∷ ds) c.draft_turns.new.draft =
+    subst (λ (es : List Deed). Drafts t S (Passes ∷ es) c.draft_turns.new.draft) c.requires.deeds turned in
+    let none = c.in_ok-draft_turns.ensures.answers ∙ c.in_ok-enter.ensures.answers ∙ c.start-draft.ensures.answers in
+    subst (λ (es : List Exchange). IsDrafted t S
+    (Passes ∷ (ds ++ map answer_of (told_late es S.readers))) c.draft_timeouts.new.draft) c.requires.over
+    (c.in_ok-draft_timeouts.ensures (Passes ∷ ds) (answers-none t S (Passes ∷ ds) _ whole none))
 
 pub returns-clause-going : goal.returns-clause-going
 returns-clause-going g c =
     let t = c.args.moment in
     let S : State = state_of c.args.s.now in
-    let q = c.requires in
-    let next : c.enter.new.self.next ≡ length S.entries + 1 = c.in_ok-enter.ensures.next
-    ∙ ap (λ (d : DraftValue). d.next + 1) c.in_ok-draft.ensures
-    ∙ ap (λ (k : ℕ). k + 1) c.len.ensures in
+    let passed : Drafts t S (Passes ∷ []) c.enter.new.self =
+    c.in_ok-enter.ensures.drafts S [] tt (c.start-draft.ensures.drafts t) in
     c.in_ok-draft_turns.ensures.going
     ∙ (ap (λ (n : ℕ). sent_as (turns_going n c.args.turns.now.items) c.args.still.now.exchanges)
-    next
+    passed.next
     ∙ ap (λ (gs : List Going). sent_as gs c.args.still.now.exchanges)
-    (q.going (length S.entries + 1)))
-
-pub new-requires : goal.new-requires
-new-requires g c = rw (c.deref.ensures.value) (conns-ordered _ c.requires.sound.kept)
+    (c.requires.going (length S.entries + 1)))

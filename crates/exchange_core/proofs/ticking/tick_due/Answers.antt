@@ -1,4 +1,4 @@
-use Rattle.std.proofs.Common.{◌≡◌, ℕ, ◌≤◌, true, false, length, refl, sym, ap, subst, ◌∙◌}
+use Rattle.std.proofs.Common.{◌≡◌, ℕ, ◌≤◌, true, false, length, refl, sym, ap, subst, ◌∙◌, arith}
 use Rattle.std.specs.Prelude.{sum_by, OnOk, OnErr}
 use Rattle.journal_book.specs.Entries.{entry_size}
 use Rattle.message_layer.specs.Calls.{is_among}
@@ -6,15 +6,19 @@ use Rattle.exchange_model.specs.State.{State}
 use Rattle.exchange_model.specs.Steps.{seals}
 use Rattle.exchange_model.specs.Calls.{ticked}
 use Rattle.exchange_model.specs.Keeping.{MayStep}
-use Rattle.exchange_model.specs.Room.{fits}
+use Rattle.exchange_model.specs.Entering.{tick_deeds, IsDrained}
+use Rattle.exchange_model.specs.Room.{fits, KeptInRoom}
 use Rattle.exchange_model.specs.Sealing.{late, ticks_in_room}
 use Rattle.exchange_core.specs.Values.{CoreValue, stepped}
-use Rattle.exchange_core.specs.Passing.{moved_on, tick_adds}
+use Rattle.exchange_core.specs.Passing.{moved_on}
+use Rattle.exchange_core.specs.Places.{IsOrdered}
 use Rattle.exchange_core.specs.Sound.{SoundState}
 use Rattle.exchange_core.specs.States.{state_of, seen, given_in, outgoing, with_draft, core_of}
-use Rattle.exchange_core.proofs.Stepping.{same-core}
-use Rattle.exchange_core.proofs.TickSound.{leads-places, leads-sound, leads-stepped, sees-sound}
-use Rattle.exchange_core.proofs.TickSteps.{when-fits, when-full, fits-in-room, tick-entries, tick-at, tick-open, tick-drained, tick-fits, tick-moved}
+use Rattle.exchange_core.proofs.Stepping.{committed, same-core}
+use Rattle.exchange_core.proofs.TickSound.{sees-sound}
+use Rattle.exchange_core.proofs.TickSteps.{when-fits, when-full, fits-in-room, tick-drained, tick-fits, tick-moved}
+use Rattle.exchange_core.proofs.Ordered.{ordered}
+use Rattle.exchange_core.proofs.Sounding.{room-for, sound-drafted}
 use Rattle.exchange_core.proofs.ticking.tick_due.Goals as goal
 
 pub takes-requires-clause-unsealed : goal.takes-requires-clause-unsealed
@@ -51,12 +55,12 @@ tick_full-requires-clause-full g c =
     let may : MayStep t S = record
     { kept = q.sound.kept.kept; unsealed = q.unsealed; later = q.later } in
     subst (λ (V : State). fits (ticked t V) ≡ false) (sym same.state)
-    (sym (tick-fits t S may q.sound.drained q.due d c.in_ok-passing.ensures.leads)
+    (sym (tick-fits t S may q.sound.drained q.due d c.in_ok-passing.ensures.drafted.drafts)
     ∙ ap (λ (V : State). fits (with_draft t d V)) (sym same.state)
-    ∙ sym (c.takes.ensures t) ∙ c.if-not-takes.true)
+    ∙ sym (c.in_ok-taken.ensures t) ∙ c.if-not-taken.true)
 
-pub returns-then-not-takes-clause-ticks : goal.returns-then-not-takes-clause-ticks
-returns-then-not-takes-clause-ticks g c =
+pub returns-then-not-taken-clause-ticks : goal.returns-then-not-taken-clause-ticks
+returns-then-not-taken-clause-ticks g c =
     let t = c.args.moment in
     let S : State = state_of c.args.s.now in
     let q = c.requires in
@@ -65,9 +69,9 @@ returns-then-not-takes-clause-ticks g c =
     let may : MayStep t S = record
     { kept = q.sound.kept.kept; unsealed = q.unsealed; later = q.later } in
     let full : fits (ticked t S) ≡ false =
-    sym (tick-fits t S may q.sound.drained q.due d c.in_ok-passing.ensures.leads)
+    sym (tick-fits t S may q.sound.drained q.due d c.in_ok-passing.ensures.drafted.drafts)
     ∙ ap (λ (V : State). fits (with_draft t d V)) (sym same.state)
-    ∙ sym (c.takes.ensures t) ∙ c.if-not-takes.true in
+    ∙ sym (c.in_ok-taken.ensures t) ∙ c.if-not-taken.true in
     let sees : seen c.prepare.new.s ≡ seen c.args.s.now =
     same-core _ _ _ _ _ _ same.state same.answers same.sends in
     subst (λ (v : CoreValue). OnOk c.tick_full.result (seen c.tick_full.new.s ≡ v))
@@ -75,8 +79,8 @@ returns-then-not-takes-clause-ticks g c =
     ∙ ap (λ (V : State). stepped V (seen c.prepare.new.s)) (sym (when-full t S q.unsealed full))
     ∙ ap (λ (v : CoreValue). stepped (ticks_in_room t S) v) sees) c.tick_full.ensures.ticks
 
-pub returns-then-not-takes-clause-memory : goal.returns-then-not-takes-clause-memory
-returns-then-not-takes-clause-memory g c =
+pub returns-then-not-taken-clause-memory : goal.returns-then-not-taken-clause-memory
+returns-then-not-taken-clause-memory g c =
     let same = c.in_ok-passing.ensures.same in
     let sees : seen c.prepare.new.s ≡ seen c.args.s.now =
     same-core _ _ _ _ _ _ same.state same.answers same.sends in
@@ -90,52 +94,65 @@ pass-requires-clause-ready g c =
 pub pass-requires-clause-room : goal.pass-requires-clause-room
 pass-requires-clause-room g c =
     let t = c.args.moment in
-    let S : State = state_of c.args.s.now in
-    let q = c.requires in
     let same = c.in_ok-passing.ensures.same in
     let d = c.in_ok-passing.passing.draft in
-    let h = c.in_ok-passing.ensures.leads in
-    let may : MayStep t S = record
-    { kept = q.sound.kept.kept; unsealed = q.unsealed; later = q.later } in
-    let fit : fits (ticked t S) ≡ true =
-    sym (tick-fits t S may q.sound.drained q.due d h)
-    ∙ ap (λ (V : State). fits (with_draft t d V)) (sym same.state)
-    ∙ sym (c.takes.ensures t) ∙ c.if-not-takes.false in
-    subst (λ (k : ℕ). length d.entries ≤ k)
-    (sym (c.in_ok-make_places.ensures.same.room ∙ same.room))
-    (leads-places t S (tick_adds t S) (ticked t S) d _ _ _ q.sound h
-    (tick-entries t S may q.sound.drained q.due)
-    (fits-in-room t S q.sound.kept q.later q.unsealed fit))
+    let fit = ap (λ (V : State). fits (with_draft t d V)) (sym same.state)
+    ∙ sym (c.in_ok-taken.ensures t) ∙ c.if-not-taken.false in
+    let left = (room-for t (state_of c.args.s.now) _ _ _ d c.requires.sound fit).0 in
+    let there = c.in_ok-make_places.ensures.same.room in
+    let before = same.room in
+    omega (arith, left, there, before)
+
+pub pass-requires-clause-few : goal.pass-requires-clause-few
+pass-requires-clause-few g c =
+    let t = c.args.moment in
+    let same = c.in_ok-passing.ensures.same in
+    let d = c.in_ok-passing.passing.draft in
+    let fit = ap (λ (V : State). fits (with_draft t d V)) (sym same.state)
+    ∙ sym (c.in_ok-taken.ensures t) ∙ c.if-not-taken.false in
+    let left = (room-for t (state_of c.args.s.now) _ _ _ d c.requires.sound fit).1 in
+    let there = ap (λ (V : State). length V.entries) c.in_ok-make_places.ensures.same.state in
+    let before = ap (λ (V : State). length V.entries) same.state in
+    omega (arith, left, there, before)
+
+pub pass-requires-clause-ordered : goal.pass-requires-clause-ordered
+pass-requires-clause-ordered g c =
+    subst IsOrdered (sym (c.in_ok-make_places.ensures.same.state ∙ c.in_ok-passing.ensures.same.state))
+    (ordered (state_of c.args.s.now) c.requires.sound.kept)
+
+pub takes-requires-clause-ordered : goal.takes-requires-clause-ordered
+takes-requires-clause-ordered g c =
+    (subst IsOrdered (sym c.in_ok-passing.ensures.same.state)
+    (ordered (state_of c.args.s.now) c.requires.sound.kept)).conns
 
 pub returns-clause-sound : goal.returns-clause-sound
 returns-clause-sound g c =
     let t = c.args.moment in
     let S : State = state_of c.args.s.now in
-    let V : State = ticked t S in
     let q = c.requires in
     let p = c.in_ok-passing.passing in
     let made = c.in_ok-passing.ensures in
     let same = made.same in
     let there = c.in_ok-make_places.ensures.same in
     let d = p.draft in
+    let h = made.drafted.drafts in
     let may : MayStep t S = record
     { kept = q.sound.kept.kept; unsealed = q.unsealed; later = q.later } in
-    let fit : fits V ≡ true =
-    sym (tick-fits t S may q.sound.drained q.due d made.leads)
+    let fit : fits (ticked t S) ≡ true =
+    sym (tick-fits t S may q.sound.drained q.due d h)
     ∙ ap (λ (W : State). fits (with_draft t d W)) (sym same.state)
-    ∙ sym (c.takes.ensures t) ∙ c.if-not-takes.false in
-    let is : state_of c.pass.new.s ≡ V =
+    ∙ sym (c.in_ok-taken.ensures t) ∙ c.if-not-taken.false in
+    let U : State = moved_on t (is_among p.gone.items) p.still.exchanges d S in
+    let new : state_of c.pass.new.s ≡ U =
     c.pass.ensures.state
-    ∙ ap (moved_on t (is_among p.gone.items) p.still.exchanges d) (there.state ∙ same.state)
-    ∙ tick-moved t S may q.sound.drained q.due d made.leads p.gone.items p.still.exchanges made.gone
-    made.still in
+    ∙ ap (moved_on t (is_among p.gone.items) p.still.exchanges d) (there.state ∙ same.state) in
+    let is : U ≡ ticked t S =
+    tick-moved t S may q.sound.drained q.due d h p.gone.items p.still.exchanges made.gone made.still in
     subst (λ (W : State). SoundState W c.pass.new.s.bytes c.pass.new.s.journal.room
-    (given_in c.pass.new.s)) (sym is)
-    (leads-sound t S (tick_adds t S) V d _ _ _ _ _ _ q.sound made.leads
-    (tick-entries t S may q.sound.drained q.due) (tick-at t S may q.sound.drained q.due) q.early
-    (tick-open t S may q.sound.drained q.due)
-    (fits-in-room t S q.sound.kept q.later q.unsealed fit)
-    (tick-drained t S may q.sound.drained q.due)
+    (given_in c.pass.new.s)) (sym new)
+    (sound-drafted t S U _ _ _ _ _ _ _ d q.sound made.drafted refl q.early refl
+    (subst KeptInRoom (sym is) (fits-in-room t S q.sound.kept q.later q.unsealed fit))
+    (subst IsDrained (sym is) (tick-drained t S may q.sound.drained q.due))
     (c.pass.ensures.bytes ∙ rw (there.bytes, same.bytes) refl)
     (c.pass.ensures.room ∙ there.room ∙ same.room)
     (c.pass.ensures.answers ∙ rw (there.answers, same.answers) refl))
@@ -144,28 +161,28 @@ pub returns-clause-ticks : goal.returns-clause-ticks
 returns-clause-ticks g c =
     let t = c.args.moment in
     let S : State = state_of c.args.s.now in
-    let V : State = ticked t S in
     let q = c.requires in
     let p = c.in_ok-passing.passing in
     let made = c.in_ok-passing.ensures in
     let same = made.same in
     let there = c.in_ok-make_places.ensures.same in
     let d = p.draft in
+    let h = made.drafted.drafts in
     let may : MayStep t S = record
     { kept = q.sound.kept.kept; unsealed = q.unsealed; later = q.later } in
-    let fit : fits V ≡ true =
-    sym (tick-fits t S may q.sound.drained q.due d made.leads)
+    let fit : fits (ticked t S) ≡ true =
+    sym (tick-fits t S may q.sound.drained q.due d h)
     ∙ ap (λ (W : State). fits (with_draft t d W)) (sym same.state)
-    ∙ sym (c.takes.ensures t) ∙ c.if-not-takes.false in
-    let is : state_of c.pass.new.s ≡ V =
+    ∙ sym (c.in_ok-taken.ensures t) ∙ c.if-not-taken.false in
+    let U : State = moved_on t (is_among p.gone.items) p.still.exchanges d S in
+    let new : state_of c.pass.new.s ≡ U =
     c.pass.ensures.state
-    ∙ ap (moved_on t (is_among p.gone.items) p.still.exchanges d) (there.state ∙ same.state)
-    ∙ tick-moved t S may q.sound.drained q.due d made.leads p.gone.items p.still.exchanges made.gone
-    made.still in
-    ap (λ (W : State). core_of W (given_in c.pass.new.s) (outgoing c.pass.new.s)) is
-    ∙ leads-stepped t S (tick_adds t S) V d (given_in c.args.s.now) (given_in c.pass.new.s)
-    (outgoing c.args.s.now) (outgoing c.pass.new.s) made.leads
-    (tick-entries t S may q.sound.drained q.due)
+    ∙ ap (moved_on t (is_among p.gone.items) p.still.exchanges d) (there.state ∙ same.state) in
+    let is : U ≡ ticked t S =
+    tick-moved t S may q.sound.drained q.due d h p.gone.items p.still.exchanges made.gone made.still in
+    ap (λ (W : State). core_of W (given_in c.pass.new.s) (outgoing c.pass.new.s)) new
+    ∙ committed t S U (tick_deeds t S) d (given_in c.args.s.now) (given_in c.pass.new.s)
+    (outgoing c.args.s.now) (outgoing c.pass.new.s) h refl
     (c.pass.ensures.answers ∙ rw (there.answers, same.answers) refl)
     (c.pass.ensures.sends ∙ rw (there.sends, same.sends) refl)
-    ∙ ap (λ (W : State). stepped W (seen c.args.s.now)) (sym (when-fits t S q.unsealed fit))
+    ∙ ap (λ (W : State). stepped W (seen c.args.s.now)) (is ∙ sym (when-fits t S q.unsealed fit))

@@ -1,30 +1,21 @@
-use Rattle.std.proofs.Common.{◌≡◌, ◌≤◌, length, ap, ◌∙◌, arith}
-use Rattle.history_laws.proofs.CallerLemmas.{all-filter}
-use Rattle.exchange_model.specs.Steps.{is_past}
-use Rattle.exchange_core.specs.Asked.{IsOpenedIn}
-use Rattle.exchange_core.specs.Drafts.{DraftValue}
+use Rattle.std.proofs.Common.{[], arith}
+use Rattle.exchange_model.specs.State.{State}
 use Rattle.exchange_core.specs.States.{state_of}
-use Rattle.exchange_core.proofs.Ordered.{conns-ordered}
-use Rattle.exchange_core.proofs.Openings.{all-opened}
-use Rattle.exchange_core.proofs.TickSince.{few-exchanges}
+use Rattle.exchange_core.proofs.Drafting.{answers-none}
+use Rattle.exchange_core.proofs.Sounding.{place-left}
 use Rattle.exchange_core.proofs.timeouts.draft_late.Goals as goal
 
-pub draft_timeouts-requires-clause-room : goal.draft_timeouts-requires-clause-room
-draft_timeouts-requires-clause-room g c =
-    let few = few-exchanges (state_of c.args.s.now) c.requires.kept (is_past c.args.moment) in
-    let entries : length c.args.s.now.journal.entries ≤ 65536 = few.0 in
-    let next : c.in_ok-draft.draft.next ≡ length c.args.s.now.journal.entries = ap
-    (λ (d : DraftValue). d.next) c.in_ok-draft.ensures ∙ c.len.ensures in
-    let past : length c.deref-2.result.now ≤ 65536 = rw
-    (c.deref-2.ensures.value, c.in_ok-past.ensures, c.as_slice.ensures.all) few.1 in
-    omega (arith, entries, next, past)
+pub start-draft-requires : goal.start-draft-requires
+start-draft-requires g c = let left = place-left _ _ _ _ c.requires in omega (arith, left)
 
-pub draft_timeouts-requires-clause-asked : goal.draft_timeouts-requires-clause-asked
-draft_timeouts-requires-clause-asked g c =
-    rw (c.deref-2.ensures.value, c.in_ok-past.ensures, c.as_slice.ensures.all)
-    (all-filter (IsOpenedIn c.args.s.now.journal.entries) (is_past c.args.moment)
-    c.args.s.now.exchanges.exchanges
-    (all-opened (state_of c.args.s.now) c.requires.kept.kept))
+pub draft_past-requires-clause-few : goal.draft_past-requires-clause-few
+draft_past-requires-clause-few g c =
+    let n = (c.start-draft.ensures.drafts c.args.moment).next in
+    omega (arith, n)
 
-pub new-requires : goal.new-requires
-new-requires g c = rw (c.deref.ensures.value) (conns-ordered _ c.requires.kept)
+pub returns : goal.returns
+returns g c =
+    let t = c.args.moment in
+    let S : State = state_of c.args.s.now in
+    c.in_ok-draft_past.ensures []
+    (answers-none t S [] _ (c.start-draft.ensures.drafts t) c.start-draft.ensures.answers)

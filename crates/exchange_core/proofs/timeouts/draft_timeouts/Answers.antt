@@ -1,38 +1,38 @@
-use Rattle.std.proofs.Common.{◌≡◌, List, length, sym, ap, subst, ◌∙◌, arith}
-use Rattle.std.specs.Prelude.{fold, OnOk}
+use Rattle.std.proofs.Common.{◌≡◌, ◌++◌, List, length, map, refl, sym, ap, subst, ◌∙◌, arith}
+use Rattle.std.specs.Prelude.{OnOk}
 use Rattle.std.specs.List.{AllByRecursion}
-use Rattle.std.proofs.lemmas.List.{length-map}
-use Rattle.exchange_model.specs.State.{State}
-use Rattle.exchange_model.specs.Calls.{times_out}
-use Rattle.exchange_core.specs.declared.ending.Ended.{Ended}
-use Rattle.exchange_core.specs.Ending.{EndsIn, finished, out_of_time}
-use Rattle.exchange_core.specs.Leads.{Leads}
-use Rattle.exchange_core.proofs.Endings.{finished-late, late-end}
+use Rattle.journal_book.specs.Entries.{Deed}
+use Rattle.exchange_core.specs.declared.ending.Telling.{Telling}
+use Rattle.exchange_core.specs.Drafts.{IsDrafted}
+use Rattle.exchange_core.specs.Ending.{IsTold, deed_of, late_to, out_of_time}
+use Rattle.exchange_core.specs.States.{state_of}
+use Rattle.exchange_core.proofs.Readers.{few-told, late-same, late-told}
 use Rattle.exchange_core.proofs.timeouts.draft_timeouts.Goals as goal
 
-pub draft_ends-requires-clause-room : goal.draft_ends-requires-clause-room
-draft_ends-requires-clause-room g c =
-    let n : length c.in_ok-ended.ended.items ≡ length c.args.exchanges.now =
-    ap length c.in_ok-ended.ensures ∙ (length-map c.args.exchanges.now out_of_time) in
+pub draft_tellings-requires-clause-room : goal.draft_tellings-requires-clause-room
+draft_tellings-requires-clause-room g c =
+    let rs = c.args.s.now.readers.items in
+    let are : c.in_ok-told.told.items ≡ out_of_time c.args.exchanges.now rs =
+    c.in_ok-told.ensures ∙ rw (c.deref.ensures.value) refl in
+    let count = ap (λ (xs : List Telling). length xs) are in
+    let few = few-told (late_to c.args.exchanges.now) rs in
     let room = c.requires.room in
-    omega (arith, n, room)
+    omega (arith, count, few, room)
 
-pub draft_ends-requires-clause-ends : goal.draft_ends-requires-clause-ends
-draft_ends-requires-clause-ends g c =
-    subst (λ (xs : List Ended). AllByRecursion
-    (EndsIn c.args.journal.now.entries c.args.draft.now.entries c.args.moment) xs)
-    (sym c.in_ok-ended.ensures)
-    (late-end c.args.journal.now.entries c.args.draft.now.entries c.args.moment
-    c.args.exchanges.now c.requires.asked)
+pub draft_tellings-requires-clause-told : goal.draft_tellings-requires-clause-told
+draft_tellings-requires-clause-told g c =
+    let rs = c.args.s.now.readers.items in
+    let are : c.in_ok-told.told.items ≡ out_of_time c.args.exchanges.now rs =
+    c.in_ok-told.ensures ∙ rw (c.deref.ensures.value) refl in
+    subst (AllByRecursion (IsTold c.args.s.now.journal.entries c.args.draft.now.entries c.args.moment)) (sym are)
+    (late-told c.args.s.now.journal.entries c.args.draft.now.entries c.args.moment c.args.exchanges.now rs c.requires.asked)
 
 pub returns : goal.returns
-returns g c = record {
-  leads = λ S U e h.
-      let late : finished c.args.moment c.in_ok-ended.ended.items U
-      ≡ fold (times_out c.args.moment) U c.args.exchanges.now =
-      ap (λ (xs : List Ended). finished c.args.moment xs U) c.in_ok-ended.ensures
-      ∙ finished-late c.args.moment c.args.exchanges.now U in
-      subst (λ (V : State). OnOk c.draft_ends.result
-      (Leads c.args.moment S V c.draft_ends.new.draft)) late
-      (c.draft_ends.ensures.leads S U e h);
-}
+returns g c = λ ds h.
+    let t = c.args.moment in
+    let S = state_of c.args.s.now in
+    let rs = c.args.s.now.readers.items in
+    let are : c.in_ok-told.told.items ≡ out_of_time c.args.exchanges.now rs =
+    c.in_ok-told.ensures ∙ rw (c.deref.ensures.value) refl in
+    subst (λ (es : List Deed). OnOk c.draft_tellings.result (IsDrafted t S (ds ++ es) c.draft_tellings.new.draft))
+    (ap (map deed_of) are ∙ late-same c.args.exchanges.now rs) (c.draft_tellings.ensures S ds refl h)

@@ -1,12 +1,11 @@
-use Rattle.std.proofs.Common.{◌≡◌, ◌+◌, ◌<◌, ◌∷◌, length, take, drop, subst, arith}
-use Rattle.exchange_model.specs.State.{State}
-use Rattle.exchange_model.specs.Entering.{entered_all}
+use Rattle.std.proofs.Common.{◌≡◌, ◌+◌, ◌<◌, ◌∷◌, ◌++◌, List, length, take, drop, sym, ap, subst, ◌∙◌, append_assoc, arith}
+use Rattle.journal_book.specs.Entries.{Deed}
 use Rattle.endpoint_table.specs.declared.turns.Turn.{Turn}
 use Rattle.endpoint_table.specs.Turns.{deeds_of, turns_deeds}
-use Rattle.exchange_core.specs.Leads.{Leads}
+use Rattle.exchange_core.specs.Drafts.{Drafts}
 use Rattle.exchange_core.specs.Turns.{AreTimed}
 use Rattle.exchange_core.proofs.TickDue.{drop-at}
-use Rattle.exchange_core.proofs.TickTurns.{room-step, going-step, turns-take, entered-two}
+use Rattle.exchange_core.proofs.TickTurns.{room-step, going-step, turns-take}
 use Rattle.exchange_core.proofs.turns.draft_turns.Goals as goal
 
 pub each-preserved : goal.each-preserved
@@ -26,11 +25,12 @@ each-preserved g c =
       timed = timed.1;
       room = room-step c.each.draft.next c.draft_turn.new.draft.next k (drop (i + 1) ks)
           (drop i ks) left e.next 4294967295 c.each.invariant.room;
-      leads = λ S U h.
-          subst (λ (V : State). Leads t S V c.draft_turn.new.draft)
-          (entered-two t (turns_deeds (take i ks)) (deeds_of k.peer k.ticking)
-          (turns_deeds (take (i + 1) ks)) U (turns-take ks i k lt c.index-turn.ensures))
-          (e.leads S (entered_all t (turns_deeds (take i ks)) U) (c.each.invariant.leads S U h));
+      drafts = λ S ds h.
+          subst (λ (es : List Deed). Drafts t S es c.draft_turn.new.draft)
+          (append_assoc ds (turns_deeds (take i ks)) (deeds_of k.peer k.ticking)
+          ∙ ap (λ (es : List Deed). ds ++ es) (sym (turns-take ks i k lt c.index-turn.ensures)))
+          (e.drafts S (ds ++ turns_deeds (take i ks)) (c.each.invariant.drafts S ds h));
+      answers = e.answers ∙ c.each.invariant.answers;
       going = going-step c.each.draft.next c.draft_turn.new.draft.next k (drop (i + 1) ks)
           (drop i ks) left e.next c.each.going.exchanges c.draft_turn.new.going.exchanges _ e.going
           c.each.invariant.going;

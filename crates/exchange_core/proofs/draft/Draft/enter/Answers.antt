@@ -6,4 +6,4 @@ use Rattle.exchange_core.proofs.draft.Draft.enter.Goals as goal
 
 pub returns-clause-drafts : goal.returns-clause-drafts
 returns-clause-drafts g c =
-    λ S ds a h. subst (λ (d : DraftValue). Drafts c.args.entry.moment S (ds ++ event_of c.args.entry.event ∷ []) d) (sym c.in_ok-add.ensures) (drafts-alone _ S ds _ _ a h)
+    λ S ds a h. subst (λ (d : DraftValue). Drafts c.args.entry.moment S (ds ++ event_of c.args.entry.event ∷ []) d) (sym c.in_ok-add.ensures) (drafts-alone _ S ds _ _ c.requires.keeps a h)

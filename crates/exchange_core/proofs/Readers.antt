@@ -1,0 +1,98 @@
+-- Who waits for an exchange, and what they are told.
+use Rattle.std.proofs.Common.{◌≡◌, ℕ, ◌+◌, ◌<◌, ◌≤◌, suc, zero, List, [], ◌∷◌, length, map, Option, Some, None, refl, ap, arith}
+use Rattle.std.specs.Prelude.{filter, filter_map, option_map, slice_get}
+use Rattle.std.specs.List.{AllByRecursion, cons_option}
+use Rattle.std.proofs.lemmas.List.{length-map}
+use Rattle.std.proofs.lemmas.List.Sums.{length-filter, count_by-le-length}
+use Rattle.journal_book.specs.Entries.{Deed, Written}
+use Rattle.reply_reading.specs.Findings.{Found}
+use Rattle.history_laws.proofs.CallerLemmas.{all-more}
+use Rattle.exchange_model.specs.declared.kept.Exchange.{Exchange}
+use Rattle.exchange_model.specs.declared.kept.Reader.{Reader}
+use Rattle.exchange_model.specs.Calls.{is_reader_of, read_by, timeout_for, told_late}
+use Rattle.exchange_model.specs.Entering.{answer_of}
+use Rattle.exchange_model.specs.Growing.{IsKnown, RiseByAsk}
+use Rattle.exchange_model.specs.Room.{KeptInRoom}
+use Rattle.exchange_model.specs.State.{State}
+use Rattle.exchange_model.proofs.CallerLemmas.{readers-known, readers-rise, within-limits}
+use Rattle.exchange_core.specs.Asked.{IsAskedIn}
+use Rattle.exchange_core.specs.Ending.{IsTold, deed_of, late_of, out_of_time, readers_told, tell_of}
+
+-- who is known has asked
+asked-by : (S : State) (r : Reader) → IsKnown S r → IsAskedIn S.entries r
+asked-by S r k = record { moment = k.moment; ask = k.ask; request = k.request; stands = k.stands; sense = k.sense }
+
+pub all-asked : (S : State) → KeptInRoom S → AllByRecursion (IsAskedIn S.entries) S.readers
+all-asked S k = all-more (IsKnown S) (IsAskedIn S.entries) (asked-by S) S.readers (readers-known S k)
+
+-- There are no more than entries.
+
+place-in : {X : Type 0} (xs : List X) (i : ℕ) (x : X) → slice_get xs i ≡ Some x → i < length xs
+place-in [] i x e = absurd cc
+place-in (y ∷ ys) zero x e = omega arith
+place-in (y ∷ ys) (suc i) x e = let below = place-in ys i x e in omega (arith, below)
+
+count-rising : (n b : ℕ) (rs : List Reader) → b ≤ n → AllByRecursion (λ (r : Reader). b ≤ r.ask) rs
+    → RiseByAsk rs → AllByRecursion (λ (r : Reader). r.ask < n) rs → length rs + b ≤ n
+count-rising n b [] le low rise high = omega (arith, le)
+count-rising n b (r ∷ rs) le low rise high =
+    let least = low.0 in
+    let here = high.0 in
+    let rest =
+    count-rising n (r.ask + 1) rs (omega (arith, here))
+    (all-more (λ (y : Reader). r.ask < y.ask) (λ (y : Reader). r.ask + 1 ≤ y.ask)
+    (λ y lt. omega (arith, lt)) rs rise.0) rise.1 high.1 in
+    omega (arith, rest, least)
+
+all-above : (rs : List Reader) → AllByRecursion (λ (r : Reader). 0 ≤ r.ask) rs
+all-above [] = tt
+all-above (r ∷ rs) = (omega arith, all-above rs)
+
+pub few-readers : (S : State) → KeptInRoom S → length S.readers ≤ 65536
+few-readers S k =
+    let limit = (within-limits S k).0 in
+    let few =
+    count-rising (length S.entries) 0 S.readers (omega arith) (all-above S.readers) (readers-rise S k)
+    (all-more (IsKnown S) (λ (r : Reader). r.ask < length S.entries)
+    (λ r h. place-in S.entries r.ask _ h.stands) S.readers (readers-known S k)) in
+    omega (arith, few, limit)
+
+-- No more are told.
+pub few-told : {X : Type 0} (f : Reader → Option X) (rs : List Reader)
+    → length (filter_map f rs) ≤ length rs
+few-told f [] = omega arith
+few-told {X = X} f (r ∷ rs) = by (f r) (few-told f rs)
+  where
+    by : (o : Option X) → length (filter_map f rs) ≤ length rs
+        → length (cons_option o (filter_map f rs)) ≤ suc (length rs)
+    by None ih = omega (arith, ih)
+    by (Some x) ih = omega (arith, ih)
+
+pub few-read : (e : Exchange) (f : Found) (rs : List Reader) → length (readers_told e f rs) ≤ length rs
+few-read e f rs =
+    let map = length-map (filter (is_reader_of e) rs) (tell_of f) in
+    let is = length-filter (is_reader_of e) rs in
+    let le = count_by-le-length (is_reader_of e) rs in
+    omega (arith, map, is, le)
+
+-- Those that took too long are told as the step says.
+
+pub late-same : (es : List Exchange) (rs : List Reader) → map deed_of (out_of_time es rs) ≡ map answer_of (told_late es rs)
+late-same es [] = refl
+late-same es (r ∷ rs) = by (read_by es r) (late-same es rs)
+  where
+    by : (o : Option Exchange) → map deed_of (out_of_time es rs) ≡ map answer_of (told_late es rs)
+        → map deed_of (cons_option (option_map (late_of r) o) (out_of_time es rs))
+        ≡ map answer_of (cons_option (option_map (timeout_for r) o) (told_late es rs))
+    by None ih = ih
+    by (Some e) ih = ap (λ (ds : List Deed). deed_of (late_of r e) ∷ ds) ih
+
+pub late-told : (h drafted : List Written) (t : ℕ) (es : List Exchange) (rs : List Reader)
+    → AllByRecursion (IsAskedIn h) rs → AllByRecursion (IsTold h drafted t) (out_of_time es rs)
+late-told h drafted t es [] a = tt
+late-told h drafted t es (r ∷ rs) a = by (read_by es r) (late-told h drafted t es rs a.1)
+  where
+    by : (o : Option Exchange) → AllByRecursion (IsTold h drafted t) (out_of_time es rs)
+        → AllByRecursion (IsTold h drafted t) (cons_option (option_map (late_of r) o) (out_of_time es rs))
+    by None ih = ih
+    by (Some e) ih = (record { asked = a.0; found = refl; counts = refl }, ih)

@@ -1,0 +1,13 @@
+use Rattle.std.proofs.Common.{sym}
+use Rattle.exchange_model.proofs.CallerLemmas.{none-left}
+use Rattle.exchange_core.proofs.Outrun.{left-next}
+use Rattle.exchange_core.proofs.expiring.outrun_all.Goals as goal
+
+pub each-init : goal.each-init
+each-init g c = sym (none-left c.args.journal.now.entries c.args.still.now.exchanges)
+
+pub each-preserved : goal.each-preserved
+each-preserved g c =
+    let ws = c.args.journal.now.entries in
+    left-next ws c.args.over.now c.each.e-index c.e-item.result c.args.still.now.exchanges c.each.still.exchanges c.outrun.new.self.exchanges
+    c.each-test.true c.e-item.is c.each.invariant c.outrun.ensures.exchanges

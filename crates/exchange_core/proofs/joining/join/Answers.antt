@@ -1,0 +1,96 @@
+use Rattle.std.proofs.Common.{◌≡◌, ℕ, ◌+◌, ◌++◌, ◌∷◌, [], List, length, sym, ap, subst, ◌∙◌, arith}
+use Rattle.std.specs.Prelude.{sum_by}
+use Rattle.ask_model.specs.Sizes.{capped}
+use Rattle.journal_book.specs.Entries.{entry_size}
+use Rattle.exchange_model.specs.declared.kept.Reader.{Reader}
+use Rattle.exchange_model.specs.State.{State}
+use Rattle.exchange_core.specs.Answering.{Given}
+use Rattle.exchange_core.specs.Places.{IsOrdered}
+use Rattle.exchange_core.specs.States.{state_of, given_in, outgoing, with_draft}
+use Rattle.exchange_core.specs.Values.{Outgoing}
+use Rattle.exchange_core.proofs.Joins.{join-sealed, join-seals, join-sound, join-steps, reader_of, with_reader}
+use Rattle.exchange_core.proofs.Ordered.{conns-ordered, ordered}
+use Rattle.exchange_core.proofs.Sounding.{room-for}
+use Rattle.exchange_core.proofs.joining.join.Goals as goal
+
+pub takes-requires-clause-ordered : goal.takes-requires-clause-ordered
+takes-requires-clause-ordered g c = conns-ordered (state_of c.args.s.now) c.requires.sound.kept
+
+pub returns-then-not-taken-clause-sound : goal.returns-then-not-taken-clause-sound
+returns-then-not-taken-clause-sound g c =
+    let e = c.seal.ensures in
+    let fit = sym (c.in_ok-taken.ensures c.args.moment) ∙ c.if-not-taken.true in
+    join-sealed c.args.moment c.args.conn c.args.opening _ (state_of c.args.s.now) c.in_ok-draft.draft c.in_ok-draft.ensures.drafts
+    _ _ _ (outgoing c.args.s.now) c.requires.sound c.requires.unsealed c.requires.joins c.in_ok-draft.ensures.answers
+    (state_of c.seal.new.s) _ _ _ c.requires.early fit e.state e.bytes e.room e.answers
+
+pub returns-then-not-taken-clause-is : goal.returns-then-not-taken-clause-is
+returns-then-not-taken-clause-is g c = λ ne n.
+    let e = c.seal.ensures in
+    let fit = sym (c.in_ok-taken.ensures c.args.moment) ∙ c.if-not-taken.true in
+    join-seals c.args.moment c.args.conn c.args.opening _ (state_of c.args.s.now) c.in_ok-draft.draft c.in_ok-draft.ensures.drafts
+    _ _ _ (outgoing c.args.s.now) c.requires.sound c.requires.unsealed c.requires.joins c.in_ok-draft.ensures.answers
+    (state_of c.seal.new.s) (given_in c.seal.new.s) (outgoing c.seal.new.s) n fit e.state e.answers e.sends
+
+pub commit-requires-clause-room : goal.commit-requires-clause-room
+commit-requires-clause-room g c =
+    let t = c.args.moment in
+    let left = (room-for t (state_of c.args.s.now) _ _ _ c.in_ok-draft.draft c.requires.sound (sym (c.in_ok-taken.ensures t) ∙ c.if-not-taken.false)).0 in
+    let same = c.make_places.ensures.same.room in
+    omega (arith, left, same)
+
+pub commit-requires-clause-few : goal.commit-requires-clause-few
+commit-requires-clause-few g c =
+    let t = c.args.moment in
+    let left = (room-for t (state_of c.args.s.now) _ _ _ c.in_ok-draft.draft c.requires.sound (sym (c.in_ok-taken.ensures t) ∙ c.if-not-taken.false)).1 in
+    let same = ap (λ (V : State). length V.entries) c.make_places.ensures.same.state in
+    omega (arith, left, same)
+
+-- the state once places were made, also for a reader
+placed : (S S1 : State) (rs : List Reader) → S1 ≡ S → rs ≡ S1.readers → record S1 { readers = rs } ≡ S
+placed S S1 rs is same = rw (same) is
+
+-- ... and once the ask and the reader came
+after : (S S1 V : State) (rs : List Reader) (c o k : ℕ) → S1 ≡ V → rs ≡ S1.readers ++ record { ask = k; conn = c; opening = o } ∷ [] → k ≡ length S.entries
+    → record S1 { readers = rs } ≡ with_reader (reader_of (length S.entries) c o) V
+after S S1 V rs c o k is more at =
+    ap (λ (xs : List Reader). record S1 { readers = xs }) (more ∙ ap (λ (j : ℕ). S1.readers ++ reader_of j c o ∷ []) at)
+    ∙ ap (with_reader (reader_of (length S.entries) c o)) is
+
+pub commit-requires-clause-ordered : goal.commit-requires-clause-ordered
+commit-requires-clause-ordered g c =
+    subst IsOrdered (sym (placed (state_of c.args.s.now) (state_of c.make_places.new.s) c.try_reserve.new.self.items c.make_places.ensures.same.state c.try_reserve.ensures.items))
+    (ordered (state_of c.args.s.now) c.requires.sound.kept)
+
+pub returns-clause-sound : goal.returns-clause-sound
+returns-clause-sound g c =
+    let e = c.commit.ensures in
+    let m = c.make_places.ensures.same in
+    let t = c.args.moment in
+    let S : State = state_of c.args.s.now in
+    let d = c.in_ok-draft.draft in
+    let fit = sym (c.in_ok-taken.ensures t) ∙ c.if-not-taken.false in
+    let made = placed S (state_of c.make_places.new.s) c.try_reserve.new.self.items m.state c.try_reserve.ensures.items in
+    let new = after S (state_of c.commit.new.s) (with_draft t d S) c.push_reserved.new.self.items c.args.conn c.args.opening c.len-ask.result
+    (e.state ∙ ap (λ (V : State). with_draft t d V) made) c.push_reserved.ensures.items c.len-ask.ensures in
+    join-sound t c.args.conn c.args.opening _ S d c.in_ok-draft.ensures.drafts
+    _ _ _ (outgoing c.args.s.now) c.requires.sound c.requires.unsealed c.requires.joins c.in_ok-draft.ensures.answers
+    _ _ _ _ c.requires.early fit new
+    (e.bytes ∙ ap (λ (b : ℕ). capped (b + capped (sum_by entry_size d.entries))) m.bytes)
+    (e.room ∙ m.room) (e.answers ∙ ap (λ (gs : List Given). gs ++ d.answers) m.answers)
+
+pub returns-clause-is : goal.returns-clause-is
+returns-clause-is g c = λ ne n.
+    let e = c.commit.ensures in
+    let m = c.make_places.ensures.same in
+    let t = c.args.moment in
+    let S : State = state_of c.args.s.now in
+    let d = c.in_ok-draft.draft in
+    let fit = sym (c.in_ok-taken.ensures t) ∙ c.if-not-taken.false in
+    let made = placed S (state_of c.make_places.new.s) c.try_reserve.new.self.items m.state c.try_reserve.ensures.items in
+    let new = after S (state_of c.commit.new.s) (with_draft t d S) c.push_reserved.new.self.items c.args.conn c.args.opening c.len-ask.result
+    (e.state ∙ ap (λ (V : State). with_draft t d V) made) c.push_reserved.ensures.items c.len-ask.ensures in
+    join-steps t c.args.conn c.args.opening _ S d c.in_ok-draft.ensures.drafts
+    _ _ _ (outgoing c.args.s.now) c.requires.sound c.requires.unsealed c.requires.joins c.in_ok-draft.ensures.answers
+    _ _ _ n fit new
+    (e.answers ∙ ap (λ (gs : List Given). gs ++ d.answers) m.answers) (e.sends ∙ ap (λ (xs : List Outgoing). xs ++ d.sends) m.sends)
