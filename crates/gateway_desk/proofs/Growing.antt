@@ -14,7 +14,8 @@ use Rattle.message_layer.specs.declared.state.Outstanding.{Outstanding}
 use Rattle.message_layer.specs.declared.state.Waiting.{Waiting}
 use Rattle.exchange_model.specs.State.{State, link_of}
 use Rattle.exchange_model.specs.Steps.{asks, begins, seals}
-use Rattle.exchange_model.specs.Calls.{Numbers, next_by, next, refused, has_place, asked_by, asked}
+use Rattle.exchange_model.specs.declared.kept.Exchange.{Exchange}
+use Rattle.exchange_model.specs.Calls.{Numbers, next_by, next, refused, has_place, asked_by, asked, asked_with, joined}
 use Rattle.exchange_model.specs.Growing.{HasNoClient, by_client, at_moment}
 use Rattle.exchange_model.specs.Room.{fits}
 use Rattle.exchange_model.specs.Sealing.{opens_in_room, asks_in_room, hears_in_room, ticks_in_room}
@@ -192,9 +193,13 @@ asked-once t c a n S = sense a.sense
     either true q = begun q
     either false q = away C.Busy
 
+    reads : (v : Option Exchange) (q : CoapRequest) → AsksOnce S (asked_with v t c a q n S)
+    reads (Some e) q = record { more = at_moment t (Asks c a) ∷ []; entries = refl; one = refl; sealed = refl }
+    reads None q = either (has_place t q.peer S) q
+
     sense : (s : Sense) → AsksOnce S (asked_by s t c a n S)
     sense (Refuses cause status) = away cause
-    sense (Requests q) = either (has_place t q.peer S) q
+    sense (Requests q) = reads (joined q S) q
 
 -- in room, or not
 fits-in : (b f : Bool) (t : ℕ) (S S1 : State) → S.sealed ≡ b → (cond b S (cond f S1 (seals t S))).sealed ≡ false

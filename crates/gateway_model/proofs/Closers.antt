@@ -348,13 +348,13 @@ act-closes M w (Hears p bytes) old out new i h =
     subst (ActCloses M old new) (sym h.1)
     (steps-close M old new (ap (λ (s : Served). s.unasked) h.0)
     (steps-by (hears_in_room (at w old) p bytes old.core.state) old.core new.core (ap (λ (s : Served). s.core) h.0)
-    (hears-move (at w old) p bytes old.core.state)) h.2
+    (hears-move (at w old) p bytes old.core.state h.3)) h.2
     (λ s. ap (λ (x : Served). x.core.state.sealed) h.0 ∙ stays-sealed (at w old) (heard (at w old) p bytes old.core.state) old.core.state s))
 act-closes M w Passes old out new i h =
     subst (ActCloses M old new) (sym h.1)
     (steps-close M old new (ap (λ (s : Served). s.unasked) h.0)
     (steps-by (ticks_in_room (at w old) old.core.state) old.core new.core (ap (λ (s : Served). s.core) h.0)
-    (ticks-move (at w old) old.core.state)) h.2 (goes M w Passes old out new tt h).sealed)
+    (ticks-move (at w old) old.core.state h.3)) h.2 (goes M w Passes old out new tt h).sealed)
 act-closes M w (Asks c) old out new i h =
     subst (ActCloses M old new) (sym h.1) (asks-close M w c old new h.0 (goes M w (Asks c) old out new tt h).sealed)
 act-closes M w (Denies c) old out new i h =

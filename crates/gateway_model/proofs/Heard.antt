@@ -14,7 +14,7 @@ use Rattle.ask_model.specs.declared.cause.Cause.{Cause}
 use Rattle.ask_model.specs.declared.cause.Cause.TheVariants as C
 use Rattle.ask_model.specs.Requests.{CoapRequest, Sense, Requests, Refuses}
 use Rattle.ask_model.specs.Views.{Ask}
-use Rattle.journal_book.specs.Entries.{Grounds, Fault, Deed, Opens, Asks, Sends, Hears, Passes, Answers, Shuts, Seals, Written}
+use Rattle.journal_book.specs.Entries.{Fault, Deed, Opens, Asks, Sends, Hears, Passes, Answers, Shuts, Seals, Written}
 use Rattle.message_layer.specs.Values.{LinkState}
 use Rattle.message_layer.specs.Hearing.{ignored, is_fresh, is_repeat, is_awaited, is_awaited_by_ack, new_verdict, heard_verdict, rst_verdict, verdict_by, verdict_of, replies, reset_for}
 use Rattle.message_layer.specs.declared.state.Heard.{Heard}
@@ -27,8 +27,9 @@ use Rattle.message_layer.specs.declared.verdict.News.TheVariants as N
 use Rattle.message_layer.specs.declared.verdict.Verdict.{Verdict}
 use Rattle.exchange_model.specs.declared.kept.Exchange.{Exchange}
 use Rattle.exchange_model.specs.State.{State, link_of}
-use Rattle.exchange_model.specs.Steps.{opens, asks, answers, shuts, seals, begins, hears, hears_nothing, sends_first, sends_copy, is_past, passes}
-use Rattle.exchange_model.specs.Calls.{Numbers, next_by, next, refused, has_place, asked_by, asked, given_back, waits_on, ends, ends_if, takes_new, takes_by, repeats, resets, reads_so, heard, is_due, moves_by, moves, move_all, peer_of, timed_out, times_out, something_due, ticked, ended_by, grounds_of}
+use Rattle.exchange_model.specs.Steps.{opens, asks, shuts, seals, begins, hears, hears_nothing, sends_first, sends_copy, is_past, joins, timed_out, passes}
+use Rattle.exchange_model.specs.Calls.{Numbers, next_by, next, refused, has_place, asked_by, asked, given_back, Telling, tells, told_for, told_late, joined, asked_with, takes_new, takes_by, repeats, resets, reads_so, heard, is_due, moves_by, moves, move_all, peer_of, something_due, ticked, ended_by, grounds_of}
+use Rattle.exchange_model.specs.Entering.{answer_of}
 use Rattle.exchange_model.specs.Growing.{at_moment}
 use Rattle.exchange_model.specs.Keeping.{IsDone}
 use Rattle.exchange_model.specs.Room.{fits, KeptInRoom}
@@ -107,16 +108,8 @@ turn-unheard t S p = by (link_of S.links p).outstanding
     by (Some o) = either (is_due t (Some o)) S (sends_copy t p o S) S
         (one t (Sends p _ None) S (sends_copy t p o S) refl tt) (none S)
 
-ends-unheard : (t : ℕ) (g : Grounds) (e : Exchange) (S : State) → Unheard S (ends t g e S)
-ends-unheard t g e S = either (list_any (waits_on e) S.conns) S (answers t e.conn e.opening g S) S
-    (one t (Answers e.conn e.opening g) S _ refl tt) (none S)
-
-ends-if-unheard : (t : ℕ) (g : Grounds) (v : Option Exchange) (S : State) → Unheard S (ends_if t g v S)
-ends-if-unheard t g None S = none S
-ends-if-unheard t g (Some e) S = ends-unheard t g e S
-
-all-end-unheard : (t : ℕ) (es : List Exchange) (S : State) → Unheard S (fold (times_out t) S es)
-all-end-unheard t es S = all-fold (times_out t) (λ S e. ends-unheard t _ e S) es S
+all-told-unheard : (t : ℕ) (xs : List Telling) (S : State) → Unheard S (fold (tells t) S xs)
+all-told-unheard t xs S = all-fold (tells t) (λ S x. one t (answer_of x) S (tells t S x) refl tt) xs S
 
 in-room : (t : ℕ) (S S1 : State) → Unheard S S1 → Unheard S (in_room t S1 S)
 in-room t S S1 x = either (fits S1) S S1 (seals t S) x (seals-unheard t S)
@@ -140,9 +133,13 @@ asked-unheard t c a n S = sense a.sense
 
     sense : (s : Sense) → Unheard S (asked_by s t c a n S)
     sense (Refuses cause status) = turned_away cause
-    sense (Requests q) = either (has_place t q.peer S)
-        S (next t q.peer (begins t c a q n.token n.text n.word S)) (refused t c a C.Busy S)
-        (begun q) (turned_away C.Busy)
+    sense (Requests q) = with (joined q S)
+      where
+        with : (v : Option Exchange) → Unheard S (asked_with v t c a q n S)
+        with (Some e) = one t (Asks c a) S (joins t c a e.opening S) refl tt
+        with None = either (has_place t q.peer S)
+            S (next t q.peer (begins t c a q n.token n.text n.word S)) (refused t c a C.Busy S)
+            (begun q) (turned_away C.Busy)
 
 pub asks-unheard : (t c : ℕ) (a : Ask) (n : Numbers) (S : State) → Unheard S (asks_in_room t c a n S)
 asks-unheard t c a n S = either S.sealed S S (in_room t (asked t c a n S) S) (none S)
@@ -151,7 +148,7 @@ asks-unheard t c a n S = either S.sealed S S (in_room t (asked t c a n S) S) (no
 -- a tick
 
 late-unheard : (t : ℕ) (S : State) → Unheard S (late t S)
-late-unheard t S = all-end-unheard t (filter (is_past t) S.exchanges) S
+late-unheard t S = all-told-unheard t (told_late (filter (is_past t) S.exchanges) S.readers) S
 
 -- Something stands first.
 pub record Firstly (t : ℕ) (d : Deed) (S S1 : State) : Type 0 where
@@ -178,18 +175,18 @@ firstly-then t d S S1 S2 a b = record {
 }
 
 tick-unheard : (t : ℕ) (S : State)
-    → Unheard (passes t S) (fold (times_out t) (move_all t (passes t S)) (timed_out t S))
+    → Unheard (passes t S) (fold (tells t) (move_all t (passes t S)) (told_late (timed_out t S) S.readers))
 tick-unheard t S =
     let S1 = passes t S in
     let S2 = move_all t S1 in
-    both S1 S2 (fold (times_out t) S2 (timed_out t S))
+    both S1 S2 (fold (tells t) S2 (told_late (timed_out t S) S.readers))
     (all-fold (moves t) (turn-unheard t) (map peer_of S1.links) S1)
-    (all-end-unheard t (timed_out t S) S2)
+    (all-told-unheard t (told_late (timed_out t S) S.readers) S2)
 
 ticked-unheard : (t : ℕ) (S : State) → Unheard S (ticked t S)
 ticked-unheard t S =
-    either (something_due t S) S (fold (times_out t) (move_all t (passes t S)) (timed_out t S)) S
-    (both S (passes t S) (fold (times_out t) (move_all t (passes t S)) (timed_out t S))
+    either (something_due t S) S (fold (tells t) (move_all t (passes t S)) (told_late (timed_out t S) S.readers)) S
+    (both S (passes t S) (fold (tells t) (move_all t (passes t S)) (told_late (timed_out t S) S.readers))
     (one t Passes S (passes t S) refl tt) (tick-unheard t S)) (none S)
 
 pub ticks-unheard : (t : ℕ) (S : State) → Unheard S (ticks_in_room t S)
@@ -199,15 +196,11 @@ ticks-unheard t S =
     (both S (seals t S) (late t (seals t S)) (seals-unheard t S) (late-unheard t (seals t S))))
 
 pub late-sealed : (t : ℕ) (S : State) → S.sealed ≡ true → (late t S).sealed ≡ true
-late-sealed t S e = all (filter (is_past t) S.exchanges) S e
+late-sealed t S e = all (told_late (filter (is_past t) S.exchanges) S.readers) S e
   where
-    one_end : (b : Bool) (S1 S2 : State) → S1.sealed ≡ true → S2.sealed ≡ true → (cond b S1 S2).sealed ≡ true
-    one_end true S1 S2 x y = x
-    one_end false S1 S2 x y = y
-
-    all : (es : List Exchange) (S : State) → S.sealed ≡ true → (fold (times_out t) S es).sealed ≡ true
+    all : (xs : List Telling) (S : State) → S.sealed ≡ true → (fold (tells t) S xs).sealed ≡ true
     all [] S e = e
-    all (x ∷ es) S e = all es (times_out t S x) (one_end (list_any (waits_on x) S.conns) _ S e e)
+    all (x ∷ xs) S e = all xs (tells t S x) e
 
 -- After a tick all that was due is done, and that time passed stands first; or the journal is sealed.
 pub ticks-first : (t : ℕ) (S : State) → KeptInRoom S → S.moment ≤ t
@@ -216,11 +209,11 @@ pub ticks-first : (t : ℕ) (S : State) → KeptInRoom S → S.moment ≤ t
     × (something_due t S ≡ false → ticks_in_room t S ≡ S))
 ticks-first t S kept le = by S.sealed refl
   where
-    due : (b : Bool) → b ≡ true → Firstly t Passes S (cond b (fold (times_out t) (move_all t (passes t S)) (timed_out t S)) S)
-    due true e = first t Passes S (passes t S) (fold (times_out t) (move_all t (passes t S)) (timed_out t S)) refl (tick-unheard t S)
+    due : (b : Bool) → b ≡ true → Firstly t Passes S (cond b (fold (tells t) (move_all t (passes t S)) (told_late (timed_out t S) S.readers)) S)
+    due true e = first t Passes S (passes t S) (fold (tells t) (move_all t (passes t S)) (told_late (timed_out t S) S.readers)) refl (tick-unheard t S)
     due false e = absurd cc
 
-    idle : (b : Bool) → b ≡ false → cond b (fold (times_out t) (move_all t (passes t S)) (timed_out t S)) S ≡ S
+    idle : (b : Bool) → b ≡ false → cond b (fold (tells t) (move_all t (passes t S)) (told_late (timed_out t S) S.readers)) S ≡ S
     idle true e = absurd cc
     idle false e = refl
 
@@ -315,8 +308,7 @@ reads-first t p d S = read (message_at d)
         first t (Hears p d) S S1 (takes_new t p d m v S) refl
         (both S1 S3 (takes_new t p d m v S)
         (both S1 S2 S3 (given-unheard t p (replies m.mid v.reply) S1) (next-unheard t p S2))
-        (ends-if-unheard t (grounds_of v m S)
-        (ended_by v m S) S3))
+        (all-told-unheard t (told_for (ended_by v m S) (grounds_of v m S) S.readers) S3))
 
     taken : (m : Content) (v : Verdict) → (v.news ≡ N.Lost → KeepsMany t p S) → (news : News) → v.news ≡ news
         → Firstly t (Hears p d) S (takes_by t p d m v news S) ⊎ ((takes_by t p d m v news S ≡ S) × KeepsMany t p S)

@@ -349,13 +349,13 @@ plain-effect M w c (Hears q bytes) old out new p h =
     let S : State = hears_in_room (at w old) q bytes old.core.state in
     same-effect M.IsMeaning c old new
     (silent-as c old.core.state S new.core.state (ap (λ (s : Served). s.core.state) h.0)
-    (silent-moves c old.core.state S (hears-move (at w old) q bytes old.core.state)))
+    (silent-moves c old.core.state S (hears-move (at w old) q bytes old.core.state h.3)))
     (ap (λ (s : Served). unasked_at c s.unasked) h.0)
 plain-effect M w c Passes old out new p h =
     let S : State = ticks_in_room (at w old) old.core.state in
     same-effect M.IsMeaning c old new
     (silent-as c old.core.state S new.core.state (ap (λ (s : Served). s.core.state) h.0)
-    (silent-moves c old.core.state S (ticks-move (at w old) old.core.state)))
+    (silent-moves c old.core.state S (ticks-move (at w old) old.core.state h.3)))
     (ap (λ (s : Served). unasked_at c s.unasked) h.0)
 plain-effect M w c (Asks d) old out new p h = asks-effect M w c d old new h.0
 plain-effect M w c (Denies d) old out new p h = denies-effect M w c d old h.0 new h.1 h.2

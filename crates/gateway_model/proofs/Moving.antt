@@ -1,7 +1,7 @@
 -- What each call of a core adds, and that each answer is to the ask that its connection waits for.
-use Rattle.std.proofs.Common.{◌≡◌, ◌⊎◌, inl, inr, ℕ, ◌+◌, Bool, true, false, cond, List, [], ◌∷◌, ◌++◌, length, Option, Some, None, Result, Ok, Err, refl, sym, ap, ◌∙◌, subst, arith, length-append, eq-eqb}
+use Rattle.std.proofs.Common.{◌≡◌, ◌≢◌, ◌⊎◌, inl, inr, ℕ, ◌+◌, Bool, true, false, cond, List, [], ◌∷◌, ◌++◌, length, Option, Some, None, Result, Ok, Err, refl, sym, ap, ◌∙◌, subst, arith, length-append, eq-eqb}
 use Rattle.std.specs.Prelude.{◌&&◌, fold, filter, map, is_some, nat_le, ⊤, ◌==◌}
-use Rattle.std.specs.List.{AllByRecursion, list_any}
+use Rattle.std.specs.List.{AllByRecursion}
 use Rattle.std.proofs.lemmas.List.{append-nil, append_assoc}
 use Rattle.std.proofs.lemmas.Bool.{both_ways}
 use Rattle.coap_codec.specs.Spelling.{Content}
@@ -12,7 +12,7 @@ use Rattle.ask_model.specs.declared.cause.Cause.{Cause}
 use Rattle.ask_model.specs.declared.cause.Cause.TheVariants as C
 use Rattle.ask_model.specs.Requests.{CoapRequest, Sense, Requests, Refuses}
 use Rattle.ask_model.specs.Views.{Ask}
-use Rattle.journal_book.specs.Entries.{Grounds, Fault, Deed, Asks, Sends, Hears, Passes, Answers, Seals, Written}
+use Rattle.journal_book.specs.Entries.{Fault, Deed, Asks, Sends, Hears, Passes, Answers, Seals, Written}
 use Rattle.message_layer.specs.Hearing.{replies, reset_for, verdict_of}
 use Rattle.message_layer.specs.declared.state.Outstanding.{Outstanding}
 use Rattle.message_layer.specs.declared.state.Waiting.{Waiting}
@@ -21,14 +21,17 @@ use Rattle.message_layer.specs.declared.verdict.News.TheVariants as N
 use Rattle.message_layer.specs.declared.verdict.Verdict.{Verdict}
 use Rattle.exchange_model.specs.declared.kept.Conn.{Conn}
 use Rattle.exchange_model.specs.declared.kept.Exchange.{Exchange}
+use Rattle.exchange_model.specs.declared.kept.Reader.{Reader}
 use Rattle.exchange_model.specs.State.{State, link_of, pend, conns_after}
-use Rattle.exchange_model.specs.Steps.{opens, asks, answers, seals, begins, hears, hears_nothing, sends_first, sends_copy, is_past, passes}
+use Rattle.exchange_model.specs.Steps.{opens, asks, seals, begins, hears, hears_nothing, sends_first, sends_copy, is_past, joins, timed_out, passes}
 use Rattle.exchange_model.specs.Resting.{HasConn}
-use Rattle.exchange_model.specs.Calls.{Numbers, next_by, next, refused, has_place, asked_by, asked, given_back, waits_on, ends, ends_if, takes_new, takes_by, repeats, resets, reads_so, heard, is_due, moves_by, moves, move_all, peer_of, timed_out, times_out, something_due, ticked, ended_by, grounds_of}
+use Rattle.exchange_model.specs.Calls.{Numbers, next_by, next, refused, has_place, asked_by, asked, given_back, Telling, tells, told_for, told_late, joined, asked_with, takes_new, takes_by, repeats, resets, reads_so, heard, is_due, moves_by, moves, move_all, peer_of, something_due, ticked, ended_by, grounds_of}
 use Rattle.exchange_model.specs.Growing.{conns_with, at_moment, by_client}
-use Rattle.exchange_model.specs.Room.{fits}
+use Rattle.exchange_model.specs.Room.{fits, KeptInRoom}
+use Rattle.exchange_model.specs.Entering.{answer_of}
 use Rattle.exchange_model.specs.Sealing.{in_room, opens_in_room, asks_in_room, hears_in_room, late, ticks_in_room}
-use Rattle.exchange_model.proofs.CallerLemmas.{conns-both, found-conn}
+use Rattle.exchange_model.proofs.CallerLemmas.{Apart, AreWaiting, conns-both, for-served, given-conns, kept-served, late-served, moved-conns, next-conns, readers_in, Served, still-waits}
+use Rattle.history_laws.proofs.CallerLemmas.{all-more}
 
 -- An answer is to the ask that its connection waits for.
 abbrev pub IsAwaited : List Conn → Deed → Type 0
@@ -148,26 +151,24 @@ turn-moves t S p = by (link_of S.links p).outstanding
     by (Some o) = either (is_due t (Some o)) S (sends_copy t p o S) S
         (one t (Sends p _ None) S (sends_copy t p o S) refl refl refl refl tt) (none S)
 
-ends-move : (t : ℕ) (g : Grounds) (e : Exchange) (S : State) → Moves S (ends t g e S)
-ends-move t g e S = by (list_any (waits_on e) S.conns) refl
-  where
-    by : (b : Bool) → list_any (waits_on e) S.conns ≡ b
-        → Moves S (cond b (answers t e.conn e.opening g S) S)
-    by true is = one t (Answers e.conn e.opening g) S (answers t e.conn e.opening g S) refl refl refl refl
-        (found-conn e S.conns is)
-    by false is = none S
+-- Who is told waits.
+told-move : (t : ℕ) (xs : List Telling) (S : State) → AreWaiting (readers_in xs) S.conns → Apart (readers_in xs) → Moves S (fold (tells t) S xs)
+told-move t [] S waits apart = none S
+told-move t (x ∷ xs) S waits apart =
+    let left = still-waits x.reader.conn (readers_in xs) S.conns (all-more _ (λ (r : Reader). x.reader.conn ≢ r.conn) (λ r k. k.1) (readers_in xs) apart.0) waits.1 in
+    both S (tells t S x) (fold (tells t) S (x ∷ xs))
+    (one t (answer_of x) S (tells t S x) refl refl refl refl waits.0)
+    (told-move t xs (tells t S x) left apart.1)
 
-ends-if-move : (t : ℕ) (g : Grounds) (v : Option Exchange) (S : State) → Moves S (ends_if t g v S)
-ends-if-move t g None S = none S
-ends-if-move t g (Some e) S = ends-move t g e S
-
-all-end-move : (t : ℕ) (es : List Exchange) (S : State) → Moves S (fold (times_out t) S es)
-all-end-move t es S = all-fold (times_out t) (λ S e. ends-move t _ e S) es S
+late-told : (t : ℕ) (es : List Exchange) (rs : List Reader) (S : State) → AreWaiting rs S.conns → Apart rs → Moves S (fold (tells t) S (told_late es rs))
+late-told t es rs S waits apart =
+    let served = late-served es rs S.conns waits apart in
+    told-move t (told_late es rs) S served.0 served.1
 
 -- a datagram
 
-heard-moves : (t : ℕ) (p : Peer) (d : List ℕ) (S : State) → Moves S (heard t p d S)
-heard-moves t p d S =
+heard-moves : (t : ℕ) (p : Peer) (d : List ℕ) (S : State) → Served S → Moves S (heard t p d S)
+heard-moves t p d S served =
     either (is_some (link_of S.links p).last_mid && nat_le (length d) 2048) S
     (reads_so t p d (message_at d) S) S (read (message_at d)) (none S)
   where
@@ -187,8 +188,11 @@ heard-moves t p d S =
         (both S S1 S2 (one t (Hears p d) S S1 refl refl refl refl tt)
         (given-moves t p (replies m.mid v.reply) S1))
         (next-moves t p S2))
-        (ends-if-move t (grounds_of v m S)
-        (ended_by v m S) S3)
+        (told-move t (told_for (ended_by v m S) (grounds_of v m S) S.readers) S3
+        (rw (next-conns t p S2, given-conns t p (replies m.mid v.reply) S1) told.0) told.1)
+      where
+        told : AreWaiting (readers_in (told_for (ended_by v m S) (grounds_of v m S) S.readers)) S.conns × Apart (readers_in (told_for (ended_by v m S) (grounds_of v m S) S.readers))
+        told = for-served (ended_by v m S) (grounds_of v m S) S.readers S.conns served.waits served.apart
 
     taken : (m : Content) (v : Verdict) (news : News) → Moves S (takes_by t p d m v news S)
     taken m v N.Lost = none S
@@ -211,31 +215,33 @@ heard-moves t p d S =
 in-room : (t : ℕ) (S S1 : State) → Moves S S1 → Moves S (in_room t S1 S)
 in-room t S S1 x = either (fits S1) S S1 (seals t S) x (seals-move t S)
 
-pub hears-move : (t : ℕ) (p : Peer) (d : List ℕ) (S : State) → Moves S (hears_in_room t p d S)
-hears-move t p d S =
+pub hears-move : (t : ℕ) (p : Peer) (d : List ℕ) (S : State) → KeptInRoom S → Moves S (hears_in_room t p d S)
+hears-move t p d S kept =
     either S.sealed S S (in_room t (heard t p d S) S) (none S)
-    (in-room t S (heard t p d S) (heard-moves t p d S))
+    (in-room t S (heard t p d S) (heard-moves t p d S (kept-served kept.kept.reading S kept.kept.rests.reads)))
 
 -- a tick
 
-late-moves : (t : ℕ) (S : State) → Moves S (late t S)
-late-moves t S = all-end-move t (filter (is_past t) S.exchanges) S
+late-moves : (t : ℕ) (S : State) → Served S → Moves S (late t S)
+late-moves t S served = late-told t (filter (is_past t) S.exchanges) S.readers S served.waits served.apart
 
-ticked-moves : (t : ℕ) (S : State) → Moves S (ticked t S)
-ticked-moves t S =
+ticked-moves : (t : ℕ) (S : State) → Served S → Moves S (ticked t S)
+ticked-moves t S served =
     let S1 = passes t S in
     let S2 = move_all t S1 in
-    either (something_due t S) S (fold (times_out t) S2 (timed_out t S)) S
-    (both S S2 (fold (times_out t) S2 (timed_out t S))
+    either (something_due t S) S (fold (tells t) S2 (told_late (timed_out t S) S.readers)) S
+    (both S S2 (fold (tells t) S2 (told_late (timed_out t S) S.readers))
     (both S S1 S2 (one t Passes S S1 refl refl refl refl tt)
     (all-fold (moves t) (turn-moves t) (map peer_of S1.links) S1))
-    (all-end-move t (timed_out t S) S2)) (none S)
+    (late-told t (timed_out t S) S.readers S2 (rw (moved-conns t (map peer_of S1.links) S1) served.waits) served.apart)) (none S)
 
-pub ticks-move : (t : ℕ) (S : State) → Moves S (ticks_in_room t S)
-ticks-move t S =
-    either S.sealed S (late t S) _ (late-moves t S)
-    (either (fits (ticked t S)) S (ticked t S) (late t (seals t S)) (ticked-moves t S)
-    (both S (seals t S) (late t (seals t S)) (seals-move t S) (late-moves t (seals t S))))
+pub ticks-move : (t : ℕ) (S : State) → KeptInRoom S → Moves S (ticks_in_room t S)
+ticks-move t S kept =
+    let served = kept-served kept.kept.reading S kept.kept.rests.reads in
+    either S.sealed S (late t S) _ (late-moves t S served)
+    (either (fits (ticked t S)) S (ticked t S) (late t (seals t S)) (ticked-moves t S served)
+    (both S (seals t S) (late t (seals t S)) (seals-move t S)
+    (late-moves t (seals t S) (record { waits = served.waits; apart = served.apart }))))
 
 -- a connection that isn't opened
 
@@ -328,9 +334,13 @@ asked-begins t c a n S idle = sense a.sense
 
     sense : (s : Sense) → Begins t c a S (asked_by s t c a n S)
     sense (Refuses cause status) = turned_away cause
-    sense (Requests q) = place (has_place t q.peer S)
-        (next t q.peer (begins t c a q n.token n.text n.word S)) (refused t c a C.Busy S)
-        (begun q) (turned_away C.Busy)
+    sense (Requests q) = with (joined q S)
+      where
+        with : (v : Option Exchange) → Begins t c a S (asked_with v t c a q n S)
+        with (Some e) = begins-by t c a S (joins t c a e.opening S) (joins t c a e.opening S) refl refl refl (none (joins t c a e.opening S))
+        with None = place (has_place t q.peer S)
+            (next t q.peer (begins t c a q n.token n.text n.word S)) (refused t c a C.Busy S)
+            (begun q) (turned_away C.Busy)
 
 -- It begins so, or the journal is sealed; or nothing happens.
 pub asks-begin : (t c : ℕ) (a : Ask) (n : Numbers) (S : State) → HasConn S.conns c None
@@ -361,9 +371,15 @@ one-sealed false x y s e f = f
 asked-sealed : (sense : Sense) (t c : ℕ) (a : Ask) (n : Numbers) (S : State) → (asked_by sense t c a n S).sealed ≡ S.sealed
 asked-sealed (Refuses cause status) t c a n S = refl
 asked-sealed (Requests q) t c a n S =
-    let B : State = begins t c a q n.token n.text n.word S in
-    one-sealed (has_place t q.peer S) (next t q.peer B) (refused t c a C.Busy S) S.sealed
-    (next-sealed t q.peer (link_of B.links q.peer).outstanding (link_of B.links q.peer).waiting B) refl
+    with (joined q S)
+  where
+    B : State
+    B = begins t c a q n.token n.text n.word S
+
+    with : (v : Option Exchange) → (asked_with v t c a q n S).sealed ≡ S.sealed
+    with (Some e) = refl
+    with None = one-sealed (has_place t q.peer S) (next t q.peer B) (refused t c a C.Busy S) S.sealed
+        (next-sealed t q.peer (link_of B.links q.peer).outstanding (link_of B.links q.peer).waiting B) refl
 
 pub denied-is : (t c : ℕ) (a : Ask) (n : Numbers) (S : State) → (asks_in_room t c a n S).sealed ≡ true
     → (asks_in_room t c a n S ≡ S) ⊎ (asks_in_room t c a n S ≡ seals t S)

@@ -194,7 +194,7 @@ hears-serve : (M : Terms) (w : When) (p : Peer) (d : List ℕ) (old : Served) (o
 hears-serve M w p d old out new h k =
     let t : ℕ = at w old in
     let s : StepsTo old.core new.core = steps-by (hears_in_room t p d old.core.state) old.core new.core
-    (ap (λ (x : Served). x.core) h.0) (hears-move t p d old.core.state) in
+    (ap (λ (x : Served). x.core) h.0) (hears-move t p d old.core.state h.3) in
     all-kept old new (base-steps old new (numbered M w (Hears p d) old out new h k.base.numbered) s k.base)
     (λ c. keeps-steps c old new (ap (λ (x : Served). x.unasked) h.0) s k.base.once) k
 
@@ -203,7 +203,7 @@ passes-serve : (M : Terms) (w : When) (old : Served) (out : List Emission) (new 
 passes-serve M w old out new h k =
     let t : ℕ = at w old in
     let s : StepsTo old.core new.core = steps-by (ticks_in_room t old.core.state) old.core new.core
-    (ap (λ (x : Served). x.core) h.0) (ticks-move t old.core.state) in
+    (ap (λ (x : Served). x.core) h.0) (ticks-move t old.core.state h.3) in
     all-kept old new (base-steps old new (numbered M w Passes old out new h k.base.numbered) s k.base)
     (λ c. keeps-steps c old new (ap (λ (x : Served). x.unasked) h.0) s k.base.once) k
 

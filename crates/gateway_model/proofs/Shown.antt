@@ -99,9 +99,9 @@ module _ (holds : Form → Form → List ℕ → List ℕ → Type 0) (takes : F
       → ShowsReplies holds takes h n g.moment c g.ask (ask_of g.mapping) js r
   shows-live n c g r js w q asked ask by sense answered ms heard whole counts means =
       let rests : RestsOn h n c g.ask js = rests-on-replies h n g.moment c g.ask js stands answered in
-      let one = asks-same rests.moment asked c c _ _ (sym rests.asked.stands ∙ ask) in
+      let one = asks-same rests.shared.moment asked c c _ _ (sym rests.shared.asked.stands ∙ ask) in
       let request : rests.request ≡ q = request-same rests.request q (ap (λ (a : Ask). a.sense) one ∙ sense) in
-      let messages : rests.messages ≡ ms = messages-same h g.ask rests.request js rests.messages ms rests.heard heard in
+      let messages : rests.messages ≡ ms = messages-same h rests.opening rests.request js rests.messages ms rests.heard heard in
       let response : rests.response ≡ w =
       some-is rests.response w
       (sym rests.whole

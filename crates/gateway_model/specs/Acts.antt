@@ -10,6 +10,7 @@ use Rattle.ask_model.specs.Views.{Ask}
 use Rattle.http_mapping.specs.Limits.{limited}
 use Rattle.http_mapping.specs.Means.{closes}
 use Rattle.exchange_model.specs.Resting.{HasConn}
+use Rattle.exchange_model.specs.Room.{KeptInRoom}
 use Rattle.exchange_model.specs.Sealing.{hears_in_room, ticks_in_room}
 use Rattle.exchange_core.specs.declared.fault.OpenFault.TheVariants as Open
 use Rattle.exchange_core.specs.declared.fault.AskFault.TheVariants as AskFault
@@ -150,10 +151,10 @@ Does M w (Takes c bytes) old out new =
     (new ≡ record old { unasked = taken c bytes old.unasked }) × (out ≡ [])
 Does M w (Hears p bytes) old out new =
     (new ≡ record old { core = stepped (hears_in_room (at w old) p bytes old.core.state) old.core })
-    × (out ≡ []) × (old.core.untaken ≡ [])
+    × (out ≡ []) × (old.core.untaken ≡ []) × KeptInRoom old.core.state
 Does M w Passes old out new =
     (new ≡ record old { core = stepped (ticks_in_room (at w old) old.core.state) old.core })
-    × (out ≡ []) × (old.core.untaken ≡ [])
+    × (out ≡ []) × (old.core.untaken ≡ []) × KeptInRoom old.core.state
 Does M w (Asks c) old out new = IsAsking M w c old new × (out ≡ [])
 Does M w (Denies c) old out new =
     (mid : Served) × IsDenying M w c old mid × IsClosing w c mid new × (out ≡ Closed c ∷ [])

@@ -1,5 +1,6 @@
 -- What rests on one entry is shown just where that says it.
 use Rattle.std.proofs.Common.{◌↔◌, ◌≤◌, ℕ, List, length, get_or, IsTrue, IfOk, sym, ap, subst, ◌∙◌}
+use Rattle.std.specs.Arc.{arc_value}
 use Rattle.ask_model.specs.Requests.{CoapRequest}
 use Rattle.code_map.specs.Methods.{request_code}
 use Rattle.ask_model.specs.Views.{Mapping, body_of, payload_of, sense_of}
@@ -27,11 +28,11 @@ returns-in-len1 g c =
     let sense = sym (ap (λ m. sense_of m (body_of c.deref.result.now.came)) arm.is-2) ∙ c.meaning.ensures.sense
     ∙ ap (λ (m : Mapping). m.sense) c.deref.ensures in
     let one = ap Live (sym (one-of c.as_slice.result.now 0 c.in-len1.len_at_least c.in-len1.len_below)) in
-    shows-so c.is_said_at.result c.args.journal.now.entries _ a.moment a.heard q (response_of arm.response) _ _ _
+    shows-so c.is_said_at.result c.args.journal.now.entries _ a.moment a.heard q (response_of (arc_value arm.response)) _ _ _
     told (one ∙ ap Live c.as_slice.ensures ∙ grounds) sense
     (subst (λ (k : ℕ). IfOk c.is_said_at.result (λ is. IsTrue is
-    ↔ IsSaidAt c.args.journal.now.entries (get_or c.as_slice.result.now 0 0) a.heard k (response_of arm.response)))
-    c.code-method.ensures c.is_said_at.ensures)
+    ↔ IsSaidAt c.args.journal.now.entries (get_or c.as_slice.result.now 0 0) a.heard k (response_of (arc_value arm.response))))
+    c.code-method.ensures (rw c.deref-in-len1.ensures at c.is_said_at.ensures))
 
 pub returns-in_default-as_slice-2 : goal.returns-in_default-as_slice-2
 returns-in_default-as_slice-2 g c =
@@ -51,6 +52,6 @@ returns-in_default-as_slice-2 g c =
     ∙ ap (λ (m : Mapping). m.sense) c.deref.ensures in
     let more = subst (λ (js : List ℕ). 2 ≤ length js) c.as_slice.ensures c.in_default-as_slice.len_at_least in (
       (λ is. absurd cc),
-      (λ s. absurd (shows-none c.args.journal.now.entries arm.numbers q (response_of arm.response)
+      (λ s. absurd (shows-none c.args.journal.now.entries arm.numbers q (response_of (arc_value arm.response))
           _ _ _ told grounds sense more s.0)),
     )
