@@ -1,0 +1,228 @@
+//! The connection of a client.
+
+ghost use Rattle.std.specs.Prelude.{◌≡◌, ◌≢◌, ◌≤◌, ◌<◌, ◌++◌, [], true, length, drop, OnOk};
+ghost use Rattle.gateway_loop.specs.Clients.{kept, unserved, BeginsUnfed, Leaves, Reads, Writes};
+
+use crate::sockets::{Moved, Stream};
+use crate::stage::Stage;
+use std::alloc::{AllocError, Global};
+use std::marker::Model;
+
+/// A client's connection: what was given out for it and isn't written yet, and what was read of it
+/// and isn't an input yet.
+#[derive(Drop)]
+pub struct Client<S> {
+    stream: S,
+    /// What was given out, of which the first `gone` bytes are written.
+    out: Vec<u8>,
+    gone: usize,
+    /// What was read, of which the first `fed` bytes were inputs.
+    came: Vec<u8>,
+    fed: usize,
+    stage: Stage,
+    /// A read may give something.
+    readable: bool,
+    /// The client sends no more, of which no further sign tells.
+    ended: bool,
+}
+
+/// How far a call on a connection went.
+#[derive(Clone, Copy, Debug, PartialEq, Eq)]
+pub enum Flow {
+    /// As far as was wanted.
+    On,
+    /// Not further now.
+    Later,
+    /// The connection ended.
+    End,
+    /// Memory was refused, and what was read is lost.
+    Lost,
+}
+
+impl<S> Model for Client<S> {
+    ghost use Rattle.std.specs.Prelude.{◌≤◌, drop, vec_len};
+    ghost use Rattle.gateway_loop.specs.Clients.{ClientValue, is_leaving};
+
+    ghost Value = { ClientValue S };
+
+    ghost view = { λ c. record {
+      stream = c.stream;
+      left = drop c.gone c.out.items;
+      unfed = drop c.fed c.came.items;
+      leaving = is_leaving c.stage;
+    } };
+
+    ghost invariant = { λ c. (c.gone ≤ vec_len c.out) × (c.fed ≤ vec_len c.came) };
+}
+
+impl<S: Stream> Client<S> {
+    /// A connection of which nothing was read, and for which nothing was given out.
+    pub fn new(alloc: Global, stream: S) -> Client<S>
+        ensures { result ≡ unserved stream }
+    {
+        Client {
+            stream,
+            out: Vec::new(alloc),
+            gone: 0,
+            came: Vec::new(alloc),
+            fed: 0,
+            stage: Stage::Open,
+            readable: true,
+            ended: false,
+        }
+    }
+
+    /// How far it is.
+    pub fn stage(&self) -> Stage {
+        self.stage
+    }
+
+    /// There was a sign: a read may give something; and its client may have ended.
+    pub fn wake(&mut self, ended: bool)
+        ensures { self.new ≡ self.old }
+    {
+        self.readable = true;
+        self.ended = self.ended || ended;
+    }
+
+    /// The proxy closes it.
+    pub fn close(&mut self)
+        ensures { self.new ≡ self.old }
+    {
+        if let Stage::Open = self.stage {
+            self.stage = Stage::Closing;
+        }
+    }
+
+    /// It takes leave: its client is told that nothing more is written, and what it sends is dropped.
+    pub fn leave(&mut self)
+        ensures { Leaves S.written S.gave self.old self.new }
+    {
+        self.stream.finish();
+        self.came.clear();
+        self.fed = 0;
+        self.stage = Stage::Leaving;
+    }
+
+    /// Puts bytes after those that aren't written yet.
+    pub fn give(&mut self, bytes: Vec<u8>) -> Result<(), AllocError>
+        ensures { OnOk result
+            (self.new ≡ record self.old { left = self.old.left ++ bytes.items }) }
+    {
+        if self.gone < self.out.len() {
+            return self.out.extend_from_slice(bytes.as_slice());
+        }
+        self.out = bytes;
+        self.gone = 0;
+        Ok(())
+    }
+
+    /// Writes of what is left as much as the connection takes.
+    pub fn flush(&mut self) -> Flow
+        ensures writes { Writes S.written S.gave self.old self.new }
+        ensures done { result ≡ Flow.On → self.new.left ≡ [] }
+        ensures end { result ≡ Flow.End → S.over self.new.stream ≡ true }
+    {
+        if self.gone >= self.out.len() {
+            return Flow::On;
+        }
+        match self.stream.write(&self.out[self.gone..]) {
+            Moved::Bytes(0) => Flow::End,
+            Moved::Bytes(n) => {
+                self.gone += n;
+                if self.gone < self.out.len() {
+                    Flow::Later
+                } else {
+                    Flow::On
+                }
+            }
+            Moved::Later => Flow::Later,
+            Moved::End => Flow::End,
+        }
+    }
+
+    /// Whether something was read that isn't an input yet.
+    pub fn has_unfed(&self) -> bool {
+        self.fed < self.came.len()
+    }
+
+    /// Reads once, by way of the buffer, if that may give something.
+    pub fn read(&mut self, buffer: &mut [u8]) -> Flow
+        requires { 0 < length buffer.old }
+        ensures reads { result ≢ Flow.Lost → Reads S.written S.gave self.old self.new }
+        ensures end { result ≡ Flow.End → S.over self.new.stream ≡ true }
+        ensures length { length buffer.new ≡ length buffer.old }
+    {
+        if !self.readable {
+            return Flow::Later;
+        }
+        match self.stream.read(buffer) {
+            Moved::Bytes(0) => Flow::End,
+            Moved::Bytes(n) => {
+                // Fewer than fit: of the next there is a sign, but not of an end that came along.
+                self.readable = n == buffer.len() || self.ended;
+                match self.keep(&buffer[..n]) {
+                    Ok(()) => Flow::On,
+                    Err(_) => Flow::Lost,
+                }
+            }
+            Moved::Later => {
+                self.readable = false;
+                Flow::Later
+            }
+            Moved::End => Flow::End,
+        }
+    }
+
+    /// Keeps what came in after what isn't an input yet, or drops it where the connection leaves.
+    fn keep(&mut self, bytes: &[u8]) -> Result<(), AllocError>
+        ensures { OnOk result (self.new
+            ≡ record self.old { unfed = kept self.old.leaving self.old.unfed bytes.now }) }
+    {
+        match self.stage {
+            Stage::Leaving => Ok(()),
+            _ => self.came.extend_from_slice(bytes),
+        }
+    }
+
+    /// What is an input next: the first of the bytes that aren't yet.
+    pub fn piece(&self) -> &[u8]
+        ensures first { BeginsUnfed result.now self.now }
+        ensures some { self.now.unfed ≢ [] → 0 < length result.now }
+    {
+        let rest = &self.came[self.fed..];
+        &rest[..piece_len(rest)]
+    }
+
+    /// So many more bytes were an input.
+    pub fn feed(&mut self, count: usize)
+        requires { count ≤ length self.old.unfed }
+        ensures { self.new ≡ record self.old { unfed = drop count self.old.unfed } }
+    {
+        self.fed += count;
+        if self.fed >= self.came.len() {
+            self.came.clear();
+            self.fed = 0;
+        }
+    }
+}
+
+/// How many of the bytes there are up to the end of the first empty line, or in all: so a piece ends
+/// at most one head (RFC 9112 section 2.1).
+fn piece_len(bytes: &[u8]) -> usize
+    ensures fits { result ≤ length bytes.now }
+    ensures some { 0 < length bytes.now → 0 < result }
+{
+    let mut blank = false;
+    'each: for (i, byte) in bytes.iter().enumerate() {
+        if *byte == b'\n' {
+            if blank {
+                return i + 1;
+            }
+            blank = true;
+        } else if *byte != b'\r' {
+            blank = false;
+        }
+    }
+    bytes.len()
+}

@@ -1,0 +1,115 @@
+//! What a gateway does on one connection.
+
+ghost use Rattle.std.specs.Prelude.{◌≡◌, ◌≢◌, ◌<◌, ◌++◌, ◌∷◌, [], length, slice_get, OnOk};
+ghost use Rattle.gateway_loop.specs.Gateways.{MayAsk};
+ghost use Rattle.gateway_loop.specs.Places.{IsWritten};
+
+use crate::client::Flow;
+use crate::gateway::Gateway;
+use crate::sockets::{Stream, Wire};
+use crate::stage::Stage;
+use std::alloc::AllocError;
+use transformers::Relation;
+
+/// What is to be done next on a connection.
+#[derive(Clone, Copy, Debug, PartialEq, Eq)]
+pub enum Due {
+    /// Nothing before there is a sign, or an answer.
+    Nothing,
+    /// What was read is an input.
+    Piece,
+    /// What was read was dropped, and there may be more.
+    More,
+    /// It takes leave.
+    Farewell,
+    /// It ends.
+    End,
+}
+
+impl<R: Relation, S: Stream + Drop, W: Wire + Drop> Gateway<R, S, W> {
+    /// A sign tells that the connection may give or take bytes, or that its client sends no more.
+    pub fn wake(&mut self, number: u32, ended: bool) -> Result<(), AllocError>
+        ensures world { self.new.world ≡ self.old.world }
+        ensures line { OnOk result (number < length self.old.clients.places
+            → self.new.clients.line ≡ self.old.clients.line ++ number ∷ []) }
+    {
+        self.clients.wake(number, ended)
+    }
+
+    /// The connection may have something to do: it has its turn after those before it.
+    pub fn line_up(&mut self, number: u32) -> Result<(), AllocError>
+        ensures world { self.new.world ≡ self.old.world }
+        ensures line { OnOk result
+            (self.new.clients.line ≡ self.old.clients.line ++ number ∷ []) }
+    {
+        self.clients.line_up(number)
+    }
+
+    /// Whose turn is next.
+    pub fn next(&mut self) -> Option<u32>
+        ensures { self.new.world ≡ self.old.world }
+    {
+        self.clients.next()
+    }
+
+    /// The connection takes leave.
+    pub fn leave(&mut self, number: u32)
+        ensures { self.new.world ≡ self.old.world }
+    {
+        self.clients.leave(number);
+    }
+
+    /// Writes and reads on the connection, and answers what is to be done next. Nothing is asked of
+    /// it and nothing read while something is left to be written for it, or an answer awaited.
+    pub fn serve(&mut self, number: u32, buffer: &mut [u8]) -> Due
+        ensures world { self.new.world ≡ self.old.world }
+        ensures hold { result ≡ Due.Piece → MayAsk number self.new }
+        ensures length { length buffer.new ≡ length buffer.old }
+    {
+        match self.clients.flush(number) {
+            Flow::On => {}
+            Flow::Later => return Due::Nothing,
+            Flow::End | Flow::Lost => return Due::End,
+        }
+        match self.clients.stage(number) {
+            Some(Stage::Open) => self.find_piece(number, buffer),
+            Some(Stage::Closing) => Due::Farewell,
+            Some(Stage::Leaving) => self.drop_some(number, buffer),
+            None => Due::Nothing,
+        }
+    }
+
+    /// Whether there is something to ask of the connection, for which nothing is left to be written:
+    /// it is read where there is nothing.
+    fn find_piece(&mut self, number: u32, buffer: &mut [u8]) -> Due
+        requires { IsWritten (slice_get self.old.clients.places number) }
+        ensures world { self.new.world ≡ self.old.world }
+        ensures hold { result ≡ Due.Piece → MayAsk number self.new }
+        ensures length { length buffer.new ≡ length buffer.old }
+    {
+        if !self.world.is_idle(number) {
+            return Due::Nothing;
+        }
+        if self.clients.has_unfed(number) {
+            return Due::Piece;
+        }
+        match self.clients.read(number, buffer) {
+            Flow::On => Due::Piece,
+            Flow::Later => Due::Nothing,
+            Flow::End | Flow::Lost => Due::End,
+        }
+    }
+
+    /// Reads what the client sends that takes leave: it is dropped.
+    fn drop_some(&mut self, number: u32, buffer: &mut [u8]) -> Due
+        ensures world { self.new.world ≡ self.old.world }
+        ensures asks { result ≢ Due.Piece }
+        ensures length { length buffer.new ≡ length buffer.old }
+    {
+        match self.clients.read(number, buffer) {
+            Flow::On => Due::More,
+            Flow::Later => Due::Nothing,
+            Flow::End | Flow::Lost => Due::End,
+        }
+    }
+}

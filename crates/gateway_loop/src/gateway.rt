@@ -1,0 +1,86 @@
+//! The gateway: one world, and the connections and the wire that it is driven by.
+
+ghost use Rattle.std.specs.Prelude.{◌≡◌, [], length, IfOk};
+ghost use Rattle.ask_model.specs.Views.{rules_of};
+ghost use Rattle.exchange_core.specs.Due.{next_tick};
+ghost use Rattle.gateway_loop.specs.Serving.{IsServing};
+ghost use Rattle.gateway_loop.specs.Sockets.{Are};
+
+use crate::clients::Clients;
+use crate::sockets::{Stream, Wire};
+use ask_model::Settings;
+use gateway_world::World;
+use http_edge::Memory;
+use std::alloc::Global;
+use std::marker::Model;
+use transformers::Relation;
+
+/// A world, the connections that it serves by their numbers, and the wire.
+#[derive(Drop)]
+pub struct Gateway<R: Relation, S: Stream, W: Wire> {
+    pub(crate) alloc: Global,
+    pub(crate) world: World<R>,
+    pub(crate) clients: Clients<S>,
+    pub(crate) wire: W,
+}
+
+impl<R: Relation, S: Stream, W: Wire> Model for Gateway<R, S, W> {
+    ghost use Rattle.gateway_loop.specs.Gateways.{GatewayValue};
+    ghost use Rattle.gateway_loop.specs.Serving.{IsServing};
+
+    ghost Value = { GatewayValue S W };
+
+    ghost view = { λ g. record {
+      world = g.world;
+      clients = g.clients;
+      wire = g.wire;
+    } };
+
+    ghost invariant = { λ g.
+        IsServing R.holds R.takes S.written S.gave W.sent W.heard g.world g.clients.places g.wire };
+}
+
+impl<R: Relation, S: Stream + Drop, W: Wire + Drop> Gateway<R, S, W> {
+    /// A gateway to which nothing has happened, at a wire that wasn't used.
+    pub fn new(alloc: Global, settings: Settings, wire: W) -> Result<Gateway<R, S, W>, Memory>
+        requires sent { Are (W.sent wire) [] }
+        requires heard { Are (W.heard wire) [] }
+        ensures rules { IfOk result (λ g. g.world.rules ≡ rules_of settings) }
+    {
+        Ok(Gateway {
+            alloc,
+            world: World::new(alloc, settings)?,
+            clients: Clients::new(alloc),
+            wire,
+        })
+    }
+
+    /// How many connections there were, and so the number of the next.
+    pub fn count(&self) -> usize
+        ensures { result ≡ length self.now.clients.places }
+    {
+        self.clients.count()
+    }
+
+    /// How many connections stand in the line of those that have their turns.
+    pub fn in_line(&self) -> usize
+        ensures { result ≡ length self.now.clients.line }
+    {
+        self.clients.in_line()
+    }
+
+    /// The moment of the next tick that has something to do, if any has.
+    pub fn next_due(&self) -> Option<u64>
+        ensures { result ≡ next_tick self.now.world.core.state }
+    {
+        self.world.next_due()
+    }
+
+    /// What every gateway keeps. It does nothing.
+    pub fn serves(&self)
+        ensures { IsServing R.holds R.takes S.written S.gave W.sent W.heard
+            self.now.world self.now.clients.places self.now.wire }
+    {
+        let _world = &self.world;
+    }
+}

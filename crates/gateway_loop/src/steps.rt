@@ -1,0 +1,88 @@
+//! Steps of the loop on connections.
+
+ghost use Rattle.std.specs.Prelude.{◌≡◌, IfOk};
+ghost use Rattle.transformers.specs.Suits.{Suits};
+
+use crate::connections::Due;
+use crate::host::Host;
+use crate::sockets::{Stream, Wire};
+use crate::turns::{AT_ONCE, Loop, Stop};
+use transformers::{Bank, Relation};
+
+/// How many steps a connection has at once, before others have theirs.
+const STEPS: usize = 8;
+
+impl<R: Relation, S: Stream + Drop, W: Wire + Drop> Loop<R, S, W> {
+    /// Lets those go on that are ready now. Who becomes so meanwhile has the next turn.
+    pub(crate) fn go_on<H: Host<S>>(
+        self,
+        bank: &Bank<R>,
+        host: &mut H,
+    ) -> Result<Loop<R, S, W>, Stop>
+        requires suits { Suits R.holds R.takes self.gateway.world.rules.routes bank.now }
+        ensures rules { IfOk result (λ l. l.gateway.world.rules ≡ self.gateway.world.rules) }
+    {
+        let mut it = self;
+        'each: for _ in 0..it.gateway.in_line() {
+            let Some(number) = it.gateway.next() else {
+                return Ok(it);
+            };
+            it = it.step(bank, host, number)?;
+        }
+        Ok(it)
+    }
+
+    /// Lets a connection go on, for some steps; then others have their turn.
+    fn step<H: Host<S>>(
+        self,
+        bank: &Bank<R>,
+        host: &mut H,
+        number: u32,
+    ) -> Result<Loop<R, S, W>, Stop>
+        requires suits { Suits R.holds R.takes self.gateway.world.rules.routes bank.now }
+        ensures rules { IfOk result (λ l. l.gateway.world.rules ≡ self.gateway.world.rules) }
+    {
+        let mut it = self;
+        'each: for _ in 0..STEPS {
+            match it.gateway.serve(number, &mut it.buffer) {
+                Due::Nothing => return Ok(it),
+                Due::Piece => {
+                    let when = it.when(host);
+                    it.gateway = it.gateway.feed(bank, when, number)?;
+                }
+                Due::More => {}
+                Due::Farewell => {
+                    it.gateway.leave(number);
+                    it.farewells.push(number, it.moment)?;
+                }
+                Due::End => {
+                    let when = it.when(host);
+                    it.gateway = it.gateway.end(bank, when, number)?;
+                    return Ok(it);
+                }
+            }
+        }
+        it.gateway.line_up(number)?;
+        Ok(it)
+    }
+
+    /// Ends the connections whose time to take leave is over, some of them.
+    pub(crate) fn end_farewells<H: Host<S>>(
+        self,
+        bank: &Bank<R>,
+        host: &mut H,
+    ) -> Result<Loop<R, S, W>, Stop>
+        requires suits { Suits R.holds R.takes self.gateway.world.rules.routes bank.now }
+        ensures rules { IfOk result (λ l. l.gateway.world.rules ≡ self.gateway.world.rules) }
+    {
+        let mut it = self;
+        'each: for _ in 0..AT_ONCE {
+            let Some(number) = it.farewells.next_over(it.moment) else {
+                return Ok(it);
+            };
+            let when = it.when(host);
+            it.gateway = it.gateway.end(bank, when, number)?;
+        }
+        Ok(it)
+    }
+}

@@ -1,0 +1,248 @@
+//! The loop.
+
+ghost use Rattle.std.specs.Prelude.{◌≡◌, ◌⊎◌, [], true, false, IfOk};
+ghost use Rattle.gateway_loop.specs.Sockets.{Are};
+ghost use Rattle.transformers.specs.Suits.{Suits};
+
+use crate::farewells::Farewells;
+use crate::gateway::Gateway;
+use crate::hearing::Listened;
+use crate::host::{Accepted, Host, Sign};
+use crate::sockets::{Stream, Wire};
+use gateway_world::When;
+use http_edge::Memory;
+use std::alloc::AllocError;
+use transformers::{Bank, Relation};
+
+/// How many clients are taken, and how many datagrams heard, at a sign of them, before others have
+/// their turn.
+pub(crate) const AT_ONCE: usize = 64;
+
+/// How many signs are looked at in a turn.
+const SIGNS: usize = 1024;
+
+/// How long nobody is taken after the system gave no connection, in milliseconds.
+const PAUSE: u64 = 50;
+
+/// How many bytes are read at once.
+const ROOM: usize = 8192;
+
+/// The longest wait, in milliseconds.
+const LONGEST: u64 = 60_000;
+
+/// Why the loop ends.
+#[derive(Clone, Copy, Debug, PartialEq, Eq)]
+pub enum Stop {
+    /// Memory was refused.
+    Memory,
+    /// The clock failed.
+    Clock,
+    /// Signs can't be waited for.
+    Wait,
+}
+
+impl From<Memory> for Stop {
+    fn from(_e: Memory) -> Stop {
+        Stop::Memory
+    }
+}
+
+impl From<AllocError> for Stop {
+    fn from(_e: AllocError) -> Stop {
+        Stop::Memory
+    }
+}
+
+/// The earlier of two moments, of those that there are.
+fn sooner(a: Option<u64>, b: Option<u64>) -> Option<u64> {
+    match (a, b) {
+        (Some(a), Some(b)) => Some(a.min(b)),
+        (Some(a), None) => Some(a),
+        (None, b) => b,
+    }
+}
+
+/// The gateway as a loop, and what it has still to look at though no sign will tell of it again.
+#[derive(Drop)]
+pub struct Loop<R: Relation, S: Stream, W: Wire> {
+    pub(crate) gateway: Gateway<R, S, W>,
+    pub(crate) farewells: Farewells,
+    pub(crate) buffer: Vec<u8>,
+    /// The moment of the last turn.
+    pub(crate) moment: u64,
+    /// Clients may want connections, and nobody is taken before that moment.
+    clients: bool,
+    resumes: u64,
+    /// Datagrams may have come in.
+    wire: bool,
+}
+
+impl<R: Relation, S: Stream + Drop, W: Wire + Drop> Loop<R, S, W> {
+    /// A loop that looks at everything first.
+    pub fn new(gateway: Gateway<R, S, W>) -> Result<Loop<R, S, W>, AllocError>
+        ensures { IfOk result (λ l. l.gateway ≡ gateway) }
+    {
+        let buffer = vec![in gateway.alloc; 0u8; ROOM]?;
+        let farewells = Farewells::new(gateway.alloc);
+        Ok(Loop {
+            gateway,
+            farewells,
+            buffer,
+            moment: 0,
+            clients: true,
+            resumes: 0,
+            wire: true,
+        })
+    }
+
+    /// One turn: waits for signs, and lets all go on that may have something to do.
+    pub fn turn<H: Host<S>>(self, bank: &Bank<R>, host: &mut H) -> Result<Loop<R, S, W>, Stop>
+        requires suits { Suits R.holds R.takes self.gateway.world.rules.routes bank.now }
+        ensures rules { IfOk result (λ l. l.gateway.world.rules ≡ self.gateway.world.rules) }
+    {
+        let mut it = self;
+        if !host.wait(it.longest_wait()) {
+            return Err(Stop::Wait);
+        }
+        it.moment = match host.moment() {
+            Some(moment) => moment,
+            None => return Err(Stop::Clock),
+        };
+        it.take_signs(host)?;
+        let it = it.take_clients(bank, host)?;
+        let it = it.hear_all(bank, host)?;
+        let it = it.go_on(bank, host)?;
+        let it = it.end_farewells(bank, host)?;
+        it.pass(bank, host)
+    }
+
+    /// How long to wait: not at all where something is left to do, else until the next tick is due,
+    /// a farewell is over, or clients are taken again.
+    fn longest_wait(&self) -> Option<u64> {
+        if self.wire || self.gateway.in_line() > 0 {
+            return Some(0);
+        }
+        let resumes = if self.clients {
+            Some(self.resumes)
+        } else {
+            None
+        };
+        let until = sooner(self.gateway.next_due(), self.farewells.next_due());
+        let until = sooner(until, resumes)?;
+        Some(until.saturating_sub(self.moment).min(LONGEST))
+    }
+
+    /// Looks at the signs that there are.
+    fn take_signs<H: Host<S>>(&mut self, host: &mut H) -> Result<(), AllocError>
+        ensures { self.new.gateway.world ≡ self.old.gateway.world }
+    {
+        'each: for _ in 0..SIGNS {
+            match host.sign() {
+                Some(Sign::Clients) => self.clients = true,
+                Some(Sign::Wire) => self.wire = true,
+                Some(Sign::Ready(number)) => self.gateway.wake(number, false)?,
+                Some(Sign::Ended(number)) => self.gateway.wake(number, true)?,
+                None => return Ok(()),
+            }
+        }
+        Ok(())
+    }
+
+    /// Takes those who want connections, some of them.
+    fn take_clients<H: Host<S>>(self, bank: &Bank<R>, host: &mut H) -> Result<Loop<R, S, W>, Stop>
+        requires suits { Suits R.holds R.takes self.gateway.world.rules.routes bank.now }
+        ensures rules { IfOk result (λ l. l.gateway.world.rules ≡ self.gateway.world.rules) }
+    {
+        let mut it = self;
+        if !it.clients || it.moment < it.resumes {
+            return Ok(it);
+        }
+        'each: for _ in 0..AT_ONCE {
+            match host.accept() {
+                Accepted::Client(stream) => it = it.take_client(bank, host, stream)?,
+                Accepted::Later => {
+                    it.clients = false;
+                    return Ok(it);
+                }
+                Accepted::Refused => {
+                    it.resumes = it.moment.saturating_add(PAUSE);
+                    return Ok(it);
+                }
+            }
+        }
+        Ok(it)
+    }
+
+    /// Takes one, where its connection can be watched.
+    fn take_client<H: Host<S>>(
+        self,
+        bank: &Bank<R>,
+        host: &mut H,
+        stream: S,
+    ) -> Result<Loop<R, S, W>, Stop>
+        requires suits { Suits R.holds R.takes self.gateway.world.rules.routes bank.now }
+        requires written { Are (S.written stream) [] }
+        requires gave { Are (S.gave stream) [] }
+        ensures rules { IfOk result (λ l. l.gateway.world.rules ≡ self.gateway.world.rules) }
+    {
+        let mut it = self;
+        let mut stream = stream;
+        let Ok(number) = u32::try_from(it.gateway.count()) else {
+            return Ok(it);
+        };
+        if !host.watch(number, &mut stream) {
+            return Ok(it);
+        }
+        let when = it.when(host);
+        it.gateway = it.gateway.admit(bank, when, stream)?;
+        it.gateway.line_up(number)?;
+        Ok(it)
+    }
+
+    /// Hears the datagrams that are there, some of them.
+    fn hear_all<H: Host<S>>(self, bank: &Bank<R>, host: &mut H) -> Result<Loop<R, S, W>, Stop>
+        requires suits { Suits R.holds R.takes self.gateway.world.rules.routes bank.now }
+        ensures rules { IfOk result (λ l. l.gateway.world.rules ≡ self.gateway.world.rules) }
+        ensures all { IfOk result (λ l. l.wire ≡ false
+            → (self.wire ≡ false) ⊎ (W.spent l.gateway.wire ≡ true)) }
+    {
+        let mut it = self;
+        if !it.wire {
+            return Ok(it);
+        }
+        'each: for _ in 0..AT_ONCE {
+            let when = it.when(host);
+            let Listened { gateway, heard } = it.gateway.hear(bank, when, &mut it.buffer)?;
+            it.gateway = gateway;
+            if !heard {
+                it.wire = false;
+                return Ok(it);
+            }
+        }
+        Ok(it)
+    }
+
+    /// Lets time go on, where something is due.
+    fn pass<H: Host<S>>(self, bank: &Bank<R>, host: &mut H) -> Result<Loop<R, S, W>, Stop>
+        requires suits { Suits R.holds R.takes self.gateway.world.rules.routes bank.now }
+        ensures rules { IfOk result (λ l. l.gateway.world.rules ≡ self.gateway.world.rules) }
+    {
+        let mut it = self;
+        match it.gateway.next_due() {
+            Some(due) if due <= it.moment => {
+                let when = it.when(host);
+                it.gateway = it.gateway.tick(bank, when)?;
+                Ok(it)
+            }
+            _ => Ok(it),
+        }
+    }
+
+    /// When an input of this turn is, with a word of its own.
+    pub(crate) fn when<H: Host<S>>(&self, host: &mut H) -> When {
+        When {
+            moment: self.moment,
+            word: host.word(),
+        }
+    }
+}

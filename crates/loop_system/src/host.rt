@@ -1,0 +1,131 @@
+//! What drives the loop: the clients that the system has, its signs, and its clock.
+
+ghost use Rattle.std.specs.Prelude.{◌≡◌};
+
+use crate::client::Client;
+use crate::words::Words;
+use gateway_loop::{Accepted, Host, Sign};
+use mio::event::Event;
+use mio::net::{TcpListener, UdpSocket};
+use mio::{Events, Interest, Poll, Token};
+use std::alloc::Global;
+use std::io::{self, ErrorKind};
+use std::net::Net;
+use std::random::RandomSource;
+use std::rt::Clock;
+use std::time::{Duration, Instant};
+
+/// How many signs are told of at once.
+const SIGNS: usize = 1024;
+
+/// Under these names there are signs of the listener and of the devices. Those of connections are
+/// their numbers, which are shorter.
+const LISTENER: Token = Token(0xffff_ffff_ffff_fffe);
+
+const DEVICES: Token = Token(0xffff_ffff_ffff_fffd);
+
+/// The system, as the loop sees it.
+#[derive(Drop)]
+pub struct System<W: Clock + RandomSource + Drop> {
+    rt: W,
+    poll: Poll,
+    listener: TcpListener,
+    events: Events,
+    /// Those that weren't given yet, the last of them first.
+    signs: Vec<Sign>,
+    begin: Instant,
+    words: Words,
+}
+
+/// What tells of the two sockets that are there from the begin on.
+pub fn watched<W: Net>(
+    rt: &W,
+    listener: &mut TcpListener,
+    devices: &mut UdpSocket,
+) -> io::Result<Poll> {
+    let poll = Poll::new(rt)?;
+    let registry = poll.registry();
+    registry.register(listener, LISTENER, Interest::READABLE)?;
+    registry.register(devices, DEVICES, Interest::READABLE)?;
+    Ok(poll)
+}
+
+impl<W: Clock + RandomSource + Drop> System<W> {
+    /// A system whose time counts from this moment.
+    pub fn new(
+        rt: W,
+        alloc: Global,
+        poll: Poll,
+        listener: TcpListener,
+        begin: Instant,
+    ) -> Result<System<W>, std::alloc::AllocError> {
+        Ok(System {
+            rt,
+            poll,
+            listener,
+            events: Events::with_capacity(alloc, SIGNS)?,
+            signs: Vec::with_capacity(alloc, SIGNS)?,
+            begin,
+            words: Words::new(),
+        })
+    }
+}
+
+/// The sign that an event is.
+fn sign_of(event: &Event) -> Sign {
+    let token = event.token();
+    match u32::try_from(token.0) {
+        Ok(number) if event.is_read_closed() || event.is_error() => Sign::Ended(number),
+        Ok(number) => Sign::Ready(number),
+        Err(_) if token == DEVICES => Sign::Wire,
+        Err(_) => Sign::Clients,
+    }
+}
+
+impl<W: Clock + RandomSource + Drop> Host<Client> for System<W> {
+    fn accept(&mut self) -> Accepted<Client> {
+        match self.listener.accept() {
+            Ok((stream, _)) => Accepted::Client(Client::new(stream)),
+            Err(error) if error.kind() == ErrorKind::WouldBlock => Accepted::Later,
+            Err(_) => Accepted::Refused,
+        }
+    }
+
+    fn watch(&mut self, number: u32, stream: &mut Client) -> bool {
+        let both = Interest::READABLE | Interest::WRITABLE;
+        let token = Token(number as usize);
+        self.poll
+            .registry()
+            .register(&mut stream.stream, token, both)
+            .is_ok()
+    }
+
+    fn wait(&mut self, most: Option<u64>) -> bool {
+        let most = most.map(|most| Duration::from_millis(most));
+        self.signs.clear();
+        if self.poll.poll(&mut self.events, most).is_err() {
+            return false;
+        }
+        'each: for event in &self.events {
+            if self.signs.push(sign_of(event)).is_err() {
+                return false;
+            }
+        }
+        true
+    }
+
+    fn sign(&mut self) -> Option<Sign> {
+        self.signs.pop()
+    }
+
+    fn moment(&mut self) -> Option<u64> {
+        match self.begin.elapsed(&self.rt) {
+            Ok(gone) => Some(u64::try_from(gone.as_millis()).unwrap_or(u64::MAX)),
+            Err(_) => None,
+        }
+    }
+
+    fn word(&mut self) -> u64 {
+        self.words.next(&self.rt)
+    }
+}

@@ -1,0 +1,16 @@
+//! What the loop has of the system: the connections of clients, the UDP socket towards the devices,
+//! and what tells when to look at which; and the gateway that runs on them, in one thread.
+//!
+//! Readiness comes from `mio`: once for each change, so each socket is used until it gives no more.
+#![tactic(auto)]
+
+mod client;
+mod devices;
+mod host;
+mod ports;
+mod server;
+mod words;
+
+pub use ports::Ports;
+pub use server::run;
+pub use server_faults::ServeFault;

@@ -1,0 +1,87 @@
+//! Whatever signs come, each client gets the answers to what it asked, and no other bytes.
+
+ghost use Rattle.transformers.specs.Suits.{Suits};
+
+use crate::chance::Dice;
+use crate::fakes::{Chance, Devices, Talk, Tape};
+use crate::sample::{Nothing, settings};
+use gateway_loop::{Gateway, Loop};
+use std::alloc::Global;
+use transformers::{Bank, Relation};
+
+/// How many turns a run has.
+const TURNS: u32 = 2000;
+
+const ASKS_A: &[u8] =
+    b"GET /hc/coap://192.0.2.1/a HTTP/1.1\r\nHost: p\r\n\r\nGET /hc/coap://192.0.2.2/b HTTP/1.1\r\nHost: p\r\n\r\n";
+
+const ASKS_C: &[u8] =
+    b"GET /hc/coap://192.0.2.1/c HTTP/1.1\r\nHost: p\r\n\r\nGET /hc/coap://192.0.2.1/d HTTP/1.1\r\nHost: p\r\nConnection: close\r\n\r\n";
+
+const ASKS_E: &[u8] =
+    b"GET /hc/coap://192.0.2.3/e HTTP/1.1\r\nHost: p\r\nConnection: close\r\n\r\nGET /hc/coap://192.0.2.3/f HTTP/1.1\r\nHost: p\r\n\r\n";
+
+const GETS_A: &[u8] =
+    b"HTTP/1.1 200 OK\r\nContent-Type: text/plain;charset=utf-8\r\nCache-Control: max-age=60\r\nContent-Length: 1\r\n\r\naHTTP/1.1 200 OK\r\nContent-Type: text/plain;charset=utf-8\r\nCache-Control: max-age=60\r\nContent-Length: 1\r\n\r\nb";
+
+const GETS_C: &[u8] =
+    b"HTTP/1.1 200 OK\r\nContent-Type: text/plain;charset=utf-8\r\nCache-Control: max-age=60\r\nContent-Length: 1\r\n\r\ncHTTP/1.1 200 OK\r\nContent-Type: text/plain;charset=utf-8\r\nCache-Control: max-age=60\r\nConnection: close\r\nContent-Length: 1\r\n\r\nd";
+
+const GETS_E: &[u8] =
+    b"HTTP/1.1 200 OK\r\nContent-Type: text/plain;charset=utf-8\r\nCache-Control: max-age=60\r\nConnection: close\r\nContent-Length: 1\r\n\r\ne";
+
+/// Runs the loop by chance. False where it stopped.
+fn is_run(alloc: Global, seed: u64, talks: &[Talk]) -> bool {
+    let dice = Dice::new(seed);
+    let mut host = Chance::new(&dice, talks);
+    let Ok(settings) = settings(alloc) else {
+        return false;
+    };
+    let bank: Bank<Nothing> = Bank::new(Vec::new(alloc));
+    let Ok(gateway) = Gateway::new(alloc, settings, Devices::new(alloc, &dice)) else {
+        return false;
+    };
+    match Loop::new(gateway) {
+        Ok(it) => goes(&bank, it, &mut host),
+        Err(_) => false,
+    }
+}
+
+/// Lets the loop turn. False where it stopped.
+fn goes<'a, R: Relation>(
+    bank: &Bank<R>,
+    it: Loop<R, Tape<'a>, Devices<'a>>,
+    host: &mut Chance<'a>,
+) -> bool
+    requires { Suits R.holds R.takes it.gateway.world.rules.routes bank.now }
+{
+    let mut it = it;
+    'each: for _ in 0..TURNS {
+        it = match it.turn(bank, host) {
+            Ok(it) => it,
+            Err(_) => return false,
+        };
+    }
+    true
+}
+
+/// Whether each client is served, in a run by chance.
+fn is_each_served(alloc: Global, seed: u64) -> bool {
+    let talks = [
+        Talk::new(ASKS_A, GETS_A, false),
+        Talk::new(ASKS_C, GETS_C, true),
+        Talk::new(ASKS_A, GETS_A, false),
+        Talk::new(ASKS_E, GETS_E, true),
+    ];
+    is_run(alloc, seed, &talks) && talks.iter().all(Talk::is_served)
+}
+
+#[test]
+fn any_signs_in_any_order(rt: HostRuntime) {
+    'each: for seed in 1..25u64 {
+        assert!(rt;
+            is_each_served(rt.alloc(), seed * 0x9e37_79b9),
+            "run {seed}"
+        );
+    }
+}
