@@ -1,5 +1,5 @@
 -- What a request means (RFC 8075 sections 5 to 7), with the first reason to refuse it.
-use Rattle.std.specs.Prelude.{◌≡◌, ◌⊎◌, ℕ, ◌<◌, ◌≤◌, Bool, true, false, ◌&&◌, ◌||◌, nat_lt, List, [], ◌∷◌, length, map, Option, Some, None, option_map, Result, Ok, Err, codes, if◌then◌else◌}
+use Rattle.std.specs.Prelude.{◌≡◌, ◌⊎◌, ℕ, ◌<◌, ◌≤◌, Bool, true, false, not, ◌&&◌, ◌||◌, nat_lt, List, [], ◌∷◌, length, map, Option, Some, None, option_map, Result, Ok, Err, codes, if◌then◌else◌}
 use Rattle.std.specs.List.{list_any}
 use Rattle.std.specs.Str.{bytes_eq}
 use Rattle.limits.specs.declared.TheConstants.{MAX_BODY_LEN}
@@ -22,6 +22,7 @@ use Rattle.media_map.specs.Texts.{joined}
 use Rattle.media_map.specs.Formats.{format_at}
 use Rattle.media_map.specs.Accepting.{accept_at, route_at}
 use Rattle.http_header.specs.HeaderMap.{get, get_all}
+use Rattle.http_edge.specs.Lists.{same_name}
 use Rattle.http_edge.specs.Requests.{Content as HttpRequest}
 use Rattle.http_edge.specs.Kinds.{status_of}
 use Rattle.ask_model.specs.declared.cause.Cause.{Cause}
@@ -87,10 +88,16 @@ abbrev pub typing_by : Rules → Option (List ℕ) → Typing
 typing_by s None = Untyped
 typing_by s (Some value) = typing_along s.policy value (route_at s.routes value)
 
--- An empty body has no format, and its Content-Type isn't read. Of several the first counts.
+-- A content coding, which CoAP has no option for (RFC 9110 section 8.4). `identity` names none.
+abbrev pub is_coded : HttpRequest → Bool
+is_coded r =
+    list_any (λ v. not (same_name v.bytes (codes "identity"))) (get_all r.fields (codes "content-encoding"))
+
+-- An empty body has no format, and its Content-Type isn't read. Of several the first counts. What a
+-- coding made of a body isn't of its Content-Type.
 abbrev pub typing_of : Rules → HttpRequest → List ℕ → Typing
 typing_of s r [] = Untyped
-typing_of s r (b ∷ body) = typing_by s (first_value (codes "content-type") r)
+typing_of s r (b ∷ body) = if is_coded r then Untypable else typing_by s (first_value (codes "content-type") r)
 
 -- what is accepted as the answer (RFC 8075 section 6.5)
 abbrev pub accepted_of : Rules → HttpRequest → Result (Option Wanted) MediaFault

@@ -6,3 +6,4 @@ pub mod Rules
 pub mod Shown
 pub mod Stored
 pub mod Values
+pub mod Codings

@@ -1,11 +1,12 @@
 //! What a request's fields say of its body, and of the answer that it takes (RFC 8075, section 6).
 
-ghost use Rattle.std.specs.Prelude.{◌≡◌, ◌≢◌, ◌∷◌, ◌++◌, Some, Ok, Err, OnOk, IfOk, IfErr, option_map, if◌then◌else◌};
+ghost use Rattle.std.specs.Prelude.{◌≡◌, ◌≢◌, ◌∷◌, ◌++◌, codes, Some, Ok, Err, OnOk, IfOk, IfErr, option_map, if◌then◌else◌};
 ghost use Rattle.http_header.specs.Token.{lowercase};
+ghost use Rattle.http_edge.specs.Lists.{same_name};
 ghost use Rattle.http_edge.specs.Requests.{content};
 ghost use Rattle.media_map.specs.Formats.{format_at};
 ghost use Rattle.ask_model.specs.Views.{rules_of};
-ghost use Rattle.ask_model.specs.Maps.{first_value as first_value_of, one_value as one_value_of, typing_of as typing_for, typing_by, typing_stated, accepted_of};
+ghost use Rattle.ask_model.specs.Maps.{first_value as first_value_of, one_value as one_value_of, is_coded as coded, typing_of as typing_for, typing_by, typing_stated, accepted_of};
 ghost use Rattle.http_mapping.specs.Typings.{typing_shown, IsAlong};
 
 use ask_model::Settings;
@@ -35,6 +36,25 @@ fn first_value<'a>(request: &'a Request, name: &'static str) -> Option<&'a [u8]>
     Some(value.as_bytes())
 }
 
+/// Whether a Content-Encoding says that there is none.
+fn is_identity(value: &[u8]) -> bool
+    ensures { result ≡ same_name value.now (codes "identity") }
+{
+    value.eq_ignore_ascii_case("identity".as_bytes())
+}
+
+/// Whether the body is in a content coding (RFC 9110, section 8.4).
+fn is_coded(request: &Request) -> bool
+    ensures { result ≡ coded (content request.now) }
+{
+    'each: for value in request.fields.get_all("content-encoding") {
+        if !is_identity(value.as_bytes()) {
+            return true;
+        }
+    }
+    false
+}
+
 /// The format that a Content-Type states by itself.
 fn stated(value: &[u8], policy: Policy) -> Typing<'static>
     ensures { typing_shown result ≡ typing_stated (format_at policy value.now) }
@@ -56,13 +76,17 @@ fn typing_said<'a>(value: &[u8], settings: &'a Settings) -> Typing<'a>
     }
 }
 
-/// What is known of a body that goes to a server. An empty one has no format.
+/// What is known of a body that goes to a server. An empty one has no format, and one in a content coding
+/// none that CoAP has.
 pub fn typing_of<'a>(request: &Request, settings: &'a Settings, body: &[u8]) -> Typing<'a>
     ensures says { typing_shown result ≡ typing_for (rules_of settings.now) (content request.now) body.now }
     ensures along { IsAlong settings.now.routes (typing_shown result) }
 {
     if body.is_empty() {
         return Typing::Untyped;
+    }
+    if is_coded(request) {
+        return Typing::Untypable;
     }
     match first_value(request, "content-type") {
         Some(value) => typing_said(value, settings),
