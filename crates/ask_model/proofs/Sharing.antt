@@ -1,14 +1,12 @@
 -- Requests that ask the same: their messages are equal, and what one asks the same as, the other does too.
-use Rattle.std.proofs.Common.{◌≡◌, ℕ, Bool, true, ◌&&◌, List, [], ◌∷◌, length, Option, Some, None, refl, sym, ap, ◌∙◌, arith}
+use Rattle.std.proofs.Common.{◌≡◌, ℕ, Bool, true, false, cond, ◌&&◌, List, [], ◌∷◌, length, Option, Some, None, refl, sym, ap, ◌∙◌, arith}
 use Rattle.std.specs.Prelude.{is_none, ◌==◌}
 use Rattle.std.proofs.lemmas.Bool.{and_parts}
 use Rattle.std.proofs.lemmas.Bool.Decides.{Decides-eqb}
-use Rattle.uri_map.specs.declared.target.Host.{Host}
-use Rattle.cache_key.specs.declared.place.Place.{Place}
 use Rattle.cache_key.specs.Keys.{CacheKey, same_key}
 use Rattle.cache_key.proofs.CallerLemmas.{keys_decided}
-use Rattle.ask_model.specs.Requests.{CoapRequest, request_message}
-use Rattle.ask_model.specs.Sharing.{asked_key, asked_place, is_get, asks_same}
+use Rattle.ask_model.specs.Requests.{CoapRequest, Sense, Requests, Refuses, request_message}
+use Rattle.ask_model.specs.Sharing.{asked_key, asked_place, is_get, asks_same, asks_same_by, key_read}
 
 -- a GET has the method 1, and neither format nor body
 record IsGet (q : CoapRequest) : Type 0 where
@@ -71,3 +69,18 @@ asks-onward q r s e f =
     let a = parts q r e in
     let b = parts q s f in
     rw (a.second, b.second, (keys_decided (asked_key r) (asked_key s)).1 (sym a.key ∙ b.key)) refl
+
+-- two GETs that read these
+some-key : (k l : CacheKey) → Some k ≡ Some l → k ≡ l
+some-key k l e = cc
+
+both-gets : (b c : Bool) (k l m n : CacheKey) → Some k ≡ cond b (Some m) None → Some l ≡ cond c (Some n) None
+    → same_key k l ≡ (b && (c && same_key m n))
+both-gets true true k l m n e f = rw (some-key k m e, some-key l n f) refl
+both-gets true false k l m n e f = absurd cc
+both-gets false c k l m n e f = absurd cc
+
+pub both-read : (s u : Sense) (k l : CacheKey) → Some k ≡ key_read s → Some l ≡ key_read u → same_key k l ≡ asks_same_by s u
+both-read (Requests q) (Requests r) k l e f = both-gets (is_get q) (is_get r) k l (asked_key q) (asked_key r) e f
+both-read (Requests q) (Refuses cause status) k l e f = absurd cc
+both-read (Refuses cause status) u k l e f = absurd cc

@@ -1,8 +1,8 @@
 -- Which requests one response may answer (RFC 7252 section 5.6).
-use Rattle.std.specs.Prelude.{◌≡◌, ℕ, Bool, true, false, not, ◌&&◌, List, length, is_none, ◌==◌}
+use Rattle.std.specs.Prelude.{◌≡◌, ℕ, Bool, true, false, not, ◌&&◌, List, length, Option, Some, None, is_none, ◌==◌, if◌then◌else◌}
 use Rattle.cache_key.specs.declared.place.Place.{Place}
 use Rattle.cache_key.specs.Keys.{CacheKey, key_of, place_of, same_key, same_place}
-use Rattle.ask_model.specs.Requests.{CoapRequest, Sense, Requests, request_message}
+use Rattle.ask_model.specs.Requests.{CoapRequest, Sense, Requests, Refuses, request_message}
 
 -- what a response to it would be kept under
 abbrev pub asked_key : CoapRequest → CacheKey
@@ -26,6 +26,16 @@ AsksAlike =
     (q r : CoapRequest) → asks_same q r ≡ true
     → (q.peer ≡ r.peer)
     × ((mid : ℕ) (token : List ℕ) → request_message q mid token ≡ request_message r mid token)
+
+-- the key that a GET reads
+abbrev pub key_read : Sense → Option CacheKey
+key_read (Requests q) = if is_get q then Some (asked_key q) else None
+key_read (Refuses cause status) = None
+
+-- the place that any other request changes
+abbrev pub place_written : Sense → Option Place
+place_written (Requests q) = if q.method == 1 then None else Some (asked_place q)
+place_written (Refuses cause status) = None
 
 -- the same of what requests mean: a refusal asks for nothing
 abbrev pub asks_same_by : Sense → Sense → Bool

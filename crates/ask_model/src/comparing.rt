@@ -1,7 +1,8 @@
-//! Requests that one response may answer, and writes that outdate it.
+//! What requests read and change: which of them one response may answer, and which outdate it.
 
-ghost use Rattle.std.specs.Prelude.{◌≡◌, ℕ, List};
-ghost use Rattle.ask_model.specs.Sharing.{asks_same_by, outdates_by};
+ghost use Rattle.std.specs.Prelude.{◌≡◌, ℕ, List, option_map};
+ghost use Rattle.cache_key.specs.Keys.{key_of, place_of};
+ghost use Rattle.ask_model.specs.Sharing.{asks_same_by, key_read, outdates_by, place_written};
 ghost use Rattle.ask_model.specs.Views.{sense_of};
 
 use crate::meaning::Meaning;
@@ -11,47 +12,68 @@ use cache_key::Reading;
 /// The code of a GET (RFC 7252 section 12.1.1).
 const GET: u8 = 1;
 
+/// What a GET reads. Anything else reads nothing.
+pub(crate) fn reading_of<'a>(meaning: &'a Meaning, body: &[u8]) -> Option<Reading<'a>>
+    ensures { option_map (λ r. key_of r.peer r.target.now r.accept) result
+        ≡ key_read (sense_of meaning.now body.now) }
+{
+    match meaning {
+        Meaning::Ask {
+            method,
+            target,
+            peer,
+            accept,
+            format,
+            payload,
+        } => {
+            let is_get = method.code() == GET
+                && format.is_none()
+                && bytes_of(payload, body).is_empty();
+            if !is_get {
+                return None;
+            }
+            Some(Reading {
+                peer: *peer,
+                target,
+                accept: *accept,
+            })
+        }
+        Meaning::Refuse(_, _) => None,
+    }
+}
+
+/// What a request changes that isn't a GET: its place alone counts.
+pub(crate) fn writing_of(meaning: &Meaning) -> Option<Reading<'_>>
+    ensures { (body : List ℕ) → option_map (λ r. place_of r.peer r.target.now) result
+        ≡ place_written (sense_of meaning.now body) }
+{
+    match meaning {
+        Meaning::Ask {
+            method,
+            target,
+            peer,
+            accept,
+            ..
+        } => {
+            if method.code() == GET {
+                return None;
+            }
+            Some(Reading {
+                peer: *peer,
+                target,
+                accept: *accept,
+            })
+        }
+        Meaning::Refuse(_, _) => None,
+    }
+}
+
 /// Whether both are GETs that one response may answer.
 pub(crate) fn asks_same(a: &Meaning, a_body: &[u8], b: &Meaning, b_body: &[u8]) -> bool
     ensures { result ≡ asks_same_by (sense_of a.now a_body.now) (sense_of b.now b_body.now) }
 {
-    match (a, b) {
-        (
-            Meaning::Ask {
-                method,
-                target,
-                peer,
-                accept,
-                format,
-                payload,
-            },
-            Meaning::Ask {
-                method: other_method,
-                target: other_target,
-                peer: other_peer,
-                accept: other_accept,
-                format: other_format,
-                payload: other_payload,
-            },
-        ) => {
-            let one = Reading {
-                peer: *peer,
-                target,
-                accept: *accept,
-            };
-            let other = Reading {
-                peer: *other_peer,
-                target: other_target,
-                accept: *other_accept,
-            };
-            method.code() == GET
-                && format.is_none()
-                && bytes_of(payload, a_body).is_empty()
-                && other_method.code() == GET
-                && other_format.is_none()
-                && bytes_of(other_payload, b_body).is_empty()
-                && one.has_key_of(&other)
-        }
+    match (reading_of(a, a_body), reading_of(b, b_body)) {
+        (Some(one), Some(other)) => one.has_key_of(&other),
         _ => false,
     }
 }

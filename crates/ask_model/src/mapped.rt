@@ -5,7 +5,8 @@ ghost use Rattle.std.specs.Arc.{arc_value};
 ghost use Rattle.limits.specs.declared.TheConstants.{MAX_MESSAGE_LEN, MAX_REQUEST_SIZE};
 ghost use Rattle.ask_model.specs.Views.{came_of, body_of, sense_of, rules_of};
 ghost use Rattle.ask_model.specs.Maps.{Maps, wanted_of};
-ghost use Rattle.ask_model.specs.Sharing.{asks_same_by, outdates_by};
+ghost use Rattle.cache_key.specs.Keys.{key_of, place_of};
+ghost use Rattle.ask_model.specs.Sharing.{asks_same_by, key_read, outdates_by, place_written};
 ghost use Rattle.ask_model.specs.Sizes.{came_size};
 ghost use Rattle.ask_model.specs.Datagrams.{IsSentFor, asked_peer};
 
@@ -13,6 +14,7 @@ use crate::comparing;
 use crate::meaning::Meaning;
 use crate::request::{body_in, datagram_of};
 use crate::settings::Settings;
+use cache_key::Reading;
 use coap_codec::{Bytes, Token};
 use http_edge::Incoming;
 use media_map::Wanted;
@@ -130,6 +132,24 @@ impl<R: Relation> Mapped<R> {
             Meaning::Ask { peer, .. } => Some(*peer),
             Meaning::Refuse(_, _) => None,
         }
+    }
+
+    /// What it reads, where it is a GET: what a response to it is kept under (RFC 7252 section 5.6).
+    /// Anything else, also a GET with a body, reads nothing.
+    pub fn reading(&self) -> Option<Reading<'_>>
+        ensures { option_map (λ r. key_of r.peer r.target.now r.accept) result
+            ≡ key_read self.now.sense }
+    {
+        comparing::reading_of(self.meaning(), body_in(self.came()))
+    }
+
+    /// What it changes, where it isn't a GET: what is kept of that place is out of date once it
+    /// ends (RFC 7252 section 5.9.2).
+    pub fn writing(&self) -> Option<Reading<'_>>
+        ensures { option_map (λ r. place_of r.peer r.target.now) result
+            ≡ place_written self.now.sense }
+    {
+        comparing::writing_of(self.meaning())
     }
 
     /// Whether both are GETs that one response may answer: they ask one server with equal options

@@ -6,6 +6,7 @@ ghost use Rattle.cache_key.specs.Order.{key_cmp};
 
 use crate::order::{cmp_hosts, cmp_texts};
 use crate::place::Place;
+use crate::reading::Reading;
 use std::alloc::{AllocError, Global};
 use std::cmp::Ordering;
 use std::marker::Model;
@@ -90,6 +91,17 @@ impl Key {
             && is_same_host(&self.parts.host, &other.parts.host)
             && self.parts.query == other.parts.query
             && self.parts.accept == other.parts.accept
+    }
+
+    /// Whether it is the key of this reading, of which no key is made.
+    pub fn is_of(&self, reading: &Reading<'_>) -> bool
+        ensures { result ≡ same_key self.now
+            (key_of reading.now.peer reading.now.target.now reading.now.accept) }
+    {
+        self.parts.place.is_of(reading)
+            && is_same_host(&self.parts.host, &reading.target.host)
+            && self.parts.query == reading.target.query
+            && self.parts.accept == reading.accept
     }
 
     /// Which of the two stands first in an index: by the place, and then by the host, the query and

@@ -5,8 +5,9 @@
 //! that definitions may speak of equal ones. Both have a total order besides, for indexes
 //! (`keys_in_order`). Two GETs have one key exactly where a response to one
 //! may answer the other: they ask the same server with equal options (`keys_match_requests`). The
-//! watches (`observe_share`) stand on it, and so will the store of responses. A key is made once for
-//! each request; its copies share it.
+//! watches (`observe_share`) and the store of responses (`resp_cache`) stand on it. A key is made
+//! where something is kept under it, and its copies share it; what is only looked for is a
+//! `Reading`, which takes no memory.
 #![tactic(auto)]
 
 mod key;

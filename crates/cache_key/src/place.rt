@@ -5,6 +5,7 @@ ghost use Rattle.cache_key.specs.Keys.{place_of, same_place};
 ghost use Rattle.cache_key.specs.Order.{place_cmp};
 
 use crate::order::{cmp_addresses, cmp_texts};
+use crate::reading::Reading;
 use std::alloc::AllocError;
 use std::cmp::Ordering;
 use uri_map::{Peer, Target, Texts, is_same_peer};
@@ -35,6 +36,14 @@ impl Place {
         ensures { result ≡ same_place self.now other.now }
     {
         is_same_peer(&self.peer, &other.peer) && self.path == other.path
+    }
+
+    /// Whether it is the place of this reading.
+    pub fn is_of(&self, reading: &Reading<'_>) -> bool
+        ensures { result ≡ same_place self.now
+            (place_of reading.now.peer reading.now.target.now) }
+    {
+        is_same_peer(&self.peer, &reading.peer) && self.path == reading.target.path
     }
 
     /// Which of the two stands first in an index: by the peer, and then by the path.

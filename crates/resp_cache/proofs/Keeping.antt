@@ -5,11 +5,11 @@ use Rattle.std.specs.Option.{option_to_list}
 use Rattle.std.proofs.lemmas.Bool.{cases_lt, false≢true}
 use Rattle.std.proofs.lemmas.List.Edits.{length-remove}
 use Rattle.std.proofs.lemmas.List.{length-take}
-use Rattle.std.proofs.lemmas.Option.{slice_get_read, slice_get_cases}
+use Rattle.std.proofs.lemmas.Option.{slice_get_read}
 use Rattle.limits.specs.declared.TheConstants.{MAX_STORED}
 use Rattle.cache_key.specs.Keys.{CacheKey}
 use Rattle.resp_cache.specs.Stored.{Stored, is_never_fresh}
-use Rattle.resp_cache.specs.Stores.{is_of, is_of_another, is_fresh_under, others, moved, placed, served, stored_in, with_first, has_room, IsStore}
+use Rattle.resp_cache.specs.Stores.{is_of, is_of_another, is_fresh_under, others, moved, placed, with_first, has_room, IsStore}
 use Rattle.resp_cache.specs.declared.pair.Pair.{Pair}
 use Rattle.resp_cache.proofs.Lists.{cut_at, find-at, find-nothing, length-filtered, none_dropped, none_passed, take_roomy}
 use Rattle.resp_cache.proofs.Room.{room_by}
@@ -71,20 +71,11 @@ moved-first ps left news i r s lt read is made =
     let P : List Pair → Type 0 = λ xs. IsStore xs in
     (list ∙ sym (ap (λ (o : Option Pair). with_first o ps) at), subst P (sym list) store)
 
-served_at : (key : CacheKey) (t : ℕ) (ps news : List Pair) (i : ℕ) (r x : Pair) → find (is_fresh_under key t) ps ≡ slice_get ps i → slice_get ps i ≡ Some x → news ≡ with_first (slice_get ps i) ps → r ≡ get_or news 0 r → (news ≡ moved key t ps) × (Some r.stored ≡ served key t ps)
-served_at key t ps news i r x found at made read =
-    let list : news ≡ x ∷ others x.key ps = made ∙ ap (λ (o : Option Pair). with_first o ps) at in
-    let same : r ≡ x = read ∙ ap (λ (qs : List Pair). get_or qs 0 r) list in
-    (made ∙ ap (λ (o : Option Pair). with_first o ps) (sym found), ap (λ (q : Pair). Some q.stored) same ∙ sym (ap stored_in (found ∙ at)))
-
--- what is served, and what is left
-pub served-first : (key : CacheKey) (t : ℕ) (ps news : List Pair) (i : ℕ) (r : Pair) → position (is_fresh_under key t) ps ≡ Some i → news ≡ with_first (slice_get ps i) ps → r ≡ get_or news 0 r → (news ≡ moved key t ps) × (Some r.stored ≡ served key t ps)
-served-first key t ps news i r place made read =
+-- the list after a pair was used
+pub used-first : (key : CacheKey) (t : ℕ) (ps news : List Pair) (i : ℕ) → position (is_fresh_under key t) ps ≡ Some i → news ≡ with_first (slice_get ps i) ps → news ≡ moved key t ps
+used-first key t ps news i place made =
     let f = find-at (is_fresh_under key t) ps i place in
-    elim ((slice_get_cases ps i).1) [
-      | inl x ↦ served_at key t ps news i r x.0 f.0 x.2 made read
-      | inr past ↦ absurd (omega (arith, f.1, past.0))
-    ]
+    made ∙ ap (λ (o : Option Pair). with_first o ps) (sym f.0)
 
 -- One more, for which there is room.
 pub put-roomy : (l : ℕ) (p : Pair) (xs same news : List Pair) (last : Option Pair) → length xs ≤ l → same ≡ xs → last ≡ None → news ≡ p ∷ same → (news ≡ p ∷ take l xs) × (option_to_list last ≡ drop l xs)

@@ -1,4 +1,3 @@
 pub mod Stored
 pub mod Stores
-pub mod Ends
 pub mod Uses

@@ -7,9 +7,9 @@
 //!
 //! A response is made once: the store, its copies and all who are given it share it. Clauses speak
 //! of that list, and of whether there is room for one more pair, and not of how the pairs are
-//! found. What can fail is done before: a look (`Store::fresh`) changes nothing, room is made, and
-//! then `put_in_room`, `get`, `take_out` and `retire` can't fail. The proxy doesn't use the store
-//! yet.
+//! found. What is looked for is a `Reading`, so that no key is made for it. What can fail is done
+//! before: a look (`Store::fresh`) changes nothing, room is made, and then `put_in_room`, `touch`,
+//! `take_out` and `retire` can't fail.
 #![tactic(auto)]
 
 mod laws;

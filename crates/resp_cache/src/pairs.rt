@@ -2,32 +2,36 @@
 
 ghost use Rattle.std.specs.Prelude.{◌≡◌, ◌+◌, ◌<◌, ◌≤◌, ◌∷◌, drop, false, filter, find, length, position, slice_get, take, true, vec_capacity, vec_len, IfOk, OnErr, OnOk};
 ghost use Rattle.std.specs.Option.{option_copied, option_to_list};
+ghost use Rattle.cache_key.specs.Keys.{key_of, place_of};
 ghost use Rattle.resp_cache.specs.Stores.{IsStore, has_room, is_elsewhere, is_fresh_under, is_stale_under, others, with_first};
 
 use crate::pair::Pair;
-use cache_key::{Key, Place};
+use cache_key::{Key, Reading};
 use limits::MAX_STORED;
 use std::alloc::{AllocError, Global};
 
-/// The place of the key's pair, if its response is fresh.
-pub fn fresh_place(pairs: &[Pair], key: &Key, moment: u64) -> Option<usize>
-    ensures { result ≡ position (is_fresh_under key.now moment) pairs.now }
+/// The place of the pair of what is read, if its response is fresh.
+pub fn fresh_place(pairs: &[Pair], reading: &Reading<'_>, moment: u64) -> Option<usize>
+    ensures { let key = key_of reading.now.peer reading.now.target.now reading.now.accept in
+        result ≡ position (is_fresh_under key moment) pairs.now }
 {
-    pairs.iter().position(|pair| pair.key.is_same(key) && pair.stored.is_fresh(moment))
+    pairs.iter().position(|pair| pair.key.is_of(reading) && pair.stored.is_fresh(moment))
 }
 
-/// The key's pair, if its response is fresh.
-pub fn fresh_pair<'a>(pairs: &'a [Pair], key: &Key, moment: u64) -> Option<&'a Pair>
-    ensures { option_copied result ≡ find (is_fresh_under key.now moment) pairs.now }
+/// The pair of what is read, if its response is fresh.
+pub fn fresh_pair<'a>(pairs: &'a [Pair], reading: &Reading<'_>, moment: u64) -> Option<&'a Pair>
+    ensures { let key = key_of reading.now.peer reading.now.target.now reading.now.accept in
+        option_copied result ≡ find (is_fresh_under key moment) pairs.now }
 {
-    pairs.iter().find(|pair| pair.key.is_same(key) && pair.stored.is_fresh(moment))
+    pairs.iter().find(|pair| pair.key.is_of(reading) && pair.stored.is_fresh(moment))
 }
 
-/// The key's pair, if its response isn't fresh.
-pub fn stale_pair<'a>(pairs: &'a [Pair], key: &Key, moment: u64) -> Option<&'a Pair>
-    ensures { option_copied result ≡ find (is_stale_under key.now moment) pairs.now }
+/// The pair of what is read, if its response isn't fresh.
+pub fn stale_pair<'a>(pairs: &'a [Pair], reading: &Reading<'_>, moment: u64) -> Option<&'a Pair>
+    ensures { let key = key_of reading.now.peer reading.now.target.now reading.now.accept in
+        option_copied result ≡ find (is_stale_under key moment) pairs.now }
 {
-    pairs.iter().find(|pair| pair.key.is_same(key) && !pair.stored.is_fresh(moment))
+    pairs.iter().find(|pair| pair.key.is_of(reading) && !pair.stored.is_fresh(moment))
 }
 
 /// Takes the key's pair out.
@@ -38,12 +42,13 @@ pub fn drop_key(pairs: &mut Vec<Pair>, key: &Key)
     pairs.retain(|pair| !pair.key.is_same(key));
 }
 
-/// Takes the pairs of the place out.
-pub fn drop_place(pairs: &mut Vec<Pair>, place: &Place)
-    ensures items { pairs.new.items ≡ filter (is_elsewhere place.now) pairs.old.items }
+/// Takes the pairs of the place of what is changed out.
+pub fn drop_place(pairs: &mut Vec<Pair>, writing: &Reading<'_>)
+    ensures items { let place = place_of writing.now.peer writing.now.target.now in
+        pairs.new.items ≡ filter (is_elsewhere place) pairs.old.items }
     ensures capacity { vec_capacity pairs.new ≡ vec_capacity pairs.old }
 {
-    pairs.retain(|pair| !pair.key.place().is_same(place));
+    pairs.retain(|pair| !pair.key.place().is_of(writing));
 }
 
 /// Puts a pair in front, for which there is room.

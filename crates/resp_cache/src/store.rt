@@ -1,11 +1,11 @@
 //! The store.
 
 ghost use Rattle.std.specs.Prelude.{◌≡◌, ◌==◌, [], drop, filter, find, length, take, IfOk, None, OnErr, OnOk, true, false};
-ghost use Rattle.std.specs.Borrow.{sem};
 ghost use Rattle.std.specs.Option.{option_copied, option_to_list};
 ghost use Rattle.limits.specs.declared.TheConstants.{MAX_STORED};
+ghost use Rattle.cache_key.specs.Keys.{key_of, place_of};
 ghost use Rattle.resp_cache.specs.Stored.{is_never_fresh};
-ghost use Rattle.resp_cache.specs.Stores.{IsStore, is_of, is_elsewhere, others, placed, served, stale_under, with_room};
+ghost use Rattle.resp_cache.specs.Stores.{IsStore, is_of, is_elsewhere, others, placed, served, stale_under, with_moved, with_room};
 
 use crate::pair::Pair;
 use crate::pairs::{
@@ -13,7 +13,7 @@ use crate::pairs::{
     stale_pair,
 };
 use crate::stored::StoredResponse;
-use cache_key::{Key, Place};
+use cache_key::{Key, Reading};
 use std::alloc::{AllocError, Global};
 use std::marker::Model;
 
@@ -38,8 +38,6 @@ impl Model for Store {
 }
 
 impl Store {
-    ghost use Rattle.resp_cache.specs.Ends.{EndsServed};
-
     /// No pairs.
     pub fn new(alloc: Global) -> Store
         ensures { result.pairs ≡ [] }
@@ -64,30 +62,31 @@ impl Store {
         self.pairs.is_empty()
     }
 
-    /// The key's response, if it is fresh at this moment in milliseconds. Nothing changes.
-    pub fn fresh(&self, key: &Key, moment: u64) -> Option<&StoredResponse>
-        ensures { option_copied result ≡ served key.now moment self.now.pairs }
+    /// The response to what is read, if it is fresh at this moment in milliseconds.
+    pub fn fresh(&self, reading: &Reading<'_>, moment: u64) -> Option<&StoredResponse>
+        ensures { let key = key_of reading.now.peer reading.now.target.now reading.now.accept in
+            option_copied result ≡ served key moment self.now.pairs }
     {
-        let pair = fresh_pair(&self.pairs, key, moment)?;
+        let pair = fresh_pair(&self.pairs, reading, moment)?;
         Some(&pair.stored)
     }
 
-    /// The key's response, if it is fresh at this moment in milliseconds. Its pair is the first one
-    /// then, and else nothing changes.
-    pub fn get(&mut self, key: &Key, moment: u64) -> Option<&StoredResponse>
-        ensures* moves { sem 𝓛 (EndsServed self.entry key.now moment) }
-        ensures value { option_copied result ≡ served key.now moment self.old.pairs }
+    /// The response that is fresh is used: its pair comes to the front.
+    pub fn touch(&mut self, reading: &Reading<'_>, moment: u64)
+        ensures { let key = key_of reading.now.peer reading.now.target.now reading.now.accept in
+            self.new ≡ with_moved key moment self.old }
     {
-        let place = fresh_place(&self.pairs, key, moment)?;
-        move_first(&mut self.pairs, place);
-        Some(&self.pairs[0].stored)
+        if let Some(place) = fresh_place(&self.pairs, reading, moment) {
+            move_first(&mut self.pairs, place);
+        }
     }
 
-    /// The key's response, if it isn't fresh any more.
-    pub fn stale(&self, key: &Key, moment: u64) -> Option<&StoredResponse>
-        ensures { option_copied result ≡ stale_under key.now moment self.now.pairs }
+    /// The response to what is read, if it isn't fresh any more.
+    pub fn stale(&self, reading: &Reading<'_>, moment: u64) -> Option<&StoredResponse>
+        ensures { let key = key_of reading.now.peer reading.now.target.now reading.now.accept in
+            option_copied result ≡ stale_under key moment self.now.pairs }
     {
-        let pair = stale_pair(&self.pairs, key, moment)?;
+        let pair = stale_pair(&self.pairs, reading, moment)?;
         Some(&pair.stored)
     }
 
@@ -144,12 +143,13 @@ impl Store {
         drop_key(&mut self.pairs, key);
     }
 
-    /// Takes out the responses of this place, since a write to it ended.
-    pub fn retire(&mut self, place: &Place)
-        ensures pairs { self.new.pairs ≡ filter (is_elsewhere place.now) self.old.pairs }
+    /// Takes out the responses of the place that a write changed, which ended.
+    pub fn retire(&mut self, writing: &Reading<'_>)
+        ensures pairs { let place = place_of writing.now.peer writing.now.target.now in
+            self.new.pairs ≡ filter (is_elsewhere place) self.old.pairs }
         ensures room { self.old.room ≡ true → self.new.room ≡ true }
     {
-        drop_place(&mut self.pairs, place);
+        drop_place(&mut self.pairs, writing);
     }
 
     /// The same pairs, which share their keys and responses.

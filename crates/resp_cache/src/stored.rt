@@ -14,7 +14,7 @@ const DEFAULT_MAX_AGE: u32 = 60;
 /// A response with what it rests on.
 #[derive(Drop)]
 struct Record {
-    response: Response,
+    response: Arc<Response>,
     heard: u64,
     list: Vec<u32>,
 }
@@ -32,7 +32,7 @@ impl Model for StoredResponse {
     ghost Value = { Stored };
 
     ghost view = { λ s. record {
-      response = (arc_value s.record).response;
+      response = arc_value (arc_value s.record).response;
       heard = (arc_value s.record).heard;
       list = (arc_value s.record).list.items;
     } };
@@ -46,17 +46,18 @@ fn lifetime_of(max_age: Option<u32>) -> u64
 }
 
 impl StoredResponse {
+    ghost use Rattle.std.specs.Arc.{arc_value};
     ghost use Rattle.resp_cache.specs.Stored.{stored_of};
 
-    /// A response, the moment in milliseconds from which its freshness counts, and the numbers of the
-    /// journal's entries that it rests on.
+    /// A response, which isn't copied, the moment in milliseconds from which its freshness counts, and
+    /// the numbers of the journal's entries that it rests on.
     pub fn new(
         alloc: Global,
-        response: Response,
+        response: Arc<Response>,
         heard: u64,
         list: Vec<u32>,
     ) -> Result<StoredResponse, AllocError>
-        ensures { IfOk result (λ s. s ≡ stored_of response heard list.items) }
+        ensures { IfOk result (λ s. s ≡ stored_of (arc_value response) heard list.items) }
     {
         let record = Record {
             response,
@@ -71,6 +72,13 @@ impl StoredResponse {
     /// The response.
     pub fn response(&self) -> &Response
         ensures { result.now ≡ self.now.response }
+    {
+        &self.record.response
+    }
+
+    /// The response, for all who are told it to share.
+    pub fn shared(&self) -> &Arc<Response>
+        ensures { arc_value result.now ≡ self.now.response }
     {
         &self.record.response
     }

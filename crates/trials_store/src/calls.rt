@@ -1,10 +1,10 @@
 //! Each call once.
 
-use crate::samples::{is_missing, is_served, key, key_of, place, puts, response};
+use crate::samples::{is_missing, is_served, key, key_of, puts, reading, response, target};
 use crate::telling::check;
-use cache_key::Place;
 use resp_cache::{Pair, Store, StoredResponse, the_last_used_stay};
 use std::alloc::{AllocError, Global};
+use uri_map::Target;
 
 /// A store with a response of `light`, and one of `door` used after it.
 fn two_places(alloc: Global) -> Result<Store, AllocError> {
@@ -20,6 +20,7 @@ fn is_told(stored: &StoredResponse) -> bool {
     stored.heard() == 40
         && stored.list() == [3].as_slice()
         && stored.response().body.as_slice() == b"on".as_slice()
+        && stored.shared().code == 69
 }
 
 /// It is fresh for nine seconds from then.
@@ -35,14 +36,14 @@ fn what_is_stored_is_told(rt: HostRuntime) {
     check(&rt, "until when", is_fresh_for_nine(&shared));
 }
 
-fn retire(store: &mut Store, place: &Place) {
-    store.retire(place);
+fn retire(store: &mut Store, target: &Target) {
+    store.retire(&reading(target, None));
 }
 
 #[test]
 fn a_write_takes_its_place_alone(rt: HostRuntime) {
     let alloc = rt.alloc();
-    let door = place(alloc, "door").expect(&rt, "memory");
+    let door = target(alloc, "door").expect(&rt, "memory");
     let mut store = two_places(alloc).expect(&rt, "memory");
     retire(&mut store, &door);
     check(&rt, "one is left", store.len() == 1);
@@ -52,7 +53,7 @@ fn a_write_takes_its_place_alone(rt: HostRuntime) {
 #[test]
 fn a_copy_stands_by_itself(rt: HostRuntime) {
     let alloc = rt.alloc();
-    let light = place(alloc, "light").expect(&rt, "memory");
+    let light = target(alloc, "light").expect(&rt, "memory");
     let mut store = two_places(alloc).expect(&rt, "memory");
     let mut copy = store.copy().expect(&rt, "memory");
     retire(&mut store, &light);
@@ -89,11 +90,12 @@ fn puts_in_room(store: &mut Store, alloc: Global, segment: &str) -> Result<bool,
 
 /// It is there until it is taken out, and a look leaves all as it was.
 fn is_taken_out(store: &mut Store, alloc: Global, segment: &str) -> Result<bool, AllocError> {
-    let key = key_of(alloc, segment, None)?;
-    let fresh = store.fresh(&key, 59_999).is_some();
-    let stale = store.fresh(&key, 60_000).is_none();
-    store.take_out(&key);
-    Ok(fresh && stale && store.fresh(&key, 0).is_none())
+    let target = target(alloc, segment)?;
+    let reading = reading(&target, None);
+    let fresh = store.fresh(&reading, 59_999).is_some();
+    let stale = store.fresh(&reading, 60_000).is_none();
+    store.take_out(&key_of(alloc, segment, None)?);
+    Ok(fresh && stale && store.fresh(&reading, 0).is_none())
 }
 
 #[test]

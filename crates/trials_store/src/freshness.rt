@@ -1,8 +1,8 @@
 //! Until when a response is served.
 
-use crate::samples::{key, key_of, response};
+use crate::samples::{key, reading, response, target, uses};
 use crate::telling::check;
-use cache_key::Key;
+use cache_key::Reading;
 use resp_cache::Store;
 use std::alloc::{AllocError, Global};
 
@@ -14,10 +14,10 @@ fn store_of(alloc: Global, heard: u64, max_age: Option<u32>) -> Result<Store, Al
 }
 
 /// Whether it is served at this moment as what is fresh, or else is there as what is stale.
-fn is_fresh(store: &mut Store, key: &Key, moment: u64) -> Option<bool> {
+fn is_fresh(store: &mut Store, reading: &Reading<'_>, moment: u64) -> Option<bool> {
     match (
-        store.get(key, moment).is_some(),
-        store.stale(key, moment).is_some(),
+        uses(store, reading, moment),
+        store.stale(reading, moment).is_some(),
     ) {
         (true, false) => Some(true),
         (false, true) => Some(false),
@@ -36,9 +36,9 @@ static ROWS: [Row; 3] = [
     (u64::MAX - 1, Some(u32::MAX), &[(0, true), (u64::MAX, true)]),
 ];
 
-fn ages(store: &mut Store, key: &Key, moments: &[(u64, bool)]) -> bool {
+fn ages(store: &mut Store, reading: &Reading<'_>, moments: &[(u64, bool)]) -> bool {
     for (moment, fresh) in moments {
-        if is_fresh(store, key, *moment) != Some(*fresh) {
+        if is_fresh(store, reading, *moment) != Some(*fresh) {
             return false;
         }
     }
@@ -46,9 +46,9 @@ fn ages(store: &mut Store, key: &Key, moments: &[(u64, bool)]) -> bool {
 }
 
 fn is_row(alloc: Global, row: &Row) -> Result<bool, AllocError> {
-    let key = key(alloc, 0)?;
+    let light = target(alloc, "light")?;
     let mut store = store_of(alloc, row.0, row.1)?;
-    Ok(ages(&mut store, &key, row.2))
+    Ok(ages(&mut store, &reading(&light, Some(0)), row.2))
 }
 
 #[test]
@@ -79,7 +79,7 @@ fn max_age_0_takes_the_pair_out(rt: HostRuntime) {
 #[test]
 fn another_accept_is_not_served(rt: HostRuntime) {
     let alloc = rt.alloc();
-    let mut store = store_of(alloc, 0, None).expect(&rt, "memory");
-    let other = key_of(alloc, "light", None).expect(&rt, "memory");
-    assert!(rt; store.get(&other, 1).is_none());
+    let store = store_of(alloc, 0, None).expect(&rt, "memory");
+    let light = target(alloc, "light").expect(&rt, "memory");
+    assert!(rt; store.fresh(&reading(&light, None), 1).is_none());
 }

@@ -1,11 +1,12 @@
 //! A call that memory was refused is made once more; until then the store is as before. With any
 //! one allocation of a run refused, it goes as it would have gone.
 
-use crate::samples::{key, response};
+use crate::samples::{key, reading, response, target, uses};
 use crate::telling::check;
-use cache_key::Key;
+use cache_key::{Key, Reading};
 use resp_cache::{Store, StoredResponse};
 use std::alloc::{AllocError, Global};
+use uri_map::Target;
 
 fn one_key(alloc: Global, accept: u16) -> Option<Key> {
     match key(alloc, accept) {
@@ -26,20 +27,41 @@ fn put(store: &mut Store, key: &Key, response: &StoredResponse) -> Result<(), Al
     Ok(())
 }
 
+/// What is put, and how it is read.
+#[derive(Drop)]
+struct Row<'a> {
+    key: Key,
+    reading: Reading<'a>,
+}
+
+fn row_of(alloc: Global, light: &Target, accept: u16) -> Option<Row<'_>> {
+    Some(Row {
+        key: one_key(alloc, accept)?,
+        reading: reading(light, Some(accept)),
+    })
+}
+
 /// Puts the response under the key. Nothing of it stays where memory is refused.
-fn puts(store: &mut Store, key: &Key, response: &StoredResponse) -> bool {
+fn puts(store: &mut Store, row: &Row<'_>, response: &StoredResponse) -> bool {
     let before = store.len();
-    if put(store, key, response).is_ok() {
+    if put(store, &row.key, response).is_ok() {
         return true;
     }
-    store.len() == before && store.get(key, 1).is_none() && put(store, key, response).is_ok()
+    store.len() == before && !uses(store, &row.reading, 1) && put(store, &row.key, response).is_ok()
 }
 
 /// The key is served, until its place is written.
-fn leaves(store: &mut Store, key: &Key) -> bool {
-    let served = store.get(key, 1).is_some();
-    store.retire(key.place());
+fn leaves(store: &mut Store, row: &Row<'_>) -> bool {
+    let served = uses(store, &row.reading, 1);
+    store.retire(&row.reading);
     served && store.is_empty()
+}
+
+fn one_target(alloc: Global) -> Option<Target> {
+    match target(alloc, "light") {
+        Ok(light) => Some(light),
+        Err(_) => target(alloc, "light").ok(),
+    }
 }
 
 fn copied(store: &Store) -> Option<Store> {
@@ -52,8 +74,9 @@ fn copied(store: &Store) -> Option<Store> {
 #[test]
 fn memory_refused_once(rt: HostRuntime) {
     let alloc = rt.alloc();
-    let first = one_key(alloc, 0).expect(&rt, "a key");
-    let second = one_key(alloc, 1).expect(&rt, "a key");
+    let light = one_target(alloc).expect(&rt, "a target");
+    let first = row_of(alloc, &light, 0).expect(&rt, "a key");
+    let second = row_of(alloc, &light, 1).expect(&rt, "a key");
     let response = one_response(alloc).expect(&rt, "a response");
     let mut store = Store::new(alloc);
     check(&rt, 0, puts(&mut store, &first, &response));

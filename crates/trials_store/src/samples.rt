@@ -1,10 +1,11 @@
-//! Keys and responses of one device.
+//! Readings and responses of one device.
 
-use cache_key::{Key, Place};
+use cache_key::{Key, Reading};
 use coap_codec::Bytes;
 use resp_cache::{Location, Response, Store, StoredResponse, Values};
 use std::alloc::{AllocError, Global};
 use std::net::{IpAddr, Ipv4Addr};
+use std::sync::Arc;
 use uri_map::{Host, Peer, Target, Text, Texts};
 
 /// 192.0.2.1:5683.
@@ -16,7 +17,7 @@ fn device() -> Peer {
 }
 
 /// `coap://s.example.com/` with this segment.
-fn target(alloc: Global, segment: &str) -> Result<Target, AllocError> {
+pub fn target(alloc: Global, segment: &str) -> Result<Target, AllocError> {
     let mut path = Texts::new(alloc);
     path.push(Text::copy_of(alloc, segment)?)?;
     Ok(Target {
@@ -27,6 +28,15 @@ fn target(alloc: Global, segment: &str) -> Result<Target, AllocError> {
     })
 }
 
+/// A GET of the target, with this Accept.
+pub fn reading(target: &Target, accept: Option<u16>) -> Reading<'_> {
+    Reading {
+        peer: device(),
+        target,
+        accept,
+    }
+}
+
 /// The key of a GET of that target, with this Accept.
 pub fn key_of(alloc: Global, segment: &str, accept: Option<u16>) -> Result<Key, AllocError> {
     Key::of(alloc, device(), &target(alloc, segment)?, accept)
@@ -35,11 +45,6 @@ pub fn key_of(alloc: Global, segment: &str, accept: Option<u16>) -> Result<Key, 
 /// The key of a GET of `light` with this Accept.
 pub fn key(alloc: Global, accept: u16) -> Result<Key, AllocError> {
     key_of(alloc, "light", Some(accept))
-}
-
-/// The place of that target.
-pub fn place(alloc: Global, segment: &str) -> Result<Place, AllocError> {
-    Place::of(device(), &target(alloc, segment)?)
 }
 
 /// 2.05 with the body `on`, which rests on the journal's entry 3.
@@ -59,7 +64,8 @@ pub fn response(
         },
         body: Bytes::of(Vec::from_slice(alloc, b"on")?),
     };
-    StoredResponse::new(alloc, response, heard, Vec::from_slice(alloc, &[3])?)
+    let shared = Arc::new(alloc, response)?;
+    StoredResponse::new(alloc, shared, heard, Vec::from_slice(alloc, &[3])?)
 }
 
 /// Puts a response that is fresh until 60,000 under the key with this Accept. True where nothing
@@ -69,10 +75,17 @@ pub fn puts(store: &mut Store, alloc: Global, accept: u16) -> Result<bool, Alloc
     Ok(gone.is_none())
 }
 
-/// Whether the key with this Accept is served.
+/// Whether what is read is served at this moment, and is the last used then.
+pub fn uses(store: &mut Store, reading: &Reading<'_>, moment: u64) -> bool {
+    let served = store.fresh(reading, moment).is_some();
+    store.touch(reading, moment);
+    served
+}
+
+/// Whether a GET of `light` with this Accept is served.
 fn serves(store: &mut Store, alloc: Global, accept: u16) -> Result<bool, AllocError> {
-    let key = key(alloc, accept)?;
-    Ok(store.get(&key, 1).is_some())
+    let light = target(alloc, "light")?;
+    Ok(uses(store, &reading(&light, Some(accept)), 1))
 }
 
 pub fn is_served(store: &mut Store, alloc: Global, accept: u16) -> bool {
