@@ -5,6 +5,7 @@ use Rattle.coap_codec.specs.Spelling.{Content}
 use Rattle.uri_map.specs.declared.peer.Peer.{Peer}
 use Rattle.ask_model.specs.Requests.{CoapRequest, request_message}
 use Rattle.ask_model.specs.Sharing.{is_get, asks_same}
+use Rattle.ask_model.proofs.CallerLemmas.{asks-alike}
 use Rattle.journal_book.specs.Entries.{Written}
 use Rattle.history_laws.specs.Readings.{Noted}
 use Rattle.history_laws.proofs.CallerLemmas.{eqb-same, reader-alike, Reader}
@@ -44,6 +45,11 @@ heard-like h o r q j m like s =
 -- what asks the same is a GET
 pub same-get : (q r : CoapRequest) → asks_same q r ≡ true → q.method ≡ 1
 same-get q r e = eqb-same q.method 1 (and_parts (eqb q.method 1) _ (and_parts (is_get q) _ e).0).0
+
+pub asks-like : (q r : CoapRequest) → asks_same q r ≡ true → IsLike r q
+asks-like q r e =
+    let alike = asks-alike q r e in
+    record { peer = sym alike.0; message = λ mid token. sym (alike.1 mid token) }
 
 -- an exchange is for what its reader asks, which is a GET if it joined
 pub reader-like : (l : List Noted) (k o : ℕ) (it : Reader l k o) → IsLike it.exchange.request it.request

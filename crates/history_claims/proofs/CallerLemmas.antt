@@ -3,4 +3,5 @@ pub use Rattle.history_claims.proofs.Apart.{answer-once}
 pub use Rattle.history_claims.proofs.Causes.{names-cause}
 pub use Rattle.history_claims.proofs.Entries.{entries-at, entry-keeps}
 pub use Rattle.history_claims.proofs.Resting.{rests-on-replies}
+pub use Rattle.history_claims.proofs.Served.{rests-on-stored}
 pub use Rattle.history_claims.proofs.Turns.{answers-an-ask, asked-in-turn}

@@ -21,7 +21,7 @@ use Rattle.history_laws.specs.Transmissions.{Transmission, given_up, transmissio
 use Rattle.history_laws.specs.Exchanges.{Begun, begun, late_by, is_late, Expired, expires, turn, waits_for, replies, end_here}
 use Rattle.history_laws.specs.Justified.{IsAsk, IsTurnedAway as WasTurnedAway, IsRefused as WasRefused, IsOverdue, Caused, Ends, reads, pending, Follows, MayCome, Legal, Stands}
 use Rattle.history_laws.specs.Laws.{IsFirst}
-use Rattle.history_laws.proofs.CallerLemmas.{asked-for, at-before, at-below, at-newest, at-same, at-still, before-twice, begun-before, ends-first, follows-at, IsFirst-below, legal-before, length-before, none-after-end, replies-fit, sent-for, sent-once, some-is, turn-replied, waits-first}
+use Rattle.history_laws.proofs.CallerLemmas.{asked-for, at-before, at-below, at-newest, at-same, at-still, before-twice, begun-before, ends-first, follows-at, going-unreplied, IsFirst-below, legal-before, length-before, none-after-end, replies-fit, sent-for, sent-once, some-is, turn-replied, waits-first}
 use Rattle.history_claims.specs.Headline.{IsEntry, IsSentFor, IsHeard, IsUnanswered}
 use Rattle.history_claims.specs.Causes.{IsUnsettled, IsUnsent, IsTurnedAway, IsTimedOut, IsGivenUp, IsReset, IsNotUnderstood, IsRefused, IsCausedBy, AreCaused}
 use Rattle.history_claims.proofs.Entries.{entries-at, newest-before}
@@ -33,7 +33,7 @@ use Rattle.history_claims.proofs.Alike.{like-method, sent-like, heard-like}
 use Rattle.history_claims.proofs.Asking.{answers-ask, asked-by}
 use Rattle.history_claims.proofs.Pending.{unsent-in}
 use Rattle.history_claims.proofs.Readers.{Reads, reads-at}
-use Rattle.history_claims.proofs.Ending.{turn-expired, reset-turn, expired-turn, failed-turn, going-unreplied, reply-listed, rejected-in}
+use Rattle.history_claims.proofs.Ending.{turn-expired, reset-turn, expired-turn, failed-turn, reply-listed, rejected-in}
 use Rattle.history_claims.proofs.Unsent.{Over, none-for-other, sent-last-none, sent-last-first, never-sent}
 use Rattle.history_claims.proofs.GivenUp.{unsettled-till, given-up-at}
 use Rattle.history_claims.proofs.Alone.{alone}

@@ -17,11 +17,11 @@ use Rattle.history_laws.specs.Confirmations.{empty}
 use Rattle.history_laws.specs.Readings.{Noted, Note, First, Says, Notice, at, before, noted}
 use Rattle.history_laws.specs.Progress.{Reply, Ending, Whole, NotUnderstood, Reset, TimedOut, replied}
 use Rattle.history_laws.specs.Transmissions.{FirstSending, first_at, last_sent, Transmission, transmission, if_outstanding}
-use Rattle.history_laws.specs.Exchanges.{Turn, Nothing, Sent, Replied, Rejected, Expired, expires, answered_by, heard_turn, turn_by, turn, waits_for, replies_by, replies, End, end_here, end_by, or_else, end_of, Begun, begun, replied_end}
+use Rattle.history_laws.specs.Exchanges.{Turn, Nothing, Sent, Replied, Rejected, Expired, expires, answered_by, heard_turn, turn_by, turn, waits_for, replies_by, replies, end_here, Begun, replied_end}
 use Rattle.history_laws.specs.Hearing.{went_as, is_as, open_at, answers_by, answers}
 use Rattle.history_laws.specs.Justified.{MaySay, Follows}
 use Rattle.history_laws.specs.Laws.{IsFirst}
-use Rattle.history_laws.proofs.CallerLemmas.{contains-none, eqb-same, find-some, first-is, first-or-later, first_end, none-is, none-some, replied-first, some-is, waits-first}
+use Rattle.history_laws.proofs.CallerLemmas.{contains-none, eqb-same, find-some, first-is, first-or-later, first_end, none-some, replied-first, some-is, waits-first}
 
 -- an entry that rejects what an exchange waits for
 pub record RejectedTurn (l : List Noted) (o : ℕ) (x : Noted) : Type 0 where
@@ -199,26 +199,6 @@ failed-turn b Rejected n rs none e = absurd cc
 failed-turn b Expired n rs none e = absurd cc
 failed-turn b Nothing n rs none e = absurd cc
 failed-turn b (Sent i) n rs none e = absurd cc
-
--- an exchange that goes on has no reply yet
-else-some : (old : Option End) (x : End) → or_else old x ≡ None → ⊥
-else-some None x e = none-is x e
-else-some (Some y) x e = none-is y e
-
-unreplied-step : (b : Option Begun) (u : Turn) (n : ℕ) (rs : List Reply) (old : Option End) → (old ≡ None → rs ≡ [])
-    → end_by (end_here b n rs u) n old ≡ None → replies_by n u rs ≡ []
-unreplied-step b (Replied i m) n rs old ih e =
-    let it = first-in b rs (record { number = n; sending = i; message = m }) in
-    absurd (else-some old (record { number = n; how = first_end b it.0 }) (subst (λ (how : Option Ending). end_by how n old ≡ None) it.1 e))
-unreplied-step b Rejected n rs old ih e = absurd (else-some old (record { number = n; how = Reset }) e)
-unreplied-step b Expired n rs old ih e = absurd (else-some old (record { number = n; how = TimedOut }) e)
-unreplied-step b Nothing n rs old ih e = ih e
-unreplied-step b (Sent i) n rs old ih e = ih e
-
-pub going-unreplied : (l : List Noted) (o : ℕ) → end_of l o ≡ None → replies l o ≡ []
-going-unreplied [] o e = refl
-going-unreplied (x ∷ older) o e =
-    unreplied-step (begun older o) (turn older o x) (length older) (replies older o) (end_of older o) (going-unreplied older o) e
 
 -- a reply is among the replies from then on
 replies-more : (u : Turn) (n : ℕ) (rs : List Reply) (r : Reply) → Contains rs r → Contains (replies_by n u rs) r

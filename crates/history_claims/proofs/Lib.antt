@@ -14,6 +14,7 @@ mod Alike
 mod Written
 mod Readers
 mod Resting
+mod Served
 mod GivenUp
 mod Unshared
 mod Alone
@@ -29,3 +30,4 @@ mod Together
 mod Named
 mod Copies
 mod Copied
+mod Stored

@@ -11,7 +11,7 @@ use Rattle.ask_model.specs.declared.cause.Cause.TheVariants as C
 use Rattle.ask_model.specs.Requests.{CoapRequest, Requests, Refuses}
 use Rattle.ask_model.specs.Views.{Ask}
 use Rattle.journal_book.specs.Entries.{Grounds, Live, Kept, Fault, Asks}
-use Rattle.history_laws.specs.Readings.{Noted, Note, Plain, Begins, entries, at, before, noted}
+use Rattle.history_laws.specs.Readings.{Noted, Note, Plain, Begins, Serves, entries, at, before, noted}
 use Rattle.history_laws.specs.Connections.{is_sealed}
 use Rattle.history_laws.specs.Exchanges.{Begun, begun, is_going, goes_to, waits_for}
 use Rattle.history_laws.specs.Justified.{IsRefused, Caused, HasGrounds, MayBeFirst, reads_by, reads_in, reads, Legal}
@@ -31,6 +31,9 @@ plain-begins s t c d a b q e = go (ap (λ (x : Noted). x.note) e)
   where
     go : Plain ≡ Begins q → ⊥
     go f = cc
+
+serves-begins : (js : List ℕ) (q : CoapRequest) → Serves js ≡ Begins q → ⊥
+serves-begins js q e = cc
 
 pub senses : (s t : ℕ) (c d : ℕ) (a b : Ask) (u v : Note) → noted s (Asks c a) u ≡ noted t (Asks d b) v → a.sense ≡ b.sense
 senses s t c d a b u v e = go (ap (λ (x : Noted). x.written.deed) e)
@@ -73,7 +76,7 @@ module _ (l : List Noted) (n o s d : ℕ) (b : Ask) (q : CoapRequest) (stands : 
 
   pub over-grounds : (t : ℕ) (g : Grounds) → HasGrounds (before l n) t o g → Over o (before l n)
   over-grounds t (Live js) h = subst (λ (o : ℕ). Over o (before l n)) (sym (own-read h.0 h.4)) (inl (ap is_none h.5))
-  over-grounds t (Kept js) h = absurd h
+  over-grounds t (Kept js) h = absurd (serves-begins js q (ap (λ (x : Noted). x.note) (at-same l o _ _ (at-before l n o _ h.2) stands)))
   over-grounds t (Fault cause j) h = over-cause t j cause h
 
 not-going : (l : List Noted) (o : ℕ) → is_sealed l ≡ false → is_going l o ≡ true → Over o l → ⊥

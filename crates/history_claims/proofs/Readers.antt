@@ -51,12 +51,12 @@ module _ (l : List Noted) (k o : ℕ) (legal : Legal l) (it : Reader l k o) wher
     joined : (j : IsJoined (entries l) k it.request o) × (it.exchange.since ≡ j.pending.moment)
     joined =
         let opened = begun-early l k o it.exchange (at-below l k _ it.asked.stands) it.opened along.earlier in
-        let pending = pending-is l k o _ legal it.asked.stands (unsealed l k o legal it) is-going-then it.exchange opened in (
+        let pending = pending-is l k o _ legal it.asked.stands (unsealed l k it.conn it.ask legal it.asked) is-going-then it.exchange opened in (
           record {
             request = it.exchange.request;
             pending = pending.0;
             same = like-get it.exchange.request it.request (reader-like l k o it) (same-get it.request it.exchange.request along.same);
-            fresh = λ m w lt. fresh-at l k o legal it along m w lt;
+            fresh = λ m w lt. fresh-at l k o it.conn it.ask it.request it.exchange legal it.asked it.opened along.joined.fresh m w lt;
           },
           pending.1,
         )

@@ -1,70 +1,24 @@
 -- An answer that isn't the proxy's own rests on a whole response to its ask.
-use Rattle.std.proofs.Common.{◌≡◌, ℕ, zero, ◌<◌, Bool, true, false, cond, inl, inr, List, [], ◌∷◌, ◌++◌, Option, Some, None, refl, sym, ap, subst, ◌∙◌, arith}
+use Rattle.std.proofs.Common.{◌≡◌, ℕ, zero, ◌<◌, true, inl, inr, List, [], ◌∷◌, Some, refl, sym, ap, subst, ◌∙◌, arith}
 use Rattle.std.specs.List.{Contains}
 use Rattle.coap_codec.specs.Spelling.{Content}
 use Rattle.ask_model.specs.Requests.{CoapRequest}
 use Rattle.journal_book.specs.Entries.{Live, Answers, Hears, Written}
 use Rattle.history_laws.specs.Responses.{Response, response_of, is_whole, whole_of}
-use Rattle.history_laws.specs.Exchanges.{Begun, begun, Turn, Nothing, Sent, Replied, Rejected, Expired, turn, replies, end_here, replied_end}
-use Rattle.history_laws.specs.Justified.{Ends as EndsAs, HasGrounds, Legal, Stands}
+use Rattle.history_laws.specs.Exchanges.{Begun}
+use Rattle.history_laws.specs.Justified.{HasGrounds, Legal, Stands}
 use Rattle.history_laws.specs.Readings.{Noted, Says, entries, before, noted}
-use Rattle.history_laws.specs.Progress.{Reply, numbers, Whole, NotUnderstood, TimedOut}
-use Rattle.history_laws.proofs.CallerLemmas.{at-below, begun-before, contains-none, ends-first, first-or-later, legal-before, made-of, replied-first, replies-fit, some-is}
+use Rattle.history_laws.specs.Progress.{Reply, numbers, Whole, TimedOut}
+use Rattle.history_laws.proofs.CallerLemmas.{at-below, begun-before, contains-none, ends-one, first-or-later, legal-before, replies-fit, some-is}
 use Rattle.history_claims.specs.Headline.{IsEntry, RestsOn}
 use Rattle.history_claims.proofs.Entries.{entries-at}
 use Rattle.history_claims.proofs.Asking.{answers-ask}
 use Rattle.history_claims.proofs.Alike.{IsLike, like-method, heard-like}
 use Rattle.history_claims.proofs.Readers.{reads-at}
 use Rattle.history_claims.proofs.Waiting.{heard-in}
-use Rattle.history_claims.proofs.Ending.{going-unreplied}
 use Rattle.history_claims.proofs.InTime.{answered-in-time}
 
--- a whole response is the one reply to what was asked, which ended the exchange
-record Made (b : Option Begun) (n : ℕ) (ws : List Reply) (w : Response) : Type 0 where
-  exchange : Begun
-  asked : b ≡ Some exchange
-  reply : Reply
-  number : reply.number ≡ n
-  alone : ws ≡ reply ∷ []
-  whole : is_whole exchange.request.method reply.message ≡ true
-  response : w ≡ response_of reply.message
-
-made-replied : (a : Begun) (b : Bool) (r : Reply) (w : Response) (ws : List Reply) → is_whole a.request.method r.message ≡ b
-    → cond b (Whole (response_of r.message) (r ∷ [])) NotUnderstood ≡ Whole w ws → Made (Some a) r.number ws w
-made-replied a true r w ws is e =
-    record { exchange = a; asked = refl; reply = r; number = refl; alone = list; whole = is; response = said }
-  where
-    list : ws ≡ r ∷ []
-    list = cc
-
-    said : w ≡ response_of r.message
-    said = cc
-made-replied a false r w ws is e = absurd cc
-
-made-end : (b : Option Begun) (r : Reply) (w : Response) (ws : List Reply) → replied_end b (r ∷ []) ≡ Some (Whole w ws) → Made b r.number ws w
-made-end None r w ws e = absurd (other (some-is _ _ e))
-  where
-    other : NotUnderstood ≡ Whole w ws → ⊥
-    other f = cc
-made-end (Some a) r w ws e =
-    made-replied a (is_whole a.request.method r.message) r w ws refl (some-is _ _ (sym (replied-first (Some a) r []) ∙ e))
-
-made-turn : (b : Option Begun) (u : Turn) (n : ℕ) (rs : List Reply) (w : Response) (ws : List Reply) → rs ≡ []
-    → end_here b n rs u ≡ Some (Whole w ws) → Made b n ws w
-made-turn b (Replied i m) n rs w ws none e =
-    let r : Reply = record { number = n; sending = i; message = m } in
-    made-end b r w ws (subst (λ (rs : List Reply). replied_end b (rs ++ r ∷ []) ≡ Some (Whole w ws)) none e)
-made-turn b Rejected n rs w ws none e = absurd cc
-made-turn b Expired n rs w ws none e = absurd cc
-made-turn b Nothing n rs w ws none e = absurd cc
-made-turn b (Sent i) n rs w ws none e = absurd cc
-
-made : (l : List Noted) (o e : ℕ) (w : Response) (ws : List Reply) → EndsAs l o e (Whole w ws) → Made (begun (before l e) o) e ws w
-made l o e w ws h =
-    let it = ends-first l o e (Whole w ws) h in
-    made-turn (begun (before l e) o) (turn (before l e) o it.0) e (replies (before l e) o) w ws (going-unreplied (before l e) o it.2) it.3
-
-whole-one : (q : CoapRequest) (m : Content) → is_whole q.method m ≡ true → whole_of q (m ∷ []) ≡ Some (response_of m)
+pub whole-one : (q : CoapRequest) (m : Content) → is_whole q.method m ≡ true → whole_of q (m ∷ []) ≡ Some (response_of m)
 whole-one q m e = rw e refl
 
 not-timed : (w : Response) (ws : List Reply) → Whole w ws ≡ TimedOut → ⊥
@@ -83,16 +37,15 @@ rests-in l n t c k js legal e =
     let h : HasGrounds (before l n) t k (Live js) = it.0.grounds in
     let o : ℕ = h.0 in
     let there = entries-at l n _ e in
-    let m = made (before l n) o h.1 h.2 h.3 h.5 in
+    let m = ends-one (before l n) o h.1 h.2 h.3 h.5 in
     let r : Reply = m.reply in
-    let has = made-of (before l n) o h.1 h.2 h.3 r h.5 (subst (λ (ws : List Reply). Contains ws r) (sym m.alone) (zero, omega arith, refl)) in
-    let fits = replies-fit (before l n) o r (legal-before l n legal) has in
+    let fits = replies-fit (before l n) o r (legal-before l n legal) m.listed in
     let x = reads-at l n c k o it.0.ask _ legal there.1 it.0.asked h.4 in
     let same : m.exchange ≡ x.exchange =
-    some-is m.exchange x.exchange (sym (begun-before l n o _ (begun-before (before l n) h.1 o _ m.asked)) ∙ x.opened) in
+    some-is m.exchange x.exchange (sym (begun-before l n o _ m.opened) ∙ x.opened) in
     let whole : is_whole x.exchange.request.method r.message ≡ true =
     subst (λ (b : Begun). is_whole b.request.method r.message ≡ true) same m.whole in
-    let heard = heard-like (entries l) o x.exchange.request x.request r.number r.message x.like (heard-in l n o r x.exchange _ legal x.opened there.1 has fits) in
+    let heard = heard-like (entries l) o x.exchange.request x.request r.number r.message x.like (heard-in l n o r x.exchange _ legal x.opened there.1 m.listed fits) in
     let below = subst (λ (i : ℕ). r.number < i) it.1 (at-below (before l n) r.number (noted fits.moment (Hears fits.peer fits.bytes) (Says r.message (Some r.sending) fits.notice)) fits.heard) in
     let list : r.number ∷ [] ≡ js = sym (h.6 ∙ ap numbers m.alone) in
     let later = x.later h.1 (Whole h.2 h.3) h.5 in

@@ -1,4 +1,5 @@
--- A write that was answered before a GET joined an exchange was answered before that was opened.
+-- A write that was answered before a GET joined an exchange, or was served what it came to, was answered before that
+-- was opened.
 use Rattle.std.proofs.Common.{◌≡◌, ◌≢◌, ◌⊎◌, ℕ, ◌<◌, ◌≤◌, true, false, inl, inr, List, length, Option, Some, None, refl, sym, ap, subst, ◌∙◌, arith}
 use Rattle.std.specs.Prelude.{is_none}
 use Rattle.std.proofs.lemmas.Bool.Decides.{eqb_tells, leb_tells}
@@ -6,13 +7,15 @@ use Rattle.std.proofs.lemmas.Bool.{false≢true}
 use Rattle.ask_model.specs.declared.cause.Cause.{Cause}
 use Rattle.ask_model.specs.declared.cause.Cause.TheVariants as C
 use Rattle.ask_model.specs.Requests.{CoapRequest, Sense, Requests}
+use Rattle.ask_model.specs.Sharing.{asked_place}
 use Rattle.ask_model.specs.Views.{Ask}
 use Rattle.journal_book.specs.Entries.{Grounds, Live, Kept, Fault, Asks, Answers}
-use Rattle.history_laws.specs.Readings.{Noted, Note, Plain, Begins, Joins, entries, at, before, noted}
+use Rattle.history_laws.specs.Readings.{Noted, Note, Plain, Begins, Joins, Serves, entries, at, before, noted}
 use Rattle.history_laws.specs.Connections.{is_open, is_sealed}
-use Rattle.history_laws.specs.Exchanges.{End, end_of}
-use Rattle.history_laws.specs.Justified.{IsRefused, Caused, HasGrounds, AskNote, reads_by, reads_in, reads, pending, Follows, MayCome, Legal}
-use Rattle.history_laws.proofs.CallerLemmas.{asked-for, at-before, at-below, at-same, at-still, before-twice, end-since, ends-first, follows-at, joins-is, legal-before, none-some, opening-begun, Reader, ReadsAlong, write-earlier}
+use Rattle.history_laws.specs.Exchanges.{Begun, begun, End, end_of}
+use Rattle.history_laws.specs.Joining.{outrun}
+use Rattle.history_laws.specs.Justified.{IsAsk, IsRefused, Caused, HasGrounds, AskNote, reads_by, reads_in, reads, pending, Follows, MayCome, Legal}
+use Rattle.history_laws.proofs.CallerLemmas.{asked-for, at-before, at-below, at-same, at-still, before-twice, end-since, ends-first, follows-at, joins-is, legal-before, none-some, opening-begun, shared-is, unoutrun-earlier}
 use Rattle.history_claims.specs.Headline.{IsWriteAnswer}
 use Rattle.history_claims.proofs.Entries.{entries-at, grows}
 use Rattle.history_claims.proofs.Asking.{AnswersAsk, answers-ask}
@@ -20,6 +23,9 @@ use Rattle.history_claims.proofs.Unsent.{Over, sealed-still}
 use Rattle.history_claims.proofs.Hands.{ends-after, not-at-ask, no-input}
 use Rattle.history_claims.proofs.Pending.{senses, asks-something, over-grounds}
 use Rattle.history_claims.proofs.Alike.{same-get}
+
+serves-plain : (js : List ℕ) → Serves js ≡ Plain → ⊥
+serves-plain js e = cc
 
 -- An ask that was turned away has that as the cause of its answer.
 module _ (l : List Noted) (n o s d : ℕ) (b : Ask) (q : CoapRequest) (stands : at l o ≡ Some (noted s (Asks d b) Plain)) (sense : b.sense ≡ Requests q) where
@@ -48,13 +54,16 @@ module _ (l : List Noted) (n o s d : ℕ) (b : Ask) (q : CoapRequest) (stands : 
 
   busy-grounds : (t : ℕ) (g : Grounds) → HasGrounds (before l n) t o g → g ≡ Fault C.Busy o
   busy-grounds t (Live js) h = absurd (reads-none h.0 h.4)
-  busy-grounds t (Kept js) h = absurd h
+  busy-grounds t (Kept js) h = absurd (serves-plain js (ap (λ (x : Noted). x.note) (at-same l o _ _ (at-before l n o _ h.2) stands)))
   busy-grounds t (Fault cause j) h = busy-cause t j cause h
 
 -- What isn't a GET opens an exchange, or is turned away.
 write-note : (l : List Noted) (t : ℕ) (q : CoapRequest) (note : Note) → AskNote l t (Requests q) note → q.method ≢ 1 → (note ≡ Begins q) ⊎ (note ≡ Plain)
 write-note l t q (Begins r) h other = inl (ap Begins h.0)
 write-note l t q (Joins o) h other = let it = joins-is l q o h in absurd (other (same-get q it.exchange.request it.same))
+write-note l t q (Serves js) h other =
+    let it = shared-is l q h.1.opening h.1.shared in
+    absurd (other (same-get q it.exchange.request it.same))
 write-note l t q Plain h other = inr refl
 write-note l t q note h other = absurd h
 
@@ -67,15 +76,16 @@ is-ended None e = absurd (false≢true (sym e))
 is-ended (Some x) e = (x, refl)
 
 -- an ask comes while the journal isn't sealed
-pub unsealed : (l : List Noted) (k o : ℕ) → Legal l → Reader l k o → is_sealed (before l k) ≡ false
-unsealed l k o legal it = comes (before l k) it.asked.moment it.conn it.ask it.asked.note (follows-at l k _ legal it.asked.stands)
+pub unsealed : (l : List Noted) (k c : ℕ) (a : Ask) → Legal l → IsAsk l k c a → is_sealed (before l k) ≡ false
+unsealed l k c a legal ask = comes (before l k) ask.moment c a ask.note (follows-at l k _ legal ask.stands)
   where
     comes : (v : List Noted) (s d : ℕ) (b : Ask) (note : Note) → Follows v s (Asks d b) note → is_sealed v ≡ false
     comes v s d b note may = may.0.0
 
--- the write, its answer in the entry n, and the ask k that joined the exchange of o
-module _ (l : List Noted) (k o : ℕ) (legal : Legal l) (it : Reader l k o) (along : ReadsAlong l k o it.request it.exchange)
-    (n : ℕ) (w : IsWriteAnswer (entries l) it.request n) (lt : n < k) where
+-- the write, its answer in the entry n, and the ask k for q, before which no write had outrun the exchange of o
+module _ (l : List Noted) (k o conn : ℕ) (a : Ask) (q : CoapRequest) (exchange : Begun) (legal : Legal l) (ask : IsAsk l k conn a)
+    (opened : begun l o ≡ Some exchange) (fresh : outrun (before l k) (asked_place q) o ≡ false)
+    (n : ℕ) (w : IsWriteAnswer (entries l) q n) (lt : n < k) where
   abbrev write : Ask
   write = record { came = w.write.asked.came; sense = Requests w.write.request; rules = w.write.asked.rules }
 
@@ -110,16 +120,16 @@ module _ (l : List Noted) (k o : ℕ) (legal : Legal l) (it : Reader l k o) (alo
   over = over-grounds l n w.ask w.write.moment w.write.conn write w.write.request opens refl w.moment w.grounds its.0.grounds
 
   twice : before (before l k) n ≡ before l n
-  twice = before-twice l k n _ it.asked.stands lt
+  twice = before-twice l k n _ ask.stands lt
 
   not-sealed : is_sealed (before l n) ≡ true → ⊥
   not-sealed sealed =
       let now = grows (λ (l : List Noted). is_sealed l ≡ true) (λ x l h. sealed-still x.written.deed (is_sealed l) h) (before l k) n
       (subst (λ (v : List Noted). is_sealed v ≡ true) (sym twice) sealed) in
-      false≢true (sym (unsealed l k o legal it) ∙ now)
+      false≢true (sym (unsealed l k conn a legal ask) ∙ now)
 
-  opening : (d : ℕ) × (b : Ask) × (at l o ≡ Some (noted it.exchange.since (Asks d b) (Begins it.exchange.request)))
-  opening = let ask = asked-for l o it.exchange legal it.opened in (ask.conn, ask.ask, ask.stands)
+  opening : (d : ℕ) × (b : Ask) × (at l o ≡ Some (noted exchange.since (Asks d b) (Begins exchange.request)))
+  opening = let it = asked-for l o exchange legal opened in (it.conn, it.ask, it.stands)
 
   -- it ended before the exchange was opened
   ended-before : (x : End) → end_of (before l n) w.ask ≡ Some x → x.number < o
@@ -128,7 +138,7 @@ module _ (l : List Noted) (k o : ℕ) (legal : Legal l) (it : Reader l k o) (alo
       let soon : x.number < n = subst (λ (m : ℕ). x.number < m) its.1 (at-below (before l n) x.number first.0 first.1) in
       let all = end-since l n w.ask x ended in
       let le : x.number ≤ o =
-      write-earlier l k o x.number legal it
+      unoutrun-earlier l k o x.number q legal (at-below l k _ ask.stands) fresh
       (record {
         opening = w.ask;
         write = record { since = w.write.moment; request = w.write.request };
@@ -141,8 +151,8 @@ module _ (l : List Noted) (k o : ℕ) (legal : Legal l) (it : Reader l k o) (alo
       (omega (arith, soon, lt)) in
       elim (eqb_tells x.number o) [
         | inl u ↦
-            absurd (not-at-ask l w.ask x.number it.exchange.since opening.0 opening.1 (Begins it.exchange.request) x.how all
-            (subst (λ (i : ℕ). at l i ≡ Some (noted it.exchange.since (Asks opening.0 opening.1) (Begins it.exchange.request))) (sym u.1) opening.2))
+            absurd (not-at-ask l w.ask x.number exchange.since opening.0 opening.1 (Begins exchange.request) x.how all
+            (subst (λ (i : ℕ). at l i ≡ Some (noted exchange.since (Asks opening.0 opening.1) (Begins exchange.request))) (sym u.1) opening.2))
         | inr u ↦ let not = u.1 in omega (arith, le, not)
       ]
 
@@ -152,8 +162,8 @@ module _ (l : List Noted) (k o : ℕ) (legal : Legal l) (it : Reader l k o) (alo
       elim (leb_tells o n) [
         | inl u ↦ elim (eqb_tells o n) [
           | inl v ↦
-              absurd (no-answer it.exchange.since w.moment opening.0 w.write.conn w.ask opening.1 w.grounds _ answer.0
-              (at-same l n _ _ (subst (λ (i : ℕ). at l i ≡ Some (noted it.exchange.since (Asks opening.0 opening.1) (Begins it.exchange.request))) v.1 opening.2) answer.1))
+              absurd (no-answer exchange.since w.moment opening.0 w.write.conn w.ask opening.1 w.grounds _ answer.0
+              (at-same l n _ _ (subst (λ (i : ℕ). at l i ≡ Some (noted exchange.since (Asks opening.0 opening.1) (Begins exchange.request))) v.1 opening.2) answer.1))
           | inr v ↦ let le = u.1 in let not = v.1 in absurd (came-between x ended sooner (omega (arith, le, not)))
         ]
         | inr u ↦ u.1
@@ -183,7 +193,7 @@ module _ (l : List Noted) (k o : ℕ) (legal : Legal l) (it : Reader l k o) (alo
           subst (λ (x : Option Noted). reads_in w.ask x ≡ Some w.ask) (sym (at-still l n w.ask _ _ answer.1 asked-before opens)) refl in
           let after = ends-after (before l n) w.ask x.number x.how early ended in
           no-input (before l n) w.write.conn w.ask w.ask x.number x.how its.0.ask early its.0.asked own ended after (still-open follows) (still-waits follows)
-          o _ sooner last (comes (before (before l n) o) it.exchange.since opening.0 opening.1 (Begins it.exchange.request) (follows-at (before l n) o _ early last))
+          o _ sooner last (comes (before (before l n) o) exchange.since opening.0 opening.1 (Begins exchange.request) (follows-at (before l n) o _ early last))
 
   pub fresh-at : n < o
   fresh-at =

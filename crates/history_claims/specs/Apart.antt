@@ -7,8 +7,9 @@ use Rattle.coap_codec.specs.Spelling.{Content}
 use Rattle.uri_map.specs.declared.peer.Peer.{Peer}
 use Rattle.ask_model.specs.Requests.{CoapRequest, Requests}
 use Rattle.ask_model.specs.Views.{Ask}
-use Rattle.journal_book.specs.Entries.{Grounds, Live, Mark, Done, Deed, Asks, Answers, Carries, Written}
+use Rattle.journal_book.specs.Entries.{Grounds, Mark, Done, Deed, Asks, Answers, Carries, Written}
 use Rattle.history_laws.specs.Justified.{Stands}
+use Rattle.history_laws.specs.Laws.{replies_in}
 use Rattle.history_claims.specs.Headline.{IsEntry, IsAsked, WasFirstSent, IsSameGet}
 
 -- A token is borne by one message of all (RFC 7252 section 5.3.1).
@@ -36,12 +37,12 @@ pub record AreSameGets (h : List Written) (k o : ℕ) : Type 0 where
   pub other_asked : IsAsked h o other_conn other_moment (Requests other)
   pub same : IsSameGet request other
 
--- No reply is part of the answers to two asks, but to GETs for the same.
+-- No reply is part of the answers to two asks, of live or kept ones, but to GETs for the same.
 abbrev pub RepliesOnce : Type 0
 RepliesOnce =
-    (h : List Written) (i j s t c d k o n : ℕ) (js ls : List ℕ) → Stands h
-    → IsEntry h i s (Answers c k (Live js)) → IsEntry h j t (Answers d o (Live ls))
-    → Contains js n → Contains ls n → (k ≡ o) ⊎ AreSameGets h k o
+    (h : List Written) (i j s t c d k o n : ℕ) (g e : Grounds) → Stands h
+    → IsEntry h i s (Answers c k g) → IsEntry h j t (Answers d o e)
+    → Contains (replies_in g) n → Contains (replies_in e) n → (k ≡ o) ⊎ AreSameGets h k o
 
 -- An ask is answered once.
 abbrev pub AnsweredOnce : Type 0

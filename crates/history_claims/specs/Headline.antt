@@ -11,7 +11,8 @@ use Rattle.uri_map.specs.declared.peer.Peer.{Peer}
 use Rattle.ask_model.specs.declared.cause.Cause.TheVariants as C
 use Rattle.ask_model.specs.Requests.{CoapRequest, Came, Sense, Requests, request_message}
 use Rattle.ask_model.specs.Views.{Rules}
-use Rattle.journal_book.specs.Entries.{Grounds, Live, Fault, Done, Sent, Heard, done_of, Deed, Asks, Sends, Hears, Passes, Answers, Written}
+use Rattle.journal_book.specs.Entries.{Grounds, Live, Kept, Fault, Done, Sent, Heard, done_of, Deed, Asks, Sends, Hears, Passes, Answers, Written}
+use Rattle.resp_cache.specs.Stored.{lifetime}
 use Rattle.history_laws.specs.Responses.{Response, whole_of}
 use Rattle.history_laws.specs.Justified.{Stands}
 
@@ -201,6 +202,11 @@ AreHeardFor h k q [] [] = ⊤
 AreHeardFor h k q (j ∷ js) (m ∷ ms) = IsHeardFor h k q j m × AreHeardFor h k q js ms
 AreHeardFor h k q _ _ = ⊥
 
+-- These replies begin with one that was heard at this moment.
+abbrev pub IsHeardFirst : List Written → ℕ → List ℕ → Type 0
+IsHeardFirst h t [] = ⊥
+IsHeardFirst h t (j ∷ js) = (p : Peer) × (bytes : List ℕ) × IsEntry h j t (Hears p bytes)
+
 -- The answer in the entry n, to the ask k of its connection, rests on one whole response: on these
 -- entries, which heard it for that ask or for one that it joined, before the answer and before the
 -- latter was 93 seconds old. One of them was heard after the ask.
@@ -223,3 +229,34 @@ abbrev pub RestsOnReplies : Type 0
 RestsOnReplies =
     (h : List Written) (n t c k : ℕ) (js : List ℕ) → Stands h
     → IsEntry h n t (Answers c k (Live js)) → RestsOn h n c k js
+
+-- The answer that the connection is given at this moment, to the ask k of the same moment, rests on a
+-- whole 2.05 that was heard before it: on these entries, which heard that for an earlier ask of an
+-- equal GET. At this moment it is fresh (RFC 7252 section 5.6.1), counted from its first reply, and no
+-- write to the resource was answered since the earlier ask.
+pub record IsServed (h : List Written) (t c k : ℕ) (js : List ℕ) : Type 0 where
+  pub request : CoapRequest
+  pub asked : IsAsked h k c t (Requests request)
+  pub opening : ℕ
+  pub earlier : opening < k
+  pub conn : ℕ
+  pub moment : ℕ
+  pub other : CoapRequest
+  pub other_asked : IsAsked h opening conn moment (Requests other)
+  pub same : IsSameGet request other
+  pub messages : List Content
+  pub heard : AreHeardFor h opening other js messages
+  pub before : (j : ℕ) → Contains js j → j < k
+  pub response : Response
+  pub whole : whole_of other messages ≡ Some response
+  pub content : response.code ≡ 69
+  pub since : ℕ
+  pub first : IsHeardFirst h since js
+  pub fresh : t < since + lifetime response.max_age
+  pub current : (n : ℕ) → IsWriteAnswer h request n → n < k → n < opening
+
+-- In every journal that stands, so does an answer that was kept.
+abbrev pub RestsOnStored : Type 0
+RestsOnStored =
+    (h : List Written) (n t c k : ℕ) (js : List ℕ) → Stands h
+    → IsEntry h n t (Answers c k (Kept js)) → IsServed h t c k js

@@ -12,7 +12,8 @@ use Rattle.history_laws.specs.WorkedEndings as E
 use Rattle.history_laws.specs.WorkedLate as L
 use Rattle.history_laws.specs.WorkedReaders as R
 use Rattle.history_laws.specs.WorkedSpoiled as S
-use Rattle.history_claims.specs.Headline.{IsSentFor, IsRepeat, IsPending, RestsOn}
+use Rattle.history_laws.specs.WorkedStore as K
+use Rattle.history_claims.specs.Headline.{IsSentFor, IsRepeat, IsPending, RestsOn, IsServed}
 use Rattle.history_claims.specs.Causes.{AreUnshared, IsTurnedAway, IsCausedBy}
 
 -- The GET's answer rests on the response of entry 9, and the PUT's on that of entry 16.
@@ -155,3 +156,17 @@ sent_again = noted 100000 (Sends server M.get_bytes (Some 2000)) (First 6 M.get_
 
 abbrev pub SentAgain : Type 0
 SentAgain = (m : Content) → IsSentFor (entries sent_again) 6 M.get_light 7 m → ⊥
+
+-- The response of entry 3 is kept for an equal GET, up to its last fresh millisecond.
+abbrev pub Served : Type 0
+Served = IsServed (entries K.read_from_store) 60699 0 5 (3 ∷ [])
+
+-- Not so: a millisecond later, after a PUT to the place was answered, and for another query.
+abbrev pub Expired : Type 0
+Expired = IsServed (entries K.read_expired) 60700 0 5 (3 ∷ []) → ⊥
+
+abbrev pub Overwritten : Type 0
+Overwritten = IsServed (entries K.read_outdated) 5400 0 18 (9 ∷ []) → ⊥
+
+abbrev pub OtherQuery : Type 0
+OtherQuery = IsServed (entries K.other_query) 800 0 5 (3 ∷ []) → ⊥

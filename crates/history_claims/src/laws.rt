@@ -1,6 +1,6 @@
 //! What holds of the entries of every journal that stands, as contracts of functions that do nothing.
 
-ghost use Rattle.history_claims.specs.Headline.{RestsOnReplies};
+ghost use Rattle.history_claims.specs.Headline.{RestsOnReplies, RestsOnStored};
 ghost use Rattle.history_claims.specs.Causes.{NamesCause};
 ghost use Rattle.history_claims.specs.Apart.{
   TokensOnce,
@@ -19,14 +19,20 @@ pub fn rests_on_replies()
     ensures { RestsOnReplies }
 {}
 
+/// An answer that was kept rests on a whole 2.05 to an earlier ask for the same, which is fresh and
+/// outdated by no write (RFC 7252 sections 5.6, 5.9.2).
+pub fn rests_on_stored()
+    ensures { RestsOnStored }
+{}
+
 /// Every other answer names its cause, and the entry that shows it.
 pub fn names_cause()
     ensures { NamesCause }
 {}
 
 /// Tokens, message IDs and replies serve once: a token one message, an ID one of those to an endpoint
-/// in 494 seconds, a reply the answer to one ask, or to GETs for the same (RFC 7252 sections 4.4,
-/// 5.3.1, 5.6).
+/// in 494 seconds, a reply the answers, live or kept, to one ask or to GETs for the same (RFC 7252
+/// sections 4.4, 5.3.1, 5.6).
 pub fn served_once()
     ensures tokens { TokensOnce }
     ensures ids { IdsOnce }

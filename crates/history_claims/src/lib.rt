@@ -4,7 +4,9 @@
 mod laws;
 mod worked;
 
-pub use laws::{answered_in_order, copies_first, names_cause, rests_on_replies, served_once};
+pub use laws::{
+    answered_in_order, copies_first, names_cause, rests_on_replies, rests_on_stored, served_once,
+};
 pub use worked::{
-    not_excused, not_so, worked_answers, worked_causes, worked_copies, worked_readers,
+    not_excused, not_so, worked_answers, worked_causes, worked_copies, worked_readers, worked_store,
 };

@@ -23,6 +23,10 @@ ghost use Rattle.history_claims.specs.Worked.{
   AnsweredAnew,
   Repeated,
   SentAgain,
+  Served,
+  Expired,
+  Overwritten,
+  OtherQuery,
 };
 
 /// A separate response, and one in an ACK.
@@ -75,4 +79,13 @@ pub fn worked_copies()
     ensures answered { AnsweredAnew }
     ensures repeated { Repeated }
     ensures sent_again { SentAgain }
+{}
+
+/// A response that is kept for an equal GET. And what it is kept for in vain: a GET when it is fresh no
+/// more, one after a write, and one for something else.
+pub fn worked_store()
+    ensures served { Served }
+    ensures expired { Expired }
+    ensures overwritten { Overwritten }
+    ensures query { OtherQuery }
 {}

@@ -1,17 +1,20 @@
--- Each ask opens one exchange, joins one, or does neither, and each sending is for an ask or for a datagram.
-use Rattle.std.proofs.Common.{◌≡◌, ℕ, ◌<◌, ◌⊎◌, inl, inr, List, Option, Some, None, refl, sym, ap, subst, ◌∙◌}
+-- Each ask opens one exchange, joins one, is served, or does none of these, and each sending is for an ask or for a datagram.
+use Rattle.std.proofs.Common.{◌≡◌, ℕ, ◌<◌, ◌⊎◌, inl, inr, List, true, Option, Some, None, refl, sym, ap, subst, ◌∙◌}
 use Rattle.coap_codec.specs.Spelling.{Content}
 use Rattle.uri_map.specs.declared.peer.Peer.{Peer}
+use Rattle.resp_cache.specs.Stored.{Stored, is_fresh}
 use Rattle.ask_model.specs.Requests.{CoapRequest, Sense, Requests, Refuses}
 use Rattle.ask_model.specs.Views.{Ask}
 use Rattle.ask_model.specs.declared.cause.Cause.{Cause}
 use Rattle.ask_model.specs.declared.cause.Cause.TheVariants.{BadHttp, NoMap, Method, Media, Busy, Timeout, Reset, NotUnderstood}
-use Rattle.journal_book.specs.Entries.{Grounds, Live, Kept, Fault, Deed, Asks, Sends, Hears, Answers}
-use Rattle.history_laws.specs.Readings.{Noted, Note, Plain, Begins, Joins, First, Copies, Confirms, at, before, noted}
+use Rattle.journal_book.specs.Entries.{Grounds, Live, Kept, Fault, Deed, Asks, Sends, Hears}
+use Rattle.history_laws.specs.Readings.{Noted, Note, Plain, Begins, Joins, Serves, First, Copies, Confirms, at, before, noted}
 use Rattle.history_laws.specs.Exchanges.{Begun, begun, opens_by}
 use Rattle.history_laws.specs.Joining.{joins}
-use Rattle.history_laws.specs.Justified.{IsAsk, reads_by, reads_in, reads, IsTurnedAway, IsRefused, Caused, HasGrounds, AskNote, MayBeCopy, MayConfirm, Follows, Legal}
-use Rattle.history_laws.specs.Laws.{IsFirst, JoinsOne, OpensNone, OpensFor, IsAskSent, IsConfirmation}
+use Rattle.history_laws.specs.Storing.{IsStored}
+use Rattle.history_laws.specs.Justified.{IsAsk, reads_by, reads_in, reads, IsTurnedAway, IsRefused, Caused, HasGrounds, AskNote, MayBeCopy, MayConfirm, Follows, Legal, UnservedNote}
+use Rattle.history_laws.specs.Laws.{IsFirst, IsAnswer, JoinsOne, ServesOne, OpensNone, OpensFor, IsAskSent, IsConfirmation}
+use Rattle.history_laws.proofs.Basis.{grounds-of}
 use Rattle.history_laws.proofs.Places.{at-below, at-same}
 use Rattle.history_laws.proofs.Facts.{follows-at, at-before, length-before}
 use Rattle.history_laws.proofs.Sent.{begun-before, begun-below, begun-opening, opening-begun, asked-for, sent-for, sent-once}
@@ -45,17 +48,26 @@ unsent-at : (l : List Noted) (k m : ℕ) (d : Deed) (note : Note) → at l k ≡
 unsent-at l k m d note stands none legal t i p s f =
     none-some _ (sym (unopened-at l k m d note stands none) ∙ (sent-for l t k i p s legal f).opened)
 
-module _ (l : List Noted) (k c m : ℕ) (a : Ask) (stands : at l k ≡ Some (noted m (Asks c a) Plain)) where
-  reads-none : (n o : ℕ) → reads (before l n) k ≡ Some o → ⊥
-  reads-none n o r = go (at (before l n) k) refl r
-    where
-      none : None ≡ Some o → ⊥
-      none e = cc
+-- it reads no exchange
+reads-none : (l : List Noted) (k m : ℕ) (d : Deed) (note : Note) → at l k ≡ Some (noted m d note) → reads_by k note ≡ None
+    → (n o : ℕ) → reads (before l n) k ≡ Some o → ⊥
+reads-none l k m d note stands quiet n o r = go (at (before l n) k) refl r
+  where
+    none : None ≡ Some o → ⊥
+    none e = cc
 
-      go : (x : Option Noted) → at (before l n) k ≡ x → reads_in k x ≡ Some o → ⊥
-      go None is e = none e
-      go (Some x) is e =
-          none (subst (λ (v : Noted). reads_by k v.note ≡ Some o) (at-same l k x (noted m (Asks c a) Plain) (at-before l n k x is) stands) e)
+    go : (x : Option Noted) → at (before l n) k ≡ x → reads_in k x ≡ Some o → ⊥
+    go None is e = none e
+    go (Some x) is e =
+        none (sym quiet ∙ subst (λ (v : Noted). reads_by k v.note ≡ Some o) (at-same l k x (noted m d note) (at-before l n k x is) stands) e)
+
+-- An answer has its grounds.
+grounds-at : (l : List Noted) (n d k : ℕ) (g : Grounds) → Legal l → (h : IsAnswer l n d k g) → HasGrounds (before l n) h.moment k g
+grounds-at l n d k g legal h = grounds-of (before l n) h.moment d k g h.note (follows-at l n _ legal h.stands)
+
+module _ (l : List Noted) (k c m : ℕ) (a : Ask) (stands : at l k ≡ Some (noted m (Asks c a) Plain)) where
+  reads-no : (n o : ℕ) → reads (before l n) k ≡ Some o → ⊥
+  reads-no n o r = reads-none l k m (Asks c a) Plain stands refl n o r
 
   that-ask : (n d s : ℕ) (b : Ask) (u : Note) → at (before l n) k ≡ Some (noted s (Asks d b) u) → b ≡ a
   that-ask n d s b u h = ask-same s m d c b a u Plain (at-same l k _ _ (at-before l n k _ h) stands)
@@ -70,17 +82,23 @@ module _ (l : List Noted) (k c m : ℕ) (a : Ask) (stands : at l k ≡ Some (not
 
   own-caused : (n t j : ℕ) (cause : Cause) → Caused (before l n) t k cause j → (cause ≡ own_cause a.sense) × (j ≡ k)
   own-caused n t j Busy h = own-turned n j h.0 h.1
-  own-caused n t j Timeout h = absurd (reads-none n h.0 h.1)
-  own-caused n t j Reset h = absurd (reads-none n h.0 h.1)
-  own-caused n t j NotUnderstood h = absurd (reads-none n h.0 h.1)
+  own-caused n t j Timeout h = absurd (reads-no n h.0 h.1)
+  own-caused n t j Reset h = absurd (reads-no n h.0 h.1)
+  own-caused n t j NotUnderstood h = absurd (reads-no n h.0 h.1)
   own-caused n t j BadHttp h = own-refusal n j BadHttp h.1 h.2
   own-caused n t j NoMap h = own-refusal n j NoMap h.1 h.2
   own-caused n t j Method h = own-refusal n j Method h.1 h.2
   own-caused n t j Media h = own-refusal n j Media h.1 h.2
 
+  own-kept : (n t : ℕ) (js : List ℕ) → HasGrounds (before l n) t k (Kept js) → ⊥
+  own-kept n t js h = unserved (ap (λ (x : Noted). x.note) (at-same l k _ _ (at-before l n k _ h.2) stands))
+    where
+      unserved : Serves js ≡ Plain → ⊥
+      unserved e = cc
+
   own-grounds : (n t : ℕ) (g : Grounds) → HasGrounds (before l n) t k g → g ≡ Fault (own_cause a.sense) k
-  own-grounds n t (Live js) h = absurd (reads-none n h.0 h.4)
-  own-grounds n t (Kept js) h = absurd h
+  own-grounds n t (Live js) h = absurd (reads-no n h.0 h.4)
+  own-grounds n t (Kept js) h = absurd (own-kept n t js h)
   own-grounds n t (Fault cause j) h =
       let own = own-caused n t j cause h in
       ap (λ (v : Cause). Fault v j) own.0 ∙ ap (λ (i : ℕ). Fault (own_cause a.sense) i) own.1
@@ -90,13 +108,61 @@ module _ (l : List Noted) (k c m : ℕ) (a : Ask) (stands : at l k ≡ Some (not
       record {
         unopened = unopened-at l k m (Asks c a) Plain stands refl;
         unsent = λ t i p s f. unsent-at l k m (Asks c a) Plain stands refl legal t i p s f;
-        answered = λ n d g h.
-            own-grounds n h.moment g (grounds-of (before l n) h.moment d g h.note (follows-at l n _ legal h.stands))
-            ∙ ap (λ (v : Cause). Fault v k) e;
+        answered = λ n d g h. own-grounds n h.moment g (grounds-at l n d k g legal h) ∙ ap (λ (v : Cause). Fault v k) e;
       }
+
+-- What is served is answered so.
+module _ (l : List Noted) (k c m : ℕ) (a : Ask) (q : CoapRequest) (js : List ℕ) (sense : a.sense ≡ Requests q)
+    (stands : at l k ≡ Some (noted m (Asks c a) (Serves js))) where
+  served-no : (n o : ℕ) → reads (before l n) k ≡ Some o → ⊥
+  served-no n o r = reads-none l k m (Asks c a) (Serves js) stands refl n o r
+
+  served-ask : (n d s : ℕ) (b : Ask) (u : Note) → at (before l n) k ≡ Some (noted s (Asks d b) u) → (b ≡ a) × (u ≡ Serves js)
+  served-ask n d s b u h =
+      let same = at-same l k _ _ (at-before l n k _ h) stands in
+      (ask-same s m d c b a u (Serves js) same, ap (λ (x : Noted). x.note) same)
+
+  served-unturned : (n : ℕ) → IsTurnedAway (before l n) k → ⊥
+  served-unturned n h = unserved (served-ask n h.conn h.moment h.ask Plain h.stands).1
     where
-      grounds-of : (b : List Noted) (t d : ℕ) (g : Grounds) (note : Note) → Follows b t (Answers d k g) note → HasGrounds b t k g
-      grounds-of b t d g note f = f.3
+      unserved : Plain ≡ Serves js → ⊥
+      unserved e = cc
+
+  served-unrefused : (n : ℕ) (cause : Cause) → IsRefused (before l n) k cause → ⊥
+  served-unrefused n cause h =
+      unrefused (sym h.sense ∙ (ap (λ (v : Ask). v.sense) (served-ask n h.conn h.asked.moment h.ask h.asked.note h.asked.stands).0 ∙ sense))
+    where
+      unrefused : Refuses cause h.status ≡ Requests q → ⊥
+      unrefused e = cc
+
+  served-uncaused : (n t j : ℕ) (cause : Cause) → Caused (before l n) t k cause j → ⊥
+  served-uncaused n t j Busy h = served-unturned n h.1
+  served-uncaused n t j Timeout h = served-no n h.0 h.1
+  served-uncaused n t j Reset h = served-no n h.0 h.1
+  served-uncaused n t j NotUnderstood h = served-no n h.0 h.1
+  served-uncaused n t j BadHttp h = served-unrefused n BadHttp h.2
+  served-uncaused n t j NoMap h = served-unrefused n NoMap h.2
+  served-uncaused n t j Method h = served-unrefused n Method h.2
+  served-uncaused n t j Media h = served-unrefused n Media h.2
+
+  served-grounds : (n t : ℕ) (g : Grounds) → HasGrounds (before l n) t k g → g ≡ Kept js
+  served-grounds n t (Live ns) h = absurd (served-no n h.0 h.4)
+  served-grounds n t (Kept ns) h = same (served-ask n h.0 t h.1 (Serves ns) h.2).1
+    where
+      same : Serves ns ≡ Serves js → Kept ns ≡ Kept js
+      same e = cc
+  served-grounds n t (Fault cause j) h = absurd (served-uncaused n t j cause h)
+
+  serves-one : Legal l → (s : Stored) → IsStored (before l k) q s → is_fresh m s ≡ true → s.list ≡ js → ServesOne l m k q
+  serves-one legal s is fresh list =
+      record {
+        stored = s;
+        is = is;
+        fresh = fresh;
+        unopened = unopened-at l k m (Asks c a) (Serves js) stands refl;
+        unsent = λ t i p x f. unsent-at l k m (Asks c a) (Serves js) stands refl legal t i p x f;
+        answered = λ n d g h. served-grounds n h.moment g (grounds-at l n d k g legal h) ∙ ap Kept (sym list);
+      }
 
 joins-one : (l : List Noted) (k c m o : ℕ) (a : Ask) (q : CoapRequest) → Legal l → at l k ≡ Some (noted m (Asks c a) (Joins o))
     → joins (before l k) q ≡ Some o → JoinsOne l k q
@@ -116,23 +182,30 @@ joins-one l k c m o a q legal stands e =
     }
 
 opened : (l : List Noted) (k c m : ℕ) (a : Ask) (s : Sense) (note : Note) → a.sense ≡ s → Legal l
-    → at l k ≡ Some (noted m (Asks c a) note) → AskNote (before l k) m s note → OpensFor l m k s
-opened l k c m a (Requests q) (Begins r) e legal stands h =
-    inl (record {
-      since = m;
-      opened = opening-begun l k m (Asks c a) q (subst (λ (v : CoapRequest). at l k ≡ Some (noted m (Asks c a) (Begins v))) h.0 stands);
-      alone = h.1;
-      room = h.2;
-      once = λ s t i j p r x y f g. sent-once l s t k i j p r x y legal f g;
-    })
-opened l k c m a (Requests q) (Joins o) e legal stands h = inr (inl (joins-one l k c m o a q legal stands h))
-opened l k c m a (Requests q) Plain e legal stands h =
-    inr (inr (record { unopened = opens-none l k c m a stands Busy (ap own_cause e) legal; alone = h.0; full = h.1 }))
-opened l k c m a (Refuses cause status) Plain e legal stands h = opens-none l k c m a stands cause (ap own_cause e) legal
-opened l k c m a s note e legal stands h = absurd h
+    → at l k ≡ Some (noted m (Asks c a) note) → AskNote (before l k) m s note → UnservedNote (before l k) m s note → OpensFor l m k s
+opened l k c m a (Requests q) (Begins r) e legal stands h misses =
+    inr (
+      misses,
+      inl (record {
+        since = m;
+        opened = opening-begun l k m (Asks c a) q (subst (λ (v : CoapRequest). at l k ≡ Some (noted m (Asks c a) (Begins v))) h.0 stands);
+        alone = h.1;
+        room = h.2;
+        once = λ s t i j p r x y f g. sent-once l s t k i j p r x y legal f g;
+      }),
+    )
+opened l k c m a (Requests q) (Joins o) e legal stands h misses = inr (misses, inr (inl (joins-one l k c m o a q legal stands h)))
+opened l k c m a (Requests q) (Serves js) e legal stands h served =
+    inl (serves-one l k c m a q js e stands legal h.0 h.1 h.2 h.3)
+opened l k c m a (Requests q) Plain e legal stands h misses =
+    inr (misses, inr (inr (record { unopened = opens-none l k c m a stands Busy (ap own_cause e) legal; alone = h.0; full = h.1 })))
+opened l k c m a (Refuses cause status) Plain e legal stands h u = opens-none l k c m a stands cause (ap own_cause e) legal
+opened l k c m a s note e legal stands h u = absurd h
 
 pub asked-once : (l : List Noted) (k c : ℕ) (a : Ask) → Legal l → (h : IsAsk l k c a) → OpensFor l h.moment k a.sense
-asked-once l k c a legal h = opened l k c h.moment a a.sense h.note refl legal h.stands (follows-at l k _ legal h.stands).3
+asked-once l k c a legal h =
+    let may = follows-at l k _ legal h.stands in
+    opened l k c h.moment a a.sense h.note refl legal h.stands may.3 may.4
 
 ask-sent : (l : List Noted) (i t : ℕ) (p : Peer) (b : List ℕ) (w : Option ℕ) (o : ℕ) (m : Content) → Legal l
     → at l i ≡ Some (noted t (Sends p b w) (First o m)) → IsAskSent l i p b

@@ -1,24 +1,24 @@
 -- What an answer rests on: replies to the exchange that its ask reads.
-use Rattle.std.proofs.Common.{◌≡◌, ℕ, zero, suc, Bool, true, false, cond, inl, inr, List, [], ◌∷◌, ◌++◌, length, Option, Some, None, refl, sym, ap, subst, ◌∙◌, arith}
+use Rattle.std.proofs.Common.{◌≡◌, ℕ, zero, suc, Bool, true, false, cond, ◌<◌, inl, inr, List, [], ◌∷◌, ◌++◌, length, Option, Some, None, refl, sym, ap, subst, ◌∙◌, arith}
 use Rattle.std.specs.List.{Contains}
 use Rattle.std.proofs.lemmas.List.Elements.{Contains-append_left}
-use Rattle.ask_model.specs.Requests.{CoapRequest, Requests, request_message}
-use Rattle.ask_model.specs.Views.{Ask}
 use Rattle.coap_codec.specs.Spelling.{Content}
 use Rattle.uri_map.specs.declared.peer.Peer.{Peer}
+use Rattle.ask_model.specs.Requests.{CoapRequest, Requests, request_message}
+use Rattle.ask_model.specs.Views.{Ask}
 use Rattle.journal_book.specs.Entries.{Grounds, Live, Asks, Answers}
 use Rattle.history_laws.specs.Responses.{Response, response_of, is_whole}
 use Rattle.history_laws.specs.Readings.{Noted, Note, at}
 use Rattle.history_laws.specs.Progress.{Reply, numbers, Ending, Whole, NotUnderstood, Reset, TimedOut}
 use Rattle.history_laws.specs.Exchanges.{Begun, begun, Turn, Nothing, Sent, Replied, Rejected, Expired, turn, replies_by, replies, End, replied_end, end_here, end_by, end_of}
 use Rattle.history_laws.specs.Justified.{IsAsk, Ends as EndsAs, reads_in, reads, HasGrounds, Follows, Legal}
-use Rattle.history_laws.specs.Laws.{IsFirst, IsAnswer, RestsOn, IsWriteEnd, NothingOutrun}
+use Rattle.history_laws.specs.Laws.{IsFirst, IsAnswer, IsReplyTo, RestsOn}
 use Rattle.history_laws.proofs.Elements.{contains-none, first-or-later}
 use Rattle.history_laws.proofs.Facts.{IsAsk-keeps, IsFirst-keeps}
 use Rattle.history_laws.proofs.Answering.{IsAnswer-old}
 use Rattle.history_laws.proofs.Replies.{IsReplyTo-keeps, replies-fit}
 use Rattle.history_laws.proofs.Sent.{replied-first, sent-for}
-use Rattle.history_laws.proofs.Joining.{reader, reader-alike, reads-opened, write-earlier}
+use Rattle.history_laws.proofs.Joining.{Alike, reader, reader-alike, reads-opened}
 use Rattle.history_laws.proofs.Places.{at-keeps, at-same}
 use Rattle.history_laws.proofs.Resting.{none-some, some-is}
 
@@ -86,7 +86,7 @@ made-of (y ∷ older) o e w ws x h has =
     made-step (begun older o) (turn older o y) (length older) e (replies older o) (end_of older o) w ws x
     (λ f. made-of older o e w ws x f has) h has
 
-number-of : (rs : List Reply) (j : ℕ) → Contains (numbers rs) j → (r : Reply) × Contains rs r × (r.number ≡ j)
+pub number-of : (rs : List Reply) (j : ℕ) → Contains (numbers rs) j → (r : Reply) × Contains rs r × (r.number ≡ j)
 number-of [] j h = absurd (omega (arith, h.1))
 number-of (r ∷ rs) j (zero, lt, e) = (r, (zero, omega arith, refl), e)
 number-of (r ∷ rs) j (suc i, lt, e) =
@@ -123,16 +123,38 @@ RestsOn-keeps x l k j h =
       first = IsFirst-keeps x l _ h.opening _ _ _ h.first;
     }
 
+-- A reply to an exchange came to a message that asks just what an equal request means.
+pub record Brought (l : List Noted) (o : ℕ) (q : CoapRequest) (r : Reply) : Type 0 where
+  pub fits : IsReplyTo l o r
+  pub after : o < r.sending
+  pub moment : ℕ
+  pub mid : ℕ
+  pub token : List ℕ
+  pub first : IsFirst l moment o r.sending q.peer (request_message q mid token)
+
+pub brought : (l : List Noted) (o : ℕ) (b : Begun) (q : CoapRequest) (r : Reply) → Legal l → begun l o ≡ Some b → Alike q b.request
+    → Contains (replies l o) r → Brought l o q r
+brought l o b q r legal opened alike has =
+    let fits = replies-fit l o r legal has in
+    let sent = sent-for l fits.sent_at o r.sending fits.peer fits.sent legal fits.first in
+    let same : sent.exchange ≡ b = some-is _ _ (sym sent.opened ∙ opened) in
+    let peer : fits.peer ≡ q.peer = sent.peer ∙ (ap (λ (b : Begun). b.request.peer) same ∙ sym alike.0) in
+    let message : fits.sent ≡ request_message q fits.sent.mid fits.sent.token =
+    sent.carries ∙ (ap (λ (b : Begun). request_message b.request fits.sent.mid fits.sent.token) same ∙ sym (alike.1 fits.sent.mid fits.sent.token)) in
+    record {
+      fits = fits;
+      after = sent.after;
+      moment = fits.sent_at;
+      mid = fits.sent.mid;
+      token = fits.sent.token;
+      first = subst (λ (p : Peer). IsFirst l fits.sent_at o r.sending p (request_message q fits.sent.mid fits.sent.token)) peer
+          (subst (λ (m : Content). IsFirst l fits.sent_at o r.sending fits.peer m) message fits.first);
+    }
+
 rests-own : (l : List Noted) (k o : ℕ) (r : Reply) → Legal l → reads l k ≡ Some o → Contains (replies l o) r → RestsOn l k r.number
 rests-own l k o r legal e has =
     let it = reader l k o legal e in
-    let alike = reader-alike l k o it in
-    let fits = replies-fit l o r legal has in
-    let sent = sent-for l fits.sent_at o r.sending fits.peer fits.sent legal fits.first in
-    let same : sent.exchange ≡ it.exchange = some-is _ _ (sym sent.opened ∙ it.opened) in
-    let peer : fits.peer ≡ it.request.peer = sent.peer ∙ (ap (λ (b : Begun). b.request.peer) same ∙ sym alike.0) in
-    let message : fits.sent ≡ request_message it.request fits.sent.mid fits.sent.token =
-    sent.carries ∙ (ap (λ (b : Begun). request_message b.request fits.sent.mid fits.sent.token) same ∙ sym (alike.1 fits.sent.mid fits.sent.token)) in
+    let came = brought l o it.exchange it.request r legal it.opened (reader-alike l k o it) has in
     record {
       conn = it.conn;
       ask = it.ask;
@@ -144,13 +166,12 @@ rests-own l k o r legal e has =
       not_later = (reads-opened l k o legal e).0;
       reply = r;
       number = refl;
-      fits = fits;
-      after = sent.after;
-      moment = fits.sent_at;
-      mid = fits.sent.mid;
-      token = fits.sent.token;
-      first = subst (λ (p : Peer). IsFirst l fits.sent_at o r.sending p (request_message it.request fits.sent.mid fits.sent.token)) peer
-          (subst (λ (m : Content). IsFirst l fits.sent_at o r.sending fits.peer m) message fits.first);
+      fits = came.fits;
+      after = came.after;
+      moment = came.moment;
+      mid = came.mid;
+      token = came.token;
+      first = came.first;
     }
 
 rests-on : (l : List Noted) (t k j : ℕ) (js : List ℕ) → Legal l → HasGrounds l t k (Live js) → Contains js j → RestsOn l k j
@@ -158,7 +179,7 @@ rests-on l t k j js legal h has =
     let it = number-of h.3 j (subst (λ (js : List ℕ). Contains js j) h.6 has) in
     subst (RestsOn l k) it.2 (rests-own l k h.0 it.0 legal h.4 (made-of l h.0 h.1 h.2 h.3 it.0 h.5 it.1))
 
-grounds-of : (l : List Noted) (t c k : ℕ) (g : Grounds) (note : Note) → Follows l t (Answers c k g) note → HasGrounds l t k g
+pub grounds-of : (l : List Noted) (t c k : ℕ) (g : Grounds) (note : Note) → Follows l t (Answers c k g) note → HasGrounds l t k g
 grounds-of l t c k g note f = f.3
 
 pub rests-on-its-own : (l : List Noted) (n c k j : ℕ) (js : List ℕ) → Legal l → IsAnswer l n c k (Live js) → Contains js j → RestsOn l k j
@@ -182,12 +203,3 @@ requests-same l k c d a b q r f g e h =
 
     request : Requests q ≡ Requests r → q ≡ r
     request i = cc
-
-pub nothing-outrun : NothingOutrun
-nothing-outrun l n c k j e js a q legal answer has ask sense get write lt =
-    let h = rests-on-its-own l n c k j js legal answer has in
-    let it = reader l k h.opening legal h.reads in
-    let same = requests-same l k c it.conn a it.ask q it.request ask it.asked sense it.sense in
-    let earlier = write-earlier l k h.opening e legal it (subst (λ (q : CoapRequest). IsWriteEnd l q.peer q.target.path e) same write) lt in
-    let after = h.after in
-    (h.opening, h.reply, h.fits, h.number, omega (arith, earlier, after))

@@ -1,6 +1,8 @@
 -- The lemmas on a history that other crates cite. Declares nothing, and no other module of proofs/ can be named from outside.
 pub use Rattle.history_laws.proofs.Answering.{answered-in-order, answered-once, asks-keep, asks-once, asks-stand, IsAnswer-old, more-answers, next-ask, push-cases}
-pub use Rattle.history_laws.proofs.Basis.{made-of, requests-same, rests-on-its-own}
+pub use Rattle.history_laws.proofs.Basis.{made-of, number-of, requests-same, rests-on-its-own}
+pub use Rattle.history_laws.proofs.Wholes.{end-below, ends-one, EndsOne, going-unreplied}
+pub use Rattle.history_laws.proofs.Storing.{kept-served, rests-on-the-store, Served, served-by, stored-current, stored-shared}
 pub use Rattle.history_laws.proofs.Copied.{answered_anew-holds, get-again-spelled}
 pub use Rattle.history_laws.proofs.Copying.{at-still, before-twice, ticked-newest}
 pub use Rattle.history_laws.proofs.Elements.{all-filter, all-more, all-of, all-passes, all-push, any-find, any-of, contains-filter, contains-later, contains-map, contains-mapped, contains-none, filter-by, filter-push, filtered-from, find-any, find-some, first-or-later, got-last, got-more, is-some}
@@ -12,6 +14,7 @@ pub use Rattle.history_laws.proofs.Openings.{begun-listed, ends-first, listed-be
 pub use Rattle.history_laws.proofs.Outstanding.{copies-way, outstanding-last, sound, Sound, way-cases}
 pub use Rattle.history_laws.proofs.Places.{at-below, at-cases, at-entries, at-keeps, at-new, at-newest, at-old, at-same, before-keeps, before-new, entries-length}
 pub use Rattle.history_laws.proofs.Readers.{both_answered-holds}
+pub use Rattle.history_laws.proofs.Store.{read_from_store-holds}
 pub use Rattle.history_laws.proofs.Refusals.{maps-refusal}
 pub use Rattle.history_laws.proofs.Firsts.{all-listed, first-found, first-is, first-listed, first-older, firsts-ids, firsts-tokens, IsBygone, IsListed, listed-below, way-first}
 pub use Rattle.history_laws.proofs.Replies.{replies-fit}
@@ -22,8 +25,8 @@ pub use Rattle.history_laws.proofs.Settled.{ask-listed, few-waiting, next-above,
 pub use Rattle.history_laws.proofs.Turns.{heard-sends, turn-replied, turn-sent, waits-first}
 pub use Rattle.history_laws.proofs.Queue.{awaiting-stays, filter-all, filter-none, going-before, issued-few, issued-same, none-submitted, NoReply, opened-issued, opened-queued, opened-rank, queue-kept, queue-rises, queue-same, rank-apart, rank-below, rank-keeps, replies-stay, submitted-apart, submitted-below, unawaited-quiet, waiting-begun, waiting-goes, waiting-has, waiting-stays, waiting-unsent}
 pub use Rattle.history_laws.proofs.Rising.{openings-below, openings-rising, RisesBy, Rising, rising-filter, rising-push}
-pub use Rattle.history_laws.proofs.Unbegun.{not-yet, replies-none, unbegun}
+pub use Rattle.history_laws.proofs.Unbegun.{not-yet, replies-none, unbegun, unended}
 pub use Rattle.history_laws.proofs.Late.{other-spelled, rst-0-spelled}
 pub use Rattle.history_laws.proofs.Ended.{none-after-end}
 pub use Rattle.history_laws.proofs.Outrunning.{end-before, end-keeps, end-old, end-since, ended-begun, EndsWrite, is-outrun, none-outran, not-true, outran, Outran, outrun-keeps, outrun-new, outrun-quiet, outrun-since, write-outruns}
-pub use Rattle.history_laws.proofs.Joining.{Alike, begun-early, is-joinable, joinable-is, Joined, joins-found, joins-is, joins-none, joins-same, none-joined, one-joinable, open-same, outrun-same, reader, Reader, reader-alike, ReadsAlong, reads-opened, write-earlier}
+pub use Rattle.history_laws.proofs.Joining.{Alike, begun-early, is-joinable, joinable-is, Joined, joins-found, joins-is, joins-none, joins-same, none-joined, one-joinable, open-same, outrun-same, reader, Reader, reader-alike, ReadsAlong, reads-opened, Shared, shared-is, unoutrun-earlier, write-earlier}

@@ -9,6 +9,7 @@ use Rattle.history_laws.specs.Justified.{Legal}
 use Rattle.history_laws.specs.Worked.{Holds, Refused, server}
 use Rattle.history_laws.specs.WorkedMessages.{get_light}
 use Rattle.history_laws.specs.WorkedCopies.{get_under, get_again, content_again_bytes, content_again, begun_with, asking_anew, answered_anew, token_used_again, id_used_again, copy_heard_as_new, copied_late}
+use Rattle.history_laws.proofs.Missing.{none-stored}
 use Rattle.history_laws.proofs.Messages.{get-spelled, put-spelled, content-spelled, ack-52-spelled}
 use Rattle.history_laws.proofs.Resting.{at-rest, may-come, none-is}
 use Rattle.history_laws.proofs.Spelled.{spelled}
@@ -44,7 +45,7 @@ legal-asking = (
     (may-come _ refl refl, lit≤ tt, tt),
   ),
   lit≤ tt,
-  (may-come _ refl refl, refl, refl, (refl, refl, refl)),
+  (may-come _ refl refl, refl, refl, (refl, refl, refl), none-stored _ _ _ refl),
 )
 
 pub answered_anew-holds : Holds answered_anew

@@ -27,6 +27,24 @@ use Rattle.history_laws.proofs.Places.{at-below, at-old}
 use Rattle.history_laws.proofs.Resting.{none-some, some-is}
 use Rattle.history_laws.proofs.Sent.{asked-for, begun-before, begun-below, begun-opening, opening-begun}
 
+-- An exchange that a GET may be answered from: for an equal one, and outrun by no write.
+pub record Shared (l : List Noted) (q : CoapRequest) (o : ℕ) : Type 0 where
+  pub exchange : Begun
+  pub opened : begun l o ≡ Some exchange
+  pub same : asks_same q exchange.request ≡ true
+  pub fresh : outrun l (asked_place q) o ≡ false
+
+pub shared-is : (l : List Noted) (q : CoapRequest) (o : ℕ) → is_joinable l q o ≡ true → Shared l q o
+shared-is l q o e =
+    let both = and_parts (asks_the_same q (begun l o)) (not (outrun l (asked_place q) o)) e in
+    by (begun l o) refl both.0 (outrun l (asked_place q) o) refl both.1
+  where
+    by : (b : Option Begun) → begun l o ≡ b → asks_the_same q b ≡ true → (late : Bool) → outrun l (asked_place q) o ≡ late → not late ≡ true
+        → Shared l q o
+    by None is same late was fresh = absurd (false≢true same)
+    by (Some b) is same true was fresh = absurd (false≢true fresh)
+    by (Some b) is same false was fresh = record { exchange = b; opened = is; same = same; fresh = was }
+
 -- An open exchange that this GET may join.
 pub record Joined (l : List Noted) (q : CoapRequest) (o : ℕ) : Type 0 where
   pub is_open : Contains (open_exchanges l) o
@@ -37,14 +55,8 @@ pub record Joined (l : List Noted) (q : CoapRequest) (o : ℕ) : Type 0 where
 
 pub joinable-is : (l : List Noted) (q : CoapRequest) (o : ℕ) → Contains (open_exchanges l) o → is_joinable l q o ≡ true → Joined l q o
 joinable-is l q o has e =
-    let both = and_parts (asks_the_same q (begun l o)) (not (outrun l (asked_place q) o)) e in
-    by (begun l o) refl both.0 (outrun l (asked_place q) o) refl both.1
-  where
-    by : (b : Option Begun) → begun l o ≡ b → asks_the_same q b ≡ true → (late : Bool) → outrun l (asked_place q) o ≡ late → not late ≡ true
-        → Joined l q o
-    by None is same late was fresh = absurd (false≢true same)
-    by (Some b) is same true was fresh = absurd (false≢true fresh)
-    by (Some b) is same false was fresh = record { is_open = has; exchange = b; opened = is; same = same; fresh = was }
+    let it = shared-is l q o e in
+    record { is_open = has; exchange = it.exchange; opened = it.opened; same = it.same; fresh = it.fresh }
 
 pub is-joinable : (l : List Noted) (q : CoapRequest) (o : ℕ) → Joined l q o → is_joinable l q o ≡ true
 is-joinable l q o h =
@@ -247,30 +259,34 @@ writes-there l e q write =
     let there : same_place (asked_place q) (asked_place r) ≡ true = (places_decided (asked_place q) (asked_place r)).1 same in
     elim (eqb_tells r.method 1) [ inl w ↦ absurd (write.changes w.1) | inr w ↦ rw (w.0, there) refl ]
 
--- no write to the place ended between that opening and the ask
+-- no write to the place ended between an opening that none has outrun and an ask
+pub unoutrun-earlier : (l : List Noted) (k o e : ℕ) (q : CoapRequest) → Legal l → k < length l → outrun (before l k) (asked_place q) o ≡ false
+    → IsWriteEnd l q.peer q.target.path e → e < k → e ≤ o
+unoutrun-earlier l k o e q legal below fresh write lt =
+    let f : End = record { number = e; how = write.how } in
+    let ended = end-before l k write.opening f below write.ended lt in
+    let was = ended-begun (before l k) write.opening f (legal-before l k legal) ended in
+    let same : was.0 ≡ write.write = some-is _ _ (sym (begun-before l k write.opening was.0 was.1) ∙ write.opened) in
+    elim (leb_tells e o) [
+      | inl w ↦ w.1
+      | inr w ↦
+          absurd (false≢true (sym fresh ∙ is-outrun (before l k) (asked_place q) o (record {
+            opening = write.opening;
+            write = write.write;
+            opened = was.1 ∙ ap (λ (b : Begun). Some b) same;
+            changes = writes-there l e q write;
+            end = f;
+            ended = ended;
+            later = w.1;
+          })))
+    ]
+
 pub write-earlier : (l : List Noted) (k o e : ℕ) → Legal l → (it : Reader l k o) → IsWriteEnd l it.request.peer it.request.target.path e → e < k → e ≤ o
 write-earlier l k o e legal it write lt = by it.request it.exchange it.way write
   where
     by : (q : CoapRequest) (b : Begun) → ((o ≡ k) × (q ≡ b.request)) ⊎ ReadsAlong l k o q b → IsWriteEnd l q.peer q.target.path e → e ≤ o
     by q b (inl own) write = let same = own.0 in omega (arith, same, lt)
-    by q b (inr along) write =
-        let f : End = record { number = e; how = write.how } in
-        let ended = end-before l k write.opening f (at-below l k _ it.asked.stands) write.ended lt in
-        let was = ended-begun (before l k) write.opening f (legal-before l k legal) ended in
-        let same : was.0 ≡ write.write = some-is _ _ (sym (begun-before l k write.opening was.0 was.1) ∙ write.opened) in
-        elim (leb_tells e o) [
-          | inl w ↦ w.1
-          | inr w ↦
-              absurd (false≢true (sym along.joined.fresh ∙ is-outrun (before l k) (asked_place q) o (record {
-                opening = write.opening;
-                write = write.write;
-                opened = was.1 ∙ ap (λ (b : Begun). Some b) same;
-                changes = writes-there l e q write;
-                end = f;
-                ended = ended;
-                later = w.1;
-              })))
-        ]
+    by q b (inr along) write = unoutrun-earlier l k o e q legal (at-below l k _ it.asked.stands) along.joined.fresh write lt
 
 -- Where two histories have the same openings and ends, a GET joins the same.
 any-same : {X : Type 0} (p q : X → Bool) → ((x : X) → p x ≡ q x) → (xs : List X) → list_any p xs ≡ list_any q xs

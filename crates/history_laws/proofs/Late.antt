@@ -12,6 +12,7 @@ use Rattle.history_laws.specs.Justified.{Legal}
 use Rattle.history_laws.specs.Worked.{Holds, server, ask_for, empty_rst}
 use Rattle.history_laws.specs.WorkedMessages.{get_light, get_bytes, get_message, put_message}
 use Rattle.history_laws.specs.WorkedLate.{other_bytes, other_message, heard_twice, half_answered, rejected_after, abandoned}
+use Rattle.history_laws.proofs.Missing.{none-stored}
 use Rattle.history_laws.proofs.Resting.{at-rest, may-come}
 use Rattle.history_laws.proofs.Spelled.{spelled}
 use Rattle.history_laws.proofs.Messages.{get-spelled, legal-let-go, legal-answered}
@@ -79,7 +80,7 @@ rejected_after-holds = (legal-rejected-after, at-rest _ refl)
 -- entry by entry
 abandoned-sent : Legal (noted 0 (Sends server get_bytes (Some 2000)) (First 1 get_message) ∷ noted 0 (Asks 0 (ask_for get_light)) (Begins get_light) ∷ noted 0 (Opens 0) Plain ∷ [])
 abandoned-sent = (
-  ((tt, lit≤ tt, (may-come _ refl refl, lit≤ tt, tt)), lit≤ tt, (may-come _ refl refl, refl, refl, (refl, refl, refl))),
+  ((tt, lit≤ tt, (may-come _ refl refl, lit≤ tt, tt)), lit≤ tt, (may-come _ refl refl, refl, refl, (refl, refl, refl), none-stored _ _ _ refl)),
   lit≤ tt,
   (
     refl,
@@ -136,7 +137,7 @@ legal-abandoned = (
     ),
   ),
   lit≤ tt,
-  (may-come _ refl refl, refl, refl, (refl, refl, refl)),
+  (may-come _ refl refl, refl, refl, (refl, refl, refl), none-stored _ _ _ refl),
 )
 
 pub abandoned-holds : Holds abandoned

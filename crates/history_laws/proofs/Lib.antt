@@ -23,6 +23,9 @@ mod Rising
 mod Queue
 mod Ended
 mod Basis
+mod Wholes
+mod Missing
+mod Storing
 mod Confirmed
 mod Asked
 mod Settled
@@ -31,3 +34,4 @@ mod Late
 mod Spoiled
 mod Copied
 mod Readers
+mod Store

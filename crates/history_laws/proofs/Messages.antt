@@ -1,7 +1,7 @@
 -- The worked journals of messages on their way.
 use Rattle.std.proofs.Common.{◌≤◌, inl, inr, refl, sym, subst, arith, lit≤, lit<}
-use Rattle.std.proofs.lemmas.Bool.{false≢true}
 use Rattle.std.specs.Prelude.{Some}
+use Rattle.std.proofs.lemmas.Bool.{false≢true}
 use Rattle.coap_codec.specs.declared.message.MsgType.TheVariants.{Ack}
 use Rattle.coap_codec.specs.Spelling.{Spells}
 use Rattle.coap_codec.specs.Reading.{message_at}
@@ -11,6 +11,7 @@ use Rattle.history_laws.specs.Justified.{Legal}
 use Rattle.history_laws.specs.Worked.{Holds, Refused, server, empty_ack}
 use Rattle.history_laws.specs.WorkedMessages.{get_light, put_light, get_bytes, put_bytes, get_message, put_message, content_bytes, content_message, changed_bytes, changed_message, waiting, copied, let_go, answered, all_answered, given_up, copied_early, not_waited, not_acknowledged, not_copied}
 use Rattle.history_laws.specs.Transmissions.{Transmission, due}
+use Rattle.history_laws.proofs.Missing.{none-stored}
 use Rattle.history_laws.proofs.Resting.{at-rest, may-come, some-is, none-is}
 use Rattle.history_laws.proofs.Spelled.{spelled}
 
@@ -42,7 +43,7 @@ pub legal-waiting : Legal waiting
 legal-waiting = (
   (
     (
-      ((tt, lit≤ tt, (may-come _ refl refl, lit≤ tt, tt)), lit≤ tt, (may-come _ refl refl, refl, refl, (refl, refl, refl))),
+      ((tt, lit≤ tt, (may-come _ refl refl, lit≤ tt, tt)), lit≤ tt, (may-come _ refl refl, refl, refl, (refl, refl, refl), none-stored _ _ _ refl)),
       lit≤ tt,
       (
         refl,
@@ -73,7 +74,7 @@ legal-waiting = (
     (may-come _ refl refl, refl, tt),
   ),
   lit≤ tt,
-  (may-come _ refl refl, refl, refl, (refl, refl, refl)),
+  (may-come _ refl refl, refl, refl, (refl, refl, refl), none-stored _ _ _ refl),
 )
 
 pub legal-copied : Legal copied

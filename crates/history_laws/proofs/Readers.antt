@@ -5,13 +5,14 @@ use Rattle.history_laws.specs.Justified.{Legal}
 use Rattle.history_laws.specs.Worked.{Holds, Refused}
 use Rattle.history_laws.specs.WorkedMessages.{get_light, put_light}
 use Rattle.history_laws.specs.WorkedReaders.{joined, heard_for_both, both_answered, written_between, read_anew, asked_twice, read_before, put_once, one_told}
+use Rattle.history_laws.proofs.Missing.{none-stored}
 use Rattle.history_laws.proofs.Resting.{at-rest, may-come, none-is, none-some}
 use Rattle.history_laws.proofs.Messages.{put-spelled, changed-spelled, legal-waiting, legal-let-go}
 use Rattle.history_laws.proofs.Endings.{non-spelled}
 use Rattle.history_laws.proofs.Copied.{get-again-spelled}
 
 legal-joined : Legal joined
-legal-joined = ((legal-waiting, lit≤ tt, (may-come _ refl refl, refl, tt)), lit≤ tt, (may-come _ refl refl, refl, refl, refl))
+legal-joined = ((legal-waiting, lit≤ tt, (may-come _ refl refl, refl, tt)), lit≤ tt, (may-come _ refl refl, refl, refl, refl, none-stored _ _ _ refl))
 
 legal-heard : Legal heard_for_both
 legal-heard = (
@@ -66,7 +67,7 @@ legal-between = (
 
 legal-anew : Legal read_anew
 legal-anew = (
-  (legal-between, lit≤ tt, (may-come _ refl refl, refl, refl, (refl, refl, refl))),
+  (legal-between, lit≤ tt, (may-come _ refl refl, refl, refl, (refl, refl, refl), none-stored _ _ _ refl)),
   lit≤ tt,
   (
     refl,

@@ -7,18 +7,20 @@ use Rattle.coap_codec.specs.Spelling.{Content, Spells}
 use Rattle.uri_map.specs.declared.peer.Peer.{Peer}
 use Rattle.ask_model.specs.Requests.{CoapRequest, Sense, Requests, Refuses}
 use Rattle.ask_model.specs.Views.{Ask}
+use Rattle.resp_cache.specs.Stored.{Stored, is_fresh}
 use Rattle.ask_model.specs.declared.cause.Cause.{Cause}
 use Rattle.ask_model.specs.declared.cause.Cause.TheVariants as C
 use Rattle.journal_book.specs.Entries.{Grounds, Live, Kept, Fault, Mark, Past, Done, Sent, Heard, Deed, Opens, Asks, Sends, Hears, Passes, Answers, Shuts, Seals, Carries, Written}
 use Rattle.history_laws.specs.Responses.{Response}
 use Rattle.history_laws.specs.Confirmations.{empty, Confirmation}
 use Rattle.history_laws.specs.Causes.{IsRefusal}
-use Rattle.history_laws.specs.Readings.{Noted, Note, Plain, Begins, Joins, First, Copies, Confirms, Says, Repeats, Garbled, Bygone, Recalls, noted, are_copies, entries, at, newest, ticked}
+use Rattle.history_laws.specs.Readings.{Noted, Note, Plain, Begins, Joins, Serves, First, Copies, Confirms, Says, Repeats, Garbled, Bygone, Recalls, noted, are_copies, entries, at, newest, ticked}
 use Rattle.history_laws.specs.Connections.{is_open, asks_of, answers_of, is_sealed, opened, has_opened}
 use Rattle.history_laws.specs.Progress.{Reply, numbers, Ending, Whole, NotUnderstood, Reset, TimedOut, progress, next_message}
 use Rattle.history_laws.specs.Transmissions.{FirstSending, firsts, sent_last, bears_token, bears_mid, Transmission, transmission, due, outstanding}
 use Rattle.history_laws.specs.Exchanges.{Begun, begun, is_late, waits_for, replies, end_of, is_going, open_exchanges, waiting}
 use Rattle.history_laws.specs.Joining.{joins}
+use Rattle.history_laws.specs.Storing.{IsStored, MissesAlone}
 use Rattle.history_laws.specs.Hearing.{is_such, knows, repeated, can_be_remembered, answers, notice_of, has_room}
 use Rattle.history_laws.specs.Confirming.{owed}
 use Rattle.history_laws.specs.Sealing.{MaySeal}
@@ -88,17 +90,25 @@ abbrev pub HasGrounds : List Noted → ℕ → ℕ → Grounds → Type 0
 HasGrounds l t k (Live js) =
     (o : ℕ) × (e : ℕ) × (w : Response) × (rs : List Reply)
     × (reads l k ≡ Some o) × Ends l o e (Whole w rs) × (js ≡ numbers rs)
-HasGrounds l t k (Kept js) = ⊥
+-- In this moment the ask was given what is stored.
+HasGrounds l t k (Kept js) = (c : ℕ) × (a : Ask) × (at l k ≡ Some (noted t (Asks c a) (Serves js)))
 HasGrounds l t k (Fault cause n) = Caused l t k cause n
 
--- A GET joins the exchange of an equal one. Whatever else asks for something opens an exchange, but where there is
--- no room.
+-- A GET is served a stored response while it is fresh, or joins the exchange of an equal one. Whatever else asks for
+-- something opens an exchange, but where there is no room.
 abbrev pub AskNote : List Noted → ℕ → Sense → Note → Type 0
+AskNote l t (Requests q) (Serves js) = (s : Stored) × IsStored l q s × (is_fresh t s ≡ true) × (s.list ≡ js)
 AskNote l t (Requests q) (Joins o) = joins l q ≡ Some o
 AskNote l t (Requests q) (Begins r) = (r ≡ q) × (joins l q ≡ None) × (has_room l t q ≡ true)
 AskNote l t (Requests q) Plain = (joins l q ≡ None) × (has_room l t q ≡ false)
 AskNote l t (Refuses cause status) Plain = ⊤
 AskNote l t _ _ = ⊥
+
+-- One that isn't served could be served no more.
+abbrev pub UnservedNote : List Noted → ℕ → Sense → Note → Type 0
+UnservedNote l t (Requests q) (Serves js) = ⊤
+UnservedNote l t (Requests q) note = MissesAlone l t q
+UnservedNote l t (Refuses cause status) note = ⊤
 
 -- What a first sending owes: it is the next message of an exchange whose turn it is at its peer, under
 -- a token and an ID of its own.
@@ -258,7 +268,7 @@ abbrev pub Follows : List Noted → ℕ → Deed → Note → Type 0
 Follows l t (Opens c) note = MayCome l × IsNextConn (has_opened l) (opened l) c × IsPlain note
 Follows l t (Asks c a) note =
     MayCome l × (is_open l c ≡ true) × (length (asks_of l c) ≡ length (answers_of l c))
-    × AskNote l t a.sense note
+    × AskNote l t a.sense note × UnservedNote l t a.sense note
 Follows l t (Sends p bytes w) note = (is_sealed l ≡ false) × SentNote l t p bytes w note
 -- It comes from a peer that something was sent to.
 Follows l t (Hears p bytes) note =

@@ -1,5 +1,5 @@
 -- What holds of every legal reading of a history.
-use Rattle.std.specs.Prelude.{◌≡◌, ◌≢◌, ◌↔◌, ◌⊎◌, ℕ, ◌+◌, ◌<◌, ◌≤◌, true, false, List, length, take, Option, Some, None, is_some, ⊤}
+use Rattle.std.specs.Prelude.{◌≡◌, ◌≢◌, ◌↔◌, ◌⊎◌, ℕ, ◌+◌, ◌<◌, ◌≤◌, true, false, List, [], length, take, Option, Some, None, is_some, ⊤}
 use Rattle.std.specs.List.{Contains}
 use Rattle.limits.specs.declared.TheConstants.{MAX_RETRANSMIT, MESSAGE_ID_LIFETIME}
 use Rattle.coap_codec.specs.declared.message.MsgType.{MsgType}
@@ -11,7 +11,8 @@ use Rattle.ask_model.specs.declared.cause.Cause.TheVariants as C
 use Rattle.ask_model.specs.Requests.{CoapRequest, Sense, Requests, Refuses, request_message}
 use Rattle.ask_model.specs.Sharing.{asked_place, asks_same}
 use Rattle.ask_model.specs.Views.{Ask}
-use Rattle.journal_book.specs.Entries.{Grounds, Live, Fault, Deed, Sends, Hears, Passes, Answers, Shuts}
+use Rattle.resp_cache.specs.Stored.{Stored, is_fresh}
+use Rattle.journal_book.specs.Entries.{Grounds, Live, Kept, Fault, Deed, Sends, Hears, Passes, Answers, Shuts}
 use Rattle.history_laws.specs.Confirmations.{empty}
 use Rattle.history_laws.specs.Readings.{Noted, Note, First, Copies, Says, Notice, noted, at, before, ticked}
 use Rattle.history_laws.specs.Connections.{is_open, asks_of, answers_of, is_sealed}
@@ -19,6 +20,7 @@ use Rattle.history_laws.specs.Progress.{Reply, Ending}
 use Rattle.history_laws.specs.Transmissions.{FirstSending, firsts, Transmission, transmission, due, outstanding}
 use Rattle.history_laws.specs.Exchanges.{Begun, begun, turn, waits_for, replies, end_here, end_of, open_exchanges}
 use Rattle.history_laws.specs.Joining.{outrun, is_joinable, joins}
+use Rattle.history_laws.specs.Storing.{IsStored, MissesAlone}
 use Rattle.history_laws.specs.Hearing.{repeated, has_room}
 use Rattle.history_laws.specs.Justified.{IsAsk, Ends, reads, Legal, AtRest}
 
@@ -176,6 +178,35 @@ abbrev pub RestsOnItsOwn : Type 0
 RestsOnItsOwn =
     (l : List Noted) (n c k j : ℕ) (js : List ℕ) → Legal l → IsAnswer l n c k (Live js) → Contains js j → RestsOn l k j
 
+-- What was stored before the ask for a request equal to it, fresh at its moment, has this reply, which came to a
+-- message that asks just what the ask means, sent after the exchange for that was opened.
+pub record RestsOnStored (l : List Noted) (k j : ℕ) : Type 0 where
+  pub conn : ℕ
+  pub ask : Ask
+  pub request : CoapRequest
+  pub asked : IsAsk l k conn ask
+  pub sense : ask.sense ≡ Requests request
+  pub stored : Stored
+  pub is : IsStored (before l k) request stored
+  pub fresh : is_fresh asked.moment stored ≡ true
+  pub listed : Contains stored.list j
+  pub reply : Reply
+  pub number : reply.number ≡ j
+  pub earlier : j < k
+  pub fits : IsReplyTo l is.opening reply
+  pub after : is.opening < reply.sending
+  pub moment : ℕ
+  pub mid : ℕ
+  pub token : List ℕ
+  pub first : IsFirst l moment is.opening reply.sending request.peer (request_message request mid token)
+
+-- An answer from the store rests on a response that is stored for what its ask means, and is given in the moment of
+-- the ask.
+abbrev pub RestsOnTheStore : Type 0
+RestsOnTheStore =
+    (l : List Noted) (n t c k j : ℕ) (note : Note) (js : List ℕ) → Legal l → at l n ≡ Some (noted t (Answers c k (Kept js)) note)
+    → Contains js j → (r : RestsOnStored l k j) × (r.asked.moment ≡ t) × (r.stored.list ≡ js)
+
 -- The exchange of a request that isn't a GET ended at this entry: what was read of the resource before may be out
 -- of date from here on.
 pub record IsWriteEnd (l : List Noted) (p : Peer) (path : List (List ℕ)) (e : ℕ) : Type 0 where
@@ -187,11 +218,17 @@ pub record IsWriteEnd (l : List Noted) (p : Peer) (path : List (List ℕ)) (e : 
   pub how : Ending
   pub ended : Ends l opening e how
 
--- No answer to a GET rests on a token that was issued before the end of a write to its resource, where that lies
+-- the replies that an answer rests on
+abbrev pub replies_in : Grounds → List ℕ
+replies_in (Live js) = js
+replies_in (Kept js) = js
+replies_in (Fault cause n) = []
+
+-- No answer to a GET, live or kept, rests on a token that was issued before the end of a write to its resource, where that lies
 -- before the ask.
 abbrev pub NothingOutrun : Type 0
 NothingOutrun =
-    (l : List Noted) (n c k j e : ℕ) (js : List ℕ) (a : Ask) (q : CoapRequest) → Legal l → IsAnswer l n c k (Live js) → Contains js j
+    (l : List Noted) (n c k j e : ℕ) (g : Grounds) (a : Ask) (q : CoapRequest) → Legal l → IsAnswer l n c k g → Contains (replies_in g) j
     → IsAsk l k c a → a.sense ≡ Requests q → q.method ≡ 1 → IsWriteEnd l q.peer q.target.path e → e < k
     → (o : ℕ) × (r : Reply) × IsReplyTo l o r × (r.number ≡ j) × (e < r.sending)
 
@@ -225,6 +262,16 @@ pub record JoinsOne (l : List Noted) (k : ℕ) (q : CoapRequest) : Type 0 where
   pub unopened : begun l k ≡ None
   pub unsent : (t i : ℕ) (p : Peer) (m : Content) → IsFirst l t k i p m → ⊥
 
+-- The ask is served what is stored, which is fresh. It opens no exchange, nothing is sent for it, and its answer is
+-- just that.
+pub record ServesOne (l : List Noted) (t k : ℕ) (q : CoapRequest) : Type 0 where
+  pub stored : Stored
+  pub is : IsStored (before l k) q stored
+  pub fresh : is_fresh t stored ≡ true
+  pub unopened : begun l k ≡ None
+  pub unsent : (s i : ℕ) (p : Peer) (m : Content) → IsFirst l s k i p m → ⊥
+  pub answered : (n c : ℕ) (g : Grounds) → IsAnswer l n c k g → g ≡ Kept stored.list
+
 -- The ask opened no exchange, nothing is sent for it, and its answer is the proxy's own, for this cause.
 pub record OpensNone (l : List Noted) (k : ℕ) (cause : Cause) : Type 0 where
   pub unopened : begun l k ≡ None
@@ -237,9 +284,12 @@ pub record TurnsAway (l : List Noted) (t k : ℕ) (q : CoapRequest) : Type 0 whe
   pub alone : joins (before l k) q ≡ None
   pub full : has_room (before l k) t q ≡ false
 
--- An ask for something opens one exchange or joins one, or neither where there is no room; a refused one opens none.
+-- An ask for something is served what is stored. Only where nothing is, or 256 others were used since, it opens one
+-- exchange, or joins one, or does neither where there is no room. A refused one opens none.
 abbrev pub OpensFor : List Noted → ℕ → ℕ → Sense → Type 0
-OpensFor l t k (Requests q) = OpensOne l k q ⊎ (JoinsOne l k q ⊎ TurnsAway l t k q)
+OpensFor l t k (Requests q) =
+    ServesOne l t k q
+    ⊎ (MissesAlone (before l k) t q × (OpensOne l k q ⊎ (JoinsOne l k q ⊎ TurnsAway l t k q)))
 OpensFor l t k (Refuses cause status) = OpensNone l k cause
 
 abbrev pub AskedOnce : Type 0

@@ -8,6 +8,7 @@ pub mod Progress
 pub mod Transmissions
 pub mod Exchanges
 pub mod Joining
+pub mod Storing
 pub mod Hearing
 pub mod Confirming
 pub mod Sealing
@@ -20,3 +21,4 @@ pub mod WorkedEndings
 pub mod WorkedLate
 pub mod WorkedSpoiled
 pub mod WorkedCopies
+pub mod WorkedStore

@@ -6,6 +6,7 @@ use Rattle.coap_codec.specs.Values.{uint}
 use Rattle.blockwise.specs.Reading.{answers_piece}
 use Rattle.blockwise.specs.Downloads.{is_only_piece}
 use Rattle.ask_model.specs.Requests.{CoapRequest}
+pub use Rattle.resp_cache.specs.declared.response.Response.{Response}
 
 -- All of the response is in this one message (RFC 7959). A GET (method 1) is answered by the only piece of
 -- a representation; a Block1 has no meaning there. Any other request went in one piece, number 0, which
@@ -18,15 +19,6 @@ abbrev pub is_whole : ℕ → Content → Bool
 is_whole method m = is_forwardable m.options && (is_final m && is_all method m)
 
 -- what a response says (RFC 7252 section 5.10)
-pub record Response : Type 0 where
-  pub code : ℕ
-  pub format : Option ℕ
-  pub etag : Option (List ℕ)
-  pub max_age : Option ℕ
-  pub location_path : List (List ℕ)
-  pub location_query : List (List ℕ)
-  pub body : List ℕ
-
 abbrev pub response_of : Content → Response
 response_of m =
     record {
@@ -34,8 +26,7 @@ response_of m =
       format = option_map uint (value_of 12 m);
       etag = value_of 4 m;
       max_age = option_map uint (value_of 14 m);
-      location_path = values_of 8 m;
-      location_query = values_of 20 m;
+      location = record { path = values_of 8 m; query = values_of 20 m };
       body = m.payload;
     }
 

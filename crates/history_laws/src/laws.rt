@@ -15,6 +15,7 @@ ghost use Rattle.history_laws.specs.Laws.{
   NoneAfterEnd,
   RepliesFit,
   RestsOnItsOwn,
+  RestsOnTheStore,
   NothingOutrun,
   AskedOnce,
   SentAtOnce,
@@ -68,17 +69,20 @@ pub fn readers_join_one()
     ensures opened { ReadsOpened }
 {}
 
-/// An answer rests on replies to the exchange that its ask reads alone, which came to messages that ask
-/// just what it means; so no answer to a GET is older than a write to its resource that had ended when
-/// it was asked.
+/// An answer rests on replies to the exchange that its ask reads alone, or on those of a response that
+/// was stored for what it asks and is fresh (RFC 7252 section 5.6). They came to messages that ask just
+/// what it means; so no answer to a GET is older than a write to its resource that had ended when it was
+/// asked.
 pub fn rests_on_its_own()
     ensures own { RestsOnItsOwn }
+    ensures store { RestsOnTheStore }
     ensures outrun { NothingOutrun }
 {}
 
 /// Each ask opens one exchange with one message, which goes out once (RFC 7252 section 4.5 is why no
 /// request may go twice) and waits only while another is outstanding at its peer; or it joins one; or it
-/// does neither and is answered in its own step. Nothing else is sent but equal copies, ACKs and RSTs.
+/// does neither and is answered in its own step, by what is stored or by a refusal. Nothing else is sent
+/// but equal copies, ACKs and RSTs.
 pub fn asked_once()
     ensures asked { AskedOnce }
     ensures sent { SentAtOnce }

@@ -7,6 +7,7 @@ ghost use Rattle.history_laws.specs.WorkedLate as L;
 ghost use Rattle.history_laws.specs.WorkedMessages as M;
 ghost use Rattle.history_laws.specs.WorkedReaders as R;
 ghost use Rattle.history_laws.specs.WorkedSpoiled as S;
+ghost use Rattle.history_laws.specs.WorkedStore as K;
 
 /// Copies, an empty ACK, a separate response, its repeat, a message that waits, deadlines.
 pub fn worked_messages()
@@ -43,6 +44,19 @@ pub fn worked_readers()
     ensures before { Refused R.read_before }
     ensures put { Refused R.put_once }
     ensures one_told { Refused R.one_told }
+{}
+
+/// A GET that is answered from the store, in the last millisecond in which the response is fresh. And
+/// what is wrong there: a millisecond later, an answer kept after its ask's moment, for another query or
+/// Accept, after a write to the place, the older one of two responses.
+pub fn worked_store()
+    ensures served { Holds K.read_from_store }
+    ensures expired { Refused K.read_expired }
+    ensures late { Refused K.kept_late }
+    ensures query { Refused K.other_query }
+    ensures accept { Refused K.other_accept }
+    ensures outdated { Refused K.read_outdated }
+    ensures older { Refused K.read_older }
 {}
 
 /// What goes out wrongly: too often, under another or a used message ID, or before its turn.

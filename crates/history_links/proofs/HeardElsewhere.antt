@@ -1,5 +1,5 @@
 -- What is heard from another peer leaves the link.
-use Rattle.std.proofs.Common.{◌≡◌, ℕ, Bool, true, false, eqb, inl, inr, List, ◌∷◌, Option, Some, None, refl, sym, ap, subst, ◌∙◌, arith}
+use Rattle.std.proofs.Common.{◌≡◌, ℕ, Bool, true, false, eqb, inl, inr, List, ◌∷◌, Option, Some, None, refl, sym, ap, subst, ◌∙◌}
 use Rattle.std.specs.Prelude.{◌&&◌}
 use Rattle.std.proofs.lemmas.Bool.{false≢true}
 use Rattle.std.proofs.lemmas.Bool.Decides.{eqb_tells}
@@ -9,13 +9,12 @@ use Rattle.uri_map.specs.Peers.{same_peer}
 use Rattle.journal_book.specs.Entries.{Hears}
 use Rattle.history_laws.specs.Readings.{Noted, Says, unobserved}
 use Rattle.history_laws.specs.Transmissions.{FirstSending, first_at, last_sent}
-use Rattle.history_laws.specs.Exchanges.{openings, waits_for, awaited, is_waiting, waiting}
+use Rattle.history_laws.specs.Exchanges.{openings, waits_for, awaited}
 use Rattle.history_laws.specs.Hearing.{is_such, is_live, went_under, went_as}
 use Rattle.history_laws.proofs.CallerLemmas.{and-left, at-keeps}
-use Rattle.history_links.specs.Agrees.{WaitIn}
 use Rattle.history_links.specs.Steps.{SaysElsewhere}
 use Rattle.history_links.proofs.Still.{since, heard-at, heard-still}
-use Rattle.history_links.proofs.Replying.{says, is_to, ends_by, ends_what, way-after, waits-after, waiting-after, awaited-after}
+use Rattle.history_links.proofs.Replying.{says, is_to, ends_by, ends_what, way-after, waits-after, awaited-after}
 use Rattle.history_links.proofs.Judging.{token-found}
 use Rattle.history_links.proofs.Saying.{asked-once, waits-on}
 use Rattle.history_links.proofs.OtherPeers.{number-differs, nothing-found, turn-where}

@@ -1,5 +1,5 @@
 -- After the message that waits first is sent, the link agrees.
-use Rattle.std.proofs.Common.{◌≡◌, ℕ, ◌<◌, ◌≤◌, ◌+◌, Bool, true, false, cond, eqb, inl, inr, List, [], ◌∷◌, ◌++◌, length, Option, Some, None, refl, sym, ap, subst, ◌∙◌, arith}
+use Rattle.std.proofs.Common.{◌≡◌, ℕ, ◌<◌, ◌≤◌, ◌+◌, Bool, true, false, cond, eqb, inl, inr, List, [], ◌∷◌, ◌++◌, length, Option, Some, refl, sym, ap, subst, ◌∙◌, arith}
 use Rattle.std.specs.Prelude.{count_by, filter, ◌&&◌, ◌||◌, is_none, is_some, option_and_then}
 use Rattle.std.proofs.lemmas.Bool.Decides.{eqb_tells}
 use Rattle.std.specs.List.{AllByRecursion, list_any}
@@ -16,7 +16,7 @@ use Rattle.message_layer.specs.Sending.{first_sent}
 use Rattle.message_layer.specs.declared.state.Waiting.{Waiting}
 use Rattle.message_layer.specs.declared.state.Awaited.{Awaited}
 use Rattle.message_layer.specs.declared.state.Outstanding.{Outstanding}
-use Rattle.history_laws.specs.Readings.{Noted, First, newest}
+use Rattle.history_laws.specs.Readings.{Noted, First}
 use Rattle.history_laws.specs.Transmissions.{FirstSending, firsts, first_at, last_sent, if_outstanding, is_recent, mids_used, transmission}
 use Rattle.history_laws.specs.Exchanges.{openings, waits_for, awaited, is_waiting, waiting, submitted, rank}
 use Rattle.history_laws.specs.Justified.{Legal}

@@ -16,7 +16,7 @@ use Rattle.message_layer.specs.Hearing.{is_fresh, is_repeat, remembered_in}
 use Rattle.message_layer.specs.declared.state.Heard.{Heard}
 use Rattle.message_layer.specs.declared.state.Reply.{Reply}
 use Rattle.message_layer.proofs.Effects.{filter-kept}
-use Rattle.history_laws.specs.Readings.{Noted, Says, Notice, at, newest, noted}
+use Rattle.history_laws.specs.Readings.{Noted, Says, Notice, at, noted}
 use Rattle.history_laws.specs.Hearing.{is_such, is_live, heard_before, live_heard}
 use Rattle.history_laws.specs.Confirming.{answered}
 use Rattle.history_laws.proofs.CallerLemmas.{and-left, and-right, at-new}

@@ -1,5 +1,5 @@
 -- After a new message, the link agrees, and it answers what the message asks for.
-use Rattle.std.proofs.Common.{◌≡◌, ℕ, ◌≤◌, Bool, true, false, cond, eqb, leb, ltb, List, [], ◌∷◌, Option, Some, None, refl, sym, ap, subst, ◌∙◌, arith}
+use Rattle.std.proofs.Common.{◌≡◌, ℕ, Bool, true, false, cond, eqb, leb, ltb, List, [], ◌∷◌, Option, Some, None, refl, sym, ap, subst, ◌∙◌}
 use Rattle.std.specs.Prelude.{◌&&◌, ◌||◌, not, is_some, option_and_then, count_by}
 use Rattle.std.specs.List.{find, list_any}
 use Rattle.std.specs.Str.{bytes_eq}
@@ -22,9 +22,9 @@ use Rattle.message_layer.specs.declared.verdict.News.{News}
 use Rattle.message_layer.specs.declared.verdict.News.TheVariants.{Quiet, Response, Reset, Lost}
 use Rattle.message_layer.specs.declared.verdict.Verdict.{Verdict}
 use Rattle.message_layer.proofs.AwaitTable.{news-awaited, news-acks, expected-awaited, expected-acks}
-use Rattle.history_laws.specs.Readings.{Noted, unobserved, newest}
+use Rattle.history_laws.specs.Readings.{Noted, unobserved}
 use Rattle.history_laws.specs.Transmissions.{FirstSending, Transmission, first_at, last_sent, transmission, if_outstanding, outstanding}
-use Rattle.history_laws.specs.Exchanges.{openings, waits_for, awaited, is_waiting, waiting}
+use Rattle.history_laws.specs.Exchanges.{openings, waits_for, awaited, waiting}
 use Rattle.history_laws.specs.Hearing.{is_such, heard_before, live_heard, repeated, can_be_remembered, went_under, went_as, answers_by, answers}
 use Rattle.history_laws.specs.Justified.{Legal}
 use Rattle.history_laws.proofs.CallerLemmas.{and-left, at-keeps, eqb-itself, none-submitted, queue-same, unawaited-quiet, waiting-all, waiting-unsent}

@@ -1,7 +1,6 @@
 -- The message that waits first may follow, where nothing is outstanding.
-use Rattle.std.proofs.Common.{◌≡◌, ℕ, ◌<◌, ◌+◌, ◌%◌, ◌⊎◌, inl, inr, Bool, true, false, cond, List, [], ◌∷◌, length, Option, Some, None, refl, sym, ap, subst, ◌∙◌, arith}
-use Rattle.std.specs.Prelude.{filter, option_map}
-use Rattle.std.specs.List.{AllByRecursion, find}
+use Rattle.std.proofs.Common.{◌≡◌, ℕ, ◌<◌, ◌+◌, ◌%◌, true, List, [], ◌∷◌, Option, Some, None, refl, sym, ap, subst, ◌∙◌, arith}
+use Rattle.std.specs.List.{AllByRecursion}
 use Rattle.limits.specs.declared.TheConstants.{MAX_MESSAGE_IDS}
 use Rattle.coap_codec.specs.Spelling.{Content, Spells}
 use Rattle.uri_map.specs.declared.peer.Peer.{Peer}
@@ -14,7 +13,7 @@ use Rattle.message_layer.specs.declared.state.Waiting.{Waiting}
 use Rattle.message_layer.proofs.Sendings.{sent-spells}
 use Rattle.history_laws.specs.Readings.{Noted}
 use Rattle.history_laws.specs.Progress.{Progress, Asks, Ends, progress, next_message}
-use Rattle.history_laws.specs.Transmissions.{FirstSending, firsts, last_sent, mids_used}
+use Rattle.history_laws.specs.Transmissions.{mids_used}
 use Rattle.history_laws.specs.Exchanges.{Begun, begun, replies, goes_to, is_waiting, waiting}
 use Rattle.history_laws.specs.Justified.{Legal, MayBeFirst}
 use Rattle.history_links.specs.Agrees.{Start, IsFrom, TurnIn, IsWaitingFor, WaitIn, Agrees}

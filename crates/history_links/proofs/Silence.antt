@@ -2,7 +2,7 @@
 use Rattle.std.proofs.Common.{◌≡◌, ℕ, ◌≤◌, false, List, ◌∷◌, refl}
 use Rattle.uri_map.specs.declared.peer.Peer.{Peer}
 use Rattle.journal_book.specs.Entries.{Deed, Opens, Asks, Sends, Hears, Answers, Shuts, Seals}
-use Rattle.history_laws.specs.Readings.{Noted, Note, Plain, Joins, Confirms, Repeats, Garbled, newest, noted}
+use Rattle.history_laws.specs.Readings.{Noted, Note, Plain, Joins, Serves, Confirms, Repeats, Garbled, newest, noted}
 use Rattle.history_laws.specs.Transmissions.{firsts, transmission}
 use Rattle.history_laws.specs.Exchanges.{begun, openings, turn, waits_for, end_of}
 use Rattle.history_laws.specs.Hearing.{heard_before, live_heard, recalls}
@@ -25,6 +25,7 @@ nothing : (l : List Noted) (t : ℕ) (d : Deed) (note : Note) → IsSilent d not
 nothing l t (Opens c) Plain i = (refl, λ j. refl, refl, λ o. refl, λ o. refl, λ o. refl, λ o. tt, λ p. refl, λ u p mid. refl, λ u p. refl)
 nothing l t (Asks c a) Plain i = (refl, λ j. refl, refl, λ o. refl, λ o. refl, λ o. refl, λ o. tt, λ p. refl, λ u p mid. refl, λ u p. refl)
 nothing l t (Asks c a) (Joins q) i = (refl, λ j. refl, refl, λ o. refl, λ o. refl, λ o. refl, λ o. tt, λ p. refl, λ u p mid. refl, λ u p. refl)
+nothing l t (Asks c a) (Serves js) i = (refl, λ j. refl, refl, λ o. refl, λ o. refl, λ o. refl, λ o. tt, λ p. refl, λ u p mid. refl, λ u p. refl)
 nothing l t (Answers c k g) Plain i = (refl, λ j. refl, refl, λ o. refl, λ o. refl, λ o. refl, λ o. tt, λ p. refl, λ u p mid. refl, λ u p. refl)
 nothing l t (Shuts c) Plain i = (refl, λ j. refl, refl, λ o. refl, λ o. refl, λ o. refl, λ o. tt, λ p. refl, λ u p mid. refl, λ u p. refl)
 nothing l t Seals Plain i = (refl, λ j. refl, refl, λ o. refl, λ o. refl, λ o. refl, λ o. tt, λ p. refl, λ u p mid. refl, λ u p. refl)

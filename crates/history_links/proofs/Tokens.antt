@@ -1,5 +1,5 @@
 -- First sendings are found by their numbers, and told apart by their tokens.
-use Rattle.std.proofs.Common.{◌≡◌, ℕ, Bool, true, eqb, List, Option, Some, sym, ◌∙◌}
+use Rattle.std.proofs.Common.{◌≡◌, ℕ, Bool, eqb, List, Some, sym, ◌∙◌}
 use Rattle.std.specs.List.{find}
 use Rattle.history_laws.specs.Readings.{Noted}
 use Rattle.history_laws.specs.Transmissions.{FirstSending, firsts, first_at}

@@ -6,7 +6,6 @@ use Rattle.coap_codec.specs.declared.message.MsgType.{MsgType}
 use Rattle.coap_codec.specs.declared.message.MsgType.TheVariants.{Ack, Rst}
 use Rattle.coap_codec.specs.Spelling.{Content, Spells}
 use Rattle.uri_map.specs.declared.peer.Peer.{Peer}
-use Rattle.uri_map.specs.Peers.{same_peer}
 use Rattle.ask_model.specs.Requests.{CoapRequest}
 use Rattle.journal_book.specs.Entries.{Sends}
 use Rattle.history_laws.specs.Numbering.{token_number}

@@ -20,7 +20,7 @@ use Rattle.message_layer.specs.declared.state.Waiting.{Waiting}
 use Rattle.message_layer.specs.declared.verdict.News.{News}
 use Rattle.message_layer.specs.declared.verdict.News.TheVariants.{Quiet, Response, Reset, Lost}
 use Rattle.message_layer.specs.declared.verdict.Verdict.{Verdict}
-use Rattle.history_laws.specs.Readings.{Noted, Note, Plain, Begins, Joins, First, Copies, Confirms, Says, Repeats, Garbled, unobserved, newest, ticked, noted}
+use Rattle.history_laws.specs.Readings.{Noted, Note, Plain, Begins, Joins, Serves, First, Copies, Confirms, Says, Repeats, Garbled, unobserved, newest, ticked, noted}
 use Rattle.history_laws.specs.Connections.{is_sealed}
 use Rattle.history_laws.specs.Transmissions.{FirstSending, first_at, bears_token, mids_used}
 use Rattle.history_laws.specs.Exchanges.{begun, issued, is_late, expires, waits_for, is_waiting, waiting}
@@ -51,6 +51,7 @@ abbrev pub IsSilent : Deed → Note → Type 0
 IsSilent (Opens c) Plain = ⊤
 IsSilent (Asks c a) Plain = ⊤
 IsSilent (Asks c a) (Joins o) = ⊤
+IsSilent (Asks c a) (Serves js) = ⊤
 IsSilent (Answers c k g) Plain = ⊤
 IsSilent (Shuts c) Plain = ⊤
 IsSilent Seals Plain = ⊤

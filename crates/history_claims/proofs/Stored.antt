@@ -1,0 +1,122 @@
+-- The worked journals of what is stored, as entries.
+use Rattle.std.proofs.Common.{◌≡◌, ℕ, ◌+◌, ◌<◌, Bool, true, false, eqb, cond, inl, inr, List, [], ◌∷◌, length, Some, None, refl, sym, ap, subst, arith, lit<}
+use Rattle.std.proofs.lemmas.Bool.{false≢true, or_cases}
+use Rattle.coap_codec.specs.Spelling.{Content, Spells}
+use Rattle.coap_codec.proofs.Unique.{spells_one}
+use Rattle.ask_model.specs.Requests.{CoapRequest, Requests, request_message}
+use Rattle.ask_model.specs.declared.cause.Cause.TheVariants as C
+use Rattle.resp_cache.specs.Stored.{lifetime}
+use Rattle.journal_book.specs.Entries.{Live, Fault, Deed, Asks}
+use Rattle.history_laws.specs.Responses.{Response, response_of, is_whole, whole_of}
+use Rattle.history_laws.specs.Readings.{entries}
+use Rattle.history_laws.specs.Worked.{server, ask_for}
+use Rattle.history_laws.specs.WorkedMessages as M
+use Rattle.history_laws.specs.WorkedEndings as E
+use Rattle.history_laws.specs.WorkedStore as K
+use Rattle.history_laws.proofs.CallerLemmas.{eqb-same, none-some, read_from_store-holds, some-is}
+use Rattle.history_claims.specs.Headline.{IsAsked, IsWriteAnswer, AreHeardFor}
+use Rattle.history_claims.specs.Worked.{Served, Expired, Overwritten, OtherQuery}
+use Rattle.history_claims.proofs.Examples.{places, heard-texts, moment-same, sense-same}
+use Rattle.history_claims.proofs.Served.{served-in}
+use Rattle.history_claims.proofs.Together.{requests-same}
+
+pub served : Served
+served = served-in K.read_from_store 6 60699 0 5 (3 ∷ []) read_from_store-holds.0 refl
+
+-- not so
+
+-- the response that the reply is
+whole-is : (b : Bool) (m : Content) (w : Response) → cond b (Some (response_of m)) None ≡ Some w → response_of m ≡ w
+whole-is true m w e = some-is (response_of m) w e
+whole-is false m w e = absurd (none-some w e)
+
+non-spelled : Spells E.non_message E.non_bytes
+non-spelled = read_from_store-holds.0.0.0.0.2.3.spelled
+
+pub expired : Expired
+expired h = go h.messages h.heard h.whole
+  where
+    since : 700 ≡ h.since
+    since = moment-same 700 h.since _ _ h.first.2
+
+    go : (ms : List Content) → AreHeardFor (entries K.read_expired) h.opening h.other (3 ∷ []) ms → whole_of h.other ms ≡ Some h.response → ⊥
+    go [] heard whole = absurd heard
+    go (m ∷ n ∷ ms) heard whole = absurd heard.1
+    go (m ∷ []) heard whole =
+        let r = heard.0.response.heard in
+        let text : E.non_bytes ≡ r.bytes = heard-texts 700 heard.0.response.moment server h.other.peer E.non_bytes r.bytes r.stands in
+        let is : m ≡ E.non_message = spells_one m E.non_message r.bytes r.spelled (subst (Spells E.non_message) text non-spelled) in
+        let response : response_of E.non_message ≡ h.response =
+        subst (λ (m : Content). response_of m ≡ h.response) is (whole-is (is_whole h.other.method m) m h.response whole) in
+        let late : 60700 < 700 + lifetime (response_of E.non_message).max_age =
+        subst (λ (w : Response). 60700 < 700 + lifetime w.max_age) (sym response)
+        (subst (λ (t : ℕ). 60700 < t + lifetime h.response.max_age) (sym since) h.fresh) in
+        let same : 60700 < 60700 = late in
+        absurd (omega (arith, same))
+
+-- the PUT of entry 4, answered in entry 17
+busy-not : (js : List ℕ) (k : ℕ) → Live js ≡ Fault C.Busy k → ⊥
+busy-not js k e = cc
+
+written : IsWriteAnswer (entries K.read_outdated) M.get_light 17
+written =
+    record {
+      ask = 4;
+      write = record {
+        conn = 1;
+        moment = 500;
+        request = M.put_light;
+        asked = record { came = (ask_for M.put_light).came; rules = (ask_for M.put_light).rules; stands = refl };
+        changes = λ e. absurd (omega (arith, e));
+        place = (refl, refl);
+      };
+      moment = 5300;
+      grounds = Live (16 ∷ []);
+      answers = refl;
+      had_room = busy-not (16 ∷ []) 4;
+    }
+
+pub overwritten : Overwritten
+overwritten h = go h.messages h.heard
+  where
+    asks : h.request ≡ M.get_light
+    asks = sym (requests-same M.get_light h.request (sense-same 5400 5400 0 0 (ask_for M.get_light) _ h.asked.stands))
+
+    later : 17 < h.opening
+    later = h.current 17 (subst (λ (q : CoapRequest). IsWriteAnswer (entries K.read_outdated) q 17) (sym asks) written) (lit< tt)
+
+    go : (ms : List Content) → AreHeardFor (entries K.read_outdated) h.opening h.other (9 ∷ []) ms → ⊥
+    go [] heard = absurd heard
+    go (m ∷ ms) heard =
+        let opened = later in
+        let sent = heard.0.sent_for.after in
+        let came = heard.0.response.after in
+        absurd (omega (arith, opened, sent, came))
+
+-- the one ask before it
+abbrev is_ask : Deed → Bool
+is_ask (Asks c a) = true
+is_ask d = false
+
+pub other-query : OtherQuery
+other-query h =
+    let asks : h.request ≡ K.get_bright = sym (requests-same K.get_bright h.request (sense-same 800 800 0 0 (ask_for K.get_bright) _ h.asked.stands)) in
+    let three : length (request_message h.request 0 []).options ≡ 3 = subst (λ (q : CoapRequest). length (request_message q 0 []).options ≡ 3) (sym asks) refl in
+    let two : length (request_message h.other 0 []).options ≡ 2 = subst (λ (q : CoapRequest). length (request_message q 0 []).options ≡ 2) asked refl in
+    let same : length (request_message h.request 0 []).options ≡ length (request_message h.other 0 []).options = ap (λ (m : Content). length m.options) (h.same.2 0 []) in
+    absurd (omega (arith, three, two, same))
+  where
+    place : h.opening ≡ 1
+    place =
+        elim (or_cases (eqb h.opening 1) _ (places is_ask (entries K.other_query) (1 ∷ 5 ∷ []) 6 h.opening h.moment _ refl refl h.other_asked.stands refl)) [
+          | inl w ↦ eqb-same h.opening 1 w
+          | inr v ↦ elim (or_cases (eqb h.opening 5) false v) [
+            | inl w ↦ let five = eqb-same h.opening 5 w in let below = h.earlier in absurd (omega (arith, five, below))
+            | inr w ↦ absurd (false≢true w)
+          ]
+        ]
+
+    asked : M.get_light ≡ h.other
+    asked =
+        let it = subst (λ (o : ℕ). IsAsked (entries K.other_query) o h.conn h.moment (Requests h.other)) place h.other_asked in
+        requests-same M.get_light h.other (sense-same 0 h.moment 0 h.conn (ask_for M.get_light) _ it.stands)

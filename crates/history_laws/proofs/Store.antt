@@ -1,0 +1,157 @@
+-- The worked journals of what is stored.
+use Rattle.std.proofs.Common.{◌≡◌, ℕ, ◌≤◌, true, inl, inr, List, [], ◌∷◌, Some, is_some, refl, sym, ap, subst, ◌∙◌, arith, lit≤}
+use Rattle.std.specs.Prelude.{nat_lt, ◌+◌}
+use Rattle.std.specs.List.{Contains}
+use Rattle.std.proofs.lemmas.Bool.{false≢true}
+use Rattle.resp_cache.specs.Stored.{Stored, lifetime}
+use Rattle.ask_model.specs.Requests.{CoapRequest}
+use Rattle.history_laws.specs.Responses.{Response, response_of}
+use Rattle.history_laws.specs.Readings.{Noted, at}
+use Rattle.history_laws.specs.Progress.{Reply, numbers, Ending, Whole}
+use Rattle.history_laws.specs.Exchanges.{openings, End, end_of}
+use Rattle.history_laws.specs.Joining.{is_joinable}
+use Rattle.history_laws.specs.Storing.{IsStored}
+use Rattle.history_laws.specs.Justified.{Legal}
+use Rattle.history_laws.specs.Worked.{Holds, Refused}
+use Rattle.history_laws.specs.WorkedMessages.{get_light, all_answered}
+use Rattle.history_laws.specs.WorkedEndings.{non_message}
+use Rattle.history_laws.specs.WorkedCopies.{content_again}
+use Rattle.history_laws.specs.WorkedStore.{read_once, read_from_store, read_expired, kept_late, get_bright, get_json, other_query, other_accept, read_outdated, read_twice, read_older}
+use Rattle.history_laws.proofs.Elements.{contains-none, first-or-later}
+use Rattle.history_laws.proofs.Endings.{non-spelled}
+use Rattle.history_laws.proofs.Joining.{shared-is}
+use Rattle.history_laws.proofs.Messages.{legal-waiting}
+use Rattle.history_laws.proofs.Openings.{begun-listed}
+use Rattle.history_laws.proofs.Resting.{at-rest, may-come, some-is}
+use Rattle.history_laws.proofs.Wholes.{ends-one}
+
+legal-once : Legal read_once
+legal-once = (
+  (
+    legal-waiting.0.0,
+    lit≤ tt,
+    (may-come _ refl refl, lit≤ tt, refl, record { spelled = non-spelled; unheard = refl; remembered = refl; says = refl }),
+  ),
+  lit≤ tt,
+  (refl, refl, refl, (1, 3, _, _, refl, refl, refl), tt),
+)
+
+-- What may answer an ask was opened by one of the openings.
+opened-among : (l : List Noted) (q : CoapRequest) (o : ℕ) → is_joinable l q o ≡ true → Contains (openings l) o
+opened-among l q o may = begun-listed l o (ap is_some (shared-is l q o may).opened)
+
+opened-one : (l : List Noted) (q : CoapRequest) (n o : ℕ) → openings l ≡ n ∷ [] → is_joinable l q o ≡ true → n ≡ o
+opened-one l q n o one may =
+    elim (first-or-later n [] o (subst (λ (os : List ℕ). Contains os o) one (opened-among l q o may))) [
+      | inl w ↦ w
+      | inr w ↦ absurd (contains-none o w)
+    ]
+
+abbrev reply-of-once : Reply
+reply-of-once = record { number = 3; sending = 2; message = non_message }
+
+abbrev stored-once : Stored
+stored-once = record { response = response_of non_message; heard = 700; list = 3 ∷ [] }
+
+-- the one exchange of that journal ended so
+ends-once : (o e : ℕ) (how : Ending) → 1 ≡ o → end_of read_once o ≡ Some (record { number = e; how = how })
+    → (3 ≡ e) × (Whole (response_of non_message) (reply-of-once ∷ []) ≡ how)
+ends-once o e how one ended =
+    let same = some-is _ _ (subst (λ (o : ℕ). end_of read_once o ≡ Some (record { number = e; how = how })) (sym one) ended) in
+    (ap (λ (x : End). x.number) same, ap (λ (x : End). x.how) same)
+
+is-stored-once : IsStored read_once get_light stored-once
+is-stored-once =
+    record {
+      opening = 1;
+      ending = 3;
+      first = reply-of-once;
+      more = [];
+      ends = record { ended = refl; code = refl };
+      shared = refl;
+      latest = λ o e w rs it may.
+          let here = (ends-once o e (Whole w rs) (opened-one read_once get_light 1 o refl may) it.ended).0 in
+          omega (arith, here);
+      entry = _;
+      heard_in = refl;
+      heard = refl;
+      list = refl;
+    }
+
+pub read_from_store-holds : Holds read_from_store
+read_from_store-holds = (
+  (
+    (legal-once, lit≤ tt, (may-come _ refl refl, refl, refl, (stored-once, is-stored-once, refl, refl), tt)),
+    lit≤ tt,
+    (refl, refl, refl, (0, _, refl), tt),
+  ),
+  at-rest _ refl,
+)
+
+-- not so
+
+-- what that journal has stored
+only-stored : (q : CoapRequest) (s : Stored) → IsStored read_once q s → (s.heard ≡ 700) × (s.response ≡ response_of non_message)
+only-stored q s is =
+    let how = (ends-once is.opening is.ending _ (opened-one read_once q 1 is.opening refl is.shared) is.ends.ended).1 in
+    let first = first-of _ _ (replies-same _ _ _ _ how) in
+    let heard = some-is _ _ (subst (λ (n : ℕ). at read_once n ≡ Some is.entry) (sym (ap (λ (r : Reply). r.number) first)) is.heard_in) in
+    (is.heard ∙ sym (ap (λ (x : Noted). x.written.moment) heard), sym (response-same _ _ _ _ how))
+  where
+    replies-same : (v w : Response) (xs ys : List Reply) → Whole v xs ≡ Whole w ys → xs ≡ ys
+    replies-same v w xs ys e = cc
+
+    response-same : (v w : Response) (xs ys : List Reply) → Whole v xs ≡ Whole w ys → v ≡ w
+    response-same v w xs ys e = cc
+
+    first-of : (x y : Reply) {xs ys : List Reply} → x ∷ xs ≡ y ∷ ys → x ≡ y
+    first-of x y e = cc
+
+pub read_expired-refused : Refused read_expired
+read_expired-refused h =
+    let s : Stored = h.0.2.3.0 in
+    let it = only-stored get_light s h.0.2.3.1 in
+    let late : nat_lt 60700 (700 + lifetime (response_of non_message).max_age) ≡ true =
+    subst (λ (w : Response). nat_lt 60700 (700 + lifetime w.max_age) ≡ true) it.1
+    (subst (λ (n : ℕ). nat_lt 60700 (n + lifetime s.response.max_age) ≡ true) it.0 h.0.2.3.2) in
+    false≢true late
+
+pub kept_late-refused : Refused kept_late
+kept_late-refused h =
+    let moment : 60698 ≡ 60699 = ap (λ (x : Noted). x.written.moment) (some-is _ _ h.2.3.2) in
+    absurd (omega (arith, moment))
+
+-- no exchange of that journal may answer it
+pub other_query-refused : Refused other_query
+other_query-refused h = false≢true (subst (λ (o : ℕ). is_joinable read_once get_bright o ≡ true) (sym (opened-one read_once get_bright 1 _ refl h.2.3.1.shared)) h.2.3.1.shared)
+
+pub other_accept-refused : Refused other_accept
+other_accept-refused h = false≢true (subst (λ (o : ℕ). is_joinable read_once get_json o ≡ true) (sym (opened-one read_once get_json 1 _ refl h.2.3.1.shared)) h.2.3.1.shared)
+
+pub read_outdated-refused : Refused read_outdated
+read_outdated-refused h = by h.0.2.3.1.opening h.0.2.3.1.shared
+  where
+    by : (o : ℕ) → is_joinable all_answered get_light o ≡ true → ⊥
+    by o may =
+        elim (first-or-later 1 (4 ∷ []) o (opened-among all_answered get_light o may)) [
+          | inl w ↦ false≢true (subst (λ (o : ℕ). is_joinable all_answered get_light o ≡ true) (sym w) may)
+          | inr v ↦ elim (first-or-later 4 [] o v) [
+            | inl w ↦ false≢true (subst (λ (o : ℕ). is_joinable all_answered get_light o ≡ true) (sym w) may)
+            | inr w ↦ contains-none o w
+          ]
+        ]
+
+-- The later response to an equal GET is the latest.
+pub read_older-refused : Refused read_older
+read_older-refused h =
+    let s : Stored = h.2.3.0 in
+    let is : IsStored read_twice get_light s = h.2.3.1 in
+    let latest : 7 ≤ is.ending = is.latest 5 7 (response_of content_again) (record { number = 7; sending = 6; message = content_again } ∷ []) (record { ended = refl; code = refl }) refl in
+    let one = ends-one read_twice is.opening is.ending s.response (is.first ∷ is.more) is.ends.ended in
+    let numbered : numbers (one.reply ∷ []) ≡ 3 ∷ [] = sym (ap numbers one.alone) ∙ (sym is.list ∙ h.2.3.3) in
+    let number : one.reply.number ≡ 3 = first-number _ _ numbered in
+    let ending = one.number in
+    absurd (omega (arith, latest, number, ending))
+  where
+    first-number : (m n : ℕ) → m ∷ [] ≡ n ∷ [] → m ≡ n
+    first-number m n e = cc

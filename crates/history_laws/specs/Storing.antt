@@ -1,0 +1,87 @@
+-- Which response a store has for a GET (RFC 7252 section 5.6): the latest whole 2.05 to an equal one, to whose place
+-- no write has ended since that was asked for.
+use Rattle.std.specs.Prelude.{◌≡◌, ◌≢◌, ◌⊎◌, ℕ, ◌<◌, ◌≤◌, true, false, ◌==◌, List, [], ◌∷◌, length, Some, ⊤}
+use Rattle.std.specs.List.{AllByRecursion}
+use Rattle.limits.specs.declared.TheConstants.{MAX_STORED}
+use Rattle.cache_key.specs.Keys.{CacheKey}
+use Rattle.ask_model.specs.Requests.{CoapRequest, Requests}
+use Rattle.ask_model.specs.Sharing.{asked_key, is_get}
+use Rattle.ask_model.specs.Views.{Ask}
+use Rattle.journal_book.specs.Entries.{Asks}
+use Rattle.resp_cache.specs.Stored.{Stored, lifetime, is_fresh}
+use Rattle.history_laws.specs.Responses.{Response}
+use Rattle.history_laws.specs.Readings.{Noted, Serves, noted, at, before}
+use Rattle.history_laws.specs.Progress.{Reply, numbers, Whole}
+use Rattle.history_laws.specs.Exchanges.{begun, end_of}
+use Rattle.history_laws.specs.Joining.{outrun, is_joinable}
+
+-- 2.05 Content
+abbrev pub content : ℕ
+content = 69
+
+-- In this entry the exchange ended with such a response, which rests on these replies.
+pub record EndsSo (l : List Noted) (o e : ℕ) (w : Response) (rs : List Reply) : Type 0 where
+  pub ended : end_of l o ≡ Some (record { number = e; how = Whole w rs })
+  pub code : w.code ≡ content
+
+-- A GET may be answered with the response of the exchange: that was for an equal one, and no write to the place has
+-- ended since it was opened. None that may answer it came later. It counts from its first reply.
+pub record IsStored (l : List Noted) (q : CoapRequest) (s : Stored) : Type 0 where
+  pub opening : ℕ
+  pub ending : ℕ
+  pub first : Reply
+  pub more : List Reply
+  pub ends : EndsSo l opening ending s.response (first ∷ more)
+  pub shared : is_joinable l q opening ≡ true
+  pub latest : (o e : ℕ) (w : Response) (rs : List Reply) → EndsSo l o e w rs → is_joinable l q o ≡ true → e ≤ ending
+  pub entry : Noted
+  pub heard_in : at l first.number ≡ Some entry
+  pub heard : s.heard ≡ entry.written.moment
+  pub list : s.list ≡ numbers (first ∷ more)
+
+-- What is stored under a key is used when it is stored, and each time when it is served.
+pub record IsServing (l : List Noted) (n : ℕ) (key : CacheKey) : Type 0 where
+  pub moment : ℕ
+  pub conn : ℕ
+  pub ask : Ask
+  pub replies : List ℕ
+  pub stands : at l n ≡ Some (noted moment (Asks conn ask) (Serves replies))
+  pub request : CoapRequest
+  pub sense : ask.sense ≡ Requests request
+  pub is : asked_key request ≡ key
+
+-- Stored is what ends the exchange of a GET, while no write has outrun it, and is fresh for a while.
+pub record IsStoring (l : List Noted) (n : ℕ) (key : CacheKey) : Type 0 where
+  pub opening : ℕ
+  pub response : Response
+  pub replies : List Reply
+  pub ends : EndsSo l opening n response replies
+  pub since : ℕ
+  pub request : CoapRequest
+  pub opened : begun l opening ≡ Some (record { since = since; request = request })
+  pub get : is_get request ≡ true
+  pub is : asked_key request ≡ key
+  pub current : outrun (before l n) key.place opening ≡ false
+  pub lasts : (lifetime response.max_age == 0) ≡ false
+
+abbrev pub IsUse : List Noted → ℕ → CacheKey → Type 0
+IsUse l n key = IsServing l n key ⊎ IsStoring l n key
+
+-- The one was used since the other was last.
+abbrev pub IsUsedSince : List Noted → CacheKey → CacheKey → Type 0
+IsUsedSince l key other = (n : ℕ) × IsUse l n other × ((m : ℕ) → IsUse l m key → m < n)
+
+abbrev pub KeysDiffer : List CacheKey → Type 0
+KeysDiffer [] = ⊤
+KeysDiffer (k ∷ ks) = AllByRecursion (λ (j : CacheKey). k ≢ j) ks × KeysDiffer ks
+
+-- As many others as are stored were used since: it may be stored no more.
+pub record IsCrowdedOut (l : List Noted) (key : CacheKey) : Type 0 where
+  pub others : List CacheKey
+  pub many : MAX_STORED ≤ length others
+  pub differ : KeysDiffer others
+  pub since : AllByRecursion (IsUsedSince l key) others
+
+-- Only then is a GET not answered with what is stored for it and fresh.
+abbrev pub MissesAlone : List Noted → ℕ → CoapRequest → Type 0
+MissesAlone l t q = (s : Stored) → IsStored l q s → is_fresh t s ≡ true → IsCrowdedOut l (asked_key q)
