@@ -33,5 +33,5 @@ beside base asked path query = if names path query then hosted base (with_parts 
 -- what 2.01 says was created is hosted at the host and port that were asked
 abbrev pub located : Rules → Sense → Response → Option (List ℕ)
 located rules (Requests q) w =
-    if w.code == 65 then beside rules.base q.target (segments w.location_path) w.location_query else None
+    if w.code == 65 then beside rules.base q.target (segments w.location.path) w.location.query else None
 located rules (Refuses cause status) w = None

@@ -5,7 +5,6 @@ ghost use Rattle.std.specs.Str.{is_utf8};
 ghost use Rattle.http_mapping.specs.Means.{pair_of, only, content_type, cache_control, entity_tag, is_read, caching, value_if, retry_after, connection, content_length, closes as closing, seconds_left as left_of};
 ghost use Rattle.ask_model.specs.Causes.{cause_text};
 ghost use Rattle.ask_model.specs.Views.{came_of};
-ghost use Rattle.reply_reading.specs.Findings.{response_of};
 ghost use Rattle.http_mapping.specs.Located.{located};
 
 use crate::location::location_of;
@@ -75,7 +74,7 @@ pub fn add_content_type(
     fields: &mut Vec<Field>,
     response: &Response,
 ) -> Result<(), Memory>
-    ensures { OnOk result (map pair_of fields.new.items ≡ map pair_of fields.old.items ++ content_type (response_of response.now)) }
+    ensures { OnOk result (map pair_of fields.new.items ≡ map pair_of fields.old.items ++ content_type response.now) }
 {
     let body = response.body.as_slice();
     if body.is_empty() {
@@ -118,7 +117,7 @@ fn add_freshness(
     response: &Response,
     age: u64,
 ) -> Result<(), Memory>
-    ensures { OnOk result (map pair_of fields.new.items ≡ map pair_of fields.old.items ++ cache_control (response_of response.now) age) }
+    ensures { OnOk result (map pair_of fields.new.items ≡ map pair_of fields.old.items ++ cache_control response.now age) }
 {
     if response.code != CONTENT {
         return Ok(());
@@ -133,7 +132,7 @@ fn add_freshness(
 
 /// The whole seconds for which a response of that age, in milliseconds, stays fresh.
 fn seconds_left(response: &Response, age: u64) -> u64
-    ensures { result ≡ left_of (response_of response.now) age }
+    ensures { result ≡ left_of response.now age }
 {
     let fresh = 1000 * u64::from(response.max_age.unwrap_or(DEFAULT_MAX_AGE));
     fresh.saturating_sub(age) / 1000
@@ -141,7 +140,7 @@ fn seconds_left(response: &Response, age: u64) -> u64
 
 /// The entity tag, as HTTP writes it (RFC 9110, section 8.8.3).
 fn add_entity_tag(alloc: Global, fields: &mut Vec<Field>, response: &Response) -> Result<(), Memory>
-    ensures { OnOk result (map pair_of fields.new.items ≡ map pair_of fields.old.items ++ entity_tag (response_of response.now)) }
+    ensures { OnOk result (map pair_of fields.new.items ≡ map pair_of fields.old.items ++ entity_tag response.now) }
 {
     match &response.etag {
         Some(tag) if response.code == CONTENT => {
@@ -160,7 +159,7 @@ pub fn add_caching(
     response: &Response,
     age: u64,
 ) -> Result<(), Memory>
-    ensures { OnOk result (map pair_of fields.new.items ≡ map pair_of fields.old.items ++ caching (came_of came.now) (response_of response.now) age) }
+    ensures { OnOk result (map pair_of fields.new.items ≡ map pair_of fields.old.items ++ caching (came_of came.now) response.now age) }
 {
     if !is_read(came) {
         return Ok(());
@@ -188,7 +187,7 @@ pub fn add_location<R: Relation>(
     mapped: &Mapped<R>,
     response: &Response,
 ) -> Result<(), Memory>
-    ensures { OnOk result (map pair_of fields.new.items ≡ map pair_of fields.old.items ++ value_if (codes "Location") (located mapped.now.rules mapped.now.sense (response_of response.now))) }
+    ensures { OnOk result (map pair_of fields.new.items ≡ map pair_of fields.old.items ++ value_if (codes "Location") (located mapped.now.rules mapped.now.sense response.now)) }
 {
     if let Some(value) = location_of(alloc, mapped, response)? {
         fields.push(Field {
@@ -205,7 +204,7 @@ pub fn add_retry_after(
     fields: &mut Vec<Field>,
     response: &Response,
 ) -> Result<(), Memory>
-    ensures { OnOk result (map pair_of fields.new.items ≡ map pair_of fields.old.items ++ retry_after (response_of response.now)) }
+    ensures { OnOk result (map pair_of fields.new.items ≡ map pair_of fields.old.items ++ retry_after response.now) }
 {
     match response.max_age {
         Some(seconds) if response.code == UNAVAILABLE => {

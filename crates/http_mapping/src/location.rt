@@ -4,7 +4,6 @@ ghost use Rattle.std.specs.Prelude.{◌≡◌, IfOk, option_map, is_ok, true};
 ghost use Rattle.std.specs.List.{list_all};
 ghost use Rattle.std.specs.Str.{is_utf8};
 ghost use Rattle.uri_map.specs.Naming.{target_at};
-ghost use Rattle.reply_reading.specs.Findings.{response_of};
 ghost use Rattle.http_mapping.specs.Located as spec;
 
 use crate::fields::is_text;
@@ -27,13 +26,14 @@ pub fn location_of<R: Relation>(
     mapped: &Mapped<R>,
     response: &Response,
 ) -> Result<Option<Vec<u8>>, Memory>
-    ensures { IfOk result (λ o. option_map (λ v. v.items) o ≡ spec.located mapped.now.rules mapped.now.sense (response_of response.now)) }
+    ensures { IfOk result (λ o. option_map (λ v. v.items) o ≡ spec.located mapped.now.rules mapped.now.sense response.now) }
 {
     match mapped.meaning() {
         Meaning::Ask { target, .. } if response.code == CREATED => {
             let base = mapped.settings().base.as_bytes();
-            let path = segments(&response.location_path);
-            hosted_beside(alloc, base, target, path, &response.location_query)
+            let path = segments(response.location.path.as_slice());
+            let query = response.location.query.as_slice();
+            hosted_beside(alloc, base, target, path, query)
         }
         _ => Ok(None),
     }

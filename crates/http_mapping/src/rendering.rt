@@ -5,7 +5,7 @@ ghost use Rattle.http_edge.specs.Answers.{body_bytes};
 ghost use Rattle.ask_model.specs.Views.{came_of, sense_of};
 ghost use Rattle.journal_book.specs.Entries.{Fault};
 ghost use Rattle.ask_model.specs.declared.cause.Cause.{Cause as Causes};
-ghost use Rattle.reply_reading.specs.Findings.{response_of, Fits, Fails};
+ghost use Rattle.reply_reading.specs.Findings.{Fits, Fails};
 ghost use Rattle.transformers.specs.Keeps.{AllKeep, pair_of as forms_of};
 ghost use Rattle.http_mapping.specs.Means.{Means, MeansWhole, Shows, Tells, IsOwn, pair_of, last_reply as last_in, is_head as head, told_status, failure_status as failed};
 
@@ -123,7 +123,7 @@ fn show_whole<R: Relation>(
     age: u64,
 ) -> Result<HttpAnswer, Memory>
     requires keep { AllKeep R.holds R.takes bank.now.stored.items }
-    ensures means { IfOk result (λ a. MeansWhole (map forms_of bank.now.stored.items) R.holds R.takes mapped.now (response_of response.now) last age a) }
+    ensures means { IfOk result (λ a. MeansWhole (map forms_of bank.now.stored.items) R.holds R.takes mapped.now response.now last age a) }
     ensures digits { IfOk result (λ a. a.status < 1000) }
 {
     match showing_of(bank, mapped, response)? {
@@ -157,7 +157,7 @@ fn show<R: Relation>(
     body: &[u8],
     age: u64,
 ) -> Result<HttpAnswer, Memory>
-    ensures shows { IfOk result (λ a. Shows mapped.now (response_of response.now) (map pair_of fields.items) body.now age a) }
+    ensures shows { IfOk result (λ a. Shows mapped.now response.now (map pair_of fields.items) body.now age a) }
     ensures digits { IfOk result (λ a. a.status < 1000) }
 {
     let status = status_of(response.code, !response.body.as_slice().is_empty());

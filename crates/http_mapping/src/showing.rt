@@ -3,7 +3,6 @@
 ghost use Rattle.std.specs.Prelude.{◌≡◌, ◌==◌, length, map, false, Some, IfOk};
 ghost use Rattle.transformers.specs.Keeps.{AllKeep, pair_of};
 ghost use Rattle.ask_model.specs.Maps.{wanted_of};
-ghost use Rattle.reply_reading.specs.Findings.{response_of};
 ghost use Rattle.http_mapping.specs.Showings.{IsShowing};
 
 use crate::applying::{Made, applied};
@@ -31,7 +30,7 @@ pub fn showing_of<'a, R: Relation>(
     response: &Response,
 ) -> Result<Showing<'a>, Memory>
     requires keep { AllKeep R.holds R.takes bank.now.stored.items }
-    ensures { IfOk result (λ s. IsShowing (map pair_of bank.now.stored.items) R.holds R.takes mapped.now (response_of response.now) s) }
+    ensures { IfOk result (λ s. IsShowing (map pair_of bank.now.stored.items) R.holds R.takes mapped.now response.now s) }
 {
     if response.body.as_slice().is_empty() {
         return Ok(Showing::Same);
@@ -54,7 +53,7 @@ fn showing_along<'a, R: Relation>(
     requires filled { (length response.now.body == 0) ≡ false }
     requires has_format { response.now.format ≡ Some format }
     requires wanted { wanted_of mapped.now.rules mapped.now.came mapped.now.sense ≡ Some wanted.now }
-    ensures { IfOk result (λ s. IsShowing (map pair_of bank.now.stored.items) R.holds R.takes mapped.now (response_of response.now) s) }
+    ensures { IfOk result (λ s. IsShowing (map pair_of bank.now.stored.items) R.holds R.takes mapped.now response.now s) }
 {
     let to = Form::Media(wanted.media.copy()?);
     match applied(bank, &Form::Format(format), &to, response.body.as_slice())? {

@@ -5,7 +5,6 @@ use Rattle.ask_model.specs.declared.cause.Cause.{Cause}
 use Rattle.ask_model.specs.declared.cause.Cause.TheVariants.{NotUnderstood}
 use Rattle.journal_book.specs.Entries.{Grounds, Live, Kept, Fault}
 use Rattle.history_laws.specs.Responses.{Response}
-use Rattle.reply_reading.specs.declared.response.Response.{Response as RustResponse}
 use Rattle.reply_reading.specs.declared.finding.Outcome.{Outcome}
 use Rattle.reply_reading.specs.declared.finding.Outcome.TheVariants as O
 
@@ -14,19 +13,8 @@ pub data Told : Type 0 where
   Tells : (response : Response) → Told
   Fails : (cause : Cause) → Told
 
-abbrev pub response_of : RustResponse → Response
-response_of r = record {
-  code = r.code;
-  format = r.format;
-  etag = r.etag;
-  max_age = r.max_age;
-  location_path = r.location_path.items;
-  location_query = r.location_query.items;
-  body = r.body;
-}
-
 abbrev pub told_of : Outcome → Told
-told_of (O.Whole r) = Tells (response_of (arc_value r))
+told_of (O.Whole r) = Tells (arc_value r)
 told_of (O.Fault cause) = Fails cause
 
 pub record Found : Type 0 where

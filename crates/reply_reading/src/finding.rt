@@ -3,15 +3,16 @@
 ghost use Rattle.std.specs.Prelude.{◌≡◌, IfOk};
 ghost use Rattle.std.specs.Arc.{arc_value};
 ghost use Rattle.coap_codec.specs.Spelling.{content};
-ghost use Rattle.journal_book.specs.Entries.{Live, Fault};
+ghost use Rattle.journal_book.specs.Entries.{Live, Kept, Fault};
 ghost use Rattle.journal_book.specs.Views.{grounds_of};
 ghost use Rattle.history_laws.specs.Responses.{whole_in};
-ghost use Rattle.reply_reading.specs.Findings.{Tells, Fails, Fits, response_of, told_of, found_by};
+ghost use Rattle.reply_reading.specs.Findings.{Tells, Fails, Fits, told_of, found_by};
 
-use crate::response::{Response, is_whole, response_of};
+use crate::response::{is_whole, response_of};
 use ask_model::Cause;
 use coap_codec::Message;
 use journal_book::{Grounds, Numbers};
+use resp_cache::Response;
 use std::alloc::{AllocError, Global};
 use std::marker::Model;
 use std::sync::Arc;
@@ -65,14 +66,21 @@ impl Finding {
 
     /// A response that rests on the replies in these entries.
     pub fn whole(response: Arc<Response>, replies: Numbers) -> Finding
-        ensures { result ≡ record {
-          told = Tells (response_of (arc_value response));
-          grounds = Live replies;
-        } }
+        ensures { result ≡ record { told = Tells (arc_value response); grounds = Live replies } }
     {
         Finding {
             outcome: Outcome::Whole(response),
             grounds: Grounds::Live(replies),
+        }
+    }
+
+    /// A response that is stored, which rests on the replies in these entries.
+    pub fn kept(response: Arc<Response>, replies: Numbers) -> Finding
+        ensures { result ≡ record { told = Tells (arc_value response); grounds = Kept replies } }
+    {
+        Finding {
+            outcome: Outcome::Whole(response),
+            grounds: Grounds::Kept(replies),
         }
     }
 

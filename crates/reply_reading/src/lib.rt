@@ -11,4 +11,4 @@ mod reading;
 mod response;
 
 pub use finding::{Finding, Outcome, finding_of};
-pub use response::Response;
+pub use resp_cache::{Location, Response, Values};

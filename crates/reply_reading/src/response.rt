@@ -4,28 +4,12 @@ ghost use Rattle.std.specs.Prelude.{◌≡◌, IfOk, option_map};
 ghost use Rattle.coap_codec.specs.Spelling.{content};
 ghost use Rattle.coap_codec.specs.Values.{uint};
 ghost use Rattle.coap_codec.specs.Recognition.{value_of, values_of};
-ghost use Rattle.history_laws.specs.Responses.{is_whole, response_of as said_by};
-ghost use Rattle.reply_reading.specs.Findings.{response_of};
+ghost use Rattle.history_laws.specs.Responses.{is_whole, response_of};
 
 use crate::reading::{is_all, is_final, value_of};
 use coap_codec::{Bytes, Message, is_defined, is_forwardable, number, uint_of};
+use resp_cache::{Location, Response, Values};
 use std::alloc::{AllocError, Global};
-
-/// The whole response of a CoAP server (RFC 7252 section 5.10).
-#[derive(Drop)]
-pub struct Response {
-    pub code: u8,
-    /// its Content-Format
-    pub format: Option<u16>,
-    pub etag: Option<Bytes>,
-    /// in seconds
-    pub max_age: Option<u32>,
-    /// the values of its Location-Path options, of those that are defined
-    pub location_path: Vec<Bytes>,
-    /// the values of its Location-Query options, of those that are defined
-    pub location_query: Vec<Bytes>,
-    pub body: Bytes,
-}
 
 /// Whether the message, as the only reply to a request with this method, is a whole response.
 pub fn is_whole(method: u8, m: &Message) -> bool
@@ -65,8 +49,8 @@ fn etag_of(alloc: Global, m: &Message) -> Result<Option<Bytes>, AllocError>
 }
 
 /// Copies of the values of its options of this number that are defined, in order.
-fn copies_of(alloc: Global, m: &Message, number: u16) -> Result<Vec<Bytes>, AllocError>
-    ensures { IfOk result (λ v. v.items ≡ values_of number (content m.now)) }
+fn copies_of(alloc: Global, m: &Message, number: u16) -> Result<Values, AllocError>
+    ensures { IfOk result (λ v. v ≡ values_of number (content m.now)) }
 {
     let mut copies = Vec::new(alloc);
     'each: for o in &m.options {
@@ -75,7 +59,7 @@ fn copies_of(alloc: Global, m: &Message, number: u16) -> Result<Vec<Bytes>, Allo
             copies.push(value)?;
         }
     }
-    Ok(copies)
+    Ok(Values::of(copies))
 }
 
 /// Its payload.
@@ -87,18 +71,19 @@ fn body_of(m: Message) -> Bytes
 
 /// What the message says as a response. Its payload becomes the body and isn't copied.
 pub fn response_of(alloc: Global, m: Message) -> Result<Response, AllocError>
-    ensures { IfOk result (λ r. response_of r ≡ said_by (content m)) }
+    ensures { IfOk result (λ r. r ≡ response_of (content m)) }
 {
     let etag = etag_of(alloc, &m)?;
-    let location_path = copies_of(alloc, &m, number::LOCATION_PATH)?;
-    let location_query = copies_of(alloc, &m, number::LOCATION_QUERY)?;
+    let location = Location {
+        path: copies_of(alloc, &m, number::LOCATION_PATH)?,
+        query: copies_of(alloc, &m, number::LOCATION_QUERY)?,
+    };
     Ok(Response {
         code: m.code,
         format: format_of(&m),
         etag,
         max_age: max_age_of(&m),
-        location_path,
-        location_query,
+        location,
         body: body_of(m),
     })
 }

@@ -1,6 +1,5 @@
 use Rattle.std.proofs.Common.{◌∙◌, ap, rules}
 use Rattle.coap_codec.specs.Spelling.{content}
-use Rattle.reply_reading.specs.Findings.{response_of}
 use Rattle.reply_reading.proofs.Telling.{found-none, found-whole}
 use Rattle.reply_reading.proofs.finding.finding_of.Goals as goal
 
@@ -10,5 +9,5 @@ returns-then-not-is_whole c =
 
 pub returns : goal.returns
 returns c =
-    let said = ap response_of c.in_ok-response.ensures.ok ∙ c.in_ok-response_of.ensures in
+    let said = c.in_ok-response.ensures.ok ∙ c.in_ok-response_of.ensures in
     found-whole c.args.number c.args.method (content c.args.m) c.is_whole.result c.whole.result _ _ c.is_whole.ensures (search rules) c.whole.ensures said c.in_ok-replies.ensures
