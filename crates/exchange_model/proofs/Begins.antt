@@ -7,17 +7,17 @@ use Rattle.std.proofs.lemmas.Slice.Eq.{bytes_eq-Decides}
 use Rattle.std.proofs.lemmas.List.{map_push}
 use Rattle.std.proofs.lemmas.List.Elements.{Contains-push_cases}
 use Rattle.uri_map.specs.declared.peer.Peer.{Peer}
-use Rattle.journal_book.specs.Entries.{Asks, Written}
-use Rattle.history_laws.specs.Numbering.{token_number}
 use Rattle.message_layer.specs.Values.{LinkState}
 use Rattle.message_layer.specs.Sending.{waits, queued}
 use Rattle.message_layer.specs.declared.state.Waiting.{Waiting}
+use Rattle.ask_model.specs.Sharing.{asked_place}
+use Rattle.journal_book.specs.Entries.{Asks, Written}
+use Rattle.history_laws.specs.Numbering.{token_number}
 use Rattle.history_laws.specs.Readings.{Noted, Begins, noted}
 use Rattle.history_laws.specs.Transmissions.{FirstSending, firsts, bears_token}
 use Rattle.history_laws.specs.Exchanges.{openings, is_going, is_waiting, waiting}
-use Rattle.history_laws.specs.Exchanges as H
-use Rattle.ask_model.specs.Sharing.{asked_place}
 use Rattle.history_laws.specs.Justified.{Follows, AskNote}
+use Rattle.history_laws.specs.Exchanges as H
 use Rattle.history_laws.proofs.CallerLemmas.{all-more, all-push, at-new, contains-none, none-outran, entries-length, eqb-itself, filter-push, first-or-later, not-yet, opened-issued, opened-rank, rank-below, unbegun, waiting-all, waiting-goes}
 use Rattle.history_links.specs.Agrees.{Start, WaitIn, IsWaitingFor, Agrees}
 use Rattle.history_links.proofs.CallerLemmas.{ask-elsewhere, queued-agrees}
@@ -29,6 +29,7 @@ use Rattle.exchange_model.specs.Laws.{BeginsLeads}
 use Rattle.exchange_model.proofs.Lists.{all-both}
 use Rattle.exchange_model.proofs.Opened.{OpenIn, open-ones}
 use Rattle.exchange_model.proofs.Outrun.{current-still, none-ends}
+use Rattle.exchange_model.proofs.Stores.{store-still}
 use Rattle.exchange_model.proofs.Tables.{exchange-stays, all-links}
 use Rattle.exchange_model.proofs.Silent.{later-than, link-before, moment-now}
 
@@ -77,7 +78,7 @@ unborne token n e (f ∷ fs) a = by (bytes_eq f.message.token token) refl (unbor
     by false h ih = ih
 
 pub begins-leads : BeginsLeads
-begins-leads l t c a q token text word S b may who sense alone room spelled size number =
+begins-leads l t c a q token text word S b may who sense misses alone room spelled size number =
     let r = b.reads in
     let later = later-than l t S b in
     let x = noted t (Asks c a) (Begins q) in
@@ -86,7 +87,7 @@ begins-leads l t c a q token text word S b may who sense alone room spelled size
     let w = waits token text word in
     let here : length S.entries ≡ length l = ap length (sym r.entries_are) ∙ entries-length l in
     let note : AskNote l t a.sense (Begins q) = rw (sense) (refl, alone, room) in
-    let follows : Follows l t (Asks c a) (Begins q) = (may, who.open_now, who.idle, note) in
+    let follows : Follows l t (Asks c a) (Begins q) = (may, who.open_now, who.idle, note, rw (sense) misses) in
     let none = unbegun l (length l) r.legal (not-yet l) in
     let fresh : bears_token l token ≡ false = unborne token S.issued number (firsts l) r.tokens_are in
     let link = link-before l t S b in
@@ -125,6 +126,7 @@ begins-leads l t c a q token text word S b may who sense alone room spelled size
               ask = a;
               stands = at-new x l;
             }));
+        store_is = store-still x l (r.legal, later, follows) (λ o. refl) tt S.store r.store_is;
         tokens_are = all-more _ (λ (f : FirstSending). token_number f.message.token < S.issued + 1) (λ f h. omega (arith, h)) (firsts l) r.tokens_are;
         waiting_are = waits-with q.peer s S.links (S.exchanges ++ e ∷ [])
             (all-push (λ (y : Exchange). y.peer ≡ q.peer → WaitsUnder s.waiting y) S.exchanges e (all-more _ _ (λ y h at_q. old y h at_q) S.exchanges kept) (λ at_q. new))

@@ -1,5 +1,4 @@
 -- What an ask leaves.
-use Rattle.history_links.specs.Agrees.{Start}
 use Rattle.std.proofs.Common.{◌≡◌, ℕ, ◌+◌, Bool, true, false, cond, List, [], ◌∷◌, ◌++◌, length, map, Option, Some, None, refl, ap, ◌∙◌, arith, length-append}
 use Rattle.std.specs.Prelude.{is_none, option_map}
 use Rattle.std.specs.List.{AllByRecursion}
@@ -7,39 +6,48 @@ use Rattle.std.specs.Str.{bytes_eq}
 use Rattle.std.proofs.lemmas.Slice.Eq.{bytes_eq-Decides}
 use Rattle.std.proofs.lemmas.List.{map_push}
 use Rattle.uri_map.specs.declared.peer.Peer.{Peer}
-use Rattle.ask_model.specs.declared.cause.Cause.TheVariants as C
-use Rattle.ask_model.specs.Requests.{Sense}
-use Rattle.journal_book.specs.Entries.{Deed, Asks}
-use Rattle.history_laws.specs.Numbering.{token_number}
-use Rattle.history_laws.proofs.CallerLemmas.{all-more, rank-below}
 use Rattle.message_layer.specs.Values.{LinkState}
 use Rattle.message_layer.specs.Sending.{waits, queued, submitted}
 use Rattle.message_layer.specs.declared.state.Outstanding.{Outstanding}
 use Rattle.message_layer.specs.declared.state.Waiting.{Waiting}
-use Rattle.exchange_model.proofs.Opened.{OpenIn, open-ones}
+use Rattle.resp_cache.specs.Stored.{Stored}
+use Rattle.ask_model.specs.Requests.{Sense, CoapRequest}
+use Rattle.ask_model.specs.Views.{Ask}
+use Rattle.ask_model.specs.declared.cause.Cause.TheVariants as C
+use Rattle.journal_book.specs.Entries.{Deed, Asks}
+use Rattle.history_laws.specs.Numbering.{token_number}
+use Rattle.history_laws.proofs.CallerLemmas.{all-more, rank-below}
 use Rattle.exchange_model.specs.declared.kept.Exchange.{Exchange}
 use Rattle.exchange_model.specs.declared.kept.Reader.{Reader}
 use Rattle.exchange_model.specs.State.{PeerLink, State, link_of, with_link}
-use Rattle.exchange_model.specs.Reads.{ExchangeIn}
 use Rattle.exchange_model.specs.Steps.{exchange_for, begins, entered, given_out, is_under, went_out}
-use Rattle.exchange_model.specs.Calls.{asked_with, asked_by, refused, next}
-use Rattle.exchange_model.specs.Entering.{going_as, sent_as, first_deeds, in_turn, at_once, begun, entered_all, BeginsEnter, JoinsEnter, RefusalsEnter, BusyEnters}
+use Rattle.exchange_model.specs.Calls.{Numbers, served_in, IsAlone, asked_for, asked_with, asked_by, refused, next}
+use Rattle.exchange_model.specs.Entering.{going_as, sent_as, first_deeds, in_turn, at_once, begun, entered_all, BeginsEnter, ServedEnters, JoinsEnter, RefusalsEnter, BusyEnters}
+use Rattle.exchange_model.proofs.Opened.{OpenIn, open-ones}
 use Rattle.exchange_model.proofs.Entered.{put, next-put, turn_of, out-at}
 use Rattle.exchange_model.proofs.LinksHeard.{Turns, turns}
 
 pub refusals-enter : RefusalsEnter
 refusals-enter t c a n cause status S e = ap (λ (z : Sense). asked_by z t c a n S) e
 
+alone : (t c : ℕ) (a : Ask) (q : CoapRequest) (n : Numbers) (S : State) → IsAlone t q S
+    → asked_for (served_in q t S) t c a q n S ≡ asked_with None t c a q n S
+alone t c a q n S none = ap (λ (v : Option Stored). asked_for v t c a q n S) none.0 ∙ ap (λ (v : Option Exchange). asked_with v t c a q n S) none.1
+
+pub served-enters : ServedEnters
+served-enters t c a q n s S sense served =
+    ap (λ (z : Sense). asked_by z t c a n S) sense ∙ ap (λ (v : Option Stored). asked_for v t c a q n S) served
+
 pub busy-enters : BusyEnters
 busy-enters t c a q n S e none full =
     ap (λ (z : Sense). asked_by z t c a n S) e
-    ∙ (ap (λ (v : Option Exchange). asked_with v t c a q n S) none
+    ∙ (alone t c a q n S none
     ∙ ap (λ (b : Bool). cond b (next t q.peer (begins t c a q n.token n.text n.word S))
     (refused t c a C.Busy S)) full)
 
 pub joins-enter : JoinsEnter
-joins-enter t c a q n e S sense found =
-    ap (λ (z : Sense). asked_by z t c a n S) sense ∙ ap (λ (v : Option Exchange). asked_with v t c a q n S) found
+joins-enter t c a q n e S sense none found =
+    ap (λ (z : Sense). asked_by z t c a n S) sense ∙ ap (λ (v : Option Stored). asked_for v t c a q n S) none ∙ ap (λ (v : Option Exchange). asked_with v t c a q n S) found
 
 -- No exchange but the new one has its token.
 itself : (token : List ℕ) → bytes_eq token token ≡ true
@@ -87,7 +95,7 @@ opens-framed t p m (Some w) n es rs xs fs ys S = refl
 pub begins-enter : BeginsEnter
 begins-enter t c a q n S may drained numbered sense none place =
     ap (λ (z : Sense). asked_by z t c a n S) sense
-    ∙ (ap (λ (v : Option Exchange). asked_with v t c a q n S) none
+    ∙ (alone t c a q n S none
     ∙ (ap (λ (b : Bool). cond b (next t q.peer S1) (refused t c a C.Busy S)) place
     ∙ (next-put t q.peer s1 S.links S1 refl (out-at q.peer S.links drained.out)
     ∙ (ap (λ (x : Option Waiting). put t (first_deeds t q.peer s.last_mid x)

@@ -1,5 +1,5 @@
 -- The lemmas on a core's state and its steps that other crates cite. Declares nothing, and no other module of proofs/ can be named from outside.
-pub use Rattle.exchange_model.proofs.Begun.{begins-enter, busy-enters, joins-enter, not-under, refusals-enter}
+pub use Rattle.exchange_model.proofs.Begun.{begins-enter, busy-enters, joins-enter, not-under, refusals-enter, served-enters}
 pub use Rattle.exchange_model.proofs.ConnsTell.{conns-tell}
 pub use Rattle.exchange_model.proofs.Counting.{count-cons, one}
 pub use Rattle.exchange_model.proofs.Dropped.{dropped-stays, gone-tokens}
@@ -7,11 +7,10 @@ pub use Rattle.exchange_model.proofs.Due.{any-came, next-due}
 pub use Rattle.exchange_model.proofs.ToldAdds.{AreWaiting, for-served, kept-served, late-served, Served, still-waits}
 pub use Rattle.exchange_model.proofs.Entered.{entered-both, entries-more, sent-both}
 pub use Rattle.exchange_model.proofs.Grown.{asks-add, asks-answer, conns-both, hears-add, hears-answer, opens-add, opens-alone, ticks-add, ticks-answer}
-pub use Rattle.exchange_model.proofs.Heeded.{all-others, garbled-enters, message-enters}
+pub use Rattle.exchange_model.proofs.Heeded.{all-others, garbled-enters, message-enters, given-conns, next-conns}
 pub use Rattle.exchange_model.proofs.Heeding.{is-bytes}
 pub use Rattle.exchange_model.proofs.InRoom.{asks-in-room, fits-parts, hears-in-room, opens-in-room, shuts-in-room, start-in-room, ticks-in-room, ticks-promptly, within-limits}
-pub use Rattle.exchange_model.proofs.Heeded.{given-conns, next-conns}
-pub use Rattle.exchange_model.proofs.Known.{readers-known, readers-rise}
+pub use Rattle.exchange_model.proofs.Known.{readers-known, readers-rise, store-heard}
 pub use Rattle.exchange_model.proofs.Readers.{Apart}
 pub use Rattle.exchange_model.proofs.LinksTicked.{Few, few-copies}
 pub use Rattle.exchange_model.proofs.Lists.{all-map, all-mapped}

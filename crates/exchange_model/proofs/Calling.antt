@@ -8,29 +8,32 @@ use Rattle.coap_codec.specs.Spelling.{Content}
 use Rattle.coap_codec.specs.Reading.{message_at}
 use Rattle.coap_codec.specs.declared.fault.CodecFault.{CodecFault}
 use Rattle.uri_map.specs.declared.peer.Peer.{Peer}
+use Rattle.message_layer.specs.Hearing.{reset_for, replies, verdict_of}
+use Rattle.message_layer.specs.declared.state.Reply.{Reply}
+use Rattle.message_layer.specs.declared.verdict.News.{News}
+use Rattle.message_layer.specs.declared.verdict.Verdict.{Verdict}
+use Rattle.message_layer.specs.declared.state.Reply.TheVariants as R
+use Rattle.message_layer.specs.declared.verdict.News.TheVariants as N
+use Rattle.resp_cache.specs.Stored.{Stored}
+use Rattle.ask_model.specs.Sharing.{asked_key}
 use Rattle.ask_model.specs.declared.cause.Cause.{Cause}
-use Rattle.ask_model.specs.declared.cause.Cause.TheVariants as C
 use Rattle.ask_model.specs.Requests.{CoapRequest, Sense, Requests, Refuses}
 use Rattle.ask_model.specs.Views.{Ask}
 use Rattle.ask_model.specs.Sizes.{came_size}
+use Rattle.ask_model.specs.declared.cause.Cause.TheVariants as C
+use Rattle.journal_book.specs.Entries.{Kept, Live, Fault, grounds_size}
 use Rattle.history_laws.specs.Responses.{is_whole}
-use Rattle.journal_book.specs.Entries.{Live, Fault, grounds_size}
-use Rattle.message_layer.specs.Hearing.{reset_for, replies, verdict_of}
-use Rattle.message_layer.specs.declared.state.Reply.{Reply}
-use Rattle.message_layer.specs.declared.state.Reply.TheVariants as R
-use Rattle.message_layer.specs.declared.verdict.News.{News}
-use Rattle.message_layer.specs.declared.verdict.News.TheVariants as N
-use Rattle.message_layer.specs.declared.verdict.Verdict.{Verdict}
 use Rattle.history_laws.specs.Readings.{Noted}
-use Rattle.history_links.specs.Steps.{ended_token}
+use Rattle.exchange_model.specs.Steps.{method_in, recalls, joins, opens, asks, begins, hears, hears_nothing}
+use Rattle.exchange_model.specs.Calls.{served_in, serves, asked_for, joined, asked_with, Numbers, next, refused, has_place, asked_by, asked, given_back, grounds_by, takes_new, takes_by, repeats, resets, reads_so, heard, ended_by, grounds_of}
 use Rattle.exchange_model.specs.declared.kept.Conn.{Conn}
 use Rattle.exchange_model.specs.declared.kept.Exchange.{Exchange}
 use Rattle.exchange_model.specs.State.{State, link_of, pend}
 use Rattle.exchange_model.specs.Reads.{Reads}
-use Rattle.exchange_model.specs.Steps.{joins, opens, asks, begins, hears, hears_nothing}
 use Rattle.exchange_model.specs.Resting.{HasConn}
-use Rattle.exchange_model.specs.Calls.{joined, asked_with, Numbers, next, refused, has_place, asked_by, asked, given_back, grounds_by, takes_new, takes_by, repeats, resets, reads_so, heard, method_in, ended_by, grounds_of}
 use Rattle.exchange_model.specs.Room.{has_asked}
+use Rattle.exchange_model.proofs.Quiet.{served-stored}
+use Rattle.exchange_model.proofs.Known.{one-reply}
 use Rattle.exchange_model.proofs.Adding.{Adds, stays, both-add, at-most, counted, still-adds, given-adds, next-adds, answers-adds}
 use Rattle.exchange_model.proofs.ToldAdds.{for-adds, Served}
 use Rattle.exchange_model.proofs.Heeded.{given-conns, next-conns}
@@ -102,7 +105,7 @@ asked-adds l t c a n S r h has short = by a.sense
 
     by : (s : Sense) → Adds 3 (92144 + came_size a.came) S (asked_by s t c a n S)
     by (Refuses cause status) = turned_away cause
-    by (Requests q) = with (joined q S)
+    by (Requests q) = for (served_in q t S) refl
       where
         joining : (e : Exchange) → Adds 3 (92144 + came_size a.came) S (joins t c a e.opening S)
         joining e = at-most 2 (90064 + came_size a.came) 3 (92144 + came_size a.came) S
@@ -119,6 +122,21 @@ asked-adds l t c a n S r h has short = by a.sense
         with : (v : Option Exchange) → Adds 3 (92144 + came_size a.came) S (asked_with v t c a q n S)
         with (Some e) = joining e
         with None = place (has_place t q.peer S)
+
+        -- Of what is stored one reply is named.
+        serving : (s : Stored) → length s.list ≡ 1 → Adds 3 (92144 + came_size a.came) S (serves t c a q s S)
+        serving s one =
+            let S1 = recalls t c a (asked_key q) S in
+            at-most 2 (90064 + came_size a.came + 0) 3 (92144 + came_size a.came) S (serves t c a q s S)
+            (omega arith) (omega arith)
+            (both-add 2 (90064 + came_size a.came) 0 0 S S1 (serves t c a q s S)
+            (asks-counts l t c a S S1 r refl refl refl h)
+            (answers-adds t c (length S.entries) (Kept s.list) S1 h
+            (has-asked c (length S.entries) None S.conns has) (omega (arith, one))))
+
+        for : (v : Option Stored) → served_in q t S ≡ v → Adds 3 (92144 + came_size a.came) S (asked_for v t c a q n S)
+        for (Some s) is = serving s (one-reply l q s r.legal (served-stored l t q s S r is).0)
+        for None is = with (joined q S)
 
 -- A datagram, its ACK or RST, the next message, and an answer.
 

@@ -6,11 +6,12 @@ use Rattle.std.proofs.lemmas.Bool.{false≢true}
 use Rattle.uri_map.specs.declared.peer.Peer.{Peer}
 use Rattle.uri_map.specs.Peers.{same_peer}
 use Rattle.uri_map.proofs.CallerLemmas.{same_peer-itself}
-use Rattle.journal_book.specs.Entries.{Deed}
 use Rattle.message_layer.specs.Values.{LinkState}
 use Rattle.message_layer.specs.Sending.{first_sent, with_outstanding, next_by as call_next_by, submitted_by}
 use Rattle.message_layer.specs.declared.state.Outstanding.{Outstanding}
 use Rattle.message_layer.specs.declared.state.Waiting.{Waiting}
+use Rattle.resp_cache.specs.declared.pair.Pair.{Pair}
+use Rattle.journal_book.specs.Entries.{Deed}
 use Rattle.exchange_model.specs.declared.kept.Exchange.{Exchange}
 use Rattle.exchange_model.specs.State.{PeerLink, State, link_of, with_link}
 use Rattle.exchange_model.specs.Steps.{entered, given_out, went_out}
@@ -34,6 +35,11 @@ apart : (t : ℕ) (ds : List Deed) (es : List Exchange) (xs : List PeerLink) (S 
     → entered_all t ds (record S { exchanges = es; links = xs }) ≡ put t ds es xs S
 apart t [] es xs S = refl
 apart t (d ∷ ds) es xs S = apart t ds es xs (entered t d S)
+
+pub stored : (t : ℕ) (ds : List Deed) (store : List Pair) (S : State)
+    → entered_all t ds (record S { store = store }) ≡ (let S1 = entered_all t ds S in record S1 { store = store })
+stored t [] store S = refl
+stored t (d ∷ ds) store S = stored t ds store (entered t d S)
 
 pub entered-both : (t : ℕ) (ds fs : List Deed) (S : State)
     → entered_all t (ds ++ fs) S ≡ entered_all t fs (entered_all t ds S)

@@ -1,5 +1,5 @@
 -- The message that waits first goes out.
-use Rattle.std.proofs.Common.{◌≡◌, ℕ, zero, ◌+◌, ◌<◌, ◌⊎◌, inl, inr, Bool, true, false, not, cond, eqb, List, [], ◌∷◌, ◌++◌, length, map, Option, Some, refl, sym, ap, subst, ◌∙◌, arith}
+use Rattle.std.proofs.Common.{◌≡◌, ℕ, zero, ◌+◌, inl, inr, Bool, true, false, not, cond, eqb, List, [], ◌∷◌, ◌++◌, length, map, Option, Some, refl, sym, ap, subst, ◌∙◌, arith}
 use Rattle.std.specs.Prelude.{is_none}
 use Rattle.std.specs.List.{AllByRecursion, Contains}
 use Rattle.std.specs.Str.{bytes_eq}
@@ -11,15 +11,15 @@ use Rattle.coap_codec.specs.Spelling.{Content}
 use Rattle.uri_map.specs.declared.peer.Peer.{Peer}
 use Rattle.uri_map.specs.Peers.{same_peer}
 use Rattle.uri_map.proofs.CallerLemmas.{same_peer-same}
-use Rattle.journal_book.specs.Entries.{Sends, Written}
-use Rattle.history_laws.specs.Numbering.{token_number}
 use Rattle.message_layer.specs.Values.{LinkState}
 use Rattle.message_layer.specs.Sending.{first_sent, with_outstanding}
 use Rattle.message_layer.specs.declared.state.Waiting.{Waiting}
+use Rattle.ask_model.specs.Sharing.{asked_place}
+use Rattle.journal_book.specs.Entries.{Sends, Written}
+use Rattle.history_laws.specs.Numbering.{token_number}
 use Rattle.history_laws.specs.Readings.{Noted}
 use Rattle.history_laws.specs.Transmissions.{FirstSending, bears_token}
 use Rattle.history_laws.specs.Exchanges.{Begun, begun, goes_to, openings, is_going, is_waiting, waits_for, rank}
-use Rattle.ask_model.specs.Sharing.{asked_place}
 use Rattle.history_laws.specs.Joining.{outrun}
 use Rattle.history_laws.specs.Justified.{Legal}
 use Rattle.history_laws.proofs.CallerLemmas.{all-more, outrun-same, and-left, at-keeps, begun-keeps, contains-later, entries-length, eqb-itself, issued-same, rank-below, rank-keeps, replies-stay, waiting-goes}
@@ -34,6 +34,7 @@ use Rattle.exchange_model.proofs.Begins.{waits-with}
 use Rattle.exchange_model.proofs.Lists.{all-map, all-both}
 use Rattle.exchange_model.proofs.Opened.{cancel, OpenIn, one-rank, open-ones}
 use Rattle.exchange_model.proofs.Silent.{later-than, link-before, moment-now}
+use Rattle.exchange_model.proofs.Stores.{store-still}
 use Rattle.exchange_model.proofs.Tables.{given-agrees, exchange-stays, all-links}
 
 keys-kept : (token : List ℕ) (i : ℕ) (es : List Exchange) → map opening_of es ≡ map opening_of (map (went_out token i) es)
@@ -133,6 +134,7 @@ first-leads l t p w ws S b q small few free is =
           exchanges_are = subst (λ (k : ℕ). AllByRecursion (ExchangeIn b.reads.start n) (map (went_out w.token k) S.exchanges)) (sym here)
               (all-map (went_out w.token (length l)) (ExchangeIn b.reads.start n) S.exchanges
               (all-more _ _ (λ e h. mine l t p v.datagram (Some v.timeout) o m w r.legal made.2 made.3 made.4 e h.0.0 h.0.1 (first-waits e h.1) (bytes_eq e.token w.token) refl) S.exchanges kept));
+          store_is = store-still x l (r.legal, later, made.5.follows) (λ k. ends-sent l t p v.datagram (Some v.timeout) o m k) tt S.store r.store_is;
           tokens_are = (let less = rank-below l o _ r.legal made.3.opening (ap is_none (waiting-goes l p o made.2)) in let number = made.3.numbered in let issued = r.issued_are in let token = ap token_number made.4 in omega (arith, less, number, issued, token), r.tokens_are);
           waiting_are = waits-with p s S.links (map (went_out w.token (length S.entries)) S.exchanges)
               (all-map (went_out w.token (length S.entries)) _ S.exchanges (all-more _ _ (λ e h. fewer e h (is_under w.token e)) S.exchanges r.waiting_are))

@@ -1,31 +1,32 @@
 -- Each call adds to the journal, and the connections follow.
 use Rattle.std.proofs.Common.{◌≡◌, ◌⊎◌, inl, inr, ℕ, ◌+◌, Bool, true, false, cond, List, [], ◌∷◌, ◌++◌, length, Option, Some, None, Result, Ok, Err, refl, sym, ap, ◌∙◌, subst, arith, length-append}
 use Rattle.std.specs.Prelude.{◌&&◌, fold, filter, map, is_some, nat_le, ⊤}
-use Rattle.std.specs.List.{AllByRecursion, list_any}
+use Rattle.std.specs.List.{AllByRecursion}
 use Rattle.std.proofs.lemmas.List.{append-nil, append_assoc, append_cancel_left}
-use Rattle.history_laws.proofs.CallerLemmas.{all-more}
 use Rattle.coap_codec.specs.Spelling.{Content}
 use Rattle.coap_codec.specs.Reading.{message_at}
 use Rattle.coap_codec.specs.declared.fault.CodecFault.{CodecFault}
 use Rattle.uri_map.specs.declared.peer.Peer.{Peer}
-use Rattle.ask_model.specs.declared.cause.Cause.{Cause}
-use Rattle.ask_model.specs.declared.cause.Cause.TheVariants as C
-use Rattle.ask_model.specs.Requests.{CoapRequest, Sense, Requests, Refuses}
-use Rattle.ask_model.specs.Views.{Ask}
-use Rattle.journal_book.specs.Entries.{Grounds, Fault, Deed, Opens, Asks, Sends, Hears, Passes, Answers, Shuts, Seals, Written}
 use Rattle.message_layer.specs.Hearing.{replies, reset_for, verdict_of}
 use Rattle.message_layer.specs.declared.state.Outstanding.{Outstanding}
 use Rattle.message_layer.specs.declared.state.Waiting.{Waiting}
 use Rattle.message_layer.specs.declared.verdict.News.{News}
-use Rattle.message_layer.specs.declared.verdict.News.TheVariants as N
 use Rattle.message_layer.specs.declared.verdict.Verdict.{Verdict}
-use Rattle.history_links.specs.Steps.{ended_token}
+use Rattle.message_layer.specs.declared.verdict.News.TheVariants as N
+use Rattle.resp_cache.specs.Stored.{Stored}
+use Rattle.ask_model.specs.Sharing.{asked_key}
+use Rattle.ask_model.specs.declared.cause.Cause.{Cause}
+use Rattle.ask_model.specs.Requests.{CoapRequest, Sense, Requests, Refuses}
+use Rattle.ask_model.specs.Views.{Ask}
+use Rattle.ask_model.specs.declared.cause.Cause.TheVariants as C
+use Rattle.journal_book.specs.Entries.{Kept, Grounds, Fault, Deed, Opens, Asks, Sends, Hears, Passes, Answers, Shuts, Seals, Written}
+use Rattle.history_laws.proofs.CallerLemmas.{all-more}
+use Rattle.exchange_model.specs.Steps.{recalls, joins, opens, asks, shuts, seals, begins, hears, hears_nothing, sends_first, sends_copy, is_past, passes, timed_out}
+use Rattle.exchange_model.specs.Calls.{served_in, serves, asked_for, joined, asked_with, Numbers, next_by, next, refused, has_place, asked_by, asked, given_back, Telling, tells, told_for, told_late, takes_new, takes_by, repeats, resets, reads_so, heard, is_due, moves_by, moves, move_all, peer_of, something_due, ticked, ended_by, grounds_of}
 use Rattle.exchange_model.specs.declared.kept.Conn.{Conn}
 use Rattle.exchange_model.specs.declared.kept.Exchange.{Exchange}
 use Rattle.exchange_model.specs.State.{State, link_of, conns_after}
-use Rattle.exchange_model.specs.Steps.{joins, opens, asks, answers, shuts, seals, begins, hears, hears_nothing, sends_first, sends_copy, is_past, passes, timed_out}
 use Rattle.exchange_model.specs.Entering.{answer_of}
-use Rattle.exchange_model.specs.Calls.{joined, asked_with, Numbers, next_by, next, refused, has_place, asked_by, asked, given_back, Telling, tells, told_for, told_late, takes_new, takes_by, repeats, resets, reads_so, heard, is_due, moves_by, moves, move_all, peer_of, something_due, ticked, ended_by, grounds_of}
 use Rattle.exchange_model.specs.Room.{fits}
 use Rattle.exchange_model.specs.Sealing.{in_room, if_unsealed, opens_in_room, asks_in_room, hears_in_room, late, ticks_in_room}
 use Rattle.exchange_model.specs.Growing.{conns_with, Adds, OpensAdd, ShutsAdd, SealsAdd, AsksAdd, HearsAdd, LateAdds, TicksAdd, at_moment, OpensAlone, IsOfAsk, AsksAnswer, by_client, HearsAnswer, TicksAnswer}
@@ -150,13 +151,21 @@ asked-such t c a n S = by (IsOfAsk (length S.entries) c a) (refl, refl) (λ g. (
 
         sense : (s : Sense) → Such t P S (asked_by s t c a n S)
         sense (Refuses cause status) = turned_away cause
-        sense (Requests q) = with (joined q S)
+        sense (Requests q) = for (served_in q t S)
           where
             with : (v : Option Exchange) → Such t P S (asked_with v t c a q n S)
             with (Some e) = one t P (Asks c a) S (joins t c a e.opening S) refl refl ask
             with None = either t P (has_place t q.peer S)
                 S (next t q.peer (begins t c a q n.token n.text n.word S)) (refused t c a C.Busy S)
                 (begun q) (turned_away C.Busy)
+
+            for : (v : Option Stored) → Such t P S (asked_for v t c a q n S)
+            for (Some s) =
+                both t P S (recalls t c a (asked_key q) S) (serves t c a q s S)
+                (one t P (Asks c a) S (recalls t c a (asked_key q) S) refl refl ask)
+                (one t P (Answers c (length S.entries) (Kept s.list)) (recalls t c a (asked_key q) S)
+                (serves t c a q s S) refl refl (answer (Kept s.list)))
+            for None = with (joined q S)
 
 asks-such : (t c : ℕ) (a : Ask) (n : Numbers) (S : State)
     → Such t (IsOfAsk (length S.entries) c a) S (asks_in_room t c a n S)

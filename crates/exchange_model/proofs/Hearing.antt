@@ -1,5 +1,5 @@
 -- A message that is new ends the exchange that it answers.
-use Rattle.std.proofs.Common.{◌≡◌, ℕ, zero, ◌⊎◌, ◌+◌, arith, inl, inr, Bool, true, false, cond, eqb, List, [], ◌∷◌, ◌++◌, length, map, Option, Some, None, refl, sym, ap, subst, ◌∙◌}
+use Rattle.std.proofs.Common.{◌≡◌, ℕ, zero, ◌⊎◌, arith, inl, inr, Bool, true, false, cond, eqb, List, [], ◌∷◌, map, Option, Some, None, refl, sym, ap, subst, ◌∙◌}
 use Rattle.std.specs.Prelude.{filter, find, is_some, option_to_list, not, ◌&&◌, ◌||◌}
 use Rattle.std.specs.List.{AllByRecursion, Contains, list_any, filter_map, cons_option}
 use Rattle.std.specs.Str.{bytes_eq}
@@ -10,34 +10,28 @@ use Rattle.std.proofs.lemmas.List.Elements.{filter_agree}
 use Rattle.coap_codec.specs.Spelling.{Content}
 use Rattle.uri_map.specs.declared.peer.Peer.{Peer}
 use Rattle.uri_map.specs.Peers.{same_peer}
-use Rattle.uri_map.proofs.CallerLemmas.{same_peer-same}
-use Rattle.journal_book.specs.Entries.{Hears, Written}
 use Rattle.message_layer.specs.Values.{LinkState}
 use Rattle.message_layer.specs.Hearing.{verdict_of}
+use Rattle.ask_model.specs.Sharing.{asked_place}
 use Rattle.history_laws.specs.Readings.{Noted}
 use Rattle.history_laws.specs.Transmissions.{FirstSending, firsts, first_at, bears_token}
 use Rattle.history_laws.specs.Exchanges.{begun, openings, is_going, open_exchanges, waits_for, awaited}
 use Rattle.history_laws.specs.Hearing.{went_under, answers}
-use Rattle.ask_model.specs.Sharing.{asked_place}
 use Rattle.history_laws.specs.Joining.{outrun}
 use Rattle.history_laws.specs.Numbering.{token_number}
-use Rattle.history_laws.specs.Justified.{Follows, Legal}
-use Rattle.history_laws.proofs.CallerLemmas.{all-filter, all-more, all-of, all-passes, any-find, any-of, begun-listed, contains-none, find-some, first-or-later, entries-length, eqb-itself, filter-by, issued-same, some-is}
+use Rattle.history_laws.specs.Justified.{Legal}
+use Rattle.history_laws.proofs.CallerLemmas.{all-more, all-of, any-find, any-of, begun-listed, contains-none, find-some, first-or-later, eqb-itself, filter-by, some-is}
 use Rattle.history_links.specs.Agrees.{Start, Agrees}
-use Rattle.history_links.specs.Steps.{ended_token, heard_link, heard}
-use Rattle.history_links.proofs.CallerLemmas.{ends_what, going-after, hit, is_ended, judge, Judged, one-token, says-agrees, says-elsewhere, says-quiet, waits-after}
+use Rattle.history_links.specs.Steps.{ended_token, heard}
+use Rattle.history_links.proofs.CallerLemmas.{ends_what, going-after, hit, is_ended, Judged, one-token, waits-after}
 use Rattle.exchange_model.specs.declared.kept.Exchange.{Exchange}
-use Rattle.exchange_model.specs.State.{State, link_of, with_link}
-use Rattle.exchange_model.specs.Reads.{IsSentUnder, ExchangeIn, WaitsUnder, Reads, opening_of}
-use Rattle.exchange_model.specs.Steps.{is_under, is_other, ended_in, outrun_by}
-use Rattle.exchange_model.specs.Laws.{HearsLeads}
-use Rattle.exchange_model.proofs.Begins.{waits-with}
+use Rattle.exchange_model.specs.State.{State, link_of}
+use Rattle.exchange_model.specs.Reads.{IsSentUnder, ExchangeIn, Reads, opening_of}
+use Rattle.exchange_model.specs.Steps.{is_under, is_other, ended_in}
 use Rattle.exchange_model.proofs.Borne.{IsBorne, ended-borne, answers-peer}
-use Rattle.exchange_model.proofs.Lists.{all-both}
 use Rattle.exchange_model.proofs.Opened.{cancel, OpenIn, one-rank, open-ones}
-use Rattle.exchange_model.proofs.Outrun.{EndsThose, left-all, left-each, left-openings, current-now}
-use Rattle.exchange_model.proofs.Silent.{now-from, later-than, link-before, moment-now}
-use Rattle.exchange_model.proofs.Tables.{exchange-stays, all-links}
+use Rattle.exchange_model.proofs.Outrun.{EndsThose}
+use Rattle.exchange_model.proofs.Tables.{exchange-stays}
 
 -- lists
 
@@ -172,7 +166,7 @@ stay-waiting : (b : Bool) (v : Option ℕ) → b ≡ false → cond b None v ≡
 stay-waiting true v e = absurd (false≢true (sym e))
 stay-waiting false v e = refl
 
-kept-one : {start : Start} (l : List Noted) (t : ℕ) (p : Peer) (s : LinkState) (d : List ℕ) (m : Content) → Legal l → Agrees start l p s → Judged l p s m (answers l p m) (verdict_of t s m)
+pub kept-one : {start : Start} (l : List Noted) (t : ℕ) (p : Peer) (s : LinkState) (d : List ℕ) (m : Content) → Legal l → Agrees start l p s → Judged l p s m (answers l p m) (verdict_of t s m)
     → (e : Exchange) (b : Bool) → (a : ExchangeIn start l e) → is_other (ended_token (verdict_of t s m).news m.token) e ≡ true
     → b ≡ not (outrun (heard l t p d m ∷ l) (asked_place a.request) e.opening) → ExchangeIn start (heard l t p d m ∷ l) (record e { current = b })
 kept-one l t p s d m legal agrees judged e b a other current =
@@ -180,7 +174,7 @@ kept-one l t p s d m legal agrees judged e b a other current =
     (ends-kept l t p s m legal agrees judged e a e.sending refl a.sending a.sent ∙ other)) in
     exchange-stays (heard l t p d m) l e b (λ k. k) (waits-after l t p d m (answers l p m) e.opening ∙ stay-waiting (hit (answers l p m) m (waits_for l e.opening)) (waits_for l e.opening) stays) a current
 
-open-after : {start : Start} (l : List Noted) (t : ℕ) (p : Peer) (s : LinkState) (d : List ℕ) (m : Content) (es : List Exchange) → Legal l → Agrees start l p s → Judged l p s m (answers l p m) (verdict_of t s m)
+pub open-after : {start : Start} (l : List Noted) (t : ℕ) (p : Peer) (s : LinkState) (d : List ℕ) (m : Content) (es : List Exchange) → Legal l → Agrees start l p s → Judged l p s m (answers l p m) (verdict_of t s m)
     → AllByRecursion (ExchangeIn start l) es → open_exchanges l ≡ map opening_of es
     → open_exchanges (heard l t p d m ∷ l) ≡ map opening_of (filter (is_other (ended_token (verdict_of t s m).news m.token)) es)
 open-after {start = start} l t p s d m es legal agrees judged kept keys =
@@ -205,7 +199,7 @@ going-kept l t p s d m legal agrees judged e a =
     and-true true = refl
     and-true false = refl
 
-hears-ends : (l : List Noted) (t : ℕ) (p : Peer) (d : List ℕ) (m : Content) (S : State) (r : Reads l S) → Judged l p (link_of S.links p) m (answers l p m) (verdict_of t (link_of S.links p) m)
+pub hears-ends : (l : List Noted) (t : ℕ) (p : Peer) (d : List ℕ) (m : Content) (S : State) (r : Reads l S) → Judged l p (link_of S.links p) m (answers l p m) (verdict_of t (link_of S.links p) m)
     → EndsThose (heard l t p d m) l S (option_to_list (ended_in (ended_token (verdict_of t (link_of S.links p) m).news m.token) S.exchanges))
 hears-ends l t p d m S r judged = of (ended_token (verdict_of t (link_of S.links p) m).news m.token) refl
   where
@@ -248,50 +242,3 @@ hears-ends l t p d m S r judged = of (ended_token (verdict_of t (link_of S.links
                 let its = open_in g it.0 in
                 let tokens : g.token ≡ f.token = (bytes_eq-Decides g.token token).0 it.1 ∙ sym ((bytes_eq-Decides f.token token).0 same_token) in
                 one-rank l g.opening f.opening _ _ r.legal its.0.opening mine.0.opening its.1 mine.1 (cancel r.start.issued _ _ (its.0.number ∙ (ap token_number tokens ∙ sym mine.0.number)))
-
-pub hears-leads : HearsLeads
-hears-leads l t p d m S h spelled none room =
-    let b = h.before in
-    let r = b.reads in
-    let later = later-than l t S b in
-    let link = link-before l t S b in
-    let s = link_of S.links p in
-    let x = heard l t p d m in
-    let judged = judge l t p s m m.kind (now-from l t S b) r.legal (r.links_are p) refl none room in
-    let said = says-agrees _ l t p s d m (link p) none room in
-    let follows : Follows l t x.written.deed x.note = (h.come, h.short, h.known, record { spelled = spelled; unheard = none; remembered = room; says = refl }) in
-    let new = heard_link t m.mid m.token (verdict_of t s m) s in
-    let other = is_other (ended_token (verdict_of t s m).news m.token) in
-    let over = option_to_list (ended_in (ended_token (verdict_of t s m).news m.token) S.exchanges) in
-    let here : length S.entries ≡ length l = ap length (sym r.entries_are) ∙ entries-length l in
-    record {
-      leads = record {
-        follows = follows;
-        reads = record {
-          start = r.start;
-          few = r.few;
-          entries_are = ap (λ (es : List Written). es ++ record { moment = t; deed = Hears p d } ∷ []) r.entries_are;
-          legal = (r.legal, later, follows);
-          sealed_is = r.sealed_is;
-          moment_is = moment-now l t S b;
-          opened_are = r.opened_are;
-          opens_are = r.opens_are;
-          issued_are = ap (λ (k : ℕ). r.start.issued + k) (issued-same x l refl (says-quiet l t p d m (answers l p m))) ∙ r.issued_are;
-          conns_are = r.conns_are;
-          readers_are = r.readers_are;
-          keys = open-after l t p s d m S.exchanges r.legal (r.links_are p) judged r.exchanges_are r.keys ∙ sym (left-openings S.entries over (filter other S.exchanges));
-          exchanges_are = left-each (ExchangeIn r.start (x ∷ l)) (λ (e : Exchange). ExchangeIn r.start l e × (other e ≡ true)) S.entries over
-              (λ e a. kept-one l t p s d m r.legal (r.links_are p) judged e (outrun_by S.entries over e).current a.0 a.1
-              (current-now x l S r over (hears-ends l t p d m S r judged) (r.legal, later, follows) e a.0)) (filter other S.exchanges)
-              (all-both (ExchangeIn r.start l) (λ (e : Exchange). other e ≡ true) (filter other S.exchanges) (all-filter (ExchangeIn r.start l) other S.exchanges r.exchanges_are) (all-passes other S.exchanges));
-          tokens_are = r.tokens_are;
-          waiting_are = left-all (λ (e : Exchange). WaitsUnder (link_of (with_link p new S.links) e.peer).waiting e) (λ e k. k) S.entries over (filter other S.exchanges) (waits-with p new S.links (filter other S.exchanges)
-              (all-more _ _ (λ e k at_p. subst (λ (q : Peer). WaitsUnder (link_of S.links q).waiting e) at_p k) (filter other S.exchanges) (all-filter (λ (e : Exchange). WaitsUnder (link_of S.links e.peer).waiting e) other S.exchanges r.waiting_are))
-              (all-filter (λ (e : Exchange). WaitsUnder (link_of S.links e.peer).waiting e) other S.exchanges r.waiting_are));
-          links_are = all-links (λ (q : Peer) (v : LinkState). Agrees h.before.reads.start (x ∷ l) q v) p new S.links said.agrees
-              (λ q away. says-elsewhere _ l t q p (link_of S.links q) d m (answers l p m) (link q) away
-              (λ i f to first. subst (λ (k : Peer). same_peer k q ≡ false) (sym (same_peer-same f.peer p (answers-peer l p m i f to first))) away));
-        };
-      };
-      owes = said.owes;
-    }

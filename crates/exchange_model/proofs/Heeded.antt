@@ -1,7 +1,6 @@
 -- What a datagram leaves.
 use Rattle.std.proofs.Common.{◌≡◌, ℕ, ◌⊎◌, inl, inr, ◌+◌, Bool, true, false, cond, leb, List, [], ◌∷◌, ◌++◌, length, map, Option, Some, None, Result, Ok, Err, refl, sym, ap, ◌∙◌, arith, append_assoc, append-nil}
 use Rattle.std.specs.Prelude.{filter, fold, option_to_list, is_none, ◌&&◌}
-use Rattle.std.specs.List.{list_any}
 use Rattle.std.proofs.lemmas.Bool.{le-leb}
 use Rattle.std.proofs.lemmas.List.{length-map}
 use Rattle.limits.specs.declared.TheConstants.{MAX_DATAGRAM_LEN}
@@ -9,23 +8,24 @@ use Rattle.coap_codec.specs.Spelling.{Content}
 use Rattle.coap_codec.specs.Reading.{message_at}
 use Rattle.coap_codec.specs.declared.fault.CodecFault.{CodecFault}
 use Rattle.uri_map.specs.declared.peer.Peer.{Peer}
-use Rattle.journal_book.specs.Entries.{Grounds, Deed, Hears, Answers}
 use Rattle.message_layer.specs.Values.{LinkState}
 use Rattle.message_layer.specs.Hearing.{replies, reset_for, verdict_of, applied}
 use Rattle.message_layer.specs.declared.state.Outstanding.{Outstanding}
-use Rattle.message_layer.specs.declared.state.Reply.TheVariants as R
 use Rattle.message_layer.specs.declared.state.Waiting.{Waiting}
 use Rattle.message_layer.specs.declared.verdict.News.{News}
-use Rattle.message_layer.specs.declared.verdict.News.TheVariants as N
 use Rattle.message_layer.specs.declared.verdict.Verdict.{Verdict}
+use Rattle.message_layer.specs.declared.state.Reply.TheVariants as R
+use Rattle.message_layer.specs.declared.verdict.News.TheVariants as N
+use Rattle.resp_cache.specs.declared.pair.Pair.{Pair}
+use Rattle.journal_book.specs.Entries.{Grounds, Deed, Hears}
 use Rattle.history_links.specs.Steps.{ended_token, heard_link}
+use Rattle.exchange_model.specs.Steps.{content_at, settled, left_by, given_out, hears, hears_nothing, confirms, is_other, ended_in}
+use Rattle.exchange_model.specs.Calls.{Outcome, outcome_of, next_by, next, given_back, Telling, tells, told_for, takes_new, takes_by, repeats, resets, reads_so, heard, grounds_of}
 use Rattle.exchange_model.specs.declared.kept.Exchange.{Exchange}
 use Rattle.exchange_model.specs.State.{PeerLink, State, link_of, with_link}
-use Rattle.exchange_model.specs.Steps.{left_by, given_out, answers, hears, hears_nothing, confirms, is_other, ended_in}
-use Rattle.exchange_model.specs.Calls.{next_by, next, given_back, Telling, tells, told_for, takes_new, takes_by, repeats, resets, reads_so, heard, grounds_of}
 use Rattle.exchange_model.specs.Entering.{awaits_no_more, going_as, sent_as, first_deeds, in_turn, answer_of, confirm, heeded, garbled, IsMid, Comes, MessageEnters, GarbledEnters}
+use Rattle.exchange_model.proofs.Entered.{stored, put, after, next-put, entries-more, link-there, out-at, given-itself}
 use Rattle.exchange_model.proofs.Outrun.{none-left}
-use Rattle.exchange_model.proofs.Entered.{put, after, next-put, entries-more, link-there, out-at, given-itself}
 use Rattle.exchange_model.proofs.Idle.{repeat-idle}
 use Rattle.exchange_model.proofs.LinksHeard.{turned, Turns, turns, links-given, without-is, heard-turned, new-unborne}
 
@@ -64,10 +64,11 @@ turn-ended false None ws h = ap (in_turn true) h
 
 new-heeded : (t : ℕ) (p : Peer) (d : List ℕ) (m : Content) (S : State) → Comes t p d S
     → let v = verdict_of t (link_of S.links p) m in takes_new t p d m v S
-    ≡ heeded t p d m.mid m.token v (grounds_of v m S) S
+    ≡ heeded t p d m.mid m.token v (outcome_of v m S) S
 new-heeded t p d m S come =
-    after t (H ++ F) G es2 es2 xs2 xs2 S C (fold (tells t) C (told_for ends g S.readers)) whole told
-    ∙ ap (λ (ds : List Deed). put t (Hears p d ∷ ds) es2 xs2 S) (append_assoc R F G)
+    after t (H ++ F) G es2 es2 xs2 xs2 K C (fold (tells t) C (told_for ends g S.readers)) whole told
+    ∙ (ap (λ (ds : List Deed). put t (Hears p d ∷ ds) es2 xs2 K) (append_assoc R F G)
+    ∙ ap (λ (U : State). record U { exchanges = es2; links = xs2 }) (stored t (Hears p d ∷ (R ++ (F ++ G))) st S))
   where
     s : LinkState
     s = link_of S.links p
@@ -89,6 +90,13 @@ new-heeded t p d m S come =
 
     up : Option Waiting
     up = in_turn v.ends s.waiting
+
+    st : List Pair
+    st = settled S.entries ends (content_at t (length S.entries) (outcome_of v m S).whole) S.store
+
+    -- the state with what is stored after it
+    K : State
+    K = record S { store = st }
 
     A : State
     A = hears t p d m S
@@ -129,14 +137,14 @@ new-heeded t p d m S come =
     rest : Turns s.outstanding s.waiting
     rest = turns _ s.outstanding s.waiting (come.may.kept.rests.links p)
 
-    replied : B ≡ put t H es1 xs1 S
-    replied = after t (Hears p d ∷ []) R es1 es1 xs1 xs1 S A B refl
+    replied : B ≡ put t H es1 xs1 K
+    replied = after t (Hears p d ∷ []) R es1 es1 xs1 xs1 K A B refl
         (given-put t p (replies m.mid v.reply) A)
 
     count : length B.entries ≡ n
     count =
         let k = length-map (replies m.mid v.reply) (confirm p) in
-        ap (λ (U : State). length U.entries) replied ∙ (entries-more t H S ∙ omega (arith, k))
+        ap (λ (U : State). length U.entries) replied ∙ (entries-more t H K ∙ omega (arith, k))
 
     same : given_out (turned t new) ≡ given_out (awaits_no_more over (applied t m.mid m.token v s))
     same =
@@ -159,8 +167,8 @@ new-heeded t p d m S come =
         (with_link p (given_out (turned t new)) S.links) B) replied
         ∙ ap (λ (u : LinkState). put t F es2 (with_link p u S.links) B) same)))
 
-    whole : C ≡ put t (H ++ F) es2 xs2 S
-    whole = after t H F es1 es2 xs1 xs2 S B C replied sent
+    whole : C ≡ put t (H ++ F) es2 xs2 K
+    whole = after t H F es1 es2 xs1 xs2 K B C replied sent
 
     told : fold (tells t) C (told_for ends g S.readers) ≡ put t G es2 xs2 C
     told =
@@ -183,7 +191,7 @@ quiet-is v r e n =
     ∙ (ap (λ (b : Bool). record v { ends = b; news = N.Quiet }) (sym e)
     ∙ ap (λ (k : News). record v { news = k }) (sym n))
 
-idle-heeded : (t : ℕ) (p : Peer) (d : List ℕ) (mid : ℕ) (token : List ℕ) (v : Verdict) (g : Grounds)
+idle-heeded : (t : ℕ) (p : Peer) (d : List ℕ) (mid : ℕ) (token : List ℕ) (v : Verdict) (g : Outcome)
     (S : State) → Comes t p d S
     → v.remembered ≡ false → v.ends ≡ false → v.news ≡ N.Quiet
     → given_back t p (replies mid v.reply) (hears_nothing t p d S) ≡ heeded t p d mid token v g S
@@ -199,7 +207,9 @@ idle-heeded t p d mid token v g S come r e n =
     (ap (λ (u : LinkState). with_link p u S.links)
     (given-itself (link_of S.links p) (out-at p S.links come.drained.out))
     ∙ link-there p S.links come.known))
-    ∙ ap (λ (k : Verdict). heeded t p d mid token k g S) (quiet-is v r e n))))
+    ∙ (ap (λ (U : State). record U { exchanges = left_by S.entries [] (filter (is_other None) S.exchanges); links = with_link p (given_out (link_of S.links p)) S.links })
+    (stored t (Hears p d ∷ (map (confirm p) (replies mid v.reply) ++ [])) S.store S)
+    ∙ ap (λ (k : Verdict). heeded t p d mid token k g S) (quiet-is v r e n)))))
 
 -- a datagram
 
@@ -236,10 +246,10 @@ message-enters t p d m S come e kept = heard-read t p d (Ok m) S come e ∙ by (
     by : (b : Bool) → repeats t s m ≡ b → cond b
         (given_back t p (replies m.mid v.reply) (hears_nothing t p d S))
         (takes_by t p d m v v.news S)
-        ≡ heeded t p d m.mid m.token v (grounds_of v m S) S
+        ≡ heeded t p d m.mid m.token v (outcome_of v m S) S
     by true k =
         let i = repeat-idle t s m m.kind k in
-        idle-heeded t p d m.mid m.token v (grounds_of v m S) S come i.0 i.1
+        idle-heeded t p d m.mid m.token v (outcome_of v m S) S come i.0 i.1
         (quiet v.news i.2 kept)
     by false k = taken t p d m v v.news S kept ∙ new-heeded t p d m S come
 

@@ -1,5 +1,5 @@
 -- A datagram that is heard: a step keeps what holds between steps.
-use Rattle.std.proofs.Common.{◌≡◌, ℕ, zero, ◌+◌, ◌<◌, ◌≤◌, ◌⊎◌, inl, inr, Bool, true, false, cond, ltb, leb, List, [], ◌∷◌, length, Option, Some, None, Result, Ok, Err, refl, sym, ap, subst, ◌∙◌, arith}
+use Rattle.std.proofs.Common.{◌≡◌, ℕ, zero, ◌+◌, ◌<◌, ◌⊎◌, inl, inr, Bool, true, false, cond, ltb, leb, List, [], ◌∷◌, length, Option, Some, None, Result, Ok, Err, refl, sym, ap, subst, ◌∙◌, arith}
 use Rattle.std.specs.Prelude.{option_to_list, filter, find, ◌&&◌, is_some, option_map, count_by}
 use Rattle.std.specs.List.{AllByRecursion, Contains}
 use Rattle.std.proofs.lemmas.Bool.{false≢true, leb-true, not-false}
@@ -17,8 +17,6 @@ use Rattle.coap_codec.proofs.Takes.{message_takes}
 use Rattle.uri_map.specs.declared.peer.Peer.{Peer}
 use Rattle.uri_map.specs.Peers.{same_peer}
 use Rattle.uri_map.proofs.CallerLemmas.{same_peer-same}
-use Rattle.journal_book.specs.Entries.{Hears}
-use Rattle.history_laws.specs.Numbering.{token_number}
 use Rattle.message_layer.specs.Values.{LinkState}
 use Rattle.message_layer.specs.Sending.{due_of}
 use Rattle.message_layer.specs.Hearing.{is_fresh, is_repeat, replies, reset_for, heard_verdict, verdict_by, verdict_of}
@@ -26,14 +24,15 @@ use Rattle.message_layer.specs.declared.state.Heard.{Heard}
 use Rattle.message_layer.specs.declared.state.Outstanding.{Outstanding}
 use Rattle.message_layer.specs.declared.state.Waiting.{Waiting}
 use Rattle.message_layer.specs.declared.state.Reply.{Reply}
-use Rattle.message_layer.specs.declared.state.Reply.TheVariants as R
 use Rattle.message_layer.specs.declared.verdict.News.{News}
+use Rattle.message_layer.specs.declared.state.Reply.TheVariants as R
 use Rattle.message_layer.specs.declared.verdict.News.TheVariants as N
-use Rattle.history_laws.specs.Readings.{Noted, Repeats, Garbled, newest, ticked, noted}
-use Rattle.history_laws.specs.Transmissions.{FirstSending, last_sent}
+use Rattle.journal_book.specs.Entries.{Hears}
+use Rattle.history_laws.specs.Numbering.{token_number}
+use Rattle.history_laws.specs.Readings.{Noted, Repeats, Garbled, ticked, noted}
 use Rattle.history_laws.specs.Confirming.{owed}
 use Rattle.history_laws.specs.Hearing.{is_such, heard_before, repeated, can_be_remembered}
-use Rattle.history_laws.specs.Justified.{Legal}
+use Rattle.history_laws.specs.Justified.{Legal, HasGrounds}
 use Rattle.history_laws.proofs.CallerLemmas.{all-filter, all-more, all-of, and-left, and-right, any-of, contains-later, find-any, find-some, is-some}
 use Rattle.history_links.specs.Agrees.{Start, IsFrom, due, Agrees}
 use Rattle.history_links.specs.Steps.{ended_token, heard_link, heard as heard_entry, reset}
@@ -42,13 +41,11 @@ use Rattle.exchange_model.specs.declared.kept.Conn.{Conn}
 use Rattle.exchange_model.specs.declared.kept.Exchange.{Exchange}
 use Rattle.exchange_model.specs.declared.kept.Reader.{Reader}
 use Rattle.exchange_model.specs.State.{State, link_of}
-use Rattle.exchange_model.specs.Reads.{ExchangeIn}
 use Rattle.exchange_model.specs.Steps.{is_under, is_other, hears, hears_nothing, ended_in}
 use Rattle.exchange_model.specs.Resting.{IsUndue, LinkRests, HasExchange}
-use Rattle.history_laws.specs.Justified.{HasGrounds}
 use Rattle.exchange_model.specs.Growing.{RiseByAsk}
 use Rattle.exchange_model.specs.Laws.{Before, MayHear, Heeds}
-use Rattle.exchange_model.specs.Calls.{Telling, tell, tells, told_for, next, given_back, takes_new, takes_by, repeats, resets, reads_so, grounds_of}
+use Rattle.exchange_model.specs.Calls.{Telling, tell, told_for, next, given_back, takes_new, takes_by, repeats, resets, reads_so, grounds_of}
 use Rattle.exchange_model.specs.Keeping.{HasMids, Kept, MayStep, HearsKeeps}
 use Rattle.exchange_model.proofs.Amid.{Amid, Moved, RestAt, IsEarly, next-moves, given-moves}
 use Rattle.exchange_model.proofs.Telling.{readers_in, AreServed, IsAmong, ReadWith, all-in, all-told, kept-told}
@@ -58,7 +55,7 @@ use Rattle.exchange_model.proofs.Lists.{all-both}
 use Rattle.exchange_model.proofs.Outrun.{left-all, left-has}
 use Rattle.exchange_model.proofs.Opened.{cancel, OpenIn, one-rank, open-ones}
 use Rattle.exchange_model.proofs.Grounds.{GroundsOf, IsTold, grounds-for, told-grounds, told-moves, both-go}
-use Rattle.exchange_model.proofs.Hearing.{hears-leads}
+use Rattle.exchange_model.proofs.Heard.{hears-leads}
 use Rattle.exchange_model.proofs.Over.{heard-over}
 use Rattle.exchange_model.proofs.Quiet.{repeats-leads, garbled-leads}
 use Rattle.exchange_model.proofs.Silent.{now-from}

@@ -20,7 +20,14 @@ mod Quiet
 mod Begins
 mod Firsts
 mod Borne
+mod Storing
+mod Uses
+mod Stores
+mod Settling
+mod Retiring
+mod Settled
 mod Hearing
+mod Heard
 mod Conns
 mod ConnsTell
 mod Readers

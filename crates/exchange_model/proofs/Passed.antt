@@ -4,19 +4,19 @@ use Rattle.std.specs.Prelude.{filter, fold, is_none}
 use Rattle.std.specs.List.{AllByRecursion}
 use Rattle.std.proofs.lemmas.Bool.{lt-ltb, le-ltb}
 use Rattle.std.proofs.lemmas.Bool.Decides.{eqb_tells, leb_tells}
-use Rattle.history_laws.proofs.CallerLemmas.{all-more, all-push}
 use Rattle.uri_map.specs.declared.peer.Peer.{Peer}
 use Rattle.uri_map.specs.Peers.{same_peer}
 use Rattle.uri_map.proofs.CallerLemmas.{same_peer-itself}
-use Rattle.journal_book.specs.Entries.{Deed, Passes, Sends}
 use Rattle.message_layer.specs.Values.{LinkState}
 use Rattle.message_layer.specs.Sending.{due_of, with_copy, submitted_by}
 use Rattle.message_layer.specs.declared.state.Outstanding.{Outstanding}
 use Rattle.message_layer.specs.declared.state.Waiting.{Waiting}
+use Rattle.journal_book.specs.Entries.{Deed, Passes, Sends}
+use Rattle.history_laws.proofs.CallerLemmas.{all-more, all-push}
 use Rattle.history_links.specs.Steps.{is_over}
+use Rattle.exchange_model.specs.Steps.{retired, given_out, sends_copy, passed, passes, is_gone, goes_on, left_by, timed_out}
 use Rattle.exchange_model.specs.declared.kept.Exchange.{Exchange}
 use Rattle.exchange_model.specs.State.{PeerLink, State, link_of, with_link}
-use Rattle.exchange_model.specs.Steps.{given_out, sends_copy, passed, passes, is_gone, goes_on, left_by, timed_out}
 use Rattle.exchange_model.specs.Calls.{moves_by, moves, peer_of, move_all}
 use Rattle.exchange_model.specs.Keeping.{MayStep}
 use Rattle.exchange_model.specs.Entering.{Going, going_as, sent_as, first_deeds, in_turn, link_deeds, link_going, rid, turn_deeds, all_deeds, all_going, link_after, StandsOnce, IsDrained}
@@ -329,24 +329,29 @@ pub moved-put : (t : ℕ) (S : State) → MayStep t S → IsDrained S
     → let gone = is_gone t S in
     move_all t (passes t S) ≡ put t (Passes ∷ all_deeds t gone S.links)
     (sent_as (all_going t gone (length S.entries + 1) S.links)
-    (left_by S.entries (timed_out t S) (filter (goes_on t S) S.exchanges))) (map (link_after t gone) S.links) S
+    (left_by S.entries (timed_out t S) (filter (goes_on t S) S.exchanges))) (map (link_after t gone) S.links)
+    (record S { store = retired S.entries (timed_out t S) S.store })
 moved-put t S may drained =
     after t (Passes ∷ []) (visits t ys) es1 (sent_as (visits_going t (length S1.entries) ys) es1) ys
-    (map (visited_link t) ys) S S1 (move_all t S1) refl
+    (map (visited_link t) ys) K S1 (move_all t S1) refl
     (all-put t ys [] S1 refl (none-done ys) (once-passed t S S.links drained.once)
     (all-map (passed t S) (λ (y : PeerLink). y.link.out ≡ []) S.links drained.out))
     ∙ (ap (λ (k : ℕ). put t (Passes ∷ visits t ys) (sent_as (visits_going t k ys) es1)
-    (map (visited_link t) ys) S) (length-append S.entries
+    (map (visited_link t) ys) K) (length-append S.entries
     (record { moment = t; deed = Passes } ∷ []))
     ∙ (ap (λ (ds : List Deed). put t (Passes ∷ ds)
-    (sent_as (visits_going t (length S.entries + 1) ys) es1) (map (visited_link t) ys) S)
+    (sent_as (visits_going t (length S.entries + 1) ys) es1) (map (visited_link t) ys) K)
     (deeds-all t S S.links fine)
     ∙ (ap (λ (gs : List Going). put t (Passes ∷ all_deeds t (is_gone t S) S.links) (sent_as gs es1)
-    (map (visited_link t) ys) S) (going-all t S (length S.entries + 1) S.links fine)
+    (map (visited_link t) ys) K) (going-all t S (length S.entries + 1) S.links fine)
     ∙ ap (λ (xs : List PeerLink). put t (Passes ∷ all_deeds t (is_gone t S) S.links)
-    (sent_as (all_going t (is_gone t S) (length S.entries + 1) S.links) es1) xs S)
+    (sent_as (all_going t (is_gone t S) (length S.entries + 1) S.links) es1) xs K)
     (links-all t S S.links fine))))
   where
+    -- the state with what is stored after it
+    K : State
+    K = record S { store = retired S.entries (timed_out t S) S.store }
+
     S1 : State
     S1 = passes t S
 

@@ -1,30 +1,35 @@
 -- A tick ends what took too long.
-use Rattle.std.proofs.Common.{◌≡◌, ℕ, ◌+◌, Bool, true, false, cond, List, [], ◌∷◌, ◌++◌, map, Option, Some, None, is_some, refl, sym, ap, subst, ◌∙◌}
-use Rattle.std.specs.Prelude.{filter, not, is_none, ◌&&◌}
+use Rattle.std.proofs.Common.{◌⊎◌, inl, inr, length, ◌≡◌, ℕ, ◌+◌, Bool, true, false, cond, List, [], ◌∷◌, ◌++◌, map, Option, Some, None, is_some, refl, sym, ap, subst, ◌∙◌}
+use Rattle.std.specs.Prelude.{filter, not, ◌&&◌}
 use Rattle.std.specs.List.{AllByRecursion, Contains}
 use Rattle.std.proofs.lemmas.Bool.{not-true, not-false}
 use Rattle.std.proofs.lemmas.List.Elements.{All-contains_itself, recursion_from_All, filter_agree}
 use Rattle.uri_map.specs.declared.peer.Peer.{Peer}
 use Rattle.uri_map.specs.Peers.{same_peer}
 use Rattle.uri_map.proofs.CallerLemmas.{same_peer-same}
-use Rattle.journal_book.specs.Entries.{Passes, Written}
 use Rattle.message_layer.specs.Values.{LinkState}
 use Rattle.message_layer.specs.declared.state.Waiting.{Waiting}
+use Rattle.ask_model.specs.Sharing.{asked_place}
+use Rattle.journal_book.specs.Entries.{Passes, Written}
+use Rattle.history_laws.specs.Responses.{Response}
+use Rattle.history_laws.specs.Progress.{Reply, Reset, TimedOut, Whole}
+use Rattle.history_laws.specs.Exchanges.{Turn, Nothing, Sent, Replied, Rejected, Expired, turn, replies, end_here, end_by, end_of, Begun, begun, is_late, expires as ends_at, waits_for, goes_to, is_going, is_waiting, waiting, rank, openings, open_exchanges}
+use Rattle.history_laws.specs.Justified.{Ends}
 use Rattle.history_laws.specs.Readings.{Noted, Plain, noted}
-use Rattle.history_laws.specs.Exchanges.{Begun, begun, is_late, expires as ends_at, waits_for, goes_to, is_going, is_waiting, waiting, rank, openings, open_exchanges}
 use Rattle.history_laws.specs.Hearing.{went_under}
 use Rattle.history_laws.specs.Transmissions.{FirstSending, first_at}
+use Rattle.history_laws.specs.Joining.{outrun}
 use Rattle.history_laws.proofs.CallerLemmas.{all-filter, all-more, all-of, all-passes, and-left, contains-filter, filter-by, filtered-from, issued-same, open-exactly, some-is, waiting-all, waiting-begun, waiting-goes, waiting-unsent}
 use Rattle.history_links.specs.Agrees.{Start, IsWaitingFor, WaitIn, Agrees}
 use Rattle.history_links.specs.Steps.{passed_link, EndWaiting, EndTokens}
 use Rattle.history_links.proofs.CallerLemmas.{going-passed, pass-agrees, passed-quiet, token-found, waits-passed}
 use Rattle.exchange_model.specs.declared.kept.Exchange.{Exchange}
-use Rattle.ask_model.specs.Sharing.{asked_place}
-use Rattle.history_laws.specs.Joining.{outrun}
 use Rattle.exchange_model.specs.State.{PeerLink, State, link_of}
 use Rattle.exchange_model.specs.Reads.{IsSentUnder, ExchangeIn, WaitsUnder, opening_of, Reads}
 use Rattle.exchange_model.specs.Steps.{expires, is_gone, outrun_by, passed, timed_out}
 use Rattle.exchange_model.specs.Laws.{PassesLeads}
+use Rattle.exchange_model.proofs.Over.{no-whole}
+use Rattle.exchange_model.proofs.Retiring.{store-retired}
 use Rattle.exchange_model.proofs.Expiring.{expires-alike, awaited-open, kept-at, gone-of}
 use Rattle.exchange_model.proofs.Hearing.{filter-map, filter-both}
 use Rattle.exchange_model.proofs.Lists.{all-both}
@@ -141,6 +146,22 @@ fewer-wait t S e under =
     subst (λ (s : LinkState). WaitsUnder s.waiting e) (sym (link-passed t S e.peer S.links))
     (λ w h. under w ((filtered-from (λ (v : Waiting). not (is_gone t S v.token)) (link_of S.links e.peer).waiting w h).0))
 
+-- A tick ends nothing with a response.
+passed-no-response : (l : List Noted) (t o : ℕ) (w : Response) (rs : List Reply) → end_of l o ≡ None → Ends (ticked_at t ∷ l) o (length l) (Whole w rs) → ⊥
+passed-no-response l t o w rs going e = by (turn l o (ticked_at t)) (expired (ends_at l o t (waits_for l o))) (sym (ap (end_by (end_here (begun l o) (length l) (replies l o) (turn l o (ticked_at t))) (length l)) going) ∙ e)
+  where
+    expired : (b : Bool) → (cond b Expired Nothing ≡ Expired) ⊎ (cond b Expired Nothing ≡ Nothing)
+    expired true = inl refl
+    expired false = inr refl
+
+    by : (u : Turn) → (u ≡ Expired) ⊎ (u ≡ Nothing) → end_by (end_here (begun l o) (length l) (replies l o) u) (length l) None ≡ Some (record { number = length l; how = Whole w rs }) → ⊥
+    by Expired h e = no-whole (length l) TimedOut w rs (λ f. cc) e
+    by Nothing h e = absurd cc
+    by (Sent i) h e = absurd cc
+    by Rejected h e = no-whole (length l) Reset w rs (λ f. cc) e
+    by (Replied i m) (inl h) e = absurd cc
+    by (Replied i m) (inr h) e = absurd cc
+
 pub passes-leads : PassesLeads
 passes-leads l t S b may =
     let r = b.reads in
@@ -166,6 +187,7 @@ passes-leads l t S b may =
             (λ e a. exchange-kept l t S r e (outrun_by S.entries (timed_out t S) e).current a.0 a.1
             (current-now (ticked_at t) l S r (timed_out t S) (passes-ends l t S r) (r.legal, later, (may, tt)) e a.0)) kept
             (all-both (ExchangeIn r.start l) (λ (e : Exchange). stays t S e ≡ true) kept (all-filter (ExchangeIn r.start l) (stays t S) S.exchanges r.exchanges_are) (all-passes (stays t S) S.exchanges));
+        store_is = store-retired (ticked_at t) l S r (r.legal, later, (may, tt)) (timed_out t S) (passes-ends l t S r) tt (λ o w rs going e. passed-no-response l t o w rs going e);
         tokens_are = r.tokens_are;
         waiting_are = left-all (λ (e : Exchange). WaitsUnder (link_of (map (passed t S) S.links) e.peer).waiting e) (λ e k. k) S.entries (timed_out t S) kept
             (all-more _ _ (fewer-wait t S) kept (all-filter (λ (e : Exchange). WaitsUnder (link_of S.links e.peer).waiting e) (stays t S) S.exchanges r.waiting_are));

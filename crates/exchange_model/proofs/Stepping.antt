@@ -1,42 +1,48 @@
 -- A connection opened or shut, the seal, an ask: a step keeps what holds between steps.
 use Rattle.std.proofs.Common.{◌≡◌, ◌≢◌, ◌⊎◌, ℕ, suc, ◌+◌, ◌<◌, ◌≤◌, inl, inr, Bool, true, false, cond, eqb, ltb, List, [], ◌∷◌, ◌++◌, length, map, Option, Some, None, refl, sym, ap, subst, ◌∙◌, arith, length-append}
-use Rattle.std.proofs.lemmas.List.{length-map}
 use Rattle.std.specs.Prelude.{filter, not, option_map}
 use Rattle.std.specs.List.{AllByRecursion, Contains}
+use Rattle.std.proofs.lemmas.List.{length-map}
 use Rattle.std.proofs.lemmas.Bool.{ltb-true}
 use Rattle.std.proofs.lemmas.Bool.Decides.{eqb_tells}
 use Rattle.std.proofs.lemmas.List.Sums.{length-filter}
 use Rattle.limits.specs.declared.TheConstants.{MAX_MESSAGE_IDS, MAX_TRANSMIT_WAIT}
 use Rattle.uri_map.specs.declared.peer.Peer.{Peer}
-use Rattle.ask_model.specs.declared.cause.Cause.{Cause}
-use Rattle.ask_model.specs.declared.cause.Cause.TheVariants as C
 use Rattle.uri_map.specs.Peers.{same_peer}
-use Rattle.ask_model.specs.Requests.{CoapRequest, Sense, Requests, Refuses}
-use Rattle.ask_model.specs.Views.{Ask}
 use Rattle.uri_map.proofs.CallerLemmas.{same_peer-same}
-use Rattle.journal_book.specs.Entries.{Fault, Asks}
-use Rattle.history_laws.specs.Causes.{IsRefusal}
 use Rattle.message_layer.specs.Values.{LinkState}
 use Rattle.message_layer.specs.Mids.{is_in_use}
 use Rattle.message_layer.specs.Sending.{due_of, mids_in_use, waits, queued}
 use Rattle.message_layer.specs.declared.state.Outstanding.{Outstanding}
 use Rattle.message_layer.specs.declared.state.Waiting.{Waiting}
-use Rattle.history_laws.specs.Readings.{Noted, Plain, Begins, at, ticked, noted}
+use Rattle.resp_cache.specs.Stored.{Stored}
+use Rattle.resp_cache.specs.Stores.{moved}
+use Rattle.resp_cache.specs.declared.pair.Pair.{Pair}
+use Rattle.ask_model.specs.Sharing.{asked_key}
+use Rattle.ask_model.specs.declared.cause.Cause.{Cause}
+use Rattle.ask_model.specs.Requests.{CoapRequest, Sense, Requests, Refuses}
+use Rattle.ask_model.specs.Views.{Ask}
+use Rattle.ask_model.specs.declared.cause.Cause.TheVariants as C
+use Rattle.journal_book.specs.Entries.{Grounds, Kept as KeptGround, Fault, Asks}
+use Rattle.history_laws.specs.Justified.{UnservedNote, HasGrounds, AskNote, Caused, IsRefused, MayCome, pending}
+use Rattle.history_laws.specs.Readings.{Note, Serves, Noted, Plain, Begins, at, ticked, noted}
+use Rattle.history_laws.specs.Causes.{IsRefusal}
 use Rattle.history_laws.specs.Connections.{is_open, asks_of, answers_of}
 use Rattle.history_laws.specs.Hearing.{has_room}
-use Rattle.history_laws.specs.Justified.{AskNote, Caused, IsRefused, MayCome, pending}
 use Rattle.history_laws.proofs.CallerLemmas.{contains-none, find-some, first-or-later, all-filter, all-more, all-passes, all-push, and-right, at-new, entries-length, eqb-itself}
 use Rattle.history_links.specs.Agrees.{Start, WaitIn}
+use Rattle.exchange_model.specs.Calls.{IsAlone, served_in, serves, asked_for, Numbers, next, refused, has_place, is_joined, joined, asked_with, asked_by}
+use Rattle.exchange_model.specs.Laws.{Leads, Before, MayAsk}
 use Rattle.exchange_model.specs.declared.kept.Conn.{Conn}
 use Rattle.exchange_model.specs.declared.kept.Exchange.{Exchange}
 use Rattle.exchange_model.specs.declared.kept.Reader.{Reader}
 use Rattle.exchange_model.specs.State.{State, link_of, pend}
 use Rattle.exchange_model.specs.Reads.{Reads, opening_of}
-use Rattle.exchange_model.specs.Steps.{asks, begins, joins, exchange_for, reader_for}
+use Rattle.exchange_model.specs.Steps.{asks, begins, joins, exchange_for, reader_for, answers}
 use Rattle.exchange_model.specs.Resting.{IsUndue, LinkRests, HasExchange, HasReader, IsServed, HasConn, Rests}
-use Rattle.exchange_model.specs.Calls.{Numbers, next, refused, has_place, is_joined, joined, asked_with, asked_by}
 use Rattle.exchange_model.specs.Keeping.{StartKeeps, HasMids, Kept, MayStep, KeptStands, OpensKeeps, ShutsKeeps, SealsKeeps, IsProper, IsNumbered, AsksKeeps}
-use Rattle.exchange_model.specs.Laws.{Before, MayAsk}
+use Rattle.exchange_model.proofs.Quiet.{misses-tell, recalls-leads, asks-leads, joins-leads}
+use Rattle.exchange_model.proofs.Stores.{no-store}
 use Rattle.exchange_model.proofs.Amid.{Amid, Moved, RestAt, IsEarly, tick-before, next-moves}
 use Rattle.exchange_model.proofs.Begins.{begins-leads}
 use Rattle.exchange_model.proofs.Conns.{PendingIn, ConnIn, conns-open, slice_get-push}
@@ -45,9 +51,8 @@ use Rattle.exchange_model.proofs.Readers.{ReaderIn, older-asks, readers-wait}
 use Rattle.exchange_model.proofs.Telling.{all-conns, apart-by, conn-of, has-left, other-by, reader-is}
 use Rattle.exchange_model.proofs.Lists.{all-map, all-both}
 use Rattle.exchange_model.proofs.Joined.{joins-tell}
-use Rattle.exchange_model.proofs.Quiet.{asks-leads, joins-leads}
 use Rattle.exchange_model.proofs.Resting.{rests-at-rest}
-use Rattle.exchange_model.proofs.Silent.{opens-leads, shuts-leads, seals-leads, answers-leads, now-from, later-than}
+use Rattle.exchange_model.proofs.Silent.{opens-leads, shuts-leads, seals-leads, answers-leads, now-from}
 use Rattle.exchange_model.proofs.Tables.{link-other, all-links}
 
 pub kept-stands : KeptStands
@@ -184,22 +189,24 @@ served-again rs c n x below h = elim (eqb_tells x.id c) [ inl w ↦ rw (w.0, w.0
     by None h = tt
     by (Some j) h = has-left rs n j h (has-below rs n j below h)
 
-at-once : (t c : ℕ) (a : Ask) (cause : Cause) (S : State) (m : MayStep t S) → HasConn S.conns c None → AskNote m.kept.reading t a.sense Plain
-    → ((l : List Noted) (k : ℕ) → at l k ≡ Some (noted t (Asks c a) Plain) → Caused l t k cause k) → Kept (refused t c a cause S)
-at-once t c a cause S m h note why =
+answered-now : (t c : ℕ) (a : Ask) (note : Note) (g : Grounds) (store : List Pair) (S : State) (m : MayStep t S) → HasConn S.conns c None
+    → (let S1 = asks t c a S in Leads m.kept.reading (noted t (Asks c a) note) (record S1 { store = store }))
+    → (at (noted t (Asks c a) note ∷ m.kept.reading) (length S.entries) ≡ Some (noted t (Asks c a) note) → HasGrounds (noted t (Asks c a) note ∷ m.kept.reading) t (length S.entries) g)
+    → (let S1 = asks t c a S in Kept (answers t c (length S.entries) g (record S1 { store = store })))
+answered-now t c a note g store S m h first why =
     let l = m.kept.reading in
     let r = m.kept.rests in
     let who = may-ask l S c r h in
-    let first = asks-leads l t c a S (before-step t S m) (may-come t S m) who note in
-    let x = noted t (Asks c a) Plain in
+    let x = noted t (Asks c a) note in
+    let S1 = asks t c a S in
     let here : length S.entries ≡ length l = ap length (sym r.reads.entries_are) ∙ entries-length l in
     let turn : pending (x ∷ l) c ≡ Some (length S.entries) = rw (eqb-itself c, here) (slice_get-push (asks_of l c) (length l) _ who.idle) in
     let stands : at (x ∷ l) (length S.entries) ≡ Some x = subst (λ (k : ℕ). at (x ∷ l) k ≡ Some x) (sym here) (at-new x l) in
     let left = filter (λ (x : Reader). not (eqb x.ask (length S.entries))) S.readers in
     let below = subst (λ (k : ℕ). AllByRecursion (λ (x : Reader). x.ask < k) S.readers) (sym here)
     (subst (AllByRecursion (λ (x : Reader). x.ask < length l)) r.reads.readers_are (older-asks l r.reads.legal)) in
-    let made = answers-leads (x ∷ l) t c (length S.entries) (Fault cause (length S.entries)) (asks t c a S)
-    (record { reads = first.reads; later = omega arith }) refl who.open_now turn (why (x ∷ l) (length S.entries) stands) in
+    let made = answers-leads (x ∷ l) t c (length S.entries) g (record S1 { store = store })
+    (record { reads = first.reads; later = omega arith }) refl who.open_now turn (why stands) in
     record {
       reading = _;
       rests = record {
@@ -214,6 +221,21 @@ at-once t c a cause S m h note why =
       };
       mids = m.kept.mids;
     }
+
+at-once : (t c : ℕ) (a : Ask) (cause : Cause) (S : State) (m : MayStep t S) → HasConn S.conns c None → AskNote m.kept.reading t a.sense Plain → UnservedNote m.kept.reading t a.sense Plain
+    → ((l : List Noted) (k : ℕ) → at l k ≡ Some (noted t (Asks c a) Plain) → Caused l t k cause k) → Kept (refused t c a cause S)
+at-once t c a cause S m h note misses why =
+    answered-now t c a Plain (Fault cause (length S.entries)) S.store S m h
+    (asks-leads m.kept.reading t c a S (before-step t S m) (may-come t S m) (may-ask m.kept.reading S c m.kept.rests h) note misses)
+    (λ stands. why (noted t (Asks c a) Plain ∷ m.kept.reading) (length S.entries) stands)
+
+-- One that what is stored answers.
+served-to : (t c : ℕ) (a : Ask) (q : CoapRequest) (s : Stored) (S : State) (m : MayStep t S) → HasConn S.conns c None → a.sense ≡ Requests q → served_in q t S ≡ Some s
+    → Kept (serves t c a q s S)
+served-to t c a q s S m h sense served =
+    answered-now t c a (Serves s.list) (KeptGround s.list) (moved (asked_key q) t S.store) S m h
+    (recalls-leads m.kept.reading t c a q s S (before-step t S m) (may-come t S m) (may-ask m.kept.reading S c m.kept.rests h) sense served)
+    (λ stands. (c, a, stands))
 
 -- An ask that opens an exchange.
 
@@ -256,13 +278,13 @@ has-old (y ∷ es) e k (inl h) = inl h
 has-old (y ∷ es) e k (inr h) = inr (has-old es e k h)
 
 opened-for : (t c : ℕ) (a : Ask) (q : CoapRequest) (n : Numbers) (S : State) (m : MayStep t S) → HasConn S.conns c None → a.sense ≡ Requests q → IsNumbered q n S
-    → joined q S ≡ None → has_place t q.peer S ≡ true → Kept (next t q.peer (begins t c a q n.token n.text n.word S))
+    → IsAlone t q S → has_place t q.peer S ≡ true → Kept (next t q.peer (begins t c a q n.token n.text n.word S))
 opened-for t c a q n S m h sense numbered none place =
     let l = m.kept.reading in
     let r = m.kept.rests in
     let p = q.peer in
     let b = before-step t S m in
-    let made = begins-leads l t c a q n.token n.text n.word S b (may-come t S m) (may-ask l S c r h) sense (joins-tell l S r.reads q ∙ ap (option_map opening_of) none) (room-same l t q S b ∙ place) numbered.spelled numbered.token_size numbered.number in
+    let made = begins-leads l t c a q n.token n.text n.word S b (may-come t S m) (may-ask l S c r h) sense (misses-tell l t q S b none.0) (joins-tell l S r.reads q ∙ ap (option_map opening_of) none.1) (room-same l t q S b ∙ place) numbered.spelled numbered.token_size numbered.number in
     let x = noted t (Asks c a) (Begins q) in
     let S1 = begins t c a q n.token n.text n.word S in
     let w = waits n.token n.text n.word in
@@ -314,12 +336,12 @@ has-opening (x ∷ es) e h = by (first-or-later x es e h) (λ k. has-opening es 
     by (inl same) later = inl (ap (λ (y : Exchange). y.opening) same)
     by (inr k) later = inr (later k)
 
-joined-to : (t c : ℕ) (a : Ask) (q : CoapRequest) (e : Exchange) (S : State) (m : MayStep t S) → HasConn S.conns c None → a.sense ≡ Requests q → joined q S ≡ Some e
+joined-to : (t c : ℕ) (a : Ask) (q : CoapRequest) (e : Exchange) (S : State) (m : MayStep t S) → HasConn S.conns c None → a.sense ≡ Requests q → served_in q t S ≡ None → joined q S ≡ Some e
     → Kept (joins t c a e.opening S)
-joined-to t c a q e S m h sense found =
+joined-to t c a q e S m h sense unserved found =
     let l = m.kept.reading in
     let r = m.kept.rests in
-    let made = joins-leads l t c a q e.opening S (before-step t S m) (may-come t S m) (may-ask l S c r h) sense (joins-tell l S r.reads q ∙ ap (option_map opening_of) found) in
+    let made = joins-leads l t c a q e.opening S (before-step t S m) (may-come t S m) (may-ask l S c r h) sense (misses-tell l t q S (before-step t S m) unserved) (joins-tell l S r.reads q ∙ ap (option_map opening_of) found) in
     let new : Reader = record { ask = length S.entries; conn = c; opening = e.opening } in
     let it = find-some (is_joined S.entries q) S.exchanges e found in
     record {
@@ -343,19 +365,24 @@ asks-keeps t c a n S m h proper numbered = by a.sense refl
     refusal cause status is = subst IsProper is proper
 
     by : (s : Sense) → a.sense ≡ s → Kept (asked_by s t c a n S)
-    by (Refuses cause status) is = at-once t c a cause S m h (rw (is) tt)
+    by (Refuses cause status) is = at-once t c a cause S m h (rw (is) tt) (rw (is) tt)
         (λ l k stands. caused l t k cause (refusal cause status is) (record { conn = c; ask = a; status = status; asked = record { moment = t; note = Plain; stands = stands }; sense = is }))
-    by (Requests q) is = with (joined q S) refl
+    by (Requests q) is = for (served_in q t S) refl
       where
-        place : joined q S ≡ None → (v : Bool) → has_place t q.peer S ≡ v → Kept (cond v (next t q.peer (begins t c a q n.token n.text n.word S)) (refused t c a C.Busy S))
-        place none true e = opened-for t c a q n S m h is (numbered q is none e) none e
-        place none false e = at-once t c a C.Busy S m h
+        place : served_in q t S ≡ None → joined q S ≡ None → (v : Bool) → has_place t q.peer S ≡ v → Kept (cond v (next t q.peer (begins t c a q n.token n.text n.word S)) (refused t c a C.Busy S))
+        place unserved none true e = opened-for t c a q n S m h is (numbered q is (unserved, none) e) (unserved, none) e
+        place unserved none false e = at-once t c a C.Busy S m h
             (rw (is) (joins-tell m.kept.reading S m.kept.rests.reads q ∙ ap (option_map opening_of) none, room-same m.kept.reading t q S (before-step t S m) ∙ e))
+            (rw (is) (misses-tell m.kept.reading t q S (before-step t S m) unserved))
             (λ l k stands. (refl, record { moment = t; conn = c; ask = a; request = q; stands = stands; sense = is }))
 
-        with : (v : Option Exchange) → joined q S ≡ v → Kept (asked_with v t c a q n S)
-        with (Some e) found = joined-to t c a q e S m h is found
-        with None none = place none (has_place t q.peer S) refl
+        with : served_in q t S ≡ None → (v : Option Exchange) → joined q S ≡ v → Kept (asked_with v t c a q n S)
+        with unserved (Some e) found = joined-to t c a q e S m h is unserved found
+        with unserved None none = place unserved none (has_place t q.peer S) refl
+
+        for : (v : Option Stored) → served_in q t S ≡ v → Kept (asked_for v t c a q n S)
+        for (Some s) served = served-to t c a q s S m h is served
+        for None unserved = with unserved (joined q S) refl
 
 -- before the first step
 
@@ -377,6 +404,7 @@ start-keeps = record {
       readers_are = refl;
       keys = refl;
       exchanges_are = tt;
+      store_is = no-store [] refl;
       tokens_are = tt;
       waiting_are = tt;
       links_are = λ p. record { turn = refl; known = refl; last = λ t later. tt; count_up = λ t later. tt; given = λ t later. refl; waits = tt; awaits = λ token. refl; acks = λ mid token. refl; heard = record { repeats = λ t mid later. refl; live = λ t later. refl } };

@@ -1,18 +1,18 @@
 -- What an entry leaves of what a state keeps.
-use Rattle.std.proofs.Common.{◌≡◌, ℕ, ◌+◌, ◌<◌, ◌≤◌, Bool, true, false, not, cond, eqb, inl, inr, List, [], ◌∷◌, ◌++◌, length, Option, Some, None, refl, sym, ap, subst, ◌∙◌, arith}
-use Rattle.std.specs.Prelude.{find, is_none, max}
-use Rattle.std.proofs.lemmas.Bool.Decides.{eqb_tells}
+use Rattle.std.proofs.Common.{◌≡◌, ℕ, ◌+◌, ◌<◌, ◌≤◌, Bool, true, false, not, cond, eqb, List, [], ◌∷◌, ◌++◌, length, Option, Some, None, refl, sym, ap, subst, ◌∙◌, arith}
+use Rattle.std.specs.Prelude.{is_none, max}
 use Rattle.std.proofs.lemmas.List.Elements.{filter_agree}
 use Rattle.uri_map.specs.declared.peer.Peer.{Peer}
 use Rattle.uri_map.specs.Peers.{same_peer}
 use Rattle.uri_map.proofs.CallerLemmas.{same_peer-same, same_peer-itself}
-use Rattle.journal_book.specs.Entries.{Deed, Sends, Written, Opens}
 use Rattle.message_layer.specs.Values.{LinkState}
-use Rattle.history_laws.specs.Readings.{Noted, Note, First, entries, newest, noted}
-use Rattle.history_laws.specs.Connections.{sealed_by, opened_by, opened, opens_by, has_opened}
-use Rattle.history_laws.specs.Transmissions.{FirstSending, firsts_by, firsts, first_at, bears_token}
-use Rattle.history_laws.specs.Exchanges.{openings, waits_for, is_going, open_exchanges}
+use Rattle.resp_cache.specs.declared.pair.Pair.{Pair}
 use Rattle.ask_model.specs.Sharing.{asked_place}
+use Rattle.journal_book.specs.Entries.{Deed, Written, Opens}
+use Rattle.history_laws.specs.Readings.{Noted, Note, newest, noted}
+use Rattle.history_laws.specs.Connections.{sealed_by, opened_by, opened, opens_by, has_opened}
+use Rattle.history_laws.specs.Transmissions.{FirstSending, firsts, first_at, bears_token}
+use Rattle.history_laws.specs.Exchanges.{openings, waits_for, is_going, open_exchanges}
 use Rattle.history_laws.specs.Joining.{outrun}
 use Rattle.history_laws.specs.Justified.{Follows, IsNextConn}
 use Rattle.history_laws.proofs.CallerLemmas.{all-more, outrun-same, at-keeps, awaiting-stays, begun-keeps, entries-length, eqb-same, find-some, first-older, listed-below, rank-keeps}
@@ -22,7 +22,7 @@ use Rattle.exchange_model.specs.declared.kept.Exchange.{Exchange}
 use Rattle.exchange_model.specs.declared.kept.Reader.{Reader}
 use Rattle.exchange_model.specs.State.{PeerLink, State, link_of, with_link, conns_after}
 use Rattle.exchange_model.specs.Steps.{given_out}
-use Rattle.exchange_model.specs.Reads.{IsSentUnder, ExchangeIn, WaitsUnder, Reads, opens_in, opens_once, readers_by, readers_of}
+use Rattle.exchange_model.specs.Reads.{IsSentUnder, ExchangeIn, StoreIn, WaitsUnder, Reads, opens_in, opens_once, readers_by, readers_of}
 
 -- entries
 
@@ -110,7 +110,7 @@ more-opens l (Opens c) S r h = let is = r.opens_are in omega (arith, is, h)
 more-opens l d S r h = r.opens_are
 
 -- the tables after an entry that is nothing to any exchange: links may have changed, but not what waits
-pub still-reads : (l : List Noted) (t : ℕ) (d : Deed) (note : Note) (S : State) (links : List PeerLink) (r : Reads l S) → S.moment ≤ t → IsNumberedAs S d → Follows l t d note
+pub still-reads : (l : List Noted) (t : ℕ) (d : Deed) (note : Note) (S : State) (links : List PeerLink) (store : List Pair) (r : Reads l S) → StoreIn (noted t d note ∷ l) store → S.moment ≤ t → IsNumberedAs S d → Follows l t d note
     → (readers : List Reader) → readers_by (length l) d note (readers_of l) ≡ readers → Still l (noted t d note ∷ l) → ((p : Peer) → (link_of links p).waiting ≡ (link_of S.links p).waiting) → ((p : Peer) → Agrees r.start (noted t d note ∷ l) p (link_of links p))
     → Reads (noted t d note ∷ l) (record {
       entries = S.entries ++ record { moment = t; deed = d } ∷ [];
@@ -121,9 +121,10 @@ pub still-reads : (l : List Noted) (t : ℕ) (d : Deed) (note : Note) (S : State
       conns = conns_after S.conns (length S.entries) d;
       exchanges = S.exchanges;
       readers = readers;
+      store = store;
       links = links;
     })
-still-reads l t d note S links r later numbered follows readers reads still waiting agrees =
+still-reads l t d note S links store r stored later numbered follows readers reads still waiting agrees =
     let n = noted t d note ∷ l in record {
       start = r.start;
       few = r.few;
@@ -138,6 +139,7 @@ still-reads l t d note S links r later numbered follows readers reads still wait
       readers_are = reads;
       keys = open-still l n still ∙ r.keys;
       exchanges_are = all-more (ExchangeIn r.start l) (ExchangeIn r.start n) (exchange-still l n still) S.exchanges r.exchanges_are;
+      store_is = stored;
       tokens_are = rw (still.firsts_are) r.tokens_are;
       waiting_are = all-more _ (λ (e : Exchange). WaitsUnder (link_of links e.peer).waiting e) (λ e h. rw (waiting e.peer) h) S.exchanges r.waiting_are;
       links_are = agrees;

@@ -1,5 +1,5 @@
 -- Within a step: who waits for exchanges that have ended is answered.
-use Rattle.std.proofs.Common.{◌≡◌, ◌≢◌, ℕ, ◌+◌, ◌<◌, ◌⊎◌, inl, inr, Bool, true, false, not, eqb, cond, List, [], ◌∷◌, ◌++◌, map, filter, fold, Option, Some, None, refl, sym, ap, subst, ◌∙◌, arith}
+use Rattle.std.proofs.Common.{◌≡◌, ◌≢◌, ℕ, ◌+◌, ◌<◌, ◌⊎◌, inl, inr, Bool, true, false, not, eqb, cond, List, [], ◌∷◌, map, filter, fold, Option, Some, None, refl, sym, ap, subst, ◌∙◌, arith}
 use Rattle.std.specs.Prelude.{length}
 use Rattle.std.specs.List.{AllByRecursion, Contains}
 use Rattle.std.proofs.lemmas.Bool.{false≢true, not-true}
@@ -9,13 +9,12 @@ use Rattle.limits.specs.declared.TheConstants.{MAX_TRANSMIT_WAIT}
 use Rattle.uri_map.specs.declared.peer.Peer.{Peer}
 use Rattle.ask_model.specs.Views.{Ask}
 use Rattle.ask_model.specs.declared.cause.Cause.TheVariants as C
-use Rattle.journal_book.specs.Entries.{Grounds, Live, Kept as KeptGround, Fault, Deed, Asks, Answers}
+use Rattle.journal_book.specs.Entries.{Grounds, Live, Kept as KeptGround, Fault, Asks, Answers}
 use Rattle.history_laws.specs.Readings.{Noted, Note, Plain, at, noted, ticked}
 use Rattle.history_laws.specs.Connections.{answers_of}
 use Rattle.history_laws.specs.Confirming.{owed}
 use Rattle.history_laws.specs.Justified.{HasGrounds, reads, reads_in, Caused}
 use Rattle.history_laws.proofs.CallerLemmas.{all-more, all-of, asks-stand, at-keeps, at-same, contains-filter, filtered-from}
-use Rattle.message_layer.specs.Values.{LinkState}
 use Rattle.exchange_model.specs.declared.kept.Conn.{Conn}
 use Rattle.exchange_model.specs.declared.kept.Exchange.{Exchange}
 use Rattle.exchange_model.specs.declared.kept.Reader.{Reader}
@@ -24,7 +23,6 @@ use Rattle.exchange_model.specs.Reads.{Reads}
 use Rattle.exchange_model.specs.Laws.{Before, Leads}
 use Rattle.exchange_model.specs.Resting.{LinkRests, HasExchange, HasReader, IsServed, HasConn}
 use Rattle.exchange_model.specs.Keeping.{HasMids, Kept}
-use Rattle.exchange_model.specs.Steps.{answers}
 use Rattle.exchange_model.specs.Calls.{Telling, tells}
 use Rattle.exchange_model.specs.Entering.{answer_of, entered_all}
 use Rattle.exchange_model.proofs.ConnsTell.{conns-tell}
@@ -84,7 +82,7 @@ reads-keep x l k o h = by (at l k) refl h
 
 grounds-keep : (l : List Noted) (t s c j : ℕ) (a : Grounds) (k : ℕ) (g : Grounds) → HasGrounds l t k g → HasGrounds (noted s (Answers c j a) Plain ∷ l) t k g
 grounds-keep l t s c j a k (Live js) (o, e, w, rs, is, ends, same) = (o, e, w, rs, reads-keep _ l k o is, ends, same)
-grounds-keep l t s c j a k (KeptGround js) h = absurd h
+grounds-keep l t s c j a k (KeptGround js) (d, b, stands) = (d, b, at-keeps _ l k _ stands)
 grounds-keep l t s c j a k (Fault cause n) h = by cause h
   where
     x : Noted

@@ -4,14 +4,14 @@ use Rattle.std.specs.Prelude.{fold}
 use Rattle.std.specs.List.{AllByRecursion}
 use Rattle.uri_map.specs.declared.peer.Peer.{Peer}
 use Rattle.uri_map.specs.Peers.{same_peer}
-use Rattle.journal_book.specs.Entries.{Passes, Deed}
 use Rattle.message_layer.specs.Values.{LinkState}
+use Rattle.journal_book.specs.Entries.{Passes, Deed}
+use Rattle.exchange_model.specs.Steps.{retired, entered, is_gone, passes, timed_out}
+use Rattle.exchange_model.specs.Entering.{tick_deeds, answer_of, all_deeds, moved_by, entered_all, link_after, StandsOnce, TicksEnter, StaysDrained}
 use Rattle.exchange_model.specs.State.{PeerLink, State, with_link}
-use Rattle.exchange_model.specs.Steps.{entered, is_gone, passes, timed_out}
 use Rattle.exchange_model.specs.Calls.{Telling, tells, told_late, move_all}
-use Rattle.exchange_model.specs.Entering.{answer_of, all_deeds, moved_by, entered_all, link_after, StandsOnce, TicksEnter, StaysDrained}
+use Rattle.exchange_model.proofs.Entered.{stored, put, after}
 use Rattle.exchange_model.proofs.Lists.{all-map}
-use Rattle.exchange_model.proofs.Entered.{put, after}
 use Rattle.exchange_model.proofs.Heeded.{told-put}
 use Rattle.exchange_model.proofs.Passed.{moved-put}
 
@@ -19,13 +19,18 @@ pub ticks-enter : TicksEnter
 ticks-enter t S may drained due =
     ap (λ (b : Bool). cond b (fold (tells t) (move_all t (passes t S)) xs) S) due
     ∙ after t (Passes ∷ all_deeds t (is_gone t S) S.links) (map answer_of xs) (moved_by t S).exchanges (moved_by t S).exchanges
-    (moved_by t S).links (moved_by t S).links S (move_all t (passes t S)) (fold (tells t) (move_all t (passes t S)) xs) moved
+    (moved_by t S).links (moved_by t S).links K (move_all t (passes t S)) (fold (tells t) (move_all t (passes t S)) xs) moved
     (told-put t xs (move_all t (passes t S)) ∙ ap (λ (U : State). put t (map answer_of xs) U.exchanges U.links (move_all t (passes t S))) moved)
+    ∙ ap (λ (U : State). record U { exchanges = (moved_by t S).exchanges; links = (moved_by t S).links }) (stored t (tick_deeds t S) K.store S)
   where
+    -- the state with what is stored after it
+    K : State
+    K = record S { store = retired S.entries (timed_out t S) S.store }
+
     xs : List Telling
     xs = told_late (timed_out t S) S.readers
 
-    moved : move_all t (passes t S) ≡ put t (Passes ∷ all_deeds t (is_gone t S) S.links) (moved_by t S).exchanges (moved_by t S).links S
+    moved : move_all t (passes t S) ≡ put t (Passes ∷ all_deeds t (is_gone t S) S.links) (moved_by t S).exchanges (moved_by t S).links K
     moved = moved-put t S may drained
 
 -- links that gave out all

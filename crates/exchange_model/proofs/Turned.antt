@@ -1,6 +1,6 @@
 -- After a turn a state reads the copies.
-use Rattle.std.proofs.Common.{◌≡◌, ℕ, ◌+◌, ◌<◌, ◌≤◌, Bool, true, false, ◌&&◌, cond, ltb, List, [], ◌∷◌, ◌++◌, length, map, Option, Some, None, refl, sym, ap, subst, ◌∙◌, arith}
-use Rattle.std.specs.Prelude.{⊤, not, ◌||◌, nat_lt, filter, max, is_some}
+use Rattle.std.proofs.Common.{◌≡◌, ℕ, ◌<◌, ◌≤◌, Bool, true, false, cond, List, [], ◌∷◌, length, map, Option, Some, None, refl, sym, ap, subst, ◌∙◌, arith}
+use Rattle.std.specs.Prelude.{not, ◌||◌, nat_lt, filter, is_some}
 use Rattle.std.specs.List.{AllByRecursion, list_any, find}
 use Rattle.std.proofs.lemmas.Bool.{false≢true, ltb-false}
 use Rattle.std.proofs.lemmas.List.Sums.{count_by-le-length, length-filter}
@@ -8,35 +8,35 @@ use Rattle.limits.specs.declared.TheConstants.{MAX_NUMBERED}
 use Rattle.coap_codec.specs.Spelling.{Content}
 use Rattle.uri_map.specs.declared.peer.Peer.{Peer}
 use Rattle.uri_map.specs.Peers.{same_peer}
-use Rattle.uri_map.proofs.CallerLemmas.{same_peer-itself, same_peer-same}
-use Rattle.journal_book.specs.Entries.{Past, Written, Deed, Sends, Hears, Carries}
-use Rattle.journal_book.specs.Entries as D
+use Rattle.uri_map.proofs.CallerLemmas.{same_peer-same}
 use Rattle.message_layer.specs.Values.{LinkState, empty_link}
 use Rattle.message_layer.specs.Mids.{is_in_use}
+use Rattle.message_layer.specs.Calls.{kept_link}
+use Rattle.journal_book.specs.Entries.{Past, Written, Deed, Sends, Hears, Carries}
+use Rattle.journal_book.specs.Entries as D
 use Rattle.history_laws.specs.Numbering.{token_number}
-use Rattle.history_laws.specs.Readings.{Noted, Note, First, Says, Bygone, Recalls, Answered, entries, newest, ticked}
+use Rattle.history_laws.specs.Readings.{Noted, Note, First, Says, Bygone, Recalls, Answered, ticked}
 use Rattle.history_laws.specs.Connections.{opened}
-use Rattle.history_laws.specs.Confirmations.{Confirmation}
 use Rattle.history_laws.specs.Confirming.{owed}
-use Rattle.history_laws.specs.Transmissions.{FirstSending, firsts_by, firsts, last_sent}
+use Rattle.history_laws.specs.Transmissions.{FirstSending, firsts_by, firsts}
 use Rattle.history_laws.specs.Hearing.{is_such, knows, recalls_by, recalls}
 use Rattle.history_laws.specs.Justified.{Follows, IsNextConn, Legal}
-use Rattle.history_links.specs.Agrees.{Start, IsFrom, Agrees}
+use Rattle.history_links.specs.Agrees.{Start, Agrees}
 use Rattle.exchange_model.specs.State.{PeerLink, State, link_of}
 use Rattle.exchange_model.specs.Reads.{Reads}
-use Rattle.exchange_model.specs.Resting.{LinkRests, Rests}
+use Rattle.exchange_model.specs.Resting.{LinkRests}
 use Rattle.exchange_model.specs.Keeping.{HasMids}
-use Rattle.message_layer.specs.Calls.{kept_link}
-use Rattle.exchange_model.specs.Rotating.{RotatesKeeps, copies, fault_of, has_copy, is_of, is_spent, keep_peer, turned, RotateFault, all_over, are_few, Unsealed, Connected, Exchanging, Spent, Crowded}
+use Rattle.exchange_model.specs.Rotating.{RotatesKeeps, copies, fault_of, has_copy, is_spent, keep_peer, turned, all_over, Unsealed, Connected, Exchanging, Spent}
+use Rattle.exchange_model.proofs.CopiedIdle.{openings-copied, conns-copied, readers-copied, has-copied, none-issued, none-open, opened-copied, opens-copied, sealed-copied}
+use Rattle.exchange_model.proofs.Stores.{no-store}
 use Rattle.exchange_model.proofs.Tables.{reads-from, reads-later}
 use Rattle.exchange_model.proofs.Shapes.{Sending, Hearing, kept_as, still_kept, copy_as, opening_as, first_as, firsts-as, if_such}
-use Rattle.exchange_model.proofs.Shapes as H
 use Rattle.exchange_model.proofs.Copies.{cons_if, add_kept, copied, newest-copied}
 use Rattle.exchange_model.proofs.CopiedEntries.{entries-copied}
-use Rattle.exchange_model.proofs.CopiedIdle.{conns-copied, readers-copied, has-copied, none-issued, none-open, opened-copied, opens-copied, sealed-copied}
 use Rattle.exchange_model.proofs.CopiedLegal.{legal-copied}
 use Rattle.exchange_model.proofs.CopiedLinks.{kept-agrees}
 use Rattle.exchange_model.proofs.CopiedUnknown.{known-copied, knows-copy, none-agrees, of_peer}
+use Rattle.exchange_model.proofs.Shapes as H
 
 -- A turn is made where there are numbers left.
 
@@ -249,6 +249,7 @@ reads-copied t l S r later fit = record {
   readers_are = readers-copied t l;
   keys = none-open t l;
   exchanges_are = tt;
+  store_is = no-store (copied t l) (openings-copied t l);
   tokens_are = issued-copied (λ (m : Content). token_number m.token < S.issued) t l r.tokens_are;
   waiting_are = tt;
   links_are = λ p. link-agrees t l S p r later;

@@ -1,5 +1,5 @@
 -- What each call does: an input, and all that is due because of it.
-use Rattle.std.specs.Prelude.{ℕ, Bool, false, ◌&&◌, ◌||◌, ◌==◌, nat_lt, nat_le, List, [], ◌∷◌, length, map, filter, filter_map, fold, Option, Some, None, option_map, is_some, unwrap_or, Result, Ok, Err, if◌then◌else◌}
+use Rattle.std.specs.Prelude.{◌≡◌, ℕ, Bool, false, ◌&&◌, ◌||◌, ◌==◌, nat_lt, nat_le, List, [], ◌∷◌, length, map, filter, filter_map, fold, Option, Some, None, option_map, is_some, unwrap_or, Result, Ok, Err, if◌then◌else◌}
 use Rattle.std.specs.List.{find, list_any}
 use Rattle.std.specs.Option.{option_map_or}
 use Rattle.limits.specs.declared.TheConstants.{MAX_DATAGRAM_LEN, MAX_EXCHANGES, MAX_MESSAGE_IDS, MAX_WAITING}
@@ -7,28 +7,30 @@ use Rattle.coap_codec.specs.Spelling.{Content}
 use Rattle.coap_codec.specs.Reading.{message_at}
 use Rattle.coap_codec.specs.declared.fault.CodecFault.{CodecFault}
 use Rattle.uri_map.specs.declared.peer.Peer.{Peer}
-use Rattle.ask_model.specs.declared.cause.Cause.{Cause}
-use Rattle.ask_model.specs.declared.cause.Cause.TheVariants as C
-use Rattle.ask_model.specs.Requests.{CoapRequest, Sense, Requests, Refuses}
-use Rattle.ask_model.specs.Sharing.{asks_same}
-use Rattle.ask_model.specs.Views.{Ask}
-use Rattle.journal_book.specs.Entries.{Grounds, Live, Fault, Written}
-use Rattle.history_laws.specs.Responses.{is_whole}
 use Rattle.message_layer.specs.Values.{LinkState}
 use Rattle.message_layer.specs.Sending.{due_of, mids_in_use}
 use Rattle.message_layer.specs.Hearing.{is_repeat, replies, reset_for, verdict_of}
 use Rattle.message_layer.specs.declared.state.Outstanding.{Outstanding}
-use Rattle.message_layer.specs.declared.state.Reply.TheVariants as R
 use Rattle.message_layer.specs.declared.state.Waiting.{Waiting}
 use Rattle.message_layer.specs.declared.verdict.News.{News}
-use Rattle.message_layer.specs.declared.verdict.News.TheVariants as N
 use Rattle.message_layer.specs.declared.verdict.Verdict.{Verdict}
+use Rattle.message_layer.specs.declared.state.Reply.TheVariants as R
+use Rattle.message_layer.specs.declared.verdict.News.TheVariants as N
+use Rattle.resp_cache.specs.Stored.{Stored}
+use Rattle.resp_cache.specs.Stores.{served}
+use Rattle.ask_model.specs.declared.cause.Cause.{Cause}
+use Rattle.ask_model.specs.Requests.{CoapRequest, Sense, Requests, Refuses}
+use Rattle.ask_model.specs.Sharing.{asked_key, asks_same, is_get}
+use Rattle.ask_model.specs.Views.{Ask}
+use Rattle.ask_model.specs.declared.cause.Cause.TheVariants as C
+use Rattle.journal_book.specs.Entries.{Grounds, Live, Kept, Fault, Written}
+use Rattle.history_laws.specs.Responses.{Response, is_whole}
 use Rattle.history_laws.specs.Hearing.{is_such}
 use Rattle.history_links.specs.Steps.{ended_token}
 use Rattle.exchange_model.specs.declared.kept.Exchange.{Exchange}
 use Rattle.exchange_model.specs.declared.kept.Reader.{Reader}
 use Rattle.exchange_model.specs.State.{PeerLink, State, link_of}
-use Rattle.exchange_model.specs.Steps.{asks, answers, begins, joins, asked_in, ended_in, confirms, hears_nothing, hears, sends_first, sends_copy, expires, timed_out, passes}
+use Rattle.exchange_model.specs.Steps.{asks, answers, begins, joins, asked_in, ended_in, method_in, recalls, whole_by, confirms, hears_nothing, hears, sends_first, sends_copy, expires, timed_out, passes}
 
 -- The message that waits first goes out where nothing is outstanding (RFC 7252 section 4.7).
 abbrev pub next_by : ℕ → Peer → Option Outstanding → List Waiting → State → State
@@ -70,9 +72,25 @@ asked_with None t c a q n S =
     if has_place t q.peer S then next t q.peer (begins t c a q n.token n.text n.word S)
     else refused t c a C.Busy S
 
+-- the stored response that a GET is served, while it is fresh
+abbrev pub served_in : CoapRequest → ℕ → State → Option Stored
+served_in q t S = if is_get q then served (asked_key q) t S.store else None
+
+abbrev pub serves : ℕ → ℕ → Ask → CoapRequest → Stored → State → State
+serves t c a q s S =
+    answers t c (length S.entries) (Kept s.list) (recalls t c a (asked_key q) S)
+
+abbrev pub asked_for : Option Stored → ℕ → ℕ → Ask → CoapRequest → Numbers → State → State
+asked_for (Some s) t c a q n S = serves t c a q s S
+asked_for None t c a q n S = asked_with (joined q S) t c a q n S
+
+-- Neither the store nor an open exchange answers it.
+abbrev pub IsAlone : ℕ → CoapRequest → State → Type 0
+IsAlone t q S = (served_in q t S ≡ None) × (joined q S ≡ None)
+
 abbrev pub asked_by : Sense → ℕ → ℕ → Ask → Numbers → State → State
 asked_by (Refuses cause status) t c a n S = refused t c a cause S
-asked_by (Requests q) t c a n S = asked_with (joined q S) t c a q n S
+asked_by (Requests q) t c a n S = asked_for (served_in q t S) t c a q n S
 
 abbrev pub asked : ℕ → ℕ → Ask → Numbers → State → State
 asked t c a n S = asked_by a.sense t c a n S
@@ -101,11 +119,6 @@ abbrev pub told_for : Option Exchange → Grounds → List Reader → List Telli
 told_for None g rs = []
 told_for (Some e) g rs = map (tell g) (filter (is_reader_of e) rs)
 
--- the method that it asks with, or 0 where there is none
-abbrev pub method_in : Option Exchange → ℕ
-method_in None = 0
-method_in (Some e) = e.method
-
 -- on which grounds it ends: the reply with this number, or the Reset
 abbrev pub grounds_by : News → ℕ → ℕ → Content → Grounds
 grounds_by (N.Reset token) n method m = Fault C.Reset n
@@ -118,6 +131,17 @@ ended_by v m S = ended_in (ended_token v.news m.token) S.exchanges
 
 abbrev pub grounds_of : Verdict → Content → State → Grounds
 grounds_of v m S = grounds_by v.news (length S.entries) (method_in (ended_by v m S)) m
+
+-- what the exchange comes to: how it is told, and the whole response where it is one
+pub record Outcome : Type 0 where
+  pub grounds : Grounds
+  pub whole : Option Response
+
+abbrev pub outcome_of : Verdict → Content → State → Outcome
+outcome_of v m S = record {
+  grounds = grounds_of v m S;
+  whole = whole_by v.news (method_in (ended_by v m S)) m;
+}
 
 -- A message that is new: it is answered, the next one of the proxy goes out, and what it ends is
 -- told.

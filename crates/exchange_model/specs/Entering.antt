@@ -7,27 +7,30 @@ use Rattle.coap_codec.specs.Spelling.{Content}
 use Rattle.coap_codec.specs.Reading.{message_at}
 use Rattle.coap_codec.specs.declared.fault.CodecFault.{CodecFault}
 use Rattle.uri_map.specs.declared.peer.Peer.{Peer}
-use Rattle.ask_model.specs.declared.cause.Cause.{Cause}
-use Rattle.ask_model.specs.declared.cause.Cause.TheVariants as C
 use Rattle.uri_map.specs.Peers.{same_peer}
-use Rattle.ask_model.specs.Requests.{CoapRequest, Requests, Refuses}
-use Rattle.ask_model.specs.Views.{Ask}
-use Rattle.journal_book.specs.Entries.{Grounds, Fault, Deed, Asks, Sends, Hears, Passes, Answers}
 use Rattle.message_layer.specs.Values.{LinkState, was_dropped}
 use Rattle.message_layer.specs.Calls.{expected}
 use Rattle.message_layer.specs.Sending.{due_of, first_sent, waits, submitted, ticked as call_ticked}
 use Rattle.message_layer.specs.Hearing.{ignored, verdict_of, replies, reset_for, applied, hears as call_hears}
 use Rattle.message_layer.specs.declared.state.Awaited.{Awaited}
 use Rattle.message_layer.specs.declared.state.Outstanding.{Outstanding}
-use Rattle.message_layer.specs.declared.state.Reply.TheVariants as R
 use Rattle.message_layer.specs.declared.state.Waiting.{Waiting}
-use Rattle.message_layer.specs.declared.verdict.News.TheVariants as N
 use Rattle.message_layer.specs.declared.verdict.Verdict.{Verdict}
+use Rattle.message_layer.specs.declared.state.Reply.TheVariants as R
+use Rattle.message_layer.specs.declared.verdict.News.TheVariants as N
+use Rattle.resp_cache.specs.Stored.{Stored}
+use Rattle.resp_cache.specs.Stores.{moved}
+use Rattle.ask_model.specs.declared.cause.Cause.{Cause}
+use Rattle.ask_model.specs.Requests.{CoapRequest, Requests, Refuses}
+use Rattle.ask_model.specs.Views.{Ask}
+use Rattle.ask_model.specs.Sharing.{asked_key}
+use Rattle.ask_model.specs.declared.cause.Cause.TheVariants as C
+use Rattle.journal_book.specs.Entries.{Grounds, Kept, Fault, Deed, Asks, Sends, Hears, Passes, Answers}
 use Rattle.history_links.specs.Steps.{ended_token}
 use Rattle.exchange_model.specs.declared.kept.Exchange.{Exchange}
 use Rattle.exchange_model.specs.State.{PeerLink, State, link_of, with_link}
-use Rattle.exchange_model.specs.Steps.{entered, exchange_for, reader_for, joins, left_by, ended_in, given_out, went_out, is_other, timed_out, goes_on, is_gone}
-use Rattle.exchange_model.specs.Calls.{Numbers, Telling, told_for, told_late, has_place, joined, asked, grounds_of, heard, something_due, ticked}
+use Rattle.exchange_model.specs.Steps.{entered, exchange_for, reader_for, joins, left_by, ended_in, content_at, settled, retired, given_out, went_out, is_other, timed_out, goes_on, is_gone}
+use Rattle.exchange_model.specs.Calls.{Numbers, Telling, told_for, told_late, has_place, served_in, IsAlone, joined, asked, Outcome, outcome_of, heard, something_due, ticked}
 use Rattle.exchange_model.specs.Keeping.{MayStep, IsNumbered}
 
 -- entries one after another
@@ -119,14 +122,15 @@ abbrev pub awaits_no_more : Option (List ℕ) → LinkState → LinkState
 awaits_no_more None s = s
 awaits_no_more (Some token) s = expected token false s
 
-abbrev pub heeded : ℕ → Peer → List ℕ → ℕ → List ℕ → Verdict → Grounds → State → State
-heeded t p d mid token v g S =
+abbrev pub heeded : ℕ → Peer → List ℕ → ℕ → List ℕ → Verdict → Outcome → State → State
+heeded t p d mid token v o S =
     let s = link_of S.links p in let over = ended_token v.news token in
-    let S1 = entered_all t (heard_deeds t p d mid token v g S) S in record S1 {
+    let ended = ended_in over S.exchanges in
+    let S1 = entered_all t (heard_deeds t p d mid token v o.grounds S) S in record S1 {
       exchanges =
           sent_as (heard_going p mid v S)
-          (left_by S.entries (option_to_list (ended_in over S.exchanges))
-          (filter (is_other over) S.exchanges));
+          (left_by S.entries (option_to_list ended) (filter (is_other over) S.exchanges));
+      store = settled S.entries ended (content_at t (length S.entries) o.whole) S.store;
       links = with_link p (given_out (awaits_no_more over (applied t mid token v s))) S.links;
     }
 
@@ -198,6 +202,7 @@ moved_by t S =
       exchanges =
           sent_as (all_going t gone (length S.entries + 1) S.links)
           (left_by S.entries (timed_out t S) (filter (goes_on t S) S.exchanges));
+      store = retired S.entries (timed_out t S) S.store;
       links = map (link_after t gone) S.links;
     }
 
@@ -217,14 +222,25 @@ abbrev pub BeginsEnter : Type 0
 BeginsEnter =
     (t c : ℕ) (a : Ask) (q : CoapRequest) (n : Numbers) (S : State)
     → MayStep t S → IsDrained S → IsNumbered q n S
-    → a.sense ≡ Requests q → joined q S ≡ None → has_place t q.peer S ≡ true
+    → a.sense ≡ Requests q → IsAlone t q S → has_place t q.peer S ≡ true
     → asked t c a n S ≡ begun t c a q n S
+
+-- One that the store answers leaves itself and its answer, and its pair is the first.
+abbrev pub ServedEnters : Type 0
+ServedEnters =
+    (t c : ℕ) (a : Ask) (q : CoapRequest) (n : Numbers) (s : Stored) (S : State)
+    → a.sense ≡ Requests q → served_in q t S ≡ Some s
+    → asked t c a n S
+    ≡ (let k = length S.entries in
+    let S1 = entered_all t (Asks c a ∷ Answers c k (Kept s.list) ∷ []) S in
+    record S1 { store = moved (asked_key q) t S.store })
 
 -- One that joins an exchange leaves itself, and who waits.
 abbrev pub JoinsEnter : Type 0
 JoinsEnter =
     (t c : ℕ) (a : Ask) (q : CoapRequest) (n : Numbers) (e : Exchange) (S : State)
-    → a.sense ≡ Requests q → joined q S ≡ Some e → asked t c a n S ≡ joins t c a e.opening S
+    → a.sense ≡ Requests q → served_in q t S ≡ None → joined q S ≡ Some e
+    → asked t c a n S ≡ joins t c a e.opening S
 
 -- Any other is answered at once.
 abbrev pub RefusalsEnter : Type 0
@@ -236,7 +252,7 @@ RefusalsEnter =
 abbrev pub BusyEnters : Type 0
 BusyEnters =
     (t c : ℕ) (a : Ask) (q : CoapRequest) (n : Numbers) (S : State)
-    → a.sense ≡ Requests q → joined q S ≡ None → has_place t q.peer S ≡ false
+    → a.sense ≡ Requests q → IsAlone t q S → has_place t q.peer S ≡ false
     → asked t c a n S ≡ entered_all t (refusal_deeds c a C.Busy S) S
 
 -- a datagram of at most 2,048 bytes, from an endpoint to which something was sent
@@ -254,15 +270,15 @@ MessageEnters =
     → let v = verdict_of t (link_of S.links p) m in
     (v.news ≡ N.Lost → ⊥)
     → heard t p d S
-    ≡ heeded t p d m.mid m.token v (grounds_of v m S) S
+    ≡ heeded t p d m.mid m.token v (outcome_of v m S) S
 
--- So is what is no message, whatever its token and grounds.
+-- So is what is no message, whatever its token and outcome.
 abbrev pub GarbledEnters : Type 0
 GarbledEnters =
-    (t : ℕ) (p : Peer) (d : List ℕ) (e : CodecFault) (mid : ℕ) (token : List ℕ) (g : Grounds)
+    (t : ℕ) (p : Peer) (d : List ℕ) (e : CodecFault) (mid : ℕ) (token : List ℕ) (o : Outcome)
     (S : State)
     → Comes t p d S → message_at d ≡ Err e → IsMid (reset_for d) mid
-    → heard t p d S ≡ heeded t p d mid token (garbled (reset_for d)) g S
+    → heard t p d S ≡ heeded t p d mid token (garbled (reset_for d)) o S
 
 -- Where 1,024 are remembered one more is lost, as what is too long or from elsewhere.
 abbrev pub LostStays : Type 0
@@ -313,7 +329,7 @@ abbrev pub StaysDrained : Type 0
 StaysDrained =
     (t : ℕ) (S : State) → IsDrained S
     → ((c : ℕ) (a : Ask) (q : CoapRequest) (n : Numbers) → IsDrained (begun t c a q n S))
-    × ((p : Peer) (d : List ℕ) (mid : ℕ) (token : List ℕ) (v : Verdict) (g : Grounds)
-    → IsDrained (heeded t p d mid token v g S))
+    × ((p : Peer) (d : List ℕ) (mid : ℕ) (token : List ℕ) (v : Verdict) (o : Outcome)
+    → IsDrained (heeded t p d mid token v o S))
     × IsDrained (moved_by t S)
     × ((ds : List Deed) → IsDrained (entered_all t ds S))

@@ -2,10 +2,13 @@
 -- connections.
 use Rattle.std.specs.Prelude.{◌≡◌, ◌⊎◌, ℕ, ◌+◌, ◌<◌, Bool, true, false, List, [], ◌∷◌, ◌++◌, length, slice_get, Some, ⊤}
 use Rattle.std.specs.List.{AllByRecursion, Contains}
+use Rattle.coap_codec.specs.Spelling.{Content, Spells}
 use Rattle.uri_map.specs.declared.peer.Peer.{Peer}
+use Rattle.resp_cache.specs.declared.pair.Pair.{Pair}
 use Rattle.ask_model.specs.Requests.{CoapRequest, Requests}
 use Rattle.ask_model.specs.Views.{Ask}
-use Rattle.journal_book.specs.Entries.{Deed, Opens, Asks, Sends, Answers, Shuts, Seals, Written}
+use Rattle.journal_book.specs.Entries.{Deed, Opens, Asks, Sends, Hears, Answers, Shuts, Seals, Written}
+use Rattle.history_laws.specs.Responses.{whole_in}
 use Rattle.exchange_model.specs.declared.kept.Conn.{Conn}
 use Rattle.exchange_model.specs.declared.kept.Exchange.{Exchange}
 use Rattle.exchange_model.specs.declared.kept.Reader.{Reader}
@@ -123,3 +126,17 @@ pub record IsKnown (S : State) (r : Reader) : Type 0 where
 
 abbrev pub ReadersKnown : Type 0
 ReadersKnown = (S : State) → KeptInRoom S → AllByRecursion (IsKnown S) S.readers
+
+-- What is stored under a key was heard whole, in one entry of the journal, in reply to a GET.
+pub record IsHeardIn (S : State) (p : Pair) : Type 0 where
+  pub number : ℕ
+  pub peer : Peer
+  pub bytes : List ℕ
+  pub message : Content
+  pub stands : slice_get S.entries number ≡ Some (at_moment p.stored.heard (Hears peer bytes))
+  pub spelled : Spells message bytes
+  pub list : p.stored.list ≡ number ∷ []
+  pub whole : whole_in 1 message ≡ Some p.stored.response
+
+abbrev pub StoreHeard : Type 0
+StoreHeard = (S : State) → KeptInRoom S → AllByRecursion (IsHeardIn S) S.store

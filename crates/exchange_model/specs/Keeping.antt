@@ -5,12 +5,12 @@ use Rattle.std.specs.List.{AllByRecursion}
 use Rattle.limits.specs.declared.TheConstants.{MAX_MESSAGE_IDS, MAX_TRANSMIT_WAIT}
 use Rattle.coap_codec.specs.Spelling.{Spells}
 use Rattle.uri_map.specs.declared.peer.Peer.{Peer}
+use Rattle.message_layer.specs.Values.{LinkState}
+use Rattle.message_layer.specs.declared.state.Waiting.{Waiting}
 use Rattle.ask_model.specs.Requests.{CoapRequest, Sense, Requests, Refuses, request_message}
 use Rattle.ask_model.specs.Views.{Ask}
 use Rattle.history_laws.specs.Causes.{IsRefusal}
 use Rattle.history_laws.specs.Numbering.{token_number}
-use Rattle.message_layer.specs.Values.{LinkState}
-use Rattle.message_layer.specs.declared.state.Waiting.{Waiting}
 use Rattle.history_laws.specs.Readings.{Noted}
 use Rattle.history_laws.specs.Sealing.{MaySeal}
 use Rattle.history_laws.specs.Justified.{Stands}
@@ -18,7 +18,7 @@ use Rattle.exchange_model.specs.declared.kept.Exchange.{Exchange}
 use Rattle.exchange_model.specs.State.{State, link_of}
 use Rattle.exchange_model.specs.Steps.{opens, shuts, seals}
 use Rattle.exchange_model.specs.Resting.{LinkRests, Rests, HasConn}
-use Rattle.exchange_model.specs.Calls.{Numbers, has_place, joined, asked, heard, ticked}
+use Rattle.exchange_model.specs.Calls.{Numbers, has_place, IsAlone, asked, heard, ticked}
 
 -- IDs are two bytes, and there are enough of them for all messages that wait.
 pub record HasMids (s : LinkState) : Type 0 where
@@ -42,6 +42,7 @@ start = record {
   conns = [];
   readers = [];
   exchanges = [];
+  store = [];
   links = [];
 }
 
@@ -86,7 +87,7 @@ abbrev pub AsksKeeps : Type 0
 AsksKeeps =
     (t c : ℕ) (a : Ask) (n : Numbers) (S : State)
     → MayStep t S → HasConn S.conns c None → IsProper a.sense
-    → ((q : CoapRequest) → a.sense ≡ Requests q → joined q S ≡ None → has_place t q.peer S ≡ true
+    → ((q : CoapRequest) → a.sense ≡ Requests q → IsAlone t q S → has_place t q.peer S ≡ true
     → IsNumbered q n S)
     → Kept (asked t c a n S)
 

@@ -1,33 +1,37 @@
 -- Where its premise holds, an entry may follow, and the state after it says what the longer history
 -- says.
 use Rattle.std.specs.List.{AllByRecursion}
-use Rattle.std.specs.Prelude.{◌≡◌, ℕ, ◌<◌, ◌≤◌, true, false, List, ◌∷◌, length, Option, Some, None, is_some}
+use Rattle.std.specs.Prelude.{◌≡◌, ℕ, ◌<◌, ◌≤◌, true, false, List, ◌∷◌, length, Option, Some, None}
 use Rattle.limits.specs.declared.TheConstants.{MAX_DATAGRAM_LEN, MAX_MESSAGE_IDS, MAX_RETRANSMIT}
 use Rattle.coap_codec.specs.Spelling.{Content, Spells}
 use Rattle.uri_map.specs.declared.peer.Peer.{Peer}
-use Rattle.ask_model.specs.Requests.{CoapRequest, Requests, request_message}
-use Rattle.ask_model.specs.Views.{Ask}
-use Rattle.journal_book.specs.Entries.{Grounds, Opens, Asks, Sends, Hears, Passes, Answers, Shuts, Seals}
-use Rattle.history_laws.specs.Confirmations.{Confirmation}
-use Rattle.history_laws.specs.Numbering.{token_number}
 use Rattle.message_layer.specs.Sending.{due_of, first_sent}
 use Rattle.message_layer.specs.Hearing.{verdict_of, reset_for}
 use Rattle.message_layer.specs.declared.state.Waiting.{Waiting}
 use Rattle.message_layer.specs.declared.state.Outstanding.{Outstanding}
 use Rattle.message_layer.specs.declared.verdict.Verdict.{Verdict}
-use Rattle.history_laws.specs.Joining as H
-use Rattle.history_laws.specs.Readings.{Noted, Plain, Begins, Joins, Confirms, Repeats, Garbled, ticked, noted}
+use Rattle.resp_cache.specs.Stored.{Stored}
+use Rattle.ask_model.specs.Requests.{CoapRequest, Requests, request_message}
+use Rattle.ask_model.specs.Views.{Ask}
+use Rattle.ask_model.specs.Sharing.{asked_key}
+use Rattle.journal_book.specs.Entries.{Grounds, Opens, Asks, Sends, Hears, Passes, Answers, Shuts, Seals}
+use Rattle.history_laws.specs.Confirmations.{Confirmation}
+use Rattle.history_laws.specs.Numbering.{token_number}
+use Rattle.history_laws.specs.Readings.{Noted, Plain, Begins, Joins, Serves, Confirms, Repeats, Garbled, ticked, noted}
 use Rattle.history_laws.specs.Connections.{is_open, asks_of, answers_of}
 use Rattle.history_laws.specs.Transmissions.{mids_used}
 use Rattle.history_laws.specs.Hearing.{knows, repeated, can_be_remembered, has_room}
 use Rattle.history_laws.specs.Confirming.{owed}
 use Rattle.history_laws.specs.Sealing.{MaySeal}
-use Rattle.history_laws.specs.Justified.{HasGrounds, AskNote, pending, MayConfirm, MayCome, Follows}
+use Rattle.history_laws.specs.Justified.{HasGrounds, AskNote, pending, MayConfirm, MayCome, Follows, UnservedNote}
+use Rattle.history_laws.specs.Storing.{MissesAlone}
+use Rattle.history_laws.specs.Joining as H
 use Rattle.history_links.specs.Agrees.{due}
 use Rattle.history_links.specs.Steps.{MaySend, copy, first, heard, reset}
 use Rattle.exchange_model.specs.State.{State, link_of}
 use Rattle.exchange_model.specs.Reads.{Reads}
-use Rattle.exchange_model.specs.Steps.{opens, asks, answers, shuts, seals, begins, joins, confirms, hears_nothing, sends_first, sends_copy, hears, passes}
+use Rattle.exchange_model.specs.Calls.{served_in}
+use Rattle.exchange_model.specs.Steps.{opens, asks, answers, shuts, seals, begins, recalls, joins, confirms, hears_nothing, sends_first, sends_copy, hears, passes}
 
 -- an open connection that waits for no answer
 pub record MayAsk (l : List Noted) (c : ℕ) : Type 0 where
@@ -70,14 +74,21 @@ AnswersLeads =
 abbrev pub AsksLeads : Type 0
 AsksLeads =
     (l : List Noted) (t c : ℕ) (a : Ask) (S : State)
-    → Before l t S → MayCome l → MayAsk l c → AskNote l t a.sense Plain
+    → Before l t S → MayCome l → MayAsk l c → AskNote l t a.sense Plain → UnservedNote l t a.sense Plain
     → Leads l (noted t (Asks c a) Plain) (asks t c a S)
 
--- A GET joins the exchange of an equal one that is open.
+-- A GET is served what is stored, while that is fresh.
+abbrev pub RecallsLeads : Type 0
+RecallsLeads =
+    (l : List Noted) (t c : ℕ) (a : Ask) (q : CoapRequest) (s : Stored) (S : State)
+    → Before l t S → MayCome l → MayAsk l c → a.sense ≡ Requests q → served_in q t S ≡ Some s
+    → Leads l (noted t (Asks c a) (Serves s.list)) (recalls t c a (asked_key q) S)
+
+-- Where it can be served no more, it joins the exchange of an equal one that is open.
 abbrev pub JoinsLeads : Type 0
 JoinsLeads =
     (l : List Noted) (t c : ℕ) (a : Ask) (q : CoapRequest) (o : ℕ) (S : State)
-    → Before l t S → MayCome l → MayAsk l c → a.sense ≡ Requests q → H.joins l q ≡ Some o
+    → Before l t S → MayCome l → MayAsk l c → a.sense ≡ Requests q → MissesAlone l t q → H.joins l q ≡ Some o
     → Leads l (noted t (Asks c a) (Joins o)) (joins t c a o S)
 
 -- Any other opens an exchange, and its message waits last.
@@ -86,7 +97,7 @@ BeginsLeads =
     (l : List Noted) (t c : ℕ) (a : Ask) (q : CoapRequest) (token text : List ℕ) (word : ℕ)
     (S : State)
     → Before l t S → MayCome l → MayAsk l c
-    → a.sense ≡ Requests q → H.joins l q ≡ None → has_room l t q ≡ true → Spells (request_message q 0 token) text
+    → a.sense ≡ Requests q → MissesAlone l t q → H.joins l q ≡ None → has_room l t q ≡ true → Spells (request_message q 0 token) text
     → length token ≡ 8 → token_number token ≡ S.issued
     → Leads l (noted t (Asks c a) (Begins q)) (begins t c a q token text word S)
 

@@ -1,15 +1,20 @@
 -- A state says what a history says.
-use Rattle.std.specs.Prelude.{◌≡◌, ℕ, ◌+◌, ◌<◌, ◌≤◌, max, false, not, List, [], ◌∷◌, ◌++◌, length, map, Option, Some, None}
-use Rattle.std.specs.List.{AllByRecursion, Contains}
+use Rattle.std.specs.Prelude.{◌≡◌, ◌⊎◌, ⊤, ℕ, ◌+◌, ◌<◌, ◌≤◌, max, true, false, not, List, [], ◌∷◌, ◌++◌, length, map, Option, Some, None}
+use Rattle.std.specs.List.{AllByRecursion, Contains, list_any}
 use Rattle.limits.specs.declared.TheConstants.{MAX_NUMBERED}
 use Rattle.uri_map.specs.declared.peer.Peer.{Peer}
-use Rattle.ask_model.specs.Requests.{CoapRequest}
-use Rattle.ask_model.specs.Sharing.{asked_place}
-use Rattle.ask_model.specs.Views.{Ask}
-use Rattle.history_laws.specs.Numbering.{token_number}
-use Rattle.journal_book.specs.Entries.{Deed, Opens, Asks}
 use Rattle.message_layer.specs.declared.state.Waiting.{Waiting}
+use Rattle.cache_key.specs.Keys.{CacheKey}
+use Rattle.resp_cache.specs.Stored.{Stored, is_never_fresh}
+use Rattle.resp_cache.specs.Stores.{is_of}
+use Rattle.resp_cache.specs.declared.pair.Pair.{Pair}
+use Rattle.ask_model.specs.Requests.{CoapRequest}
+use Rattle.ask_model.specs.Sharing.{asked_key, asked_place, is_get}
+use Rattle.ask_model.specs.Views.{Ask}
+use Rattle.journal_book.specs.Entries.{Deed, Opens, Asks}
+use Rattle.history_laws.specs.Numbering.{token_number}
 use Rattle.history_laws.specs.Joining.{outrun}
+use Rattle.history_laws.specs.Storing.{IsStored, IsUse, IsCrowdedOut}
 use Rattle.history_laws.specs.Readings.{Noted, Note, Begins, Joins, entries, at, newest, noted}
 use Rattle.history_laws.specs.Connections.{is_sealed, opened, has_opened}
 use Rattle.history_laws.specs.Transmissions.{FirstSending, firsts, first_at, bears_token}
@@ -67,6 +72,33 @@ WaitsUnder ws e =
 abbrev pub opening_of : Exchange → ℕ
 opening_of e = e.opening
 
+-- Each pair is what is stored for GETs of its key.
+pub record PairIn (l : List Noted) (p : Pair) : Type 0 where
+  pub request : CoapRequest
+  pub get : is_get request ≡ true
+  pub key : asked_key request ≡ p.key
+  pub stored : IsStored l request p.stored
+
+-- What is stored under the key was used last in the entry with this number.
+pub record IsLastUse (l : List Noted) (n : ℕ) (key : CacheKey) : Type 0 where
+  pub used : IsUse l n key
+  pub last : (m : ℕ) → IsUse l m key → m ≤ n
+
+-- The pairs stand in the order of their last uses, which lie before this entry.
+abbrev pub AreLastFirst : List Noted → ℕ → List Pair → Type 0
+AreLastFirst l b [] = ⊤
+AreLastFirst l b (p ∷ ps) = (n : ℕ) × (n < b) × IsLastUse l n p.key × AreLastFirst l n ps
+
+abbrev pub HasPair : List Pair → CacheKey → Type 0
+HasPair ps key = list_any (is_of key) ps ≡ true
+
+-- The store has what the history says: the last used first, and all that isn't crowded out.
+pub record StoreIn (l : List Noted) (ps : List Pair) : Type 0 where
+  pub pairs : AllByRecursion (PairIn l) ps
+  pub order : AreLastFirst l (length l) ps
+  pub kept : (q : CoapRequest) (s : Stored) → IsStored l q s → is_never_fresh s ≡ false
+      → HasPair ps (asked_key q) ⊎ IsCrowdedOut l (asked_key q)
+
 -- how many connections the history opened
 abbrev pub opens_once : Deed → ℕ → ℕ
 opens_once (Opens c) old = old + 1
@@ -91,6 +123,7 @@ pub record Reads (l : List Noted) (S : State) : Type 0 where
   pub readers_are : readers_of l ≡ S.readers
   pub keys : open_exchanges l ≡ map opening_of S.exchanges
   pub exchanges_are : AllByRecursion (ExchangeIn start l) S.exchanges
+  pub store_is : StoreIn l S.store
   pub tokens_are :
       AllByRecursion (λ (f : FirstSending). token_number f.message.token < S.issued) (firsts l)
   pub waiting_are :

@@ -1,5 +1,5 @@
 -- A sealed journal is given out, and the core goes on with one that begins with copies of its entries.
-use Rattle.std.specs.Prelude.{◌≡◌, ℕ, ◌≤◌, ◌+◌, ◌-◌, ◌*◌, ◌^◌, Bool, true, false, not, ◌&&◌, ◌||◌, ◌==◌, nat_le, nat_lt, List, [], ◌∷◌, ◌++◌, length, map, filter, sum_by, Option, Some, None, is_some, option_map, option_to_list, Result, Ok, Err, if◌then◌else◌}
+use Rattle.std.specs.Prelude.{◌≡◌, ℕ, ◌≤◌, ◌+◌, Bool, true, false, not, ◌&&◌, ◌||◌, ◌==◌, nat_le, nat_lt, List, [], ◌∷◌, ◌++◌, length, map, filter, sum_by, Option, Some, None, is_some, Result, Ok, Err, if◌then◌else◌}
 use Rattle.std.specs.List.{list_all, list_any}
 use Rattle.limits.specs.declared.TheConstants.{EXCHANGE_LIFETIME, MESSAGE_ID_LIFETIME, MAX_COPIES, MAX_COPIES_LEN, MAX_NUMBERED}
 use Rattle.coap_codec.specs.Spelling.{Content}
@@ -7,10 +7,9 @@ use Rattle.coap_codec.specs.Reading.{message_at}
 use Rattle.coap_codec.specs.declared.fault.CodecFault.{CodecFault}
 use Rattle.uri_map.specs.declared.peer.Peer.{Peer}
 use Rattle.uri_map.specs.Peers.{same_peer}
-use Rattle.journal_book.specs.Entries.{Past, Done, Sent, Heard, done_of, Deed, Carries, Written, entry_size}
 use Rattle.message_layer.specs.Calls.{kept_link}
 use Rattle.message_layer.specs.Sending.{is_over_by}
-use Rattle.message_layer.specs.declared.state.Heard.{Heard as Remembered}
+use Rattle.journal_book.specs.Entries.{Past, Done, Sent, Heard, done_of, Deed, Carries, Written, entry_size}
 use Rattle.history_laws.specs.Hearing.{is_such}
 use Rattle.exchange_model.specs.State.{PeerLink, State}
 use Rattle.exchange_model.specs.Steps.{is_past}
@@ -121,7 +120,7 @@ fault_of t S =
     else (if is_spent S then Some Spent
     else (if not (are_few (copies t S.entries)) then Some Crowded else None))))
 
--- what it goes on with: numbers, and what is remembered
+-- what it goes on with: numbers, and what is remembered; what was stored is asked for anew
 abbrev pub turned : ℕ → State → State
 turned t S = let ws = copies t S.entries in record {
   entries = ws;
@@ -132,6 +131,7 @@ turned t S = let ws = copies t S.entries in record {
   conns = [];
   readers = [];
   exchanges = [];
+  store = [];
   links = filter (has_copy ws) (map (keep_peer t) S.links);
 }
 

@@ -1,5 +1,5 @@
 -- A step that doesn't fit seals the journal, and is otherwise undone.
-use Rattle.std.specs.Prelude.{◌≡◌, ℕ, ◌+◌, ◌<◌, ◌≤◌, true, List, filter, fold, length, Option, Some, None, if◌then◌else◌, ◌++◌, ⊤}
+use Rattle.std.specs.Prelude.{◌≡◌, ℕ, ◌+◌, ◌<◌, ◌≤◌, true, List, filter, fold, length, Option, None, if◌then◌else◌, ◌++◌, ⊤}
 use Rattle.std.specs.List.{AllByRecursion}
 use Rattle.limits.specs.declared.TheConstants.{MAX_MESSAGE_LEN, MAX_REQUEST_SIZE, MAX_TRANSMIT_WAIT}
 use Rattle.uri_map.specs.declared.peer.Peer.{Peer}
@@ -12,7 +12,7 @@ use Rattle.exchange_model.specs.declared.kept.Exchange.{Exchange}
 use Rattle.exchange_model.specs.State.{State}
 use Rattle.exchange_model.specs.Steps.{opens, shuts, seals, is_past}
 use Rattle.exchange_model.specs.Resting.{HasConn}
-use Rattle.exchange_model.specs.Calls.{Numbers, has_place, joined, asked, is_reader_of, tells, told_late, heard, ticked}
+use Rattle.exchange_model.specs.Calls.{Numbers, has_place, IsAlone, asked, is_reader_of, tells, told_late, heard, ticked}
 use Rattle.exchange_model.specs.Keeping.{start, IsProper, IsNumbered}
 use Rattle.exchange_model.specs.Room.{fits, KeptInRoom}
 
@@ -65,7 +65,7 @@ abbrev pub AsksInRoom : Type 0
 AsksInRoom =
     (t c : ℕ) (a : Ask) (n : Numbers) (S : State)
     → KeptInRoom S → S.moment ≤ t → HasConn S.conns c None → IsProper a.sense
-    → ((q : CoapRequest) → a.sense ≡ Requests q → joined q S ≡ None → has_place t q.peer S ≡ true
+    → ((q : CoapRequest) → a.sense ≡ Requests q → IsAlone t q S → has_place t q.peer S ≡ true
     → IsNumbered q n S)
     → IsSized a n
     → KeptInRoom (asks_in_room t c a n S)

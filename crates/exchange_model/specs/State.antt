@@ -2,8 +2,9 @@
 use Rattle.std.specs.Prelude.{ℕ, Bool, not, ◌==◌, List, [], ◌∷◌, ◌++◌, map, filter, Option, Some, None, if◌then◌else◌}
 use Rattle.uri_map.specs.declared.peer.Peer.{Peer}
 use Rattle.uri_map.specs.Peers.{same_peer}
-use Rattle.journal_book.specs.Entries.{Deed, Opens, Asks, Answers, Shuts, Written}
 use Rattle.message_layer.specs.Values.{LinkState, empty_link}
+use Rattle.resp_cache.specs.declared.pair.Pair.{Pair}
+use Rattle.journal_book.specs.Entries.{Deed, Opens, Asks, Answers, Shuts, Written}
 use Rattle.exchange_model.specs.declared.kept.Conn.{Conn}
 use Rattle.exchange_model.specs.declared.kept.Exchange.{Exchange}
 use Rattle.exchange_model.specs.declared.kept.Reader.{Reader}
@@ -27,6 +28,8 @@ pub record State : Type 0 where
   pub exchanges : List Exchange
   -- who waits for an exchange, in the order of their asks
   pub readers : List Reader
+  -- the responses that are stored, the last used first
+  pub store : List Pair
   -- the endpoints, in the order in which they were first asked for something
   pub links : List PeerLink
 

@@ -1,20 +1,28 @@
 -- What each kind of entry does to a state.
-use Rattle.std.specs.Prelude.{ℕ, ◌+◌, true, Bool, not, ◌&&◌, ◌||◌, nat_le, List, [], ◌∷◌, ◌++◌, length, map, filter, find, slice_get, Option, Some, None, is_some, option_and_then, option_to_list, false, ◌==◌, if◌then◌else◌}
+use Rattle.std.specs.Prelude.{ℕ, ◌+◌, true, Bool, not, ◌&&◌, ◌||◌, nat_le, List, [], ◌∷◌, ◌++◌, length, map, filter, find, take, slice_get, Option, Some, None, is_some, option_and_then, option_to_list, false, ◌==◌, if◌then◌else◌}
 use Rattle.std.specs.List.{list_any}
 use Rattle.std.specs.Option.{option_map_or}
 use Rattle.std.specs.Str.{bytes_eq}
-use Rattle.limits.specs.declared.TheConstants.{MAX_TRANSMIT_WAIT}
+use Rattle.limits.specs.declared.TheConstants.{MAX_STORED, MAX_TRANSMIT_WAIT}
 use Rattle.coap_codec.specs.Spelling.{Content}
 use Rattle.uri_map.specs.declared.peer.Peer.{Peer}
-use Rattle.ask_model.specs.Requests.{CoapRequest, Sense, Requests, Refuses}
-use Rattle.ask_model.specs.Sharing.{asked_place, writes_to}
-use Rattle.ask_model.specs.Views.{Ask}
-use Rattle.journal_book.specs.Entries.{Grounds, Deed, Opens, Asks, Sends, Hears, Passes, Answers, Shuts, Seals, Written}
 use Rattle.message_layer.specs.Values.{LinkState}
 use Rattle.message_layer.specs.Sending.{first_sent, with_outstanding, with_copy, waits, queued}
 use Rattle.message_layer.specs.Hearing.{is_outstanding_under, verdict_of}
 use Rattle.message_layer.specs.declared.state.Waiting.{Waiting}
 use Rattle.message_layer.specs.declared.state.Outstanding.{Outstanding}
+use Rattle.message_layer.specs.declared.verdict.News.{News}
+use Rattle.message_layer.specs.declared.verdict.News.TheVariants as N
+use Rattle.cache_key.specs.Keys.{CacheKey}
+use Rattle.resp_cache.specs.Stored.{Stored, stored_of}
+use Rattle.resp_cache.specs.Stores.{is_elsewhere, moved, placed}
+use Rattle.resp_cache.specs.declared.pair.Pair.{Pair}
+use Rattle.ask_model.specs.Requests.{CoapRequest, Sense, Requests, Refuses}
+use Rattle.ask_model.specs.Sharing.{asked_key, asked_place, is_get, writes_to}
+use Rattle.ask_model.specs.Views.{Ask}
+use Rattle.journal_book.specs.Entries.{Grounds, Deed, Opens, Asks, Sends, Hears, Passes, Answers, Shuts, Seals, Written}
+use Rattle.history_laws.specs.Responses.{Response, whole_in}
+use Rattle.history_laws.specs.Storing.{content}
 use Rattle.history_links.specs.Steps.{ended_token, heard_link, is_over, passed_link}
 use Rattle.exchange_model.specs.declared.kept.Exchange.{Exchange}
 use Rattle.exchange_model.specs.declared.kept.Reader.{Reader}
@@ -69,6 +77,10 @@ begins t c a q token text word S = let S1 = entered t (Asks c a) S in record S1 
   readers = S.readers ++ reader_for c S ∷ [];
   links = with_link q.peer (queued t (waits token text word) (link_of S.links q.peer)) S.links;
 }
+
+-- An ask is answered from the store: its pair comes to the front.
+abbrev pub recalls : ℕ → ℕ → Ask → CacheKey → State → State
+recalls t c a key S = let S1 = entered t (Asks c a) S in record S1 { store = moved key t S.store }
 
 -- an ask reads an exchange that is open
 abbrev pub joins : ℕ → ℕ → Ask → ℕ → State → State
@@ -141,14 +153,55 @@ abbrev pub is_other : Option (List ℕ) → Exchange → Bool
 is_other None e = true
 is_other (Some token) e = not (is_under token e)
 
+-- the method that it asks with, or 0 where there is none
+abbrev pub method_in : Option Exchange → ℕ
+method_in None = 0
+method_in (Some e) = e.method
+
+-- the whole response that the exchange ends with, if it does
+abbrev pub whole_by : News → ℕ → Content → Option Response
+whole_by (N.Reset token) method m = None
+whole_by news method m = whole_in method m
+
+-- A whole 2.05 is stored, and counts from the moment of its entry (RFC 7252 section 5.6.1).
+abbrev pub content_at : ℕ → ℕ → Option Response → Option Stored
+content_at t n None = None
+content_at t n (Some w) = if w.code == content then Some (stored_of w t (n ∷ [])) else None
+
+abbrev pub put_by : Option Stored → CacheKey → List Pair → List Pair
+put_by None key ps = ps
+put_by (Some s) key ps = take MAX_STORED (placed key s ps)
+
+-- What the end of an exchange does to the store: a GET that no write outran stores what it came to under its key, and
+-- a write takes out all of its place.
+abbrev pub settled_for : CoapRequest → Bool → Option Stored → List Pair → List Pair
+settled_for q current found ps =
+    if q.method == 1 then (if is_get q && current then put_by found (asked_key q) ps else ps)
+    else filter (is_elsewhere (asked_place q)) ps
+
+abbrev pub settled_by : Option CoapRequest → Bool → Option Stored → List Pair → List Pair
+settled_by None current found ps = ps
+settled_by (Some q) current found ps = settled_for q current found ps
+
+abbrev pub settled : List Written → Option Exchange → Option Stored → List Pair → List Pair
+settled ws None found ps = ps
+settled ws (Some e) found ps = settled_by (asked_in ws e.opening) e.current found ps
+
+-- These come to nothing that is stored.
+abbrev pub retired : List Written → List Exchange → List Pair → List Pair
+retired ws [] ps = ps
+retired ws (e ∷ es) ps = retired ws es (settled ws (Some e) None ps)
+
 abbrev pub hears : ℕ → Peer → List ℕ → Content → State → State
 hears t p d m S =
     let s = link_of S.links p in let v = verdict_of t s m in
     let over = ended_token v.news m.token in
+    let ended = ended_in over S.exchanges in
+    let found = content_at t (length S.entries) (whole_by v.news (method_in ended) m) in
     let S1 = entered t (Hears p d) S in record S1 {
       exchanges =
-          left_by S.entries (option_to_list (ended_in over S.exchanges))
-          (filter (is_other over) S.exchanges);
+          left_by S.entries (option_to_list ended) (filter (is_other over) S.exchanges);
+      store = settled S.entries ended found S.store;
       links = with_link p (heard_link t m.mid m.token v s) S.links;
     }
 
@@ -181,5 +234,6 @@ passed t S x = record { peer = x.peer; link = passed_link t (is_gone t S) x.link
 abbrev pub passes : ℕ → State → State
 passes t S = let S1 = entered t Passes S in record S1 {
   exchanges = left_by S.entries (timed_out t S) (filter (goes_on t S) S.exchanges);
+  store = retired S.entries (timed_out t S) S.store;
   links = map (passed t S) S.links;
 }

@@ -16,6 +16,7 @@ ghost use Rattle.exchange_model.specs.Growing.{
   ConnsRise,
   ReadersRise,
   ReadersKnown,
+  StoreHeard,
 };
 
 /// A call adds entries at its moment, and the connections follow from them.
@@ -48,4 +49,9 @@ pub fn readers_rise()
 pub fn connections_rise()
     ensures below { ConnsBelow }
     ensures rise { ConnsRise }
+{}
+
+/// What is stored was heard whole, in an entry of the journal.
+pub fn stored_was_heard()
+    ensures { StoreHeard }
 {}

@@ -6,6 +6,7 @@ ghost use Rattle.exchange_model.specs.Laws.{
   SealsLeads,
   AnswersLeads,
   AsksLeads,
+  RecallsLeads,
   JoinsLeads,
   BeginsLeads,
   FirstLeads,
@@ -32,6 +33,7 @@ ghost use Rattle.exchange_model.specs.Worked.{AnsweredRun, GivenUpRun};
 ghost use Rattle.exchange_model.specs.Resting.{ConnsTell, RestsAtRest};
 ghost use Rattle.exchange_model.specs.Entering.{
   BeginsEnter,
+  ServedEnters,
   JoinsEnter,
   RefusalsEnter,
   BusyEnters,
@@ -56,9 +58,11 @@ pub fn connections_lead()
     ensures answers { AnswersLeads }
 {}
 
-/// An ask opens an exchange under a token of its own, joins one, or does neither.
+/// An ask is served what is stored, opens an exchange under a token of its own, joins one, or does
+/// none of these.
 pub fn asks_lead()
     ensures refused { AsksLeads }
+    ensures recalls { RecallsLeads }
     ensures joins { JoinsLeads }
     ensures begins { BeginsLeads }
 {}
@@ -124,6 +128,7 @@ pub fn worked_runs()
 /// What an ask leaves: the entries that it adds, in order, and each table after it.
 pub fn asks_enter()
     ensures begins { BeginsEnter }
+    ensures served { ServedEnters }
     ensures joins { JoinsEnter }
     ensures refused { RefusalsEnter }
     ensures busy { BusyEnters }

@@ -1,4 +1,4 @@
-use Rattle.exchange_model.proofs.Begun.{begins-enter, joins-enter, refusals-enter, busy-enters}
+use Rattle.exchange_model.proofs.Begun.{begins-enter, served-enters, joins-enter, refusals-enter, busy-enters}
 use Rattle.exchange_model.proofs.laws.asks_enter.Goals as goal
 
 pub returns-clause-begins : goal.returns-clause-begins
@@ -12,3 +12,6 @@ returns-clause-refused c = refusals-enter
 
 pub returns-clause-busy : goal.returns-clause-busy
 returns-clause-busy c = busy-enters
+
+pub returns-clause-served : goal.returns-clause-served
+returns-clause-served c = served-enters

@@ -1,5 +1,5 @@
 use Rattle.exchange_model.proofs.Quiet.{repeats-leads, garbled-leads}
-use Rattle.exchange_model.proofs.Hearing.{hears-leads}
+use Rattle.exchange_model.proofs.Heard.{hears-leads}
 use Rattle.exchange_model.proofs.laws.hearing_leads.Goals as goal
 
 pub returns-clause-repeats : goal.returns-clause-repeats
