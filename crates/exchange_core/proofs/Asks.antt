@@ -6,6 +6,9 @@ use Rattle.ask_model.specs.Requests.{CoapRequest, Requests, Refuses}
 use Rattle.ask_model.specs.Views.{Ask, Mapping}
 use Rattle.ask_model.specs.Sizes.{came_size}
 use Rattle.ask_model.specs.declared.cause.Cause.{Cause}
+use Rattle.resp_cache.specs.Stored.{Stored}
+use Rattle.resp_cache.specs.declared.pair.Pair.{Pair}
+use Rattle.journal_book.specs.Views.{ask_of}
 use Rattle.history_laws.specs.Numbering.{token_number}
 use Rattle.std.specs.List.{find}
 use Rattle.journal_book.specs.Entries.{Written}
@@ -37,8 +40,10 @@ use Rattle.exchange_core.specs.Calls.{AsksSo, IsAsked}
 use Rattle.exchange_model.specs.declared.kept.Exchange.{Exchange}
 use Rattle.exchange_model.specs.Steps.{joins}
 use Rattle.exchange_core.specs.Joining.{MayJoin, is_joined_by, joined_for}
+use Rattle.exchange_core.specs.Recalling.{MayRecall, recalled, served_for}
 use Rattle.exchange_core.specs.Refusing.{MayRefuse, BeginsNothing}
 use Rattle.exchange_core.specs.States.{number_in}
+use Rattle.exchange_core.proofs.Recalls.{alone-by, enters-served, served-is, was-heard}
 use Rattle.exchange_core.proofs.Sounding.{second-of}
 
 -- an ask that is answered at once, whose message would go under this token
@@ -132,20 +137,53 @@ pub found-by : (ws : List Written) (m k : Mapping) (es fs : List Exchange) (v w 
 found-by ws m k es fs v w found same all is =
     sym (found ∙ ap (find (is_joined_by ws k.sense)) all ∙ ap (λ (x : Mapping). find (is_joined_by ws x.sense) es) same) ∙ is
 
+-- what is served
+pub stored-by : (m k : Mapping) (t : ℕ) (ps : List Pair) (v w : Option Stored) → v ≡ served_for k.sense t ps → k ≡ m → v ≡ w → served_for m.sense t ps ≡ w
+stored-by m k t ps v w found same is = ap (λ (x : Mapping). served_for x.sense t ps) (sym same) ∙ sym found ∙ is
+
 joined-nothing : (t : ℕ) (a : Ask) (e : Exchange) (S : State) → joined_for a.sense S ≡ Some e → BeginsNothing t a S
-joined-nothing t a e S found = λ q is alone place. never (sym (joined-is a q S (Some e) is found) ∙ alone)
+joined-nothing t a e S found = λ q is alone place. never (sym (joined-is a q S (Some e) is found) ∙ alone.1)
   where
     never : Some e ≡ None → ⊥
     never k = absurd cc
 
+served-nothing : (t : ℕ) (a : Ask) (s : Stored) (S : State) → served_for a.sense t S.store ≡ Some s → BeginsNothing t a S
+served-nothing t a s S found = λ q is alone place. never (sym (served-is t a.sense q S (Some s) is found) ∙ alone.0)
+  where
+    never : Some s ≡ None → ⊥
+    never k = absurd cc
+
+-- an ask that the store answers
+pub may-recall : (t c : ℕ) (m : Mapping) (q : CoapRequest) (s : Stored) (S : State)
+    → KeptInRoom S → S.sealed ≡ false → S.moment ≤ t → HasConn S.conns c None → came_size m.came ≤ MAX_REQUEST_SIZE
+    → m.sense ≡ Requests q → served_for m.sense t S.store ≡ Some s → MayRecall t c m s S × BeginsNothing t (ask_of m) S
+may-recall t c m q s S k unsealed later idle size sense found =
+    let a = ask_of m in
+    let n : Numbers = record { token = []; text = []; word = 0 } in
+    let none = served-nothing t a s S found in
+    let is : (d : Numbers) → asked t c a d S ≡ recalled t c a s S = λ d. enters-served t c a q d s S sense found in
+    let kept = asks-in-room t c a n S k later idle (subst IsProper (sym sense) tt) (λ r e j p. absurd (none r e j p)) (record { request = size; message = omega arith }) in
+    let heard = was-heard t m.sense q s S k sense found in (
+      record {
+        request = q;
+        sense = sense;
+        get = heard.0;
+        heard = heard.1;
+        is = is;
+        kept = subst (λ (U : State). KeptInRoom (in_room t U S)) (is n) (second-of S.sealed S (in_room t (asked t c a n S) S) unsealed kept);
+      },
+      none,
+    )
+
 -- an ask that joins an exchange
 pub may-join : (t c : ℕ) (a : Ask) (q : CoapRequest) (e : Exchange) (S : State)
     → KeptInRoom S → S.sealed ≡ false → S.moment ≤ t → HasConn S.conns c None → came_size a.came ≤ MAX_REQUEST_SIZE
-    → a.sense ≡ Requests q → joined_for a.sense S ≡ Some e → MayJoin t c a e.opening S × BeginsNothing t a S
-may-join t c a q e S k unsealed later idle size sense found =
+    → a.sense ≡ Requests q → served_for a.sense t S.store ≡ None → joined_for a.sense S ≡ Some e
+    → MayJoin t c a e.opening S × BeginsNothing t a S
+may-join t c a q e S k unsealed later idle size sense unserved found =
     let n : Numbers = record { token = []; text = []; word = 0 } in
     let none = joined-nothing t a e S found in
-    let is : (m : Numbers) → asked t c a m S ≡ joins t c a e.opening S = λ m. joins-enter t c a q m e S sense (joined-is a q S (Some e) sense found) in
+    let is : (m : Numbers) → asked t c a m S ≡ joins t c a e.opening S = λ m. joins-enter t c a q m e S sense (served-is t a.sense q S None sense unserved) (joined-is a q S (Some e) sense found) in
     let kept = asks-in-room t c a n S k later idle (subst IsProper (sym sense) tt) (λ r s j p. absurd (none r s j p)) (record { request = size; message = omega arith }) in (
       record {
         is = is;
@@ -157,10 +195,11 @@ may-join t c a q e S k unsealed later idle size sense found =
 -- an ask that is busy may be refused
 pub may-be-busy : (t c : ℕ) (a : Ask) (q : CoapRequest) (S : State)
     → KeptInRoom S → S.sealed ≡ false → S.moment ≤ t → HasConn S.conns c None → came_size a.came ≤ MAX_REQUEST_SIZE
-    → a.sense ≡ Requests q → joined_for a.sense S ≡ None → has_place t q.peer S ≡ false → MayRefuse t c a C.Busy S
-may-be-busy t c a q S k unsealed later idle size sense alone full =
+    → a.sense ≡ Requests q → served_for a.sense t S.store ≡ None → joined_for a.sense S ≡ None → has_place t q.peer S ≡ false
+    → MayRefuse t c a C.Busy S
+may-be-busy t c a q S k unsealed later idle size sense unserved alone full =
     may-refuse t c a C.Busy S k unsealed later idle (subst IsProper (sym sense) tt) size (no-place t a q S sense full)
-    (λ n. busy-enters t c a q n S sense (joined-is a q S None sense alone) full)
+    (λ n. busy-enters t c a q n S sense (alone-by t a.sense q S sense unserved alone) full)
 
 pub may-be-refused : (t c : ℕ) (a : Ask) (cause : Cause) (status : ℕ) (S : State)
     → KeptInRoom S → S.sealed ≡ false → S.moment ≤ t → HasConn S.conns c None → came_size a.came ≤ MAX_REQUEST_SIZE

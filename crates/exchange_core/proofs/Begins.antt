@@ -32,7 +32,7 @@ use Rattle.exchange_core.specs.Beginning.{IsRequest, asked_method, exchange_by, 
 use Rattle.exchange_core.specs.Sending.{IsTimed, sent_first}
 use Rattle.exchange_core.specs.declared.fault.AskFault.TheVariants as Ask
 use Rattle.exchange_core.specs.Calls.{IsSpelled}
-use Rattle.exchange_core.specs.Joining.{joined_for}
+use Rattle.exchange_core.proofs.Recalls.{alone-by}
 use Rattle.exchange_core.specs.Drafts.{DraftValue, Drafts, empty_draft, draft_with}
 use Rattle.exchange_core.specs.Sound.{SoundState}
 use Rattle.exchange_core.specs.States.{with_draft, core_of}
@@ -124,7 +124,7 @@ module _ (t word c : ℕ) (m : Mapping) (p : Peer) (token text : List ℕ) (S : 
       begins-enter t c a q n S
       (record { kept = s.kept.kept; unsealed = b.unsealed; later = b.later }) s.drained
       (record { spelled = b.spelled.spelled; token_size = b.worded.token_size; number = b.worded.number })
-      b.spelled.is (ap (λ (z : Sense). joined_for z S) (sym b.spelled.is) ∙ b.alone) (subst (λ (z : Peer). has_place t z S ≡ true) (sym same) b.place)
+      b.spelled.is (alone-by t m.sense q S b.spelled.is b.unserved b.alone) (subst (λ (z : Peer). has_place t z S ≡ true) (sym same) b.place)
 
   in-room : (bytes room : ℕ) (gs : List Given) → SoundState S bytes room gs
       → MayBegin t word c m p token text S → KeptInRoom (asks_in_room t c a n S)

@@ -3,6 +3,7 @@ use Rattle.std.proofs.Common.{◌≡◌, ℕ, ◌≤◌, Bool, true, false, cond
 use Rattle.std.specs.Prelude.{filter, slice_get}
 use Rattle.std.specs.List.{find, AllByRecursion, Contains}
 use Rattle.coap_codec.specs.Spelling.{Content, Spells}
+use Rattle.resp_cache.specs.declared.pair.Pair.{Pair}
 use Rattle.uri_map.specs.declared.peer.Peer.{Peer}
 use Rattle.ask_model.specs.Requests.{CoapRequest, Sense, Requests}
 use Rattle.ask_model.specs.declared.cause.Cause.TheVariants as C
@@ -22,8 +23,8 @@ use Rattle.history_links.specs.Steps.{ended_token}
 use Rattle.exchange_model.specs.declared.kept.Exchange.{Exchange}
 use Rattle.exchange_model.specs.declared.kept.Reader.{Reader}
 use Rattle.exchange_model.specs.State.{State, link_of}
-use Rattle.exchange_model.specs.Steps.{is_under, ended_in}
-use Rattle.exchange_model.specs.Calls.{grounds_by, is_reader_of, method_in, tell, told_for}
+use Rattle.exchange_model.specs.Steps.{content_at, is_under, ended_in, method_in}
+use Rattle.exchange_model.specs.Calls.{grounds_by, is_reader_of, tell, told_for}
 use Rattle.exchange_model.specs.Entering.{answer_of, confirm, first_deeds, going_as, in_turn, sent_as}
 use Rattle.exchange_model.specs.Keeping.{Kept}
 use Rattle.exchange_model.specs.Growing.{IsKnown}
@@ -35,6 +36,7 @@ use Rattle.exchange_core.specs.declared.ending.Telling.{Telling}
 use Rattle.exchange_core.specs.Ending.{IsTold, deed_of, readers_told, tell_of}
 use Rattle.exchange_core.specs.Hearing.{found_in, told_by, note_next, link_deeds}
 use Rattle.exchange_core.specs.Sending.{IsTimed, sent_first}
+use Rattle.exchange_core.specs.Storing.{put_for, whole_found}
 use Rattle.exchange_core.specs.Values.{written}
 use Rattle.exchange_core.proofs.Readers.{few-read}
 
@@ -219,6 +221,21 @@ all-told S t p d x told over found drafted es known is spelled = by (ended_in ov
         each-told S drafted t e f (ended-is over S.exchanges e at)
         (λ q same. found-stands (S.entries ++ drafted) (length S.entries) t told e q f same hear (sym is))
         S.readers known
+
+-- who is told, and what is put, by what was found
+pub told-are : (xs : List Telling) (e d : Option Exchange) (f : Option Found) (rs qs : List Reader) (n k : ℕ) (t : Told)
+    → xs ≡ told_by e f rs → f ≡ found_in n e t → rs ≡ qs → n ≡ k → e ≡ d → xs ≡ told_by d (found_in k d t) qs
+told-are xs e d f rs qs n k t is found all number same =
+    is ∙ ap (λ (x : Option Found). told_by e x rs) found ∙ ap (told_by e (found_in n e t)) all
+    ∙ ap (λ (i : ℕ). told_by e (found_in i e t) qs) number ∙ ap (λ (v : Option Exchange). told_by v (found_in k v t) qs) same
+
+pub put-is : (ws : List Written) (o : Option Pair) (e d : Option Exchange) (f : Option Found) (s n k : ℕ) (t : Told)
+    → o ≡ put_for ws e (content_at s n (whole_found f)) → f ≡ found_in n e t → n ≡ k → e ≡ d
+    → o ≡ put_for ws d (content_at s k (whole_found (found_in k d t)))
+put-is ws o e d f s n k t is found number same =
+    is ∙ ap (λ (x : Option Found). put_for ws e (content_at s n (whole_found x))) found
+    ∙ ap (λ (i : ℕ). put_for ws e (content_at s i (whole_found (found_in i e t)))) number
+    ∙ ap (λ (v : Option Exchange). put_for ws v (content_at s k (whole_found (found_in k v t)))) same
 
 -- no more are told than wait
 pub told-few : (e : Option Exchange) (f : Option Found) (rs : List Reader) → length (told_by e f rs) ≤ length rs

@@ -1,7 +1,8 @@
 -- A step that hears a datagram.
-use Rattle.std.proofs.Common.{◌≡◌, ℕ, ◌+◌, ◌<◌, ◌≤◌, ◌^◌, Bool, true, false, cond, List, [], ◌∷◌, ◌++◌, length, refl, sym, ap, subst, ◌∙◌, append-nil}
+use Rattle.std.proofs.Common.{◌≡◌, ℕ, ◌+◌, ◌<◌, ◌≤◌, ◌^◌, Bool, true, false, cond, List, [], ◌∷◌, ◌++◌, length, Option, refl, sym, ap, subst, ◌∙◌, append-nil}
 use Rattle.std.specs.Prelude.{is_some, sum_by}
 use Rattle.std.specs.List.{AllByRecursion}
+use Rattle.resp_cache.specs.declared.pair.Pair.{Pair}
 use Rattle.uri_map.specs.declared.peer.Peer.{Peer}
 use Rattle.ask_model.specs.Sizes.{capped}
 use Rattle.journal_book.specs.Entries.{Hears, Seals, entry_size}
@@ -19,7 +20,7 @@ use Rattle.exchange_model.proofs.CallerLemmas.{dropped-stays, hears-in-room, sta
 use Rattle.exchange_core.specs.Answering.{Given}
 use Rattle.exchange_core.specs.Drafts.{DraftValue, IsDrafted, empty_draft}
 use Rattle.endpoint_table.specs.Tables.{heeds}
-use Rattle.exchange_core.specs.Hearing.{hearing_deeds, exchanges_after, over_in, with_heard}
+use Rattle.exchange_core.specs.Hearing.{hearing_deeds, exchanges_after, over_in, put_heard, stored_after, with_heard}
 use Rattle.exchange_core.specs.Sound.{SoundState}
 use Rattle.exchange_core.specs.States.{with_draft, core_of}
 use Rattle.exchange_core.specs.Values.{Outgoing, stepped}
@@ -58,7 +59,8 @@ module _ (t : ℕ) (p : Peer) (d : List ℕ) (S : State) (link : LinkValue) (h :
     (early : t ≤ 2 ^ 62)
     (small : AllByRecursion (λ (b : ℕ). b < 256) d)
     (i : IsHearing t d link h) (at : link.state ≡ link_of S.links p)
-    (dv : DraftValue) (drafted : IsDrafted t S (hearing_deeds p d h.heeding (told h.up) S) dv) where
+    (dv : DraftValue) (drafted : IsDrafted t S (hearing_deeds p d h.heeding (told h.up) S) dv)
+    (put : Option Pair) (puts : put ≡ put_heard t h.heeding (told h.up) S) where
   comes : Comes t p d S
   comes = record {
     may = record { kept = s.kept.kept; unsealed = unsealed; later = later };
@@ -73,12 +75,18 @@ module _ (t : ℕ) (p : Peer) (d : List ℕ) (S : State) (link : LinkValue) (h :
   drawn : with_draft t dv S ≡ entered_all t (hearing_deeds p d h.heeding (told h.up) S) S
   drawn = with-draft t S (Hears p d) _ dv drafted.drafts
 
-  pub new-is : with_heard t p h.heeding dv S ≡ heard t p d S
+  pub new-is : with_heard t p h.heeding put dv S ≡ heard t p d S
   new-is =
       ap (λ (U : State). record U {
         exchanges = exchanges_after S.entries h.heeding S.exchanges;
+        store = stored_after h.heeding put S;
         links = with_link p (heeds t h.heeding (over_in h.heeding) (link_of S.links p)) S.links;
       }) drawn
+      ∙ ap (λ (o : Option Pair). let U = entered_all t (hearing_deeds p d h.heeding (told h.up) S) S in record U {
+        exchanges = exchanges_after S.entries h.heeding S.exchanges;
+        store = stored_after h.heeding o S;
+        links = with_link p (heeds t h.heeding (over_in h.heeding) (link_of S.links p)) S.links;
+      }) puts
       ∙ sym (so.is ∙ so.so)
 
   fits-is : fits (with_draft t dv S) ≡ fits (heard t p d S)
@@ -89,7 +97,7 @@ module _ (t : ℕ) (p : Peer) (d : List ℕ) (S : State) (link : LinkValue) (h :
       unsealed
 
   pub in-room : fits (with_draft t dv S) ≡ true → hears_in_room t p d S
-      ≡ with_heard t p h.heeding dv S
+      ≡ with_heard t p h.heeding put dv S
   in-room fit =
       opened ∙ (ap (λ (b : Bool). cond b (heard t p d S) (seals t S)) (sym fits-is ∙ fit)
       ∙ sym new-is)
@@ -121,23 +129,23 @@ module _ (t : ℕ) (p : Peer) (d : List ℕ) (S : State) (link : LinkValue) (h :
 
   pub sound-heard : (S1 : State) (bytes1 room1 : ℕ) (gs1 : List Given) → fits (with_draft t dv S)
       ≡ true
-      → S1 ≡ with_heard t p h.heeding dv S
+      → S1 ≡ with_heard t p h.heeding put dv S
       → bytes1 ≡ capped (bytes + capped (sum_by entry_size dv.entries))
       → room1 + length dv.entries ≡ room → gs1 ≡ gs ++ dv.answers
       → SoundState S1 bytes1 room1 gs1
   sound-heard S1 bytes1 room1 gs1 fit is bs rs gave =
-      let U = with_heard t p h.heeding dv S in
+      let U = with_heard t p h.heeding put dv S in
       let drained : IsDrained U =
       subst IsDrained (sym so.is ∙ sym new-is)
       ((stays-drained t S s.drained).1 p d h.heeding.mid h.heeding.token h.heeding.verdict
-      so.grounds) in
+      so.outcome) in
       subst (λ (V : State). SoundState V bytes1 room1 gs1) (sym is)
       (sound-drafted t S U bytes bytes1 room room1 gs gs1 _ dv s drafted refl early refl
       (subst KeptInRoom (in-room fit) kept) drained bs rs gave)
 
   pub seen-heard : (S1 : State) (gs1 : List Given) (os os1 : List Outgoing)
       → fits (with_draft t dv S) ≡ true
-      → S1 ≡ with_heard t p h.heeding dv S → gs1 ≡ gs ++ dv.answers → os1 ≡ os ++ dv.sends
+      → S1 ≡ with_heard t p h.heeding put dv S → gs1 ≡ gs ++ dv.answers → os1 ≡ os ++ dv.sends
       → core_of S1 gs1 os1 ≡ stepped (hears_in_room t p d S) (core_of S gs os)
   seen-heard S1 gs1 os os1 fit is gave sent =
       committed t S S1 _ dv gs gs1 os os1 drafted.drafts (ap (λ (U : State). U.entries) is) gave sent

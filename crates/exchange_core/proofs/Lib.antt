@@ -31,3 +31,5 @@ mod Served
 mod Turning
 mod Outrun
 mod Joins
+mod Recalls
+mod Settling

@@ -17,17 +17,25 @@ use Rattle.exchange_core.specs.Drafts.{DraftValue, Drafts, IsDrafted}
 use Rattle.exchange_core.specs.States.{refusal_given}
 use Rattle.std.specs.List.{AllByRecursion}
 
+pub answer-drafted : (t c n : ℕ) (S : State) (m m1 : Mapping) (g h : Grounds) (d0 d1 d2 : DraftValue)
+    → n ≡ length S.entries → m1 ≡ m → g ≡ h → Drafts t S [] d0
+    → (Drafts t S [] d0 → Drafts t S (Asks c (ask_of m1) ∷ []) d1)
+    → (n + 1 ≡ d1.next → Drafts t S (Asks c (ask_of m1) ∷ []) d1 → Drafts t S (Asks c (ask_of m1) ∷ Answers c n g ∷ []) d2)
+    → Drafts t S (Asks c (ask_of m) ∷ Answers c (length S.entries) h ∷ []) d2
+answer-drafted t c n S m m1 g h d0 d1 d2 len same grounds none one two =
+    let a = one none in
+    let next : n + 1 ≡ d1.next = let k = a.next in omega (arith, k, len) in
+    let b = two next a in
+    let whole : Asks c (ask_of m1) ∷ Answers c n g ∷ [] ≡ Asks c (ask_of m) ∷ Answers c (length S.entries) h ∷ [] = rw (same, grounds, len) refl in
+    subst (λ (ds : List Deed). Drafts t S ds d2) whole b
+
 pub refusal-drafted : (t c n : ℕ) (S : State) (m m1 : Mapping) (cause : Cause) (g : Grounds) (d0 d1 d2 : DraftValue)
     → n ≡ length S.entries → m1 ≡ m → g ≡ Fault cause n → Drafts t S [] d0
     → (Drafts t S [] d0 → Drafts t S (Asks c (ask_of m1) ∷ []) d1)
     → (n + 1 ≡ d1.next → Drafts t S (Asks c (ask_of m1) ∷ []) d1 → Drafts t S (Asks c (ask_of m1) ∷ Answers c n g ∷ []) d2)
     → Drafts t S (refusal_deeds c (ask_of m) cause S) d2
 refusal-drafted t c n S m m1 cause g d0 d1 d2 len same grounds none one two =
-    let a = one none in
-    let next : n + 1 ≡ d1.next = let k = a.next in omega (arith, k, len) in
-    let b = two next a in
-    let whole : Asks c (ask_of m1) ∷ Answers c n g ∷ [] ≡ refusal_deeds c (ask_of m) cause S = rw (same, grounds, len) refl in
-    subst (λ (ds : List Deed). Drafts t S ds d2) whole b
+    answer-drafted t c n S m m1 g (Fault cause (length S.entries)) d0 d1 d2 len same (grounds ∙ ap (Fault cause) len) none one two
 
 -- an ask in its room
 
@@ -51,7 +59,7 @@ asks-sealed t c a n S U unsealed is fit =
 
 -- the answer stands in the journal
 
-refusal-there : (xs : List Written) (u v : Written) → (slice_get (xs ++ u ∷ v ∷ []) (length xs) ≡ Some u) × (slice_get (xs ++ u ∷ v ∷ []) (length xs + 1) ≡ Some v)
+pub refusal-there : (xs : List Written) (u v : Written) → (slice_get (xs ++ u ∷ v ∷ []) (length xs) ≡ Some u) × (slice_get (xs ++ u ∷ v ∷ []) (length xs + 1) ≡ Some v)
 refusal-there [] u v = (refl, refl)
 refusal-there (x ∷ xs) u v =
     let ih = refusal-there xs u v in

@@ -99,7 +99,8 @@ all-heard-stay h more (j ∷ js) (m ∷ ms) a = ((a.0.0, heard-stays h more j a.
 pub found-stays : (h more : List Written) (told : Told) (g : Grounds) (s : Sense) → IsFound h told g s → IsFound (h ++ more) told g s
 found-stays h more (Tells w) (Live js) (Requests q) f = (f.0, all-heard-stay h more js f.0 f.1, f.2)
 found-stays h more (Tells w) (Live js) (Refuses cause status) f = absurd f
-found-stays h more (Tells w) (Kept js) s f = absurd f
+found-stays h more (Tells w) (Kept js) (Requests q) f = (f.0, all-heard-stay h more js f.0 f.1, f.2)
+found-stays h more (Tells w) (Kept js) (Refuses cause status) f = absurd f
 found-stays h more (Tells w) (Fault cause n) s f = absurd f
 found-stays h more (Fails cause) (Live js) s f = absurd f
 found-stays h more (Fails cause) (Kept js) s f = absurd f
@@ -108,7 +109,8 @@ found-stays h more (Fails cause) (Fault named n) s f = f
 pub counts-stay : (h more : List Written) (g : Grounds) (t heard : ℕ) → CountsFrom h g t heard → CountsFrom (h ++ more) g t heard
 counts-stay h more (Live []) t heard c = c
 counts-stay h more (Live (j ∷ js)) t heard c = (c.0, heard-stays h more j heard c.0 c.1)
-counts-stay h more (Kept js) t heard c = c
+counts-stay h more (Kept []) t heard c = c
+counts-stay h more (Kept (j ∷ js)) t heard c = (c.0, heard-stays h more j heard c.0 c.1)
 counts-stay h more (Fault cause n) t heard c = c
 
 pub is-given-stays : (h more : List Written) (g : Given) → IsGiven h g → IsGiven (h ++ more) g

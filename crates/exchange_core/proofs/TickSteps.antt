@@ -5,7 +5,7 @@ use Rattle.journal_book.specs.Entries.{Passes}
 use Rattle.message_layer.specs.Calls.{is_among}
 use Rattle.exchange_model.specs.declared.kept.Exchange.{Exchange}
 use Rattle.exchange_model.specs.State.{State}
-use Rattle.exchange_model.specs.Steps.{seals, passes, is_gone, left_by, timed_out, goes_on}
+use Rattle.exchange_model.specs.Steps.{seals, passes, is_gone, left_by, retired, timed_out, goes_on}
 use Rattle.exchange_model.specs.Calls.{tells, told_late, something_due, move_all, ticked}
 use Rattle.exchange_model.specs.Entering.{entered_all, all_going, sent_as, gone_tokens, link_after, tick_deeds, IsDrained}
 use Rattle.exchange_model.specs.Keeping.{MayStep}
@@ -64,21 +64,29 @@ module _ (t : ℕ) (S : State) (may : MayStep t S) (drained : IsDrained S)
     pub tick-fits : fits (with_draft t d S) ≡ fits (ticked t S)
     tick-fits = ap fits drawn ∙ sym (ap fits (ticks-enter t S may drained due))
 
-    pub tick-moved : (gone : List (List ℕ)) (es : List Exchange) → gone ≡ gone_tokens t S
-        → es ≡ sent_as (all_going t (is_gone t S) (length S.entries + 1) S.links)
+    pub tick-moved : (gone : List (List ℕ)) (over es : List Exchange) → gone ≡ gone_tokens t S
+        → over ≡ timed_out t S → es ≡ sent_as (all_going t (is_gone t S) (length S.entries + 1) S.links)
         (left_by S.entries (timed_out t S) (filter (goes_on t S) S.exchanges))
-        → moved_on t (is_among gone) es d S ≡ ticked t S
-    tick-moved gone es g e =
+        → moved_on t (is_among gone) over es d S ≡ ticked t S
+    tick-moved gone over es g o e =
         ap (λ (V : State). record V {
           exchanges = es;
+          store = retired S.entries over S.store;
           links = map (link_after t (is_among gone)) S.links;
         }) drawn
         ∙ ap (λ (q : List ℕ → Bool). let V = entered_all t (tick_deeds t S) S in record V {
           exchanges = es;
+          store = retired S.entries over S.store;
           links = map (link_after t q) S.links;
         }) (gone-is t S gone g)
+        ∙ ap (λ (xs : List Exchange). let V = entered_all t (tick_deeds t S) S in record V {
+          exchanges = es;
+          store = retired S.entries xs S.store;
+          links = map (link_after t (is_gone t S)) S.links;
+        }) o
         ∙ ap (λ (fs : List Exchange). let V = entered_all t (tick_deeds t S) S in record V {
           exchanges = fs;
+          store = retired S.entries (timed_out t S) S.store;
           links = map (link_after t (is_gone t S)) S.links;
         }) e
         ∙ sym (ticks-enter t S may drained due)

@@ -5,7 +5,7 @@ use Rattle.coap_codec.specs.Spelling.{Content, Spells}
 use Rattle.uri_map.specs.declared.peer.Peer.{Peer}
 use Rattle.ask_model.specs.Requests.{Sense, Requests}
 use Rattle.ask_model.specs.Views.{Mapping}
-use Rattle.journal_book.specs.Entries.{Grounds, Live, Fault, Asks, Hears, Answers, Written}
+use Rattle.journal_book.specs.Entries.{Grounds, Live, Kept, Fault, Asks, Hears, Answers, Written}
 use Rattle.journal_book.specs.Views.{ask_of}
 use Rattle.history_laws.specs.Responses.{whole_of}
 use Rattle.reply_reading.specs.Findings.{Found, Told, Tells, Fails}
@@ -53,12 +53,15 @@ AreHeard h _ _ = ⊥
 abbrev pub IsFound : List Written → Told → Grounds → Sense → Type 0
 IsFound h (Tells w) (Live js) (Requests q) =
     (ms : List Content) × AreHeard h js ms × (whole_of q ms ≡ Some w)
+IsFound h (Tells w) (Kept js) (Requests q) =
+    (ms : List Content) × AreHeard h js ms × (whole_of q ms ≡ Some w)
 IsFound h (Fails cause) (Fault named n) sense = cause ≡ named
 IsFound h _ _ _ = ⊥
 
 -- It counts from the moment at which its first reply was heard, or else at which it was given.
 abbrev pub CountsFrom : List Written → Grounds → ℕ → ℕ → Type 0
 CountsFrom h (Live (j ∷ js)) t heard = (m : Content) × HeardAs h j heard m
+CountsFrom h (Kept (j ∷ js)) t heard = (m : Content) × HeardAs h j heard m
 CountsFrom h _ t heard = heard ≡ t
 
 -- The entries have the ask, by this connection, and its answer on these grounds.

@@ -27,6 +27,7 @@ use Rattle.exchange_core.specs.declared.fault.AskFault.TheVariants as Ask
 use Rattle.exchange_core.specs.declared.state.State.{State as RustState}
 use Rattle.exchange_core.specs.Calls.{IsWordedBy, AsksSo}
 use Rattle.exchange_core.specs.Joining.{joined_for}
+use Rattle.exchange_core.specs.Recalling.{served_for}
 use Rattle.exchange_core.specs.Drafts.{DraftValue}
 use Rattle.exchange_core.specs.States.{state_of, given_in, outgoing, with_draft, SeesSame}
 use Rattle.exchange_core.specs.Values.{CoreValue}
@@ -75,7 +76,7 @@ with_exchange t e r w S = record S {
 abbrev pub numbers_of : List ℕ → List ℕ → ℕ → Numbers
 numbers_of token text word = record { token = token; text = text; word = word }
 
--- The ask of a connection that waits for nothing joins no exchange, there is a place for its own, and
+-- The ask of a connection that waits for nothing is served nothing, and joins no exchange; there is a place for its own, and
 -- its message is spelled under the next token.
 pub record MayBegin (t word c : ℕ) (m : Mapping) (p : Peer) (token text : List ℕ) (S : State)
     : Type 0 where
@@ -84,6 +85,7 @@ pub record MayBegin (t word c : ℕ) (m : Mapping) (p : Peer) (token text : List
   pub early : t ≤ LAST_MOMENT
   pub idle : HasConn S.conns c None
   pub peer : asked_peer m.sense ≡ Some p
+  pub unserved : served_for m.sense t S.store ≡ None
   pub alone : joined_for m.sense S ≡ None
   pub spelled : IsTextFor m.sense token text
   pub small : came_size m.came ≤ MAX_REQUEST_SIZE

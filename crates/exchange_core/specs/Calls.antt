@@ -8,7 +8,7 @@ use Rattle.history_laws.specs.Numbering.{token_number}
 use Rattle.exchange_model.specs.State.{State}
 use Rattle.exchange_model.specs.Steps.{opens, shuts}
 use Rattle.exchange_model.specs.Resting.{HasConn}
-use Rattle.exchange_model.specs.Calls.{Numbers, has_place, joined}
+use Rattle.exchange_model.specs.Calls.{Numbers, has_place, IsAlone}
 use Rattle.exchange_model.specs.Room.{fits}
 use Rattle.exchange_model.specs.Sealing.{opens_in_room, asks_in_room}
 use Rattle.exchange_core.specs.declared.fault.OpenFault.{OpenFault}
@@ -53,7 +53,7 @@ pub record IsWordedBy (word : ℕ) (n : Numbers) (S : State) : Type 0 where
 -- The message is spelled under it, where the ask begins an exchange.
 abbrev pub IsSpelled : ℕ → Ask → Numbers → State → Type 0
 IsSpelled t a n S =
-    (q : CoapRequest) → a.sense ≡ Requests q → joined q S ≡ None → has_place t q.peer S ≡ true
+    (q : CoapRequest) → a.sense ≡ Requests q → IsAlone t q S → has_place t q.peer S ≡ true
     → Spells (request_message q 0 n.token) n.text
 
 pub record AsksSo (t word c : ℕ) (a : Ask) (old new : CoreValue) : Type 0 where

@@ -9,6 +9,8 @@ pub mod Expiring
 pub mod Faults
 pub mod Hearing
 pub mod Joining
+pub mod Recalling
+pub mod Storing
 pub mod Refusing
 pub mod Passing
 pub mod Places

@@ -2,13 +2,16 @@
 use Rattle.std.specs.Prelude.{ℕ, Bool, List, map}
 use Rattle.exchange_model.specs.declared.kept.Exchange.{Exchange}
 use Rattle.exchange_model.specs.State.{State}
+use Rattle.exchange_model.specs.Steps.{retired}
 use Rattle.exchange_model.specs.Entering.{link_after}
 use Rattle.exchange_core.specs.Drafts.{DraftValue}
 use Rattle.exchange_core.specs.States.{with_draft}
 
--- The state after the links and exchanges moved on, and what was drafted came.
-abbrev pub moved_on : ℕ → (List ℕ → Bool) → List Exchange → DraftValue → State → State
-moved_on t gone es d S = let V = with_draft t d S in record V {
+-- The state after the links and exchanges moved on, some of which ended, and what was drafted came.
+abbrev pub moved_on :
+    ℕ → (List ℕ → Bool) → List Exchange → List Exchange → DraftValue → State → State
+moved_on t gone over es d S = let V = with_draft t d S in record V {
   exchanges = es;
+  store = retired S.entries over S.store;
   links = map (link_after t gone) S.links;
 }

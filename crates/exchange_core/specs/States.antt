@@ -25,6 +25,7 @@ state_of s = record {
   conns = s.conns.items;
   exchanges = s.exchanges.exchanges;
   readers = s.readers.items;
+  store = s.store.pairs;
   links = s.endpoints.links;
 }
 

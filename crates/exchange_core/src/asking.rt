@@ -11,6 +11,7 @@ ghost use Rattle.exchange_core.specs.Calls.{IsAsked};
 ghost use Rattle.exchange_core.specs.Joining.{MayJoin};
 ghost use Rattle.exchange_core.specs.Places.{id_of};
 ghost use Rattle.exchange_table.specs.Places.{RiseBy};
+ghost use Rattle.exchange_core.specs.Recalling.{MayRecall};
 ghost use Rattle.exchange_core.specs.Refusing.{MayRefuse, BeginsNothing};
 ghost use Rattle.exchange_core.specs.Sound.{IsSound};
 ghost use Rattle.exchange_core.specs.States.{state_of, seen, number_in};
@@ -21,11 +22,13 @@ use crate::fault::AskFault;
 use crate::joining::{find_joined, join};
 use crate::numbering::token_of;
 use crate::places::conn_place;
+use crate::recalling::{find_stored, recall};
 use crate::refusing::refuse;
 use crate::state::State;
 use ask_model::{Cause, Mapped, Meaning};
 use exchange_model::Conn;
 use limits::MAX_EXCHANGES;
+use resp_cache::StoredResponse;
 use std::alloc::Global;
 use std::sync::Arc;
 use transformers::Relation;
@@ -101,8 +104,33 @@ fn read_along<R: Relation>(
     join(alloc, s, moment, conn, mapped, opening)
 }
 
-/// Enters an ask for something: it joins an exchange, or begins one, or is answered as busy where there
-/// is no place for one.
+/// Enters an ask that is answered by what is stored.
+fn read_stored<R: Relation>(
+    alloc: Global,
+    s: &mut State<R>,
+    moment: u64,
+    word: u64,
+    conn: u32,
+    mapped: Arc<Mapped<R>>,
+    stored: StoredResponse,
+) -> Result<Ticket<R>, AskFault>
+    requires sound { IsSound s.old }
+    requires unsealed { s.old.sealed ≡ false }
+    requires early { moment ≤ LAST_MOMENT }
+    requires idle { HasConn s.old.conns.items conn None }
+    requires recalls { MayRecall moment conn (arc_value mapped) stored (state_of s.old) }
+    requires nothing { BeginsNothing moment (ask_of (arc_value mapped)) (state_of s.old) }
+    ensures sound { IsSound s.new }
+    ensures asks { IsAsked (number_in result) moment word conn (ask_of (arc_value mapped))
+        (seen s.old) (seen s.new) }
+    ensures ticket { IfOk result (λ t. (t.conn ≡ conn) × (arc_value t.mapped ≡ arc_value mapped)) }
+{
+    let _token = token_of(s.issued, word);
+    recall(alloc, s, moment, conn, mapped, stored)
+}
+
+/// Enters an ask for something: it is answered by what is stored, joins an exchange, or begins one, or
+/// is answered as busy where there is no place for one.
 fn ask_peer<R: Relation>(
     alloc: Global,
     s: &mut State<R>,
@@ -124,6 +152,10 @@ fn ask_peer<R: Relation>(
         (seen s.old) (seen s.new) }
     ensures ticket { IfOk result (λ t. (t.conn ≡ conn) × (arc_value t.mapped ≡ arc_value mapped)) }
 {
+    let found = find_stored(&s.store, moment, &mapped)?;
+    if let Some(stored) = found {
+        return read_stored(alloc, s, moment, word, conn, mapped, stored);
+    }
     if let Some(exchange) = find_joined(s.exchanges.as_slice(), &s.journal, &mapped) {
         return read_along(alloc, s, moment, word, conn, mapped, exchange.opening);
     }

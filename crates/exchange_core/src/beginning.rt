@@ -14,6 +14,7 @@ ghost use Rattle.exchange_model.specs.Resting.{HasConn};
 ghost use Rattle.endpoint_table.specs.Tables.{link_at};
 ghost use Rattle.exchange_core.specs.Beginning.{IsRequest, IsTextFor, with_exchange, IsBegun, IsBegunBy, IsEntered, MayBegin, asked_method, exchange_by};
 ghost use Rattle.exchange_core.specs.Joining.{joined_for};
+ghost use Rattle.exchange_core.specs.Recalling.{served_for};
 ghost use Rattle.exchange_core.specs.Sending.{IsTimed, sent_first};
 ghost use Rattle.exchange_core.specs.Drafts.{Drafts};
 ghost use Rattle.exchange_core.specs.Places.{IsOrdered};
@@ -279,8 +280,8 @@ fn ask<R: Relation>(
     }
 }
 
-/// Begins the exchange of a request from a connection that waits for nothing, where it joins none and
-/// fewer than 256 are open. Its message goes out at once, or waits for its turn at its endpoint. The random word
+/// Begins the exchange of a request from a connection that waits for nothing, where nothing that is
+/// stored answers it, it joins none, and fewer than 256 are open. Its message goes out at once, or waits for its turn at its endpoint. The random word
 /// makes its token, its first timeout, and the endpoint's first message ID.
 pub fn begin<R: Relation>(
     alloc: Global,
@@ -297,6 +298,7 @@ pub fn begin<R: Relation>(
     requires early { moment ≤ LAST_MOMENT }
     requires asked { asked_peer (arc_value mapped).sense ≡ Some peer }
     requires idle { HasConn s.old.conns.items conn None }
+    requires unserved { served_for (arc_value mapped).sense moment s.old.store.pairs ≡ None }
     requires alone { joined_for (arc_value mapped).sense (state_of s.old) ≡ None }
     requires few { length s.old.exchanges.exchanges < MAX_EXCHANGES }
     ensures sound { IsSound s.new }

@@ -29,9 +29,11 @@ use crate::state::State;
 use crate::{asking, due, hearing, opening, rotating, serving, snapshot, taking, ticking};
 use ask_model::Mapped;
 use endpoint_table::Endpoints;
+use exchange_model::{Conn, Exchange};
 use exchange_table::Exchanges;
 use journal_book::Journal;
 use limits::{LAST_MOMENT, MAX_ENTRIES};
+use resp_cache::Store;
 use std::alloc::{AllocError, Global};
 use std::collections::VecDeque;
 use std::marker::Model;
@@ -87,6 +89,7 @@ impl<R: Relation> Core<R> {
                 conns: Vec::new(alloc),
                 exchanges: Exchanges::new(alloc),
                 readers: Vec::new(alloc),
+                store: Store::new(alloc),
                 endpoints,
                 answers: Vec::new(alloc),
                 sends: VecDeque::new(alloc),
@@ -142,13 +145,13 @@ impl<R: Relation> Core<R> {
         serving::is_idle(self.state.conns.as_slice(), conn)
     }
 
-    /// Takes a request of a connection at this moment. A GET joins the open exchange of an equal one,
-    /// unless a write to its place has ended since that was opened (RFC 7252 section 5.6). Else the
-    /// request begins an exchange, whose message goes out at once or waits for its turn at its
-    /// endpoint (section 4.7), or it is answered at once: a refusal, or busy where 256 exchanges are
-    /// open, 64 messages wait at the endpoint, or its message IDs are used up. The first call that
-    /// finds no room for it seals the journal. The word is 64 random bits, for the token, the ID and
-    /// the timeout.
+    /// Takes a request of a connection at this moment. A GET is answered by the response that is
+    /// stored for it, while that is fresh, or joins the open exchange of an equal one, unless a write
+    /// to its place has ended since that was opened (RFC 7252 section 5.6). Else the request begins an
+    /// exchange, whose message goes out at once or waits for its turn at its endpoint (section 4.7), or
+    /// it is answered at once: a refusal, or busy where 256 exchanges are open, 64 messages wait at the
+    /// endpoint, or its message IDs are used up. The first call that finds no room for it seals the
+    /// journal. The word is 64 random bits, for the token, the ID and the timeout.
     pub fn ask(
         &mut self,
         moment: u64,
@@ -169,7 +172,9 @@ impl<R: Relation> Core<R> {
     }
 
     /// Takes a datagram that came from this endpoint at this moment (RFC 7252 sections 4.2 to 4.5 and
-    /// 5.3.2). The word isn't looked at.
+    /// 5.3.2). The whole 2.05 that ends the exchange of a GET is stored, where no write outran that; and
+    /// where a write ends, what is stored of its place goes (sections 5.6, 5.9.2). The word isn't looked
+    /// at.
     pub fn heard(
         &mut self,
         moment: u64,
@@ -189,8 +194,9 @@ impl<R: Relation> Core<R> {
 
     /// Does what is due at this moment (RFC 7252 sections 4.2 and 4.8.2): copies go out; messages
     /// that were sent five times in vain are given up, and the next ones go out; and asks are answered
-    /// whose exchanges end with that, or were open for 93 seconds. The first call that finds no room
-    /// for it seals the journal. After the seal the asks alone are answered, for which room is held.
+    /// whose exchanges end with that, or were open for 93 seconds. Where writes end so, what is stored
+    /// of their places goes. The first call that finds no room for it seals the journal. After the seal
+    /// the asks alone are answered, for which room is held.
     pub fn tick(&mut self, moment: u64) -> Result<(), AllocError>
         ensures ticks { OnOk result (self.new
             ≡ stepped (ticks_in_room (now self.old.state.moment moment) self.old.state) self.old) }
@@ -232,6 +238,20 @@ impl<R: Relation> Core<R> {
         ensures { result ≡ sum_by entry_size self.now.state.entries }
     {
         self.state.bytes
+    }
+
+    /// The connections that are open, in the order in which they were opened.
+    pub fn conns(&self) -> &[Conn]
+        ensures { result.now ≡ self.now.state.conns }
+    {
+        self.state.conns.as_slice()
+    }
+
+    /// The exchanges that are open, in the order in which they were opened.
+    pub fn exchanges(&self) -> &[Exchange]
+        ensures { result.now ≡ self.now.state.exchanges }
+    {
+        self.state.exchanges.as_slice()
     }
 
     /// The moment of the next tick that has something to do, if any has: none before it changes the

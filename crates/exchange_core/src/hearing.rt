@@ -10,8 +10,7 @@ ghost use Rattle.message_layer.specs.Values.{told, response};
 ghost use Rattle.message_layer.specs.Hearing.{listed};
 ghost use Rattle.message_layer.specs.Prepared.{IsHearing, MayHeed};
 ghost use Rattle.exchange_model.specs.State.{State as CoreState, link_of};
-ghost use Rattle.exchange_model.specs.Calls.{method_in};
-ghost use Rattle.exchange_model.specs.Steps.{is_other, left_by, ended_in};
+ghost use Rattle.exchange_model.specs.Steps.{is_other, left_by, ended_in, method_in};
 ghost use Rattle.exchange_model.specs.Entering.{confirm};
 ghost use Rattle.exchange_model.specs.Sealing.{hears_in_room};
 ghost use Rattle.ask_model.specs.Sizes.{capped};
@@ -20,7 +19,8 @@ ghost use Rattle.exchange_model.specs.Growing.{IsKnown};
 ghost use Rattle.exchange_core.specs.Drafts.{Drafts, IsDrafted};
 ghost use Rattle.exchange_core.specs.Sound.{IsSound};
 ghost use Rattle.exchange_core.specs.Values.{stepped};
-ghost use Rattle.exchange_core.specs.Hearing.{exchanges_after, first_number, note_next, tables_after, with_heard, found_in, over_in, told_by, link_deeds, hearing_deeds};
+ghost use Rattle.exchange_core.specs.Hearing.{exchanges_after, first_number, note_next, put_heard, tables_after, with_heard, found_in, over_in, told_by, link_deeds, hearing_deeds};
+ghost use Rattle.exchange_core.specs.Storing.{settled_with};
 ghost use Rattle.exchange_core.specs.Sending.{IsTimed, sent_first};
 ghost use Rattle.exchange_core.specs.Places.{IsOrdered};
 ghost use Rattle.exchange_core.specs.States.{state_of, seen, given_in, outgoing, SeesSame};
@@ -31,6 +31,7 @@ use crate::room::takes;
 use crate::sealing::seal;
 use crate::sending::draft_first;
 use crate::state::{State, commit, make_places, start};
+use crate::storing::{make_room_for, put_of, settle};
 use ask_model::Cause;
 use coap_codec::{Bytes as Whole, Token};
 use exchange_model::{Exchange, Reader};
@@ -38,6 +39,7 @@ use exchange_table::Exchanges;
 use journal_book::{Entry, Event, Journal};
 use message_layer::{Bytes, FirstSending, Hearing, Heeding, News, Up};
 use reply_reading::{Finding, finding_of};
+use resp_cache::{Pair, Store};
 use std::alloc::{AllocError, Global};
 use std::collections::VecDeque;
 use transformers::Relation;
@@ -138,24 +140,26 @@ fn draft_link<R: Relation>(
     Ok(draft)
 }
 
-/// All who wait for the exchange that the datagram in the entry with this number ends, if any, and
-/// what their asks come to.
+/// All who wait for the exchange that ends, if any, and what their asks come to.
 fn told_by(
     alloc: Global,
-    exchanges: &Exchanges,
+    ended: &Option<Exchange>,
+    finding: &Option<Finding>,
     readers: &[Reader],
-    number: u32,
-    heeding: &Heeding,
-    up: Up,
 ) -> Result<VecDeque<Telling>, AllocError>
-    ensures { let e = ended_in (over_in heeding.now) exchanges.now.exchanges in
-        IfOk result (λ v. v.items ≡ told_by e (found_in number e (told up)) readers.now) }
+    ensures { IfOk result (λ v. v.items ≡ told_by ended.now finding.now readers.now) }
 {
-    let ended = ended_exchange(exchanges, ended_token(heeding));
-    match (ended, finding_in(alloc, number, &ended, up)?) {
-        (Some(exchange), Some(finding)) => readers_told(alloc, &exchange, &finding, readers),
+    match (ended, finding) {
+        (Some(exchange), Some(finding)) => readers_told(alloc, exchange, finding, readers),
         _ => Ok(VecDeque::new(alloc)),
     }
+}
+
+/// What a datagram brings: the entries, and what is put into the store.
+#[derive(Drop)]
+struct Brought<R: Relation> {
+    draft: Draft<R>,
+    put: Option<Pair>,
 }
 
 /// All that the datagram brings.
@@ -167,20 +171,25 @@ fn draft_heard<R: Relation>(
     datagram: &[u8],
     heeding: &Heeding,
     up: Up,
-) -> Result<Draft<R>, AllocError>
+) -> Result<Brought<R>, AllocError>
     requires few { length s.now.journal.entries ≤ MAX_ENTRIES }
     requires readers { length s.now.readers.items ≤ MAX_ENTRIES }
     requires known { AllByRecursion (IsKnown (state_of s.now)) s.now.readers.items }
     requires timed { IsTimed heeding.now.next }
     requires spelled { (m : Content) → told up ≡ response m → Spells m datagram.now }
-    ensures { IfOk result (λ d. IsDrafted moment (state_of s.now)
-        (hearing_deeds peer datagram.now heeding.now (told up) (state_of s.now)) d) }
+    ensures drafted { IfOk result (λ b. IsDrafted moment (state_of s.now)
+        (hearing_deeds peer datagram.now heeding.now (told up) (state_of s.now)) b.draft) }
+    ensures put { IfOk result
+        (λ b. b.put ≡ put_heard moment heeding.now (told up) (state_of s.now)) }
 {
     let number = s.journal.len() as u32;
     let mut draft = draft_link(alloc, s, moment, peer, datagram, heeding)?;
-    let told = told_by(alloc, &s.exchanges, &s.readers, number, heeding, up)?;
+    let ended = ended_exchange(&s.exchanges, ended_token(heeding));
+    let finding = finding_in(alloc, number, &ended, up)?;
+    let told = told_by(alloc, &ended, &finding, &s.readers)?;
     draft_tellings(&mut draft, &s.journal, told, moment)?;
-    Ok(draft)
+    let put = put_of(alloc, &s.journal, &ended, &finding, moment, number)?;
+    Ok(Brought { draft, put })
 }
 
 /// The exchange ends that the datagram ends. Where it was a write, GETs join those of its place no more.
@@ -230,13 +239,36 @@ fn change_exchanges<R: Relation>(exchanges: &mut Exchanges, journal: &Journal<R>
     note_next(exchanges, &heeding.next, first_number(number, heeding));
 }
 
+/// The store after the datagram, which may end one of these exchanges.
+fn change_store<R: Relation>(
+    store: &mut Store,
+    journal: &Journal<R>,
+    exchanges: &Exchanges,
+    heeding: &Heeding,
+    put: Option<Pair>,
+)
+    requires room { IfSome put (λ p. store.old.room ≡ true) }
+    ensures { let ended = ended_in (over_in heeding.now) exchanges.now.exchanges in
+        store.new.pairs ≡ settled_with journal.now.entries ended put store.old.pairs }
+{
+    let ended = ended_exchange(exchanges, ended_token(heeding));
+    settle(store, journal, &ended, put);
+}
+
 /// The tables after the datagram.
-fn change_tables<R: Relation>(s: &mut State<R>, peer: Peer, moment: u64, heeding: Heeding)
+fn change_tables<R: Relation>(
+    s: &mut State<R>,
+    peer: Peer,
+    moment: u64,
+    heeding: Heeding,
+    put: Option<Pair>,
+)
+    requires room { IfSome put (λ p. s.old.store.room ≡ true) }
     requires few { length s.old.journal.entries ≤ MAX_ENTRIES }
     requires early { moment ≤ LAST_MOMENT }
     requires ready { MayHeed moment (link_at s.old.endpoints peer) heeding }
     requires known { is_some (link_of s.old.endpoints.links peer).last_mid ≡ true }
-    ensures state { state_of s.new ≡ tables_after moment peer heeding (state_of s.old) }
+    ensures state { state_of s.new ≡ tables_after moment peer heeding put (state_of s.old) }
     ensures journal { s.new.journal ≡ s.old.journal }
     ensures conns { s.new.conns ≡ s.old.conns }
     ensures readers { s.new.readers ≡ s.old.readers }
@@ -244,6 +276,7 @@ fn change_tables<R: Relation>(s: &mut State<R>, peer: Peer, moment: u64, heeding
     ensures answers { s.new.answers ≡ s.old.answers }
     ensures sends { s.new.sends ≡ s.old.sends }
 {
+    change_store(&mut s.store, &s.journal, &s.exchanges, &heeding, put);
     change_exchanges(&mut s.exchanges, &s.journal, &heeding);
     let over = ended_token(&heeding);
     s.endpoints.heed(&peer, heeding, over, moment);
@@ -255,25 +288,27 @@ fn add_heard<R: Relation>(
     peer: Peer,
     moment: u64,
     heeding: Heeding,
-    draft: Draft<R>,
+    brought: Brought<R>,
 ) -> Result<(), AllocError>
-    requires room { length draft.entries ≤ s.old.journal.room }
-    requires few { length s.old.journal.entries + length draft.entries ≤ MAX_ENTRIES }
+    requires room { length brought.draft.entries ≤ s.old.journal.room }
+    requires few { length s.old.journal.entries + length brought.draft.entries ≤ MAX_ENTRIES }
     requires ordered { IsOrdered (state_of s.old) }
     requires early { moment ≤ LAST_MOMENT }
     requires ready { MayHeed moment (link_at s.old.endpoints peer) heeding }
     requires known { is_some (link_of s.old.endpoints.links peer).last_mid ≡ true }
     ensures state { OnOk result
-        (state_of s.new ≡ with_heard moment peer heeding draft (state_of s.old)) }
+        (state_of s.new ≡ with_heard moment peer heeding brought.put brought.draft (state_of s.old)) }
     ensures bytes { OnOk result
-        (s.new.bytes ≡ capped (s.old.bytes + capped (sum_by entry_size draft.entries))) }
-    ensures room { OnOk result (s.new.journal.room + length draft.entries ≡ s.old.journal.room) }
-    ensures answers { OnOk result (given_in s.new ≡ given_in s.old ++ draft.answers) }
-    ensures sends { OnOk result (outgoing s.new ≡ outgoing s.old ++ draft.sends) }
+        (s.new.bytes ≡ capped (s.old.bytes + capped (sum_by entry_size brought.draft.entries))) }
+    ensures room { OnOk result (s.new.journal.room + length brought.draft.entries ≡ s.old.journal.room) }
+    ensures answers { OnOk result (given_in s.new ≡ given_in s.old ++ brought.draft.answers) }
+    ensures sends { OnOk result (outgoing s.new ≡ outgoing s.old ++ brought.draft.sends) }
     ensures same { OnErr result (SeesSame s.old s.new) }
 {
+    let Brought { draft, put } = brought;
     make_places(s, &draft)?;
-    change_tables(s, peer, moment, heeding);
+    make_room_for(&mut s.store, &put)?;
+    change_tables(s, peer, moment, heeding, put);
     commit(s, draft, moment);
     Ok(())
 }
@@ -298,13 +333,13 @@ fn take<R: Relation>(
     ensures memory { OnErr result (seen s.new ≡ seen s.old) }
 {
     let Hearing { heeding, up } = hearing;
-    let draft = draft_heard(alloc, s, moment, peer, datagram, &heeding, up)?;
-    let taken = takes(alloc, s, &draft)?;
+    let brought = draft_heard(alloc, s, moment, peer, datagram, &heeding, up)?;
+    let taken = takes(alloc, s, &brought.draft)?;
     if !taken {
         seal(s, moment);
         return Ok(());
     }
-    add_heard(s, peer, moment, heeding, draft)?;
+    add_heard(s, peer, moment, heeding, brought)?;
     Ok(())
 }
 

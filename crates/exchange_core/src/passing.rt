@@ -20,6 +20,7 @@ use crate::draft::Draft;
 use crate::due::next_due;
 use crate::expiring::{Sorted, outrun_all, sort_by_end, tokens_of};
 use crate::state::{self, State, start};
+use crate::storing::retire_all;
 use crate::timeouts::draft_timeouts;
 use crate::turns::draft_turns;
 use coap_codec::Token;
@@ -121,7 +122,9 @@ pub fn is_due<R: Relation>(s: &State<R>, moment: u64) -> bool
 /// What is prepared for a tick that has something to do.
 #[derive(Drop)]
 pub struct Passing<R: Relation> {
-    /// the tokens of the exchanges that end
+    /// the exchanges that end
+    pub over: Vec<Exchange>,
+    /// their tokens
     pub gone: Vec<Token>,
     pub turns: VecDeque<Turn>,
     /// the exchanges that go on
@@ -141,6 +144,7 @@ pub fn prepare<R: Relation>(
     requires early { moment ≤ LAST_MOMENT }
     requires due { something_due moment (state_of s.old) ≡ true }
     ensures same { SeesSame s.old s.new }
+    ensures over { IfOk result (λ x. x.over.items ≡ timed_out moment (state_of s.old)) }
     ensures gone { IfOk result (λ x. x.gone.items ≡ gone_tokens moment (state_of s.old)) }
     ensures ready { IfOk result
         (λ x. AreTurns moment x.gone.items s.new.endpoints.links s.new.endpoints.rooms
@@ -158,6 +162,7 @@ pub fn prepare<R: Relation>(
     let turns = prepare_links(s, moment, &gone)?;
     let draft = draft_tick(alloc, s, &over, &mut still, &turns, moment)?;
     Ok(Passing {
+        over,
         gone,
         turns,
         still,
@@ -175,7 +180,7 @@ pub fn pass<R: Relation>(s: &mut State<R>, passing: Passing<R>, moment: u64)
     requires few { length s.old.journal.entries + length passing.draft.entries ≤ MAX_ENTRIES }
     requires ordered { IsOrdered (state_of s.old) }
     ensures state { state_of s.new ≡ moved_on moment (is_among passing.gone.items)
-        passing.still.exchanges passing.draft (state_of s.old) }
+        passing.over.items passing.still.exchanges passing.draft (state_of s.old) }
     ensures bytes { s.new.bytes
         ≡ capped (s.old.bytes + capped (sum_by entry_size passing.draft.entries)) }
     ensures room { s.new.journal.room + length passing.draft.entries ≡ s.old.journal.room }
@@ -183,11 +188,13 @@ pub fn pass<R: Relation>(s: &mut State<R>, passing: Passing<R>, moment: u64)
     ensures sends { outgoing s.new ≡ outgoing s.old ++ passing.draft.sends }
 {
     let Passing {
+        over,
         gone,
         turns,
         still,
         draft,
     } = passing;
+    retire_all(&mut s.store, &s.journal, &over);
     s.endpoints.tick(turns, moment, &gone);
     s.exchanges = still;
     state::commit(s, draft, moment);

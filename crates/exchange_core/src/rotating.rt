@@ -22,6 +22,7 @@ use exchange_table::Exchanges;
 use journal_book::Journal;
 use journal_copies::{Copies, copies_of};
 use limits::{MAX_COPIES, MAX_COPIES_LEN, MAX_NUMBERED};
+use resp_cache::Store;
 use std::alloc::Global;
 use std::collections::VecDeque;
 use std::mem;
@@ -107,6 +108,7 @@ fn turn<R: Relation>(
     s.conns.clear();
     s.exchanges = Exchanges::new(alloc);
     s.readers.clear();
+    s.store = Store::new(alloc);
     s.answers.clear();
     s.sends.clear();
     s.sealed = false;

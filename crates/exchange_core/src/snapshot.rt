@@ -18,6 +18,7 @@ use crate::state::State;
 use endpoint_table::Endpoints;
 use exchange_model::{Conn, Reader};
 use exchange_table::Exchanges;
+use resp_cache::Store;
 use std::alloc::{AllocError, Global};
 use std::collections::VecDeque;
 use std::marker::Model;
@@ -37,6 +38,7 @@ pub struct Snapshot<R: Relation> {
     conns: Vec<Conn>,
     exchanges: Exchanges,
     readers: Vec<Reader>,
+    store: Store,
     endpoints: Endpoints,
     answers: Vec<Answer<R>>,
     sends: VecDeque<Datagram>,
@@ -62,6 +64,7 @@ impl<R: Relation> Model for Snapshot<R> {
         conns = s.conns.items;
         exchanges = s.exchanges.exchanges;
         readers = s.readers.items;
+        store = s.store.pairs;
         links = s.endpoints.links;
       };
       answers = map given_of s.answers.items;
@@ -113,6 +116,7 @@ pub fn take_snapshot<R: Relation>(alloc: Global, s: &State<R>) -> Result<Snapsho
         conns: Vec::from_slice(alloc, &s.conns)?,
         exchanges: s.exchanges.copy(alloc)?,
         readers: Vec::from_slice(alloc, &s.readers)?,
+        store: s.store.copy()?,
         endpoints: s.endpoints.copy()?,
         answers: copy_answers(alloc, &s.answers)?,
         sends: copy_sends(alloc, &s.sends)?,
@@ -138,6 +142,7 @@ pub fn put_back<R: Relation>(s: &mut State<R>, snapshot: Snapshot<R>)
     s.conns = snapshot.conns;
     s.exchanges = snapshot.exchanges;
     s.readers = snapshot.readers;
+    s.store = snapshot.store;
     s.endpoints.put_back(snapshot.endpoints);
     s.answers = snapshot.answers;
     s.sends = snapshot.sends;

@@ -21,6 +21,7 @@ use endpoint_table::Endpoints;
 use exchange_model::{Conn, Reader};
 use exchange_table::Exchanges;
 use journal_book::{Entry, Journal};
+use resp_cache::Store;
 use std::alloc::{AllocError, Global};
 use std::collections::VecDeque;
 use transformers::Relation;
@@ -42,6 +43,8 @@ pub struct State<R: Relation> {
     pub exchanges: Exchanges,
     /// who waits for an exchange, in the order of their asks
     pub readers: Vec<Reader>,
+    /// the responses that may be served again
+    pub store: Store,
     pub endpoints: Endpoints,
     /// the answers that aren't taken yet
     pub answers: Vec<Answer<R>>,

@@ -149,7 +149,8 @@ fn what_options_say(rt: HostRuntime) {
     assert!(rt; said.code == 0x45);
     assert!(rt; said.format == Some(0x0102) && said.max_age == Some(60));
     assert!(rt; has_tag(&said, &[1, 2]));
-    assert!(rt; said.location_path.len() == 1 && said.location_query.len() == 0);
+    let location = &said.location;
+    assert!(rt; location.path.as_slice().len() == 1 && location.query.as_slice().is_empty());
     assert!(rt; said.body.as_slice() == b"on".as_slice());
     // an empty ETag does not count
     let bare = b"\x42\x45\x12\x99te\x40\xffon";

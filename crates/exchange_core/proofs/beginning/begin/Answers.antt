@@ -30,6 +30,7 @@ ask-requires-clause-begins g c =
       early = c.requires.early;
       idle = c.requires.idle;
       peer = c.requires.asked;
+      unserved = c.requires.unserved;
       alone = c.requires.alone;
       spelled = subst (λ (m : Mapping). IsTextFor m.sense c.token_of-token.result c.in_ok-text.text) c.deref.ensures c.in_ok-text.ensures.text;
       small = subst (λ (m : Mapping). came_size m.came ≤ MAX_REQUEST_SIZE) c.deref.ensures c.text_of.ensures.small;

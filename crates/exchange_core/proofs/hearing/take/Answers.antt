@@ -43,7 +43,7 @@ returns-then-not-taken-clause-sound g c =
     c.requires.sound c.requires.unsealed c.requires.later c.requires.early
     (bytes-small c.args.datagram.now (λ i. omega (arith, c.type_inv.datagram i)))
     c.requires.hears refl
-    c.in_ok-draft.draft c.in_ok-draft.ensures _ _ _ _
+    c.in_ok-brought.brought.draft c.in_ok-brought.ensures.drafted c.in_ok-brought.brought.put c.in_ok-brought.ensures.put _ _ _ _
     (sym (c.in_ok-taken.ensures c.args.moment) ∙ c.if-not-taken.true) e.state e.bytes e.room e.answers
 
 pub returns-then-not-taken-clause-heard : goal.returns-then-not-taken-clause-heard
@@ -54,17 +54,17 @@ returns-then-not-taken-clause-heard g c =
     c.requires.sound c.requires.unsealed c.requires.later c.requires.early
     (bytes-small c.args.datagram.now (λ i. omega (arith, c.type_inv.datagram i)))
     c.requires.hears refl
-    c.in_ok-draft.draft c.in_ok-draft.ensures _ _ _ _
+    c.in_ok-brought.brought.draft c.in_ok-brought.ensures.drafted c.in_ok-brought.brought.put c.in_ok-brought.ensures.put _ _ _ _
     (sym (c.in_ok-taken.ensures c.args.moment) ∙ c.if-not-taken.true) e.state e.answers e.sends
 
 pub add_heard-requires-clause-room : goal.add_heard-requires-clause-room
 add_heard-requires-clause-room g c =
-    (room-for c.args.moment (state_of c.args.s.now) _ _ _ c.in_ok-draft.draft c.requires.sound
+    (room-for c.args.moment (state_of c.args.s.now) _ _ _ c.in_ok-brought.brought.draft c.requires.sound
     (sym (c.in_ok-taken.ensures c.args.moment) ∙ c.if-not-taken.false)).0
 
 pub add_heard-requires-clause-few : goal.add_heard-requires-clause-few
 add_heard-requires-clause-few g c =
-    (room-for c.args.moment (state_of c.args.s.now) _ _ _ c.in_ok-draft.draft c.requires.sound
+    (room-for c.args.moment (state_of c.args.s.now) _ _ _ c.in_ok-brought.brought.draft c.requires.sound
     (sym (c.in_ok-taken.ensures c.args.moment) ∙ c.if-not-taken.false)).1
 
 pub add_heard-requires-clause-known : goal.add_heard-requires-clause-known
@@ -78,7 +78,7 @@ returns-clause-sound g c =
     c.requires.sound c.requires.unsealed c.requires.later c.requires.early
     (bytes-small c.args.datagram.now (λ i. omega (arith, c.type_inv.datagram i)))
     c.requires.hears refl
-    c.in_ok-draft.draft c.in_ok-draft.ensures _ _ _ _
+    c.in_ok-brought.brought.draft c.in_ok-brought.ensures.drafted c.in_ok-brought.brought.put c.in_ok-brought.ensures.put _ _ _ _
     (sym (c.in_ok-taken.ensures c.args.moment) ∙ c.if-not-taken.false)
     e.state e.bytes e.room e.answers
 
@@ -90,6 +90,6 @@ returns-clause-heard g c =
     c.requires.sound c.requires.unsealed c.requires.later c.requires.early
     (bytes-small c.args.datagram.now (λ i. omega (arith, c.type_inv.datagram i)))
     c.requires.hears refl
-    c.in_ok-draft.draft c.in_ok-draft.ensures _ _ _ _
+    c.in_ok-brought.brought.draft c.in_ok-brought.ensures.drafted c.in_ok-brought.brought.put c.in_ok-brought.ensures.put _ _ _ _
     (sym (c.in_ok-taken.ensures c.args.moment) ∙ c.if-not-taken.false)
     e.state e.answers e.sends

@@ -41,7 +41,7 @@ returns-then-not-taken-clause-is g c = λ ne n.
     same-core _ (seals t S) _ (given_in c.args.s.now) _ (outgoing c.args.s.now) e.state e.answers e.sends
     ∙ stepped-seal t S (given_in c.args.s.now) (outgoing c.args.s.now)
     ∙ ap (λ (V : State). stepped V (core_of S (given_in c.args.s.now) (outgoing c.args.s.now)))
-    (sym (asks-sealed t c.args.conn _ n S U c.requires.unsealed (c.requires.refused.is n) fit))
+    (sym (asks-sealed t c.args.conn (ask_of (arc_value c.args.mapped)) n S U c.requires.unsealed (c.requires.refused.is n) fit))
 
 pub commit-requires-clause-room : goal.commit-requires-clause-room
 commit-requires-clause-room g c =
@@ -100,4 +100,4 @@ returns-clause-is g c = λ ne n.
     same-core _ U _ (given_in c.commit.new.s) _ (outgoing c.commit.new.s) new refl refl
     ∙ committed t S U _ d gs _ os _ c.in_ok-draft.ensures.drafts (ap (λ (V : State). V.entries) (sym is))
     (e.answers ∙ ap (λ (xs : List Given). xs ++ d.answers) m.answers) (e.sends ∙ ap (λ (xs : List Outgoing). xs ++ d.sends) m.sends)
-    ∙ ap (λ (V : State). stepped V (core_of S gs os)) (sym (asks-entered t c.args.conn _ n S U c.requires.unsealed (c.requires.refused.is n) fit))
+    ∙ ap (λ (V : State). stepped V (core_of S gs os)) (sym (asks-entered t c.args.conn (ask_of (arc_value c.args.mapped)) n S U c.requires.unsealed (c.requires.refused.is n) fit))

@@ -142,12 +142,12 @@ returns-clause-sound g c =
     sym (tick-fits t S may q.sound.drained q.due d h)
     ∙ ap (λ (W : State). fits (with_draft t d W)) (sym same.state)
     ∙ sym (c.in_ok-taken.ensures t) ∙ c.if-not-taken.false in
-    let U : State = moved_on t (is_among p.gone.items) p.still.exchanges d S in
+    let U : State = moved_on t (is_among p.gone.items) p.over.items p.still.exchanges d S in
     let new : state_of c.pass.new.s ≡ U =
     c.pass.ensures.state
-    ∙ ap (moved_on t (is_among p.gone.items) p.still.exchanges d) (there.state ∙ same.state) in
+    ∙ ap (moved_on t (is_among p.gone.items) p.over.items p.still.exchanges d) (there.state ∙ same.state) in
     let is : U ≡ ticked t S =
-    tick-moved t S may q.sound.drained q.due d h p.gone.items p.still.exchanges made.gone made.still in
+    tick-moved t S may q.sound.drained q.due d h p.gone.items p.over.items p.still.exchanges made.gone made.over made.still in
     subst (λ (W : State). SoundState W c.pass.new.s.bytes c.pass.new.s.journal.room
     (given_in c.pass.new.s)) (sym new)
     (sound-drafted t S U _ _ _ _ _ _ _ d q.sound made.drafted refl q.early refl
@@ -174,12 +174,12 @@ returns-clause-ticks g c =
     sym (tick-fits t S may q.sound.drained q.due d h)
     ∙ ap (λ (W : State). fits (with_draft t d W)) (sym same.state)
     ∙ sym (c.in_ok-taken.ensures t) ∙ c.if-not-taken.false in
-    let U : State = moved_on t (is_among p.gone.items) p.still.exchanges d S in
+    let U : State = moved_on t (is_among p.gone.items) p.over.items p.still.exchanges d S in
     let new : state_of c.pass.new.s ≡ U =
     c.pass.ensures.state
-    ∙ ap (moved_on t (is_among p.gone.items) p.still.exchanges d) (there.state ∙ same.state) in
+    ∙ ap (moved_on t (is_among p.gone.items) p.over.items p.still.exchanges d) (there.state ∙ same.state) in
     let is : U ≡ ticked t S =
-    tick-moved t S may q.sound.drained q.due d h p.gone.items p.still.exchanges made.gone made.still in
+    tick-moved t S may q.sound.drained q.due d h p.gone.items p.over.items p.still.exchanges made.gone made.over made.still in
     ap (λ (W : State). core_of W (given_in c.pass.new.s) (outgoing c.pass.new.s)) new
     ∙ committed t S U (tick_deeds t S) d (given_in c.args.s.now) (given_in c.pass.new.s)
     (outgoing c.args.s.now) (outgoing c.pass.new.s) h refl
