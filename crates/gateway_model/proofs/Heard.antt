@@ -10,25 +10,27 @@ use Rattle.coap_codec.specs.declared.fault.CodecFault.{CodecFault}
 use Rattle.coap_codec.specs.declared.message.MsgType.{MsgType}
 use Rattle.coap_codec.specs.declared.message.MsgType.TheVariants.{Con, Non, Ack, Rst}
 use Rattle.uri_map.specs.declared.peer.Peer.{Peer}
-use Rattle.ask_model.specs.declared.cause.Cause.{Cause}
-use Rattle.ask_model.specs.declared.cause.Cause.TheVariants as C
-use Rattle.ask_model.specs.Requests.{CoapRequest, Sense, Requests, Refuses}
-use Rattle.ask_model.specs.Views.{Ask}
-use Rattle.journal_book.specs.Entries.{Fault, Deed, Opens, Asks, Sends, Hears, Passes, Answers, Shuts, Seals, Written}
 use Rattle.message_layer.specs.Values.{LinkState}
 use Rattle.message_layer.specs.Hearing.{ignored, is_fresh, is_repeat, is_awaited, is_awaited_by_ack, new_verdict, heard_verdict, rst_verdict, verdict_by, verdict_of, replies, reset_for}
 use Rattle.message_layer.specs.declared.state.Heard.{Heard}
 use Rattle.message_layer.specs.declared.state.Outstanding.{Outstanding}
 use Rattle.message_layer.specs.declared.state.Reply.{Reply}
-use Rattle.message_layer.specs.declared.state.Reply.TheVariants as R
 use Rattle.message_layer.specs.declared.state.Waiting.{Waiting}
 use Rattle.message_layer.specs.declared.verdict.News.{News}
-use Rattle.message_layer.specs.declared.verdict.News.TheVariants as N
 use Rattle.message_layer.specs.declared.verdict.Verdict.{Verdict}
+use Rattle.message_layer.specs.declared.state.Reply.TheVariants as R
+use Rattle.message_layer.specs.declared.verdict.News.TheVariants as N
+use Rattle.resp_cache.specs.Stored.{Stored}
+use Rattle.ask_model.specs.Sharing.{asked_key}
+use Rattle.ask_model.specs.declared.cause.Cause.{Cause}
+use Rattle.ask_model.specs.Requests.{CoapRequest, Sense, Requests, Refuses}
+use Rattle.ask_model.specs.Views.{Ask}
+use Rattle.ask_model.specs.declared.cause.Cause.TheVariants as C
+use Rattle.journal_book.specs.Entries.{Kept, Fault, Deed, Opens, Asks, Sends, Hears, Passes, Answers, Shuts, Seals, Written}
+use Rattle.exchange_model.specs.Steps.{recalls, opens, asks, shuts, seals, begins, hears, hears_nothing, sends_first, sends_copy, is_past, joins, timed_out, passes}
+use Rattle.exchange_model.specs.Calls.{asked_for, served_in, serves, Numbers, next_by, next, refused, has_place, asked_by, asked, given_back, Telling, tells, told_for, told_late, joined, asked_with, takes_new, takes_by, repeats, resets, reads_so, heard, is_due, moves_by, moves, move_all, peer_of, something_due, ticked, ended_by, grounds_of}
 use Rattle.exchange_model.specs.declared.kept.Exchange.{Exchange}
 use Rattle.exchange_model.specs.State.{State, link_of}
-use Rattle.exchange_model.specs.Steps.{opens, asks, shuts, seals, begins, hears, hears_nothing, sends_first, sends_copy, is_past, joins, timed_out, passes}
-use Rattle.exchange_model.specs.Calls.{Numbers, next_by, next, refused, has_place, asked_by, asked, given_back, Telling, tells, told_for, told_late, joined, asked_with, takes_new, takes_by, repeats, resets, reads_so, heard, is_due, moves_by, moves, move_all, peer_of, something_due, ticked, ended_by, grounds_of}
 use Rattle.exchange_model.specs.Entering.{answer_of}
 use Rattle.exchange_model.specs.Growing.{at_moment}
 use Rattle.exchange_model.specs.Keeping.{IsDone}
@@ -133,13 +135,20 @@ asked-unheard t c a n S = sense a.sense
 
     sense : (s : Sense) → Unheard S (asked_by s t c a n S)
     sense (Refuses cause status) = turned_away cause
-    sense (Requests q) = with (joined q S)
+    sense (Requests q) = for (served_in q t S)
       where
         with : (v : Option Exchange) → Unheard S (asked_with v t c a q n S)
         with (Some e) = one t (Asks c a) S (joins t c a e.opening S) refl tt
         with None = either (has_place t q.peer S)
             S (next t q.peer (begins t c a q n.token n.text n.word S)) (refused t c a C.Busy S)
             (begun q) (turned_away C.Busy)
+
+        for : (v : Option Stored) → Unheard S (asked_for v t c a q n S)
+        for (Some s) =
+            let S1 = recalls t c a (asked_key q) S in
+            both S S1 (serves t c a q s S) (one t (Asks c a) S S1 refl tt)
+            (one t (Answers c (length S.entries) (Kept s.list)) S1 (serves t c a q s S) refl tt)
+        for None = with (joined q S)
 
 pub asks-unheard : (t c : ℕ) (a : Ask) (n : Numbers) (S : State) → Unheard S (asks_in_room t c a n S)
 asks-unheard t c a n S = either S.sealed S S (in_room t (asked t c a n S) S) (none S)

@@ -8,30 +8,32 @@ use Rattle.coap_codec.specs.Spelling.{Content}
 use Rattle.coap_codec.specs.Reading.{message_at}
 use Rattle.coap_codec.specs.declared.fault.CodecFault.{CodecFault}
 use Rattle.uri_map.specs.declared.peer.Peer.{Peer}
-use Rattle.ask_model.specs.declared.cause.Cause.{Cause}
-use Rattle.ask_model.specs.declared.cause.Cause.TheVariants as C
-use Rattle.ask_model.specs.Requests.{CoapRequest, Sense, Requests, Refuses}
-use Rattle.ask_model.specs.Views.{Ask}
-use Rattle.journal_book.specs.Entries.{Fault, Deed, Asks, Sends, Hears, Passes, Answers, Seals, Written}
 use Rattle.message_layer.specs.Hearing.{replies, reset_for, verdict_of}
 use Rattle.message_layer.specs.declared.state.Outstanding.{Outstanding}
 use Rattle.message_layer.specs.declared.state.Waiting.{Waiting}
 use Rattle.message_layer.specs.declared.verdict.News.{News}
-use Rattle.message_layer.specs.declared.verdict.News.TheVariants as N
 use Rattle.message_layer.specs.declared.verdict.Verdict.{Verdict}
+use Rattle.message_layer.specs.declared.verdict.News.TheVariants as N
+use Rattle.resp_cache.specs.Stored.{Stored}
+use Rattle.ask_model.specs.Sharing.{asked_key}
+use Rattle.ask_model.specs.declared.cause.Cause.{Cause}
+use Rattle.ask_model.specs.Requests.{CoapRequest, Sense, Requests, Refuses}
+use Rattle.ask_model.specs.Views.{Ask}
+use Rattle.ask_model.specs.declared.cause.Cause.TheVariants as C
+use Rattle.journal_book.specs.Entries.{Kept, Fault, Deed, Asks, Sends, Hears, Passes, Answers, Seals, Written}
+use Rattle.history_laws.proofs.CallerLemmas.{all-more}
+use Rattle.exchange_model.specs.Steps.{recalls, opens, asks, seals, begins, hears, hears_nothing, sends_first, sends_copy, is_past, joins, timed_out, passes}
+use Rattle.exchange_model.specs.Calls.{asked_for, served_in, serves, Numbers, next_by, next, refused, has_place, asked_by, asked, given_back, Telling, tells, told_for, told_late, joined, asked_with, takes_new, takes_by, repeats, resets, reads_so, heard, is_due, moves_by, moves, move_all, peer_of, something_due, ticked, ended_by, grounds_of}
 use Rattle.exchange_model.specs.declared.kept.Conn.{Conn}
 use Rattle.exchange_model.specs.declared.kept.Exchange.{Exchange}
 use Rattle.exchange_model.specs.declared.kept.Reader.{Reader}
 use Rattle.exchange_model.specs.State.{State, link_of, pend, conns_after}
-use Rattle.exchange_model.specs.Steps.{opens, asks, seals, begins, hears, hears_nothing, sends_first, sends_copy, is_past, joins, timed_out, passes}
 use Rattle.exchange_model.specs.Resting.{HasConn}
-use Rattle.exchange_model.specs.Calls.{Numbers, next_by, next, refused, has_place, asked_by, asked, given_back, Telling, tells, told_for, told_late, joined, asked_with, takes_new, takes_by, repeats, resets, reads_so, heard, is_due, moves_by, moves, move_all, peer_of, something_due, ticked, ended_by, grounds_of}
 use Rattle.exchange_model.specs.Growing.{conns_with, at_moment, by_client}
 use Rattle.exchange_model.specs.Room.{fits, KeptInRoom}
 use Rattle.exchange_model.specs.Entering.{answer_of}
 use Rattle.exchange_model.specs.Sealing.{in_room, opens_in_room, asks_in_room, hears_in_room, late, ticks_in_room}
 use Rattle.exchange_model.proofs.CallerLemmas.{Apart, AreWaiting, conns-both, for-served, given-conns, kept-served, late-served, moved-conns, next-conns, readers_in, Served, still-waits}
-use Rattle.history_laws.proofs.CallerLemmas.{all-more}
 
 -- An answer is to the ask that its connection waits for.
 abbrev pub IsAwaited : List Conn → Deed → Type 0
@@ -332,15 +334,28 @@ asked-begins t c a n S idle = sense a.sense
     place true S1 S2 x y = x
     place false S1 S2 x y = y
 
+    -- what is stored answers it
+    kept : (q : CoapRequest) (s : Stored) → Begins t c a S (serves t c a q s S)
+    kept q s =
+        let k : ℕ = length S.entries in
+        let S1 = recalls t c a (asked_key q) S in
+        begins-by t c a S S1 (serves t c a q s S) refl refl refl
+        (one t (Answers c k (Kept s.list)) S1 (serves t c a q s S) refl refl refl refl
+        (asks-for c None (Some k) S.conns idle))
+
     sense : (s : Sense) → Begins t c a S (asked_by s t c a n S)
     sense (Refuses cause status) = turned_away cause
-    sense (Requests q) = with (joined q S)
+    sense (Requests q) = for (served_in q t S)
       where
         with : (v : Option Exchange) → Begins t c a S (asked_with v t c a q n S)
         with (Some e) = begins-by t c a S (joins t c a e.opening S) (joins t c a e.opening S) refl refl refl (none (joins t c a e.opening S))
         with None = place (has_place t q.peer S)
             (next t q.peer (begins t c a q n.token n.text n.word S)) (refused t c a C.Busy S)
             (begun q) (turned_away C.Busy)
+
+        for : (v : Option Stored) → Begins t c a S (asked_for v t c a q n S)
+        for (Some s) = kept q s
+        for None = with (joined q S)
 
 -- It begins so, or the journal is sealed; or nothing happens.
 pub asks-begin : (t c : ℕ) (a : Ask) (n : Numbers) (S : State) → HasConn S.conns c None
@@ -371,7 +386,7 @@ one-sealed false x y s e f = f
 asked-sealed : (sense : Sense) (t c : ℕ) (a : Ask) (n : Numbers) (S : State) → (asked_by sense t c a n S).sealed ≡ S.sealed
 asked-sealed (Refuses cause status) t c a n S = refl
 asked-sealed (Requests q) t c a n S =
-    with (joined q S)
+    for (served_in q t S)
   where
     B : State
     B = begins t c a q n.token n.text n.word S
@@ -380,6 +395,10 @@ asked-sealed (Requests q) t c a n S =
     with (Some e) = refl
     with None = one-sealed (has_place t q.peer S) (next t q.peer B) (refused t c a C.Busy S) S.sealed
         (next-sealed t q.peer (link_of B.links q.peer).outstanding (link_of B.links q.peer).waiting B) refl
+
+    for : (v : Option Stored) → (asked_for v t c a q n S).sealed ≡ S.sealed
+    for (Some s) = refl
+    for None = with (joined q S)
 
 pub denied-is : (t c : ℕ) (a : Ask) (n : Numbers) (S : State) → (asks_in_room t c a n S).sealed ≡ true
     → (asks_in_room t c a n S ≡ S) ⊎ (asks_in_room t c a n S ≡ seals t S)

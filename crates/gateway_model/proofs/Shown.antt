@@ -3,29 +3,29 @@ use Rattle.std.proofs.Common.{◌≡◌, ℕ, zero, suc, ◌-◌, List, [], ◌�
 use Rattle.std.specs.List.{AllByRecursion, flat_map, slice_get}
 use Rattle.coap_codec.specs.Spelling.{Content, Spells}
 use Rattle.coap_codec.proofs.Unique.{spells_one}
-use Rattle.uri_map.specs.declared.peer.Peer.{Peer}
 use Rattle.media_map.specs.declared.form.Form.{Form}
+use Rattle.uri_map.specs.declared.peer.Peer.{Peer}
 use Rattle.http_edge.specs.declared.answer.HttpAnswer.{HttpAnswer}
 use Rattle.ask_model.specs.Requests.{CoapRequest, Sense, Requests, Refuses}
 use Rattle.ask_model.specs.Views.{Ask, Rules}
 use Rattle.journal_book.specs.Entries.{Grounds, Live, Kept, Fault, Asks, Hears, Answers, Written}
 use Rattle.journal_book.specs.Views.{ask_of}
-use Rattle.history_laws.specs.Responses.{Response, whole_of}
-use Rattle.reply_reading.specs.Findings.{Told, Tells as TellsOf, Fails}
-use Rattle.http_mapping.specs.Means.{Tells, MeansWhole, MeansTold, last_reply}
+use Rattle.history_laws.specs.Responses.{Response, whole_in, whole_of}
 use Rattle.history_laws.specs.Justified.{Stands}
 use Rattle.history_laws.proofs.CallerLemmas.{some-is}
-use Rattle.history_claims.specs.Headline.{IsEntry, IsHeardFor, AreHeardFor, RestsOn}
+use Rattle.history_claims.specs.Headline.{IsEntry, IsHeardFirst, IsHeardFor, AreHeardFor, IsServed, RestsOn}
 use Rattle.history_claims.specs.Causes.{AreCaused}
-use Rattle.history_claims.proofs.CallerLemmas.{rests-on-replies}
+use Rattle.history_claims.proofs.CallerLemmas.{rests-on-replies, rests-on-stored}
+use Rattle.reply_reading.specs.Findings.{Told, Tells as TellsOf, Fails}
 use Rattle.exchange_core.specs.Values.{CoreValue, Untaken, Outgoing, written, answered_in, sent_in}
 use Rattle.exchange_core.specs.Answering.{Given, HeardAs, AreHeard, IsFound, CountsFrom}
+use Rattle.http_mapping.specs.Means.{Tells, MeansWhole, MeansTold, last_reply}
 use Rattle.gateway_model.specs.declared.input.When.{When}
 use Rattle.gateway_model.specs.Acts.{Act, Served, Terms, DoesAll}
 use Rattle.gateway_model.specs.Emissions.{Emission}
 use Rattle.gateway_model.specs.Going.{goes_in, GoesOut, SendsJust}
 use Rattle.gateway_model.specs.Tellings.{IsMapped, AreMapped, terms_of, IsMeant, AreMeant}
-use Rattle.gateway_model.specs.Told.{IsHeardFirst, ShowsGrounds, ShowsReplies, TellsAnswer, Piece, interim, final, answers_in, IsPiece, AreOnce, IsToldAnswers, TellsAll, HasCause}
+use Rattle.gateway_model.specs.Told.{ShowsGrounds, ShowsReplies, ShowsStored, TellsAnswer, Piece, interim, final, answers_in, IsPiece, AreOnce, IsToldAnswers, TellsAll, HasCause}
 use Rattle.gateway_model.specs.Waiting.{IsDrained}
 use Rattle.gateway_model.proofs.Order.{all-append}
 use Rattle.gateway_model.proofs.Moves.{Whoever, TellsGiven, IsSaid, ToldIn, Wait, Did, nums, nums-in}
@@ -71,6 +71,12 @@ messages-same h k q (j ∷ js) (m ∷ ms) (n ∷ ns) a b =
     ap (λ (x : Content). x ∷ ms) (message-same h k j b.0.0 q m n a.0 b.0.1)
     ∙ ap (λ (xs : List Content). n ∷ xs) (messages-same h k q js ms ns a.1 b.1)
 
+-- What replies are as a whole goes by the method that was asked with.
+by-method : (q r : CoapRequest) (ms : List Content) → q.method ≡ r.method → whole_of q ms ≡ whole_of r ms
+by-method q r [] e = refl
+by-method q r (m ∷ []) e = ap (λ (k : ℕ). whole_in k m) e
+by-method q r (m ∷ n ∷ ms) e = refl
+
 -- each ask of the entries is meant so
 meant-at : (M : Terms) (h : List Written) (k t c : ℕ) (a : Ask) → AreMeant M h → slice_get h k ≡ Some (written t (Asks c a)) → M.IsMeaning a
 meant-at M [] k t c a meant e = absurd cc
@@ -80,6 +86,12 @@ meant-at M (w ∷ h) (suc k) t c a meant e = meant-at M h k t c a meant.1 e
 
 module _ (holds : Form → Form → List ℕ → List ℕ → Type 0) (takes : Form → Form → List ℕ → Type 0) (rules : Rules)
     (h : List Written) (stands : Stands h) where
+  -- What was heard first was heard at one moment.
+  first-same : (js : List ℕ) (t s : ℕ) → IsHeardFirst h t js → IsHeardFirst h s js → t ≡ s
+  first-same [] t s a b = absurd a
+  first-same (j ∷ js) t s a b =
+      ap (λ (w : Written). w.moment) (some-is (written t (Hears a.0 a.1)) (written s (Hears b.0 b.1)) (sym a.2 ∙ b.2))
+
   -- the first reply was heard then
   heard-first : (js : List ℕ) (t heard : ℕ) (q : CoapRequest) (ms : List Content) (w : Response) → AreHeard h js ms
       → whole_of q ms ≡ Some w → CountsFrom h (Live js) t heard → IsHeardFirst h heard js
@@ -115,6 +127,41 @@ module _ (holds : Form → Form → List ℕ → List ℕ → Type 0) (takes : F
             (subst (λ (s : Rules). MeansWhole s.routes holds takes g.mapping w (last_reply (Live js)) (g.moment - g.heard) r) (sym by) means);
       }
 
+  first-heard : (js : List ℕ) (t heard : ℕ) (q : CoapRequest) (ms : List Content) (w : Response) → AreHeard h js ms
+      → whole_of q ms ≡ Some w → CountsFrom h (Kept js) t heard → IsHeardFirst h heard js
+  first-heard [] t heard q [] w a e counts = absurd (none-some e)
+    where
+      none-some : whole_of q [] ≡ Some w → ⊥
+      none-some e = cc
+  first-heard [] t heard q (m ∷ ms) w a e counts = absurd a
+  first-heard (j ∷ js) t heard q ms w a e counts = (counts.1.peer, counts.1.bytes, counts.1.stands)
+
+  shows-kept : (n c : ℕ) (g : Given) (r : HttpAnswer) (js : List ℕ) (w : Response) (q : CoapRequest) (asked : ℕ)
+      → slice_get h g.ask ≡ Some (written asked (Asks c (ask_of g.mapping)))
+      → g.mapping.rules ≡ rules → g.mapping.sense ≡ Requests q
+      → IsEntry h n g.moment (Answers c g.ask (Kept js))
+      → (ms : List Content) → AreHeard h js ms → whole_of q ms ≡ Some w → CountsFrom h (Kept js) g.moment g.heard
+      → MeansWhole rules.routes holds takes g.mapping w (last_reply (Kept js)) (g.moment - g.heard) r
+      → ShowsStored holds takes h n g.moment c g.ask (ask_of g.mapping) js r
+  shows-kept n c g r js w q asked ask by sense answered ms heard whole counts means =
+      let served : IsServed h g.moment c g.ask js = rests-on-stored h n g.moment c g.ask js stands answered in
+      let one = asks-same g.moment asked c c _ _ (sym served.asked.stands ∙ ask) in
+      let request : served.request ≡ q = request-same served.request q (ap (λ (a : Ask). a.sense) one ∙ sense) in
+      let messages : served.messages ≡ ms = messages-same h served.opening served.other js served.messages ms served.heard heard in
+      let method : served.other.method ≡ q.method = sym (ap (λ (m : Content). m.code) (served.same.2 0 [])) ∙ ap (λ (k : CoapRequest). k.method) request in
+      let response : served.response ≡ w =
+      some-is served.response w
+      (sym served.whole
+      ∙ (by-method served.other q served.messages method
+      ∙ (ap (whole_of q) messages ∙ whole))) in
+      let since : served.since ≡ g.heard = first-same js served.since g.heard served.first (first-heard js g.moment g.heard q ms w heard whole counts) in
+      record {
+        served = served;
+        shows = subst (λ (i : ℕ). MeansWhole g.mapping.rules.routes holds takes g.mapping served.response (last_reply (Kept js)) (g.moment - i) r) (sym since)
+            (subst (λ (v : Response). MeansWhole g.mapping.rules.routes holds takes g.mapping v (last_reply (Kept js)) (g.moment - g.heard) r) (sym response)
+            (subst (λ (s : Rules). MeansWhole s.routes holds takes g.mapping w (last_reply (Kept js)) (g.moment - g.heard) r) (sym by) means));
+      }
+
   shows-grounds : (n c : ℕ) (g : Given) (r : HttpAnswer) (asked : ℕ)
       → slice_get h g.ask ≡ Some (written asked (Asks c (ask_of g.mapping)))
       → g.mapping.rules ≡ rules
@@ -126,7 +173,9 @@ module _ (holds : Form → Form → List ℕ → List ℕ → Type 0) (takes : F
   shows-grounds n c g r asked ask by (TellsOf w) (Live js) (Requests q) sense answered found counts means =
       shows-live n c g r js w q asked ask by sense answered found.0 found.1 found.2 counts means
   shows-grounds n c g r asked ask by (TellsOf w) (Live js) (Refuses cause status) sense answered found counts means = absurd found
-  shows-grounds n c g r asked ask by (TellsOf w) (Kept js) s sense answered found counts means = absurd found
+  shows-grounds n c g r asked ask by (TellsOf w) (Kept js) (Requests q) sense answered found counts means =
+      shows-kept n c g r js w q asked ask by sense answered found.0 found.1 found.2 counts means
+  shows-grounds n c g r asked ask by (TellsOf w) (Kept js) (Refuses cause status) sense answered found counts means = absurd found
   shows-grounds n c g r asked ask by (TellsOf w) (Fault cause j) s sense answered found counts means = absurd found
   shows-grounds n c g r asked ask by (Fails cause) (Live js) s sense answered found counts means = absurd found
   shows-grounds n c g r asked ask by (Fails cause) (Kept js) s sense answered found counts means = absurd found
