@@ -8,14 +8,16 @@ use Rattle.uri_map.specs.declared.peer.Peer.{Peer}
 use Rattle.ask_model.specs.declared.cause.Cause.{Cause}
 use Rattle.ask_model.specs.declared.cause.Cause.TheVariants as C
 use Rattle.ask_model.specs.Requests.{CoapRequest, Sense, Requests, Refuses}
+use Rattle.ask_model.specs.Sharing.{asked_key}
 use Rattle.ask_model.specs.Views.{Ask}
-use Rattle.journal_book.specs.Entries.{Deed, Opens, Asks, Sends, Hears, Passes, Answers, Shuts, Seals, Carries, Fault, Written}
+use Rattle.resp_cache.specs.Stored.{Stored}
+use Rattle.journal_book.specs.Entries.{Deed, Opens, Asks, Sends, Hears, Passes, Answers, Shuts, Seals, Carries, Kept, Fault, Written}
 use Rattle.message_layer.specs.declared.state.Outstanding.{Outstanding}
 use Rattle.message_layer.specs.declared.state.Waiting.{Waiting}
 use Rattle.exchange_model.specs.State.{State, link_of}
-use Rattle.exchange_model.specs.Steps.{asks, begins, seals}
+use Rattle.exchange_model.specs.Steps.{asks, begins, recalls, seals}
 use Rattle.exchange_model.specs.declared.kept.Exchange.{Exchange}
-use Rattle.exchange_model.specs.Calls.{Numbers, next_by, next, refused, has_place, asked_by, asked, asked_with, joined}
+use Rattle.exchange_model.specs.Calls.{Numbers, next_by, next, refused, has_place, asked_by, asked, asked_for, asked_with, joined, served_in, serves}
 use Rattle.exchange_model.specs.Growing.{HasNoClient, by_client, at_moment}
 use Rattle.exchange_model.specs.Room.{fits}
 use Rattle.exchange_model.specs.Sealing.{opens_in_room, asks_in_room, hears_in_room, ticks_in_room}
@@ -197,9 +199,17 @@ asked-once t c a n S = sense a.sense
     reads (Some e) q = record { more = at_moment t (Asks c a) ∷ []; entries = refl; one = refl; sealed = refl }
     reads None q = either (has_place t q.peer S) q
 
+    for : (v : Option Stored) (q : CoapRequest) → AsksOnce S (asked_for v t c a q n S)
+    for (Some s) q =
+        once-more S (recalls t c a (asked_key q) S) (serves t c a q s S)
+        (at_moment t (Answers c (length S.entries) (Kept s.list)))
+        (record { more = at_moment t (Asks c a) ∷ []; entries = refl; one = refl; sealed = refl })
+        refl refl refl
+    for None q = reads (joined q S) q
+
     sense : (s : Sense) → AsksOnce S (asked_by s t c a n S)
     sense (Refuses cause status) = away cause
-    sense (Requests q) = reads (joined q S) q
+    sense (Requests q) = for (served_in q t S) q
 
 -- in room, or not
 fits-in : (b f : Bool) (t : ℕ) (S S1 : State) → S.sealed ≡ b → (cond b S (cond f S1 (seals t S))).sealed ≡ false

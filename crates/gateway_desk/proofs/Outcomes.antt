@@ -4,12 +4,12 @@ use Rattle.coap_codec.specs.Spelling.{Content, Spells}
 use Rattle.uri_map.specs.declared.peer.Peer.{Peer}
 use Rattle.ask_model.specs.declared.cause.Cause.{Cause}
 use Rattle.ask_model.specs.Requests.{CoapRequest, Sense, Requests}
-use Rattle.journal_book.specs.Entries.{Grounds, Hears, Written, Live}
+use Rattle.journal_book.specs.Entries.{Grounds, Hears, Written, Live, Kept}
 use Rattle.history_laws.specs.Responses.{Response, whole_in, whole_of}
 use Rattle.reply_reading.specs.Findings.{Told, Tells, Fails, found_by}
 use Rattle.exchange_core.specs.Values.{written}
 use Rattle.exchange_core.specs.Answering.{HeardAs, AreHeard, IsFound, CountsFrom}
-use Rattle.gateway_desk.specs.Shown.{HearsAt, HearsNone, Says, IsSaidAt}
+use Rattle.gateway_desk.specs.Shown.{HearsAt, HearsNone, Says, IsSaidAt, RestsOnOne}
 
 some-same : {X : Type 0} (x y : X) → Some x ≡ Some y → x ≡ y
 some-same x y e = cc
@@ -104,7 +104,12 @@ not-one h js q w other f = by js other f.0 f.1 f.2
     by (n ∷ k ∷ js) other (m ∷ []) a e = absurd a.1
     by (n ∷ k ∷ js) other (m ∷ l ∷ ms) a e = absurd cc
 
--- what a look at bytes, at an entry and at an answer tells
+-- what a look at bytes, at an entry, at a list of entries and at an answer tells
+
+if-same : {E : Type 0} (r : Result Bool E) (A B : Type 0) → A ↔ B → IfOk r (λ is. IsTrue is ↔ A)
+    → IfOk r (λ is. IsTrue is ↔ B)
+if-same (Ok b) A B same p = ((λ is. same.0 (p.0 is)), (λ s. p.1 (same.1 s)))
+if-same (Err e) A B same p = p
 
 pub says-so : {E : Type 0} (r : Result Bool E) (i : ℕ) (bytes : List ℕ) (w : Response) (m : Content)
     → Spells m bytes → ((k : Content) → Spells k bytes → m ≡ k)
@@ -119,38 +124,64 @@ says-so (Err e) i bytes w m s only p = p
 pub is-said : {E : Type 0} (r : Result Bool E) (h : List Written) (n t k : ℕ) (w : Response)
     (bytes : List ℕ) → HearsAt h n t bytes → IfOk r (λ is. IsTrue is ↔ Says k bytes w)
     → IfOk r (λ is. IsTrue is ↔ IsSaidAt h n t k w)
-is-said (Ok b) h n t k w bytes x p =
-    let same = heard-says h n t k w bytes x in ((λ is. same.0 (p.0 is)), (λ s. p.1 (same.1 s)))
-is-said (Err e) h n t k w bytes x p = p
+is-said r h n t k w bytes x = if-same r _ _ (heard-says h n t k w bytes x)
+
+pub rests-so : {E : Type 0} (r : Result Bool E) (h : List Written) (js : List ℕ) (n t k : ℕ) (w : Response)
+    → js ≡ n ∷ [] → IfOk r (λ is. IsTrue is ↔ IsSaidAt h n t k w)
+    → IfOk r (λ is. IsTrue is ↔ RestsOnOne h js t k w)
+rests-so r h js n t k w e = if-same r _ _ ((λ s. (n, e, s)), from)
+  where
+    from : RestsOnOne h js t k w → IsSaidAt h n t k w
+    from x =
+        subst (λ (i : ℕ). IsSaidAt h i t k w) (ap (λ (is : List ℕ). get_or is 0 0) (sym x.1 ∙ e)) x.2
 
 abbrev Shows : List Written → Told → Grounds → Sense → ℕ → ℕ → Type 0
 Shows h told grounds sense t heard = IsFound h told grounds sense × CountsFrom h grounds t heard
 
-one-shows : {E : Type 0} (r : Result Bool E) (h : List Written) (n t heard : ℕ) (q : CoapRequest) (w : Response)
-    → IfOk r (λ is. IsTrue is ↔ IsSaidAt h n heard q.method w)
-    → IfOk r (λ is. IsTrue is ↔ Shows h (Tells w) (Live (n ∷ [])) (Requests q) t heard)
-one-shows (Ok b) h n t heard q w p =
-    let same = said-shown h n t heard q w in ((λ is. same.0 (p.0 is)), (λ s. p.1 (same.1 s)))
-one-shows (Err e) h n t heard q w p = p
+-- One entry alone bears a response just where that is what rests on it, live or kept.
 
-pub shows-so : {E : Type 0} (r : Result Bool E) (h : List Written) (n t heard : ℕ) (q : CoapRequest) (w : Response)
-    (told : Told) (grounds : Grounds) (sense : Sense)
-    → Tells w ≡ told → Live (n ∷ []) ≡ grounds → Requests q ≡ sense
-    → IfOk r (λ is. IsTrue is ↔ IsSaidAt h n heard q.method w)
+live-shown : (h : List Written) (js : List ℕ) (t heard : ℕ) (q : CoapRequest) (w : Response)
+    → RestsOnOne h js heard q.method w ↔ Shows h (Tells w) (Live js) (Requests q) t heard
+live-shown h js t heard q w = (to, from js)
+  where
+    to : RestsOnOne h js heard q.method w → Shows h (Tells w) (Live js) (Requests q) t heard
+    to r =
+        subst (λ (x : List ℕ). Shows h (Tells w) (Live x) (Requests q) t heard) (sym r.1)
+        ((said-shown h r.0 t heard q w).0 r.2)
+
+    from : (js : List ℕ) → Shows h (Tells w) (Live js) (Requests q) t heard → RestsOnOne h js heard q.method w
+    from [] f = absurd (not-one h [] q w (λ n e. absurd cc) f.0)
+    from (n ∷ []) f = (n, refl, (said-shown h n t heard q w).1 f)
+    from (n ∷ k ∷ js) f = absurd (not-one h (n ∷ k ∷ js) q w (λ m e. absurd cc) f.0)
+
+kept-shown : (h : List Written) (js : List ℕ) (t heard : ℕ) (q : CoapRequest) (w : Response)
+    → RestsOnOne h js heard q.method w ↔ Shows h (Tells w) (Kept js) (Requests q) t heard
+kept-shown h [] t heard q w = live-shown h [] t heard q w
+kept-shown h (j ∷ js) t heard q w = live-shown h (j ∷ js) t heard q w
+
+shows-by : {E : Type 0} (r : Result Bool E) (h : List Written) (js : List ℕ) (t heard : ℕ) (q : CoapRequest)
+    (w : Response) (told : Told) (from grounds : Grounds) (sense : Sense)
+    → RestsOnOne h js heard q.method w ↔ Shows h (Tells w) from (Requests q) t heard
+    → Tells w ≡ told → from ≡ grounds → Requests q ≡ sense
+    → IfOk r (λ is. IsTrue is ↔ RestsOnOne h js heard q.method w)
     → IfOk r (λ is. IsTrue is ↔ (IsFound h told grounds sense × CountsFrom h grounds t heard))
-shows-so r h n t heard q w told grounds sense a b c p =
+shows-by r h js t heard q w told from grounds sense same a b c p =
     subst (λ x. IfOk r (λ is. IsTrue is ↔ Shows h x grounds sense t heard)) a
     (subst (λ x. IfOk r (λ is. IsTrue is ↔ Shows h (Tells w) x sense t heard)) b
-    (subst (λ x. IfOk r (λ is. IsTrue is ↔ Shows h (Tells w) (Live (n ∷ [])) x t heard)) c
-    (one-shows r h n t heard q w p)))
+    (subst (λ x. IfOk r (λ is. IsTrue is ↔ Shows h (Tells w) from x t heard)) c (if-same r _ _ same p)))
 
-pub shows-none : (h : List Written) (js : List ℕ) (q : CoapRequest) (w : Response)
-    (told : Told) (grounds : Grounds) (sense : Sense)
-    → Tells w ≡ told → Live js ≡ grounds → Requests q ≡ sense → 2 ≤ length js
-    → IsFound h told grounds sense → ⊥
-shows-none h js q w told grounds sense a b c more f =
-    not-one h js q w
-    (λ n e. let one : length js ≡ 1 = ap length e in absurd (omega arith))
-    (subst (λ x. IsFound h (Tells w) (Live js) x) (sym c)
-    (subst (λ x. IsFound h (Tells w) x sense) (sym b)
-    (subst (λ x. IsFound h x grounds sense) (sym a) f)))
+pub live-so : {E : Type 0} (r : Result Bool E) (h : List Written) (js : List ℕ) (t heard : ℕ) (q : CoapRequest)
+    (w : Response) (told : Told) (grounds : Grounds) (sense : Sense)
+    → Tells w ≡ told → Live js ≡ grounds → Requests q ≡ sense
+    → IfOk r (λ is. IsTrue is ↔ RestsOnOne h js heard q.method w)
+    → IfOk r (λ is. IsTrue is ↔ (IsFound h told grounds sense × CountsFrom h grounds t heard))
+live-so r h js t heard q w told grounds sense =
+    shows-by r h js t heard q w told (Live js) grounds sense (live-shown h js t heard q w)
+
+pub kept-so : {E : Type 0} (r : Result Bool E) (h : List Written) (js : List ℕ) (t heard : ℕ) (q : CoapRequest)
+    (w : Response) (told : Told) (grounds : Grounds) (sense : Sense)
+    → Tells w ≡ told → Kept js ≡ grounds → Requests q ≡ sense
+    → IfOk r (λ is. IsTrue is ↔ RestsOnOne h js heard q.method w)
+    → IfOk r (λ is. IsTrue is ↔ (IsFound h told grounds sense × CountsFrom h grounds t heard))
+kept-so r h js t heard q w told grounds sense =
+    shows-by r h js t heard q w told (Kept js) grounds sense (kept-shown h js t heard q w)

@@ -1,5 +1,5 @@
 -- Which entries show what an ask came to.
-use Rattle.std.specs.Prelude.{◌≡◌, ℕ, List, Some, slice_get}
+use Rattle.std.specs.Prelude.{◌≡◌, ℕ, List, [], ◌∷◌, Some, slice_get}
 use Rattle.coap_codec.specs.Spelling.{Content, Spells}
 use Rattle.uri_map.specs.declared.peer.Peer.{Peer}
 use Rattle.journal_book.specs.Entries.{Hears, Written}
@@ -22,3 +22,7 @@ Says method bytes w = (m : Content) × Spells m bytes × (whole_in method m ≡ 
 -- Those do that were heard in the entry with this number, at this moment.
 abbrev pub IsSaidAt : List Written → ℕ → ℕ → ℕ → Response → Type 0
 IsSaidAt h n t method w = (m : Content) × HeardAs h n t m × (whole_in method m ≡ Some w)
+
+-- One entry alone bears the response: that one says it.
+abbrev pub RestsOnOne : List Written → List ℕ → ℕ → ℕ → Response → Type 0
+RestsOnOne h js t method w = (n : ℕ) × (js ≡ n ∷ []) × IsSaidAt h n t method w

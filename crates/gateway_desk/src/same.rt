@@ -3,7 +3,6 @@
 ghost use Rattle.std.specs.Prelude.{◌≡◌, ◌↔◌, IsTrue};
 ghost use Rattle.ask_model.specs.Views.{came_of, body_of, payload_of};
 ghost use Rattle.journal_book.specs.Views.{grounds_of};
-ghost use Rattle.reply_reading.specs.Findings.{response_of};
 
 use ask_model::{Mapped, Meaning, Payload};
 use coap_codec::Bytes;
@@ -111,13 +110,13 @@ fn is_same_age(a: Option<u32>, b: Option<u32>) -> bool
 
 /// Whether these are the same responses.
 pub fn is_same_response(a: &Response, b: &Response) -> bool
-    ensures { IsTrue result ↔ (response_of a.now ≡ response_of b.now) }
+    ensures { IsTrue result ↔ (a.now ≡ b.now) }
 {
     let format = is_same_format(a.format, b.format);
     let etag = is_same_value(&a.etag, &b.etag);
     let max_age = is_same_age(a.max_age, b.max_age);
-    let path = are_same_values(a.location_path.as_slice(), b.location_path.as_slice());
-    let query = are_same_values(a.location_query.as_slice(), b.location_query.as_slice());
+    let path = are_same_values(a.location.path.as_slice(), b.location.path.as_slice());
+    let query = are_same_values(a.location.query.as_slice(), b.location.query.as_slice());
     let body = are_same_bytes(a.body.as_slice(), b.body.as_slice());
     a.code == b.code && format && etag && max_age && path && query && body
 }

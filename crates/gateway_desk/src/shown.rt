@@ -3,10 +3,9 @@
 ghost use Rattle.std.specs.Prelude.{◌≡◌, ◌↔◌, Some, IfOk, IsTrue, MatchOption};
 ghost use Rattle.coap_codec.specs.Spelling.{content};
 ghost use Rattle.history_laws.specs.Responses.{whole_in};
-ghost use Rattle.reply_reading.specs.Findings.{response_of};
 ghost use Rattle.exchange_core.specs.Answering.{given_of};
 ghost use Rattle.gateway_desk.specs.Settled.{IsShown};
-ghost use Rattle.gateway_desk.specs.Shown.{HearsAt, HearsNone, Says, IsSaidAt};
+ghost use Rattle.gateway_desk.specs.Shown.{HearsAt, HearsNone, Says, IsSaidAt, RestsOnOne};
 
 use crate::same::is_same_response;
 use ask_model::Meaning;
@@ -25,7 +24,7 @@ fn is_response(
     response: &Response,
 ) -> Result<bool, AllocError>
     ensures { IfOk result (λ is. IsTrue is
-        ↔ (whole_in method (content message) ≡ Some (response_of response.now))) }
+        ↔ (whole_in method (content message) ≡ Some response.now)) }
 {
     let finding = finding_of(alloc, method, 0, message)?;
     match finding.outcome() {
@@ -37,7 +36,7 @@ fn is_response(
 /// Whether the bytes spell a message that is the response.
 fn says(alloc: Global, method: u8, bytes: &[u8], response: &Response) -> Result<bool, AllocError>
     ensures { IfOk result (λ is. IsTrue is
-        ↔ Says method bytes.now (response_of response.now)) }
+        ↔ Says method bytes.now response.now) }
 {
     match decode(alloc, bytes) {
         Ok(message) => is_response(alloc, method, message, response),
@@ -76,11 +75,30 @@ fn is_said_at<R: Relation>(
     response: &Response,
 ) -> Result<bool, AllocError>
     ensures { IfOk result (λ is. IsTrue is
-        ↔ IsSaidAt journal.now.entries number moment method (response_of response.now)) }
+        ↔ IsSaidAt journal.now.entries number moment method response.now) }
 {
     match heard_at(journal, number, moment) {
         Some(bytes) => says(alloc, method, bytes.as_slice(), response),
         None => Ok(false),
+    }
+}
+
+/// Whether one entry alone bears the response: it was heard at this moment, and says the response to a
+/// request with this method.
+fn rests_on_one<R: Relation>(
+    alloc: Global,
+    journal: &Journal<R>,
+    numbers: &[u32],
+    moment: u64,
+    method: u8,
+    response: &Response,
+) -> Result<bool, AllocError>
+    ensures { IfOk result (λ is. IsTrue is
+        ↔ RestsOnOne journal.now.entries numbers.now moment method response.now) }
+{
+    match numbers {
+        [number] => is_said_at(alloc, journal, *number, moment, method, response),
+        _ => Ok(false),
     }
 }
 
@@ -96,11 +114,26 @@ pub fn is_shown<R: Relation>(
     let grounds = answer.finding.grounds();
     match (outcome, grounds, answer.mapped.meaning()) {
         (Outcome::Whole(response), Grounds::Live(numbers), Meaning::Ask { method, .. }) => {
-            let method = method.code();
-            match numbers.as_slice() {
-                [number] => is_said_at(alloc, journal, *number, answer.heard, method, response),
-                _ => Ok(false),
-            }
+            let heard = answer.heard;
+            rests_on_one(
+                alloc,
+                journal,
+                numbers.as_slice(),
+                heard,
+                method.code(),
+                response,
+            )
+        }
+        (Outcome::Whole(response), Grounds::Kept(numbers), Meaning::Ask { method, .. }) => {
+            let heard = answer.heard;
+            rests_on_one(
+                alloc,
+                journal,
+                numbers.as_slice(),
+                heard,
+                method.code(),
+                response,
+            )
         }
         (Outcome::Fault(_), Grounds::Fault(_, _), _) => Ok(answer.heard == answer.moment),
         _ => Ok(false),

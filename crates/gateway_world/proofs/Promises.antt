@@ -36,7 +36,7 @@ use Rattle.gateway_world.specs.Engines.{inlet_number}
 use Rattle.gateway_world.specs.Keeping.{IsKept}
 use Rattle.gateway_world.specs.Leading.{LeadsBy, RotatesBy, StepsBy, served_of}
 use Rattle.gateway_world.proofs.Numbered.{numbers-led}
-use Rattle.gateway_world.specs.Worlds.{WorldValue, Handles, Shows, DoesDue, served_in, when_in}
+use Rattle.gateway_world.specs.Worlds.{WorldValue, Handles, Shows, DoesDue, served_in, when_in, world_of}
 
 module _ {R : Type 0} (holds : Form → Form → List ℕ → List ℕ → Type 0) (takes : Form → Form → List ℕ → Type 0) (rules : Rules) where
   pub led-tells : (w : When) (P : List Act → Type 0) (old new : Engine R) (before after : List (Output R))
@@ -88,6 +88,12 @@ pub led-closes : {R : Type 0} (M : Terms) (w : When) (x : Happening) (old new : 
 led-closes M w x old new before after l none told done =
     subst (Closes M x old.core.state new.core.state) (sym (l.added ∙ ap (λ (es : List Emission). es ++ l.given) none))
     (input-closes M w x l.acts (served_of old) l.given (served_of new) l.done l.order told done)
+
+-- A world is what it was where its core and its connections are.
+pub world-back : {R : Type 0} (e f : Engine R) (rules : Rules) (m : ℕ) → f.core ≡ e.core → f.table.current ≡ e.table.current
+    → world_of f rules m ≡ world_of e rules m
+world-back e f rules m core current =
+    λ i. record { core = core i; inlets = current i; rules = rules; moment = m }
 
 -- What the type of a world keeps of its engine.
 

@@ -1,7 +1,8 @@
 //! What one needs who drives a world for good: inputs that aren't taken back, and what there is to
 //! wait for.
 
-ghost use Rattle.std.specs.Prelude.{◌≡◌, ◌↔◌, None, IfOk, IsTrue};
+ghost use Rattle.std.specs.Prelude.{◌≡◌, ◌↔◌, None, IfOk, IsTrue, sum_by};
+ghost use Rattle.journal_book.specs.Entries.{entry_size};
 ghost use Rattle.exchange_core.specs.Due.{next_tick, IsNextTick};
 ghost use Rattle.exchange_model.specs.Resting.{HasConn};
 ghost use Rattle.gateway_model.specs.Emissions.{emissions};
@@ -33,6 +34,13 @@ impl<R: Relation> World<R> {
         ensures exact { IsNextTick result self.now.core.state }
     {
         self.engine.core.next_due()
+    }
+
+    /// How many bytes the entries of the journal count.
+    pub fn bytes(&self) -> u64
+        ensures { result ≡ sum_by entry_size self.now.core.state.entries }
+    {
+        self.engine.core.bytes()
     }
 
     /// Whether the connection is open and waits for no answer, so that what its bytes ask is asked.

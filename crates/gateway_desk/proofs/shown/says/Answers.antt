@@ -1,13 +1,12 @@
 -- The bytes spell one message at most.
 use Rattle.std.proofs.Common.{◌≡◌, true, false, sym, ◌∙◌}
 use Rattle.coap_codec.specs.Spelling.{content}
-use Rattle.reply_reading.specs.Findings.{response_of}
 use Rattle.gateway_desk.proofs.Outcomes.{says-so}
 use Rattle.gateway_desk.proofs.shown.says.Goals as goal
 
 pub returns-in-Ok : goal.returns-in-Ok
 returns-in-Ok c =
-    says-so c.is_response.result c.args.method c.args.bytes.now (response_of c.args.response.now) (content c.in-Ok.message)
+    says-so c.is_response.result c.args.method c.args.bytes.now c.args.response.now (content c.in-Ok.message)
     c.in-Ok.ensures.found c.in-Ok.ensures.only c.is_response.ensures
 
 pub returns-else-eq : goal.returns-else-eq

@@ -4,7 +4,7 @@ use Rattle.std.specs.Prelude.{⊤}
 use Rattle.gateway_model.specs.Emissions.{emissions}
 use Rattle.gateway_world.specs.Worlds.{WorldValue, IsTooMuch, served_in}
 use Rattle.gateway_world.proofs.Advancing.{taken-stepped}
-use Rattle.gateway_world.proofs.Promises.{kept-back, kept-stepped}
+use Rattle.gateway_world.proofs.Promises.{kept-back, kept-stepped, world-back}
 use Rattle.gateway_world.proofs.state.World.input.Goals as goal
 
 pub invariant_of-self : goal.invariant_of-self
@@ -38,6 +38,15 @@ returns-in-Ok-clause-takes g c =
 
 pub returns-in-Ok-clause-rests : goal.returns-in-Ok-clause-rests
 returns-in-Ok-clause-rests g c = let k = invariant_of-self g c in record { drained = k.1; rests = k.3 }
+
+pub returns-in-Err-clause-unchanged : goal.returns-in-Err-clause-unchanged
+returns-in-Err-clause-unchanged g c =
+    world-back c.self.inside.engine
+    (record { alloc = c.step.new.self.alloc; core = c.restore.new.self; table = c.back.new.self })
+    _ c.self.inside.moment
+    (c.restore.ensures c.self.inside.engine.core c.in_ok-before.ensures c.in-Err.ensures.back.grows)
+    (c.back.ensures.current ∙ (c.in-Err.ensures.back.marked ∙ c.self.invariant.0.marked))
+    ∙ c.self.view_is
 
 pub returns-in-Err-clause-rests : goal.returns-in-Err-clause-rests
 returns-in-Err-clause-rests g c = let k = invariant_of-self-in-Err-1 g c in record { drained = k.1; rests = k.3 }
