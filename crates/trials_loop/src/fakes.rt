@@ -124,7 +124,8 @@ struct Letter {
     bytes: Vec<u8>,
 }
 
-/// Devices that answer a GET with the last letter of its path, some time later and in any order.
+/// Devices that answer a GET with the last letter of its path, some time later and in any order. Their
+/// replies aren't stored, so that each says the same of its age.
 #[derive(Drop)]
 pub struct Devices<'a> {
     alloc: Global,
@@ -141,7 +142,8 @@ impl<'a> Devices<'a> {
         }
     }
 
-    /// The reply to a CON with a token of 8 bytes: an ACK with 2.05 (RFC 7252 section 5.2.1).
+    /// The reply to a CON with a token of 8 bytes: an ACK with 2.05 and Max-Age 0 (RFC 7252
+    /// section 5.2.1).
     fn reply(&self, request: &[u8]) -> Option<Vec<u8>> {
         let [0x48, 1, front @ ..] = request else {
             return None;
@@ -150,7 +152,7 @@ impl<'a> Devices<'a> {
         let mut bytes = Vec::new(self.alloc);
         bytes.extend_from_slice(&[0x68, 0x45]).ok()?;
         bytes.extend_from_slice(front.get(..10)?).ok()?;
-        bytes.extend_from_slice(&[0xc0, 0xff, last]).ok()?;
+        bytes.extend_from_slice(&[0xc0, 0x20, 0xff, last]).ok()?;
         Some(bytes)
     }
 }

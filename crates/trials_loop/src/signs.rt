@@ -22,13 +22,13 @@ const ASKS_E: &[u8] =
     b"GET /hc/coap://192.0.2.3/e HTTP/1.1\r\nHost: p\r\nConnection: close\r\n\r\nGET /hc/coap://192.0.2.3/f HTTP/1.1\r\nHost: p\r\n\r\n";
 
 const GETS_A: &[u8] =
-    b"HTTP/1.1 200 OK\r\nContent-Type: text/plain;charset=utf-8\r\nCache-Control: max-age=60\r\nContent-Length: 1\r\n\r\naHTTP/1.1 200 OK\r\nContent-Type: text/plain;charset=utf-8\r\nCache-Control: max-age=60\r\nContent-Length: 1\r\n\r\nb";
+    b"HTTP/1.1 200 OK\r\nContent-Type: text/plain;charset=utf-8\r\nCache-Control: max-age=0\r\nContent-Length: 1\r\n\r\naHTTP/1.1 200 OK\r\nContent-Type: text/plain;charset=utf-8\r\nCache-Control: max-age=0\r\nContent-Length: 1\r\n\r\nb";
 
 const GETS_C: &[u8] =
-    b"HTTP/1.1 200 OK\r\nContent-Type: text/plain;charset=utf-8\r\nCache-Control: max-age=60\r\nContent-Length: 1\r\n\r\ncHTTP/1.1 200 OK\r\nContent-Type: text/plain;charset=utf-8\r\nCache-Control: max-age=60\r\nConnection: close\r\nContent-Length: 1\r\n\r\nd";
+    b"HTTP/1.1 200 OK\r\nContent-Type: text/plain;charset=utf-8\r\nCache-Control: max-age=0\r\nContent-Length: 1\r\n\r\ncHTTP/1.1 200 OK\r\nContent-Type: text/plain;charset=utf-8\r\nCache-Control: max-age=0\r\nConnection: close\r\nContent-Length: 1\r\n\r\nd";
 
 const GETS_E: &[u8] =
-    b"HTTP/1.1 200 OK\r\nContent-Type: text/plain;charset=utf-8\r\nCache-Control: max-age=60\r\nConnection: close\r\nContent-Length: 1\r\n\r\ne";
+    b"HTTP/1.1 200 OK\r\nContent-Type: text/plain;charset=utf-8\r\nCache-Control: max-age=0\r\nConnection: close\r\nContent-Length: 1\r\n\r\ne";
 
 /// Runs the loop by chance. False where it stopped.
 fn is_run(alloc: Global, seed: u64, talks: &[Talk]) -> bool {

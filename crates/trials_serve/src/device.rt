@@ -23,6 +23,8 @@ pub enum Manner {
     FirstLast,
     /// At once, but the first datagram to them is lost.
     LosesFirst,
+    /// At once, but the first datagram alone.
+    Once,
     /// Never.
     Silent,
 }
@@ -94,6 +96,7 @@ impl Mail {
                 self.manner = Manner::Prompt;
                 return Ok(());
             }
+            Manner::Once => self.manner = Manner::Silent,
             Manner::Prompt | Manner::FirstLast => {}
         }
         let bytes = self.reply(request)?;

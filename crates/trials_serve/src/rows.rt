@@ -153,6 +153,37 @@ pub fn told() -> &'static Trial {
     &TOLD
 }
 
+/// Two sessions read the light one after the other, of a device that answers once.
+static STORED: Trial = Trial {
+    manner: Manner::Once,
+    step: 0,
+    one: &[
+        Client {
+            sends: &[GET],
+            held_at: None,
+            is_gone: false,
+            gets: IS_ON,
+            end: End::Finished,
+        },
+        Client {
+            sends: &[GET],
+            held_at: None,
+            is_gone: false,
+            gets: IS_ON,
+            end: End::Finished,
+        },
+    ],
+    two: &[],
+    settled: Report {
+        asks: 2,
+        answers: 2,
+    },
+};
+
+pub fn stored() -> &'static Trial {
+    &STORED
+}
+
 /// Gates say no after an ask and after its answer; a client goes away; others are served as ever.
 static HELD: Trial = Trial {
     manner: Manner::Prompt,

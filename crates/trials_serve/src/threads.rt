@@ -6,7 +6,7 @@ ghost use Rattle.ask_model.specs.Views.{rules_of};
 
 use crate::client::{Client, Keeper, Steps, Tape};
 use crate::device::{Device, Manner, SOUND};
-use crate::rows::{Trial, crossed, held, late, leaver, lost, shut, stranger, told};
+use crate::rows::{Trial, crossed, held, late, leaver, lost, shut, stored, stranger, told};
 use crate::sample::{Nothing, shared_settings};
 use ask_model::Settings;
 use gateway_desk::{LockedDesk, Note, Pass, Shop, settle};
@@ -241,6 +241,11 @@ fn who_is_told_of_a_write_reads_it(rt: HostRuntime) {
 #[test]
 fn gates_and_clients_end_sessions(rt: HostRuntime) {
     assert!(rt; goes(&rt, rt.alloc(), held()));
+}
+
+#[test]
+fn what_is_stored_is_served(rt: HostRuntime) {
+    assert!(rt; goes(&rt, rt.alloc(), stored()));
 }
 
 #[test]
