@@ -12,6 +12,7 @@ ghost use Rattle.gateway_desk.specs.Settled.{IsJustified, AreApart, answered};
 use crate::bells::Bells;
 use crate::clock::Clock;
 use crate::desk_state::{AllSent, ClosedPass, ClosedStub, DeskState, Heard, Ticked};
+use crate::figures::Figures;
 use crate::pass::{Pass, Stub};
 use crate::receipt::Receipt;
 use crate::report::Report;
@@ -22,6 +23,7 @@ use ask_model::Mapped;
 use exchange_core::{Answer, AskFault, OpenFault, Ticket};
 use http_edge::Memory;
 use journal_book::Journal;
+use limits::MAX_EXCHANGES;
 use std::alloc::{AllocError, Global};
 use std::sync::atomic::{AtomicBool, Ordering};
 use std::sync::ledger::Ledger;
@@ -201,6 +203,14 @@ impl<R: Relation, C: Clock, L: Ledger> LockedDesk<R, C, L> {
     pub fn copy_journal<W: Wait>(&self, rt: &W) -> Result<Journal<R>, AllocError> {
         let guard = self.state.lock(rt);
         guard.journal().copy()
+    }
+
+    /// How much there is of everything. The lock is held while that is copied, for which the memory is
+    /// taken before.
+    pub fn figures<W: Wait>(&self, rt: &W, alloc: Global) -> Result<Figures, AllocError> {
+        let exchanges = Vec::with_capacity(alloc, MAX_EXCHANGES)?;
+        let guard = self.state.lock(rt);
+        guard.figures(exchanges)
     }
 
     /// Asks on the connection of a pass, and notes the ask there.
