@@ -1,0 +1,18 @@
+//! What is shown of a gateway that runs: a page for people, figures for programs that watch it, and
+//! whether it takes requests.
+//!
+//! Three contracts: which page a request is for, all else being refused; by which status code it is
+//! answered, where a HEAD gets no body; and text that came from strangers is escaped, on the page and among
+//! the figures.
+#![tactic(auto)]
+
+mod answer;
+mod asked;
+mod metrics;
+mod people;
+mod samples;
+mod status;
+
+pub use answer::answer_of;
+pub use asked::{Refusal, View, view_of};
+pub use status::{Classes, Connections, Device, Fill, Last, Phase, Responses, Status};
