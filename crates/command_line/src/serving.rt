@@ -1,5 +1,7 @@
 //! What the words after `serve` ask for.
 
+use uri_map::{Peer, peer_at};
+
 /// How long a client may stand still at most, in seconds: a day.
 const LONGEST_IDLE: u64 = 86_400;
 
@@ -15,6 +17,8 @@ pub struct Serving<'a> {
     /// how long a client may stand still in a request, in seconds, and is idle at least before its
     /// connection may be closed for another one, where that is said
     pub idle: Option<u64>,
+    /// where it shows how it does, if it does
+    pub status: Option<Peer>,
 }
 
 /// A word that says what the next one is.
@@ -22,6 +26,7 @@ pub struct Serving<'a> {
 enum Flag {
     Journals,
     Idle,
+    Status,
 }
 
 /// The words so far.
@@ -31,6 +36,7 @@ struct Words<'a> {
     journals: Option<&'a str>,
     access: bool,
     idle: Option<u64>,
+    status: Option<Peer>,
     /// what the next word is
     flag: Option<Flag>,
 }
@@ -43,10 +49,12 @@ impl<'a> Words<'a> {
         match (self.flag, word) {
             (Some(Flag::Journals), _) => words.journals = Some(word),
             (Some(Flag::Idle), _) => words.idle = Some(seconds_of(word)?),
+            (Some(Flag::Status), _) => words.status = Some(peer_at(word.as_bytes())?),
             (None, "--journals") if self.journals.is_none() => words.flag = Some(Flag::Journals),
             (None, "--idle") if self.idle.is_none() => words.flag = Some(Flag::Idle),
+            (None, "--status") if self.status.is_none() => words.flag = Some(Flag::Status),
             (None, "--access") if !self.access => words.access = true,
-            (None, "--journals" | "--idle" | "--access") => return None,
+            (None, "--journals" | "--idle" | "--status" | "--access") => return None,
             (None, _) if self.settings.is_none() => words.settings = Some(word),
             (None, _) => return None,
         }
@@ -60,14 +68,15 @@ fn seconds_of(word: &str) -> Option<u64> {
     (1..=LONGEST_IDLE).contains(&seconds).then_some(seconds)
 }
 
-/// What the words after `serve` ask for: `[FILE] [--journals FOLDER] [--access] [--idle SECONDS]`, in any
-/// order.
+/// What the words after `serve` ask for: `[FILE] [--journals FOLDER] [--access] [--idle SECONDS] [--status
+/// ADDRESS:PORT]`, in any order.
 pub fn serving_of(words: &[String]) -> Option<Serving<'_>> {
     let mut so_far = Words {
         settings: None,
         journals: None,
         access: false,
         idle: None,
+        status: None,
         flag: None,
     };
     'each: for word in words {
@@ -81,5 +90,6 @@ pub fn serving_of(words: &[String]) -> Option<Serving<'_>> {
         journals: so_far.journals,
         access: so_far.access,
         idle: so_far.idle,
+        status: so_far.status,
     })
 }

@@ -2,6 +2,7 @@
 
 ghost use Rattle.std.specs.Prelude.{◌≤◌, ◌≢◌, ◌↔◌, IsTrue};
 
+use crate::watch::Watch;
 use http_edge::{HttpAnswer, Incoming};
 use journal_book::Grounds;
 use log::{Log, info};
@@ -9,6 +10,7 @@ use sessions::{Gate, Point, Told};
 use std::fmt;
 use std::net::SocketAddr;
 use std::rt::Clock;
+use std::sync::Wait;
 use std::time::Instant;
 
 /// The field of an answer of the gateway's own.
@@ -21,10 +23,12 @@ const LONGEST_METHOD: u64 = 32;
 /// so that those of several threads stay apart.
 const LONGEST_TARGET: u64 = 750;
 
-/// Lets a session go on at each point, and notes each of its answers, where that is wanted.
+/// Lets a session go on at each point, and notes and counts each of its answers, where that is wanted.
 #[derive(Drop)]
-pub struct Access<'a, W: Log + Clock> {
+pub struct Access<'a, W: Wait + Log + Clock> {
     rt: &'a W,
+    /// where answers are counted, if they are
+    watch: Option<&'a Watch>,
     /// whose answers are noted, where they are
     client: Option<SocketAddr>,
     conn: u32,
@@ -32,11 +36,18 @@ pub struct Access<'a, W: Log + Clock> {
     asked: Option<Instant>,
 }
 
-impl<'a, W: Log + Clock> Access<'a, W> {
-    /// Notes the answers on this connection, where a client is named.
-    pub fn new(rt: &'a W, client: Option<SocketAddr>, conn: u32) -> Access<'a, W> {
+impl<'a, W: Wait + Log + Clock> Access<'a, W> {
+    /// Notes the answers on this connection, where a client is named, and counts them, where there is a
+    /// watch.
+    pub fn new(
+        rt: &'a W,
+        watch: Option<&'a Watch>,
+        client: Option<SocketAddr>,
+        conn: u32,
+    ) -> Access<'a, W> {
         Access {
             rt,
+            watch,
             client,
             conn,
             asked: None,
@@ -53,7 +64,7 @@ impl<'a, W: Log + Clock> Access<'a, W> {
     }
 }
 
-impl<W: Log + Clock> Gate for Access<'_, W> {
+impl<W: Wait + Log + Clock> Gate for Access<'_, W> {
     ghost nays = { λ g. 0 };
 
     fn noes(&self) -> u64 {
@@ -68,6 +79,9 @@ impl<W: Log + Clock> Gate for Access<'_, W> {
     }
 
     fn told(&mut self, told: &Told<'_>) {
+        if let Some(watch) = self.watch {
+            watch.count_answer(self.rt, told);
+        }
         if let Some(client) = self.client {
             let line = AccessLine {
                 client,
@@ -94,6 +108,7 @@ impl fmt::Display for AccessLine<'_> {
     fn fmt<W: fmt::Write>(&self, f: &mut fmt::Formatter<W>) -> fmt::Result {
         let Told {
             came,
+            peer: _,
             grounds,
             answer,
             count,
@@ -151,7 +166,7 @@ fn is_plain(byte: u8) -> bool
 }
 
 /// What the answer has of a cause of the gateway's own.
-fn cause_of(answer: &HttpAnswer) -> Option<&[u8]> {
+pub(crate) fn cause_of(answer: &HttpAnswer) -> Option<&[u8]> {
     let field = answer.fields.iter().find(|field| field.name == CAUSE)?;
     Some(field.value.as_slice())
 }

@@ -7,6 +7,8 @@ use crate::options::Options;
 use crate::ports::Ports;
 use crate::shared::Shared;
 use crate::turning::turn_journals;
+use crate::watch::Watch;
+use crate::window::show_all;
 use ask_model::Settings;
 use exchange_core::OpenFault;
 use gateway_desk::{LockedDesk, Pass, Shop};
@@ -73,14 +75,20 @@ fn run_with<
 {
     let settings = Arc::new(alloc, settings)?;
     let desk: LockedDesk<Profile, SystemClock<W>, L> = desk_of(rt, alloc, blank)?;
-    let (listen, udp) = (ports.listens_at(), ports.sends_from());
-    let Ports { listener, devices } = ports;
-    let shared = Shared::new(alloc, desk, devices, settings, options);
+    let (listen, udp, shown) = (ports.listens_at(), ports.sends_from(), ports.shows_at());
+    let Ports {
+        listener,
+        devices,
+        window,
+    } = ports;
+    let watch = watch_for(&rt, alloc, &window)?;
+    let shared = Shared::new(alloc, desk, devices, settings, options, watch);
     let shared = Arc::new(alloc, shared)?;
     start_loops(rt, alloc, listener, &shared)?;
+    start_window(rt, alloc, window, &shared)?;
     let turns = start_turning(rt, &shared, archive)?;
     if let (Ok(listen), Ok(udp)) = (listen, udp) {
-        note_ports(&rt, listen, udp);
+        note_ports(&rt, listen, udp, shown);
     }
     tick_loop(&rt, &shared.devices, &shared.desk, u64::MAX);
     turns.join(&rt);
@@ -105,8 +113,41 @@ fn desk_of<W: Clock + RandomSource + Drop, L: Ledger>(
 }
 
 /// Notes where the gateway is found.
-fn note_ports<W: Log>(rt: &W, listen: SocketAddr, udp: SocketAddr) {
+fn note_ports<W: Log>(rt: &W, listen: SocketAddr, udp: SocketAddr, shown: Option<SocketAddr>) {
     info!(rt; target: "hcproxy", "takes connections at {listen}, sends from {udp}");
+    if let Some(shown) = shown {
+        info!(rt; target: "hcproxy", "shows how it does at http://{shown}/");
+    }
+}
+
+/// What is counted for those who look at the gateway, where there is a window.
+fn watch_for<W: Clock>(
+    rt: &W,
+    alloc: Global,
+    window: &Option<TcpListener>,
+) -> Result<Option<Watch>, ServeFault> {
+    match window {
+        Some(_) => Ok(Some(Watch::new(rt, alloc)?)),
+        None => Ok(None),
+    }
+}
+
+/// Starts the thread that shows the gateway, where there is a window.
+fn start_window<
+    W: Threads + Wait + Log + Clock + RandomSource + Copy + Drop + Send + Sync + 'static,
+    L: Ledger + Send + Sync + 'static,
+>(
+    rt: W,
+    alloc: Global,
+    window: Option<TcpListener>,
+    shared: &Arc<Shared<W, L>>,
+) -> Result<(), ServeFault> {
+    let Some(window) = window else { return Ok(()) };
+    let mine = Arc::try_clone(shared)?;
+    match thread::spawn(&rt, move || show_all(rt, alloc, &window, &mine)) {
+        Ok(_) => Ok(()),
+        Err(_) => Err(ServeFault::Thread),
+    }
 }
 
 /// Starts the thread that takes connections, and that of the UDP socket.
@@ -170,13 +211,22 @@ fn take<
     L: Ledger + Send + Sync + 'static,
 >(rt: W, alloc: Global, stream: TcpStream, shared: &Arc<Shared<W, L>>, turning_away: bool) -> bool {
     let Some(pass) = pass_for(&rt, shared, turning_away) else {
+        count_taken(shared, false);
         return true;
     };
     let started = start_session(rt, alloc, stream, shared, pass);
     if !started && !turning_away {
         note_turned(&rt, "no thread or no memory for it");
     }
+    count_taken(shared, started);
     !started
+}
+
+/// Counts a connection that was taken or turned away, for those who look at the gateway.
+fn count_taken<W: Clock + RandomSource + Drop, L: Ledger>(shared: &Shared<W, L>, taken: bool) {
+    if let Some(watch) = &shared.watch {
+        watch.count_connection(taken);
+    }
 }
 
 /// The pass of one more connection, where it may be opened. While the journal is turned over it waits

@@ -2,7 +2,8 @@
 //! connection.
 //!
 //! What goes out is what the sessions write. Each time that the journal is nearly full it is turned over,
-//! between two requests of each connection. The program `hcproxy` stands on it.
+//! between two requests of each connection. Where a window is wanted, a second port shows how the gateway
+//! does. The program `hcproxy` stands on it.
 #![tactic(auto)]
 
 mod access;
@@ -12,7 +13,10 @@ mod options;
 mod ports;
 mod roll;
 mod shared;
+mod tally;
 mod turning;
+mod watch;
+mod window;
 
 pub use archive::{Archive, NoArchive};
 pub use gateway::run;

@@ -10,6 +10,8 @@ use std::net::{Net, SocketAddr, TcpListener, TcpStream};
 pub struct Ports {
     pub(crate) listener: TcpListener,
     pub(crate) devices: DeviceSocket,
+    /// where the gateway is looked at, if it is
+    pub(crate) window: Option<TcpListener>,
 }
 
 impl Ports {
@@ -24,8 +26,34 @@ impl Ports {
             Err(error) => return Err(ServeFault::Listen(listen, error)),
         };
         match DeviceSocket::bind(rt, udp) {
-            Ok(devices) => Ok(Ports { listener, devices }),
+            Ok(devices) => Ok(Ports {
+                listener,
+                devices,
+                window: None,
+            }),
             Err(error) => Err(ServeFault::Udp(udp, error)),
+        }
+    }
+
+    /// These ports, and an address where the gateway is looked at.
+    pub fn with_window<W: Net<Listener = TcpListener, Stream = TcpStream>>(
+        self,
+        rt: &W,
+        at: SocketAddr,
+    ) -> Result<Ports, ServeFault> {
+        let mut ports = self;
+        match TcpListener::bind(rt, at) {
+            Ok(window) => ports.window = Some(window),
+            Err(error) => return Err(ServeFault::Listen(at, error)),
+        }
+        Ok(ports)
+    }
+
+    /// Where the gateway is looked at, if it is.
+    pub fn shows_at(&self) -> Option<SocketAddr> {
+        match &self.window {
+            Some(window) => window.local_addr().ok(),
+            None => None,
         }
     }
 

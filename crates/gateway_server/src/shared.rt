@@ -3,6 +3,7 @@
 use crate::access::Access;
 use crate::options::Options;
 use crate::roll::Roll;
+use crate::watch::Watch;
 use ask_model::Settings;
 use gateway_desk::{LockedDesk, Pass};
 use gateway_system::{Client, DeviceSocket, Line, SystemClock, moment};
@@ -32,6 +33,8 @@ pub struct Shared<W: Clock + RandomSource + Drop, L: Ledger> {
     pub desk: LockedDesk<Profile, SystemClock<W>, L>,
     pub devices: DeviceSocket,
     pub settings: Arc<Settings>,
+    /// what is counted for those who look at the gateway, where somebody may
+    pub watch: Option<Watch>,
     options: Options,
     roll: Mutex<Roll<L>>,
     /// it was noted that the journal is sealed
@@ -46,11 +49,13 @@ impl<W: Clock + RandomSource + Drop, L: Ledger> Shared<W, L> {
         devices: DeviceSocket,
         settings: Arc<Settings>,
         options: Options,
+        watch: Option<Watch>,
     ) -> Shared<W, L> {
         Shared {
             desk,
             devices,
             settings,
+            watch,
             options,
             roll: Mutex::new(Roll::new(alloc)),
             noted: AtomicBool::new(false),
@@ -132,6 +137,9 @@ impl<W: Clock + RandomSource + Drop, L: Ledger> Shared<W, L> {
 
     /// Another journal begins.
     pub fn begin_anew(&self) {
+        if let Some(watch) = &self.watch {
+            watch.count_turned();
+        }
         self.noted.store(false, Ordering::SeqCst);
     }
 
@@ -161,10 +169,11 @@ impl<W: Clock + RandomSource + Drop, L: Ledger> Shared<W, L> {
         pass: Pass<Profile, L>,
     ) -> End {
         let (number, stub) = (pass.conn(), pass.stub());
-        let mut access = Access::new(rt, None, number);
+        let watch = self.watch.as_ref();
+        let mut access = Access::new(rt, watch, None, number);
         if let Ok(line) = client.line() {
             if self.options.access {
-                access = Access::new(rt, line.address().ok(), number);
+                access = Access::new(rt, watch, line.address().ok(), number);
             }
             self.roll.lock(rt).sit(number, line);
         }

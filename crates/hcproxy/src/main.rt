@@ -45,6 +45,9 @@ A gateway from HTTP/1.1 to CoAP.
                           .. and waits so long for a client that stands still in a request; where 256
                           connections are open, one that is idle for so long is closed for another one.
                           60 without it
+  serve FILE --status ADDRESS:PORT
+                          .. and shows how it does there, by HTTP: a page for people, /metrics for
+                          Prometheus, /health. Whoever reaches the address may look
   replay                  runs the script on standard input through the gateway, and prints what goes out
   replay --journal        .. and then the entries of the journal
   replay --settings FILE  .. under the settings of FILE in place of those of a demonstration

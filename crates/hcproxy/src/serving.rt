@@ -40,7 +40,7 @@ pub fn serve<
         access: serving.access,
         idle: serving.idle.unwrap_or(Options::default().idle),
     };
-    match opened(&rt, host, serving.settings, serving.journals) {
+    match opened(&rt, host, serving) {
         Ok((ports, settings, folder)) => {
             let fault = run(noted(rt), rt.alloc(), ports, settings, options, folder);
             Report::serve(fault)
@@ -56,13 +56,12 @@ fn opened<
 >(
     rt: &R,
     host: HostRuntime,
-    path: Option<&'a str>,
-    journals: Option<&str>,
+    serving: Serving<'a>,
 ) -> Result<(Ports, Settings, Folder), Report<'a>> {
-    let serve = serve_at(rt, path)?;
+    let serve = serve_at(rt, serving.settings)?;
     let settings = settings_of(rt.alloc(), &serve)?;
-    let folder = folder_of(host, journals)?;
-    let ports = ports_of(rt, &serve)?;
+    let folder = folder_of(host, serving.journals)?;
+    let ports = with_window(rt, ports_of(rt, &serve)?, serving.status)?;
     Ok((ports, settings, folder))
 }
 
@@ -89,6 +88,19 @@ fn ports_of<R: Net<Listener = TcpListener, Stream = TcpStream>>(
 ) -> Result<Ports, Report<'static>> {
     let (listen, udp) = (socket_of(serve.listen), socket_of(serve.udp));
     match Ports::bind(rt, listen, udp) {
+        Ok(ports) => Ok(ports),
+        Err(fault) => Err(Report::serve(fault)),
+    }
+}
+
+/// The ports, and the one where the gateway shows how it does, where it does.
+fn with_window<R: Net<Listener = TcpListener, Stream = TcpStream>>(
+    rt: &R,
+    ports: Ports,
+    at: Option<Peer>,
+) -> Result<Ports, Report<'static>> {
+    let Some(at) = at else { return Ok(ports) };
+    match ports.with_window(rt, socket_of(at)) {
         Ok(ports) => Ok(ports),
         Err(fault) => Err(Report::serve(fault)),
     }

@@ -6,6 +6,7 @@ ghost use Rattle.sessions.specs.Devices.{Rises, Grown, GrownPartly};
 use gateway_desk::Failed;
 use http_edge::{HttpAnswer, Incoming};
 use journal_book::Grounds;
+use uri_map::Peer;
 
 /// A client's connection.
 pub trait Stream {
@@ -61,6 +62,8 @@ pub enum Point {
 pub struct Told<'a> {
     /// what was asked
     pub came: &'a Incoming,
+    /// the device that was to be asked, unless the request was refused
+    pub peer: Option<Peer>,
     /// what the answer rests on
     pub grounds: &'a Grounds,
     pub answer: &'a HttpAnswer,

@@ -68,6 +68,7 @@ pub fn write_reply<R: Relation, L: Ledger, S: Stream, G: Gate>(
     if let Some(Note::Got(receipt)) = pass.notes().last() {
         gate.told(&Told {
             came: receipt.answer.mapped.came(),
+            peer: receipt.answer.mapped.peer(),
             grounds: receipt.answer.finding.grounds(),
             answer: &reply.answer,
             count: written.is_ok().then_some(reply.bytes.len()),

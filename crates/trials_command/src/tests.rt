@@ -7,6 +7,8 @@ use command_line::{Command, ReplayFault, Report, Serving, command_of, demonstrat
 use proxy_settings::Part;
 use script_runs::replay;
 use std::alloc::{AllocError, Global};
+use std::net::{IpAddr, Ipv4Addr};
+use uri_map::Peer;
 
 /// Runs a script on devices with this trouble, and keeps what it prints.
 fn run_on(
@@ -69,7 +71,7 @@ fn a_script_may_come_byte_by_byte(rt: HostRuntime) {
 }
 
 /// What a line of words asks for, or None where it is answered by the usage.
-static COMMANDS: [(&str, Option<Command<'static>>); 37] = [
+static COMMANDS: [(&str, Option<Command<'static>>); 40] = [
     ("replay", RUN),
     (
         "replay --journal",
@@ -116,6 +118,9 @@ static COMMANDS: [(&str, Option<Command<'static>>); 37] = [
     ("serve --journals past a.toml", KEPT),
     ("serve --access --idle 5 a.toml --journals past", WATCHED),
     ("serve a.toml --journals past --idle 5 --access", WATCHED),
+    ("serve --status 127.0.0.1:9090 a.toml", SHOWN),
+    ("serve a.toml --status 127.0.0.1", None),
+    ("serve a.toml --status", None),
     ("serve a.toml --access --access", None),
     ("serve a.toml --idle", None),
     ("serve a.toml --idle 0", None),
@@ -159,6 +164,7 @@ const PLAIN: Serving<'static> = Serving {
     journals: None,
     access: false,
     idle: None,
+    status: None,
 };
 
 const KEPT: Option<Command<'static>> = Some(Command::Serve(Serving {
@@ -170,6 +176,14 @@ const WATCHED: Option<Command<'static>> = Some(Command::Serve(Serving {
     journals: Some("past"),
     access: true,
     idle: Some(5),
+    ..PLAIN
+}));
+
+const SHOWN: Option<Command<'static>> = Some(Command::Serve(Serving {
+    status: Some(Peer {
+        address: IpAddr::V4(Ipv4Addr::LOCALHOST),
+        port: 9090,
+    }),
     ..PLAIN
 }));
 

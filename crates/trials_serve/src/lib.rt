@@ -26,3 +26,5 @@ mod threads;
 mod together;
 #[cfg(test)]
 mod turning;
+#[cfg(test)]
+mod window;

@@ -1,0 +1,219 @@
+//! What was answered since the gateway started.
+
+ghost use Rattle.std.specs.Prelude.{◌≤◌, ◌<◌, length};
+
+use crate::access::cause_of;
+use ask_model::Cause;
+use http_edge::Incoming;
+use journal_book::Grounds;
+use sessions::Told;
+use status_page::Classes;
+use std::alloc::{AllocError, Global};
+use uri_map::{Peer, is_same_peer};
+
+/// Of how many devices answers are counted. Where there are more, the one is left out that was answered
+/// for longest ago.
+pub const MOST_DEVICES: usize = 256;
+
+/// How many bytes of a request are kept.
+const LONGEST_REQUEST: usize = 160;
+
+/// The causes of answers of the gateway's own.
+pub const CAUSES: [Cause; 8] = [
+    Cause::BadHttp,
+    Cause::NoMap,
+    Cause::Method,
+    Cause::Media,
+    Cause::Busy,
+    Cause::Timeout,
+    Cause::Reset,
+    Cause::NotUnderstood,
+];
+
+/// The beginning of a request.
+#[derive(Clone, Copy)]
+pub struct Excerpt {
+    bytes: [u8; LONGEST_REQUEST],
+    count: usize,
+    ghost within: { count ≤ 160 },
+}
+
+/// Writes as much of the text as there is room for, from that place on, and answers where it ends.
+fn put(bytes: &mut [u8], at: usize, text: &[u8]) -> usize
+    requires { at ≤ length bytes.old }
+    ensures { result ≤ length bytes.new }
+{
+    let count = text.len().min(bytes.len() - at);
+    bytes[at..at + count].copy_from_slice(&text[..count]);
+    at + count
+}
+
+impl Excerpt {
+    /// The beginning of what is asked so.
+    fn of(method: &[u8], target: &[u8]) -> Excerpt {
+        let mut bytes = [0u8; LONGEST_REQUEST];
+        let count = put(&mut bytes, 0, method);
+        let count = put(&mut bytes, count, b" ");
+        let count = put(&mut bytes, count, target);
+        Excerpt { bytes, count }
+    }
+
+    /// Its bytes.
+    pub fn as_slice(&self) -> &[u8] {
+        &self.bytes[..self.count]
+    }
+}
+
+/// The answers to requests for a device.
+#[derive(Clone, Copy)]
+pub struct Row {
+    pub peer: Peer,
+    pub answers: u64,
+    /// those of them that tell that it didn't reply in time
+    pub timeouts: u64,
+    /// the status of the last one
+    pub status: u16,
+    /// when that was given, in milliseconds of the clock that never goes back
+    pub at: u64,
+    /// the request that it answers
+    pub request: Excerpt,
+}
+
+/// The answers so far.
+#[derive(Drop)]
+pub struct Tally {
+    pub classes: Classes,
+    /// those that give a response that was stored
+    pub kept: u64,
+    /// those of the gateway's own, in the order of `CAUSES`
+    pub causes: [u64; 8],
+    pub rows: Vec<Row>,
+}
+
+/// Counts a status in its class.
+fn count_class(classes: &mut Classes, status: u16) {
+    let class = match status {
+        0..=199 => &mut classes.informational,
+        200..=299 => &mut classes.success,
+        300..=399 => &mut classes.redirection,
+        400..=499 => &mut classes.client_error,
+        _ => &mut classes.server_error,
+    };
+    *class = class.saturating_add(1);
+}
+
+/// The place of a cause among them.
+fn place_of(cause: Cause) -> usize
+    ensures { result < 8 }
+{
+    match cause {
+        Cause::BadHttp => 0,
+        Cause::NoMap => 1,
+        Cause::Method => 2,
+        Cause::Media => 3,
+        Cause::Busy => 4,
+        Cause::Timeout => 5,
+        Cause::Reset => 6,
+        Cause::NotUnderstood => 7,
+    }
+}
+
+/// The cause of an answer of the gateway's own. Where a device replied, that is that its response can't be
+/// passed on.
+fn cause_told(told: &Told<'_>) -> Option<Cause> {
+    match told.grounds {
+        Grounds::Fault(cause, _) => Some(*cause),
+        Grounds::Live(_) | Grounds::Kept(_) => {
+            cause_of(told.answer).map(|_| Cause::NotUnderstood)
+        }
+    }
+}
+
+/// Puts a row in the place of the one that was answered for longest ago.
+fn put_for_oldest(rows: &mut [Row], new: Row) {
+    let mut least = u64::MAX;
+    'each: for row in rows.iter() {
+        least = least.min(row.at);
+    }
+    'replace: for row in rows.iter_mut() {
+        if row.at == least {
+            *row = new;
+            return;
+        }
+    }
+}
+
+impl Row {
+    /// One more answer is given.
+    fn add(&mut self, new: Row) {
+        let (answers, timeouts) = (self.answers, self.timeouts);
+        *self = new;
+        self.answers = answers.saturating_add(new.answers);
+        self.timeouts = timeouts.saturating_add(new.timeouts);
+    }
+}
+
+impl Tally {
+    /// Nothing was answered yet.
+    pub fn new(alloc: Global) -> Result<Tally, AllocError> {
+        Ok(Tally {
+            classes: Classes::default(),
+            kept: 0,
+            causes: [0; 8],
+            rows: Vec::with_capacity(alloc, MOST_DEVICES)?,
+        })
+    }
+
+    /// Counts an answer that is given at this moment.
+    pub fn count(&mut self, told: &Told<'_>, now: u64) {
+        count_class(&mut self.classes, told.answer.status);
+        let cause = cause_told(told);
+        match (cause, told.grounds) {
+            (Some(cause), _) => {
+                let place = place_of(cause);
+                self.causes[place] = self.causes[place].saturating_add(1);
+            }
+            (None, Grounds::Kept(_)) => self.kept = self.kept.saturating_add(1),
+            (None, _) => {}
+        }
+        let (Some(peer), Incoming::Request(request)) = (told.peer, told.came) else {
+            return;
+        };
+        self.add(Row {
+            peer,
+            answers: 1,
+            timeouts: u64::from(cause == Some(Cause::Timeout)),
+            status: told.answer.status,
+            at: now,
+            request: Excerpt::of(&request.method, &request.target),
+        });
+    }
+
+    /// Counts an answer to a request for a device.
+    fn add(&mut self, new: Row) {
+        'each: for row in self.rows.iter_mut() {
+            if is_same_peer(&row.peer, &new.peer) {
+                row.add(new);
+                return;
+            }
+        }
+        if self.rows.len() < MOST_DEVICES {
+            let _ = self.rows.push(new);
+        } else {
+            put_for_oldest(&mut self.rows, new);
+        }
+    }
+
+    /// What was answered so far. The rows come into this list, in place of what is there.
+    pub fn copy(&self, rows: Vec<Row>) -> Result<Tally, AllocError> {
+        let mut rows = rows;
+        rows.clear();
+        rows.extend_from_slice(&self.rows)?;
+        Ok(Tally {
+            classes: self.classes,
+            kept: self.kept,
+            causes: self.causes,
+            rows,
+        })
+    }
+}

@@ -1,0 +1,199 @@
+//! The window: a second port, where people and programs see how the gateway does. It changes nothing, and who
+//! looks slowly holds nobody up.
+
+ghost use Rattle.std.specs.Prelude.{◌≤◌, length, IfSome};
+
+use crate::shared::Shared;
+use crate::watch::{Watch, brief_status_of, phase_of, status_of};
+use http_edge::{Edge, Incoming, Memory, answer_bytes};
+use log::Log;
+use status_page::{Phase, View, answer_of, view_of};
+use std::alloc::Global;
+use std::io::{Read, Write};
+use std::net::{Shutdown, TcpListener, TcpStream};
+use std::random::RandomSource;
+use std::rt::Clock;
+use std::sync::ledger::Ledger;
+use std::sync::{Arc, Wait};
+use std::thread::{self, Threads};
+use std::time::{Duration, Instant};
+
+/// How many look at a time. Others wait in the socket.
+const MOST_VIEWERS: u64 = 4;
+
+/// How long one looks at most, from when it was taken until it has read its answer, in milliseconds.
+const LONGEST_VIEW: u64 = 5_000;
+
+/// How long it is waited until it is seen whether one looks no more, and after a connection couldn't be
+/// taken, in milliseconds.
+const PAUSE: u64 = 10;
+
+/// As many bytes as an edge has room for.
+const ROOM: usize = 8192;
+
+/// Takes those who look, each in a thread of its own, until the desk is shut.
+pub fn show_all<
+    W: Threads + Wait + Log + Clock + RandomSource + Copy + Drop + Send + Sync + 'static,
+    L: Ledger + Send + Sync + 'static,
+>(rt: W, alloc: Global, listener: &TcpListener, shared: &Arc<Shared<W, L>>) {
+    let Some(watch) = &shared.watch else { return };
+    for stream in listener.incoming() {
+        if phase_of(&rt, shared) == Phase::Stopping {
+            return;
+        }
+        match stream {
+            Ok(stream) => {
+                await_place(&rt, watch);
+                show(rt, alloc, stream, shared, watch);
+            }
+            Err(_) => thread::sleep(&rt, Duration::from_millis(PAUSE)),
+        }
+    }
+}
+
+/// Waits until one more may look.
+fn await_place<W: Wait + Clock>(rt: &W, watch: &Watch) {
+    for _ in rt.forever() {
+        if watch.viewers() < MOST_VIEWERS {
+            return;
+        }
+        thread::sleep(rt, Duration::from_millis(PAUSE));
+    }
+}
+
+/// Starts a thread for one who looks. Where it can't be started, the connection is closed.
+fn show<
+    W: Threads + Wait + Log + Clock + RandomSource + Copy + Drop + Send + Sync + 'static,
+    L: Ledger + Send + Sync + 'static,
+>(rt: W, alloc: Global, stream: TcpStream, shared: &Arc<Shared<W, L>>, watch: &Watch) {
+    watch.add_viewer();
+    let started = match Arc::try_clone(shared) {
+        Ok(mine) => thread::spawn(&rt, move || serve_view(&rt, alloc, &stream, &mine)).is_ok(),
+        Err(_) => false,
+    };
+    if !started {
+        watch.remove_viewer();
+    }
+}
+
+/// Answers one request, and closes the connection.
+fn serve_view<W: Wait + Clock + RandomSource + Drop, L: Ledger>(
+    rt: &W,
+    alloc: Global,
+    stream: &TcpStream,
+    shared: &Shared<W, L>,
+) {
+    let Some(watch) = &shared.watch else { return };
+    if let Ok(begin) = Instant::now(rt) {
+        let view = Viewer { rt, stream, begin };
+        if let Some(came) = view.read(alloc) {
+            if let Ok(bytes) = answer(rt, alloc, shared, watch, &came) {
+                view.write(&bytes);
+                view.end();
+            }
+        }
+    }
+    watch.remove_viewer();
+}
+
+/// The bytes of the answer to what came in. Nothing is counted for one that shows no figures, so that it
+/// waits for nobody.
+fn answer<W: Wait + Clock + RandomSource + Drop, L: Ledger>(
+    rt: &W,
+    alloc: Global,
+    shared: &Shared<W, L>,
+    watch: &Watch,
+    came: &Incoming,
+) -> Result<Vec<u8>, Memory> {
+    let status = match view_of(came) {
+        Ok(View::People | View::Metrics) => status_of(rt, alloc, shared, watch)?,
+        Ok(View::Health) | Err(_) => brief_status_of(rt, alloc, shared, watch),
+    };
+    let answer = answer_of(alloc, came, &status)?;
+    answer_bytes(alloc, &answer)
+}
+
+/// One who looks, since that moment.
+#[derive(Drop)]
+struct Viewer<'a, W: Clock> {
+    rt: &'a W,
+    stream: &'a TcpStream,
+    begin: Instant,
+}
+
+impl<W: Clock> Viewer<'_, W> {
+    /// How long it may look yet.
+    fn left(&self) -> Option<Duration> {
+        let gone = self.begin.elapsed(self.rt).ok()?;
+        let gone = u64::try_from(gone.as_millis()).ok()?;
+        if gone < LONGEST_VIEW {
+            Some(Duration::from_millis(LONGEST_VIEW - gone))
+        } else {
+            None
+        }
+    }
+
+    /// What comes next, in time: how many bytes of the buffer it fills. None at the end.
+    fn receive(&self, buffer: &mut [u8]) -> Option<usize>
+        ensures { IfSome result (λ n. n ≤ length buffer.new) }
+    {
+        self.stream.set_read_timeout(Some(self.left()?)).ok()?;
+        let mut stream = self.stream;
+        match stream.read(buffer) {
+            Ok(0) | Err(_) => None,
+            Ok(count) => Some(count),
+        }
+    }
+
+    /// Its request.
+    fn read(&self, alloc: Global) -> Option<Incoming> {
+        let mut edge = Edge::new(alloc).ok()?;
+        let mut buffer = [0u8; ROOM];
+        'each: for _ in 0..u64::MAX {
+            if let Some(came) = edge.next().ok()? {
+                return Some(came);
+            }
+            let room = ROOM - edge.unread();
+            let count = self.receive(&mut buffer[..room])?;
+            edge.feed(&buffer[..count]);
+        }
+        None
+    }
+
+    /// Writes its answer, as far as it reads that in time.
+    fn write(&self, bytes: &[u8]) {
+        let mut rest = bytes;
+        'each: for _ in 0..bytes.len() {
+            if rest.is_empty() {
+                return;
+            }
+            let Some(count) = self.send(rest) else { return };
+            rest = &rest[count..];
+        }
+    }
+
+    /// Writes some of these bytes, in time, and answers how many.
+    fn send(&self, bytes: &[u8]) -> Option<usize>
+        ensures { IfSome result (λ n. n ≤ length bytes.now) }
+    {
+        self.stream.set_write_timeout(Some(self.left()?)).ok()?;
+        let mut stream = self.stream;
+        match stream.write(bytes) {
+            Ok(0) | Err(_) => None,
+            Ok(count) => Some(count),
+        }
+    }
+
+    /// Ends the connection, once it has read what was written (RFC 9112, section 9.6).
+    fn end(&self) {
+        if self.stream.shutdown(Shutdown::Write).is_err() {
+            return;
+        }
+        let mut rest = [0u8; 1024];
+        'each: for _ in 0..u64::MAX {
+            if self.receive(&mut rest).is_none() {
+                return;
+            }
+        }
+    }
+}

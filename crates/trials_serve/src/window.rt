@@ -1,0 +1,253 @@
+//! What the window of a gateway shows.
+
+use crate::sample::settings;
+use crate::sockets::{any_port, open_client};
+use gateway_server::{NoArchive, Options, Ports, run};
+use http_edge::{Edge, Incoming, answer_bytes};
+use log::Log;
+use status_page::{Classes, Connections, Device, Fill, Last, Phase, Responses, Status, answer_of};
+use std::alloc::{AllocError, Global};
+use std::io::{Read, Write};
+use std::net::{IpAddr, Ipv4Addr, Net, SocketAddr, TcpListener, TcpStream};
+use std::random::RandomSource;
+use std::rt::Clock;
+use std::sync::Wait;
+use std::thread::Threads;
+use std::{str, thread};
+use uri_map::Peer;
+
+/// What is asked of the window over a socket, and how the answer begins.
+static ASKED: [(&str, &str); 5] = [
+    (
+        "GET /health HTTP/1.1\r\nHost: w\r\n\r\n",
+        "HTTP/1.1 200 OK\r\n",
+    ),
+    (
+        "GET http://w/metrics?x HTTP/1.1\r\nHost: w\r\n\r\n",
+        "HTTP/1.1 200 OK\r\n",
+    ),
+    ("GET /nothing HTTP/1.1\r\nHost: w\r\n\r\n", "HTTP/1.1 404 "),
+    (
+        "PUT / HTTP/1.1\r\nHost: w\r\nContent-Length: 0\r\n\r\n",
+        "HTTP/1.1 405 ",
+    ),
+    ("?\r\n\r\n", "HTTP/1.1 400 "),
+];
+
+/// They, handed out by a call that says nothing of them.
+fn asked() -> &'static [(&'static str, &'static str)] {
+    &ASKED
+}
+
+/// Where a gateway takes connections, and where it is looked at.
+#[derive(Clone, Copy)]
+struct Shown {
+    gateway: SocketAddr,
+    window: SocketAddr,
+}
+
+/// Starts a gateway that shows how it does, and answers where.
+fn start_shown<
+    W: Threads
+        + Wait
+        + Log
+        + Clock
+        + RandomSource
+        + Net<Listener = TcpListener, Stream = TcpStream>
+        + Copy
+        + Drop
+        + Send
+        + Sync
+        + 'static,
+>(rt: W, alloc: Global) -> Option<Shown> {
+    let ports = Ports::bind(&rt, any_port(), any_port()).ok()?;
+    let ports = ports.with_window(&rt, any_port()).ok()?;
+    let shown = Shown {
+        gateway: ports.listens_at().ok()?,
+        window: ports.shows_at()?,
+    };
+    let settings = settings(alloc).ok()?;
+    let started = thread::spawn(&rt, move || {
+        let _ = run(rt, alloc, ports, settings, Options::default(), NoArchive);
+    });
+    started.is_ok().then_some(shown)
+}
+
+/// Whether the window answers so.
+fn answers<W: Net<Stream = TcpStream>>(
+    rt: &W,
+    alloc: Global,
+    window: SocketAddr,
+    asked: &str,
+    told: &str,
+) -> Option<bool> {
+    let mut client = open_client(rt, window)?;
+    client.write_all(asked.as_bytes()).ok()?;
+    let mut begun = vec![in alloc; 0u8; told.len()].ok()?;
+    client.read_exact(&mut begun).ok()?;
+    Some(begun.as_slice() == told.as_bytes())
+}
+
+/// Whether the window answers all as it has to.
+fn answers_all<W: Net<Stream = TcpStream>>(
+    rt: &W,
+    alloc: Global,
+    window: SocketAddr,
+) -> Option<bool> {
+    for &(asked, told) in asked() {
+        if !answers(rt, alloc, window, asked, told)? {
+            return Some(false);
+        }
+    }
+    Some(true)
+}
+
+#[test]
+fn the_window_answers(rt: HostRuntime) {
+    let shown = start_shown(rt, rt.alloc());
+    assert!(rt; shown.is_some());
+    if let Some(shown) = shown {
+        assert!(rt; answers_all(&rt, rt.alloc(), shown.window) == Some(true));
+    }
+}
+
+/// All that is answered to these bytes until the connection ends.
+fn told_to<W: Net<Stream = TcpStream>>(
+    rt: &W,
+    alloc: Global,
+    at: SocketAddr,
+    asked: &[u8],
+) -> Option<Vec<u8>> {
+    let mut client = open_client(rt, at)?;
+    client.write_all(asked).ok()?;
+    let mut told = Vec::new(alloc);
+    client.read_to_end(&mut told).ok()?;
+    Some(told)
+}
+
+/// Whether the window counts an answer of the gateway's own, once that was given.
+fn is_counted<W: Net<Stream = TcpStream>>(rt: &W, alloc: Global, shown: Shown) -> Option<bool> {
+    told_to(rt, alloc, shown.gateway, b"?\r\n\r\n")?;
+    let asked = b"GET /metrics HTTP/1.1\r\nHost: w\r\n\r\n";
+    let figures = told_to(rt, alloc, shown.window, asked)?;
+    let figures = str::from_utf8(&figures).ok()?;
+    Some(figures.contains("\nhcproxy_own_responses_total{cause=\"bad-http\"} 1\n"))
+}
+
+#[test]
+fn the_window_counts(rt: HostRuntime) {
+    let shown = start_shown(rt, rt.alloc());
+    assert!(rt; shown.is_some());
+    if let Some(shown) = shown {
+        assert!(rt; is_counted(&rt, rt.alloc(), shown) == Some(true));
+    }
+}
+
+/// A gateway that turns its journal over, with a device that a stranger asked.
+fn turning(alloc: Global) -> Result<Status, AllocError> {
+    let mut devices = Vec::new(alloc);
+    devices.push(Device {
+        peer: Peer {
+            address: IpAddr::V4(Ipv4Addr::new(192, 0, 2, 1)),
+            port: 5683,
+        },
+        open: 2,
+        queued: 1,
+        answers: 7,
+        timeouts: 3,
+        last: Some(Last {
+            status: 504,
+            at: 1_000_000_000,
+            request: Vec::from_slice(alloc, b"GET /<b>")?,
+        }),
+    })?;
+    Ok(Status {
+        phase: Phase::Turning,
+        started: 1_000_000_000,
+        at: 1_000_000_061,
+        connections: Connections {
+            open: 2,
+            asking: 2,
+            opened: 9,
+            refused: 0,
+        },
+        exchanges: 2,
+        responses: Responses {
+            classes: Classes::default(),
+            kept: 5,
+            causes: Vec::new(alloc),
+        },
+        sent: 12,
+        heard: 4,
+        journal: Fill {
+            entries: 58_982,
+            bytes: 5_000_000,
+            turned: 1,
+        },
+        devices,
+    })
+}
+
+/// The text of the answer of that gateway to a request.
+fn text_for(alloc: Global, request: &[u8]) -> Option<String> {
+    let mut edge = Edge::new(alloc).ok()?;
+    edge.feed(request);
+    let came: Incoming = edge.next().ok()??;
+    let status = turning(alloc).ok()?;
+    let Ok(answer) = answer_of(alloc, &came, &status) else {
+        return None;
+    };
+    let bytes = answer_bytes(alloc, &answer).ok()?;
+    let text = str::from_utf8(&bytes).ok()?;
+    String::from_str(alloc, text).ok()
+}
+
+/// What is asked of that gateway, and what stands in the answer.
+static TOLD: [(&str, &str); 7] = [
+    ("GET / HTTP/1.1\r\nHost: w\r\n\r\n", "GET /&lt;b&gt;"),
+    (
+        "GET / HTTP/1.1\r\nHost: w\r\n\r\n",
+        "since Sun, 09 Sep 2001 01:46:40 GMT, for 1 min 1 s",
+    ),
+    (
+        "GET /metrics HTTP/1.1\r\nHost: w\r\n\r\n",
+        "# TYPE hcproxy_device_timeouts_total counter\n\
+         hcproxy_device_timeouts_total{device=\"192.0.2.1:5683\"} 3\n",
+    ),
+    (
+        "GET /metrics HTTP/1.1\r\nHost: w\r\n\r\n",
+        "\nhcproxy_ready 0\n",
+    ),
+    (
+        "GET /metrics HTTP/1.1\r\nHost: w\r\n\r\n",
+        "\nhcproxy_kept_responses_total 5\n",
+    ),
+    (
+        "GET /health HTTP/1.1\r\nHost: w\r\n\r\n",
+        "HTTP/1.1 503 Service Unavailable\r\n",
+    ),
+    (
+        "HEAD /health HTTP/1.1\r\nHost: w\r\n\r\n",
+        "Content-Length: 67\r\nCache-Control: no-store\r\n\
+         X-Content-Type-Options: nosniff\r\nConnection: close\r\n\r\n",
+    ),
+];
+
+fn told() -> &'static [(&'static str, &'static str)] {
+    &TOLD
+}
+
+/// Whether each answer has what it has to.
+fn tells_all(alloc: Global) -> Option<bool> {
+    for &(asked, told) in told() {
+        if !text_for(alloc, asked.as_bytes())?.as_str().contains(told) {
+            return Some(false);
+        }
+    }
+    Some(true)
+}
+
+#[test]
+fn pages_tell_how_it_does(rt: HostRuntime) {
+    assert!(rt; tells_all(rt.alloc()) == Some(true));
+}
