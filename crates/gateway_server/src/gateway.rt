@@ -2,7 +2,6 @@
 
 ghost use Rattle.std.specs.Prelude.{◌≡◌, ◌-◌, ◌^◌};
 
-use crate::archive::Archive;
 use crate::options::Options;
 use crate::ports::Ports;
 use crate::shared::Shared;
@@ -13,6 +12,7 @@ use ask_model::Settings;
 use exchange_core::OpenFault;
 use gateway_desk::{LockedDesk, Pass, Shop};
 use gateway_system::{Line, SystemClock};
+use journal_archive::Archive;
 use log::{Log, info, warn};
 use route_bank::Profile;
 use server_faults::ServeFault;
@@ -40,7 +40,7 @@ const PARTS: u64 = 4294967295;
 /// number of those before it and it; so is the last one as the gateway stops.
 pub fn run<
     W: Threads + Wait + Log + Clock + RandomSource + Copy + Drop + Send + Sync + 'static,
-    A: Archive + Drop + Send + Sync + 'static,
+    A: Archive<Profile> + Drop + Send + Sync + 'static,
 >(
     rt: W,
     alloc: Global,
@@ -60,7 +60,7 @@ pub fn run<
 fn run_with<
     W: Threads + Wait + Log + Clock + RandomSource + Copy + Drop + Send + Sync + 'static,
     L: Ledger + Send + Sync + 'static,
-    A: Archive + Drop + Send + Sync + 'static,
+    A: Archive<Profile> + Drop + Send + Sync + 'static,
 >(
     rt: W,
     alloc: Global,
@@ -178,7 +178,7 @@ fn start_loops<
 fn start_turning<
     W: Threads + Wait + Log + Clock + RandomSource + Copy + Drop + Send + Sync + 'static,
     L: Ledger + Send + Sync + 'static,
-    A: Archive + Drop + Send + Sync + 'static,
+    A: Archive<Profile> + Drop + Send + Sync + 'static,
 >(rt: W, shared: &Arc<Shared<W, L>>, archive: A) -> Result<JoinHandle<()>, ServeFault> {
     let mine = Arc::try_clone(shared)?;
     match thread::spawn(&rt, move || turn_journals(&rt, &mine, &archive)) {

@@ -7,7 +7,6 @@
 #![tactic(auto)]
 
 mod access;
-mod archive;
 mod gateway;
 mod options;
 mod ports;
@@ -18,8 +17,8 @@ mod turning;
 mod watch;
 mod window;
 
-pub use archive::{Archive, NoArchive};
 pub use gateway::run;
+pub use journal_archive::{Archive, NoArchive};
 pub use options::Options;
 pub use ports::Ports;
 pub use server_faults::ServeFault;

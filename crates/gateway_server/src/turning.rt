@@ -1,9 +1,9 @@
 //! The thread that turns the journal over.
 
-use crate::archive::Archive;
 use crate::shared::Shared;
 use exchange_core::{OpenFault, RotateFault};
 use gateway_desk::{Report, SettleFault, TurnFault, TurnReason};
+use journal_archive::Archive;
 use journal_book::Journal;
 use log::{Log, info, warn};
 use route_bank::Profile;
@@ -31,7 +31,7 @@ const PAUSE: u64 = 100;
 pub fn turn_journals<
     W: Wait + Log + Clock + RandomSource + Drop,
     L: Ledger,
-    A: Archive,
+    A: Archive<Profile>,
     V: Wait + Log + Clock,
 >(rt: &V, shared: &Shared<W, L>, archive: &A) {
     let mut number: u64 = 1;
@@ -51,7 +51,7 @@ pub fn turn_journals<
 fn turn_one<
     W: Wait + Log + Clock + RandomSource + Drop,
     L: Ledger,
-    A: Archive,
+    A: Archive<Profile>,
     V: Wait + Log + Clock,
 >(rt: &V, shared: &Shared<W, L>, archive: &A, number: u64) -> bool {
     if !shared.desk.wait_full(rt) {

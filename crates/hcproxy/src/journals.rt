@@ -68,7 +68,7 @@ impl Folder {
     }
 }
 
-impl Archive for Folder {
+impl Archive<Profile> for Folder {
     fn keep(&self, number: u64, journal: &Journal<Profile>) {
         let Some(folder) = &self.path else { return };
         let notes = Notes(self.rt);
