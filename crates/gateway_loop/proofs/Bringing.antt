@@ -106,7 +106,7 @@ module _ {S : Type 0} (i : Input) (out : List Emission) where
 
 -- what stands in a list with one more
 
-get-push : {A : Type 0} (xs : List A) (a b : A) (c : ℕ) → slice_get (xs ++ a ∷ []) c ≡ Some b
+pub get-push : {A : Type 0} (xs : List A) (a b : A) (c : ℕ) → slice_get (xs ++ a ∷ []) c ≡ Some b
     → (slice_get xs c ≡ Some b) ⊎ ((c ≡ length xs) × (b ≡ a))
 get-push {A} [] a b zero e = inr (refl, same a b e)
   where

@@ -1,8 +1,10 @@
 pub mod Bringing
 pub mod Changing
+pub mod Forgetting
 pub mod Giving
 pub mod Growing
 pub mod Moving
+pub mod Rotating
 pub mod Served
 pub mod Standing
 pub mod Taking

@@ -1,7 +1,14 @@
 -- What contracts see of a gateway.
-use Rattle.std.specs.Prelude.{ℕ, slice_get, None}
+use Rattle.std.specs.Prelude.{ℕ, slice_get, option_to_list, Option, None}
 use Rattle.exchange_model.specs.Resting.{HasConn}
-use Rattle.gateway_world.specs.Worlds.{WorldValue}
+use Rattle.gateway_model.specs.declared.input.Happening.TheVariants as H
+use Rattle.gateway_model.specs.declared.input.Input.{Input}
+use Rattle.gateway_model.specs.declared.input.Output.{Output}
+use Rattle.gateway_model.specs.declared.input.When.{When}
+use Rattle.gateway_model.specs.Acts.{at}
+use Rattle.gateway_model.specs.Emissions.{emissions}
+use Rattle.gateway_model.specs.Rotating.{Rotates}
+use Rattle.gateway_world.specs.Worlds.{WorldValue, served_in, when_in}
 use Rattle.gateway_loop.specs.Places.{ClientsValue, IsWritten}
 
 pub record GatewayValue (S W : Type 0) : Type 0 where
@@ -14,3 +21,13 @@ pub record GatewayValue (S W : Type 0) : Type 0 where
 pub record MayAsk {S W : Type 0} (n : ℕ) (g : GatewayValue S W) : Type 0 where
   pub written : IsWritten (slice_get g.clients.places n)
   pub idle : HasConn g.world.core.state.conns n None
+
+abbrev pub rotation_at : When → Input
+rotation_at when = record { moment = when.moment; word = when.word; happening = H.Rotate }
+
+-- The world gives its journal out and goes on with the next one, or it doesn't: this is all that it
+-- tells.
+abbrev pub TurnsOver : {R : Type 0} → When → WorldValue → Option (Output R) → WorldValue → Type 0
+TurnsOver when old told new =
+    Rotates (at (when_in old (rotation_at when)) (served_in old)) old.core
+    (emissions (option_to_list told)) new.core

@@ -1,5 +1,6 @@
 -- Connections by their numbers: each has the place of its number, which is empty once it ended.
-use Rattle.std.specs.Prelude.{◌≡◌, ◌≢◌, ◌≤◌, ⊤, ℕ, List, [], length, slice_get, Option, Some, None}
+use Rattle.std.specs.Prelude.{◌≡◌, ◌≢◌, ◌≤◌, ⊤, ℕ, List, [], length, replicate, slice_get}
+use Rattle.std.specs.Prelude.{Option, Some, None}
 use Rattle.gateway_loop.specs.Clients.{ClientValue, BeginsUnfed}
 
 -- the places; and the line of those that have something to do
@@ -9,6 +10,10 @@ pub record ClientsValue (S : Type 0) : Type 0 where
 
 abbrev pub no_clients : {S : Type 0} → ClientsValue S
 no_clients = record { places = []; line = [] }
+
+-- so many places that nobody has
+abbrev pub empty_places : {A : Type 0} → ℕ → List (Option A)
+empty_places n = replicate n None
 
 -- What stands at a place changes so, if anything does.
 abbrev pub IsChanged : {A : Type 0} → (A → A → Type 0) → Option (Option A) → Option (Option A)

@@ -5,6 +5,7 @@ ghost use Rattle.gateway_loop.specs.Clients.{kept, unserved, BeginsUnfed, Leaves
 
 use crate::sockets::{Moved, Stream};
 use crate::stage::Stage;
+use crate::waits::{Bearing, On, Times, Waits};
 use std::alloc::{AllocError, Global};
 use std::marker::Model;
 
@@ -24,7 +25,14 @@ pub struct Client<S> {
     readable: bool,
     /// The client sends no more, of which no further sign tells.
     ended: bool,
+    /// A request was begun that isn't answered yet.
+    begun: bool,
+    /// For how long it has been so, and for how long its client has stood still.
+    times: Times,
 }
+
+/// What a client is told that waits with its body (RFC 9110 section 10.1.1): no answer yet.
+const GO_ON: &[u8] = b"HTTP/1.1 100";
 
 /// How far a call on a connection went.
 #[derive(Clone, Copy, Debug, PartialEq, Eq)]
@@ -69,6 +77,8 @@ impl<S: Stream> Client<S> {
             stage: Stage::Open,
             readable: true,
             ended: false,
+            begun: false,
+            times: Times::new(),
         }
     }
 
@@ -83,6 +93,28 @@ impl<S: Stream> Client<S> {
     {
         self.readable = true;
         self.ended = self.ended || ended;
+    }
+
+    /// Looks at it, at this moment.
+    pub fn look(&mut self, moment: u64)
+        ensures { self.new ≡ self.old }
+    {
+        self.times.look(moment);
+    }
+
+    /// What it waits for. Whether it waits for an answer isn't known here.
+    pub fn waits(&self) -> Waits {
+        Waits {
+            on: if self.gone < self.out.len() {
+                On::Reader
+            } else if self.begun {
+                On::Rest
+            } else {
+                On::Request
+            },
+            times: self.times,
+            ended: self.ended,
+        }
     }
 
     /// The proxy closes it.
@@ -109,6 +141,8 @@ impl<S: Stream> Client<S> {
         ensures { OnOk result
             (self.new ≡ record self.old { left = self.old.left ++ bytes.items }) }
     {
+        self.begun = bytes.as_slice().starts_with(GO_ON);
+        self.times.change();
         if self.gone < self.out.len() {
             return self.out.extend_from_slice(bytes.as_slice());
         }
@@ -130,6 +164,7 @@ impl<S: Stream> Client<S> {
             Moved::Bytes(0) => Flow::End,
             Moved::Bytes(n) => {
                 self.gone += n;
+                self.times.go_on();
                 if self.gone < self.out.len() {
                     Flow::Later
                 } else {
@@ -144,6 +179,26 @@ impl<S: Stream> Client<S> {
     /// Whether something was read that isn't an input yet.
     pub fn has_unfed(&self) -> bool {
         self.fed < self.came.len()
+    }
+
+    /// Whether it is open between two requests, and may be closed there: nothing is left to be written
+    /// for it.
+    pub fn is_between(&self, bearing: Bearing) -> bool
+        ensures { result ≡ true → self.now.left ≡ [] }
+    {
+        if self.gone < self.out.len() || self.has_unfed() {
+            return false;
+        }
+        self.stage == Stage::Open && self.is_borne(bearing)
+    }
+
+    /// Whether it is as far as is waited for.
+    fn is_borne(&self, bearing: Bearing) -> bool {
+        match bearing {
+            Bearing::Answer => !self.begun && self.times.is_changed(),
+            Bearing::Rest => !self.begun,
+            Bearing::Nothing => true,
+        }
     }
 
     /// Reads once, by way of the buffer, if that may give something.
@@ -161,6 +216,7 @@ impl<S: Stream> Client<S> {
             Moved::Bytes(n) => {
                 // Fewer than fit: of the next there is a sign, but not of an end that came along.
                 self.readable = n == buffer.len() || self.ended;
+                self.times.go_on();
                 match self.keep(&buffer[..n]) {
                     Ok(()) => Flow::On,
                     Err(_) => Flow::Lost,
@@ -199,6 +255,10 @@ impl<S: Stream> Client<S> {
         requires { count ≤ length self.old.unfed }
         ensures { self.new ≡ record self.old { unfed = drop count self.old.unfed } }
     {
+        if !self.begun {
+            self.begun = true;
+            self.times.change();
+        }
         self.fed += count;
         if self.fed >= self.came.len() {
             self.came.clear();

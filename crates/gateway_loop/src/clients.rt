@@ -1,13 +1,15 @@
 //! The connections by their numbers, and the line of those that have something to do.
 
-ghost use Rattle.std.specs.Prelude.{◌≡◌, ◌≢◌, ◌<◌, ◌++◌, ◌∷◌, [], Some, length, slice_get, OnOk};
+ghost use Rattle.std.specs.Prelude.{◌≡◌, ◌≢◌, ◌⊎◌, ◌<◌, ◌≤◌, ◌+◌, ◌++◌, ◌∷◌, [], true, None, Some};
+ghost use Rattle.std.specs.Prelude.{length, take, slice_get, IfSome, OnOk};
 ghost use Rattle.gateway_loop.specs.Clients.{unserved, Feeds, Gets, Leaves, Reads, Writes};
-ghost use Rattle.gateway_loop.specs.Places.{no_clients, EachChanges, HasUnfed, IsEmptied};
-ghost use Rattle.gateway_loop.specs.Places.{IsPiece, IsWritten, OnlyAt};
+ghost use Rattle.gateway_loop.specs.Places.{empty_places, no_clients, EachChanges, HasUnfed};
+ghost use Rattle.gateway_loop.specs.Places.{IsEmptied, IsPiece, IsWritten, OnlyAt};
 
 use crate::client::{Client, Flow};
 use crate::sockets::Stream;
 use crate::stage::Stage;
+use crate::waits::{Bearing, Waits};
 use std::alloc::{AllocError, Global};
 use std::collections::VecDeque;
 use std::marker::Model;
@@ -17,17 +19,25 @@ use std::marker::Model;
 #[derive(Drop)]
 pub struct Clients<S> {
     alloc: Global,
+    /// How many places come before those below: they are empty, and nothing is kept of them.
+    past: u32,
     places: Vec<Option<Client<S>>>,
     /// Those that may have something to do. One may stand there twice.
     line: VecDeque<u32>,
+    /// How many are open.
+    open: usize,
 }
 
 impl<S> Model for Clients<S> {
-    ghost use Rattle.gateway_loop.specs.Places.{ClientsValue};
+    ghost use Rattle.std.specs.Prelude.{◌++◌};
+    ghost use Rattle.gateway_loop.specs.Places.{empty_places, ClientsValue};
 
     ghost Value = { ClientsValue S };
 
-    ghost view = { λ c. record { places = c.places.items; line = c.line.items } };
+    ghost view = { λ c. record {
+      places = empty_places c.past ++ c.places.items;
+      line = c.line.items;
+    } };
 }
 
 impl<S: Stream + Drop> Clients<S> {
@@ -37,8 +47,10 @@ impl<S: Stream + Drop> Clients<S> {
     {
         Clients {
             alloc,
+            past: 0,
             places: Vec::new(alloc),
             line: VecDeque::new(alloc),
+            open: 0,
         }
     }
 
@@ -46,7 +58,12 @@ impl<S: Stream + Drop> Clients<S> {
     pub fn count(&self) -> usize
         ensures { result ≡ length self.now.places }
     {
-        self.places.len()
+        self.past as usize + self.places.len()
+    }
+
+    /// The first number of which something is kept: all before it ended.
+    pub fn first(&self) -> u32 {
+        self.past
     }
 
     /// Takes one of which nothing was read or written, under the next number.
@@ -56,6 +73,30 @@ impl<S: Stream + Drop> Clients<S> {
     {
         let client = Client::new(self.alloc, stream);
         self.places.push(Some(client))?;
+        self.open = self.open.saturating_add(1);
+        Ok(())
+    }
+
+    /// How many are open.
+    pub fn open(&self) -> usize {
+        self.open
+    }
+
+    /// It is open no more, if it was.
+    fn count_out(&mut self, number: u32)
+        ensures { self.new ≡ self.old }
+    {
+        if self.stage(number) == Some(Stage::Open) {
+            self.open = self.open.saturating_sub(1);
+        }
+    }
+
+    /// The next number is nobody's: its place is empty.
+    pub fn push_nobody(&mut self) -> Result<(), AllocError>
+        ensures { OnOk result (self.new
+            ≡ record self.old { places = self.old.places ++ None ∷ [] }) }
+    {
+        self.places.push(None)?;
         Ok(())
     }
 
@@ -88,12 +129,13 @@ impl<S: Stream + Drop> Clients<S> {
         ensures line { OnOk result (number < length self.old.places
             → self.new.line ≡ self.old.line ++ number ∷ []) }
     {
-        let place = number as usize;
-        if place >= self.places.len() {
+        if number as usize >= self.count() {
             return Ok(());
         }
-        if let Some(client) = &mut self.places[place] {
-            client.wake(ended);
+        if let Some(place) = place_of(number, self.past, self.places.len()) {
+            if let Some(client) = &mut self.places[place] {
+                client.wake(ended);
+            }
         }
         self.line_up(number)
     }
@@ -102,10 +144,10 @@ impl<S: Stream + Drop> Clients<S> {
     pub fn close(&mut self, number: u32)
         ensures { self.new ≡ self.old }
     {
-        let place = number as usize;
-        if place >= self.places.len() {
+        self.count_out(number);
+        let Some(place) = place_of(number, self.past, self.places.len()) else {
             return;
-        }
+        };
         if let Some(client) = &mut self.places[place] {
             client.close();
         }
@@ -117,10 +159,9 @@ impl<S: Stream + Drop> Clients<S> {
             (EachChanges (OnlyAt number (Gets bytes.items)) self.old.places self.new.places) }
         ensures line { self.new.line ≡ self.old.line }
     {
-        let place = number as usize;
-        if place >= self.places.len() {
+        let Some(place) = place_of(number, self.past, self.places.len()) else {
             return Ok(());
-        }
+        };
         match &mut self.places[place] {
             Some(client) => client.give(bytes),
             None => Ok(()),
@@ -134,10 +175,9 @@ impl<S: Stream + Drop> Clients<S> {
         ensures done { result ≡ Flow.On → IsWritten (slice_get self.new.places number) }
         ensures line { self.new.line ≡ self.old.line }
     {
-        let place = number as usize;
-        if place >= self.places.len() {
+        let Some(place) = place_of(number, self.past, self.places.len()) else {
             return Flow::Later;
-        }
+        };
         match &mut self.places[place] {
             Some(client) => client.flush(),
             None => Flow::Later,
@@ -154,8 +194,10 @@ impl<S: Stream + Drop> Clients<S> {
         ensures line { self.new.line ≡ self.old.line }
         ensures length { length buffer.new ≡ length buffer.old }
     {
-        let place = number as usize;
-        if place >= self.places.len() || buffer.is_empty() {
+        let Some(place) = place_of(number, self.past, self.places.len()) else {
+            return Flow::Later;
+        };
+        if buffer.is_empty() {
             return Flow::Later;
         }
         let flow = match &mut self.places[place] {
@@ -163,7 +205,7 @@ impl<S: Stream + Drop> Clients<S> {
             None => return Flow::Later,
         };
         if let Flow::Lost = flow {
-            self.places[place] = None;
+            self.remove(number);
         }
         flow
     }
@@ -174,28 +216,63 @@ impl<S: Stream + Drop> Clients<S> {
             self.old.places self.new.places }
         ensures line { self.new.line ≡ self.old.line }
     {
-        let place = number as usize;
-        if place >= self.places.len() {
+        self.count_out(number);
+        let Some(place) = place_of(number, self.past, self.places.len()) else {
             return;
-        }
+        };
         if let Some(client) = &mut self.places[place] {
             client.leave();
         }
     }
 
+    /// The connection with this number, if it is there.
+    fn get(&self, number: u32) -> Option<&Client<S>>
+        ensures { IfSome result (λ c. slice_get self.now.places number ≡ Some (Some c.now)) }
+    {
+        let place = place_of(number, self.past, self.places.len())?;
+        self.places[place].as_ref()
+    }
+
     /// How far the connection is, if it is there.
     pub fn stage(&self, number: u32) -> Option<Stage> {
-        match self.places.get(number as usize) {
-            Some(Some(client)) => Some(client.stage()),
+        Some(self.get(number)?.stage())
+    }
+
+    /// Looks at the connection, at this moment.
+    pub fn look(&mut self, number: u32, moment: u64)
+        ensures { self.new ≡ self.old }
+    {
+        let Some(place) = place_of(number, self.past, self.places.len()) else {
+            return;
+        };
+        if let Some(client) = &mut self.places[place] {
+            client.look(moment);
+        }
+    }
+
+    /// What the connection waits for, if it is there and doesn't take leave.
+    pub fn waits(&self, number: u32) -> Option<Waits> {
+        match self.get(number) {
+            Some(client) if client.stage() != Stage::Leaving => Some(client.waits()),
             _ => None,
+        }
+    }
+
+    /// Whether the connection is open between two requests, and may be closed there.
+    pub fn is_between(&self, number: u32, bearing: Bearing) -> bool
+        ensures { result ≡ true → IsWritten (slice_get self.now.places number) }
+    {
+        match self.get(number) {
+            Some(client) => client.is_between(bearing),
+            None => false,
         }
     }
 
     /// Whether something was read of the connection that isn't an input yet.
     pub fn has_unfed(&self, number: u32) -> bool {
-        match self.places.get(number as usize) {
-            Some(Some(client)) => client.has_unfed(),
-            _ => false,
+        match self.get(number) {
+            Some(client) => client.has_unfed(),
+            None => false,
         }
     }
 
@@ -203,9 +280,9 @@ impl<S: Stream + Drop> Clients<S> {
     pub fn piece(&self, number: u32) -> &[u8]
         ensures { IsPiece (slice_get self.now.places number) result.now }
     {
-        match self.places.get(number as usize) {
-            Some(Some(client)) => client.piece(),
-            _ => &[],
+        match self.get(number) {
+            Some(client) => client.piece(),
+            None => &[],
         }
     }
 
@@ -216,10 +293,9 @@ impl<S: Stream + Drop> Clients<S> {
             self.old.places self.new.places }
         ensures line { self.new.line ≡ self.old.line }
     {
-        let place = number as usize;
-        if place >= self.places.len() {
+        let Some(place) = place_of(number, self.past, self.places.len()) else {
             return;
-        }
+        };
         if let Some(client) = &mut self.places[place] {
             client.feed(count);
         }
@@ -230,9 +306,48 @@ impl<S: Stream + Drop> Clients<S> {
         ensures ends { IsEmptied number self.old.places self.new.places }
         ensures line { self.new.line ≡ self.old.line }
     {
-        let place = number as usize;
-        if place < self.places.len() {
+        self.count_out(number);
+        if let Some(place) = place_of(number, self.past, self.places.len()) {
             self.places[place] = None;
         }
     }
+
+    /// Keeps nothing more of the places before the first that isn't empty, once they are as many as
+    /// the others.
+    pub fn forget(&mut self)
+        ensures { self.new ≡ self.old }
+    {
+        let empty = empty_before(&self.places);
+        let kept = self.places.len() - empty;
+        if empty < kept {
+            return;
+        }
+        let Ok(past) = u32::try_from(self.past as usize + empty) else {
+            return;
+        };
+        self.places.rotate_left(empty);
+        self.places.truncate(kept);
+        self.past = past;
+    }
+}
+
+/// Which of so many places is that of the number, where so many others come before them.
+fn place_of(number: u32, past: u32, count: usize) -> Option<usize>
+    ensures some { IfSome result (λ p. (past + p ≡ number) × (p < count)) }
+    ensures none { result ≡ None → (number < past) ⊎ (past + count ≤ number) }
+{
+    let place = number.checked_sub(past)? as usize;
+    if place < count { Some(place) } else { None }
+}
+
+/// How many of the places come before the first that isn't empty.
+fn empty_before<S>(places: &[Option<Client<S>>]) -> usize
+    ensures fits { result ≤ length places.now }
+    ensures empty { take result places.now ≡ empty_places result }
+{
+    let mut empty = 0;
+    while empty < places.len() && places[empty].is_none() {
+        empty += 1;
+    }
+    empty
 }

@@ -52,6 +52,11 @@ impl<R: Relation, S: Stream + Drop, W: Wire + Drop> Gateway<R, S, W> {
         self.clients.next()
     }
 
+    /// How far the connection is, if it is there.
+    pub fn stage(&self, number: u32) -> Option<Stage> {
+        self.clients.stage(number)
+    }
+
     /// The connection takes leave.
     pub fn leave(&mut self, number: u32)
         ensures { self.new.world ≡ self.old.world }

@@ -61,7 +61,7 @@ fn deliver_one<R: Relation, S: Stream + Drop, W: Wire>(
             clients.line_up(number)
         }
         Output::Turned => Ok(()),
-        // No input of the loop's wants the journal.
+        // What is told of the journal is taken before.
         Output::Rotated(_) | Output::Unrotated(_) => Ok(()),
     }
 }

@@ -62,6 +62,16 @@ impl<R: Relation, S: Stream + Drop, W: Wire + Drop> Gateway<R, S, W> {
         self.clients.count()
     }
 
+    /// The first number of which something is kept: all connections before it ended.
+    pub fn first_number(&self) -> u32 {
+        self.clients.first()
+    }
+
+    /// The number of the next connection, or the last number that there is.
+    pub fn next_number(&self) -> u32 {
+        u32::try_from(self.clients.count()).unwrap_or(u32::MAX)
+    }
+
     /// How many connections stand in the line of those that have their turns.
     pub fn in_line(&self) -> usize
         ensures { result ≡ length self.now.clients.line }

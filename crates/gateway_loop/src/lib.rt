@@ -16,10 +16,14 @@ mod gateway;
 mod hearing;
 mod host;
 mod inputs;
+mod patience;
+mod rotation;
 mod sockets;
 mod stage;
 mod steps;
+mod turning;
 mod turns;
+mod waits;
 
 pub use gateway::Gateway;
 pub use host::{Accepted, Host, Sign};

@@ -8,9 +8,12 @@ use crate::farewells::Farewells;
 use crate::gateway::Gateway;
 use crate::hearing::Listened;
 use crate::host::{Accepted, Host, Sign};
+use crate::patience::SWEEP;
 use crate::sockets::{Stream, Wire};
+use crate::turning::{LOOK, Turning};
 use gateway_world::When;
 use http_edge::Memory;
+use journal_book::Journal;
 use std::alloc::AllocError;
 use transformers::{Bank, Relation};
 
@@ -39,6 +42,8 @@ pub enum Stop {
     Clock,
     /// Signs can't be waited for.
     Wait,
+    /// No numbers are left for the next journal.
+    Spent,
 }
 
 impl From<Memory> for Stop {
@@ -75,11 +80,21 @@ pub struct Loop<R: Relation, S: Stream, W: Wire> {
     resumes: u64,
     /// Datagrams may have come in.
     wire: bool,
+    /// For how many milliseconds a client may stand still in a request, and after how many a
+    /// connection may be closed for another one.
+    pub(crate) idle: u64,
+    /// The moment at which connections are looked at again.
+    pub(crate) sweeps: u64,
+    /// The journal is nearly full, and is to be turned over.
+    pub(crate) turning: Option<Turning>,
+    /// The journal that was turned over last.
+    pub(crate) journal: Option<Journal<R>>,
 }
 
 impl<R: Relation, S: Stream + Drop, W: Wire + Drop> Loop<R, S, W> {
-    /// A loop that looks at everything first.
-    pub fn new(gateway: Gateway<R, S, W>) -> Result<Loop<R, S, W>, AllocError>
+    /// A loop that looks at everything first. A client may stand still in a request for so many
+    /// milliseconds, after which an idle connection may be closed for another one.
+    pub fn new(gateway: Gateway<R, S, W>, idle: u64) -> Result<Loop<R, S, W>, AllocError>
         ensures { IfOk result (λ l. l.gateway ≡ gateway) }
     {
         let buffer = vec![in gateway.alloc; 0u8; ROOM]?;
@@ -92,6 +107,10 @@ impl<R: Relation, S: Stream + Drop, W: Wire + Drop> Loop<R, S, W> {
             clients: true,
             resumes: 0,
             wire: true,
+            idle,
+            sweeps: 0,
+            turning: None,
+            journal: None,
         })
     }
 
@@ -113,21 +132,30 @@ impl<R: Relation, S: Stream + Drop, W: Wire + Drop> Loop<R, S, W> {
         let it = it.hear_all(bank, host)?;
         let it = it.go_on(bank, host)?;
         let it = it.end_farewells(bank, host)?;
-        it.pass(bank, host)
+        let it = it.pass(bank, host)?;
+        let it = it.sweep(bank, host)?;
+        it.see_to_journal(bank, host)
     }
 
     /// How long to wait: not at all where something is left to do, else until the next tick is due,
-    /// a farewell is over, or clients are taken again.
+    /// a farewell is over, clients are taken again, or connections are looked at whose journal is
+    /// turned over.
     fn longest_wait(&self) -> Option<u64> {
         if self.wire || self.gateway.in_line() > 0 {
             return Some(0);
         }
-        let resumes = if self.clients {
-            Some(self.resumes)
+        let resumes = match self.turning {
+            Some(turning) => Some(turning.again.max(self.moment.saturating_add(LOOK))),
+            None if self.clients => Some(self.resumes),
+            None => None,
+        };
+        let sweeps = if self.gateway.open() > 0 {
+            Some(self.sweeps)
         } else {
             None
         };
         let until = sooner(self.gateway.next_due(), self.farewells.next_due());
+        let until = sooner(until, sweeps);
         let until = sooner(until, resumes)?;
         Some(until.saturating_sub(self.moment).min(LONGEST))
     }
@@ -154,7 +182,7 @@ impl<R: Relation, S: Stream + Drop, W: Wire + Drop> Loop<R, S, W> {
         ensures rules { IfOk result (λ l. l.gateway.world.rules ≡ self.gateway.world.rules) }
     {
         let mut it = self;
-        if !it.clients || it.moment < it.resumes {
+        if !it.clients || it.moment < it.resumes || it.turning.is_some() {
             return Ok(it);
         }
         'each: for _ in 0..AT_ONCE {
@@ -185,7 +213,7 @@ impl<R: Relation, S: Stream + Drop, W: Wire + Drop> Loop<R, S, W> {
         requires gave { Are (S.gave stream) [] }
         ensures rules { IfOk result (λ l. l.gateway.world.rules ≡ self.gateway.world.rules) }
     {
-        let mut it = self;
+        let mut it = self.make_place(bank, host)?;
         let mut stream = stream;
         let Ok(number) = u32::try_from(it.gateway.count()) else {
             return Ok(it);

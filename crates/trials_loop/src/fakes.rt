@@ -22,6 +22,10 @@ pub struct Talk {
     pub finished: Cell<bool>,
     /// Its connection is gone.
     pub gone: Cell<bool>,
+    /// It was gone while the loop went on.
+    pub let_go: Cell<bool>,
+    /// The loop goes on no more.
+    over: Cell<bool>,
 }
 
 impl Talk {
@@ -34,6 +38,8 @@ impl Talk {
             wrong: Cell::new(false),
             finished: Cell::new(false),
             gone: Cell::new(false),
+            let_go: Cell::new(false),
+            over: Cell::new(false),
         }
     }
 
@@ -61,6 +67,7 @@ impl Drop for Tape<'_> {
             sent: _,
         } = self;
         talk.gone.set(true);
+        talk.let_go.set(!talk.over.get());
     }
 }
 
@@ -209,6 +216,13 @@ impl<'a> Chance<'a> {
             taken: 0,
             signs: 0,
             moment: 0,
+        }
+    }
+
+    /// The loop goes on no more.
+    pub fn stop(&self) {
+        for talk in self.talks {
+            talk.over.set(true);
         }
     }
 }

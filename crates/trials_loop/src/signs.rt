@@ -9,8 +9,14 @@ use gateway_loop::{Gateway, Loop};
 use std::alloc::Global;
 use transformers::{Bank, Relation};
 
+/// How long a client may stand still, in milliseconds: as many turns.
+const IDLE: u64 = 3000;
+
 /// How many turns a run has.
 const TURNS: u32 = 2000;
+
+/// How many it has where a client stands still.
+const LONG: u32 = 6000;
 
 const ASKS_A: &[u8] =
     b"GET /hc/coap://192.0.2.1/a HTTP/1.1\r\nHost: p\r\n\r\nGET /hc/coap://192.0.2.2/b HTTP/1.1\r\nHost: p\r\n\r\n";
@@ -30,8 +36,16 @@ const GETS_C: &[u8] =
 const GETS_E: &[u8] =
     b"HTTP/1.1 200 OK\r\nContent-Type: text/plain;charset=utf-8\r\nCache-Control: max-age=0\r\nConnection: close\r\nContent-Length: 1\r\n\r\ne";
 
+/// A request that is begun.
+const HALF: &[u8] = b"GET /hc/coap://192.0.2.1/";
+
+const ASKS_G: &[u8] = b"GET /hc/coap://192.0.2.1/g HTTP/1.1\r\nHost: p\r\n\r\n";
+
+const GETS_G: &[u8] =
+    b"HTTP/1.1 200 OK\r\nContent-Type: text/plain;charset=utf-8\r\nCache-Control: max-age=0\r\nContent-Length: 1\r\n\r\ng";
+
 /// Runs the loop by chance. False where it stopped.
-fn is_run(alloc: Global, seed: u64, talks: &[Talk]) -> bool {
+fn is_run(alloc: Global, seed: u64, talks: &[Talk], turns: u32) -> bool {
     let dice = Dice::new(seed);
     let mut host = Chance::new(&dice, talks);
     let Ok(settings) = settings(alloc) else {
@@ -41,8 +55,8 @@ fn is_run(alloc: Global, seed: u64, talks: &[Talk]) -> bool {
     let Ok(gateway) = Gateway::new(alloc, settings, Devices::new(alloc, &dice)) else {
         return false;
     };
-    match Loop::new(gateway) {
-        Ok(it) => goes(&bank, it, &mut host),
+    match Loop::new(gateway, IDLE) {
+        Ok(it) => goes(&bank, it, &mut host, turns),
         Err(_) => false,
     }
 }
@@ -52,16 +66,18 @@ fn goes<'a, R: Relation>(
     bank: &Bank<R>,
     it: Loop<R, Tape<'a>, Devices<'a>>,
     host: &mut Chance<'a>,
+    turns: u32,
 ) -> bool
     requires { Suits R.holds R.takes it.gateway.world.rules.routes bank.now }
 {
     let mut it = it;
-    'each: for _ in 0..TURNS {
+    'each: for _ in 0..turns {
         it = match it.turn(bank, host) {
             Ok(it) => it,
             Err(_) => return false,
         };
     }
+    host.stop();
     true
 }
 
@@ -73,7 +89,7 @@ fn is_each_served(alloc: Global, seed: u64) -> bool {
         Talk::new(ASKS_A, GETS_A, false),
         Talk::new(ASKS_E, GETS_E, true),
     ];
-    is_run(alloc, seed, &talks) && talks.iter().all(Talk::is_served)
+    is_run(alloc, seed, &talks, TURNS) && talks.iter().all(Talk::is_served)
 }
 
 #[test]
@@ -83,5 +99,23 @@ fn any_signs_in_any_order(rt: HostRuntime) {
             is_each_served(rt.alloc(), seed * 0x9e37_79b9),
             "run {seed}"
         );
+    }
+}
+
+/// Whether a client that stops within a request is let go, and one that was answered isn't, in a run
+/// by chance.
+fn is_let_go(alloc: Global, seed: u64) -> bool {
+    let talks = [Talk::new(HALF, b"", true), Talk::new(ASKS_G, GETS_G, true)];
+    is_run(alloc, seed, &talks, LONG)
+        && talks[0].let_go.get()
+        && !talks[1].let_go.get()
+        && !talks[1].wrong.get()
+        && talks[1].count.get() == GETS_G.len()
+}
+
+#[test]
+fn who_stands_still_is_let_go(rt: HostRuntime) {
+    'each: for seed in 1..4u64 {
+        assert!(rt; is_let_go(rt.alloc(), seed * 0x9e37_79b9), "run {seed}");
     }
 }

@@ -1,0 +1,118 @@
+-- What is done so that the journal is turned over leaves the connections served.
+use Rattle.std.proofs.Common.{◌≡◌, ◌⊎◌, inl, inr, ℕ, suc, ◌+◌, List, [], ◌∷◌, ◌++◌, length, Option, Some, None, refl, sym, ap, subst, ◌∙◌, length-append, rules}
+use Rattle.std.proofs.lemmas.List.{append-nil}
+use Rattle.std.specs.Prelude.{slice_get, map}
+use Rattle.media_map.specs.declared.form.Form.{Form}
+use Rattle.exchange_core.specs.Values.{CoreValue, Outgoing}
+use Rattle.gateway_model.specs.declared.input.Happening.{Happening}
+use Rattle.gateway_model.specs.declared.input.Happening.TheVariants as H
+use Rattle.gateway_model.specs.declared.input.Input.{Input}
+use Rattle.gateway_model.specs.declared.input.Output.{Output}
+use Rattle.gateway_model.specs.Acts.{at}
+use Rattle.gateway_model.specs.Asking.{brought_by}
+use Rattle.gateway_model.specs.Emissions.{Emission, emission_of, emissions}
+use Rattle.gateway_model.specs.Going.{goes_in}
+use Rattle.gateway_model.specs.Orders.{IsInOrder}
+use Rattle.gateway_model.specs.Rotating.{Rotates}
+use Rattle.gateway_world.specs.Inputs.{Takes}
+use Rattle.gateway_world.specs.Openings.{IsCounted}
+use Rattle.gateway_world.specs.Worlds.{WorldValue, served_in, when_in}
+use Rattle.gateway_loop.specs.Clients.{ClientValue}
+use Rattle.gateway_loop.specs.Delivery.{AreGiven, IsGiven, given_to}
+use Rattle.gateway_loop.specs.Serving.{IsAfter, IsServed, IsServing, Past, brought_in, heard_by, said, then}
+use Rattle.gateway_loop.specs.Sockets.{Grown}
+use Rattle.gateway_loop.proofs.Bringing.{Brings, brings-none, counted-some, get-push}
+use Rattle.gateway_loop.proofs.Changing.{each-from, each-same}
+use Rattle.gateway_loop.proofs.Growing.{grown-none}
+use Rattle.gateway_loop.proofs.Served.{once, served-on, serving-on}
+use Rattle.gateway_loop.proofs.Taking.{IsBare, serving-passes}
+
+-- what a rotation tells
+
+said-rotates : (t : ℕ) (a b : CoreValue) (out : List Emission) (c : ℕ) → Rotates t a out b → said c out ≡ []
+said-rotates t a b out c (inl r) = ap (said c) r.given
+said-rotates t a b out c (inr r) = ap (said c) r.given
+
+goes-rotates : (t : ℕ) (a b : CoreValue) (out : List Emission) → Rotates t a out b → goes_in out ≡ []
+goes-rotates t a b out (inl r) = ap goes_in r.given
+goes-rotates t a b out (inr r) = ap goes_in r.given
+
+one-rotates : (t : ℕ) (a b : CoreValue) (out : List Emission) → Rotates t a out b → length out ≡ 1
+one-rotates t a b out (inl r) = ap length r.given
+one-rotates t a b out (inr r) = ap length r.given
+
+pub one-told : {R : Type 0} (t : ℕ) (a b : CoreValue) (ys : List (Output R)) → Rotates t a (emissions ys) b → length ys ≡ 1
+one-told {R} t a b ys r = sym (long ys) ∙ one-rotates t a b (emissions ys) r
+  where
+    long : (ys : List (Output R)) → length (map emission_of ys) ≡ length ys
+    long [] = refl
+    long (y ∷ ys) = ap suc (long ys)
+
+-- Nothing is given out for a connection.
+given-quiet : {S : Type 0} (out : List Emission) (xs : List (Option (ClientValue S))) → ((c : ℕ) → said c out ≡ [])
+    → AreGiven out xs xs
+given-quiet {S} out xs none = each-same (IsGiven out) xs (λ c x. sym (same c x))
+  where
+    same : (c : ℕ) (x : ClientValue S) → given_to c out x ≡ x
+    same c x = λ i. record {
+      stream = x.stream;
+      left = (ap (λ (t : List ℕ). x.left ++ t) (none c) ∙ append-nil x.left) i;
+      unfed = x.unfed;
+      leaving = x.leaving;
+    }
+
+module _ (holds : Form → Form → List ℕ → List ℕ → Type 0) (takes : Form → Form → List ℕ → Type 0) where
+  -- That the journal is to be given out leads to no act.
+  pub just-rotates : (i : Input) (out : List Emission) (w v : WorldValue) → i.happening ≡ H.Rotate → Takes holds takes i w out v
+      → Rotates (at (when_in w i) (served_in w)) w.core out v.core
+  just-rotates i out w v wants (inl k) =
+      absurd (subst (λ (x : Happening). IsInOrder x k.handles.acts.acts) wants k.handles.acts.order)
+  just-rotates i out w v wants (inr k) = k.rotates
+
+  module _ {S W : Type 0} (written gave : S → Option (List ℕ)) (sent heard : W → Option (List Outgoing)) where
+    -- the journal is given out, or isn't
+    pub serving-rotates : (i : Input) (o : Option ℕ) (out : List Emission) (w v : WorldValue)
+        (xs : List (Option (ClientValue S))) (m : W)
+        → IsServing holds takes written gave sent heard w xs m → Takes holds takes i w out v
+        → IsCounted i.happening o w.core v.core → i.happening ≡ H.Rotate
+        → IsServing holds takes written gave sent heard v xs m
+    serving-rotates i o out w v xs m h t count wants =
+        let r = just-rotates i out w v wants t in
+        serving-passes holds takes written gave sent heard i o out w v xs xs m m h t count
+        (subst IsBare (sym wants) tt)
+        (given-quiet out xs (λ c. said-rotates (at (when_in w i) (served_in w)) w.core v.core out c r))
+        (subst (Grown (sent m) (sent m)) (sym (goes-rotates (at (when_in w i) (served_in w)) w.core v.core out r)) (grown-none (sent m)))
+        (grown-none (heard m))
+
+    -- a connection opens for nobody
+    pub serving-pads : (i : Input) (o : Option ℕ) (k : ℕ) (out : List Emission) (w v : WorldValue)
+        (xs zs ys : List (Option (ClientValue S))) (m n : W)
+        → IsServing holds takes written gave sent heard w xs m → Takes holds takes i w out v
+        → IsCounted i.happening o w.core v.core → i.happening ≡ H.Open → o ≡ Some k → AreGiven out xs zs
+        → ys ≡ zs ++ None ∷ [] → Grown (sent m) (sent n) (goes_in out) → Grown (heard m) (heard n) []
+        → IsServing holds takes written gave sent heard v ys n
+    serving-pads i o k out w v xs zs ys m n h t count opens some g e goes quiet =
+        serving-on holds takes written gave sent heard i out w v xs ys m n h t
+        (ap length e ∙ (length-more zs ∙ (ap (λ (j : ℕ). j + 1) (g.count ∙ h.numbers)
+        ∙ sym (counted-some i.happening o k w.core v.core some count))))
+        each goes (subst (Grown (heard m) (heard n)) (subst (λ (x : Happening). [] ≡ heard_by x) (sym opens) refl) quiet)
+      where
+        none : (c : ℕ) → brought_in c i ≡ []
+        none c = subst (λ (x : Happening). brought_by c x ≡ []) (sym opens) refl
+
+        length-more : (us : List (Option (ClientValue S))) → length (us ++ None ∷ []) ≡ length us + 1
+        length-more us = search (length-append, rules)
+
+        each : (past : Past) → IsAfter holds takes past w
+            → ((c : ℕ) (x : ClientValue S) → slice_get xs c ≡ Some (Some x) → IsServed holds takes written gave c past x)
+            → (c : ℕ) (y : ClientValue S) → slice_get ys c ≡ Some (Some y)
+            → IsServed holds takes written gave c (then past (once i out)) y
+        each past after old c y at =
+            by (get-push zs None (Some y) c (sym (ap (λ (us : List (Option (ClientValue S))). slice_get us c) e) ∙ at))
+          where
+            by : (slice_get zs c ≡ Some (Some y)) ⊎ ((c ≡ length zs) × (Some y ≡ None))
+                → IsServed holds takes written gave c (then past (once i out)) y
+            by (inl here) =
+                let b = each-from (Brings i out) xs zs c y (brings-none i out xs zs none g) here in
+                served-on holds takes written gave c past i out b.0 y (old c b.0 b.1) b.2.stream b.2.left b.2.unfed b.2.leaving
+            by (inr (last, is)) = absurd cc

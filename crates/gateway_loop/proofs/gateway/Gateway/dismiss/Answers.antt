@@ -1,0 +1,16 @@
+-- A connection takes leave, and closes.
+use Rattle.gateway_model.specs.declared.input.Happening.TheVariants as H
+use Rattle.gateway_model.specs.Emissions.{emissions}
+use Rattle.gateway_loop.proofs.Standing.{serving-leaves}
+use Rattle.gateway_loop.proofs.Taking.{serving-passes}
+use Rattle.gateway_loop.proofs.gateway.Gateway.dismiss.Goals as goal
+
+pub invariant_of-result : goal.invariant_of-result
+invariant_of-result g c =
+    serving-passes g.R.Relation.holds g.R.Relation.takes g.S.Stream.written g.S.Stream.gave g.W.Wire.sent g.W.Wire.heard
+    (record { moment = c.args.when.moment; word = c.args.when.word; happening = H.Close c.args.number }) c.in_ok-world.field-0.opened (emissions c.advance.new.outputs.items)
+    c.self.inside.world c.in_ok-world.field-0.world c.leave.new.self.places c.deliver.new.clients.places c.self.inside.wire c.deliver.new.wire
+    (serving-leaves g.R.Relation.holds g.R.Relation.takes g.S.Stream.written g.S.Stream.gave g.W.Wire.sent g.W.Wire.heard
+    c.self.inside.world c.args.number c.self.inside.clients.places c.leave.new.self.places c.self.inside.wire c.self.invariant c.leave.ensures.leaves)
+    c.in_ok-world.ensures.takes c.in_ok-world.ensures.opened tt
+    c.in_ok-deliver.ensures.given c.in_ok-deliver.ensures.wire c.in_ok-deliver.ensures.quiet

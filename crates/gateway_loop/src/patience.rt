@@ -1,0 +1,193 @@
+//! Clients that stand still: how long the loop bears with them.
+
+ghost use Rattle.std.specs.Prelude.{◌≡◌, IfOk};
+ghost use Rattle.transformers.specs.Suits.{Suits};
+
+use crate::gateway::Gateway;
+use crate::host::Host;
+use crate::sockets::{Stream, Wire};
+use crate::turns::{Loop, Stop};
+use crate::waits::{On, Waits};
+use transformers::{Bank, Relation};
+
+/// How long a client may leave its answer unread, in milliseconds.
+const LONGEST_UNREAD: u64 = 10_000;
+
+/// How often connections are looked at, in milliseconds.
+pub(crate) const SWEEP: u64 = 1000;
+
+/// How many connections a world takes.
+const MOST_OPEN: usize = 256;
+
+impl<R: Relation, S: Stream + Drop, W: Wire + Drop> Gateway<R, S, W> {
+    /// How many connections are open.
+    pub fn open(&self) -> usize {
+        self.clients.open()
+    }
+
+    /// Looks at the connection, at this moment.
+    pub fn look(&mut self, number: u32, moment: u64)
+        ensures { self.new ≡ self.old }
+    {
+        self.clients.look(number, moment);
+    }
+
+    /// Keeps nothing more of connections that ended before all others, once they are many.
+    pub fn forget(&mut self)
+        ensures { self.new ≡ self.old }
+    {
+        self.clients.forget();
+    }
+
+    /// Whether its client has stood still for too long, in a request for so many milliseconds, or
+    /// before its answer.
+    pub fn stands_still(&self, number: u32, moment: u64, most: u64) -> bool {
+        let Some(waits) = self.clients.waits(number) else {
+            return false;
+        };
+        let time = moment.saturating_sub(waits.times.moved);
+        match waits.on {
+            On::Request => false,
+            On::Rest => time >= most && self.is_idle(number),
+            On::Reader => time >= LONGEST_UNREAD,
+        }
+    }
+
+    /// How readily the connection is closed for another one: those first whose clients ended while
+    /// they wait for answers, then those that have waited longest for a request, at least so many
+    /// milliseconds, then those that have waited longest for the rest of one.
+    pub fn readiness(&self, number: u32, moment: u64, least: u64) -> Option<Readiness> {
+        let waits = self.clients.waits(number)?;
+        let kind = self.kind_of(number, waits)?;
+        let time = moment.saturating_sub(waits.times.since);
+        if kind != Kind::Gone && time < least {
+            return None;
+        }
+        Some(Readiness { kind, time })
+    }
+
+    fn kind_of(&self, number: u32, waits: Waits) -> Option<Kind> {
+        let idle = self.is_idle(number);
+        match waits.on {
+            On::Rest if !idle && waits.ended => Some(Kind::Gone),
+            On::Rest if idle => Some(Kind::Rest),
+            On::Request if idle => Some(Kind::Request),
+            _ => None,
+        }
+    }
+}
+
+/// Why a connection may be closed for another one.
+#[derive(Clone, Copy, Debug, PartialEq, Eq)]
+pub enum Kind {
+    /// Its client ended, and its answer isn't there yet.
+    Gone,
+    /// It waits for a request.
+    Request,
+    /// It waits for the rest of a request.
+    Rest,
+}
+
+/// How readily a connection is closed for another one.
+#[derive(Clone, Copy, Debug, PartialEq, Eq)]
+pub struct Readiness {
+    kind: Kind,
+    /// for how long it has waited so, in milliseconds
+    time: u64,
+}
+
+impl Readiness {
+    /// Whether a connection is closed before the other one.
+    fn is_before(self, other: Readiness) -> bool {
+        match (self.kind, other.kind) {
+            (Kind::Gone, Kind::Gone) | (Kind::Request, Kind::Request) => self.time > other.time,
+            (Kind::Rest, Kind::Rest) => self.time > other.time,
+            (Kind::Gone, _) | (Kind::Request, Kind::Rest) => true,
+            _ => false,
+        }
+    }
+}
+
+impl<R: Relation, S: Stream + Drop, W: Wire + Drop> Loop<R, S, W> {
+    /// Ends the connections whose clients stand still for too long. It looks once a second.
+    pub(crate) fn sweep<H: Host<S>>(
+        self,
+        bank: &Bank<R>,
+        host: &mut H,
+    ) -> Result<Loop<R, S, W>, Stop>
+        requires suits { Suits R.holds R.takes self.gateway.world.rules.routes bank.now }
+        ensures rules { IfOk result (λ l. l.gateway.world.rules ≡ self.gateway.world.rules) }
+    {
+        let mut it = self;
+        if it.moment < it.sweeps {
+            return Ok(it);
+        }
+        it.sweeps = it.moment.saturating_add(SWEEP);
+        'each: for number in it.gateway.first_number()..it.gateway.next_number() {
+            it = it.look_at(bank, host, number)?;
+        }
+        it.gateway.forget();
+        Ok(it)
+    }
+
+    /// Looks at the connection, and ends it where its client stands still for too long.
+    fn look_at<H: Host<S>>(
+        self,
+        bank: &Bank<R>,
+        host: &mut H,
+        number: u32,
+    ) -> Result<Loop<R, S, W>, Stop>
+        requires suits { Suits R.holds R.takes self.gateway.world.rules.routes bank.now }
+        ensures rules { IfOk result (λ l. l.gateway.world.rules ≡ self.gateway.world.rules) }
+    {
+        let mut it = self;
+        it.gateway.look(number, it.moment);
+        if !it.gateway.stands_still(number, it.moment, it.idle) {
+            return Ok(it);
+        }
+        let when = it.when(host);
+        it.gateway = it.gateway.end(bank, when, number)?;
+        Ok(it)
+    }
+
+    /// Makes place for one more connection, where as many are open as may be and one of them may be
+    /// closed for it.
+    pub(crate) fn make_place<H: Host<S>>(
+        self,
+        bank: &Bank<R>,
+        host: &mut H,
+    ) -> Result<Loop<R, S, W>, Stop>
+        requires suits { Suits R.holds R.takes self.gateway.world.rules.routes bank.now }
+        ensures rules { IfOk result (λ l. l.gateway.world.rules ≡ self.gateway.world.rules) }
+    {
+        let mut it = self;
+        if it.gateway.open() < MOST_OPEN {
+            return Ok(it);
+        }
+        let Some(number) = it.readiest() else {
+            return Ok(it);
+        };
+        let when = it.when(host);
+        it.gateway = it.gateway.end(bank, when, number)?;
+        Ok(it)
+    }
+
+    /// The connection that is closed for another one, if one may be.
+    fn readiest(&self) -> Option<u32> {
+        let mut found: Option<(u32, Readiness)> = None;
+        'each: for number in self.gateway.first_number()..self.gateway.next_number() {
+            let Some(readiness) = self.gateway.readiness(number, self.moment, self.idle) else {
+                continue 'each;
+            };
+            let is_first = match found {
+                Some((_, most)) => readiness.is_before(most),
+                None => true,
+            };
+            if is_first {
+                found = Some((number, readiness));
+            }
+        }
+        let (number, _) = found?;
+        Some(number)
+    }
+}

@@ -1,0 +1,176 @@
+//! What a gateway does so that its journal is turned over.
+
+ghost use Rattle.std.specs.Prelude.{◌≡◌, true, length, option_to_list, IfOk};
+ghost use Rattle.gateway_loop.specs.Gateways.{MayAsk, TurnsOver};
+ghost use Rattle.transformers.specs.Suits.{Suits};
+
+use crate::delivery::deliver;
+use crate::gateway::Gateway;
+use crate::sockets::{Stream, Wire};
+use crate::waits::Bearing;
+use gateway_world::{Advanced, Happening, Input, Output, When};
+use http_edge::Memory;
+use transformers::{Bank, Relation};
+
+/// From how many entries on a journal is nearly full: the last tenth is left.
+const NEARLY_ALL: u64 = 58_982;
+
+/// From how many bytes on it is: the last quarter is left.
+const NEARLY_ALL_BYTES: u64 = 201_326_592;
+
+/// A gateway at which a connection was opened for nobody, or wasn't.
+#[derive(Drop)]
+pub struct Padded<R: Relation, S: Stream, W: Wire> {
+    pub gateway: Gateway<R, S, W>,
+    /// The number of the connection. None where none may be opened.
+    pub number: Option<u32>,
+}
+
+/// A gateway that was to turn its journal over.
+#[derive(Drop)]
+pub struct Rotated<R: Relation, S: Stream, W: Wire> {
+    pub gateway: Gateway<R, S, W>,
+    /// The journal, or why it isn't given out.
+    pub told: Option<Output<R>>,
+}
+
+impl<R: Relation, S: Stream + Drop, W: Wire + Drop> Gateway<R, S, W> {
+    /// Whether the journal is nearly full. What is left then takes two more requests of each of 256
+    /// connections, with all copies of their messages.
+    pub fn is_nearly_full(&self) -> bool {
+        let entries = self.world.journal().len() as u64;
+        entries >= NEARLY_ALL || self.world.bytes() >= NEARLY_ALL_BYTES
+    }
+
+    /// Whether the connection is open between two requests, and may be closed there: it waits for no
+    /// answer, and nothing is left to be written for it.
+    pub fn is_between(&self, number: u32, bearing: Bearing) -> bool
+        ensures { result ≡ true → MayAsk number self.now }
+    {
+        self.world.is_idle(number) && self.clients.is_between(number, bearing)
+    }
+
+    /// Whether the connection waits for no answer, though it is open.
+    pub fn is_idle(&self, number: u32) -> bool {
+        self.world.is_idle(number)
+    }
+
+    /// Closes the connection between two requests: it takes leave.
+    pub fn dismiss(
+        self,
+        bank: &Bank<R>,
+        when: When,
+        number: u32,
+    ) -> Result<Gateway<R, S, W>, Memory>
+        requires suits { Suits R.holds R.takes self.world.rules.routes bank.now }
+        requires idle { MayAsk number self }
+        ensures rules { IfOk result (λ g. g.world.rules ≡ self.world.rules) }
+    {
+        let Gateway {
+            alloc,
+            world,
+            mut clients,
+            mut wire,
+        } = self;
+        clients.leave(number);
+        let mut outputs = Vec::new(alloc);
+        let input = Input {
+            moment: when.moment,
+            word: when.word,
+            happening: Happening::Close(number),
+        };
+        let Advanced { world, opened: _ } = world.advance(bank, input, &mut outputs)?;
+        deliver(outputs, &mut clients, &mut wire)?;
+        Ok(Gateway {
+            alloc,
+            world,
+            clients,
+            wire,
+        })
+    }
+
+    /// Opens a connection for nobody, which costs the journal an entry and nobody anything.
+    pub fn pad(self, bank: &Bank<R>, when: When) -> Result<Padded<R, S, W>, Memory>
+        requires suits { Suits R.holds R.takes self.world.rules.routes bank.now }
+        ensures rules { IfOk result (λ x. x.gateway.world.rules ≡ self.world.rules) }
+    {
+        let Gateway {
+            alloc,
+            world,
+            mut clients,
+            mut wire,
+        } = self;
+        let mut outputs = Vec::new(alloc);
+        let input = Input {
+            moment: when.moment,
+            word: when.word,
+            happening: Happening::Open,
+        };
+        let Advanced { world, opened } = world.advance(bank, input, &mut outputs)?;
+        deliver(outputs, &mut clients, &mut wire)?;
+        match opened {
+            None => {
+                let gateway = Gateway {
+                    alloc,
+                    world,
+                    clients,
+                    wire,
+                };
+                Ok(Padded {
+                    gateway,
+                    number: None,
+                })
+            }
+            Some(number) => {
+                clients.push_nobody()?;
+                let gateway = Gateway {
+                    alloc,
+                    world,
+                    clients,
+                    wire,
+                };
+                Ok(Padded {
+                    gateway,
+                    number: Some(number),
+                })
+            }
+        }
+    }
+
+    /// Gives the sealed journal out and goes on with a new one, or tells why not.
+    pub fn rotate(self, bank: &Bank<R>, when: When) -> Result<Rotated<R, S, W>, Memory>
+        requires suits { Suits R.holds R.takes self.world.rules.routes bank.now }
+        ensures rules { IfOk result (λ x. x.gateway.world.rules ≡ self.world.rules) }
+        ensures turns { IfOk result (λ x. TurnsOver when self.world x.told x.gateway.world) }
+    {
+        let Gateway {
+            alloc,
+            world,
+            clients,
+            wire,
+        } = self;
+        let mut outputs = Vec::new(alloc);
+        let input = Input {
+            moment: when.moment,
+            word: when.word,
+            happening: Happening::Rotate,
+        };
+        let Advanced { world, opened: _ } = world.advance(bank, input, &mut outputs)?;
+        let told = only(outputs);
+        let gateway = Gateway {
+            alloc,
+            world,
+            clients,
+            wire,
+        };
+        Ok(Rotated { gateway, told })
+    }
+}
+
+/// The only one of them.
+fn only<R: Relation>(outputs: Vec<Output<R>>) -> Option<Output<R>>
+    ensures { length outputs.items ≡ 1 → option_to_list result ≡ outputs.items }
+{
+    let mut outputs = outputs;
+    outputs.pop()
+}

@@ -1,0 +1,190 @@
+//! The loop turns its journal over each time that it is nearly full: connections are closed between
+//! two requests, and when nobody is connected and no exchange is open the journal is brought to its
+//! seal and given out.
+
+ghost use Rattle.std.specs.Prelude.{◌≡◌, IfOk};
+ghost use Rattle.transformers.specs.Suits.{Suits};
+
+use crate::host::Host;
+use crate::rotation::{Padded, Rotated};
+use crate::sockets::{Stream, Wire};
+use crate::stage::Stage;
+use crate::turns::{Loop, Stop};
+use crate::waits::Bearing;
+use gateway_world::{Output, RotateFault};
+use journal_book::Journal;
+use transformers::{Bank, Relation};
+
+/// How long it is waited until connections are looked at again, in milliseconds.
+pub(crate) const LOOK: u64 = 5;
+
+/// How long the next request of each connection is waited for, in milliseconds.
+const QUIET: u64 = 100;
+
+/// How long a request that was begun is waited for, and a client that takes no answer.
+const PATIENCE: u64 = 10_000;
+
+/// How long it is waited until a turn that was refused is tried again, in milliseconds.
+const PAUSE: u64 = 100;
+
+/// How many connections a journal has at most.
+const MOST_OPENED: u64 = 65_536;
+
+/// A turn of the journal that began.
+#[derive(Clone, Copy, Debug, PartialEq, Eq)]
+pub(crate) struct Turning {
+    /// when it began
+    pub(crate) since: u64,
+    /// before which moment it isn't tried again
+    pub(crate) again: u64,
+}
+
+impl Turning {
+    /// For what connections are still waited at this moment.
+    fn bearing(self, moment: u64) -> Bearing {
+        let time = moment.saturating_sub(self.since);
+        if time >= PATIENCE {
+            Bearing::Nothing
+        } else if time >= QUIET {
+            Bearing::Rest
+        } else {
+            Bearing::Answer
+        }
+    }
+}
+
+impl<R: Relation, S: Stream + Drop, W: Wire + Drop> Loop<R, S, W> {
+    /// Whether connections are closed, since the journal is nearly full.
+    pub fn is_turning(&self) -> bool {
+        self.turning.is_some()
+    }
+
+    /// The journal that was turned over last, once.
+    pub fn take_journal(&mut self) -> Option<Journal<R>>
+        ensures { self.new.gateway ≡ self.old.gateway }
+    {
+        self.journal.take()
+    }
+
+    /// Does what can be done now for the journal to be turned over, where it is nearly full.
+    pub(crate) fn see_to_journal<H: Host<S>>(
+        self,
+        bank: &Bank<R>,
+        host: &mut H,
+    ) -> Result<Loop<R, S, W>, Stop>
+        requires suits { Suits R.holds R.takes self.gateway.world.rules.routes bank.now }
+        ensures rules { IfOk result (λ l. l.gateway.world.rules ≡ self.gateway.world.rules) }
+    {
+        let mut it = self;
+        let Some(turning) = it.begun_turning() else {
+            return Ok(it);
+        };
+        let bearing = turning.bearing(it.moment);
+        it = it.dismiss_all(bank, host, bearing)?;
+        if it.moment < turning.again || it.gateway.next_due().is_some() || it.is_connected() {
+            return Ok(it);
+        }
+        it = it.fill_up(bank, host)?;
+        it.turn_over(bank, host)
+    }
+
+    /// The turn that began. It begins where the journal is nearly full.
+    fn begun_turning(&mut self) -> Option<Turning>
+        ensures { self.new.gateway ≡ self.old.gateway }
+    {
+        if self.turning.is_none() && self.gateway.is_nearly_full() {
+            self.turning = Some(Turning {
+                since: self.moment,
+                again: 0,
+            });
+            self.look_at_all();
+        }
+        self.turning
+    }
+
+    /// Looks at all connections: who is answered from now on is answered since.
+    fn look_at_all(&mut self)
+        ensures { self.new.gateway ≡ self.old.gateway }
+    {
+        'each: for number in self.gateway.first_number()..self.gateway.next_number() {
+            self.gateway.look(number, self.moment);
+        }
+    }
+
+    /// Whether a connection is open.
+    fn is_connected(&self) -> bool {
+        let mut connected = false;
+        'each: for number in self.gateway.first_number()..self.gateway.next_number() {
+            connected = connected || self.gateway.stage(number) == Some(Stage::Open);
+        }
+        connected
+    }
+
+    /// Closes the connections that are between two requests; and in the end those that don't go on.
+    fn dismiss_all<H: Host<S>>(
+        self,
+        bank: &Bank<R>,
+        host: &mut H,
+        bearing: Bearing,
+    ) -> Result<Loop<R, S, W>, Stop>
+        requires suits { Suits R.holds R.takes self.gateway.world.rules.routes bank.now }
+        ensures rules { IfOk result (λ l. l.gateway.world.rules ≡ self.gateway.world.rules) }
+    {
+        let mut it = self;
+        'each: for number in it.gateway.first_number()..it.gateway.next_number() {
+            if it.gateway.is_between(number, bearing) {
+                let when = it.when(host);
+                it.gateway = it.gateway.dismiss(bank, when, number)?;
+                it.farewells.push(number, it.moment)?;
+            } else if bearing == Bearing::Nothing && it.gateway.is_idle(number) {
+                let when = it.when(host);
+                it.gateway = it.gateway.end(bank, when, number)?;
+            }
+        }
+        Ok(it)
+    }
+
+    /// Brings the journal to its seal by connections that are opened and closed at once, for nobody.
+    fn fill_up<H: Host<S>>(self, bank: &Bank<R>, host: &mut H) -> Result<Loop<R, S, W>, Stop>
+        requires suits { Suits R.holds R.takes self.gateway.world.rules.routes bank.now }
+        ensures rules { IfOk result (λ l. l.gateway.world.rules ≡ self.gateway.world.rules) }
+    {
+        let mut it = self;
+        let when = it.when(host);
+        'each: for _ in 0..MOST_OPENED {
+            let Padded { gateway, number } = it.gateway.pad(bank, when)?;
+            it.gateway = gateway;
+            let Some(number) = number else {
+                return Ok(it);
+            };
+            it.gateway = it.gateway.end(bank, when, number)?;
+        }
+        Ok(it)
+    }
+
+    /// Turns the journal over, where that may be now.
+    fn turn_over<H: Host<S>>(self, bank: &Bank<R>, host: &mut H) -> Result<Loop<R, S, W>, Stop>
+        requires suits { Suits R.holds R.takes self.gateway.world.rules.routes bank.now }
+        ensures rules { IfOk result (λ l. l.gateway.world.rules ≡ self.gateway.world.rules) }
+    {
+        let mut it = self;
+        let when = it.when(host);
+        let Rotated { gateway, told } = it.gateway.rotate(bank, when)?;
+        it.gateway = gateway;
+        match told {
+            Some(Output::Rotated(journal)) => {
+                it.journal = Some(journal);
+                it.turning = None;
+                Ok(it)
+            }
+            Some(Output::Unrotated(RotateFault::Spent)) => Err(Stop::Spent),
+            _ => {
+                it.turning = Some(Turning {
+                    since: when.moment,
+                    again: when.moment.saturating_add(PAUSE),
+                });
+                Ok(it)
+            }
+        }
+    }
+}

@@ -1,0 +1,84 @@
+//! What a connection waits for, and for how long.
+
+/// What a connection waits for.
+#[derive(Clone, Copy, Debug, PartialEq, Eq)]
+pub enum On {
+    /// A request.
+    Request,
+    /// The rest of a request, or its answer.
+    Rest,
+    /// That its client reads what is left for it.
+    Reader,
+}
+
+/// Since when, as far as it was looked at since.
+#[derive(Clone, Copy, Debug, PartialEq, Eq)]
+pub struct Times {
+    /// since when it has waited for the same
+    pub since: u64,
+    /// when its client went on last
+    pub moved: u64,
+    /// It waits for something else than when it was looked at last.
+    changed: bool,
+    /// Its client went on since then.
+    went: bool,
+}
+
+impl Times {
+    /// It wasn't looked at yet.
+    pub fn new() -> Times {
+        Times {
+            since: 0,
+            moved: 0,
+            changed: true,
+            went: false,
+        }
+    }
+
+    /// It waits for something else.
+    pub fn change(&mut self) {
+        self.changed = true;
+    }
+
+    /// Its client goes on: bytes moved.
+    pub fn go_on(&mut self) {
+        self.went = true;
+    }
+
+    /// Whether that was so since it was looked at last.
+    pub fn is_changed(self) -> bool {
+        self.changed
+    }
+
+    /// It is looked at, at this moment.
+    pub fn look(&mut self, moment: u64) {
+        if self.changed {
+            self.since = moment;
+        }
+        if self.changed || self.went {
+            self.moved = moment;
+        }
+        self.changed = false;
+        self.went = false;
+    }
+}
+
+/// For what a connection is still waited that is to be closed.
+#[derive(Clone, Copy, Debug, PartialEq, Eq)]
+pub enum Bearing {
+    /// One answer more than when it was looked at last.
+    Answer,
+    /// The answer to a request that was begun.
+    Rest,
+    /// Nothing.
+    Nothing,
+}
+
+/// What a connection waits for, and for how long.
+#[derive(Clone, Copy, Debug, PartialEq, Eq)]
+pub struct Waits {
+    pub on: On,
+    pub times: Times,
+    /// The client sends no more.
+    pub ended: bool,
+}
