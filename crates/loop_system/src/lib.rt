@@ -9,8 +9,10 @@ mod devices;
 mod host;
 mod ports;
 mod server;
+mod shelf;
 mod words;
 
+pub use journal_archive::{Archive, NoArchive};
 pub use ports::Ports;
 pub use server::run;
 pub use server_faults::ServeFault;

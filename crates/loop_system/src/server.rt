@@ -7,9 +7,12 @@ use crate::client::Client;
 use crate::devices::Devices;
 use crate::host::{System, watched};
 use crate::ports::Ports;
+use crate::shelf::Shelf;
 use ask_model::Settings;
 use gateway_loop::{Gateway, Loop, Stop};
-use log::{Log, info};
+use gateway_world::RotateFault;
+use journal_archive::Archive;
+use log::{Log, info, warn};
 use route_bank::{Profile, store_for};
 use server_faults::ServeFault;
 use std::alloc::Global;
@@ -19,15 +22,23 @@ use std::rt::Clock;
 use std::time::Instant;
 use transformers::{Bank, Relation, Stored};
 
-/// Runs the gateway at these ports, until the clock fails, signs can't be waited for or memory is
-/// refused. Its journal isn't turned over: once it is full nobody is served any more.
-pub fn run<W: Net + Log + Clock + RandomSource + Copy + Drop>(
+/// Runs the gateway at these ports, until the clock fails, signs can't be waited for, memory is
+/// refused or the numbers of its journals are spent.
+///
+/// A client may stand still in a request for so many seconds; where 256 connections are open, one
+/// that is idle for so long is closed for another one.
+/// Each time that the journal is nearly full it is turned over and given to the archive, with the
+/// number of those before it and it. All wait while the archive keeps it.
+pub fn run<W: Net + Log + Clock + RandomSource + Copy + Drop, A: Archive<Profile>>(
     rt: W,
     alloc: Global,
     ports: Ports,
     settings: Settings,
+    idle: u64,
+    archive: &A,
 ) -> ServeFault {
-    match run_with_bank(rt, alloc, ports, settings) {
+    let idle = idle.saturating_mul(1000);
+    match run_with_bank(rt, alloc, ports, settings, idle, archive) {
         Ok(stop) => fault_of(stop),
         Err(fault) => fault,
     }
@@ -37,31 +48,35 @@ pub fn run<W: Net + Log + Clock + RandomSource + Copy + Drop>(
 fn fault_of(stop: Stop) -> ServeFault {
     match stop {
         Stop::Memory => ServeFault::Memory,
-        Stop::Clock | Stop::Wait => ServeFault::Stopped,
+        Stop::Clock | Stop::Wait | Stop::Spent => ServeFault::Stopped,
     }
 }
 
 /// Runs the gateway with the transformers that the routes of the settings ask for.
-fn run_with_bank<W: Net + Log + Clock + RandomSource + Copy + Drop>(
+fn run_with_bank<W: Net + Log + Clock + RandomSource + Copy + Drop, A: Archive<Profile>>(
     rt: W,
     alloc: Global,
     ports: Ports,
     settings: Settings,
+    idle: u64,
+    archive: &A,
 ) -> Result<Stop, ServeFault> {
     let mut all: Vec<Stored<Profile>> = Vec::new(alloc);
     'each: for route in settings.routes.as_slice() {
         store_for!(alloc, all, route);
     }
-    run_on(rt, alloc, ports, settings, &Bank::new(all))
+    run_on(rt, alloc, ports, settings, &Bank::new(all), idle, archive)
 }
 
 /// Runs the gateway with a bank that suits the settings.
-fn run_on<R: Relation, W: Net + Log + Clock + RandomSource + Copy + Drop>(
+fn run_on<R: Relation, W: Net + Log + Clock + RandomSource + Copy + Drop, A: Archive<R>>(
     rt: W,
     alloc: Global,
     ports: Ports,
     settings: Settings,
     bank: &Bank<R>,
+    idle: u64,
+    archive: &A,
 ) -> Result<Stop, ServeFault>
     requires { Suits R.holds R.takes (rules_of settings).routes bank.now }
 {
@@ -82,7 +97,7 @@ fn run_on<R: Relation, W: Net + Log + Clock + RandomSource + Copy + Drop>(
     };
     let mut host = System::new(rt, alloc, poll, listener, begin)?;
     let gateway: Gateway<R, Client, Devices> = Gateway::new(alloc, settings, devices)?;
-    Ok(go_on(Loop::new(gateway)?, bank, &mut host))
+    Ok(go_on(&rt, Loop::new(gateway, idle)?, bank, &mut host, archive))
 }
 
 /// Notes where the gateway is found.
@@ -91,19 +106,33 @@ fn note_ports<W: Log>(rt: &W, listen: SocketAddr, udp: SocketAddr) {
 }
 
 /// Turns until it can't go on.
-fn go_on<R: Relation, W: Clock + RandomSource + Drop>(
+fn go_on<R: Relation, V: Log + Clock, W: Clock + RandomSource + Drop, A: Archive<R>>(
+    rt: &V,
     it: Loop<R, Client, Devices>,
     bank: &Bank<R>,
     host: &mut System<W>,
+    archive: &A,
 ) -> Stop
     requires { Suits R.holds R.takes it.gateway.world.rules.routes bank.now }
 {
     let mut it = it;
+    let mut shelf = Shelf::new();
     'each: for _ in 0..u64::MAX {
         it = match it.turn(bank, host) {
             Ok(it) => it,
-            Err(stop) => return stop,
+            Err(stop) => {
+                note_stop(rt, stop);
+                return stop;
+            }
         };
+        shelf.look(rt, archive, &mut it);
     }
     Stop::Wait
+}
+
+/// Notes why the loop ends, where its end doesn't tell.
+fn note_stop<V: Log>(rt: &V, stop: Stop) {
+    if stop == Stop::Spent {
+        warn!(rt; target: "hcproxy", "the journal isn't turned over: {}", RotateFault::Spent);
+    }
 }

@@ -1,0 +1,85 @@
+//! The journals that were turned over, one after another.
+
+ghost use Rattle.std.specs.Prelude.{◌≡◌};
+
+use gateway_loop::{Loop, Stream, Wire};
+use journal_archive::Archive;
+use journal_book::{Event, Journal};
+use log::{Log, info};
+use std::rt::Clock;
+use std::time::Instant;
+use transformers::Relation;
+
+/// The journals that were turned over, and the turn that is under way.
+#[derive(Drop)]
+pub struct Shelf {
+    /// The number of the journal that there is, counted from 1.
+    number: u64,
+    /// It is nearly full, and that was noted.
+    noted: bool,
+    /// when it was
+    begin: Option<Instant>,
+}
+
+impl Shelf {
+    /// The first journal has begun.
+    pub fn new() -> Shelf {
+        Shelf {
+            number: 1,
+            noted: false,
+            begin: None,
+        }
+    }
+
+    /// Notes that the journal is nearly full; and gives it to the archive, where it was turned over.
+    pub fn look<R: Relation, S: Stream + Drop, W: Wire + Drop, V: Log + Clock, A: Archive<R>>(
+        &mut self,
+        rt: &V,
+        archive: &A,
+        it: &mut Loop<R, S, W>,
+    )
+        ensures { it.new.gateway ≡ it.old.gateway }
+    {
+        if it.is_turning() && !self.noted {
+            let number = self.number;
+            info!(rt; target: "hcproxy", "journal {number} is nearly full: connections are closed");
+            self.noted = true;
+            self.begin = Instant::now(rt).ok();
+        }
+        if let Some(journal) = it.take_journal() {
+            self.note(rt, &journal);
+            archive.keep(self.number, &journal);
+            self.number = self.number.saturating_add(1);
+            self.noted = false;
+        }
+    }
+
+    /// Notes that the journal was turned over, and how long nobody was served.
+    fn note<R: Relation, V: Log + Clock>(&self, rt: &V, journal: &Journal<R>) {
+        let time = match &self.begin {
+            Some(begin) => begin.elapsed(rt).ok(),
+            None => None,
+        };
+        let time = time.map_or(
+            0,
+            |time| u64::try_from(time.as_millis()).unwrap_or(u64::MAX),
+        );
+        let (number, asks) = (self.number, asks_in(journal));
+        info!(
+            rt;
+            target: "hcproxy",
+            "journal {number} is turned over after {time} ms: {asks} requests"
+        );
+    }
+}
+
+/// How many requests it has.
+fn asks_in<R: Relation>(journal: &Journal<R>) -> usize {
+    let mut asks: usize = 0;
+    for entry in journal.entries() {
+        if let Event::Asked(_, _) = entry.event {
+            asks = asks.saturating_add(1);
+        }
+    }
+    asks
+}
