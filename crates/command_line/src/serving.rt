@@ -19,6 +19,21 @@ pub struct Serving<'a> {
     pub idle: Option<u64>,
     /// where it shows how it does, if it does
     pub status: Option<Peer>,
+    /// it runs in one thread, in place of one for each connection
+    pub looped: bool,
+}
+
+impl Serving<'_> {
+    /// A word that doesn't go with `--loop`, where both were said.
+    pub fn not_in_loop(self) -> Option<&'static str> {
+        if !self.looped {
+            return None;
+        }
+        if self.access {
+            return Some("--access");
+        }
+        self.status.and(Some("--status"))
+    }
 }
 
 /// A word that says what the next one is.
@@ -37,6 +52,7 @@ struct Words<'a> {
     access: bool,
     idle: Option<u64>,
     status: Option<Peer>,
+    looped: bool,
     /// what the next word is
     flag: Option<Flag>,
 }
@@ -54,7 +70,8 @@ impl<'a> Words<'a> {
             (None, "--idle") if self.idle.is_none() => words.flag = Some(Flag::Idle),
             (None, "--status") if self.status.is_none() => words.flag = Some(Flag::Status),
             (None, "--access") if !self.access => words.access = true,
-            (None, "--journals" | "--idle" | "--status" | "--access") => return None,
+            (None, "--loop") if !self.looped => words.looped = true,
+            (None, "--journals" | "--idle" | "--status" | "--access" | "--loop") => return None,
             (None, _) if self.settings.is_none() => words.settings = Some(word),
             (None, _) => return None,
         }
@@ -68,8 +85,8 @@ fn seconds_of(word: &str) -> Option<u64> {
     (1..=LONGEST_IDLE).contains(&seconds).then_some(seconds)
 }
 
-/// What the words after `serve` ask for: `[FILE] [--journals FOLDER] [--access] [--idle SECONDS] [--status
-/// ADDRESS:PORT]`, in any order.
+/// What the words after `serve` ask for: `[FILE] [--journals FOLDER] [--access] [--idle SECONDS]
+/// [--status ADDRESS:PORT] [--loop]`, in any order.
 pub fn serving_of(words: &[String]) -> Option<Serving<'_>> {
     let mut so_far = Words {
         settings: None,
@@ -77,6 +94,7 @@ pub fn serving_of(words: &[String]) -> Option<Serving<'_>> {
         access: false,
         idle: None,
         status: None,
+        looped: false,
         flag: None,
     };
     'each: for word in words {
@@ -91,5 +109,6 @@ pub fn serving_of(words: &[String]) -> Option<Serving<'_>> {
         access: so_far.access,
         idle: so_far.idle,
         status: so_far.status,
+        looped: so_far.looped,
     })
 }

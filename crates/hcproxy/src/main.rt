@@ -9,6 +9,7 @@ mod device;
 mod drawing;
 mod files;
 mod journals;
+mod looping;
 mod notes;
 mod replaying;
 mod serving;
@@ -19,6 +20,7 @@ use device::serve_device;
 use drawing::draw_input;
 use files::{setup_at, tell_undone};
 use log::Log;
+use looping::serve_loop;
 use proxy_settings::{Part, Setup};
 use replaying::replay_input;
 use serving::serve;
@@ -48,6 +50,8 @@ A gateway from HTTP/1.1 to CoAP.
   serve FILE --status ADDRESS:PORT
                           .. and shows how it does there, by HTTP: a page for people, /metrics for
                           Prometheus, /health. Whoever reaches the address may look
+  serve FILE --loop       .. in one thread, in place of one for each connection. It takes --journals and
+                          --idle, and neither --access nor --status
   replay                  runs the script on standard input through the gateway, and prints what goes out
   replay --journal        .. and then the entries of the journal
   replay --settings FILE  .. under the settings of FILE in place of those of a demonstration
@@ -122,6 +126,7 @@ fn run<
         Command::Help => printed(println!(rt; "{USAGE}\n{HELP}")),
         Command::Version => printed(println!(rt; "{VERSION}")),
         Command::Demo { listen } => Err(run_demo(rt, listen)),
+        Command::Serve(serving) if serving.looped => Err(serve_loop(rt, host, serving)),
         Command::Serve(serving) => Err(serve(rt, host, serving)),
         Command::Origin { settings } => Err(serve_device(rt, settings)),
         Command::Check { part, file } => check(&rt, part, file),

@@ -66,7 +66,7 @@ fn opened<
 }
 
 /// What the gateway goes by.
-fn settings_of(alloc: Global, serve: &Serve) -> Result<Settings, Report<'static>> {
+pub fn settings_of(alloc: Global, serve: &Serve) -> Result<Settings, Report<'static>> {
     match followed(alloc, serve) {
         Ok(settings) => Ok(settings),
         Err(_) => Err(Report::memory()),
@@ -74,7 +74,7 @@ fn settings_of(alloc: Global, serve: &Serve) -> Result<Settings, Report<'static>
 }
 
 /// The folder of this path, or none.
-fn folder_of(rt: HostRuntime, journals: Option<&str>) -> Result<Folder, Report<'static>> {
+pub fn folder_of(rt: HostRuntime, journals: Option<&str>) -> Result<Folder, Report<'static>> {
     match Folder::new(rt, journals) {
         Ok(folder) => Ok(folder),
         Err(_) => Err(Report::memory()),
@@ -107,6 +107,6 @@ fn with_window<R: Net<Listener = TcpListener, Stream = TcpStream>>(
 }
 
 /// The address and the port of a socket.
-fn socket_of(at: Peer) -> SocketAddr {
+pub fn socket_of(at: Peer) -> SocketAddr {
     SocketAddr::new(at.address, at.port)
 }

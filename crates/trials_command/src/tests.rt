@@ -71,7 +71,7 @@ fn a_script_may_come_byte_by_byte(rt: HostRuntime) {
 }
 
 /// What a line of words asks for, or None where it is answered by the usage.
-static COMMANDS: [(&str, Option<Command<'static>>); 40] = [
+static COMMANDS: [(&str, Option<Command<'static>>); 47] = [
     ("replay", RUN),
     (
         "replay --journal",
@@ -129,6 +129,20 @@ static COMMANDS: [(&str, Option<Command<'static>>); 40] = [
     ("serve a.toml b.toml", None),
     ("serve a.toml --journals", None),
     ("serve --journals", None),
+    (
+        "serve --loop",
+        Some(Command::Serve(Serving {
+            settings: None,
+            looped: true,
+            ..PLAIN
+        })),
+    ),
+    ("serve --idle 5 --loop a.toml --journals past", LOOPED),
+    ("serve --loop --idle 5 --journals past a.toml", LOOPED),
+    ("serve a.toml --loop --access", None),
+    ("serve a.toml --loop --status 127.0.0.1:9090", None),
+    ("serve a.toml --loop --idle 0", None),
+    ("serve --loop --loop", None),
     ("origin", Some(Command::Origin { settings: None })),
     (
         "origin a.toml",
@@ -165,6 +179,7 @@ const PLAIN: Serving<'static> = Serving {
     access: false,
     idle: None,
     status: None,
+    looped: false,
 };
 
 const KEPT: Option<Command<'static>> = Some(Command::Serve(Serving {
@@ -184,6 +199,13 @@ const SHOWN: Option<Command<'static>> = Some(Command::Serve(Serving {
         address: IpAddr::V4(Ipv4Addr::LOCALHOST),
         port: 9090,
     }),
+    ..PLAIN
+}));
+
+const LOOPED: Option<Command<'static>> = Some(Command::Serve(Serving {
+    journals: Some("past"),
+    idle: Some(5),
+    looped: true,
     ..PLAIN
 }));
 

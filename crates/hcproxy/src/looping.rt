@@ -1,0 +1,60 @@
+//! `hcproxy serve --loop`: the gateway in one thread, by the settings of a file.
+
+use crate::files::serve_at;
+use crate::journals::Folder;
+use crate::notes::noted;
+use crate::serving::{folder_of, settings_of, socket_of};
+use ask_model::Settings;
+use command_line::{Report, Serving};
+use gateway_server::Options;
+use log::Log;
+use loop_system::{Ports, ServeFault, run};
+use proxy_settings::Serve;
+use std::net::Net;
+use std::random::RandomSource;
+use std::rt::{Clock, Files};
+
+/// Runs the gateway by the settings of a file, or else by those on standard input, until the clock or
+/// the sockets fail. Journals go into the folder, where one is named.
+pub fn serve_loop<
+    'a,
+    R: Net + Log + Clock + RandomSource + Input + Eprint + Files + AllocGlobal + Copy + Drop,
+>(rt: R, host: HostRuntime, serving: Serving<'a>) -> Report<'a> {
+    let idle = serving.idle.unwrap_or(Options::default().idle);
+    match opened(&rt, host, serving) {
+        Ok((ports, settings, folder)) => Report::serve(keep_on(rt, ports, settings, idle, folder)),
+        Err(report) => report,
+    }
+}
+
+/// Runs the gateway, and gives its journals to the folder.
+fn keep_on<R: Net + Log + Clock + RandomSource + Eprint + AllocGlobal + Copy + Drop>(
+    rt: R,
+    ports: Ports,
+    settings: Settings,
+    idle: u64,
+    folder: Folder,
+) -> ServeFault {
+    run(noted(rt), rt.alloc(), ports, settings, idle, &folder)
+}
+
+/// The ports that the settings name, taken, what the gateway goes by, and where its journals go.
+fn opened<'a, R: Net + Input + Eprint + Files + AllocGlobal>(
+    rt: &R,
+    host: HostRuntime,
+    serving: Serving<'a>,
+) -> Result<(Ports, Settings, Folder), Report<'a>> {
+    let serve = serve_at(rt, serving.settings)?;
+    let settings = settings_of(rt.alloc(), &serve)?;
+    let folder = folder_of(host, serving.journals)?;
+    let ports = ports_of(rt, &serve)?;
+    Ok((ports, settings, folder))
+}
+
+/// The ports that the settings name, taken.
+fn ports_of<R: Net>(rt: &R, serve: &Serve) -> Result<Ports, Report<'static>> {
+    match Ports::bind(rt, socket_of(serve.listen), socket_of(serve.udp)) {
+        Ok(ports) => Ok(ports),
+        Err(fault) => Err(Report::serve(fault)),
+    }
+}
