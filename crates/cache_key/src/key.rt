@@ -1,9 +1,11 @@
 //! Keys.
 
 ghost use Rattle.std.specs.Prelude.{◌≡◌, IfOk};
-ghost use Rattle.cache_key.specs.Keys.{key_of, same_host, same_key};
+ghost use Rattle.cache_key.specs.Keys.{key_of, same_host, same_key, same_place};
 ghost use Rattle.cache_key.specs.Order.{key_cmp};
 
+use crate::digest::Digests;
+use crate::lookup::Lookup;
 use crate::order::{cmp_hosts, cmp_texts};
 use crate::place::Place;
 use crate::reading::Reading;
@@ -23,14 +25,18 @@ struct Parts {
 }
 
 /// What the response to a GET is kept under: the peer, the host, the path, the query and the
-/// Accept of the request. Its copies share it.
+/// Accept of the request. Its copies share it. Beside it stand its digests, so that most keys are
+/// told apart without a look at what is shared.
 #[derive(Drop)]
 pub struct Key {
+    digests: Digests,
     parts: Arc<Parts>,
 }
 
 impl Model for Key {
+    ghost use Rattle.std.specs.Prelude.{◌≡◌};
     ghost use Rattle.std.specs.Arc.{arc_value};
+    ghost use Rattle.cache_key.specs.Digests.{digests_of};
     ghost use Rattle.cache_key.specs.Keys.{CacheKey};
 
     ghost Value = { CacheKey };
@@ -41,6 +47,13 @@ impl Model for Key {
       query = (arc_value k.parts).query;
       accept = (arc_value k.parts).accept;
     } };
+
+    ghost invariant = { λ k. k.digests ≡ digests_of (record {
+      place = (arc_value k.parts).place;
+      host = (arc_value k.parts).host;
+      query = (arc_value k.parts).query;
+      accept = (arc_value k.parts).accept;
+    }) };
 }
 
 /// Whether the hosts are equal.
@@ -65,6 +78,7 @@ impl Key {
     ) -> Result<Key, AllocError>
         ensures { IfOk result (λ k. k ≡ key_of peer target.now accept) }
     {
+        let digests = Digests::of(&peer, target, accept);
         let parts = Parts {
             place: Place::of(peer, target)?,
             host: target.host.copy()?,
@@ -72,6 +86,7 @@ impl Key {
             accept,
         };
         Ok(Key {
+            digests,
             parts: Arc::new(alloc, parts)?,
         })
     }
@@ -85,6 +100,13 @@ impl Key {
 
     /// Whether it is that key.
     pub fn is_same(&self, other: &Key) -> bool
+        ensures { result ≡ same_key self.now other.now }
+    {
+        self.digests.key == other.digests.key && self.has_parts_of(other)
+    }
+
+    /// Whether all parts are equal.
+    fn has_parts_of(&self, other: &Key) -> bool
         ensures { result ≡ same_key self.now other.now }
     {
         self.parts.place.is_same(&other.parts.place)
@@ -102,6 +124,20 @@ impl Key {
             && is_same_host(&self.parts.host, &reading.target.host)
             && self.parts.query == reading.target.query
             && self.parts.accept == reading.accept
+    }
+
+    /// Whether it is the key that is looked for.
+    pub fn is_sought(&self, lookup: &Lookup<'_>) -> bool
+        ensures { result ≡ same_key self.now lookup.now }
+    {
+        self.digests.key == lookup.digests.key && self.is_of(&lookup.reading)
+    }
+
+    /// Whether it is of the place that is looked for.
+    pub fn is_at(&self, lookup: &Lookup<'_>) -> bool
+        ensures { result ≡ same_place self.now.place lookup.now.place }
+    {
+        self.digests.place == lookup.digests.place && self.place().is_of(&lookup.reading)
     }
 
     /// Which of the two stands first in an index: by the place, and then by the host, the query and
@@ -122,6 +158,7 @@ impl Key {
         ensures { IfOk result (λ k. k ≡ self.now) }
     {
         Ok(Key {
+            digests: self.digests,
             parts: Arc::try_clone(&self.parts)?,
         })
     }

@@ -1,10 +1,11 @@
 -- What calls leave is a store.
-use Rattle.std.proofs.Common.{◌≡◌, ℕ, suc, ◌+◌, ◌<◌, ◌≤◌, List, [], ◌∷◌, ◌++◌, length, filter, Bool, true, false, Option, Some, None, MatchOption, Result, Ok, Err, OnErr, refl, ap, sym, subst, ◌∙◌, get_or, take, drop, arith, inl, inr, length-append}
+use Rattle.std.proofs.Common.{◌≡◌, ℕ, zero, suc, ◌+◌, ◌<◌, ◌≤◌, List, [], ◌∷◌, ◌++◌, length, filter, Bool, true, false, Option, Some, None, MatchOption, Result, Ok, Err, OnErr, refl, ap, sym, subst, ◌∙◌, get_or, take, drop, arith, inl, inr, length-append}
 use Rattle.std.specs.List.{position, find, remove, list_any, slice_get}
 use Rattle.std.specs.Option.{option_to_list}
 use Rattle.std.proofs.lemmas.Bool.{cases_lt, false≢true}
 use Rattle.std.proofs.lemmas.List.Edits.{length-remove}
 use Rattle.std.proofs.lemmas.List.{length-take}
+use Rattle.std.proofs.Math.Seq.{take-append_seam}
 use Rattle.std.proofs.lemmas.Option.{slice_get_read}
 use Rattle.limits.specs.declared.TheConstants.{MAX_STORED}
 use Rattle.cache_key.specs.Keys.{CacheKey}
@@ -70,6 +71,38 @@ moved-first ps left news i r s lt read is made =
     let store : IsStore (r ∷ others r.key ps) = record { few = few; apart = apart-placed r ps s.apart } in
     let P : List Pair → Type 0 = λ xs. IsStore xs in
     (list ∙ sym (ap (λ (o : Option Pair). with_first o ps) at), subst P (sym list) store)
+
+-- the last of the first pairs, and those before it
+record IsFront (ps : List Pair) (i : ℕ) : Type 0 where
+  pub last : Pair
+  pub at : last ≡ get_or ps i last
+  pub one : drop i (take (suc i) ps) ≡ last ∷ []
+  pub rest : take i (take (suc i) ps) ≡ take i ps
+
+front : (ps : List Pair) (i : ℕ) → i < length ps → IsFront ps i
+front [] i lt = absurd (omega (arith, lt))
+front (p ∷ ps) zero lt = record { last = p; at = refl; one = refl; rest = refl }
+front (p ∷ ps) (suc i) lt =
+    let inside : i < length ps = omega arith in
+    let h = front ps i inside in
+    record { last = h.last; at = h.at; one = h.one; rest = ap (λ (qs : List Pair). p ∷ qs) h.rest }
+
+-- The first pairs are turned by one place: the last of them comes to the front.
+pub turned : (ps part : List Pair) (i n m : ℕ) → i < length ps → n ≡ suc i → m ≡ i → part ≡ drop m (take n ps) ++ take m (take n ps) → part ++ drop n ps ≡ option_to_list (slice_get ps i) ++ remove ps i
+turned ps part i n m lt ns ms turn =
+    let h = front ps i lt in
+    let at : slice_get ps i ≡ Some h.last = slice_get_read ps (length ps) i h.last refl lt h.at in
+    let whole : part ≡ h.last ∷ take i ps = turn ∙ rw (ns, ms, h.one, h.rest) refl in
+    rw (whole, ns, at) refl
+
+-- What the list holds after its pairs were turned.
+pub turned-first : (ps new : List Pair) (i n : ℕ) → IsStore ps → i < length ps → n ≡ length new → new ≡ option_to_list (slice_get ps i) ++ remove ps i
+    → (take n (new ++ drop (length new) ps) ≡ with_first (slice_get ps i) ps) × IsStore (take n (new ++ drop (length new) ps))
+turned-first ps new i n s lt len made =
+    let h = front ps i lt in
+    let at : slice_get ps i ≡ Some h.last = slice_get_read ps (length ps) i h.last refl lt h.at in
+    let whole : take n (new ++ drop (length new) ps) ≡ new = rw len (take-append_seam new (drop (length new) ps)) in
+    moved-first ps (remove ps i) (take n (new ++ drop (length new) ps)) i h.last s lt h.at refl (whole ∙ (made ∙ rw at refl))
 
 -- the list after a pair was used
 pub used-first : (key : CacheKey) (t : ℕ) (ps news : List Pair) (i : ℕ) → position (is_fresh_under key t) ps ≡ Some i → news ≡ with_first (slice_get ps i) ps → news ≡ moved key t ps

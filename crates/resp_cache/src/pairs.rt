@@ -1,12 +1,13 @@
 //! Lists of pairs, the last used first.
 
-ghost use Rattle.std.specs.Prelude.{◌≡◌, ◌+◌, ◌<◌, ◌≤◌, ◌∷◌, drop, false, filter, find, length, position, slice_get, take, true, vec_capacity, vec_len, IfOk, OnErr, OnOk};
+ghost use Rattle.std.specs.List.{remove};
+ghost use Rattle.std.specs.Prelude.{◌≡◌, ◌++◌, ◌+◌, ◌<◌, ◌≤◌, ◌∷◌, drop, false, filter, find, length, position, slice_get, take, true, vec_capacity, vec_len, IfOk, OnErr, OnOk};
 ghost use Rattle.std.specs.Option.{option_copied, option_to_list};
 ghost use Rattle.cache_key.specs.Keys.{key_of, place_of};
 ghost use Rattle.resp_cache.specs.Stores.{IsStore, has_room, is_elsewhere, is_fresh_under, is_stale_under, others, with_first};
 
 use crate::pair::Pair;
-use cache_key::{Key, Reading};
+use cache_key::{Key, Lookup, Reading};
 use limits::MAX_STORED;
 use std::alloc::{AllocError, Global};
 
@@ -15,7 +16,8 @@ pub fn fresh_place(pairs: &[Pair], reading: &Reading<'_>, moment: u64) -> Option
     ensures { let key = key_of reading.now.peer reading.now.target.now reading.now.accept in
         result ≡ position (is_fresh_under key moment) pairs.now }
 {
-    pairs.iter().position(|pair| pair.key.is_of(reading) && pair.stored.is_fresh(moment))
+    let sought = Lookup::of(reading);
+    pairs.iter().position(|pair| pair.key.is_sought(&sought) && pair.stored.is_fresh(moment))
 }
 
 /// The pair of what is read, if its response is fresh.
@@ -23,7 +25,8 @@ pub fn fresh_pair<'a>(pairs: &'a [Pair], reading: &Reading<'_>, moment: u64) -> 
     ensures { let key = key_of reading.now.peer reading.now.target.now reading.now.accept in
         option_copied result ≡ find (is_fresh_under key moment) pairs.now }
 {
-    pairs.iter().find(|pair| pair.key.is_of(reading) && pair.stored.is_fresh(moment))
+    let sought = Lookup::of(reading);
+    pairs.iter().find(|pair| pair.key.is_sought(&sought) && pair.stored.is_fresh(moment))
 }
 
 /// The pair of what is read, if its response isn't fresh.
@@ -31,7 +34,8 @@ pub fn stale_pair<'a>(pairs: &'a [Pair], reading: &Reading<'_>, moment: u64) -> 
     ensures { let key = key_of reading.now.peer reading.now.target.now reading.now.accept in
         option_copied result ≡ find (is_stale_under key moment) pairs.now }
 {
-    pairs.iter().find(|pair| pair.key.is_of(reading) && !pair.stored.is_fresh(moment))
+    let sought = Lookup::of(reading);
+    pairs.iter().find(|pair| pair.key.is_sought(&sought) && !pair.stored.is_fresh(moment))
 }
 
 /// Takes the key's pair out.
@@ -48,7 +52,8 @@ pub fn drop_place(pairs: &mut Vec<Pair>, writing: &Reading<'_>)
         pairs.new.items ≡ filter (is_elsewhere place) pairs.old.items }
     ensures capacity { vec_capacity pairs.new ≡ vec_capacity pairs.old }
 {
-    pairs.retain(|pair| !pair.key.place().is_of(writing));
+    let changed = Lookup::of(writing);
+    pairs.retain(|pair| !pair.key.is_at(&changed));
 }
 
 /// Puts a pair in front, for which there is room.
@@ -63,6 +68,15 @@ fn push_first(pairs: &mut Vec<Pair>, pair: Pair)
     }
 }
 
+/// The pair in this place comes before those that stood before it.
+fn turn(pairs: &mut [Pair], place: usize)
+    requires { place < length pairs.old }
+    ensures { pairs.new ≡ option_to_list (slice_get pairs.old place) ++ remove pairs.old place }
+{
+    let used = &mut pairs[..place + 1];
+    used.rotate_right(1);
+}
+
 /// Puts the pair in this place in front.
 pub fn move_first(pairs: &mut Vec<Pair>, place: usize)
     requires place { place < vec_len pairs.old }
@@ -72,8 +86,7 @@ pub fn move_first(pairs: &mut Vec<Pair>, place: usize)
     ensures capacity { vec_capacity pairs.new ≡ vec_capacity pairs.old }
     ensures store { IsStore pairs.new.items }
 {
-    let pair = pairs.remove(place);
-    push_first(pairs, pair);
+    turn(pairs.as_mut_slice(), place);
 }
 
 /// Makes room for one more pair. Where it would be one too many, none is wanted.
