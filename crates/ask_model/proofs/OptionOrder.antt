@@ -1,5 +1,5 @@
 -- The options of a request can be written: they are in order, and those of a target within its limits are short.
-use Rattle.std.proofs.Common.{◌≡◌, ℕ, ◌≤◌, true, List, [], ◌∷◌, ◌++◌, length, Option, Some, None, arith, sym, ◌∙◌}
+use Rattle.std.proofs.Common.{◌≡◌, ℕ, ◌≤◌, true, List, [], ◌∷◌, ◌++◌, length, Option, Some, None, arith, sym, ap, ◌∙◌, append_assoc}
 use Rattle.std.proofs.lemmas.Bool.{and_parts, leb-true}
 use Rattle.std.proofs.lemmas.Bool.Decides.{nat_tests}
 use Rattle.std.specs.List.{AllByRecursion, list_all}
@@ -45,6 +45,22 @@ asking_in_order t format accept =
     (behind_optional 11 12 format _ (omega arith)
     (behind_equal 12 15 t.query _ (omega arith) (last_optional 15 17 accept (omega arith)))))
 
+-- the same with one that asks for a block, which stands last
+asking_before : (t : Target) (format accept : Option ℕ) (last : List Entry) → options_asking t format accept ++ last ≡ host_options t.host ++ (options_with 11 t.path ++ (optional 12 format ++ (options_with 15 t.query ++ (optional 17 accept ++ last))))
+asking_before t format accept last =
+    append_assoc (host_options t.host) _ last
+    ∙ ap (λ (os : List Entry). host_options t.host ++ os) (append_assoc (options_with 11 t.path) _ last
+    ∙ ap (λ (os : List Entry). options_with 11 t.path ++ os) (append_assoc (optional 12 format) _ last
+    ∙ ap (λ (os : List Entry). optional 12 format ++ os) (append_assoc (options_with 15 t.query) (optional 17 accept) last)))
+
+pub blocks_in_order : (t : Target) (number : ℕ) (format accept block : Option ℕ) → 17 ≤ number → IsInOrder 0 (options_asking t format accept ++ optional number block)
+blocks_in_order t number format accept block le =
+    rw (asking_before t format accept (optional number block))
+    (behind_host t.host _ (behind_equal 11 11 t.path _ (omega arith)
+    (behind_optional 11 12 format _ (omega arith)
+    (behind_equal 12 15 t.query _ (omega arith)
+    (behind_optional 15 17 accept _ (omega arith) (last_optional 17 number block le))))))
+
 pub short : (os : List Entry) → list_all is_short os ≡ true → AllByRecursion IsShort os
 short [] h = tt
 short (o ∷ os) h =
@@ -64,7 +80,7 @@ short_second : (os others : List Entry) → AllByRecursion IsShort (os ++ others
 short_second [] others h = h
 short_second (o ∷ os) others h = short_second os others h.1
 
-pub uint_bytes_short : (n : ℕ) → length (uint_bytes n) ≤ 2
+pub uint_bytes_short : (n : ℕ) → length (uint_bytes n) ≤ 3
 uint_bytes_short n = grind (arith, nat_tests)
 
 short_optional : (number : ℕ) (v : Option ℕ) → AllByRecursion IsShort (optional number v)
@@ -82,9 +98,9 @@ asking_short t format accept h =
     (short_both (options_with 15 t.query) _ query (short_optional 17 accept))))
 
 -- The message of a request, still without its payload, can be written.
-pub asking_encodable : (m : Method) (t : Target) (format accept : Option ℕ) (code mid : ℕ) (token payload : List ℕ) (os : List Entry) → fits (uri_options t) ≡ true → code ≡ request_code m → os ≡ options_asking t format accept → IsEncodable (record { kind = Con; code = code; mid = mid; token = token; options = os; payload = payload })
-asking_encodable m t format accept code mid token payload os within same e = record {
-  in_order = rw e (asking_in_order t format accept);
-  short = rw e (asking_short t format accept within);
+pub asking_encodable : (m : Method) (t : Target) (number : ℕ) (format accept block : Option ℕ) (code mid : ℕ) (token payload : List ℕ) (os : List Entry) → 17 ≤ number → fits (uri_options t) ≡ true → code ≡ request_code m → os ≡ options_asking t format accept ++ optional number block → IsEncodable (record { kind = Con; code = code; mid = mid; token = token; options = os; payload = payload })
+asking_encodable m t number format accept block code mid token payload os le within same e = record {
+  in_order = rw e (blocks_in_order t number format accept block le);
+  short = rw e (short_both (options_asking t format accept) _ (asking_short t format accept within) (short_optional number block));
   nothing_else = λ zero. absurd (code_is_not_zero m (sym same ∙ zero));
 }

@@ -51,12 +51,9 @@ carried Post body = body
 carried Put body = body
 carried _ body = []
 
--- the largest body that goes in one message
-abbrev pub piece_limit : ℕ
-piece_limit = 1024
-
+-- So is a body above 64 KiB, which no edge lets through.
 abbrev pub is_refused_write : Method → HttpRequest → Bool
-is_refused_write m r = (writes m && is_conditional r) || nat_lt piece_limit (length (carried m r.body))
+is_refused_write m r = (writes m && is_conditional r) || nat_lt MAX_BODY_LEN (length (carried m r.body))
 
 -- the HTTP status of a target that names nothing here
 abbrev pub fault_status : UriFault → ℕ
@@ -121,12 +118,12 @@ wanted_of s (Whole r) (Requests q) = wanted_in (accepted_of s r)
 wanted_of s came sense = None
 
 module _ (holds : Form → Form → List ℕ → List ℕ → Type 0) (takes : Form → Form → List ℕ → Type 0) where
-  -- A body becomes this payload, in this format. One that is transformed goes in one message too.
+  -- A body becomes this payload, in this format. One that is transformed keeps the limit of bodies too.
   abbrev pub Becomes : Typing → List ℕ → Option ℕ → List ℕ → Type 0
   Becomes Untyped body format payload = (format ≡ None) × (payload ≡ body)
   Becomes (Typed n) body format payload = (format ≡ Some n) × (payload ≡ body)
   Becomes (Routed from n) body format payload =
-      (format ≡ Some n) × holds from (Format n) body payload × (length payload ≤ piece_limit)
+      (format ≡ Some n) × holds from (Format n) body payload × (length payload ≤ MAX_BODY_LEN)
   Becomes Untypable body format payload = ⊥
 
   -- No payload can be made of it: the content isn't taken, or it is too large in the other format.
@@ -136,16 +133,10 @@ module _ (holds : Form → Form → List ℕ → List ℕ → Type 0) (takes : F
       ⊎ ((payload : List ℕ) × holds from (Format n) body payload × (MAX_BODY_LEN < length payload))
   Fails _ body = ⊥
 
-  -- What it becomes needs more than one message.
-  abbrev pub IsLong : Typing → List ℕ → Type 0
-  IsLong (Routed from n) body = (payload : List ℕ) × holds from (Format n) body payload × (piece_limit < length payload)
-  IsLong _ body = ⊥
-
-  -- Why a body isn't sent, with the status: its type, its content, its length in the other format.
+  -- Why a body isn't sent, with the status: its type, or its content.
   abbrev pub IsUnsent : Typing → List ℕ → Cause → ℕ → Type 0
   IsUnsent typing body cause status =
-      ((cause ≡ Cause.Media) × (((status ≡ 415) × (typing ≡ Untypable)) ⊎ ((status ≡ 400) × Fails typing body)))
-      ⊎ ((cause ≡ Cause.Method) × (status ≡ 501) × IsLong typing body)
+      (cause ≡ Cause.Media) × (((status ≡ 415) × (typing ≡ Untypable)) ⊎ ((status ≡ 400) × Fails typing body))
 
   -- what a request for this method, target and peer means
   abbrev pub MapsBody : Rules → HttpRequest → Method → Target → Peer → Sense → Type 0

@@ -1,7 +1,9 @@
 -- What came in from HTTP, and the CoAP request that it stands for: plain data.
-use Rattle.std.specs.Prelude.{ℕ, ◌/◌, ◌%◌, ◌==◌, nat_lt, List, [], ◌∷◌, ◌++◌, Option, Some, None, if◌then◌else◌}
+use Rattle.std.specs.Prelude.{ℕ, ◌+◌, ◌*◌, ◌/◌, ◌%◌, ◌==◌, nat_lt, List, [], ◌∷◌, ◌++◌, length, Option, Some, None, if◌then◌else◌}
 use Rattle.coap_codec.specs.declared.message.MsgType.TheVariants.{Con}
 use Rattle.coap_codec.specs.Spelling.{Entry, Content}
+use Rattle.coap_codec.specs.declared.block.Block.{Block}
+use Rattle.blockwise.specs.Uploads.{begun, next_block, slice_of}
 use Rattle.uri_map.specs.declared.peer.Peer.{Peer}
 use Rattle.uri_map.specs.declared.target.Target.{Target}
 use Rattle.uri_map.specs.Limits.{host_options, option_with, options_with}
@@ -29,9 +31,12 @@ pub data Sense : Type 0 where
   Requests : (q : CoapRequest) → Sense
   Refuses : (cause : Cause) → (status : ℕ) → Sense
 
--- a number below 65,536 as an option's value, without leading zeros (RFC 7252 section 3.2)
+-- a number below 16,777,216 as an option's value, without leading zeros (RFC 7252 section 3.2)
 abbrev pub uint_bytes : ℕ → List ℕ
-uint_bytes n = if n == 0 then [] else (if nat_lt n 256 then n ∷ [] else (n / 256) ∷ (n % 256) ∷ [])
+uint_bytes n =
+    if n == 0 then [] else (if nat_lt n 256 then n ∷ []
+    else (if nat_lt n 65536 then (n / 256) ∷ (n % 256) ∷ []
+    else (n / 65536) ∷ (n / 256 % 256) ∷ (n % 256) ∷ []))
 
 -- an option that bears the number, where there is one
 abbrev pub optional : ℕ → Option ℕ → List Entry
@@ -49,7 +54,39 @@ options_asking t format accept =
 abbrev pub request_options : CoapRequest → List Entry
 request_options q = options_asking q.target q.format q.accept
 
--- The message that asks it in one piece: confirmable, with this message ID and token.
+-- The message that asks it all at once: confirmable, with this message ID and token.
 abbrev pub request_message : CoapRequest → ℕ → List ℕ → Content
 request_message q mid token =
     record { kind = Con; code = q.method; mid = mid; token = token; options = request_options q; payload = q.body }
+
+-- the value of a Block option (RFC 7959 section 2.2)
+abbrev pub block_value : Block → ℕ
+block_value b = 16 * b.num + ((if b.more then 8 else 0) + b.szx)
+
+-- A block is one of the representation that a GET (1) asks for, which names it by Block2 (23); or else one of the
+-- request's own body, which Block1 (27) names.
+abbrev pub block_option : ℕ → ℕ
+block_option method = if method == 1 then 23 else 27
+
+-- what the message for a block carries of the body
+abbrev pub carried_by : ℕ → Option Block → List ℕ → List ℕ
+carried_by method None body = body
+carried_by method (Some b) body = if method == 1 then body else slice_of b body
+
+-- The message that asks for this block of the representation (RFC 7959 section 2.4), or brings this block of the body
+-- (section 2.3). Where none is named it is all of the request, and the server gives the first, or all, in the size
+-- that it likes.
+abbrev pub block_message : CoapRequest → Option Block → ℕ → List ℕ → Content
+block_message q None mid token = request_message q mid token
+block_message q (Some b) mid token =
+    record (request_message q mid token) {
+      options = request_options q ++ option_with (block_option q.method) (uint_bytes (block_value b)) ∷ [];
+      payload = carried_by q.method (Some b) q.body;
+    }
+
+-- Of a body that doesn't go all at once the first block goes first, in the largest size: 1,024 bytes.
+abbrev pub first_block : CoapRequest → Option Block
+first_block q = if q.method == 1 then None else next_block (begun (length q.body) 6)
+
+abbrev pub first_message : CoapRequest → ℕ → List ℕ → Content
+first_message q mid token = block_message q (first_block q) mid token

@@ -6,11 +6,8 @@ ghost use Rattle.ask_model.specs.Sharing.{asks_same_by, key_read, outdates_by, p
 ghost use Rattle.ask_model.specs.Views.{sense_of};
 
 use crate::meaning::Meaning;
-use crate::request::bytes_of;
+use crate::request::{GET, bytes_of};
 use cache_key::Reading;
-
-/// The code of a GET (RFC 7252 section 12.1.1).
-const GET: u8 = 1;
 
 /// What a GET reads. Anything else reads nothing.
 pub(crate) fn reading_of<'a>(meaning: &'a Meaning, body: &[u8]) -> Option<Reading<'a>>

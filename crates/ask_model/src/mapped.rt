@@ -1,21 +1,21 @@
 //! A request with its meaning.
 
-ghost use Rattle.std.specs.Prelude.{◌≡◌, ◌≤◌, length, option_map, IfOk, IfSome};
+ghost use Rattle.std.specs.Prelude.{◌≡◌, ◌≤◌, ◌<◌, ◌^◌, length, option_map, IfOk, IfSome};
 ghost use Rattle.std.specs.Arc.{arc_value};
-ghost use Rattle.limits.specs.declared.TheConstants.{MAX_MESSAGE_LEN, MAX_REQUEST_SIZE};
+ghost use Rattle.limits.specs.declared.TheConstants.{MAX_BODY_LEN, MAX_MESSAGE_LEN, MAX_REQUEST_SIZE};
 ghost use Rattle.ask_model.specs.Views.{came_of, body_of, sense_of, rules_of};
 ghost use Rattle.ask_model.specs.Maps.{Maps, wanted_of};
 ghost use Rattle.cache_key.specs.Keys.{key_of, place_of};
 ghost use Rattle.ask_model.specs.Sharing.{asks_same_by, key_read, outdates_by, place_written};
 ghost use Rattle.ask_model.specs.Sizes.{came_size};
-ghost use Rattle.ask_model.specs.Datagrams.{IsSentFor, asked_peer};
+ghost use Rattle.ask_model.specs.Datagrams.{IsSentFor, asked_body, asked_peer, block_named};
 
 use crate::comparing;
 use crate::meaning::Meaning;
-use crate::request::{body_in, datagram_of};
+use crate::request::{body_in, bytes_of, datagram_of};
 use crate::settings::Settings;
 use cache_key::Reading;
-use coap_codec::{Bytes, Token};
+use coap_codec::{Block, Bytes, Token};
 use http_edge::Incoming;
 use media_map::Wanted;
 use std::alloc::{AllocError, Global};
@@ -172,17 +172,42 @@ impl<R: Relation> Mapped<R> {
         comparing::outdates(self.meaning(), other.meaning())
     }
 
-    /// The datagram that asks it, under this message ID and token (RFC 7252 section 3). None where the
-    /// request is refused.
+    /// The body that goes to the server: an empty one where the request is refused.
+    pub fn body(&self) -> &[u8]
+        ensures body { result.now ≡ asked_body self.now.sense }
+        ensures short { length result.now ≤ MAX_BODY_LEN }
+    {
+        match self.meaning() {
+            Meaning::Ask { payload, .. } => bytes_of(payload, body_in(self.came())),
+            Meaning::Refuse(_, _) => &[],
+        }
+    }
+
+    /// A datagram that asks it, under this message ID and token (RFC 7252 section 3). None where the
+    /// request is refused. A block that is named is one of the representation that a GET asks for, by
+    /// its Block2, or else one of the body, by its Block1 (RFC 7959 section 2). Where none is named, the
+    /// server gives the first, or all, in the size that it likes; and a body of more than 1,024 bytes
+    /// begins with its first block. Of the body no more is copied than the datagram has.
     pub fn request(
         &self,
         alloc: Global,
+        block: Option<Block>,
         mid: u16,
         token: &Token,
     ) -> Result<Option<Bytes>, AllocError>
-        ensures sent { IfOk result (λ o. IsSentFor self.now.sense mid token.now o) }
+        requires num { IfSome block (λ b. b.num < 2 ^ 20) }
+        requires szx { IfSome block (λ b. b.szx < 7) }
+        ensures sent { IfOk result (λ o. IsSentFor self.now.sense (block_named self.now.sense block) mid
+            token.now o) }
         ensures len { IfOk result (λ o. IfSome o (λ bytes. length bytes ≤ MAX_MESSAGE_LEN)) }
     {
-        datagram_of(alloc, self.meaning(), body_in(self.came()), mid, token)
+        datagram_of(
+            alloc,
+            self.meaning(),
+            body_in(self.came()),
+            block,
+            mid,
+            token,
+        )
     }
 }

@@ -1,33 +1,42 @@
 //! The datagram that asks a CoAP server (RFC 7252 section 3).
 
-ghost use Rattle.std.specs.Prelude.{◌≡◌, ◌≢◌, ◌≤◌, [], ◌++◌, take, drop, vec_len, IfOk, OnOk};
+ghost use Rattle.std.specs.Prelude.{◌≡◌, ◌≢◌, ◌≤◌, ◌<◌, ◌^◌, [], ◌++◌, length, take, drop, vec_len, option_map, IfOk, IfSome, OnOk};
+ghost use Rattle.limits.specs.declared.TheConstants.{MAX_BODY_LEN};
 ghost use Rattle.coap_codec.specs.Spelling.{Spells, content, entries};
 ghost use Rattle.coap_codec.specs.Writing.{IsEncodable, payload_text};
-ghost use Rattle.ask_model.specs.Requests.{uint_bytes, optional, options_asking};
+ghost use Rattle.code_map.specs.Methods.{request_code};
+ghost use Rattle.ask_model.specs.Requests.{CoapRequest, uint_bytes, optional, options_asking, block_option, block_value, carried_by};
 ghost use Rattle.ask_model.specs.Views.{came_of, body_of, payload_of, sense_of};
-ghost use Rattle.ask_model.specs.Datagrams.{IsSentFor, IsSendable};
+ghost use Rattle.ask_model.specs.Datagrams.{IsSentFor, IsSendable, block_or_first, block_named};
 
 use crate::meaning::{Meaning, Payload};
-use coap_codec::number::{ACCEPT, CONTENT_FORMAT};
-use coap_codec::{Bytes, Message, MsgType, Opt, Token, encode};
+use blockwise::{LARGEST_SZX, Upload, slice_of};
+use coap_codec::number::{ACCEPT, BLOCK1, BLOCK2, CONTENT_FORMAT};
+use coap_codec::{Block, Bytes, Message, MsgType, Opt, Token, encode};
 use http_edge::Incoming;
 use std::alloc::{AllocError, Global};
 use uri_map::{Target, options_of};
+
+/// The code of a GET (RFC 7252 section 12.1.1).
+pub(crate) const GET: u8 = 1;
 
 /// What stands in front of a payload (RFC 7252 section 3).
 const PAYLOAD_MARKER: u8 = 0xff;
 
 /// The number as an option's value: in network byte order, and no zero leads (RFC 7252 section 3.2).
-fn uint_value(alloc: Global, n: u16) -> Result<Vec<u8>, AllocError>
+fn uint_value(alloc: Global, n: u32) -> Result<Vec<u8>, AllocError>
+    requires { n < 2 ^ 24 }
     ensures { IfOk result (λ v. v.items ≡ uint_bytes n) }
 {
     let bytes = n.to_be_bytes();
     let zeros = if n == 0 {
+        4
+    } else if n < 0x100 {
+        3
+    } else if n < 0x1_0000 {
         2
-    } else if n < 256 {
-        1
     } else {
-        0
+        1
     };
     Vec::from_slice(alloc, &bytes[zeros..])
 }
@@ -44,7 +53,7 @@ fn insert_number(
     ensures { OnOk result (entries options.new.items ≡ take place (entries options.old.items) ++ (optional number n ++ drop place (entries options.old.items))) }
 {
     if let Some(n) = n {
-        let value = uint_value(alloc, n)?;
+        let value = uint_value(alloc, u32::from(n))?;
         options.insert(place, Opt { number, value })?;
     }
     Ok(())
@@ -65,6 +74,77 @@ fn options_for(
     let end = options.len();
     insert_number(alloc, &mut options, end, ACCEPT, accept)?;
     Ok(options)
+}
+
+/// The number that a Block option bears (RFC 7959 section 2.2).
+fn block_value(block: Block) -> u32
+    requires num { block.num < 2 ^ 20 }
+    requires szx { block.szx < 7 }
+    ensures value { result ≡ block_value block }
+    ensures small { result < 2 ^ 24 }
+{
+    let more = if block.more { 8 } else { 0 };
+    16 * block.num + (more + u32::from(block.szx))
+}
+
+/// The option that names a block: Block2 for one of the representation that a GET asks for, Block1 for
+/// one of the request's own body (RFC 7959 section 2.1).
+fn block_option(method: u8) -> u16
+    ensures { result ≡ block_option method }
+{
+    if method == GET { BLOCK2 } else { BLOCK1 }
+}
+
+/// Appends the option that names the block, where one is named.
+fn push_block(
+    alloc: Global,
+    options: &mut Vec<Opt>,
+    method: u8,
+    block: Option<Block>,
+) -> Result<(), AllocError>
+    requires num { IfSome block (λ b. b.num < 2 ^ 20) }
+    requires szx { IfSome block (λ b. b.szx < 7) }
+    ensures { OnOk result (entries options.new.items ≡ entries options.old.items
+        ++ optional (block_option method) (option_map block_value block)) }
+{
+    if let Some(block) = block {
+        let value = uint_value(alloc, block_value(block))?;
+        options.push(Opt {
+            number: block_option(method),
+            value,
+        })?;
+    }
+    Ok(())
+}
+
+/// The block that a message with this method is for: the one that is named, or else the first of a body
+/// that goes in several.
+fn block_or_first(method: u8, body: &[u8], block: Option<Block>) -> Option<Block>
+    requires short { length body.now ≤ MAX_BODY_LEN }
+    requires num { IfSome block (λ b. b.num < 2 ^ 20) }
+    requires szx { IfSome block (λ b. b.szx < 7) }
+    ensures block { (q : CoapRequest) → q.method ≡ method → q.body ≡ body.now
+        → result ≡ block_or_first q block }
+    ensures num { IfSome result (λ b. b.num < 2 ^ 20) }
+    ensures szx { IfSome result (λ b. b.szx < 7) }
+{
+    if block.is_some() || method == GET {
+        return block;
+    }
+    Upload::new(body, LARGEST_SZX).next_block()
+}
+
+/// What a message for the block carries of the body: that block, or all where it names none, or one of
+/// the representation.
+fn carried(method: u8, body: &[u8], block: Option<Block>) -> &[u8]
+    requires num { IfSome block (λ b. b.num < 2 ^ 20) }
+    requires szx { IfSome block (λ b. b.szx < 7) }
+    ensures { result.now ≡ carried_by method block body.now }
+{
+    match block {
+        Some(block) if method != GET => slice_of(block, body),
+        _ => body,
+    }
 }
 
 /// Appends the payload after its marker, or nothing where there is none.
@@ -113,16 +193,21 @@ pub(crate) fn body_in(came: &Incoming) -> &[u8]
     }
 }
 
-/// The datagram of a request with this meaning and body, under this message ID and token.
+/// The datagram of a request with this meaning and body, for the block that is named or for the first,
+/// under this message ID and token.
 pub(crate) fn datagram_of(
     alloc: Global,
     meaning: &Meaning,
     body: &[u8],
+    block: Option<Block>,
     mid: u16,
     token: &Token,
 ) -> Result<Option<Bytes>, AllocError>
-    requires { IsSendable (sense_of meaning.now body.now) }
-    ensures { IfOk result (λ o. IsSentFor (sense_of meaning.now body.now) mid token.now o) }
+    requires sendable { IsSendable (sense_of meaning.now body.now) }
+    requires num { IfSome block (λ b. b.num < 2 ^ 20) }
+    requires szx { IfSome block (λ b. b.szx < 7) }
+    ensures { IfOk result (λ o. IsSentFor (sense_of meaning.now body.now)
+        (block_named (sense_of meaning.now body.now) block) mid token.now o) }
 {
     match meaning {
         Meaning::Ask {
@@ -133,15 +218,20 @@ pub(crate) fn datagram_of(
             payload,
             ..
         } => {
+            let code = method.code();
+            let body = bytes_of(payload, body);
+            let named = block_or_first(code, body, block);
+            let mut options = options_for(alloc, target, *format, *accept)?;
+            push_block(alloc, &mut options, code, named)?;
             let message = Message {
                 kind: MsgType::Con,
-                code: method.code(),
+                code,
                 mid,
                 token: *token,
-                options: options_for(alloc, target, *format, *accept)?,
+                options,
                 payload: Vec::new(alloc),
             };
-            let bytes = bytes_with(alloc, &message, bytes_of(payload, body))?;
+            let bytes = bytes_with(alloc, &message, carried(code, body, named))?;
             Ok(Some(Bytes::of(bytes)))
         }
         Meaning::Refuse(_, _) => Ok(None),

@@ -1,3 +1,4 @@
+pub mod CallerLemmas
 pub mod WholeBlocks
 pub mod Blocks
 pub mod Answering

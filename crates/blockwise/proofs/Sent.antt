@@ -7,7 +7,7 @@ use Rattle.coap_codec.specs.Spelling.{Content}
 use Rattle.coap_codec.specs.declared.block.Block.{Block}
 use Rattle.coap_codec.specs.Recognition.{class_of}
 use Rattle.blockwise.specs.Reading.{block_in, size_of, goes_on, offset_in}
-use Rattle.blockwise.specs.Uploads.{UploadValue, IsSound, begun, is_last, is_whole, block_at, next_block, next_payload, next_szx, next_of}
+use Rattle.blockwise.specs.Uploads.{UploadValue, IsAligned, IsSound, begun, is_last, is_whole, block_at, next_block, next_payload, next_szx, slice_of, next_of}
 use Rattle.blockwise.specs.Joins.{IsFull, IsSized, Part, next_part, IsPartAt, AreInOrder, joined, sent, AllGo, UploadsJoin, AreAnswers, UploadsAnswered, UploadsSucceed}
 use Rattle.blockwise.proofs.WholeBlocks.{whole_number, one_block_more}
 use Rattle.blockwise.proofs.Answering.{outcome_answers, answers_outcome}
@@ -22,13 +22,21 @@ pub next_szx-le : (b : Option Block) (szx : ℕ) → next_szx b szx ≤ szx
 next_szx-le None szx = omega arith
 next_szx-le (Some b) szx = search rules
 
-next_is_sound : (u : UploadValue) (m : Content) → is_last u ≡ false → IsSound u → IsSound (next_of u m)
+pub next_is_sound : (u : UploadValue) (m : Content) → is_last u ≡ false → IsSound u → IsSound (next_of u m)
 next_is_sound u m more h = record {
   len = h.len;
   taken = omega (arith, more_left u.len (u.taken + size_of u.szx) more);
   szx = omega (arith, h.szx, next_szx-le (block_in 27 m) u.szx);
   aligned = one_block_more u.taken u.szx (next_szx (block_in 27 m) u.szx) (next_szx-le (block_in 27 m) u.szx) h.aligned;
 }
+
+pub start_is_sound : (len szx : ℕ) → len ≤ 65536 → szx < 7 → IsSound (begun len szx)
+start_is_sound len szx short lt =
+    record { len = short; taken = omega arith; szx = lt; aligned = record { num = 0; blocks = sym (zero-mul (size_of szx)) } }
+
+-- The next piece is the slice of the body that its block has.
+pub slice_is_next : (u : UploadValue) (body : List ℕ) → u.szx < 7 → IsAligned u.taken u.szx → slice_of (block_at u) body ≡ next_payload u body
+slice_is_next u body lt aligned = ap (λ (n : ℕ). take (size_of u.szx) (drop n body)) (whole_number u.taken u.szx lt aligned)
 
 -- The only piece is the first and the last.
 and_both : (a b : Bool) → (a && b) ≡ true → (a ≡ true) × (b ≡ true)
@@ -73,7 +81,7 @@ short_by : (last : Bool) (len size : ℕ) → last ≡ true → len ≤ size →
 short_by true len size e h = h
 short_by false len size e h = absurd cc
 
-part_is_at : (u : UploadValue) (body : List ℕ) → IsSound u → IsFull (not (is_last u)) (length (next_payload u body)) (size_of u.szx) → IsPartAt u.taken (next_part u body)
+pub part_is_at : (u : UploadValue) (body : List ℕ) → IsSound u → IsFull (not (is_last u)) (length (next_payload u body)) (size_of u.szx) → IsPartAt u.taken (next_part u body)
 part_is_at u body h full = record {
   offset = offset_by u (is_whole u) (only_first u) h;
   sized = sized_by u (is_whole u) (length (next_payload u body)) full;
@@ -101,7 +109,7 @@ sent_joins body u (m ∷ ms) len h go =
 
 pub uploads : UploadsJoin
 uploads body szx ms short lt go =
-    let start : IsSound (begun (length body) szx) = record { len = short; taken = omega arith; szx = lt; aligned = record { num = 0; blocks = sym (zero-mul (size_of szx)) } } in
+    let start = start_is_sound (length body) szx short lt in
     let all = sent_joins body (begun (length body) szx) ms refl start go in
     record { in_order = all.0; join = all.1 }
 

@@ -51,6 +51,10 @@ block_at u = record { num = next_num u; more = not (is_last u); szx = u.szx }
 abbrev pub next_block : UploadValue → Option Block
 next_block u = if is_whole u then None else Some (block_at u)
 
+-- the bytes of a body that a block has (RFC 7959, section 2.2)
+abbrev pub slice_of : Block → List ℕ → List ℕ
+slice_of b body = take (size_of b.szx) (drop (b.num * size_of b.szx) body)
+
 -- An answer may ask for smaller pieces (RFC 7959, section 2.5).
 abbrev pub next_szx : Option Block → ℕ → ℕ
 next_szx None szx = szx

@@ -30,4 +30,4 @@ pub use pieces::{Pieces, Step, is_only_piece};
 pub use reading::answers_piece;
 pub use representation::{EntityTag, Representation};
 pub use sizes::LARGEST_SZX;
-pub use upload::{Answered, Piece, Upload};
+pub use upload::{Answered, Piece, Upload, slice_of};

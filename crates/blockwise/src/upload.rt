@@ -3,7 +3,7 @@
 ghost use Rattle.std.specs.Prelude.{◌≡◌, ◌≢◌, ◌≤◌, ◌<◌, ◌*◌, ◌^◌, ◌+◌, ◌↔◌, IfSome, length};
 ghost use Rattle.limits.specs.declared.TheConstants.{MAX_BODY_LEN};
 ghost use Rattle.coap_codec.specs.Spelling.{content};
-ghost use Rattle.blockwise.specs.Uploads.{begun, is_last, next_block, next_payload, next_szx, if_final, answer_to, next_of, Continues, Responds};
+ghost use Rattle.blockwise.specs.Uploads.{begun, is_last, next_block, next_payload, next_szx, slice_of, if_final, answer_to, next_of, Continues, Responds};
 
 use crate::reading::{answers_piece, block1_in, is_final};
 use crate::sizes::size_of;
@@ -54,6 +54,19 @@ pub enum Answered {
     Last,
     /// It can't be an answer to this piece.
     Wrong,
+}
+
+/// The bytes of a body that the block has: none where it lies past the end.
+pub fn slice_of(block: Block, body: &[u8]) -> &[u8]
+    requires num { block.num < 2 ^ 20 }
+    requires szx { block.szx < 7 }
+    ensures slice { result.now ≡ slice_of block body.now }
+    ensures short { length result.now ≤ 1024 }
+{
+    let size = size_of(block.szx);
+    let start = (block.num as usize * size).min(body.len());
+    let rest = &body[start..];
+    &rest[..rest.len().min(size)]
 }
 
 /// The answer is the whole response if its code is the final one.
@@ -112,6 +125,25 @@ impl Upload {
         self.len <= self.taken + size_of(self.szx)
     }
 
+    /// The Block1 of the next piece: none where the body goes whole.
+    pub fn next_block(&self) -> Option<Block>
+        ensures block { result ≡ next_block self.now }
+        // The block begins where the bytes that were taken end, and a Block option can say it.
+        ensures offset { IfSome result (λ b. b.num * 2 ^ (b.szx + 4) ≡ self.now.taken) }
+        ensures num { IfSome result (λ b. b.num < 2 ^ 20) }
+        ensures szx { IfSome result (λ b. b.szx < 7) }
+    {
+        let last = self.is_last();
+        if self.taken == 0 && last {
+            return None;
+        }
+        Some(Block {
+            num: (self.taken / size_of(self.szx)) as u32,
+            more: !last,
+            szx: self.szx,
+        })
+    }
+
     /// The next piece of the body. Until an answer to it says `Next`, it stays the same.
     pub fn next_piece<'a>(&self, body: &'a [u8]) -> Piece<'a>
         requires { length body.now ≡ self.now.len }
@@ -122,24 +154,10 @@ impl Upload {
         ensures num { IfSome result.block (λ b. b.num < 2 ^ 20) }
         ensures szx { IfSome result.block (λ b. b.szx < 7) }
     {
-        let size = size_of(self.szx);
         let rest = &body[self.taken..];
-        let payload = &rest[..rest.len().min(size)];
-        let last = self.is_last();
-        if self.taken == 0 && last {
-            return Piece {
-                block: None,
-                payload,
-            };
-        }
-        let block = Block {
-            num: (self.taken / size) as u32,
-            more: !last,
-            szx: self.szx,
-        };
         Piece {
-            block: Some(block),
-            payload,
+            block: self.next_block(),
+            payload: &rest[..rest.len().min(size_of(self.szx))],
         }
     }
 
