@@ -1,14 +1,15 @@
 -- Requests that one message asks: what was sent for the one was sent for the other.
-use Rattle.std.proofs.Common.{◌≡◌, ℕ, ◌⊎◌, true, eqb, inl, inr, List, [], sym, ap, subst, ◌∙◌}
+use Rattle.std.proofs.Common.{◌≡◌, ℕ, ◌⊎◌, true, eqb, inl, inr, List, [], Option, refl, sym, ap, subst, ◌∙◌}
 use Rattle.std.proofs.lemmas.Bool.{and_parts}
 use Rattle.coap_codec.specs.Spelling.{Content}
+use Rattle.coap_codec.specs.declared.block.Block.{Block}
 use Rattle.uri_map.specs.declared.peer.Peer.{Peer}
 use Rattle.ask_model.specs.Requests.{CoapRequest, request_message}
 use Rattle.ask_model.specs.Sharing.{is_get, asks_same}
 use Rattle.ask_model.proofs.CallerLemmas.{asks-alike}
 use Rattle.journal_book.specs.Entries.{Written}
 use Rattle.history_laws.specs.Readings.{Noted}
-use Rattle.history_laws.proofs.CallerLemmas.{eqb-same, reader-alike, Reader}
+use Rattle.history_laws.proofs.CallerLemmas.{blocks-alike, eqb-same, reader-alike, Reader}
 use Rattle.history_claims.specs.Headline.{IsFirstSending, IsSentFor, IsResponse, IsNew, IsUnanswered, IsHeardFor, IsSameGet}
 
 pub record IsLike (r q : CoapRequest) : Type 0 where
@@ -21,26 +22,30 @@ like-method r q like = ap (λ (m : Content). m.code) (like.message 0 [])
 pub like-get : (r q : CoapRequest) → IsLike r q → q.method ≡ 1 → IsSameGet q r
 like-get r q like get = (get, sym like.peer, λ mid token. sym (like.message mid token))
 
-pub sent-like : (h : List Written) (o : ℕ) (r q : CoapRequest) (i : ℕ) (m : Content) → IsLike r q → IsSentFor h o r i m → IsSentFor h o q i m
-sent-like h o r q i m like s =
+pub sent-like : (h : List Written) (o : ℕ) (r q : CoapRequest) (block : Option Block) (i : ℕ) (m : Content) → IsLike r q
+    → IsSentFor h o r block i m → IsSentFor h o q block i m
+sent-like h o r q block i m like s =
     record {
       after = s.after;
       moment = s.moment;
       first = subst (λ (p : Peer). IsFirstSending h i s.moment p m) like.peer s.first;
-      asks = s.asks ∙ like.message m.mid m.token;
+      asks = s.asks ∙ blocks-alike r q m.mid m.token block (like.message m.mid m.token);
       issued = s.issued;
     }
 
-pub heard-like : (h : List Written) (o : ℕ) (r q : CoapRequest) (j : ℕ) (m : Content) → IsLike r q → IsHeardFor h o r j m → IsHeardFor h o q j m
-heard-like h o r q j m like s =
-    record {
-      sending = s.sending;
-      sent = s.sent;
-      sent_for = sent-like h o r q s.sending s.sent like s.sent_for;
-      response = subst (λ (p : Peer). IsResponse h p s.sending s.sent j m) like.peer s.response;
-      new = subst (λ (p : Peer). IsNew h p j) like.peer s.new;
-      first = subst (λ (p : Peer). IsUnanswered h p s.sending s.sent j) like.peer s.first;
-    }
+pub heard-like : (h : List Written) (o : ℕ) (r q : CoapRequest) (block : Option Block) (j : ℕ) (m : Content) → IsLike r q
+    → (s : IsHeardFor h o r block j m) → (t : IsHeardFor h o q block j m) × (t.sending ≡ s.sending)
+heard-like h o r q block j m like s = (
+  record {
+    sending = s.sending;
+    sent = s.sent;
+    sent_for = sent-like h o r q block s.sending s.sent like s.sent_for;
+    response = subst (λ (p : Peer). IsResponse h p s.sending s.sent j m) like.peer s.response;
+    new = subst (λ (p : Peer). IsNew h p j) like.peer s.new;
+    first = subst (λ (p : Peer). IsUnanswered h p s.sending s.sent j) like.peer s.first;
+  },
+  refl,
+)
 
 -- what asks the same is a GET
 pub same-get : (q r : CoapRequest) → asks_same q r ≡ true → q.method ≡ 1

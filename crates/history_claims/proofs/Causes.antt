@@ -1,10 +1,13 @@
 -- An own answer names its cause.
-use Rattle.std.proofs.Common.{◌≡◌, ℕ, ◌+◌, ◌<◌, ◌≤◌, ◌⊎◌, true, false, inl, inr, List, [], ◌∷◌, length, Option, Some, None, refl, sym, ap, subst, ◌∙◌, arith}
+use Rattle.std.proofs.Common.{◌≡◌, ℕ, ◌+◌, ◌<◌, ◌≤◌, ◌⊎◌, true, inl, inr, List, [], ◌∷◌, ◌++◌, length, Option, Some, None, refl, sym, ap, subst, ◌∙◌, arith}
 use Rattle.std.specs.Prelude.{is_none}
 use Rattle.std.proofs.lemmas.Bool.Decides.{eqb_tells, leb_tells}
+use Rattle.std.specs.List.{Contains}
 use Rattle.std.proofs.lemmas.Bool.{false≢true, or_cases}
+use Rattle.std.proofs.lemmas.List.Elements.{Contains-push}
 use Rattle.limits.specs.declared.TheConstants.{MAX_TRANSMIT_WAIT}
 use Rattle.coap_codec.specs.declared.message.MsgType.TheVariants.{Rst}
+use Rattle.coap_codec.specs.declared.block.Block.{Block}
 use Rattle.coap_codec.specs.Spelling.{Content}
 use Rattle.uri_map.specs.declared.peer.Peer.{Peer}
 use Rattle.ask_model.specs.Requests.{CoapRequest, Requests, Refuses}
@@ -12,32 +15,32 @@ use Rattle.ask_model.specs.Views.{Ask}
 use Rattle.ask_model.specs.declared.cause.Cause.{Cause}
 use Rattle.ask_model.specs.declared.cause.Cause.TheVariants as C
 use Rattle.journal_book.specs.Entries.{Fault, Answers, Hears, Passes, Written}
-use Rattle.history_laws.specs.Responses.{is_whole, whole_of}
 use Rattle.history_laws.specs.Confirmations.{empty}
 use Rattle.history_laws.specs.Connections.{is_open}
 use Rattle.history_laws.specs.Readings.{Noted, Note, Plain, Begins, Says, entries, at, before, noted}
-use Rattle.history_laws.specs.Progress.{Reply, NotUnderstood, Reset, TimedOut}
+use Rattle.history_laws.specs.Progress.{Reply, Ending, Reset, TimedOut, Turned}
 use Rattle.history_laws.specs.Transmissions.{Transmission, given_up, transmission, sent_last}
-use Rattle.history_laws.specs.Exchanges.{Begun, begun, late_by, is_late, Expired, expires, turn, waits_for, replies, end_here}
+use Rattle.history_laws.specs.Exchanges.{Begun, begun, late_by, is_late, Expired, expires, turn, waits_for, replies, end_here, end_of}
 use Rattle.history_laws.specs.Justified.{IsAsk, IsTurnedAway as WasTurnedAway, IsRefused as WasRefused, IsOverdue, Caused, Ends, reads, pending, Follows, MayCome, Legal, Stands}
 use Rattle.history_laws.specs.Laws.{IsFirst}
-use Rattle.history_laws.proofs.CallerLemmas.{asked-for, at-before, at-below, at-newest, at-same, at-still, before-twice, begun-before, ends-first, follows-at, going-unreplied, IsFirst-below, legal-before, length-before, none-after-end, replies-fit, sent-for, sent-once, some-is, turn-replied, waits-first}
+use Rattle.history_laws.proofs.CallerLemmas.{asked-for, at-before, at-below, at-newest, at-same, at-still, before-twice, begun-before, ends-first, follows-at, IsFirst-below, legal-before, length-before, none-after-end, none-some, replies-fit, sent-for, some-is, waits-first}
 use Rattle.history_claims.specs.Headline.{IsEntry, IsSentFor, IsHeard, IsUnanswered}
-use Rattle.history_claims.specs.Causes.{IsUnsettled, IsUnsent, IsTurnedAway, IsTimedOut, IsGivenUp, IsReset, IsNotUnderstood, IsRefused, IsCausedBy, AreCaused}
+use Rattle.history_claims.specs.Causes.{IsUnsettled, IsUnsent, IsTurnedAway, IsCutOff, IsRepliedTo, IsTimedOut, IsGivenUp, IsReset, IsRefused, IsCausedBy, AreCaused}
 use Rattle.history_claims.proofs.Entries.{entries-at, newest-before}
 use Rattle.history_claims.proofs.Sending.{first-before, sent-as}
 use Rattle.history_claims.proofs.Repeats.{heard-entry}
-use Rattle.history_claims.proofs.Waiting.{unanswered-till, going-waits, heard-in}
+use Rattle.history_claims.proofs.Waiting.{unanswered-till, IsLatest, last-newest, latest}
 use Rattle.history_claims.proofs.Hands.{no-input}
-use Rattle.history_claims.proofs.Alike.{like-method, sent-like, heard-like}
+use Rattle.history_claims.proofs.Alike.{sent-like}
 use Rattle.history_claims.proofs.Asking.{answers-ask, asked-by}
 use Rattle.history_claims.proofs.Pending.{unsent-in}
 use Rattle.history_claims.proofs.Readers.{Reads, reads-at}
-use Rattle.history_claims.proofs.Ending.{turn-expired, reset-turn, expired-turn, failed-turn, reply-listed, rejected-in}
-use Rattle.history_claims.proofs.Unsent.{Over, none-for-other, sent-last-none, sent-last-first, never-sent}
+use Rattle.history_claims.proofs.Ending.{turn-expired, reset-turn, expired-turn, rejected-in}
+use Rattle.history_claims.proofs.Unsent.{Over, none-for-other, sent-last-none, sent-last-first}
 use Rattle.history_claims.proofs.GivenUp.{unsettled-till, given-up-at}
 use Rattle.history_claims.proofs.Alone.{alone}
 use Rattle.history_claims.proofs.Crowded.{crowded-at}
+use Rattle.history_claims.proofs.Halted.{stands-as, not-understood, unsent-after, cut-off, replied-last}
 
 not-late : (t : ℕ) (b : Begun) → late_by t b ≡ true → b.since + MAX_TRANSMIT_WAIT ≤ t
 not-late t b e = elim (leb_tells (b.since + MAX_TRANSMIT_WAIT) t) [ inl v ↦ v.1 | inr v ↦ absurd (false≢true (sym v.0 ∙ e)) ]
@@ -56,12 +59,6 @@ hears-not s t p b u v e = go (ap (λ (x : Noted). x.written.deed) e)
   where
     go : Hears p b ≡ Passes → ⊥
     go f = cc
-
-stands-as : (l : List Noted) (n : ℕ) (x y : Noted) → at l n ≡ Some x → x ≡ y → at l n ≡ Some y
-stands-as l n x y e f = e ∙ ap (λ (v : Noted). Some v) f
-
-whole-none : (q : CoapRequest) (m : Content) → is_whole q.method m ≡ false → whole_of q (m ∷ []) ≡ None
-whole-none q m e = rw e refl
 
 plain-begins : (q : CoapRequest) → Plain ≡ Begins q → ⊥
 plain-begins q e = cc
@@ -90,8 +87,9 @@ module _ (l : List Noted) (n t c k : ℕ) (cause : Cause) (j : ℕ) (legal : Leg
         asked = asked-by l n c k ask (Requests h.request) h.moment h.conn h.ask Plain asked stands h.sense;
         alone = alone l k h.moment h.conn h.ask h.request legal stands h.sense;
         crowded = crowded-at l k h.moment h.conn h.ask h.request legal stands h.sense;
-        unsent = unsent-in l k k h.request legal (none-for-other l k h.conn h.moment h.ask Plain legal stands plain-begins)
-            (none-for-other l k h.conn h.moment h.ask Plain legal stands plain-begins);
+        unsent = unsent-in l k k k h.request legal
+            (λ t i p m late. none-for-other l k h.conn h.moment h.ask Plain legal stands plain-begins t i p m)
+            (λ t i p m late. none-for-other l k h.conn h.moment h.ask Plain legal stands plain-begins t i p m);
       }
 
   refused : (cause : Cause) → WasRefused (before l n) k cause → IsRefused (entries l) c k cause
@@ -144,7 +142,8 @@ module _ (l : List Noted) (n t c k : ℕ) (cause : Cause) (j : ℕ) (legal : Leg
             live = x.later j Reset h;
             sending = it.sending;
             sent = it.sent;
-            sent_for = sent-like (entries l) o x.exchange.request q it.sending it.sent x.like sent.1;
+            block = sent.1;
+            sent_for = sent-like (entries l) o x.exchange.request q sent.1 it.sending it.sent x.like sent.2;
             after = subst (λ (m : ℕ). it.sending < m) (length-before (before l n) j y end.1) (IsFirst-below late it.sent_at o it.sending it.peer it.sent it.first);
             unsettled = subst (λ (p : Peer). IsUnsettled (entries l) p it.sending it.sent j) peer unsettled;
             reset = y.written.moment;
@@ -153,43 +152,20 @@ module _ (l : List Noted) (n t c k : ℕ) (cause : Cause) (j : ℕ) (legal : Leg
           },
         )
 
-    not-understood : Ends (before l n) o j NotUnderstood → (j < n) × IsNotUnderstood (entries l) c k j
-    not-understood h =
-        let end = ends-first (before l n) o j NotUnderstood h in
-        let y : Noted = end.0 in
-        let late = before (before l n) j in
-        let it = failed-turn (begun late o) (turn late o y) j (replies late o) (going-unreplied late o end.2) end.3 in
-        let r : Reply = record { number = j; sending = it.sending; message = it.message } in
-        let has = reply-listed (before l n) j o it.sending it.message y end.1 it.is in
-        let fits = replies-fit (before l n) o r early has in
-        let w = waits-first late o it.sending (turn-replied late o y it.sending it.message it.is).waited in
-        let s = sent-for late w.0 o it.sending w.1 w.2 (legal-before (before l n) j early) w.3 in
-        let same : s.exchange ≡ x.exchange = some-is _ _ (sym (begun-before l n o _ (begun-before (before l n) j o _ s.opened)) ∙ x.opened) in
-        let opened : begun late o ≡ Some x.exchange = s.opened ∙ ap (λ (b : Begun). Some b) same in
-        let fails : is_whole q.method it.message ≡ false =
-        subst (λ (n : ℕ). is_whole n it.message ≡ false) (like-method x.exchange.request q x.like) (it.fails x.exchange opened) in (
-          below j y end.1,
-          record {
-            request = q;
-            opening = o;
-            since = x.exchange.since;
-            shared = x.shared;
-            live = x.later j NotUnderstood h;
-            message = it.message;
-            heard = heard-like (entries l) o x.exchange.request q j it.message x.like (heard-in l n o r x.exchange _ legal x.opened here has fits);
-            fails = whole-none q it.message fails;
-          },
-        )
+    -- the message for the ask, to which no reply came, or the latest one, or none
+    abbrev Unheard : Type 0
+    Unheard = (m : Content) × (block : Option Block) × IsSentFor (entries l) o q block j m × IsUnanswered (entries l) q.peer j m n
 
-    -- the message for the ask, to which no reply came, or none
     abbrev Named : Type 0
-    Named = ((m : Content) × IsSentFor (entries l) o q j m × IsUnanswered (entries l) q.peer j m n) ⊎ ((j ≡ k) × IsUnsent (entries l) k o q)
+    Named = Unheard ⊎ (IsRepliedTo (entries l) n k o q j ⊎ ((j ≡ k) × IsUnsent (entries l) o k o q))
 
     abbrev IsNamed : Type 0
     IsNamed = (sent_last (before l n) o ≡ Some j) ⊎ ((sent_last (before l n) o ≡ None) × (j ≡ k))
 
     abbrev IsOver : Type 0
-    IsOver = (x.exchange.since + MAX_TRANSMIT_WAIT ≤ t) ⊎ ((m : Content) × IsSentFor (entries l) o q j m × IsGivenUp (entries l) k t q.peer j m)
+    IsOver =
+        (x.exchange.since + MAX_TRANSMIT_WAIT ≤ t)
+        ⊎ ((m : Content) × (block : Option Block) × IsSentFor (entries l) o q block j m × IsGivenUp (entries l) k t q.peer j m)
 
     -- the latest first sending of the exchange
     last-first : sent_last (before l n) o ≡ Some j → (s : ℕ) × (p : Peer) × (m : Content) × IsFirst (before l n) s o j p m
@@ -198,6 +174,25 @@ module _ (l : List Noted) (n t c k : ℕ) (cause : Cause) (j : ℕ) (legal : Leg
         let ask = ask-before in
         let first = x.not_later in
         sent-last-first (before l n) o j it.conn x.exchange.since it.ask _ (at-still l n o _ _ here (omega (arith, first, ask)) it.stands) some
+
+    -- which is the newest of them, also before its end
+    newest : sent_last (before l n) o ≡ Some j → (s i : ℕ) (p : Peer) (m : Content) → IsFirst (before l n) s o i p m → i ≤ j
+    newest some s i p m f = last-newest (before l n) s o i j p m some f
+
+    first-then : (e : ℕ) (how : Ending) → Ends (before l n) o e how → (s : ℕ) (p : Peer) (m : Content) → IsFirst (before l n) s o j p m
+        → IsFirst (before (before l n) e) s o j p m
+    first-then e how h s p m f =
+        let end = ends-first (before l n) o e how h in
+        let sooner = none-after-end (before l n) s o j e p m how early f h in
+        record { bytes = f.bytes; timeout = f.timeout; stands = at-still (before l n) e j _ _ end.1 sooner f.stands }
+
+    latest-then : (e : ℕ) (how : Ending) → Ends (before l n) o e how → sent_last (before l n) o ≡ Some j
+        → IsLatest (waits_for (before (before l n) e) o) (replies (before (before l n) e) o) j
+    latest-then e how h some =
+        let end = ends-first (before l n) o e how h in
+        let f = last-first some in
+        latest (before (before l n) e) f.0 o j f.1 f.2 (first-then e how h f.0 f.1 f.2 f.3) end.2
+        (λ s i p m g. newest some s i p m (first-before (before l n) e s o i p m g))
 
     -- a tick found the exchange past its end, or its message given up
     expired : (e : ℕ) → IsNamed → Ends (before l n) o e TimedOut → IsOver
@@ -214,11 +209,11 @@ module _ (l : List Noted) (n t c k : ℕ) (cause : Cause) (j : ℕ) (legal : Leg
         by-late : (s : ℕ) → s ≤ t → is_late s (begun (before l e) o) ≡ true → IsOver
         by-late s soon late = let since = late-since l e o s x.exchange x.opened late in inl (omega (arith, since, soon))
 
-        that-one : (s i : ℕ) (p : Peer) (m : Content) → IsFirst l s o i p m → IsFirst (before l n) s o i p m → IsNamed → i ≡ j
-        that-one s i p m first soon (inl some) =
-            let f = last-first some in
-            sent-once l s f.0 o i j p f.1 m f.2 legal first (first-before l n f.0 o j f.1 f.2 f.3)
-        that-one s i p m first soon (inr none) = absurd (sent-last-none (before l n) s o i p m none.0 soon)
+        that-one : (i : ℕ) → waits_for (before (before l n) e) o ≡ Some i → (s : ℕ) (p : Peer) (m : Content) → IsFirst (before l n) s o i p m
+            → IsNamed → i ≡ j
+        that-one i waits s p m soon (inl some) =
+            elim (latest-then e TimedOut h some) [ inl w ↦ some-is _ _ (sym waits ∙ w) | inr w ↦ absurd (none-some i (sym w.4 ∙ waits)) ]
+        that-one i waits s p m soon (inr none) = absurd (sent-last-none (before l n) s o i p m none.0 soon)
 
         twice : before (before l n) e ≡ before l e
         twice = let end = ends-first (before l n) o e TimedOut h in before-twice l n e _ here (below e end.0 end.1)
@@ -234,9 +229,11 @@ module _ (l : List Noted) (n t c k : ℕ) (cause : Cause) (j : ℕ) (legal : Leg
             let sent = sent-as l w.0 o i w.1 w.2 x.exchange legal x.opened first in
             let was : IsFirst (before l n) w.0 o i w.1 w.2 =
             first-before (before l n) e w.0 o i w.1 w.2 (subst (λ (v : List Noted). IsFirst v w.0 o i w.1 w.2) (sym twice) w.3) in
-            let same : i ≡ j = that-one w.0 i w.1 w.2 first was named in
-            subst (λ (j : ℕ). (x.exchange.since + MAX_TRANSMIT_WAIT ≤ t) ⊎ ((m : Content) × IsSentFor (entries l) o q j m × IsGivenUp (entries l) k t q.peer j m)) same
-            (inr (w.2, sent-like (entries l) o x.exchange.request q i w.2 x.like sent.1, subst (λ (p : Peer). IsGivenUp (entries l) k t p i w.2) (sent.0 ∙ x.like.peer) up))
+            let same : i ≡ j = that-one i (subst (λ (v : List Noted). waits_for v o ≡ Some i) (sym twice) waits) w.0 w.1 w.2 was named in
+            let given = subst (λ (p : Peer). IsGivenUp (entries l) k t p i w.2) (sent.0 ∙ x.like.peer) up in
+            let for_it = sent-like (entries l) o x.exchange.request q sent.1 i w.2 x.like sent.2 in
+            inr (subst (λ (j : ℕ). (m : Content) × (block : Option Block) × IsSentFor (entries l) o q block j m × IsGivenUp (entries l) k t q.peer j m) same
+            (w.2, sent.1, for_it, given))
 
         go : (w : Option ℕ) → waits_for (before l e) o ≡ w → (s : ℕ) (note : Note) → s ≤ t → at l e ≡ Some (noted s Passes note)
             → expires (before l e) o s w ≡ true → IsOver
@@ -269,27 +266,20 @@ module _ (l : List Noted) (n t c k : ℕ) (cause : Cause) (j : ℕ) (legal : Leg
         comes : (v : List Noted) (s : ℕ) (p : Peer) (b : List ℕ) (note : Note) → Follows v s (Hears p b) note → MayCome v
         comes v s p b note may = may.0
 
-    unanswered : (s : ℕ) (p : Peer) (m : Content) → IsFirst (before l n) s o j p m → HasTimedOut → IsUnanswered (entries l) p j m n
-    unanswered s p m first (inr due) =
-        unanswered-till l n _ s o j p m legal early here first (going-waits (before l n) s o j p m early first due.1)
-    unanswered s p m first (inl ended) = λ i y less r.
-        let e : ℕ = ended.0 in
-        let end = ends-first (before l n) o e TimedOut ended.1 in
+    unanswered-then : (e : ℕ) (h : Ends (before l n) o e TimedOut) (s : ℕ) (p : Peer) (m : Content) → IsFirst (before l n) s o j p m
+        → waits_for (before (before l n) e) o ≡ Some j → IsUnanswered (entries l) p j m n
+    unanswered-then e h s p m first waits i y less r =
+        let end = ends-first (before l n) o e TimedOut h in
         let there = at-before l n e end.0 end.1 in
-        let before_end : e < n = below e end.0 end.1 in
-        let twice : before (before l n) e ≡ before l e = before-twice l n e _ here before_end in
+        let twice : before (before l n) e ≡ before l e = before-twice l n e _ here (below e end.0 end.1) in
         elim (leb_tells e i) [
           | inl w ↦ elim (eqb_tells e i) [
             | inl u ↦ absurd (not-heard e i end.0 p y r.moment u.1 there end.3 r.heard)
-            | inr u ↦ let le = w.1 in let not = u.1 in absurd (heard-late e i r.moment p y ended.1 (omega (arith, le, not)) less r.heard)
+            | inr u ↦ let le = w.1 in let not = u.1 in absurd (heard-late e i r.moment p y h (omega (arith, le, not)) less r.heard)
           ]
           | inr w ↦
-              let sooner = none-after-end (before l n) s o j e p m TimedOut early first ended.1 in
-              let soon : IsFirst (before (before l n) e) s o j p m =
-              record { bytes = first.bytes; timeout = first.timeout; stands = at-still (before l n) e j _ _ end.1 sooner first.stands } in
-              let waits = going-waits (before (before l n) e) s o j p m (legal-before (before l n) e early) soon end.2 in
               unanswered-till l e end.0 s o j p m legal (legal-before l e legal) there
-              (subst (λ (v : List Noted). IsFirst v s o j p m) twice soon)
+              (subst (λ (v : List Noted). IsFirst v s o j p m) twice (first-then e TimedOut h s p m first))
               (subst (λ (v : List Noted). waits_for v o ≡ Some j) twice waits) i y w.1 r
         ]
       where
@@ -307,24 +297,63 @@ module _ (l : List Noted) (n t c k : ℕ) (cause : Cause) (j : ℕ) (legal : Leg
     over-now (inl end) = inl (ap is_none end.1)
     over-now (inr due) = inr due.0
 
-    names : HasTimedOut → IsNamed → (j < n) × Named
-    names how (inl some) =
+    -- No reply came to it, or the last of all did.
+    unheard : (s : ℕ) (p : Peer) (m : Content) → IsFirst (before l n) s o j p m → IsUnanswered (entries l) p j m n → Unheard
+    unheard s p m f none =
+        let sent = sent-as l s o j p m x.exchange legal x.opened (first-before l n s o j p m f) in (
+          m,
+          sent.1,
+          sent-like (entries l) o x.exchange.request q sent.1 j m x.like sent.2,
+          subst (λ (p : Peer). IsUnanswered (entries l) p j m n) (sent.0 ∙ x.like.peer) none,
+        )
+
+    -- it was opened before its message was sent
+    opened-for : (v : List Noted) (s : ℕ) (p : Peer) (m : Content) → Legal v → ((b : Begun) → begun v o ≡ Some b → begun l o ≡ Some b)
+        → IsFirst v s o j p m → begun v o ≡ Some x.exchange
+    opened-for v s p m legal grown f =
+        let it = sent-for v s o j p m legal f in
+        it.opened ∙ ap (λ (b : Begun). Some b) (some-is _ _ (sym (grown it.exchange it.opened) ∙ x.opened))
+
+    last-before : (v : List Noted) (others : List Reply) (last : Reply) → Legal v → replies v o ≡ others ++ last ∷ [] → length v ≤ n → last.number < n
+    last-before v others last legal all le =
+        let has : Contains (replies v o) last = subst (λ (rs : List Reply). Contains rs last) (sym all) (Contains-push others last) in
+        let fits = replies-fit v o last legal has in
+        let lt = at-below v last.number _ fits.heard in
+        omega (arith, lt, le)
+
+    named-by : HasTimedOut → sent_last (before l n) o ≡ Some j → Named
+    named-by (inr due) some =
         let f = last-first some in
-        let sent = sent-as l f.0 o j f.1 f.2 x.exchange legal x.opened (first-before l n f.0 o j f.1 f.2 f.3) in
-        let none = unanswered f.0 f.1 f.2 f.3 how in (
-          below j _ f.3.stands,
-          inl (
-            f.2,
-            sent-like (entries l) o x.exchange.request q j f.2 x.like sent.1,
-            subst (λ (p : Peer). IsUnanswered (entries l) p j f.2 n) (sent.0 ∙ x.like.peer) none,
-          ),
-        )
-    names how (inr none) =
-        let never : (s i : ℕ) (p : Peer) (m : Content) → IsFirst l s o i p m → ⊥ =
-        λ s i p m f. never-sent l n t c k o (Fault cause j) note legal here (over-now how) none.0 s i p m f in (
-          subst (λ (j : ℕ). j < n) (sym none.1) ask-before,
-          inr (none.1, unsent-in l k o q legal (x.sent never) never),
-        )
+        elim (latest (before l n) f.0 o j f.1 f.2 f.3 due.1 (newest some)) [
+          | inl waits ↦ inl (unheard f.0 f.1 f.2 f.3 (unanswered-till l n _ f.0 o j f.1 f.2 legal early here f.3 waits))
+          | inr w ↦
+              inr (inl (replied-last l n t c k o (Fault cause j) legal note here x j n _ here (opened-for (before l n) f.0 f.1 f.2 early (λ b e. begun-before l n o b e) f.3) due.1
+              (over-now (inr due)) (newest some) w.0 w.1 w.2 w.3 (last-before (before l n) w.0 w.1 early w.2 (omega (arith, len)))))
+        ]
+    named-by (inl ended) some =
+        let f = last-first some in
+        let e : ℕ = ended.0 in
+        let end = ends-first (before l n) o e TimedOut ended.1 in
+        let before_end : e < n = below e end.0 end.1 in
+        let there = at-before l n e end.0 end.1 in
+        let twice : before (before l n) e ≡ before l e = before-twice l n e _ here before_end in
+        let size = length-before l e _ there in
+        elim (latest-then e TimedOut ended.1 some) [
+          | inl waits ↦ inl (unheard f.0 f.1 f.2 f.3 (unanswered-then e ended.1 f.0 f.1 f.2 f.3 waits))
+          | inr w ↦
+              let all : replies (before l e) o ≡ w.0 ++ w.1 ∷ [] = subst (λ (v : List Noted). replies v o ≡ w.0 ++ w.1 ∷ []) twice w.2 in
+              let going = subst (λ (v : List Noted). end_of v o ≡ None) twice end.2 in
+              let first = subst (λ (v : List Noted). IsFirst v f.0 o j f.1 f.2) twice (first-then e TimedOut ended.1 f.0 f.1 f.2 f.3) in
+              inr (inl (replied-last l n t c k o (Fault cause j) legal note here x j e end.0 there (opened-for (before l e) f.0 f.1 f.2 (legal-before l e legal) (λ b g. begun-before l e o b g) first) going
+              (over-now (inl ended)) (newest some) w.0 w.1 all w.3 (last-before (before l e) w.0 w.1 (legal-before l e legal) all (omega (arith, size, before_end)))))
+        ]
+
+    names : HasTimedOut → IsNamed → (j < n) × Named
+    names how (inl some) = (below j _ (last-first some).3.stands, named-by how some)
+    names how (inr none) = (
+      subst (λ (j : ℕ). j < n) (sym none.1) ask-before,
+      inr (inr (none.1, unsent-after l n t c k o (Fault cause j) legal note here x o (over-now how) (λ s i p m late f. sent-last-none (before l n) s o i p m none.0 f))),
+    )
 
     timed-out : IsNamed → HasTimedOut → (j < n) × IsTimedOut (entries l) n t c k j
     timed-out named how =
@@ -338,10 +367,15 @@ module _ (l : List Noted) (n t c k : ℕ) (cause : Cause) (j : ℕ) (legal : Leg
         late (inr due) = inl (late-since l n o t x.exchange x.opened due.2)
 
   caused : (cause : Cause) → Caused (before l n) t k cause j → (j < n) × IsCausedBy (entries l) n t c k cause j
-  caused C.Busy h = (subst (λ (j : ℕ). j < n) (sym h.0) ask-before, (h.0, turned-away h.1))
+  caused C.Busy h = (subst (λ (j : ℕ). j < n) (sym h.0) ask-before, (h.0, busy h.1))
+    where
+      busy : WasTurnedAway (before l n) k ⊎ ((o : ℕ) × (e : ℕ) × (reads (before l n) k ≡ Some o) × Ends (before l n) o e Turned)
+          → IsTurnedAway (entries l) c k ⊎ IsCutOff (entries l) n c k
+      busy (inl away) = inl (turned-away away)
+      busy (inr cut) = inr (cut-off l n t c k cut.0 (Fault cause j) legal note here (x cut.0 cut.2) cut.1 cut.3)
   caused C.Timeout h = timed-out h.0 h.1 h.2 h.3
   caused C.Reset h = reset h.0 h.1 h.2
-  caused C.NotUnderstood h = not-understood h.0 h.1 h.2
+  caused C.NotUnderstood h = not-understood l n t c k h.0 (Fault cause j) legal note here (x h.0 h.1) j h.2
   caused C.BadHttp h = (subst (λ (j : ℕ). j < n) (sym h.1) ask-before, (h.1, refused C.BadHttp h.2))
   caused C.NoMap h = (subst (λ (j : ℕ). j < n) (sym h.1) ask-before, (h.1, refused C.NoMap h.2))
   caused C.Method h = (subst (λ (j : ℕ). j < n) (sym h.1) ask-before, (h.1, refused C.Method h.2))

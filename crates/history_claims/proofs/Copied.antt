@@ -23,7 +23,7 @@ repeated =
     (record { bytes = M.content_bytes; first = 2; stands = refl; spelled = content-spelled; repeats = refl })
 
 pub sent-again : SentAgain
-sent-again m s =
+sent-again block m s =
     let f = s.first in
     let text : M.get_bytes ≡ f.bytes = texts 100000 s.moment server server M.get_bytes f.bytes _ (Some f.timeout) f.stands in
     let is : m ≡ M.get_message = spells_one m M.get_message f.bytes f.spelled (subst (Spells M.get_message) text get-spelled) in

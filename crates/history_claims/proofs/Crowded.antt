@@ -1,5 +1,5 @@
--- That there was no room for an ask.
-use Rattle.std.proofs.Common.{◌≡◌, ℕ, ◌+◌, ◌<◌, ◌≤◌, true, false, ◌&&◌, inl, inr, List, [], ◌∷◌, length, map, filter, Option, Some, None, refl, subst, ◌∙◌, arith}
+-- That there was no room for an ask, or no place for the next message of one.
+use Rattle.std.proofs.Common.{◌≡◌, ℕ, ◌+◌, ◌-◌, ◌<◌, ◌≤◌, true, false, ◌&&◌, inl, inr, List, [], ◌∷◌, length, map, filter, Option, Some, None, refl, sym, subst, ◌∙◌, arith}
 use Rattle.std.specs.Prelude.{is_none, nat_lt, ⊤}
 use Rattle.std.specs.List.{Contains}
 use Rattle.std.proofs.lemmas.List.Sums.{length-filter}
@@ -15,16 +15,16 @@ use Rattle.history_claims.proofs.Sending.{first-before, listed-sent}
 use Rattle.history_claims.proofs.Pending.{pending-is}
 use Rattle.history_claims.proofs.Unshared.{unshared}
 use Rattle.history_claims.proofs.Counting.{apart-push, apart-filter, apart-filtered}
-use Rattle.journal_book.specs.Entries.{Sent, Deed, Sends, Asks, Carries, Written}
+use Rattle.journal_book.specs.Entries.{Sent, Deed, Sends, Hears, Asks, Carries, Written}
 use Rattle.history_laws.specs.Readings.{Noted, Note, Plain, First, Bygone, entries, at, before, noted}
 use Rattle.history_laws.specs.Connections.{is_sealed}
 use Rattle.history_laws.specs.Transmissions.{FirstSending, firsts_by, firsts, is_recent, mids_used}
 use Rattle.history_laws.specs.Exchanges.{Begun, begun, opens_by, opened_by, openings, is_going, open_exchanges, goes_to, is_waiting, waiting as waiting_at, waits_for, submitted}
-use Rattle.history_laws.specs.Hearing.{has_room}
+use Rattle.history_laws.specs.Hearing.{has_room, let_go, has_place}
 use Rattle.history_laws.specs.Justified.{AskNote, Follows, Legal}
-use Rattle.history_laws.proofs.CallerLemmas.{all-listed, all-of, at-before, begun-below, contains-mapped, filtered-from, follows-at, is-some, IsListed, length-before, listed-begun, listed-below, queue-rises, RisesBy, waiting-all}
+use Rattle.history_laws.proofs.CallerLemmas.{all-listed, all-of, at-before, begun-below, contains-mapped, filtered-from, first-or-later, follows-at, is-some, IsListed, length-before, listed-begun, listed-below, none-some, queue-rises, RisesBy, waiting-all, waiting-unsent}
 use Rattle.history_claims.specs.Headline.{IsPending}
-use Rattle.history_claims.specs.Causes.{AreApart, AreMany, AreUnshared, AreManyPending, IsRecent, IsCrowded, exchanges, waiting, ids}
+use Rattle.history_claims.specs.Causes.{AreApart, AreMany, AreUnshared, AreManyPending, IsRecent, IsCrowded, exchanges, waiting, ids, IsFull, queue, mids}
 
 openings-below : (l : List Noted) (o : ℕ) → Contains (openings l) o → o < length l
 openings-below l o h = let b = is-some (begun l o) (listed-begun l o h) in begun-below l o b.0 b.1
@@ -126,6 +126,32 @@ module _ (l : List Noted) (k : ℕ) (x : Noted) (legal : Legal l) (here : at l k
         unshared = λ a b first second lt. unshared-open a b (open-waiting p a first).0 (open-waiting p b second).0 lt;
       }
 
+  -- with one more, which waits for a reply
+  module _ (p : Peer) (o i : ℕ) (it : Open o) (to : it.exchange.request.peer ≡ p) (waits : waits_for (before l k) o ≡ Some i) where
+    not-among : Contains (waiting_at (before l k) p) o → ⊥
+    not-among h =
+        let is = all-of (λ (q : ℕ). is_waiting (before l k) p q ≡ true) (waiting_at (before l k) p) o (waiting-all (before l k) p) h in
+        none-some i (sym (waiting-unsent (before l k) p o is) ∙ waits)
+
+    among : (a : ℕ) → Contains (o ∷ waiting_at (before l k) p) a → (w : Open a) × (w.exchange.request.peer ≡ p)
+    among a h =
+        elim (first-or-later o (waiting_at (before l k) p) a h) [
+          | inl e ↦ subst (λ (a : ℕ). (w : Open a) × (w.exchange.request.peer ≡ p)) e (it, to)
+          | inr w ↦ open-waiting p a w
+        ]
+
+    many-with : AreManyPending (entries l) k (length (waiting_at (before l k) p) + 1) (λ (q : CoapRequest). q.peer ≡ p)
+    many-with =
+        record {
+          asks = record {
+            ones = o ∷ waiting_at (before l k) p;
+            many = omega arith;
+            apart = (not-among, rises-apart (submitted (before l k)) (waiting_at (before l k) p) (queue-rises (before l k) p));
+            each = λ a h. let w = among a h in (w.0.exchange.request, w.1, pending-open a w.0);
+          };
+          unshared = λ a b first second lt. unshared-open a b (among a first).0 (among b second).0 lt;
+        }
+
   many-recent : (t : ℕ) (p : Peer) → AreMany (mids_used (before l k) t p) (IsRecent (entries l) k t p)
   many-recent t p =
       let fs : List FirstSending = firsts (before l k) in
@@ -180,4 +206,25 @@ crowded-at l k s c a q legal here sense =
             ids (mids_used b s q.peer) (length (waiting_at b q.peer)) (least (mids_used b s q.peer + length (waiting_at b q.peer)) MAX_MESSAGE_IDS v)
             (many-recent l k x legal here unsealed s q.peer) (many-waiting l k x legal here unsealed q.peer)
       ]
+    ]
+
+-- There is no place for what an exchange sends next when its reply is heard.
+more-left : (n g m : ℕ) → nat_lt (n - g) m ≡ false → m + 1 ≤ n + 1
+more-left n g m e = let h = least (n - g) m e in omega (arith, h)
+
+pub full-at : (l : List Noted) (e s o i : ℕ) (p : Peer) (bytes : List ℕ) (note : Note) (b : Begun) → Legal l
+    → at l e ≡ Some (noted s (Hears p bytes) note) → begun (before l e) o ≡ Some b → b.request.peer ≡ p → is_going (before l e) o ≡ true
+    → waits_for (before l e) o ≡ Some i → has_place (before l e) s p (Some i) ≡ false → IsFull (entries l) e s p
+full-at l e s o i p bytes note b legal here opened to going waits none =
+    let follows : Follows (before l e) s (Hears p bytes) note = follows-at l e _ legal here in
+    let v : List Noted = before l e in
+    let x : Noted = noted s (Hears p bytes) note in
+    let unsealed = follows.0.0 in
+    let own : Open l e x legal here unsealed o = record { exchange = b; opened = opened; going = going } in
+    let with_own = many-with l e x legal here unsealed p o i own to waits in
+    elim (and_cases (nat_lt (length (waiting_at v p) - let_go v i) MAX_WAITING) _ none) [
+      | inl w ↦ queue (fewer-pending _ _ _ _ _ (more-left (length (waiting_at v p)) (let_go v i) MAX_WAITING w) with_own)
+      | inr w ↦
+          mids (mids_used v s p) (length (waiting_at v p)) (least (mids_used v s p + length (waiting_at v p)) MAX_MESSAGE_IDS w)
+          (many-recent l e x legal here unsealed s p) with_own
     ]

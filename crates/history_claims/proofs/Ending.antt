@@ -1,8 +1,7 @@
 -- How exchanges end: by which entry, and what that entry is.
-use Rattle.std.proofs.Common.{◌≡◌, ℕ, Bool, true, false, cond, eqb, leb, inl, inr, List, [], ◌∷◌, ◌++◌, length, Option, Some, None, refl, sym, ap, subst, ◌∙◌}
-use Rattle.std.specs.Prelude.{is_some, option_map, option_and_then, option_to_list}
+use Rattle.std.proofs.Common.{◌≡◌, ◌⊎◌, ℕ, ◌+◌, Bool, true, false, cond, eqb, leb, inl, inr, List, [], ◌∷◌, ◌++◌, length, Option, Some, None, Ok, Err, refl, sym, ap, subst, ◌∙◌, append_assoc, append-nil}
+use Rattle.std.specs.Prelude.{fold, is_some, option_map, option_and_then, option_to_list}
 use Rattle.std.specs.List.{Contains}
-use Rattle.std.proofs.lemmas.List.Elements.{Contains-append_left, Contains-push}
 use Rattle.std.proofs.lemmas.Bool.Decides.{eqb_tells}
 use Rattle.std.proofs.lemmas.Bool.{false≢true, and_parts}
 use Rattle.coap_codec.specs.declared.message.MsgType.{MsgType}
@@ -11,17 +10,25 @@ use Rattle.coap_codec.specs.Spelling.{Entry, Content, Spells}
 use Rattle.uri_map.specs.declared.peer.Peer.{Peer}
 use Rattle.uri_map.specs.Peers.{same_peer}
 use Rattle.uri_map.proofs.CallerLemmas.{same_peer-same}
+use Rattle.coap_codec.specs.Recognition.{is_forwardable}
+use Rattle.blockwise.specs.Downloads.{PiecesValue, no_pieces, Judged, judged, with_piece}
+use Rattle.blockwise.specs.Uploads.{UploadValue, begun as begun_as, answer_to}
+use Rattle.blockwise.specs.declared.upload.Answered.{Answered}
+use Rattle.blockwise.specs.declared.upload.Answered.TheVariants as A
+use Rattle.blockwise.specs.declared.fault.BlockFault.TheVariants as F
+use Rattle.blockwise.specs.declared.pieces.Step.TheVariants.{Next, Last}
+use Rattle.ask_model.specs.Requests.{CoapRequest}
 use Rattle.journal_book.specs.Entries.{Deed, Sends, Hears, Passes}
-use Rattle.history_laws.specs.Responses.{is_whole, response_of}
+use Rattle.history_laws.specs.Responses.{is_tellable}
 use Rattle.history_laws.specs.Confirmations.{empty}
 use Rattle.history_laws.specs.Readings.{Noted, Note, First, Says, Notice, at, before, noted}
-use Rattle.history_laws.specs.Progress.{Reply, Ending, Whole, NotUnderstood, Reset, TimedOut, replied}
+use Rattle.history_laws.specs.Progress.{Reply, Ending, Whole, NotUnderstood, Reset, TimedOut, Turned, Progress, Fetches, Gives, Ends, first_progress, answered_so, fetched_whole, fetched_by, step, progress, ended_by}
 use Rattle.history_laws.specs.Transmissions.{FirstSending, first_at, last_sent, Transmission, transmission, if_outstanding}
 use Rattle.history_laws.specs.Exchanges.{Turn, Nothing, Sent, Replied, Rejected, Expired, expires, answered_by, heard_turn, turn_by, turn, waits_for, replies_by, replies, end_here, Begun, replied_end}
 use Rattle.history_laws.specs.Hearing.{went_as, is_as, open_at, answers_by, answers}
 use Rattle.history_laws.specs.Justified.{MaySay, Follows}
 use Rattle.history_laws.specs.Laws.{IsFirst}
-use Rattle.history_laws.proofs.CallerLemmas.{contains-none, eqb-same, find-some, first-is, first-or-later, first_end, none-some, replied-first, some-is, waits-first}
+use Rattle.history_laws.proofs.CallerLemmas.{contains-none, eqb-same, find-some, first-is, first-or-later, none-some, some-is, waits-first}
 
 -- an entry that rejects what an exchange waits for
 pub record RejectedTurn (l : List Noted) (o : ℕ) (x : Noted) : Type 0 where
@@ -34,21 +41,21 @@ pub record RejectedTurn (l : List Noted) (o : ℕ) (x : Noted) : Type 0 where
   pub waited : waits_for l o ≡ Some to
   pub reset : message.kind ≡ Rst
 
-not-rejected : (i : ℕ) (m : Content) (b : Bool) → cond b (Replied i m) Nothing ≡ Rejected → ⊥
-not-rejected i m true e = cc
-not-rejected i m false e = cc
+not-rejected : (i : ℕ) (m : Content) (place b : Bool) → cond b (Replied i m place) Nothing ≡ Rejected → ⊥
+not-rejected i m place true e = cc
+not-rejected i m place false e = cc
 
-answered-rejects : (i : ℕ) (m : Content) (k : MsgType) → answered_by i m k ≡ Rejected → k ≡ Rst
-answered-rejects i m Con e = absurd (not-rejected i m (leb 32 m.code) e)
-answered-rejects i m Non e = absurd (not-rejected i m (leb 32 m.code) e)
-answered-rejects i m Ack e = absurd (not-rejected i m (leb 32 m.code) e)
-answered-rejects i m Rst e = refl
+answered-rejects : (i : ℕ) (m : Content) (place : Bool) (k : MsgType) → answered_by i m place k ≡ Rejected → k ≡ Rst
+answered-rejects i m place Con e = absurd (not-rejected i m place (leb 32 m.code) e)
+answered-rejects i m place Non e = absurd (not-rejected i m place (leb 32 m.code) e)
+answered-rejects i m place Ack e = absurd (not-rejected i m place (leb 32 m.code) e)
+answered-rejects i m place Rst e = refl
 
 nothing-rejects : Nothing ≡ Rejected → ⊥
 nothing-rejects e = cc
 
 heard-rejects : (l : List Noted) (o t : ℕ) (p : Peer) (b : List ℕ) (j : ℕ) (m : Content) (notice : Notice) (waits : Option ℕ)
-    → waits_for l o ≡ waits → heard_turn j m waits ≡ Rejected → RejectedTurn l o (noted t (Hears p b) (Says m (Some j) notice))
+    → waits_for l o ≡ waits → heard_turn j m notice.place waits ≡ Rejected → RejectedTurn l o (noted t (Hears p b) (Says m (Some j) notice))
 heard-rejects l o t p b j m notice None is e = absurd (nothing-rejects e)
 heard-rejects l o t p b j m notice (Some w) is e =
     elim (eqb_tells w j) [
@@ -60,7 +67,7 @@ heard-rejects l o t p b j m notice (Some w) is e =
         notice = notice;
         entry = refl;
         waited = is ∙ ap (λ (v : ℕ). Some v) u.1;
-        reset = answered-rejects j m m.kind (rw (u.0) at e);
+        reset = answered-rejects j m notice.place m.kind (rw (u.0) at e);
       }
       | inr u ↦ absurd (nothing-rejects (rw (u.0) at e))
     ]
@@ -90,29 +97,21 @@ pub record ExpiredTurn (l : List Noted) (o : ℕ) (x : Noted) : Type 0 where
 nothing-expires : Nothing ≡ Expired → ⊥
 nothing-expires e = cc
 
-answered-expires : (i : ℕ) (m : Content) (k : MsgType) → answered_by i m k ≡ Expired → ⊥
-answered-expires i m Con e = go (leb 32 m.code) e
-  where
-    go : (b : Bool) → cond b (Replied i m) Nothing ≡ Expired → ⊥
-    go true e = cc
-    go false e = cc
-answered-expires i m Non e = go (leb 32 m.code) e
-  where
-    go : (b : Bool) → cond b (Replied i m) Nothing ≡ Expired → ⊥
-    go true e = cc
-    go false e = cc
-answered-expires i m Ack e = go (leb 32 m.code) e
-  where
-    go : (b : Bool) → cond b (Replied i m) Nothing ≡ Expired → ⊥
-    go true e = cc
-    go false e = cc
-answered-expires i m Rst e = cc
+not-expired : (i : ℕ) (m : Content) (place b : Bool) → cond b (Replied i m place) Nothing ≡ Expired → ⊥
+not-expired i m place true e = cc
+not-expired i m place false e = cc
 
-heard-expires : (i : ℕ) (m : Content) (waits : Option ℕ) → heard_turn i m waits ≡ Expired → ⊥
-heard-expires i m None e = nothing-expires e
-heard-expires i m (Some w) e =
+answered-expires : (i : ℕ) (m : Content) (place : Bool) (k : MsgType) → answered_by i m place k ≡ Expired → ⊥
+answered-expires i m place Con e = not-expired i m place (leb 32 m.code) e
+answered-expires i m place Non e = not-expired i m place (leb 32 m.code) e
+answered-expires i m place Ack e = not-expired i m place (leb 32 m.code) e
+answered-expires i m place Rst e = cc
+
+heard-expires : (i : ℕ) (m : Content) (place : Bool) (waits : Option ℕ) → heard_turn i m place waits ≡ Expired → ⊥
+heard-expires i m place None e = nothing-expires e
+heard-expires i m place (Some w) e =
     elim (eqb_tells w i) [
-      | inl u ↦ answered-expires i m m.kind (rw (u.0) at e)
+      | inl u ↦ answered-expires i m place m.kind (rw (u.0) at e)
       | inr u ↦ nothing-expires (rw (u.0) at e)
     ]
 
@@ -126,7 +125,7 @@ expired-over false e = absurd (nothing-expires e)
 
 expired-step : (l : List Noted) (o t : ℕ) (d : Deed) (note : Note) → turn_by l o t d note (waits_for l o) ≡ Expired → ExpiredTurn l o (noted t d note)
 expired-step l o t (Sends p b w) (First q m) e = absurd (sent-expires (length l) (eqb q o) e)
-expired-step l o t (Hears p b) (Says m (Some j) notice) e = absurd (heard-expires j m (waits_for l o) e)
+expired-step l o t (Hears p b) (Says m (Some j) notice) e = absurd (heard-expires j m notice.place (waits_for l o) e)
 expired-step l o t Passes note e = record { entry = refl; over = expired-over (expires l o t (waits_for l o)) e }
 expired-step l o t d note e = absurd (nothing-expires e)
 
@@ -134,94 +133,182 @@ pub turn-expired : (l : List Noted) (o : ℕ) (x : Noted) → turn l o x ≡ Exp
 turn-expired l o x e = expired-step l o x.written.moment x.written.deed x.note e
 
 -- how an exchange ends by a reply
-first-in : (b : Option Begun) (rs : List Reply) (r : Reply) → (x : Reply) × (replied_end b (rs ++ r ∷ []) ≡ Some (first_end b x))
-first-in b [] r = (r, replied-first b r [])
-first-in b (x ∷ rs) r = (x, replied-first b x (rs ++ r ∷ []))
-
 abbrev ByReply : Ending → Type 0
 ByReply Reset = ⊥
 ByReply TimedOut = ⊥
+ByReply Turned = ⊥
 ByReply how = Unit {0}
 
-by-whole : (b : Bool) (r : Reply) → ByReply (cond b (Whole (response_of r.message) (r ∷ [])) NotUnderstood)
-by-whole true r = tt
-by-whole false r = tt
+abbrev CameByReply : Progress → Type 0
+CameByReply (Ends how) = ByReply how
+CameByReply u = Unit {0}
 
-by-first : (b : Option Begun) (r : Reply) → ByReply (first_end b r)
-by-first None r = tt
-by-first (Some a) r = by-whole (is_whole a.request.method r.message) r
+by-answer : (b : Bool) (how : Answered) (u : UploadValue) (got : List Reply) (r : Reply) → CameByReply (cond b (answered_so how u got r) (Ends NotUnderstood))
+by-answer true A.Next u got r = tt
+by-answer true A.Last u got r = tt
+by-answer true A.Wrong u got r = tt
+by-answer false how u got r = tt
 
-by-reply : (b : Option Begun) (rs : List Reply) (r : Reply) (how : Ending) → replied_end b (rs ++ r ∷ []) ≡ Some how → ByReply how
-by-reply b rs r how e =
-    let it = first-in b rs r in
-    subst ByReply (some-is (first_end b it.0) how (sym it.1 ∙ e)) (by-first b it.0)
+whole-so : (rs : List Reply) → ByReply (fetched_whole rs)
+whole-so [] = tt
+whole-so (r ∷ rs) = tt
+
+anew-so : (b : Bool) (restarts : ℕ) → CameByReply (cond b (Ends NotUnderstood) (Fetches (restarts + 1) no_pieces []))
+anew-so true restarts = tt
+anew-so false restarts = tt
+
+judged-so : (j : Judged) (restarts : ℕ) (pieces : PiecesValue) (got : List Reply) → CameByReply (fetched_by j restarts pieces got)
+judged-so (Err F.Changed) restarts pieces got = anew-so (eqb restarts 3) restarts
+judged-so (Err F.Size) restarts pieces got = tt
+judged-so (Err F.Gap) restarts pieces got = tt
+judged-so (Err F.TooLarge) restarts pieces got = tt
+judged-so (Err F.Memory) restarts pieces got = tt
+judged-so (Ok (Next next)) restarts pieces got = tt
+judged-so (Ok Last) restarts pieces got = whole-so got
+
+fetched-so : (b : Bool) (u : Progress) → CameByReply u → CameByReply (cond b u (Ends NotUnderstood))
+fetched-so true u h = h
+fetched-so false u h = tt
+
+step-so : (u : Progress) (r : Reply) → CameByReply u → CameByReply (step u r)
+step-so (Ends how) r h = h
+step-so (Gives upload got) r h = by-answer (is_forwardable r.message.options) (answer_to upload r.message) upload got r
+step-so (Fetches restarts pieces got) r h =
+    fetched-so (is_tellable r.message) _ (judged-so (judged pieces r.message) restarts (with_piece pieces r.message) (got ++ r ∷ []))
+
+all-so : (u : Progress) (rs : List Reply) → CameByReply u → CameByReply (fold step u rs)
+all-so u [] h = h
+all-so u (r ∷ rs) h = all-so (step u r) rs (step-so u r h)
+
+progress-so : (q : CoapRequest) (rs : List Reply) → CameByReply (progress q rs)
+progress-so q rs = all-so (first_progress q) rs (by (eqb q.method 1))
+  where
+    by : (b : Bool) → CameByReply (cond b (Fetches 0 no_pieces []) (Gives (begun_as (length q.body) 6) []))
+    by true = tt
+    by false = tt
+
+-- Either the replies end it, or there is no place for what comes next.
+replied-cases : (place : Bool) (u : Progress) (how : Ending) → CameByReply u → ended_by place u ≡ Some how
+    → ((u ≡ Ends how) × ByReply how) ⊎ ((place ≡ false) × (ended_by true u ≡ None) × (Turned ≡ how))
+replied-cases place (Ends k) how h e = let same = some-is k how e in inl (ap Ends same, subst ByReply same h)
+replied-cases true (Gives upload got) how h e = absurd (none-some how e)
+replied-cases true (Fetches k p got) how h e = absurd (none-some how e)
+replied-cases false (Gives upload got) how h e = inr (refl, refl, some-is Turned how e)
+replied-cases false (Fetches k p got) how h e = inr (refl, refl, some-is Turned how e)
+
+abbrev IsReplying : Ending → Type 0
+IsReplying Reset = ⊥
+IsReplying TimedOut = ⊥
+IsReplying how = Unit {0}
+
+replying : (how : Ending) → ByReply how → IsReplying how
+replying (Whole w rs) h = tt
+replying NotUnderstood h = tt
+replying Reset h = absurd h
+replying TimedOut h = absurd h
+replying Turned h = tt
+
+by-reply : (b : Option Begun) (place : Bool) (rs : List Reply) (how : Ending) → replied_end b place rs ≡ Some how → IsReplying how
+by-reply None place rs how e = subst IsReplying (some-is NotUnderstood how e) tt
+by-reply (Some b) place rs how e =
+    elim (replied-cases place (progress b.request rs) how (progress-so b.request rs) e) [
+      | inl w ↦ replying how w.1
+      | inr w ↦ subst IsReplying w.2 tt
+    ]
 
 pub reset-turn : (b : Option Begun) (u : Turn) (n : ℕ) (rs : List Reply) → end_here b n rs u ≡ Some Reset → u ≡ Rejected
-reset-turn b (Replied i m) n rs e = absurd (by-reply b rs (record { number = n; sending = i; message = m }) Reset e)
+reset-turn b (Replied i m place) n rs e = absurd (by-reply b place (rs ++ record { number = n; sending = i; message = m } ∷ []) Reset e)
 reset-turn b Rejected n rs e = refl
 reset-turn b Expired n rs e = absurd cc
 reset-turn b Nothing n rs e = absurd cc
 reset-turn b (Sent i) n rs e = absurd cc
 
 pub expired-turn : (b : Option Begun) (u : Turn) (n : ℕ) (rs : List Reply) → end_here b n rs u ≡ Some TimedOut → u ≡ Expired
-expired-turn b (Replied i m) n rs e = absurd (by-reply b rs (record { number = n; sending = i; message = m }) TimedOut e)
+expired-turn b (Replied i m place) n rs e = absurd (by-reply b place (rs ++ record { number = n; sending = i; message = m } ∷ []) TimedOut e)
 expired-turn b Rejected n rs e = absurd cc
 expired-turn b Expired n rs e = refl
 expired-turn b Nothing n rs e = absurd cc
 expired-turn b (Sent i) n rs e = absurd cc
 
--- a reply that isn't understood is no whole response to what was asked
-pub record FailedTurn (b : Option Begun) (u : Turn) : Type 0 where
+-- a reply that ends an exchange so, by how far that has come with it
+pub record RepliedTurn (b : Option Begun) (n : ℕ) (u : Turn) (rs : List Reply) (place : Bool) (So : Progress → Type 0) : Type 0 where
   pub sending : ℕ
   pub message : Content
-  pub is : u ≡ Replied sending message
-  pub fails : (a : Begun) → b ≡ Some a → is_whole a.request.method message ≡ false
+  pub is : u ≡ Replied sending message place
+  pub so : (a : Begun) → b ≡ Some a → So (progress a.request (rs ++ record { number = n; sending = sending; message = message } ∷ []))
 
-not-whole : (b : Bool) (r : Reply) → cond b (Whole (response_of r.message) (r ∷ [])) NotUnderstood ≡ NotUnderstood → b ≡ false
-not-whole true r e = absurd cc
-not-whole false r e = refl
+-- it isn't understood
+turned-not : Turned ≡ NotUnderstood → ⊥
+turned-not e = cc
 
-pub failed-turn : (b : Option Begun) (u : Turn) (n : ℕ) (rs : List Reply) → rs ≡ [] → end_here b n rs u ≡ Some NotUnderstood → FailedTurn b u
-failed-turn b (Replied i m) n rs none e = record { sending = i; message = m; is = refl; fails = fails }
+pub failed-turn : (b : Option Begun) (u : Turn) (n : ℕ) (rs : List Reply) → end_here b n rs u ≡ Some NotUnderstood
+    → (place : Bool) × RepliedTurn b n u rs place (λ (u : Progress). u ≡ Ends NotUnderstood)
+failed-turn b (Replied i m place) n rs e = (place, record { sending = i; message = m; is = refl; so = fails })
   where
     r : Reply
     r = record { number = n; sending = i; message = m }
 
-    alone : replied_end b (r ∷ []) ≡ Some NotUnderstood
-    alone = subst (λ (rs : List Reply). replied_end b (rs ++ r ∷ []) ≡ Some NotUnderstood) none e
-
-    fails : (a : Begun) → b ≡ Some a → is_whole a.request.method m ≡ false
+    fails : (a : Begun) → b ≡ Some a → progress a.request (rs ++ record { number = n; sending = i; message = m } ∷ []) ≡ Ends NotUnderstood
     fails a is =
-        let said : replied_end (Some a) (r ∷ []) ≡ Some NotUnderstood =
-        subst (λ (b : Option Begun). replied_end b (r ∷ []) ≡ Some NotUnderstood) is alone in
-        not-whole (is_whole a.request.method m) r (some-is (replied a.request r) NotUnderstood said)
-failed-turn b Rejected n rs none e = absurd cc
-failed-turn b Expired n rs none e = absurd cc
-failed-turn b Nothing n rs none e = absurd cc
-failed-turn b (Sent i) n rs none e = absurd cc
+        let said : ended_by place (progress a.request (rs ++ record { number = n; sending = i; message = m } ∷ [])) ≡ Some NotUnderstood =
+        subst (λ (b : Option Begun). replied_end b place (rs ++ record { number = n; sending = i; message = m } ∷ []) ≡ Some NotUnderstood) is e in
+        elim (replied-cases place _ NotUnderstood (progress-so a.request (rs ++ record { number = n; sending = i; message = m } ∷ [])) said) [
+          | inl w ↦ w.0
+          | inr w ↦ absurd (turned-not w.2)
+        ]
+failed-turn b Rejected n rs e = absurd cc
+failed-turn b Expired n rs e = absurd cc
+failed-turn b Nothing n rs e = absurd cc
+failed-turn b (Sent i) n rs e = absurd cc
 
--- a reply is among the replies from then on
-replies-more : (u : Turn) (n : ℕ) (rs : List Reply) (r : Reply) → Contains rs r → Contains (replies_by n u rs) r
-replies-more (Replied i m) n rs r h = Contains-append_left rs _ r h
-replies-more Rejected n rs r h = h
-replies-more Expired n rs r h = h
-replies-more Nothing n rs r h = h
-replies-more (Sent i) n rs r h = h
+-- there is no place for what comes next
+pub cut-turn : (b : Option Begun) (u : Turn) (n : ℕ) (rs : List Reply) → end_here b n rs u ≡ Some Turned
+    → RepliedTurn b n u rs false (λ (u : Progress). ended_by true u ≡ None)
+cut-turn None (Replied i m place) n rs e = absurd (turned-not (sym (some-is _ _ e)))
+cut-turn (Some b) (Replied i m place) n rs e =
+    elim (replied-cases place _ Turned (progress-so b.request (rs ++ record { number = n; sending = i; message = m } ∷ [])) e) [
+      | inl w ↦ absurd w.1
+      | inr w ↦ record {
+        sending = i;
+        message = m;
+        is = ap (Replied i m) w.0;
+        so = λ a is.
+            subst (λ (b : Begun). ended_by true (progress b.request (rs ++ record { number = n; sending = i; message = m } ∷ [])) ≡ None)
+            (some-is b a is) w.1;
+      }
+    ]
+cut-turn b Rejected n rs e = absurd cc
+cut-turn b Expired n rs e = absurd cc
+cut-turn b Nothing n rs e = absurd cc
+cut-turn b (Sent i) n rs e = absurd cc
 
-pub reply-listed : (l : List Noted) (n o i : ℕ) (m : Content) (x : Noted) → at l n ≡ Some x → turn (before l n) o x ≡ Replied i m
-    → Contains (replies l o) (record { number = n; sending = i; message = m })
-reply-listed [] n o i m x e w = absurd cc
-reply-listed (y ∷ older) n o i m x e w =
+-- A reply stands among the replies from then on, after those before it.
+replies-grow : (u : Turn) (n : ℕ) (rs : List Reply) → (h : List Reply) × (replies_by n u rs ≡ rs ++ h)
+replies-grow (Replied i m place) n rs = (record { number = n; sending = i; message = m } ∷ [], refl)
+replies-grow Rejected n rs = ([], sym (append-nil rs))
+replies-grow Expired n rs = ([], sym (append-nil rs))
+replies-grow Nothing n rs = ([], sym (append-nil rs))
+replies-grow (Sent i) n rs = ([], sym (append-nil rs))
+
+pub reply-placed : (l : List Noted) (n o i : ℕ) (m : Content) (place : Bool) (x : Noted) → at l n ≡ Some x → turn (before l n) o x ≡ Replied i m place
+    → (h : List Reply) × (replies l o ≡ replies (before l n) o ++ record { number = n; sending = i; message = m } ∷ h)
+reply-placed [] n o i m place x e w = absurd (none-some x e)
+reply-placed (y ∷ older) n o i m place x e w =
     elim (eqb_tells n (length older)) [
       | inl u ↦
           let same : y ≡ x = some-is y x (rw (u.0) at e) in
-          let here : turn older o y ≡ Replied i m = subst (λ (v : Noted). turn older o v ≡ Replied i m) (sym same) (rw (u.0) at w) in
-          let r : Reply = record { number = length older; sending = i; message = m } in
-          subst (λ (n : ℕ). Contains (replies (y ∷ older) o) (record { number = n; sending = i; message = m })) (sym u.1)
-          (subst (λ (v : Turn). Contains (replies_by (length older) v (replies older o)) r) (sym here) (Contains-push (replies older o) r))
+          let here : turn older o y ≡ Replied i m place = subst (λ (v : Noted). turn older o v ≡ Replied i m place) (sym same) (rw (u.0) at w) in
+          let more : replies (y ∷ older) o ≡ replies older o ++ record { number = length older; sending = i; message = m } ∷ [] =
+          ap (λ (v : Turn). replies_by (length older) v (replies older o)) here in
+          let all : replies (y ∷ older) o ≡ replies older o ++ record { number = n; sending = i; message = m } ∷ [] =
+          subst (λ (n : ℕ). replies (y ∷ older) o ≡ replies older o ++ record { number = n; sending = i; message = m } ∷ []) (sym u.1) more in
+          ([], rw (u.0) all)
       | inr u ↦
-          replies-more (turn older o y) (length older) (replies older o) _
-          (reply-listed older n o i m x (rw (u.0) at e) (rw (u.0) at w))
+          let it = reply-placed older n o i m place x (rw (u.0) at e) (rw (u.0) at w) in
+          let more = replies-grow (turn older o y) (length older) (replies older o) in (
+            it.0 ++ more.0,
+            rw (u.0) (more.1 ∙ (ap (λ (v : List Reply). v ++ more.0) it.1 ∙ append_assoc (replies (before older n) o) (record { number = n; sending = i; message = m } ∷ it.0) more.0)),
+          )
     ]
 
 -- what a Reset message rejects went to its peer, and has its ID

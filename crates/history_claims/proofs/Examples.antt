@@ -4,6 +4,7 @@ use Rattle.std.specs.List.{slice_get, list_all, range_with_len}
 use Rattle.std.proofs.lemmas.Option.{slice_get_within}
 use Rattle.std.proofs.lemmas.Bool.{false≢true, or_cases}
 use Rattle.limits.specs.declared.TheConstants.{MAX_RETRANSMIT}
+use Rattle.coap_codec.specs.declared.block.Block.{Block}
 use Rattle.coap_codec.specs.Spelling.{Content, Spells}
 use Rattle.coap_codec.proofs.Unique.{spells_one}
 use Rattle.uri_map.specs.declared.peer.Peer.{Peer}
@@ -12,6 +13,7 @@ use Rattle.ask_model.specs.Views.{Ask}
 use Rattle.ask_model.specs.declared.cause.Cause.TheVariants as C
 use Rattle.journal_book.specs.Entries.{Deed, Opens, Asks, Sends, Hears, Written}
 use Rattle.history_laws.specs.Readings.{entries}
+use Rattle.history_laws.specs.Progress.{first_point, block_for}
 use Rattle.history_laws.specs.Worked.{ask_for}
 use Rattle.history_laws.specs.WorkedMessages as M
 use Rattle.history_laws.specs.WorkedEndings as E
@@ -122,8 +124,8 @@ abbrev pub fourth : List ℕ → ℕ
 fourth (a ∷ b ∷ c ∷ d ∷ more) = d
 fourth bytes = 0
 
-crossed-heard : (q : CoapRequest) (m : Content) → IsHeardFor (entries S.crossed) 4 q 9 m → ⊥
-crossed-heard q m h =
+crossed-heard : (q : CoapRequest) (block : Option Block) (m : Content) → IsHeardFor (entries S.crossed) 4 q block 9 m → ⊥
+crossed-heard q block m h =
     let after = h.sent_for.after in
     let before = h.response.after in
     let lies = places is_first (entries S.crossed) (2 ∷ 8 ∷ []) 13 h.sending _ _ refl refl h.sent_for.first.stands refl in
@@ -164,11 +166,11 @@ put-alone q o since s = elim (s.shares) [ inl own ↦ own.0 | inr j ↦ absurd (
 pub crossed : Crossed
 crossed h =
     go h.messages
-    (subst (λ (k : ℕ). AreHeardFor (entries S.crossed) k h.request (9 ∷ []) h.messages) (put-alone h.request h.opening h.since h.shared) h.heard)
+    (subst (λ (k : ℕ). AreHeardFor (entries S.crossed) k h.request (first_point h.request) (9 ∷ []) h.messages) (put-alone h.request h.opening h.since h.shared) h.heard)
   where
-    go : (ms : List Content) → AreHeardFor (entries S.crossed) 4 h.request (9 ∷ []) ms → ⊥
+    go : (ms : List Content) → AreHeardFor (entries S.crossed) 4 h.request (first_point h.request) (9 ∷ []) ms → ⊥
     go [] heard = absurd heard
-    go (m ∷ ms) heard = crossed-heard h.request m heard.0
+    go (m ∷ ms) heard = crossed-heard h.request (block_for (first_point h.request)) m heard.0
 
 -- four copies lie where they lie
 copy-places : (j t : ℕ) (p : Peer) (b : List ℕ) → IsEntry (entries S.timed_out_early) j t (Sends p b None) → lies_in (6 ∷ 8 ∷ 10 ∷ 12 ∷ []) j ≡ true
@@ -245,5 +247,5 @@ early h =
           let asked : 0 ≡ h.shared.moment = moment-same 0 h.shared.moment _ _ h.shared.asked.stands in
           let alone = (first-alone (entries S.timed_out_early) 0 h.request h.opening h.since 0 0 refl h.shared).1 in
           absurd (omega (arith, w, asked, alone))
-      | inr w ↦ given-up-early h.request.peer w.0 w.2
+      | inr w ↦ given-up-early h.request.peer w.0 w.3
     ]

@@ -118,7 +118,7 @@ ends-after l k e how legal ended =
     subst (λ (n : ℕ). k < n) (length-before l e end.0 end.1) (go end.0 (turn (before l e) k end.0) refl end.3)
   where
     go : (x : Noted) (u : Turn) → turn (before l e) k x ≡ u → end_here (begun (before l e) k) e (replies (before l e) k) u ≡ Some how → k < length (before l e)
-    go x (Replied i m) is h = waits-after (before l e) k i (legal-before l e legal) (turn-replied (before l e) k x i m is).waited
+    go x (Replied i m place) is h = waits-after (before l e) k i (legal-before l e legal) (turn-replied (before l e) k x i m place is).waited
     go x Rejected is h = let it = turn-rejected (before l e) k x is in waits-after (before l e) k it.to (legal-before l e legal) it.waited
     go x Expired is h =
         expires-begun (before l e) k x.written.moment (waits_for (before l e) k) (legal-before l e legal) refl (turn-expired (before l e) k x is).over

@@ -5,6 +5,7 @@ mod Unsent
 mod Settling
 mod Repeats
 mod Waiting
+mod Pieces
 mod Ending
 mod Hands
 mod InTime
@@ -20,6 +21,7 @@ mod Unshared
 mod Alone
 mod Counting
 mod Crowded
+mod Halted
 mod Causes
 mod Apart
 mod Shared
@@ -31,3 +33,5 @@ mod Named
 mod Copies
 mod Copied
 mod Stored
+mod InPieces
+mod InBlocks

@@ -1,5 +1,5 @@
 -- A GET whose message went out can't name itself, though an equal one was answered before.
-use Rattle.std.proofs.Common.{◌≡◌, ℕ, ◌<◌, Bool, true, false, eqb, inl, inr, List, [], ◌∷◌, Option, Some, refl, sym, ap, subst, ◌∙◌, arith, lit<}
+use Rattle.std.proofs.Common.{◌≡◌, ℕ, ◌<◌, Bool, true, false, eqb, inl, inr, List, [], ◌∷◌, Option, Some, None, refl, sym, ap, subst, ◌∙◌, arith, lit<}
 use Rattle.std.proofs.lemmas.Bool.{false≢true, or_cases}
 use Rattle.coap_codec.specs.Spelling.{Content, Spells}
 use Rattle.coap_codec.proofs.Unique.{spells_one}
@@ -11,10 +11,12 @@ use Rattle.history_laws.specs.Worked.{server, ask_for}
 use Rattle.history_laws.specs.WorkedMessages as M
 use Rattle.history_laws.specs.WorkedCopies as W
 use Rattle.history_laws.proofs.CallerLemmas.{eqb-same, get-again-spelled, get-spelled, some-is}
-use Rattle.history_claims.specs.Headline.{IsPending, WasFirstSent, IsSentFor, IsShared}
+use Rattle.history_laws.specs.Progress.{first_progress}
+use Rattle.history_claims.specs.Headline.{IsPending, IsFirstSending, WasFirstSent, IsSentFor, IsShared}
 use Rattle.history_claims.specs.Causes.{IsUnsent}
 use Rattle.history_claims.specs.Worked.{asked_again, Unnamed}
 use Rattle.history_claims.proofs.Examples.{places, entry_of, fourth, sense-same}
+use Rattle.history_claims.proofs.Pieces.{last-reply}
 use Rattle.history_claims.proofs.Together.{is_ask, asks-sends, requests-same}
 
 abbrev h : List Written
@@ -62,7 +64,7 @@ issued j s p m was same =
       | inr v ↦ elim (or_cases (eqb j 6) false v) [ inl w ↦ eqb-same j 6 w | inr w ↦ absurd (false≢true w) ]
     ]
 
-sent : IsSentFor h 5 M.get_light 6 W.get_again
+sent : IsSentFor h 5 M.get_light None 6 W.get_again
 sent =
     record {
       after = lit< tt;
@@ -84,15 +86,20 @@ pub unnamed : Unnamed
 unnamed c =
     elim (c.names) [
       | inl w ↦
-          let f = w.1.first in
-          absurd (asks-sends 800 w.1.moment 0 (ask_for M.get_light) c.request.peer f.bytes f.timeout f.stands)
-      | inr w ↦ absurd (never (subst (λ (o : ℕ). IsUnsent h 5 o c.request) (second-alone c.request c.opening c.since c.shared) w.1))
+          let f = w.2.first in
+          absurd (asks-sends 800 w.2.moment 0 (ask_for M.get_light) c.request.peer f.bytes f.timeout f.stands)
+      | inr (inl r) ↦
+          let it = last-reply h c.opening c.request (first_progress c.request) r.others r.last r.went.heard in
+          let s = it.2.0.sent_for in
+          let f = subst (λ (i : ℕ). IsFirstSending h i s.moment c.request.peer it.2.0.sent) (it.2.1 ∙ r.names) s.first in
+          absurd (asks-sends 800 s.moment 0 (ask_for M.get_light) c.request.peer f.bytes f.timeout f.stands)
+      | inr (inr w) ↦ absurd (never (subst (λ (o : ℕ). IsUnsent h o 5 o c.request) (second-alone c.request c.opening c.since c.shared) w.1))
     ]
   where
     asks : M.get_light ≡ c.request
     asks = requests-same M.get_light c.request (sense-same 800 c.shared.moment 0 0 (ask_for M.get_light) _ c.shared.asked.stands)
 
-    never : IsUnsent h 5 5 c.request → ⊥
+    never : IsUnsent h 5 5 5 c.request → ⊥
     never none =
-        let it = none 6 W.get_again (subst (λ (q : CoapRequest). IsSentFor h 5 q 6 W.get_again) asks sent) in
-        it.2 (pending-second 6 it.0 it.1 (lit< tt) it.4)
+        let it = none 6 W.get_again None (lit< tt) (subst (λ (q : CoapRequest). IsSentFor h 5 q None 6 W.get_again) asks sent) in
+        it.3 (pending-second 6 it.0 it.1 (lit< tt) it.5)

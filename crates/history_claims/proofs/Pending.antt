@@ -63,7 +63,11 @@ module _ (l : List Noted) (n o s d : ℕ) (b : Ask) (q : CoapRequest) (stands : 
           some-is o p (subst (λ (v : Noted). reads_by o v.note ≡ Some p) (at-same l o x (noted s (Asks d b) (Begins q)) (at-before l n o x is) stands) e)
 
   over-cause : (t j : ℕ) (cause : Cause) → Caused (before l n) t o cause j → Over o (before l n)
-  over-cause t j C.Busy h = absurd (plain-begins h.1.moment s h.1.conn d h.1.ask b q (at-same l o _ _ (at-before l n o _ h.1.stands) stands))
+  over-cause t j C.Busy h =
+      elim (h.1) [
+        | inl away ↦ absurd (plain-begins away.moment s away.conn d away.ask b q (at-same l o _ _ (at-before l n o _ away.stands) stands))
+        | inr cut ↦ subst (λ (o : ℕ). Over o (before l n)) (sym (own-read cut.0 cut.2)) (inl (ap is_none cut.3))
+      ]
   over-cause t j C.Timeout h =
       subst (λ (o : ℕ). Over o (before l n)) (sym (own-read h.0 h.1))
       (elim (h.3) [ inl end ↦ inl (ap is_none end.1) | inr due ↦ inr due.0 ])
@@ -119,17 +123,18 @@ sent-pending l t o i p m b legal f opened =
     let same : record { since = may.since; request = may.request } ≡ b = some-is _ b (sym (begun-before l i o _ may.opening) ∙ opened) in
     (pending-is l i o _ legal f.stands follows.0 going.0 b (may.opening ∙ ap (λ (b : Begun). Some b) same)).0
 
--- Where no first sending is that of the ask's exchange, each is that of another.
-pub unsent-in : (l : List Noted) (k o : ℕ) (q : CoapRequest) → Legal l → ((t i : ℕ) (p : Peer) (m : Content) → IsFirst l t k i p m → ⊥)
-    → ((t i : ℕ) (p : Peer) (m : Content) → IsFirst l t o i p m → ⊥) → IsUnsent (entries l) k o q
-unsent-in l k o q legal none none_shared i m sent =
+-- Where no first sending after an entry is that of the ask's exchange, each is that of another.
+pub unsent-in : (l : List Noted) (s k o : ℕ) (q : CoapRequest) → Legal l → ((t i : ℕ) (p : Peer) (m : Content) → s < i → IsFirst l t k i p m → ⊥)
+    → ((t i : ℕ) (p : Peer) (m : Content) → s < i → IsFirst l t o i p m → ⊥) → IsUnsent (entries l) s k o q
+unsent-in l s k o q legal none none_shared i m block late sent =
     let first = first-of l i sent.moment q.peer m legal sent.first in
     let a : ℕ = first.0 in
     let it = sent-in l sent.moment a i q.peer m legal first.1 in (
       a,
       it.exchange.request,
-      λ same. none sent.moment i q.peer m (subst (λ (o : ℕ). IsFirst l sent.moment o i q.peer m) same first.1),
-      λ same. none_shared sent.moment i q.peer m (subst (λ (o : ℕ). IsFirst l sent.moment o i q.peer m) same first.1),
+      it.block,
+      λ same. none sent.moment i q.peer m late (subst (λ (o : ℕ). IsFirst l sent.moment o i q.peer m) same first.1),
+      λ same. none_shared sent.moment i q.peer m late (subst (λ (o : ℕ). IsFirst l sent.moment o i q.peer m) same first.1),
       sent-pending l sent.moment a i q.peer m it.exchange legal first.1 it.opened,
       it.sent_for,
     )

@@ -29,7 +29,7 @@ pub record Reads (l : List Noted) (n c k o : ℕ) : Type 0 where
   -- it ends after the ask
   pub later : (e : ℕ) (how : Ending) → Ends (before l n) o e how → k < e
   -- what was sent for the ask was sent for it
-  pub sent : ((t i : ℕ) (p : Peer) (m : Content) → IsFirst l t o i p m → ⊥) → (t i : ℕ) (p : Peer) (m : Content) → IsFirst l t k i p m → ⊥
+  pub sent : (t i : ℕ) (p : Peer) (m : Content) → IsFirst l t k i p m → IsFirst l t o i p m
 
 moments-same : (s t : ℕ) (d e : Deed) (u v : Note) → noted s d u ≡ noted t e v → s ≡ t
 moments-same s t d e u v h = ap (λ (x : Noted). x.written.moment) h
@@ -110,9 +110,9 @@ reads-at l n c k o a x legal here ask e =
         let lt = along.earlier in
         absurd (omega (arith, same, lt))
 
-    sent : reads l k ≡ Some o → Reader l k o → ((t i : ℕ) (p : Peer) (m : Content) → IsFirst l t o i p m → ⊥) → (t i : ℕ) (p : Peer) (m : Content) → IsFirst l t k i p m → ⊥
-    sent own it none t i p m f =
+    sent : reads l k ≡ Some o → Reader l k o → (t i : ℕ) (p : Peer) (m : Content) → IsFirst l t k i p m → IsFirst l t o i p m
+    sent own it t i p m f =
         elim (it.way) [
-          | inl opened ↦ none t i p m (subst (λ (o : ℕ). IsFirst l t o i p m) (sym opened.0) f)
-          | inr along ↦ none-for-other l k it.conn it.asked.moment it.ask it.asked.note legal it.asked.stands (opens-none own it along) t i p m f
+          | inl opened ↦ subst (λ (o : ℕ). IsFirst l t o i p m) (sym opened.0) f
+          | inr along ↦ absurd (none-for-other l k it.conn it.asked.moment it.ask it.asked.note legal it.asked.stands (opens-none own it along) t i p m f)
         ]

@@ -1,8 +1,9 @@
 -- What the worked journals of what comes too late don't excuse.
-use Rattle.std.proofs.Common.{◌≡◌, ℕ, ◌+◌, ◌<◌, ◌⊎◌, Bool, true, false, eqb, inl, inr, List, [], ◌∷◌, Option, Some, refl, sym, ap, subst, ◌∙◌, arith, lit<, lit≤}
+use Rattle.std.proofs.Common.{◌≡◌, ℕ, ◌+◌, ◌<◌, ◌⊎◌, Bool, true, false, eqb, inl, inr, List, [], ◌∷◌, ◌++◌, Option, Some, None, refl, sym, ap, subst, ◌∙◌, arith, lit<, lit≤}
 use Rattle.std.proofs.lemmas.Bool.{false≢true, or_cases}
 use Rattle.limits.specs.declared.TheConstants.{MAX_TRANSMIT_WAIT}
 use Rattle.coap_codec.specs.declared.message.MsgType.TheVariants.{Ack, Rst}
+use Rattle.coap_codec.specs.declared.block.Block.{Block}
 use Rattle.coap_codec.specs.Spelling.{Content, Spells}
 use Rattle.coap_codec.proofs.Unique.{spells_one}
 use Rattle.uri_map.specs.declared.peer.Peer.{Peer}
@@ -10,13 +11,17 @@ use Rattle.ask_model.specs.Requests.{CoapRequest}
 use Rattle.journal_book.specs.Entries.{Done, Heard, done_of, Deed, Sends, Hears, Written}
 use Rattle.history_laws.specs.Confirmations.{empty}
 use Rattle.history_laws.specs.Readings.{entries}
-use Rattle.history_laws.specs.Worked.{server, empty_ack, empty_rst}
+use Rattle.history_laws.specs.Progress.{Reply, Ending, Progress, Ends, first_progress, fetched_whole, step, progress, ended_by, first_point, block_for}
+use Rattle.history_laws.specs.Worked.{server, ask_for, empty_ack, empty_rst}
 use Rattle.history_laws.specs.WorkedMessages as M
 use Rattle.history_laws.specs.WorkedLate as L
-use Rattle.history_laws.proofs.CallerLemmas.{ack-spelled, content-spelled, eqb-same, get-spelled, other-spelled, put-spelled, rst-0-spelled, some-is}
+use Rattle.history_laws.proofs.CallerLemmas.{ack-spelled, content-spelled, eqb-same, get-spelled, none-some, other-spelled, put-spelled, rst-0-spelled, some-is}
 use Rattle.history_claims.specs.Headline.{IsEntry, IsFirstSending, IsHeard, MayRepeat, IsRepeat, again, IsResponse, IsUnanswered, IsHeardFor, AreHeardFor}
+use Rattle.history_claims.specs.Causes.{IsNextReply, AreRepliesTo}
 use Rattle.history_claims.specs.Worked.{heard_late, Late, Second, Unheeded, Unrejected, Abandoned}
-use Rattle.history_claims.proofs.Examples.{first-alone, entry_of, is_first, places, lies_in, texts, heard-texts, fourth, moment-same}
+use Rattle.history_claims.proofs.Examples.{first-alone, entry_of, is_first, places, lies_in, texts, heard-texts, fourth, moment-same, sense-same}
+use Rattle.history_claims.proofs.Pieces.{last-reply}
+use Rattle.history_claims.proofs.Together.{requests-same}
 
 -- where datagrams were heard
 abbrev is_heard_so : Option Done → Bool
@@ -121,8 +126,8 @@ half-heard i s d e is less =
     elim (one-of i 7 9 (places is_heard half (7 ∷ 9 ∷ []) 15 i s d refl refl e is)) [ inl v ↦ v | inr v ↦ absurd (omega (arith, v, less)) ]
 
 -- the second response is no reply to the GET, nor to the PUT
-second-heard : (k : ℕ) (q : CoapRequest) (m : Content) → IsHeardFor twice k q 12 m → ⊥
-second-heard k q m h =
+second-heard : (k : ℕ) (q : CoapRequest) (block : Option Block) (m : Content) → IsHeardFor twice k q block 12 m → ⊥
+second-heard k q block m h =
     elim (one-of h.sending 2 8 (places is_first twice (2 ∷ 8 ∷ []) 14 h.sending _ _ refl refl h.sent_for.first.stands refl)) [
       | inl w ↦ to-get w
       | inr w ↦ to-put w
@@ -150,18 +155,65 @@ second-heard k q m h =
 pub second : Second
 second h = go h.messages h.heard
   where
-    go : (ms : List Content) → AreHeardFor twice h.opening h.request (12 ∷ []) ms → ⊥
+    go : (ms : List Content) → AreHeardFor twice h.opening h.request (first_point h.request) (12 ∷ []) ms → ⊥
     go [] heard = absurd heard
-    go (m ∷ ms) heard = second-heard h.opening h.request m heard.0
+    go (m ∷ ms) heard = second-heard h.opening h.request (block_for (first_point h.request)) m heard.0
+
+-- the one response that was heard is that of entry 9
+half-response : (p : Peer) (i j : ℕ) (sent m : Content) → IsResponse half p i sent j m → m ≡ M.content_message
+half-response p i j sent m r =
+    elim (one-of j 7 9 (places is_heard half (7 ∷ 9 ∷ []) 15 j r.moment _ refl refl r.heard.stands refl)) [
+      | inl w ↦
+          let heard = subst (λ (j : ℕ). IsHeard half p j r.moment m) w r.heard in
+          let text = heard-texts 2100 r.moment server p (empty_ack 0) heard.bytes heard.stands in
+          let is = spells_one m (empty Ack 0) heard.bytes heard.spelled (subst (Spells (empty Ack 0)) text ack-spelled) in
+          let code : m.code ≡ 0 = ap (λ (m : Content). m.code) is in
+          let response = r.response in
+          absurd (omega (arith, code, response))
+      | inr w ↦
+          let heard = subst (λ (j : ℕ). IsHeard half p j r.moment m) w r.heard in
+          let text = heard-texts 5000 r.moment server p M.content_bytes heard.bytes heard.stands in
+          spells_one m M.content_message heard.bytes heard.spelled (subst (Spells M.content_message) text content-spelled)
+    ]
+
+ended-whole : (r : Reply) → r.message ≡ M.content_message → (q : CoapRequest) → M.get_light ≡ q → (how : Ending) × (step (first_progress q) r ≡ Ends how)
+ended-whole r is q asks =
+    subst (λ (q : CoapRequest). (how : Ending) × (step (first_progress q) r ≡ Ends how)) asks
+    (subst (λ (m : Content). (how : Ending) × (step (first_progress M.get_light) (record { number = r.number; sending = r.sending; message = m }) ≡ Ends how)) (sym is)
+    (fetched_whole (record { number = r.number; sending = r.sending; message = M.content_message } ∷ []), refl))
 
 pub unheeded : Unheeded
 unheeded h =
     elim (h.names) [
       | inl w ↦
-          let it = get-sent half refl w.1.moment h.request.peer w.0 w.1.first in
-          answered half refl refl refl half-heard h.request.peer w.0 15 it.0 it.1 (lit< tt) w.2
-      | inr w ↦ let other = w.0 in absurd (omega (arith, other))
+          let it = get-sent half refl w.2.moment h.request.peer w.0 w.2.first in
+          answered half refl refl refl half-heard h.request.peer w.0 15 it.0 it.1 (lit< tt) w.3
+      | inr (inl r) ↦ more-to-come r.others r.last r.went.heard r.went.going
+      | inr (inr w) ↦ let other = w.0 in absurd (omega (arith, other))
     ]
+  where
+    asks : M.get_light ≡ h.request
+    asks = requests-same M.get_light h.request (sense-same 0 h.shared.moment 0 0 (ask_for M.get_light) _ h.shared.asked.stands)
+
+    -- the first reply to the GET was all of it
+    whole : (r : Reply) → IsNextReply half h.opening h.request (first_progress h.request) r
+        → (how : Ending) × (step (first_progress h.request) r ≡ Ends how)
+    whole r s =
+        let it = (last-reply half h.opening h.request (first_progress h.request) [] r (s, tt)).2.0 in
+        ended-whole r (half-response h.request.peer it.sending r.number it.sent r.message it.response) h.request asks
+
+    none-after : (k : ℕ) (how : Ending) (others : List Reply) (last : Reply) → AreRepliesTo half k h.request (Ends how) (others ++ last ∷ []) → ⊥
+    none-after k how [] last heard = heard.0
+    none-after k how (r ∷ others) last heard = heard.0
+
+    more-to-come : (others : List Reply) (last : Reply) → AreRepliesTo half h.opening h.request (first_progress h.request) (others ++ last ∷ [])
+        → ended_by true (progress h.request (others ++ last ∷ [])) ≡ None → ⊥
+    more-to-come [] last heard going =
+        let it = whole last heard.0 in
+        none-some it.0 (sym going ∙ ap (ended_by true) it.1)
+    more-to-come (r ∷ others) last heard going =
+        let it = whole r heard.0 in
+        none-after r.number it.0 others last (subst (λ (u : Progress). AreRepliesTo half r.number h.request u (others ++ last ∷ [])) it.1 heard.1)
 
 -- the RST isn't to the PUT, and the GET was acknowledged
 abbrev after : List Written

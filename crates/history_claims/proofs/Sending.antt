@@ -3,14 +3,16 @@ use Rattle.std.proofs.Common.{◌≡◌, ℕ, zero, eqb, inl, inr, List, [], ◌
 use Rattle.std.specs.List.{Contains}
 use Rattle.coap_codec.specs.Spelling.{Content, Spells}
 use Rattle.coap_codec.proofs.Unique.{spells_one}
+use Rattle.coap_codec.specs.declared.block.Block.{Block}
 use Rattle.uri_map.specs.declared.peer.Peer.{Peer}
+use Rattle.ask_model.specs.Requests.{CoapRequest, block_message}
 use Rattle.journal_book.specs.Entries.{Mark, Ground, Past, Sent, Deed, Sends, Carries, Written}
 use Rattle.history_laws.specs.Readings.{Noted, Note, First, Copies, Confirms, Bygone, entries, at, before, noted}
 use Rattle.history_laws.specs.Transmissions.{FirstSending, firsts_by, firsts}
 use Rattle.history_laws.specs.Exchanges.{Begun, begun}
 use Rattle.history_laws.specs.Justified.{MayBeFirst, IsApart, CopiedNote, Follows, Legal}
 use Rattle.history_laws.specs.Laws.{IsFirst}
-use Rattle.history_laws.proofs.CallerLemmas.{at-before, at-entries, at-old, contains-later, find-some, first-found, firsts-tokens, follows-at, is-some, IsListed, none-some, sent-for, some-is}
+use Rattle.history_laws.proofs.CallerLemmas.{at-before, at-entries, at-old, contains-later, find-some, first-found, firsts-tokens, follows-at, is-some, IsListed, next-is, none-some, sent-for, some-is}
 use Rattle.history_claims.specs.Headline.{IsFirstSending, WasFirstSent, IsSentFor}
 use Rattle.history_claims.proofs.Entries.{entries-at, own-or-copied}
 
@@ -124,25 +126,28 @@ listed-sent l f legal (inr h) =
       spelled = may.spelled;
     }
 
--- a first sending was sent for the request that its exchange was opened for
+-- a first sending was sent for the request that its exchange was opened for, or for a block of it
 pub record SentIn (l : List Noted) (o i : ℕ) (p : Peer) (m : Content) : Type 0 where
   pub exchange : Begun
   pub opened : begun l o ≡ Some exchange
   pub peer : p ≡ exchange.request.peer
-  pub sent_for : IsSentFor (entries l) o exchange.request i m
+  pub block : Option Block
+  pub sent_for : IsSentFor (entries l) o exchange.request block i m
 
 pub sent-in : (l : List Noted) (t o i : ℕ) (p : Peer) (m : Content) → Legal l → IsFirst l t o i p m → SentIn l o i p m
 sent-in l t o i p m legal f =
     let it = sent-for l t o i p m legal f in
+    let asks = next-is it.exchange.request _ m.mid m.token m it.next in
     record {
       exchange = it.exchange;
       opened = it.opened;
       peer = it.peer;
+      block = asks.0;
       sent_for = record {
         after = it.after;
         moment = t;
         first = subst (λ (p : Peer). IsFirstSending (entries l) i t p m) it.peer (first-entry l t o i p m legal f);
-        asks = it.carries;
+        asks = asks.1;
         issued = λ j s r n g e.
             let other = first-sent l j s r n legal g in
             firsts-tokens l (sending_of j s other.0 r n) (sending_of i t o p m) legal other.1 (first-member l t o i p m f) e;
@@ -150,10 +155,17 @@ sent-in l t o i p m legal f =
     }
 
 pub sent-as : (l : List Noted) (t o i : ℕ) (p : Peer) (m : Content) (b : Begun) → Legal l → begun l o ≡ Some b → IsFirst l t o i p m
-    → (p ≡ b.request.peer) × IsSentFor (entries l) o b.request i m
+    → (p ≡ b.request.peer) × (block : Option Block) × IsSentFor (entries l) o b.request block i m
 sent-as l t o i p m b legal e f =
     let it = sent-in l t o i p m legal f in
-    subst (λ (b : Begun). (p ≡ b.request.peer) × IsSentFor (entries l) o b.request i m) (some-is it.exchange b (sym it.opened ∙ e)) (it.peer, it.sent_for)
+    subst (λ (b : Begun). (p ≡ b.request.peer) × (block : Option Block) × IsSentFor (entries l) o b.request block i m) (some-is it.exchange b (sym it.opened ∙ e))
+    (it.peer, it.block, it.sent_for)
+
+-- What asks for a block was sent for that.
+pub sent-block : (h : List Written) (o : ℕ) (q : CoapRequest) (block other : Option Block) (i : ℕ) (m : Content)
+    → m ≡ block_message q other m.mid m.token → IsSentFor h o q block i m → IsSentFor h o q other i m
+sent-block h o q block other i m asks s =
+    record { after = s.after; moment = s.moment; first = s.first; asks = asks; issued = s.issued }
 
 pub first-before : (l : List Noted) (n t o i : ℕ) (p : Peer) (m : Content) → IsFirst (before l n) t o i p m → IsFirst l t o i p m
 first-before l n t o i p m f = record { bytes = f.bytes; timeout = f.timeout; stands = at-before l n i _ f.stands }

@@ -1,23 +1,23 @@
 -- An answer that was kept rests on a whole response to an equal GET, which is fresh.
-use Rattle.std.proofs.Common.{◌≡◌, ℕ, ◌+◌, ◌<◌, true, List, [], ◌∷◌, Some, sym, ap, subst, ◌∙◌}
+use Rattle.std.proofs.Common.{◌≡◌, ℕ, zero, ◌+◌, ◌<◌, true, List, ◌∷◌, Some, refl, sym, ap, subst, ◌∙◌, arith}
 use Rattle.std.proofs.lemmas.Bool.Decides.{Decides-ltb}
 use Rattle.ask_model.specs.Requests.{CoapRequest, Requests}
 use Rattle.ask_model.specs.Sharing.{asks_same}
 use Rattle.ask_model.proofs.CallerLemmas.{asks-alike}
 use Rattle.resp_cache.specs.Stored.{lifetime}
-use Rattle.journal_book.specs.Entries.{Kept, Answers, Hears, Written}
-use Rattle.history_laws.specs.Responses.{Response, is_whole}
-use Rattle.history_laws.specs.Readings.{Noted, Says, Begins, Serves, entries, at, before, noted}
-use Rattle.history_laws.specs.Progress.{Reply, numbers}
+use Rattle.journal_book.specs.Entries.{Kept, Answers, Written}
+use Rattle.history_laws.specs.Responses.{whole_of}
+use Rattle.history_laws.specs.Readings.{Noted, Begins, Serves, entries, before}
+use Rattle.history_laws.specs.Progress.{Reply, messages}
 use Rattle.history_laws.specs.Exchanges.{Begun}
 use Rattle.history_laws.specs.Justified.{HasGrounds, Legal, Stands}
-use Rattle.history_laws.proofs.CallerLemmas.{asked-for, at-before, at-below, at-entries, begun-before, begun-below, ends-one, legal-before, length-before, replies-fit, served-by, shared-is, some-is}
+use Rattle.history_laws.proofs.CallerLemmas.{asked-for, at-before, at-entries, begun-before, begun-below, ends-all, legal-before, length-before, replies-fit, served-by, shared-is, some-is}
 use Rattle.history_claims.specs.Headline.{IsEntry, IsSameGet, IsServed}
 use Rattle.history_claims.proofs.Entries.{asked-entry}
 use Rattle.history_claims.proofs.Asking.{answers-ask, asked-by}
 use Rattle.history_claims.proofs.Alike.{same-get}
-use Rattle.history_claims.proofs.Resting.{only-one, whole-one}
-use Rattle.history_claims.proofs.Waiting.{heard-in}
+use Rattle.history_claims.proofs.Pieces.{heard-all}
+use Rattle.history_claims.proofs.Resting.{heard-before}
 use Rattle.history_claims.proofs.Written.{fresh-at}
 
 -- what asks the same is a GET for the same
@@ -37,21 +37,16 @@ served-in l n t c k js legal e =
     let b : Begun = exchange.exchange in
     let opened = begun-before l k o b exchange.opened in
     let ask = asked-for l o b legal opened in
-    let one = ends-one (before l k) o it.is.ending it.stored.response (it.is.first ∷ it.is.more) it.is.ends.ended in
-    let r : Reply = one.reply in
-    let same : one.exchange ≡ b = some-is _ _ (sym one.opened ∙ exchange.opened) in
-    let whole : is_whole b.request.method r.message ≡ true = subst (λ (b : Begun). is_whole b.request.method r.message ≡ true) same one.whole in
-    let fits = replies-fit (before l k) o r (legal-before l k legal) one.listed in
-    let heard = heard-in l k o r b _ legal opened stands one.listed fits in
-    let below = subst (λ (i : ℕ). r.number < i) len
-    (at-below (before l k) r.number (noted fits.moment (Hears fits.peer fits.bytes) (Says r.message (Some r.sending) fits.notice)) fits.heard) in
-    let list : r.number ∷ [] ≡ js = sym (ap numbers one.alone) ∙ (sym it.is.list ∙ it.list) in
-    let first = first-of it.is.first r _ _ one.alone in
-    let entry = some-is _ _ (sym it.is.heard_in ∙ (ap (λ (r : Reply). at (before l k) r.number) first ∙ fits.heard)) in
+    let rs : List Reply = it.is.first ∷ it.is.more in
+    let all = ends-all (before l k) o it.is.ending it.stored.response rs it.is.ends.ended in
+    let r : Reply = it.is.first in
+    let same : all.exchange ≡ b = some-is _ _ (sym all.opened ∙ exchange.opened) in
+    let fits = replies-fit (before l k) o r (legal-before l k legal) (all.listed r (zero, omega arith, refl)) in
+    let entry = some-is _ _ (sym it.is.heard_in ∙ fits.heard) in
     let since : it.stored.heard ≡ fits.moment = it.is.heard ∙ ap (λ (x : Noted). x.written.moment) entry in
     let fresh : t < it.stored.heard + lifetime it.stored.response.max_age =
     (Decides-ltb t (it.stored.heard + lifetime it.stored.response.max_age)).0 it.fresh in
-    subst (λ (js : List ℕ). IsServed (entries l) t c k js) list
+    subst (λ (js : List ℕ). IsServed (entries l) t c k js) (sym it.is.list ∙ it.list)
     (record {
       request = q;
       asked = asked-by l n c k its.ask (Requests q) t g.0 g.1 (Serves js) its.asked stands it.sense;
@@ -62,11 +57,11 @@ served-in l n t c k js legal e =
       other = b.request;
       other_asked = asked-entry l o ask.conn b.since ask.ask (Begins b.request) (Requests b.request) ask.stands ask.sense;
       same = same-gets q b.request exchange.same;
-      messages = r.message ∷ [];
-      heard = (heard, tt);
-      before = λ j in_it. only-one j r.number k below in_it;
+      messages = messages rs;
+      heard = heard-all l k o b _ legal opened stands it.is.ending it.stored.response rs exchange.opened it.is.ends.ended;
+      before = heard-before l k o _ rs legal stands all.listed;
       response = it.stored.response;
-      whole = whole-one b.request r.message whole ∙ ap (λ (w : Response). Some w) (sym one.response);
+      whole = subst (λ (b : Begun). whole_of b.request (messages rs) ≡ Some it.stored.response) same all.whole;
       content = it.is.ends.code;
       since = fits.moment;
       first = (fits.peer, fits.bytes, at-entries l r.number _ (at-before l k r.number _ fits.heard));
@@ -74,9 +69,6 @@ served-in l n t c k js legal e =
       current = λ m w lt.
           fresh-at l k o g.0 g.1 q b legal (record { moment = t; note = Serves js; stands = stands }) opened exchange.fresh m w lt;
     })
-  where
-    first-of : (x y : Reply) (xs ys : List Reply) → x ∷ xs ≡ y ∷ ys → x ≡ y
-    first-of x y xs ys e = cc
 
 pub rests-on-stored : (h : List Written) (n t c k : ℕ) (js : List ℕ) → Stands h → IsEntry h n t (Answers c k (Kept js)) → IsServed h t c k js
 rests-on-stored h n t c k js s =

@@ -1,13 +1,18 @@
 -- The worked journals of what is stored, as entries.
-use Rattle.std.proofs.Common.{◌≡◌, ℕ, ◌+◌, ◌<◌, Bool, true, false, eqb, cond, inl, inr, List, [], ◌∷◌, length, Some, None, refl, sym, ap, subst, arith, lit<}
+use Rattle.std.proofs.Common.{◌≡◌, ℕ, ◌+◌, ◌<◌, Bool, true, false, eqb, cond, inl, inr, List, [], ◌∷◌, length, Option, Some, None, refl, sym, ap, subst, arith, lit<}
 use Rattle.std.proofs.lemmas.Bool.{false≢true, or_cases}
 use Rattle.coap_codec.specs.Spelling.{Content, Spells}
 use Rattle.coap_codec.proofs.Unique.{spells_one}
+use Rattle.coap_codec.specs.Recognition.{is_forwardable}
+use Rattle.blockwise.specs.Uploads.{begun, answer_to}
+use Rattle.blockwise.specs.declared.upload.Answered.{Answered}
+use Rattle.blockwise.specs.declared.upload.Answered.TheVariants as A
 use Rattle.ask_model.specs.Requests.{CoapRequest, Requests, request_message}
+use Rattle.history_laws.specs.Progress.{first_point}
 use Rattle.ask_model.specs.declared.cause.Cause.TheVariants as C
 use Rattle.resp_cache.specs.Stored.{lifetime}
 use Rattle.journal_book.specs.Entries.{Live, Fault, Deed, Asks}
-use Rattle.history_laws.specs.Responses.{Response, response_of, is_whole, whole_of}
+use Rattle.history_laws.specs.Responses.{Response, response_of, joined, whole_by, whole_fetched, whole_given, whole_of}
 use Rattle.history_laws.specs.Readings.{entries}
 use Rattle.history_laws.specs.Worked.{server, ask_for}
 use Rattle.history_laws.specs.WorkedMessages as M
@@ -25,10 +30,23 @@ served = served-in K.read_from_store 6 60699 0 5 (3 ∷ []) read_from_store-hold
 
 -- not so
 
--- the response that the reply is
-whole-is : (b : Bool) (m : Content) (w : Response) → cond b (Some (response_of m)) None ≡ Some w → response_of m ≡ w
-whole-is true m w e = some-is (response_of m) w e
-whole-is false m w e = absurd (none-some w e)
+-- how long the response that the reply is stays fresh
+some-whole : (b : Bool) (v w : Response) → cond b (Some v) None ≡ Some w → v.max_age ≡ w.max_age
+some-whole true v w e = ap (λ (w : Response). w.max_age) (some-is v w e)
+some-whole false v w e = absurd (none-some w e)
+
+whole-age : (q : CoapRequest) (m : Content) (w : Response) → whole_of q (m ∷ []) ≡ Some w → (response_of m).max_age ≡ w.max_age
+whole-age q m w e = by (eqb q.method 1) e
+  where
+    answer : (b : Bool) (how : Answered) → cond b (whole_by how m [] None) None ≡ Some w → (response_of m).max_age ≡ w.max_age
+    answer true A.Next e = absurd (none-some w e)
+    answer true A.Last e = ap (λ (w : Response). w.max_age) (some-is (response_of m) w e)
+    answer true A.Wrong e = absurd (none-some w e)
+    answer false how e = absurd (none-some w e)
+
+    by : (b : Bool) → cond b (whole_fetched m []) (whole_given (begun (length q.body) 6) (m ∷ [])) ≡ Some w → (response_of m).max_age ≡ w.max_age
+    by true e = some-whole _ (joined m []) w e
+    by false e = answer (is_forwardable m.options) (answer_to (begun (length q.body) 6) m) e
 
 non-spelled : Spells E.non_message E.non_bytes
 non-spelled = read_from_store-holds.0.0.0.0.2.3.spelled
@@ -39,17 +57,17 @@ expired h = go h.messages h.heard h.whole
     since : 700 ≡ h.since
     since = moment-same 700 h.since _ _ h.first.2
 
-    go : (ms : List Content) → AreHeardFor (entries K.read_expired) h.opening h.other (3 ∷ []) ms → whole_of h.other ms ≡ Some h.response → ⊥
+    go : (ms : List Content) → AreHeardFor (entries K.read_expired) h.opening h.other (first_point h.other) (3 ∷ []) ms → whole_of h.other ms ≡ Some h.response → ⊥
     go [] heard whole = absurd heard
     go (m ∷ n ∷ ms) heard whole = absurd heard.1
     go (m ∷ []) heard whole =
         let r = heard.0.response.heard in
         let text : E.non_bytes ≡ r.bytes = heard-texts 700 heard.0.response.moment server h.other.peer E.non_bytes r.bytes r.stands in
         let is : m ≡ E.non_message = spells_one m E.non_message r.bytes r.spelled (subst (Spells E.non_message) text non-spelled) in
-        let response : response_of E.non_message ≡ h.response =
-        subst (λ (m : Content). response_of m ≡ h.response) is (whole-is (is_whole h.other.method m) m h.response whole) in
+        let age : (response_of E.non_message).max_age ≡ h.response.max_age =
+        subst (λ (m : Content). (response_of m).max_age ≡ h.response.max_age) is (whole-age h.other m h.response whole) in
         let late : 60700 < 700 + lifetime (response_of E.non_message).max_age =
-        subst (λ (w : Response). 60700 < 700 + lifetime w.max_age) (sym response)
+        subst (λ (age : Option ℕ). 60700 < 700 + lifetime age) (sym age)
         (subst (λ (t : ℕ). 60700 < t + lifetime h.response.max_age) (sym since) h.fresh) in
         let same : 60700 < 60700 = late in
         absurd (omega (arith, same))
@@ -85,7 +103,7 @@ overwritten h = go h.messages h.heard
     later : 17 < h.opening
     later = h.current 17 (subst (λ (q : CoapRequest). IsWriteAnswer (entries K.read_outdated) q 17) (sym asks) written) (lit< tt)
 
-    go : (ms : List Content) → AreHeardFor (entries K.read_outdated) h.opening h.other (9 ∷ []) ms → ⊥
+    go : (ms : List Content) → AreHeardFor (entries K.read_outdated) h.opening h.other (first_point h.other) (9 ∷ []) ms → ⊥
     go [] heard = absurd heard
     go (m ∷ ms) heard =
         let opened = later in

@@ -4,6 +4,7 @@ use Rattle.std.specs.List.{list_all, range_with_len}
 use Rattle.std.proofs.lemmas.Bool.{false≢true, or_cases}
 use Rattle.coap_codec.specs.Spelling.{Entry, Content}
 use Rattle.uri_map.specs.declared.peer.Peer.{Peer}
+use Rattle.history_laws.specs.Progress.{first_point}
 use Rattle.ask_model.specs.declared.cause.Cause.TheVariants as C
 use Rattle.ask_model.specs.Requests.{CoapRequest, Requests, request_message}
 use Rattle.ask_model.specs.Views.{Ask}
@@ -77,7 +78,7 @@ out-of-date h = go h.messages h.heard
           | inr j ↦ j.0.fresh 10 (subst (λ (q : CoapRequest). IsWriteAnswer (entries told_before) q 10) (sym asks) written) (lit< tt)
         ]
 
-    go : (ms : List Content) → AreHeardFor (entries told_before) h.opening h.request (13 ∷ []) ms → ⊥
+    go : (ms : List Content) → AreHeardFor (entries told_before) h.opening h.request (first_point h.request) (13 ∷ []) ms → ⊥
     go [] heard = absurd heard
     go (m ∷ ms) heard =
         let s = heard.0.sent_for in
@@ -137,8 +138,8 @@ unlike h =
         | inr j ↦ absurd (other j.0.request j.0.same j.0.pending)
       ]
       | inr up ↦
-          let f = up.1.first in
-          absurd (asks-sends 600 up.1.moment 2 (ask_for S.get_lamp) h.request.peer f.bytes f.timeout f.stands)
+          let f = up.2.first in
+          absurd (asks-sends 600 up.2.moment 2 (ask_for S.get_lamp) h.request.peer f.bytes f.timeout f.stands)
     ]
   where
     other : (r : CoapRequest) → IsSameGet h.request r → IsPending (entries lamp_given_up) 6 h.opening r → ⊥

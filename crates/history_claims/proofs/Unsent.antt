@@ -118,21 +118,19 @@ deeds s t p b w c k g u v e = go (ap (λ (x : Noted). x.written.deed) e)
     go : Sends p b w ≡ Answers c k g → ⊥
     go f = cc
 
--- Where nothing was sent for an exchange before the answer, and it was over, nothing is sent at all.
-pub never-sent : (l : List Noted) (n t c k o : ℕ) (g : Grounds) (note : Note) → Legal l → at l n ≡ Some (noted t (Answers c k g) note)
-    → Over o (before l n) → sent_last (before l n) o ≡ None → (s i : ℕ) (p : Peer) (m : Content) → IsFirst l s o i p m → ⊥
-never-sent l n t c k o g note legal here over none s i p m f =
+-- What is sent for an exchange that was over before the answer was sent before that.
+pub sent-earlier : (l : List Noted) (n t c k o : ℕ) (g : Grounds) (note : Note) → Legal l → at l n ≡ Some (noted t (Answers c k g) note)
+    → Over o (before l n) → (s i : ℕ) (p : Peer) (m : Content) → IsFirst l s o i p m → IsFirst (before l n) s o i p m
+sent-earlier l n t c k o g note legal here over s i p m f =
     elim (leb_tells n i) [
       | inl w ↦ elim (eqb_tells n i) [
-        | inl u ↦ deeds s t p f.bytes f.timeout c k g _ _ (at-same l i _ _ f.stands (subst (λ (n : ℕ). at l n ≡ Some (noted t (Answers c k g) note)) u.1 here))
+        | inl u ↦ absurd (deeds s t p f.bytes f.timeout c k g _ _ (at-same l i _ _ f.stands (subst (λ (n : ℕ). at l n ≡ Some (noted t (Answers c k g) note)) u.1 here)))
         | inr u ↦
             let le = w.1 in
             let not = u.1 in
             let twice = before-twice l i n _ f.stands (omega (arith, le, not)) in
             let still = grows (Over o) (over-still o) (before l i) n (subst (Over o) (sym twice) over) in
-            not-over (before l i) s o p f.bytes f.timeout m still (follows-at l i _ legal f.stands)
+            absurd (not-over (before l i) s o p f.bytes f.timeout m still (follows-at l i _ legal f.stands))
       ]
-      | inr w ↦
-          sent-last-none (before l n) s o i p m none
-          (record { bytes = f.bytes; timeout = f.timeout; stands = at-still l n i _ _ here w.1 f.stands })
+      | inr w ↦ record { bytes = f.bytes; timeout = f.timeout; stands = at-still l n i _ _ here w.1 f.stands }
     ]

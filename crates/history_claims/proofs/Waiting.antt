@@ -1,23 +1,29 @@
--- While an exchange waits for a reply, none has come to its message.
-use Rattle.std.proofs.Common.{◌≡◌, ℕ, ◌<◌, ◌≤◌, Bool, true, false, ◌&&◌, ◌||◌, eqb, leb, inl, inr, List, [], ◌∷◌, ◌++◌, length, Option, Some, None, refl, sym, ap, subst, ◌∙◌, arith}
-use Rattle.std.specs.Prelude.{is_some, find}
+-- While an exchange waits for a reply, none has come to its message; and which of its messages is the latest.
+use Rattle.std.proofs.Common.{◌≡◌, ◌⊎◌, ℕ, ◌<◌, ◌≤◌, Bool, true, false, ◌&&◌, ◌||◌, eqb, leb, inl, inr, List, [], ◌∷◌, ◌++◌, length, Option, Some, None, refl, sym, ap, subst, ◌∙◌, arith}
+use Rattle.std.specs.Prelude.{is_some, is_none, find, option_map}
 use Rattle.std.specs.List.{list_any, filter_map, cons_option, Contains}
 use Rattle.std.proofs.lemmas.List.Elements.{Contains-push_cases}
+use Rattle.std.proofs.lemmas.Bool.Decides.{eqb_tells}
 use Rattle.std.proofs.lemmas.Bool.{false≢true, le-leb}
 use Rattle.coap_codec.specs.declared.message.MsgType.{MsgType}
 use Rattle.coap_codec.specs.declared.message.MsgType.TheVariants.{Con, Non, Ack, Rst}
+use Rattle.coap_codec.specs.declared.block.Block.{Block}
 use Rattle.coap_codec.specs.Spelling.{Content}
 use Rattle.uri_map.specs.declared.peer.Peer.{Peer}
-use Rattle.journal_book.specs.Entries.{Hears}
-use Rattle.history_laws.specs.Readings.{Noted, Says, Notice, entries, at, before, noted}
-use Rattle.history_laws.specs.Progress.{Reply}
-use Rattle.history_laws.specs.Exchanges.{Begun, begun, openings, Turn, Nothing, Sent, Replied, Rejected, Expired, answered_by, heard_turn, turn, waits_by, waits_for, replies_by, replies, End, end_of, awaited}
+use Rattle.ask_model.specs.Requests.{CoapRequest, block_message}
+use Rattle.journal_book.specs.Entries.{Deed, Mark, Hears, Sends, Carries}
+use Rattle.journal_book.specs.Entries as D
+use Rattle.history_laws.specs.Readings.{Noted, Note, First, Says, Bygone, Notice, entries, at, before, noted}
+use Rattle.history_laws.specs.Progress.{Reply, Reset, TimedOut}
+use Rattle.history_laws.specs.Transmissions.{FirstSending, firsts_by, firsts, sent_last}
+use Rattle.history_laws.specs.Exchanges.{Begun, begun, openings, Turn, Nothing, Sent, Replied, Rejected, Expired, answered_by, heard_turn, turn, waits_by, waits_for, replies_by, replies, end_here, end_of, awaited}
 use Rattle.history_laws.specs.Hearing.{is_under, is_as, open_at, answers_by, answers}
 use Rattle.history_laws.specs.Justified.{MaySay, Follows, Legal}
-use Rattle.history_laws.specs.Laws.{IsFirst, IsReplyKind, IsReplyTo}
-use Rattle.history_laws.proofs.CallerLemmas.{at-before, at-below, at-old, at-still, before-keeps, before-new, before-twice, begun-listed, contains-none, eqb-itself, find-any, find-some, first-or-later, IsFirst-below, IsFirst-old, legal-before, length-before, none-some, past, Past, sent-for, sent-once, some-is, turn-replied, turn-sent, waits-first}
-use Rattle.history_claims.specs.Headline.{BringsResponse, IsResponse, IsNew, IsUnanswered, IsHeardFor}
-use Rattle.history_claims.proofs.Sending.{first-before, sent-as}
+use Rattle.history_laws.specs.Laws.{IsFirst, IsReplyKind, IsReplyTo, IsFetched}
+use Rattle.history_laws.proofs.CallerLemmas.{at-before, at-below, at-keeps, at-new, at-old, at-same, at-still, before-keeps, before-new, before-twice, begun-listed, contains-none, eqb-itself, find-any, find-some, first-or-later, going-before, IsFirst-below, IsFirst-old, legal-before, length-before, none-is, none-some, sent-for, some-is, turn-replied, turn-sent}
+use Rattle.history_claims.specs.Headline.{BringsResponse, IsResponse, IsNew, IsUnanswered}
+use Rattle.history_claims.specs.Causes.{IsReplyFor}
+use Rattle.history_claims.proofs.Sending.{first-before, sent-as, sent-block}
 use Rattle.history_claims.proofs.Repeats.{heard-at, heard-entry, says-new, repeats-again}
 use Rattle.history_claims.proofs.Settling.{under-true, as-true, under-is}
 
@@ -97,20 +103,21 @@ module _ (l : List Noted) (t o i : ℕ) (p : Peer) (sent : Content) (legal : Leg
       subst (λ (b : Bool). answers_by l p m m.kind (eqb m.code 0) b ≡ Some i) (sym (le-leb 32 m.code response)) (by-kind m.kind (eqb m.code 0) kind)
 
 -- so it is a reply, and the exchange waits no more
-by-response : (i : ℕ) (m : Content) (k : MsgType) (sent : ℕ) → BringsResponse k m.mid sent → leb 32 m.code ≡ true → answered_by i m k ≡ Replied i m
-by-response i m Con sent h e = rw e refl
-by-response i m Non sent h e = rw e refl
-by-response i m Ack sent h e = rw e refl
-by-response i m Rst sent h e = absurd h
+by-response : (i : ℕ) (m : Content) (place : Bool) (k : MsgType) (sent : ℕ) → BringsResponse k m.mid sent → leb 32 m.code ≡ true
+    → answered_by i m place k ≡ Replied i m place
+by-response i m place Con sent h e = rw e refl
+by-response i m place Non sent h e = rw e refl
+by-response i m place Ack sent h e = rw e refl
+by-response i m place Rst sent h e = absurd h
 
-nothing-replied : (i : ℕ) (m : Content) → Nothing ≡ Replied i m → ⊥
-nothing-replied i m e = cc
+nothing-replied : (i : ℕ) (m : Content) (place : Bool) → Nothing ≡ Replied i m place → ⊥
+nothing-replied i m place e = cc
 
 reply-turn : (l : List Noted) (o i s : ℕ) (p : Peer) (b : List ℕ) (m : Content) (notice : Notice) (sent : ℕ) → waits_for l o ≡ Some i
-    → BringsResponse m.kind m.mid sent → 32 ≤ m.code → turn l o (noted s (Hears p b) (Says m (Some i) notice)) ≡ Replied i m
+    → BringsResponse m.kind m.mid sent → 32 ≤ m.code → turn l o (noted s (Hears p b) (Says m (Some i) notice)) ≡ Replied i m notice.place
 reply-turn l o i s p b m notice sent waits kind response =
-    subst (λ (w : Option ℕ). heard_turn i m w ≡ Replied i m) (sym waits)
-    (rw (eqb-itself i) (by-response i m m.kind sent kind (le-leb 32 m.code response)))
+    subst (λ (w : Option ℕ). heard_turn i m notice.place w ≡ Replied i m notice.place) (sym waits)
+    (rw (eqb-itself i) (by-response i m notice.place m.kind sent kind (le-leb 32 m.code response)))
 
 says-to : (m : Content) (i j : Option ℕ) (u v : Notice) → Says m i u ≡ Says m j v → i ≡ j
 says-to m i j u v e = cc
@@ -137,7 +144,7 @@ came-here l t o i p sent j x legal f waits idle c is =
     let none : turn l o (noted c.moment (Hears p c.bytes) (Says c.message (Some i) c.notice)) ≡ Nothing =
     subst (λ (to : Option ℕ). turn l o (noted c.moment (Hears p c.bytes) (Says c.message to c.notice)) ≡ Nothing) to
     (subst (λ (x : Noted). turn l o x ≡ Nothing) is idle) in
-    nothing-replied i c.message (sym none ∙ reply-turn l o i c.moment p c.bytes c.message c.notice sent.mid waits c.kind c.response)
+    nothing-replied i c.message c.notice.place (sym none ∙ reply-turn l o i c.moment p c.bytes c.message c.notice sent.mid waits c.kind c.response)
 
 none-came : (l : List Noted) (t o i : ℕ) (p : Peer) (sent : Content) (j : ℕ) → Legal l → IsFirst l t o i p sent → waits_for l o ≡ Some i → i < j
     → Came l p i sent j → ⊥
@@ -170,7 +177,7 @@ none-came (x ∷ older) t o i p sent j legal f waits lt c =
         let same = some-is k i e in
         let below = IsFirst-below older t o i p sent u in
         absurd (omega (arith, here, same, below))
-    go u (Replied k m) is e ih = none-some i e
+    go u (Replied k m place) is e ih = none-some i e
     go u Rejected is e ih = none-some i e
     go u Expired is e ih = none-some i e
 
@@ -195,17 +202,74 @@ unanswered-till l e x t o i p sent legal early here f waits j m lt r =
       | inr s ↦ repeats-again l p j r.moment m legal s
     ]
 
--- After its first sending an exchange that hasn't ended waits for the reply to that.
-pub going-waits : (l : List Noted) (t o i : ℕ) (p : Peer) (m : Content) → Legal l → IsFirst l t o i p m → end_of l o ≡ None → waits_for l o ≡ Some i
-going-waits l t o i p m legal f going = go (waits_for l o) refl (end_of l o) going (past l t o i p m f)
+-- Of the first sendings of an exchange the latest is the newest.
+last-cases : (n t o : ℕ) (d : Deed) (note : Note) (old : List FirstSending)
+    → (option_map (λ (f : FirstSending). f.number) (find (λ (f : FirstSending). eqb f.opening o) (firsts_by n t d note old)) ≡ Some n)
+    ⊎ (option_map (λ (f : FirstSending). f.number) (find (λ (f : FirstSending). eqb f.opening o) (firsts_by n t d note old))
+    ≡ option_map (λ (f : FirstSending). f.number) (find (λ (f : FirstSending). eqb f.opening o) old))
+last-cases n t o (Sends p b w) (First q m) old = elim (eqb_tells q o) [ inl u ↦ inl (rw (u.0) refl) | inr u ↦ inr (rw (u.0) refl) ]
+last-cases n t o (Carries k mark (D.Sent p b w)) (Bygone m) old = elim (eqb_tells n o) [ inl u ↦ inl (rw (u.0) refl) | inr u ↦ inr (rw (u.0) refl) ]
+last-cases n t o d note old = inr refl
+
+last-new : (l : List Noted) (t o : ℕ) (p : Peer) (b : List ℕ) (w : Option ℕ) (m : Content)
+    → sent_last (noted t (Sends p b w) (First o m) ∷ l) o ≡ Some (length l)
+last-new l t o p b w m = rw (eqb-itself o) refl
+
+pub last-newest : (l : List Noted) (t o i j : ℕ) (p : Peer) (m : Content) → sent_last l o ≡ Some j → IsFirst l t o i p m → i ≤ j
+last-newest [] t o i j p m e f = absurd (none-some j e)
+last-newest (x ∷ older) t o i j p m e f =
+    elim (IsFirst-old x older t o i p m f) [
+      | inl u ↦
+          let here : sent_last (x ∷ older) o ≡ Some (length older) =
+          subst (λ (v : Noted). sent_last (v ∷ older) o ≡ Some (length older)) (sym u.1.2) (last-new older t o p u.1.0 u.1.1 m) in
+          let same = some-is _ _ (sym here ∙ e) in
+          let place = u.0 in
+          omega (arith, place, same)
+      | inr u ↦ elim (last-cases (length older) x.written.moment o x.written.deed x.note (firsts older)) [
+        | inl here ↦
+            let same = some-is _ _ (sym here ∙ e) in
+            let below = IsFirst-below older t o i p m u in
+            omega (arith, below, same)
+        | inr same ↦ last-newest older t o i j p m (sym same ∙ e) u
+      ]
+    ]
+
+-- The newest message of an exchange that goes on is waited for, or its reply came last of all.
+abbrev pub IsLatest : Option ℕ → List Reply → ℕ → Type 0
+IsLatest w rs j =
+    (w ≡ Some j) ⊎ ((others : List Reply) × (last : Reply) × (rs ≡ others ++ last ∷ []) × (last.sending ≡ j) × (w ≡ None))
+
+latest-step : (x : Noted) (l : List Noted) (o j : ℕ) (u : Turn) → turn l o x ≡ u → end_here (begun l o) (length l) (replies l o) u ≡ None
+    → ((i : ℕ) → u ≡ Sent i → ⊥) → IsLatest (waits_for l o) (replies l o) j → IsLatest (waits_by u (waits_for l o)) (replies_by (length l) u (replies l o)) j
+latest-step x l o j Nothing is going unsent h = h
+latest-step x l o j (Sent i) is going unsent h = absurd (unsent i refl)
+latest-step x l o j (Replied i m place) is going unsent (inl w) =
+    inr (replies l o, record { number = length l; sending = i; message = m }, refl, some-is _ _ (sym (turn-replied l o x i m place is).waited ∙ w), refl)
+latest-step x l o j (Replied i m place) is going unsent (inr w) = absurd (none-some i (sym w.4 ∙ (turn-replied l o x i m place is).waited))
+latest-step x l o j Rejected is going unsent h = absurd (none-is Reset going)
+latest-step x l o j Expired is going unsent h = absurd (none-is TimedOut going)
+
+pub latest : (l : List Noted) (t o j : ℕ) (p : Peer) (m : Content) → IsFirst l t o j p m → end_of l o ≡ None
+    → ((s i : ℕ) (q : Peer) (n : Content) → IsFirst l s o i q n → i ≤ j) → IsLatest (waits_for l o) (replies l o) j
+latest [] t o j p m f going newest = absurd (none-some _ f.stands)
+latest (x ∷ older) t o j p m f going newest =
+    elim (IsFirst-old x older t o j p m f) [
+      | inl u ↦ inl (subst (λ (v : Noted). waits_for (v ∷ older) o ≡ Some j) (sym u.1.2) (waits-new u.1.0 u.1.1 ∙ ap (λ (n : ℕ). Some n) (sym u.0)))
+      | inr u ↦
+          let was = going-before x older o (ap is_none going) in
+          let below = IsFirst-below older t o j p m u in
+          latest-step x older o j (turn older o x) refl was.0
+          (λ i is.
+          let it = turn-sent older o x i is in
+          let new = newest x.written.moment (length older) it.peer it.message
+          (record { bytes = it.bytes; timeout = it.timeout; stands = at-new x older ∙ ap (λ (v : Noted). Some v) it.entry }) in
+          absurd (omega (arith, new, below)))
+          (latest older t o j p m u was.1
+          (λ s i q n g. newest s i q n (record { bytes = g.bytes; timeout = g.timeout; stands = at-keeps x older i _ g.stands })))
+    ]
   where
-    go : (w : Option ℕ) → waits_for l o ≡ w → (e : Option End) → e ≡ None → Past w e → w ≡ Some i
-    go None is None g (inl h) = absurd (false≢true h)
-    go None is None g (inr h) = absurd (false≢true (sym h))
-    go None is (Some e) g h = absurd (none-some e (sym g))
-    go (Some j) is e g h =
-        let it = waits-first l o j is in
-        ap (λ (n : ℕ). Some n) (sent-once l it.0 t o j i it.1 p it.2 m legal it.3 f)
+    waits-new : (b : List ℕ) (w : Option ℕ) → waits_for (noted t (Sends p b w) (First o m) ∷ older) o ≡ Some (length older)
+    waits-new b w = rw (eqb-itself o) refl
 
 -- It waited for each of its replies.
 abbrev Waited : List Noted → ℕ → Reply → Type 0
@@ -213,10 +277,10 @@ Waited l o r = (waits_for (before l r.number) o ≡ Some r.sending) × (r.number
 
 waited-step : (x : Noted) (l : List Noted) (o : ℕ) (r : Reply) → (Contains (replies l o) r → Waited l o r) → (u : Turn) → turn l o x ≡ u
     → Contains (replies_by (length l) u (replies l o)) r → Waited (x ∷ l) o r
-waited-step x l o r ih (Replied i m) is h =
+waited-step x l o r ih (Replied i m place) is h =
     elim (Contains-push_cases (replies l o) _ r h) [
       | inl w ↦ waited-keeps w
-      | inr w ↦ subst (Waited (x ∷ l) o) w (rw (before-new x l) ((turn-replied l o x i m is).waited), omega arith)
+      | inr w ↦ subst (Waited (x ∷ l) o) w (rw (before-new x l) ((turn-replied l o x i m place is).waited), omega arith)
     ]
   where
     waited-keeps : Contains (replies l o) r → Waited (x ∷ l) o r
@@ -240,11 +304,28 @@ brings Non mid sent h = tt
 brings Ack mid sent h = h
 brings Rst mid sent h = absurd h
 
-pub heard-in : (l : List Noted) (n o : ℕ) (r : Reply) (b : Begun) (x : Noted) → Legal l → begun l o ≡ Some b → at l n ≡ Some x
-    → Contains (replies (before l n) o) r → IsReplyTo (before l n) o r → IsHeardFor (entries l) o b.request r.number r.message
-heard-in l n o r b x legal opened here has h =
+-- What a message asks, it asks with its own ID and token.
+asks-own : (q : CoapRequest) (block : Option Block) (mid : ℕ) (token : List ℕ) (m : Content) → block_message q block mid token ≡ m
+    → m ≡ block_message q block m.mid m.token
+asks-own q None mid token m e = subst (λ (m : Content). m ≡ block_message q None m.mid m.token) e refl
+asks-own q (Some b) mid token m e = subst (λ (m : Content). m ≡ block_message q (Some b) m.mid m.token) e refl
+
+messages-same : (s t : ℕ) (p r : Peer) (b c : List ℕ) (v w : Option ℕ) (o i : ℕ) (m n : Content)
+    → noted s (Sends p b v) (First o m) ≡ noted t (Sends r c w) (First i n) → m ≡ n
+messages-same s t p r b c v w o i m n e = go (ap (λ (x : Noted). x.note) e)
+  where
+    go : First o m ≡ First i n → m ≡ n
+    go f = cc
+
+pub heard-in : (l : List Noted) (n o : ℕ) (r : Reply) (b : Begun) (x : Noted) (block : Option Block) → Legal l → begun l o ≡ Some b → at l n ≡ Some x
+    → Contains (replies (before l n) o) r → IsFetched (before l n) o b.request block r → IsReplyFor (entries l) o b.request block r
+heard-in l n o r b x block legal opened here has fetched =
+    let h : IsReplyTo (before l n) o r = fetched.fits in
     let first = first-before l n _ o _ _ _ h.first in
     let it = sent-as l h.sent_at o r.sending h.peer h.sent b legal opened first in
+    let message : block_message b.request block fetched.mid fetched.token ≡ h.sent =
+    messages-same fetched.moment h.sent_at b.request.peer h.peer fetched.first.bytes h.first.bytes fetched.first.timeout h.first.timeout o o _ h.sent
+    (at-same (before l n) r.sending _ _ fetched.first.stands h.first.stands) in
     let stands = at-before l n r.number _ h.heard in
     let below = subst (λ (m : ℕ). r.number < m) (length-before l n x here) (at-below (before l n) r.number _ h.heard) in
     let twice = before-twice l n r.number x here below in
@@ -260,12 +341,15 @@ heard-in l n o r b x legal opened here has h =
       token = h.token;
       kind = brings r.message.kind r.message.mid h.sent.mid h.kind;
     } in
-    let unanswered = unanswered-till l r.number _ h.sent_at o r.sending h.peer h.sent legal (legal-before l r.number legal) stands early waits in
-    record {
-      sending = r.sending;
-      sent = h.sent;
-      sent_for = it.1;
-      response = subst (λ (p : Peer). IsResponse (entries l) p r.sending h.sent r.number r.message) it.0 response;
-      new = subst (λ (p : Peer). IsNew (entries l) p r.number) it.0 (says-new l h.peer r.number _ legal stands tt);
-      first = subst (λ (p : Peer). IsUnanswered (entries l) p r.sending h.sent r.number) it.0 unanswered;
-    }
+    let unanswered = unanswered-till l r.number _ h.sent_at o r.sending h.peer h.sent legal (legal-before l r.number legal) stands early waits in (
+      record {
+        sending = r.sending;
+        sent = h.sent;
+        sent_for = sent-block (entries l) o b.request it.1 block r.sending h.sent
+            (asks-own b.request block fetched.mid fetched.token h.sent message) it.2;
+        response = subst (λ (p : Peer). IsResponse (entries l) p r.sending h.sent r.number r.message) it.0 response;
+        new = subst (λ (p : Peer). IsNew (entries l) p r.number) it.0 (says-new l h.peer r.number _ legal stands tt);
+        first = subst (λ (p : Peer). IsUnanswered (entries l) p r.sending h.sent r.number) it.0 unanswered;
+      },
+      refl,
+    )

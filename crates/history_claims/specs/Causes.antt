@@ -1,27 +1,53 @@
 -- Which entry the cause of an error names: said of a journal's entries alone.
-use Rattle.std.specs.Prelude.{◌≡◌, ◌≢◌, ◌⊎◌, ℕ, ◌+◌, ◌*◌, ◌^◌, ◌<◌, ◌≤◌, true, List, [], ◌∷◌, length, None, ⊤}
+use Rattle.std.specs.Prelude.{◌≡◌, ◌≢◌, ◌⊎◌, ℕ, ◌+◌, ◌*◌, ◌^◌, ◌<◌, ◌≤◌, true, List, [], ◌∷◌, ◌++◌, length, Option, None, ⊤}
 use Rattle.std.specs.List.{Contains}
 use Rattle.limits.specs.declared.TheConstants.{MAX_EXCHANGES, MAX_MESSAGE_IDS, MAX_RETRANSMIT, MAX_TRANSMIT_WAIT, MAX_WAITING, MESSAGE_ID_LIFETIME}
 use Rattle.coap_codec.specs.declared.message.MsgType.TheVariants.{Ack, Rst}
+use Rattle.coap_codec.specs.declared.block.Block.{Block}
 use Rattle.coap_codec.specs.Spelling.{Content}
+use Rattle.blockwise.specs.Uploads.{next_block}
 use Rattle.uri_map.specs.declared.peer.Peer.{Peer}
 use Rattle.ask_model.specs.declared.cause.Cause.{Cause}
 use Rattle.ask_model.specs.declared.cause.Cause.TheVariants as C
 use Rattle.ask_model.specs.Requests.{CoapRequest, Requests, Refuses}
 use Rattle.ask_model.specs.Sharing.{is_get}
-use Rattle.journal_book.specs.Entries.{Grounds, Fault, Sends, Passes, Answers, Shuts, Written}
-use Rattle.history_laws.specs.Responses.{whole_of}
+use Rattle.journal_book.specs.Entries.{Grounds, Fault, Sends, Hears, Passes, Answers, Shuts, Written}
 use Rattle.history_laws.specs.Confirmations.{empty}
+use Rattle.history_laws.specs.Progress.{Reply, NotUnderstood, Progress, Fetches, Gives, Ends, first_progress, step, progress, ended_by, block_after}
 use Rattle.history_laws.specs.Justified.{Stands}
 use Rattle.history_claims.specs.Headline.{IsEntry, IsAsked, IsFirstSending, WasFirstSent, IsSentFor, IsHeard, IsUnanswered, IsHeardFor, IsPending, IsWrite, IsShared}
 
--- Nothing was sent for the ask k, nor for the ask o that it joined, if it did: what asks the same,
--- after o, was sent for another ask, which was pending then.
-abbrev pub IsUnsent : List Written → ℕ → ℕ → CoapRequest → Type 0
-IsUnsent h k o q =
-    (i : ℕ) (m : Content) → IsSentFor h o q i m
-    → (a : ℕ) × (r : CoapRequest)
-    × (a ≢ k) × (a ≢ o) × IsPending h i a r × IsSentFor h a r i m
+-- After the entry s nothing was sent for the ask k, nor for the ask o that it joined, if it did:
+-- what asks the same, or is for a block of it, was sent for another ask, which was pending then.
+abbrev pub IsUnsent : List Written → ℕ → ℕ → ℕ → CoapRequest → Type 0
+IsUnsent h s k o q =
+    (i : ℕ) (m : Content) (block : Option Block) → s < i → IsSentFor h o q block i m
+    → (a : ℕ) × (r : CoapRequest) × (other : Option Block)
+    × (a ≢ k) × (a ≢ o) × IsPending h i a r × IsSentFor h a r other i m
+
+-- The reply is the one to what was to be asked for the request at this point (`next_message`).
+abbrev pub IsReplyFor
+    : List Written → ℕ → CoapRequest → Option Block → Reply → Type 0
+IsReplyFor h k q block r =
+    (it : IsHeardFor h k q block r.number r.message) × (it.sending ≡ r.sending)
+
+abbrev pub IsNextReply : List Written → ℕ → CoapRequest → Progress → Reply → Type 0
+IsNextReply h k q (Fetches restarts pieces got) r = IsReplyFor h k q (block_after pieces) r
+IsNextReply h k q (Gives upload got) r = IsReplyFor h k q (next_block upload) r
+IsNextReply h k q (Ends how) r = ⊥
+
+-- So are these, each one at the point that those before it led to: it came to a message that was
+-- sent after the one before was heard.
+abbrev pub AreRepliesTo : List Written → ℕ → CoapRequest → Progress → List Reply → Type 0
+AreRepliesTo h k q point [] = ⊤
+AreRepliesTo h k q point (r ∷ rs) =
+    IsNextReply h k q point r × AreRepliesTo h r.number q (step point r) rs
+
+-- These are the replies for the ask o so far, and there is more to ask for.
+pub record WentOn
+    (h : List Written) (o : ℕ) (q : CoapRequest) (others : List Reply) (last : Reply) : Type 0 where
+  pub heard : AreRepliesTo h o q (first_progress q) (others ++ last ∷ [])
+  pub going : ended_by true (progress q (others ++ last ∷ [])) ≡ None
 
 -- The bytes that were sent to the endpoint in the entry i, at the moment t, were sent again in
 -- these entries, the newest first, the last time at this moment; each time the timeout was over,
@@ -45,8 +71,8 @@ pub record IsUnsettled
   pub unanswered : IsUnanswered h p i sent n
 
 -- The message of the entry i was given up after the entry k, by this moment: it was sent again four
--- times (MAX_RETRANSMIT), and a tick found the timeout after the last over; till then nothing settled
--- it.
+-- times (MAX_RETRANSMIT), and a tick found the timeout after the last over; till then nothing
+-- settled it.
 pub record IsGivenUp (h : List Written) (k t : ℕ) (p : Peer) (i : ℕ) (sent : Content) : Type 0 where
   pub moment : ℕ
   pub first : IsFirstSending h i moment p sent
@@ -92,8 +118,8 @@ pub record AreManyPending
   pub unshared : (a b : ℕ) → Contains asks.ones a → Contains asks.ones b → a < b
       → AreUnshared h a b
 
--- Before the ask k, a message was first sent to the endpoint in the entry i, whose ID may not be used
--- again at this moment (RFC 7252 section 4.4).
+-- Before the ask k, a message was first sent to the endpoint in the entry i, whose ID may not be
+-- used again at this moment (RFC 7252 section 4.4).
 pub record IsRecent (h : List Written) (k t : ℕ) (p : Peer) (i : ℕ) : Type 0 where
   pub before : i < k
   pub moment : ℕ
@@ -118,22 +144,59 @@ pub record IsTurnedAway (h : List Written) (c k : ℕ) : Type 0 where
   pub alone : (o : ℕ) (p : IsPending h k o request)
       → ((m s : ℕ) → m < k → IsEntry h m s (Shuts p.conn) → ⊥) → AreUnshared h o k
   pub crowded : IsCrowded h k moment request.peer
-  pub unsent : IsUnsent h k k request
+  pub unsent : IsUnsent h k k k request
 
--- The message for the ask is named, to which no reply came before the answer; or the ask, where
--- nothing was sent. What it shares was asked 93 seconds before or more (MAX_TRANSMIT_WAIT, RFC 7252
--- section 4.8.2), or the message was given up.
+-- There is no place for one message more, for a request that is pending itself: 64 others to its
+-- endpoint are, or there is no message ID for it besides those that are in use or wait to be used.
+pub data IsFull (h : List Written) (k t : ℕ) (p : Peer) : Type 0 where
+  queue : AreManyPending h k (MAX_WAITING + 1) (λ (q : CoapRequest). q.peer ≡ p) → IsFull h k t p
+  mids : (used waits : ℕ) → MAX_MESSAGE_IDS ≤ used + waits → AreMany used (IsRecent h k t p)
+      → AreManyPending h k (waits + 1) (λ (q : CoapRequest). q.peer ≡ p) → IsFull h k t p
+
+-- Replies came to the messages for the ask, the last of them after it, and there was more to ask
+-- for; but then there was no place for the next message.
+pub record IsCutOff (h : List Written) (a c k : ℕ) : Type 0 where
+  pub request : CoapRequest
+  pub opening : ℕ
+  pub since : ℕ
+  pub shared : IsShared h c k request opening since
+  pub others : List Reply
+  pub last : Reply
+  pub went : WentOn h opening request others last
+  pub live : k < last.number
+  pub before : last.number < a
+  pub moment : ℕ
+  pub bytes : List ℕ
+  pub heard : IsEntry h last.number moment (Hears request.peer bytes)
+  pub full : IsFull h last.number moment request.peer
+  pub unsent : IsUnsent h last.number k opening request
+
+-- The latest message for the ask is named: a reply came to it before the answer, after which there
+-- was more to ask for, and nothing was sent for that.
+pub record IsRepliedTo (h : List Written) (a k o : ℕ) (q : CoapRequest) (n : ℕ) : Type 0 where
+  pub others : List Reply
+  pub last : Reply
+  pub names : last.sending ≡ n
+  pub went : WentOn h o q others last
+  pub before : last.number < a
+  pub unsent : IsUnsent h last.number k o q
+
+-- The message for the ask is named, to which no reply came before the answer; or the latest one; or
+-- the ask, where nothing was sent. What it shares was asked 93 seconds before or more
+-- (MAX_TRANSMIT_WAIT, RFC 7252 section 4.8.2), or the message was given up.
 pub record IsTimedOut (h : List Written) (a t c k n : ℕ) : Type 0 where
   pub request : CoapRequest
   pub opening : ℕ
   pub since : ℕ
   pub shared : IsShared h c k request opening since
-  pub names : ((m : Content) × IsSentFor h opening request n m × IsUnanswered h request.peer n m a)
-      ⊎ ((n ≡ k) × IsUnsent h k opening request)
+  pub names : ((m : Content) × (block : Option Block)
+      × IsSentFor h opening request block n m × IsUnanswered h request.peer n m a)
+      ⊎ (IsRepliedTo h a k opening request n ⊎ ((n ≡ k) × IsUnsent h opening k opening request))
   pub over : (since + MAX_TRANSMIT_WAIT ≤ t)
-      ⊎ ((m : Content) × IsSentFor h opening request n m × IsGivenUp h k t request.peer n m)
+      ⊎ ((m : Content) × (block : Option Block)
+      × IsSentFor h opening request block n m × IsGivenUp h k t request.peer n m)
 
--- The entry heard after the ask, from the endpoint, an empty RST with the ID of the message for it,
+-- The entry heard after the ask, from the endpoint, an empty RST with the ID of a message for it,
 -- before anything else ended its sending.
 pub record IsReset (h : List Written) (c k n : ℕ) : Type 0 where
   pub request : CoapRequest
@@ -143,22 +206,26 @@ pub record IsReset (h : List Written) (c k n : ℕ) : Type 0 where
   pub live : k < n
   pub sending : ℕ
   pub sent : Content
-  pub sent_for : IsSentFor h opening request sending sent
+  pub block : Option Block
+  pub sent_for : IsSentFor h opening request block sending sent
   pub after : sending < n
   pub unsettled : IsUnsettled h request.peer sending sent n
   pub reset : ℕ
   pub heard : IsHeard h request.peer n reset (empty Rst sent.mid)
 
--- The entry heard after the ask the reply to the message for it, and it is no whole response.
+-- The entry heard after the ask the last reply to the messages for it, and with that they can't
+-- become a whole response.
 pub record IsNotUnderstood (h : List Written) (c k n : ℕ) : Type 0 where
   pub request : CoapRequest
   pub opening : ℕ
   pub since : ℕ
   pub shared : IsShared h c k request opening since
   pub live : k < n
-  pub message : Content
-  pub heard : IsHeardFor h opening request n message
-  pub fails : whole_of request (message ∷ []) ≡ None
+  pub others : List Reply
+  pub last : Reply
+  pub number : last.number ≡ n
+  pub heard : AreRepliesTo h opening request (first_progress request) (others ++ last ∷ [])
+  pub fails : progress request (others ++ last ∷ []) ≡ Ends NotUnderstood
 
 -- The ask means this refusal.
 pub record IsRefused (h : List Written) (c k : ℕ) (cause : Cause) : Type 0 where
@@ -167,7 +234,7 @@ pub record IsRefused (h : List Written) (c k : ℕ) (cause : Cause) : Type 0 whe
   pub asked : IsAsked h k c moment (Refuses cause status)
 
 abbrev pub IsCausedBy : List Written → ℕ → ℕ → ℕ → ℕ → Cause → ℕ → Type 0
-IsCausedBy h a t c k C.Busy n = (n ≡ k) × IsTurnedAway h c k
+IsCausedBy h a t c k C.Busy n = (n ≡ k) × (IsTurnedAway h c k ⊎ IsCutOff h a c k)
 IsCausedBy h a t c k C.Timeout n = IsTimedOut h a t c k n
 IsCausedBy h a t c k C.Reset n = IsReset h c k n
 IsCausedBy h a t c k C.NotUnderstood n = IsNotUnderstood h c k n

@@ -1,19 +1,21 @@
 -- What an answer rests on: said of a journal's entries alone, which lie oldest first and go by their
 -- number from 0. A journal may begin with copies of an older one's entries: no answer rests on them,
 -- but tokens, message IDs and repeats are told by them too.
-use Rattle.std.specs.Prelude.{◌≡◌, ◌≢◌, ◌⊎◌, ℕ, ◌+◌, ◌<◌, ◌≤◌, List, [], ◌∷◌, slice_get, Some, ⊤}
+use Rattle.std.specs.Prelude.{◌≡◌, ◌≢◌, ◌⊎◌, ℕ, ◌+◌, ◌<◌, ◌≤◌, List, [], ◌∷◌, slice_get, Option, Some, ⊤}
 use Rattle.std.specs.List.{Contains}
 use Rattle.limits.specs.declared.TheConstants.{EXCHANGE_LIFETIME, MAX_TRANSMIT_WAIT}
 use Rattle.coap_codec.specs.declared.message.MsgType.{MsgType}
 use Rattle.coap_codec.specs.declared.message.MsgType.TheVariants.{Con, Non, Ack, Rst}
+use Rattle.coap_codec.specs.declared.block.Block.{Block}
 use Rattle.coap_codec.specs.Spelling.{Content, Spells}
 use Rattle.uri_map.specs.declared.peer.Peer.{Peer}
 use Rattle.ask_model.specs.declared.cause.Cause.TheVariants as C
-use Rattle.ask_model.specs.Requests.{CoapRequest, Came, Sense, Requests, request_message}
+use Rattle.ask_model.specs.Requests.{CoapRequest, Came, Sense, Requests, request_message, block_message}
 use Rattle.ask_model.specs.Views.{Rules}
 use Rattle.journal_book.specs.Entries.{Grounds, Live, Kept, Fault, Done, Sent, Heard, done_of, Deed, Asks, Sends, Hears, Passes, Answers, Written}
 use Rattle.resp_cache.specs.Stored.{lifetime}
 use Rattle.history_laws.specs.Responses.{Response, whole_of}
+use Rattle.history_laws.specs.Progress.{Point, first_point, block_for, point_after}
 use Rattle.history_laws.specs.Justified.{Stands}
 
 -- The entry with this number was made at this moment, and says this.
@@ -47,18 +49,22 @@ pub record WasFirstSent (h : List Written) (i t : ℕ) (p : Peer) (m : Content) 
   pub done : WasDone h i t (Sent p bytes (Some timeout))
   pub spelled : Spells m bytes
 
--- The message asks just what the request means: its method, options and body (RFC 7252 section 5).
-abbrev pub AsksFor : CoapRequest → Content → Type 0
-AsksFor q m = m ≡ request_message q m.mid m.token
+-- The message asks just what the request means: its method, options and body (RFC 7252 section 5);
+-- or, where a block is named, for this block of its representation, or with this one of its body
+-- (RFC 7959 sections 2.4 and 2.3).
+abbrev pub AsksFor : CoapRequest → Option Block → Content → Type 0
+AsksFor q block m = m ≡ block_message q block m.mid m.token
 
--- After the ask k, the entry i first sent this message for the request q, to the endpoint of q, under
--- a token that was issued for it: no other message bears it (RFC 7252 section 5.3.1).
+-- After the entry k, as the ask or a reply, the entry i first sent this message for the request q,
+-- or for the block of it, to the endpoint of q, under a token that was issued for it: no other
+-- message bears it (RFC 7252 section 5.3.1).
 pub record IsSentFor
-    (h : List Written) (k : ℕ) (q : CoapRequest) (i : ℕ) (m : Content) : Type 0 where
+    (h : List Written) (k : ℕ) (q : CoapRequest) (block : Option Block) (i : ℕ) (m : Content)
+    : Type 0 where
   pub after : k < i
   pub moment : ℕ
   pub first : IsFirstSending h i moment q.peer m
-  pub asks : AsksFor q m
+  pub asks : AsksFor q block m
   pub issued : (j s : ℕ) (p : Peer) (n : Content) → WasFirstSent h j s p n
       → n.token ≡ m.token → j ≡ i
 
@@ -80,8 +86,8 @@ MayRepeat Con = ⊤
 MayRepeat Non = ⊤
 MayRepeat _ = ⊥
 
--- The two entries heard such a message each, from the endpoint and with one ID, the second less than
--- 247 seconds after the first (EXCHANGE_LIFETIME, RFC 7252 section 4.8.2).
+-- The two entries heard such a message each, from the endpoint and with one ID, the second less
+-- than 247 seconds after the first (EXCHANGE_LIFETIME, RFC 7252 section 4.8.2).
 pub record IsAlike (h : List Written) (p : Peer) (i j : ℕ) : Type 0 where
   pub earlier : i < j
   pub moment : ℕ
@@ -94,8 +100,8 @@ pub record IsAlike (h : List Written) (p : Peer) (i j : ℕ) : Type 0 where
   pub id : first.mid ≡ second.mid
   pub recent : later < moment + EXCHANGE_LIFETIME
 
--- Then the second repeats the first, if that is new, which is what repeats no other (RFC 7252 section
--- 4.5).
+-- Then the second repeats the first, if that is new, which is what repeats no other (RFC 7252
+-- section 4.5).
 mutual
   pub data IsNew (h : List Written) (p : Peer) : ℕ → Type 0 where
     anew : {j : ℕ} → ((i : ℕ) → IsAlike h p i j → IsRepeat h p i) → IsNew h p j
@@ -127,13 +133,14 @@ abbrev pub IsUnanswered : List Written → Peer → ℕ → Content → ℕ → 
 IsUnanswered h p i sent n =
     (j : ℕ) (m : Content) → j < n → IsResponse h p i sent j m → IsRepeat h p j
 
--- The entry j heard the reply to a message that was sent for the request q after the ask k: the first
--- response that is no repeat.
+-- The entry j heard the reply to a message that was sent for the request q, or for the block of it,
+-- after the entry k: the first response that is no repeat.
 pub record IsHeardFor
-    (h : List Written) (k : ℕ) (q : CoapRequest) (j : ℕ) (m : Content) : Type 0 where
+    (h : List Written) (k : ℕ) (q : CoapRequest) (block : Option Block) (j : ℕ) (m : Content)
+    : Type 0 where
   pub sending : ℕ
   pub sent : Content
-  pub sent_for : IsSentFor h k q sending sent
+  pub sent_for : IsSentFor h k q block sending sent
   pub response : IsResponse h q.peer sending sent j m
   pub new : IsNew h q.peer j
   pub first : IsUnanswered h q.peer sending sent j
@@ -154,8 +161,8 @@ pub record IsPending (h : List Written) (k o : ℕ) (q : CoapRequest) : Type 0 w
   pub unanswered : (n t c : ℕ) (g : Grounds) → n < k → IsEntry h n t (Answers c o g) → ⊥
   pub in_time : IsInTime h moment o k
 
--- The requests are GETs (1) to one endpoint, which differ by message ID and token alone: one response
--- may answer both (RFC 7252 section 5.6).
+-- The requests are GETs (1) to one endpoint, which differ by message ID and token alone: one
+-- response may answer both (RFC 7252 section 5.6).
 abbrev pub IsSameGet : CoapRequest → CoapRequest → Type 0
 IsSameGet q r =
     (q.method ≡ 1) × (q.peer ≡ r.peer)
@@ -170,8 +177,8 @@ pub record IsWrite (h : List Written) (q : CoapRequest) (w : ℕ) : Type 0 where
   pub changes : request.method ≢ 1
   pub place : (request.peer ≡ q.peer) × (request.target.path ≡ q.target.path)
 
--- The entry n answers such an ask: not that there was no room for it. What was heard of the resource
--- before may be out of date.
+-- The entry n answers such an ask: not that there was no room for it. What was heard of the
+-- resource before may be out of date.
 pub record IsWriteAnswer (h : List Written) (q : CoapRequest) (n : ℕ) : Type 0 where
   pub ask : ℕ
   pub write : IsWrite h q ask
@@ -188,19 +195,22 @@ pub record IsJoined (h : List Written) (k : ℕ) (q : CoapRequest) (o : ℕ) : T
   pub same : IsSameGet q request
   pub fresh : (n : ℕ) → IsWriteAnswer h q n → n < k → n < o
 
--- In the entry k the connection asked for q, and what is sent for the ask o, of the moment since, is
--- sent for that too: it is that ask, or one that it may join.
+-- In the entry k the connection asked for q, and what is sent for the ask o, of the moment since,
+-- is sent for that too: it is that ask, or one that it may join.
 pub record IsShared (h : List Written) (c k : ℕ) (q : CoapRequest) (o since : ℕ) : Type 0 where
   pub moment : ℕ
   pub asked : IsAsked h k c moment (Requests q)
   pub shares : ((o ≡ k) × (since ≡ moment))
       ⊎ ((j : IsJoined h k q o) × (since ≡ j.pending.moment))
 
--- The entries with these numbers heard these replies, one by one.
-abbrev pub AreHeardFor : List Written → ℕ → CoapRequest → List ℕ → List Content → Type 0
-AreHeardFor h k q [] [] = ⊤
-AreHeardFor h k q (j ∷ js) (m ∷ ms) = IsHeardFor h k q j m × AreHeardFor h k q js ms
-AreHeardFor h k q _ _ = ⊥
+-- The entries with these numbers heard these replies, one by one, from this point on: each to a
+-- message that was sent after the one before was heard, and is for the block after those before.
+abbrev pub AreHeardFor
+    : List Written → ℕ → CoapRequest → Point → List ℕ → List Content → Type 0
+AreHeardFor h k q point [] [] = ⊤
+AreHeardFor h k q point (j ∷ js) (m ∷ ms) =
+    IsHeardFor h k q (block_for point) j m × AreHeardFor h j q (point_after point m) js ms
+AreHeardFor h k q point _ _ = ⊥
 
 -- These replies begin with one that was heard at this moment.
 abbrev pub IsHeardFirst : List Written → ℕ → List ℕ → Type 0
@@ -208,15 +218,15 @@ IsHeardFirst h t [] = ⊥
 IsHeardFirst h t (j ∷ js) = (p : Peer) × (bytes : List ℕ) × IsEntry h j t (Hears p bytes)
 
 -- The answer in the entry n, to the ask k of its connection, rests on one whole response: on these
--- entries, which heard it for that ask or for one that it joined, before the answer and before the
--- latter was 93 seconds old. One of them was heard after the ask.
+-- entries, which heard it, piece by piece, for that ask or for one that it joined, before the
+-- answer and before the latter was 93 seconds old. One of them was heard after the ask.
 pub record RestsOn (h : List Written) (n c k : ℕ) (js : List ℕ) : Type 0 where
   pub request : CoapRequest
   pub opening : ℕ
   pub since : ℕ
   pub shared : IsShared h c k request opening since
   pub messages : List Content
-  pub heard : AreHeardFor h opening request js messages
+  pub heard : AreHeardFor h opening request (first_point request) js messages
   pub before : (j : ℕ) → Contains js j → j < n
   pub live : (j : ℕ) × (k < j) × Contains js j
   pub in_time : IsInTime h since k n
@@ -230,10 +240,10 @@ RestsOnReplies =
     (h : List Written) (n t c k : ℕ) (js : List ℕ) → Stands h
     → IsEntry h n t (Answers c k (Live js)) → RestsOn h n c k js
 
--- The answer that the connection is given at this moment, to the ask k of the same moment, rests on a
--- whole 2.05 that was heard before it: on these entries, which heard that for an earlier ask of an
--- equal GET. At this moment it is fresh (RFC 7252 section 5.6.1), counted from its first reply, and no
--- write to the resource was answered since the earlier ask.
+-- The answer that the connection is given at this moment, to the ask k of the same moment, rests on
+-- a whole 2.05 that was heard before it: on these entries, which heard that for an earlier ask of
+-- an equal GET. At this moment it is fresh (RFC 7252 section 5.6.1), counted from its first reply,
+-- and no write to the resource was answered since the earlier ask.
 pub record IsServed (h : List Written) (t c k : ℕ) (js : List ℕ) : Type 0 where
   pub request : CoapRequest
   pub asked : IsAsked h k c t (Requests request)
@@ -245,7 +255,7 @@ pub record IsServed (h : List Written) (t c k : ℕ) (js : List ℕ) : Type 0 wh
   pub other_asked : IsAsked h opening conn moment (Requests other)
   pub same : IsSameGet request other
   pub messages : List Content
-  pub heard : AreHeardFor h opening other js messages
+  pub heard : AreHeardFor h opening other (first_point other) js messages
   pub before : (j : ℕ) → Contains js j → j < k
   pub response : Response
   pub whole : whole_of other messages ≡ Some response

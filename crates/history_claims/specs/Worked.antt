@@ -1,7 +1,8 @@
 -- Worked journals of `history_laws`, as entries: what their answers rest on, and what they don't.
-use Rattle.std.specs.Prelude.{List, [], ◌∷◌, Some, None}
+use Rattle.std.specs.Prelude.{List, [], ◌∷◌, Option, Some, None}
 use Rattle.ask_model.specs.declared.cause.Cause.TheVariants as C
 use Rattle.ask_model.specs.Requests.{CoapRequest}
+use Rattle.coap_codec.specs.declared.block.Block.{Block}
 use Rattle.coap_codec.specs.Spelling.{Content}
 use Rattle.journal_book.specs.Entries.{Live, Fault, Opens, Asks, Sends, Hears, Passes, Answers, Shuts}
 use Rattle.history_laws.specs.Readings.{Noted, Plain, Begins, Joins, First, Says, unobserved, entries, noted}
@@ -10,6 +11,8 @@ use Rattle.history_laws.specs.WorkedMessages as M
 use Rattle.history_laws.specs.WorkedCopies as W
 use Rattle.history_laws.specs.WorkedEndings as E
 use Rattle.history_laws.specs.WorkedLate as L
+use Rattle.history_laws.specs.WorkedPieces as P
+use Rattle.history_laws.specs.WorkedUploads as U
 use Rattle.history_laws.specs.WorkedReaders as R
 use Rattle.history_laws.specs.WorkedSpoiled as S
 use Rattle.history_laws.specs.WorkedStore as K
@@ -142,8 +145,52 @@ Unjoined = IsTurnedAway (entries asked_by_two) 1 4 → ⊥
 abbrev pub Abandoned : Type 0
 Abandoned = (q : CoapRequest) → IsPending (entries L.abandoned) 7 1 q → ⊥
 
--- After copies an answer rests on a response of the journal's own, and what was heard before repeats
--- the copy of that.
+-- The GET's answer rests on the two pieces of its response.
+abbrev pub Fetched : Type 0
+Fetched = RestsOn (entries P.fetched) 6 0 1 (3 ∷ 5 ∷ [])
+
+-- Not so: where the second came to a message that asks for another block than the one after the
+-- first.
+abbrev pub Astray : Type 0
+Astray = RestsOn (entries (P.fetched_with 2)) 6 0 1 (3 ∷ 5 ∷ []) → ⊥
+
+-- Not so: where the second was asked for before the first was heard.
+abbrev pub asked_early : List Noted
+asked_early =
+    noted 900 (Answers 0 1 (Live (4 ∷ 5 ∷ []))) Plain
+    ∷ noted 900 (Hears server P.rest_bytes) (Says P.rest_message (Some 3) unobserved)
+    ∷ noted 700 (Hears server P.piece_bytes) (Says P.piece_message (Some 2) unobserved)
+    ∷ noted 600 (Sends server (P.get_block_bytes 1) (Some 2000)) (First 1 (P.get_block 1))
+    ∷ noted 0 (Sends server M.get_bytes (Some 2000)) (First 1 M.get_message)
+    ∷ noted 0 (Asks 0 (ask_for M.get_light)) (Begins M.get_light)
+    ∷ noted 0 (Opens 0) Plain
+    ∷ []
+
+abbrev pub AskedEarly : Type 0
+AskedEarly = RestsOn (entries asked_early) 6 0 1 (4 ∷ 5 ∷ []) → ⊥
+
+-- The PUT's answer rests on the answers to both pieces of its body; or on the first alone, where that
+-- refuses it.
+abbrev pub Uploaded : Type 0
+Uploaded = RestsOn (entries U.uploaded) 6 0 1 (3 ∷ 5 ∷ [])
+
+abbrev pub TurnedDown : Type 0
+TurnedDown = RestsOn (entries U.turned_down) 4 0 1 (3 ∷ [])
+
+-- Not so: where the answer to the first is left out.
+abbrev pub LeftOut : Type 0
+LeftOut = RestsOn (entries U.uploaded) 6 0 1 (5 ∷ []) → ⊥
+
+-- 2.31 to the last piece is named, as it isn't understood.
+abbrev pub Endless : Type 0
+Endless = IsCausedBy (entries U.endless) 6 900 0 1 C.NotUnderstood 5
+
+-- A second piece that leaves a gap is named, as it isn't understood.
+abbrev pub Gap : Type 0
+Gap = IsCausedBy (entries P.gap_heard) 6 900 0 1 C.NotUnderstood 5
+
+-- After copies an answer rests on a response of the journal's own, and what was heard before
+-- repeats the copy of that.
 abbrev pub AnsweredAnew : Type 0
 AnsweredAnew = RestsOn (entries W.answered_anew) 9 2 6 (8 ∷ [])
 
@@ -155,7 +202,9 @@ abbrev pub sent_again : List Noted
 sent_again = noted 100000 (Sends server M.get_bytes (Some 2000)) (First 6 M.get_message) ∷ W.asking_anew
 
 abbrev pub SentAgain : Type 0
-SentAgain = (m : Content) → IsSentFor (entries sent_again) 6 M.get_light 7 m → ⊥
+SentAgain =
+    (block : Option Block) (m : Content)
+    → IsSentFor (entries sent_again) 6 M.get_light block 7 m → ⊥
 
 -- The response of entry 3 is kept for an equal GET, up to its last fresh millisecond.
 abbrev pub Served : Type 0

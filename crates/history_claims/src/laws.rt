@@ -14,7 +14,8 @@ ghost use Rattle.history_claims.specs.Apart.{
 };
 
 /// An answer that isn't the proxy's own rests on one whole response, heard under tokens that were
-/// issued for what its ask means (RFC 7252 section 5.3.2).
+/// issued for what its ask means, and for the blocks of that one after another (RFC 7252 section 5.3.2,
+/// RFC 7959 section 2.4).
 pub fn rests_on_replies()
     ensures { RestsOnReplies }
 {}

@@ -8,5 +8,6 @@ pub use laws::{
     answered_in_order, copies_first, names_cause, rests_on_replies, rests_on_stored, served_once,
 };
 pub use worked::{
-    not_excused, not_so, worked_answers, worked_causes, worked_copies, worked_readers, worked_store,
+    not_excused, not_so, worked_answers, worked_causes, worked_copies, worked_pieces,
+    worked_readers, worked_store, worked_uploads,
 };

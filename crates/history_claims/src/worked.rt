@@ -20,6 +20,14 @@ ghost use Rattle.history_claims.specs.Worked.{
   Unlike,
   CountedTwice,
   Unjoined,
+  Fetched,
+  Astray,
+  AskedEarly,
+  Gap,
+  Uploaded,
+  TurnedDown,
+  LeftOut,
+  Endless,
   AnsweredAnew,
   Repeated,
   SentAgain,
@@ -71,6 +79,25 @@ pub fn worked_readers()
     ensures unlike { Unlike }
     ensures counted_twice { CountedTwice }
     ensures unjoined { Unjoined }
+{}
+
+/// A response in two pieces, and a second piece that isn't understood. And responses that are none,
+/// whose second piece came to a message that asks for another block, or that was sent before the first
+/// came.
+pub fn worked_pieces()
+    ensures fetched { Fetched }
+    ensures astray { Astray }
+    ensures early { AskedEarly }
+    ensures gap { Gap }
+{}
+
+/// An answer to a body in two pieces, which rests on the answers to both; one that refuses the first; and
+/// one to the last piece that isn't understood. And a response that is none without the first answer.
+pub fn worked_uploads()
+    ensures uploaded { Uploaded }
+    ensures turned_down { TurnedDown }
+    ensures left_out { LeftOut }
+    ensures endless { Endless }
 {}
 
 /// After copies of an older journal's entries: a response to what is asked anew, and what repeats one of

@@ -16,8 +16,8 @@ use Rattle.history_laws.specs.Justified.{IsAsk, reads_by, reads_in, reads, IsTur
 use Rattle.history_laws.specs.Laws.{IsFirst, IsAnswer, JoinsOne, ServesOne, OpensNone, OpensFor, IsAskSent, IsConfirmation}
 use Rattle.history_laws.proofs.Basis.{grounds-of}
 use Rattle.history_laws.proofs.Places.{at-below, at-same}
-use Rattle.history_laws.proofs.Facts.{follows-at, at-before, length-before}
-use Rattle.history_laws.proofs.Sent.{begun-before, begun-below, begun-opening, opening-begun, asked-for, sent-for, sent-once}
+use Rattle.history_laws.proofs.Facts.{follows-at, at-before, length-before, eqb-apart}
+use Rattle.history_laws.proofs.Sent.{begun-before, begun-below, begun-opening, opening-begun, asked-for, next-is, sent-for, sent-once}
 use Rattle.history_laws.proofs.Joining.{joins-is}
 use Rattle.history_laws.proofs.Resting.{none-some}
 use Rattle.history_laws.proofs.Confirmed.{owed-to}
@@ -81,7 +81,7 @@ module _ (l : List Noted) (k c m : ℕ) (a : Ask) (stands : at l k ≡ Some (not
       (sym (ap own_cause h.sense) ∙ ap (λ (v : Ask). own_cause v.sense) (that-ask n h.conn h.asked.moment h.ask h.asked.note h.asked.stands), e)
 
   own-caused : (n t j : ℕ) (cause : Cause) → Caused (before l n) t k cause j → (cause ≡ own_cause a.sense) × (j ≡ k)
-  own-caused n t j Busy h = own-turned n j h.0 h.1
+  own-caused n t j Busy h = elim h.1 [ inl away ↦ own-turned n j h.0 away | inr turned ↦ absurd (reads-no n turned.0 turned.2) ]
   own-caused n t j Timeout h = absurd (reads-no n h.0 h.1)
   own-caused n t j Reset h = absurd (reads-no n h.0 h.1)
   own-caused n t j NotUnderstood h = absurd (reads-no n h.0 h.1)
@@ -136,7 +136,7 @@ module _ (l : List Noted) (k c m : ℕ) (a : Ask) (q : CoapRequest) (js : List �
       unrefused e = cc
 
   served-uncaused : (n t j : ℕ) (cause : Cause) → Caused (before l n) t k cause j → ⊥
-  served-uncaused n t j Busy h = served-unturned n h.1
+  served-uncaused n t j Busy h = elim h.1 [ inl away ↦ served-unturned n away | inr turned ↦ served-no n turned.0 turned.2 ]
   served-uncaused n t j Timeout h = served-no n h.0 h.1
   served-uncaused n t j Reset h = served-no n h.0 h.1
   served-uncaused n t j NotUnderstood h = served-no n h.0 h.1
@@ -188,12 +188,15 @@ opened l k c m a (Requests q) (Begins r) e legal stands h misses =
       misses,
       inl (record {
         since = m;
-        opened = opening-begun l k m (Asks c a) q (subst (λ (v : CoapRequest). at l k ≡ Some (noted m (Asks c a) (Begins v))) h.0 stands);
+        opened = begins;
         alone = h.1;
         room = h.2;
         once = λ s t i j p r x y f g. sent-once l s t k i j p r x y legal f g;
       }),
     )
+  where
+    begins : begun l k ≡ Some (record { since = m; request = q })
+    begins = opening-begun l k m (Asks c a) q (subst (λ (v : CoapRequest). at l k ≡ Some (noted m (Asks c a) (Begins v))) h.0 stands)
 opened l k c m a (Requests q) (Joins o) e legal stands h misses = inr (misses, inr (inl (joins-one l k c m o a q legal stands h)))
 opened l k c m a (Requests q) (Serves js) e legal stands h served =
     inl (serves-one l k c m a q js e stands legal h.0 h.1 h.2 h.3)
@@ -212,6 +215,7 @@ ask-sent : (l : List Noted) (i t : ℕ) (p : Peer) (b : List ℕ) (w : Option �
 ask-sent l i t p b w o m legal e =
     let it = sent-for l t o i p m legal (record { bytes = b; timeout = w; stands = e }) in
     let ask = asked-for l o it.exchange legal it.opened in
+    let asks = next-is it.exchange.request _ m.mid m.token m it.next in
     record {
       ask = o;
       conn = ask.conn;
@@ -225,7 +229,8 @@ ask-sent l i t p b w o m legal e =
       asks = record { moment = it.exchange.since; note = Begins it.exchange.request; stands = ask.stands };
       sense = ask.sense;
       peer = it.peer;
-      carries = it.carries;
+      block = asks.0;
+      carries = asks.1;
       spelled = it.spelled;
     }
 

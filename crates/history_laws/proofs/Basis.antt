@@ -1,13 +1,15 @@
 -- What an answer rests on: replies to the exchange that its ask reads.
 use Rattle.std.proofs.Common.{◌≡◌, ℕ, zero, suc, Bool, true, false, cond, ◌<◌, inl, inr, List, [], ◌∷◌, ◌++◌, length, Option, Some, None, refl, sym, ap, subst, ◌∙◌, arith}
 use Rattle.std.specs.List.{Contains}
-use Rattle.std.proofs.lemmas.List.Elements.{Contains-append_left}
+use Rattle.std.proofs.lemmas.List.Elements.{Contains-append_left, Contains-append_right}
 use Rattle.coap_codec.specs.Spelling.{Content}
 use Rattle.uri_map.specs.declared.peer.Peer.{Peer}
-use Rattle.ask_model.specs.Requests.{CoapRequest, Requests, request_message}
+use Rattle.coap_codec.specs.declared.block.Block.{Block}
+use Rattle.uri_map.specs.Limits.{option_with}
+use Rattle.ask_model.specs.Requests.{CoapRequest, Requests, request_message, block_message, block_option, block_value, carried_by, uint_bytes}
 use Rattle.ask_model.specs.Views.{Ask}
 use Rattle.journal_book.specs.Entries.{Grounds, Live, Asks, Answers}
-use Rattle.history_laws.specs.Responses.{Response, response_of, is_whole}
+use Rattle.history_laws.specs.Responses.{Response}
 use Rattle.history_laws.specs.Readings.{Noted, Note, at}
 use Rattle.history_laws.specs.Progress.{Reply, numbers, Ending, Whole, NotUnderstood, Reset, TimedOut}
 use Rattle.history_laws.specs.Exchanges.{Begun, begun, Turn, Nothing, Sent, Replied, Rejected, Expired, turn, replies_by, replies, End, replied_end, end_here, end_by, end_of}
@@ -17,33 +19,18 @@ use Rattle.history_laws.proofs.Elements.{contains-none, first-or-later}
 use Rattle.history_laws.proofs.Facts.{IsAsk-keeps, IsFirst-keeps}
 use Rattle.history_laws.proofs.Answering.{IsAnswer-old}
 use Rattle.history_laws.proofs.Replies.{IsReplyTo-keeps, replies-fit}
-use Rattle.history_laws.proofs.Sent.{replied-first, sent-for}
+use Rattle.history_laws.proofs.Sent.{next-is, sent-for}
+use Rattle.history_laws.proofs.Going.{GoesSo, goes-so, made-replied}
 use Rattle.history_laws.proofs.Joining.{Alike, reader, reader-alike, reads-opened}
 use Rattle.history_laws.proofs.Places.{at-keeps, at-same}
 use Rattle.history_laws.proofs.Resting.{none-some, some-is}
 
 -- a whole response is made of replies to its exchange
-whole-of : (b : Bool) (u w : Response) (r x : Reply) (ws : List Reply) → cond b (Whole u (r ∷ [])) NotUnderstood ≡ Whole w ws → Contains ws x → r ≡ x
-whole-of true u w r x ws e h =
-    elim (first-or-later r [] x (subst (λ (ws : List Reply). Contains ws x) (sym (same (r ∷ []) ws e)) h)) [
-      | inl v ↦ v
-      | inr v ↦ absurd (contains-none x v)
-    ]
-  where
-    same : (rs ws : List Reply) → Whole u rs ≡ Whole w ws → rs ≡ ws
-    same rs ws f = cc
-whole-of false u w r x ws e h = cc
-
-replied-whole : (b : Option Begun) (rs : List Reply) (w : Response) (ws : List Reply) (x : Reply) → replied_end b rs ≡ Some (Whole w ws) → Contains ws x
-    → Contains rs x
-replied-whole None rs w ws x e h = absurd (other (some-is _ _ e))
-  where
-    other : NotUnderstood ≡ Whole w ws → ⊥
-    other f = cc
-replied-whole (Some b) [] w ws x e h = cc
-replied-whole (Some b) (r ∷ rs) w ws x e h =
-    let how = some-is _ _ (sym (replied-first (Some b) r rs) ∙ e) in
-    (zero, omega arith, whole-of (is_whole b.request.method r.message) (response_of r.message) w r x ws how h)
+made-has : (b : Option Begun) (place : Bool) (rs : List Reply) (r : Reply) (w : Response) (ws : List Reply) (x : Reply) → GoesSo b rs
+    → replied_end b place (rs ++ r ∷ []) ≡ Some (Whole w ws) → Contains ws x → Contains (rs ++ r ∷ []) x
+made-has b place rs r w ws x goes e h =
+    let it = (made-replied b place rs r w ws goes e).2 in
+    subst (λ (v : List Reply). Contains v x) (sym it.split) (Contains-append_right it.before ws x h)
 
 abbrev IsMade : Option End → ℕ → Response → List Reply → Type 0
 IsMade old e w ws = old ≡ Some (record { number = e; how = Whole w ws })
@@ -55,35 +42,36 @@ end-how : (k how : Ending) (n e : ℕ) → Some (ending n k) ≡ Some (ending e 
 end-how k how n e f = ap (λ (x : End). x.how) (some-is _ _ f)
 
 made-step : (b : Option Begun) (u : Turn) (n e : ℕ) (rs : List Reply) (old : Option End) (w : Response) (ws : List Reply) (x : Reply)
+    → (old ≡ None → GoesSo b rs)
     → (IsMade old e w ws → Contains rs x) → IsMade (end_by (end_here b n rs u) n old) e w ws → Contains ws x → Contains (replies_by n u rs) x
-made-step b Nothing n e rs old w ws x ih h has = ih h
-made-step b (Sent i) n e rs old w ws x ih h has = ih h
-made-step b (Replied i m) n e rs old w ws x ih h has = go (replied_end b (rs ++ r ∷ [])) refl old refl h
+made-step b Nothing n e rs old w ws x goes ih h has = ih h
+made-step b (Sent i) n e rs old w ws x goes ih h has = ih h
+made-step b (Replied i m place) n e rs old w ws x goes ih h has = go (replied_end b place (rs ++ r ∷ [])) refl old refl h
   where
     r : Reply
     r = record { number = n; sending = i; message = m }
 
-    go : (how : Option Ending) → replied_end b (rs ++ r ∷ []) ≡ how → (o : Option End) → old ≡ o → IsMade (end_by how n o) e w ws
+    go : (how : Option Ending) → replied_end b place (rs ++ r ∷ []) ≡ how → (o : Option End) → old ≡ o → IsMade (end_by how n o) e w ws
         → Contains (rs ++ r ∷ []) x
     go None is o was h = Contains-append_left rs (r ∷ []) x (ih (was ∙ h))
     go (Some how) is (Some f) was h = Contains-append_left rs (r ∷ []) x (ih (was ∙ h))
     go (Some how) is None was h =
-        replied-whole b (rs ++ r ∷ []) w ws x (is ∙ ap (λ (v : Ending). Some v) (end-how how (Whole w ws) n e h)) has
-made-step b Rejected n e rs None w ws x ih h has = absurd (other (end-how Reset (Whole w ws) n e h))
+        made-has b place rs r w ws x (goes was) (is ∙ ap (λ (v : Ending). Some v) (end-how how (Whole w ws) n e h)) has
+made-step b Rejected n e rs None w ws x goes ih h has = absurd (other (end-how Reset (Whole w ws) n e h))
   where
     other : Reset ≡ Whole w ws → ⊥
     other f = cc
-made-step b Rejected n e rs (Some f) w ws x ih h has = ih h
-made-step b Expired n e rs None w ws x ih h has = absurd (other (end-how TimedOut (Whole w ws) n e h))
+made-step b Rejected n e rs (Some f) w ws x goes ih h has = ih h
+made-step b Expired n e rs None w ws x goes ih h has = absurd (other (end-how TimedOut (Whole w ws) n e h))
   where
     other : TimedOut ≡ Whole w ws → ⊥
     other f = cc
-made-step b Expired n e rs (Some f) w ws x ih h has = ih h
+made-step b Expired n e rs (Some f) w ws x goes ih h has = ih h
 
 pub made-of : (l : List Noted) (o e : ℕ) (w : Response) (ws : List Reply) (x : Reply) → EndsAs l o e (Whole w ws) → Contains ws x → Contains (replies l o) x
 made-of [] o e w ws x h has = cc
 made-of (y ∷ older) o e w ws x h has =
-    made-step (begun older o) (turn older o y) (length older) e (replies older o) (end_of older o) w ws x
+    made-step (begun older o) (turn older o y) (length older) e (replies older o) (end_of older o) w ws x (goes-so older o)
     (λ f. made-of older o e w ws x f has) h has
 
 pub number-of : (rs : List Reply) (j : ℕ) → Contains (numbers rs) j → (r : Reply) × Contains rs r × (r.number ≡ j)
@@ -120,34 +108,49 @@ RestsOn-keeps x l k j h =
       moment = h.moment;
       mid = h.mid;
       token = h.token;
+      block = h.block;
       first = IsFirst-keeps x l _ h.opening _ _ _ h.first;
     }
 
--- A reply to an exchange came to a message that asks just what an equal request means.
+-- A reply to an exchange came to a message that asks just what an equal request means, or for a block of that.
 pub record Brought (l : List Noted) (o : ℕ) (q : CoapRequest) (r : Reply) : Type 0 where
   pub fits : IsReplyTo l o r
   pub after : o < r.sending
   pub moment : ℕ
   pub mid : ℕ
   pub token : List ℕ
-  pub first : IsFirst l moment o r.sending q.peer (request_message q mid token)
+  pub block : Option Block
+  pub first : IsFirst l moment o r.sending q.peer (block_message q block mid token)
+
+-- A request that is alike is so with each block.
+pub blocks-alike : (q r : CoapRequest) (mid : ℕ) (token : List ℕ) (block : Option Block) → request_message q mid token ≡ request_message r mid token
+    → block_message q block mid token ≡ block_message r block mid token
+blocks-alike q r mid token None e = e
+blocks-alike q r mid token (Some b) e =
+    ap (λ (m : Content). record m {
+      options = m.options ++ option_with (block_option m.code) (uint_bytes (block_value b)) ∷ [];
+      payload = carried_by m.code (Some b) m.payload;
+    }) e
 
 pub brought : (l : List Noted) (o : ℕ) (b : Begun) (q : CoapRequest) (r : Reply) → Legal l → begun l o ≡ Some b → Alike q b.request
     → Contains (replies l o) r → Brought l o q r
 brought l o b q r legal opened alike has =
     let fits = replies-fit l o r legal has in
     let sent = sent-for l fits.sent_at o r.sending fits.peer fits.sent legal fits.first in
+    let asks = next-is sent.exchange.request _ fits.sent.mid fits.sent.token fits.sent sent.next in
     let same : sent.exchange ≡ b = some-is _ _ (sym sent.opened ∙ opened) in
     let peer : fits.peer ≡ q.peer = sent.peer ∙ (ap (λ (b : Begun). b.request.peer) same ∙ sym alike.0) in
-    let message : fits.sent ≡ request_message q fits.sent.mid fits.sent.token =
-    sent.carries ∙ (ap (λ (b : Begun). request_message b.request fits.sent.mid fits.sent.token) same ∙ sym (alike.1 fits.sent.mid fits.sent.token)) in
+    let message : fits.sent ≡ block_message q asks.0 fits.sent.mid fits.sent.token =
+    asks.1 ∙ (ap (λ (b : Begun). block_message b.request asks.0 fits.sent.mid fits.sent.token) same
+    ∙ sym (blocks-alike q b.request fits.sent.mid fits.sent.token asks.0 (alike.1 fits.sent.mid fits.sent.token))) in
     record {
       fits = fits;
       after = sent.after;
       moment = fits.sent_at;
       mid = fits.sent.mid;
       token = fits.sent.token;
-      first = subst (λ (p : Peer). IsFirst l fits.sent_at o r.sending p (request_message q fits.sent.mid fits.sent.token)) peer
+      block = asks.0;
+      first = subst (λ (p : Peer). IsFirst l fits.sent_at o r.sending p (block_message q asks.0 fits.sent.mid fits.sent.token)) peer
           (subst (λ (m : Content). IsFirst l fits.sent_at o r.sending fits.peer m) message fits.first);
     }
 
@@ -171,6 +174,7 @@ rests-own l k o r legal e has =
       moment = came.moment;
       mid = came.mid;
       token = came.token;
+      block = came.block;
       first = came.first;
     }
 

@@ -1,32 +1,38 @@
 -- The lemmas on a history that other crates cite. Declares nothing, and no other module of proofs/ can be named from outside.
 pub use Rattle.history_laws.proofs.Answering.{answered-in-order, answered-once, asks-keep, asks-once, asks-stand, IsAnswer-old, more-answers, next-ask, push-cases}
-pub use Rattle.history_laws.proofs.Basis.{made-of, number-of, requests-same, rests-on-its-own}
-pub use Rattle.history_laws.proofs.Wholes.{end-below, ends-one, EndsOne, going-unreplied}
+pub use Rattle.history_laws.proofs.Basis.{blocks-alike, made-of, number-of, requests-same, rests-on-its-own}
+pub use Rattle.history_laws.proofs.Wholes.{end-below, ends-all, EndsAll}
+pub use Rattle.history_laws.proofs.Going.{EndsWhole, ends-whole, going-not, goes-so, GoesSo, IsGoing, MadeTurn}
+pub use Rattle.history_laws.proofs.Fetching.{AreAsked, AreGiven, asks-first, CameTo, came-to, GivenSoFar, IsMadeOf, pieces_in, progress-push, SoFar, split-push, upload_in}
+pub use Rattle.history_laws.proofs.Order.{came-next, CameNext, fetched-in-order}
 pub use Rattle.history_laws.proofs.Storing.{kept-served, rests-on-the-store, Served, served-by, stored-current, stored-shared}
 pub use Rattle.history_laws.proofs.Copied.{answered_anew-holds, get-again-spelled}
 pub use Rattle.history_laws.proofs.Copying.{at-still, before-twice, ticked-newest}
 pub use Rattle.history_laws.proofs.Elements.{all-filter, all-more, all-of, all-passes, all-push, any-find, any-of, contains-filter, contains-later, contains-map, contains-mapped, contains-none, filter-by, filter-push, filtered-from, find-any, find-some, first-or-later, got-last, got-more, is-some}
 pub use Rattle.history_laws.proofs.Endings.{rejected-holds, timed_out-holds}
-pub use Rattle.history_laws.proofs.Facts.{at-before, eqb-itself, eqb-same, follows-at, IsFirst-below, legal-before, length-before}
+pub use Rattle.history_laws.proofs.Facts.{at-before, eqb-apart, eqb-itself, eqb-same, follows-at, IsFirst-below, legal-before, length-before}
 pub use Rattle.history_laws.proofs.Messages.{ack-spelled, all_answered-holds, content-spelled, get-spelled, given_up-holds, put-spelled}
 pub use Rattle.history_laws.proofs.Members.{all-join, first-waits, waiting-all}
 pub use Rattle.history_laws.proofs.Openings.{begun-listed, ends-first, listed-begun, open-exactly}
 pub use Rattle.history_laws.proofs.Outstanding.{copies-way, outstanding-last, sound, Sound, way-cases}
 pub use Rattle.history_laws.proofs.Places.{at-below, at-cases, at-entries, at-keeps, at-new, at-newest, at-old, at-same, before-keeps, before-new, entries-length}
+pub use Rattle.history_laws.proofs.Uploads.{answer-spelled, endless-holds, turned_down-holds, uploaded-holds}
+pub use Rattle.history_laws.proofs.Pieces.{fetched-holds, gap_heard-holds, get-other-spelled, piece-spelled, rest-spelled}
 pub use Rattle.history_laws.proofs.Readers.{both_answered-holds}
 pub use Rattle.history_laws.proofs.Store.{read_from_store-holds}
 pub use Rattle.history_laws.proofs.Refusals.{maps-refusal}
 pub use Rattle.history_laws.proofs.Firsts.{all-listed, first-found, first-is, first-listed, first-older, firsts-ids, firsts-tokens, IsBygone, IsListed, listed-below, way-first}
-pub use Rattle.history_laws.proofs.Replies.{replies-fit}
+pub use Rattle.history_laws.proofs.Replies.{found, Found, replies-fit}
 pub use Rattle.history_laws.proofs.Resting.{and-left, and-right, none-is, none-of, none-some, some-is}
 pub use Rattle.history_laws.proofs.Sendings.{any-first, IsFirst-old, may-be}
-pub use Rattle.history_laws.proofs.Sent.{asked-for, begun-before, begun-below, begun-keeps, begun-opening, first_end, opening-begun, past, Past, replied-ends, replied-first, sent-for, sent-once}
+pub use Rattle.history_laws.proofs.Sent.{asked-for, begun-before, begun-below, begun-keeps, begun-opening, next-is, opening-begun, past, Past, sent-for, sent-once}
 pub use Rattle.history_laws.proofs.Settled.{ask-listed, few-waiting, next-above, open-below, range-passes, waited-or-answered}
-pub use Rattle.history_laws.proofs.Turns.{heard-sends, turn-replied, turn-sent, waits-first}
-pub use Rattle.history_laws.proofs.Queue.{awaiting-stays, filter-all, filter-none, going-before, issued-few, issued-same, none-submitted, NoReply, opened-issued, opened-queued, opened-rank, queue-kept, queue-rises, queue-same, rank-apart, rank-below, rank-keeps, replies-stay, submitted-apart, submitted-below, unawaited-quiet, waiting-begun, waiting-goes, waiting-has, waiting-stays, waiting-unsent}
-pub use Rattle.history_laws.proofs.Rising.{openings-below, openings-rising, RisesBy, Rising, rising-filter, rising-push}
+pub use Rattle.history_laws.proofs.Turns.{heard-sends, NotRst, turn-replied, turn-sent, waits-first}
+pub use Rattle.history_laws.proofs.Queue.{awaiting-stays, filter-all, filter-none, going-before, issued-few, issued-same, none-submitted, NoReply, opened-issued, opened-queued, opened-rank, IsReplyAt, issued-more, listed-are, queue-kept, queue-rises, queue-same, rank-apart, rank-below, rank-keeps, replies-stay, submits-by, submitted-apart, submitted-below, submitted-cases, submitted-once, unawaited-quiet, waiting-begun, waiting-goes, waiting-has, waiting-stays, waiting-unsent}
+pub use Rattle.history_laws.proofs.Rising.{IsOneAtMost, one-at-most, openings-below, openings-rising, RisesBy, Rising, rising-filter, rising-push}
 pub use Rattle.history_laws.proofs.Unbegun.{not-yet, replies-none, unbegun, unended}
 pub use Rattle.history_laws.proofs.Late.{other-spelled, rst-0-spelled}
 pub use Rattle.history_laws.proofs.Ended.{none-after-end}
 pub use Rattle.history_laws.proofs.Outrunning.{end-before, end-keeps, end-old, end-since, ended-begun, EndsWrite, is-outrun, none-outran, not-true, outran, Outran, outrun-keeps, outrun-new, outrun-quiet, outrun-since, write-outruns}
 pub use Rattle.history_laws.proofs.Joining.{Alike, begun-early, is-joinable, joinable-is, Joined, joins-found, joins-is, joins-none, joins-same, none-joined, one-joinable, open-same, outrun-same, reader, Reader, reader-alike, ReadsAlong, reads-opened, Shared, shared-is, unoutrun-earlier, write-earlier}
+pub use Rattle.history_laws.proofs.Order.{came-next, CameNext, fetched-in-order, quiet-since, sends-next}

@@ -1,5 +1,5 @@
 -- Facts of a history stay true as it grows.
-use Rattle.std.proofs.Common.{◌≡◌, ℕ, ◌<◌, true, eqb, inl, inr, List, [], ◌∷◌, length, Some, refl, sym, ◌∙◌, subst}
+use Rattle.std.proofs.Common.{◌≡◌, ℕ, ◌<◌, true, eqb, inl, inr, List, [], ◌∷◌, length, Some, refl, sym, ◌∙◌, subst, false}
 use Rattle.std.proofs.lemmas.Bool.Decides.{eqb_tells}
 use Rattle.std.proofs.lemmas.Bool.{false≢true}
 use Rattle.coap_codec.specs.Spelling.{Content}
@@ -60,3 +60,6 @@ eqb-same a b e = elim (eqb_tells a b) [ inl w ↦ w.1 | inr w ↦ absurd (false�
 
 pub eqb-itself : (a : ℕ) → eqb a a ≡ true
 eqb-itself a = elim (eqb_tells a a) [ inl w ↦ w.0 | inr w ↦ absurd (w.1 refl) ]
+
+pub eqb-apart : (a b : ℕ) → (a ≡ b → ⊥) → eqb a b ≡ false
+eqb-apart a b apart = elim (eqb_tells a b) [ inl w ↦ absurd (apart w.1) | inr w ↦ w.0 ]

@@ -16,14 +16,17 @@ mod Firsts
 mod Replies
 mod Members
 mod Sent
+mod Fetching
 mod Unbegun
 mod Outrunning
 mod Joining
 mod Rising
 mod Queue
 mod Ended
+mod Going
 mod Basis
 mod Wholes
+mod Order
 mod Missing
 mod Storing
 mod Confirmed
@@ -35,3 +38,6 @@ mod Spoiled
 mod Copied
 mod Readers
 mod Store
+mod Pieces
+mod Uploads
+mod Parts

@@ -38,9 +38,9 @@ any-none : {X : Type 0} (q : X → Bool) (xs : List X) → AllByRecursion (λ (x
 any-none q [] a = refl
 any-none q (x ∷ xs) a = rw (a.0) (any-none q xs a.1)
 
-all-listed : (P : ℕ → Type 0) (os : List ℕ) → ((o : ℕ) → Contains os o → P o) → AllByRecursion P os
-all-listed P [] h = tt
-all-listed P (o ∷ os) h = (h o (zero, omega arith, refl), all-listed P os (λ q c. h q (contains-later o os q c)))
+pub listed-are : (P : ℕ → Type 0) (os : List ℕ) → ((o : ℕ) → Contains os o → P o) → AllByRecursion P os
+listed-are P [] h = tt
+listed-are P (o ∷ os) h = (h o (zero, omega arith, refl), listed-are P os (λ q c. h q (contains-later o os q c)))
 
 differ : (a b : ℕ) → a < b → eqb a b ≡ false
 differ a b lt = elim (eqb_tells a b) [ inl w ↦ let same = w.1 in absurd (omega (arith, same, lt)) | inr w ↦ w.0 ]
@@ -49,13 +49,13 @@ differ a b lt = elim (eqb_tells a b) [ inl w ↦ let same = w.1 in absurd (omega
 
 -- a turn that is no reply
 abbrev pub NoReply : Turn → Type 0
-NoReply (Replied i m) = ⊥
+NoReply (Replied i m place) = ⊥
 NoReply u = Unit {0}
 
 pub replies-stay : (n : ℕ) (u : Turn) (rs : List Reply) → NoReply u → replies_by n u rs ≡ rs
 replies-stay n Nothing rs h = refl
 replies-stay n (Sent i) rs h = refl
-replies-stay n (Replied i m) rs h = absurd h
+replies-stay n (Replied i m place) rs h = absurd h
 replies-stay n Rejected rs h = refl
 replies-stay n Expired rs h = refl
 
@@ -65,7 +65,8 @@ submitted-push o (s ∷ rs) r = submitted-push s.number rs r
 
 -- a reply to the exchange, which submits its next message
 abbrev pub IsReplyAt : Noted → List Noted → ℕ → Type 0
-IsReplyAt x l o = (i : ℕ) × (m : Content) × (turn l o x ≡ Replied i m) × (submitted (x ∷ l) o ≡ length l)
+IsReplyAt x l o =
+    (i : ℕ) × (m : Content) × (place : Bool) × (turn l o x ≡ Replied i m place) × (submitted (x ∷ l) o ≡ length l)
 
 pub submitted-cases : (x : Noted) (l : List Noted) (o : ℕ) → (replies (x ∷ l) o ≡ replies l o) ⊎ IsReplyAt x l o
 submitted-cases x l o = by (turn l o x) refl
@@ -73,7 +74,7 @@ submitted-cases x l o = by (turn l o x) refl
     by : (u : Turn) → turn l o x ≡ u → (replies (x ∷ l) o ≡ replies l o) ⊎ IsReplyAt x l o
     by Nothing e = inl (rw (e) refl)
     by (Sent i) e = inl (rw (e) refl)
-    by (Replied i m) e = inr (i, m, e, rw (e) (submitted-push o (replies l o) record { number = length l; sending = i; message = m }))
+    by (Replied i m place) e = inr (i, m, place, e, rw (e) (submitted-push o (replies l o) record { number = length l; sending = i; message = m }))
     by Rejected e = inl (rw (e) refl)
     by Expired e = inl (rw (e) refl)
 
@@ -83,7 +84,7 @@ submitted-or (x ∷ older) o = elim (submitted-cases x older o) [
   | inl same ↦
       let stays : submitted (x ∷ older) o ≡ submitted older o = ap (submitted_by o) same in
       elim (submitted-or older o) [ inl e ↦ inl (stays ∙ e) | inr lt ↦ inr (omega (arith, lt, stays)) ]
-  | inr r ↦ let e = r.3 in inr (omega (arith, e))
+  | inr r ↦ let e = r.4 in inr (omega (arith, e))
 ]
 
 pub submitted-below : (l : List Noted) (o : ℕ) (b : Begun) → begun l o ≡ Some b → submitted l o < length l
@@ -108,7 +109,7 @@ waiting-begun l p o e = by (begun l o) refl (and-left (goes_to p (begun l o)) _ 
 pub unawaited-stays : (x : Noted) (l : List Noted) (o : ℕ) → waits_for l o ≡ None → replies (x ∷ l) o ≡ replies l o
 unawaited-stays x l o e = elim (submitted-cases x l o) [
   | inl same ↦ same
-  | inr r ↦ absurd (none-some r.0 (sym e ∙ (turn-replied l o x r.0 r.1 r.2).waited))
+  | inr r ↦ absurd (none-some r.0 (sym e ∙ (turn-replied l o x r.0 r.1 r.2 r.3).waited))
 ]
 
 -- Nor does who awaits what was awaited before.
@@ -116,8 +117,8 @@ pub awaiting-stays : (x : Noted) (l : List Noted) (o : ℕ) → waits_for (x ∷
 awaiting-stays x l o same = elim (submitted-cases x l o) [
   | inl stays ↦ stays
   | inr r ↦
-      let none : waits_for (x ∷ l) o ≡ None = ap (λ (u : Turn). waits_by u (waits_for l o)) r.2 in
-      absurd (none-some r.0 (sym none ∙ (same ∙ (turn-replied l o x r.0 r.1 r.2).waited)))
+      let none : waits_for (x ∷ l) o ≡ None = ap (λ (u : Turn). waits_by u (waits_for l o)) r.3 in
+      absurd (none-some r.0 (sym none ∙ (same ∙ (turn-replied l o x r.0 r.1 r.2 r.3).waited)))
 ]
 
 pub waiting-stays : (x : Noted) (l : List Noted) (p : Peer) (o : ℕ) → is_waiting l p o ≡ true → replies (x ∷ l) o ≡ replies l o
@@ -131,7 +132,7 @@ waiting-below l p o e = let b = waiting-begun l p o e in submitted-below l o b.0
 
 -- One message at most is submitted by an entry.
 
-submits-by : (x : Noted) (l : List Noted) (o : ℕ) → submitted (x ∷ l) o ≡ length l → (o ≡ length l) ⊎ IsReplyAt x l o
+pub submits-by : (x : Noted) (l : List Noted) (o : ℕ) → submitted (x ∷ l) o ≡ length l → (o ≡ length l) ⊎ IsReplyAt x l o
 submits-by x l o e = elim (submitted-cases x l o) [
   | inl same ↦
       let stays : submitted (x ∷ l) o ≡ submitted l o = ap (submitted_by o) same in
@@ -142,7 +143,7 @@ submits-by x l o e = elim (submitted-cases x l o) [
 -- A reply opens no exchange.
 opens-none : (x : Noted) (l : List Noted) (q : ℕ) → IsReplyAt x l q → is_some (begun (x ∷ l) (length l)) ≡ true → ⊥
 opens-none x l q r e =
-    let it = turn-replied l q x r.0 r.1 r.2 in
+    let it = turn-replied l q x r.0 r.1 r.2 r.3 in
     let note : opens_by x.note ≡ None = ap (λ (v : Noted). opens_by v.note) it.entry in
     let none : begun (x ∷ l) (length l) ≡ None = rw (note, not-yet l) refl in
     false≢true (sym (ap is_some none) ∙ e)
@@ -158,14 +159,14 @@ said-to m n i j u v e = cc
 
 replied-once : (x : Noted) (l : List Noted) (o q : ℕ) → IsReplyAt x l o → IsReplyAt x l q → o ≡ q
 replied-once x l o q r s =
-    let a = turn-replied l o x r.0 r.1 r.2 in
-    let b = turn-replied l q x s.0 s.1 s.2 in
+    let a = turn-replied l o x r.0 r.1 r.2 r.3 in
+    let b = turn-replied l q x s.0 s.1 s.2 s.3 in
     let same : r.0 ≡ s.0 = said-to r.1 s.1 r.0 s.0 a.notice b.notice (sym (ap (λ (v : Noted). v.note) a.entry) ∙ ap (λ (v : Noted). v.note) b.entry) in
     let f = waits-first l o r.0 a.waited in
     let g = waits-first l q r.0 (subst (λ (i : ℕ). waits_for l q ≡ Some i) (sym same) b.waited) in
     first-owner l f.0 g.0 o q r.0 f.1 g.1 f.2 g.2 f.3 g.3
 
-submitted-once : (x : Noted) (l : List Noted) (o q : ℕ) → is_some (begun (x ∷ l) o) ≡ true → is_some (begun (x ∷ l) q) ≡ true
+pub submitted-once : (x : Noted) (l : List Noted) (o q : ℕ) → is_some (begun (x ∷ l) o) ≡ true → is_some (begun (x ∷ l) q) ≡ true
     → submitted (x ∷ l) o ≡ length l → submitted (x ∷ l) q ≡ length l → o ≡ q
 submitted-once x l o q a b e f = elim (submits-by x l o e) [
   | inl here ↦ elim (submits-by x l q f) [
@@ -257,13 +258,13 @@ waits-now x l p o legal e = by (begun l o) refl
         inl (and_from _ _ goes (and_from _ _ (ap is_none going.1) (ap is_none none)))
     waited b is (Some i) some Nothing here = absurd (none-some i (sym (waiting-unsent n p o e) ∙ (rw (here) some)))
     waited b is (Some i) some (Sent j) here = absurd (none-some j (sym (waiting-unsent n p o e) ∙ (rw (here) refl)))
-    waited b is (Some i) some (Replied j m) here = elim (submitted-cases x l o) [
-      | inl same ↦ inr (never (begun l o) j m here same)
-      | inr r ↦ inr r.3
+    waited b is (Some i) some (Replied j m place) here = elim (submitted-cases x l o) [
+      | inl same ↦ inr (never (begun l o) j m place here same)
+      | inr r ↦ inr r.4
     ]
       where
-        never : (v : Option Begun) (j : ℕ) (m : Content) → turn l o x ≡ Replied j m → replies n o ≡ replies l o → submitted n o ≡ length l
-        never v j m here same = rw (here) (submitted-push o (replies l o) record { number = length l; sending = j; message = m })
+        never : (v : Option Begun) (j : ℕ) (m : Content) (place : Bool) → turn l o x ≡ Replied j m place → replies n o ≡ replies l o → submitted n o ≡ length l
+        never v j m place here same = rw (here) (submitted-push o (replies l o) record { number = length l; sending = j; message = m })
     waited b is (Some i) some Rejected here = absurd (none-is Reset (subst (λ (u : Turn). end_here (begun l o) (length l) (replies l o) u ≡ None) here going.0))
     waited b is (Some i) some Expired here = absurd (none-is TimedOut (subst (λ (u : Turn). end_here (begun l o) (length l) (replies l o) u ≡ None) here going.0))
 
@@ -293,7 +294,7 @@ pub none-submitted : (x : Noted) (l : List Noted) (p : Peer) → openings (x ∷
     → ((o : ℕ) → is_waiting (x ∷ l) p o ≡ true → NoReply (turn l o x)) → filter (is_submitted_at (x ∷ l) p (length l)) (openings (x ∷ l)) ≡ []
 none-submitted x l p same quiet =
     subst (λ (os : List ℕ). filter (is_submitted_at (x ∷ l) p (length l)) os ≡ []) (sym same)
-    (filter-none (is_submitted_at (x ∷ l) p (length l)) (openings l) (all-listed (λ (o : ℕ). is_submitted_at (x ∷ l) p (length l) o ≡ false) (openings l) (λ o c.
+    (filter-none (is_submitted_at (x ∷ l) p (length l)) (openings l) (listed-are (λ (o : ℕ). is_submitted_at (x ∷ l) p (length l) o ≡ false) (openings l) (λ o c.
     let b = is-some (begun l o) (listed-begun l o c) in old-not x l o b.0 (is_waiting (x ∷ l) p o) b.1 (λ w. quiet o w))))
 
 pub queue-kept : (x : Noted) (l : List Noted) (p : Peer) → filter (is_submitted_at (x ∷ l) p (length l)) (openings (x ∷ l)) ≡ []
@@ -314,7 +315,7 @@ pub issued-same : (x : Noted) (l : List Noted) → openings (x ∷ l) ≡ openin
 issued-same x l same quiet =
     ap (λ (b : Bool). issued_by b (issued l))
     (subst (λ (os : List ℕ). list_any (is_issued_at (x ∷ l) (length l)) os ≡ false) (sym same)
-    (any-none (is_issued_at (x ∷ l) (length l)) (openings l) (all-listed (λ (o : ℕ). is_issued_at (x ∷ l) (length l) o ≡ false) (openings l) (λ o c.
+    (any-none (is_issued_at (x ∷ l) (length l)) (openings l) (listed-are (λ (o : ℕ). is_issued_at (x ∷ l) (length l) o ≡ false) (openings l) (λ o c.
     let b = is-some (begun l o) (listed-begun l o c) in old-not x l o b.0 (is_going (x ∷ l) o) b.1 (λ w. quiet o w)))))
 
 pub issued-more : (x : Noted) (l : List Noted) (o : ℕ) → is_some (begun (x ∷ l) o) ≡ true → is_going (x ∷ l) o ≡ true → submitted (x ∷ l) o ≡ length l
@@ -359,7 +360,7 @@ open-now x l o b legal e goes = by (begun l o) refl
         inl (ap (submitted_by o) (unawaited-stays x l o none.0) ∙ (ap (submitted_by o) none.1 ∙ begun-here x l o b is e))
     by (Some c) is = elim (submitted-cases x l o) [
       | inl same ↦ inr (is ∙ (sym (begun-keeps x l o c is) ∙ e), ap is_none (going-before x l o goes).1, same)
-      | inr r ↦ inl r.3
+      | inr r ↦ inl r.4
     ]
 
 pub rank-below : (l : List Noted) (o : ℕ) (b : Begun) → Legal l → begun l o ≡ Some b → is_going l o ≡ true → rank l o < issued l
@@ -416,7 +417,7 @@ unawaited-quiet x l o e = by (turn l o x) refl
     by : (u : Turn) → turn l o x ≡ u → NoReply u
     by Nothing h = tt
     by (Sent i) h = tt
-    by (Replied i m) h = none-some i (sym e ∙ (turn-replied l o x i m h).waited)
+    by (Replied i m place) h = none-some i (sym e ∙ (turn-replied l o x i m place h).waited)
     by Rejected h = tt
     by Expired h = tt
 
@@ -431,7 +432,7 @@ old-none : (x : Noted) (l : List Noted) (test : ℕ → Bool) → ((o : ℕ) →
     → filter (λ (o : ℕ). eqb (submitted (x ∷ l) o) (length l) && test o) (openings l) ≡ []
 old-none x l test quiet =
     filter-none (λ (o : ℕ). eqb (submitted (x ∷ l) o) (length l) && test o) (openings l)
-    (all-listed (λ (o : ℕ). (eqb (submitted (x ∷ l) o) (length l) && test o) ≡ false) (openings l) (λ o c.
+    (listed-are (λ (o : ℕ). (eqb (submitted (x ∷ l) o) (length l) && test o) ≡ false) (openings l) (λ o c.
     let b = is-some (begun l o) (listed-begun l o c) in old-not x l o b.0 (test o) b.1 (λ w. quiet o)))
 
 pub opened-queued : (x : Noted) (l : List Noted) (p : Peer) (q : CoapRequest) → Legal l → opens_by x.note ≡ Some q → ((o : ℕ) → NoReply (turn l o x))

@@ -21,8 +21,7 @@ same-cause c d s t e = cc
 
 module _ (holds : Form → Form → List ℕ → List ℕ → Type 0) (takes : Form → Form → List ℕ → Type 0) where
   unsent-refusal : (typing : Typing) (body : List ℕ) (c : Cause) (status : ℕ) → IsUnsent holds takes typing body c status → IsRefusal c
-  unsent-refusal typing body c status h =
-      elim h [ inl u ↦ subst IsRefusal (sym u.0) tt | inr u ↦ subst IsRefusal (sym u.0) tt ]
+  unsent-refusal typing body c status h = subst IsRefusal (sym h.0) tt
 
   body-refusal : (s : Rules) (r : HttpRequest) (m : HttpMethod) (t : Target) (p : Peer) (c : Cause) (status : ℕ)
       → MapsBody holds takes s r m t p (Refuses c status) → IsRefusal c

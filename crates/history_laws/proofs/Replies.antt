@@ -44,12 +44,12 @@ answered-under l p m i Ack false not e =
 answered-under l p m i Rst vain not e = absurd not
 
 -- the first sending that it went to
-record Found (l : List Noted) (p : Peer) (m : Content) (i : ℕ) : Type 0 where
-  first : FirstSending
-  is : first_at l i ≡ Some first
-  peer : first.peer ≡ p
-  token : first.message.token ≡ m.token
-  kind : IsReplyKind m.kind m.mid first.message.mid
+pub record Found (l : List Noted) (p : Peer) (m : Content) (i : ℕ) : Type 0 where
+  pub first : FirstSending
+  pub is : first_at l i ≡ Some first
+  pub peer : first.peer ≡ p
+  pub token : first.message.token ≡ m.token
+  pub kind : IsReplyKind m.kind m.mid first.message.mid
 
 found-under : (l : List Noted) (p : Peer) (m : Content) (i : ℕ) → is_under l p m i ≡ true
     → (f : FirstSending) × (first_at l i ≡ Some f) × (f.peer ≡ p) × (f.message.token ≡ m.token)
@@ -80,7 +80,7 @@ found-kind l p m i Ack is not h =
     record { first = f.0; is = f.1; peer = f.2; token = f.3; kind = subst (λ (k : MsgType). IsReplyKind k m.mid f.0.message.mid) (sym is) (sym mid) }
 found-kind l p m i Rst is not h = absurd not
 
-found : (l : List Noted) (p : Peer) (m : Content) (i : ℕ) → leb 32 m.code ≡ true → NotRst m.kind → answers l p m ≡ Some i → Found l p m i
+pub found : (l : List Noted) (p : Peer) (m : Content) (i : ℕ) → leb 32 m.code ≡ true → NotRst m.kind → answers l p m ≡ Some i → Found l p m i
 found l p m i response not e =
     let by : answers_by l p m m.kind (eqb m.code 0) true ≡ Some i =
     subst (λ (b : Bool). answers_by l p m m.kind (eqb m.code 0) b ≡ Some i) response e in
@@ -108,9 +108,9 @@ IsReplyTo-keeps x l o r h =
       unheard = rw (before-keeps x l r.number (at-below l r.number _ h.heard)) (h.unheard);
     }
 
-reply-new : (x : Noted) (l : List Noted) (o i : ℕ) (m : Content) → Follows l x.written.moment x.written.deed x.note → ReplyTurn l o x i m
-    → IsReplyTo (x ∷ l) o (record { number = length l; sending = i; message = m })
-reply-new x l o i m may h =
+reply-new : (x : Noted) (l : List Noted) (o i : ℕ) (m : Content) (place : Bool) → Follows l x.written.moment x.written.deed x.note
+    → ReplyTurn l o x i m place → IsReplyTo (x ∷ l) o (record { number = length l; sending = i; message = m })
+reply-new x l o i m place may h =
     let t = x.written.moment in
     let follows : Follows l t (Hears h.peer h.bytes) (Says m (Some i) h.notice) =
     subst (λ (v : Noted). Follows l v.written.moment v.written.deed v.note) h.entry may in
@@ -142,10 +142,10 @@ reply-new x l o i m may h =
 replies-step : (x : Noted) (l : List Noted) (o : ℕ) (r : Reply) → Follows l x.written.moment x.written.deed x.note
     → (Contains (replies l o) r → IsReplyTo l o r)
     → (u : Turn) → turn l o x ≡ u → Contains (replies_by (length l) u (replies l o)) r → IsReplyTo (x ∷ l) o r
-replies-step x l o r may ih (Replied i m) w h =
+replies-step x l o r may ih (Replied i m place) w h =
     elim (Contains-push_cases (replies l o) _ r h) [
       | inl old ↦ IsReplyTo-keeps x l o r (ih old)
-      | inr new ↦ subst (IsReplyTo (x ∷ l) o) new (reply-new x l o i m may (turn-replied l o x i m w))
+      | inr new ↦ subst (IsReplyTo (x ∷ l) o) new (reply-new x l o i m place may (turn-replied l o x i m place w))
     ]
 replies-step x l o r may ih Nothing w h = IsReplyTo-keeps x l o r (ih h)
 replies-step x l o r may ih (Sent i) w h = IsReplyTo-keeps x l o r (ih h)

@@ -1,22 +1,24 @@
--- What a first sending asks, and of whom; an exchange has one.
-use Rattle.std.proofs.Common.{◌≡◌, ℕ, ◌<◌, ◌⊎◌, Bool, true, false, ◌&&◌, eqb, inl, inr, List, [], ◌∷◌, ◌++◌, length, Option, Some, None, is_some, refl, sym, ap, subst, ◌∙◌, arith}
-use Rattle.std.specs.Prelude.{fold, is_none}
+-- What a first sending asks, and of whom; after the same replies an exchange has one.
+use Rattle.std.proofs.Common.{◌≡◌, ℕ, ◌<◌, ◌≤◌, ◌⊎◌, Bool, true, false, ◌&&◌, eqb, inl, inr, List, [], ◌∷◌, ◌++◌, length, Option, Some, None, is_some, refl, sym, ap, subst, ◌∙◌, arith, length-append}
+use Rattle.std.specs.Prelude.{fold, is_none, ⊤}
 use Rattle.std.proofs.lemmas.Bool.Decides.{eqb_tells}
 use Rattle.std.proofs.lemmas.Bool.{false≢true, and_parts}
 use Rattle.coap_codec.specs.Spelling.{Content, Spells}
 use Rattle.uri_map.specs.declared.peer.Peer.{Peer}
-use Rattle.ask_model.specs.Requests.{CoapRequest, Sense, Requests, Refuses, request_message}
+use Rattle.coap_codec.specs.declared.block.Block.{Block}
+use Rattle.blockwise.specs.Uploads.{next_block}
+use Rattle.ask_model.specs.Requests.{CoapRequest, Sense, Requests, Refuses, block_message}
 use Rattle.ask_model.specs.Views.{Ask}
 use Rattle.journal_book.specs.Entries.{Deed, Opens, Asks, Sends, Hears, Passes, Answers, Shuts, Seals, Mark, Carries}
 use Rattle.journal_book.specs.Entries as D
 use Rattle.history_laws.specs.Readings.{Noted, Note, Begins, First, at, before, noted}
-use Rattle.history_laws.specs.Progress.{Reply, Progress, Asks as StillAsks, Ends, Ending, NotUnderstood, Reset, TimedOut, step, replied, progress, ended_by, next_message}
-use Rattle.history_laws.specs.Exchanges.{Begun, opens_by, begun_by, begun, Turn, Nothing, Sent, Replied, Rejected, Expired, turn, waits_by, waits_for, replies, End, replied_end, end_here, end_by, end_of, goes_to}
+use Rattle.history_laws.specs.Progress.{Reply, Progress, Fetches, Gives, Ends, Ending, Reset, TimedOut, progress, block_after, next_message}
+use Rattle.history_laws.specs.Exchanges.{Begun, opens_by, begun_by, begun, Turn, Nothing, Sent, Replied, Rejected, Expired, turn, waits_by, waits_for, replies_by, replies, End, end_here, end_by, end_of, goes_to}
 use Rattle.history_laws.specs.Justified.{AskNote, MayBeFirst, Follows, Legal, CopiedNote}
 use Rattle.history_laws.specs.Laws.{IsFirst}
 use Rattle.history_laws.proofs.Resting.{some-is}
-use Rattle.history_laws.proofs.Places.{at-cases, at-new, at-below, at-keeps}
-use Rattle.history_laws.proofs.Facts.{follows-at, at-before, length-before, eqb-same, eqb-itself}
+use Rattle.history_laws.proofs.Places.{at-cases, at-new, at-below, at-keeps, before-keeps, before-new}
+use Rattle.history_laws.proofs.Facts.{IsFirst-below, follows-at, at-before, length-before, eqb-same, eqb-itself}
 use Rattle.history_laws.proofs.Sendings.{IsFirst-old, may-be}
 use Rattle.history_laws.proofs.Members.{first-waits}
 
@@ -120,18 +122,15 @@ asked-for l o b legal e =
       sense = it.3;
     }
 
--- a first sending asks what its exchange was opened for, of the peer that it is for
+-- a first sending asks what its exchange was opened for, of the peer that it is for: it is the next message after
+-- the replies before it
 pub record SentFor (l : List Noted) (o i : ℕ) (p : Peer) (m : Content) (bytes : List ℕ) : Type 0 where
   pub exchange : Begun
   pub opened : begun l o ≡ Some exchange
   pub after : o < i
   pub peer : p ≡ exchange.request.peer
-  pub carries : m ≡ request_message exchange.request m.mid m.token
+  pub next : next_message exchange.request (progress exchange.request (replies (before l i) o)) m.mid m.token ≡ Some m
   pub spelled : Spells m bytes
-
-next-is : (q : CoapRequest) (w : Progress) (mid : ℕ) (token : List ℕ) (m : Content) → next_message q w mid token ≡ Some m → m ≡ request_message q mid token
-next-is q StillAsks mid token m e = sym (some-is _ _ e)
-next-is q (Ends how) mid token m e = cc
 
 pub sent-for : (l : List Noted) (t o i : ℕ) (p : Peer) (m : Content) → Legal l → (f : IsFirst l t o i p m) → SentFor l o i p m f.bytes
 sent-for l t o i p m legal f =
@@ -142,82 +141,105 @@ sent-for l t o i p m legal f =
       opened = begun-before l i o _ may.opening;
       after = subst (λ (n : ℕ). o < n) (length-before l i _ f.stands) below;
       peer = may.peer;
-      carries = next-is may.request (progress may.request (replies (before l i) o)) m.mid m.token m may.message;
+      next = may.message;
       spelled = may.spelled;
     }
 
--- A reply ends its exchange.
-stay : (q : CoapRequest) (how : Ending) (rs : List Reply) → fold (step q) (Ends how) rs ≡ Ends how
-stay q how [] = refl
-stay q how (r ∷ rs) = stay q how rs
+-- It is for a block of what that asks for, or of its body, or for all.
+pub next-is : (q : CoapRequest) (w : Progress) (mid : ℕ) (token : List ℕ) (m : Content) → next_message q w mid token ≡ Some m
+    → (block : Option Block) × (m ≡ block_message q block mid token)
+next-is q (Fetches restarts pieces got) mid token m e = (block_after pieces, sym (some-is _ _ e))
+next-is q (Gives upload got) mid token m e = (next_block upload, sym (some-is _ _ e))
+next-is q (Ends how) mid token m e = cc
 
--- how the first reply ends it
-abbrev pub first_end : Option Begun → Reply → Ending
-first_end None r = NotUnderstood
-first_end (Some b) r = replied b.request r
-
-pub replied-first : (b : Option Begun) (r : Reply) (rs : List Reply) → replied_end b (r ∷ rs) ≡ Some (first_end b r)
-replied-first None r rs = refl
-replied-first (Some b) r rs = ap ended_by (stay b.request (replied b.request r) rs)
-
-pub replied-ends : (b : Option Begun) (rs : List Reply) (r : Reply) → is_some (replied_end b (rs ++ r ∷ [])) ≡ true
-replied-ends b [] r = ap (λ (how : Option Ending). is_some how) (replied-first b r [])
-replied-ends b (s ∷ rs) r = ap (λ (how : Option Ending). is_some how) (replied-first b s (rs ++ r ∷ []))
-
--- after its first sending an exchange waits for the reply, or has ended
-abbrev pub Past : Option ℕ → Option End → Type 0
-Past w e = (is_some w ≡ true) ⊎ (is_none e ≡ false)
+-- After its first sending an exchange waits for the reply, or has ended, or has got a reply more.
+abbrev pub Past : Option ℕ → Option End → ℕ → ℕ → Type 0
+Past w e before now = (before ≤ now) × ((is_some w ≡ true) ⊎ ((is_none e ≡ false) ⊎ (before < now)))
 
 ended : (how : Option Ending) (n : ℕ) (e : Option End) → is_some how ≡ true → is_none (end_by how n e) ≡ false
 ended None n e h = absurd (false≢true h)
 ended (Some how) n None h = refl
 ended (Some how) n (Some f) h = refl
 
-past-step : (b : Option Begun) (u : Turn) (n : ℕ) (rs : List Reply) (w : Option ℕ) (e : Option End) → Past w e
-    → Past (waits_by u w) (end_by (end_here b n rs u) n e)
-past-step b Nothing n rs w e h = h
-past-step b (Sent i) n rs w e h = inl refl
-past-step b (Replied i m) n rs w e h =
+stays-ended : (how : Option Ending) (n : ℕ) (e : Option End) → is_none e ≡ false → is_none (end_by how n e) ≡ false
+stays-ended how n None h = absurd (false≢true (sym h))
+stays-ended None n (Some f) h = refl
+stays-ended (Some how) n (Some f) h = refl
+
+past-step : (b : Option Begun) (u : Turn) (n k : ℕ) (rs : List Reply) (w : Option ℕ) (e : Option End) → Past w e k (length rs)
+    → Past (waits_by u w) (end_by (end_here b n rs u) n e) k (length (replies_by n u rs))
+past-step b Nothing n k rs w e h = h
+past-step b (Sent i) n k rs w e h = (h.0, inl refl)
+past-step b (Replied i m place) n k rs w e h =
     let r : Reply = record { number = n; sending = i; message = m } in
-    inr (ended (replied_end b (rs ++ r ∷ [])) n e (replied-ends b rs r))
-past-step b Rejected n rs w e h = inr (ended (Some Reset) n e refl)
-past-step b Expired n rs w e h = inr (ended (Some TimedOut) n e refl)
+    let more = length-append rs (r ∷ []) in
+    let le = h.0 in
+    (omega (arith, more, le), inr (inr (omega (arith, more, le))))
+past-step b Rejected n k rs w e h = (h.0, inr (inl (ended (Some Reset) n e refl)))
+past-step b Expired n k rs w e h = (h.0, inr (inl (ended (Some TimedOut) n e refl)))
 
 past-new : (l : List Noted) (t o : ℕ) (p : Peer) (b : List ℕ) (w : Option ℕ) (m : Content)
-    → is_some (waits_for (noted t (Sends p b w) (First o m) ∷ l) o) ≡ true
-past-new l t o p b w m = rw (eqb-itself o) refl
+    → Past (waits_for (noted t (Sends p b w) (First o m) ∷ l) o) (end_of (noted t (Sends p b w) (First o m) ∷ l) o)
+    (length (replies l o)) (length (replies (noted t (Sends p b w) (First o m) ∷ l) o))
+past-new l t o p b w m = rw (eqb-itself o) (omega arith, inl refl)
 
-pub past : (l : List Noted) (t o i : ℕ) (p : Peer) (m : Content) → IsFirst l t o i p m → Past (waits_for l o) (end_of l o)
+pub past : (l : List Noted) (t o i : ℕ) (p : Peer) (m : Content) → IsFirst l t o i p m
+    → Past (waits_for l o) (end_of l o) (length (replies (before l i) o)) (length (replies l o))
 past [] t o i p m f = cc (f.stands)
 past (x ∷ older) t o i p m f =
     elim (IsFirst-old x older t o i p m f) [
-      | inl u ↦ inl (subst (λ (v : Noted). is_some (waits_for (v ∷ older) o) ≡ true) (sym u.1.2) (past-new older t o p u.1.0 u.1.1 m))
-      | inr u ↦ past-step (begun older o) (turn older o x) (length older) (replies older o) (waits_for older o) (end_of older o) (past older t o i p m u)
+      | inl u ↦
+          let mine : before (x ∷ older) i ≡ older = ap (before (x ∷ older)) u.0 ∙ before-new x older in
+          subst (λ (k : List Noted). Past (waits_for (x ∷ older) o) (end_of (x ∷ older) o) (length (replies k o)) (length (replies (x ∷ older) o))) (sym mine)
+          (subst (λ (v : Noted). Past (waits_for (v ∷ older) o) (end_of (v ∷ older) o) (length (replies older o)) (length (replies (v ∷ older) o))) (sym u.1.2)
+          (past-new older t o p u.1.0 u.1.1 m))
+      | inr u ↦
+          subst (λ (k : List Noted). Past (waits_for (x ∷ older) o) (end_of (x ∷ older) o) (length (replies k o)) (length (replies (x ∷ older) o)))
+          (sym (before-keeps x older i (IsFirst-below older t o i p m u)))
+          (past-step (begun older o) (turn older o x) (length older) (length (replies (before older i) o)) (replies older o) (waits_for older o) (end_of older o)
+          (past older t o i p m u))
     ]
 
-not-past : (w : Option ℕ) (e : Option End) → Past w e → (is_none e && is_none w) ≡ true → ⊥
-not-past None e (inl h) g = false≢true h
-not-past (Some i) None (inl h) g = false≢true g
-not-past (Some i) (Some f) (inl h) g = false≢true g
-not-past w None (inr h) g = false≢true (sym h)
-not-past w (Some f) (inr h) g = false≢true g
+not-past : (w : Option ℕ) (e : Option End) (k n : ℕ) → Past w e k n → (is_none e && is_none w) ≡ true → k < n
+not-past w e k n (le, inr (inr lt)) g = lt
+not-past None e k n (le, inl h) g = absurd (false≢true h)
+not-past (Some i) None k n (le, inl h) g = absurd (false≢true g)
+not-past (Some i) (Some f) k n (le, inl h) g = absurd (false≢true g)
+not-past w None k n (le, inr (inl h)) g = absurd (false≢true (sym h))
+not-past w (Some f) k n (le, inr (inl h)) g = absurd (false≢true g)
 
-first-once : (l : List Noted) (s t o i : ℕ) (p r : Peer) (b : List ℕ) (w : Option ℕ) (m n : Content) → IsFirst l s o i p m
-    → MayBeFirst l t o r b n w → ⊥
-first-once l s t o i p r b w m n f may =
-    not-past (waits_for l o) (end_of l o) (past l s o i p m f)
+-- The next one goes out after one reply more.
+pub first-more : (l : List Noted) (s t o i : ℕ) (p r : Peer) (b : List ℕ) (w : Option ℕ) (m n : Content) → IsFirst l s o i p m
+    → MayBeFirst l t o r b n w → length (replies (before l i) o) < length (replies l o)
+first-more l s t o i p r b w m n f may =
+    not-past (waits_for l o) (end_of l o) _ _ (past l s o i p m f)
     (and_parts (goes_to r (begun l o)) (is_none (end_of l o) && is_none (waits_for l o)) (first-waits l t o r b n w may)).1
 
-pub sent-once : (l : List Noted) (s t o i j : ℕ) (p r : Peer) (m n : Content) → Legal l → IsFirst l s o i p m → IsFirst l t o j r n → i ≡ j
-sent-once [] s t o i j p r m n legal f g = cc (f.stands)
-sent-once (x ∷ older) s t o i j p r m n legal f g =
+pub sent-once : (l : List Noted) (s t o i j : ℕ) (p r : Peer) (m n : Content) → Legal l
+    → IsFirst l s o i p m → IsFirst l t o j r n → length (replies (before l i) o) ≡ length (replies (before l j) o) → i ≡ j
+sent-once [] s t o i j p r m n legal f g same = cc (f.stands)
+sent-once (x ∷ older) s t o i j p r m n legal f g same =
     elim (IsFirst-old x older s o i p m f) [
       | inl u ↦ elim (IsFirst-old x older t o j r n g) [
         | inl v ↦ u.0 ∙ sym v.0
-        | inr v ↦ absurd (first-once older t s o j r p _ _ n m v (may-be x older s o p u.1.0 u.1.1 m legal.2 u.1.2))
+        | inr v ↦
+            let more = first-more older t s o j r p _ _ n m v (may-be x older s o p u.1.0 u.1.1 m legal.2 u.1.2) in
+            let here = at-here u.0 in
+            let there = at-old t j r n v in
+            absurd (omega (arith, more, here, there, same))
       ]
       | inr u ↦ elim (IsFirst-old x older t o j r n g) [
-        | inl v ↦ absurd (first-once older s t o i p r _ _ m n u (may-be x older t o r v.1.0 v.1.1 n legal.2 v.1.2))
-        | inr v ↦ sent-once older s t o i j p r m n legal.0 u v
+        | inl v ↦
+            let more = first-more older s t o i p r _ _ m n u (may-be x older t o r v.1.0 v.1.1 n legal.2 v.1.2) in
+            let here = at-here v.0 in
+            let there = at-old s i p m u in
+            absurd (omega (arith, more, here, there, same))
+        | inr v ↦ sent-once older s t o i j p r m n legal.0 u v (sym (at-old s i p m u) ∙ (same ∙ at-old t j r n v))
       ]
     ]
+  where
+    at-here : {k : ℕ} → k ≡ length older → length (replies (before (x ∷ older) k) o) ≡ length (replies older o)
+    at-here {k} e = ap (λ (v : List Noted). length (replies v o)) (ap (before (x ∷ older)) e ∙ before-new x older)
+
+    at-old : (u k : ℕ) (q : Peer) (c : Content) → IsFirst older u o k q c → length (replies (before (x ∷ older) k) o) ≡ length (replies (before older k) o)
+    at-old u k q c f = ap (λ (v : List Noted). length (replies v o)) (before-keeps x older k (IsFirst-below older u o k q c f))

@@ -1,29 +1,35 @@
 -- The worked journals of what is stored.
-use Rattle.std.proofs.Common.{◌≡◌, ℕ, ◌≤◌, true, inl, inr, List, [], ◌∷◌, Some, is_some, refl, sym, ap, subst, ◌∙◌, arith, lit≤}
+use Rattle.std.proofs.Common.{◌≡◌, ℕ, ◌≤◌, ◌<◌, true, inl, inr, List, [], ◌∷◌, ◌++◌, length, Some, is_some, refl, sym, ap, subst, ◌∙◌, arith, lit≤}
 use Rattle.std.specs.Prelude.{nat_lt, ◌+◌}
-use Rattle.std.specs.List.{Contains}
+use Rattle.std.specs.List.{AllByRecursion, Contains}
 use Rattle.std.proofs.lemmas.Bool.{false≢true}
-use Rattle.resp_cache.specs.Stored.{Stored, lifetime}
+use Rattle.limits.specs.declared.TheConstants.{MAX_STORED}
+use Rattle.cache_key.specs.Keys.{CacheKey}
+use Rattle.resp_cache.specs.Stored.{Stored, lifetime, is_fresh}
 use Rattle.ask_model.specs.Requests.{CoapRequest}
+use Rattle.ask_model.specs.Sharing.{asked_key}
+use Rattle.journal_book.specs.Entries.{Asks}
 use Rattle.history_laws.specs.Responses.{Response, response_of}
-use Rattle.history_laws.specs.Readings.{Noted, at}
+use Rattle.history_laws.specs.Readings.{Noted, Plain, Serves, at, noted}
 use Rattle.history_laws.specs.Progress.{Reply, numbers, Ending, Whole}
-use Rattle.history_laws.specs.Exchanges.{openings, End, end_of}
+use Rattle.history_laws.specs.Exchanges.{begun, openings, End, end_of}
 use Rattle.history_laws.specs.Joining.{is_joinable}
-use Rattle.history_laws.specs.Storing.{IsStored}
+use Rattle.history_laws.specs.Storing.{IsStored, IsUse, IsUsedSince}
 use Rattle.history_laws.specs.Justified.{Legal}
 use Rattle.history_laws.specs.Worked.{Holds, Refused}
 use Rattle.history_laws.specs.WorkedMessages.{get_light, all_answered}
 use Rattle.history_laws.specs.WorkedEndings.{non_message}
 use Rattle.history_laws.specs.WorkedCopies.{content_again}
-use Rattle.history_laws.specs.WorkedStore.{read_once, read_from_store, read_expired, kept_late, get_bright, get_json, other_query, other_accept, read_outdated, read_twice, read_older}
+use Rattle.history_laws.specs.WorkedStore.{read_once, read_from_store, fetched_when_stale, fetched_though_fresh, read_expired, kept_late, get_bright, get_json, other_query, other_accept, read_outdated, read_twice, read_older}
+use Rattle.history_laws.proofs.Copied.{get-again-spelled}
 use Rattle.history_laws.proofs.Elements.{contains-none, first-or-later}
 use Rattle.history_laws.proofs.Endings.{non-spelled}
 use Rattle.history_laws.proofs.Joining.{shared-is}
 use Rattle.history_laws.proofs.Messages.{legal-waiting}
 use Rattle.history_laws.proofs.Openings.{begun-listed}
+use Rattle.history_laws.proofs.Places.{at-below}
 use Rattle.history_laws.proofs.Resting.{at-rest, may-come, some-is}
-use Rattle.history_laws.proofs.Wholes.{ends-one}
+use Rattle.history_laws.proofs.Wholes.{ends-all}
 
 legal-once : Legal read_once
 legal-once = (
@@ -39,6 +45,10 @@ legal-once = (
 -- What may answer an ask was opened by one of the openings.
 opened-among : (l : List Noted) (q : CoapRequest) (o : ℕ) → is_joinable l q o ≡ true → Contains (openings l) o
 opened-among l q o may = begun-listed l o (ap is_some (shared-is l q o may).opened)
+
+begun-once : (o : ℕ) → is_some (begun read_once o) ≡ true → 1 ≡ o
+begun-once o is =
+    elim (first-or-later 1 [] o (begun-listed read_once o is)) [ inl w ↦ w | inr w ↦ absurd (contains-none o w) ]
 
 opened-one : (l : List Noted) (q : CoapRequest) (n o : ℕ) → openings l ≡ n ∷ [] → is_joinable l q o ≡ true → n ≡ o
 opened-one l q n o one may =
@@ -88,8 +98,6 @@ read_from_store-holds = (
   at-rest _ refl,
 )
 
--- not so
-
 -- what that journal has stored
 only-stored : (q : CoapRequest) (s : Stored) → IsStored read_once q s → (s.heard ≡ 700) × (s.response ≡ response_of non_message)
 only-stored q s is =
@@ -107,14 +115,94 @@ only-stored q s is =
     first-of : (x y : Reply) {xs ys : List Reply} → x ∷ xs ≡ y ∷ ys → x ≡ y
     first-of x y e = cc
 
-pub read_expired-refused : Refused read_expired
-read_expired-refused h =
-    let s : Stored = h.0.2.3.0 in
-    let it = only-stored get_light s h.0.2.3.1 in
+-- which is stale then
+stale-once : (q : CoapRequest) (s : Stored) → IsStored read_once q s → is_fresh 60700 s ≡ true → ⊥
+stale-once q s is fresh =
+    let it = only-stored q s is in
     let late : nat_lt 60700 (700 + lifetime (response_of non_message).max_age) ≡ true =
     subst (λ (w : Response). nat_lt 60700 (700 + lifetime w.max_age) ≡ true) it.1
-    (subst (λ (n : ℕ). nat_lt 60700 (n + lifetime s.response.max_age) ≡ true) it.0 h.0.2.3.2) in
+    (subst (λ (n : ℕ). nat_lt 60700 (n + lifetime s.response.max_age) ≡ true) it.0 fresh) in
     false≢true late
+
+pub fetched_when_stale-holds : Holds fetched_when_stale
+fetched_when_stale-holds = (
+  (
+    (
+      legal-once,
+      lit≤ tt,
+      (may-come _ refl refl, refl, refl, (refl, refl, refl), λ s is fresh. absurd (stale-once get_light s is fresh)),
+    ),
+    lit≤ tt,
+    (
+      refl,
+      (
+        refl,
+        record {
+          since = 60700;
+          request = get_light;
+          opening = refl;
+          others = _;
+          first = refl;
+          free = refl;
+          peer = refl;
+          message = refl;
+          spelled = get-again-spelled;
+          token_size = refl;
+          token_apart = refl;
+          mid_apart = refl;
+          wait = 2000;
+          first_wait = refl;
+          least = lit≤ tt;
+          greatest = lit≤ tt;
+        },
+      ),
+    ),
+  ),
+  at-rest _ refl,
+)
+
+-- not so
+
+-- No key was used after what that journal has stored was heard.
+unused : (n : ℕ) (key : CacheKey) → IsUse read_once n key → 3 < n → ⊥
+unused n key (inl s) lt =
+    let below : n < 5 = at-below read_once n (noted s.moment (Asks s.conn s.ask) (Serves s.replies)) s.stands in
+    let four : n ≡ 4 = omega (arith, below, lt) in
+    let stands : at read_once 4 ≡ Some (noted s.moment (Asks s.conn s.ask) (Serves s.replies)) =
+    subst (λ (n : ℕ). at read_once n ≡ Some (noted s.moment (Asks s.conn s.ask) (Serves s.replies))) four s.stands in
+    unserved (ap (λ (x : Noted). x.note) (some-is _ _ stands))
+  where
+    unserved : Plain ≡ Serves s.replies → ⊥
+    unserved e = cc
+unused n key (inr s) lt =
+    let here = (ends-once s.opening n (Whole s.response s.replies) (begun-once s.opening (ap is_some s.opened)) s.ends.ended).0 in
+    absurd (omega (arith, here, lt))
+
+used-once : IsUse read_once 3 (asked_key get_light)
+used-once =
+    inr (record {
+      opening = 1;
+      response = response_of non_message;
+      replies = reply-of-once ∷ [];
+      ends = record { ended = refl; code = refl };
+      since = 0;
+      request = get_light;
+      opened = refl;
+      get = refl;
+      is = refl;
+      current = refl;
+      lasts = refl;
+    })
+
+pub fetched_though_fresh-refused : Refused fetched_though_fresh
+fetched_though_fresh-refused h = let it = h.2.4 stored-once is-stored-once refl in by it.others it.many it.since
+  where
+    by : (keys : List CacheKey) → MAX_STORED ≤ length keys → AllByRecursion (IsUsedSince read_once (asked_key get_light)) keys → ⊥
+    by [] many since = let none : 256 ≤ 0 = many in absurd (omega (arith, none))
+    by (key ∷ keys) many since = let it = since.0 in unused it.0 key it.1 (it.2 3 used-once)
+
+pub read_expired-refused : Refused read_expired
+read_expired-refused h = stale-once get_light h.0.2.3.0 h.0.2.3.1 h.0.2.3.2
 
 pub kept_late-refused : Refused kept_late
 kept_late-refused h =
@@ -147,11 +235,13 @@ read_older-refused h =
     let s : Stored = h.2.3.0 in
     let is : IsStored read_twice get_light s = h.2.3.1 in
     let latest : 7 ≤ is.ending = is.latest 5 7 (response_of content_again) (record { number = 7; sending = 6; message = content_again } ∷ []) (record { ended = refl; code = refl }) refl in
-    let one = ends-one read_twice is.opening is.ending s.response (is.first ∷ is.more) is.ends.ended in
-    let numbered : numbers (one.reply ∷ []) ≡ 3 ∷ [] = sym (ap numbers one.alone) ∙ (sym is.list ∙ h.2.3.3) in
-    let number : one.reply.number ≡ 3 = first-number _ _ numbered in
-    let ending = one.number in
+    let all = ends-all read_twice is.opening is.ending s.response (is.first ∷ is.more) is.ends.ended in
+    let numbered : numbers (all.others ++ all.last ∷ []) ≡ 3 ∷ [] = sym (ap numbers all.all) ∙ (sym is.list ∙ h.2.3.3) in
+    let number : all.last.number ≡ 3 = only all.others all.last 3 numbered in
+    let ending = all.number in
     absurd (omega (arith, latest, number, ending))
   where
-    first-number : (m n : ℕ) → m ∷ [] ≡ n ∷ [] → m ≡ n
-    first-number m n e = cc
+    only : (rs : List Reply) (r : Reply) (n : ℕ) → numbers (rs ++ r ∷ []) ≡ n ∷ [] → r.number ≡ n
+    only [] r n e = cc
+    only (s ∷ []) r n e = cc
+    only (s ∷ t ∷ rs) r n e = cc

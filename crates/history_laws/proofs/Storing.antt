@@ -90,6 +90,7 @@ module _ (l : List Noted) (t k c : ℕ) (a : Ask) (js : List ℕ) (legal : Legal
           moment = came.moment;
           mid = came.mid;
           token = came.token;
+          block = came.block;
           first = came.first;
         },
         refl,

@@ -53,21 +53,21 @@ pub data Turn : Type 0 where
   Nothing : Turn
   -- the first sending of its next message
   Sent : (sending : ℕ) → Turn
-  -- a reply to it
-  Replied : (sending : ℕ) → (message : Content) → Turn
+  -- a reply to it, and whether there is a place for what comes next
+  Replied : (sending : ℕ) → (message : Content) → (place : Bool) → Turn
   -- a Reset message to it
   Rejected : Turn
   -- its latest message is given up, or it has been open for as long as it may
   Expired : Turn
 
 -- What answers its latest message is a turn of it: all but an empty ACK.
-abbrev pub answered_by : ℕ → Content → MsgType → Turn
-answered_by i m Rst = Rejected
-answered_by i m kind = if nat_le 32 m.code then Replied i m else Nothing
+abbrev pub answered_by : ℕ → Content → Bool → MsgType → Turn
+answered_by i m place Rst = Rejected
+answered_by i m place kind = if nat_le 32 m.code then Replied i m place else Nothing
 
-abbrev pub heard_turn : ℕ → Content → Option ℕ → Turn
-heard_turn i m None = Nothing
-heard_turn i m (Some waits) = if waits == i then answered_by i m m.kind else Nothing
+abbrev pub heard_turn : ℕ → Content → Bool → Option ℕ → Turn
+heard_turn i m place None = Nothing
+heard_turn i m place (Some waits) = if waits == i then answered_by i m place m.kind else Nothing
 
 abbrev pub expires : List Noted → ℕ → ℕ → Option ℕ → Bool
 expires l o t None = is_late t (begun l o)
@@ -75,14 +75,14 @@ expires l o t (Some i) = is_late t (begun l o) || given_up t (transmission l i)
 
 abbrev pub turn_by : List Noted → ℕ → ℕ → Deed → Note → Option ℕ → Turn
 turn_by l o t (Sends p b w) (First q m) waits = if q == o then Sent (length l) else Nothing
-turn_by l o t (Hears p b) (Says m (Some i) notice) waits = heard_turn i m waits
+turn_by l o t (Hears p b) (Says m (Some i) notice) waits = heard_turn i m notice.place waits
 turn_by l o t Passes note waits = if expires l o t waits then Expired else Nothing
 turn_by l o t _ _ waits = Nothing
 
 -- the first sending of the exchange that waits for a reply: none once it has ended
 abbrev pub waits_by : Turn → Option ℕ → Option ℕ
 waits_by (Sent i) old = Some i
-waits_by (Replied i m) old = None
+waits_by (Replied i m place) old = None
 waits_by Rejected old = None
 waits_by Expired old = None
 waits_by Nothing old = old
@@ -100,7 +100,7 @@ turn l o x = turn_by l o x.written.moment x.written.deed x.note (waits_for l o)
 
 -- the replies to the exchange, in order
 abbrev pub replies_by : ℕ → Turn → List Reply → List Reply
-replies_by n (Replied i m) old = old ++ record { number = n; sending = i; message = m } ∷ []
+replies_by n (Replied i m place) old = old ++ record { number = n; sending = i; message = m } ∷ []
 replies_by n _ old = old
 
 abbrev pub replies : List Noted → ℕ → List Reply
@@ -113,14 +113,14 @@ pub record End : Type 0 where
   pub how : Ending
 
 -- How the exchange ends by these replies, if it does: none is understood where nothing was asked.
-abbrev pub replied_end : Option Begun → List Reply → Option Ending
-replied_end None rs = Some NotUnderstood
-replied_end (Some b) rs = ended_by (progress b.request rs)
+abbrev pub replied_end : Option Begun → Bool → List Reply → Option Ending
+replied_end None place rs = Some NotUnderstood
+replied_end (Some b) place rs = ended_by place (progress b.request rs)
 
 -- how it ends by this turn of the entry with this number, if it does
 abbrev pub end_here : Option Begun → ℕ → List Reply → Turn → Option Ending
-end_here b n rs (Replied i m) =
-    replied_end b (rs ++ record { number = n; sending = i; message = m } ∷ [])
+end_here b n rs (Replied i m place) =
+    replied_end b place (rs ++ record { number = n; sending = i; message = m } ∷ [])
 end_here b n rs Rejected = Some Reset
 end_here b n rs Expired = Some TimedOut
 end_here b n rs _ = None

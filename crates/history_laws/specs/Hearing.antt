@@ -1,5 +1,5 @@
 -- What a datagram is: what it repeats, and which first sending it answers.
-use Rattle.std.specs.Prelude.{ℕ, ◌+◌, Bool, true, false, not, ◌&&◌, ◌||◌, List, [], ◌∷◌, ◌++◌, length, find, Option, Some, None, option_map, option_to_list, is_some, ◌==◌, nat_le, nat_lt, if◌then◌else◌}
+use Rattle.std.specs.Prelude.{ℕ, ◌+◌, ◌-◌, Bool, true, false, not, ◌&&◌, ◌||◌, List, [], ◌∷◌, ◌++◌, length, find, Option, Some, None, option_map, option_to_list, is_some, ◌==◌, nat_le, nat_lt, if◌then◌else◌}
 use Rattle.std.specs.List.{list_any}
 use Rattle.std.specs.Str.{bytes_eq}
 use Rattle.limits.specs.declared.TheConstants.{EXCHANGE_LIFETIME, MAX_EXCHANGES, MAX_MESSAGE_IDS, MAX_REMEMBERED, MAX_WAITING}
@@ -11,8 +11,8 @@ use Rattle.uri_map.specs.Peers.{same_peer}
 use Rattle.ask_model.specs.Requests.{CoapRequest}
 use Rattle.journal_book.specs.Entries.{Deed, Hears, Carries}
 use Rattle.journal_book.specs.Entries as D
-use Rattle.history_laws.specs.Readings.{Noted, Note, Says, Recalls, Notice, unobserved}
-use Rattle.history_laws.specs.Transmissions.{FirstSending, first_at, last_sent, outstanding, mids_used}
+use Rattle.history_laws.specs.Readings.{Noted, Note, Says, Recalls, Notice, Unobserved}
+use Rattle.history_laws.specs.Transmissions.{FirstSending, first_at, last_sent, outstanding, transmission, mids_used}
 use Rattle.history_laws.specs.Exchanges.{open_exchanges, awaited, waiting}
 
 -- A CON or NON that is heard at this moment, from this peer and with this ID, repeats one that was
@@ -100,9 +100,20 @@ answers_by l p m kind empty response = None
 abbrev pub answers : List Noted → Peer → Content → Option ℕ
 answers l p m = answers_by l p m m.kind (m.code == 0) (nat_le 32 m.code)
 
+-- Where the message was outstanding that is answered, the first that waits at the peer goes out. After
+-- that, what the exchange sends next finds a place among those that wait, and a message ID.
+abbrev pub let_go : List Noted → ℕ → ℕ
+let_go l i = if is_some (transmission l i) then 1 else 0
+
+abbrev pub has_place : List Noted → ℕ → Peer → Option ℕ → Bool
+has_place l t p None = true
+has_place l t p (Some i) =
+    nat_lt (length (waiting l p) - let_go l i) MAX_WAITING
+    && nat_lt (mids_used l t p + length (waiting l p)) MAX_MESSAGE_IDS
+
 -- what comes of it
 abbrev pub notice_of : List Noted → ℕ → Peer → Content → Option ℕ → Notice
-notice_of l t p m to = unobserved
+notice_of l t p m to = record { place = has_place l t p to; observation = Unobserved }
 
 -- There is room for one exchange more: a place among the open ones, one among those that wait at its
 -- peer, and a message ID.

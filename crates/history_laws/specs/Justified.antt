@@ -16,7 +16,7 @@ use Rattle.history_laws.specs.Confirmations.{empty, Confirmation}
 use Rattle.history_laws.specs.Causes.{IsRefusal}
 use Rattle.history_laws.specs.Readings.{Noted, Note, Plain, Begins, Joins, Serves, First, Copies, Confirms, Says, Repeats, Garbled, Bygone, Recalls, noted, are_copies, entries, at, newest, ticked}
 use Rattle.history_laws.specs.Connections.{is_open, asks_of, answers_of, is_sealed, opened, has_opened}
-use Rattle.history_laws.specs.Progress.{Reply, numbers, Ending, Whole, NotUnderstood, Reset, TimedOut, progress, next_message}
+use Rattle.history_laws.specs.Progress.{Reply, numbers, Ending, Whole, NotUnderstood, Reset, TimedOut, Turned, progress, next_message}
 use Rattle.history_laws.specs.Transmissions.{FirstSending, firsts, sent_last, bears_token, bears_mid, Transmission, transmission, due, outstanding}
 use Rattle.history_laws.specs.Exchanges.{Begun, begun, is_late, waits_for, replies, end_of, is_going, open_exchanges, waiting}
 use Rattle.history_laws.specs.Joining.{joins}
@@ -73,8 +73,9 @@ IsOverdue l t o = (is_sealed l ≡ true) × (end_of l o ≡ None) × (is_late t 
 
 -- Why an answer at this moment is the proxy's own, and which entry it names.
 abbrev pub Caused : List Noted → ℕ → ℕ → Cause → ℕ → Type 0
--- There was no room for its exchange.
-Caused l t k C.Busy n = (n ≡ k) × IsTurnedAway l k
+-- There was no room for its exchange, or no place for the next message of that.
+Caused l t k C.Busy n =
+    (n ≡ k) × (IsTurnedAway l k ⊎ ((o : ℕ) × (e : ℕ) × (reads l k ≡ Some o) × Ends l o e Turned))
 -- The exchange ended so, or is overdue: the latest first sending is named, or the ask where nothing
 -- was sent.
 Caused l t k C.Timeout n =

@@ -1,22 +1,26 @@
 -- What holds of every legal reading of a history.
-use Rattle.std.specs.Prelude.{◌≡◌, ◌≢◌, ◌↔◌, ◌⊎◌, ℕ, ◌+◌, ◌<◌, ◌≤◌, true, false, List, [], length, take, Option, Some, None, is_some, ⊤}
+use Rattle.std.specs.Prelude.{◌≡◌, ◌≢◌, ◌↔◌, ◌⊎◌, ℕ, ◌+◌, ◌<◌, ◌≤◌, true, false, List, [], ◌∷◌, length, take, Option, Some, None, is_some, ⊤}
 use Rattle.std.specs.List.{Contains}
 use Rattle.limits.specs.declared.TheConstants.{MAX_RETRANSMIT, MESSAGE_ID_LIFETIME}
 use Rattle.coap_codec.specs.declared.message.MsgType.{MsgType}
 use Rattle.coap_codec.specs.declared.message.MsgType.TheVariants.{Con, Non, Ack, Rst}
 use Rattle.coap_codec.specs.Spelling.{Content, Spells}
+use Rattle.coap_codec.specs.declared.block.Block.{Block}
 use Rattle.uri_map.specs.declared.peer.Peer.{Peer}
 use Rattle.ask_model.specs.declared.cause.Cause.{Cause}
 use Rattle.ask_model.specs.declared.cause.Cause.TheVariants as C
-use Rattle.ask_model.specs.Requests.{CoapRequest, Sense, Requests, Refuses, request_message}
+use Rattle.ask_model.specs.Requests.{CoapRequest, Sense, Requests, Refuses, block_message, carried_by}
 use Rattle.ask_model.specs.Sharing.{asked_place, asks_same}
 use Rattle.ask_model.specs.Views.{Ask}
 use Rattle.resp_cache.specs.Stored.{Stored, is_fresh}
 use Rattle.journal_book.specs.Entries.{Grounds, Live, Kept, Fault, Deed, Sends, Hears, Passes, Answers, Shuts}
 use Rattle.history_laws.specs.Confirmations.{empty}
 use Rattle.history_laws.specs.Readings.{Noted, Note, First, Copies, Says, Notice, noted, at, before, ticked}
+use Rattle.history_laws.specs.Responses.{Response}
 use Rattle.history_laws.specs.Connections.{is_open, asks_of, answers_of, is_sealed}
-use Rattle.history_laws.specs.Progress.{Reply, Ending}
+use Rattle.blockwise.specs.Reading.{offset_in}
+use Rattle.blockwise.specs.Uploads.{next_block}
+use Rattle.history_laws.specs.Progress.{Reply, Ending, Whole, Progress, Gives, progress, next_message, Point, first_point, block_for, point_after}
 use Rattle.history_laws.specs.Transmissions.{FirstSending, firsts, Transmission, transmission, due, outstanding}
 use Rattle.history_laws.specs.Exchanges.{Begun, begun, turn, waits_for, replies, end_here, end_of, open_exchanges}
 use Rattle.history_laws.specs.Joining.{outrun, is_joinable, joins}
@@ -149,6 +153,62 @@ pub record IsReplyTo (l : List Noted) (o : ℕ) (r : Reply) : Type 0 where
 abbrev pub RepliesFit : Type 0
 RepliesFit = (l : List Noted) (o : ℕ) (r : Reply) → Legal l → Contains (replies l o) r → IsReplyTo l o r
 
+-- Each first sending of an exchange is its next message after the replies before.
+abbrev pub SendsNext : Type 0
+SendsNext =
+    (l : List Noted) (t o i : ℕ) (p : Peer) (m : Content) (b : Begun) → Legal l → IsFirst l t o i p m
+    → begun l o ≡ Some b
+    → next_message b.request (progress b.request (replies (before l i) o)) m.mid m.token ≡ Some m
+
+-- The reply came to a message for this block: one of its representation, or of its body.
+pub record IsFetched (l : List Noted) (o : ℕ) (q : CoapRequest) (block : Option Block) (r : Reply) : Type 0 where
+  pub fits : IsReplyTo l o r
+  pub moment : ℕ
+  pub mid : ℕ
+  pub token : List ℕ
+  pub first : IsFirst l moment o r.sending q.peer (block_message q block mid token)
+
+-- So did each of these, to one for the block after those before.
+abbrev pub AreFetched : List Noted → ℕ → CoapRequest → Point → List Reply → Type 0
+AreFetched l o q point [] = ⊤
+AreFetched l o q point (r ∷ rs) =
+    IsFetched l o q (block_for point) r × AreFetched l o q (point_after point r.message) rs
+
+-- What an exchange ends with as a whole came piece by piece, each one after those before: the pieces of its
+-- representation (RFC 7959 section 2.4), or the answers to the pieces of its body (section 2.3).
+abbrev pub FetchedInOrder : Type 0
+FetchedInOrder =
+    (l : List Noted) (o e : ℕ) (b : Begun) (w : Response) (rs : List Reply) → Legal l
+    → begun l o ≡ Some b → Ends l o e (Whole w rs) → AreFetched l o b.request (first_point b.request) rs
+
+-- The exchange has a first sending in the entry with this number.
+abbrev pub IsSending : List Noted → ℕ → ℕ → Type 0
+IsSending l o i = (t : ℕ) × (p : Peer) × (m : Content) × IsFirst l t o i p m
+
+-- the block of the body that it brings: none where that goes whole
+abbrev pub brings : Progress → Option Block
+brings (Gives upload got) = next_block upload
+brings progress = None
+
+abbrev pub block_sent : List Noted → ℕ → CoapRequest → ℕ → Option Block
+block_sent l o q i = brings (progress q (replies (before l i) o))
+
+abbrev pub bytes_sent : List Noted → ℕ → CoapRequest → ℕ → ℕ
+bytes_sent l o q i = length (carried_by q.method (block_sent l o q i) q.body)
+
+-- It is the exchange's first and begins with the first byte of the body, or it begins where the one before it ends.
+abbrev pub IsPart : List Noted → ℕ → CoapRequest → ℕ → Type 0
+IsPart l o q i =
+    (((j : ℕ) → IsSending l o j → i ≤ j) × (offset_in (block_sent l o q i) ≡ 0))
+    ⊎ ((j : ℕ) × IsSending l o j × (j < i) × ((k : ℕ) → IsSending l o k → k < i → k ≤ j)
+    × (offset_in (block_sent l o q j) + bytes_sent l o q j ≡ offset_in (block_sent l o q i)))
+
+-- What a write sends are one message, or blocks of its body, in order, without a gap and without an overlap.
+abbrev pub WritesInOrder : Type 0
+WritesInOrder =
+    (l : List Noted) (t o i : ℕ) (p : Peer) (m : Content) (b : Begun) → Legal l → begun l o ≡ Some b → b.request.method ≢ 1
+    → IsFirst l t o i p m → (m ≡ block_message b.request (block_sent l o b.request i) m.mid m.token) × IsPart l o b.request i
+
 -- The exchange that an ask reads was opened by it, or before it.
 abbrev pub ReadsOpened : Type 0
 ReadsOpened = (l : List Noted) (k o : ℕ) → Legal l → reads l k ≡ Some o → (o ≤ k) × (is_some (begun l o) ≡ true)
@@ -171,7 +231,8 @@ pub record RestsOn (l : List Noted) (k j : ℕ) : Type 0 where
   pub moment : ℕ
   pub mid : ℕ
   pub token : List ℕ
-  pub first : IsFirst l moment opening reply.sending request.peer (request_message request mid token)
+  pub block : Option Block
+  pub first : IsFirst l moment opening reply.sending request.peer (block_message request block mid token)
 
 -- An answer rests on replies to the exchange that its ask reads alone.
 abbrev pub RestsOnItsOwn : Type 0
@@ -198,7 +259,8 @@ pub record RestsOnStored (l : List Noted) (k j : ℕ) : Type 0 where
   pub moment : ℕ
   pub mid : ℕ
   pub token : List ℕ
-  pub first : IsFirst l moment is.opening reply.sending request.peer (request_message request mid token)
+  pub block : Option Block
+  pub first : IsFirst l moment is.opening reply.sending request.peer (block_message request block mid token)
 
 -- An answer from the store rests on a response that is stored for what its ask means, and is given in the moment of
 -- the ask.
@@ -240,13 +302,14 @@ OneJoinable =
     → Contains (open_exchanges l) b → is_joinable l q b ≡ true → a ≡ b
 
 -- The ask opened an exchange for this request: there was none to join, and there was room. It has at most one first
--- sending.
+-- sending after the same replies: none is sent twice.
 pub record OpensOne (l : List Noted) (k : ℕ) (q : CoapRequest) : Type 0 where
   pub since : ℕ
   pub opened : begun l k ≡ Some (record { since = since; request = q })
   pub alone : joins (before l k) q ≡ None
   pub room : has_room (before l k) since q ≡ true
-  pub once : (s t i j : ℕ) (p r : Peer) (m n : Content) → IsFirst l s k i p m → IsFirst l t k j r n → i ≡ j
+  pub once : (s t i j : ℕ) (p r : Peer) (m n : Content) → IsFirst l s k i p m → IsFirst l t k j r n
+      → length (replies (before l i) k) ≡ length (replies (before l j) k) → i ≡ j
 
 -- The ask reads along an exchange that was opened before for an equal GET, was open, and was outrun by no write.
 -- It opens none, and nothing is sent for it.
@@ -323,7 +386,8 @@ pub record IsAskSent (l : List Noted) (i : ℕ) (p : Peer) (bytes : List ℕ) : 
   pub asks : IsAsk l ask conn asked
   pub sense : asked.sense ≡ Requests request
   pub peer : p ≡ request.peer
-  pub carries : message ≡ request_message request message.mid message.token
+  pub block : Option Block
+  pub carries : message ≡ block_message request block message.mid message.token
   pub spelled : Spells message bytes
 
 -- These bytes are an empty ACK or RST to the peer of the datagram that was heard just before.

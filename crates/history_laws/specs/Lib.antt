@@ -22,3 +22,5 @@ pub mod WorkedLate
 pub mod WorkedSpoiled
 pub mod WorkedCopies
 pub mod WorkedStore
+pub mod WorkedPieces
+pub mod WorkedUploads

@@ -26,7 +26,18 @@ read_from_store =
     ∷ noted 60699 (Asks 0 (ask_for get_light)) (Serves (3 ∷ []))
     ∷ read_once
 
--- Not so: a millisecond later, and an answer a millisecond after its ask.
+-- A millisecond later it goes out anew.
+abbrev pub fetched_when_stale : List Noted
+fetched_when_stale =
+    noted 60700 (Sends server (get_under 2 2) (Some 2000)) (First 5 get_again)
+    ∷ noted 60700 (Asks 0 (ask_for get_light)) (Begins get_light)
+    ∷ read_once
+
+-- Not so: an exchange of its own in that last millisecond.
+abbrev pub fetched_though_fresh : List Noted
+fetched_though_fresh = noted 60699 (Asks 0 (ask_for get_light)) (Begins get_light) ∷ read_once
+
+-- Not so: what is stored served a millisecond later, and an answer a millisecond after its ask.
 abbrev pub read_expired : List Noted
 read_expired =
     noted 60700 (Answers 0 5 (Kept (3 ∷ []))) Plain
@@ -59,7 +70,7 @@ read_outdated =
     ∷ noted 5400 (Asks 0 (ask_for get_light)) (Serves (9 ∷ []))
     ∷ all_answered
 
--- Not so: the older one of two responses.
+-- Not so: the older one of two responses. Nor would the second have been asked for while the first was fresh.
 abbrev pub read_twice : List Noted
 read_twice =
     noted 900 (Answers 0 5 (Live (7 ∷ []))) Plain

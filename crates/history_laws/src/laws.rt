@@ -12,6 +12,8 @@ ghost use Rattle.history_laws.specs.Laws.{
   NoneLeft,
   OpenExactly,
   EndsFirst,
+  FetchedInOrder,
+  SendsNext,
   NoneAfterEnd,
   RepliesFit,
   RestsOnItsOwn,
@@ -22,6 +24,7 @@ ghost use Rattle.history_laws.specs.Laws.{
   AnsweredAtOnce,
   NothingElseSent,
   OneJoinable,
+  WritesInOrder,
   ReadsOpened,
 };
 
@@ -61,6 +64,20 @@ pub fn replies_fit()
     ensures { RepliesFit }
 {}
 
+/// Each message of an exchange is the next one after the replies before it, and a whole response came
+/// piece by piece, each one after those before: the pieces of a representation, or the answers to those of
+/// a body (RFC 7959 sections 2.4 and 2.3).
+pub fn fetched_in_order()
+    ensures next { SendsNext }
+    ensures order { FetchedInOrder }
+{}
+
+/// What a write sends are one message, or blocks of its body, in order, without a gap and without an
+/// overlap (RFC 7959 section 2.3).
+pub fn writes_in_order()
+    ensures { WritesInOrder }
+{}
+
 /// A GET joins the open exchange of an equal one, which goes to the same server in an equal message
 /// (RFC 7252 section 5.6). There is one at most that it may join, and it was opened before.
 pub fn readers_join_one()
@@ -79,10 +96,10 @@ pub fn rests_on_its_own()
     ensures outrun { NothingOutrun }
 {}
 
-/// Each ask opens one exchange with one message, which goes out once (RFC 7252 section 4.5 is why no
-/// request may go twice) and waits only while another is outstanding at its peer; or it joins one; or it
-/// does neither and is answered in its own step, by what is stored or by a refusal. Nothing else is sent
-/// but equal copies, ACKs and RSTs.
+/// An ask for what is stored and fresh is served that, in its own step. Each other one opens one exchange
+/// whose messages go out once each (RFC 7252 section 4.5 is why no request may go twice) and wait only
+/// while another is outstanding at their peer; or it joins one; or it does neither and is refused in
+/// its own step. Nothing else is sent but equal copies, ACKs and RSTs.
 pub fn asked_once()
     ensures asked { AskedOnce }
     ensures sent { SentAtOnce }

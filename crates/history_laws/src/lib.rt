@@ -19,10 +19,10 @@ mod laws;
 mod worked;
 
 pub use laws::{
-    answered_in_order, asked_once, one_outstanding, open_exactly, readers_join_one, replies_fit,
-    rests_on_its_own, sendings_apart,
+    answered_in_order, asked_once, fetched_in_order, one_outstanding, open_exactly,
+    readers_join_one, replies_fit, rests_on_its_own, sendings_apart, writes_in_order,
 };
 pub use worked::{
     spoiled_answers, spoiled_sendings, worked_copies, worked_endings, worked_late, worked_messages,
-    worked_readers, worked_store,
+    worked_pieces, worked_readers, worked_store, worked_uploads,
 };

@@ -5,9 +5,11 @@ ghost use Rattle.history_laws.specs.WorkedCopies as C;
 ghost use Rattle.history_laws.specs.WorkedEndings as E;
 ghost use Rattle.history_laws.specs.WorkedLate as L;
 ghost use Rattle.history_laws.specs.WorkedMessages as M;
+ghost use Rattle.history_laws.specs.WorkedPieces as P;
 ghost use Rattle.history_laws.specs.WorkedReaders as R;
 ghost use Rattle.history_laws.specs.WorkedSpoiled as S;
 ghost use Rattle.history_laws.specs.WorkedStore as K;
+ghost use Rattle.history_laws.specs.WorkedUploads as U;
 
 /// Copies, an empty ACK, a separate response, its repeat, a message that waits, deadlines.
 pub fn worked_messages()
@@ -34,6 +36,25 @@ pub fn worked_late()
     ensures abandoned { Holds L.abandoned }
 {}
 
+/// A GET whose response comes in two pieces, and one whose second piece leaves a gap. And what is wrong
+/// there: another block asked for than the next one.
+pub fn worked_pieces()
+    ensures fetched { Holds P.fetched }
+    ensures gap { Holds P.gap_heard }
+    ensures other { Refused P.other_asked }
+{}
+
+/// A PUT whose body goes in two pieces, as the first answer asks for smaller ones; one that is refused
+/// after the first piece; and one whose last piece isn't answered. And what is wrong there: a piece before
+/// the answer to the one before, or one that has bytes of that.
+pub fn worked_uploads()
+    ensures uploaded { Holds U.uploaded }
+    ensures turned_down { Holds U.turned_down }
+    ensures endless { Holds U.endless }
+    ensures hurried { Refused U.hurried }
+    ensures overlapping { Refused U.overlapping }
+{}
+
 /// GETs that are asked by several: one response for two, and an exchange of its own where a write has
 /// ended since. And what is wrong there: an exchange for each, one joined that a write has outrun, a PUT
 /// that joins, a reader that isn't told.
@@ -46,11 +67,14 @@ pub fn worked_readers()
     ensures one_told { Refused R.one_told }
 {}
 
-/// A GET that is answered from the store, in the last millisecond in which the response is fresh. And
-/// what is wrong there: a millisecond later, an answer kept after its ask's moment, for another query or
-/// Accept, after a write to the place, the older one of two responses.
+/// A GET that is answered from the store, in the last millisecond in which the response is fresh, and
+/// one that goes out anew in the next. And what is wrong there: each in the moment of the other, an
+/// answer kept after its ask's moment, for another query or Accept, after a write to the place, the
+/// older one of two responses.
 pub fn worked_store()
     ensures served { Holds K.read_from_store }
+    ensures anew { Holds K.fetched_when_stale }
+    ensures vain { Refused K.fetched_though_fresh }
     ensures expired { Refused K.read_expired }
     ensures late { Refused K.kept_late }
     ensures query { Refused K.other_query }

@@ -3,9 +3,9 @@ use Rattle.std.proofs.Common.{◌≡◌, ℕ, ◌<◌, ◌⊎◌, inl, inr, Bool
 use Rattle.std.specs.Prelude.{◌&&◌}
 use Rattle.journal_book.specs.Entries.{Deed, Sends, Hears, Passes}
 use Rattle.history_laws.specs.Readings.{Noted, Note, First, Says}
-use Rattle.history_laws.proofs.CallerLemmas.{first_end, heard-sends, replied-first}
-use Rattle.history_laws.specs.Progress.{Ending, Reply}
-use Rattle.history_laws.specs.Exchanges.{Turn, Nothing, Sent, Replied, Rejected, Expired, expires, turn_by, turn, waits_by, waits_for, replies_by, replies, End, end_here, end_by, end_of, begun, replied_end, Begun}
+use Rattle.history_laws.proofs.CallerLemmas.{heard-sends}
+use Rattle.history_laws.specs.Progress.{Ending}
+use Rattle.history_laws.specs.Exchanges.{Turn, Nothing, Sent, Replied, Rejected, Expired, expires, turn_by, turn, waits_by, waits_for, End, end_by}
 
 -- What is awaited was sent.
 
@@ -15,7 +15,7 @@ sent-here l o t (Sends p b u) (First q m) w j e = by (eqb q o) e
     by : (c : Bool) → cond c (Sent (length l)) Nothing ≡ Sent j → j ≡ length l
     by true e = cc
     by false e = cc
-sent-here l o t (Hears p b) (Says m (Some i) notice) w j e = absurd (heard-sends i m w j e)
+sent-here l o t (Hears p b) (Says m (Some i) notice) w j e = absurd (heard-sends i m notice.place w j e)
 sent-here l o t Passes note w j e = by (expires l o t w) e
   where
     by : (c : Bool) → cond c Expired Nothing ≡ Sent j → j ≡ length l
@@ -25,7 +25,7 @@ sent-here l o t _ _ w j e = cc
 
 waits-step : (n : ℕ) (u : Turn) (old : Option ℕ) (i : ℕ) → ((j : ℕ) → u ≡ Sent j → j ≡ n) → waits_by u old ≡ Some i → (i ≡ n) ⊎ (old ≡ Some i)
 waits-step n (Sent j) old i h e = let is = h j refl in let same : j ≡ i = cc in inl (sym same ∙ is)
-waits-step n (Replied j m) old i h e = cc
+waits-step n (Replied j m place) old i h e = cc
 waits-step n Rejected old i h e = cc
 waits-step n Expired old i h e = cc
 waits-step n Nothing old i h e = inr e
@@ -38,30 +38,12 @@ waits-below (x ∷ older) o i e =
       | inr w ↦ let ih = waits-below older o i w in omega (arith, ih)
     ]
 
--- What goes on has no reply: the first one ends it.
+-- What hasn't ended hadn't before.
 
 pub none-by : (how : Option Ending) (n : ℕ) (old : Option End) → end_by how n old ≡ None → (how ≡ None) × (old ≡ None)
 none-by None n old e = (refl, e)
 none-by (Some how) n (Some old) e = cc
 none-by (Some how) n None e = cc
-
-none-replied : (b : Option Begun) (n : ℕ) (rs : List Reply) (u : Turn) → rs ≡ [] → end_here b n rs u ≡ None → replies_by n u rs ≡ []
-none-replied b n rs (Replied i m) empty e =
-    let r : Reply = record { number = n; sending = i; message = m } in
-    absurd (some-none (first_end b r) (sym (replied-first b r []) ∙ subst (λ (v : List Reply). replied_end b (v ++ r ∷ []) ≡ None) empty e))
-  where
-    some-none : (how : Ending) → Some how ≡ None → ⊥
-    some-none how e = cc
-none-replied b n rs Rejected empty e = empty
-none-replied b n rs Expired empty e = empty
-none-replied b n rs (Sent j) empty e = empty
-none-replied b n rs Nothing empty e = empty
-
-pub unreplied : (l : List Noted) (o : ℕ) → end_of l o ≡ None → replies l o ≡ []
-unreplied [] o e = refl
-unreplied (x ∷ older) o e =
-    let both = none-by (end_here (begun older o) (length older) (replies older o) (turn older o x)) (length older) (end_of older o) e in
-    none-replied (begun older o) (length older) (replies older o) (turn older o x) (unreplied older o both.1) both.0
 
 -- booleans
 

@@ -17,5 +17,6 @@ mod Judging
 mod OwnMessages
 mod Acknowledgements
 mod Saying
+mod GoingOn
 mod Passing
 mod HeardElsewhere

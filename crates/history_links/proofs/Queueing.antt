@@ -8,7 +8,7 @@ use Rattle.std.proofs.lemmas.Bool.Decides.{eqb_tells}
 use Rattle.std.proofs.lemmas.List.Elements.{filter_map-append}
 use Rattle.uri_map.specs.declared.peer.Peer.{Peer}
 use Rattle.uri_map.specs.Peers.{same_peer}
-use Rattle.ask_model.specs.Requests.{CoapRequest, request_message}
+use Rattle.ask_model.specs.Requests.{CoapRequest, first_message}
 use Rattle.ask_model.specs.Views.{Ask}
 use Rattle.uri_map.proofs.CallerLemmas.{same_peer-itself}
 use Rattle.journal_book.specs.Entries.{Asks}
@@ -22,7 +22,7 @@ use Rattle.history_laws.specs.Transmissions.{FirstSending, firsts, if_outstandin
 use Rattle.history_laws.specs.Progress.{Reply, progress, next_message}
 use Rattle.history_laws.specs.Exchanges.{begun, openings, waits_for, replies, awaited, is_waiting, is_submitted_at, waiting}
 use Rattle.history_laws.specs.Justified.{Legal}
-use Rattle.history_laws.proofs.CallerLemmas.{all-more, at-keeps, begun-below, eqb-itself, filter-all, not-yet, opened-queued, opened-rank, replies-none, unbegun, waiting-all, waiting-begun}
+use Rattle.history_laws.proofs.CallerLemmas.{all-more, asks-first, at-keeps, begun-below, eqb-itself, filter-all, not-yet, opened-queued, opened-rank, replies-none, unbegun, waiting-all, waiting-begun}
 use Rattle.history_links.specs.Agrees.{Start, TurnIn, IsWaitingFor, WaitIn}
 use Rattle.history_links.specs.Steps.{QueuedAgrees}
 use Rattle.history_links.proofs.Still.{since, waits-all, heard-at, heard-still}
@@ -99,7 +99,7 @@ waits-more l t c a q p legal to =
     ap (λ (v : List ℕ). v ++ filter (is_submitted_at (x ∷ l) p (length l)) (openings (x ∷ l))) old
     ∙ ap (λ (v : List ℕ). waiting l p ++ v) (opened-queued x l p q legal refl (λ o. tt) true (it-waits l t c a q p legal to))
 
-wait-push : (start : Start) (n : List Noted) (os : List ℕ) (ws : List Waiting) (o : ℕ) (w : Waiting) → WaitIn start n os ws → IsWaitingFor start n o w → WaitIn start n (os ++ o ∷ []) (ws ++ w ∷ [])
+pub wait-push : (start : Start) (n : List Noted) (os : List ℕ) (ws : List Waiting) (o : ℕ) (w : Waiting) → WaitIn start n os ws → IsWaitingFor start n o w → WaitIn start n (os ++ o ∷ []) (ws ++ w ∷ [])
 wait-push start n [] [] o w a i = (i, tt)
 wait-push start n [] (v ∷ ws) o w a i = absurd a
 wait-push start n (q ∷ os) [] o w a i = absurd a
@@ -129,8 +129,8 @@ queued-agrees start l t p s c a q token text word b to spelled size apart number
             since = t;
             request = q;
             opening = begun-here l t c a q;
-            message = request_message q 0 token;
-            next = ap (λ (rs : List Reply). next_message q (progress q rs) 0 token) (replied l t c a q legal);
+            message = first_message q 0 token;
+            next = ap (λ (rs : List Reply). next_message q (progress q rs) 0 token) (replied l t c a q legal) ∙ asks-first q 0 token;
             spelled = spelled;
             token_size = size;
             token_apart = apart;

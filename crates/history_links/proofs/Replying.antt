@@ -1,22 +1,22 @@
 -- What a message that is new does to exchanges and to messages on their way.
 use Rattle.std.proofs.Common.{◌≡◌, ℕ, Bool, true, false, cond, eqb, leb, List, [], ◌∷◌, ◌++◌, length, Option, Some, None, inl, inr, refl, sym, ap, subst, ◌∙◌}
-use Rattle.std.specs.Prelude.{◌&&◌, not, is_none, is_some}
-use Rattle.std.specs.List.{list_any, filter_map}
+use Rattle.std.specs.Prelude.{◌&&◌, filter, not, is_none}
+use Rattle.std.specs.List.{AllByRecursion, list_any, filter_map}
 use Rattle.std.proofs.lemmas.Bool.Decides.{eqb_tells}
-use Rattle.std.proofs.lemmas.Bool.{and_right, false≢true}
+use Rattle.std.proofs.lemmas.Bool.{false≢true, or_parts}
 use Rattle.coap_codec.specs.declared.message.MsgType.{MsgType}
 use Rattle.coap_codec.specs.declared.message.MsgType.TheVariants.{Con, Non, Ack, Rst}
 use Rattle.coap_codec.specs.Spelling.{Content}
 use Rattle.uri_map.specs.declared.peer.Peer.{Peer}
 use Rattle.journal_book.specs.Entries.{Hears}
-use Rattle.history_laws.specs.Readings.{Noted, Says, unobserved, noted}
-use Rattle.history_laws.specs.Progress.{Reply, Ending}
+use Rattle.history_laws.specs.Readings.{Noted, Says, Notice, noted}
 use Rattle.history_laws.specs.Transmissions.{transmission}
-use Rattle.history_laws.specs.Exchanges.{Begun, Turn, Nothing, Sent, Replied, Rejected, Expired, replied_end, answered_by, heard_turn, turn, waits_by, waits_for, replies, End, end_here, end_by, end_of, is_going, is_waiting, goes_to, begun}
-use Rattle.history_laws.proofs.CallerLemmas.{going-before, NoReply, replied-ends}
+use Rattle.history_laws.specs.Exchanges.{Turn, Nothing, Replied, answered_by, heard_turn, turn, waits_by, waits_for, openings, replies, end_here, end_by, end_of, is_going, is_waiting, is_submitted_at, is_issued_at, issued, submitted, waiting, begun}
+use Rattle.history_laws.proofs.CallerLemmas.{all-more, filter-all, filter-none, waiting-all, waiting-goes, waiting-unsent}
+use Rattle.history_links.specs.Steps.{NoneGoesOn}
 
-abbrev pub says : ℕ → Peer → List ℕ → Content → Option ℕ → Noted
-says t p d m to = noted t (Hears p d) (Says m to unobserved)
+abbrev pub says : ℕ → Peer → List ℕ → Content → Option ℕ → Notice → Noted
+says t p d m to u = noted t (Hears p d) (Says m to u)
 
 -- it answers the first sending with this number
 abbrev pub is_to : Option ℕ → ℕ → Bool
@@ -31,10 +31,10 @@ ends_by k code = leb 32 code
 abbrev pub ends_what : Option ℕ → Content → ℕ → Bool
 ends_what to m i = is_to to i && ends_by m.kind m.code
 
-pub way-after : (l : List Noted) (t : ℕ) (p : Peer) (d : List ℕ) (m : Content) (to : Option ℕ) (i : ℕ)
-    → transmission (says t p d m to ∷ l) i ≡ cond (is_to to i) None (transmission l i)
-way-after l t p d m None i = refl
-way-after l t p d m (Some j) i = refl
+pub way-after : (l : List Noted) (t : ℕ) (p : Peer) (d : List ℕ) (m : Content) (to : Option ℕ) (u : Notice) (i : ℕ)
+    → transmission (says t p d m to u ∷ l) i ≡ cond (is_to to i) None (transmission l i)
+way-after l t p d m None u i = refl
+way-after l t p d m (Some j) u i = refl
 
 -- the turn of an exchange, and what it leaves
 
@@ -42,82 +42,76 @@ abbrev pub hit : Option ℕ → Content → Option ℕ → Bool
 hit to m None = false
 hit to m (Some i) = ends_what to m i
 
-record Effect (a : Option Begun) (n : ℕ) (rs : List Reply) (u : Turn) (waits : Option ℕ) (b : Bool) : Type 0 where
-  waits_are : waits_by u waits ≡ cond b None waits
-  ends : is_some (end_here a n rs u) ≡ b
+-- what it leaves that waited, and where it is nothing to the exchange
+record Effect (turned : Turn) (waits : Option ℕ) (b : Bool) : Type 0 where
+  waits_are : waits_by turned waits ≡ cond b None waits
+  still : b ≡ false → turned ≡ Nothing
 
-effect-kind : (a : Option Begun) (n : ℕ) (rs : List Reply) (i : ℕ) (m : Content) (k : MsgType) (w : ℕ)
-    → Effect a n rs (answered_by i m k) (Some w) (ends_by k m.code)
-effect-kind a n rs i m Rst w = record { waits_are = refl; ends = refl }
-effect-kind a n rs i m Con w = by (leb 32 m.code)
+effect-kind : (i : ℕ) (m : Content) (place : Bool) (k : MsgType) (w : ℕ) → Effect (answered_by i m place k) (Some w) (ends_by k m.code)
+effect-kind i m place Rst w = record { waits_are = refl; still = λ e. absurd (false≢true (sym e)) }
+effect-kind i m place Con w = by (leb 32 m.code)
   where
-    by : (b : Bool) → Effect a n rs (cond b (Replied i m) Nothing) (Some w) b
-    by true = record { waits_are = refl; ends = replied-ends a rs (record { number = n; sending = i; message = m }) }
-    by false = record { waits_are = refl; ends = refl }
-effect-kind a n rs i m Non w = by (leb 32 m.code)
+    by : (b : Bool) → Effect (cond b (Replied i m place) Nothing) (Some w) b
+    by true = record { waits_are = refl; still = λ e. absurd (false≢true (sym e)) }
+    by false = record { waits_are = refl; still = λ e. refl }
+effect-kind i m place Non w = by (leb 32 m.code)
   where
-    by : (b : Bool) → Effect a n rs (cond b (Replied i m) Nothing) (Some w) b
-    by true = record { waits_are = refl; ends = replied-ends a rs (record { number = n; sending = i; message = m }) }
-    by false = record { waits_are = refl; ends = refl }
-effect-kind a n rs i m Ack w = by (leb 32 m.code)
+    by : (b : Bool) → Effect (cond b (Replied i m place) Nothing) (Some w) b
+    by true = record { waits_are = refl; still = λ e. absurd (false≢true (sym e)) }
+    by false = record { waits_are = refl; still = λ e. refl }
+effect-kind i m place Ack w = by (leb 32 m.code)
   where
-    by : (b : Bool) → Effect a n rs (cond b (Replied i m) Nothing) (Some w) b
-    by true = record { waits_are = refl; ends = replied-ends a rs (record { number = n; sending = i; message = m }) }
-    by false = record { waits_are = refl; ends = refl }
+    by : (b : Bool) → Effect (cond b (Replied i m place) Nothing) (Some w) b
+    by true = record { waits_are = refl; still = λ e. absurd (false≢true (sym e)) }
+    by false = record { waits_are = refl; still = λ e. refl }
 
-turn-of : Option ℕ → Content → Option ℕ → Turn
-turn-of None m waits = Nothing
-turn-of (Some i) m waits = heard_turn i m waits
+turn-of : Option ℕ → Content → Bool → Option ℕ → Turn
+turn-of None m place waits = Nothing
+turn-of (Some i) m place waits = heard_turn i m place waits
 
-effect : (a : Option Begun) (n : ℕ) (rs : List Reply) (to : Option ℕ) (m : Content) (waits : Option ℕ)
-    → Effect a n rs (turn-of to m waits) waits (hit to m waits)
+effect : (to : Option ℕ) (m : Content) (place : Bool) (waits : Option ℕ) → Effect (turn-of to m place waits) waits (hit to m waits)
 unfolding turn-of
-effect a n rs None m None = record { waits_are = refl; ends = refl }
-effect a n rs None m (Some w) = record { waits_are = refl; ends = refl }
-effect a n rs (Some i) m None = record { waits_are = refl; ends = refl }
-effect a n rs (Some i) m (Some w) = elim (eqb_tells w i) [
+effect None m place None = record { waits_are = refl; still = λ e. refl }
+effect None m place (Some w) = record { waits_are = refl; still = λ e. refl }
+effect (Some i) m place None = record { waits_are = refl; still = λ e. refl }
+effect (Some i) m place (Some w) = elim (eqb_tells w i) [
   | inl e ↦
       let turned : eqb i w ≡ true = elim (eqb_tells i w) [ inl f ↦ f.0 | inr f ↦ absurd (f.1 (sym e.1)) ] in
-      rw (e.0, turned) (effect-kind a n rs i m m.kind w)
+      rw (e.0, turned) (effect-kind i m place m.kind w)
   | inr e ↦
       let turned : eqb i w ≡ false = elim (eqb_tells i w) [ inl f ↦ absurd (e.1 (sym f.1)) | inr f ↦ f.0 ] in
-      rw (e.0, turned) (record { waits_are = refl; ends = refl })
+      rw (e.0, turned) (record { waits_are = refl; still = λ e. refl })
 ]
 
-turn-is : (l : List Noted) (t : ℕ) (p : Peer) (d : List ℕ) (m : Content) (to : Option ℕ) (q : ℕ) → turn l q (says t p d m to) ≡ turn-of to m (waits_for l q)
+turn-is : (l : List Noted) (t : ℕ) (p : Peer) (d : List ℕ) (m : Content) (to : Option ℕ) (u : Notice) (q : ℕ)
+    → turn l q (says t p d m to u) ≡ turn-of to m u.place (waits_for l q)
 unfolding turn-of
-turn-is l t p d m None q = refl
-turn-is l t p d m (Some i) q = refl
+turn-is l t p d m None u q = refl
+turn-is l t p d m (Some i) u q = refl
 
-pub waits-after : (l : List Noted) (t : ℕ) (p : Peer) (d : List ℕ) (m : Content) (to : Option ℕ) (q : ℕ)
-    → waits_for (says t p d m to ∷ l) q ≡ cond (hit to m (waits_for l q)) None (waits_for l q)
-waits-after l t p d m to q =
-    ap (λ (u : Turn). waits_by u (waits_for l q)) (turn-is l t p d m to q) ∙ (effect (begun l q) (length l) (replies l q) to m (waits_for l q)).waits_are
+pub waits-after : (l : List Noted) (t : ℕ) (p : Peer) (d : List ℕ) (m : Content) (to : Option ℕ) (u : Notice) (q : ℕ)
+    → waits_for (says t p d m to u ∷ l) q ≡ cond (hit to m (waits_for l q)) None (waits_for l q)
+waits-after l t p d m to u q =
+    ap (λ (v : Turn). waits_by v (waits_for l q)) (turn-is l t p d m to u q) ∙ (effect to m u.place (waits_for l q)).waits_are
 
-ended-going : (how : Option Ending) (n : ℕ) (old : Option End) (b : Bool) → is_some how ≡ b → is_none (end_by how n old) ≡ (not b && is_none old)
-ended-going None n old b e = rw (← e) refl
-ended-going (Some how) n None b e = rw (← e) refl
-ended-going (Some how) n (Some x) b e = rw (← e) refl
+-- It is nothing to an exchange whose latest message it doesn't answer.
+pub still-after : (l : List Noted) (t : ℕ) (p : Peer) (d : List ℕ) (m : Content) (to : Option ℕ) (u : Notice) (q : ℕ)
+    → hit to m (waits_for l q) ≡ false → turn l q (says t p d m to u) ≡ Nothing
+still-after l t p d m to u q e = turn-is l t p d m to u q ∙ (effect to m u.place (waits_for l q)).still e
 
-pub going-after : (l : List Noted) (t : ℕ) (p : Peer) (d : List ℕ) (m : Content) (to : Option ℕ) (q : ℕ)
-    → is_going (says t p d m to ∷ l) q ≡ (not (hit to m (waits_for l q)) && is_going l q)
-going-after l t p d m to q =
-    ended-going (end_here (begun l q) (length l) (replies l q) (turn l q (says t p d m to))) (length l) (end_of l q) (hit to m (waits_for l q))
-    (ap (λ (u : Turn). is_some (end_here (begun l q) (length l) (replies l q) u)) (turn-is l t p d m to q) ∙ (effect (begun l q) (length l) (replies l q) to m (waits_for l q)).ends)
+pub going-still : (l : List Noted) (t : ℕ) (p : Peer) (d : List ℕ) (m : Content) (to : Option ℕ) (u : Notice) (q : ℕ)
+    → hit to m (waits_for l q) ≡ false → end_of (says t p d m to u ∷ l) q ≡ end_of l q
+going-still l t p d m to u q e =
+    ap (λ (v : Turn). end_by (end_here (begun l q) (length l) (replies l q) v) (length l) (end_of l q)) (still-after l t p d m to u q e)
 
--- who waits for a turn is as before
-pub waiting-after : (l : List Noted) (t : ℕ) (p r : Peer) (d : List ℕ) (m : Content) (to : Option ℕ) (q : ℕ) → is_waiting (says t p d m to ∷ l) r q ≡ is_waiting l r q
-waiting-after l t p r d m to q =
-    rw (going-after l t p d m to q, waits-after l t p d m to q) (by (goes_to r (begun l q)) (is_going l q) (waits_for l q))
-  where
-    gone : (g v : Bool) (i : ℕ) (h : Bool) → (g && ((not h && v) && is_none (cond h None (Some i)))) ≡ (g && (v && false))
-    gone true v i true = sym (and_right v false refl)
-    gone true v i false = refl
-    gone false v i h = refl
-
-    by : (g v : Bool) (w : Option ℕ) → (g && ((not (hit to m w) && v) && is_none (cond (hit to m w) None w))) ≡ (g && (v && is_none w))
-    by g v None = refl
-    by g v (Some i) = gone g v i (hit to m (Some i))
+-- Who waits for a turn waits on.
+pub waiting-on : (l : List Noted) (t : ℕ) (p r : Peer) (d : List ℕ) (m : Content) (to : Option ℕ) (u : Notice) (q : ℕ)
+    → is_waiting l r q ≡ true → is_waiting (says t p d m to u ∷ l) r q ≡ true
+waiting-on l t p r d m to u q e =
+    let none = waiting-unsent l r q e in
+    let miss : hit to m (waits_for l q) ≡ false = ap (hit to m) none in
+    let unsent : waits_for (says t p d m to u ∷ l) q ≡ waits_for l q = waits-after l t p d m to u q ∙ rw (none) refl in
+    rw (going-still l t p d m to u q miss, unsent) e
 
 -- what is awaited
 pub awaited-after : (f : ℕ → Bool) (to : Option ℕ) (m : Content) (now old : ℕ → Option ℕ) → ((q : ℕ) → now q ≡ cond (hit to m (old q)) None (old q)) → (os : List ℕ)
@@ -134,18 +128,33 @@ awaited-after f to m now old is (q ∷ os) = by (old q) refl (awaited-after f to
         hits true h = rw (is q, e, h) ih
         hits false h = rw (is q, e, h, ih) refl
 
--- Who goes on got no reply: the first one ends it.
-pub says-quiet : (l : List Noted) (t : ℕ) (p : Peer) (d : List ℕ) (m : Content) (to : Option ℕ) (q : ℕ) → is_going (says t p d m to ∷ l) q ≡ true
-    → NoReply (turn l q (says t p d m to))
-says-quiet l t p d m to q goes = by (turn l q (says t p d m to)) refl
+-- The queue after it: what waited, and then what is submitted by it.
+
+pub queue-after : (l : List Noted) (t : ℕ) (p r : Peer) (d : List ℕ) (m : Content) (to : Option ℕ) (u : Notice)
+    → waiting (says t p d m to u ∷ l) r
+    ≡ waiting l r ++ filter (is_submitted_at (says t p d m to u ∷ l) r (length l)) (openings l)
+queue-after l t p r d m to u =
+    let n = says t p d m to u ∷ l in
+    ap (λ (v : List ℕ). v ++ filter (is_submitted_at n r (length l)) (openings l))
+    (filter-all (is_waiting n r) (waiting l r) (all-more (λ (o : ℕ). is_waiting l r o ≡ true) (λ (o : ℕ). is_waiting n r o ≡ true)
+    (waiting-on l t p r d m to u) (waiting l r) (waiting-all l r)))
+
+-- Where no exchange goes on, nothing is.
+pub none-goes : (l : List Noted) (x : Noted) (r : Peer) → NoneGoesOn l x → filter (is_submitted_at (x ∷ l) r (length l)) (openings l) ≡ []
+none-goes l x r none =
+    filter-none (is_submitted_at (x ∷ l) r (length l)) (openings l) (by (openings l) none)
   where
-    by : (u : Turn) → turn l q (says t p d m to) ≡ u → NoReply u
-    by Nothing h = tt
-    by (Sent i) h = tt
-    by Rejected h = tt
-    by Expired h = tt
-    by (Replied i n) h =
-        let r : Reply = record { number = length l; sending = i; message = n } in
-        let none : replied_end (begun l q) (replies l q ++ r ∷ []) ≡ None =
-        subst (λ (u : Turn). end_here (begun l q) (length l) (replies l q) u ≡ None) h (going-before (says t p d m to) l q goes).0 in
-        absurd (false≢true (ap is_some (sym none) ∙ replied-ends (begun l q) (replies l q) r))
+    both : (a g : Bool) (w : Bool) → (a && g) ≡ false → (w ≡ true → g ≡ true) → (a && w) ≡ false
+    both true g true e h = absurd (false≢true (sym e ∙ h refl))
+    both true g false e h = refl
+    both false g w e h = refl
+
+    by : (os : List ℕ) → list_any (is_issued_at (x ∷ l) (length l)) os ≡ false → AllByRecursion (λ (o : ℕ). is_submitted_at (x ∷ l) r (length l) o ≡ false) os
+    by [] e = tt
+    by (o ∷ os) e =
+        let parts = or_parts (is_issued_at (x ∷ l) (length l) o) (list_any (is_issued_at (x ∷ l) (length l)) os) e in
+        (both (eqb (submitted (x ∷ l) o) (length l)) (is_going (x ∷ l) o) (is_waiting (x ∷ l) r o) parts.0 (λ w. ap is_none (waiting-goes (x ∷ l) r o w)), by os parts.1)
+
+pub issued-none : (l : List Noted) (t : ℕ) (p : Peer) (d : List ℕ) (m : Content) (to : Option ℕ) (u : Notice)
+    → NoneGoesOn l (says t p d m to u) → issued (says t p d m to u ∷ l) ≡ issued l
+issued-none l t p d m to u none = rw (none) refl

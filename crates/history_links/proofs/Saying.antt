@@ -1,6 +1,6 @@
 -- After a new message, the link agrees, and it answers what the message asks for.
-use Rattle.std.proofs.Common.{◌≡◌, ℕ, Bool, true, false, cond, eqb, leb, ltb, List, [], ◌∷◌, Option, Some, None, refl, sym, ap, subst, ◌∙◌}
-use Rattle.std.specs.Prelude.{◌&&◌, ◌||◌, not, is_some, option_and_then, count_by}
+use Rattle.std.proofs.Common.{◌≡◌, ℕ, Bool, true, false, cond, eqb, leb, ltb, List, [], ◌∷◌, ◌++◌, length, Option, Some, None, refl, sym, ap, subst, ◌∙◌, append-nil}
+use Rattle.std.specs.Prelude.{◌&&◌, ◌||◌, filter, not, is_some, option_and_then, count_by}
 use Rattle.std.specs.List.{find, list_any}
 use Rattle.std.specs.Str.{bytes_eq}
 use Rattle.std.proofs.lemmas.Bool.{or_right, and_right, or_left}
@@ -12,6 +12,7 @@ use Rattle.coap_codec.specs.Recognition.{is_rejected}
 use Rattle.uri_map.specs.declared.peer.Peer.{Peer}
 use Rattle.history_laws.specs.Confirmations.{answer_by}
 use Rattle.message_layer.specs.Values.{LinkState}
+use Rattle.message_layer.specs.Mids.{is_in_use}
 use Rattle.message_layer.specs.Hearing.{is_fresh, is_repeat, is_awaited, is_awaited_by_ack, answered_in, remembered_in, new_verdict, heard_verdict, verdict_by, verdict_of}
 use Rattle.message_layer.specs.declared.state.Heard.{Heard}
 use Rattle.message_layer.specs.declared.state.Awaited.{Awaited}
@@ -22,19 +23,20 @@ use Rattle.message_layer.specs.declared.verdict.News.{News}
 use Rattle.message_layer.specs.declared.verdict.News.TheVariants.{Quiet, Response, Reset, Lost}
 use Rattle.message_layer.specs.declared.verdict.Verdict.{Verdict}
 use Rattle.message_layer.proofs.AwaitTable.{news-awaited, news-acks, expected-awaited, expected-acks}
-use Rattle.history_laws.specs.Readings.{Noted, unobserved}
-use Rattle.history_laws.specs.Transmissions.{FirstSending, Transmission, first_at, last_sent, transmission, if_outstanding, outstanding}
-use Rattle.history_laws.specs.Exchanges.{openings, waits_for, awaited, waiting}
-use Rattle.history_laws.specs.Hearing.{is_such, heard_before, live_heard, repeated, can_be_remembered, went_under, went_as, answers_by, answers}
+use Rattle.history_laws.specs.Readings.{Noted, Notice}
+use Rattle.history_laws.specs.Transmissions.{FirstSending, Transmission, first_at, last_sent, transmission, if_outstanding, outstanding, mids_used}
+use Rattle.history_laws.specs.Exchanges.{openings, waits_for, awaited, waiting, is_submitted_at}
+use Rattle.history_laws.specs.Hearing.{is_such, heard_before, live_heard, repeated, can_be_remembered, went_under, went_as, answers_by, answers, notice_of, knows}
 use Rattle.history_laws.specs.Justified.{Legal}
-use Rattle.history_laws.proofs.CallerLemmas.{and-left, at-keeps, eqb-itself, none-submitted, queue-same, unawaited-quiet, waiting-all, waiting-unsent}
-use Rattle.history_links.specs.Agrees.{Start, IsFrom, way_of, due, IsOut, TurnIn, WaitIn, HeardIn, Agrees}
-use Rattle.history_links.specs.Steps.{ended_token, unawaited, heard_link, SaysAgrees}
+use Rattle.history_laws.proofs.CallerLemmas.{and-left, at-keeps, eqb-itself, waiting-all}
+use Rattle.history_links.specs.Agrees.{Start, IsFrom, way_of, due, IsOut, TurnIn, CountUp, IsLast, recent_to, WaitIn, awaits, awaits_ack, HeardIn, Agrees}
+use Rattle.history_links.specs.Steps.{Before, ended_token, unawaited, heard, heard_link, SaysAgrees}
+use Rattle.history_laws.specs.Confirming.{owed}
 use Rattle.history_links.proofs.Still.{since, waits-all, heard-at, heard-still}
 use Rattle.history_links.proofs.Copying.{is-last, is-outstanding}
 use Rattle.history_links.proofs.Repeating.{due-given, confirming-by, found-reply}
 use Rattle.history_links.proofs.Remembering.{remembers, none-before}
-use Rattle.history_links.proofs.Replying.{says, is_to, ends_what, way-after, waits-after, waiting-after, awaited-after}
+use Rattle.history_links.proofs.Replying.{says, is_to, ends_what, way-after, waits-after, awaited-after, none-goes, queue-after}
 use Rattle.history_links.proofs.Judging.{is_ended, Judged}
 use Rattle.history_links.proofs.OwnMessages.{IsOwn, accepts, empties, own-judged}
 use Rattle.history_links.proofs.Acknowledgements.{ack-judged, rst-judged}
@@ -97,19 +99,16 @@ asked-once f g c (x ∷ xs) same = by (f x) refl (asked-once f g c xs (λ i e h.
 
 -- what waits, and what is outstanding
 
--- A message lets nobody wait more, or less.
-pub queue-after : (l : List Noted) (t : ℕ) (p r : Peer) (d : List ℕ) (m : Content) (to : Option ℕ) → waiting (says t p d m to ∷ l) r ≡ waiting l r
-queue-after l t p r d m to =
-    let x = says t p d m to in
-    queue-same x l r
-    (none-submitted x l r refl (λ o w. unawaited-quiet x l o (waiting-unsent l r o (sym (waiting-after l t p r d m to o) ∙ w))))
-    (λ o w. waiting-after l t p r d m to o ∙ w)
-
-pub waits-on : (start : Start) (l : List Noted) (t : ℕ) (p r : Peer) (d : List ℕ) (m : Content) (to : Option ℕ) (ws : List Waiting) → WaitIn start l (waiting l r) ws
-    → WaitIn start (says t p d m to ∷ l) (waiting (says t p d m to ∷ l) r) ws
-waits-on start l t p r d m to ws i =
-    subst (λ (os : List ℕ). WaitIn start (says t p d m to ∷ l) os ws) (sym (queue-after l t p r d m to))
-    (waits-all start (says t p d m to) l r refl (waiting l r) ws (waiting-all l r) i)
+-- Who waited waits on, and what is submitted by the message waits last.
+pub waits-on : (start : Start) (l : List Noted) (t : ℕ) (p r : Peer) (d : List ℕ) (m : Content) (to : Option ℕ) (u : Notice) (ws : List Waiting)
+    → WaitIn start l (waiting l r) ws → filter (is_submitted_at (says t p d m to u ∷ l) r (length l)) (openings l) ≡ []
+    → WaitIn start (says t p d m to u ∷ l) (waiting (says t p d m to u ∷ l) r) ws
+waits-on start l t p r d m to u ws i none =
+    let n = says t p d m to u ∷ l in
+    let same : waiting n r ≡ waiting l r =
+    queue-after l t p r d m to u ∙ (ap (λ (v : List ℕ). waiting l r ++ v) none ∙ append-nil (waiting l r)) in
+    subst (λ (os : List ℕ). WaitIn start n os ws) (sym same)
+    (waits-all start (says t p d m to u) l r refl (waiting l r) ws (waiting-all l r) i)
 
 pub none-out : (l n : List Noted) (last : Option FirstSending) → ((i : ℕ) → transmission l i ≡ None → transmission n i ≡ None)
     → option_and_then (if_outstanding l) last ≡ None → option_and_then (if_outstanding n) last ≡ None
@@ -130,94 +129,105 @@ none-out l n (Some f) gone e = by (transmission l f.number) refl (transmission n
         is-out : transmission l f.number ≡ Some x → if_outstanding l f ≡ Some f
         is-out h = rw (h) refl
 
-turn-after : {start : Start} (l : List Noted) (t : ℕ) (p : Peer) (s : LinkState) (d : List ℕ) (m : Content) (to : Option ℕ) (v : Verdict) → Judged l p s m to v → Agrees start l p s
-    → TurnIn (says t p d m to ∷ l) p (cond v.ends None s.outstanding)
-turn-after l t p s d m to v j a = by s.outstanding refl a.turn
+turn-after : {start : Start} (l : List Noted) (t : ℕ) (p : Peer) (s : LinkState) (d : List ℕ) (m : Content) (to : Option ℕ) (u : Notice) (v : Verdict) → Judged l p s m to v → Agrees start l p s
+    → TurnIn (says t p d m to u ∷ l) p (cond v.ends None s.outstanding)
+turn-after l t p s d m to u v j a = by s.outstanding refl a.turn
   where
-    gone : (i : ℕ) → transmission l i ≡ None → transmission (says t p d m to ∷ l) i ≡ None
-    gone i e = way-after l t p d m to i ∙ rw (e) (both (is_to to i))
+    gone : (i : ℕ) → transmission l i ≡ None → transmission (says t p d m to u ∷ l) i ≡ None
+    gone i e = way-after l t p d m to u i ∙ rw (e) (both (is_to to i))
       where
         both : (b : Bool) → cond {A = Option Transmission} b None None ≡ None
         both true = refl
         both false = refl
 
-    over : outstanding l p ≡ None → outstanding (says t p d m to ∷ l) p ≡ None
-    over e = none-out l (says t p d m to ∷ l) (last_sent l p) gone e
+    over : outstanding l p ≡ None → outstanding (says t p d m to u ∷ l) p ≡ None
+    over e = none-out l (says t p d m to u ∷ l) (last_sent l p) gone e
 
     last : (o : Outstanding) (b : IsOut l p o) → last_sent l p ≡ Some b.first
     last o b = is-last l p (last_sent l p) b.first b.is
 
-    given_up : (o : Outstanding) (b : IsOut l p o) → is_to to b.first.number ≡ true → outstanding (says t p d m to ∷ l) p ≡ None
+    given_up : (o : Outstanding) (b : IsOut l p o) → is_to to b.first.number ≡ true → outstanding (says t p d m to u ∷ l) p ≡ None
     given_up o b e =
-        let none : transmission (says t p d m to ∷ l) b.first.number ≡ None = way-after l t p d m to b.first.number ∙ rw (e) refl in
-        subst (λ (w : Option FirstSending). option_and_then (if_outstanding (says t p d m to ∷ l)) w ≡ None) (sym (last o b)) (rw (none) refl)
+        let none : transmission (says t p d m to u ∷ l) b.first.number ≡ None = way-after l t p d m to u b.first.number ∙ rw (e) refl in
+        subst (λ (w : Option FirstSending). option_and_then (if_outstanding (says t p d m to u ∷ l)) w ≡ None) (sym (last o b)) (rw (none) refl)
 
-    goes_on : (o : Outstanding) (b : IsOut l p o) → is_to to b.first.number ≡ false → IsOut (says t p d m to ∷ l) p o
+    goes_on : (o : Outstanding) (b : IsOut l p o) → is_to to b.first.number ≡ false → IsOut (says t p d m to u ∷ l) p o
     goes_on o b e =
-        let way : transmission (says t p d m to ∷ l) b.first.number ≡ Some (way_of o) = way-after l t p d m to b.first.number ∙ rw (e) b.way in
+        let way : transmission (says t p d m to u ∷ l) b.first.number ≡ Some (way_of o) = way-after l t p d m to u b.first.number ∙ rw (e) b.way in
         record {
           first = b.first;
           timeout = b.timeout;
-          stands = at-keeps (says t p d m to) l b.first.number _ b.stands;
-          is = subst (λ (w : Option FirstSending). option_and_then (if_outstanding (says t p d m to ∷ l)) w ≡ Some b.first) (sym (last o b)) (is-outstanding (says t p d m to ∷ l) b.first (way_of o) way);
+          stands = at-keeps (says t p d m to u) l b.first.number _ b.stands;
+          is = subst (λ (w : Option FirstSending). option_and_then (if_outstanding (says t p d m to u ∷ l)) w ≡ Some b.first) (sym (last o b)) (is-outstanding (says t p d m to u ∷ l) b.first (way_of o) way);
           way = way;
           token = b.token;
           mid = b.mid;
         }
 
-    ends : (e : Bool) (o : Outstanding) (b : IsOut l p o) → e ≡ is_to to b.first.number → TurnIn (says t p d m to ∷ l) p (cond e None (Some o))
+    ends : (e : Bool) (o : Outstanding) (b : IsOut l p o) → e ≡ is_to to b.first.number → TurnIn (says t p d m to u ∷ l) p (cond e None (Some o))
     ends true o b e = given_up o b (sym e)
     ends false o b e = goes_on o b (sym e)
 
-    none : (e : Bool) → outstanding (says t p d m to ∷ l) p ≡ None → TurnIn (says t p d m to ∷ l) p (cond e None None)
+    none : (e : Bool) → outstanding (says t p d m to u ∷ l) p ≡ None → TurnIn (says t p d m to u ∷ l) p (cond e None None)
     none true h = h
     none false h = h
 
-    by : (o : Option Outstanding) → s.outstanding ≡ o → TurnIn l p o → TurnIn (says t p d m to ∷ l) p (cond v.ends None o)
+    by : (o : Option Outstanding) → s.outstanding ≡ o → TurnIn l p o → TurnIn (says t p d m to u ∷ l) p (cond v.ends None o)
     by None is b = none v.ends (over b)
     by (Some o) is b = ends v.ends o b (j.ends o b is)
 
-heard-after : {start : Start} (l : List Noted) (t : ℕ) (p : Peer) (s : LinkState) (d : List ℕ) (m : Content) (to : Option ℕ) (v : Verdict) → IsFrom start l t → Judged l p s m to v → HeardIn start l p s.heard
-    → repeated l t p m ≡ None → HeardIn start (says t p d m to ∷ l) p (remembered_in t m.mid v.reply v.remembered s.heard)
-heard-after {start = start} l t p s d m to v later j h none = by (is_such m.kind) refl
+heard-after : {start : Start} (l : List Noted) (t : ℕ) (p : Peer) (s : LinkState) (d : List ℕ) (m : Content) (to : Option ℕ) (u : Notice) (v : Verdict) → IsFrom start l t → Judged l p s m to v → HeardIn start l p s.heard
+    → repeated l t p m ≡ None → HeardIn start (says t p d m to u ∷ l) p (remembered_in t m.mid v.reply v.remembered s.heard)
+heard-after {start = start} l t p s d m to u v later j h none = by (is_such m.kind) refl
   where
-    by : (b : Bool) → is_such m.kind ≡ b → HeardIn start (says t p d m to ∷ l) p (remembered_in t m.mid v.reply v.remembered s.heard)
+    by : (b : Bool) → is_such m.kind ≡ b → HeardIn start (says t p d m to u ∷ l) p (remembered_in t m.mid v.reply v.remembered s.heard)
     by true e =
         let unheard : heard_before l t p m.mid ≡ None = subst (λ (b : Bool). cond b (heard_before l t p m.mid) None ≡ None) e none in
-        subst (λ (b : Bool). HeardIn start (says t p d m to ∷ l) p (remembered_in t m.mid v.reply b s.heard)) (sym (j.remembered ∙ e))
-        (remembers l t p d m to unobserved v.reply s.heard later h e unheard j.reply)
+        subst (λ (b : Bool). HeardIn start (says t p d m to u ∷ l) p (remembered_in t m.mid v.reply b s.heard)) (sym (j.remembered ∙ e))
+        (remembers l t p d m to u v.reply s.heard later h e unheard j.reply)
     by false e =
-        subst (λ (b : Bool). HeardIn start (says t p d m to ∷ l) p (remembered_in t m.mid v.reply b s.heard)) (sym (j.remembered ∙ e))
-        (heard-still l (says t p d m to ∷ l) p s.heard (record {
+        subst (λ (b : Bool). HeardIn start (says t p d m to u ∷ l) p (remembered_in t m.mid v.reply b s.heard)) (sym (j.remembered ∙ e))
+        (heard-still l (says t p d m to u ∷ l) p s.heard (record {
           later = later.1;
-          before = λ u mid. rw (e) refl;
-          live = λ u. rw (e) refl;
-          below = λ u mid i f. heard-at (says t p d m to) l u p mid i f;
+          before = λ w mid. rw (e) refl;
+          live = λ w. rw (e) refl;
+          below = λ w mid i f. heard-at (says t p d m to u) l w p mid i f;
         }) h)
 
-pub after-judged : {start : Start} (l : List Noted) (t : ℕ) (p : Peer) (s : LinkState) (d : List ℕ) (m : Content) (to : Option ℕ) (v : Verdict) → IsFrom start l t → Judged l p s m to v → Agrees start l p s
-    → repeated l t p m ≡ None → Agrees start (says t p d m to ∷ l) p (heard_link t m.mid m.token v s)
-after-judged {start = start} l t p s d m to v later j a none =
-    let n = says t p d m to ∷ l in
+-- All but the queue, which is left to say.
+pub record AgreesBut (start : Start) (l : List Noted) (p : Peer) (s : LinkState) : Type 0 where
+  pub turn : TurnIn l p s.outstanding
+  pub known : is_some s.last_mid ≡ knows l p
+  pub last : (t : ℕ) → IsFrom start l t → IsLast t p s.last_mid (last_sent l p)
+  pub count_up : (t : ℕ) → IsFrom start l t → CountUp (recent_to l t p)
+  pub given : (t : ℕ) → IsFrom start l t → count_by (is_in_use t) s.given ≡ mids_used l t p
+  pub awaits : (token : List ℕ) → list_any (is_awaited token) s.awaited ≡ awaits l p token
+  pub acks : (mid : ℕ) (token : List ℕ) → list_any (is_awaited_by_ack mid token) s.awaited ≡ awaits_ack l p mid token
+  pub heard : HeardIn start l p s.heard
+
+after-judged : {start : Start} (l : List Noted) (t : ℕ) (p : Peer) (s : LinkState) (d : List ℕ) (m : Content) (to : Option ℕ) (u : Notice) (v : Verdict)
+    → IsFrom start l t → Judged l p s m to v → Agrees start l p s
+    → repeated l t p m ≡ None → AgreesBut start (says t p d m to u ∷ l) p (heard_link t m.mid m.token v s)
+after-judged {start = start} l t p s d m to u v later j a none =
+    let n = says t p d m to u ∷ l in
     record {
-      turn = turn-after l t p s d m to v j a;
+      turn = turn-after l t p s d m to u v j a;
       known = a.known;
-      last = λ u after. a.last u (since l later.1 after);
-      count_up = λ u after. a.count_up u (since l later.1 after);
-      given = λ u after. a.given u (since l later.1 after);
-      waits = waits-on start l t p p d m to s.waiting a.waits;
+      last = λ w after. a.last w (since l later.1 after);
+      count_up = λ w after. a.count_up w (since l later.1 after);
+      given = λ w after. a.given w (since l later.1 after);
       awaits = λ token.
           link-awaits v.news m token s.awaited
           ∙ (ap (λ (b : Bool). not (is_ended (ended_token v.news m.token) token) && b) (a.awaits token)
           ∙ (sym (asked-once (λ (i : ℕ). went_under p token (first_at l i)) (ends_what to m) (is_ended (ended_token v.news m.token) token) (awaited l) (λ i e h. j.awaits i token e h))
-          ∙ sym (awaited-after (λ (i : ℕ). went_under p token (first_at l i)) to m (waits_for n) (waits_for l) (waits-after l t p d m to) (openings l))));
+          ∙ sym (awaited-after (λ (i : ℕ). went_under p token (first_at l i)) to m (waits_for n) (waits_for l) (waits-after l t p d m to u) (openings l))));
       acks = λ mid token.
           link-acks v.news m mid token s.awaited
           ∙ (ap (λ (b : Bool). not (is_ended (ended_token v.news m.token) token) && b) (a.acks mid token)
           ∙ (sym (asked-once (λ (i : ℕ). went_under p token (first_at l i) && went_as p mid (first_at l i)) (ends_what to m) (is_ended (ended_token v.news m.token) token) (awaited l)
           (λ i e h. j.awaits i token e (and-left (went_under p token (first_at l i)) _ h)))
-          ∙ sym (awaited-after (λ (i : ℕ). went_under p token (first_at l i) && went_as p mid (first_at l i)) to m (waits_for n) (waits_for l) (waits-after l t p d m to) (openings l))));
-      heard = heard-after l t p s d m to v later j a.heard none;
+          ∙ sym (awaited-after (λ (i : ℕ). went_under p token (first_at l i) && went_as p mid (first_at l i)) to m (waits_for n) (waits_for l) (waits-after l t p d m to u) (openings l))));
+      heard = heard-after l t p s d m to u v later j a.heard none;
     }
 
 -- what is judged of each kind
@@ -243,10 +253,36 @@ judge l t p s m Non later legal a kind none room = own-of l t p s m Non later le
 judge l t p s m Ack later legal a kind none room = ack-judged l p s m legal a kind
 judge l t p s m Rst later legal a kind none room = rst-judged l p s m legal a kind
 
-pub says-agrees : SaysAgrees
-says-agrees start l t p s d m b none room =
+-- What answers it, and all but the queue.
+pub record SaidSo (start : Start) (l : List Noted) (t : ℕ) (p : Peer) (s : LinkState) (d : List ℕ) (m : Content) : Type 0 where
+  pub owes : owed (heard l t p d m ∷ l) ≡ due p m.mid (verdict_of t s m).reply
+  pub but : AgreesBut start (heard l t p d m ∷ l) p (heard_link t m.mid m.token (verdict_of t s m) s)
+
+pub said-so : (start : Start) (l : List Noted) (t : ℕ) (p : Peer) (s : LinkState) (d : List ℕ) (m : Content)
+    → Before start l t p s → repeated l t p m ≡ None → can_be_remembered l t p m ≡ true → SaidSo start l t p s d m
+said-so start l t p s d m b none room =
     let judged = judge l t p s m m.kind (b.started, b.later) b.legal b.agrees refl none room in
     record {
-      agrees = after-judged l t p s d m (answers l p m) (verdict_of t s m) (b.started, b.later) judged b.agrees none;
       owes = sym (ap (due p m.mid) judged.reply ∙ due-given p m.mid (answer_by m.kind (is_some (answers l p m)) (is_rejected m) (eqb m.code 0)) (confirming-by m.kind (is_some (answers l p m)) (is_rejected m) (eqb m.code 0)));
+      but = after-judged l t p s d m (answers l p m) (notice_of l t p m (answers l p m)) (verdict_of t s m) (b.started, b.later) judged b.agrees none;
+    }
+
+pub says-agrees : SaysAgrees
+says-agrees start l t p s d m b none room quiet =
+    let to = answers l p m in
+    let u = notice_of l t p m to in
+    let so = said-so start l t p s d m b none room in
+    record {
+      owes = so.owes;
+      agrees = record {
+        turn = so.but.turn;
+        known = so.but.known;
+        last = so.but.last;
+        count_up = so.but.count_up;
+        given = so.but.given;
+        waits = waits-on start l t p p d m to u s.waiting b.agrees.waits (none-goes l (heard l t p d m) p quiet);
+        awaits = so.but.awaits;
+        acks = so.but.acks;
+        heard = so.but.heard;
+      };
     }

@@ -5,14 +5,16 @@ use Rattle.limits.specs.declared.TheConstants.{MAX_MESSAGE_IDS}
 use Rattle.coap_codec.specs.Spelling.{Content, Spells}
 use Rattle.uri_map.specs.declared.peer.Peer.{Peer}
 use Rattle.uri_map.specs.Peers.{same_peer}
-use Rattle.ask_model.specs.Requests.{CoapRequest, request_message}
+use Rattle.ask_model.specs.Requests.{CoapRequest, request_message, block_message}
 use Rattle.uri_map.proofs.CallerLemmas.{same_peer-same}
 use Rattle.message_layer.specs.Values.{LinkState}
 use Rattle.message_layer.specs.Sending.{next_mid, first_sent}
 use Rattle.message_layer.specs.declared.state.Waiting.{Waiting}
 use Rattle.message_layer.proofs.Sendings.{sent-spells}
 use Rattle.history_laws.specs.Readings.{Noted}
-use Rattle.history_laws.specs.Progress.{Progress, Asks, Ends, progress, next_message}
+use Rattle.coap_codec.specs.declared.block.Block.{Block}
+use Rattle.blockwise.specs.Uploads.{next_block}
+use Rattle.history_laws.specs.Progress.{Progress, Ends, progress, next_message, Fetches, Gives, block_after}
 use Rattle.history_laws.specs.Transmissions.{mids_used}
 use Rattle.history_laws.specs.Exchanges.{Begun, begun, replies, goes_to, is_waiting, waiting}
 use Rattle.history_laws.specs.Justified.{Legal, MayBeFirst}
@@ -55,9 +57,16 @@ next-small (Some m) first h = omega arith
 abbrev pub message-of : {start : Start} (l : List Noted) (o : ℕ) (w : Waiting) (a : IsWaitingFor start l o w) (last : Option ℕ) → Content
 message-of l o w a last = record a.message { mid = next_mid last w.first_mid; token = w.token }
 
+block-under : (q : CoapRequest) (block : Option Block) (token : List ℕ) (mid : ℕ) (m : Content) → Some (block_message q block 0 token) ≡ Some m
+    → Some (block_message q block mid token) ≡ Some (record m { mid = mid; token = token })
+block-under q None token mid m e = ap (λ (n : Content). Some (record n { mid = mid; token = token })) (some-is (request_message q 0 token) m e)
+block-under q (Some b) token mid m e =
+    ap (λ (n : Content). Some (record n { mid = mid; token = token })) (some-is (block_message q (Some b) 0 token) m e)
+
 next-under : (q : CoapRequest) (pr : Progress) (token : List ℕ) (mid : ℕ) (m : Content) → next_message q pr 0 token ≡ Some m
     → next_message q pr mid token ≡ Some (record m { mid = mid; token = token })
-next-under q Asks token mid m e = ap (λ (n : Content). Some (record n { mid = mid; token = token })) (some-is (request_message q 0 token) m e)
+next-under q (Fetches restarts pieces got) token mid m e = block-under q (block_after pieces) token mid m e
+next-under q (Gives upload got) token mid m e = block-under q (next_block upload) token mid m e
 next-under q (Ends how) token mid m e = absurd (none-some m e)
 
 pub may-be-first : {start : Start} (l : List Noted) (t : ℕ) (p : Peer) (s : LinkState) (w : Waiting) (ws : List Waiting) (h : Head start l (waiting l p) w ws) → Legal l

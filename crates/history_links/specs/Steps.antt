@@ -1,10 +1,11 @@
 -- What the calls of a link leave in a history.
 use Rattle.std.specs.Prelude.{◌≡◌, ℕ, ◌+◌, ◌<◌, ◌≤◌, Bool, true, false, not, ◌&&◌, ◌==◌, nat_le, List, ◌∷◌, length, filter, Option, Some, None, if◌then◌else◌, ⊤}
+use Rattle.std.specs.List.{list_any}
 use Rattle.limits.specs.declared.TheConstants.{MAX_MESSAGE_IDS, MAX_RETRANSMIT}
 use Rattle.coap_codec.specs.Spelling.{Content, Spells}
 use Rattle.uri_map.specs.declared.peer.Peer.{Peer}
 use Rattle.uri_map.specs.Peers.{same_peer}
-use Rattle.ask_model.specs.Requests.{CoapRequest, request_message}
+use Rattle.ask_model.specs.Requests.{CoapRequest, first_message}
 use Rattle.ask_model.specs.Views.{Ask}
 use Rattle.journal_book.specs.Entries.{Deed, Opens, Asks, Sends, Hears, Passes, Answers, Shuts, Seals}
 use Rattle.history_laws.specs.Confirmations.{Confirmation}
@@ -20,11 +21,12 @@ use Rattle.message_layer.specs.declared.state.Waiting.{Waiting}
 use Rattle.message_layer.specs.declared.verdict.News.{News}
 use Rattle.message_layer.specs.declared.verdict.News.TheVariants.{Quiet, Response, Reset, Lost}
 use Rattle.message_layer.specs.declared.verdict.Verdict.{Verdict}
-use Rattle.history_laws.specs.Readings.{Noted, Note, Plain, Begins, Joins, Serves, First, Copies, Confirms, Says, Repeats, Garbled, unobserved, newest, ticked, noted}
+use Rattle.history_laws.specs.Readings.{Noted, Note, Plain, Begins, Joins, Serves, First, Copies, Confirms, Says, Repeats, Garbled, Notice, newest, ticked, noted}
 use Rattle.history_laws.specs.Connections.{is_sealed}
 use Rattle.history_laws.specs.Transmissions.{FirstSending, first_at, bears_token, mids_used}
-use Rattle.history_laws.specs.Exchanges.{begun, issued, is_late, expires, waits_for, is_waiting, waiting}
-use Rattle.history_laws.specs.Hearing.{went_under, repeated, can_be_remembered, answers}
+use Rattle.history_laws.specs.Progress.{progress, next_message}
+use Rattle.history_laws.specs.Exchanges.{begun, openings, replies, issued, is_issued_at, is_late, expires, waits_for, is_waiting, waiting}
+use Rattle.history_laws.specs.Hearing.{went_under, repeated, can_be_remembered, answers, notice_of}
 use Rattle.history_laws.specs.Confirming.{owed}
 use Rattle.history_laws.specs.Justified.{Legal, Follows}
 use Rattle.history_links.specs.Agrees.{Start, IsWaitingFor, due, Agrees}
@@ -95,7 +97,7 @@ abbrev pub QueuedAgrees : Type 0
 QueuedAgrees =
     (start : Start) (l : List Noted) (t : ℕ) (p : Peer) (s : LinkState)
     (c : ℕ) (a : Ask) (q : CoapRequest) (token text : List ℕ) (word : ℕ)
-    → Before start l t p s → q.peer ≡ p → Spells (request_message q 0 token) text
+    → Before start l t p s → q.peer ≡ p → Spells (first_message q 0 token) text
     → length token ≡ 8 → bears_token l token ≡ false → token_number token ≡ start.issued + issued l
     → Agrees start (noted t (Asks c a) (Begins q) ∷ l) p (queued t (waits token text word) s)
 
@@ -147,15 +149,42 @@ heard_link t mid token v s = record {
   out = s.out;
 }
 
--- A message that is new ends what it answers.
+-- A message that is new is a reply to what it answers.
 abbrev pub heard : List Noted → ℕ → Peer → List ℕ → Content → Noted
-heard l t p d m = noted t (Hears p d) (Says m (answers l p m) unobserved)
+heard l t p d m = noted t (Hears p d) (Says m (answers l p m) (notice_of l t p m (answers l p m)))
+
+-- By it no exchange goes on: what it is a reply to has ended, if it is one.
+abbrev pub NoneGoesOn : List Noted → Noted → Type 0
+NoneGoesOn l x = list_any (is_issued_at (x ∷ l) (length l)) (openings l) ≡ false
 
 abbrev pub SaysAgrees : Type 0
 SaysAgrees =
     (start : Start) (l : List Noted) (t : ℕ) (p : Peer) (s : LinkState) (d : List ℕ) (m : Content)
     → Before start l t p s → repeated l t p m ≡ None → can_be_remembered l t p m ≡ true
+    → NoneGoesOn l (heard l t p d m)
     → Heeds start l p (heard l t p d m) (due p m.mid (verdict_of t s m).reply) (heard_link t m.mid m.token (verdict_of t s m) s)
+
+-- By it this exchange goes on: its next message, under a token of its own, waits last.
+pub record GoesOn (start : Start) (l : List Noted) (x : Noted) (o : ℕ) (token text : List ℕ) : Type 0 where
+  pub is : is_issued_at (x ∷ l) (length l) o ≡ true
+  pub since : ℕ
+  pub request : CoapRequest
+  pub opening : begun l o ≡ Some (record { since = since; request = request })
+  pub message : Content
+  pub next : next_message request (progress request (replies (x ∷ l) o)) 0 token ≡ Some message
+  pub spelled : Spells message text
+  pub token_size : length token ≡ 8
+  pub token_apart : bears_token l token ≡ false
+  pub numbered : token_number token ≡ start.issued + issued l
+
+abbrev pub GoesOnAgrees : Type 0
+GoesOnAgrees =
+    (start : Start) (l : List Noted) (t : ℕ) (p : Peer) (s : LinkState) (d : List ℕ) (m : Content)
+    (o : ℕ) (token text : List ℕ) (word : ℕ)
+    → Before start l t p s → repeated l t p m ≡ None → can_be_remembered l t p m ≡ true
+    → GoesOn start l (heard l t p d m) o token text
+    → Heeds start l p (heard l t p d m) (due p m.mid (verdict_of t s m).reply)
+    (queued t (waits token text word) (heard_link t m.mid m.token (verdict_of t s m) s))
 
 -- A tick gives up what was sent five times, and ends exchanges: what bears a token of these is neither awaited nor
 -- sent any more (RFC 7252 sections 4.2, 4.8.2).
@@ -215,6 +244,7 @@ CopyElsewhere =
 abbrev pub SaysElsewhere : Type 0
 SaysElsewhere =
     (start : Start) (l : List Noted) (t : ℕ) (p r : Peer) (s : LinkState) (d : List ℕ) (m : Content) (to : Option ℕ)
+    (notice : Notice)
     → Before start l t p s → same_peer r p ≡ false
     → ((i : ℕ) (f : FirstSending) → to ≡ Some i → first_at l i ≡ Some f → same_peer f.peer p ≡ false)
-    → Agrees start (noted t (Hears r d) (Says m to unobserved) ∷ l) p s
+    → Agrees start (noted t (Hears r d) (Says m to notice) ∷ l) p s

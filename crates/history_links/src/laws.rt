@@ -8,6 +8,7 @@ ghost use Rattle.history_links.specs.Steps.{
   RepeatAgrees,
   GarbledAgrees,
   SaysAgrees,
+  GoesOnAgrees,
   PassAgrees,
   AskElsewhere,
   FirstElsewhere,
@@ -44,8 +45,10 @@ pub fn unchanged_by()
 {}
 
 /// A message that is new ends what it answers, and asks for what a link answers (RFC 7252 sections 4.2, 4.3).
+/// Where an exchange goes on by it, the next message of that waits last.
 pub fn says_agrees()
-    ensures { SaysAgrees }
+    ensures ends { SaysAgrees }
+    ensures goes_on { GoesOnAgrees }
 {}
 
 /// A tick gives up what was sent five times, and ends what took too long (RFC 7252 sections 4.2, 4.8.2).

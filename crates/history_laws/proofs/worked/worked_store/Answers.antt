@@ -1,8 +1,14 @@
-use Rattle.history_laws.proofs.Store.{read_from_store-holds, read_expired-refused, kept_late-refused, other_query-refused, other_accept-refused, read_outdated-refused, read_older-refused}
+use Rattle.history_laws.proofs.Store.{read_from_store-holds, fetched_when_stale-holds, fetched_though_fresh-refused, read_expired-refused, kept_late-refused, other_query-refused, other_accept-refused, read_outdated-refused, read_older-refused}
 use Rattle.history_laws.proofs.worked.worked_store.Goals as goal
 
 pub returns-clause-served : goal.returns-clause-served
 returns-clause-served c = read_from_store-holds
+
+pub returns-clause-anew : goal.returns-clause-anew
+returns-clause-anew c = fetched_when_stale-holds
+
+pub returns-clause-vain : goal.returns-clause-vain
+returns-clause-vain c = fetched_though_fresh-refused
 
 pub returns-clause-expired : goal.returns-clause-expired
 returns-clause-expired c = read_expired-refused

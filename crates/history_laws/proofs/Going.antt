@@ -1,0 +1,151 @@
+-- How far an open exchange has come by its replies, and what one that ended with a whole response is made of.
+use Rattle.std.proofs.Common.{◌≡◌, ℕ, Bool, true, false, cond, eqb, List, [], ◌∷◌, ◌++◌, length, Option, Some, None, refl, sym, ap, subst, ◌∙◌}
+use Rattle.std.specs.Prelude.{is_none}
+use Rattle.std.specs.List.{Contains}
+use Rattle.std.proofs.lemmas.Bool.Decides.{eqb_tells}
+use Rattle.std.proofs.lemmas.List.Elements.{Contains-append_left, Contains-append_right}
+use Rattle.coap_codec.specs.Spelling.{Content}
+use Rattle.blockwise.specs.Downloads.{no_pieces}
+use Rattle.blockwise.specs.Uploads.{begun as begun_as}
+use Rattle.ask_model.specs.Requests.{CoapRequest}
+use Rattle.history_laws.specs.Responses.{Response}
+use Rattle.history_laws.specs.Readings.{Noted, at, before}
+use Rattle.history_laws.specs.Progress.{Reply, Ending, Whole, NotUnderstood, Reset, TimedOut, Turned, Progress, Fetches, Gives, Ends, progress, ended_by}
+use Rattle.history_laws.specs.Exchanges.{Begun, begun, opens_by, begun_by, Turn, Nothing, Sent, Replied, Rejected, Expired, turn, replies_by, replies, End, replied_end, end_here, end_by, end_of}
+use Rattle.history_laws.specs.Justified.{Ends as EndsAs}
+use Rattle.history_laws.proofs.Fetching.{CameTo, came-first, came-to, IsMadeOf}
+use Rattle.history_laws.proofs.Openings.{ends-first}
+use Rattle.history_laws.proofs.Queue.{going-before, NoReply, replies-stay}
+use Rattle.history_laws.proofs.Resting.{none-is, none-some, some-is}
+use Rattle.history_laws.proofs.Sent.{begun-before, begun-keeps}
+
+-- It goes on.
+abbrev pub IsGoing : Progress → Type 0
+IsGoing (Ends how) = ⊥
+IsGoing u = Unit {0}
+
+pub going-not : (u : Progress) (how : Ending) → IsGoing u → u ≡ Ends how → ⊥
+going-not (Ends k) how g e = g
+going-not (Gives u got) how g e = cc
+going-not (Fetches k p got) how g e = cc
+
+first-goes : (q : CoapRequest) → IsGoing (progress q [])
+first-goes q = by (eqb q.method 1)
+  where
+    by : (b : Bool) → IsGoing (cond b (Fetches 0 no_pieces []) (Gives (begun_as (length q.body) 6) []))
+    by true = tt
+    by false = tt
+
+-- how far it has come
+abbrev pub GoesSo : Option Begun → List Reply → Type 0
+GoesSo None rs = rs ≡ []
+GoesSo (Some b) rs = IsGoing (progress b.request rs) × CameTo b.request rs (progress b.request rs)
+
+not-ended : (place : Bool) (u : Progress) → ended_by place u ≡ None → IsGoing u
+not-ended place (Ends how) e = absurd (none-is how e)
+not-ended place (Gives u got) e = tt
+not-ended place (Fetches k p got) e = tt
+
+replied-goes : (b : Option Begun) (place : Bool) (rs : List Reply) (r : Reply) → GoesSo b rs → replied_end b place (rs ++ r ∷ []) ≡ None
+    → (a : Begun) × (b ≡ Some a) × GoesSo (Some a) (rs ++ r ∷ [])
+replied-goes None place rs r h e = absurd (none-is NotUnderstood e)
+replied-goes (Some b) place rs r h e = (
+  b,
+  refl,
+  (
+    not-ended place (progress b.request (rs ++ r ∷ [])) e,
+    came-to b.request rs r (λ how f. going-not (progress b.request rs) how h.0 f) h.1,
+  ),
+)
+
+-- One that gets no reply is as far as before, or was opened just now.
+still-goes : (x : Noted) (l : List Noted) (o : ℕ) → GoesSo (begun l o) (replies l o) → GoesSo (begun (x ∷ l) o) (replies l o)
+still-goes x l o h = by (begun l o) refl h
+  where
+    new : (c : Option Begun) → replies l o ≡ [] → GoesSo c (replies l o)
+    new None none = none
+    new (Some b) none = subst (λ (rs : List Reply). GoesSo (Some b) rs) (sym none) (first-goes b.request, came-first b.request)
+
+    by : (b : Option Begun) → begun l o ≡ b → GoesSo b (replies l o) → GoesSo (begun (x ∷ l) o) (replies l o)
+    by None is h = new (begun (x ∷ l) o) h
+    by (Some b) is h = subst (λ (c : Option Begun). GoesSo c (replies l o)) (sym (begun-keeps x l o b is)) h
+
+goes-step : (x : Noted) (l : List Noted) (o : ℕ) → GoesSo (begun l o) (replies l o) → (u : Turn) → turn l o x ≡ u
+    → end_here (begun l o) (length l) (replies l o) u ≡ None → GoesSo (begun (x ∷ l) o) (replies_by (length l) u (replies l o))
+goes-step x l o h Nothing is e = still-goes x l o h
+goes-step x l o h (Sent i) is e = still-goes x l o h
+goes-step x l o h Rejected is e = absurd (none-is Reset e)
+goes-step x l o h Expired is e = absurd (none-is TimedOut e)
+goes-step x l o h (Replied i m place) is e =
+    let it = replied-goes (begun l o) place (replies l o) (record { number = length l; sending = i; message = m }) h e in
+    subst (λ (c : Option Begun). GoesSo c (replies l o ++ record { number = length l; sending = i; message = m } ∷ [])) (sym (begun-keeps x l o it.0 it.1)) it.2
+
+pub goes-so : (l : List Noted) (o : ℕ) → end_of l o ≡ None → GoesSo (begun l o) (replies l o)
+goes-so [] o e = refl
+goes-so (x ∷ older) o e =
+    let was = going-before x older o (ap is_none e) in
+    goes-step x older o (goes-so older o was.1) (turn older o x) refl was.0
+
+-- So a whole response is made.
+pub made-replied : (b : Option Begun) (place : Bool) (rs : List Reply) (r : Reply) (w : Response) (ws : List Reply) → GoesSo b rs
+    → replied_end b place (rs ++ r ∷ []) ≡ Some (Whole w ws) → (a : Begun) × (b ≡ Some a) × IsMadeOf a.request (rs ++ r ∷ []) w ws
+made-replied None place rs r w ws h e = absurd (other (some-is _ _ e))
+  where
+    other : NotUnderstood ≡ Whole w ws → ⊥
+    other f = cc
+made-replied (Some b) place rs r w ws h e = (
+  b,
+  refl,
+  subst (CameTo b.request (rs ++ r ∷ [])) (by place (progress b.request (rs ++ r ∷ [])) e)
+      (came-to b.request rs r (λ how f. going-not (progress b.request rs) how h.0 f) h.1),
+)
+  where
+    other : Turned ≡ Whole w ws → ⊥
+    other f = cc
+
+    by : (place : Bool) (u : Progress) → ended_by place u ≡ Some (Whole w ws) → u ≡ Ends (Whole w ws)
+    by place (Ends how) f = ap Ends (some-is _ _ f)
+    by true (Gives u got) f = absurd (none-some _ f)
+    by true (Fetches k p got) f = absurd (none-some _ f)
+    by false (Gives u got) f = absurd (other (some-is _ _ f))
+    by false (Fetches k p got) f = absurd (other (some-is _ _ f))
+
+-- what a turn that ends an exchange with a whole response is
+pub record MadeTurn (b : Option Begun) (n : ℕ) (rs : List Reply) (u : Turn) (w : Response) (ws : List Reply) : Type 0 where
+  pub exchange : Begun
+  pub asked : b ≡ Some exchange
+  pub sending : ℕ
+  pub message : Content
+  pub place : Bool
+  pub is : u ≡ Replied sending message place
+  pub made : IsMadeOf exchange.request (rs ++ record { number = n; sending = sending; message = message } ∷ []) w ws
+
+pub made-turn : (b : Option Begun) (n : ℕ) (rs : List Reply) (u : Turn) (w : Response) (ws : List Reply) → GoesSo b rs
+    → end_here b n rs u ≡ Some (Whole w ws) → MadeTurn b n rs u w ws
+made-turn b n rs (Replied i m place) w ws h e =
+    let it = made-replied b place rs (record { number = n; sending = i; message = m }) w ws h e in
+    record { exchange = it.0; asked = it.1; sending = i; message = m; place = place; is = refl; made = it.2 }
+made-turn b n rs Rejected w ws h e = absurd (cc (e))
+made-turn b n rs Expired w ws h e = absurd (cc (e))
+made-turn b n rs Nothing w ws h e = absurd (cc (e))
+made-turn b n rs (Sent i) w ws h e = absurd (cc (e))
+
+-- What ended with a whole response, in which entry, by the replies till then.
+pub record EndsWhole (l : List Noted) (o e : ℕ) (w : Response) (ws : List Reply) : Type 0 where
+  pub entry : Noted
+  pub stands : at l e ≡ Some entry
+  pub going : end_of (before l e) o ≡ None
+  pub turned : MadeTurn (begun (before l e) o) e (replies (before l e) o) (turn (before l e) o entry) w ws
+  pub opened : begun l o ≡ Some turned.exchange
+
+pub ends-whole : (l : List Noted) (o e : ℕ) (w : Response) (ws : List Reply) → EndsAs l o e (Whole w ws) → EndsWhole l o e w ws
+ends-whole l o e w ws h =
+    let it = ends-first l o e (Whole w ws) h in
+    let m = made-turn (begun (before l e) o) e (replies (before l e) o) (turn (before l e) o it.0) w ws (goes-so (before l e) o it.2) it.3 in
+    record {
+      entry = it.0;
+      stands = it.1;
+      going = it.2;
+      turned = m;
+      opened = begun-before l e o m.exchange m.asked;
+    }

@@ -1,0 +1,8 @@
+use Rattle.history_laws.proofs.Order.{fetched-in-order, sends-next}
+use Rattle.history_laws.proofs.laws.fetched_in_order.Goals as goal
+
+pub returns-clause-next : goal.returns-clause-next
+returns-clause-next c = sends-next
+
+pub returns-clause-order : goal.returns-clause-order
+returns-clause-order c = fetched-in-order
