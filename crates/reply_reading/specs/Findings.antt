@@ -1,10 +1,10 @@
 -- What an ask comes to, as plain data.
-use Rattle.std.specs.Prelude.{◌≡◌, ℕ, [], ◌∷◌, Option, Some, None, ⊤}
+use Rattle.std.specs.Prelude.{◌≡◌, ℕ, List, [], ◌∷◌, ◌++◌, ⊤}
 use Rattle.std.specs.Arc.{arc_value}
+use Rattle.coap_codec.specs.Spelling.{Content}
 use Rattle.ask_model.specs.declared.cause.Cause.{Cause}
-use Rattle.ask_model.specs.declared.cause.Cause.TheVariants.{NotUnderstood}
 use Rattle.journal_book.specs.Entries.{Grounds, Live, Kept, Fault}
-use Rattle.history_laws.specs.Responses.{Response}
+use Rattle.history_laws.specs.Responses.{Response, joined}
 use Rattle.reply_reading.specs.declared.finding.Outcome.{Outcome}
 use Rattle.reply_reading.specs.declared.finding.Outcome.TheVariants as O
 
@@ -28,7 +28,7 @@ Fits (Tells w) (Kept js) = ⊤
 Fits (Fails cause) (Fault named n) = cause ≡ named
 Fits _ _ = ⊥
 
--- what the reply makes known, which the entry with this number bears, by the whole response that it is
-abbrev pub found_by : ℕ → Option Response → Found
-found_by n (Some w) = record { told = Tells w; grounds = Live (n ∷ []) }
-found_by n None = record { told = Fails NotUnderstood; grounds = Fault NotUnderstood n }
+-- what pieces of a representation say together: those before the last, in order, and the last
+abbrev pub joined_all : List Content → Content → Response
+joined_all [] last = joined last []
+joined_all (first ∷ rest) last = joined first (rest ++ last ∷ [])

@@ -1,14 +1,14 @@
 //! What an ask comes to, and why.
 
-ghost use Rattle.std.specs.Prelude.{◌≡◌, IfOk};
+ghost use Rattle.std.specs.Prelude.{◌≡◌, map, IfOk};
 ghost use Rattle.std.specs.Arc.{arc_value};
 ghost use Rattle.coap_codec.specs.Spelling.{content};
 ghost use Rattle.journal_book.specs.Entries.{Live, Kept, Fault};
 ghost use Rattle.journal_book.specs.Views.{grounds_of};
-ghost use Rattle.history_laws.specs.Responses.{whole_in};
-ghost use Rattle.reply_reading.specs.Findings.{Tells, Fails, Fits, told_of, found_by};
+ghost use Rattle.history_laws.specs.Responses.{response_of};
+ghost use Rattle.reply_reading.specs.Findings.{Tells, Fails, Fits, told_of, joined_all};
 
-use crate::response::{is_whole, response_of};
+use crate::response::{join_pieces, response_of};
 use ask_model::Cause;
 use coap_codec::Message;
 use journal_book::{Grounds, Numbers};
@@ -121,15 +121,33 @@ fn copy_outcome(outcome: &Outcome) -> Result<Outcome, AllocError>
     }
 }
 
-/// What the only reply to a request with this method makes known, which the entry with this number bears:
-/// a whole response, whose payload isn't copied, or that it isn't understood.
-pub fn finding_of(alloc: Global, method: u8, number: u32, m: Message) -> Result<Finding, AllocError>
-    ensures { IfOk result (λ f. f ≡ found_by number (whole_in method (content m))) }
+/// What the replies to a request other than a GET make known, which these entries bear (RFC 7959 section
+/// 2.3): the response that the last of them is, whose payload isn't copied. That it is the answer, and
+/// that by each before it a piece of the body was taken, is for the caller to judge.
+pub fn answer_of(alloc: Global, replies: Numbers, last: Message) -> Result<Finding, AllocError>
+    ensures { IfOk result (λ f. f ≡ record {
+      told = Tells (response_of (content last));
+      grounds = Live replies;
+    }) }
 {
-    if !is_whole(method, &m) {
-        return Ok(Finding::fault(Cause::NotUnderstood, number));
-    }
-    let replies = Numbers::from_slice(alloc, &[number])?;
-    let response = Arc::new(alloc, response_of(alloc, m)?)?;
-    Ok(Finding::whole(response, replies))
+    let response = response_of(alloc, last)?;
+    Ok(Finding::whole(Arc::new(alloc, response)?, replies))
+}
+
+/// What the pieces of a representation make known, which these entries bear (RFC 7959 section 2.4): one
+/// response, of which the last piece is given and those before it, in order. That they are the pieces of
+/// one representation, and all, is for the caller to judge.
+pub fn fetched_of(
+    alloc: Global,
+    replies: Numbers,
+    earlier: Vec<Message>,
+    last: Message,
+) -> Result<Finding, AllocError>
+    ensures { IfOk result (λ f. f ≡ record {
+      told = Tells (joined_all (map content earlier.items) (content last));
+      grounds = Live replies;
+    }) }
+{
+    let response = join_pieces(alloc, &earlier, last)?;
+    Ok(Finding::whole(Arc::new(alloc, response)?, replies))
 }

@@ -3,13 +3,9 @@
 ghost use Rattle.std.specs.Prelude.{◌≡◌, true, IfSome, option_map};
 ghost use Rattle.coap_codec.specs.Spelling.{content};
 ghost use Rattle.coap_codec.specs.Recognition.{is_defined, is_final, value_of};
-ghost use Rattle.history_laws.specs.Responses.{is_all};
+ghost use Rattle.history_laws.specs.Responses.{is_tellable};
 
-use blockwise::{answers_piece, is_only_piece};
-use coap_codec::{Message, is_defined};
-
-/// The code of a GET (RFC 7252 section 12.1.1).
-const GET: u8 = 1;
+use coap_codec::{Message, is_defined, is_forwardable};
 
 /// Whether its code ends a request.
 pub fn is_final(m: &Message) -> bool
@@ -32,14 +28,10 @@ pub fn value_of(m: &Message, number: u16) -> Option<&[u8]>
     None
 }
 
-/// Whether all of the response is in it, as the reply to a request with this method: the only piece of a
-/// representation, or the answer to the only piece of a body (RFC 7959).
-pub fn is_all(method: u8, m: &Message) -> bool
-    ensures { result ≡ is_all method (content m.now) }
+/// Whether a reader may be told what it says: its options may be passed over, and its code ends a
+/// request.
+pub fn is_tellable(m: &Message) -> bool
+    ensures { result ≡ is_tellable (content m.now) }
 {
-    if method == GET {
-        is_only_piece(m)
-    } else {
-        answers_piece(0, m)
-    }
+    is_forwardable(&m.options) && is_final(m)
 }

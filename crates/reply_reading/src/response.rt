@@ -1,22 +1,17 @@
-//! The whole response that a message is.
+//! The response that a message is, or that pieces are together.
 
-ghost use Rattle.std.specs.Prelude.{◌≡◌, IfOk, option_map};
+ghost use Rattle.std.specs.Prelude.{◌≡◌, ◌++◌, map, IfOk, option_map};
 ghost use Rattle.coap_codec.specs.Spelling.{content};
 ghost use Rattle.coap_codec.specs.Values.{uint};
 ghost use Rattle.coap_codec.specs.Recognition.{value_of, values_of};
-ghost use Rattle.history_laws.specs.Responses.{is_whole, response_of};
+ghost use Rattle.blockwise.specs.Joins.{payloads};
+ghost use Rattle.history_laws.specs.Responses.{response_of};
+ghost use Rattle.reply_reading.specs.Findings.{joined_all};
 
-use crate::reading::{is_all, is_final, value_of};
-use coap_codec::{Bytes, Message, is_defined, is_forwardable, number, uint_of};
+use crate::reading::value_of;
+use coap_codec::{Bytes, Message, is_defined, number, uint_of};
 use resp_cache::{Location, Response, Values};
 use std::alloc::{AllocError, Global};
-
-/// Whether the message, as the only reply to a request with this method, is a whole response.
-pub fn is_whole(method: u8, m: &Message) -> bool
-    ensures { result ≡ is_whole method (content m.now) }
-{
-    is_forwardable(&m.options) && is_final(m) && is_all(method, m)
-}
 
 /// Its Content-Format.
 fn format_of(m: &Message) -> Option<u16>
@@ -86,4 +81,44 @@ pub fn response_of(alloc: Global, m: Message) -> Result<Response, AllocError>
         location,
         body: body_of(m),
     })
+}
+
+/// How many bytes the payloads have. A count above the largest stays there.
+fn size_of(earlier: &[Message], last: &[u8]) -> usize {
+    let mut size = last.len();
+    for m in earlier {
+        size = size.saturating_add(m.payload.len());
+    }
+    size
+}
+
+/// The payloads in one, each copied once into the room that is reserved for all.
+fn join(alloc: Global, earlier: &[Message], last: &[u8]) -> Result<Vec<u8>, AllocError>
+    ensures { IfOk result (λ v. v.items ≡ payloads (map content earlier.now) ++ last.now) }
+{
+    let mut body = Vec::with_capacity(alloc, size_of(earlier, last))?;
+    'each: for m in earlier {
+        body.extend_from_slice(&m.payload)?;
+    }
+    body.extend_from_slice(last)?;
+    Ok(body)
+}
+
+/// What the pieces of a representation say together, of which the last is given and those before it, in
+/// order. The payload of one that is alone becomes the body and isn't copied.
+pub fn join_pieces(
+    alloc: Global,
+    earlier: &[Message],
+    last: Message,
+) -> Result<Response, AllocError>
+    ensures { IfOk result (λ r. r ≡ joined_all (map content earlier.now) (content last)) }
+{
+    let Some(first) = earlier.first() else {
+        return response_of(alloc, last);
+    };
+    let body = join(alloc, earlier, &last.payload)?;
+    let mut response = response_of(alloc, last)?;
+    response.max_age = max_age_of(first);
+    response.body = Bytes::of(body);
+    Ok(response)
 }
